@@ -1,1 +1,2 @@
 pub mod Resending
+mod Instruments

@@ -4,7 +4,7 @@ use Rattle.std.specs.Prelude.{flat_map, slice_index_or}
 use Rattle.std.proofs.lemmas.List.{map-append, append-nil, length-map}
 use Rattle.std.proofs.lemmas.Simd.{map-map}
 use Rattle.std.proofs.lemmas.Grind.{flat_map-append}
-use Rattle.mm_packet.specs.Packet.{SpacePacket}
+use Rattle.mm_record.specs.Supplies.{Supply}
 use Rattle.mm_plan.specs.Table.{Table}
 use Rattle.mm_desk.specs.declared.held.Held.{Held}
 use Rattle.mm_shared.specs.Stores.{id_at}
@@ -16,7 +16,7 @@ use Rattle.mm_report.specs.declared.cause.Cause.TheVariants.{LinkFailed}
 use Rattle.mm_exec.specs.Readiness.{RunStart, Stops}
 use Rattle.mm_exec.specs.declared.run_end.Halted.{Halted}
 use Rattle.mm_exec.specs.RunInput.{RunInput}
-use Rattle.mm_exec.specs.RunState.{RunState}
+use Rattle.mm_exec.specs.RunState.{RunState, with_supplies}
 use Rattle.mm_exec.specs.Step.{IsCauseIn}
 use Rattle.mm_exec.specs.Ending.{over_memory, IsHaltedIn, IsRefusal, IsStopped, stop_of, IsHalted}
 use Rattle.callers.specs.Again.{GoesOutAgain, sent_over}
@@ -36,12 +36,12 @@ last_sent ids course early last of =
     ∙ flat_map-append one (map course early) (course last ∷ [])
     ∙ ap (λ (xs : List Sent). sent_by ids (map course early) ++ xs) (append-nil (one (course last)) ∙ ap (λ (k : ℕ). all_sent (id_at ids k) (course last).sent) of)
 
-module _ (gives : Burst → ℕ → List SpacePacket) (m : RunInput) (plan : Table) (sources : List Burst) (links : List Downlink) (memory : Holdings) (halted : Halted Burst Downlink) where
+module _ (m : RunInput) (plan : Table) (sources : List Burst) (links : List Downlink) (memory : Holdings) (halted : Halted Burst Downlink) (rest : List Supply) where
   -- what the run left
   abbrev left : RunState Burst Downlink
   left = over_memory memory halted.sources.items halted.links.items
 
-  in_step : (at step : ℕ) → halted.cause ≡ LinkFailed step → IsHaltedIn gives sent_over failed_of m plan (over_memory m.memory sources links) at left (stop_of halted)
+  in_step : (at step : ℕ) → halted.cause ≡ LinkFailed step → IsHaltedIn sent_over failed_of m plan (over_memory m.memory m.gives links) at (with_supplies left rest) (stop_of halted)
       → GoesOutAgain links halted.links.items memory
   in_step at step is_link was =
       let same : step ≡ at = subst (IsCauseIn at) is_link was.stopped_is.cause_is in
@@ -79,9 +79,9 @@ module _ (gives : Burst → ℕ → List SpacePacket) (m : RunInput) (plan : Tab
   no_refusal o step is_link (inl stops) = let none = subst (Stops o) is_link stops in absurd none
   no_refusal o step is_link (inr lacking) = let other = lacking.0 in absurd (cc (other, is_link))
 
-  pub goes_again : (step : ℕ) → halted.cause ≡ LinkFailed step → IsHalted gives sent_over failed_of m plan sources links memory halted → GoesOutAgain links halted.links.items memory
+  pub goes_again : (step : ℕ) → halted.cause ≡ LinkFailed step → IsHalted sent_over failed_of m plan sources links memory halted rest → GoesOutAgain links halted.links.items memory
   goes_again step is_link halts = by_end halts.1
     where
-      by_end : IsStopped gives sent_over failed_of m plan (over_memory m.memory sources links) left (stop_of halted) → GoesOutAgain links halted.links.items memory
+      by_end : IsStopped sent_over failed_of m plan (over_memory m.memory sources links) left rest (stop_of halted) → GoesOutAgain links halted.links.items memory
       by_end (inl was) = in_step was.0 step is_link was.1
       by_end (inr never) = no_refusal _ step is_link never.1

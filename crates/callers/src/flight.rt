@@ -1,5 +1,5 @@
 //! A plan that is made, printed and carried out, and how many packets that lost.
-ghost use Rattle.std.specs.Prelude.{◌≡◌, ◌<◌, ◌-◌, ◌^◌, ◌⊎◌, All, IfOk, IfErr};
+ghost use Rattle.std.specs.Prelude.{◌≡◌, ◌<◌, ◌-◌, ◌^◌, ◌⊎◌, map, All, IfOk, IfErr};
 ghost use Rattle.mm_plan.specs.Sheet.{SheetRows};
 ghost use Rattle.mm_memory.specs.Holdings.{Holdings, memory_of};
 ghost use Rattle.mm_report.specs.declared.cause.Cause.TheVariants.{NoMemory};
@@ -39,14 +39,14 @@ pub fn plan_and_fly<R: Threads + Wait + Sync>(
     requires links { All (λ l. l.failed < 2 ^ 64 - 1) links.items }
     // The text shows that no plan loses fewer blocks than it says. If what came is what was forecast, that many were lost.
     ensures lost { IfOk result (λ told. (sheet : SheetRows) × PlansFor problem.now told.flown.sheet.items sheet
-        × (AsForecast (run_input ⟦<Burst as Source>⟧.gives problem.now sheet.plan 0 (memory_of setup.now) sources.items)
+        × (AsForecast (run_input problem.now sheet.plan 0 (memory_of setup.now) (map ⟦<Burst as Source>⟧.gives sources.items))
         → told.lost ≡ sheet.loss)) }
     ensures flown { IfOk result (λ told. (left : Holdings)
-        × Flies ⟦<Burst as Source>⟧.gives ⟦<Downlink as Link>⟧.sent ⟦<Downlink as Link>⟧.failed
-        problem.now 0 (memory_of setup.now) sources.items links.items left told.flown) }
+        × Flies ⟦<Downlink as Link>⟧.sent ⟦<Downlink as Link>⟧.failed problem.now 0 (memory_of setup.now)
+        (map ⟦<Burst as Source>⟧.gives sources.items) links.items left told.flown (map ⟦<Burst as Source>⟧.gives told.flown.sources.items)) }
     ensures halted { IfErr result (λ cause. (cause ≡ NoMemory 0) ⊎ ((left : Holdings) × (ended : FlyHalted Burst Downlink)
-        × FliesNot ⟦<Burst as Source>⟧.gives ⟦<Downlink as Link>⟧.sent ⟦<Downlink as Link>⟧.failed
-        problem.now 0 (memory_of setup.now) sources.items links.items left ended
+        × FliesNot ⟦<Downlink as Link>⟧.sent ⟦<Downlink as Link>⟧.failed problem.now 0 (memory_of setup.now) sources.items
+        (map ⟦<Burst as Source>⟧.gives sources.items) links.items left ended (map ⟦<Burst as Source>⟧.gives ended.halted.sources.items)
         × (cause ≡ ended.halted.cause))) }
 {
     let Ok(mut memory) = Memory::of_setup(alloc, setup) else {

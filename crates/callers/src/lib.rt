@@ -7,6 +7,7 @@ pub mod ends;
 pub mod flight;
 pub mod flow;
 pub mod halt;
+pub mod instrument;
 pub mod memory;
 pub mod packets;
 pub mod radio;

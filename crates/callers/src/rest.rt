@@ -82,8 +82,8 @@ pub fn fly_the_rest<S: Source + Send + Drop, L: Link + Send + Drop, R: Threads +
     requires links { All (λ l. L.failed l < 2 ^ 64 - 1) links.items }
     // No plan that fits the steps that are left loses fewer blocks of what the stores hold and of what is to come.
     ensures least { IfOk result (λ flown. SaysLeast (rest_in problem.now step memory.old) flown.sheet.items) }
-    ensures flown { IfOk result (Flies (later_gives S.gives) L.sent L.failed (rest_in problem.now step memory.old) now
-        memory.old (map (later step) sources.items) links.items memory.new) }
+    ensures flown { IfOk result (λ flown. Flies L.sent L.failed (rest_in problem.now step memory.old) now memory.old
+        (map (later_gives S.gives) (map (later step) sources.items)) links.items memory.new flown (map (later_gives S.gives) flown.sources.items)) }
 {
     let rest = match rest_in(alloc, problem, step, memory) {
         Ok(rest) => rest,

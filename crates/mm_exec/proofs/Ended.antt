@@ -2,13 +2,14 @@
 use Rattle.std.proofs.Common.{◌≡◌, inl, inr, refl, ℕ, List, [], length, map, get_or, sym, ap, subst, ◌∙◌, arith}
 use Rattle.std.specs.Prelude.{Result, Ok, Err, IfOk, IfErr, sum_by}
 use Rattle.mm_base.proofs.Sums.{sum_by-same, sum_by-map, sum_by-swap}
-use Rattle.mm_packet.specs.Packet.{SpacePacket}
 use Rattle.mm_problem.specs.Dumping.{Dumping, stores, steps}
 use Rattle.mm_plan.specs.Table.{Table}
 use Rattle.mm_plan.specs.Volumes.{Amounts, lost, loss}
 use Rattle.mm_desk.specs.declared.held.Held.{Held}
 use Rattle.mm_shared.specs.Stores.{labels_of}
 use Rattle.mm_memory.specs.Laws.{ids_of}
+use Rattle.mm_record.specs.Supplies.{Supply, supplies}
+use Rattle.mm_record.proofs.Supplying.{as_they_are}
 use Rattle.mm_dump.specs.Sending.{Sent}
 use Rattle.mm_report.specs.declared.cause.Cause.{Cause}
 use Rattle.mm_report.specs.declared.counts.StepCounts.{StepCounts}
@@ -17,7 +18,7 @@ use Rattle.mm_exec.specs.declared.course.RunStopped.{RunStopped}
 use Rattle.mm_exec.specs.declared.step.StepBroken.{StepBroken}
 use Rattle.mm_exec.specs.Readiness.{RunStart, run_start}
 use Rattle.mm_exec.specs.RunInput.{RunInput, as_came}
-use Rattle.mm_exec.specs.RunState.{RunState}
+use Rattle.mm_exec.specs.RunState.{RunState, with_supplies, InRun}
 use Rattle.mm_exec.specs.Numbers.{report_of, rows_of, planned_counts}
 use Rattle.mm_exec.specs.Ending.{run_start_of, HasRun, IsRefusal, IsStopped}
 use Rattle.mm_exec.proofs.Parts.{same_ids}
@@ -28,10 +29,10 @@ pub start_by : (P : RunStart → Type 0) (q : Dumping) (plan : Table) (base : �
 start_by P q plan base read many_sources many_links holds = subst P (λ i. run_start q plan (read i) base (many_sources i) (many_links i)) holds
 
 -- how a run ended that did not begin
-pub not_begun : {S L : Type 0} (gives : S → ℕ → List SpacePacket) (sent : L → List Sent) (failed : L → ℕ) (m : RunInput) (plan : Table) (state : RunState S L) (cause : Cause)
+pub not_begun : {S L : Type 0} (sent : L → List Sent) (failed : L → ℕ) (m : RunInput) (plan : Table) (state : RunState S L) (left : List Supply) (cause : Cause)
     (stopped : RunStopped) → stopped.broken ≡ record { cause = cause; spent = 0 } → stopped.report.steps ≡ [] → IsRefusal (run_start_of m plan state) cause
-    → IsStopped gives sent failed m plan state state stopped
-not_begun gives sent failed m plan state cause stopped broken report refusal = inr (
+    → IsStopped sent failed m plan state state left stopped
+not_begun sent failed m plan state left cause stopped broken report refusal = inr (
   record { same = refl; report_is = report; spent_is = ap (λ (b : StepBroken). b.spent) broken },
   subst (IsRefusal (run_start_of m plan state)) (sym (ap (λ (b : StepBroken). b.cause) broken)) refusal,
 )
@@ -51,16 +52,26 @@ pub total_is : (m : RunInput) (report : Reported) → report ≡ report_of m.pro
 total_is m report is = ap (λ (r : Reported). (totals_of r.steps).lost) is ∙ rows_lost m.problem (as_came m) m.amounts
 
 -- however a run ended, its stores have their identifiers, in order
-pub left_ids : {S L : Type 0} (gives : S → ℕ → List SpacePacket) (sent : L → List Sent) (failed : L → ℕ) (m : RunInput) (plan : Table) (first left : RunState S L)
-    → first.stores ≡ m.memory.stores → (steps : ℕ) (r : Result Reported RunStopped) → IfOk r (HasRun gives sent failed m plan first steps left)
-    → IfErr r (IsStopped gives sent failed m plan first left) → ids_of left.stores ≡ ids_of m.memory.stores
-left_ids {S} {L} gives sent failed m plan first left lifted steps r whole ended = same_ids left.stores m.memory.stores (labels r whole ended)
+pub left_ids : {S L : Type 0} (leads : S → S → Type 0) (until : S → S → Supply) (stays : (s : S) → leads s s) (sent : L → List Sent) (failed : L → ℕ)
+    (m : List Supply → RunInput) (plan : Table) (first left : RunState S L) (stores : (given : List Supply) → (m given).memory.stores ≡ first.stores) (steps : ℕ)
+    (r : Result Reported RunStopped)
+    → IfOk r (λ report. InRun leads until first left (λ a b. HasRun sent failed (m a.sources) plan a steps b report))
+    → IfErr r (λ stopped. InRun leads until first left (λ a b. IsStopped sent failed (m a.sources) plan first left b.sources stopped))
+    → ids_of left.stores ≡ ids_of first.stores
+left_ids {S} {L} leads until stays sent failed m plan first left stores steps r whole ended = same_ids left.stores first.stores (labels r whole ended)
   where
-    by_end : (stopped : RunStopped) → IsStopped gives sent failed m plan first left stopped → labels_of left.stores ≡ labels_of m.memory.stores
-    by_end stopped (inl in_step) = in_step.1.labels
-    by_end stopped (inr never) = ap (λ (x : RunState S L). labels_of x.stores) never.0.same ∙ ap labels_of lifted
+    by_end : (stopped : RunStopped) → IsStopped sent failed (m (supplies until first.sources left.sources)) plan first left (supplies until left.sources left.sources) stopped
+        → labels_of left.stores ≡ labels_of first.stores
+    by_end stopped (inl in_step) = in_step.1.labels ∙ ap labels_of (stores (supplies until first.sources left.sources))
+    by_end stopped (inr never) = ap (λ (x : RunState S L). labels_of x.stores) never.0.same
 
-    labels : (r : Result Reported RunStopped) → IfOk r (HasRun gives sent failed m plan first steps left) → IfErr r (IsStopped gives sent failed m plan first left)
-        → labels_of left.stores ≡ labels_of m.memory.stores
-    labels (Ok report) ran ended = ap labels_of ran.done.stores_are ∙ ran.done.runs.labels steps (omega arith)
-    labels (Err stopped) ran ended = by_end stopped ended
+    labels : (r : Result Reported RunStopped)
+        → IfOk r (λ report. InRun leads until first left (λ a b. HasRun sent failed (m a.sources) plan a steps b report))
+        → IfErr r (λ stopped. InRun leads until first left (λ a b. IsStopped sent failed (m a.sources) plan first left b.sources stopped))
+        → labels_of left.stores ≡ labels_of first.stores
+    labels (Ok report) ran ended =
+        let here = as_they_are leads until stays first.sources left.sources
+        (λ given rest. HasRun sent failed (m given) plan (with_supplies first given) steps (with_supplies left rest) report) ran in
+        ap labels_of here.done.stores_are ∙ here.done.runs.labels steps (omega arith) ∙ ap labels_of (stores (supplies until first.sources left.sources))
+    labels (Err stopped) ran ended =
+        by_end stopped (as_they_are leads until stays first.sources left.sources (λ given rest. IsStopped sent failed (m given) plan first left rest stopped) ended)

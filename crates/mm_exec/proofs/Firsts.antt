@@ -6,26 +6,27 @@ use Rattle.std.proofs.lemmas.List.{append-nil}
 use Rattle.mm_packet.specs.Packet.{SpacePacket}
 use Rattle.mm_desk.specs.declared.event.Event.{Event}
 use Rattle.mm_desk.specs.declared.fault.Fault.{Fault}
+use Rattle.mm_record.specs.Supplies.{Supply}
 use Rattle.mm_record.specs.Recorded.{RecordingContext, offers}
 use Rattle.mm_record.proofs.Offers.{offers_more}
 use Rattle.mm_record.specs.Steps.{given_in, RecorderRun, StoppedEarly, IsRecorderRun, AreRecorderRuns}
 use Rattle.mm_exec.specs.Halts.{AreFirstOffers}
 
 -- no offer was made of what sources gave
-pub none_first : (e : RecordingContext) (k : ℕ) (gives : List (List SpacePacket)) → AllZip (AreFirstOffers e k) gives (map {B = List Event} (λ g. []) gives)
+pub none_first : (e : RecordingContext) (k : ℕ) (given : List (List SpacePacket)) → AllZip (AreFirstOffers e k) given (map {B = List Event} (λ g. []) given)
 none_first e k [] = tt
-none_first e k (g ∷ gives) = ((offers e k g, refl), none_first e k gives)
+none_first e k (g ∷ given) = ((offers e k g, refl), none_first e k given)
 
-pub none_listed : (gives : List (List SpacePacket)) (seat : ℕ) → [] ≡ slice_index_or (map {B = List Event} (λ g. []) gives) seat []
+pub none_listed : (given : List (List SpacePacket)) (seat : ℕ) → [] ≡ slice_index_or (map {B = List Event} (λ g. []) given) seat []
 none_listed [] zero = refl
 none_listed [] (suc seat) = refl
-none_listed (g ∷ gives) zero = refl
-none_listed (g ∷ gives) (suc seat) = none_listed gives seat
+none_listed (g ∷ given) zero = refl
+none_listed (g ∷ given) (suc seat) = none_listed given seat
 
 -- all offers were made of what sources gave
-pub all_first : (e : RecordingContext) (k : ℕ) (gives : List (List SpacePacket)) → AllZip (AreFirstOffers e k) gives (map (offers e k) gives)
+pub all_first : (e : RecordingContext) (k : ℕ) (given : List (List SpacePacket)) → AllZip (AreFirstOffers e k) given (map (offers e k) given)
 all_first e k [] = tt
-all_first e k (g ∷ gives) = (([], sym (append-nil (offers e k g))), all_first e k gives)
+all_first e k (g ∷ given) = (([], sym (append-nil (offers e k g))), all_first e k given)
 
 -- a recorder makes first offers of what its source gives
 first_turn : (e : RecordingContext) (before after : ℕ → List SpacePacket) (turn : RecorderRun) (k : ℕ) → IsRecorderRun e before after turn → k < length e.ids
@@ -50,13 +51,13 @@ first_turn e before after turn k had within = by_broken turn.broken had.whole ha
           gave_first ∙ ap (λ (es : List Event). es ++ offers e k (after e.step)) there ∙ append_assoc (turn.offered k) began.rest (offers e k (after e.step)),
         )
 
-pub first_turns : {S : Type 0} (gives : S → ℕ → List SpacePacket) (e : RecordingContext) (xs ys : List S) (turns : List RecorderRun) (k : ℕ) → AreRecorderRuns gives e xs ys turns → k < length e.ids
-    → AllZip (AreFirstOffers e k) (given_in gives e.step xs) (map (λ turn. turn.offered k) turns)
+pub first_turns : (e : RecordingContext) (xs ys : List Supply) (turns : List RecorderRun) (k : ℕ) → AreRecorderRuns e xs ys turns → k < length e.ids
+    → AllZip (AreFirstOffers e k) (given_in e.step xs) (map (λ turn. turn.offered k) turns)
 unfolding AreRecorderRuns
-first_turns gives e [] [] [] k had within = tt
-first_turns gives e [] [] (turn ∷ turns) k had within = absurd had
-first_turns gives e [] (y ∷ ys) turns k had within = absurd had
-first_turns gives e (x ∷ xs) [] turns k had within = absurd had
-first_turns gives e (x ∷ xs) (y ∷ ys) [] k had within = absurd had
-first_turns gives e (x ∷ xs) (y ∷ ys) (turn ∷ turns) k had within =
-    (first_turn e (gives x) (gives y) turn k had.0 within, first_turns gives e xs ys turns k had.1 within)
+first_turns e [] [] [] k had within = tt
+first_turns e [] [] (turn ∷ turns) k had within = absurd had
+first_turns e [] (y ∷ ys) turns k had within = absurd had
+first_turns e (x ∷ xs) [] turns k had within = absurd had
+first_turns e (x ∷ xs) (y ∷ ys) [] k had within = absurd had
+first_turns e (x ∷ xs) (y ∷ ys) (turn ∷ turns) k had within =
+    (first_turn e x y turn k had.0 within, first_turns e xs ys turns k had.1 within)

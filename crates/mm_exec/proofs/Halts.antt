@@ -15,6 +15,7 @@ use Rattle.mm_desk.specs.Machine.{State, IsState}
 use Rattle.mm_desk.specs.Offers.{IsShuffleOfEvents}
 use Rattle.mm_desk.specs.Runs.{IsRun, opening_at}
 use Rattle.mm_shared.specs.Stores.{labels_of, states_of}
+use Rattle.mm_record.specs.Supplies.{Supply}
 use Rattle.mm_record.specs.Causes.{cause_in}
 use Rattle.mm_record.specs.Recorded.{RecordingContext, offers}
 use Rattle.mm_record.specs.Recorded.{recording}
@@ -53,11 +54,11 @@ link_failed step worst.LinkFailed is = refl
 link_failed step worst.NoMemory is = absurd (cc is)
 
 -- a store at which all offers were made, and then the calls of one order
-then_tried : (e : RecordingContext) (gives : List (List SpacePacket)) (orders : List Order) (k : ℕ) (s mid t : State) → HasRecorded e gives k s mid
-    → (taken : ℕ) (c : Course) → HasTried taken k c mid t → (0 < taken → c.order.amount ≡ wanted orders k) → IsByOneLog e gives orders k s t
-then_tried e gives orders k s mid t first taken c tried amount = record {
-  firsts = map (offers e k) gives;
-  are = all_first e k gives;
+then_tried : (e : RecordingContext) (given : List (List SpacePacket)) (orders : List Order) (k : ℕ) (s mid t : State) → HasRecorded e given k s mid
+    → (taken : ℕ) (c : Course) → HasTried taken k c mid t → (0 < taken → c.order.amount ≡ wanted orders k) → IsByOneLog e given orders k s t
+then_tried e given orders k s mid t first taken c tried amount = record {
+  firsts = map (offers e k) given;
+  are = all_first e k given;
   offered = first.log;
   ordered = c.calls;
   run = IsRun-append s mid t first.log c.calls first.run tried.run;
@@ -74,9 +75,9 @@ then_tried e gives orders k s mid t first taken c tried amount = record {
         inl (tried.none zero_taken).0
 
 -- an offered log and no order
-then_nothing : (e : RecordingContext) (gives : List (List SpacePacket)) (orders : List Order) (k : ℕ) (s t : State) → (firsts : List (List Event)) → AllZip (AreFirstOffers e k) gives firsts
-    → (log : List Entry) → IsRun s log t → IsShuffleOfEvents firsts log → IsByOneLog e gives orders k s t
-then_nothing e gives orders k s t firsts are log run shuffle = record {
+then_nothing : (e : RecordingContext) (given : List (List SpacePacket)) (orders : List Order) (k : ℕ) (s t : State) → (firsts : List (List Event)) → AllZip (AreFirstOffers e k) given firsts
+    → (log : List Entry) → IsRun s log t → IsShuffleOfEvents firsts log → IsByOneLog e given orders k s t
+then_nothing e given orders k s t firsts are log run shuffle = record {
   firsts = firsts;
   are = are;
   offered = log;
@@ -87,32 +88,32 @@ then_nothing e gives orders k s t firsts are log run shuffle = record {
 }
 
 -- a store that was left alone
-left_alone : (e : RecordingContext) (gives : List (List SpacePacket)) (orders : List Order) (k : ℕ) (s : State) → IsByOneLog e gives orders k s s
-left_alone e gives orders k s =
-    then_nothing e gives orders k s s (map {B = List Event} (λ g. []) gives) (none_first e k gives) [] (record { legal = tt; leaves = refl })
-    (record { below = All-nil _; parts = λ seat within. none_listed gives seat })
+left_alone : (e : RecordingContext) (given : List (List SpacePacket)) (orders : List Order) (k : ℕ) (s : State) → IsByOneLog e given orders k s s
+left_alone e given orders k s =
+    then_nothing e given orders k s s (map {B = List Event} (λ g. []) given) (none_first e k given) [] (record { legal = tt; leaves = refl })
+    (record { below = All-nil _; parts = λ seat within. none_listed given seat })
 
-module _ {S L : Type 0} (gives : S → ℕ → List SpacePacket) (sent : L → List Sent) (failed : L → ℕ) (step now : ℕ) (routes : List RouteRow) (orders : List Order)
-    (before after : RunState S L) (stop : StepBroken) (k : ℕ) (within : k < length before.stores) where
+module _ {L : Type 0} (sent : L → List Sent) (failed : L → ℕ) (step now : ℕ) (routes : List RouteRow) (orders : List Order)
+    (before after : RunState Supply L) (stop : StepBroken) (k : ℕ) (within : k < length before.stores) where
   abbrev e : RecordingContext
   e = recording step now routes before.stores
 
   abbrev came : List (List SpacePacket)
-  came = given_in gives step before.sources
+  came = given_in step before.sources
 
-  abbrev state_in : RunState S L → State
+  abbrev state_in : RunState Supply L → State
   state_in x = opening_at (states_of x.stores) k
 
-  inside : (x : RunState S L) → labels_of x.stores ≡ labels_of before.stores → k < length (states_of x.stores)
+  inside : (x : RunState Supply L) → labels_of x.stores ≡ labels_of before.stores → k < length (states_of x.stores)
   inside x same = omega (arith, within, as_many x.stores before.stores same, length-map x.stores (λ (h : Held). h.state))
 
-  one_log : labels_of after.stores ≡ labels_of before.stores → StepBroke gives sent failed e orders before after stop → IsByOneLog e came orders k (state_in before) (state_in after)
+  one_log : labels_of after.stores ≡ labels_of before.stores → StepBroke sent failed e orders before after stop → IsByOneLog e came orders k (state_in before) (state_in after)
   one_log labels =
-      by_how gives sent failed e orders before after stop (λ (x : RunState S L). IsByOneLog e came orders k (state_in before) (state_in x)) (left_alone e came orders k (state_in before))
+      by_how sent failed e orders before after stop (λ (x : RunState Supply L). IsByOneLog e came orders k (state_in before) (state_in x)) (left_alone e came orders k (state_in before))
       (λ broke.
       let went = broke.records.went k (inside after labels) in
       then_nothing e came orders k (state_in before) (state_in after) (map (λ run. run.offered k) broke.records.runs)
-      (first_turns gives e before.sources after.sources broke.records.runs k broke.records.are_runs (omega (arith, within, length-map before.stores (λ (h : Held). h.id))))
+      (first_turns e before.sources after.sources broke.records.runs k broke.records.are_runs (omega (arith, within, length-map before.stores (λ (h : Held). h.id))))
       went.log went.run went.shuffle)
       (λ mid recorded.
       let first = recorded.stores_are k (inside mid recorded.labels) in
@@ -122,18 +123,18 @@ module _ {S L : Type 0} (gives : S → ℕ → List SpacePacket) (sent : L → L
       (broke.settled.course k) (broke.settled.stores k (inside after (broke.labels ∙ recorded.labels))) (broke.settled.amounts k))
 
 -- the law
-pub steps_are_logs : {S L : Type 0} (gives : S → ℕ → List SpacePacket) (sent : L → List Sent) (failed : L → ℕ) → BrokenStepsAreLogs gives sent failed
-steps_are_logs gives sent failed step now routes orders before after stop broke labels k within =
-    one_log gives sent failed step now routes orders before after stop k within labels broke
+pub steps_are_logs : {L : Type 0} (sent : L → List Sent) (failed : L → ℕ) → BrokenStepsAreLogs sent failed
+steps_are_logs sent failed step now routes orders before after stop broke labels k within =
+    one_log sent failed step now routes orders before after stop k within labels broke
 
 -- a step that a failed link halted
-module _ {S L : Type 0} (gives : S → ℕ → List SpacePacket) (sent : L → List Sent) (failed : L → ℕ) (e : RecordingContext) (orders : List Order)
-    (before after : RunState S L) (stop : StepBroken) (changes : BrokenOrdersChangeNothing) (ids : ids_of before.stores ≡ e.ids)
+module _ {L : Type 0} (sent : L → List Sent) (failed : L → ℕ) (e : RecordingContext) (orders : List Order)
+    (before after : RunState Supply L) (stop : StepBroken) (changes : BrokenOrdersChangeNothing) (ids : ids_of before.stores ≡ e.ids)
     (there : All (λ o. o.place < length before.stores) orders) (is_link : stop.cause ≡ LinkFailed e.step) where
-  not_lacking : (x : RunState S L) → OutOfMemory e.step x after stop → ⊥
+  not_lacking : (x : RunState Supply L) → OutOfMemory e.step x after stop → ⊥
   not_lacking x lack = let bad = ap (λ (b : StepBroken). b.cause) lack.broken_is in cc (bad, is_link)
 
-  by_orders : (mid : RunState S L) → StepRecorded gives e before mid → OrdersBroke sent failed e.step orders mid after stop → FailedLink gives sent failed e orders before after
+  by_orders : (mid : RunState Supply L) → StepRecorded e before mid → OrdersBroke sent failed e.step orders mid after stop → FailedLink sent failed e orders before after
   by_orders mid recorded broke =
       let worst_is : broke.why ≡ worst.LinkFailed = link_failed e.step broke.why (sym broke.cause_is ∙ is_link) in
       let ids_are = same_ids mid.stores before.stores recorded.labels ∙ ids in
@@ -152,11 +153,11 @@ module _ {S L : Type 0} (gives : S → ℕ → List SpacePacket) (sent : L → L
             (λ k within. state_holds IsState mid.stores recorded.sound k (omega (arith, within, counted, many))) settled;
       }
 
-  pub failed_link : StepBroke gives sent failed e orders before after stop → FailedLink gives sent failed e orders before after
+  pub failed_link : StepBroke sent failed e orders before after stop → FailedLink sent failed e orders before after
   failed_link (inl (inl lack)) = absurd (not_lacking before lack)
   failed_link (inl (inr broke)) = absurd (no_link e.step broke.why (broke.cause_is ∙ ap (λ (c : Cause). Some c) is_link))
   failed_link (inr dumping) = by_dump dumping.how
     where
-      by_dump : OrderingBroke sent failed e.step orders dumping.mid after stop → FailedLink gives sent failed e orders before after
+      by_dump : OrderingBroke sent failed e.step orders dumping.mid after stop → FailedLink sent failed e orders before after
       by_dump (inl lack) = absurd (not_lacking dumping.mid lack)
       by_dump (inr broke) = by_orders dumping.mid dumping.recorded broke

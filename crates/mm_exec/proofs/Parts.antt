@@ -1,6 +1,6 @@
 -- The parts of a step.
 use Rattle.std.proofs.Common.{◌≡◌, inl, inr, ℕ, suc, ◌<◌, List, [], ◌∷◌, ◌++◌, length, map, All, refl, sym, ap, subst, ◌∙◌, arith}
-use Rattle.std.specs.Prelude.{Option, Some, None, Result, Ok, Err, OnOk, IfErr}
+use Rattle.std.specs.Prelude.{Option, Some, None, Result, Ok, Err, OnOk, IfErr, IfNone}
 use Rattle.std.specs.List.{AllZip}
 use Rattle.std.proofs.lemmas.List.{length-map, append-nil}
 use Rattle.std.proofs.lemmas.Option.{same_Some}
@@ -11,9 +11,11 @@ use Rattle.mm_desk.specs.declared.fault.Fault.{Fault}
 use Rattle.mm_desk.specs.declared.fault.Fault.TheVariants as fault
 use Rattle.mm_desk.specs.declared.held.Held.{Held}
 use Rattle.mm_shared.specs.Stores.{labels_of, states_of}
+use Rattle.mm_record.specs.Supplies.{Supply, WhateverComes}
+use Rattle.mm_record.proofs.Supplying.{comes_weaker}
 use Rattle.mm_record.specs.Causes.{cause_in}
 use Rattle.mm_record.specs.Recorded.{RecordingContext}
-use Rattle.mm_record.specs.Steps.{given_in, RecorderRun, AreRecorderRuns}
+use Rattle.mm_record.specs.Steps.{given_in, AllRecorded, Records, RecorderRun, AreRecorderRuns}
 use Rattle.mm_dump.specs.declared.order.Order.{Order}
 use Rattle.mm_dump.specs.declared.order.OrderBroken.{OrderBroken}
 use Rattle.mm_dump.specs.declared.order.OrderBroken.TheVariants as worst
@@ -22,7 +24,7 @@ use Rattle.mm_dump.specs.Dumped.{AllTook}
 use Rattle.mm_report.specs.declared.cause.Cause.{Cause}
 use Rattle.mm_exec.specs.Laws.{HalvesMakeStepRuns}
 use Rattle.mm_memory.specs.Laws.{ids_of}
-use Rattle.mm_exec.specs.RunState.{RunState}
+use Rattle.mm_exec.specs.RunState.{RunState, with_supplies, InRun}
 use Rattle.mm_exec.specs.declared.step.StepBroken.{StepBroken}
 use Rattle.mm_exec.specs.Step.{StepRecorded, StepDumped, StepDone, KeepsRest, IsCauseIn, dump_cause, OutOfMemory, RecordersBroke, OrdersBroke, OrderingBroke, StepBroke, StepStopped}
 
@@ -42,34 +44,34 @@ pub as_many : (xs ys : List Held) → labels_of xs ≡ labels_of ys → length x
 as_many xs ys same = sym (length-map xs (λ (h : Held). (h.id, h.channel))) ∙ ap length same ∙ length-map ys (λ (h : Held). (h.id, h.channel))
 
 -- sources that gave nothing keep all
-pub keep_same : {S : Type 0} (gives : S → ℕ → List SpacePacket) (step : ℕ) (xs : List S) → AllZip (KeepsRest gives step) xs xs
-keep_same gives step [] = tt
-keep_same gives step (x ∷ xs) = (([], refl), keep_same gives step xs)
+pub keep_same : (step : ℕ) (xs : List Supply) → AllZip (KeepsRest step) xs xs
+keep_same step [] = tt
+keep_same step (x ∷ xs) = (([], refl), keep_same step xs)
 
 -- sources of recorders keep the rest
-pub keep_turns : {S : Type 0} (gives : S → ℕ → List SpacePacket) (e : RecordingContext) (xs ys : List S) (turns : List RecorderRun) → AreRecorderRuns gives e xs ys turns
-    → AllZip (KeepsRest gives e.step) xs ys
+pub keep_turns : (e : RecordingContext) (xs ys : List Supply) (turns : List RecorderRun) → AreRecorderRuns e xs ys turns
+    → AllZip (KeepsRest e.step) xs ys
 unfolding AreRecorderRuns
-keep_turns gives e [] [] turns had = tt
-keep_turns gives e [] (y ∷ ys) turns had = absurd had
-keep_turns gives e (x ∷ xs) [] turns had = absurd had
-keep_turns gives e (x ∷ xs) (y ∷ ys) [] had = absurd had
-keep_turns gives e (x ∷ xs) (y ∷ ys) (turn ∷ turns) had = ((turn.gave, had.0.order), keep_turns gives e xs ys turns had.1)
+keep_turns e [] [] turns had = tt
+keep_turns e [] (y ∷ ys) turns had = absurd had
+keep_turns e (x ∷ xs) [] turns had = absurd had
+keep_turns e (x ∷ xs) (y ∷ ys) [] had = absurd had
+keep_turns e (x ∷ xs) (y ∷ ys) (turn ∷ turns) had = ((turn.gave, had.0.order), keep_turns e xs ys turns had.1)
 
 -- sources that have nothing left gave all
-pub keep_none : {S : Type 0} (gives : S → ℕ → List SpacePacket) (step : ℕ) (xs ys : List S) → length ys ≡ length xs → All (λ s. gives s step ≡ []) ys
-    → AllZip (KeepsRest gives step) xs ys
-keep_none gives step [] [] same none = tt
-keep_none gives step [] (y ∷ ys) same none = absurd (omega arith)
-keep_none gives step (x ∷ xs) [] same none = absurd (omega arith)
-keep_none gives step (x ∷ xs) (y ∷ ys) same none =
-    let nothing : gives y step ≡ [] = All-head (λ s. gives s step ≡ []) y ys none in
-    let all : gives x step ≡ gives x step ++ gives y step = sym (ap (λ (ps : List SpacePacket). gives x step ++ ps) nothing ∙ append-nil (gives x step)) in
-    ((gives x step, all), keep_none gives step xs ys (omega arith) (All-tail (λ s. gives s step ≡ []) y ys none))
+pub keep_none : (step : ℕ) (xs ys : List Supply) → length ys ≡ length xs → All (λ s. s step ≡ []) ys
+    → AllZip (KeepsRest step) xs ys
+keep_none step [] [] same none = tt
+keep_none step [] (y ∷ ys) same none = absurd (omega arith)
+keep_none step (x ∷ xs) [] same none = absurd (omega arith)
+keep_none step (x ∷ xs) (y ∷ ys) same none =
+    let nothing : y step ≡ [] = All-head (λ s. s step ≡ []) y ys none in
+    let all : x step ≡ x step ++ y step = sym (ap (λ (ps : List SpacePacket). x step ++ ps) nothing ∙ append-nil (x step)) in
+    ((x step, all), keep_none step xs ys (omega arith) (All-tail (λ s. s step ≡ []) y ys none))
 
 -- sources that give the same in some step are as many
-pub as_many_sources : {S : Type 0} (gives : S → ℕ → List SpacePacket) (t : ℕ) (xs ys : List S) → given_in gives t ys ≡ given_in gives t xs → length ys ≡ length xs
-as_many_sources gives t xs ys same = sym (length-map ys (λ s. gives s t)) ∙ ap length same ∙ length-map xs (λ s. gives s t)
+pub as_many_sources : (t : ℕ) (xs ys : List Supply) → given_in t ys ≡ given_in t xs → length ys ≡ length xs
+as_many_sources t xs ys same = sym (length-map ys (λ s. s t)) ∙ ap length same ∙ length-map xs (λ s. s t)
 
 -- the cause of recorders is one of the step
 cause_recorded : (step : ℕ) (why : Option Fault) (cause : Cause) → cause_in step why ≡ Some cause → IsCauseIn step cause
@@ -87,10 +89,10 @@ cause_lacking : {S L : Type 0} (step : ℕ) (before after : RunState S L) (stop 
 cause_lacking step before after stop lack = subst (λ (b : StepBroken). IsCauseIn step b.cause) (sym lack.broken_is) refl
 
 -- a step that is recorded and then dumped
-pub both_parts : {S L : Type 0} (gives : S → ℕ → List SpacePacket) (sent : L → List Sent) (failed : L → ℕ) (e : RecordingContext) (orders : List Order)
-    (before mid after : RunState S L) → HalvesMakeStepRuns → ids_of before.stores ≡ e.ids → StepRecorded gives e before mid → StepDumped sent failed orders mid after
-    → StepDone gives sent failed e orders before after
-both_parts {S = S} {L = L} gives sent failed e orders before mid after halves ids recorded dumped =
+pub both_parts : {L : Type 0} (sent : L → List Sent) (failed : L → ℕ) (e : RecordingContext) (orders : List Order)
+    (before mid after : RunState Supply L) → HalvesMakeStepRuns → ids_of before.stores ≡ e.ids → StepRecorded e before mid → StepDumped sent failed orders mid after
+    → StepDone sent failed e orders before after
+both_parts {L = L} sent failed e orders before mid after halves ids recorded dumped =
     let many : length after.stores ≡ length mid.stores = as_many after.stores mid.stores dumped.labels in
     record {
       labels = dumped.labels ∙ recorded.labels;
@@ -107,16 +109,16 @@ both_parts {S = S} {L = L} gives sent failed e orders before mid after halves id
           subst (λ (olds : List L). AllTook sent failed e.ids dumped.dumped.gave dumped.dumped.places olds after.links) recorded.links
           (subst (λ (ids : List (List ℕ)). AllTook sent failed ids dumped.dumped.gave dumped.dumped.places mid.links after.links)
           (same_ids mid.stores before.stores recorded.labels ∙ ids) dumped.dumped.links);
-      nothing_left = subst (All (λ (s : S). gives s e.step ≡ [])) (sym dumped.sources) recorded.nothing_left;
-      others = λ t other. ap (given_in gives t) dumped.sources ∙ recorded.others t other;
+      nothing_left = subst (All (λ (s : Supply). s e.step ≡ [])) (sym dumped.sources) recorded.nothing_left;
+      others = λ t other. ap (given_in t) dumped.sources ∙ recorded.others t other;
     }
 
-module _ {S L : Type 0} (gives : S → ℕ → List SpacePacket) (sent : L → List Sent) (failed : L → ℕ) (e : RecordingContext) (orders : List Order) (before after : RunState S L)
+module _ {L : Type 0} (sent : L → List Sent) (failed : L → ℕ) (e : RecordingContext) (orders : List Order) (before after : RunState Supply L)
     (stop : StepBroken) where
   -- what holds of a step that was broken off, by how it was
-  pub by_how : (P : RunState S L → Type 0) → P before → (RecordersBroke gives e before after stop → P after) → ((mid : RunState S L) → StepRecorded gives e before mid → P mid)
-      → ((mid : RunState S L) → StepRecorded gives e before mid → OrdersBroke sent failed e.step orders mid after stop → P after)
-      → StepBroke gives sent failed e orders before after stop → P after
+  pub by_how : (P : RunState Supply L → Type 0) → P before → (RecordersBroke e before after stop → P after) → ((mid : RunState Supply L) → StepRecorded e before mid → P mid)
+      → ((mid : RunState Supply L) → StepRecorded e before mid → OrdersBroke sent failed e.step orders mid after stop → P after)
+      → StepBroke sent failed e orders before after stop → P after
   by_how P none early recorded broken (inl (inl lack)) = subst P (sym lack.same) none
   by_how P none early recorded broken (inl (inr broke)) = early broke
   by_how P none early recorded broken (inr dumping) = by_dump dumping.how
@@ -126,7 +128,7 @@ module _ {S L : Type 0} (gives : S → ℕ → List SpacePacket) (sent : L → L
       by_dump (inr broke) = broken dumping.mid dumping.recorded broke
 
   -- its cause is one of the step
-  cause_is : StepBroke gives sent failed e orders before after stop → IsCauseIn e.step stop.cause
+  cause_is : StepBroke sent failed e orders before after stop → IsCauseIn e.step stop.cause
   cause_is (inl (inl lack)) = cause_lacking e.step before after stop lack
   cause_is (inl (inr broke)) = cause_recorded e.step broke.why stop.cause broke.cause_is
   cause_is (inr dumping) = by_dump dumping.how
@@ -136,27 +138,27 @@ module _ {S L : Type 0} (gives : S → ℕ → List SpacePacket) (sent : L → L
       by_dump (inr broke) = subst (IsCauseIn e.step) (sym broke.cause_is) (cause_dumped e.step broke.why)
 
   -- a step whose sources have nothing left
-  stopped_recorded : IsCauseIn e.step stop.cause → (mid : RunState S L) → StepRecorded gives e before mid → StepStopped gives e.step before mid stop.cause
+  stopped_recorded : IsCauseIn e.step stop.cause → (mid : RunState Supply L) → StepRecorded e before mid → StepStopped e.step before mid stop.cause
   stopped_recorded cause mid recorded =
       let many : length mid.sources ≡ length before.sources =
-      as_many_sources gives (suc e.step) before.sources mid.sources (recorded.others (suc e.step) (λ same. omega (arith, same))) in
+      as_many_sources (suc e.step) before.sources mid.sources (recorded.others (suc e.step) (λ same. omega (arith, same))) in
       record {
         cause_is = cause;
         labels = recorded.labels;
-        keep = keep_none gives e.step before.sources mid.sources many recorded.nothing_left;
+        keep = keep_none e.step before.sources mid.sources many recorded.nothing_left;
         others = recorded.others;
       }
 
   -- what a step that was broken off leaves
-  pub stopped_of : StepBroke gives sent failed e orders before after stop → StepStopped gives e.step before after stop.cause
+  pub stopped_of : StepBroke sent failed e orders before after stop → StepStopped e.step before after stop.cause
   stopped_of how =
       let cause = cause_is how in
-      by_how (λ (left : RunState S L). StepStopped gives e.step before left stop.cause)
-      (record { cause_is = cause; labels = refl; keep = keep_same gives e.step before.sources; others = λ t other. refl })
+      by_how (λ (left : RunState Supply L). StepStopped e.step before left stop.cause)
+      (record { cause_is = cause; labels = refl; keep = keep_same e.step before.sources; others = λ t other. refl })
       (λ broke. record {
         cause_is = cause;
         labels = broke.records.labels;
-        keep = keep_turns gives e before.sources after.sources broke.records.runs broke.records.are_runs;
+        keep = keep_turns e before.sources after.sources broke.records.runs broke.records.are_runs;
         others = broke.records.others;
       }) (stopped_recorded cause)
       (λ mid recorded broke.
@@ -164,6 +166,53 @@ module _ {S L : Type 0} (gives : S → ℕ → List SpacePacket) (sent : L → L
       record {
         cause_is = cause;
         labels = broke.labels ∙ was.labels;
-        keep = subst (AllZip (KeepsRest gives e.step) before.sources) (sym broke.sources) was.keep;
-        others = λ t other. ap (given_in gives t) broke.sources ∙ was.others t other;
+        keep = subst (AllZip (KeepsRest e.step) before.sources) (sym broke.sources) was.keep;
+        others = λ t other. ap (given_in t) broke.sources ∙ was.others t other;
       }) how
+
+-- a step in which no recorder stopped early
+pub recorded_whole : {L : Type 0} (e : RecordingContext) (before after : RunState Supply L) (why : Option Fault) → why ≡ None → after.links ≡ before.links
+    → Records e before.stores after.stores why before.sources after.sources → StepRecorded e before after
+recorded_whole e before after why none links records = record {
+  labels = records.labels;
+  sound = records.sound;
+  stores_are = subst (λ (w : Option Fault). IfNone w (AllRecorded e (given_in e.step before.sources) (states_of before.stores) (states_of after.stores))) none records.recorded;
+  nothing_left = subst (λ (w : Option Fault). IfNone w (All (λ s. s e.step ≡ []) after.sources)) none records.nothing_left;
+  others = records.others;
+  links = links;
+}
+
+-- what follows of a step from what was recorded in it, where the sources are as recording left them
+pub then_dumped : {S L : Type 0} (leads : S → S → Type 0) (until : S → S → Supply) (before mid after : RunState S L) (P Q : RunState Supply L → RunState Supply L → Type 0)
+    → after.sources ≡ mid.sources
+    → ((given left : List Supply) → P (with_supplies before given) (with_supplies mid left) → Q (with_supplies before given) (with_supplies after left))
+    → InRun leads until before mid P → InRun leads until before after Q
+then_dumped leads until before mid after P Q same so =
+    subst (λ ss. InRun leads until before mid P → WhateverComes leads until before.sources ss (λ given left. Q (with_supplies before given) (with_supplies after left)))
+    (sym same)
+    (comes_weaker leads until before.sources mid.sources (λ given left. P (with_supplies before given) (with_supplies mid left))
+    (λ given left. Q (with_supplies before given) (with_supplies after left)) so)
+
+-- the orders of a step, carried out or broken off, whatever the sources give
+pub dumped_in : {S L : Type 0} (sent : L → List Sent) (failed : L → ℕ) (orders : List Order) (mid after : RunState S L) (left : List Supply)
+    → StepDumped sent failed orders mid after → StepDumped sent failed orders (with_supplies mid left) (with_supplies after left)
+dumped_in sent failed orders mid after left dumped = record { labels = dumped.labels; dumped = dumped.dumped; sources = refl }
+
+pub broken_in : {S L : Type 0} (sent : L → List Sent) (failed : L → ℕ) (step : ℕ) (orders : List Order) (mid after : RunState S L) (left : List Supply) (stop : StepBroken)
+    → OrderingBroke sent failed step orders mid after stop → OrderingBroke sent failed step orders (with_supplies mid left) (with_supplies after left) stop
+broken_in sent failed step orders mid after left stop (inl lack) = inl (record { same = ap (λ x. with_supplies x left) lack.same; broken_is = lack.broken_is })
+broken_in sent failed step orders mid after left stop (inr broke) = inr (record {
+  labels = broke.labels;
+  sound = broke.sound;
+  why = broke.why;
+  settled = broke.settled;
+  sources = refl;
+  spent_is = broke.spent_is;
+  kept = broke.kept;
+  cause_is = broke.cause_is;
+})
+
+pub broken_sources : {S L : Type 0} (sent : L → List Sent) (failed : L → ℕ) (step : ℕ) (orders : List Order) (mid after : RunState S L) (stop : StepBroken)
+    → OrderingBroke sent failed step orders mid after stop → after.sources ≡ mid.sources
+broken_sources sent failed step orders mid after stop (inl lack) = ap (λ x. x.sources) lack.same
+broken_sources sent failed step orders mid after stop (inr broke) = broke.sources

@@ -23,6 +23,7 @@ use Rattle.mm_desk.specs.Machine.{State, IsState}
 use Rattle.mm_desk.specs.Runs.{opening_at, blank}
 use Rattle.mm_shared.specs.Stores.{labels_of, states_of}
 use Rattle.mm_memory.specs.Holdings.{AreHeld, has_id, store_of}
+use Rattle.mm_record.specs.Supplies.{Supply}
 use Rattle.mm_record.specs.Causes.{is_clock_late, is_late}
 use Rattle.mm_record.specs.Steps.{latest, AreFew, TakesAll}
 use Rattle.mm_dump.specs.declared.order.Order.{Order}
@@ -36,12 +37,12 @@ use Rattle.mm_exec.specs.declared.requirement.Requirement.{Requirement}
 use Rattle.mm_exec.specs.declared.requirement.Requirement.TheVariants.{Ready, Size, Opening}
 use Rattle.mm_exec.specs.declared.room.RunBuffers.{RunBuffers}
 use Rattle.mm_exec.specs.declared.step.StepBroken.{StepBroken}
-use Rattle.mm_exec.specs.Readiness.{AllMeet, NoneUnknown, is_unknown, meets, meets_at}
+use Rattle.mm_exec.specs.Readiness.{run_start, MayBegin, AllMeet, NoneUnknown, is_unknown, meets, meets_at}
 use Rattle.mm_exec.specs.Laws.{RunsLoseAsPlanned, RunsLoseNoPacketUncounted, StepRunsKeepStores}
 use Rattle.mm_exec.specs.AsPlanned.{IsReady}
 use Rattle.mm_exec.specs.Places.{IsPlaceOf, ArePlaces}
 use Rattle.mm_exec.specs.RunInput.{RunInput, recording_in, place_in_memory, step_orders}
-use Rattle.mm_exec.specs.RunState.{RunState}
+use Rattle.mm_exec.specs.RunState.{RunState, with_supplies}
 use Rattle.mm_exec.specs.Numbers.{row_from, orders_of, AreByCounters}
 use Rattle.mm_exec.specs.Step.{AreReady, StepDone, StepBroke}
 use Rattle.mm_exec.specs.Steps.{StepsDone, taken_amounts}
@@ -137,10 +138,10 @@ all_ready q stores held stores_ready known sound = record {
         standing_gives h.state.storage h.state.retrieval meets_it
 
 -- before its first step a run has done nothing
-pub done_first : {S L : Type 0} (gives : S → ℕ → List SpacePacket) (sent : L → List Sent) (failed : L → ℕ) (m : RunInput) (now : RunState S L) (report : Reported)
+pub done_first : {L : Type 0} (sent : L → List Sent) (failed : L → ℕ) (m : RunInput) (now : RunState Supply L) (report : Reported)
     → now.stores ≡ m.memory.stores → report ≡ record { ids = map (λ r. r.id) m.problem.rows; most = length m.problem.windows; steps = [] }
-    → StepsDone gives sent failed m now.sources now.links 0 now report
-done_first gives sent failed m now report stores is = record {
+    → StepsDone sent failed m now.sources now.links 0 now report
+done_first sent failed m now report stores is = record {
   stores = λ t. m.memory.stores;
   gave = λ k t. [];
   runs = record {
@@ -181,36 +182,72 @@ pub early_at : (base t n : ℕ) → base ≤ LATEST_START → t ≤ n → n ≤ 
 early_at base t n first last few = omega arith
 
 -- counts that are far from their end as a run begins
-pub far_first : {S : Type 0} (gives : S → ℕ → List SpacePacket) (steps : ℕ) (sources : List S) (stores : List Held) (base : ℕ) → IsEarly stores base → AreWithinLimits gives steps stores sources
+pub far_first : (steps : ℕ) (sources : List Supply) (stores : List Held) (base : ℕ) → IsEarly stores base → AreWithinLimits steps stores sources
     → AllFar (bound_at 0) stores
-far_first gives steps sources stores base early far k d inside =
+far_first steps sources stores base early far k d inside =
     let offered = far.offered k d inside in
     let last = early.last_times k d inside in
     record { offered = omega (arith, offered); last = omega (arith, last) }
 
+-- what is required of a run is required of it with as many supplies as sources, and what is required of a step the other way round
+pub may_run_in : {S L : Type 0} (failed : L → ℕ) (run : RunContext) (buffers : RunBuffers) (now : RunState S L) (given : List Supply) → length given ≡ length now.sources
+    → MayRun failed run buffers now → MayRun failed run buffers (with_supplies now given)
+may_run_in failed run buffers now given same may = record {
+  begins = subst (λ (n : ℕ). MayBegin (run_start run.problem.now run.plan.now now.stores run.base n (length now.links))) (sym same) may.begins;
+  held = may.held;
+  sound = may.sound;
+  links = may.links;
+  report = may.report;
+  orders = may.orders;
+}
+
+pub may_report_of : {S L : Type 0} (failed : L → ℕ) (run : RunContext) (places : List ℕ) (step : ℕ) (buffers : RunBuffers) (now : RunState S L) (given : List Supply)
+    → length given ≡ length now.sources → MayReport failed run places step buffers (with_supplies now given) → MayReport failed run places step buffers now
+may_report_of failed run places step buffers now given same may = record {
+  shape = may.shape;
+  first = may.first;
+  last = may.last;
+  few = may.few;
+  all = may.all;
+  within = may.within;
+  carry = record {
+    record_may = record { few = may.carry.record_may.few; named = may.carry.record_may.named; many = omega (arith, same, may.carry.record_may.many) };
+    ready = may.carry.ready;
+    some_link = may.carry.some_link;
+    few_links = may.carry.few_links;
+    links = may.carry.links;
+    orders_may = may.carry.orders_may;
+    early = may.carry.early;
+  };
+  fit = may.fit;
+  orders = may.orders;
+  ids = may.ids;
+  room = may.room;
+}
+
 -- a run before one of its steps, whose stores stand at these places
-module _ {S L : Type 0} (gives : S → ℕ → List SpacePacket) (sent : L → List Sent) (failed : L → ℕ) (run : RunContext) (places : List ℕ) (t : ℕ) (first : RunState S L) where
+module _ {L : Type 0} (sent : L → List Sent) (failed : L → ℕ) (run : RunContext) (places : List ℕ) (t : ℕ) (first : RunState Supply L) where
   abbrev pub q : Dumping
   q = run.problem.now
 
   abbrev pub input : RunInput
-  input = given_to gives run first
+  input = given_to run first
 
   -- what is known of it
-  pub record Underway (now : RunState S L) (buffers : RunBuffers) : Type 0 where
+  pub record Underway (now : RunState Supply L) (buffers : RunBuffers) : Type 0 where
     pub is : IsDumping q
     pub from_one : 1 ≤ t
     pub last : t ≤ length q.windows
-    pub ran : HasRun gives sent failed input run.plan.now first (t - 1) now buffers.report
-    pub footing : Footing gives input first.sources places
+    pub ran : HasRun sent failed input run.plan.now first (t - 1) now buffers.report
+    pub footing : Footing input first.sources places
     pub labels : labels_of now.stores ≡ labels_of first.stores
     pub sources_many : length now.sources ≡ length first.sources
     pub may : MayReport failed run places t buffers now
 
-  module _ {start : RunBuffers} (may : MayRun failed run start first) (is : IsDumping q) (now : RunState S L) (buffers : RunBuffers)
-      (ran : HasRun gives sent failed input run.plan.now first (t - 1) now buffers.report) where
+  module _ {start : RunBuffers} (may : MayRun failed run start first) (is : IsDumping q) (now : RunState Supply L) (buffers : RunBuffers)
+      (ran : HasRun sent failed input run.plan.now first (t - 1) now buffers.report) where
     -- what holds through the whole run
-    footing_of : ArePlaces q first.stores (length q.rows) places → Footing gives input first.sources places
+    footing_of : ArePlaces q first.stores (length q.rows) places → Footing input first.sources places
     footing_of stand = record {
       gives_are = refl;
       stand_at = stand;
@@ -230,10 +267,10 @@ module _ {S L : Type 0} (gives : S → ℕ → List SpacePacket) (sent : L → L
     labels = ap labels_of ran.done.stores_are ∙ ran.done.runs.labels (t - 1) (omega arith)
 
     sources_many : length now.sources ≡ length first.sources
-    sources_many = as_many_sources gives 0 first.sources now.sources (ran.done.sources_are.others 0 (λ first last. absurd (omega arith)))
+    sources_many = as_many_sources 0 first.sources now.sources (ran.done.sources_are.others 0 (λ first last. absurd (omega arith)))
 
     -- the step may be carried out and reported
-    may_report : Footing gives input first.sources places → length places ≡ length q.rows → 1 ≤ t → t ≤ length q.windows → MAX_STORES ≤ vec_capacity buffers.orders
+    may_report : Footing input first.sources places → length places ≡ length q.rows → 1 ≤ t → t ≤ length q.windows → MAX_STORES ≤ vec_capacity buffers.orders
         → MayReport failed run places t buffers now
     may_report footing all from_one last orders =
         let many = as_many now.stores first.stores labels in
@@ -290,28 +327,28 @@ module _ {S L : Type 0} (gives : S → ℕ → List SpacePacket) (sent : L → L
           may = may_report footing many from_one last room;
         }
 
-  module _ (now : RunState S L) (buffers : RunBuffers) (here : Underway now buffers) where
+  module _ (now : RunState Supply L) (buffers : RunBuffers) (here : Underway now buffers) where
     -- the orders of the step, by their stores' places in the memory
     pub orders_here : orders_at run places t ≡ step_orders input t
     orders_here = orders_are input places t (λ s store. (here.footing.stand_at s store).is)
 
     -- one step more
-    pub ran_on : RunsLoseAsPlanned → RunsLoseNoPacketUncounted → (after : RunState S L) (left : RunBuffers)
-        → StepReported gives sent failed run places t now after buffers left → AreReady after.stores
-        → HasRun gives sent failed input run.plan.now first (t + 1 - 1) after left.report
+    pub ran_on : RunsLoseAsPlanned → RunsLoseNoPacketUncounted → (after : RunState Supply L) (left : RunBuffers)
+        → StepReported sent failed run places t now after buffers left → AreReady after.stores
+        → HasRun sent failed input run.plan.now first (t + 1 - 1) after left.report
     ran_on law counts after left stepped ready =
         let same : t ≡ suc (t - 1) = omega (arith, here.from_one) in
         let then : suc (t - 1) ≡ t + 1 - 1 = omega (arith, here.from_one) in
-        let step = subst (λ (u : ℕ). StepDone gives sent failed (recording_in input u now.stores) (orders_of input.amounts places u (length q.rows)) now after) same stepped.done in
+        let step = subst (λ (u : ℕ). StepDone sent failed (recording_in input u now.stores) (orders_of input.amounts places u (length q.rows)) now after) same stepped.done in
         let row = subst (λ (u : ℕ). left.report
         ≡ record buffers.report { steps = buffers.report.steps ++ row_from q u places now.stores after.stores (length q.rows) ∷ [] }) same stepped.row in
-        let done = subst (λ (u : ℕ). StepsDone gives sent failed input first.sources first.links u after left.report) then
-        (done_on gives sent failed input first.sources first.links places here.footing (t - 1) now after buffers.report here.ran.done step law counts
+        let done = subst (λ (u : ℕ). StepsDone sent failed input first.sources first.links u after left.report) then
+        (done_on sent failed input first.sources first.links places here.footing (t - 1) now after buffers.report here.ran.done step law counts
         (omega (arith, here.last, same)) left.report row) in
         record { began = here.ran.began; done = done; fit = all_fit done (omega (arith, here.last, here.from_one)); ready = ready }
       where
         -- what the links took in each of the steps fits
-        all_fit : {steps : ℕ} (done : StepsDone gives sent failed input first.sources first.links steps after left.report) → steps ≤ length q.windows
+        all_fit : {steps : ℕ} (done : StepsDone sent failed input first.sources first.links steps after left.report) → steps ≤ length q.windows
             → (u : ℕ) → 1 ≤ u → u ≤ steps → FitsAt q (taken_amounts input done.gave done.links_are.took) u
         all_fit {steps = steps} done within u from_one last =
             taken_fits input steps done.stores done.gave done.links_are.took done.runs u from_one last
@@ -325,43 +362,43 @@ module _ {S L : Type 0} (gives : S → ℕ → List SpacePacket) (sent : L → L
             (here.ran.began.fits (omega arith) u from_one (omega (arith, last, within)))
 
     -- the step was broken off
-    pub halted_in : BrokenOrdersChangeNothing → (after : RunState S L) (left : RunBuffers) (broken : StepBroken)
-        → StepUnreported gives sent failed run places t now after buffers left broken → AreReady after.stores
-        → IsHaltedIn gives sent failed input run.plan.now first t after (record { broken = broken; report = left.report })
+    pub halted_in : BrokenOrdersChangeNothing → (after : RunState Supply L) (left : RunBuffers) (broken : StepBroken)
+        → StepUnreported sent failed run places t now after buffers left broken → AreReady after.stores
+        → IsHaltedIn sent failed input run.plan.now first t after (record { broken = broken; report = left.report })
     halted_in changes after left broken stepped ready =
-        let how = subst (λ (orders : List Order). StepBroke gives sent failed (recording_in input t now.stores) orders now after broken) orders_here stepped.how in
-        let stopped = stopped_of gives sent failed (recording_in input t now.stores) (step_orders input t) now after broken how in
+        let how = subst (λ (orders : List Order). StepBroke sent failed (recording_in input t now.stores) orders now after broken) orders_here stepped.how in
+        let stopped = stopped_of sent failed (recording_in input t now.stores) (step_orders input t) now after broken how in
         record {
           from_one = here.from_one;
           last = here.last;
           before = now;
-          ran = subst (λ (r : Reported). HasRun gives sent failed input run.plan.now first (t - 1) now r) (sym stepped.unreported) here.ran;
+          ran = subst (λ (r : Reported). HasRun sent failed input run.plan.now first (t - 1) now r) (sym stepped.unreported) here.ran;
           labels = stopped.labels ∙ here.labels;
           ready = ready;
           stopped_is = stopped;
           within = stepped.within;
           how = how;
           failed_link = λ is_link.
-              failed_link gives sent failed (recording_in input t now.stores) (step_orders input t) now after broken changes refl
+              failed_link sent failed (recording_in input t now.stores) (step_orders input t) now after broken changes refl
               (subst (All (λ (o : Order). o.place < length now.stores)) orders_here here.may.carry.orders_may.places) is_link how;
         }
 
     -- counts that are far from their end stay so, and each store takes what comes
-    module _ (limits : AreWithinLimits gives (length q.windows) first.stores first.sources) (far : AllFar (bound_at (t - 1)) now.stores) where
-      few_here : AreFew gives t now.sources
+    module _ (limits : AreWithinLimits (length q.windows) first.stores first.sources) (far : AllFar (bound_at (t - 1)) now.stores) where
+      few_here : AreFew t now.sources
       few_here =
-          all_same (λ (ps : List SpacePacket). length ps ≤ 65535) (λ s. gives s t) first.sources now.sources (here.ran.done.sources_are.others t (λ from to. absurd (omega (arith, here.from_one, to)))) (limits.few t here.from_one here.last)
+          all_same (λ (ps : List SpacePacket). length ps ≤ 65535) (λ s. s t) first.sources now.sources (here.ran.done.sources_are.others t (λ from to. absurd (omega (arith, here.from_one, to)))) (limits.few t here.from_one here.last)
 
       early_here : run.base + t ≤ bound_at (t - 1)
       early_here = early_at run.base t (length q.windows) (early_by first.stores run.base (here.ran.began.in_time (omega arith))).first here.last here.is.steps.at_most
 
-      pub takes_here : TakesAll gives (recording_at run t now.stores) now.stores now.sources
+      pub takes_here : TakesAll (recording_at run t now.stores) now.stores now.sources
       takes_here =
-          takes_all gives (recording_at run t now.stores) now.stores now.sources (bound_at (t - 1)) (bound_within t _ here.last here.is.steps.at_most) here.ran.ready far early_here few_here
+          takes_all (recording_at run t now.stores) now.stores now.sources (bound_at (t - 1)) (bound_within t _ here.last here.is.steps.at_most) here.ran.ready far early_here few_here
 
-      pub far_on : StepRunsKeepStores → (after : RunState S L) → StepDone gives sent failed (recording_at run t now.stores) (orders_at run places t) now after
+      pub far_on : StepRunsKeepStores → (after : RunState Supply L) → StepDone sent failed (recording_at run t now.stores) (orders_at run places t) now after
           → AllFar (bound_at (t + 1 - 1)) after.stores
       far_on law after done =
           subst (λ (b : ℕ). AllFar b after.stores) (bound_more t here.from_one)
-          (far_after gives sent failed law (recording_at run t now.stores) (orders_at run places t) now after here.may.carry.early here.ran.ready done (bound_at (t - 1))
+          (far_after sent failed law (recording_at run t now.stores) (orders_at run places t) now after here.may.carry.early here.ran.ready done (bound_at (t - 1))
           (omega (arith, here.sources_many, (here.ran.began.counts (omega arith)).few_sources)) few_here early_here far)

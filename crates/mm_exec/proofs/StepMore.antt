@@ -6,7 +6,6 @@ use Rattle.std.proofs.lemmas.Bool.{cases_lt, eq-eqb, ne_eqb}
 use Rattle.std.proofs.lemmas.List.{map-append, append-nil, length-map, get_or-map}
 use Rattle.std.proofs.lemmas.List.Elements.{All-map}
 use Rattle.std.proofs.lemmas.Grind.{flat_map-append}
-use Rattle.std.proofs.lemmas.Simd.{map-map}
 use Rattle.mm_base.proofs.Ranges.{range_with_len_more}
 use Rattle.mm_base.specs.declared.rows.StoreRow.{StoreRow}
 use Rattle.mm_packet.specs.Packet.{SpacePacket}
@@ -19,6 +18,7 @@ use Rattle.mm_desk.specs.Machine.{State}
 use Rattle.mm_desk.specs.Runs.{opening_at}
 use Rattle.mm_shared.specs.Stores.{labels_of, states_of, id_at}
 use Rattle.mm_memory.specs.Recording.{is_routed}
+use Rattle.mm_record.specs.Supplies.{Supply}
 use Rattle.mm_record.specs.Recorded.{RecordingContext, offers, recording}
 use Rattle.mm_record.specs.Steps.{given_in}
 use Rattle.mm_dump.specs.declared.order.Order.{Order}
@@ -88,11 +88,10 @@ run_as offers wants gave before after run =
     subst Run (λ i. (offers i, wants i, gave i, before i, after i)) run
 
 -- offers of two errands that share the moment, the routes and the store
-given_offers : {S : Type 0} (gives : S → ℕ → List SpacePacket) (e f : RecordingContext) (j k t : ℕ) → e.now ≡ f.now → e.routes ≡ f.routes → id_at e.ids j ≡ id_at f.ids k
-    → (xs : List S) → map (offers e j) (given_in gives t xs) ≡ map (offers f k) (map (λ g. g t) (map gives xs))
-given_offers gives e f j k t now routes ids xs =
-    let same : given_in gives t xs ≡ map (λ g. g t) (map gives xs) = sym (map-map (λ (g : ℕ → List SpacePacket). g t) gives xs) in
-    λ i. map (λ ps. map (λ p. Offer (now i) p) (filter (is_routed (routes i) (ids i)) ps)) (same i)
+given_offers : (e f : RecordingContext) (j k t : ℕ) → e.now ≡ f.now → e.routes ≡ f.routes → id_at e.ids j ≡ id_at f.ids k
+    → (xs : List Supply) → map (offers e j) (given_in t xs) ≡ map (offers f k) (map (λ g. g t) xs)
+given_offers e f j k t now routes ids xs =
+    λ i. map (λ ps. map (λ p. Offer (now i) p) (filter (is_routed (routes i) (ids i)) ps)) (given_in t xs)
 
 -- what holds of what some are made into holds of others that are made into the same
 pub all_same : {X Y : Type 0} (P : Y → Type 0) (f : X → Y) (xs ys : List X) → map f ys ≡ map f xs → All (λ x. P (f x)) xs → All (λ x. P (f x)) ys
@@ -128,15 +127,15 @@ with_next P k earlier now t last = by_order (cases_lt t (suc k))
 
 -- what holds through a whole run: what the sources gave as it began, where the stores stand, that they are ready, and that the clock has
 -- room
-pub record Footing {S : Type 0} (gives : S → ℕ → List SpacePacket) (m : RunInput) (sources : List S) (places : List ℕ) : Type 0 where
-  pub gives_are : m.gives ≡ map gives sources
+pub record Footing (m : RunInput) (sources : List Supply) (places : List ℕ) : Type 0 where
+  pub gives_are : m.gives ≡ sources
   pub stand_at : ArePlaces m.problem m.memory.stores (length m.problem.rows) places
   pub apart : AreApart places (length m.problem.rows)
   pub ready : (s : ℕ) → s < length m.problem.rows → IsReady m.problem s (store_state m m.memory.stores s)
   pub early : m.base + length m.problem.windows < 2 ^ 64
 
-module _ {S L : Type 0} (gives : S → ℕ → List SpacePacket) (sent : L → List Sent) (failed : L → ℕ) (m : RunInput) (sources : List S) (links : List L) (places : List ℕ)
-    (footing : Footing gives m sources places) (k : ℕ) (before after : RunState S L) (report : Reported) where
+module _ {L : Type 0} (sent : L → List Sent) (failed : L → ℕ) (m : RunInput) (sources : List Supply) (links : List L) (places : List ℕ)
+    (footing : Footing m sources places) (k : ℕ) (before after : RunState Supply L) (report : Reported) where
   abbrev n : ℕ
   n = length m.problem.rows
 
@@ -146,8 +145,8 @@ module _ {S L : Type 0} (gives : S → ℕ → List SpacePacket) (sent : L → L
   abbrev orders : List Order
   orders = orders_of m.amounts places (suc k) n
 
-  module _ (done : StepsDone gives sent failed m sources links k before report)
-      (stepped : StepDone gives sent failed e orders before after) where
+  module _ (done : StepsDone sent failed m sources links k before report)
+      (stepped : StepDone sent failed e orders before after) where
     abbrev stores_after : ℕ → List Held
     stores_after = extend (suc k) after.stores done.stores
 
@@ -194,10 +193,10 @@ module _ {S L : Type 0} (gives : S → ℕ → List SpacePacket) (sent : L → L
         ∙ sym (get_or-map (λ (r : StoreRow). r.id) m.problem.rows s no_row [] store)
 
     -- what was offered in the step
-    offered_here : (s : ℕ) → s < n → map (offers e (slice_index places s)) (given_in gives (suc k) before.sources) ≡ offered m s (suc k)
+    offered_here : (s : ℕ) → s < n → map (offers e (slice_index places s)) (given_in (suc k) before.sources) ≡ offered m s (suc k)
     offered_here s store =
         ap (map (offers e (slice_index places s))) (done.sources_are.others (suc k) (λ first last. omega arith))
-        ∙ given_offers gives e (step_of m (suc k)) (slice_index places s) s (suc k) refl refl (id_here s store) sources
+        ∙ given_offers e (step_of m (suc k)) (slice_index places s) s (suc k) refl refl (id_here s store) sources
         ∙ ap (λ gs. map (offers (step_of m (suc k)) s) (map (λ g. g (suc k)) gs)) (sym footing.gives_are)
 
     -- a store went by a step run in a step, this one or an earlier one
@@ -239,11 +238,11 @@ module _ {S L : Type 0} (gives : S → ℕ → List SpacePacket) (sent : L → L
     }
 
     -- the sources gave one step more
-    given_on : SourcesGave gives (suc k) sources after.sources
+    given_on : SourcesGave (suc k) sources after.sources
     given_on = record {
       nothing_left = λ t first last.
-          with_next (λ u. 1 ≤ u → All (λ s. gives s u ≡ []) after.sources) k
-          (λ u last first. all_same (λ (ps : List SpacePacket). ps ≡ []) (λ s. gives s u) before.sources after.sources (stepped.others u (λ same. omega (arith, same))) (done.sources_are.nothing_left u first last))
+          with_next (λ u. 1 ≤ u → All (λ s. s u ≡ []) after.sources) k
+          (λ u last first. all_same (λ (ps : List SpacePacket). ps ≡ []) (λ s. s u) before.sources after.sources (stepped.others u (λ same. omega (arith, same))) (done.sources_are.nothing_left u first last))
           (λ first. stepped.nothing_left) t last first;
       others = λ t outside.
           stepped.others t (λ same. outside (omega (arith, same)) (omega (arith, same))) ∙ done.sources_are.others t (λ first last. outside first (omega arith));
@@ -344,7 +343,7 @@ module _ {S L : Type 0} (gives : S → ℕ → List SpacePacket) (sent : L → L
 
       -- one step more of a run
       pub done_on : (new : Reported) → new ≡ record report { steps = report.steps ++ row_from m.problem (suc k) places before.stores after.stores n ∷ [] }
-          → StepsDone gives sent failed m sources links (suc k) after new
+          → StepsDone sent failed m sources links (suc k) after new
       done_on new is = record {
         stores = stores_after;
         gave = gave_after;

@@ -8,6 +8,7 @@ use Rattle.std.proofs.lemmas.List.Elements.{All-nil, All-cons, All-head, All-tai
 use Rattle.std.proofs.lemmas.List.Sums.{sum_by-le}
 use Rattle.mm_base.proofs.Pairs.{All-front}
 use Rattle.mm_base.proofs.Sums.{sum_by-map}
+use Rattle.mm_record.specs.Supplies.{Supply}
 use Rattle.mm_record.proofs.Taking.{filter_fewer}
 use Rattle.mm_packet.specs.Packet.{SpacePacket}
 use Rattle.mm_store.specs.Content.{clock_end}
@@ -107,15 +108,15 @@ ready_kept stores left many sound at ready = record {
 }
 
 -- stores that have recorded are ready
-pub ready_recorded : {S L : Type 0} (gives : S → ℕ → List SpacePacket) (e : RecordingContext) (before mid : RunState S L) → AreReady before.stores → StepRecorded gives e before mid → AreReady mid.stores
-ready_recorded gives e before mid ready recorded =
+pub ready_recorded : {L : Type 0} (e : RecordingContext) (before mid : RunState Supply L) → AreReady before.stores → StepRecorded e before mid → AreReady mid.stores
+ready_recorded e before mid ready recorded =
     ready_kept before.stores mid.stores (as_many mid.stores before.stores recorded.labels) recorded.sound
     (λ k within.
     let has = recorded.stores_are k (omega (arith, within, length-map mid.stores (λ (h : Held). h.state))) in
-    run_keeps e.now (map (offers e k) (given_in gives e.step before.sources)) has.log _ _ has.run has.shuffle (all_by e k (given_in gives e.step before.sources))) ready
+    run_keeps e.now (map (offers e k) (given_in e.step before.sources)) has.log _ _ has.run has.shuffle (all_by e k (given_in e.step before.sources))) ready
 
 -- the first of the offers of sources are offers at the moment
-firsts_by : (e : RecordingContext) (k : ℕ) (gives : List (List SpacePacket)) (firsts : List (List Event)) → AllZip (AreFirstOffers e k) gives firsts → AreBy e.now firsts
+firsts_by : (e : RecordingContext) (k : ℕ) (given : List (List SpacePacket)) (firsts : List (List Event)) → AllZip (AreFirstOffers e k) given firsts → AreBy e.now firsts
 firsts_by e k [] [] are = All-nil (λ (list : List Event). All (IsBy e.now) list)
 firsts_by e k [] (f ∷ fs) are = absurd are
 firsts_by e k (g ∷ gs) [] are = absurd are
@@ -124,16 +125,16 @@ firsts_by e k (g ∷ gs) (f ∷ fs) are =
     (All-front (IsBy e.now) f are.0.0 (subst (All (IsBy e.now)) are.0.1 (offers_by e.now (filter (is_routed e.routes (id_at e.ids k)) g)))) (firsts_by e k gs fs are.1)
 
 -- stores at which recorders stopped early are ready
-ready_stopped : {S : Type 0} (gives : S → ℕ → List SpacePacket) (e : RecordingContext) (stores left : List Held) (sources sources_left : List S) (why : Option Fault)
-    → length e.ids ≡ length stores → AreReady stores → Records gives e stores left sources sources_left why → AreReady left
-ready_stopped gives e stores left sources sources_left why ids ready records =
+ready_stopped : (e : RecordingContext) (stores left : List Held) (sources sources_left : List Supply) (why : Option Fault)
+    → length e.ids ≡ length stores → AreReady stores → Records e stores left why sources sources_left → AreReady left
+ready_stopped e stores left sources sources_left why ids ready records =
     ready_kept stores left (as_many left stores records.labels) records.sound
     (λ k within.
     let went = records.went k (omega (arith, within, length-map left (λ (h : Held). h.state))) in
     let many = as_many left stores records.labels in
     run_keeps e.now (map (λ run. run.offered k) records.runs) went.log _ _ went.run went.shuffle
-    (firsts_by e k (given_in gives e.step sources) (map (λ run. run.offered k) records.runs)
-    (first_turns gives e sources sources_left records.runs k records.are_runs (omega (arith, within, many, ids))))) ready
+    (firsts_by e k (given_in e.step sources) (map (λ run. run.offered k) records.runs)
+    (first_turns e sources sources_left records.runs k records.are_runs (omega (arith, within, many, ids))))) ready
 
 -- an order leaves the switches
 tried_keeps : OrdersDumpTheOldest → BrokenOrdersChangeNothing → (k : ℕ) (s t : State) (taken : ℕ) (c : Course) → IsState s → HasTried taken k c s t → KeepsSwitches s t
@@ -165,15 +166,15 @@ ready_broken sent failed step orders mid after stop dump changes ready broke =
     (broke.settled.stores k (omega (arith, within, length-map after.stores (λ (h : Held). h.state))))) ready
 
 -- stores of a step that was broken off are ready for more
-pub ready_left : {S L : Type 0} (gives : S → ℕ → List SpacePacket) (sent : L → List Sent) (failed : L → ℕ) (e : RecordingContext) (orders : List Order)
-    (before after : RunState S L) (stop : StepBroken) → OrdersDumpTheOldest → BrokenOrdersChangeNothing → ids_of before.stores ≡ e.ids → AreReady before.stores
-    → StepBroke gives sent failed e orders before after stop → AreReady after.stores
-ready_left {S = S} {L = L} gives sent failed e orders before after stop dump changes ids ready =
-    by_how gives sent failed e orders before after stop (λ (x : RunState S L). AreReady x.stores) ready
+pub ready_left : {L : Type 0} (sent : L → List Sent) (failed : L → ℕ) (e : RecordingContext) (orders : List Order)
+    (before after : RunState Supply L) (stop : StepBroken) → OrdersDumpTheOldest → BrokenOrdersChangeNothing → ids_of before.stores ≡ e.ids → AreReady before.stores
+    → StepBroke sent failed e orders before after stop → AreReady after.stores
+ready_left {L = L} sent failed e orders before after stop dump changes ids ready =
+    by_how sent failed e orders before after stop (λ (x : RunState Supply L). AreReady x.stores) ready
     (λ broke.
-    ready_stopped gives e before.stores after.stores before.sources after.sources broke.why (ap length (sym ids) ∙ length-map before.stores (λ (h : Held). h.id)) ready broke.records)
-    (λ mid recorded. ready_recorded gives e before mid ready recorded)
-    (λ mid recorded broke. ready_broken sent failed e.step orders mid after stop dump changes (ready_recorded gives e before mid ready recorded) broke)
+    ready_stopped e before.stores after.stores before.sources after.sources broke.why (ap length (sym ids) ∙ length-map before.stores (λ (h : Held). h.id)) ready broke.records)
+    (λ mid recorded. ready_recorded e before mid ready recorded)
+    (λ mid recorded broke. ready_broken sent failed e.step orders mid after stop dump changes (ready_recorded e before mid ready recorded) broke)
 
 -- a step's dump may be carried out after what came is recorded
 pub may_dump : {S L : Type 0} (failed : L → ℕ) (moment : ℕ) (orders : List Order) (before mid : RunState S L) → MayCarry failed moment orders before
@@ -213,18 +214,18 @@ offers_few e k most gave all =
         omega (arith, length-map kept (λ (p : SpacePacket). Offer e.now p), few, most_here)
 
 -- what a step keeps of each store
-module _ {S L : Type 0} (gives : S → ℕ → List SpacePacket) (sent : L → List Sent) (failed : L → ℕ) (law : StepRunsKeepStores) (e : RecordingContext) (orders : List Order)
-    (before after : RunState S L) (fits : e.now < 2 ^ 64) (ready : AreReady before.stores) (done : StepDone gives sent failed e orders before after) where
+module _ {L : Type 0} (sent : L → List Sent) (failed : L → ℕ) (law : StepRunsKeepStores) (e : RecordingContext) (orders : List Order)
+    (before after : RunState Supply L) (fits : e.now < 2 ^ 64) (ready : AreReady before.stores) (done : StepDone sent failed e orders before after) where
   many : length after.stores ≡ length before.stores
   many = as_many after.stores before.stores done.labels
 
   abbrev came_at_most : ℕ → ℕ
-  came_at_most k = count_of (map (offers e k) (given_in gives e.step before.sources))
+  came_at_most k = count_of (map (offers e k) (given_in e.step before.sources))
 
   kept_at : (k : ℕ) → k < length after.stores → KeepsStore e.now (came_at_most k) (opening_at (states_of before.stores) k) (opening_at (states_of after.stores) k)
   kept_at k within =
-      law e.now _ _ (map (offers e k) (given_in gives e.step before.sources)) _ _ fits (state_holds IsState before.stores ready.sound k (omega (arith, many)))
-      (all_by e k (given_in gives e.step before.sources)) (done.runs k within)
+      law e.now _ _ (map (offers e k) (given_in e.step before.sources)) _ _ fits (state_holds IsState before.stores ready.sound k (omega (arith, many)))
+      (all_by e k (given_in e.step before.sources)) (done.runs k within)
 
   -- the stores are ready for the next step
   pub ready_after : AreReady after.stores
@@ -233,26 +234,26 @@ module _ {S L : Type 0} (gives : S → ℕ → List SpacePacket) (sent : L → L
       (λ k within. let kept = kept_at k within in record { storage = kept.storage; retrieval = kept.retrieval }) ready
 
   -- counts move by less than 2^20
-  pub far_after : (bound : ℕ) → length before.sources ≤ 8 → All (λ s. length (gives s e.step) ≤ 65535) before.sources → e.now ≤ bound → AllFar bound before.stores
+  pub far_after : (bound : ℕ) → length before.sources ≤ 8 → All (λ s. length (s e.step) ≤ 65535) before.sources → e.now ≤ bound → AllFar bound before.stores
       → AllFar (bound + 2 ^ 20) after.stores
   far_after bound few_sources few early far =
       all_states (IsFar (bound + 2 ^ 20)) after.stores
       (λ k within.
       let kept = kept_at k within in
       let was = state_holds (IsFar bound) before.stores far k (omega (arith, many)) in
-      let given = given_in gives e.step before.sources in
-      let each : All (λ (ps : List SpacePacket). length ps ≤ 65535) given = All-map (λ (ps : List SpacePacket). length ps ≤ 65535) (λ s. gives s e.step) before.sources few in
+      let given = given_in e.step before.sources in
+      let each : All (λ (ps : List SpacePacket). length ps ≤ 65535) given = All-map (λ (ps : List SpacePacket). length ps ≤ 65535) (λ s. s e.step) before.sources few in
       let number = offers_few e k 65535 given each in
-      let as_many_given : length given ≡ length before.sources = length-map before.sources (λ s. gives s e.step) in
+      let as_many_given : length given ≡ length before.sources = length-map before.sources (λ s. s e.step) in
       record {
         offered = omega (arith, kept.offered, was.offered, number, as_many_given, few_sources);
         last = omega (arith, kept.last, was.last, number, as_many_given, few_sources, early);
       })
 
 -- each store surely takes what the sources give
-pub takes_all : {S : Type 0} (gives : S → ℕ → List SpacePacket) (e : RecordingContext) (stores : List Held) (sources : List S) (bound : ℕ) → bound ≤ latest
-    → AreReady stores → AllFar bound stores → e.now ≤ bound → AreFew gives e.step sources → TakesAll gives e stores sources
-takes_all gives e stores sources bound within ready far early few = record {
+pub takes_all : (e : RecordingContext) (stores : List Held) (sources : List Supply) (bound : ℕ) → bound ≤ latest
+    → AreReady stores → AllFar bound stores → e.now ≤ bound → AreFew e.step sources → TakesAll e stores sources
+takes_all e stores sources bound within ready far early few = record {
   moment = omega (arith, early, within);
   stores_are = λ k d inside.
       let here = far k d inside in

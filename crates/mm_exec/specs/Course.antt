@@ -1,12 +1,12 @@
 -- The steps of a run, one after another.
 use Rattle.std.specs.Prelude.{◌≡◌, ℕ, ◌+◌, ◌-◌, ◌<◌, ◌≤◌, ◌^◌, List, [], ◌∷◌, ◌++◌, length, map, All, vec_capacity}
-use Rattle.mm_packet.specs.Packet.{SpacePacket}
 use Rattle.mm_base.specs.declared.limits.TheConstants.{MAX_STORES}
 use Rattle.mm_problem.specs.Dumping.{window}
 use Rattle.mm_plan.specs.Table.{amount, HasShape}
 use Rattle.mm_desk.specs.declared.held.Held.{Held}
 use Rattle.mm_desk.specs.Machine.{IsState}
 use Rattle.mm_memory.specs.Holdings.{AreHeld}
+use Rattle.mm_record.specs.Supplies.{Supply}
 use Rattle.mm_record.specs.Recorded.{RecordingContext, recording}
 use Rattle.mm_record.specs.Steps.{AreFew}
 use Rattle.mm_dump.specs.declared.order.Order.{Order}
@@ -22,9 +22,9 @@ use Rattle.mm_exec.specs.Numbers.{row_from, orders_of}
 use Rattle.mm_exec.specs.Step.{MayCarry, StepDone, StepBroke}
 
 -- what a run is given that begins with these stores, sources and links
-abbrev pub given_to : {S L : Type 0} → (S → ℕ → List SpacePacket) → RunContext → RunState S L → RunInput
-given_to gives run first =
-    run_input gives run.problem.now run.plan.now run.base (record { stores = first.stores; routes = run.control.now }) first.sources
+abbrev pub given_to : {L : Type 0} → RunContext → RunState Supply L → RunInput
+given_to run first =
+    run_input run.problem.now run.plan.now run.base (record { stores = first.stores; routes = run.control.now }) first.sources
 
 -- what the recorders of a step share, over these stores
 abbrev pub recording_at : RunContext → ℕ → List Held → RecordingContext
@@ -50,18 +50,18 @@ pub record MayReport {S L : Type 0} (failed : L → ℕ) (run : RunContext) (pla
   pub room : length buffers.report.steps < buffers.report.most
 
 -- one step is carried out, and the report has its row
-pub record StepReported {S L : Type 0} (gives : S → ℕ → List SpacePacket) (sent : L → List Sent) (failed : L → ℕ) (run : RunContext) (places : List ℕ) (step : ℕ) (before after : RunState S L)
+pub record StepReported {L : Type 0} (sent : L → List Sent) (failed : L → ℕ) (run : RunContext) (places : List ℕ) (step : ℕ) (before after : RunState Supply L)
     (buffers left : RunBuffers) : Type 0 where
-  pub done : StepDone gives sent failed (recording_at run step before.stores) (orders_at run places step) before after
+  pub done : StepDone sent failed (recording_at run step before.stores) (orders_at run places step) before after
   pub row : left.report ≡ record buffers.report {
     steps = buffers.report.steps
         ++ row_from run.problem.now step places before.stores after.stores (length run.problem.now.rows) ∷ [];
   }
 
 -- one step was broken off, no more than its window was spent, and the report is as it was
-pub record StepUnreported {S L : Type 0} (gives : S → ℕ → List SpacePacket) (sent : L → List Sent) (failed : L → ℕ) (run : RunContext) (places : List ℕ) (step : ℕ) (before after : RunState S L)
+pub record StepUnreported {L : Type 0} (sent : L → List Sent) (failed : L → ℕ) (run : RunContext) (places : List ℕ) (step : ℕ) (before after : RunState Supply L)
     (buffers left : RunBuffers) (broken : StepBroken) : Type 0 where
-  pub how : StepBroke gives sent failed (recording_at run step before.stores) (orders_at run places step) before after broken
+  pub how : StepBroke sent failed (recording_at run step before.stores) (orders_at run places step) before after broken
   pub within : broken.spent ≤ window run.problem.now step
   pub unreported : left.report ≡ buffers.report
 
@@ -76,6 +76,6 @@ pub record MayRun {S L : Type 0} (failed : L → ℕ) (run : RunContext) (buffer
   pub orders : MAX_STORES ≤ vec_capacity buffers.orders
 
 -- in each of this many steps each source gives at most 65,535 packets, and no store was offered more than 2^63 packets before the first
-pub record AreWithinLimits {S : Type 0} (gives : S → ℕ → List SpacePacket) (steps : ℕ) (stores : List Held) (sources : List S) : Type 0 where
-  pub few : (step : ℕ) → 1 ≤ step → step ≤ steps → AreFew gives step sources
+pub record AreWithinLimits (steps : ℕ) (stores : List Held) (sources : List Supply) : Type 0 where
+  pub few : (step : ℕ) → 1 ≤ step → step ≤ steps → AreFew step sources
   pub offered : All (λ h. h.state.offered ≤ 2 ^ 63) stores

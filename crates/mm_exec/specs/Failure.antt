@@ -1,9 +1,9 @@
 -- What each link did in a step that a failed link halted.
 use Rattle.std.specs.Prelude.{◌≡◌, ◌⊎◌, ℕ, ◌+◌, ◌<◌, List, [], ◌∷◌, ◌++◌, length, map, slice_index_or, All, Some}
-use Rattle.mm_packet.specs.Packet.{SpacePacket}
 use Rattle.mm_store.specs.declared.stored.Stored.{Stored}
 use Rattle.mm_desk.specs.Machine.{State}
 use Rattle.mm_desk.specs.Runs.{opening_at}
+use Rattle.mm_record.specs.Supplies.{Supply}
 use Rattle.mm_dump.specs.declared.order.Order.{Order}
 use Rattle.mm_dump.specs.declared.order.OrderBroken.TheVariants.{LinkFailed}
 use Rattle.mm_dump.specs.Sending.{Sent}
@@ -51,9 +51,9 @@ pub record LinksFailed {L : Type 0} (sent : L → List Sent) (failed : L → ℕ
       × LastBroke settled.course (slice_index_or settled.places l []) before after (slice_index_or (map failed old) l 0) (slice_index_or (map failed new) l 0)
 
 -- a step that a failed link halted: all that came is recorded, nothing of it is left in the sources, and this is what the links carried out
-pub record FailedLink {S L : Type 0} (gives : S → ℕ → List SpacePacket) (sent : L → List Sent) (failed : L → ℕ) (e : RecordingContext) (orders : List Order)
-    (before after : RunState S L) : Type 0 where
-  pub mid : RunState S L
-  pub recorded : StepRecorded gives e before mid
+pub record FailedLink {L : Type 0} (sent : L → List Sent) (failed : L → ℕ) (e : RecordingContext) (orders : List Order)
+    (before after : RunState Supply L) : Type 0 where
+  pub mid : RunState Supply L
+  pub recorded : StepRecorded e before mid
   pub sources : after.sources ≡ mid.sources
   pub links : LinksFailed sent failed e.ids orders (states_of mid.stores) (states_of after.stores) before.links after.links

@@ -1,6 +1,5 @@
 -- A run that begins with its plan: what is printed, and what is lost.
 use Rattle.std.specs.Prelude.{◌≡◌, ◌≤◌, ℕ, List, [], length, pos}
-use Rattle.mm_packet.specs.Packet.{SpacePacket}
 use Rattle.mm_problem.specs.Dumping.{Dumping, arrivals}
 use Rattle.mm_plan.specs.Table.{amount}
 use Rattle.mm_plan.specs.Volumes.{Amounts, loss}
@@ -9,6 +8,7 @@ use Rattle.mm_plan.specs.Sheet.{SheetRows}
 use Rattle.mm_cut.specs.Cuts.{IsCut, bound}
 use Rattle.mm_planner.specs.PlanTexts.{PlansFor}
 use Rattle.mm_memory.specs.Holdings.{Holdings}
+use Rattle.mm_record.specs.Supplies.{Supply}
 use Rattle.mm_dump.specs.Sending.{Sent}
 use Rattle.mm_report.specs.declared.cause.Cause.TheVariants.{NoMemory}
 use Rattle.mm_report.specs.Report.{Reported, totals_of}
@@ -32,21 +32,20 @@ pub record LosesWhatIsPrinted (m : RunInput) (sheet : SheetRows) (report : Repor
   pub shown : bound m.problem sheet.cut sheet.by_channels ≡ pos sheet.loss
   pub lost : AsForecast m → (totals_of report.steps).lost ≡ sheet.loss
 
--- a plan was made, printed and carried out
-pub record Flies {S L : Type 0} (gives : S → ℕ → List SpacePacket) (sent : L → List Sent) (failed : L → ℕ) (q : Dumping) (base : ℕ) (before : Holdings)
-    (sources : List S) (links : List L) (after : Holdings) (flown : Flown S L) : Type 0 where
+-- a plan was made, printed and carried out, with sources that give this and have that left
+pub record Flies {S L : Type 0} (sent : L → List Sent) (failed : L → ℕ) (q : Dumping) (base : ℕ) (before : Holdings) (given : List Supply) (links : List L)
+    (after : Holdings) (flown : Flown S L) (left : List Supply) : Type 0 where
   pub sheet : SheetRows
   pub plans : PlansFor q flown.sheet.items sheet
-  pub carried_out : IsCarriedOut gives sent failed (run_input gives q sheet.plan base before sources) sheet.plan sources links after
-      (record { report = flown.report; sources = flown.sources; links = flown.links })
-  pub headline : LosesWhatIsPrinted (run_input gives q sheet.plan base before sources) sheet flown.report
+  pub carried_out : IsCarriedOut sent failed (run_input q sheet.plan base before given) sheet.plan links after left flown.links.items flown.report
+  pub headline : LosesWhatIsPrinted (run_input q sheet.plan base before given) sheet flown.report
 
--- a plan was made and printed, and its run was halted
-pub record FliesNot {S L : Type 0} (gives : S → ℕ → List SpacePacket) (sent : L → List Sent) (failed : L → ℕ) (q : Dumping) (base : ℕ) (before : Holdings)
-    (sources : List S) (links : List L) (after : Holdings) (ended : FlyHalted S L) : Type 0 where
+-- a plan was made and printed, and its run was halted, with sources that give this and have that left
+pub record FliesNot {S L : Type 0} (sent : L → List Sent) (failed : L → ℕ) (q : Dumping) (base : ℕ) (before : Holdings) (sources : List S) (given : List Supply)
+    (links : List L) (after : Holdings) (ended : FlyHalted S L) (left : List Supply) : Type 0 where
   pub sheet : SheetRows
   pub plans : PlansFor q ended.sheet.items sheet
-  pub halted : IsHalted gives sent failed (run_input gives q sheet.plan base before sources) sheet.plan sources links after ended.halted
+  pub halted : IsHalted sent failed (run_input q sheet.plan base before given) sheet.plan sources links after ended.halted left
 
 -- there was no memory to plan: nothing is printed, and nothing was done
 pub record HasNoPlan {S L : Type 0} (before : Holdings) (sources : List S) (links : List L) (after : Holdings) (ended : FlyHalted S L) : Type 0 where

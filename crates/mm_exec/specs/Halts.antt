@@ -10,6 +10,7 @@ use Rattle.mm_desk.specs.Machine.{State}
 use Rattle.mm_desk.specs.Offers.{IsShuffleOfEvents}
 use Rattle.mm_desk.specs.Runs.{IsRun, opening_at}
 use Rattle.mm_shared.specs.Stores.{labels_of, states_of}
+use Rattle.mm_record.specs.Supplies.{Supply}
 use Rattle.mm_record.specs.Recorded.{RecordingContext, offers}
 use Rattle.mm_record.specs.Recorded.{recording}
 use Rattle.mm_record.specs.Steps.{given_in}
@@ -36,9 +37,9 @@ AreFirstOffers e k packets first = (rest : List Event) × (offers e k packets �
 
 -- a store went from one state to another by one legal log: replies left aside, a shuffle of the first offers of what each source gives, and
 -- then the calls of at most one order, the one for this store
-pub record IsByOneLog (e : RecordingContext) (gives : List (List SpacePacket)) (orders : List Order) (k : ℕ) (s t : State) : Type 0 where
+pub record IsByOneLog (e : RecordingContext) (given : List (List SpacePacket)) (orders : List Order) (k : ℕ) (s t : State) : Type 0 where
   pub firsts : List (List Event)
-  pub are : AllZip (AreFirstOffers e k) gives firsts
+  pub are : AllZip (AreFirstOffers e k) given firsts
   pub offered : List Entry
   pub ordered : List Entry
   pub run : IsRun s (offered ++ ordered) t
@@ -50,8 +51,8 @@ abbrev pub AtEachStore : (ℕ → State → State → Type 0) → List Held → 
 AtEachStore went before after = (k : ℕ) → k < length before → went k (opening_at (states_of before) k) (opening_at (states_of after) k)
 
 -- where a step was broken off, each store went by one log
-abbrev pub BrokenStepsAreLogs : {S L : Type 0} → (S → ℕ → List SpacePacket) → (L → List Sent) → (L → ℕ) → Type 0
-BrokenStepsAreLogs {S} {L} gives sent failed = (step now : ℕ) (routes : List RouteRow) (orders : List Order) (before after : RunState S L) (broken : StepBroken)
-    → StepBroke gives sent failed (recording step now routes before.stores) orders before after broken
+abbrev pub BrokenStepsAreLogs : {L : Type 0} → (L → List Sent) → (L → ℕ) → Type 0
+BrokenStepsAreLogs {L} sent failed = (step now : ℕ) (routes : List RouteRow) (orders : List Order) (before after : RunState Supply L) (broken : StepBroken)
+    → StepBroke sent failed (recording step now routes before.stores) orders before after broken
     → labels_of after.stores ≡ labels_of before.stores
-    → AtEachStore (IsByOneLog (recording step now routes before.stores) (given_in gives step before.sources) orders) before.stores after.stores
+    → AtEachStore (IsByOneLog (recording step now routes before.stores) (given_in step before.sources) orders) before.stores after.stores

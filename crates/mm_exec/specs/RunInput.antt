@@ -1,7 +1,6 @@
 -- What a run is given, and what comes in it.
 use Rattle.std.specs.Prelude.{ℕ, ◌+◌, nat_lt, List, map, filter, flat_map}
 use Rattle.std.specs.List.{position_or_len}
-use Rattle.mm_packet.specs.Packet.{SpacePacket}
 use Rattle.mm_problem.specs.Dumping.{Dumping, row, stores, steps}
 use Rattle.mm_plan.specs.Table.{Table, amount}
 use Rattle.mm_plan.specs.Volumes.{Amounts}
@@ -12,6 +11,7 @@ use Rattle.mm_desk.specs.Offers.{count_of}
 use Rattle.mm_desk.specs.Runs.{opening_at}
 use Rattle.mm_shared.specs.Stores.{states_of}
 use Rattle.mm_memory.specs.Holdings.{Holdings, has_id}
+use Rattle.mm_record.specs.Supplies.{Supply}
 use Rattle.mm_record.specs.Recorded.{RecordingContext, recording, offers}
 use Rattle.mm_dump.specs.declared.order.Order.{Order}
 
@@ -22,7 +22,7 @@ pub record RunInput : Type 0 where
   pub amounts : Amounts
   pub base : ℕ
   pub memory : Holdings
-  pub gives : List (ℕ → List SpacePacket)
+  pub gives : List Supply
 
 -- what the recorders of a step share, over the stores of the problem
 abbrev pub step_of : RunInput → ℕ → RecordingContext
@@ -53,9 +53,9 @@ abbrev pub store_state : RunInput → List Held → ℕ → State
 store_state m held s = opening_at (states_of held) (place_in_memory m s)
 
 -- a plan, carried out over a memory with these sources
-abbrev pub run_input : {S : Type 0} → (S → ℕ → List SpacePacket) → Dumping → Table → ℕ → Holdings → List S → RunInput
-run_input gives problem plan base memory sources =
-    record { problem = problem; amounts = amount plan; base = base; memory = memory; gives = map gives sources }
+abbrev pub run_input : Dumping → Table → ℕ → Holdings → List Supply → RunInput
+run_input problem plan base memory sources =
+    record { problem = problem; amounts = amount plan; base = base; memory = memory; gives = sources }
 
 -- the orders of a step: one for each store from which packets are to leave, in the problem's order, which names its place in the memory
 abbrev pub step_orders : RunInput → ℕ → List Order

@@ -14,6 +14,7 @@ use Rattle.mm_memory.specs.Laws.{ids_of}
 use Rattle.mm_record.specs.Recorded.{RecordingContext, recording, offers}
 use Rattle.mm_record.specs.declared.step.RecordingStep.{RecordingStep}
 use Rattle.mm_record.specs.Causes.{cause_in}
+use Rattle.mm_record.specs.Supplies.{Supply}
 use Rattle.mm_record.specs.Steps.{given_in, AllRecorded, Records}
 use Rattle.mm_dump.specs.declared.order.Order.{Order}
 use Rattle.mm_dump.specs.declared.order.OrderBroken.{OrderBroken}
@@ -61,12 +62,12 @@ abbrev pub recording_by : RecordingStep → List Held → RecordingContext
 recording_by step stores = recording step.step step.now step.control.now stores
 
 -- what came in a step is recorded in each store, which is sound, and nothing of it is left in the sources
-pub record StepRecorded {S L : Type 0} (gives : S → ℕ → List SpacePacket) (e : RecordingContext) (before after : RunState S L) : Type 0 where
+pub record StepRecorded {L : Type 0} (e : RecordingContext) (before after : RunState Supply L) : Type 0 where
   pub labels : labels_of after.stores ≡ labels_of before.stores
   pub sound : All (λ h. IsState h.state) after.stores
-  pub stores_are : AllRecorded e (given_in gives e.step before.sources) (states_of before.stores) (states_of after.stores)
-  pub nothing_left : All (λ s. gives s e.step ≡ []) after.sources
-  pub others : (t : ℕ) → t ≢ e.step → given_in gives t after.sources ≡ given_in gives t before.sources
+  pub stores_are : AllRecorded e (given_in e.step before.sources) (states_of before.stores) (states_of after.stores)
+  pub nothing_left : All (λ s. s e.step ≡ []) after.sources
+  pub others : (t : ℕ) → t ≢ e.step → given_in t after.sources ≡ given_in t before.sources
   pub links : after.links ≡ before.links
 
 -- the orders of a step are carried out
@@ -77,17 +78,17 @@ pub record StepDumped {S L : Type 0} (sent : L → List Sent) (failed : L → �
 
 -- in a step each store went by a step run: the offers of what the sources gave, and then its order, where it has one. Each order was
 -- one link's, once, and the links sent what the orders were given; nothing is left in the sources for the step
-pub record StepDone {S L : Type 0} (gives : S → ℕ → List SpacePacket) (sent : L → List Sent) (failed : L → ℕ) (e : RecordingContext) (orders : List Order)
-    (before after : RunState S L) : Type 0 where
+pub record StepDone {L : Type 0} (sent : L → List Sent) (failed : L → ℕ) (e : RecordingContext) (orders : List Order)
+    (before after : RunState Supply L) : Type 0 where
   pub labels : labels_of after.stores ≡ labels_of before.stores
   pub gave : ℕ → List Stored
-  pub runs : (k : ℕ) → k < length after.stores → IsStepRun (map (offers e k) (given_in gives e.step before.sources)) (wanted orders k) (gave k)
+  pub runs : (k : ℕ) → k < length after.stores → IsStepRun (map (offers e k) (given_in e.step before.sources)) (wanted orders k) (gave k)
       (opening_at (states_of before.stores) k) (opening_at (states_of after.stores) k)
   pub places : List (List ℕ)
   pub once : (k : ℕ) → sum_by (times k) places ≡ times k (places_of orders)
   pub links : AllTook sent failed e.ids gave places before.links after.links
-  pub nothing_left : All (λ s. gives s e.step ≡ []) after.sources
-  pub others : (t : ℕ) → t ≢ e.step → given_in gives t after.sources ≡ given_in gives t before.sources
+  pub nothing_left : All (λ s. s e.step ≡ []) after.sources
+  pub others : (t : ℕ) → t ≢ e.step → given_in t after.sources ≡ given_in t before.sources
 
 -- there was no memory to begin, and nothing was done
 pub record OutOfMemory {S L : Type 0} (step : ℕ) (before after : RunState S L) (broken : StepBroken) : Type 0 where
@@ -95,9 +96,9 @@ pub record OutOfMemory {S L : Type 0} (step : ℕ) (before after : RunState S L)
   pub broken_is : broken ≡ record { cause = NoMemory step; spent = 0 }
 
 -- recorders stopped early: this is what they left, and the cause is theirs. The links are as they were
-pub record RecordersBroke {S L : Type 0} (gives : S → ℕ → List SpacePacket) (e : RecordingContext) (before after : RunState S L) (broken : StepBroken) : Type 0 where
+pub record RecordersBroke {L : Type 0} (e : RecordingContext) (before after : RunState Supply L) (broken : StepBroken) : Type 0 where
   pub why : Option Fault
-  pub records : Records gives e before.stores after.stores before.sources after.sources why
+  pub records : Records e before.stores after.stores why before.sources after.sources
   pub links : after.links ≡ before.links
   pub spent_is : broken.spent ≡ 0
   pub cause_is : cause_in e.step why ≡ Some broken.cause
@@ -121,28 +122,28 @@ pub record OrdersBroke {S L : Type 0} (sent : L → List Sent) (failed : L → �
   pub cause_is : broken.cause ≡ dump_cause step why
 
 -- a step was broken off while it was recorded
-abbrev pub RecordingBroke : {S L : Type 0} → (S → ℕ → List SpacePacket) → RecordingContext → RunState S L → RunState S L → StepBroken → Type 0
-RecordingBroke gives e before after broken = OutOfMemory e.step before after broken ⊎ RecordersBroke gives e before after broken
+abbrev pub RecordingBroke : {L : Type 0} → RecordingContext → RunState Supply L → RunState Supply L → StepBroken → Type 0
+RecordingBroke e before after broken = OutOfMemory e.step before after broken ⊎ RecordersBroke e before after broken
 
 -- a step was broken off while its orders were carried out
 abbrev pub OrderingBroke : {S L : Type 0} → (L → List Sent) → (L → ℕ) → ℕ → List Order → RunState S L → RunState S L → StepBroken → Type 0
 OrderingBroke sent failed step orders before after broken = OutOfMemory step before after broken ⊎ OrdersBroke sent failed step orders before after broken
 
 -- a step was broken off after what came was recorded, which left the stores and the sources so
-pub record DumpBroke {S L : Type 0} (gives : S → ℕ → List SpacePacket) (sent : L → List Sent) (failed : L → ℕ) (e : RecordingContext) (orders : List Order)
-    (before after : RunState S L) (broken : StepBroken) : Type 0 where
-  pub mid : RunState S L
-  pub recorded : StepRecorded gives e before mid
+pub record DumpBroke {L : Type 0} (sent : L → List Sent) (failed : L → ℕ) (e : RecordingContext) (orders : List Order)
+    (before after : RunState Supply L) (broken : StepBroken) : Type 0 where
+  pub mid : RunState Supply L
+  pub recorded : StepRecorded e before mid
   pub how : OrderingBroke sent failed e.step orders mid after broken
 
 -- how a step was broken off
-abbrev pub StepBroke : {S L : Type 0} → (S → ℕ → List SpacePacket) → (L → List Sent) → (L → ℕ) → RecordingContext → List Order → RunState S L → RunState S L → StepBroken → Type 0
-StepBroke gives sent failed e orders before after broken =
-    RecordingBroke gives e before after broken ⊎ DumpBroke gives sent failed e orders before after broken
+abbrev pub StepBroke : {L : Type 0} → (L → List Sent) → (L → ℕ) → RecordingContext → List Order → RunState Supply L → RunState Supply L → StepBroken → Type 0
+StepBroke sent failed e orders before after broken =
+    RecordingBroke e before after broken ⊎ DumpBroke sent failed e orders before after broken
 
 -- a source keeps the rest of what it gave in a step
-abbrev pub KeepsRest : {S : Type 0} → (S → ℕ → List SpacePacket) → ℕ → S → S → Type 0
-KeepsRest gives step before after = (gave : List SpacePacket) × (gives before step ≡ gave ++ gives after step)
+abbrev pub KeepsRest : ℕ → Supply → Supply → Type 0
+KeepsRest step before after = (gave : List SpacePacket) × (before step ≡ gave ++ after step)
 
 -- a cause that ends a run in this step
 abbrev pub IsCauseIn : ℕ → Cause → Type 0
@@ -156,8 +157,8 @@ abbrev pub NeverRefused : Cause → Type 0
 NeverRefused cause = (step : ℕ) → cause ≢ LogMismatch step
 
 -- a step that was broken off leaves the stores in their order, and each source keeps the rest of what it gave
-pub record StepStopped {S L : Type 0} (gives : S → ℕ → List SpacePacket) (step : ℕ) (before after : RunState S L) (cause : Cause) : Type 0 where
+pub record StepStopped {L : Type 0} (step : ℕ) (before after : RunState Supply L) (cause : Cause) : Type 0 where
   pub cause_is : IsCauseIn step cause
   pub labels : labels_of after.stores ≡ labels_of before.stores
-  pub keep : AllZip (KeepsRest gives step) before.sources after.sources
-  pub others : (t : ℕ) → t ≢ step → given_in gives t after.sources ≡ given_in gives t before.sources
+  pub keep : AllZip (KeepsRest step) before.sources after.sources
+  pub others : (t : ℕ) → t ≢ step → given_in t after.sources ≡ given_in t before.sources

@@ -1,11 +1,11 @@
 -- The first steps of a run, carried out whole.
 use Rattle.std.specs.Prelude.{◌≡◌, ℕ, ◌-◌, ◌*◌, ◌<◌, ◌≤◌, List, [], ◌++◌, length, map, flat_map, sum_by, slice_index_or, All}
 use Rattle.std.specs.List.{range_with_len}
-use Rattle.mm_packet.specs.Packet.{SpacePacket}
 use Rattle.mm_plan.specs.Volumes.{Amounts}
 use Rattle.mm_store.specs.declared.stored.Stored.{Stored}
 use Rattle.mm_desk.specs.declared.held.Held.{Held}
 use Rattle.mm_shared.specs.Stores.{labels_of, id_at}
+use Rattle.mm_record.specs.Supplies.{Supply}
 use Rattle.mm_record.specs.Steps.{given_in}
 use Rattle.mm_dump.specs.Sending.{Sent, all_sent}
 use Rattle.mm_dump.specs.Dumped.{times, places_of}
@@ -26,9 +26,9 @@ pub record AreStepRuns (m : RunInput) (steps : ℕ) (stores : ℕ → List Held)
       (λ s t. IsStepRun (offered m s t) (m.amounts s t) (gave (place_in_memory m s) t) (store_state m (stores (t - 1)) s) (store_state m (stores t) s))
 
 -- of the first steps the sources have nothing left, and what they give in other steps is untouched
-pub record SourcesGave {S : Type 0} (gives : S → ℕ → List SpacePacket) (steps : ℕ) (before after : List S) : Type 0 where
-  pub nothing_left : (t : ℕ) → 1 ≤ t → t ≤ steps → All (λ s. gives s t ≡ []) after
-  pub others : (t : ℕ) → (1 ≤ t → t ≤ steps → ⊥) → given_in gives t after ≡ given_in gives t before
+pub record SourcesGave (steps : ℕ) (before after : List Supply) : Type 0 where
+  pub nothing_left : (t : ℕ) → 1 ≤ t → t ≤ steps → All (λ s. s t ≡ []) after
+  pub others : (t : ℕ) → (1 ≤ t → t ≤ steps → ⊥) → given_in t after ≡ given_in t before
 
 -- what the orders of these stores were given in a step, order after order, each whole
 abbrev pub sent_in : RunInput → (ℕ → ℕ → List Stored) → ℕ → List ℕ → List Sent
@@ -54,14 +54,14 @@ sent_amounts m gave s t = length (gave (place_in_memory m s) t)
 
 -- the first steps of a run are carried out: the stores, the sources and the links are as they leave them, and the report has the numbers
 -- of the plan, with what came in place of the forecast, which are those of the stores' counters, row by row and in all
-pub record StepsDone {S L : Type 0} (gives : S → ℕ → List SpacePacket) (sent : L → List Sent) (failed : L → ℕ) (m : RunInput) (sources : List S) (links : List L)
-    (steps : ℕ) (after : RunState S L) (report : Reported) : Type 0 where
+pub record StepsDone {L : Type 0} (sent : L → List Sent) (failed : L → ℕ) (m : RunInput) (sources : List Supply) (links : List L)
+    (steps : ℕ) (after : RunState Supply L) (report : Reported) : Type 0 where
   -- the stores after each step, and what each order was given
   pub stores : ℕ → List Held
   pub gave : ℕ → ℕ → List Stored
   pub runs : AreStepRuns m steps stores gave
   pub stores_are : after.stores ≡ stores steps
-  pub sources_are : SourcesGave gives steps sources after.sources
+  pub sources_are : SourcesGave steps sources after.sources
   pub links_are : LinksSent sent failed m steps gave links after.links
   -- of each store of the problem, what became of its packets: what the links sent is what its orders were given
   pub accounted : (s : ℕ) → s < length m.problem.rows

@@ -1,6 +1,7 @@
 //! The steps of a run, one after another.
 ghost use Rattle.std.specs.Prelude.{◌≡◌, ℕ, length, IfOk, OnOk, IfErr, vec_capacity};
 ghost use Rattle.mm_record.specs.Steps.{TakesAll};
+ghost use Rattle.mm_exec.specs.RunState.{InRun};
 ghost use Rattle.mm_exec.specs.Step.{AreReady, NeverRefused};
 ghost use Rattle.mm_exec.specs.Course.{given_to, recording_at, MayReport, StepReported, StepUnreported, MayRun, AreWithinLimits};
 ghost use Rattle.mm_exec.specs.Ending.{HasRun, IsHaltedIn};
@@ -17,7 +18,8 @@ use mm_dump::Link;
 use mm_dump::laws::broken_orders_change_nothing;
 use mm_plan::Plan;
 use mm_problem::Problem;
-use mm_record::{RecordingStep, Source};
+use mm_record::laws::sources_may_stay;
+use mm_record::{AnySource, RecordingStep};
 use mm_report::Report;
 use std::alloc::Global;
 use std::sync::Wait;
@@ -39,7 +41,7 @@ pub(crate) struct RunStopped {
     pub(crate) report: Report,
 }
 
-impl<S: Source + Send + Drop, L: Link + Send + Drop> RunParts<S, L> {
+impl<S: AnySource + Send + Drop, L: Link + Send + Drop> RunParts<S, L> {
     // Carries out one step of a plan, for stores of the problem that stand at these places, and adds its row to the report.
     fn report_step<R: Threads + Wait + Sync>(
         &mut self,
@@ -51,10 +53,12 @@ impl<S: Source + Send + Drop, L: Link + Send + Drop> RunParts<S, L> {
         buffers: &mut RunBuffers,
     ) -> Result<(), StepBroken>
         requires may { MayReport L.failed run.now places.now step buffers.old self.old }
-        ensures done { OnOk result (StepReported S.gives L.sent L.failed run.now places.now step self.old self.new buffers.old buffers.new) }
-        ensures broke { IfErr result (StepUnreported S.gives L.sent L.failed run.now places.now step self.old self.new buffers.old buffers.new) }
-        ensures far { TakesAll S.gives (recording_at run.now step self.old.stores) self.old.stores self.old.sources
-            → IfErr result (λ broken. NeverRefused broken.cause) }
+        ensures done { OnOk result (InRun S.leads S.until self.old self.new
+            (λ before after. StepReported L.sent L.failed run.now places.now step before after buffers.old buffers.new)) }
+        ensures broke { IfErr result (λ broken. InRun S.leads S.until self.old self.new
+            (λ before after. StepUnreported L.sent L.failed run.now places.now step before after buffers.old buffers.new broken)) }
+        ensures far { IfErr result (λ broken. InRun S.leads S.until self.old self.new
+            (λ before after. TakesAll (recording_at run.now step before.stores) before.stores before.sources → NeverRefused broken.cause)) }
         ensures capacity { vec_capacity buffers.new.orders ≡ vec_capacity buffers.old.orders }
         ensures ready { AreReady self.new.stores }
     {
@@ -80,17 +84,18 @@ impl<S: Source + Send + Drop, L: Link + Send + Drop> RunParts<S, L> {
         buffers: RunBuffers,
     ) -> Result<Report, RunStopped>
         requires may { MayRun L.failed run.now buffers self.old }
-        ensures done { IfOk result (HasRun S.gives L.sent L.failed (given_to S.gives run.now self.old) run.now.plan.now self.old
-            (length run.now.problem.now.windows) self.new) }
-        ensures halted { IfErr result (λ stopped. (step : ℕ) × IsHaltedIn S.gives L.sent L.failed (given_to S.gives run.now self.old) run.now.plan.now self.old
-            step self.new stopped) }
-        ensures far { AreWithinLimits S.gives (length run.now.problem.now.windows) self.old.stores self.old.sources
-            → IfErr result (λ stopped. NeverRefused stopped.broken.cause) }
+        ensures done { IfOk result (λ report. InRun S.leads S.until self.old self.new
+            (λ first now. HasRun L.sent L.failed (given_to run.now first) run.now.plan.now first (length run.now.problem.now.windows) now report)) }
+        ensures halted { IfErr result (λ stopped. InRun S.leads S.until self.old self.new
+            (λ first left. (step : ℕ) × IsHaltedIn L.sent L.failed (given_to run.now first) run.now.plan.now first step left stopped)) }
+        ensures far { IfErr result (λ stopped. InRun S.leads S.until self.old self.new
+            (λ first left. AreWithinLimits (length run.now.problem.now.windows) first.stores first.sources → NeverRefused stopped.broken.cause)) }
     {
         broken_orders_change_nothing();
         runs_lose_as_planned();
         runs_lose_no_packet_uncounted();
         step_runs_keep_stores();
+        sources_may_stay::<S>();
         let all = places_of(run.problem, self.stores());
         let places = &all[..run.problem.stores()];
         let mut buffers = buffers;

@@ -1,5 +1,6 @@
 //! A run that begins with its plan.
 ghost use Rattle.std.specs.Prelude.{◌-◌, ◌<◌, ◌^◌, ◌⊎◌, All, length, IfOk, IfErr};
+ghost use Rattle.mm_record.specs.Supplies.{WhateverComes};
 ghost use Rattle.mm_exec.specs.Flying.{Flies, FliesNot, HasNoPlan};
 ghost use Rattle.mm_exec.specs.Step.{NeverRefused};
 ghost use Rattle.mm_exec.specs.Course.{AreWithinLimits};
@@ -10,7 +11,7 @@ use mm_dump::Link;
 use mm_memory::Memory;
 use mm_planner::{PrintedPlan, print_plan};
 use mm_problem::Problem;
-use mm_record::Source;
+use mm_record::AnySource;
 use mm_report::{Cause, Report};
 use std::alloc::Global;
 use std::sync::Wait;
@@ -21,7 +22,7 @@ use std::thread::Threads;
 /// **What was printed is what is lost.** The printed plan fits every window and every channel's limit, no plan that fits loses fewer
 /// blocks than the printed number, and the printed cut shows this. Where what came is what was forecast, the packets lost in the run
 /// are the printed number, whatever the order in which the stores were asked, and whatever the kind of each (`headline`).
-pub fn fly<S: Source + Send + Drop, L: Link + Send + Drop, R: Threads + Wait + Sync>(
+pub fn fly<S: AnySource + Send + Drop, L: Link + Send + Drop, R: Threads + Wait + Sync>(
     rt: &R,
     alloc: Global,
     memory: &mut Memory,
@@ -31,12 +32,14 @@ pub fn fly<S: Source + Send + Drop, L: Link + Send + Drop, R: Threads + Wait + S
     base: u64,
 ) -> FlyResult<S, L>
     requires links { All (λ l. L.failed l < 2 ^ 64 - 1) links.items }
-    ensures flown { IfOk result (Flies S.gives L.sent L.failed problem.now base memory.old sources.items links.items memory.new) }
-    ensures not_flown { IfErr result (λ ended. FliesNot S.gives L.sent L.failed problem.now base memory.old sources.items links.items memory.new ended
+    ensures flown { IfOk result (λ flown. WhateverComes S.leads S.until sources.items flown.sources.items
+        (λ given left. Flies L.sent L.failed problem.now base memory.old given links.items memory.new flown left)) }
+    ensures not_flown { IfErr result (λ ended. WhateverComes S.leads S.until sources.items ended.halted.sources.items
+        (λ given left. FliesNot L.sent L.failed problem.now base memory.old sources.items given links.items memory.new ended left)
         ⊎ HasNoPlan memory.old sources.items links.items memory.new ended) }
     // Where counts are far from their end, no store refuses a packet.
-    ensures far { AreWithinLimits S.gives (length problem.now.windows) memory.old.stores sources.items
-        → IfErr result (λ ended. NeverRefused ended.halted.cause) }
+    ensures far { IfErr result (λ ended. WhateverComes S.leads S.until sources.items ended.halted.sources.items
+        (λ given left. AreWithinLimits (length problem.now.windows) memory.old.stores given → NeverRefused ended.halted.cause)) }
 {
     let Ok(PrintedPlan { sheet, text }) = print_plan(alloc, problem) else {
         return Err(FlyHalted {

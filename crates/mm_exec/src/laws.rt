@@ -8,7 +8,6 @@ use mm_desk::laws::{
     any_order_loses_alike, events_conserve_packets, events_keep_a_state, orders_dump_the_oldest,
 };
 use mm_dump::Link;
-use mm_record::Source;
 
 /// The most links of a run.
 pub fn constants_are()
@@ -67,6 +66,6 @@ pub fn draws_meet_no_refusal()
 
 /// A step that was broken off took each store by one legal log: offers of what the sources gave, in an order that keeps each source's own,
 /// and then at most one dump order, whole or broken.
-pub fn broken_steps_are_logs<S: Source, L: Link>()
-    ensures logs { BrokenStepsAreLogs S.gives L.sent L.failed }
+pub fn broken_steps_are_logs<L: Link>()
+    ensures logs { BrokenStepsAreLogs L.sent L.failed }
 {}

@@ -22,7 +22,9 @@ pub use laws::{
     step_runs_keep_stores, whole_steps_fit,
 };
 pub use mm_dump::{Link, SendFailed};
-pub use mm_record::{RecordHalted, Recorded, RecordedStep, Source, record_step};
+pub use mm_record::{
+    AnySource, Live, LiveSource, RecordHalted, Recorded, RecordedStep, Source, record_step,
+};
 pub use mm_report::{Cause, LATEST_START, MAX_SOURCES, Report};
 pub use readiness::{MAX_LINKS, ready};
 pub use requirement::Requirement;

@@ -1,6 +1,8 @@
 //! The run of a dump plan.
 ghost use Rattle.std.specs.Prelude.{◌≡◌, ◌-◌, ◌<◌, ◌^◌, [], All, length, IfOk, IfErr};
 ghost use Rattle.mm_memory.specs.Holdings.{AreHeld};
+ghost use Rattle.mm_record.specs.Supplies.{WhateverComes};
+ghost use Rattle.mm_exec.specs.RunState.{InRun};
 ghost use Rattle.mm_exec.specs.RunInput.{run_input};
 ghost use Rattle.mm_exec.specs.Step.{NeverRefused};
 ghost use Rattle.mm_exec.specs.Course.{given_to, AreWithinLimits};
@@ -17,7 +19,8 @@ use mm_memory::Memory;
 use mm_memory::laws::identifiers_decide_what_is_restored;
 use mm_plan::Plan;
 use mm_problem::Problem;
-use mm_record::Source;
+use mm_record::AnySource;
+use mm_record::laws::sources_may_stay;
 use mm_report::{Cause, Report};
 use std::alloc::Global;
 use std::sync::Wait;
@@ -34,7 +37,7 @@ fn never_began(alloc: Global, cause: Cause) -> RunStopped
     }
 }
 
-impl<S: Source + Send + Drop, L: Link + Send + Drop> RunParts<S, L> {
+impl<S: AnySource + Send + Drop, L: Link + Send + Drop> RunParts<S, L> {
     // Carries out a plan, where a run may begin and there is memory for it.
     fn carry_plan<R: Threads + Wait + Sync>(
         &mut self,
@@ -44,11 +47,12 @@ impl<S: Source + Send + Drop, L: Link + Send + Drop> RunParts<S, L> {
     ) -> Result<Report, RunStopped>
         requires held { AreHeld self.old.stores }
         requires links { All (λ l. L.failed l < 2 ^ 64 - 1) self.old.links }
-        ensures done { IfOk result (HasRun S.gives L.sent L.failed (given_to S.gives run.now self.old) run.now.plan.now self.old
-            (length run.now.problem.now.windows) self.new) }
-        ensures stopped { IfErr result (IsStopped S.gives L.sent L.failed (given_to S.gives run.now self.old) run.now.plan.now self.old self.new) }
-        ensures far { AreWithinLimits S.gives (length run.now.problem.now.windows) self.old.stores self.old.sources
-            → IfErr result (λ stopped. NeverRefused stopped.broken.cause) }
+        ensures done { IfOk result (λ report. InRun S.leads S.until self.old self.new
+            (λ first now. HasRun L.sent L.failed (given_to run.now first) run.now.plan.now first (length run.now.problem.now.windows) now report)) }
+        ensures stopped { IfErr result (λ stopped. InRun S.leads S.until self.old self.new
+            (λ first now. IsStopped L.sent L.failed (given_to run.now first) run.now.plan.now self.old self.new now.sources stopped)) }
+        ensures far { IfErr result (λ stopped. InRun S.leads S.until self.old self.new
+            (λ first now. AreWithinLimits (length run.now.problem.now.windows) first.stores first.sources → NeverRefused stopped.broken.cause)) }
     {
         let many_sources = self.sources_len();
         let many_links = self.links_len();
@@ -73,7 +77,7 @@ impl<S: Source + Send + Drop, L: Link + Send + Drop> RunParts<S, L> {
 /// Carries out a plan over a memory: in each step from 1 what the sources give is recorded, at the moment of the step, which is that
 /// many ticks after `base`, and then the plan's amounts are sent over the links and deleted. Before the first step it is tested whether
 /// the run may begin; the tests stand at `mm_exec::ready`, in their order, and where one fails nothing has been done.
-pub fn carry_out<S: Source + Send + Drop, L: Link + Send + Drop, R: Threads + Wait + Sync>(
+pub fn carry_out<S: AnySource + Send + Drop, L: Link + Send + Drop, R: Threads + Wait + Sync>(
     rt: &R,
     alloc: Global,
     memory: &mut Memory,
@@ -84,15 +88,18 @@ pub fn carry_out<S: Source + Send + Drop, L: Link + Send + Drop, R: Threads + Wa
     base: u64,
 ) -> Result<RunEnd<S, L>, Halted<S, L>>
     requires links { All (λ l. L.failed l < 2 ^ 64 - 1) links.items }
-    ensures carried_out { IfOk result (IsCarriedOut S.gives L.sent L.failed
-        (run_input S.gives problem.now plan.now base memory.old sources.items) plan.now sources.items links.items memory.new) }
-    ensures halted { IfErr result (IsHalted S.gives L.sent L.failed
-        (run_input S.gives problem.now plan.now base memory.old sources.items) plan.now sources.items links.items memory.new) }
+    ensures carried_out { IfOk result (λ ended. WhateverComes S.leads S.until sources.items ended.sources.items
+        (λ given left. IsCarriedOut L.sent L.failed (run_input problem.now plan.now base memory.old given) plan.now links.items memory.new
+        left ended.links.items ended.report)) }
+    ensures halted { IfErr result (λ halted. WhateverComes S.leads S.until sources.items halted.sources.items
+        (λ given left. IsHalted L.sent L.failed (run_input problem.now plan.now base memory.old given) plan.now sources.items links.items memory.new
+        halted left)) }
     // Where counts are far from their end, no store refuses a packet.
-    ensures far { AreWithinLimits S.gives (length problem.now.windows) memory.old.stores sources.items
-        → IfErr result (λ halted. NeverRefused halted.cause) }
+    ensures far { IfErr result (λ halted. WhateverComes S.leads S.until sources.items halted.sources.items
+        (λ given left. AreWithinLimits (length problem.now.windows) memory.old.stores given → NeverRefused halted.cause)) }
 {
     identifiers_decide_what_is_restored();
+    sources_may_stay::<S>();
     let mut parts = RunParts {
         stores: memory.lift(),
         sources,

@@ -1,5 +1,7 @@
 //! One step of a run: what comes is recorded, and then dumped.
 ghost use Rattle.std.specs.Prelude.{◌≡◌, ◌≤◌, None, Some, OnOk, IfErr, IfSome};
+ghost use Rattle.mm_shared.specs.Stores.{labels_of};
+ghost use Rattle.mm_exec.specs.RunState.{InRun};
 ghost use Rattle.mm_exec.specs.Step.{AreReady, MayCarry, MayRecord, recording_by, StepRecorded, StepDumped, StepDone, RecordingBroke, OrderingBroke, StepBroke, NeverRefused, dump_cause};
 ghost use Rattle.mm_desk.specs.declared.fault.Fault.TheVariants.{NoMemory};
 ghost use Rattle.mm_record.specs.Causes.{cause_in};
@@ -12,7 +14,8 @@ use mm_desk::Fault;
 use mm_desk::laws::{any_order_loses_alike, orders_dump_the_oldest};
 use mm_dump::laws::broken_orders_change_nothing;
 use mm_dump::{Dumped, Link, Order, OrderBroken, dump};
-use mm_record::{RecordingStep, Source, cause_in, record};
+use mm_record::laws::sources_may_stay;
+use mm_record::{AnySource, RecordingStep, cause_in, record};
 use mm_report::Cause;
 use std::alloc::Global;
 use std::sync::Wait;
@@ -57,7 +60,7 @@ fn dumpers_cause(step: u32, worst: OrderBroken) -> Cause
     }
 }
 
-impl<S: Source + Send + Drop, L: Link + Send + Drop> RunParts<S, L> {
+impl<S: AnySource + Send + Drop, L: Link + Send + Drop> RunParts<S, L> {
     // Records what comes in a step.
     fn record<R: Threads + Wait + Sync>(
         &mut self,
@@ -66,15 +69,17 @@ impl<S: Source + Send + Drop, L: Link + Send + Drop> RunParts<S, L> {
         step: &RecordingStep<'_>,
     ) -> Result<(), StepBroken>
         requires may { MayRecord self.old }
-        ensures ok { OnOk result (StepRecorded S.gives (recording_by step.entry.now self.old.stores) self.old self.new) }
-        ensures how { IfErr result (RecordingBroke S.gives (recording_by step.entry.now self.old.stores) self.old self.new) }
-        ensures far { TakesAll S.gives (recording_by step.entry.now self.old.stores) self.old.stores self.old.sources
-            → IfErr result (λ broken. NeverRefused broken.cause) }
+        ensures ok { OnOk result (InRun S.leads S.until self.old self.new (StepRecorded (recording_by step.entry.now self.old.stores))) }
+        ensures how { IfErr result (λ broken. InRun S.leads S.until self.old self.new
+            (λ before after. RecordingBroke (recording_by step.entry.now before.stores) before after broken)) }
+        ensures spent { IfErr result (λ broken. broken.spent ≡ 0) }
+        ensures far { IfErr result (λ broken. InRun S.leads S.until self.old self.new
+            (λ before after. TakesAll (recording_by step.entry.now before.stores) before.stores before.sources → NeverRefused broken.cause)) }
     {
-        match record(rt, alloc, step, &mut self.stores, &mut self.sources) {
-            Ok(why) => recorders_end(step.step, why),
-            Err(_) => Err(out_of_memory(step.step)),
-        }
+        let Ok(why) = record(rt, alloc, step, &mut self.stores, &mut self.sources) else {
+            return Err(out_of_memory(step.step));
+        };
+        recorders_end(step.step, why)
     }
 
     // Carries out the orders of a step.
@@ -114,11 +119,14 @@ impl<S: Source + Send + Drop, L: Link + Send + Drop> RunParts<S, L> {
         orders: &[Order],
     ) -> Result<(), StepBroken>
         requires may { MayCarry L.failed step.now.now orders.now self.old }
-        ensures ok { OnOk result (StepDone S.gives L.sent L.failed (recording_by step.entry.now self.old.stores) orders.now self.old self.new) }
-        ensures how { IfErr result (StepBroke S.gives L.sent L.failed (recording_by step.entry.now self.old.stores) orders.now self.old self.new) }
+        ensures ok { OnOk result (InRun S.leads S.until self.old self.new
+            (StepDone L.sent L.failed (recording_by step.entry.now self.old.stores) orders.now)) }
+        ensures how { IfErr result (λ broken. InRun S.leads S.until self.old self.new
+            (λ before after. StepBroke L.sent L.failed (recording_by step.entry.now before.stores) orders.now before after broken)) }
+        ensures labels { OnOk result (labels_of self.new.stores ≡ labels_of self.old.stores) }
         ensures within { IfErr result (λ broken. broken.spent ≤ amount_of orders.now) }
-        ensures far { TakesAll S.gives (recording_by step.entry.now self.old.stores) self.old.stores self.old.sources
-            → IfErr result (λ broken. NeverRefused broken.cause) }
+        ensures far { IfErr result (λ broken. InRun S.leads S.until self.old self.new
+            (λ before after. TakesAll (recording_by step.entry.now before.stores) before.stores before.sources → NeverRefused broken.cause)) }
         // In any case the stores are sound and ready for more.
         ensures ready { AreReady self.new.stores }
     {
@@ -127,6 +135,7 @@ impl<S: Source + Send + Drop, L: Link + Send + Drop> RunParts<S, L> {
         halves_make_step_runs();
         orders_dump_the_oldest();
         step_runs_keep_stores();
+        sources_may_stay::<S>();
         self.record(rt, alloc, step)?;
         self.dump(rt, alloc, step.step, orders)
     }

@@ -3,13 +3,13 @@ use Rattle.std.proofs.Common.{◌≡◌, ℕ, ◌+◌, ◌<◌, ◌≤◌, ◌^�
 use Rattle.std.specs.List.{find, list_any}
 use Rattle.std.proofs.lemmas.Bool.{ltb-false, or_parts}
 use Rattle.std.proofs.lemmas.List.Elements.{All-cons}
-use Rattle.mm_packet.specs.Packet.{SpacePacket}
 use Rattle.mm_desk.specs.declared.held.Held.{Held}
 use Rattle.mm_memory.specs.Holdings.{Holdings}
 use Rattle.mm_report.specs.declared.cause.Cause.{Cause}
 use Rattle.mm_report.specs.declared.cause.Cause.TheVariants.{ClockTooLate, Counts}
 use Rattle.mm_report.specs.declared.cause.TheConstants.{MAX_SOURCES, LATEST_START}
 use Rattle.mm_record.specs.Causes.{cause_before, cause_by, is_clock_late, is_count, is_late, is_ready}
+use Rattle.mm_record.specs.Supplies.{Supply}
 use Rattle.mm_record.specs.MemorySteps.{recording_of}
 use Rattle.mm_record.specs.Steps.{IsWithinLimits, TakesAll}
 
@@ -46,10 +46,10 @@ none_found stores base count None none = (refl, not_late (is_clock_late stores b
 none_found stores base count (Some h) bad = absurd (cc)
 
 -- a step that is begun within the limits meets no refusal
-pub takes_of : {S : Type 0} (gives : S → ℕ → List SpacePacket) (step base count : ℕ) (memory : Holdings) (sources : List S) → step < 2 ^ 32
-    → cause_before memory.stores base count ≡ None → IsWithinLimits gives step memory.stores sources
-    → TakesAll gives (recording_of step (base + step) memory) memory.stores sources
-takes_of gives step base count memory sources fits none limits =
+pub takes_of : (step base count : ℕ) (memory : Holdings) (sources : List Supply) → step < 2 ^ 32
+    → cause_before memory.stores base count ≡ None → IsWithinLimits step memory.stores sources
+    → TakesAll (recording_of step (base + step) memory) memory.stores sources
+takes_of step base count memory sources fits none limits =
     let stores = memory.stores in
     let found = none_found stores base count (find (λ h. not (is_ready h)) stores) none in
     let ready = none_passes (λ h. not (is_ready h)) stores found.0 in

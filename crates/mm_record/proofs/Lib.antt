@@ -1,3 +1,5 @@
+pub mod Lives
+pub mod Supplying
 pub mod Offers
 pub mod Adding
 pub mod RoutingLemmas

@@ -23,6 +23,7 @@ use Rattle.mm_record.specs.declared.memory_step.Recorded.{Recorded}
 use Rattle.mm_record.specs.Causes.{cause_in}
 use Rattle.mm_record.specs.Counters.{counters_of, AreRows}
 use Rattle.mm_record.specs.MemorySteps.{came, store_at, AreTold, IsRecorded, WasEnded}
+use Rattle.mm_record.specs.Supplies.{Supply}
 use Rattle.mm_record.specs.Recorded.{RecordingContext, recording, offers}
 use Rattle.mm_record.specs.Steps.{given_in, AllRecorded, Records, RecorderRun, StoreRefused}
 use Rattle.mm_record.proofs.Steps.{same_many}
@@ -162,48 +163,48 @@ told_of e gave old new counters rows many are each leaves = record {
         ap (λ (cs : List Counters). get_or cs k (counters_of nobody.state)) are ∙ get_or-map (λ h. counters_of h.state) old.stores k nobody (counters_of nobody.state) (omega (arith, many))
 
 -- what a step leaves, told of equal routes and stores
-pub records_as : {S : Type 0} (gives : S → ℕ → List SpacePacket) (step now : ℕ) (routes others : List RouteRow) (stores same after : List Held) (sources left : List S) (why : Option Fault)
-    → routes ≡ others → stores ≡ same → Records gives (recording step now routes stores) stores after sources left why
-    → Records gives (recording step now others same) same after sources left why
-records_as gives step now routes others stores same after sources left why one two records =
-    subst (λ (rows : List RouteRow). Records gives (recording step now rows same) same after sources left why) one
-    (subst (λ (ss : List Held). Records gives (recording step now routes ss) ss after sources left why) two records)
+pub records_as : (step now : ℕ) (routes others : List RouteRow) (stores same after : List Held) (why : Option Fault) (sources left : List Supply)
+    → routes ≡ others → stores ≡ same → Records (recording step now routes stores) stores after why sources left
+    → Records (recording step now others same) same after why sources left
+records_as step now routes others stores same after why sources left one two records =
+    subst (λ (rows : List RouteRow). Records (recording step now rows same) same after why sources left) one
+    (subst (λ (ss : List Held). Records (recording step now routes ss) ss after why sources left) two records)
 
 -- what a step leaves in a memory
-module _ {S : Type 0} (gives : S → ℕ → List SpacePacket) (e : RecordingContext) (old new : Holdings) (stores : List Held) (sources left : List S) (why : Option Fault)
-    (records : Records gives e old.stores stores sources left why) (after : new ≡ record old { stores = stores }) where
+module _ (e : RecordingContext) (old new : Holdings) (stores : List Held) (why : Option Fault) (sources left : List Supply)
+    (records : Records e old.stores stores why sources left) (after : new ≡ record old { stores = stores }) where
   abbrev now : Holdings
   now = record old { stores = stores }
 
   -- a step that is not ended was recorded
   pub recorded_of : (counters : List Counters) (told : List Recorded) → OffersLeave → All (λ h. IsState h.state) old.stores
       → counters ≡ map (λ h. counters_of h.state) old.stores → AreRows counters stores (length stores) told → why ≡ None
-      → IsRecorded gives e old new sources left told
-  recorded_of counters told law sound are rows whole = subst (λ (m : Holdings). IsRecorded gives e old m sources left told) (sym after) here
+      → IsRecorded e old new told sources left
+  recorded_of counters told law sound are rows whole = subst (λ (m : Holdings). IsRecorded e old m told sources left) (sym after) here
     where
       many : length stores ≡ length old.stores
       many = same_many stores old.stores records.labels
 
-      all : AllRecorded e (given_in gives e.step sources) (states_of old.stores) (states_of stores)
-      all = subst (λ (b : Option Fault). IfNone b (AllRecorded e (given_in gives e.step sources) (states_of old.stores) (states_of stores))) whole records.recorded
+      all : AllRecorded e (given_in e.step sources) (states_of old.stores) (states_of stores)
+      all = subst (λ (b : Option Fault). IfNone b (AllRecorded e (given_in e.step sources) (states_of old.stores) (states_of stores))) whole records.recorded
 
-      leaves : (k : ℕ) → k < length stores → Leaves (store_at old k) (store_at now k) (came e (given_in gives e.step sources) k)
-      leaves = leaves_of law e (given_in gives e.step sources) old.stores stores many sound all
+      leaves : (k : ℕ) → k < length stores → Leaves (store_at old k) (store_at now k) (came e (given_in e.step sources) k)
+      leaves = leaves_of law e (given_in e.step sources) old.stores stores many sound all
 
-      here : IsRecorded gives e old now sources left told
+      here : IsRecorded e old now told sources left
       here = record {
         placed = record { labels = records.labels; routes = refl; sound = records.sound };
         recorded = all;
         leaves = leaves;
-        told_are = told_of e (given_in gives e.step sources) old now counters told many are rows leaves;
+        told_are = told_of e (given_in e.step sources) old now counters told many are rows leaves;
         many = records.many;
-        nothing_left = subst (λ (b : Option Fault). IfNone b (All (λ s. gives s e.step ≡ []) left)) whole records.nothing_left;
+        nothing_left = subst (λ (b : Option Fault). IfNone b (All (λ s. s e.step ≡ []) left)) whole records.nothing_left;
         others = records.others;
       }
 
   -- a step that is ended
-  pub ended_of : (cause : Cause) → cause_in e.step why ≡ Some cause → WasEnded gives e old new sources left cause
-  ended_of cause is = subst (λ (m : Holdings). WasEnded gives e old m sources left cause) (sym after) (record {
+  pub ended_of : (cause : Cause) → cause_in e.step why ≡ Some cause → WasEnded e old new cause sources left
+  ended_of cause is = subst (λ (m : Holdings). WasEnded e old m cause sources left) (sym after) (record {
     cause_is = (caused e.step why cause is).which;
     placed = record { labels = records.labels; routes = refl; sound = records.sound };
     runs = records.runs;

@@ -7,9 +7,10 @@ use Rattle.mm_desk.specs.declared.fault.Fault.{Fault}
 use Rattle.mm_desk.specs.Offers.{AreTaken}
 use Rattle.mm_desk.specs.Offers.{asked as asked_in}
 use Rattle.mm_shared.specs.Rule.{calls_on}
-use Rattle.mm_shared.specs.Stores.{list_at, end_of, IsFresh}
+use Rattle.mm_shared.specs.Stores.{list_at, IsFresh}
 use Rattle.mm_shared.specs.Views.{PortView}
 use Rattle.mm_record.specs.Offering.{asked, Adds, AddsPartly, IsReason}
+use Rattle.mm_record.specs.Supplies.{Supply}
 use Rattle.mm_record.specs.Recorded.{RecordingContext, offers}
 use Rattle.mm_record.specs.Recorders.{HasRun}
 use Rattle.mm_record.proofs.Offers.{offers_at, offers_more, offers_one}
@@ -18,18 +19,16 @@ use Rattle.mm_record.proofs.Offers.{offers_at, offers_more, offers_one}
 abbrev pub Offered : RecordingContext → List SpacePacket → PortView → Type 0
 Offered e gave port = (k : ℕ) → k < length e.ids → (asked port k ≡ offers e k gave) × AreTaken (list_at port k)
 
--- what the source gave so far is recorded, and the port is where it was
-pub record RecordedSoFar (e : RecordingContext) (before after : ℕ → List SpacePacket) (first port : PortView) : Type 0 where
-  pub end : end_of port ≡ end_of first
+-- what the source gave so far is recorded
+pub record RecordedSoFar (e : RecordingContext) (before after : Supply) (port : PortView) : Type 0 where
   pub gave : List SpacePacket
   pub order : before e.step ≡ gave ++ after e.step
   pub others : (t : ℕ) → t ≢ e.step → after t ≡ before t
   pub done : Offered e gave port
 
 -- at the start nothing was given
-pub so_far_start : (e : RecordingContext) (before : ℕ → List SpacePacket) (port : PortView) → IsFresh port → RecordedSoFar e before before port port
+pub so_far_start : (e : RecordingContext) (before : Supply) (port : PortView) → IsFresh port → RecordedSoFar e before before port
 so_far_start e before port fresh = record {
-  end = refl;
   gave = [];
   order = refl;
   others = λ t other. refl;
@@ -37,17 +36,16 @@ so_far_start e before port fresh = record {
 }
 
 -- what is given with a packet more
-given_more : (before mid after : ℕ → List SpacePacket) (step : ℕ) (gave : List SpacePacket) (p : SpacePacket)
+given_more : (before mid after : Supply) (step : ℕ) (gave : List SpacePacket) (p : SpacePacket)
     → before step ≡ gave ++ mid step → mid step ≡ p ∷ after step → before step ≡ (gave ++ p ∷ []) ++ after step
 given_more before mid after step gave p order next =
     order ∙ ap (λ (x : List SpacePacket). gave ++ x) next ∙ sym (append_assoc gave (p ∷ []) (after step))
 
 -- a packet more
-pub so_far_more : (e : RecordingContext) (before mid after : ℕ → List SpacePacket) (first port new : PortView) (count : ℕ) (p : SpacePacket)
-    → count ≡ length e.ids → RecordedSoFar e before mid first port → mid e.step ≡ p ∷ after e.step → ((t : ℕ) → t ≢ e.step → after t ≡ mid t)
-    → Adds count (offers_at e p) port new → RecordedSoFar e before after first new
-so_far_more e before mid after first port new count p many so_far next others adds = record {
-  end = adds.end ∙ so_far.end;
+pub so_far_more : (e : RecordingContext) (before mid after : Supply) (port new : PortView) (count : ℕ) (p : SpacePacket)
+    → count ≡ length e.ids → RecordedSoFar e before mid port → mid e.step ≡ p ∷ after e.step → ((t : ℕ) → t ≢ e.step → after t ≡ mid t)
+    → Adds count (offers_at e p) port new → RecordedSoFar e before after new
+so_far_more e before mid after port new count p many so_far next others adds = record {
   gave = so_far.gave ++ p ∷ [];
   order = given_more before mid after e.step so_far.gave p so_far.order next;
   others = λ t other. others t other ∙ so_far.others t other;
@@ -60,10 +58,10 @@ so_far_more e before mid after first port new count p many so_far next others ad
 }
 
 -- the source gives no more
-pub ran_whole : (e : RecordingContext) (before mid after : ℕ → List SpacePacket) (first port : PortView)
-    → RecordedSoFar e before mid first port → mid e.step ≡ [] → mid e.step ≡ after e.step → ((t : ℕ) → t ≢ e.step → after t ≡ mid t)
+pub ran_whole : (e : RecordingContext) (before mid after : Supply) (port : PortView)
+    → RecordedSoFar e before mid port → mid e.step ≡ [] → mid e.step ≡ after e.step → ((t : ℕ) → t ≢ e.step → after t ≡ mid t)
     → HasRun e before after None port
-ran_whole e before mid after first port so_far none same others = record {
+ran_whole e before mid after port so_far none same others = record {
   run = record { gave = so_far.gave; offered = asked port; broken = None };
   is = record {
     is = record {
@@ -80,10 +78,10 @@ ran_whole e before mid after first port so_far none same others = record {
 }
 
 -- an offer failed
-pub ran_partly : (e : RecordingContext) (before mid after : ℕ → List SpacePacket) (first port new : PortView) (count : ℕ) (p : SpacePacket) (fault : Fault)
-    → count ≡ length e.ids → RecordedSoFar e before mid first port → mid e.step ≡ p ∷ after e.step → ((t : ℕ) → t ≢ e.step → after t ≡ mid t)
+pub ran_partly : (e : RecordingContext) (before mid after : Supply) (port new : PortView) (count : ℕ) (p : SpacePacket) (fault : Fault)
+    → count ≡ length e.ids → RecordedSoFar e before mid port → mid e.step ≡ p ∷ after e.step → ((t : ℕ) → t ≢ e.step → after t ≡ mid t)
     → AddsPartly count (offers_at e p) port new × IsReason count new fault → HasRun e before after (Some fault) new
-ran_partly e before mid after first port new count p fault many so_far next others (adds, reason) = record {
+ran_partly e before mid after port new count p fault many so_far next others (adds, reason) = record {
   run = record { gave = so_far.gave ++ p ∷ []; offered = asked new; broken = Some fault };
   is = record {
     is = record {

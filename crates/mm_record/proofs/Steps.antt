@@ -22,6 +22,7 @@ use Rattle.mm_shared.specs.Views.{PortView}
 use Rattle.mm_record.specs.Offering.{asked, IsReason}
 use Rattle.mm_record.proofs.Reasons.{IsReasonOf, not_taken, reason_more, refusal_in_log}
 use Rattle.mm_memory.specs.Recording.{is_routed}
+use Rattle.mm_record.specs.Supplies.{Supply}
 use Rattle.mm_record.specs.Recorded.{RecordingContext, recording, open_recording, offers}
 use Rattle.mm_record.specs.Recorders.{AreRunsAt, HaveRun, IsRunAt}
 use Rattle.mm_record.specs.Steps.{given_in, latest, AllRecorded, HasRecorded, AllHaveLegalOffers, AreFew, AreRecorderRuns, IsOpen, IsRecorderRun, IsWhy, RecorderRun, Records, StoppedEarly, StoreRefused}
@@ -55,7 +56,7 @@ record IsFirst (e : RecordingContext) (k : ℕ) (gave : List SpacePacket) (offer
   rest : List Event
   are : offers e k gave ≡ offered ++ rest
 
-first_of : (e : RecordingContext) (before after : ℕ → List SpacePacket) (run : RecorderRun) (k : ℕ) → IsRecorderRun e before after run → k < length e.ids
+first_of : (e : RecordingContext) (before after : Supply) (run : RecorderRun) (k : ℕ) → IsRecorderRun e before after run → k < length e.ids
     → IsFirst e k run.gave (run.offered k)
 first_of e before after run k is within = by_end run.broken is.whole is.partly
   where
@@ -83,7 +84,7 @@ offers_fewer e k ps =
     let routed = is_routed e.routes (id_at e.ids k) in
     omega (arith, length-map (filter routed ps) (λ (p : SpacePacket). Offer e.now p), filter_fewer routed ps)
 
-are_offers : (e : RecordingContext) (before after : ℕ → List SpacePacket) (port : PortView) (run : RecorderRun) (k : ℕ) → IsRunAt e before after port run → k < length e.ids
+are_offers : (e : RecordingContext) (before after : Supply) (port : PortView) (run : RecorderRun) (k : ℕ) → IsRunAt e before after port run → k < length e.ids
     → length (before e.step) ≤ 65535 → AreOffers e (asked port k)
 are_offers e before after port run k at within few =
     let first = first_of e before after run k at.is within in
@@ -93,7 +94,7 @@ are_offers e before after port run k at within few =
     })
 
 -- what a recorder that did not stop early offered to a store, and that none was refused
-whole_list : (e : RecordingContext) (before after : ℕ → List SpacePacket) (port : PortView) (run : RecorderRun) (k : ℕ) → IsRunAt e before after port run
+whole_list : (e : RecordingContext) (before after : Supply) (port : PortView) (run : RecorderRun) (k : ℕ) → IsRunAt e before after port run
     → run.broken ≡ None → k < length e.ids → (asked port k ≡ offers e k (before e.step)) × AreTaken (list_at port k) × (after e.step ≡ [])
 whole_list e before after port run k at none within = by_end run.broken none at.is.whole at.taken
   where
@@ -105,7 +106,7 @@ whole_list e before after port run k at none within = by_end run.broken none at.
         (sym (at.offered k) ∙ whole.1 k within ∙ ap (offers e k) (sym all), taken k within, whole.0)
     by_end (Some fault) is whole taken = cc
 
-none_left_of : (e : RecordingContext) (before after : ℕ → List SpacePacket) (run : RecorderRun) → IsRecorderRun e before after run → run.broken ≡ None → after e.step ≡ []
+none_left_of : (e : RecordingContext) (before after : Supply) (run : RecorderRun) → IsRecorderRun e before after run → run.broken ≡ None → after e.step ≡ []
 none_left_of e before after run is none = by_end run.broken none is.whole
   where
     by_end : (broken : Option Fault) → broken ≡ None → IfNone broken ((after e.step ≡ []) × ((k : ℕ) → k < length e.ids → run.offered k ≡ offers e k run.gave)) → after e.step ≡ []
@@ -123,60 +124,60 @@ reason_of e port None reason taken = tt
 reason_of e port (Some fault) (inl lack) taken = lack
 reason_of e port (Some fault) (inr refusal) taken = absurd (not_taken (list_at port refusal.index) fault refusal.refused (taken refusal.index refusal.within))
 
-module _ {S : Type 0} (gives : S → ℕ → List SpacePacket) (e : RecordingContext) where
+module _ (e : RecordingContext) where
   -- what recorders did, without their ports
-  are_runs : (ss ts : List S) (ws : List PortView) (runs : List RecorderRun) → AreRunsAt gives e ss ts ws runs → AreRecorderRuns gives e ss ts runs
+  are_runs : (ss ts : List Supply) (ws : List PortView) (runs : List RecorderRun) → AreRunsAt e ss ts ws runs → AreRecorderRuns e ss ts runs
   unfolding AreRecorderRuns
-  are_runs = for_all gives e (λ ss ts ws runs. AreRecorderRuns gives e ss ts runs) tt (λ s t w run ss ts ws runs one rest. (one.is, rest))
+  are_runs = for_all e (λ ss ts ws runs. AreRecorderRuns e ss ts runs) tt (λ s t w run ss ts ws runs one rest. (one.is, rest))
 
   -- there are as many sources as before, and as many workers
-  as_many : (ss ts : List S) (ws : List PortView) (runs : List RecorderRun) → AreRunsAt gives e ss ts ws runs → (length ts ≡ length ss) × (length ws ≡ length ss)
-  as_many = for_all gives e (λ ss ts ws runs. (length ts ≡ length ss) × (length ws ≡ length ss)) (refl, refl) (λ s t w run ss ts ws runs one rest. (ap suc rest.0, ap suc rest.1))
+  as_many : (ss ts : List Supply) (ws : List PortView) (runs : List RecorderRun) → AreRunsAt e ss ts ws runs → (length ts ≡ length ss) × (length ws ≡ length ss)
+  as_many = for_all e (λ ss ts ws runs. (length ts ≡ length ss) × (length ws ≡ length ss)) (refl, refl) (λ s t w run ss ts ws runs one rest. (ap suc rest.0, ap suc rest.1))
 
   -- what recorders offered is what was asked through their ports
-  runs_offered : (k : ℕ) (ss ts : List S) (ws : List PortView) (runs : List RecorderRun) → AreRunsAt gives e ss ts ws runs → map (λ run. run.offered k) runs ≡ map asked_in (lists_at k ws)
-  runs_offered k = for_all gives e (λ ss ts ws runs. map (λ run. run.offered k) runs ≡ map asked_in (lists_at k ws)) refl
+  runs_offered : (k : ℕ) (ss ts : List Supply) (ws : List PortView) (runs : List RecorderRun) → AreRunsAt e ss ts ws runs → map (λ run. run.offered k) runs ≡ map asked_in (lists_at k ws)
+  runs_offered k = for_all e (λ ss ts ws runs. map (λ run. run.offered k) runs ≡ map asked_in (lists_at k ws)) refl
       (λ s t w run ss ts ws runs one rest. let offered = one.offered k in λ i. offered i ∷ rest i)
 
   -- in another step the sources give what they gave
-  others_same : (step : ℕ) → step ≢ e.step → (ss ts : List S) (ws : List PortView) (runs : List RecorderRun) → AreRunsAt gives e ss ts ws runs → given_in gives step ts ≡ given_in gives step ss
-  others_same step other = for_all gives e (λ ss ts ws runs. given_in gives step ts ≡ given_in gives step ss) refl
+  others_same : (step : ℕ) → step ≢ e.step → (ss ts : List Supply) (ws : List PortView) (runs : List RecorderRun) → AreRunsAt e ss ts ws runs → given_in step ts ≡ given_in step ss
+  others_same step other = for_all e (λ ss ts ws runs. given_in step ts ≡ given_in step ss) refl
       (λ s t w run ss ts ws runs one rest. let same = one.is.others step other in λ i. same i ∷ rest i)
 
   -- nothing is left for the step where no recorder stopped early
-  none_left : (ss ts : List S) (ws : List PortView) (runs : List RecorderRun) → AreRunsAt gives e ss ts ws runs → AreWhole runs → All (λ s. gives s e.step ≡ []) ts
+  none_left : (ss ts : List Supply) (ws : List PortView) (runs : List RecorderRun) → AreRunsAt e ss ts ws runs → AreWhole runs → All (λ s. s e.step ≡ []) ts
   none_left =
-      for_all gives e (λ ss ts ws runs. AreWhole runs → All (λ s. gives s e.step ≡ []) ts) (λ whole i d within. absurd (omega arith))
+      for_all e (λ ss ts ws runs. AreWhole runs → All (λ s. s e.step ≡ []) ts) (λ whole i d within. absurd (omega arith))
       (λ s t w run ss ts ws runs one rest whole.
-      All-cons (λ s. gives s e.step ≡ []) t ts (none_left_of e (gives s) (gives t) run one.is (All-head (λ run. run.broken ≡ None) run runs whole))
+      All-cons (λ s. s e.step ≡ []) t ts (none_left_of e s t run one.is (All-head (λ run. run.broken ≡ None) run runs whole))
       (rest (All-tail (λ run. run.broken ≡ None) run runs whole)))
 
   -- the lists of recorders that did not stop early: each with the offers of what its source gave, none refused
-  whole_lists : (k : ℕ) → k < length e.ids → (ss ts : List S) (ws : List PortView) (runs : List RecorderRun) → AreRunsAt gives e ss ts ws runs → AreWhole runs
-      → (map asked_in (lists_at k ws) ≡ map (offers e k) (given_in gives e.step ss)) × All AreTaken (lists_at k ws)
+  whole_lists : (k : ℕ) → k < length e.ids → (ss ts : List Supply) (ws : List PortView) (runs : List RecorderRun) → AreRunsAt e ss ts ws runs → AreWhole runs
+      → (map asked_in (lists_at k ws) ≡ map (offers e k) (given_in e.step ss)) × All AreTaken (lists_at k ws)
   whole_lists k within =
-      for_all gives e (λ ss ts ws runs. AreWhole runs → (map asked_in (lists_at k ws) ≡ map (offers e k) (given_in gives e.step ss)) × All AreTaken (lists_at k ws))
+      for_all e (λ ss ts ws runs. AreWhole runs → (map asked_in (lists_at k ws) ≡ map (offers e k) (given_in e.step ss)) × All AreTaken (lists_at k ws))
       (λ whole. (refl, λ i d inside. absurd (omega arith)))
       (λ s t w run ss ts ws runs one rest whole.
-      let mine = whole_list e (gives s) (gives t) w run k one (All-head (λ run. run.broken ≡ None) run runs whole) within in
+      let mine = whole_list e s t w run k one (All-head (λ run. run.broken ≡ None) run runs whole) within in
       let others = rest (All-tail (λ run. run.broken ≡ None) run runs whole) in
       (λ i. mine.0 i ∷ others.0 i, All-cons AreTaken (list_at w k) (lists_at k ws) mine.1 others.1))
 
   -- what was asked of a store is offers, and few of each recorder
-  lists_are_offers : (k : ℕ) → k < length e.ids → (ss ts : List S) (ws : List PortView) (runs : List RecorderRun) → AreRunsAt gives e ss ts ws runs → AreFew gives e.step ss
+  lists_are_offers : (k : ℕ) → k < length e.ids → (ss ts : List Supply) (ws : List PortView) (runs : List RecorderRun) → AreRunsAt e ss ts ws runs → AreFew e.step ss
       → All (AreOffers e) (map asked_in (lists_at k ws))
   lists_are_offers k within =
-      for_all gives e (λ ss ts ws runs. AreFew gives e.step ss → All (AreOffers e) (map asked_in (lists_at k ws))) (λ few i d inside. absurd (omega arith))
+      for_all e (λ ss ts ws runs. AreFew e.step ss → All (AreOffers e) (map asked_in (lists_at k ws))) (λ few i d inside. absurd (omega arith))
       (λ s t w run ss ts ws runs one rest few.
       All-cons (AreOffers e) (asked w k) (map asked_in (lists_at k ws))
-      (are_offers e (gives s) (gives t) w run k one within (All-head (λ s. length (gives s e.step) ≤ 65535) s ss few))
-      (rest (All-tail (λ s. length (gives s e.step) ≤ 65535) s ss few)))
+      (are_offers e s t w run k one within (All-head (λ s. length (s e.step) ≤ 65535) s ss few))
+      (rest (All-tail (λ s. length (s e.step) ≤ 65535) s ss few)))
 
   -- where no offer was refused, out of memory is the only reason why recorders stopped early
-  reasons_of : (ss ts : List S) (ws : List PortView) (runs : List RecorderRun) → AreRunsAt gives e ss ts ws runs
+  reasons_of : (ss ts : List Supply) (ws : List PortView) (runs : List RecorderRun) → AreRunsAt e ss ts ws runs
       → ((k : ℕ) → k < length e.ids → All AreTaken (lists_at k ws)) → All (λ run. IfSome run.broken (λ fault. fault ≡ NoMemory)) runs
   reasons_of =
-      for_all gives e (λ ss ts ws runs. ((k : ℕ) → k < length e.ids → All AreTaken (lists_at k ws)) → All (λ run. IfSome run.broken (λ fault. fault ≡ NoMemory)) runs)
+      for_all e (λ ss ts ws runs. ((k : ℕ) → k < length e.ids → All AreTaken (lists_at k ws)) → All (λ run. IfSome run.broken (λ fault. fault ≡ NoMemory)) runs)
       (λ taken i d within. absurd (omega arith))
       (λ s t w run ss ts ws runs one rest taken.
       All-cons (λ run. IfSome run.broken (λ fault. fault ≡ NoMemory)) run runs
@@ -184,10 +185,10 @@ module _ {S : Type 0} (gives : S → ℕ → List SpacePacket) (e : RecordingCon
       (rest (λ k within. All-tail AreTaken (list_at w k) (lists_at k ws) (taken k within))))
 
   -- where one of them stopped early so, it was out of memory, or an offer through one of their ports was refused so
-  reasons_in : (fault : Fault) (ss ts : List S) (ws : List PortView) (runs : List RecorderRun) → AreRunsAt gives e ss ts ws runs
+  reasons_in : (fault : Fault) (ss ts : List Supply) (ws : List PortView) (runs : List RecorderRun) → AreRunsAt e ss ts ws runs
       → (i : ℕ) → i < length runs → get_or (map (λ run. run.broken) runs) i None ≡ Some fault → IsReasonOf (length e.ids) ws fault
   reasons_in fault =
-      for_all gives e (λ ss ts ws runs. (i : ℕ) → i < length runs → get_or (map (λ run. run.broken) runs) i None ≡ Some fault → IsReasonOf (length e.ids) ws fault)
+      for_all e (λ ss ts ws runs. (i : ℕ) → i < length runs → get_or (map (λ run. run.broken) runs) i None ≡ Some fault → IsReasonOf (length e.ids) ws fault)
       (λ i within is. absurd (omega arith))
       (λ s t w run ss ts ws runs one rest. reason_more (length e.ids) w run ws runs fault one.reason rest)
 
@@ -239,8 +240,8 @@ pub same_many : (a b : List Held) → labels_of a ≡ labels_of b → length a �
 same_many a b labels =
     sym (length-map a (λ (h : Held). (h.id, h.channel))) ∙ ap length labels ∙ length-map b (λ (h : Held). (h.id, h.channel))
 
-module _ {S : Type 0} (gives : S → ℕ → List SpacePacket) (e : RecordingContext) (sources left : List S) (workers : List PortView) (why : Option Fault)
-    (before after : List State) (have : HaveRun gives e sources left workers why) (went : HaveLegalLogs workers before after) (many : length after ≤ length e.ids) where
+module _ (e : RecordingContext) (sources left : List Supply) (workers : List PortView) (why : Option Fault)
+    (before after : List State) (have : HaveRun e workers why sources left) (went : HaveLegalLogs workers before after) (many : length after ≤ length e.ids) where
   -- each store went by what the recorders offered
   went_offers : AllHaveLegalOffers have.runs before after
   went_offers k within =
@@ -248,14 +249,14 @@ module _ {S : Type 0} (gives : S → ℕ → List SpacePacket) (e : RecordingCon
       record {
         log = store.log;
         run = store.run;
-        shuffle = subst (λ (xs : List (List Event)). IsShuffleOfEvents xs store.log) (sym (runs_offered gives e k sources left workers have.runs have.are))
+        shuffle = subst (λ (xs : List (List Event)). IsShuffleOfEvents xs store.log) (sym (runs_offered e k sources left workers have.runs have.are))
             (asked_shuffled (lists_at k workers) store.log store.shuffle);
       }
 
   -- each store has recorded what the sources gave
-  all_recorded : AreWhole have.runs → AllRecorded e (given_in gives e.step sources) before after
+  all_recorded : AreWhole have.runs → AllRecorded e (given_in e.step sources) before after
   all_recorded whole k within =
-      let lists = whole_lists gives e k (omega (arith, many)) sources left workers have.runs have.are whole in
+      let lists = whole_lists e k (omega (arith, many)) sources left workers have.runs have.are whole in
       let store = went k within in
       record {
         log = store.log;
@@ -283,19 +284,19 @@ module _ {S : Type 0} (gives : S → ℕ → List SpacePacket) (e : RecordingCon
   reason_is same =
       if_some _ _ why have.why_is.some
       (λ fault one. refused_at same fault
-      (reasons_in gives e fault sources left workers have.runs have.are one.0 (omega (arith, one.1, length-map have.runs (λ (run : RecorderRun). run.broken))) one.2))
+      (reasons_in e fault sources left workers have.runs have.are one.0 (omega (arith, one.1, length-map have.runs (λ (run : RecorderRun). run.broken))) one.2))
 
   -- where there is time, no offer was refused
-  all_taken : length after ≡ length e.ids → length sources ≤ 16 → e.now ≤ latest → ((k : ℕ) → k < length after → IsOpen (opening_at before k)) → AreFew gives e.step sources
+  all_taken : length after ≡ length e.ids → length sources ≤ 16 → e.now ≤ latest → ((k : ℕ) → k < length after → IsOpen (opening_at before k)) → AreFew e.step sources
       → (k : ℕ) → k < length e.ids → All AreTaken (lists_at k workers)
   all_taken same few_sources moment are_open few k within =
       let asks = map asked_in (lists_at k workers) in
-      let are = lists_are_offers gives e k within sources left workers have.runs have.are few in
+      let are = lists_are_offers e k within sources left workers have.runs have.are few in
       let store = went k (omega (arith, same)) in
       let state = are_open k (omega (arith, same)) in
       let each : All (λ es. length es ≤ 65535) asks = λ i d inside. (are i d inside).few in
       let total : count_of asks ≤ length asks * 65535 = sum_by-le (λ (es : List Event). length es) 65535 asks each in
-      let workers_many = (as_many gives e sources left workers have.runs have.are).1 in
+      let workers_many = (as_many e sources left workers have.runs have.are).1 in
       let asks_many : length asks ≡ length workers = length-map (lists_at k workers) asked_in ∙ length-map workers (λ (w : PortView). list_at w k) in
       let most : length asks ≤ 16 = omega (arith, workers_many, asks_many, few_sources) in
       let sum : count_of asks ≤ 1048560 = omega (arith, total, most) in
@@ -310,16 +311,16 @@ module _ {S : Type 0} (gives : S → ℕ → List SpacePacket) (e : RecordingCon
       (λ i d inside. (are i d inside).offers_are))
 
 -- what a step of recorders leaves
-module _ {S : Type 0} (gives : S → ℕ → List SpacePacket) (step now : ℕ) (routes : List RouteRow) (before after : List Held) (labels : List StoreLabel) (openings : List State)
-    (sources left : List S) (workers : List PortView) (why : Option Fault) (names : names_of labels ≡ labels_of before) (opened : openings ≡ states_of before)
+module _ (step now : ℕ) (routes : List RouteRow) (before after : List Held) (labels : List StoreLabel) (openings : List State)
+    (sources left : List Supply) (workers : List PortView) (why : Option Fault) (names : names_of labels ≡ labels_of before) (opened : openings ≡ states_of before)
     (back : labels_of after ≡ names_of labels) (sound : All (λ h. IsState h.state) after) (logs : HaveLegalLogs workers openings (states_of after))
-    (ran : HaveRun gives (open_recording step now routes labels) sources left workers why) (few_sources : length sources ≤ 16) where
+    (ran : HaveRun (open_recording step now routes labels) workers why sources left) (few_sources : length sources ≤ 16) where
   abbrev e : RecordingContext
   e = recording step now routes before
 
-  have : HaveRun gives e sources left workers why
+  have : HaveRun e workers why sources left
   have =
-      subst (λ (ids : List (List ℕ)). HaveRun gives (record { step = step; now = now; routes = routes; ids = ids }) sources left workers why) (ids_open labels before names) ran
+      subst (λ (ids : List (List ℕ)). HaveRun (record { step = step; now = now; routes = routes; ids = ids }) workers why sources left) (ids_open labels before names) ran
 
   went : HaveLegalLogs workers (states_of before) (states_of after)
   went = subst (λ (states : List State). HaveLegalLogs workers states (states_of after)) opened logs
@@ -337,22 +338,22 @@ module _ {S : Type 0} (gives : S → ℕ → List SpacePacket) (step now : ℕ) 
       let all : All IsOpen (states_of before) = All-map IsOpen (λ (h : Held). h.state) before are_open in
       all k blank (omega (arith, length-map before (λ (h : Held). h.state)))
 
-  pub records_of : Records gives e before after sources left why
+  pub records_of : Records e before after why sources left
   records_of = record {
     labels = back ∙ names;
     sound = sound;
-    many = (as_many gives e sources left workers have.runs have.are).0;
+    many = (as_many e sources left workers have.runs have.are).0;
     runs = have.runs;
-    are_runs = are_runs gives e sources left workers have.runs have.are;
+    are_runs = are_runs e sources left workers have.runs have.are;
     why_is = have.why_is;
-    went = went_offers gives e sources left workers why (states_of before) (states_of after) have went inside;
-    others = λ t other. others_same gives e t other sources left workers have.runs have.are;
-    reason = reason_is gives e sources left workers why (states_of before) (states_of after) have went inside many;
+    went = went_offers e sources left workers why (states_of before) (states_of after) have went inside;
+    others = λ t other. others_same e t other sources left workers have.runs have.are;
+    reason = reason_is e sources left workers why (states_of before) (states_of after) have went inside many;
     recorded = if_none _ _ why have.why_is.none
-        (λ none. all_recorded gives e sources left workers why (states_of before) (states_of after) have went inside (whole_of have.runs none));
-    nothing_left = if_none _ _ why have.why_is.none (λ none. none_left gives e sources left workers have.runs have.are (whole_of have.runs none));
+        (λ none. all_recorded e sources left workers why (states_of before) (states_of after) have went inside (whole_of have.runs none));
+    nothing_left = if_none _ _ why have.why_is.none (λ none. none_left e sources left workers have.runs have.are (whole_of have.runs none));
     none_refused = λ takes. why_lacks have.runs why have.why_is
-        (reasons_of gives e sources left workers have.runs have.are
-        (all_taken gives e sources left workers why (states_of before) (states_of after) have went inside many few_sources takes.moment
+        (reasons_of e sources left workers have.runs have.are
+        (all_taken e sources left workers why (states_of before) (states_of after) have went inside many few_sources takes.moment
         (state_open takes.stores_are) takes.few));
   }

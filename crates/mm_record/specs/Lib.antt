@@ -1,6 +1,8 @@
 pub use Rattle.mm_shared.specs.Stores
 pub mod Causes
 pub mod Counters
+pub mod Supplies
+pub mod Lives
 pub mod Recorded
 pub mod Offering
 pub mod Routings

@@ -13,6 +13,7 @@ use Rattle.mm_report.specs.declared.cause.Cause.TheVariants.{NoMemory, LogMismat
 use Rattle.mm_record.specs.declared.memory_step.Recorded.{Recorded}
 use Rattle.mm_record.specs.declared.memory_step.RecordedStep.{RecordedStep}
 use Rattle.mm_record.specs.declared.memory_step.RecordHalted.{RecordHalted}
+use Rattle.mm_record.specs.Supplies.{Supply, WhateverComes}
 use Rattle.mm_record.specs.Recorded.{RecordingContext, recording, offers}
 use Rattle.mm_record.specs.Steps.{given_in, AllRecorded, AllHaveLegalOffers, RecorderRun, AreRecorderRuns, StoreRefused}
 
@@ -42,14 +43,14 @@ pub record AreTold (e : RecordingContext) (gave : List (List SpacePacket)) (old 
   pub lost : (k : ℕ) (d : Recorded) → k < length new.stores → (slice_index_or told k d).lost ≡ (store_at new k).lost - (store_at old k).lost
 
 -- a step was recorded: each store by all offers of what the sources gave, none refused; no source has anything left for it
-pub record IsRecorded {S : Type 0} (gives : S → ℕ → List SpacePacket) (e : RecordingContext) (old new : Holdings) (sources left : List S) (told : List Recorded) : Type 0 where
+pub record IsRecorded (e : RecordingContext) (old new : Holdings) (told : List Recorded) (sources left : List Supply) : Type 0 where
   pub placed : PlacedAsBefore old new
-  pub recorded : AllRecorded e (given_in gives e.step sources) (states_of old.stores) (states_of new.stores)
-  pub leaves : (k : ℕ) → k < length new.stores → Leaves (store_at old k) (store_at new k) (came e (given_in gives e.step sources) k)
-  pub told_are : AreTold e (given_in gives e.step sources) old new told
+  pub recorded : AllRecorded e (given_in e.step sources) (states_of old.stores) (states_of new.stores)
+  pub leaves : (k : ℕ) → k < length new.stores → Leaves (store_at old k) (store_at new k) (came e (given_in e.step sources) k)
+  pub told_are : AreTold e (given_in e.step sources) old new told
   pub many : length left ≡ length sources
-  pub nothing_left : All (λ s. gives s e.step ≡ []) left
-  pub others : (t : ℕ) → t ≢ e.step → given_in gives t left ≡ given_in gives t sources
+  pub nothing_left : All (λ s. s e.step ≡ []) left
+  pub others : (t : ℕ) → t ≢ e.step → given_in t left ≡ given_in t sources
 
 -- a step was refused before it began: nothing has changed
 pub record IsRefused {S : Type 0} (cause : Cause) (old new : Holdings) (sources : List S) (result : Result (RecordedStep S) (RecordHalted S)) : Type 0 where
@@ -59,15 +60,15 @@ pub record IsRefused {S : Type 0} (cause : Cause) (old new : Holdings) (sources 
 
 -- recorders were at work when the step was ended: each store went by what the recorders offered. Where the cause is out of
 -- memory no recorder stopped for another reason, and else a store refused an offer
-pub record WasEnded {S : Type 0} (gives : S → ℕ → List SpacePacket) (e : RecordingContext) (old new : Holdings) (sources left : List S) (cause : Cause) : Type 0 where
+pub record WasEnded (e : RecordingContext) (old new : Holdings) (cause : Cause) (sources left : List Supply) : Type 0 where
   pub cause_is : (cause ≡ LogMismatch e.step) ⊎ (cause ≡ NoMemory e.step)
   pub placed : PlacedAsBefore old new
   pub runs : List RecorderRun
-  pub are_runs : AreRecorderRuns gives e sources left runs
+  pub are_runs : AreRecorderRuns e sources left runs
   pub went : AllHaveLegalOffers runs (states_of old.stores) (states_of new.stores)
   pub refused : cause ≡ LogMismatch e.step → (f : Fault) × StoreRefused runs (states_of old.stores) (states_of new.stores) f
   pub lack : cause ≡ NoMemory e.step → All (λ run. IfSome run.broken (λ f. f ≡ fault.NoMemory)) runs
-  pub others : (t : ℕ) → t ≢ e.step → given_in gives t left ≡ given_in gives t sources
+  pub others : (t : ℕ) → t ≢ e.step → given_in t left ≡ given_in t sources
 
 -- there was no memory before the first recorder began: nothing has changed
 pub record WasNotBegun {S : Type 0} (step : ℕ) (old new : Holdings) (sources left : List S) (cause : Cause) : Type 0 where
@@ -76,5 +77,6 @@ pub record WasNotBegun {S : Type 0} (step : ℕ) (old new : Holdings) (sources l
   pub same : new ≡ old
 
 -- a step was halted: out of memory before the first recorder began, or while recorders were at work
-abbrev pub Halts : {S : Type 0} → (S → ℕ → List SpacePacket) → RecordingContext → Holdings → Holdings → List S → List S → Cause → Type 0
-Halts gives e old new sources left cause = WasNotBegun e.step old new sources left cause ⊎ WasEnded gives e old new sources left cause
+abbrev pub Halts : {S : Type 0} → (S → S → Type 0) → (S → S → Supply) → RecordingContext → Holdings → Holdings → List S → List S → Cause → Type 0
+Halts leads until e old new sources left cause =
+    WasNotBegun e.step old new sources left cause ⊎ WhateverComes leads until sources left (WasEnded e old new cause)

@@ -13,11 +13,12 @@ use Rattle.mm_desk.specs.Machine.{State, IsState}
 use Rattle.mm_desk.specs.Offers.{AreTaken, IsShuffleOfEvents}
 use Rattle.mm_desk.specs.Runs.{IsRun, opening_at}
 use Rattle.mm_shared.specs.Stores.{states_of, labels_of}
+use Rattle.mm_record.specs.Supplies.{Supply}
 use Rattle.mm_record.specs.Recorded.{RecordingContext, offers}
 
 -- what sources still give in a step
-abbrev pub given_in : {S : Type 0} → (S → ℕ → List SpacePacket) → ℕ → List S → List (List SpacePacket)
-given_in gives step sources = map (λ s. gives s step) sources
+abbrev pub given_in : ℕ → List Supply → List (List SpacePacket)
+given_in step sources = map (λ s. s step) sources
 
 -- a store went by a legal log from the first state to the second; replies left aside, the log is a shuffle of these lists of offers
 pub record HasLegalOffers (lists : List (List Event)) (s t : State) : Type 0 where
@@ -58,17 +59,17 @@ pub record StoppedEarly (e : RecordingContext) (gave : List SpacePacket) (offere
 
 -- a recorder had this run, and its source is now as the second: it keeps what it did not give, and its other steps. Where the recorder
 -- did not stop early nothing is left, and all offers were made
-pub record IsRecorderRun (e : RecordingContext) (before after : ℕ → List SpacePacket) (run : RecorderRun) : Type 0 where
+pub record IsRecorderRun (e : RecordingContext) (before after : Supply) (run : RecorderRun) : Type 0 where
   pub order : before e.step ≡ run.gave ++ after e.step
   pub others : (t : ℕ) → t ≢ e.step → after t ≡ before t
   pub whole : IfNone run.broken ((after e.step ≡ []) × ((k : ℕ) → k < length e.ids → run.offered k ≡ offers e k run.gave))
   pub partly : IfSome run.broken (λ fault. StoppedEarly e run.gave run.offered)
 
 -- the recorder of each source had its run
-unfoldable pub AreRecorderRuns : {S : Type 0} → (S → ℕ → List SpacePacket) → RecordingContext → List S → List S → List RecorderRun → Type 0
-AreRecorderRuns gives e [] [] [] = Unit {0}
-AreRecorderRuns gives e (s ∷ ss) (t ∷ ts) (run ∷ runs) = IsRecorderRun e (gives s) (gives t) run × AreRecorderRuns gives e ss ts runs
-AreRecorderRuns gives e ss ts runs = ⊥
+unfoldable pub AreRecorderRuns : RecordingContext → List Supply → List Supply → List RecorderRun → Type 0
+AreRecorderRuns e [] [] [] = Unit {0}
+AreRecorderRuns e (s ∷ ss) (t ∷ ts) (run ∷ runs) = IsRecorderRun e s t run × AreRecorderRuns e ss ts runs
+AreRecorderRuns e ss ts runs = ⊥
 
 -- each store went by a legal log that is a shuffle of what the recorders offered to it
 abbrev pub AllHaveLegalOffers : List RecorderRun → List State → List State → Type 0
@@ -104,34 +105,34 @@ pub record IsOpen (s : State) : Type 0 where
   pub offered : s.offered ≤ latest
 
 -- each source gives at most 65,535 packets in a step
-abbrev pub AreFew : {S : Type 0} → (S → ℕ → List SpacePacket) → ℕ → List S → Type 0
-AreFew gives step sources = All (λ s. length (gives s step) ≤ 65535) sources
+abbrev pub AreFew : ℕ → List Supply → Type 0
+AreFew step sources = All (λ s. length (s step) ≤ 65535) sources
 
 -- each store surely takes what the sources give in this step
-pub record TakesAll {S : Type 0} (gives : S → ℕ → List SpacePacket) (e : RecordingContext) (stores : List Held) (sources : List S) : Type 0 where
+pub record TakesAll (e : RecordingContext) (stores : List Held) (sources : List Supply) : Type 0 where
   pub moment : e.now ≤ latest
   pub stores_are : All (λ h. IsOpen h.state) stores
-  pub few : AreFew gives e.step sources
+  pub few : AreFew e.step sources
 
 -- each source gives at most 65,535 packets in the step, and no store was offered more than 2^63 packets before
-pub record IsWithinLimits {S : Type 0} (gives : S → ℕ → List SpacePacket) (step : ℕ) (stores : List Held) (sources : List S) : Type 0 where
-  pub few : AreFew gives step sources
+pub record IsWithinLimits (step : ℕ) (stores : List Held) (sources : List Supply) : Type 0 where
+  pub few : AreFew step sources
   pub offered : All (λ h. h.state.offered ≤ 2 ^ 63) stores
 
--- what a step of recorders leaves of its stores and its sources
-pub record Records {S : Type 0} (gives : S → ℕ → List SpacePacket) (e : RecordingContext) (before after : List Held) (sources left : List S) (why : Option Fault) : Type 0 where
+-- what a step of recorders leaves of its stores, and of what its sources give
+pub record Records (e : RecordingContext) (before after : List Held) (why : Option Fault) (sources left : List Supply) : Type 0 where
   pub labels : labels_of after ≡ labels_of before
   pub sound : All (λ h. IsState h.state) after
   pub many : length left ≡ length sources
   -- in any case
   pub runs : List RecorderRun
-  pub are_runs : AreRecorderRuns gives e sources left runs
+  pub are_runs : AreRecorderRuns e sources left runs
   pub why_is : IsWhy (map (λ run. run.broken) runs) why
   pub reason : IfSome why (λ fault. (fault ≡ NoMemory) ⊎ StoreRefused runs (states_of before) (states_of after) fault)
   pub went : AllHaveLegalOffers runs (states_of before) (states_of after)
-  pub others : (t : ℕ) → t ≢ e.step → given_in gives t left ≡ given_in gives t sources
+  pub others : (t : ℕ) → t ≢ e.step → given_in t left ≡ given_in t sources
   -- where no recorder stopped early
-  pub recorded : IfNone why (AllRecorded e (given_in gives e.step sources) (states_of before) (states_of after))
-  pub nothing_left : IfNone why (All (λ s. gives s e.step ≡ []) left)
+  pub recorded : IfNone why (AllRecorded e (given_in e.step sources) (states_of before) (states_of after))
+  pub nothing_left : IfNone why (All (λ s. s e.step ≡ []) left)
   -- where each store surely takes what comes: only out of memory is a reason
-  pub none_refused : TakesAll gives e before sources → IfSome why (λ fault. fault ≡ NoMemory)
+  pub none_refused : TakesAll e before sources → IfSome why (λ fault. fault ≡ NoMemory)

@@ -6,12 +6,13 @@ ghost use Rattle.mm_report.specs.declared.cause.TheConstants.{MAX_SOURCES};
 ghost use Rattle.mm_record.specs.Causes.{cause_before};
 ghost use Rattle.mm_record.specs.Counters.{counters_of, change_of, AreRows};
 ghost use Rattle.mm_record.specs.MemorySteps.{recording_of, IsRecorded, IsRefused, Halts};
+ghost use Rattle.mm_record.specs.Supplies.{WhateverComes};
 ghost use Rattle.mm_record.specs.Steps.{IsWithinLimits, TakesAll};
 
 use crate::cause::cause_in;
 use crate::counters::Counters;
 use crate::readiness::cause_before;
-use crate::source::Source;
+use crate::source::AnySource;
 use crate::step::{RecordingStep, record};
 use mm_base::{NoMemory, StoreId};
 use mm_desk::Held;
@@ -101,7 +102,7 @@ fn changes_of(rows: Rows, stores: &[Held]) -> Vec<Recorded>
 }
 
 // Records a step over the stores of a memory that can take part in it.
-fn record_ready<S: Source + Send, R: Threads + Wait + Sync>(
+fn record_ready<S: AnySource + Send, R: Threads + Wait + Sync>(
     rt: &R,
     alloc: Global,
     memory: &mut Memory,
@@ -110,9 +111,10 @@ fn record_ready<S: Source + Send, R: Threads + Wait + Sync>(
     sources: &mut [S],
 ) -> Result<Vec<Recorded>, Cause>
     requires many { length sources.old ≤ MAX_SOURCES }
-    ensures ok { IfOk result (λ told. IsRecorded S.gives (recording_of step now memory.old) memory.old memory.new sources.old sources.new told.items) }
-    ensures err { IfErr result (Halts S.gives (recording_of step now memory.old) memory.old memory.new sources.old sources.new) }
-    ensures none_refused { TakesAll S.gives (recording_of step now memory.old) memory.old.stores sources.old → IfErr result (λ cause. cause ≢ LogMismatch step) }
+    ensures ok { IfOk result (λ told. WhateverComes S.leads S.until sources.old sources.new (IsRecorded (recording_of step now memory.old) memory.old memory.new told.items)) }
+    ensures err { IfErr result (Halts S.leads S.until (recording_of step now memory.old) memory.old memory.new sources.old sources.new) }
+    ensures none_refused { IfErr result (λ cause. WhateverComes S.leads S.until sources.old sources.new
+        (λ given left. TakesAll (recording_of step now memory.old) memory.old.stores given → cause ≢ LogMismatch step)) }
 {
     let Ok(rows) = new_rows(alloc, memory.stores()) else {
         return Err(Cause::NoMemory { step });
@@ -140,7 +142,7 @@ fn record_ready<S: Source + Send, R: Threads + Wait + Sync>(
 /// thread where one can be made, which offers a copy of each at `base + step` to the stores that its report type is routed to.
 /// Where each source gives at most 65,535 packets in the step and no store was offered more than 2^63 packets before, the cause
 /// of a halt is never `LogMismatch`.
-pub fn record_step<S: Source + Send + Drop, R: Threads + Wait + Sync>(
+pub fn record_step<S: AnySource + Send + Drop, R: Threads + Wait + Sync>(
     rt: &R,
     alloc: Global,
     memory: &mut Memory,
@@ -150,10 +152,12 @@ pub fn record_step<S: Source + Send + Drop, R: Threads + Wait + Sync>(
 ) -> Result<RecordedStep<S>, RecordHalted<S>>
     ensures refused { (cause : Cause) → cause_before memory.old.stores base (vec_len sources) ≡ Some cause
         → IsRefused cause memory.old memory.new sources.items result }
-    ensures ok { IfOk result (λ done. IsRecorded S.gives (recording_of step (base + step) memory.old) memory.old memory.new sources.items done.sources.items done.recorded.items) }
+    ensures ok { IfOk result (λ done. WhateverComes S.leads S.until sources.items done.sources.items
+        (IsRecorded (recording_of step (base + step) memory.old) memory.old memory.new done.recorded.items)) }
     ensures err { cause_before memory.old.stores base (vec_len sources) ≡ None
-        → IfErr result (λ halted. Halts S.gives (recording_of step (base + step) memory.old) memory.old memory.new sources.items halted.sources.items halted.cause) }
-    ensures none_refused { IsWithinLimits S.gives step memory.old.stores sources.items → IfErr result (λ halted. halted.cause ≢ LogMismatch step) }
+        → IfErr result (λ halted. Halts S.leads S.until (recording_of step (base + step) memory.old) memory.old memory.new sources.items halted.sources.items halted.cause) }
+    ensures none_refused { IfErr result (λ halted. WhateverComes S.leads S.until sources.items halted.sources.items
+        (λ given left. IsWithinLimits step memory.old.stores given → halted.cause ≢ LogMismatch step)) }
 {
     let mut sources = sources;
     if let Some(cause) = cause_before(memory.stores(), base, sources.len()) {

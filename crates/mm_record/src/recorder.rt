@@ -5,33 +5,38 @@ ghost use Rattle.std.specs.Thread.{IsSync, IsSend};
 ghost use Rattle.mm_shared.specs.Stores.{end_of, all_ends, IsFresh};
 ghost use Rattle.mm_record.specs.Offering.{MayOffer};
 ghost use Rattle.mm_record.specs.Recorded.{open_recording};
+ghost use Rattle.mm_record.specs.Supplies.{WhateverComes};
 ghost use Rattle.mm_record.specs.Recorders.{HasRun, MayRecord, HaveRun, is_worse};
 
 use crate::context::StepContext;
 use crate::offering::offer_packet;
 use crate::routing::Routings;
-use crate::source::Source;
+use crate::source::AnySource;
 use mm_desk::Fault;
 use mm_shared::Port;
 use std::sync::Wait;
 use std::thread::{Threads, join_mut};
 
 // Records what a source gives in a step.
-fn record_source<S: Source, R: Wait>(
+fn record_source<S: AnySource, R: Wait>(
     context: &StepContext<'_, R>,
     source: &mut S,
     port: &mut Port,
 ) -> Result<(), Fault>
     requires may { MayOffer context.now.labels.now context.now.stores.now port.old.of }
     requires fresh { IsFresh port.old }
-    ensures run { HasRun (open_recording context.now.step context.now.moment context.now.control.now context.now.labels.now) (S.gives source.old) (S.gives source.new) (result_err result) port.new }
+    ensures run { (last : S) → S.leads source.new last
+        → S.leads source.old last × HasRun (open_recording context.now.step context.now.moment context.now.control.now context.now.labels.now) (S.until source.old last) (S.until source.new last) (result_err result) port.new }
     ensures end { end_of port.new ≡ end_of port.old }
 {
     let mut routings = Routings::new();
-    while let Some(packet) = source.next(context.step) {
+    for _ in context.rt.forever() {
+        let Some(packet) = source.next_packet(context.step) else {
+            return Ok(());
+        };
         offer_packet(context, &mut routings, port, packet)?;
     }
-    Ok(())
+    unreachable!()
 }
 
 // Why recorders stopped early, of two reasons: out of memory only where neither stopped for another reason.
@@ -46,14 +51,14 @@ fn worse(first: Option<Fault>, second: Option<Fault>) -> Option<Fault>
 }
 
 // Lets the recorder of one source run.
-fn record_one<S: Source, R: Wait>(
+fn record_one<S: AnySource, R: Wait>(
     context: &StepContext<'_, R>,
     sources: &mut [S],
     workers: &mut [Port],
 ) -> Option<Fault>
     requires may { MayRecord context.now.labels.now context.now.stores.now sources.old workers.old }
     requires one { length sources.old ≡ 1 }
-    ensures run { HaveRun S.gives (open_recording context.now.step context.now.moment context.now.control.now context.now.labels.now) sources.old sources.new workers.new result }
+    ensures run { WhateverComes S.leads S.until sources.old sources.new (HaveRun (open_recording context.now.step context.now.moment context.now.control.now context.now.labels.now) workers.new result) }
     ensures ends { all_ends workers.new ≡ all_ends workers.old }
 {
     record_source(context, &mut sources[0], &mut workers[0]).err()
@@ -61,13 +66,13 @@ fn record_one<S: Source, R: Wait>(
 
 // Lets recorders run, each in a thread of its own where one can be made, and tells why they stopped early, where some did.
 #[cycle(recorders)]
-pub(crate) fn record_all<S: Source + Send, R: Threads + Wait + Sync>(
+pub(crate) fn record_all<S: AnySource + Send, R: Threads + Wait + Sync>(
     context: &StepContext<'_, R>,
     sources: &mut [S],
     workers: &mut [Port],
 ) -> Option<Fault>
     requires may { MayRecord context.now.labels.now context.now.stores.now sources.old workers.old }
-    ensures run { HaveRun S.gives (open_recording context.now.step context.now.moment context.now.control.now context.now.labels.now) sources.old sources.new workers.new result }
+    ensures run { WhateverComes S.leads S.until sources.old sources.new (HaveRun (open_recording context.now.step context.now.moment context.now.control.now context.now.labels.now) workers.new result) }
     ensures ends { all_ends workers.new ≡ all_ends workers.old }
 {
     if sources.is_empty() {
@@ -92,7 +97,7 @@ pub(crate) fn record_all<S: Source + Send, R: Threads + Wait + Sync>(
 // Lets the recorders of two halves run, each half in a thread of its own where one can be made, and tells why some of each stopped
 // early.
 #[cycle(recorders)]
-fn record_halves<S: Source + Send, R: Threads + Wait + Sync>(
+fn record_halves<S: AnySource + Send, R: Threads + Wait + Sync>(
     context: &StepContext<'_, R>,
     low_sources: &mut [S],
     low_workers: &mut [Port],
@@ -103,18 +108,18 @@ fn record_halves<S: Source + Send, R: Threads + Wait + Sync>(
     requires high { MayRecord context.now.labels.now context.now.stores.now high_sources.old high_workers.old }
     requires some_low { 0 < length low_sources.old }
     requires some_high { 0 < length high_sources.old }
-    ensures low { HaveRun S.gives (open_recording context.now.step context.now.moment context.now.control.now context.now.labels.now) low_sources.old low_sources.new low_workers.new result.0 }
-    ensures high { HaveRun S.gives (open_recording context.now.step context.now.moment context.now.control.now context.now.labels.now) high_sources.old high_sources.new high_workers.new result.1 }
+    ensures low { WhateverComes S.leads S.until low_sources.old low_sources.new (HaveRun (open_recording context.now.step context.now.moment context.now.control.now context.now.labels.now) low_workers.new result.0) }
+    ensures high { WhateverComes S.leads S.until high_sources.old high_sources.new (HaveRun (open_recording context.now.step context.now.moment context.now.control.now context.now.labels.now) high_workers.new result.1) }
     ensures low_ends { all_ends low_workers.new ≡ all_ends low_workers.old }
     ensures high_ends { all_ends high_workers.new ≡ all_ends high_workers.old }
 {
     let mut low = || -> Option<Fault>
         requires { IsSync R.row × IsSend S.row × MayRecord context.now.labels.now context.now.stores.now low_sources.now low_workers.now }
-        ensures { HaveRun S.gives (open_recording context.entry.now.step context.entry.now.moment context.entry.now.control.now context.entry.now.labels.now) low_sources.entry.now low_sources.exit.now low_workers.exit.now result × (all_ends low_workers.exit.now ≡ all_ends low_workers.entry.now) }
+        ensures { WhateverComes S.leads S.until low_sources.entry.now low_sources.exit.now (HaveRun (open_recording context.entry.now.step context.entry.now.moment context.entry.now.control.now context.entry.now.labels.now) low_workers.exit.now result) × (all_ends low_workers.exit.now ≡ all_ends low_workers.entry.now) }
     { record_all(context, low_sources, low_workers) };
     let mut high = || -> Option<Fault>
         requires { IsSync R.row × IsSend S.row × MayRecord context.now.labels.now context.now.stores.now high_sources.now high_workers.now }
-        ensures { HaveRun S.gives (open_recording context.entry.now.step context.entry.now.moment context.entry.now.control.now context.entry.now.labels.now) high_sources.entry.now high_sources.exit.now high_workers.exit.now result × (all_ends high_workers.exit.now ≡ all_ends high_workers.entry.now) }
+        ensures { WhateverComes S.leads S.until high_sources.entry.now high_sources.exit.now (HaveRun (open_recording context.entry.now.step context.entry.now.moment context.entry.now.control.now context.entry.now.labels.now) high_workers.exit.now result) × (all_ends high_workers.exit.now ≡ all_ends high_workers.entry.now) }
     { record_all(context, high_sources, high_workers) };
     join_mut(context.rt, &mut low, &mut high)
 }

@@ -4,11 +4,12 @@ ghost use Rattle.mm_base.specs.declared.limits.TheConstants.{MAX_STORES};
 ghost use Rattle.mm_desk.specs.declared.desk.TheConstants.{MAX_SEATS};
 ghost use Rattle.mm_shared.specs.Stores.{labels_of, AreNamed};
 ghost use Rattle.mm_record.specs.Recorded.{recording};
+ghost use Rattle.mm_record.specs.Supplies.{WhateverComes};
 ghost use Rattle.mm_record.specs.Steps.{Records};
 
 use crate::context::StepContext;
 use crate::recorder::record_all;
-use crate::source::Source;
+use crate::source::AnySource;
 use mm_base::NoMemory;
 use mm_control::ControlTable;
 use mm_desk::{Fault, Held};
@@ -28,7 +29,7 @@ pub struct RecordingStep<'a> {
 /// Records a step: each source's packets of the step are taken by a recorder of its own, which offers a copy of each, at the
 /// step's moment, to the stores that its report type is routed to. The answer is why recorders stopped early, where some did: out
 /// of memory only where none stopped for another reason. Where there is no memory to begin, stores and sources are as before.
-pub fn record<S: Source + Send, R: Threads + Wait + Sync>(
+pub fn record<S: AnySource + Send, R: Threads + Wait + Sync>(
     rt: &R,
     alloc: Global,
     step: &RecordingStep<'_>,
@@ -38,8 +39,8 @@ pub fn record<S: Source + Send, R: Threads + Wait + Sync>(
     requires few { vec_len stores.old ≤ MAX_STORES }
     requires many { length sources.old ≤ MAX_SEATS }
     requires named { AreNamed (recording step.now.step step.now.now step.now.control.now stores.old.items).ids }
-    ensures records { IfOk result (Records S.gives (recording step.entry.now.step step.entry.now.now step.entry.now.control.now stores.old.items)
-        stores.old.items stores.new.items sources.old sources.new) }
+    ensures records { IfOk result (λ why. WhateverComes S.leads S.until sources.old sources.new
+        (Records (recording step.entry.now.step step.entry.now.now step.entry.now.control.now stores.old.items) stores.old.items stores.new.items why)) }
     ensures labels { labels_of stores.new.items ≡ labels_of stores.old.items }
     ensures stores { OnErr result (stores.new.items ≡ stores.old.items) }
     ensures sources { OnErr result (sources.new ≡ sources.old) }

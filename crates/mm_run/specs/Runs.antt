@@ -1,14 +1,14 @@
 -- What a run from texts prints.
-use Rattle.std.specs.Prelude.{◌≡◌, ◌⊎◌, ℕ, List, [], slice_index_or, Option, Some, None}
+use Rattle.std.specs.Prelude.{◌≡◌, ◌⊎◌, ℕ, List, [], map, slice_index_or, Option, Some, None}
 use Rattle.mm_problem.specs.Dumping.{Dumping}
 use Rattle.mm_packet.specs.Packet.{SpacePacket}
 use Rattle.mm_plan.specs.Sheet.{SheetRows}
 use Rattle.mm_plan.specs.Table.{Table}
 use Rattle.mm_memory.specs.Holdings.{Holdings}
+use Rattle.mm_record.specs.Supplies.{Supply}
 use Rattle.mm_dump.specs.Sending.{Sent}
 use Rattle.mm_run.specs.declared.link.ScriptedLink.{ScriptedLink}
 use Rattle.mm_run.specs.declared.source.ScriptedSource.{ScriptedSource}
-use Rattle.mm_exec.specs.declared.run_end.RunEnd.{RunEnd}
 use Rattle.mm_exec.specs.declared.run_end.Flown.{Flown}
 use Rattle.mm_exec.specs.declared.run_end.FlyHalted.{FlyHalted}
 use Rattle.mm_exec.specs.RunInput.{RunInput, run_input}
@@ -21,7 +21,7 @@ use Rattle.mm_run.specs.Printed.{TellsAll, TellsEnd}
 use Rattle.mm_run.specs.Texts.{SaysStart, SaysSourcesAndLinks}
 
 -- what a scripted source gives, what was sent over a scripted link, and how many of its sends failed
-abbrev pub gives : ScriptedSource → ℕ → List SpacePacket
+abbrev pub gives : ScriptedSource → Supply
 gives source step = slice_index_or source step []
 
 abbrev pub sent : ScriptedLink → List Sent
@@ -32,25 +32,23 @@ failed link = link.failed
 
 -- a run with these sources and links: the problem, the plan, the memory with the packets of step 0, and the moment 0 before the first step
 abbrev pub scripted : Dumping → Table → Holdings → List ScriptedSource → RunInput
-scripted problem plan memory sources = run_input gives problem plan 0 memory sources
-
--- what a run leaves beside the text of its plan
-abbrev pub run_end_of : Flown ScriptedSource ScriptedLink → RunEnd ScriptedSource ScriptedLink
-run_end_of flown = record { report = flown.report; sources = flown.sources; links = flown.links }
+scripted problem plan memory sources = run_input problem plan 0 memory (map gives sources)
 
 -- the plan of the sheet was carried out, and no text of it is printed; or without a sheet, a plan was made, printed and carried out
 unfoldable pub IsFlown : Option SheetRows → Dumping → Holdings → List ScriptedSource → List ScriptedLink → Holdings → Flown ScriptedSource ScriptedLink → Type 0
 IsFlown (Some sheet) problem memory sources links left flown = (flown.sheet.items ≡ [])
-    × IsCarriedOut gives sent failed (scripted problem sheet.plan memory sources) sheet.plan sources links left (run_end_of flown)
-IsFlown None problem memory sources links left flown = Flies gives sent failed problem 0 memory sources links left flown
+    × IsCarriedOut sent failed (scripted problem sheet.plan memory sources) sheet.plan links left (map gives flown.sources.items) flown.links.items flown.report
+IsFlown None problem memory sources links left flown =
+    Flies sent failed problem 0 memory (map gives sources) links left flown (map gives flown.sources.items)
 
 -- the run of the sheet's plan did not begin, or was halted, and no text of the plan is printed; or without a sheet, this is so of a plan
 -- that was made and printed, or there was no memory to plan
 unfoldable pub IsNotFlown : Option SheetRows → Dumping → Holdings → List ScriptedSource → List ScriptedLink → Holdings → FlyHalted ScriptedSource ScriptedLink → Type 0
 IsNotFlown (Some sheet) problem memory sources links left ended = (ended.sheet.items ≡ [])
-    × IsHalted gives sent failed (scripted problem sheet.plan memory sources) sheet.plan sources links left ended.halted
+    × IsHalted sent failed (scripted problem sheet.plan memory sources) sheet.plan sources links left ended.halted (map gives ended.halted.sources.items)
 IsNotFlown None problem memory sources links left ended =
-    FliesNot gives sent failed problem 0 memory sources links left ended ⊎ HasNoPlan memory sources links left ended
+    FliesNot sent failed problem 0 memory sources (map gives sources) links left ended (map gives ended.halted.sources.items)
+    ⊎ HasNoPlan memory sources links left ended
 
 -- the run was carried out, and this is printed
 pub record EndsWhole (sheet : Option SheetRows) (problem : Dumping) (memory : Holdings) (sources : List ScriptedSource) (links : List ScriptedLink) (p : Printed) : Type 0 where

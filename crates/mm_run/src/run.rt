@@ -1,5 +1,5 @@
 //! A run from texts to what is printed: of the plan of a text, or of one that is made.
-ghost use Rattle.std.specs.Prelude.{◌<◌, ◌-◌, ◌^◌, All, length, Some, IfOk, IfErr};
+ghost use Rattle.std.specs.Prelude.{◌<◌, ◌-◌, ◌^◌, All, length, map, Some, IfOk, IfErr};
 ghost use Rattle.std.specs.Option.{option_copied};
 ghost use Rattle.mm_base.specs.Reading.{IfRefused};
 ghost use Rattle.mm_exec.specs.Course.{AreWithinLimits};
@@ -43,7 +43,7 @@ fn fly_sheet<R: Threads + Wait + Sync>(
     requires links { All (λ l. l.failed < 2 ^ 64 - 1) links.items }
     ensures flown { IfOk result (IsFlown (Some sheet.now) problem.now memory.old sources.items links.items memory.new) }
     ensures not_flown { IfErr result (IsNotFlown (Some sheet.now) problem.now memory.old sources.items links.items memory.new) }
-    ensures far { AreWithinLimits gives (length problem.now.windows) memory.old.stores sources.items → IfErr result (λ ended. NeverRefused ended.halted.cause) }
+    ensures far { AreWithinLimits (length problem.now.windows) memory.old.stores (map gives sources.items) → IfErr result (λ ended. NeverRefused ended.halted.cause) }
 {
     let text = Vec::new(alloc);
     match carry_out(rt, alloc, memory, problem, sheet.plan(), sources, links, 0) {
@@ -68,7 +68,7 @@ fn fly_plan<R: Threads + Wait + Sync>(
     requires links { All (λ l. l.failed < 2 ^ 64 - 1) links.items }
     ensures flown { IfOk result (IsFlown sheet problem.now memory.old sources.items links.items memory.new) }
     ensures not_flown { IfErr result (IsNotFlown sheet problem.now memory.old sources.items links.items memory.new) }
-    ensures far { AreWithinLimits gives (length problem.now.windows) memory.old.stores sources.items → IfErr result (λ ended. NeverRefused ended.halted.cause) }
+    ensures far { AreWithinLimits (length problem.now.windows) memory.old.stores (map gives sources.items) → IfErr result (λ ended. NeverRefused ended.halted.cause) }
 {
     match sheet {
         Some(sheet) => fly_sheet(rt, alloc, &sheet, memory, problem, sources, links),
@@ -98,7 +98,7 @@ fn print_run<R: Threads + Wait + Sync>(
     links: Vec<ScriptedLink>,
     untaken: Option<Untaken>,
 ) -> Result<Printed, NoMemory>
-    requires limits { AreWithinLimits gives (length problem.now.windows) memory.old.stores sources.items }
+    requires limits { AreWithinLimits (length problem.now.windows) memory.old.stores (map gives sources.items) }
     requires unfailed { All (λ l. l.failed < 2 ^ 64 - 1) links.items }
     ensures { IfOk result (RunEnds sheet problem.now memory.old sources.items links.items) }
 {

@@ -9,8 +9,7 @@ use growths::seats::answer;
 use mm_base::Kind;
 use mm_desk::agree::{agrees, is_below, is_part};
 use mm_desk::{
-    Closed, Desk, Entry, Event, Fault, Opening, PassBook, PassSeat, Passing, Reply, Seat,
-    StoreState, WindowFull,
+    Desk, Entry, Event, Fault, Opening, PassBook, Passing, Reply, Seat, StoreState, WindowFull,
 };
 use std::alloc::Global;
 use std::marker::Brand;
@@ -21,21 +20,6 @@ use std::sync::ledger::Blank;
 // The number of a seat, what is asked through it, and what is answered.
 type SeatCall = (u32, Ask, Told);
 
-// What a desk answers through the seat of this number.
-fn answer_at<N: Opening, R: Wait + Abort>(
-    rt: &R,
-    alloc: Global,
-    desk: &Desk<N>,
-    seats: &mut [Seat<N>],
-    number: u32,
-    ask: Ask,
-) -> Told {
-    match seats.get_mut(number as usize) {
-        Some(seat) => answer(rt, alloc, desk, seat, ask),
-        None => panic!(rt; "a seat"),
-    }
-}
-
 // Asks a desk in turn through its seats, and compares the answers.
 fn asks<N: Opening, R: Wait + Abort>(
     rt: &R,
@@ -45,37 +29,29 @@ fn asks<N: Opening, R: Wait + Abort>(
     calls: &[SeatCall],
 ) {
     for (number, ask, want) in calls {
-        let told = answer_at(rt, alloc, desk, seats, *number, *ask);
+        let Some(seat) = seats.get_mut(*number as usize) else {
+            panic!(rt; "a seat");
+        };
+        let told = answer(rt, alloc, desk, seat, *ask);
         assert!(rt; told == *want, "a call");
     }
-}
-
-// An entry of the log is that of a call.
-fn is_logged(rt: &impl Abort, entry: &Entry, call: &SeatCall) {
-    let (seat, _ask, told) = *call;
-    assert!(rt; entry.seat == seat, "the seat");
-    assert!(rt; told_of_reply(&entry.reply) == told, "the reply");
 }
 
 // The log has an entry for each call.
 fn has_logged(rt: &impl Abort, log: &[Entry], calls: &[SeatCall]) {
     assert!(rt; log.len() == calls.len(), "as many entries");
-    for (entry, call) in log.iter().zip(calls) {
-        is_logged(rt, entry, call);
+    for (entry, (seat, _ask, told)) in log.iter().zip(calls) {
+        assert!(rt; entry.seat == *seat, "the seat");
+        assert!(rt; told_of_reply(&entry.reply) == *told, "the reply");
     }
-}
-
-// A seat at place 0 has made so many calls.
-fn has_called<N: Opening>(rt: &impl Abort, seat: &Seat<N>, calls: usize) {
-    assert!(rt; seat.place() == 0, "the place");
-    assert!(rt; seat.list().len() == calls, "as many calls");
 }
 
 // The seats at place 0 have made so many calls each.
 fn have_called<N: Opening>(rt: &impl Abort, seats: &[Seat<N>], calls: &[usize]) {
     assert!(rt; seats.len() == calls.len(), "as many seats");
     for (seat, calls) in seats.iter().zip(calls) {
-        has_called(rt, seat, *calls);
+        assert!(rt; seat.place() == 0, "the place");
+        assert!(rt; seat.list().len() == *calls, "as many calls");
     }
 }
 
@@ -105,22 +81,14 @@ fn used_desk<N: Opening, R: Wait + Abort>(
     (desk, seats)
 }
 
-// The log of a desk that is closed has each call, and agrees with the lists of the seats.
-fn agrees_with_calls<N: Opening>(rt: &impl Abort, closed: &Closed<N>, case: &Case) {
-    assert!(rt;
-        closed.agree,
-        "an honest desk's log is a shuffle of its seats' lists"
-    );
-    has_logged(rt, &closed.log, case.calls);
-}
-
-// The seats are handed back in order.
+// The log of a desk whose seats are handed back in order has each call, and agrees with their lists.
 fn in_order<N: Opening, R: Wait + Abort>(rt: &R, alloc: Global, state: StoreState, case: &Case)
     requires state { state ≡ opening_at N.states 0 }
 {
     let (desk, seats) = used_desk::<N, R>(rt, alloc, state, case);
     let closed = desk.close(seats);
-    agrees_with_calls(rt, &closed, case);
+    assert!(rt; closed.agree, "the log is a shuffle of the lists");
+    has_logged(rt, &closed.log, case.calls);
     has(rt, &closed.state, case.counts);
     have_called(rt, &closed.seats, case.lists);
 }
@@ -150,22 +118,10 @@ fn two_seats_one_desk(rt: HostRuntime) {
     tried(&rt, rt.alloc(), &TWO_OFFERS);
 }
 
-const FIFTH_IS_LOST: Case = Case {
-    kind: Kind::Bounded,
-    held: 4,
-    calls: &[(0, Ask::Offer(7, 5), Told::Lost(5))],
-    counts: [5, 1, 0, 4],
-    lists: &[1],
+static FULL: [Case; 2] = table! { Case;
+    kind Kind::Bounded, held 4, calls &[(0, Ask::Offer(7, 5), Told::Lost(5))], counts [5, 1, 0, 4], lists &[1];
+    kind Kind::Circular, held 4, calls &[(0, Ask::Offer(7, 5), Told::KeptOver(11, 1))], counts [5, 1, 0, 4], lists &[1];
 };
-
-static FULL: [Case; 2] = [
-    FIFTH_IS_LOST,
-    Case {
-        kind: Kind::Circular,
-        calls: &[(0, Ask::Offer(7, 5), Told::KeptOver(11, 1))],
-        ..FIFTH_IS_LOST
-    },
-];
 
 // A full bounded store loses the new packet, and a full circular one its oldest.
 #[test]
@@ -196,31 +152,20 @@ fn refused_calls_are_logged(rt: HostRuntime) {
     tried(&rt, rt.alloc(), &REFUSED);
 }
 
-// A log agrees with the lists of its two seats, and with no more.
+// A log agrees with the lists of its two seats, and with no more. The part of each in it is its own list, and not that of the other.
 fn agrees_with_two<N: Opening>(rt: &impl Abort, log: &[Entry], seats: &[Seat<N>]) {
     let agree = [agrees(log, 2, seats), agrees(log, 3, seats)];
     assert!(rt; agree == [true, false], "the lists of its seats");
     let below = [is_below(log, 2), is_below(log, 1)];
     assert!(rt; below == [true, false], "its seats");
-}
-
-// The part of a seat in a log is its own list, and not that of another seat.
-fn has_part<N: Opening>(rt: &impl Abort, log: &[Entry], seat: &Seat<N>, other: &Seat<N>) {
-    let number = seat.number();
-    let parts = [
-        is_part(log, number, seat.list()),
-        is_part(log, number, other.list()),
-    ];
-    assert!(rt; parts == [true, false], "its own list");
-}
-
-// Each of two seats has its part.
-fn have_parts<N: Opening>(rt: &impl Abort, log: &[Entry], seats: &[Seat<N>]) {
     let [one, two] = seats else {
         panic!(rt; "two seats");
     };
-    has_part(rt, log, one, two);
-    has_part(rt, log, two, one);
+    for (seat, other) in [(one, two), (two, one)] {
+        let number = seat.number();
+        assert!(rt; is_part(log, number, seat.list()), "its own list");
+        assert!(rt; !is_part(log, number, other.list()), "that of the other");
+    }
 }
 
 // A log without its last entry, or with another reply in it, does not agree with the lists.
@@ -236,53 +181,23 @@ fn other_logs_differ<N: Opening>(rt: &impl Abort, mut log: Vec<Entry>, seats: &[
     assert!(rt; !agrees(&log, 2, seats), "another reply, as many entries");
 }
 
-// The lists of two seats are compared with logs.
-fn compare_lists<N: Opening>(rt: &impl Abort, log: Vec<Entry>, seats: &[Seat<N>]) {
-    agrees_with_two(rt, &log, seats);
-    have_parts(rt, &log, seats);
-    other_logs_differ(rt, log, seats);
-}
-
 // The seats are handed back in another order, and then their lists are compared with logs.
 fn exchanged<N: Opening, R: Wait + Abort>(rt: &R, alloc: Global, state: StoreState)
     requires state { state ≡ opening_at N.states 0 }
 {
     let (desk, mut seats) = used_desk::<N, R>(rt, alloc, state, &TWO_OFFERS);
     seats.reverse();
-    let Closed {
-        agree,
-        log,
-        mut seats,
-        ..
-    } = desk.close(seats);
-    assert!(rt; !agree, "the seats were handed back in another order");
-    seats.reverse();
-    compare_lists(rt, log, &seats);
+    let mut closed = desk.close(seats);
+    assert!(rt; !closed.agree, "the seats are in another order");
+    closed.seats.reverse();
+    agrees_with_two(rt, &closed.log, &closed.seats);
+    other_logs_differ(rt, closed.log, &closed.seats);
 }
 
 #[test]
 fn a_log_beside_other_lists_does_not_agree(rt: HostRuntime) {
     let state = store_with(&rt, rt.alloc(), Kind::Circular, 0);
     exchanged::<Brand, HostRuntime>(&rt, rt.alloc(), state);
-}
-
-// A draw answers this.
-fn draws<W: Passing, R: Wait + Abort>(
-    rt: &R,
-    book: &PassBook<W>,
-    seat: &mut PassSeat<W>,
-    blocks: u64,
-    want: Result<(), WindowFull>,
-) {
-    let drawn = book.draw(rt, seat, blocks);
-    assert!(rt; drawn == want, "the draw");
-}
-
-// The totals of the seats.
-fn have_drawn<W: Passing>(rt: &impl Abort, seats: &[PassSeat<W>], totals: &[u64]) {
-    for (seat, total) in seats.iter().zip(totals) {
-        assert!(rt; seat.drawn() == *total, "a seat's total");
-    }
 }
 
 // Two seats draw from a window of three blocks.
@@ -293,11 +208,15 @@ fn draw_three<W: Passing, R: Wait + Abort>(rt: &R, alloc: Global, blank: Blank) 
     requires window { W.window ≡ 3 }
 {
     let (book, mut seats) = PassBook::<W>::open(alloc, blank, 3, 2).expect(rt, "memory");
-    draws(rt, &book, &mut seats[0], 2, Ok(()));
+    let drawn = [
+        book.draw(rt, &mut seats[0], 2),
+        book.draw(rt, &mut seats[1], 2),
+        book.draw(rt, &mut seats[1], 1),
+    ];
     let full = Err(WindowFull { left: 1 });
-    draws(rt, &book, &mut seats[1], 2, full);
-    draws(rt, &book, &mut seats[1], 1, Ok(()));
-    have_drawn(rt, &seats, &[2, 1]);
+    assert!(rt; drawn == [Ok(()), full, Ok(())], "what is drawn");
+    let totals = [seats[0].drawn(), seats[1].drawn()];
+    assert!(rt; totals == [2, 1], "the totals of the seats");
     book.close(seats)
 }
 

@@ -12,17 +12,12 @@ use std::process::Abort;
 use std::sync::Wait;
 use std::thread::Threads;
 
-// A packet that a link took has this store and this sequence count.
-fn is_taken(rt: &impl Abort, item: &TakenPacket, name: &str, count: u16) {
-    is_named(rt, &item.store, name);
-    assert!(rt; item.stored.packet.packet().count() == count, "the packet");
-}
-
 // The link took these packets, by their stores and sequence counts.
 fn took(rt: &impl Abort, link: &MemoryLink, sent: &[(&str, u16)]) {
     assert!(rt; link.taken().len() == sent.len(), "as many packets");
     for (item, (name, count)) in link.taken().iter().zip(sent) {
-        is_taken(rt, item, name, *count);
+        is_named(rt, &item.store, *name);
+        assert!(rt; item.stored.packet.packet().count() == *count, "the packet");
     }
 }
 
@@ -76,34 +71,20 @@ fn dumped<L: Link + Send, R: Threads + Wait + Sync + Abort>(
     }
 }
 
-// A store has its channel and holds this many packets, and this many were deleted; none is lost, and no retrieval is on.
-fn has(rt: &impl Abort, store: &Held, held: u32, deleted: u64) {
-    let state = &store.state;
-    let is_idle = state.retrieval().is_none();
-    let found = (
-        store.channel,
-        state.store().len(),
-        state.deleted(),
-        state.lost(),
-        is_idle,
-    );
-    assert!(rt; found == (3, held, deleted, 0, true), "the counters");
-}
-
-// How many packets stores hold, and how many were deleted; nothing else is changed.
+// How many packets the stores of these names hold, and how many were deleted. Each has its channel, none is lost, and no retrieval is on.
 fn have(rt: &impl Abort, stores: &[Held], counts: &[(u32, u64)]) {
     assert!(rt; stores.len() == counts.len(), "as many stores");
-    for (store, name) in stores.iter().zip(&NAMES) {
+    for ((store, name), (held, deleted)) in stores.iter().zip(&NAMES).zip(counts) {
         is_named(rt, &store.id, *name);
-    }
-    for (store, (held, deleted)) in stores.iter().zip(counts) {
-        has(rt, store, *held, *deleted);
+        let (state, channel) = (&store.state, store.channel);
+        let found = (channel, state.store().len(), state.deleted(), state.lost());
+        assert!(rt; found == (3, *held, *deleted, 0), "the counters");
+        assert!(rt; state.retrieval().is_none(), "no retrieval");
     }
 }
 
 // A step: what stores hold, how links fail, and how much is wanted; and then why it ends, how much is spent, what stores hold and
 // deleted, and what each link took and how often it failed.
-#[derive(Clone, Copy)]
 struct Case {
     name: &'static str,
     held: &'static [u16],
@@ -116,117 +97,45 @@ struct Case {
     failures: u64,
 }
 
-// What each link took, and how often it failed.
-fn all_took(rt: &impl Abort, links: &[MemoryLink], case: &Case) {
-    assert!(rt; links.len() == case.until.len(), "as many links");
-    for link in links {
-        took(rt, link, case.sent);
-        assert!(rt; link.failures() == case.failures, "how often it failed");
-    }
-}
-
 // Carries out the step of a case, and compares.
 fn tried<R: Threads + Wait + Sync + Abort>(rt: &R, alloc: Global, case: &Case) {
     let name = case.name;
     let mut stores = stores_with(rt, alloc, case.held);
     let mut links = new_links(rt, alloc, case.until);
-    let Dumped { broken, spent } = dumped(rt, alloc, case.wanted, &mut stores, &mut links);
-    let want = (case.broken, case.spent);
-    assert!(rt;
-        (broken, spent) == want,
-        "{name}: the worst cause, and how much was spent"
-    );
+    let done = dumped(rt, alloc, case.wanted, &mut stores, &mut links);
+    assert!(rt; done.broken == case.broken, "{name}: the worst cause");
+    assert!(rt; done.spent == case.spent, "{name}: how much was spent");
     have(rt, &stores, case.counts);
-    all_took(rt, &links, case);
+    assert!(rt; links.len() == case.until.len(), "{name}: as many links");
+    for link in &links {
+        took(rt, link, case.sent);
+        has_sent(rt, name, link, case.sent.len(), case.failures);
+    }
 }
 
-const OLDEST: Case = Case {
-    name: "the oldest of each store go over one link",
-    held: &[3, 2, 0, 1],
-    until: &[None],
-    wanted: &[2, 0, 4, 3],
-    broken: None,
-    spent: 3,
-    counts: &[(1, 2), (2, 0), (0, 0), (0, 1)],
-    sent: &[("AAA", 1), ("AAA", 2), ("DDD", 1)],
-    failures: 0,
+static CASES: [Case; 7] = table! { Case;
+    name "the oldest of each store go over one link", held &[3, 2, 0, 1], until &[None], wanted &[2, 0, 4, 3],
+        broken None, spent 3, counts &[(1, 2), (2, 0), (0, 0), (0, 1)],
+        sent &[("AAA", 1), ("AAA", 2), ("DDD", 1)], failures 0;
+    name "a step without orders leaves all", held &[1], until &[None, None], wanted &[0],
+        broken None, spent 0, counts &[(1, 0)], sent &[], failures 0;
+    name "all that is held goes", held &[3], until &[None], wanted &[3],
+        broken None, spent 3, counts &[(0, 3)], sent &[("AAA", 1), ("AAA", 2), ("AAA", 3)], failures 0;
+    name "an order for more than is held takes all", held &[3], until &[None], wanted &[5],
+        broken None, spent 3, counts &[(0, 3)], sent &[("AAA", 1), ("AAA", 2), ("AAA", 3)], failures 0;
+    name "a failed first send is spent", held &[3], until &[Some(0)], wanted &[2],
+        broken Some(OrderBroken::LinkFailed), spent 1, counts &[(3, 0)], sent &[], failures 1;
+    name "an order that breaks deletes nothing", held &[3], until &[Some(1)], wanted &[3],
+        broken Some(OrderBroken::LinkFailed), spent 2, counts &[(3, 0)], sent &[("AAA", 1)], failures 1;
+    name "a worker that broke off takes no further order", held &[1, 1, 1], until &[Some(1)], wanted &[1, 1, 1],
+        broken Some(OrderBroken::LinkFailed), spent 2, counts &[(0, 1), (1, 0), (1, 0)], sent &[("AAA", 1)], failures 1;
 };
-
-const ALL_HELD: Case = Case {
-    name: "all that is held goes",
-    held: &[3],
-    wanted: &[3],
-    counts: &[(0, 3)],
-    sent: &[("AAA", 1), ("AAA", 2), ("AAA", 3)],
-    ..OLDEST
-};
-
-const FIRST_SEND_FAILS: Case = Case {
-    name: "a failed first send is spent",
-    until: &[Some(0)],
-    wanted: &[2],
-    broken: Some(OrderBroken::LinkFailed),
-    spent: 1,
-    counts: &[(3, 0)],
-    sent: &[],
-    failures: 1,
-    ..ALL_HELD
-};
-
-const SECOND_SEND_FAILS: Case = Case {
-    name: "an order that breaks deletes nothing",
-    until: &[Some(1)],
-    wanted: &[3],
-    spent: 2,
-    sent: &[("AAA", 1)],
-    ..FIRST_SEND_FAILS
-};
-
-static CASES: [Case; 7] = [
-    OLDEST,
-    Case {
-        name: "a step without orders leaves all",
-        held: &[1],
-        until: &[None, None],
-        wanted: &[0],
-        spent: 0,
-        counts: &[(1, 0)],
-        sent: &[],
-        ..OLDEST
-    },
-    ALL_HELD,
-    Case {
-        name: "an order for more than is held takes all",
-        wanted: &[5],
-        ..ALL_HELD
-    },
-    FIRST_SEND_FAILS,
-    SECOND_SEND_FAILS,
-    Case {
-        name: "a worker that broke off takes no further order",
-        held: &[1, 1, 1],
-        wanted: &[1, 1, 1],
-        counts: &[(0, 1), (1, 0), (1, 0)],
-        ..SECOND_SEND_FAILS
-    },
-];
 
 #[test]
 fn steps_of_dump_workers(rt: HostRuntime) {
     for case in &CASES {
         tried(&rt, rt.alloc(), case);
     }
-}
-
-// A step without orders over three stores.
-fn nothing_dumped<R: Threads + Wait + Sync + Abort>(
-    rt: &R,
-    alloc: Global,
-    stores: &mut Vec<Held>,
-    links: &mut [MemoryLink],
-) {
-    let done = dumped(rt, alloc, &[0, 0, 0], stores, links);
-    assert!(rt; (done.broken, done.spent) == (None, 0), "nothing is done");
 }
 
 // The same step again and again, over links of which each fails at a send of its own, if it is asked for one.
@@ -236,7 +145,8 @@ fn steps_without_orders_change_nothing(rt: HostRuntime) {
     let mut stores = stores_with(&rt, alloc, &[3, 0, 4]);
     let mut links = new_links(&rt, alloc, &[None, Some(0), Some(1), Some(2)]);
     for _ in 0..1000 {
-        nothing_dumped(&rt, alloc, &mut stores, &mut links);
+        let done = dumped(&rt, alloc, &[0, 0, 0], &mut stores, &mut links);
+        assert!(&rt; (done.broken, done.spent) == (None, 0), "nothing is done");
     }
     have(&rt, &stores, &[(3, 0), (0, 0), (4, 0)]);
     for link in &links {
@@ -260,39 +170,21 @@ fn packets_of_a_broken_order_are_sent_again(rt: HostRuntime) {
     }
 }
 
-// How many packets stores hold together.
-fn held_in_all(stores: &[Held]) -> u32 {
-    let mut held = 0u32;
-    for store in stores {
-        held = held.saturating_add(store.state.store().len());
-    }
-    held
-}
-
 // Of three orders the link that fails broke one, or was given none; the other link carried out the rest.
-fn other_went_on(rt: &impl Abort, stores: &[Held], failing: &MemoryLink, other: &MemoryLink) {
-    let kept = held_in_all(stores);
-    assert!(rt; kept <= 1, "one order breaks at the most");
-    let found = (
-        failing.taken().len(),
-        failing.failures(),
-        other.taken().len(),
-    );
-    let want = (0, u64::from(kept), 3 - kept as usize);
-    assert!(rt;
-        found == want,
-        "nothing went over the link that fails, and the other orders are whole"
-    );
-}
-
 #[test]
 fn the_other_worker_goes_on_where_one_broke_off(rt: HostRuntime) {
     let alloc = rt.alloc();
     let mut stores = stores_with(&rt, alloc, &[1, 1, 1]);
     let mut links = new_links(&rt, alloc, &[Some(0), None]);
     dumped(&rt, alloc, &[1, 1, 1], &mut stores, &mut links);
-    match links.as_slice() {
-        [failing, other] => other_went_on(&rt, &stores, failing, other),
-        _ => assert!(rt; false, "two links"),
-    }
+    let kept = stores
+        .iter()
+        .filter(|held| held.state.store().len() == 1)
+        .count();
+    assert!(&rt; kept <= 1, "one order breaks at the most");
+    let [failing, other] = links.as_slice() else {
+        panic!(&rt; "two links");
+    };
+    has_sent(&rt, "the link that fails", failing, 0, kept as u64);
+    has_sent(&rt, "the other link", other, 3 - kept, 0);
 }

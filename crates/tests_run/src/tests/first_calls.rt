@@ -1,6 +1,7 @@
 //! Each function of the crate `callers` once, with what it must answer worked out by hand.
 
 mod flights;
+mod instruments;
 mod rest;
 
 use crate::tests::runs::trials::{ONE_STORE, THREE_STEPS, TWO_PASSES};
@@ -40,38 +41,25 @@ fn telemetry(rt: &impl Abort, alloc: Global, count: u16) -> Packet {
     Packet::tm(header, 1, 2, 3, Octets::new(data).expect(rt, "memory"))
 }
 
-// The APID, the sequence count and the data of a packet of telemetry.
-fn is_telemetry(rt: &impl Abort, packet: &Packet, apid: u16, count: u16, data: &[u8]) {
-    let numbers = (packet.apid(), packet.count(), packet.is_telecommand());
-    assert!(rt; numbers == (apid, count, false), "the numbers");
-    assert!(rt; packet.body() == data, "the data");
-}
-
 #[test]
 fn a_packet_is_read_again(rt: HostRuntime) {
     let packet = telemetry(&rt, rt.alloc(), 5);
     let read = again(rt.alloc(), &packet).expect(&rt, "memory");
-    is_telemetry(&rt, &read, 100, 5, &[7, 9]);
-}
-
-// The sequence count of the packet that a full store hands back.
-fn handed_back(answer: &Put) -> Option<u16> {
-    match answer {
-        Put::KeptOver(_, packet) => Some(packet.packet().count()),
-        Put::Lost(packet) => Some(packet.packet().count()),
-        _ => None,
-    }
+    let numbers = (read.apid(), read.count(), read.is_telecommand());
+    assert!(&rt; numbers == (100, 5, false), "the numbers");
+    assert!(&rt; read.body() == [7, 9].as_slice(), "the data");
 }
 
 // A store of this kind hands the packet of this sequence count back, of the packets 1, 2 and 3.
 fn hands_back(rt: &impl Abort, alloc: Global, kind: Kind, count: u16) {
     let (first, second) = (packet(rt, alloc, 1), packet(rt, alloc, 2));
     let third = packet(rt, alloc, 3);
-    let answer = third_of_two(alloc, kind, first, second, third).expect(rt, "memory");
-    assert!(rt;
-        handed_back(&answer) == Some(count),
-        "the packet handed back"
-    );
+    match third_of_two(alloc, kind, first, second, third).expect(rt, "memory") {
+        Put::KeptOver(_, packet) | Put::Lost(packet) => {
+            assert!(rt; packet.packet().count() == count, "the packet");
+        }
+        _ => panic!(rt; "a packet is handed back"),
+    }
 }
 
 #[test]
@@ -83,15 +71,10 @@ fn one_of_three_packets_is_handed_back(rt: HostRuntime) {
 #[test]
 fn a_request_is_read_again(rt: HostRuntime) {
     let id = *b"SCI     ";
-    match enable_again(rt.alloc(), id).expect(&rt, "memory") {
-        Request::EnableStorage(stores) => {
-            assert!(rt;
-                stores.as_slice() == [Target { id }].as_slice(),
-                "its store"
-            );
-        }
-        _ => assert!(rt; false, "another request"),
-    }
+    let Request::EnableStorage(stores) = enable_again(rt.alloc(), id).expect(&rt, "memory") else {
+        panic!(&rt; "another request");
+    };
+    assert!(rt; stores.as_slice() == [Target { id }].as_slice());
 }
 
 // Two blocks leave in each of the first two steps, and two are lost; or one fewer leaves in the second step, and three are lost.
@@ -108,8 +91,7 @@ fn only_the_least_plan_is_believed(rt: HostRuntime) {
     let (setup, forecast) = (ONE_STORE.as_bytes(), THREE_STEPS.as_bytes());
     for (plan, loss) in &PLANS {
         let found = least_loss(rt.alloc(), setup, forecast, plan.as_bytes());
-        let found = found.expect(&rt, "texts");
-        assert!(rt; found == *loss, "{plan}");
+        assert!(&rt; found.expect(&rt, "texts") == *loss, "{plan}");
     }
 }
 
@@ -139,9 +121,6 @@ fn a_telecommand_is_carried_out(rt: HostRuntime) {
     let mut memory = memory_of(&rt, rt.alloc(), ONE_STORE);
     let (packet, _rest) = Packet::parse(rt.alloc(), &DISABLE).expect(&rt, "a packet");
     let answers = carried_out(rt.alloc(), &mut memory, 1, &packet).expect(&rt, "a request");
-    assert!(rt;
-        answers.each.as_slice() == [Answer::Done].as_slice(),
-        "the answer"
-    );
+    assert!(rt; answers.each.as_slice() == [Answer::Done].as_slice());
     is_off(&rt, &memory);
 }

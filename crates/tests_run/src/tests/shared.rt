@@ -4,11 +4,11 @@ ghost use Rattle.mm_shared.specs.Views.{new_ports};
 
 use crate::tests::calls::Call;
 use crate::tests::gates::comes_to;
-use crate::tests::samples::{has, id, is_named, new_state, store_with, stores_with};
+use crate::tests::samples::{counts, has, id, is_named, new_state, store_with, stores_with};
 use growths::calls::{Ask, Told};
 use growths::shared::answer;
 use mm_base::Kind;
-use mm_desk::{Fault, Held, StoreState};
+use mm_desk::{Fault, StoreState};
 use mm_shared::{Port, Ports, SharedStores, StoreLabel, close_all, open_all};
 use std::alloc::Global;
 use std::process::Abort;
@@ -22,9 +22,7 @@ fn opened(rt: &impl Abort, alloc: Global, state: StoreState, seats: u32) -> (Sha
     ensures seats { result.0.seats ≡ seats }
     ensures one { length result.0.openings ≡ 1 }
 {
-    let mut states = Vec::new(alloc);
-    assert!(rt; states.push(state).is_ok(), "memory");
-    assert!(rt; states.len() == 1, "one store");
+    let states = vec![in alloc; state].expect(rt, "memory");
     match SharedStores::open(alloc, states, seats) {
         Ok(opened) => opened,
         Err(_) => panic!(rt; "memory"),
@@ -45,10 +43,7 @@ fn closed(rt: &impl Abort, alloc: Global, stores: SharedStores, ports: Option<Po
         Some(ports) => stores.close(ports, &[label], &mut back),
         None => stores.into_stores(&[label], &mut back),
     }
-    match back.pop() {
-        Some(held) => held.state,
-        None => panic!(rt; "no store"),
-    }
+    back.pop().expect(rt, "a store").state
 }
 
 // Asks a store in turn through a port, and compares the answers.
@@ -87,31 +82,23 @@ static EACH_CALL: [Call; 13] = [
     (Ask::Delete(9), Told::Deleted(1)),
 ];
 
-// What a store is left with that was asked this through its only port.
-fn left_by<R: Wait + Abort>(
-    rt: &R,
-    alloc: Global,
-    state: StoreState,
-    table: &[Call],
-) -> StoreState {
-    let (stores, mut ports) = opened(rt, alloc, state, 1);
-    let mut port = stores.split(&mut ports);
-    asks(rt, alloc, &stores, &mut port, table);
-    stores.join(&mut ports, port);
-    closed(rt, alloc, stores, Some(ports))
-}
-
 // The counters of a store, and whether its storage is on.
 fn is_left(rt: &impl Abort, state: &StoreState, want: [u64; 4], storage: bool) {
     has(rt, state, want);
     assert!(rt; state.storage() == storage, "storage");
 }
 
+const KINDS: [Kind; 2] = [Kind::Bounded, Kind::Circular];
+
 #[test]
 fn each_call_answers_what_the_store_does(rt: HostRuntime) {
-    for kind in [Kind::Bounded, Kind::Circular] {
-        let state = new_state(&rt, rt.alloc(), kind);
-        let state = left_by(&rt, rt.alloc(), state, &EACH_CALL);
+    let alloc = rt.alloc();
+    for kind in KINDS {
+        let (stores, mut ports) = opened(&rt, alloc, new_state(&rt, alloc, kind), 1);
+        let mut port = stores.split(&mut ports);
+        asks(&rt, alloc, &stores, &mut port, &EACH_CALL);
+        stores.join(&mut ports, port);
+        let state = closed(&rt, alloc, stores, Some(ports));
         is_left(&rt, &state, [1, 0, 1, 0], false);
     }
 }
@@ -124,14 +111,13 @@ fn a_store_without_calls_is_as_it_was(rt: HostRuntime) {
     is_left(&rt, &state, [3, 0, 0, 3], true);
 }
 
-static ONE_MORE: [Call; 1] = [(Ask::Offer(90, 3), Told::Kept(90))];
-
 #[test]
 fn a_state_comes_out_without_the_ports(rt: HostRuntime) {
     let alloc = rt.alloc();
     let (stores, mut ports) = opened(&rt, alloc, store_with(&rt, alloc, Kind::Bounded, 2), 1);
     let mut port = stores.split(&mut ports);
-    asks(&rt, alloc, &stores, &mut port, &ONE_MORE);
+    let one_more = [(Ask::Offer(90, 3), Told::Kept(90))];
+    asks(&rt, alloc, &stores, &mut port, &one_more);
     let state = closed(&rt, alloc, stores, None);
     is_left(&rt, &state, [3, 0, 0, 3], true);
 }
@@ -199,15 +185,16 @@ fn plays<R: Wait + Abort>(
     port
 }
 
-// Two threads at a store that begins in this state, each by its own port. It is closed afterwards.
+// The counters of a store of this kind with some packets, after two threads were at it, each by its own port.
 fn shared_by<R: Threads + Wait + Sync + Abort>(
     rt: &R,
     alloc: Global,
-    state: StoreState,
+    kind: Kind,
+    held: u16,
     parts: (Part, Part),
-) -> StoreState {
+) -> [u64; 4] {
     let (first, second) = parts;
-    let (stores, mut ports) = opened(rt, alloc, state, 2);
+    let (stores, mut ports) = opened(rt, alloc, store_with(rt, alloc, kind, held), 2);
     let one = stores.split(&mut ports);
     let two = stores.split(&mut ports);
     let count = AtomicU64::new(0);
@@ -225,43 +212,24 @@ fn shared_by<R: Threads + Wait + Sync + Abort>(
     );
     stores.join(&mut ports, two);
     stores.join(&mut ports, one);
-    closed(rt, alloc, stores, Some(ports))
-}
-
-// Two threads at a store of each kind with some packets, and its counters afterwards.
-fn counted<R: Threads + Wait + Sync + Abort>(
-    rt: &R,
-    alloc: Global,
-    held: u16,
-    parts: (Part, Part),
-    want: [u64; 4],
-) {
-    for kind in [Kind::Bounded, Kind::Circular] {
-        let state = store_with(rt, alloc, kind, held);
-        let left = shared_by(rt, alloc, state, parts);
-        has(rt, &left, want);
-    }
+    counts(&closed(rt, alloc, stores, Some(ports)))
 }
 
 // All offers are counted, and four packets kept.
 #[test]
 fn two_threads_at_one_store(rt: HostRuntime) {
-    counted(&rt, rt.alloc(), 0, (CROWDS, CROWDS), [1002, 998, 0, 4]);
+    for kind in KINDS {
+        let counts = shared_by(&rt, rt.alloc(), kind, 0, (CROWDS, CROWDS));
+        assert!(&rt; counts == [1002, 998, 0, 4], "the counters");
+    }
 }
 
 // The packet that was there is held, and the one offered.
 #[test]
 fn no_lock_is_held_while_a_packet_is_sent(rt: HostRuntime) {
-    let parts = (SENDS, OFFERS_MEANWHILE);
-    counted(&rt, rt.alloc(), 1, parts, [2, 0, 0, 2]);
-}
-
-// The stores are under their names, in order, and hold one packet and two.
-fn stand(rt: &impl Abort, stores: &[Held]) {
-    assert!(rt; stores.len() == 2, "two stores");
-    for (store, (name, held)) in stores.iter().zip(&[("AAA", 1), ("BBB", 2)]) {
-        is_named(rt, &store.id, *name);
-        is_left(rt, &store.state, [*held, 0, 0, *held], true);
+    for kind in KINDS {
+        let counts = shared_by(&rt, rt.alloc(), kind, 1, (SENDS, OFFERS_MEANWHILE));
+        assert!(&rt; counts == [2, 0, 0, 2], "the counters");
     }
 }
 
@@ -275,5 +243,9 @@ fn stores_are_given_back_in_order(rt: HostRuntime) {
     let many = (opened.workers.len(), opened.labels.len());
     assert!(rt; many == (3, 2), "three workers at two stores");
     close_all(opened, &mut stores);
-    stand(&rt, &stores);
+    assert!(&rt; stores.len() == 2, "two stores");
+    for (store, (name, held)) in stores.iter().zip(&[("AAA", 1), ("BBB", 2)]) {
+        is_named(&rt, &store.id, *name);
+        is_left(&rt, &store.state, [*held, 0, 0, *held], true);
+    }
 }

@@ -3,27 +3,22 @@
 use crate::tests::calls::Call;
 use crate::tests::samples::{has, is_told, new_state, packet};
 use growths::calls::{Ask, Told, told_of, told_of_delete, told_of_offer};
-use mm_base::{Kind, Refused};
+use mm_base::Kind;
 use mm_desk::{Fault, StoreState};
 use mm_store::PacketStore;
 use std::alloc::Global;
 use std::process::Abort;
-
-// What the next packet of a retrieval is told as.
-fn told_of_next(state: &mut StoreState) -> Told {
-    match state.next() {
-        Ok(Some((time, packet))) => Told::Given(time, packet.packet().count()),
-        Ok(None) => Told::End,
-        Err(fault) => Told::Refused(fault),
-    }
-}
 
 // Asks a store.
 fn answer(rt: &impl Abort, alloc: Global, state: &mut StoreState, ask: Ask) -> Told {
     match ask {
         Ask::Offer(now, count) => told_of_offer(&state.offer(now, packet(rt, alloc, count))),
         Ask::Begin(from, to) => told_of(state.begin(from, to)),
-        Ask::Next => told_of_next(state),
+        Ask::Next => match state.next() {
+            Ok(Some((time, packet))) => Told::Given(time, packet.packet().count()),
+            Ok(None) => Told::End,
+            Err(fault) => Told::Refused(fault),
+        },
         Ask::Abort => told_of(state.abort()),
         Ask::Delete(limit) => told_of_delete(state.delete(limit)),
         Ask::Enable => {
@@ -48,13 +43,23 @@ fn asks(rt: &impl Abort, alloc: Global, state: &mut StoreState, table: &[Call]) 
     }
 }
 
-// The packets 1, 2 and 3 come to stand at the times 7, 8 and 9.
-static THREE: [Call; 4] = [
-    (Ask::Enable, Told::Done),
-    (Ask::Offer(7, 1), Told::Kept(7)),
-    (Ask::Offer(7, 2), Told::Kept(8)),
-    (Ask::Offer(9, 3), Told::Kept(9)),
-];
+// An empty store of this kind answers these calls in turn, and then has these counters.
+fn answers(
+    rt: &impl Abort,
+    alloc: Global,
+    kind: Kind,
+    tables: [&[Call]; 2],
+    want: [u64; 4],
+) -> StoreState {
+    let mut state = new_state(rt, alloc, kind);
+    let [first, second] = tables;
+    asks(rt, alloc, &mut state, first);
+    asks(rt, alloc, &mut state, second);
+    has(rt, &state, want);
+    state
+}
+
+const KINDS: [Kind; 2] = [Kind::Circular, Kind::Bounded];
 
 static CLOCK: [Call; 6] = [
     (Ask::Enable, Told::Done),
@@ -67,19 +72,12 @@ static CLOCK: [Call; 6] = [
 
 static START: [Call; 2] = [(Ask::Enable, Told::Done), (Ask::Offer(0, 1), Told::Kept(1))];
 
-// The times of a store of this kind rise.
-fn rises(rt: &impl Abort, alloc: Global, kind: Kind) {
-    let mut state = new_state(rt, alloc, kind);
-    asks(rt, alloc, &mut state, &CLOCK);
-    has(rt, &state, [3, 0, 1, 2]);
-    let mut state = new_state(rt, alloc, kind);
-    asks(rt, alloc, &mut state, &START);
-}
-
 #[test]
 fn times_rise(rt: HostRuntime) {
-    rises(&rt, rt.alloc(), Kind::Circular);
-    rises(&rt, rt.alloc(), Kind::Bounded);
+    for kind in KINDS {
+        answers(&rt, rt.alloc(), kind, [&CLOCK, &[]], [3, 0, 1, 2]);
+        answers(&rt, rt.alloc(), kind, [&START, &[]], [1, 0, 0, 1]);
+    }
 }
 
 static FULL: [Call; 8] = [
@@ -96,47 +94,45 @@ static FULL: [Call; 8] = [
     (Ask::Resize(1), Told::Refused(Fault::HoldsMore)),
 ];
 
-static BOUNDED: [Call; 5] = [
-    (Ask::ChangeKind(Kind::Bounded), Told::Done),
-    (Ask::Enable, Told::Done),
-    (Ask::Offer(9, 3), Told::Lost(3)),
-    (Ask::Disable, Told::Done),
-    (Ask::Resize(3), Told::Done),
-];
-
-static CIRCULAR: [Call; 5] = [
-    (Ask::ChangeKind(Kind::Circular), Told::Done),
-    (Ask::Enable, Told::Done),
-    (Ask::Offer(9, 3), Told::KeptOver(9, 1)),
-    (Ask::Disable, Told::Done),
-    (Ask::Resize(3), Told::Done),
-];
-
-// A store is of this kind, of three blocks, and lost one packet of three.
-fn has_changed(rt: &impl Abort, state: &StoreState, kind: Kind) {
-    assert!(rt; state.store().kind() == kind, "the kind");
+// A full store of another kind becomes one of this kind, which answers this to an offer, and is then resized to three blocks.
+fn changes(rt: &impl Abort, alloc: Global, from: Kind, to: Kind, told: Told) {
+    let changed = [
+        (Ask::ChangeKind(to), Told::Done),
+        (Ask::Enable, Told::Done),
+        (Ask::Offer(9, 3), told),
+        (Ask::Disable, Told::Done),
+        (Ask::Resize(3), Told::Done),
+    ];
+    let state = answers(rt, alloc, from, [&FULL, &changed], [3, 1, 0, 2]);
+    assert!(rt; state.store().kind() == to, "the kind");
     assert!(rt; state.store().size() == 3, "the size");
-    has(rt, state, [3, 1, 0, 2]);
 }
 
 #[test]
 fn change_kind_and_resize(rt: HostRuntime) {
-    let mut state = new_state(&rt, rt.alloc(), Kind::Circular);
-    asks(&rt, rt.alloc(), &mut state, &FULL);
-    asks(&rt, rt.alloc(), &mut state, &BOUNDED);
-    has_changed(&rt, &state, Kind::Bounded);
-    let mut state = new_state(&rt, rt.alloc(), Kind::Bounded);
-    asks(&rt, rt.alloc(), &mut state, &FULL);
-    asks(&rt, rt.alloc(), &mut state, &CIRCULAR);
-    has_changed(&rt, &state, Kind::Circular);
+    changes(
+        &rt,
+        rt.alloc(),
+        Kind::Circular,
+        Kind::Bounded,
+        Told::Lost(3),
+    );
+    changes(
+        &rt,
+        rt.alloc(),
+        Kind::Bounded,
+        Kind::Circular,
+        Told::KeptOver(9, 1),
+    );
 }
 
-// A store of this kind with the packets 1, 2 and 3.
-fn with_three(rt: &impl Abort, alloc: Global, kind: Kind) -> StoreState {
-    let mut state = new_state(rt, alloc, kind);
-    asks(rt, alloc, &mut state, &THREE);
-    state
-}
+// The packets 1, 2 and 3 come to stand at the times 7, 8 and 9.
+static THREE: [Call; 4] = [
+    (Ask::Enable, Told::Done),
+    (Ask::Offer(7, 1), Told::Kept(7)),
+    (Ask::Offer(7, 2), Told::Kept(8)),
+    (Ask::Offer(9, 3), Told::Kept(9)),
+];
 
 static BUSY: [Call; 8] = [
     (Ask::Begin(1, 255), Told::Done),
@@ -149,17 +145,11 @@ static BUSY: [Call; 8] = [
     (Ask::Delete(255), Told::Deleted(3)),
 ];
 
-// A retrieval makes a store of this kind busy.
-fn is_made_busy(rt: &impl Abort, alloc: Global, kind: Kind) {
-    let mut state = with_three(rt, alloc, kind);
-    asks(rt, alloc, &mut state, &BUSY);
-    has(rt, &state, [3, 0, 3, 0]);
-}
-
 #[test]
 fn retrieval_makes_busy(rt: HostRuntime) {
-    is_made_busy(&rt, rt.alloc(), Kind::Circular);
-    is_made_busy(&rt, rt.alloc(), Kind::Bounded);
+    for kind in KINDS {
+        answers(&rt, rt.alloc(), kind, [&THREE, &BUSY], [3, 0, 3, 0]);
+    }
 }
 
 static RANGE: [Call; 10] = [
@@ -175,19 +165,13 @@ static RANGE: [Call; 10] = [
     (Ask::Offer(10, 5), Told::Back(Fault::Disabled, 5)),
 ];
 
-// A retrieval by range from a store of this kind.
-fn gives_a_range(rt: &impl Abort, alloc: Global, kind: Kind) {
-    let mut state = with_three(rt, alloc, kind);
-    asks(rt, alloc, &mut state, &RANGE);
-    has(rt, &state, [3, 0, 2, 1]);
-    assert!(rt; !state.storage(), "its storage is off");
-    assert!(rt; state.retrieval().is_none(), "no retrieval is on");
-}
-
 #[test]
 fn retrieval_by_range(rt: HostRuntime) {
-    gives_a_range(&rt, rt.alloc(), Kind::Circular);
-    gives_a_range(&rt, rt.alloc(), Kind::Bounded);
+    for kind in KINDS {
+        let state = answers(&rt, rt.alloc(), kind, [&THREE, &RANGE], [3, 0, 2, 1]);
+        assert!(&rt; !state.storage(), "its storage is off");
+        assert!(&rt; state.retrieval().is_none(), "no retrieval is on");
+    }
 }
 
 // The fourth packet fills the store, and the two after it overwrite those at 7 and 8.
@@ -206,9 +190,8 @@ static OVERWRITTEN: [Call; 10] = [
 
 #[test]
 fn a_retrieval_gives_each_packet_once(rt: HostRuntime) {
-    let mut state = with_three(&rt, rt.alloc(), Kind::Circular);
-    asks(&rt, rt.alloc(), &mut state, &OVERWRITTEN);
-    has(&rt, &state, [6, 2, 0, 4]);
+    let tables: [&[Call]; 2] = [&THREE, &OVERWRITTEN];
+    answers(&rt, rt.alloc(), Kind::Circular, tables, [6, 2, 0, 4]);
 }
 
 #[test]

@@ -1,9 +1,10 @@
 use Rattle.std.proofs.Common.{◌≡◌, ◌∙◌, List, length, refl, sym, ap, subst}
-use Rattle.mm_desk.specs.declared.held.Held.{Held}
 use Rattle.mm_memory.specs.Holdings.{Holdings}
 use Rattle.mm_memory.specs.Laws.{ids_of}
 use Rattle.mm_exec.specs.RunInput.{run_input}
-use Rattle.mm_exec.specs.RunState.{RunState}
+use Rattle.mm_exec.specs.RunState.{RunState, with_supplies}
+use Rattle.mm_exec.specs.Step.{NeverRefused}
+use Rattle.mm_record.specs.Supplies.{Supply, supplies, WhateverComes}
 use Rattle.mm_exec.specs.Course.{AreWithinLimits}
 use Rattle.mm_exec.specs.Ending.{over_memory, HasRun, IsStopped}
 use Rattle.mm_exec.proofs.Ended.{left_ids, total_is}
@@ -30,31 +31,46 @@ left_back g c =
 pub restore-requires-clause-are_held : goal.restore-requires-clause-are_held
 restore-requires-clause-are_held g c =
     let first = over_memory (record { stores = c.lift.result.items; routes = c.control.result.now }) c.args.sources.items c.args.links.items in
-    let ids = left_ids g.S.Source.gives g.L.Link.sent g.L.Link.failed _ c.args.plan.now first c.carry_plan-ended.new.self refl (length c.args.problem.now.windows)
-    c.carry_plan-ended.result c.carry_plan-ended.ensures.done c.carry_plan-ended.ensures.stopped in
+    let input = λ (given : List Supply). run_input c.args.problem.now c.args.plan.now c.args.base (record { stores = c.lift.result.items; routes = c.control.result.now }) given in
+    let ids = left_ids g.S.AnySource.leads g.S.AnySource.until c.sources_may_stay.ensures.law g.L.Link.sent g.L.Link.failed input c.args.plan.now first c.carry_plan-ended.new.self
+    (λ given. refl) (length c.args.problem.now.windows) c.carry_plan-ended.result c.carry_plan-ended.ensures.done c.carry_plan-ended.ensures.stopped in
     let back = ap (λ (x : RunState g.row.S.Denot g.row.L.Denot). ids_of x.stores) c.parts.view_is in
     c.identifiers_decide_what_is_restored.ensures.law c.args.memory.now.stores c.parts.inside.stores.items
     (sym (back ∙ ids ∙ ap ids_of c.lift.ensures.stores)) c.lift.ensures.are_held
+
+-- what holds of the run over what was lent, whatever its sources give, holds of it over the memory
+given_back : (g : given.Over) (c : goal.After-restore g) (P : Holdings → RunState g.row.S.Denot g.row.L.Denot → List Supply → List Supply → Type 0)
+    → WhateverComes g.S.AnySource.leads g.S.AnySource.until c.args.sources.items c.carry_plan-ended.new.self.sources
+    (P (record { stores = c.lift.result.items; routes = c.control.result.now }) c.carry_plan-ended.new.self)
+    → WhateverComes g.S.AnySource.leads g.S.AnySource.until c.args.sources.items c.parts.inside.sources.items
+    (P c.args.memory.now (over_memory c.restore.new.self c.parts.inside.sources.items c.parts.inside.links.items))
+given_back g c P holds =
+    let Comes = λ (m : Holdings) (left : RunState g.row.S.Denot g.row.L.Denot). WhateverComes g.S.AnySource.leads g.S.AnySource.until c.args.sources.items left.sources (P m left) in
+    subst (Comes c.args.memory.now) (left_back g c) (lent g c (λ (m : Holdings). Comes m c.carry_plan-ended.new.self) holds)
 
 pub returns-in-Ok-clause-carried_out : goal.returns-in-Ok-clause-carried_out
 returns-in-Ok-clause-carried_out g c =
     let at = (goal.at.returns-in-Ok-clause-carried_out g c).After-restore in
     let n = length c.args.problem.now.windows in
-    let input = λ (m : Holdings). run_input g.S.Source.gives c.args.problem.now c.args.plan.now c.args.base m c.args.sources.items in
-    let Ran = λ (m : Holdings) (left : RunState g.row.S.Denot g.row.L.Denot).
-    HasRun g.S.Source.gives g.L.Link.sent g.L.Link.failed (input m) c.args.plan.now (over_memory m c.args.sources.items c.args.links.items) n left c.in-Ok.report in
-    let ran = subst (Ran c.args.memory.now) (left_back g at) (lent g at (λ (m : Holdings). Ran m c.carry_plan-ended.new.self) c.in-Ok.ensures.done) in
-    record { routes = routes_kept g at; ran = ran; total_lost = total_is (input c.args.memory.now) c.in-Ok.report ran.done.report_is }
+    let input = λ (m : Holdings) (given : List Supply). run_input c.args.problem.now c.args.plan.now c.args.base m given in
+    let Ran = λ (m : Holdings) (after : RunState g.row.S.Denot g.row.L.Denot) (given left : List Supply).
+    HasRun g.L.Link.sent g.L.Link.failed (input m given) c.args.plan.now (over_memory m given c.args.links.items) n (with_supplies after left) c.in-Ok.report in
+    λ lasts lead.
+    let ran = given_back g at Ran c.in-Ok.ensures.done lasts lead in
+    (ran.0, record { routes = routes_kept g at; ran = ran.1; total_lost = total_is (input c.args.memory.now (supplies g.S.AnySource.until c.args.sources.items lasts)) c.in-Ok.report ran.1.done.report_is })
 
 pub returns-in-Err-clause-halted : goal.returns-in-Err-clause-halted
 returns-in-Err-clause-halted g c =
     let at = (goal.at.returns-in-Err-clause-halted g c).After-restore in
-    let Ended = λ (m : Holdings) (left : RunState g.row.S.Denot g.row.L.Denot).
-    IsStopped g.S.Source.gives g.L.Link.sent g.L.Link.failed (run_input g.S.Source.gives c.args.problem.now c.args.plan.now c.args.base m c.args.sources.items) c.args.plan.now
-    (over_memory m c.args.sources.items c.args.links.items) left c.in-Err.field-0 in
-    (routes_kept g at, subst (Ended c.args.memory.now) (left_back g at) (lent g at (λ (m : Holdings). Ended m c.carry_plan-ended.new.self) c.in-Err.ensures.stopped))
+    let Ended = λ (m : Holdings) (after : RunState g.row.S.Denot g.row.L.Denot) (given left : List Supply).
+    IsStopped g.L.Link.sent g.L.Link.failed (run_input c.args.problem.now c.args.plan.now c.args.base m given) c.args.plan.now
+    (over_memory m c.args.sources.items c.args.links.items) after left c.in-Err.field-0 in
+    λ lasts lead.
+    let ended = given_back g at Ended c.in-Err.ensures.stopped lasts lead in
+    (ended.0, (routes_kept g at, ended.1))
 
 pub returns-in-Err-clause-far : goal.returns-in-Err-clause-far
-returns-in-Err-clause-far g c = λ limits.
-    c.in-Err.ensures.far
-    (subst (λ (held : List Held). AreWithinLimits g.S.Source.gives (length c.args.problem.now.windows) held c.args.sources.items) (sym c.lift.ensures.stores) limits)
+returns-in-Err-clause-far g c =
+    let at = (goal.at.returns-in-Err-clause-far g c).After-restore in
+    given_back g at (λ (m : Holdings) (after : RunState g.row.S.Denot g.row.L.Denot) (given left : List Supply).
+    AreWithinLimits (length c.args.problem.now.windows) m.stores given → NeverRefused c.in-Err.field-0.broken.cause) c.in-Err.ensures.far

@@ -1,7 +1,11 @@
-use Rattle.std.proofs.Common.{rules, ◌≡◌, length, subst, ap, ◌∙◌, inr}
+use Rattle.std.proofs.Common.{rules, ◌≡◌, length, map, subst, ap, ◌∙◌, inr, All, Some}
+use Rattle.mm_desk.specs.Machine.{IsState}
+use Rattle.mm_record.specs.Causes.{cause_in}
+use Rattle.mm_record.specs.Supplies.{WhateverComes}
+use Rattle.mm_record.proofs.Supplying.{comes_weaker}
 use Rattle.mm_memory.specs.Holdings.{Holdings}
 use Rattle.mm_shared.specs.Stores.{labels_of}
-use Rattle.mm_record.specs.Counters.{AreRows}
+use Rattle.mm_record.specs.Counters.{counters_of, AreRows}
 use Rattle.mm_record.specs.MemorySteps.{recording_of}
 use Rattle.mm_record.specs.Steps.{Records}
 use Rattle.mm_record.proofs.Memories.{named_of, held_as, records_as, not_caused, recorded_of, ended_of}
@@ -20,14 +24,16 @@ restore-requires-clause-are_held g c =
 
 -- what the recorders leave, of the memory's own stores, and the memory with it
 restored : (g : given.Over) (c : goal.In-Ok-done g)
-    → Records g.S.Source.gives (recording_of c.args.step c.args.now c.args.memory.now) c.args.memory.now.stores c.record-done.new.stores.items c.args.sources.now c.record-done.new.sources c.in-Ok-done.why
+    → WhateverComes g.S.AnySource.leads g.S.AnySource.until c.args.sources.now c.record-done.new.sources
+    (Records (recording_of c.args.step c.args.now c.args.memory.now) c.args.memory.now.stores c.record-done.new.stores.items c.in-Ok-done.why)
     × (c.restore.new.self ≡ record c.args.memory.now { stores = c.record-done.new.stores.items })
 restored g c =
     let memory = c.args.memory.now in
     let after = c.record-done.new.stores.items in
     let routes : c.control.result.now ≡ memory.routes = c.control.ensures.rows ∙ ap (λ (m : Holdings). m.routes) c.lift-stores.ensures.left in (
-      records_as g.S.Source.gives c.args.step c.args.now c.control.result.now memory.routes c.lift-stores.result.items memory.stores after
-          c.args.sources.now c.record-done.new.sources c.in-Ok-done.why routes c.lift-stores.ensures.stores c.in-Ok-done.ensures.records,
+      comes_weaker g.S.AnySource.leads g.S.AnySource.until c.args.sources.now c.record-done.new.sources _ _
+          (λ given left records. records_as c.args.step c.args.now c.control.result.now memory.routes c.lift-stores.result.items memory.stores after
+          c.in-Ok-done.why given left routes c.lift-stores.ensures.stores records) c.in-Ok-done.ensures.records,
       c.restore.ensures.after ∙ ap (λ (m : Holdings). record m { stores = after }) c.lift-stores.ensures.left,
     )
 
@@ -39,12 +45,17 @@ returns-in-None-clause-ok g c =
     let rows : AreRows c.in-Ok.rows.before.items after (length after) c.changes_of-recorded.result.items =
     subst (λ ss. AreRows c.in-Ok.rows.before.items ss (length ss) c.changes_of-recorded.result.items) c.deref.ensures.value c.changes_of-recorded.ensures.rows in
     let done = not_caused c.args.step c.in-Ok-done.why (search rules) in
-    recorded_of g.S.Source.gives (recording_of c.args.step c.args.now memory) memory c.restore.new.self after c.args.sources.now c.record-done.new.sources c.in-Ok-done.why back.0 back.1
-    c.in-Ok.rows.before.items _ c.any_order_loses_alike.ensures.leaves (search rules) (search rules) rows done
+    let sound : All (λ h. IsState h.state) memory.stores = search rules in
+    let counters : c.in-Ok.rows.before.items ≡ map (λ h. counters_of h.state) memory.stores = search rules in
+    comes_weaker g.S.AnySource.leads g.S.AnySource.until c.args.sources.now c.record-done.new.sources _ _
+    (λ given left records. recorded_of (recording_of c.args.step c.args.now memory) memory c.restore.new.self after c.in-Ok-done.why given left records back.1
+    c.in-Ok.rows.before.items _ c.any_order_loses_alike.ensures.leaves sound counters rows done) back.0
 
 pub returns-in-Some-clause-err : goal.returns-in-Some-clause-err
 returns-in-Some-clause-err g c =
     let memory = c.args.memory.now in
     let after = c.record-done.new.stores.items in
     let back = restored g ((goal.at.returns-in-Some-clause-err g c).In-Ok-done) in
-    inr (ended_of g.S.Source.gives (recording_of c.args.step c.args.now memory) memory c.restore.new.self after c.args.sources.now c.record-done.new.sources c.in-Ok-done.why back.0 back.1 _ (search rules))
+    let ended : cause_in c.args.step c.in-Ok-done.why ≡ Some c.in-Some.cause = search rules in
+    inr (comes_weaker g.S.AnySource.leads g.S.AnySource.until c.args.sources.now c.record-done.new.sources _ _
+    (λ given left records. ended_of (recording_of c.args.step c.args.now memory) memory c.restore.new.self after c.in-Ok-done.why given left records back.1 c.in-Some.cause ended) back.0)

@@ -1,10 +1,12 @@
-use Rattle.std.proofs.Common.{rules, ◌≡◌, length, sym, subst, ap, ◌∙◌, arith}
+use Rattle.std.proofs.Common.{rules, ◌≡◌, ◌≤◌, length, sym, subst, ap, ◌∙◌, arith}
 use Rattle.std.specs.Vec.{with_items}
 use Rattle.std.proofs.lemmas.List.{with_items_is}
 use Rattle.mm_shared.specs.Stores.{all_ends, states_of, AreNamed, HaveLegalLogs}
 use Rattle.mm_shared.proofs.StillOpen.{still_open}
 use Rattle.mm_record.specs.Recorded.{open_recording}
 use Rattle.mm_record.specs.Recorders.{HaveRun}
+use Rattle.mm_record.specs.Supplies.{supplies, WhateverComes}
+use Rattle.mm_record.proofs.Supplying.{length-supplies, zip_long}
 use Rattle.mm_record.proofs.Runs.{may_of}
 use Rattle.mm_record.proofs.Steps.{ids_open, records_of}
 use Rattle.mm_record.proofs.step.record.Goals as goal
@@ -34,7 +36,14 @@ returns-clause-records g c =
     let step = c.args.step.now in
     let written = with_items_is it.workers c.record_all-why.new.workers (omega (arith, c.record_all-why.auto.workers, c.deref_mut.ensures.len, it.workers.ok.0)) in
     let logs = subst (λ ws. HaveLegalLogs ws it.stores.openings (states_of c.close_all.new.stores.items)) written c.close_all.ensures.went in
-    let ran = subst (λ ss. HaveRun g.S.Source.gives (open_recording step.step step.now step.control.now ss) c.args.sources.now c.record_all-why.new.sources c.record_all-why.new.workers c.record_all-why.result)
-    c.deref.ensures.value c.record_all-why.ensures.run in
-    records_of g.S.Source.gives step.step step.now step.control.now c.args.stores.now.items c.close_all.new.stores.items it.labels.items it.stores.openings c.args.sources.now c.record_all-why.new.sources
-    c.record_all-why.new.workers c.record_all-why.result new.labels new.states c.close_all.ensures.labels c.close_all.ensures.sound logs ran c.requires.many
+    let ran = subst (λ ss. WhateverComes g.S.AnySource.leads g.S.AnySource.until c.args.sources.now c.record_all-why.new.sources
+    (HaveRun (open_recording step.step step.now step.control.now ss) c.record_all-why.new.workers c.record_all-why.result)) c.deref.ensures.value c.record_all-why.ensures.run in
+    λ lasts lead.
+    let one = ran lasts lead in
+    let many : length (supplies g.S.AnySource.until c.args.sources.now lasts) ≤ 16 =
+    omega (arith, c.requires.many, length-supplies g.S.AnySource.until c.args.sources.now lasts (zip_long g.S.AnySource.leads _ _ one.0)) in (
+      one.0,
+      records_of step.step step.now step.control.now c.args.stores.now.items c.close_all.new.stores.items it.labels.items it.stores.openings
+          (supplies g.S.AnySource.until c.args.sources.now lasts) (supplies g.S.AnySource.until c.record_all-why.new.sources lasts)
+          c.record_all-why.new.workers c.record_all-why.result new.labels new.states c.close_all.ensures.labels c.close_all.ensures.sound logs one.1 many,
+    )

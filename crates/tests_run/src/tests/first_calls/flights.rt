@@ -2,13 +2,13 @@
 ghost use Rattle.std.specs.Prelude.{◌<◌, ◌-◌, ◌^◌, All};
 
 use super::setup_of;
-use crate::tests::runs::trials::{FIRST_RUN, ONE_STORE, TWO_PASSES, Trial, has_cause};
+use crate::tests::runs::trials::{FIRST_RUN, ONE_STORE, TWO_PASSES, Trial};
 use crate::tests::samples::{id, packet};
 use callers::ends::{Burst, Downlink};
 use callers::flight::{Told, plan_and_fly};
 use callers::halt::{carry_out_or_tell, carry_out_over_used};
 use mm_desk::StoreState;
-use mm_exec::{Cause, Halted, RunEnd};
+use mm_exec::{Cause, Halted};
 use mm_store::PacketStore;
 use std::alloc::Global;
 use std::collections::VecDeque;
@@ -70,18 +70,6 @@ fn first_run<R: Threads + Wait + Sync + Abort>(
     plan_and_fly(rt, alloc, &setup, &trial.problem, sources, links)
 }
 
-// A run lost so many packets, by the plan of the first run.
-fn has_lost(rt: &impl Abort, told: &Told, lost: u128) {
-    assert!(rt; told.lost == lost, "how many were lost");
-    assert!(rt;
-        told.flown.sheet.as_slice() == TWO_PASSES.as_bytes(),
-        "the plan"
-    );
-    for link in &told.flown.links {
-        has_taken(rt, link, 4, 0);
-    }
-}
-
 // Where one packet more comes than was forecast, one more is lost than the plan says, and the plan is the same.
 #[test]
 fn what_was_printed_is_lost(rt: HostRuntime) {
@@ -89,7 +77,12 @@ fn what_was_printed_is_lost(rt: HostRuntime) {
         let Ok(told) = first_run(&rt, rt.alloc(), third, 9) else {
             panic!(&rt; "the plan is carried out");
         };
-        has_lost(&rt, &told, lost);
+        assert!(&rt; told.lost == lost, "how many were lost");
+        let sheet = told.flown.sheet.as_slice();
+        assert!(rt; sheet == TWO_PASSES.as_bytes(), "the plan");
+        for link in &told.flown.links {
+            has_taken(&rt, link, 4, 0);
+        }
     }
 }
 
@@ -98,7 +91,7 @@ fn a_link_that_fails_halts_the_run(rt: HostRuntime) {
     let Err(cause) = first_run(&rt, rt.alloc(), 4, 3) else {
         panic!(&rt; "the run is halted");
     };
-    has_cause(&rt, "a link fails", cause, Cause::LinkFailed { step: 2 });
+    assert!(&rt; cause == Cause::LinkFailed { step: 2 }, "a link fails");
 }
 
 // What a store holds as its oldest packet is the last one that the link took, which goes out again.
@@ -128,7 +121,7 @@ pub(super) fn halted_run<R: Threads + Wait + Sync + Abort>(
     let Err(halted) = carry_out_or_tell(rt, alloc, memory, problem, plan, sources, links) else {
         panic!(rt; "the run is halted");
     };
-    has_cause(rt, "a link fails", halted.cause, Cause::LinkFailed { step });
+    assert!(rt; halted.cause == Cause::LinkFailed { step }, "a link fails");
     halted
 }
 
@@ -153,34 +146,23 @@ fn used_link(rt: &impl Abort, alloc: Global, failed: u64) -> Vec<Downlink> {
     links
 }
 
-// A run was not halted, and its links took all, and have failed this often.
-fn has_ended(
-    rt: &impl Abort,
-    run: &Result<RunEnd<Burst, Downlink>, Halted<Burst, Downlink>>,
-    failed: u64,
-) {
-    let Ok(ended) = run else {
-        panic!(rt; "no run is halted");
-    };
-    for link in &ended.links {
-        has_taken(rt, link, 4, failed);
-    }
-}
-
-// Whether the first plan is carried out over a link that has failed this often.
+// Whether the first plan is carried out over a link that has failed this often. Then no run is halted, and the link takes all.
 fn is_carried_out<R: Threads + Wait + Sync + Abort>(rt: &R, alloc: Global, failed: u64) -> bool {
     let mut trial = Trial::new(rt, alloc, &FIRST_RUN);
     let (memory, problem) = (&mut trial.memory, &trial.problem);
     let sources = three_bursts(rt, alloc, 4);
     let links = used_link(rt, alloc, failed);
     let plan = trial.sheet.plan();
-    match carry_out_over_used(rt, alloc, memory, problem, plan, sources, links) {
-        Some(run) => {
-            has_ended(rt, &run, failed);
-            true
-        }
-        None => false,
+    let Some(run) = carry_out_over_used(rt, alloc, memory, problem, plan, sources, links) else {
+        return false;
+    };
+    let Ok(ended) = run else {
+        panic!(rt; "no run is halted");
+    };
+    for link in &ended.links {
+        has_taken(rt, link, 4, failed);
     }
+    true
 }
 
 #[test]

@@ -1,15 +1,13 @@
 //! Several sources and links at once: gates that open once all stand at them, one queue of orders, and a hundred runs.
 
-use crate::tests::gates::{GatedSource, all_met, comes_to, counter, gated_sources, shared};
-use crate::tests::links::{has_sent, has_taken, new_links};
-use crate::tests::runs::trials::{Left, Task, Trial, has_cause, has_text, left, setup, task};
-use crate::tests::samples::id;
-use crate::tests::sources::{Script, new_script, scripts};
+use crate::tests::gates::{all_met, comes_to, counter, gated_sources, shared};
+use crate::tests::links::{has_sent, new_links};
+use crate::tests::runs::trials::{Left, Task, Trial, has_text, left, setup, task, took_of};
+use crate::tests::sources::{Script, new_script};
 use mm_base::StoreId;
 use mm_dump::{Link, MemoryLink, SendFailed};
-use mm_exec::{Cause, Halted, RunEnd};
+use mm_exec::Cause;
 use mm_packet::BlockPacket;
-use mm_record::Source;
 use std::alloc::Global;
 use std::process::Abort;
 use std::sync::atomic::{AtomicU64, Ordering};
@@ -25,7 +23,8 @@ enum Awaits {
     Ended(u64),
 }
 
-// A link whose sends wait for those of other links, and fail where these do not come.
+// A link whose sends wait for those of other links, and fail where these do not come; with the counts of the sends that have begun and
+// ended over all links.
 #[derive(Drop)]
 struct GatedLink {
     link: MemoryLink,
@@ -35,22 +34,6 @@ struct GatedLink {
 }
 
 impl GatedLink {
-    // With the counts of the sends that have begun and ended over all links.
-    fn new(
-        rt: &impl Abort,
-        link: MemoryLink,
-        begun: &Arc<AtomicU64, Global>,
-        ended: &Arc<AtomicU64, Global>,
-        awaits: Awaits,
-    ) -> GatedLink {
-        GatedLink {
-            link,
-            begun: shared(rt, begun),
-            ended: shared(rt, ended),
-            awaits,
-        }
-    }
-
     // Begins a send, and says whether what it awaits came.
     fn begins(&self) -> bool {
         let before = self.begun.fetch_add(1, Ordering::SeqCst);
@@ -91,8 +74,14 @@ fn gated_links(
     let ended = counter(rt, alloc);
     let mut list = Vec::new(alloc);
     for link in new_links(rt, alloc, until) {
-        let link = GatedLink::new(rt, link, &begun, &ended, awaits);
-        list.push(link).expect(rt, "memory");
+        let (begun, ended) = (shared(rt, &begun), shared(rt, &ended));
+        let gated = GatedLink {
+            link,
+            begun,
+            ended,
+            awaits,
+        };
+        list.push(gated).expect(rt, "memory");
     }
     list
 }
@@ -130,44 +119,22 @@ static MEETINGS: [Meeting; 2] = [
     },
 ];
 
-// These are so many links, each of which has sent so many packets.
-fn all_sent(rt: &impl Abort, links: &[GatedLink], many: usize, each: usize) {
-    assert!(rt; links.len() == many, "all links come back");
-    for link in links {
-        has_sent(rt, "a meeting", &link.link, each, 0);
-    }
-}
-
-// Carries out the plan over gated links, which goes well.
-fn flown<S: Source + Send + Drop, R: Threads + Wait + Sync + Abort>(
-    rt: &R,
-    trial: &mut Trial,
-    sources: Vec<S>,
-    links: Vec<GatedLink>,
-) -> RunEnd<S, GatedLink> {
-    let Ok(ended) = trial.run(rt, sources, links, 0) else {
-        panic!(rt; "the plan is carried out");
-    };
-    ended
-}
-
-// All sources have met, all links have met, and nothing is lost.
-fn have_met(rt: &impl Abort, ended: &RunEnd<GatedSource, GatedLink>, meeting: &Meeting) {
-    let each = meeting.each as usize;
-    let many = meeting.apids.len().saturating_mul(each);
-    all_met(rt, &ended.sources, many);
-    all_sent(rt, &ended.links, meeting.links.len(), each);
-    assert!(rt; ended.report.totals().lost == 0, "nothing is lost");
-}
-
-// Carries out the plan of a meeting.
+// Carries out the plan of a meeting: all sources meet, all links meet, and nothing is lost.
 fn all_meet<R: Threads + Wait + Sync + Abort>(rt: &R, alloc: Global, meeting: &Meeting) {
     let mut trial = Trial::new(rt, alloc, &meeting.task);
     let sources = gated_sources(rt, alloc, meeting.apids, meeting.each);
     let awaits = Awaits::Begun(meeting.links.len() as u64);
     let links = gated_links(rt, alloc, meeting.links, awaits);
-    let ended = flown(rt, &mut trial, sources, links);
-    have_met(rt, &ended, meeting);
+    let ended = trial.run(rt, sources, links, 0);
+    assert!(rt; ended.halted.is_none(), "the plan is carried out");
+    let each = meeting.each as usize;
+    all_met(rt, &ended.sources, meeting.apids.len().saturating_mul(each));
+    let many = ended.links.len();
+    assert!(rt; many == meeting.links.len(), "all links come back");
+    for link in &ended.links {
+        has_sent(rt, "a meeting", &link.link, each, 0);
+    }
+    assert!(rt; ended.report.totals().lost == 0, "nothing is lost");
 }
 
 #[test]
@@ -189,32 +156,10 @@ static FOUR_ORDERS: Task = task! {
 fn sources_by_apid(rt: &impl Abort, alloc: Global, apids: &[u16], many: u16) -> Vec<Script> {
     let mut sources = Vec::new(alloc);
     for apid in apids {
-        sources
-            .push(new_script(rt, alloc, *apid, [many, 0, 0]))
-            .expect(rt, "memory");
+        let source = new_script(rt, alloc, *apid, [many, 0, 0]);
+        sources.push(source).expect(rt, "memory");
     }
     sources
-}
-
-// The most packets that one of these links took, of which none failed.
-fn most_sent(rt: &impl Abort, links: &[GatedLink]) -> usize {
-    let mut most = 0;
-    for link in links {
-        assert!(rt; link.failures() == 0, "no send failed");
-        most = most.max(link.link.taken().len());
-    }
-    most
-}
-
-// All come back, and four packets are dumped, three of them over one link.
-fn four_are_dumped(rt: &impl Abort, ended: &RunEnd<Script, GatedLink>) {
-    let lists = [ended.links.len(), ended.sources.len()];
-    assert!(rt; lists == [2, 4], "all come back");
-    assert!(rt; ended.report.totals().dumped == 4, "all are dumped");
-    assert!(rt;
-        most_sent(rt, &ended.links) == 3,
-        "three orders of one link"
-    );
 }
 
 // The first send of all waits for three others, so one link carries out one order and the other three.
@@ -224,8 +169,16 @@ fn orders_from_one_queue(rt: HostRuntime) {
     let mut trial = Trial::new(&rt, alloc, &FOUR_ORDERS);
     let sources = sources_by_apid(&rt, alloc, &[1, 2, 3, 4], 1);
     let links = gated_links(&rt, alloc, &[None, None], Awaits::Ended(3));
-    let ended = flown(&rt, &mut trial, sources, links);
-    four_are_dumped(&rt, &ended);
+    let ended = trial.run(&rt, sources, links, 0);
+    assert!(&rt; ended.halted.is_none(), "the plan is carried out");
+    assert!(&rt; ended.sources.len() == 4, "all sources come back");
+    assert!(&rt; ended.report.totals().dumped == 4, "all are dumped");
+    let [one, two] = ended.links.as_slice() else {
+        panic!(&rt; "both links");
+    };
+    let sent = [one.link.taken().len(), two.link.taken().len()];
+    assert!(rt; sent == [1, 3] || sent == [3, 1], "one carries out three");
+    assert!(rt; (one.failures(), two.failures()) == (0, 0));
 }
 
 static TWO_ORDERS: Task = task! {
@@ -246,21 +199,6 @@ static B_BROKE: [Left; 2] = [
     left!("B", [2, 0, 0], [(1, 1), (2, 2)], []),
 ];
 
-// Of two links the first has failed once and sent nothing, and the second has sent what was sent of these stores.
-fn one_has_failed(rt: &impl Abort, halted: &Halted<Script, GatedLink>, stores: &[Left]) {
-    let name = "one of two links fails";
-    has_cause(rt, name, halted.cause, Cause::LinkFailed { step: 1 });
-    assert!(rt; halted.spent == 3, "two sent and one failed");
-    let [bad, good] = halted.links.as_slice() else {
-        panic!(rt; "both links");
-    };
-    has_sent(rt, name, &bad.link, 0, 1);
-    has_sent(rt, name, &good.link, 2, 0);
-    for left in stores {
-        has_taken(rt, name, &good.link, &id(rt, left.store), left.sent);
-    }
-}
-
 // Each of two links takes an order, and one fails at its first send: the other's order is whole, and the store of the broken one is as
 // it was after the packets came.
 #[test]
@@ -269,15 +207,19 @@ fn one_of_two_links_fails(rt: HostRuntime) {
     let mut trial = Trial::new(&rt, alloc, &TWO_ORDERS);
     let sources = sources_by_apid(&rt, alloc, &[1, 2], 2);
     let links = gated_links(&rt, alloc, &[Some(0), None], Awaits::Begun(2));
-    let Err(halted) = trial.run(&rt, sources, links, 0) else {
-        panic!(&rt; "the run is halted");
+    let ended = trial.run(&rt, sources, links, 0);
+    let halted = Some((Cause::LinkFailed { step: 1 }, 3));
+    assert!(rt; ended.halted == halted, "two sent and one failed");
+    let [bad, good] = ended.links.as_slice() else {
+        panic!(rt; "both links");
     };
+    has_sent(&rt, "the link that fails", &bad.link, 0, 1);
     let stores = match trial.deleted(&rt, "A") {
         0 => &A_BROKE,
         _ => &B_BROKE,
     };
-    one_has_failed(&rt, &halted, stores);
     trial.leaves(&rt, "one of two links fails", stores);
+    took_of(&rt, "the other link", &good.link, stores, 0);
 }
 
 static EIGHT_EACH: Task = task! {
@@ -304,19 +246,20 @@ const EIGHT_SOURCES: &str = "step 1 A arrived 8 lost 7 dumped 1 held 0\n\
     differs step 3 D forecast 9 came 8\n\
     total arrived 64 lost 47 dumped 7 held 10\n";
 
-// Eight sources of one packet each in the steps 1 and 3, each for four stores of 1, 2, 3 and 4 blocks, and four links.
-fn eight_are_reported<R: Threads + Wait + Sync + Abort>(rt: &R, alloc: Global) {
-    let mut trial = Trial::new(rt, alloc, &EIGHT_EACH);
-    let sources = scripts(rt, alloc, 8, [1, 0, 1]);
-    let links = new_links(rt, alloc, &[None, None, None, None]);
-    let ended = trial.flown(rt, sources, links, 0);
-    has_text(rt, alloc, "eight sources", &ended.report, EIGHT_SOURCES);
-}
-
-// The report is the same whatever the threads did.
+// Eight sources of one packet each in the steps 1 and 3, each for four stores of 1, 2, 3 and 4 blocks, and four links. The report is the same
+// whatever the threads did.
 #[test]
 fn a_hundred_runs_report_the_same(rt: HostRuntime) {
     for _ in 0..100 {
-        eight_are_reported(&rt, rt.alloc());
+        let mut trial = Trial::new(&rt, rt.alloc(), &EIGHT_EACH);
+        let ended = trial.run_of(&rt, 8, [1, 0, 1], &[None; 4], 0);
+        assert!(&rt; ended.halted.is_none(), "the plan is carried out");
+        has_text(
+            &rt,
+            rt.alloc(),
+            "eight sources",
+            &ended.report,
+            EIGHT_SOURCES,
+        );
     }
 }

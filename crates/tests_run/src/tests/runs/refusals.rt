@@ -1,16 +1,14 @@
 //! Runs that are refused before they begin: each cause, and which of several comes first. Nothing has changed.
 
-use crate::tests::links::{all_have_sent, new_links};
-use crate::tests::runs::rows::{Run, carries_out, run};
-use crate::tests::runs::standing::{Standing, standing};
+use crate::tests::links::all_have_sent;
+use crate::tests::runs::rows::{Run, run};
+use crate::tests::runs::standing::standing;
 use crate::tests::runs::trials::{
-    Change, FIRST_RUN, Left, NO_STEP, ONE_STORE, TOO_LATE, TWO_PASSES, Task, Trial, has_text, left,
-    setup,
+    Change, FIRST_RUN, Found, Left, NO_STEP, ONE_STORE, TOO_LATE, TWO_PASSES, Task, Trial, Why,
+    cause_of, has_text, left, setup,
 };
 use crate::tests::samples::{id, memory_of};
-use crate::tests::sources::{Script, all_have_left, scripts};
-use mm_dump::MemoryLink;
-use mm_exec::{Cause, Halted};
+use crate::tests::sources::all_have_left;
 use mm_memory::Answer;
 use mm_st15::{Channel, Entries, Request};
 use std::alloc::Global;
@@ -18,58 +16,13 @@ use std::process::Abort;
 use std::sync::Wait;
 use std::thread::Threads;
 
-// Nothing was drawn, nothing was taken from the sources, and nothing was sent.
-fn is_untouched(
-    rt: &impl Abort,
-    alloc: Global,
-    halted: &Halted<Script, MemoryLink>,
-    run: &Refused,
-) {
-    let name = run.name;
-    has_text(rt, alloc, name, &halted.report, NO_STEP);
-    assert!(rt; halted.spent == 0, "{name}: nothing drawn");
-    all_have_left(rt, &halted.sources, run.sources as usize, [3, 3, 4]);
-    all_have_sent(rt, name, &halted.links, run.links.len(), 0);
-}
-
-// Why a run is refused: a step, or the name of a store.
-enum Why {
-    Counts,
-    ClockTooLate,
-    PlanShape,
-    PlanDoesNotFit(u32),
-    NotReady(&'static str),
-    SizeDiffers(&'static str),
-    OpeningDiffers(&'static str),
-    ChannelDiffers(&'static str),
-}
-
-fn cause_of(rt: &impl Abort, why: &Why) -> Cause {
-    match why {
-        Why::Counts => Cause::Counts,
-        Why::ClockTooLate => Cause::ClockTooLate,
-        Why::PlanShape => Cause::PlanShape,
-        Why::PlanDoesNotFit(step) => Cause::PlanDoesNotFit { step: *step },
-        Why::NotReady(store) => Cause::NotReady {
-            store: id(rt, store),
-        },
-        Why::SizeDiffers(store) => Cause::SizeDiffers {
-            store: id(rt, store),
-        },
-        Why::OpeningDiffers(store) => Cause::OpeningDiffers {
-            store: id(rt, store),
-        },
-        Why::ChannelDiffers(store) => Cause::ChannelDiffers {
-            store: id(rt, store),
-        },
-    }
-}
-
-// A task over a memory of another setup, to whose stores HK and SCI something was done; this many sources of the first run, links that
-// do not fail, and the moment before the first step; and why it is refused.
+// A plan of the problem of a task, over a memory of another setup, to whose stores HK and SCI something was done; this many sources of the
+// first run, links that do not fail, and the moment before the first step; and why it is refused.
+#[derive(Clone, Copy)]
 struct Refused {
     name: &'static str,
     task: Task,
+    plan: &'static str,
     memory: &'static str,
     others: &'static [Change],
     changes: &'static [Change],
@@ -79,43 +32,32 @@ struct Refused {
     why: Why,
 }
 
+// Rows of runs that are refused: what differs from a run with a name, and why they are.
 macro_rules! refused {
-    ($($name:literal, $plan:expr, $memory:expr, [$($change:expr),*], $sources:literal, $links:expr, $base:expr => $why:expr;)*) => {
-        [$(Refused {
-            name: $name,
-            task: Task { plan: $plan, ..FIRST_RUN },
-            memory: $memory,
-            others: &[],
-            changes: &[$($change),*],
-            sources: $sources,
-            links: &$links,
-            base: $base,
-            why: $why,
-        }),*]
+    ($($name:literal, $base:ident $($field:ident $value:expr),* => $why:expr;)*) => {
+        [$(Refused { name: $name, $($field: $value,)* why: $why, ..$base }),*]
     };
 }
 
-// The stores are as they were.
-fn stands_as(rt: &impl Abort, trial: &Trial, before: &Standing, name: &str) {
-    let after = standing(rt, trial);
-    assert!(rt; after == *before, "{name}: the stores are as they were");
-}
-
-// The run is refused; sources, links and stores are as they were.
+// The run is refused. Nothing was drawn, nothing was taken from the sources, and nothing was sent; the stores are as they were.
 fn refuses<R: Threads + Wait + Sync + Abort>(rt: &R, trial: &mut Trial, run: &Refused) {
-    let (alloc, name) = (trial.alloc, run.name);
+    let name = run.name;
     let before = standing(rt, trial);
-    let given = scripts(rt, alloc, run.sources, [3, 3, 4]);
-    let links = new_links(rt, alloc, run.links);
-    let want = (name, cause_of(rt, &run.why));
-    let halted = trial.halted(rt, given, links, run.base, want);
-    is_untouched(rt, alloc, &halted, run);
-    stands_as(rt, trial, &before, name);
+    let ended = trial.run_of(rt, run.sources, [3, 3, 4], run.links, run.base);
+    let halted = Some((cause_of(rt, run.why), 0));
+    assert!(rt; ended.halted == halted, "{name}: the cause, no draw");
+    has_text(rt, trial.alloc, name, &ended.report, NO_STEP);
+    all_have_left(rt, &ended.sources, run.sources as usize, [3, 3, 4]);
+    all_have_sent(rt, name, &ended.links, run.links.len(), 0);
+    let after = standing(rt, trial);
+    assert!(rt; after == before, "{name}: the stores are as before");
 }
 
 // The trial of a run that is to be refused.
 fn prepared(rt: &impl Abort, alloc: Global, run: &Refused) -> Trial {
-    let mut trial = Trial::new(rt, alloc, &run.task);
+    let mut task = run.task;
+    task.plan = run.plan;
+    let mut trial = Trial::new(rt, alloc, &task);
     trial.memory = memory_of(rt, alloc, run.memory);
     trial.change_of(rt, "HK", run.others);
     trial.change_of(rt, "SCI", run.changes);
@@ -147,28 +89,48 @@ const TWO_STEPS: &str = "mmplan 1\nstores SCI\ndump 1 2\ndump 2 2\nloss 2\nbound
 const THREE_IN_STEP_1: &str =
     "mmplan 1\nstores SCI\ndump 1 3\ndump 2 1\ndump 3 0\nloss 2\nbound 2\nend\n";
 
+const A_PACKET: &[Change] = &[Change::Offer(0, 900)];
+
+const A_LATE_TIME: &[Change] = &[Change::Offer(TOO_LATE, 900), Change::Delete(u64::MAX, 1)];
+
+const OFF: &[Change] = &[Change::Off];
+
+// The first run, with nothing that would refuse it; each row says why its own is refused.
+const FIRST: Refused = Refused {
+    name: "the first run",
+    task: FIRST_RUN,
+    plan: TWO_PASSES,
+    memory: ONE_STORE,
+    others: &[],
+    changes: &[],
+    sources: 1,
+    links: &[None],
+    base: 0,
+    why: Why::Counts,
+};
+
 // Of a store that is missing and one that is none of the problem's, the missing one is told. A store whose last storage time is late
 // refuses a run, also when the packet has been deleted.
 static REFUSED: [Refused; 16] = refused! {
-    "a late moment", TWO_PASSES, ONE_STORE, [], 1, [None], TOO_LATE => Why::ClockTooLate;
-    "a late moment, on another channel without a limit", TWO_PASSES, ON_CHANNEL_5, [], 1, [None], TOO_LATE => Why::ClockTooLate;
-    "no link", TWO_PASSES, ONE_STORE, [], 1, [], 0 => Why::Counts;
-    "five links", TWO_PASSES, ONE_STORE, [], 1, [None, None, None, None, None], 0 => Why::Counts;
-    "no source", TWO_PASSES, ONE_STORE, [], 0, [None], 0 => Why::Counts;
-    "nine sources", TWO_PASSES, ONE_STORE, [], 9, [None], 0 => Why::Counts;
-
-    "a plan of two steps", TWO_STEPS, ONE_STORE, [], 1, [None], 0 => Why::PlanShape;
-    "a plan of two stores", OF_TWO_STORES, ONE_STORE, [], 1, [None], 0 => Why::PlanShape;
-    "a plan above its window", THREE_IN_STEP_1, ONE_STORE, [], 1, [None], 0 => Why::PlanDoesNotFit(1);
-    "another size", TWO_PASSES, ONE_STORE, [Change::Off, Change::Resize(5), Change::On], 1, [None], 0 => Why::SizeDiffers("SCI");
-    "a packet", TWO_PASSES, ONE_STORE, [Change::Offer(0, 900)], 1, [None], 0 => Why::OpeningDiffers("SCI");
-
-    "storage off", TWO_PASSES, ONE_STORE, [Change::Off], 1, [None], 0 => Why::NotReady("SCI");
-    "a retrieval", TWO_PASSES, ONE_STORE, [Change::Retrieve], 1, [None], 0 => Why::NotReady("SCI");
-    "another store", TWO_PASSES, ANOTHER_STORE, [], 1, [None], 0 => Why::NotReady("SCI");
-    "one store more", TWO_PASSES, ONE_STORE_MORE, [], 1, [None], 0 => Why::NotReady("HK");
-    "a late storage time", TWO_PASSES, ONE_STORE, [Change::Offer(TOO_LATE, 900), Change::Delete(u64::MAX, 1)], 1, [None], 0
+    "a late moment", FIRST base TOO_LATE => Why::ClockTooLate;
+    "a late moment, on another channel without a limit", FIRST memory ON_CHANNEL_5, base TOO_LATE
     => Why::ClockTooLate;
+    "no link", FIRST links &[] => Why::Counts;
+    "five links", FIRST links &[None; 5] => Why::Counts;
+    "no source", FIRST sources 0 => Why::Counts;
+    "nine sources", FIRST sources 9 => Why::Counts;
+
+    "a plan of two steps", FIRST plan TWO_STEPS => Why::PlanShape;
+    "a plan of two stores", FIRST plan OF_TWO_STORES => Why::PlanShape;
+    "a plan above its window", FIRST plan THREE_IN_STEP_1 => Why::PlanDoesNotFit(1);
+    "another size", FIRST changes &[Change::Off, Change::Resize(5), Change::On] => Why::At(Found::SizeDiffers, "SCI");
+    "a packet", FIRST changes A_PACKET => Why::At(Found::OpeningDiffers, "SCI");
+
+    "storage off", FIRST changes OFF => Why::At(Found::NotReady, "SCI");
+    "a retrieval", FIRST changes &[Change::Retrieve] => Why::At(Found::NotReady, "SCI");
+    "another store", FIRST memory ANOTHER_STORE => Why::At(Found::NotReady, "SCI");
+    "one store more", FIRST memory ONE_STORE_MORE => Why::At(Found::NotReady, "HK");
+    "a late storage time", FIRST changes A_LATE_TIME => Why::ClockTooLate;
 };
 
 #[test]
@@ -176,18 +138,32 @@ fn run_refused_before_it_begins(rt: HostRuntime) {
     all_refused(&rt, rt.alloc(), &REFUSED);
 }
 
+// The first run, with a plan above its window, no source and no link.
+const WITH_NONE: Refused = Refused {
+    plan: THREE_IN_STEP_1,
+    sources: 0,
+    links: &[],
+    ..FIRST
+};
+
+// And with another size, storage off after a packet was offered, and a late moment.
+const WRONG: Refused = Refused {
+    memory: FIVE_BLOCKS,
+    changes: &[Change::Offer(TOO_LATE, 900), Change::Off],
+    base: TOO_LATE,
+    ..WITH_NONE
+};
+
 // Of several causes the first is told. With each row one cause is taken away.
 static IN_ORDER: [Refused; 7] = refused! {
-    "all is wrong", TWO_STEPS, FIVE_BLOCKS, [Change::Offer(TOO_LATE, 900), Change::Off], 0, [], TOO_LATE => Why::PlanShape;
-    "but the plan's shape", THREE_IN_STEP_1, FIVE_BLOCKS, [Change::Offer(TOO_LATE, 900), Change::Off], 0, [], TOO_LATE
-    => Why::NotReady("SCI");
-    "but the storage", THREE_IN_STEP_1, FIVE_BLOCKS, [Change::Offer(TOO_LATE, 900), Change::Off, Change::On], 0, [], TOO_LATE
-    => Why::SizeDiffers("SCI");
-    "but the size", THREE_IN_STEP_1, ONE_STORE, [Change::Offer(TOO_LATE, 900)], 0, [], 0 => Why::OpeningDiffers("SCI");
-    "but the opening contents", THREE_IN_STEP_1, ONE_STORE, [Change::Offer(TOO_LATE, 900), Change::Delete(u64::MAX, 1)], 0, [], 0
-    => Why::ClockTooLate;
-    "but the storage time", THREE_IN_STEP_1, ONE_STORE, [], 0, [], 0 => Why::PlanDoesNotFit(1);
-    "but the plan", TWO_PASSES, ONE_STORE, [], 0, [], 0 => Why::Counts;
+    "all is wrong", WRONG plan TWO_STEPS => Why::PlanShape;
+    "but the plan's shape", WRONG => Why::At(Found::NotReady, "SCI");
+    "but the storage", WRONG changes &[Change::Offer(TOO_LATE, 900), Change::Off, Change::On]
+    => Why::At(Found::SizeDiffers, "SCI");
+    "but the size", WITH_NONE changes &[Change::Offer(TOO_LATE, 900)] => Why::At(Found::OpeningDiffers, "SCI");
+    "but the opening contents", WITH_NONE changes A_LATE_TIME => Why::ClockTooLate;
+    "but the storage time", WITH_NONE => Why::PlanDoesNotFit(1);
+    "but the plan", WITH_NONE plan TWO_PASSES => Why::Counts;
 };
 
 #[test]
@@ -216,66 +192,46 @@ const SCI_MOVED: &str = setup! {
     store "HK", apid 100, size 4, type "bounded", channel 0; store "SCI", apid 100, size 4, type "bounded", channel 0;
 };
 
-const A_PACKET: &[Change] = &[Change::Offer(0, 900)];
-
-const A_LATE_TIME: &[Change] = &[Change::Offer(TOO_LATE, 900), Change::Delete(u64::MAX, 1)];
-
-const ONE_EACH: &str = "mmplan 1\nstores HK SCI\ndump 1 1 1\nloss 0\nbound 0\nend\n";
-
 const STEP_2_TOO: &str = "mmplan 1\nstores HK SCI\ndump 1 1 1\ndump 2 0 0\nloss 0\nbound 0\nend\n";
 
 const ABOVE_WINDOW: &str = "mmplan 1\nstores HK SCI\ndump 1 9 4\nloss 0\nbound 0\nend\n";
 
 const ABOVE_LIMIT: &str = "mmplan 1\nstores HK SCI\ndump 1 10 2\nloss 0\nbound 0\nend\n";
 
-const OFF: &[Change] = &[Change::Off];
+// A run over two stores, with nothing that would refuse it.
+const TWO: Refused = Refused {
+    task: Task {
+        setup: TWO_STORES,
+        forecast: "step,window,HK,SCI\n1,12,3,3\n",
+        ..FIRST_RUN
+    },
+    plan: "mmplan 1\nstores HK SCI\ndump 1 1 1\nloss 0\nbound 0\nend\n",
+    memory: TWO_STORES,
+    ..FIRST
+};
 
-// Rows over two stores: the plan, the memory, what was done to HK and to SCI, and the links.
-macro_rules! refused_of_two {
-    ($(name: $name:literal, $plan:expr, $memory:expr, $others:expr, $changes:expr, $links:expr => $why:expr;)*) => {
-        [$(Refused {
-            name: $name,
-            task: Task { setup: TWO_STORES, forecast: "step,window,HK,SCI\n1,12,3,3\n", plan: $plan },
-            memory: $memory,
-            others: $others,
-            changes: $changes,
-            sources: 1,
-            links: &$links,
-            base: 0,
-            why: $why,
-        }),*]
-    };
-}
-
-// Each cause is looked for in all stores, in their order, before the next one: where the first store has a later cause than the second,
-// the second is told, and where both have one, the first.
-static OF_SEVERAL_STORES: [Refused; 13] = refused_of_two! {
-    name: "the plan is of two steps, both stores are off",
-        STEP_2_TOO, TWO_STORES, OFF, OFF, [None] => Why::PlanShape;
-    name: "both stores are off",
-        ONE_EACH, TWO_STORES, OFF, OFF, [None] => Why::NotReady("HK");
-    name: "the first is larger, the second is off",
-        ONE_EACH, BOTH_LARGER, &[], OFF, [None] => Why::NotReady("SCI");
-    name: "both are larger",
-        ONE_EACH, BOTH_LARGER, &[], &[], [None] => Why::SizeDiffers("HK");
-    name: "the first holds a packet, the second is larger",
-        ONE_EACH, SCI_LARGER, A_PACKET, &[], [None] => Why::SizeDiffers("SCI");
-    name: "both hold a packet",
-        ONE_EACH, TWO_STORES, A_PACKET, A_PACKET, [None] => Why::OpeningDiffers("HK");
-    name: "both are on other channels, the second holds a packet",
-        ONE_EACH, BOTH_MOVED, &[], A_PACKET, [None] => Why::OpeningDiffers("SCI");
-    name: "both are on other channels",
-        ONE_EACH, BOTH_MOVED, &[], &[], [None] => Why::ChannelDiffers("HK");
-    name: "the first has a late storage time, the second is on another channel",
-        ONE_EACH, SCI_MOVED, A_LATE_TIME, &[], [None] => Why::ChannelDiffers("SCI");
-    name: "the second has a late storage time",
-        ONE_EACH, TWO_STORES, &[], A_LATE_TIME, [None] => Why::ClockTooLate;
-    name: "the amounts of both are above the window, no link",
-        ABOVE_WINDOW, TWO_STORES, &[], &[], [] => Why::PlanDoesNotFit(1);
-    name: "the first is above the limit of its channel, no link",
-        ABOVE_LIMIT, TWO_STORES, &[], &[], [] => Why::PlanDoesNotFit(1);
-    name: "no link",
-        ONE_EACH, TWO_STORES, &[], &[], [] => Why::Counts;
+// Each cause is looked for in all stores, in their order, before the next one: where the first store, HK, has a later cause than the
+// second, the second is told, and where both have one, the first.
+static OF_SEVERAL_STORES: [Refused; 13] = refused! {
+    "the plan is of two steps, both stores are off", TWO plan STEP_2_TOO, others OFF, changes OFF
+    => Why::PlanShape;
+    "both stores are off", TWO others OFF, changes OFF => Why::At(Found::NotReady, "HK");
+    "the first is larger, the second is off", TWO memory BOTH_LARGER, changes OFF => Why::At(Found::NotReady, "SCI");
+    "both are larger", TWO memory BOTH_LARGER => Why::At(Found::SizeDiffers, "HK");
+    "the first holds a packet, the second is larger", TWO memory SCI_LARGER, others A_PACKET
+    => Why::At(Found::SizeDiffers, "SCI");
+    "both hold a packet", TWO others A_PACKET, changes A_PACKET => Why::At(Found::OpeningDiffers, "HK");
+    "both are on other channels, the second holds a packet", TWO memory BOTH_MOVED, changes A_PACKET
+    => Why::At(Found::OpeningDiffers, "SCI");
+    "both are on other channels", TWO memory BOTH_MOVED => Why::At(Found::ChannelDiffers, "HK");
+    "the first has a late storage time, the second is on another channel", TWO memory SCI_MOVED, others A_LATE_TIME
+    => Why::At(Found::ChannelDiffers, "SCI");
+    "the second has a late storage time", TWO changes A_LATE_TIME => Why::ClockTooLate;
+    "the amounts of both are above the window, no link", TWO plan ABOVE_WINDOW, links &[]
+    => Why::PlanDoesNotFit(1);
+    "the first is above the limit of its channel, no link", TWO plan ABOVE_LIMIT, links &[]
+    => Why::PlanDoesNotFit(1);
+    "no link", TWO links &[] => Why::Counts;
 };
 
 #[test]
@@ -287,10 +243,13 @@ const A_LIMITED: &str = setup! {
     store "A", apid 100, size 3, type "bounded", channel 0; limit channel 0, blocks 1;
 };
 
+const BY_CHANNELS: &str =
+    "mmplan 2\nstores A\ndump 1 1\ndump 2 0\nloss 2\nstretch A 1 2\ncount 1 channels\nbound 2\nend\n";
+
 const CHANNEL_0: Task = Task {
     setup: A_LIMITED,
     forecast: "step,window,A\n1,5,3\n2,0,3\n",
-    plan: "mmplan 2\nstores A\ndump 1 1\ndump 2 0\nloss 2\nstretch A 1 2\ncount 1 channels\nbound 2\nend\n",
+    plan: BY_CHANNELS,
 };
 
 static OVER_CHANNEL_0: Run = run! {
@@ -303,33 +262,25 @@ static OVER_CHANNEL_0: Run = run! {
 static OVER_CHANNEL_5: Refused = Refused {
     name: "over channel 5",
     task: CHANNEL_0,
+    plan: BY_CHANNELS,
     memory: A_LIMITED,
-    others: &[],
-    changes: &[],
-    sources: 1,
-    links: &[None],
     base: TOO_LATE,
-    why: Why::ChannelDiffers("A"),
+    why: Why::At(Found::ChannelDiffers, "A"),
+    ..FIRST
 };
-
-// The request that the store A be on a channel.
-fn channel_request(rt: &impl Abort, alloc: Global, channel: u8) -> Request {
-    let id = id(rt, "A").field();
-    let list = [Channel { id, channel }].to_vec(alloc);
-    Request::ChangeChannel(Entries::new(list.expect(rt, "memory")))
-}
-
-// A request of one instruction is carried out.
-fn is_done(rt: &impl Abort, trial: &mut Trial, request: &Request) {
-    let answers = trial.memory.apply(trial.alloc, 1, request);
-    let each = answers.expect(rt, "memory").each;
-    assert!(rt; each.as_slice() == [Answer::Done].as_slice(), "the answer");
-}
 
 // The store A is moved to a channel, with its storage off meanwhile.
 fn moves_to_channel(rt: &impl Abort, trial: &mut Trial, channel: u8) {
-    trial.change_of(rt, "A", &[Change::Off]);
-    is_done(rt, trial, &channel_request(rt, trial.alloc, channel));
+    trial.change_of(rt, "A", OFF);
+    let list = [Channel {
+        id: id(rt, "A").field(),
+        channel,
+    }]
+    .to_vec(trial.alloc);
+    let request = Request::ChangeChannel(Entries::new(list.expect(rt, "memory")));
+    let answers = trial.memory.apply(trial.alloc, 1, &request);
+    let each = answers.expect(rt, "memory").each;
+    assert!(rt; each.as_slice() == [Answer::Done].as_slice(), "the answer");
     trial.change_of(rt, "A", &[Change::On]);
 }
 
@@ -340,5 +291,5 @@ fn channel_of_a_store_changed(rt: HostRuntime) {
     moves_to_channel(&rt, &mut trial, 5);
     refuses(&rt, &mut trial, &OVER_CHANNEL_5);
     moves_to_channel(&rt, &mut trial, 0);
-    carries_out(&rt, &mut trial, None, &OVER_CHANNEL_0);
+    OVER_CHANNEL_0.carry_out(&rt, &mut trial);
 }

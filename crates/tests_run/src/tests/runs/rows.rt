@@ -1,75 +1,111 @@
 //! Runs that are carried out: their reports, and what they leave in the stores and on the links.
 
-use crate::tests::links::{all_have_sent, has_sent, new_links};
+use crate::tests::links::{all_have_sent, has_sent};
 use crate::tests::runs::trials::{
-    Change, FIRST_RUN, Left, ONE_STORE, Task, Trial, each_took, has_text, left, setup, task,
+    Change, Ended, FIRST_RUN, Left, ONE_STORE, Task, Trial, Why, cause_of, each_took, has_text,
+    left, setup, task,
 };
 use crate::tests::samples::id;
-use crate::tests::sources::{Script, all_have_left, scripts};
+use crate::tests::sources::{Script, all_have_left};
 use mm_dump::MemoryLink;
-use mm_exec::{Cause, RunEnd};
+use mm_exec::Cause;
 use mm_report::{Report, StepCounts};
 use std::alloc::Global;
 use std::process::Abort;
 use std::sync::Wait;
 use std::thread::Threads;
 
-// A run of one source, which gives this many packets in the steps 1, 2 and 3, and one link; what it reports, and what it leaves
-// of the stores.
+// A run of one source, which gives this many packets in the steps 1, 2 and 3, over links of which each fails once, after this many sends,
+// or never; why it is halted and what was drawn then, if it is, what the source still gives, what is reported, what is left of the stores,
+// and how many sends of each link have failed.
+#[derive(Clone, Copy)]
 pub(crate) struct Run {
     pub(crate) name: &'static str,
     pub(crate) task: Task,
     pub(crate) many: [u16; 3],
+    pub(crate) until: &'static [Option<u64>],
+    pub(crate) halted: Option<(Why, u64)>,
+    pub(crate) rest: [u32; 3],
     pub(crate) report: &'static str,
     pub(crate) stores: &'static [Left],
+    pub(crate) failures: u64,
 }
 
+// A run that is carried out over a link, of which so many sends have failed before.
 macro_rules! run {
-    ($name:literal, $task:expr, $many:expr => $report:literal; $($left:expr),*) => {
-        Run { name: $name, task: $task, many: $many, report: $report, stores: &[$($left),*] }
+    ($name:literal, $task:expr, $many:expr, failed $failures:literal => $report:literal; $($left:expr),*) => {
+        Run {
+            name: $name, task: $task, many: $many, until: &[None], halted: None, rest: [0, 0, 0], report: $report,
+            stores: &[$($left),*], failures: $failures,
+        }
     };
+    ($name:literal, $task:expr, $many:expr => $($left:tt)*) => { run!($name, $task, $many, failed 0 => $($left)*) };
 }
 
 pub(crate) use run;
 
-// The run has ended well and left this; the source has nothing left, and this many sends of the link have failed.
-pub(crate) fn has_ended(
-    rt: &impl Abort,
-    trial: &Trial,
-    ended: &RunEnd<Script, MemoryLink>,
-    run: &Run,
-    failures: u64,
-) {
-    let name = run.name;
-    has_text(rt, trial.alloc, name, &ended.report, run.report);
-    trial.leaves(rt, name, run.stores);
-    all_have_left(rt, &ended.sources, 1, [0, 0, 0]);
-    each_took(rt, name, &ended.links, 1, run.stores, failures);
+// A run that is halted, as one send of each link fails, or refused: its links, why, what was drawn, and what the source still gives.
+macro_rules! halted {
+    (
+        $name:literal, $task:expr, $many:expr, until $until:expr =>
+        $why:expr, spent $spent:literal, rest $rest:expr, $report:expr; $($left:expr),*
+    ) => {
+        Run {
+            name: $name, task: $task, many: $many, until: &$until, halted: Some(($why, $spent)), rest: $rest, report: $report,
+            stores: &[$($left),*], failures: 1,
+        }
+    };
 }
 
-// Carries out a run, over a link that fails after that many sends, if at all; returns the report.
-pub(crate) fn carries_out<R: Threads + Wait + Sync + Abort>(
-    rt: &R,
-    trial: &mut Trial,
-    until: Option<u64>,
-    run: &Run,
-) -> Report {
-    let alloc = trial.alloc;
-    let sources = scripts(rt, alloc, 1, run.many);
-    let ended = trial.flown(rt, sources, new_links(rt, alloc, &[until]), 0);
-    has_ended(rt, trial, &ended, run, 0);
-    ended.report
-}
+pub(crate) use halted;
 
-// Carries out a run over an empty memory, and returns its report.
-pub(crate) fn carried_out<R: Threads + Wait + Sync + Abort>(
-    rt: &R,
-    alloc: Global,
-    until: Option<u64>,
-    run: &Run,
-) -> Report {
-    let mut trial = Trial::new(rt, alloc, &run.task);
-    carries_out(rt, &mut trial, until, run)
+impl Run {
+    // It has ended so, and left this.
+    pub(crate) fn has_ended(
+        &self,
+        rt: &impl Abort,
+        trial: &Trial,
+        ended: &Ended<Script, MemoryLink>,
+    ) {
+        let name = self.name;
+        let halted = match self.halted {
+            Some((why, spent)) => Some((cause_of(rt, why), spent)),
+            None => None,
+        };
+        assert!(rt; ended.halted == halted, "{name}: the cause and the draws");
+        has_text(rt, trial.alloc, name, &ended.report, self.report);
+        trial.leaves(rt, name, self.stores);
+        all_have_left(rt, &ended.sources, 1, self.rest);
+        each_took(
+            rt,
+            name,
+            &ended.links,
+            self.until.len(),
+            self.stores,
+            self.failures,
+        );
+    }
+
+    // Carries it out over the memory of a trial.
+    pub(crate) fn carry_out<R: Threads + Wait + Sync + Abort>(
+        &self,
+        rt: &R,
+        trial: &mut Trial,
+    ) -> Ended<Script, MemoryLink> {
+        let ended = trial.run_of(rt, 1, self.many, self.until, 0);
+        self.has_ended(rt, trial, &ended);
+        ended
+    }
+
+    // Carries it out over an empty memory, and returns its report.
+    pub(crate) fn report_of<R: Threads + Wait + Sync + Abort>(
+        &self,
+        rt: &R,
+        alloc: Global,
+    ) -> Report {
+        let mut trial = Trial::new(rt, alloc, &self.task);
+        self.carry_out(rt, &mut trial).report
+    }
 }
 
 static RUNS: [Run; 3] = [
@@ -107,11 +143,11 @@ static RUNS: [Run; 3] = [
 #[test]
 fn runs_that_end_well(rt: HostRuntime) {
     for run in &RUNS {
-        carried_out(&rt, rt.alloc(), None, run);
+        run.report_of(&rt, rt.alloc());
     }
 }
 
-pub(crate) static MORE_IN_STEP_3: Run = run! {
+pub(crate) const MORE_IN_STEP_3: Run = run! {
     "more arrivals than forecast", FIRST_RUN, [3, 3, 5] =>
     "step 1 SCI arrived 3 lost 0 dumped 2 held 1\nstep 2 SCI arrived 3 lost 0 dumped 2 held 2\n\
         step 3 SCI arrived 5 lost 3 dumped 0 held 4\ndiffers step 3 SCI forecast 4 came 5\n\
@@ -137,7 +173,7 @@ pub(crate) fn has_last_row(rt: &impl Abort, report: &Report, steps: u32, last: &
 // In step 3 five packets come in place of four.
 #[test]
 fn run_with_other_arrivals(rt: HostRuntime) {
-    let report = carried_out(&rt, rt.alloc(), None, &MORE_IN_STEP_3);
+    let report = MORE_IN_STEP_3.report_of(&rt, rt.alloc());
     has_last_row(&rt, &report, 3, &LAST_OF_MORE);
     assert!(rt; report.totals().lost == 3, "three lost");
 }
@@ -152,21 +188,17 @@ static FROM_TWO_HELD: Run = run! {
     left!("SCI", [12, 4, 4], [(5, 4), (6, 5), (7, 7), (8, 8)], [900, 901, 1, 2])
 };
 
-static TWO_OFFERED: [Change; 2] = [Change::Offer(0, 900), Change::Offer(0, 901)];
-
-// The store holds two packets before the first step.
+// The store holds two packets before the first step; where they are not yet offered, the run does not begin.
 #[test]
 fn opening_contents_run(rt: HostRuntime) {
-    let alloc = rt.alloc();
-    let mut trial = Trial::new(&rt, alloc, &FROM_TWO_HELD.task);
+    let mut trial = Trial::new(&rt, rt.alloc(), &FROM_TWO_HELD.task);
     let store = id(&rt, "SCI");
-    let sources = scripts(&rt, alloc, 1, FROM_TWO_HELD.many);
-    let links = new_links(&rt, alloc, &[None]);
-    let want = ("not yet offered", Cause::OpeningDiffers { store });
-    let halted = trial.halted(&rt, sources, links, 0, want);
-    trial.change(&rt, &TWO_OFFERED);
-    let ended = trial.flown(&rt, halted.sources, halted.links, 0);
-    has_ended(&rt, &trial, &ended, &FROM_TWO_HELD, 0);
+    let early = trial.run_of(&rt, 1, FROM_TWO_HELD.many, &[None], 0);
+    let cause = Cause::OpeningDiffers { store };
+    assert!(rt; early.halted == Some((cause, 0)), "not yet offered");
+    trial.change(&rt, &[Change::Offer(0, 900), Change::Offer(0, 901)]);
+    let ended = trial.run(&rt, early.sources, early.links, 0);
+    FROM_TWO_HELD.has_ended(&rt, &trial, &ended);
 }
 
 // Eight sources of three packets each in step 1, after the latest storage time, at the latest start.
@@ -175,39 +207,37 @@ static AT_THE_LATEST_TIMES: &str = "step 1 SCI arrived 24 lost 20 dumped 2 held 
     differs step 1 SCI forecast 3 came 24\ndiffers step 2 SCI forecast 3 came 0\n\
     differs step 3 SCI forecast 4 came 0\ntotal arrived 24 lost 20 dumped 4 held 0\n";
 
-static LATEST_TIME: [Change; 2] = [Change::Offer(1 << 63, 900), Change::Delete(u64::MAX, 1)];
-
 // No store refuses a packet, so the run is not halted by `47 LogMismatch`.
 #[test]
 fn no_packet_is_refused_at_the_latest_times(rt: HostRuntime) {
-    let alloc = rt.alloc();
-    let mut trial = Trial::new(&rt, alloc, &FIRST_RUN);
-    trial.change(&rt, &LATEST_TIME);
-    let sources = scripts(&rt, alloc, 8, [3, 0, 0]);
-    let links = new_links(&rt, alloc, &[None]);
-    let ended = trial.flown(&rt, sources, links, 1 << 63);
-    let name = "the latest times";
-    has_text(&rt, alloc, name, &ended.report, AT_THE_LATEST_TIMES);
-    all_have_sent(&rt, name, &ended.links, 1, 4);
-}
-
-// The one link took one packet, which was stored at this time.
-fn took_one_at(rt: &impl Abort, links: &[MemoryLink], time: u64) {
-    let [link] = links else {
-        panic!(rt; "one link");
-    };
-    has_sent(rt, "the latest start", link, 1, 0);
-    for taken in link.taken() {
-        assert!(rt; taken.stored.time == time, "its time");
-    }
+    let mut trial = Trial::new(&rt, rt.alloc(), &FIRST_RUN);
+    trial.change(
+        &rt,
+        &[Change::Offer(1 << 63, 900), Change::Delete(u64::MAX, 1)],
+    );
+    let ended = trial.run_of(&rt, 8, [3, 0, 0], &[None], 1 << 63);
+    assert!(&rt; ended.halted.is_none(), "the plan is carried out");
+    has_text(
+        &rt,
+        rt.alloc(),
+        "the latest times",
+        &ended.report,
+        AT_THE_LATEST_TIMES,
+    );
+    all_have_sent(&rt, "the latest times", &ended.links, 1, 4);
 }
 
 // A run begins at its base: the first packet of step 1 is stored one tick later.
 #[test]
 fn a_run_at_the_latest_start(rt: HostRuntime) {
-    let alloc = rt.alloc();
-    let mut trial = Trial::new(&rt, alloc, &FIRST_RUN);
-    let sources = scripts(&rt, alloc, 1, [1, 0, 0]);
-    let ended = trial.flown(&rt, sources, new_links(&rt, alloc, &[None]), 1 << 63);
-    took_one_at(&rt, &ended.links, (1 << 63) + 1);
+    let mut trial = Trial::new(&rt, rt.alloc(), &FIRST_RUN);
+    let ended = trial.run_of(&rt, 1, [1, 0, 0], &[None], 1 << 63);
+    assert!(&rt; ended.halted.is_none(), "the plan is carried out");
+    let [link] = ended.links.as_slice() else {
+        panic!(&rt; "one link");
+    };
+    has_sent(&rt, "the latest start", link, 1, 0);
+    for taken in link.taken() {
+        assert!(&rt; taken.stored.time == (1 << 63) + 1, "its time");
+    }
 }

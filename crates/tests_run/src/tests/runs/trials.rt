@@ -1,8 +1,8 @@
 //! Runs of small problems: what they are given, and what they leave.
 
-use crate::tests::links::{has_sent, has_taken};
+use crate::tests::links::{has_sent, has_taken, new_links};
 use crate::tests::samples::{id, memory_in_room, next_after, packet};
-use crate::tests::sources::Script;
+use crate::tests::sources::{Script, scripts};
 use mm_base::MAX_BLOCKS;
 use mm_desk::StoreState;
 use mm_dump::{Link, MemoryLink, may_fail};
@@ -146,31 +146,15 @@ fn problem_in_room(alloc: Global, task: &Task) -> Option<Problem> {
     Problem::read(alloc, &setup, task.forecast.as_bytes()).ok()
 }
 
-// The counters of offered, lost and deleted packets of a store, which is on, with no retrieval.
-fn has_counts(rt: &impl Abort, name: &str, state: &StoreState, want: &[u64; 3]) {
-    let found = [state.offered(), state.lost(), state.deleted()];
-    assert!(rt; found == *want, "{name}: offered, lost and deleted packets");
-    let ready = [state.storage(), state.retrieval().is_none()];
-    assert!(rt; ready == [true; 2], "storage is on, and no retrieval");
-}
-
-// The time and the sequence count of the oldest packet that a store holds after a time.
-fn time_and_count(state: &StoreState, after: u64) -> Option<(u64, u16)> {
-    match next_after(state, after) {
-        Some((time, _apid, count)) => Some((time, count)),
-        None => None,
-    }
-}
-
 // The packets held in a store: times and sequence counts.
 fn has_packets(rt: &impl Abort, name: &str, state: &StoreState, want: &[(u64, u16)]) {
     let held = state.store().len() as usize;
     assert!(rt; held == want.len(), "how many are held");
-    let mut after = 0;
+    let mut last = 0;
     for (time, count) in want {
-        let found = time_and_count(state, after);
+        let found = next_after(state, last).map(|(time, _apid, count)| (time, count));
         assert!(rt; found == Some((*time, *count)), "{name}: the packets held");
-        after = *time;
+        last = *time;
     }
 }
 
@@ -179,8 +163,68 @@ pub(crate) fn has_text(rt: &impl Abort, alloc: Global, name: &str, report: &Repo
     assert!(rt; text.as_slice() == want.as_bytes(), "{name}: {want}");
 }
 
-pub(crate) fn has_cause(rt: &impl Abort, name: &str, found: Cause, want: Cause) {
-    assert!(rt; found == want, "{name}: the cause");
+// Why a run is halted or refused: in a step, by what is found at the store of a name, or for a cause of neither.
+#[derive(Clone, Copy)]
+pub(crate) enum Why {
+    Counts,
+    ClockTooLate,
+    PlanShape,
+    PlanDoesNotFit(u32),
+    LinkFailed(u32),
+    At(Found, &'static str),
+}
+
+#[derive(Clone, Copy)]
+pub(crate) enum Found {
+    NotReady,
+    SizeDiffers,
+    OpeningDiffers,
+    ChannelDiffers,
+}
+
+pub(crate) fn cause_of(rt: &impl Abort, why: Why) -> Cause {
+    let (found, store) = match why {
+        Why::Counts => return Cause::Counts,
+        Why::ClockTooLate => return Cause::ClockTooLate,
+        Why::PlanShape => return Cause::PlanShape,
+        Why::PlanDoesNotFit(step) => return Cause::PlanDoesNotFit { step },
+        Why::LinkFailed(step) => return Cause::LinkFailed { step },
+        Why::At(found, name) => (found, id(rt, name)),
+    };
+    match found {
+        Found::NotReady => Cause::NotReady { store },
+        Found::SizeDiffers => Cause::SizeDiffers { store },
+        Found::OpeningDiffers => Cause::OpeningDiffers { store },
+        Found::ChannelDiffers => Cause::ChannelDiffers { store },
+    }
+}
+
+// How a run ended: why it was halted and what was drawn in its step, if it was; and what it hands back.
+#[derive(Drop)]
+pub(crate) struct Ended<S: Drop, L: Drop> {
+    pub(crate) halted: Option<(Cause, u64)>,
+    pub(crate) report: Report,
+    pub(crate) sources: Vec<S>,
+    pub(crate) links: Vec<L>,
+}
+
+// The same of a run that was carried out and of one that was halted.
+pub(crate) fn outcome_of<S: Drop, L: Drop>(run: Result<RunEnd<S, L>, Halted<S, L>>) -> Ended<S, L> {
+    let (halted, report, sources, links) = match run {
+        Ok(end) => (None, end.report, end.sources, end.links),
+        Err(end) => (
+            Some((end.cause, end.spent)),
+            end.report,
+            end.sources,
+            end.links,
+        ),
+    };
+    Ended {
+        halted,
+        report,
+        sources,
+        links,
+    }
 }
 
 // A memory, and a problem and a plan to be carried out over it.
@@ -212,56 +256,24 @@ impl Trial {
         S: Source + Send + Drop,
         L: Link + Send + Drop,
         R: Threads + Wait + Sync + Abort,
-    >(
-        &mut self,
-        rt: &R,
-        sources: Vec<S>,
-        links: Vec<L>,
-        base: u64,
-    ) -> Result<RunEnd<S, L>, Halted<S, L>> {
+    >(&mut self, rt: &R, sources: Vec<S>, links: Vec<L>, base: u64) -> Ended<S, L> {
         assert!(rt; may_fail(&links), "links that may fail");
-        let plan = self.sheet.plan();
-        carry_out(
-            rt,
-            self.alloc,
-            &mut self.memory,
-            &self.problem,
-            plan,
-            sources,
-            links,
-            base,
-        )
+        let (memory, problem, plan) = (&mut self.memory, &self.problem, self.sheet.plan());
+        outcome_of(carry_out(rt, self.alloc, memory, problem, plan, sources, links, base))
     }
 
-    // Carries out the plan, which goes well.
-    pub(crate) fn flown<R: Threads + Wait + Sync + Abort>(
+    // Carries out the plan from this moment on, over so many sources that give this many packets in three steps, and links of which each
+    // fails once, after so many sends, or never.
+    pub(crate) fn run_of<R: Threads + Wait + Sync + Abort>(
         &mut self,
         rt: &R,
-        sources: Vec<Script>,
-        links: Vec<MemoryLink>,
+        sources: u32,
+        many: [u16; 3],
+        until: &[Option<u64>],
         base: u64,
-    ) -> RunEnd<Script, MemoryLink> {
-        let Ok(ended) = self.run(rt, sources, links, base) else {
-            panic!(rt; "the plan is carried out");
-        };
-        ended
-    }
-
-    // Begins to carry out the plan, in the run of this name, which is halted for this cause.
-    pub(crate) fn halted<R: Threads + Wait + Sync + Abort>(
-        &mut self,
-        rt: &R,
-        sources: Vec<Script>,
-        links: Vec<MemoryLink>,
-        base: u64,
-        want: (&str, Cause),
-    ) -> Halted<Script, MemoryLink> {
-        let (name, cause) = want;
-        let Err(halted) = self.run(rt, sources, links, base) else {
-            panic!(rt; "{name}: the run is halted");
-        };
-        has_cause(rt, name, halted.cause, cause);
-        halted
+    ) -> Ended<Script, MemoryLink> {
+        let sources = scripts(rt, self.alloc, sources, many);
+        self.run(rt, sources, new_links(rt, self.alloc, until), base)
     }
 
     // Does these to the store of the first run.
@@ -280,10 +292,13 @@ impl Trial {
         state.deleted()
     }
 
-    // What is left of a store.
+    // What is left of a store, which is on, with no retrieval.
     fn has(&self, rt: &impl Abort, name: &str, left: &Left) {
         let state = self.memory.state(&id(rt, left.store)).expect(rt, "a store");
-        has_counts(rt, name, state, &left.counts);
+        let counts = [state.offered(), state.lost(), state.deleted()];
+        assert!(rt; counts == left.counts, "{name}: the counters");
+        let ready = [state.storage(), state.retrieval().is_none()];
+        assert!(rt; ready == [true; 2], "storage is on, and no retrieval");
         has_packets(rt, name, state, left.held);
     }
 
@@ -296,7 +311,13 @@ impl Trial {
 }
 
 // A link took what was sent of these stores, in order, and nothing else, and failed this often.
-fn took_of(rt: &impl Abort, name: &str, link: &MemoryLink, stores: &[Left], failures: u64) {
+pub(crate) fn took_of(
+    rt: &impl Abort,
+    name: &str,
+    link: &MemoryLink,
+    stores: &[Left],
+    failures: u64,
+) {
     let mut many = 0;
     for left in stores {
         has_taken(rt, name, link, &id(rt, left.store), left.sent);

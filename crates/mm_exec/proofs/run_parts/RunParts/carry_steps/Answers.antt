@@ -1,33 +1,56 @@
-use Rattle.std.proofs.Common.{◌≡◌, ℕ, ◌+◌, ◌-◌, ◌≤◌, length, take, refl, subst, arith}
+use Rattle.std.proofs.Common.{◌≡◌, ℕ, ◌+◌, ◌-◌, ◌≤◌, List, length, take, refl, subst, arith}
+use Rattle.std.specs.List.{AllZip}
+use Rattle.mm_record.specs.Supplies.{Supply, supplies}
+use Rattle.mm_record.proofs.Supplying.{all_stay, length-supplies, zip_long}
 use Rattle.mm_exec.specs.Course.{given_to}
 use Rattle.mm_exec.specs.Ending.{HasRun}
-use Rattle.mm_exec.proofs.Starting.{Underway, underway, all_ready, early_by, done_first, far_first, ran_on, far_on, halted_in, takes_here}
+use Rattle.mm_exec.specs.RunState.{RunState, with_supplies, InRun}
+use Rattle.mm_exec.proofs.Starting.{Underway, underway, all_ready, early_by, done_first, far_first, may_run_in, may_report_of, ran_on, far_on, halted_in, takes_here}
 use Rattle.mm_exec.proofs.run_parts.RunParts.carry_steps.Given as given
 use Rattle.mm_exec.proofs.run_parts.RunParts.carry_steps.Goals as goal
 use Rattle.mm_exec.proofs.run_parts.RunParts.carry_steps.Goals.{In-loop-step}
 
+-- the run as it began and as it is before the step, with what its sources give until they are as these
+abbrev first_in : (g : given.Over) (c : goal.In-loop-step g) → List g.row.S.Denot → RunState Supply g.row.L.Denot
+first_in g c lasts = with_supplies c.args.self.now (supplies g.S.AnySource.until c.args.self.now.sources lasts)
+
+abbrev now_in : (g : given.Over) (c : goal.In-loop-step g) → List g.row.S.Denot → RunState Supply g.row.L.Denot
+now_in g c lasts = with_supplies c.loop-step.self (supplies g.S.AnySource.until c.loop-step.self.sources lasts)
+
 -- what is known before the step
-here : (g : given.Over) (c : goal.In-loop-step g)
-    → Underway g.S.Source.gives g.L.Link.sent g.L.Link.failed c.args.run.now (take c.stores-2.result c.places_of-all.result) c.loop-step.step c.args.self.now c.loop-step.self c.loop-step.buffers
-here g c =
-    underway g.S.Source.gives g.L.Link.sent g.L.Link.failed c.args.run.now _ c.loop-step.step c.args.self.now c.requires.may c.places_of-all.ensures.problem c.loop-step.self
-    c.loop-step.buffers c.loop-step.invariant.ran c.places_of-all.result c.stores.ensures c.places_of-all.ensures.places c.places_of-all.ensures.len c.stores-2.ensures.stores refl
-    c.loop-step.auto.step c.loop-step-test.true c.steps-step-end.ensures.steps c.loop-step.invariant.room
+here : (g : given.Over) (c : goal.In-loop-step g) (lasts : List g.row.S.Denot) → AllZip g.S.AnySource.leads c.loop-step.self.sources lasts
+    → Underway g.L.Link.sent g.L.Link.failed c.args.run.now (take c.stores-2.result c.places_of-all.result) c.loop-step.step (first_in g c lasts) (now_in g c lasts) c.loop-step.buffers
+here g c lasts lead =
+    let ran = c.loop-step.invariant.ran lasts lead in
+    let many = length-supplies g.S.AnySource.until c.args.self.now.sources lasts (zip_long g.S.AnySource.leads _ _ ran.0) in
+    underway g.L.Link.sent g.L.Link.failed c.args.run.now _ c.loop-step.step (first_in g c lasts) (may_run_in g.L.Link.failed c.args.run.now c.args.buffers c.args.self.now _ many c.requires.may)
+    c.places_of-all.ensures.problem (now_in g c lasts) c.loop-step.buffers ran.1 c.places_of-all.result c.stores.ensures c.places_of-all.ensures.places c.places_of-all.ensures.len
+    c.stores-2.ensures.stores refl c.loop-step.auto.step c.loop-step-test.true c.steps-step-end.ensures.steps c.loop-step.invariant.room
 
 pub loop-step-init : goal.loop-step-init
 loop-step-init g c =
-    let first = c.args.self.now in
-    let begins = c.requires.may.begins in
+    let begun = c.args.self.now in
+    let leads = g.S.AnySource.leads in
+    let until = g.S.AnySource.until in
+    let run = c.args.run.now in
     record {
-      ran = record {
-        began = begins;
-        done = done_first g.S.Source.gives g.L.Link.sent g.L.Link.failed (given_to g.S.Source.gives c.args.run.now first) first c.args.buffers.report refl c.requires.may.report;
-        fit = λ t from_one last. absurd (omega (arith, from_one, last));
-        ready = all_ready c.args.run.now.problem.now first.stores c.requires.may.held (begins.ready (omega arith)) (begins.known (omega arith)) c.requires.may.sound;
-      };
-      far = λ limits.
-          far_first g.S.Source.gives (length c.args.run.now.problem.now.windows) first.sources first.stores c.args.run.now.base
-          (early_by first.stores c.args.run.now.base (begins.in_time (omega arith))) limits;
+      ran = λ lasts lead.
+          let given = supplies until begun.sources lasts in
+          let first = with_supplies begun given in
+          let may = may_run_in g.L.Link.failed run c.args.buffers begun given (length-supplies until begun.sources lasts (zip_long leads _ _ lead)) c.requires.may in (
+            lead,
+            record {
+              began = may.begins;
+              done = done_first g.L.Link.sent g.L.Link.failed (given_to run first) first c.args.buffers.report refl c.requires.may.report;
+              fit = λ t from_one last. absurd (omega (arith, from_one, last));
+              ready = all_ready run.problem.now first.stores may.held (may.begins.ready (omega arith)) (may.begins.known (omega arith)) may.sound;
+            },
+          );
+      far = λ lasts lead. (
+        lead,
+        λ limits. far_first (length run.problem.now.windows) (supplies until begun.sources lasts) begun.stores run.base
+            (early_by begun.stores run.base (c.requires.may.begins.in_time (omega arith))) limits,
+      );
       room = c.requires.may.orders;
     }
 
@@ -35,17 +58,27 @@ pub places_of-all-requires : goal.places_of-all-requires
 places_of-all-requires g c = rw c.stores.ensures (c.requires.may.begins.ready (omega arith))
 
 pub report_step-requires-clause-may : goal.report_step-requires-clause-may
-report_step-requires-clause-may g c κs within = (here g (goal.at.report_step-requires-clause-may g c).In-loop-step).may
+report_step-requires-clause-may g c κs within =
+    let now = c.loop-step.self in
+    let known = here g (goal.at.report_step-requires-clause-may g c).In-loop-step now.sources (all_stay g.S.AnySource.leads g.S.AnySource.until c.sources_may_stay.ensures.law now.sources) in
+    may_report_of g.L.Link.failed _ _ _ _ now (supplies g.S.AnySource.until now.sources now.sources) (length-supplies g.S.AnySource.until now.sources now.sources refl) known.may
 
 pub loop-step-preserved : goal.loop-step-preserved
 loop-step-preserved g c =
-    let before = here g (goal.at.loop-step-preserved g c).In-loop-step in
-    let stepped = c.in_default.ensures.done in
+    let at = (goal.at.loop-step-preserved g c).In-loop-step in
     record {
-      ran =
-          ran_on _ _ _ _ _ _ _ _ _ before c.runs_lose_as_planned.ensures.each c.runs_lose_no_packet_uncounted.ensures.law c.report_step.new.self c.report_step.new.buffers
-          stepped c.in_default.ensures.ready;
-      far = λ limits. far_on _ _ _ _ _ _ _ _ _ before limits (c.loop-step.invariant.far limits) c.step_runs_keep_stores.ensures.law c.report_step.new.self stepped.done;
+      ran = λ lasts lead.
+          let stepped = c.in_default.ensures.done lasts lead in
+          let before = here g at lasts stepped.0 in (
+            (c.loop-step.invariant.ran lasts stepped.0).0,
+            ran_on _ _ _ _ _ _ _ _ before c.runs_lose_as_planned.ensures.each c.runs_lose_no_packet_uncounted.ensures.law _ c.report_step.new.buffers
+                stepped.1 c.in_default.ensures.ready,
+          );
+      far = λ lasts lead.
+          let stepped = c.in_default.ensures.done lasts lead in
+          let before = here g at lasts stepped.0 in
+          let was = c.loop-step.invariant.far lasts stepped.0 in
+          (was.0, λ limits. far_on _ _ _ _ _ _ _ _ before limits (was.1 limits) c.step_runs_keep_stores.ensures.law _ stepped.1.done);
       room = omega (arith, c.loop-step.invariant.room, c.in_default.ensures.capacity);
     }
 
@@ -54,18 +87,20 @@ returns-clause-done g c =
     let run = c.args.run.now in
     let over : c.steps-step-end.result + 1 ≤ c.loop-step.step = c.loop-step-test.false in
     let all : c.loop-step.step - 1 ≡ length run.problem.now.windows = omega (arith, over, c.steps-step-end.ensures.steps, c.loop-step.auto.step-end) in
-    subst (λ (t : ℕ). HasRun g.S.Source.gives g.L.Link.sent g.L.Link.failed (given_to g.S.Source.gives run c.args.self.now) run.plan.now c.args.self.now t c.loop-step.self
-    c.loop-step.buffers.report) all c.loop-step.invariant.ran
+    subst (λ (t : ℕ). InRun g.S.AnySource.leads g.S.AnySource.until c.args.self.now c.loop-step.self
+    (λ first now. HasRun g.L.Link.sent g.L.Link.failed (given_to run first) run.plan.now first t now c.loop-step.buffers.report)) all c.loop-step.invariant.ran
 
 pub returns-in-Err-clause-halted : goal.returns-in-Err-clause-halted
-returns-in-Err-clause-halted g c =
-    let before = here g (goal.at.returns-in-Err-clause-halted g c).In-loop-step in (
-      c.loop-step.step,
-      halted_in _ _ _ _ _ _ _ _ _ before c.broken_orders_change_nothing.ensures.law c.report_step.new.self c.report_step.new.buffers c.in-Err.broken
-          c.in-Err.ensures.broke c.in-Err.ensures.ready,
+returns-in-Err-clause-halted g c = λ lasts lead.
+    let stepped = c.in-Err.ensures.broke lasts lead in
+    let before = here g (goal.at.returns-in-Err-clause-halted g c).In-loop-step lasts stepped.0 in (
+      (c.loop-step.invariant.ran lasts stepped.0).0,
+      (c.loop-step.step, halted_in _ _ _ _ _ _ _ _ before c.broken_orders_change_nothing.ensures.law _ c.report_step.new.buffers c.in-Err.broken stepped.1 c.in-Err.ensures.ready),
     )
 
 pub returns-in-Err-clause-far : goal.returns-in-Err-clause-far
-returns-in-Err-clause-far g c = λ limits.
-    let before = here g (goal.at.returns-in-Err-clause-far g c).In-loop-step in
-    c.in-Err.ensures.far (takes_here _ _ _ _ _ _ _ _ _ before limits (c.loop-step.invariant.far limits))
+returns-in-Err-clause-far g c = λ lasts lead.
+    let stepped = c.in-Err.ensures.far lasts lead in
+    let before = here g (goal.at.returns-in-Err-clause-far g c).In-loop-step lasts stepped.0 in
+    let was = c.loop-step.invariant.far lasts stepped.0 in
+    (was.0, λ limits. stepped.1 (takes_here _ _ _ _ _ _ _ _ before limits (was.1 limits)))

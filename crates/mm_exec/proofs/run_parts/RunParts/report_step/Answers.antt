@@ -5,7 +5,9 @@ use Rattle.mm_record.specs.Recorded.{recording}
 use Rattle.mm_dump.specs.declared.order.Order.{Order}
 use Rattle.mm_report.specs.declared.counts.StepCounts.{StepCounts}
 use Rattle.mm_exec.specs.Numbers.{row_from, orders_of, AreCounters, AreStepCounts}
+use Rattle.mm_exec.specs.RunState.{with_supplies}
 use Rattle.mm_exec.specs.Step.{StepDone}
+use Rattle.mm_record.specs.Supplies.{supplies}
 use Rattle.mm_exec.specs.Course.{orders_at}
 use Rattle.mm_exec.proofs.Counters.{row_taken}
 use Rattle.mm_exec.proofs.run_parts.RunParts.report_step.Given as given
@@ -37,9 +39,15 @@ returns-clause-done g c =
     subst (λ (held : List Held). AreStepCounts q t held places counters n c.step_counts-counts.result) c.stores-2.ensures c.step_counts-counts.ensures.counts in
     let row = row_taken q t places before after counters c.step_counts-counts.result n marked told (omega (arith, c.requires.may.few, c.step_counts-counts.ensures.len)) in
     let all = row ∙ ap (λ (m : ℕ). row_from q t places before after m) c.requires.may.all in
-    record {
-      done =
-          of_step g at (λ (now : ℕ) (orders : List Order).
-          StepDone g.S.Source.gives g.L.Link.sent g.L.Link.failed (recording t now c.args.run.now.control.now before) orders c.args.self.now c.carry_step.new.self) c.in_ok-carry_step.ensures.ok;
-      row = c.add.ensures.added ∙ ap (λ (r : List StepCounts). record c.args.buffers.now.report { steps = c.args.buffers.now.report.steps ++ r ∷ [] }) all;
-    }
+    λ lasts lead.
+    let whole = c.in_ok-carry_step.ensures.ok lasts lead in (
+      whole.0,
+      record {
+        done =
+            of_step g at (λ (now : ℕ) (orders : List Order).
+            StepDone g.L.Link.sent g.L.Link.failed (recording t now c.args.run.now.control.now before) orders
+            (with_supplies c.args.self.now (supplies g.S.AnySource.until c.args.self.now.sources lasts))
+            (with_supplies c.carry_step.new.self (supplies g.S.AnySource.until c.carry_step.new.self.sources lasts))) whole.1;
+        row = c.add.ensures.added ∙ ap (λ (r : List StepCounts). record c.args.buffers.now.report { steps = c.args.buffers.now.report.steps ++ r ∷ [] }) all;
+      },
+    )
