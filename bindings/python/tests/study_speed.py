@@ -1,9 +1,8 @@
 #!/usr/bin/env python3
-"""Measures what a variant of a study takes: `study_speed.py [MOST]`. On one thread it is compared with the call in C, whose texts and buffer are
+"""Measures what a variant of a study takes. On one thread it is compared with the call in C, whose texts and buffer are
 there already: each of many variants is answered once in a round, after the others, and the least time of some rounds counts. Then threads for
 all processors work at once, beside as many that make C calls alone: on a busy machine both get the same share of it. Then as many processes.
-And scipy's linprog (HiGHS) solves the same problem, where it is installed. Prints a line for each, and fails where a variant takes more than
-MOST times (1.5) the C call that plans, with its losses by store or without them."""
+And scipy's linprog (HiGHS) solves the same problem, where it is installed. Prints a line for each."""
 
 import os
 import sys
@@ -132,10 +131,8 @@ def linprog_time(setup, forecast):
 
 def main():
     """The program."""
-    most = float(sys.argv[1]) if len(sys.argv) > 1 else 1.5
     mission = Mission.read(EXAMPLE)
     base = studies._base(mission)
-    failed = 0
     names = [one.name for one in mission.passes]
     kinds = {
         "two passes lost": [Variant("", (lost(*pair),)) for pair in combinations(names, 2)][::2],
@@ -143,17 +140,11 @@ def main():
         "a store larger": [variant for k in range(101, 108) for variant in each_store_sized(mission, k / 100)],
     }
     for kind, variants in kinds.items():
-        # On a busy machine a measurement may be wrong: it is taken again where it is above the most.
-        for _ in range(3):
-            in_python, by_store, in_c = times_of(base, variants)
-            fails = max(in_python, by_store) > most * in_c
-            if not fails:
-                break
+        in_python, by_store, in_c = times_of(base, variants)
         print(
             f"study: {kind}: {in_python:.0f} us in Python, {in_c:.0f} us in C, {in_python / in_c:.2f} times; "
             f"with the losses by store {by_store:.0f} us, {by_store / in_c:.2f} times"
         )
-        failed |= fails
     workers = os.cpu_count() or 1
     (one, many), (one_by_store, many_by_store), (one_in_c, many_in_c) = gains(mission, base, workers)
     print(
@@ -167,8 +158,7 @@ def main():
     else:
         answer = answer_of(Task(base), Variant("as it is"))
         print(f"study: linprog takes {found[0] * 1e3:.0f} ms for the same problem, and finds {found[1]}; the plan loses {answer.loss}")
-    return failed
 
 
 if __name__ == "__main__":
-    sys.exit(main())
+    main()
