@@ -1,7 +1,7 @@
 -- Values that are read where a list has none.
 use Rattle.std.proofs.Common.{[]}
 use Rattle.atomic_table.specs.Seated.{TableId}
-use Rattle.mm_shared.specs.Views.{PortView}
+use Rattle.mm_shared.specs.Views.{PortView, origin}
 use Rattle.mm_shared.specs.declared.label.StoreLabel.{StoreLabel}
 
 -- no table
@@ -14,4 +14,4 @@ no_label = record { id = []; channel = 0 }
 
 -- no port
 pub no_port : PortView
-no_port = record { of = no_table; number = 0; list = [] }
+no_port = record { of = origin no_table []; number = 0; list = [] }

@@ -73,30 +73,34 @@ module _ (start : State) (seats : ℕ) where
   same_log s t k owner word words state_is fits =
       record { log = k.log; now = k.now; owner = owner; word = word; run = k.run; below = k.below; words = words; state_is = state_is; fits = fits }
 
-  -- the state is taken out of its slot
-  pub takes_it : (s : Table State Known) (k : Keeps start seats s) (id : ℕ) (v : Known) (x : ℕ) → get_elem? s.views id ≡ some v → 0 < length v.lists → k.word ≡ 0 → 0 < x
+  -- the state is taken out of its slot, where it is there
+  pub takes_home : (s : Table State Known) (k : Keeps start seats s) (id : ℕ) (v : Known) (x : ℕ) → get_elem? s.views id ≡ some v → 0 < length v.lists → 0 < x → IsHome s k.now
       → Keeps start seats (stepped s 0 x id [] (known v.first v.lists (Some k.now)) (takes 0 k.now)) × (get_elem? s.homes 0 ≡ some (some k.now))
-  takes_it s k id v x me some_seat free up = ⊎_elim (λ home. taken home) (λ (out : IsOut s k.word k.now). absurd (let locked = out.locked in omega arith)) k.state_is
+  takes_home s k id v x me some_seat up home = (
+    same_log s _ k k.owner x (ap (λ (ws : List ℕ). set ws 0 x) k.words)
+        (inr record {
+          homes = ap (λ (hs : List (mathlib.Core.Option.Option State)). set hs 0 none) home.homes;
+          locked = up;
+          port = id;
+          holder = w;
+          at = at_written s.views id v w me;
+          held = refl;
+          seated = some_seat;
+          others = λ other u at apart. ⊎_elim (λ here. absurd (apart here.0)) (λ there. home.none other u there.1) (at_set s.views id other w u at);
+        })
+        (refit_all k.log k.owner s.views id v (Some k.now) me k.fits),
+    ap (λ (hs : List (mathlib.Core.Option.Option State)). get_elem? hs 0) home.homes,
+  )
     where
       w : Known
       w = known v.first v.lists (Some k.now)
 
-      taken : IsHome s k.now → Keeps start seats (stepped s 0 x id [] w (takes 0 k.now)) × (get_elem? s.homes 0 ≡ some (some k.now))
-      taken home = (
-        same_log s _ k k.owner x (ap (λ (ws : List ℕ). set ws 0 x) k.words)
-            (inr record {
-              homes = ap (λ (hs : List (mathlib.Core.Option.Option State)). set hs 0 none) home.homes;
-              locked = up;
-              port = id;
-              holder = w;
-              at = at_written s.views id v w me;
-              held = refl;
-              seated = some_seat;
-              others = λ other u at apart. ⊎_elim (λ here. absurd (apart here.0)) (λ there. home.none other u there.1) (at_set s.views id other w u at);
-            })
-            (refit_all k.log k.owner s.views id v (Some k.now) me k.fits),
-        ap (λ (hs : List (mathlib.Core.Option.Option State)). get_elem? hs 0) home.homes,
-      )
+  -- it is there where the word is 0
+  pub takes_it : (s : Table State Known) (k : Keeps start seats s) (id : ℕ) (v : Known) (x : ℕ) → get_elem? s.views id ≡ some v → 0 < length v.lists → k.word ≡ 0 → 0 < x
+      → Keeps start seats (stepped s 0 x id [] (known v.first v.lists (Some k.now)) (takes 0 k.now)) × (get_elem? s.homes 0 ≡ some (some k.now))
+  takes_it s k id v x me some_seat free up =
+      takes_home s k id v x me some_seat up
+      (⊎_elim (λ (home : IsHome s k.now). home) (λ (out : IsOut s k.word k.now). absurd (let locked = out.locked in omega arith)) k.state_is)
 
   -- a word that is above 0 becomes another
   pub keeps_it : (s : Table State Known) (k : Keeps start seats s) (id : ℕ) (v : Known) (x : ℕ) → get_elem? s.views id ≡ some v → 0 < x → (k.word ≢ 0)

@@ -6,7 +6,10 @@ pub mod Giving
 pub mod Parting
 pub mod Ending
 pub mod Slices
+pub mod Settling
+pub mod Kept
 pub mod Defaults
+pub mod Fewer
 pub mod Places
 pub mod Opening
 pub mod StillOpen

@@ -1,5 +1,5 @@
 -- Stores are parted into labels and states, and put together again.
-use Rattle.std.proofs.Common.{◌≡◌, ℕ, suc, List, [], ◌∷◌, ◌++◌, length, map, refl, ap, arith}
+use Rattle.std.proofs.Common.{◌≡◌, ℕ, suc, List, [], ◌∷◌, ◌++◌, length, map, drop, refl, sym, ap, arith}
 use Rattle.mm_desk.specs.declared.entry.Entry.{Entry}
 use Rattle.mm_desk.specs.declared.held.Held.{Held}
 use Rattle.mm_desk.specs.Machine.{State}
@@ -42,6 +42,27 @@ states_are (l ∷ labels) (s ∷ states) same = ap (λ (xs : List State). s ∷ 
 pub names_are : (stores : List Held) → names_of (map label_of stores) ≡ labels_of stores
 names_are [] = refl
 names_are (h ∷ hs) = ap (λ (xs : List (List ℕ × ℕ)). (h.id, h.channel) ∷ xs) (names_are hs)
+
+-- stores with these labels are theirs with their states
+pub labelled : (labels : List StoreLabel) (stores : List Held) → labels_of stores ≡ names_of labels → held_stores labels (states_of stores) ≡ stores
+labelled [] [] same = refl
+labelled [] (h ∷ hs) same = absurd (omega (arith, ap length same))
+labelled (l ∷ labels) [] same = absurd (omega (arith, ap length same))
+labelled (l ∷ labels) (h ∷ hs) same = λ i. record { id = (first same).0 i; channel = (first same).1 i; state = h.state } ∷ labelled labels hs (ap (drop 1) same) i
+  where
+    head : List (List ℕ × ℕ) → List ℕ × ℕ
+    head [] = ([], 0)
+    head (x ∷ xs) = x
+
+    first : labels_of (h ∷ hs) ≡ names_of (l ∷ labels) → (l.id ≡ h.id) × (l.channel ≡ h.channel)
+    first same = (sym (ap (λ (xs : List (List ℕ × ℕ)). (head xs).0) same), sym (ap (λ (xs : List (List ℕ × ℕ)). (head xs).1) same))
+
+-- there are as many as labels
+pub as_many : (labels : List StoreLabel) (stores : List Held) → labels_of stores ≡ names_of labels → length (states_of stores) ≡ length labels
+as_many [] [] same = refl
+as_many [] (h ∷ hs) same = absurd (omega (arith, ap length same))
+as_many (l ∷ labels) [] same = absurd (omega (arith, ap length same))
+as_many (l ∷ labels) (h ∷ hs) same = ap suc (as_many labels hs (ap (drop 1) same))
 
 -- how many stores there are
 pub count_is : (labels : List StoreLabel) (states : List State) → length labels ≡ length states → length (held_stores labels states) ≡ length labels

@@ -15,7 +15,7 @@ use Rattle.mm_desk.specs.Machine.{State}
 use Rattle.mm_desk.specs.Runs.{entry, opening_at, blank}
 use Rattle.mm_shared.specs.declared.rule.Knows.{Knows}
 use Rattle.mm_shared.specs.Rule.{Known, known, knows, all_seats, calls_on, held_of, known_at, table_at, Keeps, KeepsAll}
-use Rattle.mm_shared.specs.Steps.{Seated, IsAtRest, HasCalled, IsAsTaken, lists_with, called, at_rest, tried, others_of, first_of, joined}
+use Rattle.mm_shared.specs.Steps.{Seated, IsAtRest, HasCalled, IsAsTaken, lists_with, holding, called, at_rest, tried, others_of, first_of, joined}
 use Rattle.mm_shared.specs.Views.{HasLegalLog}
 use Rattle.mm_shared.proofs.CallsOn.{call_here, call_there}
 use Rattle.mm_shared.proofs.Keeping.{begins, takes_it, keeps_it}
@@ -80,6 +80,31 @@ module _ (openings : List State) (seats : ℕ) where
       by_place j within (no isnt) =
           subst (Keeps (opening_at openings j) seats) (sym (other_slot s i x id c v w a j isnt me (same j isnt) (homes j isnt))) (all.each j within)
 
+  -- the state of a store that is in its slot is taken
+  pub takes_state : (id : ℕ) (m : Seated) (i x : ℕ) (now : State) → i < length openings → IsAtRest m → (s : Table State Knows) → KeepsAll openings seats s → get_elem? s.views id ≡ some m.0
+      → Keeps (opening_at openings i) seats (stepped (table_at i s) 0 x id [] (known m.0.first (map (calls_on i) m.0.lists) (Some now)) (takes 0 now)) × (get_elem? (table_at i s).homes 0 ≡ some (some now))
+      → KeepsAll openings seats (stepped s i x id m.1 (record m.0 { held = Some (i, now) }) (takes i now)) × Valid s.homes m.1 (takes i now)
+      × ((record m.0 { held = Some (i, now) }, carried_after m.1 (takes i now)) ≡ holding i m now now)
+  takes_state id m i x now within at s all me one = (
+    after_step s i x id m.1 m.0 w (takes i now) all me
+        (λ j other. ap (known m.0.first (map (calls_on j) m.0.lists)) (held_there i j now (λ same. other (sym same)) ∙ sym (ap (held_of j) at.none)))
+        (λ j other. get_or-set_other s.homes i j none none other) (length-set s.homes i none)
+        (subst (Keeps (opening_at openings i) seats)
+        (sym (this_slot s i x id m.1 [] w (takes i now) (takes 0 now) (omega (arith, all.words, within)) (ap (λ h. h ∷ []) (get_or-set_same s.homes i none none in_homes))))
+        (subst (λ (u : Known). Keeps (opening_at openings i) seats (stepped (table_at i s) 0 x id [] u (takes 0 now))) (sym here) one.0)),
+    at_index s.homes i (some now) in_homes (sym (some-injective (get_or s.homes i none) (some now) one.1) ∙ get_or_default s.homes i none (some now) in_homes),
+    ap (λ (c : List (ℕ × State)). (w, (i, now) ∷ c)) at.empty,
+  )
+    where
+      w : Knows
+      w = record m.0 { held = Some (i, now) }
+
+      in_homes : i < length s.homes
+      in_homes = omega (arith, all.homes, within)
+
+      here : known_at i w ≡ known m.0.first (map (calls_on i) m.0.lists) (Some now)
+      here = ap (known m.0.first (map (calls_on i) m.0.lists)) (held_here i i now refl)
+
   -- a try of a lock by any change that leaves the word above 0
   pub tries : (n id : ℕ) (m : Seated) (f : ℕ → ℕ) (i first second : ℕ) → i < length openings → ((k : ℕ) → 0 < f k) → IsAtRest m → 0 < length m.0.lists
       → Allows (KeepsAll openings seats) n id m i f (tried (step_of n i first second none) m)
@@ -97,9 +122,6 @@ module _ (openings : List State) (seats : ℕ) where
       in_words : i < length s.words
       in_words = omega (arith, all.words, within)
 
-      in_homes : i < length s.homes
-      in_homes = omega (arith, all.homes, within)
-
       mine : get_elem? (map (known_at i) s.views) id ≡ some (known_at i m.0)
       mine = at_map (known_at i) s.views id m.0 me
 
@@ -113,21 +135,13 @@ module _ (openings : List State) (seats : ℕ) where
       -- the state is taken
       taken : k.word ≡ 0 → Can
       taken free =
-          let w : Knows = knows m.0.first m.0.lists (Some (i, k.now)) in
           let one = takes_it (opening_at openings i) seats (table_at i s) k id (known_at i m.0) x mine seated free (up (get_or s.words i 0)) in
-          let here : known_at i w ≡ known m.0.first (map (calls_on i) m.0.lists) (Some k.now) = ap (known m.0.first (map (calls_on i) m.0.lists)) (held_here i i k.now refl) in
-          let now : Keeps (opening_at openings i) seats (table_at i (stepped s i x id m.1 w (takes i k.now))) =
-          subst (Keeps (opening_at openings i) seats)
-          (sym (this_slot s i x id m.1 [] w (takes i k.now) (takes 0 k.now) in_words (ap (λ h. h ∷ []) (get_or-set_same s.homes i none none in_homes))))
-          (subst (λ (u : Known). Keeps (opening_at openings i) seats (stepped (table_at i s) 0 x id [] u (takes 0 k.now))) (sym here) one.0) in (
-            w,
+          let all_keep = takes_state id m i x k.now within at s all me one in (
+            record m.0 { held = Some (i, k.now) },
             takes i k.now,
-            at_index s.homes i (some k.now) in_homes
-                (sym (some-injective (get_or s.homes i none) (some k.now) one.1) ∙ get_or_default s.homes i none (some k.now) in_homes),
-            after_step s i x id m.1 m.0 w (takes i k.now) all me
-                (λ j other. ap (known m.0.first (map (calls_on j) m.0.lists)) (held_there i j k.now (λ same. other (sym same)) ∙ sym (ap (held_of j) at.none)))
-                (λ j other. get_or-set_other s.homes i j none none other) (length-set s.homes i none) now,
-            ((λ zero. (k.now, ap (λ (c : List (ℕ × State)). (w, (i, k.now) ∷ c)) at.empty)), λ other. absurd (other (found ∙ free))),
+            all_keep.1,
+            all_keep.0,
+            ((λ zero. (k.now, all_keep.2)), λ other. absurd (other (found ∙ free))),
           )
 
       -- nothing is taken
@@ -181,7 +195,7 @@ module _ (openings : List State) (seats : ℕ) where
       e = entry m.0.first event reply
 
       w : Knows
-      w = knows m.0.first (lists_with (i, e) m.0.lists) None
+      w = record m.0 { lists = lists_with (i, e) m.0.lists; held = None }
 
       one : Keeps (opening_at openings i) seats (stepped (table_at i s) 0 0 id ((0, c.now) ∷ []) (known m.0.first (lists_with e (map (calls_on i) m.0.lists)) None) gives)
       one =
@@ -202,7 +216,7 @@ module _ (openings : List State) (seats : ℕ) where
   )
     where
       w : Knows
-      w = knows m.0.first m.0.lists None
+      w = record m.0 { held = None }
 
   -- the seats of a view from the second on, the first one alone, and those of two views, at one store
   others_known : (k : ℕ) (v : Knows) → known_at k (others_of v) ≡ others_at (known_at k v)
@@ -240,17 +254,17 @@ module _ (openings : List State) (seats : ℕ) where
 
   -- seats are put before those of a view at rest
   pub joins_all : (id : ℕ) (v : Knows) (other : ℕ) (w : Knows) → v.held ≡ None → w.held ≡ None → w.first + length w.lists ≡ v.first
-      → Joins (KeepsAll openings seats) id v other w (joined v w) (knows 0 [] None)
+      → Joins (KeepsAll openings seats) id v other w (joined v w) (knows [] 0 [] None)
   joins_all id v other w v_rest w_rest next s all me apart at_other = record { words = all.words; homes = all.homes; each = each }
     where
       each : (k : ℕ) → k < length openings
-          → Keeps (opening_at openings k) seats (table_at k (record { words = s.words; homes = s.homes; views = set (set s.views id (joined v w)) other (knows 0 [] None) }))
+          → Keeps (opening_at openings k) seats (table_at k (record { words = s.words; homes = s.homes; views = set (set s.views id (joined v w)) other (knows [] 0 [] None) }))
       each k within =
           let f = known_at k in
           let both : map f (set s.views id (joined v w)) ≡ set (map f s.views) id (joined_at (f v) (f w)) =
           map-set f s.views id (joined v w) ∙ ap (set (map f s.views) id) (joint_known k v w) in
-          let views : map f (set (set s.views id (joined v w)) other (knows 0 [] None)) ≡ set (set (map f s.views) id (joined_at (f v) (f w))) other (known 0 [] None) =
-          map-set f (set s.views id (joined v w)) other (knows 0 [] None) ∙ ap (λ (vs : List Known). set vs other (known 0 [] None)) both in
+          let views : map f (set (set s.views id (joined v w)) other (knows [] 0 [] None)) ≡ set (set (map f s.views) id (joined_at (f v) (f w))) other (known 0 [] None) =
+          map-set f (set s.views id (joined v w)) other (knows [] 0 [] None) ∙ ap (λ (vs : List Known). set vs other (known 0 [] None)) both in
           let there : get_elem? (set (map f s.views) id (joined_at (f v) (f w))) other ≡ some (f w) =
           subst (λ (vs : List Known). get_elem? vs other ≡ some (f w)) both (at_map f (set s.views id (joined v w)) other w at_other) in
           subst (Keeps (opening_at openings k) seats) (sym (same_table _ _ refl refl views))
@@ -267,25 +281,25 @@ module _ (openings : List State) (seats : ℕ) where
       let end = ends (opening_at openings k) seats (table_at k s) keeps id (known_at k v) (at_map (known_at k) s.views id v final.1.1) (ap (held_of k) at) first
       (length-map v.lists (calls_on k) ∙ count) in
       let in_homes : k < length s.homes = omega (arith, all.homes, within) in
-      let home : get_or s.homes k none ≡ some keeps.now = ap (λ (hs : Homes). get_or hs 0 none) end.1 in
+      let home : get_or s.homes k none ≡ some keeps.now = ap (λ (hs : Homes). get_or hs 0 none) end.1.homes in
       let there : get_elem? xs k ≡ some keeps.now =
       final.4 k keeps.now (at_index s.homes k (some keeps.now) in_homes (sym home ∙ get_or_default s.homes k none (some keeps.now) in_homes)) in
       subst (HasLegalLog (map (calls_on k) v.lists) (opening_at openings k)) (sym (at_get xs k keeps.now blank there)) end.0
 
 -- no call was made through any seat
-none_on : (k n : ℕ) → map (calls_on k) (replicate n []) ≡ replicate n []
+pub none_on : (k n : ℕ) → map (calls_on k) (replicate n []) ≡ replicate n []
 none_on k zero = refl
 none_on k (suc n) = ap (λ (ls : List (List Entry)). [] ∷ ls) (none_on k n)
 
 -- new stores keep the rule
 pub begins_all : (seats : ℕ) (words : List ℕ) (states : List State) → length words ≡ length states + 1 → ((k : ℕ) → k < length states → get_or words k 0 ≡ 0)
-    → KeepsAll states seats (opening words states (all_seats seats))
+    → KeepsAll states seats (opening words states (all_seats states seats))
 begins_all seats words states many free = record {
   words = many;
   homes = length-map states some;
   each = λ k within.
       subst (Keeps (opening_at states k) seats)
-      (sym (same_table (table_at k (opening words states (all_seats seats))) (opening (0 ∷ []) (opening_at states k ∷ []) (known 0 (replicate seats []) None))
+      (sym (same_table (table_at k (opening words states (all_seats states seats))) (opening (0 ∷ []) (opening_at states k ∷ []) (known 0 (replicate seats []) None))
       (ap (λ (n : ℕ). n ∷ []) (free k within)) (ap (λ h. h ∷ []) (get_or-map some states k blank none within))
       (ap (λ (ls : List (List Entry)). known 0 ls None ∷ []) (none_on k seats))))
       (begins (opening_at states k) seats (opening_at states k) refl);

@@ -9,14 +9,14 @@ use Rattle.mm_desk.specs.Runs.{IsRun, opening_at}
 use Rattle.mm_desk.specs.Shuffles.{AreBelow, part}
 use Rattle.mm_shared.specs.declared.rule.Knows.{Knows}
 
--- what is known of seats from the first on: the list of calls of each, each call with the index of its store, and the state that is held,
--- with the index of its store
-abbrev pub knows : ℕ → List (List (ℕ × Entry)) → Option (ℕ × State) → Knows
-knows first lists held = record { first = first; lists = lists; held = held }
+-- what is known of seats from the first on: the states from which calls count, the list of calls of each seat, each call with the index
+-- of its store, and the state that is held, with the index of its store
+abbrev pub knows : List State → ℕ → List (List (ℕ × Entry)) → Option (ℕ × State) → Knows
+knows states first lists held = record { states = states; first = first; lists = lists; held = held }
 
 -- what is known of all seats where no call was made
-abbrev pub all_seats : ℕ → Knows
-all_seats seats = knows 0 (replicate seats []) None
+abbrev pub all_seats : List State → ℕ → Knows
+all_seats states seats = knows states 0 (replicate seats []) None
 
 -- what is known of seats at one store: the list of the calls that each made there, and its state, where it is held
 pub record Known : Type 0 where
@@ -88,3 +88,11 @@ pub record KeepsAll (openings : List State) (seats : ℕ) (t : Table State Knows
   pub words : length t.words ≡ length openings + 1
   pub homes : length t.homes ≡ length openings
   pub each : (k : ℕ) → k < length openings → Keeps (opening_at openings k) seats (table_at k t)
+
+-- there are states from which calls count, one for each of this many stores, and each view that has a seat knows them; each store keeps the
+-- rule from them on. Without seats no call is ever made
+pub record IsKept (stores seats : ℕ) (t : Table State Knows) : Type 0 where
+  pub openings : List State
+  pub many : length openings ≡ stores
+  pub agree : (port : ℕ) (v : Knows) → get_elem? t.views port ≡ some v → (0 < length v.lists) ⊎ (seats ≡ 0) → v.states ≡ openings
+  pub keeps : KeepsAll openings seats t

@@ -1,29 +1,31 @@
 -- What one step with a shared store's seat does to it. No public clause cites this module.
-use Rattle.std.specs.Prelude.{◌≡◌, ◌≢◌, ℕ, ◌+◌, ◌<◌, List, [], ◌∷◌, ◌++◌, length, Some, None, slice_index_or, drop}
+use Rattle.std.specs.Prelude.{◌≡◌, ◌≢◌, ℕ, ◌+◌, ◌<◌, List, [], ◌∷◌, ◌++◌, length, map, Some, None, slice_index_or, drop}
 use Rattle.atomic_table.specs.declared.shared.Seat.{Seat}
 use Rattle.atomic_table.specs.Table.{Me, Step}
 use Rattle.atomic_table.specs.Seated.{TableId}
 use Rattle.mm_desk.specs.declared.event.Event.{Event}
 use Rattle.mm_desk.specs.declared.reply.Reply.{Reply}
-use Rattle.mm_desk.specs.Machine.{State, step}
-use Rattle.mm_desk.specs.Runs.{entry}
+use Rattle.mm_desk.specs.Machine.{State, IsState, step}
+use Rattle.mm_desk.specs.Runs.{entry, opening_at}
 use Rattle.mm_shared.specs.declared.rule.Knows.{Knows}
-use Rattle.mm_shared.specs.Rule.{knows}
+use Rattle.mm_shared.specs.declared.tally.Tally.{Tally}
+use Rattle.mm_shared.specs.Rule.{knows, all_seats, calls_on}
+use Rattle.mm_shared.specs.Views.{HasLegalLog, HaveLogs, tally_of}
 
 -- a seat of a shared store: what it knows, and what it has of the slot
 abbrev pub Seated : Type 0
 Seated = Me State Knows
 
--- a table of stores that were opened in these states has a word and a slot of this index, which are a store's
-pub record HasSlot (id : TableId) (openings : List State) (k : ℕ) : Type 0 where
+-- a table of this many stores has a word and a slot of this index, which are a store's
+pub record HasSlot (id : TableId) (stores k : ℕ) : Type 0 where
   pub word : k < id.words
   pub slot : k < id.slots
-  pub opened : k < length openings
+  pub opened : k < stores
 
--- a table has a word and a slot for each store that was opened, and a word more
-pub record HasSlots (id : TableId) (openings : List State) : Type 0 where
-  pub words : id.words ≡ length openings + 1
-  pub slots : id.slots ≡ length openings
+-- a table has a word and a slot for each of this many stores, and a word more
+pub record HasSlots (id : TableId) (stores : ℕ) : Type 0 where
+  pub words : id.words ≡ stores + 1
+  pub slots : id.slots ≡ stores
 
 -- a seat that has no slot
 pub record IsAtRest (m : Seated) : Type 0 where
@@ -32,11 +34,11 @@ pub record IsAtRest (m : Seated) : Type 0 where
 
 -- the seat holding the state of the store of an index, which was the first one when it was taken and is the second one now
 abbrev pub holding : ℕ → Seated → State → State → Seated
-holding k m taken now = (knows m.0.first m.0.lists (Some (k, taken)), (k, now) ∷ [])
+holding k m taken now = (record m.0 { held = Some (k, taken) }, (k, now) ∷ [])
 
 -- the seat at rest
 abbrev pub at_rest : Seated → Seated
-at_rest m = (knows m.0.first m.0.lists None, [])
+at_rest m = (record m.0 { held = None }, [])
 
 -- the seat holds the state of a store, which is still as it was taken
 abbrev pub Holds : ℕ → Seated → Seated → Type 0
@@ -59,6 +61,15 @@ pub record IsAsTaken (k : ℕ) (m : Seated) : Type 0 where
   pub held : m.0.held ≡ Some (k, taken)
   pub has : m.1 ≡ (k, taken) ∷ []
 
+-- a seat has the state of a store, which is sound and has this tally, and keeps it
+pub record IsTold (k : ℕ) (seat after : Seat State Knows) (told : Tally) : Type 0 where
+  pub of : after.table_id ≡ seat.table_id
+  pub same : after.me ≡ seat.me
+  pub now : State
+  pub has : seat.me.1 ≡ (k, now) ∷ []
+  pub sound : IsState now
+  pub tally : told ≡ tally_of now
+
 -- a seat of this table, which holds a state
 pub record HoldsAt (id : TableId) (k : ℕ) (seat : Seat State Knows) : Type 0 where
   pub of : seat.table_id ≡ id
@@ -73,7 +84,7 @@ lists_with call (list ∷ lists) = (list ++ call ∷ []) ∷ lists
 
 -- the seat at rest, with one call more in the list of its first seat
 abbrev pub called : ℕ → Seated → Event → Reply → Seated
-called k m event reply = (knows m.0.first (lists_with (k, entry m.0.first event reply) m.0.lists) None, [])
+called k m event reply = (record m.0 { lists = lists_with (k, entry m.0.first event reply) m.0.lists; held = None }, [])
 
 -- the seat holds the state of a store that this call left
 pub record HasCalled (k : ℕ) (event : Event) (reply : Reply) (m : Seated) : Type 0 where
@@ -97,14 +108,34 @@ pub record HeldSteps (k : ℕ) (seat : Seat State Knows) (event : Event) (reply 
 abbrev pub tried : Step State → Seated → ℕ → Seated → Type 0
 tried st m r n = (r ≡ 0 → Holds st.word m n) × (r ≢ 0 → n ≡ m)
 
+-- who has all seats takes the state of a store, which went by a legal log of the calls of all since they count
+pub record IsTakenByAll (k : ℕ) (m n : Seated) : Type 0 where
+  pub now : State
+  pub holds : n ≡ holding k m now now
+  pub went : HasLegalLog (map (calls_on k) m.0.lists) (opening_at m.0.states k) now
+
+-- these are all seats, of which there are some, and none holds a state
+pub record AreAll (seats : ℕ) (m : Seated) : Type 0 where
+  pub rest : IsAtRest m
+  pub first : m.0.first ≡ 0
+  pub count : length m.0.lists ≡ seats
+  pub some_seat : 0 < seats
+
+-- who has all seats knows what became of each of this many stores, by a legal log of the calls of all; from then on calls count from
+-- these states
+pub record IsSettled (stores : ℕ) (m n : Seated) : Type 0 where
+  pub went : HaveLogs m.0.lists m.0.states n.0.states
+  pub many : length n.0.states ≡ stores
+  pub all : n ≡ (all_seats n.0.states (length m.0.lists), [])
+
 -- the seats from the second on
 abbrev pub others_of : Knows → Knows
-others_of v = knows (v.first + 1) (drop 1 v.lists) v.held
+others_of v = record v { first = v.first + 1; lists = drop 1 v.lists }
 
 -- the first seat alone
 abbrev pub first_of : Knows → Knows
-first_of v = knows v.first (slice_index_or v.lists 0 [] ∷ []) None
+first_of v = record v { lists = slice_index_or v.lists 0 [] ∷ []; held = None }
 
 -- the seats of the second before those of the first
 abbrev pub joined : Knows → Knows → Knows
-joined v w = knows w.first (w.lists ++ v.lists) v.held
+joined v w = knows w.states w.first (w.lists ++ v.lists) v.held

@@ -1,12 +1,12 @@
 -- The stores of a step that workers share: a table of them, and a port for every worker.
-use Rattle.std.specs.Prelude.{◌≡◌, ℕ, ◌+◌, ◌<◌, ◌≤◌, List, [], ◌∷◌, length, map, slice_index_or, bytes_eq, AllPairs, All, false, vec_capacity}
-use Rattle.atomic_table.specs.Seated.{TableId}
+use Rattle.std.specs.Prelude.{◌≡◌, ℕ, ◌+◌, ◌-◌, ◌<◌, ◌≤◌, List, [], ◌∷◌, length, map, slice_index_or, bytes_eq, AllPairs, All, false, vec_capacity}
 use Rattle.mm_desk.specs.declared.entry.Entry.{Entry}
 use Rattle.mm_desk.specs.declared.held.Held.{Held}
 use Rattle.mm_desk.specs.Machine.{State}
 use Rattle.mm_desk.specs.Runs.{opening_at}
 use Rattle.mm_shared.specs.Rule.{calls_on}
-use Rattle.mm_shared.specs.Views.{PortView, PortsView, StoresView, HasLegalLog, no_ports}
+use Rattle.mm_desk.specs.declared.desk.TheConstants.{MAX_SEATS}
+use Rattle.mm_shared.specs.Views.{Origin, PortView, PortsView, StoresView, HasLegalLog, new_ports, ports_after}
 use Rattle.mm_shared.specs.declared.label.StoreLabel.{StoreLabel}
 use Rattle.mm_shared.specs.declared.stores.OpenStores.{OpenStores}
 
@@ -46,10 +46,17 @@ names_of labels = map (λ s. (s.id, s.channel)) labels
 
 -- stores can be given back under these labels: all their ports are together, and there is a label for each
 pub record MayClose (stores : StoresView) (ports : PortsView) (labels : List StoreLabel) : Type 0 where
-  pub of : ports.of ≡ stores.id
+  pub of : ports.of.table ≡ stores.id
   pub first : ports.first ≡ 0
   pub all : length ports.lists ≡ stores.seats
-  pub as_many : length labels ≡ length stores.openings
+  pub as_many : length labels ≡ stores.many
+
+-- these are all ports of stores, and there are some
+pub record AreAllPorts (stores : StoresView) (ports : PortsView) : Type 0 where
+  pub of : ports.of.table ≡ stores.id
+  pub first : ports.first ≡ 0
+  pub all : length ports.lists ≡ stores.seats
+  pub some_port : 0 < stores.seats
 
 -- the list of calls made through a port on the store of an index
 abbrev pub list_at : PortView → ℕ → List Entry
@@ -64,30 +71,49 @@ abbrev pub IsFresh : PortView → Type 0
 IsFresh port = port.list ≡ []
 
 -- where a port is, which no call changes: its stores, and the number of its seat
-abbrev pub end_of : PortView → TableId × ℕ
+abbrev pub end_of : PortView → Origin × ℕ
 end_of port = (port.of, port.number)
 
 -- where the ports of workers are
-abbrev pub all_ends : List PortView → List (TableId × ℕ)
+abbrev pub all_ends : List PortView → List (Origin × ℕ)
 all_ends workers = map end_of workers
 
 -- workers have ports of these stores, with the seats from this number on
-abbrev pub AreWorkers : TableId → ℕ → List PortView → Type 0
-AreWorkers id first workers = (i : ℕ) (d : PortView) → i < length workers → end_of (slice_index_or workers i d) ≡ (id, first + i)
+abbrev pub AreWorkers : Origin → ℕ → List PortView → Type 0
+AreWorkers of first workers = (i : ℕ) (d : PortView) → i < length workers → end_of (slice_index_or workers i d) ≡ (of, first + i)
 
--- each worker has a port, and the other ports and the room to give the stores back are there
-pub record AreOpen (it : OpenStores) : Type 0 where
-  pub labels : length it.labels.items ≡ length it.stores.openings
-  pub seats : it.stores.seats ≡ length it.workers.items
-  pub workers : AreWorkers it.stores.id 0 it.workers.items
-  pub rest : it.rest ≡ no_ports it.stores.id (length it.workers.items)
+-- open stores as they were when calls began to count
+abbrev pub stores_in : OpenStores → List Held
+stores_in it = held_stores it.labels.items it.rest.of.states
+
+-- what is so of open stores, in a step and between steps: each has a label, there are seats and room for as many workers as may be, and
+-- room to give the stores back
+pub record AreKept (it : OpenStores) : Type 0 where
+  pub of : it.rest.of.table ≡ it.stores.id
+  pub many : it.stores.many ≡ length it.labels.items
+  pub states : length it.rest.of.states ≡ length it.labels.items
+  pub seats : it.stores.seats ≡ MAX_SEATS
   pub empty : it.room.items ≡ []
   pub room : length it.labels.items ≤ vec_capacity it.room
+  pub seating : MAX_SEATS ≤ vec_capacity it.workers
+
+-- open stores between steps: no worker has a port, and no call was made
+pub record AreAtRest (it : OpenStores) : Type 0 where
+  pub kept : AreKept it
+  pub none : it.workers.items ≡ []
+  pub all : it.rest ≡ new_ports it.rest.of MAX_SEATS
+
+-- open stores in a step: each worker has a port, and the other ports are together
+pub record AreOpen (it : OpenStores) : Type 0 where
+  pub kept : AreKept it
+  pub workers : AreWorkers it.rest.of 0 it.workers.items
+  pub few : length it.workers.items ≤ MAX_SEATS
+  pub rest : it.rest ≡ ports_after it.rest.of (length it.workers.items) (MAX_SEATS - length it.workers.items)
 
 -- these stores are open for this many workers, and no call was made
 pub record AreNew (before : List Held) (workers : ℕ) (it : OpenStores) : Type 0 where
   pub labels : names_of it.labels.items ≡ labels_of before
-  pub states : it.stores.openings ≡ states_of before
+  pub states : it.rest.of.states ≡ states_of before
   pub are_open : AreOpen it
   pub count : length it.workers.items ≡ workers
   pub fresh : All IsFresh it.workers.items

@@ -7,37 +7,46 @@ use Rattle.mm_desk.specs.declared.reply.Reply.{Reply}
 use Rattle.mm_desk.specs.Machine.{State}
 use Rattle.mm_desk.specs.Runs.{entry, IsRun, opening_at}
 use Rattle.mm_desk.specs.Shuffles.{IsShuffle}
+use Rattle.mm_shared.specs.declared.tally.Tally.{Tally}
 use Rattle.mm_shared.specs.Rule.{calls_on}
 
--- stores that threads share: which table it is, the states that they were opened with, and how many seats there are
+-- stores that threads share: which table it is, how many stores and how many seats there are
 pub record StoresView : Type 0 where
   pub id : TableId
-  pub openings : List State
+  pub many : ℕ
   pub seats : ℕ
 
--- a port: which store it is of, the number of its seat there, and the list of the calls made through it
+-- where calls count from: the table of the stores, and the states that they were in
+pub record Origin : Type 0 where
+  pub table : TableId
+  pub states : List State
+
+abbrev pub origin : TableId → List State → Origin
+origin table states = record { table = table; states = states }
+
+-- a port: where its calls count from, the number of its seat, and the list of the calls made through it
 pub record PortView : Type 0 where
-  pub of : TableId
+  pub of : Origin
   pub number : ℕ
   pub list : List (ℕ × Entry)
 
--- ports that are still together: which store they are of, the first seat's number, and the list of calls of each
+-- ports that are still together: where their calls count from, the first seat's number, and the list of calls of each
 pub record PortsView : Type 0 where
-  pub of : TableId
+  pub of : Origin
   pub first : ℕ
   pub lists : List (List (ℕ × Entry))
 
 -- a port through which no call was made
-abbrev pub new_port : TableId → ℕ → PortView
-new_port id number = record { of = id; number = number; list = [] }
+abbrev pub new_port : Origin → ℕ → PortView
+new_port of number = record { of = of; number = number; list = [] }
 
 -- a port with one call more in its list
 abbrev pub with_call : PortView → ℕ → Event → Reply → PortView
 with_call port k event reply = record port { list = port.list ++ (k, entry port.number event reply) ∷ [] }
 
 -- all ports of a store with this many seats, through which no call was made
-abbrev pub new_ports : TableId → ℕ → PortsView
-new_ports id seats = record { of = id; first = 0; lists = replicate seats [] }
+abbrev pub new_ports : Origin → ℕ → PortsView
+new_ports of seats = record { of = of; first = 0; lists = replicate seats [] }
 
 -- the first of the ports
 abbrev pub first_port : PortsView → PortView
@@ -49,11 +58,15 @@ other_ports ports = record ports { first = ports.first + 1; lists = drop 1 ports
 
 -- the ports with this one before them
 abbrev pub with_port : PortView → PortsView → PortsView
-with_port port ports = record ports { first = port.number; lists = port.list ∷ ports.lists }
+with_port port ports = record { of = port.of; first = port.number; lists = port.list ∷ ports.lists }
 
--- no port is left: this many are with workers
-abbrev pub no_ports : TableId → ℕ → PortsView
-no_ports id seats = record { of = id; first = seats; lists = [] }
+-- the ports that are left where this many, the first ones, are with workers
+abbrev pub ports_after : Origin → ℕ → ℕ → PortsView
+ports_after of workers left = record { of = of; first = workers; lists = replicate left [] }
+
+-- what a store has counted, and how many packets it holds
+abbrev pub tally_of : State → Tally
+tally_of s = record { offered = s.offered; lost = s.lost; deleted = s.deleted; held = length s.store.content }
 
 -- there is a legal log from the first state to the second that is a shuffle of these lists, one for each seat
 pub record HasLegalLog (lists : List (List Entry)) (s t : State) : Type 0 where

@@ -1,5 +1,5 @@
 //! The calls that a port makes on a store. Each takes the store's lock, is made on the state itself, and gives the lock back.
-ghost use Rattle.std.specs.Prelude.{◌≡◌, ◌≢◌, ◌<◌, length, IfErr, Ok, Err};
+ghost use Rattle.std.specs.Prelude.{◌≡◌, ◌≢◌, ◌<◌, IfErr, Ok, Err};
 ghost use Rattle.mm_desk.specs.declared.fault.Fault.TheVariants.{NoMemory};
 ghost use Rattle.mm_shared.specs.Views.{with_call};
 
@@ -25,8 +25,8 @@ impl SharedStores {
         now: u64,
         packet: BlockPacket,
     ) -> Result<Offered, Returned>
-        requires of { port.old.of ≡ self.now.id }
-        requires within { store < length self.now.openings }
+        requires of { port.old.of.table ≡ self.now.id }
+        requires within { store < self.now.many }
         ensures called { port.new ≡ with_call port.old store (Event.Offer now packet) (Reply.Offered result) }
         ensures back { IfErr result (λ back. back.packet ≡ packet) }
     {
@@ -47,8 +47,8 @@ impl SharedStores {
         from: u64,
         to: u64,
     ) -> Result<(), Fault>
-        requires of { port.old.of ≡ self.now.id }
-        requires within { store < length self.now.openings }
+        requires of { port.old.of.table ≡ self.now.id }
+        requires within { store < self.now.many }
         ensures called { port.new ≡ with_call port.old store (Event.Begin from to) (Reply.Done result) }
     {
         let table = &self.table.shared;
@@ -67,8 +67,8 @@ impl SharedStores {
         port: &mut Port,
         store: usize,
     ) -> Result<Option<Stored>, Fault>
-        requires of { port.old.of ≡ self.now.id }
-        requires within { store < length self.now.openings }
+        requires of { port.old.of.table ≡ self.now.id }
+        requires within { store < self.now.many }
         ensures called { result ≢ Err NoMemory → port.new ≡ with_call port.old store Event.Next (Reply.Given result) }
         ensures lack { result ≡ Err NoMemory → port.new ≡ port.old }
     {
@@ -85,8 +85,8 @@ impl SharedStores {
 
     /// Ends the retrieval.
     pub fn abort<R: Wait>(&self, rt: &R, port: &mut Port, store: usize) -> Result<(), Fault>
-        requires of { port.old.of ≡ self.now.id }
-        requires within { store < length self.now.openings }
+        requires of { port.old.of.table ≡ self.now.id }
+        requires within { store < self.now.many }
         ensures called { port.new ≡ with_call port.old store Event.Abort (Reply.Done result) }
     {
         let table = &self.table.shared;
@@ -104,8 +104,8 @@ impl SharedStores {
         store: usize,
         limit: u64,
     ) -> Result<u32, Fault>
-        requires of { port.old.of ≡ self.now.id }
-        requires within { store < length self.now.openings }
+        requires of { port.old.of.table ≡ self.now.id }
+        requires within { store < self.now.many }
         ensures called { port.new ≡ with_call port.old store (Event.Delete limit) (Reply.Deleted result) }
     {
         let table = &self.table.shared;
@@ -117,8 +117,8 @@ impl SharedStores {
 
     /// Switches storage on.
     pub fn enable<R: Wait>(&self, rt: &R, port: &mut Port, store: usize)
-        requires of { port.old.of ≡ self.now.id }
-        requires within { store < length self.now.openings }
+        requires of { port.old.of.table ≡ self.now.id }
+        requires within { store < self.now.many }
         ensures called { port.new ≡ with_call port.old store Event.Enable (Reply.Done (Ok tt)) }
     {
         let table = &self.table.shared;
@@ -129,8 +129,8 @@ impl SharedStores {
 
     /// Switches storage off. A retrieval goes on.
     pub fn disable<R: Wait>(&self, rt: &R, port: &mut Port, store: usize)
-        requires of { port.old.of ≡ self.now.id }
-        requires within { store < length self.now.openings }
+        requires of { port.old.of.table ≡ self.now.id }
+        requires within { store < self.now.many }
         ensures called { port.new ≡ with_call port.old store Event.Disable (Reply.Done (Ok tt)) }
     {
         let table = &self.table.shared;

@@ -1,9 +1,10 @@
 //! Calls on the state of a store that a seat holds.
 ghost use Rattle.std.specs.Prelude.{◌≡◌, ◌≢◌, Ok, Err};
 ghost use Rattle.mm_desk.specs.declared.fault.Fault.TheVariants.{NoMemory};
-ghost use Rattle.mm_shared.specs.Steps.{HoldsAt, HeldSteps};
+ghost use Rattle.mm_shared.specs.Steps.{HoldsAt, HeldSteps, IsTold};
 
 use crate::rule::{StoreSeat, StoreTable};
+use crate::tally::Tally;
 use mm_desk::{Event, Fault, Offered, Reply, Returned};
 use mm_packet::BlockPacket;
 use mm_store::Stored;
@@ -80,4 +81,11 @@ pub(crate) fn disable(table: &StoreTable, seat: &mut StoreSeat, store: usize)
     ensures steps { HeldSteps store seat.old Event.Disable (Reply.Done (Ok tt)) seat.new }
 {
     seat.slot_mut(table, store).disable();
+}
+
+pub(crate) fn tally(table: &StoreTable, seat: &mut StoreSeat, store: usize) -> Tally
+    requires held { HoldsAt table.now.table_id store seat.old }
+    ensures told { IsTold store seat.old seat.new result }
+{
+    Tally::of(seat.slot_mut(table, store))
 }

@@ -10,8 +10,10 @@ mod port;
 mod rule;
 mod shared;
 mod stores;
+mod tally;
 
 pub use label::StoreLabel;
 pub use port::{Port, Ports};
 pub use shared::SharedStores;
-pub use stores::{OpenStores, close_all, open_all, place_of};
+pub use stores::{OpenStores, close_all, open_all, place_of, seat_workers, settle, tally_at};
+pub use tally::Tally;

@@ -1,8 +1,8 @@
 //! The lock of each shared store: its state is taken, and given back.
-ghost use Rattle.std.specs.Prelude.{◌≡◌, MatchBool};
-ghost use Rattle.mm_shared.specs.Steps.{HasSlot, MayTake, Holds, HasTaken, HasCalled, IsAsTaken, called, at_rest};
+ghost use Rattle.std.specs.Prelude.{◌≡◌, MatchBool, length};
+ghost use Rattle.mm_shared.specs.Steps.{HasSlot, MayTake, Holds, HasTaken, HasCalled, IsAsTaken, AreAll, IsTakenByAll, called, at_rest};
 
-use crate::rule::{Call, Give, Restore, StoreSeat, StoreTable, Take};
+use crate::rule::{Call, Give, Restore, StoreSeat, StoreTable, Take, TakeByAll};
 use std::hint::spin_loop;
 use std::sync::Wait;
 
@@ -18,7 +18,7 @@ const TRIES: u32 = 100;
 
 // Takes the state, where it comes free soon.
 fn try_take(table: &StoreTable, seat: &mut StoreSeat, store: usize) -> bool
-    requires there { HasSlot table.now.table_id table.now.key.states.value.items store }
+    requires there { HasSlot table.now.table_id (length table.now.key.states.value.items) store }
     requires may { MayTake table.now.table_id seat.old }
     ensures of { seat.new.table_id ≡ seat.old.table_id }
     ensures took { MatchBool result (Holds store seat.old.me seat.new.me) (seat.new.me ≡ seat.old.me) }
@@ -37,7 +37,7 @@ fn try_take(table: &StoreTable, seat: &mut StoreSeat, store: usize) -> bool
 // Takes the state once it comes free.
 #[inline(never)]
 fn wait<R: Wait>(rt: &R, table: &StoreTable, seat: &mut StoreSeat, store: usize)
-    requires there { HasSlot table.now.table_id table.now.key.states.value.items store }
+    requires there { HasSlot table.now.table_id (length table.now.key.states.value.items) store }
     requires may { MayTake table.now.table_id seat.old }
     ensures took { HasTaken store seat.old seat.new }
 {
@@ -56,13 +56,24 @@ fn wait<R: Wait>(rt: &R, table: &StoreTable, seat: &mut StoreSeat, store: usize)
 // Takes the state. Where it is free this is one step.
 #[inline(always)]
 pub(crate) fn take<R: Wait>(rt: &R, table: &StoreTable, seat: &mut StoreSeat, store: usize)
-    requires there { HasSlot table.now.table_id table.now.key.states.value.items store }
+    requires there { HasSlot table.now.table_id (length table.now.key.states.value.items) store }
     requires may { MayTake table.now.table_id seat.old }
     ensures took { HasTaken store seat.old seat.new }
 {
     if table.compare_exchange::<Take>(seat, store, FREE, LOCKED) != FREE {
         wait(rt, table, seat, store);
     }
+}
+
+// Takes the state, with all seats: it is in its slot.
+pub(crate) fn take_by_all(table: &StoreTable, seat: &mut StoreSeat, store: usize)
+    requires of { seat.old.table_id ≡ table.now.table_id }
+    requires there { HasSlot table.now.table_id (length table.now.key.states.value.items) store }
+    requires all { AreAll table.now.key.seats seat.old.me }
+    ensures of { seat.new.table_id ≡ seat.old.table_id }
+    ensures took { IsTakenByAll store seat.old.me seat.new.me }
+{
+    table.swap::<TakeByAll>(seat, store, LOCKED);
 }
 
 // Gives the state back after a call on it. What was asked and answered is for the proof alone.
@@ -74,7 +85,7 @@ pub(crate) fn give<T: Call, X, Y>(
     _answer: &Y,
 )
     requires of { seat.old.table_id ≡ table.now.table_id }
-    requires there { HasSlot table.now.table_id table.now.key.states.value.items store }
+    requires there { HasSlot table.now.table_id (length table.now.key.states.value.items) store }
     requires called { HasCalled store T.event T.reply seat.old.me }
     ensures of { seat.new.table_id ≡ seat.old.table_id }
     ensures gave { seat.new.me ≡ called store seat.old.me T.event T.reply }
@@ -87,7 +98,7 @@ pub(crate) fn give<T: Call, X, Y>(
 // Gives the state back as it was taken.
 pub(crate) fn restore(table: &StoreTable, seat: &mut StoreSeat, store: usize)
     requires of { seat.old.table_id ≡ table.now.table_id }
-    requires there { HasSlot table.now.table_id table.now.key.states.value.items store }
+    requires there { HasSlot table.now.table_id (length table.now.key.states.value.items) store }
     requires same { IsAsTaken store seat.old.me }
     ensures of { seat.new.table_id ≡ seat.old.table_id }
     ensures rest { seat.new.me ≡ at_rest seat.old.me }

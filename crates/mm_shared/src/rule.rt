@@ -1,7 +1,7 @@
 //! What is known of a shared store, in the proofs alone, and the rule that all its steps keep.
-ghost use Rattle.mm_shared.specs.Rule.{KeepsAll, knows, all_seats};
-ghost use Rattle.mm_shared.specs.Steps.{tried, called, at_rest, first_of, others_of, joined};
-ghost use Rattle.std.specs.Prelude.{◌≡◌, [], None, Ok};
+ghost use Rattle.mm_shared.specs.Rule.{IsKept, knows, all_seats};
+ghost use Rattle.mm_shared.specs.Steps.{tried, IsTakenByAll, IsSettled, called, at_rest, first_of, others_of, joined};
+ghost use Rattle.std.specs.Prelude.{◌≡◌, [], None, Ok, length};
 ghost use Rattle.mm_desk.specs.declared.event.Event.{Event as Asked};
 ghost use Rattle.mm_desk.specs.declared.event.Event.TheVariants.{Enable};
 ghost use Rattle.mm_desk.specs.declared.reply.Reply.{Reply as Answered};
@@ -12,9 +12,10 @@ use std::collections::LinkedList;
 use std::marker::{Brand, PhantomData};
 use std::snapshot::Snapshot;
 
-/// What is known with seats: the number of the first, the calls made through each from it on, each with the index of its store, and
-/// the state that it holds, with the index of its store. No value of it is made.
+/// What is known with seats: the states from which calls count, the number of the first seat, the calls made through each from it on,
+/// each with the index of its store, and the state that it holds, with the index of its store. No value of it is made.
 pub struct Knows {
+    pub states: LinkedList<StoreState>,
     pub first: u64,
     pub lists: LinkedList<LinkedList<(u64, Entry)>>,
     pub held: Option<(u64, StoreState)>,
@@ -32,9 +33,9 @@ pub struct Opened {
 pub struct Ruled;
 
 impl TableRule<StoreState, Knows, Opened> for Ruled {
-    ghost holds = { λ key. KeepsAll key.states.value.items key.seats };
+    ghost holds = { λ key. IsKept (length key.states.value.items) key.seats };
 
-    ghost first = { λ key. all_seats key.seats };
+    ghost first = { λ key. all_seats key.states.value.items key.seats };
 }
 
 /// A seat of a shared store.
@@ -48,6 +49,20 @@ pub struct Take;
 
 impl Play<StoreState, Knows> for Take {
     ghost then = { tried };
+}
+
+/// The state is taken by who has all seats.
+pub struct TakeByAll;
+
+impl Play<StoreState, Knows> for TakeByAll {
+    ghost then = { λ st m r n. IsTakenByAll st.word m n };
+}
+
+/// Who has all seats learns what became of the stores.
+pub struct Settle;
+
+impl Play<StoreState, Knows> for Settle {
+    ghost then = { λ st m r n. IsSettled st.slots m n };
 }
 
 /// The call that was made on a state that is held, with its answer.
@@ -94,5 +109,5 @@ pub struct Before;
 impl Join<Knows> for Before {
     ghost both = { joined };
 
-    ghost spent = { knows 0 [] None };
+    ghost spent = { knows [] 0 [] None };
 }

@@ -7,12 +7,15 @@ ghost use Rattle.mm_base.specs.declared.limits.TheConstants.{MAX_STORES};
 ghost use Rattle.mm_desk.specs.Machine.{IsState};
 ghost use Rattle.mm_desk.specs.Runs.{opening_at};
 ghost use Rattle.mm_shared.specs.Rule.{calls_on};
-ghost use Rattle.mm_shared.specs.Stores.{held_stores, labels_of, names_of, states_of, MayClose};
-ghost use Rattle.mm_shared.specs.Views.{HaveLogs, new_ports, first_port, other_ports, with_port};
+ghost use Rattle.mm_shared.specs.Stores.{held_stores, labels_of, names_of, states_of, AreAllPorts, MayClose};
+ghost use Rattle.mm_shared.specs.Views.{HaveLogs, origin, new_ports, first_port, other_ports, with_port, tally_of};
 
+use crate::held;
 use crate::label::StoreLabel;
+use crate::lock::{restore, take_by_all};
 use crate::port::{Port, Ports};
-use crate::rule::{Before, First, Knows, Opened, Ruled};
+use crate::rule::{Before, First, Knows, Opened, Ruled, Settle};
+use crate::tally::Tally;
 use atomic_table::{Closed, Refused, Table};
 use mm_base::{MAX_STORES, NoMemory};
 use mm_desk::{Held, StoreState};
@@ -20,22 +23,23 @@ use std::alloc::Global;
 use std::marker::Model;
 use std::snapshot::Snapshot;
 
-/// Packet stores that threads share, each by a port of its own. Stores count from 0. Contracts see which ones they are, the states that
-/// they were opened with and how many seats there are.
+/// Packet stores that threads share, each by a port of its own. Stores count from 0. Contracts see which ones they are, how many,
+/// and how many seats there are.
 #[derive(Drop)]
 pub struct SharedStores {
     pub(crate) table: Table<StoreState, Knows, Opened, Ruled, Global>,
 }
 
 impl Model for SharedStores {
+    ghost use Rattle.std.specs.Prelude.{length};
     ghost use Rattle.mm_shared.specs.Steps.{HasSlots};
     ghost use Rattle.mm_shared.specs.Views.{StoresView};
 
     ghost Value = { StoresView };
 
-    ghost view = { λ s. record { id = s.table.shared.table_id; openings = s.table.shared.key.states.value.items; seats = s.table.shared.key.seats } };
+    ghost view = { λ s. record { id = s.table.shared.table_id; many = length s.table.shared.key.states.value.items; seats = s.table.shared.key.seats } };
 
-    ghost invariant = { λ s. HasSlots s.table.shared.table_id s.table.shared.key.states.value.items };
+    ghost invariant = { λ s. HasSlots s.table.shared.table_id (length s.table.shared.key.states.value.items) };
 }
 
 // Takes one state out of a closed table.
@@ -80,8 +84,8 @@ impl SharedStores {
         seats: u32,
     ) -> Result<(SharedStores, Ports), (Vec<StoreState>, NoMemory)>
         requires few { length states.items ≤ MAX_STORES }
-        ensures opened { IfOk result (λ o. (o.0.openings ≡ states.items) × (o.0.seats ≡ seats)) }
-        ensures ports { IfOk result (λ o. o.1 ≡ new_ports o.0.id seats) }
+        ensures opened { IfOk result (λ o. (o.0.many ≡ length states.items) × (o.0.seats ≡ seats)) }
+        ensures ports { IfOk result (λ o. o.1 ≡ new_ports (origin o.0.id states.items) seats) }
         ensures back { IfErr result (λ refused. refused.0.items ≡ states.items) }
     {
         let words = [0u64; MAX_STORES + 1];
@@ -97,7 +101,7 @@ impl SharedStores {
 
     /// Parts the first seat from the others, which gets a port of its own.
     pub fn split(&self, ports: &mut Ports) -> Port
-        requires of { ports.old.of ≡ self.now.id }
+        requires of { ports.old.of.table ≡ self.now.id }
         requires some { 0 < length ports.old.lists }
         ensures port { result ≡ first_port ports.old }
         ensures others { ports.new ≡ other_ports ports.old }
@@ -110,7 +114,7 @@ impl SharedStores {
 
     /// Puts a port before those whose first seat comes next after its own.
     pub fn join(&self, ports: &mut Ports, port: Port)
-        requires of { (ports.old.of ≡ self.now.id) × (port.of ≡ self.now.id) }
+        requires of { (ports.old.of.table ≡ self.now.id) × (port.of.table ≡ self.now.id) }
         requires next { port.number + 1 ≡ ports.old.first }
         ensures joined { ports.new ≡ with_port port ports.old }
     {
@@ -120,14 +124,40 @@ impl SharedStores {
         ports.first = port.number;
     }
 
+    // Learns what became of the stores, with all ports: from then on their calls count from the states that the stores are in.
+    pub(crate) fn settle(&self, ports: &mut Ports)
+        requires all { AreAllPorts self.now ports.old }
+        ensures went { HaveLogs ports.old.lists ports.old.of.states ports.new.of.states }
+        ensures many { length ports.new.of.states ≡ self.now.many }
+        ensures all { ports.new ≡ new_ports (origin self.now.id ports.new.of.states) self.now.seats }
+    {
+        self.table.shared.load::<Settle>(&mut ports.seat, 0);
+    }
+
+    // The tally of a store, with all ports, through which no call was made.
+    pub(crate) fn tally(&self, ports: &mut Ports, store: usize) -> Tally
+        requires all { AreAllPorts self.now ports.old }
+        requires fresh { All (λ calls. calls ≡ []) ports.old.lists }
+        requires within { store < self.now.many }
+        ensures same { ports.new ≡ ports.old }
+        ensures tally { result ≡ tally_of (opening_at ports.old.of.states store) }
+        ensures sound { IsState (opening_at ports.old.of.states store) }
+    {
+        let table = &self.table.shared;
+        take_by_all(table, &mut ports.seat, store);
+        let tally = held::tally(table, &mut ports.seat, store);
+        restore(table, &mut ports.seat, store);
+        tally
+    }
+
     /// Gives the stores back under these labels, with all ports. It takes no memory.
     pub fn close(self, ports: Ports, labels: &[StoreLabel], stores: &mut Vec<Held>)
         requires may { MayClose self ports labels.now }
         requires room { (stores.old.items ≡ []) × (length labels.now ≤ vec_capacity stores.old) }
         ensures labels { labels_of stores.new.items ≡ names_of labels.now }
-        ensures went { HaveLogs ports.lists self.openings (states_of stores.new.items) }
-        ensures untouched { (k : ℕ) → k < length self.openings → All (λ calls. calls_on k calls ≡ []) ports.lists
-            → opening_at (states_of stores.new.items) k ≡ opening_at self.openings k }
+        ensures went { HaveLogs ports.lists ports.of.states (states_of stores.new.items) }
+        ensures untouched { (k : ℕ) → k < self.many → All (λ calls. calls_on k calls ≡ []) ports.lists
+            → opening_at (states_of stores.new.items) k ≡ opening_at ports.of.states k }
         ensures sound { All (λ h. IsState h.state) stores.new.items }
     {
         take_out(self.table.close_with(ports.seat), labels, stores);
@@ -135,7 +165,7 @@ impl SharedStores {
 
     /// Gives the stores back under these labels, without the ports. Nothing is known of them but that they are sound. It takes no memory.
     pub fn into_stores(self, labels: &[StoreLabel], stores: &mut Vec<Held>)
-        requires as_many { length labels.now ≡ length self.openings }
+        requires as_many { length labels.now ≡ self.many }
         requires room { (stores.old.items ≡ []) × (length labels.now ≤ vec_capacity stores.old) }
         ensures labels { labels_of stores.new.items ≡ names_of labels.now }
         ensures sound { All (λ h. IsState h.state) stores.new.items }

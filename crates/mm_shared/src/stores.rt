@@ -1,19 +1,23 @@
-//! The stores of a step that workers share.
-ghost use Rattle.std.specs.Prelude.{◌≡◌, ℕ, ◌+◌, ◌<◌, ◌≤◌, ◌==◌, [], length, map, replicate, All, false, IfOk, OnErr, IfSome, IfNone, bytes_eq, vec_len, vec_capacity};
+//! The stores of a run that the workers of its steps share.
+ghost use Rattle.std.specs.Prelude.{◌≡◌, ℕ, ◌-◌, ◌<◌, ◌≤◌, ◌==◌, [], ◌++◌, length, map, replicate, All, false, IfOk, OnErr, IfSome, IfNone, bytes_eq, vec_len, vec_capacity};
+ghost use Rattle.mm_desk.specs.declared.desk.TheConstants.{MAX_SEATS};
+ghost use Rattle.mm_desk.specs.Runs.{opening_at};
 ghost use Rattle.mm_base.specs.declared.limits.TheConstants.{MAX_STORES};
 ghost use Rattle.mm_desk.specs.Machine.{IsState};
-ghost use Rattle.mm_shared.specs.Views.{new_ports, no_ports};
-ghost use Rattle.mm_shared.specs.Stores.{held_stores, label_of, states_of, labels_of, names_of, ids_of, id_at, AreNamed, AreWorkers, IsFresh, AreOpen, AreNew, HaveLegalLogs};
+ghost use Rattle.mm_shared.specs.Views.{new_ports, ports_after, tally_of};
+ghost use Rattle.mm_shared.specs.Stores.{held_stores, label_of, states_of, labels_of, names_of, ids_of, id_at, stores_in, AreNamed, AreWorkers, IsFresh, AreAtRest, AreOpen, AreNew, HaveLegalLogs};
 
 use crate::label::StoreLabel;
 use crate::port::{Port, Ports};
 use crate::shared::SharedStores;
+use crate::tally::Tally;
 use mm_base::{NoMemory, StoreId};
-use mm_desk::{Held, StoreState};
+use mm_desk::{Held, MAX_SEATS, StoreState};
 use std::alloc::Global;
 use std::mem::replace;
 
-/// Stores that are open, and the port of each worker. What else is needed to give the stores back is kept beside them.
+/// Stores that are open for the steps of a run, and the port of each worker of a step. What else is needed to give the stores back is
+/// kept beside them.
 #[derive(Drop)]
 pub struct OpenStores {
     pub labels: Vec<StoreLabel>,
@@ -78,13 +82,16 @@ fn join_all(labels: Vec<StoreLabel>, states: Vec<StoreState>, stores: &mut Vec<H
 
 // Gives each worker a port.
 fn give_ports(stores: &SharedStores, rest: &mut Ports, count: u32, workers: &mut Vec<Port>)
-    requires all { rest.old ≡ new_ports stores.now.id count }
+    requires of { rest.old.of.table ≡ stores.now.id }
+    requires all { rest.old ≡ new_ports rest.old.of MAX_SEATS }
+    requires few { count ≤ MAX_SEATS }
     requires none { workers.old.items ≡ [] }
     requires room { count ≤ vec_capacity workers.old }
-    ensures workers { AreWorkers stores.now.id 0 workers.new.items }
+    ensures workers { AreWorkers rest.old.of 0 workers.new.items }
     ensures count { length workers.new.items ≡ count }
     ensures fresh { All IsFresh workers.new.items }
-    ensures rest { rest.new ≡ no_ports stores.now.id count }
+    ensures rest { rest.new ≡ ports_after rest.old.of count (MAX_SEATS - count) }
+    ensures capacity { vec_capacity workers.new ≡ vec_capacity workers.old }
 {
     for _ in 0..count {
         workers.push_reserved(stores.split(rest));
@@ -92,36 +99,41 @@ fn give_ports(stores: &SharedStores, rest: &mut Ports, count: u32, workers: &mut
 }
 
 // Takes the ports of all workers back.
-fn take_ports(stores: &SharedStores, rest: &mut Ports, workers: Vec<Port>)
-    requires workers { AreWorkers stores.now.id 0 workers.items }
-    requires rest { rest.old ≡ no_ports stores.now.id (length workers.items) }
-    ensures all { rest.new ≡ record { of = stores.now.id; first = 0; lists = map (λ w. w.list) workers.items } }
+fn take_ports(stores: &SharedStores, rest: &mut Ports, workers: &mut Vec<Port>)
+    requires of { rest.old.of.table ≡ stores.now.id }
+    requires workers { AreWorkers rest.old.of 0 workers.old.items }
+    requires rest { rest.old ≡ ports_after rest.old.of (length workers.old.items) (MAX_SEATS - length workers.old.items) }
+    ensures all { rest.new ≡ record {
+      of = rest.old.of;
+      first = 0;
+      lists = map (λ w. w.list) workers.old.items ++ replicate (MAX_SEATS - length workers.old.items) [];
+    } }
+    ensures none { workers.new.items ≡ [] }
+    ensures capacity { vec_capacity workers.new ≡ vec_capacity workers.old }
 {
-    let mut workers = workers;
     while let Some(port) = workers.pop() {
         stores.join(rest, port);
     }
 }
 
-/// Opens stores for this many workers, each with a port. Where there is no memory the stores are as they were.
-pub fn open_all(alloc: Global, stores: &mut Vec<Held>, workers: u32) -> Result<OpenStores, NoMemory>
+/// Opens stores. Where there is no memory they are as they were; what the steps need of it is taken here.
+pub fn open_all(alloc: Global, stores: &mut Vec<Held>) -> Result<OpenStores, NoMemory>
     requires few { vec_len stores.old ≤ MAX_STORES }
-    ensures opened { IfOk result (λ it. AreNew stores.old.items workers it) }
+    ensures opened { IfOk result (λ it. AreAtRest it × (stores_in it ≡ stores.old.items)) }
     ensures err { OnErr result (stores.new.items ≡ stores.old.items) }
 {
     let count = stores.len();
     let mut labels = Vec::with_capacity(alloc, count)?;
     let mut states = Vec::with_capacity(alloc, count)?;
-    let mut ports = Vec::with_capacity(alloc, workers as usize)?;
+    let workers = Vec::with_capacity(alloc, MAX_SEATS as usize)?;
     part_all(stores, &mut labels, &mut states);
-    match SharedStores::open(alloc, states, workers) {
-        Ok((shared, mut rest)) => {
-            give_ports(&shared, &mut rest, workers, &mut ports);
+    match SharedStores::open(alloc, states, MAX_SEATS) {
+        Ok((shared, rest)) => {
             let room = replace(stores, Vec::new(alloc));
             Ok(OpenStores {
                 labels,
                 stores: shared,
-                workers: ports,
+                workers,
                 rest,
                 room,
             })
@@ -133,21 +145,55 @@ pub fn open_all(alloc: Global, stores: &mut Vec<Held>, workers: u32) -> Result<O
     }
 }
 
-/// Takes all ports back, and gives the stores back in the states that they are in. It takes no memory.
+/// Begins a step: each of this many workers gets a port.
+pub fn seat_workers(opened: &mut OpenStores, workers: u32)
+    requires rest { AreAtRest opened.old }
+    requires few { workers ≤ MAX_SEATS }
+    ensures new { AreNew (stores_in opened.old) workers opened.new }
+{
+    give_ports(
+        &opened.stores,
+        &mut opened.rest,
+        workers,
+        &mut opened.workers,
+    );
+}
+
+/// Ends a step: takes all ports back. Each store is known to have gone by a legal log of the workers' calls on it.
+pub fn settle(opened: &mut OpenStores)
+    requires opened { AreOpen opened.old }
+    ensures rest { AreAtRest opened.new }
+    ensures labels { labels_of (stores_in opened.new) ≡ names_of opened.old.labels.items }
+    ensures went { HaveLegalLogs opened.old.workers.items opened.old.rest.of.states (states_of (stores_in opened.new)) }
+{
+    take_ports(&opened.stores, &mut opened.rest, &mut opened.workers);
+    opened.stores.settle(&mut opened.rest);
+}
+
+/// The tally of the store at an index, between steps.
+pub fn tally_at(opened: &mut OpenStores, store: usize) -> Tally
+    requires rest { AreAtRest opened.old }
+    requires within { store < length (stores_in opened.old) }
+    ensures same { opened.new ≡ opened.old }
+    ensures tally { result ≡ tally_of (opening_at (states_of (stores_in opened.old)) store) }
+    ensures sound { IsState (opening_at (states_of (stores_in opened.old)) store) }
+{
+    opened.stores.tally(&mut opened.rest, store)
+}
+
+/// Gives the stores back as they are between steps. It takes no memory.
 pub fn close_all(opened: OpenStores, stores: &mut Vec<Held>)
-    requires opened { AreOpen opened }
-    ensures labels { labels_of stores.new.items ≡ names_of opened.labels.items }
-    ensures went { HaveLegalLogs opened.workers.items opened.stores.openings (states_of stores.new.items) }
+    requires rest { AreAtRest opened }
+    ensures stores { stores.new.items ≡ stores_in opened }
     ensures sound { All (λ h. IsState h.state) stores.new.items }
 {
     let OpenStores {
         labels,
         stores: shared,
-        workers,
-        mut rest,
+        workers: _,
+        rest,
         mut room,
     } = opened;
-    take_ports(&shared, &mut rest, workers);
     shared.close(rest, &labels, &mut room);
     *stores = room;
 }

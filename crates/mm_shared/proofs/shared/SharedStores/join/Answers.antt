@@ -1,6 +1,6 @@
 use Rattle.std.proofs.Common.{rules, ap, arith}
 use Rattle.mm_shared.specs.Views.{PortView, PortsView}
-use Rattle.mm_shared.proofs.Slices.{joins_all}
+use Rattle.mm_shared.proofs.Kept.{joins_kept}
 use Rattle.mm_shared.proofs.shared.SharedStores.join.Goals as goal
 
 pub join_seat-requires : goal.join_seat-requires
@@ -11,5 +11,5 @@ join_seat-requires c =
       search rules,
       c.port.invariant.0.empty,
       search rules,
-      joins_all _ _ _ _ _ _ c.ports.invariant.0.none c.port.invariant.0.none (omega (arith, number, first, c.port.invariant.2, c.requires.next)),
+      joins_kept _ _ _ _ _ _ c.ports.invariant.0.none c.port.invariant.0.none (omega (arith, number, first, c.port.invariant.2, c.requires.next)) (omega (arith, c.port.invariant.2)),
     )

@@ -1,0 +1,63 @@
+-- Seats through which no call was made have no part in a log.
+use Rattle.std.proofs.Common.{◌≡◌, ◌≢◌, ◌⊎◌, inl, inr, ℕ, ◌-◌, ◌<◌, ◌≤◌, List, [], ◌∷◌, ◌++◌, length, map, replicate, get_or, refl, sym, ap, ◌∙◌, subst, arith}
+use Rattle.std.specs.Prelude.{All}
+use Rattle.std.proofs.lemmas.Bool.{cases_lt, eq-eqb, ne_eqb}
+use Rattle.std.proofs.lemmas.List.{length-append, length-replicate, map-append, get_or_append_left, get_or-append_right, get_or-replicate}
+use Rattle.std.proofs.lemmas.List.Elements.{All-nil, All-cons}
+use native.Mathlib.Decide.{ℕ_discrete}
+use Rattle.mm_desk.specs.declared.entry.Entry.{Entry}
+use Rattle.mm_desk.specs.Machine.{State}
+use Rattle.mm_desk.specs.Shuffles.{IsShuffle, part}
+use Rattle.mm_shared.specs.Rule.{calls_on}
+use Rattle.mm_shared.specs.Stores.{lists_at}
+use Rattle.mm_shared.specs.Views.{PortView, HasLegalLog}
+use Rattle.mm_shared.proofs.Opening.{lists_are}
+use Rattle.mm_shared.proofs.Slices.{none_on}
+
+-- a seat whose part is empty made no entry
+none_of : (seat : ℕ) (log : List Entry) → part seat log ≡ [] → All (λ (e : Entry). e.seat ≢ seat) log
+none_of seat [] empty = All-nil (λ (e : Entry). e.seat ≢ seat)
+none_of seat (e ∷ log) empty = by_seat (none_of seat log) (ℕ_discrete e.seat seat)
+  where
+    by_seat : (part seat log ≡ [] → All (λ (e : Entry). e.seat ≢ seat) log) → Dec (e.seat ≡ seat) → All (λ (e : Entry). e.seat ≢ seat) (e ∷ log)
+    by_seat others (yes same) =
+        let one : part seat (e ∷ log) ≡ e ∷ part seat log = rw (eq-eqb e.seat seat same) refl in
+        absurd (omega (arith, ap length (sym one ∙ empty)))
+    by_seat others (no other) =
+        let same : part seat (e ∷ log) ≡ part seat log = rw (ne_eqb e.seat seat other) refl in
+        All-cons (λ (e : Entry). e.seat ≢ seat) e log other (others (sym same ∙ empty))
+
+-- a shuffle of lists and of empty ones is a shuffle of the lists
+fewer : (lists : List (List Entry)) (more : ℕ) (log : List Entry) → IsShuffle (lists ++ replicate more []) log → IsShuffle lists log
+fewer lists more log shuffle = record {
+  below = λ i d within. by_seat i d within (get_or log i d).seat refl (cases_lt (get_or log i d).seat (length lists));
+  parts = λ seat within. shuffle.parts seat (omega (arith, within, length-append lists (replicate more no_calls))) ∙ get_or_append_left lists (replicate more []) [] seat within;
+}
+  where
+    no_calls : List Entry
+    no_calls = []
+
+    by_seat : (i : ℕ) (d : Entry) → i < length log → (seat : ℕ) → seat ≡ (get_or log i d).seat → (seat < length lists) ⊎ (length lists ≤ seat) → (get_or log i d).seat < length lists
+    by_seat i d within seat is (inl under) = omega (arith, is, under)
+    by_seat i d within seat is (inr over) =
+        let all : seat < length (lists ++ replicate more no_calls) = omega (arith, is, shuffle.below i d within) in
+        let count = length-append lists (replicate more no_calls) in
+        let empty : part seat log ≡ [] =
+        shuffle.parts seat all
+        ∙ (get_or-append_right lists (replicate more []) (length lists) seat [] refl over
+        ∙ get_or-replicate more (seat - length lists) [] [] (omega (arith, all, count, over, length-replicate more no_calls))) in
+        absurd (none_of seat log empty i d within (sym is))
+
+-- so it is with the calls of workers on a store
+pub fewer_lists : (k : ℕ) (workers : List PortView) (more : ℕ) (s t : State) → HasLegalLog (map (calls_on k) (map (λ w. w.list) workers ++ replicate more [])) s t
+    → HasLegalLog (lists_at k workers) s t
+fewer_lists k workers more s t went = record {
+  log = went.log;
+  run = went.run;
+  shuffle = fewer (lists_at k workers) more went.log
+      (subst (λ (ls : List (List Entry)). IsShuffle ls went.log)
+      (map-append (calls_on k) (map (λ (w : PortView). w.list) workers) (replicate more [])
+      ∙ (ap (λ (ls : List (List Entry)). ls ++ map (calls_on k) (replicate more [])) (lists_are k workers)
+      ∙ ap (λ (ls : List (List Entry)). lists_at k workers ++ ls) (none_on k more)))
+      went.shuffle);
+}

@@ -1,0 +1,25 @@
+use Rattle.std.proofs.Common.{List, ◌-◌, length, map, sym, ap, ◌∙◌, subst, arith}
+use Rattle.mm_desk.specs.declared.desk.TheConstants.{MAX_SEATS}
+use Rattle.mm_desk.specs.Machine.{State}
+use Rattle.mm_desk.specs.Runs.{opening_at}
+use Rattle.mm_shared.specs.Rule.{calls_on}
+use Rattle.mm_shared.specs.Views.{PortsView, HasLegalLog}
+use Rattle.mm_shared.specs.Stores.{lists_at}
+use Rattle.mm_shared.proofs.Fewer.{fewer_lists}
+use Rattle.mm_shared.proofs.Opening.{labels_are, states_are}
+use Rattle.mm_shared.proofs.stores.settle.Goals as goal
+
+pub returns-clause-labels : goal.returns-clause-labels
+returns-clause-labels c =
+    labels_are c.args.opened.now.labels.items c.settle.new.ports.of.states (sym (c.settle.ensures.many ∙ c.requires.opened.kept.many))
+
+pub returns-clause-went : goal.returns-clause-went
+returns-clause-went c k within =
+    let labels = c.args.opened.now.labels.items in
+    let after = c.settle.new.ports.of.states in
+    let workers = c.args.opened.now.workers.items in
+    let states = states_are labels after (sym (c.settle.ensures.many ∙ c.requires.opened.kept.many)) in
+    let went = c.settle.ensures.went k (omega (arith, within, ap length states)) in
+    subst (λ (ss : List State). HasLegalLog (lists_at k workers) (opening_at c.args.opened.now.rest.of.states k) (opening_at ss k)) (sym states)
+    (fewer_lists k workers (MAX_SEATS - length workers) (opening_at c.args.opened.now.rest.of.states k) (opening_at after k)
+    (subst (λ (v : PortsView). HasLegalLog (map (calls_on k) v.lists) (opening_at v.of.states k) (opening_at after k)) c.take_ports.ensures.all went))
