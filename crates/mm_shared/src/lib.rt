@@ -15,5 +15,7 @@ mod tally;
 pub use label::StoreLabel;
 pub use port::{Port, Ports};
 pub use shared::SharedStores;
-pub use stores::{OpenStores, close_all, open_all, place_of, seat_workers, settle, tally_at};
+pub use stores::{
+    OpenStores, close_all, open_all, place_of, read_states, seat_workers, settle, tally_at,
+};
 pub use tally::Tally;

@@ -159,8 +159,8 @@ pub fn seat_workers(opened: &mut OpenStores, workers: u32)
     );
 }
 
-/// Ends a step: takes all ports back. Each store is known to have gone by a legal log of the workers' calls on it.
-pub fn settle(opened: &mut OpenStores)
+// Ends a step: takes all ports back.
+fn end_step(opened: &mut OpenStores)
     requires opened { AreOpen opened.old }
     ensures rest { AreAtRest opened.new }
     ensures labels { labels_of (stores_in opened.new) ≡ names_of opened.old.labels.items }
@@ -168,6 +168,29 @@ pub fn settle(opened: &mut OpenStores)
 {
     take_ports(&opened.stores, &mut opened.rest, &mut opened.workers);
     opened.stores.settle(&mut opened.rest);
+}
+
+/// Ends a step: takes all ports back. Each store went by a legal log of the workers' calls on it.
+pub fn settle(opened: &mut OpenStores)
+    requires opened { AreOpen opened.old }
+    ensures rest { AreAtRest opened.new }
+    ensures labels { labels_of (stores_in opened.new) ≡ names_of opened.old.labels.items }
+    ensures went { HaveLegalLogs opened.old.workers.items opened.old.rest.of.states (states_of (stores_in opened.new)) }
+    ensures sound { All (λ h. IsState h.state) (stores_in opened.new) }
+{
+    end_step(opened);
+    read_states(opened);
+}
+
+/// Reads each store, between steps, which shows that it is sound.
+pub fn read_states(opened: &mut OpenStores)
+    requires rest { AreAtRest opened.old }
+    ensures same { opened.new ≡ opened.old }
+    ensures sound { All (λ h. IsState h.state) (stores_in opened.old) }
+{
+    for store in 0..opened.labels.len() {
+        tally_at(opened, store);
+    }
 }
 
 /// The tally of the store at an index, between steps.

@@ -7,7 +7,7 @@ use Rattle.mm_shared.specs.Views.{PortsView, HasLegalLog}
 use Rattle.mm_shared.specs.Stores.{lists_at}
 use Rattle.mm_shared.proofs.Fewer.{fewer_lists}
 use Rattle.mm_shared.proofs.Opening.{labels_are, states_are}
-use Rattle.mm_shared.proofs.stores.settle.Goals as goal
+use Rattle.mm_shared.proofs.stores.end_step.Goals as goal
 
 pub returns-clause-labels : goal.returns-clause-labels
 returns-clause-labels c =
