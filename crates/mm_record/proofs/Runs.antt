@@ -2,11 +2,11 @@
 use Rattle.std.proofs.Common.{◌≡◌, ℕ, ◌+◌, List, [], ◌∷◌, ◌++◌, length, get_or, map, All, Option, None, sym, subst, ap, length-append, arith}
 use Rattle.std.proofs.Math.ListN.{set}
 use Rattle.std.proofs.lemmas.List.{get_or_append_left, get_or-append-add, map-append}
-use Rattle.atomic_table.specs.Seated.{TableId}
+
 use Rattle.mm_desk.specs.declared.fault.Fault.{Fault}
 use Rattle.mm_shared.specs.declared.label.StoreLabel.{StoreLabel}
 use Rattle.mm_shared.specs.Stores.{ids_of, AreNamed, AreWorkers, IsFresh}
-use Rattle.mm_shared.specs.Views.{PortView, StoresView}
+use Rattle.mm_shared.specs.Views.{Origin, PortView, StoresView}
 use Rattle.mm_record.specs.Offering.{MayOffer}
 use Rattle.mm_record.specs.Recorded.{RecordingContext}
 use Rattle.mm_record.specs.Supplies.{Supply, WhateverComes}
@@ -40,11 +40,11 @@ may_both labels stores ss us ws xs same may = (
 
 -- workers of stores that were opened, one for each source, may record where no two stores have one identifier
 pub may_of : {S : Type 0} (labels : List StoreLabel) (stores : StoresView) (sources : List S) (workers : List PortView) → AreNamed (ids_of labels)
-    → length labels ≡ length stores.openings → length workers ≡ length sources → AreWorkers stores.id 0 workers → All IsFresh workers
+    → length labels ≡ stores.many → length workers ≡ length sources → (of : Origin) → of.table ≡ stores.id → AreWorkers of 0 workers → All IsFresh workers
     → MayRecord labels stores sources workers
-may_of labels stores sources workers named as_many same are fresh = record {
+may_of labels stores sources workers named as_many same of table are fresh = record {
   same = same;
-  may = λ i d within. record { named = named; as_many = as_many; of_them = ap (λ (end : TableId × ℕ). end.0) (are i d within) };
+  may = λ i d within. record { named = named; as_many = as_many; of_them = ap (λ (end : Origin × ℕ). end.0.table) (are i d within) ∙ table };
   fresh = fresh;
 }
 

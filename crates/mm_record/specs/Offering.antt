@@ -1,6 +1,6 @@
 -- How the calls through a port go on while packets are offered. No public clause cites this module.
 use Rattle.std.specs.Prelude.{◌≡◌, ◌⊎◌, ℕ, ◌<◌, ◌==◌, if◌then◌else◌, List, [], ◌∷◌, ◌++◌, length, map, filter, Any, bytes_eq, Result, MatchResult}
-use Rattle.atomic_table.specs.Seated.{TableId}
+
 use Rattle.mm_base.specs.declared.rows.RouteRow.{RouteRow}
 use Rattle.mm_packet.specs.Packet.{SpacePacket}
 use Rattle.mm_desk.specs.declared.entry.Entry.{Entry}
@@ -12,7 +12,7 @@ use Rattle.mm_desk.specs.Offers.{AreTaken}
 use Rattle.mm_desk.specs.Offers.{asked as asked_in}
 use Rattle.mm_shared.specs.declared.label.StoreLabel.{StoreLabel}
 use Rattle.mm_shared.specs.Stores.{list_at, end_of, ids_of, AreNamed}
-use Rattle.mm_shared.specs.Views.{PortView, StoresView}
+use Rattle.mm_shared.specs.Views.{Origin, PortView, StoresView}
 use Rattle.mm_memory.specs.Recording.{is_routed}
 use Rattle.mm_record.specs.Steps.{IsRefusedWith}
 
@@ -33,10 +33,10 @@ abbrev pub offers_of : ℕ → List RouteRow → List ℕ → SpacePacket → Li
 offers_of now routes id p = if is_routed routes id p then Offer now p ∷ [] else []
 
 -- packets may be offered to these stores, under these labels, through a port of them
-pub record MayOffer (labels : List StoreLabel) (stores : StoresView) (of : TableId) : Type 0 where
+pub record MayOffer (labels : List StoreLabel) (stores : StoresView) (of : Origin) : Type 0 where
   pub named : AreNamed (ids_of labels)
-  pub as_many : length labels ≡ length stores.openings
-  pub of_them : of ≡ stores.id
+  pub as_many : length labels ≡ stores.many
+  pub of_them : of.table ≡ stores.id
 
 -- a list goes on by all of these events
 pub record ExtendsBy (more : List Event) (old new : List Entry) : Type 0 where

@@ -23,4 +23,4 @@ pub use memory_step::{RecordHalted, Recorded, RecordedStep, record_step};
 pub use mm_report::{Cause, LATEST_START, MAX_SOURCES};
 pub use readiness::{cause_before, is_clock_late, is_count, is_ready};
 pub use source::{AnySource, Source};
-pub use step::{RecordingStep, record};
+pub use step::{RecordingStep, record, record_open};

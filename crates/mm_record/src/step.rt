@@ -2,7 +2,7 @@
 ghost use Rattle.std.specs.Prelude.{◌≡◌, ◌≤◌, length, IfOk, OnErr, vec_len};
 ghost use Rattle.mm_base.specs.declared.limits.TheConstants.{MAX_STORES};
 ghost use Rattle.mm_desk.specs.declared.desk.TheConstants.{MAX_SEATS};
-ghost use Rattle.mm_shared.specs.Stores.{labels_of, AreNamed};
+ghost use Rattle.mm_shared.specs.Stores.{labels_of, stores_in, AreNamed, AreAtRest};
 ghost use Rattle.mm_record.specs.Recorded.{recording};
 ghost use Rattle.mm_record.specs.Supplies.{WhateverComes};
 ghost use Rattle.mm_record.specs.Steps.{Records};
@@ -13,7 +13,7 @@ use crate::source::AnySource;
 use mm_base::NoMemory;
 use mm_control::ControlTable;
 use mm_desk::{Fault, Held};
-use mm_shared::{close_all, open_all};
+use mm_shared::{OpenStores, close_all, open_all, seat_workers, settle};
 use std::alloc::Global;
 use std::sync::Wait;
 use std::thread::Threads;
@@ -26,9 +26,40 @@ pub struct RecordingStep<'a> {
     pub now: u64,
 }
 
-/// Records a step: each source's packets of the step are taken by a recorder of its own, which offers a copy of each, at the
-/// step's moment, to the stores that its report type is routed to. The answer is why recorders stopped early, where some did: out
-/// of memory only where none stopped for another reason. Where there is no memory to begin, stores and sources are as before.
+/// Records a step over stores that are open: each source's packets of the step are taken by a recorder of its own, which offers a copy of
+/// each, at the step's moment, to the stores that its report type is routed to. The answer is why recorders stopped early, where some did:
+/// out of memory only where none stopped for another reason.
+pub fn record_open<S: AnySource + Send, R: Threads + Wait + Sync>(
+    rt: &R,
+    alloc: Global,
+    step: &RecordingStep<'_>,
+    stores: &mut OpenStores,
+    sources: &mut [S],
+) -> Option<Fault>
+    requires rest { AreAtRest stores.old }
+    requires many { length sources.old ≤ MAX_SEATS }
+    requires named { AreNamed (recording step.now.step step.now.now step.now.control.now (stores_in stores.old)).ids }
+    ensures records { WhateverComes S.leads S.until sources.old sources.new
+        (Records (recording step.entry.now.step step.entry.now.now step.entry.now.control.now (stores_in stores.old)) (stores_in stores.old) (stores_in stores.new) result) }
+    ensures labels { labels_of (stores_in stores.new) ≡ labels_of (stores_in stores.old) }
+    ensures rest { AreAtRest stores.new }
+{
+    seat_workers(stores, sources.len() as u32);
+    let context = StepContext {
+        rt,
+        alloc,
+        labels: &stores.labels,
+        stores: &stores.stores,
+        control: step.control,
+        step: step.step,
+        moment: step.now,
+    };
+    let why = record_all(&context, sources, &mut stores.workers);
+    settle(stores);
+    why
+}
+
+/// Records a step over stores that are opened for it alone. Where there is no memory to begin, stores and sources are as before.
 pub fn record<S: AnySource + Send, R: Threads + Wait + Sync>(
     rt: &R,
     alloc: Global,
@@ -45,17 +76,8 @@ pub fn record<S: AnySource + Send, R: Threads + Wait + Sync>(
     ensures stores { OnErr result (stores.new.items ≡ stores.old.items) }
     ensures sources { OnErr result (sources.new ≡ sources.old) }
 {
-    let mut open = open_all(alloc, stores, sources.len() as u32)?;
-    let context = StepContext {
-        rt,
-        alloc,
-        labels: &open.labels,
-        stores: &open.stores,
-        control: step.control,
-        step: step.step,
-        moment: step.now,
-    };
-    let why = record_all(&context, sources, &mut open.workers);
+    let mut open = open_all(alloc, stores)?;
+    let why = record_open(rt, alloc, step, &mut open, sources);
     close_all(open, stores);
     Ok(why)
 }
