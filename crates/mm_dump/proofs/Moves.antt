@@ -1,6 +1,7 @@
 -- Each step of the queue keeps its rule.
 use Rattle.std.proofs.Common.{◌≡◌, ◌≢◌, ⊎_elim, ℕ, zero, suc, ◌+◌, ◌-◌, ◌<◌, ◌≤◌, List, [], ◌∷◌, ◌++◌, length, set, refl, sym, ap, subst, ◌∙◌, arith, length-append}
 use Rattle.std.specs.List.{sum_by, range_with_len}
+use Rattle.std.proofs.lemmas.List.{nil_from_length}
 use Rattle.std.proofs.lemmas.List.FromFn.{length-range_with_len}
 use Rattle.std.proofs.lemmas.List.Sums.{sum_by-cons, sum_by-append, sum_by_push}
 use mathlib.Core.Option.{some, some-injective, some-ne-none}
@@ -10,7 +11,7 @@ use Rattle.crossbeam_queue.proofs.Lists.{at_set, at_snoc}
 use Rattle.mm_base.proofs.Ranges.{range_with_len_more}
 use Rattle.mm_base.proofs.RangeSums.{sum_by_range_more}
 use Rattle.mm_dump.specs.declared.queue.QueueView.{QueueView}
-use Rattle.mm_dump.specs.Queue.{queue_view, Knows, AreTakenOnce, TakesNext, HasRoom, Tells}
+use Rattle.mm_dump.specs.Queue.{queue_view, Knows, AreTakenOnce, TakesNext, HasRoom, AreCounted, Tells}
 
 -- a sum over passes after a change of one
 total_set : (f : QueueView → ℕ) (views : List QueueView) (pass : ℕ) (v w : QueueView) → get_elem? views pass ≡ some v → sum_by f (set views pass w) + f v ≡ sum_by f views + f w
@@ -88,6 +89,20 @@ first_queued x items next (suc many) same =
     let less : suc many - 1 ≡ many = omega arith in
     (omega arith, cc same, rw less (cc same))
 
+-- where one pass has all parts the others have taken none, however many were pushed
+others_know : (pushed : ℕ) {items : List ℕ} {views : List QueueView} (pass : ℕ) (v : QueueView) → AreTakenOnce items views → get_elem? views pass ≡ some v → v.parts ≡ 1024
+    → (other : ℕ) (u : QueueView) → other ≢ pass → get_elem? views other ≡ some u → Knows pushed u
+others_know pushed {items} {views} pass v rule at all other u apart here =
+    let none = no_part views pass other v u rule.parts all at apart here in
+    record { some_part = λ some. absurd (omega arith); no_part = (rule.known other u here).no_part }
+
+-- and it has taken all that were
+took_all : {items : List ℕ} {views : List QueueView} (pass : ℕ) (v : QueueView) (rule : AreTakenOnce items views) → get_elem? views pass ≡ some v → v.parts ≡ 1024
+    → (h : ℕ → ℕ) → sum_by h (range_with_len 0 rule.next) ≡ took h v
+took_all {items} {views} pass v rule at all h =
+    rule.each h
+    ∙ sole (took h) views pass v at (λ other u apart here. ap (λ (xs : List ℕ). sum_by h xs) ((rule.known other u here).no_part (no_part views pass other v u rule.parts all at apart here)))
+
 -- how many numbers there are
 counted_list : (xs : List ℕ) → sum_by (λ (k : ℕ). 1) xs ≡ length xs
 counted_list [] = refl
@@ -129,9 +144,7 @@ pushes room pass v x all number items views within rule at =
         parts = omega (arith, total_set parts_of views pass v w at, rule.parts);
         each = λ h. omega (arith, total_set (took h) views pass v w at, rule.each h);
         known = known_set (rule.pushed + 1) views pass w (knows_part (rule.pushed + 1) w (omega arith) (omega arith))
-            (λ other u apart here.
-            let none = no_part views pass other v u rule.parts all at apart here in
-            record { some_part = λ some. absurd (omega arith); no_part = (rule.known other u here).no_part });
+            (others_know (rule.pushed + 1) pass v rule at all);
       },
       refl,
     )
@@ -223,10 +236,37 @@ learns pass v items views rule at =
     record {
       next = rule.next;
       within = λ all. omega (arith, rule.within, count all);
-      each = λ all h.
-          rule.each h
-          ∙ sole (took h) views pass v at (λ other u apart here. none_taken h u (rule.known other u here) (no_part views pass other v u rule.parts all at apart here));
+      each = λ all. took_all pass v rule at all;
     }
-  where
-    none_taken : (h : ℕ → ℕ) (u : QueueView) {n : ℕ} → Knows n u → u.parts ≡ 0 → took h u ≡ 0
-    none_taken h u known none = ap (λ (xs : List ℕ). sum_by h xs) (known.no_part none)
+
+-- and of how many are queued
+pub learns_count : (pass : ℕ) (v : QueueView) → Learns AreTakenOnce pass v (AreCounted v)
+learns_count pass v items views rule at all =
+    omega (
+      arith,
+      rule.within,
+      (rule.known pass v at).some_part (omega arith),
+      took_all pass v rule at all (λ (k : ℕ). 1),
+      counted rule.next,
+      counted_list v.taken,
+      ap length rule.queued,
+      length-range_with_len rule.next (rule.pushed - rule.next),
+    )
+
+-- a push of the first number, by the pass with all parts, where it took all that were pushed
+pub pushes_first : (room pass : ℕ) (v : QueueView) (x : ℕ) → v.parts ≡ 1024 → length v.taken ≡ v.pushed → x ≡ 0 → Pushes AreTakenOnce room pass v x (λ w. w ≡ queue_view 1024 1 [])
+pushes_first room pass v x all none first items views within rule at =
+    let w = queue_view 1024 1 [] in
+    let empty : items ≡ [] = nil_from_length items (omega (arith, learns_count pass v items views rule at all)) in (
+      w,
+      record {
+        pushed = 1;
+        next = 0;
+        within = omega arith;
+        queued = (λ i. empty i ++ first i ∷ []);
+        parts = omega (arith, total_set parts_of views pass v w at, rule.parts);
+        each = λ h. omega (arith, total_set (took h) views pass v w at, rule.each h, took_all pass v rule at all h);
+        known = known_set 1 views pass w (knows_part 1 w refl (omega arith)) (others_know 1 pass v rule at all);
+      },
+      refl,
+    )

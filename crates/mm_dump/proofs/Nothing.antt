@@ -1,5 +1,5 @@
 -- Links without a worker, which are as they were.
-use Rattle.std.proofs.Common.{◌≡◌, ◌⊎◌, inl, inr, ℕ, zero, suc, ◌+◌, ◌<◌, ◌≤◌, List, [], ◌∷◌, ◌++◌, length, get_or, map, refl, sym, ap, subst, ◌∙◌, arith, length-append}
+use Rattle.std.proofs.Common.{◌≡◌, ◌⊎◌, inl, inr, ℕ, suc, ◌+◌, ◌<◌, ◌≤◌, List, [], ◌∷◌, ◌++◌, length, map, refl, sym, ap, subst, ◌∙◌, arith, length-append}
 use Rattle.std.specs.List.{sum_by}
 use Rattle.std.specs.Prelude.{Any, Option, Some, None, IfNone}
 use Rattle.std.proofs.lemmas.Bool.{cases_lt}
@@ -10,7 +10,7 @@ use Rattle.mm_desk.specs.Runs.{IsRun, opening_at}
 use Rattle.mm_dump.specs.declared.order.Order.{Order}
 use Rattle.mm_dump.specs.declared.order.OrderBroken.{OrderBroken}
 use Rattle.mm_dump.specs.Courses.{Course, worse, worst_of}
-use Rattle.mm_dump.specs.Dumped.{times, places_of, HasTaken, HasTried, AllTook, AllDumped, AllTried, AllSettled, AllKept, CarriesOut, used_by}
+use Rattle.mm_dump.specs.Dumped.{times, places_of, HasTaken, HasTried, AllTook, AllDumped, AllTried, AllSettled, AllKept, CarriesOut}
 use Rattle.mm_dump.specs.Sending.{Sent}
 use Rattle.mm_dump.proofs.Finding.{nobody}
 

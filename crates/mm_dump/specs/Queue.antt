@@ -1,5 +1,5 @@
 -- The queue of the orders' numbers: which are queued, and which each pass has taken.
-use Rattle.std.specs.Prelude.{◌≡◌, ℕ, ◌-◌, ◌<◌, ◌≤◌, List, [], ◌∷◌, ◌++◌, length, sum_by}
+use Rattle.std.specs.Prelude.{◌≡◌, ℕ, ◌+◌, ◌-◌, ◌<◌, ◌≤◌, List, [], ◌∷◌, ◌++◌, length, sum_by}
 use Rattle.std.specs.List.{range_with_len}
 use mathlib.Core.Option.{some}
 use lib.ListN.{get_elem?}
@@ -34,6 +34,10 @@ pub record TakesNext (v : QueueView) (number : ℕ) (w : QueueView) : Type 0 whe
 -- no more numbers are queued than were pushed
 abbrev pub HasRoom : QueueView → List ℕ → Type 0
 HasRoom v items = 0 < v.parts → length items ≤ v.pushed
+
+-- of the numbers that were pushed, the pass with all parts took those that are queued no more
+abbrev pub AreCounted : QueueView → List ℕ → Type 0
+AreCounted v items = v.parts ≡ 1024 → length items + length v.taken ≡ v.pushed
 
 -- the pass with all parts knows that it took the numbers below some number, each once
 pub record Tells (v : QueueView) : Type 0 where

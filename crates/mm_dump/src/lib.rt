@@ -1,6 +1,7 @@
 //! Dumping: the packets of stores are sent over links to the ground, and then deleted.
 #![tactic(auto)]
 
+mod buffers;
 mod carrying;
 mod dumper;
 pub mod laws;
@@ -12,6 +13,7 @@ mod step;
 mod stop;
 mod worst;
 
+pub use buffers::{DumpBuffers, reserve_dump};
 pub use link::{Link, SendFailed, may_fail};
 pub use memory_link::{MemoryLink, TakenPacket};
 pub use order::{Order, OrderBroken};

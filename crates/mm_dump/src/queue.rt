@@ -1,8 +1,10 @@
 //! The queue of a step's orders, by their numbers. All numbers are pushed before the workers start, and after those of the orders
-//! one more for each worker: a number that no order has tells the worker which takes it that no order is left.
+//! one more for each worker: a number that no order has tells the worker which takes it that no order is left. Each step uses the
+//! queue again: what the last one left is taken first, and the numbers begin at 0 anew.
 ghost use Rattle.std.specs.Prelude.{◌≡◌, ◌+◌, ◌<◌, ◌≤◌, [], ◌∷◌, ◌++◌, length, IfOk};
 ghost use Rattle.crossbeam_queue.specs.Passes.{view, IsPassOf, ruled_capacity};
 ghost use Rattle.mm_dump.specs.Queue.{queue_view, Tells};
+ghost use Rattle.mm_dump.specs.Steps.{IsWhole};
 
 use crossbeam_queue::protocol::{Join, Lesson, Outcome, Protocol, Split};
 use crossbeam_queue::{Pass, RuledArrayQueue};
@@ -52,6 +54,22 @@ impl Join<QueueView> for SplitOne {
     ghost spent = { queue_view 0 0 [] };
 }
 
+/// The first number is pushed, where the pass with all parts took all that were pushed before. What it took is forgotten.
+pub(crate) struct PushFirst;
+
+impl Outcome<u32, QueueView> for PushFirst {
+    ghost use Rattle.std.specs.Prelude.{◌≡◌, []};
+    ghost use Rattle.mm_dump.specs.Queue.{queue_view};
+
+    ghost then = { λ v x w. w ≡ queue_view 1024 1 [] };
+}
+
+impl Lesson<u32, QueueView> for PushFirst {
+    ghost use Rattle.mm_dump.specs.Queue.{AreCounted};
+
+    ghost fact = { AreCounted };
+}
+
 /// The next number is pushed.
 pub(crate) struct PushNext;
 
@@ -83,6 +101,21 @@ impl Lesson<u32, QueueView> for TakeNext {
     ghost fact = { λ v items. Tells v };
 }
 
+/// A number that the last step left is taken.
+pub(crate) struct TakeLeft;
+
+impl Outcome<u32, QueueView> for TakeLeft {
+    ghost use Rattle.mm_dump.specs.Queue.{TakesNext};
+
+    ghost then = { TakesNext };
+}
+
+impl Lesson<u32, QueueView> for TakeLeft {
+    ghost use Rattle.mm_dump.specs.Queue.{AreCounted};
+
+    ghost fact = { AreCounted };
+}
+
 /// A queue of orders, by their numbers.
 pub(crate) type OrderQueue = RuledArrayQueue<u32, QueueView, EachTakenOnce>;
 
@@ -93,21 +126,33 @@ pub(crate) type OrderPass = Pass<u32, QueueView>;
 pub(crate) fn new_queue(alloc: Global, numbers: u32) -> Result<(OrderQueue, OrderPass), NoMemory>
     requires some { 1 ≤ numbers }
     ensures room { IfOk result (λ made. numbers ≤ ruled_capacity made.0) }
-    ensures pass { IfOk result (λ made. IsPassOf made.0 made.1) }
-    ensures first { IfOk result (λ made. view made.1 ≡ queue_view 1024 0 []) }
+    ensures whole { IfOk result (λ made. IsWhole made.0 made.1) }
 {
     Ok(OrderQueue::ruled(alloc, numbers as usize)?)
 }
 
-// Pushes the numbers from 0 on.
+// Takes the numbers that the last step left.
+fn drain<R: Wait>(rt: &R, queue: &OrderQueue, pass: &mut OrderPass)
+    requires whole { IsWhole queue.now pass.old }
+    ensures whole { IsWhole queue.now pass.new }
+    ensures all { length (view pass.new).taken ≡ (view pass.new).pushed }
+{
+    while queue.pop_as::<TakeLeft, R>(rt, pass).is_some() {}
+}
+
+// Queues the numbers from 0 on, and no others.
 pub(crate) fn push_all<R: Wait>(rt: &R, queue: &OrderQueue, pass: &mut OrderPass, numbers: u32)
-    requires pass { IsPassOf queue.now pass.old }
-    requires first { view pass.old ≡ queue_view 1024 0 [] }
+    requires whole { IsWhole queue.now pass.old }
+    requires some { 1 ≤ numbers }
     requires room { numbers ≤ ruled_capacity queue.now }
     ensures pass { IsPassOf queue.now pass.new }
     ensures pushed { view pass.new ≡ queue_view 1024 numbers [] }
 {
-    for number in 0..numbers {
+    drain(rt, queue, pass);
+    let Ok(()) = queue.push_as::<PushFirst, R>(rt, pass, 0) else {
+        unreachable!()
+    };
+    for number in 1..numbers {
         let Ok(()) = queue.push_as::<PushNext, R>(rt, pass, number) else {
             unreachable!()
         };

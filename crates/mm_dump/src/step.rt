@@ -1,17 +1,15 @@
 //! A step's dump: workers carry out the orders of one queue, over any number of stores.
-ghost use Rattle.std.specs.Prelude.{◌≡◌, ◌+◌, ◌<◌, ◌≤◌, ◌^◌, [], length, map, sum_by, All, None, Ok, IfOk, OnErr};
-ghost use Rattle.crossbeam_queue.specs.Passes.{view, IsPassOf};
-ghost use Rattle.mm_base.specs.declared.limits.TheConstants.{MAX_STORES};
+ghost use Rattle.std.specs.Prelude.{◌≡◌, ◌≤◌, ◌^◌, [], length, map, sum_by, All, None, Ok, IfOk, OnErr};
 ghost use Rattle.mm_desk.specs.declared.desk.TheConstants.{MAX_SEATS};
 ghost use Rattle.mm_desk.specs.Machine.{IsState};
 ghost use Rattle.mm_shared.specs.Stores.{states_of, labels_of};
 ghost use Rattle.mm_dump.specs.Dumped.{MayDump, CarriesOut};
-ghost use Rattle.mm_dump.specs.Steps.{AreBuffers, IsBack, AreBack};
 
+use crate::buffers::{DumpBuffers, hire, join_passes};
 use crate::dumper::{DumpContext, DumpWorker, dump_all};
 use crate::link::Link;
 use crate::order::{Order, OrderBroken};
-use crate::queue::{OrderPass, OrderQueue, SplitOne, learn_taken, new_queue, push_all};
+use crate::queue::learn_taken;
 use crate::worst::worst_broken;
 use mm_base::NoMemory;
 use mm_desk::Held;
@@ -29,44 +27,6 @@ pub struct Dumped {
     pub spent: u64,
 }
 
-// What a step's dump takes beside its stores and its links: the queue, with the pass that has the parts that no worker has, and
-// the workers.
-#[derive(Drop)]
-struct DumpBuffers {
-    queue: OrderQueue,
-    pass: OrderPass,
-    workers: Vec<DumpWorker>,
-}
-
-// A queue of the numbers of this many orders, and of one more for each of this many workers.
-fn new_buffers<R: Wait>(
-    rt: &R,
-    alloc: Global,
-    links: u32,
-    orders: u32,
-) -> Result<DumpBuffers, NoMemory>
-    requires some { (1 ≤ links) × (links ≤ MAX_SEATS) }
-    requires few { orders ≤ MAX_STORES }
-    ensures buffers { IfOk result (AreBuffers links (orders + links)) }
-{
-    let numbers = orders + links;
-    let (queue, mut pass) = new_queue(alloc, numbers)?;
-    let mut workers = Vec::with_capacity(alloc, links as usize)?;
-    push_all(rt, &queue, &mut pass, numbers);
-    for _ in 0..links {
-        workers.push_reserved(DumpWorker {
-            pass: queue.another::<SplitOne>(&mut pass),
-            spent: 0,
-            why: None,
-        });
-    }
-    Ok(DumpBuffers {
-        queue,
-        pass,
-        workers,
-    })
-}
-
 // How many blocks workers spent.
 fn spent_by(workers: &[DumpWorker]) -> u64
     requires few { length workers.now ≤ MAX_SEATS }
@@ -78,20 +38,6 @@ fn spent_by(workers: &[DumpWorker]) -> u64
         spent += worker.spent;
     }
     spent
-}
-
-// Joins the passes of workers to one pass.
-fn join_passes(queue: &OrderQueue, pass: &mut OrderPass, workers: Vec<DumpWorker>)
-    requires pass { IsPassOf queue.now pass.old }
-    requires part { 0 < (view pass.old).parts }
-    requires passes { All (IsBack queue.now) workers.items }
-    ensures pass { IsPassOf queue.now pass.new }
-    ensures joined { AreBack workers.items (view pass.old) (view pass.new) }
-{
-    let mut workers = workers;
-    while let Some(worker) = workers.pop() {
-        queue.absorb::<SplitOne>(pass, worker.pass);
-    }
 }
 
 /// Reads each store, which shows that it is sound.
@@ -106,11 +52,11 @@ pub fn read_states(stores: &[Held])
 /// Carries out a step's dump orders, of which no two name one store: each link gets a worker, as far as there are orders. It takes orders
 /// from one queue until none is left, and sends the packets of each before it deletes them. A worker whose order breaks takes no further one, and
 /// the others go on. A store is locked during a call on it and not during a send. The stores and the links are lent: each store is
-/// in its place again afterwards. Where there is no memory for the queue, the workers and the shared stores, nothing is begun. Without
-/// orders no worker is needed.
+/// in its place again afterwards. Where there is no memory for the shared stores, nothing is begun. Without orders no worker is needed.
 pub fn dump<L: Link + Send, R: Threads + Wait + Sync>(
     rt: &R,
     alloc: Global,
+    buffers: &mut DumpBuffers,
     orders: &[Order],
     stores: &mut Vec<Held>,
     links: &mut [L],
@@ -134,17 +80,19 @@ pub fn dump<L: Link + Send, R: Threads + Wait + Sync>(
         });
     }
     let many = links.len().min(orders.len());
-    let buffers = new_buffers(rt, alloc, many as u32, orders.len() as u32)?;
-    let DumpBuffers {
-        queue,
-        mut pass,
-        mut workers,
-    } = buffers;
     let mut opened = open_all(alloc, stores, many as u32)?;
+    hire(
+        rt,
+        &buffers.queue,
+        &mut buffers.pass,
+        &mut buffers.workers,
+        orders.len() as u32,
+        many as u32,
+    );
     dump_all(
         &DumpContext {
             rt,
-            queue: &queue,
+            queue: &buffers.queue,
             orders,
             labels: &opened.labels,
             stores: &opened.stores,
@@ -152,13 +100,13 @@ pub fn dump<L: Link + Send, R: Threads + Wait + Sync>(
         },
         &mut links[..many],
         &mut opened.workers,
-        &mut workers,
+        &mut buffers.workers,
     );
     lone_seats_are_logs();
     close_all(opened, stores);
-    let broken = worst_broken(&workers);
-    let spent = spent_by(&workers);
-    join_passes(&queue, &mut pass, workers);
-    learn_taken(&queue, &mut pass);
+    let broken = worst_broken(&buffers.workers);
+    let spent = spent_by(&buffers.workers);
+    join_passes(&buffers.queue, &mut buffers.pass, &mut buffers.workers);
+    learn_taken(&buffers.queue, &mut buffers.pass);
     Ok(Dumped { broken, spent })
 }

@@ -1,4 +1,4 @@
-use Rattle.std.proofs.Common.{rules, ◌≡◌, ◌+◌, ◌-◌, ◌<◌, ◌≤◌, ◌^◌, ℕ, List, [], ◌++◌, length, map, take, drop, All, vec_len, refl, sym, ap, subst, ◌∙◌, arith}
+use Rattle.std.proofs.Common.{rules, ◌≡◌, ◌+◌, ◌-◌, ◌<◌, ◌≤◌, ◌^◌, List, ◌++◌, length, map, take, drop, All, vec_len, sym, ap, subst, ◌∙◌, arith}
 use Rattle.std.specs.List.{sum_by}
 use Rattle.std.proofs.lemmas.List.{length-take-le, length-drop, take-append-drop, nil_from_length}
 use Rattle.std.proofs.lemmas.List.Elements.{All-take}
@@ -30,16 +30,16 @@ busy g c = length-take-le c.min-many.result c.args.links.now (search rules)
 
 workers : (g : given.Over) (c : goal.After-deref_mut-2 g) → length c.deref_mut-2.result.now ≡ c.min-many.result
 workers g c =
-    let count : vec_len c.in_ok-buffers.buffers.workers ≡ length c.in_ok-buffers.buffers.workers.items = omega (arith, c.in_ok-buffers.buffers.workers.ok.0) in
-    omega (arith, count, ap length c.deref_mut-2.ensures.value, c.in_ok-buffers.ensures.buffers.count)
+    let count : vec_len c.hire.new.workers ≡ length c.hire.new.workers.items = omega (arith, c.hire.new.workers.ok.0) in
+    omega (arith, count, ap length c.deref_mut-2.ensures.value, c.hire.ensures.hired.many)
 
 -- they are ready
-ready : (g : given.Over) (c : goal.After-deref_mut-2 g) → AreReady g.L.Link.sent g.L.Link.failed c.in_ok-buffers.buffers.queue c.in_ok-opened.opened.stores c.deref-2.result.now c.args.orders.now
+ready : (g : given.Over) (c : goal.After-deref_mut-2 g) → AreReady g.L.Link.sent g.L.Link.failed c.buffers.inside.queue c.in_ok-opened.opened.stores c.deref-2.result.now c.args.orders.now
     (take c.min-many.result c.args.links.now) c.deref_mut.result.now c.deref_mut-2.result.now
 ready g c =
     let some : 0 < c.min-many.result = search rules in
-    let hired = subst (λ (ws : List DumpWorker). All (IsHired c.in_ok-buffers.buffers.queue (length c.args.orders.now + c.min-many.result)) ws) (sym c.deref_mut-2.ensures.value) c.in_ok-buffers.ensures.buffers.hired in
-    step_ready g.L.Link.sent g.L.Link.failed c.in_ok-buffers.buffers.queue c.in_ok-opened.opened c.args.orders.now c.args.stores.now.items c.min-many.result (take c.min-many.result c.args.links.now)
+    let hired = subst (λ (ws : List DumpWorker). All (IsHired c.buffers.inside.queue (length c.args.orders.now + c.min-many.result)) ws) (sym c.deref_mut-2.ensures.value) c.hire.ensures.hired.hired in
+    step_ready g.L.Link.sent g.L.Link.failed c.buffers.inside.queue c.in_ok-opened.opened c.args.orders.now c.args.stores.now.items c.min-many.result (take c.min-many.result c.args.links.now)
     c.deref-2.result.now c.deref_mut.result.now c.deref_mut-2.result.now (length c.args.orders.now + c.min-many.result)
     (omega (arith, some, busy g c)) (busy g c) (All-take (λ l. g.L.Link.failed l < 2 ^ 64 - 1) c.min-many.result c.args.links.now c.requires.may.room) c.requires.may.places c.in_ok-opened.ensures.opened
     c.deref-2.ensures.value c.deref_mut.ensures.value (workers g c) hired (search rules)
@@ -66,16 +66,16 @@ same_ports g c rest =
     let held : vec_len c.in_ok-opened.opened.workers ≡ length c.in_ok-opened.opened.workers.items = omega (arith, c.in_ok-opened.opened.workers.ok.0) in
     lent c.in_ok-opened.opened.workers.len c.dump_all.new.ports rest (omega (arith, held, c.dump_all.auto.ports, ap length c.deref_mut.ensures.value))
 
-same_workers : (g : given.Over) (c : goal.After-dump_all g) (rest : List DumpWorker) → take c.in_ok-buffers.buffers.workers.len (c.dump_all.new.workers ++ rest) ≡ c.dump_all.new.workers
+same_workers : (g : given.Over) (c : goal.After-dump_all g) (rest : List DumpWorker) → take c.hire.new.workers.len (c.dump_all.new.workers ++ rest) ≡ c.dump_all.new.workers
 same_workers g c rest =
-    let held : vec_len c.in_ok-buffers.buffers.workers ≡ length c.in_ok-buffers.buffers.workers.items = omega (arith, c.in_ok-buffers.buffers.workers.ok.0) in
-    lent c.in_ok-buffers.buffers.workers.len c.dump_all.new.workers rest (omega (arith, held, c.dump_all.auto.workers, ap length c.deref_mut-2.ensures.value))
+    let held : vec_len c.hire.new.workers ≡ length c.hire.new.workers.items = omega (arith, c.hire.new.workers.ok.0) in
+    lent c.hire.new.workers.len c.dump_all.new.workers rest (omega (arith, held, c.dump_all.auto.workers, ap length c.deref_mut-2.ensures.value))
 
 -- what the workers have
-back : (g : given.Over) (c : goal.After-dump_all g) → AsMany _ c.dump_all.new.links c.dump_all.new.ports c.dump_all.new.workers → All (IsBack c.in_ok-buffers.buffers.queue) c.dump_all.new.workers
+back : (g : given.Over) (c : goal.After-dump_all g) → AsMany _ c.dump_all.new.links c.dump_all.new.ports c.dump_all.new.workers → All (IsBack c.buffers.inside.queue) c.dump_all.new.workers
 back g c many =
-    sided_each c.dump_all.new.links c.dump_all.new.ports c.dump_all.new.workers many.ports_are many.workers_are (IsBack c.in_ok-buffers.buffers.queue)
-    (all_back g.L.Link.sent g.L.Link.failed c.in_ok-buffers.buffers.queue _ _ _ _ c.dump_all.ensures.worked)
+    sided_each c.dump_all.new.links c.dump_all.new.ports c.dump_all.new.workers many.ports_are many.workers_are (IsBack c.buffers.inside.queue)
+    (all_back g.L.Link.sent g.L.Link.failed c.buffers.inside.queue _ _ _ _ c.dump_all.ensures.worked)
 
 -- as many as were ready
 were : (g : given.Over) (c : goal.After-deref_mut-2 g) → AsMany _ (take c.min-many.result c.args.links.now) c.deref_mut.result.now c.deref_mut-2.result.now
@@ -88,7 +88,7 @@ close_all-requires g c =
     let many = as_many g a (were g b) in
     let ends : all_ends c.dump_all.new.ports ≡ all_ends c.in_ok-opened.opened.workers.items =
     sym (sided_ends c.dump_all.new.links c.dump_all.new.ports c.dump_all.new.workers many.ports_are many.workers_are)
-    ∙ ends_same g.L.Link.sent g.L.Link.failed c.in_ok-buffers.buffers.queue _ _ _ _ c.dump_all.ensures.worked
+    ∙ ends_same g.L.Link.sent g.L.Link.failed c.buffers.inside.queue _ _ _ _ c.dump_all.ensures.worked
     ∙ sided_ends (take c.min-many.result c.args.links.now) c.deref_mut.result.now c.deref_mut-2.result.now (ready g b).ports_count (ready g b).workers_count
     ∙ ap all_ends c.deref_mut.ensures.value in
     record { opened = still_open c.in_ok-opened.opened _ c.in_ok-opened.ensures.opened.are_open (ap all_ends (same_ports g a _) ∙ ends) }
@@ -97,13 +97,13 @@ pub spent_by-spent-requires-clause-bound : goal.spent_by-spent-requires-clause-b
 spent_by-spent-requires-clause-bound g c k d inside =
     let b = (goal.at.spent_by-spent-requires-clause-bound g c).After-deref_mut-2 in
     let a = (goal.at.spent_by-spent-requires-clause-bound g c).After-dump_all in
-    (subst (λ (ws : List DumpWorker). All (IsBack c.in_ok-buffers.buffers.queue) ws) (sym (c.deref-4.ensures.value ∙ same_workers g a _)) (back g a (as_many g a (were g b))) k d inside).bound
+    (subst (λ (ws : List DumpWorker). All (IsBack c.buffers.inside.queue) ws) (sym (c.deref-4.ensures.value ∙ same_workers g a _)) (back g a (as_many g a (were g b))) k d inside).bound
 
 pub join_passes-requires-clause-passes : goal.join_passes-requires-clause-passes
 join_passes-requires-clause-passes g c =
     let b = (goal.at.join_passes-requires-clause-passes g c).After-deref_mut-2 in
     let a = (goal.at.join_passes-requires-clause-passes g c).After-dump_all in
-    subst (λ (ws : List DumpWorker). All (IsBack c.in_ok-buffers.buffers.queue) ws) (sym (same_workers g a _)) (back g a (as_many g a (were g b)))
+    subst (λ (ws : List DumpWorker). All (IsBack c.buffers.inside.queue) ws) (sym (same_workers g a _)) (back g a (as_many g a (were g b)))
 
 pub returns-clause-carried : goal.returns-clause-carried
 returns-clause-carried g c =
@@ -118,16 +118,16 @@ returns-clause-carried g c =
     let idle = drop many c.args.links.now in
     let opened = c.in_ok-opened.ensures.opened in
     let count = as_many g a (were g b) in
-    let same = same_workers g a (drop (length c.dump_all.new.workers) c.in_ok-buffers.buffers.workers.items) in
+    let same = same_workers g a (drop (length c.dump_all.new.workers) c.hire.new.workers.items) in
     let ports = same_ports g a (drop (length c.dump_all.new.ports) c.in_ok-opened.opened.workers.items) in
-    let joined : AreBack c.dump_all.new.workers (view c.in_ok-buffers.buffers.pass) (view c.join_passes.new.pass) =
-    subst (λ (ws : List DumpWorker). AreBack ws (view c.in_ok-buffers.buffers.pass) (view c.join_passes.new.pass)) same c.join_passes.ensures.joined in
+    let joined : AreBack c.dump_all.new.workers (view c.hire.new.pass) (view c.join_passes.new.pass) =
+    subst (λ (ws : List DumpWorker). AreBack ws (view c.hire.new.pass) (view c.join_passes.new.pass)) same c.join_passes.ensures.joined in
     let broken : c.worst_broken-broken.result ≡ worst_of (causes_of c.dump_all.new.workers) =
     c.worst_broken-broken.ensures.worst ∙ ap (λ (ws : List DumpWorker). worst_of (causes_of ws)) (c.deref-3.ensures.value ∙ same) in
     let spent : c.spent_by-spent.result ≡ sum_by (λ (w : DumpWorker). w.spent) c.dump_all.new.workers =
     c.spent_by-spent.ensures.spent ∙ ap (λ (ws : List DumpWorker). sum_by (λ (w : DumpWorker). w.spent) ws) (c.deref-4.ensures.value ∙ same) in
-    let ended : HasEndedAll sent failed c.in_ok-buffers.buffers.queue c.args.orders.now before after busy_links c.dump_all.new.links c.in_ok-opened.opened.stores c.deref-2.result.now
-    c.deref_mut.result.now c.dump_all.new.ports c.deref_mut-2.result.now c.dump_all.new.workers (view c.in_ok-buffers.buffers.pass) (view c.join_passes.new.pass) c.worst_broken-broken.result
+    let ended : HasEndedAll sent failed c.buffers.inside.queue c.args.orders.now before after busy_links c.dump_all.new.links c.in_ok-opened.opened.stores c.deref-2.result.now
+    c.deref_mut.result.now c.dump_all.new.ports c.deref_mut-2.result.now c.dump_all.new.workers (view c.hire.new.pass) (view c.join_passes.new.pass) c.worst_broken-broken.result
     c.spent_by-spent.result = record {
       distinct = c.requires.may.distinct;
       amounts = c.requires.may.amounts;
@@ -145,14 +145,14 @@ returns-clause-carried g c =
           (subst (λ (ss : List State). HaveLegalLogs (take c.in_ok-opened.opened.workers.len (c.dump_all.new.ports ++ drop (length c.dump_all.new.ports) c.in_ok-opened.opened.workers.items)) ss (states_of after))
           opened.states c.close_all.ensures.went);
       back = joined;
-      none = c.in_ok-buffers.ensures.buffers.none;
-      whole = omega (arith, joined.parts, c.in_ok-buffers.ensures.buffers.parts, count.workers_are, c.dump_all.auto.links, busy g b);
+      none = c.hire.ensures.hired.none;
+      whole = omega (arith, joined.parts, c.hire.ensures.hired.parts, count.workers_are, c.dump_all.auto.links, busy g b);
       tells = subst Tells c.learn_taken.ensures.same c.learn_taken.ensures.taken;
       worst = broken;
       spent_is = spent;
     } in
-    let out = leaves sent failed c.in_ok-buffers.buffers.queue c.args.orders.now before after busy_links c.dump_all.new.links c.in_ok-opened.opened.stores c.deref-2.result.now
-    c.deref_mut.result.now c.dump_all.new.ports c.deref_mut-2.result.now c.dump_all.new.workers (view c.in_ok-buffers.buffers.pass) (view c.join_passes.new.pass) c.worst_broken-broken.result
+    let out = leaves sent failed c.buffers.inside.queue c.args.orders.now before after busy_links c.dump_all.new.links c.in_ok-opened.opened.stores c.deref-2.result.now
+    c.deref_mut.result.now c.dump_all.new.ports c.deref_mut-2.result.now c.dump_all.new.workers (view c.hire.new.pass) (view c.join_passes.new.pass) c.worst_broken-broken.result
     c.spent_by-spent.result ended in
     let few : 0 < length idle → length c.args.orders.now ≤ length busy_links = λ some. omega (arith, some, length-drop many c.args.links.now, busy g b, c.min-many.ensures) in
     subst (λ ls. CarriesOut sent failed (map (λ h. h.id) before) c.args.orders.now (states_of before) (states_of after) ls (c.dump_all.new.links ++ idle) c.worst_broken-broken.result c.spent_by-spent.result)

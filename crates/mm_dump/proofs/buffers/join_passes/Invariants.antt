@@ -1,14 +1,15 @@
-use Rattle.std.proofs.Common.{◌≡◌, ◌<◌, ℕ, ◌+◌, All, length, vec_len}
+use Rattle.std.proofs.Common.{◌≡◌, ◌<◌, ℕ, ◌+◌, All, length, vec_len, vec_capacity}
 use Rattle.std.specs.List.{sum_by}
 use Rattle.crossbeam_queue.specs.Passes.{view, IsPassOf}
 use Rattle.mm_dump.specs.declared.dumper.DumpWorker.{DumpWorker}
 use Rattle.mm_dump.specs.Steps.{IsBack}
-use Rattle.mm_dump.proofs.step.join_passes.Given as goal
+use Rattle.mm_dump.proofs.buffers.join_passes.Given as goal
 
 abbrev pub invariant-loop-worker : goal.invariant-loop-worker
 invariant-loop-worker l = record {
   pass : IsPassOf l.queue l.pass;
   part : 0 < (view l.pass).parts;
+  capacity : vec_capacity l.workers ≡ vec_capacity l.initial.workers;
   passes : All (IsBack l.queue) l.workers.items;
   parts : (view l.pass).parts + length l.workers.items ≡ (view l.initial.pass).parts + length l.initial.workers.items;
   pushed : (view l.pass).pushed ≡ (view l.initial.pass).pushed;

@@ -5,7 +5,7 @@ use Rattle.mm_dump.specs.declared.queue.QueueView.{QueueView}
 use Rattle.mm_dump.specs.Queue.{queue_view}
 use Rattle.mm_dump.specs.Steps.{IsHired}
 use Rattle.mm_dump.proofs.Moves.{forks}
-use Rattle.mm_dump.proofs.step.new_buffers.Goals as goal
+use Rattle.mm_dump.proofs.buffers.hire.Goals as goal
 
 pub another-requires-clause-rule : goal.another-requires-clause-rule
 another-requires-clause-rule g c = forks _ _ (omega (arith, c.loop.invariant.parts, c.requires.some.1))
@@ -14,13 +14,13 @@ pub loop-preserved : goal.loop-preserved
 loop-preserved g c =
     let left = c.another.ensures.rule.0 in
     record {
-      pass = search rules;
+      of = search rules;
       parts = omega (arith, ap (λ (v : QueueView). v.parts) left, c.loop.invariant.parts, c.requires.some.1);
       pushed = ap (λ (v : QueueView). v.pushed) left ∙ c.loop.invariant.pushed;
       none = ap (λ (v : QueueView). v.taken) left ∙ c.loop.invariant.none;
-      count = search rules;
+      many = search rules;
       room = search rules;
-      hired = subst (λ (ws : List DumpWorker). All (IsHired c.in_ok-queue.queue (c.args.orders + c.args.links)) ws) (sym c.push_reserved.ensures.items)
-          (All-push (IsHired c.in_ok-queue.queue (c.args.orders + c.args.links)) c.loop.workers.items _ c.loop.invariant.hired
+      hired = subst (λ (ws : List DumpWorker). All (IsHired c.args.queue.now (c.args.orders + c.args.count)) ws) (sym c.push_reserved.ensures.items)
+          (All-push (IsHired c.args.queue.now (c.args.orders + c.args.count)) c.loop.workers.items _ c.loop.invariant.hired
           (record { pass = c.another.ensures.queue.1; first = c.another.ensures.rule.1 ∙ ap (λ (n : ℕ). queue_view 1 n []) c.loop.invariant.pushed; spent = refl }));
     }
