@@ -36,7 +36,7 @@ use Rattle.mm_exec.specs.Halts.{AreOneOrder, AreFirstOffers, IsByOneLog, BrokenS
 use Rattle.mm_memory.specs.Laws.{ids_of}
 use Rattle.mm_exec.specs.RunState.{RunState}
 use Rattle.mm_exec.specs.declared.step.StepBroken.{StepBroken}
-use Rattle.mm_exec.specs.Step.{StepRecorded, OutOfMemory, OrdersBroke, OrderingBroke, StepBroke, dump_cause}
+use Rattle.mm_exec.specs.Step.{StepRecorded, OrdersBroke, StepBroke, dump_cause}
 use Rattle.mm_exec.proofs.Failing.{links_failed}
 use Rattle.mm_exec.proofs.Parts.{as_many, same_ids, by_how}
 use Rattle.mm_exec.proofs.Firsts.{none_first, none_listed, all_first, first_turns}
@@ -109,15 +109,12 @@ module _ {L : Type 0} (sent : L → List Sent) (failed : L → ℕ) (step now : 
 
   one_log : labels_of after.stores ≡ labels_of before.stores → StepBroke sent failed e orders before after stop → IsByOneLog e came orders k (state_in before) (state_in after)
   one_log labels =
-      by_how sent failed e orders before after stop (λ (x : RunState Supply L). IsByOneLog e came orders k (state_in before) (state_in x)) (left_alone e came orders k (state_in before))
+      by_how sent failed e orders before after stop (IsByOneLog e came orders k (state_in before) (state_in after))
       (λ broke.
       let went = broke.records.went k (inside after labels) in
       then_nothing e came orders k (state_in before) (state_in after) (map (λ run. run.offered k) broke.records.runs)
       (first_turns e before.sources after.sources broke.records.runs k broke.records.are_runs (omega (arith, within, length-map before.stores (λ (h : Held). h.id))))
       went.log went.run went.shuffle)
-      (λ mid recorded.
-      let first = recorded.stores_are k (inside mid recorded.labels) in
-      then_nothing e came orders k (state_in before) (state_in mid) (map (offers e k) came) (all_first e k came) first.log first.run first.shuffle)
       (λ mid recorded broke.
       then_tried e came orders k (state_in before) (state_in mid) (state_in after) (recorded.stores_are k (inside mid recorded.labels)) (sum_by (times k) broke.settled.places)
       (broke.settled.course k) (broke.settled.stores k (inside after (broke.labels ∙ recorded.labels))) (broke.settled.amounts k))
@@ -131,9 +128,6 @@ steps_are_logs sent failed step now routes orders before after stop broke labels
 module _ {L : Type 0} (sent : L → List Sent) (failed : L → ℕ) (e : RecordingContext) (orders : List Order)
     (before after : RunState Supply L) (stop : StepBroken) (changes : BrokenOrdersChangeNothing) (ids : ids_of before.stores ≡ e.ids)
     (there : All (λ o. o.place < length before.stores) orders) (is_link : stop.cause ≡ LinkFailed e.step) where
-  not_lacking : (x : RunState Supply L) → OutOfMemory e.step x after stop → ⊥
-  not_lacking x lack = let bad = ap (λ (b : StepBroken). b.cause) lack.broken_is in cc (bad, is_link)
-
   by_orders : (mid : RunState Supply L) → StepRecorded e before mid → OrdersBroke sent failed e.step orders mid after stop → FailedLink sent failed e orders before after
   by_orders mid recorded broke =
       let worst_is : broke.why ≡ worst.LinkFailed = link_failed e.step broke.why (sym broke.cause_is ∙ is_link) in
@@ -154,10 +148,5 @@ module _ {L : Type 0} (sent : L → List Sent) (failed : L → ℕ) (e : Recordi
       }
 
   pub failed_link : StepBroke sent failed e orders before after stop → FailedLink sent failed e orders before after
-  failed_link (inl (inl lack)) = absurd (not_lacking before lack)
-  failed_link (inl (inr broke)) = absurd (no_link e.step broke.why (broke.cause_is ∙ ap (λ (c : Cause). Some c) is_link))
-  failed_link (inr dumping) = by_dump dumping.how
-    where
-      by_dump : OrderingBroke sent failed e.step orders dumping.mid after stop → FailedLink sent failed e orders before after
-      by_dump (inl lack) = absurd (not_lacking dumping.mid lack)
-      by_dump (inr broke) = by_orders dumping.mid dumping.recorded broke
+  failed_link (inl broke) = absurd (no_link e.step broke.why (broke.cause_is ∙ ap (λ (c : Cause). Some c) is_link))
+  failed_link (inr dumping) = by_orders dumping.mid dumping.recorded dumping.how

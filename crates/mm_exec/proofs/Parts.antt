@@ -26,7 +26,7 @@ use Rattle.mm_exec.specs.Laws.{HalvesMakeStepRuns}
 use Rattle.mm_memory.specs.Laws.{ids_of}
 use Rattle.mm_exec.specs.RunState.{RunState, with_supplies, InRun}
 use Rattle.mm_exec.specs.declared.step.StepBroken.{StepBroken}
-use Rattle.mm_exec.specs.Step.{StepRecorded, StepDumped, StepDone, KeepsRest, IsCauseIn, dump_cause, OutOfMemory, RecordersBroke, OrdersBroke, OrderingBroke, StepBroke, StepStopped}
+use Rattle.mm_exec.specs.Step.{StepRecorded, StepDumped, StepDone, KeepsRest, IsCauseIn, dump_cause, RecordersBroke, OrdersBroke, StepBroke, StepStopped}
 
 -- what follows in either case
 pub both_follow : {A E : Type 0} (P Q : Type 0) (R : E → Type 0) (r : Result A E) → OnOk r P → IfErr r R → (P → Q) → ((e : E) → R e → Q) → Q
@@ -84,10 +84,6 @@ cause_dumped : (step : ℕ) (why : OrderBroken) → IsCauseIn step (dump_cause s
 cause_dumped step worst.LinkFailed = refl
 cause_dumped step why = refl
 
--- and that there was no memory
-cause_lacking : {S L : Type 0} (step : ℕ) (before after : RunState S L) (stop : StepBroken) → OutOfMemory step before after stop → IsCauseIn step stop.cause
-cause_lacking step before after stop lack = subst (λ (b : StepBroken). IsCauseIn step b.cause) (sym lack.broken_is) refl
-
 -- a step that is recorded and then dumped
 pub both_parts : {L : Type 0} (sent : L → List Sent) (failed : L → ℕ) (e : RecordingContext) (orders : List Order)
     (before mid after : RunState Supply L) → HalvesMakeStepRuns → ids_of before.stores ≡ e.ids → StepRecorded e before mid → StepDumped sent failed orders mid after
@@ -116,26 +112,17 @@ both_parts {L = L} sent failed e orders before mid after halves ids recorded dum
 module _ {L : Type 0} (sent : L → List Sent) (failed : L → ℕ) (e : RecordingContext) (orders : List Order) (before after : RunState Supply L)
     (stop : StepBroken) where
   -- what holds of a step that was broken off, by how it was
-  pub by_how : (P : RunState Supply L → Type 0) → P before → (RecordersBroke e before after stop → P after) → ((mid : RunState Supply L) → StepRecorded e before mid → P mid)
-      → ((mid : RunState Supply L) → StepRecorded e before mid → OrdersBroke sent failed e.step orders mid after stop → P after)
-      → StepBroke sent failed e orders before after stop → P after
-  by_how P none early recorded broken (inl (inl lack)) = subst P (sym lack.same) none
-  by_how P none early recorded broken (inl (inr broke)) = early broke
-  by_how P none early recorded broken (inr dumping) = by_dump dumping.how
-    where
-      by_dump : OrderingBroke sent failed e.step orders dumping.mid after stop → P after
-      by_dump (inl lack) = subst P (sym lack.same) (recorded dumping.mid dumping.recorded)
-      by_dump (inr broke) = broken dumping.mid dumping.recorded broke
+  pub by_how : (P : Type 0) → (RecordersBroke e before after stop → P)
+      → ((mid : RunState Supply L) → StepRecorded e before mid → OrdersBroke sent failed e.step orders mid after stop → P)
+      → StepBroke sent failed e orders before after stop → P
+  by_how P early broken (inl broke) = early broke
+  by_how P early broken (inr dumping) = broken dumping.mid dumping.recorded dumping.how
 
   -- its cause is one of the step
   cause_is : StepBroke sent failed e orders before after stop → IsCauseIn e.step stop.cause
-  cause_is (inl (inl lack)) = cause_lacking e.step before after stop lack
-  cause_is (inl (inr broke)) = cause_recorded e.step broke.why stop.cause broke.cause_is
-  cause_is (inr dumping) = by_dump dumping.how
-    where
-      by_dump : OrderingBroke sent failed e.step orders dumping.mid after stop → IsCauseIn e.step stop.cause
-      by_dump (inl lack) = cause_lacking e.step dumping.mid after stop lack
-      by_dump (inr broke) = subst (IsCauseIn e.step) (sym broke.cause_is) (cause_dumped e.step broke.why)
+  cause_is =
+      by_how (IsCauseIn e.step stop.cause) (λ broke. cause_recorded e.step broke.why stop.cause broke.cause_is)
+      (λ mid recorded broke. subst (IsCauseIn e.step) (sym broke.cause_is) (cause_dumped e.step broke.why))
 
   -- a step whose sources have nothing left
   stopped_recorded : IsCauseIn e.step stop.cause → (mid : RunState Supply L) → StepRecorded e before mid → StepStopped e.step before mid stop.cause
@@ -153,14 +140,13 @@ module _ {L : Type 0} (sent : L → List Sent) (failed : L → ℕ) (e : Recordi
   pub stopped_of : StepBroke sent failed e orders before after stop → StepStopped e.step before after stop.cause
   stopped_of how =
       let cause = cause_is how in
-      by_how (λ (left : RunState Supply L). StepStopped e.step before left stop.cause)
-      (record { cause_is = cause; labels = refl; keep = keep_same e.step before.sources; others = λ t other. refl })
+      by_how (StepStopped e.step before after stop.cause)
       (λ broke. record {
         cause_is = cause;
         labels = broke.records.labels;
         keep = keep_turns e before.sources after.sources broke.records.runs broke.records.are_runs;
         others = broke.records.others;
-      }) (stopped_recorded cause)
+      })
       (λ mid recorded broke.
       let was = stopped_recorded cause mid recorded in
       record {
@@ -199,9 +185,8 @@ pub dumped_in : {S L : Type 0} (sent : L → List Sent) (failed : L → ℕ) (or
 dumped_in sent failed orders mid after left dumped = record { labels = dumped.labels; dumped = dumped.dumped; sources = refl }
 
 pub broken_in : {S L : Type 0} (sent : L → List Sent) (failed : L → ℕ) (step : ℕ) (orders : List Order) (mid after : RunState S L) (left : List Supply) (stop : StepBroken)
-    → OrderingBroke sent failed step orders mid after stop → OrderingBroke sent failed step orders (with_supplies mid left) (with_supplies after left) stop
-broken_in sent failed step orders mid after left stop (inl lack) = inl (record { same = ap (λ x. with_supplies x left) lack.same; broken_is = lack.broken_is })
-broken_in sent failed step orders mid after left stop (inr broke) = inr (record {
+    → OrdersBroke sent failed step orders mid after stop → OrdersBroke sent failed step orders (with_supplies mid left) (with_supplies after left) stop
+broken_in sent failed step orders mid after left stop broke = record {
   labels = broke.labels;
   sound = broke.sound;
   why = broke.why;
@@ -210,9 +195,4 @@ broken_in sent failed step orders mid after left stop (inr broke) = inr (record 
   spent_is = broke.spent_is;
   kept = broke.kept;
   cause_is = broke.cause_is;
-})
-
-pub broken_sources : {S L : Type 0} (sent : L → List Sent) (failed : L → ℕ) (step : ℕ) (orders : List Order) (mid after : RunState S L) (stop : StepBroken)
-    → OrderingBroke sent failed step orders mid after stop → after.sources ≡ mid.sources
-broken_sources sent failed step orders mid after stop (inl lack) = ap (λ x. x.sources) lack.same
-broken_sources sent failed step orders mid after stop (inr broke) = broke.sources
+}

@@ -170,10 +170,9 @@ pub ready_left : {L : Type 0} (sent : L → List Sent) (failed : L → ℕ) (e :
     (before after : RunState Supply L) (stop : StepBroken) → OrdersDumpTheOldest → BrokenOrdersChangeNothing → ids_of before.stores ≡ e.ids → AreReady before.stores
     → StepBroke sent failed e orders before after stop → AreReady after.stores
 ready_left {L = L} sent failed e orders before after stop dump changes ids ready =
-    by_how sent failed e orders before after stop (λ (x : RunState Supply L). AreReady x.stores) ready
+    by_how sent failed e orders before after stop (AreReady after.stores)
     (λ broke.
     ready_stopped e before.stores after.stores before.sources after.sources broke.why (ap length (sym ids) ∙ length-map before.stores (λ (h : Held). h.id)) ready broke.records)
-    (λ mid recorded. ready_recorded e before mid ready recorded)
     (λ mid recorded broke. ready_broken sent failed e.step orders mid after stop dump changes (ready_recorded e before mid ready recorded) broke)
 
 -- a step's dump may be carried out after what came is recorded

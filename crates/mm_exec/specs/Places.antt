@@ -1,7 +1,8 @@
 -- The places of the problem's stores in the memory.
 use Rattle.std.specs.Prelude.{◌≡◌, ◌≢◌, ℕ, ◌<◌, List, length, slice_index}
 use Rattle.std.specs.List.{position_or_len}
-use Rattle.mm_problem.specs.Dumping.{Dumping, row}
+use Rattle.mm_base.specs.declared.limits.TheConstants.{MAX_STORES}
+use Rattle.mm_problem.specs.Dumping.{Dumping, IsDumping, row}
 use Rattle.mm_desk.specs.declared.held.Held.{Held}
 use Rattle.mm_memory.specs.Holdings.{has_id}
 
@@ -13,6 +14,12 @@ pub record IsPlaceOf (id : List ℕ) (stores : List Held) (place : ℕ) : Type 0
 -- the first stores of the problem stand at these places
 abbrev pub ArePlaces : Dumping → List Held → ℕ → List ℕ → Type 0
 ArePlaces q stores n places = (s : ℕ) → s < n → IsPlaceOf (row q s).id stores (slice_index places s)
+
+-- these are the places of all stores of a problem, among these stores
+pub record AreAllPlaces (q : Dumping) (stores : List Held) (places : List ℕ) : Type 0 where
+  pub sound : IsDumping q
+  pub stand : ArePlaces q stores (length q.rows) places
+  pub count : length places ≡ MAX_STORES
 
 -- the stores stand at places of their own
 abbrev pub AreApart : List ℕ → ℕ → Type 0

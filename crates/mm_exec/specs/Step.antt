@@ -90,11 +90,6 @@ pub record StepDone {L : Type 0} (sent : L → List Sent) (failed : L → ℕ) (
   pub nothing_left : All (λ s. s e.step ≡ []) after.sources
   pub others : (t : ℕ) → t ≢ e.step → given_in t after.sources ≡ given_in t before.sources
 
--- there was no memory to begin, and nothing was done
-pub record OutOfMemory {S L : Type 0} (step : ℕ) (before after : RunState S L) (broken : StepBroken) : Type 0 where
-  pub same : after ≡ before
-  pub broken_is : broken ≡ record { cause = NoMemory step; spent = 0 }
-
 -- recorders stopped early: this is what they left, and the cause is theirs. The links are as they were
 pub record RecordersBroke {L : Type 0} (e : RecordingContext) (before after : RunState Supply L) (broken : StepBroken) : Type 0 where
   pub why : Option Fault
@@ -121,25 +116,17 @@ pub record OrdersBroke {S L : Type 0} (sent : L → List Sent) (failed : L → �
   pub kept : AllKept sent failed before.links after.links
   pub cause_is : broken.cause ≡ dump_cause step why
 
--- a step was broken off while it was recorded
-abbrev pub RecordingBroke : {L : Type 0} → RecordingContext → RunState Supply L → RunState Supply L → StepBroken → Type 0
-RecordingBroke e before after broken = OutOfMemory e.step before after broken ⊎ RecordersBroke e before after broken
-
--- a step was broken off while its orders were carried out
-abbrev pub OrderingBroke : {S L : Type 0} → (L → List Sent) → (L → ℕ) → ℕ → List Order → RunState S L → RunState S L → StepBroken → Type 0
-OrderingBroke sent failed step orders before after broken = OutOfMemory step before after broken ⊎ OrdersBroke sent failed step orders before after broken
-
 -- a step was broken off after what came was recorded, which left the stores and the sources so
 pub record DumpBroke {L : Type 0} (sent : L → List Sent) (failed : L → ℕ) (e : RecordingContext) (orders : List Order)
     (before after : RunState Supply L) (broken : StepBroken) : Type 0 where
   pub mid : RunState Supply L
   pub recorded : StepRecorded e before mid
-  pub how : OrderingBroke sent failed e.step orders mid after broken
+  pub how : OrdersBroke sent failed e.step orders mid after broken
 
--- how a step was broken off
+-- how a step was broken off: a source, the copy of a packet, or a link failed. Nothing else in a step takes memory
 abbrev pub StepBroke : {L : Type 0} → (L → List Sent) → (L → ℕ) → RecordingContext → List Order → RunState Supply L → RunState Supply L → StepBroken → Type 0
 StepBroke sent failed e orders before after broken =
-    RecordingBroke e before after broken ⊎ DumpBroke sent failed e orders before after broken
+    RecordersBroke e before after broken ⊎ DumpBroke sent failed e orders before after broken
 
 -- a source keeps the rest of what it gave in a step
 abbrev pub KeepsRest : ℕ → Supply → Supply → Type 0

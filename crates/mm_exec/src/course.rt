@@ -3,16 +3,17 @@ ghost use Rattle.std.specs.Prelude.{◌≡◌, ℕ, length, IfOk, OnOk, IfErr, v
 ghost use Rattle.mm_record.specs.Steps.{TakesAll};
 ghost use Rattle.mm_exec.specs.RunState.{InRun};
 ghost use Rattle.mm_exec.specs.Step.{AreReady, NeverRefused};
+ghost use Rattle.mm_exec.specs.Places.{AreAllPlaces};
 ghost use Rattle.mm_exec.specs.Course.{given_to, recording_at, MayReport, StepReported, StepUnreported, MayRun, AreWithinLimits};
 ghost use Rattle.mm_exec.specs.Ending.{HasRun, IsHaltedIn};
 
 use crate::laws::{runs_lose_as_planned, runs_lose_no_packet_uncounted, step_runs_keep_stores};
+use crate::open_run::OpenRun;
 use crate::orders::list_orders;
-use crate::places::places_of;
 use crate::room::RunBuffers;
-use crate::run_parts::RunParts;
 use crate::step::StepBroken;
 use crate::step_counts::{all_counters, step_counts};
+use mm_base::MAX_STORES;
 use mm_control::ControlTable;
 use mm_dump::Link;
 use mm_dump::laws::broken_orders_change_nothing;
@@ -41,7 +42,7 @@ pub(crate) struct RunStopped {
     pub(crate) report: Report,
 }
 
-impl<S: AnySource + Send + Drop, L: Link + Send + Drop> RunParts<S, L> {
+impl<S: AnySource + Send + Drop, L: Link + Send + Drop> OpenRun<S, L> {
     // Carries out one step of a plan, for stores of the problem that stand at these places, and adds its row to the report.
     fn report_step<R: Threads + Wait + Sync>(
         &mut self,
@@ -62,15 +63,15 @@ impl<S: AnySource + Send + Drop, L: Link + Send + Drop> RunParts<S, L> {
         ensures capacity { vec_capacity buffers.new.orders ≡ vec_capacity buffers.old.orders }
         ensures ready { AreReady self.new.stores }
     {
-        let counters = all_counters(places, self.stores());
+        let counters = all_counters(places, &mut self.stores);
         list_orders(&mut buffers.orders, run.plan, places, step);
         let context = RecordingStep {
             control: run.control,
             step,
             now: run.base + u64::from(step),
         };
-        self.carry_step(rt, alloc, &context, &buffers.orders)?;
-        let counts = step_counts(run.problem, step, places, &counters, self.stores());
+        self.carry_step(rt, alloc, &mut buffers.dumping, &context, &buffers.orders)?;
+        let counts = step_counts(run.problem, step, places, &counters, &mut self.stores);
         buffers.report.add(&counts[..places.len()]);
         Ok(())
     }
@@ -81,8 +82,10 @@ impl<S: AnySource + Send + Drop, L: Link + Send + Drop> RunParts<S, L> {
         rt: &R,
         alloc: Global,
         run: &RunContext<'_>,
+        all: &[usize; MAX_STORES],
         buffers: RunBuffers,
     ) -> Result<Report, RunStopped>
+        requires places { AreAllPlaces run.now.problem.now self.old.stores all.now }
         requires may { MayRun L.failed run.now buffers self.old }
         ensures done { IfOk result (λ report. InRun S.leads S.until self.old self.new
             (λ first now. HasRun L.sent L.failed (given_to run.now first) run.now.plan.now first (length run.now.problem.now.windows) now report)) }
@@ -96,16 +99,23 @@ impl<S: AnySource + Send + Drop, L: Link + Send + Drop> RunParts<S, L> {
         runs_lose_no_packet_uncounted();
         step_runs_keep_stores();
         sources_may_stay::<S>();
-        let all = places_of(run.problem, self.stores());
         let places = &all[..run.problem.stores()];
         let mut buffers = buffers;
         for step in 1..run.problem.steps() + 1 {
             if let Err(broken) = self.report_step(rt, alloc, run, places, step, &mut buffers) {
-                let RunBuffers { report, orders: _ } = buffers;
+                let RunBuffers {
+            report,
+            orders: _,
+            dumping: _,
+        } = buffers;
                 return Err(RunStopped { broken, report });
             }
         }
-        let RunBuffers { report, orders: _ } = buffers;
+        let RunBuffers {
+            report,
+            orders: _,
+            dumping: _,
+        } = buffers;
         Ok(report)
     }
 }

@@ -5,6 +5,7 @@
 mod course;
 mod flying;
 pub mod laws;
+mod open_run;
 mod orders;
 mod places;
 mod readiness;

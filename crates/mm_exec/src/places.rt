@@ -1,9 +1,7 @@
 //! The places of the problem's stores in the memory.
-ghost use Rattle.std.specs.Prelude.{◌≡◌, length};
-ghost use Rattle.mm_problem.specs.Dumping.{IsDumping};
 ghost use Rattle.mm_exec.specs.declared.requirement.Requirement.TheVariants.{Ready};
 ghost use Rattle.mm_exec.specs.Readiness.{AllMeet};
-ghost use Rattle.mm_exec.specs.Places.{ArePlaces};
+ghost use Rattle.mm_exec.specs.Places.{AreAllPlaces};
 
 use mm_base::MAX_STORES;
 use mm_desk::Held;
@@ -13,9 +11,7 @@ use mm_problem::Problem;
 // The place of each store of the problem among stores which have them all.
 pub(crate) fn places_of(problem: &Problem, stores: &[Held]) -> [usize; MAX_STORES]
     requires { AllMeet Ready problem.now stores.now }
-    ensures places { ArePlaces problem.now stores.now (length problem.now.rows) result }
-    ensures len { length result ≡ MAX_STORES }
-    ensures problem { IsDumping problem.now }
+    ensures places { AreAllPlaces problem.now stores.now result }
 {
     let mut places = [0; MAX_STORES];
     for store in 0..problem.stores() {

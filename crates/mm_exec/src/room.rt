@@ -3,17 +3,19 @@ ghost use Rattle.std.specs.Prelude.{◌≡◌, ◌≤◌, [], length, map, IfOk,
 ghost use Rattle.mm_base.specs.declared.limits.TheConstants.{MAX_STORES};
 
 use mm_base::{MAX_STORES, NoMemory};
-use mm_dump::Order;
+use mm_dump::{DumpBuffers, Order, reserve_dump};
 use mm_planner::store_ids;
 use mm_problem::Problem;
 use mm_report::Report;
 use std::alloc::Global;
 
-/// What a run takes before its first step: the report, with room for all steps, and room for the orders of a step.
+/// What a run takes before its first step, beside its open stores: the report, with room for all steps, room for the orders of a step,
+/// and what dumps take.
 #[derive(Drop)]
 pub(crate) struct RunBuffers {
     pub(crate) report: Report,
     pub(crate) orders: Vec<Order>,
+    pub(crate) dumping: DumpBuffers,
 }
 
 // What a run of a problem takes.
@@ -25,5 +27,10 @@ pub(crate) fn reserve_run(alloc: Global, problem: &Problem) -> Result<RunBuffers
     let ids = store_ids(alloc, problem)?;
     let report = Report::new(alloc, ids, problem.steps())?;
     let orders = Vec::with_capacity(alloc, MAX_STORES)?;
-    Ok(RunBuffers { report, orders })
+    let dumping = reserve_dump(alloc)?;
+    Ok(RunBuffers {
+        report,
+        orders,
+        dumping,
+    })
 }

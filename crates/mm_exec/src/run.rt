@@ -9,12 +9,14 @@ ghost use Rattle.mm_exec.specs.Course.{given_to, AreWithinLimits};
 ghost use Rattle.mm_exec.specs.Ending.{HasRun, IsCarriedOut, IsStopped, IsHalted};
 
 use crate::course::{RunContext, RunStopped};
+use crate::open_run::OpenRun;
+use crate::places::places_of;
 use crate::readiness::ready;
 use crate::room::reserve_run;
 use crate::run_end::{Halted, RunEnd};
 use crate::run_parts::RunParts;
 use crate::step::StepBroken;
-use mm_dump::{Link, read_states};
+use mm_dump::Link;
 use mm_memory::Memory;
 use mm_memory::laws::identifiers_decide_what_is_restored;
 use mm_plan::Plan;
@@ -22,7 +24,9 @@ use mm_problem::Problem;
 use mm_record::AnySource;
 use mm_record::laws::sources_may_stay;
 use mm_report::{Cause, Report};
+use mm_shared::{close_all, open_all, read_states};
 use std::alloc::Global;
+use std::mem::replace;
 use std::sync::Wait;
 use std::thread::Threads;
 
@@ -66,11 +70,29 @@ impl<S: AnySource + Send + Drop, L: Link + Send + Drop> RunParts<S, L> {
         ) {
             return Err(never_began(alloc, cause));
         }
-        read_states(self.stores());
+        let all = places_of(run.problem, self.stores());
         let Ok(buffers) = reserve_run(alloc, run.problem) else {
             return Err(never_began(alloc, Cause::NoMemory { step: 0 }));
         };
-        self.carry_steps(rt, alloc, run, buffers)
+        let Ok(mut stores) = open_all(alloc, &mut self.stores) else {
+            return Err(never_began(alloc, Cause::NoMemory { step: 0 }));
+        };
+        read_states(&mut stores);
+        let mut open = OpenRun {
+            stores,
+            sources: replace(&mut self.sources, Vec::new(alloc)),
+            links: replace(&mut self.links, Vec::new(alloc)),
+        };
+        let ended = open.carry_steps(rt, alloc, run, &all, buffers);
+        let OpenRun {
+            stores,
+            sources,
+            links,
+        } = open;
+        close_all(stores, &mut self.stores);
+        self.sources = sources;
+        self.links = links;
+        ended
     }
 }
 

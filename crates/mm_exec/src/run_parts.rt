@@ -4,7 +4,7 @@ ghost use Rattle.std.specs.Prelude.{◌≡◌, length};
 use mm_desk::Held;
 use std::marker::Model;
 
-/// The stores, the sources and the links of a run, which its steps change.
+/// The stores, the sources and the links of a run, before it and after it.
 #[derive(Drop)]
 pub(crate) struct RunParts<S: Drop, L: Drop> {
     pub(crate) stores: Vec<Held>,

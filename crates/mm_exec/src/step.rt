@@ -2,20 +2,20 @@
 ghost use Rattle.std.specs.Prelude.{◌≡◌, ◌≤◌, None, Some, OnOk, IfErr, IfSome};
 ghost use Rattle.mm_shared.specs.Stores.{labels_of};
 ghost use Rattle.mm_exec.specs.RunState.{InRun};
-ghost use Rattle.mm_exec.specs.Step.{AreReady, MayCarry, MayRecord, recording_by, StepRecorded, StepDumped, StepDone, RecordingBroke, OrderingBroke, StepBroke, NeverRefused, dump_cause};
+ghost use Rattle.mm_exec.specs.Step.{AreReady, MayCarry, MayRecord, recording_by, StepRecorded, StepDumped, StepDone, RecordersBroke, OrdersBroke, StepBroke, NeverRefused, dump_cause};
 ghost use Rattle.mm_desk.specs.declared.fault.Fault.TheVariants.{NoMemory};
 ghost use Rattle.mm_record.specs.Causes.{cause_in};
 ghost use Rattle.mm_record.specs.Steps.{TakesAll};
 ghost use Rattle.mm_dump.specs.Dumped.{MayDump, amount_of};
 
 use crate::laws::{halves_make_step_runs, step_runs_keep_stores};
-use crate::run_parts::RunParts;
+use crate::open_run::OpenRun;
 use mm_desk::Fault;
 use mm_desk::laws::{any_order_loses_alike, orders_dump_the_oldest};
 use mm_dump::laws::broken_orders_change_nothing;
-use mm_dump::{Dumped, Link, Order, OrderBroken, dump};
+use mm_dump::{DumpBuffers, Dumped, Link, Order, OrderBroken, dump_open};
 use mm_record::laws::sources_may_stay;
-use mm_record::{AnySource, RecordingStep, cause_in, record};
+use mm_record::{AnySource, RecordingStep, cause_in, record_open};
 use mm_report::Cause;
 use std::alloc::Global;
 use std::sync::Wait;
@@ -26,16 +26,6 @@ use std::thread::Threads;
 pub(crate) struct StepBroken {
     pub(crate) cause: Cause,
     pub(crate) spent: u64,
-}
-
-// A step in which an allocation was refused before anything was done.
-fn out_of_memory(step: u32) -> StepBroken
-    ensures { result ≡ record { cause = Cause.NoMemory step; spent = 0 } }
-{
-    StepBroken {
-        cause: Cause::NoMemory { step },
-        spent: 0,
-    }
 }
 
 // How a step goes on whose recorders stopped early for this reason, or did not.
@@ -60,7 +50,7 @@ fn dumpers_cause(step: u32, worst: OrderBroken) -> Cause
     }
 }
 
-impl<S: AnySource + Send + Drop, L: Link + Send + Drop> RunParts<S, L> {
+impl<S: AnySource + Send + Drop, L: Link + Send + Drop> OpenRun<S, L> {
     // Records what comes in a step.
     fn record<R: Threads + Wait + Sync>(
         &mut self,
@@ -71,14 +61,12 @@ impl<S: AnySource + Send + Drop, L: Link + Send + Drop> RunParts<S, L> {
         requires may { MayRecord self.old }
         ensures ok { OnOk result (InRun S.leads S.until self.old self.new (StepRecorded (recording_by step.entry.now self.old.stores))) }
         ensures how { IfErr result (λ broken. InRun S.leads S.until self.old self.new
-            (λ before after. RecordingBroke (recording_by step.entry.now before.stores) before after broken)) }
+            (λ before after. RecordersBroke (recording_by step.entry.now before.stores) before after broken)) }
         ensures spent { IfErr result (λ broken. broken.spent ≡ 0) }
         ensures far { IfErr result (λ broken. InRun S.leads S.until self.old self.new
             (λ before after. TakesAll (recording_by step.entry.now before.stores) before.stores before.sources → NeverRefused broken.cause)) }
     {
-        let Ok(why) = record(rt, alloc, step, &mut self.stores, &mut self.sources) else {
-            return Err(out_of_memory(step.step));
-        };
+        let why = record_open(rt, alloc, step, &mut self.stores, &mut self.sources);
         recorders_end(step.step, why)
     }
 
@@ -87,26 +75,29 @@ impl<S: AnySource + Send + Drop, L: Link + Send + Drop> RunParts<S, L> {
         &mut self,
         rt: &R,
         alloc: Global,
+        buffers: &mut DumpBuffers,
         step: u32,
         orders: &[Order],
     ) -> Result<(), StepBroken>
         requires may { MayDump L.failed orders.now self.old.stores self.old.links }
         ensures ok { OnOk result (StepDumped L.sent L.failed orders.now self.old self.new) }
-        ensures how { IfErr result (OrderingBroke L.sent L.failed step orders.now self.old self.new) }
+        ensures how { IfErr result (OrdersBroke L.sent L.failed step orders.now self.old self.new) }
         ensures within { IfErr result (λ broken. broken.spent ≤ amount_of orders.now) }
     {
-        match dump(rt, alloc, orders, &mut self.stores, &mut self.links) {
-            Ok(Dumped { broken: None, .. }) => Ok(()),
-            Ok(
-                Dumped {
-                    broken: Some(worst),
-                    spent,
-                },
-            ) => Err(StepBroken {
+        let Dumped { broken, spent } = dump_open(
+            rt,
+            alloc,
+            buffers,
+            orders,
+            &mut self.stores,
+            &mut self.links,
+        );
+        match broken {
+            None => Ok(()),
+            Some(worst) => Err(StepBroken {
                 cause: dumpers_cause(step, worst),
                 spent,
             }),
-            Err(_) => Err(out_of_memory(step)),
         }
     }
 
@@ -115,6 +106,7 @@ impl<S: AnySource + Send + Drop, L: Link + Send + Drop> RunParts<S, L> {
         &mut self,
         rt: &R,
         alloc: Global,
+        buffers: &mut DumpBuffers,
         step: &RecordingStep<'_>,
         orders: &[Order],
     ) -> Result<(), StepBroken>
@@ -137,6 +129,6 @@ impl<S: AnySource + Send + Drop, L: Link + Send + Drop> RunParts<S, L> {
         step_runs_keep_stores();
         sources_may_stay::<S>();
         self.record(rt, alloc, step)?;
-        self.dump(rt, alloc, step.step, orders)
+        self.dump(rt, alloc, buffers, step.step, orders)
     }
 }

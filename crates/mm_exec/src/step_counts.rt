@@ -1,30 +1,39 @@
 //! What a step brings to the stores, by their counters.
-ghost use Rattle.std.specs.Prelude.{◌≡◌, ◌<◌, ◌≤◌, length, slice_index, All};
+ghost use Rattle.std.specs.Prelude.{◌≡◌, ◌<◌, ◌≤◌, length, All};
 ghost use Rattle.mm_base.specs.declared.limits.TheConstants.{MAX_STORES};
 ghost use Rattle.mm_desk.specs.Runs.{opening_at};
-ghost use Rattle.mm_shared.specs.Stores.{states_of};
+ghost use Rattle.mm_shared.specs.Stores.{states_of, stores_in, AreAtRest};
+ghost use Rattle.mm_record.specs.Counters.{counters_of};
 ghost use Rattle.mm_exec.specs.Numbers.{counts_from, AreCounters, AreStepCounts};
 
 use mm_base::MAX_STORES;
-use mm_desk::{Held, StoreState};
 use mm_problem::Problem;
 use mm_record::Counters;
 use mm_report::StepCounts;
-use mm_store::PacketStore;
+use mm_shared::{OpenStores, tally_at};
 
-// The state of the store at a place.
-fn state_at(stores: &[Held], place: usize) -> &StoreState
-    requires { place < length stores.now }
-    ensures { result.now ≡ opening_at (states_of stores.now) place }
+// The counters of the store at a place.
+fn counters_at(stores: &mut OpenStores, place: usize) -> Counters
+    requires rest { AreAtRest stores.old }
+    requires within { place < length (stores_in stores.old) }
+    ensures same { stores.new ≡ stores.old }
+    ensures counters { result ≡ counters_of (opening_at (states_of (stores_in stores.old)) place) }
 {
-    &stores[place].state
+    let tally = tally_at(stores, place);
+    Counters {
+        offered: tally.offered,
+        lost: tally.lost,
+        deleted: tally.deleted,
+    }
 }
 
 // The counters of the stores at these places.
-pub(crate) fn all_counters(places: &[usize], stores: &[Held]) -> [Counters; MAX_STORES]
+pub(crate) fn all_counters(places: &[usize], stores: &mut OpenStores) -> [Counters; MAX_STORES]
+    requires rest { AreAtRest stores.old }
     requires few { length places.now ≤ MAX_STORES }
-    requires within { All (λ place. place < length stores.now) places.now }
-    ensures { AreCounters stores.now places.now (length places.now) result }
+    requires within { All (λ place. place < length (stores_in stores.old)) places.now }
+    ensures same { stores.new ≡ stores.old }
+    ensures counters { AreCounters (stores_in stores.old) places.now (length places.now) result }
 {
     let mut counters = [Counters {
         offered: 0,
@@ -32,31 +41,34 @@ pub(crate) fn all_counters(places: &[usize], stores: &[Held]) -> [Counters; MAX_
         deleted: 0,
     }; MAX_STORES];
     for (store, place) in places.iter().enumerate() {
-        counters[store] = Counters::of(state_at(stores, *place));
+        counters[store] = counters_at(stores, *place);
     }
     counters
 }
 
-// What a step brought to a store of the problem.
-fn counts_of(
+// What a step brought to a store of the problem, that stands at a place.
+fn counts_at(
     problem: &Problem,
     store: usize,
     step: u32,
     before: Counters,
-    state: &StoreState,
+    stores: &mut OpenStores,
+    place: usize,
 ) -> StepCounts
     requires store { store < length problem.now.rows }
-    requires first { 1 ≤ step }
-    requires last { step ≤ length problem.now.windows }
-    ensures { result ≡ counts_from problem.now store step before state.now }
+    requires step { (1 ≤ step) × (step ≤ length problem.now.windows) }
+    requires rest { AreAtRest stores.old }
+    requires within { place < length (stores_in stores.old) }
+    ensures same { stores.new ≡ stores.old }
+    ensures counts { result ≡ counts_from problem.now store step before (opening_at (states_of (stores_in stores.old)) place) }
 {
-    let rise = Counters::of(state).since(before);
+    let after = tally_at(stores, place);
     StepCounts {
         forecast: u64::from(problem.arrivals(store, step)),
-        arrived: rise.offered,
-        lost: rise.lost,
-        dumped: rise.deleted,
-        held: u64::from(state.store().len()),
+        arrived: after.offered.saturating_sub(before.offered),
+        lost: after.lost.saturating_sub(before.lost),
+        dumped: after.deleted.saturating_sub(before.deleted),
+        held: u64::from(after.held),
     }
 }
 
@@ -66,15 +78,17 @@ pub(crate) fn step_counts(
     step: u32,
     places: &[usize],
     before: &[Counters; MAX_STORES],
-    stores: &[Held],
+    stores: &mut OpenStores,
 ) -> [StepCounts; MAX_STORES]
+    requires rest { AreAtRest stores.old }
     requires all { length places.now ≡ length problem.now.rows }
     requires few { length places.now ≤ MAX_STORES }
-    requires within { All (λ place. place < length stores.now) places.now }
+    requires within { All (λ place. place < length (stores_in stores.old)) places.now }
     requires first { 1 ≤ step }
     requires last { step ≤ length problem.now.windows }
+    ensures same { stores.new ≡ stores.old }
     ensures len { length result ≡ MAX_STORES }
-    ensures counts { AreStepCounts problem.now step stores.now places.now before.now (length places.now) result }
+    ensures counts { AreStepCounts problem.now step (stores_in stores.old) places.now before.now (length places.now) result }
 {
     let mut counts = [StepCounts {
         forecast: 0,
@@ -84,8 +98,7 @@ pub(crate) fn step_counts(
         held: 0,
     }; MAX_STORES];
     for (store, place) in places.iter().enumerate() {
-        let state = state_at(stores, *place);
-        counts[store] = counts_of(problem, store, step, before[store], state);
+        counts[store] = counts_at(problem, store, step, before[store], stores, *place);
     }
     counts
 }

@@ -18,10 +18,9 @@ use Rattle.mm_desk.specs.declared.reply.Reply.TheVariants as reply
 use Rattle.mm_desk.specs.Offers.{AreTaken, IsTaken}
 use Rattle.mm_desk.specs.Offers.{asked as asked_in}
 use Rattle.mm_desk.specs.Runs.{entry}
-use Rattle.atomic_table.specs.Seated.{TableId}
 use Rattle.mm_shared.specs.declared.label.StoreLabel.{StoreLabel}
 use Rattle.mm_shared.specs.Stores.{list_at, end_of, id_at}
-use Rattle.mm_shared.specs.Views.{PortView, StoresView, with_call}
+use Rattle.mm_shared.specs.Views.{Origin, PortView, StoresView, with_call}
 use Rattle.mm_shared.proofs.CallsOn.{list_here, list_there}
 use Rattle.mm_record.specs.Offering.{offer_at, offers_by, ExtendsBy, ExtendsInPart, AddsBy, Adds, AddsPartly, IsReason, MayOffer, Offers}
 use Rattle.mm_record.specs.Steps.{IsRefusedWith}
@@ -113,7 +112,7 @@ found_at now p own row k index is = rw is (by_test (k == index))
 
 -- packets may be offered through a port as long as it is where it was
 pub still_may : (labels : List StoreLabel) (stores : StoresView) (old new : PortView) → end_of new ≡ end_of old → MayOffer labels stores old.of → MayOffer labels stores new.of
-still_may labels stores old new end may = subst (λ (e : TableId × ℕ). MayOffer labels stores e.0) (sym end) may
+still_may labels stores old new end may = subst (λ (e : Origin × ℕ). MayOffer labels stores e.0) (sym end) may
 
 -- a port that stays, where nothing is to be offered, and where all is left to do
 pub adds_none : (count : ℕ) (port : PortView) → Adds count (λ k. []) port port

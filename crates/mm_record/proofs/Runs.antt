@@ -1,8 +1,7 @@
 -- Recorders of two groups, one after the other.
-use Rattle.std.proofs.Common.{◌≡◌, ℕ, ◌+◌, List, [], ◌∷◌, ◌++◌, length, get_or, map, All, Option, None, sym, subst, ap, length-append, arith}
+use Rattle.std.proofs.Common.{◌∙◌, ◌≡◌, ℕ, ◌+◌, List, [], ◌∷◌, ◌++◌, length, get_or, map, All, Option, None, sym, subst, ap, length-append, arith}
 use Rattle.std.proofs.Math.ListN.{set}
 use Rattle.std.proofs.lemmas.List.{get_or_append_left, get_or-append-add, map-append}
-
 use Rattle.mm_desk.specs.declared.fault.Fault.{Fault}
 use Rattle.mm_shared.specs.declared.label.StoreLabel.{StoreLabel}
 use Rattle.mm_shared.specs.Stores.{ids_of, AreNamed, AreWorkers, IsFresh}

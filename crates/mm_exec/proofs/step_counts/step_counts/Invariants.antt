@@ -1,6 +1,11 @@
 use Rattle.std.proofs.Common.{◌≡◌, length}
+use Rattle.mm_shared.specs.Stores.{stores_in}
 use Rattle.mm_exec.specs.Numbers.{AreStepCounts}
 use Rattle.mm_exec.proofs.step_counts.step_counts.Given as goal
 
 abbrev pub invariant-loop-store : goal.invariant-loop-store
-invariant-loop-store l = (length l.counts ≡ 16) × AreStepCounts l.problem l.step l.stores l.places l.before l.store l.counts
+invariant-loop-store l = record {
+  same : l.stores ≡ l.initial.stores;
+  many : length l.counts ≡ 16;
+  are : AreStepCounts l.problem l.step (stores_in l.initial.stores) l.places l.before l.store l.counts;
+}

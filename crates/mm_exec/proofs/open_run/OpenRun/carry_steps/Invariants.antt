@@ -5,7 +5,7 @@ use Rattle.mm_exec.specs.Ending.{HasRun}
 use Rattle.mm_exec.specs.RunState.{InRun}
 use Rattle.mm_exec.proofs.StoresReady.{AllFar}
 use Rattle.mm_exec.proofs.Starting.{bound_at}
-use Rattle.mm_exec.proofs.run_parts.RunParts.carry_steps.Given as goal
+use Rattle.mm_exec.proofs.open_run.OpenRun.carry_steps.Given as goal
 
 abbrev pub invariant-loop-step : goal.invariant-loop-step
 invariant-loop-step g l = record {

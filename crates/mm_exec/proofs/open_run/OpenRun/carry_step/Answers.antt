@@ -5,12 +5,12 @@ use Rattle.mm_record.specs.Supplies.{Supply, supplies}
 use Rattle.mm_record.proofs.Supplying.{as_they_are}
 use Rattle.mm_exec.specs.declared.step.StepBroken.{StepBroken}
 use Rattle.mm_exec.specs.RunState.{RunState, with_supplies, InRun}
-use Rattle.mm_exec.specs.Step.{AreReady, recording_by, StepRecorded, StepDumped, StepDone, OrderingBroke, RecordingBroke, StepBroke}
-use Rattle.mm_exec.proofs.Parts.{as_many, both_parts, both_follow, then_dumped, dumped_in, broken_in, broken_sources}
+use Rattle.mm_exec.specs.Step.{AreReady, recording_by, StepRecorded, StepDumped, StepDone, OrdersBroke, RecordersBroke, StepBroke}
+use Rattle.mm_exec.proofs.Parts.{as_many, both_parts, both_follow, then_dumped, dumped_in, broken_in}
 use Rattle.mm_exec.proofs.StoresReady.{may_dump, ready_after, ready_left, ready_recorded}
-use Rattle.mm_exec.proofs.run_parts.RunParts.carry_step.Given as given
-use Rattle.mm_exec.proofs.run_parts.RunParts.carry_step.Goals as goal
-use Rattle.mm_exec.proofs.run_parts.RunParts.carry_step.Goals.{After-dump}
+use Rattle.mm_exec.proofs.open_run.OpenRun.carry_step.Given as given
+use Rattle.mm_exec.proofs.open_run.OpenRun.carry_step.Goals as goal
+use Rattle.mm_exec.proofs.open_run.OpenRun.carry_step.Goals.{After-dump}
 
 -- what the recorders share
 abbrev context : (g : given.Over) (c : goal.After-dump g) → RecordingContext
@@ -25,7 +25,7 @@ abbrev Dumped : (g : given.Over) (c : goal.After-dump g) → Type 0
 Dumped g c = StepDumped g.L.Link.sent g.L.Link.failed c.args.orders.now c.record.new.self c.dump.new.self
 
 abbrev Broken : (g : given.Over) (c : goal.After-dump g) → StepBroken → Type 0
-Broken g c stop = OrderingBroke g.L.Link.sent g.L.Link.failed c.args.step.now.step c.args.orders.now c.record.new.self c.dump.new.self stop
+Broken g c stop = OrdersBroke g.L.Link.sent g.L.Link.failed c.args.step.now.step c.args.orders.now c.record.new.self c.dump.new.self stop
 
 abbrev Done : (g : given.Over) (c : goal.After-dump g) → RunState Supply g.row.L.Denot → RunState Supply g.row.L.Denot → Type 0
 Done g c before after = StepDone g.L.Link.sent g.L.Link.failed (context g c) c.args.orders.now before after
@@ -43,7 +43,7 @@ done g c dumped =
 broke : (g : given.Over) (c : goal.After-dump g) (stop : StepBroken) → Broken g c stop → Whole g c (Broke g c stop)
 broke g c stop how =
     then_dumped g.S.AnySource.leads g.S.AnySource.until c.args.self.now c.record.new.self c.dump.new.self (StepRecorded (context g c)) (Broke g c stop)
-    (broken_sources g.L.Link.sent g.L.Link.failed c.args.step.now.step c.args.orders.now c.record.new.self c.dump.new.self stop how)
+    how.sources
     (λ given left recorded. inr (record {
       mid = with_supplies c.record.new.self left;
       recorded = recorded;
@@ -64,7 +64,7 @@ pub returns-in_err-record-clause-ready : goal.returns-in_err-record-clause-ready
 returns-in_err-record-clause-ready g c =
     let e = recording_by c.args.step.now c.args.self.now.stores in
     let how = as_they_are g.S.AnySource.leads g.S.AnySource.until c.sources_may_stay.ensures.law c.args.self.now.sources c.record.new.self.sources
-    (λ given left. RecordingBroke e (with_supplies c.args.self.now given) (with_supplies c.record.new.self left) c.in_err-record.field-0.0) c.in_err-record.ensures.how in
+    (λ given left. RecordersBroke e (with_supplies c.args.self.now given) (with_supplies c.record.new.self left) c.in_err-record.field-0.0) c.in_err-record.ensures.how in
     ready_left g.L.Link.sent g.L.Link.failed e c.args.orders.now (with_supplies c.args.self.now (supplies g.S.AnySource.until c.args.self.now.sources c.record.new.self.sources))
     (with_supplies c.record.new.self (supplies g.S.AnySource.until c.record.new.self.sources c.record.new.self.sources)) c.in_err-record.field-0.0
     c.orders_dump_the_oldest.ensures.law c.broken_orders_change_nothing.ensures.law refl c.requires.may.ready (inl how)

@@ -6,9 +6,9 @@ use Rattle.mm_exec.specs.Course.{given_to}
 use Rattle.mm_exec.specs.Ending.{HasRun}
 use Rattle.mm_exec.specs.RunState.{RunState, with_supplies, InRun}
 use Rattle.mm_exec.proofs.Starting.{Underway, underway, all_ready, early_by, done_first, far_first, may_run_in, may_report_of, ran_on, far_on, halted_in, takes_here}
-use Rattle.mm_exec.proofs.run_parts.RunParts.carry_steps.Given as given
-use Rattle.mm_exec.proofs.run_parts.RunParts.carry_steps.Goals as goal
-use Rattle.mm_exec.proofs.run_parts.RunParts.carry_steps.Goals.{In-loop-step}
+use Rattle.mm_exec.proofs.open_run.OpenRun.carry_steps.Given as given
+use Rattle.mm_exec.proofs.open_run.OpenRun.carry_steps.Goals as goal
+use Rattle.mm_exec.proofs.open_run.OpenRun.carry_steps.Goals.{In-loop-step}
 
 -- the run as it began and as it is before the step, with what its sources give until they are as these
 abbrev first_in : (g : given.Over) (c : goal.In-loop-step g) → List g.row.S.Denot → RunState Supply g.row.L.Denot
@@ -19,13 +19,13 @@ now_in g c lasts = with_supplies c.loop-step.self (supplies g.S.AnySource.until 
 
 -- what is known before the step
 here : (g : given.Over) (c : goal.In-loop-step g) (lasts : List g.row.S.Denot) → AllZip g.S.AnySource.leads c.loop-step.self.sources lasts
-    → Underway g.L.Link.sent g.L.Link.failed c.args.run.now (take c.stores-2.result c.places_of-all.result) c.loop-step.step (first_in g c lasts) (now_in g c lasts) c.loop-step.buffers
+    → Underway g.L.Link.sent g.L.Link.failed c.args.run.now (take c.stores.result c.args.all.now) c.loop-step.step (first_in g c lasts) (now_in g c lasts) c.loop-step.buffers
 here g c lasts lead =
     let ran = c.loop-step.invariant.ran lasts lead in
     let many = length-supplies g.S.AnySource.until c.args.self.now.sources lasts (zip_long g.S.AnySource.leads _ _ ran.0) in
     underway g.L.Link.sent g.L.Link.failed c.args.run.now _ c.loop-step.step (first_in g c lasts) (may_run_in g.L.Link.failed c.args.run.now c.args.buffers c.args.self.now _ many c.requires.may)
-    c.places_of-all.ensures.problem (now_in g c lasts) c.loop-step.buffers ran.1 c.places_of-all.result c.stores.ensures c.places_of-all.ensures.places c.places_of-all.ensures.len
-    c.stores-2.ensures.stores refl c.loop-step.auto.step c.loop-step-test.true c.steps-step-end.ensures.steps c.loop-step.invariant.room
+    c.requires.places.sound (now_in g c lasts) c.loop-step.buffers ran.1 c.args.all.now refl c.requires.places.stand c.requires.places.count
+    c.stores.ensures.stores refl c.loop-step.auto.step c.loop-step-test.true c.steps-step-end.ensures.steps c.loop-step.invariant.room
 
 pub loop-step-init : goal.loop-step-init
 loop-step-init g c =
@@ -53,9 +53,6 @@ loop-step-init g c =
       );
       room = c.requires.may.orders;
     }
-
-pub places_of-all-requires : goal.places_of-all-requires
-places_of-all-requires g c = rw c.stores.ensures (c.requires.may.begins.ready (omega arith))
 
 pub report_step-requires-clause-may : goal.report_step-requires-clause-may
 report_step-requires-clause-may g c κs within =

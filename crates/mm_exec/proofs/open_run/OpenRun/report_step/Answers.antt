@@ -10,9 +10,9 @@ use Rattle.mm_exec.specs.Step.{StepDone}
 use Rattle.mm_record.specs.Supplies.{supplies}
 use Rattle.mm_exec.specs.Course.{orders_at}
 use Rattle.mm_exec.proofs.Counters.{row_taken}
-use Rattle.mm_exec.proofs.run_parts.RunParts.report_step.Given as given
-use Rattle.mm_exec.proofs.run_parts.RunParts.report_step.Goals as goal
-use Rattle.mm_exec.proofs.run_parts.RunParts.report_step.Goals.{After-carry_step}
+use Rattle.mm_exec.proofs.open_run.OpenRun.report_step.Given as given
+use Rattle.mm_exec.proofs.open_run.OpenRun.report_step.Goals as goal
+use Rattle.mm_exec.proofs.open_run.OpenRun.report_step.Goals.{After-carry_step}
 
 -- the orders were listed
 listed : (g : given.Over) (c : goal.After-carry_step g) → c.deref.result.now ≡ orders_at c.args.run.now c.args.places.now c.args.step
@@ -34,9 +34,9 @@ returns-clause-done g c =
     let before = c.args.self.now.stores in
     let after = c.carry_step.new.self.stores in
     let counters = c.all_counters-counters.result in
-    let marked : AreCounters before places n counters = subst (λ (held : List Held). AreCounters held places n counters) c.stores.ensures c.all_counters-counters.ensures in
+    let marked : AreCounters before places n counters = subst (λ (held : List Held). AreCounters held places n counters) ? c.all_counters-counters.ensures.counters in
     let told : AreStepCounts q t after places counters n c.step_counts-counts.result =
-    subst (λ (held : List Held). AreStepCounts q t held places counters n c.step_counts-counts.result) c.stores-2.ensures c.step_counts-counts.ensures.counts in
+    subst (λ (held : List Held). AreStepCounts q t held places counters n c.step_counts-counts.result) ? c.step_counts-counts.ensures.counts in
     let row = row_taken q t places before after counters c.step_counts-counts.result n marked told (omega (arith, c.requires.may.few, c.step_counts-counts.ensures.len)) in
     let all = row ∙ ap (λ (m : ℕ). row_from q t places before after m) c.requires.may.all in
     λ lasts lead.
