@@ -22,8 +22,8 @@ pub fn answer<R: Wait>(
     port: &mut Port,
     ask: Ask,
 ) -> Told
-    requires of { port.old.of ≡ stores.now.id }
-    requires one { length stores.now.openings ≡ 1 }
+    requires of { port.old.of.table ≡ stores.now.id }
+    requires one { stores.now.many ≡ 1 }
     ensures same { (port.new.of ≡ port.old.of) × (port.new.number ≡ port.old.number) }
 {
     match ask {
@@ -56,8 +56,8 @@ fn called<R: Wait>(
     ask: Ask,
     want: Told,
 ) -> Met
-    requires of { port.old.of ≡ stores.now.id }
-    requires one { length stores.now.openings ≡ 1 }
+    requires of { port.old.of.table ≡ stores.now.id }
+    requires one { stores.now.many ≡ 1 }
     ensures same { (port.new.of ≡ port.old.of) × (port.new.number ≡ port.old.number) }
 {
     let first = answer(rt, alloc, stores, port, ask);
@@ -77,8 +77,8 @@ fn called_through<R: Wait>(
     second: &mut Port,
     call: SeatCall,
 ) -> Met
-    requires of { (first.old.of ≡ stores.now.id) × (second.old.of ≡ stores.now.id) }
-    requires one { length stores.now.openings ≡ 1 }
+    requires of { (first.old.of.table ≡ stores.now.id) × (second.old.of.table ≡ stores.now.id) }
+    requires one { stores.now.many ≡ 1 }
     ensures first { (first.new.of ≡ first.old.of) × (first.new.number ≡ first.old.number) }
     ensures second { (second.new.of ≡ second.old.of) × (second.new.number ≡ second.old.number) }
 {
@@ -97,8 +97,8 @@ fn made<R: Wait>(
     label: StoreLabel,
     back: Vec<Held>,
 ) -> Met
-    requires ports { opened.1 ≡ new_ports opened.0.id 2 }
-    requires seats { (opened.0.seats ≡ 2) × (length opened.0.openings ≡ 1) }
+    requires ports { (opened.1.of.table ≡ opened.0.id) × (opened.1 ≡ new_ports opened.1.of 2) }
+    requires seats { (opened.0.seats ≡ 2) × (opened.0.many ≡ 1) }
     requires room { (back.items ≡ []) × (1 ≤ vec_capacity back) }
 {
     let ((stores, mut ports), mut back) = (opened, back);

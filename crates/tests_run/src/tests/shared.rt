@@ -9,7 +9,9 @@ use growths::calls::{Ask, Told};
 use growths::shared::answer;
 use mm_base::Kind;
 use mm_desk::{Fault, StoreState};
-use mm_shared::{Port, Ports, SharedStores, StoreLabel, close_all, open_all};
+use mm_shared::{
+    Port, Ports, SharedStores, StoreLabel, Tally, close_all, open_all, seat_workers, settle, tally_at,
+};
 use std::alloc::Global;
 use std::process::Abort;
 use std::sync::Wait;
@@ -18,9 +20,9 @@ use std::thread::{Threads, join};
 
 // A store with this many seats, and its ports.
 fn opened(rt: &impl Abort, alloc: Global, state: StoreState, seats: u32) -> (SharedStores, Ports)
-    ensures ports { result.1 ≡ new_ports result.0.id seats }
+    ensures ports { (result.1.of.table ≡ result.0.id) × (result.1 ≡ new_ports result.1.of seats) }
     ensures seats { result.0.seats ≡ seats }
-    ensures one { length result.0.openings ≡ 1 }
+    ensures one { result.0.many ≡ 1 }
 {
     let states = vec![in alloc; state].expect(rt, "memory");
     match SharedStores::open(alloc, states, seats) {
@@ -31,8 +33,8 @@ fn opened(rt: &impl Abort, alloc: Global, state: StoreState, seats: u32) -> (Sha
 
 // What is left of the store, with all its ports or without them.
 fn closed(rt: &impl Abort, alloc: Global, stores: SharedStores, ports: Option<Ports>) -> StoreState
-    requires all { IfSome ports (λ ports. (ports.of ≡ stores.id) × (ports.first ≡ 0) × (length ports.lists ≡ stores.seats)) }
-    requires one { length stores.openings ≡ 1 }
+    requires all { IfSome ports (λ ports. (ports.of.table ≡ stores.id) × (ports.first ≡ 0) × (length ports.lists ≡ stores.seats)) }
+    requires one { stores.many ≡ 1 }
 {
     let label = StoreLabel {
         id: id(rt, "AAA"),
@@ -54,8 +56,8 @@ fn asks<R: Wait + Abort>(
     port: &mut Port,
     table: &[Call],
 )
-    requires of { port.old.of ≡ stores.now.id }
-    requires one { length stores.now.openings ≡ 1 }
+    requires of { port.old.of.table ≡ stores.now.id }
+    requires one { stores.now.many ≡ 1 }
     ensures same { (port.new.of ≡ port.old.of) × (port.new.number ≡ port.old.number) }
 {
     for row in 0..table.len() {
@@ -155,8 +157,8 @@ static OFFERS_MEANWHILE: Part = Part {
 
 // Offers this many packets.
 fn offers<R: Wait + Abort>(rt: &R, alloc: Global, stores: &SharedStores, port: &mut Port, many: u32)
-    requires of { port.old.of ≡ stores.now.id }
-    requires one { length stores.now.openings ≡ 1 }
+    requires of { port.old.of.table ≡ stores.now.id }
+    requires one { stores.now.many ≡ 1 }
     ensures same { (port.new.of ≡ port.old.of) × (port.new.number ≡ port.old.number) }
 {
     for _ in 0..many {
@@ -173,8 +175,8 @@ fn plays<R: Wait + Abort>(
     called: &AtomicU64,
     part: Part,
 ) -> Port
-    requires of { port.of ≡ stores.now.id }
-    requires one { length stores.now.openings ≡ 1 }
+    requires of { port.of.table ≡ stores.now.id }
+    requires one { stores.now.many ≡ 1 }
     ensures same { (result.of ≡ port.of) × (result.number ≡ port.number) }
 {
     assert!(rt; comes_to(called, part.begins), "its turn");
@@ -202,11 +204,11 @@ fn shared_by<R: Threads + Wait + Sync + Abort>(
     let (one, two) = join(
         rt,
         move || -> Port
-            requires { (one.of ≡ shared.now.id) × (length shared.now.openings ≡ 1) }
+            requires { (one.of.table ≡ shared.now.id) × (shared.now.many ≡ 1) }
             ensures { (result.of ≡ one.of) × (result.number ≡ one.number) }
         { plays(rt, alloc, shared, one, called, first) },
         move || -> Port
-            requires { (two.of ≡ shared.now.id) × (length shared.now.openings ≡ 1) }
+            requires { (two.of.table ≡ shared.now.id) × (shared.now.many ≡ 1) }
             ensures { (result.of ≡ two.of) × (result.number ≡ two.number) }
         { plays(rt, alloc, shared, two, called, second) },
     );
@@ -237,11 +239,22 @@ fn no_lock_is_held_while_a_packet_is_sent(rt: HostRuntime) {
 fn stores_are_given_back_in_order(rt: HostRuntime) {
     let mut stores = stores_with(&rt, rt.alloc(), &[1, 2]);
     assert!(rt; stores.len() <= 16, "few stores");
-    let Ok(opened) = open_all(rt.alloc(), &mut stores, 3) else {
+    let Ok(mut opened) = open_all(rt.alloc(), &mut stores) else {
         panic!(rt; "memory");
     };
-    let many = (opened.workers.len(), opened.labels.len());
-    assert!(rt; many == (3, 2), "three workers at two stores");
+    for workers in [3, 1] {
+        seat_workers(&mut opened, workers);
+        let many = (opened.workers.len(), opened.labels.len());
+        assert!(rt; many == (workers as usize, 2), "workers at two stores");
+        settle(&mut opened);
+    }
+    let tally = Tally {
+        offered: 2,
+        lost: 0,
+        deleted: 0,
+        held: 2,
+    };
+    assert!(rt; tally_at(&mut opened, 1) == tally, "what the second store counts");
     close_all(opened, &mut stores);
     assert!(&rt; stores.len() == 2, "two stores");
     for (store, (name, held)) in stores.iter().zip(&[("AAA", 1), ("BBB", 2)]) {
