@@ -27,6 +27,12 @@ pub struct Dumped {
     pub spent: u64,
 }
 
+// How a dump without orders went.
+const NOTHING: Dumped = Dumped {
+    broken: None,
+    spent: 0,
+};
+
 // How many blocks workers spent.
 fn spent_by(workers: &[DumpWorker]) -> u64
     requires few { length workers.now ≤ MAX_SEATS }
@@ -65,10 +71,7 @@ pub fn dump_open<L: Link + Send, R: Threads + Wait + Sync>(
 {
     if orders.is_empty() {
         mm_shared::read_states(stores);
-        return Dumped {
-            broken: None,
-            spent: 0,
-        };
+        return NOTHING;
     }
     let many = links.len().min(orders.len());
     seat_workers(stores, many as u32);
@@ -133,10 +136,7 @@ pub fn dump<L: Link + Send, R: Threads + Wait + Sync>(
 {
     if orders.is_empty() {
         read_states(stores);
-        return Ok(Dumped {
-            broken: None,
-            spent: 0,
-        });
+        return Ok(NOTHING);
     }
     let mut buffers = reserve_dump(alloc)?;
     let mut opened = open_all(alloc, stores)?;
