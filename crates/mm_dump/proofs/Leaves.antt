@@ -90,7 +90,7 @@ lent n xs rest same = subst (λ (k : ℕ). take k (xs ++ rest) ≡ xs) same (tak
 module _ {L Q A : Type 0} (sent : L → List Sent) (failed : L → ℕ) (queue : Slotted (Option ℕ) (Doing ℕ QueueView) Q A) where
   -- each worker is ready
   all_ready : (stores : StoresView) (pushed : ℕ) (links : List L) (ports : List PortView) (workers : List DumpWorker) → pushed ≤ 65536
-      → All (λ (p : PortView). p.of ≡ stores.id) ports → All IsFresh ports → All (IsHired queue pushed) workers → All (λ (l : L). failed l < 2 ^ 64 - 1) links
+      → All (λ (p : PortView). p.of.table ≡ stores.id) ports → All IsFresh ports → All (IsHired queue pushed) workers → All (λ (l : L). failed l < 2 ^ 64 - 1) links
       → All (IsReady sent failed queue stores) (sided links ports workers)
   all_ready stores pushed [] ports workers few of fresh hired room = All-nil (IsReady sent failed queue stores)
   all_ready stores pushed (a ∷ links) [] workers few of fresh hired room = All-nil (IsReady sent failed queue stores)
@@ -100,7 +100,7 @@ module _ {L Q A : Type 0} (sent : L → List Sent) (failed : L → ℕ) (queue :
       let count : (view c.pass).pushed ≡ pushed = ap (λ (v : QueueView). v.pushed) mine.first in
       All-cons (IsReady sent failed queue stores) _ (sided links ports workers)
       (record {
-        of = All-head (λ (p : PortView). p.of ≡ stores.id) b ports of;
+        of = All-head (λ (p : PortView). p.of.table ≡ stores.id) b ports of;
         fresh = All-head IsFresh b ports fresh;
         pass = mine.pass;
         first = mine.first ∙ (λ i. record { parts = 1; pushed = (sym count) i; taken = [] });
@@ -108,7 +108,7 @@ module _ {L Q A : Type 0} (sent : L → List Sent) (failed : L → ℕ) (queue :
         spent = mine.spent;
         room = All-head (λ (l : L). failed l < 2 ^ 64 - 1) a links room;
       })
-      (all_ready stores pushed links ports workers few (All-tail (λ (p : PortView). p.of ≡ stores.id) b ports of) (All-tail IsFresh b ports fresh) (All-tail (IsHired queue pushed) c workers hired)
+      (all_ready stores pushed links ports workers few (All-tail (λ (p : PortView). p.of.table ≡ stores.id) b ports of) (All-tail IsFresh b ports fresh) (All-tail (IsHired queue pushed) c workers hired)
       (All-tail (λ (l : L). failed l < 2 ^ 64 - 1) a links room))
 
   -- and so are all of a step
@@ -123,8 +123,8 @@ module _ {L Q A : Type 0} (sent : L → List Sent) (failed : L → ℕ) (queue :
         some = some;
         ports_count = new.count ∙ sym count;
         workers_count = workers_count ∙ sym count;
-        fit = record { labels_are = new.are_open.labels; within = subst (λ (n : ℕ). All (λ (o : Order). o.place < n) orders) (sym as_many) places };
-        each = all_ready opened.stores pushed links opened.workers.items workers few (λ i d within. ap (λ e. e.0) (new.are_open.workers i d within)) new.fresh hired room;
+        fit = record { labels_are = sym new.are_open.kept.many; within = subst (λ (n : ℕ). All (λ (o : Order). o.place < n) orders) (sym as_many) places };
+        each = all_ready opened.stores pushed links opened.workers.items workers few (λ i d within. ap (λ e. e.0.table) (new.are_open.workers i d within) ∙ new.are_open.kept.of) new.fresh hired room;
       }))
     where
       as_many : length opened.labels.items ≡ length before

@@ -30,8 +30,8 @@ order_store place id = record { place = place; id = id }
 
 -- a port of these stores, of which one is at this place
 pub record IsPortAt (stores : StoresView) (place : ℕ) (port : PortView) : Type 0 where
-  pub of : port.of ≡ stores.id
-  pub within : place < length stores.openings
+  pub of : port.of.table ≡ stores.id
+  pub within : place < stores.many
 
 -- a port with these calls more in its list, made on the store at a place
 abbrev pub with_calls : ℕ → PortView → List Entry → PortView

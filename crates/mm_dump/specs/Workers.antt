@@ -23,7 +23,7 @@ order_at orders number = slice_index_or orders number (record { place = 0; amoun
 
 -- each order names a store that is there, and each store has a label
 pub record OrdersFit (stores : StoresView) (labels : List StoreLabel) (orders : List Order) : Type 0 where
-  pub labels_are : length labels ≡ length stores.openings
+  pub labels_are : length labels ≡ stores.many
   pub within : All (λ o. o.place < length labels) orders
 
 -- how an order went, where its calls are all that happened to its store, at which no retrieval was on
@@ -98,7 +98,7 @@ module _ {L Q A : Type 0} (sent : L → List Sent) (failed : L → ℕ) (queue :
   -- a worker has a port of the stores, through which no call was made, and a pass with one part that took nothing, has spent nothing, and
   -- its link may fail once more
   pub record IsReady (stores : StoresView) (s : Sided L) : Type 0 where
-    pub of : s.port.of ≡ stores.id
+    pub of : s.port.of.table ≡ stores.id
     pub fresh : s.port.list ≡ []
     pub pass : IsPassOf queue s.worker.pass
     pub first : view s.worker.pass ≡ queue_view 1 (view s.worker.pass).pushed []

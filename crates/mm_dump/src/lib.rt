@@ -17,4 +17,4 @@ pub use buffers::{DumpBuffers, reserve_dump};
 pub use link::{Link, SendFailed, may_fail};
 pub use memory_link::{MemoryLink, TakenPacket};
 pub use order::{Order, OrderBroken};
-pub use step::{Dumped, dump, read_states};
+pub use step::{Dumped, dump, dump_open};
