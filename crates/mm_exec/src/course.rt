@@ -104,10 +104,10 @@ impl<S: AnySource + Send + Drop, L: Link + Send + Drop> OpenRun<S, L> {
         for step in 1..run.problem.steps() + 1 {
             if let Err(broken) = self.report_step(rt, alloc, run, places, step, &mut buffers) {
                 let RunBuffers {
-            report,
-            orders: _,
-            dumping: _,
-        } = buffers;
+                    report,
+                    orders: _,
+                    dumping: _,
+                } = buffers;
                 return Err(RunStopped { broken, report });
             }
         }

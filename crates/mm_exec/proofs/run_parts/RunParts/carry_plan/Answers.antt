@@ -1,15 +1,23 @@
-use Rattle.std.proofs.Common.{refl, inl, inr, All, subst}
+use Rattle.std.proofs.Common.{◌≡◌, ◌∙◌, List, length, refl, inl, inr, All, sym, ap, subst, Vec, Global, IfOk, IfErr}
 use Rattle.std.proofs.lemmas.Result.{IfErr-weaker}
 use Rattle.mm_desk.specs.declared.held.Held.{Held}
 use Rattle.mm_desk.specs.Machine.{IsState}
 use Rattle.mm_exec.specs.Readiness.{Stops, MayBegin}
 use Rattle.mm_exec.specs.declared.course.RunStopped.{RunStopped}
 use Rattle.mm_record.specs.Supplies.{supplies}
-use Rattle.mm_exec.specs.Course.{given_to}
-use Rattle.mm_exec.specs.RunState.{with_supplies, InRun}
-use Rattle.mm_exec.specs.Ending.{IsStopped}
+use Rattle.mm_exec.specs.Course.{given_to, MayRun, AreWithinLimits}
+use Rattle.mm_exec.specs.Step.{NeverRefused}
+use Rattle.mm_exec.specs.RunState.{RunState, with_supplies, InRun}
+use Rattle.mm_exec.specs.Ending.{HasRun, IsStopped}
 use Rattle.mm_exec.proofs.Ended.{start_by, not_begun}
+use Rattle.mm_shared.specs.Stores.{stores_in}
+use Rattle.mm_exec.proofs.run_parts.RunParts.carry_plan.Given as given
 use Rattle.mm_exec.proofs.run_parts.RunParts.carry_plan.Goals as goal
+use Rattle.mm_exec.proofs.run_parts.RunParts.carry_plan.Goals.{After-drop-self-inside-2}
+
+-- a run of these stores, sources and links
+abbrev run_state : (g : given.Over) → List Held → List g.row.S.Denot → List g.row.L.Denot → RunState g.row.S.Denot g.row.L.Denot
+run_state g stores sources links = record { stores = stores; sources = sources; links = links }
 
 pub returns-in-Err-clause-stopped : goal.returns-in-Err-clause-stopped
 returns-in-Err-clause-stopped g c =
@@ -33,26 +41,80 @@ returns-in_default-reserve_run-clause-stopped g c =
           (inr (refl, start_by MayBegin run.problem.now run.plan.now run.base c.stores.ensures c.sources_len-many_sources.ensures c.links_len-many_links.ensures c.in_default.ensures.ok)),
     )
 
-pub carry_steps-requires-clause-may : goal.carry_steps-requires-clause-may
-carry_steps-requires-clause-may g c κs within =
+pub returns-in_default-open_all-clause-stopped : goal.returns-in_default-open_all-clause-stopped
+returns-in_default-open_all-clause-stopped g c =
     let run = c.args.run.now in
-    record {
+    let until = g.S.AnySource.until in
+    let first = c.args.self.now in
+    let inside = c.self.inside in
+    let read : List Held → RunState g.row.S.Denot g.row.L.Denot = λ stores. record { stores = stores; sources = inside.sources.items; links = inside.links.items } in
+    let left_is = ap read c.in_default-open_all.ensures.err ∙ c.self.view_is in
+    subst (λ (after : RunState g.row.S.Denot g.row.L.Denot). InRun g.S.AnySource.leads until first after
+    (λ begun now. IsStopped g.L.Link.sent g.L.Link.failed (given_to run begun) run.plan.now first after now.sources c.never_began-in_default-open_all.result)) (sym left_is)
+    (λ lasts lead.
+    let given = supplies until first.sources lasts in (
+      lead,
+      not_begun g.L.Link.sent g.L.Link.failed (given_to run (with_supplies first given)) run.plan.now first given _
+          c.never_began-in_default-open_all.result c.never_began-in_default-open_all.ensures.broken c.never_began-in_default-open_all.ensures.report
+          (inr (refl, start_by MayBegin run.problem.now run.plan.now run.base c.stores.ensures c.sources_len-many_sources.ensures c.links_len-many_links.ensures c.in_default.ensures.ok)),
+    ))
+
+pub carry_steps-ended-requires-clause-may : goal.carry_steps-ended-requires-clause-may
+carry_steps-ended-requires-clause-may g c κs within =
+    let run = c.args.run.now in
+    let opened = c.in-Ok-open_all.ensures.opened.1 in
+    let stores = ap stores_in c.read_states.ensures.same ∙ opened in
+    let sources = ap (λ (v : Vec g.row.S.Denot Global). v.items) c.replace.ensures.value in
+    let links = ap (λ (v : Vec g.row.L.Denot Global). v.items) c.replace-2.ensures.value in
+    let begun : run_state g (stores_in c.read_states.new.opened) c.replace.result.items c.replace-2.result.items ≡ c.args.self.now = (λ i. record { stores = stores i; sources = sources i; links = links i }) ∙ c.self.view_is in
+    subst (λ (s : RunState g.row.S.Denot g.row.L.Denot). MayRun g.L.Link.failed run c.in-Ok.buffers s) (sym begun)
+    (record {
       begins = start_by MayBegin run.problem.now run.plan.now run.base c.stores.ensures c.sources_len-many_sources.ensures c.links_len-many_links.ensures c.in_default.ensures.ok;
       held = c.requires.held;
-      sound = subst (All (λ (h : Held). IsState h.state)) c.stores-2.ensures c.read_states.ensures;
+      sound = subst (All (λ (h : Held). IsState h.state)) (opened ∙ ap (λ (s : RunState g.row.S.Denot g.row.L.Denot). s.stores) c.self.view_is) c.read_states.ensures.sound;
       links = c.requires.links;
       report = c.in-Ok.ensures.report;
       orders = c.in-Ok.ensures.orders;
-    }
+    })
+
+-- the run whose stores were opened is the one that was given
+begun_is : (g : given.Over) (c : goal.After-drop-self-inside-2 g) → run_state g (stores_in c.read_states.new.opened) c.replace.result.items c.replace-2.result.items ≡ c.args.self.now
+begun_is g c =
+    let stores = ap stores_in c.read_states.ensures.same ∙ c.in-Ok-open_all.ensures.opened.1 in
+    let sources = ap (λ (v : Vec g.row.S.Denot Global). v.items) c.replace.ensures.value in
+    let links = ap (λ (v : Vec g.row.L.Denot Global). v.items) c.replace-2.ensures.value in
+    (λ i. record { stores = stores i; sources = sources i; links = links i }) ∙ c.self.view_is
+
+-- what its steps left is left
+left_is : (g : given.Over) (c : goal.After-drop-self-inside-2 g)
+    → run_state g c.close_all.new.stores.items c.open.inside.sources.items c.open.inside.links.items ≡ c.carry_steps-ended.new.self
+left_is g c = ap (λ (stores : List Held). run_state g stores c.open.inside.sources.items c.open.inside.links.items) c.close_all.ensures.stores ∙ c.open.view_is
+
+-- so what holds of the steps holds of the run
+of_run : (g : given.Over) (c : goal.After-drop-self-inside-2 g) (P : RunState g.row.S.Denot g.row.L.Denot → RunState g.row.S.Denot g.row.L.Denot → Type 0)
+    → P (run_state g (stores_in c.read_states.new.opened) c.replace.result.items c.replace-2.result.items) c.carry_steps-ended.new.self
+    → P c.args.self.now (run_state g c.close_all.new.stores.items c.open.inside.sources.items c.open.inside.links.items)
+of_run g c P holds =
+    subst (P c.args.self.now) (sym (left_is g c))
+    (subst (λ (s : RunState g.row.S.Denot g.row.L.Denot). P s c.carry_steps-ended.new.self) (begun_is g c) holds)
+
+pub returns-clause-done : goal.returns-clause-done
+returns-clause-done g c =
+    let run = c.args.run.now in
+    of_run g c (λ first after. IfOk c.carry_steps-ended.result (λ report. InRun g.S.AnySource.leads g.S.AnySource.until first after
+    (λ first now. HasRun g.L.Link.sent g.L.Link.failed (given_to run first) run.plan.now first (length run.problem.now.windows) now report))) c.carry_steps-ended.ensures.done
 
 pub returns-clause-stopped : goal.returns-clause-stopped
 returns-clause-stopped g c =
     let run = c.args.run.now in
     let leads = g.S.AnySource.leads in
     let until = g.S.AnySource.until in
-    let first = c.args.self.now in
-    let after = c.carry_steps.new.self in
-    IfErr-weaker c.carry_steps.result _
-    (λ (stopped : RunStopped). InRun leads until first after
-    (λ begun now. IsStopped g.L.Link.sent g.L.Link.failed (given_to run begun) run.plan.now first after now.sources stopped))
-    (λ (stopped : RunStopped) halted lasts lead. let one = halted lasts lead in (one.0, inl one.1)) c.carry_steps.ensures.halted
+    of_run g c (λ first after. IfErr c.carry_steps-ended.result (λ stopped. InRun leads until first after
+    (λ begun now. IsStopped g.L.Link.sent g.L.Link.failed (given_to run begun) run.plan.now first after now.sources stopped)))
+    (IfErr-weaker c.carry_steps-ended.result _ _ (λ (stopped : RunStopped) halted lasts lead. let one = halted lasts lead in (one.0, inl one.1)) c.carry_steps-ended.ensures.halted)
+
+pub returns-clause-far : goal.returns-clause-far
+returns-clause-far g c =
+    let run = c.args.run.now in
+    of_run g c (λ first after. IfErr c.carry_steps-ended.result (λ stopped. InRun g.S.AnySource.leads g.S.AnySource.until first after
+    (λ first now. AreWithinLimits (length run.problem.now.windows) first.stores first.sources → NeverRefused stopped.broken.cause))) c.carry_steps-ended.ensures.far
