@@ -10,7 +10,18 @@ use mm_base::MAX_STORES;
 use mm_problem::Problem;
 use mm_record::Counters;
 use mm_report::StepCounts;
-use mm_shared::{OpenStores, tally_at};
+use mm_shared::{OpenStores, Tally, tally_at};
+
+// The counters of a tally.
+fn counters_in(tally: Tally) -> Counters
+    ensures { result ≡ record { offered = tally.offered; lost = tally.lost; deleted = tally.deleted } }
+{
+    Counters {
+        offered: tally.offered,
+        lost: tally.lost,
+        deleted: tally.deleted,
+    }
+}
 
 // The counters of the store at a place.
 fn counters_at(stores: &mut OpenStores, place: usize) -> Counters
@@ -19,12 +30,7 @@ fn counters_at(stores: &mut OpenStores, place: usize) -> Counters
     ensures same { stores.new ≡ stores.old }
     ensures counters { result ≡ counters_of (opening_at (states_of (stores_in stores.old)) place) }
 {
-    let tally = tally_at(stores, place);
-    Counters {
-        offered: tally.offered,
-        lost: tally.lost,
-        deleted: tally.deleted,
-    }
+    counters_in(tally_at(stores, place))
 }
 
 // The counters of the stores at these places.
@@ -63,11 +69,12 @@ fn counts_at(
     ensures counts { result ≡ counts_from problem.now store step before (opening_at (states_of (stores_in stores.old)) place) }
 {
     let after = tally_at(stores, place);
+    let rise = counters_in(after).since(before);
     StepCounts {
         forecast: u64::from(problem.arrivals(store, step)),
-        arrived: after.offered.saturating_sub(before.offered),
-        lost: after.lost.saturating_sub(before.lost),
-        dumped: after.deleted.saturating_sub(before.deleted),
+        arrived: rise.offered,
+        lost: rise.lost,
+        dumped: rise.deleted,
         held: u64::from(after.held),
     }
 }
