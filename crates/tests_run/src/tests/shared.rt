@@ -10,7 +10,8 @@ use growths::shared::answer;
 use mm_base::Kind;
 use mm_desk::{Fault, StoreState};
 use mm_shared::{
-    Port, Ports, SharedStores, StoreLabel, Tally, close_all, open_all, seat_workers, settle, tally_at,
+    Port, Ports, SharedStores, StoreLabel, Tally, close_all, open_all, seat_workers, settle,
+    tally_at,
 };
 use std::alloc::Global;
 use std::process::Abort;
@@ -238,23 +239,29 @@ fn no_lock_is_held_while_a_packet_is_sent(rt: HostRuntime) {
 #[test]
 fn stores_are_given_back_in_order(rt: HostRuntime) {
     let mut stores = stores_with(&rt, rt.alloc(), &[1, 2]);
-    assert!(rt; stores.len() <= 16, "few stores");
+    assert!(rt; stores.len() == 2, "two stores");
     let Ok(mut opened) = open_all(rt.alloc(), &mut stores) else {
         panic!(rt; "memory");
     };
-    for workers in [3, 1] {
-        seat_workers(&mut opened, workers);
-        let many = (opened.workers.len(), opened.labels.len());
-        assert!(rt; many == (workers as usize, 2), "workers at two stores");
-        settle(&mut opened);
-    }
     let tally = Tally {
         offered: 2,
         lost: 0,
         deleted: 0,
         held: 2,
     };
-    assert!(rt; tally_at(&mut opened, 1) == tally, "what the second store counts");
+    assert!(rt;
+        tally_at(&mut opened, 1) == tally,
+        "what the second store counts"
+    );
+    seat_workers(&mut opened, 3);
+    assert!(rt;
+        opened.workers.len() == 3,
+        "three workers in the first step"
+    );
+    settle(&mut opened);
+    seat_workers(&mut opened, 1);
+    assert!(rt; opened.workers.len() == 1, "one worker in the second");
+    settle(&mut opened);
     close_all(opened, &mut stores);
     assert!(&rt; stores.len() == 2, "two stores");
     for (store, (name, held)) in stores.iter().zip(&[("AAA", 1), ("BBB", 2)]) {
