@@ -3,6 +3,10 @@
 //! It does the same work for each packet: rows of a sorted table say which stores a report type goes to, a store is found by its
 //! identifier, the last store takes the packet itself and each other one a copy that shares the octets, and a packet that is dumped
 //! stays in its store until its order is at its end.
+//!
+//! With the word `run` and five files it is the twin of `mm_tool run` (`texts`).
+
+mod texts;
 
 use std::collections::VecDeque;
 use std::env;
@@ -142,6 +146,7 @@ struct Store {
 }
 
 /// A link that counts the octets of the packets that it sends, and keeps nothing of them.
+#[derive(Default)]
 struct Link {
     sent: usize,
     octets: u64,
@@ -197,13 +202,13 @@ fn record_source(stores: &[Store], rows: &[Row], moment: u64, source: &mut VecDe
 }
 
 /// Each source's packets are offered in a thread of its own; one thread is this one.
-fn record(stores: &[Store], rows: &[Row], sources: &mut [VecDeque<Packet>]) {
+fn record(stores: &[Store], rows: &[Row], moment: u64, sources: &mut [VecDeque<Packet>]) {
     thread::scope(|scope| {
         let [first, others @ ..] = sources else { return };
         for source in others {
-            scope.spawn(move || record_source(stores, rows, 1, source));
+            scope.spawn(move || record_source(stores, rows, moment, source));
         }
-        record_source(stores, rows, 1, first);
+        record_source(stores, rows, moment, first);
     });
 }
 
@@ -251,6 +256,9 @@ fn dump(stores: &[Store], orders: &[Order], links: &mut [Link]) -> u64 {
 fn main() {
     let words: Vec<String> = env::args().skip(1).collect();
     let mode = words[0].as_str();
+    if mode == "run" {
+        return texts::run(&words[1..]);
+    }
     let setting = Setting::of_words(&words[1..]);
     let stores: Vec<Store> = (0..setting.stores)
         .map(|number| Store { id: id_of(number), state: Mutex::new(State::new(setting.blocks)) })
@@ -269,7 +277,7 @@ fn main() {
             continue;
         }
         let start = Instant::now();
-        record(&stores, &rows, &mut given);
+        record(&stores, &rows, 1, &mut given);
         recording += start.elapsed();
         if mode == "record" {
             for store in &stores {
@@ -277,7 +285,7 @@ fn main() {
             }
             continue;
         }
-        let mut links: Vec<_> = (0..setting.links).map(|_| Link { sent: 0, octets: 0 }).collect();
+        let mut links: Vec<_> = (0..setting.links).map(|_| Link::default()).collect();
         let start = Instant::now();
         let spent = dump(&stores, &orders, &mut links);
         dumping += start.elapsed();

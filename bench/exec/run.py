@@ -1,10 +1,11 @@
 #!/usr/bin/env python3
-"""Times recording and dumping by threads (`work_exec`) beside a plain Rust program with the same threads (plain.rs), in one run.
+"""Times recording and dumping by threads (`work_exec`), and a run from texts (`mm_tool run`), beside a plain Rust program with the same
+threads (plain.rs, texts.rs), in one run.
 
     python3 bench/exec/run.py [ROUNDS [PACKETS]]        5 rounds and 1,000,000 packets where nothing is said
 
-It needs the Rattle kit's `rt` (or what RT names), by which it proves and builds crates/work_exec, `rustc` and GNU time. Each cell is the
-least of the rounds. Wall time is what a program takes between two looks at the clock, round the recording and round the dumping of each
+It needs the Rattle kit's `rt` (or what RT names), by which it proves and builds crates/work_exec, `rustc` and GNU time. The run from texts
+is left out where `mm_tool` is not built. Each cell is the least of the rounds. Wall time is what a program takes between two looks at the clock, round the recording and round the dumping of each
 step. Processor time, user and system, is that of whole processes, less that of a process that only makes the same packets: it counts what
 the threads did and not what they waited for a processor. That of dumping is of recording and dumping together. Peak memory is that of the
 whole process, and `beside` is by how much it is above that of a process that only makes the packets. A run ends where the two programs
@@ -22,6 +23,7 @@ from pathlib import Path
 HERE = Path(__file__).resolve().parent
 CRATE = HERE.parent.parent / "crates" / "work_exec"
 PROGRAM = (CRATE / "out" / "work_exec",)
+TOOL = HERE.parent.parent / "mm_tool"
 GNU_TIME = "/usr/bin/time"
 SOURCES, STORES, LINKS = (1, 2, 4, 8), (1, 4, 16), (1, 2, 4)
 # packets of a source in a step
@@ -141,6 +143,63 @@ def counted(twin):
         print(f"| {sources} | {stores} | {links} | {' | '.join(cells)} |", flush=True)
 
 
+def telemetry(apid, count, octets):
+    """Telemetry of an APID in hexadecimal digits."""
+    return f"{0x0800 | apid:04X}{0xC000 | count:04X}{octets - 7:04X}20031900000000" + "00" * 8 + "07" * (octets - 21)
+
+
+def write_texts(folder, sources, stores, links, steps, each):
+    """The five files of a run: in each step each source gives that many packets to the stores in turn, and all are dumped."""
+    names = [f"S{store}" for store in range(stores)]
+    arrive = [sources * len(range(store, each, stores)) for store in range(stores)]
+    store = '[[store]]\nid = "{}"\nsize = {}\ntype = "circular"\nchannel = 0\n\n'
+    route = '[[route]]\napid = {}\nservice = 3\nsubtype = 25\nstore = "{}"\n\n'
+    rows = [(step, ",".join(map(str, arrive)), " ".join(map(str, arrive))) for step in range(1, steps + 1)]
+    packets = [telemetry(number % stores, number % 0x4000, 64) for number in range(each)]
+    texts = {
+        "setup.toml": "".join(store.format(name, max(arrive)) for name in names)
+        + "".join(route.format(apid, name) for apid, name in enumerate(names)),
+        "forecast.csv": "".join(
+            f"{line}\n" for line in ["step,window," + ",".join(names)] + [f"{step},{sum(arrive)},{cells}" for step, cells, _ in rows]
+        ),
+        "plan.txt": "".join(
+            f"{line}\n"
+            for line in ["mmplan 1", "stores " + " ".join(names)]
+            + [f"dump {step} {amounts}" for step, _, amounts in rows]
+            + ["loss 0", "bound 0", "end"]
+        ),
+        "sources.hex": "".join(
+            f"{source} {step} {packet}\n"
+            for step in range(1, steps + 1)
+            for source in range(1, sources + 1)
+            for packet in packets
+        ),
+        "links.txt": f"links {links}\n",
+    }
+    for name, text in texts.items():
+        (folder / name).write_text(text)
+    return [str(folder / name) for name in texts]
+
+
+def from_texts(twin, folder):
+    """The table of runs from texts: instructions of whole processes, whose reports are the same."""
+    if subprocess.run([TOOL, "--is-built"]).returncode or not shutil.which("valgrind"):
+        print("\nRuns from texts are left out: mm_tool is not built, or valgrind is not there.")
+        return
+    tool = str(TOOL.parent / "crates" / "mm_tool" / "out" / "mm_tool")
+    print("\nInstructions for each packet of 64 octets of a run from texts of four steps\n")
+    print("| Sources | Stores | Links | run | plain | ratio |")
+    print("|" + "---|" * 6)
+    for sources, stores, links in ((1, 1, 1), (1, 16, 1), (8, 1, 1), (8, 16, 4)):
+        each = EACH // 4 // sources
+        files = write_texts(folder, sources, stores, links, 4, each)
+        both = [[tool, "run", *files], [str(twin), "run", *files]]
+        ours, plain = (subprocess.run(words, stdout=subprocess.PIPE, check=True).stdout for words in both)
+        assert ours == plain, "the reports differ"
+        ours, plain = (instructions(words) / (4 * sources * each) for words in both)
+        print(f"| {sources} | {stores} | {links} | {ours:,.0f} | {plain:,.0f} | {ours / plain:.2f} |", flush=True)
+
+
 def dumping(twin, rounds, packets):
     print(f"\nDumping {packets:,} packets of 64 octets, recorded by four sources; milliseconds and MB\n")
     print("| Links | Stores | wall | plain | ratio | processor, with recording | plain | ratio | peak | plain | ratio |")
@@ -177,6 +236,7 @@ def main(rounds, packets):
         recording(twin, rounds, packets, 64, True)
         dumping(twin, rounds, packets)
         counted(twin)
+        from_texts(twin, Path(folder))
         print()
         crowd(twin, min(65_535, packets // 16))
 
