@@ -1,10 +1,8 @@
 -- A step over the stores of a memory.
-use Rattle.std.proofs.Common.{◌≡◌, ◌≢◌, ◌⊎◌, inl, inr, ℕ, ◌+◌, ◌<◌, false, List, [], ◌∷◌, ◌++◌, length, get_or, take, map, All, Option, Some, None, IfNone, IfSome, refl, sym, subst, ap, ◌∙◌, arith}
+use Rattle.std.proofs.Common.{◌≡◌, ◌⊎◌, inl, inr, ℕ, ◌-◌, ◌<◌, List, [], length, get_or, map, All, Option, Some, None, IfNone, IfSome, refl, sym, subst, ap, ◌∙◌, arith}
 use Rattle.std.specs.List.{AllPairs}
-use Rattle.std.specs.Prelude.{bytes_eq}
-use Rattle.std.proofs.lemmas.Bool.{false_from_ne_true}
-use Rattle.std.proofs.lemmas.List.{get_or-map, length-map, map-append, same_lists, take_more}
-use Rattle.std.proofs.lemmas.Slice.Eq.{bytes_eq-Decides}
+use Rattle.std.proofs.lemmas.List.{get_or-map, length-map, same_lists}
+use Rattle.mm_base.proofs.Elements.{All-unmapped}
 use Rattle.mm_base.specs.declared.rows.RouteRow.{RouteRow}
 use Rattle.mm_packet.specs.Packet.{SpacePacket}
 use Rattle.mm_desk.specs.declared.fault.Fault.{Fault}
@@ -15,6 +13,8 @@ use Rattle.mm_desk.specs.Machine.{State, IsState}
 use Rattle.mm_desk.specs.Offers.{Leaves}
 use Rattle.mm_desk.specs.Runs.{opening_at, blank}
 use Rattle.mm_memory.specs.Holdings.{AreHeld, HaveOtherIds, Holdings}
+use Rattle.mm_memory.proofs.LawLemmas.{AreHeld-same_ids}
+use Rattle.mm_memory.proofs.PlaceLemmas.{is_other}
 use Rattle.mm_shared.specs.Stores.{labels_of, states_of, AreNamed}
 use Rattle.mm_report.specs.declared.cause.Cause.{Cause}
 use Rattle.mm_report.specs.declared.cause.Cause.TheVariants.{NoMemory, LogMismatch}
@@ -26,12 +26,7 @@ use Rattle.mm_record.specs.MemorySteps.{came, store_at, AreTold, IsRecorded, Was
 use Rattle.mm_record.specs.Supplies.{Supply}
 use Rattle.mm_record.specs.Recorded.{RecordingContext, recording, offers}
 use Rattle.mm_record.specs.Steps.{given_in, AllRecorded, Records, RecorderRun, StoreRefused}
-use Rattle.mm_record.proofs.Steps.{same_many}
-use Rattle.mm_record.proofs.Taking.{all_unmapped}
-
--- two identifiers that are not the same differ in an octet
-is_other : (a b : List ℕ) → a ≢ b → bytes_eq a b ≡ false
-is_other a b other = false_from_ne_true (bytes_eq a b) (λ same. other ((bytes_eq-Decides a b).0 same))
+use Rattle.mm_record.proofs.Steps.{same_firsts, same_many}
 
 -- stores with identifiers of their own are named
 pub named_of : (stores : List Held) → AllPairs HaveOtherIds stores → AreNamed (map (λ h. h.id) stores)
@@ -41,67 +36,23 @@ named_of stores named i j d less within =
     rw (get_or-map (λ (h : Held). h.id) stores i h d (omega arith), get_or-map (λ (h : Held). h.id) stores j h d inside)
     (is_other (get_or stores i h).id (get_or stores j h).id (named i j h less inside))
 
--- stores with one label have one identifier
-same_id : (a b : List Held) → labels_of a ≡ labels_of b → length a ≡ length b → (i : ℕ) (d : Held) → i < length a → (get_or a i d).id ≡ (get_or b i d).id
-same_id a b labels many i d within =
-    let label : Held → List ℕ × ℕ = λ h. (h.id, h.channel) in
-    let one = get_or-map label a i d (label d) within in
-    let two = get_or-map label b i d (label d) (omega (arith, many)) in
-    ap (λ (l : List ℕ × ℕ). l.0) (sym one ∙ ap (λ ls. get_or ls i (label d)) labels ∙ two)
-
 -- stores under the labels of a memory's stores can be put into it
 pub held_as : (a b : List Held) → labels_of a ≡ labels_of b → AreHeld b → AreHeld a
-held_as a b labels held = record {
-  at_most = omega (arith, same_many a b labels, held.at_most);
-  named = λ i j d less within.
-      let many = same_many a b labels in
-      let one = same_id a b labels many i d (omega arith) in
-      let two = same_id a b labels many j d within in
-      λ same. held.named i j d less (omega (arith, many)) (sym one ∙ same ∙ two);
-}
+held_as a b labels held =
+    AreHeld-same_ids b a (same_firsts (λ (h : Held). h.id) (λ (h : Held). h.channel) (λ (h : Held). h.id) (λ (h : Held). h.channel) b a (sym labels)) held
 
 -- a step that is not ended: no recorder stopped early
 pub not_caused : (step : ℕ) (why : Option Fault) → cause_in step why ≡ None → why ≡ None
 not_caused step None is = refl
 not_caused step (Some fault.NoMemory) is = cc
-not_caused step (Some fault.HoldsMore) is = cc
-not_caused step (Some fault.Disabled) is = cc
-not_caused step (Some fault.Busy) is = cc
-not_caused step (Some fault.Idle) is = cc
-not_caused step (Some fault.BadRange) is = cc
-not_caused step (Some fault.ClockEnd) is = cc
-not_caused step (Some fault.StorageOn) is = cc
+not_caused step (Some other) is = cc
 
--- why a step is ended: out of memory only where recorders stopped for it alone, and a refusal only where one stopped for that
-pub record IsCaused (step : ℕ) (why : Option Fault) (cause : Cause) : Type 0 where
-  pub which : (cause ≡ LogMismatch step) ⊎ (cause ≡ NoMemory step)
-  pub lack : cause ≡ NoMemory step → why ≡ Some fault.NoMemory
-  pub other : IfSome why (λ f. f ≡ fault.NoMemory) → cause ≢ LogMismatch step
-
-some_is : (c d : Cause) → Some c ≡ Some d → d ≡ c
-some_is c d same = cc
-
-refusal : (step : ℕ) (f : Fault) (cause : Cause) → (f ≡ fault.NoMemory → ⊥) → Some (LogMismatch step) ≡ Some cause → IsCaused step (Some f) cause
-refusal step f cause not_lack is =
-    let same : cause ≡ LogMismatch step = some_is _ _ is in
-    record {
-      which = inl same;
-      lack = λ other. let no : LogMismatch step ≡ NoMemory step = sym same ∙ other in cc;
-      other = λ lack no. not_lack lack;
-    }
-
-pub caused : (step : ℕ) (why : Option Fault) (cause : Cause) → cause_in step why ≡ Some cause → IsCaused step why cause
+-- why a step is ended: out of memory only where recorders stopped for it alone
+caused : (step : ℕ) (why : Option Fault) (cause : Cause) → cause_in step why ≡ Some cause
+    → ((cause ≡ LogMismatch step) ⊎ (cause ≡ NoMemory step)) × (cause ≡ NoMemory step → why ≡ Some fault.NoMemory)
 caused step None cause is = cc
-caused step (Some fault.NoMemory) cause is =
-    let same : cause ≡ NoMemory step = some_is _ _ is in
-    record { which = inr same; lack = λ other. refl; other = λ lack no. let both : NoMemory step ≡ LogMismatch step = sym same ∙ no in cc }
-caused step (Some fault.HoldsMore) cause is = refusal step fault.HoldsMore cause (λ is. cc) is
-caused step (Some fault.Disabled) cause is = refusal step fault.Disabled cause (λ is. cc) is
-caused step (Some fault.Busy) cause is = refusal step fault.Busy cause (λ is. cc) is
-caused step (Some fault.Idle) cause is = refusal step fault.Idle cause (λ is. cc) is
-caused step (Some fault.BadRange) cause is = refusal step fault.BadRange cause (λ is. cc) is
-caused step (Some fault.ClockEnd) cause is = refusal step fault.ClockEnd cause (λ is. cc) is
-caused step (Some fault.StorageOn) cause is = refusal step fault.StorageOn cause (λ is. cc) is
+caused step (Some fault.NoMemory) cause is = (inr (cc), λ lack. refl)
+caused step (Some other) cause is = (inl (cc), λ lack. cc)
 
 -- where a step is ended since a store refused an offer: with which fault
 pub refused_with : (step : ℕ) (A : Fault → Type 0) (why : Option Fault) → cause_in step why ≡ Some (LogMismatch step) → IfSome why (λ f. (f ≡ fault.NoMemory) ⊎ A f) → (f : Fault) × A f
@@ -140,35 +91,20 @@ told_of e gave old new counters rows many are each leaves = record {
       let h : Held = record { id = id; channel = 0; state = blank } in
       get_or-map (λ (r : Recorded). r.store) rows k r id (omega (arith, each.count)) ∙ ap (λ (r : Recorded). r.store) (each.each k r (counters_of h.state) h within)
       ∙ sym (get_or-map (λ (h : Held). h.id) new.stores k h id within));
-  came = λ k d within.
-      let row = each.each k d (counters_of nobody.state) nobody within in
-      let before = ap (λ (c : Counters). c.offered) (before_at k within) in
-      let old_is = ap (λ (s : State). s.offered) (state_at old.stores k nobody (omega (arith, many))) in
-      let new_is = ap (λ (s : State). s.offered) (state_at new.stores k nobody within) in
-      let rose = (leaves k within).offered in
-      ap (λ (r : Recorded). r.came) row ∙ omega (arith, before, old_is, new_is, rose);
-  lost = λ k d within.
-      let row = each.each k d (counters_of nobody.state) nobody within in
-      let before = ap (λ (c : Counters). c.lost) (before_at k within) in
-      let old_is = ap (λ (s : State). s.lost) (state_at old.stores k nobody (omega (arith, many))) in
-      let new_is = ap (λ (s : State). s.lost) (state_at new.stores k nobody within) in
-      ap (λ (r : Recorded). r.lost) row ∙ omega (arith, before, old_is, new_is);
+  came = λ k d within. ap (λ (r : Recorded). r.came) (each.each k d (counters_of nobody.state) nobody within) ∙ rose (λ c. c.offered) k within ∙ omega (arith, (leaves k within).offered);
+  lost = λ k d within. ap (λ (r : Recorded). r.lost) (each.each k d (counters_of nobody.state) nobody within) ∙ rose (λ c. c.lost) k within;
 }
   where
     nobody : Held
     nobody = record { id = []; channel = 0; state = blank }
 
-    before_at : (k : ℕ) → k < length new.stores → get_or counters k (counters_of nobody.state) ≡ counters_of (get_or old.stores k nobody).state
-    before_at k within =
-        ap (λ (cs : List Counters). get_or cs k (counters_of nobody.state)) are ∙ get_or-map (λ h. counters_of h.state) old.stores k nobody (counters_of nobody.state) (omega (arith, many))
-
--- what a step leaves, told of equal routes and stores
-pub records_as : (step now : ℕ) (routes others : List RouteRow) (stores same after : List Held) (why : Option Fault) (sources left : List Supply)
-    → routes ≡ others → stores ≡ same → Records (recording step now routes stores) stores after why sources left
-    → Records (recording step now others same) same after why sources left
-records_as step now routes others stores same after why sources left one two records =
-    subst (λ (rows : List RouteRow). Records (recording step now rows same) same after why sources left) one
-    (subst (λ (ss : List Held). Records (recording step now routes ss) ss after why sources left) two records)
+    rose : (count : Counters → ℕ) (k : ℕ) → k < length new.stores
+        → count (counters_of (get_or new.stores k nobody).state) - count (get_or counters k (counters_of nobody.state)) ≡ count (counters_of (store_at new k)) - count (counters_of (store_at old k))
+    rose count k within =
+        let inside : k < length old.stores = omega (arith, many) in
+        let before : get_or counters k (counters_of nobody.state) ≡ counters_of (get_or old.stores k nobody).state =
+        ap (λ (cs : List Counters). get_or cs k (counters_of nobody.state)) are ∙ get_or-map (λ h. counters_of h.state) old.stores k nobody (counters_of nobody.state) inside in
+        rw (before, state_at old.stores k nobody inside, state_at new.stores k nobody within) refl
 
 -- what a step leaves in a memory
 module _ (e : RecordingContext) (old new : Holdings) (stores : List Held) (why : Option Fault) (sources left : List Supply)
@@ -205,18 +141,13 @@ module _ (e : RecordingContext) (old new : Holdings) (stores : List Held) (why :
   -- a step that is ended
   pub ended_of : (cause : Cause) → cause_in e.step why ≡ Some cause → WasEnded e old new cause sources left
   ended_of cause is = subst (λ (m : Holdings). WasEnded e old m cause sources left) (sym after) (record {
-    cause_is = (caused e.step why cause is).which;
+    cause_is = (caused e.step why cause is).0;
     placed = record { labels = records.labels; routes = refl; sound = records.sound };
     runs = records.runs;
     are_runs = records.are_runs;
     went = records.went;
     refused = λ refused. refused_with e.step (StoreRefused records.runs (states_of old.stores) (states_of stores)) why (is ∙ ap Some refused) records.reason;
-    lack = λ lack. all_unmapped (λ f. IfSome f (λ g. g ≡ fault.NoMemory)) (λ (run : RecorderRun). run.broken) records.runs
-        (records.why_is.lack ((caused e.step why cause is).lack lack));
+    lack = λ lack. All-unmapped (λ f. IfSome f (λ g. g ≡ fault.NoMemory)) (λ (run : RecorderRun). run.broken) records.runs
+        (records.why_is.lack ((caused e.step why cause is).1 lack));
     others = records.others;
   })
-
--- what is told of the first elements and of the next one
-pub map_more : {X Y : Type 0} (f : X → Y) (xs : List X) (i : ℕ) (x : X) → i < length xs → get_or xs i x ≡ x → map f (take (i + 1) xs) ≡ map f (take i xs) ++ f x ∷ []
-map_more f xs i x within at =
-    ap (map f) (take_more xs i x within ∙ ap (λ y. take i xs ++ y ∷ []) at) ∙ map-append f (take i xs) (x ∷ [])

@@ -1,25 +1,21 @@
--- Recorders of two groups, one after the other.
-use Rattle.std.proofs.Common.{◌∙◌, ◌≡◌, ℕ, ◌+◌, List, [], ◌∷◌, ◌++◌, length, get_or, map, All, Option, None, sym, subst, ap, length-append, arith}
+-- Recorders of two groups, one after the other, and what each did until its source is as it will be later.
+use Rattle.std.proofs.Common.{◌∙◌, ◌≡◌, ℕ, ◌+◌, ◌<◌, List, [], ◌∷◌, ◌++◌, length, get_or, map, All, Option, None, refl, sym, subst, ap, length-append, arith}
+use Rattle.std.specs.List.{AllZip}
 use Rattle.std.proofs.Math.ListN.{set}
-use Rattle.std.proofs.lemmas.List.{get_or_append_left, get_or-append-add, map-append}
+use Rattle.std.proofs.lemmas.List.{map-append, nil_from_length}
+use Rattle.std.proofs.lemmas.List.Elements.{All-append, All-cons, All-head, All-nil, All-tail}
+use Rattle.mm_base.proofs.Pairs.{All-back, All-front}
 use Rattle.mm_desk.specs.declared.fault.Fault.{Fault}
+use Rattle.mm_packet.specs.Packet.{SpacePacket}
 use Rattle.mm_shared.specs.declared.label.StoreLabel.{StoreLabel}
-use Rattle.mm_shared.specs.Stores.{ids_of, AreNamed, AreWorkers, IsFresh}
+use Rattle.mm_shared.specs.Stores.{ids_of, end_of, all_ends, AreNamed, AreWorkers, IsFresh}
 use Rattle.mm_shared.specs.Views.{Origin, PortView, StoresView}
-use Rattle.mm_record.specs.Offering.{MayOffer}
+use Rattle.mm_record.specs.Offering.{asked, MayOffer}
 use Rattle.mm_record.specs.Recorded.{RecordingContext}
-use Rattle.mm_record.specs.Supplies.{Supply, WhateverComes}
-use Rattle.mm_record.proofs.Supplying.{comes_both}
-use Rattle.mm_record.specs.Recorders.{HasRun, HaveRun, IsRunAt, AreRunsAt, MayRecord, is_worse}
+use Rattle.mm_record.specs.Supplies.{Supply, supplies}
+use Rattle.mm_record.specs.Recorders.{HasOffered, HasRunUntil, HaveRun, MayRecord, Recorder, is_worse}
 use Rattle.mm_record.specs.Steps.{RecorderRun, IsWhy}
 use Rattle.mm_record.proofs.Whys.{why_none, why_one, why_both}
-
--- what holds of all of two lists holds of all of each
-pub all_first : {X : Type 0} (P : X → Type 0) (xs ys : List X) → All P (xs ++ ys) → All P xs
-all_first P xs ys all i d within = subst P (get_or_append_left xs ys d i within) (all i d (omega (arith, length-append xs ys)))
-
-pub all_second : {X : Type 0} (P : X → Type 0) (xs ys : List X) → All P (xs ++ ys) → All P ys
-all_second P xs ys all i d within = subst P (get_or-append-add xs ys i d) (all (length xs + i) d (omega (arith, length-append xs ys)))
 
 -- two groups of recorders may record where both together may
 pub may_both : {S : Type 0} (labels : List StoreLabel) (stores : StoresView) (ss us : List S) (ws xs : List PortView) → length ss ≡ length ws
@@ -27,13 +23,13 @@ pub may_both : {S : Type 0} (labels : List StoreLabel) (stores : StoresView) (ss
 may_both labels stores ss us ws xs same may = (
   record {
     same = sym same;
-    may = all_first (λ w. MayOffer labels stores w.of) ws xs may.may;
-    fresh = all_first IsFresh ws xs may.fresh;
+    may = All-front (λ w. MayOffer labels stores w.of) ws xs may.may;
+    fresh = All-front IsFresh ws xs may.fresh;
   },
   record {
     same = omega (arith, may.same, length-append ss us, length-append ws xs, same);
-    may = all_second (λ w. MayOffer labels stores w.of) ws xs may.may;
-    fresh = all_second IsFresh ws xs may.fresh;
+    may = All-back (λ w. MayOffer labels stores w.of) ws xs may.may;
+    fresh = All-back IsFresh ws xs may.fresh;
   },
 )
 
@@ -47,70 +43,102 @@ may_of labels stores sources workers named as_many same of table are fresh = rec
   fresh = fresh;
 }
 
-module _ (e : RecordingContext) where
-  -- what holds where there is no recorder, and for one recorder more, holds for all
-  pub for_all : (P : List Supply → List Supply → List PortView → List RecorderRun → Type 0) → P [] [] [] []
-      → ((s t : Supply) (w : PortView) (run : RecorderRun) (ss ts : List Supply) (ws : List PortView) (runs : List RecorderRun) → IsRunAt e s t w run → P ss ts ws runs
-      → P (s ∷ ss) (t ∷ ts) (w ∷ ws) (run ∷ runs))
-      → (ss ts : List Supply) (ws : List PortView) (runs : List RecorderRun) → AreRunsAt e ss ts ws runs → P ss ts ws runs
-  unfolding AreRunsAt
-  for_all P none more [] [] [] [] at = none
-  for_all P none more [] [] [] (run ∷ runs) at = absurd at
-  for_all P none more [] [] (w ∷ ws) runs at = absurd at
-  for_all P none more [] (t ∷ ts) ws runs at = absurd at
-  for_all P none more (s ∷ ss) [] ws runs at = absurd at
-  for_all P none more (s ∷ ss) (t ∷ ts) [] runs at = absurd at
-  for_all P none more (s ∷ ss) (t ∷ ts) (w ∷ ws) [] at = absurd at
-  for_all P none more (s ∷ ss) (t ∷ ts) (w ∷ ws) (run ∷ runs) at = more s t w run ss ts ws runs at.0 (for_all P none more ss ts ws runs at.1)
+-- a list of one element
+pub only : {X : Type 0} (xs : List X) (x : X) → length xs ≡ 1 → get_or xs 0 x ≡ x → xs ≡ x ∷ []
+only [] x one at = absurd (omega (arith, one))
+only (y ∷ []) x one at = ap (λ z. z ∷ []) at
+only (y ∷ z ∷ xs) x one at = absurd (omega (arith, one))
 
-  -- the runs of two groups
-  both_at : (us vs : List Supply) (xs : List PortView) (more : List RecorderRun) → AreRunsAt e us vs xs more → (ss ts : List Supply) (ws : List PortView) (runs : List RecorderRun)
-      → AreRunsAt e ss ts ws runs → AreRunsAt e (ss ++ us) (ts ++ vs) (ws ++ xs) (runs ++ more)
-  unfolding AreRunsAt
-  both_at us vs xs more two = for_all (λ ss ts ws runs. AreRunsAt e (ss ++ us) (ts ++ vs) (ws ++ xs) (runs ++ more)) two (λ s t w run ss ts ws runs one rest. (one, rest))
+-- the run of one recorder, until its source is as it will be later: what the source gives before and after it, what it gave, through which port, and
+-- why the recorder stopped early, where it did
+pub record Run : Type 0 where
+  pub before : Supply
+  pub after : Supply
+  pub gave : List SpacePacket
+  pub port : PortView
+  pub broken : Option Fault
 
-  have_both : (ws xs : List PortView) (first second : Option Fault) (ss ts us vs : List Supply) → HaveRun e ws first ss ts → HaveRun e xs second us vs
-      → HaveRun e (ws ++ xs) (is_worse first second) (ss ++ us) (ts ++ vs)
-  have_both ws xs first second ss ts us vs one two = record {
-    runs = one.runs ++ two.runs;
-    are = both_at us vs xs two.runs two.are ss ts ws one.runs one.are;
-    why_is = subst (λ (fs : List (Option Fault)). IsWhy fs (is_worse first second)) (sym (map-append (λ (run : RecorderRun). run.broken) one.runs two.runs))
-        (why_both (map (λ (run : RecorderRun). run.broken) one.runs) (map (λ (run : RecorderRun). run.broken) two.runs) first second one.why_is two.why_is);
-  }
+abbrev pub run_of : Run → RecorderRun
+run_of r = record { gave = r.gave; offered = asked r.port; broken = r.broken }
+
+abbrev pub IsRunOf : RecordingContext → Run → Type 0
+IsRunOf e r = HasOffered e r.before r.after r.gave r.broken r.port
 
 module _ {S : Type 0} (leads : S → S → Type 0) (until : S → S → Supply) (e : RecordingContext) where
   -- no recorder
   pub none_run : (sources : List S) (workers : List PortView) → length sources ≡ 0 → length workers ≡ length sources
-      → WhateverComes leads until sources sources (HaveRun e workers None)
-  unfolding AreRunsAt
-  none_run [] [] none same lasts lead = (lead, record { runs = []; are = tt; why_is = why_none })
-  none_run [] (w ∷ ws) none same lasts lead = absurd (omega arith)
-  none_run (s ∷ ss) workers none same lasts lead = absurd (omega arith)
+      → HaveRun leads until e sources sources workers workers None
+  none_run sources workers none same = record {
+    recorders = [];
+    before_are = nil_from_length sources none;
+    now_are = nil_from_length sources none;
+    workers_are = nil_from_length workers (same ∙ none);
+    ends = refl;
+    each = All-nil (HasRunUntil leads until e);
+    why_is = why_none;
+  }
 
   -- the recorder of one source
-  pub one_run : (sources : List S) (workers : List PortView) (s t : S) (w : PortView) (broken : Option Fault) → length sources ≡ 1 → length workers ≡ length sources
-      → get_or sources 0 s ≡ s → ((last : S) → leads t last → leads s last × HasRun e (until s last) (until t last) broken w)
-      → WhateverComes leads until sources (set sources 0 t) (HaveRun e (set workers 0 w) broken)
-  unfolding AreRunsAt
-  one_run [] workers s t w broken one same at has lasts lead = absurd (omega arith)
-  one_run (x ∷ y ∷ xs) workers s t w broken one same at has lasts lead = absurd (omega arith)
-  one_run (x ∷ []) [] s t w broken one same at has lasts lead = absurd (omega arith)
-  one_run (x ∷ []) (v ∷ u ∷ ws) s t w broken one same at has lasts lead = absurd (omega arith)
-  one_run (x ∷ []) (v ∷ []) s t w broken one same at has [] lead = absurd lead
-  one_run (x ∷ []) (v ∷ []) s t w broken one same at has (last ∷ more ∷ lasts) lead = absurd lead.1
-  one_run (x ∷ []) (v ∷ []) s t w broken one same at has (last ∷ []) lead =
-      let ran = has last lead.0 in (
-        subst (λ (y : S). leads y last × Unit {0}) (sym at) (ran.0, tt),
-        record {
-          runs = ran.1.run ∷ [];
-          are = (subst (λ (y : S). IsRunAt e (until y last) (until t last) w ran.1.run) (sym at) ran.1.is, tt);
-          why_is = subst (λ (b : Option Fault). IsWhy (b ∷ []) broken) (sym ran.1.ended) (why_one broken);
-        },
-      )
+  pub one_run : (sources : List S) (workers : List PortView) (r : Recorder S) (port : PortView) → sources ≡ r.before ∷ [] → workers ≡ port ∷ []
+      → end_of r.port ≡ end_of port → HasRunUntil leads until e r
+      → HaveRun leads until e sources (set sources 0 r.now) workers (set workers 0 r.port) r.broken
+  one_run sources workers r port source worker end ran = rw (source, worker) (record {
+    recorders = r ∷ [];
+    before_are = refl;
+    now_are = refl;
+    workers_are = refl;
+    ends = ap (λ x. x ∷ []) end;
+    each = All-cons (HasRunUntil leads until e) r [] ran (All-nil (HasRunUntil leads until e));
+    why_is = why_one r.broken;
+  })
 
   -- two groups
-  pub both_run : (ss ts us vs : List S) (ws xs : List PortView) (first second : Option Fault) → WhateverComes leads until ss ts (HaveRun e ws first)
-      → WhateverComes leads until us vs (HaveRun e xs second) → WhateverComes leads until (ss ++ us) (ts ++ vs) (HaveRun e (ws ++ xs) (is_worse first second))
-  both_run ss ts us vs ws xs first second =
-      comes_both leads until ss ts us vs (HaveRun e ws first) (HaveRun e xs second) (HaveRun e (ws ++ xs) (is_worse first second))
-      (λ a b c d. have_both e ws xs first second a b c d)
+  pub both_run : (ss ts us vs : List S) (ws xs ys zs : List PortView) (first second : Option Fault) → HaveRun leads until e ss ts ws xs first
+      → HaveRun leads until e us vs ys zs second → HaveRun leads until e (ss ++ us) (ts ++ vs) (ws ++ ys) (xs ++ zs) (is_worse first second)
+  both_run ss ts us vs ws xs ys zs first second one two = record {
+    recorders = one.recorders ++ two.recorders;
+    before_are = let all = map-append (λ (r : Recorder S). r.before) one.recorders two.recorders in cc;
+    now_are = let all = map-append (λ (r : Recorder S). r.now) one.recorders two.recorders in cc;
+    workers_are = let all = map-append (λ (r : Recorder S). r.port) one.recorders two.recorders in cc;
+    ends = cc (map-append end_of xs zs, map-append end_of ws ys);
+    each = All-append (HasRunUntil leads until e) one.recorders two.recorders one.each two.each;
+    why_is = subst (λ (fs : List (Option Fault)). IsWhy fs (is_worse first second)) (sym (map-append (λ (r : Recorder S). r.broken) one.recorders two.recorders))
+        (why_both _ _ first second one.why_is two.why_is);
+  }
+
+  -- the runs of recorders, until their sources are as these last ones
+  pub record HaveRuns (recorders : List (Recorder S)) (lasts : List S) : Type 0 where
+    pub lead : AllZip leads (map (λ r. r.before) recorders) lasts
+    pub runs : List Run
+    pub each : All (IsRunOf e) runs
+    pub given_are : supplies until (map (λ r. r.before) recorders) lasts ≡ map (λ r. r.before) runs
+    pub left_are : supplies until (map (λ r. r.now) recorders) lasts ≡ map (λ r. r.after) runs
+    pub workers_are : map (λ r. r.port) recorders ≡ map (λ r. r.port) runs
+    pub faults_are : map (λ r. r.broken) recorders ≡ map (λ run. run.broken) (map run_of runs)
+
+  pub runs_until : (recorders : List (Recorder S)) (lasts : List S) → All (HasRunUntil leads until e) recorders → AllZip leads (map (λ r. r.now) recorders) lasts
+      → HaveRuns recorders lasts
+  runs_until [] [] each lead = record {
+    lead = tt;
+    runs = [];
+    each = All-nil (IsRunOf e);
+    given_are = refl;
+    left_are = refl;
+    workers_are = refl;
+    faults_are = refl;
+  }
+  runs_until [] (last ∷ lasts) each lead = absurd lead
+  runs_until (r ∷ rs) [] each lead = absurd lead
+  runs_until (r ∷ rs) (last ∷ lasts) each lead =
+      let one = All-head (HasRunUntil leads until e) r rs each last lead.0 in
+      let others = runs_until rs lasts (All-tail (HasRunUntil leads until e) r rs each) lead.1 in
+      let run : Run = record { before = until r.before last; after = until r.now last; gave = one.1.0; port = r.port; broken = r.broken } in
+      record {
+        lead = (one.0, others.lead);
+        runs = run ∷ others.runs;
+        each = All-cons (IsRunOf e) run others.runs one.1.1 others.each;
+        given_are = ap (λ ss. run.before ∷ ss) others.given_are;
+        left_are = ap (λ ss. run.after ∷ ss) others.left_are;
+        workers_are = ap (λ ws. r.port ∷ ws) others.workers_are;
+        faults_are = ap (λ fs. r.broken ∷ fs) others.faults_are;
+      }

@@ -1,9 +1,9 @@
 -- Why recorders stopped early, of two groups of them.
-use Rattle.std.proofs.Common.{◌≡◌, ℕ, zero, suc, ◌+◌, ◌<◌, List, [], ◌∷◌, ◌++◌, length, get_or, All, Option, Some, None, IfSome, refl, ◌∙◌, length-append, arith}
+use Rattle.std.proofs.Common.{◌≡◌, ℕ, ◌+◌, ◌<◌, List, [], ◌∷◌, ◌++◌, length, get_or, All, Option, Some, None, IfSome, refl, ◌∙◌, length-append, arith}
 use Rattle.std.proofs.lemmas.List.{get_or_append_left, get_or-append-add}
-use Rattle.std.proofs.lemmas.List.Elements.{All-append}
+use Rattle.std.proofs.lemmas.List.Elements.{All-append, All-cons, All-nil}
 use Rattle.mm_desk.specs.declared.fault.Fault.{Fault}
-use Rattle.mm_desk.specs.declared.fault.Fault.TheVariants.{NoMemory, HoldsMore, Disabled, Busy, Idle, BadRange, ClockEnd, StorageOn}
+use Rattle.mm_desk.specs.declared.fault.Fault.TheVariants.{NoMemory}
 use Rattle.mm_record.specs.Recorders.{is_worse}
 use Rattle.mm_record.specs.Steps.{IsWhy}
 
@@ -13,16 +13,12 @@ why_none = record { none = λ i d within. absurd (omega arith); some = tt; lack 
 
 -- one recorder
 pub why_one : (broken : Option Fault) → IsWhy (broken ∷ []) broken
-why_one None = record { none = none; some = tt; lack = λ is. cc }
-  where
-    none : All (λ (f : Option Fault). f ≡ None) (None ∷ [])
-    none zero d within = refl
-    none (suc i) d within = absurd (omega arith)
-why_one (Some fault) = record { none = tt; some = (0, omega arith, refl); lack = lack }
-  where
-    lack : Some fault ≡ Some NoMemory → All (λ (f : Option Fault). IfSome f (λ g. g ≡ NoMemory)) (Some fault ∷ [])
-    lack is zero d within = cc
-    lack is (suc i) d within = absurd (omega arith)
+why_one None = record { none = All-cons (λ (f : Option Fault). f ≡ None) None [] refl (All-nil (λ (f : Option Fault). f ≡ None)); some = tt; lack = λ is. cc }
+why_one (Some fault) = record {
+  none = tt;
+  some = (0, omega arith, refl);
+  lack = λ is. All-cons (λ f. IfSome f (λ g. g ≡ NoMemory)) (Some fault) [] (cc) (All-nil (λ f. IfSome f (λ g. g ≡ NoMemory)));
+}
 
 -- the fault of one of the faults
 abbrev IsOne : List (Option Fault) → Fault → Type 0
@@ -41,10 +37,6 @@ Lacks faults = All (λ f. IfSome f (λ fault. fault ≡ NoMemory)) faults
 
 lacks_none : (fs : List (Option Fault)) → All (λ f. f ≡ None) fs → Lacks fs
 lacks_none fs none i d within = rw (none i d within) tt
-
--- one of the first faults, which is not out of memory
-other_first : (fs gs : List (Option Fault)) (fault : Fault) → IsWhy fs (Some fault) → (Some fault ≡ Some NoMemory → ⊥) → IsWhy (fs ++ gs) (Some fault)
-other_first fs gs fault first other = record { none = tt; some = in_first fs gs fault first.some; lack = λ is. absurd (other is) }
 
 -- the worse reason of two groups is the reason of both
 pub why_both : (fs gs : List (Option Fault)) (first second : Option Fault) → IsWhy fs first → IsWhy gs second → IsWhy (fs ++ gs) (is_worse first second)
@@ -68,10 +60,4 @@ why_both fs gs (Some NoMemory) (Some fault) one two = record {
   some = in_second fs gs fault two.some;
   lack = λ is. All-append (λ f. IfSome f (λ fault. fault ≡ NoMemory)) fs gs (one.lack refl) (two.lack is);
 }
-why_both fs gs (Some HoldsMore) second one two = other_first fs gs HoldsMore one (λ is. cc)
-why_both fs gs (Some Disabled) second one two = other_first fs gs Disabled one (λ is. cc)
-why_both fs gs (Some Busy) second one two = other_first fs gs Busy one (λ is. cc)
-why_both fs gs (Some Idle) second one two = other_first fs gs Idle one (λ is. cc)
-why_both fs gs (Some BadRange) second one two = other_first fs gs BadRange one (λ is. cc)
-why_both fs gs (Some ClockEnd) second one two = other_first fs gs ClockEnd one (λ is. cc)
-why_both fs gs (Some StorageOn) second one two = other_first fs gs StorageOn one (λ is. cc)
+why_both fs gs (Some fault) second one two = record { none = tt; some = in_first fs gs fault one.some; lack = λ is. cc }

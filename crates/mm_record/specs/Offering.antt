@@ -1,5 +1,5 @@
 -- How the calls through a port go on while packets are offered. No public clause cites this module.
-use Rattle.std.specs.Prelude.{◌≡◌, ◌⊎◌, ℕ, ◌<◌, ◌==◌, if◌then◌else◌, List, [], ◌∷◌, ◌++◌, length, map, filter, Any, bytes_eq, Result, MatchResult}
+use Rattle.std.specs.Prelude.{◌≡◌, ◌⊎◌, ℕ, ◌<◌, ◌==◌, Bool, true, false, if◌then◌else◌, List, [], ◌∷◌, ◌++◌, length, map, filter, Any, bytes_eq, Result, IfErr, is_ok}
 use Rattle.mm_base.specs.declared.rows.RouteRow.{RouteRow}
 use Rattle.mm_packet.specs.Packet.{SpacePacket}
 use Rattle.mm_desk.specs.declared.entry.Entry.{Entry}
@@ -10,26 +10,31 @@ use Rattle.mm_desk.specs.declared.fault.Fault.TheVariants.{NoMemory}
 use Rattle.mm_desk.specs.Offers.{AreTaken}
 use Rattle.mm_desk.specs.Offers.{asked as asked_in}
 use Rattle.mm_shared.specs.declared.label.StoreLabel.{StoreLabel}
-use Rattle.mm_shared.specs.Stores.{list_at, end_of, ids_of, AreNamed}
+use Rattle.mm_shared.specs.Stores.{list_at, end_of, ids_of, id_at, AreNamed}
 use Rattle.mm_shared.specs.Views.{Origin, PortView, StoresView}
-use Rattle.mm_memory.specs.Recording.{is_routed}
-use Rattle.mm_record.specs.Steps.{IsRefusedWith}
+use Rattle.mm_record.specs.declared.context.StepContext.{StepContext}
+use Rattle.mm_record.specs.Recorded.{RecordingContext, open_recording, offers}
+use Rattle.mm_record.specs.Steps.{IsRefusedWith, OfferedInPart}
 
 -- what was asked of the store at an index through a port
 abbrev pub asked : PortView → ℕ → List Event
 asked port k = asked_in (list_at port k)
 
+-- the step that recorders are at
+abbrev pub step_of : {R : Type 0} → StepContext R → RecordingContext
+step_of context = open_recording context.step context.moment context.control.now context.labels.now
+
 -- the offers of a packet to the stores, by their indices: one to the store at this index, and none to the others
-abbrev pub offer_at : ℕ → SpacePacket → ℕ → ℕ → List Event
-offer_at now p index k = if k == index then Offer now p ∷ [] else []
+abbrev pub offer_at : RecordingContext → SpacePacket → ℕ → ℕ → List Event
+offer_at e p index k = if k == index then Offer e.now p ∷ [] else []
 
--- the offers of a packet to the store with an identifier: one for each row that leads to it
-abbrev pub offers_by : ℕ → SpacePacket → List ℕ → List RouteRow → List Event
-offers_by now p id rows = map (λ _. Offer now p) (filter (λ r. bytes_eq id r.store) rows)
+-- the offers of a packet to the store at an index: one for each row that leads to it
+abbrev pub offers_by : RecordingContext → SpacePacket → List RouteRow → ℕ → List Event
+offers_by e p rows k = map (λ _. Offer e.now p) (filter (bytes_eq (id_at e.ids k)) (map (λ r. r.store) rows))
 
--- the offers of a packet to the store with an identifier: one where it is routed to it
-abbrev pub offers_of : ℕ → List RouteRow → List ℕ → SpacePacket → List Event
-offers_of now routes id p = if is_routed routes id p then Offer now p ∷ [] else []
+-- the offers of a packet to the store at an index: one where it is routed to it
+abbrev pub offers_of : RecordingContext → SpacePacket → ℕ → List Event
+offers_of e p k = offers e k (p ∷ [])
 
 -- packets may be offered to these stores, under these labels, through a port of them
 pub record MayOffer (labels : List StoreLabel) (stores : StoresView) (of : Origin) : Type 0 where
@@ -42,25 +47,10 @@ pub record ExtendsBy (more : List Event) (old new : List Entry) : Type 0 where
   pub all : asked_in new ≡ asked_in old ++ more
   pub taken : AreTaken old → AreTaken new
 
--- a list goes on by the first of these events, perhaps by none and perhaps by all
-pub record ExtendsInPart (more : List Event) (old new : List Entry) : Type 0 where
-  pub did : List Event
-  pub rest : List Event
-  pub are : more ≡ did ++ rest
-  pub first : asked_in new ≡ asked_in old ++ did
-
--- the calls on each store go on as stated by the offers to it
-pub record AddsBy (goes : List Event → List Entry → List Entry → Type 0) (count : ℕ) (more : ℕ → List Event) (old new : PortView) : Type 0 where
-  pub end : end_of new ≡ end_of old
-  pub lists : (k : ℕ) → k < count → goes (more k) (list_at old k) (list_at new k)
-
--- the calls on each store go on by the offers to it, of which none is refused
-abbrev pub Adds : ℕ → (ℕ → List Event) → PortView → PortView → Type 0
-Adds count more old new = AddsBy ExtendsBy count more old new
-
--- the calls on each store go on by the first of the offers to it
-abbrev pub AddsPartly : ℕ → (ℕ → List Event) → PortView → PortView → Type 0
-AddsPartly count more old new = AddsBy ExtendsInPart count more old new
+-- a list goes on by all of these events, or only by the first of them
+abbrev pub Goes : Bool → List Event → List Entry → List Entry → Type 0
+Goes true more old new = ExtendsBy more old new
+Goes false more old new = OfferedInPart (asked_in old) more (asked_in new)
 
 -- an offer to one of the stores was refused with this fault
 pub record HasRefusal (count : ℕ) (port : PortView) (fault : Fault) : Type 0 where
@@ -73,6 +63,7 @@ abbrev pub IsReason : ℕ → PortView → Fault → Type 0
 IsReason count port fault = (fault ≡ NoMemory) ⊎ HasRefusal count port fault
 
 -- these offers were made to the stores, and none was refused; or the first of them, and this is why no more
-abbrev pub Offers : {T : Type 0} → ℕ → (ℕ → List Event) → PortView → PortView → Result T Fault → Type 0
-Offers count more old new result =
-    MatchResult result (λ done. Adds count more old new) (λ fault. AddsPartly count more old new × IsReason count new fault)
+pub record Offers {T : Type 0} (e : RecordingContext) (more : ℕ → List Event) (old new : PortView) (result : Result T Fault) : Type 0 where
+  pub end : end_of new ≡ end_of old
+  pub lists : (k : ℕ) → k < length e.ids → Goes (is_ok result) (more k) (list_at old k) (list_at new k)
+  pub reason : IfErr result (IsReason (length e.ids) new)

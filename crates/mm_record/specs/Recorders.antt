@@ -1,29 +1,27 @@
 -- What recorders at open stores did. No public clause cites this module.
-use Rattle.std.specs.Prelude.{◌≡◌, ℕ, ◌<◌, List, [], ◌∷◌, length, map, All, Option, Some, None, IfNone, IfSome}
+use Rattle.std.specs.Prelude.{◌≡◌, ℕ, ◌<◌, List, length, map, All, Option, Some, None, IfNone, IfSome}
 use Rattle.mm_desk.specs.declared.fault.Fault.{Fault}
 use Rattle.mm_desk.specs.declared.fault.Fault.TheVariants.{NoMemory}
 use Rattle.mm_desk.specs.Offers.{AreTaken}
+use Rattle.mm_packet.specs.Packet.{SpacePacket}
 use Rattle.mm_shared.specs.declared.label.StoreLabel.{StoreLabel}
-use Rattle.mm_shared.specs.Stores.{list_at, IsFresh}
+use Rattle.mm_shared.specs.Stores.{list_at, all_ends, IsFresh}
 use Rattle.mm_shared.specs.Views.{PortView, StoresView}
 use Rattle.mm_record.specs.Supplies.{Supply}
 use Rattle.mm_record.specs.Recorded.{RecordingContext}
 use Rattle.mm_record.specs.Offering.{asked, MayOffer, IsReason}
-use Rattle.mm_record.specs.Steps.{RecorderRun, IsRecorderRun, IsWhy}
+use Rattle.mm_record.specs.Steps.{IsRecorderRun, IsWhy}
 
--- a recorder with this port had this run. Where it did not stop early no offer of its was refused; where it did, it was out of memory or
--- an offer was refused with that fault
-pub record IsRunAt (e : RecordingContext) (before after : Supply) (port : PortView) (run : RecorderRun) : Type 0 where
-  pub is : IsRecorderRun e before after run
-  pub offered : (k : ℕ) → run.offered k ≡ asked port k
-  pub taken : IfNone run.broken ((k : ℕ) → k < length e.ids → AreTaken (list_at port k))
-  pub reason : IfSome run.broken (IsReason (length e.ids) port)
+-- a recorder whose source gave these packets offered them through this port. Where it did not stop early no offer of its was refused;
+-- where it did, it was out of memory or an offer was refused with that fault
+pub record HasOffered (e : RecordingContext) (before after : Supply) (gave : List SpacePacket) (broken : Option Fault) (port : PortView) : Type 0 where
+  pub is : IsRecorderRun e before after (record { gave = gave; offered = asked port; broken = broken })
+  pub taken : IfNone broken ((k : ℕ) → k < length e.ids → AreTaken (list_at port k))
+  pub reason : IfSome broken (IsReason (length e.ids) port)
 
 -- a recorder with this port had a run that ended so
-pub record HasRun (e : RecordingContext) (before after : Supply) (broken : Option Fault) (port : PortView) : Type 0 where
-  pub run : RecorderRun
-  pub is : IsRunAt e before after port run
-  pub ended : run.broken ≡ broken
+abbrev pub HasRun : RecordingContext → Supply → Supply → Option Fault → PortView → Type 0
+HasRun e before after broken port = (gave : List SpacePacket) × HasOffered e before after gave broken port
 
 -- there is a fresh port for each source, through which packets may be offered
 pub record MayRecord {S : Type 0} (labels : List StoreLabel) (stores : StoresView) (sources : List S) (workers : List PortView) : Type 0 where
@@ -31,17 +29,26 @@ pub record MayRecord {S : Type 0} (labels : List StoreLabel) (stores : StoresVie
   pub may : All (λ w. MayOffer labels stores w.of) workers
   pub fresh : All IsFresh workers
 
--- the recorder of each source had its run
-unfoldable pub AreRunsAt : RecordingContext → List Supply → List Supply → List PortView → List RecorderRun → Type 0
-AreRunsAt e [] [] [] [] = Unit {0}
-AreRunsAt e (s ∷ ss) (t ∷ ts) (w ∷ ws) (run ∷ runs) = IsRunAt e s t w run × AreRunsAt e ss ts ws runs
-AreRunsAt e ss ts ws runs = ⊥
+-- a recorder that has run: its source before and now, its port, and why it stopped early, where it did
+pub record Recorder (S : Type 0) : Type 0 where
+  pub before : S
+  pub now : S
+  pub port : PortView
+  pub broken : Option Fault
 
--- the recorder of each source had its run, and this is why some stopped early
-pub record HaveRun (e : RecordingContext) (workers : List PortView) (why : Option Fault) (sources left : List Supply) : Type 0 where
-  pub runs : List RecorderRun
-  pub are : AreRunsAt e sources left workers runs
-  pub why_is : IsWhy (map (λ run. run.broken) runs) why
+-- whatever its source becomes later, it could become it before too, and the recorder had its run until then
+abbrev pub HasRunUntil : {S : Type 0} → (S → S → Type 0) → (S → S → Supply) → RecordingContext → Recorder S → Type 0
+HasRunUntil leads until e r = (last : _) → leads r.now last → leads r.before last × HasRun e (until r.before last) (until r.now last) r.broken r.port
+
+-- the recorder of each source had its run, through the ports that there were before, and this is why some stopped early
+pub record HaveRun {S : Type 0} (leads : S → S → Type 0) (until : S → S → Supply) (e : RecordingContext) (before now : List S) (ports workers : List PortView) (why : Option Fault) : Type 0 where
+  pub recorders : List (Recorder S)
+  pub before_are : before ≡ map (λ r. r.before) recorders
+  pub now_are : now ≡ map (λ r. r.now) recorders
+  pub workers_are : workers ≡ map (λ r. r.port) recorders
+  pub ends : all_ends workers ≡ all_ends ports
+  pub each : All (HasRunUntil leads until e) recorders
+  pub why_is : IsWhy (map (λ r. r.broken) recorders) why
 
 -- the worse of two reasons: out of memory only where neither is another
 abbrev pub is_worse : Option Fault → Option Fault → Option Fault

@@ -3,12 +3,13 @@ use Rattle.std.specs.Prelude.{◌≡◌, ℕ, ◌<◌, List, length, All, IfSome
 use Rattle.mm_base.specs.declared.rows.RouteRow.{RouteRow}
 use Rattle.mm_packet.specs.Packet.{SpacePacket, IsTelemetry}
 use Rattle.mm_shared.specs.declared.label.StoreLabel.{StoreLabel}
-use Rattle.mm_shared.specs.Stores.{ids_of, id_at}
+use Rattle.mm_shared.specs.Stores.{ids_of}
 use Rattle.mm_record.specs.declared.routing.ReportType.{ReportType}
 use Rattle.mm_record.specs.declared.routing.Routing.{Routing}
 use Rattle.mm_record.specs.declared.routing.Routings.{Routings}
 use Rattle.mm_record.specs.declared.routing.TheConstants.{REMEMBERED}
 use Rattle.mm_record.specs.Offering.{offer_at, offers_of}
+use Rattle.mm_record.specs.Recorded.{open_recording}
 
 -- a packet is telemetry of a report type
 pub record IsOf (report : ReportType) (p : SpacePacket) : Type 0 where
@@ -20,8 +21,8 @@ pub record IsOf (report : ReportType) (p : SpacePacket) : Type 0 where
 -- packets of a report type go to the store at an index, and to no other
 pub record LeadsTo (routes : List RouteRow) (labels : List StoreLabel) (report : ReportType) (index : ℕ) : Type 0 where
   pub within : index < length labels
-  pub offers : (now : ℕ) (p : SpacePacket) (k : ℕ) → IsOf report p → k < length labels
-      → offer_at now p index k ≡ offers_of now routes (id_at (ids_of labels) k) p
+  pub offers : (step now : ℕ) (p : SpacePacket) (k : ℕ) → IsOf report p → k < length (ids_of labels)
+      → offer_at (open_recording step now routes labels) p index k ≡ offers_of (open_recording step now routes labels) p k
 
 -- each slot has a report type with the store that its packets go to, where there is one
 pub record AreRoutings (routes : List RouteRow) (labels : List StoreLabel) (routings : Routings) : Type 0 where

@@ -1,7 +1,6 @@
 //! One packet: it is offered to each store that its report type is routed to, to the last one itself and to the others a copy.
-ghost use Rattle.std.specs.Prelude.{◌≡◌, ◌<◌, [], ◌∷◌, length};
-ghost use Rattle.mm_shared.specs.Stores.{ids_of, id_at};
-ghost use Rattle.mm_record.specs.Offering.{offer_at, offers_by, offers_of, MayOffer, Offers};
+ghost use Rattle.std.specs.Prelude.{◌<◌, [], ◌∷◌, length};
+ghost use Rattle.mm_record.specs.Offering.{step_of, offer_at, offers_by, offers_of, MayOffer, Offers};
 ghost use Rattle.mm_record.specs.Routings.{AreRoutings};
 
 use crate::context::StepContext;
@@ -21,7 +20,7 @@ fn offer_at<R: Wait>(
 ) -> Result<(), Fault>
     requires within { index < length context.now.labels.now }
     requires may { MayOffer context.now.labels.now context.now.stores.now port.old.of }
-    ensures offers { Offers (length context.now.labels.now) (offer_at context.now.moment packet index) port.old port.new result }
+    ensures offers { Offers (step_of context.now) (offer_at (step_of context.now) packet index) port.old port.new result }
 {
     match context
         .stores
@@ -40,8 +39,7 @@ fn offer_copy<R: Wait>(
     row: &RouteRow,
 ) -> Result<(), Fault>
     requires may { MayOffer context.now.labels.now context.now.stores.now port.old.of }
-    ensures offers { Offers (length context.now.labels.now)
-        (λ k. offers_by context.now.moment packet.now (id_at (ids_of context.now.labels.now) k) (row.now ∷ [])) port.old port.new result }
+    ensures offers { Offers (step_of context.now) (offers_by (step_of context.now) packet.now (row.now ∷ [])) port.old port.new result }
 {
     let Some(index) = place_of(context.labels, &row.store) else {
         return Ok(());
@@ -59,18 +57,18 @@ fn offer_routed<R: Wait>(
     rows: &[RouteRow],
 ) -> Result<(), Fault>
     requires may { MayOffer context.now.labels.now context.now.stores.now port.old.of }
-    ensures offers { Offers (length context.now.labels.now)
-        (λ k. offers_by context.now.moment packet (id_at (ids_of context.now.labels.now) k) rows.now) port.old port.new result }
+    ensures offers { Offers (step_of context.now) (offers_by (step_of context.now) packet rows.now) port.old port.new result }
 {
-    let [others @ .., last] = rows else {
-        return Ok(());
-    };
-    for row in others {
-        offer_copy(context, port, &packet, row)?;
-    }
-    match place_of(context.labels, &last.store) {
-        Some(index) => offer_at(context, port, packet, index),
-        None => Ok(()),
+    match rows {
+        [] => Ok(()),
+        [last] => match place_of(context.labels, &last.store) {
+            Some(index) => offer_at(context, port, packet, index),
+            None => Ok(()),
+        },
+        [row, others @ ..] => {
+            offer_copy(context, port, &packet, row)?;
+            offer_routed(context, port, packet, others)
+        }
     }
 }
 
@@ -84,8 +82,7 @@ pub(crate) fn offer_packet<R: Wait>(
     requires may { MayOffer context.now.labels.now context.now.stores.now port.old.of }
     requires routings { AreRoutings context.now.control.now context.now.labels.now routings.old }
     ensures routings { AreRoutings context.now.control.now context.now.labels.now routings.new }
-    ensures offers { Offers (length context.now.labels.now)
-        (λ k. offers_of context.now.moment context.now.control.now (id_at (ids_of context.now.labels.now) k) packet) port.old port.new result }
+    ensures offers { Offers (step_of context.now) (offers_of (step_of context.now) packet) port.old port.new result }
 {
     let content = packet.packet();
     if content.is_telecommand() {

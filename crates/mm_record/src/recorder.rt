@@ -2,10 +2,8 @@
 ghost use Rattle.std.specs.Prelude.{◌≡◌, ◌<◌, length};
 ghost use Rattle.std.specs.Result.{result_err};
 ghost use Rattle.std.specs.Thread.{IsSync, IsSend};
-ghost use Rattle.mm_shared.specs.Stores.{end_of, all_ends, IsFresh};
-ghost use Rattle.mm_record.specs.Offering.{MayOffer};
-ghost use Rattle.mm_record.specs.Recorded.{open_recording};
-ghost use Rattle.mm_record.specs.Supplies.{WhateverComes};
+ghost use Rattle.mm_shared.specs.Stores.{end_of, IsFresh};
+ghost use Rattle.mm_record.specs.Offering.{MayOffer, step_of};
 ghost use Rattle.mm_record.specs.Recorders.{HasRun, MayRecord, HaveRun, is_worse};
 
 use crate::context::StepContext;
@@ -26,7 +24,7 @@ fn record_source<S: AnySource, R: Wait>(
     requires may { MayOffer context.now.labels.now context.now.stores.now port.old.of }
     requires fresh { IsFresh port.old }
     ensures run { (last : S) → S.leads source.new last
-        → S.leads source.old last × HasRun (open_recording context.now.step context.now.moment context.now.control.now context.now.labels.now) (S.until source.old last) (S.until source.new last) (result_err result) port.new }
+        → S.leads source.old last × HasRun (step_of context.now) (S.until source.old last) (S.until source.new last) (result_err result) port.new }
     ensures end { end_of port.new ≡ end_of port.old }
 {
     let mut routings = Routings::new();
@@ -58,8 +56,7 @@ fn record_one<S: AnySource, R: Wait>(
 ) -> Option<Fault>
     requires may { MayRecord context.now.labels.now context.now.stores.now sources.old workers.old }
     requires one { length sources.old ≡ 1 }
-    ensures run { WhateverComes S.leads S.until sources.old sources.new (HaveRun (open_recording context.now.step context.now.moment context.now.control.now context.now.labels.now) workers.new result) }
-    ensures ends { all_ends workers.new ≡ all_ends workers.old }
+    ensures run { HaveRun S.leads S.until (step_of context.now) sources.old sources.new workers.old workers.new result }
 {
     record_source(context, &mut sources[0], &mut workers[0]).err()
 }
@@ -72,8 +69,7 @@ pub(crate) fn record_all<S: AnySource + Send, R: Threads + Wait + Sync>(
     workers: &mut [Port],
 ) -> Option<Fault>
     requires may { MayRecord context.now.labels.now context.now.stores.now sources.old workers.old }
-    ensures run { WhateverComes S.leads S.until sources.old sources.new (HaveRun (open_recording context.now.step context.now.moment context.now.control.now context.now.labels.now) workers.new result) }
-    ensures ends { all_ends workers.new ≡ all_ends workers.old }
+    ensures run { HaveRun S.leads S.until (step_of context.now) sources.old sources.new workers.old workers.new result }
 {
     if sources.is_empty() {
         return None;
@@ -108,18 +104,16 @@ fn record_halves<S: AnySource + Send, R: Threads + Wait + Sync>(
     requires high { MayRecord context.now.labels.now context.now.stores.now high_sources.old high_workers.old }
     requires some_low { 0 < length low_sources.old }
     requires some_high { 0 < length high_sources.old }
-    ensures low { WhateverComes S.leads S.until low_sources.old low_sources.new (HaveRun (open_recording context.now.step context.now.moment context.now.control.now context.now.labels.now) low_workers.new result.0) }
-    ensures high { WhateverComes S.leads S.until high_sources.old high_sources.new (HaveRun (open_recording context.now.step context.now.moment context.now.control.now context.now.labels.now) high_workers.new result.1) }
-    ensures low_ends { all_ends low_workers.new ≡ all_ends low_workers.old }
-    ensures high_ends { all_ends high_workers.new ≡ all_ends high_workers.old }
+    ensures low { HaveRun S.leads S.until (step_of context.now) low_sources.old low_sources.new low_workers.old low_workers.new result.0 }
+    ensures high { HaveRun S.leads S.until (step_of context.now) high_sources.old high_sources.new high_workers.old high_workers.new result.1 }
 {
     let mut low = || -> Option<Fault>
         requires { IsSync R.row × IsSend S.row × MayRecord context.now.labels.now context.now.stores.now low_sources.now low_workers.now }
-        ensures { WhateverComes S.leads S.until low_sources.entry.now low_sources.exit.now (HaveRun (open_recording context.entry.now.step context.entry.now.moment context.entry.now.control.now context.entry.now.labels.now) low_workers.exit.now result) × (all_ends low_workers.exit.now ≡ all_ends low_workers.entry.now) }
+        ensures { HaveRun S.leads S.until (step_of context.entry.now) low_sources.entry.now low_sources.exit.now low_workers.entry.now low_workers.exit.now result }
     { record_all(context, low_sources, low_workers) };
     let mut high = || -> Option<Fault>
         requires { IsSync R.row × IsSend S.row × MayRecord context.now.labels.now context.now.stores.now high_sources.now high_workers.now }
-        ensures { WhateverComes S.leads S.until high_sources.entry.now high_sources.exit.now (HaveRun (open_recording context.entry.now.step context.entry.now.moment context.entry.now.control.now context.entry.now.labels.now) high_workers.exit.now result) × (all_ends high_workers.exit.now ≡ all_ends high_workers.entry.now) }
+        ensures { HaveRun S.leads S.until (step_of context.entry.now) high_sources.entry.now high_sources.exit.now high_workers.entry.now high_workers.exit.now result }
     { record_all(context, high_sources, high_workers) };
     join_mut(context.rt, &mut low, &mut high)
 }

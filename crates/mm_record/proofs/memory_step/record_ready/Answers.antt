@@ -8,7 +8,7 @@ use Rattle.mm_shared.specs.Stores.{labels_of}
 use Rattle.mm_record.specs.Counters.{counters_of, AreRows}
 use Rattle.mm_record.specs.MemorySteps.{recording_of}
 use Rattle.mm_record.specs.Steps.{Records}
-use Rattle.mm_record.proofs.Memories.{named_of, held_as, records_as, not_caused, recorded_of, ended_of}
+use Rattle.mm_record.proofs.Memories.{named_of, held_as, not_caused, recorded_of, ended_of}
 use Rattle.mm_record.proofs.memory_step.record_ready.Given as given
 use Rattle.mm_record.proofs.memory_step.record_ready.Goals as goal
 use Rattle.mm_record.proofs.memory_step.record_ready.Goals.{In-Ok-done}
@@ -31,9 +31,7 @@ restored g c =
     let memory = c.args.memory.now in
     let after = c.record-done.new.stores.items in
     let routes : c.control.result.now ≡ memory.routes = c.control.ensures.rows ∙ ap (λ (m : Holdings). m.routes) c.lift-stores.ensures.left in (
-      comes_weaker g.S.AnySource.leads g.S.AnySource.until c.args.sources.now c.record-done.new.sources _ _
-          (λ given left records. records_as c.args.step c.args.now c.control.result.now memory.routes c.lift-stores.result.items memory.stores after
-          c.in-Ok-done.why given left routes c.lift-stores.ensures.stores records) c.in-Ok-done.ensures.records,
+      rw (← routes, ← c.lift-stores.ensures.stores) c.in-Ok-done.ensures.records,
       c.restore.ensures.after ∙ ap (λ (m : Holdings). record m { stores = after }) c.lift-stores.ensures.left,
     )
 

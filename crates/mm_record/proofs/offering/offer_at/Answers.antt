@@ -1,13 +1,16 @@
-use Rattle.std.proofs.Common.{length, refl}
+use Rattle.std.proofs.Common.{◌<◌, length, arith}
+use Rattle.std.proofs.lemmas.List.{length-map}
+use Rattle.mm_shared.specs.declared.label.StoreLabel.{StoreLabel}
+use Rattle.mm_shared.specs.Stores.{ids_of}
+use Rattle.mm_record.specs.Offering.{step_of}
 use Rattle.mm_record.proofs.Adding.{offer_taken, offer_refused}
 use Rattle.mm_record.proofs.offering.offer_at.Goals as goal
 
 pub returns-in-Ok : goal.returns-in-Ok
 returns-in-Ok g c =
-    let context = c.args.context.now in
-    record { offers = offer_taken c.args.port.now _ c.args.index context.moment c.args.packet _ c.in-Ok.ensures.called _ refl (length context.labels.now) }
+    record { offers = offer_taken (step_of c.args.context.now) c.args.port.now _ c.args.index c.args.packet _ _ c.in-Ok.ensures.called }
 
 pub returns : goal.returns
 returns g c =
-    let context = c.args.context.now in
-    record { offers = offer_refused c.args.port.now _ c.args.index context.moment c.args.packet _ c.in-Err.ensures.called c.in-Err.back refl (length context.labels.now) c.requires.within }
+    let within : c.args.index < length (ids_of c.args.context.now.labels.now) = omega (arith, c.requires.within, length-map c.args.context.now.labels.now (λ (s : StoreLabel). s.id)) in
+    record { offers = offer_refused (step_of c.args.context.now) c.args.port.now _ c.args.index c.args.packet c.in-Err.back c.in-Err.ensures.called within }

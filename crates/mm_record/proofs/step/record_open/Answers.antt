@@ -1,14 +1,12 @@
-use Rattle.std.proofs.Common.{rules, ◌≡◌, ◌≤◌, length, refl, sym, subst, ap, ◌∙◌, arith}
+use Rattle.std.proofs.Common.{rules, ◌≡◌, length, refl, sym, subst, ap, ◌∙◌, arith}
 use Rattle.std.specs.Vec.{with_items}
 use Rattle.std.proofs.lemmas.List.{with_items_is}
 use Rattle.mm_shared.specs.Stores.{all_ends, states_of, stores_in, AreNamed, HaveLegalLogs}
 use Rattle.mm_shared.proofs.StillOpen.{still_open}
 use Rattle.mm_record.specs.Recorded.{open_recording}
 use Rattle.mm_record.specs.Recorders.{HaveRun}
-use Rattle.mm_record.specs.Supplies.{supplies, WhateverComes}
-use Rattle.mm_record.proofs.Supplying.{length-supplies, zip_long}
 use Rattle.mm_record.proofs.Runs.{may_of}
-use Rattle.mm_record.proofs.Steps.{ids_open, records_of}
+use Rattle.mm_record.proofs.Steps.{ids_open, comes_of}
 use Rattle.mm_record.proofs.step.record_open.Goals as goal
 
 pub record_all-why-requires-clause-may : goal.record_all-why-requires-clause-may
@@ -27,7 +25,7 @@ settle-requires g c =
     let new = c.seat_workers.ensures.new in
     let written = with_items_is it.workers c.record_all-why.new.workers (omega (arith, c.record_all-why.auto.workers, c.deref_mut.ensures.len, it.workers.ok.0)) in
     let ends : all_ends (with_items it.workers c.record_all-why.new.workers).items ≡ all_ends it.workers.items =
-    ap all_ends written ∙ c.record_all-why.ensures.ends ∙ ap all_ends c.deref_mut.ensures.value in
+    ap all_ends written ∙ c.record_all-why.ensures.run.ends ∙ ap all_ends c.deref_mut.ensures.value in
     record { opened = still_open it (with_items it.workers c.record_all-why.new.workers) new.are_open refl ends }
 
 pub returns-clause-records : goal.returns-clause-records
@@ -35,20 +33,12 @@ returns-clause-records g c =
     let it = c.seat_workers.new.opened in
     let new = c.seat_workers.ensures.new in
     let step = c.args.step.now in
-    let before = stores_in c.args.stores.now in
     let after = stores_in c.settle.new.opened in
     let leads = g.S.AnySource.leads in
     let until = g.S.AnySource.until in
     let written = with_items_is it.workers c.record_all-why.new.workers (omega (arith, c.record_all-why.auto.workers, c.deref_mut.ensures.len, it.workers.ok.0)) in
     let logs = subst (λ ws. HaveLegalLogs ws it.rest.of.states (states_of after)) written c.settle.ensures.went in
-    let ran = subst (λ ss. WhateverComes leads until c.args.sources.now c.record_all-why.new.sources
-    (HaveRun (open_recording step.step step.now step.control.now ss) c.record_all-why.new.workers c.record_all-why.result)) c.deref.ensures.value c.record_all-why.ensures.run in
-    λ lasts lead.
-    let one = ran lasts lead in
-    let many : length (supplies until c.args.sources.now lasts) ≤ 16 =
-    omega (arith, c.requires.many, length-supplies until c.args.sources.now lasts (zip_long leads _ _ one.0)) in (
-      one.0,
-      records_of step.step step.now step.control.now before after it.labels.items it.rest.of.states (supplies until c.args.sources.now lasts)
-          (supplies until c.record_all-why.new.sources lasts) c.record_all-why.new.workers c.record_all-why.result new.labels new.states
-          c.settle.ensures.labels c.settle.ensures.sound logs one.1 many,
-    )
+    let run = subst (λ ss. HaveRun leads until (open_recording step.step step.now step.control.now ss) c.args.sources.now c.record_all-why.new.sources c.deref_mut.result.now
+    c.record_all-why.new.workers c.record_all-why.result) c.deref.ensures.value c.record_all-why.ensures.run in
+    comes_of step.step step.now step.control.now (stores_in c.args.stores.now) after it.labels.items new.labels c.settle.ensures.labels c.settle.ensures.sound
+    leads until c.args.sources.now c.record_all-why.new.sources c.deref_mut.result.now c.record_all-why.new.workers c.record_all-why.result it.rest.of.states run new.states logs c.requires.many
