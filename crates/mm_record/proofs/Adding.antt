@@ -1,6 +1,6 @@
 -- The calls through a port go on, store by store.
-use Rattle.std.proofs.Common.{◌≡◌, ◌≢◌, ◌⊎◌, inl, inr, ℕ, ◌-◌, ◌<◌, ◌≤◌, ◌==◌, Bool, true, false, cond, eqb, List, [], ◌∷◌, ◌++◌, length, get_or, take, drop, map, filter, bytes_eq, Result, Ok, Err, refl, sym, subst, ap, ◌∙◌, append_assoc, arith}
-use Rattle.std.specs.Prelude.{Any, IfErr, is_ok, if◌then◌else◌}
+use Rattle.std.proofs.Common.{◌≡◌, ◌≢◌, ◌⊎◌, inl, inr, ℕ, ◌-◌, ◌<◌, ◌≤◌, Bool, true, false, cond, eqb, List, [], ◌∷◌, ◌++◌, length, get_or, take, drop, map, filter, bytes_eq, Result, Ok, Err, refl, sym, subst, ap, ◌∙◌, append_assoc}
+use Rattle.std.specs.Prelude.{is_ok}
 use Rattle.std.proofs.lemmas.Bool.{eq-eqb}
 use Rattle.std.proofs.lemmas.Bool.Decides.{eqb_tells}
 use Rattle.std.proofs.lemmas.List.{append-nil, drop_more, map-append, take_rest}
@@ -15,13 +15,13 @@ use Rattle.mm_desk.specs.declared.fault.Fault.{Fault}
 use Rattle.mm_desk.specs.declared.reply.Offered.{Offered}
 use Rattle.mm_desk.specs.declared.reply.Returned.{Returned}
 use Rattle.mm_desk.specs.declared.reply.Reply.TheVariants as reply
-use Rattle.mm_desk.specs.Offers.{AreTaken, IsTaken}
+use Rattle.mm_desk.specs.Offers.{IsTaken}
 use Rattle.mm_desk.specs.Offers.{asked as asked_in}
 use Rattle.mm_desk.specs.Runs.{entry}
 use Rattle.mm_shared.specs.Stores.{list_at, end_of, id_at}
 use Rattle.mm_shared.specs.Views.{PortView, with_call}
 use Rattle.mm_shared.proofs.CallsOn.{list_here, list_there}
-use Rattle.mm_record.specs.Offering.{offer_at, offers_by, ExtendsBy, Goes, HasRefusal, IsReason, Offers}
+use Rattle.mm_record.specs.Offering.{offer_at, offers_by, ExtendsBy, Goes, Offers}
 use Rattle.mm_record.specs.Recorded.{RecordingContext}
 use Rattle.mm_record.specs.Steps.{IsRefusedWith}
 
@@ -148,10 +148,6 @@ module _ (e : RecordingContext) (p : SpacePacket) where
     reason = one.reason;
   }
 
--- a row that leads to the store at an index, and one that leads to none
-pub row_at : (e : RecordingContext) (p : SpacePacket) (row : RouteRow) (index k : ℕ) → bytes_eq (id_at e.ids k) row.store ≡ (k == index)
-    → offer_at e p index k ≡ offers_by e p (row ∷ []) k
-row_at e p row index k is = rw is (elim (k == index) as (λ t. (if t then Offer e.now p ∷ [] else []) ≡ map (λ _. Offer e.now p) (cond t (row.store ∷ []) [])) [ true ↦ refl | false ↦ refl ])
-
+-- a row that leads to none of the stores
 pub row_nowhere : (e : RecordingContext) (p : SpacePacket) (row : RouteRow) (k : ℕ) → bytes_eq (id_at e.ids k) row.store ≡ false → [] ≡ offers_by e p (row ∷ []) k
 row_nowhere e p row k none = rw none refl

@@ -2,7 +2,6 @@ pub mod Lives
 pub mod Supplying
 pub mod Offers
 pub mod Adding
-pub mod RoutingLemmas
 pub mod SoFar
 pub mod Whys
 pub mod Runs

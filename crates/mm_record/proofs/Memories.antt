@@ -3,13 +3,12 @@ use Rattle.std.proofs.Common.{◌≡◌, ◌⊎◌, inl, inr, ℕ, ◌-◌, ◌<
 use Rattle.std.specs.List.{AllPairs}
 use Rattle.std.proofs.lemmas.List.{get_or-map, length-map, same_lists}
 use Rattle.mm_base.proofs.Elements.{All-unmapped}
-use Rattle.mm_base.specs.declared.rows.RouteRow.{RouteRow}
 use Rattle.mm_packet.specs.Packet.{SpacePacket}
 use Rattle.mm_desk.specs.declared.fault.Fault.{Fault}
 use Rattle.mm_desk.specs.declared.fault.Fault.TheVariants as fault
 use Rattle.mm_desk.specs.declared.held.Held.{Held}
 use Rattle.mm_desk.specs.Laws.{OffersLeave}
-use Rattle.mm_desk.specs.Machine.{State, IsState}
+use Rattle.mm_desk.specs.Machine.{IsState}
 use Rattle.mm_desk.specs.Offers.{Leaves}
 use Rattle.mm_desk.specs.Runs.{opening_at, blank}
 use Rattle.mm_memory.specs.Holdings.{AreHeld, HaveOtherIds, Holdings}
@@ -24,7 +23,7 @@ use Rattle.mm_record.specs.Causes.{cause_in}
 use Rattle.mm_record.specs.Counters.{counters_of, AreRows}
 use Rattle.mm_record.specs.MemorySteps.{came, store_at, AreTold, IsRecorded, WasEnded}
 use Rattle.mm_record.specs.Supplies.{Supply}
-use Rattle.mm_record.specs.Recorded.{RecordingContext, recording, offers}
+use Rattle.mm_record.specs.Recorded.{RecordingContext, offers}
 use Rattle.mm_record.specs.Steps.{given_in, AllRecorded, Records, RecorderRun, StoreRefused}
 use Rattle.mm_record.proofs.Steps.{same_firsts, same_many}
 

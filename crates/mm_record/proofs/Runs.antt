@@ -1,5 +1,5 @@
 -- Recorders of two groups, one after the other, and what each did until its source is as it will be later.
-use Rattle.std.proofs.Common.{◌∙◌, ◌≡◌, ℕ, ◌+◌, ◌<◌, List, [], ◌∷◌, ◌++◌, length, get_or, map, All, Option, None, refl, sym, subst, ap, length-append, arith}
+use Rattle.std.proofs.Common.{◌∙◌, ◌≡◌, ℕ, List, [], ◌∷◌, ◌++◌, length, get_or, map, All, Option, None, refl, sym, subst, ap, length-append, arith}
 use Rattle.std.specs.List.{AllZip}
 use Rattle.std.proofs.Math.ListN.{set}
 use Rattle.std.proofs.lemmas.List.{map-append, nil_from_length}
@@ -8,7 +8,7 @@ use Rattle.mm_base.proofs.Pairs.{All-back, All-front}
 use Rattle.mm_desk.specs.declared.fault.Fault.{Fault}
 use Rattle.mm_packet.specs.Packet.{SpacePacket}
 use Rattle.mm_shared.specs.declared.label.StoreLabel.{StoreLabel}
-use Rattle.mm_shared.specs.Stores.{ids_of, end_of, all_ends, AreNamed, AreWorkers, IsFresh}
+use Rattle.mm_shared.specs.Stores.{ids_of, end_of, AreNamed, AreWorkers, IsFresh}
 use Rattle.mm_shared.specs.Views.{Origin, PortView, StoresView}
 use Rattle.mm_record.specs.Offering.{asked, MayOffer}
 use Rattle.mm_record.specs.Recorded.{RecordingContext}

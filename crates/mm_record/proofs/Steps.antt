@@ -1,11 +1,10 @@
 -- From what each recorder and each store says, to the step.
-use Rattle.std.proofs.Common.{◌≡◌, ◌≢◌, ◌⊎◌, inl, inr, ℕ, ◌+◌, ◌*◌, ◌<◌, ◌≤◌, List, [], ◌∷◌, ◌++◌, length, get_or, map, filter, All, Option, Some, None, IfNone, IfSome, refl, sym, subst, ap, ◌∙◌, append_assoc, length-append, arith}
+use Rattle.std.proofs.Common.{◌≡◌, ◌≢◌, ◌⊎◌, inl, inr, ℕ, ◌*◌, ◌<◌, ◌≤◌, List, [], ◌∷◌, ◌++◌, length, get_or, map, filter, All, Option, Some, None, IfNone, IfSome, refl, sym, subst, ap, ◌∙◌, append_assoc, length-append, arith}
 use Rattle.std.specs.List.{AllZip}
 use Rattle.std.proofs.lemmas.List.{append-nil, get_or-map, length-map}
 use Rattle.std.proofs.lemmas.List.Elements.{All-head, All-map, All-tail}
 use Rattle.std.proofs.lemmas.List.Sums.{sum_by-le}
 use Rattle.std.proofs.lemmas.Option.{IfSome_then, MatchOption-at_none, MatchOption-at_some}
-use Rattle.std.proofs.lemmas.Slice.Zip.{AllZip-long}
 use Rattle.mm_base.proofs.Elements.{All-unmapped}
 use Rattle.mm_base.proofs.Pairs.{All-front}
 use Rattle.mm_base.specs.declared.rows.RouteRow.{RouteRow}
@@ -28,12 +27,12 @@ use Rattle.mm_shared.proofs.Defaults.{no_port}
 use Rattle.mm_record.specs.Offering.{asked, IsReason}
 use Rattle.mm_record.proofs.Reasons.{not_taken, refusal_in_log}
 use Rattle.mm_memory.specs.Recording.{is_routed}
-use Rattle.mm_record.specs.Supplies.{Supply, supplies, WhateverComes}
+use Rattle.mm_record.specs.Supplies.{Supply, WhateverComes}
 use Rattle.mm_record.specs.Recorded.{RecordingContext, recording, open_recording, offers}
 use Rattle.mm_record.specs.Recorders.{HaveRun, Recorder}
-use Rattle.mm_record.specs.Steps.{given_in, latest, AllRecorded, AllHaveLegalOffers, AreFew, AreRecorderRuns, IsOpen, IsRecorderRun, IsWhy, RecorderRun, Records, StoppedEarly, StoreRefused}
+use Rattle.mm_record.specs.Steps.{given_in, latest, AllRecorded, AllHaveLegalOffers, AreFew, AreRecorderRuns, IsOpen, IsWhy, RecorderRun, Records, StoppedEarly, StoreRefused}
 use Rattle.mm_record.proofs.Offers.{offers_more}
-use Rattle.mm_record.proofs.Runs.{HaveRuns, IsRunOf, Run, run_of, runs_until}
+use Rattle.mm_record.proofs.Runs.{IsRunOf, Run, run_of, runs_until}
 use Rattle.mm_record.proofs.Taking.{HasTime, IsOfferAt, filter_fewer, lists_taken, parts_all, shuffle_is_taken}
 
 -- a log that is a shuffle of lists is one of what is asked in them

@@ -1,4 +1,4 @@
-use Rattle.std.proofs.Common.{rules, ◌≡◌, ◌+◌, None, vec_len, arith}
+use Rattle.std.proofs.Common.{rules, ◌≡◌, None, vec_len, arith}
 use Rattle.std.proofs.lemmas.List.{with_items_is}
 use Rattle.mm_record.specs.Causes.{cause_before}
 use Rattle.mm_record.proofs.Before.{takes_of}

@@ -1,4 +1,4 @@
-use Rattle.std.proofs.Common.{rules, length}
+use Rattle.std.proofs.Common.{rules}
 use Rattle.mm_record.specs.Offering.{step_of}
 use Rattle.mm_record.proofs.Adding.{offers_same}
 use Rattle.mm_record.proofs.Offers.{by_rows}
