@@ -4,7 +4,6 @@ use Rattle.std.specs.Prelude.{is_ok}
 use Rattle.std.proofs.lemmas.Bool.{eq-eqb}
 use Rattle.std.proofs.lemmas.Bool.Decides.{eqb_tells}
 use Rattle.std.proofs.lemmas.List.{append-nil, drop_more, map-append, take_rest}
-use Rattle.std.proofs.lemmas.List.Elements.{All-push}
 use Rattle.std.proofs.lemmas.List.Quantifiers.{Any-push}
 use Rattle.mm_base.specs.declared.rows.RouteRow.{RouteRow}
 use Rattle.mm_packet.specs.Packet.{SpacePacket}
@@ -15,7 +14,6 @@ use Rattle.mm_desk.specs.declared.fault.Fault.{Fault}
 use Rattle.mm_desk.specs.declared.reply.Offered.{Offered}
 use Rattle.mm_desk.specs.declared.reply.Returned.{Returned}
 use Rattle.mm_desk.specs.declared.reply.Reply.TheVariants as reply
-use Rattle.mm_desk.specs.Offers.{IsTaken}
 use Rattle.mm_desk.specs.Offers.{asked as asked_in}
 use Rattle.mm_desk.specs.Runs.{entry}
 use Rattle.mm_shared.specs.Stores.{list_at, end_of, id_at}
@@ -63,17 +61,6 @@ module _ (e : RecordingContext) (old new : PortView) (index : ℕ) (p : SpacePac
           (rw (eq-eqb index index refl, list_here old index (Offer e.now p) (reply.Offered answer)) one)
       by_index (inr other) =
           rw (other.0, list_there old index k (Offer e.now p) (reply.Offered answer) (λ same. other.1 (sym same))) (stays whole (list_at old k))
-
-  -- one that is not refused
-  pub offer_taken : {T : Type 0} (x : T) (o : Offered) → new ≡ with_call old index (Offer e.now p) (reply.Offered (Ok o)) → Offers e (offer_at e p index) old new (Ok x)
-  offer_taken x o told = record {
-    end = ap end_of told;
-    lists = λ k within. goes_by_one (Ok o) told true (record {
-      all = map-append (λ (e : Entry). e.event) (list_at old index) (call (Ok o) ∷ []);
-      taken = λ taken. All-push (λ (e : Entry). IsTaken e.event e.reply) (list_at old index) (call (Ok o)) taken tt;
-    }) k;
-    reason = tt;
-  }
 
   -- one that is refused is in the list too, and is the reason
   pub offer_refused : {T : Type 0} (back : Returned) → new ≡ with_call old index (Offer e.now p) (reply.Offered (Err back)) → index < length e.ids

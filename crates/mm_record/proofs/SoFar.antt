@@ -1,5 +1,5 @@
 -- A recorder at work: what its source gave so far is recorded.
-use Rattle.std.proofs.Common.{◌≡◌, ◌≢◌, ℕ, ◌<◌, List, [], ◌∷◌, ◌++◌, length, Option, Some, None, Ok, Err, refl, sym, subst, ap, ◌∙◌, append_assoc, arith}
+use Rattle.std.proofs.Common.{◌≡◌, ◌≢◌, ℕ, ◌<◌, List, [], ◌∷◌, ◌++◌, length, Option, Some, Ok, Err, refl, sym, subst, ap, ◌∙◌, append_assoc, arith}
 use Rattle.std.specs.Option.{option_to_list}
 use Rattle.mm_packet.specs.Packet.{SpacePacket}
 use Rattle.mm_desk.specs.declared.entry.Entry.{Entry}
@@ -41,22 +41,6 @@ module _ (e : RecordingContext) (before mid after : Supply) (port : PortView) (s
 
   others_now : (given : Option SpacePacket) → Gave e.step given mid after → (t : ℕ) → t ≢ e.step → after t ≡ before t
   others_now given gives t other = gives.others t other ∙ so_far.others t other
-
-  -- the source gives no more
-  pub ran_whole : Gave e.step None mid after → HasRun e before after None port
-  ran_whole gives = (
-    so_far.gave,
-    record {
-      is = record {
-        order = order_now None gives;
-        others = others_now None gives;
-        whole = (sym gives.packet ∙ gives.none, so_far.asked_are);
-        partly = tt;
-      };
-      taken = so_far.taken;
-      reason = tt;
-    },
-  )
 
   module _ (p : SpacePacket) (gives : Gave e.step (Some p) mid after) (new : PortView) where
     order_more : before e.step ≡ (so_far.gave ++ p ∷ []) ++ after e.step

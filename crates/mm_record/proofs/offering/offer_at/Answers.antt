@@ -3,12 +3,8 @@ use Rattle.std.proofs.lemmas.List.{length-map}
 use Rattle.mm_shared.specs.declared.label.StoreLabel.{StoreLabel}
 use Rattle.mm_shared.specs.Stores.{ids_of}
 use Rattle.mm_record.specs.Offering.{step_of}
-use Rattle.mm_record.proofs.Adding.{offer_taken, offer_refused}
+use Rattle.mm_record.proofs.Adding.{offer_refused}
 use Rattle.mm_record.proofs.offering.offer_at.Goals as goal
-
-pub returns-in-Ok : goal.returns-in-Ok
-returns-in-Ok g c =
-    record { offers = offer_taken (step_of c.args.context.now) c.args.port.now _ c.args.index c.args.packet _ _ c.in-Ok.ensures.called }
 
 pub returns : goal.returns
 returns g c =

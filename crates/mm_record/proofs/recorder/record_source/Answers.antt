@@ -1,7 +1,7 @@
 use Rattle.std.proofs.Common.{rules, ◌≡◌, Some, refl, ◌∙◌}
 use Rattle.std.specs.Result.{result_err}
 use Rattle.mm_record.specs.Offering.{step_of}
-use Rattle.mm_record.proofs.SoFar.{so_far_start, so_far_more, ran_whole, ran_partly}
+use Rattle.mm_record.proofs.SoFar.{so_far_start, so_far_more, ran_partly}
 use Rattle.mm_record.proofs.recorder.record_source.Goals as goal
 
 pub loop-init : goal.loop-init
@@ -32,11 +32,3 @@ returns-in_err-offer_packet-clause-run g c = λ last leads.
     c.offer_packet.new.port fault c.in_err-offer_packet.ensures.offers in
     let failed : result_err c.from_residual.result ≡ Some fault = search rules in
     (before.0, rw failed partly)
-
-pub returns-in_default-clause-run : goal.returns-in_default-clause-run
-returns-in_default-clause-run g c = λ last leads.
-    let before = c.loop.invariant.so_far last (c.in_default.ensures.back last leads) in (
-      before.0,
-      ran_whole (step_of c.args.context.now) _ (g.S.AnySource.until c.loop.source last) (g.S.AnySource.until c.next_packet.new.self last) _ before.1
-          (c.in_default.ensures.gave last leads),
-    )
