@@ -1,7 +1,6 @@
 -- The calls through a port go on, store by store.
 use Rattle.std.proofs.Common.{◌≡◌, ◌≢◌, ◌⊎◌, inl, inr, ℕ, ◌-◌, ◌<◌, ◌≤◌, Bool, true, false, cond, eqb, List, [], ◌∷◌, ◌++◌, length, get_or, take, drop, map, filter, bytes_eq, Result, Ok, Err, refl, sym, subst, ap, ◌∙◌, append_assoc}
 use Rattle.std.specs.Prelude.{is_ok}
-use Rattle.std.proofs.lemmas.Bool.{eq-eqb}
 use Rattle.std.proofs.lemmas.Bool.Decides.{eqb_tells}
 use Rattle.std.proofs.lemmas.List.{append-nil, drop_more, map-append, take_rest}
 use Rattle.std.proofs.lemmas.List.Quantifiers.{Any-push}
@@ -11,22 +10,16 @@ use Rattle.mm_desk.specs.declared.entry.Entry.{Entry}
 use Rattle.mm_desk.specs.declared.event.Event.{Event}
 use Rattle.mm_desk.specs.declared.event.Event.TheVariants.{Offer}
 use Rattle.mm_desk.specs.declared.fault.Fault.{Fault}
-use Rattle.mm_desk.specs.declared.reply.Offered.{Offered}
 use Rattle.mm_desk.specs.declared.reply.Returned.{Returned}
 use Rattle.mm_desk.specs.declared.reply.Reply.TheVariants as reply
 use Rattle.mm_desk.specs.Offers.{asked as asked_in}
 use Rattle.mm_desk.specs.Runs.{entry}
 use Rattle.mm_shared.specs.Stores.{list_at, end_of, id_at}
 use Rattle.mm_shared.specs.Views.{PortView, with_call}
-use Rattle.mm_shared.proofs.CallsOn.{list_here, list_there}
-use Rattle.mm_record.specs.Offering.{offer_at, offers_by, ExtendsBy, Goes, Offers}
+use Rattle.mm_shared.proofs.CallsOn.{call_here, call_there}
+use Rattle.mm_record.specs.Offering.{asked, offer_at, offers_by, ExtendsBy, Goes, Offers}
 use Rattle.mm_record.specs.Recorded.{RecordingContext}
 use Rattle.mm_record.specs.Steps.{IsRefusedWith}
-
--- a list that stays goes on by nothing
-stays : (whole : Bool) (xs : List Entry) → Goes whole [] xs xs
-stays true xs = record { all = sym (append-nil (asked_in xs)); taken = λ t. t }
-stays false xs = record { did = []; rest = []; are = refl; asks_are = sym (append-nil (asked_in xs)) }
 
 -- one list of events after another
 goes_after : (whole : Bool) (f g : List Event) (a b c : List Entry) → ExtendsBy f a b → Goes whole g b c → Goes whole (f ++ g) a c
@@ -41,58 +34,32 @@ goes_after false f g a b c one two = record {
   asks_are = two.asks_are ∙ ap (λ (x : List Event). x ++ two.did) one.all ∙ append_assoc (asked_in a) f two.did;
 }
 
--- an offer to the store at an index
-module _ (e : RecordingContext) (old new : PortView) (index : ℕ) (p : SpacePacket) where
-  abbrev call : Result Offered Returned → Entry
-  call answer = entry old.number (Offer e.now p) (reply.Offered answer)
+-- an offer to the store at an index that is refused: it is in the list too, and is the reason
+module _ (e : RecordingContext) (old new : PortView) (index : ℕ) (p : SpacePacket) (back : Returned)
+    (told : new ≡ with_call old index (Offer e.now p) (reply.Offered (Err back))) where
+  abbrev call : Entry
+  call = entry old.number (Offer e.now p) (reply.Offered (Err back))
 
   -- the calls on the store go on by it, and those on the others do not
-  goes_by_one : (answer : Result Offered Returned) → new ≡ with_call old index (Offer e.now p) (reply.Offered answer) → (whole : Bool)
-      → Goes whole (Offer e.now p ∷ []) (list_at old index) (list_at old index ++ call answer ∷ [])
-      → (k : ℕ) → Goes whole (offer_at e p index k) (list_at old k) (list_at new k)
-  goes_by_one answer told whole one k = rw told (by_index (eqb_tells k index))
+  asked_now : (k : ℕ) → asked new k ≡ asked old k ++ offer_at e p index k
+  asked_now k = rw told (by_index (eqb_tells k index))
     where
-      made : PortView
-      made = with_call old index (Offer e.now p) (reply.Offered answer)
+      by_index : ((eqb k index ≡ true) × (k ≡ index)) ⊎ ((eqb k index ≡ false) × (k ≢ index))
+          → asked (with_call old index (Offer e.now p) (reply.Offered (Err back))) k ≡ asked old k ++ offer_at e p index k
+      by_index (inl same) = rw same.0 (ap asked_in (call_here k old.list index call (sym same.1)) ∙ map-append (λ (e : Entry). e.event) (list_at old k) (call ∷ []))
+      by_index (inr other) = rw other.0 (ap asked_in (call_there k old.list index call (λ same. other.1 (sym same))) ∙ sym (append-nil (asked old k)))
 
-      by_index : ((eqb k index ≡ true) × (k ≡ index)) ⊎ ((eqb k index ≡ false) × (k ≢ index)) → Goes whole (offer_at e p index k) (list_at old k) (list_at made k)
-      by_index (inl same) =
-          subst (λ (j : ℕ). Goes whole (offer_at e p index j) (list_at old j) (list_at made j)) (sym same.1)
-          (rw (eq-eqb index index refl, list_here old index (Offer e.now p) (reply.Offered answer)) one)
-      by_index (inr other) =
-          rw (other.0, list_there old index k (Offer e.now p) (reply.Offered answer) (λ same. other.1 (sym same))) (stays whole (list_at old k))
-
-  -- one that is refused is in the list too, and is the reason
-  pub offer_refused : {T : Type 0} (back : Returned) → new ≡ with_call old index (Offer e.now p) (reply.Offered (Err back)) → index < length e.ids
-      → Offers {T = T} e (offer_at e p index) old new (Err back.fault)
-  offer_refused back told within = record {
+  pub offer_refused : {T : Type 0} → index < length e.ids → Offers {T = T} e (offer_at e p index) old new (Err back.fault)
+  offer_refused within = record {
     end = ap end_of told;
-    lists = λ k within. goes_by_one (Err back) told false (record {
-      did = Offer e.now p ∷ [];
-      rest = [];
-      are = refl;
-      asks_are = map-append (λ (e : Entry). e.event) (list_at old index) (call (Err back) ∷ []);
-    }) k;
+    lists = λ k inside. record { did = offer_at e p index k; rest = []; are = sym (append-nil (offer_at e p index k)); asks_are = asked_now k };
     reason = inr (record {
       index = index;
       within = within;
-      refused = rw (told, list_here old index (Offer e.now p) (reply.Offered (Err back)))
-          (Any-push (λ (e : Entry). IsRefusedWith back.fault e.event e.reply) (list_at old index) (call (Err back)) refl);
+      refused = rw (told, call_here index old.list index call refl)
+          (Any-push (λ (e : Entry). IsRefusedWith back.fault e.event e.reply) (list_at old index) call refl);
     });
   }
-
--- the same offers in other words
-pub offers_same : {T : Type 0} (e : RecordingContext) (r : Result T Fault) (f g : ℕ → List Event) (a b : PortView) → ((k : ℕ) → k < length e.ids → f k ≡ g k)
-    → Offers e f a b r → Offers e g a b r
-offers_same e r f g a b same one = record {
-  end = one.end;
-  lists = λ k within. subst (λ (events : List Event). Goes (is_ok r) events (list_at a k) (list_at b k)) (same k within) (one.lists k within);
-  reason = one.reason;
-}
-
--- a port that stays, where nothing is to be offered
-pub offers_none : {T : Type 0} (e : RecordingContext) (x : T) (f : ℕ → List Event) (a : PortView) → ((k : ℕ) → k < length e.ids → [] ≡ f k) → Offers e f a a (Ok x)
-offers_none e x f a none = offers_same e (Ok x) (λ k. []) f a a none (record { end = refl; lists = λ k within. stays true (list_at a k); reason = tt })
 
 -- the first row and the others
 pub first_row : (rows : List RouteRow) (row : RouteRow) → 1 ≤ length rows → row ≡ get_or rows 0 row → rows ≡ row ∷ take (length rows - 1) (drop 1 rows)
@@ -134,7 +101,3 @@ module _ (e : RecordingContext) (p : SpacePacket) where
         };
     reason = one.reason;
   }
-
--- a row that leads to none of the stores
-pub row_nowhere : (e : RecordingContext) (p : SpacePacket) (row : RouteRow) (k : ℕ) → bytes_eq (id_at e.ids k) row.store ≡ false → [] ≡ offers_by e p (row ∷ []) k
-row_nowhere e p row k none = rw none refl

@@ -1,37 +1,20 @@
 -- Recorders of two groups, one after the other, and what each did until its source is as it will be later.
-use Rattle.std.proofs.Common.{◌∙◌, ◌≡◌, ℕ, List, [], ◌∷◌, ◌++◌, length, get_or, map, All, Option, None, refl, sym, subst, ap, length-append, arith}
+use Rattle.std.proofs.Common.{◌∙◌, ◌≡◌, ℕ, List, [], ◌∷◌, ◌++◌, length, get_or, map, All, Option, None, refl, sym, subst, ap, arith}
 use Rattle.std.specs.List.{AllZip}
 use Rattle.std.proofs.Math.ListN.{set}
 use Rattle.std.proofs.lemmas.List.{map-append, nil_from_length}
 use Rattle.std.proofs.lemmas.List.Elements.{All-append, All-cons, All-head, All-nil, All-tail}
-use Rattle.mm_base.proofs.Pairs.{All-back, All-front}
 use Rattle.mm_desk.specs.declared.fault.Fault.{Fault}
 use Rattle.mm_packet.specs.Packet.{SpacePacket}
 use Rattle.mm_shared.specs.declared.label.StoreLabel.{StoreLabel}
 use Rattle.mm_shared.specs.Stores.{ids_of, end_of, AreNamed, AreWorkers, IsFresh}
 use Rattle.mm_shared.specs.Views.{Origin, PortView, StoresView}
-use Rattle.mm_record.specs.Offering.{asked, MayOffer}
+use Rattle.mm_record.specs.Offering.{asked}
 use Rattle.mm_record.specs.Recorded.{RecordingContext}
 use Rattle.mm_record.specs.Supplies.{Supply, supplies}
 use Rattle.mm_record.specs.Recorders.{HasOffered, HasRunUntil, HaveRun, MayRecord, Recorder, is_worse}
 use Rattle.mm_record.specs.Steps.{RecorderRun, IsWhy}
 use Rattle.mm_record.proofs.Whys.{why_none, why_one, why_both}
-
--- two groups of recorders may record where both together may
-pub may_both : {S : Type 0} (labels : List StoreLabel) (stores : StoresView) (ss us : List S) (ws xs : List PortView) → length ss ≡ length ws
-    → MayRecord labels stores (ss ++ us) (ws ++ xs) → MayRecord labels stores ss ws × MayRecord labels stores us xs
-may_both labels stores ss us ws xs same may = (
-  record {
-    same = sym same;
-    may = All-front (λ w. MayOffer labels stores w.of) ws xs may.may;
-    fresh = All-front IsFresh ws xs may.fresh;
-  },
-  record {
-    same = omega (arith, may.same, length-append ss us, length-append ws xs, same);
-    may = All-back (λ w. MayOffer labels stores w.of) ws xs may.may;
-    fresh = All-back IsFresh ws xs may.fresh;
-  },
-)
 
 -- workers of stores that were opened, one for each source, may record where no two stores have one identifier
 pub may_of : {S : Type 0} (labels : List StoreLabel) (stores : StoresView) (sources : List S) (workers : List PortView) → AreNamed (ids_of labels)

@@ -1,8 +1,7 @@
 use Rattle.std.proofs.Common.{rules, ◌≡◌, Err, sym, arith}
-use Rattle.std.proofs.lemmas.List.{length-map}
-use Rattle.mm_shared.specs.declared.label.StoreLabel.{StoreLabel}
+use Rattle.std.proofs.lemmas.Grind.{common_steps}
 use Rattle.mm_record.specs.Offering.{step_of}
-use Rattle.mm_record.proofs.Adding.{first_row, offers_none, row_after, row_ends, row_nowhere}
+use Rattle.mm_record.proofs.Adding.{first_row, row_after, row_ends}
 use Rattle.mm_record.proofs.Runs.{only}
 use Rattle.mm_record.proofs.offering.+offer_routed.Goals as goal
 
@@ -15,13 +14,9 @@ returns-in_err-offer_copy-in-len1-up g t c =
 
 pub returns-in-None : goal.returns-in-None
 returns-in-None g t c =
-    let e = step_of c.args.context.now in
-    let last = c.last-item.result in
-    let rows = only c.args.rows.now last (omega arith) (sym c.last-item.is) in
-    record {
-      offers = rw rows (offers_none e tt _ c.args.port.now (λ k within.
-          row_nowhere e c.args.packet last k (c.in-None.ensures.none k (omega (arith, within, length-map c.args.context.now.labels.now (λ (s : StoreLabel). s.id))))));
-    }
+    let rows = only c.args.rows.now c.last-item.result (omega arith) (sym c.last-item.is) in
+    let none = c.in-None.ensures.none in
+    rw rows (grind (arith, common_steps))
 
 pub returns-in_ok-offer_copy-in-len1-up : goal.returns-in_ok-offer_copy-in-len1-up
 returns-in_ok-offer_copy-in-len1-up g t c =
