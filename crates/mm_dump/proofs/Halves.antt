@@ -1,123 +1,88 @@
 -- Workers side by side, in two halves.
-use Rattle.std.proofs.Common.{◌≡◌, ℕ, ◌<◌, List, [], ◌∷◌, ◌++◌, length, get_or, set, All, refl, sym, ap, subst, ◌∙◌, arith, length-append}
-use Rattle.std.specs.List.{AllZip}
+use Rattle.std.proofs.Common.{◌≡◌, ℕ, ◌-◌, ◌<◌, ◌^◌, List, [], ◌∷◌, ◌++◌, length, get_or, set, map, All, refl, sym, ap, subst, ◌∙◌, arith, length-append}
 use Rattle.std.specs.Prelude.{Option}
-use Rattle.std.proofs.lemmas.List.Elements.{All-nil, All-cons, All-head, All-tail}
+use Rattle.std.proofs.lemmas.List.{map-append, set-get_or}
+use Rattle.std.proofs.lemmas.List.Elements.{All-append, All-cons, All-nil}
 use Rattle.crossbeam_queue.specs.declared.array_queue.Doing.{Doing}
 use Rattle.crossbeam_queue.specs.declared.array_queue.Slotted.{Slotted}
+use Rattle.mm_base.proofs.Pairs.{All-front, All-back}
 use Rattle.mm_shared.specs.declared.label.StoreLabel.{StoreLabel}
 use Rattle.mm_shared.specs.Views.{PortView, StoresView}
 use Rattle.mm_dump.specs.declared.dumper.DumpWorker.{DumpWorker}
 use Rattle.mm_dump.specs.declared.order.Order.{Order}
 use Rattle.mm_dump.specs.declared.queue.QueueView.{QueueView}
 use Rattle.mm_dump.specs.Sending.{Sent}
-use Rattle.mm_dump.specs.Workers.{Sided, side, sided, AreReady, IsReady}
+use Rattle.mm_dump.specs.Steps.{IsHired, IsBack}
+use Rattle.mm_dump.specs.Workers.{AllWorked, AreReady, HasWorked, IsNewPort, Work}
 
--- what holds of each element of two lists
-pub all_left : {X : Type 0} (P : X → Type 0) (xs ys : List X) → All P (xs ++ ys) → All P xs
-all_left P [] ys all = All-nil P
-all_left P (x ∷ xs) ys all = All-cons P x xs (All-head P x (xs ++ ys) all) (all_left P xs ys (All-tail P x (xs ++ ys) all))
+-- what holds of each element of a list holds of each of its two parts
+parts : {X : Type 0} (P : X → Type 0) (xs ys zs : List X) → zs ≡ xs ++ ys → All P zs → All P xs × All P ys
+parts P xs ys zs are all = let both = subst (All P) are all in (All-front P xs ys both, All-back P xs ys both)
 
-pub all_right : {X : Type 0} (P : X → Type 0) (xs ys : List X) → All P (xs ++ ys) → All P ys
-all_right P [] ys all = all
-all_right P (x ∷ xs) ys all = all_right P xs ys (All-tail P x (xs ++ ys) all)
+-- what is made of the elements of two parts
+both_mapped : {X Y : Type 0} (f : X → Y) (xs ys : List X) (low high all : List Y) → map f xs ≡ low → map f ys ≡ high → all ≡ low ++ high → map f (xs ++ ys) ≡ all
+both_mapped f xs ys low high all one two are = map-append f xs ys ∙ (λ i. one i ++ two i) ∙ sym are
 
--- two lists that are related, and two more
-pub all_zip_append : {X Y : Type 0} (R : X → Y → Type 0) (xs xs' : List X) (ys ys' : List Y) → AllZip R xs ys → AllZip R xs' ys' → AllZip R (xs ++ xs') (ys ++ ys')
-all_zip_append R [] xs' [] ys' one two = two
-all_zip_append R [] xs' (y ∷ ys) ys' one two = absurd one
-all_zip_append R (x ∷ xs) xs' [] ys' one two = absurd one
-all_zip_append R (x ∷ xs) xs' (y ∷ ys) ys' one two = (one.0, all_zip_append R xs xs' ys ys' one.1 two)
+-- links and ports in two parts
+module _ {L Q A : Type 0} (sent : L → List Sent) (failed : L → ℕ) (queue : Slotted (Option ℕ) (Doing ℕ QueueView) Q A)
+    (links low_links high_links : List L) (ports low_ports high_ports : List PortView) (links_are : links ≡ low_links ++ high_links) (ports_are : ports ≡ low_ports ++ high_ports) where
+  -- their workers are ready
+  pub both_ready : (stores : StoresView) (labels : List StoreLabel) (orders : List Order) (workers low_workers high_workers : List DumpWorker) → workers ≡ low_workers ++ high_workers
+      → AreReady sent failed queue stores labels orders links ports workers
+      → length low_ports ≡ length low_links → length low_workers ≡ length low_links → 0 < length low_links → 0 < length high_links
+      → AreReady sent failed queue stores labels orders low_links low_ports low_workers × AreReady sent failed queue stores labels orders high_links high_ports high_workers
+  both_ready stores labels orders workers low_workers high_workers workers_are ready ports_same workers_same some_low some_high =
+      let new = parts (IsNewPort stores) low_ports high_ports ports ports_are ready.new_ports in
+      let hired = parts (IsHired queue) low_workers high_workers workers workers_are ready.hired in
+      let room = parts (λ (l : L). failed l < 2 ^ 64 - 1) low_links high_links links links_are ready.room in
+      let links_count = ap length links_are ∙ length-append low_links high_links in
+      let ports_count = ap length ports_are ∙ length-append low_ports high_ports in
+      let workers_count = ap length workers_are ∙ length-append low_workers high_workers in (
+        record { some = some_low; ports_count = ports_same; workers_count = workers_same; fit = ready.fit; new_ports = new.0; hired = hired.0; room = room.0 },
+        record {
+          some = some_high;
+          ports_count = omega (arith, ready.ports_count, ports_same, links_count, ports_count);
+          workers_count = omega (arith, ready.workers_count, workers_same, links_count, workers_count);
+          fit = ready.fit;
+          new_ports = new.1;
+          hired = hired.1;
+          room = room.1;
+        },
+      )
 
--- workers of two halves, with their links and their ports
-pub sided_append : {L : Type 0} (ls ms : List L) (bs bs' : List PortView) (cs cs' : List DumpWorker) → length bs ≡ length ls → length cs ≡ length ls
-    → sided (ls ++ ms) (bs ++ bs') (cs ++ cs') ≡ sided ls bs cs ++ sided ms bs' cs'
-sided_append [] ms [] bs' [] cs' one two = refl
-sided_append [] ms [] bs' (c ∷ cs) cs' one two = absurd (omega arith)
-sided_append [] ms (b ∷ bs) bs' cs cs' one two = absurd (omega arith)
-sided_append (a ∷ ls) ms [] bs' cs cs' one two = absurd (omega arith)
-sided_append (a ∷ ls) ms (b ∷ bs) bs' [] cs' one two = absurd (omega arith)
-sided_append (a ∷ ls) ms (b ∷ bs) bs' (c ∷ cs) cs' one two =
-    let rest = sided_append ls ms bs bs' cs cs' (omega arith) (omega arith) in
-    λ i. side a b c ∷ rest i
+  -- they have worked
+  pub both_worked : (ids : List (List ℕ)) (orders : List Order) (links' high_links' : List L) (ports' high_ports' : List PortView) (workers' high_workers' : List DumpWorker)
+      → AllWorked sent failed queue ids orders low_links links' low_ports ports' workers' → AllWorked sent failed queue ids orders high_links high_links' high_ports high_ports' high_workers'
+      → AllWorked sent failed queue ids orders links (links' ++ high_links') ports (ports' ++ high_ports') (workers' ++ high_workers')
+  both_worked ids orders links' high_links' ports' high_ports' workers' high_workers' low high = record {
+    works = low.works ++ high.works;
+    each = All-append (HasWorked sent failed ids orders) low.works high.works low.each high.each;
+    back = All-append (λ (w : Work L). IsBack queue w.worker) low.works high.works low.back high.back;
+    old_links_are = both_mapped (λ (w : Work L). w.old_link) low.works high.works low_links high_links links low.old_links_are high.old_links_are links_are;
+    new_links_are = both_mapped (λ (w : Work L). w.new_link) low.works high.works links' high_links' _ low.new_links_are high.new_links_are refl;
+    old_ports_are = both_mapped (λ (w : Work L). w.old_port) low.works high.works low_ports high_ports ports low.old_ports_are high.old_ports_are ports_are;
+    new_ports_are = both_mapped (λ (w : Work L). w.new_port) low.works high.works ports' high_ports' _ low.new_ports_are high.new_ports_are refl;
+    workers_are = both_mapped (λ (w : Work L). w.worker) low.works high.works workers' high_workers' _ low.workers_are high.workers_are refl;
+  }
 
-module _ {L Q A : Type 0} (sent : L → List Sent) (failed : L → ℕ) (queue : Slotted (Option ℕ) (Doing ℕ QueueView) Q A) (stores : StoresView) (labels : List StoreLabel) (orders : List Order) where
-  -- the halves are ready
-  module _ (links low_links high_links : List L) (ports low_ports high_ports : List PortView) (workers low_workers high_workers : List DumpWorker)
-      (ready : AreReady sent failed queue stores labels orders links ports workers) (links_are : links ≡ low_links ++ high_links) (ports_are : ports ≡ low_ports ++ high_ports)
-      (workers_are : workers ≡ low_workers ++ high_workers) (ports_same : length low_ports ≡ length low_links) (workers_same : length low_workers ≡ length low_links)
-      (some_low : 0 < length low_links) (some_high : 0 < length high_links) where
-    each : All (IsReady sent failed queue stores) (sided low_links low_ports low_workers ++ sided high_links high_ports high_workers)
-    each =
-        let at : sided links ports workers ≡ sided (low_links ++ high_links) (low_ports ++ high_ports) (low_workers ++ high_workers) = λ i. sided (links_are i) (ports_are i) (workers_are i) in
-        subst (λ (ss : List (Sided L)). All (IsReady sent failed queue stores) ss) (at ∙ sided_append low_links high_links low_ports high_ports low_workers high_workers ports_same workers_same) ready.each
+-- a list of one element, where another takes its place
+sole : {X : Type 0} (xs : List X) (x : X) → length xs ≡ 1 → x ∷ [] ≡ set xs 0 x
+sole [] x one = absurd (omega (arith, one))
+sole (y ∷ []) x one = refl
+sole (y ∷ z ∷ xs) x one = absurd (omega (arith, one))
 
-    low_ready : AreReady sent failed queue stores labels orders low_links low_ports low_workers
-    low_ready = record {
-      some = some_low;
-      ports_count = ports_same;
-      workers_count = workers_same;
-      fit = ready.fit;
-      each = all_left (IsReady sent failed queue stores) (sided low_links low_ports low_workers) (sided high_links high_ports high_workers) each;
-    }
-
-    high_ready : AreReady sent failed queue stores labels orders high_links high_ports high_workers
-    high_ready = record {
-      some = some_high;
-      ports_count = omega (
-        arith,
-        ready.ports_count,
-        ports_same,
-        ap length links_are,
-        ap length ports_are,
-        length-append low_links high_links,
-        length-append low_ports high_ports,
-      );
-      workers_count = omega (
-        arith,
-        ready.workers_count,
-        workers_same,
-        ap length links_are,
-        ap length workers_are,
-        length-append low_links high_links,
-        length-append low_workers high_workers,
-      );
-      fit = ready.fit;
-      each = all_right (IsReady sent failed queue stores) (sided low_links low_ports low_workers) (sided high_links high_ports high_workers) each;
-    }
-
-    pub both_ready : AreReady sent failed queue stores labels orders low_links low_ports low_workers × AreReady sent failed queue stores labels orders high_links high_ports high_workers
-    both_ready = (low_ready, high_ready)
-
--- the first of workers
-pub first_of : {L : Type 0} (P : Sided L → Type 0) (links : List L) (ports : List PortView) (workers : List DumpWorker) (a : L) (b : PortView) (c : DumpWorker)
-    → length links ≡ 1 → length ports ≡ length links → length workers ≡ length links → All P (sided links ports workers)
-    → P (side (get_or links 0 a) (get_or ports 0 b) (get_or workers 0 c))
-first_of P [] ports workers a b c one two three all = absurd (omega arith)
-first_of P (x ∷ links) [] workers a b c one two three all = absurd (omega arith)
-first_of P (x ∷ links) (y ∷ ports) [] a b c one two three all = absurd (omega arith)
-first_of P (x ∷ links) (y ∷ ports) (z ∷ workers) a b c one two three all = All-head P (side x y z) (sided links ports workers) all
-
--- one worker alone
-pub one_of : {L : Type 0} (R : Sided L → Sided L → Type 0) (links : List L) (ports : List PortView) (workers : List DumpWorker) (a d : L) (b e : PortView) (c f : DumpWorker)
-    → length links ≡ 1 → length ports ≡ length links → length workers ≡ length links
-    → R (side (get_or links 0 a) (get_or ports 0 b) (get_or workers 0 c)) (side d e f)
-    → AllZip R (sided links ports workers) (sided (set links 0 d) (set ports 0 e) (set workers 0 f))
-one_of R [] ports workers a d b e c f one two three r = absurd (omega arith)
-one_of R (x ∷ links) [] workers a d b e c f one two three r = absurd (omega arith)
-one_of R (x ∷ links) (y ∷ ports) [] a d b e c f one two three r = absurd (omega arith)
-one_of R (x ∷ y ∷ links) (z ∷ ports) (w ∷ workers) a d b e c f one two three r = absurd (omega arith)
-one_of R (x ∷ []) (y ∷ ports) (z ∷ workers) a d b e c f one two three r = (r, tt)
-
--- workers of two halves, before and after
-pub halves_zip : {L : Type 0} (R : Sided L → Sided L → Type 0) (links a b a' b' : List L) (ports c d c' d' : List PortView) (workers e f e' f' : List DumpWorker)
-    → links ≡ a ++ b → ports ≡ c ++ d → workers ≡ e ++ f → length c ≡ length a → length e ≡ length a → length c' ≡ length a' → length e' ≡ length a'
-    → AllZip R (sided a c e) (sided a' c' e') → AllZip R (sided b d f) (sided b' d' f')
-    → AllZip R (sided links ports workers) (sided (a' ++ b') (c' ++ d') (e' ++ f'))
-halves_zip {L} R links a b a' b' ports c d c' d' workers e f e' f' links_are ports_are workers_are one two three four low high =
-    let olds : sided links ports workers ≡ sided a c e ++ sided b d f =
-    (λ i. sided (links_are i) (ports_are i) (workers_are i)) ∙ sided_append a b c d e f one two in
-    let news : sided (a' ++ b') (c' ++ d') (e' ++ f') ≡ sided a' c' e' ++ sided b' d' f' = sided_append a' b' c' d' e' f' three four in
-    subst (λ (ss : List (Sided L)). AllZip R ss (sided (a' ++ b') (c' ++ d') (e' ++ f'))) (sym olds)
-    (subst (λ (ss : List (Sided L)). AllZip R (sided a c e ++ sided b d f) ss) (sym news)
-    (all_zip_append R (sided a c e) (sided b d f) (sided a' c' e') (sided b' d' f') low high))
+-- one worker alone has worked
+pub one_worked : {L Q A : Type 0} (sent : L → List Sent) (failed : L → ℕ) (queue : Slotted (Option ℕ) (Doing ℕ QueueView) Q A) (ids : List (List ℕ)) (orders : List Order) (w : Work L)
+    (links : List L) (ports : List PortView) (workers : List DumpWorker) → HasWorked sent failed ids orders w → IsBack queue w.worker → length links ≡ 1 → length ports ≡ length links → length workers ≡ length links
+    → (link : L) → w.old_link ≡ get_or links 0 link → (port : PortView) → w.old_port ≡ get_or ports 0 port
+    → AllWorked sent failed queue ids orders links (set links 0 w.new_link) ports (set ports 0 w.new_port) (set workers 0 w.worker)
+one_worked {L} sent failed queue ids orders w links ports workers worked back one ports_same workers_same link link_is port port_is = record {
+  works = w ∷ [];
+  each = All-cons (HasWorked sent failed ids orders) w [] worked (All-nil (HasWorked sent failed ids orders));
+  back = All-cons (λ (v : Work L). IsBack queue v.worker) w [] back (All-nil (λ (v : Work L). IsBack queue v.worker));
+  old_links_are = sole links w.old_link one ∙ ap (set links 0) link_is ∙ set-get_or links 0 link;
+  new_links_are = sole links w.new_link one;
+  old_ports_are = sole ports w.old_port (ports_same ∙ one) ∙ ap (set ports 0) port_is ∙ set-get_or ports 0 port;
+  new_ports_are = sole ports w.new_port (ports_same ∙ one);
+  workers_are = sole workers w.worker (workers_same ∙ one);
+}

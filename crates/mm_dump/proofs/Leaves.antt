@@ -1,249 +1,314 @@
 -- Workers that are ready, and what a step's dump leaves once they have ended.
-use Rattle.std.proofs.Common.{◌≡◌, ℕ, List, [], ◌∷◌, ◌++◌, length, map, take, All, refl, sym, ap, subst, ◌∙◌, arith, ◌-◌, ◌<◌, ◌≤◌, ◌^◌, ◌≢◌, AllPairs}
-use Rattle.std.specs.List.{sum_by, range_with_len}
+use Rattle.std.proofs.Common.{◌≡◌, inl, inr, ℕ, ◌+◌, ◌-◌, ◌<◌, ◌≤◌, ◌^◌, ◌==◌, true, List, [], ◌∷◌, ◌++◌, length, get_or, map, filter, take, All, Contains, refl, sym, ap, subst, ◌∙◌, arith}
+use Rattle.std.specs.List.{sum_by, flat_map, range_with_len}
+use Rattle.std.specs.Prelude.{Option, Some, None}
+use Rattle.std.proofs.Math.ListN.{get_or-map}
 use Rattle.std.proofs.Math.Seq.{take-append_seam}
-use Rattle.std.proofs.lemmas.List.{length-map}
-use Rattle.std.proofs.lemmas.List.Elements.{All-map, All-nil, All-cons, All-head, All-tail}
+use Rattle.std.proofs.lemmas.Bool.{cases_lt, ltb-true}
+use Rattle.std.proofs.lemmas.List.{length-map, length-append, length-take, map-append, map-id, append-nil, get_or_append_left}
+use Rattle.std.proofs.lemmas.List.Concat.{flat_map-append, length-flat_map}
+use Rattle.std.proofs.lemmas.List.Elements.{All-append, All-map, All-nil, All-weaker, Contains-get_or, filter-append, filter_passes}
+use Rattle.std.proofs.lemmas.List.Folds.{flat_map-map}
+use Rattle.std.proofs.lemmas.List.FromFn.{length-range_with_len}
+use Rattle.std.proofs.lemmas.List.Sums.{sum_by-append, get_or-le-sum_by}
 use Rattle.std.proofs.lemmas.Simd.{map-map}
-use Rattle.mm_base.proofs.Sums.{sum_by-map}
-use Rattle.mm_desk.specs.declared.held.Held.{Held}
-use Rattle.mm_shared.specs.declared.label.StoreLabel.{StoreLabel}
-use Rattle.mm_shared.specs.Stores.{list_at, lists_at, end_of, all_ends, ids_of, names_of, labels_of, IsFresh, AreNew, states_of, HaveLegalLogs}
-use Rattle.mm_shared.specs.Views.{PortView, StoresView, HasLegalLog}
-use Rattle.mm_dump.specs.declared.dumper.DumpWorker.{DumpWorker}
-use Rattle.mm_dump.specs.Workers.{Sided, sided, IsReady, AreReady, AllWorked, causes_of}
-use Rattle.std.specs.Prelude.{Option, None}
 use Rattle.crossbeam_queue.specs.declared.array_queue.Doing.{Doing}
 use Rattle.crossbeam_queue.specs.declared.array_queue.Slotted.{Slotted}
 use Rattle.crossbeam_queue.specs.Passes.{view}
+use Rattle.mm_base.proofs.Elements.{All-unmapped}
+use Rattle.mm_base.proofs.Sums.{sum_by-map, sum_by-map-filter, sum_by-same, sum_by-add, sum_by-le_each, sum_by-flat_map, sum_by_ones, sum_by_zeros}
+use Rattle.mm_desk.specs.declared.entry.Entry.{Entry}
+use Rattle.mm_desk.specs.declared.held.Held.{Held}
+use Rattle.mm_desk.proofs.Lone.{lone_log}
+use Rattle.mm_desk.specs.Machine.{State}
+use Rattle.mm_desk.specs.Runs.{IsRun, opening_at}
+use Rattle.mm_shared.specs.declared.label.StoreLabel.{StoreLabel}
 use Rattle.mm_shared.specs.declared.stores.OpenStores.{OpenStores}
+use Rattle.mm_shared.specs.Rule.{calls_on}
+use Rattle.mm_shared.specs.Stores.{list_at, lists_at, all_ends, end_of, ids_of, names_of, labels_of, AreNew, states_of, HaveLegalLogs}
+use Rattle.mm_shared.specs.Views.{PortView, StoresView, HasLegalLog}
+use Rattle.mm_dump.specs.declared.dumper.DumpWorker.{DumpWorker}
 use Rattle.mm_dump.specs.declared.order.Order.{Order}
-use Rattle.mm_dump.specs.declared.queue.QueueView.{QueueView}
-use Rattle.mm_dump.specs.Sending.{Sent}
-use Rattle.mm_dump.specs.Steps.{IsHired, IsBack, AreBack}
-use Rattle.mm_desk.specs.Laws.{LoneSeatsAreLogs}
-use Rattle.mm_desk.specs.Runs.{opening_at}
 use Rattle.mm_dump.specs.declared.order.OrderBroken.{OrderBroken}
-use Rattle.mm_dump.specs.Courses.{worst_of}
-use Rattle.mm_dump.specs.Dumped.{CarriesOut}
-use Rattle.mm_dump.specs.Queue.{Tells}
-use Rattle.mm_dump.proofs.Settling.{Gathered, gathered}
-use Rattle.mm_dump.proofs.Settled.{carries_out}
-
--- the links, the ports and the workers alone
-sided_parts : {L : Type 0} (links : List L) (ports : List PortView) (workers : List DumpWorker) → length ports ≡ length links → length workers ≡ length links
-    → (map (λ (s : Sided L). s.link) (sided links ports workers) ≡ links) × (map (λ (s : Sided L). s.port) (sided links ports workers) ≡ ports)
-    × (map (λ (s : Sided L). s.worker) (sided links ports workers) ≡ workers)
-sided_parts [] [] [] one two = (refl, refl, refl)
-sided_parts [] [] (c ∷ workers) one two = absurd (omega arith)
-sided_parts [] (b ∷ ports) workers one two = absurd (omega arith)
-sided_parts (a ∷ links) [] workers one two = absurd (omega arith)
-sided_parts (a ∷ links) (b ∷ ports) [] one two = absurd (omega arith)
-sided_parts (a ∷ links) (b ∷ ports) (c ∷ workers) one two =
-    let rest = sided_parts links ports workers (omega arith) (omega arith) in
-    (λ i. a ∷ rest.0 i, λ i. b ∷ rest.1 i, λ i. c ∷ rest.2 i)
-
-module _ {L : Type 0} (links : List L) (ports : List PortView) (workers : List DumpWorker) (ports_are : length ports ≡ length links) (workers_are : length workers ≡ length links) where
-  pub sided_links : map (λ (s : Sided L). s.link) (sided links ports workers) ≡ links
-  sided_links = (sided_parts links ports workers ports_are workers_are).0
-
-  sided_ports : map (λ (s : Sided L). s.port) (sided links ports workers) ≡ ports
-  sided_ports = (sided_parts links ports workers ports_are workers_are).1
-
-  pub sided_workers : map (λ (s : Sided L). s.worker) (sided links ports workers) ≡ workers
-  sided_workers = (sided_parts links ports workers ports_are workers_are).2
-
-  -- as many workers as links
-  pub sided_length : length (sided links ports workers) ≡ length links
-  sided_length = sym (length-map (sided links ports workers) (λ (s : Sided L). s.link)) ∙ ap length sided_links
-
-  -- the lists of calls of workers at a store, and where their ports are
-  pub sided_lists : (k : ℕ) → map (λ (s : Sided L). list_at s.port k) (sided links ports workers) ≡ lists_at k ports
-  sided_lists k = sym (map-map (λ (p : PortView). list_at p k) (λ (s : Sided L). s.port) (sided links ports workers)) ∙ ap (lists_at k) sided_ports
-
-  pub sided_ends : map (λ (s : Sided L). end_of s.port) (sided links ports workers) ≡ all_ends ports
-  sided_ends = sym (map-map end_of (λ (s : Sided L). s.port) (sided links ports workers)) ∙ ap all_ends sided_ports
-
-  -- a sum over workers, and what holds of each
-  pub sided_sum : (f : DumpWorker → ℕ) → sum_by (λ (s : Sided L). f s.worker) (sided links ports workers) ≡ sum_by f workers
-  sided_sum f = sym (sum_by-map f (λ (s : Sided L). s.worker) (sided links ports workers)) ∙ ap (sum_by f) sided_workers
-
-  pub sided_each : (P : DumpWorker → Type 0) → All (λ (s : Sided L). P s.worker) (sided links ports workers) → All P workers
-  sided_each P each = subst (All P) sided_workers (All-map P (λ (s : Sided L). s.worker) (sided links ports workers) each)
+use Rattle.mm_dump.specs.declared.queue.QueueView.{QueueView}
+use Rattle.mm_dump.specs.Courses.{Course, calls_at, worse, worst_of}
+use Rattle.mm_dump.specs.Dumped.{CarriesOut, MayDump}
+use Rattle.mm_dump.specs.Sending.{Sent}
+use Rattle.mm_dump.specs.Steps.{IsHired, IsBack}
+use Rattle.mm_dump.specs.Workers.{AllWorked, AreReady, HasWorked, causes_of, IsNewPort, IsTried, Work, calls_of, has_order, order_at, past_of}
+use Rattle.mm_dump.proofs.Courses.{cause_of_all, none_broke}
+use Rattle.mm_dump.proofs.Finding.{calls_on-calls_of, find, found_calls, here, lone_list}
+use Rattle.mm_dump.proofs.Ordered.{weighs_first, weight_of}
+use Rattle.mm_dump.proofs.Settled.{HaveEnded, IsLine, Line, all_of, carries_out, flat_all, map_same}
 
 -- stores with the same labels have the same identifiers
 pub same_ids : (opened : List StoreLabel) (stores : List Held) → names_of opened ≡ labels_of stores → ids_of opened ≡ map (λ (h : Held). h.id) stores
-same_ids opened stores same = sym (of_opened opened) ∙ ap (λ (ls : List (List ℕ × ℕ)). map (λ (l : List ℕ × ℕ). l.0) ls) same ∙ of_stores stores
-  where
-    of_opened : (opened : List StoreLabel) → map (λ (l : List ℕ × ℕ). l.0) (names_of opened) ≡ ids_of opened
-    of_opened [] = refl
-    of_opened (s ∷ opened) = let rest = of_opened opened in λ i. s.id ∷ rest i
-
-    of_stores : (stores : List Held) → map (λ (l : List ℕ × ℕ). l.0) (labels_of stores) ≡ map (λ (h : Held). h.id) stores
-    of_stores [] = refl
-    of_stores (h ∷ stores) = let rest = of_stores stores in λ i. h.id ∷ rest i
+same_ids opened stores same =
+    let first : List ℕ × ℕ → List ℕ = λ l. l.0 in
+    sym (map-map first (λ (s : StoreLabel). (s.id, s.channel)) opened) ∙ ap (map first) same ∙ map-map first (λ (h : Held). (h.id, h.channel)) stores
 
 -- a list that was lent whole is back
 pub lent : {X : Type 0} (n : ℕ) (xs rest : List X) → length xs ≡ n → take n (xs ++ rest) ≡ xs
 lent n xs rest same = subst (λ (k : ℕ). take k (xs ++ rest) ≡ xs) same (take-append_seam xs rest)
 
-module _ {L Q A : Type 0} (sent : L → List Sent) (failed : L → ℕ) (queue : Slotted (Option ℕ) (Doing ℕ QueueView) Q A) where
-  -- each worker is ready
-  all_ready : (stores : StoresView) (pushed : ℕ) (links : List L) (ports : List PortView) (workers : List DumpWorker) → pushed ≤ 65536
-      → All (λ (p : PortView). p.of.table ≡ stores.id) ports → All IsFresh ports → All (IsHired queue pushed) workers → All (λ (l : L). failed l < 2 ^ 64 - 1) links
-      → All (IsReady sent failed queue stores) (sided links ports workers)
-  all_ready stores pushed [] ports workers few of fresh hired room = All-nil (IsReady sent failed queue stores)
-  all_ready stores pushed (a ∷ links) [] workers few of fresh hired room = All-nil (IsReady sent failed queue stores)
-  all_ready stores pushed (a ∷ links) (b ∷ ports) [] few of fresh hired room = All-nil (IsReady sent failed queue stores)
-  all_ready stores pushed (a ∷ links) (b ∷ ports) (c ∷ workers) few of fresh hired room =
-      let mine = All-head (IsHired queue pushed) c workers hired in
-      let count : (view c.pass).pushed ≡ pushed = ap (λ (v : QueueView). v.pushed) mine.first in
-      All-cons (IsReady sent failed queue stores) _ (sided links ports workers)
-      (record {
-        of = All-head (λ (p : PortView). p.of.table ≡ stores.id) b ports of;
-        fresh = All-head IsFresh b ports fresh;
-        pass = mine.pass;
-        first = mine.first ∙ (λ i. record { parts = 1; pushed = (sym count) i; taken = [] });
-        few = omega (arith, count, few);
-        spent = mine.spent;
-        room = All-head (λ (l : L). failed l < 2 ^ 64 - 1) a links room;
-      })
-      (all_ready stores pushed links ports workers few (All-tail (λ (p : PortView). p.of.table ≡ stores.id) b ports of) (All-tail IsFresh b ports fresh) (All-tail (IsHired queue pushed) c workers hired)
-      (All-tail (λ (l : L). failed l < 2 ^ 64 - 1) a links room))
+-- the workers of a step are ready
+pub step_ready : {L Q A : Type 0} (sent : L → List Sent) (failed : L → ℕ) (queue : Slotted (Option ℕ) (Doing ℕ QueueView) Q A) (opened : OpenStores) (orders : List Order) (before : List Held)
+    (many : ℕ) (links : List L) (labels : List StoreLabel) (ports : List PortView) (workers : List DumpWorker)
+    → 0 < length links → length links ≡ many → All (λ (l : L). failed l < 2 ^ 64 - 1) links → All (λ (o : Order). o.place < length before) orders → AreNew before many opened
+    → labels ≡ opened.labels.items → ports ≡ opened.workers.items → length workers ≡ many → All (IsHired queue) workers → AreReady sent failed queue opened.stores labels orders links ports workers
+step_ready {L} sent failed queue opened orders before many links labels ports workers some count room places new labels_are ports_are workers_count hired =
+    subst (λ (ls : List StoreLabel). AreReady sent failed queue opened.stores ls orders links ports workers) (sym labels_are)
+    (subst (λ (ps : List PortView). AreReady sent failed queue opened.stores opened.labels.items orders links ps workers) (sym ports_are)
+    (record {
+      some = some;
+      ports_count = new.count ∙ sym count;
+      workers_count = workers_count ∙ sym count;
+      fit = record { labels_are = sym new.are_open.kept.many; within = subst (λ (n : ℕ). All (λ (o : Order). o.place < n) orders) (sym as_many) places };
+      new_ports = λ i d within. record { of = ap (λ e. e.0.table) (new.are_open.workers i d within) ∙ new.are_open.kept.of; fresh = new.fresh i d within };
+      hired = hired;
+      room = room;
+    }))
+  where
+    as_many : length opened.labels.items ≡ length before
+    as_many = sym (length-map opened.labels.items (λ s. (s.id, s.channel))) ∙ ap length new.labels ∙ length-map before (λ h. (h.id, h.channel))
 
-  -- and so are all of a step
-  pub step_ready : (opened : OpenStores) (orders : List Order) (before : List Held) (many : ℕ) (links : List L) (labels : List StoreLabel) (ports : List PortView) (workers : List DumpWorker) (pushed : ℕ)
-      → 0 < length links → length links ≡ many → All (λ (l : L). failed l < 2 ^ 64 - 1) links → All (λ (o : Order). o.place < length before) orders → AreNew before many opened
-      → labels ≡ opened.labels.items → ports ≡ opened.workers.items → length workers ≡ many → All (IsHired queue pushed) workers → pushed ≤ 65536
-      → AreReady sent failed queue opened.stores labels orders links ports workers
-  step_ready opened orders before many links labels ports workers pushed some count room places new labels_are ports_are workers_count hired few =
-      subst (λ (ls : List StoreLabel). AreReady sent failed queue opened.stores ls orders links ports workers) (sym labels_are)
-      (subst (λ (ps : List PortView). AreReady sent failed queue opened.stores opened.labels.items orders links ps workers) (sym ports_are)
-      (record {
-        some = some;
-        ports_count = new.count ∙ sym count;
-        workers_count = workers_count ∙ sym count;
-        fit = record { labels_are = sym new.are_open.kept.many; within = subst (λ (n : ℕ). All (λ (o : Order). o.place < n) orders) (sym as_many) places };
-        each = all_ready opened.stores pushed links opened.workers.items workers few (λ i d within. ap (λ e. e.0.table) (new.are_open.workers i d within) ∙ new.are_open.kept.of) new.fresh hired room;
+-- the link of a worker
+abbrev line_of : {L : Type 0} → Work L → Line L
+line_of w = record { old = w.old_link; new = w.new_link; courses = w.courses; why = w.worker.why; spent = w.worker.spent }
+
+-- a link without a worker
+abbrev idle_line : {L : Type 0} → L → Line L
+idle_line link = record { old = link; new = link; courses = []; why = None; spent = 0 }
+
+-- links without a worker have no cause
+worst-idle : {L : Type 0} (whys : List (Option OrderBroken)) (idle : List L) → worst_of (whys ++ map (λ (x : L). (idle_line x).why) idle) ≡ worst_of whys
+worst-idle [] [] = refl
+worst-idle [] (x ∷ idle) = worst-idle [] idle
+worst-idle (why ∷ whys) idle = ap (worse why) (worst-idle whys idle)
+
+-- the orders at a place among those of workers
+here_of : {L : Type 0} (p : ℕ) (works : List (Work L))
+    → here p (flat_map (λ w. w.courses) works) ≡ flat_map (λ (cs : List Course). cs) (map (λ w. here p w.courses) works)
+here_of p [] = refl
+here_of p (w ∷ works) =
+    filter-append (λ (c : Course). c.order.place == p) w.courses (flat_map (λ v. v.courses) works) ∙ ap (λ (cs : List Course). here p w.courses ++ cs) (here_of p works)
+
+-- a worker took a number at least
+took_some : (why : Option OrderBroken) (courses : List Course) → cause_of_all courses ≡ why → 1 ≤ length courses + past_of why
+took_some None courses cause = omega arith
+took_some (Some broken) [] cause = absurd (cc cause)
+took_some (Some broken) (c ∷ courses) cause = omega arith
+
+module _ {L : Type 0} (sent : L → List Sent) (failed : L → ℕ) (ids : List (List ℕ)) (orders : List Order) (before : List Held) (links : List L) (may : MayDump failed orders before links)
+    (after : List State) (same : length after ≡ length before) (works : List (Work L)) (each : All (HasWorked sent failed ids orders) works)
+    (fresh : All (λ w. w.old_port.list ≡ []) works) (next : ℕ)
+    (total : (weight : ℕ → ℕ) → sum_by weight (range_with_len 0 next) ≡ sum_by (λ (w : Work L). sum_by weight (view w.worker.pass).taken) works)
+    (logs : (p : ℕ) → p < length after → HasLegalLog (map (λ w. list_at w.new_port p) works) (opening_at (states_of before) p) (opening_at after p))
+    (idle : List L) (few : 0 < length idle → length orders ≤ length works) (some : 0 < length orders → 0 < length works) where
+  abbrev all : List Course
+  all = flat_map (λ w. w.courses) works
+
+  abbrev whys : List (Option OrderBroken)
+  whys = map (λ w. w.worker.why) works
+
+  -- the links, those without a worker last
+  abbrev lines : List (Line L)
+  lines = map line_of works ++ map idle_line idle
+
+  lines_are : All (IsLine sent failed ids) lines
+  lines_are =
+      All-append (IsLine sent failed ids) (map line_of works) (map idle_line idle)
+      (All-map (IsLine sent failed ids) line_of works (λ i d inside.
+      let is = each i d inside in
+      record { all = is.shown.all; failures = is.shown.failures; blocks = omega (arith, is.shown.blocks); are = is.are }))
+      (All-map (IsLine sent failed ids) idle_line idle (λ i d inside. record {
+        all = sym (append-nil (sent (get_or idle i d)));
+        failures = omega arith;
+        blocks = refl;
+        are = record { each = All-nil IsTried; early = λ j e within. absurd (omega (arith, within)); cause = refl };
       }))
-    where
-      as_many : length opened.labels.items ≡ length before
-      as_many = sym (length-map opened.labels.items (λ s. (s.id, s.channel))) ∙ ap length new.labels ∙ length-map before (λ h. (h.id, h.channel))
 
-  module _ (ids : List (List ℕ)) (orders : List Order) where
-    -- the ports of all workers are where they were
-    pub ends_same : (olds news : List (Sided L)) → AllWorked sent failed queue ids orders olds news → map (λ (s : Sided L). end_of s.port) news ≡ map (λ (s : Sided L). end_of s.port) olds
-    ends_same [] [] all = refl
-    ends_same [] (new ∷ news) all = absurd all
-    ends_same (old ∷ olds) [] all = absurd all
-    ends_same (old ∷ olds) (new ∷ news) all =
-        let one : end_of new.port ≡ end_of old.port = ap end_of all.0.worked.on.shown.port in
-        let rest = ends_same olds news all.1 in
-        λ i. one i ∷ rest i
+  -- what they weigh
+  weigh : (f : Order → ℕ) → sum_by (λ (c : Course). f c.order) all ≡ sum_by f (take next orders)
+  weigh f =
+      sum_by-flat_map (λ (c : Course). f c.order) (λ w. w.courses) works
+      ∙ sum_by-same (λ (w : Work L). sum_by (λ (c : Course). f c.order) w.courses) (λ (w : Work L). sum_by (weight_of orders f) (view w.worker.pass).taken) works (λ i d inside.
+      let w : Work L = get_or works i d in
+      sym (sum_by-map f (λ (c : Course). c.order) w.courses) ∙ ap (sum_by f) (each i d inside).of ∙ sum_by-map-filter f (order_at orders) (has_order orders) (view w.worker.pass).taken)
+      ∙ sym (total (weight_of orders f)) ∙ weighs_first f orders next
 
-    -- what the workers have when they are back
-    pub all_back : (olds news : List (Sided L)) → AllWorked sent failed queue ids orders olds news → All (λ (s : Sided L). IsBack queue s.worker) news
-    all_back [] [] all = All-nil (λ (s : Sided L). IsBack queue s.worker)
-    all_back [] (new ∷ news) all = absurd all
-    all_back (old ∷ olds) [] all = absurd all
-    all_back (old ∷ olds) (new ∷ news) all =
-        All-cons (λ (s : Sided L). IsBack queue s.worker) new news (record { pass = all.0.pass; part = all.0.parts; bound = all.0.bound }) (all_back olds news all.1)
+  -- each is one of the step's orders
+  ordered : All (λ (c : Course). Contains orders c.order) all
+  ordered = flat_all (λ (c : Course). Contains orders c.order) (λ w. w.courses) works (λ i d inside.
+      let w : Work L = get_or works i d in
+      let of = each i d inside in
+      All-unmapped (Contains orders) (λ (c : Course). c.order) w.courses (subst (All (Contains orders)) (sym of.of)
+      (All-map (Contains orders) (order_at orders) (filter (has_order orders) (view w.worker.pass).taken)
+      (All-weaker (λ k. has_order orders k ≡ true) (λ k. Contains orders (order_at orders k)) (λ k has. Contains-get_or orders k (record { place = 0; amount = 0 }) (ltb-true k (length orders) has))
+      (filter (has_order orders) (view w.worker.pass).taken) (filter_passes (has_order orders) (view w.worker.pass).taken)))))
 
--- what is known once all workers have ended
-pub record HasEndedAll {L Q A : Type 0} (sent : L → List Sent) (failed : L → ℕ) (queue : Slotted (Option ℕ) (Doing ℕ QueueView) Q A) (orders : List Order) (before after : List Held)
-    (links_old links_new : List L) (stores : StoresView) (names : List StoreLabel) (ports_old ports_new : List PortView) (workers_old workers_new : List DumpWorker) (first last : QueueView)
-    (broken : Option OrderBroken) (spent : ℕ) : Type 0 where
-  pub distinct : AllPairs (λ (a b : Order). a.place ≢ b.place) orders
-  pub amounts : All (λ (o : Order). 1 ≤ o.amount) orders
-  pub places : All (λ (o : Order). o.place < length before) orders
-  pub idle : All (λ (o : Order). (opening_at (states_of before) o.place).retrieval ≡ None) orders
-  pub lone : LoneSeatsAreLogs
-  pub labels : labels_of after ≡ labels_of before
-  pub ids : ids_of names ≡ map (λ (h : Held). h.id) before
-  pub ready : AreReady sent failed queue stores names orders links_old ports_old workers_old
-  pub links_after : length links_new ≡ length links_old
-  pub ports_after : length ports_new ≡ length links_new
-  pub workers_after : length workers_new ≡ length links_new
-  pub worked : AllWorked sent failed queue (ids_of names) orders (sided links_old ports_old workers_old) (sided links_new ports_new workers_new)
-  pub logs : HaveLegalLogs ports_new (states_of before) (states_of after)
-  pub back : AreBack workers_new first last
-  pub none : first.taken ≡ []
-  pub whole : last.parts ≡ 1024
-  pub tells : Tells last
-  pub worst : broken ≡ worst_of (causes_of workers_new)
-  pub spent_is : spent ≡ sum_by (λ (w : DumpWorker). w.spent) workers_new
+  -- what a worker's port shows of the store of a place
+  list_is : (p : ℕ) → All (λ w. list_at w.new_port p ≡ calls_at p w.courses) works
+  list_is p i d inside =
+      let w : Work L = get_or works i d in
+      ap (λ (q : PortView). list_at q p) (each i d inside).shown.port ∙ ap (λ (calls : List (ℕ × Entry)). calls_on p (calls ++ calls_of w.courses)) (fresh i d inside)
+      ∙ calls_on-calls_of p w.courses
 
-module _ {L Q A : Type 0} (sent : L → List Sent) (failed : L → ℕ) (queue : Slotted (Option ℕ) (Doing ℕ QueueView) Q A) (orders : List Order) (before after : List Held)
-    (links_old links_new : List L) (stores : StoresView) (names : List StoreLabel) (ports_old ports_new : List PortView) (workers_old workers_new : List DumpWorker) (first last : QueueView)
-    (broken : Option OrderBroken) (spent : ℕ)
-    (h : HasEndedAll sent failed queue orders before after links_old links_new stores names ports_old ports_new workers_old workers_new first last broken spent) where
-  abbrev olds : List (Sided L)
-  olds = sided links_old ports_old workers_old
+  -- all that happened to the store of a place is what the order found there did
+  runs : (p : ℕ) → p < length after → length (here p all) ≤ 1 → IsRun (opening_at (states_of before) p) (find p all).calls (opening_at after p)
+  runs p inside alone =
+      let legal = logs p inside in
+      let calls : List Course → List Entry = flat_map (λ (c : Course). c.calls) in
+      let heres : List (List Course) = map (λ w. here p w.courses) works in
+      let one = lone_list heres (omega (arith, alone, ap length (here_of p works))) in
+      let lists : map (λ w. list_at w.new_port p) works ≡ map calls heres =
+      map_same (λ w. list_at w.new_port p) (λ w. calls_at p w.courses) works (list_is p) ∙ sym (map-map calls (λ w. here p w.courses) works) in
+      let at : (seat : ℕ) → get_or (map (λ w. list_at w.new_port p) works) seat [] ≡ calls (get_or heres seat []) =
+      λ seat. ap (λ (ls : List (List Entry)). get_or ls seat []) lists ∙ get_or-map calls heres seat [] in
+      let log : legal.log ≡ (find p all).calls =
+      lone_log (map (λ w. list_at w.new_port p) works) legal.log one.0 legal.shuffle (λ other within off. at other ∙ ap calls (one.2 other off))
+      ∙ at one.0 ∙ ap calls (one.1 ∙ sym (here_of p works)) ∙ found_calls p all alone in
+      subst (λ (es : List Entry). IsRun (opening_at (states_of before) p) es (opening_at after p)) log legal.run
 
-  abbrev news : List (Sided L)
-  news = sided links_new ports_new workers_new
+  -- how many numbers were taken: those of orders, and one more by each worker of whose orders none broke
+  counts : next ≡ sum_by (λ w. length w.courses + past_of w.worker.why) works
+  counts =
+      sym (sum_by_ones (range_with_len 0 next) ∙ length-range_with_len 0 next) ∙ total (λ k. 1)
+      ∙ sum_by-same (λ (w : Work L). sum_by (λ (k : ℕ). 1) (view w.worker.pass).taken) (λ w. length w.courses + past_of w.worker.why) works
+      (λ i d inside. sum_by_ones (view (get_or works i d).worker.pass).taken ∙ (each i d inside).count)
 
-  abbrev ids : List (List ℕ)
-  ids = ids_of names
-
-  all : Gathered sent failed queue ids orders olds news
-  all = gathered sent failed queue ids orders stores olds news h.ready.each h.worked
-
-  -- the numbers taken are those of all workers
-  total : (weight : ℕ → ℕ) → sum_by weight (range_with_len 0 h.tells.next) ≡ sum_by (λ (s : Sided L). sum_by weight (view s.worker.pass).taken) news
-  total weight =
-      let nothing : sum_by weight first.taken ≡ 0 = ap (sum_by weight) h.none in
+  -- where there is one more, all orders were taken
+  reach : (i : ℕ) → i < length whys → get_or whys i None ≡ None → length orders ≤ next
+  reach i inside none =
       omega (
         arith,
-        h.tells.each h.whole weight,
-        h.back.taken weight,
-        nothing,
-        sided_sum links_new ports_new workers_new h.ports_after h.workers_after (λ (w : DumpWorker). sum_by weight (view w.pass).taken),
+        counts,
+        sum_by-add (λ w. length w.courses) (λ w. past_of w.worker.why) works,
+        length-flat_map (λ (w : Work L). w.courses) works,
+        weigh (λ o. 1),
+        sum_by_ones all,
+        sum_by_ones (take next orders),
+        length-take next orders,
+        sum_by-map past_of (λ (w : Work L). w.worker.why) works,
+        get_or-le-sum_by past_of whys i None inside,
+        ap past_of none,
       )
 
-  logs_at : (k : ℕ) → k < length (states_of after) → HasLegalLog (map (λ (s : Sided L). list_at s.port k) news) (opening_at (states_of before) k) (opening_at (states_of after) k)
-  logs_at k within =
-      subst (λ lists. HasLegalLog lists (opening_at (states_of before) k) (opening_at (states_of after) k)) (sym (sided_lists links_new ports_new workers_new h.ports_after h.workers_after k)) (h.logs k within)
-
-  causes : worst_of (map (λ (s : Sided L). s.worker.why) news) ≡ broken
-  causes =
-      ap worst_of (sym (map-map (λ (w : DumpWorker). w.why) (λ (s : Sided L). s.worker) news) ∙ ap causes_of (sided_workers links_new ports_new workers_new h.ports_after h.workers_after)) ∙ sym h.worst
-
-  old_links : map (λ (s : Sided L). s.link) olds ≡ links_old
-  old_links = sided_links links_old ports_old workers_old h.ready.ports_count h.ready.workers_count
-
-  new_links : map (λ (s : Sided L). s.link) news ≡ links_new
-  new_links = sided_links links_new ports_new workers_new h.ports_after h.workers_after
-
-  inside : All (λ (o : Order). o.place < length (states_of after)) orders
-  inside = subst (λ (n : ℕ). All (λ (o : Order). o.place < n) orders) (sym same) h.places
-    where
-      same : length (states_of after) ≡ length before
-      same =
-          length-map after (λ (s : Held). s.state) ∙ sym (length-map after (λ (s : Held). (s.id, s.channel))) ∙ ap length h.labels
-          ∙ length-map before (λ (s : Held). (s.id, s.channel))
-
-  many : 1 ≤ length news
-  many = omega (arith, sided_length links_new ports_new workers_new h.ports_after h.workers_after, h.links_after, h.ready.some)
-
-  as_many : length olds ≡ length news
-  as_many =
+  -- and where there are as many workers as orders
+  enough : length orders ≤ length works → length orders ≤ next
+  enough many =
       omega (
         arith,
-        sided_length links_old ports_old workers_old h.ready.ports_count h.ready.workers_count,
-        sided_length links_new ports_new workers_new h.ports_after h.workers_after,
-        h.links_after,
+        many,
+        counts,
+        sum_by_ones works,
+        sum_by-le_each (λ w. 1) (λ w. length w.courses + past_of w.worker.why) works
+            (λ i d inside. took_some (get_or works i d).worker.why (get_or works i d).courses (each i d inside).are.cause),
       )
 
-  -- in the step's own lists
-  pub leaves : CarriesOut sent failed (map (λ (s : Held). s.id) before) orders (states_of before) (states_of after) links_old links_new broken spent
+  whole : worst_of whys ≡ None → length orders ≤ next
+  whole none =
+      elim (cases_lt 0 (length orders)) [
+        | inl wants ↦
+            let first = All-map (λ (why : Option OrderBroken). why ≡ None) (λ (w : Work L). w.worker.why) works (none_broke (λ (w : Work L). w.worker.why) works none) in
+            let inside : 0 < length whys = omega (arith, some wants, length-map works (λ (w : Work L). w.worker.why)) in
+            reach 0 inside (first 0 None inside)
+        | inr nothing ↦ omega (arith, nothing)
+      ]
+
+  -- why the last order of each link broke
+  whys_are : map (λ l. l.why) lines ≡ whys ++ map (λ (x : L). (idle_line x).why) idle
+  whys_are = map-append (λ (l : Line L). l.why) (map line_of works) (map idle_line idle) ∙ (λ i. map-map (λ (l : Line L). l.why) line_of works i ++ map-map (λ (l : Line L). l.why) idle_line idle i)
+
+  whys_count : length (whys ++ map (λ (x : L). (idle_line x).why) idle) ≡ length works + length idle
+  whys_count =
+      length-append whys (map (λ (x : L). (idle_line x).why) idle) ∙ (λ i. length-map works (λ (w : Work L). w.worker.why) i + length-map idle (λ (x : L). (idle_line x).why) i)
+
+  ended : HaveEnded orders (whys ++ map (λ (x : L). (idle_line x).why) idle) all (states_of before) after
+  ended = record {
+    ordered = ordered;
+    next = next;
+    weigh = weigh;
+    runs = runs;
+    left = λ i inside none.
+        elim (cases_lt i (length whys)) [
+          | inl mine ↦ reach i mine (sym (get_or_append_left whys (map (λ (x : L). (idle_line x).why) idle) None i mine) ∙ none)
+          | inr beyond ↦ enough (few (omega (arith, inside, beyond, whys_count, length-map works (λ (w : Work L). w.worker.why))))
+        ];
+    whole = λ none. whole (sym (worst-idle whys idle) ∙ none);
+    enough = λ many.
+        elim (cases_lt 0 (length idle)) [
+          | inl unused ↦ enough (few unused)
+          | inr none ↦ enough (omega (arith, many, none, whys_count))
+        ];
+  }
+
+  all_is : all_of lines ≡ all
+  all_is =
+      flat_map-append (λ (l : Line L). l.courses) (map line_of works) (map idle_line idle)
+      ∙ (λ i. flat_map-map (λ (l : Line L). l.courses) line_of works i ++ (flat_map-map (λ (l : Line L). l.courses) idle_line idle ∙ nothing idle) i) ∙ append-nil all
+    where
+      nothing : (xs : List L) → flat_map (λ (x : L). (idle_line x).courses) xs ≡ []
+      nothing [] = refl
+      nothing (x ∷ xs) = nothing xs
+
+  -- so the step's dump was carried out
+  pub leaves : CarriesOut sent failed ids orders (states_of before) after (map (λ w. w.old_link) works ++ idle) (map (λ w. w.new_link) works ++ idle) (worst_of whys) (sum_by (λ w. w.worker.spent) works)
   leaves =
-      let it = carries_out sent failed queue ids orders olds news all h.tells.next total h.distinct h.lone (states_of before) (states_of after) logs_at inside h.idle broken causes many as_many h.amounts in
-      let here : CarriesOut sent failed ids orders (states_of before) (states_of after) links_old links_new broken (sum_by (λ (s : Sided L). s.worker.spent) news) =
-      subst (λ (ls : List L). CarriesOut sent failed ids orders (states_of before) (states_of after) ls links_new broken (sum_by (λ (s : Sided L). s.worker.spent) news)) old_links
-      (subst (λ (ls : List L). CarriesOut sent failed ids orders (states_of before) (states_of after) (map (λ (s : Sided L). s.link) olds) ls broken (sum_by (λ (s : Sided L). s.worker.spent) news)) new_links it) in
-      subst (λ (is : List (List ℕ)). CarriesOut sent failed is orders (states_of before) (states_of after) links_old links_new broken spent) h.ids
-      (subst (λ (n : ℕ). CarriesOut sent failed ids orders (states_of before) (states_of after) links_old links_new broken n) (sym spent_same) here)
-    where
-      spent_same : spent ≡ sum_by (λ (s : Sided L). s.worker.spent) news
-      spent_same = h.spent_is ∙ sym (sided_sum links_new ports_new workers_new h.ports_after h.workers_after (λ (w : DumpWorker). w.spent))
+      let olds : map (λ l. l.old) lines ≡ map (λ w. w.old_link) works ++ idle = map-append (λ (l : Line L). l.old) (map line_of works) (map idle_line idle) ∙ (λ i. map-map (λ (l : Line L). l.old) line_of works i ++ (map-map (λ (l : Line L). l.old) idle_line idle ∙ map-id idle) i) in
+      let news : map (λ l. l.new) lines ≡ map (λ w. w.new_link) works ++ idle = map-append (λ (l : Line L). l.new) (map line_of works) (map idle_line idle) ∙ (λ i. map-map (λ (l : Line L). l.new) line_of works i ++ (map-map (λ (l : Line L). l.new) idle_line idle ∙ map-id idle) i) in
+      let spent : sum_by (λ l. l.spent) lines ≡ sum_by (λ w. w.worker.spent) works =
+      omega (
+        arith,
+        sum_by-append (λ (l : Line L). l.spent) (map line_of works) (map idle_line idle),
+        sum_by-map (λ (l : Line L). l.spent) line_of works,
+        sum_by-map (λ (l : Line L). l.spent) idle_line idle,
+        sum_by_zeros (λ (x : L). 0) idle (λ i d inside. refl),
+      ) in
+      let h : HaveEnded orders (map (λ l. l.why) lines) (all_of lines) (states_of before) after =
+      subst (λ (T : Type 0). T) (λ i. HaveEnded orders (sym whys_are i) (sym all_is i) (states_of before) after) ended in
+      subst (λ (T : Type 0). T) (λ i. CarriesOut sent failed ids orders (states_of before) after (olds i) (news i) ((ap worst_of whys_are ∙ worst-idle whys idle) i) (spent i))
+      (carries_out sent failed ids orders before links may lines after same lines_are h)
+
+-- without orders nothing is carried out
+pub nothing : {L : Type 0} (sent : L → List Sent) (failed : L → ℕ) (ids : List (List ℕ)) (orders : List Order) (stores : List Held) (links : List L) → MayDump failed orders stores links
+    → orders ≡ [] → CarriesOut sent failed ids orders (states_of stores) (states_of stores) links links None 0
+nothing sent failed ids orders stores links may none =
+    leaves sent failed ids orders stores links may (states_of stores) (length-map stores (λ h. h.state)) [] (λ i d inside. absurd (omega (arith, inside))) (λ i d inside. absurd (omega (arith, inside)))
+    0 (λ weight. refl)
+    (λ p inside. record { log = []; run = record { legal = tt; leaves = refl }; shuffle = record { below = λ i d within. absurd (omega (arith, within)); parts = λ seat within. absurd (omega (arith, within)) } })
+    links (λ unused. omega (arith, ap length none)) (λ wants. absurd (omega (arith, wants, ap length none)))
+
+-- a step's workers, once they have ended
+module _ {L Q A : Type 0} (sent : L → List Sent) (failed : L → ℕ) (queue : Slotted (Option ℕ) (Doing ℕ QueueView) Q A) (ids : List (List ℕ)) (orders : List Order)
+    (old_links new_links : List L) (old_ports new_ports : List PortView) (workers : List DumpWorker) (w : AllWorked sent failed queue ids orders old_links new_links old_ports new_ports workers) where
+  -- their ports are where they were
+  pub ends_same : all_ends new_ports ≡ all_ends old_ports
+  ends_same =
+      ap all_ends (sym w.new_ports_are) ∙ map-map end_of (λ (v : Work L). v.new_port) w.works
+      ∙ map_same (λ (v : Work L). end_of v.new_port) (λ v. end_of v.old_port) w.works (λ i d inside. ap end_of (w.each i d inside).shown.port)
+      ∙ sym (map-map end_of (λ (v : Work L). v.old_port) w.works) ∙ ap all_ends w.old_ports_are
+
+  pub all_back : All (IsBack queue) workers
+  all_back = subst (All (IsBack queue)) w.workers_are (All-map (IsBack queue) (λ (v : Work L). v.worker) w.works w.back)
+
+  -- what they leave, where other links had no worker
+  pub step_leaves : (before : List Held) (links : List L) → MayDump failed orders before links → (stores : StoresView) → All (IsNewPort stores) old_ports → (after : List State) → length after ≡ length before
+      → HaveLegalLogs new_ports (states_of before) after → (next : ℕ)
+      → ((weight : ℕ → ℕ) → sum_by weight (range_with_len 0 next) ≡ sum_by (λ (d : DumpWorker). sum_by weight (view d.pass).taken) workers)
+      → (idle : List L) → (0 < length idle → length orders ≤ length old_links) → 0 < length old_links
+      → CarriesOut sent failed ids orders (states_of before) after (old_links ++ idle) (new_links ++ idle) (worst_of (causes_of workers)) (sum_by (λ (d : DumpWorker). d.spent) workers)
+  step_leaves before links may stores new after same logs next total idle few some =
+      let summed : (f : DumpWorker → ℕ) → sum_by (λ (v : Work L). f v.worker) w.works ≡ sum_by f workers =
+      λ f. sym (sum_by-map f (λ (v : Work L). v.worker) w.works) ∙ ap (sum_by f) w.workers_are in
+      let count : length w.works ≡ length old_links = sym (length-map w.works (λ (v : Work L). v.old_link)) ∙ ap length w.old_links_are in
+      let fresh : PortView → Type 0 = λ q. q.list ≡ [] in
+      let causes = ap worst_of (sym (map-map (λ (d : DumpWorker). d.why) (λ (v : Work L). v.worker) w.works) ∙ ap causes_of w.workers_are) in
+      subst (λ (T : Type 0). T)
+      (λ i. CarriesOut sent failed ids orders (states_of before) after (w.old_links_are i ++ idle) (w.new_links_are i ++ idle) (causes i) (summed (λ (d : DumpWorker). d.spent) i))
+      (leaves sent failed ids orders before links may after same w.works w.each
+      (All-unmapped fresh (λ (v : Work L). v.old_port) w.works (subst (All fresh) (sym w.old_ports_are) (λ i d inside. (new i d inside).fresh))) next
+      (λ weight. total weight ∙ sym (summed (λ (d : DumpWorker). sum_by weight (view d.pass).taken)))
+      (λ p inside. subst (λ ls. HasLegalLog ls (opening_at (states_of before) p) (opening_at after p))
+      (ap (lists_at p) (sym w.new_ports_are) ∙ map-map (λ (q : PortView). list_at q p) (λ (v : Work L). v.new_port) w.works) (logs p inside))
+      idle (λ unused. omega (arith, few unused, count)) (λ wants. omega (arith, some, count)))

@@ -2,12 +2,10 @@ mod Leaving
 mod Moves
 mod Refusing
 mod OneOrder
+mod Courses
 mod Working
 mod Finding
 mod Ordered
-mod Courses
-mod Settling
 mod Settled
 mod Halves
 mod Leaves
-mod Nothing

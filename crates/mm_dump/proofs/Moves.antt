@@ -10,8 +10,9 @@ use Rattle.crossbeam_queue.specs.Fifo.{Pushes, Pops, Forks, Merges, Learns}
 use Rattle.crossbeam_queue.proofs.Lists.{at_set, at_snoc}
 use Rattle.mm_base.proofs.Ranges.{range_with_len_more}
 use Rattle.mm_base.proofs.RangeSums.{sum_by_range_more}
+use Rattle.mm_base.proofs.Sums.{sum_by_ones}
 use Rattle.mm_dump.specs.declared.queue.QueueView.{QueueView}
-use Rattle.mm_dump.specs.Queue.{queue_view, Knows, AreTakenOnce, TakesNext, HasRoom, AreCounted, Tells}
+use Rattle.mm_dump.specs.Queue.{queue_view, Knows, AreTakenOnce, TakesNext, Tells}
 
 -- a sum over passes after a change of one
 total_set : (f : QueueView → ℕ) (views : List QueueView) (pass : ℕ) (v w : QueueView) → get_elem? views pass ≡ some v → sum_by f (set views pass w) + f v ≡ sum_by f views + f w
@@ -104,12 +105,8 @@ took_all {items} {views} pass v rule at all h =
     ∙ sole (took h) views pass v at (λ other u apart here. ap (λ (xs : List ℕ). sum_by h xs) ((rule.known other u here).no_part (no_part views pass other v u rule.parts all at apart here)))
 
 -- how many numbers there are
-counted_list : (xs : List ℕ) → sum_by (λ (k : ℕ). 1) xs ≡ length xs
-counted_list [] = refl
-counted_list (x ∷ xs) = omega (arith, sum_by-cons (λ (k : ℕ). 1) x xs, counted_list xs)
-
-pub counted : (next : ℕ) → sum_by (λ (k : ℕ). 1) (range_with_len 0 next) ≡ next
-counted next = counted_list (range_with_len 0 next) ∙ length-range_with_len 0 next
+counted : (next : ℕ) → sum_by (λ (k : ℕ). 1) (range_with_len 0 next) ≡ next
+counted next = sum_by_ones (range_with_len 0 next) ∙ length-range_with_len 0 next
 
 -- making the queue with its first pass
 pub begins : AreTakenOnce [] (queue_view 1024 0 [] ∷ [])
@@ -167,7 +164,7 @@ takes pass v some_part x items views rule at =
     let rest : items ≡ range_with_len (rule.next + 1) (rule.pushed - (rule.next + 1)) =
     first.2 ∙ ap (range_with_len (rule.next + 1)) (less rule.pushed rule.next) in
     let before : length v.taken ≤ rule.next =
-    omega (arith, one_part (took (λ (k : ℕ). 1)) views pass v at, rule.each (λ (k : ℕ). 1), counted rule.next, counted_list v.taken) in (
+    omega (arith, one_part (took (λ (k : ℕ). 1)) views pass v at, rule.each (λ (k : ℕ). 1), counted rule.next, sum_by_ones v.taken) in (
       w,
       record {
         pushed = rule.pushed;
@@ -223,41 +220,23 @@ merges pass v other w some_part items views rule at apart there =
           (λ j t away here. known_set rule.pushed views pass both (knows_part rule.pushed both count (omega arith)) (λ i s off where_it_is. rule.known i s where_it_is) j t here);
     }
 
--- what a pass with a part learns of the numbers queued
-pub learns_room : (pass : ℕ) (v : QueueView) → Learns AreTakenOnce pass v (HasRoom v)
-learns_room pass v items views rule at has =
-    omega (arith, (rule.known pass v at).some_part has, ap length rule.queued, length-range_with_len rule.next (rule.pushed - rule.next))
-
--- what the pass with all parts learns of those taken
-pub learns : (pass : ℕ) (v : QueueView) → Learns AreTakenOnce pass v (λ items. Tells v)
+-- what a pass learns of the numbers queued, and of those that it took
+pub learns : (pass : ℕ) (v : QueueView) → Learns AreTakenOnce pass v (Tells v)
 learns pass v items views rule at =
     let known = rule.known pass v at in
-    let count : v.parts ≡ 1024 → v.pushed ≡ rule.pushed = λ all. known.some_part (omega arith) in
+    let queued : length items ≡ rule.pushed - rule.next = ap length rule.queued ∙ length-range_with_len rule.next (rule.pushed - rule.next) in
     record {
+      room = λ has. omega (arith, known.some_part has, queued);
+      counted = λ all. omega (arith, rule.within, known.some_part (omega arith), took_all pass v rule at all (λ (k : ℕ). 1), counted rule.next, sum_by_ones v.taken, queued);
       next = rule.next;
-      within = λ all. omega (arith, rule.within, count all);
       each = λ all. took_all pass v rule at all;
     }
-
--- and of how many are queued
-pub learns_count : (pass : ℕ) (v : QueueView) → Learns AreTakenOnce pass v (AreCounted v)
-learns_count pass v items views rule at all =
-    omega (
-      arith,
-      rule.within,
-      (rule.known pass v at).some_part (omega arith),
-      took_all pass v rule at all (λ (k : ℕ). 1),
-      counted rule.next,
-      counted_list v.taken,
-      ap length rule.queued,
-      length-range_with_len rule.next (rule.pushed - rule.next),
-    )
 
 -- a push of the first number, by the pass with all parts, where it took all that were pushed
 pub pushes_first : (room pass : ℕ) (v : QueueView) (x : ℕ) → v.parts ≡ 1024 → length v.taken ≡ v.pushed → x ≡ 0 → Pushes AreTakenOnce room pass v x (λ w. w ≡ queue_view 1024 1 [])
 pushes_first room pass v x all none first items views within rule at =
     let w = queue_view 1024 1 [] in
-    let empty : items ≡ [] = nil_from_length items (omega (arith, learns_count pass v items views rule at all)) in (
+    let empty : items ≡ [] = nil_from_length items (omega (arith, (learns pass v items views rule at).counted all)) in (
       w,
       record {
         pushed = 1;

@@ -1,297 +1,316 @@
--- What a step's dump leaves, from what its workers did.
-use Rattle.std.proofs.Common.{◌≡◌, ◌≢◌, ℕ, zero, suc, ◌+◌, ◌<◌, ◌≤◌, List, [], ◌∷◌, length, get_or, map, take, All, AllPairs, refl, sym, ap, subst, ◌∙◌, arith}
-use Rattle.std.specs.List.{AllZip, sum_by, range_with_len}
-use Rattle.std.specs.Prelude.{Any, Option, None, IfNone, Some}
-use Rattle.std.proofs.lemmas.List.{get_or-map, length-map}
-use Rattle.std.proofs.lemmas.List.Elements.{All-nil, All-cons, All-head, All-tail}
-use Rattle.std.proofs.lemmas.List.Sums.{sum_by-cons}
-use Rattle.crossbeam_queue.specs.declared.array_queue.Doing.{Doing}
-use Rattle.crossbeam_queue.specs.declared.array_queue.Slotted.{Slotted}
-use Rattle.crossbeam_queue.specs.Passes.{view}
-use Rattle.mm_base.proofs.Sums.{sum_by-flat_map}
-use Rattle.mm_desk.specs.declared.entry.Entry.{Entry}
-use Rattle.mm_desk.specs.Laws.{LoneSeatsAreLogs}
+-- What a step's dump leaves, from what was carried out over each link and what became of the stores.
+use Rattle.std.proofs.Common.{◌≡◌, ℕ, ◌+◌, ◌<◌, ◌≤◌, ◌==◌, List, [], ◌∷◌, ◌++◌, length, get_or, map, take, All, Contains, refl, sym, ap, subst, ◌∙◌, length-append, arith}
+use Rattle.std.specs.List.{sum_by, flat_map}
+use Rattle.std.specs.Prelude.{Option, None, IfNone, Some}
+use Rattle.std.proofs.lemmas.List.{get_or-map, length-map, take_all, map-id}
+use Rattle.std.proofs.lemmas.List.Elements.{All-nil, All-cons, All-head, All-tail, All-append, All-contains}
+use Rattle.std.proofs.lemmas.List.Sums.{sum_by-cons, sum_by-take-le, length-filter}
+use Rattle.std.proofs.lemmas.Simd.{map-map}
+use Rattle.mm_base.proofs.Pairs.{All-front, All-back}
+use Rattle.mm_base.proofs.Sums.{sum_by-map, sum_by-same, sum_by-add, sum_by-le_each, sum_by-flat_map}
+use Rattle.mm_store.specs.declared.stored.Stored.{Stored}
+use Rattle.mm_desk.specs.declared.held.Held.{Held}
 use Rattle.mm_desk.specs.Machine.{State}
+use Rattle.mm_desk.specs.Orders.{IsOrderOf}
 use Rattle.mm_desk.specs.Runs.{IsRun, opening_at}
-use Rattle.mm_desk.specs.Shuffles.{IsShuffle}
-use Rattle.mm_shared.specs.Stores.{list_at}
-use Rattle.mm_shared.specs.Views.{HasLegalLog}
+use Rattle.mm_shared.specs.Stores.{id_at, states_of}
 use Rattle.mm_dump.specs.declared.order.Order.{Order}
 use Rattle.mm_dump.specs.declared.order.OrderBroken.{OrderBroken}
-use Rattle.mm_dump.specs.declared.queue.QueueView.{QueueView}
-use Rattle.mm_dump.specs.Courses.{Course, IsCourse, worst_of, spent_by}
-use Rattle.mm_dump.specs.Dumped.{times, places_of, AllDumped, AllSettled, CarriesOut, amount_of}
-use Rattle.mm_dump.specs.Sending.{Sent}
-use Rattle.mm_dump.specs.Workers.{order_at, IsTried, Sided}
-use Rattle.mm_dump.proofs.Courses.{worse-none, whys}
-use Rattle.mm_dump.proofs.Finding.{find, here, tally, flat, found_again}
-use Rattle.mm_dump.proofs.Settling.{IsOrdered, IsOf, Gathered, all_kept, used_is, spots, Known, HaveEnded, AllAt, IsAt, flat_all, all_flat, spots_tally, all_tried, all_took, same_causes, all_unbroken, run_found, amount_found, tried, dumped}
-use Rattle.mm_dump.proofs.Moves.{counted}
-use Rattle.mm_dump.proofs.Ordered.{names, named_once, weighs_first, first_few, first_all, times_named, below, is_it, reached}
+use Rattle.mm_dump.specs.Courses.{Course, IsCourse, worst_of, sent_by, failed_by, spent_by}
+use Rattle.mm_dump.specs.Dumped.{MayDump, AllKept, AllTook, AllTried, HasDumped, HasTaken, HasTried, AllDumped, AllSettled, CarriesOut, amount_of, places_of, times, used_by, wanted}
+use Rattle.mm_dump.specs.Sending.{Sent, all_sent}
+use Rattle.mm_dump.specs.Workers.{AreTried, IsTried}
+use Rattle.mm_dump.proofs.Courses.{cause_of_all, no_failures, none_broke, whole_course}
+use Rattle.mm_dump.proofs.Finding.{find, found_again, here, is_found, none_found}
+use Rattle.mm_dump.proofs.Ordered.{named_once, names, times_named, wanted_named, wanted_own}
 
--- what follows where there is nothing
-if_none : {A : Type 0} (P : Type 0) (o : Option A) → (o ≡ None → P) → IfNone o P
-if_none P None f = f refl
-if_none P (Some x) f = tt
+-- what holds of each element of each list, and of all of them
+pub flat_all : {X Y : Type 0} (P : X → Type 0) (make : Y → List X) (ys : List Y) → All (λ y. All P (make y)) ys → All P (flat_map make ys)
+flat_all P make [] all = All-nil P
+flat_all P make (y ∷ ys) all =
+    All-append P (make y) (flat_map make ys) (All-head (λ z. All P (make z)) y ys all) (flat_all P make ys (All-tail (λ z. All P (make z)) y ys all))
 
--- some cause is none
-abbrev pub SomeNone : List (Option OrderBroken) → Type 0
-SomeNone whys = Any (λ (why : Option OrderBroken). why ≡ None) whys
+all_flat : {X Y : Type 0} (P : X → Type 0) (make : Y → List X) (ys : List Y) → All P (flat_map make ys) → All (λ y. All P (make y)) ys
+all_flat P make [] all = All-nil (λ y. All P (make y))
+all_flat P make (y ∷ ys) all =
+    All-cons (λ z. All P (make z)) y ys (All-front P (make y) (flat_map make ys) all) (all_flat P make ys (All-back P (make y) (flat_map make ys) all))
 
--- where the worst of some causes is none, one of them is none
-some_none : (whys : List (Option OrderBroken)) → 1 ≤ length whys → worst_of whys ≡ None → SomeNone whys
-some_none [] many none = absurd (omega arith)
-some_none (why ∷ whys) many none = (0, why, omega arith, refl, (worse-none why (worst_of whys) none).0)
+-- two functions that are the same at each element
+pub map_same : {X Y : Type 0} (f g : X → Y) (xs : List X) → All (λ x. f x ≡ g x) xs → map f xs ≡ map g xs
+map_same f g [] same = refl
+map_same f g (x ∷ xs) same =
+    let first = All-head (λ y. f y ≡ g y) x xs same in
+    let rest = map_same f g xs (All-tail (λ y. f y ≡ g y) x xs same) in
+    λ i. first i ∷ rest i
 
--- some element of a mapped list
-some_mapped : {X Y : Type 0} (P : Y → Type 0) (f : X → Y) (xs : List X) → Any (λ (x : X). P (f x)) xs → Any P (map f xs)
-some_mapped P f xs has =
-    (has.0, f has.1, omega (arith, has.2, length-map xs f), get_or-map f xs has.0 has.1 (f has.1) has.2 ∙ ap f has.3, has.4)
+-- a packet of a store
+sending : List ℕ → Stored → Sent
+sending id stored = record { store = id; stored = stored }
 
--- a worker took a number past those of the orders
-pub record PastIn {L : Type 0} (orders : ℕ) (news : List (Sided L)) : Type 0 where
-  pub past : ℕ
-  pub beyond : orders ≤ past
-  pub was_taken : 1 ≤ sum_by (λ (s : Sided L). sum_by (is_it past) (view s.worker.pass).taken) news
-
--- orders spend no more than they want
-spend_few : (cs : List Course) → All IsTried cs → spent_by cs ≤ sum_by (λ (c : Course). c.order.amount) cs
-spend_few [] are = omega arith
-spend_few (c ∷ cs) are =
+-- what orders sent, and what failed, is what they spent
+spent_is : (ids : List (List ℕ)) (cs : List Course) → length (sent_by ids cs) + failed_by cs ≡ spent_by cs
+unfolding sending
+spent_is ids [] = refl
+spent_is ids (c ∷ cs) =
+    let here = all_sent (id_at ids c.order.place) c.sent in
     omega (
       arith,
+      length-append here (sent_by ids cs),
+      length-map c.sent (sending (id_at ids c.order.place)),
+      spent_is ids cs,
+      sum_by-cons (λ (c : Course). length c.unsent) c cs,
       sum_by-cons (λ (c : Course). length c.sent + length c.unsent) c cs,
-      sum_by-cons (λ (c : Course). c.order.amount) c cs,
-      (All-head IsTried c cs are).few,
-      spend_few cs (All-tail IsTried c cs are),
     )
 
--- what is known of each order before what became of its store is
-abbrev IsTaken : List Order → Course → Type 0
-IsTaken orders c = IsTried c × IsOrdered orders c.order
+-- a link before and after orders were carried out over it, these orders, why the last one broke, where it did, and how many blocks they spent
+pub record Line (L : Type 0) : Type 0 where
+  pub old : L
+  pub new : L
+  pub courses : List Course
+  pub why : Option OrderBroken
+  pub spent : ℕ
 
-abbrev AllTaken : List Order → List Course → Type 0
-AllTaken orders cs = All (IsTaken orders) cs
+-- a link took what these orders sent, and its failures rose
+pub record IsLine {L : Type 0} (sent : L → List Sent) (failed : L → ℕ) (ids : List (List ℕ)) (l : Line L) : Type 0 where
+  pub all : sent l.new ≡ sent l.old ++ sent_by ids l.courses
+  pub failures : failed l.new ≡ failed l.old + failed_by l.courses
+  pub blocks : l.spent ≡ spent_by l.courses
+  pub are : AreTried l.why l.courses
 
-module _ {L : Type 0} (orders : List Order) where
-  -- what workers took weighs what their orders weigh
-  weighed : (g : Order → ℕ) (courses : List (List Course)) (news : List (Sided L)) → AllZip (IsOf orders) courses news
-      → sum_by (λ (cs : List Course). sum_by (λ (c : Course). g c.order) cs) courses
-      ≡ sum_by (λ (s : Sided L). sum_by (below (length orders) (λ (k : ℕ). g (order_at orders k))) (view s.worker.pass).taken) news
-  weighed g [] [] each = refl
-  weighed g [] (s ∷ news) each = absurd each
-  weighed g (cs ∷ more) [] each = absurd each
-  weighed g (cs ∷ more) (s ∷ news) each =
-      omega (
-        arith,
-        sum_by-cons (λ (cs : List Course). sum_by (λ (c : Course). g c.order) cs) cs more,
-        sum_by-cons (λ (s : Sided L). sum_by (below (length orders) (λ (k : ℕ). g (order_at orders k))) (view s.worker.pass).taken) s news,
-        each.0.weighs g,
-        weighed g more news each.1,
-      )
+-- all orders that were carried out
+abbrev pub all_of : {L : Type 0} → List (Line L) → List Course
+all_of lines = flat_map (λ l. l.courses) lines
 
-  -- a worker of whose orders none broke found that no order is left
-  past_in : (courses : List (List Course)) (news : List (Sided L)) → AllZip (IsOf orders) courses news
-      → SomeNone (map (λ (s : Sided L). s.worker.why) news) → PastIn (length orders) news
-  past_in [] [] each (i, why, within, at, none) = absurd (omega arith)
-  past_in [] (s ∷ news) each has = absurd each
-  past_in (cs ∷ more) [] each has = absurd each
-  past_in (cs ∷ more) (s ∷ news) each (zero, why, within, at, none) =
-      let found = each.0.found (at ∙ none) in
-      record {
-        past = found.past;
-        beyond = found.beyond;
-        was_taken = omega (arith, sum_by-cons (λ (s : Sided L). sum_by (is_it found.past) (view s.worker.pass).taken) s news, found.was_taken);
-      }
-  past_in (cs ∷ more) (s ∷ news) each (suc i, why, within, at, none) =
-      let rest = past_in more news each.1 (i, why, omega arith, at, none) in
-      record {
-        past = rest.past;
-        beyond = rest.beyond;
-        was_taken = omega (arith, sum_by-cons (λ (s : Sided L). sum_by (is_it rest.past) (view s.worker.pass).taken) s news, rest.was_taken);
-      }
+-- what is known once all workers have ended: the first orders were carried out, up to some number; what happened to each store; and all
+-- orders were taken where those of some link did not break, and where there is a link for each
+pub record HaveEnded (orders : List Order) (whys : List (Option OrderBroken)) (all : List Course) (before after : List State) : Type 0 where
+  pub ordered : All (λ (c : Course). Contains orders c.order) all
+  pub next : ℕ
+  pub weigh : (f : Order → ℕ) → sum_by (λ (c : Course). f c.order) all ≡ sum_by f (take next orders)
+  pub runs : (p : ℕ) → p < length after → length (here p all) ≤ 1 → IsRun (opening_at before p) (find p all).calls (opening_at after p)
+  pub left : (i : ℕ) → i < length whys → get_or whys i None ≡ None → length orders ≤ next
+  pub whole : worst_of whys ≡ None → length orders ≤ next
+  pub enough : length orders ≤ length whys → length orders ≤ next
 
-  all_taken : (courses : List (List Course)) (news : List (Sided L)) → AllZip (IsOf orders) courses news → All (AllTaken orders) courses
-  all_taken [] [] each = All-nil (AllTaken orders)
-  all_taken [] (s ∷ news) each = absurd each
-  all_taken (cs ∷ more) [] each = absurd each
-  all_taken (cs ∷ more) (s ∷ news) each = All-cons (AllTaken orders) cs more (λ i d within. (each.0.are.each i d within, each.0.ordered i d within)) (all_taken more news each.1)
+module _ {L : Type 0} (sent : L → List Sent) (failed : L → ℕ) (ids : List (List ℕ)) where
+  -- each link has sent what it had sent before
+  all_kept : (lines : List (Line L)) → All (IsLine sent failed ids) lines → AllKept sent failed (map (λ l. l.old) lines) (map (λ l. l.new) lines)
+  all_kept [] each = tt
+  all_kept (l ∷ lines) each =
+      let is = All-head (IsLine sent failed ids) l lines each in
+      (record { more = sent_by ids l.courses; all = is.all; failures = omega (arith, is.failures) }, all_kept lines (All-tail (IsLine sent failed ids) l lines each))
 
-  -- and after it
-  all_ended : (courses : List (List Course)) (news : List (Sided L)) → AllZip (IsOf orders) courses news → All (λ (cs : List Course). All IsCourse cs) courses → All HaveEnded courses
-  all_ended [] [] each are = All-nil HaveEnded
-  all_ended [] (s ∷ news) each are = absurd each
-  all_ended (cs ∷ more) [] each are = absurd each
-  all_ended (cs ∷ more) (s ∷ news) each are =
-      All-cons HaveEnded cs more
-      (s.worker.why, record { each = All-head (λ (cs : List Course). All IsCourse cs) cs more are; early = each.0.are.early; cause = each.0.are.cause })
-      (all_ended more news each.1 (All-tail (λ (cs : List Course). All IsCourse cs) cs more are))
+  -- the places of the orders of a link
+  abbrev spots : Line L → List ℕ
+  spots l = map (λ (c : Course). c.order.place) l.courses
 
-  all_causes : (courses : List (List Course)) (news : List (Sided L)) → AllZip (IsOf orders) courses news
-      → map (λ (cs : List Course). worst_of (whys cs)) courses ≡ map (λ (s : Sided L). s.worker.why) news
-  all_causes [] [] each = refl
-  all_causes [] (s ∷ news) each = absurd each
-  all_causes (cs ∷ more) [] each = absurd each
-  all_causes (cs ∷ more) (s ∷ news) each = let rest = all_causes more news each.1 in λ i. each.0.are.cause i ∷ rest i
+  module _ (course : ℕ → Course) where
+    -- a link did what the orders at its places did
+    abbrev Tried : Line L → Type 0
+    Tried l = HasTaken sent failed ids (map course (spots l)) l.old l.new
 
-  -- workers took as many numbers as they are, at least
-  all_some : (courses : List (List Course)) (news : List (Sided L)) → AllZip (IsOf orders) courses news
-      → length news ≤ sum_by (λ (s : Sided L). sum_by (λ (k : ℕ). 1) (view s.worker.pass).taken) news
-  all_some [] [] each = omega arith
-  all_some [] (s ∷ news) each = absurd each
-  all_some (cs ∷ more) [] each = absurd each
-  all_some (cs ∷ more) (s ∷ news) each =
-      omega (arith, sum_by-cons (λ (s : Sided L). sum_by (λ (k : ℕ). 1) (view s.worker.pass).taken) s news, each.0.some, all_some more news each.1)
+    all_tried : (lines : List (Line L)) → All Tried lines → AllTried sent failed ids course (map spots lines) (map (λ l. l.old) lines) (map (λ l. l.new) lines)
+    unfolding AllTried
+    all_tried [] each = tt
+    all_tried (l ∷ lines) each = (All-head Tried l lines each, all_tried lines (All-tail Tried l lines each))
 
-  -- workers spend no more than their orders want
-  all_spend : (courses : List (List Course)) (news : List (Sided L)) → AllZip (IsOf orders) courses news
-      → sum_by (λ (s : Sided L). s.worker.spent) news ≤ sum_by (λ (cs : List Course). sum_by (λ (c : Course). c.order.amount) cs) courses
-  all_spend [] [] each = omega arith
-  all_spend [] (s ∷ news) each = absurd each
-  all_spend (cs ∷ more) [] each = absurd each
-  all_spend (cs ∷ more) (s ∷ news) each =
-      omega (
-        arith,
-        sum_by-cons (λ (s : Sided L). s.worker.spent) s news,
-        sum_by-cons (λ (cs : List Course). sum_by (λ (c : Course). c.order.amount) cs) cs more,
-        each.0.blocks,
-        spend_few cs each.0.are.each,
-        all_spend more news each.1,
-      )
+    -- a link took what the stores at its places gave
+    abbrev Took : Line L → Type 0
+    Took l = (sent l.new ≡ sent l.old ++ flat_map (λ (k : ℕ). all_sent (id_at ids k) (course k).sent) (spots l)) × (failed l.new ≡ failed l.old)
 
-module _ {L Q A : Type 0} (sent : L → List Sent) (failed : L → ℕ) (queue : Slotted (Option ℕ) (Doing ℕ QueueView) Q A) (ids : List (List ℕ)) (orders : List Order)
-    (olds news : List (Sided L)) (g : Gathered sent failed queue ids orders olds news)
-    (next : ℕ) (total : (h : ℕ → ℕ) → sum_by h (range_with_len 0 next) ≡ sum_by (λ (s : Sided L). sum_by h (view s.worker.pass).taken) news)
-    (apart : AllPairs (λ (a b : Order). a.place ≢ b.place) orders) (lone : LoneSeatsAreLogs) (before after : List State)
-    (logs : (k : ℕ) → k < length after → HasLegalLog (map (λ (s : Sided L). list_at s.port k) news) (opening_at before k) (opening_at after k))
-    (within : All (λ (o : Order). o.place < length after) orders) (idle : All (λ (o : Order). (opening_at before o.place).retrieval ≡ None) orders) where
-  -- all orders that were carried out
-  abbrev all : List Course
-  all = flat g.courses
+    all_took : (lines : List (Line L)) → All Took lines → AllTook sent failed ids (λ (k : ℕ). (course k).sent) (map spots lines) (map (λ l. l.old) lines) (map (λ l. l.new) lines)
+    unfolding AllTook
+    all_took [] each = tt
+    all_took (l ∷ lines) each = let first = All-head Took l lines each in (first.0, first.1, all_took lines (All-tail Took l lines each))
 
-  -- how much they weigh
-  weight_is : (f : Order → ℕ) → sum_by (λ (cs : List Course). sum_by (λ (c : Course). f c.order) cs) g.courses ≡ sum_by f (take next orders)
-  weight_is f =
-      weighed orders f g.courses news g.each ∙ sym (total (below (length orders) (λ (k : ℕ). f (order_at orders k)))) ∙ weighs_first f orders next
+    -- where the order at each place is its own, these are the same
+    took_same : (cs : List Course) → All (λ (c : Course). course c.order.place ≡ c) cs
+        → flat_map (λ (k : ℕ). all_sent (id_at ids k) (course k).sent) (map (λ (c : Course). c.order.place) cs) ≡ sent_by ids cs
+    took_same [] at = refl
+    took_same (c ∷ cs) at =
+        let first = ap (λ (d : Course). all_sent (id_at ids c.order.place) d.sent) (All-head (λ (c : Course). course c.order.place ≡ c) c cs at) in
+        let rest = took_same cs (All-tail (λ (c : Course). course c.order.place ≡ c) c cs at) in
+        λ i. first i ++ rest i
 
-  tally_is : (p : ℕ) → tally p all ≡ sum_by (names p) (take next orders)
-  tally_is p = sum_by-flat_map (here p) (λ (cs : List Course). cs) g.courses ∙ weight_is (names p)
+  module _ (orders : List Order) (stores : List Held) (links : List L) (may : MayDump failed orders stores links) (lines : List (Line L)) (after : List State) (same : length after ≡ length stores)
+      (each : All (IsLine sent failed ids) lines) (h : HaveEnded orders (map (λ l. l.why) lines) (all_of lines) (states_of stores) after) where
+    abbrev before : List State
+    before = states_of stores
 
-  -- no place has more orders than name it, and as many where all were taken
-  tally_most : (p : ℕ) → tally p all ≤ times p (places_of orders)
-  tally_most p = omega (arith, tally_is p, first_few (names p) orders next, times_named p orders)
+    abbrev all : List Course
+    all = all_of lines
 
-  tally_few : (p : ℕ) → tally p all ≤ 1
-  tally_few p = omega (arith, tally_most p, named_once p orders apart)
+    -- the order carried out at a place
+    abbrev course : ℕ → Course
+    course p = find p all
 
-  tally_all : length orders ≤ next → (p : ℕ) → tally p all ≡ times p (places_of orders)
-  tally_all reach p = tally_is p ∙ first_all (names p) orders next reach ∙ sym (times_named p orders)
+    abbrev places : List (List ℕ)
+    places = map spots lines
 
-  -- each order is found at its place
-  found : All (IsAt (λ (p : ℕ). find p all)) all
-  found = found_again all tally_few
+    -- no place has more orders than name it, and as many where all were taken
+    tally_is : (p : ℕ) → length (here p all) ≡ sum_by (names p) (take h.next orders)
+    tally_is p = length-filter (λ (c : Course). c.order.place == p) all ∙ h.weigh (names p)
 
-  all_at : All (AllAt (λ (p : ℕ). find p all)) g.courses
-  all_at = all_flat (IsAt (λ (p : ℕ). find p all)) g.courses found
+    few : (p : ℕ) → length (here p all) ≤ 1
+    few p = omega (arith, tally_is p, sum_by-take-le (names p) orders h.next, named_once p orders may.distinct)
 
-  -- what became of the store at a place
-  run_at : (k : ℕ) → k < length after → IsRun (opening_at before k) (find k all).calls (opening_at after k)
-  run_at k inside =
-      let at = logs k inside in
-      run_found lone g.courses k (opening_at before k) (opening_at after k) at.log (tally_few k) at.run (subst (λ (ls : List (List Entry)). IsShuffle ls at.log) (g.lists k) at.shuffle)
+    tally_all : length orders ≤ h.next → (p : ℕ) → length (here p all) ≡ sum_by (names p) orders
+    tally_all reach p = tally_is p ∙ ap (sum_by (names p)) (take_all h.next orders reach)
 
-  -- so each order is whole, or it broke
-  known : All (Known orders) all
-  known i d inside =
-      let taken = flat_all (IsTaken orders) g.courses (all_taken orders g.courses news g.each) i d inside in
-      let order = taken.1 in
-      let c : Course = get_or all i d in
-      let at : ℕ = (order_at orders order.number).place in
-      let same = found i d inside in
-      let run = run_at at (within order.number (record { place = 0; amount = 0 }) order.within) in
-      let place = ap (λ (o : Order). o.place) order.is in
-      let mine = subst (λ (k : ℕ). IsRun (opening_at before k) (find k all).calls (opening_at after k)) (sym place) run in
-      let off = subst (λ (k : ℕ). (opening_at before k).retrieval ≡ None) (sym place) (idle order.number (record { place = 0; amount = 0 }) order.within) in (
-        taken.0.alone (opening_at before c.order.place) (opening_at after c.order.place) off
-            (subst (λ (e : Course). IsRun (opening_at before c.order.place) e.calls (opening_at after c.order.place)) same mine),
-        order,
-      )
+    -- how often a place stands among those of the links
+    taken_is : (p : ℕ) → sum_by (times p) places ≡ length (here p all)
+    taken_is p =
+        sum_by-map (times p) spots lines
+        ∙ sum_by-same (λ l. times p (spots l)) (λ l. sum_by (λ (c : Course). names p c.order) l.courses) lines (λ i d inside. sum_by-map _ (λ (c : Course). c.order.place) (get_or lines i d).courses)
+        ∙ sym (length-filter (λ (c : Course). c.order.place == p) all ∙ sum_by-flat_map (λ (c : Course). names p c.order) (λ l. l.courses) lines)
 
-  ended : All HaveEnded g.courses
-  ended = all_ended orders g.courses news g.each (all_flat IsCourse g.courses (λ i d inside. (known i d inside).0))
+    once_all : length orders ≤ h.next → (p : ℕ) → sum_by (times p) places ≡ times p (places_of orders)
+    once_all reach p = taken_is p ∙ tally_all reach p ∙ sym (times_named p orders)
 
-  -- where a worker's orders did not break all orders were taken
-  reach : SomeNone (map (λ (s : Sided L). s.worker.why) news) → length orders ≤ next
-  reach has =
-      let one = past_in orders g.courses news g.each has in
-      omega (arith, one.beyond, reached next one.past (λ (h : ℕ → ℕ). sum_by (λ (s : Sided L). sum_by h (view s.worker.pass).taken) news) total one.was_taken)
+    -- each order is found at its place
+    at : All (λ (c : Course). course c.order.place ≡ c) all
+    at = found_again all few
 
-  -- so they were where there are as many workers as orders
-  enough : length orders ≤ length news → length orders ≤ next
-  enough many = omega (arith, many, all_some orders g.courses news g.each, total (λ (k : ℕ). 1), counted next)
+    -- so it is whole, or it broke
+    known : All IsCourse all
+    known i d inside =
+        let c : Course = get_or all i d in
+        let p : ℕ = c.order.place in
+        let of = h.ordered i d inside in
+        let tried = flat_all IsTried (λ l. l.courses) lines (λ j e within. (each j e within).are.each) i d inside in
+        let within = All-contains (λ (o : Order). o.place < length stores) orders c.order may.places of in
+        let idle = All-contains (λ (o : Order). (opening_at before o.place).retrieval ≡ None) orders c.order may.idle of in
+        tried.alone (opening_at before p) (opening_at after p) idle
+        (subst (λ (e : Course). IsRun (opening_at before p) e.calls (opening_at after p)) (at i d inside) (h.runs p (omega (arith, within, same)) (few p)))
 
-  -- what was spent is no more than the orders want
-  spent_few : sum_by (λ (s : Sided L). s.worker.spent) news ≤ amount_of orders
-  spent_few =
-      omega (
-        arith,
-        all_spend orders g.courses news g.each,
-        weight_is (λ (o : Order). o.amount),
-        first_few (λ (o : Order). o.amount) orders next,
-      )
+    -- its amount is what is wanted of its place
+    amount : (p : ℕ) → 0 < length (here p all) → (course p).order.amount ≡ wanted orders p
+    amount p has =
+        let both = is_found (λ (c : Course). Contains orders c.order) p all h.ordered has in
+        sym (All-contains (λ (o : Order). wanted orders o.place ≡ o.amount) orders (course p).order (wanted_own orders may.distinct) both.1) ∙ ap (wanted orders) both.0
 
-  module _ (why : Option OrderBroken) (worst : worst_of (map (λ (s : Sided L). s.worker.why) news) ≡ why) (many : 1 ≤ length news) where
-    causes : map (λ (cs : List Course). worst_of (whys cs)) g.courses ≡ map (λ (s : Sided L). s.worker.why) news
-    causes = all_causes orders g.courses news g.each
+    tried : (p : ℕ) → p < length after → HasTried (sum_by (times p) places) p (course p) (opening_at before p) (opening_at after p)
+    tried p inside = record {
+      run = h.runs p inside (few p);
+      none = λ none.
+          let nothing = none_found p all (sym (taken_is p) ∙ none) in
+          (ap (λ (c : Course). c.calls) nothing, ap (λ (c : Course). c.sent) nothing);
+      some = λ has. is_found IsCourse p all known (omega (arith, has, taken_is p));
+    }
 
-    none_left : why ≡ None → length orders ≤ next
-    none_left whole =
-        reach (some_none (map (λ (s : Sided L). s.worker.why) news) (omega (arith, many, length-map news (λ (s : Sided L). s.worker.why))) (worst ∙ whole))
+    -- the orders of a link, from their places
+    again : All (λ l. map course (spots l) ≡ l.courses) lines
+    again i d inside =
+        let cs : List Course = (get_or lines i d).courses in
+        map-map course (λ (c : Course). c.order.place) cs
+        ∙ map_same (λ (c : Course). course c.order.place) (λ c. c) cs (all_flat (λ (c : Course). course c.order.place ≡ c) (λ l. l.courses) lines at i d inside) ∙ map-id cs
+
+    taken : All (Tried course) lines
+    taken i d inside =
+        let l : Line L = get_or lines i d in
+        let is = each i d inside in
+        subst (λ (cs : List Course). HasTaken sent failed ids cs l.old l.new) (sym (again i d inside))
+        (record {
+          all = is.all;
+          failures = is.failures;
+          why = l.why;
+          are = record { each = all_flat IsCourse (λ l. l.courses) lines known i d inside; early = is.are.early; cause = is.are.cause };
+        })
 
     -- why the last order of each link broke, where it did
-    causes_same : map (λ (ks : List ℕ). worst_of (map (λ (c : Course). c.why) (map (λ (p : ℕ). find p all) ks))) (map spots g.courses)
-        ≡ map (λ (s : Sided L). s.worker.why) news
-    causes_same = same_causes (λ (p : ℕ). find p all) g.courses all_at ∙ causes
+    causes_same : map (λ (ks : List ℕ). cause_of_all (map course ks)) places ≡ map (λ l. l.why) lines
+    causes_same =
+        map-map (λ (ks : List ℕ). cause_of_all (map course ks)) spots lines
+        ∙ map_same (λ l. cause_of_all (map course (spots l))) (λ l. l.why) lines (λ i d inside. ap cause_of_all (again i d inside) ∙ (each i d inside).are.cause)
 
-    -- any case
-    settled : AllSettled sent failed ids orders why before after (map (λ (s : Sided L). s.link) olds) (map (λ (s : Sided L). s.link) news)
+    settled : AllSettled sent failed ids orders (worst_of (map (λ l. l.why) lines)) before after (map (λ l. l.old) lines) (map (λ l. l.new) lines)
     settled = record {
-      course = λ p. find p all;
-      places = map spots g.courses;
-      stores = λ k inside. tried orders g.courses k apart known _ _ (run_at k inside);
-      amounts = λ k has. amount_found orders g.courses k apart known (omega (arith, has, spots_tally k g.courses));
-      once = λ k. omega (arith, spots_tally k g.courses, tally_most k);
-      all = λ whole k. spots_tally k g.courses ∙ tally_all (none_left whole) k;
-      others = λ one k.
-          let at = some_mapped (λ (why : Option OrderBroken). why ≡ None) (λ (ks : List ℕ). worst_of (map (λ (c : Course). c.why) (map (λ (p : ℕ). find p all) ks))) (map spots g.courses) one in
-          spots_tally k g.courses ∙ tally_all (reach (subst SomeNone causes_same at)) k;
-      links = all_tried (λ (p : ℕ). find p all) sent failed ids g.courses _ _ all_at ended g.links;
-      cause = ap worst_of causes_same ∙ worst;
+      course = course;
+      places = places;
+      stores = tried;
+      amounts = λ k has. amount k (omega (arith, has, taken_is k));
+      once = λ k. omega (arith, taken_is k, tally_is k, sum_by-take-le (names k) orders h.next, times_named k orders);
+      all = λ whole. once_all (h.whole whole);
+      others = λ one.
+          let unbroken = ap (λ (whys : List (Option OrderBroken)). get_or whys one.0 None) (sym causes_same)
+          ∙ get_or-map (λ (ks : List ℕ). cause_of_all (map course ks)) places one.0 one.1 None one.2
+          ∙ ap (λ (ks : List ℕ). cause_of_all (map course ks)) one.3 ∙ one.4 in
+          once_all (h.left one.0 (omega (arith, one.2, length-map lines spots, length-map lines (λ (l : Line L). l.why))) unbroken);
+      links = all_tried course lines taken;
+      cause = ap worst_of causes_same;
     }
 
     -- where no order broke
-    all_dumped : why ≡ None → All (λ (o : Order). 1 ≤ o.amount) orders
-        → AllDumped sent failed ids orders before after (map (λ (s : Sided L). s.link) olds) (map (λ (s : Sided L). s.link) news)
-    all_dumped whole amounts = record {
-      gave = λ p. (find p all).sent;
-      places = map spots g.courses;
-      stores = λ k inside. dumped orders g.courses k apart known _ _ (run_at k inside) (tally_all (none_left whole) k) amounts (all_unbroken g.courses none);
-      once = λ k. spots_tally k g.courses ∙ tally_all (none_left whole) k;
-      links = all_took (λ (p : ℕ). find p all) sent failed ids g.courses _ _ all_at ended none g.links;
-    }
-      where
-        none : worst_of (map (λ (cs : List Course). worst_of (whys cs)) g.courses) ≡ None
-        none = ap worst_of causes ∙ worst ∙ whole
+    module _ (none : worst_of (map (λ l. l.why) lines) ≡ None) where
+      unbroken : All (λ l. cause_of_all l.courses ≡ None) lines
+      unbroken i d inside = (each i d inside).are.cause ∙ none_broke (λ (l : Line L). l.why) lines none i d inside
+
+      dumped : (p : ℕ) → p < length after → HasDumped (wanted orders p) (course p).sent (opening_at before p) (opening_at after p)
+      dumped p inside = record {
+        calls = (course p).calls;
+        run = h.runs p inside (few p);
+        none = λ nothing_wanted.
+            let nothing = none_found p all (tally_all (h.whole none) p ∙ (wanted_named p orders may.amounts).1 nothing_wanted) in
+            (ap (λ (c : Course). c.sent) nothing, ap (λ (c : Course). c.calls) nothing);
+        whole = λ some_wanted.
+            let has : 0 < length (here p all) = omega (arith, tally_all (h.whole none) p, (wanted_named p orders may.amounts).0 some_wanted) in
+            let whys = flat_all (λ (c : Course). c.why ≡ None) (λ l. l.courses) lines (λ i d within. none_broke (λ (c : Course). c.why) (get_or lines i d).courses (unbroken i d within)) in
+            let whole = whole_course (course p) (is_found (λ (c : Course). c.why ≡ None) p all whys has).1 (is_found IsCourse p all known has).1 in
+            ((course p).seat, subst (λ (n : ℕ). IsOrderOf (course p).seat n (course p).sent (course p).calls) (amount p has) whole.order);
+      }
+
+      took : All (Took course) lines
+      took i d inside =
+          let l : Line L = get_or lines i d in
+          let is = each i d inside in (
+            is.all ∙ ap (λ (ss : List Sent). sent l.old ++ ss) (sym (took_same course l.courses (all_flat (λ (c : Course). course c.order.place ≡ c) (λ l. l.courses) lines at i d inside))),
+            omega (arith, is.failures, no_failures l.courses is.are.each (unbroken i d inside)),
+          )
+
+      all_dumped : AllDumped sent failed ids orders before after (map (λ l. l.old) lines) (map (λ l. l.new) lines)
+      all_dumped = record {
+        gave = λ p. (course p).sent;
+        places = places;
+        stores = dumped;
+        once = once_all (h.whole none);
+        links = all_took course lines took;
+      }
+
+    -- what links were used for is what was spent, which is no more than the orders want
+    used_is : used_by sent failed (map (λ l. l.new) lines) ≡ used_by sent failed (map (λ l. l.old) lines) + sum_by (λ l. l.spent) lines
+    used_is =
+        let uses : L → ℕ = λ k. length (sent k) + failed k in
+        sum_by-map uses (λ (l : Line L). l.new) lines
+        ∙ sum_by-same (λ l. uses l.new) (λ l. uses l.old + l.spent) lines (λ i d inside.
+        let l : Line L = get_or lines i d in
+        let is = each i d inside in
+        omega (arith, ap length is.all, length-append (sent l.old) (sent_by ids l.courses), is.failures, spent_is ids l.courses, is.blocks))
+        ∙ sum_by-add (λ l. uses l.old) (λ l. l.spent) lines ∙ ap (λ (n : ℕ). n + sum_by (λ l. l.spent) lines) (sym (sum_by-map uses (λ (l : Line L). l.old) lines))
+
+    spent_few : sum_by (λ l. l.spent) lines ≤ amount_of orders
+    spent_few =
+        omega (
+          arith,
+          sum_by-le_each (λ l. l.spent) (λ l. sum_by (λ (c : Course). c.order.amount) l.courses) lines (λ i d inside.
+              let is = each i d inside in
+              omega (arith, is.blocks, sum_by-le_each (λ (c : Course). length c.sent + length c.unsent) (λ c. c.order.amount) (get_or lines i d).courses (λ j e within. (is.are.each j e within).few))),
+          sum_by-flat_map (λ (c : Course). c.order.amount) (λ (l : Line L). l.courses) lines,
+          h.weigh (λ (o : Order). o.amount),
+          sum_by-take-le (λ (o : Order). o.amount) orders h.next,
+        )
 
     -- and so the step
-    pub carries_out : length olds ≡ length news → All (λ (o : Order). 1 ≤ o.amount) orders
-        → CarriesOut sent failed ids orders before after (map (λ (s : Sided L). s.link) olds) (map (λ (s : Sided L). s.link) news) why (sum_by (λ (s : Sided L). s.worker.spent) news)
+    pub carries_out : CarriesOut sent failed ids orders before after (map (λ l. l.old) lines) (map (λ l. l.new) lines) (worst_of (map (λ l. l.why) lines)) (sum_by (λ l. l.spent) lines)
     unfolding settled
-    carries_out as_many amounts = record {
-      dumped = if_none (AllDumped sent failed ids orders before after _ _) why (λ whole. all_dumped whole amounts);
+    carries_out = record {
+      dumped = if_none (worst_of (map (λ l. l.why) lines)) all_dumped;
       settled = settled;
-      enough = λ few k. spots_tally k g.courses ∙ tally_all (enough (omega (arith, few, as_many, length-map olds (λ (s : Sided L). s.link)))) k;
-      kept = all_kept sent failed ids g.courses _ _ g.links;
-      used = used_is sent failed queue ids orders g.courses olds news g.each g.links;
+      enough = λ many. once_all (h.enough (omega (arith, many, length-map lines (λ (l : Line L). l.old), length-map lines (λ (l : Line L). l.why))));
+      kept = all_kept lines each;
+      used = used_is;
       within = spent_few;
     }
+      where
+        if_none : {P : Type 0} (o : Option OrderBroken) → (o ≡ None → P) → IfNone o P
+        if_none None f = f refl
+        if_none (Some why) f = tt

@@ -1,6 +1,7 @@
 -- A worker at work: the orders that it carried out so far, and one more.
-use Rattle.std.proofs.Common.{◌≡◌, ℕ, ◌+◌, ◌≤◌, List, [], ◌∷◌, ◌++◌, length, map, refl, sym, ap, subst, ◌∙◌, length-append, arith, ◌*◌, ◌<◌, true, All, append_assoc}
+use Rattle.std.proofs.Common.{◌≡◌, ℕ, ◌+◌, ◌≤◌, Bool, false, cond, List, [], ◌∷◌, ◌++◌, length, map, filter, refl, sym, ap, subst, ◌∙◌, length-append, arith, ◌*◌, ◌<◌, true, append_assoc}
 use Rattle.std.specs.Prelude.{Option, Some, None, is_some}
+use Rattle.std.proofs.lemmas.Bool.{lt-ltb, le-ltb}
 use Rattle.std.proofs.lemmas.List.{append-nil, map-append, get_or_append_left}
 use Rattle.std.proofs.lemmas.List.Sums.{sum_by-cons, sum_by-append}
 use Rattle.mm_desk.specs.declared.entry.Entry.{Entry}
@@ -10,15 +11,15 @@ use Rattle.mm_dump.specs.declared.order.Order.{Order}
 use Rattle.mm_dump.specs.declared.order.OrderBroken.{OrderBroken}
 use Rattle.mm_dump.specs.declared.stop.Stop.{Stop}
 use Rattle.mm_dump.specs.declared.stop.Stop.TheVariants.{Broken, Refused}
-use Rattle.mm_dump.specs.Courses.{Course, worse, worst_of, sent_by, failed_by}
+use Rattle.mm_dump.specs.Courses.{Course, worse, worst_of, sent_by}
 use Rattle.mm_dump.specs.OrderSteps.{OrderStore, HasEnded, cause_of}
 use Rattle.mm_dump.specs.Sending.{Sent, LinkState, all_sent}
-use Rattle.mm_dump.specs.Workers.{IsTried, Shows, OrderCarriedOut, order_at, calls_of, AreTried, HasWorkedOn, Worked}
+use Rattle.mm_dump.specs.Workers.{IsTried, Shows, OrderCarriedOut, order_at, has_order, calls_of, AreTried, past_of, Worked}
 use Rattle.std.proofs.lemmas.List.Concat.{flat_map-append}
-use Rattle.std.proofs.lemmas.List.Elements.{All-nil, All-head, All-tail, All-push}
+use Rattle.std.proofs.lemmas.List.Elements.{All-nil, All-push, filter-append}
 use Rattle.mm_dump.specs.declared.queue.QueueView.{QueueView}
 use Rattle.mm_dump.specs.Queue.{queue_view}
-use Rattle.mm_dump.proofs.Courses.{worst-push, whys, none_broke}
+use Rattle.mm_dump.proofs.Courses.{no_failures, worst-push, none_broke}
 
 module _ (ids : List (List ℕ)) (store : OrderStore) (order : Order) (old new : PortView) (l m : LinkState) (here : order.place ≡ store.place) (named : store.id ≡ id_at ids store.place) where
   -- how an order went that ended so
@@ -66,25 +67,14 @@ pub may_spend : (v w : QueueView) (number pushed spent : ℕ) → v ≡ queue_vi
 may_spend v w number pushed spent seen more few most bound =
     omega (arith, bound, few, ap (λ (x : QueueView). length x.taken) more, length-append v.taken (number ∷ []), ap (λ (x : QueueView). x.pushed) seen, most)
 
--- whole orders have no failures
-none_failed : (courses : List Course) → All IsTried courses → All (λ (c : Course). c.why ≡ None) courses → failed_by courses ≡ 0
-none_failed [] tried none = refl
-none_failed (c ∷ courses) tried none =
-    omega (
-      arith,
-      sum_by-cons (λ (c : Course). length c.unsent) c courses,
-      ap length ((All-head IsTried c courses tried).whole (All-head (λ (c : Course). c.why ≡ None) c courses none)),
-      none_failed courses (All-tail IsTried c courses tried) (All-tail (λ (c : Course). c.why ≡ None) c courses none),
-    )
-
 -- one order more
 are_more : (courses : List Course) (c : Course) (why : Option OrderBroken) → AreTried None courses → IsTried c → c.why ≡ why → AreTried why (courses ++ c ∷ [])
 are_more courses c why are is same = record {
   each = All-push IsTried courses c are.each is;
   early = λ i d within.
       let inside : i < length courses = omega (arith, within, length-append courses (c ∷ [])) in
-      ap (λ (b : Course). b.why) (get_or_append_left courses (c ∷ []) d i inside) ∙ none_broke courses are.cause i d inside;
-  cause = ap worst_of (map-append (λ (c : Course). c.why) courses (c ∷ [])) ∙ worst-push (whys courses) c.why ∙ ap (λ (worst : Option OrderBroken). worse worst c.why) are.cause ∙ same;
+      ap (λ (b : Course). b.why) (get_or_append_left courses (c ∷ []) d i inside) ∙ none_broke (λ (b : Course). b.why) courses are.cause i d inside;
+  cause = ap worst_of (map-append (λ (c : Course). c.why) courses (c ∷ [])) ∙ worst-push (map (λ (c : Course). c.why) courses) c.why ∙ ap (λ (worst : Option OrderBroken). worse worst c.why) are.cause ∙ same;
 }
 
 -- what a pass with one part knows once it has taken a number more
@@ -106,52 +96,63 @@ module _ (ids : List (List ℕ)) where
   }
 
   -- at the start no order was taken
-  pub worked_start : (orders : List Order) (numbers : List ℕ) (old : PortView) (l : LinkState) → numbers ≡ [] → HasWorkedOn ids orders numbers None old old l l
-  worked_start orders numbers old l none = record {
-    within = subst (λ (xs : List ℕ). All (λ (k : ℕ). k < length orders) xs) (sym none) (All-nil (λ (k : ℕ). k < length orders));
-    courses = [];
-    of = ap (λ (xs : List ℕ). map (order_at orders) xs) (sym none);
+  pub worked_start : (orders : List Order) (taken : List ℕ) (old : PortView) (l m : LinkState) → taken ≡ [] → m.sent ≡ l.sent → m.failed ≡ l.failed → m.spent ≡ l.spent
+      → Worked ids orders taken 0 None old old l m []
+  worked_start orders taken old l m none sent failed spent = record {
+    of = ap (λ (ks : List ℕ). map (order_at orders) (filter (has_order orders) ks)) (sym none);
+    count = ap length none;
     are = record { each = All-nil IsTried; early = λ i d within. absurd (omega (arith, within)); cause = refl };
     shown = record {
       port = ap (λ (calls : List (ℕ × Entry)). record old { list = calls }) (sym (append-nil old.list));
-      all = sym (append-nil l.sent);
-      failures = omega arith;
-      blocks = omega arith;
+      all = sent ∙ sym (append-nil l.sent);
+      failures = omega (arith, failed);
+      blocks = omega (arith, spent);
     };
   }
 
-  -- one order more
-  pub worked_more : (orders : List Order) (numbers all : List ℕ) (number : ℕ) (order : Order) (why cause : Option OrderBroken) (old mid new : PortView) (l m n : LinkState)
-      → all ≡ numbers ++ number ∷ [] → number < length orders → order ≡ order_at orders number → cause ≡ why
-      → HasWorkedOn ids orders numbers None old mid l m → OrderCarriedOut ids order cause mid new m n
-      → HasWorkedOn ids orders all why old new l n
-  worked_more orders numbers all number order why cause old mid new l m n more inside at same worked carried = record {
-    within = subst (λ (xs : List ℕ). All (λ (k : ℕ). k < length orders) xs) (sym more) (All-push (λ (k : ℕ). k < length orders) numbers number worked.within inside);
-    courses = worked.courses ++ carried.course ∷ [];
-    of = map-append (λ (c : Course). c.order) worked.courses (carried.course ∷ [])
-        ∙ ap (λ (os : List Order). os ++ carried.course.order ∷ []) worked.of
-        ∙ ap (λ (o : Order). map (order_at orders) numbers ++ o ∷ []) (carried.of ∙ at)
-        ∙ sym (map-append (order_at orders) numbers (number ∷ [])) ∙ ap (λ (xs : List ℕ). map (order_at orders) xs) (sym more);
-    are = are_more worked.courses carried.course why worked.are carried.is (carried.why_is ∙ same);
-    shown = shows_more worked.courses (carried.course ∷ []) old mid new l m n worked.shown carried.shown;
-  }
+  module _ (orders : List Order) (taken all : List ℕ) (number : ℕ) (old mid : PortView) (l m : LinkState) (courses : List Course) (more : all ≡ taken ++ number ∷ [])
+      (worked : Worked ids orders taken 0 None old mid l m courses) where
+    -- the numbers of orders among those taken
+    numbers : (b : Bool) → has_order orders number ≡ b → filter (has_order orders) all ≡ filter (has_order orders) taken ++ cond b (number ∷ []) []
+    numbers b is =
+        ap (filter (has_order orders)) more ∙ filter-append (has_order orders) taken (number ∷ [])
+        ∙ ap (λ (t : Bool). filter (has_order orders) taken ++ cond t (number ∷ []) []) is
 
-  -- a worker of whose orders none broke has had no failure
-  pub worked_well : (orders : List Order) (numbers : List ℕ) (old new : PortView) (l m : LinkState) → HasWorkedOn ids orders numbers None old new l m → m.failed ≡ l.failed
-  worked_well orders numbers old new l m worked = omega (arith, worked.shown.failures, none_failed worked.courses worked.are.each (none_broke worked.courses worked.are.cause))
+    count_more : length all ≡ length taken + 1
+    count_more = omega (arith, ap length more, length-append taken (number ∷ []))
+
+    -- a number that no order has was taken
+    pub worked_past : length orders ≤ number → Worked ids orders all 1 None old mid l m courses
+    worked_past past = record {
+      of = worked.of ∙ ap (map (order_at orders)) (sym (numbers false (le-ltb number (length orders) past) ∙ append-nil (filter (has_order orders) taken)));
+      count = omega (arith, count_more, worked.count);
+      are = worked.are;
+      shown = worked.shown;
+    }
+
+    -- one order more
+    pub worked_more : (order : Order) (why cause : Option OrderBroken) (new : PortView) (n : LinkState) → number < length orders → order ≡ order_at orders number → cause ≡ why
+        → (carried : OrderCarriedOut ids order cause mid new m n) → Worked ids orders all 0 why old new l n (courses ++ carried.course ∷ [])
+    worked_more order why cause new n inside at same carried = record {
+      of = map-append (λ (c : Course). c.order) courses (carried.course ∷ []) ∙ (λ i. worked.of i ++ (carried.of ∙ at) i ∷ [])
+          ∙ sym (ap (map (order_at orders)) (numbers true (lt-ltb number (length orders) inside)) ∙ map-append (order_at orders) (filter (has_order orders) taken) (number ∷ []));
+      count = omega (arith, count_more, worked.count, length-append courses (carried.course ∷ []));
+      are = are_more courses carried.course why worked.are carried.is (carried.why_is ∙ same);
+      shown = shows_more courses (carried.course ∷ []) old mid new l m n worked.shown carried.shown;
+    }
+
+  -- where none of its orders broke, the link has had no failure
+  pub worked_well : (orders : List Order) (taken : List ℕ) (past : ℕ) (old new : PortView) (l m : LinkState) (courses : List Course)
+      → Worked ids orders taken past None old new l m courses → m.failed ≡ l.failed
+  worked_well orders taken past old new l m courses worked = omega (arith, worked.shown.failures, no_failures courses worked.are.each worked.are.cause)
 
   -- an order spends no more than its amount
   pub carried_few : (order : Order) (why : Option OrderBroken) (old new : PortView) (l m : LinkState) → OrderCarriedOut ids order why old new l m → m.spent ≤ l.spent + order.amount
   carried_few order why old new l m carried =
       omega (arith, carried.shown.blocks, carried.is.few, ap (λ (o : Order). o.amount) carried.of, sum_by-cons (λ (c : Course). length c.sent + length c.unsent) carried.course [])
 
-  -- a worker that took a number past those of the orders
-  pub worked_all : (orders : List Order) (numbers taken : List ℕ) (past : ℕ) (old new : PortView) (l m : LinkState) → length orders ≤ past → taken ≡ numbers ++ past ∷ []
-      → HasWorkedOn ids orders numbers None old new l m → Worked ids orders taken None old new l m
-  worked_all orders numbers taken past old new l m beyond took on = record { numbers = numbers; took = (past, beyond, took); on = on }
-
-  -- a worker of which an order broke
-  pub worked_stopped : (orders : List Order) (taken : List ℕ) (why : Option OrderBroken) (old new : PortView) (l m : LinkState) → is_some why ≡ true
-      → HasWorkedOn ids orders taken why old new l m → Worked ids orders taken why old new l m
-  worked_stopped orders taken None old new l m some_why on = absurd (cc some_why)
-  worked_stopped orders taken (Some why) old new l m some_why on = record { numbers = taken; took = refl; on = on }
+-- a worker of which an order broke took no number that no order has
+pub worked_stopped : (ids : List (List ℕ)) (orders : List Order) (taken : List ℕ) (why : Option OrderBroken) (old new : PortView) (l m : LinkState) (courses : List Course)
+    → is_some why ≡ true → Worked ids orders taken 0 why old new l m courses → Worked ids orders taken (past_of why) why old new l m courses
+worked_stopped ids orders taken None old new l m courses some_why worked = absurd (cc some_why)
+worked_stopped ids orders taken (Some why) old new l m courses some_why worked = worked

@@ -6,5 +6,5 @@ pub mod Queue
 pub mod OrderSteps
 pub mod Courses
 pub mod Dumped
-pub mod Workers
 pub mod Steps
+pub mod Workers

@@ -31,16 +31,10 @@ pub record TakesNext (v : QueueView) (number : ℕ) (w : QueueView) : Type 0 whe
   pub taken : w ≡ queue_view v.parts v.pushed (v.taken ++ number ∷ [])
   pub few : length w.taken ≤ v.pushed
 
--- no more numbers are queued than were pushed
-abbrev pub HasRoom : QueueView → List ℕ → Type 0
-HasRoom v items = 0 < v.parts → length items ≤ v.pushed
-
--- of the numbers that were pushed, the pass with all parts took those that are queued no more
-abbrev pub AreCounted : QueueView → List ℕ → Type 0
-AreCounted v items = v.parts ≡ 1024 → length items + length v.taken ≡ v.pushed
-
--- the pass with all parts knows that it took the numbers below some number, each once
-pub record Tells (v : QueueView) : Type 0 where
+-- what a pass with a part knows of the numbers queued: they are no more than were pushed. The pass with all parts knows that it took the
+-- others, which are the numbers below some number, each once
+pub record Tells (v : QueueView) (items : List ℕ) : Type 0 where
+  pub room : 0 < v.parts → length items ≤ v.pushed
+  pub counted : v.parts ≡ 1024 → length items + length v.taken ≡ v.pushed
   pub next : ℕ
-  pub within : v.parts ≡ 1024 → next ≤ v.pushed
   pub each : v.parts ≡ 1024 → (weight : ℕ → ℕ) → sum_by weight (range_with_len 0 next) ≡ sum_by weight v.taken

@@ -1,9 +1,8 @@
 -- What a dump worker did, and what any number of dump workers did. No public clause cites this module.
-use Rattle.std.specs.Prelude.{◌≡◌, ℕ, ◌+◌, ◌-◌, ◌<◌, ◌≤◌, ◌^◌, List, [], ◌∷◌, ◌++◌, length, map, flat_map, slice_index_or, All, Option, Some, None, suc}
-use Rattle.std.specs.List.{AllZip}
+use Rattle.std.specs.Prelude.{◌≡◌, ℕ, ◌+◌, ◌-◌, ◌<◌, ◌≤◌, ◌^◌, Bool, nat_lt, List, [], ◌∷◌, ◌++◌, length, map, filter, flat_map, slice_index_or, All, Option, Some, None, suc}
 use Rattle.crossbeam_queue.specs.declared.array_queue.Doing.{Doing}
 use Rattle.crossbeam_queue.specs.declared.array_queue.Slotted.{Slotted}
-use Rattle.crossbeam_queue.specs.Passes.{view, IsPassOf}
+use Rattle.crossbeam_queue.specs.Passes.{view}
 use Rattle.mm_desk.specs.declared.entry.Entry.{Entry}
 use Rattle.mm_desk.specs.Machine.{State}
 use Rattle.mm_desk.specs.Runs.{IsRun}
@@ -14,8 +13,8 @@ use Rattle.mm_dump.specs.declared.order.Order.{Order}
 use Rattle.mm_dump.specs.declared.order.OrderBroken.{OrderBroken}
 use Rattle.mm_dump.specs.declared.queue.QueueView.{QueueView}
 use Rattle.mm_dump.specs.Courses.{Course, IsCourse, worst_of, sent_by, failed_by, spent_by}
-use Rattle.mm_dump.specs.Queue.{queue_view}
 use Rattle.mm_dump.specs.Sending.{Sent, LinkState, link_state}
+use Rattle.mm_dump.specs.Steps.{IsHired, IsBack}
 
 -- the order of a number
 abbrev pub order_at : List Order → ℕ → Order
@@ -57,73 +56,65 @@ pub record AreTried (why : Option OrderBroken) (courses : List Course) : Type 0 
   pub early : (i : ℕ) (d : Course) → suc i < length courses → (slice_index_or courses i d).why ≡ None
   pub cause : worst_of (map (λ c. c.why) courses) ≡ why
 
--- a worker took these numbers of orders from the queue, and then one that no order has, where none of its orders broke
-abbrev pub TookAs : Option OrderBroken → ℕ → List ℕ → List ℕ → Type 0
-TookAs None orders numbers taken = (past : ℕ) × (orders ≤ past) × (taken ≡ numbers ++ past ∷ [])
-TookAs (Some why) orders numbers taken = taken ≡ numbers
+-- whether an order has a number
+abbrev pub has_order : List Order → ℕ → Bool
+has_order orders number = nat_lt number (length orders)
 
--- a worker carried out the orders of these numbers, of which the last broke for this cause, where there is one
-pub record HasWorkedOn (ids : List (List ℕ)) (orders : List Order) (numbers : List ℕ) (why : Option OrderBroken) (old new : PortView) (before after : LinkState) : Type 0 where
-  pub within : All (λ k. k < length orders) numbers
-  pub courses : List Course
-  pub of : map (λ c. c.order) courses ≡ map (order_at orders) numbers
+-- how many numbers that no order has a worker takes: one where none of its orders broke
+abbrev pub past_of : Option OrderBroken → ℕ
+past_of None = 1
+past_of (Some why) = 0
+
+-- a worker took these numbers, of which this many are no order's, and carried out the orders of the others, of which the last broke for this
+-- cause, where there is one
+pub record Worked (ids : List (List ℕ)) (orders : List Order) (taken : List ℕ) (past : ℕ) (why : Option OrderBroken) (old new : PortView) (before after : LinkState)
+    (courses : List Course) : Type 0 where
+  pub of : map (λ c. c.order) courses ≡ map (order_at orders) (filter (has_order orders) taken)
+  pub count : length taken ≡ length courses + past
   pub are : AreTried why courses
   pub shown : Shows ids courses old new before after
 
--- a worker carried out the orders that it took until it found none left or one broke
-pub record Worked (ids : List (List ℕ)) (orders : List Order) (taken : List ℕ) (why : Option OrderBroken) (old new : PortView) (before after : LinkState) : Type 0 where
-  pub numbers : List ℕ
-  pub took : TookAs why (length orders) numbers taken
-  pub on : HasWorkedOn ids orders numbers why old new before after
-
--- a worker with its link and its port
-pub record Sided (L : Type 0) : Type 0 where
-  pub link : L
-  pub port : PortView
+-- a worker's link and port before it worked and after, what it is after, and the orders that it carried out
+pub record Work (L : Type 0) : Type 0 where
+  pub old_link : L
+  pub new_link : L
+  pub old_port : PortView
+  pub new_port : PortView
   pub worker : DumpWorker
+  pub courses : List Course
 
-abbrev pub side : {L : Type 0} → L → PortView → DumpWorker → Sided L
-side link port worker = record { link = link; port = port; worker = worker }
+-- a port of these stores, through which no call was made
+pub record IsNewPort (stores : StoresView) (port : PortView) : Type 0 where
+  pub of : port.of.table ≡ stores.id
+  pub fresh : port.list ≡ []
 
--- workers with their links and their ports
-abbrev pub sided : {L : Type 0} → List L → List PortView → List DumpWorker → List (Sided L)
-sided (link ∷ links) (port ∷ ports) (worker ∷ workers) = side link port worker ∷ sided links ports workers
-sided links ports workers = []
+-- a worker carried out the orders of the numbers that its pass took
+abbrev pub HasWorked : {L : Type 0} → (L → List Sent) → (L → ℕ) → List (List ℕ) → List Order → Work L → Type 0
+HasWorked sent failed ids orders w =
+    Worked ids orders (view w.worker.pass).taken (past_of w.worker.why) w.worker.why w.old_port w.new_port
+    (link_state (sent w.old_link) (failed w.old_link) 0) (link_state (sent w.new_link) (failed w.new_link) w.worker.spent) w.courses
 
 module _ {L Q A : Type 0} (sent : L → List Sent) (failed : L → ℕ) (queue : Slotted (Option ℕ) (Doing ℕ QueueView) Q A) where
-  -- the link of a worker, with what the worker has spent
-  abbrev pub link_of : Sided L → LinkState
-  link_of s = link_state (sent s.link) (failed s.link) s.worker.spent
-
-  -- a worker has a port of the stores, through which no call was made, and a pass with one part that took nothing, has spent nothing, and
-  -- its link may fail once more
-  pub record IsReady (stores : StoresView) (s : Sided L) : Type 0 where
-    pub of : s.port.of.table ≡ stores.id
-    pub fresh : s.port.list ≡ []
-    pub pass : IsPassOf queue s.worker.pass
-    pub first : view s.worker.pass ≡ queue_view 1 (view s.worker.pass).pushed []
-    pub few : (view s.worker.pass).pushed ≤ 65536
-    pub spent : s.worker.spent ≡ 0
-    pub room : failed s.link < 2 ^ 64 - 1
-
-  -- there are as many workers as links, one at least, and each is ready
+  -- there are as many workers as links, one at least, each with a port through which no call was made, and each link may fail once more
   pub record AreReady (stores : StoresView) (labels : List StoreLabel) (orders : List Order) (links : List L) (ports : List PortView) (workers : List DumpWorker) : Type 0 where
     pub some : 0 < length links
     pub ports_count : length ports ≡ length links
     pub workers_count : length workers ≡ length links
     pub fit : OrdersFit stores labels orders
-    pub each : All (IsReady stores) (sided links ports workers)
+    pub new_ports : All (IsNewPort stores) ports
+    pub hired : All (IsHired queue) workers
+    pub room : All (λ l. failed l < 2 ^ 64 - 1) links
 
-  -- a worker carried out the orders of the numbers that its pass took
-  pub record HasWorked (ids : List (List ℕ)) (orders : List Order) (old new : Sided L) : Type 0 where
-    pub pass : IsPassOf queue new.worker.pass
-    pub parts : (view new.worker.pass).parts ≡ 1
-    pub bound : new.worker.spent ≤ 2 ^ 48
-    pub worked : Worked ids orders (view new.worker.pass).taken new.worker.why old.port new.port (link_of old) (link_of new)
-
-  -- each worker did
-  abbrev pub AllWorked : List (List ℕ) → List Order → List (Sided L) → List (Sided L) → Type 0
-  AllWorked ids orders olds news = AllZip (HasWorked ids orders) olds news
+  -- workers with these links and these ports did so, and are back
+  pub record AllWorked (ids : List (List ℕ)) (orders : List Order) (old_links new_links : List L) (old_ports new_ports : List PortView) (workers : List DumpWorker) : Type 0 where
+    pub works : List (Work L)
+    pub each : All (HasWorked sent failed ids orders) works
+    pub back : All (λ w. IsBack queue w.worker) works
+    pub old_links_are : map (λ w. w.old_link) works ≡ old_links
+    pub new_links_are : map (λ w. w.new_link) works ≡ new_links
+    pub old_ports_are : map (λ w. w.old_port) works ≡ old_ports
+    pub new_ports_are : map (λ w. w.new_port) works ≡ new_ports
+    pub workers_are : map (λ w. w.worker) works ≡ workers
 
 -- why the last order of each worker broke
 abbrev pub causes_of : List DumpWorker → List (Option OrderBroken)

@@ -1,9 +1,7 @@
 //! What the dumps of a run use beside stores and links: reserved once, and used again in each step.
-ghost use Rattle.std.specs.Prelude.{◌≡◌, ◌+◌, ◌<◌, ◌≤◌, [], All, vec_capacity};
-ghost use Rattle.crossbeam_queue.specs.Passes.{view, IsPassOf, ruled_capacity};
-ghost use Rattle.mm_base.specs.declared.limits.TheConstants.{MAX_STORES};
-ghost use Rattle.mm_desk.specs.declared.desk.TheConstants.{MAX_SEATS};
-ghost use Rattle.mm_dump.specs.Steps.{IsWhole, AreHired, IsBack, AreBack};
+ghost use Rattle.std.specs.Prelude.{◌≡◌, ◌<◌, [], All, vec_capacity};
+ghost use Rattle.crossbeam_queue.specs.Passes.{view, IsPassOf};
+ghost use Rattle.mm_dump.specs.Steps.{MayHire, AreHired, IsBack, AreBack};
 
 use crate::dumper::DumpWorker;
 use crate::queue::{OrderPass, OrderQueue, SplitOne, new_queue, push_all};
@@ -58,13 +56,8 @@ pub(crate) fn hire<R: Wait>(
     orders: u32,
     count: u32,
 )
-    requires whole { IsWhole queue.now pass.old }
-    requires some { (1 ≤ count) × (count ≤ MAX_SEATS) }
-    requires few { orders ≤ MAX_STORES }
-    requires numbers { orders + count ≤ ruled_capacity queue.now }
-    requires none { workers.old.items ≡ [] }
-    requires room { count ≤ vec_capacity workers.old }
-    ensures hired { AreHired queue.now count (orders + count) pass.new workers.new.items }
+    requires may { MayHire queue.now pass.old workers.old orders count }
+    ensures hired { AreHired queue.now count pass.new workers.new.items }
     ensures capacity { vec_capacity workers.new ≡ vec_capacity workers.old }
 {
     push_all(rt, queue, pass, orders + count);
@@ -82,8 +75,7 @@ pub(crate) fn join_passes(queue: &OrderQueue, pass: &mut OrderPass, workers: &mu
     requires pass { IsPassOf queue.now pass.old }
     requires part { 0 < (view pass.old).parts }
     requires passes { All (IsBack queue.now) workers.old.items }
-    ensures pass { IsPassOf queue.now pass.new }
-    ensures joined { AreBack workers.old.items (view pass.old) (view pass.new) }
+    ensures joined { AreBack queue.now workers.old.items pass.old pass.new }
     ensures none { workers.new.items ≡ [] }
     ensures capacity { vec_capacity workers.new ≡ vec_capacity workers.old }
 {

@@ -1,11 +1,13 @@
 //! Dump workers: each takes its next order from the queue until it finds that none is left, and carries it out.
-ghost use Rattle.std.specs.Prelude.{◌≡◌, ◌+◌, ◌-◌, ◌<◌, ◌≤◌, ◌^◌, length};
+ghost use Rattle.std.specs.Prelude.{◌≡◌, ◌+◌, ◌-◌, ◌<◌, ◌≤◌, ◌^◌, List, length};
 ghost use Rattle.std.specs.Thread.{IsSync, IsSend};
-ghost use Rattle.crossbeam_queue.specs.Passes.{view, IsPassOf};
+ghost use Rattle.crossbeam_queue.specs.Passes.{view};
 ghost use Rattle.mm_shared.specs.Stores.{ids_of};
 ghost use Rattle.mm_dump.specs.OrderSteps.{IsPortAt};
 ghost use Rattle.mm_dump.specs.Sending.{link_state};
-ghost use Rattle.mm_dump.specs.Workers.{OrdersFit, OrderCarriedOut, Worked, side, sided, IsReady, AreReady, AllWorked};
+ghost use Rattle.mm_dump.specs.Courses.{Course};
+ghost use Rattle.mm_dump.specs.Steps.{IsHired, IsBack};
+ghost use Rattle.mm_dump.specs.Workers.{OrdersFit, OrderCarriedOut, past_of, Worked, IsNewPort, AreReady, AllWorked};
 
 use crate::carrying::{OrderContext, carry};
 use crate::link::Link;
@@ -74,12 +76,12 @@ fn work<L: Link, R: Wait>(
     link: &mut L,
 ) -> Option<OrderBroken>
     requires fit { OrdersFit context.now.stores.now context.now.labels.now context.now.orders.now }
-    requires ready { IsReady L.sent L.failed context.now.queue.now context.now.stores.now (side link.old port.old worker.old) }
-    ensures pass { IsPassOf context.now.queue.now worker.new.pass }
-    ensures parts { (view worker.new.pass).parts ≡ 1 }
-    ensures bound { worker.new.spent ≤ 2 ^ 48 }
-    ensures worked { Worked (ids_of context.now.labels.now) context.now.orders.now (view worker.new.pass).taken result port.old port.new
-        (link_state (L.sent link.old) (L.failed link.old) worker.old.spent) (link_state (L.sent link.new) (L.failed link.new) worker.new.spent) }
+    requires port { IsNewPort context.now.stores.now port.old }
+    requires hired { IsHired context.now.queue.now worker.old }
+    requires room { L.failed link.old < 2 ^ 64 - 1 }
+    ensures back { IsBack context.now.queue.now worker.new }
+    ensures worked { (courses : List Course) × Worked (ids_of context.now.labels.now) context.now.orders.now (view worker.new.pass).taken (past_of result) result port.old port.new
+        (link_state (L.sent link.old) (L.failed link.old) 0) (link_state (L.sent link.new) (L.failed link.new) worker.new.spent) courses }
 {
     for _ in context.rt.forever() {
         let number = take_next(context.rt, context.queue, &mut worker.pass) as usize;
@@ -105,7 +107,7 @@ fn run<L: Link, R: Wait>(
     requires one { length links.old ≡ 1 }
     requires ready { AreReady L.sent L.failed context.now.queue.now context.now.stores.now context.now.labels.now context.now.orders.now links.old ports.old workers.old }
     ensures worked { AllWorked L.sent L.failed context.now.queue.now (ids_of context.now.labels.now) context.now.orders.now
-        (sided links.old ports.old workers.old) (sided links.new ports.new workers.new) }
+        links.old links.new ports.old ports.new workers.new }
 {
     let worker = &mut workers[0];
     let why = work(context, &mut ports[0], worker, &mut links[0]);
@@ -122,7 +124,7 @@ pub(crate) fn dump_all<L: Link + Send, R: Threads + Wait + Sync>(
 )
     requires ready { AreReady L.sent L.failed context.now.queue.now context.now.stores.now context.now.labels.now context.now.orders.now links.old ports.old workers.old }
     ensures worked { AllWorked L.sent L.failed context.now.queue.now (ids_of context.now.labels.now) context.now.orders.now
-        (sided links.old ports.old workers.old) (sided links.new ports.new workers.new) }
+        links.old links.new ports.old ports.new workers.new }
 {
     if links.len() == 1 {
         run(context, links, ports, workers);
@@ -165,9 +167,9 @@ fn dump_halves<L: Link + Send, R: Threads + Wait + Sync>(
     requires ready { AreReady L.sent L.failed context.now.queue.now context.now.stores.now context.now.labels.now context.now.orders.now low.links.now low.ports.now low.workers.now
         × AreReady L.sent L.failed context.now.queue.now context.now.stores.now context.now.labels.now context.now.orders.now high.links.now high.ports.now high.workers.now }
     ensures low { AllWorked L.sent L.failed context.now.queue.now (ids_of context.now.labels.now) context.now.orders.now
-        (sided low.entry.links.now low.entry.ports.now low.entry.workers.now) (sided low.exit.0.now low.exit.1.0.now low.exit.1.1.0.now) }
+        low.entry.links.now low.exit.0.now low.entry.ports.now low.exit.1.0.now low.exit.1.1.0.now }
     ensures high { AllWorked L.sent L.failed context.now.queue.now (ids_of context.now.labels.now) context.now.orders.now
-        (sided high.entry.links.now high.entry.ports.now high.entry.workers.now) (sided high.exit.0.now high.exit.1.0.now high.exit.1.1.0.now) }
+        high.entry.links.now high.exit.0.now high.entry.ports.now high.exit.1.0.now high.exit.1.1.0.now }
 {
     let HalfOfWorkers {
         links: low_links,
@@ -181,11 +183,11 @@ fn dump_halves<L: Link + Send, R: Threads + Wait + Sync>(
     } = high;
     let mut low = ||
         requires { IsSync R.row × IsSend L.row × AreReady L.sent L.failed context.now.queue.now context.now.stores.now context.now.labels.now context.now.orders.now low_links.now low_ports.now low_workers.now }
-        ensures { AllWorked L.sent L.failed context.entry.now.queue.now (ids_of context.entry.now.labels.now) context.entry.now.orders.now (sided low_links.entry.now low_ports.entry.now low_workers.entry.now) (sided low_links.exit.now low_ports.exit.now low_workers.exit.now) }
+        ensures { AllWorked L.sent L.failed context.entry.now.queue.now (ids_of context.entry.now.labels.now) context.entry.now.orders.now low_links.entry.now low_links.exit.now low_ports.entry.now low_ports.exit.now low_workers.exit.now }
     { dump_all(context, low_links, low_ports, low_workers) };
     let mut high = ||
         requires { IsSync R.row × IsSend L.row × AreReady L.sent L.failed context.now.queue.now context.now.stores.now context.now.labels.now context.now.orders.now high_links.now high_ports.now high_workers.now }
-        ensures { AllWorked L.sent L.failed context.entry.now.queue.now (ids_of context.entry.now.labels.now) context.entry.now.orders.now (sided high_links.entry.now high_ports.entry.now high_workers.entry.now) (sided high_links.exit.now high_ports.exit.now high_workers.exit.now) }
+        ensures { AllWorked L.sent L.failed context.entry.now.queue.now (ids_of context.entry.now.labels.now) context.entry.now.orders.now high_links.entry.now high_links.exit.now high_ports.entry.now high_ports.exit.now high_workers.exit.now }
     { dump_all(context, high_links, high_ports, high_workers) };
     join_mut(context.rt, &mut low, &mut high);
 }

@@ -1,7 +1,7 @@
 //! The queue of a step's orders, by their numbers. All numbers are pushed before the workers start, and after those of the orders
 //! one more for each worker: a number that no order has tells the worker which takes it that no order is left. Each step uses the
 //! queue again: what the last one left is taken first, and the numbers begin at 0 anew.
-ghost use Rattle.std.specs.Prelude.{◌≡◌, ◌+◌, ◌<◌, ◌≤◌, [], ◌∷◌, ◌++◌, length, IfOk};
+ghost use Rattle.std.specs.Prelude.{◌≡◌, ℕ, ◌+◌, ◌<◌, ◌≤◌, List, [], ◌∷◌, ◌++◌, length, IfOk};
 ghost use Rattle.crossbeam_queue.specs.Passes.{view, IsPassOf, ruled_capacity};
 ghost use Rattle.mm_dump.specs.Queue.{queue_view, Tells};
 ghost use Rattle.mm_dump.specs.Steps.{IsWhole};
@@ -65,9 +65,9 @@ impl Outcome<u32, QueueView> for PushFirst {
 }
 
 impl Lesson<u32, QueueView> for PushFirst {
-    ghost use Rattle.mm_dump.specs.Queue.{AreCounted};
+    ghost use Rattle.mm_dump.specs.Queue.{Tells};
 
-    ghost fact = { AreCounted };
+    ghost fact = { Tells };
 }
 
 /// The next number is pushed.
@@ -81,9 +81,9 @@ impl Outcome<u32, QueueView> for PushNext {
 }
 
 impl Lesson<u32, QueueView> for PushNext {
-    ghost use Rattle.mm_dump.specs.Queue.{HasRoom};
+    ghost use Rattle.mm_dump.specs.Queue.{Tells};
 
-    ghost fact = { HasRoom };
+    ghost fact = { Tells };
 }
 
 /// The number that is next is taken.
@@ -98,22 +98,7 @@ impl Outcome<u32, QueueView> for TakeNext {
 impl Lesson<u32, QueueView> for TakeNext {
     ghost use Rattle.mm_dump.specs.Queue.{Tells};
 
-    ghost fact = { λ v items. Tells v };
-}
-
-/// A number that the last step left is taken.
-pub(crate) struct TakeLeft;
-
-impl Outcome<u32, QueueView> for TakeLeft {
-    ghost use Rattle.mm_dump.specs.Queue.{TakesNext};
-
-    ghost then = { TakesNext };
-}
-
-impl Lesson<u32, QueueView> for TakeLeft {
-    ghost use Rattle.mm_dump.specs.Queue.{AreCounted};
-
-    ghost fact = { AreCounted };
+    ghost fact = { Tells };
 }
 
 /// A queue of orders, by their numbers.
@@ -137,7 +122,7 @@ fn drain<R: Wait>(rt: &R, queue: &OrderQueue, pass: &mut OrderPass)
     ensures whole { IsWhole queue.now pass.new }
     ensures all { length (view pass.new).taken ≡ (view pass.new).pushed }
 {
-    while queue.pop_as::<TakeLeft, R>(rt, pass).is_some() {}
+    while queue.pop_as::<TakeNext, R>(rt, pass).is_some() {}
 }
 
 // Queues the numbers from 0 on, and no others.
@@ -181,7 +166,7 @@ pub(crate) fn learn_taken(queue: &OrderQueue, pass: &mut OrderPass)
     requires pass { IsPassOf queue.now pass.old }
     ensures same { view pass.new ≡ view pass.old }
     ensures pass { IsPassOf queue.now pass.new }
-    ensures taken { Tells (view pass.new) }
+    ensures taken { (items : List ℕ) × Tells (view pass.new) items }
 {
     queue.learn_as::<TakeNext>(pass);
 }

@@ -13,7 +13,6 @@ use crate::queue::learn_taken;
 use crate::worst::worst_broken;
 use mm_base::NoMemory;
 use mm_desk::Held;
-use mm_desk::laws::lone_seats_are_logs;
 use mm_shared::{OpenStores, close_all, open_all, seat_workers, settle};
 use std::alloc::Global;
 use std::sync::Wait;
@@ -96,7 +95,6 @@ pub fn dump_open<L: Link + Send, R: Threads + Wait + Sync>(
         &mut stores.workers,
         &mut buffers.workers,
     );
-    lone_seats_are_logs();
     settle(stores);
     let broken = worst_broken(&buffers.workers);
     let spent = spent_by(&buffers.workers);

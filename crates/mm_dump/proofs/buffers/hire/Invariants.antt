@@ -1,4 +1,4 @@
-use Rattle.std.proofs.Common.{◌≡◌, ◌+◌, [], All, vec_len, vec_capacity}
+use Rattle.std.proofs.Common.{◌≡◌, ◌+◌, ◌≤◌, [], All, vec_len, vec_capacity}
 use Rattle.crossbeam_queue.specs.Passes.{view, IsPassOf}
 use Rattle.mm_dump.specs.Steps.{IsHired}
 use Rattle.mm_dump.proofs.buffers.hire.Given as goal
@@ -7,9 +7,9 @@ abbrev pub invariant-loop : goal.invariant-loop
 invariant-loop g l = record {
   of : IsPassOf l.queue l.pass;
   parts : (view l.pass).parts + l.counter ≡ 1024;
-  pushed : (view l.pass).pushed ≡ l.orders + l.count;
+  few : (view l.pass).pushed ≤ 65536;
   none : (view l.pass).taken ≡ [];
   many : vec_len l.workers ≡ l.counter;
   room : vec_capacity l.workers ≡ vec_capacity l.initial.workers;
-  hired : All (IsHired l.queue (l.orders + l.count)) l.workers.items;
+  hired : All (IsHired l.queue) l.workers.items;
 }

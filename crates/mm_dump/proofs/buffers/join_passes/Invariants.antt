@@ -12,7 +12,6 @@ invariant-loop-worker l = record {
   capacity : vec_capacity l.workers ≡ vec_capacity l.initial.workers;
   passes : All (IsBack l.queue) l.workers.items;
   parts : (view l.pass).parts + length l.workers.items ≡ (view l.initial.pass).parts + length l.initial.workers.items;
-  pushed : (view l.pass).pushed ≡ (view l.initial.pass).pushed;
   taken : (weight : ℕ → ℕ) → sum_by weight (view l.pass).taken + sum_by (λ (w : DumpWorker). sum_by weight (view w.pass).taken) l.workers.items
       ≡ sum_by weight (view l.initial.pass).taken + sum_by (λ (w : DumpWorker). sum_by weight (view w.pass).taken) l.initial.workers.items;
 }

@@ -1,9 +1,10 @@
-use Rattle.std.proofs.Common.{◌≡◌, ◌*◌, ◌^◌, ◌≤◌, length, None}
+use Rattle.std.proofs.Common.{◌≡◌, ◌*◌, ◌^◌, ◌≤◌, List, length, None}
 use Rattle.crossbeam_queue.specs.Passes.{view, IsPassOf}
 use Rattle.mm_shared.specs.Stores.{ids_of}
 use Rattle.mm_dump.specs.Queue.{queue_view}
 use Rattle.mm_dump.specs.Sending.{link_state}
-use Rattle.mm_dump.specs.Workers.{HasWorkedOn}
+use Rattle.mm_dump.specs.Courses.{Course}
+use Rattle.mm_dump.specs.Workers.{Worked}
 use Rattle.mm_dump.proofs.dumper.work.Given as goal
 
 abbrev pub invariant-loop : goal.invariant-loop
@@ -14,7 +15,7 @@ invariant-loop g l = record {
   seen : view l.worker.pass ≡ queue_view 1 (view l.initial.worker.pass).pushed (view l.worker.pass).taken;
   few : length (view l.worker.pass).taken ≤ (view l.initial.worker.pass).pushed;
   spent : l.worker.spent ≤ length (view l.worker.pass).taken * 2 ^ 32;
-  worked : HasWorkedOn (ids_of l.context.labels.now) l.context.orders.now (view l.worker.pass).taken None l.initial.port l.port
-      (link_state (g.L.Link.sent l.initial.link) (g.L.Link.failed l.initial.link) l.initial.worker.spent)
-      (link_state (g.L.Link.sent l.link) (g.L.Link.failed l.link) l.worker.spent);
+  worked : (courses : List Course) × Worked (ids_of l.context.labels.now) l.context.orders.now (view l.worker.pass).taken 0 None l.initial.port l.port
+      (link_state (g.L.Link.sent l.initial.link) (g.L.Link.failed l.initial.link) 0)
+      (link_state (g.L.Link.sent l.link) (g.L.Link.failed l.link) l.worker.spent) courses;
 }
