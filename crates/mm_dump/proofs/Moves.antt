@@ -1,16 +1,16 @@
 -- Each step of the queue keeps its rule.
-use Rattle.std.proofs.Common.{◌≡◌, ◌≢◌, ⊎_elim, ℕ, zero, suc, ◌+◌, ◌-◌, ◌<◌, ◌≤◌, List, [], ◌∷◌, ◌++◌, length, set, refl, sym, ap, subst, ◌∙◌, arith, length-append}
+use Rattle.std.proofs.Common.{◌≡◌, ◌≢◌, ⊎_elim, ℕ, zero, suc, ◌+◌, ◌-◌, ◌<◌, ◌≤◌, List, [], ◌∷◌, ◌++◌, length, get_or, set, refl, sym, ap, subst, ◌∙◌, arith, length-append}
 use Rattle.std.specs.List.{sum_by, range_with_len}
-use Rattle.std.proofs.lemmas.List.{nil_from_length}
+use Rattle.std.proofs.lemmas.List.{get_or_default, nil_from_length}
 use Rattle.std.proofs.lemmas.List.FromFn.{length-range_with_len}
 use Rattle.std.proofs.lemmas.List.Sums.{sum_by-cons, sum_by-append, sum_by_push}
 use mathlib.Core.Option.{some, some-injective, some-ne-none}
 use lib.ListN.{get_elem?}
 use Rattle.crossbeam_queue.specs.Fifo.{Pushes, Pops, Forks, Merges, Learns}
-use Rattle.crossbeam_queue.proofs.Lists.{at_set, at_snoc}
+use Rattle.crossbeam_queue.proofs.Lists.{at_index, at_set, at_snoc, set_else}
 use Rattle.mm_base.proofs.Ranges.{range_with_len_more}
 use Rattle.mm_base.proofs.RangeSums.{sum_by_range_more}
-use Rattle.mm_base.proofs.Sums.{sum_by_ones}
+use Rattle.mm_base.proofs.Sums.{sum_by_ones, sum_by_zeros}
 use Rattle.mm_dump.specs.declared.queue.QueueView.{QueueView}
 use Rattle.mm_dump.specs.Queue.{queue_view, Knows, AreTakenOnce, TakesNext, Tells}
 
@@ -22,12 +22,6 @@ total_set f (u ∷ us) zero v w at =
 total_set f (u ∷ us) (suc pass) v w at =
     omega (arith, sum_by-cons f u us, sum_by-cons f u (set us pass w), total_set f us pass v w at)
 
--- what one pass counts is at most what all count
-one_part : (f : QueueView → ℕ) (views : List QueueView) (pass : ℕ) (v : QueueView) → get_elem? views pass ≡ some v → f v ≤ sum_by f views
-one_part f [] pass v at = absurd (some-ne-none v (sym at))
-one_part f (u ∷ us) zero v at = omega (arith, sum_by-cons f u us, ap f (some-injective u v at))
-one_part f (u ∷ us) (suc pass) v at = omega (arith, sum_by-cons f u us, one_part f us pass v at)
-
 -- how many parts a pass has, and what the numbers that it took weigh
 abbrev parts_of : QueueView → ℕ
 parts_of v = v.parts
@@ -35,40 +29,18 @@ parts_of v = v.parts
 abbrev took : (ℕ → ℕ) → QueueView → ℕ
 took weight v = sum_by weight v.taken
 
--- what two passes count is at most what all count
-two_parts : (views : List QueueView) (one two : ℕ) (v w : QueueView) → one ≢ two → get_elem? views one ≡ some v → get_elem? views two ≡ some w
-    → v.parts + w.parts ≤ sum_by parts_of views
-two_parts [] one two v w apart at here = absurd (some-ne-none v (sym at))
-two_parts (u ∷ us) zero zero v w apart at here = absurd (apart refl)
-two_parts (u ∷ us) zero (suc two) v w apart at here =
-    omega (arith, sum_by-cons parts_of u us, ap parts_of (some-injective u v at), one_part parts_of us two w here)
-two_parts (u ∷ us) (suc one) zero v w apart at here =
-    omega (arith, sum_by-cons parts_of u us, ap parts_of (some-injective u w here), one_part parts_of us one v at)
-two_parts (u ∷ us) (suc one) (suc two) v w apart at here =
-    omega (arith, sum_by-cons parts_of u us, two_parts us one two v w (λ same. apart (ap suc same)) at here)
-
--- a sum over passes of which one alone counts
-sole : (f : QueueView → ℕ) (views : List QueueView) (pass : ℕ) (v : QueueView) → get_elem? views pass ≡ some v
-    → ((other : ℕ) (u : QueueView) → other ≢ pass → get_elem? views other ≡ some u → f u ≡ 0) → sum_by f views ≡ f v
-sole f [] pass v at others = absurd (some-ne-none v (sym at))
-sole f (u ∷ us) zero v at others =
-    omega (arith, sum_by-cons f u us, ap f (some-injective u v at), zeros us (λ other w here. others (suc other) w (λ e. omega arith) here))
-  where
-    zeros : (us : List QueueView) → ((other : ℕ) (u : QueueView) → get_elem? us other ≡ some u → f u ≡ 0) → sum_by f us ≡ 0
-    zeros [] all = refl
-    zeros (u ∷ us) all = omega (arith, sum_by-cons f u us, all zero u refl, zeros us (λ other w here. all (suc other) w here))
-sole f (u ∷ us) (suc pass) v at others =
-    omega (
-      arith,
-      sum_by-cons f u us,
-      others zero u (λ e. omega arith) refl,
-      sole f us pass v at (λ other w apart here. others (suc other) w (λ e. apart (omega arith)) here),
-    )
+-- a pass without parts, which has taken nothing
+abbrev nothing : QueueView
+nothing = queue_view 0 0 []
 
 -- where one pass has all parts, another has none
 no_part : (views : List QueueView) (pass other : ℕ) (v u : QueueView) → sum_by parts_of views ≡ 1024 → v.parts ≡ 1024
     → get_elem? views pass ≡ some v → other ≢ pass → get_elem? views other ≡ some u → u.parts ≡ 0
-no_part views pass other v u all mine at apart here = omega (arith, two_parts views other pass u v apart here at)
+no_part views pass other v u all mine at apart here =
+    let first : sum_by parts_of (set views pass nothing) + v.parts ≡ sum_by parts_of views + 0 = total_set parts_of views pass v nothing at in
+    let second : sum_by parts_of (set (set views pass nothing) other nothing) + u.parts ≡ sum_by parts_of (set views pass nothing) + 0 =
+    total_set parts_of (set views pass nothing) other u nothing (set_else views pass other nothing apart ∙ here) in
+    omega (arith, first, second, all, mine)
 
 -- what passes know after a change of one
 known_set : (m : ℕ) (views : List QueueView) (pass : ℕ) (w : QueueView) → Knows m w
@@ -101,8 +73,13 @@ others_know pushed {items} {views} pass v rule at all other u apart here =
 took_all : {items : List ℕ} {views : List QueueView} (pass : ℕ) (v : QueueView) (rule : AreTakenOnce items views) → get_elem? views pass ≡ some v → v.parts ≡ 1024
     → (h : ℕ → ℕ) → sum_by h (range_with_len 0 rule.next) ≡ took h v
 took_all {items} {views} pass v rule at all h =
-    rule.each h
-    ∙ sole (took h) views pass v at (λ other u apart here. ap (λ (xs : List ℕ). sum_by h xs) ((rule.known other u here).no_part (no_part views pass other v u rule.parts all at apart here)))
+    let others : List QueueView = set views pass nothing in
+    let total : sum_by (took h) others + took h v ≡ sum_by (took h) views + 0 = total_set (took h) views pass v nothing at in
+    omega (arith, rule.each h, total, sum_by_zeros (took h) others (λ i d inside.
+      ⊎_elim (λ (t : (i ≡ pass) × (nothing ≡ get_or others i d)). ap (took h) (sym t.1))
+      (λ (t : (i ≢ pass) × (get_elem? views i ≡ some (get_or others i d))).
+        ap (sum_by h) ((rule.known i (get_or others i d) t.1).no_part (no_part views pass i v (get_or others i d) rule.parts all at t.0 t.1)))
+      (at_set views pass i nothing (get_or others i d) (at_index others i (get_or others i d) inside (sym (get_or_default others i (get_or others i d) d inside))))))
 
 -- how many numbers there are
 counted : (next : ℕ) → sum_by (λ (k : ℕ). 1) (range_with_len 0 next) ≡ next
@@ -163,8 +140,8 @@ takes pass v some_part x items views rule at =
     let number : x ≡ rule.next = first.1 in
     let rest : items ≡ range_with_len (rule.next + 1) (rule.pushed - (rule.next + 1)) =
     first.2 ∙ ap (range_with_len (rule.next + 1)) (less rule.pushed rule.next) in
-    let before : length v.taken ≤ rule.next =
-    omega (arith, one_part (took (λ (k : ℕ). 1)) views pass v at, rule.each (λ (k : ℕ). 1), counted rule.next, sum_by_ones v.taken) in (
+    let mine : sum_by (took (λ k. 1)) (set views pass nothing) + took (λ k. 1) v ≡ sum_by (took (λ k. 1)) views + 0 = total_set (took (λ k. 1)) views pass v nothing at in
+    let before : length v.taken ≤ rule.next = omega (arith, mine, rule.each (λ k. 1), counted rule.next, sum_by_ones v.taken) in (
       w,
       record {
         pushed = rule.pushed;
