@@ -75,11 +75,16 @@ took_all : {items : List ℕ} {views : List QueueView} (pass : ℕ) (v : QueueVi
 took_all {items} {views} pass v rule at all h =
     let others : List QueueView = set views pass nothing in
     let total : sum_by (took h) others + took h v ≡ sum_by (took h) views + 0 = total_set (took h) views pass v nothing at in
-    omega (arith, rule.each h, total, sum_by_zeros (took h) others (λ i d inside.
-      ⊎_elim (λ (t : (i ≡ pass) × (nothing ≡ get_or others i d)). ap (took h) (sym t.1))
-      (λ (t : (i ≢ pass) × (get_elem? views i ≡ some (get_or others i d))).
-        ap (sum_by h) ((rule.known i (get_or others i d) t.1).no_part (no_part views pass i v (get_or others i d) rule.parts all at t.0 t.1)))
-      (at_set views pass i nothing (get_or others i d) (at_index others i (get_or others i d) inside (sym (get_or_default others i (get_or others i d) d inside))))))
+    omega (
+      arith,
+      rule.each h,
+      total,
+      sum_by_zeros (took h) others (λ i d inside.
+          ⊎_elim (λ (t : (i ≡ pass) × (nothing ≡ get_or others i d)). ap (took h) (sym t.1))
+          (λ (t : (i ≢ pass) × (get_elem? views i ≡ some (get_or others i d))).
+          ap (sum_by h) ((rule.known i (get_or others i d) t.1).no_part (no_part views pass i v (get_or others i d) rule.parts all at t.0 t.1)))
+          (at_set views pass i nothing (get_or others i d) (at_index others i (get_or others i d) inside (sym (get_or_default others i (get_or others i d) d inside))))),
+    )
 
 -- how many numbers there are
 counted : (next : ℕ) → sum_by (λ (k : ℕ). 1) (range_with_len 0 next) ≡ next

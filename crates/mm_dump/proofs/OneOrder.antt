@@ -1,6 +1,6 @@
 -- One order carried out: its begin, its packets, and its end.
-use Rattle.std.proofs.Common.{◌≡◌, ℕ, List, [], ◌∷◌, ◌++◌, map, refl, sym, ap, ◌∙◌, append_assoc, arith, length-append, ◌+◌, ◌<◌, true, false, length, subst, Bool, not, nat_lt}
-use Rattle.std.specs.Prelude.{Some, Ok, Option, None, Err}
+use Rattle.std.proofs.Common.{◌≡◌, ℕ, List, [], ◌∷◌, ◌++◌, map, refl, sym, ap, ◌∙◌, append_assoc, arith, length-append, ◌+◌, ◌<◌, ◌≤◌, true, false, length, subst, Bool, not, nat_lt}
+use Rattle.std.specs.Prelude.{Some, Ok, Option, None}
 use Rattle.std.proofs.lemmas.List.{append-nil, map-append}
 use Rattle.mm_store.specs.declared.stored.Stored.{Stored}
 use Rattle.mm_desk.specs.declared.entry.Entry.{Entry}
@@ -9,15 +9,14 @@ use Rattle.mm_desk.specs.declared.reply.Reply.TheVariants as reply
 use Rattle.mm_desk.specs.Orders.{given, last_time, begun, ended, removed}
 use Rattle.mm_desk.specs.Runs.{entry}
 use Rattle.mm_shared.specs.Views.{PortView, with_call}
-use Rattle.mm_dump.specs.OrderSteps.{OrderStore, HasSent, with_calls, SentNext, AbortsAs, StopsAs, OrderStopped, SentAll, last_of, end_where, IsRefused, WasRefused, EndsAs, HasEnded, abort_where, deletion}
+use Rattle.mm_dump.specs.OrderSteps.{OrderStore, HasGone, HasSent, with_calls, SentNext, AbortsAs, StopsAs, OrderStopped, SentAll, last_of, end_where, IsRefused, WasRefused, EndsAs, HasEnded, abort_where, deletion}
 use Rattle.mm_dump.specs.Sending.{Sent, LinkState, all_sent}
-use Rattle.std.proofs.lemmas.Bool.{lt-ltb, le-ltb}
-use Rattle.mm_desk.specs.declared.fault.Fault.{Fault}
+use Rattle.std.proofs.lemmas.Bool.{lt-ltb}
 use Rattle.mm_dump.specs.declared.order.OrderBroken.TheVariants.{NoMemory, LinkFailed}
 use Rattle.mm_dump.specs.declared.stop.Stop.{Stop}
 use Rattle.mm_dump.specs.declared.stop.Stop.TheVariants.{Broken, Refused}
 use Rattle.mm_dump.specs.Broken.{aborted, unsent_at}
-use Rattle.mm_dump.proofs.Refusing.{next_refused, after_given, after_begun, after_end, after_abort}
+use Rattle.mm_dump.proofs.Refusing.{after_given, after_begun, after_end, after_abort}
 
 -- a port with calls more, and then others
 pub with_more : (place : ℕ) (port : PortView) (xs ys : List Entry) → with_calls place (with_calls place port xs) ys ≡ with_calls place port (xs ++ ys)
@@ -26,15 +25,9 @@ with_more place port xs ys =
     ap (λ (calls : List (ℕ × Entry)). record port { list = calls })
     (append_assoc port.list (map there xs) (map there ys) ∙ ap (λ (calls : List (ℕ × Entry)). port.list ++ calls) (sym (map-append there xs ys)))
 
--- these packets sent, and then those
-pub sent_more : (id : List ℕ) (ps qs : List Stored) → all_sent id (ps ++ qs) ≡ all_sent id ps ++ all_sent id qs
-sent_more id [] qs = refl
-sent_more id (p ∷ ps) qs = ap (λ (x : List Sent). record { store = id; stored = p } ∷ x) (sent_more id ps qs)
-
 -- the packets given, and then others
-pub given_more : (seat : ℕ) (ps qs : List Stored) → given seat (ps ++ qs) ≡ given seat ps ++ given seat qs
-given_more seat [] qs = refl
-given_more seat (p ∷ ps) qs = ap (λ (x : List Entry). entry seat Next (reply.Given (Ok (Some p))) ∷ x) (given_more seat ps qs)
+given_more : (seat : ℕ) (ps qs : List Stored) → given seat (ps ++ qs) ≡ given seat ps ++ given seat qs
+given_more seat ps qs = map-append (λ (p : Stored). entry seat Next (reply.Given (Ok (Some p)))) ps qs
 
 -- it goes on
 pub went_on : (store : OrderStore) (first second : List Entry) (ps qs us : List Stored) (a b c : PortView) (l m n : LinkState)
@@ -42,7 +35,7 @@ pub went_on : (store : OrderStore) (first second : List Entry) (ps qs us : List 
 went_on store first second ps qs us a b c l m n went more = record {
   port = more.port ∙ ap (λ (p : PortView). with_calls store.place p second) went.port ∙ with_more store.place a first second;
   all = more.all ∙ ap (λ (x : List Sent). x ++ all_sent store.id qs) went.all ∙ append_assoc l.sent (all_sent store.id ps) (all_sent store.id qs)
-      ∙ ap (λ (x : List Sent). l.sent ++ x) (sym (sent_more store.id ps qs));
+      ∙ ap (λ (x : List Sent). l.sent ++ x) (sym (map-append (λ (p : Stored). record { store = store.id; stored = p }) ps qs));
   failures = (let f = went.failures in let g = more.failures in omega arith);
   blocks = (let f = went.blocks in let g = more.blocks in omega (arith, length-append ps qs));
 }
@@ -61,21 +54,26 @@ pub same_seat : (store : OrderStore) (calls : List Entry) (ps us : List Stored) 
     → b.number ≡ a.number
 same_seat store calls ps us a b l m went = ap (λ (p : PortView). p.number) went.port
 
+-- after packets that were sent an order goes on
+gone_on : (first : List Entry) (ps : List Stored) (store : OrderStore) (few wanted : ℕ) (so later : ℕ → List Stored → List Stored → List Entry → Type 0) (a b c : PortView) (l m n : LinkState)
+    → HasSent store first ps [] a b l m → HasGone so store few b c m n → length ps + few ≤ wanted
+    → ((qs us : List Stored) (calls : List Entry) → length (qs ++ us) ≤ few → so a.number qs us calls → later a.number (ps ++ qs) us (first ++ calls))
+    → HasGone later store wanted a c l n
+gone_on first ps store few wanted so later a b c l m n went more fits turns = record {
+  sent = ps ++ more.sent;
+  unsent = more.unsent;
+  calls = first ++ more.calls;
+  most = omega (arith, fits, more.most, length-append (ps ++ more.sent) more.unsent, length-append ps more.sent, length-append more.sent more.unsent);
+  has_sent = went_on store first more.calls ps more.sent more.unsent a b c l m n went more.has_sent;
+  goes = turns more.sent more.unsent more.calls more.most (subst (λ (k : ℕ). so k more.sent more.unsent more.calls) (same_seat store first ps [] a b l m went) more.goes);
+}
+
 -- this many packets were given and sent
 pub record SentSoFar (store : OrderStore) (many : ℕ) (last : Option ℕ) (old new : PortView) (before after : LinkState) : Type 0 where
   pub gave : List Stored
   pub count : length gave ≡ many
   pub last_is : last ≡ last_of gave
   pub has_sent : HasSent store (given old.number gave) gave [] old new before after
-
--- none yet
-pub so_far_none : (store : OrderStore) (old : PortView) (before : LinkState) → SentSoFar store 0 None old old before before
-so_far_none store old before = record {
-  gave = [];
-  count = refl;
-  last_is = refl;
-  has_sent = called store [] old old before (ap (λ (l : List (ℕ × Entry)). record old { list = l }) (sym (append-nil old.list)));
-}
 
 -- the time of the last packet
 last_time_of : (time : ℕ) (ps : List Stored) (p : Stored) → last_time time (ps ++ p ∷ []) ≡ p.time
@@ -88,16 +86,12 @@ last_of_more (q ∷ ps) p = ap (λ (time : ℕ). Some time) (last_time_of q.time
 
 -- an order stopped with these calls and no packet more
 unsent_stops : (store : OrderStore) (stop : Stop) (calls : List Entry) (a b : PortView) (l : LinkState) → b ≡ with_calls store.place a calls → StopsAs stop a.number [] [] calls → OrderStopped store 1 stop a b l l
-unsent_stops store stop calls a b l port stops = record { sent = []; unsent = []; calls = calls; most = omega arith; has_sent = called store calls a b l port; stops = stops }
+unsent_stops store stop calls a b l port stops = record { sent = []; unsent = []; calls = calls; most = omega arith; has_sent = called store calls a b l port; goes = stops }
 
 -- it was aborted where there was no memory
 pub no_memory_stops : (store : OrderStore) (stop : Stop) (a b : PortView) (l : LinkState) → AbortsAs store.place NoMemory stop a b → OrderStopped store 1 stop a b l l
 no_memory_stops store (Broken why) a b l aborts = unsent_stops store (Broken why) (aborted a.number ∷ []) a b l aborts.1 (refl, ap unsent_at (sym aborts.0))
 no_memory_stops store Refused a b l aborts = unsent_stops store Refused aborts.0 a b l aborts.1 aborts.2
-
--- a next was refused
-pub refused_stops : (store : OrderStore) (fault : Fault) (a b : PortView) (l : LinkState) → b ≡ with_call a store.place Next (reply.Given (Err fault)) → OrderStopped store 1 Refused a b l l
-refused_stops store fault a b l port = unsent_stops store Refused (entry a.number Next (reply.Given (Err fault)) ∷ []) a b l port (next_refused a.number fault)
 
 -- the link did not take a packet
 module _ (store : OrderStore) (p : Stored) (a b c : PortView) (l m : LinkState) (gave : b ≡ with_call a store.place Next (reply.Given (Ok (Some p))))
@@ -120,7 +114,7 @@ module _ (store : OrderStore) (p : Stored) (a b c : PortView) (l m : LinkState) 
         calls = given a.number (p ∷ []) ++ aborted a.number ∷ [];
         most = omega arith;
         has_sent = failed_with (aborted a.number ∷ []) port;
-        stops = (refl, ap unsent_at (sym aborts.0));
+        goes = (refl, ap unsent_at (sym aborts.0));
       }
   link_failed_stops Refused aborts = record {
     sent = [];
@@ -128,7 +122,7 @@ module _ (store : OrderStore) (p : Stored) (a b c : PortView) (l m : LinkState) 
     calls = given a.number (p ∷ []) ++ aborts.0;
     most = omega arith;
     has_sent = failed_with aborts.0 aborts.1;
-    stops = after_given a.number (p ∷ []) aborts.0 aborts.2;
+    goes = after_given a.number (p ∷ []) aborts.0 aborts.2;
   }
 
 -- packets given before those that were given when an order stopped
@@ -161,15 +155,8 @@ module _ (store : OrderStore) (many : ℕ) (last : Option ℕ) (a b c : PortView
   -- the order stopped
   pub so_far_stopped : (wanted : ℕ) (stop : Stop) → many < wanted → OrderStopped store 1 stop b c m n → OrderStopped store wanted stop a c l n
   so_far_stopped wanted stop fewer after =
-      let P : ℕ → Type 0 = λ k. StopsAs stop k after.sent after.unsent after.calls in
-      record {
-        sent = so_far.gave ++ after.sent;
-        unsent = after.unsent;
-        calls = given a.number so_far.gave ++ after.calls;
-        most = omega (arith, so_far.count, after.most, length-append (so_far.gave ++ after.sent) after.unsent, length-append so_far.gave after.sent, length-append after.sent after.unsent);
-        has_sent = went_on store (given a.number so_far.gave) after.calls so_far.gave after.sent after.unsent a b c l m n so_far.has_sent after.has_sent;
-        stops = stops_after stop a.number so_far.gave after.sent after.unsent after.calls (subst P seat_is after.stops);
-      }
+      gone_on (given a.number so_far.gave) so_far.gave store 1 wanted (StopsAs stop) (StopsAs stop) a b c l m n so_far.has_sent after (omega (arith, so_far.count, fewer))
+      (λ qs us calls few stops. stops_after stop a.number so_far.gave qs us calls stops)
 
   -- the retrieval came to its end
   pub so_far_over : (wanted : ℕ) → many < wanted → SentNext store None b c m n → SentAll store wanted last true a c l n
@@ -183,16 +170,6 @@ module _ (store : OrderStore) (many : ℕ) (last : Option ℕ) (a b c : PortView
         last_is = so_far.last_is;
         has_sent = rw (append-nil so_far.gave) at goes;
       }
-
--- all wanted were given
-pub so_far_all : (store : OrderStore) (many : ℕ) (last : Option ℕ) (a b : PortView) (l m : LinkState) → SentSoFar store many last a b l m → SentAll store many last false a b l m
-so_far_all store many last a b l m so_far = record {
-  gave = so_far.gave;
-  most = omega (arith, so_far.count);
-  fewer = sym (le-ltb (length so_far.gave) many (omega (arith, so_far.count)));
-  last_is = so_far.last_is;
-  has_sent = rw (append-nil (given a.number so_far.gave)) so_far.has_sent;
-}
 
 -- how a retrieval ended
 ends_as : (seat wanted : ℕ) (gave : List Stored) (over : Bool) → over ≡ nat_lt (length gave) wanted
@@ -226,7 +203,7 @@ after_abort_where seat false calls refused = after_abort seat calls refused
 pub unbegun : (store : OrderStore) (wanted : ℕ) (stop : Stop) (a b : PortView) (l : LinkState) → stop ≡ Refused → WasRefused store.place false a b → HasEnded store wanted (Some stop) a b l l
 unbegun store wanted stop a b l is refused =
     subst (λ (s : Stop). HasEnded store wanted (Some s) a b l l) (sym is)
-    (record { sent = []; unsent = []; calls = refused.0; most = omega arith; has_sent = called store refused.0 a b l refused.1; ends = refused.2 })
+    (record { sent = []; unsent = []; calls = refused.0; most = omega arith; has_sent = called store refused.0 a b l refused.1; goes = refused.2 })
 
 -- an order that was begun
 module _ (store : OrderStore) (wanted : ℕ) (a b : PortView) (l : LinkState) (port : b ≡ with_calls store.place a (begun a.number ∷ [])) where
@@ -238,18 +215,12 @@ module _ (store : OrderStore) (wanted : ℕ) (a b : PortView) (l : LinkState) (p
 
   -- it stopped in the retrieval
   pub stopped : (stop : Stop) (c : PortView) (m : LinkState) → OrderStopped store wanted stop b c l m → HasEnded store wanted (Some stop) a c l m
-  stopped stop c m stops = record {
-    sent = stops.sent;
-    unsent = stops.unsent;
-    calls = begun a.number ∷ stops.calls;
-    most = stops.most;
-    has_sent = went_on store (begun a.number ∷ []) stops.calls [] stops.sent stops.unsent a b c l l m first stops.has_sent;
-    ends = by_stop stop (subst (λ (k : ℕ). StopsAs stop k stops.sent stops.unsent stops.calls) number stops.stops);
-  }
+  stopped stop c m stops =
+      gone_on (begun a.number ∷ []) [] store wanted wanted (StopsAs stop) (λ seat sent unsent calls. EndsAs (Some stop) seat wanted sent unsent calls) a b c l l m first stops (omega arith) (by_stop stop)
     where
-      by_stop : (s : Stop) → StopsAs s a.number stops.sent stops.unsent stops.calls → EndsAs (Some s) a.number wanted stops.sent stops.unsent (begun a.number ∷ stops.calls)
-      by_stop (Broken why) so = (record { most = stops.most; are = ap (λ (x : List Entry). begun a.number ∷ x) so.0 }, so.1)
-      by_stop Refused so = after_begun a.number stops.calls so
+      by_stop : (s : Stop) (qs us : List Stored) (calls : List Entry) → length (qs ++ us) ≤ wanted → StopsAs s a.number qs us calls → EndsAs (Some s) a.number wanted qs us (begun a.number ∷ calls)
+      by_stop (Broken why) qs us calls most so = (record { most = most; are = ap (λ (x : List Entry). begun a.number ∷ x) so.0 }, so.1)
+      by_stop Refused qs us calls most so = after_begun a.number calls so
 
   -- its packets were sent
   module _ (last : Option ℕ) (over : Bool) (c : PortView) (m : LinkState) (sends : SentAll store wanted last over b c l m) where
@@ -281,7 +252,7 @@ module _ (store : OrderStore) (wanted : ℕ) (a b : PortView) (l : LinkState) (p
       calls = begun n ∷ ((given n gave ++ end_where n over) ++ calls);
       most = rw (append-nil gave) sends.most;
       has_sent = then_called calls d goes;
-      ends = after_begun n _ (subst (λ (es : List Entry). IsRefused true es) (sym (append_assoc (given n gave) (end_where n over) calls))
+      goes = after_begun n _ (subst (λ (es : List Entry). IsRefused true es) (sym (append_assoc (given n gave) (end_where n over) calls))
           (after_given n gave (end_where n over ++ calls) (after_end_where n over calls refused)));
     }
 
@@ -317,7 +288,7 @@ module _ (store : OrderStore) (wanted : ℕ) (a b : PortView) (l : LinkState) (p
             calls = begun n ∷ ((given n gave ++ end_where n over) ++ (abort_where n over ++ removed n gave count));
             most = rw (append-nil gave) sends.most;
             has_sent = then_called (abort_where n over ++ removed n gave count) e (and_then (removed n gave count) e goes);
-            ends = (
+            goes = (
               record {
                 most = sends.most;
                 count = count;

@@ -49,17 +49,17 @@ module _ (ids : List (List ℕ)) (store : OrderStore) (order : Order) (old new :
   pub carried_whole : HasEnded store order.amount None old new l m → OrderCarriedOut ids order None old new l m
   carried_whole ended =
       carried_as None None ended
-      (record { alone = λ s t off run. record { order = ended.ends.0; all = ended.ends.1 }; whole = λ none. ended.ends.1; few = most_of None ended })
+      (record { alone = λ s t off run. record { order = ended.goes.0; all = ended.goes.1 }; whole = λ none. ended.goes.1; few = most_of None ended })
 
   -- one that stopped
   pub carried_stopped : (stop : Stop) (why : OrderBroken) → why ≡ cause_of stop → HasEnded store order.amount (Some stop) old new l m → OrderCarriedOut ids order (Some why) old new l m
   carried_stopped (Broken cause) why same ended =
       subst (λ (w : OrderBroken). OrderCarriedOut ids order (Some w) old new l m) (sym same)
       (carried_as (Some (Broken cause)) (Some cause) ended
-      (record { alone = λ s t off run. record { order = ended.ends.0; last = ended.ends.1 }; whole = λ none. absurd (cc none); few = most_of (Some (Broken cause)) ended }))
+      (record { alone = λ s t off run. record { order = ended.goes.0; last = ended.goes.1 }; whole = λ none. absurd (cc none); few = most_of (Some (Broken cause)) ended }))
   carried_stopped Refused why same ended =
       carried_as (Some Refused) (Some why) ended
-      (record { alone = λ s t off run. absurd (ended.ends.never s t (ap is_some off) run); whole = λ none. absurd (cc none); few = most_of (Some Refused) ended })
+      (record { alone = λ s t off run. absurd (ended.goes.never s t (ap is_some off) run); whole = λ none. absurd (cc none); few = most_of (Some Refused) ended })
 
 -- a worker that took one number more may spend 2^32 blocks more
 pub may_spend : (v w : QueueView) (number pushed spent : ℕ) → v ≡ queue_view 1 pushed v.taken → w ≡ queue_view v.parts v.pushed (v.taken ++ number ∷ []) → length w.taken ≤ v.pushed

@@ -69,14 +69,19 @@ abbrev pub StopsAs : Stop → ℕ → List Stored → List Stored → List Entry
 StopsAs (Broken why) seat sent unsent calls = (calls ≡ given seat (sent ++ unsent) ++ aborted seat ∷ []) × (length unsent ≡ unsent_at why)
 StopsAs Refused seat sent unsent calls = IsRefused true calls
 
--- an order stopped in its retrieval, after at most this many packets
-pub record OrderStopped (store : OrderStore) (wanted : ℕ) (stop : Stop) (old new : PortView) (before after : LinkState) : Type 0 where
+-- calls were made through a port, after which an order had gone so, by the seat, the packets sent and those not taken, and the calls; the
+-- packets were at most this many
+pub record HasGone (so : ℕ → List Stored → List Stored → List Entry → Type 0) (store : OrderStore) (wanted : ℕ) (old new : PortView) (before after : LinkState) : Type 0 where
   pub sent : List Stored
   pub unsent : List Stored
   pub calls : List Entry
   pub most : length (sent ++ unsent) ≤ wanted
   pub has_sent : HasSent store calls sent unsent old new before after
-  pub stops : StopsAs stop old.number sent unsent calls
+  pub goes : so old.number sent unsent calls
+
+-- an order stopped in its retrieval, after at most this many packets
+abbrev pub OrderStopped : OrderStore → ℕ → Stop → PortView → PortView → LinkState → LinkState → Type 0
+OrderStopped store wanted stop old new before after = HasGone (StopsAs stop) store wanted old new before after
 
 -- the time of the packet given last
 abbrev pub last_of : List Stored → Option ℕ
@@ -111,10 +116,5 @@ EndsAs (Some (Broken why)) seat wanted sent unsent calls = IsBrokenOrder seat wa
 EndsAs (Some Refused) seat wanted sent unsent calls = IsRefused false calls
 
 -- an order ended, after at most this many packets
-pub record HasEnded (store : OrderStore) (wanted : ℕ) (stop : Option Stop) (old new : PortView) (before after : LinkState) : Type 0 where
-  pub sent : List Stored
-  pub unsent : List Stored
-  pub calls : List Entry
-  pub most : length (sent ++ unsent) ≤ wanted
-  pub has_sent : HasSent store calls sent unsent old new before after
-  pub ends : EndsAs stop old.number wanted sent unsent calls
+abbrev pub HasEnded : OrderStore → ℕ → Option Stop → PortView → PortView → LinkState → LinkState → Type 0
+HasEnded store wanted stop old new before after = HasGone (λ seat sent unsent calls. EndsAs stop seat wanted sent unsent calls) store wanted old new before after
