@@ -1,5 +1,5 @@
 -- Each step of the queue keeps its rule.
-use Rattle.std.proofs.Common.{◌≡◌, ◌≢◌, ⊎_elim, ℕ, zero, suc, ◌+◌, ◌-◌, ◌<◌, ◌≤◌, List, [], ◌∷◌, ◌++◌, length, get_or, set, refl, sym, ap, subst, ◌∙◌, arith, length-append}
+use Rattle.std.proofs.Common.{◌≡◌, ◌≢◌, ⊎_elim, ℕ, zero, suc, ◌+◌, ◌-◌, ◌<◌, ◌≤◌, List, [], ◌∷◌, ◌++◌, length, get_or, set, refl, sym, ap, subst, ◌∙◌, arith}
 use Rattle.std.specs.List.{sum_by, range_with_len}
 use Rattle.std.proofs.lemmas.List.{get_or_default, nil_from_length}
 use Rattle.std.proofs.lemmas.List.FromFn.{length-range_with_len}
@@ -157,7 +157,7 @@ takes pass v some_part x items views rule at =
         each = λ h. omega (arith, total_set (took h) views pass v w at, rule.each h, sum_by_push h v.taken x, sum_by_range_more h 0 rule.next rule.next (omega arith), ap h number);
         known = known_set rule.pushed views pass w (knows_part rule.pushed w count some_part) (λ other u apart here. rule.known other u here);
       },
-      record { within = omega (arith, first.0); taken = refl; few = omega (arith, first.0, before, length-append v.taken (x ∷ [])) },
+      record { within = omega (arith, first.0); taken = refl; few = omega (arith, first.0, before) },
     )
   where
     less : (a b : ℕ) → a - b - 1 ≡ a - (b + 1)

@@ -1,5 +1,5 @@
 -- A worker at work: the orders that it carried out so far, and one more.
-use Rattle.std.proofs.Common.{◌≡◌, ℕ, ◌+◌, ◌≤◌, Bool, false, cond, List, [], ◌∷◌, ◌++◌, length, map, filter, refl, sym, ap, subst, ◌∙◌, length-append, arith, ◌*◌, ◌<◌, true, append_assoc}
+use Rattle.std.proofs.Common.{◌≡◌, ℕ, ◌+◌, ◌≤◌, Bool, false, cond, List, [], ◌∷◌, ◌++◌, length, map, filter, refl, sym, ap, subst, ◌∙◌, length-append, arith, ◌<◌, true, append_assoc}
 use Rattle.std.specs.Prelude.{Option, Some, None, is_some}
 use Rattle.std.proofs.lemmas.Bool.{lt-ltb, le-ltb}
 use Rattle.std.proofs.lemmas.List.{append-nil, map-append, get_or_append_left}
@@ -17,8 +17,6 @@ use Rattle.mm_dump.specs.Sending.{Sent, LinkState, all_sent}
 use Rattle.mm_dump.specs.Workers.{IsTried, Shows, OrderCarriedOut, order_at, has_order, calls_of, AreTried, past_of, Worked}
 use Rattle.std.proofs.lemmas.List.Concat.{flat_map-append}
 use Rattle.std.proofs.lemmas.List.Elements.{All-nil, All-push, filter-append}
-use Rattle.mm_dump.specs.declared.queue.QueueView.{QueueView}
-use Rattle.mm_dump.specs.Queue.{queue_view}
 use Rattle.mm_dump.proofs.Courses.{no_failures, worst-push, none_broke}
 
 module _ (ids : List (List ℕ)) (store : OrderStore) (order : Order) (old new : PortView) (l m : LinkState) (here : order.place ≡ store.place) (named : store.id ≡ id_at ids store.place) where
@@ -61,12 +59,6 @@ module _ (ids : List (List ℕ)) (store : OrderStore) (order : Order) (old new :
       carried_as (Some Refused) (Some why) ended
       (record { alone = λ s t off run. absurd (ended.goes.never s t (ap is_some off) run); whole = λ none. absurd (cc none); few = most_of (Some Refused) ended })
 
--- a worker that took one number more may spend 2^32 blocks more
-pub may_spend : (v w : QueueView) (number pushed spent : ℕ) → v ≡ queue_view 1 pushed v.taken → w ≡ queue_view v.parts v.pushed (v.taken ++ number ∷ []) → length w.taken ≤ v.pushed
-    → pushed ≤ 65536 → spent ≤ length v.taken * 4294967296 → spent + 4294967296 ≤ 281474976710656
-may_spend v w number pushed spent seen more few most bound =
-    omega (arith, bound, few, ap (λ (x : QueueView). length x.taken) more, length-append v.taken (number ∷ []), ap (λ (x : QueueView). x.pushed) seen, most)
-
 -- one order more
 are_more : (courses : List Course) (c : Course) (why : Option OrderBroken) → AreTried None courses → IsTried c → c.why ≡ why → AreTried why (courses ++ c ∷ [])
 are_more courses c why are is same = record {
@@ -76,11 +68,6 @@ are_more courses c why are is same = record {
       ap (λ (b : Course). b.why) (get_or_append_left courses (c ∷ []) d i inside) ∙ none_broke (λ (b : Course). b.why) courses are.cause i d inside;
   cause = ap worst_of (map-append (λ (c : Course). c.why) courses (c ∷ [])) ∙ worst-push (map (λ (c : Course). c.why) courses) c.why ∙ ap (λ (worst : Option OrderBroken). worse worst c.why) are.cause ∙ same;
 }
-
--- what a pass with one part knows once it has taken a number more
-pub seen_more : (old new : QueueView) (pushed : ℕ) (taken : List ℕ) → old ≡ queue_view 1 pushed old.taken → new ≡ queue_view old.parts old.pushed taken → new ≡ queue_view 1 pushed new.taken
-seen_more old new pushed taken seen next =
-    next ∙ (λ i. queue_view ((ap (λ (v : QueueView). v.parts) seen) i) ((ap (λ (v : QueueView). v.pushed) seen) i) ((ap (λ (v : QueueView). v.taken) (sym next)) i))
 
 module _ (ids : List (List ℕ)) where
   -- what orders show, one after another

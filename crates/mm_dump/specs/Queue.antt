@@ -25,11 +25,11 @@ pub record AreTakenOnce (items : List ℕ) (views : List QueueView) : Type 0 whe
   pub each : (weight : ℕ → ℕ) → sum_by weight (range_with_len 0 next) ≡ sum_by (λ v. sum_by weight v.taken) views
   pub known : (pass : ℕ) (v : QueueView) → get_elem? views pass ≡ some v → Knows pushed v
 
--- a number is taken that was pushed, and no pass takes more numbers than were pushed
+-- a number is taken that was pushed, by a pass that had taken fewer numbers than were pushed
 pub record TakesNext (v : QueueView) (number : ℕ) (w : QueueView) : Type 0 where
   pub within : number < v.pushed
   pub taken : w ≡ queue_view v.parts v.pushed (v.taken ++ number ∷ [])
-  pub few : length w.taken ≤ v.pushed
+  pub few : length v.taken < v.pushed
 
 -- what a pass with a part knows of the numbers queued: they are no more than were pushed. The pass with all parts knows that it took the
 -- others, which are the numbers below some number, each once

@@ -151,7 +151,7 @@ pub(crate) fn take_next<R: Wait>(rt: &R, queue: &OrderQueue, pass: &mut OrderPas
     ensures pass { IsPassOf queue.now pass.new }
     ensures within { result < (view pass.old).pushed }
     ensures taken { view pass.new ≡ queue_view (view pass.old).parts (view pass.old).pushed ((view pass.old).taken ++ result ∷ []) }
-    ensures few { length (view pass.new).taken ≤ (view pass.old).pushed }
+    ensures few { length (view pass.old).taken < (view pass.old).pushed }
 {
     for _ in rt.forever() {
         if let Some(number) = queue.pop_as::<TakeNext, R>(rt, pass) {

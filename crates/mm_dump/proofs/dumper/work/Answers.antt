@@ -1,11 +1,10 @@
-use Rattle.std.proofs.Common.{rules, ◌≡◌, ◌+◌, ◌<◌, ◌≤◌, true, [], ◌∷◌, length, refl, sym, ap, ◌∙◌, arith, length-append}
+use Rattle.std.proofs.Common.{rules, ◌≡◌, ◌+◌, ◌<◌, ◌≤◌, true, [], ◌∷◌, length, refl, ap, ◌∙◌, arith, length-append}
 use Rattle.std.specs.Prelude.{None, is_some}
 use Rattle.crossbeam_queue.specs.Passes.{view}
 use Rattle.mm_shared.specs.Stores.{ids_of}
 use Rattle.mm_dump.specs.declared.queue.QueueView.{QueueView}
-use Rattle.mm_dump.specs.Queue.{queue_view}
 use Rattle.mm_dump.specs.Sending.{link_state}
-use Rattle.mm_dump.proofs.Working.{may_spend, seen_more, worked_start, worked_past, worked_more, worked_stopped, worked_well}
+use Rattle.mm_dump.proofs.Working.{worked_start, worked_past, worked_more, worked_stopped, worked_well}
 use Rattle.mm_dump.proofs.dumper.work.Goals as goal
 
 pub loop-init : goal.loop-init
@@ -15,8 +14,8 @@ loop-init g c =
       can_next = tt;
       is_finite = tt;
       pass = c.requires.hired.pass;
-      seen = c.requires.hired.first ∙ ap (queue_view 1 (view c.args.worker.now.pass).pushed) (sym none);
-      few = omega (arith, ap length none);
+      part = ap (λ (v : QueueView). v.parts) c.requires.hired.first;
+      pushed = refl;
       spent = omega (arith, ap length none, c.requires.hired.spent);
       worked = (
         [],
@@ -30,10 +29,10 @@ pub carry_at-broken-requires-clause-room : goal.carry_at-broken-requires-clause-
 carry_at-broken-requires-clause-room g c =
     omega (arith, worked_well (ids_of c.args.context.now.labels.now) _ _ _ _ _ _ _ _ c.loop.invariant.worked.1, c.requires.room)
 
+-- 65536 orders of 2^32 blocks are 2^48 blocks
 pub carry_at-broken-requires-clause-blocks : goal.carry_at-broken-requires-clause-blocks
 carry_at-broken-requires-clause-blocks g c =
-    let bound = may_spend _ _ _ _ _ c.loop.invariant.seen c.take_next-number.ensures.taken c.take_next-number.ensures.few c.requires.hired.few c.loop.invariant.spent in
-    let less : c.loop.worker.spent < 281474976710656 = omega (arith, bound) in
+    let less : c.loop.worker.spent < 281474976710656 = omega (arith, c.loop.invariant.spent, c.take_next-number.ensures.few, c.loop.invariant.pushed, c.requires.hired.few) in
     less
 
 pub returns-then-number-context-clause-worked : goal.returns-then-number-context-clause-worked
@@ -42,23 +41,18 @@ returns-then-number-context-clause-worked g c =
     (c.loop.invariant.worked.0, worked_past (ids_of c.args.context.now.labels.now) _ _ _ _ _ _ _ _ _ more c.loop.invariant.worked.1 c.if-number-context.true)
 
 pub returns-then-number-context-clause-back : goal.returns-then-number-context-clause-back
-returns-then-number-context-clause-back g c =
-    let bound = may_spend _ _ _ _ _ c.loop.invariant.seen c.take_next-number.ensures.taken c.take_next-number.ensures.few c.requires.hired.few c.loop.invariant.spent in
-    record {
-      pass = search rules;
-      part = ap (λ (v : QueueView). v.parts) c.take_next-number.ensures.taken ∙ ap (λ (v : QueueView). v.parts) c.loop.invariant.seen;
-      bound = omega (arith, bound);
-    }
+returns-then-number-context-clause-back g c = record {
+  pass = search rules;
+  part = ap (λ (v : QueueView). v.parts) c.take_next-number.ensures.taken ∙ c.loop.invariant.part;
+  bound = omega (arith, c.loop.invariant.spent, c.take_next-number.ensures.few, c.loop.invariant.pushed, c.requires.hired.few);
+}
 
 pub returns-then-is_some-clause-back : goal.returns-then-is_some-clause-back
-returns-then-is_some-clause-back g c =
-    let bound = may_spend _ _ _ _ _ c.loop.invariant.seen c.take_next-number.ensures.taken c.take_next-number.ensures.few c.requires.hired.few c.loop.invariant.spent in
-    let more : c.carry_at-broken.new.spent ≤ c.loop.worker.spent + 4294967296 = c.carry_at-broken.ensures.few in
-    record {
-      pass = search rules;
-      part = ap (λ (v : QueueView). v.parts) c.take_next-number.ensures.taken ∙ ap (λ (v : QueueView). v.parts) c.loop.invariant.seen;
-      bound = omega (arith, more, bound);
-    }
+returns-then-is_some-clause-back g c = record {
+  pass = search rules;
+  part = ap (λ (v : QueueView). v.parts) c.take_next-number.ensures.taken ∙ c.loop.invariant.part;
+  bound = omega (arith, c.carry_at-broken.ensures.few, c.loop.invariant.spent, c.take_next-number.ensures.few, c.loop.invariant.pushed, c.requires.hired.few);
+}
 
 pub returns-then-is_some-clause-worked : goal.returns-then-is_some-clause-worked
 returns-then-is_some-clause-worked g c =
@@ -79,8 +73,8 @@ loop-preserved g c =
       can_next = tt;
       is_finite = tt;
       pass = search rules;
-      seen = seen_more (view c.loop.worker.pass) (view c.take_next-number.new.pass) (view c.args.worker.now.pass).pushed _ c.loop.invariant.seen c.take_next-number.ensures.taken;
-      few = omega (arith, c.take_next-number.ensures.few, ap (λ (v : QueueView). v.pushed) c.loop.invariant.seen);
+      part = ap (λ (v : QueueView). v.parts) c.take_next-number.ensures.taken ∙ c.loop.invariant.part;
+      pushed = ap (λ (v : QueueView). v.pushed) c.take_next-number.ensures.taken ∙ c.loop.invariant.pushed;
       spent = omega (arith, spent, c.loop.invariant.spent, ap (λ (v : QueueView). length v.taken) c.take_next-number.ensures.taken, length-append (view c.loop.worker.pass).taken (c.take_next-number.result ∷ []));
       worked = (
         _,

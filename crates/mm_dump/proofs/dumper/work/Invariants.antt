@@ -1,7 +1,6 @@
 use Rattle.std.proofs.Common.{◌≡◌, ◌*◌, ◌^◌, ◌≤◌, List, length, None}
 use Rattle.crossbeam_queue.specs.Passes.{view, IsPassOf}
 use Rattle.mm_shared.specs.Stores.{ids_of}
-use Rattle.mm_dump.specs.Queue.{queue_view}
 use Rattle.mm_dump.specs.Sending.{link_state}
 use Rattle.mm_dump.specs.Courses.{Course}
 use Rattle.mm_dump.specs.Workers.{Worked}
@@ -12,8 +11,8 @@ invariant-loop g l = record {
   can_next : (goal.iterator-loop g).can_next l.iterator';
   is_finite : (goal.iterator-loop g).is_finite l.iterator';
   pass : IsPassOf l.context.queue.now l.worker.pass;
-  seen : view l.worker.pass ≡ queue_view 1 (view l.initial.worker.pass).pushed (view l.worker.pass).taken;
-  few : length (view l.worker.pass).taken ≤ (view l.initial.worker.pass).pushed;
+  part : (view l.worker.pass).parts ≡ 1;
+  pushed : (view l.worker.pass).pushed ≡ (view l.initial.worker.pass).pushed;
   spent : l.worker.spent ≤ length (view l.worker.pass).taken * 2 ^ 32;
   worked : (courses : List Course) × Worked (ids_of l.context.labels.now) l.context.orders.now (view l.worker.pass).taken 0 None l.initial.port l.port
       (link_state (g.L.Link.sent l.initial.link) (g.L.Link.failed l.initial.link) 0)
