@@ -216,9 +216,9 @@ module _ {L : Type 0} (sent : L → List Sent) (failed : L → ℕ) (ids : List 
         | inr nothing ↦ omega (arith, nothing)
       ]
 
-  -- why the last order of each link broke
-  whys_are : map (λ l. l.why) lines ≡ whys ++ map (λ (x : L). (idle_line x).why) idle
-  whys_are = map-append (λ (l : Line L). l.why) (map line_of works) (map idle_line idle) ∙ (λ i. map-map (λ (l : Line L). l.why) line_of works i ++ map-map (λ (l : Line L). l.why) idle_line idle i)
+  -- what is made of the links, from what is made of those with a worker and of those without one
+  lined : {X : Type 0} (f : Line L → X) → map f lines ≡ map (λ w. f (line_of w)) works ++ map (λ (x : L). f (idle_line x)) idle
+  lined f = map-append f (map line_of works) (map idle_line idle) ∙ (λ i. map-map f line_of works i ++ map-map f idle_line idle i)
 
   whys_count : length (whys ++ map (λ (x : L). (idle_line x).why) idle) ≡ length works + length idle
   whys_count =
@@ -255,8 +255,9 @@ module _ {L : Type 0} (sent : L → List Sent) (failed : L → ℕ) (ids : List 
   -- so the step's dump was carried out
   pub leaves : CarriesOut sent failed ids orders (states_of before) after (map (λ w. w.old_link) works ++ idle) (map (λ w. w.new_link) works ++ idle) (worst_of whys) (sum_by (λ w. w.worker.spent) works)
   leaves =
-      let olds : map (λ l. l.old) lines ≡ map (λ w. w.old_link) works ++ idle = map-append (λ (l : Line L). l.old) (map line_of works) (map idle_line idle) ∙ (λ i. map-map (λ (l : Line L). l.old) line_of works i ++ (map-map (λ (l : Line L). l.old) idle_line idle ∙ map-id idle) i) in
-      let news : map (λ l. l.new) lines ≡ map (λ w. w.new_link) works ++ idle = map-append (λ (l : Line L). l.new) (map line_of works) (map idle_line idle) ∙ (λ i. map-map (λ (l : Line L). l.new) line_of works i ++ (map-map (λ (l : Line L). l.new) idle_line idle ∙ map-id idle) i) in
+      let olds = lined (λ (l : Line L). l.old) ∙ ap (λ (xs : List L). map (λ w. w.old_link) works ++ xs) (map-id idle) in
+      let news = lined (λ (l : Line L). l.new) ∙ ap (λ (xs : List L). map (λ w. w.new_link) works ++ xs) (map-id idle) in
+      let broke = lined (λ (l : Line L). l.why) in
       let spent : sum_by (λ l. l.spent) lines ≡ sum_by (λ w. w.worker.spent) works =
       omega (
         arith,
@@ -266,8 +267,8 @@ module _ {L : Type 0} (sent : L → List Sent) (failed : L → ℕ) (ids : List 
         sum_by_zeros (λ (x : L). 0) idle (λ i d inside. refl),
       ) in
       let h : HaveEnded orders (map (λ l. l.why) lines) (all_of lines) (states_of before) after =
-      subst (λ (T : Type 0). T) (λ i. HaveEnded orders (sym whys_are i) (sym all_is i) (states_of before) after) ended in
-      subst (λ (T : Type 0). T) (λ i. CarriesOut sent failed ids orders (states_of before) after (olds i) (news i) ((ap worst_of whys_are ∙ worst-idle whys idle) i) (spent i))
+      subst (λ (T : Type 0). T) (λ i. HaveEnded orders (sym broke i) (sym all_is i) (states_of before) after) ended in
+      subst (λ (T : Type 0). T) (λ i. CarriesOut sent failed ids orders (states_of before) after (olds i) (news i) ((ap worst_of broke ∙ worst-idle whys idle) i) (spent i))
       (carries_out sent failed ids orders before links may lines after same lines_are h)
 
 -- without orders nothing is carried out

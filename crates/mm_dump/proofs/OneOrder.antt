@@ -12,6 +12,7 @@ use Rattle.mm_shared.specs.Views.{PortView, with_call}
 use Rattle.mm_dump.specs.OrderSteps.{OrderStore, HasGone, HasSent, with_calls, SentNext, AbortsAs, StopsAs, OrderStopped, SentAll, last_of, end_where, IsRefused, WasRefused, EndsAs, HasEnded, abort_where, deletion}
 use Rattle.mm_dump.specs.Sending.{Sent, LinkState, all_sent}
 use Rattle.std.proofs.lemmas.Bool.{lt-ltb}
+use Rattle.mm_dump.specs.declared.order.OrderBroken.{OrderBroken}
 use Rattle.mm_dump.specs.declared.order.OrderBroken.TheVariants.{NoMemory, LinkFailed}
 use Rattle.mm_dump.specs.declared.stop.Stop.{Stop}
 use Rattle.mm_dump.specs.declared.stop.Stop.TheVariants.{Broken, Refused}
@@ -84,46 +85,36 @@ last_of_more : (ps : List Stored) (p : Stored) → last_of (ps ++ p ∷ []) ≡ 
 last_of_more [] p = refl
 last_of_more (q ∷ ps) p = ap (λ (time : ℕ). Some time) (last_time_of q.time ps p)
 
--- an order stopped with these calls and no packet more
-unsent_stops : (store : OrderStore) (stop : Stop) (calls : List Entry) (a b : PortView) (l : LinkState) → b ≡ with_calls store.place a calls → StopsAs stop a.number [] [] calls → OrderStopped store 1 stop a b l l
-unsent_stops store stop calls a b l port stops = record { sent = []; unsent = []; calls = calls; most = omega arith; has_sent = called store calls a b l port; goes = stops }
+-- the calls of an abort after packets that were given and not sent, where the order broke for a cause that leaves as many unsent
+abort_stops : (stop : Stop) (why : OrderBroken) (place : ℕ) (a b : PortView) (us : List Stored) → length us ≡ unsent_at why → AbortsAs place why stop a b
+    → (calls : List Entry) × (b ≡ with_calls place a calls) × StopsAs stop a.number [] us (given a.number us ++ calls)
+abort_stops (Broken other) why place a b us count aborts = (aborted a.number ∷ [], aborts.1, (refl, count ∙ ap unsent_at (sym aborts.0)))
+abort_stops Refused why place a b us count aborts = (aborts.0, aborts.1, after_given a.number us aborts.0 aborts.2)
 
 -- it was aborted where there was no memory
 pub no_memory_stops : (store : OrderStore) (stop : Stop) (a b : PortView) (l : LinkState) → AbortsAs store.place NoMemory stop a b → OrderStopped store 1 stop a b l l
-no_memory_stops store (Broken why) a b l aborts = unsent_stops store (Broken why) (aborted a.number ∷ []) a b l aborts.1 (refl, ap unsent_at (sym aborts.0))
-no_memory_stops store Refused a b l aborts = unsent_stops store Refused aborts.0 a b l aborts.1 aborts.2
+no_memory_stops store stop a b l aborts =
+    let stops = abort_stops stop NoMemory store.place a b [] refl aborts in
+    record { sent = []; unsent = []; calls = stops.0; most = omega arith; has_sent = called store stops.0 a b l stops.1; goes = stops.2 }
 
 -- the link did not take a packet
-module _ (store : OrderStore) (p : Stored) (a b c : PortView) (l m : LinkState) (gave : b ≡ with_call a store.place Next (reply.Given (Ok (Some p))))
-    (same : m.sent ≡ l.sent) (failed : m.failed ≡ l.failed + 1) (spent : m.spent ≡ l.spent + 1) where
-  failed_with : (calls : List Entry) → c ≡ with_calls store.place b calls → HasSent store (given a.number (p ∷ []) ++ calls) [] (p ∷ []) a c l m
-  failed_with calls port = record {
-    port = port ∙ ap (λ (q : PortView). with_calls store.place q calls) gave ∙ with_more store.place a (given a.number (p ∷ [])) calls;
-    all = same ∙ sym (append-nil l.sent);
-    failures = omega (arith, failed);
-    blocks = omega (arith, spent);
-  }
-
-  pub link_failed_stops : (stop : Stop) → AbortsAs store.place LinkFailed stop b c → OrderStopped store 1 stop a c l m
-  link_failed_stops (Broken why) aborts =
-      let number : b.number ≡ a.number = ap (λ (q : PortView). q.number) gave in
-      let port : c ≡ with_calls store.place b (aborted a.number ∷ []) = aborts.1 ∙ ap (λ (n : ℕ). with_calls store.place b (aborted n ∷ [])) number in
-      record {
-        sent = [];
-        unsent = p ∷ [];
-        calls = given a.number (p ∷ []) ++ aborted a.number ∷ [];
-        most = omega arith;
-        has_sent = failed_with (aborted a.number ∷ []) port;
-        goes = (refl, ap unsent_at (sym aborts.0));
-      }
-  link_failed_stops Refused aborts = record {
-    sent = [];
-    unsent = p ∷ [];
-    calls = given a.number (p ∷ []) ++ aborts.0;
-    most = omega arith;
-    has_sent = failed_with aborts.0 aborts.1;
-    goes = after_given a.number (p ∷ []) aborts.0 aborts.2;
-  }
+pub link_failed_stops : (store : OrderStore) (p : Stored) (a b c : PortView) (l m : LinkState) → b ≡ with_call a store.place Next (reply.Given (Ok (Some p))) → m.sent ≡ l.sent
+    → m.failed ≡ l.failed + 1 → m.spent ≡ l.spent + 1 → (stop : Stop) → AbortsAs store.place LinkFailed stop b c → OrderStopped store 1 stop a c l m
+link_failed_stops store p a b c l m gave same failed spent stop aborts =
+    let stops = abort_stops stop LinkFailed store.place b c (p ∷ []) refl aborts in
+    record {
+      sent = [];
+      unsent = p ∷ [];
+      calls = given a.number (p ∷ []) ++ stops.0;
+      most = omega arith;
+      has_sent = record {
+        port = stops.1 ∙ ap (λ (q : PortView). with_calls store.place q stops.0) gave ∙ with_more store.place a (given a.number (p ∷ [])) stops.0;
+        all = same ∙ sym (append-nil l.sent);
+        failures = omega (arith, failed);
+        blocks = omega (arith, spent);
+      };
+      goes = subst (λ (k : ℕ). StopsAs stop k [] (p ∷ []) (given k (p ∷ []) ++ stops.0)) (ap (λ (q : PortView). q.number) gave) stops.2;
+    }
 
 -- packets given before those that were given when an order stopped
 stops_after : (stop : Stop) (seat : ℕ) (before sent unsent : List Stored) (calls : List Entry)

@@ -3,6 +3,7 @@ use Rattle.std.proofs.Common.{◌≡◌, ℕ, ◌+◌, ◌<◌, ◌≤◌, ◌==
 use Rattle.std.specs.List.{sum_by, flat_map}
 use Rattle.std.specs.Prelude.{Option, None, IfNone, Some}
 use Rattle.std.proofs.lemmas.List.{get_or-map, length-map, take_all, map-id}
+use Rattle.std.proofs.lemmas.List.Concat.{length-flat_map}
 use Rattle.std.proofs.lemmas.List.Elements.{All-nil, All-cons, All-head, All-tail, All-append, All-contains}
 use Rattle.std.proofs.lemmas.List.Sums.{sum_by-cons, sum_by-take-le, length-filter}
 use Rattle.std.proofs.lemmas.Simd.{map-map}
@@ -43,23 +44,16 @@ map_same f g (x ∷ xs) same =
     let rest = map_same f g xs (All-tail (λ y. f y ≡ g y) x xs same) in
     λ i. first i ∷ rest i
 
--- a packet of a store
-sending : List ℕ → Stored → Sent
-sending id stored = record { store = id; stored = stored }
-
 -- what orders sent, and what failed, is what they spent
 spent_is : (ids : List (List ℕ)) (cs : List Course) → length (sent_by ids cs) + failed_by cs ≡ spent_by cs
-unfolding sending
-spent_is ids [] = refl
-spent_is ids (c ∷ cs) =
-    let here = all_sent (id_at ids c.order.place) c.sent in
+spent_is ids cs =
+    let sends : Course → List Sent = λ c. all_sent (id_at ids c.order.place) c.sent in
     omega (
       arith,
-      length-append here (sent_by ids cs),
-      length-map c.sent (sending (id_at ids c.order.place)),
-      spent_is ids cs,
-      sum_by-cons (λ (c : Course). length c.unsent) c cs,
-      sum_by-cons (λ (c : Course). length c.sent + length c.unsent) c cs,
+      length-flat_map sends cs,
+      sum_by-same (λ (c : Course). length (sends c)) (λ (c : Course). length c.sent) cs
+          (λ i d inside. length-map (get_or cs i d).sent (λ (p : Stored). record { store = id_at ids (get_or cs i d).order.place; stored = p })),
+      sum_by-add (λ (c : Course). length c.sent) (λ (c : Course). length c.unsent) cs,
     )
 
 -- a link before and after orders were carried out over it, these orders, why the last one broke, where it did, and how many blocks they spent

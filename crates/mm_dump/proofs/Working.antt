@@ -19,45 +19,48 @@ use Rattle.std.proofs.lemmas.List.Concat.{flat_map-append}
 use Rattle.std.proofs.lemmas.List.Elements.{All-nil, All-push, filter-append}
 use Rattle.mm_dump.proofs.Courses.{no_failures, worst-push, none_broke}
 
+-- why an order broke that stopped so, where it did
+abbrev why_of : Option Stop → Option OrderBroken
+why_of None = None
+why_of (Some stop) = Some (cause_of stop)
+
 module _ (ids : List (List ℕ)) (store : OrderStore) (order : Order) (old new : PortView) (l m : LinkState) (here : order.place ≡ store.place) (named : store.id ≡ id_at ids store.place) where
   -- how an order went that ended so
-  abbrev course_of : (stop : Option Stop) → HasEnded store order.amount stop old new l m → Option OrderBroken → Course
-  course_of stop ended why = record { order = order; seat = old.number; calls = ended.calls; sent = ended.sent; unsent = ended.unsent; why = why }
+  abbrev course_of : (stop : Option Stop) → HasEnded store order.amount stop old new l m → Course
+  course_of stop ended = record { order = order; seat = old.number; calls = ended.calls; sent = ended.sent; unsent = ended.unsent; why = why_of stop }
 
   -- how many packets it was given
   most_of : (stop : Option Stop) (ended : HasEnded store order.amount stop old new l m) → length ended.sent + length ended.unsent ≤ order.amount
   most_of stop ended = omega (arith, ended.most, length-append ended.sent ended.unsent)
 
-  carried_as : (stop : Option Stop) (why : Option OrderBroken) (ended : HasEnded store order.amount stop old new l m) → IsTried (course_of stop ended why) → OrderCarriedOut ids order why old new l m
-  carried_as stop why ended is = record {
-    course = course_of stop ended why;
+  -- it is whole, or it broke, or a call was refused
+  tried : (stop : Option Stop) (ended : HasEnded store order.amount stop old new l m) → IsTried (course_of stop ended)
+  tried None ended = record { alone = λ s t off run. record { order = ended.goes.0; all = ended.goes.1 }; whole = λ none. ended.goes.1; few = most_of None ended }
+  tried (Some (Broken cause)) ended = record {
+    alone = λ s t off run. record { order = ended.goes.0; last = ended.goes.1 };
+    whole = λ none. absurd (cc none);
+    few = most_of (Some (Broken cause)) ended;
+  }
+  tried (Some Refused) ended = record {
+    alone = λ s t off run. absurd (ended.goes.never s t (ap is_some off) run);
+    whole = λ none. absurd (cc none);
+    few = most_of (Some Refused) ended;
+  }
+
+  pub carried : (stop : Option Stop) → HasEnded store order.amount stop old new l m → OrderCarriedOut ids order (why_of stop) old new l m
+  carried stop ended = record {
+    course = course_of stop ended;
     of = refl;
     why_is = refl;
-    is = is;
+    is = tried stop ended;
     shown = record {
       port = ended.has_sent.port ∙ ap (λ (calls : List (ℕ × Entry)). record old { list = old.list ++ calls })
           (ap (λ (k : ℕ). map (λ (e : Entry). (k, e)) ended.calls) (sym here) ∙ sym (append-nil _));
       all = ended.has_sent.all ∙ ap (λ (xs : List Sent). l.sent ++ xs) (ap (λ (i : List ℕ). all_sent i ended.sent) (named ∙ ap (id_at ids) (sym here)) ∙ sym (append-nil _));
-      failures = omega (arith, ended.has_sent.failures, sum_by-cons (λ (c : Course). length c.unsent) (course_of stop ended why) []);
-      blocks = omega (arith, ended.has_sent.blocks, sum_by-cons (λ (c : Course). length c.sent + length c.unsent) (course_of stop ended why) []);
+      failures = omega (arith, ended.has_sent.failures, sum_by-cons (λ (c : Course). length c.unsent) (course_of stop ended) []);
+      blocks = omega (arith, ended.has_sent.blocks, sum_by-cons (λ (c : Course). length c.sent + length c.unsent) (course_of stop ended) []);
     };
   }
-
-  -- a whole order
-  pub carried_whole : HasEnded store order.amount None old new l m → OrderCarriedOut ids order None old new l m
-  carried_whole ended =
-      carried_as None None ended
-      (record { alone = λ s t off run. record { order = ended.goes.0; all = ended.goes.1 }; whole = λ none. ended.goes.1; few = most_of None ended })
-
-  -- one that stopped
-  pub carried_stopped : (stop : Stop) (why : OrderBroken) → why ≡ cause_of stop → HasEnded store order.amount (Some stop) old new l m → OrderCarriedOut ids order (Some why) old new l m
-  carried_stopped (Broken cause) why same ended =
-      subst (λ (w : OrderBroken). OrderCarriedOut ids order (Some w) old new l m) (sym same)
-      (carried_as (Some (Broken cause)) (Some cause) ended
-      (record { alone = λ s t off run. record { order = ended.goes.0; last = ended.goes.1 }; whole = λ none. absurd (cc none); few = most_of (Some (Broken cause)) ended }))
-  carried_stopped Refused why same ended =
-      carried_as (Some Refused) (Some why) ended
-      (record { alone = λ s t off run. absurd (ended.goes.never s t (ap is_some off) run); whole = λ none. absurd (cc none); few = most_of (Some Refused) ended })
 
 -- one order more
 are_more : (courses : List Course) (c : Course) (why : Option OrderBroken) → AreTried None courses → IsTried c → c.why ≡ why → AreTried why (courses ++ c ∷ [])
@@ -132,11 +135,6 @@ module _ (ids : List (List ℕ)) where
   pub worked_well : (orders : List Order) (taken : List ℕ) (past : ℕ) (old new : PortView) (l m : LinkState) (courses : List Course)
       → Worked ids orders taken past None old new l m courses → m.failed ≡ l.failed
   worked_well orders taken past old new l m courses worked = omega (arith, worked.shown.failures, no_failures courses worked.are.each worked.are.cause)
-
-  -- an order spends no more than its amount
-  pub carried_few : (order : Order) (why : Option OrderBroken) (old new : PortView) (l m : LinkState) → OrderCarriedOut ids order why old new l m → m.spent ≤ l.spent + order.amount
-  carried_few order why old new l m carried =
-      omega (arith, carried.shown.blocks, carried.is.few, ap (λ (o : Order). o.amount) carried.of, sum_by-cons (λ (c : Course). length c.sent + length c.unsent) carried.course [])
 
 -- a worker of which an order broke took no number that no order has
 pub worked_stopped : (ids : List (List ℕ)) (orders : List Order) (taken : List ℕ) (why : Option OrderBroken) (old new : PortView) (l m : LinkState) (courses : List Course)

@@ -20,6 +20,4 @@ returns-then-is_err-clause-err g c =
     let sent : g.L.Link.sent c.send.new.self ≡ g.L.Link.sent c.args.link.now = search rules in
     let failed : g.L.Link.failed c.send.new.self ≡ g.L.Link.failed c.args.link.now + 1 = search rules in
     let gave = c.in_ok-stored.ensures.ok ∙ ap (λ (o : Option Stored). with_call c.args.port.now c.args.context.now.place Next (reply.Given (Ok o))) c.in-Some.is in
-    link_failed_stops (order_store c.args.context.now.place c.args.context.now.id.now) c.in-Some.stored c.args.port.now c.next.new.port c.abort.new.port
-    (link_state (g.L.Link.sent c.args.link.now) (g.L.Link.failed c.args.link.now) c.args.spent.now)
-    (link_state (g.L.Link.sent c.send.new.self) (g.L.Link.failed c.send.new.self) (c.args.spent.now + 1)) gave sent failed refl c.abort.result c.abort.ensures.aborted
+    link_failed_stops _ c.in-Some.stored _ c.next.new.port _ _ _ gave sent failed refl _ c.abort.ensures.aborted
