@@ -5,7 +5,7 @@ use Rattle.std.specs.Prelude.{Option, None, IfNone, Some}
 use Rattle.std.proofs.lemmas.List.{get_or-map, length-map, take_all, map-id}
 use Rattle.std.proofs.lemmas.List.Concat.{length-flat_map}
 use Rattle.std.proofs.lemmas.List.Elements.{All-nil, All-cons, All-head, All-tail, All-append, All-contains}
-use Rattle.std.proofs.lemmas.List.Sums.{sum_by-cons, sum_by-take-le, length-filter}
+use Rattle.std.proofs.lemmas.List.Sums.{sum_by-take-le, length-filter}
 use Rattle.std.proofs.lemmas.Simd.{map-map}
 use Rattle.mm_base.proofs.Pairs.{All-front, All-back}
 use Rattle.mm_base.proofs.Sums.{sum_by-map, sum_by-same, sum_by-add, sum_by-le_each, sum_by-flat_map}

@@ -1,4 +1,4 @@
-use Rattle.std.proofs.Common.{rules, All, subst, take_all, arith}
+use Rattle.std.proofs.Common.{All, subst, take_all, arith}
 use Rattle.std.proofs.lemmas.List.Elements.{All-more}
 use Rattle.mm_desk.specs.declared.held.Held.{Held}
 use Rattle.mm_desk.specs.Machine.{IsState}
