@@ -1,31 +1,29 @@
 -- The ports of all seats come back: the state is in its slot, and went by a log of their calls.
-use Rattle.std.proofs.Common.{◌≡◌, ⊎_elim, ℕ, ◌<◌, List, [], ◌∷◌, length, map, refl, sym, ap, ◌∙◌, subst, arith, None}
+use Rattle.std.proofs.Common.{◌≡◌, ℕ, ◌<◌, List, [], ◌∷◌, length, map, get_or, refl, sym, ap, ◌∙◌, arith, Option, Some, None}
 use Rattle.std.specs.Prelude.{All}
-use Rattle.std.proofs.lemmas.Bool.{eq-eqb}
-use Rattle.std.proofs.lemmas.List.Elements.{All-head, All-map}
-use mathlib.Core.Option.{some, some-injective}
+use Rattle.std.proofs.lemmas.Bool.{eq-eqb, ne_eqb}
+use Rattle.std.proofs.lemmas.List.Elements.{All-map}
+use Rattle.std.proofs.lemmas.List.{get_or-map, get_or_past, length-map}
+use mathlib.Core.Option.{none, some}
+use native.Mathlib.Decide.{ℕ_discrete}
 use lib.ListN.{get_elem?}
 use Rattle.atomic_table.specs.Table.{State as Table}
 use Rattle.mm_desk.specs.declared.entry.Entry.{Entry}
 use Rattle.mm_desk.specs.Machine.{State}
 use Rattle.mm_desk.specs.Runs.{replay, opening_at}
-use Rattle.mm_desk.specs.Shuffles.{AreBelow, IsShuffle, part}
-use Rattle.mm_shared.specs.Rule.{Known, Fits, IsHome, IsOut, Keeps, calls_on}
+use Rattle.mm_desk.specs.Shuffles.{IsShuffle, part}
+use Rattle.mm_desk.proofs.Lone.{lone_log}
+use Rattle.mm_shared.specs.declared.rule.Knows.{Knows}
+use Rattle.mm_shared.specs.Rule.{Owns, Fits, Stands, Keeps, calls_on, held_of, held_by}
 use Rattle.mm_shared.specs.Steps.{Seated, IsTakenByAll}
 use Rattle.mm_shared.specs.Views.{HasLegalLog}
-use Rattle.mm_shared.proofs.Keeping.{none-some}
 
 -- a log of no calls leaves the state as it was
 pub untouched : (lists : List (List Entry)) (s t : State) → HasLegalLog lists s t → All (λ (list : List Entry). list ≡ []) lists → t ≡ s
-untouched lists s t went empty = went.run.leaves ∙ ap (replay s) (none_made went.log went.shuffle)
-  where
-    none_made : (log : List Entry) → IsShuffle lists log → log ≡ []
-    none_made [] shuffle = refl
-    none_made (e ∷ es) shuffle =
-        let within : e.seat < length lists = All-head (λ (d : Entry). d.seat < length lists) e es shuffle.below in
-        let none : part e.seat (e ∷ es) ≡ [] = shuffle.parts e.seat within ∙ empty e.seat [] within in
-        let one : part e.seat (e ∷ es) ≡ e ∷ part e.seat es = rw (eq-eqb e.seat e.seat refl) refl in
-        absurd (omega (arith, ap length (sym one ∙ none)))
+untouched lists s t went empty =
+    went.run.leaves
+    ∙ ap (replay s)
+    (lone_log lists went.log (length lists) went.shuffle (λ other within apart. empty other [] within) ∙ get_or_past lists (length lists) [] (omega arith))
 
 -- the state that who has all seats has taken is the one from which calls count, where no call was made
 pub told_is : (k : ℕ) (m n : Seated) (now : State) → IsTakenByAll k m n → n.1 ≡ (k, now) ∷ [] → All (λ (calls : List (ℕ × Entry)). calls ≡ []) m.0.lists → now ≡ opening_at m.0.states k
@@ -38,28 +36,34 @@ told_is k m n now took has fresh =
     first_held [] = now
     first_held (held ∷ others) = held.1
 
-module _ (start : State) (seats : ℕ) where
-  -- the view of all seats, which holds nothing, is the only one that could hold the state
-  pub ends : (s : Table State Known) (k : Keeps start seats s) (id : ℕ) (v : Known) → get_elem? s.views id ≡ some v → v.held ≡ None → v.first ≡ 0 → length v.lists ≡ seats
-      → HasLegalLog v.lists start k.now × IsHome s k.now
-  ends s k id v me rest first all = (record { log = k.log; run = k.run; shuffle = shuffle }, ⊎_elim (λ (home : IsHome s k.now). home) away k.state_is)
-    where
-      mine : Fits seats k.log k.owner id v
-      mine = k.fits id v me
+-- a view holds the state only where it is the holder, and then the state of the rule
+pub is_holder : (holder : Option ℕ) (now : State) (port : ℕ) (taken : State) → held_by holder now port ≡ Some taken → (holder ≡ Some port) × (now ≡ taken)
+is_holder None now port taken held = absurd (cc held)
+is_holder (Some other) now port taken held = by_port (ℕ_discrete other port)
+  where
+    by_port : Dec (other ≡ port) → (Some other ≡ Some port) × (now ≡ taken)
+    by_port (yes same) = let is = rw (eq-eqb other port same) at held in (ap Some same, cc is)
+    by_port (no apart) = let is = rw (ne_eqb other port apart) at held in absurd (cc is)
 
-      shuffle : IsShuffle v.lists k.log
-      shuffle = record {
-        below = subst (λ (n : ℕ). AreBelow n k.log) (sym all) k.below;
-        parts = λ seat within. ap (λ (n : ℕ). part n k.log) (omega arith) ∙ mine.parts seat within;
-      }
+-- with all seats in one view, which holds nothing, the state is in its slot, and went by a log of their calls
+pub ends : (start : State) (seats : ℕ) (openings : List State) (owner : ℕ → ℕ) (i : ℕ) (s : Table State Knows) (k : Keeps start seats owner i s) (id : ℕ) (v : Knows) → get_elem? s.views id ≡ some v
+    → Owns openings seats owner id v.states v.first (length v.lists) → v.held ≡ None → v.first ≡ 0 → length v.lists ≡ seats
+    → HasLegalLog (map (calls_on i) v.lists) start k.now × (k.holder ≡ None)
+ends start seats openings owner i s k id v me mine rest first all = (record { log = k.log; run = k.run; shuffle = shuffle }, by_holder k.holder k.stands (sym fit.held ∙ ap (held_of i) rest))
+  where
+    fit : Fits i k.log k.now k.holder id v
+    fit = k.fits id v me
 
-      away : IsOut s k.word k.now → IsHome s k.now
-      away out =
-          let fit = k.fits out.port out.holder out.at in
-          let within = fit.within in
-          let some_seat = out.seated in
-          let theirs : k.owner out.holder.first ≡ out.port = ap k.owner (omega arith) ∙ fit.owned 0 some_seat in
-          let ours : k.owner out.holder.first ≡ id = ap k.owner (omega arith) ∙ mine.owned out.holder.first (omega arith) in
-          let same : id ≡ out.port = sym ours ∙ theirs in
-          let one : out.holder ≡ v = some-injective out.holder v (sym out.at ∙ (ap (λ (i : ℕ). get_elem? s.views i) (sym same) ∙ me)) in
-          absurd (none-some k.now (sym rest ∙ (ap (λ (u : Known). u.held) (sym one) ∙ out.held)))
+    shuffle : IsShuffle (map (calls_on i) v.lists) k.log
+    shuffle = record {
+      below = rw (length-map v.lists (calls_on i), all) k.below;
+      parts = λ seat within.
+          let under : seat < length v.lists = omega (arith, within, length-map v.lists (calls_on i)) in
+          ap (λ (n : ℕ). part n k.log) (omega (arith, first)) ∙ (fit.parts seat under ∙ sym (get_or-map (calls_on i) v.lists seat [] [] under));
+    }
+
+    by_holder : (holder : Option ℕ) → Stands seats owner (length s.views) (get_or s.words i 0) (get_or s.homes i none) k.now holder → held_by holder k.now id ≡ None → holder ≡ None
+    by_holder None home idle = refl
+    by_holder (Some other) out idle =
+        let same : other ≡ id = sym out.owned ∙ mine.owned out.seat (omega arith) (omega (arith, all)) in
+        absurd (cc (rw (eq-eqb other id same) at idle))

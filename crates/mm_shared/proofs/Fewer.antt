@@ -1,8 +1,9 @@
 -- Seats through which no call was made have no part in a log.
-use Rattle.std.proofs.Common.{◌≡◌, ◌≢◌, ◌⊎◌, inl, inr, ℕ, ◌-◌, ◌<◌, ◌≤◌, List, [], ◌∷◌, ◌++◌, length, map, replicate, get_or, refl, sym, ap, ◌∙◌, subst, arith}
+use Rattle.std.proofs.Common.{◌≡◌, ◌≢◌, ◌⊎◌, inl, inr, ℕ, ◌-◌, ◌<◌, ◌≤◌, List, [], ◌∷◌, ◌++◌, length, map, replicate, get_or, refl, sym, ap, ◌∙◌, arith}
 use Rattle.std.specs.Prelude.{All}
 use Rattle.std.proofs.lemmas.Bool.{cases_lt, eq-eqb, ne_eqb}
 use Rattle.std.proofs.lemmas.List.{length-append, length-replicate, map-append, get_or_append_left, get_or-append_right, get_or-replicate}
+use Rattle.std.proofs.lemmas.Simd.{map-map}
 use Rattle.std.proofs.lemmas.List.Elements.{All-nil, All-cons}
 use native.Mathlib.Decide.{ℕ_discrete}
 use Rattle.mm_desk.specs.declared.entry.Entry.{Entry}
@@ -11,8 +12,7 @@ use Rattle.mm_desk.specs.Shuffles.{IsShuffle, part}
 use Rattle.mm_shared.specs.Rule.{calls_on}
 use Rattle.mm_shared.specs.Stores.{lists_at}
 use Rattle.mm_shared.specs.Views.{PortView, HasLegalLog}
-use Rattle.mm_shared.proofs.Opening.{lists_are}
-use Rattle.mm_shared.proofs.Slices.{none_on}
+use lib.LanesLaws.{map-replicate}
 
 -- a seat whose part is empty made no entry
 none_of : (seat : ℕ) (log : List Entry) → part seat log ≡ [] → All (λ (e : Entry). e.seat ≢ seat) log
@@ -54,10 +54,5 @@ pub fewer_lists : (k : ℕ) (workers : List PortView) (more : ℕ) (s t : State)
 fewer_lists k workers more s t went = record {
   log = went.log;
   run = went.run;
-  shuffle = fewer (lists_at k workers) more went.log
-      (subst (λ (ls : List (List Entry)). IsShuffle ls went.log)
-      (map-append (calls_on k) (map (λ (w : PortView). w.list) workers) (replicate more [])
-      ∙ (ap (λ (ls : List (List Entry)). ls ++ map (calls_on k) (replicate more [])) (lists_are k workers)
-      ∙ ap (λ (ls : List (List Entry)). lists_at k workers ++ ls) (none_on k more)))
-      went.shuffle);
+  shuffle = fewer (lists_at k workers) more went.log (simp (map-append, map-map, map-replicate) at went.shuffle);
 }

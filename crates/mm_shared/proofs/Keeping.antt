@@ -1,150 +1,164 @@
--- Each step on one store keeps its rule.
-use Rattle.std.proofs.Common.{◌≡◌, ◌≢◌, ◌⊎◌, inl, inr, ⊎_elim, ℕ, zero, suc, ◌<◌, List, [], ◌∷◌, length, set, refl, sym, ap, ◌∙◌, subst, arith, Option, Some, None}
-use Rattle.std.specs.Prelude.{replicate}
-use Rattle.std.proofs.lemmas.List.{length-replicate, get_or-replicate}
-use Rattle.std.proofs.lemmas.List.Elements.{All-nil}
-use mathlib.Core.Option.{none, some, some-injective, some-ne-none}
+-- A step of a seat on one store keeps the rule of shared stores.
+use Rattle.std.proofs.Common.{◌≡◌, ◌≢◌, ℕ, ◌+◌, ◌<◌, List, [], ◌∷◌, ◌++◌, length, get_or, set, refl, sym, ap, ◌∙◌, subst, arith, Option, Some, None}
+use Rattle.std.proofs.lemmas.Bool.{eq-eqb, ne_eqb}
+use Rattle.std.proofs.lemmas.List.{length-set, get_or_default, get_or-set_same, get_or-set_other, set-get_or}
+use Rattle.std.proofs.lemmas.List.Elements.{All-push}
+use mathlib.Core.Option.{none, some}
+use mathlib.Core.Option as slot
 use native.Mathlib.Decide.{ℕ_discrete}
 use lib.ListN.{get_elem?}
-use Rattle.atomic_table.specs.Table.{State as Table, keeps, takes, stepped, opening}
-use Rattle.atomic_table.proofs.Lists.{at_set, set_again}
+use Rattle.atomic_table.specs.Table.{State as Table, Act, keeps, takes, gives, stepped, homes_after}
+use Rattle.atomic_table.proofs.Lists.{at_index}
 use Rattle.mm_desk.specs.declared.entry.Entry.{Entry}
+use Rattle.mm_desk.specs.declared.event.Event.{Event}
+use Rattle.mm_desk.specs.declared.reply.Reply.{Reply}
 use Rattle.mm_desk.specs.Machine.{State}
-use Rattle.mm_shared.specs.Rule.{Known, known, NoneElse, Fits, IsHome, IsOut, Keeps}
-use Rattle.mm_shared.proofs.Lists.{at_written}
+use Rattle.mm_desk.specs.Machine as Machine
+use Rattle.mm_desk.specs.Runs.{entry, IsRun, opening_at}
+use Rattle.mm_desk.specs.Shuffles.{AreBelow, part}
+use Rattle.mm_desk.proofs.Logs.{run_more}
+use Rattle.mm_shared.specs.declared.rule.Knows.{Knows}
+use Rattle.mm_shared.specs.Rule.{Owns, Fits, Stands, Keeps, IsKept, calls_on, held_of, held_by}
+use Rattle.mm_shared.specs.Steps.{lists_with}
+use Rattle.mm_shared.proofs.Ending.{is_holder}
+use Rattle.mm_shared.proofs.Lists.{at_below, each_set}
+use Rattle.mm_shared.proofs.Parts.{part-other, length-lists_with, parts_with, others_with}
 
--- what an option has is one thing
-some-one : {A : Type 0} (a b : A) → Some a ≡ Some b → a ≡ b
-some-one a b same = cc same
+-- what is held of the store that it is of, and of another
+held_here : (i : ℕ) (now : State) → held_of i (Some (i, now)) ≡ Some now
+held_here i now = rw (eq-eqb i i refl) refl
 
--- nothing is something
-pub none-some : {A : Type 0} (a : A) → None ≡ Some a → ⊥
-none-some a same = cc same
+held_there : (i j : ℕ) (now : State) → j ≢ i → held_of j (Some (i, now)) ≡ None
+held_there i j now other = rw (ne_eqb i j (λ same. other (sym same))) refl
 
-module _ (start : State) (seats : ℕ) where
-  -- a new store keeps the rule
-  pub begins : (state : State) → state ≡ start → Keeps start seats (opening (0 ∷ []) (state ∷ []) (known 0 (replicate seats []) None))
-  begins state same = record {
-    log = [];
-    now = state;
-    owner = λ i. 0;
-    word = 0;
-    run = record { legal = tt; leaves = same };
-    below = All-nil (λ (e : Entry). e.seat < seats);
-    words = refl;
-    state_is = inl record { homes = refl; none = alone };
-    fits = fit;
+-- no view but the holder holds the state
+not_held : (holder port : ℕ) (now : State) → port ≢ holder → held_by (Some holder) now port ≡ None
+not_held holder port now other = rw (ne_eqb holder port (λ same. other (sym same))) refl
+
+module _ (stores seats : ℕ) (s : Table State Knows) (kept : IsKept stores seats s) (id : ℕ) (v : Knows) (me : get_elem? s.views id ≡ some v) (i : ℕ) (within : i < stores)
+    (k : Keeps (opening_at kept.openings i) seats kept.owner i s) where
+  -- one store becomes this, and the others stay
+  goes : (x : ℕ) (c : List (ℕ × State)) (lists : List (List (ℕ × Entry))) (held : Option (ℕ × State)) (a : Act State) (home : slot.Option State)
+      → homes_after s.homes c a ≡ set s.homes i home → length lists ≡ length v.lists
+      → ((j n : ℕ) → j ≢ i → calls_on j (get_or lists n []) ≡ calls_on j (get_or v.lists n [])) → ((j : ℕ) → j ≢ i → held_of j held ≡ held_of j v.held)
+      → (log : List Entry) (now : State) (holder : Option ℕ) → IsRun (opening_at kept.openings i) log now → AreBelow seats log
+      → Stands seats kept.owner (length s.views) x home now holder → Fits i log now holder id (record v { lists = lists; held = held })
+      → ((port : ℕ) (u : Knows) → port ≢ id → get_elem? s.views port ≡ some u → Fits i log now holder port u)
+      → IsKept stores seats (stepped s i x id c (record v { lists = lists; held = held }) a)
+  goes x c lists held a home homes count calls elsewhere log now holder run below stands fit fits = record {
+    openings = kept.openings;
+    owner = kept.owner;
+    many = kept.many;
+    words = length-set s.words i x ∙ kept.words;
+    homes = ap length homes ∙ (length-set s.homes i home ∙ kept.homes);
+    owns = each_set (λ port u. Owns kept.openings seats kept.owner port u.states u.first (length u.lists)) s.views id w
+        (subst (Owns kept.openings seats kept.owner id v.states v.first) (sym count) (kept.owns id v me)) (λ port u apart at. kept.owns port u at);
+    keeps = λ j under. by_store j under (ℕ_discrete j i);
   }
     where
-      no_calls : List Entry
-      no_calls = []
+      w : Knows
+      w = record v { lists = lists; held = held }
 
-      alone : (port : ℕ) (u : Known) → get_elem? (known 0 (replicate seats []) None ∷ []) port ≡ some u → u.held ≡ None
-      alone zero u at = ap (λ (v : Known). v.held) (sym (some-injective (known 0 (replicate seats []) None) u at))
-      alone (suc port) u at = absurd (some-ne-none u (sym at))
-
-      all_fit : Fits seats [] (λ i. 0) 0 (known 0 (replicate seats []) None)
-      all_fit = record {
-        within = omega (arith, length-replicate seats no_calls);
-        owned = λ i within. refl;
-        parts = λ i within. sym (get_or-replicate seats i [] [] (omega (arith, length-replicate seats no_calls)));
-      }
-
-      fit : (port : ℕ) (v : Known) → get_elem? (known 0 (replicate seats []) None ∷ []) port ≡ some v → Fits seats [] (λ i. 0) port v
-      fit zero v at = subst (Fits seats [] (λ i. 0) 0) (some-injective (known 0 (replicate seats []) None) v at) all_fit
-      fit (suc port) v at = absurd (some-ne-none v (sym at))
-
-  -- what fits a view fits one that holds something else
-  refits : (log : List Entry) (owner : ℕ → ℕ) (port : ℕ) (v : Known) (held : Option State) → Fits seats log owner port v → Fits seats log owner port (known v.first v.lists held)
-  refits log owner port v held fit = record { within = fit.within; owned = fit.owned; parts = fit.parts }
-
-  -- the views after one has changed what it holds
-  pub refit_all : (log : List Entry) (owner : ℕ → ℕ) (views : List Known) (id : ℕ) (v : Known) (held : Option State) → get_elem? views id ≡ some v
-      → ((port : ℕ) (u : Known) → get_elem? views port ≡ some u → Fits seats log owner port u)
-      → (port : ℕ) (u : Known) → get_elem? (set views id (known v.first v.lists held)) port ≡ some u → Fits seats log owner port u
-  refit_all log owner views id v held me fits port u at =
-      ⊎_elim (λ here. subst (λ (p : ℕ). Fits seats log owner p u) (sym here.0)
-      (subst (Fits seats log owner id) here.1 (refits log owner id v held (fits id v me))))
-      (λ there. fits port u there.1) (at_set views id port (known v.first v.lists held) u at)
-
-  -- the rule of another table, with the same log
-  pub same_log : (s t : Table State Known) (k : Keeps start seats s) (owner : ℕ → ℕ) (word : ℕ) → t.words ≡ word ∷ [] → IsHome t k.now ⊎ IsOut t word k.now
-      → ((port : ℕ) (v : Known) → get_elem? t.views port ≡ some v → Fits seats k.log owner port v) → Keeps start seats t
-  same_log s t k owner word words state_is fits =
-      record { log = k.log; now = k.now; owner = owner; word = word; run = k.run; below = k.below; words = words; state_is = state_is; fits = fits }
-
-  -- the state is taken out of its slot, where it is there
-  pub takes_home : (s : Table State Known) (k : Keeps start seats s) (id : ℕ) (v : Known) (x : ℕ) → get_elem? s.views id ≡ some v → 0 < length v.lists → 0 < x → IsHome s k.now
-      → Keeps start seats (stepped s 0 x id [] (known v.first v.lists (Some k.now)) (takes 0 k.now)) × (get_elem? s.homes 0 ≡ some (some k.now))
-  takes_home s k id v x me some_seat up home = (
-    same_log s _ k k.owner x (ap (λ (ws : List ℕ). set ws 0 x) k.words)
-        (inr record {
-          homes = ap (λ (hs : List (mathlib.Core.Option.Option State)). set hs 0 none) home.homes;
-          locked = up;
-          port = id;
-          holder = w;
-          at = at_written s.views id v w me;
-          held = refl;
-          seated = some_seat;
-          others = λ other u at apart. ⊎_elim (λ here. absurd (apart here.0)) (λ there. home.none other u there.1) (at_set s.views id other w u at);
-        })
-        (refit_all k.log k.owner s.views id v (Some k.now) me k.fits),
-    ap (λ (hs : List (mathlib.Core.Option.Option State)). get_elem? hs 0) home.homes,
-  )
-    where
-      w : Known
-      w = known v.first v.lists (Some k.now)
-
-  -- it is there where the word is 0
-  pub takes_it : (s : Table State Known) (k : Keeps start seats s) (id : ℕ) (v : Known) (x : ℕ) → get_elem? s.views id ≡ some v → 0 < length v.lists → k.word ≡ 0 → 0 < x
-      → Keeps start seats (stepped s 0 x id [] (known v.first v.lists (Some k.now)) (takes 0 k.now)) × (get_elem? s.homes 0 ≡ some (some k.now))
-  takes_it s k id v x me some_seat free up =
-      takes_home s k id v x me some_seat up
-      (⊎_elim (λ (home : IsHome s k.now). home) (λ (out : IsOut s k.word k.now). absurd (let locked = out.locked in omega arith)) k.state_is)
-
-  -- a word that is above 0 becomes another
-  pub keeps_it : (s : Table State Known) (k : Keeps start seats s) (id : ℕ) (v : Known) (x : ℕ) → get_elem? s.views id ≡ some v → 0 < x → (k.word ≢ 0)
-      → Keeps start seats (stepped s 0 x id [] v keeps)
-  keeps_it s k id v x me up busy =
-      same_log s _ k k.owner x (ap (λ (ws : List ℕ). set ws 0 x) k.words) state_is
-      (subst (λ (vs : List Known). (port : ℕ) (v : Known) → get_elem? vs port ≡ some v → Fits seats k.log k.owner port v) (sym same) k.fits)
-    where
-      same : set s.views id v ≡ s.views
-      same = set_again s.views id v me
-
-      state_is : IsHome (stepped s 0 x id [] v keeps) k.now ⊎ IsOut (stepped s 0 x id [] v keeps) x k.now
-      state_is =
-          ⊎_elim
-          (λ (home : IsHome s k.now). inl record { homes = home.homes; none = subst (λ (vs : List Known). (port : ℕ) (u : Known) → get_elem? vs port ≡ some u → u.held ≡ None) (sym same) home.none })
-          (λ (out : IsOut s k.word k.now). inr record {
-            homes = out.homes;
-            locked = up;
-            port = out.port;
-            holder = out.holder;
-            at = ap (λ (vs : List Known). get_elem? vs out.port) same ∙ out.at;
-            held = out.held;
-            seated = out.seated;
-            others = subst (NoneElse out.port) (sym same) out.others;
+      by_store : (j : ℕ) → j < stores → Dec (j ≡ i) → Keeps (opening_at kept.openings j) seats kept.owner j (stepped s i x id c w a)
+      by_store j under (yes same) =
+          let in_words : i < length s.words = omega (arith, kept.words, within) in
+          let in_homes : i < length s.homes = omega (arith, kept.homes, within) in
+          subst (λ (n : ℕ). Keeps (opening_at kept.openings n) seats kept.owner n (stepped s i x id c w a)) (sym same) (record {
+            log = log;
+            now = now;
+            holder = holder;
+            run = run;
+            below = below;
+            stands = rw (length-set s.views id w, get_or-set_same s.words i x 0 in_words, homes, get_or-set_same s.homes i home none in_homes) stands;
+            fits = each_set (Fits i log now holder) s.views id w fit fits;
           })
-          k.state_is
-
-  -- who holds a state is the only one, and has the state of the rule
-  pub record HasIt (t : Table State Known) (id : ℕ) (taken now : State) : Type 0 where
-    pub same : now ≡ taken
-    pub homes : t.homes ≡ none ∷ []
-    pub others : NoneElse id t.views
-
-  pub holds : (s : Table State Known) (k : Keeps start seats s) (id : ℕ) (v : Known) (taken : State) → get_elem? s.views id ≡ some v → v.held ≡ Some taken
-      → HasIt s id taken k.now
-  holds s k id v taken me has =
-      ⊎_elim (λ (home : IsHome s k.now). absurd (none-some taken (sym (home.none id v me) ∙ has))) (λ (out : IsOut s k.word k.now). by_port out (ℕ_discrete id out.port)) k.state_is
-    where
-      by_port : (out : IsOut s k.word k.now) → Dec (id ≡ out.port) → HasIt s id taken k.now
-      by_port out (yes same) =
-          let one : out.holder ≡ v = some-injective out.holder v (sym out.at ∙ (ap (λ (i : ℕ). get_elem? s.views i) (sym same) ∙ me)) in
+      by_store j under (no other) =
+          let old = kept.keeps j under in
+          let mine = old.fits id v me in
           record {
-            same = some-one k.now taken (sym out.held ∙ (ap (λ (u : Known). u.held) one ∙ has));
-            homes = out.homes;
-            others = subst (λ (i : ℕ). NoneElse i s.views) (sym same) out.others;
+            log = old.log;
+            now = old.now;
+            holder = old.holder;
+            run = old.run;
+            below = old.below;
+            stands = rw (length-set s.views id w, get_or-set_other s.words i j x 0 other, homes, get_or-set_other s.homes i j home none other) old.stands;
+            fits = each_set (Fits j old.log old.now old.holder) s.views id w
+                (record { parts = λ n inside. mine.parts n (omega (arith, inside, count)) ∙ sym (calls j n other); held = elsewhere j other ∙ mine.held }) (λ port u apart at. old.fits port u at);
           }
-      by_port out (no apart) = absurd (none-some taken (sym (out.others id v me apart) ∙ has))
+
+  -- the word becomes another that is above 0
+  pub keeps_on : (x : ℕ) (c : List (ℕ × State)) → 0 < x → IsKept stores seats (stepped s i x id c v keeps)
+  keeps_on x c up =
+      goes x c v.lists v.held keeps (get_or s.homes i none) (sym (set-get_or s.homes i none)) refl (λ j n other. refl) (λ j other. refl) k.log k.now k.holder k.run k.below
+      (by_holder k.holder k.stands) (k.fits id v me) (λ port u apart at. k.fits port u at)
+    where
+      by_holder : (holder : Option ℕ) → Stands seats kept.owner (length s.views) (get_or s.words i 0) (get_or s.homes i none) k.now holder
+          → Stands seats kept.owner (length s.views) x (get_or s.homes i none) k.now holder
+      by_holder None home = home
+      by_holder (Some port) out = record { empty = out.empty; locked = up; there = out.there; seat = out.seat; within = out.within; owned = out.owned }
+
+  -- the state that no view holds is in its slot
+  pub in_slot : k.holder ≡ None → get_or s.homes i none ≡ some k.now
+  in_slot home = subst (Stands seats kept.owner (length s.views) (get_or s.words i 0) (get_or s.homes i none) k.now) home k.stands
+
+  -- so it may be taken
+  pub may_take : k.holder ≡ None → get_elem? s.homes i ≡ some (some k.now)
+  may_take home =
+      let in_homes : i < length s.homes = omega (arith, kept.homes, within) in
+      at_index s.homes i (some k.now) in_homes (sym (in_slot home) ∙ get_or_default s.homes i none (some k.now) in_homes)
+
+  -- the state is taken out of its slot
+  pub takes_out : (x : ℕ) (c : List (ℕ × State)) → 0 < x → v.held ≡ None → 0 < length v.lists → k.holder ≡ None
+      → IsKept stores seats (stepped s i x id c (record v { held = Some (i, k.now) }) (takes i k.now))
+  takes_out x c up rest some_seat home =
+      let mine = kept.owns id v me in
+      let within = mine.within in
+      goes x c v.lists (Some (i, k.now)) (takes i k.now) none refl refl (λ j n other. refl) (λ j other. held_there i j k.now other ∙ sym (ap (held_of j) rest))
+      k.log k.now (Some id) k.run k.below
+      (record { empty = refl; locked = up; there = at_below s.views id v me; seat = v.first; within = omega arith; owned = mine.owned v.first (omega arith) (omega arith) })
+      (record { parts = (k.fits id v me).parts; held = held_here i k.now ∙ sym (held_here id k.now) })
+      (λ port u apart at.
+      let fit = k.fits port u at in
+      record { parts = fit.parts; held = fit.held ∙ (ap (λ (holder : Option ℕ). held_by holder k.now port) home ∙ sym (not_held id port k.now apart)) })
+
+  -- the state is given back, with this log
+  gives_back : (taken now : State) (lists : List (List (ℕ × Entry))) (log : List Entry) → v.held ≡ Some (i, taken) → length lists ≡ length v.lists
+      → ((j n : ℕ) → j ≢ i → calls_on j (get_or lists n []) ≡ calls_on j (get_or v.lists n [])) → (k.now ≡ taken → IsRun (opening_at kept.openings i) log now) → AreBelow seats log
+      → ((n : ℕ) → n < length lists → part (v.first + n) log ≡ calls_on i (get_or lists n []))
+      → ((port : ℕ) (u : Knows) → port ≢ id → get_elem? s.views port ≡ some u → (n : ℕ) → n < length u.lists → part (u.first + n) log ≡ part (u.first + n) k.log)
+      → IsKept stores seats (stepped s i 0 id ((i, now) ∷ []) (record v { lists = lists; held = None }) gives)
+  gives_back taken now lists log held count calls run below parts others =
+      goes 0 ((i, now) ∷ []) lists None gives (some now) refl count calls (λ j other. sym (ap (held_of j) held ∙ held_there i j taken other)) log now None (run has.1) below refl
+      (record { parts = parts; held = refl })
+      (λ port u apart at.
+      let fit = k.fits port u at in
+      record {
+        parts = λ n inside. others port u apart at n inside ∙ fit.parts n inside;
+        held = fit.held ∙ (ap (λ (holder : Option ℕ). held_by holder k.now port) has.0 ∙ not_held id port k.now apart);
+      })
+    where
+      has : (k.holder ≡ Some id) × (k.now ≡ taken)
+      has = is_holder k.holder k.now id taken (sym (k.fits id v me).held ∙ (ap (held_of i) held ∙ held_here i taken))
+
+  -- the state is given back after a call
+  pub gives_after : (taken now : State) (event : Event) (reply : Reply) → v.held ≡ Some (i, taken) → 0 < length v.lists → Machine.step taken event ≡ (reply, now)
+      → IsKept stores seats (stepped s i 0 id ((i, now) ∷ []) (record v { lists = lists_with (i, entry v.first event reply) v.lists; held = None }) gives)
+  gives_after taken now event reply held some_seat went =
+      gives_back taken now (lists_with (i, e) v.lists) (k.log ++ e ∷ []) held (length-lists_with (i, e) v.lists) (λ j n other. others_with i e j n v.lists other)
+      (λ same. run_more (opening_at kept.openings i) k.log k.now v.first event reply now k.run (ap (λ (t : State). Machine.step t event) same ∙ went))
+      (All-push (λ (d : Entry). d.seat < seats) k.log e k.below (let within = mine.within in omega arith)) (parts_with i e k.log v.lists (k.fits id v me).parts)
+      (λ port u apart at n inside.
+      part-other (u.first + n) k.log e
+      (λ same. apart (sym ((kept.owns port u at).owned (u.first + n) (omega arith) (omega arith)) ∙ (ap kept.owner (sym same) ∙ mine.owned v.first (omega arith) (omega arith)))))
+    where
+      e : Entry
+      e = entry v.first event reply
+
+      mine : Owns kept.openings seats kept.owner id v.states v.first (length v.lists)
+      mine = kept.owns id v me
+
+  -- the state is given back as it was
+  pub restores : (taken : State) → v.held ≡ Some (i, taken) → IsKept stores seats (stepped s i 0 id ((i, taken) ∷ []) (record v { held = None }) gives)
+  restores taken held =
+      gives_back taken taken v.lists k.log held refl (λ j n other. refl) (λ same. subst (IsRun (opening_at kept.openings i) k.log) same k.run) k.below (k.fits id v me).parts
+      (λ port u apart at n inside. refl)

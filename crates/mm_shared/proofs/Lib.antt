@@ -1,14 +1,10 @@
 pub mod Lists
-pub mod Parts
 pub mod CallsOn
-pub mod Keeping
-pub mod Giving
-pub mod Parting
+pub mod Parts
 pub mod Ending
-pub mod Slices
-pub mod Settling
+pub mod Keeping
+pub mod Parting
 pub mod Kept
-pub mod Defaults
 pub mod Fewer
 pub mod Places
 pub mod Opening

@@ -38,11 +38,6 @@ states_are [] (s ∷ states) same = absurd (omega (arith, same))
 states_are (l ∷ labels) [] same = refl
 states_are (l ∷ labels) (s ∷ states) same = ap (λ (xs : List State). s ∷ xs) (states_are labels states (omega (arith, same)))
 
--- the labels of parted stores
-pub names_are : (stores : List Held) → names_of (map label_of stores) ≡ labels_of stores
-names_are [] = refl
-names_are (h ∷ hs) = ap (λ (xs : List (List ℕ × ℕ)). (h.id, h.channel) ∷ xs) (names_are hs)
-
 -- stores with these labels are theirs with their states
 pub labelled : (labels : List StoreLabel) (stores : List Held) → labels_of stores ≡ names_of labels → held_stores labels (states_of stores) ≡ stores
 labelled [] [] same = refl
@@ -69,8 +64,3 @@ pub count_is : (labels : List StoreLabel) (states : List State) → length label
 count_is [] states same = refl
 count_is (l ∷ labels) [] same = absurd (omega (arith, same))
 count_is (l ∷ labels) (s ∷ states) same = ap suc (count_is labels states (omega (arith, same)))
-
--- the calls of workers on a store
-pub lists_are : (k : ℕ) (workers : List PortView) → map (calls_on k) (map (λ w. w.list) workers) ≡ lists_at k workers
-lists_are k [] = refl
-lists_are k (w ∷ ws) = ap (λ (ls : List (List Entry)). calls_on k w.list ∷ ls) (lists_are k ws)

@@ -1,228 +1,210 @@
--- Seats are parted and put together, at one store.
-use Rattle.std.proofs.Common.{◌≡◌, ◌≢◌, ◌⊎◌, inl, inr, ⊎_elim, ℕ, zero, suc, ◌+◌, ◌-◌, ◌<◌, ◌≤◌, eqb, List, [], ◌∷◌, ◌++◌, length, drop, get_or, set, refl, sym, ap, ◌∙◌, subst, arith, Option, None}
+-- Seats that are parted and put together keep the rule of shared stores.
+use Rattle.std.proofs.Common.{◌≡◌, ◌≢◌, ◌⊎◌, inl, inr, ℕ, zero, suc, ◌+◌, ◌-◌, ◌<◌, ◌≤◌, eqb, List, [], ◌∷◌, ◌++◌, length, drop, get_or, set, refl, sym, ap, ◌∙◌, arith, Option, Some, None}
 use Rattle.std.specs.Prelude.{if◌then◌else◌}
 use Rattle.std.proofs.lemmas.Bool.{eq-eqb, ne_eqb, cases_lt}
-use Rattle.std.proofs.lemmas.List.{length-append, get_or_append_left, get_or-append_right}
-use mathlib.Core.Option.{some, some-injective}
+use Rattle.std.proofs.lemmas.Grind.{get_or_after_one}
+use Rattle.std.proofs.lemmas.List.{length-append, length-drop, length-set, get_or_append_left, get_or-append_right}
+use mathlib.Core.Option.{some}
+use mathlib.Core.Option as slot
 use lib.ListN.{get_elem?}
-use Rattle.atomic_table.specs.Table.{Splits, Joins}
-use Rattle.atomic_table.proofs.Lists.{at_set, set_else, at_longer}
+use Rattle.atomic_table.specs.Table.{State as Table, Splits, Joins}
+use Rattle.atomic_table.proofs.Lists.{set_else}
 use Rattle.mm_desk.specs.declared.entry.Entry.{Entry}
 use Rattle.mm_desk.specs.Machine.{State}
 use Rattle.mm_desk.specs.Shuffles.{part}
-use Rattle.mm_shared.specs.Rule.{Known, known, Fits, IsHome, IsOut, Keeps}
-use Rattle.mm_shared.proofs.Lists.{at_end}
-use Rattle.mm_shared.proofs.Keeping.{none-some, same_log}
+use Rattle.mm_shared.specs.declared.rule.Knows.{Knows}
+use Rattle.mm_shared.specs.Rule.{knows, Owns, Fits, Stands, Each, IsKept, calls_on, held_of, held_by}
+use Rattle.mm_shared.specs.Steps.{others_of, first_of, joined}
+use Rattle.mm_shared.proofs.Lists.{each_set, each_push}
 
--- the seats from the second on
-abbrev pub others_at : Known → Known
-others_at v = known (v.first + 1) (drop 1 v.lists) v.held
+-- the state stands as it did where the seats of one view, which is not the holder, get new owners
+stands_as : (seats : ℕ) (owner changed : ℕ → ℕ) (views more word : ℕ) (home : slot.Option State) (now : State) (id : ℕ) (holder : Option ℕ) → views ≤ more
+    → ((seat : ℕ) → owner seat ≢ id → changed seat ≡ owner seat) → held_by holder now id ≡ None → Stands seats owner views word home now holder
+    → Stands seats changed more word home now holder
+stands_as seats owner changed views more word home now id None up same idle stands = stands
+stands_as seats owner changed views more word home now id (Some other) up same idle out = record {
+  empty = out.empty;
+  locked = out.locked;
+  there = let there = out.there in omega arith;
+  seat = out.seat;
+  within = out.within;
+  owned = same out.seat (λ is. let mine = rw (eq-eqb other id (sym out.owned ∙ is)) at idle in absurd (cc mine)) ∙ out.owned;
+}
 
--- the first seat alone
-abbrev pub first_at : Known → Known
-first_at v = known v.first (get_or v.lists 0 [] ∷ []) None
+-- no view past all is the holder
+none_past : (seats : ℕ) (owner : ℕ → ℕ) (views word : ℕ) (home : slot.Option State) (now : State) (port : ℕ) (holder : Option ℕ) → views ≤ port
+    → Stands seats owner views word home now holder → None ≡ held_by holder now port
+none_past seats owner views word home now port None past stands = refl
+none_past seats owner views word home now port (Some other) past out = let there = out.there in rw (ne_eqb other port (λ same. omega arith)) refl
 
--- the seats of the second before those of the first
-abbrev pub joined_at : Known → Known → Known
-joined_at v w = known w.first (w.lists ++ v.lists) v.held
-
-module _ (start : State) (seats : ℕ) where
-  -- who is the owner once the seat at a place has a new one
-  abbrev given_to : ℕ → ℕ → (ℕ → ℕ) → ℕ → ℕ
-  given_to first new owner i = if eqb i first then new else owner i
-
-  -- the seat has the new owner
-  given : (first new : ℕ) (owner : ℕ → ℕ) (i : ℕ) → i ≡ first → given_to first new owner i ≡ new
-  given first new owner i same = rw (eq-eqb i first same) refl
-
-  -- any other seat keeps its owner
-  kept : (first new : ℕ) (owner : ℕ → ℕ) (i : ℕ) → i ≢ first → given_to first new owner i ≡ owner i
-  kept first new owner i other = rw (ne_eqb i first other) refl
-
-  -- the seats of a view from the second on fit it, and the first fits a new one
-  parted : (log : List Entry) (owner : ℕ → ℕ) (id new first : ℕ) (lists : List (List Entry)) (held : Option State) → 0 < length lists → Fits seats log owner id (known first lists held)
-      → Fits seats log (given_to first new owner) id (others_at (known first lists held)) × Fits seats log (given_to first new owner) new (first_at (known first lists held))
-  parted log owner id new first [] held some_seat fit = absurd (omega arith)
-  parted log owner id new first (list ∷ lists) held some_seat fit = (
-    record {
-      within = let within = fit.within in omega arith;
-      owned = λ i within. kept first new owner (first + 1 + i) (λ same. absurd (omega arith)) ∙ (ap owner (omega arith) ∙ fit.owned (suc i) (omega arith));
-      parts = λ i within. ap (λ (j : ℕ). part j log) (omega arith) ∙ fit.parts (suc i) (omega arith);
-    },
-    record {
-      within = let within = fit.within in omega arith;
-      owned = λ i within. given first new owner (first + i) (omega arith);
-      parts = only;
-    },
-  )
-    where
-      only : (i : ℕ) → i < 1 → part (first + i) log ≡ get_or (list ∷ []) i []
-      only zero within = fit.parts 0 (omega arith)
-      only (suc i) within = absurd (omega arith)
-
+module _ (stores seats : ℕ) where
   -- the first seat of a view at rest is parted from the others
-  pub splits : (id : ℕ) (v : Known) → v.held ≡ None → 0 < length v.lists → Splits (Keeps start seats) id v (others_at v) (first_at v)
-  splits id v rest some_seat s k me = same_log start seats s _ k owner k.word k.words state_is fits
+  pub splits_kept : (id : ℕ) (v : Knows) → v.held ≡ None → 0 < length v.lists → Splits (IsKept stores seats) id v (others_of v) (first_of v)
+  splits_kept id v rest some_seat s kept me = record {
+    openings = kept.openings;
+    owner = owner;
+    many = kept.many;
+    words = kept.words;
+    homes = kept.homes;
+    owns = each_push Owned views (first_of v)
+        (each_set Owned s.views id (others_of v)
+        (record {
+          within = omega (arith, within, fewer);
+          owned = λ seat from to. stays seat (λ same. omega arith) ∙ mine.owned seat (omega arith) (omega (arith, fewer));
+          agree = λ seated. mine.agree (inl some_seat);
+        })
+        (λ port u apart at.
+        let own = kept.owns port u at in
+        record {
+          within = own.within;
+          owned = λ seat from to. stays seat (λ same. apart (sym (own.owned seat from to) ∙ (ap kept.owner same ∙ first_mine))) ∙ own.owned seat from to;
+          agree = own.agree;
+        }))
+        (record { within = omega (arith, within); owned = λ seat from to. rw (eq-eqb seat v.first (omega arith)) refl; agree = λ seated. mine.agree (inl some_seat) });
+    keeps = λ k under.
+        let old = kept.keeps k under in
+        let fit = old.fits id v me in
+        let idle : held_by old.holder old.now id ≡ None = sym fit.held ∙ ap (held_of k) rest in
+        let more : length s.views ≤ length (views ++ first_of v ∷ []) = omega (arith, length-append views (first_of v ∷ []), length-set s.views id (others_of v)) in
+        record {
+          log = old.log;
+          now = old.now;
+          holder = old.holder;
+          run = old.run;
+          below = old.below;
+          stands = stands_as seats kept.owner owner _ _ _ _ old.now id old.holder more (λ seat not_mine. stays seat (λ same. not_mine (ap kept.owner same ∙ first_mine))) idle old.stands;
+          fits = each_push (Fits k old.log old.now old.holder) views (first_of v)
+              (each_set (Fits k old.log old.now old.holder) s.views id (others_of v)
+              (record {
+                parts = λ n inside. ap (λ (seat : ℕ). part seat old.log) (omega arith) ∙ (fit.parts (1 + n) (omega (arith, fewer)) ∙ ap (calls_on k) (sym (get_or_after_one v.lists n [])));
+                held = fit.held;
+              })
+              (λ port u apart at. old.fits port u at))
+              (record { parts = only k old.log fit.parts; held = none_past seats kept.owner _ _ _ old.now _ old.holder (omega (arith, length-set s.views id (others_of v))) old.stands });
+        };
+  }
     where
-      views : List Known
-      views = set s.views id (others_at v)
-
-      new : ℕ
-      new = length views
+      views : List Knows
+      views = set s.views id (others_of v)
 
       owner : ℕ → ℕ
-      owner = given_to v.first new k.owner
+      owner seat = if eqb seat v.first then length views else kept.owner seat
 
-      mine : Fits seats k.log k.owner id v
-      mine = k.fits id v me
+      Owned : ℕ → Knows → Type 0
+      Owned port u = Owns kept.openings seats owner port u.states u.first (length u.lists)
 
-      both : Fits seats k.log owner id (others_at v) × Fits seats k.log owner new (first_at v)
-      both = parted k.log k.owner id new v.first v.lists v.held some_seat mine
+      mine : Owns kept.openings seats kept.owner id v.states v.first (length v.lists)
+      mine = kept.owns id v me
 
-      empty : (P : Known → Type 0) → P (others_at v) → P (first_at v) → (port : ℕ) (u : Known) → (port ≢ id → get_elem? s.views port ≡ some u → P u) → get_elem? (views ++ first_at v ∷ []) port ≡ some u → P u
-      empty P left right port u old at =
-          ⊎_elim (λ there. ⊎_elim (λ here. subst P here.1 left) (λ other. old other.0 other.1) (at_set s.views id port (others_at v) u there))
-          (λ last. subst P last.1 right) (at_end views (first_at v) u port at)
+      within : v.first + length v.lists ≤ seats
+      within = mine.within
 
-      state_is : IsHome record { words = s.words; homes = s.homes; views = views ++ first_at v ∷ [] } k.now ⊎ IsOut record { words = s.words; homes = s.homes; views = views ++ first_at v ∷ [] } k.word k.now
-      state_is =
-          ⊎_elim
-          (λ (home : IsHome s k.now). inl record {
-            homes = home.homes;
-            none = λ port u at. empty (λ (u : Known). u.held ≡ None) rest refl port u (λ other. home.none port u) at;
-          })
-          (λ (out : IsOut s k.word k.now). inr record {
-            homes = out.homes;
-            locked = out.locked;
-            port = out.port;
-            holder = out.holder;
-            at = at_longer views (first_at v ∷ []) out.port out.holder (set_else s.views id out.port (others_at v) (apart out) ∙ out.at);
-            held = out.held;
-            seated = out.seated;
-            others = λ port u at other. empty (λ (u : Known). u.held ≡ None) rest refl port u (λ not_me old. out.others port u old other) at;
-          })
-          k.state_is
-        where
-          apart : (out : IsOut s k.word k.now) → out.port ≢ id
-          apart out same =
-              let one : out.holder ≡ v = some-injective out.holder v (sym out.at ∙ (ap (λ (i : ℕ). get_elem? s.views i) same ∙ me)) in
-              none-some k.now (sym rest ∙ (ap (λ (u : Known). u.held) (sym one) ∙ out.held))
+      fewer : length (drop 1 v.lists) ≡ length v.lists - 1
+      fewer = length-drop 1 v.lists
 
-      fits : (port : ℕ) (u : Known) → get_elem? (views ++ first_at v ∷ []) port ≡ some u → Fits seats k.log owner port u
-      fits port u at =
-          ⊎_elim
-          (λ there.
-          ⊎_elim (λ here. subst (λ (p : ℕ). Fits seats k.log owner p u) (sym here.0) (subst (Fits seats k.log owner id) here.1 both.0))
-          (λ other.
-          let fit = k.fits port u other.1 in
-          record {
-            within = fit.within;
-            owned = λ i within. kept v.first new k.owner (u.first + i)
-                (λ same. other.0 (sym (fit.owned i within) ∙ (ap k.owner (same ∙ omega arith) ∙ mine.owned 0 some_seat)))
-                ∙ fit.owned i within;
-            parts = fit.parts;
-          })
-          (at_set s.views id port (others_at v) u there))
-          (λ last. subst (λ (p : ℕ). Fits seats k.log owner p u) (sym last.0) (subst (Fits seats k.log owner new) last.1 both.1))
-          (at_end views (first_at v) u port at)
+      first_mine : kept.owner v.first ≡ id
+      first_mine = mine.owned v.first (omega arith) (omega arith)
 
-  -- who is the owner once all that one has is given to another
-  abbrev handed_over : ℕ → ℕ → (ℕ → ℕ) → ℕ → ℕ
-  handed_over from to owner i = if eqb (owner i) from then to else owner i
+      -- any seat but the first keeps its owner
+      stays : (seat : ℕ) → seat ≢ v.first → owner seat ≡ kept.owner seat
+      stays seat other = rw (ne_eqb seat v.first other) refl
+
+      only : (k : ℕ) (log : List Entry) → ((n : ℕ) → n < length v.lists → part (v.first + n) log ≡ calls_on k (get_or v.lists n []))
+          → (n : ℕ) → n < 1 → part (v.first + n) log ≡ calls_on k (get_or (get_or v.lists 0 [] ∷ []) n [])
+      only k log parts zero within = parts 0 some_seat
+      only k log parts (suc n) within = absurd (omega arith)
 
   -- seats are put before those of a view at rest
-  pub joins : (id : ℕ) (v : Known) (other : ℕ) (w : Known) → v.held ≡ None → w.held ≡ None → w.first + length w.lists ≡ v.first
-      → Joins (Keeps start seats) id v other w (joined_at v w) (known 0 [] None)
-  joins id v other w v_rest w_rest next s k me apart at_other = same_log start seats s _ k owner k.word k.words state_is fits
+  pub joins_kept : (id : ℕ) (v : Knows) (other : ℕ) (w : Knows) → v.held ≡ None → w.held ≡ None → w.first + length w.lists ≡ v.first → 0 < length w.lists
+      → Joins (IsKept stores seats) id v other w (joined v w) (knows [] 0 [] None)
+  joins_kept id v other w v_rest w_rest next some_seat s kept me apart at_other = record {
+    openings = kept.openings;
+    owner = owner;
+    many = kept.many;
+    words = kept.words;
+    homes = kept.homes;
+    owns = each Owned (record { within = omega (arith, within, count); owned = λ seat from to. by_owned seat from to (cases_lt seat v.first); agree = λ seated. yours.agree (inl some_seat) })
+        (record { within = omega arith; owned = λ seat from to. absurd (omega arith); agree = none_spent })
+        (λ port u not_me not_you at.
+        let own = kept.owns port u at in
+        record {
+          within = own.within;
+          owned = λ seat from to. stays seat (λ same. not_you (sym (own.owned seat from to) ∙ same)) ∙ own.owned seat from to;
+          agree = own.agree;
+        });
+    keeps = λ k under.
+        let old = kept.keeps k under in
+        let fit = old.fits id v me in
+        let their = old.fits other w theirs in
+        let idle : held_by old.holder old.now other ≡ None = sym their.held ∙ ap (held_of k) w_rest in
+        record {
+          log = old.log;
+          now = old.now;
+          holder = old.holder;
+          run = old.run;
+          below = old.below;
+          stands = stands_as seats kept.owner owner _ _ _ _ old.now other old.holder as_many stays idle old.stands;
+          fits = each (Fits k old.log old.now old.holder)
+              (record { parts = λ n inside. by_parts k old.log fit.parts their.parts n inside (cases_lt n (length w.lists)); held = fit.held })
+              (record { parts = λ n inside. absurd (omega arith); held = sym idle }) (λ port u not_me not_you at. old.fits port u at);
+        };
+  }
     where
-      both : Known
-      both = joined_at v w
+      both : Knows
+      both = joined v w
 
-      spent : Known
-      spent = known 0 [] None
-
-      views : List Known
-      views = set (set s.views id both) other spent
+      spent : Knows
+      spent = knows [] 0 [] None
 
       owner : ℕ → ℕ
-      owner = handed_over other id k.owner
+      owner seat = if eqb (kept.owner seat) other then id else kept.owner seat
+
+      Owned : ℕ → Knows → Type 0
+      Owned port u = Owns kept.openings seats owner port u.states u.first (length u.lists)
 
       theirs : get_elem? s.views other ≡ some w
       theirs = sym (set_else s.views id other both apart) ∙ at_other
 
-      mine : Fits seats k.log k.owner id v
-      mine = k.fits id v me
+      mine : Owns kept.openings seats kept.owner id v.states v.first (length v.lists)
+      mine = kept.owns id v me
 
-      yours : Fits seats k.log k.owner other w
-      yours = k.fits other w theirs
+      yours : Owns kept.openings seats kept.owner other w.states w.first (length w.lists)
+      yours = kept.owns other w theirs
 
-      -- what holds of the views: of the joined one, of the spent one, and of each old one
-      each : (P : ℕ → Known → Type 0) → P id both → P other spent → (port : ℕ) (u : Known) → (port ≢ id → port ≢ other → get_elem? s.views port ≡ some u → P port u)
-          → get_elem? views port ≡ some u → P port u
-      each P joint empty port u old at =
-          ⊎_elim (λ here. subst (λ (p : ℕ). P p u) (sym here.0) (subst (P other) here.1 empty))
-          (λ there.
-          ⊎_elim (λ here. subst (λ (p : ℕ). P p u) (sym here.0) (subst (P id) here.1 joint)) (λ elsewhere. old elsewhere.0 there.0 elsewhere.1) (at_set s.views id port both u there.1))
-          (at_set (set s.views id both) other port spent u at)
+      within : v.first + length v.lists ≤ seats
+      within = mine.within
 
-      -- who holds nothing is not the holder
-      idle : (out : IsOut s k.word k.now) (port : ℕ) (u : Known) → get_elem? s.views port ≡ some u → u.held ≡ None → out.port ≢ port
-      idle out port u at rest same =
-          let one : out.holder ≡ u = some-injective out.holder u (sym out.at ∙ (ap (λ (i : ℕ). get_elem? s.views i) same ∙ at)) in
-          none-some k.now (sym rest ∙ (ap (λ (x : Known). x.held) (sym one) ∙ out.held))
+      count : length (w.lists ++ v.lists) ≡ length w.lists + length v.lists
+      count = length-append w.lists v.lists
 
-      state_is : IsHome record { words = s.words; homes = s.homes; views = views } k.now ⊎ IsOut record { words = s.words; homes = s.homes; views = views } k.word k.now
-      state_is =
-          ⊎_elim
-          (λ (home : IsHome s k.now). inl record {
-            homes = home.homes;
-            none = λ port u at. each (λ (p : ℕ) (u : Known). u.held ≡ None) v_rest refl port u (λ not_me not_you. home.none port u) at;
-          })
-          (λ (out : IsOut s k.word k.now). inr record {
-            homes = out.homes;
-            locked = out.locked;
-            port = out.port;
-            holder = out.holder;
-            at = set_else (set s.views id both) other out.port spent (idle out other w theirs w_rest) ∙ (set_else s.views id out.port both (idle out id v me v_rest) ∙ out.at);
-            held = out.held;
-            seated = out.seated;
-            others = λ port u at not_it. each (λ (p : ℕ) (u : Known). u.held ≡ None) v_rest refl port u (λ not_me not_you old. out.others port u old not_it) at;
-          })
-          k.state_is
+      as_many : length s.views ≤ length (set (set s.views id both) other spent)
+      as_many = omega (arith, length-set s.views id both, length-set (set s.views id both) other spent)
 
-      moved : (i : ℕ) → k.owner i ≡ other → owner i ≡ id
-      moved i is = rw (eq-eqb (k.owner i) other is) refl
+      none_spent : (0 < 0) ⊎ (seats ≡ 0) → [] ≡ kept.openings
+      none_spent (inl some_list) = absurd (omega arith)
+      none_spent (inr no_seat) = absurd (omega (arith, no_seat, within))
 
-      stays : (i : ℕ) → k.owner i ≢ other → owner i ≡ k.owner i
-      stays i isnt = rw (ne_eqb (k.owner i) other isnt) refl
+      -- what the joined view has, the spent one, and each of the others
+      each : (P : ℕ → Knows → Type 0) → P id both → P other spent → ((port : ℕ) (u : Knows) → port ≢ id → port ≢ other → get_elem? s.views port ≡ some u → P port u)
+          → Each P (set (set s.views id both) other spent)
+      each P joint empty old =
+          each_set P (set s.views id both) other spent empty
+          (λ port u not_you at. each_set (λ (p : ℕ) (x : Knows). p ≢ other → P p x) s.views id both (λ same. joint) (λ p x not_me there not_it. old p x not_me not_it there) port u at not_you)
 
-      joint : Fits seats k.log owner id both
-      joint = record {
-        within = let within = mine.within in omega (arith, length-append w.lists v.lists);
-        owned = λ i within. by_owned i within (cases_lt i (length w.lists));
-        parts = λ i within. by_parts i within (cases_lt i (length w.lists));
-      }
-        where
-          by_owned : (i : ℕ) → i < length (w.lists ++ v.lists) → (i < length w.lists) ⊎ (length w.lists ≤ i) → owner (w.first + i) ≡ id
-          by_owned i within (inl theirs) = moved (w.first + i) (yours.owned i theirs)
-          by_owned i within (inr ours) =
-              let is : k.owner (w.first + i) ≡ id = ap k.owner (omega arith) ∙ mine.owned (i - length w.lists) (omega (arith, length-append w.lists v.lists)) in
-              stays (w.first + i) (λ same. apart (sym same ∙ is)) ∙ is
+      -- a seat of any view but the spent one keeps its owner
+      stays : (seat : ℕ) → kept.owner seat ≢ other → owner seat ≡ kept.owner seat
+      stays seat isnt = rw (ne_eqb (kept.owner seat) other isnt) refl
 
-          by_parts : (i : ℕ) → i < length (w.lists ++ v.lists) → (i < length w.lists) ⊎ (length w.lists ≤ i) → part (w.first + i) k.log ≡ get_or (w.lists ++ v.lists) i []
-          by_parts i within (inl theirs) = yours.parts i theirs ∙ sym (get_or_append_left w.lists v.lists [] i theirs)
-          by_parts i within (inr ours) =
-              ap (λ (j : ℕ). part j k.log) (omega arith)
-              ∙ (mine.parts (i - length w.lists) (omega (arith, length-append w.lists v.lists)) ∙ sym (get_or-append_right w.lists v.lists (length w.lists) i [] refl ours))
+      by_owned : (seat : ℕ) → w.first ≤ seat → seat < w.first + length (w.lists ++ v.lists) → (seat < v.first) ⊎ (v.first ≤ seat) → owner seat ≡ id
+      by_owned seat from to (inl before) = rw (eq-eqb (kept.owner seat) other (yours.owned seat from (omega arith))) refl
+      by_owned seat from to (inr after) =
+          let is = mine.owned seat after (omega (arith, count)) in
+          stays seat (λ same. apart (sym same ∙ is)) ∙ is
 
-      fits : (port : ℕ) (u : Known) → get_elem? views port ≡ some u → Fits seats k.log owner port u
-      fits port u at =
-          each (Fits seats k.log owner) joint (record { within = omega arith; owned = λ i within. absurd (omega arith); parts = λ i within. absurd (omega arith) }) port u
-          (λ not_me not_you old.
-          let fit = k.fits port u old in
-          record {
-            within = fit.within;
-            owned = λ i within. stays (u.first + i) (λ same. not_you (sym (fit.owned i within) ∙ same)) ∙ fit.owned i within;
-            parts = fit.parts;
-          })
-          at
+      by_parts : (k : ℕ) (log : List Entry) → ((n : ℕ) → n < length v.lists → part (v.first + n) log ≡ calls_on k (get_or v.lists n []))
+          → ((n : ℕ) → n < length w.lists → part (w.first + n) log ≡ calls_on k (get_or w.lists n []))
+          → (n : ℕ) → n < length (w.lists ++ v.lists) → (n < length w.lists) ⊎ (length w.lists ≤ n) → part (w.first + n) log ≡ calls_on k (get_or (w.lists ++ v.lists) n [])
+      by_parts k log ours their n inside (inl before) = their n before ∙ ap (calls_on k) (sym (get_or_append_left w.lists v.lists [] n before))
+      by_parts k log ours their n inside (inr after) =
+          ap (λ (seat : ℕ). part seat log) (omega arith)
+          ∙ (ours (n - length w.lists) (omega (arith, count)) ∙ ap (calls_on k) (sym (get_or-append_right w.lists v.lists (length w.lists) n [] refl after)))

@@ -1,6 +1,7 @@
 -- The rule of shared stores: what holds of their words, their slots and all that their seats know, between any two steps.
-use Rattle.std.specs.Prelude.{◌≡◌, ◌≢◌, ◌⊎◌, ℕ, ◌+◌, ◌<◌, ◌≤◌, ◌==◌, if◌then◌else◌, List, [], ◌∷◌, length, map, filter, slice_index_or, Option, Some, None, replicate}
+use Rattle.std.specs.Prelude.{◌≡◌, ◌⊎◌, ℕ, ◌+◌, ◌<◌, ◌≤◌, ◌==◌, if◌then◌else◌, List, [], length, map, filter, slice_index_or, Option, Some, None, replicate}
 use mathlib.Core.Option.{none, some}
+use mathlib.Core.Option as slot
 use lib.ListN.{get_elem?}
 use Rattle.atomic_table.specs.Table.{State as Table}
 use Rattle.mm_desk.specs.declared.entry.Entry.{Entry}
@@ -18,15 +19,6 @@ knows states first lists held = record { states = states; first = first; lists =
 abbrev pub all_seats : List State → ℕ → Knows
 all_seats states seats = knows states 0 (replicate seats []) None
 
--- what is known of seats at one store: the list of the calls that each made there, and its state, where it is held
-pub record Known : Type 0 where
-  pub first : ℕ
-  pub lists : List (List Entry)
-  pub held : Option State
-
-abbrev pub known : ℕ → List (List Entry) → Option State → Known
-known first lists held = record { first = first; lists = lists; held = held }
-
 -- the calls on one store
 abbrev pub calls_on : ℕ → List (ℕ × Entry) → List Entry
 calls_on k calls = map (λ c. c.1) (filter (λ c. c.0 == k) calls)
@@ -36,63 +28,59 @@ abbrev pub held_of : ℕ → Option (ℕ × State) → Option State
 held_of k None = None
 held_of k (Some held) = if held.0 == k then Some held.1 else None
 
--- what is known at one store
-abbrev pub known_at : ℕ → Knows → Known
-known_at k v = record { first = v.first; lists = map (calls_on k) v.lists; held = held_of k v.held }
+-- what the view at a place holds, where the state now may be with the holder
+abbrev pub held_by : Option ℕ → State → ℕ → Option State
+held_by None now port = None
+held_by (Some holder) now port = if holder == port then Some now else None
 
--- the part of a table that is one store's
-abbrev pub table_at : ℕ → Table State Knows → Table State Known
-table_at k t = record { words = slice_index_or t.words k 0 ∷ []; homes = slice_index_or t.homes k none ∷ []; views = map (known_at k) t.views }
+-- each element of a list has this, at its place
+abbrev pub Each : {A : Type 0} → (ℕ → A → Type 0) → List A → Type 0
+Each {A} P list = (i : ℕ) (a : A) → get_elem? list i ≡ some a → P i a
 
--- none but this one of the views holds a state
-abbrev pub NoneElse : ℕ → List Known → Type 0
-NoneElse port views = (other : ℕ) (u : Known) → get_elem? views other ≡ some u → other ≢ port → u.held ≡ None
+-- what a view knows of seats: this many from the first on are its own, and if it has one, or there are none, it knows the states from
+-- which calls count
+pub record Owns (openings : List State) (seats : ℕ) (owner : ℕ → ℕ) (port : ℕ) (states : List State) (first count : ℕ) : Type 0 where
+  pub within : first + count ≤ seats
+  pub owned : (seat : ℕ) → first ≤ seat → seat < first + count → owner seat ≡ port
+  pub agree : (0 < count) ⊎ (seats ≡ 0) → states ≡ openings
 
--- a view's seats are below the number of seats and its own, and their lists are the parts of the log
-pub record Fits (seats : ℕ) (log : List Entry) (owner : ℕ → ℕ) (port : ℕ) (v : Known) : Type 0 where
-  pub within : v.first + length v.lists ≤ seats
-  pub owned : (i : ℕ) → i < length v.lists → owner (v.first + i) ≡ port
-  pub parts : (i : ℕ) → i < length v.lists → part (v.first + i) log ≡ slice_index_or v.lists i []
+-- a view's lists are the parts of the log of a store, and it holds the state of the store where it is the holder
+pub record Fits (k : ℕ) (log : List Entry) (now : State) (holder : Option ℕ) (port : ℕ) (v : Knows) : Type 0 where
+  pub parts : (i : ℕ) → i < length v.lists → part (v.first + i) log ≡ calls_on k (slice_index_or v.lists i [])
+  pub held : held_of k v.held ≡ held_by holder now port
 
--- the state is in its slot, and no view holds it
-pub record IsHome (t : Table State Known) (now : State) : Type 0 where
-  pub homes : t.homes ≡ some now ∷ []
-  pub none : (port : ℕ) (u : Known) → get_elem? t.views port ≡ some u → u.held ≡ None
-
--- one view, which has a seat, holds the state, and the word says so
-pub record IsOut (t : Table State Known) (word : ℕ) (now : State) : Type 0 where
-  pub homes : t.homes ≡ none ∷ []
+-- the slot of a store is empty, its word says so, and one of this many views, which has a seat, is the holder
+pub record IsOut (seats : ℕ) (owner : ℕ → ℕ) (views word : ℕ) (home : slot.Option State) (holder : ℕ) : Type 0 where
+  pub empty : home ≡ none
   pub locked : 0 < word
-  pub port : ℕ
-  pub holder : Known
-  pub at : get_elem? t.views port ≡ some holder
-  pub held : holder.held ≡ Some now
-  pub seated : 0 < length holder.lists
-  pub others : NoneElse port t.views
+  pub there : holder < views
+  pub seat : ℕ
+  pub within : seat < seats
+  pub owned : owner seat ≡ holder
 
--- there is a legal log from the opening state to the state now, which is in its slot or held by one view; each seat is in one view at
--- most, and the lists of the views are the parts of their seats
-pub record Keeps (opening : State) (seats : ℕ) (t : Table State Known) : Type 0 where
+-- the state of a store is in its slot, or a view is the holder
+abbrev pub Stands : ℕ → (ℕ → ℕ) → ℕ → ℕ → slot.Option State → State → Option ℕ → Type 0
+Stands seats owner views word home now None = home ≡ some now
+Stands seats owner views word home now (Some holder) = IsOut seats owner views word home holder
+
+-- there is a legal log of one store from its opening state to the state now, which is in its slot or held by one view, and the lists of
+-- the views are the parts of their seats
+pub record Keeps (opening : State) (seats : ℕ) (owner : ℕ → ℕ) (k : ℕ) (t : Table State Knows) : Type 0 where
   pub log : List Entry
   pub now : State
-  pub owner : ℕ → ℕ
-  pub word : ℕ
+  pub holder : Option ℕ
   pub run : IsRun opening log now
   pub below : AreBelow seats log
-  pub words : t.words ≡ word ∷ []
-  pub state_is : IsHome t now ⊎ IsOut t word now
-  pub fits : (port : ℕ) (v : Known) → get_elem? t.views port ≡ some v → Fits seats log owner port v
+  pub stands : Stands seats owner (length t.views) (slice_index_or t.words k 0) (slice_index_or t.homes k none) now holder
+  pub fits : Each (Fits k log now holder) t.views
 
--- each store keeps the rule, in its part of the table. A word more is no store's, so that a table without stores has one
-pub record KeepsAll (openings : List State) (seats : ℕ) (t : Table State Knows) : Type 0 where
-  pub words : length t.words ≡ length openings + 1
-  pub homes : length t.homes ≡ length openings
-  pub each : (k : ℕ) → k < length openings → Keeps (opening_at openings k) seats (table_at k t)
-
--- there are states from which calls count, one for each of this many stores, and each view that has a seat knows them; each store keeps the
--- rule from them on. Without seats no call is ever made
+-- there are states from which calls count, one for each of this many stores; each seat is in one view at most, and each store keeps the
+-- rule. A word more is no store's, so that a table without stores has one. Without seats no call is ever made
 pub record IsKept (stores seats : ℕ) (t : Table State Knows) : Type 0 where
   pub openings : List State
+  pub owner : ℕ → ℕ
   pub many : length openings ≡ stores
-  pub agree : (port : ℕ) (v : Knows) → get_elem? t.views port ≡ some v → (0 < length v.lists) ⊎ (seats ≡ 0) → v.states ≡ openings
-  pub keeps : KeepsAll openings seats t
+  pub words : length t.words ≡ stores + 1
+  pub homes : length t.homes ≡ stores
+  pub owns : Each (λ port v. Owns openings seats owner port v.states v.first (length v.lists)) t.views
+  pub keeps : (k : ℕ) → k < stores → Keeps (opening_at openings k) seats owner k t

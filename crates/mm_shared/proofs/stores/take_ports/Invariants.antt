@@ -5,7 +5,7 @@ use Rattle.mm_shared.proofs.stores.take_ports.Given as goal
 
 abbrev pub invariant-loop-port : goal.invariant-loop-port
 invariant-loop-port l = record {
-  first : AreFirst (length l.workers.items) l.initial.workers.items l.workers.items;
+  first : AreFirst l.initial.workers.items l.workers.items;
   rest : l.rest ≡ record {
     of = l.initial.rest.of;
     first = length l.workers.items;

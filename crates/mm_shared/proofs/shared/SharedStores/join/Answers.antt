@@ -1,6 +1,6 @@
 use Rattle.std.proofs.Common.{rules, ap, arith}
 use Rattle.mm_shared.specs.Views.{PortView, PortsView}
-use Rattle.mm_shared.proofs.Kept.{joins_kept}
+use Rattle.mm_shared.proofs.Parting.{joins_kept}
 use Rattle.mm_shared.proofs.shared.SharedStores.join.Goals as goal
 
 pub join_seat-requires : goal.join_seat-requires

@@ -1,5 +1,5 @@
 use Rattle.std.proofs.Common.{◌≡◌, ℕ, ◌+◌, List, Vec, Global, length, replicate, take, rules, sym, subst, ◌∙◌, arith}
-use Rattle.std.proofs.lemmas.List.{length-take-le, get_or-take, get_or-replicate}
+use Rattle.std.proofs.lemmas.List.{length-take-le}
 use Rattle.atomic_table.specs.Table.{opening}
 use Rattle.mm_desk.specs.Machine.{State}
 use Rattle.mm_shared.specs.Rule.{IsKept, all_seats}
@@ -13,6 +13,4 @@ new-requires c =
     let zeros : List ℕ = replicate 17 0 in
     let words : List ℕ = take (c.len.result + 1) zeros in
     let many : length words ≡ length states + 1 = length-take-le (c.len.result + 1) zeros (omega (arith, count, c.requires.few)) ∙ omega (arith, count) in
-    let made = begins_kept c.args.seats words states many
-    (λ k within. get_or-take (c.len.result + 1) zeros k 0 (omega (arith, count)) ∙ get_or-replicate 17 k 0 0 (omega (arith, c.requires.few))) in
-    subst (λ (v : Vec State Global). IsKept (length v.items) c.args.seats (opening words states (all_seats v.items c.args.seats))) (sym c.of.ensures) made
+    subst (λ (v : Vec State Global). IsKept (length v.items) c.args.seats (opening words states (all_seats v.items c.args.seats))) (sym c.of.ensures) (begins_kept c.args.seats words states many)

@@ -1,6 +1,6 @@
 use Rattle.std.proofs.Common.{rules, length, ap, arith}
 use Rattle.mm_shared.specs.Views.{PortsView}
-use Rattle.mm_shared.proofs.Kept.{splits_kept}
+use Rattle.mm_shared.proofs.Parting.{splits_kept}
 use Rattle.mm_shared.proofs.shared.SharedStores.split.Goals as goal
 
 pub split_seat-seat-requires : goal.split_seat-seat-requires
