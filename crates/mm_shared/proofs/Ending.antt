@@ -26,15 +26,14 @@ untouched lists s t went empty =
     (lone_log lists went.log (length lists) went.shuffle (λ other within apart. empty other [] within) ∙ get_or_past lists (length lists) [] (omega arith))
 
 -- the state that who has all seats has taken is the one from which calls count, where no call was made
-pub told_is : (k : ℕ) (m n : Seated) (now : State) → IsTakenByAll k m n → n.1 ≡ (k, now) ∷ [] → All (λ (calls : List (ℕ × Entry)). calls ≡ []) m.0.lists → now ≡ opening_at m.0.states k
-told_is k m n now took has fresh =
-    ap first_held (sym has ∙ ap (λ (it : Seated). it.1) took.holds)
+pub told_is : (k : ℕ) (m n : Seated) (now : State) (others : List (ℕ × State)) → IsTakenByAll k m n → n.1 ≡ (k, now) ∷ others → All (λ (calls : List (ℕ × Entry)). calls ≡ []) m.0.lists
+    → now ≡ opening_at m.0.states k
+told_is k m n now others took has fresh =
+    let same : (k, now) ∷ others ≡ (k, took.now) ∷ [] = sym has ∙ ap (λ (it : Seated). it.1) took.holds in
+    let first : (k, now) ≡ (k, took.now) = cc same in
+    ap (λ (held : ℕ × State). held.1) first
     ∙ untouched (map (calls_on k) m.0.lists) (opening_at m.0.states k) took.now took.went
     (All-map (λ (list : List Entry). list ≡ []) (calls_on k) m.0.lists (λ i d within. ap (calls_on k) (fresh i d within)))
-  where
-    first_held : List (ℕ × State) → State
-    first_held [] = now
-    first_held (held ∷ others) = held.1
 
 -- a view holds the state only where it is the holder, and then the state of the rule
 pub is_holder : (holder : Option ℕ) (now : State) (port : ℕ) (taken : State) → held_by holder now port ≡ Some taken → (holder ≡ Some port) × (now ≡ taken)

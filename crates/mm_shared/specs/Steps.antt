@@ -61,22 +61,6 @@ pub record IsAsTaken (k : ℕ) (m : Seated) : Type 0 where
   pub held : m.0.held ≡ Some (k, taken)
   pub has : m.1 ≡ (k, taken) ∷ []
 
--- a seat has the state of a store, which is sound and has this tally, and keeps it
-pub record IsTold (k : ℕ) (seat after : Seat State Knows) (told : Tally) : Type 0 where
-  pub of : after.table_id ≡ seat.table_id
-  pub same : after.me ≡ seat.me
-  pub now : State
-  pub has : seat.me.1 ≡ (k, now) ∷ []
-  pub sound : IsState now
-  pub tally : told ≡ tally_of now
-
--- a seat of this table, which holds a state
-pub record HoldsAt (id : TableId) (k : ℕ) (seat : Seat State Knows) : Type 0 where
-  pub of : seat.table_id ≡ id
-  pub slot : k < id.slots
-  pub now : State
-  pub has : seat.me.1 ≡ (k, now) ∷ []
-
 -- the first list with one call more
 abbrev pub lists_with : {A : Type 0} → A → List (List A) → List (List A)
 lists_with call [] = []
@@ -94,15 +78,6 @@ pub record HasCalled (k : ℕ) (event : Event) (reply : Reply) (m : Seated) : Ty
   pub has : m.1 ≡ (k, now) ∷ []
   pub seated : 0 < length m.0.lists
   pub stepped : step taken event ≡ (reply, now)
-
--- the state of a store that the seat holds goes by this event, with this reply
-pub record HeldSteps (k : ℕ) (seat : Seat State Knows) (event : Event) (reply : Reply) (after : Seat State Knows) : Type 0 where
-  pub of : after.table_id ≡ seat.table_id
-  pub old : State
-  pub new : State
-  pub had : seat.me.1 ≡ (k, old) ∷ []
-  pub has : after.me ≡ (seat.me.0, (k, new) ∷ [])
-  pub stepped : step old event ≡ (reply, new)
 
 -- a try of a lock: the state of its store is held where the word was 0
 abbrev pub tried : Step State → Seated → ℕ → Seated → Type 0

@@ -1,5 +1,6 @@
 -- The stores of a step that workers share: a table of them, and a port for every worker.
-use Rattle.std.specs.Prelude.{◌≡◌, ℕ, ◌+◌, ◌-◌, ◌<◌, ◌≤◌, List, [], ◌∷◌, length, map, slice_index_or, bytes_eq, AllPairs, All, false, vec_capacity}
+use Rattle.std.specs.Prelude.{◌≡◌, ℕ, ◌+◌, ◌-◌, ◌<◌, ◌≤◌, List, [], ◌∷◌, length, map, slice_index_or, bytes_eq, AllPairs, All, false, vec_capacity, Vec}
+use Rattle.std.specs.Global.{Global}
 use Rattle.mm_desk.specs.declared.entry.Entry.{Entry}
 use Rattle.mm_desk.specs.declared.held.Held.{Held}
 use Rattle.mm_desk.specs.Machine.{State}
@@ -81,6 +82,28 @@ all_ends workers = map end_of workers
 -- workers have ports of these stores, with the seats from this number on
 abbrev pub AreWorkers : Origin → ℕ → List PortView → Type 0
 AreWorkers of first workers = (i : ℕ) (d : PortView) → i < length workers → end_of (slice_index_or workers i d) ≡ (of, first + i)
+
+-- a list is empty, and has room for this many elements
+pub record HasRoom {A : Type 0} (list : Vec A Global) (count : ℕ) : Type 0 where
+  pub none : list.items ≡ []
+  pub room : count ≤ vec_capacity list
+
+-- a list has these elements, and the room that it had
+pub record IsFilled {A : Type 0} (before after : Vec A Global) (all : List A) : Type 0 where
+  pub items : after.items ≡ all
+  pub capacity : vec_capacity after ≡ vec_capacity before
+
+-- all ports of stores are together, no call was made through them, and this many workers may each get one
+pub record MayGive (stores : StoresView) (rest : PortsView) (count : ℕ) : Type 0 where
+  pub of : rest.of.table ≡ stores.id
+  pub all : rest ≡ new_ports rest.of MAX_SEATS
+  pub few : count ≤ MAX_SEATS
+
+-- this many workers each have a port, the first ones, through which no call was made
+pub record AreGiven (of : Origin) (many : ℕ) (workers : List PortView) : Type 0 where
+  pub ends : AreWorkers of 0 workers
+  pub count : length workers ≡ many
+  pub fresh : All IsFresh workers
 
 -- open stores as they were when calls began to count
 abbrev pub stores_in : OpenStores → List Held

@@ -3,7 +3,6 @@ ghost use Rattle.std.specs.Prelude.{◌≡◌, ◌≢◌, ◌<◌, IfErr, Ok, Er
 ghost use Rattle.mm_desk.specs.declared.fault.Fault.TheVariants.{NoMemory};
 ghost use Rattle.mm_shared.specs.Views.{with_call};
 
-use crate::held;
 use crate::lock::{give, restore, take};
 use crate::port::Port;
 use crate::shared::SharedStores;
@@ -14,6 +13,18 @@ use std::alloc::Global;
 use std::marker::Brand;
 use std::snapshot::Snapshot;
 use std::sync::Wait;
+
+// Takes the state of a store, makes a call on it, and gives it back. What was asked is for the proof alone.
+macro_rules! call {
+    ($table:expr, $rt:ident, $port:ident, $store:ident; $call:ident($($argument:expr),*), $asked:expr) => {{
+        let table = &$table;
+        let asked = $asked;
+        take($rt, table, &mut $port.seat, $store);
+        let answer = $port.seat.slot_mut(table, $store).$call($($argument),*);
+        give::<Brand, _, _>(table, &mut $port.seat, $store, &asked, &answer);
+        answer
+    }};
+}
 
 impl SharedStores {
     /// Offers a packet at a moment, in ticks. It is handed back where it is refused.
@@ -30,12 +41,7 @@ impl SharedStores {
         ensures called { port.new ≡ with_call port.old store (Event.Offer now packet) (Reply.Offered result) }
         ensures back { IfErr result (λ back. back.packet ≡ packet) }
     {
-        let table = &self.table.shared;
-        let asked = (now, Snapshot::of(&packet));
-        take(rt, table, &mut port.seat, store);
-        let answer = held::offer(table, &mut port.seat, store, now, packet);
-        give::<Brand, _, _>(table, &mut port.seat, store, &asked, &answer);
-        answer
+        call!(self.table.shared, rt, port, store; offer(now, packet), (now, Snapshot::of(&packet)))
     }
 
     /// Begins a retrieval from a first to a last time, both included.
@@ -51,11 +57,7 @@ impl SharedStores {
         requires within { store < self.now.many }
         ensures called { port.new ≡ with_call port.old store (Event.Begin from to) (Reply.Done result) }
     {
-        let table = &self.table.shared;
-        take(rt, table, &mut port.seat, store);
-        let answer = held::begin(table, &mut port.seat, store, from, to);
-        give::<Brand, _, _>(table, &mut port.seat, store, &(from, to), &answer);
-        answer
+        call!(self.table.shared, rt, port, store; begin(from, to), (from, to))
     }
 
     /// Gives a copy of the next packet of the retrieval with its storage time; nothing at its end, where it is over. Where there is
@@ -74,7 +76,7 @@ impl SharedStores {
     {
         let table = &self.table.shared;
         take(rt, table, &mut port.seat, store);
-        let answer = held::next(table, alloc, &mut port.seat, store);
+        let answer = port.seat.slot_mut(table, store).next_copy(alloc);
         if let Err(Fault::NoMemory) = answer {
             restore(table, &mut port.seat, store);
             return answer;
@@ -89,11 +91,7 @@ impl SharedStores {
         requires within { store < self.now.many }
         ensures called { port.new ≡ with_call port.old store Event.Abort (Reply.Done result) }
     {
-        let table = &self.table.shared;
-        take(rt, table, &mut port.seat, store);
-        let answer = held::abort(table, &mut port.seat, store);
-        give::<Brand, _, _>(table, &mut port.seat, store, &(), &answer);
-        answer
+        call!(self.table.shared, rt, port, store; abort(), ())
     }
 
     /// Deletes the packets up to a time, that time included, and returns their number.
@@ -108,11 +106,7 @@ impl SharedStores {
         requires within { store < self.now.many }
         ensures called { port.new ≡ with_call port.old store (Event.Delete limit) (Reply.Deleted result) }
     {
-        let table = &self.table.shared;
-        take(rt, table, &mut port.seat, store);
-        let answer = held::delete(table, &mut port.seat, store, limit);
-        give::<Brand, _, _>(table, &mut port.seat, store, &limit, &answer);
-        answer
+        call!(self.table.shared, rt, port, store; delete(limit), limit)
     }
 
     /// Switches storage on.
@@ -121,10 +115,7 @@ impl SharedStores {
         requires within { store < self.now.many }
         ensures called { port.new ≡ with_call port.old store Event.Enable (Reply.Done (Ok tt)) }
     {
-        let table = &self.table.shared;
-        take(rt, table, &mut port.seat, store);
-        held::enable(table, &mut port.seat, store);
-        give::<Brand, _, _>(table, &mut port.seat, store, &(), &());
+        call!(self.table.shared, rt, port, store; enable(), ())
     }
 
     /// Switches storage off. A retrieval goes on.
@@ -133,9 +124,6 @@ impl SharedStores {
         requires within { store < self.now.many }
         ensures called { port.new ≡ with_call port.old store Event.Disable (Reply.Done (Ok tt)) }
     {
-        let table = &self.table.shared;
-        take(rt, table, &mut port.seat, store);
-        held::disable(table, &mut port.seat, store);
-        give::<Brand, _, _>(table, &mut port.seat, store, &(), &());
+        call!(self.table.shared, rt, port, store; disable(), ())
     }
 }

@@ -3,7 +3,6 @@
 #![tactic(auto)]
 
 mod calls;
-mod held;
 mod label;
 mod lock;
 mod port;

@@ -10,7 +10,6 @@ ghost use Rattle.mm_shared.specs.Rule.{calls_on};
 ghost use Rattle.mm_shared.specs.Stores.{held_stores, labels_of, names_of, states_of, AreAllPorts, MayClose};
 ghost use Rattle.mm_shared.specs.Views.{HaveLogs, origin, new_ports, first_port, other_ports, with_port, tally_of};
 
-use crate::held;
 use crate::label::StoreLabel;
 use crate::lock::{restore, take_by_all};
 use crate::port::{Port, Ports};
@@ -145,7 +144,7 @@ impl SharedStores {
     {
         let table = &self.table.shared;
         take_by_all(table, &mut ports.seat, store);
-        let tally = held::tally(table, &mut ports.seat, store);
+        let tally = Tally::of(ports.seat.slot_mut(table, store));
         restore(table, &mut ports.seat, store);
         tally
     }

@@ -5,7 +5,7 @@ ghost use Rattle.mm_desk.specs.Runs.{opening_at};
 ghost use Rattle.mm_base.specs.declared.limits.TheConstants.{MAX_STORES};
 ghost use Rattle.mm_desk.specs.Machine.{IsState};
 ghost use Rattle.mm_shared.specs.Views.{new_ports, ports_after, tally_of};
-ghost use Rattle.mm_shared.specs.Stores.{held_stores, label_of, states_of, labels_of, names_of, ids_of, id_at, stores_in, AreNamed, AreWorkers, IsFresh, AreAtRest, AreOpen, AreNew, HaveLegalLogs};
+ghost use Rattle.mm_shared.specs.Stores.{held_stores, label_of, states_of, labels_of, names_of, ids_of, id_at, stores_in, AreNamed, AreWorkers, HasRoom, IsFilled, MayGive, AreGiven, AreAtRest, AreOpen, AreNew, HaveLegalLogs};
 
 use crate::label::StoreLabel;
 use crate::port::{Port, Ports};
@@ -39,13 +39,11 @@ pub fn place_of(stores: &[StoreLabel], id: &StoreId) -> Option<usize>
 
 // Parts stores into their labels and their states.
 fn part_all(stores: &mut Vec<Held>, labels: &mut Vec<StoreLabel>, states: &mut Vec<StoreState>)
-    requires none { (labels.old.items ≡ []) × (states.old.items ≡ []) }
-    requires room { (vec_len stores.old ≤ vec_capacity labels.old) × (vec_len stores.old ≤ vec_capacity states.old) }
-    ensures labels { labels.new.items ≡ map label_of stores.old.items }
-    ensures states { states.new.items ≡ states_of stores.old.items }
-    ensures emptied { stores.new.items ≡ [] }
-    ensures room { vec_capacity stores.new ≡ vec_capacity stores.old }
-    ensures rooms { (vec_capacity labels.new ≡ vec_capacity labels.old) × (vec_capacity states.new ≡ vec_capacity states.old) }
+    requires labels { HasRoom labels.old (vec_len stores.old) }
+    requires states { HasRoom states.old (vec_len stores.old) }
+    ensures labels { IsFilled labels.old labels.new (map label_of stores.old.items) }
+    ensures states { IsFilled states.old states.new (states_of stores.old.items) }
+    ensures emptied { IsFilled stores.old stores.new [] }
 {
     let Some(held) = stores.pop() else {
         return;
@@ -82,14 +80,9 @@ fn join_all(labels: Vec<StoreLabel>, states: Vec<StoreState>, stores: &mut Vec<H
 
 // Gives each worker a port.
 fn give_ports(stores: &SharedStores, rest: &mut Ports, count: u32, workers: &mut Vec<Port>)
-    requires of { rest.old.of.table ≡ stores.now.id }
-    requires all { rest.old ≡ new_ports rest.old.of MAX_SEATS }
-    requires few { count ≤ MAX_SEATS }
-    requires none { workers.old.items ≡ [] }
-    requires room { count ≤ vec_capacity workers.old }
-    ensures workers { AreWorkers rest.old.of 0 workers.new.items }
-    ensures count { length workers.new.items ≡ count }
-    ensures fresh { All IsFresh workers.new.items }
+    requires all { MayGive stores.now rest.old count }
+    requires room { HasRoom workers.old count }
+    ensures workers { AreGiven rest.old.of count workers.new.items }
     ensures rest { rest.new ≡ ports_after rest.old.of count (MAX_SEATS - count) }
     ensures capacity { vec_capacity workers.new ≡ vec_capacity workers.old }
 {

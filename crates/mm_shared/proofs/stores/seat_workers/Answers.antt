@@ -12,7 +12,7 @@ returns c =
     let gave = c.give_ports.ensures in
     let of = ap (λ (v : PortsView). v.of) gave.rest in
     let states = ap (λ (o : Origin). o.states) of in
-    let count = gave.count in
+    let count = gave.workers.count in
     record {
       new = record {
         labels = sym (labels_are it.labels.items it.rest.of.states (sym kept.states));
@@ -27,11 +27,11 @@ returns c =
             room = kept.room;
             seating = let seating = kept.seating in omega (arith, gave.capacity, seating);
           };
-          workers = subst (λ (o : Origin). AreWorkers o 0 c.give_ports.new.workers.items) (sym of) gave.workers;
+          workers = subst (λ (o : Origin). AreWorkers o 0 c.give_ports.new.workers.items) (sym of) gave.workers.ends;
           few = omega (arith, count, c.requires.few);
           rest = gave.rest ∙ (ap (λ (n : ℕ). ports_after it.rest.of n (MAX_SEATS - n)) (sym count) ∙ ap (λ (o : Origin). ports_after o (length c.give_ports.new.workers.items) (MAX_SEATS - length c.give_ports.new.workers.items)) (sym of));
         };
         count = count;
-        fresh = gave.fresh;
+        fresh = gave.workers.fresh;
       };
     }
