@@ -1,5 +1,6 @@
 -- Stores are parted into labels and states, and put together again.
-use Rattle.std.proofs.Common.{◌≡◌, ℕ, suc, List, [], ◌∷◌, ◌++◌, length, map, drop, refl, sym, ap, arith}
+use Rattle.std.proofs.Common.{◌≡◌, ℕ, suc, List, [], ◌∷◌, ◌++◌, length, map, drop, refl, sym, ap, ◌∙◌, arith}
+use Rattle.std.proofs.lemmas.List.{length-map}
 use Rattle.mm_desk.specs.declared.entry.Entry.{Entry}
 use Rattle.mm_desk.specs.declared.held.Held.{Held}
 use Rattle.mm_desk.specs.Machine.{State}
@@ -54,13 +55,12 @@ labelled (l ∷ labels) (h ∷ hs) same = λ i. record { id = (first same).0 i; 
 
 -- there are as many as labels
 pub as_many : (labels : List StoreLabel) (stores : List Held) → labels_of stores ≡ names_of labels → length (states_of stores) ≡ length labels
-as_many [] [] same = refl
-as_many [] (h ∷ hs) same = absurd (omega (arith, ap length same))
-as_many (l ∷ labels) [] same = absurd (omega (arith, ap length same))
-as_many (l ∷ labels) (h ∷ hs) same = ap suc (as_many labels hs (ap (drop 1) same))
+as_many labels stores same =
+    let named : length (labels_of stores) ≡ length stores = length-map stores _ in
+    let labelled : length (names_of labels) ≡ length labels = length-map labels _ in
+    omega (arith, ap length same, length-map stores (λ h. h.state))
 
 -- how many stores there are
 pub count_is : (labels : List StoreLabel) (states : List State) → length labels ≡ length states → length (held_stores labels states) ≡ length labels
-count_is [] states same = refl
-count_is (l ∷ labels) [] same = absurd (omega (arith, same))
-count_is (l ∷ labels) (s ∷ states) same = ap suc (count_is labels states (omega (arith, same)))
+count_is labels states same =
+    sym (length-map (held_stores labels states) (λ h. h.state)) ∙ as_many labels (held_stores labels states) (labels_are labels states same)

@@ -11,25 +11,12 @@ use Rattle.atomic_table.specs.Table.{State as Table, Splits, Joins}
 use Rattle.atomic_table.proofs.Lists.{set_else}
 use Rattle.mm_desk.specs.declared.entry.Entry.{Entry}
 use Rattle.mm_desk.specs.Machine.{State}
+use Rattle.mm_desk.specs.Runs.{opening_at}
 use Rattle.mm_desk.specs.Shuffles.{part}
 use Rattle.mm_shared.specs.declared.rule.Knows.{Knows}
-use Rattle.mm_shared.specs.Rule.{knows, Owns, Fits, Stands, Each, IsKept, calls_on, held_of, held_by}
+use Rattle.mm_shared.specs.Rule.{knows, Owns, Fits, Stands, Keeps, Each, IsKept, calls_on, held_of, held_by}
 use Rattle.mm_shared.specs.Steps.{others_of, first_of, joined}
 use Rattle.mm_shared.proofs.Lists.{each_set, each_push}
-
--- the state stands as it did where the seats of one view, which is not the holder, get new owners
-stands_as : (seats : ℕ) (owner changed : ℕ → ℕ) (views more word : ℕ) (home : slot.Option State) (now : State) (id : ℕ) (holder : Option ℕ) → views ≤ more
-    → ((seat : ℕ) → owner seat ≢ id → changed seat ≡ owner seat) → held_by holder now id ≡ None → Stands seats owner views word home now holder
-    → Stands seats changed more word home now holder
-stands_as seats owner changed views more word home now id None up same idle stands = stands
-stands_as seats owner changed views more word home now id (Some other) up same idle out = record {
-  empty = out.empty;
-  locked = out.locked;
-  there = let there = out.there in omega arith;
-  seat = out.seat;
-  within = out.within;
-  owned = same out.seat (λ is. let mine = rw (eq-eqb other id (sym out.owned ∙ is)) at idle in absurd (cc mine)) ∙ out.owned;
-}
 
 -- no view past all is the holder
 none_past : (seats : ℕ) (owner : ℕ → ℕ) (views word : ℕ) (home : slot.Option State) (now : State) (port : ℕ) (holder : Option ℕ) → views ≤ port
@@ -37,52 +24,84 @@ none_past : (seats : ℕ) (owner : ℕ → ℕ) (views word : ℕ) (home : slot.
 none_past seats owner views word home now port None past stands = refl
 none_past seats owner views word home now port (Some other) past out = let there = out.there in rw (ne_eqb other port (λ same. omega arith)) refl
 
-module _ (stores seats : ℕ) where
-  -- the first seat of a view at rest is parted from the others
-  pub splits_kept : (id : ℕ) (v : Knows) → v.held ≡ None → 0 < length v.lists → Splits (IsKept stores seats) id v (others_of v) (first_of v)
-  splits_kept id v rest some_seat s kept me = record {
+module _ (stores seats : ℕ) (s : Table State Knows) (kept : IsKept stores seats s) (id : ℕ) (v : Knows) (me : get_elem? s.views id ≡ some v) (rest : v.held ≡ None) (owner : ℕ → ℕ)
+    (stays : (seat : ℕ) → kept.owner seat ≢ id → owner seat ≡ kept.owner seat) where
+  -- what a view has of seats, some of which have new owners
+  abbrev Owned : ℕ → Knows → Type 0
+  Owned port u = Owns kept.openings seats owner port u.states u.first (length u.lists)
+
+  -- the other views own what they owned
+  others_own : (port : ℕ) (u : Knows) → port ≢ id → get_elem? s.views port ≡ some u → Owned port u
+  others_own port u apart at =
+      let own = kept.owns port u at in
+      record {
+        within = own.within;
+        owned = λ seat from to. let is = own.owned seat from to in stays seat (λ mine. apart (sym is ∙ mine)) ∙ is;
+        agree = own.agree;
+      }
+
+  -- a state stands as it did
+  stands_as : (views word : ℕ) (home : slot.Option State) (now : State) (holder : Option ℕ) → length s.views ≤ views → held_by holder now id ≡ None
+      → Stands seats kept.owner (length s.views) word home now holder → Stands seats owner views word home now holder
+  stands_as views word home now None more idle stands = stands
+  stands_as views word home now (Some other) more idle out = record {
+    empty = out.empty;
+    locked = out.locked;
+    there = let there = out.there in omega arith;
+    seat = out.seat;
+    within = out.within;
+    owned = stays out.seat (λ is. let mine = rw (eq-eqb other id (sym out.owned ∙ is)) at idle in absurd (cc mine)) ∙ out.owned;
+  }
+
+  -- other views of the same seats keep the rule
+  regroups : (views : List Knows) → length s.views ≤ length views → Each Owned views
+      → ((k : ℕ) (old : Keeps (opening_at kept.openings k) seats kept.owner k s) → Each (Fits k old.log old.now old.holder) views)
+      → IsKept stores seats record { words = s.words; homes = s.homes; views = views }
+  regroups views more owns fits = record {
     openings = kept.openings;
     owner = owner;
     many = kept.many;
     words = kept.words;
     homes = kept.homes;
-    owns = each_push Owned views (first_of v)
-        (each_set Owned s.views id (others_of v)
-        (record {
-          within = omega (arith, within, fewer);
-          owned = λ seat from to. stays seat (λ same. omega arith) ∙ mine.owned seat (omega arith) (omega (arith, fewer));
-          agree = λ seated. mine.agree (inl some_seat);
-        })
-        (λ port u apart at.
-        let own = kept.owns port u at in
-        record {
-          within = own.within;
-          owned = λ seat from to. stays seat (λ same. apart (sym (own.owned seat from to) ∙ (ap kept.owner same ∙ first_mine))) ∙ own.owned seat from to;
-          agree = own.agree;
-        }))
-        (record { within = omega (arith, within); owned = λ seat from to. rw (eq-eqb seat v.first (omega arith)) refl; agree = λ seated. mine.agree (inl some_seat) });
+    owns = owns;
     keeps = λ k under.
         let old = kept.keeps k under in
-        let fit = old.fits id v me in
-        let idle : held_by old.holder old.now id ≡ None = sym fit.held ∙ ap (held_of k) rest in
-        let more : length s.views ≤ length (views ++ first_of v ∷ []) = omega (arith, length-append views (first_of v ∷ []), length-set s.views id (others_of v)) in
         record {
           log = old.log;
           now = old.now;
           holder = old.holder;
           run = old.run;
           below = old.below;
-          stands = stands_as seats kept.owner owner _ _ _ _ old.now id old.holder more (λ seat not_mine. stays seat (λ same. not_mine (ap kept.owner same ∙ first_mine))) idle old.stands;
-          fits = each_push (Fits k old.log old.now old.holder) views (first_of v)
-              (each_set (Fits k old.log old.now old.holder) s.views id (others_of v)
-              (record {
-                parts = λ n inside. ap (λ (seat : ℕ). part seat old.log) (omega arith) ∙ (fit.parts (1 + n) (omega (arith, fewer)) ∙ ap (calls_on k) (sym (get_or_after_one v.lists n [])));
-                held = fit.held;
-              })
-              (λ port u apart at. old.fits port u at))
-              (record { parts = only k old.log fit.parts; held = none_past seats kept.owner _ _ _ old.now _ old.holder (omega (arith, length-set s.views id (others_of v))) old.stands });
+          stands = stands_as _ _ _ old.now old.holder more (sym (old.fits id v me).held ∙ ap (held_of k) rest) old.stands;
+          fits = fits k old;
         };
   }
+
+module _ (stores seats : ℕ) where
+  -- the first seat of a view at rest is parted from the others
+  pub splits_kept : (id : ℕ) (v : Knows) → v.held ≡ None → 0 < length v.lists → Splits (IsKept stores seats) id v (others_of v) (first_of v)
+  splits_kept id v rest some_seat s kept me =
+      regroups stores seats s kept id v me rest owner (λ seat not_mine. stays seat (λ same. not_mine (ap kept.owner same ∙ first_mine))) (views ++ first_of v ∷ [])
+      (omega (arith, length-append views (first_of v ∷ []), count))
+      (each_push own views (first_of v)
+      (each_set own s.views id (others_of v)
+      (record {
+        within = omega (arith, within, fewer);
+        owned = λ seat from to. stays seat (λ same. omega arith) ∙ mine.owned seat (omega arith) (omega (arith, fewer));
+        agree = λ seated. mine.agree (inl some_seat);
+      })
+      (others_own stores seats s kept id v me rest owner (λ seat not_mine. stays seat (λ same. not_mine (ap kept.owner same ∙ first_mine)))))
+      (record { within = omega (arith, within); owned = λ seat from to. rw (eq-eqb seat v.first (omega arith)) refl; agree = λ seated. mine.agree (inl some_seat) }))
+      (λ k old.
+      let fit = old.fits id v me in
+      each_push (Fits k old.log old.now old.holder) views (first_of v)
+      (each_set (Fits k old.log old.now old.holder) s.views id (others_of v)
+      (record {
+        parts = λ n inside. ap (λ (seat : ℕ). part seat old.log) (omega arith) ∙ (fit.parts (1 + n) (omega (arith, fewer)) ∙ ap (calls_on k) (sym (get_or_after_one v.lists n [])));
+        held = fit.held;
+      })
+      (λ port u apart at. old.fits port u at))
+      (record { parts = only k old.log fit.parts; held = none_past seats kept.owner _ _ _ old.now _ old.holder (omega (arith, count)) old.stands }))
     where
       views : List Knows
       views = set s.views id (others_of v)
@@ -90,8 +109,11 @@ module _ (stores seats : ℕ) where
       owner : ℕ → ℕ
       owner seat = if eqb seat v.first then length views else kept.owner seat
 
-      Owned : ℕ → Knows → Type 0
-      Owned port u = Owns kept.openings seats owner port u.states u.first (length u.lists)
+      count : length views ≡ length s.views
+      count = length-set s.views id (others_of v)
+
+      own : ℕ → Knows → Type 0
+      own port u = Owns kept.openings seats owner port u.states u.first (length u.lists)
 
       mine : Owns kept.openings seats kept.owner id v.states v.first (length v.lists)
       mine = kept.owns id v me
@@ -117,38 +139,18 @@ module _ (stores seats : ℕ) where
   -- seats are put before those of a view at rest
   pub joins_kept : (id : ℕ) (v : Knows) (other : ℕ) (w : Knows) → v.held ≡ None → w.held ≡ None → w.first + length w.lists ≡ v.first → 0 < length w.lists
       → Joins (IsKept stores seats) id v other w (joined v w) (knows [] 0 [] None)
-  joins_kept id v other w v_rest w_rest next some_seat s kept me apart at_other = record {
-    openings = kept.openings;
-    owner = owner;
-    many = kept.many;
-    words = kept.words;
-    homes = kept.homes;
-    owns = each Owned (record { within = omega (arith, within, count); owned = λ seat from to. by_owned seat from to (cases_lt seat v.first); agree = λ seated. yours.agree (inl some_seat) })
-        (record { within = omega arith; owned = λ seat from to. absurd (omega arith); agree = none_spent })
-        (λ port u not_me not_you at.
-        let own = kept.owns port u at in
-        record {
-          within = own.within;
-          owned = λ seat from to. stays seat (λ same. not_you (sym (own.owned seat from to) ∙ same)) ∙ own.owned seat from to;
-          agree = own.agree;
-        });
-    keeps = λ k under.
-        let old = kept.keeps k under in
-        let fit = old.fits id v me in
-        let their = old.fits other w theirs in
-        let idle : held_by old.holder old.now other ≡ None = sym their.held ∙ ap (held_of k) w_rest in
-        record {
-          log = old.log;
-          now = old.now;
-          holder = old.holder;
-          run = old.run;
-          below = old.below;
-          stands = stands_as seats kept.owner owner _ _ _ _ old.now other old.holder as_many stays idle old.stands;
-          fits = each (Fits k old.log old.now old.holder)
-              (record { parts = λ n inside. by_parts k old.log fit.parts their.parts n inside (cases_lt n (length w.lists)); held = fit.held })
-              (record { parts = λ n inside. absurd (omega arith); held = sym idle }) (λ port u not_me not_you at. old.fits port u at);
-        };
-  }
+  joins_kept id v other w v_rest w_rest next some_seat s kept me apart at_other =
+      regroups stores seats s kept other w theirs w_rest owner stays (set (set s.views id both) other spent) (omega (arith, length-set s.views id both, length-set (set s.views id both) other spent))
+      (each (λ (port : ℕ) (u : Knows). Owns kept.openings seats owner port u.states u.first (length u.lists))
+      (record { within = omega (arith, within, count); owned = λ seat from to. by_owned seat from to (cases_lt seat v.first); agree = λ seated. yours.agree (inl some_seat) })
+      (record { within = omega arith; owned = λ seat from to. absurd (omega arith); agree = none_spent })
+      (λ port u not_me not_you at. others_own stores seats s kept other w theirs w_rest owner stays port u not_you at))
+      (λ k old.
+      let fit = old.fits id v me in
+      let their = old.fits other w theirs in
+      each (Fits k old.log old.now old.holder)
+      (record { parts = λ n inside. by_parts k old.log fit.parts their.parts n inside (cases_lt n (length w.lists)); held = fit.held })
+      (record { parts = λ n inside. absurd (omega arith); held = sym (ap (held_of k) w_rest) ∙ their.held }) (λ port u not_me not_you at. old.fits port u at))
     where
       both : Knows
       both = joined v w
@@ -158,9 +160,6 @@ module _ (stores seats : ℕ) where
 
       owner : ℕ → ℕ
       owner seat = if eqb (kept.owner seat) other then id else kept.owner seat
-
-      Owned : ℕ → Knows → Type 0
-      Owned port u = Owns kept.openings seats owner port u.states u.first (length u.lists)
 
       theirs : get_elem? s.views other ≡ some w
       theirs = sym (set_else s.views id other both apart) ∙ at_other
@@ -176,9 +175,6 @@ module _ (stores seats : ℕ) where
 
       count : length (w.lists ++ v.lists) ≡ length w.lists + length v.lists
       count = length-append w.lists v.lists
-
-      as_many : length s.views ≤ length (set (set s.views id both) other spent)
-      as_many = omega (arith, length-set s.views id both, length-set (set s.views id both) other spent)
 
       none_spent : (0 < 0) ⊎ (seats ≡ 0) → [] ≡ kept.openings
       none_spent (inl some_list) = absurd (omega arith)
