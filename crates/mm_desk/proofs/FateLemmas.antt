@@ -23,7 +23,8 @@ use Rattle.mm_desk.specs.declared.reply.Offered.{Offered}
 use Rattle.mm_desk.specs.declared.reply.Returned.{Returned}
 use Rattle.mm_desk.specs.declared.state.Retrieval.{Retrieval}
 use Rattle.mm_desk.specs.Fates.{packets_of, accepted, left_out, found_in, taken, given_up, deleted, given, over, known, IsConserved, BeginsNone}
-use Rattle.mm_desk.specs.Machine.{State, answer_of, after_put, offer, begin, give, next_of, abort, delete, step}
+use Rattle.mm_desk.specs.Machine.{State, answer_of, after_put, step}
+use Rattle.mm_desk.proofs.Cases.{offer_cases, timed_cases, begin_cases, next_cases, abort_cases, delete_cases}
 
 -- what a put keeps and gives up is what was held and the new packet
 record Puts (s : Store) (packet : SpacePacket) (done : Put × Store) : Type 0 where
@@ -64,11 +65,6 @@ record Moves (s t : State) (took gone left : List SpacePacket) : Type 0 where
 stays : (s t : State) → t.store.content ≡ s.store.content → t.lost ≡ s.lost → t.deleted ≡ s.deleted → Moves s t [] [] []
 stays s t same lost gone = record { packets = rw same (IsPermutation-refl _); lost = omega (arith, lost); deleted = omega (arith, gone) }
 
--- two choices by one test
-cond_two : {X Y : Type 0} (P : X → Y → Type 0) (b : Bool) (x y : X) (u v : Y) → P x u → P y v → P (cond b x y) (cond b u v)
-cond_two P true x y u v first second = first
-cond_two P false x y u v first second = second
-
 -- what an answer to an offer and the state after it tell
 abbrev ByOffer : State → SpacePacket → Result Offered Returned × State → Type 0
 ByOffer s packet r = Moves s r.1 (accepted packet r.0) [] (left_out r.0)
@@ -80,14 +76,6 @@ module _ (s : State) where
     lost = omega (arith, puts.lost);
     deleted = omega arith;
   }
-
-  by_offer : (now : ℕ) (packet : SpacePacket) → ByOffer s packet (offer s now packet)
-  by_offer now packet =
-      cond_both (not s.storage) _ _ (ByOffer s packet) (λ off. stays s s refl refl refl)
-      (λ on. cond_both ((s.store.last == clock_end) || (s.offered == clock_end)) _ _ (ByOffer s packet) (λ late. stays s s refl refl refl)
-      (λ early. cond_both (s.store.last == clock_end) _ _ (λ done. ByOffer s packet (answer_of done.0, after_put s done))
-      (λ late. absurd (both_ways _ (or_parts (s.store.last == clock_end) (s.offered == clock_end) early).0 late))
-      (λ free. put_in packet _ (by_put s.store _))))
 
   -- the packets up to a limit and those after it are all
   parted : (limit : ℕ) (held : List Stored) → IsPermutation (packets_of held ++ []) (packets_of (filter (λ p. leb p.time limit) held) ++ packets_of (kept_after limit held) ++ [])
@@ -102,33 +90,15 @@ module _ (s : State) where
   counted : (limit : ℕ) (held : List Stored) → count_up_to limit held ≡ length (packets_of (filter (λ p. leb p.time limit) held))
   counted limit held = sym (length-filter (λ (p : Stored). leb p.time limit) held) ∙ sym (length-map (filter (λ (p : Stored). leb p.time limit) held) (λ (p : Stored). p.packet))
 
-  by_delete : (limit : ℕ) → Moves s (delete s limit).1 [] (deleted s (Delete limit)) []
-  by_delete limit =
-      cond_two (λ (r : Result ℕ Fault × State) (gone : List SpacePacket). Moves s r.1 [] gone []) (is_some s.retrieval) _ _ _ _ (stays s s refl refl refl)
-      (record { packets = parted limit s.store.content; lost = omega arith; deleted = omega (arith, counted limit s.store.content) })
-
-  by_give : (r : Retrieval) (found : Option Stored) → Moves s (give s r found).1 [] [] []
-  by_give r (Some p) = stays s _ refl refl refl
-  by_give r None = stays s _ refl refl refl
-
-  by_next : (retrieval : Option Retrieval) → Moves s (next_of s retrieval).1 [] [] []
-  by_next (Some r) = by_give r (first_in r.from r.to r.after s.store.content)
-  by_next None = stays s s refl refl refl
-
-  by_begin : (from to : ℕ) → Moves s (begin s from to).1 [] [] []
-  by_begin from to =
-      cond_both (is_some s.retrieval) _ _ (λ (r : Result (Unit {0}) Fault × State). Moves s r.1 [] [] []) (λ busy. stays s s refl refl refl)
-      (λ idle. cond_both (ltb to from) _ _ (λ (r : Result (Unit {0}) Fault × State). Moves s r.1 [] [] []) (λ bad. stays s s refl refl refl) (λ good. stays s _ refl refl refl))
-
-  by_abort : Moves s (abort s).1 [] [] []
-  by_abort = cond_both (is_some s.retrieval) _ _ (λ (r : Result (Unit {0}) Fault × State). Moves s r.1 [] [] []) (λ on. stays s _ refl refl refl) (λ idle. stays s s refl refl refl)
-
   by_event : (e : Event) → Moves s (step s e).1 (taken s e) (deleted s e) (given_up s e)
-  by_event (Offer now packet) = by_offer now packet
-  by_event (Begin from to) = by_begin from to
-  by_event Next = by_next s.retrieval
-  by_event Abort = by_abort
-  by_event (Delete limit) = by_delete limit
+  by_event (Offer now packet) =
+      timed_cases s (ByOffer s packet) now packet (λ fault other. stays s s refl refl refl) (λ new is. put_in packet _ (subst (λ (p : SpacePacket). Puts s.store p (put_timed s.store new)) is (by_put s.store new)))
+  by_event (Begin from to) = begin_cases s (λ r. Moves s r.1 [] [] []) from to (λ fault other. stays s s refl refl refl) (λ idle. stays s _ refl refl refl)
+  by_event Next = next_cases s (λ r. Moves s r.1 [] [] []) (stays s s refl refl refl) (λ r p on found. stays s _ refl refl refl) (stays s _ refl refl refl)
+  by_event Abort = abort_cases s (λ r. Moves s r.1 [] [] []) (stays s s refl refl refl) (stays s _ refl refl refl)
+  by_event (Delete limit) =
+      delete_cases s (λ r. Moves s r.1 [] (deleted s (Delete limit)) []) limit (λ busy. rw busy (stays s s refl refl refl))
+      (λ idle. rw idle (record { packets = parted limit s.store.content; lost = omega arith; deleted = omega (arith, counted limit s.store.content) }))
   by_event Enable = stays s _ refl refl refl
   by_event Disable = stays s _ refl refl refl
 
@@ -163,10 +133,12 @@ conserved s (e ∷ es) =
     }
 
 -- what is found passes the test, and has what all have
-find-has : (P : Stored → Type 0) (test : Stored → Bool) (xs : List Stored) → All P xs → IfSome (find test xs) (λ p. (test p ≡ true) × P p)
-find-has P test [] all = tt
-find-has P test (x ∷ xs) all =
-    cond_both (test x) _ _ (λ found. IfSome found (λ p. (test p ≡ true) × P p)) (λ yes. (yes, All-head P x xs all)) (λ no. find-has P test xs (All-tail P x xs all))
+find-some : (P : Stored → Type 0) (test : Stored → Bool) (xs : List Stored) (p : Stored) → All P xs → find test xs ≡ Some p → (test p ≡ true) × P p
+find-some P test [] p all found = absurd (cc found)
+find-some P test (x ∷ xs) p all found =
+    cond_both (test x) _ _ (λ first. first ≡ Some p → (test p ≡ true) × P p)
+    (λ yes same. let is : x ≡ p = cc same in subst (λ (q : Stored). (test q ≡ true) × P q) is (yes, All-head P x xs all))
+    (λ no later. find-some P test xs p (All-tail P x xs all) later) found
 
 module _ (pool : List SpacePacket) where
   abbrev IsIn : Stored → Type 0
@@ -178,17 +150,11 @@ module _ (pool : List SpacePacket) where
   pairs_in (p ∷ held) all =
       All-cons IsIn p held (All-head (Contains pool) p.packet (packets_of held) all) (pairs_in held (All-tail (Contains pool) p.packet (packets_of held) all))
 
-  give_in : (s : State) (r : Retrieval) (found : Option Stored) → IfSome found (λ p. (is_in r.from r.to r.after p ≡ true) × IsIn p) → All IsIn (found_in (give s r found).0)
-  give_in s r (Some p) has = All-cons IsIn p [] has.1 (All-nil IsIn)
-  give_in s r None has = All-nil IsIn
-
-  next_in : (s : State) (retrieval : Option Retrieval) → All IsIn s.store.content → All IsIn (found_in (next_of s retrieval).0)
-  next_in s (Some r) held = give_in s r _ (find-has IsIn (is_in r.from r.to r.after) s.store.content held)
-  next_in s None held = All-nil IsIn
-
   -- what an event gives is in the pool where all that is held is
   given_in : (s : State) (e : Event) → All (Contains pool) (packets_of s.store.content) → All IsIn (given s e)
-  given_in s Next held = next_in s s.retrieval (pairs_in s.store.content held)
+  given_in s Next held =
+      next_cases s (λ r. All IsIn (found_in r.0)) (All-nil IsIn)
+      (λ r p on found. All-cons IsIn p [] (find-some IsIn (is_in r.from r.to r.after) s.store.content p (pairs_in s.store.content held) found).1 (All-nil IsIn)) (All-nil IsIn)
   given_in s (Offer now packet) held = All-nil IsIn
   given_in s (Begin from to) held = All-nil IsIn
   given_in s Abort held = All-nil IsIn
@@ -226,36 +192,31 @@ record Gives (s t : State) (gave : List Stored) : Type 0 where
 gives_none : (s t : State) → ((later : Stored) → Above t.retrieval later → Above s.retrieval later) → Gives s t []
 gives_none s t still = record { above = All-nil _; below = λ later above. All-nil _; still = still; rising = λ i j d before within. absurd (omega arith) }
 
-by_found : (s : State) (r : Retrieval) (found : Option Stored) → s.retrieval ≡ Some r → IfSome found (λ p. (is_in r.from r.to r.after p ≡ true) × Unit {0}) → Gives s (give s r found).1 (found_in (give s r found).0)
-by_found s r (Some p) on has =
-    let later_one : r.after < p.time = ltb-true r.after p.time (and_parts _ _ has.0).1 in
+-- so it is with an offer, a deletion and the storage switch
+gives_no_more : (s t : State) → t.retrieval ≡ s.retrieval → Gives s t []
+gives_no_more s t same = gives_none s t (λ later above. subst (λ r. Above r later) same above)
+
+-- one packet is given, and the retrieval goes on after it
+gives_one : (s : State) (r : Retrieval) (p : Stored) → s.retrieval ≡ Some r → is_in r.from r.to r.after p ≡ true → Gives s (record s { retrieval = Some (record r { after = p.time }) }) (p ∷ [])
+gives_one s r p on found =
+    let later_one : r.after < p.time = ltb-true r.after p.time (and_parts _ _ found).1 in
     record {
       above = rw on (All-cons (λ (q : Stored). r.after < q.time) p [] later_one (All-nil _));
       below = λ later above. All-cons (λ (q : Stored). q.time < later.time) p [] above (All-nil _);
       still = λ later above. rw on (omega (arith, later_one, above));
       rising = λ i j d before within. absurd (omega arith);
     }
-by_found s r None on has = gives_none s _ (λ later above. absurd above)
-
-by_retrieval : (s : State) (retrieval : Option Retrieval) → s.retrieval ≡ retrieval → Gives s (next_of s retrieval).1 (found_in (next_of s retrieval).0)
-by_retrieval s (Some r) on = by_found s r _ on (find-has (λ p. Unit {0}) (is_in r.from r.to r.after) s.store.content (λ k d within. tt))
-by_retrieval s None off = gives_none s s (λ later above. above)
-
-keeps_retrieval : (s : State) (now : ℕ) (packet : SpacePacket) → (offer s now packet).1.retrieval ≡ s.retrieval
-keeps_retrieval s now packet =
-    cond_both (not s.storage) _ _ (λ (r : Result Offered Returned × State). r.1.retrieval ≡ s.retrieval) (λ off. refl)
-    (λ on. cond_both ((s.store.last == clock_end) || (s.offered == clock_end)) _ _ (λ (r : Result Offered Returned × State). r.1.retrieval ≡ s.retrieval) (λ late. refl) (λ early. refl))
 
 by_calls : (s : State) (e : Event) → BeginsNone e → Gives s (step s e).1 (given s e)
-by_calls s (Offer now packet) none = gives_none s _ (λ later above. subst (λ r. Above r later) (keeps_retrieval s now packet) above)
+by_calls s (Offer now packet) none = offer_cases s (λ r. Gives s r.1 []) now packet (λ fault other. gives_no_more s s refl) (λ last offered. gives_no_more s _ refl)
 by_calls s (Begin from to) none = absurd none
-by_calls s Next none = by_retrieval s s.retrieval refl
-by_calls s Abort none =
-    cond_both (is_some s.retrieval) _ _ (λ (r : Result (Unit {0}) Fault × State). Gives s r.1 []) (λ on. gives_none s _ (λ later above. absurd above)) (λ off. gives_none s s (λ later above. above))
-by_calls s (Delete limit) none =
-    cond_both (is_some s.retrieval) _ _ (λ (r : Result ℕ Fault × State). Gives s r.1 []) (λ on. gives_none s s (λ later above. above)) (λ off. gives_none s _ (λ later above. above))
-by_calls s Enable none = gives_none s _ (λ later above. above)
-by_calls s Disable none = gives_none s _ (λ later above. above)
+by_calls s Next none =
+    next_cases s (λ r. Gives s r.1 (found_in r.0)) (gives_no_more s s refl)
+    (λ r p on found. gives_one s r p on (find-some (λ q. Unit {0}) (is_in r.from r.to r.after) s.store.content p (λ k d within. tt) found).0) (gives_none s _ (λ later above. absurd above))
+by_calls s Abort none = abort_cases s (λ r. Gives s r.1 []) (gives_no_more s s refl) (gives_none s _ (λ later above. absurd above))
+by_calls s (Delete limit) none = delete_cases s (λ r. Gives s r.1 []) limit (λ busy. gives_no_more s s refl) (λ idle. gives_no_more s _ refl)
+by_calls s Enable none = gives_no_more s _ refl
+by_calls s Disable none = gives_no_more s _ refl
 
 -- what all events give rises, above what was given before
 rises : (s : State) (es : List Event) → All BeginsNone es → IsRising (over given s es) × All (Above s.retrieval) (over given s es)

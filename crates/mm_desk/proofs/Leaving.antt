@@ -20,6 +20,7 @@ use Rattle.mm_desk.specs.declared.reply.Returned.{Returned}
 use Rattle.mm_desk.specs.Machine.{State, answer_of, after_put, offer, step}
 use Rattle.mm_desk.specs.Offers.{IsTaken, AreTaken, Leaves}
 use Rattle.mm_desk.specs.Runs.{replay, IsLegal}
+use Rattle.mm_desk.proofs.Cases.{timed_cases}
 
 -- a store holds no more than its size, which is not 0
 pub record HasRoom (s : Store) : Type 0 where
@@ -78,13 +79,7 @@ by_put s done fits left = record {
 -- an offer that is not refused leaves one packet more, or a full store
 pub offer_leaves : (s : State) (now : ℕ) (packet : SpacePacket) → HasRoom s.store → IsOk (offer s now packet).0 → Leaves s (offer s now packet).1 1
 offer_leaves s now packet fits =
-    cond_both (not s.storage) _ _ (λ (r : Result Offered Returned × State). IsOk r.0 → Leaves s r.1 1)
-    (λ off bad. absurd (search rules))
-    (λ on. cond_both ((s.store.last == clock_end) || (s.offered == clock_end)) _ _ (λ (r : Result Offered Returned × State). IsOk r.0 → Leaves s r.1 1)
-    (λ late bad. absurd (search rules))
-    (λ early. cond_both (s.store.last == clock_end) _ _ (λ (done : Put × Store). IsOk (answer_of done.0) → Leaves s (after_put s done) 1)
-    (λ late bad. absurd (search rules))
-    (λ before taken. by_put s _ fits (timed_leaves s.store _ fits))))
+    timed_cases s (λ r. IsOk r.0 → Leaves s r.1 1) now packet (λ fault other bad. absurd (search rules)) (λ new is taken. by_put s _ fits (timed_leaves s.store new fits))
 
 -- an event that is an offer taken leaves one packet more, or a full store
 event_leaves : (s : State) (event : Event) (reply : Reply) → HasRoom s.store → reply ≡ (step s event).0 → IsTaken event reply → Leaves s (step s event).1 1

@@ -3,6 +3,7 @@ pub mod Logs
 pub mod Shuffles
 pub mod Leaving
 pub mod Lone
+pub mod Cases
 pub mod Keeping
 pub mod Answering
 pub mod Foreseeing

@@ -2,6 +2,7 @@
 use Rattle.std.proofs.Common.{◌≡◌, ◌⊎◌, inl, inr, ℕ, zero, suc, ◌+◌, ◌<◌, ◌≤◌, min, true, false, ltb, List, [], ◌∷◌, ◌++◌, length, take, All, refl, sym, ap, subst, ◌∙◌, add-one, arith, append_assoc, length-append}
 use Rattle.std.specs.Prelude.{filter, Option, Some, None, Result, Ok, is_some}
 use Rattle.std.proofs.lemmas.Bool.{lt-ltb, le-ltb, le-leb, ltb-true, ltb-false, eq-eqb, ne_eqb, cases_lt, and_right, and_from, cond_both}
+use Rattle.std.proofs.lemmas.Bool.Decides.{nat_tests}
 use Rattle.std.proofs.lemmas.List.{append-nil, length-map, take_all}
 use Rattle.std.proofs.lemmas.List.Elements.{All-nil, All-cons, All-head, All-tail, All-push, All-weaker}
 use Rattle.std.proofs.lemmas.List.Sums.{sum_by_more}
@@ -15,11 +16,12 @@ use Rattle.mm_desk.specs.declared.fault.Fault.{Fault}
 use Rattle.mm_desk.specs.declared.reply.Reply.{Reply}
 use Rattle.mm_desk.specs.declared.reply.Reply.TheVariants as reply
 use Rattle.mm_desk.specs.declared.state.Retrieval.{Retrieval}
-use Rattle.mm_desk.specs.Machine.{State, IsState, step}
+use Rattle.mm_desk.specs.Machine.{State, IsState, begin, told, step}
 use Rattle.mm_desk.specs.Offers.{IsShuffleOfEvents, count_of}
 use Rattle.mm_desk.specs.Orders.{begun, given, ended, last_time, removed, IsOrderOf, Dumps}
 use Rattle.mm_desk.specs.Runs.{entry, replay, IsLegal, IsRun}
 use Rattle.mm_desk.specs.Shuffles.{AreBelow, part}
+use Rattle.mm_desk.proofs.Cases.{begin_cases}
 
 -- a replay with one entry more is one step more
 replay-more : (s : State) (es : List Entry) (e : Entry) → replay s (es ++ e ∷ []) ≡ (step (replay s es) e.event).1
@@ -48,21 +50,12 @@ below n log = filter (λ e. ltb e.seat n) log
 -- the entries of no seat
 below-zero : (log : List Entry) → length (below 0 log) ≡ 0
 below-zero [] = refl
-below-zero (e ∷ es) = rw (le-ltb e.seat 0 (omega arith)) (below-zero es)
+below-zero (e ∷ es) = grind (arith, nat_tests, below-zero es)
 
 -- with one seat more come the entries of that seat
 below-suc : (n : ℕ) (log : List Entry) → length (below (suc n) log) ≡ length (below n log) + length (part n log)
 below-suc n [] = refl
-below-suc n (e ∷ es) = by_order (below-suc n es) (cases_lt e.seat n) (cases_lt n e.seat)
-  where
-    by_order : length (below (suc n) es) ≡ length (below n es) + length (part n es) → (e.seat < n) ⊎ (n ≤ e.seat) → (n < e.seat) ⊎ (e.seat ≤ n)
-        → length (below (suc n) (e ∷ es)) ≡ length (below n (e ∷ es)) + length (part n (e ∷ es))
-    by_order rest (inl before) other =
-        rw (lt-ltb e.seat (suc n) (omega arith), lt-ltb e.seat n before, ne_eqb e.seat n (λ same. omega arith)) (omega arith)
-    by_order rest (inr from) (inl after) =
-        rw (le-ltb e.seat (suc n) (omega arith), le-ltb e.seat n from, ne_eqb e.seat n (λ same. omega arith)) (omega arith)
-    by_order rest (inr from) (inr up) =
-        rw (lt-ltb e.seat (suc n) (omega arith), le-ltb e.seat n from, eq-eqb e.seat n (omega arith)) (omega arith)
+below-suc n (e ∷ es) = grind (arith, nat_tests, below-suc n es)
 
 -- all entries of a log of seats below a number
 below-all : (n : ℕ) (log : List Entry) → AreBelow n log → length (below n log) ≡ length log
@@ -98,26 +91,22 @@ abbrev idle : State → State
 idle s = record s { retrieval = None }
 
 -- times rise from this time on, up to the end of the clock
-abbrev Rises : ℕ → List Stored → Type 0
-Rises after [] = Unit {0}
-Rises after (x ∷ xs) = (after < x.time) × (x.time ≤ clock_end) × Rises x.time xs
+record Rises (after : ℕ) (xs : List Stored) : Type 0 where
+  rising : IsRising xs
+  later : All (λ p. after < p.time) xs
+  early : All (λ p. p.time ≤ clock_end) xs
 
--- the packets of a store rise
-Rises-of : (after last : ℕ) (xs : List Stored) → IsRising xs → All (λ (p : Stored). after < p.time) xs → All (λ (p : Stored). p.time ≤ last) xs → last ≤ clock_end → Rises after xs
-Rises-of after last [] rising later early fits = tt
-Rises-of after last (x ∷ xs) rising later early fits =
-    let within : x.time ≤ last = All-head (λ (p : Stored). p.time ≤ last) x xs early in (
-      All-head (λ (p : Stored). after < p.time) x xs later,
-      omega arith,
-      Rises-of x.time last xs (IsRising-rest x xs rising) (later_than_oldest x xs rising) (All-tail (λ (p : Stored). p.time ≤ last) x xs early) fits,
-    )
-
--- packets that rise are later
-later_of : (after : ℕ) (xs : List Stored) → Rises after xs → All (λ (p : Stored). after < p.time) xs
-later_of after [] rises = All-nil (λ (p : Stored). after < p.time)
-later_of after (x ∷ xs) rises =
-    All-cons (λ (p : Stored). after < p.time) x xs rises.0
-    (All-weaker (λ (p : Stored). x.time < p.time) (λ (p : Stored). after < p.time) (λ p later. omega (arith, rises.0)) xs (later_of x.time xs rises.2))
+-- so do those after the first
+Rises-rest : (after : ℕ) (x : Stored) (xs : List Stored) → Rises after (x ∷ xs) → (after < x.time) × (x.time ≤ clock_end) × Rises x.time xs
+Rises-rest after x xs rises = (
+  All-head (λ (p : Stored). after < p.time) x xs rises.later,
+  All-head (λ (p : Stored). p.time ≤ clock_end) x xs rises.early,
+  record {
+    rising = IsRising-rest x xs rises.rising;
+    later = later_than_oldest x xs rises.rising;
+    early = All-tail (λ (p : Stored). p.time ≤ clock_end) x xs rises.early;
+  },
+)
 
 -- a retrieval passes the packets given before
 first_past : (after : ℕ) (done rest : List Stored) → All (λ (p : Stored). p.time ≤ after) done
@@ -130,8 +119,9 @@ first_past after (x ∷ xs) rest early =
 -- a retrieval gives the next packet
 first_next : (after : ℕ) (x : Stored) (xs : List Stored) → Rises after (x ∷ xs) → first_in 1 clock_end after (x ∷ xs) ≡ Some x
 first_next after x xs rises =
+    let first = Rises-rest after x xs rises in
     let here : is_in 1 clock_end after x ≡ true =
-    and_from _ _ (and_from _ _ (le-leb 1 x.time (omega (arith, rises.0))) (le-leb x.time clock_end rises.1)) (lt-ltb after x.time rises.0) in
+    and_from _ _ (and_from _ _ (le-leb 1 x.time (omega (arith, first.0))) (le-leb x.time clock_end first.1)) (lt-ltb after x.time first.0) in
     rw here
 
 module _ (s : State) where
@@ -174,10 +164,11 @@ gave s done (x ∷ xs) after seat (g ∷ gs) es held early rises legal =
     let told = ap (λ (p : Reply × State). p.0) stepped in
     let left = ap (λ (p : Reply × State). p.1) stepped in
     let same : x ≡ g = cc (legal.0, told) in
+    let first = Rises-rest after x xs rises in
     let more : All (λ (p : Stored). p.time ≤ x.time) (done ++ x ∷ []) =
     All-push (λ (p : Stored). p.time ≤ x.time) done x
-    (All-weaker (λ (p : Stored). p.time ≤ after) (λ (p : Stored). p.time ≤ x.time) (λ p before. omega (arith, rises.0)) done early) (omega arith) in
-    let rest = gave s (done ++ x ∷ []) xs x.time seat gs es (held ∙ sym (append_assoc done (x ∷ []) xs)) more rises.2
+    (All-weaker (λ (p : Stored). p.time ≤ after) (λ (p : Stored). p.time ≤ x.time) (λ p before. omega (arith, first.0)) done early) (omega arith) in
+    let rest = gave s (done ++ x ∷ []) xs x.time seat gs es (held ∙ sym (append_assoc done (x ∷ []) xs)) more first.2
     (subst (λ (t : State). IsLegal t (given seat gs ++ es)) left legal.1) in
     subst (λ (y : Stored). Gave s done (x ∷ xs) after seat (y ∷ gs) es) same
     (record {
@@ -243,7 +234,7 @@ deletes s seat count [] left held early rises =
 deletes s seat count (g ∷ gs) left held early rises =
     let limit = last_time g.time gs in
     let kept : kept_after limit s.store.content ≡ left =
-    ap (kept_after limit) held ∙ kept_front limit (g ∷ gs) left early ∙ kept_after-later limit left (later_of limit left rises) in
+    ap (kept_after limit) held ∙ kept_front limit (g ∷ gs) left early ∙ kept_after-later limit left rises.later in
     let many : count_up_to limit s.store.content ≡ length (g ∷ gs) =
     omega (arith, count_up_to-kept limit s.store.content, ap length kept, ap length held, length-append (g ∷ gs) left) in
     ap (λ (content : List Stored). dumped (idle s) content (count_up_to limit s.store.content)) kept ∙ ap (dumped (idle s) left) many
@@ -254,21 +245,14 @@ none_of None none = refl
 none_of (Some r) none = cc
 
 -- where a retrieval is begun none was on, and the retrieval of all packets is on
-record Begins (s : State) : Type 0 where
+record Begins (s : State) (r : Result (Unit {0}) Fault × State) : Type 0 where
   none : s.retrieval ≡ None
-  stepped : step s (Begin 1 clock_end) ≡ (reply.Done (Ok tt), retrieving s 0)
+  stepped : told reply.Done r ≡ (reply.Done (Ok tt), retrieving s 0)
 
-begins : (s : State) → reply.Done (Ok tt) ≡ (step s (Begin 1 clock_end)).0 → Begins s
+begins : (s : State) → reply.Done (Ok tt) ≡ (step s (Begin 1 clock_end)).0 → Begins s (begin s 1 clock_end)
 begins s answers =
-    let none : s.retrieval ≡ None =
-    cond_both (is_some s.retrieval) _ _ (λ (r : Result (Unit {0}) Fault × State). reply.Done (Ok tt) ≡ reply.Done r.0 → s.retrieval ≡ None)
-    (λ busy bad. absurd (cc bad)) (λ free fine. none_of s.retrieval free) answers in
-    record {
-      none = none;
-      stepped =
-          cond_both (is_some s.retrieval) _ _ (λ (r : Result (Unit {0}) Fault × State). ◌≡◌ {A = Reply × State} (reply.Done r.0, r.1) (reply.Done (Ok tt), retrieving s 0))
-          (λ busy. absurd (cc (busy, ap is_some none))) (λ free. refl);
-    }
+    begin_cases s (λ r. reply.Done (Ok tt) ≡ reply.Done r.0 → Begins s r) 1 clock_end (λ fault other bad. absurd (cc bad))
+    (λ free fine. record { none = none_of s.retrieval free; stepped = refl }) answers
 
 -- the state after an order
 dumps_of : (s t : State) (wanted : ℕ) (gs left : List Stored) → s.retrieval ≡ None → s.store.content ≡ gs ++ left
@@ -285,9 +269,12 @@ dumps_of s t wanted gs left none held many leaves =
 givings_of : (s : State) (seat : ℕ) (gs : List Stored) (es : List Entry) → IsState s → IsLegal s (begun seat ∷ given seat gs ++ es) → Gave s [] s.store.content 0 seat gs es
 givings_of s seat gs es sound legal =
     let state = ap (λ (p : Reply × State). p.1) (begins s legal.0).stepped in
-    let rises = Rises-of 0 s.store.last s.store.content sound.store.rising
-    (All-weaker (λ (p : Stored). 1 ≤ p.time) (λ (p : Stored). 0 < p.time) (λ p one. omega arith) s.store.content sound.store.from_one)
-    sound.store.up_to_last (omega (arith, sound.store.last_fits)) in
+    let rises : Rises 0 s.store.content =
+    record {
+      rising = sound.store.rising;
+      later = sound.store.from_one;
+      early = All-weaker (λ (p : Stored). p.time ≤ s.store.last) (λ (p : Stored). p.time ≤ clock_end) (λ p before. omega (arith, sound.store.last_fits)) s.store.content sound.store.up_to_last;
+    } in
     gave s [] s.store.content 0 seat gs es refl (All-nil (λ (p : Stored). p.time ≤ 0)) rises (subst (λ (u : State). IsLegal u (given seat gs ++ es)) state legal.1)
 
 -- the packets that it gave are the oldest ones held

@@ -1,0 +1,62 @@
+-- The ways that each call of the machine may go.
+use Rattle.std.proofs.Common.{◌≡◌, ◌≢◌, ℕ, ◌+◌, true, false, ltb, List, max, refl}
+use Rattle.std.specs.Prelude.{Option, Some, None, Result, Ok, Err, ◌==◌, ◌||◌, not, is_some}
+use Rattle.std.proofs.lemmas.Bool.{cond_both, or_parts, eqb-false, ne_eqb}
+use Rattle.mm_packet.specs.Packet.{SpacePacket}
+use Rattle.mm_store.specs.declared.stored.Stored.{Stored}
+use Rattle.mm_store.specs.Content.{clock_end, put, put_timed, first_in, delete_up_to, count_up_to}
+use Rattle.mm_desk.specs.declared.fault.Fault.{Fault}
+use Rattle.mm_desk.specs.declared.fault.Fault.TheVariants.{Disabled, Busy, Idle, BadRange, ClockEnd, NoMemory}
+use Rattle.mm_desk.specs.declared.reply.Offered.{Offered}
+use Rattle.mm_desk.specs.declared.reply.Returned.{Returned}
+use Rattle.mm_desk.specs.declared.state.Retrieval.{Retrieval}
+use Rattle.mm_desk.specs.Machine.{State, answer_of, after_put, offer, begin, give, next_of, next, abort, delete}
+
+module _ (s : State) where
+  -- an offer is refused, or the packet is put
+  pub offer_cases : (P : Result Offered Returned × State → Type 0) (now : ℕ) (packet : SpacePacket)
+      → ((fault : Fault) → fault ≢ NoMemory → P (Err (record { fault = fault; packet = packet }), s))
+      → (s.store.last ≢ clock_end → s.offered ≢ clock_end → P (answer_of (put s.store now packet).0, after_put s (put s.store now packet))) → P (offer s now packet)
+  offer_cases P now packet refused is_put =
+      cond_both (not s.storage) _ _ P (λ off. refused Disabled (λ same. cc same))
+      (λ on. cond_both ((s.store.last == clock_end) || (s.offered == clock_end)) _ _ P (λ late. refused ClockEnd (λ same. cc same))
+      (λ early.
+      let both = or_parts (s.store.last == clock_end) (s.offered == clock_end) early in
+      is_put (eqb-false s.store.last clock_end both.0) (eqb-false s.offered clock_end both.1)))
+
+  -- where it is put it gets a time
+  pub timed_cases : (P : Result Offered Returned × State → Type 0) (now : ℕ) (packet : SpacePacket)
+      → ((fault : Fault) → fault ≢ NoMemory → P (Err (record { fault = fault; packet = packet }), s))
+      → ((new : Stored) → new.packet ≡ packet → P (answer_of (put_timed s.store new).0, after_put s (put_timed s.store new))) → P (offer s now packet)
+  timed_cases P now packet refused is_put =
+      offer_cases P now packet refused (λ last offered. rw (ne_eqb s.store.last clock_end last) (is_put (record { time = max now (s.store.last + 1); packet = packet }) refl))
+
+  -- a retrieval is refused, or begins
+  pub begin_cases : (P : Result (Unit {0}) Fault × State → Type 0) (from to : ℕ) → ((fault : Fault) → fault ≢ NoMemory → P (Err fault, s))
+      → (is_some s.retrieval ≡ false → P (Ok tt, record s { retrieval = Some (record { from = from; to = to; after = 0 }) })) → P (begin s from to)
+  begin_cases P from to refused begun =
+      cond_both (is_some s.retrieval) _ _ P (λ busy. refused Busy (λ same. cc same)) (λ idle. cond_both (ltb to from) _ _ P (λ bad. refused BadRange (λ same. cc same)) (λ forward. begun idle))
+
+  -- no retrieval is on, a packet is found, or the retrieval is over
+  pub next_cases : (P : Result (Option Stored) Fault × State → Type 0) → P (Err Idle, s)
+      → ((r : Retrieval) (p : Stored) → s.retrieval ≡ Some r → first_in r.from r.to r.after s.store.content ≡ Some p → P (Ok (Some p), record s { retrieval = Some (record r { after = p.time }) }))
+      → P (Ok None, record s { retrieval = None }) → P (next s)
+  next_cases P idle found over = by_retrieval s.retrieval refl
+    where
+      by_found : (r : Retrieval) → s.retrieval ≡ Some r → (next : Option Stored) → first_in r.from r.to r.after s.store.content ≡ next → P (give s r next)
+      by_found r on (Some p) is = found r p on is
+      by_found r on None is = over
+
+      by_retrieval : (retrieval : Option Retrieval) → s.retrieval ≡ retrieval → P (next_of s retrieval)
+      by_retrieval (Some r) on = by_found r on _ refl
+      by_retrieval None off = idle
+
+  -- no retrieval is on, or it is ended
+  pub abort_cases : (P : Result (Unit {0}) Fault × State → Type 0) → P (Err Idle, s) → P (Ok tt, record s { retrieval = None }) → P (abort s)
+  abort_cases P idle ended = cond_both (is_some s.retrieval) _ _ P (λ on. ended) (λ off. idle)
+
+  -- a deletion is refused, or is made
+  pub delete_cases : (P : Result ℕ Fault × State → Type 0) (limit : ℕ) → (is_some s.retrieval ≡ true → P (Err Busy, s))
+      → (is_some s.retrieval ≡ false
+      → P (Ok (count_up_to limit s.store.content), record s { store = delete_up_to s.store limit; deleted = s.deleted + count_up_to limit s.store.content })) → P (delete s limit)
+  delete_cases P limit refused made = cond_both (is_some s.retrieval) _ _ P refused made
