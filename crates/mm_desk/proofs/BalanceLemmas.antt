@@ -1,5 +1,5 @@
 -- Every event keeps the sum of the counters.
-use Rattle.std.proofs.Common.{◌+◌, length, arith}
+use Rattle.std.proofs.Common.{arith}
 use Rattle.mm_store.specs.Laws.{LoseAlike}
 use Rattle.mm_store.proofs.ContentLemmas.{count_up_to-kept}
 use Rattle.mm_desk.specs.declared.event.Event.{Event}

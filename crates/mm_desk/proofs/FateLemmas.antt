@@ -1,24 +1,24 @@
 -- What becomes of packets: one event first, then any list of them.
-use Rattle.std.proofs.Common.{◌≡◌, ℕ, ◌+◌, ◌<◌, Bool, true, false, ltb, leb, cond, List, [], ◌∷◌, ◌++◌, length, filter, All, Contains, refl, sym, ap, ◌∙◌, arith, length-append, append_assoc, subst}
-use Rattle.std.specs.Prelude.{Option, Some, None, Result, ◌==◌, ◌||◌, not, is_some, IfSome, IsPermutation}
+use Rattle.std.proofs.Common.{◌≡◌, ℕ, ◌+◌, ◌<◌, Bool, true, ltb, leb, List, [], ◌∷◌, ◌++◌, length, filter, All, Contains, refl, sym, ap, ◌∙◌, arith, length-append, append_assoc, subst}
+use Rattle.std.specs.Prelude.{Option, Some, None, Result, IsPermutation}
 use Rattle.std.specs.List.{find}
-use Rattle.std.proofs.lemmas.Bool.{or_parts, and_parts, both_ways, cond_both, ltb-true}
+use Rattle.std.proofs.lemmas.Bool.{and_parts, cond_both, ltb-true}
 use Rattle.std.proofs.lemmas.Bool.Decides.{nat_tests}
 use Rattle.std.proofs.lemmas.List.Sums.{length-filter}
 use Rattle.std.proofs.lemmas.List.{append-nil, map-append, length-map}
 use Rattle.std.proofs.lemmas.List.Sorted.{IsPermutation-refl, IsPermutation-sym, IsPermutation-trans, IsPermutation-to_front, IsPermutation-append_left, IsPermutation-append_right, IsPermutation-append_comm, IsPermutation-filter_both, IsPermutation-map, All-permutation}
 use Rattle.std.proofs.lemmas.List.Elements.{All-nil, All-cons, All-head, All-tail, All-append, All-weaker, All-contains_itself}
+use Rattle.mm_base.proofs.Elements.{All-unmapped}
 use Rattle.mm_base.proofs.Pairs.{All-front, All-back, AllPairs-append}
 use Rattle.mm_base.specs.declared.kind.Kind.{Kind}
 use Rattle.mm_base.specs.declared.kind.Kind.TheVariants.{Circular, Bounded}
 use Rattle.mm_packet.specs.Packet.{SpacePacket}
 use Rattle.mm_store.specs.declared.stored.Stored.{Stored}
 use Rattle.mm_store.specs.declared.put.Put.{Put}
-use Rattle.mm_store.specs.Content.{Store, clock_end, IsRising, is_in, put_full, put_timed, first_in, kept_after, count_up_to}
+use Rattle.mm_store.specs.Content.{Store, IsRising, is_in, put_full, put_timed, kept_after, count_up_to}
 use Rattle.mm_store.specs.Laws.{handed_back}
 use Rattle.mm_desk.specs.declared.event.Event.{Event}
 use Rattle.mm_desk.specs.declared.event.Event.TheVariants.{Offer, Begin, Next, Abort, Delete, Enable, Disable}
-use Rattle.mm_desk.specs.declared.fault.Fault.{Fault}
 use Rattle.mm_desk.specs.declared.reply.Offered.{Offered}
 use Rattle.mm_desk.specs.declared.reply.Returned.{Returned}
 use Rattle.mm_desk.specs.declared.state.Retrieval.{Retrieval}
@@ -144,17 +144,11 @@ module _ (pool : List SpacePacket) where
   abbrev IsIn : Stored → Type 0
   IsIn p = Contains pool p.packet
 
-  -- the packets of a list are in the pool, and so are those of its pairs
-  pairs_in : (held : List Stored) → All (Contains pool) (packets_of held) → All IsIn held
-  pairs_in [] all = All-nil IsIn
-  pairs_in (p ∷ held) all =
-      All-cons IsIn p held (All-head (Contains pool) p.packet (packets_of held) all) (pairs_in held (All-tail (Contains pool) p.packet (packets_of held) all))
-
   -- what an event gives is in the pool where all that is held is
   given_in : (s : State) (e : Event) → All (Contains pool) (packets_of s.store.content) → All IsIn (given s e)
   given_in s Next held =
       next_cases s (λ r. All IsIn (found_in r.0)) (All-nil IsIn)
-      (λ r p on found. All-cons IsIn p [] (find-some IsIn (is_in r.from r.to r.after) s.store.content p (pairs_in s.store.content held) found).1 (All-nil IsIn)) (All-nil IsIn)
+      (λ r p on found. All-cons IsIn p [] (find-some IsIn (is_in r.from r.to r.after) s.store.content p (All-unmapped (Contains pool) (λ p. p.packet) s.store.content held) found).1 (All-nil IsIn)) (All-nil IsIn)
   given_in s (Offer now packet) held = All-nil IsIn
   given_in s (Begin from to) held = All-nil IsIn
   given_in s Abort held = All-nil IsIn

@@ -1,5 +1,5 @@
 -- Every event leaves a state.
-use Rattle.std.proofs.Common.{ℕ, ◌<◌, ◌^◌, List, [], ◌∷◌, All, arith}
+use Rattle.std.proofs.Common.{◌<◌, ◌^◌, List, [], ◌∷◌, All, arith}
 use Rattle.std.proofs.lemmas.List.Elements.{All-head, All-tail}
 use Rattle.mm_store.specs.Content.{IsStore}
 use Rattle.mm_store.specs.Laws.{PutsKeepStores, DeletionsKeepStores}

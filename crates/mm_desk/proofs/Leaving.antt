@@ -1,6 +1,6 @@
 -- What offers leave and lose.
-use Rattle.std.proofs.Common.{◌≡◌, ℕ, suc, ◌+◌, ◌≤◌, min, ltb, List, [], ◌∷◌, length, refl, ◌∙◌, arith, length-append, rules}
-use Rattle.std.specs.Prelude.{Result, Ok, Err, IsOk, ◌==◌, ◌||◌, not}
+use Rattle.std.proofs.Common.{◌≡◌, ℕ, suc, ◌+◌, ◌≤◌, min, ltb, List, [], ◌∷◌, length, refl, ◌∙◌, subst, arith, length-append, rules}
+use Rattle.std.specs.Prelude.{Result, Ok, Err, IsOk}
 use Rattle.std.proofs.lemmas.Bool.{ltb-true, ltb-false, cond_both}
 use Rattle.std.proofs.lemmas.List.Elements.{All-head, All-tail}
 use Rattle.mm_base.specs.declared.kind.Kind.{Kind}
@@ -8,7 +8,7 @@ use Rattle.mm_base.specs.declared.kind.Kind.TheVariants.{Circular, Bounded}
 use Rattle.mm_packet.specs.Packet.{SpacePacket}
 use Rattle.mm_store.specs.declared.stored.Stored.{Stored}
 use Rattle.mm_store.specs.declared.put.Put.{Put}
-use Rattle.mm_store.specs.Content.{Store, clock_end, put_full, put_timed}
+use Rattle.mm_store.specs.Content.{Store, put_full, put_timed}
 use Rattle.mm_store.specs.Laws.{handed_back}
 use Rattle.mm_desk.specs.declared.entry.Entry.{Entry}
 use Rattle.mm_desk.specs.declared.event.Event.{Event}
@@ -17,7 +17,7 @@ use Rattle.mm_desk.specs.declared.reply.Offered.{Offered}
 use Rattle.mm_desk.specs.declared.reply.Reply.{Reply}
 use Rattle.mm_desk.specs.declared.reply.Reply.TheVariants as reply
 use Rattle.mm_desk.specs.declared.reply.Returned.{Returned}
-use Rattle.mm_desk.specs.Machine.{State, answer_of, after_put, offer, step}
+use Rattle.mm_desk.specs.Machine.{State, after_put, offer, step}
 use Rattle.mm_desk.specs.Offers.{IsTaken, AreTaken, Leaves}
 use Rattle.mm_desk.specs.Runs.{replay, IsLegal}
 use Rattle.mm_desk.proofs.Cases.{timed_cases}
@@ -83,16 +83,12 @@ offer_leaves s now packet fits =
 
 -- an event that is an offer taken leaves one packet more, or a full store
 event_leaves : (s : State) (event : Event) (reply : Reply) → HasRoom s.store → reply ≡ (step s event).0 → IsTaken event reply → Leaves s (step s event).1 1
-event_leaves s (Offer now packet) (reply.Offered (Ok offered)) fits same taken =
-    offer_leaves s now packet fits (by_answer (offer s now packet).0 same)
+event_leaves s (Offer now packet) answered fits same taken =
+    offer_leaves s now packet fits (is_ok (offer s now packet).0 (subst (IsTaken (Offer now packet)) same taken))
   where
-    by_answer : (answer : Result Offered Returned) → reply.Offered (Ok offered) ≡ reply.Offered answer → IsOk answer
-    by_answer (Ok other) equal = search rules
-    by_answer (Err back) equal = cc
-event_leaves s (Offer now packet) (reply.Offered (Err back)) fits same taken = absurd taken
-event_leaves s (Offer now packet) (reply.Done done) fits same taken = absurd taken
-event_leaves s (Offer now packet) (reply.Given given) fits same taken = absurd taken
-event_leaves s (Offer now packet) (reply.Deleted deleted) fits same taken = absurd taken
+    is_ok : (answer : Result Offered Returned) → IsTaken (Offer now packet) (reply.Offered answer) → IsOk answer
+    is_ok (Ok other) accepted = search rules
+    is_ok (Err back) refused = absurd refused
 event_leaves s (Begin from to) reply fits same taken = absurd taken
 event_leaves s Next reply fits same taken = absurd taken
 event_leaves s Abort reply fits same taken = absurd taken

@@ -38,20 +38,6 @@ fn given(time: u64, packet: BlockPacket) -> Reply
 }
 
 impl ReplyCopies {
-    fn done(answer: Result<(), Fault>) -> ReplyCopies
-        ensures answer { result.answer ≡ Reply.Done answer }
-        ensures copies { (result.logged ≡ result.answer) × (result.listed ≡ result.answer) }
-    {
-        copies!(Done, answer)
-    }
-
-    fn deleted(answer: Result<u32, Fault>) -> ReplyCopies
-        ensures answer { result.answer ≡ Reply.Deleted answer }
-        ensures copies { (result.logged ≡ result.answer) × (result.listed ≡ result.answer) }
-    {
-        copies!(Deleted, answer)
-    }
-
     // Copies of a packet that was found, with its time.
     fn given(alloc: Global, time: u64, packet: &BlockPacket) -> Result<ReplyCopies, NoMemory>
         ensures answer { IfOk result (λ c. c.answer ≡ Reply.Given (Ok (Some (record { time = time; packet = packet.now })))) }
@@ -182,17 +168,26 @@ impl StoreState {
     {
         match event {
             Event::Offer(now, packet) => self.tell_offer(alloc, now, packet),
-            Event::Begin(from, to) => Ok(ReplyCopies::done(self.begin(from, to))),
+            Event::Begin(from, to) => {
+                let answer = self.begin(from, to);
+                Ok(copies!(Done, answer))
+            }
             Event::Next => self.tell_next(alloc),
-            Event::Abort => Ok(ReplyCopies::done(self.abort())),
-            Event::Delete(limit) => Ok(ReplyCopies::deleted(self.delete(limit))),
+            Event::Abort => {
+                let answer = self.abort();
+                Ok(copies!(Done, answer))
+            }
+            Event::Delete(limit) => {
+                let answer = self.delete(limit);
+                Ok(copies!(Deleted, answer))
+            }
             Event::Enable => {
                 self.enable();
-                Ok(ReplyCopies::done(Ok(())))
+                Ok(copies!(Done, Ok(())))
             }
             Event::Disable => {
                 self.disable();
-                Ok(ReplyCopies::done(Ok(())))
+                Ok(copies!(Done, Ok(())))
             }
         }
     }
