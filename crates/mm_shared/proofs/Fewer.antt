@@ -9,23 +9,11 @@ use native.Mathlib.Decide.{ℕ_discrete}
 use Rattle.mm_desk.specs.declared.entry.Entry.{Entry}
 use Rattle.mm_desk.specs.Machine.{State}
 use Rattle.mm_desk.specs.Shuffles.{IsShuffle, part}
+use Rattle.mm_desk.proofs.Lone.{none_of}
 use Rattle.mm_shared.specs.Rule.{calls_on}
 use Rattle.mm_shared.specs.Stores.{lists_at}
 use Rattle.mm_shared.specs.Views.{PortView, HasLegalLog}
 use lib.LanesLaws.{map-replicate}
-
--- a seat whose part is empty made no entry
-none_of : (seat : ℕ) (log : List Entry) → part seat log ≡ [] → All (λ (e : Entry). e.seat ≢ seat) log
-none_of seat [] empty = All-nil (λ (e : Entry). e.seat ≢ seat)
-none_of seat (e ∷ log) empty = by_seat (none_of seat log) (ℕ_discrete e.seat seat)
-  where
-    by_seat : (part seat log ≡ [] → All (λ (e : Entry). e.seat ≢ seat) log) → Dec (e.seat ≡ seat) → All (λ (e : Entry). e.seat ≢ seat) (e ∷ log)
-    by_seat others (yes same) =
-        let one : part seat (e ∷ log) ≡ e ∷ part seat log = rw (eq-eqb e.seat seat same) refl in
-        absurd (omega (arith, ap length (sym one ∙ empty)))
-    by_seat others (no other) =
-        let same : part seat (e ∷ log) ≡ part seat log = rw (ne_eqb e.seat seat other) refl in
-        All-cons (λ (e : Entry). e.seat ≢ seat) e log other (others (sym same ∙ empty))
 
 -- a shuffle of lists and of empty ones is a shuffle of the lists
 fewer : (lists : List (List Entry)) (more : ℕ) (log : List Entry) → IsShuffle (lists ++ replicate more []) log → IsShuffle lists log
