@@ -152,17 +152,6 @@ pub fn seat_workers(opened: &mut OpenStores, workers: u32)
     );
 }
 
-// Ends a step: takes all ports back.
-fn end_step(opened: &mut OpenStores)
-    requires opened { AreOpen opened.old }
-    ensures rest { AreAtRest opened.new }
-    ensures labels { labels_of (stores_in opened.new) ≡ names_of opened.old.labels.items }
-    ensures went { HaveLegalLogs opened.old.workers.items opened.old.rest.of.states (states_of (stores_in opened.new)) }
-{
-    take_ports(&opened.stores, &mut opened.rest, &mut opened.workers);
-    opened.stores.settle(&mut opened.rest);
-}
-
 /// Ends a step: takes all ports back. Each store went by a legal log of the workers' calls on it.
 pub fn settle(opened: &mut OpenStores)
     requires opened { AreOpen opened.old }
@@ -171,7 +160,8 @@ pub fn settle(opened: &mut OpenStores)
     ensures went { HaveLegalLogs opened.old.workers.items opened.old.rest.of.states (states_of (stores_in opened.new)) }
     ensures sound { All (λ h. IsState h.state) (stores_in opened.new) }
 {
-    end_step(opened);
+    take_ports(&opened.stores, &mut opened.rest, &mut opened.workers);
+    opened.stores.settle(&mut opened.rest);
     read_states(opened);
 }
 

@@ -1,7 +1,7 @@
 use Rattle.std.proofs.Common.{◌≡◌, ◌⊎◌, inl, inr, ℕ, ◌+◌, ◌<◌, Bool, false, List, [], ◌∷◌, ◌++◌, length, take, get_or, set, sym, ap, ◌∙◌, subst, arith, IsTrue}
 use Rattle.std.specs.Prelude.{slice_index_or}
 use Rattle.std.specs.Slots.{slots_items, slots_len, slots_filled, slots_counts}
-use Rattle.std.proofs.lemmas.Bool.{cases_order}
+use borrow.Author.Count.{below_more}
 use Rattle.std.proofs.lemmas.List.{get_or-set_same, get_or-set_other, length-take-le, take_more}
 use Rattle.std.proofs.lemmas.List.Elements.{All-push}
 use Rattle.mm_desk.specs.declared.held.Held.{Held}
@@ -31,7 +31,11 @@ loop-k-preserved c =
       full = λ j from within.
           subst (λ (bs : List Bool). IsTrue (slice_index_or bs j false)) (sym c.take_state-state.ensures.filled)
           (subst IsTrue (sym (get_or-set_other (slots_filled c.loop-k.closed.slots) k j false false (λ same. omega arith))) (before.full j (omega arith) within));
-      taken = λ j upto. ap (λ (bs : List Bool). slice_index_or bs j false) c.take_state-state.ensures.filled ∙ by_order j upto (cases_order j k);
+      taken = λ j upto.
+          ap (λ (bs : List Bool). slice_index_or bs j false) c.take_state-state.ensures.filled
+          ∙ below_more (λ (n : ℕ). get_or (set (slots_filled c.loop-k.closed.slots) k false) n false ≡ false) k
+          (λ n earlier. get_or-set_other (slots_filled c.loop-k.closed.slots) k n false false (λ same. omega arith) ∙ before.taken n earlier)
+          (get_or-set_same (slots_filled c.loop-k.closed.slots) k false false in_filled) j upto;
       count = omega (arith, c.push_reserved.ensures.len, before.count);
       same = c.push_reserved.ensures.items
           ∙ (ap (λ (hs : List Held). hs ++ pushed ∷ []) before.same
@@ -43,11 +47,3 @@ loop-k-preserved c =
           (All-push (λ (h : Held). IsState h.state) c.loop-k.stores.items pushed before.sound c.take_state-state.ensures.sound);
       room = c.push_reserved.ensures.capacity ∙ before.room;
     }
-  where
-    by_order : (j : ℕ) → j < c.loop-k.k + 1 → (j ≡ c.loop-k.k) ⊎ ((j < c.loop-k.k) ⊎ (c.loop-k.k < j)) → get_or (set (slots_filled c.loop-k.closed.slots) c.loop-k.k false) j false ≡ false
-    by_order j upto (inl here) =
-        ap (λ (i : ℕ). get_or (set (slots_filled c.loop-k.closed.slots) c.loop-k.k false) i false) here
-        ∙ get_or-set_same (slots_filled c.loop-k.closed.slots) c.loop-k.k false false (omega (arith, c.loop-k.invariant.many, (slots_counts c.loop-k.closed.slots).1, c.loop-k-test.true, c.loop-k.auto.k-end))
-    by_order j upto (inr (inl before)) =
-        get_or-set_other (slots_filled c.loop-k.closed.slots) c.loop-k.k j false false (λ same. omega arith) ∙ c.loop-k.invariant.taken j before
-    by_order j upto (inr (inr after)) = absurd (omega arith)
