@@ -82,9 +82,7 @@ module _ (s : State) where
   parted limit held =
       let both = IsPermutation-filter_both (λ (p : Stored). leb p.time limit) (λ (p : Stored). ltb limit p.time) (λ p. grind (arith, nat_tests)) held in
       let mapped = IsPermutation-map (λ (p : Stored). p.packet) _ _ both in
-      let split = map-append (λ (p : Stored). p.packet) (filter (λ p. leb p.time limit) held) (kept_after limit held) in
-      subst (λ l. IsPermutation l (packets_of (filter (λ p. leb p.time limit) held) ++ packets_of (kept_after limit held) ++ [])) (sym (append-nil (packets_of held)))
-      (subst (IsPermutation (packets_of held)) (split ∙ sym (append-nil _)) mapped)
+      simp append-nil (simp map-append at mapped)
 
   -- as many packets are deleted as are counted
   counted : (limit : ℕ) (held : List Stored) → count_up_to limit held ≡ length (packets_of (filter (λ p. leb p.time limit) held))
@@ -107,19 +105,11 @@ module _ {X : Type 0} (held took gone kept left more deleted last out : List X) 
   pub joined : IsPermutation (held ++ took) (gone ++ kept ++ left) → IsPermutation (kept ++ more) (deleted ++ last ++ out)
       → IsPermutation (held ++ (took ++ more)) (gone ++ deleted ++ last ++ (left ++ out))
   joined first second =
-      let widened : IsPermutation (held ++ (took ++ more)) (gone ++ (kept ++ (left ++ more))) =
-      subst (λ l. IsPermutation l (gone ++ (kept ++ (left ++ more)))) (append_assoc held took more)
-      (subst (IsPermutation (held ++ took ++ more)) (append_assoc (gone ++ kept) left more ∙ append_assoc gone kept (left ++ more)) (IsPermutation-append_left more _ _ first)) in
-      let turned : IsPermutation (gone ++ (kept ++ (left ++ more))) (gone ++ (kept ++ more ++ left)) =
-      subst (λ l. IsPermutation (gone ++ (kept ++ (left ++ more))) (gone ++ l)) (sym (append_assoc kept more left))
-      (IsPermutation-append_right gone _ _ (IsPermutation-append_right kept _ _ (IsPermutation-append_comm left more))) in
-      let moved : IsPermutation (gone ++ (kept ++ more ++ left)) (gone ++ (deleted ++ last ++ (out ++ left))) =
-      subst (λ l. IsPermutation (gone ++ (kept ++ more ++ left)) (gone ++ l)) (append_assoc (deleted ++ last) out left)
-      (IsPermutation-append_right gone _ _ (IsPermutation-append_left left _ _ second)) in
-      let back : IsPermutation (gone ++ (deleted ++ last ++ (out ++ left))) (gone ++ deleted ++ last ++ (left ++ out)) =
-      subst (IsPermutation (gone ++ (deleted ++ last ++ (out ++ left)))) (sym (append_assoc gone (deleted ++ last) (left ++ out)) ∙ ap (λ l. l ++ (left ++ out)) (sym (append_assoc gone deleted last)))
-      (IsPermutation-append_right gone _ _ (IsPermutation-append_right (deleted ++ last) _ _ (IsPermutation-append_comm out left))) in
-      IsPermutation-trans _ _ _ widened (IsPermutation-trans _ _ _ turned (IsPermutation-trans _ _ _ moved back))
+      let widened = simp append_assoc at (IsPermutation-append_left more _ _ first) in
+      let turned = IsPermutation-append_right gone _ _ (IsPermutation-append_right kept _ _ (IsPermutation-append_comm left more)) in
+      let moved = simp append_assoc at (IsPermutation-append_right gone _ _ (IsPermutation-append_left left _ _ second)) in
+      let back = simp append_assoc at (IsPermutation-append_right gone _ _ (IsPermutation-append_right (deleted ++ last) _ _ (IsPermutation-append_comm out left))) in
+      simp append_assoc (IsPermutation-trans _ _ _ widened (IsPermutation-trans _ _ _ turned (IsPermutation-trans _ _ _ moved back)))
 
 pub conserved : (s : State) (es : List Event) → IsConserved s es
 conserved s [] = record { packets = IsPermutation-refl _; lost = omega arith; deleted = omega arith }

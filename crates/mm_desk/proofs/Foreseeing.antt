@@ -2,6 +2,7 @@
 use Rattle.std.proofs.Common.{◌≡◌, ℕ, ◌+◌, ◌<◌, ◌≤◌, true, List, [], ◌∷◌, length, max, All, refl, sym, ap, ◌∙◌, arith}
 use Rattle.std.specs.Prelude.{Option, Some, None, Result, Ok}
 use Rattle.std.proofs.lemmas.Bool.{lt-ltb, le-ltb, le-leb, ne_eqb, and_from}
+use Rattle.std.proofs.lemmas.Bool.Decides.{nat_tests}
 use Rattle.std.proofs.lemmas.List.Elements.{All-head}
 use Rattle.mm_base.specs.declared.kind.Kind.{Kind}
 use Rattle.mm_base.specs.declared.kind.Kind.TheVariants.{Circular}
@@ -25,8 +26,7 @@ by_content s new [] from_one up_to_last fits = refl
 by_content s new (x ∷ xs) from_one up_to_last fits =
     let first : 1 ≤ x.time = All-head (λ (p : Stored). 1 ≤ p.time) x xs from_one in
     let last : x.time ≤ s.last = All-head (λ (p : Stored). p.time ≤ s.last) x xs up_to_last in
-    let here : is_in 0 clock_end 0 x ≡ true =
-    and_from _ _ (and_from _ _ (le-leb 0 x.time (omega arith)) (le-leb x.time clock_end (omega arith))) (lt-ltb 0 x.time first) in
+    let here : is_in 0 clock_end 0 x ≡ true = grind (arith, nat_tests) in
     rw here
 
 -- what an offer to a full circular store is answered, before the end of the clock

@@ -120,8 +120,7 @@ first_past after (x ∷ xs) rest early =
 first_next : (after : ℕ) (x : Stored) (xs : List Stored) → Rises after (x ∷ xs) → first_in 1 clock_end after (x ∷ xs) ≡ Some x
 first_next after x xs rises =
     let first = Rises-rest after x xs rises in
-    let here : is_in 1 clock_end after x ≡ true =
-    and_from _ _ (and_from _ _ (le-leb 1 x.time (omega (arith, first.0))) (le-leb x.time clock_end first.1)) (lt-ltb after x.time first.0) in
+    let here : is_in 1 clock_end after x ≡ true = grind (arith, nat_tests, first.0, first.1) in
     rw here
 
 module _ (s : State) where
