@@ -7,14 +7,14 @@ use mathlib.Core.Option.{none, some, some-ne-none}
 use mathlib.Core.Option as slot
 use native.Mathlib.Decide.{ℕ_discrete}
 use lib.ListN.{get_elem?}
-use Rattle.atomic_table.specs.Table.{State as Table, Act, step as step_of, keeps, takes, gives, stepped, carried_after, rest, opening, Valid, Allows, Final, Seen}
+use Rattle.atomic_table.specs.Table.{Act, step as step_of, keeps, takes, gives, stepped, carried_after, rest, opening, Valid, Allows, Final, Seen}
 use Rattle.mm_desk.specs.declared.entry.Entry.{Entry}
 use Rattle.mm_desk.specs.declared.event.Event.{Event}
 use Rattle.mm_desk.specs.declared.reply.Reply.{Reply}
 use Rattle.mm_desk.specs.Machine.{State}
 use Rattle.mm_desk.specs.Runs.{opening_at, blank}
 use Rattle.mm_shared.specs.declared.rule.Knows.{Knows}
-use Rattle.mm_shared.specs.Rule.{Owns, Fits, Stands, Keeps, IsKept, all_seats, calls_on, held_of, held_by}
+use Rattle.mm_shared.specs.Rule.{Owns, Fits, Stands, Keeps, IsKept, all_seats, calls_on, held_by}
 use Rattle.mm_shared.specs.Steps.{Seated, IsAtRest, HasCalled, IsAsTaken, AreAll, IsTakenByAll, IsSettled, called, at_rest, tried}
 use Rattle.mm_shared.specs.Views.{HasLegalLog}
 use Rattle.mm_shared.proofs.Ending.{ends}

@@ -1,13 +1,10 @@
 -- Stores are parted into labels and states, and put together again.
-use Rattle.std.proofs.Common.{◌≡◌, ℕ, suc, List, [], ◌∷◌, ◌++◌, length, map, drop, refl, sym, ap, ◌∙◌, arith}
+use Rattle.std.proofs.Common.{◌≡◌, ℕ, List, [], ◌∷◌, ◌++◌, length, map, drop, refl, sym, ap, ◌∙◌, arith}
 use Rattle.std.proofs.lemmas.List.{length-map}
-use Rattle.mm_desk.specs.declared.entry.Entry.{Entry}
 use Rattle.mm_desk.specs.declared.held.Held.{Held}
 use Rattle.mm_desk.specs.Machine.{State}
 use Rattle.mm_shared.specs.declared.label.StoreLabel.{StoreLabel}
-use Rattle.mm_shared.specs.Rule.{calls_on}
-use Rattle.mm_shared.specs.Views.{PortView}
-use Rattle.mm_shared.specs.Stores.{held_stores, label_of, labels_of, lists_at, names_of, states_of}
+use Rattle.mm_shared.specs.Stores.{held_stores, label_of, labels_of, names_of, states_of}
 
 -- a store under a label
 abbrev pub under : StoreLabel → State → Held

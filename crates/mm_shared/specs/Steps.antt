@@ -5,12 +5,11 @@ use Rattle.atomic_table.specs.Table.{Me, Step}
 use Rattle.atomic_table.specs.Seated.{TableId}
 use Rattle.mm_desk.specs.declared.event.Event.{Event}
 use Rattle.mm_desk.specs.declared.reply.Reply.{Reply}
-use Rattle.mm_desk.specs.Machine.{State, IsState, step}
+use Rattle.mm_desk.specs.Machine.{State, step}
 use Rattle.mm_desk.specs.Runs.{entry, opening_at}
 use Rattle.mm_shared.specs.declared.rule.Knows.{Knows}
-use Rattle.mm_shared.specs.declared.tally.Tally.{Tally}
 use Rattle.mm_shared.specs.Rule.{knows, all_seats, calls_on}
-use Rattle.mm_shared.specs.Views.{HasLegalLog, HaveLogs, tally_of}
+use Rattle.mm_shared.specs.Views.{HasLegalLog, HaveLogs}
 
 -- a seat of a shared store: what it knows, and what it has of the slot
 abbrev pub Seated : Type 0

@@ -36,10 +36,6 @@ pub record PortsView : Type 0 where
   pub first : ℕ
   pub lists : List (List (ℕ × Entry))
 
--- a port through which no call was made
-abbrev pub new_port : Origin → ℕ → PortView
-new_port of number = record { of = of; number = number; list = [] }
-
 -- a port with one call more in its list
 abbrev pub with_call : PortView → ℕ → Event → Reply → PortView
 with_call port k event reply = record port { list = port.list ++ (k, entry port.number event reply) ∷ [] }
