@@ -1,6 +1,6 @@
 -- The first offers of what sources give.
-use Rattle.std.proofs.Common.{◌≡◌, ℕ, zero, suc, ◌<◌, List, [], ◌∷◌, ◌++◌, length, map, refl, sym, ap, ◌∙◌, append_assoc}
-use Rattle.std.specs.Prelude.{Option, Some, None, IfSome, IfNone, slice_index_or}
+use Rattle.std.proofs.Common.{◌≡◌, ℕ, ◌<◌, List, [], ◌∷◌, ◌++◌, length, map, sym, ap, ◌∙◌, append_assoc}
+use Rattle.std.specs.Prelude.{Option, Some, None, IfSome, IfNone}
 use Rattle.std.specs.List.{AllZip}
 use Rattle.std.proofs.lemmas.List.{append-nil}
 use Rattle.mm_packet.specs.Packet.{SpacePacket}
@@ -11,17 +11,6 @@ use Rattle.mm_record.specs.Recorded.{RecordingContext, offers}
 use Rattle.mm_record.proofs.Offers.{offers_more}
 use Rattle.mm_record.specs.Steps.{given_in, RecorderRun, StoppedEarly, IsRecorderRun, AreRecorderRuns}
 use Rattle.mm_exec.specs.Halts.{AreFirstOffers}
-
--- no offer was made of what sources gave
-pub none_first : (e : RecordingContext) (k : ℕ) (given : List (List SpacePacket)) → AllZip (AreFirstOffers e k) given (map {B = List Event} (λ g. []) given)
-none_first e k [] = tt
-none_first e k (g ∷ given) = ((offers e k g, refl), none_first e k given)
-
-pub none_listed : (given : List (List SpacePacket)) (seat : ℕ) → [] ≡ slice_index_or (map {B = List Event} (λ g. []) given) seat []
-none_listed [] zero = refl
-none_listed [] (suc seat) = refl
-none_listed (g ∷ given) zero = refl
-none_listed (g ∷ given) (suc seat) = none_listed given seat
 
 -- all offers were made of what sources gave
 pub all_first : (e : RecordingContext) (k : ℕ) (given : List (List SpacePacket)) → AllZip (AreFirstOffers e k) given (map (offers e k) given)

@@ -4,7 +4,6 @@ use Rattle.std.specs.Prelude.{Option, Some, None, sum_by}
 use Rattle.std.specs.List.{AllZip}
 use Rattle.std.proofs.lemmas.Bool.{cases_lt}
 use Rattle.std.proofs.lemmas.List.{length-map, append-nil}
-use Rattle.std.proofs.lemmas.List.Elements.{All-nil}
 use Rattle.mm_packet.specs.Packet.{SpacePacket}
 use Rattle.mm_desk.specs.declared.entry.Entry.{Entry}
 use Rattle.mm_desk.specs.declared.event.Event.{Event}
@@ -39,7 +38,7 @@ use Rattle.mm_exec.specs.declared.step.StepBroken.{StepBroken}
 use Rattle.mm_exec.specs.Step.{StepRecorded, OrdersBroke, StepBroke, dump_cause}
 use Rattle.mm_exec.proofs.Failing.{links_failed}
 use Rattle.mm_exec.proofs.Parts.{as_many, same_ids, by_how}
-use Rattle.mm_exec.proofs.Firsts.{none_first, none_listed, all_first, first_turns}
+use Rattle.mm_exec.proofs.Firsts.{all_first, first_turns}
 use Rattle.mm_exec.proofs.StoresReady.{state_holds}
 
 -- recorders know nothing of links
@@ -86,12 +85,6 @@ then_nothing e given orders k s t firsts are log run shuffle = record {
   shuffle = shuffle;
   order = inl refl;
 }
-
--- a store that was left alone
-left_alone : (e : RecordingContext) (given : List (List SpacePacket)) (orders : List Order) (k : ℕ) (s : State) → IsByOneLog e given orders k s s
-left_alone e given orders k s =
-    then_nothing e given orders k s s (map {B = List Event} (λ g. []) given) (none_first e k given) [] (record { legal = tt; leaves = refl })
-    (record { below = All-nil _; parts = λ seat within. none_listed given seat })
 
 module _ {L : Type 0} (sent : L → List Sent) (failed : L → ℕ) (step now : ℕ) (routes : List RouteRow) (orders : List Order)
     (before after : RunState Supply L) (stop : StepBroken) (k : ℕ) (within : k < length before.stores) where

@@ -43,11 +43,6 @@ same_ids xs ys same =
 pub as_many : (xs ys : List Held) → labels_of xs ≡ labels_of ys → length xs ≡ length ys
 as_many xs ys same = sym (length-map xs (λ (h : Held). (h.id, h.channel))) ∙ ap length same ∙ length-map ys (λ (h : Held). (h.id, h.channel))
 
--- sources that gave nothing keep all
-pub keep_same : (step : ℕ) (xs : List Supply) → AllZip (KeepsRest step) xs xs
-keep_same step [] = tt
-keep_same step (x ∷ xs) = (([], refl), keep_same step xs)
-
 -- sources of recorders keep the rest
 pub keep_turns : (e : RecordingContext) (xs ys : List Supply) (turns : List RecorderRun) → AreRecorderRuns e xs ys turns
     → AllZip (KeepsRest e.step) xs ys
