@@ -1,6 +1,6 @@
 -- What became of the packets of a run: a log of offers, the log's seats, a step run, and then one step after another.
 use Rattle.std.proofs.Common.{◌≡◌, ◌≢◌, ◌⊎◌, inl, inr, ℕ, zero, suc, ◌+◌, ◌-◌, ◌<◌, ◌≤◌, List, [], ◌∷◌, ◌++◌, length, get_or, refl, sym, ap, subst, ◌∙◌, arith, length-append, append_assoc}
-use Rattle.std.specs.Prelude.{Ok, Err, flat_map, IsPermutation}
+use Rattle.std.specs.Prelude.{Ok, flat_map, IsPermutation}
 use Rattle.std.proofs.lemmas.Bool.{cases_lt, eq-eqb, ne_eqb}
 use Rattle.std.proofs.lemmas.List.{append-nil, map-append, get_or_append_left}
 use Rattle.std.proofs.lemmas.List.Elements.{All-head, All-tail}
@@ -12,7 +12,7 @@ use Rattle.mm_store.specs.declared.stored.Stored.{Stored}
 use Rattle.mm_store.specs.Content.{IsRising}
 use Rattle.mm_desk.specs.declared.entry.Entry.{Entry}
 use Rattle.mm_desk.specs.declared.event.Event.{Event}
-use Rattle.mm_desk.specs.declared.event.Event.TheVariants.{Offer, Begin, Next, Abort, Delete, Enable, Disable}
+use Rattle.mm_desk.specs.declared.event.Event.TheVariants.{Offer}
 use Rattle.mm_desk.specs.declared.reply.Reply.{Reply}
 use Rattle.mm_desk.specs.declared.reply.Reply.TheVariants as reply
 use Rattle.mm_desk.specs.Fates.{packets_of, accepted, taken, given_up, deleted, after, over, ConservePackets}
@@ -39,16 +39,7 @@ takes_by packet other = []
 
 by_event : (s : State) (event : Event) (answer : Reply) → IsTaken event answer → answer ≡ (step s event).0 → TakesAlone s event
 by_event s (Offer now packet) (reply.Offered (Ok offered)) taken is = record { takes = sym (ap (takes_by packet) is); deletes = refl }
-by_event s (Offer now packet) (reply.Offered (Err back)) taken is = absurd taken
-by_event s (Offer now packet) (reply.Done done) taken is = absurd taken
-by_event s (Offer now packet) (reply.Given given) taken is = absurd taken
-by_event s (Offer now packet) (reply.Deleted count) taken is = absurd taken
-by_event s (Begin from to) answer taken is = absurd taken
-by_event s Next answer taken is = absurd taken
-by_event s Abort answer taken is = absurd taken
-by_event s (Delete limit) answer taken is = absurd taken
-by_event s Enable answer taken is = absurd taken
-by_event s Disable answer taken is = absurd taken
+by_event s event answer taken is = absurd taken
 
 -- what a legal log of offers that are taken does
 record Takes (s : State) (log : List Entry) : Type 0 where

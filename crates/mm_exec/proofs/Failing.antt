@@ -142,11 +142,8 @@ module _ {L : Type 0} (sent : L → List Sent) (failed : L → ℕ) (ids : List 
   tried_many : (places : List (List ℕ)) (olds news : List L) → AllTried sent failed ids course places olds news → length places ≡ length olds
   unfolding AllTried
   tried_many [] [] [] tried = refl
-  tried_many [] [] (n ∷ ns) tried = absurd tried
-  tried_many [] (o ∷ os) ns tried = absurd tried
-  tried_many (p ∷ ps) [] ns tried = absurd tried
-  tried_many (p ∷ ps) (o ∷ os) [] tried = absurd tried
   tried_many (p ∷ ps) (o ∷ os) (n ∷ ns) tried = ap suc (tried_many ps os ns tried.1)
+  tried_many places olds news tried = absurd tried
 
   -- what is known of one link
   record OneLink (places : List ℕ) (old new : List Sent) (before after : ℕ) : Type 0 where
@@ -158,10 +155,6 @@ module _ {L : Type 0} (sent : L → List Sent) (failed : L → ℕ) (ids : List 
       → OneLink (slice_index_or places l []) (slice_index_or (map sent olds) l []) (slice_index_or (map sent news) l []) (slice_index_or (map failed olds) l 0) (slice_index_or (map failed news) l 0)
   unfolding AllTried
   one_link [] [] [] tried mild l within = absurd (omega arith)
-  one_link [] [] (n ∷ ns) tried mild l within = absurd tried
-  one_link [] (o ∷ os) ns tried mild l within = absurd tried
-  one_link (p ∷ ps) [] ns tried mild l within = absurd tried
-  one_link (p ∷ ps) (o ∷ os) [] tried mild l within = absurd tried
   one_link (p ∷ ps) (o ∷ os) (n ∷ ns) tried mild zero within = record {
     grew = tried.0.all;
     failures = tried.0.failures;
@@ -169,6 +162,7 @@ module _ {L : Type 0} (sent : L → List Sent) (failed : L → ℕ) (ids : List 
   }
   one_link (p ∷ ps) (o ∷ os) (n ∷ ns) tried mild (suc l) within =
       one_link ps os ns tried.1 (mild_both (worst_of (whys course p)) (worst_at course ps) mild).1 l (omega arith)
+  one_link places olds news tried mild l within = absurd tried
 
   -- the last order of some link broke
   some_broke : (places : List (List ℕ)) → worst_at course places ≡ Some broken.LinkFailed

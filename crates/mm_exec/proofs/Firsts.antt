@@ -44,9 +44,6 @@ pub first_turns : (e : RecordingContext) (xs ys : List Supply) (turns : List Rec
     → AllZip (AreFirstOffers e k) (given_in e.step xs) (map (λ turn. turn.offered k) turns)
 unfolding AreRecorderRuns
 first_turns e [] [] [] k had within = tt
-first_turns e [] [] (turn ∷ turns) k had within = absurd had
-first_turns e [] (y ∷ ys) turns k had within = absurd had
-first_turns e (x ∷ xs) [] turns k had within = absurd had
-first_turns e (x ∷ xs) (y ∷ ys) [] k had within = absurd had
 first_turns e (x ∷ xs) (y ∷ ys) (turn ∷ turns) k had within =
     (first_turn e x y turn k had.0 within, first_turns e xs ys turns k had.1 within)
+first_turns e xs ys turns k had within = absurd had

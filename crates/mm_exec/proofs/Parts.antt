@@ -48,10 +48,8 @@ pub keep_turns : (e : RecordingContext) (xs ys : List Supply) (turns : List Reco
     → AllZip (KeepsRest e.step) xs ys
 unfolding AreRecorderRuns
 keep_turns e [] [] turns had = tt
-keep_turns e [] (y ∷ ys) turns had = absurd had
-keep_turns e (x ∷ xs) [] turns had = absurd had
-keep_turns e (x ∷ xs) (y ∷ ys) [] had = absurd had
 keep_turns e (x ∷ xs) (y ∷ ys) (turn ∷ turns) had = ((turn.gave, had.0.order), keep_turns e xs ys turns had.1)
+keep_turns e xs ys turns had = absurd had
 
 -- sources that have nothing left gave all
 pub keep_none : (step : ℕ) (xs ys : List Supply) → length ys ≡ length xs → All (λ s. s step ≡ []) ys

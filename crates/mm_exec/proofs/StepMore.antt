@@ -63,13 +63,10 @@ module _ {L : Type 0} (sent : L → List Sent) (failed : L → ℕ) (ids : List 
   pub took_of : (places : List (List ℕ)) (olds news : List L) → AllTook sent failed ids gave places olds news → Took places olds news
   unfolding AllTook
   took_of [] [] [] took = record { many = refl; lists = λ l within. absurd (omega arith); failures = refl }
-  took_of [] [] (n ∷ ns) took = absurd took
-  took_of [] (o ∷ os) ns took = absurd took
-  took_of (p ∷ ps) [] ns took = absurd took
-  took_of (p ∷ ps) (o ∷ os) [] took = absurd took
   took_of (p ∷ ps) (o ∷ os) (n ∷ ns) took =
       let rest = took_of ps os ns took.2 in
       record { many = ap suc rest.many; lists = one_more p ps o n os ns took.0 rest.lists; failures = λ i. took.1 i ∷ rest.failures i }
+  took_of places olds news took = absurd took
 
 -- a function that is changed at one number
 abbrev extend : {X : Type 0} → ℕ → X → (ℕ → X) → ℕ → X

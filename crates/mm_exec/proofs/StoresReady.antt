@@ -118,11 +118,10 @@ ready_recorded e before mid ready recorded =
 -- the first of the offers of sources are offers at the moment
 firsts_by : (e : RecordingContext) (k : ℕ) (given : List (List SpacePacket)) (firsts : List (List Event)) → AllZip (AreFirstOffers e k) given firsts → AreBy e.now firsts
 firsts_by e k [] [] are = All-nil (λ (list : List Event). All (IsBy e.now) list)
-firsts_by e k [] (f ∷ fs) are = absurd are
-firsts_by e k (g ∷ gs) [] are = absurd are
 firsts_by e k (g ∷ gs) (f ∷ fs) are =
     All-cons (λ (list : List Event). All (IsBy e.now) list) f fs
     (All-front (IsBy e.now) f are.0.0 (subst (All (IsBy e.now)) are.0.1 (offers_by e.now (filter (is_routed e.routes (id_at e.ids k)) g)))) (firsts_by e k gs fs are.1)
+firsts_by e k given firsts are = absurd are
 
 -- stores at which recorders stopped early are ready
 ready_stopped : (e : RecordingContext) (stores left : List Held) (sources sources_left : List Supply) (why : Option Fault)
