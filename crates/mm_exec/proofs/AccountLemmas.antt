@@ -1,5 +1,5 @@
 -- What became of the packets of a run: a log of offers, the log's seats, a step run, and then one step after another.
-use Rattle.std.proofs.Common.{◌≡◌, ◌≢◌, ◌⊎◌, inl, inr, ℕ, zero, suc, ◌+◌, ◌-◌, ◌<◌, ◌≤◌, List, [], ◌∷◌, ◌++◌, length, get_or, refl, sym, ap, subst, ◌∙◌, arith, length-append, append_assoc}
+use Rattle.std.proofs.Common.{◌≡◌, ◌≢◌, inl, inr, ℕ, zero, suc, ◌+◌, ◌-◌, ◌<◌, ◌≤◌, List, [], ◌∷◌, ◌++◌, length, get_or, refl, sym, ap, subst, ◌∙◌, arith, length-append, append_assoc}
 use Rattle.std.specs.Prelude.{Ok, flat_map, IsPermutation}
 use Rattle.std.proofs.lemmas.Bool.{cases_lt, eq-eqb, ne_eqb}
 use Rattle.std.proofs.lemmas.List.{append-nil, map-append, get_or_append_left}
@@ -84,13 +84,11 @@ module _ {X : Type 0} (f g : ℕ → List X) (x : List X) (j : ℕ) (here : f j 
   -- what one seat has more stands first
   more_at : (n : ℕ) → j < n → IsPermutation (over_seats f n) (x ++ over_seats g n)
   more_at zero within = absurd (omega arith)
-  more_at (suc n) within = by_place (more_at n) (cases_lt j n)
-    where
-      by_place : (j < n → IsPermutation (over_seats f n) (x ++ over_seats g n)) → (j < n) ⊎ (n ≤ j) → IsPermutation (over_seats f n ++ f n) (x ++ (over_seats g n ++ g n))
-      by_place earlier (inl before) =
+  more_at (suc n) within = elim (cases_lt j n) [
+    | inl before ↦
           subst (λ l. IsPermutation (over_seats f n ++ l) (x ++ (over_seats g n ++ g n))) (sym (others n (λ same. omega (arith, same))))
-          (subst (IsPermutation (over_seats f n ++ g n)) (append_assoc x (over_seats g n) (g n)) (IsPermutation-append_left (g n) _ _ (earlier before)))
-      by_place earlier (inr last) =
+          (subst (IsPermutation (over_seats f n ++ g n)) (append_assoc x (over_seats g n) (g n)) (IsPermutation-append_left (g n) _ _ (more_at n before)))
+    | inr last ↦
           let at : n ≡ j = omega arith in
           let front : over_seats f n ≡ over_seats g n = over_seats-same f g n (λ k early. others k (λ same. omega (arith, same))) in
           let back : f n ≡ x ++ g n = ap f at ∙ here ∙ ap (λ k. x ++ g k) (sym at) in
@@ -98,6 +96,7 @@ module _ {X : Type 0} (f g : ℕ → List X) (x : List X) (j : ℕ) (here : f j 
           subst (λ l. IsPermutation l (x ++ (over_seats g n ++ g n))) (sym whole)
           (subst (IsPermutation (over_seats g n ++ x ++ g n)) (append_assoc x (over_seats g n) (g n))
           (IsPermutation-append_left (g n) _ _ (IsPermutation-append_comm (over_seats g n) x)))
+  ]
 
 -- what the seats of a log asked, seat by seat
 parted : (n : ℕ) (log : List Entry) → AreBelow n log → IsPermutation (packets_in (asked log)) (over_seats (λ k. packets_in (asked (part k log))) n)
@@ -173,9 +172,8 @@ module _ (conserve : ConservePackets) (leave : OffersLeave) (keep : ReplaysKeepS
         lost = before.lost ++ here.lost;
         packets = joined (packets_of (states s 0).store.content) _ _ (packets_of (states s n).store.content) _ _ _ _ _ before.packets here.packets;
         counted = omega (arith, before.counted, here.counted, length-append before.lost here.lost);
-        rising = λ t first last. by_step before.rising here.rising t first (cases_lt t (suc n)) last;
+        rising = λ t first last. elim (cases_lt t (suc n)) [
+          | inl earlier ↦ before.rising t first (omega arith)
+          | inr at ↦ let same : suc n ≡ t = omega arith in subst (λ (m : ℕ). IsRising (gave s m)) same here.rising
+        ];
       }
-    where
-      by_step : ((t : ℕ) → 1 ≤ t → t ≤ n → IsRising (gave s t)) → IsRising (gave s (suc n)) → (t : ℕ) → 1 ≤ t → (t < suc n) ⊎ (suc n ≤ t) → t ≤ suc n → IsRising (gave s t)
-      by_step early here t first (inl before) last = early t first (omega arith)
-      by_step early here t first (inr at) last = let same : suc n ≡ t = omega arith in subst (λ (m : ℕ). IsRising (gave s m)) same here

@@ -1,5 +1,5 @@
 -- What is given in a step that a plan fits, and draws from its window, which is not passed.
-use Rattle.std.proofs.Common.{◌≡◌, ◌⊎◌, inl, inr, ℕ, zero, suc, ◌+◌, ◌*◌, ◌<◌, ◌≤◌, cond, eqb, List, [], ◌∷◌, length, get_or, All, refl, sym, ap, ◌∙◌, arith}
+use Rattle.std.proofs.Common.{◌≡◌, inl, inr, ℕ, zero, suc, ◌+◌, ◌*◌, ◌<◌, ◌≤◌, cond, eqb, List, [], ◌∷◌, length, get_or, All, refl, sym, ap, ◌∙◌, arith}
 use Rattle.std.specs.List.{sum_by, count_by, range_with_len}
 use Rattle.std.proofs.lemmas.Bool.{cases_lt}
 use Rattle.mm_base.proofs.Tests.{cond-eqb_same, cond-eqb_other}
@@ -37,11 +37,10 @@ by_store n draws known =
 
 -- an order is given no more than it wants
 given_within : (wanted : ℕ) (gave : List Stored) (calls : List Entry) → IsDumpOf wanted gave calls → length gave ≤ wanted
-given_within wanted gave calls is = by_wanted (cases_lt 0 wanted)
-  where
-    by_wanted : (0 < wanted) ⊎ (wanted ≤ 0) → length gave ≤ wanted
-    by_wanted (inl some) = (is.whole (omega arith)).1.most
-    by_wanted (inr none) = let nothing = ap length (is.none (omega arith)).0 in omega (arith, nothing)
+given_within wanted gave calls is = elim (cases_lt 0 wanted) [
+  | inl some ↦ (is.whole (omega arith)).1.most
+  | inr none ↦ let nothing = ap length (is.none (omega arith)).0 in omega (arith, nothing)
+]
 
 -- amounts that are no larger fit where a plan does
 fits_less : (q : Dumping) (x y : Amounts) (t : ℕ) → FitsAt q x t → ((s : ℕ) → s < length q.rows → y s t ≤ x s t) → FitsAt q y t

@@ -1,10 +1,11 @@
 -- What each link did in a step that a failed link halted.
-use Rattle.std.proofs.Common.{◌≡◌, ◌≢◌, ◌⊎◌, inl, inr, ℕ, zero, suc, ◌+◌, ◌<◌, Bool, true, false, cond, eqb, List, [], ◌∷◌, ◌++◌, length, map, All, refl, sym, ap, subst, ◌∙◌, arith}
+use Rattle.std.proofs.Common.{◌≡◌, ◌⊎◌, inl, inr, ℕ, zero, suc, ◌+◌, ◌<◌, Bool, cond, eqb, List, [], ◌∷◌, ◌++◌, length, map, All, refl, sym, ap, subst, ◌∙◌, arith}
 use Rattle.std.specs.Prelude.{Option, Some, None, slice_index_or, sum_by}
 use Rattle.std.proofs.lemmas.Bool.{eq-eqb}
 use Rattle.std.proofs.lemmas.Bool.Decides.{eqb_tells}
 use Rattle.std.proofs.lemmas.List.Elements.{All-nil, All-cons, All-head, All-tail}
-use Rattle.std.proofs.lemmas.List.Sums.{sum_by-cons, sum_by-append}
+use Rattle.std.proofs.lemmas.List.Sums.{sum_by-cons, sum_by-append, get_or-le-sum_by}
+use Rattle.mm_base.proofs.Tests.{cond-eqb_other}
 use Rattle.mm_desk.specs.Machine.{State, IsState}
 use Rattle.mm_desk.specs.Runs.{opening_at, IsLegal}
 use Rattle.mm_dump.specs.Broken.{aborted}
@@ -118,24 +119,15 @@ times_last early k =
     let here : cond {A = ℕ} (eqb k k) 1 0 ≡ 1 = ap (λ (b : Bool). cond {A = ℕ} b 1 0) (eq-eqb k k refl) in
     omega (arith, sum_by-append (λ (y : ℕ). cond {A = ℕ} (eqb y k) 1 0) early (k ∷ []), here)
 
--- and so it is in lists of which that is one
-times_among : (lists : List (List ℕ)) (l k : ℕ) → l < length lists → 0 < times k (slice_index_or lists l []) → 0 < sum_by (times k) lists
-times_among [] l k within some = absurd (omega arith)
-times_among (x ∷ xs) zero k within some = omega (arith, sum_by-cons (times k) x xs, some)
-times_among (x ∷ xs) (suc l) k within some =
-    let rest = times_among xs l k (omega arith) some in
-    omega (arith, sum_by-cons (times k) x xs, rest)
-
 -- a store that orders name is there
 named_there : (n k : ℕ) (orders : List Order) → All (λ o. o.place < n) orders → 0 < times k (places_of orders) → k < n
 named_there n k [] all some = absurd (omega (arith, some))
-named_there n k (o ∷ os) all some = by_test (named_there n k os (All-tail (λ (o : Order). o.place < n) o os all)) (eqb_tells o.place k)
-  where
-    by_test : (0 < times k (places_of os) → k < n) → ((eqb o.place k ≡ true) × (o.place ≡ k)) ⊎ ((eqb o.place k ≡ false) × (o.place ≢ k)) → k < n
-    by_test rest (inl same) = subst (λ (j : ℕ). j < n) same.1 (All-head (λ (o : Order). o.place < n) o os all)
-    by_test rest (inr other) =
-        let none_here : cond {A = ℕ} (eqb o.place k) 1 0 ≡ 0 = ap (λ (b : Bool). cond {A = ℕ} b 1 0) other.0 in
-        rest (omega (arith, some, none_here, sum_by-cons (λ (y : ℕ). cond {A = ℕ} (eqb y k) 1 0) o.place (places_of os)))
+named_there n k (o ∷ os) all some =
+    let rest = sum_by-cons (λ (y : ℕ). cond {A = ℕ} (eqb y k) 1 0) o.place (places_of os) in
+    elim (eqb_tells o.place k) [
+      | inl same ↦ subst (λ (j : ℕ). j < n) same.1 (All-head (λ (o : Order). o.place < n) o os all)
+      | inr other ↦ named_there n k os (All-tail (λ (o : Order). o.place < n) o os all) (omega (arith, some, rest, cond-eqb_other o.place k 1 other.1))
+    ]
 
 module _ {L : Type 0} (sent : L → List Sent) (failed : L → ℕ) (ids : List (List ℕ)) (course : ℕ → Course) where
   -- each link has its places
@@ -169,15 +161,12 @@ module _ {L : Type 0} (sent : L → List Sent) (failed : L → ℕ) (ids : List 
       → ((l : ℕ) → l < length places → AllWhole course (slice_index_or places l []) ⊎ LastMild course (slice_index_or places l []))
       → (l : ℕ) × (l < length places) × LastMild course (slice_index_or places l [])
   some_broke [] is how = absurd (cc is)
-  some_broke (p ∷ ps) is how = by_first (some_broke ps) (how 0 (omega arith))
-    where
-      by_first : (worst_at course ps ≡ Some broken.LinkFailed → ((l : ℕ) → l < length ps → AllWhole course (slice_index_or ps l []) ⊎ LastMild course (slice_index_or ps l []))
-          → (l : ℕ) × (l < length ps) × LastMild course (slice_index_or ps l []))
-          → AllWhole course p ⊎ LastMild course p → (l : ℕ) × (l < suc (length ps)) × LastMild course (slice_index_or (p ∷ ps) l [])
-      by_first rest (inr last) = (0, omega arith, last)
-      by_first rest (inl all) =
-          let found = rest (sym (ap (λ (w : Option OrderBroken). worse w (worst_at course ps)) all.none) ∙ is) (λ l within. how (suc l) (omega arith)) in
-          (suc found.0, omega (arith, found.1), found.2)
+  some_broke (p ∷ ps) is how = elim (how 0 (omega arith)) [
+    | inl all ↦
+        let found = some_broke ps (sym (ap (λ (w : Option OrderBroken). worse w (worst_at course ps)) all.none) ∙ is) (λ l within. how (suc l) (omega arith)) in
+        (suc found.0, omega (arith, found.1), found.2)
+    | inr last ↦ (0, omega arith, last)
+  ]
 
 -- a step that a failed link halted
 pub links_failed : {L : Type 0} (sent : L → List Sent) (failed : L → ℕ) (ids : List (List ℕ)) (orders : List Order) (before after : List State) (olds news : List L)
@@ -211,7 +200,7 @@ links_failed sent failed ids orders before after olds news changes there sound s
         let k = last.last in
         let c = settled.course k in
         let in_list : 0 < times k (slice_index_or settled.places l []) = subst (λ (xs : List ℕ). 0 < times k xs) (sym last.are) (times_last last.early k) in
-        let taken : 0 < sum_by (times k) settled.places = times_among settled.places l k (omega (arith, many, within)) in_list in
+        let taken : 0 < sum_by (times k) settled.places = omega (arith, get_or-le-sum_by (times k) settled.places l [] (omega (arith, many, within)), in_list) in
         let inside : k < length after = named_there (length after) k orders there (omega (arith, taken, settled.once k)) in
         let tried = settled.stores k inside in
         let order = last.broke.order in

@@ -1,5 +1,5 @@
 -- What a step that was broken off leaves at a store.
-use Rattle.std.proofs.Common.{◌≡◌, ◌⊎◌, inl, inr, ℕ, ◌<◌, ◌≤◌, List, [], length, map, All, refl, sym, ap, subst, ◌∙◌, arith}
+use Rattle.std.proofs.Common.{◌≡◌, inl, inr, ℕ, ◌<◌, List, [], length, map, All, refl, sym, ap, subst, ◌∙◌, arith}
 use Rattle.std.specs.Prelude.{Option, Some, None, sum_by}
 use Rattle.std.specs.List.{AllZip}
 use Rattle.std.proofs.lemmas.Bool.{cases_lt}
@@ -31,7 +31,7 @@ use Rattle.mm_report.specs.declared.cause.Cause.TheVariants.{LinkFailed}
 use Rattle.mm_exec.proofs.Replays.{IsRun-append}
 use Rattle.mm_base.specs.declared.rows.RouteRow.{RouteRow}
 use Rattle.mm_exec.specs.Failure.{FailedLink}
-use Rattle.mm_exec.specs.Halts.{AreOneOrder, AreFirstOffers, IsByOneLog, BrokenStepsAreLogs}
+use Rattle.mm_exec.specs.Halts.{AreFirstOffers, IsByOneLog, BrokenStepsAreLogs}
 use Rattle.mm_memory.specs.Laws.{ids_of}
 use Rattle.mm_exec.specs.RunState.{RunState}
 use Rattle.mm_exec.specs.declared.step.StepBroken.{StepBroken}
@@ -62,16 +62,11 @@ then_tried e given orders k s mid t first taken c tried amount = record {
   ordered = c.calls;
   run = IsRun-append s mid t first.log c.calls first.run tried.run;
   shuffle = first.shuffle;
-  order = by_count (cases_lt 0 taken);
+  order = elim (cases_lt 0 taken) [
+    | inl some ↦ inr (c, refl, (tried.some some).1, record { place = (tried.some some).0; amount = amount some })
+    | inr none ↦ inl (tried.none (omega arith)).0
+  ];
 }
-  where
-    by_count : (0 < taken) ⊎ (taken ≤ 0) → AreOneOrder orders k c.calls
-    by_count (inl some) =
-        let tried_some = tried.some some in
-        inr (c, refl, tried_some.1, record { place = tried_some.0; amount = amount some })
-    by_count (inr none) =
-        let zero_taken : taken ≡ 0 = omega arith in
-        inl (tried.none zero_taken).0
 
 -- an offered log and no order
 then_nothing : (e : RecordingContext) (given : List (List SpacePacket)) (orders : List Order) (k : ℕ) (s t : State) → (firsts : List (List Event)) → AllZip (AreFirstOffers e k) given firsts

@@ -1,8 +1,8 @@
 -- What the orders of a step want of each store.
-use Rattle.std.proofs.Common.{◌≡◌, ◌≢◌, ◌⊎◌, inl, inr, ℕ, ◌<◌, ◌≤◌, Bool, true, false, cond, ltb, eqb, List, [], ◌∷◌, length, map, All, refl, sym, subst, ◌∙◌, arith, ◌+◌, ◌++◌, ap, add-one}
+use Rattle.std.proofs.Common.{◌≡◌, ◌≢◌, ℕ, ◌<◌, ◌≤◌, Bool, cond, ltb, eqb, List, [], ◌∷◌, length, map, All, refl, sym, subst, ◌∙◌, arith, ◌+◌, ◌++◌, ap, add-one}
 use Rattle.std.specs.Prelude.{filter, slice_index, AllPairs, nat_lt}
 use Rattle.std.specs.List.{sum_by, range_with_len}
-use Rattle.std.proofs.lemmas.Bool.{lt-ltb, le-ltb, ltb-true, ne_eqb, eq-eqb, cases_lt}
+use Rattle.std.proofs.lemmas.Bool.{lt-ltb, le-ltb, ltb-true, ltb-false, ne_eqb, eq-eqb, cond_both}
 use Rattle.std.proofs.lemmas.List.Elements.{All-map, All-head, All-tail, filter-append}
 use Rattle.mm_base.proofs.Pairs.{AllPairs-map}
 use Rattle.mm_base.proofs.Ranges.{All-filter-range_with_len, AllPairs-filter-range_with_len, range_with_len_more}
@@ -56,6 +56,11 @@ module _ (x : Amounts) (places : List ℕ) (t : ℕ) where
       let all = range_with_len 0 n in
       omega (arith, length-map (filter is_ordered all) order_of, length-filter is_ordered all, count_by-le-length is_ordered all, length-range_with_len 0 n)
 
+-- an amount that is counted where there is one
+amount_counted : (amount : ℕ) → cond (ltb 0 amount) amount 0 ≡ amount
+amount_counted amount =
+    cond_both (ltb 0 amount) amount 0 (λ (k : ℕ). k ≡ amount) (λ some. refl) (λ nothing. let none = ltb-false 0 amount nothing in omega (arith))
+
 module _ (x : Amounts) (places : List ℕ) (t n : ℕ) where
   -- the sum of the terms of one store
   one_term : (weight : ℕ → ℕ) (s : ℕ) → AreApart places n → s < n
@@ -63,24 +68,16 @@ module _ (x : Amounts) (places : List ℕ) (t n : ℕ) where
       ≡ cond (is_ordered x places t s) (weight s) 0
   one_term weight s apart within =
       sum_by_range_one (λ r. cond (is_ordered x places t r) (cond (eqb (slice_index places r) (slice_index places s)) (weight r) 0) 0) 0 n s (omega arith) (omega arith)
-      (λ r from to other. rw (ne_eqb (slice_index places r) (slice_index places s) (apart r s (omega arith) within other)) (none (is_ordered x places t r)))
+      (λ r from to other. rw (ne_eqb (slice_index places r) (slice_index places s) (apart r s (omega arith) within other))
+      (cond_both (is_ordered x places t r) 0 0 (λ (k : ℕ). k ≡ 0) (λ yes. refl) (λ no. refl)))
       ∙ rw (eq-eqb (slice_index places s) (slice_index places s) refl) refl
-    where
-      none : (b : Bool) → let z : ℕ = 0 in cond b z z ≡ z
-      none true = refl
-      none false = refl
 
   -- the orders want of a store what is to leave it
   pub wanted_is : (s : ℕ) → AreApart places n → s < n → wanted (orders_of x places t n) (slice_index places s) ≡ x s t
   wanted_is s apart within =
       sum_by-filter (λ (o : Order). o.amount) (λ o. eqb o.place (slice_index places s)) (orders_of x places t n)
       ∙ sum_by-map-filter (λ (o : Order). cond (eqb o.place (slice_index places s)) o.amount 0) (order_of x places t) (is_ordered x places t) (range_with_len 0 n)
-      ∙ one_term (λ r. x r t) s apart within
-      ∙ by_amount (cases_lt 0 (x s t))
-    where
-      by_amount : (0 < x s t) ⊎ (x s t ≤ 0) → cond (ltb 0 (x s t)) (x s t) 0 ≡ x s t
-      by_amount (inl some) = rw (lt-ltb 0 (x s t) some) refl
-      by_amount (inr nothing) = rw (le-ltb 0 (x s t) nothing) (omega arith)
+      ∙ one_term (λ r. x r t) s apart within ∙ amount_counted (x s t)
 
   -- no store has two orders
   pub named_once : (s : ℕ) → AreApart places n → s < n → times (slice_index places s) (places_of (orders_of x places t n)) ≤ 1
@@ -88,21 +85,13 @@ module _ (x : Amounts) (places : List ℕ) (t n : ℕ) where
       let here : ℕ → ℕ = λ p. cond {A = ℕ} (eqb p (slice_index places s)) 1 0 in
       let named = sum_by-map here (λ (o : Order). o.place) (orders_of x places t n)
       ∙ sum_by-map-filter (λ (o : Order). here o.place) (order_of x places t) (is_ordered x places t) (range_with_len 0 n) ∙ one_term (λ r. 1) s apart within in
-      subst (λ (k : ℕ). k ≤ 1) (sym named) (one_most (is_ordered x places t s))
-    where
-      one_most : (b : Bool) → cond {A = ℕ} b 1 0 ≤ 1
-      one_most true = omega arith
-      one_most false = omega arith
+      subst (λ (k : ℕ). k ≤ 1) (sym named) (cond_both (is_ordered x places t s) 1 0 (λ (k : ℕ). k ≤ 1) (λ yes. omega arith) (λ no. omega arith))
 
   -- the orders want of all stores what is to leave them
   pub wanted_in_all : sum_by (λ (o : Order). o.amount) (orders_of x places t n) ≡ sum_by (in_step x t) (range_with_len 0 n)
   wanted_in_all =
       sum_by-map-filter (λ (o : Order). o.amount) (order_of x places t) (is_ordered x places t) (range_with_len 0 n)
-      ∙ sum_by_range_same (λ s. cond (is_ordered x places t s) (x s t) 0) (in_step x t) 0 n (λ s from to. by_amount (x s t) (cases_lt 0 (x s t)))
-    where
-      by_amount : (amount : ℕ) → (0 < amount) ⊎ (amount ≤ 0) → cond (ltb 0 amount) amount 0 ≡ amount
-      by_amount amount (inl some) = rw (lt-ltb 0 amount some) refl
-      by_amount amount (inr nothing) = rw (le-ltb 0 amount nothing) (omega arith)
+      ∙ sum_by_range_same (λ s. cond (is_ordered x places t s) (x s t) 0) (in_step x t) 0 n (λ s from to. amount_counted (x s t))
 
   -- the orders are of stores that are there
   places_within : (m : ℕ) → ((s : ℕ) → s < n → slice_index places s < m) → All (λ o. o.place < m) (orders_of x places t n)

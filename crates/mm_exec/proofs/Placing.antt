@@ -1,5 +1,5 @@
 -- The stores of the problem at their places in the memory.
-use Rattle.std.proofs.Common.{◌≡◌, ◌≢◌, ◌⊎◌, inl, inr, ℕ, ◌<◌, List, [], length, map, take, get_or, sym, subst, ap, ◌∙◌}
+use Rattle.std.proofs.Common.{◌≡◌, ◌≢◌, inl, inr, ℕ, ◌<◌, List, [], length, map, take, get_or, sym, subst, ap, ◌∙◌}
 use Rattle.std.specs.Prelude.{slice_index}
 use Rattle.std.specs.List.{position_or_len}
 use Rattle.std.proofs.lemmas.Bool.{cases_order}
@@ -34,12 +34,11 @@ places_differ q stores places are place_in_memory r s first second other same =
     let one = id_there (row q r).id stores (slice_index places r) (place_in_memory r first) in
     let two = id_there (row q s).id stores (slice_index places s) (place_in_memory s second) in
     let ids : (row q r).id ≡ (row q s).id = sym one ∙ ap (λ (k : ℕ). id_at (map (λ h. h.id) stores) k) same ∙ two in
-    by_order ids (cases_order r s)
-  where
-    by_order : (row q r).id ≡ (row q s).id → (r ≡ s) ⊎ ((r < s) ⊎ (s < r)) → ⊥
-    by_order ids (inl equal) = other equal
-    by_order ids (inr (inl before)) = are.named r s no_row before second ids
-    by_order ids (inr (inr after)) = are.named s r no_row after first (sym ids)
+    elim (cases_order r s) [
+      | inl equal ↦ other equal
+      | inr (inl before) ↦ are.named r s no_row before second ids
+      | inr (inr after) ↦ are.named s r no_row after first (sym ids)
+    ]
 
 -- places that are cut down to those of the problem's stores
 pub places_cut : (q : Dumping) (stores : List Held) (n : ℕ) (all : List ℕ) → ArePlaces q stores n all → ArePlaces q stores n (take n all)

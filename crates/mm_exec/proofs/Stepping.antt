@@ -1,5 +1,5 @@
 -- What step runs do to the stores, step by step, and what the stores lose over all steps.
-use Rattle.std.proofs.Common.{◌≡◌, ◌⊎◌, inl, inr, ℕ, zero, suc, ◌+◌, ◌-◌, ◌<◌, ◌≤◌, ◌^◌, min, max, List, [], ◌∷◌, ◌++◌, length, All, refl, sym, ap, subst, ◌∙◌, arith, length-append, add-one}
+use Rattle.std.proofs.Common.{◌≡◌, inl, inr, ℕ, zero, suc, ◌+◌, ◌-◌, ◌<◌, ◌≤◌, ◌^◌, min, max, List, [], ◌∷◌, ◌++◌, length, All, refl, sym, ap, subst, ◌∙◌, arith, length-append, add-one}
 use Rattle.std.proofs.lemmas.Bool.{cases_lt}
 use Rattle.std.proofs.lemmas.List.Elements.{All-weaker}
 use Rattle.mm_base.proofs.Pairs.{All-back}
@@ -84,13 +84,12 @@ record StepLeaves (s t : State) (n wanted : ℕ) : Type 0 where
 module _ (leave : OffersLeave) (keep : ReplaysKeepStates) (dump : OrdersDumpTheOldest) where
   -- what a dump does
   dumped : (mid t : State) (wanted : ℕ) (gave : List Stored) (calls : List Entry) → IsState mid → IsDumpOf wanted gave calls → IsRun mid calls t → Dumps mid t wanted gave
-  dumped mid t wanted gave calls sound is run = by_wanted (cases_lt 0 wanted)
-    where
-      by_wanted : (0 < wanted) ⊎ (wanted ≤ 0) → Dumps mid t wanted gave
-      by_wanted (inl some) = let order = is.whole (omega arith) in dump mid t order.0 wanted gave calls sound order.1 run
-      by_wanted (inr none) =
-          let nothing = is.none (omega arith) in
-          none_dumped mid t wanted gave (omega arith) nothing.0 (run.leaves ∙ ap (replay mid) nothing.1)
+  dumped mid t wanted gave calls sound is run = elim (cases_lt 0 wanted) [
+    | inl some ↦ let order = is.whole (omega arith) in dump mid t order.0 wanted gave calls sound order.1 run
+    | inr none ↦
+        let nothing = is.none (omega arith) in
+        none_dumped mid t wanted gave (omega arith) nothing.0 (run.leaves ∙ ap (replay mid) nothing.1)
+  ]
 
   -- the two halves of a step run: what its offers leave, and what its dump does
   pub record Halves (offers : List (List Event)) (wanted : ℕ) (gave : List Stored) (s t : State) (recorded : List Entry) : Type 0 where

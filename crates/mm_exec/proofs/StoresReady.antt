@@ -1,5 +1,5 @@
 -- Stores that are ready, and counts that are far from their end, from step to step.
-use Rattle.std.proofs.Common.{◌≡◌, ◌⊎◌, inl, inr, ℕ, ◌+◌, ◌*◌, ◌<◌, ◌≤◌, ◌^◌, List, [], ◌∷◌, ◌++◌, length, map, get_or, All, refl, sym, ap, subst, ◌∙◌, ◌-◌, arith}
+use Rattle.std.proofs.Common.{◌≡◌, inl, inr, ℕ, ◌+◌, ◌*◌, ◌<◌, ◌≤◌, ◌^◌, List, [], ◌∷◌, ◌++◌, length, map, get_or, All, refl, sym, ap, subst, ◌∙◌, ◌-◌, arith}
 use Rattle.std.specs.Prelude.{IsTrue, Option, Some, None, Result, not, ◌==◌, ◌||◌, filter}
 use Rattle.std.specs.List.{AllZip}
 use Rattle.std.proofs.lemmas.Bool.{cases_lt, cond_both}
@@ -137,22 +137,18 @@ ready_stopped e stores left sources sources_left why ids ready records =
 
 -- an order leaves the switches
 tried_keeps : OrdersDumpTheOldest → BrokenOrdersChangeNothing → (k : ℕ) (s t : State) (taken : ℕ) (c : Course) → IsState s → HasTried taken k c s t → KeepsSwitches s t
-tried_keeps dump changes k s t taken c sound tried = by_count (cases_lt 0 taken)
+tried_keeps dump changes k s t taken c sound tried = elim (cases_lt 0 taken) [
+  | inl some ↦ by_why c.why (tried.some some).1
+  | inr none ↦ alike (tried.run.leaves ∙ ap (replay s) (tried.none (omega arith)).0)
+]
   where
+    alike : t ≡ s → KeepsSwitches s t
+    alike same = subst (KeepsSwitches s) (sym same) (record { storage = refl; retrieval = refl })
+
     by_why : (why : Option OrderBroken) → EndedAs why c → KeepsSwitches s t
     by_why None whole =
-        let others = (dump s t c.seat c.order.amount c.sent c.calls sound whole.order tried.run).others in
-        record { storage = ap (λ (u : State). u.storage) others; retrieval = ap (λ (u : State). u.retrieval) others }
-    by_why (Some why) broke =
-        let same = (changes s t c.seat c.order.amount (c.sent ++ c.unsent) c.calls broke.order tried.run).0 in
-        record { storage = ap (λ (u : State). u.storage) same; retrieval = ap (λ (u : State). u.retrieval) same }
-
-    by_count : (0 < taken) ⊎ (taken ≤ 0) → KeepsSwitches s t
-    by_count (inl some) = by_why c.why (tried.some some).1
-    by_count (inr none) =
-        let zero_taken : taken ≡ 0 = omega arith in
-        let same : t ≡ s = tried.run.leaves ∙ ap (replay s) (tried.none zero_taken).0 in
-        record { storage = ap (λ (u : State). u.storage) same; retrieval = ap (λ (u : State). u.retrieval) same }
+        subst (KeepsSwitches s) (sym (dump s t c.seat c.order.amount c.sent c.calls sound whole.order tried.run).others) (record { storage = refl; retrieval = refl })
+    by_why (Some why) broke = alike (changes s t c.seat c.order.amount (c.sent ++ c.unsent) c.calls broke.order tried.run).0
 
 -- stores of a dump of which orders broke are ready
 ready_broken : {S L : Type 0} (sent : L → List Sent) (failed : L → ℕ) (step : ℕ) (orders : List Order) (mid after : RunState S L) (stop : StepBroken)
