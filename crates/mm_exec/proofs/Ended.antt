@@ -1,15 +1,12 @@
 -- How a run ends.
-use Rattle.std.proofs.Common.{◌≡◌, inl, inr, refl, ℕ, List, [], length, map, get_or, sym, ap, subst, ◌∙◌, arith}
-use Rattle.std.specs.Prelude.{Result, Ok, Err, IfOk, IfErr, sum_by}
+use Rattle.std.proofs.Common.{◌≡◌, inr, refl, ℕ, List, [], length, map, get_or, sym, ap, subst, ◌∙◌}
+use Rattle.std.specs.Prelude.{sum_by}
 use Rattle.mm_base.proofs.Sums.{sum_by-same, sum_by-map, sum_by-swap}
 use Rattle.mm_problem.specs.Dumping.{Dumping, stores, steps}
 use Rattle.mm_plan.specs.Table.{Table}
 use Rattle.mm_plan.specs.Volumes.{Amounts, lost, loss}
 use Rattle.mm_desk.specs.declared.held.Held.{Held}
-use Rattle.mm_shared.specs.Stores.{labels_of}
-use Rattle.mm_memory.specs.Laws.{ids_of}
-use Rattle.mm_record.specs.Supplies.{Supply, supplies}
-use Rattle.mm_record.proofs.Supplying.{as_they_are}
+use Rattle.mm_record.specs.Supplies.{Supply}
 use Rattle.mm_dump.specs.Sending.{Sent}
 use Rattle.mm_report.specs.declared.cause.Cause.{Cause}
 use Rattle.mm_report.specs.declared.counts.StepCounts.{StepCounts}
@@ -18,10 +15,9 @@ use Rattle.mm_exec.specs.declared.course.RunStopped.{RunStopped}
 use Rattle.mm_exec.specs.declared.step.StepBroken.{StepBroken}
 use Rattle.mm_exec.specs.Readiness.{RunStart, run_start}
 use Rattle.mm_exec.specs.RunInput.{RunInput, as_came}
-use Rattle.mm_exec.specs.RunState.{RunState, with_supplies, InRun}
+use Rattle.mm_exec.specs.RunState.{RunState}
 use Rattle.mm_exec.specs.Numbers.{report_of, rows_of, planned_counts}
-use Rattle.mm_exec.specs.Ending.{run_start_of, HasRun, IsRefusal, IsStopped}
-use Rattle.mm_exec.proofs.Parts.{same_ids}
+use Rattle.mm_exec.specs.Ending.{run_start_of, IsRefusal, IsStopped}
 
 -- what holds of what a run begins with holds of the same, by whatever names
 pub start_by : (P : RunStart → Type 0) (q : Dumping) (plan : Table) (base : ℕ) {held stores : List Held} {counted_sources counted_links sources links : ℕ}
@@ -50,28 +46,3 @@ rows_lost q came x =
 pub total_is : (m : RunInput) (report : Reported) → report ≡ report_of m.problem (as_came m) m.amounts (length m.problem.windows)
     → (totals_of report.steps).lost ≡ loss (as_came m) m.amounts
 total_is m report is = ap (λ (r : Reported). (totals_of r.steps).lost) is ∙ rows_lost m.problem (as_came m) m.amounts
-
--- however a run ended, its stores have their identifiers, in order
-pub left_ids : {S L : Type 0} (leads : S → S → Type 0) (until : S → S → Supply) (stays : (s : S) → leads s s) (sent : L → List Sent) (failed : L → ℕ)
-    (m : List Supply → RunInput) (plan : Table) (first left : RunState S L) (stores : (given : List Supply) → (m given).memory.stores ≡ first.stores) (steps : ℕ)
-    (r : Result Reported RunStopped)
-    → IfOk r (λ report. InRun leads until first left (λ a b. HasRun sent failed (m a.sources) plan a steps b report))
-    → IfErr r (λ stopped. InRun leads until first left (λ a b. IsStopped sent failed (m a.sources) plan first left b.sources stopped))
-    → ids_of left.stores ≡ ids_of first.stores
-left_ids {S} {L} leads until stays sent failed m plan first left stores steps r whole ended = same_ids left.stores first.stores (labels r whole ended)
-  where
-    by_end : (stopped : RunStopped) → IsStopped sent failed (m (supplies until first.sources left.sources)) plan first left (supplies until left.sources left.sources) stopped
-        → labels_of left.stores ≡ labels_of first.stores
-    by_end stopped (inl in_step) = in_step.1.labels ∙ ap labels_of (stores (supplies until first.sources left.sources))
-    by_end stopped (inr never) = ap (λ (x : RunState S L). labels_of x.stores) never.0.same
-
-    labels : (r : Result Reported RunStopped)
-        → IfOk r (λ report. InRun leads until first left (λ a b. HasRun sent failed (m a.sources) plan a steps b report))
-        → IfErr r (λ stopped. InRun leads until first left (λ a b. IsStopped sent failed (m a.sources) plan first left b.sources stopped))
-        → labels_of left.stores ≡ labels_of first.stores
-    labels (Ok report) ran ended =
-        let here = as_they_are leads until stays first.sources left.sources
-        (λ given rest. HasRun sent failed (m given) plan (with_supplies first given) steps (with_supplies left rest) report) ran in
-        ap labels_of here.done.stores_are ∙ here.done.runs.labels steps (omega arith) ∙ ap labels_of (stores (supplies until first.sources left.sources))
-    labels (Err stopped) ran ended =
-        by_end stopped (as_they_are leads until stays first.sources left.sources (λ given rest. IsStopped sent failed (m given) plan first left rest stopped) ended)

@@ -1,9 +1,10 @@
 -- The stores of the problem at their places in the memory.
-use Rattle.std.proofs.Common.{◌≡◌, ◌≢◌, inl, inr, ℕ, ◌<◌, List, [], length, map, take, get_or, sym, subst, ap, ◌∙◌}
+use Rattle.std.proofs.Common.{◌≡◌, ◌≢◌, inl, inr, ℕ, ◌<◌, List, [], length, map, take, get_or, sym, subst, ap, ◌∙◌, arith}
 use Rattle.std.specs.Prelude.{slice_index}
 use Rattle.std.specs.List.{position_or_len}
 use Rattle.std.proofs.lemmas.Bool.{cases_order}
-use Rattle.std.proofs.lemmas.List.{get_or-map, get_or-take}
+use Rattle.std.proofs.lemmas.List.{get_or-map, get_or-take, length-take-le}
+use Rattle.std.proofs.lemmas.List.Elements.{All-from_get_or}
 use Rattle.std.proofs.lemmas.List.Sums.{passes_at_first}
 use Rattle.std.proofs.lemmas.Slice.Eq.{bytes_eq-Decides}
 use Rattle.mm_problem.specs.Dumping.{Dumping, row, no_row}
@@ -12,7 +13,7 @@ use Rattle.mm_desk.specs.declared.held.Held.{Held}
 use Rattle.mm_desk.specs.Runs.{blank}
 use Rattle.mm_shared.specs.Stores.{id_at}
 use Rattle.mm_memory.specs.Holdings.{has_id}
-use Rattle.mm_exec.specs.Places.{IsPlaceOf, ArePlaces}
+use Rattle.mm_exec.specs.Places.{IsPlaceOf, ArePlaces, AreAllPlaces, StandWithin}
 
 -- no store
 abbrev pub no_held : Held
@@ -41,5 +42,15 @@ places_differ q stores places are place_in_memory r s first second other same =
     ]
 
 -- places that are cut down to those of the problem's stores
-pub places_cut : (q : Dumping) (stores : List Held) (n : ℕ) (all : List ℕ) → ArePlaces q stores n all → ArePlaces q stores n (take n all)
-places_cut q stores n all are s within = subst (IsPlaceOf (row q s).id stores) (sym (get_or-take n all s 0 within)) (are s within)
+module _ (q : Dumping) (stores : List Held) (all : List ℕ) (n : ℕ) (are : AreAllPlaces q stores all) (cut : n ≡ length q.rows) where
+  pub places_cut : ArePlaces q stores (length q.rows) (take n all)
+  places_cut s within = subst (IsPlaceOf (row q s).id stores) (sym (get_or-take n all s 0 (omega (arith, within, cut)))) (are.stand s within)
+
+  pub stand_cut : (now : List Held) → length now ≡ length stores → StandWithin (length q.rows) now (take n all)
+  stand_cut now many =
+      let as_many : length (take n all) ≡ length q.rows = length-take-le n all (omega (arith, cut, are.count, are.sound.stores.at_most)) ∙ cut in
+      record {
+        all = as_many;
+        few = omega (arith, as_many, are.sound.stores.at_most);
+        within = All-from_get_or (λ (place : ℕ). place < length now) (take n all) 0 (λ s inside. rw many (places_cut s (omega (arith, inside, as_many))).within);
+      }

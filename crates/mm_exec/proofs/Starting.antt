@@ -1,14 +1,13 @@
 -- How a run begins, and what is known of it on the way.
-use Rattle.std.proofs.Common.{◌≡◌, ◌≢◌, ℕ, suc, ◌+◌, ◌-◌, ◌*◌, ◌<◌, ◌≤◌, ◌^◌, Bool, true, false, List, [], ◌∷◌, ◌++◌, length, map, take, get_or, All, refl, sym, subst, ap, ◌∙◌, arith}
+use Rattle.std.proofs.Common.{◌≡◌, ◌≢◌, ℕ, ◌+◌, ◌-◌, ◌*◌, ◌<◌, ◌≤◌, ◌^◌, Bool, true, false, List, [], length, map, get_or, All, refl, sym, subst, ap, ◌∙◌, arith}
 use Rattle.std.specs.Prelude.{slice_index, slice_index_or, bytes_eq, slice_get, Option, Some, None, is_some, not, ◌&&◌, IsTrue, vec_capacity}
 use Rattle.std.specs.List.{list_any, position_or_len}
-use Rattle.std.proofs.lemmas.Bool.{eqb-true, eqb-false, ltb-false, or_parts}
-use Rattle.std.proofs.lemmas.List.{length-map, get_or-map, get_or_default, append-nil, length-take-le}
+use Rattle.std.proofs.lemmas.Bool.{eqb-true, eqb-false, ltb-false, or_parts, both_ways, false_from_ne_true}
+use Rattle.std.proofs.lemmas.List.{length-map, get_or-map, append-nil}
 use Rattle.std.proofs.lemmas.List.FromFn.{length-map-range_with_len}
-use Rattle.std.proofs.lemmas.List.Folds.{find_at}
+use Rattle.std.proofs.lemmas.List.Folds.{find_at, list_any_at}
 use Rattle.std.proofs.lemmas.List.Sums.{passes_at_first, position_or_len_is, prefix_len-le-length}
 use Rattle.std.proofs.lemmas.List.Sorted.{IsPermutation-refl}
-use Rattle.std.proofs.lemmas.List.Elements.{All-cons, All-from_get_or, All-nil}
 use Rattle.std.proofs.lemmas.Option.{slice_get-get_or}
 use Rattle.std.proofs.lemmas.Slice.Eq.{bytes_eq-Decides}
 use Rattle.mm_base.specs.declared.limits.TheConstants.{MAX_STEPS, MAX_STORES}
@@ -37,16 +36,16 @@ use Rattle.mm_exec.specs.declared.requirement.Requirement.{Requirement}
 use Rattle.mm_exec.specs.declared.requirement.Requirement.TheVariants.{Ready, Size, Opening}
 use Rattle.mm_exec.specs.declared.room.RunBuffers.{RunBuffers}
 use Rattle.mm_exec.specs.declared.step.StepBroken.{StepBroken}
-use Rattle.mm_exec.specs.Readiness.{run_start, MayBegin, AllMeet, NoneUnknown, is_unknown, meets, meets_at}
+use Rattle.mm_exec.specs.Readiness.{AllMeet, NoneUnknown, is_unknown, meets, meets_at}
 use Rattle.mm_exec.specs.Laws.{RunsLoseAsPlanned, RunsLoseNoPacketUncounted, StepRunsKeepStores}
 use Rattle.mm_exec.specs.AsPlanned.{IsReady}
-use Rattle.mm_exec.specs.Places.{IsPlaceOf, ArePlaces}
+use Rattle.mm_exec.specs.Places.{IsPlaceOf, ArePlaces, StandWithin}
 use Rattle.mm_exec.specs.RunInput.{RunInput, recording_in, place_in_memory, step_orders}
 use Rattle.mm_exec.specs.RunState.{RunState, with_supplies}
-use Rattle.mm_exec.specs.Numbers.{row_from, orders_of, AreByCounters}
-use Rattle.mm_exec.specs.Step.{AreReady, StepDone, StepBroke}
+use Rattle.mm_exec.specs.Numbers.{AreByCounters}
+use Rattle.mm_exec.specs.Step.{AreReady, AreOrders, StepDone, StepBroke}
 use Rattle.mm_exec.specs.Steps.{StepsDone, taken_amounts}
-use Rattle.mm_exec.specs.Course.{given_to, recording_at, orders_at, MayReport, StepReported, StepUnreported, MayRun, AreWithinLimits}
+use Rattle.mm_exec.specs.Course.{given_to, recording_at, orders_at, MayReport, StepReported, StepUnreported, AreWithinLimits}
 use Rattle.mm_exec.specs.Ending.{HasRun, IsHaltedIn}
 use Rattle.mm_memory.proofs.PlaceLemmas.{is_other}
 use Rattle.mm_record.proofs.Memories.{named_of, held_as}
@@ -56,7 +55,7 @@ use Rattle.mm_exec.proofs.Drawing.{taken_fits}
 use Rattle.mm_exec.proofs.Ordered.{named_once, may_order, wanted_in_all, orders_are}
 use Rattle.mm_exec.proofs.StepMore.{Footing, all_same, done_on}
 use Rattle.mm_exec.proofs.Parts.{as_many, as_many_sources, stopped_of}
-use Rattle.mm_exec.proofs.Placing.{no_held, places_differ, places_cut}
+use Rattle.mm_exec.proofs.Placing.{no_held, places_differ}
 use Rattle.mm_exec.proofs.StoresReady.{AllFar, state_holds, far_after, takes_all}
 
 -- the moment before the first step is early, and so is the last storage time of each store
@@ -64,17 +63,17 @@ pub record IsEarly (stores : List Held) (base : ℕ) : Type 0 where
   pub first : base ≤ LATEST_START
   pub last_times : All (λ h. h.state.store.last ≤ LATEST_START) stores
 
-none_late : (stores : List Held) → list_any (λ h. is_late h.state.store.last) stores ≡ false → All (λ h. h.state.store.last ≤ LATEST_START) stores
-none_late [] none = All-nil (λ (h : Held). h.state.store.last ≤ LATEST_START)
-none_late (h ∷ hs) none =
-    let both = or_parts (is_late h.state.store.last) (list_any (λ h. is_late h.state.store.last) hs) none in
-    All-cons (λ (h : Held). h.state.store.last ≤ LATEST_START) h hs (ltb-false LATEST_START h.state.store.last both.0) (none_late hs both.1)
-
 -- it is so where the clock is not too late
 pub early_by : (stores : List Held) (base : ℕ) → is_clock_late stores base ≡ false → IsEarly stores base
 early_by stores base in_time =
-    let both = or_parts (is_late base) (list_any (λ h. is_late h.state.store.last) stores) in_time in
-    record { first = ltb-false LATEST_START base both.0; last_times = none_late stores both.1 }
+    let late = λ (h : Held). is_late h.state.store.last in
+    let both = or_parts (is_late base) (list_any late stores) in_time in
+    record {
+      first = ltb-false LATEST_START base both.0;
+      last_times = λ k d inside.
+          let last = (get_or stores k d).state.store.last in
+          ltb-false LATEST_START last (false_from_ne_true (is_late last) (λ found. both_ways (list_any late stores) both.1 (list_any_at late stores k d inside found)));
+    }
 
 -- the store at its place meets what the store with its identifier meets
 meets_there : (requirement : Requirement) (q : Dumping) (stores : List Held) (s place : ℕ) → IsPlaceOf (row q s).id stores place → meets_at requirement q stores s ≡ true
@@ -111,31 +110,27 @@ row_there q h known =
     (place q h.id, within, (bytes_eq-Decides _ h.id).0 (passes_at_first (λ (r : StoreRow). bytes_eq r.id h.id) q.rows no_row within))
 
 -- each store is the first with its identifier
-first_is : (stores : List Held) → AreHeld stores → (k : ℕ) (id : List ℕ) → k < length stores → (get_or stores k no_held).id ≡ id → position_or_len (has_id id) stores ≡ k
-first_is stores held k id within same =
-    position_or_len_is (has_id id) stores k no_held (omega arith)
-    (λ j before. is_other (get_or stores j no_held).id id (λ other. held.named j k no_held before within (other ∙ sym same))) (λ inside. (bytes_eq-Decides _ id).1 same)
+first_is : (stores : List Held) → AreHeld stores → (k : ℕ) (d : Held) (id : List ℕ) → k < length stores → (get_or stores k d).id ≡ id → position_or_len (has_id id) stores ≡ k
+first_is stores held k d id within same =
+    position_or_len_is (has_id id) stores k d (omega arith)
+    (λ j before. is_other (get_or stores j d).id id (λ other. held.named j k d before within (other ∙ sym same))) (λ inside. (bytes_eq-Decides _ id).1 same)
 
 -- where all tests passed, each store of the memory is ready
 pub all_ready : (q : Dumping) (stores : List Held) → AreHeld stores → AllMeet Ready q stores → NoneUnknown q stores → All (λ h. IsState h.state) stores → AreReady stores
 all_ready q stores held stores_ready known sound = record {
   sound = sound;
-  storage = λ k d inside. subst (λ (h : Held). IsTrue h.state.storage) (there k d inside) (each k inside).0;
-  idle = λ k d inside. subst (λ (h : Held). h.state.retrieval ≡ None) (there k d inside) (each k inside).1;
+  storage = λ k d inside. (each k d inside).0;
+  idle = λ k d inside. (each k d inside).1;
 }
   where
-    there : (k : ℕ) (d : Held) → k < length stores → get_or stores k no_held ≡ get_or stores k d
-    there k d inside = get_or_default stores k no_held d inside
-
-    each : (k : ℕ) → k < length stores → IsTrue (get_or stores k no_held).state.storage × ((get_or stores k no_held).state.retrieval ≡ None)
-    each k inside =
-        let h = get_or stores k no_held in
-        let found = row_there q h (known k no_held inside) in
+    each : (k : ℕ) (d : Held) → k < length stores → IsTrue (get_or stores k d).state.storage × ((get_or stores k d).state.retrieval ≡ None)
+    each k d inside =
+        let h = get_or stores k d in
+        let found = row_there q h (known k d inside) in
         let id = (row q found.0).id in
-        let at : position_or_len (has_id id) stores ≡ k = first_is stores held k id inside (sym found.2) in
-        let is : store_of id stores ≡ Some h = find_at (has_id id) stores ∙ ap (λ (j : ℕ). slice_get stores j) at ∙ slice_get-get_or stores k no_held inside in
-        let meets_it : meets Ready (row q found.0) (Some h) ≡ true = subst (λ (o : Option Held). meets Ready (row q found.0) o ≡ true) is (stores_ready found.0 found.1) in
-        standing_gives h.state.storage h.state.retrieval meets_it
+        let at : position_or_len (has_id id) stores ≡ k = first_is stores held k d id inside (sym found.2) in
+        let is : store_of id stores ≡ Some h = find_at (has_id id) stores ∙ ap (λ (j : ℕ). slice_get stores j) at ∙ slice_get-get_or stores k d inside in
+        standing_gives h.state.storage h.state.retrieval (subst (λ (o : Option Held). meets Ready (row q found.0) o ≡ true) is (stores_ready found.0 found.1))
 
 -- before its first step a run has done nothing
 pub done_first : {L : Type 0} (sent : L → List Sent) (failed : L → ℕ) (m : RunInput) (now : RunState Supply L) (report : Reported)
@@ -189,42 +184,6 @@ far_first steps sources stores base early far k d inside =
     let last = early.last_times k d inside in
     record { offered = omega (arith, offered); last = omega (arith, last) }
 
--- what is required of a run is required of it with as many supplies as sources, and what is required of a step the other way round
-pub may_run_in : {S L : Type 0} (failed : L → ℕ) (run : RunContext) (buffers : RunBuffers) (now : RunState S L) (given : List Supply) → length given ≡ length now.sources
-    → MayRun failed run buffers now → MayRun failed run buffers (with_supplies now given)
-may_run_in failed run buffers now given same may = record {
-  begins = subst (λ (n : ℕ). MayBegin (run_start run.problem.now run.plan.now now.stores run.base n (length now.links))) (sym same) may.begins;
-  held = may.held;
-  sound = may.sound;
-  links = may.links;
-  report = may.report;
-  orders = may.orders;
-}
-
-pub may_report_of : {S L : Type 0} (failed : L → ℕ) (run : RunContext) (places : List ℕ) (step : ℕ) (buffers : RunBuffers) (now : RunState S L) (given : List Supply)
-    → length given ≡ length now.sources → MayReport failed run places step buffers (with_supplies now given) → MayReport failed run places step buffers now
-may_report_of failed run places step buffers now given same may = record {
-  shape = may.shape;
-  first = may.first;
-  last = may.last;
-  few = may.few;
-  all = may.all;
-  within = may.within;
-  carry = record {
-    record_may = record { few = may.carry.record_may.few; named = may.carry.record_may.named; many = omega (arith, same, may.carry.record_may.many) };
-    ready = may.carry.ready;
-    some_link = may.carry.some_link;
-    few_links = may.carry.few_links;
-    links = may.carry.links;
-    orders_may = may.carry.orders_may;
-    early = may.carry.early;
-  };
-  fit = may.fit;
-  orders = may.orders;
-  ids = may.ids;
-  room = may.room;
-}
-
 -- a run before one of its steps, whose stores stand at these places
 module _ {L : Type 0} (sent : L → List Sent) (failed : L → ℕ) (run : RunContext) (places : List ℕ) (t : ℕ) (first : RunState Supply L) where
   abbrev pub q : Dumping
@@ -234,140 +193,114 @@ module _ {L : Type 0} (sent : L → List Sent) (failed : L → ℕ) (run : RunCo
   input = given_to run first
 
   -- what is known of it
-  pub record Underway (now : RunState Supply L) (buffers : RunBuffers) : Type 0 where
+  pub record Underway (now : RunState Supply L) (report : Reported) : Type 0 where
     pub is : IsDumping q
     pub from_one : 1 ≤ t
     pub last : t ≤ length q.windows
-    pub ran : HasRun sent failed input run.plan.now first (t - 1) now buffers.report
-    pub footing : Footing input first.sources places
+    pub ran : HasRun sent failed input run.plan.now first (t - 1) now report
+    pub footing : Footing input places
     pub labels : labels_of now.stores ≡ labels_of first.stores
-    pub sources_many : length now.sources ≡ length first.sources
-    pub may : MayReport failed run places t buffers now
+    pub early : run.base + t < 2 ^ 64
+    pub orders : AreOrders (length now.stores) (orders_at run places t)
 
-  module _ {start : RunBuffers} (may : MayRun failed run start first) (is : IsDumping q) (now : RunState Supply L) (buffers : RunBuffers)
-      (ran : HasRun sent failed input run.plan.now first (t - 1) now buffers.report) where
-    -- what holds through the whole run
-    footing_of : ArePlaces q first.stores (length q.rows) places → Footing input first.sources places
-    footing_of stand = record {
-      gives_are = refl;
-      stand_at = stand;
-      apart = places_differ q first.stores places is.stores stand;
-      ready = λ s store.
-          let place = stand s store in
-          subst (λ (k : ℕ). IsReady q s (opening_at (states_of first.stores) k)) place.is
-          (ready_of q first.stores s (slice_index places s) place (may.begins.sizes (omega arith) s store) (may.begins.openings (omega arith) s store)
-          (state_holds IsState first.stores may.sound (slice_index places s) place.within));
-      early = by_clock run.base (length q.windows) (early_by first.stores run.base (may.begins.in_time (omega arith))).first is.steps.at_most;
-    }
-      where
-        by_clock : (b s : ℕ) → b ≤ LATEST_START → s ≤ MAX_STEPS → b + s < 2 ^ 64
-        by_clock b s first few = omega arith
+  pub underway : (now : RunState Supply L) (report : Reported) → IsDumping q → ArePlaces q first.stores (length q.rows) places → All (λ h. IsState h.state) first.stores → 1 ≤ t
+      → t ≤ length q.windows → labels_of now.stores ≡ labels_of first.stores → HasRun sent failed input run.plan.now first (t - 1) now report → Underway now report
+  underway now report is stand sound from_one last labels ran =
+      let apart = places_differ q first.stores places is.stores stand in
+      let many = as_many now.stores first.stores labels in
+      let base_early = (early_by first.stores run.base (ran.began.in_time (omega arith))).first in
+      record {
+        is = is;
+        from_one = from_one;
+        last = last;
+        ran = ran;
+        footing = record {
+          stand_at = stand;
+          apart = apart;
+          ready = λ s store.
+              let place = stand s store in
+              subst (λ (k : ℕ). IsReady q s (opening_at (states_of first.stores) k)) place.is
+              (ready_of q first.stores s (slice_index places s) place (ran.began.sizes (omega arith) s store) (ran.began.openings (omega arith) s store)
+              (state_holds IsState first.stores sound (slice_index places s) place.within));
+          early = by_clock run.base (length q.windows) base_early is.steps.at_most;
+        };
+        labels = labels;
+        early = by_clock run.base t base_early (omega (arith, last, is.steps.at_most));
+        orders = may_order (amount run.plan.now) places t (length q.rows) (length now.stores) is.stores.at_most (λ s store. rw many (stand s store).within) apart;
+      }
+    where
+      by_clock : (b s : ℕ) → b ≤ LATEST_START → s ≤ MAX_STEPS → b + s < 2 ^ 64
+      by_clock b s early few = omega arith
 
-    labels : labels_of now.stores ≡ labels_of first.stores
-    labels = ap labels_of ran.done.stores_are ∙ ran.done.runs.labels (t - 1) (omega arith)
-
-    sources_many : length now.sources ≡ length first.sources
-    sources_many = as_many_sources 0 first.sources now.sources (ran.done.sources_are.others 0 (λ first last. absurd (omega arith)))
-
-    -- the step may be carried out and reported
-    may_report : Footing input first.sources places → length places ≡ length q.rows → 1 ≤ t → t ≤ length q.windows → MAX_STORES ≤ vec_capacity buffers.orders
-        → MayReport failed run places t buffers now
-    may_report footing all from_one last orders =
-        let many = as_many now.stores first.stores labels in
-        let within : (s : ℕ) → s < length q.rows → slice_index places s < length now.stores = λ s store. rw many (footing.stand_at s store).within in
-        let counts = may.begins.counts (omega arith) in
-        let failures = ran.done.links_are.no_failure in
-        let links_many : length now.links ≡ length first.links = sym (length-map now.links failed) ∙ ap length failures ∙ length-map first.links failed in
-        let steps_many = ap (λ (r : Reported). length r.steps) ran.done.report_is ∙ length-map-range_with_len _ 1 (t - 1) in
-        record {
-          shape = may.begins.shape (omega arith);
-          first = from_one;
-          last = last;
-          few = omega (arith, all, is.stores.at_most);
-          all = all;
-          within = All-from_get_or (λ (place : ℕ). place < length now.stores) places 0 (λ k inside. within k (omega (arith, inside, all)));
-          carry = record {
-            record_may = record {
-              few = omega (arith, many, may.held.at_most);
-              named = named_of now.stores (held_as now.stores first.stores labels may.held).named;
-              many = omega (arith, sources_many, counts.few_sources);
-            };
-            ready = ran.ready;
-            some_link = omega (arith, links_many, counts.some_link);
-            few_links = omega (arith, links_many, counts.few_links);
-            links = all_same (λ (n : ℕ). n < 2 ^ 64 - 1) failed first.links now.links failures may.links;
-            orders_may = may_order (amount run.plan.now) places t (length q.rows) (length now.stores) is.stores.at_most within footing.apart;
-            early = by_step run.base t (length q.windows) footing.early last;
+  -- the step may be carried out and reported, with sources that give this
+  pub may_report : {S : Type 0} (now : RunState S L) (given : List Supply) (buffers : RunBuffers) → length given ≡ length now.sources
+      → Underway (with_supplies now given) buffers.report → AreHeld first.stores → All (λ l. failed l < 2 ^ 64 - 1) first.links
+      → StandWithin (length q.rows) now.stores places → MAX_STORES ≤ vec_capacity buffers.orders → MayReport failed run places t buffers now
+  may_report now given buffers same here held links stand room =
+      let ran = here.ran in
+      let many = as_many now.stores first.stores here.labels in
+      let sources_many = as_many_sources 0 first.sources given (ran.done.sources_are.others 0 (λ first last. absurd (omega arith))) in
+      let counts = ran.began.counts (omega arith) in
+      let failures = ran.done.links_are.no_failure in
+      let links_many : length now.links ≡ length first.links = sym (length-map now.links failed) ∙ ap length failures ∙ length-map first.links failed in
+      let steps_many = ap (λ (r : Reported). length r.steps) ran.done.report_is ∙ length-map-range_with_len _ 1 (t - 1) in
+      record {
+        shape = ran.began.shape (omega arith);
+        first = here.from_one;
+        last = here.last;
+        places = stand;
+        carry = record {
+          record_may = record {
+            few = omega (arith, many, held.at_most);
+            named = named_of now.stores (held_as now.stores first.stores here.labels held).named;
+            many = omega (arith, same, sources_many, counts.few_sources);
           };
-          fit = rw (wanted_in_all (amount run.plan.now) places t (length q.rows)) (may.begins.fits (omega arith) t from_one (omega arith)).windowed;
-          orders = orders;
-          ids = ap (λ (r : Reported). length r.ids) ran.done.report_is ∙ length-map q.rows (λ r. r.id);
-          room = omega (arith, steps_many, ap (λ (r : Reported). r.most) ran.done.report_is, from_one, last);
-        }
-      where
-        by_step : (b s n : ℕ) → b + n < 2 ^ 64 → s ≤ n → b + s < 2 ^ 64
-        by_step b s n early last = omega arith
+          ready = ran.ready;
+          some_link = omega (arith, links_many, counts.some_link);
+          few_links = omega (arith, links_many, counts.few_links);
+          links = all_same (λ (n : ℕ). n < 2 ^ 64 - 1) failed first.links now.links failures links;
+          orders_may = here.orders;
+          early = here.early;
+        };
+        fit = rw (wanted_in_all (amount run.plan.now) places t (length q.rows)) (ran.began.fits (omega arith) t here.from_one (omega (arith, here.last))).windowed;
+        orders = room;
+        ids = ap (λ (r : Reported). length r.ids) ran.done.report_is ∙ length-map q.rows (λ r. r.id);
+        room = omega (arith, steps_many, ap (λ (r : Reported). r.most) ran.done.report_is, here.from_one, here.last);
+      }
 
-    pub underway : {held : List Held} (all : List ℕ) {many ends : ℕ} → held ≡ first.stores → ArePlaces q held (length q.rows) all → length all ≡ MAX_STORES
-        → many ≡ length q.rows → places ≡ take many all → 1 ≤ t → t < ends + 1 → ends ≡ length q.windows → MAX_STORES ≤ vec_capacity buffers.orders → Underway now buffers
-    underway all read there sixteen cut are from_one inside ends room =
-        let cut_here : places ≡ take (length q.rows) all = are ∙ ap (λ (n : ℕ). take n all) cut in
-        let stand = places_cut q first.stores (length q.rows) all (subst (λ (xs : List Held). ArePlaces q xs (length q.rows) all) read there) in
-        let footing = footing_of (subst (ArePlaces q first.stores (length q.rows)) (sym cut_here) stand) in
-        let last : t ≤ length q.windows = omega (arith, inside, ends) in
-        let many : length places ≡ length q.rows = ap length are ∙ length-take-le _ all (omega (arith, cut, is.stores.at_most, sixteen)) ∙ cut in
-        record {
-          is = is;
-          from_one = from_one;
-          last = last;
-          ran = ran;
-          footing = footing;
-          labels = labels;
-          sources_many = sources_many;
-          may = may_report footing many from_one last room;
-        }
-
-  module _ (now : RunState Supply L) (buffers : RunBuffers) (here : Underway now buffers) where
+  module _ (now : RunState Supply L) (buffers : RunBuffers) (here : Underway now buffers.report) where
     -- the orders of the step, by their stores' places in the memory
-    pub orders_here : orders_at run places t ≡ step_orders input t
-    orders_here = orders_are input places t (λ s store. (here.footing.stand_at s store).is)
+    orders_here : (u : ℕ) → orders_at run places u ≡ step_orders input u
+    orders_here u = orders_are input places u (λ s store. (here.footing.stand_at s store).is)
 
     -- one step more
     pub ran_on : RunsLoseAsPlanned → RunsLoseNoPacketUncounted → (after : RunState Supply L) (left : RunBuffers)
-        → StepReported sent failed run places t now after buffers left → AreReady after.stores
-        → HasRun sent failed input run.plan.now first (t + 1 - 1) after left.report
-    ran_on law counts after left stepped ready =
-        let same : t ≡ suc (t - 1) = omega (arith, here.from_one) in
-        let then : suc (t - 1) ≡ t + 1 - 1 = omega (arith, here.from_one) in
-        let step = subst (λ (u : ℕ). StepDone sent failed (recording_in input u now.stores) (orders_of input.amounts places u (length q.rows)) now after) same stepped.done in
-        let row = subst (λ (u : ℕ). left.report
-        ≡ record buffers.report { steps = buffers.report.steps ++ row_from q u places now.stores after.stores (length q.rows) ∷ [] }) same stepped.row in
-        let done = subst (λ (u : ℕ). StepsDone sent failed input first.sources first.links u after left.report) then
-        (done_on sent failed input first.sources first.links places here.footing (t - 1) now after buffers.report here.ran.done step law counts
-        (omega (arith, here.last, same)) left.report row) in
-        record { began = here.ran.began; done = done; fit = all_fit done (omega (arith, here.last, here.from_one)); ready = ready }
+        → StepReported sent failed run places t now after buffers left → AreReady after.stores → HasRun sent failed input run.plan.now first (t + 1 - 1) after left.report
+    ran_on law counts after left stepped ready = record { began = here.ran.began; done = done; fit = all_fit; ready = ready }
       where
+        done : StepsDone sent failed input first.sources first.links (t + 1 - 1) after left.report
+        done =
+            done_on sent failed input first.links places here.footing t here.from_one now after buffers.report here.ran.done stepped.done law counts (omega (arith, here.last)) left.report stepped.row
+
         -- what the links took in each of the steps fits
-        all_fit : {steps : ℕ} (done : StepsDone sent failed input first.sources first.links steps after left.report) → steps ≤ length q.windows
-            → (u : ℕ) → 1 ≤ u → u ≤ steps → FitsAt q (taken_amounts input done.gave done.links_are.took) u
-        all_fit {steps = steps} done within u from_one last =
-            taken_fits input steps done.stores done.gave done.links_are.took done.runs u from_one last
+        all_fit : (u : ℕ) → 1 ≤ u → u ≤ t + 1 - 1 → FitsAt q (taken_amounts input done.gave done.links_are.took) u
+        all_fit u from_one last =
+            taken_fits input (t + 1 - 1) done.stores done.gave done.links_are.took done.runs u from_one last
             (λ s store.
-            let stands = λ (r : ℕ) (inside : r < length q.rows). (here.footing.stand_at r inside).is in
-            let often = done.links_are.once (place_in_memory input s) u from_one last in
-            let named = named_once input.amounts places u (length q.rows) s here.footing.apart store in
-            let one = subst (λ (p : ℕ). times p (places_of (orders_of input.amounts places u (length q.rows))) ≤ 1) (stands s store) named in
-            subst (λ (k : ℕ). k ≤ 1) (sym often)
-            (subst (λ (os : List Order). times (place_in_memory input s) (places_of os) ≤ 1) (orders_are input places u stands) one))
-            (here.ran.began.fits (omega arith) u from_one (omega (arith, last, within)))
+            let once = named_once input.amounts places u (length q.rows) s here.footing.apart store in
+            let Once = λ (by : ℕ × List Order). times by.0 (places_of by.1) ≤ 1 in
+            let one = subst Once (λ i. ((here.footing.stand_at s store).is i, orders_here u i)) once in
+            subst (λ (k : ℕ). k ≤ 1) (sym (done.links_are.once (place_in_memory input s) u from_one last)) one)
+            (here.ran.began.fits (omega arith) u from_one (omega (arith, last, here.last)))
 
     -- the step was broken off
     pub halted_in : BrokenOrdersChangeNothing → (after : RunState Supply L) (left : RunBuffers) (broken : StepBroken)
         → StepUnreported sent failed run places t now after buffers left broken → AreReady after.stores
         → IsHaltedIn sent failed input run.plan.now first t after (record { broken = broken; report = left.report })
     halted_in changes after left broken stepped ready =
-        let how = subst (λ (orders : List Order). StepBroke sent failed (recording_in input t now.stores) orders now after broken) orders_here stepped.how in
-        let stopped = stopped_of sent failed (recording_in input t now.stores) (step_orders input t) now after broken how in
+        let e = recording_in input t now.stores in
+        let how = subst (λ (orders : List Order). StepBroke sent failed e orders now after broken) (orders_here t) stepped.how in
+        let stopped = stopped_of sent failed e (step_orders input t) now after broken how in
         record {
           from_one = here.from_one;
           last = here.last;
@@ -379,8 +312,8 @@ module _ {L : Type 0} (sent : L → List Sent) (failed : L → ℕ) (run : RunCo
           within = stepped.within;
           how = how;
           failed_link = λ is_link.
-              failed_link sent failed (recording_in input t now.stores) (step_orders input t) now after broken changes refl
-              (subst (All (λ (o : Order). o.place < length now.stores)) orders_here here.may.carry.orders_may.places) is_link how;
+              failed_link sent failed e (step_orders input t) now after broken changes refl
+              (subst (All (λ (o : Order). o.place < length now.stores)) (orders_here t) here.orders.places) is_link how;
         }
 
     -- counts that are far from their end stay so, and each store takes what comes
@@ -399,6 +332,7 @@ module _ {L : Type 0} (sent : L → List Sent) (failed : L → ℕ) (run : RunCo
       pub far_on : StepRunsKeepStores → (after : RunState Supply L) → StepDone sent failed (recording_at run t now.stores) (orders_at run places t) now after
           → AllFar (bound_at (t + 1 - 1)) after.stores
       far_on law after done =
+          let sources_many = as_many_sources 0 first.sources now.sources (here.ran.done.sources_are.others 0 (λ first last. absurd (omega arith))) in
           subst (λ (b : ℕ). AllFar b after.stores) (bound_more t here.from_one)
-          (far_after sent failed law (recording_at run t now.stores) (orders_at run places t) now after here.may.carry.early here.ran.ready done (bound_at (t - 1))
-          (omega (arith, here.sources_many, (here.ran.began.counts (omega arith)).few_sources)) few_here early_here far)
+          (far_after sent failed law (recording_at run t now.stores) (orders_at run places t) now after here.early here.ran.ready done (bound_at (t - 1))
+          (omega (arith, sources_many, (here.ran.began.counts (omega arith)).few_sources)) few_here early_here far)

@@ -23,7 +23,7 @@ use Rattle.mm_desk.specs.Laws.{OrdersDumpTheOldest}
 use Rattle.mm_desk.specs.Machine.{State, IsState, offer, step}
 use Rattle.mm_desk.specs.Offers.{IsShuffleOfEvents, count_of}
 use Rattle.mm_desk.specs.Runs.{blank, opening_at, replay, IsRun}
-use Rattle.mm_shared.specs.Stores.{states_of, id_at}
+use Rattle.mm_shared.specs.Stores.{labels_of, states_of, id_at}
 use Rattle.mm_memory.specs.Laws.{ids_of}
 use Rattle.mm_memory.specs.Recording.{is_routed}
 use Rattle.mm_record.specs.Recorded.{RecordingContext, offers}
@@ -39,7 +39,7 @@ use Rattle.mm_exec.specs.StepRuns.{IsBy, AreBy, KeepsStore}
 use Rattle.mm_exec.proofs.Times.{by_offer}
 use Rattle.mm_exec.proofs.Replays.{shuffled}
 use Rattle.mm_exec.specs.Halts.{AreFirstOffers}
-use Rattle.mm_exec.specs.Step.{AreReady, MayCarry, StepRecorded, StepDone, OrdersBroke, StepBroke}
+use Rattle.mm_exec.specs.Step.{AreReady, AreLeft, MayCarry, StepRecorded, StepDone, OrdersBroke, StepBroke}
 use Rattle.mm_exec.specs.RunState.{RunState}
 use Rattle.mm_exec.specs.declared.step.StepBroken.{StepBroken}
 use Rattle.mm_exec.proofs.Firsts.{first_turns}
@@ -96,23 +96,33 @@ run_keeps : (now : ℕ) (lists : List (List Event)) (log : List Entry) (s t : St
 run_keeps now lists log s t run shuffle by =
     subst (λ (u : State). KeepsSwitches s u) (sym run.leaves) (log_keeps now s log (shuffled (IsBy now) lists log shuffle by))
 
--- stores that are sound, and whose switches are as they were, are ready where they were
-pub ready_kept : (stores left : List Held) → length left ≡ length stores → All (λ h. IsState h.state) left
-    → ((k : ℕ) → k < length left → KeepsSwitches (opening_at (states_of stores) k) (opening_at (states_of left) k)) → AreReady stores → AreReady left
-ready_kept stores left many sound at ready = record {
-  sound = sound;
-  storage = all_states (λ (s : State). IsTrue s.storage) left (λ k within.
-      (at k within).storage ∙ state_holds (λ (s : State). IsTrue s.storage) stores ready.storage k (omega (arith, many, within)));
-  idle = all_states (λ (s : State). s.retrieval ≡ None) left (λ k within.
-      (at k within).retrieval ∙ state_holds (λ (s : State). s.retrieval ≡ None) stores ready.idle k (omega (arith, many, within)));
-}
+-- stores that are sound, and whose switches are as they were, are left ready where they were
+pub left_ready : (stores left : List Held) → labels_of left ≡ labels_of stores → All (λ h. IsState h.state) left
+    → ((k : ℕ) → k < length (states_of left) → KeepsSwitches (opening_at (states_of stores) k) (opening_at (states_of left) k)) → AreReady stores → AreLeft stores left
+left_ready stores left labels sound at ready =
+    let many = as_many left stores labels in
+    let counted = length-map left (λ (h : Held). h.state) in
+    record {
+      labels = labels;
+      ready = record {
+        sound = sound;
+        storage = all_states (λ (s : State). IsTrue s.storage) left (λ k within.
+            (at k (omega (arith, counted, within))).storage ∙ state_holds (λ (s : State). IsTrue s.storage) stores ready.storage k (omega (arith, many, within)));
+        idle = all_states (λ (s : State). s.retrieval ≡ None) left (λ k within.
+            (at k (omega (arith, counted, within))).retrieval ∙ state_holds (λ (s : State). s.retrieval ≡ None) stores ready.idle k (omega (arith, many, within)));
+      };
+    }
+
+-- stores that are left twice
+pub left_on : (before mid after : List Held) → AreLeft before mid → AreLeft mid after → AreLeft before after
+left_on before mid after first second = record { labels = second.labels ∙ first.labels; ready = second.ready }
 
 -- stores that have recorded are ready
-pub ready_recorded : {L : Type 0} (e : RecordingContext) (before mid : RunState Supply L) → AreReady before.stores → StepRecorded e before mid → AreReady mid.stores
-ready_recorded e before mid ready recorded =
-    ready_kept before.stores mid.stores (as_many mid.stores before.stores recorded.labels) recorded.sound
+pub left_recorded : {L : Type 0} (e : RecordingContext) (before mid : RunState Supply L) → AreReady before.stores → StepRecorded e before mid → AreLeft before.stores mid.stores
+left_recorded e before mid ready recorded =
+    left_ready before.stores mid.stores recorded.labels recorded.sound
     (λ k within.
-    let has = recorded.stores_are k (omega (arith, within, length-map mid.stores (λ (h : Held). h.state))) in
+    let has = recorded.stores_are k within in
     run_keeps e.now (map (offers e k) (given_in e.step before.sources)) has.log _ _ has.run has.shuffle (all_by e k (given_in e.step before.sources))) ready
 
 -- the first of the offers of sources are offers at the moment
@@ -124,16 +134,16 @@ firsts_by e k (g ∷ gs) (f ∷ fs) are =
 firsts_by e k given firsts are = absurd are
 
 -- stores at which recorders stopped early are ready
-ready_stopped : (e : RecordingContext) (stores left : List Held) (sources sources_left : List Supply) (why : Option Fault)
-    → length e.ids ≡ length stores → AreReady stores → Records e stores left why sources sources_left → AreReady left
-ready_stopped e stores left sources sources_left why ids ready records =
-    ready_kept stores left (as_many left stores records.labels) records.sound
+left_stopped : (e : RecordingContext) (stores left : List Held) (sources sources_left : List Supply) (why : Option Fault)
+    → length e.ids ≡ length stores → AreReady stores → Records e stores left why sources sources_left → AreLeft stores left
+left_stopped e stores left sources sources_left why ids ready records =
+    left_ready stores left records.labels records.sound
     (λ k within.
-    let went = records.went k (omega (arith, within, length-map left (λ (h : Held). h.state))) in
+    let went = records.went k within in
     let many = as_many left stores records.labels in
     run_keeps e.now (map (λ run. run.offered k) records.runs) went.log _ _ went.run went.shuffle
     (firsts_by e k (given_in e.step sources) (map (λ run. run.offered k) records.runs)
-    (first_turns e sources sources_left records.runs k records.are_runs (omega (arith, within, many, ids))))) ready
+    (first_turns e sources sources_left records.runs k records.are_runs (omega (arith, within, length-map left (λ (h : Held). h.state), many, ids))))) ready
 
 -- an order leaves the switches
 tried_keeps : OrdersDumpTheOldest → BrokenOrdersChangeNothing → (k : ℕ) (s t : State) (taken : ℕ) (c : Course) → IsState s → HasTried taken k c s t → KeepsSwitches s t
@@ -151,24 +161,26 @@ tried_keeps dump changes k s t taken c sound tried = elim (cases_lt 0 taken) [
     by_why (Some why) broke = alike (changes s t c.seat c.order.amount (c.sent ++ c.unsent) c.calls broke.order tried.run).0
 
 -- stores of a dump of which orders broke are ready
-ready_broken : {S L : Type 0} (sent : L → List Sent) (failed : L → ℕ) (step : ℕ) (orders : List Order) (mid after : RunState S L) (stop : StepBroken)
-    → OrdersDumpTheOldest → BrokenOrdersChangeNothing → AreReady mid.stores → OrdersBroke sent failed step orders mid after stop → AreReady after.stores
-ready_broken sent failed step orders mid after stop dump changes ready broke =
+left_broken : {S L : Type 0} (sent : L → List Sent) (failed : L → ℕ) (step : ℕ) (orders : List Order) (mid after : RunState S L) (stop : StepBroken)
+    → OrdersDumpTheOldest → BrokenOrdersChangeNothing → AreReady mid.stores → OrdersBroke sent failed step orders mid after stop → AreLeft mid.stores after.stores
+left_broken sent failed step orders mid after stop dump changes ready broke =
     let many = as_many after.stores mid.stores broke.labels in
-    ready_kept mid.stores after.stores many broke.sound
+    left_ready mid.stores after.stores broke.labels broke.sound
     (λ k within.
-    tried_keeps dump changes k _ _ _ (broke.settled.course k) (state_holds IsState mid.stores ready.sound k (omega (arith, within, many)))
-    (broke.settled.stores k (omega (arith, within, length-map after.stores (λ (h : Held). h.state))))) ready
+    tried_keeps dump changes k _ _ _ (broke.settled.course k)
+    (state_holds IsState mid.stores ready.sound k (omega (arith, within, length-map after.stores (λ (h : Held). h.state), many))) (broke.settled.stores k within)) ready
 
 -- stores of a step that was broken off are ready for more
-pub ready_left : {L : Type 0} (sent : L → List Sent) (failed : L → ℕ) (e : RecordingContext) (orders : List Order)
+pub left_halted : {L : Type 0} (sent : L → List Sent) (failed : L → ℕ) (e : RecordingContext) (orders : List Order)
     (before after : RunState Supply L) (stop : StepBroken) → OrdersDumpTheOldest → BrokenOrdersChangeNothing → ids_of before.stores ≡ e.ids → AreReady before.stores
-    → StepBroke sent failed e orders before after stop → AreReady after.stores
-ready_left {L = L} sent failed e orders before after stop dump changes ids ready =
-    by_how sent failed e orders before after stop (AreReady after.stores)
+    → StepBroke sent failed e orders before after stop → AreLeft before.stores after.stores
+left_halted sent failed e orders before after stop dump changes ids ready =
+    by_how sent failed e orders before after stop (AreLeft before.stores after.stores)
     (λ broke.
-    ready_stopped e before.stores after.stores before.sources after.sources broke.why (ap length (sym ids) ∙ length-map before.stores (λ (h : Held). h.id)) ready broke.records)
-    (λ mid recorded broke. ready_broken sent failed e.step orders mid after stop dump changes (ready_recorded e before mid ready recorded) broke)
+    left_stopped e before.stores after.stores before.sources after.sources broke.why (ap length (sym ids) ∙ length-map before.stores (λ (h : Held). h.id)) ready broke.records)
+    (λ mid recorded broke.
+    let left = left_recorded e before mid ready recorded in
+    left_on before.stores mid.stores after.stores left (left_broken sent failed e.step orders mid after stop dump changes left.ready broke))
 
 -- a step's dump may be carried out after what came is recorded
 pub may_dump : {S L : Type 0} (failed : L → ℕ) (moment : ℕ) (orders : List Order) (before mid : RunState S L) → MayCarry failed moment orders before
@@ -222,10 +234,12 @@ module _ {L : Type 0} (sent : L → List Sent) (failed : L → ℕ) (law : StepR
       (all_by e k (given_in e.step before.sources)) (done.runs k within)
 
   -- the stores are ready for the next step
-  pub ready_after : AreReady after.stores
-  ready_after =
-      ready_kept before.stores after.stores many (all_states IsState after.stores (λ k within. (kept_at k within).sound))
-      (λ k within. let kept = kept_at k within in record { storage = kept.storage; retrieval = kept.retrieval }) ready
+  pub left_after : AreLeft before.stores after.stores
+  left_after =
+      left_ready before.stores after.stores done.labels (all_states IsState after.stores (λ k within. (kept_at k within).sound))
+      (λ k within.
+      let kept = kept_at k (omega (arith, within, length-map after.stores (λ (h : Held). h.state))) in
+      record { storage = kept.storage; retrieval = kept.retrieval }) ready
 
   -- counts move by less than 2^20
   pub far_after : (bound : ℕ) → length before.sources ≤ 8 → All (λ s. length (s e.step) ≤ 65535) before.sources → e.now ≤ bound → AllFar bound before.stores

@@ -13,6 +13,7 @@ use Rattle.mm_dump.specs.declared.order.Order.{Order}
 use Rattle.mm_dump.specs.Dumped.{amount_of}
 use Rattle.mm_dump.specs.Sending.{Sent}
 use Rattle.mm_exec.specs.Readiness.{run_start, MayBegin}
+use Rattle.mm_exec.specs.Places.{StandWithin}
 use Rattle.mm_exec.specs.declared.course.RunContext.{RunContext}
 use Rattle.mm_exec.specs.declared.room.RunBuffers.{RunBuffers}
 use Rattle.mm_exec.specs.declared.step.StepBroken.{StepBroken}
@@ -40,9 +41,7 @@ pub record MayReport {S L : Type 0} (failed : L → ℕ) (run : RunContext) (pla
   pub shape : HasShape run.problem.now run.plan.now
   pub first : 1 ≤ step
   pub last : step ≤ length run.problem.now.windows
-  pub few : length places ≤ MAX_STORES
-  pub all : length places ≡ length run.problem.now.rows
-  pub within : All (λ place. place < length now.stores) places
+  pub places : StandWithin (length run.problem.now.rows) now.stores places
   pub carry : MayCarry failed (run.base + step) (orders_at run places step) now
   pub fit : amount_of (orders_at run places step) ≤ window run.problem.now step
   pub orders : MAX_STORES ≤ vec_capacity buffers.orders

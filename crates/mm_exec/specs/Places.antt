@@ -1,5 +1,5 @@
 -- The places of the problem's stores in the memory.
-use Rattle.std.specs.Prelude.{◌≡◌, ◌≢◌, ℕ, ◌<◌, List, length, slice_index}
+use Rattle.std.specs.Prelude.{◌≡◌, ◌≢◌, ℕ, ◌<◌, ◌≤◌, List, length, slice_index, All}
 use Rattle.std.specs.List.{position_or_len}
 use Rattle.mm_base.specs.declared.limits.TheConstants.{MAX_STORES}
 use Rattle.mm_problem.specs.Dumping.{Dumping, IsDumping, row}
@@ -20,6 +20,12 @@ pub record AreAllPlaces (q : Dumping) (stores : List Held) (places : List ℕ) :
   pub sound : IsDumping q
   pub stand : ArePlaces q stores (length q.rows) places
   pub count : length places ≡ MAX_STORES
+
+-- a place for each of this many stores, each of a store that is there
+pub record StandWithin (many : ℕ) (stores : List Held) (places : List ℕ) : Type 0 where
+  pub all : length places ≡ many
+  pub few : length places ≤ MAX_STORES
+  pub within : All (λ place. place < length stores) places
 
 -- the stores stand at places of their own
 abbrev pub AreApart : List ℕ → ℕ → Type 0

@@ -2,7 +2,7 @@
 ghost use Rattle.std.specs.Prelude.{◌≡◌, ℕ, length, IfOk, OnOk, IfErr, vec_capacity};
 ghost use Rattle.mm_record.specs.Steps.{TakesAll};
 ghost use Rattle.mm_exec.specs.RunState.{InRun};
-ghost use Rattle.mm_exec.specs.Step.{AreReady, NeverRefused};
+ghost use Rattle.mm_exec.specs.Step.{AreLeft, NeverRefused};
 ghost use Rattle.mm_exec.specs.Places.{AreAllPlaces};
 ghost use Rattle.mm_exec.specs.Course.{given_to, recording_at, MayReport, StepReported, StepUnreported, MayRun, AreWithinLimits};
 ghost use Rattle.mm_exec.specs.Ending.{HasRun, IsHaltedIn};
@@ -61,7 +61,7 @@ impl<S: AnySource + Send + Drop, L: Link + Send + Drop> OpenRun<S, L> {
         ensures far { IfErr result (λ broken. InRun S.leads S.until self.old self.new
             (λ before after. TakesAll (recording_at run.now step before.stores) before.stores before.sources → NeverRefused broken.cause)) }
         ensures capacity { vec_capacity buffers.new.orders ≡ vec_capacity buffers.old.orders }
-        ensures ready { AreReady self.new.stores }
+        ensures left { AreLeft self.old.stores self.new.stores }
     {
         let counters = all_counters(places, &mut self.stores);
         list_orders(&mut buffers.orders, run.plan, places, step);
@@ -93,6 +93,7 @@ impl<S: AnySource + Send + Drop, L: Link + Send + Drop> OpenRun<S, L> {
             (λ first left. (step : ℕ) × IsHaltedIn L.sent L.failed (given_to run.now first) run.now.plan.now first step left stopped)) }
         ensures far { IfErr result (λ stopped. InRun S.leads S.until self.old self.new
             (λ first left. AreWithinLimits (length run.now.problem.now.windows) first.stores first.sources → NeverRefused stopped.broken.cause)) }
+        ensures left { AreLeft self.old.stores self.new.stores }
     {
         broken_orders_change_nothing();
         runs_lose_as_planned();

@@ -11,8 +11,7 @@ use mm_plan::Plan;
 pub(crate) fn list_orders(orders: &mut Vec<Order>, plan: &Plan, places: &[usize], step: u32)
     requires room { length places.now ≤ vec_capacity orders.old }
     requires stores { length places.now ≡ plan.now.stores }
-    requires first { 1 ≤ step }
-    requires last { step ≤ plan.now.steps }
+    requires step { (1 ≤ step) × (step ≤ plan.now.steps) }
     requires within { All (λ place. place < MAX_STORES) places.now }
     ensures orders { orders.new.items ≡ orders_of (amount plan.now) places.now step (length places.now) }
     ensures capacity { vec_capacity orders.new ≡ vec_capacity orders.old }

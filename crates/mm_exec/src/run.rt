@@ -1,5 +1,6 @@
 //! The run of a dump plan.
 ghost use Rattle.std.specs.Prelude.{◌≡◌, ◌-◌, ◌<◌, ◌^◌, [], All, length, IfOk, IfErr};
+ghost use Rattle.mm_shared.specs.Stores.{labels_of};
 ghost use Rattle.mm_memory.specs.Holdings.{AreHeld};
 ghost use Rattle.mm_record.specs.Supplies.{WhateverComes};
 ghost use Rattle.mm_exec.specs.RunState.{InRun};
@@ -18,11 +19,9 @@ use crate::run_parts::RunParts;
 use crate::step::StepBroken;
 use mm_dump::Link;
 use mm_memory::Memory;
-use mm_memory::laws::identifiers_decide_what_is_restored;
 use mm_plan::Plan;
 use mm_problem::Problem;
 use mm_record::AnySource;
-use mm_record::laws::sources_may_stay;
 use mm_report::{Cause, Report};
 use mm_shared::{close_all, open_all, read_states};
 use std::alloc::Global;
@@ -57,6 +56,7 @@ impl<S: AnySource + Send + Drop, L: Link + Send + Drop> RunParts<S, L> {
             (λ first now. IsStopped L.sent L.failed (given_to run.now first) run.now.plan.now self.old self.new now.sources stopped)) }
         ensures far { IfErr result (λ stopped. InRun S.leads S.until self.old self.new
             (λ first now. AreWithinLimits (length run.now.problem.now.windows) first.stores first.sources → NeverRefused stopped.broken.cause)) }
+        ensures labels { labels_of self.new.stores ≡ labels_of self.old.stores }
     {
         let many_sources = self.sources_len();
         let many_links = self.links_len();
@@ -120,8 +120,6 @@ pub fn carry_out<S: AnySource + Send + Drop, L: Link + Send + Drop, R: Threads +
     ensures far { IfErr result (λ halted. WhateverComes S.leads S.until sources.items halted.sources.items
         (λ given left. AreWithinLimits (length problem.now.windows) memory.old.stores given → NeverRefused halted.cause)) }
 {
-    identifiers_decide_what_is_restored();
-    sources_may_stay::<S>();
     let mut parts = RunParts {
         stores: memory.lift(),
         sources,

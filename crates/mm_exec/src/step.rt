@@ -1,8 +1,7 @@
 //! One step of a run: what comes is recorded, and then dumped.
 ghost use Rattle.std.specs.Prelude.{◌≡◌, ◌≤◌, None, Some, OnOk, IfErr, IfSome};
-ghost use Rattle.mm_shared.specs.Stores.{labels_of};
 ghost use Rattle.mm_exec.specs.RunState.{InRun};
-ghost use Rattle.mm_exec.specs.Step.{AreReady, MayCarry, MayRecord, recording_by, StepRecorded, StepDumped, StepDone, RecordersBroke, OrdersBroke, StepBroke, NeverRefused, dump_cause};
+ghost use Rattle.mm_exec.specs.Step.{AreLeft, MayCarry, MayRecord, recording_by, StepRecorded, StepDumped, StepDone, RecordersBroke, OrdersBroke, StepBroke, NeverRefused, dump_cause};
 ghost use Rattle.mm_desk.specs.declared.fault.Fault.TheVariants.{NoMemory};
 ghost use Rattle.mm_record.specs.Causes.{cause_in};
 ghost use Rattle.mm_record.specs.Steps.{TakesAll};
@@ -115,12 +114,11 @@ impl<S: AnySource + Send + Drop, L: Link + Send + Drop> OpenRun<S, L> {
             (StepDone L.sent L.failed (recording_by step.entry.now self.old.stores) orders.now)) }
         ensures how { IfErr result (λ broken. InRun S.leads S.until self.old self.new
             (λ before after. StepBroke L.sent L.failed (recording_by step.entry.now before.stores) orders.now before after broken)) }
-        ensures labels { OnOk result (labels_of self.new.stores ≡ labels_of self.old.stores) }
         ensures within { IfErr result (λ broken. broken.spent ≤ amount_of orders.now) }
         ensures far { IfErr result (λ broken. InRun S.leads S.until self.old self.new
             (λ before after. TakesAll (recording_by step.entry.now before.stores) before.stores before.sources → NeverRefused broken.cause)) }
-        // In any case the stores are sound and ready for more.
-        ensures ready { AreReady self.new.stores }
+        // In any case the stores are left in their order, each sound and ready for more.
+        ensures left { AreLeft self.old.stores self.new.stores }
     {
         any_order_loses_alike();
         broken_orders_change_nothing();

@@ -4,6 +4,7 @@ ghost use Rattle.mm_base.specs.declared.limits.TheConstants.{MAX_STORES};
 ghost use Rattle.mm_desk.specs.Runs.{opening_at};
 ghost use Rattle.mm_shared.specs.Stores.{states_of, stores_in, AreAtRest};
 ghost use Rattle.mm_record.specs.Counters.{counters_of};
+ghost use Rattle.mm_exec.specs.Places.{StandWithin};
 ghost use Rattle.mm_exec.specs.Numbers.{counts_from, AreCounters, AreStepCounts};
 
 use mm_base::MAX_STORES;
@@ -88,11 +89,8 @@ pub(crate) fn step_counts(
     stores: &mut OpenStores,
 ) -> [StepCounts; MAX_STORES]
     requires rest { AreAtRest stores.old }
-    requires all { length places.now ≡ length problem.now.rows }
-    requires few { length places.now ≤ MAX_STORES }
-    requires within { All (λ place. place < length (stores_in stores.old)) places.now }
-    requires first { 1 ≤ step }
-    requires last { step ≤ length problem.now.windows }
+    requires places { StandWithin (length problem.now.rows) (stores_in stores.old) places.now }
+    requires step { (1 ≤ step) × (step ≤ length problem.now.windows) }
     ensures same { stores.new ≡ stores.old }
     ensures len { length result ≡ MAX_STORES }
     ensures counts { AreStepCounts problem.now step (stores_in stores.old) places.now before.now (length places.now) result }

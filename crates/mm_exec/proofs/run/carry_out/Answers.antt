@@ -1,13 +1,14 @@
-use Rattle.std.proofs.Common.{◌≡◌, ◌∙◌, List, length, refl, sym, ap, subst}
+use Rattle.std.proofs.Common.{◌≡◌, ◌∙◌, List, length, sym, ap, subst}
 use Rattle.mm_memory.specs.Holdings.{Holdings}
-use Rattle.mm_memory.specs.Laws.{ids_of}
+use Rattle.mm_shared.specs.Stores.{labels_of}
+use Rattle.mm_record.proofs.Memories.{held_as}
 use Rattle.mm_exec.specs.RunInput.{run_input}
 use Rattle.mm_exec.specs.RunState.{RunState, with_supplies}
 use Rattle.mm_exec.specs.Step.{NeverRefused}
 use Rattle.mm_record.specs.Supplies.{Supply, supplies, WhateverComes}
 use Rattle.mm_exec.specs.Course.{AreWithinLimits}
 use Rattle.mm_exec.specs.Ending.{over_memory, HasRun, IsStopped}
-use Rattle.mm_exec.proofs.Ended.{left_ids, total_is}
+use Rattle.mm_exec.proofs.Ended.{total_is}
 use Rattle.mm_exec.proofs.run.carry_out.Given as given
 use Rattle.mm_exec.proofs.run.carry_out.Goals as goal
 use Rattle.mm_exec.proofs.run.carry_out.Goals.{After-restore}
@@ -30,13 +31,8 @@ left_back g c =
 
 pub restore-requires-clause-are_held : goal.restore-requires-clause-are_held
 restore-requires-clause-are_held g c =
-    let first = over_memory (record { stores = c.lift.result.items; routes = c.control.result.now }) c.args.sources.items c.args.links.items in
-    let input = λ (given : List Supply). run_input c.args.problem.now c.args.plan.now c.args.base (record { stores = c.lift.result.items; routes = c.control.result.now }) given in
-    let ids = left_ids g.S.AnySource.leads g.S.AnySource.until c.sources_may_stay.ensures.law g.L.Link.sent g.L.Link.failed input c.args.plan.now first c.carry_plan-ended.new.self
-    (λ given. refl) (length c.args.problem.now.windows) c.carry_plan-ended.result c.carry_plan-ended.ensures.done c.carry_plan-ended.ensures.stopped in
-    let back = ap (λ (x : RunState g.row.S.Denot g.row.L.Denot). ids_of x.stores) c.parts.view_is in
-    c.identifiers_decide_what_is_restored.ensures.law c.args.memory.now.stores c.parts.inside.stores.items
-    (sym (back ∙ ids ∙ ap ids_of c.lift.ensures.stores)) c.lift.ensures.are_held
+    let back = ap (λ (x : RunState g.row.S.Denot g.row.L.Denot). labels_of x.stores) c.parts.view_is in
+    held_as c.parts.inside.stores.items c.args.memory.now.stores (back ∙ c.carry_plan-ended.ensures.labels ∙ ap labels_of c.lift.ensures.stores) c.lift.ensures.are_held
 
 -- what holds of the run over what was lent, whatever its sources give, holds of it over the memory
 given_back : (g : given.Over) (c : goal.After-restore g) (P : Holdings → RunState g.row.S.Denot g.row.L.Denot → List Supply → List Supply → Type 0)

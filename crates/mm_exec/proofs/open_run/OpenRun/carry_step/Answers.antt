@@ -5,9 +5,9 @@ use Rattle.mm_record.specs.Supplies.{Supply, supplies}
 use Rattle.mm_record.proofs.Supplying.{as_they_are}
 use Rattle.mm_exec.specs.declared.step.StepBroken.{StepBroken}
 use Rattle.mm_exec.specs.RunState.{RunState, with_supplies, InRun}
-use Rattle.mm_exec.specs.Step.{AreReady, recording_by, StepRecorded, StepDumped, StepDone, OrdersBroke, RecordersBroke, StepBroke}
+use Rattle.mm_exec.specs.Step.{AreLeft, recording_by, StepRecorded, StepDumped, StepDone, OrdersBroke, RecordersBroke, StepBroke}
 use Rattle.mm_exec.proofs.Parts.{as_many, both_parts, both_follow, then_dumped, dumped_in, broken_in}
-use Rattle.mm_exec.proofs.StoresReady.{may_dump, ready_after, ready_left, ready_recorded}
+use Rattle.mm_exec.proofs.StoresReady.{may_dump, left_after, left_halted, left_recorded}
 use Rattle.mm_exec.proofs.open_run.OpenRun.carry_step.Given as given
 use Rattle.mm_exec.proofs.open_run.OpenRun.carry_step.Goals as goal
 use Rattle.mm_exec.proofs.open_run.OpenRun.carry_step.Goals.{After-dump}
@@ -60,12 +60,12 @@ as_is g c P whole = (
       (λ given left. P (with_supplies c.args.self.now given) (with_supplies c.dump.new.self left)) whole,
 )
 
-pub returns-in_err-record-clause-ready : goal.returns-in_err-record-clause-ready
-returns-in_err-record-clause-ready g c =
+pub returns-in_err-record-clause-left : goal.returns-in_err-record-clause-left
+returns-in_err-record-clause-left g c =
     let e = recording_by c.args.step.now c.args.self.now.stores in
     let how = as_they_are g.S.AnySource.leads g.S.AnySource.until c.sources_may_stay.ensures.law c.args.self.now.sources c.record.new.self.sources
     (λ given left. RecordersBroke e (with_supplies c.args.self.now given) (with_supplies c.record.new.self left) c.in_err-record.field-0.0) c.in_err-record.ensures.how in
-    ready_left g.L.Link.sent g.L.Link.failed e c.args.orders.now (with_supplies c.args.self.now (supplies g.S.AnySource.until c.args.self.now.sources c.record.new.self.sources))
+    left_halted g.L.Link.sent g.L.Link.failed e c.args.orders.now (with_supplies c.args.self.now (supplies g.S.AnySource.until c.args.self.now.sources c.record.new.self.sources))
     (with_supplies c.record.new.self (supplies g.S.AnySource.until c.record.new.self.sources c.record.new.self.sources)) c.in_err-record.field-0.0
     c.orders_dump_the_oldest.ensures.law c.broken_orders_change_nothing.ensures.law refl c.requires.may.ready (inl how)
 
@@ -76,33 +76,28 @@ dump-requires-clause-may g c κs within =
     (λ given left. StepRecorded e (with_supplies c.args.self.now given) (with_supplies c.record.new.self left)) c.in_ok-record.ensures.ok in
     may_dump g.L.Link.failed c.args.step.now.now c.args.orders.now c.args.self.now c.record.new.self c.requires.may
     (as_many c.record.new.self.stores c.args.self.now.stores recorded.labels) recorded.links
-    (ready_recorded e (with_supplies c.args.self.now (supplies g.S.AnySource.until c.args.self.now.sources c.record.new.self.sources))
-    (with_supplies c.record.new.self (supplies g.S.AnySource.until c.record.new.self.sources c.record.new.self.sources)) c.requires.may.ready recorded)
+    (left_recorded e (with_supplies c.args.self.now (supplies g.S.AnySource.until c.args.self.now.sources c.record.new.self.sources))
+    (with_supplies c.record.new.self (supplies g.S.AnySource.until c.record.new.self.sources c.record.new.self.sources)) c.requires.may.ready recorded).ready
 
 pub returns-clause-ok : goal.returns-clause-ok
 returns-clause-ok g c =
     let at = (goal.at.returns-clause-ok g c).After-dump in
     on_ok_weaker c.dump.result (done g at) c.dump.ensures.ok
 
-pub returns-clause-labels : goal.returns-clause-labels
-returns-clause-labels g c =
-    let at = (goal.at.returns-clause-labels g c).After-dump in
-    on_ok_weaker c.dump.result (λ (dumped : Dumped g at). (as_is g at (Done g at) (done g at dumped)).2.labels) c.dump.ensures.ok
-
 pub returns-clause-how : goal.returns-clause-how
 returns-clause-how g c =
     let at = (goal.at.returns-clause-how g c).After-dump in
     IfErr-weaker c.dump.result (Broken g at) (λ stop. Whole g at (Broke g at stop)) (broke g at) c.dump.ensures.how
 
-pub returns-clause-ready : goal.returns-clause-ready
-returns-clause-ready g c =
-    let at = (goal.at.returns-clause-ready g c).After-dump in
-    both_follow (Dumped g at) (AreReady c.dump.new.self.stores) (Broken g at) c.dump.result c.dump.ensures.ok c.dump.ensures.how
+pub returns-clause-left : goal.returns-clause-left
+returns-clause-left g c =
+    let at = (goal.at.returns-clause-left g c).After-dump in
+    both_follow (Dumped g at) (AreLeft c.args.self.now.stores c.dump.new.self.stores) (Broken g at) c.dump.result c.dump.ensures.ok c.dump.ensures.how
     (λ dumped.
     let is = as_is g at (Done g at) (done g at dumped) in
-    ready_after g.L.Link.sent g.L.Link.failed c.step_runs_keep_stores.ensures.law (context g at) c.args.orders.now (with_supplies c.args.self.now is.0)
+    left_after g.L.Link.sent g.L.Link.failed c.step_runs_keep_stores.ensures.law (context g at) c.args.orders.now (with_supplies c.args.self.now is.0)
     (with_supplies c.dump.new.self is.1) c.requires.may.early c.requires.may.ready is.2)
     (λ stop how.
     let is = as_is g at (Broke g at stop) (broke g at stop how) in
-    ready_left g.L.Link.sent g.L.Link.failed (context g at) c.args.orders.now (with_supplies c.args.self.now is.0) (with_supplies c.dump.new.self is.1) stop
+    left_halted g.L.Link.sent g.L.Link.failed (context g at) c.args.orders.now (with_supplies c.args.self.now is.0) (with_supplies c.dump.new.self is.1) stop
     c.orders_dump_the_oldest.ensures.law c.broken_orders_change_nothing.ensures.law refl c.requires.may.ready is.2)

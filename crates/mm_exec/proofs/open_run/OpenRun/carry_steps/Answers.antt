@@ -1,11 +1,15 @@
-use Rattle.std.proofs.Common.{◌≡◌, ℕ, ◌+◌, ◌-◌, ◌≤◌, List, length, take, refl, subst, arith}
+use Rattle.std.proofs.Common.{◌≡◌, ℕ, ◌+◌, ◌-◌, ◌≤◌, List, length, take, refl, sym, subst, arith}
 use Rattle.std.specs.List.{AllZip}
 use Rattle.mm_record.specs.Supplies.{Supply, supplies}
 use Rattle.mm_record.proofs.Supplying.{all_stay, length-supplies, zip_long}
+use Rattle.mm_exec.specs.Readiness.{run_start, MayBegin}
 use Rattle.mm_exec.specs.Course.{given_to}
 use Rattle.mm_exec.specs.Ending.{HasRun}
 use Rattle.mm_exec.specs.RunState.{RunState, with_supplies, InRun}
-use Rattle.mm_exec.proofs.Starting.{Underway, underway, all_ready, early_by, done_first, far_first, may_run_in, may_report_of, ran_on, far_on, halted_in, takes_here}
+use Rattle.mm_exec.proofs.Parts.{as_many}
+use Rattle.mm_exec.proofs.Placing.{places_cut, stand_cut}
+use Rattle.mm_exec.proofs.StoresReady.{left_on}
+use Rattle.mm_exec.proofs.Starting.{Underway, underway, may_report, all_ready, early_by, done_first, far_first, ran_on, far_on, halted_in, takes_here}
 use Rattle.mm_exec.proofs.open_run.OpenRun.carry_steps.Given as given
 use Rattle.mm_exec.proofs.open_run.OpenRun.carry_steps.Goals as goal
 use Rattle.mm_exec.proofs.open_run.OpenRun.carry_steps.Goals.{In-loop-step}
@@ -19,46 +23,52 @@ now_in g c lasts = with_supplies c.loop-step.self (supplies g.S.AnySource.until 
 
 -- what is known before the step
 here : (g : given.Over) (c : goal.In-loop-step g) (lasts : List g.row.S.Denot) → AllZip g.S.AnySource.leads c.loop-step.self.sources lasts
-    → Underway g.L.Link.sent g.L.Link.failed c.args.run.now (take c.stores.result c.args.all.now) c.loop-step.step (first_in g c lasts) (now_in g c lasts) c.loop-step.buffers
+    → Underway g.L.Link.sent g.L.Link.failed c.args.run.now (take c.stores.result c.args.all.now) c.loop-step.step (first_in g c lasts) (now_in g c lasts) c.loop-step.buffers.report
 here g c lasts lead =
-    let ran = c.loop-step.invariant.ran lasts lead in
-    let many = length-supplies g.S.AnySource.until c.args.self.now.sources lasts (zip_long g.S.AnySource.leads _ _ ran.0) in
-    underway g.L.Link.sent g.L.Link.failed c.args.run.now _ c.loop-step.step (first_in g c lasts) (may_run_in g.L.Link.failed c.args.run.now c.args.buffers c.args.self.now _ many c.requires.may)
-    c.requires.places.sound (now_in g c lasts) c.loop-step.buffers ran.1 c.args.all.now refl c.requires.places.stand c.requires.places.count
-    c.stores.ensures.stores refl c.loop-step.auto.step c.loop-step-test.true c.steps-step-end.ensures.steps c.loop-step.invariant.room
+    let places = c.requires.places in
+    underway g.L.Link.sent g.L.Link.failed c.args.run.now _ c.loop-step.step (first_in g c lasts) (now_in g c lasts) c.loop-step.buffers.report places.sound
+    (places_cut _ c.args.self.now.stores c.args.all.now c.stores.result places c.stores.ensures.stores) c.requires.may.sound c.loop-step.auto.step
+    (omega (arith, c.loop-step-test.true, c.steps-step-end.ensures.steps)) c.loop-step.invariant.left.labels (c.loop-step.invariant.ran lasts lead).1
 
 pub loop-step-init : goal.loop-step-init
 loop-step-init g c =
     let begun = c.args.self.now in
-    let leads = g.S.AnySource.leads in
     let until = g.S.AnySource.until in
     let run = c.args.run.now in
+    let may = c.requires.may in
+    let ready = all_ready run.problem.now begun.stores may.held (may.begins.ready (omega arith)) (may.begins.known (omega arith)) may.sound in
     record {
       ran = λ lasts lead.
-          let given = supplies until begun.sources lasts in
-          let first = with_supplies begun given in
-          let may = may_run_in g.L.Link.failed run c.args.buffers begun given (length-supplies until begun.sources lasts (zip_long leads _ _ lead)) c.requires.may in (
+          let first = with_supplies begun (supplies until begun.sources lasts) in
+          let many = length-supplies until begun.sources lasts (zip_long g.S.AnySource.leads _ _ lead) in (
             lead,
             record {
-              began = may.begins;
-              done = done_first g.L.Link.sent g.L.Link.failed (given_to run first) first c.args.buffers.report refl c.requires.may.report;
+              began = subst (λ (n : ℕ). MayBegin (run_start run.problem.now run.plan.now begun.stores run.base n (length begun.links))) (sym many) may.begins;
+              done = done_first g.L.Link.sent g.L.Link.failed (given_to run first) first c.args.buffers.report refl may.report;
               fit = λ t from_one last. absurd (omega (arith, from_one, last));
-              ready = all_ready run.problem.now first.stores may.held (may.begins.ready (omega arith)) (may.begins.known (omega arith)) may.sound;
+              ready = ready;
             },
           );
       far = λ lasts lead. (
         lead,
         λ limits. far_first (length run.problem.now.windows) (supplies until begun.sources lasts) begun.stores run.base
-            (early_by begun.stores run.base (c.requires.may.begins.in_time (omega arith))) limits,
+            (early_by begun.stores run.base (may.begins.in_time (omega arith))) limits,
       );
-      room = c.requires.may.orders;
+      left = record { labels = refl; ready = ready };
+      room = may.orders;
     }
 
 pub report_step-requires-clause-may : goal.report_step-requires-clause-may
 report_step-requires-clause-may g c κs within =
+    let at = (goal.at.report_step-requires-clause-may g c).In-loop-step in
+    let begun = c.args.self.now in
     let now = c.loop-step.self in
-    let known = here g (goal.at.report_step-requires-clause-may g c).In-loop-step now.sources (all_stay g.S.AnySource.leads g.S.AnySource.until c.sources_may_stay.ensures.law now.sources) in
-    may_report_of g.L.Link.failed _ _ _ _ now (supplies g.S.AnySource.until now.sources now.sources) (length-supplies g.S.AnySource.until now.sources now.sources refl) known.may
+    let until = g.S.AnySource.until in
+    may_report g.L.Link.sent g.L.Link.failed c.args.run.now _ c.loop-step.step (first_in g at now.sources) now (supplies until now.sources now.sources) c.loop-step.buffers
+    (length-supplies until now.sources now.sources refl)
+    (here g at now.sources (all_stay g.S.AnySource.leads until c.sources_may_stay.ensures.law now.sources)) c.requires.may.held c.requires.may.links
+    (stand_cut _ begun.stores c.args.all.now c.stores.result c.requires.places c.stores.ensures.stores now.stores (as_many now.stores begun.stores c.loop-step.invariant.left.labels))
+    c.loop-step.invariant.room
 
 pub loop-step-preserved : goal.loop-step-preserved
 loop-step-preserved g c =
@@ -69,13 +79,14 @@ loop-step-preserved g c =
           let before = here g at lasts stepped.0 in (
             (c.loop-step.invariant.ran lasts stepped.0).0,
             ran_on _ _ _ _ _ _ _ _ before c.runs_lose_as_planned.ensures.each c.runs_lose_no_packet_uncounted.ensures.law _ c.report_step.new.buffers
-                stepped.1 c.in_default.ensures.ready,
+                stepped.1 c.in_default.ensures.left.ready,
           );
       far = λ lasts lead.
           let stepped = c.in_default.ensures.done lasts lead in
           let before = here g at lasts stepped.0 in
           let was = c.loop-step.invariant.far lasts stepped.0 in
           (was.0, λ limits. far_on _ _ _ _ _ _ _ _ before limits (was.1 limits) c.step_runs_keep_stores.ensures.law _ stepped.1.done);
+      left = left_on c.args.self.now.stores c.loop-step.self.stores c.report_step.new.self.stores c.loop-step.invariant.left c.in_default.ensures.left;
       room = omega (arith, c.loop-step.invariant.room, c.in_default.ensures.capacity);
     }
 
@@ -92,7 +103,7 @@ returns-in-Err-clause-halted g c = λ lasts lead.
     let stepped = c.in-Err.ensures.broke lasts lead in
     let before = here g (goal.at.returns-in-Err-clause-halted g c).In-loop-step lasts stepped.0 in (
       (c.loop-step.invariant.ran lasts stepped.0).0,
-      (c.loop-step.step, halted_in _ _ _ _ _ _ _ _ before c.broken_orders_change_nothing.ensures.law _ c.report_step.new.buffers c.in-Err.broken stepped.1 c.in-Err.ensures.ready),
+      (c.loop-step.step, halted_in _ _ _ _ _ _ _ _ before c.broken_orders_change_nothing.ensures.law _ c.report_step.new.buffers c.in-Err.broken stepped.1 c.in-Err.ensures.left.ready),
     )
 
 pub returns-in-Err-clause-far : goal.returns-in-Err-clause-far
@@ -101,3 +112,6 @@ returns-in-Err-clause-far g c = λ lasts lead.
     let before = here g (goal.at.returns-in-Err-clause-far g c).In-loop-step lasts stepped.0 in
     let was = c.loop-step.invariant.far lasts stepped.0 in
     (was.0, λ limits. stepped.1 (takes_here _ _ _ _ _ _ _ _ before limits (was.1 limits)))
+
+pub returns-in-Err-clause-left : goal.returns-in-Err-clause-left
+returns-in-Err-clause-left g c = left_on c.args.self.now.stores c.loop-step.self.stores c.report_step.new.self.stores c.loop-step.invariant.left c.in-Err.ensures.left
