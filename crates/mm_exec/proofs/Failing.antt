@@ -1,11 +1,12 @@
 -- What each link did in a step that a failed link halted.
-use Rattle.std.proofs.Common.{◌≡◌, ◌⊎◌, inl, inr, ℕ, zero, suc, ◌+◌, ◌<◌, Bool, cond, eqb, List, [], ◌∷◌, ◌++◌, length, map, All, refl, sym, ap, subst, ◌∙◌, arith}
+use Rattle.std.proofs.Common.{◌≡◌, ◌⊎◌, inl, inr, ℕ, zero, suc, ◌+◌, ◌<◌, ◌≤◌, cond, eqb, List, [], ◌∷◌, ◌++◌, length, map, All, refl, sym, ap, subst, ◌∙◌, arith}
 use Rattle.std.specs.Prelude.{Option, Some, None, slice_index_or, sum_by}
-use Rattle.std.proofs.lemmas.Bool.{eq-eqb}
+use Rattle.std.proofs.lemmas.Bool.{cases_lt}
+use Rattle.std.proofs.lemmas.List.{length-map, nil_from_length}
 use Rattle.std.proofs.lemmas.Bool.Decides.{eqb_tells}
 use Rattle.std.proofs.lemmas.List.Elements.{All-nil, All-cons, All-head, All-tail}
 use Rattle.std.proofs.lemmas.List.Sums.{sum_by-cons, sum_by-append, get_or-le-sum_by}
-use Rattle.mm_base.proofs.Tests.{cond-eqb_other}
+use Rattle.mm_base.proofs.Tests.{cond-eqb_same, cond-eqb_other}
 use Rattle.mm_desk.specs.Machine.{State, IsState}
 use Rattle.mm_desk.specs.Runs.{opening_at, IsLegal}
 use Rattle.mm_dump.specs.Broken.{aborted}
@@ -48,7 +49,6 @@ record LastMild (course : ℕ → Course) (places : List ℕ) : Type 0 where
   last : ℕ
   are : places ≡ early ++ last ∷ []
   whole : All (λ k. IsWhole (course k)) early
-  why : (course last).why ≡ Some broken.LinkFailed
   broke : IsBroken broken.LinkFailed (course last)
   fails : failed_by (map course places) ≡ 1
 
@@ -56,58 +56,51 @@ record LastMild (course : ℕ → Course) (places : List ℕ) : Type 0 where
 abbrev AreEarly : List Course → Type 0
 AreEarly courses = (i : ℕ) (d : Course) → suc i < length courses → (slice_index_or courses i d).why ≡ None
 
--- one order
-one_course : (course : ℕ → Course) (k : ℕ) (why : Option OrderBroken) → (course k).why ≡ why → EndedAs why (course k) → IsMild why → AllWhole course (k ∷ []) ⊎ LastMild course (k ∷ [])
-one_course course k None is went mild = inl (record {
-  whole = All-cons (λ k. IsWhole (course k)) k [] went (All-nil (λ k. IsWhole (course k)));
-  fails = omega (arith, ap length went.all);
-  none = ap (λ (w : Option OrderBroken). worse w None) is;
-})
-one_course course k (Some broken.LinkFailed) is went mild = inr (record {
-  early = [];
-  last = k;
-  are = refl;
-  whole = All-nil (λ k. IsWhole (course k));
-  why = is;
-  broke = went;
-  fails = omega (arith, went.last);
-})
-one_course course k (Some broken.NoMemory) is went mild = absurd mild
-
 -- one link's orders
 all_courses : (course : ℕ → Course) (places : List ℕ) → All IsCourse (map course places) → AreEarly (map course places) → IsMild (worst_of (whys course places))
     → AllWhole course places ⊎ LastMild course places
 all_courses course [] are early mild = inl (record { whole = All-nil (λ k. IsWhole (course k)); fails = refl; none = refl })
-all_courses course (k ∷ []) are early mild = one_course course k (course k).why refl (All-head IsCourse (course k) [] are) (mild_both (course k).why None mild).0
-all_courses course (k ∷ j ∷ ks) are early mild =
-    let first : (course k).why ≡ None = early 0 (course k) (omega arith) in
-    let whole : IsWhole (course k) = subst (λ (w : Option OrderBroken). EndedAs w (course k)) first (All-head IsCourse (course k) (map course (j ∷ ks)) are) in
-    by_rest first whole
-    (all_courses course (j ∷ ks) (All-tail IsCourse (course k) (map course (j ∷ ks)) are) (λ i d within. early (suc i) d (omega arith))
-    (mild_both (course k).why (worst_of (whys course (j ∷ ks))) mild).1)
+all_courses course (k ∷ ks) are early mild =
+    by_why (course k).why refl (All-head IsCourse (course k) (map course ks) are) both.0
+    (all_courses course ks (All-tail IsCourse (course k) (map course ks) are) (λ i d within. early (suc i) d (omega arith)) both.1)
   where
-    none_more : {fails : ℕ} → failed_by (map course (j ∷ ks)) ≡ fails → IsWhole (course k) → failed_by (map course (k ∷ j ∷ ks)) ≡ fails
-    none_more {fails = fails} rest whole =
-        let here : length (course k).unsent ≡ 0 = ap length whole.all in
-        let more : failed_by (map course (k ∷ j ∷ ks)) ≡ length (course k).unsent + failed_by (map course (j ∷ ks)) =
-        sum_by-cons (λ (c : Course). length c.unsent) (course k) (map course (j ∷ ks)) in
-        omega (arith, here, more, rest)
+    both : IsMild (course k).why × IsMild (worst_of (whys course ks))
+    both = mild_both (course k).why (worst_of (whys course ks)) mild
 
-    by_rest : (course k).why ≡ None → IsWhole (course k) → AllWhole course (j ∷ ks) ⊎ LastMild course (j ∷ ks) → AllWhole course (k ∷ j ∷ ks) ⊎ LastMild course (k ∷ j ∷ ks)
-    by_rest first whole (inl rest) = inl (record {
-      whole = All-cons (λ k. IsWhole (course k)) k (j ∷ ks) whole rest.whole;
-      fails = none_more rest.fails whole;
-      none = ap (λ (w : Option OrderBroken). worse w (worst_of (whys course (j ∷ ks)))) first ∙ rest.none;
+    -- the sends of this order that failed, and those of the others
+    failed_more : failed_by (map course (k ∷ ks)) ≡ length (course k).unsent + failed_by (map course ks)
+    failed_more = sum_by-cons (λ (c : Course). length c.unsent) (course k) (map course ks)
+
+    by_why : (why : Option OrderBroken) → (course k).why ≡ why → EndedAs why (course k) → IsMild why → AllWhole course ks ⊎ LastMild course ks
+        → AllWhole course (k ∷ ks) ⊎ LastMild course (k ∷ ks)
+    by_why None is went mild_here (inl rest) = inl (record {
+      whole = All-cons (λ k. IsWhole (course k)) k ks went rest.whole;
+      fails = omega (arith, failed_more, ap length went.all, rest.fails);
+      none = ap (λ (w : Option OrderBroken). worse w (worst_of (whys course ks))) is ∙ rest.none;
     })
-    by_rest first whole (inr rest) = inr (record {
+    by_why None is went mild_here (inr rest) = inr (record {
       early = k ∷ rest.early;
       last = rest.last;
       are = ap (λ (xs : List ℕ). k ∷ xs) rest.are;
-      whole = All-cons (λ k. IsWhole (course k)) k rest.early whole rest.whole;
-      why = rest.why;
+      whole = All-cons (λ k. IsWhole (course k)) k rest.early went rest.whole;
       broke = rest.broke;
-      fails = none_more rest.fails whole;
+      fails = omega (arith, failed_more, ap length went.all, rest.fails);
     })
+    by_why (Some broken.LinkFailed) is went mild_here rest =
+        let none_more : length ks ≤ 0 = elim (cases_lt 0 (length ks)) [
+          | inl more ↦ let none = early 0 (course k) (omega (arith, length-map ks course)) in absurd (cc (is, none))
+          | inr nothing ↦ nothing
+        ] in
+        let alone : ks ≡ [] = nil_from_length ks (omega arith) in
+        inr (record {
+          early = [];
+          last = k;
+          are = ap (λ (xs : List ℕ). k ∷ xs) alone;
+          whole = All-nil (λ k. IsWhole (course k));
+          broke = went;
+          fails = omega (arith, failed_more, went.last, ap (λ (xs : List ℕ). failed_by (map course xs)) alone);
+        })
+    by_why (Some broken.NoMemory) is went mild_here rest = absurd mild_here
 
 -- the worst cause of orders of links
 abbrev worst_at : (ℕ → Course) → List (List ℕ) → Option OrderBroken
@@ -116,8 +109,7 @@ worst_at course places = worst_of (map (λ ks. worst_of (map (λ c. c.why) (map 
 -- a number at the end of a list is in it
 times_last : (early : List ℕ) (k : ℕ) → 0 < times k (early ++ k ∷ [])
 times_last early k =
-    let here : cond {A = ℕ} (eqb k k) 1 0 ≡ 1 = ap (λ (b : Bool). cond {A = ℕ} b 1 0) (eq-eqb k k refl) in
-    omega (arith, sum_by-append (λ (y : ℕ). cond {A = ℕ} (eqb y k) 1 0) early (k ∷ []), here)
+    omega (arith, sum_by-append (λ (y : ℕ). cond {A = ℕ} (eqb y k) 1 0) early (k ∷ []), cond-eqb_same k k 1 refl)
 
 -- a store that orders name is there
 named_there : (n k : ℕ) (orders : List Order) → All (λ o. o.place < n) orders → 0 < times k (places_of orders) → k < n
