@@ -37,8 +37,7 @@ use Rattle.mm_exec.specs.RunState.{RunState}
 use Rattle.mm_exec.specs.declared.step.StepBroken.{StepBroken}
 use Rattle.mm_exec.specs.Step.{StepRecorded, OrdersBroke, StepBroke, dump_cause}
 use Rattle.mm_exec.proofs.Failing.{links_failed}
-use Rattle.mm_exec.proofs.Parts.{as_many, same_ids, by_how}
-use Rattle.mm_exec.proofs.Firsts.{all_first, first_turns}
+use Rattle.mm_exec.proofs.Parts.{as_many, same_ids, by_how, all_first, first_turns}
 use Rattle.mm_exec.proofs.StoresReady.{state_holds}
 
 -- recorders know nothing of links

@@ -1,10 +1,8 @@
 pub mod Replays
-pub mod Times
 pub mod Stepping
 pub mod Drawing
 pub mod Placing
 pub mod Parts
-pub mod Firsts
 pub mod StoresReady
 pub mod Coming
 pub mod Ordered
@@ -14,5 +12,4 @@ pub mod Starting
 pub mod Failing
 pub mod Halts
 pub mod Ended
-pub mod Headline
 pub mod AccountLemmas

@@ -1,5 +1,5 @@
 -- What step runs do to the stores, step by step, and what the stores lose over all steps.
-use Rattle.std.proofs.Common.{◌≡◌, inl, inr, ℕ, zero, suc, ◌+◌, ◌-◌, ◌<◌, ◌≤◌, ◌^◌, min, max, List, [], ◌∷◌, ◌++◌, length, All, refl, sym, ap, subst, ◌∙◌, arith, length-append, add-one}
+use Rattle.std.proofs.Common.{◌≡◌, inl, inr, ℕ, zero, suc, ◌+◌, ◌-◌, ◌<◌, ◌≤◌, ◌^◌, min, List, [], ◌∷◌, ◌++◌, length, All, refl, sym, ap, subst, ◌∙◌, arith, length-append, add-one}
 use Rattle.std.proofs.lemmas.Bool.{cases_lt}
 use Rattle.std.proofs.lemmas.List.Elements.{All-weaker}
 use Rattle.mm_base.proofs.Pairs.{All-back}
@@ -18,10 +18,9 @@ use Rattle.mm_desk.specs.Orders.{Dumps}
 use Rattle.mm_desk.specs.Runs.{IsLegal, IsRun, replay}
 use Rattle.mm_desk.proofs.Logs.{count_of_shuffle}
 use Rattle.mm_exec.specs.StepRuns.{IsDumpOf, IsStepRun, AreTimed, IsBy, AreBy}
-use Rattle.mm_exec.proofs.Times.{by_offer, log_last}
 use Rattle.mm_exec.specs.AsPlanned.{AtEach, AsPlanned}
 use Rattle.mm_exec.specs.Laws.{IsRunOf, StepRunsKeepStores}
-use Rattle.mm_exec.proofs.Replays.{IsLegal-parts, replay-append, shuffled, timed_log}
+use Rattle.mm_exec.proofs.Replays.{IsLegal-parts, replay-append, timed_log, by_offer, run_moves}
 use Rattle.std.specs.List.{sum_by, range_with_len}
 use Rattle.mm_base.proofs.RangeSums.{sum_by_range_more, sum_by_range_same}
 use Rattle.mm_base.proofs.Sums.{sum_by-add}
@@ -136,7 +135,8 @@ module _ (leave : OffersLeave) (keep : ReplaysKeepStates) (dump : OrdersDumpTheO
       let timed = timed_by now offers fits by in
       let leaves = run_leaves s t offers wanted gave sound timed is in
       let same = ap (λ (u : State). u.store.last) (halves s t offers wanted gave sound timed is).dumps.others in
-      let moved = log_last now s is.recorded (max s.store.last now) (shuffled (IsBy now) offers is.recorded is.shuffle by) (omega arith) (omega arith) in
+      let legal = (halves s t offers wanted gave sound timed is).legal in
+      let moved = (run_moves now offers is.recorded s (replay s is.recorded) (record { legal = legal; leaves = refl }) is.shuffle by).last in
       let many = count_of_shuffle offers is.recorded is.shuffle in
       record {
         sound = leaves.sound;

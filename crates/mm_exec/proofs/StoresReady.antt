@@ -1,28 +1,24 @@
 -- Stores that are ready, and counts that are far from their end, from step to step.
 use Rattle.std.proofs.Common.{◌≡◌, inl, inr, ℕ, ◌+◌, ◌*◌, ◌<◌, ◌≤◌, ◌^◌, List, [], ◌∷◌, ◌++◌, length, map, get_or, All, refl, sym, ap, subst, ◌∙◌, ◌-◌, arith}
-use Rattle.std.specs.Prelude.{IsTrue, Option, Some, None, Result, not, ◌==◌, ◌||◌, filter}
+use Rattle.std.specs.Prelude.{IsTrue, Option, Some, None, filter}
 use Rattle.std.specs.List.{AllZip}
-use Rattle.std.proofs.lemmas.Bool.{cases_lt, cond_both}
+use Rattle.std.proofs.lemmas.Bool.{cases_lt}
 use Rattle.std.proofs.lemmas.List.{length-map, get_or-map}
-use Rattle.std.proofs.lemmas.List.Elements.{All-nil, All-cons, All-head, All-tail, All-map}
+use Rattle.std.proofs.lemmas.List.Elements.{All-nil, All-cons, All-map}
 use Rattle.std.proofs.lemmas.List.Sums.{sum_by-le}
 use Rattle.mm_base.proofs.Pairs.{All-front}
 use Rattle.mm_base.proofs.Sums.{sum_by-map}
 use Rattle.mm_record.specs.Supplies.{Supply}
 use Rattle.mm_record.proofs.Taking.{filter_fewer}
 use Rattle.mm_packet.specs.Packet.{SpacePacket}
-use Rattle.mm_store.specs.Content.{clock_end}
-use Rattle.mm_desk.specs.declared.entry.Entry.{Entry}
 use Rattle.mm_desk.specs.declared.event.Event.{Event}
 use Rattle.mm_desk.specs.declared.event.Event.TheVariants.{Offer}
 use Rattle.mm_desk.specs.declared.fault.Fault.{Fault}
 use Rattle.mm_desk.specs.declared.held.Held.{Held}
-use Rattle.mm_desk.specs.declared.reply.Offered.{Offered}
-use Rattle.mm_desk.specs.declared.reply.Returned.{Returned}
 use Rattle.mm_desk.specs.Laws.{OrdersDumpTheOldest}
-use Rattle.mm_desk.specs.Machine.{State, IsState, offer, step}
-use Rattle.mm_desk.specs.Offers.{IsShuffleOfEvents, count_of}
-use Rattle.mm_desk.specs.Runs.{blank, opening_at, replay, IsRun}
+use Rattle.mm_desk.specs.Machine.{State, IsState, step}
+use Rattle.mm_desk.specs.Offers.{count_of}
+use Rattle.mm_desk.specs.Runs.{blank, opening_at, replay}
 use Rattle.mm_shared.specs.Stores.{labels_of, states_of, id_at}
 use Rattle.mm_memory.specs.Laws.{ids_of}
 use Rattle.mm_memory.specs.Recording.{is_routed}
@@ -36,14 +32,12 @@ use Rattle.mm_dump.specs.Laws.{BrokenOrdersChangeNothing}
 use Rattle.mm_dump.specs.Sending.{Sent}
 use Rattle.mm_exec.specs.Laws.{StepRunsKeepStores}
 use Rattle.mm_exec.specs.StepRuns.{IsBy, AreBy, KeepsStore}
-use Rattle.mm_exec.proofs.Times.{by_offer}
-use Rattle.mm_exec.proofs.Replays.{shuffled}
+use Rattle.mm_exec.proofs.Replays.{KeepsSwitches, run_moves}
 use Rattle.mm_exec.specs.Halts.{AreFirstOffers}
 use Rattle.mm_exec.specs.Step.{AreReady, AreLeft, MayCarry, StepRecorded, StepDone, OrdersBroke, StepBroke}
 use Rattle.mm_exec.specs.RunState.{RunState}
 use Rattle.mm_exec.specs.declared.step.StepBroken.{StepBroken}
-use Rattle.mm_exec.proofs.Firsts.{first_turns}
-use Rattle.mm_exec.proofs.Parts.{as_many, by_how}
+use Rattle.mm_exec.proofs.Parts.{as_many, by_how, first_turns}
 
 -- the state at a place is that of the store there
 state_there : (held : List Held) (k : ℕ) (d : Held) → k < length held → opening_at (states_of held) k ≡ (get_or held k d).state
@@ -61,40 +55,11 @@ pub state_holds : (P : State → Type 0) (held : List Held) → All (λ h. P h.s
 state_holds P held all k within = subst P (sym (state_there held k nothing_held within)) (all k nothing_held within)
 
 -- offers of a step are made at its moment
-offers_by : (now : ℕ) (ps : List SpacePacket) → All (IsBy now) (map (λ p. Offer now p) ps)
-offers_by now [] = All-nil (IsBy now)
-offers_by now (p ∷ ps) = All-cons (IsBy now) (Offer now p) (map (λ p. Offer now p) ps) (omega arith) (offers_by now ps)
+offers_by : (e : RecordingContext) (k : ℕ) (g : List SpacePacket) → All (IsBy e.now) (offers e k g)
+offers_by e k g = All-map (IsBy e.now) (λ (p : SpacePacket). Offer e.now p) (filter (is_routed e.routes (id_at e.ids k)) g) (λ i p inside. omega arith)
 
 pub all_by : (e : RecordingContext) (k : ℕ) (gave : List (List SpacePacket)) → AreBy e.now (map (offers e k) gave)
-all_by e k [] = All-nil (λ (list : List Event). All (IsBy e.now) list)
-all_by e k (g ∷ gave) =
-    All-cons (λ (list : List Event). All (IsBy e.now) list) (offers e k g) (map (offers e k) gave) (offers_by e.now (filter (is_routed e.routes (id_at e.ids k)) g)) (all_by e k gave)
-
--- an offer leaves the storage switch and the retrieval
-pub record KeepsSwitches (s t : State) : Type 0 where
-  pub storage : t.storage ≡ s.storage
-  pub retrieval : t.retrieval ≡ s.retrieval
-
-offer_keeps : (s : State) (now : ℕ) (packet : SpacePacket) → KeepsSwitches s (offer s now packet).1
-offer_keeps s now packet =
-    cond_both (not s.storage) _ _ (λ (r : Result Offered Returned × State). KeepsSwitches s r.1) (λ off. record { storage = refl; retrieval = refl })
-    (λ on. cond_both ((s.store.last == clock_end) || (s.offered == clock_end)) _ _ (λ (r : Result Offered Returned × State). KeepsSwitches s r.1)
-    (λ late. record { storage = refl; retrieval = refl }) (λ early. record { storage = refl; retrieval = refl }))
-
-event_keeps : (s : State) (event : Event) (now : ℕ) → IsBy now event → KeepsSwitches s (step s event).1
-event_keeps s event now by = by_offer (λ (e : Event). KeepsSwitches s (step s e).1) now (λ at packet early. offer_keeps s at packet) event by
-
-log_keeps : (now : ℕ) (s : State) (log : List Entry) → All (λ e. IsBy now e.event) log → KeepsSwitches s (replay s log)
-log_keeps now s [] by = record { storage = refl; retrieval = refl }
-log_keeps now s (e ∷ es) by =
-    let first = event_keeps s e.event now (All-head (λ (e : Entry). IsBy now e.event) e es by) in
-    let rest = log_keeps now (step s e.event).1 es (All-tail (λ (e : Entry). IsBy now e.event) e es by) in
-    record { storage = rest.storage ∙ first.storage; retrieval = rest.retrieval ∙ first.retrieval }
-
--- so do the offers of a log that is a shuffle of them
-run_keeps : (now : ℕ) (lists : List (List Event)) (log : List Entry) (s t : State) → IsRun s log t → IsShuffleOfEvents lists log → AreBy now lists → KeepsSwitches s t
-run_keeps now lists log s t run shuffle by =
-    subst (λ (u : State). KeepsSwitches s u) (sym run.leaves) (log_keeps now s log (shuffled (IsBy now) lists log shuffle by))
+all_by e k gave = All-map (λ (list : List Event). All (IsBy e.now) list) (offers e k) gave (λ i g inside. offers_by e k _)
 
 -- stores that are sound, and whose switches are as they were, are left ready where they were
 pub left_ready : (stores left : List Held) → labels_of left ≡ labels_of stores → All (λ h. IsState h.state) left
@@ -123,14 +88,14 @@ left_recorded e before mid ready recorded =
     left_ready before.stores mid.stores recorded.labels recorded.sound
     (λ k within.
     let has = recorded.stores_are k within in
-    run_keeps e.now (map (offers e k) (given_in e.step before.sources)) has.log _ _ has.run has.shuffle (all_by e k (given_in e.step before.sources))) ready
+    (run_moves e.now (map (offers e k) (given_in e.step before.sources)) has.log _ _ has.run has.shuffle (all_by e k (given_in e.step before.sources))).switches) ready
 
 -- the first of the offers of sources are offers at the moment
 firsts_by : (e : RecordingContext) (k : ℕ) (given : List (List SpacePacket)) (firsts : List (List Event)) → AllZip (AreFirstOffers e k) given firsts → AreBy e.now firsts
 firsts_by e k [] [] are = All-nil (λ (list : List Event). All (IsBy e.now) list)
 firsts_by e k (g ∷ gs) (f ∷ fs) are =
     All-cons (λ (list : List Event). All (IsBy e.now) list) f fs
-    (All-front (IsBy e.now) f are.0.0 (subst (All (IsBy e.now)) are.0.1 (offers_by e.now (filter (is_routed e.routes (id_at e.ids k)) g)))) (firsts_by e k gs fs are.1)
+    (All-front (IsBy e.now) f are.0.0 (subst (All (IsBy e.now)) are.0.1 (offers_by e k g))) (firsts_by e k gs fs are.1)
 firsts_by e k given firsts are = absurd are
 
 -- stores at which recorders stopped early are ready
@@ -141,9 +106,9 @@ left_stopped e stores left sources sources_left why ids ready records =
     (λ k within.
     let went = records.went k within in
     let many = as_many left stores records.labels in
-    run_keeps e.now (map (λ run. run.offered k) records.runs) went.log _ _ went.run went.shuffle
+    (run_moves e.now (map (λ run. run.offered k) records.runs) went.log _ _ went.run went.shuffle
     (firsts_by e k (given_in e.step sources) (map (λ run. run.offered k) records.runs)
-    (first_turns e sources sources_left records.runs k records.are_runs (omega (arith, within, length-map left (λ (h : Held). h.state), many, ids))))) ready
+    (first_turns e sources sources_left records.runs k records.are_runs (omega (arith, within, length-map left (λ (h : Held). h.state), many, ids))))).switches) ready
 
 -- an order leaves the switches
 tried_keeps : OrdersDumpTheOldest → BrokenOrdersChangeNothing → (k : ℕ) (s t : State) (taken : ℕ) (c : Course) → IsState s → HasTried taken k c s t → KeepsSwitches s t

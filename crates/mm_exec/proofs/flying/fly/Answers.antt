@@ -3,7 +3,7 @@ use Rattle.mm_plan.specs.Table.{Table}
 use Rattle.mm_record.specs.Supplies.{Supply, supplies, WhateverComes}
 use Rattle.mm_exec.specs.RunInput.{run_input}
 use Rattle.mm_exec.specs.Ending.{IsCarriedOut, IsHalted}
-use Rattle.mm_exec.proofs.Headline.{headline_of}
+use Rattle.mm_exec.proofs.Ended.{headline_of}
 use Rattle.mm_exec.proofs.flying.fly.Goals as goal
 
 pub returns-in-Ok-carry_out-clause-flown : goal.returns-in-Ok-carry_out-clause-flown
