@@ -12,7 +12,7 @@ use Rattle.mm_desk.specs.declared.fault.Fault.TheVariants as fault
 use Rattle.mm_desk.specs.declared.held.Held.{Held}
 use Rattle.mm_shared.specs.Stores.{labels_of, states_of}
 use Rattle.mm_record.specs.Supplies.{Supply, WhateverComes}
-use Rattle.mm_record.proofs.Supplying.{comes_weaker}
+use Rattle.mm_record.proofs.Supplying.{as_they_are, comes_weaker}
 use Rattle.mm_record.specs.Causes.{cause_in}
 use Rattle.mm_record.specs.Recorded.{RecordingContext, offers}
 use Rattle.mm_record.specs.Steps.{given_in, AllRecorded, Records, RecorderRun, AreRecorderRuns, StoppedEarly, IsRecorderRun}
@@ -211,20 +211,35 @@ then_dumped leads until before mid after P Q same so =
     (comes_weaker leads until before.sources mid.sources (λ given left. P (with_supplies before given) (with_supplies mid left))
     (λ given left. Q (with_supplies before given) (with_supplies after left)) so)
 
--- the orders of a step, carried out or broken off, whatever the sources give
-pub dumped_in : {S L : Type 0} (sent : L → List Sent) (failed : L → ℕ) (orders : List Order) (mid after : RunState S L) (left : List Supply)
-    → StepDumped sent failed orders mid after → StepDumped sent failed orders (with_supplies mid left) (with_supplies after left)
-dumped_in sent failed orders mid after left dumped = record { labels = dumped.labels; dumped = dumped.dumped; sources = refl }
+-- what holds in a run holds where nothing more comes
+pub as_is : {S L : Type 0} (leads : S → S → Type 0) (until : S → S → Supply) → ((s : S) → leads s s) → (before after : RunState S L) (P : RunState Supply L → RunState Supply L → Type 0)
+    → InRun leads until before after P → (given : List Supply) × (left : List Supply) × P (with_supplies before given) (with_supplies after left)
+as_is leads until stays before after P whole =
+    (_, _, as_they_are leads until stays before.sources after.sources (λ given left. P (with_supplies before given) (with_supplies after left)) whole)
 
-pub broken_in : {S L : Type 0} (sent : L → List Sent) (failed : L → ℕ) (step : ℕ) (orders : List Order) (mid after : RunState S L) (left : List Supply) (stop : StepBroken)
-    → OrdersBroke sent failed step orders mid after stop → OrdersBroke sent failed step orders (with_supplies mid left) (with_supplies after left) stop
-broken_in sent failed step orders mid after left stop broke = record {
-  labels = broke.labels;
-  sound = broke.sound;
-  why = broke.why;
-  settled = broke.settled;
-  sources = refl;
-  spent_is = broke.spent_is;
-  kept = broke.kept;
-  cause_is = broke.cause_is;
-}
+-- a step that was recorded and then dumped, whatever its sources give
+module _ {S L : Type 0} (leads : S → S → Type 0) (until : S → S → Supply) (sent : L → List Sent) (failed : L → ℕ) (e : RecordingContext) (orders : List Order)
+    (before mid after : RunState S L) (recorded : InRun leads until before mid (StepRecorded e)) where
+  pub whole_step : HalvesMakeStepRuns → ids_of before.stores ≡ e.ids → StepDumped sent failed orders mid after → InRun leads until before after (StepDone sent failed e orders)
+  whole_step halves ids dumped =
+      then_dumped leads until before mid after (StepRecorded e) (StepDone sent failed e orders) dumped.sources
+      (λ given left recorded. both_parts sent failed e orders (with_supplies before given) (with_supplies mid left) (with_supplies after left) halves ids recorded
+      (record { labels = dumped.labels; dumped = dumped.dumped; sources = refl })) recorded
+
+  pub broken_step : (stop : StepBroken) → OrdersBroke sent failed e.step orders mid after stop → InRun leads until before after (λ b a. StepBroke sent failed e orders b a stop)
+  broken_step stop broke =
+      then_dumped leads until before mid after (StepRecorded e) (λ b a. StepBroke sent failed e orders b a stop) broke.sources
+      (λ given left recorded. inr (record {
+        mid = with_supplies mid left;
+        recorded = recorded;
+        how = record {
+          labels = broke.labels;
+          sound = broke.sound;
+          why = broke.why;
+          settled = broke.settled;
+          sources = refl;
+          spent_is = broke.spent_is;
+          kept = broke.kept;
+          cause_is = broke.cause_is;
+        };
+      })) recorded
