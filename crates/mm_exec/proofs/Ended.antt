@@ -23,7 +23,7 @@ use Rattle.mm_plan.specs.Sheet.{SheetRows}
 use Rattle.mm_plan.proofs.Steps.{left_start, left_step}
 use Rattle.mm_planner.specs.PlanTexts.{PlansFor}
 use Rattle.mm_exec.specs.Flying.{LosesWhatIsPrinted}
-use Rattle.mm_exec.proofs.Coming.{came_at}
+use Rattle.mm_exec.proofs.Counters.{came_at}
 
 -- what holds of what a run begins with holds of the same, by whatever names
 pub start_by : (P : RunStart → Type 0) (q : Dumping) (plan : Table) (base : ℕ) {held stores : List Held} {counted_sources counted_links sources links : ℕ}

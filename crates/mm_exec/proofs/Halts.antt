@@ -1,9 +1,9 @@
--- What a step that was broken off leaves at a store.
-use Rattle.std.proofs.Common.{◌≡◌, inl, inr, ℕ, ◌<◌, List, [], length, map, All, refl, sym, ap, subst, ◌∙◌, arith}
-use Rattle.std.specs.Prelude.{Option, Some, None, sum_by}
+-- What a step that was broken off leaves at a store, and what each link did where a failed one halted it.
+use Rattle.std.proofs.Common.{◌≡◌, inl, inr, ℕ, ◌<◌, List, [], length, map, All, refl, sym, ap, subst, ◌∙◌, arith, ◌⊎◌, zero, suc, ◌+◌, ◌≤◌, cond, eqb, ◌∷◌, ◌++◌}
+use Rattle.std.specs.Prelude.{Option, Some, None, sum_by, slice_index_or}
 use Rattle.std.specs.List.{AllZip}
 use Rattle.std.proofs.lemmas.Bool.{cases_lt}
-use Rattle.std.proofs.lemmas.List.{length-map, append-nil}
+use Rattle.std.proofs.lemmas.List.{length-map, append-nil, nil_from_length}
 use Rattle.mm_packet.specs.Packet.{SpacePacket}
 use Rattle.mm_desk.specs.declared.entry.Entry.{Entry}
 use Rattle.mm_desk.specs.declared.event.Event.{Event}
@@ -12,33 +12,37 @@ use Rattle.mm_desk.specs.declared.fault.Fault.TheVariants as fault
 use Rattle.mm_desk.specs.declared.held.Held.{Held}
 use Rattle.mm_desk.specs.Machine.{State, IsState}
 use Rattle.mm_desk.specs.Offers.{IsShuffleOfEvents}
-use Rattle.mm_desk.specs.Runs.{IsRun, opening_at}
+use Rattle.mm_desk.specs.Runs.{IsRun, opening_at, IsLegal}
 use Rattle.mm_shared.specs.Stores.{labels_of, states_of}
 use Rattle.mm_record.specs.Supplies.{Supply}
 use Rattle.mm_record.specs.Causes.{cause_in}
-use Rattle.mm_record.specs.Recorded.{RecordingContext, offers}
-use Rattle.mm_record.specs.Recorded.{recording}
+use Rattle.mm_record.specs.Recorded.{RecordingContext, offers, recording}
 use Rattle.mm_record.specs.Steps.{given_in, HasRecorded}
 use Rattle.mm_dump.specs.declared.order.Order.{Order}
 use Rattle.mm_dump.specs.declared.order.OrderBroken.{OrderBroken}
 use Rattle.mm_dump.specs.declared.order.OrderBroken.TheVariants as worst
 use Rattle.mm_dump.specs.Laws.{BrokenOrdersChangeNothing}
 use Rattle.mm_dump.specs.Sending.{Sent}
-use Rattle.mm_dump.specs.Courses.{Course}
-use Rattle.mm_dump.specs.Dumped.{times, wanted, HasTried, AllSettled}
+use Rattle.mm_dump.specs.Courses.{Course, EndedAs, IsWhole, IsBroken, IsCourse, worse, worst_of, failed_by, sent_by}
+use Rattle.mm_dump.specs.Dumped.{times, wanted, HasTried, AllSettled, places_of, AllTried}
 use Rattle.mm_report.specs.declared.cause.Cause.{Cause}
 use Rattle.mm_report.specs.declared.cause.Cause.TheVariants.{LinkFailed}
 use Rattle.mm_exec.proofs.Replays.{IsRun-append}
 use Rattle.mm_base.specs.declared.rows.RouteRow.{RouteRow}
-use Rattle.mm_exec.specs.Failure.{FailedLink}
+use Rattle.mm_exec.specs.Failure.{FailedLink, NoneBroke, LastBroke, LinksFailed}
 use Rattle.mm_exec.specs.Halts.{AreFirstOffers, IsByOneLog, BrokenStepsAreLogs}
 use Rattle.mm_memory.specs.Laws.{ids_of}
 use Rattle.mm_exec.specs.RunState.{RunState}
 use Rattle.mm_exec.specs.declared.step.StepBroken.{StepBroken}
 use Rattle.mm_exec.specs.Step.{StepRecorded, OrdersBroke, StepBroke, dump_cause}
-use Rattle.mm_exec.proofs.Failing.{links_failed}
 use Rattle.mm_exec.proofs.Parts.{as_many, same_ids, by_how, all_first, first_turns}
 use Rattle.mm_exec.proofs.StoresReady.{state_holds}
+use Rattle.std.proofs.lemmas.Bool.Decides.{eqb_tells}
+use Rattle.std.proofs.lemmas.List.Elements.{All-nil, All-cons, All-head, All-tail}
+use Rattle.std.proofs.lemmas.List.Sums.{sum_by-cons, sum_by-append, get_or-le-sum_by}
+use Rattle.mm_base.proofs.Tests.{cond-eqb_same, cond-eqb_other}
+use Rattle.mm_dump.specs.Broken.{aborted}
+use Rattle.mm_desk.proofs.Logs.{given_oldest}
 
 -- recorders know nothing of links
 no_link : (step : ℕ) (why : Option Fault) → cause_in step why ≡ Some (LinkFailed step) → ⊥
@@ -110,6 +114,204 @@ module _ {L : Type 0} (sent : L → List Sent) (failed : L → ℕ) (step now : 
 pub steps_are_logs : {L : Type 0} (sent : L → List Sent) (failed : L → ℕ) → BrokenStepsAreLogs sent failed
 steps_are_logs sent failed step now routes orders before after stop broke labels k within =
     one_log sent failed step now routes orders before after stop k within labels broke
+
+-- what an order broke for was at worst a link
+abbrev pub IsMild : Option OrderBroken → Type 0
+IsMild None = Unit {0}
+IsMild (Some worst.LinkFailed) = Unit {0}
+IsMild (Some worst.NoMemory) = ⊥
+
+-- where the worse of two causes is no worse than that, neither is
+pub mild_both : (a b : Option OrderBroken) → IsMild (worse a b) → IsMild a × IsMild b
+mild_both None b mild = (tt, mild)
+mild_both (Some worst.NoMemory) b mild = absurd mild
+mild_both (Some worst.LinkFailed) None mild = (tt, tt)
+mild_both (Some worst.LinkFailed) (Some why) mild = (tt, mild)
+
+-- the causes for which orders of some stores broke
+abbrev whys : (ℕ → Course) → List ℕ → List (Option OrderBroken)
+whys course places = map (λ c. c.why) (map course places)
+
+-- none of the orders of these stores broke
+record AllWhole (course : ℕ → Course) (places : List ℕ) : Type 0 where
+  whole : All (λ k. IsWhole (course k)) places
+  fails : failed_by (map course places) ≡ 0
+  none : worst_of (whys course places) ≡ None
+
+-- the last of the orders of these stores broke for its link
+record LastMild (course : ℕ → Course) (places : List ℕ) : Type 0 where
+  early : List ℕ
+  last : ℕ
+  are : places ≡ early ++ last ∷ []
+  whole : All (λ k. IsWhole (course k)) early
+  broke : IsBroken worst.LinkFailed (course last)
+  fails : failed_by (map course places) ≡ 1
+
+-- of the orders the last alone may have broken
+abbrev AreEarly : List Course → Type 0
+AreEarly courses = (i : ℕ) (d : Course) → suc i < length courses → (slice_index_or courses i d).why ≡ None
+
+-- one link's orders
+all_courses : (course : ℕ → Course) (places : List ℕ) → All IsCourse (map course places) → AreEarly (map course places) → IsMild (worst_of (whys course places))
+    → AllWhole course places ⊎ LastMild course places
+all_courses course [] are early mild = inl (record { whole = All-nil (λ k. IsWhole (course k)); fails = refl; none = refl })
+all_courses course (k ∷ ks) are early mild =
+    by_why (course k).why refl (All-head IsCourse (course k) (map course ks) are) both.0
+    (all_courses course ks (All-tail IsCourse (course k) (map course ks) are) (λ i d within. early (suc i) d (omega arith)) both.1)
+  where
+    both : IsMild (course k).why × IsMild (worst_of (whys course ks))
+    both = mild_both (course k).why (worst_of (whys course ks)) mild
+
+    -- the sends of this order that failed, and those of the others
+    failed_more : failed_by (map course (k ∷ ks)) ≡ length (course k).unsent + failed_by (map course ks)
+    failed_more = sum_by-cons (λ (c : Course). length c.unsent) (course k) (map course ks)
+
+    by_why : (why : Option OrderBroken) → (course k).why ≡ why → EndedAs why (course k) → IsMild why → AllWhole course ks ⊎ LastMild course ks
+        → AllWhole course (k ∷ ks) ⊎ LastMild course (k ∷ ks)
+    by_why None is went mild_here (inl rest) = inl (record {
+      whole = All-cons (λ k. IsWhole (course k)) k ks went rest.whole;
+      fails = omega (arith, failed_more, ap length went.all, rest.fails);
+      none = ap (λ (w : Option OrderBroken). worse w (worst_of (whys course ks))) is ∙ rest.none;
+    })
+    by_why None is went mild_here (inr rest) = inr (record {
+      early = k ∷ rest.early;
+      last = rest.last;
+      are = ap (λ (xs : List ℕ). k ∷ xs) rest.are;
+      whole = All-cons (λ k. IsWhole (course k)) k rest.early went rest.whole;
+      broke = rest.broke;
+      fails = omega (arith, failed_more, ap length went.all, rest.fails);
+    })
+    by_why (Some worst.LinkFailed) is went mild_here rest =
+        let none_more : length ks ≤ 0 = elim (cases_lt 0 (length ks)) [
+          | inl more ↦ let none = early 0 (course k) (omega (arith, length-map ks course)) in absurd (cc (is, none))
+          | inr nothing ↦ nothing
+        ] in
+        let alone : ks ≡ [] = nil_from_length ks (omega arith) in
+        inr (record {
+          early = [];
+          last = k;
+          are = ap (λ (xs : List ℕ). k ∷ xs) alone;
+          whole = All-nil (λ k. IsWhole (course k));
+          broke = went;
+          fails = omega (arith, failed_more, went.last, ap (λ (xs : List ℕ). failed_by (map course xs)) alone);
+        })
+    by_why (Some worst.NoMemory) is went mild_here rest = absurd mild_here
+
+-- the worst cause of orders of links
+abbrev worst_at : (ℕ → Course) → List (List ℕ) → Option OrderBroken
+worst_at course places = worst_of (map (λ ks. worst_of (map (λ c. c.why) (map course ks))) places)
+
+-- a number at the end of a list is in it
+times_last : (early : List ℕ) (k : ℕ) → 0 < times k (early ++ k ∷ [])
+times_last early k =
+    omega (arith, sum_by-append (λ (y : ℕ). cond {A = ℕ} (eqb y k) 1 0) early (k ∷ []), cond-eqb_same k k 1 refl)
+
+-- a store that orders name is there
+named_there : (n k : ℕ) (orders : List Order) → All (λ o. o.place < n) orders → 0 < times k (places_of orders) → k < n
+named_there n k [] all some = absurd (omega (arith, some))
+named_there n k (o ∷ os) all some =
+    let rest = sum_by-cons (λ (y : ℕ). cond {A = ℕ} (eqb y k) 1 0) o.place (places_of os) in
+    elim (eqb_tells o.place k) [
+      | inl same ↦ subst (λ (j : ℕ). j < n) same.1 (All-head (λ (o : Order). o.place < n) o os all)
+      | inr other ↦ named_there n k os (All-tail (λ (o : Order). o.place < n) o os all) (omega (arith, some, rest, cond-eqb_other o.place k 1 other.1))
+    ]
+
+module _ {L : Type 0} (sent : L → List Sent) (failed : L → ℕ) (ids : List (List ℕ)) (course : ℕ → Course) where
+  -- each link has its places
+  tried_many : (places : List (List ℕ)) (olds news : List L) → AllTried sent failed ids course places olds news → length places ≡ length olds
+  unfolding AllTried
+  tried_many [] [] [] tried = refl
+  tried_many (p ∷ ps) (o ∷ os) (n ∷ ns) tried = ap suc (tried_many ps os ns tried.1)
+  tried_many places olds news tried = absurd tried
+
+  -- what is known of one link
+  record OneLink (places : List ℕ) (old new : List Sent) (before after : ℕ) : Type 0 where
+    grew : new ≡ old ++ sent_by ids (map course places)
+    failures : after ≡ before + failed_by (map course places)
+    how : AllWhole course places ⊎ LastMild course places
+
+  one_link : (places : List (List ℕ)) (olds news : List L) → AllTried sent failed ids course places olds news → IsMild (worst_at course places) → (l : ℕ) → l < length olds
+      → OneLink (slice_index_or places l []) (slice_index_or (map sent olds) l []) (slice_index_or (map sent news) l []) (slice_index_or (map failed olds) l 0) (slice_index_or (map failed news) l 0)
+  unfolding AllTried
+  one_link [] [] [] tried mild l within = absurd (omega arith)
+  one_link (p ∷ ps) (o ∷ os) (n ∷ ns) tried mild zero within = record {
+    grew = tried.0.all;
+    failures = tried.0.failures;
+    how = all_courses course p tried.0.are.each tried.0.are.early (mild_both (worst_of (whys course p)) (worst_at course ps) mild).0;
+  }
+  one_link (p ∷ ps) (o ∷ os) (n ∷ ns) tried mild (suc l) within =
+      one_link ps os ns tried.1 (mild_both (worst_of (whys course p)) (worst_at course ps) mild).1 l (omega arith)
+  one_link places olds news tried mild l within = absurd tried
+
+  -- the last order of some link broke
+  some_broke : (places : List (List ℕ)) → worst_at course places ≡ Some worst.LinkFailed
+      → ((l : ℕ) → l < length places → AllWhole course (slice_index_or places l []) ⊎ LastMild course (slice_index_or places l []))
+      → (l : ℕ) × (l < length places) × LastMild course (slice_index_or places l [])
+  some_broke [] is how = absurd (cc is)
+  some_broke (p ∷ ps) is how = elim (how 0 (omega arith)) [
+    | inl all ↦
+        let found = some_broke ps (sym (ap (λ (w : Option OrderBroken). worse w (worst_at course ps)) all.none) ∙ is) (λ l within. how (suc l) (omega arith)) in
+        (suc found.0, omega (arith, found.1), found.2)
+    | inr last ↦ (0, omega arith, last)
+  ]
+
+-- a step that a failed link halted
+pub links_failed : {L : Type 0} (sent : L → List Sent) (failed : L → ℕ) (ids : List (List ℕ)) (orders : List Order) (before after : List State) (olds news : List L)
+    → BrokenOrdersChangeNothing → All (λ o. o.place < length after) orders → ((k : ℕ) → k < length after → IsState (opening_at before k))
+    → AllSettled sent failed ids orders (Some worst.LinkFailed) before after olds news → LinksFailed sent failed ids orders before after olds news
+links_failed sent failed ids orders before after olds news changes there sound settled =
+    record {
+      settled = settled;
+      many = many;
+      links = λ l within. record { grew = (link l within).grew; how = of_link l within _ _ (link l within).failures (link l within).how };
+      some =
+          let found = some_broke sent failed ids settled.course settled.places settled.cause (λ l within. (link l (omega (arith, many, within))).how) in
+          let inside : found.0 < length olds = omega (arith, many, found.1) in
+          (found.0, inside, last_broke found.0 inside _ _ (link found.0 inside).failures found.2);
+    }
+  where
+    mild : IsMild (worst_at settled.course settled.places)
+    mild = subst IsMild (sym settled.cause) tt
+
+    many : length settled.places ≡ length olds
+    many = tried_many sent failed ids settled.course settled.places olds news settled.links
+
+    link : (l : ℕ) → l < length olds → OneLink sent failed ids settled.course (slice_index_or settled.places l [])
+        (slice_index_or (map sent olds) l []) (slice_index_or (map sent news) l []) (slice_index_or (map failed olds) l 0) (slice_index_or (map failed news) l 0)
+    link = one_link sent failed ids settled.course settled.places olds news settled.links mild
+
+    last_broke : (l : ℕ) → l < length olds → (was is : ℕ) → is ≡ was + failed_by (map settled.course (slice_index_or settled.places l []))
+        → LastMild settled.course (slice_index_or settled.places l [])
+        → LastBroke settled.course (slice_index_or settled.places l []) before after was is
+    last_broke l within was is rose last =
+        let k = last.last in
+        let c = settled.course k in
+        let in_list : 0 < times k (slice_index_or settled.places l []) = subst (λ (xs : List ℕ). 0 < times k xs) (sym last.are) (times_last last.early k) in
+        let taken : 0 < sum_by (times k) settled.places = omega (arith, get_or-le-sum_by (times k) settled.places l [] (omega (arith, many, within)), in_list) in
+        let inside : k < length after = named_there (length after) k orders there (omega (arith, taken, settled.once k)) in
+        let tried = settled.stores k inside in
+        let order = last.broke.order in
+        let kept = changes (opening_at before k) (opening_at after k) c.seat c.order.amount (c.sent ++ c.unsent) c.calls order tried.run in
+        let legal = subst (IsLegal (opening_at before k)) order.are tried.run.legal in
+        let oldest = given_oldest (opening_at before k) c.seat (c.sent ++ c.unsent) (aborted c.seat ∷ []) (sound k inside) legal in
+        record {
+          early = last.early;
+          last = k;
+          are = last.are;
+          whole = last.whole;
+          broke = last.broke;
+          of = (tried.some taken).0;
+          failures = omega (arith, rose, last.fails);
+          same = kept.0;
+          newer = oldest.0;
+          oldest = ap (λ (s : State). s.store.content) kept.0 ∙ oldest.1;
+        }
+
+    of_link : (l : ℕ) → l < length olds → (was is : ℕ) → is ≡ was + failed_by (map settled.course (slice_index_or settled.places l []))
+        → AllWhole settled.course (slice_index_or settled.places l []) ⊎ LastMild settled.course (slice_index_or settled.places l [])
+        → NoneBroke settled.course (slice_index_or settled.places l []) was is ⊎ LastBroke settled.course (slice_index_or settled.places l []) before after was is
+    of_link l within was is rose (inl all) = inl (record { whole = all.whole; failures = omega (arith, rose, all.fails) })
+    of_link l within was is rose (inr last) = inr (last_broke l within was is rose last)
 
 -- a step that a failed link halted
 module _ {L : Type 0} (sent : L → List Sent) (failed : L → ℕ) (e : RecordingContext) (orders : List Order)

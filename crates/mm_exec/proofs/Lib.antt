@@ -4,12 +4,10 @@ pub mod Drawing
 pub mod Placing
 pub mod Parts
 pub mod StoresReady
-pub mod Coming
 pub mod Ordered
 pub mod Counters
 pub mod StepMore
 pub mod Starting
-pub mod Failing
 pub mod Halts
 pub mod Ended
 pub mod AccountLemmas

@@ -37,8 +37,7 @@ use Rattle.mm_exec.specs.Numbers.{counts_from, rows_of, row_from, rows_by_counte
 use Rattle.mm_exec.specs.RunState.{RunState}
 use Rattle.mm_exec.specs.Step.{StepDone}
 use Rattle.mm_exec.specs.Steps.{AreStepRuns, SourcesGave, LinksSent, StepsDone, sent_in}
-use Rattle.mm_exec.proofs.Coming.{came_at, timed_offers, map_range_same}
-use Rattle.mm_exec.proofs.Counters.{counts_planned, by_counters}
+use Rattle.mm_exec.proofs.Counters.{counts_planned, by_counters, came_at, timed_offers, map_range_same}
 use Rattle.mm_exec.proofs.Ordered.{wanted_is, orders_are}
 use Rattle.mm_exec.proofs.Parts.{as_many, same_ids}
 use Rattle.mm_exec.proofs.Placing.{id_there}
