@@ -3,6 +3,7 @@ use Rattle.std.proofs.Common.{◌≡◌, ℕ, ◌+◌, ◌-◌, ◌<◌, ◌≤�
 use Rattle.std.specs.Prelude.{sum_by, slice_index, flat_map}
 use Rattle.std.specs.List.{range_with_len}
 use Rattle.mm_base.proofs.Sums.{sum_by-add, sum_by-map, sum_by-swap}
+use Rattle.mm_base.proofs.Ranges.{All-range_with_len}
 use Rattle.mm_base.proofs.RangeSums.{sum_by_range_same}
 use Rattle.mm_problem.specs.Dumping.{Dumping, arrivals, stores, steps}
 use Rattle.mm_plan.specs.Volumes.{Amounts}
@@ -15,9 +16,10 @@ use Rattle.mm_exec.specs.AsPlanned.{AtEach, AsPlanned}
 use Rattle.mm_exec.specs.RunInput.{RunInput, store_state, step_of, offered, came, as_came}
 use Rattle.mm_record.specs.Counters.{counters_of}
 use Rattle.mm_exec.specs.Numbers.{counts_from, planned_counts, row_from, rows_by_counters, counted, AreByCounters, AreCounters, AreStepCounts}
+use Rattle.mm_exec.proofs.Ordered.{made_alike}
 use Rattle.mm_exec.proofs.Stepping.{grown, timed_by}
-use Rattle.std.proofs.lemmas.List.{same_lists, length-take-le, get_or-take}
-use Rattle.std.proofs.lemmas.List.FromFn.{get_or-map-range_with_len, length-map-range_with_len, get_or-range_with_len, length-range_with_len}
+use Rattle.std.proofs.lemmas.List.{length-take-le, get_or-take}
+use Rattle.std.proofs.lemmas.List.FromFn.{fill_by_all, get_or-map-range_with_len, length-map-range_with_len, get_or-range_with_len, length-range_with_len}
 use Rattle.mm_record.specs.declared.counters.Counters.{Counters}
 use Rattle.std.proofs.lemmas.List.Concat.{get_or-flat_map}
 use Rattle.mm_exec.specs.StepRuns.{AreTimed}
@@ -33,13 +35,9 @@ pub row_taken : (q : Dumping) (t : ℕ) (places : List ℕ) (before after : List
     → take n counts ≡ row_from q t places before after n
 row_taken q t places before after counters counts n counted told fits =
     let one : ℕ → StepCounts = λ s. counts_from q s t (counters_of (opening_at (states_of before) (slice_index places s))) (opening_at (states_of after) (slice_index places s)) in
-    let many : length (take n counts) ≡ n = length-take-le n counts fits in
-    same_lists _ _ (many ∙ sym (length-map-range_with_len one 0 n))
-    (λ k d within.
-    let inside : k < n = omega (arith, many) in
-    get_or-take n counts k d inside ∙ told k d no_counters inside
-    ∙ ap (λ (m : Counters). counts_from q k t m (opening_at (states_of after) (slice_index places k))) (counted k no_counters inside)
-    ∙ sym (get_or-map-range_with_len one 0 n k k d inside (omega arith)))
+    fill_by_all one (take n counts) n (one 0) (length-take-le n counts fits)
+    (λ k inside. get_or-take n counts k (one 0) inside ∙ told k (one 0) no_counters inside
+    ∙ ap (λ (m : Counters). counts_from q k t m (opening_at (states_of after) (slice_index places k))) (counted k no_counters inside))
 
 -- what a counter rose by
 less_of : (after before rose : ℕ) → after ≡ before + rose → after - before ≡ rose
@@ -97,11 +95,7 @@ length-rows row n (x ∷ xs) same =
 
 -- lists that a range gives are equal where each element is
 pub map_range_same : {X : Type 0} (f g : ℕ → X) (a n : ℕ) → ((s : ℕ) → a ≤ s → s < a + n → f s ≡ g s) → map f (range_with_len a n) ≡ map g (range_with_len a n)
-map_range_same f g a n same =
-    same_lists _ _ (length-map-range_with_len f a n ∙ sym (length-map-range_with_len g a n))
-    (λ k d within.
-    let inside : k < n = omega (arith, length-map-range_with_len f a n) in
-    get_or-map-range_with_len f a n k (a + k) d inside refl ∙ same (a + k) (omega arith) (omega arith) ∙ sym (get_or-map-range_with_len g a n k (a + k) d inside refl))
+map_range_same f g a n same = made_alike f g (range_with_len a n) (All-range_with_len (λ s. f s ≡ g s) a n same)
 
 -- what comes stands in place of the forecast
 pub came_at : (m : RunInput) (s t : ℕ) → s < length m.problem.rows → 1 ≤ t → t ≤ length m.problem.windows → arrivals (as_came m) s t ≡ came m s t

@@ -122,7 +122,7 @@ module _ (x : Amounts) (places : List ℕ) (t n : ℕ) where
   }
 
 -- lists are equal where they are made alike of each element
-made_alike : {X Y : Type 0} (f g : X → Y) (xs : List X) → All (λ x. f x ≡ g x) xs → map f xs ≡ map g xs
+pub made_alike : {X Y : Type 0} (f g : X → Y) (xs : List X) → All (λ x. f x ≡ g x) xs → map f xs ≡ map g xs
 made_alike f g [] same = refl
 made_alike f g (x ∷ xs) same =
     let here = All-head (λ x. f x ≡ g x) x xs same in

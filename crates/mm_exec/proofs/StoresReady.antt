@@ -37,6 +37,7 @@ use Rattle.mm_exec.specs.Halts.{AreFirstOffers}
 use Rattle.mm_exec.specs.Step.{AreReady, AreLeft, MayCarry, StepRecorded, StepDone, OrdersBroke, StepBroke}
 use Rattle.mm_exec.specs.RunState.{RunState}
 use Rattle.mm_exec.specs.declared.step.StepBroken.{StepBroken}
+use Rattle.mm_exec.proofs.Placing.{no_held}
 use Rattle.mm_exec.proofs.Parts.{as_many, by_how, first_turns}
 
 -- the state at a place is that of the store there
@@ -47,12 +48,8 @@ state_there held k d within = get_or-map (λ (h : Held). h.state) held k d blank
 pub all_states : (P : State → Type 0) (held : List Held) → ((k : ℕ) → k < length held → P (opening_at (states_of held) k)) → All (λ h. P h.state) held
 all_states P held each k d within = subst P (state_there held k d within) (each k within)
 
--- no store
-abbrev nothing_held : Held
-nothing_held = record { id = []; channel = 0; state = blank }
-
 pub state_holds : (P : State → Type 0) (held : List Held) → All (λ h. P h.state) held → (k : ℕ) → k < length held → P (opening_at (states_of held) k)
-state_holds P held all k within = subst P (sym (state_there held k nothing_held within)) (all k nothing_held within)
+state_holds P held all k within = subst P (sym (state_there held k no_held within)) (all k no_held within)
 
 -- offers of a step are made at its moment
 offers_by : (e : RecordingContext) (k : ℕ) (g : List SpacePacket) → All (IsBy e.now) (offers e k g)
