@@ -248,7 +248,7 @@ module _ {L : Type 0} (sent : L → List Sent) (failed : L → ℕ) (run : RunCo
         shape = ran.began.shape (omega arith);
         first = here.from_one;
         last = here.last;
-        places = stand;
+        stand = stand;
         carry = record {
           record_may = record {
             few = omega (arith, many, held.at_most);

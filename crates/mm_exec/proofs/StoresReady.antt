@@ -56,7 +56,7 @@ offers_by : (e : RecordingContext) (k : ℕ) (g : List SpacePacket) → All (IsB
 offers_by e k g = All-map (IsBy e.now) (λ (p : SpacePacket). Offer e.now p) (filter (is_routed e.routes (id_at e.ids k)) g) (λ i p inside. omega arith)
 
 pub all_by : (e : RecordingContext) (k : ℕ) (gave : List (List SpacePacket)) → AreBy e.now (map (offers e k) gave)
-all_by e k gave = All-map (λ (list : List Event). All (IsBy e.now) list) (offers e k) gave (λ i g inside. offers_by e k _)
+all_by e k gave = All-map (λ (list : List Event). All (IsBy e.now) list) (offers e k) gave (λ i g inside. offers_by e k (get_or gave i g))
 
 -- stores that are sound, and whose switches are as they were, are left ready where they were
 pub left_ready : (stores left : List Held) → labels_of left ≡ labels_of stores → All (λ h. IsState h.state) left

@@ -41,7 +41,7 @@ pub record MayReport {S L : Type 0} (failed : L → ℕ) (run : RunContext) (pla
   pub shape : HasShape run.problem.now run.plan.now
   pub first : 1 ≤ step
   pub last : step ≤ length run.problem.now.windows
-  pub places : StandWithin (length run.problem.now.rows) now.stores places
+  pub stand : StandWithin (length run.problem.now.rows) now.stores places
   pub carry : MayCarry failed (run.base + step) (orders_at run places step) now
   pub fit : amount_of (orders_at run places step) ≤ window run.problem.now step
   pub orders : MAX_STORES ≤ vec_capacity buffers.orders

@@ -23,7 +23,7 @@ returns-clause-done g c =
     let until = g.S.AnySource.until in
     let begun = c.args.self.now in
     let stepped = c.carry_step.new.self in
-    let stand = c.requires.may.places in
+    let stand = c.requires.may.stand in
     -- the run before the step and after it, and the orders of the step
     let read : OpenStores → List g.row.S.Denot → List g.row.L.Denot → RunState g.row.S.Denot g.row.L.Denot = λ stores sources links. record { stores = stores_in stores; sources = sources; links = links } in
     let before_is = ap (λ (stores : OpenStores). read stores c.self.inside.sources.items c.self.inside.links.items) c.all_counters-counters.ensures.same ∙ c.self.view_is in
