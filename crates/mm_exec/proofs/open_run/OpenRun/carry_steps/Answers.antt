@@ -85,7 +85,7 @@ loop-step-preserved g c =
           let stepped = c.in_default.ensures.done lasts lead in
           let before = here g at lasts stepped.0 in
           let was = c.loop-step.invariant.far lasts stepped.0 in
-          (was.0, λ limits. far_on _ _ _ _ _ _ _ _ before limits (was.1 limits) c.step_runs_keep_stores.ensures.law _ stepped.1.done);
+          (was.0, λ limits. far_on _ _ _ _ _ _ _ c.loop-step.buffers before limits (was.1 limits) c.step_runs_keep_stores.ensures.law _ stepped.1.done);
       left = left_on c.args.self.now.stores c.loop-step.self.stores c.report_step.new.self.stores c.loop-step.invariant.left c.in_default.ensures.left;
       room = omega (arith, c.loop-step.invariant.room, c.in_default.ensures.capacity);
     }
@@ -111,7 +111,7 @@ returns-in-Err-clause-far g c = λ lasts lead.
     let stepped = c.in-Err.ensures.far lasts lead in
     let before = here g (goal.at.returns-in-Err-clause-far g c).In-loop-step lasts stepped.0 in
     let was = c.loop-step.invariant.far lasts stepped.0 in
-    (was.0, λ limits. stepped.1 (takes_here _ _ _ _ _ _ _ _ before limits (was.1 limits)))
+    (was.0, λ limits. stepped.1 (takes_here _ _ _ _ _ _ _ c.loop-step.buffers before limits (was.1 limits)))
 
 pub returns-in-Err-clause-left : goal.returns-in-Err-clause-left
 returns-in-Err-clause-left g c = left_on c.args.self.now.stores c.loop-step.self.stores c.report_step.new.self.stores c.loop-step.invariant.left c.in-Err.ensures.left
