@@ -15,9 +15,11 @@ use Rattle.mm_exec.specs.declared.course.RunStopped.{RunStopped}
 use Rattle.mm_exec.specs.declared.step.StepBroken.{StepBroken}
 use Rattle.mm_exec.specs.Readiness.{RunStart, run_start}
 use Rattle.mm_exec.specs.RunInput.{RunInput, as_came}
-use Rattle.mm_exec.specs.RunState.{RunState}
+use Rattle.mm_exec.specs.RunState.{RunState, InRun}
 use Rattle.mm_exec.specs.Numbers.{report_of, rows_of, planned_counts}
-use Rattle.mm_exec.specs.Ending.{run_start_of, IsRefusal, IsStopped}
+use Rattle.mm_exec.specs.Ending.{IsRefusal, IsStopped}
+use Rattle.mm_exec.specs.Course.{given_to}
+use Rattle.mm_exec.specs.declared.course.RunContext.{RunContext}
 use Rattle.mm_base.proofs.RangeSums.{sum_by_range_same}
 use Rattle.mm_plan.specs.Sheet.{SheetRows}
 use Rattle.mm_plan.proofs.Steps.{left_start, left_step}
@@ -30,13 +32,17 @@ pub start_by : (P : RunStart → Type 0) (q : Dumping) (plan : Table) (base : �
     → held ≡ stores → counted_sources ≡ sources → counted_links ≡ links → P (run_start q plan held base counted_sources counted_links) → P (run_start q plan stores base sources links)
 start_by P q plan base read many_sources many_links holds = subst P (λ i. run_start q plan (read i) base (many_sources i) (many_links i)) holds
 
--- how a run ended that did not begin
-pub not_begun : {S L : Type 0} (sent : L → List Sent) (failed : L → ℕ) (m : RunInput) (plan : Table) (state : RunState S L) (left : List Supply) (cause : Cause)
-    (stopped : RunStopped) → stopped.broken ≡ record { cause = cause; spent = 0 } → stopped.report.steps ≡ [] → IsRefusal (run_start_of m plan state) cause
-    → IsStopped sent failed m plan state state left stopped
-not_begun sent failed m plan state left cause stopped broken report refusal = inr (
-  record { same = refl; report_is = report; spent_is = ap (λ (b : StepBroken). b.spent) broken },
-  subst (IsRefusal (run_start_of m plan state)) (sym (ap (λ (b : StepBroken). b.cause) broken)) refusal,
+-- how a run ended that did not begin, whatever its sources give
+pub not_begun : {S L : Type 0} (leads : S → S → Type 0) (until : S → S → Supply) (sent : L → List Sent) (failed : L → ℕ) (run : RunContext) (first : RunState S L) (stopped : RunStopped)
+    {cause : Cause} → stopped.broken ≡ record { cause = cause; spent = 0 } → stopped.report.steps ≡ []
+    → IsRefusal (run_start run.problem.now run.plan.now first.stores run.base (length first.sources) (length first.links)) cause
+    → InRun leads until first first (λ begun now. IsStopped sent failed (given_to run begun) run.plan.now first first now.sources stopped)
+not_begun leads until sent failed run first stopped broken report refusal lasts lead = (
+  lead,
+  inr (
+    record { same = refl; report_is = report; spent_is = ap (λ (b : StepBroken). b.spent) broken },
+    subst (IsRefusal (run_start run.problem.now run.plan.now first.stores run.base (length first.sources) (length first.links))) (sym (ap (λ (b : StepBroken). b.cause) broken)) refusal,
+  ),
 )
 
 -- the lost packets of the rows are as many as the plan loses

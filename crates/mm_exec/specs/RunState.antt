@@ -1,6 +1,7 @@
 -- What a run holds.
 use Rattle.std.specs.Prelude.{List}
 use Rattle.mm_desk.specs.declared.held.Held.{Held}
+use Rattle.mm_exec.specs.declared.run_parts.RunParts.{RunParts}
 use Rattle.mm_record.specs.Supplies.{Supply, WhateverComes}
 
 -- the stores, the sources and the links of a run
@@ -8,6 +9,10 @@ pub record RunState (S L : Type 0) : Type 0 where
   pub stores : List Held
   pub sources : List S
   pub links : List L
+
+-- what a run holds whose stores are not open
+abbrev pub state_of : {S L : Type 0} → RunParts S L → RunState S L
+state_of parts = record { stores = parts.stores.items; sources = parts.sources.items; links = parts.links.items }
 
 -- the same, with what its sources give in their place
 abbrev pub with_supplies : {S L : Type 0} → RunState S L → List Supply → RunState Supply L

@@ -3,7 +3,7 @@ ghost use Rattle.std.specs.Prelude.{◌≡◌, ◌-◌, ◌<◌, ◌^◌, [], Al
 ghost use Rattle.mm_shared.specs.Stores.{labels_of};
 ghost use Rattle.mm_memory.specs.Holdings.{AreHeld};
 ghost use Rattle.mm_record.specs.Supplies.{WhateverComes};
-ghost use Rattle.mm_exec.specs.RunState.{InRun};
+ghost use Rattle.mm_exec.specs.RunState.{InRun, state_of};
 ghost use Rattle.mm_exec.specs.RunInput.{run_input};
 ghost use Rattle.mm_exec.specs.Step.{NeverRefused};
 ghost use Rattle.mm_exec.specs.Course.{given_to, AreWithinLimits};
@@ -48,29 +48,30 @@ impl<S: AnySource + Send + Drop, L: Link + Send + Drop> RunParts<S, L> {
         alloc: Global,
         run: &RunContext<'_>,
     ) -> Result<Report, RunStopped>
-        requires held { AreHeld self.old.stores }
-        requires links { All (λ l. L.failed l < 2 ^ 64 - 1) self.old.links }
-        ensures done { IfOk result (λ report. InRun S.leads S.until self.old self.new
+        requires held { AreHeld self.old.stores.items }
+        requires links { All (λ l. L.failed l < 2 ^ 64 - 1) self.old.links.items }
+        ensures done { IfOk result (λ report. InRun S.leads S.until (state_of self.old) (state_of self.new)
             (λ first now. HasRun L.sent L.failed (given_to run.now first) run.now.plan.now first (length run.now.problem.now.windows) now report)) }
-        ensures stopped { IfErr result (λ stopped. InRun S.leads S.until self.old self.new
-            (λ first now. IsStopped L.sent L.failed (given_to run.now first) run.now.plan.now self.old self.new now.sources stopped)) }
-        ensures far { IfErr result (λ stopped. InRun S.leads S.until self.old self.new
+        ensures stopped { IfErr result (λ stopped. InRun S.leads S.until (state_of self.old) (state_of self.new)
+            (λ first now. IsStopped L.sent L.failed (given_to run.now first) run.now.plan.now (state_of self.old) (state_of self.new) now.sources stopped)) }
+        ensures far { IfErr result (λ stopped. InRun S.leads S.until (state_of self.old) (state_of self.new)
             (λ first now. AreWithinLimits (length run.now.problem.now.windows) first.stores first.sources → NeverRefused stopped.broken.cause)) }
-        ensures labels { labels_of self.new.stores ≡ labels_of self.old.stores }
+        ensures labels { labels_of self.new.stores.items ≡ labels_of self.old.stores.items }
     {
-        let many_sources = self.sources_len();
-        let many_links = self.links_len();
+        let stores = self.stores.as_slice();
+        let many_sources = self.sources.len();
+        let many_links = self.links.len();
         if let Err(cause) = ready(
             run.problem,
             run.plan,
-            self.stores(),
+            stores,
             run.base,
             many_sources,
             many_links,
         ) {
             return Err(never_began(alloc, cause));
         }
-        let all = places_of(run.problem, self.stores());
+        let all = places_of(run.problem, stores);
         let Ok(buffers) = reserve_run(alloc, run.problem) else {
             return Err(never_began(alloc, Cause::NoMemory { step: 0 }));
         };

@@ -3,7 +3,7 @@ use Rattle.mm_memory.specs.Holdings.{Holdings}
 use Rattle.mm_shared.specs.Stores.{labels_of}
 use Rattle.mm_record.proofs.Memories.{held_as}
 use Rattle.mm_exec.specs.RunInput.{run_input}
-use Rattle.mm_exec.specs.RunState.{RunState, with_supplies}
+use Rattle.mm_exec.specs.RunState.{RunState, state_of, with_supplies}
 use Rattle.mm_exec.specs.Step.{NeverRefused}
 use Rattle.mm_record.specs.Supplies.{Supply, supplies, WhateverComes}
 use Rattle.mm_exec.specs.Course.{AreWithinLimits}
@@ -23,26 +23,20 @@ lent g c P holds =
 routes_kept : (g : given.Over) (c : goal.After-restore g) → c.restore.new.self.routes ≡ c.args.memory.now.routes
 routes_kept g c = ap (λ (h : Holdings). h.routes) c.restore.ensures.after ∙ ap (λ (h : Holdings). h.routes) c.lift.ensures.left
 
--- what the run left is back in the memory
-left_back : (g : given.Over) (c : goal.After-restore g) → c.carry_plan-ended.new.self ≡ over_memory c.restore.new.self c.parts.inside.sources.items c.parts.inside.links.items
-left_back g c =
-    let stores = sym (ap (λ (h : Holdings). h.stores) c.restore.ensures.after) in
-    sym c.parts.view_is ∙ (λ i. record { stores = stores i; sources = c.parts.inside.sources.items; links = c.parts.inside.links.items })
-
 pub restore-requires-clause-are_held : goal.restore-requires-clause-are_held
 restore-requires-clause-are_held g c =
-    let back = ap (λ (x : RunState g.row.S.Denot g.row.L.Denot). labels_of x.stores) c.parts.view_is in
-    held_as c.parts.inside.stores.items c.args.memory.now.stores (back ∙ c.carry_plan-ended.ensures.labels ∙ ap labels_of c.lift.ensures.stores) c.lift.ensures.are_held
+    held_as c.carry_plan-ended.new.self.stores.items c.args.memory.now.stores (c.carry_plan-ended.ensures.labels ∙ ap labels_of c.lift.ensures.stores) c.lift.ensures.are_held
 
 -- what holds of the run over what was lent, whatever its sources give, holds of it over the memory
 given_back : (g : given.Over) (c : goal.After-restore g) (P : Holdings → RunState g.row.S.Denot g.row.L.Denot → List Supply → List Supply → Type 0)
-    → WhateverComes g.S.AnySource.leads g.S.AnySource.until c.args.sources.items c.carry_plan-ended.new.self.sources
-    (P (record { stores = c.lift.result.items; routes = c.control.result.now }) c.carry_plan-ended.new.self)
-    → WhateverComes g.S.AnySource.leads g.S.AnySource.until c.args.sources.items c.parts.inside.sources.items
-    (P c.args.memory.now (over_memory c.restore.new.self c.parts.inside.sources.items c.parts.inside.links.items))
+    → let left = c.carry_plan-ended.new.self in
+    WhateverComes g.S.AnySource.leads g.S.AnySource.until c.args.sources.items left.sources.items (P (record { stores = c.lift.result.items; routes = c.control.result.now }) (state_of left))
+    → WhateverComes g.S.AnySource.leads g.S.AnySource.until c.args.sources.items left.sources.items (P c.args.memory.now (over_memory c.restore.new.self left.sources.items left.links.items))
 given_back g c P holds =
-    let Comes = λ (m : Holdings) (left : RunState g.row.S.Denot g.row.L.Denot). WhateverComes g.S.AnySource.leads g.S.AnySource.until c.args.sources.items left.sources (P m left) in
-    subst (Comes c.args.memory.now) (left_back g c) (lent g c (λ (m : Holdings). Comes m c.carry_plan-ended.new.self) holds)
+    let left = c.carry_plan-ended.new.self in
+    let stores = sym (ap (λ (h : Holdings). h.stores) c.restore.ensures.after) in
+    let Comes = λ (m : Holdings) (after : RunState g.row.S.Denot g.row.L.Denot). WhateverComes g.S.AnySource.leads g.S.AnySource.until c.args.sources.items after.sources (P m after) in
+    subst (Comes c.args.memory.now) (λ i. record { stores = stores i; sources = left.sources.items; links = left.links.items }) (lent g c (λ (m : Holdings). Comes m (state_of left)) holds)
 
 pub returns-in-Ok-clause-carried_out : goal.returns-in-Ok-clause-carried_out
 returns-in-Ok-clause-carried_out g c =
