@@ -12,7 +12,7 @@ use Rattle.mm_exec.proofs.Ended.{start_by, not_begun}
 use Rattle.mm_shared.specs.Stores.{stores_in, labels_of}
 use Rattle.mm_exec.proofs.run_parts.RunParts.carry_plan.Given as given
 use Rattle.mm_exec.proofs.run_parts.RunParts.carry_plan.Goals as goal
-use Rattle.mm_exec.proofs.run_parts.RunParts.carry_plan.Goals.{After-close_all}
+use Rattle.mm_exec.proofs.run_parts.RunParts.carry_plan.Goals.{After-drop-self-2}
 
 -- a run of these stores, sources and links
 abbrev run_state : (g : given.Over) → List Held → List g.row.S.Denot → List g.row.L.Denot → RunState g.row.S.Denot g.row.L.Denot
@@ -68,7 +68,7 @@ carry_steps-ended-requires-clause-may g c κs within =
     })
 
 -- the run whose stores were opened is the one that was given
-begun_is : (g : given.Over) (c : goal.After-close_all g) → run_state g (stores_in c.read_states.new.opened) c.replace.result.items c.replace-2.result.items ≡ state_of c.args.self.now
+begun_is : (g : given.Over) (c : goal.After-drop-self-2 g) → run_state g (stores_in c.read_states.new.opened) c.replace.result.items c.replace-2.result.items ≡ state_of c.args.self.now
 begun_is g c =
     let stores = ap stores_in c.read_states.ensures.same ∙ c.in-Ok-open_all.ensures.opened.1 in
     let sources = ap (λ (v : Vec g.row.S.Denot Global). v.items) c.replace.ensures.value in
@@ -76,12 +76,12 @@ begun_is g c =
     λ i. record { stores = stores i; sources = sources i; links = links i }
 
 -- what its steps left is left
-left_is : (g : given.Over) (c : goal.After-close_all g)
+left_is : (g : given.Over) (c : goal.After-drop-self-2 g)
     → run_state g c.close_all.new.stores.items c.open.inside.sources.items c.open.inside.links.items ≡ c.carry_steps-ended.new.self
 left_is g c = ap (λ (stores : List Held). run_state g stores c.open.inside.sources.items c.open.inside.links.items) c.close_all.ensures.stores ∙ c.open.view_is
 
 -- so what holds of the steps holds of the run
-of_run : (g : given.Over) (c : goal.After-close_all g) (P : RunState g.row.S.Denot g.row.L.Denot → RunState g.row.S.Denot g.row.L.Denot → Type 0)
+of_run : (g : given.Over) (c : goal.After-drop-self-2 g) (P : RunState g.row.S.Denot g.row.L.Denot → RunState g.row.S.Denot g.row.L.Denot → Type 0)
     → P (run_state g (stores_in c.read_states.new.opened) c.replace.result.items c.replace-2.result.items) c.carry_steps-ended.new.self
     → P (state_of c.args.self.now) (run_state g c.close_all.new.stores.items c.open.inside.sources.items c.open.inside.links.items)
 of_run g c P holds =
