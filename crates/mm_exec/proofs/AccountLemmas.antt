@@ -86,16 +86,16 @@ module _ {X : Type 0} (f g : ℕ → List X) (x : List X) (j : ℕ) (here : f j 
   more_at zero within = absurd (omega arith)
   more_at (suc n) within = elim (cases_lt j n) [
     | inl before ↦
-          subst (λ l. IsPermutation (over_seats f n ++ l) (x ++ (over_seats g n ++ g n))) (sym (others n (λ same. omega (arith, same))))
-          (subst (IsPermutation (over_seats f n ++ g n)) (append_assoc x (over_seats g n) (g n)) (IsPermutation-append_left (g n) _ _ (more_at n before)))
+        subst (λ l. IsPermutation (over_seats f n ++ l) (x ++ (over_seats g n ++ g n))) (sym (others n (λ same. omega (arith, same))))
+        (subst (IsPermutation (over_seats f n ++ g n)) (append_assoc x (over_seats g n) (g n)) (IsPermutation-append_left (g n) _ _ (more_at n before)))
     | inr last ↦
-          let at : n ≡ j = omega arith in
-          let front : over_seats f n ≡ over_seats g n = over_seats-same f g n (λ k early. others k (λ same. omega (arith, same))) in
-          let back : f n ≡ x ++ g n = ap f at ∙ here ∙ ap (λ k. x ++ g k) (sym at) in
-          let whole : over_seats f n ++ f n ≡ over_seats g n ++ x ++ g n = ap (λ l. l ++ f n) front ∙ ap (λ l. over_seats g n ++ l) back ∙ sym (append_assoc (over_seats g n) x (g n)) in
-          subst (λ l. IsPermutation l (x ++ (over_seats g n ++ g n))) (sym whole)
-          (subst (IsPermutation (over_seats g n ++ x ++ g n)) (append_assoc x (over_seats g n) (g n))
-          (IsPermutation-append_left (g n) _ _ (IsPermutation-append_comm (over_seats g n) x)))
+        let at : n ≡ j = omega arith in
+        let front : over_seats f n ≡ over_seats g n = over_seats-same f g n (λ k early. others k (λ same. omega (arith, same))) in
+        let back : f n ≡ x ++ g n = ap f at ∙ here ∙ ap (λ k. x ++ g k) (sym at) in
+        let whole : over_seats f n ++ f n ≡ over_seats g n ++ x ++ g n = ap (λ l. l ++ f n) front ∙ ap (λ l. over_seats g n ++ l) back ∙ sym (append_assoc (over_seats g n) x (g n)) in
+        subst (λ l. IsPermutation l (x ++ (over_seats g n ++ g n))) (sym whole)
+        (subst (IsPermutation (over_seats g n ++ x ++ g n)) (append_assoc x (over_seats g n) (g n))
+        (IsPermutation-append_left (g n) _ _ (IsPermutation-append_comm (over_seats g n) x)))
   ]
 
 -- what the seats of a log asked, seat by seat

@@ -32,8 +32,11 @@ returns-in_default-reserve_run-clause-stopped g c =
     let parts = c.args.self.now in
     let ended = c.never_began-in_default-reserve_run in
     not_begun _ _ g.L.Link.sent g.L.Link.failed run (state_of parts) ended.result ended.ensures.broken ended.ensures.report
-    (inr (refl, start_by MayBegin run.problem.now run.plan.now run.base c.as_slice-stores.ensures.value (omega (arith, c.len-many_sources.ensures, parts.sources.ok.0))
-    (omega (arith, c.len-many_links.ensures, parts.links.ok.0)) c.in_default.ensures.ok))
+    (inr (
+      refl,
+      start_by MayBegin run.problem.now run.plan.now run.base c.as_slice-stores.ensures.value (omega (arith, c.len-many_sources.ensures, parts.sources.ok.0))
+          (omega (arith, c.len-many_links.ensures, parts.links.ok.0)) c.in_default.ensures.ok,
+    ))
 
 pub returns-in_default-open_all-clause-stopped : goal.returns-in_default-open_all-clause-stopped
 returns-in_default-open_all-clause-stopped g c =
@@ -45,8 +48,11 @@ returns-in_default-open_all-clause-stopped g c =
     InRun g.S.AnySource.leads g.S.AnySource.until first after
     (λ begun now. IsStopped g.L.Link.sent g.L.Link.failed (given_to run begun) run.plan.now first after now.sources ended.result)) (sym c.in_default-open_all.ensures.err)
     (not_begun _ _ g.L.Link.sent g.L.Link.failed run first ended.result ended.ensures.broken ended.ensures.report
-    (inr (refl, start_by MayBegin run.problem.now run.plan.now run.base c.as_slice-stores.ensures.value (omega (arith, c.len-many_sources.ensures, parts.sources.ok.0))
-    (omega (arith, c.len-many_links.ensures, parts.links.ok.0)) c.in_default.ensures.ok)))
+    (inr (
+      refl,
+      start_by MayBegin run.problem.now run.plan.now run.base c.as_slice-stores.ensures.value (omega (arith, c.len-many_sources.ensures, parts.sources.ok.0))
+          (omega (arith, c.len-many_links.ensures, parts.links.ok.0)) c.in_default.ensures.ok,
+    )))
 
 pub carry_steps-ended-requires-clause-may : goal.carry_steps-ended-requires-clause-may
 carry_steps-ended-requires-clause-may g c κs within =
