@@ -1,8 +1,12 @@
 -- What became of the packets of a run: a log of offers, the log's seats, a step run, and then one step after another.
 use Rattle.std.proofs.Common.{◌≡◌, ◌≢◌, inl, inr, ℕ, zero, suc, ◌+◌, ◌-◌, ◌<◌, ◌≤◌, List, [], ◌∷◌, ◌++◌, length, get_or, refl, sym, ap, subst, ◌∙◌, arith, length-append, append_assoc}
 use Rattle.std.specs.Prelude.{Ok, flat_map, IsPermutation}
-use Rattle.std.proofs.lemmas.Bool.{cases_lt, eq-eqb, ne_eqb}
-use Rattle.std.proofs.lemmas.List.{append-nil, map-append, get_or_append_left}
+use Rattle.std.proofs.lemmas.Bool.{cases_lt, cases_eq, eq-eqb, ne_eqb}
+use Rattle.std.proofs.lemmas.List.{map-append, get_or_append_left}
+use Rattle.std.specs.List.{range_with_len}
+use Rattle.std.proofs.lemmas.List.FromFn.{fill_by_all}
+use Rattle.std.proofs.lemmas.List.Folds.{flat_map-map}
+use Rattle.mm_exec.proofs.RangeLists.{flat_map_range_same}
 use Rattle.std.proofs.lemmas.List.Elements.{All-head, All-tail}
 use Rattle.std.proofs.lemmas.List.Sorted.{IsPermutation-refl, IsPermutation-sym, IsPermutation-trans, IsPermutation-append_left, IsPermutation-append_right, IsPermutation-append_comm}
 use Rattle.mm_packet.specs.Packet.{SpacePacket}
@@ -58,60 +62,38 @@ takes_all s (e ∷ es) legal all =
       leaves = rest.leaves;
     }
 
--- the lists of these many seats, one after another
-abbrev over_seats : {X : Type 0} → (ℕ → List X) → ℕ → List X
-over_seats each zero = []
-over_seats each (suc n) = over_seats each n ++ each n
-
--- the same from the first seat on
-over_seats-first : {X : Type 0} (each : ℕ → List X) (n : ℕ) → over_seats each (suc n) ≡ each 0 ++ over_seats (λ k. each (suc k)) n
-over_seats-first each zero = sym (append-nil (each 0))
-over_seats-first each (suc n) =
-    ap (λ l. l ++ each (suc n)) (over_seats-first each n) ∙ append_assoc (each 0) (over_seats (λ k. each (suc k)) n) (each (suc n))
-
--- what is made of each list, one after another, as by the seats
-by_seats : {X Y : Type 0} (make : List X → List Y) (lists : List (List X)) → over_seats (λ k. make (get_or lists k [])) (length lists) ≡ flat_map make lists
-by_seats make [] = refl
-by_seats make (x ∷ xs) = over_seats-first (λ k. make (get_or (x ∷ xs) k [])) (length xs) ∙ ap (λ l. make x ++ l) (by_seats make xs)
-
--- lists that are alike below a number
-over_seats-same : {X : Type 0} (f g : ℕ → List X) (n : ℕ) → ((k : ℕ) → k < n → f k ≡ g k) → over_seats f n ≡ over_seats g n
-over_seats-same f g zero same = refl
-over_seats-same f g (suc n) same =
-    ap (λ l. l ++ f n) (over_seats-same f g n (λ k within. same k (omega arith))) ∙ ap (λ l. over_seats g n ++ l) (same n (omega arith))
-
 module _ {X : Type 0} (f g : ℕ → List X) (x : List X) (j : ℕ) (here : f j ≡ x ++ g j) (others : (k : ℕ) → k ≢ j → f k ≡ g k) where
   -- what one seat has more stands first
-  more_at : (n : ℕ) → j < n → IsPermutation (over_seats f n) (x ++ over_seats g n)
-  more_at zero within = absurd (omega arith)
-  more_at (suc n) within = elim (cases_lt j n) [
-    | inl before ↦
-        subst (λ l. IsPermutation (over_seats f n ++ l) (x ++ (over_seats g n ++ g n))) (sym (others n (λ same. omega (arith, same))))
-        (subst (IsPermutation (over_seats f n ++ g n)) (append_assoc x (over_seats g n) (g n)) (IsPermutation-append_left (g n) _ _ (more_at n before)))
-    | inr last ↦
-        let at : n ≡ j = omega arith in
-        let front : over_seats f n ≡ over_seats g n = over_seats-same f g n (λ k early. others k (λ same. omega (arith, same))) in
-        let back : f n ≡ x ++ g n = ap f at ∙ here ∙ ap (λ k. x ++ g k) (sym at) in
-        let whole : over_seats f n ++ f n ≡ over_seats g n ++ x ++ g n = ap (λ l. l ++ f n) front ∙ ap (λ l. over_seats g n ++ l) back ∙ sym (append_assoc (over_seats g n) x (g n)) in
-        subst (λ l. IsPermutation l (x ++ (over_seats g n ++ g n))) (sym whole)
-        (subst (IsPermutation (over_seats g n ++ x ++ g n)) (append_assoc x (over_seats g n) (g n))
-        (IsPermutation-append_left (g n) _ _ (IsPermutation-append_comm (over_seats g n) x)))
-  ]
+  more_at : (a n : ℕ) → a ≤ j → j < a + n → IsPermutation (flat_map f (range_with_len a n)) (x ++ flat_map g (range_with_len a n))
+  more_at a zero low high = absurd (omega arith)
+  more_at a (suc n) low high =
+      let rest = flat_map g (range_with_len (a + 1) n) in
+      elim (cases_eq a j) [
+        | inl at ↦
+            let front : f a ≡ x ++ g a = ap f at ∙ here ∙ ap (λ k. x ++ g k) (sym at) in
+            let back = flat_map_range_same f g (a + 1) n (λ k from to. others k (λ same. omega (arith, same))) in
+            subst (λ l. IsPermutation l (x ++ (g a ++ rest))) (sym ((λ i. front i ++ back i) ∙ append_assoc x (g a) rest)) (IsPermutation-refl _)
+        | inr other ↦
+            let later = IsPermutation-append_right (g a) _ _ (more_at (a + 1) n (omega arith) (omega arith)) in
+            let turned = subst (λ (ls : List X × List X). IsPermutation ls.0 ls.1) (λ i. (append_assoc (g a) x rest i, append_assoc x (g a) rest i))
+            (IsPermutation-append_left rest _ _ (IsPermutation-append_comm (g a) x)) in
+            subst (λ l. IsPermutation (l ++ flat_map f (range_with_len (a + 1) n)) (x ++ (g a ++ rest))) (sym (others a other)) (IsPermutation-trans _ _ _ later turned)
+      ]
 
 -- what the seats of a log asked, seat by seat
-parted : (n : ℕ) (log : List Entry) → AreBelow n log → IsPermutation (packets_in (asked log)) (over_seats (λ k. packets_in (asked (part k log))) n)
-parted n [] below = subst (IsPermutation []) (sym (nothing n)) (IsPermutation-refl [])
+parted : (n : ℕ) (log : List Entry) → AreBelow n log → IsPermutation (packets_in (asked log)) (flat_map (λ k. packets_in (asked (part k log))) (range_with_len 0 n))
+parted n [] below = subst (IsPermutation []) (sym (nothing 0 n)) (IsPermutation-refl [])
   where
-    nothing : (n : ℕ) → over_seats (λ k. packets_in (asked (part k []))) n ≡ []
-    nothing zero = refl
-    nothing (suc n) = ap (λ l. l ++ []) (nothing n)
+    nothing : (a n : ℕ) → flat_map (λ k. packets_in (asked (part k []))) (range_with_len a n) ≡ []
+    nothing a zero = refl
+    nothing a (suc n) = nothing (a + 1) n
 parted n (e ∷ es) below =
     let within : e.seat < n = All-head (λ (x : Entry). x.seat < n) e es below in
     let rest = parted n es (All-tail (λ (x : Entry). x.seat < n) e es below) in
     let here : packets_in (asked (part e.seat (e ∷ es))) ≡ packet_in e.event ++ packets_in (asked (part e.seat es)) = rw (eq-eqb e.seat e.seat refl) refl in
     let others = λ (k : ℕ) (other : k ≢ e.seat). not_mine k other in
     IsPermutation-trans _ _ _ (IsPermutation-append_right (packet_in e.event) _ _ rest)
-    (IsPermutation-sym _ _ (more_at (λ k. packets_in (asked (part k (e ∷ es)))) (λ k. packets_in (asked (part k es))) (packet_in e.event) e.seat here others n within))
+    (IsPermutation-sym _ _ (more_at (λ k. packets_in (asked (part k (e ∷ es)))) (λ k. packets_in (asked (part k es))) (packet_in e.event) e.seat here others 0 n (omega arith) (omega arith)))
   where
     not_mine : (k : ℕ) → k ≢ e.seat → packets_in (asked (part k (e ∷ es))) ≡ packets_in (asked (part k es))
     not_mine k other = rw (ne_eqb e.seat k (λ same. other (sym same))) refl
@@ -119,8 +101,10 @@ parted n (e ∷ es) below =
 -- a log that is a shuffle of offers asks what they ask
 shuffled_packets : (offers : List (List Event)) (log : List Entry) → IsShuffleOfEvents offers log → IsPermutation (packets_offered offers) (packets_in (asked log))
 shuffled_packets offers log shuffle =
-    let seats = over_seats-same (λ k. packets_in (asked (part k log))) (λ k. packets_in (get_or offers k [])) (length offers) (λ k within. ap packets_in (shuffle.parts k within)) in
-    subst (λ l. IsPermutation l (packets_in (asked log))) (seats ∙ by_seats packets_in offers) (IsPermutation-sym _ _ (parted (length offers) log shuffle.below))
+    let seats = range_with_len 0 (length offers) in
+    let alike = flat_map_range_same (λ k. packets_in (asked (part k log))) (λ k. packets_in (get_or offers k [])) 0 (length offers) (λ k from within. ap packets_in (shuffle.parts k (omega arith))) in
+    let all = sym (flat_map-map packets_in (λ k. get_or offers k []) seats) ∙ ap (flat_map packets_in) (sym (fill_by_all (λ k. get_or offers k []) offers (length offers) [] refl (λ k within. refl))) in
+    subst (λ l. IsPermutation l (packets_in (asked log))) (alike ∙ all) (IsPermutation-sym _ _ (parted (length offers) log shuffle.below))
 
 -- what a step run does with packets
 record StepAccounts (s t : State) (came : List SpacePacket) (gave : List Stored) : Type 0 where

@@ -3,10 +3,9 @@ use Rattle.std.proofs.Common.{◌≡◌, ℕ, ◌+◌, ◌-◌, ◌<◌, ◌≤�
 use Rattle.std.specs.Prelude.{sum_by, slice_index, flat_map}
 use Rattle.std.specs.List.{range_with_len}
 use Rattle.mm_base.proofs.Sums.{sum_by-add, sum_by-map, sum_by-swap}
-use Rattle.mm_base.proofs.Ranges.{All-range_with_len}
 use Rattle.mm_base.proofs.RangeSums.{sum_by_range_same}
 use Rattle.mm_problem.specs.Dumping.{Dumping, arrivals, stores, steps}
-use Rattle.mm_plan.specs.Volumes.{Amounts}
+use Rattle.mm_plan.specs.Volumes.{Amounts, left, written, lost}
 use Rattle.mm_desk.specs.declared.held.Held.{Held}
 use Rattle.mm_desk.specs.Machine.{State}
 use Rattle.mm_desk.specs.Runs.{opening_at}
@@ -16,7 +15,6 @@ use Rattle.mm_exec.specs.AsPlanned.{AtEach, AsPlanned}
 use Rattle.mm_exec.specs.RunInput.{RunInput, store_state, step_of, offered, came, as_came}
 use Rattle.mm_record.specs.Counters.{counters_of}
 use Rattle.mm_exec.specs.Numbers.{counts_from, planned_counts, row_from, rows_by_counters, counted, AreByCounters, AreCounters, AreStepCounts}
-use Rattle.mm_exec.proofs.Ordered.{made_alike}
 use Rattle.mm_exec.proofs.Stepping.{grown, timed_by}
 use Rattle.std.proofs.lemmas.List.{length-take-le, get_or-take}
 use Rattle.std.proofs.lemmas.List.FromFn.{fill_by_all, get_or-map-range_with_len, length-map-range_with_len, get_or-range_with_len, length-range_with_len}
@@ -39,16 +37,12 @@ row_taken q t places before after counters counts n counted told fits =
     (λ k inside. get_or-take n counts k (one 0) inside ∙ told k (one 0) no_counters inside
     ∙ ap (λ (m : Counters). counts_from q k t m (opening_at (states_of after) (slice_index places k))) (counted k no_counters inside))
 
--- what a counter rose by
-less_of : (after before rose : ℕ) → after ≡ before + rose → after - before ≡ rose
-less_of after before rose same = omega arith
-
 -- what a step brings to a store is what the plan says
 pub counts_planned : (q came : Dumping) (x : Amounts) (s t : ℕ) (u v : State) → AsPlanned came x s t u v → counts_from q s t (counters_of u) v ≡ planned_counts q came x s t
 counts_planned q came x s t u v planned =
-    let arrived = less_of _ _ _ planned.takes in
-    let lost_is = less_of _ _ _ planned.loses in
-    let dumped = less_of _ _ _ planned.dumps in
+    let arrived : v.offered - u.offered ≡ arrivals came s t = omega (arith, planned.takes) in
+    let lost_is : v.lost - u.lost ≡ lost came x s t = omega (arith, planned.loses) in
+    let dumped : v.deleted - u.deleted ≡ written came x s t - left came x s t = omega (arith, planned.dumps) in
     let held = planned.holds in
     λ i. record { forecast = arrivals q s t; arrived = arrived i; lost = lost_is i; dumped = dumped i; held = held i }
 
@@ -76,13 +70,10 @@ module _ (m : RunInput) (held : ℕ → List Held) (steps : ℕ) (first : held 0
   pub by_counters : (came : Dumping) (x : Amounts) → AtEach (length m.problem.rows) steps (λ s t. AsPlanned came x s t (store_state m (held (t - 1)) s) (store_state m (held t) s))
       → AreByCounters m (held steps) (rows_by_counters m held steps)
   by_counters came x planned = record {
-    arrived = total_of (λ u. u.offered) (λ y. y.arrived) (λ s t u v. refl) (λ s t store low high. rises _ _ _ (planned s t store low high).takes);
-    lost = total_of (λ u. u.lost) (λ y. y.lost) (λ s t u v. refl) (λ s t store low high. rises _ _ _ (planned s t store low high).loses);
-    dumped = total_of (λ u. u.deleted) (λ y. y.dumped) (λ s t u v. refl) (λ s t store low high. rises _ _ _ (planned s t store low high).dumps);
+    arrived = total_of (λ u. u.offered) (λ y. y.arrived) (λ s t u v. refl) (λ s t store low high. let rose = (planned s t store low high).takes in omega (arith, rose));
+    lost = total_of (λ u. u.lost) (λ y. y.lost) (λ s t u v. refl) (λ s t store low high. let rose = (planned s t store low high).loses in omega (arith, rose));
+    dumped = total_of (λ u. u.deleted) (λ y. y.dumped) (λ s t u v. refl) (λ s t store low high. let rose = (planned s t store low high).dumps in omega (arith, rose));
   }
-    where
-      rises : (after before rose : ℕ) → after ≡ before + rose → before ≤ after
-      rises after before rose same = omega arith
 
 -- rows of one length, one after another
 length-rows : {X : Type 0} (row : ℕ → List X) (n : ℕ) (xs : List ℕ) → ((t : ℕ) → length (row t) ≡ n) → length (flat_map row xs) ≡ length xs * n
@@ -92,10 +83,6 @@ length-rows row n (x ∷ xs) same =
     let here = same x in
     let all = length-append (row x) (flat_map row xs) in
     grind (arith, rest, here, all)
-
--- lists that a range gives are equal where each element is
-pub map_range_same : {X : Type 0} (f g : ℕ → X) (a n : ℕ) → ((s : ℕ) → a ≤ s → s < a + n → f s ≡ g s) → map f (range_with_len a n) ≡ map g (range_with_len a n)
-map_range_same f g a n same = made_alike f g (range_with_len a n) (All-range_with_len (λ s. f s ≡ g s) a n same)
 
 -- what comes stands in place of the forecast
 pub came_at : (m : RunInput) (s t : ℕ) → s < length m.problem.rows → 1 ≤ t → t ≤ length m.problem.windows → arrivals (as_came m) s t ≡ came m s t

@@ -1,3 +1,4 @@
+pub mod RangeLists
 pub mod Replays
 pub mod Stepping
 pub mod Drawing

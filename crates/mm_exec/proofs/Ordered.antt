@@ -3,7 +3,7 @@ use Rattle.std.proofs.Common.{◌≡◌, ◌≢◌, ℕ, ◌<◌, ◌≤◌, Boo
 use Rattle.std.specs.Prelude.{filter, slice_index, AllPairs, nat_lt}
 use Rattle.std.specs.List.{sum_by, range_with_len}
 use Rattle.std.proofs.lemmas.Bool.{lt-ltb, le-ltb, ltb-true, ltb-false, ne_eqb, eq-eqb, cond_both}
-use Rattle.std.proofs.lemmas.List.Elements.{All-map, All-head, All-tail, filter-append}
+use Rattle.std.proofs.lemmas.List.Elements.{All-map, filter-append}
 use Rattle.mm_base.proofs.Pairs.{AllPairs-map}
 use Rattle.mm_base.proofs.Ranges.{All-filter-range_with_len, AllPairs-filter-range_with_len, range_with_len_more}
 use Rattle.mm_base.proofs.RangeSums.{sum_by_range_one, sum_by_range_same}
@@ -12,6 +12,7 @@ use Rattle.mm_plan.specs.Fit.{in_step}
 use Rattle.mm_plan.specs.Volumes.{Amounts}
 use Rattle.mm_dump.specs.declared.order.Order.{Order}
 use Rattle.mm_dump.specs.Dumped.{wanted, times, places_of}
+use Rattle.mm_exec.proofs.RangeLists.{made_alike}
 use Rattle.mm_exec.specs.Places.{AreApart}
 use Rattle.mm_exec.specs.RunInput.{RunInput, place_in_memory, step_orders}
 use Rattle.mm_exec.specs.Numbers.{orders_of}
@@ -120,14 +121,6 @@ module _ (x : Amounts) (places : List ℕ) (t n : ℕ) where
     some = amounts_some;
     apart = places_apart apart;
   }
-
--- lists are equal where they are made alike of each element
-pub made_alike : {X Y : Type 0} (f g : X → Y) (xs : List X) → All (λ x. f x ≡ g x) xs → map f xs ≡ map g xs
-made_alike f g [] same = refl
-made_alike f g (x ∷ xs) same =
-    let here = All-head (λ x. f x ≡ g x) x xs same in
-    let rest = made_alike f g xs (All-tail (λ x. f x ≡ g x) x xs same) in
-    λ i. here i ∷ rest i
 
 -- the orders of a run, for stores at their places
 pub orders_are : (m : RunInput) (places : List ℕ) (t : ℕ) → ((s : ℕ) → s < length m.problem.rows → slice_index places s ≡ place_in_memory m s)

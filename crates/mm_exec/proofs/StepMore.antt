@@ -5,7 +5,6 @@ use Rattle.std.specs.List.{range_with_len}
 use Rattle.std.proofs.lemmas.Bool.{cases_eq, eq-eqb, ne_eqb}
 use Rattle.std.proofs.lemmas.List.{map_push, flat_map_more, length-map, get_or-map}
 use Rattle.std.proofs.lemmas.List.Elements.{All-map}
-use Rattle.std.proofs.lemmas.List.Folds.{flat_map-map}
 use Rattle.mm_base.proofs.Ranges.{range_with_len_next}
 use Rattle.mm_base.specs.declared.rows.StoreRow.{StoreRow}
 use Rattle.mm_packet.specs.Packet.{SpacePacket}
@@ -37,7 +36,8 @@ use Rattle.mm_exec.specs.Numbers.{counts_from, rows_of, row_from, rows_by_counte
 use Rattle.mm_exec.specs.RunState.{RunState}
 use Rattle.mm_exec.specs.Step.{StepDone}
 use Rattle.mm_exec.specs.Steps.{AreStepRuns, SourcesGave, LinksSent, StepsDone, sent_in}
-use Rattle.mm_exec.proofs.Counters.{counts_planned, by_counters, came_at, timed_offers, map_range_same}
+use Rattle.mm_exec.proofs.Counters.{counts_planned, by_counters, came_at, timed_offers}
+use Rattle.mm_exec.proofs.RangeLists.{map_range_same, flat_map_range_same}
 use Rattle.mm_exec.proofs.Ordered.{wanted_is, orders_are}
 use Rattle.mm_exec.proofs.Parts.{as_many, same_ids}
 use Rattle.mm_exec.proofs.Placing.{id_there}
@@ -60,12 +60,6 @@ module _ {L : Type 0} (sent : L → List Sent) (failed : L → ℕ) (ids : List 
   took_all (p ∷ ps) (o ∷ os) (n ∷ ns) took = let rest = took_all ps os ns took.2 in (ap suc rest.0, λ i. took.1 i ∷ rest.1 i)
   took_all places olds news took = absurd took
 
--- a step run, with equal parts
-run_as : {os ps : List (List Event)} {w x : ℕ} {gs hs : List Stored} {s u t v : State} → os ≡ ps → w ≡ x → gs ≡ hs → s ≡ u → t ≡ v → IsStepRun os w gs s t → IsStepRun ps x hs u v
-run_as offers wants gave before after run =
-    let Run = λ (parts : List (List Event) × ℕ × List Stored × State × State). IsStepRun parts.0 parts.1 parts.2 parts.3 parts.4 in
-    subst Run (λ i. (offers i, wants i, gave i, before i, after i)) run
-
 -- offers of two errands that share the moment, the routes and the store
 given_offers : (e f : RecordingContext) (j k t : ℕ) → e.now ≡ f.now → e.routes ≡ f.routes → id_at e.ids j ≡ id_at f.ids k
     → (xs : List Supply) → map (offers e j) (given_in t xs) ≡ map (offers f k) (map (λ g. g t) xs)
@@ -75,12 +69,6 @@ given_offers e f j k t now routes ids xs =
 -- what holds of what some are made into holds of others that are made into the same
 pub all_same : {X Y : Type 0} (P : Y → Type 0) (f : X → Y) (xs ys : List X) → map f ys ≡ map f xs → All (λ x. P (f x)) xs → All (λ x. P (f x)) ys
 all_same P f xs ys same all = All-unmapped P f ys (subst (All P) (sym same) (All-map P f xs all))
-
--- pieces over a range are equal where each is
-flat_map_range_same : {X : Type 0} (f g : ℕ → List X) (a n : ℕ) → ((t : ℕ) → a ≤ t → t < a + n → f t ≡ g t) → flat_map f (range_with_len a n) ≡ flat_map g (range_with_len a n)
-flat_map_range_same f g a n same =
-    let range = range_with_len a n in
-    sym (flat_map-map (λ xs. xs) f range) ∙ ap (flat_map (λ xs. xs)) (map_range_same f g a n same) ∙ flat_map-map (λ xs. xs) g range
 
 -- what holds through a whole run: where the stores stand, that they are ready, and that the clock has room
 pub record Footing (m : RunInput) (places : List ℕ) : Type 0 where
@@ -169,8 +157,9 @@ module _ {L : Type 0} (sent : L → List Sent) (failed : L → ℕ) (m : RunInpu
         let there = footing.stand_at s store in
         let many : length after.stores ≡ length m.memory.stores = as_many after.stores m.memory.stores (stepped.labels ∙ labels_before) in
         let gave : stepped.gave p ≡ gave_after (place_in_memory m s) t = rw (eq-eqb t t refl) (ap stepped.gave there.is) in
-        run_as (offered_here s store) (wanted_is m.amounts places t n s footing.apart store) gave (state_before s store) (state_after s store)
-        (stepped.runs p (omega (arith, many, there.within)))
+        let wants = wanted_is m.amounts places t n s footing.apart store in
+        let Run = λ (parts : List (List Event) × ℕ × List Stored × State × State). IsStepRun parts.0 parts.1 parts.2 parts.3 parts.4 in
+        subst Run (λ i. (offered_here s store i, wants i, gave i, state_before s store i, state_after s store i)) (stepped.runs p (omega (arith, many, there.within)))
 
     each_run : (s u : ℕ) → s < n → 1 ≤ u → u ≤ count → RunAt s u
     each_run s u store first last = elim (cases_eq u t) [
