@@ -8,6 +8,7 @@ use mm_dump::Order;
 use mm_plan::Plan;
 
 // Lists the orders of a step, for stores at these places, in place of those that were listed.
+#[tactic(auto, using(crate::proofs::Ordered::order_more, crate::proofs::Ordered::order_none))]
 pub(crate) fn list_orders(orders: &mut Vec<Order>, plan: &Plan, places: &[usize], step: u32)
     requires room { length places.now ≤ vec_capacity orders.old }
     requires stores { length places.now ≡ plan.now.stores }
