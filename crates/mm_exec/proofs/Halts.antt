@@ -34,7 +34,7 @@ use Rattle.mm_exec.specs.Halts.{AreFirstOffers, IsByOneLog, BrokenStepsAreLogs}
 use Rattle.mm_memory.specs.Laws.{ids_of}
 use Rattle.mm_exec.specs.RunState.{RunState}
 use Rattle.mm_exec.specs.declared.step.StepBroken.{StepBroken}
-use Rattle.mm_exec.specs.Step.{StepRecorded, OrdersBroke, StepBroke, dump_cause}
+use Rattle.mm_exec.specs.Step.{StepBroke, dump_cause}
 use Rattle.mm_exec.proofs.Parts.{as_many, same_ids, by_how, all_first, first_turns}
 use Rattle.mm_exec.proofs.StoresReady.{state_holds}
 use Rattle.std.proofs.lemmas.Bool.Decides.{eqb_tells}
@@ -317,8 +317,11 @@ links_failed sent failed ids orders before after olds news changes there sound s
 module _ {L : Type 0} (sent : L → List Sent) (failed : L → ℕ) (e : RecordingContext) (orders : List Order)
     (before after : RunState Supply L) (stop : StepBroken) (changes : BrokenOrdersChangeNothing) (ids : ids_of before.stores ≡ e.ids)
     (there : All (λ o. o.place < length before.stores) orders) (is_link : stop.cause ≡ LinkFailed e.step) where
-  by_orders : (mid : RunState Supply L) → StepRecorded e before mid → OrdersBroke sent failed e.step orders mid after stop → FailedLink sent failed e orders before after
-  by_orders mid recorded broke =
+  pub failed_link : StepBroke sent failed e orders before after stop → FailedLink sent failed e orders before after
+  failed_link =
+      by_how sent failed e orders before after stop (FailedLink sent failed e orders before after)
+      (λ broke. absurd (no_link e.step broke.why (broke.cause_is ∙ ap (λ (c : Cause). Some c) is_link)))
+      (λ mid recorded broke.
       let worst_is : broke.why ≡ worst.LinkFailed = link_failed e.step broke.why (sym broke.cause_is ∙ is_link) in
       let ids_are = same_ids mid.stores before.stores recorded.labels ∙ ids in
       let Settled = λ (p : OrderBroken × List (List ℕ) × List L). AllSettled sent failed p.1 orders (Some p.0) (states_of mid.stores) (states_of after.stores) p.2 after.links in
@@ -334,8 +337,4 @@ module _ {L : Type 0} (sent : L → List Sent) (failed : L → ℕ) (e : Recordi
             links_failed sent failed e.ids orders (states_of mid.stores) (states_of after.stores) before.links after.links changes
             (subst (λ (n : ℕ). All (λ (o : Order). o.place < n) orders) (sym (counted ∙ all)) there)
             (λ k within. state_holds IsState mid.stores recorded.sound k (omega (arith, within, counted, many))) settled;
-      }
-
-  pub failed_link : StepBroke sent failed e orders before after stop → FailedLink sent failed e orders before after
-  failed_link (inl broke) = absurd (no_link e.step broke.why (broke.cause_is ∙ ap (λ (c : Cause). Some c) is_link))
-  failed_link (inr dumping) = by_orders dumping.mid dumping.recorded dumping.how
+      })

@@ -150,43 +150,25 @@ module _ {L : Type 0} (sent : L → List Sent) (failed : L → ℕ) (e : Recordi
   by_how P early broken (inl broke) = early broke
   by_how P early broken (inr dumping) = broken dumping.mid dumping.recorded dumping.how
 
-  -- its cause is one of the step
-  cause_is : StepBroke sent failed e orders before after stop → IsCauseIn e.step stop.cause
-  cause_is =
-      by_how (IsCauseIn e.step stop.cause) (λ broke. cause_recorded e.step broke.why stop.cause broke.cause_is)
-      (λ mid recorded broke. subst (IsCauseIn e.step) (sym broke.cause_is) (cause_dumped e.step broke.why))
-
-  -- a step whose sources have nothing left
-  stopped_recorded : IsCauseIn e.step stop.cause → (mid : RunState Supply L) → StepRecorded e before mid → StepStopped e.step before mid stop.cause
-  stopped_recorded cause mid recorded =
-      let many : length mid.sources ≡ length before.sources =
-      as_many_sources (suc e.step) before.sources mid.sources (recorded.others (suc e.step) (λ same. omega (arith, same))) in
-      record {
-        cause_is = cause;
-        labels = recorded.labels;
-        keep = keep_none e.step before.sources mid.sources many recorded.nothing_left;
-        others = recorded.others;
-      }
-
   -- what a step that was broken off leaves
   pub stopped_of : StepBroke sent failed e orders before after stop → StepStopped e.step before after stop.cause
-  stopped_of how =
-      let cause = cause_is how in
+  stopped_of =
       by_how (StepStopped e.step before after stop.cause)
       (λ broke. record {
-        cause_is = cause;
+        cause_is = cause_recorded e.step broke.why stop.cause broke.cause_is;
         labels = broke.records.labels;
         keep = keep_turns e before.sources after.sources broke.records.runs broke.records.are_runs;
         others = broke.records.others;
       })
       (λ mid recorded broke.
-      let was = stopped_recorded cause mid recorded in
+      let many : length mid.sources ≡ length before.sources =
+      as_many_sources (suc e.step) before.sources mid.sources (recorded.others (suc e.step) (λ same. omega (arith, same))) in
       record {
-        cause_is = cause;
-        labels = broke.labels ∙ was.labels;
-        keep = subst (AllZip (KeepsRest e.step) before.sources) (sym broke.sources) was.keep;
-        others = λ t other. ap (given_in t) broke.sources ∙ was.others t other;
-      }) how
+        cause_is = subst (IsCauseIn e.step) (sym broke.cause_is) (cause_dumped e.step broke.why);
+        labels = broke.labels ∙ recorded.labels;
+        keep = subst (AllZip (KeepsRest e.step) before.sources) (sym broke.sources) (keep_none e.step before.sources mid.sources many recorded.nothing_left);
+        others = λ t other. ap (given_in t) broke.sources ∙ recorded.others t other;
+      })
 
 -- a step in which no recorder stopped early
 pub recorded_whole : {L : Type 0} (e : RecordingContext) (before after : RunState Supply L) (why : Option Fault) → why ≡ None → after.links ≡ before.links
