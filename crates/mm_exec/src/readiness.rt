@@ -1,7 +1,7 @@
 //! What is tested before a run.
 ghost use Rattle.std.specs.Prelude.{◌↔◌, ◌⊎◌, IsTrue, OnOk, IfErr, IfSome, IfNone};
 ghost use Rattle.mm_exec.specs.declared.requirement.Requirement.TheVariants.{Ready, Channel};
-ghost use Rattle.mm_exec.specs.Readiness.{AllMeet, IsFirstMismatch, NoneUnknown, IsFirstUnknown, HasLimit, AreCounts, run_start, MayBegin, Stops};
+ghost use Rattle.mm_exec.specs.Readiness.{AllMeet, IsFirstMismatch, NoneUnknown, IsFirstUnknown, HasLimit, run_start, MayBegin, Stops};
 
 use crate::requirement::{Requirement, first_mismatch, first_unknown};
 use mm_base::StoreId;
@@ -50,13 +50,6 @@ fn first_not_ready(problem: &Problem, stores: &[Held]) -> Option<StoreId>
     }
 }
 
-// Whether there are sources and links, and not too many.
-fn are_counts(sources: usize, links: usize) -> bool
-    ensures { IsTrue result ↔ AreCounts sources links }
-{
-    is_count(sources, MAX_SOURCES) && is_count(links, MAX_LINKS)
-}
-
 /// Whether a run may begin: over these stores, from the moment before its first step, with this many sources and links. Otherwise
 /// the cause whose test is the first to fail, in the order 38 `PlanShape`, 39 `NotReady`, 40 `SizeDiffers`, 41 `OpeningDiffers`,
 /// 53 `ChannelDiffers`, 42 `ClockTooLate`, 43 `PlanDoesNotFit`, 44 `Counts`.
@@ -92,7 +85,7 @@ pub fn ready(
     if let Err(step) = fits(problem, plan) {
         return Err(Cause::PlanDoesNotFit { step });
     }
-    if !are_counts(sources, links) {
+    if !(is_count(sources, MAX_SOURCES) && is_count(links, MAX_LINKS)) {
         return Err(Cause::Counts);
     }
     Ok(())

@@ -3,7 +3,6 @@ ghost use Rattle.std.specs.Prelude.{◌≡◌, ◌<◌, ◌≤◌, length, All};
 ghost use Rattle.mm_base.specs.declared.limits.TheConstants.{MAX_STORES};
 ghost use Rattle.mm_desk.specs.Runs.{opening_at};
 ghost use Rattle.mm_shared.specs.Stores.{states_of, stores_in, AreAtRest};
-ghost use Rattle.mm_record.specs.Counters.{counters_of};
 ghost use Rattle.mm_exec.specs.Places.{StandWithin};
 ghost use Rattle.mm_exec.specs.Numbers.{counts_from, AreCounters, AreStepCounts};
 
@@ -24,16 +23,6 @@ fn counters_in(tally: Tally) -> Counters
     }
 }
 
-// The counters of the store at a place.
-fn counters_at(stores: &mut OpenStores, place: usize) -> Counters
-    requires rest { AreAtRest stores.old }
-    requires within { place < length (stores_in stores.old) }
-    ensures same { stores.new ≡ stores.old }
-    ensures counters { result ≡ counters_of (opening_at (states_of (stores_in stores.old)) place) }
-{
-    counters_in(tally_at(stores, place))
-}
-
 // The counters of the stores at these places.
 pub(crate) fn all_counters(places: &[usize], stores: &mut OpenStores) -> [Counters; MAX_STORES]
     requires rest { AreAtRest stores.old }
@@ -48,7 +37,7 @@ pub(crate) fn all_counters(places: &[usize], stores: &mut OpenStores) -> [Counte
         deleted: 0,
     }; MAX_STORES];
     for (store, place) in places.iter().enumerate() {
-        counters[store] = counters_at(stores, *place);
+        counters[store] = counters_in(tally_at(stores, *place));
     }
     counters
 }
