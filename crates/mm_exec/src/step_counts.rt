@@ -42,33 +42,6 @@ pub(crate) fn all_counters(places: &[usize], stores: &mut OpenStores) -> [Counte
     counters
 }
 
-// What a step brought to a store of the problem, that stands at a place.
-fn counts_at(
-    problem: &Problem,
-    store: usize,
-    step: u32,
-    before: Counters,
-    stores: &mut OpenStores,
-    place: usize,
-) -> StepCounts
-    requires store { store < length problem.now.rows }
-    requires step { (1 ≤ step) × (step ≤ length problem.now.windows) }
-    requires rest { AreAtRest stores.old }
-    requires within { place < length (stores_in stores.old) }
-    ensures same { stores.new ≡ stores.old }
-    ensures counts { result ≡ counts_from problem.now store step before (opening_at (states_of (stores_in stores.old)) place) }
-{
-    let after = tally_at(stores, place);
-    let rise = counters_in(after).since(before);
-    StepCounts {
-        forecast: u64::from(problem.arrivals(store, step)),
-        arrived: rise.offered,
-        lost: rise.lost,
-        dumped: rise.deleted,
-        held: u64::from(after.held),
-    }
-}
-
 // What a step brought to each store of the problem, at these places.
 pub(crate) fn step_counts(
     problem: &Problem,
@@ -92,7 +65,15 @@ pub(crate) fn step_counts(
         held: 0,
     }; MAX_STORES];
     for (store, place) in places.iter().enumerate() {
-        counts[store] = counts_at(problem, store, step, before[store], stores, *place);
+        let after = tally_at(stores, *place);
+        let rise = counters_in(after).since(before[store]);
+        counts[store] = StepCounts {
+            forecast: u64::from(problem.arrivals(store, step)),
+            arrived: rise.offered,
+            lost: rise.lost,
+            dumped: rise.deleted,
+            held: u64::from(after.held),
+        };
     }
     counts
 }
