@@ -1,6 +1,4 @@
 pub mod DraftLemmas
-pub mod FewLemmas
-pub mod GivenLemmas
 pub mod LinkLemmas
 pub mod Picked
 pub mod Endings

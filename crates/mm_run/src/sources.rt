@@ -44,48 +44,6 @@ fn reach(alloc: Global, sources: &mut Vec<ScriptedSource>, count: usize) -> Resu
     Ok(())
 }
 
-// Adds a packet of step 0 of a source, which had this many.
-fn open(
-    opening: &mut Vec<BlockPacket>,
-    opened: u32,
-    bad: ScriptFault,
-    packet: BlockPacket,
-) -> Result<(), ScriptFault>
-    ensures room { OnOk result (opened < MAX_PACKETS) }
-    ensures packet { OnOk result (opening.new.items ≡ opening.old.items ++ packet ∷ []) }
-    ensures full { IfErr result (λ e. e ≢ ScriptFault.NoMemory → (e ≡ bad) × (MAX_PACKETS ≤ opened)) }
-{
-    if opened >= MAX_PACKETS {
-        return Err(bad);
-    }
-    let Ok(()) = opening.push(packet) else {
-        return Err(ScriptFault::NoMemory);
-    };
-    Ok(())
-}
-
-// Adds a packet of a later step.
-fn give(
-    source: &mut ScriptedSource,
-    bad: ScriptFault,
-    step: u32,
-    packet: BlockPacket,
-) -> Result<(), ScriptFault>
-    requires { step ≤ MAX_STEPS }
-    ensures step { OnOk result (step < length source.old) }
-    ensures room { OnOk result (length (slice_index_or source.old step []) < MAX_PACKETS) }
-    ensures packet { OnOk result (source.new
-        ≡ slice_set source.old step (slice_index_or source.old step [] ++ packet ∷ [])) }
-    ensures full { IfErr result (λ e. e ≢ ScriptFault.NoMemory
-        → (e ≡ bad) × (MAX_PACKETS ≤ length (slice_index_or source.old step []))) }
-{
-    if source.count(step) >= MAX_PACKETS {
-        return Err(bad);
-    }
-    source.add(step, packet)?;
-    Ok(())
-}
-
 impl Draft {
     ghost use Rattle.mm_run.specs.SourceLine.{IsSourceLine};
     ghost use Rattle.mm_run.specs.Sources.{with_source_line, with_line};
@@ -120,10 +78,13 @@ impl Draft {
         reach(alloc, &mut self.sources, usize::from(source))?;
         let place = usize::from(source) - 1;
         if step == 0 {
-            open(&mut self.opening, self.opened[place], bad, packet)?;
+            if self.opened[place] >= MAX_PACKETS {
+                return Err(bad);
+            }
+            self.opening.push(packet).map_err(|_| ScriptFault::NoMemory)?;
             self.opened[place] += 1;
         } else {
-            give(&mut self.sources[place], bad, step, packet)?;
+            self.sources[place].add(bad, step, packet)?;
         }
         Ok(())
     }

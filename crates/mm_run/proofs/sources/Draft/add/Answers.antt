@@ -1,46 +1,50 @@
-use Rattle.std.proofs.Common.{◌≡◌, ◌-◌, ◌<◌, ◌≤◌, ◌++◌, ◌∷◌, [], List, length, max, get_or, Ok, arith, refl, ap, ◌∙◌, rules}
-use Rattle.std.proofs.lemmas.List.{get_or_default}
-use Rattle.mm_base.specs.Reading.{◌>>=◌, test}
+use Rattle.std.proofs.Common.{◌≡◌, ◌+◌, ◌-◌, ◌<◌, ◌==◌, ◌&&◌, [], true, false, max, length, get_or, arith, refl, sym, ap, ◌∙◌, rules, append-nil}
+use Rattle.std.specs.Prelude.{nat_lt}
+use Rattle.std.proofs.lemmas.Bool.Decides.{nat_tests}
+use Rattle.std.proofs.lemmas.List.{get_or_default, length-set}
 use Rattle.mm_run.specs.declared.source_line.SourceLine.{SourceLine}
-use Rattle.mm_run.specs.declared.source.ScriptedSource.{ScriptedSource}
 use Rattle.mm_run.specs.declared.source.TheConstants.{MAX_PACKETS}
-use Rattle.mm_run.specs.Sources.{packets_of, given}
-use Rattle.mm_run.proofs.DraftLemmas.{room_is, opens, gives}
+use Rattle.mm_run.specs.Sources.{packets_of, is_of}
+use Rattle.mm_run.proofs.DraftLemmas.{given_more, read_more}
+use Rattle.mm_run.proofs.Picked.{same_place, updated}
 use Rattle.mm_run.proofs.sources.Draft.add.Goals as goal
 
-pub returns-in_ok-open : goal.returns-in_ok-open
-returns-in_ok-open c = λ earlier read.
+pub returns-in_ok-map_err : goal.returns-in_ok-map_err
+returns-in_ok-map_err c = λ earlier read.
     let d : SourceLine = c.args.source_line in
+    let old = c.args.self.now in
     let step : d.step ≡ 0 = search rules in
+    let now : d.step == 0 ≡ true = grind (arith, nat_tests) in
     let place : c.from-place.result ≡ d.source = c.from-place.ensures in
-    let room = rw place at c.in_ok-open.ensures.room in
-    let reached : length c.reach.new.sources.items ≡ max (length c.args.self.now.sources.items) d.source =
-    c.in_ok-reach.ensures.count ∙ ap (λ n. max (length c.args.self.now.sources.items) n) c.from.ensures in
     let counts = read.opened d.source c.requires.first c.requires.last in
-    let few : length (packets_of d.source 0 earlier) < MAX_PACKETS = omega (arith, counts, room) in (
-      earlier ++ d ∷ [],
-      ap (λ b. test b c.args.bad >>= (λ u. Ok (earlier ++ d ∷ []))) (room_is earlier d (rw step few)),
-      opens earlier d c.args.self.now _ read c.requires step (search rules)
-          reached c.in_ok-reach.ensures.given c.in_ok-open.ensures.packet (rw place refl),
-    )
+    let room = rw place at c.if-self-place-ge-MAX_PACKETS.false in
+    let few : length (packets_of d.source 0 earlier) < MAX_PACKETS = omega (arith, counts, room) in
+    read_more c.args.bad earlier d old _ read (rw step few)
+    (rw (← c.from.ensures) c.in_ok-reach.ensures.count)
+    (λ s t first. let other : (is_of s t d && nat_lt 0 d.step) ≡ false = grind (arith, nat_tests) in rw other (c.in_ok-reach.ensures.given s t ∙ sym (append-nil _)))
+    (rw now (search rules))
+    (λ s first last.
+        let counted = updated (λ n. n + 1) old.opened (d.source - 1) (s - 1) 0 (omega (arith, c.requires.first, c.requires.last)) in
+        let same = same_place d.source s c.requires.first first in
+        rw place (grind (arith, nat_tests)))
 
-pub returns-in_ok-give : goal.returns-in_ok-give
-returns-in_ok-give c = λ earlier read.
+pub returns-in_ok-add : goal.returns-in_ok-add
+returns-in_ok-add c = λ earlier read.
     let d : SourceLine = c.args.source_line in
-    let later : 1 ≤ d.step = search rules in
+    let later : d.step == 0 ≡ false = search rules in
     let place : c.from-place.result ≡ d.source = c.from-place.ensures in
-    let mid : List ScriptedSource = c.reach.new.sources.items in
-    let reached : length mid ≡ max (length c.args.self.now.sources.items) d.source =
-    c.in_ok-reach.ensures.count ∙ ap (λ n. max (length c.args.self.now.sources.items) n) c.from.ensures in
+    let mid = c.reach.new.sources.items in
+    let reached : length mid ≡ max (length c.args.self.now.sources.items) d.source = rw (← c.from.ensures) c.in_ok-reach.ensures.count in
     let same = c.in_ok-reach.ensures.given in
     let within : d.source - 1 < length mid = omega (arith, reached, c.requires.first) in
     let here : c.index_mut.result.now ≡ get_or mid (d.source - 1) [] =
     rw place at c.index_mut.ensures.value ∙ get_or_default mid (d.source - 1) c.index_mut.result.now [] within in
-    let room = rw here at c.in_ok-give.ensures.room in
-    let step = rw here at c.in_ok-give.ensures.step in
-    let given_is : given mid d.source d.step ≡ packets_of d.source d.step earlier = same d.source d.step ∙ read.lines.each d.source d.step c.requires.first later in
-    let few : length (packets_of d.source d.step earlier) < MAX_PACKETS = rw (← given_is) room in (
-      earlier ++ d ∷ [],
-      ap (λ b. test b c.args.bad >>= (λ u. Ok (earlier ++ d ∷ []))) (room_is earlier d few),
-      gives earlier d c.args.self.now _ mid read c.requires later reached same step refl refl (rw (place, c.in_ok-give.ensures.packet, here) refl),
-    )
+    let room = rw here at c.in_ok-add.ensures.room in
+    let step = rw here at c.in_ok-add.ensures.step in
+    let few = rw (same d.source d.step, read.lines.each d.source d.step c.requires.first (omega arith)) at room in
+    read_more c.args.bad earlier d c.args.self.now _ read few (length-set mid (c.from-place.result - 1) c.add.new.self ∙ reached)
+    (λ s t first.
+        let test : (is_of s t d && nat_lt 0 d.step) ≡ is_of s t d = grind (arith, nat_tests) in
+        rw (place, c.in_ok-add.ensures.packet, here, test, ← same s t) (given_more mid d s t c.requires.first within step first))
+    (rw later (sym (append-nil _)))
+    (λ s first last. grind (arith, nat_tests))

@@ -1,6 +1,6 @@
-use Rattle.std.proofs.Common.{[], arith, refl, sym}
+use Rattle.std.proofs.Common.{[], arith, refl}
 use Rattle.mm_run.specs.Sources.{source_lines_of}
-use Rattle.mm_run.proofs.FewLemmas.{few_given}
+use Rattle.mm_run.proofs.DraftLemmas.{few_given}
 use Rattle.mm_run.proofs.sources.SourceFile.read_noting.Goals as goal
 
 pub loop-front-init : goal.loop-front-init
@@ -8,8 +8,4 @@ unfolding source_lines_of
 loop-front-init c = record { line = omega arith; earlier = []; read = c.new-draft.ensures; lines = refl }
 
 pub returns-clause-few : goal.returns-clause-few
-returns-clause-few c = few_given c.args.text.now c.loop-front.draft.opening.items c.loop-front.draft.sources.items (
-  c.loop-front.invariant.earlier,
-  sym (rw c.in_default.ensures.lines at c.loop-front.invariant.lines),
-  c.loop-front.invariant.read.lines,
-)
+returns-clause-few c = few_given c.loop-front.invariant.earlier c.loop-front.draft c.loop-front.invariant.read
