@@ -44,7 +44,7 @@ given_more sources d s t first source step some =
       | inl same ↦ (
           let here : s ≡ d.source = sym ((Decides-eqb d.source s).0 same) in
           rw same (rw here (rw (updated (λ ps. ps ++ d.packet ∷ []) (get_or sources (d.source - 1) []) d.step t [] step)
-          (elim (cases_Bool (d.step == t)) [ | inl on ↦ rw on refl | inr off ↦ rw off (sym (append-nil _)) ])))
+          (elim (cases_Bool (d.step == t)) [ inl on ↦ rw on refl | inr off ↦ rw off (sym (append-nil _)) ])))
           )
       | inr other ↦ rw other (sym (append-nil _))
     ])
@@ -68,20 +68,24 @@ pub read_more : (bad : ScriptFault) (ds : List SourceLine) (d : SourceLine) (old
     → new.opening.items ≡ old.opening.items ++ cond (d.step == 0) (d.packet ∷ []) []
     → ((s : ℕ) → 1 ≤ s → s ≤ MAX_SOURCES → get_or new.opened (s - 1) 0 ≡ get_or old.opened (s - 1) 0 + cond (is_of s 0 d) 1 0)
     → Adds (with_source_line bad ds d) new (Ok tt)
-read_more bad ds d old new h left reached gives opening opened = let room : has_room ds d ≡ true = grind (arith, nat_tests) in (ds ++ d ∷ [], rw room refl, record {
-  lines = record {
-    before = opening ∙ ap (λ ps. ps ++ cond (d.step == 0) (d.packet ∷ []) []) h.lines.before ∙ sym (picked-more (λ x. x.packet) (λ x. x.step == 0) ds d);
-    count = reached ∙ ap (λ n. max n d.source) h.lines.count ∙ sym (fold-append (λ most x. max most x.source) 0 ds (d ∷ []));
-    each = λ s t first later.
-        let test : (is_of s t d && nat_lt 0 d.step) ≡ is_of s t d = grind (arith, nat_tests) in
-        gives s t first ∙ rw (test, h.lines.each s t first later) (sym (picked-more (λ x. x.packet) (is_of s t) ds d));
-    none = λ s first.
-        let test : (is_of s 0 d && nat_lt 0 d.step) ≡ false = grind (arith, nat_tests) in
-        gives s 0 first ∙ rw (test, h.lines.none s first) refl;
-  };
-  opened = λ s first last. opened s first last ∙ rw (h.opened s first last, picked-more (λ x. x.packet) (is_of s 0) ds d, length-append) (by_test s (is_of s 0 d));
-  few = few_more ds d h.few room;
-})
+read_more bad ds d old new h left reached gives opening opened = let room : has_room ds d ≡ true = grind (arith, nat_tests) in (
+  ds ++ d ∷ [],
+  rw room refl,
+  record {
+    lines = record {
+      before = opening ∙ ap (λ ps. ps ++ cond (d.step == 0) (d.packet ∷ []) []) h.lines.before ∙ sym (picked-more (λ x. x.packet) (λ x. x.step == 0) ds d);
+      count = reached ∙ ap (λ n. max n d.source) h.lines.count ∙ sym (fold-append (λ most x. max most x.source) 0 ds (d ∷ []));
+      each = λ s t first later.
+          let test : (is_of s t d && nat_lt 0 d.step) ≡ is_of s t d = grind (arith, nat_tests) in
+          gives s t first ∙ rw (test, h.lines.each s t first later) (sym (picked-more (λ x. x.packet) (is_of s t) ds d));
+      none = λ s first.
+          let test : (is_of s 0 d && nat_lt 0 d.step) ≡ false = grind (arith, nat_tests) in
+          gives s 0 first ∙ rw (test, h.lines.none s first) refl;
+    };
+    opened = λ s first last. opened s first last ∙ rw (h.opened s first last, picked-more (λ x. x.packet) (is_of s 0) ds d, length-append) (by_test s (is_of s 0 d));
+    few = few_more ds d h.few room;
+  },
+)
   where
     by_test : (s : ℕ) (b : Bool) → length (packets_of s 0 ds) + cond b 1 0 ≡ length (packets_of s 0 ds) + length (cond b (d.packet ∷ []) [])
     by_test s true = refl

@@ -81,7 +81,9 @@ impl Draft {
             if self.opened[place] >= MAX_PACKETS {
                 return Err(bad);
             }
-            self.opening.push(packet).map_err(|_| ScriptFault::NoMemory)?;
+            self.opening
+                .push(packet)
+                .map_err(|_| ScriptFault::NoMemory)?;
             self.opened[place] += 1;
         } else {
             self.sources[place].add(bad, step, packet)?;

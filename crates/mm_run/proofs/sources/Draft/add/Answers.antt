@@ -24,9 +24,9 @@ returns-in_ok-map_err c = λ earlier read.
     (λ s t first. let other : (is_of s t d && nat_lt 0 d.step) ≡ false = grind (arith, nat_tests) in rw other (c.in_ok-reach.ensures.given s t ∙ sym (append-nil _)))
     (rw now (search rules))
     (λ s first last.
-        let counted = updated (λ n. n + 1) old.opened (d.source - 1) (s - 1) 0 (omega (arith, c.requires.first, c.requires.last)) in
-        let same = same_place d.source s c.requires.first first in
-        rw place (grind (arith, nat_tests)))
+    let counted = updated (λ n. n + 1) old.opened (d.source - 1) (s - 1) 0 (omega (arith, c.requires.first, c.requires.last)) in
+    let same = same_place d.source s c.requires.first first in
+    rw place (grind (arith, nat_tests)))
 
 pub returns-in_ok-add : goal.returns-in_ok-add
 returns-in_ok-add c = λ earlier read.
@@ -44,7 +44,7 @@ returns-in_ok-add c = λ earlier read.
     let few = rw (same d.source d.step, read.lines.each d.source d.step c.requires.first (omega arith)) at room in
     read_more c.args.bad earlier d c.args.self.now _ read few (length-set mid (c.from-place.result - 1) c.add.new.self ∙ reached)
     (λ s t first.
-        let test : (is_of s t d && nat_lt 0 d.step) ≡ is_of s t d = grind (arith, nat_tests) in
-        rw (place, c.in_ok-add.ensures.packet, here, test, ← same s t) (given_more mid d s t c.requires.first within step first))
+    let test : (is_of s t d && nat_lt 0 d.step) ≡ is_of s t d = grind (arith, nat_tests) in
+    rw (place, c.in_ok-add.ensures.packet, here, test, ← same s t) (given_more mid d s t c.requires.first within step first))
     (rw later (sym (append-nil _)))
     (λ s first last. grind (arith, nat_tests))
