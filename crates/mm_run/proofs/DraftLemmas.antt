@@ -1,10 +1,11 @@
 -- A line more is read.
-use Rattle.std.proofs.Common.{◌≡◌, ℕ, zero, suc, ◌+◌, ◌-◌, ◌<◌, ◌≤◌, ◌==◌, ◌&&◌, Bool, true, false, cond, max, List, [], ◌∷◌, ◌++◌, length, get_or, set, refl, sym, ap, ◌∙◌, arith, append-nil, length-append, inl, inr, Ok}
+use Rattle.std.proofs.Common.{◌≡◌, ◌≢◌, ℕ, zero, suc, ◌+◌, ◌-◌, ◌<◌, ◌≤◌, ◌==◌, ◌&&◌, Bool, true, false, cond, max, List, [], ◌∷◌, ◌++◌, length, map, filter, get_or, set, refl, sym, ap, ◌∙◌, arith, append-nil, length-append, inl, inr, Ok}
 use Rattle.std.specs.Prelude.{nat_lt}
 use Rattle.std.proofs.Math.ListN.{replicate}
 use Rattle.std.proofs.lemmas.Bool.Decides.{Decides-eqb, nat_tests}
 use Rattle.std.proofs.lemmas.Bool.{cases_Bool}
-use Rattle.std.proofs.lemmas.List.Elements.{All-from_get_or}
+use Rattle.std.proofs.lemmas.List.{map-append, get_or-set_same, get_or-set_other}
+use Rattle.std.proofs.lemmas.List.Elements.{All-from_get_or, filter-append}
 use Rattle.std.proofs.lemmas.List.Sums.{fold-append}
 use Rattle.mm_base.specs.declared.limits.TheConstants.{MAX_STEPS}
 use Rattle.mm_packet.specs.Packet.{SpacePacket}
@@ -17,7 +18,28 @@ use Rattle.mm_run.specs.declared.sources.Draft.{Draft}
 use Rattle.mm_run.specs.Given.{nothing_given}
 use Rattle.mm_run.specs.Sources.{is_of, packets_of, has_room, with_source_line, given, AreFew}
 use Rattle.mm_run.specs.Drafts.{IsRead, Adds}
-use Rattle.mm_run.proofs.Picked.{picked-more, same_place, updated}
+
+-- what is picked from a list by a test, where there is one element or none, and where there is one more
+picked_one : {A B : Type 0} (f : A → B) (x : A) (b : Bool) → map f (cond b (x ∷ []) []) ≡ cond b (f x ∷ []) []
+picked_one f x true = refl
+picked_one f x false = refl
+
+picked-more : {A B : Type 0} (f : A → B) (p : A → Bool) (xs : List A) (x : A) → map f (filter p (xs ++ x ∷ [])) ≡ map f (filter p xs) ++ cond (p x) (f x ∷ []) []
+picked-more f p xs x = ap (map f) (filter-append p xs (x ∷ [])) ∙ map-append f (filter p xs) (filter p (x ∷ [])) ∙ ap (λ ys. map f (filter p xs) ++ ys) (picked_one f x (p x))
+
+-- places counted from 1 are equal where the numbers are
+pub same_place : (a b : ℕ) → 1 ≤ a → 1 ≤ b → (a - 1 == b - 1) ≡ (a == b)
+same_place a b first some = grind (arith, nat_tests)
+
+-- one element becomes another
+pub updated : {X : Type 0} (f : X → X) (xs : List X) (i k : ℕ) (d : X) → i < length xs → get_or (set xs i (f (get_or xs i d))) k d ≡ cond (i == k) (f (get_or xs k d)) (get_or xs k d)
+updated f xs i k d within = elim (cases_Bool (i == k)) [
+  | inl same ↦ (
+      let here : k ≡ i = grind (arith, nat_tests) in
+      rw same (rw here (get_or-set_same xs i (f (get_or xs i d)) d within))
+      )
+  | inr other ↦ rw other (get_or-set_other xs i k (f (get_or xs i d)) d (grind (arith, nat_tests)))
+]
 
 -- nothing is given in any step
 none_in : (n t : ℕ) → ◌≡◌ {A = List SpacePacket} (get_or (replicate n []) t []) []
@@ -82,14 +104,10 @@ read_more bad ds d old new h left reached gives opening opened = let room : has_
           let test : (is_of s 0 d && nat_lt 0 d.step) ≡ false = grind (arith, nat_tests) in
           gives s 0 first ∙ rw (test, h.lines.none s first) refl;
     };
-    opened = λ s first last. opened s first last ∙ rw (h.opened s first last, picked-more (λ x. x.packet) (is_of s 0) ds d, length-append) (by_test s (is_of s 0 d));
+    opened = λ s first last. opened s first last ∙ rw (h.opened s first last, picked-more (λ x. x.packet) (is_of s 0) ds d, length-append) (grind arith);
     few = few_more ds d h.few room;
   },
 )
-  where
-    by_test : (s : ℕ) (b : Bool) → length (packets_of s 0 ds) + cond b 1 0 ≡ length (packets_of s 0 ds) + length (cond b (d.packet ∷ []) [])
-    by_test s true = refl
-    by_test s false = refl
 
 -- sources of lines give no more packets in a step than there may be
 pub few_given : (ds : List SourceLine) (draft : Draft) → IsRead ds draft → AreFew draft.sources.items

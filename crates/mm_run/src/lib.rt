@@ -7,7 +7,6 @@ pub mod laws;
 mod link;
 mod links;
 mod opening;
-mod packet;
 mod printed;
 mod run;
 mod script_fault;

@@ -1,12 +1,12 @@
 //! The lines of a text of sources.
 ghost use Rattle.std.specs.Prelude.{◌≡◌, ◌≤◌, IfOk};
 ghost use Rattle.mm_base.specs.Reading.{Gives};
-ghost use Rattle.mm_run.specs.SourceLine.{source_line_at, IsSourceLine};
+ghost use Rattle.mm_run.specs.SourceLine.{packet_in, source_line_at, IsSourceLine};
 ghost use Rattle.mm_run.specs.declared.script_fault.ScriptFault.TheVariants.{NoMemory};
 
-use crate::packet::packet_in;
 use crate::script_fault::ScriptFault;
 use crate::words::number_in;
+use mm_ask::{LineFault, packet_of};
 use mm_base::MAX_STEPS;
 use mm_base::lines::cut_word;
 use mm_packet::BlockPacket;
@@ -20,6 +20,18 @@ pub struct SourceLine {
     pub source: u8,
     pub step: u32,
     pub packet: BlockPacket,
+}
+
+// The packet that the digits spell, with nothing after it, where a block has room for it.
+#[tactic(auto, unfolding(crate::specs::SourceLine::packet_in))]
+fn packet_in(alloc: Global, bad: ScriptFault, digits: &[u8]) -> Result<BlockPacket, ScriptFault>
+    ensures { Gives NoMemory (λ packet. packet) result (packet_in bad digits.now) }
+{
+    match packet_of(alloc, digits) {
+        Ok(packet) => BlockPacket::of(packet).map_err(|_| bad),
+        Err(LineFault::NoMemory) => Err(ScriptFault::NoMemory),
+        Err(_) => Err(bad),
+    }
 }
 
 /// What a line `source step HEX` says.

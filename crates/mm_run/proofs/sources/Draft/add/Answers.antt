@@ -5,8 +5,7 @@ use Rattle.std.proofs.lemmas.List.{get_or_default, length-set}
 use Rattle.mm_run.specs.declared.source_line.SourceLine.{SourceLine}
 use Rattle.mm_run.specs.declared.source.TheConstants.{MAX_PACKETS}
 use Rattle.mm_run.specs.Sources.{packets_of, is_of}
-use Rattle.mm_run.proofs.DraftLemmas.{given_more, read_more}
-use Rattle.mm_run.proofs.Picked.{same_place, updated}
+use Rattle.mm_run.proofs.DraftLemmas.{given_more, read_more, same_place, updated}
 use Rattle.mm_run.proofs.sources.Draft.add.Goals as goal
 
 pub returns-in_ok-map_err : goal.returns-in_ok-map_err
