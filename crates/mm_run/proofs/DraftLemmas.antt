@@ -33,13 +33,7 @@ same_place a b first some = grind (arith, nat_tests)
 
 -- one element becomes another
 pub updated : {X : Type 0} (f : X → X) (xs : List X) (i k : ℕ) (d : X) → i < length xs → get_or (set xs i (f (get_or xs i d))) k d ≡ cond (i == k) (f (get_or xs k d)) (get_or xs k d)
-updated f xs i k d within = elim (cases_Bool (i == k)) [
-  | inl same ↦ (
-      let here : k ≡ i = grind (arith, nat_tests) in
-      rw same (rw here (get_or-set_same xs i (f (get_or xs i d)) d within))
-      )
-  | inr other ↦ rw other (get_or-set_other xs i k (f (get_or xs i d)) d (grind (arith, nat_tests)))
-]
+updated f xs i k d within = grind (arith, nat_tests, get_or-set_same, get_or-set_other)
 
 -- nothing is given in any step
 none_in : (n t : ℕ) → ◌≡◌ {A = List SpacePacket} (get_or (replicate n []) t []) []
@@ -65,23 +59,16 @@ given_more sources d s t first source step some =
     (elim (cases_Bool (d.source == s)) [
       | inl same ↦ (
           let here : s ≡ d.source = sym ((Decides-eqb d.source s).0 same) in
-          rw same (rw here (rw (updated (λ ps. ps ++ d.packet ∷ []) (get_or sources (d.source - 1) []) d.step t [] step)
-          (elim (cases_Bool (d.step == t)) [ inl on ↦ rw on refl | inr off ↦ rw off (sym (append-nil _)) ])))
+          rw same (rw here (rw (updated (λ ps. ps ++ d.packet ∷ []) (get_or sources (d.source - 1) []) d.step t [] step) (grind (arith, append-nil))))
           )
       | inr other ↦ rw other (sym (append-nil _))
     ])
 
 -- a line more of a source and a step is there, where there is room for it
 few_more : (ds : List SourceLine) (d : SourceLine) → ((s t : ℕ) → length (packets_of s t ds) ≤ MAX_PACKETS) → has_room ds d ≡ true → (s t : ℕ) → length (packets_of s t (ds ++ d ∷ [])) ≤ MAX_PACKETS
-few_more ds d few room s t = rw (picked-more (λ x. x.packet) (is_of s t) ds d, length-append) (elim (cases_Bool (is_of s t d)) [
-  | inl here ↦ (
-      let source : d.source ≡ s = grind (arith, nat_tests) in
-      let step : d.step ≡ t = grind (arith, nat_tests) in
-      let left : length (packets_of s t ds) < MAX_PACKETS = rw (← source, ← step) (grind (arith, nat_tests)) in
-      rw here (omega (arith, left))
-      )
-  | inr other ↦ rw other (omega (arith, few s t))
-])
+few_more ds d few room s t =
+    let left : (d.source ≡ s) → (d.step ≡ t) → length (packets_of s t ds) < MAX_PACKETS = λ source step. rw (← source, ← step) (grind (arith, nat_tests)) in
+    rw (picked-more (λ x. x.packet) (is_of s t) ds d, length-append) (grind (arith, nat_tests, few s t))
 
 -- the draft of one line more
 pub read_more : (bad : ScriptFault) (ds : List SourceLine) (d : SourceLine) (old new : Draft) → IsRead ds old → length (packets_of d.source d.step ds) < MAX_PACKETS
