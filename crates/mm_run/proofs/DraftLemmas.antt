@@ -55,14 +55,9 @@ pub given_more : (sources : List ScriptedSource) (d : SourceLine) (s t : ℕ) �
     ≡ given sources s t ++ cond (is_of s t d) (d.packet ∷ []) []
 given_more sources d s t first source step some =
     let more : List (List SpacePacket) → List (List SpacePacket) = λ steps. set steps d.step (get_or steps d.step [] ++ d.packet ∷ []) in
-    rw (updated more sources (d.source - 1) (s - 1) [] source, same_place d.source s first some)
-    (elim (cases_Bool (d.source == s)) [
-      | inl same ↦ (
-          let here : s ≡ d.source = sym ((Decides-eqb d.source s).0 same) in
-          rw same (rw here (rw (updated (λ ps. ps ++ d.packet ∷ []) (get_or sources (d.source - 1) []) d.step t [] step) (grind (arith, append-nil))))
-          )
-      | inr other ↦ rw other (sym (append-nil _))
-    ])
+    let here = updated more sources (d.source - 1) (s - 1) [] source in
+    let there = updated (λ ps. ps ++ d.packet ∷ []) (get_or sources (d.source - 1) []) d.step t [] step in
+    grind (arith, nat_tests, append-nil)
 
 -- a line more of a source and a step is there, where there is room for it
 few_more : (ds : List SourceLine) (d : SourceLine) → ((s t : ℕ) → length (packets_of s t ds) ≤ MAX_PACKETS) → has_room ds d ≡ true → (s t : ℕ) → length (packets_of s t (ds ++ d ∷ [])) ≤ MAX_PACKETS
@@ -98,13 +93,6 @@ read_more bad ds d old new h left reached gives opening opened = let room : has_
 
 -- sources of lines give no more packets in a step than there may be
 pub few_given : (ds : List SourceLine) (draft : Draft) → IsRead ds draft → AreFew draft.sources.items
-few_given ds draft h = All-from_get_or (λ source. (t : ℕ) → length (get_or source t []) ≤ MAX_PACKETS) draft.sources.items [] few
-  where
-    place : (i : ℕ) → i + 1 - 1 ≡ i
-    place i = omega arith
-
-    few : (i : ℕ) → i < length draft.sources.items → (t : ℕ) → length (get_or (get_or draft.sources.items i []) t []) ≤ MAX_PACKETS
-    few i within zero = let none = rw (place i) at (h.lines.none (i + 1) (omega arith)) in rw none (omega arith)
-    few i within (suc t) =
-        let each = rw (place i) at (h.lines.each (i + 1) (suc t) (omega arith) (omega arith)) in
-        rw each (h.few (i + 1) (suc t))
+few_given ds draft h = All-from_get_or (λ source. (t : ℕ) → length (get_or source t []) ≤ MAX_PACKETS) draft.sources.items [] (λ i within t.
+    let here : i + 1 - 1 ≡ i = omega arith in
+    grind (arith, rw here at (h.lines.none (i + 1)), rw here at (h.lines.each (i + 1) t), h.few (i + 1) t))
