@@ -77,14 +77,10 @@ read_more bad ds d old new h left reached gives opening opened = let room : has_
   rw room refl,
   record {
     lines = record {
-      before = opening ∙ ap (λ ps. ps ++ cond (d.step == 0) (d.packet ∷ []) []) h.lines.before ∙ sym (picked-more (λ x. x.packet) (λ x. x.step == 0) ds d);
-      count = reached ∙ ap (λ n. max n d.source) h.lines.count ∙ sym (fold-append (λ most x. max most x.source) 0 ds (d ∷ []));
-      each = λ s t first later.
-          let test : (is_of s t d && nat_lt 0 d.step) ≡ is_of s t d = grind (arith, nat_tests) in
-          gives s t first ∙ rw (test, h.lines.each s t first later) (sym (picked-more (λ x. x.packet) (is_of s t) ds d));
-      none = λ s first.
-          let test : (is_of s 0 d && nat_lt 0 d.step) ≡ false = grind (arith, nat_tests) in
-          gives s 0 first ∙ rw (test, h.lines.none s first) refl;
+      before = cc (picked-more (λ x. x.packet) (λ x. x.step == 0) ds d);
+      count = cc (fold-append (λ most x. max most x.source) 0 ds (d ∷ []));
+      each = λ s t first later. grind (arith, nat_tests, gives s t first, h.lines.each s t first later, picked-more (λ x. x.packet) (is_of s t) ds d);
+      none = λ s first. grind (arith, nat_tests, gives s 0 first, h.lines.none s first);
     };
     opened = λ s first last. opened s first last ∙ rw (h.opened s first last, picked-more (λ x. x.packet) (is_of s 0) ds d, length-append) (grind arith);
     few = few_more ds d h.few room;

@@ -13,37 +13,32 @@ returns-in_ok-map_err c = λ earlier read.
     let d : SourceLine = c.args.source_line in
     let old = c.args.self.now in
     let step : d.step ≡ 0 = search rules in
-    let now : d.step == 0 ≡ true = grind (arith, nat_tests) in
-    let place : c.from-place.result ≡ d.source = c.from-place.ensures in
     let counts = read.opened d.source c.requires.first c.requires.last in
-    let room = rw place at c.if-self-place-ge-MAX_PACKETS.false in
+    let room = rw c.from-place.ensures at c.if-self-place-ge-MAX_PACKETS.false in
     let few : length (packets_of d.source 0 earlier) < MAX_PACKETS = omega (arith, counts, room) in
     read_more c.args.bad earlier d old _ read (rw step few)
     (rw (← c.from.ensures) c.in_ok-reach.ensures.count)
-    (λ s t first. let other : (is_of s t d && nat_lt 0 d.step) ≡ false = grind (arith, nat_tests) in rw other (c.in_ok-reach.ensures.given s t ∙ sym (append-nil _)))
-    (rw now (search rules))
+    (λ s t first. grind (arith, nat_tests, append-nil, c.in_ok-reach.ensures.given s t))
+    (rw step (search rules))
     (λ s first last.
     let counted = updated (λ n. n + 1) old.opened (d.source - 1) (s - 1) 0 (omega (arith, c.requires.first, c.requires.last)) in
-    let same = same_place d.source s c.requires.first first in
-    rw place (grind (arith, nat_tests)))
+    rw c.from-place.ensures (grind (arith, nat_tests)))
 
 pub returns-in_ok-add : goal.returns-in_ok-add
 returns-in_ok-add c = λ earlier read.
     let d : SourceLine = c.args.source_line in
     let later : d.step == 0 ≡ false = search rules in
-    let place : c.from-place.result ≡ d.source = c.from-place.ensures in
     let mid = c.reach.new.sources.items in
     let reached : length mid ≡ max (length c.args.self.now.sources.items) d.source = rw (← c.from.ensures) c.in_ok-reach.ensures.count in
     let same = c.in_ok-reach.ensures.given in
     let within : d.source - 1 < length mid = omega (arith, reached, c.requires.first) in
     let here : c.index_mut.result.now ≡ get_or mid (d.source - 1) [] =
-    rw place at c.index_mut.ensures.value ∙ get_or_default mid (d.source - 1) c.index_mut.result.now [] within in
-    let room = rw here at c.in_ok-add.ensures.room in
-    let step = rw here at c.in_ok-add.ensures.step in
-    let few = rw (same d.source d.step, read.lines.each d.source d.step c.requires.first (omega arith)) at room in
-    read_more c.args.bad earlier d c.args.self.now _ read few (length-set mid (c.from-place.result - 1) c.add.new.self ∙ reached)
+    rw c.from-place.ensures at c.index_mut.ensures.value ∙ get_or_default mid (d.source - 1) c.index_mut.result.now [] within in
+    read_more c.args.bad earlier d c.args.self.now _ read
+    (rw (← read.lines.each d.source d.step c.requires.first (omega arith), ← same d.source d.step, ← here) c.in_ok-add.ensures.room)
+    (length-set mid (c.from-place.result - 1) c.add.new.self ∙ reached)
     (λ s t first.
-    let test : (is_of s t d && nat_lt 0 d.step) ≡ is_of s t d = grind (arith, nat_tests) in
-    rw (place, c.in_ok-add.ensures.packet, here, test, ← same s t) (given_more mid d s t c.requires.first within step first))
+    let more = given_more mid d s t c.requires.first within (rw here at c.in_ok-add.ensures.step) first in
+    rw (c.from-place.ensures, c.in_ok-add.ensures.packet, here) (grind (arith, nat_tests, same s t)))
     (rw later (sym (append-nil _)))
     (λ s first last. grind (arith, nat_tests))
