@@ -2,4 +2,3 @@ pub mod DraftLemmas
 pub mod Endings
 pub mod Flights
 pub mod Offered
-pub mod Limits

@@ -1,48 +1,46 @@
 -- How many packets stores are offered before a run.
-use Rattle.std.proofs.Common.{◌≡◌, ℕ, ◌+◌, ◌-◌, ◌<◌, ◌≤◌, ◌^◌, ◌==◌, ◌||◌, not, List, [], ◌∷◌, length, map, take, get_or, Result, ap, ◌∙◌, arith}
+use Rattle.std.proofs.Common.{◌≡◌, ℕ, ◌+◌, ◌≤◌, ◌^◌, List, [], ◌∷◌, length, map, arith}
 use Rattle.std.specs.Prelude.{Option, Some, None}
-use Rattle.std.proofs.lemmas.Bool.{cond_both}
-use Rattle.std.proofs.lemmas.List.{take_more}
-use Rattle.std.proofs.lemmas.List.Sums.{fold-append}
-use Rattle.std.proofs.lemmas.List.Elements.{All-nil, All-cons, All-head, All-tail}
+use Rattle.std.proofs.lemmas.List.Elements.{All-map}
 use Rattle.mm_base.specs.declared.rows.StoreRow.{StoreRow}
 use Rattle.mm_packet.specs.Packet.{SpacePacket}
 use Rattle.mm_desk.specs.declared.held.Held.{Held}
-use Rattle.mm_desk.specs.declared.reply.Offered.{Offered}
-use Rattle.mm_desk.specs.declared.reply.Returned.{Returned}
 use Rattle.mm_desk.specs.Machine.{State, offer}
 use Rattle.mm_memory.specs.Holdings.{Holdings, opened}
-use Rattle.mm_memory.specs.Recording.{after_offer, after_offers, after_record}
+use Rattle.mm_memory.specs.Recording.{after_offer, after_record, packet_for}
+use Rattle.mm_record.specs.Supplies.{Supply}
+use Rattle.mm_exec.specs.Course.{AreWithinLimits}
+use Rattle.mm_run.specs.Sources.{AreFew}
+use Rattle.mm_run.specs.declared.source.ScriptedSource.{ScriptedSource}
+use Rattle.mm_run.specs.declared.source.TheConstants.{MAX_PACKETS}
 use Rattle.mm_run.specs.Opening.{AreOffered, opened_with}
-
--- an offer is one packet more at most
-one_more : (s : State) (packet : SpacePacket) → (offer s 0 packet).1.offered ≤ s.offered + 1
-one_more s packet =
-    cond_both (not s.storage) _ _ (λ (r : Result Offered Returned × State). r.1.offered ≤ s.offered + 1)
-    (λ off. omega arith)
-    (λ on. cond_both ((s.store.last == (2 ^ 64 - 1)) || (s.offered == (2 ^ 64 - 1))) _ _ (λ (r : Result Offered Returned × State). r.1.offered ≤ s.offered + 1)
-    (λ late. omega arith) (λ early. omega arith))
+use Rattle.mm_run.specs.Runs.{gives}
 
 -- the stores of a setup were offered nothing
 pub none_offered : (rows : List StoreRow) → AreOffered 0 (map opened rows)
-none_offered [] = All-nil (λ (h : Held). h.state.offered ≤ 0)
-none_offered (row ∷ rows) = All-cons (λ (h : Held). h.state.offered ≤ 0) (opened row) (map opened rows) (omega arith) (none_offered rows)
+none_offered rows = All-map (λ (h : Held). h.state.offered ≤ 0) opened rows (λ k d within. omega arith)
+
+-- an offer is one packet more at most
+one_more : (s : State) (packet : SpacePacket) → (offer s 0 packet).1.offered ≤ s.offered + 1
+one_more s packet = grind arith
 
 -- a store that is offered one packet or none
 offered_one : (most : ℕ) (h : Held) (packet : Option SpacePacket) → h.state.offered ≤ most → (after_offer 0 h packet).state.offered ≤ most + 1
 offered_one most h (Some packet) few = omega (arith, few, one_more h.state packet)
 offered_one most h None few = omega (arith, few)
 
--- stores, each of which is offered one packet or none
-pub offered_each : (most : ℕ) (packet : Held → Option SpacePacket) (stores : List Held) → AreOffered most stores → AreOffered (most + 1) (after_offers 0 packet stores)
-offered_each most packet [] all = All-nil (λ (h : Held). h.state.offered ≤ most + 1)
-offered_each most packet (h ∷ hs) all =
-    All-cons (λ (h : Held). h.state.offered ≤ most + 1) (after_offer 0 h (packet h)) (after_offers 0 packet hs)
-    (offered_one most h (packet h) (All-head (λ (h : Held). h.state.offered ≤ most) h hs all))
-    (offered_each most packet hs (All-tail (λ (h : Held). h.state.offered ≤ most) h hs all))
+-- each packet is one more at most
+offered_all : (most : ℕ) (memory : Holdings) (packets : List SpacePacket) → AreOffered most memory.stores → AreOffered (most + length packets) (opened_with memory packets).stores
+offered_all most memory [] few = few
+offered_all most memory (p ∷ ps) few =
+    let rest = offered_all (most + 1) (after_record 0 p memory) ps (All-map (λ (h : Held). h.state.offered ≤ most + 1) (λ h. after_offer 0 h (packet_for memory.routes p h)) memory.stores
+    (λ k d within. offered_one most _ _ (few k d within))) in
+    λ k d within. omega (arith, rest k d within)
 
--- one packet more is offered
-pub opened_more : (memory : Holdings) (packets : List SpacePacket) (i : ℕ) (d : SpacePacket) → i < length packets
-    → opened_with memory (take (i + 1) packets) ≡ after_record 0 (get_or packets i d) (opened_with memory (take i packets))
-opened_more memory packets i d within =
-    ap (opened_with memory) (take_more packets i d within) ∙ fold-append (λ (m : Holdings) (p : SpacePacket). after_record 0 p m) memory (take i packets) (get_or packets i d ∷ [])
+-- a run of scripted sources over stores that were offered few packets is within the limits in which no store refuses one
+pub within_limits : (steps : ℕ) (memory : Holdings) (packets : List SpacePacket) (sources : List ScriptedSource) → length packets ≤ 2 ^ 63 → MAX_PACKETS ≡ 65535 → AreOffered 0 memory.stores
+    → AreFew sources → AreWithinLimits steps (opened_with memory packets).stores (map gives sources)
+within_limits steps memory packets sources fits most offered few = record {
+  few = λ step first last. All-map (λ (s : Supply). length (s step) ≤ 65535) gives sources (λ k d within. let one = few k d within step in omega (arith, one, most));
+  offered = λ k d within. let one = offered_all 0 memory packets offered k d within in omega (arith, one, fits);
+}

@@ -1,5 +1,5 @@
 -- The packets of step 0: they are offered before a run, at the moment 0.
-use Rattle.std.specs.Prelude.{ℕ, ◌+◌, ◌≤◌, List, fold, All}
+use Rattle.std.specs.Prelude.{ℕ, ◌≤◌, List, fold, All}
 use Rattle.mm_packet.specs.Packet.{SpacePacket}
 use Rattle.mm_desk.specs.declared.held.Held.{Held}
 use Rattle.mm_memory.specs.Holdings.{Holdings}
@@ -12,7 +12,3 @@ opened_with memory packets = fold (λ m p. after_record 0 p m) memory packets
 -- each store was offered at most this many packets
 abbrev pub AreOffered : ℕ → List Held → Type 0
 AreOffered most stores = All (λ h. h.state.offered ≤ most) stores
-
--- each store was offered at most this many packets more
-abbrev pub OffersAtMost : ℕ → Holdings → Holdings → Type 0
-OffersAtMost more old new = (most : ℕ) → AreOffered most old.stores → AreOffered (most + more) new.stores

@@ -3,6 +3,7 @@ use Rattle.std.specs.Prelude.{◌≡◌, ◌⊎◌, ℕ, List, [], ◌++◌, Opt
 use Rattle.mm_report.specs.Report.{Reported}
 use Rattle.mm_report.specs.Text.{report_text}
 use Rattle.mm_report.specs.declared.cause.Cause.{Cause}
+use Rattle.mm_run.specs.declared.printed.Outcome.{Outcome}
 use Rattle.mm_run.specs.declared.printed.Outcome.TheVariants.{CarriedOut, Unreported, Stopped}
 use Rattle.mm_run.specs.declared.printed.Printed.{Printed}
 use Rattle.mm_run.specs.Ending.{step_of, end_line, lacking_line}
@@ -11,20 +12,24 @@ use Rattle.mm_run.specs.Ending.{step_of, end_line, lacking_line}
 abbrev pub text_of : Printed → List ℕ
 text_of p = p.sheet.items ++ p.report.items ++ p.end.items
 
--- the report is printed, or stands for a report for whose text there is no memory
-abbrev pub TellsReport : Reported → List ℕ → Type 0
-TellsReport report text = (text ≡ report_text report) ⊎ (text ≡ lacking_line)
+-- nothing is printed yet
+pub record IsReserved (p : Printed) : Type 0 where
+  pub report : p.report.items ≡ []
+  pub end : p.end.items ≡ []
+
+-- the report is printed, or a line stands for a report for whose text there is no memory
+abbrev pub TellsReport : Reported → List ℕ → Outcome → Type 0
+TellsReport report text outcome = ((text ≡ report_text report) × (outcome ≡ CarriedOut)) ⊎ ((text ≡ lacking_line) × (outcome ≡ Unreported))
 
 -- a run that was carried out has its report printed, and nothing after it
 pub record TellsAll (sheet : List ℕ) (report : Reported) (p : Printed) : Type 0 where
   pub sheet_is : p.sheet.items ≡ sheet
   pub end_is : p.end.items ≡ []
-  pub report_is : ((p.report.items ≡ report_text report) × (p.outcome ≡ CarriedOut))
-      ⊎ ((p.report.items ≡ lacking_line) × (p.outcome ≡ Unreported))
+  pub report_is : TellsReport report p.report.items p.outcome
 
 -- a run that was halted has its report printed, and one that did not begin has none
 abbrev pub TellsOf : Option ℕ → Reported → List ℕ → Type 0
-TellsOf (Some step) report text = TellsReport report text
+TellsOf (Some step) report text = (text ≡ report_text report) ⊎ (text ≡ lacking_line)
 TellsOf None report text = text ≡ []
 
 -- a run that was not carried out whole has the last line printed that says why

@@ -1,6 +1,6 @@
 //! The packets of step 0, which are offered before a run.
-ghost use Rattle.std.specs.Prelude.{◌≡◌, OnOk, length};
-ghost use Rattle.mm_run.specs.Opening.{opened_with, OffersAtMost};
+ghost use Rattle.std.specs.Prelude.{◌≡◌, OnOk};
+ghost use Rattle.mm_run.specs.Opening.{opened_with};
 
 use mm_base::NoMemory;
 use mm_memory::Memory;
@@ -13,8 +13,7 @@ pub(crate) fn offer_all(
     memory: &mut Memory,
     packets: &[BlockPacket],
 ) -> Result<(), NoMemory>
-    ensures after { OnOk result (memory.new ≡ opened_with memory.old packets.now) }
-    ensures most { OnOk result (OffersAtMost (length packets.now) memory.old memory.new) }
+    ensures { OnOk result (memory.new ≡ opened_with memory.old packets.now) }
 {
     for packet in packets {
         memory.record(alloc, 0, packet)?;

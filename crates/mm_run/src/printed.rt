@@ -1,6 +1,6 @@
 //! What a run prints.
 ghost use Rattle.std.specs.Prelude.{◌≡◌, [], IfOk};
-ghost use Rattle.mm_report.specs.declared.cause.Cause.{Cause};
+ghost use Rattle.mm_run.specs.Printed.{TellsReport};
 
 use crate::ending::{push_end, push_lacking, step_of};
 use crate::untaken::Untaken;
@@ -31,18 +31,6 @@ pub struct Given {
     pub untaken: Option<Untaken>,
 }
 
-impl Given {
-    /// The same, where so many packets of step 0 went to that store.
-    pub(crate) fn with_opening(self, opening: u64) -> Given {
-        Given {
-            sources: self.sources,
-            links: self.links,
-            opening,
-            untaken: self.untaken,
-        }
-    }
-}
-
 /// What a run prints: three texts, one after the other. Beside them, how it ended and what it was given.
 #[derive(Debug, Drop)]
 pub struct Printed {
@@ -56,98 +44,74 @@ pub struct Printed {
     pub given: Given,
 }
 
-/// Room for the lines that are printed where there is no memory any more.
-#[derive(Drop)]
-pub(crate) struct ReservedLines {
-    report: Vec<u8>,
-    end: Vec<u8>,
-}
-
-// The longest of these lines have fewer octets.
+// The longest of the lines that are printed where there is no memory any more have fewer octets.
 const LINE: usize = 64;
 
-impl ReservedLines {
-    pub(crate) fn new(alloc: Global) -> Result<ReservedLines, NoMemory>
-        ensures report { IfOk result (λ reserved. reserved.report.items ≡ []) }
-        ensures end { IfOk result (λ reserved. reserved.end.items ≡ []) }
-    {
-        Ok(ReservedLines {
-            report: Vec::with_capacity(alloc, LINE)?,
-            end: Vec::with_capacity(alloc, LINE)?,
-        })
+// Writes the report's text, or where there is no memory for it the line that stands for it.
+fn write_report(text: &mut Vec<u8>, alloc: Global, report: &Report) -> Result<Outcome, NoMemory>
+    requires { text.old.items ≡ [] }
+    ensures { IfOk result (TellsReport report.now text.new.items) }
+{
+    match report.text(alloc) {
+        Ok(whole) => {
+            *text = whole;
+            Ok(Outcome::CarriedOut)
+        }
+        Err(NoMemory) => {
+            push_lacking(text).map_err(|_| NoMemory)?;
+            Ok(Outcome::Unreported)
+        }
     }
 }
 
 impl Printed {
-    ghost use Rattle.mm_run.specs.Printed.{TellsAll, TellsEnd};
+    ghost use Rattle.mm_run.specs.Printed.{IsReserved, TellsAll, TellsEnd};
+
+    /// Nothing, with room for the lines that are printed where there is no memory any more.
+    pub(crate) fn reserved(alloc: Global, given: Given) -> Result<Printed, NoMemory>
+        ensures { IfOk result IsReserved }
+    {
+        Ok(Printed {
+            sheet: Vec::new(alloc),
+            report: Vec::with_capacity(alloc, LINE)?,
+            end: Vec::with_capacity(alloc, LINE)?,
+            outcome: Outcome::CarriedOut,
+            given,
+        })
+    }
 
     /// What a run prints that was carried out.
     pub(crate) fn whole(
+        mut self,
         alloc: Global,
         sheet: Vec<u8>,
-        reserved: ReservedLines,
         report: &Report,
-        given: Given,
     ) -> Result<Printed, NoMemory>
-        requires empty { reserved.report.items ≡ [] }
-        requires no_end { reserved.end.items ≡ [] }
+        requires { IsReserved self }
         ensures { IfOk result (TellsAll sheet.items report.now) }
     {
-        let ReservedLines {
-            report: mut lacking,
-            end,
-        } = reserved;
-        match report.text(alloc) {
-            Ok(report) => Ok(Printed {
-                sheet,
-                report,
-                end,
-                outcome: Outcome::CarriedOut,
-                given,
-            }),
-            Err(NoMemory) => {
-                push_lacking(&mut lacking).map_err(|_| NoMemory)?;
-                Ok(Printed {
-                    sheet,
-                    report: lacking,
-                    end,
-                    outcome: Outcome::Unreported,
-                    given,
-                })
-            }
-        }
+        self.sheet = sheet;
+        self.outcome = write_report(&mut self.report, alloc, report)?;
+        Ok(self)
     }
 
     /// What a run prints that did not begin, or was halted.
     pub(crate) fn stopped(
+        mut self,
         alloc: Global,
         sheet: Vec<u8>,
-        reserved: ReservedLines,
         cause: &Cause,
         report: &Report,
-        given: Given,
     ) -> Result<Printed, NoMemory>
-        requires empty { reserved.report.items ≡ [] }
-        requires no_end { reserved.end.items ≡ [] }
+        requires { IsReserved self }
         ensures { IfOk result (TellsEnd sheet.items cause.now report.now) }
     {
-        let ReservedLines {
-            report: mut told,
-            mut end,
-        } = reserved;
+        self.sheet = sheet;
         if step_of(cause).is_some() {
-            match report.text(alloc) {
-                Ok(text) => told = text,
-                Err(NoMemory) => push_lacking(&mut told).map_err(|_| NoMemory)?,
-            }
+            write_report(&mut self.report, alloc, report)?;
         }
-        push_end(&mut end, cause).map_err(|_| NoMemory)?;
-        Ok(Printed {
-            sheet,
-            report: told,
-            end,
-            outcome: Outcome::Stopped(*cause),
-            given,
-        })
+        push_end(&mut self.end, cause).map_err(|_| NoMemory)?;
+        self.outcome = Outcome::Stopped(*cause);
+        Ok(self)
     }
 }

@@ -1,5 +1,5 @@
 //! A run from texts to what is printed: of the plan of a text, or of one that is made.
-ghost use Rattle.std.specs.Prelude.{◌<◌, ◌-◌, ◌^◌, All, length, map, Some, IfOk, IfErr};
+ghost use Rattle.std.specs.Prelude.{◌<◌, ◌-◌, ◌^◌, All, length, map, IfOk, IfErr};
 ghost use Rattle.std.specs.Option.{option_copied};
 ghost use Rattle.mm_base.specs.Reading.{IfRefused};
 ghost use Rattle.mm_exec.specs.Course.{AreWithinLimits};
@@ -13,15 +13,14 @@ use crate::fault::Fault;
 use crate::laws::constants_are;
 use crate::link::ScriptedLink;
 use crate::opening::offer_all;
-use crate::printed::{Given, Printed, ReservedLines};
+use crate::printed::{Given, Printed};
 use crate::source::ScriptedSource;
 use crate::texts::{
     ProblemAndMemory, RunTexts, SourcesAndLinks, read_plan, read_problem_and_memory,
     read_sources_and_links,
 };
-use crate::untaken::Untaken;
 use mm_base::NoMemory;
-use mm_exec::{Flown, FlyHalted, FlyResult, Halted, carry_out, fly};
+use mm_exec::{Flown, FlyHalted, FlyResult, carry_out, fly};
 use mm_memory::Memory;
 use mm_plan::Sheet;
 use mm_problem::Problem;
@@ -30,32 +29,7 @@ use std::alloc::Global;
 use std::sync::Wait;
 use std::thread::Threads;
 
-// Carries out the plan of a sheet, of which no text is printed.
-fn fly_sheet<R: Threads + Wait + Sync>(
-    rt: &R,
-    alloc: Global,
-    sheet: &Sheet,
-    memory: &mut Memory,
-    problem: &Problem,
-    sources: Vec<ScriptedSource>,
-    links: Vec<ScriptedLink>,
-) -> FlyResult<ScriptedSource, ScriptedLink>
-    requires links { All (λ l. l.failed < 2 ^ 64 - 1) links.items }
-    ensures flown { IfOk result (IsFlown (Some sheet.now) problem.now memory.old sources.items links.items memory.new) }
-    ensures not_flown { IfErr result (IsNotFlown (Some sheet.now) problem.now memory.old sources.items links.items memory.new) }
-    ensures far { AreWithinLimits (length problem.now.windows) memory.old.stores (map gives sources.items) → IfErr result (λ ended. NeverRefused ended.halted.cause) }
-{
-    let text = Vec::new(alloc);
-    match carry_out(rt, alloc, memory, problem, sheet.plan(), sources, links, 0) {
-        Ok(ended) => Ok(ended.with_sheet(text)),
-        Err(halted) => Err(FlyHalted {
-            sheet: text,
-            halted,
-        }),
-    }
-}
-
-// Carries out the plan of the sheet, or without one makes a plan, prints it and carries it out.
+// Carries out the plan of the sheet, of which no text is printed, or without one makes a plan, prints it and carries it out.
 fn fly_plan<R: Threads + Wait + Sync>(
     rt: &R,
     alloc: Global,
@@ -70,9 +44,16 @@ fn fly_plan<R: Threads + Wait + Sync>(
     ensures not_flown { IfErr result (IsNotFlown sheet problem.now memory.old sources.items links.items memory.new) }
     ensures far { AreWithinLimits (length problem.now.windows) memory.old.stores (map gives sources.items) → IfErr result (λ ended. NeverRefused ended.halted.cause) }
 {
-    match sheet {
-        Some(sheet) => fly_sheet(rt, alloc, &sheet, memory, problem, sources, links),
-        None => fly(rt, alloc, memory, problem, sources, links, 0),
+    let Some(sheet) = sheet else {
+        return fly(rt, alloc, memory, problem, sources, links, 0);
+    };
+    let text = Vec::new(alloc);
+    match carry_out(rt, alloc, memory, problem, sheet.plan(), sources, links, 0) {
+        Ok(ended) => Ok(ended.with_sheet(text)),
+        Err(halted) => Err(FlyHalted {
+            sheet: text,
+            halted,
+        }),
     }
 }
 
@@ -84,38 +65,6 @@ fn offered_for(memory: &Memory, cause: &Cause) -> u64 {
     match memory.state(store) {
         Some(state) => state.offered(),
         None => 0,
-    }
-}
-
-// Carries the plan out, and says what is printed of it.
-fn print_run<R: Threads + Wait + Sync>(
-    rt: &R,
-    alloc: Global,
-    memory: &mut Memory,
-    problem: &Problem,
-    sheet: Option<Sheet>,
-    sources: Vec<ScriptedSource>,
-    links: Vec<ScriptedLink>,
-    untaken: Option<Untaken>,
-) -> Result<Printed, NoMemory>
-    requires limits { AreWithinLimits (length problem.now.windows) memory.old.stores (map gives sources.items) }
-    requires unfailed { All (λ l. l.failed < 2 ^ 64 - 1) links.items }
-    ensures { IfOk result (RunEnds sheet problem.now memory.old sources.items links.items) }
-{
-    let reserved = ReservedLines::new(alloc)?;
-    let given = Given {
-        sources: sources.len(),
-        links: links.len(),
-        opening: 0,
-        untaken,
-    };
-    match fly_plan(rt, alloc, memory, problem, sheet, sources, links) {
-        Ok(Flown { sheet, report, .. }) => Printed::whole(alloc, sheet, reserved, &report, given),
-        Err(FlyHalted { sheet, halted }) => {
-            let Halted { cause, report, .. } = halted;
-            let given = given.with_opening(offered_for(memory, &cause));
-            Printed::stopped(alloc, sheet, reserved, &cause, &report, given)
-        }
     }
 }
 
@@ -144,16 +93,20 @@ fn carry<R: Threads + Wait + Sync>(
     } = sides;
     constants_are();
     offer_all(alloc, &mut memory, opening.as_slice())?;
-    print_run(
-        rt,
-        alloc,
-        &mut memory,
-        &problem,
-        sheet,
-        sources,
-        links,
+    let given = Given {
+        sources: sources.len(),
+        links: links.len(),
+        opening: 0,
         untaken,
-    )
+    };
+    let mut printed = Printed::reserved(alloc, given)?;
+    match fly_plan(rt, alloc, &mut memory, &problem, sheet, sources, links) {
+        Ok(Flown { sheet, report, .. }) => printed.whole(alloc, sheet, &report),
+        Err(FlyHalted { sheet, halted }) => {
+            printed.given.opening = offered_for(&memory, &halted.cause);
+            printed.stopped(alloc, sheet, &halted.cause, &halted.report)
+        }
+    }
 }
 
 /// What is printed of the run that the texts say: the packets of step 0 are offered at the moment 0, and then the plan is carried out, its
