@@ -31,7 +31,7 @@ offered_one most h None few = omega (arith, few)
 
 -- each packet is one more at most
 offered_all : (most : ℕ) (memory : Holdings) (packets : List SpacePacket) → AreOffered most memory.stores → AreOffered (most + length packets) (opened_with memory packets).stores
-offered_all most memory [] few = few
+offered_all most memory [] few = λ k d within. omega (arith, few k d within)
 offered_all most memory (p ∷ ps) few =
     let rest = offered_all (most + 1) (after_record 0 p memory) ps (All-map (λ (h : Held). h.state.offered ≤ most + 1) (λ h. after_offer 0 h (packet_for memory.routes p h)) memory.stores
     (λ k d within. offered_one most _ _ (few k d within))) in
