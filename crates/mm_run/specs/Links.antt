@@ -41,18 +41,13 @@ pub record Linked : Type 0 where
   pub count : ℕ
   pub failing : List Failing
 
--- how many links there are, and what the lines after the first say of them
-abbrev pub with_count : ℕ → List (List ℕ) → Result Linked ScriptFault
-with_count count lines = do
-  failing ← with_failing count 2 [] lines
-  Ok (record { count = count; failing = failing })
-
--- the same, from the first line on, which must be there
+-- how many links there are, as the first line says, which must be there, and what the lines after it say of them
 abbrev pub linked_in : List (List ℕ) → Result Linked ScriptFault
 linked_in [] = Err (LinksText 1)
 linked_in (line ∷ lines) = do
   count ← count_at (LinksText 1) line
-  with_count count lines
+  failing ← with_failing count 2 [] lines
+  Ok (record { count = count; failing = failing })
 
 -- what a text of links says, or the first line that is refused
 unfoldable pub linked_of : List ℕ → Result Linked ScriptFault

@@ -46,9 +46,8 @@ fn reach(alloc: Global, sources: &mut Vec<ScriptedSource>, count: usize) -> Resu
 
 impl Draft {
     ghost use Rattle.mm_run.specs.SourceLine.{IsSourceLine};
-    ghost use Rattle.mm_run.specs.Sources.{with_source_line, with_line};
+    ghost use Rattle.mm_run.specs.Sources.{with_source_line};
     ghost use Rattle.mm_run.specs.Drafts.{IsRead, Adds};
-    ghost use Rattle.mm_run.specs.declared.script_fault.ScriptFault.TheVariants.{SourcesText};
 
     fn new(alloc: Global) -> Draft
         ensures { IsRead [] result }
@@ -90,22 +89,6 @@ impl Draft {
         }
         Ok(())
     }
-
-    // Adds the line of this number, where it is what stands there.
-    fn take(
-        &mut self,
-        alloc: Global,
-        number: u64,
-        line: &[u8],
-        unrouted: &mut Unrouted<'_>,
-    ) -> Result<(), ScriptFault>
-        ensures { (earlier : List SourceLine) → IsRead earlier self.old → Adds (with_line (SourcesText number) earlier line.now) self.new result }
-    {
-        let bad = ScriptFault::SourcesText { line: number };
-        let source_line = source_line_at(alloc, bad, line)?;
-        unrouted.note(number, source_line.packet.packet());
-        self.add(alloc, bad, source_line)
-    }
 }
 
 impl SourceFile {
@@ -134,7 +117,10 @@ impl SourceFile {
         let mut rest = text;
         let mut line: u64 = 1;
         while let Some((front, after)) = first_line(rest) {
-            draft.take(alloc, line, front, unrouted)?;
+            let bad = ScriptFault::SourcesText { line };
+            let source_line = source_line_at(alloc, bad, front)?;
+            unrouted.note(line, source_line.packet.packet());
+            draft.add(alloc, bad, source_line)?;
             rest = after;
             line += 1;
         }
