@@ -1,5 +1,5 @@
 -- How many packets stores are offered before a run.
-use Rattle.std.proofs.Common.{◌≡◌, ℕ, ◌+◌, ◌≤◌, ◌^◌, List, [], ◌∷◌, length, map, arith}
+use Rattle.std.proofs.Common.{◌≡◌, ℕ, ◌+◌, ◌≤◌, ◌^◌, List, [], ◌∷◌, length, map, get_or, arith}
 use Rattle.std.specs.Prelude.{Option, Some, None}
 use Rattle.std.proofs.lemmas.List.Elements.{All-map}
 use Rattle.mm_base.specs.declared.rows.StoreRow.{StoreRow}
@@ -33,8 +33,10 @@ offered_one most h None few = omega (arith, few)
 offered_all : (most : ℕ) (memory : Holdings) (packets : List SpacePacket) → AreOffered most memory.stores → AreOffered (most + length packets) (opened_with memory packets).stores
 offered_all most memory [] few = λ k d within. omega (arith, few k d within)
 offered_all most memory (p ∷ ps) few =
-    let rest = offered_all (most + 1) (after_record 0 p memory) ps (All-map (λ (h : Held). h.state.offered ≤ most + 1) (λ h. after_offer 0 h (packet_for memory.routes p h)) memory.stores
-    (λ k d within. offered_one most _ _ (few k d within))) in
+    let offer_to : Held → Held = λ h. after_offer 0 h (packet_for memory.routes p h) in
+    let once = All-map (λ (h : Held). h.state.offered ≤ most + 1) offer_to memory.stores
+    (λ k d within. let h = get_or memory.stores k d in offered_one most h (packet_for memory.routes p h) (few k d within)) in
+    let rest = offered_all (most + 1) (after_record 0 p memory) ps once in
     λ k d within. omega (arith, rest k d within)
 
 -- a run of scripted sources over stores that were offered few packets is within the limits in which no store refuses one
