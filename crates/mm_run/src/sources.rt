@@ -49,16 +49,6 @@ impl Draft {
     ghost use Rattle.mm_run.specs.Sources.{with_source_line};
     ghost use Rattle.mm_run.specs.Drafts.{IsRead, Adds};
 
-    fn new(alloc: Global) -> Draft
-        ensures { IsRead [] result }
-    {
-        Draft {
-            opening: Vec::new(alloc),
-            opened: [0; MAX_SOURCES],
-            sources: Vec::new(alloc),
-        }
-    }
-
     // Adds what a line says, where there is room for it.
     fn add(
         &mut self,
@@ -113,7 +103,11 @@ impl SourceFile {
         ensures few { IfOk result (λ read. AreFew read.sources.items) }
         ensures refused { IfRefused ScriptFault.NoMemory result (λ e. source_lines_of text.now ≡ Err e) }
     {
-        let mut draft = Draft::new(alloc);
+        let mut draft = Draft {
+            opening: Vec::new(alloc),
+            opened: [0; MAX_SOURCES],
+            sources: Vec::new(alloc),
+        };
         let mut rest = text;
         let mut line: u64 = 1;
         while let Some((front, after)) = first_line(rest) {
