@@ -1,4 +1,2 @@
 pub mod DraftLemmas
-pub mod Endings
-pub mod Flights
 pub mod Offered

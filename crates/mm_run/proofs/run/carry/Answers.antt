@@ -1,15 +1,30 @@
-use Rattle.std.proofs.Common.{◌≡◌, ◌+◌, ◌∙◌, ap, length, arith}
+use Rattle.std.proofs.Common.{◌≡◌, ◌∙◌, ap, inl, inr, length, arith}
+use Rattle.std.proofs.lemmas.Result.{IfOk-weaker}
+use Rattle.mm_run.specs.declared.printed.Printed.{Printed}
 use Rattle.mm_run.specs.Opening.{opened_with}
-use Rattle.mm_run.proofs.Limits.{within_limits}
+use Rattle.mm_run.proofs.Offered.{within_limits}
 use Rattle.mm_run.proofs.run.carry.Goals as goal
 
-pub print_run-requires-clause-limits : goal.print_run-requires-clause-limits
-print_run-requires-clause-limits g c κs within =
-    within_limits (length c.args.start.problem.windows) c.offer_all.new.memory.stores c.args.sides.sources.items (0 + length c.as_slice.result.now) (omega (arith, c.as_slice.ensures.len, c.args.sides.opening.ok.0))
-    c.constants_are.ensures.packets (c.in_ok-offer_all.ensures.most 0 c.requires.opened) c.requires.few
+pub returns-in-Ok : goal.returns-in-Ok
+returns-in-Ok g c =
+    let memory : c.offer_all.new.memory ≡ opened_with c.args.start.memory c.args.sides.opening.items =
+    c.in_ok-offer_all.ensures ∙ ap (opened_with c.args.start.memory) c.as_slice.ensures.value in
+    rw (← memory) (IfOk-weaker c.whole.result _ _
+    (λ (p : Printed) told. inl (record { left = c.fly_plan.new.memory; flown = c.in-Ok.field-0; is_flown = c.in-Ok.ensures.flown; tells = told }))
+    c.whole.ensures)
 
 pub returns : goal.returns
 returns g c =
     let memory : c.offer_all.new.memory ≡ opened_with c.args.start.memory c.args.sides.opening.items =
-    c.in_ok-offer_all.ensures.after ∙ ap (opened_with c.args.start.memory) c.as_slice.ensures.value in
-    rw (← memory) c.print_run.ensures
+    c.in_ok-offer_all.ensures ∙ ap (opened_with c.args.start.memory) c.as_slice.ensures.value in
+    let limits = within_limits (length c.args.start.problem.windows) c.args.start.memory c.args.sides.opening.items c.args.sides.sources.items
+    (omega (arith, c.args.sides.opening.ok.0)) c.constants_are.ensures.packets c.requires.opened c.requires.few in
+    rw (← memory) (IfOk-weaker c.stopped.result _ _
+    (λ (p : Printed) told. inr (record {
+      left = c.fly_plan.new.memory;
+      ended = c.in-Err.field-0;
+      not_flown = c.in-Err.ensures.not_flown;
+      never_refused = c.in-Err.ensures.far (rw memory limits);
+      tells = told;
+    }))
+    c.stopped.ensures)
