@@ -1,11 +1,10 @@
-use Rattle.std.proofs.Common.{◌≡◌, ◌+◌, ◌-◌, ◌<◌, ◌==◌, ◌&&◌, [], true, false, max, length, get_or, arith, refl, sym, ap, ◌∙◌, rules, append-nil}
-use Rattle.std.specs.Prelude.{nat_lt}
+use Rattle.std.proofs.Common.{◌≡◌, ◌+◌, ◌-◌, ◌<◌, ◌==◌, [], false, max, length, get_or, arith, sym, ◌∙◌, rules, append-nil}
 use Rattle.std.proofs.lemmas.Bool.Decides.{nat_tests}
 use Rattle.std.proofs.lemmas.List.{get_or_default, length-set}
 use Rattle.mm_run.specs.declared.source_line.SourceLine.{SourceLine}
 use Rattle.mm_run.specs.declared.source.TheConstants.{MAX_PACKETS}
-use Rattle.mm_run.specs.Sources.{packets_of, is_of}
-use Rattle.mm_run.proofs.DraftLemmas.{given_more, read_more, same_place, updated}
+use Rattle.mm_run.specs.Sources.{packets_of}
+use Rattle.mm_run.proofs.DraftLemmas.{given_more, read_more, updated}
 use Rattle.mm_run.proofs.sources.Draft.add.Goals as goal
 
 pub returns-in_ok-map_err : goal.returns-in_ok-map_err
