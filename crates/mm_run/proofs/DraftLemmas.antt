@@ -26,10 +26,6 @@ picked_one f x false = refl
 picked-more : {A B : Type 0} (f : A → B) (p : A → Bool) (xs : List A) (x : A) → map f (filter p (xs ++ x ∷ [])) ≡ map f (filter p xs) ++ cond (p x) (f x ∷ []) []
 picked-more f p xs x = ap (map f) (filter-append p xs (x ∷ [])) ∙ map-append f (filter p xs) (filter p (x ∷ [])) ∙ ap (λ ys. map f (filter p xs) ++ ys) (picked_one f x (p x))
 
--- places counted from 1 are equal where the numbers are
-pub same_place : (a b : ℕ) → 1 ≤ a → 1 ≤ b → (a - 1 == b - 1) ≡ (a == b)
-same_place a b first some = grind (arith, nat_tests)
-
 -- one element becomes another
 pub updated : {X : Type 0} (f : X → X) (xs : List X) (i k : ℕ) (d : X) → i < length xs → get_or (set xs i (f (get_or xs i d))) k d ≡ cond (i == k) (f (get_or xs k d)) (get_or xs k d)
 updated f xs i k d within = grind (arith, nat_tests, get_or-set_same, get_or-set_other)
