@@ -5,6 +5,7 @@ use Rattle.std.proofs.lemmas.List.{append-nil, get_or-map, length-map}
 use Rattle.std.proofs.lemmas.List.Elements.{All-head, All-map, All-tail}
 use Rattle.std.proofs.lemmas.List.Sums.{sum_by-le}
 use Rattle.std.proofs.lemmas.Option.{IfSome_then, MatchOption-at_none, MatchOption-at_some}
+use Rattle.atomic_table.specs.Seated.{TableId}
 use Rattle.mm_base.proofs.Elements.{All-unmapped}
 use Rattle.mm_base.proofs.Pairs.{All-front}
 use Rattle.mm_base.specs.declared.rows.RouteRow.{RouteRow}
@@ -22,8 +23,7 @@ use Rattle.mm_desk.specs.Runs.{opening_at, blank}
 use Rattle.mm_desk.specs.Shuffles.{AreBelow, IsShuffle}
 use Rattle.mm_shared.specs.declared.label.StoreLabel.{StoreLabel}
 use Rattle.mm_shared.specs.Stores.{list_at, lists_at, states_of, labels_of, names_of, ids_of, id_at, HaveLegalLogs}
-use Rattle.mm_shared.specs.Views.{PortView}
-use Rattle.mm_shared.proofs.Defaults.{no_port}
+use Rattle.mm_shared.specs.Views.{PortView, origin}
 use Rattle.mm_record.specs.Offering.{asked, IsReason}
 use Rattle.mm_record.proofs.Reasons.{not_taken, refusal_in_log}
 use Rattle.mm_memory.specs.Recording.{is_routed}
@@ -34,6 +34,14 @@ use Rattle.mm_record.specs.Steps.{given_in, latest, AllRecorded, AllHaveLegalOff
 use Rattle.mm_record.proofs.Offers.{offers_more}
 use Rattle.mm_record.proofs.Runs.{IsRunOf, Run, run_of, runs_until}
 use Rattle.mm_record.proofs.Taking.{HasTime, IsOfferAt, filter_fewer, lists_taken, parts_all, shuffle_is_taken}
+
+-- no table
+no_table : TableId
+no_table = record { words = 0; slots = 0; views_name = 0; atom = 0; block = 0; offset = 0; slot_names = [] }
+
+-- a port of no stores, which is read where a list of ports has none
+no_port : PortView
+no_port = record { of = origin no_table []; number = 0; list = [] }
 
 -- a log that is a shuffle of lists is one of what is asked in them
 pub asked_shuffled : (lists : List (List Entry)) (log : List Entry) → IsShuffle lists log → IsShuffleOfEvents (map asked_in lists) log
