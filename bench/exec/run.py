@@ -5,11 +5,11 @@ threads (plain.rs, texts.rs), in one run.
     python3 bench/exec/run.py [ROUNDS [PACKETS]]        5 rounds and 1,000,000 packets where nothing is said
 
 It needs the Rattle kit's `rt` (or what RT names), by which it proves and builds crates/work_exec, `rustc` and GNU time. The run from texts
-is left out where `mm_tool` is not built. Each cell is the least of the rounds. Wall time is what a program takes between two looks at the clock, round the recording and round the dumping of each
-step. Processor time, user and system, is that of whole processes, less that of a process that only makes the same packets: it counts what
-the threads did and not what they waited for a processor. That of dumping is of recording and dumping together. Peak memory is that of the
-whole process, and `beside` is by how much it is above that of a process that only makes the packets. A run ends where the two programs
-count other packets.
+is left out where `mm_tool` is not built. Each cell is the least of the rounds. Wall time is what a program takes between two looks at the
+clock, round the recording and round the dumping of each step. Processor time, user and system, is that of whole processes, less that of a
+process that only makes the same packets: it counts what the threads did and not what they waited for a processor. That of dumping is of
+recording and dumping together. Peak memory is that of the whole process, and `beside` is by how much it is above that of a process that
+only makes the packets. A run ends where the two programs count other packets.
 """
 
 import os
