@@ -148,6 +148,7 @@ fn search_place<Q: PacketQueue>(queue: &Q, passed: u64) -> usize
 
 // The place of the oldest packet with a time later than `passed`, or the number of packets. Where packets follow one another tick by
 // tick it is found at once.
+#[inline(never)]
 fn first_place<Q: PacketQueue>(queue: &Q, passed: u64) -> usize
     requires { IsRising (Q.held queue.now).items }
     ensures { IsPlaceAfter passed result (Q.held queue.now).items }
@@ -168,7 +169,7 @@ fn last_passed(from: u64, after: u64) -> u64
 }
 
 // The oldest packet from `from` to `to` that is newer than `after`, with its time. `next` becomes the place after it.
-#[inline(never)]
+#[inline(always)]
 fn search_in<'a, Q: PacketQueue>(
     queue: &'a Q,
     from: u64,
