@@ -32,5 +32,4 @@ step_answers s (Begin from to) = begin_cases s (λ r. r.0 ≢ Err NoMemory) from
 step_answers s Next = next_cases s (λ r. r.0 ≢ Err NoMemory) (λ same. cc same) (λ r p on found same. cc same) (λ same. cc same)
 step_answers s Abort = abort_cases s (λ r. r.0 ≢ Err NoMemory) (λ same. cc same) (λ same. cc same)
 step_answers s (Delete limit) = delete_cases s (λ r. r.0 ≢ Err NoMemory) limit (λ busy same. cc same) (λ idle same. cc same)
-step_answers s Enable = λ same. cc same
-step_answers s Disable = λ same. cc same
+step_answers s e = λ same. cc same

@@ -3,9 +3,9 @@ use Rattle.std.proofs.Common.{arith}
 use Rattle.mm_store.specs.Laws.{LoseAlike}
 use Rattle.mm_store.proofs.ContentLemmas.{count_up_to-kept}
 use Rattle.mm_desk.specs.declared.event.Event.{Event}
-use Rattle.mm_desk.specs.declared.event.Event.TheVariants.{Offer, Begin, Next, Abort, Delete, Enable, Disable}
+use Rattle.mm_desk.specs.declared.event.Event.TheVariants.{Offer, Delete}
 use Rattle.mm_desk.specs.Machine.{State, Balances, IsState, step}
-use Rattle.mm_desk.proofs.Cases.{offer_cases, begin_cases, next_cases, abort_cases, delete_cases}
+use Rattle.mm_desk.proofs.Cases.{offer_cases, delete_cases, quiet_leaves}
 
 -- what was offered is lost, deleted or held after each event
 pub balanced : LoseAlike → (s : State) → IsState s → (e : Event) → Balances (step s e).1
@@ -14,10 +14,6 @@ balanced alike s sound (Offer now packet) =
     (λ last offered.
     let lost = (alike s.store now packet sound.store.has_room sound.store.within (omega (arith, sound.store.last_fits, last))).lost in
     omega (arith, lost, sound.balance))
-balanced alike s sound (Begin from to) = begin_cases s (λ r. Balances r.1) from to (λ fault other. sound.balance) (λ idle. sound.balance)
-balanced alike s sound Next = next_cases s (λ r. Balances r.1) sound.balance (λ r p on found. sound.balance) sound.balance
-balanced alike s sound Abort = abort_cases s (λ r. Balances r.1) sound.balance sound.balance
 balanced alike s sound (Delete limit) =
     delete_cases s (λ r. Balances r.1) limit (λ busy. sound.balance) (λ idle. omega (arith, sound.balance, count_up_to-kept limit s.store.content))
-balanced alike s sound Enable = sound.balance
-balanced alike s sound Disable = sound.balance
+balanced alike s sound e = quiet_leaves s e tt Balances (λ storage retrieval. sound.balance)

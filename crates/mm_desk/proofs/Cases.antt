@@ -1,16 +1,24 @@
 -- The ways that each call of the machine may go.
-use Rattle.std.proofs.Common.{◌≡◌, ◌≢◌, ℕ, ◌+◌, true, false, ltb, max, refl}
+use Rattle.std.proofs.Common.{◌≡◌, ◌≢◌, ℕ, ◌+◌, Bool, true, false, ltb, max, refl}
 use Rattle.std.specs.Prelude.{Option, Some, None, Result, Ok, Err, ◌==◌, ◌||◌, not, is_some}
 use Rattle.std.proofs.lemmas.Bool.{cond_both, or_parts, eqb-false, ne_eqb}
 use Rattle.mm_packet.specs.Packet.{SpacePacket}
 use Rattle.mm_store.specs.declared.stored.Stored.{Stored}
 use Rattle.mm_store.specs.Content.{clock_end, put, put_timed, first_in, delete_up_to, count_up_to}
+use Rattle.mm_desk.specs.declared.event.Event.{Event}
+use Rattle.mm_desk.specs.declared.event.Event.TheVariants.{Offer, Begin, Next, Abort, Delete, Enable, Disable}
 use Rattle.mm_desk.specs.declared.fault.Fault.{Fault}
 use Rattle.mm_desk.specs.declared.fault.Fault.TheVariants.{Disabled, Busy, Idle, BadRange, ClockEnd, NoMemory}
 use Rattle.mm_desk.specs.declared.reply.Offered.{Offered}
 use Rattle.mm_desk.specs.declared.reply.Returned.{Returned}
 use Rattle.mm_desk.specs.declared.state.Retrieval.{Retrieval}
-use Rattle.mm_desk.specs.Machine.{State, answer_of, after_put, offer, begin, give, next_of, next, abort, delete}
+use Rattle.mm_desk.specs.Machine.{State, answer_of, after_put, offer, begin, give, next_of, next, abort, delete, step}
+
+-- an event is neither an offer nor a deletion
+abbrev pub IsQuiet : Event → Type 0
+IsQuiet (Offer now packet) = ⊥
+IsQuiet (Delete limit) = ⊥
+IsQuiet other = Unit {0}
 
 module _ (s : State) where
   -- an offer is refused, or the packet is put
@@ -60,3 +68,14 @@ module _ (s : State) where
       → (is_some s.retrieval ≡ false
       → P (Ok (count_up_to limit s.store.content), record s { store = delete_up_to s.store limit; deleted = s.deleted + count_up_to limit s.store.content })) → P (delete s limit)
   delete_cases P limit refused made = cond_both (is_some s.retrieval) _ _ P refused made
+
+  -- an event that is neither an offer nor a deletion changes the storage switch and the retrieval alone
+  pub quiet_leaves : (e : Event) → IsQuiet e → (P : State → Type 0)
+      → ((storage : Bool) (retrieval : Option Retrieval) → P (record s { storage = storage; retrieval = retrieval })) → P (step s e).1
+  quiet_leaves (Offer now packet) quiet P stays = absurd quiet
+  quiet_leaves (Begin from to) quiet P stays = begin_cases (λ r. P r.1) from to (λ fault other. stays _ _) (λ idle. stays _ _)
+  quiet_leaves Next quiet P stays = next_cases (λ r. P r.1) (stays _ _) (λ r p on found. stays _ _) (stays _ _)
+  quiet_leaves Abort quiet P stays = abort_cases (λ r. P r.1) (stays _ _) (stays _ _)
+  quiet_leaves (Delete limit) quiet P stays = absurd quiet
+  quiet_leaves Enable quiet P stays = stays _ _
+  quiet_leaves Disable quiet P stays = stays _ _

@@ -5,11 +5,11 @@ use Rattle.mm_store.specs.Content.{IsStore}
 use Rattle.mm_store.specs.Laws.{PutsKeepStores, DeletionsKeepStores}
 use Rattle.mm_desk.specs.declared.entry.Entry.{Entry}
 use Rattle.mm_desk.specs.declared.event.Event.{Event}
-use Rattle.mm_desk.specs.declared.event.Event.TheVariants.{Offer, Begin, Next, Abort, Delete, Enable, Disable}
+use Rattle.mm_desk.specs.declared.event.Event.TheVariants.{Offer, Delete}
 use Rattle.mm_desk.specs.Laws.{KeepBalance, HasTimes}
 use Rattle.mm_desk.specs.Machine.{State, IsState, step}
 use Rattle.mm_desk.specs.Runs.{replay}
-use Rattle.mm_desk.proofs.Cases.{offer_cases, begin_cases, next_cases, abort_cases, delete_cases}
+use Rattle.mm_desk.proofs.Cases.{offer_cases, delete_cases, quiet_leaves}
 
 module _ (balance : KeepBalance) (puts : PutsKeepStores) (deletions : DeletionsKeepStores) (s : State) (sound : IsState s) where
   -- the store is one, and the counter of offers fits
@@ -22,12 +22,8 @@ module _ (balance : KeepBalance) (puts : PutsKeepStores) (deletions : DeletionsK
   by_event : (e : Event) → HasTimes e → Fit (step s e).1
   by_event (Offer now packet) fits =
       offer_cases s (λ r. Fit r.1) now packet (λ fault other. same) (λ last offered. (puts s.store now packet fits sound.store, omega (arith, sound.offered_fits, offered)))
-  by_event (Begin from to) fits = begin_cases s (λ r. Fit r.1) from to (λ fault other. same) (λ idle. same)
-  by_event Next fits = next_cases s (λ r. Fit r.1) same (λ r p on found. same) same
-  by_event Abort fits = abort_cases s (λ r. Fit r.1) same same
   by_event (Delete limit) fits = delete_cases s (λ r. Fit r.1) limit (λ busy. same) (λ idle. (deletions s.store limit sound.store, sound.offered_fits))
-  by_event Enable fits = same
-  by_event Disable fits = same
+  by_event e fits = quiet_leaves s e tt Fit (λ storage retrieval. same)
 
   -- an event whose times fit leaves a state
   pub event_keeps : (e : Event) → HasTimes e → IsState (step s e).1

@@ -12,7 +12,7 @@ use Rattle.mm_store.specs.Content.{Store, put_full, put_timed}
 use Rattle.mm_store.specs.Laws.{handed_back}
 use Rattle.mm_desk.specs.declared.entry.Entry.{Entry}
 use Rattle.mm_desk.specs.declared.event.Event.{Event}
-use Rattle.mm_desk.specs.declared.event.Event.TheVariants.{Offer, Begin, Next, Abort, Delete, Enable, Disable}
+use Rattle.mm_desk.specs.declared.event.Event.TheVariants.{Offer}
 use Rattle.mm_desk.specs.declared.reply.Offered.{Offered}
 use Rattle.mm_desk.specs.declared.reply.Reply.{Reply}
 use Rattle.mm_desk.specs.declared.reply.Reply.TheVariants as reply
@@ -89,12 +89,7 @@ event_leaves s (Offer now packet) answered fits same taken =
     is_ok : (answer : Result Offered Returned) → IsTaken (Offer now packet) (reply.Offered answer) → IsOk answer
     is_ok (Ok other) accepted = search rules
     is_ok (Err back) refused = absurd refused
-event_leaves s (Begin from to) reply fits same taken = absurd taken
-event_leaves s Next reply fits same taken = absurd taken
-event_leaves s Abort reply fits same taken = absurd taken
-event_leaves s (Delete limit) reply fits same taken = absurd taken
-event_leaves s Enable reply fits same taken = absurd taken
-event_leaves s Disable reply fits same taken = absurd taken
+event_leaves s event reply fits same taken = absurd taken
 
 -- what offers leave has room
 HasRoom-after : (s t : State) (n : ℕ) → HasRoom s.store → Leaves s t n → HasRoom t.store
