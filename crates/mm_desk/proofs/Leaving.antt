@@ -100,16 +100,7 @@ HasRoom-after s t n fits left = record {
 
 -- no offer leaves the state
 leaves_none : (s : State) → HasRoom s.store → Leaves s s 0
-leaves_none s fits = record {
-  volume = omega (arith, fits.within);
-  lost = omega (arith, fits.within);
-  kind = refl;
-  size = refl;
-  storage = refl;
-  retrieval = refl;
-  offered = omega arith;
-  deleted = refl;
-}
+leaves_none s fits = search (arith, rules, fits.within)
 
 -- one offer and then more
 leaves_more : (s t u : State) (n : ℕ) → HasRoom s.store → Leaves s t 1 → Leaves t u n → Leaves s u (suc n)
