@@ -154,7 +154,7 @@ by_calls s Next none later =
     next_cases s (λ r. MayGive r.1 later → MayGive s (found_in r.0 ++ later)) (λ may. may)
     (λ r p on found may.
     let within = find-some (λ q. Unit {0}) (is_in r.from r.to r.after) s.store.content p (λ k d within. tt) found in
-    let after : r.after < p.time = ltb-true r.after p.time (and_parts _ _ within.0).1 in
+    let after : r.after < p.time = grind (arith, nat_tests, within.0) in
     let above = All-weaker (λ (q : Stored). p.time < q.time) (λ (q : Stored). r.after < q.time) (λ q less. omega arith) later may.1 in
     (AllPairs-cons (λ p q. p.time < q.time) p later may.1 may.0, rw on (All-cons (λ (q : Stored). r.after < q.time) p later after above)))
     (at_end s later)

@@ -11,11 +11,6 @@ abbrev pub IsDone : Reply → Type 0
 IsDone (reply.Done done) = done ≢ Err NoMemory
 IsDone other = ⊥
 
--- how many packets are deleted was answered, and not that there is no memory
-abbrev pub IsDeleted : Reply → Type 0
-IsDeleted (reply.Deleted deleted) = deleted ≢ Err NoMemory
-IsDeleted other = ⊥
-
 -- the reply is of the event's sort, and not that there is no memory; a packet that is handed back is the one offered
 abbrev pub Answers : Event → Reply → Type 0
 Answers (Offer now packet) (reply.Offered (Ok offered)) = Unit {0}
@@ -25,6 +20,7 @@ Answers (Begin from to) reply = IsDone reply
 Answers Next (reply.Given given) = given ≢ Err NoMemory
 Answers Next other = ⊥
 Answers Abort reply = IsDone reply
-Answers (Delete limit) reply = IsDeleted reply
+Answers (Delete limit) (reply.Deleted deleted) = deleted ≢ Err NoMemory
+Answers (Delete limit) other = ⊥
 Answers Enable reply = IsDone reply
 Answers Disable reply = IsDone reply

@@ -1,7 +1,6 @@
 //! What a store answers.
 ghost use Rattle.std.specs.Prelude.{◌≡◌, ◌≤◌, ◌↔◌, IsTrue};
 ghost use Rattle.mm_store.specs.Laws.{handed_back};
-ghost use Rattle.mm_desk.specs.Answers.{IsDone, IsDeleted};
 ghost use Rattle.mm_desk.specs.Machine.{answer_of};
 
 use crate::fault::Fault;
@@ -75,28 +74,6 @@ impl Reply {
             (Reply::Given(answer), Reply::Given(second)) => are_same_packets(answer, second),
             (Reply::Deleted(answer), Reply::Deleted(second)) => answer == second,
             _ => false,
-        }
-    }
-
-    // Whether what was asked is done.
-    pub(crate) fn done(self) -> Result<(), Fault>
-        requires done { IsDone self }
-        ensures reply { self ≡ Reply.Done result }
-    {
-        match self {
-            Reply::Done(answer) => answer,
-            _ => unreachable!(),
-        }
-    }
-
-    // How many packets are deleted.
-    pub(crate) fn deleted(self) -> Result<u32, Fault>
-        requires deleted { IsDeleted self }
-        ensures reply { self ≡ Reply.Deleted result }
-    {
-        match self {
-            Reply::Deleted(answer) => answer,
-            _ => unreachable!(),
         }
     }
 }

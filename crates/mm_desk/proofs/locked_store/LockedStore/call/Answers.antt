@@ -10,15 +10,15 @@ use Rattle.mm_desk.proofs.locked_store.LockedStore.call.Goals as goal
 
 pub invariant_of-self-2 : goal.invariant_of-self-2
 invariant_of-self-2 g c =
-    rw (c.push_reserved.ensures.items, c.reserve.ensures.items, c.requires.logged, c.in_ok-copies.ensures.copies.0) (run_more _ _ _ _ _ _ _ c.self.invariant c.in_ok-copies.ensures.answer)
+    rw (c.push_reserved.ensures.items, c.reserve.ensures.items, c.requires.logged, c.in_ok-copies.copies.same.0) (run_more _ _ _ _ _ _ _ c.self.invariant c.in_ok-copies.ensures.answer)
 
 pub returns-clause-log : goal.returns-clause-log
 returns-clause-log g c =
-    rw (c.push_reserved.ensures.items, c.reserve.ensures.items, c.requires.logged, c.in_ok-copies.ensures.copies.0)
+    rw (c.push_reserved.ensures.items, c.reserve.ensures.items, c.requires.logged, c.in_ok-copies.copies.same.0)
     (ap (λ (s : LockedStoreView). s.log ++ entry c.args.seat c.args.event c.in_ok-copies.copies.answer ∷ []) c.self.view_is)
 
 pub returns-clause-entry : goal.returns-clause-entry
-returns-clause-entry g c = rw (c.requires.listed, c.in_ok-copies.ensures.copies.1)
+returns-clause-entry g c = rw (c.requires.listed, c.in_ok-copies.copies.same.1)
 
 pub returns-clause-answers : goal.returns-clause-answers
 returns-clause-answers g c =
