@@ -2,16 +2,9 @@
 use Rattle.std.proofs.Common.{◌≢◌, ℕ, ltb, List, [], ◌∷◌, length, refl}
 use Rattle.std.specs.Prelude.{Err}
 use Rattle.std.proofs.lemmas.Bool.{cond_both}
-use Rattle.mm_base.specs.declared.kind.Kind.{Kind}
-use Rattle.mm_base.specs.declared.kind.Kind.TheVariants.{Circular, Bounded}
-use Rattle.mm_packet.specs.Packet.{SpacePacket}
-use Rattle.mm_store.specs.declared.stored.Stored.{Stored}
-use Rattle.mm_store.specs.declared.put.Put.{Put}
+use Rattle.mm_desk.specs.Types.{Kind, Circular, Bounded, SpacePacket, Stored, Put, Event, Offer, Begin, Next, Abort, Delete, NoMemory}
 use Rattle.mm_store.specs.Content.{Store, put_full}
 use Rattle.mm_desk.specs.Answers.{Answers}
-use Rattle.mm_desk.specs.declared.event.Event.{Event}
-use Rattle.mm_desk.specs.declared.event.Event.TheVariants.{Offer, Begin, Next, Abort, Delete, Enable, Disable}
-use Rattle.mm_desk.specs.declared.fault.Fault.TheVariants.{NoMemory}
 use Rattle.mm_desk.specs.declared.reply.Reply.TheVariants as reply
 use Rattle.mm_desk.specs.Machine.{State, answer_of, step}
 use Rattle.mm_desk.proofs.Cases.{timed_cases, begin_cases, next_cases, abort_cases, delete_cases}

@@ -2,8 +2,7 @@
 use Rattle.std.proofs.Common.{arith}
 use Rattle.mm_store.specs.Laws.{LoseAlike}
 use Rattle.mm_store.proofs.ContentLemmas.{count_up_to-kept}
-use Rattle.mm_desk.specs.declared.event.Event.{Event}
-use Rattle.mm_desk.specs.declared.event.Event.TheVariants.{Offer, Delete}
+use Rattle.mm_desk.specs.Types.{Event, Offer, Delete}
 use Rattle.mm_desk.specs.Machine.{State, Balances, IsState, step}
 use Rattle.mm_desk.proofs.Cases.{offer_cases, delete_cases, quiet_leaves}
 

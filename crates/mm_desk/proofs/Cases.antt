@@ -2,16 +2,9 @@
 use Rattle.std.proofs.Common.{◌≡◌, ◌≢◌, ℕ, ◌+◌, Bool, true, false, ltb, max, refl}
 use Rattle.std.specs.Prelude.{Option, Some, None, Result, Ok, Err, ◌==◌, ◌||◌, not, is_some}
 use Rattle.std.proofs.lemmas.Bool.{cond_both, or_parts, eqb-false, ne_eqb}
-use Rattle.mm_packet.specs.Packet.{SpacePacket}
-use Rattle.mm_store.specs.declared.stored.Stored.{Stored}
+use Rattle.mm_desk.specs.Types.{SpacePacket, Stored, Event, Offer, Begin, Next, Abort, Delete, Enable, Disable, Fault, Disabled, Busy, Idle, BadRange, ClockEnd}
+use Rattle.mm_desk.specs.Types.{NoMemory, Offered, Returned, Retrieval}
 use Rattle.mm_store.specs.Content.{clock_end, put, put_timed, first_in, delete_up_to, count_up_to}
-use Rattle.mm_desk.specs.declared.event.Event.{Event}
-use Rattle.mm_desk.specs.declared.event.Event.TheVariants.{Offer, Begin, Next, Abort, Delete, Enable, Disable}
-use Rattle.mm_desk.specs.declared.fault.Fault.{Fault}
-use Rattle.mm_desk.specs.declared.fault.Fault.TheVariants.{Disabled, Busy, Idle, BadRange, ClockEnd, NoMemory}
-use Rattle.mm_desk.specs.declared.reply.Offered.{Offered}
-use Rattle.mm_desk.specs.declared.reply.Returned.{Returned}
-use Rattle.mm_desk.specs.declared.state.Retrieval.{Retrieval}
 use Rattle.mm_desk.specs.Machine.{State, answer_of, after_put, offer, begin, give, next_of, next, abort, delete, step}
 
 -- an event is neither an offer nor a deletion

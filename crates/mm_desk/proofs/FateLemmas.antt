@@ -1,8 +1,8 @@
 -- What becomes of packets: one event first, then any list of them.
-use Rattle.std.proofs.Common.{◌≡◌, ℕ, ◌+◌, ◌<◌, Bool, true, ltb, leb, List, [], ◌∷◌, ◌++◌, length, filter, All, Contains, refl, sym, ap, ◌∙◌, arith, length-append, append_assoc, subst}
+use Rattle.std.proofs.Common.{◌≡◌, ℕ, ◌+◌, ◌<◌, Bool, true, ltb, leb, List, [], ◌∷◌, ◌++◌, length, filter, All, Contains, refl, arith, length-append, append_assoc, subst}
 use Rattle.std.specs.Prelude.{Option, Some, None, Result, IsPermutation}
 use Rattle.std.specs.List.{find}
-use Rattle.std.proofs.lemmas.Bool.{and_parts, cond_both, ltb-true}
+use Rattle.std.proofs.lemmas.Bool.{cond_both}
 use Rattle.std.proofs.lemmas.Bool.Decides.{nat_tests}
 use Rattle.std.proofs.lemmas.List.Sums.{length-filter}
 use Rattle.std.proofs.lemmas.List.{append-nil, map-append, length-map}
@@ -11,18 +11,9 @@ use Rattle.std.proofs.lemmas.List.Elements.{All-nil, All-cons, All-head, All-tai
 use Rattle.mm_base.proofs.Elements.{All-unmapped}
 use Rattle.mm_base.proofs.Pairs.{All-front, All-back}
 use Rattle.std.proofs.lemmas.List.Kept.{AllPairs-cons}
-use Rattle.mm_base.specs.declared.kind.Kind.{Kind}
-use Rattle.mm_base.specs.declared.kind.Kind.TheVariants.{Circular, Bounded}
-use Rattle.mm_packet.specs.Packet.{SpacePacket}
-use Rattle.mm_store.specs.declared.stored.Stored.{Stored}
-use Rattle.mm_store.specs.declared.put.Put.{Put}
+use Rattle.mm_desk.specs.Types.{Kind, Circular, SpacePacket, Stored, Put, Event, Offer, Begin, Next, Abort, Delete, Offered, Returned}
+use Rattle.mm_desk.specs.Types.{Retrieval}
 use Rattle.mm_store.specs.Content.{Store, IsRising, is_in, put_full, put_timed, kept_after, count_up_to}
-use Rattle.mm_store.specs.Laws.{handed_back}
-use Rattle.mm_desk.specs.declared.event.Event.{Event}
-use Rattle.mm_desk.specs.declared.event.Event.TheVariants.{Offer, Begin, Next, Abort, Delete, Enable, Disable}
-use Rattle.mm_desk.specs.declared.reply.Offered.{Offered}
-use Rattle.mm_desk.specs.declared.reply.Returned.{Returned}
-use Rattle.mm_desk.specs.declared.state.Retrieval.{Retrieval}
 use Rattle.mm_desk.specs.Fates.{packets_of, accepted, left_out, found_in, taken, given_up, deleted, given, over, known, IsConserved, BeginsNone}
 use Rattle.mm_desk.specs.Machine.{State, answer_of, after_put, step}
 use Rattle.mm_desk.proofs.Cases.{offer_cases, timed_cases, next_cases, abort_cases, delete_cases, quiet_leaves}

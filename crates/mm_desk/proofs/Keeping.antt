@@ -3,9 +3,7 @@ use Rattle.std.proofs.Common.{◌<◌, ◌^◌, List, [], ◌∷◌, All, arith}
 use Rattle.std.proofs.lemmas.List.Elements.{All-head, All-tail}
 use Rattle.mm_store.specs.Content.{IsStore}
 use Rattle.mm_store.specs.Laws.{PutsKeepStores, DeletionsKeepStores}
-use Rattle.mm_desk.specs.declared.entry.Entry.{Entry}
-use Rattle.mm_desk.specs.declared.event.Event.{Event}
-use Rattle.mm_desk.specs.declared.event.Event.TheVariants.{Offer, Delete}
+use Rattle.mm_desk.specs.Types.{Entry, Event, Offer, Delete}
 use Rattle.mm_desk.specs.Laws.{KeepBalance, HasTimes}
 use Rattle.mm_desk.specs.Machine.{State, IsState, step}
 use Rattle.mm_desk.specs.Runs.{replay}

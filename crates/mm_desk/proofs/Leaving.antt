@@ -1,23 +1,11 @@
 -- What offers leave and lose.
-use Rattle.std.proofs.Common.{◌≡◌, ℕ, suc, ◌+◌, ◌≤◌, min, ltb, List, [], ◌∷◌, length, refl, ◌∙◌, subst, arith, length-append, rules}
-use Rattle.std.specs.Prelude.{Result, Ok, Err, IsOk}
+use Rattle.std.proofs.Common.{◌≡◌, ℕ, suc, ◌≤◌, ltb, List, [], ◌∷◌, length, refl, subst, arith, length-append, rules}
 use Rattle.std.proofs.lemmas.Bool.{ltb-true, ltb-false, cond_both}
 use Rattle.std.proofs.lemmas.List.Elements.{All-head, All-tail}
-use Rattle.mm_base.specs.declared.kind.Kind.{Kind}
-use Rattle.mm_base.specs.declared.kind.Kind.TheVariants.{Circular, Bounded}
-use Rattle.mm_packet.specs.Packet.{SpacePacket}
-use Rattle.mm_store.specs.declared.stored.Stored.{Stored}
-use Rattle.mm_store.specs.declared.put.Put.{Put}
+use Rattle.mm_desk.specs.Types.{Kind, Circular, Bounded, Stored, Put, Entry, Event, Offer}
 use Rattle.mm_store.specs.Content.{Store, put_full, put_timed}
-use Rattle.mm_store.specs.Laws.{handed_back}
-use Rattle.mm_desk.specs.declared.entry.Entry.{Entry}
-use Rattle.mm_desk.specs.declared.event.Event.{Event}
-use Rattle.mm_desk.specs.declared.event.Event.TheVariants.{Offer}
-use Rattle.mm_desk.specs.declared.reply.Offered.{Offered}
-use Rattle.mm_desk.specs.declared.reply.Reply.{Reply}
 use Rattle.mm_desk.specs.declared.reply.Reply.TheVariants as reply
-use Rattle.mm_desk.specs.declared.reply.Returned.{Returned}
-use Rattle.mm_desk.specs.Machine.{State, after_put, offer, step}
+use Rattle.mm_desk.specs.Machine.{State, after_put, step}
 use Rattle.mm_desk.specs.Offers.{IsTaken, AreTaken, IsShuffleOfEvents, Leaves, count_of}
 use Rattle.mm_desk.specs.Runs.{replay, IsLegal, IsRun}
 use Rattle.mm_desk.proofs.Cases.{timed_cases}

@@ -1,21 +1,15 @@
 -- What legal logs are: a run with one entry more, how many entries a shuffle has, and what a whole dump order gave and left.
-use Rattle.std.proofs.Common.{◌≡◌, inl, inr, ℕ, zero, suc, ◌+◌, ◌<◌, ◌≤◌, min, true, false, ltb, List, [], ◌∷◌, ◌++◌, length, take, All, refl, sym, ap, subst, ◌∙◌, add-one, arith, append_assoc, length-append}
-use Rattle.std.specs.Prelude.{filter, Option, Some, None, Result, Ok, is_some}
-use Rattle.std.proofs.lemmas.Bool.{lt-ltb, le-ltb, le-leb, ltb-true, ltb-false, and_right, cases_lt, cond_both}
+use Rattle.std.proofs.Common.{◌≡◌, inl, inr, ℕ, zero, suc, ◌+◌, ◌<◌, ◌≤◌, true, false, ltb, List, [], ◌∷◌, ◌++◌, length, take, All, refl, sym, ap, subst, ◌∙◌, add-one, arith, length-append}
+use Rattle.std.specs.Prelude.{filter, Option, Some, None, Ok, is_some}
+use Rattle.std.proofs.lemmas.Bool.{lt-ltb, le-ltb, ltb-false, and_right, cases_lt, cond_both}
 use Rattle.std.proofs.lemmas.Bool.Decides.{nat_tests}
-use Rattle.std.proofs.lemmas.List.{append-nil, length-map, take_all}
+use Rattle.std.proofs.lemmas.List.{length-map, take_all}
 use Rattle.std.proofs.lemmas.List.Elements.{All-head, All-tail, All-weaker}
 use Rattle.std.proofs.lemmas.List.Sums.{sum_by_more}
-use Rattle.mm_store.specs.declared.stored.Stored.{Stored}
-use Rattle.mm_store.specs.Content.{IsRising, clock_end, is_in, first_in, kept_after, count_up_to}
+use Rattle.mm_desk.specs.Types.{Stored, Entry, Event, Begin, Next, Reply, Retrieval}
+use Rattle.mm_store.specs.Content.{IsRising, clock_end, is_in, first_in, kept_after}
 use Rattle.mm_store.proofs.ContentLemmas.{IsRising-rest, later_than_oldest, kept_after-later, count_up_to-kept}
-use Rattle.mm_desk.specs.declared.entry.Entry.{Entry}
-use Rattle.mm_desk.specs.declared.event.Event.{Event}
-use Rattle.mm_desk.specs.declared.event.Event.TheVariants.{Begin, Next}
-use Rattle.mm_desk.specs.declared.fault.Fault.{Fault}
-use Rattle.mm_desk.specs.declared.reply.Reply.{Reply}
 use Rattle.mm_desk.specs.declared.reply.Reply.TheVariants as reply
-use Rattle.mm_desk.specs.declared.state.Retrieval.{Retrieval}
 use Rattle.mm_desk.specs.Machine.{State, IsState, give, step}
 use Rattle.mm_desk.specs.Offers.{IsShuffleOfEvents, count_of}
 use Rattle.mm_desk.specs.Orders.{begun, given, ended, last_time, removed, IsOrderOf, Dumps}

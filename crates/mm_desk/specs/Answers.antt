@@ -1,9 +1,6 @@
 -- Which replies an event may have. No public clause cites this module.
 use Rattle.std.specs.Prelude.{◌≡◌, ◌≢◌, Ok, Err}
-use Rattle.mm_desk.specs.declared.event.Event.{Event}
-use Rattle.mm_desk.specs.declared.event.Event.TheVariants.{Offer, Begin, Next, Abort, Delete, Enable, Disable}
-use Rattle.mm_desk.specs.declared.fault.Fault.TheVariants.{NoMemory}
-use Rattle.mm_desk.specs.declared.reply.Reply.{Reply}
+use Rattle.mm_desk.specs.Types.{Event, Offer, Begin, Next, Abort, Delete, Enable, Disable, NoMemory, Reply}
 use Rattle.mm_desk.specs.declared.reply.Reply.TheVariants as reply
 
 -- whether something is done was answered, and not that there is no memory
