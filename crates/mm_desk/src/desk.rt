@@ -173,8 +173,12 @@ impl<N: Opening> Desk<N> {
         let answered = self
             .locked
             .lock(rt)
-            .call(alloc, number, event, logged, listed)?;
-        seat.list.push_reserved(answered.entry);
+            .call(alloc, number, event, logged)?;
+        seat.list.push_reserved(Entry {
+            seat: number,
+            event: listed,
+            reply: answered.listed,
+        });
         Ok(answered.reply)
     }
 

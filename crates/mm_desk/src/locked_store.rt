@@ -31,11 +31,12 @@ impl<N: Opening> Model for LockedStore<N> {
     ghost invariant = { λ s. IsRun (opening_at N.states s.place) s.log.items s.state };
 }
 
-// The reply to a call, and the entry for the seat's list.
+// The reply to a call, and another one for the seat's list.
 #[derive(Drop)]
 pub(crate) struct Answered {
     pub(crate) reply: Reply,
-    pub(crate) entry: Entry,
+    pub(crate) listed: Reply,
+    ghost same: { listed ≡ reply },
 }
 
 impl<N: Opening> LockedStore<N> {
@@ -60,12 +61,9 @@ impl<N: Opening> LockedStore<N> {
         seat: u32,
         event: Event,
         logged: Event,
-        listed: Event,
     ) -> Result<Answered, Event>
         requires logged { logged ≡ event }
-        requires listed { listed ≡ event }
         ensures log { IfOk result (λ r. self.new.log ≡ self.old.log ++ entry seat event r.reply ∷ []) }
-        ensures entry { IfOk result (λ r. r.entry ≡ entry seat event r.reply) }
         ensures answers { IfOk result (λ r. Answers event r.reply) }
         ensures back { IfErr result (λ back. back ≡ event) }
         ensures err { OnErr result (self.new ≡ self.old) }
@@ -79,14 +77,9 @@ impl<N: Opening> LockedStore<N> {
             event: logged,
             reply: copies.logged,
         });
-        let entry = Entry {
-            seat,
-            event: listed,
-            reply: copies.listed,
-        };
         Ok(Answered {
             reply: copies.answer,
-            entry,
+            listed: copies.listed,
         })
     }
 }

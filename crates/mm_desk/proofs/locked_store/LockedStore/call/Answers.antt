@@ -17,9 +17,6 @@ returns-clause-log g c =
     rw (c.push_reserved.ensures.items, c.reserve.ensures.items, c.requires.logged, c.in_ok-copies.copies.same.0)
     (ap (λ (s : LockedStoreView). s.log ++ entry c.args.seat c.args.event c.in_ok-copies.copies.answer ∷ []) c.self.view_is)
 
-pub returns-clause-entry : goal.returns-clause-entry
-returns-clause-entry g c = rw (c.requires.listed, c.in_ok-copies.copies.same.1)
-
 pub returns-clause-answers : goal.returns-clause-answers
 returns-clause-answers g c =
     let reply = ap (λ (p : Reply × State). p.0) c.in_ok-copies.ensures.answer in
