@@ -163,10 +163,7 @@ impl<N: Opening> Desk<N> {
         if seat.list.reserve(1).is_err() {
             return Err(event);
         }
-        let Ok(logged) = event.copy(alloc) else {
-            return Err(event);
-        };
-        let Ok(listed) = event.copy(alloc) else {
+        let (Ok(logged), Ok(listed)) = (event.copy(alloc), event.copy(alloc)) else {
             return Err(event);
         };
         let number = seat.number();

@@ -100,10 +100,9 @@ impl StoreState {
         ensures back { IfErr result (λ back. back ≡ Event.Offer now packet) }
         ensures err { OnErr result (self.new ≡ self.old) }
     {
-        let Ok(logged) = self.foresee_offer(alloc, now, &packet) else {
-            return Err(Event::Offer(now, packet));
-        };
-        let Ok(listed) = self.foresee_offer(alloc, now, &packet) else {
+        let first = self.foresee_offer(alloc, now, &packet);
+        let second = self.foresee_offer(alloc, now, &packet);
+        let (Ok(logged), Ok(listed)) = (first, second) else {
             return Err(Event::Offer(now, packet));
         };
         let answer = self.offer(now, packet);
