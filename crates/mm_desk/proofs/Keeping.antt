@@ -22,26 +22,18 @@ balanced alike s sound (Delete limit) =
 balanced alike s sound e = quiet_leaves s e tt Balances (λ storage retrieval. sound.balance)
 
 module _ (balance : KeepBalance) (puts : PutsKeepStores) (deletions : DeletionsKeepStores) (s : State) (sound : IsState s) where
-  -- the store is one, and the counter of offers fits
-  abbrev Fit : State → Type 0
-  Fit t = IsStore t.store × (t.offered < 2 ^ 64)
-
-  same : Fit s
-  same = (sound.store, sound.offered_fits)
-
-  by_event : (e : Event) → HasTimes e → Fit (step s e).1
+  by_event : (e : Event) → HasTimes e → Balances (step s e).1 → IsState (step s e).1
   by_event (Offer now packet) fits =
-      offer_cases s (λ r. Fit r.1) now packet (λ fault other. same) (λ last offered. (puts s.store now packet fits sound.store, omega (arith, sound.offered_fits, offered)))
-  by_event (Delete limit) fits = delete_cases s (λ r. Fit r.1) limit (λ busy. same) (λ idle. (deletions s.store limit sound.store, sound.offered_fits))
-  by_event e fits = quiet_leaves s e tt Fit (λ storage retrieval. same)
+      offer_cases s (λ r. Balances r.1 → IsState r.1) now packet (λ fault other same. sound)
+      (λ last offered balanced. record { store = puts s.store now packet fits sound.store; balance = balanced; offered_fits = omega (arith, sound.offered_fits, offered) })
+  by_event (Delete limit) fits =
+      delete_cases s (λ r. Balances r.1 → IsState r.1) limit (λ busy same. sound)
+      (λ idle balanced. record { store = deletions s.store limit sound.store; balance = balanced; offered_fits = sound.offered_fits })
+  by_event e fits = quiet_leaves s e tt (λ t. Balances t → IsState t) (λ storage retrieval balanced. record { store = sound.store; balance = balanced; offered_fits = sound.offered_fits })
 
   -- an event whose times fit leaves a state
   pub event_keeps : (e : Event) → HasTimes e → IsState (step s e).1
-  event_keeps e fits = record {
-    store = (by_event e fits).0;
-    balance = balance s e sound;
-    offered_fits = (by_event e fits).1;
-  }
+  event_keeps e fits = by_event e fits (balance s e sound)
 
 -- a log whose times fit leaves a state
 pub log_keeps : KeepBalance → PutsKeepStores → DeletionsKeepStores → (s : State) (log : List Entry) → IsState s → All (λ e. HasTimes e.event) log → IsState (replay s log)

@@ -77,7 +77,9 @@ impl<N: Opening> Desk<N> {
         requires state { state ≡ opening_at N.states place }
         ensures desk { result ≡ desk_view place seats }
     {
-        let locked = Mutex::new(LockedStore::new(alloc, state, place));
+        let log = Vec::new(alloc);
+        let of = PhantomData;
+        let locked = Mutex::new(LockedStore { place, state, log, of });
         Desk {
             place,
             seats,

@@ -1,7 +1,7 @@
 //! What is under a desk's lock.
 ghost use Rattle.std.specs.Prelude.{◌≡◌, ◌∷◌, [], ◌++◌, IfOk, IfErr, OnErr};
 ghost use Rattle.mm_desk.specs.Answers.{Answers};
-ghost use Rattle.mm_desk.specs.Runs.{entry, opening_at};
+ghost use Rattle.mm_desk.specs.Runs.{entry};
 
 use crate::entry::Entry;
 use crate::event::Event;
@@ -40,20 +40,6 @@ pub(crate) struct Answered {
 }
 
 impl<N: Opening> LockedStore<N> {
-    // The state that was opened, and an empty log.
-    pub(crate) fn new(alloc: Global, state: StoreState, place: u32) -> LockedStore<N>
-        requires state { state ≡ opening_at N.states place }
-        ensures kept { result ≡ record { place = place; state = state; log = [] } }
-    {
-        let log = Vec::new(alloc);
-        LockedStore {
-            place,
-            state,
-            log,
-            of: PhantomData,
-        }
-    }
-
     // Makes the event's call for a seat and logs it. Where there is no memory the event comes back.
     pub(crate) fn call(
         &mut self,

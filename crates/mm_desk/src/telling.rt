@@ -21,8 +21,12 @@ pub(crate) struct ReplyCopies {
     ghost same: { (logged ≡ answer) × (listed ≡ answer) },
 }
 
-// One answer, made three times, as three replies of this case.
+// One answer as three replies of this case: a call's, or one that is made three times.
 macro_rules! copies {
+    ($case:ident of $called:expr) => {{
+        let answer = $called;
+        copies!($case, answer)
+    }};
     ($case:ident, $answer:expr) => {
         ReplyCopies {
             answer: Reply::$case($answer),
@@ -149,19 +153,10 @@ impl StoreState {
     {
         match event {
             Event::Offer(now, packet) => self.tell_offer(alloc, now, packet),
-            Event::Begin(from, to) => {
-                let answer = self.begin(from, to);
-                Ok(copies!(Done, answer))
-            }
+            Event::Begin(from, to) => Ok(copies!(Done of self.begin(from, to))),
             Event::Next => self.tell_next(alloc),
-            Event::Abort => {
-                let answer = self.abort();
-                Ok(copies!(Done, answer))
-            }
-            Event::Delete(limit) => {
-                let answer = self.delete(limit);
-                Ok(copies!(Deleted, answer))
-            }
+            Event::Abort => Ok(copies!(Done of self.abort())),
+            Event::Delete(limit) => Ok(copies!(Deleted of self.delete(limit))),
             Event::Enable => {
                 self.enable();
                 Ok(copies!(Done, Ok(())))
