@@ -12,12 +12,3 @@ pub invariant_of-self-2 : goal.invariant_of-self-2
 invariant_of-self-2 g c =
     rw (c.push_reserved.ensures.items, c.reserve.ensures.items, c.requires.logged, c.in_ok-copies.copies.same.0) (run_more _ _ _ _ _ _ _ c.self.invariant c.in_ok-copies.ensures.answer)
 
-pub returns-clause-log : goal.returns-clause-log
-returns-clause-log g c =
-    rw (c.push_reserved.ensures.items, c.reserve.ensures.items, c.requires.logged, c.in_ok-copies.copies.same.0)
-    (ap (λ (s : LockedStoreView). s.log ++ entry c.args.seat c.args.event c.in_ok-copies.copies.answer ∷ []) c.self.view_is)
-
-pub returns-clause-answers : goal.returns-clause-answers
-returns-clause-answers g c =
-    let reply = ap (λ (p : Reply × State). p.0) c.in_ok-copies.ensures.answer in
-    subst (λ (r : Reply). Answers c.args.event r) reply (step_answers c.self.inside.state c.args.event)
