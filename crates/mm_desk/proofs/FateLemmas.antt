@@ -16,7 +16,7 @@ use Rattle.mm_desk.specs.Types.{Retrieval}
 use Rattle.mm_store.specs.Content.{Store, IsRising, is_in, put_full, put_timed, kept_after, count_up_to}
 use Rattle.mm_desk.specs.Fates.{packets_of, accepted, left_out, found_in, taken, given_up, deleted, given, over, known, IsConserved, BeginsNone}
 use Rattle.mm_desk.specs.Machine.{State, answer_of, after_put, step}
-use Rattle.mm_desk.proofs.Cases.{offer_cases, timed_cases, next_cases, abort_cases, delete_cases, quiet_leaves}
+use Rattle.mm_desk.proofs.Cases.{offer_cases, put_cases, next_cases, abort_cases, delete_cases, quiet_leaves}
 
 -- what one event does: what was held and what it takes is what it deletes, what is held then, and what it gives up
 record Moves (s t : State) (took gone left : List SpacePacket) : Type 0 where
@@ -33,24 +33,6 @@ module _ (s : State) where
   stays : (storage : Bool) (retrieval : Option Retrieval) → Moves s (record s { storage = storage; retrieval = retrieval }) [] [] []
   stays storage retrieval = record { packets = IsPermutation-refl _; lost = omega arith; deleted = omega arith }
 
-  -- what a put does
-  abbrev ByPut : Stored → Put × Store → Type 0
-  ByPut new done = ByOffer s new.packet (answer_of done.0, after_put s done)
-
-  by_full : (kind : Kind) (held : List Stored) (new : Stored) → s.store.content ≡ held → ByPut new (put_full kind held s.store new)
-  by_full Circular (oldest ∷ later) new is = record {
-    packets = rw (is, map-append) (IsPermutation-sym _ _ (IsPermutation-to_front (packets_of later ++ new.packet ∷ []) oldest.packet));
-    lost = refl;
-    deleted = omega arith;
-  }
-  by_full kind held new is = record { packets = IsPermutation-refl _; lost = refl; deleted = omega arith }
-
-  by_put : (new : Stored) → ByPut new (put_timed s.store new)
-  by_put new =
-      cond_both (ltb (length s.store.content) s.store.size) _ _ (ByPut new)
-      (λ free. record { packets = rw (append-nil, map-append) (IsPermutation-refl _); lost = refl; deleted = omega arith })
-      (λ full. by_full s.store.kind s.store.content new refl)
-
   -- the packets up to a limit and those after it are all
   parted : (limit : ℕ) (held : List Stored) → IsPermutation (packets_of held ++ []) (packets_of (filter (λ p. leb p.time limit) held) ++ packets_of (kept_after limit held) ++ [])
   parted limit held =
@@ -63,7 +45,13 @@ module _ (s : State) where
   counted limit held = simp (length-map, length-filter)
 
   by_event : (e : Event) → Moves s (step s e).1 (taken s e) (deleted s e) (given_up s e)
-  by_event (Offer now packet) = timed_cases s (ByOffer s packet) now packet (λ fault other. stays _ _) (λ new is. rw (← is) (by_put new))
+  by_event (Offer now packet) =
+      put_cases s (ByOffer s packet) now packet (λ fault other. stays _ _)
+      (λ new is free. rw (← is) (record { packets = rw (append-nil, map-append) (IsPermutation-refl _); lost = refl; deleted = omega arith }))
+      (λ new is oldest later held full.
+      let packets = IsPermutation-sym _ _ (IsPermutation-to_front (packets_of later ++ new.packet ∷ []) oldest.packet) in
+      rw (← is) (record { packets = rw (held, map-append) packets; lost = refl; deleted = omega arith }))
+      (λ full. record { packets = IsPermutation-refl _; lost = refl; deleted = omega arith })
   by_event (Delete limit) =
       delete_cases s (λ r. Moves s r.1 [] (deleted s (Delete limit)) []) limit (λ busy. rw busy (stays _ _))
       (λ idle. rw idle (record { packets = parted limit s.store.content; lost = omega arith; deleted = omega (arith, counted limit s.store.content) }))

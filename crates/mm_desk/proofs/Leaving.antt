@@ -1,5 +1,5 @@
 -- What offers leave and lose.
-use Rattle.std.proofs.Common.{◌≡◌, ℕ, suc, ◌≤◌, ltb, List, [], ◌∷◌, length, refl, subst, arith, length-append, rules}
+use Rattle.std.proofs.Common.{◌≡◌, ℕ, suc, ◌≤◌, ltb, List, [], ◌∷◌, length, refl, subst, ap, arith, length-append, rules}
 use Rattle.std.proofs.lemmas.Bool.{ltb-true, ltb-false, cond_both}
 use Rattle.std.proofs.lemmas.List.Elements.{All-head, All-tail}
 use Rattle.mm_desk.specs.Types.{Kind, Circular, Bounded, Stored, Put, Entry, Event, Offer}
@@ -8,28 +8,16 @@ use Rattle.mm_desk.specs.declared.reply.Reply.TheVariants as reply
 use Rattle.mm_desk.specs.Machine.{State, after_put, step}
 use Rattle.mm_desk.specs.Offers.{IsTaken, AreTaken, IsShuffleOfEvents, Leaves, count_of}
 use Rattle.mm_desk.specs.Runs.{replay, IsLegal, IsRun}
-use Rattle.mm_desk.proofs.Cases.{timed_cases}
+use Rattle.mm_desk.proofs.Cases.{put_cases}
 use Rattle.mm_desk.proofs.Logs.{count_of_shuffle}
-
--- a put into a full store leaves it full
-full_leaves : (kind : Kind) (held : List Stored) (s : State) (new : Stored) → length held ≡ length s.store.content → length held ≡ s.store.size → 1 ≤ s.store.size
-    → Leaves s (after_put s (put_full kind held s.store new)) 1
-full_leaves Circular (x ∷ xs) s new same full room = search (arith, rules, length-append xs (new ∷ []))
-full_leaves Circular [] s new same full room = absurd (omega arith)
-full_leaves Bounded held s new same full room = search (arith, rules)
-
--- a put before the end of the clock leaves one packet more, or a full store
-timed_leaves : (s : State) (new : Stored) → length s.store.content ≤ s.store.size → 1 ≤ s.store.size → Leaves s (after_put s (put_timed s.store new)) 1
-timed_leaves s new within room =
-    cond_both (ltb (length s.store.content) s.store.size) _ _ (λ (done : Put × Store). Leaves s (after_put s done) 1)
-    (λ free. search (arith, rules, ltb-true (length s.store.content) s.store.size free, length-append s.store.content (new ∷ [])))
-    (λ full. full_leaves s.store.kind s.store.content s new refl (omega (arith, ltb-false (length s.store.content) s.store.size full)) room)
 
 -- an event that is an offer taken leaves one packet more, or a full store
 event_leaves : (s : State) (event : Event) → length s.store.content ≤ s.store.size → 1 ≤ s.store.size → IsTaken event (step s event).0 → Leaves s (step s event).1 1
 event_leaves s (Offer now packet) within room =
-    timed_cases s (λ r. IsTaken (Offer now packet) (reply.Offered r.0) → Leaves s r.1 1) now packet (λ fault other refused. absurd refused)
-    (λ new is taken. timed_leaves s new within room)
+    put_cases s (λ r. IsTaken (Offer now packet) (reply.Offered r.0) → Leaves s r.1 1) now packet (λ fault other refused. absurd refused)
+    (λ new is free taken. search (arith, rules, length-append s.store.content (new ∷ [])))
+    (λ new is oldest later held full taken. let count = ap length held in search (arith, rules, length-append later (new ∷ []), count))
+    (λ full taken. search (arith, rules))
 event_leaves s event within room = λ taken. absurd taken
 
 -- one offer and then more
