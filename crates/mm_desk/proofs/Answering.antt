@@ -1,12 +1,10 @@
 -- The machine's reply to an event is of its sort.
-use Rattle.std.proofs.Common.{◌≢◌, ℕ, ltb, List, [], ◌∷◌, length, refl}
+use Rattle.std.proofs.Common.{◌≢◌, refl}
 use Rattle.std.specs.Prelude.{Err}
-use Rattle.std.proofs.lemmas.Bool.{cond_both}
-use Rattle.mm_desk.specs.Types.{Kind, Circular, Bounded, SpacePacket, Stored, Put, Event, Offer, Begin, Next, Abort, Delete, NoMemory}
-use Rattle.mm_store.specs.Content.{Store, put_full}
+use Rattle.mm_desk.specs.Types.{Event, Offer, Begin, Next, Abort, Delete, NoMemory}
 use Rattle.mm_desk.specs.Answers.{Answers}
 use Rattle.mm_desk.specs.declared.reply.Reply.TheVariants as reply
-use Rattle.mm_desk.specs.Machine.{State, answer_of, step}
+use Rattle.mm_desk.specs.Machine.{State, step}
 use Rattle.mm_desk.proofs.Cases.{put_cases, begin_cases, next_cases, abort_cases, delete_cases}
 
 -- the reply is of the event's sort

@@ -3,7 +3,7 @@ use Rattle.std.proofs.Common.{◌≡◌, ◌≢◌, ℕ, ◌+◌, ◌<◌, ◌�
 use Rattle.std.specs.Prelude.{Option, Some, None, Result, Ok, Err, ◌==◌, ◌||◌, not, is_some}
 use Rattle.std.proofs.lemmas.Bool.{cond_both, or_parts, eqb-false, ne_eqb, ltb-true, ltb-false}
 use Rattle.mm_desk.specs.Types.{SpacePacket, Stored, Event, Offer, Begin, Next, Abort, Delete, Enable, Disable, Fault, Disabled, Busy, Idle, BadRange, ClockEnd}
-use Rattle.mm_desk.specs.Types.{NoMemory, Offered, Kept, KeptOver, Lost, Returned, Retrieval, Kind, Circular, Put}
+use Rattle.mm_desk.specs.Types.{NoMemory, Offered, Kept, KeptOver, Lost, Returned, Retrieval, Kind, Circular}
 use Rattle.mm_store.specs.declared.put.Put.TheVariants as put
 use Rattle.mm_store.specs.Content.{clock_end, put, put_full, with_newest, first_in, delete_up_to, count_up_to}
 use Rattle.mm_desk.specs.Machine.{State, answer_of, after_put, offer, begin, give, next_of, next, abort, delete, step}

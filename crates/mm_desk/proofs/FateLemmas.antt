@@ -11,11 +11,11 @@ use Rattle.std.proofs.lemmas.List.Elements.{All-nil, All-cons, All-head, All-tai
 use Rattle.mm_base.proofs.Elements.{All-unmapped}
 use Rattle.mm_base.proofs.Pairs.{All-front, All-back}
 use Rattle.std.proofs.lemmas.List.Kept.{AllPairs-cons}
-use Rattle.mm_desk.specs.Types.{Kind, Circular, SpacePacket, Stored, Put, Event, Offer, Begin, Next, Abort, Delete, Offered, Returned}
+use Rattle.mm_desk.specs.Types.{SpacePacket, Stored, Event, Offer, Begin, Next, Abort, Delete, Offered, Returned}
 use Rattle.mm_desk.specs.Types.{Retrieval}
-use Rattle.mm_store.specs.Content.{Store, IsRising, is_in, put_full, put_timed, kept_after, count_up_to}
+use Rattle.mm_store.specs.Content.{IsRising, is_in, kept_after, count_up_to}
 use Rattle.mm_desk.specs.Fates.{packets_of, accepted, left_out, found_in, taken, given_up, deleted, given, over, known, IsConserved, BeginsNone}
-use Rattle.mm_desk.specs.Machine.{State, answer_of, after_put, step}
+use Rattle.mm_desk.specs.Machine.{State, step}
 use Rattle.mm_desk.proofs.Cases.{offer_cases, put_cases, next_cases, abort_cases, delete_cases, quiet_leaves}
 
 -- what one event does: what was held and what it takes is what it deletes, what is held then, and what it gives up

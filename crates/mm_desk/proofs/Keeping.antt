@@ -1,7 +1,6 @@
 -- Every event keeps the sum of the counters, and leaves a state.
-use Rattle.std.proofs.Common.{◌<◌, ◌^◌, List, [], ◌∷◌, All, arith}
+use Rattle.std.proofs.Common.{List, [], ◌∷◌, All, arith}
 use Rattle.std.proofs.lemmas.List.Elements.{All-head, All-tail}
-use Rattle.mm_store.specs.Content.{IsStore}
 use Rattle.mm_store.specs.Laws.{LoseAlike, PutsKeepStores, DeletionsKeepStores}
 use Rattle.mm_store.proofs.ContentLemmas.{count_up_to-kept}
 use Rattle.mm_desk.specs.Types.{Entry, Event, Offer, Delete}

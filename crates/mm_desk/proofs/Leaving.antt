@@ -1,11 +1,9 @@
 -- What offers leave and lose.
-use Rattle.std.proofs.Common.{◌≡◌, ℕ, suc, ◌≤◌, ltb, List, [], ◌∷◌, length, refl, subst, ap, arith, length-append, rules}
-use Rattle.std.proofs.lemmas.Bool.{ltb-true, ltb-false, cond_both}
+use Rattle.std.proofs.Common.{ℕ, suc, ◌≤◌, List, [], ◌∷◌, length, subst, ap, arith, length-append, rules}
 use Rattle.std.proofs.lemmas.List.Elements.{All-head, All-tail}
-use Rattle.mm_desk.specs.Types.{Kind, Circular, Bounded, Stored, Put, Entry, Event, Offer}
-use Rattle.mm_store.specs.Content.{Store, put_full, put_timed}
+use Rattle.mm_desk.specs.Types.{Entry, Event, Offer}
 use Rattle.mm_desk.specs.declared.reply.Reply.TheVariants as reply
-use Rattle.mm_desk.specs.Machine.{State, after_put, step}
+use Rattle.mm_desk.specs.Machine.{State, step}
 use Rattle.mm_desk.specs.Offers.{IsTaken, AreTaken, IsShuffleOfEvents, Leaves, count_of}
 use Rattle.mm_desk.specs.Runs.{replay, IsLegal, IsRun}
 use Rattle.mm_desk.proofs.Cases.{put_cases}

@@ -1,5 +1,4 @@
-use Rattle.std.proofs.Common.{below_more, ◌≡◌, ◌⊎◌, inl, inr, ℕ, ◌+◌, ◌<◌, ◌≤◌, List, [], ◌∷◌, ◌++◌, get_or, ap, ◌∙◌, arith}
-use Rattle.std.proofs.lemmas.Bool.{cases_lt}
+use Rattle.std.proofs.Common.{below_more, ℕ, ◌+◌, List, [], ◌∷◌, ◌++◌, ◌∙◌, arith}
 use Rattle.std.proofs.lemmas.List.{length-append, get_or_append_left, get_or_push}
 use Rattle.mm_desk.specs.Seats.{SeatView, AreNew, new_seat}
 use Rattle.mm_desk.proofs.seat.new_seats.Goals as goal

@@ -1,10 +1,3 @@
-use Rattle.std.proofs.Common.{◌∷◌, [], ◌++◌, ap, subst}
-use Rattle.mm_desk.specs.Answers.{Answers}
-use Rattle.mm_desk.specs.declared.reply.Reply.{Reply}
-use Rattle.mm_desk.specs.Machine.{State}
-use Rattle.mm_desk.specs.Runs.{entry}
-use Rattle.mm_desk.specs.Seats.{LockedStoreView}
-use Rattle.mm_desk.proofs.Answering.{step_answers}
 use Rattle.mm_desk.proofs.Logs.{run_more}
 use Rattle.mm_desk.proofs.locked_store.LockedStore.call.Goals as goal
 
