@@ -29,8 +29,10 @@ module _ (s : State) where
   -- where it is put, a store with room keeps it, and a full one overwrites its oldest packet or loses the new one
   pub put_cases : (P : Result Offered Returned × State → Type 0) (now : ℕ) (packet : SpacePacket)
       → ((fault : Fault) → fault ≢ NoMemory → P (Err (record { fault = fault; packet = packet }), s))
-      → ((new : Stored) → new.packet ≡ packet → length s.store.content < s.store.size → P (Ok (Kept new.time), after_put s (put.Kept new.time, with_newest s.store s.store.content new)))
-      → ((new : Stored) → new.packet ≡ packet → (oldest : Stored) (later : List Stored) → s.store.content ≡ oldest ∷ later → s.store.size ≤ length s.store.content
+      → ((new : Stored) → new.packet ≡ packet → length s.store.content < s.store.size
+      → P (Ok (Kept new.time), after_put s (put.Kept new.time, with_newest s.store s.store.content new)))
+      → ((new : Stored) → new.packet ≡ packet → (oldest : Stored) (later : List Stored) → s.store.content ≡ oldest ∷ later
+      → s.store.size ≤ length s.store.content
       → P (Ok (KeptOver new.time oldest.packet), after_put s (put.KeptOver new.time oldest.packet, with_newest s.store later new)))
       → (s.store.size ≤ length s.store.content → P (Ok (Lost packet), after_put s (put.Lost packet, s.store))) → P (offer s now packet)
   put_cases P now packet refused kept over lost =

@@ -126,20 +126,20 @@ at_end : (s : State) (later : List Stored) → MayGive (record s { retrieval = N
 at_end s later may = (may.0, All-weaker (λ p. ⊥) (Above s.retrieval) (λ p never. absurd never) later may.1)
 
 -- what an event that begins no retrieval gives may be given before all that may be given after it
-by_calls : (s : State) (e : Event) → BeginsNone e → (later : List Stored) → MayGive (step s e).1 later → MayGive s (given s e ++ later)
-by_calls s (Offer now packet) none later = offer_cases s (λ r. MayGive r.1 later → MayGive s later) now packet (λ fault other may. may) (λ last offered may. may)
-by_calls s (Begin from to) none later = absurd none
-by_calls s Next none later =
-    next_cases s (λ r. MayGive r.1 later → MayGive s (found_in r.0 ++ later)) (λ may. may)
+by_calls : (s : State) (e : Event) → BeginsNone e → (rest : List Stored) → MayGive (step s e).1 rest → MayGive s (given s e ++ rest)
+by_calls s (Offer now packet) none rest = offer_cases s (λ r. MayGive r.1 rest → MayGive s rest) now packet (λ fault other may. may) (λ last offered may. may)
+by_calls s (Begin from to) none rest = absurd none
+by_calls s Next none rest =
+    next_cases s (λ r. MayGive r.1 rest → MayGive s (found_in r.0 ++ rest)) (λ may. may)
     (λ r p on found may.
     let within = find-some (λ q. Unit {0}) (is_in r.from r.to r.after) s.store.content p (λ k d within. tt) found in
     let after : r.after < p.time = grind (arith, nat_tests, within.0) in
-    let above = All-weaker (λ (q : Stored). p.time < q.time) (λ (q : Stored). r.after < q.time) (λ q less. omega arith) later may.1 in
-    (AllPairs-cons (λ p q. p.time < q.time) p later may.1 may.0, rw on (All-cons (λ (q : Stored). r.after < q.time) p later after above)))
-    (at_end s later)
-by_calls s Abort none later = abort_cases s (λ r. MayGive r.1 later → MayGive s later) (λ may. may) (at_end s later)
-by_calls s (Delete limit) none later = delete_cases s (λ r. MayGive r.1 later → MayGive s later) limit (λ busy may. may) (λ idle may. may)
-by_calls s e none later = λ may. may
+    let above = All-weaker (λ (q : Stored). p.time < q.time) (λ (q : Stored). r.after < q.time) (λ q less. omega arith) rest may.1 in
+    (AllPairs-cons (λ p q. p.time < q.time) p rest may.1 may.0, rw on (All-cons (λ (q : Stored). r.after < q.time) p rest after above)))
+    (at_end s rest)
+by_calls s Abort none rest = abort_cases s (λ r. MayGive r.1 rest → MayGive s rest) (λ may. may) (at_end s rest)
+by_calls s (Delete limit) none rest = delete_cases s (λ r. MayGive r.1 rest → MayGive s rest) limit (λ busy may. may) (λ idle may. may)
+by_calls s e none rest = λ may. may
 
 -- what all events give rises, above what was given before
 rises : (s : State) (es : List Event) → All BeginsNone es → MayGive s (over given s es)

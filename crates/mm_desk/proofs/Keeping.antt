@@ -24,11 +24,17 @@ module _ (balance : KeepBalance) (puts : PutsKeepStores) (deletions : DeletionsK
   by_event : (e : Event) → HasTimes e → Balances (step s e).1 → IsState (step s e).1
   by_event (Offer now packet) fits =
       offer_cases s (λ r. Balances r.1 → IsState r.1) now packet (λ fault other same. sound)
-      (λ last offered balanced. record { store = puts s.store now packet fits sound.store; balance = balanced; offered_fits = omega (arith, sound.offered_fits, offered) })
+      (λ last offered balanced. record {
+        store = puts s.store now packet fits sound.store;
+        balance = balanced;
+        offered_fits = omega (arith, sound.offered_fits, offered);
+      })
   by_event (Delete limit) fits =
       delete_cases s (λ r. Balances r.1 → IsState r.1) limit (λ busy same. sound)
       (λ idle balanced. record { store = deletions s.store limit sound.store; balance = balanced; offered_fits = sound.offered_fits })
-  by_event e fits = quiet_leaves s e tt (λ t. Balances t → IsState t) (λ storage retrieval balanced. record { store = sound.store; balance = balanced; offered_fits = sound.offered_fits })
+  by_event e fits =
+      quiet_leaves s e tt (λ t. Balances t → IsState t)
+      (λ storage retrieval balanced. record { store = sound.store; balance = balanced; offered_fits = sound.offered_fits })
 
   -- an event whose times fit leaves a state
   pub event_keeps : (e : Event) → HasTimes e → IsState (step s e).1

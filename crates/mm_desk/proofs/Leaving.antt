@@ -10,7 +10,8 @@ use Rattle.mm_desk.proofs.Cases.{put_cases}
 use Rattle.mm_desk.proofs.Logs.{count_of_shuffle}
 
 -- an event that is an offer taken leaves one packet more, or a full store
-event_leaves : (s : State) (event : Event) → length s.store.content ≤ s.store.size → 1 ≤ s.store.size → IsTaken event (step s event).0 → Leaves s (step s event).1 1
+event_leaves : (s : State) (event : Event) → length s.store.content ≤ s.store.size → 1 ≤ s.store.size
+    → IsTaken event (step s event).0 → Leaves s (step s event).1 1
 event_leaves s (Offer now packet) within room =
     put_cases s (λ r. IsTaken (Offer now packet) (reply.Offered r.0) → Leaves s r.1 1) now packet (λ fault other refused. absurd refused)
     (λ new is free taken. search (arith, rules, length-append s.store.content (new ∷ [])))
@@ -32,12 +33,14 @@ leaves_more s t u n within one more = record {
 }
 
 -- a log of offers that were not refused
-log_leaves : (s : State) (log : List Entry) → length s.store.content ≤ s.store.size → 1 ≤ s.store.size → IsLegal s log → AreTaken log → Leaves s (replay s log) (length log)
+log_leaves : (s : State) (log : List Entry) → length s.store.content ≤ s.store.size → 1 ≤ s.store.size
+    → IsLegal s log → AreTaken log → Leaves s (replay s log) (length log)
 log_leaves s [] within room legal taken = search (arith, rules)
 log_leaves s (e ∷ es) within room legal taken =
     let is_taken = subst (IsTaken e.event) legal.0 (All-head (λ (e : Entry). IsTaken e.event e.reply) e es taken) in
     let first = event_leaves s e.event within room is_taken in
-    let rest = log_leaves (step s e.event).1 es (omega (arith, first.volume, first.size)) (omega (arith, first.size)) legal.1 (All-tail (λ (e : Entry). IsTaken e.event e.reply) e es taken) in
+    let others = All-tail (λ (e : Entry). IsTaken e.event e.reply) e es taken in
+    let rest = log_leaves (step s e.event).1 es (omega (arith, first.volume, first.size)) (omega (arith, first.size)) legal.1 others in
     leaves_more s _ _ (length es) within first rest
 
 -- offers leave one packet more each, or a full store, in any order

@@ -90,20 +90,21 @@ Left after (Some x) xs = (after < x.time) × (kept_after after xs ≡ x ∷ kept
 Left after None xs = kept_after after xs ≡ []
 
 -- a retrieval of all packets finds the first one left
-left_found : (after : ℕ) (xs : List Stored) → IsRising xs → All (λ p. 1 ≤ p.time) xs → All (λ p. p.time ≤ clock_end) xs → Left after (first_in 1 clock_end after xs) xs
+left_found : (after : ℕ) (xs : List Stored) → IsRising xs → All (λ p. 1 ≤ p.time) xs → All (λ p. p.time ≤ clock_end) xs
+    → Left after (first_in 1 clock_end after xs) xs
 left_found after [] rising from_one early = refl
 left_found after (x ∷ xs) rising from_one early = elim (cases_lt after x.time) [
   | inl newer ↦
-      let first : 1 ≤ x.time = All-head (λ (p : Stored). 1 ≤ p.time) x xs from_one in
-      let last : x.time ≤ clock_end = All-head (λ (p : Stored). p.time ≤ clock_end) x xs early in
-      let here : is_in 1 clock_end after x ≡ true = grind (arith, nat_tests) in
+      let here : is_in 1 clock_end after x ≡ true = grind (arith, nat_tests, from_one 0 x, early 0 x) in
       let later = later_than_oldest x xs rising in
-      let all = kept_after-later after xs (All-weaker (λ p. x.time < p.time) (λ p. after < p.time) (λ p less. omega arith) xs later) in
+      let all = kept_after-later after xs (λ k d within. omega (arith, newer, later k d within)) in
       let same : x.time ≤ x.time = omega arith in
-      rw here (newer, rw (lt-ltb after x.time newer, le-ltb x.time x.time same) (ap (λ (ys : List Stored). x ∷ ys) (all ∙ sym (kept_after-later x.time xs later))))
+      let both : kept_after after xs ≡ kept_after x.time xs = all ∙ sym (kept_after-later x.time xs later) in
+      rw here (newer, rw (lt-ltb after x.time newer, le-ltb x.time x.time same) (ap (λ (ys : List Stored). x ∷ ys) both))
   | inr older ↦
       let here : is_in 1 clock_end after x ≡ false = and_right _ _ (le-ltb after x.time older) in
-      let rest = left_found after xs (IsRising-rest x xs rising) (All-tail (λ (p : Stored). 1 ≤ p.time) x xs from_one) (All-tail (λ (p : Stored). p.time ≤ clock_end) x xs early) in
+      let from_one_on = All-tail (λ (p : Stored). 1 ≤ p.time) x xs from_one in
+      let rest = left_found after xs (IsRising-rest x xs rising) from_one_on (All-tail (λ (p : Stored). p.time ≤ clock_end) x xs early) in
       rw here (passed older _ rest)
 ]
   where
@@ -132,7 +133,7 @@ module _ (s : State) (sound : IsState s) where
       let r : Retrieval = record { from = 1; to = clock_end; after = after } in
       let tells = give_tells (retrieving s after) r (first_in 1 clock_end after s.store.content) in
       let is : first_in 1 clock_end after s.store.content ≡ answer = cc in
-      let early = All-weaker (λ (p : Stored). p.time ≤ s.store.last) (λ (p : Stored). p.time ≤ clock_end) (λ p before. omega (arith, sound.store.last_fits)) s.store.content sound.store.up_to_last in
+      let early : All (λ p. p.time ≤ clock_end) s.store.content = λ k d within. omega (arith, sound.store.up_to_last k d within, sound.store.last_fits) in
       let found = left_found after s.store.content sound.store.rising sound.store.from_one early in
       record { left = rw is at found; state = rw is }
 
@@ -158,7 +159,8 @@ module _ (s : State) (sound : IsState s) where
     state : (step (retrieving s after) e.event).1 ≡ idle s
     all : length gs < wanted → left_after after ≡ []
 
-  ends : (after seat wanted : ℕ) (gs : List Stored) → (ended seat wanted gs).reply ≡ (step (retrieving s after) (ended seat wanted gs).event).0 → Ends after wanted gs (ended seat wanted gs)
+  ends : (after seat wanted : ℕ) (gs : List Stored) → (ended seat wanted gs).reply ≡ (step (retrieving s after) (ended seat wanted gs).event).0
+      → Ends after wanted gs (ended seat wanted gs)
   ends after seat wanted gs =
       cond_both (ltb (length gs) wanted) _ _ (λ (e : Entry). e.reply ≡ (step (retrieving s after) e.event).0 → Ends after wanted gs e)
       (λ fewer told. let over = answered after None told in record { state = over.state; all = λ less. over.left })
@@ -173,8 +175,11 @@ module _ (s : State) (sound : IsState s) where
   dumped limit count = record s { store = record s.store { content = left_after limit }; deleted = s.deleted + count; retrieval = None }
 
   -- the deletion up to the packet given last leaves what is left
-  deletes : (seat count : ℕ) (gs : List Stored) → s.store.content ≡ gs ++ left_after (last_time 0 gs) → replay (idle s) (removed seat gs count) ≡ dumped (last_time 0 gs) (length gs)
-  deletes seat count [] all = ap (λ (ys : List Stored). record s { store = record s.store { content = ys }; retrieval = None }) all ∙ ap (λ (n : ℕ). record (dumped 0 0) { deleted = n }) (omega arith)
+  deletes : (seat count : ℕ) (gs : List Stored) → s.store.content ≡ gs ++ left_after (last_time 0 gs)
+      → replay (idle s) (removed seat gs count) ≡ dumped (last_time 0 gs) (length gs)
+  deletes seat count [] all =
+      ap (λ (ys : List Stored). record s { store = record s.store { content = ys }; retrieval = None }) all
+      ∙ ap (λ (n : ℕ). record (dumped 0 0) { deleted = n }) (omega arith)
   deletes seat count (g ∷ gs) all =
       let limit = last_time g.time gs in
       ap (dumped limit) (omega (arith, count_up_to-kept limit s.store.content, ap length all, length-append (g ∷ gs) (left_after limit)))
@@ -191,7 +196,8 @@ begins s =
     (λ free fine. (none_of s.retrieval free, refl))
 
 -- the packets that it gave
-givings_of : (s : State) (sound : IsState s) (seat : ℕ) (gs : List Stored) (es : List Entry) → IsLegal s (begun seat ∷ given seat gs ++ es) → Gave s sound 0 seat gs es
+givings_of : (s : State) (sound : IsState s) (seat : ℕ) (gs : List Stored) (es : List Entry)
+    → IsLegal s (begun seat ∷ given seat gs ++ es) → Gave s sound 0 seat gs es
 givings_of s sound seat gs es legal = gave s sound 0 seat gs es (subst (λ (u : State). IsLegal u (given seat gs ++ es)) (begins s legal.0).1 legal.1)
 
 -- the packets that it gave are the oldest ones held

@@ -79,7 +79,12 @@ impl<N: Opening> Desk<N> {
     {
         let log = Vec::new(alloc);
         let of = PhantomData;
-        let locked = Mutex::new(LockedStore { place, state, log, of });
+        let locked = Mutex::new(LockedStore {
+            place,
+            state,
+            log,
+            of,
+        });
         Desk {
             place,
             seats,
@@ -169,10 +174,7 @@ impl<N: Opening> Desk<N> {
             return Err(event);
         };
         let number = seat.number();
-        let answered = self
-            .locked
-            .lock(rt)
-            .call(alloc, number, event, logged)?;
+        let answered = self.locked.lock(rt).call(alloc, number, event, logged)?;
         seat.list.push_reserved(Entry {
             seat: number,
             event: listed,

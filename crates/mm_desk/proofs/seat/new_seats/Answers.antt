@@ -7,7 +7,8 @@ use Rattle.mm_desk.proofs.seat.new_seats.Goals as goal
 new_more : (place seated : ℕ) (seats : List SeatView) → AreNew place seated seats → AreNew place (seated + 1) (seats ++ new_seat place seated ∷ [])
 new_more place seated seats new = record {
   count = omega (arith, length-append seats (new_seat place seated ∷ []), new.count);
-  each = below_more _ seated (λ i before. get_or_append_left seats _ (new_seat 0 0) i (omega (arith, new.count)) ∙ new.each i before) (get_or_push seats _ (new_seat 0 0) seated new.count);
+  each = below_more _ seated (λ i before. get_or_append_left seats _ (new_seat 0 0) i (omega (arith, new.count)) ∙ new.each i before)
+      (get_or_push seats _ (new_seat 0 0) seated new.count);
 }
 
 pub loop-number-preserved : goal.loop-number-preserved
