@@ -4,7 +4,7 @@ use Rattle.std.specs.Prelude.{filter, Option, Some, None, Ok, is_some}
 use Rattle.std.proofs.lemmas.Bool.{lt-ltb, le-ltb, ltb-false, and_right, cases_lt, cond_both}
 use Rattle.std.proofs.lemmas.Bool.Decides.{nat_tests}
 use Rattle.std.proofs.lemmas.List.{length-map, take_all}
-use Rattle.std.proofs.lemmas.List.Elements.{All-head, All-tail, All-weaker}
+use Rattle.std.proofs.lemmas.List.Elements.{All-head, All-tail}
 use Rattle.std.proofs.lemmas.List.Sums.{sum_by_more}
 use Rattle.mm_desk.specs.Types.{Stored, Entry, Event, Begin, Next, Reply, Retrieval}
 use Rattle.mm_store.specs.Content.{IsRising, clock_end, is_in, first_in, kept_after}

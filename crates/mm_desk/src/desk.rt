@@ -78,12 +78,11 @@ impl<N: Opening> Desk<N> {
         ensures desk { result ≡ desk_view place seats }
     {
         let log = Vec::new(alloc);
-        let of = PhantomData;
         let locked = Mutex::new(LockedStore {
             place,
             state,
             log,
-            of,
+            of: PhantomData,
         });
         Desk {
             place,
