@@ -1,36 +1,19 @@
 -- The machine's reply to an event is of its sort.
-use Rattle.std.proofs.Common.{◌≢◌, ℕ, ltb, List, [], ◌∷◌, length, refl}
+use Rattle.std.proofs.Common.{◌≢◌, refl}
 use Rattle.std.specs.Prelude.{Err}
-use Rattle.std.proofs.lemmas.Bool.{cond_both}
-use Rattle.mm_base.specs.declared.kind.Kind.{Kind}
-use Rattle.mm_base.specs.declared.kind.Kind.TheVariants.{Circular, Bounded}
-use Rattle.mm_packet.specs.Packet.{SpacePacket}
-use Rattle.mm_store.specs.declared.stored.Stored.{Stored}
-use Rattle.mm_store.specs.declared.put.Put.{Put}
-use Rattle.mm_store.specs.Content.{Store, put_full}
+use Rattle.mm_desk.specs.Types.{Event, Offer, Begin, Next, Abort, Delete, NoMemory}
 use Rattle.mm_desk.specs.Answers.{Answers}
-use Rattle.mm_desk.specs.declared.event.Event.{Event}
-use Rattle.mm_desk.specs.declared.event.Event.TheVariants.{Offer, Begin, Next, Abort, Delete, Enable, Disable}
-use Rattle.mm_desk.specs.declared.fault.Fault.TheVariants.{NoMemory}
 use Rattle.mm_desk.specs.declared.reply.Reply.TheVariants as reply
-use Rattle.mm_desk.specs.Machine.{State, answer_of, step}
-use Rattle.mm_desk.proofs.Cases.{timed_cases, begin_cases, next_cases, abort_cases, delete_cases}
-
--- a full store refuses no packet
-by_full : (now : ℕ) (packet : SpacePacket) (kind : Kind) (held : List Stored) (s : Store) (new : Stored) → Answers (Offer now packet) (reply.Offered (answer_of (put_full kind held s new).0))
-by_full now packet Circular (x ∷ xs) s new = tt
-by_full now packet Circular [] s new = tt
-by_full now packet Bounded held s new = tt
+use Rattle.mm_desk.specs.Machine.{State, step}
+use Rattle.mm_desk.proofs.Cases.{put_cases, begin_cases, next_cases, abort_cases, delete_cases}
 
 -- the reply is of the event's sort
 pub step_answers : (s : State) (e : Event) → Answers e (step s e).0
 step_answers s (Offer now packet) =
-    timed_cases s (λ r. Answers (Offer now packet) (reply.Offered r.0)) now packet (λ fault other. (other, refl))
-    (λ new is. cond_both (ltb (length s.store.content) s.store.size) _ _ (λ (done : Put × Store). Answers (Offer now packet) (reply.Offered (answer_of done.0))) (λ free. tt)
-    (λ full. by_full now packet s.store.kind s.store.content s.store new))
+    put_cases s (λ r. Answers (Offer now packet) (reply.Offered r.0)) now packet (λ fault other. (other, refl))
+    (λ new is free. tt) (λ new is oldest later held full. tt) (λ full. tt)
 step_answers s (Begin from to) = begin_cases s (λ r. r.0 ≢ Err NoMemory) from to (λ fault other same. other (cc same)) (λ idle same. cc same)
 step_answers s Next = next_cases s (λ r. r.0 ≢ Err NoMemory) (λ same. cc same) (λ r p on found same. cc same) (λ same. cc same)
 step_answers s Abort = abort_cases s (λ r. r.0 ≢ Err NoMemory) (λ same. cc same) (λ same. cc same)
 step_answers s (Delete limit) = delete_cases s (λ r. r.0 ≢ Err NoMemory) limit (λ busy same. cc same) (λ idle same. cc same)
-step_answers s Enable = λ same. cc same
-step_answers s Disable = λ same. cc same
+step_answers s e = λ same. cc same

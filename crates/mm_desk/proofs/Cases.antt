@@ -1,16 +1,18 @@
 -- The ways that each call of the machine may go.
-use Rattle.std.proofs.Common.{◌≡◌, ◌≢◌, ℕ, ◌+◌, true, false, ltb, max, refl}
+use Rattle.std.proofs.Common.{◌≡◌, ◌≢◌, ℕ, ◌+◌, ◌<◌, ◌≤◌, List, ◌∷◌, length, Bool, true, false, ltb, max, refl, sym, subst}
 use Rattle.std.specs.Prelude.{Option, Some, None, Result, Ok, Err, ◌==◌, ◌||◌, not, is_some}
-use Rattle.std.proofs.lemmas.Bool.{cond_both, or_parts, eqb-false, ne_eqb}
-use Rattle.mm_packet.specs.Packet.{SpacePacket}
-use Rattle.mm_store.specs.declared.stored.Stored.{Stored}
-use Rattle.mm_store.specs.Content.{clock_end, put, put_timed, first_in, delete_up_to, count_up_to}
-use Rattle.mm_desk.specs.declared.fault.Fault.{Fault}
-use Rattle.mm_desk.specs.declared.fault.Fault.TheVariants.{Disabled, Busy, Idle, BadRange, ClockEnd, NoMemory}
-use Rattle.mm_desk.specs.declared.reply.Offered.{Offered}
-use Rattle.mm_desk.specs.declared.reply.Returned.{Returned}
-use Rattle.mm_desk.specs.declared.state.Retrieval.{Retrieval}
-use Rattle.mm_desk.specs.Machine.{State, answer_of, after_put, offer, begin, give, next_of, next, abort, delete}
+use Rattle.std.proofs.lemmas.Bool.{cond_both, or_parts, eqb-false, ne_eqb, ltb-true, ltb-false}
+use Rattle.mm_desk.specs.Types.{SpacePacket, Stored, Event, Offer, Begin, Next, Abort, Delete, Enable, Disable, Fault, Disabled, Busy, Idle, BadRange, ClockEnd}
+use Rattle.mm_desk.specs.Types.{NoMemory, Offered, Kept, KeptOver, Lost, Returned, Retrieval, Kind, Circular}
+use Rattle.mm_store.specs.declared.put.Put.TheVariants as put
+use Rattle.mm_store.specs.Content.{clock_end, put, put_full, with_newest, first_in, delete_up_to, count_up_to}
+use Rattle.mm_desk.specs.Machine.{State, answer_of, after_put, offer, begin, give, next_of, next, abort, delete, step}
+
+-- an event is neither an offer nor a deletion
+abbrev pub IsQuiet : Event → Type 0
+IsQuiet (Offer now packet) = ⊥
+IsQuiet (Delete limit) = ⊥
+IsQuiet other = Unit {0}
 
 module _ (s : State) where
   -- an offer is refused, or the packet is put
@@ -24,12 +26,27 @@ module _ (s : State) where
       let both = or_parts (s.store.last == clock_end) (s.offered == clock_end) early in
       is_put (eqb-false s.store.last clock_end both.0) (eqb-false s.offered clock_end both.1)))
 
-  -- where it is put it gets a time
-  pub timed_cases : (P : Result Offered Returned × State → Type 0) (now : ℕ) (packet : SpacePacket)
+  -- where it is put, a store with room keeps it, and a full one overwrites its oldest packet or loses the new one
+  pub put_cases : (P : Result Offered Returned × State → Type 0) (now : ℕ) (packet : SpacePacket)
       → ((fault : Fault) → fault ≢ NoMemory → P (Err (record { fault = fault; packet = packet }), s))
-      → ((new : Stored) → new.packet ≡ packet → P (answer_of (put_timed s.store new).0, after_put s (put_timed s.store new))) → P (offer s now packet)
-  timed_cases P now packet refused is_put =
-      offer_cases P now packet refused (λ last offered. rw (ne_eqb s.store.last clock_end last) (is_put (record { time = max now (s.store.last + 1); packet = packet }) refl))
+      → ((new : Stored) → new.packet ≡ packet → length s.store.content < s.store.size
+      → P (Ok (Kept new.time), after_put s (put.Kept new.time, with_newest s.store s.store.content new)))
+      → ((new : Stored) → new.packet ≡ packet → (oldest : Stored) (later : List Stored) → s.store.content ≡ oldest ∷ later
+      → s.store.size ≤ length s.store.content
+      → P (Ok (KeptOver new.time oldest.packet), after_put s (put.KeptOver new.time oldest.packet, with_newest s.store later new)))
+      → (s.store.size ≤ length s.store.content → P (Ok (Lost packet), after_put s (put.Lost packet, s.store))) → P (offer s now packet)
+  put_cases P now packet refused kept over lost =
+      let new : Stored = record { time = max now (s.store.last + 1); packet = packet } in
+      offer_cases P now packet refused
+      (λ last offered. rw (ne_eqb s.store.last clock_end last)
+      (cond_both (ltb (length s.store.content) s.store.size) _ _ (λ done. P (answer_of done.0, after_put s done))
+      (λ free. kept new refl (ltb-true (length s.store.content) s.store.size free))
+      (λ full. by_full new refl s.store.kind s.store.content refl (ltb-false (length s.store.content) s.store.size full))))
+    where
+      by_full : (new : Stored) → new.packet ≡ packet → (kind : Kind) (held : List Stored) → s.store.content ≡ held → s.store.size ≤ length s.store.content
+          → P (answer_of (put_full kind held s.store new).0, after_put s (put_full kind held s.store new))
+      by_full new same Circular (oldest ∷ later) is full = over new same oldest later is full
+      by_full new same kind held is full = subst (λ (p : SpacePacket). P (Ok (Lost p), after_put s (put.Lost p, s.store))) (sym same) (lost full)
 
   -- a retrieval is refused, or begins
   pub begin_cases : (P : Result (Unit {0}) Fault × State → Type 0) (from to : ℕ) → ((fault : Fault) → fault ≢ NoMemory → P (Err fault, s))
@@ -60,3 +77,14 @@ module _ (s : State) where
       → (is_some s.retrieval ≡ false
       → P (Ok (count_up_to limit s.store.content), record s { store = delete_up_to s.store limit; deleted = s.deleted + count_up_to limit s.store.content })) → P (delete s limit)
   delete_cases P limit refused made = cond_both (is_some s.retrieval) _ _ P refused made
+
+  -- an event that is neither an offer nor a deletion changes the storage switch and the retrieval alone
+  pub quiet_leaves : (e : Event) → IsQuiet e → (P : State → Type 0)
+      → ((storage : Bool) (retrieval : Option Retrieval) → P (record s { storage = storage; retrieval = retrieval })) → P (step s e).1
+  quiet_leaves (Offer now packet) quiet P stays = absurd quiet
+  quiet_leaves (Begin from to) quiet P stays = begin_cases (λ r. P r.1) from to (λ fault other. stays _ _) (λ idle. stays _ _)
+  quiet_leaves Next quiet P stays = next_cases (λ r. P r.1) (stays _ _) (λ r p on found. stays _ _) (stays _ _)
+  quiet_leaves Abort quiet P stays = abort_cases (λ r. P r.1) (stays _ _) (stays _ _)
+  quiet_leaves (Delete limit) quiet P stays = absurd quiet
+  quiet_leaves Enable quiet P stays = stays _ _
+  quiet_leaves Disable quiet P stays = stays _ _

@@ -1,27 +1,21 @@
 -- What a full circular store answers to an offer.
-use Rattle.std.proofs.Common.{◌≡◌, ℕ, ◌+◌, ◌<◌, ◌≤◌, true, List, [], ◌∷◌, length, max, All, refl, sym, ap, ◌∙◌, arith}
-use Rattle.std.specs.Prelude.{Option, Some, None, Result, Ok}
-use Rattle.std.proofs.lemmas.Bool.{lt-ltb, le-ltb, le-leb, ne_eqb, and_from}
+use Rattle.std.proofs.Common.{◌≡◌, ℕ, ◌+◌, ◌<◌, ◌≤◌, true, List, [], ◌∷◌, length, max, All, refl, ap, ◌∙◌, arith}
+use Rattle.std.specs.Prelude.{Option, Some, None, Ok}
+use Rattle.std.proofs.lemmas.Bool.{le-ltb, ne_eqb}
 use Rattle.std.proofs.lemmas.Bool.Decides.{nat_tests}
 use Rattle.std.proofs.lemmas.List.Elements.{All-head}
-use Rattle.mm_base.specs.declared.kind.Kind.{Kind}
-use Rattle.mm_base.specs.declared.kind.Kind.TheVariants.{Circular}
-use Rattle.mm_packet.specs.Packet.{SpacePacket}
-use Rattle.mm_store.specs.declared.stored.Stored.{Stored}
-use Rattle.mm_store.specs.Content.{Store, IsStore, clock_end, is_in, first_in, put_full}
-use Rattle.mm_desk.specs.declared.reply.Offered.{Offered}
-use Rattle.mm_desk.specs.declared.reply.Offered.TheVariants.{KeptOver, Lost}
-use Rattle.mm_desk.specs.declared.reply.Returned.{Returned}
-use Rattle.mm_desk.specs.Machine.{State, answer_of, offer}
+use Rattle.mm_desk.specs.Types.{Kind, Circular, SpacePacket, Stored, Offered, KeptOver, Lost}
+use Rattle.mm_store.specs.Content.{Store, IsStore, clock_end, is_in, first_in, put, put_full}
+use Rattle.mm_desk.specs.Machine.{answer_of}
 
--- the answer, by the oldest packet that is found
-abbrev over : Stored → Option Stored → Result Offered Returned
-over new (Some oldest) = Ok (KeptOver new.time oldest.packet)
-over new None = Ok (Lost new.packet)
+-- the answer of a full circular store, by the oldest packet that is found
+abbrev over : Stored → Option Stored → Offered
+over new (Some oldest) = KeptOver new.time oldest.packet
+over new None = Lost new.packet
 
 -- the first packet of all is the oldest
 by_content : (s : Store) (new : Stored) (content : List Stored) → All (λ (p : Stored). 1 ≤ p.time) content → All (λ (p : Stored). p.time ≤ s.last) content → s.last ≤ clock_end
-    → answer_of (put_full Circular content s new).0 ≡ over new (first_in 0 clock_end 0 content)
+    → answer_of (put_full Circular content s new).0 ≡ Ok (over new (first_in 0 clock_end 0 content))
 by_content s new [] from_one up_to_last fits = refl
 by_content s new (x ∷ xs) from_one up_to_last fits =
     let first : 1 ≤ x.time = All-head (λ (p : Stored). 1 ≤ p.time) x xs from_one in
@@ -29,14 +23,11 @@ by_content s new (x ∷ xs) from_one up_to_last fits =
     let here : is_in 0 clock_end 0 x ≡ true = grind (arith, nat_tests) in
     rw here
 
--- what an offer to a full circular store is answered, before the end of the clock
-pub offer-over : (s : State) (now : ℕ) (packet : SpacePacket) (found : Option Stored) → IsStore s.store → s.storage ≡ true → s.store.last < clock_end → s.offered < clock_end
-    → s.store.size ≤ length s.store.content → s.store.kind ≡ Circular → found ≡ first_in 0 clock_end 0 s.store.content
-    → over (record { time = max now (s.store.last + 1); packet = packet }) found ≡ (offer s now packet).0
-offer-over s now packet found sound storage early counted full kind is_first =
-    let last = ne_eqb s.store.last clock_end (λ same. omega arith) in
-    let offered = ne_eqb s.offered clock_end (λ same. omega arith) in
-    let new : Stored = record { time = max now (s.store.last + 1); packet = packet } in
-    rw (is_first, storage, last, offered, le-ltb (length s.store.content) s.store.size full)
-    (sym (by_content s.store new s.store.content sound.from_one sound.up_to_last (omega arith))
-    ∙ ap (λ (k : Kind). answer_of (put_full k s.store.content s.store new).0) (sym kind))
+-- what a put into a full circular store is answered, before the end of the clock
+pub put_over : (s : Store) (now : ℕ) (packet : SpacePacket) → IsStore s → s.last < clock_end → s.size ≤ length s.content → s.kind ≡ Circular
+    → answer_of (put s now packet).0 ≡ Ok (over (record { time = max now (s.last + 1); packet = packet }) (first_in 0 clock_end 0 s.content))
+put_over s now packet sound early full kind =
+    let last = ne_eqb s.last clock_end (λ same. omega arith) in
+    let new : Stored = record { time = max now (s.last + 1); packet = packet } in
+    rw (last, le-ltb (length s.content) s.size full)
+    (ap (λ (k : Kind). answer_of (put_full k s.content s new).0) kind ∙ by_content s new s.content sound.from_one sound.up_to_last (omega arith))

@@ -1,41 +1,44 @@
--- Every event leaves a state.
-use Rattle.std.proofs.Common.{◌<◌, ◌^◌, List, [], ◌∷◌, All, arith}
+-- Every event keeps the sum of the counters, and leaves a state.
+use Rattle.std.proofs.Common.{List, [], ◌∷◌, All, arith}
 use Rattle.std.proofs.lemmas.List.Elements.{All-head, All-tail}
-use Rattle.mm_store.specs.Content.{IsStore}
-use Rattle.mm_store.specs.Laws.{PutsKeepStores, DeletionsKeepStores}
-use Rattle.mm_desk.specs.declared.entry.Entry.{Entry}
-use Rattle.mm_desk.specs.declared.event.Event.{Event}
-use Rattle.mm_desk.specs.declared.event.Event.TheVariants.{Offer, Begin, Next, Abort, Delete, Enable, Disable}
+use Rattle.mm_store.specs.Laws.{LoseAlike, PutsKeepStores, DeletionsKeepStores}
+use Rattle.mm_store.proofs.ContentLemmas.{count_up_to-kept}
+use Rattle.mm_desk.specs.Types.{Entry, Event, Offer, Delete}
 use Rattle.mm_desk.specs.Laws.{KeepBalance, HasTimes}
-use Rattle.mm_desk.specs.Machine.{State, IsState, step}
+use Rattle.mm_desk.specs.Machine.{State, Balances, IsState, step}
 use Rattle.mm_desk.specs.Runs.{replay}
-use Rattle.mm_desk.proofs.Cases.{offer_cases, begin_cases, next_cases, abort_cases, delete_cases}
+use Rattle.mm_desk.proofs.Cases.{offer_cases, delete_cases, quiet_leaves}
+
+-- what was offered is lost, deleted or held after each event
+pub balanced : LoseAlike → (s : State) → IsState s → (e : Event) → Balances (step s e).1
+balanced alike s sound (Offer now packet) =
+    offer_cases s (λ r. Balances r.1) now packet (λ fault other. sound.balance)
+    (λ last offered.
+    let lost = (alike s.store now packet sound.store.has_room sound.store.within (omega (arith, sound.store.last_fits, last))).lost in
+    omega (arith, lost, sound.balance))
+balanced alike s sound (Delete limit) =
+    delete_cases s (λ r. Balances r.1) limit (λ busy. sound.balance) (λ idle. omega (arith, sound.balance, count_up_to-kept limit s.store.content))
+balanced alike s sound e = quiet_leaves s e tt Balances (λ storage retrieval. sound.balance)
 
 module _ (balance : KeepBalance) (puts : PutsKeepStores) (deletions : DeletionsKeepStores) (s : State) (sound : IsState s) where
-  -- the store is one, and the counter of offers fits
-  abbrev Fit : State → Type 0
-  Fit t = IsStore t.store × (t.offered < 2 ^ 64)
-
-  same : Fit s
-  same = (sound.store, sound.offered_fits)
-
-  by_event : (e : Event) → HasTimes e → Fit (step s e).1
+  by_event : (e : Event) → HasTimes e → Balances (step s e).1 → IsState (step s e).1
   by_event (Offer now packet) fits =
-      offer_cases s (λ r. Fit r.1) now packet (λ fault other. same) (λ last offered. (puts s.store now packet fits sound.store, omega (arith, sound.offered_fits, offered)))
-  by_event (Begin from to) fits = begin_cases s (λ r. Fit r.1) from to (λ fault other. same) (λ idle. same)
-  by_event Next fits = next_cases s (λ r. Fit r.1) same (λ r p on found. same) same
-  by_event Abort fits = abort_cases s (λ r. Fit r.1) same same
-  by_event (Delete limit) fits = delete_cases s (λ r. Fit r.1) limit (λ busy. same) (λ idle. (deletions s.store limit sound.store, sound.offered_fits))
-  by_event Enable fits = same
-  by_event Disable fits = same
+      offer_cases s (λ r. Balances r.1 → IsState r.1) now packet (λ fault other same. sound)
+      (λ last offered balanced. record {
+        store = puts s.store now packet fits sound.store;
+        balance = balanced;
+        offered_fits = omega (arith, sound.offered_fits, offered);
+      })
+  by_event (Delete limit) fits =
+      delete_cases s (λ r. Balances r.1 → IsState r.1) limit (λ busy same. sound)
+      (λ idle balanced. record { store = deletions s.store limit sound.store; balance = balanced; offered_fits = sound.offered_fits })
+  by_event e fits =
+      quiet_leaves s e tt (λ t. Balances t → IsState t)
+      (λ storage retrieval balanced. record { store = sound.store; balance = balanced; offered_fits = sound.offered_fits })
 
   -- an event whose times fit leaves a state
   pub event_keeps : (e : Event) → HasTimes e → IsState (step s e).1
-  event_keeps e fits = record {
-    store = (by_event e fits).0;
-    balance = balance s e sound;
-    offered_fits = (by_event e fits).1;
-  }
+  event_keeps e fits = by_event e fits (balance s e sound)
 
 -- a log whose times fit leaves a state
 pub log_keeps : KeepBalance → PutsKeepStores → DeletionsKeepStores → (s : State) (log : List Entry) → IsState s → All (λ e. HasTimes e.event) log → IsState (replay s log)

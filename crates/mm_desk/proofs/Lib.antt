@@ -1,4 +1,3 @@
-pub mod BalanceLemmas
 pub mod Logs
 pub mod Shuffles
 pub mod Leaving

@@ -1,15 +1,8 @@
 -- What becomes of packets, over any events from any state: each that was held or taken is deleted, held or given up. A
 -- retrieval gives what is held, the oldest first, each packet once.
 use Rattle.std.specs.Prelude.{◌≡◌, ◌+◌, if◌then◌else◌, List, [], ◌∷◌, ◌++◌, length, map, filter, nat_le, All, Contains, IsPermutation, Option, Some, None, is_some, Result, Ok, Err}
-use Rattle.mm_packet.specs.Packet.{SpacePacket}
-use Rattle.mm_store.specs.declared.stored.Stored.{Stored}
+use Rattle.mm_desk.specs.Types.{SpacePacket, Stored, Event, Offer, Begin, Next, Delete, Fault, Offered, Kept, KeptOver, Lost, Returned}
 use Rattle.mm_store.specs.Content.{IsRising}
-use Rattle.mm_desk.specs.declared.event.Event.{Event}
-use Rattle.mm_desk.specs.declared.event.Event.TheVariants.{Offer, Begin, Next, Delete}
-use Rattle.mm_desk.specs.declared.fault.Fault.{Fault}
-use Rattle.mm_desk.specs.declared.reply.Offered.{Offered}
-use Rattle.mm_desk.specs.declared.reply.Offered.TheVariants.{Kept, KeptOver, Lost}
-use Rattle.mm_desk.specs.declared.reply.Returned.{Returned}
 use Rattle.mm_desk.specs.Machine.{State, offer, next, step}
 
 -- the packets of pairs of a time and a packet

@@ -3,8 +3,7 @@ use Rattle.mm_base.specs.declared.refusal.Refusal.{Refusal}
 use Rattle.mm_base.specs.declared.refusal.Refusal.TheVariants as refusal
 use Rattle.mm_store.specs.declared.fault.Fault.{Fault as StoreFault}
 use Rattle.mm_store.specs.declared.fault.Fault.TheVariants as store
-use Rattle.mm_desk.specs.declared.fault.Fault.{Fault}
-use Rattle.mm_desk.specs.declared.fault.Fault.TheVariants.{NoMemory, HoldsMore, Disabled, Busy, Idle, BadRange, ClockEnd, StorageOn}
+use Rattle.mm_desk.specs.Types.{Fault, NoMemory, HoldsMore, Disabled, Busy, Idle, BadRange, ClockEnd, StorageOn}
 
 -- which refusal it is
 abbrev pub refusal_of : Fault → Refusal

@@ -1,9 +1,6 @@
 -- Laws of the store machine, over lists of events and of entries alone.
 use Rattle.std.specs.Prelude.{◌≡◌, ◌≢◌, ℕ, ◌<◌, ◌≤◌, ◌^◌, List, [], length, slice_index_or, All}
-use Rattle.mm_store.specs.declared.stored.Stored.{Stored}
-use Rattle.mm_desk.specs.declared.entry.Entry.{Entry}
-use Rattle.mm_desk.specs.declared.event.Event.{Event}
-use Rattle.mm_desk.specs.declared.event.Event.TheVariants.{Offer, Begin, Delete}
+use Rattle.mm_desk.specs.Types.{Stored, Entry, Event, Offer, Begin, Delete}
 use Rattle.mm_desk.specs.Machine.{State, Balances, IsState, step}
 use Rattle.mm_desk.specs.Offers.{AreTaken, IsShuffleOfEvents, count_of, Leaves}
 use Rattle.mm_desk.specs.Orders.{IsOrderOf, Dumps}

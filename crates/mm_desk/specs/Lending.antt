@@ -2,11 +2,8 @@
 use Rattle.std.specs.Prelude.{◌≡◌, ℕ, ⊤, Option, Result, Ok, Err}
 use Rattle.std.specs.Borrow.{Bor, MutBor, Fml, follows_so}
 use mathlib.Core.Option.{none}
-use Rattle.mm_packet.specs.Packet.{SpacePacket}
-use Rattle.mm_store.specs.declared.stored.Stored.{Stored}
+use Rattle.mm_desk.specs.Types.{SpacePacket, Stored, Next, Fault}
 use Rattle.mm_store.specs.Content.{shown}
-use Rattle.mm_desk.specs.declared.event.Event.TheVariants.{Next}
-use Rattle.mm_desk.specs.declared.fault.Fault.{Fault}
 use Rattle.mm_desk.specs.declared.reply.Reply.TheVariants.{Given}
 use Rattle.mm_desk.specs.contracts.state.StoreState.{the_row}
 use Rattle.mm_desk.specs.Machine.{State, step}

@@ -1,4 +1,5 @@
 pub use Rattle.mm_store.specs.Content
+pub mod Types
 pub mod Fault
 pub mod Machine
 pub mod Rest

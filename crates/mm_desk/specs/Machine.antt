@@ -1,22 +1,12 @@
 -- The store machine: what a store with its storage switch, its retrieval and its counters answers to each event, and the
 -- state that it leaves. What it holds is changed by the definitions of packet stores.
 use Rattle.std.specs.Prelude.{◌≡◌, ℕ, ◌+◌, ◌<◌, ◌^◌, Bool, true, false, not, ◌||◌, ◌==◌, nat_lt, if◌then◌else◌, length, Option, Some, None, is_some, Result, Ok, Err}
-use Rattle.mm_packet.specs.Packet.{SpacePacket}
-use Rattle.mm_store.specs.declared.stored.Stored.{Stored}
-use Rattle.mm_store.specs.declared.put.Put.{Put}
+use Rattle.mm_desk.specs.Types.{SpacePacket, Stored, Put, Event, Offer, Begin, Next, Abort, Delete, Enable, Disable, Fault, Disabled, Busy, Idle, BadRange}
+use Rattle.mm_desk.specs.Types.{ClockEnd, Offered, Kept, KeptOver, Lost, Returned, Reply, Retrieval}
 use Rattle.mm_store.specs.declared.put.Put.TheVariants as put
 use Rattle.mm_store.specs.Content.{Store, IsStore, clock_end, put, first_in, count_up_to, delete_up_to}
 use Rattle.mm_store.specs.Laws.{handed_back}
-use Rattle.mm_desk.specs.declared.event.Event.{Event}
-use Rattle.mm_desk.specs.declared.event.Event.TheVariants.{Offer, Begin, Next, Abort, Delete, Enable, Disable}
-use Rattle.mm_desk.specs.declared.fault.Fault.{Fault}
-use Rattle.mm_desk.specs.declared.fault.Fault.TheVariants.{Disabled, Busy, Idle, BadRange, ClockEnd}
-use Rattle.mm_desk.specs.declared.reply.Offered.{Offered}
-use Rattle.mm_desk.specs.declared.reply.Offered.TheVariants.{Kept, KeptOver, Lost}
-use Rattle.mm_desk.specs.declared.reply.Returned.{Returned}
-use Rattle.mm_desk.specs.declared.reply.Reply.{Reply}
 use Rattle.mm_desk.specs.declared.reply.Reply.TheVariants as reply
-use Rattle.mm_desk.specs.declared.state.Retrieval.{Retrieval}
 
 -- a store, whether storage is on, the retrieval that is on, and how many packets were offered, lost and deleted
 pub record State : Type 0 where

@@ -1,9 +1,7 @@
 -- A dump order at a desk: the calls that carry it out, and what it dumps.
 use Rattle.std.specs.Prelude.{◌≡◌, ℕ, ◌+◌, ◌≤◌, min, nat_lt, if◌then◌else◌, List, [], ◌∷◌, ◌++◌, length, map, Some, None, Ok}
-use Rattle.mm_store.specs.declared.stored.Stored.{Stored}
+use Rattle.mm_desk.specs.Types.{Stored, Entry, Begin, Next, Abort, Delete}
 use Rattle.mm_store.specs.Content.{clock_end}
-use Rattle.mm_desk.specs.declared.entry.Entry.{Entry}
-use Rattle.mm_desk.specs.declared.event.Event.TheVariants.{Begin, Next, Abort, Delete}
 use Rattle.mm_desk.specs.declared.reply.Reply.TheVariants as reply
 use Rattle.mm_desk.specs.Machine.{State}
 use Rattle.mm_desk.specs.Runs.{entry}

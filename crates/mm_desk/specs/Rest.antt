@@ -1,7 +1,6 @@
 -- A store at rest, which may be resized, change its kind, or be deleted.
 use Rattle.std.specs.Prelude.{ℕ, nat_lt, if◌then◌else◌, length, Option, Some, None, is_some}
-use Rattle.mm_desk.specs.declared.fault.Fault.{Fault}
-use Rattle.mm_desk.specs.declared.fault.Fault.TheVariants.{HoldsMore, Busy, StorageOn}
+use Rattle.mm_desk.specs.Types.{Fault, HoldsMore, Busy, StorageOn}
 use Rattle.mm_desk.specs.Machine.{State}
 
 -- why a store is not at rest

@@ -1,10 +1,7 @@
 -- A run of the machine: the log of the calls made, and the state that it leaves.
 use Rattle.std.specs.Prelude.{◌≡◌, ℕ, List, [], ◌∷◌, slice_index_or}
-use Rattle.mm_base.specs.declared.kind.Kind.TheVariants.{Bounded}
+use Rattle.mm_desk.specs.Types.{Bounded, Entry, Event, Reply}
 use Rattle.mm_store.specs.Content.{empty_store}
-use Rattle.mm_desk.specs.declared.entry.Entry.{Entry}
-use Rattle.mm_desk.specs.declared.event.Event.{Event}
-use Rattle.mm_desk.specs.declared.reply.Reply.{Reply}
 use Rattle.mm_desk.specs.Machine.{State, opening, step}
 
 -- what a log keeps of a call by this seat

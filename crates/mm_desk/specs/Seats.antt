@@ -1,10 +1,6 @@
 -- The seats of a desk, and what a call through one does.
 use Rattle.std.specs.Prelude.{◌≡◌, ◌≢◌, ℕ, ◌<◌, List, [], ◌∷◌, ◌++◌, length, map, slice_index_or, Err}
-use Rattle.mm_desk.specs.declared.entry.Entry.{Entry}
-use Rattle.mm_desk.specs.declared.event.Event.{Event}
-use Rattle.mm_desk.specs.declared.event.Event.TheVariants.{Offer, Begin, Next, Abort, Delete, Enable, Disable}
-use Rattle.mm_desk.specs.declared.fault.Fault.TheVariants.{NoMemory}
-use Rattle.mm_desk.specs.declared.reply.Reply.{Reply}
+use Rattle.mm_desk.specs.Types.{Entry, Event, Offer, Begin, Next, Abort, Delete, Enable, Disable, NoMemory, Reply}
 use Rattle.mm_desk.specs.declared.reply.Reply.TheVariants as reply
 use Rattle.mm_desk.specs.Machine.{State}
 use Rattle.mm_desk.specs.Runs.{entry}

@@ -15,6 +15,7 @@ pub fn is_below(log: &[Entry], seats: u32) -> bool
 }
 
 /// Whether a list is the part of this seat in a log.
+#[tactic(auto, using(crate::proofs::Shuffles::all_met))]
 pub fn is_part(log: &[Entry], seat: u32, list: &[Entry]) -> bool
     ensures part { IsTrue result ↔ (part seat log.now ≡ list.now) }
 {

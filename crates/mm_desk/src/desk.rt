@@ -60,12 +60,13 @@ pub struct Closed<N: Opening> {
     pub agree: bool,
 }
 
-// What a call was answered, by this reading of its reply; the event comes back where there was no memory.
+// What a call was answered, in a reply of this case; the event comes back where there was no memory.
 macro_rules! answered {
-    ($called:expr; $reading:ident) => {
+    ($case:ident, $called:expr) => {
         match $called {
-            Ok(reply) => reply.$reading(),
+            Ok(Reply::$case(answer)) => answer,
             Err(_) => Err(Fault::NoMemory),
+            _ => unreachable!(),
         }
     };
 }
@@ -76,7 +77,13 @@ impl<N: Opening> Desk<N> {
         requires state { state ≡ opening_at N.states place }
         ensures desk { result ≡ desk_view place seats }
     {
-        let locked = Mutex::new(LockedStore::new(alloc, state, place));
+        let log = Vec::new(alloc);
+        let locked = Mutex::new(LockedStore {
+            place,
+            state,
+            log,
+            of: PhantomData,
+        });
         Desk {
             place,
             seats,
@@ -162,18 +169,16 @@ impl<N: Opening> Desk<N> {
         if seat.list.reserve(1).is_err() {
             return Err(event);
         }
-        let Ok(logged) = event.copy(alloc) else {
-            return Err(event);
-        };
-        let Ok(listed) = event.copy(alloc) else {
+        let (Ok(logged), Ok(listed)) = (event.copy(alloc), event.copy(alloc)) else {
             return Err(event);
         };
         let number = seat.number();
-        let answered = self
-            .locked
-            .lock(rt)
-            .call(alloc, number, event, logged, listed)?;
-        seat.list.push_reserved(answered.entry);
+        let answered = self.locked.lock(rt).call(alloc, number, event, logged)?;
+        seat.list.push_reserved(Entry {
+            seat: number,
+            event: listed,
+            reply: answered.listed,
+        });
         Ok(answered.reply)
     }
 
@@ -210,7 +215,7 @@ impl<N: Opening> Desk<N> {
     ) -> Result<(), Fault>
         ensures tells { Tells seat.old (Event.Begin from to) (Reply.Done result) seat.new }
     {
-        answered!(self.call(rt, alloc, Event::Begin(from, to), seat); done)
+        answered!(Done, self.call(rt, alloc, Event::Begin(from, to), seat))
     }
 
     /// Gives a copy of the next packet of the retrieval with its storage time; nothing at its end, where it is over.
@@ -222,18 +227,14 @@ impl<N: Opening> Desk<N> {
     ) -> Result<Option<Stored>, Fault>
         ensures tells { Tells seat.old Event.Next (Reply.Given result) seat.new }
     {
-        match self.call(rt, alloc, Event::Next, seat) {
-            Ok(Reply::Given(answer)) => answer,
-            Err(_) => Err(Fault::NoMemory),
-            _ => unreachable!(),
-        }
+        answered!(Given, self.call(rt, alloc, Event::Next, seat))
     }
 
     /// Ends the retrieval.
     pub fn abort<R: Wait>(&self, rt: &R, alloc: Global, seat: &mut Seat<N>) -> Result<(), Fault>
         ensures tells { Tells seat.old Event.Abort (Reply.Done result) seat.new }
     {
-        answered!(self.call(rt, alloc, Event::Abort, seat); done)
+        answered!(Done, self.call(rt, alloc, Event::Abort, seat))
     }
 
     /// Deletes the packets up to a time, that time included, and returns their number.
@@ -246,20 +247,20 @@ impl<N: Opening> Desk<N> {
     ) -> Result<u32, Fault>
         ensures tells { Tells seat.old (Event.Delete limit) (Reply.Deleted result) seat.new }
     {
-        answered!(self.call(rt, alloc, Event::Delete(limit), seat); deleted)
+        answered!(Deleted, self.call(rt, alloc, Event::Delete(limit), seat))
     }
 
     /// Switches storage on.
     pub fn enable<R: Wait>(&self, rt: &R, alloc: Global, seat: &mut Seat<N>) -> Result<(), Fault>
         ensures tells { Tells seat.old Event.Enable (Reply.Done result) seat.new }
     {
-        answered!(self.call(rt, alloc, Event::Enable, seat); done)
+        answered!(Done, self.call(rt, alloc, Event::Enable, seat))
     }
 
     /// Switches storage off. A retrieval goes on.
     pub fn disable<R: Wait>(&self, rt: &R, alloc: Global, seat: &mut Seat<N>) -> Result<(), Fault>
         ensures tells { Tells seat.old Event.Disable (Reply.Done result) seat.new }
     {
-        answered!(self.call(rt, alloc, Event::Disable, seat); done)
+        answered!(Done, self.call(rt, alloc, Event::Disable, seat))
     }
 }

@@ -36,6 +36,7 @@ pub fn events_conserve_packets()
 {}
 
 /// A retrieval gives what was held or offered before, and its packets have rising times: none comes twice.
+#[tactic(auto, using(crate::proofs::FateLemmas::gives_known, crate::proofs::FateLemmas::gives_in_order))]
 pub fn retrievals_give_in_order()
     ensures known { GiveWhatIsKnown }
     ensures rising { GiveInOrder }

@@ -1,7 +1,7 @@
 //! What is under a desk's lock.
 ghost use Rattle.std.specs.Prelude.{◌≡◌, ◌∷◌, [], ◌++◌, IfOk, IfErr, OnErr};
 ghost use Rattle.mm_desk.specs.Answers.{Answers};
-ghost use Rattle.mm_desk.specs.Runs.{entry, opening_at};
+ghost use Rattle.mm_desk.specs.Runs.{entry};
 
 use crate::entry::Entry;
 use crate::event::Event;
@@ -31,41 +31,26 @@ impl<N: Opening> Model for LockedStore<N> {
     ghost invariant = { λ s. IsRun (opening_at N.states s.place) s.log.items s.state };
 }
 
-// The reply to a call, and the entry for the seat's list.
+// The reply to a call, and another one for the seat's list.
 #[derive(Drop)]
 pub(crate) struct Answered {
     pub(crate) reply: Reply,
-    pub(crate) entry: Entry,
+    pub(crate) listed: Reply,
+    ghost same: { listed ≡ reply },
 }
 
 impl<N: Opening> LockedStore<N> {
-    // The state that was opened, and an empty log.
-    pub(crate) fn new(alloc: Global, state: StoreState, place: u32) -> LockedStore<N>
-        requires state { state ≡ opening_at N.states place }
-        ensures kept { result ≡ record { place = place; state = state; log = [] } }
-    {
-        let log = Vec::new(alloc);
-        LockedStore {
-            place,
-            state,
-            log,
-            of: PhantomData,
-        }
-    }
-
     // Makes the event's call for a seat and logs it. Where there is no memory the event comes back.
+    #[tactic(auto, using(crate::proofs::Answering::step_answers))]
     pub(crate) fn call(
         &mut self,
         alloc: Global,
         seat: u32,
         event: Event,
         logged: Event,
-        listed: Event,
     ) -> Result<Answered, Event>
         requires logged { logged ≡ event }
-        requires listed { listed ≡ event }
         ensures log { IfOk result (λ r. self.new.log ≡ self.old.log ++ entry seat event r.reply ∷ []) }
-        ensures entry { IfOk result (λ r. r.entry ≡ entry seat event r.reply) }
         ensures answers { IfOk result (λ r. Answers event r.reply) }
         ensures back { IfErr result (λ back. back ≡ event) }
         ensures err { OnErr result (self.new ≡ self.old) }
@@ -79,14 +64,9 @@ impl<N: Opening> LockedStore<N> {
             event: logged,
             reply: copies.logged,
         });
-        let entry = Entry {
-            seat,
-            event: listed,
-            reply: copies.listed,
-        };
         Ok(Answered {
             reply: copies.answer,
-            entry,
+            listed: copies.listed,
         })
     }
 }

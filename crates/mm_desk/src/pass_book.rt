@@ -78,28 +78,6 @@ impl<W: Passing> PassSeat<W> {
     }
 }
 
-impl<W: Passing> WindowState<W> {
-    // Draws from what is left of the window.
-    fn draw(&mut self, seat: &mut PassSeat<W>, n: u64) -> Result<(), WindowFull>
-        ensures ok { OnOk result (seat.new ≡ seat.old + n) }
-        ensures within { OnOk result (seat.new ≤ W.window) }
-        ensures full { IfErr result (λ full. full.left < n) }
-        ensures left { IfErr result (λ full. full.left + seat.old ≤ W.window) }
-        ensures err { OnErr result (seat.new ≡ seat.old) }
-    {
-        self.book.audit(&mut seat.share);
-        let left = self.window - self.drawn;
-        if left < n {
-            return Err(WindowFull { left });
-        }
-        self.book.add(&mut seat.share, n);
-        self.book.audit(&mut seat.share);
-        self.drawn += n;
-        seat.drawn += n;
-        Ok(())
-    }
-}
-
 impl<W: Passing> PassBook<W> {
     /// A pass book with nothing drawn, and its seats.
     pub fn open(
@@ -139,7 +117,18 @@ impl<W: Passing> PassBook<W> {
         ensures left { IfErr result (λ full. full.left + seat.old ≤ W.window) }
         ensures err { OnErr result (seat.new ≡ seat.old) }
     {
-        self.state.lock(rt).draw(seat, n)
+        let mut locked = self.state.lock(rt);
+        let state = &mut *locked;
+        state.book.audit(&mut seat.share);
+        let left = state.window - state.drawn;
+        if left < n {
+            return Err(WindowFull { left });
+        }
+        state.book.add(&mut seat.share, n);
+        state.book.audit(&mut seat.share);
+        state.drawn += n;
+        seat.drawn += n;
+        Ok(())
     }
 
     /// Closes the book with all its seats, and returns how much was drawn.

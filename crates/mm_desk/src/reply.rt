@@ -1,7 +1,6 @@
 //! What a store answers.
 ghost use Rattle.std.specs.Prelude.{◌≡◌, ◌≤◌, ◌↔◌, IsTrue};
 ghost use Rattle.mm_store.specs.Laws.{handed_back};
-ghost use Rattle.mm_desk.specs.Answers.{IsDone, IsDeleted};
 ghost use Rattle.mm_desk.specs.Machine.{answer_of};
 
 use crate::fault::Fault;
@@ -70,60 +69,15 @@ impl Reply {
         ensures equal { IsTrue result ↔ (self.now ≡ other.now) }
     {
         match (self, other) {
-            (Reply::Offered(answer), Reply::Offered(second)) => are_same_offers(answer, second),
+            (Reply::Offered(Ok(answer)), Reply::Offered(Ok(second))) => answer.is(second),
+            (Reply::Offered(Err(back)), Reply::Offered(Err(second))) => back.is(second),
             (Reply::Done(answer), Reply::Done(second)) => answer == second,
-            (Reply::Given(answer), Reply::Given(second)) => are_same_packets(answer, second),
+            (Reply::Given(Ok(Some(stored))), Reply::Given(Ok(Some(second)))) => stored.is(second),
+            (Reply::Given(Ok(None)), Reply::Given(Ok(None))) => true,
+            (Reply::Given(Err(fault)), Reply::Given(Err(second))) => fault == second,
             (Reply::Deleted(answer), Reply::Deleted(second)) => answer == second,
             _ => false,
         }
-    }
-
-    // Whether what was asked is done.
-    pub(crate) fn done(self) -> Result<(), Fault>
-        requires done { IsDone self }
-        ensures reply { self ≡ Reply.Done result }
-    {
-        match self {
-            Reply::Done(answer) => answer,
-            _ => unreachable!(),
-        }
-    }
-
-    // How many packets are deleted.
-    pub(crate) fn deleted(self) -> Result<u32, Fault>
-        requires deleted { IsDeleted self }
-        ensures reply { self ≡ Reply.Deleted result }
-    {
-        match self {
-            Reply::Deleted(answer) => answer,
-            _ => unreachable!(),
-        }
-    }
-}
-
-// Whether two answers to offers are equal.
-fn are_same_offers(answer: &Result<Offered, Returned>, other: &Result<Offered, Returned>) -> bool
-    ensures equal { IsTrue result ↔ (answer.now ≡ other.now) }
-{
-    match (answer, other) {
-        (Ok(offered), Ok(second)) => offered.is(second),
-        (Err(back), Err(second)) => back.is(second),
-        _ => false,
-    }
-}
-
-// Whether two answers of a retrieval are equal.
-fn are_same_packets(
-    answer: &Result<Option<Stored>, Fault>,
-    other: &Result<Option<Stored>, Fault>,
-) -> bool
-    ensures equal { IsTrue result ↔ (answer.now ≡ other.now) }
-{
-    match (answer, other) {
-        (Ok(Some(stored)), Ok(Some(second))) => stored.is(second),
-        (Ok(None), Ok(None)) => true,
-        (Err(fault), Err(second)) => fault == second,
-        _ => false,
     }
 }
 

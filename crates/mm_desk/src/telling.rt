@@ -1,6 +1,7 @@
 //! One reply told three times: to the caller, to the log and to the seat's list.
-ghost use Rattle.std.specs.Prelude.{◌≡◌, ◌<◌, ◌≤◌, ◌-◌, ◌^◌, true, length, IfOk, IfErr, OnErr};
-ghost use Rattle.mm_desk.specs.Machine.{offer, step};
+ghost use Rattle.std.specs.Prelude.{◌≡◌, ◌<◌, ◌-◌, ◌^◌, IfOk, IfErr, OnErr};
+ghost use Rattle.mm_store.specs.Content.{put};
+ghost use Rattle.mm_desk.specs.Machine.{answer_of, offer, step};
 
 use crate::event::Event;
 use crate::fault::Fault;
@@ -8,7 +9,7 @@ use crate::reply::{Offered, Reply, Returned};
 use crate::state::StoreState;
 use mm_base::{Kind, NoMemory};
 use mm_packet::BlockPacket;
-use mm_store::{PacketStore, Stored};
+use mm_store::{AnyStore, PacketStore, Stored};
 use std::alloc::Global;
 
 // Three equal replies.
@@ -17,10 +18,15 @@ pub(crate) struct ReplyCopies {
     pub(crate) answer: Reply,
     pub(crate) logged: Reply,
     pub(crate) listed: Reply,
+    ghost same: { (logged ≡ answer) × (listed ≡ answer) },
 }
 
-// One answer as three replies of this case.
+// One answer as three replies of this case: a call's, or one that is made three times.
 macro_rules! copies {
+    ($case:ident of $called:expr) => {{
+        let answer = $called;
+        copies!($case, answer)
+    }};
     ($case:ident, $answer:expr) => {
         ReplyCopies {
             answer: Reply::$case($answer),
@@ -30,52 +36,44 @@ macro_rules! copies {
     };
 }
 
-// A packet that was found, with its time, as a reply.
-fn given(time: u64, packet: BlockPacket) -> Reply
-    ensures given { result ≡ Reply.Given (Ok (Some (record { time = time; packet = packet }))) }
+// Copies of a packet that was found, with its time.
+fn given(alloc: Global, time: u64, packet: &BlockPacket) -> Result<ReplyCopies, NoMemory>
+    ensures given { IfOk result (λ c. c.answer ≡ Reply.Given (Ok (Some (record { time = time; packet = packet.now })))) }
 {
-    Reply::Given(Ok(Some(Stored { time, packet })))
+    Ok(copies!(
+        Given,
+        Ok(Some(Stored {
+            time,
+            packet: packet.copy(alloc)?
+        }))
+    ))
 }
 
-impl ReplyCopies {
-    // Copies of a packet that was found, with its time.
-    fn given(alloc: Global, time: u64, packet: &BlockPacket) -> Result<ReplyCopies, NoMemory>
-        ensures answer { IfOk result (λ c. c.answer ≡ Reply.Given (Ok (Some (record { time = time; packet = packet.now })))) }
-        ensures copies { IfOk result (λ c. (c.logged ≡ c.answer) × (c.listed ≡ c.answer)) }
-    {
-        let answer = packet.copy(alloc)?;
-        let logged = packet.copy(alloc)?;
-        let listed = packet.copy(alloc)?;
-        Ok(ReplyCopies {
-            answer: given(time, answer),
-            logged: given(time, logged),
-            listed: given(time, listed),
-        })
+// What a put before the end of the clock would be answered.
+#[tactic(auto, using(crate::proofs::Foreseeing::put_over))]
+fn foresee_put(
+    store: &AnyStore,
+    alloc: Global,
+    now: u64,
+    packet: &BlockPacket,
+) -> Result<Offered, NoMemory>
+    requires early { store.now.last < 2 ^ 64 - 1 }
+    ensures foreseen { IfOk result (λ offered. answer_of (put store.now now packet.now).0 ≡ Ok offered) }
+{
+    let time = now.max(store.last_time() + 1);
+    if store.len() < store.size() {
+        return Ok(Offered::Kept(time));
+    }
+    match store.kind() {
+        Kind::Circular => match store.first_in(0, u64::MAX, 0) {
+            Some((_, oldest)) => Ok(Offered::KeptOver(time, oldest.copy(alloc)?)),
+            None => Ok(Offered::Lost(packet.copy(alloc)?)),
+        },
+        Kind::Bounded => Ok(Offered::Lost(packet.copy(alloc)?)),
     }
 }
 
 impl StoreState {
-    // What a full circular store would answer to an offer.
-    fn foresee_over(
-        &self,
-        alloc: Global,
-        now: u64,
-        packet: &BlockPacket,
-    ) -> Result<Result<Offered, Returned>, NoMemory>
-        requires storage { self.now.storage ≡ true }
-        requires early { self.now.store.last < 2 ^ 64 - 1 }
-        requires counted { self.now.offered < 2 ^ 64 - 1 }
-        requires full { self.now.store.size ≤ length self.now.store.content }
-        requires kind { self.now.store.kind ≡ Kind.Circular }
-        ensures foreseen { IfOk result (λ r. r ≡ (offer self.now now packet.now).0) }
-    {
-        let time = now.max(self.store.last_time() + 1);
-        match self.store.first_in(0, u64::MAX, 0) {
-            Some((_, oldest)) => Ok(Ok(Offered::KeptOver(time, oldest.copy(alloc)?))),
-            None => Ok(Ok(Offered::Lost(packet.copy(alloc)?))),
-        }
-    }
-
     // What an offer would be answered.
     fn foresee_offer(
         &self,
@@ -85,24 +83,15 @@ impl StoreState {
     ) -> Result<Result<Offered, Returned>, NoMemory>
         ensures foreseen { IfOk result (λ r. r ≡ (offer self.now now packet.now).0) }
     {
-        if !self.storage {
-            let fault = Fault::Disabled;
-            let packet = packet.copy(alloc)?;
-            return Ok(Err(Returned { fault, packet }));
-        }
-        if self.store.last_time() == u64::MAX || self.offered == u64::MAX {
-            let fault = Fault::ClockEnd;
-            let packet = packet.copy(alloc)?;
-            return Ok(Err(Returned { fault, packet }));
-        }
-        if self.store.len() < self.store.size() {
-            let time = now.max(self.store.last_time() + 1);
-            return Ok(Ok(Offered::Kept(time)));
-        }
-        match self.store.kind() {
-            Kind::Circular => self.foresee_over(alloc, now, packet),
-            Kind::Bounded => Ok(Ok(Offered::Lost(packet.copy(alloc)?))),
-        }
+        let fault = if !self.storage {
+            Fault::Disabled
+        } else if self.store.last_time() == u64::MAX || self.offered == u64::MAX {
+            Fault::ClockEnd
+        } else {
+            return Ok(Ok(foresee_put(&self.store, alloc, now, packet)?));
+        };
+        let packet = packet.copy(alloc)?;
+        Ok(Err(Returned { fault, packet }))
     }
 
     fn tell_offer(
@@ -112,14 +101,12 @@ impl StoreState {
         packet: BlockPacket,
     ) -> Result<ReplyCopies, Event>
         ensures answer { IfOk result (λ c. step self.old (Event.Offer now packet) ≡ (c.answer, self.new)) }
-        ensures copies { IfOk result (λ c. (c.logged ≡ c.answer) × (c.listed ≡ c.answer)) }
         ensures back { IfErr result (λ back. back ≡ Event.Offer now packet) }
         ensures err { OnErr result (self.new ≡ self.old) }
     {
-        let Ok(logged) = self.foresee_offer(alloc, now, &packet) else {
-            return Err(Event::Offer(now, packet));
-        };
-        let Ok(listed) = self.foresee_offer(alloc, now, &packet) else {
+        let first = self.foresee_offer(alloc, now, &packet);
+        let second = self.foresee_offer(alloc, now, &packet);
+        let (Ok(logged), Ok(listed)) = (first, second) else {
             return Err(Event::Offer(now, packet));
         };
         let answer = self.offer(now, packet);
@@ -132,7 +119,6 @@ impl StoreState {
 
     fn tell_next(&mut self, alloc: Global) -> Result<ReplyCopies, Event>
         ensures answer { IfOk result (λ c. step self.old Event.Next ≡ (c.answer, self.new)) }
-        ensures copies { IfOk result (λ c. (c.logged ≡ c.answer) × (c.listed ≡ c.answer)) }
         ensures back { IfErr result (λ back. back ≡ Event.Next) }
         ensures err { OnErr result (self.new ≡ self.old) }
     {
@@ -146,7 +132,7 @@ impl StoreState {
             &mut self.place,
         ) {
             Some((time, packet)) => {
-                let Ok(copies) = ReplyCopies::given(alloc, time, packet) else {
+                let Ok(copies) = given(alloc, time, packet) else {
                     return Err(Event::Next);
                 };
                 retrieval.after = time;
@@ -162,25 +148,15 @@ impl StoreState {
     // Makes the event's call, and tells its reply three times. Where there is no memory the event comes back.
     pub(crate) fn apply(&mut self, alloc: Global, event: Event) -> Result<ReplyCopies, Event>
         ensures answer { IfOk result (λ c. step self.old event ≡ (c.answer, self.new)) }
-        ensures copies { IfOk result (λ c. (c.logged ≡ c.answer) × (c.listed ≡ c.answer)) }
         ensures back { IfErr result (λ back. back ≡ event) }
         ensures err { OnErr result (self.new ≡ self.old) }
     {
         match event {
             Event::Offer(now, packet) => self.tell_offer(alloc, now, packet),
-            Event::Begin(from, to) => {
-                let answer = self.begin(from, to);
-                Ok(copies!(Done, answer))
-            }
+            Event::Begin(from, to) => Ok(copies!(Done of self.begin(from, to))),
             Event::Next => self.tell_next(alloc),
-            Event::Abort => {
-                let answer = self.abort();
-                Ok(copies!(Done, answer))
-            }
-            Event::Delete(limit) => {
-                let answer = self.delete(limit);
-                Ok(copies!(Deleted, answer))
-            }
+            Event::Abort => Ok(copies!(Done of self.abort())),
+            Event::Delete(limit) => Ok(copies!(Deleted of self.delete(limit))),
             Event::Enable => {
                 self.enable();
                 Ok(copies!(Done, Ok(())))

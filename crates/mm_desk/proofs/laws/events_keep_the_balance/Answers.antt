@@ -1,4 +1,4 @@
-use Rattle.mm_desk.proofs.BalanceLemmas.{balanced}
+use Rattle.mm_desk.proofs.Keeping.{balanced}
 use Rattle.mm_desk.proofs.laws.events_keep_the_balance.Goals as goal
 
 pub returns : goal.returns

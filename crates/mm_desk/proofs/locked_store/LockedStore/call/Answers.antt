@@ -1,26 +1,7 @@
-use Rattle.std.proofs.Common.{◌≡◌, List, ◌∷◌, [], ◌++◌, ap, ◌∙◌, subst}
-use Rattle.mm_desk.specs.Answers.{Answers}
-use Rattle.mm_desk.specs.declared.reply.Reply.{Reply}
-use Rattle.mm_desk.specs.Machine.{State, step}
-use Rattle.mm_desk.specs.Runs.{entry}
-use Rattle.mm_desk.specs.Seats.{LockedStoreView}
-use Rattle.mm_desk.proofs.Answering.{step_answers}
 use Rattle.mm_desk.proofs.Logs.{run_more}
 use Rattle.mm_desk.proofs.locked_store.LockedStore.call.Goals as goal
 
 pub invariant_of-self-2 : goal.invariant_of-self-2
 invariant_of-self-2 g c =
-    rw (c.push_reserved.ensures.items, c.reserve.ensures.items, c.requires.logged, c.in_ok-copies.ensures.copies.0) (run_more _ _ _ _ _ _ _ c.self.invariant c.in_ok-copies.ensures.answer)
-
-pub returns-clause-log : goal.returns-clause-log
-returns-clause-log g c =
-    rw (c.push_reserved.ensures.items, c.reserve.ensures.items, c.requires.logged, c.in_ok-copies.ensures.copies.0)
-    (ap (λ (s : LockedStoreView). s.log ++ entry c.args.seat c.args.event c.in_ok-copies.copies.answer ∷ []) c.self.view_is)
-
-pub returns-clause-entry : goal.returns-clause-entry
-returns-clause-entry g c = rw (c.requires.listed, c.in_ok-copies.ensures.copies.1)
-
-pub returns-clause-answers : goal.returns-clause-answers
-returns-clause-answers g c =
-    let reply = ap (λ (p : Reply × State). p.0) c.in_ok-copies.ensures.answer in
-    subst (λ (r : Reply). Answers c.args.event r) reply (step_answers c.self.inside.state c.args.event)
+    rw (c.push_reserved.ensures.items, c.reserve.ensures.items, c.requires.logged, c.in_ok-copies.copies.same.0)
+    (run_more _ _ _ _ _ _ _ c.self.invariant c.in_ok-copies.ensures.answer)

@@ -1,4 +1,4 @@
-use Rattle.std.proofs.Common.{length, ap, arith}
+use Rattle.std.proofs.Common.{length, ap, arith, rules}
 use Rattle.mm_store.specs.Content.{Store}
 use Rattle.mm_store.proofs.ContentLemmas.{count_up_to-kept}
 use Rattle.mm_desk.proofs.state.StoreState.delete.Goals as goal
@@ -7,8 +7,4 @@ pub invariant_of-self : goal.invariant_of-self
 invariant_of-self c =
     let left = ap (λ (s : Store). length s.content) c.delete_up_to-count.ensures.after in
     let all = count_up_to-kept c.args.limit c.self.inside.store.content in
-    record {
-      store = c.delete_up_to-count.ensures.sound;
-      balance = omega (arith, left, all, c.self.invariant.balance, c.from.ensures, c.delete_up_to-count.ensures.count);
-      offered_fits = c.self.invariant.offered_fits;
-    }
+    search (arith, rules, left, all, c.delete_up_to-count.ensures, c.self.invariant, c.from.ensures)
