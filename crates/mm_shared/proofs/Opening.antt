@@ -23,7 +23,7 @@ pub together : (stores : List Held) → held_stores (map label_of stores) (state
 together [] = refl
 together (h ∷ hs) = ap (λ (xs : List Held). h ∷ xs) (together hs)
 
--- the labels and the states of stores that were put together
+-- the labels and the states of stores that were put together, and how many there are
 pub labels_are : (labels : List StoreLabel) (states : List State) → length labels ≡ length states → labels_of (held_stores labels states) ≡ names_of labels
 labels_are [] [] same = refl
 labels_are [] (s ∷ states) same = refl
@@ -36,19 +36,18 @@ states_are [] (s ∷ states) same = absurd (omega (arith, same))
 states_are (l ∷ labels) [] same = refl
 states_are (l ∷ labels) (s ∷ states) same = ap (λ (xs : List State). s ∷ xs) (states_are labels states (omega (arith, same)))
 
+pub count_is : (labels : List StoreLabel) (states : List State) → length labels ≡ length states → length (held_stores labels states) ≡ length labels
+count_is labels states same = sym (length-map (held_stores labels states) (λ h. h.state)) ∙ (ap length (states_are labels states same) ∙ sym same)
+
 -- stores with these labels are theirs with their states
 pub labelled : (labels : List StoreLabel) (stores : List Held) → labels_of stores ≡ names_of labels → held_stores labels (states_of stores) ≡ stores
 labelled [] [] same = refl
 labelled [] (h ∷ hs) same = absurd (omega (arith, ap length same))
 labelled (l ∷ labels) [] same = absurd (omega (arith, ap length same))
-labelled (l ∷ labels) (h ∷ hs) same = λ i. record { id = (first same).0 i; channel = (first same).1 i; state = h.state } ∷ labelled labels hs (ap (drop 1) same) i
-  where
-    head : List (List ℕ × ℕ) → List ℕ × ℕ
-    head [] = ([], 0)
-    head (x ∷ xs) = x
-
-    first : labels_of (h ∷ hs) ≡ names_of (l ∷ labels) → (l.id ≡ h.id) × (l.channel ≡ h.channel)
-    first same = (sym (ap (λ (xs : List (List ℕ × ℕ)). (head xs).0) same), sym (ap (λ (xs : List (List ℕ × ℕ)). (head xs).1) same))
+labelled (l ∷ labels) (h ∷ hs) same =
+    let name : ◌≡◌ {A = List ℕ × ℕ} (l.id, l.channel) (h.id, h.channel) = cc in
+    let others : labels_of hs ≡ names_of labels = cc in
+    λ i. record { id = (name i).0; channel = (name i).1; state = h.state } ∷ labelled labels hs others i
 
 -- there are as many as labels
 pub as_many : (labels : List StoreLabel) (stores : List Held) → labels_of stores ≡ names_of labels → length (states_of stores) ≡ length labels
@@ -56,8 +55,3 @@ as_many labels stores same =
     let named : length (labels_of stores) ≡ length stores = length-map stores _ in
     let labelled : length (names_of labels) ≡ length labels = length-map labels _ in
     omega (arith, ap length same, length-map stores (λ h. h.state))
-
--- how many stores there are
-pub count_is : (labels : List StoreLabel) (states : List State) → length labels ≡ length states → length (held_stores labels states) ≡ length labels
-count_is labels states same =
-    sym (length-map (held_stores labels states) (λ h. h.state)) ∙ as_many labels (held_stores labels states) (labels_are labels states same)

@@ -14,6 +14,10 @@ use Rattle.mm_shared.specs.Stores.{AreNamed, ids_of, id_at}
 no_label : StoreLabel
 no_label = record { id = []; channel = 0 }
 
+-- where no element passes the first that does is past all
+none_passes : (test : StoreLabel → Bool) (stores : List StoreLabel) → None ≡ position test stores → length stores ≤ position_or_len test stores
+none_passes test stores none = grind (arith, nat_tests)
+
 module _ (id : List ℕ) (stores : List StoreLabel) (named : AreNamed (ids_of stores)) where
   -- the store at an index has the identifier
   abbrev Has : ℕ → Bool → Type 0
@@ -37,14 +41,7 @@ module _ (id : List ℕ) (stores : List StoreLabel) (named : AreNamed (ids_of st
   pub place_is : (r : Option ℕ) → r ≡ position (λ s. bytes_eq s.id id) stores
       → IfSome r (λ k. k < length stores) × IfSome r (λ k. (j : ℕ) → j < length stores → bytes_eq (id_at (ids_of stores) j) id ≡ (j == k))
       × IfNone r ((j : ℕ) → j < length stores → bytes_eq (id_at (ids_of stores) j) id ≡ false)
-  place_is None none = (tt, tt, λ j within. at j false within (fails_before_first (λ (s : StoreLabel). bytes_eq s.id id) stores j no_label (let past = past_all (ltb first (length stores)) refl none in omega arith)))
-    where
-      first : ℕ
-      first = position_or_len (λ (s : StoreLabel). bytes_eq s.id id) stores
-
-      past_all : (b : Bool) → ltb first (length stores) ≡ b → None ≡ cond b (Some first) None → length stores ≤ first
-      past_all true within found = absurd (cc found)
-      past_all false past found = grind (arith, nat_tests)
+  place_is None none = (tt, tt, λ j within. at j false within (fails_before_first (λ (s : StoreLabel). bytes_eq s.id id) stores j no_label (let past = none_passes (λ s. bytes_eq s.id id) stores none in omega arith)))
   place_is (Some k) found = (is.0, λ j within. by_order j within (cases_order j k), tt)
     where
       is : (k < length stores) × (bytes_eq (get_or stores k no_label).id id ≡ true) × ((j : ℕ) → j < k → bytes_eq (get_or stores j no_label).id id ≡ false)

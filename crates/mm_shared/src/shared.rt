@@ -150,6 +150,7 @@ impl SharedStores {
     }
 
     /// Gives the stores back under these labels, with all ports. It takes no memory.
+    #[tactic(auto, using(crate::proofs::Opening::labels_are))]
     pub fn close(self, ports: Ports, labels: &[StoreLabel], stores: &mut Vec<Held>)
         requires may { MayClose self ports labels.now }
         requires room { (stores.old.items ≡ []) × (length labels.now ≤ vec_capacity stores.old) }
@@ -163,6 +164,7 @@ impl SharedStores {
     }
 
     /// Gives the stores back under these labels, without the ports. Nothing is known of them but that they are sound. It takes no memory.
+    #[tactic(auto, using(crate::proofs::Opening::labels_are))]
     pub fn into_stores(self, labels: &[StoreLabel], stores: &mut Vec<Held>)
         requires as_many { length labels.now ≡ self.many }
         requires room { (stores.old.items ≡ []) × (length labels.now ≤ vec_capacity stores.old) }

@@ -55,6 +55,7 @@ fn part_all(stores: &mut Vec<Held>, labels: &mut Vec<StoreLabel>, states: &mut V
 }
 
 // Puts stores together again.
+#[tactic(auto, using(crate::proofs::Opening::one_more, crate::proofs::Opening::count_is))]
 fn join_all(labels: Vec<StoreLabel>, states: Vec<StoreState>, stores: &mut Vec<Held>)
     requires as_many { length labels.items ≡ length states.items }
     requires none { stores.old.items ≡ [] }
@@ -110,6 +111,7 @@ fn take_ports(stores: &SharedStores, rest: &mut Ports, workers: &mut Vec<Port>)
 }
 
 /// Opens stores. Where there is no memory they are as they were; what the steps need of it is taken here.
+#[tactic(auto, using(crate::proofs::Opening::together, crate::proofs::Opening::count_is))]
 pub fn open_all(alloc: Global, stores: &mut Vec<Held>) -> Result<OpenStores, NoMemory>
     requires few { vec_len stores.old ≤ MAX_STORES }
     ensures opened { IfOk result (λ it. AreAtRest it × (stores_in it ≡ stores.old.items)) }
@@ -139,6 +141,7 @@ pub fn open_all(alloc: Global, stores: &mut Vec<Held>) -> Result<OpenStores, NoM
 }
 
 /// Begins a step: each of this many workers gets a port.
+#[tactic(auto, using(crate::proofs::Opening::labels_are, crate::proofs::Opening::states_are))]
 pub fn seat_workers(opened: &mut OpenStores, workers: u32)
     requires rest { AreAtRest opened.old }
     requires few { workers ≤ MAX_SEATS }
@@ -153,6 +156,7 @@ pub fn seat_workers(opened: &mut OpenStores, workers: u32)
 }
 
 /// Ends a step: takes all ports back. Each store went by a legal log of the workers' calls on it.
+#[tactic(auto, using(crate::proofs::Opening::labels_are))]
 pub fn settle(opened: &mut OpenStores)
     requires opened { AreOpen opened.old }
     ensures rest { AreAtRest opened.new }
@@ -166,6 +170,7 @@ pub fn settle(opened: &mut OpenStores)
 }
 
 /// Reads each store, between steps, which shows that it is sound.
+#[tactic(auto, using(crate::proofs::Opening::states_are, crate::proofs::Opening::count_is))]
 pub fn read_states(opened: &mut OpenStores)
     requires rest { AreAtRest opened.old }
     ensures same { opened.new ≡ opened.old }
@@ -177,6 +182,7 @@ pub fn read_states(opened: &mut OpenStores)
 }
 
 /// The tally of the store at an index, between steps.
+#[tactic(auto, using(crate::proofs::Opening::states_are, crate::proofs::Opening::count_is))]
 pub fn tally_at(opened: &mut OpenStores, store: usize) -> Tally
     requires rest { AreAtRest opened.old }
     requires within { store < length (stores_in opened.old) }

@@ -10,10 +10,6 @@ use Rattle.mm_shared.proofs.Fewer.{fewer_lists}
 use Rattle.mm_shared.proofs.Opening.{labels_are, states_are}
 use Rattle.mm_shared.proofs.stores.settle.Goals as goal
 
-pub returns-clause-labels : goal.returns-clause-labels
-returns-clause-labels c =
-    rw c.read_states.ensures.same (labels_are c.args.opened.now.labels.items c.settle.new.ports.of.states (sym (c.settle.ensures.many ∙ c.requires.opened.kept.many)))
-
 pub returns-clause-went : goal.returns-clause-went
 returns-clause-went c =
     let labels = c.args.opened.now.labels.items in
