@@ -1,8 +1,9 @@
 -- Stores are parted into labels and states, and put together again.
-use Rattle.std.proofs.Common.{◌≡◌, ℕ, List, [], ◌∷◌, ◌++◌, length, map, drop, refl, sym, ap, ◌∙◌, arith}
+use Rattle.std.proofs.Common.{◌≡◌, ℕ, suc, ◌<◌, List, [], ◌∷◌, ◌++◌, length, map, drop, refl, sym, ap, ◌∙◌, arith}
 use Rattle.std.proofs.lemmas.List.{length-map}
 use Rattle.mm_desk.specs.declared.held.Held.{Held}
 use Rattle.mm_desk.specs.Machine.{State}
+use Rattle.mm_desk.specs.Runs.{opening_at}
 use Rattle.mm_shared.specs.declared.label.StoreLabel.{StoreLabel}
 use Rattle.mm_shared.specs.Stores.{held_stores, label_of, labels_of, names_of, states_of}
 
@@ -39,19 +40,15 @@ states_are (l ∷ labels) (s ∷ states) same = ap (λ (xs : List State). s ∷ 
 pub count_is : (labels : List StoreLabel) (states : List State) → length labels ≡ length states → length (held_stores labels states) ≡ length labels
 count_is labels states same = sym (length-map (held_stores labels states) (λ h. h.state)) ∙ (ap length (states_are labels states same) ∙ sym same)
 
--- stores with these labels are theirs with their states
-pub labelled : (labels : List StoreLabel) (stores : List Held) → labels_of stores ≡ names_of labels → held_stores labels (states_of stores) ≡ stores
-labelled [] [] same = refl
-labelled [] (h ∷ hs) same = absurd (omega (arith, ap length same))
-labelled (l ∷ labels) [] same = absurd (omega (arith, ap length same))
-labelled (l ∷ labels) (h ∷ hs) same =
-    let name : ◌≡◌ {A = List ℕ × ℕ} (l.id, l.channel) (h.id, h.channel) = cc in
+-- stores with these labels, in the states that they were in, are those that were put together
+pub unchanged : (labels : List StoreLabel) (before : List State) (stores : List Held) → length before ≡ length labels → labels_of stores ≡ names_of labels
+    → ((k : ℕ) → k < length labels → opening_at (states_of stores) k ≡ opening_at before k) → stores ≡ held_stores labels before
+unchanged [] before [] many named same = refl
+unchanged [] before (h ∷ hs) many named same = absurd (cc named)
+unchanged (l ∷ labels) before [] many named same = absurd (cc named)
+unchanged (l ∷ labels) [] (h ∷ hs) many named same = absurd (omega (arith, many))
+unchanged (l ∷ labels) (s ∷ before) (h ∷ hs) many named same =
+    let name : ◌≡◌ {A = List ℕ × ℕ} (h.id, h.channel) (l.id, l.channel) = cc in
     let others : labels_of hs ≡ names_of labels = cc in
-    λ i. record { id = (name i).0; channel = (name i).1; state = h.state } ∷ labelled labels hs others i
-
--- there are as many as labels
-pub as_many : (labels : List StoreLabel) (stores : List Held) → labels_of stores ≡ names_of labels → length (states_of stores) ≡ length labels
-as_many labels stores same =
-    let named : length (labels_of stores) ≡ length stores = length-map stores _ in
-    let labelled : length (names_of labels) ≡ length labels = length-map labels _ in
-    omega (arith, ap length same, length-map stores (λ h. h.state))
+    λ i. record { id = (name i).0; channel = (name i).1; state = same 0 (omega arith) i }
+        ∷ unchanged labels before hs (omega (arith, many)) others (λ k within. same (suc k) (omega arith)) i
