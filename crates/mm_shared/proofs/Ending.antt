@@ -1,20 +1,15 @@
 -- The ports of all seats come back: the state is in its slot, and went by a log of their calls.
-use Rattle.std.proofs.Common.{◌≡◌, ◌≢◌, ℕ, ◌<◌, List, [], ◌∷◌, length, map, get_or, refl, sym, ap, ◌∙◌, arith, Option, Some, None}
+use Rattle.std.proofs.Common.{◌≡◌, ◌≢◌, ℕ, List, [], ◌∷◌, length, map, refl, sym, ap, ◌∙◌, arith, Option, Some, None}
 use Rattle.std.specs.Prelude.{All}
 use Rattle.std.proofs.lemmas.Bool.{eq-eqb, ne_eqb}
 use Rattle.std.proofs.lemmas.List.Elements.{All-map}
-use Rattle.std.proofs.lemmas.List.{get_or-map, get_or_past, length-map}
-use mathlib.Core.Option.{none, some}
+use Rattle.std.proofs.lemmas.List.{get_or_past}
 use native.Mathlib.Decide.{ℕ_discrete}
-use lib.ListN.{get_elem?}
-use Rattle.atomic_table.specs.Table.{State as Table}
 use Rattle.mm_desk.specs.declared.entry.Entry.{Entry}
 use Rattle.mm_desk.specs.Machine.{State}
 use Rattle.mm_desk.specs.Runs.{replay, opening_at}
-use Rattle.mm_desk.specs.Shuffles.{IsShuffle, part}
 use Rattle.mm_desk.proofs.Lone.{lone_log}
-use Rattle.mm_shared.specs.declared.rule.Knows.{Knows}
-use Rattle.mm_shared.specs.Rule.{Owns, Fits, Stands, Keeps, calls_on, held_of, held_by}
+use Rattle.mm_shared.specs.Rule.{calls_on, held_by}
 use Rattle.mm_shared.specs.Steps.{Seated, IsTakenByAll}
 use Rattle.mm_shared.specs.Views.{HasLegalLog}
 

@@ -22,7 +22,7 @@ use Rattle.mm_shared.specs.Rule.{Course, IsCourse, Owns, Fits, Stands, Keeps, Is
 use Rattle.mm_shared.specs.Views.{HasLegalLog}
 use Rattle.mm_shared.specs.Steps.{lists_with}
 use Rattle.mm_shared.proofs.Ending.{is_holder}
-use Rattle.mm_shared.proofs.Lists.{at_below, each_set}
+use Rattle.mm_shared.proofs.Lists.{each_set}
 use Rattle.mm_shared.proofs.Parts.{part-other, length-lists_with, parts_with, others_with}
 
 -- what is held of the store that it is of, and of another

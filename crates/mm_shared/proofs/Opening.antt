@@ -1,5 +1,5 @@
 -- Stores are parted into labels and states, and put together again.
-use Rattle.std.proofs.Common.{◌≡◌, ℕ, suc, ◌<◌, List, [], ◌∷◌, ◌++◌, length, map, drop, refl, sym, ap, ◌∙◌, arith}
+use Rattle.std.proofs.Common.{◌≡◌, ℕ, suc, ◌<◌, List, [], ◌∷◌, ◌++◌, length, map, refl, sym, ap, ◌∙◌, arith}
 use Rattle.std.proofs.lemmas.List.{length-map}
 use Rattle.mm_desk.specs.declared.held.Held.{Held}
 use Rattle.mm_desk.specs.Machine.{State}
@@ -51,4 +51,4 @@ unchanged (l ∷ labels) (s ∷ before) (h ∷ hs) many named same =
     let name : ◌≡◌ {A = List ℕ × ℕ} (h.id, h.channel) (l.id, l.channel) = cc in
     let others : labels_of hs ≡ names_of labels = cc in
     λ i. record { id = (name i).0; channel = (name i).1; state = same 0 (omega arith) i }
-        ∷ unchanged labels before hs (omega (arith, many)) others (λ k within. same (suc k) (omega arith)) i
+    ∷ unchanged labels before hs (omega (arith, many)) others (λ k within. same (suc k) (omega arith)) i

@@ -1,10 +1,9 @@
 -- Stores stay open while workers call through their ports, since no call changes where a port is.
-use Rattle.std.proofs.Common.{◌≡◌, ℕ, ◌-◌, ◌<◌, List, length, get_or, sym, ap, ◌∙◌, arith, Vec, Global}
+use Rattle.std.proofs.Common.{◌≡◌, ◌<◌, length, sym, ap, ◌∙◌, arith, Vec, Global}
 use Rattle.std.specs.Prelude.{vec_capacity}
 use Rattle.std.proofs.lemmas.Grind.{common_steps}
 use Rattle.std.proofs.lemmas.List.{get_or-map, length-map}
-use Rattle.mm_desk.specs.declared.desk.TheConstants.{MAX_SEATS}
-use Rattle.mm_shared.specs.Views.{Origin, PortView, ports_after}
+use Rattle.mm_shared.specs.Views.{PortView}
 use Rattle.mm_shared.specs.declared.stores.OpenStores.{OpenStores}
 use Rattle.mm_shared.specs.Stores.{end_of, all_ends, AreOpen}
 

@@ -1,5 +1,5 @@
 -- The rule of shared stores: what holds of their words, their slots and all that their seats know, between any two steps.
-use Rattle.std.specs.Prelude.{◌≡◌, ◌⊎◌, ℕ, ◌+◌, ◌<◌, ◌≤◌, ◌==◌, if◌then◌else◌, List, [], length, map, filter, slice_index_or, Option, Some, None, replicate}
+use Rattle.std.specs.Prelude.{◌≡◌, ℕ, ◌+◌, ◌<◌, ◌≤◌, ◌==◌, if◌then◌else◌, List, [], length, map, filter, slice_index_or, Option, Some, None, replicate}
 use mathlib.Core.Option.{none, some}
 use mathlib.Core.Option as slot
 use lib.ListN.{get_elem?}

@@ -1,11 +1,10 @@
-use Rattle.std.proofs.Common.{◌≡◌, ℕ, ◌<◌, false, length, take, get_or, set, sym, ap, ◌∙◌, subst, arith}
+use Rattle.std.proofs.Common.{◌≡◌, ◌<◌, length, take, get_or, arith}
 use Rattle.std.specs.Slots.{slots_items, slots_filled, slots_counts}
-use borrow.Author.Count.{below_more}
 use Rattle.std.proofs.lemmas.Grind.{common_steps}
-use Rattle.std.proofs.lemmas.List.{get_or-set_same, get_or-set_other, length-take-le, take_more}
+use Rattle.std.proofs.lemmas.List.{take_more}
 use Rattle.std.proofs.lemmas.List.Elements.{All-push}
 use Rattle.mm_desk.specs.declared.held.Held.{Held}
-use Rattle.mm_desk.specs.Machine.{State, IsState}
+use Rattle.mm_desk.specs.Machine.{IsState}
 use Rattle.mm_shared.proofs.Lists.{at_get}
 use Rattle.mm_shared.proofs.Opening.{one_more, under}
 use Rattle.mm_shared.proofs.shared.take_out.Goals as goal

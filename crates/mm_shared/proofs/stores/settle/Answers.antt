@@ -1,14 +1,9 @@
-use Rattle.std.proofs.Common.{◌≡◌, List, ◌-◌, length, map, sym, ap, ◌∙◌, subst, arith}
+use Rattle.std.proofs.Common.{◌≡◌, ◌-◌, length, ap, arith}
 use Rattle.std.proofs.lemmas.Grind.{common_steps}
 use Rattle.mm_desk.specs.declared.desk.TheConstants.{MAX_SEATS}
-use Rattle.mm_desk.specs.Machine.{State}
-use Rattle.mm_desk.specs.Runs.{opening_at}
-use Rattle.mm_shared.specs.declared.stores.OpenStores.{OpenStores}
-use Rattle.mm_shared.specs.Rule.{calls_on}
-use Rattle.mm_shared.specs.Views.{PortsView, HasLegalLog}
-use Rattle.mm_shared.specs.Stores.{held_stores, states_of, stores_in, lists_at, HaveLegalLogs}
+use Rattle.mm_shared.specs.Stores.{states_of, stores_in}
 use Rattle.mm_shared.proofs.Fewer.{fewer_lists}
-use Rattle.mm_shared.proofs.Opening.{labels_are, states_are}
+use Rattle.mm_shared.proofs.Opening.{states_are}
 use Rattle.mm_shared.proofs.stores.settle.Goals as goal
 
 pub returns-clause-went : goal.returns-clause-went

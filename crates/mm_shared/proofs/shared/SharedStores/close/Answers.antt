@@ -1,4 +1,4 @@
-use Rattle.std.proofs.Common.{◌≡◌, List, [], length, map, arith}
+use Rattle.std.proofs.Common.{◌≡◌, List, [], map, arith}
 use Rattle.std.specs.Slots.{slots_items}
 use Rattle.std.proofs.lemmas.Grind.{common_steps}
 use Rattle.std.proofs.lemmas.List.Elements.{All-map}
