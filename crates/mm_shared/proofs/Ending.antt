@@ -30,6 +30,13 @@ told_is k m n now others took has fresh =
     ∙ untouched (map (calls_on k) m.0.lists) (opening_at m.0.states k) took.now took.went
     (All-map (λ (list : List Entry). list ≡ []) (calls_on k) m.0.lists (λ i d within. ap (calls_on k) (fresh i d within)))
 
+-- the view of the seat that has the state holds it, and no other view does
+pub held_yes : (owner : ℕ → ℕ) (seat : ℕ) (now : State) (port : ℕ) → owner seat ≡ port → held_by owner (Some seat) now port ≡ Some now
+held_yes owner seat now port is = rw (eq-eqb (owner seat) port is) refl
+
+pub held_no : (owner : ℕ → ℕ) (seat : ℕ) (now : State) (port : ℕ) → owner seat ≢ port → held_by owner (Some seat) now port ≡ None
+held_no owner seat now port isnt = rw (ne_eqb (owner seat) port isnt) refl
+
 -- where a view holds the state, it is that of the rule, and no other view holds it
 pub is_holder : (owner : ℕ → ℕ) (holder : Option ℕ) (now taken : State) (id : ℕ) → held_by owner holder now id ≡ Some taken
     → (now ≡ taken) × ((port : ℕ) → port ≢ id → held_by owner holder now port ≡ None)
@@ -37,5 +44,5 @@ is_holder owner None now taken id held = absurd (cc held)
 is_holder owner (Some seat) now taken id held = by_port (ℕ_discrete (owner seat) id)
   where
     by_port : Dec (owner seat ≡ id) → (now ≡ taken) × ((port : ℕ) → port ≢ id → held_by owner (Some seat) now port ≡ None)
-    by_port (yes same) = let is = rw (eq-eqb (owner seat) id same) at held in (cc is, λ port apart. rw (ne_eqb (owner seat) port (λ mine. apart (sym mine ∙ same))) refl)
-    by_port (no apart) = let is = rw (ne_eqb (owner seat) id apart) at held in absurd (cc is)
+    by_port (yes is) = (cc (held, held_yes owner seat now id is), λ port apart. held_no owner seat now port (λ mine. apart (sym mine ∙ is)))
+    by_port (no isnt) = absurd (cc (held, held_no owner seat now id isnt))

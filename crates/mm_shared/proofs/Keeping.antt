@@ -21,7 +21,7 @@ use Rattle.mm_shared.specs.declared.rule.Knows.{Knows}
 use Rattle.mm_shared.specs.Rule.{Course, IsCourse, Owns, Fits, Stands, Keeps, IsKept, calls_on, held_of, held_by}
 use Rattle.mm_shared.specs.Views.{HasLegalLog}
 use Rattle.mm_shared.specs.Steps.{lists_with}
-use Rattle.mm_shared.proofs.Ending.{is_holder}
+use Rattle.mm_shared.proofs.Ending.{held_yes, held_no, is_holder}
 use Rattle.mm_shared.proofs.Lists.{each_set}
 use Rattle.mm_shared.proofs.Parts.{part-other, length-lists_with, parts_with, others_with}
 
@@ -31,6 +31,17 @@ held_here i now = rw (eq-eqb i i refl) refl
 
 held_there : (i j : ℕ) (now : State) → j ≢ i → held_of j (Some (i, now)) ≡ None
 held_there i j now other = rw (ne_eqb i j (λ same. other (sym same))) refl
+
+-- a state stands as it did, where the word is above 0
+stands_up : (seats x word : ℕ) (home : slot.Option State) (now : State) (holder : Option ℕ) → 0 < x → Stands seats word home now holder → Stands seats x home now holder
+stands_up seats x word home now None up there = there
+stands_up seats x word home now (Some seat) up out = (up, out.1)
+
+-- the state is in its slot where one view has all seats and holds nothing
+none_out : (seats word : ℕ) (home : slot.Option State) (owner : ℕ → ℕ) (now : State) (id : ℕ) (holder : Option ℕ) → ((seat : ℕ) → seat < seats → owner seat ≡ id)
+    → Stands seats word home now holder → held_by owner holder now id ≡ None → holder ≡ None
+none_out seats word home owner now id None all there idle = refl
+none_out seats word home owner now id (Some seat) all out idle = absurd (cc (idle, held_yes owner seat now id (all seat out.1)))
 
 module _ (stores seats : ℕ) (s : Table State Knows) (kept : IsKept stores seats s) (id : ℕ) (v : Knows) (me : get_elem? s.views id ≡ some v) (i : ℕ) (within : i < stores)
     (k : Keeps (opening_at kept.openings i) seats kept.owner i s) where
@@ -48,7 +59,11 @@ module _ (stores seats : ℕ) (s : Table State Knows) (kept : IsKept stores seat
     words = length-set s.words i x ∙ kept.words;
     homes = ap length homes ∙ (length-set s.homes i home ∙ kept.homes);
     owns = each_set (Owns kept.openings seats kept.owner) s.views id w
-        (record { within = omega (arith, count, own.within); owned = λ seat from to. own.owned seat from (omega (arith, count)); agree = λ none. own.agree (λ zero. none (count ∙ zero)) })
+        (record {
+          within = omega (arith, count, own.within);
+          owned = λ seat from to. own.owned seat from (omega (arith, count));
+          agree = λ none. own.agree (λ zero. none (count ∙ zero));
+        })
         (λ port u apart at. kept.owns port u at);
     keeps = λ j under. by_store j under (ℕ_discrete j i);
   }
@@ -81,12 +96,9 @@ module _ (stores seats : ℕ) (s : Table State Knows) (kept : IsKept stores seat
   -- the word becomes another that is above 0
   pub keeps_on : (x : ℕ) (c : List (ℕ × State)) → 0 < x → IsKept stores seats (stepped s i x id c v keeps)
   keeps_on x c up =
+      let stands = stands_up seats x _ _ _ k.it.holder up k.course.stands in
       goes x c v.lists v.held keeps (get_or s.homes i none) k.it (sym (set-get_or s.homes i none)) refl (λ j n other. refl) (λ j other. refl)
-      (record { run = k.course.run; below = k.course.below; stands = by_holder k.it.holder k.course.stands }) (k.fits id v me) (λ port u apart at. k.fits port u at)
-    where
-      by_holder : (holder : Option ℕ) → Stands seats (get_or s.words i 0) (get_or s.homes i none) k.it.now holder → Stands seats x (get_or s.homes i none) k.it.now holder
-      by_holder None home = home
-      by_holder (Some seat) out = (up, out.1)
+      (record { run = k.course.run; below = k.course.below; stands = stands }) (k.fits id v me) (λ port u apart at. k.fits port u at)
 
   -- the state that no seat has is in its slot
   pub in_slot : k.it.holder ≡ None → get_or s.homes i none ≡ some k.it.now
@@ -105,17 +117,17 @@ module _ (stores seats : ℕ) (s : Table State Knows) (kept : IsKept stores seat
       let own = kept.owns id v me in
       let is = own.owned v.first (omega arith) (omega arith) in
       goes x c v.lists (Some (i, k.it.now)) (takes i k.it.now) none (record k.it { holder = Some v.first }) refl refl (λ j n other. refl)
-      (λ j other. held_there i j k.it.now other ∙ sym (ap (held_of j) rest)) (record { run = k.course.run; below = k.course.below; stands = (up, omega (arith, own.within)) })
-      (record { parts = (k.fits id v me).parts; held = held_here i k.it.now ∙ rw (eq-eqb (kept.owner v.first) id is) refl })
+      (λ j other. held_there i j k.it.now other ∙ sym (ap (held_of j) rest))
+      (record { run = k.course.run; below = k.course.below; stands = (up, omega (arith, own.within)) })
+      (record { parts = (k.fits id v me).parts; held = held_here i k.it.now ∙ sym (held_yes kept.owner v.first k.it.now id is) })
       (λ port u apart at.
       let fit = k.fits port u at in
-      record {
-        parts = fit.parts;
-        held = fit.held ∙ (ap (λ (holder : Option ℕ). held_by kept.owner holder k.it.now port) home ∙ rw (ne_eqb (kept.owner v.first) port (λ mine. apart (sym mine ∙ is))) refl);
-      })
+      let idle = rw home at fit.held in
+      record { parts = fit.parts; held = idle ∙ sym (held_no kept.owner v.first k.it.now port (λ mine. apart (sym mine ∙ is))) })
 
   -- who has all seats, and holds nothing, finds the state in its slot, which went by a log of their calls
-  pub ends : v.held ≡ None → v.first ≡ 0 → length v.lists ≡ seats → HasLegalLog (map (calls_on i) v.lists) (opening_at v.states i) k.it.now × (k.it.holder ≡ None)
+  pub ends : v.held ≡ None → v.first ≡ 0 → length v.lists ≡ seats
+      → HasLegalLog (map (calls_on i) v.lists) (opening_at v.states i) k.it.now × (k.it.holder ≡ None)
   ends rest first all = (
     record {
       log = k.it.log;
@@ -127,7 +139,8 @@ module _ (stores seats : ℕ) (s : Table State Knows) (kept : IsKept stores seat
             ap (λ (n : ℕ). part n k.it.log) (omega (arith, first)) ∙ (fit.parts seat under ∙ sym (get_or-map (calls_on i) v.lists seat [] [] under));
       };
     },
-    by_holder k.it.holder k.course.stands (sym fit.held ∙ ap (held_of i) rest),
+    none_out seats _ _ kept.owner k.it.now id k.it.holder (λ seat inside. own.owned seat (omega (arith, first)) (omega (arith, first, all, inside))) k.course.stands
+        (sym fit.held ∙ ap (held_of i) rest),
   )
     where
       own : Owns kept.openings seats kept.owner id v
@@ -136,20 +149,19 @@ module _ (stores seats : ℕ) (s : Table State Knows) (kept : IsKept stores seat
       fit : Fits kept.owner i k.it id v
       fit = k.fits id v me
 
-      by_holder : (holder : Option ℕ) → Stands seats (get_or s.words i 0) (get_or s.homes i none) k.it.now holder → held_by kept.owner holder k.it.now id ≡ None → holder ≡ None
-      by_holder None home idle = refl
-      by_holder (Some seat) out idle = absurd (cc (rw (eq-eqb (kept.owner seat) id (own.owned seat (omega (arith, first)) (omega (arith, first, all, out.1)))) at idle))
-
   -- the state is given back, with this log
   gives_back : (taken now : State) (lists : List (List (ℕ × Entry))) (log : List Entry) → v.held ≡ Some (i, taken) → length lists ≡ length v.lists
-      → ((j n : ℕ) → j ≢ i → calls_on j (get_or lists n []) ≡ calls_on j (get_or v.lists n [])) → (k.it.now ≡ taken → IsRun (opening_at kept.openings i) log now) → AreBelow seats log
+      → ((j n : ℕ) → j ≢ i → calls_on j (get_or lists n []) ≡ calls_on j (get_or v.lists n []))
+      → (k.it.now ≡ taken → IsRun (opening_at kept.openings i) log now) → AreBelow seats log
       → ((n : ℕ) → n < length lists → part (v.first + n) log ≡ calls_on i (get_or lists n []))
-      → ((port : ℕ) (u : Knows) → port ≢ id → get_elem? s.views port ≡ some u → (n : ℕ) → n < length u.lists → part (u.first + n) log ≡ part (u.first + n) k.it.log)
+      → ((port : ℕ) (u : Knows) → port ≢ id → get_elem? s.views port ≡ some u
+      → (n : ℕ) → n < length u.lists → part (u.first + n) log ≡ part (u.first + n) k.it.log)
       → IsKept stores seats (stepped s i 0 id ((i, now) ∷ []) (record v { lists = lists; held = None }) gives)
   gives_back taken now lists log held count calls run below parts others =
       let has = is_holder kept.owner k.it.holder k.it.now taken id (sym (k.fits id v me).held ∙ (ap (held_of i) held ∙ held_here i taken)) in
       goes 0 ((i, now) ∷ []) lists None gives (some now) (record { log = log; now = now; holder = None }) refl count calls
-      (λ j other. sym (ap (held_of j) held ∙ held_there i j taken other)) (record { run = run has.0; below = below; stands = refl }) (record { parts = parts; held = refl })
+      (λ j other. sym (ap (held_of j) held ∙ held_there i j taken other)) (record { run = run has.0; below = below; stands = refl })
+      (record { parts = parts; held = refl })
       (λ port u apart at.
       let fit = k.fits port u at in
       record { parts = λ n inside. others port u apart at n inside ∙ fit.parts n inside; held = fit.held ∙ has.1 port apart })
@@ -158,12 +170,13 @@ module _ (stores seats : ℕ) (s : Table State Knows) (kept : IsKept stores seat
   pub gives_after : (taken now : State) (event : Event) (reply : Reply) → v.held ≡ Some (i, taken) → 0 < length v.lists → Machine.step taken event ≡ (reply, now)
       → IsKept stores seats (stepped s i 0 id ((i, now) ∷ []) (record v { lists = lists_with (i, entry v.first event reply) v.lists; held = None }) gives)
   gives_after taken now event reply held some_seat went =
-      gives_back taken now (lists_with (i, e) v.lists) (k.it.log ++ e ∷ []) held (length-lists_with (i, e) v.lists) (λ j n other. others_with i e j n v.lists other)
-      (λ same. run_more (opening_at kept.openings i) k.it.log k.it.now v.first event reply now k.course.run (ap (λ (t : State). Machine.step t event) same ∙ went))
+      gives_back taken now (lists_with (i, e) v.lists) (k.it.log ++ e ∷ []) held (length-lists_with (i, e) v.lists)
+      (λ j n other. others_with i e j n v.lists other)
+      (λ same. run_more _ k.it.log k.it.now v.first event reply now k.course.run (ap (λ (t : State). Machine.step t event) same ∙ went))
       (All-push (λ (d : Entry). d.seat < seats) k.it.log e k.course.below (omega (arith, own.within))) (parts_with i e k.it.log v.lists (k.fits id v me).parts)
       (λ port u apart at n inside.
-      part-other (u.first + n) k.it.log e
-      (λ same. apart (sym ((kept.owns port u at).owned (u.first + n) (omega arith) (omega arith)) ∙ (ap kept.owner (sym same) ∙ own.owned v.first (omega arith) (omega arith)))))
+      let theirs = (kept.owns port u at).owned (u.first + n) (omega arith) (omega arith) in
+      part-other (u.first + n) k.it.log e (λ same. apart (sym theirs ∙ (ap kept.owner (sym same) ∙ own.owned v.first (omega arith) (omega arith)))))
     where
       e : Entry
       e = entry v.first event reply
@@ -174,5 +187,5 @@ module _ (stores seats : ℕ) (s : Table State Knows) (kept : IsKept stores seat
   -- the state is given back as it was
   pub restores : (taken : State) → v.held ≡ Some (i, taken) → IsKept stores seats (stepped s i 0 id ((i, taken) ∷ []) (record v { held = None }) gives)
   restores taken held =
-      gives_back taken taken v.lists k.it.log held refl (λ j n other. refl) (λ same. subst (IsRun (opening_at kept.openings i) k.it.log) same k.course.run) k.course.below (k.fits id v me).parts
-      (λ port u apart at n inside. refl)
+      gives_back taken taken v.lists k.it.log held refl (λ j n other. refl) (λ same. subst (IsRun (opening_at kept.openings i) k.it.log) same k.course.run)
+      k.course.below (k.fits id v me).parts (λ port u apart at n inside. refl)

@@ -17,6 +17,7 @@ use Rattle.mm_desk.specs.Shuffles.{part}
 use Rattle.mm_shared.specs.declared.rule.Knows.{Knows}
 use Rattle.mm_shared.specs.Rule.{knows, Owns, Fits, Stands, Keeps, Each, IsKept, calls_on, held_of, held_by}
 use Rattle.mm_shared.specs.Steps.{others_of, first_of, joined}
+use Rattle.mm_shared.proofs.Ending.{held_yes, held_no}
 use Rattle.mm_shared.proofs.Lists.{at_below, each_set, each_push}
 
 module _ (stores seats : ℕ) (s : Table State Knows) (kept : IsKept stores seats s) (id : ℕ) (v : Knows) (me : get_elem? s.views id ≡ some v) (rest : v.held ≡ None) (owner : ℕ → ℕ)
@@ -25,15 +26,16 @@ module _ (stores seats : ℕ) (s : Table State Knows) (kept : IsKept stores seat
   others_own : (port : ℕ) (u : Knows) → port ≢ id → get_elem? s.views port ≡ some u → Owns kept.openings seats owner port u
   others_own port u apart at =
       let own = kept.owns port u at in
-      record { within = own.within; owned = λ seat from to. let is = own.owned seat from to in stays seat (λ mine. apart (sym is ∙ mine)) ∙ is; agree = own.agree }
+      record {
+        within = own.within;
+        owned = λ seat from to. let is = own.owned seat from to in stays seat (λ mine. apart (sym is ∙ mine)) ∙ is;
+        agree = own.agree;
+      }
 
   -- and each view holds what it held
-  holds_as : (k : ℕ) (old : Keeps (opening_at kept.openings k) seats kept.owner k s) (port : ℕ) → held_by owner old.it.holder old.it.now port ≡ held_by kept.owner old.it.holder old.it.now port
-  holds_as k old port = by_holder old.it.holder (sym (old.fits id v me).held ∙ ap (held_of k) rest)
-    where
-      by_holder : (holder : Option ℕ) → held_by kept.owner holder old.it.now id ≡ None → held_by owner holder old.it.now port ≡ held_by kept.owner holder old.it.now port
-      by_holder None idle = refl
-      by_holder (Some seat) idle = rw (stays seat (λ mine. absurd (cc (rw (eq-eqb (kept.owner seat) id mine) at idle)))) refl
+  holds_as : (now : State) (holder : Option ℕ) → held_by kept.owner holder now id ≡ None → (port : ℕ) → held_by kept.owner holder now port ≡ held_by owner holder now port
+  holds_as now None idle port = refl
+  holds_as now (Some seat) idle port = rw (stays seat (λ mine. absurd (cc (idle, held_yes kept.owner seat now id mine)))) refl
 
   -- other views of the same seats keep the rule
   regroups : (views : List Knows) → ((seat : ℕ) → seat < seats → owner seat < length views) → Each (Owns kept.openings seats owner) views
@@ -48,7 +50,12 @@ module _ (stores seats : ℕ) (s : Table State Knows) (kept : IsKept stores seat
     owns = owns;
     keeps = λ k under.
         let old = kept.keeps k under in
-        record { it = old.it; course = old.course; fits = λ port u at. let fit = fits k old port u at in record { parts = fit.parts; held = fit.held ∙ sym (holds_as k old port) } };
+        let same = holds_as old.it.now old.it.holder (sym (old.fits id v me).held ∙ ap (held_of k) rest) in
+        record {
+          it = old.it;
+          course = old.course;
+          fits = λ port u at. let fit = fits k old port u at in record { parts = fit.parts; held = fit.held ∙ same port };
+        };
   }
 
 module _ (stores seats : ℕ) where
@@ -74,7 +81,9 @@ module _ (stores seats : ℕ) where
       each_push (Fits kept.owner k old.it) views (first_of v)
       (each_set (Fits kept.owner k old.it) s.views id (others_of v)
       (record {
-        parts = λ n inside. ap (λ (seat : ℕ). part seat old.it.log) (omega arith) ∙ (fit.parts (1 + n) (omega (arith, fewer)) ∙ ap (calls_on k) (sym (get_or_after_one v.lists n [])));
+        parts = λ n inside.
+            ap (λ (seat : ℕ). part seat old.it.log) (omega arith)
+            ∙ (fit.parts (1 + n) (omega (arith, fewer)) ∙ ap (calls_on k) (sym (get_or_after_one v.lists n [])));
         held = fit.held;
       })
       (λ port u apart at. old.fits port u at))
@@ -106,9 +115,10 @@ module _ (stores seats : ℕ) where
       in_views seat inside (yes first) = rw (length-append views (first_of v ∷ []), eq-eqb seat v.first first) (omega arith)
       in_views seat inside (no other) = rw (length-append views (first_of v ∷ []), stays seat other) (omega (arith, count, kept.there seat inside))
 
-      none_past : (word : ℕ) (home : slot.Option State) (now : State) (holder : Option ℕ) → Stands seats word home now holder → None ≡ held_by kept.owner holder now (length views)
+      none_past : (word : ℕ) (home : slot.Option State) (now : State) (holder : Option ℕ) → Stands seats word home now holder
+          → None ≡ held_by kept.owner holder now (length views)
       none_past word home now None there = refl
-      none_past word home now (Some seat) out = rw (ne_eqb (kept.owner seat) (length views) (λ same. omega (arith, count, same, kept.there seat out.1))) refl
+      none_past word home now (Some seat) out = sym (held_no kept.owner seat now (length views) (λ same. omega (arith, count, same, kept.there seat out.1)))
 
       only : (k : ℕ) (log : List Entry) → ((n : ℕ) → n < length v.lists → part (v.first + n) log ≡ calls_on k (get_or v.lists n []))
           → (n : ℕ) → n < 1 → part (v.first + n) log ≡ calls_on k (get_or (get_or v.lists 0 [] ∷ []) n [])
