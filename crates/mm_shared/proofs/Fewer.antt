@@ -16,7 +16,8 @@ use lib.LanesLaws.{map-replicate}
 fewer : (lists : List (List Entry)) (more : ℕ) (log : List Entry) → IsShuffle (lists ++ replicate more []) log → IsShuffle lists log
 fewer lists more log shuffle = record {
   below = λ i d within.
-      ⊎_elim (λ under. under) (λ over. absurd (none_of _ log (empty _ over (shuffle.below i d within)) i d within refl)) (cases_lt (get_or log i d).seat (length lists));
+      let seat = (get_or log i d).seat in
+      ⊎_elim (λ under. under) (λ over. absurd (none_of seat log (empty seat over (shuffle.below i d within)) i d within refl)) (cases_lt seat (length lists));
   parts = λ seat within. shuffle.parts seat (omega (arith, within, length-append lists (replicate more no_calls))) ∙ get_or_append_left lists (replicate more []) [] seat within;
 }
   where
@@ -26,9 +27,8 @@ fewer lists more log shuffle = record {
     -- a seat past the lists made no call
     empty : (seat : ℕ) → length lists ≤ seat → seat < length (lists ++ replicate more no_calls) → part seat log ≡ []
     empty seat over inside =
-        shuffle.parts seat inside
-        ∙ (get_or-append_right lists (replicate more []) (length lists) seat [] refl over
-        ∙ get_or-replicate more (seat - length lists) [] [] (omega (arith, inside, over, length-append lists (replicate more no_calls), length-replicate more no_calls)))
+        let under : seat - length lists < more = omega (arith, inside, over, length-append lists (replicate more no_calls), length-replicate more no_calls) in
+        shuffle.parts seat inside ∙ (get_or-append_right lists (replicate more []) (length lists) seat [] refl over ∙ get_or-replicate more _ [] [] under)
 
 -- so it is with the calls of workers on a store
 pub fewer_lists : (k : ℕ) (workers : List PortView) (more : ℕ) (s t : State) → HasLegalLog (map (calls_on k) (map (λ w. w.list) workers ++ replicate more [])) s t

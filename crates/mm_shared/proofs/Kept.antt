@@ -38,8 +38,8 @@ begins : (now : State) (seats word : ℕ) (home : slot.Option State) → home �
 begins now seats word home there = record { run = record { legal = tt; leaves = refl }; below = All-nil (λ (e : Entry). e.seat < seats); stands = there }
 
 -- and the lists of all seats are its parts
-none_called : (owner : ℕ → ℕ) (k : ℕ) (now : State) (port : ℕ) (openings : List State) (seats : ℕ) → Fits owner k (new_course now) port (all_seats openings seats)
-none_called owner k now port openings seats = record {
+none_called : (owner : ℕ → ℕ) (k : ℕ) (now : State) (port : ℕ) (states : List State) (seats : ℕ) → Fits owner k (new_course now) port (all_seats states seats)
+none_called owner k now port states seats = record {
   parts = λ n inside. sym (ap (calls_on k) (get_or-replicate seats n [] [] (omega (arith, inside, length-replicate {A = List (ℕ × Entry)} seats []))));
   held = refl;
 }
@@ -66,12 +66,13 @@ module _ (stores seats : ℕ) where
 
       by_word : Dec (word ≡ 0) → Can
       by_word (yes free) =
-          let in_home = home k.it.holder k.course.stands free in (
-            record m.0 { held = Some (i, k.it.now) },
+          let in_home = home k.it.holder k.course.stands free in
+          let w : Knows = record m.0 { held = Some (i, k.it.now) } in (
+            w,
             takes i k.it.now,
             may_take stores seats s kept id m.0 me i within k in_home,
             takes_out stores seats s kept id m.0 me i within k (f word) m.1 (up word) at.none some_seat in_home,
-            ((λ zero. (k.it.now, ap (λ (c : List (ℕ × State)). (record m.0 { held = Some (i, k.it.now) }, (i, k.it.now) ∷ c)) at.empty)), λ other. absurd (other free)),
+            ((λ zero. (k.it.now, ap (λ (c : List (ℕ × State)). (w, (i, k.it.now) ∷ c)) at.empty)), λ other. absurd (other free)),
           )
       by_word (no busy) = (m.0, keeps, tt, keeps_on stores seats s kept id m.0 me i within k (f word) m.1 (up word), ((λ zero. absurd (busy zero)), λ other. refl))
 
@@ -101,11 +102,12 @@ module _ (stores seats : ℕ) where
   takes_by_all n id m i first second f within up all s kept wide me fits64 =
       let k = kept.keeps i within in
       let end = ends stores seats s kept id m.0 me i within k all.rest.none all.first all.count in
+      let some_list : 0 < length m.0.lists = omega (arith, all.count, all.some_seat) in
       let w : Knows = record m.0 { held = Some (i, k.it.now) } in (
         w,
         takes i k.it.now,
         may_take stores seats s kept id m.0 me i within k end.1,
-        takes_out stores seats s kept id m.0 me i within k (f (get_or s.words i 0)) m.1 (up (get_or s.words i 0)) all.rest.none (omega (arith, all.count, all.some_seat)) end.1,
+        takes_out stores seats s kept id m.0 me i within k (f (get_or s.words i 0)) m.1 (up (get_or s.words i 0)) all.rest.none some_list end.1,
         record { now = k.it.now; holds = ap (λ (c : List (ℕ × State)). (w, (i, k.it.now) ∷ c)) all.rest.empty; went = end.0 },
       )
 
@@ -121,19 +123,22 @@ module _ (stores seats : ℕ) where
       there = λ seat inside. rw (length-set s.views id w) (at_below s.views id m.0 me);
       words = length-set s.words i (get_or s.words i 0) ∙ kept.words;
       homes = kept.homes;
-      owns = each_set (Owns states seats (λ seat. id)) s.views id w (subst (λ (j : ℕ). Owns states seats (λ seat. id) id (all_seats states j)) (sym all.count) (all_own states seats id))
-          (λ port u apart at.
-          let none : length u.lists ≡ 0 = omega (arith, none_left port u apart at) in
-          record { within = (kept.owns port u at).within; owned = λ seat from to. absurd (omega arith); agree = λ no_seat. absurd (omega (arith, no_seat none, all.some_seat)) });
-      keeps = λ k under. record {
-        it = new_course (opening_at states k);
-        course = begins (opening_at states k) seats _ _ (in_slot stores seats s kept id m.0 me k under (kept.keeps k under) (ended k under).1 ∙ ap some (sym (now_is k under)));
-        fits = each_set (Fits (λ seat. id) k (new_course (opening_at states k))) s.views id w (none_called (λ seat. id) k (opening_at states k) id states (length m.0.lists))
-            (λ port u apart at. record {
-              parts = λ n inside. absurd (none_left port u apart at (omega arith));
-              held = ((kept.keeps k under).fits port u at).held ∙ ap (λ (holder : Option ℕ). held_by kept.owner holder (kept.keeps k under).it.now port) (ended k under).1;
-            });
-      };
+      owns = each_set (Owns states seats (λ seat. id)) s.views id w (rw all.count (all_own states seats id))
+          (λ port u apart at. record {
+            within = (kept.owns port u at).within;
+            owned = λ seat from to. absurd (none_left port u apart at (omega arith));
+            agree = λ no_seat. absurd (omega (arith, no_seat (omega (arith, none_left port u apart at)), all.some_seat));
+          });
+      keeps = λ k under.
+          let old = kept.keeps k under in
+          let end = ended k under in
+          let now = opening_at states k in
+          record {
+            it = new_course now;
+            course = begins now seats _ _ (in_slot stores seats s kept id m.0 me k under old end.1 ∙ ap some (sym (now_is k under)));
+            fits = each_set (Fits (λ seat. id) k (new_course now)) s.views id w (none_called (λ seat. id) k now id states (length m.0.lists))
+                (λ port u apart at. record { parts = λ n inside. absurd (none_left port u apart at (omega arith)); held = rw end.1 at (old.fits port u at).held });
+          };
     },
     record {
       went = λ k under.
@@ -153,7 +158,8 @@ module _ (stores seats : ℕ) where
       w : Knows
       w = all_seats states (length m.0.lists)
 
-      ended : (k : ℕ) (under : k < stores) → HasLegalLog (map (calls_on k) m.0.lists) (opening_at m.0.states k) (kept.keeps k under).it.now × ((kept.keeps k under).it.holder ≡ None)
+      ended : (k : ℕ) (under : k < stores)
+          → HasLegalLog (map (calls_on k) m.0.lists) (opening_at m.0.states k) (kept.keeps k under).it.now × ((kept.keeps k under).it.holder ≡ None)
       ended k under = ends stores seats s kept id m.0 me k under (kept.keeps k under) all.rest.none all.first all.count
 
       now_is : (k : ℕ) (under : k < stores) → opening_at states k ≡ (kept.keeps k under).it.now

@@ -41,7 +41,9 @@ module _ (id : List ℕ) (stores : List StoreLabel) (named : AreNamed (ids_of st
   pub place_is : (r : Option ℕ) → r ≡ position (λ s. bytes_eq s.id id) stores
       → IfSome r (λ k. k < length stores) × IfSome r (λ k. (j : ℕ) → j < length stores → bytes_eq (id_at (ids_of stores) j) id ≡ (j == k))
       × IfNone r ((j : ℕ) → j < length stores → bytes_eq (id_at (ids_of stores) j) id ≡ false)
-  place_is None none = (tt, tt, λ j within. at j false within (fails_before_first (λ (s : StoreLabel). bytes_eq s.id id) stores j no_label (let past = none_passes (λ s. bytes_eq s.id id) stores none in omega arith)))
+  place_is None none =
+      let past = none_passes (λ s. bytes_eq s.id id) stores none in
+      (tt, tt, λ j within. at j false within (fails_before_first (λ (s : StoreLabel). bytes_eq s.id id) stores j no_label (omega arith)))
   place_is (Some k) found = (is.0, λ j within. by_order j within (cases_order j k), tt)
     where
       is : (k < length stores) × (bytes_eq (get_or stores k no_label).id id ≡ true) × ((j : ℕ) → j < k → bytes_eq (get_or stores j no_label).id id ≡ false)

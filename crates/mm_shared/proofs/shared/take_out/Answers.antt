@@ -33,6 +33,7 @@ loop-k-preserved c =
           let stated = take_more all k state in_all in
           let more = one_more (take k labels) (take k all) label state (grind (arith, common_steps)) in
           cc;
-      sound = rw c.push_reserved.ensures.items (All-push (λ (h : Held). IsState h.state) c.loop-k.stores.items (under label state) before.sound c.take_state-state.ensures.sound);
+      sound = rw c.push_reserved.ensures.items
+          (All-push (λ (h : Held). IsState h.state) c.loop-k.stores.items (under label state) before.sound c.take_state-state.ensures.sound);
       room = grind (arith, common_steps);
     }

@@ -10,4 +10,5 @@ pub returns-clause-went : goal.returns-clause-went
 returns-clause-went c k within =
     let workers = c.args.opened.now.workers.items in
     let states : states_of (stores_in c.read_states.new.opened) ≡ c.settle.new.ports.of.states = grind (arith, common_steps, states_are) in
-    rw states (fewer_lists k workers (MAX_SEATS - length workers) _ _ (rw c.take_ports.ensures.all at (c.settle.ensures.went k (omega (arith, within, ap length states)))))
+    let went = rw c.take_ports.ensures.all at (c.settle.ensures.went k (omega (arith, within, ap length states))) in
+    rw states (fewer_lists k workers (MAX_SEATS - length workers) _ _ went)

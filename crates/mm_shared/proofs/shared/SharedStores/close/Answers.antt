@@ -13,7 +13,8 @@ use Rattle.mm_shared.proofs.shared.SharedStores.close.Goals as goal
 pub returns-clause-went : goal.returns-clause-went
 returns-clause-went c k within =
     let states : states_of c.take_out.new.stores.items ≡ slots_items c.close_with.result.slots = grind (arith, common_steps, states_are) in
-    rw (states, ← c.ports.view_is) (closes_kept _ _ _ _ _ _ c.close_with.ensures.values.2 c.ports.invariant.0.none (grind (arith, common_steps)) (grind (arith, common_steps)) k
+    rw (states, ← c.ports.view_is)
+    (closes_kept _ _ _ _ _ _ c.close_with.ensures.values.2 c.ports.invariant.0.none (grind (arith, common_steps)) (grind (arith, common_steps)) k
     (grind (arith, common_steps, states)))
 
 pub returns-clause-untouched : goal.returns-clause-untouched
