@@ -32,16 +32,17 @@ held_here i now = rw (eq-eqb i i refl) refl
 held_there : (i j : ℕ) (now : State) → j ≢ i → held_of j (Some (i, now)) ≡ None
 held_there i j now other = rw (ne_eqb i j (λ same. other (sym same))) refl
 
--- a state stands as it did, where the word is above 0
-stands_up : (seats x word : ℕ) (home : slot.Option State) (now : State) (holder : Option ℕ) → 0 < x → Stands seats word home now holder → Stands seats x home now holder
-stands_up seats x word home now None up there = there
-stands_up seats x word home now (Some seat) up out = (up, out.1)
+module _ (seats word : ℕ) (home : slot.Option State) (now : State) where
+  -- a state stands as it did, where the word is above 0
+  stands_up : (x : ℕ) (holder : Option ℕ) → 0 < x → Stands seats word home now holder → Stands seats x home now holder
+  stands_up x None up there = there
+  stands_up x (Some seat) up out = (up, out.1)
 
--- the state is in its slot where one view has all seats and holds nothing
-none_out : (seats word : ℕ) (home : slot.Option State) (owner : ℕ → ℕ) (now : State) (id : ℕ) (holder : Option ℕ) → ((seat : ℕ) → seat < seats → owner seat ≡ id)
-    → Stands seats word home now holder → held_by owner holder now id ≡ None → holder ≡ None
-none_out seats word home owner now id None all there idle = refl
-none_out seats word home owner now id (Some seat) all out idle = absurd (cc (idle, held_yes owner seat now id (all seat out.1)))
+  -- the state is in its slot where one view has all seats and holds nothing
+  none_out : (owner : ℕ → ℕ) (id : ℕ) (holder : Option ℕ) → ((seat : ℕ) → seat < seats → owner seat ≡ id) → Stands seats word home now holder
+      → held_by owner holder now id ≡ None → holder ≡ None
+  none_out owner id None all there idle = refl
+  none_out owner id (Some seat) all out idle = absurd (cc (idle, held_yes owner seat now id (all seat out.1)))
 
 module _ (stores seats : ℕ) (s : Table State Knows) (kept : IsKept stores seats s) (id : ℕ) (v : Knows) (me : get_elem? s.views id ≡ some v) (i : ℕ) (within : i < stores)
     (k : Keeps (opening_at kept.openings i) seats kept.owner i s) where
@@ -96,7 +97,7 @@ module _ (stores seats : ℕ) (s : Table State Knows) (kept : IsKept stores seat
   -- the word becomes another that is above 0
   pub keeps_on : (x : ℕ) (c : List (ℕ × State)) → 0 < x → IsKept stores seats (stepped s i x id c v keeps)
   keeps_on x c up =
-      let stands = stands_up seats x _ _ _ k.it.holder up k.course.stands in
+      let stands = stands_up seats _ _ _ x k.it.holder up k.course.stands in
       goes x c v.lists v.held keeps (get_or s.homes i none) k.it (sym (set-get_or s.homes i none)) refl (λ j n other. refl) (λ j other. refl)
       (record { run = k.course.run; below = k.course.below; stands = stands }) (k.fits id v me) (λ port u apart at. k.fits port u at)
 
@@ -139,8 +140,8 @@ module _ (stores seats : ℕ) (s : Table State Knows) (kept : IsKept stores seat
             ap (λ (n : ℕ). part n k.it.log) (omega (arith, first)) ∙ (fit.parts seat under ∙ sym (get_or-map (calls_on i) v.lists seat [] [] under));
       };
     },
-    none_out seats _ _ kept.owner k.it.now id k.it.holder (λ seat inside. own.owned seat (omega (arith, first)) (omega (arith, first, all, inside))) k.course.stands
-        (sym fit.held ∙ ap (held_of i) rest),
+    none_out seats _ _ k.it.now kept.owner id k.it.holder (λ seat inside. own.owned seat (omega (arith, first)) (omega (arith, first, all, inside)))
+        k.course.stands (sym fit.held ∙ ap (held_of i) rest),
   )
     where
       own : Owns kept.openings seats kept.owner id v

@@ -137,7 +137,8 @@ module _ (stores seats : ℕ) where
             it = new_course now;
             course = begins now seats _ _ (in_slot stores seats s kept id m.0 me k under old end.1 ∙ ap some (sym (now_is k under)));
             fits = each_set (Fits (λ seat. id) k (new_course now)) s.views id w (none_called (λ seat. id) k now id states (length m.0.lists))
-                (λ port u apart at. record { parts = λ n inside. absurd (none_left port u apart at (omega arith)); held = rw end.1 at (old.fits port u at).held });
+                (λ port u apart at.
+                record { parts = λ n inside. absurd (none_left port u apart at (omega arith)); held = rw end.1 at (old.fits port u at).held });
           };
     },
     record {

@@ -33,7 +33,8 @@ module _ (stores seats : ℕ) (s : Table State Knows) (kept : IsKept stores seat
       }
 
   -- and each view holds what it held
-  holds_as : (now : State) (holder : Option ℕ) → held_by kept.owner holder now id ≡ None → (port : ℕ) → held_by kept.owner holder now port ≡ held_by owner holder now port
+  holds_as : (now : State) (holder : Option ℕ) → held_by kept.owner holder now id ≡ None → (port : ℕ)
+      → held_by kept.owner holder now port ≡ held_by owner holder now port
   holds_as now None idle port = refl
   holds_as now (Some seat) idle port = rw (stays seat (λ mine. absurd (cc (idle, held_yes kept.owner seat now id mine)))) refl
 
@@ -87,7 +88,10 @@ module _ (stores seats : ℕ) where
         held = fit.held;
       })
       (λ port u apart at. old.fits port u at))
-      (record { parts = only k old.it.log fit.parts; held = none_past _ _ old.it.now old.it.holder old.course.stands }))
+      (record {
+        parts = λ n inside. let zero_one : n ≡ 0 = omega arith in rw zero_one (fit.parts 0 some_seat);
+        held = none_past _ _ old.it.now old.it.holder old.course.stands;
+      }))
     where
       views : List Knows
       views = set s.views id (others_of v)
@@ -119,11 +123,6 @@ module _ (stores seats : ℕ) where
           → None ≡ held_by kept.owner holder now (length views)
       none_past word home now None there = refl
       none_past word home now (Some seat) out = sym (held_no kept.owner seat now (length views) (λ same. omega (arith, count, same, kept.there seat out.1)))
-
-      only : (k : ℕ) (log : List Entry) → ((n : ℕ) → n < length v.lists → part (v.first + n) log ≡ calls_on k (get_or v.lists n []))
-          → (n : ℕ) → n < 1 → part (v.first + n) log ≡ calls_on k (get_or (get_or v.lists 0 [] ∷ []) n [])
-      only k log parts zero within = parts 0 some_seat
-      only k log parts (suc n) within = absurd (omega arith)
 
   -- seats are put before those of a view at rest
   pub joins_kept : (id : ℕ) (v : Knows) (other : ℕ) (w : Knows) → v.held ≡ None → w.held ≡ None → w.first + length w.lists ≡ v.first → 0 < length w.lists

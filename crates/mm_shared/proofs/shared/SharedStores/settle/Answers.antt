@@ -7,11 +7,5 @@ pub load-requires : goal.load-requires
 load-requires c = (
   search rules,
   omega (arith, c.self.invariant.words),
-  settles _ _ _ _ _ 0 (omega arith) c.self.invariant.slots
-      (record {
-        rest = c.ports.invariant.0;
-        first = grind (arith, common_steps);
-        count = grind (arith, common_steps);
-        some_seat = grind (arith, common_steps);
-      }),
+  settles _ _ _ _ _ 0 (omega arith) c.self.invariant.slots (grind (arith, common_steps)),
 )
