@@ -4,6 +4,7 @@ use Rattle.std.specs.Prelude.{All}
 use Rattle.std.proofs.lemmas.Bool.{eq-eqb, ne_eqb}
 use Rattle.std.proofs.lemmas.List.Elements.{All-map}
 use Rattle.std.proofs.lemmas.List.{get_or_past}
+use mathlib.Core.Logic.{dite}
 use native.Mathlib.Decide.{ℕ_discrete}
 use Rattle.mm_desk.specs.declared.entry.Entry.{Entry}
 use Rattle.mm_desk.specs.Machine.{State}
@@ -41,8 +42,6 @@ held_no owner seat now port isnt = rw (ne_eqb (owner seat) port isnt) refl
 pub is_holder : (owner : ℕ → ℕ) (holder : Option ℕ) (now taken : State) (id : ℕ) → held_by owner holder now id ≡ Some taken
     → (now ≡ taken) × ((port : ℕ) → port ≢ id → held_by owner holder now port ≡ None)
 is_holder owner None now taken id held = absurd (cc held)
-is_holder owner (Some seat) now taken id held = by_port (ℕ_discrete (owner seat) id)
-  where
-    by_port : Dec (owner seat ≡ id) → (now ≡ taken) × ((port : ℕ) → port ≢ id → held_by owner (Some seat) now port ≡ None)
-    by_port (yes is) = (cc (held, held_yes owner seat now id is), λ port apart. held_no owner seat now port (λ mine. apart (sym mine ∙ is)))
-    by_port (no isnt) = absurd (cc (held, held_no owner seat now id isnt))
+is_holder owner (Some seat) now taken id held =
+    dite (ℕ_discrete (owner seat) id) (λ is. (cc (held, held_yes owner seat now id is), λ port apart. held_no owner seat now port (λ mine. apart (sym mine ∙ is))))
+    (λ isnt. absurd (cc (held, held_no owner seat now id isnt)))

@@ -33,6 +33,11 @@ held_there : (i j : ℕ) (now : State) → j ≢ i → held_of j (Some (i, now))
 held_there i j now other = rw (ne_eqb i j (λ same. other (sym same))) refl
 
 module _ (seats word : ℕ) (home : slot.Option State) (now : State) where
+  -- the state is in its slot where the word is 0
+  pub none_free : (holder : Option ℕ) → word ≡ 0 → Stands seats word home now holder → holder ≡ None
+  none_free None free there = refl
+  none_free (Some seat) free out = absurd (omega (arith, free, out.0))
+
   -- a state stands as it did, where the word is above 0
   stands_up : (x : ℕ) (holder : Option ℕ) → 0 < x → Stands seats word home now holder → Stands seats x home now holder
   stands_up x None up there = there
@@ -53,7 +58,8 @@ module _ (stores seats : ℕ) (s : Table State Knows) (kept : IsKept stores seat
       → IsCourse (opening_at kept.openings i) seats x home it → Fits kept.owner i it id (record v { lists = lists; held = held })
       → ((port : ℕ) (u : Knows) → port ≢ id → get_elem? s.views port ≡ some u → Fits kept.owner i it port u)
       → IsKept stores seats (stepped s i x id c (record v { lists = lists; held = held }) a)
-  goes x c lists held a home it homes count calls elsewhere course fit fits = record {
+  goes x c lists held a home it homes count calls elsewhere course fit fits =
+    let own = kept.owns id v me in record {
     openings = kept.openings;
     owner = kept.owner;
     there = rw (length-set s.views id w) kept.there;
@@ -71,9 +77,6 @@ module _ (stores seats : ℕ) (s : Table State Knows) (kept : IsKept stores seat
     where
       w : Knows
       w = record v { lists = lists; held = held }
-
-      own : Owns kept.openings seats kept.owner id v
-      own = kept.owns id v me
 
       by_store : (j : ℕ) → j < stores → Dec (j ≡ i) → Keeps (opening_at kept.openings j) seats kept.owner j (stepped s i x id c w a)
       by_store j under (yes same) =
@@ -129,7 +132,9 @@ module _ (stores seats : ℕ) (s : Table State Knows) (kept : IsKept stores seat
   -- who has all seats, and holds nothing, finds the state in its slot, which went by a log of their calls
   pub ends : v.held ≡ None → v.first ≡ 0 → length v.lists ≡ seats
       → HasLegalLog (map (calls_on i) v.lists) (opening_at v.states i) k.it.now × (k.it.holder ≡ None)
-  ends rest first all = (
+  ends rest first all =
+    let own = kept.owns id v me in
+    let fit = k.fits id v me in (
     record {
       log = k.it.log;
       run = subst (λ (os : List State). IsRun (opening_at os i) k.it.log k.it.now) (sym (own.agree (λ none. omega (arith, none, all)))) k.course.run;
@@ -143,13 +148,6 @@ module _ (stores seats : ℕ) (s : Table State Knows) (kept : IsKept stores seat
     none_out seats _ _ k.it.now kept.owner id k.it.holder (λ seat inside. own.owned seat (omega (arith, first)) (omega (arith, first, all, inside)))
         k.course.stands (sym fit.held ∙ ap (held_of i) rest),
   )
-    where
-      own : Owns kept.openings seats kept.owner id v
-      own = kept.owns id v me
-
-      fit : Fits kept.owner i k.it id v
-      fit = k.fits id v me
-
   -- the state is given back, with this log
   gives_back : (taken now : State) (lists : List (List (ℕ × Entry))) (log : List Entry) → v.held ≡ Some (i, taken) → length lists ≡ length v.lists
       → ((j n : ℕ) → j ≢ i → calls_on j (get_or lists n []) ≡ calls_on j (get_or v.lists n []))
@@ -171,6 +169,8 @@ module _ (stores seats : ℕ) (s : Table State Knows) (kept : IsKept stores seat
   pub gives_after : (taken now : State) (event : Event) (reply : Reply) → v.held ≡ Some (i, taken) → 0 < length v.lists → Machine.step taken event ≡ (reply, now)
       → IsKept stores seats (stepped s i 0 id ((i, now) ∷ []) (record v { lists = lists_with (i, entry v.first event reply) v.lists; held = None }) gives)
   gives_after taken now event reply held some_seat went =
+      let e = entry v.first event reply in
+      let own = kept.owns id v me in
       gives_back taken now (lists_with (i, e) v.lists) (k.it.log ++ e ∷ []) held (length-lists_with (i, e) v.lists)
       (λ j n other. others_with i e j n v.lists other)
       (λ same. run_more _ k.it.log k.it.now v.first event reply now k.course.run (ap (λ (t : State). Machine.step t event) same ∙ went))
@@ -178,13 +178,6 @@ module _ (stores seats : ℕ) (s : Table State Knows) (kept : IsKept stores seat
       (λ port u apart at n inside.
       let theirs = (kept.owns port u at).owned (u.first + n) (omega arith) (omega arith) in
       part-other (u.first + n) k.it.log e (λ same. apart (sym theirs ∙ (ap kept.owner (sym same) ∙ own.owned v.first (omega arith) (omega arith)))))
-    where
-      e : Entry
-      e = entry v.first event reply
-
-      own : Owns kept.openings seats kept.owner id v
-      own = kept.owns id v me
-
   -- the state is given back as it was
   pub restores : (taken : State) → v.held ≡ Some (i, taken) → IsKept stores seats (stepped s i 0 id ((i, taken) ∷ []) (record v { held = None }) gives)
   restores taken held =

@@ -4,6 +4,7 @@ use Rattle.std.proofs.lemmas.List.{length-map, length-replicate, length-set, get
 use Rattle.std.proofs.lemmas.List.Elements.{All-nil}
 use mathlib.Core.Option.{none, some, some-ne-none}
 use mathlib.Core.Option as slot
+use mathlib.Core.Logic.{dite}
 use native.Mathlib.Decide.{ℕ_discrete}
 use lib.ListN.{get_elem?}
 use Rattle.atomic_table.specs.Table.{State as Table, Act, step as step_of, keeps, takes, gives, stepped, carried_after, rest, opening, Valid, Allows, Final, Seen}
@@ -16,7 +17,7 @@ use Rattle.mm_shared.specs.declared.rule.Knows.{Knows}
 use Rattle.mm_shared.specs.Rule.{Course, IsCourse, Owns, Fits, Stands, Keeps, IsKept, all_seats, calls_on, held_by}
 use Rattle.mm_shared.specs.Steps.{Seated, IsAtRest, HasCalled, IsAsTaken, AreAll, IsTakenByAll, IsSettled, called, at_rest, tried}
 use Rattle.mm_shared.specs.Views.{HasLegalLog}
-use Rattle.mm_shared.proofs.Keeping.{keeps_on, in_slot, may_take, takes_out, ends, gives_after, restores}
+use Rattle.mm_shared.proofs.Keeping.{none_free, keeps_on, in_slot, may_take, takes_out, ends, gives_after, restores}
 use Rattle.mm_shared.proofs.Lists.{at_get, at_below, each_set, each_push}
 
 -- the state that is in a slot
@@ -48,33 +49,20 @@ module _ (stores seats : ℕ) where
   -- a try of a lock, by any change that leaves the word above 0
   pub tries_kept : (n id : ℕ) (m : Seated) (f : ℕ → ℕ) (i first second : ℕ) → i < stores → ((k : ℕ) → 0 < f k) → IsAtRest m → 0 < length m.0.lists
       → Allows (IsKept stores seats) n id m i f (tried (step_of n i first second none) m)
-  tries_kept n id m f i first second within up at some_seat s kept wide me fits64 = by_word (ℕ_discrete word 0)
-    where
-      word : ℕ
-      word = get_or s.words i 0
-
-      k : Keeps (opening_at kept.openings i) seats kept.owner i s
-      k = kept.keeps i within
-
-      -- the word is above 0 where a seat has the state
-      home : (holder : Option ℕ) → Stands seats word (get_or s.homes i none) k.it.now holder → word ≡ 0 → holder ≡ None
-      home None stands free = refl
-      home (Some seat) out free = absurd (omega (arith, out.0))
-
-      Can : Type 0
-      Can = (w : Knows) × (a : Act State) × Valid s.homes m.1 a × IsKept stores seats (stepped s i (f word) id m.1 w a) × tried (step_of n i first second none) m word (w, carried_after m.1 a)
-
-      by_word : Dec (word ≡ 0) → Can
-      by_word (yes free) =
-          let in_home = home k.it.holder k.course.stands free in
-          let w : Knows = record m.0 { held = Some (i, k.it.now) } in (
-            w,
-            takes i k.it.now,
-            may_take stores seats s kept id m.0 me i within k in_home,
-            takes_out stores seats s kept id m.0 me i within k (f word) m.1 (up word) at.none some_seat in_home,
-            ((λ zero. (k.it.now, ap (λ (c : List (ℕ × State)). (w, (i, k.it.now) ∷ c)) at.empty)), λ other. absurd (other free)),
-          )
-      by_word (no busy) = (m.0, keeps, tt, keeps_on stores seats s kept id m.0 me i within k (f word) m.1 (up word), ((λ zero. absurd (busy zero)), λ other. refl))
+  tries_kept n id m f i first second within up at some_seat s kept wide me fits64 =
+      let word = get_or s.words i 0 in
+      let k = kept.keeps i within in
+      dite (ℕ_discrete word 0)
+      (λ free.
+      let in_home = none_free seats word _ _ k.it.holder free k.course.stands in
+      let w : Knows = record m.0 { held = Some (i, k.it.now) } in (
+        w,
+        takes i k.it.now,
+        may_take stores seats s kept id m.0 me i within k in_home,
+        takes_out stores seats s kept id m.0 me i within k (f word) m.1 (up word) at.none some_seat in_home,
+        ((λ zero. (k.it.now, ap (λ (c : List (ℕ × State)). (w, (i, k.it.now) ∷ c)) at.empty)), λ other. absurd (other free)),
+      ))
+      (λ busy. (m.0, keeps, tt, keeps_on stores seats s kept id m.0 me i within k (f word) m.1 (up word), ((λ zero. absurd (busy zero)), λ other. refl)))
 
   -- a state is given back, where that keeps the rule
   gives_so : (n id : ℕ) (m : Seated) (i : ℕ) (now : State) (after : Knows) → m.1 ≡ (i, now) ∷ []

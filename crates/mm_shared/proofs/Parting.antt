@@ -1,11 +1,12 @@
 -- Seats that are parted and put together keep the rule of shared stores.
-use Rattle.std.proofs.Common.{◌≡◌, ◌≢◌, ◌⊎◌, inl, inr, ℕ, zero, suc, ◌+◌, ◌-◌, ◌<◌, ◌≤◌, eqb, List, [], ◌∷◌, ◌++◌, length, drop, get_or, set, refl, sym, ap, ◌∙◌, arith, Option, Some, None}
+use Rattle.std.proofs.Common.{◌≡◌, ◌≢◌, ◌⊎◌, inl, inr, ⊎_elim, ℕ, zero, suc, ◌+◌, ◌-◌, ◌<◌, ◌≤◌, eqb, List, [], ◌∷◌, ◌++◌, length, drop, get_or, set, refl, sym, ap, ◌∙◌, arith, Option, Some, None}
 use Rattle.std.specs.Prelude.{if◌then◌else◌}
 use Rattle.std.proofs.lemmas.Bool.{eq-eqb, ne_eqb, cases_lt}
 use Rattle.std.proofs.lemmas.Grind.{get_or_after_one}
 use Rattle.std.proofs.lemmas.List.{length-append, length-drop, length-set, get_or_append_left, get_or-append_right}
 use mathlib.Core.Option.{some}
 use mathlib.Core.Option as slot
+use mathlib.Core.Logic.{dite}
 use native.Mathlib.Decide.{ℕ_discrete}
 use lib.ListN.{get_elem?}
 use Rattle.atomic_table.specs.Table.{State as Table, Splits, Joins}
@@ -63,7 +64,7 @@ module _ (stores seats : ℕ) where
   -- the first seat of a view at rest is parted from the others
   pub splits_kept : (id : ℕ) (v : Knows) → v.held ≡ None → 0 < length v.lists → Splits (IsKept stores seats) id v (others_of v) (first_of v)
   splits_kept id v rest some_seat s kept me =
-      regroups stores seats s kept id v me rest owner not_mine (views ++ first_of v ∷ []) (λ seat inside. in_views seat inside (ℕ_discrete seat v.first))
+      regroups stores seats s kept id v me rest owner not_mine (views ++ first_of v ∷ []) in_views
       (each_push (Owns kept.openings seats owner) views (first_of v)
       (each_set (Owns kept.openings seats owner) s.views id (others_of v)
       (record {
@@ -89,7 +90,7 @@ module _ (stores seats : ℕ) where
       })
       (λ port u apart at. old.fits port u at))
       (record {
-        parts = λ n inside. let zero_one : n ≡ 0 = omega arith in rw zero_one (fit.parts 0 some_seat);
+        parts = λ n inside. let first : n ≡ 0 = omega arith in rw first (fit.parts 0 some_seat);
         held = none_past _ _ old.it.now old.it.holder old.course.stands;
       }))
     where
@@ -115,9 +116,10 @@ module _ (stores seats : ℕ) where
       not_mine : (seat : ℕ) → kept.owner seat ≢ id → owner seat ≡ kept.owner seat
       not_mine seat other = stays seat (λ same. other (ap kept.owner same ∙ mine.owned v.first (omega arith) (omega arith)))
 
-      in_views : (seat : ℕ) → seat < seats → Dec (seat ≡ v.first) → owner seat < length (views ++ first_of v ∷ [])
-      in_views seat inside (yes first) = rw (length-append views (first_of v ∷ []), eq-eqb seat v.first first) (omega arith)
-      in_views seat inside (no other) = rw (length-append views (first_of v ∷ []), stays seat other) (omega (arith, count, kept.there seat inside))
+      in_views : (seat : ℕ) → seat < seats → owner seat < length (views ++ first_of v ∷ [])
+      in_views seat inside =
+          rw length-append (dite (ℕ_discrete seat v.first) (λ first. rw (eq-eqb seat v.first first) (omega arith))
+          (λ other. rw (stays seat other) (omega (arith, count, kept.there seat inside))))
 
       none_past : (word : ℕ) (home : slot.Option State) (now : State) (holder : Option ℕ) → Stands seats word home now holder
           → None ≡ held_by kept.owner holder now (length views)
@@ -132,7 +134,9 @@ module _ (stores seats : ℕ) where
       (each (Owns kept.openings seats owner)
       (record {
         within = omega (arith, mine.within, count);
-        owned = λ seat from to. by_owned seat from to (cases_lt seat v.first);
+        owned = λ seat from to.
+            ⊎_elim (λ before. rw (eq-eqb (kept.owner seat) other (yours.owned seat from (omega arith))) refl)
+            (λ after. let is = mine.owned seat after (omega (arith, count)) in stays seat (λ same. apart (sym same ∙ is)) ∙ is) (cases_lt seat v.first);
         agree = λ none. yours.agree (λ zero. omega arith);
       })
       (record { within = omega arith; owned = λ seat from to. absurd (omega arith); agree = λ none. absurd (omega (arith, none refl, yours.within)) })
@@ -170,11 +174,10 @@ module _ (stores seats : ℕ) where
       stays seat isnt = rw (ne_eqb (kept.owner seat) other isnt) refl
 
       in_views : (seat : ℕ) → seat < seats → owner seat < length (set (set s.views id both) other spent)
-      in_views seat inside = rw (length-set (set s.views id both) other spent, length-set s.views id both) (by_owner (ℕ_discrete (kept.owner seat) other))
-        where
-          by_owner : Dec (kept.owner seat ≡ other) → owner seat < length s.views
-          by_owner (yes is) = rw (eq-eqb (kept.owner seat) other is) (at_below s.views id v me)
-          by_owner (no isnt) = rw (stays seat isnt) (kept.there seat inside)
+      in_views seat inside =
+          rw (length-set (set s.views id both) other spent, length-set s.views id both)
+          (dite (ℕ_discrete (kept.owner seat) other) (λ is. rw (eq-eqb (kept.owner seat) other is) (at_below s.views id v me))
+          (λ isnt. rw (stays seat isnt) (kept.there seat inside)))
 
       -- what the joined view has, the spent one, and each of the others
       each : (P : ℕ → Knows → Type 0) → P id both → P other spent → ((port : ℕ) (u : Knows) → port ≢ id → port ≢ other → get_elem? s.views port ≡ some u → P port u)
@@ -182,12 +185,6 @@ module _ (stores seats : ℕ) where
       each P joint empty old =
           each_set P (set s.views id both) other spent empty
           (λ port u not_you at. each_set (λ (p : ℕ) (x : Knows). p ≢ other → P p x) s.views id both (λ same. joint) (λ p x not_me there not_it. old p x not_me not_it there) port u at not_you)
-
-      by_owned : (seat : ℕ) → w.first ≤ seat → seat < w.first + length (w.lists ++ v.lists) → (seat < v.first) ⊎ (v.first ≤ seat) → owner seat ≡ id
-      by_owned seat from to (inl before) = rw (eq-eqb (kept.owner seat) other (yours.owned seat from (omega arith))) refl
-      by_owned seat from to (inr after) =
-          let is = mine.owned seat after (omega (arith, count)) in
-          stays seat (λ same. apart (sym same ∙ is)) ∙ is
 
       by_parts : (k : ℕ) (log : List Entry) → ((n : ℕ) → n < length v.lists → part (v.first + n) log ≡ calls_on k (get_or v.lists n []))
           → ((n : ℕ) → n < length w.lists → part (w.first + n) log ≡ calls_on k (get_or w.lists n []))
