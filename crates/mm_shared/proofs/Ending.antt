@@ -43,5 +43,6 @@ pub is_holder : (owner : ℕ → ℕ) (holder : Option ℕ) (now taken : State) 
     → (now ≡ taken) × ((port : ℕ) → port ≢ id → held_by owner holder now port ≡ None)
 is_holder owner None now taken id held = absurd (cc held)
 is_holder owner (Some seat) now taken id held =
-    dite (ℕ_discrete (owner seat) id) (λ is. (cc (held, held_yes owner seat now id is), λ port apart. held_no owner seat now port (λ mine. apart (sym mine ∙ is))))
+    dite (ℕ_discrete (owner seat) id)
+    (λ is. (cc (held, held_yes owner seat now id is), λ port apart. held_no owner seat now port (λ mine. apart (sym mine ∙ is))))
     (λ isnt. absurd (cc (held, held_no owner seat now id isnt)))

@@ -5,6 +5,7 @@ use Rattle.std.proofs.lemmas.List.{length-map, length-set, get_or-map, get_or_de
 use Rattle.std.proofs.lemmas.List.Elements.{All-push}
 use mathlib.Core.Option.{none, some}
 use mathlib.Core.Option as slot
+use mathlib.Core.Logic.{dite}
 use native.Mathlib.Decide.{ℕ_discrete}
 use lib.ListN.{get_elem?}
 use Rattle.atomic_table.specs.Table.{State as Table, Act, keeps, takes, gives, stepped, homes_after}
@@ -59,43 +60,42 @@ module _ (stores seats : ℕ) (s : Table State Knows) (kept : IsKept stores seat
       → ((port : ℕ) (u : Knows) → port ≢ id → get_elem? s.views port ≡ some u → Fits kept.owner i it port u)
       → IsKept stores seats (stepped s i x id c (record v { lists = lists; held = held }) a)
   goes x c lists held a home it homes count calls elsewhere course fit fits =
-    let own = kept.owns id v me in record {
-    openings = kept.openings;
-    owner = kept.owner;
-    there = rw (length-set s.views id w) kept.there;
-    words = length-set s.words i x ∙ kept.words;
-    homes = ap length homes ∙ (length-set s.homes i home ∙ kept.homes);
-    owns = each_set (Owns kept.openings seats kept.owner) s.views id w
-        (record {
-          within = omega (arith, count, own.within);
-          owned = λ seat from to. own.owned seat from (omega (arith, count));
-          agree = λ none. own.agree (λ zero. none (count ∙ zero));
-        })
-        (λ port u apart at. kept.owns port u at);
-    keeps = λ j under. by_store j under (ℕ_discrete j i);
-  }
-    where
-      w : Knows
-      w = record v { lists = lists; held = held }
-
-      by_store : (j : ℕ) → j < stores → Dec (j ≡ i) → Keeps (opening_at kept.openings j) seats kept.owner j (stepped s i x id c w a)
-      by_store j under (yes same) =
-          let in_words : i < length s.words = omega (arith, kept.words, within) in
-          let in_homes : i < length s.homes = omega (arith, kept.homes, within) in
-          subst (λ (n : ℕ). Keeps (opening_at kept.openings n) seats kept.owner n (stepped s i x id c w a)) (sym same) (record {
-            it = it;
-            course = rw (get_or-set_same s.words i x 0 in_words, homes, get_or-set_same s.homes i home none in_homes) course;
-            fits = each_set (Fits kept.owner i it) s.views id w fit fits;
-          })
-      by_store j under (no other) =
-          let old = kept.keeps j under in
-          let mine = old.fits id v me in
-          record {
-            it = old.it;
-            course = rw (get_or-set_other s.words i j x 0 other, homes, get_or-set_other s.homes i j home none other) old.course;
-            fits = each_set (Fits kept.owner j old.it) s.views id w
-                (record { parts = λ n inside. mine.parts n (omega (arith, inside, count)) ∙ sym (calls j n other); held = elsewhere j other ∙ mine.held }) (λ port u apart at. old.fits port u at);
-          }
+      let own = kept.owns id v me in
+      let w : Knows = record v { lists = lists; held = held } in
+      record {
+        openings = kept.openings;
+        owner = kept.owner;
+        there = rw (length-set s.views id w) kept.there;
+        words = length-set s.words i x ∙ kept.words;
+        homes = ap length homes ∙ (length-set s.homes i home ∙ kept.homes);
+        owns = each_set (Owns kept.openings seats kept.owner) s.views id w
+            (record {
+              within = omega (arith, count, own.within);
+              owned = λ seat from to. own.owned seat from (omega (arith, count));
+              agree = λ none. own.agree (λ zero. none (count ∙ zero));
+            })
+            (λ port u apart at. kept.owns port u at);
+        keeps = λ j under.
+            dite (ℕ_discrete j i)
+            (λ same.
+            let in_words : i < length s.words = omega (arith, kept.words, within) in
+            let in_homes : i < length s.homes = omega (arith, kept.homes, within) in
+            subst (λ (n : ℕ). Keeps (opening_at kept.openings n) seats kept.owner n (stepped s i x id c w a)) (sym same) (record {
+              it = it;
+              course = rw (get_or-set_same s.words i x 0 in_words, homes, get_or-set_same s.homes i home none in_homes) course;
+              fits = each_set (Fits kept.owner i it) s.views id w fit fits;
+            }))
+            (λ other.
+            let old = kept.keeps j under in
+            let mine = old.fits id v me in
+            let parts = λ (n : ℕ) (inside : n < length lists). mine.parts n (omega (arith, inside, count)) ∙ sym (calls j n other) in
+            record {
+              it = old.it;
+              course = rw (get_or-set_other s.words i j x 0 other, homes, get_or-set_other s.homes i j home none other) old.course;
+              fits = each_set (Fits kept.owner j old.it) s.views id w (record { parts = parts; held = elsewhere j other ∙ mine.held })
+                  (λ port u apart at. old.fits port u at);
+            });
+      }
 
   -- the word becomes another that is above 0
   pub keeps_on : (x : ℕ) (c : List (ℕ × State)) → 0 < x → IsKept stores seats (stepped s i x id c v keeps)

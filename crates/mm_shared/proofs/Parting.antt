@@ -145,7 +145,16 @@ module _ (stores seats : ℕ) where
       let fit = old.fits id v me in
       let their = old.fits other w theirs in
       each (Fits kept.owner k old.it)
-      (record { parts = λ n inside. by_parts k old.it.log fit.parts their.parts n inside (cases_lt n (length w.lists)); held = fit.held })
+      (record {
+        parts = λ n inside.
+            ⊎_elim (λ before. their.parts n before ∙ ap (calls_on k) (sym (get_or_append_left w.lists v.lists [] n before)))
+            (λ after.
+            let theirs = fit.parts (n - length w.lists) (omega (arith, count)) in
+            ap (λ (seat : ℕ). part seat old.it.log) (omega arith)
+            ∙ (theirs ∙ ap (calls_on k) (sym (get_or-append_right w.lists v.lists (length w.lists) n [] refl after))))
+            (cases_lt n (length w.lists));
+        held = fit.held;
+      })
       (record { parts = λ n inside. absurd (omega arith); held = sym (ap (held_of k) w_rest) ∙ their.held }) (λ port u not_me not_you at. old.fits port u at))
     where
       both : Knows
@@ -185,11 +194,3 @@ module _ (stores seats : ℕ) where
       each P joint empty old =
           each_set P (set s.views id both) other spent empty
           (λ port u not_you at. each_set (λ (p : ℕ) (x : Knows). p ≢ other → P p x) s.views id both (λ same. joint) (λ p x not_me there not_it. old p x not_me not_it there) port u at not_you)
-
-      by_parts : (k : ℕ) (log : List Entry) → ((n : ℕ) → n < length v.lists → part (v.first + n) log ≡ calls_on k (get_or v.lists n []))
-          → ((n : ℕ) → n < length w.lists → part (w.first + n) log ≡ calls_on k (get_or w.lists n []))
-          → (n : ℕ) → n < length (w.lists ++ v.lists) → (n < length w.lists) ⊎ (length w.lists ≤ n) → part (w.first + n) log ≡ calls_on k (get_or (w.lists ++ v.lists) n [])
-      by_parts k log ours their n inside (inl before) = their n before ∙ ap (calls_on k) (sym (get_or_append_left w.lists v.lists [] n before))
-      by_parts k log ours their n inside (inr after) =
-          ap (λ (seat : ℕ). part seat log) (omega arith)
-          ∙ (ours (n - length w.lists) (omega (arith, count)) ∙ ap (calls_on k) (sym (get_or-append_right w.lists v.lists (length w.lists) n [] refl after)))

@@ -1,4 +1,4 @@
-use Rattle.std.proofs.Common.{◌≡◌, ◌<◌, length, take, get_or, arith}
+use Rattle.std.proofs.Common.{rules, ◌≡◌, ◌<◌, length, take, get_or, arith}
 use Rattle.std.specs.Slots.{slots_items, slots_filled, slots_counts}
 use Rattle.std.proofs.lemmas.Grind.{common_steps}
 use Rattle.std.proofs.lemmas.List.{take_more}
@@ -15,7 +15,7 @@ loop-k-preserved c =
     let before = c.loop-k.invariant in
     let labels = c.args.labels.now in
     let all = slots_items c.args.closed.slots in
-    let state = c.take_state-state.result in
+    let state = c.take-state.result in
     let label = c.index-labels-k.result in
     let filled = slots_filled c.loop-k.closed.slots in
     let in_labels : k < length labels = omega (arith, c.loop-k-test.true, c.loop-k.auto.k-end) in
@@ -34,6 +34,6 @@ loop-k-preserved c =
           let more = one_more (take k labels) (take k all) label state (grind (arith, common_steps)) in
           cc;
       sound = rw c.push_reserved.ensures.items
-          (All-push (λ (h : Held). IsState h.state) c.loop-k.stores.items (under label state) before.sound c.take_state-state.ensures.sound);
+          (All-push (λ (h : Held). IsState h.state) c.loop-k.stores.items (under label state) before.sound (let is : IsState state = search rules in is));
       room = grind (arith, common_steps);
     }
