@@ -5,7 +5,7 @@ ghost use Rattle.mm_desk.specs.Runs.{opening_at};
 ghost use Rattle.mm_base.specs.declared.limits.TheConstants.{MAX_STORES};
 ghost use Rattle.mm_desk.specs.Machine.{IsState};
 ghost use Rattle.mm_shared.specs.Views.{new_ports, ports_after, tally_of};
-ghost use Rattle.mm_shared.specs.Stores.{held_stores, label_of, states_of, labels_of, names_of, ids_of, id_at, stores_in, AreNamed, AreWorkers, HasRoom, IsFilled, MayGive, AreGiven, AreAtRest, AreOpen, AreNew, HaveLegalLogs};
+ghost use Rattle.mm_shared.specs.Stores.{held_stores, label_of, states_of, labels_of, names_of, ids_of, id_at, stores_in, AreNamed, AreWorkers, HasRoom, IsFilled, AreAtRest, AreOpen, AreNew, HaveLegalLogs};
 
 use crate::label::StoreLabel;
 use crate::port::{Port, Ports};
@@ -79,19 +79,6 @@ fn join_all(labels: Vec<StoreLabel>, states: Vec<StoreState>, stores: &mut Vec<H
     });
 }
 
-// Gives each worker a port.
-fn give_ports(stores: &SharedStores, rest: &mut Ports, count: u32, workers: &mut Vec<Port>)
-    requires all { MayGive stores.now rest.old count }
-    requires room { HasRoom workers.old count }
-    ensures workers { AreGiven rest.old.of count workers.new.items }
-    ensures rest { rest.new ≡ ports_after rest.old.of count (MAX_SEATS - count) }
-    ensures capacity { vec_capacity workers.new ≡ vec_capacity workers.old }
-{
-    for _ in 0..count {
-        workers.push_reserved(stores.split(rest));
-    }
-}
-
 // Takes the ports of all workers back.
 fn take_ports(stores: &SharedStores, rest: &mut Ports, workers: &mut Vec<Port>)
     requires of { rest.old.of.table ≡ stores.now.id }
@@ -147,12 +134,11 @@ pub fn seat_workers(opened: &mut OpenStores, workers: u32)
     requires few { workers ≤ MAX_SEATS }
     ensures new { AreNew (stores_in opened.old) workers opened.new }
 {
-    give_ports(
-        &opened.stores,
-        &mut opened.rest,
-        workers,
-        &mut opened.workers,
-    );
+    for _ in 0..workers {
+        opened
+            .workers
+            .push_reserved(opened.stores.split(&mut opened.rest));
+    }
 }
 
 /// Ends a step: takes all ports back. Each store went by a legal log of the workers' calls on it.
