@@ -79,24 +79,6 @@ fn join_all(labels: Vec<StoreLabel>, states: Vec<StoreState>, stores: &mut Vec<H
     });
 }
 
-// Takes the ports of all workers back.
-fn take_ports(stores: &SharedStores, rest: &mut Ports, workers: &mut Vec<Port>)
-    requires of { rest.old.of.table ≡ stores.now.id }
-    requires workers { AreWorkers rest.old.of 0 workers.old.items }
-    requires rest { rest.old ≡ ports_after rest.old.of (length workers.old.items) (MAX_SEATS - length workers.old.items) }
-    ensures all { rest.new ≡ record {
-      of = rest.old.of;
-      first = 0;
-      lists = map (λ w. w.list) workers.old.items ++ replicate (MAX_SEATS - length workers.old.items) [];
-    } }
-    ensures none { workers.new.items ≡ [] }
-    ensures capacity { vec_capacity workers.new ≡ vec_capacity workers.old }
-{
-    while let Some(port) = workers.pop() {
-        stores.join(rest, port);
-    }
-}
-
 /// Opens stores. Where there is no memory they are as they were; what the steps need of it is taken here.
 #[tactic(auto, using(crate::proofs::Opening::together, crate::proofs::Opening::count_is))]
 pub fn open_all(alloc: Global, stores: &mut Vec<Held>) -> Result<OpenStores, NoMemory>
@@ -150,7 +132,9 @@ pub fn settle(opened: &mut OpenStores)
     ensures went { HaveLegalLogs opened.old.workers.items opened.old.rest.of.states (states_of (stores_in opened.new)) }
     ensures sound { All (λ h. IsState h.state) (stores_in opened.new) }
 {
-    take_ports(&opened.stores, &mut opened.rest, &mut opened.workers);
+    while let Some(port) = opened.workers.pop() {
+        opened.stores.join(&mut opened.rest, port);
+    }
     opened.stores.settle(&mut opened.rest);
     read_states(opened);
 }

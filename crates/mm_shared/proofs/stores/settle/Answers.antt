@@ -10,5 +10,6 @@ pub returns-clause-went : goal.returns-clause-went
 returns-clause-went c k within =
     let workers = c.args.opened.now.workers.items in
     let states : states_of (stores_in c.read_states.new.opened) ≡ c.settle.new.ports.of.states = grind (arith, common_steps, states_are) in
-    let went = rw c.take_ports.ensures.all at (c.settle.ensures.went k (omega (arith, within, ap length states))) in
+    let none : length c.loop-port.opened.workers.items ≡ 0 = grind (arith, common_steps) in
+    let went = rw (c.loop-port.invariant.rest, none) at (c.settle.ensures.went k (omega (arith, within, ap length states))) in
     rw states (fewer_lists k workers (MAX_SEATS - length workers) _ _ went)
