@@ -1,9 +1,9 @@
 -- Stores are parted into labels and states, and put together again.
-use Rattle.std.proofs.Common.{◌≡◌, ℕ, suc, ◌<◌, List, [], ◌∷◌, ◌++◌, length, map, refl, sym, ap, ◌∙◌, arith}
-use Rattle.std.proofs.lemmas.List.{length-map}
+use Rattle.std.proofs.Common.{◌≡◌, ℕ, suc, ◌<◌, List, [], ◌∷◌, ◌++◌, length, get_or, map, refl, sym, ap, ◌∙◌, arith}
+use Rattle.std.proofs.lemmas.List.{get_or-map, length-map}
 use Rattle.mm_desk.specs.declared.held.Held.{Held}
 use Rattle.mm_desk.specs.Machine.{State}
-use Rattle.mm_desk.specs.Runs.{opening_at}
+use Rattle.mm_desk.specs.Runs.{blank, opening_at}
 use Rattle.mm_shared.specs.declared.label.StoreLabel.{StoreLabel}
 use Rattle.mm_shared.specs.Stores.{held_stores, label_of, labels_of, names_of, states_of}
 
@@ -39,6 +39,10 @@ states_are (l ∷ labels) (s ∷ states) same = ap (λ (xs : List State). s ∷ 
 
 pub count_is : (labels : List StoreLabel) (states : List State) → length labels ≡ length states → length (held_stores labels states) ≡ length labels
 count_is labels states same = sym (length-map (held_stores labels states) (λ h. h.state)) ∙ (ap length (states_are labels states same) ∙ sym same)
+
+-- the state of the store at an index
+pub state_at : (stores : List Held) (k : ℕ) (d : Held) → k < length stores → (get_or stores k d).state ≡ opening_at (states_of stores) k
+state_at stores k d within = sym (get_or-map (λ (h : Held). h.state) stores k d blank within)
 
 -- stores with these labels, in the states that they were in, are those that were put together
 pub unchanged : (labels : List StoreLabel) (before : List State) (stores : List Held) → length before ≡ length labels → labels_of stores ≡ names_of labels

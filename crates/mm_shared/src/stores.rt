@@ -140,7 +140,7 @@ pub fn settle(opened: &mut OpenStores)
 }
 
 /// Reads each store, between steps, which shows that it is sound.
-#[tactic(auto, using(crate::proofs::Opening::states_are, crate::proofs::Opening::count_is))]
+#[tactic(auto, using(crate::proofs::Opening::state_at, crate::proofs::Opening::count_is))]
 pub fn read_states(opened: &mut OpenStores)
     requires rest { AreAtRest opened.old }
     ensures same { opened.new ≡ opened.old }

@@ -12,7 +12,9 @@ invariant-loop-port l = record {
   rest : l.opened.rest ≡ record {
     of = l.initial.opened.rest.of;
     first = length l.opened.workers.items;
-    lists = map (λ w. w.list) (drop (length l.opened.workers.items) l.initial.opened.workers.items) ++ replicate (MAX_SEATS - length l.initial.opened.workers.items) [];
+    lists =
+        map (λ w. w.list) (drop (length l.opened.workers.items) l.initial.opened.workers.items)
+        ++ replicate (MAX_SEATS - length l.initial.opened.workers.items) [];
   };
   capacity : vec_capacity l.opened.workers ≡ vec_capacity l.initial.opened.workers;
 }
