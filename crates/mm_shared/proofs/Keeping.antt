@@ -133,21 +133,22 @@ module _ (stores seats : ℕ) (s : Table State Knows) (kept : IsKept stores seat
   pub ends : v.held ≡ None → v.first ≡ 0 → length v.lists ≡ seats
       → HasLegalLog (map (calls_on i) v.lists) (opening_at v.states i) k.it.now × (k.it.holder ≡ None)
   ends rest first all =
-    let own = kept.owns id v me in
-    let fit = k.fits id v me in (
-    record {
-      log = k.it.log;
-      run = subst (λ (os : List State). IsRun (opening_at os i) k.it.log k.it.now) (sym (own.agree (λ none. omega (arith, none, all)))) k.course.run;
-      shuffle = record {
-        below = rw (length-map v.lists (calls_on i), all) k.course.below;
-        parts = λ seat inside.
-            let under : seat < length v.lists = omega (arith, inside, length-map v.lists (calls_on i)) in
-            ap (λ (n : ℕ). part n k.it.log) (omega (arith, first)) ∙ (fit.parts seat under ∙ sym (get_or-map (calls_on i) v.lists seat [] [] under));
-      };
-    },
-    none_out seats _ _ k.it.now kept.owner id k.it.holder (λ seat inside. own.owned seat (omega (arith, first)) (omega (arith, first, all, inside)))
-        k.course.stands (sym fit.held ∙ ap (held_of i) rest),
-  )
+      let own = kept.owns id v me in
+      let fit = k.fits id v me in (
+        record {
+          log = k.it.log;
+          run = subst (λ (os : List State). IsRun (opening_at os i) k.it.log k.it.now) (sym (own.agree (λ none. omega (arith, none, all)))) k.course.run;
+          shuffle = record {
+            below = rw (length-map v.lists (calls_on i), all) k.course.below;
+            parts = λ seat inside.
+                let under : seat < length v.lists = omega (arith, inside, length-map v.lists (calls_on i)) in
+                ap (λ (n : ℕ). part n k.it.log) (omega (arith, first)) ∙ (fit.parts seat under ∙ sym (get_or-map (calls_on i) v.lists seat [] [] under));
+          };
+        },
+        none_out seats _ _ k.it.now kept.owner id k.it.holder (λ seat inside. own.owned seat (omega (arith, first)) (omega (arith, first, all, inside)))
+            k.course.stands (sym fit.held ∙ ap (held_of i) rest),
+      )
+
   -- the state is given back, with this log
   gives_back : (taken now : State) (lists : List (List (ℕ × Entry))) (log : List Entry) → v.held ≡ Some (i, taken) → length lists ≡ length v.lists
       → ((j n : ℕ) → j ≢ i → calls_on j (get_or lists n []) ≡ calls_on j (get_or v.lists n []))
@@ -178,6 +179,7 @@ module _ (stores seats : ℕ) (s : Table State Knows) (kept : IsKept stores seat
       (λ port u apart at n inside.
       let theirs = (kept.owns port u at).owned (u.first + n) (omega arith) (omega arith) in
       part-other (u.first + n) k.it.log e (λ same. apart (sym theirs ∙ (ap kept.owner (sym same) ∙ own.owned v.first (omega arith) (omega arith)))))
+
   -- the state is given back as it was
   pub restores : (taken : State) → v.held ≡ Some (i, taken) → IsKept stores seats (stepped s i 0 id ((i, taken) ∷ []) (record v { held = None }) gives)
   restores taken held =
