@@ -1,10 +1,6 @@
 -- The calls on each store in a list of calls on any.
 use Rattle.std.proofs.Common.{◌≡◌, ◌≢◌, ℕ, ◌==◌, List, [], ◌∷◌, ◌++◌, map, filter, refl, ap, ◌∙◌}
-use Rattle.std.proofs.lemmas.Bool.{eq-eqb, ne_eqb}
-use Rattle.std.proofs.lemmas.List.{map-append, append-nil}
-use Rattle.std.proofs.lemmas.List.Elements.{filter-append}
-use Rattle.mm_desk.specs.declared.entry.Entry.{Entry}
-use Rattle.mm_shared.specs.Rule.{calls_on}
+use Rattle.mm_shared.proofs.Words.{eq-eqb, ne_eqb, map-append, append-nil, Entry, calls_on, filter-append}
 
 -- a call is among those of its store, and of no other
 pub call_here : (k : ℕ) (calls : List (ℕ × Entry)) (i : ℕ) (e : Entry) → i ≡ k → calls_on k (calls ++ (i, e) ∷ []) ≡ calls_on k calls ++ e ∷ []

@@ -1,18 +1,7 @@
 -- The ports of all seats come back: the state is in its slot, and went by a log of their calls.
 use Rattle.std.proofs.Common.{◌≡◌, ◌≢◌, ℕ, List, [], ◌∷◌, length, map, refl, sym, ap, ◌∙◌, arith, Option, Some, None}
-use Rattle.std.specs.Prelude.{All}
-use Rattle.std.proofs.lemmas.Bool.{eq-eqb, ne_eqb}
-use Rattle.std.proofs.lemmas.List.Elements.{All-map}
-use Rattle.std.proofs.lemmas.List.{get_or_past}
-use mathlib.Core.Logic.{dite}
-use native.Mathlib.Decide.{ℕ_discrete}
-use Rattle.mm_desk.specs.declared.entry.Entry.{Entry}
-use Rattle.mm_desk.specs.Machine.{State}
-use Rattle.mm_desk.specs.Runs.{replay, opening_at}
-use Rattle.mm_desk.proofs.Lone.{lone_log}
-use Rattle.mm_shared.specs.Rule.{calls_on, held_by}
-use Rattle.mm_shared.specs.Steps.{Seated, IsTakenByAll}
-use Rattle.mm_shared.specs.Views.{HasLegalLog}
+use Rattle.mm_shared.proofs.Words.{eq-eqb, ne_eqb, get_or_past, Entry, State, lone_log, calls_on, held_by, HasLegalLog, replay, opening_at, All-map, dite}
+use Rattle.mm_shared.proofs.Words.{ℕ_discrete, Seated, IsTakenByAll, All}
 
 -- a log of no calls leaves the state as it was
 pub untouched : (lists : List (List Entry)) (s t : State) → HasLegalLog lists s t → All (λ (list : List Entry). list ≡ []) lists → t ≡ s

@@ -1,15 +1,8 @@
 -- Seats through which no call was made have no part in a log.
 use Rattle.std.proofs.Common.{◌≡◌, ⊎_elim, ℕ, ◌-◌, ◌<◌, ◌≤◌, List, [], ◌++◌, length, map, replicate, get_or, refl, ◌∙◌, arith}
-use Rattle.std.proofs.lemmas.Bool.{cases_lt}
-use Rattle.std.proofs.lemmas.List.{length-append, length-replicate, map-append, get_or_append_left, get_or-append_right, get_or-replicate}
+use Rattle.mm_shared.proofs.Words.{cases_lt, length-append, length-replicate, map-append, get_or_append_left, get_or-append_right, get_or-replicate, Entry}
+use Rattle.mm_shared.proofs.Words.{State, IsShuffle, part, none_of, calls_on, lists_at, PortView, HasLegalLog}
 use Rattle.std.proofs.lemmas.Simd.{map-map}
-use Rattle.mm_desk.specs.declared.entry.Entry.{Entry}
-use Rattle.mm_desk.specs.Machine.{State}
-use Rattle.mm_desk.specs.Shuffles.{IsShuffle, part}
-use Rattle.mm_desk.proofs.Lone.{none_of}
-use Rattle.mm_shared.specs.Rule.{calls_on}
-use Rattle.mm_shared.specs.Stores.{lists_at}
-use Rattle.mm_shared.specs.Views.{PortView, HasLegalLog}
 use lib.LanesLaws.{map-replicate}
 
 -- a shuffle of lists and of empty ones is a shuffle of the lists

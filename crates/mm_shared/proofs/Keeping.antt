@@ -1,27 +1,12 @@
 -- A step of a seat on one store keeps the rule of shared stores.
 use Rattle.std.proofs.Common.{◌≡◌, ◌≢◌, ℕ, ◌+◌, ◌<◌, List, [], ◌∷◌, ◌++◌, length, map, get_or, set, refl, sym, ap, ◌∙◌, subst, arith, Option, Some, None}
-use Rattle.std.proofs.lemmas.Bool.{eq-eqb, ne_eqb}
-use Rattle.std.proofs.lemmas.List.{length-map, length-set, get_or-map, get_or_default, get_or-set_same, get_or-set_other, set-get_or}
-use Rattle.std.proofs.lemmas.List.Elements.{All-push}
-use mathlib.Core.Option.{none, some}
+use Rattle.mm_shared.proofs.Words.{eq-eqb, ne_eqb, length-map, length-set, get_or-map, get_or_default, get_or-set_same, get_or-set_other, set-get_or, Entry}
+use Rattle.mm_shared.proofs.Words.{State, AreBelow, part, Course, IsCourse, Owns, Fits, Stands, Keeps, IsKept, calls_on, held_of, held_by, HasLegalLog, entry}
+use Rattle.mm_shared.proofs.Words.{IsRun, opening_at, All-push, none, some, dite, ℕ_discrete, get_elem?, Table, Act, keeps, takes, gives, stepped, homes_after}
+use Rattle.mm_shared.proofs.Words.{Event, Reply, Knows, lists_with, at_index}
 use mathlib.Core.Option as slot
-use mathlib.Core.Logic.{dite}
-use native.Mathlib.Decide.{ℕ_discrete}
-use lib.ListN.{get_elem?}
-use Rattle.atomic_table.specs.Table.{State as Table, Act, keeps, takes, gives, stepped, homes_after}
-use Rattle.atomic_table.proofs.Lists.{at_index}
-use Rattle.mm_desk.specs.declared.entry.Entry.{Entry}
-use Rattle.mm_desk.specs.declared.event.Event.{Event}
-use Rattle.mm_desk.specs.declared.reply.Reply.{Reply}
-use Rattle.mm_desk.specs.Machine.{State}
 use Rattle.mm_desk.specs.Machine as Machine
-use Rattle.mm_desk.specs.Runs.{entry, IsRun, opening_at}
-use Rattle.mm_desk.specs.Shuffles.{AreBelow, part}
 use Rattle.mm_desk.proofs.Logs.{run_more}
-use Rattle.mm_shared.specs.declared.rule.Knows.{Knows}
-use Rattle.mm_shared.specs.Rule.{Course, IsCourse, Owns, Fits, Stands, Keeps, IsKept, calls_on, held_of, held_by}
-use Rattle.mm_shared.specs.Views.{HasLegalLog}
-use Rattle.mm_shared.specs.Steps.{lists_with}
 use Rattle.mm_shared.proofs.Ending.{held_yes, held_no, is_holder}
 use Rattle.mm_shared.proofs.Lists.{each_set}
 use Rattle.mm_shared.proofs.Parts.{part-other, length-lists_with, parts_with, others_with}

@@ -1,22 +1,10 @@
 -- Each step keeps the rule of shared stores, whose calls count from states that all who have seats know.
 use Rattle.std.proofs.Common.{◌≡◌, ◌≢◌, ℕ, ◌+◌, ◌<◌, List, [], ◌∷◌, length, map, get_or, sym, refl, ap, ◌∙◌, subst, arith, Some, None}
-use Rattle.std.proofs.lemmas.List.{length-map, length-replicate, length-set, get_or-map, get_or-replicate}
-use Rattle.std.proofs.lemmas.List.Elements.{All-nil}
-use mathlib.Core.Option.{none, some, some-ne-none}
+use Rattle.mm_shared.proofs.Words.{length-map, length-replicate, length-set, get_or-map, get_or-replicate, Entry, State, Course, IsCourse, Owns, Fits, IsKept}
+use Rattle.mm_shared.proofs.Words.{all_seats, calls_on, HasLegalLog, opening_at, blank, All-nil, none, some, some-ne-none, dite, ℕ_discrete, get_elem?, Table}
+use Rattle.mm_shared.proofs.Words.{step_of, keeps, takes, gives, stepped, rest, opening, Allows, Final, Seen, Event, Reply, Knows, Seated, IsAtRest, HasCalled}
+use Rattle.mm_shared.proofs.Words.{IsAsTaken, AreAll, IsTakenByAll, IsSettled, called, at_rest, tried}
 use mathlib.Core.Option as slot
-use mathlib.Core.Logic.{dite}
-use native.Mathlib.Decide.{ℕ_discrete}
-use lib.ListN.{get_elem?}
-use Rattle.atomic_table.specs.Table.{State as Table, step as step_of, keeps, takes, gives, stepped, rest, opening, Allows, Final, Seen}
-use Rattle.mm_desk.specs.declared.entry.Entry.{Entry}
-use Rattle.mm_desk.specs.declared.event.Event.{Event}
-use Rattle.mm_desk.specs.declared.reply.Reply.{Reply}
-use Rattle.mm_desk.specs.Machine.{State}
-use Rattle.mm_desk.specs.Runs.{opening_at, blank}
-use Rattle.mm_shared.specs.declared.rule.Knows.{Knows}
-use Rattle.mm_shared.specs.Rule.{Course, IsCourse, Owns, Fits, IsKept, all_seats, calls_on}
-use Rattle.mm_shared.specs.Steps.{Seated, IsAtRest, HasCalled, IsAsTaken, AreAll, IsTakenByAll, IsSettled, called, at_rest, tried}
-use Rattle.mm_shared.specs.Views.{HasLegalLog}
 use Rattle.mm_shared.proofs.Keeping.{none_free, keeps_on, in_slot, may_take, takes_out, ends, gives_after, restores}
 use Rattle.mm_shared.proofs.Lists.{at_get, at_below, each_set, each_push}
 

@@ -1,11 +1,6 @@
 -- Stores are parted into labels and states, and put together again.
 use Rattle.std.proofs.Common.{◌≡◌, ℕ, suc, ◌<◌, List, [], ◌∷◌, ◌++◌, length, get_or, map, refl, sym, ap, ◌∙◌, arith}
-use Rattle.std.proofs.lemmas.List.{get_or-map, length-map}
-use Rattle.mm_desk.specs.declared.held.Held.{Held}
-use Rattle.mm_desk.specs.Machine.{State}
-use Rattle.mm_desk.specs.Runs.{blank, opening_at}
-use Rattle.mm_shared.specs.declared.label.StoreLabel.{StoreLabel}
-use Rattle.mm_shared.specs.Stores.{held_stores, label_of, labels_of, names_of, states_of}
+use Rattle.mm_shared.proofs.Words.{get_or-map, length-map, State, held_stores, label_of, labels_of, names_of, states_of, Held, blank, opening_at, StoreLabel}
 
 -- a store under a label
 abbrev pub under : StoreLabel → State → Held

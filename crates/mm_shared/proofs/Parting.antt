@@ -1,22 +1,9 @@
 -- Seats that are parted and put together keep the rule of shared stores.
 use Rattle.std.proofs.Common.{◌≡◌, ◌≢◌, ⊎_elim, ℕ, ◌+◌, ◌-◌, ◌<◌, eqb, List, [], ◌∷◌, ◌++◌, length, drop, set, refl, sym, ap, ◌∙◌, arith, Option, Some, None}
-use Rattle.std.specs.Prelude.{if◌then◌else◌}
-use Rattle.std.proofs.lemmas.Bool.{eq-eqb, ne_eqb, cases_lt}
-use Rattle.std.proofs.lemmas.Grind.{get_or_after_one}
-use Rattle.std.proofs.lemmas.List.{length-append, length-drop, length-set, get_or_append_left, get_or-append_right}
-use mathlib.Core.Option.{some}
+use Rattle.mm_shared.proofs.Words.{eq-eqb, ne_eqb, cases_lt, length-append, length-drop, length-set, get_or_append_left, get_or-append_right, State, part}
+use Rattle.mm_shared.proofs.Words.{knows, Owns, Fits, Stands, Keeps, Each, IsKept, calls_on, held_of, held_by, opening_at, some, dite, ℕ_discrete, get_elem?}
+use Rattle.mm_shared.proofs.Words.{Table, Splits, Joins, Knows, others_of, first_of, joined, set_else, if◌then◌else◌, get_or_after_one}
 use mathlib.Core.Option as slot
-use mathlib.Core.Logic.{dite}
-use native.Mathlib.Decide.{ℕ_discrete}
-use lib.ListN.{get_elem?}
-use Rattle.atomic_table.specs.Table.{State as Table, Splits, Joins}
-use Rattle.atomic_table.proofs.Lists.{set_else}
-use Rattle.mm_desk.specs.Machine.{State}
-use Rattle.mm_desk.specs.Runs.{opening_at}
-use Rattle.mm_desk.specs.Shuffles.{part}
-use Rattle.mm_shared.specs.declared.rule.Knows.{Knows}
-use Rattle.mm_shared.specs.Rule.{knows, Owns, Fits, Stands, Keeps, Each, IsKept, calls_on, held_of, held_by}
-use Rattle.mm_shared.specs.Steps.{others_of, first_of, joined}
 use Rattle.mm_shared.proofs.Ending.{held_yes, held_no}
 use Rattle.mm_shared.proofs.Lists.{at_below, each_set, each_push}
 

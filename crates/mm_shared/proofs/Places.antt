@@ -1,14 +1,11 @@
 -- The index of the one store with an identifier.
 use Rattle.std.proofs.Common.{◌≡◌, ◌⊎◌, inl, inr, ℕ, ◌<◌, ◌≤◌, ◌==◌, Bool, true, false, List, [], length, get_or, Option, Some, None, IfSome, IfNone, bytes_eq, refl, sym, ◌∙◌, arith}
 use Rattle.std.specs.List.{position, position_or_len}
-use Rattle.std.proofs.lemmas.Bool.{cases_order, eq-eqb, ne_eqb}
+use Rattle.mm_shared.proofs.Words.{cases_order, eq-eqb, ne_eqb, get_or-map, length-map, AreNamed, ids_of, id_at, StoreLabel}
 use Rattle.std.proofs.lemmas.Bool.Decides.{nat_tests}
-use Rattle.std.proofs.lemmas.List.{get_or-map, length-map}
 use Rattle.std.proofs.lemmas.List.Quantifiers.{position-Some}
 use Rattle.std.proofs.lemmas.List.Sums.{fails_before_first}
 use Rattle.std.proofs.lemmas.Slice.Eq.{bytes_eq-Decides}
-use Rattle.mm_shared.specs.declared.label.StoreLabel.{StoreLabel}
-use Rattle.mm_shared.specs.Stores.{AreNamed, ids_of, id_at}
 
 -- no label
 no_label : StoreLabel

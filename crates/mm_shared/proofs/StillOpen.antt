@@ -1,11 +1,7 @@
 -- Stores stay open while workers call through their ports, since no call changes where a port is.
 use Rattle.std.proofs.Common.{◌≡◌, ◌<◌, length, sym, ap, ◌∙◌, arith, Vec, Global}
-use Rattle.std.specs.Prelude.{vec_capacity}
-use Rattle.std.proofs.lemmas.Grind.{common_steps}
-use Rattle.std.proofs.lemmas.List.{get_or-map, length-map}
-use Rattle.mm_shared.specs.Views.{PortView}
+use Rattle.mm_shared.proofs.Words.{get_or-map, length-map, end_of, all_ends, AreOpen, PortView, vec_capacity, common_steps}
 use Rattle.mm_shared.specs.declared.stores.OpenStores.{OpenStores}
-use Rattle.mm_shared.specs.Stores.{end_of, all_ends, AreOpen}
 
 -- the stores are open as long as all ports are where they were
 pub still_open : (it : OpenStores) (workers : Vec PortView Global) → AreOpen it → vec_capacity workers ≡ vec_capacity it.workers

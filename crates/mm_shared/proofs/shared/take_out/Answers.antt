@@ -1,10 +1,5 @@
 use Rattle.std.proofs.Common.{rules, ◌≡◌, ◌<◌, length, take, get_or, arith}
-use Rattle.std.specs.Slots.{slots_items, slots_filled, slots_counts}
-use Rattle.std.proofs.lemmas.Grind.{common_steps}
-use Rattle.std.proofs.lemmas.List.{take_more}
-use Rattle.std.proofs.lemmas.List.Elements.{All-push}
-use Rattle.mm_desk.specs.declared.held.Held.{Held}
-use Rattle.mm_desk.specs.Machine.{IsState}
+use Rattle.mm_shared.proofs.Words.{take_more, IsState, Held, All-push, common_steps, slots_items, slots_filled, slots_counts}
 use Rattle.mm_shared.proofs.Lists.{at_get}
 use Rattle.mm_shared.proofs.Opening.{one_more, under}
 use Rattle.mm_shared.proofs.shared.take_out.Goals as goal

@@ -1,9 +1,5 @@
 use Rattle.std.proofs.Common.{◌≡◌, ℕ, List, [], refl, ap, ◌∙◌, arith}
-use Rattle.std.proofs.lemmas.List.Elements.{All-replicate}
-use Rattle.mm_desk.specs.declared.desk.TheConstants.{MAX_SEATS}
-use Rattle.mm_desk.specs.declared.entry.Entry.{Entry}
-use Rattle.mm_shared.specs.Rule.{calls_on}
-use Rattle.mm_shared.specs.Stores.{names_of}
+use Rattle.mm_shared.proofs.Words.{Entry, calls_on, names_of, All-replicate, MAX_SEATS}
 use Rattle.mm_shared.proofs.Opening.{unchanged}
 use Rattle.mm_shared.proofs.stores.close_all.Goals as goal
 

@@ -1,7 +1,5 @@
 use Rattle.std.proofs.Common.{◌≡◌, ◌-◌, length, All, vec_capacity}
-use Rattle.mm_desk.specs.declared.desk.TheConstants.{MAX_SEATS}
-use Rattle.mm_shared.specs.Stores.{AreWorkers, IsFresh}
-use Rattle.mm_shared.specs.Views.{ports_after}
+use Rattle.mm_shared.proofs.Words.{AreWorkers, IsFresh, ports_after, MAX_SEATS}
 use Rattle.mm_shared.proofs.stores.seat_workers.Given as goal
 
 abbrev pub invariant-loop : goal.invariant-loop

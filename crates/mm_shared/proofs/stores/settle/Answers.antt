@@ -1,7 +1,5 @@
 use Rattle.std.proofs.Common.{◌≡◌, ◌-◌, length, ap, arith}
-use Rattle.std.proofs.lemmas.Grind.{common_steps}
-use Rattle.mm_desk.specs.declared.desk.TheConstants.{MAX_SEATS}
-use Rattle.mm_shared.specs.Stores.{states_of, stores_in}
+use Rattle.mm_shared.proofs.Words.{states_of, stores_in, common_steps, MAX_SEATS}
 use Rattle.mm_shared.proofs.Fewer.{fewer_lists}
 use Rattle.mm_shared.proofs.Opening.{states_are}
 use Rattle.mm_shared.proofs.stores.settle.Goals as goal

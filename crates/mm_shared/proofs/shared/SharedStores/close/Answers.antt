@@ -1,10 +1,5 @@
 use Rattle.std.proofs.Common.{◌≡◌, List, [], map, arith}
-use Rattle.std.specs.Slots.{slots_items}
-use Rattle.std.proofs.lemmas.Grind.{common_steps}
-use Rattle.std.proofs.lemmas.List.Elements.{All-map}
-use Rattle.mm_desk.specs.declared.entry.Entry.{Entry}
-use Rattle.mm_shared.specs.Rule.{calls_on}
-use Rattle.mm_shared.specs.Stores.{states_of}
+use Rattle.mm_shared.proofs.Words.{Entry, calls_on, states_of, All-map, common_steps, slots_items}
 use Rattle.mm_shared.proofs.Ending.{untouched}
 use Rattle.mm_shared.proofs.Kept.{closes_kept}
 use Rattle.mm_shared.proofs.Opening.{states_are}

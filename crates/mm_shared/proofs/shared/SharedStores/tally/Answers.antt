@@ -1,6 +1,5 @@
 use Rattle.std.proofs.Common.{rules, ap, ◌∙◌, subst}
-use Rattle.mm_desk.specs.Machine.{IsState}
-use Rattle.mm_shared.specs.Views.{tally_of}
+use Rattle.mm_shared.proofs.Words.{IsState, tally_of}
 use Rattle.mm_shared.proofs.Ending.{told_is}
 use Rattle.mm_shared.proofs.shared.SharedStores.tally.Goals as goal
 
