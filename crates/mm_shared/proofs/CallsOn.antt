@@ -1,15 +1,6 @@
 -- The calls on each store in a list of calls on any.
 use Rattle.std.proofs.Common.{◌≡◌, ◌≢◌, ℕ, ◌==◌, List, [], ◌∷◌, ◌++◌, map, filter, refl, ap, ◌∙◌}
-use Rattle.std.proofs.lemmas.Bool.{eq-eqb, ne_eqb}
-use Rattle.std.proofs.lemmas.List.{map-append, append-nil}
-use Rattle.std.proofs.lemmas.List.Elements.{filter-append}
-use Rattle.mm_desk.specs.declared.entry.Entry.{Entry}
-use Rattle.mm_desk.specs.declared.event.Event.{Event}
-use Rattle.mm_desk.specs.declared.reply.Reply.{Reply}
-use Rattle.mm_desk.specs.Runs.{entry}
-use Rattle.mm_shared.specs.Rule.{calls_on}
-use Rattle.mm_shared.specs.Stores.{list_at}
-use Rattle.mm_shared.specs.Views.{PortView, with_call}
+use Rattle.mm_shared.proofs.Words.{eq-eqb, ne_eqb, map-append, append-nil, Entry, calls_on, filter-append}
 
 -- a call is among those of its store, and of no other
 pub call_here : (k : ℕ) (calls : List (ℕ × Entry)) (i : ℕ) (e : Entry) → i ≡ k → calls_on k (calls ++ (i, e) ∷ []) ≡ calls_on k calls ++ e ∷ []
@@ -21,11 +12,3 @@ pub call_there : (k : ℕ) (calls : List (ℕ × Entry)) (i : ℕ) (e : Entry) �
 call_there k calls i e other =
     ap (map (λ c. c.1)) (filter-append (λ c. c.0 == k) calls ((i, e) ∷ []))
     ∙ (map-append (λ c. c.1) (filter (λ c. c.0 == k) calls) (filter (λ c. c.0 == k) ((i, e) ∷ [])) ∙ rw (ne_eqb i k other) (append-nil (calls_on k calls)))
-
--- so it is in the list of a port's calls on a store
-pub list_here : (port : PortView) (k : ℕ) (event : Event) (reply : Reply)
-    → list_at (with_call port k event reply) k ≡ list_at port k ++ entry port.number event reply ∷ []
-list_here port k event reply = call_here k port.list k (entry port.number event reply) refl
-
-pub list_there : (port : PortView) (k j : ℕ) (event : Event) (reply : Reply) → k ≢ j → list_at (with_call port k event reply) j ≡ list_at port j
-list_there port k j event reply other = call_there j port.list k (entry port.number event reply) other

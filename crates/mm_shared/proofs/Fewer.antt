@@ -1,37 +1,27 @@
 -- Seats through which no call was made have no part in a log.
-use Rattle.std.proofs.Common.{◌≡◌, ◌⊎◌, inl, inr, ℕ, ◌-◌, ◌<◌, ◌≤◌, List, [], ◌++◌, length, map, replicate, get_or, refl, sym, ◌∙◌, arith}
-use Rattle.std.proofs.lemmas.Bool.{cases_lt}
-use Rattle.std.proofs.lemmas.List.{length-append, length-replicate, map-append, get_or_append_left, get_or-append_right, get_or-replicate}
+use Rattle.std.proofs.Common.{◌≡◌, ⊎_elim, ℕ, ◌-◌, ◌<◌, ◌≤◌, List, [], ◌++◌, length, map, replicate, get_or, refl, ◌∙◌, arith}
+use Rattle.mm_shared.proofs.Words.{cases_lt, length-append, length-replicate, map-append, get_or_append_left, get_or-append_right, get_or-replicate, Entry}
+use Rattle.mm_shared.proofs.Words.{State, IsShuffle, part, none_of, calls_on, lists_at, PortView, HasLegalLog}
 use Rattle.std.proofs.lemmas.Simd.{map-map}
-use Rattle.mm_desk.specs.declared.entry.Entry.{Entry}
-use Rattle.mm_desk.specs.Machine.{State}
-use Rattle.mm_desk.specs.Shuffles.{IsShuffle, part}
-use Rattle.mm_desk.proofs.Lone.{none_of}
-use Rattle.mm_shared.specs.Rule.{calls_on}
-use Rattle.mm_shared.specs.Stores.{lists_at}
-use Rattle.mm_shared.specs.Views.{PortView, HasLegalLog}
 use lib.LanesLaws.{map-replicate}
 
 -- a shuffle of lists and of empty ones is a shuffle of the lists
 fewer : (lists : List (List Entry)) (more : ℕ) (log : List Entry) → IsShuffle (lists ++ replicate more []) log → IsShuffle lists log
 fewer lists more log shuffle = record {
-  below = λ i d within. by_seat i d within (get_or log i d).seat refl (cases_lt (get_or log i d).seat (length lists));
+  below = λ i d within.
+      let seat = (get_or log i d).seat in
+      ⊎_elim (λ under. under) (λ over. absurd (none_of seat log (empty seat over (shuffle.below i d within)) i d within refl)) (cases_lt seat (length lists));
   parts = λ seat within. shuffle.parts seat (omega (arith, within, length-append lists (replicate more no_calls))) ∙ get_or_append_left lists (replicate more []) [] seat within;
 }
   where
     no_calls : List Entry
     no_calls = []
 
-    by_seat : (i : ℕ) (d : Entry) → i < length log → (seat : ℕ) → seat ≡ (get_or log i d).seat → (seat < length lists) ⊎ (length lists ≤ seat) → (get_or log i d).seat < length lists
-    by_seat i d within seat is (inl under) = omega (arith, is, under)
-    by_seat i d within seat is (inr over) =
-        let all : seat < length (lists ++ replicate more no_calls) = omega (arith, is, shuffle.below i d within) in
-        let count = length-append lists (replicate more no_calls) in
-        let empty : part seat log ≡ [] =
-        shuffle.parts seat all
-        ∙ (get_or-append_right lists (replicate more []) (length lists) seat [] refl over
-        ∙ get_or-replicate more (seat - length lists) [] [] (omega (arith, all, count, over, length-replicate more no_calls))) in
-        absurd (none_of seat log empty i d within (sym is))
+    -- a seat past the lists made no call
+    empty : (seat : ℕ) → length lists ≤ seat → seat < length (lists ++ replicate more no_calls) → part seat log ≡ []
+    empty seat over inside =
+        let under : seat - length lists < more = omega (arith, inside, over, length-append lists (replicate more no_calls), length-replicate more no_calls) in
+        shuffle.parts seat inside ∙ (get_or-append_right lists (replicate more []) (length lists) seat [] refl over ∙ get_or-replicate more _ [] [] under)
 
 -- so it is with the calls of workers on a store
 pub fewer_lists : (k : ℕ) (workers : List PortView) (more : ℕ) (s t : State) → HasLegalLog (map (calls_on k) (map (λ w. w.list) workers ++ replicate more [])) s t

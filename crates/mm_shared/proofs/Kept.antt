@@ -1,25 +1,12 @@
 -- Each step keeps the rule of shared stores, whose calls count from states that all who have seats know.
-use Rattle.std.proofs.Common.{◌≡◌, ◌≢◌, ◌⊎◌, inl, inr, ⊎_elim, ℕ, ◌+◌, ◌<◌, List, [], ◌∷◌, length, map, get_or, sym, refl, ap, ◌∙◌, subst, arith, Option, Some, None}
-use Rattle.std.specs.Prelude.{replicate}
-use Rattle.std.proofs.lemmas.List.{length-map, length-replicate, length-set, get_or-map, get_or-replicate}
-use Rattle.std.proofs.lemmas.List.Elements.{All-nil}
-use mathlib.Core.Option.{none, some, some-ne-none}
+use Rattle.std.proofs.Common.{◌≡◌, ◌≢◌, ℕ, ◌+◌, ◌<◌, List, [], ◌∷◌, length, map, get_or, sym, refl, ap, ◌∙◌, subst, arith, Some, None}
+use Rattle.mm_shared.proofs.Words.{length-map, length-replicate, length-set, get_or-map, get_or-replicate, Entry, State, Course, IsCourse, Owns, Fits, IsKept}
+use Rattle.mm_shared.proofs.Words.{all_seats, calls_on, HasLegalLog, opening_at, blank, All-nil, none, some, some-ne-none, dite, ℕ_discrete, get_elem?, Table}
+use Rattle.mm_shared.proofs.Words.{step_of, keeps, takes, gives, stepped, rest, opening, Allows, Final, Seen, Event, Reply, Knows, Seated, IsAtRest, HasCalled}
+use Rattle.mm_shared.proofs.Words.{IsAsTaken, AreAll, IsTakenByAll, IsSettled, called, at_rest, tried}
 use mathlib.Core.Option as slot
-use native.Mathlib.Decide.{ℕ_discrete}
-use lib.ListN.{get_elem?}
-use Rattle.atomic_table.specs.Table.{Act, step as step_of, keeps, takes, gives, stepped, carried_after, rest, opening, Valid, Allows, Final, Seen}
-use Rattle.mm_desk.specs.declared.entry.Entry.{Entry}
-use Rattle.mm_desk.specs.declared.event.Event.{Event}
-use Rattle.mm_desk.specs.declared.reply.Reply.{Reply}
-use Rattle.mm_desk.specs.Machine.{State}
-use Rattle.mm_desk.specs.Runs.{opening_at, blank}
-use Rattle.mm_shared.specs.declared.rule.Knows.{Knows}
-use Rattle.mm_shared.specs.Rule.{Owns, Fits, Stands, Keeps, IsKept, all_seats, calls_on, held_by}
-use Rattle.mm_shared.specs.Steps.{Seated, IsAtRest, HasCalled, IsAsTaken, AreAll, IsTakenByAll, IsSettled, called, at_rest, tried}
-use Rattle.mm_shared.specs.Views.{HasLegalLog}
-use Rattle.mm_shared.proofs.Ending.{ends}
-use Rattle.mm_shared.proofs.Keeping.{keeps_on, in_slot, may_take, takes_out, gives_after, restores}
-use Rattle.mm_shared.proofs.Lists.{at_get, each_set, each_push}
+use Rattle.mm_shared.proofs.Keeping.{none_free, keeps_on, in_slot, may_take, takes_out, ends, gives_after, restores}
+use Rattle.mm_shared.proofs.Lists.{at_get, at_below, each_set, each_push}
 
 -- the state that is in a slot
 abbrev state_of : slot.Option State → State
@@ -27,13 +14,21 @@ state_of none = blank
 state_of (some now) = now
 
 -- all seats are those of the view at a place, which has not called
-all_own : (openings : List State) (seats port : ℕ) → Owns openings seats (λ seat. port) port openings 0 (length (replicate {A = List (ℕ × Entry)} seats []))
+all_own : (openings : List State) (seats port : ℕ) → Owns openings seats (λ seat. port) port (all_seats openings seats)
 all_own openings seats port =
-    record { within = omega (arith, length-replicate {A = List (ℕ × Entry)} seats []); owned = λ seat from to. refl; agree = λ seated. refl }
+    record { within = omega (arith, length-replicate {A = List (ℕ × Entry)} seats []); owned = λ seat from to. refl; agree = λ none. refl }
 
--- and its lists are the parts of no log
-none_called : (k : ℕ) (now : State) (port : ℕ) (openings : List State) (seats : ℕ) → Fits k [] now None port (all_seats openings seats)
-none_called k now port openings seats = record {
+-- the course of a store on which no call was made
+abbrev new_course : State → Course
+new_course now = record { log = []; now = now; holder = None }
+
+-- it begins with the state in its slot
+begins : (now : State) (seats word : ℕ) (home : slot.Option State) → home ≡ some now → IsCourse now seats word home (new_course now)
+begins now seats word home there = record { run = record { legal = tt; leaves = refl }; below = All-nil (λ (e : Entry). e.seat < seats); stands = there }
+
+-- and the lists of all seats are its parts
+none_called : (owner : ℕ → ℕ) (k : ℕ) (now : State) (port : ℕ) (states : List State) (seats : ℕ) → Fits owner k (new_course now) port (all_seats states seats)
+none_called owner k now port states seats = record {
   parts = λ n inside. sym (ap (calls_on k) (get_or-replicate seats n [] [] (omega (arith, inside, length-replicate {A = List (ℕ × Entry)} seats []))));
   held = refl;
 }
@@ -42,76 +37,54 @@ module _ (stores seats : ℕ) where
   -- a try of a lock, by any change that leaves the word above 0
   pub tries_kept : (n id : ℕ) (m : Seated) (f : ℕ → ℕ) (i first second : ℕ) → i < stores → ((k : ℕ) → 0 < f k) → IsAtRest m → 0 < length m.0.lists
       → Allows (IsKept stores seats) n id m i f (tried (step_of n i first second none) m)
-  tries_kept n id m f i first second within up at some_seat s kept wide me fits64 = by_word (ℕ_discrete word 0)
-    where
-      word : ℕ
-      word = get_or s.words i 0
+  tries_kept n id m f i first second within up at some_seat s kept wide me fits64 =
+      let word = get_or s.words i 0 in
+      let k = kept.keeps i within in
+      dite (ℕ_discrete word 0)
+      (λ free.
+      let in_home = none_free seats word _ _ k.it.holder free k.course.stands in
+      let w : Knows = record m.0 { held = Some (i, k.it.now) } in (
+        w,
+        takes i k.it.now,
+        may_take stores seats s kept id m.0 me i within k in_home,
+        takes_out stores seats s kept id m.0 me i within k (f word) m.1 (up word) at.none some_seat in_home,
+        ((λ zero. (k.it.now, ap (λ (c : List (ℕ × State)). (w, (i, k.it.now) ∷ c)) at.empty)), λ other. absurd (other free)),
+      ))
+      (λ busy. (m.0, keeps, tt, keeps_on stores seats s kept id m.0 me i within k (f word) m.1 (up word), ((λ zero. absurd (busy zero)), λ other. refl)))
 
-      k : Keeps (opening_at kept.openings i) seats kept.owner i s
-      k = kept.keeps i within
+  -- a state is given back, where that keeps the rule
+  gives_so : (n id : ℕ) (m : Seated) (i : ℕ) (now : State) (after : Knows) → m.1 ≡ (i, now) ∷ []
+      → ((s : Table State Knows) → IsKept stores seats s → get_elem? s.views id ≡ some m.0 → IsKept stores seats (stepped s i 0 id ((i, now) ∷ []) after gives))
+      → Allows (IsKept stores seats) n id m i (λ k. 0) (λ r it. it ≡ (after, []))
+  gives_so n id m i now after has keeps_rule s kept wide me fits64 =
+      let back : IsKept stores seats (stepped s i 0 id m.1 after gives) = rw has (keeps_rule s kept me) in
+      (after, gives, tt, back, ap (λ (slots : List (ℕ × State)). (after, rest slots)) has)
 
-      -- the word is above 0 where a view is the holder
-      home : (holder : Option ℕ) → Stands seats kept.owner (length s.views) word (get_or s.homes i none) k.now holder → word ≡ 0 → holder ≡ None
-      home None stands free = refl
-      home (Some other) out free = let locked = out.locked in absurd (omega arith)
-
-      Can : Type 0
-      Can = (w : Knows) × (a : Act State) × Valid s.homes m.1 a × IsKept stores seats (stepped s i (f word) id m.1 w a) × tried (step_of n i first second none) m word (w, carried_after m.1 a)
-
-      by_word : Dec (word ≡ 0) → Can
-      by_word (yes free) =
-          let in_home = home k.holder k.stands free in (
-            record m.0 { held = Some (i, k.now) },
-            takes i k.now,
-            may_take stores seats s kept id m.0 me i within k in_home,
-            takes_out stores seats s kept id m.0 me i within k (f word) m.1 (up word) at.none some_seat in_home,
-            ((λ zero. (k.now, ap (λ (c : List (ℕ × State)). (record m.0 { held = Some (i, k.now) }, (i, k.now) ∷ c)) at.empty)), λ other. absurd (other free)),
-          )
-      by_word (no busy) = (m.0, keeps, tt, keeps_on stores seats s kept id m.0 me i within k (f word) m.1 (up word), ((λ zero. absurd (busy zero)), λ other. refl))
-
-  -- a state is given back after a call
+  -- so it is after a call
   pub gives_kept : (n id : ℕ) (m : Seated) (i : ℕ) (event : Event) (reply : Reply) → i < stores → HasCalled i event reply m
       → Allows (IsKept stores seats) n id m i (λ k. 0) (λ r it. it ≡ called i m event reply)
-  gives_kept n id m i event reply within c s kept wide me fits64 =
-      let after = called i m event reply in (
-        after.0,
-        gives,
-        tt,
-        subst (λ (slots : List (ℕ × State)). IsKept stores seats (stepped s i 0 id slots after.0 gives)) (sym c.has)
-            (gives_after stores seats s kept id m.0 me i within (kept.keeps i within) c.taken c.now event reply c.held c.seated c.stepped),
-        ap (λ (slots : List (ℕ × State)). (after.0, rest slots)) c.has,
-      )
+  gives_kept n id m i event reply within c =
+      gives_so n id m i c.now (called i m event reply).0 c.has
+      (λ s kept me. gives_after stores seats s kept id m.0 me i within (kept.keeps i within) c.taken c.now event reply c.held c.seated c.stepped)
 
   -- or as it was
   pub restores_kept : (n id : ℕ) (m : Seated) (i : ℕ) → i < stores → IsAsTaken i m → Allows (IsKept stores seats) n id m i (λ k. 0) (λ r it. it ≡ at_rest m)
-  restores_kept n id m i within c s kept wide me fits64 =
-      let after = at_rest m in (
-        after.0,
-        gives,
-        tt,
-        subst (λ (slots : List (ℕ × State)). IsKept stores seats (stepped s i 0 id slots after.0 gives)) (sym c.has)
-            (restores stores seats s kept id m.0 me i within (kept.keeps i within) c.taken c.held),
-        ap (λ (slots : List (ℕ × State)). (after.0, rest slots)) c.has,
-      )
+  restores_kept n id m i within c =
+      gives_so n id m i c.taken (at_rest m).0 c.has (λ s kept me. restores stores seats s kept id m.0 me i within (kept.keeps i within) c.taken c.held)
 
   -- who has all seats takes the state of a store
   pub takes_by_all : (n id : ℕ) (m : Seated) (i first second : ℕ) (f : ℕ → ℕ) → i < stores → ((k : ℕ) → 0 < f k) → AreAll seats m
       → Allows (IsKept stores seats) n id m i f (λ r it. IsTakenByAll i m it)
   takes_by_all n id m i first second f within up all s kept wide me fits64 =
       let k = kept.keeps i within in
-      let mine = kept.owns id m.0 me in
+      let end = ends stores seats s kept id m.0 me i within k all.rest.none all.first all.count in
       let some_list : 0 < length m.0.lists = omega (arith, all.count, all.some_seat) in
-      let end = ends _ seats kept.openings kept.owner i s k id m.0 me mine all.rest.none all.first all.count in
-      let w : Knows = record m.0 { held = Some (i, k.now) } in (
+      let w : Knows = record m.0 { held = Some (i, k.it.now) } in (
         w,
-        takes i k.now,
+        takes i k.it.now,
         may_take stores seats s kept id m.0 me i within k end.1,
         takes_out stores seats s kept id m.0 me i within k (f (get_or s.words i 0)) m.1 (up (get_or s.words i 0)) all.rest.none some_list end.1,
-        record {
-          now = k.now;
-          holds = ap (λ (c : List (ℕ × State)). (w, (i, k.now) ∷ c)) all.rest.empty;
-          went = subst (λ (os : List State). HasLegalLog (map (calls_on i) m.0.lists) (opening_at os i) k.now) (sym (mine.agree (inl some_list))) end.0;
-        },
+        record { now = k.it.now; holds = ap (λ (c : List (ℕ × State)). (w, (i, k.it.now) ∷ c)) all.rest.empty; went = end.0 },
       )
 
   -- who has all seats learns what became of the stores, and calls count anew
@@ -123,35 +96,31 @@ module _ (stores seats : ℕ) where
     record {
       openings = states;
       owner = λ seat. id;
-      many = count;
+      there = λ seat inside. rw (length-set s.views id w) (at_below s.views id m.0 me);
       words = length-set s.words i (get_or s.words i 0) ∙ kept.words;
       homes = kept.homes;
-      owns = each_set (λ (port : ℕ) (u : Knows). Owns states seats (λ seat. id) port u.states u.first (length u.lists)) s.views id w
-          (subst (λ (j : ℕ). Owns states seats (λ seat. id) id states 0 (length (replicate {A = List (ℕ × Entry)} j []))) (sym all.count) (all_own states seats id))
-          (λ port u apart at.
-          let none = none_left port u apart at in
-          record { within = (kept.owns port u at).within; owned = λ seat from to. absurd (omega arith); agree = λ seated. absurd (⊎_elim (λ some. omega arith) (λ no_seat. omega (arith, no_seat, all.some_seat)) seated) });
+      owns = each_set (Owns states seats (λ seat. id)) s.views id w (rw all.count (all_own states seats id))
+          (λ port u apart at. record {
+            within = (kept.owns port u at).within;
+            owned = λ seat from to. absurd (none_left port u apart at (omega arith));
+            agree = λ no_seat. absurd (omega (arith, no_seat (omega (arith, none_left port u apart at)), all.some_seat));
+          });
       keeps = λ k under.
           let old = kept.keeps k under in
           let end = ended k under in
+          let now = opening_at states k in
           record {
-            log = [];
-            now = opening_at states k;
-            holder = None;
-            run = record { legal = tt; leaves = refl };
-            below = All-nil (λ (e : Entry). e.seat < seats);
-            stands = in_slot stores seats s kept id m.0 me k under old end.1 ∙ ap some (sym (now_is k under));
-            fits = each_set (Fits k [] (opening_at states k) None) s.views id w (none_called k (opening_at states k) id states (length m.0.lists))
+            it = new_course now;
+            course = begins now seats _ _ (in_slot stores seats s kept id m.0 me k under old end.1 ∙ ap some (sym (now_is k under)));
+            fits = each_set (Fits (λ seat. id) k (new_course now)) s.views id w (none_called (λ seat. id) k now id states (length m.0.lists))
                 (λ port u apart at.
-                let none = none_left port u apart at in
-                record { parts = λ n inside. absurd (omega arith); held = (old.fits port u at).held ∙ ap (λ (holder : Option ℕ). held_by holder old.now port) end.1 });
+                record { parts = λ n inside. absurd (none_left port u apart at (omega arith)); held = rw end.1 at (old.fits port u at).held });
           };
     },
     record {
       went = λ k under.
           let inside : k < stores = omega (arith, under, count) in
-          subst (HasLegalLog (map (calls_on k) m.0.lists) (opening_at m.0.states k)) (sym (now_is k inside))
-          (subst (λ (os : List State). HasLegalLog (map (calls_on k) m.0.lists) (opening_at os k) (kept.keeps k inside).now) (sym (mine.agree (inl some_list))) (ended k inside).0);
+          subst (HasLegalLog (map (calls_on k) m.0.lists) (opening_at m.0.states k)) (sym (now_is k inside)) (ended k inside).0;
       many = count ∙ sym many;
       all = ap (λ (c : List (ℕ × State)). (w, c)) all.rest.empty;
     },
@@ -166,30 +135,21 @@ module _ (stores seats : ℕ) where
       w : Knows
       w = all_seats states (length m.0.lists)
 
-      some_list : 0 < length m.0.lists
-      some_list = omega (arith, all.count, all.some_seat)
+      ended : (k : ℕ) (under : k < stores)
+          → HasLegalLog (map (calls_on k) m.0.lists) (opening_at m.0.states k) (kept.keeps k under).it.now × ((kept.keeps k under).it.holder ≡ None)
+      ended k under = ends stores seats s kept id m.0 me k under (kept.keeps k under) all.rest.none all.first all.count
 
-      mine : Owns kept.openings seats kept.owner id m.0.states m.0.first (length m.0.lists)
-      mine = kept.owns id m.0 me
-
-      ended : (k : ℕ) (under : k < stores) → HasLegalLog (map (calls_on k) m.0.lists) (opening_at kept.openings k) (kept.keeps k under).now × ((kept.keeps k under).holder ≡ None)
-      ended k under = ends _ seats kept.openings kept.owner k s (kept.keeps k under) id m.0 me mine all.rest.none all.first all.count
-
-      now_is : (k : ℕ) (under : k < stores) → opening_at states k ≡ (kept.keeps k under).now
+      now_is : (k : ℕ) (under : k < stores) → opening_at states k ≡ (kept.keeps k under).it.now
       now_is k under =
           get_or-map state_of s.homes k none blank (omega (arith, under, kept.homes))
           ∙ ap state_of (in_slot stores seats s kept id m.0 me k under (kept.keeps k under) (ended k under).1)
 
       -- where one view has all seats another has none
-      none_left : (port : ℕ) (u : Knows) → port ≢ id → get_elem? s.views port ≡ some u → length u.lists ≡ 0
-      none_left port u apart at = by_count (ℕ_discrete (length u.lists) 0)
-        where
-          by_count : Dec (length u.lists ≡ 0) → length u.lists ≡ 0
-          by_count (yes zero) = zero
-          by_count (no some_list) =
-              let own = kept.owns port u at in
-              let within = own.within in
-              absurd (apart (sym (own.owned u.first (omega arith) (omega arith)) ∙ mine.owned u.first (omega (arith, all.first)) (omega (arith, all.first, all.count))))
+      none_left : (port : ℕ) (u : Knows) → port ≢ id → get_elem? s.views port ≡ some u → ¬ (0 < length u.lists)
+      none_left port u apart at some_list =
+          let own = kept.owns port u at in
+          let is = own.owned u.first (omega arith) (omega arith) in
+          apart (sym is ∙ (kept.owns id m.0 me).owned u.first (omega (arith, all.first)) (omega (arith, all.first, all.count, own.within)))
 
   -- each store of a closed table went by a legal log of the calls on it, where all seats came back in one view
   pub closes_kept : (ws : List ℕ) (xs : List State) (id : ℕ) (v : Knows) → Final (Seen (IsKept stores seats) id v) ws xs → v.held ≡ None → v.first ≡ 0 → length v.lists ≡ seats
@@ -197,35 +157,24 @@ module _ (stores seats : ℕ) where
   closes_kept ws xs id v final rest first count k within =
       let s = final.0 in
       let kept : IsKept stores seats s = final.1.0 in
-      let me = final.1.1 in
-      let mine = kept.owns id v me in
       let old = kept.keeps k within in
-      let end = ends _ seats kept.openings kept.owner k s old id v me mine rest first count in
-      let there : get_elem? xs k ≡ some old.now = final.4 k old.now (may_take stores seats s kept id v me k within old end.1) in
-      subst (λ (os : List State). HasLegalLog (map (calls_on k) v.lists) (opening_at os k) (opening_at xs k)) (sym (mine.agree (by_seats (ℕ_discrete seats 0))))
-      (subst (HasLegalLog (map (calls_on k) v.lists) (opening_at kept.openings k)) (sym (at_get xs k old.now blank there)) end.0)
-    where
-      by_seats : Dec (seats ≡ 0) → (0 < length v.lists) ⊎ (seats ≡ 0)
-      by_seats (yes no_seat) = inr no_seat
-      by_seats (no some_seat) = inl (omega (arith, count, some_seat))
+      let end = ends stores seats s kept id v final.1.1 k within old rest first count in
+      let there : get_elem? xs k ≡ some old.it.now = final.4 k old.it.now (may_take stores seats s kept id v final.1.1 k within old end.1) in
+      subst (HasLegalLog (map (calls_on k) v.lists) (opening_at v.states k)) (sym (at_get xs k old.it.now blank there)) end.0
 
 -- new stores keep the rule
 pub begins_kept : (seats : ℕ) (words : List ℕ) (states : List State) → length words ≡ length states + 1 → IsKept (length states) seats (opening words states (all_seats states seats))
 begins_kept seats words states many = record {
   openings = states;
   owner = λ seat. 0;
-  many = refl;
+  there = λ seat within. omega arith;
   words = many;
   homes = length-map states some;
-  owns = each_push (λ (port : ℕ) (u : Knows). Owns states seats (λ seat. 0) port u.states u.first (length u.lists)) [] (all_seats states seats)
-      (λ port u at. absurd (some-ne-none u (sym at))) (all_own states seats 0);
+  owns = each_push (Owns states seats (λ seat. 0)) [] (all_seats states seats) (λ port u at. absurd (some-ne-none u (sym at))) (all_own states seats 0);
   keeps = λ k within. record {
-    log = [];
-    now = opening_at states k;
-    holder = None;
-    run = record { legal = tt; leaves = refl };
-    below = All-nil (λ (e : Entry). e.seat < seats);
-    stands = get_or-map some states k blank none within;
-    fits = each_push (Fits k [] (opening_at states k) None) [] (all_seats states seats) (λ port u at. absurd (some-ne-none u (sym at))) (none_called k (opening_at states k) 0 states seats);
+    it = new_course (opening_at states k);
+    course = begins (opening_at states k) seats _ _ (get_or-map some states k blank none within);
+    fits = each_push (Fits (λ seat. 0) k (new_course (opening_at states k))) [] (all_seats states seats) (λ port u at. absurd (some-ne-none u (sym at)))
+        (none_called (λ seat. 0) k (opening_at states k) 0 states seats);
   };
 }

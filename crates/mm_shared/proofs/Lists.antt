@@ -1,9 +1,6 @@
 -- Lists read by `get_elem?`, beside those of `atomic_table`.
 use Rattle.std.proofs.Common.{◌≡◌, ◌≢◌, ◌⊎◌, inl, inr, ⊎_elim, ℕ, zero, suc, ◌<◌, ◌≤◌, List, [], ◌∷◌, ◌++◌, length, get_or, set, refl, sym, ap, subst, arith}
-use mathlib.Core.Option.{some, some-injective, some-ne-none}
-use lib.ListN.{get_elem?}
-use Rattle.atomic_table.proofs.Lists.{at_set}
-use Rattle.mm_shared.specs.Rule.{Each}
+use Rattle.mm_shared.proofs.Words.{Each, some, some-injective, some-ne-none, get_elem?, at_set}
 
 module _ {A : Type 0} where
   -- what is at a place is read there

@@ -1,10 +1,6 @@
 -- Stores are parted into labels and states, and put together again.
-use Rattle.std.proofs.Common.{◌≡◌, ℕ, List, [], ◌∷◌, ◌++◌, length, map, drop, refl, sym, ap, ◌∙◌, arith}
-use Rattle.std.proofs.lemmas.List.{length-map}
-use Rattle.mm_desk.specs.declared.held.Held.{Held}
-use Rattle.mm_desk.specs.Machine.{State}
-use Rattle.mm_shared.specs.declared.label.StoreLabel.{StoreLabel}
-use Rattle.mm_shared.specs.Stores.{held_stores, label_of, labels_of, names_of, states_of}
+use Rattle.std.proofs.Common.{◌≡◌, ℕ, suc, ◌<◌, List, [], ◌∷◌, ◌++◌, length, get_or, map, refl, sym, ap, ◌∙◌, arith}
+use Rattle.mm_shared.proofs.Words.{get_or-map, length-map, State, held_stores, label_of, labels_of, names_of, states_of, Held, blank, opening_at, StoreLabel}
 
 -- a store under a label
 abbrev pub under : StoreLabel → State → Held
@@ -23,7 +19,7 @@ pub together : (stores : List Held) → held_stores (map label_of stores) (state
 together [] = refl
 together (h ∷ hs) = ap (λ (xs : List Held). h ∷ xs) (together hs)
 
--- the labels and the states of stores that were put together
+-- the labels and the states of stores that were put together, and how many there are
 pub labels_are : (labels : List StoreLabel) (states : List State) → length labels ≡ length states → labels_of (held_stores labels states) ≡ names_of labels
 labels_are [] [] same = refl
 labels_are [] (s ∷ states) same = refl
@@ -36,28 +32,22 @@ states_are [] (s ∷ states) same = absurd (omega (arith, same))
 states_are (l ∷ labels) [] same = refl
 states_are (l ∷ labels) (s ∷ states) same = ap (λ (xs : List State). s ∷ xs) (states_are labels states (omega (arith, same)))
 
--- stores with these labels are theirs with their states
-pub labelled : (labels : List StoreLabel) (stores : List Held) → labels_of stores ≡ names_of labels → held_stores labels (states_of stores) ≡ stores
-labelled [] [] same = refl
-labelled [] (h ∷ hs) same = absurd (omega (arith, ap length same))
-labelled (l ∷ labels) [] same = absurd (omega (arith, ap length same))
-labelled (l ∷ labels) (h ∷ hs) same = λ i. record { id = (first same).0 i; channel = (first same).1 i; state = h.state } ∷ labelled labels hs (ap (drop 1) same) i
-  where
-    head : List (List ℕ × ℕ) → List ℕ × ℕ
-    head [] = ([], 0)
-    head (x ∷ xs) = x
-
-    first : labels_of (h ∷ hs) ≡ names_of (l ∷ labels) → (l.id ≡ h.id) × (l.channel ≡ h.channel)
-    first same = (sym (ap (λ (xs : List (List ℕ × ℕ)). (head xs).0) same), sym (ap (λ (xs : List (List ℕ × ℕ)). (head xs).1) same))
-
--- there are as many as labels
-pub as_many : (labels : List StoreLabel) (stores : List Held) → labels_of stores ≡ names_of labels → length (states_of stores) ≡ length labels
-as_many labels stores same =
-    let named : length (labels_of stores) ≡ length stores = length-map stores _ in
-    let labelled : length (names_of labels) ≡ length labels = length-map labels _ in
-    omega (arith, ap length same, length-map stores (λ h. h.state))
-
--- how many stores there are
 pub count_is : (labels : List StoreLabel) (states : List State) → length labels ≡ length states → length (held_stores labels states) ≡ length labels
-count_is labels states same =
-    sym (length-map (held_stores labels states) (λ h. h.state)) ∙ as_many labels (held_stores labels states) (labels_are labels states same)
+count_is labels states same = sym (length-map (held_stores labels states) (λ h. h.state)) ∙ (ap length (states_are labels states same) ∙ sym same)
+
+-- the state of the store at an index
+pub state_at : (stores : List Held) (k : ℕ) (d : Held) → k < length stores → (get_or stores k d).state ≡ opening_at (states_of stores) k
+state_at stores k d within = sym (get_or-map (λ (h : Held). h.state) stores k d blank within)
+
+-- stores with these labels, in the states that they were in, are those that were put together
+pub unchanged : (labels : List StoreLabel) (before : List State) (stores : List Held) → length before ≡ length labels → labels_of stores ≡ names_of labels
+    → ((k : ℕ) → k < length labels → opening_at (states_of stores) k ≡ opening_at before k) → stores ≡ held_stores labels before
+unchanged [] before [] many named same = refl
+unchanged [] before (h ∷ hs) many named same = absurd (cc named)
+unchanged (l ∷ labels) before [] many named same = absurd (cc named)
+unchanged (l ∷ labels) [] (h ∷ hs) many named same = absurd (omega (arith, many))
+unchanged (l ∷ labels) (s ∷ before) (h ∷ hs) many named same =
+    let name : ◌≡◌ {A = List ℕ × ℕ} (h.id, h.channel) (l.id, l.channel) = cc in
+    let others : labels_of hs ≡ names_of labels = cc in
+    λ i. record { id = (name i).0; channel = (name i).1; state = same 0 (omega arith) i }
+    ∷ unchanged labels before hs (omega (arith, many)) others (λ k within. same (suc k) (omega arith)) i

@@ -1,12 +1,6 @@
 -- The parts of a log with one entry more, and the calls on each store in a list with one call more.
 use Rattle.std.proofs.Common.{◌≡◌, ◌≢◌, ℕ, zero, suc, ◌+◌, ◌<◌, ◌==◌, List, [], ◌∷◌, ◌++◌, length, get_or, refl, sym, ap, ◌∙◌, arith}
-use Rattle.std.proofs.lemmas.Bool.{eq-eqb, ne_eqb}
-use Rattle.std.proofs.lemmas.List.{append-nil}
-use Rattle.std.proofs.lemmas.List.Elements.{filter-append}
-use Rattle.mm_desk.specs.declared.entry.Entry.{Entry}
-use Rattle.mm_desk.specs.Shuffles.{part}
-use Rattle.mm_shared.specs.Rule.{calls_on}
-use Rattle.mm_shared.specs.Steps.{lists_with}
+use Rattle.mm_shared.proofs.Words.{eq-eqb, ne_eqb, append-nil, Entry, part, calls_on, filter-append, lists_with}
 use Rattle.mm_shared.proofs.CallsOn.{call_here, call_there}
 
 -- the entry is the last of its seat's part

@@ -1,18 +1,19 @@
 -- The index of the one store with an identifier.
-use Rattle.std.proofs.Common.{◌≡◌, ◌⊎◌, inl, inr, ℕ, ◌<◌, ◌≤◌, ◌==◌, Bool, true, false, cond, ltb, List, [], length, get_or, Option, Some, None, IfSome, IfNone, bytes_eq, refl, sym, ◌∙◌, arith}
+use Rattle.std.proofs.Common.{◌≡◌, ◌⊎◌, inl, inr, ℕ, ◌<◌, ◌≤◌, ◌==◌, Bool, true, false, List, [], length, get_or, Option, Some, None, IfSome, IfNone, bytes_eq, refl, sym, ◌∙◌, arith}
 use Rattle.std.specs.List.{position, position_or_len}
-use Rattle.std.proofs.lemmas.Bool.{cases_order, eq-eqb, ne_eqb}
+use Rattle.mm_shared.proofs.Words.{cases_order, eq-eqb, ne_eqb, get_or-map, length-map, AreNamed, ids_of, id_at, StoreLabel}
 use Rattle.std.proofs.lemmas.Bool.Decides.{nat_tests}
-use Rattle.std.proofs.lemmas.List.{get_or-map, length-map}
 use Rattle.std.proofs.lemmas.List.Quantifiers.{position-Some}
 use Rattle.std.proofs.lemmas.List.Sums.{fails_before_first}
 use Rattle.std.proofs.lemmas.Slice.Eq.{bytes_eq-Decides}
-use Rattle.mm_shared.specs.declared.label.StoreLabel.{StoreLabel}
-use Rattle.mm_shared.specs.Stores.{AreNamed, ids_of, id_at}
 
 -- no label
 no_label : StoreLabel
 no_label = record { id = []; channel = 0 }
+
+-- where no element passes the first that does is past all
+none_passes : (test : StoreLabel → Bool) (stores : List StoreLabel) → None ≡ position test stores → length stores ≤ position_or_len test stores
+none_passes test stores none = grind (arith, nat_tests)
 
 module _ (id : List ℕ) (stores : List StoreLabel) (named : AreNamed (ids_of stores)) where
   -- the store at an index has the identifier
@@ -37,14 +38,9 @@ module _ (id : List ℕ) (stores : List StoreLabel) (named : AreNamed (ids_of st
   pub place_is : (r : Option ℕ) → r ≡ position (λ s. bytes_eq s.id id) stores
       → IfSome r (λ k. k < length stores) × IfSome r (λ k. (j : ℕ) → j < length stores → bytes_eq (id_at (ids_of stores) j) id ≡ (j == k))
       × IfNone r ((j : ℕ) → j < length stores → bytes_eq (id_at (ids_of stores) j) id ≡ false)
-  place_is None none = (tt, tt, λ j within. at j false within (fails_before_first (λ (s : StoreLabel). bytes_eq s.id id) stores j no_label (let past = past_all (ltb first (length stores)) refl none in omega arith)))
-    where
-      first : ℕ
-      first = position_or_len (λ (s : StoreLabel). bytes_eq s.id id) stores
-
-      past_all : (b : Bool) → ltb first (length stores) ≡ b → None ≡ cond b (Some first) None → length stores ≤ first
-      past_all true within found = absurd (cc found)
-      past_all false past found = grind (arith, nat_tests)
+  place_is None none =
+      let past = none_passes (λ s. bytes_eq s.id id) stores none in
+      (tt, tt, λ j within. at j false within (fails_before_first (λ (s : StoreLabel). bytes_eq s.id id) stores j no_label (omega arith)))
   place_is (Some k) found = (is.0, λ j within. by_order j within (cases_order j k), tt)
     where
       is : (k < length stores) × (bytes_eq (get_or stores k no_label).id id ≡ true) × ((j : ℕ) → j < k → bytes_eq (get_or stores j no_label).id id ≡ false)

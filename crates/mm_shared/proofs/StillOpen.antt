@@ -1,32 +1,18 @@
 -- Stores stay open while workers call through their ports, since no call changes where a port is.
-use Rattle.std.proofs.Common.{◌≡◌, ℕ, ◌-◌, ◌<◌, List, length, get_or, sym, ap, ◌∙◌, arith, Vec, Global}
-use Rattle.std.specs.Prelude.{vec_capacity}
-use Rattle.std.proofs.lemmas.List.{get_or-map, length-map}
-use Rattle.mm_desk.specs.declared.desk.TheConstants.{MAX_SEATS}
-use Rattle.mm_shared.specs.Views.{Origin, PortView, ports_after}
+use Rattle.std.proofs.Common.{◌≡◌, ◌<◌, length, sym, ap, ◌∙◌, arith, Vec, Global}
+use Rattle.mm_shared.proofs.Words.{get_or-map, length-map, end_of, all_ends, AreOpen, PortView, vec_capacity, common_steps}
 use Rattle.mm_shared.specs.declared.stores.OpenStores.{OpenStores}
-use Rattle.mm_shared.specs.Stores.{end_of, all_ends, AreOpen}
 
 -- the stores are open as long as all ports are where they were
 pub still_open : (it : OpenStores) (workers : Vec PortView Global) → AreOpen it → vec_capacity workers ≡ vec_capacity it.workers
     → all_ends workers.items ≡ all_ends it.workers.items → AreOpen (record it { workers = workers })
-still_open it workers are capacity same = record {
-  kept = record {
-    of = are.kept.of;
-    many = are.kept.many;
-    states = are.kept.states;
-    seats = are.kept.seats;
-    empty = are.kept.empty;
-    room = are.kept.room;
-    seating = let seating = are.kept.seating in omega (arith, capacity, seating);
-  };
-  workers = λ i d within.
-      let inside : i < length it.workers.items = omega (arith, many, within) in
-      sym (get_or-map end_of workers.items i d (end_of d) within)
-      ∙ (ap (λ (es : List (Origin × ℕ)). get_or es i (end_of d)) same ∙ (get_or-map end_of it.workers.items i d (end_of d) inside ∙ are.workers i d inside));
-  few = let few = are.few in omega (arith, many, few);
-  rest = are.rest ∙ ap (λ (n : ℕ). ports_after it.rest.of n (MAX_SEATS - n)) (sym many);
-}
-  where
-    many : length workers.items ≡ length it.workers.items
-    many = sym (length-map workers.items end_of) ∙ (ap length same ∙ length-map it.workers.items end_of)
+still_open it workers are capacity same =
+    let many : length workers.items ≡ length it.workers.items = sym (length-map workers.items end_of) ∙ (ap length same ∙ length-map it.workers.items end_of) in
+    record {
+      kept = grind (arith, common_steps);
+      workers = λ i d within.
+          let inside : i < length it.workers.items = omega (arith, many, within) in
+          cc (get_or-map end_of workers.items i d (end_of d) within, get_or-map end_of it.workers.items i d (end_of d) inside, are.workers i d inside);
+      few = omega (arith, many, are.few);
+      rest = rw many are.rest;
+    }

@@ -93,18 +93,6 @@ pub record IsFilled {A : Type 0} (before after : Vec A Global) (all : List A) : 
   pub items : after.items ≡ all
   pub capacity : vec_capacity after ≡ vec_capacity before
 
--- all ports of stores are together, no call was made through them, and this many workers may each get one
-pub record MayGive (stores : StoresView) (rest : PortsView) (count : ℕ) : Type 0 where
-  pub of : rest.of.table ≡ stores.id
-  pub all : rest ≡ new_ports rest.of MAX_SEATS
-  pub few : count ≤ MAX_SEATS
-
--- this many workers each have a port, the first ones, through which no call was made
-pub record AreGiven (of : Origin) (many : ℕ) (workers : List PortView) : Type 0 where
-  pub ends : AreWorkers of 0 workers
-  pub count : length workers ≡ many
-  pub fresh : All IsFresh workers
-
 -- open stores as they were when calls began to count
 abbrev pub stores_in : OpenStores → List Held
 stores_in it = held_stores it.labels.items it.rest.of.states

@@ -41,18 +41,6 @@ impl Model for SharedStores {
     ghost invariant = { λ s. HasSlots s.table.shared.table_id (length s.table.shared.key.states.value.items) };
 }
 
-// Takes one state out of a closed table.
-fn take_state(closed: &mut Closed<StoreState, Global>, store: usize) -> StoreState
-    requires there { (store < slots_len closed.old.slots) × IsTrue (slice_index_or (slots_filled closed.old.slots) store false) }
-    ensures value { get_elem? (slots_items closed.old.slots) store ≡ some result }
-    ensures items { slots_items closed.new.slots ≡ slots_items closed.old.slots }
-    ensures filled { slots_filled closed.new.slots ≡ slice_set (slots_filled closed.old.slots) store false }
-    ensures len { slots_len closed.new.slots ≡ slots_len closed.old.slots }
-    ensures sound { IsState result }
-{
-    closed.take(store)
-}
-
 // Takes the states out of a closed table, each under its label.
 fn take_out(closed: Closed<StoreState, Global>, labels: &[StoreLabel], stores: &mut Vec<Held>)
     requires full { IsFull closed.slots }
@@ -65,7 +53,7 @@ fn take_out(closed: Closed<StoreState, Global>, labels: &[StoreLabel], stores: &
     let mut closed = closed;
     for k in 0..labels.len() {
         let label = labels[k];
-        let state = take_state(&mut closed, k);
+        let state = closed.take(k);
         stores.push_reserved(Held {
             id: label.id,
             channel: label.channel,
@@ -150,6 +138,7 @@ impl SharedStores {
     }
 
     /// Gives the stores back under these labels, with all ports. It takes no memory.
+    #[tactic(auto, using(crate::proofs::Opening::labels_are))]
     pub fn close(self, ports: Ports, labels: &[StoreLabel], stores: &mut Vec<Held>)
         requires may { MayClose self ports labels.now }
         requires room { (stores.old.items ≡ []) × (length labels.now ≤ vec_capacity stores.old) }
@@ -163,6 +152,7 @@ impl SharedStores {
     }
 
     /// Gives the stores back under these labels, without the ports. Nothing is known of them but that they are sound. It takes no memory.
+    #[tactic(auto, using(crate::proofs::Opening::labels_are))]
     pub fn into_stores(self, labels: &[StoreLabel], stores: &mut Vec<Held>)
         requires as_many { length labels.now ≡ self.many }
         requires room { (stores.old.items ≡ []) × (length labels.now ≤ vec_capacity stores.old) }

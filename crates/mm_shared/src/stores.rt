@@ -5,7 +5,7 @@ ghost use Rattle.mm_desk.specs.Runs.{opening_at};
 ghost use Rattle.mm_base.specs.declared.limits.TheConstants.{MAX_STORES};
 ghost use Rattle.mm_desk.specs.Machine.{IsState};
 ghost use Rattle.mm_shared.specs.Views.{new_ports, ports_after, tally_of};
-ghost use Rattle.mm_shared.specs.Stores.{held_stores, label_of, states_of, labels_of, names_of, ids_of, id_at, stores_in, AreNamed, AreWorkers, HasRoom, IsFilled, MayGive, AreGiven, AreAtRest, AreOpen, AreNew, HaveLegalLogs};
+ghost use Rattle.mm_shared.specs.Stores.{held_stores, label_of, states_of, labels_of, names_of, ids_of, id_at, stores_in, AreNamed, AreWorkers, HasRoom, IsFilled, AreAtRest, AreOpen, AreNew, HaveLegalLogs};
 
 use crate::label::StoreLabel;
 use crate::port::{Port, Ports};
@@ -55,6 +55,7 @@ fn part_all(stores: &mut Vec<Held>, labels: &mut Vec<StoreLabel>, states: &mut V
 }
 
 // Puts stores together again.
+#[tactic(auto, using(crate::proofs::Opening::one_more, crate::proofs::Opening::count_is))]
 fn join_all(labels: Vec<StoreLabel>, states: Vec<StoreState>, stores: &mut Vec<Held>)
     requires as_many { length labels.items ≡ length states.items }
     requires none { stores.old.items ≡ [] }
@@ -78,38 +79,8 @@ fn join_all(labels: Vec<StoreLabel>, states: Vec<StoreState>, stores: &mut Vec<H
     });
 }
 
-// Gives each worker a port.
-fn give_ports(stores: &SharedStores, rest: &mut Ports, count: u32, workers: &mut Vec<Port>)
-    requires all { MayGive stores.now rest.old count }
-    requires room { HasRoom workers.old count }
-    ensures workers { AreGiven rest.old.of count workers.new.items }
-    ensures rest { rest.new ≡ ports_after rest.old.of count (MAX_SEATS - count) }
-    ensures capacity { vec_capacity workers.new ≡ vec_capacity workers.old }
-{
-    for _ in 0..count {
-        workers.push_reserved(stores.split(rest));
-    }
-}
-
-// Takes the ports of all workers back.
-fn take_ports(stores: &SharedStores, rest: &mut Ports, workers: &mut Vec<Port>)
-    requires of { rest.old.of.table ≡ stores.now.id }
-    requires workers { AreWorkers rest.old.of 0 workers.old.items }
-    requires rest { rest.old ≡ ports_after rest.old.of (length workers.old.items) (MAX_SEATS - length workers.old.items) }
-    ensures all { rest.new ≡ record {
-      of = rest.old.of;
-      first = 0;
-      lists = map (λ w. w.list) workers.old.items ++ replicate (MAX_SEATS - length workers.old.items) [];
-    } }
-    ensures none { workers.new.items ≡ [] }
-    ensures capacity { vec_capacity workers.new ≡ vec_capacity workers.old }
-{
-    while let Some(port) = workers.pop() {
-        stores.join(rest, port);
-    }
-}
-
 /// Opens stores. Where there is no memory they are as they were; what the steps need of it is taken here.
+#[tactic(auto, using(crate::proofs::Opening::together, crate::proofs::Opening::count_is))]
 pub fn open_all(alloc: Global, stores: &mut Vec<Held>) -> Result<OpenStores, NoMemory>
     requires few { vec_len stores.old ≤ MAX_STORES }
     ensures opened { IfOk result (λ it. AreAtRest it × (stores_in it ≡ stores.old.items)) }
@@ -139,20 +110,21 @@ pub fn open_all(alloc: Global, stores: &mut Vec<Held>) -> Result<OpenStores, NoM
 }
 
 /// Begins a step: each of this many workers gets a port.
+#[tactic(auto, using(crate::proofs::Opening::labels_are, crate::proofs::Opening::states_are))]
 pub fn seat_workers(opened: &mut OpenStores, workers: u32)
     requires rest { AreAtRest opened.old }
     requires few { workers ≤ MAX_SEATS }
     ensures new { AreNew (stores_in opened.old) workers opened.new }
 {
-    give_ports(
-        &opened.stores,
-        &mut opened.rest,
-        workers,
-        &mut opened.workers,
-    );
+    for _ in 0..workers {
+        opened
+            .workers
+            .push_reserved(opened.stores.split(&mut opened.rest));
+    }
 }
 
 /// Ends a step: takes all ports back. Each store went by a legal log of the workers' calls on it.
+#[tactic(auto, using(crate::proofs::Opening::labels_are))]
 pub fn settle(opened: &mut OpenStores)
     requires opened { AreOpen opened.old }
     ensures rest { AreAtRest opened.new }
@@ -160,12 +132,15 @@ pub fn settle(opened: &mut OpenStores)
     ensures went { HaveLegalLogs opened.old.workers.items opened.old.rest.of.states (states_of (stores_in opened.new)) }
     ensures sound { All (λ h. IsState h.state) (stores_in opened.new) }
 {
-    take_ports(&opened.stores, &mut opened.rest, &mut opened.workers);
+    while let Some(port) = opened.workers.pop() {
+        opened.stores.join(&mut opened.rest, port);
+    }
     opened.stores.settle(&mut opened.rest);
     read_states(opened);
 }
 
 /// Reads each store, between steps, which shows that it is sound.
+#[tactic(auto, using(crate::proofs::Opening::state_at, crate::proofs::Opening::count_is))]
 pub fn read_states(opened: &mut OpenStores)
     requires rest { AreAtRest opened.old }
     ensures same { opened.new ≡ opened.old }
@@ -177,6 +152,7 @@ pub fn read_states(opened: &mut OpenStores)
 }
 
 /// The tally of the store at an index, between steps.
+#[tactic(auto, using(crate::proofs::Opening::states_are, crate::proofs::Opening::count_is))]
 pub fn tally_at(opened: &mut OpenStores, store: usize) -> Tally
     requires rest { AreAtRest opened.old }
     requires within { store < length (stores_in opened.old) }

@@ -1,7 +1,5 @@
 use Rattle.std.proofs.Common.{◌≡◌, ◌<◌, ◌≤◌, ℕ, false, length, take, All, IsTrue, vec_capacity, slice_index_or}
-use Rattle.std.specs.Slots.{slots_items, slots_len, slots_filled}
-use Rattle.mm_desk.specs.Machine.{IsState}
-use Rattle.mm_shared.specs.Stores.{held_stores}
+use Rattle.mm_shared.proofs.Words.{IsState, held_stores, slots_items, slots_len, slots_filled}
 use Rattle.mm_shared.proofs.shared.take_out.Given as goal
 
 abbrev pub invariant-loop-k : goal.invariant-loop-k

@@ -1,7 +1,5 @@
 use Rattle.std.proofs.Common.{◌≡◌, ℕ, ◌<◌}
-use Rattle.mm_desk.specs.Machine.{IsState}
-use Rattle.mm_desk.specs.Runs.{opening_at}
-use Rattle.mm_shared.specs.Stores.{states_of, stores_in}
+use Rattle.mm_shared.proofs.Words.{IsState, states_of, stores_in, opening_at}
 use Rattle.mm_shared.proofs.stores.read_states.Given as goal
 
 abbrev pub invariant-loop-store : goal.invariant-loop-store
