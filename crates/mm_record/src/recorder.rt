@@ -4,7 +4,7 @@ ghost use Rattle.std.specs.Result.{result_err};
 ghost use Rattle.std.specs.Thread.{IsSync, IsSend};
 ghost use Rattle.mm_shared.specs.Stores.{end_of, IsFresh};
 ghost use Rattle.mm_record.specs.Offering.{MayOffer, step_of};
-ghost use Rattle.mm_record.specs.Recorders.{HasRun, MayRecord, HaveRun, is_worse};
+ghost use Rattle.mm_record.specs.Recorders.{HasRunUntil, MayRecord, HaveRun, is_worse};
 
 use crate::context::StepContext;
 use crate::offering::offer_packet;
@@ -23,8 +23,7 @@ fn record_source<S: AnySource, R: Wait>(
 ) -> Result<(), Fault>
     requires may { MayOffer context.now.labels.now context.now.stores.now port.old.of }
     requires fresh { IsFresh port.old }
-    ensures run { (last : S) → S.leads source.new last
-        → S.leads source.old last × HasRun (step_of context.now) (S.until source.old last) (S.until source.new last) (result_err result) port.new }
+    ensures run { HasRunUntil S.leads S.until (step_of context.now) source.old source.new port.new (result_err result) }
     ensures end { end_of port.new ≡ end_of port.old }
 {
     let mut routings = Routings::new();

@@ -12,7 +12,7 @@ returns g c =
     let told : c.err.result ≡ result_err c.record_source.result = search rules in
     record {
       run = rw told (one_run g.S.AnySource.leads g.S.AnySource.until (step_of c.args.context.now) c.args.sources.now c.args.workers.now
-          (record { before = source; now = c.record_source.new.source; port = c.record_source.new.port; broken = result_err c.record_source.result }) port
+          source c.record_source.new.source port c.record_source.new.port (result_err c.record_source.result)
           (only c.args.sources.now source c.requires.one (get_or_default c.args.sources.now 0 source c.index-sources-0.result (omega (arith, c.requires.one))))
           (only c.args.workers.now port (omega (arith, c.requires.one, c.requires.may.same)) (get_or_default c.args.workers.now 0 port c.index-workers-0.result (omega (arith, c.requires.one, c.requires.may.same))))
           c.record_source.ensures.end c.record_source.ensures.run);
