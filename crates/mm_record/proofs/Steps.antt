@@ -69,7 +69,7 @@ first_offers e k ps asks rest are few =
     let kept = filter (is_routed e.routes (id_at e.ids k)) ps in
     record {
       offers_are = All-front (IsOfferAt e.now) asks rest
-          (subst (All (IsOfferAt e.now)) are (All-map (IsOfferAt e.now) (λ (p : SpacePacket). Offer e.now p) kept (λ i d within. refl)));
+          (subst (All (IsOfferAt e.now)) are (All-map (IsOfferAt e.now) (λ (p : SpacePacket). Offer e.now p) kept (λ i d within. (get_or kept i d, refl))));
       few = omega (arith, length-map kept (λ (p : SpacePacket). Offer e.now p), filter_fewer (is_routed e.routes (id_at e.ids k)) ps, ap length are, length-append asks rest);
     }
 

@@ -45,9 +45,9 @@ returns-in-None-clause-ok g c =
     let done = not_caused c.args.step c.in-Ok-done.why (search rules) in
     let sound : All (λ h. IsState h.state) memory.stores = search rules in
     let counters : c.in-Ok.rows.before.items ≡ map (λ h. counters_of h.state) memory.stores = search rules in
-    comes_weaker g.S.AnySource.leads g.S.AnySource.until c.args.sources.now c.record-done.new.sources _ _
-    (λ given left records. recorded_of (recording_of c.args.step c.args.now memory) memory c.restore.new.self after c.in-Ok-done.why given left records back.1
-    c.in-Ok.rows.before.items _ c.any_order_loses_alike.ensures.leaves sound counters rows done) back.0
+    rw back.1 (comes_weaker g.S.AnySource.leads g.S.AnySource.until c.args.sources.now c.record-done.new.sources _ _
+    (λ given left records. recorded_of (recording_of c.args.step c.args.now memory) memory after c.in-Ok-done.why given left records
+    c.in-Ok.rows.before.items _ c.any_order_loses_alike.ensures.leaves sound counters rows done) back.0)
 
 pub returns-in-Some-clause-err : goal.returns-in-Some-clause-err
 returns-in-Some-clause-err g c =
@@ -55,5 +55,5 @@ returns-in-Some-clause-err g c =
     let after = c.record-done.new.stores.items in
     let back = restored g ((goal.at.returns-in-Some-clause-err g c).In-Ok-done) in
     let ended : cause_in c.args.step c.in-Ok-done.why ≡ Some c.in-Some.cause = search rules in
-    inr (comes_weaker g.S.AnySource.leads g.S.AnySource.until c.args.sources.now c.record-done.new.sources _ _
-    (λ given left records. ended_of (recording_of c.args.step c.args.now memory) memory c.restore.new.self after c.in-Ok-done.why given left records back.1 c.in-Some.cause ended) back.0)
+    rw back.1 (inr (comes_weaker g.S.AnySource.leads g.S.AnySource.until c.args.sources.now c.record-done.new.sources _ _
+    (λ given left records. ended_of (recording_of c.args.step c.args.now memory) memory after c.in-Ok-done.why given left records c.in-Some.cause ended) back.0))
