@@ -102,7 +102,9 @@ module _ (e : RecordingContext) (old : Holdings) (stores : List Held) (why : Opt
 
       -- what is told of a store, from its states
       row : (k : ℕ) (d : Recorded) → k < length stores → get_or told k d ≡ record {
-        store = (get_or stores k nobody).id; came = (store_at new k).offered - (store_at old k).offered; lost = (store_at new k).lost - (store_at old k).lost;
+        store = (get_or stores k nobody).id;
+        came = (store_at new k).offered - (store_at old k).offered;
+        lost = (store_at new k).lost - (store_at old k).lost;
       }
       row k d within =
           let counted = get_or-map counters_of (states_of old.stores) k blank (counters_of blank) (omega (arith, same_many stores old.stores records.labels, length-map old.stores (λ (h : Held). h.state))) in

@@ -38,22 +38,17 @@ restored g c =
 pub returns-in-None-clause-ok : goal.returns-in-None-clause-ok
 returns-in-None-clause-ok g c =
     let memory = c.args.memory.now in
-    let after = c.record-done.new.stores.items in
     let back = restored g ((goal.at.returns-in-None-clause-ok g c).In-Ok-done) in
-    let rows : AreRows c.in-Ok.rows.before.items after (length after) c.changes_of-recorded.result.items =
-    subst (λ ss. AreRows c.in-Ok.rows.before.items ss (length ss) c.changes_of-recorded.result.items) c.deref.ensures.value c.changes_of-recorded.ensures.rows in
     let done = not_caused c.args.step c.in-Ok-done.why (search rules) in
     let sound : All (λ h. IsState h.state) memory.stores = search rules in
-    let counters : c.in-Ok.rows.before.items ≡ map (λ h. counters_of h.state) memory.stores = search rules in
+    let counters : c.in-Ok.before.items ≡ map (λ h. counters_of h.state) memory.stores = search rules in
     rw back.1 (comes_weaker g.S.AnySource.leads g.S.AnySource.until c.args.sources.now c.record-done.new.sources _ _
-    (λ given left records. recorded_of (recording_of c.args.step c.args.now memory) memory after c.in-Ok-done.why given left records
-    c.in-Ok.rows.before.items _ c.any_order_loses_alike.ensures.leaves sound counters rows done) back.0)
+    (λ given left records. recorded_of (recording_of c.args.step c.args.now memory) memory _ c.in-Ok-done.why given left records
+    c.in-Ok.before.items _ c.any_order_loses_alike.ensures.leaves sound counters (rw c.deref.ensures.value at c.changes_of-recorded.ensures.rows) done) back.0)
 
 pub returns-in-Some-clause-err : goal.returns-in-Some-clause-err
 returns-in-Some-clause-err g c =
-    let memory = c.args.memory.now in
-    let after = c.record-done.new.stores.items in
     let back = restored g ((goal.at.returns-in-Some-clause-err g c).In-Ok-done) in
     let ended : cause_in c.args.step c.in-Ok-done.why ≡ Some c.in-Some.cause = search rules in
     rw back.1 (inr (comes_weaker g.S.AnySource.leads g.S.AnySource.until c.args.sources.now c.record-done.new.sources _ _
-    (λ given left records. ended_of (recording_of c.args.step c.args.now memory) memory after c.in-Ok-done.why given left records c.in-Some.cause ended) back.0))
+    (λ given left records. ended_of (recording_of c.args.step c.args.now c.args.memory.now) c.args.memory.now c.record-done.new.stores.items c.in-Ok-done.why given left records c.in-Some.cause ended) back.0))

@@ -10,7 +10,7 @@ returns-in_err-offer_copy-in-len1-up g t c =
     let fault = c.in_err-offer_copy-in-len1-up.field-0.0 in
     let rows = first_row c.args.rows.now c.row-item.result (omega arith) c.row-item.is in
     let failed : c.from_residual.result ≡ Err fault = search rules in
-    record { offers = rw (failed, rows) (row_ends (step_of c.args.context.now) c.args.packet fault c.row-item.result _ _ _ c.in_err-offer_copy-in-len1-up.ensures.offers) }
+    record { offers = rw (failed, rows) (row_ends (step_of c.args.context.now) c.args.packet c.row-item.result _ fault c.in_err-offer_copy-in-len1-up.ensures.offers) }
 
 pub returns-in-None : goal.returns-in-None
 returns-in-None g t c =
@@ -22,6 +22,6 @@ pub returns-in_ok-offer_copy-in-len1-up : goal.returns-in_ok-offer_copy-in-len1-
 returns-in_ok-offer_copy-in-len1-up g t c =
     let rows = first_row c.args.rows.now c.row-item.result (omega arith) c.row-item.is in
     record {
-      offers = rw rows (row_after (step_of c.args.context.now) c.args.packet _ c.offer_routed.result c.row-item.result _ _ _ _
+      offers = rw rows (row_after (step_of c.args.context.now) c.args.packet c.row-item.result _ c.offer_routed.result
           c.in_ok-offer_copy-in-len1-up.ensures.offers c.offer_routed.ensures.offers);
     }

@@ -9,4 +9,4 @@ use Rattle.mm_record.proofs.offering.offer_at.Goals as goal
 pub returns : goal.returns
 returns g c =
     let within : c.args.index < length (ids_of c.args.context.now.labels.now) = omega (arith, c.requires.within, length-map c.args.context.now.labels.now (λ (s : StoreLabel). s.id)) in
-    record { offers = offer_refused (step_of c.args.context.now) c.args.port.now _ c.args.index c.args.packet c.in-Err.back c.in-Err.ensures.called within }
+    record { offers = rw c.in-Err.ensures.called (offer_refused (step_of c.args.context.now) c.args.port.now c.args.index c.args.packet c.in-Err.back within) }
