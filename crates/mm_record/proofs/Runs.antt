@@ -16,22 +16,6 @@ use Rattle.mm_record.specs.Recorders.{EachHasRun, HasOffered, HasRunUntil, HaveR
 use Rattle.mm_record.specs.Steps.{RecorderRun}
 use Rattle.mm_record.proofs.Whys.{why_none, why_one, why_both}
 
--- workers of stores that were opened, one for each source, may record where no two stores have one identifier
-pub may_of : {S : Type 0} (labels : List StoreLabel) (stores : StoresView) (sources : List S) (workers : List PortView) → AreNamed (ids_of labels)
-    → length labels ≡ stores.many → length workers ≡ length sources → (of : Origin) → of.table ≡ stores.id → AreWorkers of 0 workers → All IsFresh workers
-    → MayRecord labels stores sources workers
-may_of labels stores sources workers named as_many same of table are fresh = record {
-  same = same;
-  may = λ i d within. record { named = named; as_many = as_many; of_them = ap (λ (end : Origin × ℕ). end.0.table) (are i d within) ∙ table };
-  fresh = fresh;
-}
-
--- a list of one element
-pub only : {X : Type 0} (xs : List X) (x : X) → length xs ≡ 1 → get_or xs 0 x ≡ x → xs ≡ x ∷ []
-only [] x one at = absurd (omega (arith, one))
-only (y ∷ []) x one at = ap (λ z. z ∷ []) at
-only (y ∷ z ∷ xs) x one at = absurd (omega (arith, one))
-
 -- the run of one recorder, until its source is as it will be later: what the source gives before and after it, what it gave, through which port, and
 -- why the recorder stopped early, where it did
 pub record Run : Type 0 where
@@ -64,11 +48,12 @@ module _ {S : Type 0} (leads : S → S → Type 0) (until : S → S → Supply) 
       rw (nil_from_length sources none, nil_from_length workers (same ∙ none)) (record { ends = refl; faults = []; each = tt; why_is = why_none })
 
   -- the recorder of one source
-  pub one_run : (sources : List S) (workers : List PortView) (before now : S) (old new : PortView) (broken : Option Fault) → sources ≡ before ∷ [] → workers ≡ old ∷ []
-      → end_of new ≡ end_of old → HasRunUntil leads until e before now new broken
+  pub one_run : (sources : List S) (workers : List PortView) (d now : S) (p new : PortView) (broken : Option Fault) → length sources ≡ 1 → length workers ≡ length sources
+      → end_of new ≡ end_of (get_or workers 0 p) → HasRunUntil leads until e (get_or sources 0 d) now new broken
       → HaveRun leads until e sources (set sources 0 now) workers (set workers 0 new) broken
-  one_run sources workers before now old new broken source worker end ran =
-      rw (source, worker) (record { ends = ap (λ x. x ∷ []) end; faults = broken ∷ []; each = (ran, tt); why_is = why_one broken })
+  one_run (s ∷ []) (w ∷ []) d now p new broken one same end ran =
+      record { ends = ap (λ x. x ∷ []) end; faults = broken ∷ []; each = (ran, tt); why_is = why_one broken }
+  one_run sources workers d now p new broken one same end ran = absurd (omega (arith, one, same))
 
   each_append : (ss ts us vs : List S) (xs zs : List PortView) (fs gs : List (Option Fault)) → EachHasRun leads until e ss ts xs fs → EachHasRun leads until e us vs zs gs
       → EachHasRun leads until e (ss ++ us) (ts ++ vs) (xs ++ zs) (fs ++ gs)

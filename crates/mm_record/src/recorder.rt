@@ -47,19 +47,6 @@ fn worse(first: Option<Fault>, second: Option<Fault>) -> Option<Fault>
     }
 }
 
-// Lets the recorder of one source run.
-fn record_one<S: AnySource, R: Wait>(
-    context: &StepContext<'_, R>,
-    sources: &mut [S],
-    workers: &mut [Port],
-) -> Option<Fault>
-    requires may { MayRecord context.now.labels.now context.now.stores.now sources.old workers.old }
-    requires one { length sources.old ≡ 1 }
-    ensures run { HaveRun S.leads S.until (step_of context.now) sources.old sources.new workers.old workers.new result }
-{
-    record_source(context, &mut sources[0], &mut workers[0]).err()
-}
-
 // Lets recorders run, each in a thread of its own where one can be made, and tells why they stopped early, where some did.
 #[cycle(recorders)]
 pub(crate) fn record_all<S: AnySource + Send, R: Threads + Wait + Sync>(
@@ -74,7 +61,7 @@ pub(crate) fn record_all<S: AnySource + Send, R: Threads + Wait + Sync>(
         return None;
     }
     if sources.len() == 1 {
-        return record_one(context, sources, workers);
+        return record_source(context, &mut sources[0], &mut workers[0]).err();
     }
     let half = sources.len() / 2;
     let (low_sources, high_sources) = sources.split_at_mut(half);

@@ -1,8 +1,7 @@
 use Rattle.std.proofs.Common.{rules, ◌≡◌, Err, sym, arith}
 use Rattle.std.proofs.lemmas.Grind.{common_steps}
 use Rattle.mm_record.specs.Offering.{step_of}
-use Rattle.mm_record.proofs.Adding.{first_row, row_after, row_ends}
-use Rattle.mm_record.proofs.Runs.{only}
+use Rattle.mm_record.proofs.Adding.{only, first_row, row_after, row_ends}
 use Rattle.mm_record.proofs.offering.+offer_routed.Goals as goal
 
 pub returns-in_err-offer_copy-in-len1-up : goal.returns-in_err-offer_copy-in-len1-up

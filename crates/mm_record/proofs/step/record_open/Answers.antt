@@ -1,12 +1,10 @@
-use Rattle.std.proofs.Common.{rules, ◌≡◌, length, refl, sym, subst, ap, ◌∙◌, arith}
+use Rattle.std.proofs.Common.{rules, ◌≡◌, ℕ, length, refl, sym, ap, ◌∙◌, arith}
 use Rattle.std.specs.Vec.{with_items}
 use Rattle.std.proofs.lemmas.List.{length-map, with_items_is}
 use Rattle.mm_desk.specs.declared.held.Held.{Held}
-use Rattle.mm_shared.specs.Stores.{all_ends, states_of, stores_in, AreNamed, HaveLegalLogs}
+use Rattle.mm_shared.specs.Stores.{all_ends, stores_in}
+use Rattle.mm_shared.specs.Views.{Origin}
 use Rattle.mm_shared.proofs.StillOpen.{still_open}
-use Rattle.mm_record.specs.Recorded.{open_recording}
-use Rattle.mm_record.specs.Recorders.{HaveRun}
-use Rattle.mm_record.proofs.Runs.{may_of}
 use Rattle.mm_record.proofs.Steps.{ids_open, comes_of}
 use Rattle.mm_record.proofs.step.record_open.Goals as goal
 
@@ -15,10 +13,13 @@ record_all-why-requires-clause-may g c κs within =
     let it = c.seat_workers.new.opened in
     let new = c.seat_workers.ensures.new in
     let kept = new.are_open.kept in
-    let many : length it.workers.items ≡ length c.args.sources.now = search rules in
-    let named = subst AreNamed (sym (ids_open it.labels.items (stores_in c.args.stores.now) new.labels)) c.requires.named in
-    let may = may_of it.labels.items it.stores c.args.sources.now it.workers.items named (sym kept.many) many it.rest.of kept.of new.are_open.workers new.fresh in
-    rw (c.deref.ensures.value, c.deref_mut.ensures.value) may
+    let same : length it.workers.items ≡ length c.args.sources.now = search rules in
+    let named = rw (← ids_open it.labels.items (stores_in c.args.stores.now) new.labels) at c.requires.named in
+    rw (c.deref.ensures.value, c.deref_mut.ensures.value) (record {
+      same = same;
+      may = λ i d inside. record { named = named; as_many = sym kept.many; of_them = ap (λ (end : Origin × ℕ). end.0.table) (new.are_open.workers i d inside) ∙ kept.of };
+      fresh = new.fresh;
+    })
 
 pub settle-requires : goal.settle-requires
 settle-requires g c =
