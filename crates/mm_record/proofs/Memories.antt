@@ -29,7 +29,7 @@ use Rattle.mm_record.specs.MemorySteps.{came, store_at, AreTold, IsRecorded, Was
 use Rattle.mm_record.specs.Supplies.{Supply}
 use Rattle.mm_record.specs.Recorded.{RecordingContext, offers}
 use Rattle.mm_record.specs.Steps.{given_in, AllRecorded, Records, RecorderRun, StoreRefused}
-use Rattle.mm_record.proofs.Steps.{same_firsts, same_many}
+use Rattle.mm_record.proofs.Steps.{same_many}
 
 -- stores with identifiers of their own are named
 pub named_of : (stores : List Held) → AllPairs HaveOtherIds stores → AreNamed (map (λ h. h.id) stores)
@@ -38,8 +38,7 @@ named_of stores named = AllPairs-map (λ a b. bytes_eq a b ≡ false) (λ (h : H
 
 -- stores under the labels of a memory's stores can be put into it
 pub held_as : (a b : List Held) → labels_of a ≡ labels_of b → AreHeld b → AreHeld a
-held_as a b labels held =
-    AreHeld-same_ids b a (same_firsts (λ (h : Held). h.id) (λ (h : Held). h.channel) (λ (h : Held). h.id) (λ (h : Held). h.channel) b a (sym labels)) held
+held_as a b labels held = AreHeld-same_ids b a (simp map-map at (ap (map (λ (label : List ℕ × ℕ). label.0)) (sym labels))) held
 
 -- a step that is not ended: no recorder stopped early
 pub not_caused : (step : ℕ) (why : Option Fault) → cause_in step why ≡ None → why ≡ None

@@ -63,27 +63,29 @@ record AreOffers (e : RecordingContext) (asks : List Event) : Type 0 where
   offers_are : All (IsOfferAt e.now) asks
   few : length asks ≤ 65535
 
--- the first of the offers of few packets
-first_offers : (e : RecordingContext) (k : ℕ) (ps : List SpacePacket) (asks rest : List Event) → offers e k ps ≡ asks ++ rest → length ps ≤ 65535 → AreOffers e asks
-first_offers e k ps asks rest are few =
-    let kept = filter (is_routed e.routes (id_at e.ids k)) ps in
+-- the first of the offers of the packets that a source gave, of few
+first_offers : (e : RecordingContext) (k : ℕ) (given gave left : List SpacePacket) (asks rest : List Event) → given ≡ gave ++ left → length given ≤ 65535
+    → offers e k gave ≡ asks ++ rest → AreOffers e asks
+first_offers e k given gave left asks rest order few are =
+    let kept = filter (is_routed e.routes (id_at e.ids k)) gave in
+    let fewer = filter_fewer (is_routed e.routes (id_at e.ids k)) gave in
     record {
       offers_are = All-front (IsOfferAt e.now) asks rest
           (subst (All (IsOfferAt e.now)) are (All-map (IsOfferAt e.now) (λ (p : SpacePacket). Offer e.now p) kept (λ i d within. (get_or kept i d, refl))));
-      few = omega (arith, length-map kept (λ (p : SpacePacket). Offer e.now p), filter_fewer (is_routed e.routes (id_at e.ids k)) ps, ap length are, length-append asks rest);
+      few = omega (arith, fewer, length-map kept (λ (p : SpacePacket). Offer e.now p), ap length order, ap length are, length-append gave left, length-append asks rest);
     }
 
 -- what a recorder offered to a store is the first of the offers of what its source gave
-first_of : (e : RecordingContext) (before after : Supply) (gave : List SpacePacket) (offered : ℕ → List Event) (broken : Option Fault)
-    → IsRecorderRun e before after (record { gave = gave; offered = offered; broken = broken }) → (k : ℕ) → k < length e.ids
-    → (rest : List Event) × (offers e k gave ≡ offered k ++ rest)
-first_of e before after gave offered None run k within = ([], sym (run.whole.1 k within) ∙ sym (append-nil (offered k)))
-first_of e before after gave offered (Some fault) run k within =
-    let began = run.partly.began k within in (
-      began.rest,
-      ap (offers e k) run.partly.are ∙ offers_more e k run.partly.before (run.partly.last ∷ []) ∙ ap (λ (es : List Event). offers e k run.partly.before ++ es) began.are
-          ∙ sym (append_assoc (offers e k run.partly.before) began.did began.rest) ∙ ap (λ (es : List Event). es ++ began.rest) (sym began.asks_are),
-    )
+few_offers : (e : RecordingContext) (before after : Supply) (gave : List SpacePacket) (offered : ℕ → List Event) (broken : Option Fault)
+    → IsRecorderRun e before after (record { gave = gave; offered = offered; broken = broken }) → length (before e.step) ≤ 65535 → (k : ℕ) → k < length e.ids
+    → AreOffers e (offered k)
+few_offers e before after gave offered None run few k within =
+    first_offers e k (before e.step) gave (after e.step) (offered k) [] run.order few (sym (run.whole.1 k within) ∙ sym (append-nil (offered k)))
+few_offers e before after gave offered (Some fault) run few k within =
+    let began = run.partly.began k within in
+    let all = offers_more e k run.partly.before (run.partly.last ∷ []) in
+    first_offers e k (before e.step) gave (after e.step) (offered k) began.rest run.order few
+    (ap (offers e k) run.partly.are ∙ cc (all, began.are, began.asks_are, append_assoc (offers e k run.partly.before) began.did began.rest))
 
 -- what recorders did, without their ports
 are_runs : (e : RecordingContext) (runs : List Run) → All (IsRunOf e) runs → AreRecorderRuns e (map (λ r. r.before) runs) (map (λ r. r.after) runs) (map run_of runs)
@@ -95,14 +97,9 @@ are_runs e (r ∷ runs) did = ((All-head (IsRunOf e) r runs did).is, are_runs e 
 why_holds : (P : Fault → Type 0) (faults : List (Option Fault)) (why : Option Fault) → IsWhy faults why → All (λ f. IfSome f P) faults → IfSome why P
 why_holds P faults why is all = IfSome_then why is.some (λ fault one. subst (λ f. IfSome f P) one.2 (all one.0 None one.1))
 
--- what is the first of pairs in two lists
-pub same_firsts : {X Y : Type 0} (f : X → List ℕ) (g : X → ℕ) (h : Y → List ℕ) (i : Y → ℕ) (xs : List X) (ys : List Y)
-    → map {B = List ℕ × ℕ} (λ x. (f x, g x)) xs ≡ map (λ y. (h y, i y)) ys → map f xs ≡ map h ys
-same_firsts f g h i xs ys same = simp map-map at (ap (map (λ (l : List ℕ × ℕ). l.0)) same)
-
 -- the identifiers of stores that are open
 pub ids_open : (labels : List StoreLabel) (before : List Held) → names_of labels ≡ labels_of before → ids_of labels ≡ map (λ h. h.id) before
-ids_open labels before same = same_firsts (λ (s : StoreLabel). s.id) (λ (s : StoreLabel). s.channel) (λ (h : Held). h.id) (λ (h : Held). h.channel) labels before same
+ids_open labels before same = simp map-map at (ap (map (λ (name : List ℕ × ℕ). name.0)) same)
 
 -- as many stores as labels
 pub same_many : (a b : List Held) → labels_of a ≡ labels_of b → length a ≡ length b
@@ -176,9 +173,7 @@ module _ (e : RecordingContext) (runs : List Run) (before after : List Held) (di
       let few_each = All-unmapped (λ (s : Supply). length (s e.step) ≤ 65535) (λ (r : Run). r.before) runs takes.few in
       let are : All (AreOffers e) asks = All-map (AreOffers e) (λ (run : RecorderRun). run.offered k) (map run_of runs) (All-map (λ run. AreOffers e (run.offered k)) run_of runs (λ i d here.
       let r = get_or runs i d in
-      let run = (did i d here).is in
-      let first = first_of e r.before r.after r.gave (asked r.port) r.broken run k (omega (arith, within, many)) in
-      first_offers e k r.gave (asked r.port k) first.0 first.1 (omega (arith, few_each i d here, ap length run.order, length-append r.gave (r.after e.step))))) in
+      few_offers e r.before r.after r.gave (asked r.port) r.broken (did i d here).is (few_each i d here) k (omega (arith, within, many)))) in
       let state : IsOpen (opening_at (states_of before) k) = All-map IsOpen (λ (h : Held). h.state) before takes.stores_are k blank
       (omega (arith, within, many, as_many, length-map before (λ (h : Held). h.state))) in
       let total : count_of asks ≤ length asks * 65535 = sum_by-le (λ (es : List Event). length es) 65535 asks (λ i d inside. (are i d inside).few) in

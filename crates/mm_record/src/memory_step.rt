@@ -4,7 +4,7 @@ ghost use Rattle.mm_desk.specs.Machine.{IsState};
 ghost use Rattle.mm_report.specs.declared.cause.Cause.TheVariants.{LogMismatch};
 ghost use Rattle.mm_report.specs.declared.cause.TheConstants.{MAX_SOURCES};
 ghost use Rattle.mm_record.specs.Causes.{cause_before};
-ghost use Rattle.mm_record.specs.Counters.{counters_of, change_of, AreRows};
+ghost use Rattle.mm_record.specs.Counters.{counters_of, AreRows};
 ghost use Rattle.mm_record.specs.MemorySteps.{recording_of, IsRecorded, IsRefused, Halts};
 ghost use Rattle.mm_record.specs.Supplies.{WhateverComes};
 ghost use Rattle.mm_record.specs.Steps.{IsWithinLimits, TakesAll};
@@ -57,18 +57,6 @@ fn all_counters(alloc: Global, stores: &[Held]) -> Result<Vec<Counters>, NoMemor
     Ok(counters)
 }
 
-// What a step has recorded into a store with these counters before it.
-fn change_of(before: Counters, held: &Held) -> Recorded
-    ensures { result ≡ change_of before held.now }
-{
-    let rise = Counters::of(&held.state).since(before);
-    Recorded {
-        store: held.id,
-        came: rise.offered,
-        lost: rise.lost,
-    }
-}
-
 // What a step has recorded into each store.
 fn changes_of(before: Vec<Counters>, room: Vec<Recorded>, stores: &[Held]) -> Vec<Recorded>
     requires before { vec_len before ≡ length stores.now }
@@ -77,7 +65,13 @@ fn changes_of(before: Vec<Counters>, room: Vec<Recorded>, stores: &[Held]) -> Ve
 {
     let mut recorded = room;
     for index in 0..stores.len() {
-        recorded.push_reserved(change_of(before[index], &stores[index]));
+        let held = &stores[index];
+        let rise = Counters::of(&held.state).since(before[index]);
+        recorded.push_reserved(Recorded {
+            store: held.id,
+            came: rise.offered,
+            lost: rise.lost,
+        });
     }
     recorded
 }
