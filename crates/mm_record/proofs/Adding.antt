@@ -36,17 +36,6 @@ offer_refused e port index p back within = record {
   });
 }
 
--- a list of one element
-pub only : {X : Type 0} (xs : List X) (x : X) → length xs ≡ 1 → get_or xs 0 x ≡ x → xs ≡ x ∷ []
-only [] x one at = absurd (omega (arith, one))
-only (y ∷ []) x one at = ap (λ z. z ∷ []) at
-only (y ∷ z ∷ xs) x one at = absurd (omega (arith, one))
-
--- the first row and the others
-pub first_row : (rows : List RouteRow) (row : RouteRow) → 1 ≤ length rows → row ≡ get_or rows 0 row → rows ≡ row ∷ take (length rows - 1) (drop 1 rows)
-first_row rows row some at =
-    drop_more rows 0 row some ∙ ap (λ (r : RouteRow). r ∷ drop 1 rows) (sym at) ∙ ap (λ (others : List RouteRow). row ∷ others) (sym (take_rest rows 1))
-
 -- the offers of a packet by a row, and by the others after it
 module _ (e : RecordingContext) (p : SpacePacket) (row : RouteRow) (rows : List RouteRow) where
   more : (k : ℕ) → offers_by e p (row ∷ rows) k ≡ offers_by e p (row ∷ []) k ++ offers_by e p rows k

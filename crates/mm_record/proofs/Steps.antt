@@ -52,12 +52,6 @@ asked_shuffled lists log shuffle = record {
       ap asked_in (shuffle.parts seat here) ∙ sym (get_or-map asked_in lists seat [] [] here);
 }
 
--- a log that is a shuffle of lists is taken where they are
-shuffle_taken : (lists : List (List Entry)) (log : List Entry) → IsShuffle lists log → All AreTaken lists → AreTaken log
-shuffle_taken lists log shuffle taken =
-    parts_all (λ e. IsTaken e.event e.reply) (length lists) log shuffle.below
-    (λ seat within. subst AreTaken (sym (shuffle.parts seat within)) (taken seat [] within))
-
 -- offers at the step's moment, and no more of them than a source gives packets
 record AreOffers (e : RecordingContext) (asks : List Event) : Type 0 where
   offers_are : All (IsOfferAt e.now) asks
@@ -92,10 +86,6 @@ are_runs : (e : RecordingContext) (runs : List Run) → All (IsRunOf e) runs →
 unfolding AreRecorderRuns
 are_runs e [] did = tt
 are_runs e (r ∷ runs) did = ((All-head (IsRunOf e) r runs did).is, are_runs e runs (All-tail (IsRunOf e) r runs did))
-
--- what holds of the fault of each recorder that stopped early holds of the reason
-why_holds : (P : Fault → Type 0) (faults : List (Option Fault)) (why : Option Fault) → IsWhy faults why → All (λ f. IfSome f P) faults → IfSome why P
-why_holds P faults why is all = IfSome_then why is.some (λ fault one. subst (λ f. IfSome f P) one.2 (all one.0 None one.1))
 
 -- the identifiers of stores that are open
 pub ids_open : (labels : List StoreLabel) (before : List Held) → names_of labels ≡ labels_of before → ids_of labels ≡ map (λ h. h.id) before
@@ -136,12 +126,13 @@ module _ (e : RecordingContext) (runs : List Run) (before after : List Held) (di
       let all_asked = map_agree (λ (r : Run). asked r.port k) (λ (r : Run). offers e k (r.before e.step)) runs (λ i d here.
       let done = MatchOption-at_none _ _ (whole i d here) (did i d here).is.whole in
       done.1 k inside ∙ ap (offers e k) (sym ((did i d here).is.order ∙ ap (λ (x : List SpacePacket). (get_or runs i d).gave ++ x) done.0 ∙ append-nil (get_or runs i d).gave))) in
+      let lists_taken : All AreTaken (lists k) = simp map-map (All-map AreTaken (λ (r : Run). list_at r.port k) runs (λ i d here. MatchOption-at_none _ _ (whole i d here) (did i d here).taken k inside)) in
       record {
         log = (went k within).log;
         run = (went k within).run;
         shuffle = simp map-map (subst (λ (xs : List (List Event)). IsShuffleOfEvents xs (went k within).log) all_asked (shuffled k within));
-        taken = shuffle_taken (lists k) (went k within).log (went k within).shuffle (simp map-map (All-map AreTaken (λ (r : Run). list_at r.port k) runs
-            (λ i d here. MatchOption-at_none _ _ (whole i d here) (did i d here).taken k inside)));
+        taken = parts_all (λ e. IsTaken e.event e.reply) (length (lists k)) (went k within).log (went k within).shuffle.below
+            (λ seat here. subst AreTaken (sym ((went k within).shuffle.parts seat here)) (lists_taken seat [] here));
       }
 
   -- why a recorder stopped early: out of memory, or what a store answered to an offer
@@ -200,8 +191,11 @@ module _ (e : RecordingContext) (runs : List Run) (before after : List Held) (di
     none_refused = λ takes. IfSome_then why reason (λ fault. lacked takes fault);
   }
     where
+      causes : All (λ f. IfSome f IsCause) (map (λ run. run.broken) (map run_of runs))
+      causes = simp map-map (All-map (λ f. IfSome f IsCause) (λ (r : Run). r.broken) runs reason_at)
+
       reason : IfSome why IsCause
-      reason = why_holds IsCause (map (λ run. run.broken) (map run_of runs)) why is (simp map-map (All-map (λ f. IfSome f IsCause) (λ (r : Run). r.broken) runs reason_at))
+      reason = IfSome_then why is.some (λ fault one. subst (λ f. IfSome f IsCause) one.2 (causes one.0 None one.1))
 
       lacked : TakesAll e before (map (λ r. r.before) runs) → (fault : Fault) → IsCause fault → fault ≡ NoMemory
       lacked takes fault (inl lack) = lack
