@@ -27,12 +27,17 @@ pub offer_refused : {T : Type 0} (e : RecordingContext) (port : PortView) (index
     → Offers {T = T} e (offer_at e p index) port (with_call port index (Offer e.now p) (reply.Offered (Err back))) (Err back.fault)
 offer_refused e port index p back within = record {
   end = refl;
-  lists = λ k inside. record { did = offer_at e p index k; rest = []; are = sym (append-nil (offer_at e p index k)); asks_are = grind (arith, nat_tests, filter-append, map-append, append-nil) };
+  lists = λ k inside. record {
+    did = offer_at e p index k;
+    rest = [];
+    are = sym (append-nil (offer_at e p index k));
+    asks_are = grind (arith, nat_tests, filter-append, map-append, append-nil);
+  };
   reason = inr (record {
     index = index;
     within = within;
     refused = rw (list_here port index (Offer e.now p) (reply.Offered (Err back)))
-        (Any-push (λ (e : Entry). IsRefusedWith back.fault e.event e.reply) (list_at port index) (entry port.number (Offer e.now p) (reply.Offered (Err back))) refl);
+        (Any-push (λ (e : Entry). IsRefusedWith back.fault e.event e.reply) (list_at port index) _ refl);
   });
 }
 
@@ -43,11 +48,13 @@ module _ (e : RecordingContext) (p : SpacePacket) (row : RouteRow) (rows : List 
 
   pub row_after : {S T : Type 0} {x : S} {a b c : PortView} (r : Result T Fault)
       → Offers e (offers_by e p (row ∷ [])) a b (Ok x) → Offers e (offers_by e p rows) b c r → Offers e (offers_by e p (row ∷ rows)) a c r
-  row_after {a = a} {b = b} {c = c} r one two = record { end = two.end ∙ one.end; lists = λ k within. goes k r (one.lists k within) (two.lists k within); reason = two.reason }
+  row_after {a = a} {b = b} {c = c} r one two =
+      record { end = two.end ∙ one.end; lists = λ k within. goes k r (one.lists k within) (two.lists k within); reason = two.reason }
     where
-      goes : {T : Type 0} (k : ℕ) (r : Result T Fault) → ExtendsBy (offers_by e p (row ∷ []) k) (list_at a k) (list_at b k) → Goes (is_ok r) (offers_by e p rows k) (list_at b k) (list_at c k)
-          → Goes (is_ok r) (offers_by e p (row ∷ rows) k) (list_at a k) (list_at c k)
-      goes k (Ok y) one two = record { all = cc (more k, append_assoc (asked a k) (offers_by e p (row ∷ []) k) (offers_by e p rows k)); taken = λ t. two.taken (one.taken t) }
+      goes : {T : Type 0} (k : ℕ) (r : Result T Fault) → ExtendsBy (offers_by e p (row ∷ []) k) (list_at a k) (list_at b k)
+          → Goes (is_ok r) (offers_by e p rows k) (list_at b k) (list_at c k) → Goes (is_ok r) (offers_by e p (row ∷ rows) k) (list_at a k) (list_at c k)
+      goes k (Ok y) one two =
+          record { all = cc (more k, append_assoc (asked a k) (offers_by e p (row ∷ []) k) (offers_by e p rows k)); taken = λ t. two.taken (one.taken t) }
       goes k (Err fault) one two = record {
         did = offers_by e p (row ∷ []) k ++ two.did;
         rest = two.rest;
@@ -56,7 +63,8 @@ module _ (e : RecordingContext) (p : SpacePacket) (row : RouteRow) (rows : List 
       }
 
   -- the offers by the row end early, and the others are left
-  pub row_ends : {S T : Type 0} {a b : PortView} (fault : Fault) → Offers {T = S} e (offers_by e p (row ∷ [])) a b (Err fault) → Offers {T = T} e (offers_by e p (row ∷ rows)) a b (Err fault)
+  pub row_ends : {S T : Type 0} {a b : PortView} (fault : Fault) → Offers {T = S} e (offers_by e p (row ∷ [])) a b (Err fault)
+      → Offers {T = T} e (offers_by e p (row ∷ rows)) a b (Err fault)
   row_ends fault one = record {
     end = one.end;
     lists = λ k within.

@@ -52,14 +52,16 @@ record IsCause (step : ℕ) (A : Fault → Type 0) (why : Option Fault) (cause :
   refused : cause ≡ LogMismatch step → (f : Fault) × A f
   lack : cause ≡ NoMemory step → why ≡ Some fault.NoMemory
 
-caused : (step : ℕ) (A : Fault → Type 0) (why : Option Fault) (cause : Cause) → cause_in step why ≡ Some cause → IfSome why (λ f. (f ≡ fault.NoMemory) ⊎ A f) → IsCause step A why cause
+caused : (step : ℕ) (A : Fault → Type 0) (why : Option Fault) (cause : Cause) → cause_in step why ≡ Some cause → IfSome why (λ f. (f ≡ fault.NoMemory) ⊎ A f)
+    → IsCause step A why cause
 caused step A None cause is reason = cc
 caused step A (Some fault.NoMemory) cause is reason = record { cause_is = inr (cc); refused = λ other. cc; lack = λ lack. refl }
 caused step A (Some other) cause is (inl lack) = cc
 caused step A (Some other) cause is (inr refused) = record { cause_is = inl (cc); refused = λ same. (other, refused); lack = λ lack. cc }
 
 -- what a step leaves in a memory
-module _ (e : RecordingContext) (old : Holdings) (stores : List Held) (why : Option Fault) (sources left : List Supply) (records : Records e old.stores stores why sources left) where
+module _ (e : RecordingContext) (old : Holdings) (stores : List Held) (why : Option Fault) (sources left : List Supply)
+    (records : Records e old.stores stores why sources left) where
   abbrev new : Holdings
   new = record old { stores = stores }
 
@@ -76,7 +78,8 @@ module _ (e : RecordingContext) (old : Holdings) (stores : List Held) (why : Opt
       ids = same_lists _ _ (length-map told (λ (r : Recorded). r.store) ∙ rows.count ∙ sym (length-map stores (λ (h : Held). h.id))) (λ k id inside.
           let within : k < length stores = omega (arith, length-map told (λ (r : Recorded). r.store), rows.count) in
           get_or-map (λ (r : Recorded). r.store) told k (record { store = id; came = 0; lost = 0 }) id (omega (arith, rows.count))
-          ∙ ap (λ (r : Recorded). r.store) (rows.each k _ (counters_of blank) (record { id = id; channel = 0; state = blank }) within) ∙ sym (get_or-map (λ (h : Held). h.id) stores k _ id within));
+          ∙ ap (λ (r : Recorded). r.store) (rows.each k _ (counters_of blank) (record { id = id; channel = 0; state = blank }) within)
+          ∙ sym (get_or-map (λ (h : Held). h.id) stores k _ id within));
       came = λ k d within. ap (λ (r : Recorded). r.came) (row k d within) ∙ omega (arith, (leaves k within).offered);
       lost = λ k d within. ap (λ (r : Recorded). r.lost) (row k d within);
     };
@@ -106,9 +109,10 @@ module _ (e : RecordingContext) (old : Holdings) (stores : List Held) (why : Opt
         lost = (store_at new k).lost - (store_at old k).lost;
       }
       row k d within =
-          let counted = get_or-map counters_of (states_of old.stores) k blank (counters_of blank) (omega (arith, same_many stores old.stores records.labels, length-map old.stores (λ (h : Held). h.state))) in
+          let inside : k < length (states_of old.stores) = omega (arith, same_many stores old.stores records.labels, length-map old.stores (λ (h : Held). h.state)) in
           let before : get_or counters k (counters_of blank) ≡ counters_of (store_at old k) =
-          ap (λ (cs : List Counters). get_or cs k (counters_of blank)) (are ∙ sym (map-map counters_of (λ (h : Held). h.state) old.stores)) ∙ counted in
+          ap (λ (cs : List Counters). get_or cs k (counters_of blank)) (are ∙ sym (map-map counters_of (λ (h : Held). h.state) old.stores))
+          ∙ get_or-map counters_of (states_of old.stores) k blank (counters_of blank) inside in
           rw (rows.each k d (counters_of blank) nobody within, before, get_or-map (λ (h : Held). h.state) stores k nobody blank within) refl
 
   -- a step that is ended
@@ -122,6 +126,7 @@ module _ (e : RecordingContext) (old : Holdings) (stores : List Held) (why : Opt
         are_runs = records.are_runs;
         went = records.went;
         refused = by.refused;
-        lack = λ lack. All-unmapped (λ f. IfSome f (λ g. g ≡ fault.NoMemory)) (λ (run : RecorderRun). run.broken) records.runs (records.why_is.lack (by.lack lack));
+        lack = λ lack. All-unmapped (λ f. IfSome f (λ g. g ≡ fault.NoMemory)) (λ (run : RecorderRun). run.broken) records.runs
+            (records.why_is.lack (by.lack lack));
         others = records.others;
       }

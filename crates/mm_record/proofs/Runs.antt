@@ -48,15 +48,15 @@ module _ {S : Type 0} (leads : S → S → Type 0) (until : S → S → Supply) 
       rw (nil_from_length sources none, nil_from_length workers (same ∙ none)) (record { ends = refl; faults = []; each = tt; why_is = why_none })
 
   -- the recorder of one source
-  pub one_run : (sources : List S) (workers : List PortView) (d now : S) (p new : PortView) (broken : Option Fault) → length sources ≡ 1 → length workers ≡ length sources
-      → end_of new ≡ end_of (get_or workers 0 p) → HasRunUntil leads until e (get_or sources 0 d) now new broken
+  pub one_run : (sources : List S) (workers : List PortView) (d now : S) (p new : PortView) (broken : Option Fault)
+      → length sources ≡ 1 → length workers ≡ length sources → end_of new ≡ end_of (get_or workers 0 p) → HasRunUntil leads until e (get_or sources 0 d) now new broken
       → HaveRun leads until e sources (set sources 0 now) workers (set workers 0 new) broken
   one_run (s ∷ []) (w ∷ []) d now p new broken one same end ran =
       record { ends = ap (λ x. x ∷ []) end; faults = broken ∷ []; each = (ran, tt); why_is = why_one broken }
   one_run sources workers d now p new broken one same end ran = absurd (omega (arith, one, same))
 
-  each_append : (ss ts us vs : List S) (xs zs : List PortView) (fs gs : List (Option Fault)) → EachHasRun leads until e ss ts xs fs → EachHasRun leads until e us vs zs gs
-      → EachHasRun leads until e (ss ++ us) (ts ++ vs) (xs ++ zs) (fs ++ gs)
+  each_append : (ss ts us vs : List S) (xs zs : List PortView) (fs gs : List (Option Fault)) → EachHasRun leads until e ss ts xs fs
+      → EachHasRun leads until e us vs zs gs → EachHasRun leads until e (ss ++ us) (ts ++ vs) (xs ++ zs) (fs ++ gs)
   each_append [] [] us vs [] zs [] gs one two = two
   each_append (s ∷ ss) (t ∷ ts) us vs (x ∷ xs) zs (f ∷ fs) gs one two = (one.0, each_append ss ts us vs xs zs fs gs one.1 two)
   each_append ss ts us vs xs zs fs gs one two = absurd one
@@ -72,8 +72,8 @@ module _ {S : Type 0} (leads : S → S → Type 0) (until : S → S → Supply) 
   }
 
   -- the runs of recorders, until their sources are as these last ones
-  pub runs_until : (ss ts lasts : List S) (workers : List PortView) (faults : List (Option Fault)) → EachHasRun leads until e ss ts workers faults → AllZip leads ts lasts
-      → AllZip leads ss lasts × AreRuns e (supplies until ss lasts) (supplies until ts lasts) workers faults
+  pub runs_until : (ss ts lasts : List S) (workers : List PortView) (faults : List (Option Fault)) → EachHasRun leads until e ss ts workers faults
+      → AllZip leads ts lasts → AllZip leads ss lasts × AreRuns e (supplies until ss lasts) (supplies until ts lasts) workers faults
   runs_until [] [] [] [] [] each lead =
       (tt, record { runs = []; each = All-nil (IsRunOf e); given_are = refl; left_are = refl; workers_are = refl; faults_are = refl })
   runs_until (s ∷ ss) (t ∷ ts) (last ∷ lasts) (w ∷ ws) (f ∷ fs) each lead =

@@ -34,7 +34,8 @@ so_far_start e before port fresh = record {
 }
 
 -- the source gives a packet more
-module _ {e : RecordingContext} {before mid after : Supply} {port : PortView} (so_far : RecordedSoFar e before mid port) (p : SpacePacket) (gives : Gave e.step (Some p) mid after) where
+module _ {e : RecordingContext} {before mid after : Supply} {port : PortView} (so_far : RecordedSoFar e before mid port) (p : SpacePacket)
+    (gives : Gave e.step (Some p) mid after) where
   order_more : before e.step ≡ (so_far.gave ++ p ∷ []) ++ after e.step
   order_more = so_far.order ∙ ap (λ (x : List SpacePacket). so_far.gave ++ x) gives.packet ∙ sym (append_assoc so_far.gave (p ∷ []) (after e.step))
 
@@ -50,7 +51,8 @@ module _ {e : RecordingContext} {before mid after : Supply} {port : PortView} (s
   }
 
   -- an offer of which fails
-  pub ran_partly : {T : Type 0} {new : PortView} (fault : Fault) → Offers {T = T} e (offers_of e p) port new (Err fault) → HasRun e before after (Some fault) new
+  pub ran_partly : {T : Type 0} {new : PortView} (fault : Fault) → Offers {T = T} e (offers_of e p) port new (Err fault)
+      → HasRun e before after (Some fault) new
   ran_partly fault adds = (
     so_far.gave ++ p ∷ [],
     record {

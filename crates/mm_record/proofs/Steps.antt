@@ -63,10 +63,11 @@ first_offers : (e : RecordingContext) (k : ℕ) (given gave left : List SpacePac
 first_offers e k given gave left asks rest order few are =
     let kept = filter (is_routed e.routes (id_at e.ids k)) gave in
     let fewer = filter_fewer (is_routed e.routes (id_at e.ids k)) gave in
+    let mapped = length-map kept (λ (p : SpacePacket). Offer e.now p) in
     record {
       offers_are = All-front (IsOfferAt e.now) asks rest
           (subst (All (IsOfferAt e.now)) are (All-map (IsOfferAt e.now) (λ (p : SpacePacket). Offer e.now p) kept (λ i d within. (get_or kept i d, refl))));
-      few = omega (arith, fewer, length-map kept (λ (p : SpacePacket). Offer e.now p), ap length order, ap length are, length-append gave left, length-append asks rest);
+      few = omega (arith, fewer, mapped, ap length order, ap length are, length-append gave left, length-append asks rest);
     }
 
 -- what a recorder offered to a store is the first of the offers of what its source gave
@@ -97,8 +98,8 @@ same_many a b labels =
     sym (length-map a (λ (h : Held). (h.id, h.channel))) ∙ ap length labels ∙ length-map b (λ (h : Held). (h.id, h.channel))
 
 -- what a step of recorders leaves of stores that were opened
-module _ (e : RecordingContext) (runs : List Run) (before after : List Held) (did : All (IsRunOf e) runs) (went : HaveLegalLogs (map (λ r. r.port) runs) (states_of before) (states_of after))
-    (as_many : length e.ids ≡ length before) (labels : labels_of after ≡ labels_of before) where
+module _ (e : RecordingContext) (runs : List Run) (before after : List Held) (did : All (IsRunOf e) runs)
+    (went : HaveLegalLogs (map (λ r. r.port) runs) (states_of before) (states_of after)) (as_many : length e.ids ≡ length before) (labels : labels_of after ≡ labels_of before) where
   abbrev lists : ℕ → List (List Entry)
   lists k = lists_at k (map (λ r. r.port) runs)
 
@@ -124,9 +125,11 @@ module _ (e : RecordingContext) (runs : List Run) (before after : List Held) (di
   all_recorded whole k within =
       let inside : k < length e.ids = omega (arith, many) in
       let all_asked = map_agree (λ (r : Run). asked r.port k) (λ (r : Run). offers e k (r.before e.step)) runs (λ i d here.
+      let r = get_or runs i d in
       let done = MatchOption-at_none _ _ (whole i d here) (did i d here).is.whole in
-      done.1 k inside ∙ ap (offers e k) (sym ((did i d here).is.order ∙ ap (λ (x : List SpacePacket). (get_or runs i d).gave ++ x) done.0 ∙ append-nil (get_or runs i d).gave))) in
-      let lists_taken : All AreTaken (lists k) = simp map-map (All-map AreTaken (λ (r : Run). list_at r.port k) runs (λ i d here. MatchOption-at_none _ _ (whole i d here) (did i d here).taken k inside)) in
+      done.1 k inside ∙ ap (offers e k) (sym ((did i d here).is.order ∙ ap (λ (x : List SpacePacket). r.gave ++ x) done.0 ∙ append-nil r.gave))) in
+      let lists_taken : All AreTaken (lists k) = simp map-map (All-map AreTaken (λ (r : Run). list_at r.port k) runs
+      (λ i d here. MatchOption-at_none _ _ (whole i d here) (did i d here).taken k inside)) in
       record {
         log = (went k within).log;
         run = (went k within).run;
@@ -158,11 +161,13 @@ module _ (e : RecordingContext) (runs : List Run) (before after : List Held) (di
 
   -- a store that surely takes what comes in the step takes all offers
   all_taken : length runs ≤ 16 → TakesAll e before (map (λ r. r.before) runs) → (k : ℕ) → k < length (states_of after)
-      → (store : HasLegalOffers (map (λ run. run.offered k) (map run_of runs)) (opening_at (states_of before) k) (opening_at (states_of after) k)) → AreTaken store.log
+      → (store : HasLegalOffers (map (λ run. run.offered k) (map run_of runs)) (opening_at (states_of before) k) (opening_at (states_of after) k))
+      → AreTaken store.log
   all_taken few takes k within store =
       let asks = map (λ (run : RecorderRun). run.offered k) (map run_of runs) in
       let few_each = All-unmapped (λ (s : Supply). length (s e.step) ≤ 65535) (λ (r : Run). r.before) runs takes.few in
-      let are : All (AreOffers e) asks = All-map (AreOffers e) (λ (run : RecorderRun). run.offered k) (map run_of runs) (All-map (λ run. AreOffers e (run.offered k)) run_of runs (λ i d here.
+      let are : All (AreOffers e) asks = All-map (AreOffers e) (λ (run : RecorderRun). run.offered k) (map run_of runs)
+      (All-map (λ run. AreOffers e (run.offered k)) run_of runs (λ i d here.
       let r = get_or runs i d in
       few_offers e r.before r.after r.gave (asked r.port) r.broken (did i d here).is (few_each i d here) k (omega (arith, within, many)))) in
       let state : IsOpen (opening_at (states_of before) k) = All-map IsOpen (λ (h : Held). h.state) before takes.stores_are k blank
@@ -171,7 +176,12 @@ module _ (e : RecordingContext) (runs : List Run) (before after : List Held) (di
       let most : length asks ≤ 16 = simp length-map few in
       let sum : count_of asks ≤ 1048560 = omega (arith, total, most) in
       shuffle_is_taken e.now (opening_at (states_of before) k) (opening_at (states_of after) k) asks store.log
-      (record { storage = state.storage; last = omega (arith, state.last, sum); moment = omega (arith, takes.moment, sum); count = omega (arith, state.offered, sum) })
+      (record {
+        storage = state.storage;
+        last = omega (arith, state.last, sum);
+        moment = omega (arith, takes.moment, sum);
+        count = omega (arith, state.offered, sum);
+      })
       store.run store.shuffle (λ i d inside. (are i d inside).offers_are)
 
   records_of : (why : Option Fault) → IsWhy (map (λ run. run.broken) (map run_of runs)) why → All (λ h. IsState h.state) after → length runs ≤ 16
@@ -187,7 +197,8 @@ module _ (e : RecordingContext) (runs : List Run) (before after : List Held) (di
     others = λ t other. simp map-map (map_agree (λ (r : Run). r.after t) (λ (r : Run). r.before t) runs (λ i d here. (did i d here).is.others t other));
     reason = reason;
     recorded = if_none why is.none (λ none. all_recorded (whole none));
-    nothing_left = if_none why is.none (λ none. All-map (λ s. s e.step ≡ []) (λ (r : Run). r.after) runs (λ i d here. (MatchOption-at_none _ _ (whole none i d here) (did i d here).is.whole).0));
+    nothing_left = if_none why is.none (λ none. All-map (λ s. s e.step ≡ []) (λ (r : Run). r.after) runs
+        (λ i d here. (MatchOption-at_none _ _ (whole none i d here) (did i d here).is.whole).0));
     none_refused = λ takes. IfSome_then why reason (λ fault. lacked takes fault);
   }
     where
@@ -199,7 +210,8 @@ module _ (e : RecordingContext) (runs : List Run) (before after : List Held) (di
 
       lacked : TakesAll e before (map (λ r. r.before) runs) → (fault : Fault) → IsCause fault → fault ≡ NoMemory
       lacked takes fault (inl lack) = lack
-      lacked takes fault (inr refused) = absurd (not_taken refused.went.log fault refused.refused (all_taken few takes refused.place refused.within refused.went))
+      lacked takes fault (inr refused) =
+          absurd (not_taken refused.went.log fault refused.refused (all_taken few takes refused.place refused.within refused.went))
 
       if_none : {P Q : Type 0} (o : Option Fault) → IfNone o P → (P → Q) → IfNone o Q
       if_none None p f = f p
@@ -209,13 +221,14 @@ module _ (e : RecordingContext) (runs : List Run) (before after : List Held) (di
       whole none = All-unmapped (λ run. run.broken ≡ None) run_of runs (All-unmapped (λ f. f ≡ None) (λ (run : RecorderRun). run.broken) (map run_of runs) none)
 
 -- what a step of recorders leaves, whatever comes
-pub comes_of : {S : Type 0} (leads : S → S → Type 0) (until : S → S → Supply) (e : RecordingContext) (sources left : List S) (ports workers : List PortView) (why : Option Fault)
-    (before after : List Held) → HaveRun leads until e sources left ports workers why → HaveLegalLogs workers (states_of before) (states_of after)
+pub comes_of : {S : Type 0} (leads : S → S → Type 0) (until : S → S → Supply) (e : RecordingContext) (sources left : List S) (ports workers : List PortView)
+    (why : Option Fault) (before after : List Held) → HaveRun leads until e sources left ports workers why → HaveLegalLogs workers (states_of before) (states_of after)
     → length e.ids ≡ length before → labels_of after ≡ labels_of before → All (λ h. IsState h.state) after → length sources ≤ 16
     → WhateverComes leads until sources left (Records e before after why)
 comes_of leads until e sources left ports workers why before after run went as_many labels sound few lasts lead =
     let both = runs_until leads until e sources left lasts workers run.faults run.each lead in
     let ran = both.1 in
-    let count : length ran.runs ≤ 16 = omega (arith, few, ap length ran.given_are, length-map ran.runs (λ (r : Run). r.before), length-supplies until sources lasts (zip_long leads sources lasts both.0)) in
+    let supplied = length-supplies until sources lasts (zip_long leads sources lasts both.0) in
+    let count : length ran.runs ≤ 16 = omega (arith, few, supplied, ap length ran.given_are, length-map ran.runs (λ (r : Run). r.before)) in
     rw (ran.given_are, ran.left_are)
     (both.0, records_of e ran.runs before after ran.each (rw ran.workers_are at went) as_many labels why (rw ran.faults_are at run.why_is) sound count)

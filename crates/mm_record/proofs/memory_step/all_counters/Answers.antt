@@ -8,5 +8,6 @@ use Rattle.mm_record.proofs.memory_step.all_counters.Goals as goal
 pub loop-held-preserved : goal.loop-held-preserved
 loop-held-preserved c = record {
   counters = grind (arith, common_steps, map_more);
-  sound = All-more (λ h. IsState h.state) c.args.stores.now c.loop-held.held-index c.held-item.result (search rules) c.loop-held.invariant.sound (rw (← c.held-item.is) c.of.ensures.sound);
+  sound = All-more (λ h. IsState h.state) c.args.stores.now c.loop-held.held-index c.held-item.result (search rules) c.loop-held.invariant.sound
+      (rw (← c.held-item.is) c.of.ensures.sound);
 }

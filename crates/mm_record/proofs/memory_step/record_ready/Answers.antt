@@ -51,4 +51,5 @@ returns-in-Some-clause-err g c =
     let back = restored g ((goal.at.returns-in-Some-clause-err g c).In-Ok-done) in
     let ended : cause_in c.args.step c.in-Ok-done.why ≡ Some c.in-Some.cause = search rules in
     rw back.1 (inr (comes_weaker g.S.AnySource.leads g.S.AnySource.until c.args.sources.now c.record-done.new.sources _ _
-    (λ given left records. ended_of (recording_of c.args.step c.args.now c.args.memory.now) c.args.memory.now c.record-done.new.stores.items c.in-Ok-done.why given left records c.in-Some.cause ended) back.0))
+    (λ given left records. ended_of (recording_of c.args.step c.args.now c.args.memory.now) c.args.memory.now c.record-done.new.stores.items
+    c.in-Ok-done.why given left records c.in-Some.cause ended) back.0))

@@ -9,7 +9,8 @@ pub returns-in_err-offer_copy : goal.returns-in_err-offer_copy
 returns-in_err-offer_copy g t c =
     let fault = c.in_err-offer_copy.field-0.0 in
     let failed : c.from_residual.result ≡ Err fault = search rules in
-    record { offers = rw (failed, c.in-Some.ensures.cases.0) (row_ends (step_of c.args.context.now) c.args.packet c.in-Some.row.now _ fault c.in_err-offer_copy.ensures.offers) }
+    let ends = row_ends (step_of c.args.context.now) c.args.packet c.in-Some.row.now _ fault c.in_err-offer_copy.ensures.offers in
+    record { offers = rw (failed, c.in-Some.ensures.cases.0) ends }
 
 pub returns-then-not-is_empty : goal.returns-then-not-is_empty
 returns-then-not-is_empty g t c = record {

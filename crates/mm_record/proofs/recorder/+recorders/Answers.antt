@@ -11,7 +11,8 @@ record_all-returns-then-is_empty g t c =
 pub record_all-returns-then-sources-eq1 : goal.record_all-returns-then-sources-eq1
 record_all-returns-then-sources-eq1 g t c = record {
   run = rw c.err.ensures.value (one_run g.S.AnySource.leads g.S.AnySource.until (step_of c.args.context.now) c.args.sources.now c.args.workers.now
-      c.index-sources-0.result _ c.index-workers-0.result _ _ c.if-sources-eq1.true c.requires.may.same c.record_source.ensures.end c.record_source.ensures.run);
+      c.index-sources-0.result _ c.index-workers-0.result _ _ c.if-sources-eq1.true c.requires.may.same
+      c.record_source.ensures.end c.record_source.ensures.run);
 }
 
 pub record_all-returns : goal.record_all-returns

@@ -24,4 +24,5 @@ pub returns-in_err-offer_packet-clause-run : goal.returns-in_err-offer_packet-cl
 returns-in_err-offer_packet-clause-run g c = λ last leads.
     let before = c.loop.invariant.so_far last (c.in-Some-next_packet.ensures.back last leads) in
     let failed : result_err c.from_residual.result ≡ Some c.in_err-offer_packet.field-0.0 = search rules in
-    (before.0, rw failed (ran_partly before.1 c.in-Some-next_packet.packet (c.in-Some-next_packet.ensures.gave last leads) _ c.in_err-offer_packet.ensures.offers))
+    let gave = c.in-Some-next_packet.ensures.gave last leads in
+    (before.0, rw failed (ran_partly before.1 c.in-Some-next_packet.packet gave _ c.in_err-offer_packet.ensures.offers))

@@ -17,7 +17,9 @@ record_all-why-requires-clause-may g c κs within =
     let named = rw (← ids_open it.labels.items (stores_in c.args.stores.now) new.labels) at c.requires.named in
     rw (c.deref.ensures.value, c.deref_mut.ensures.value) (record {
       same = same;
-      may = λ i d inside. record { named = named; as_many = sym kept.many; of_them = ap (λ (end : Origin × ℕ). end.0.table) (new.are_open.workers i d inside) ∙ kept.of };
+      may = λ i d inside.
+          let of_them = ap (λ (end : Origin × ℕ). end.0.table) (new.are_open.workers i d inside) ∙ kept.of in
+          record { named = named; as_many = sym kept.many; of_them = of_them };
       fresh = new.fresh;
     })
 
@@ -37,6 +39,7 @@ returns-clause-records g c =
     let before = stores_in c.args.stores.now in
     let written = with_items_is it.workers c.record_all-why.new.workers (omega (arith, c.record_all-why.auto.workers, c.deref_mut.ensures.len, it.workers.ok.0)) in
     let ids = ids_open it.labels.items before new.labels in
-    rw (← ids) (comes_of g.S.AnySource.leads g.S.AnySource.until _ c.args.sources.now c.record_all-why.new.sources _ _ c.record_all-why.result before (stores_in c.settle.new.opened)
+    rw (← ids) (comes_of g.S.AnySource.leads g.S.AnySource.until _ c.args.sources.now c.record_all-why.new.sources _ _
+    c.record_all-why.result before (stores_in c.settle.new.opened)
     (rw c.deref.ensures.value at c.record_all-why.ensures.run) (rw (written, new.states) at c.settle.ensures.went)
     (ap length ids ∙ length-map before (λ (h : Held). h.id)) (c.settle.ensures.labels ∙ new.labels) c.settle.ensures.sound c.requires.many)
