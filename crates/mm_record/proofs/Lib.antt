@@ -3,10 +3,8 @@ pub mod Supplying
 pub mod Offers
 pub mod Adding
 pub mod SoFar
-pub mod Whys
 pub mod Runs
 pub mod Taking
-pub mod Reasons
 pub mod Steps
 pub mod Before
 pub mod Memories

@@ -91,14 +91,16 @@ module _ (e : RecordingContext) (old : Holdings) (stores : List Held) (why : Opt
       nobody : Held
       nobody = record { id = []; channel = 0; state = blank }
 
+      inside : (k : ℕ) → k < length stores → k < length (states_of old.stores)
+      inside k within = omega (arith, same_many stores old.stores records.labels, length-map old.stores (λ (h : Held). h.state))
+
       all : AllRecorded e (given_in e.step sources) (states_of old.stores) (states_of stores)
       all = MatchOption-at_none _ _ whole records.recorded
 
       -- a store that has recorded offers leaves and loses as their number says
       leaves : (k : ℕ) → k < length stores → Leaves (store_at old k) (store_at new k) (came e (given_in e.step sources) k)
       leaves k within =
-          let many = same_many stores old.stores records.labels in
-          let is = All-map IsState (λ (h : Held). h.state) old.stores sound k blank (omega (arith, many, length-map old.stores (λ (h : Held). h.state))) in
+          let is = All-map IsState (λ (h : Held). h.state) old.stores sound k blank (inside k within) in
           let one = all k (omega (arith, length-map stores (λ (h : Held). h.state))) in
           law _ _ (map (offers e k) (given_in e.step sources)) one.log is.store.within is.store.has_room one.run one.shuffle one.taken
 
@@ -109,10 +111,9 @@ module _ (e : RecordingContext) (old : Holdings) (stores : List Held) (why : Opt
         lost = (store_at new k).lost - (store_at old k).lost;
       }
       row k d within =
-          let inside : k < length (states_of old.stores) = omega (arith, same_many stores old.stores records.labels, length-map old.stores (λ (h : Held). h.state)) in
           let before : get_or counters k (counters_of blank) ≡ counters_of (store_at old k) =
           ap (λ (cs : List Counters). get_or cs k (counters_of blank)) (are ∙ sym (map-map counters_of (λ (h : Held). h.state) old.stores))
-          ∙ get_or-map counters_of (states_of old.stores) k blank (counters_of blank) inside in
+          ∙ get_or-map counters_of (states_of old.stores) k blank (counters_of blank) (inside k within) in
           rw (rows.each k d (counters_of blank) nobody within, before, get_or-map (λ (h : Held). h.state) stores k nobody blank within) refl
 
   -- a step that is ended

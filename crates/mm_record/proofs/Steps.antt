@@ -24,7 +24,6 @@ use Rattle.mm_shared.specs.declared.label.StoreLabel.{StoreLabel}
 use Rattle.mm_shared.specs.Stores.{list_at, lists_at, states_of, labels_of, names_of, ids_of, id_at, HaveLegalLogs}
 use Rattle.mm_shared.specs.Views.{PortView}
 use Rattle.mm_record.specs.Offering.{asked, IsReason}
-use Rattle.mm_record.proofs.Reasons.{not_taken, refusal_in_log}
 use Rattle.mm_memory.specs.Recording.{is_routed}
 use Rattle.mm_record.specs.Supplies.{Supply, WhateverComes}
 use Rattle.mm_record.specs.Recorded.{RecordingContext, recording, open_recording, offers}
@@ -33,7 +32,7 @@ use Rattle.mm_record.specs.Steps.{given_in, AllRecorded, AllHaveLegalOffers, Are
 use Rattle.mm_record.proofs.Offers.{offers_more}
 use Rattle.mm_record.proofs.Runs.{AreRuns, IsRunOf, Run, run_of, runs_until}
 use Rattle.mm_record.proofs.Supplying.{length-supplies, zip_long}
-use Rattle.mm_record.proofs.Taking.{IsOfferAt, filter_fewer, parts_all, shuffle_is_taken}
+use Rattle.mm_record.proofs.Taking.{IsOfferAt, filter_fewer, not_taken, parts_all, refusal_in_log, shuffle_is_taken}
 
 -- a list is mapped alike by two functions that agree on each element
 map_agree : {X Y : Type 0} (f g : X → Y) (xs : List X) → All (λ x. f x ≡ g x) xs → map f xs ≡ map g xs
@@ -99,7 +98,8 @@ same_many a b labels =
 
 -- what a step of recorders leaves of stores that were opened
 module _ (e : RecordingContext) (runs : List Run) (before after : List Held) (did : All (IsRunOf e) runs)
-    (went : HaveLegalLogs (map (λ r. r.port) runs) (states_of before) (states_of after)) (as_many : length e.ids ≡ length before) (labels : labels_of after ≡ labels_of before) where
+    (went : HaveLegalLogs (map (λ r. r.port) runs) (states_of before) (states_of after))
+    (as_many : length e.ids ≡ length before) (labels : labels_of after ≡ labels_of before) where
   abbrev lists : ℕ → List (List Entry)
   lists k = lists_at k (map (λ r. r.port) runs)
 
@@ -222,9 +222,9 @@ module _ (e : RecordingContext) (runs : List Run) (before after : List Held) (di
 
 -- what a step of recorders leaves, whatever comes
 pub comes_of : {S : Type 0} (leads : S → S → Type 0) (until : S → S → Supply) (e : RecordingContext) (sources left : List S) (ports workers : List PortView)
-    (why : Option Fault) (before after : List Held) → HaveRun leads until e sources left ports workers why → HaveLegalLogs workers (states_of before) (states_of after)
-    → length e.ids ≡ length before → labels_of after ≡ labels_of before → All (λ h. IsState h.state) after → length sources ≤ 16
-    → WhateverComes leads until sources left (Records e before after why)
+    (why : Option Fault) (before after : List Held) → HaveRun leads until e sources left ports workers why
+    → HaveLegalLogs workers (states_of before) (states_of after) → length e.ids ≡ length before → labels_of after ≡ labels_of before
+    → All (λ h. IsState h.state) after → length sources ≤ 16 → WhateverComes leads until sources left (Records e before after why)
 comes_of leads until e sources left ports workers why before after run went as_many labels sound few lasts lead =
     let both = runs_until leads until e sources left lasts workers run.faults run.each lead in
     let ran = both.1 in

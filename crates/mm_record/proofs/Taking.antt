@@ -1,10 +1,11 @@
--- Offers that no store refuses: storage is on, and clock and count are far from their ends.
+-- Offers that no store refuses, since storage is on, and clock and count are far from their ends; and offers that a store refused.
 use Rattle.std.proofs.Common.{◌≡◌, ℕ, suc, ◌+◌, ◌<◌, ◌≤◌, ◌==◌, ◌||◌, Bool, true, false, not, cond, max, ltb, List, [], ◌∷◌, length, get_or, filter, All, Result, Ok, Err, refl, sym, subst, ◌∙◌, rules, arith}
-use Rattle.std.specs.Prelude.{IsOk}
+use Rattle.std.specs.Prelude.{Any}
+use Rattle.std.specs.List.{Contains}
 use Rattle.std.proofs.lemmas.Bool.{both_ways, cond_both, eq-eqb}
 use Rattle.std.proofs.lemmas.Bool.Decides.{nat_tests}
 use Rattle.std.proofs.lemmas.List.{get_or_default}
-use Rattle.std.proofs.lemmas.List.Elements.{All-cons, All-filter, All-head, All-nil, All-tail}
+use Rattle.std.proofs.lemmas.List.Elements.{All-cons, All-contains_itself, All-filter, All-head, All-nil, All-tail}
 use Rattle.std.proofs.lemmas.List.Filters.{length-filter_both}
 use Rattle.mm_base.proofs.Elements.{All-unmapped}
 use Rattle.mm_base.specs.declared.kind.Kind.{Kind}
@@ -17,13 +18,16 @@ use Rattle.mm_desk.specs.declared.entry.Entry.{Entry}
 use Rattle.mm_desk.specs.declared.event.Event.{Event}
 use Rattle.mm_desk.specs.declared.event.Event.TheVariants.{Offer}
 use Rattle.mm_desk.specs.declared.reply.Offered.{Offered}
+use Rattle.mm_desk.specs.declared.reply.Reply.{Reply}
 use Rattle.mm_desk.specs.declared.reply.Reply.TheVariants as reply
+use Rattle.mm_desk.specs.declared.fault.Fault.{Fault}
 use Rattle.mm_desk.specs.declared.reply.Returned.{Returned}
 use Rattle.mm_desk.specs.Machine.{State, answer_of, after_put, offer, step}
 use Rattle.mm_desk.specs.Offers.{AreTaken, IsTaken, IsShuffleOfEvents, count_of}
 use Rattle.mm_desk.specs.Runs.{IsLegal, IsRun}
 use Rattle.mm_desk.specs.Shuffles.{AreBelow, IsShuffle, part}
 use Rattle.mm_desk.proofs.Logs.{count_of_shuffle}
+use Rattle.mm_record.specs.Steps.{IsRefusedWith}
 
 -- an event is an offer at a moment
 abbrev pub IsOfferAt : ℕ → Event → Type 0
@@ -112,6 +116,29 @@ pub shuffle_is_taken : (now : ℕ) (s t : State) (lists : List (List Event)) (lo
     → IsShuffleOfEvents lists log → All (λ es. All (IsOfferAt now) es) lists → AreTaken log
 shuffle_is_taken now s t lists log time run shuffle offers =
     log_taken now s log (subst (λ (n : ℕ). HasTime now n s) (count_of_shuffle lists log shuffle) time) (offers_alone now lists log shuffle offers) run.legal
+
+-- a refusal with this fault
+abbrev pub IsRefusal : Fault → Entry → Type 0
+IsRefusal fault e = IsRefusedWith fault e.event e.reply
+
+-- an offer that was refused was not taken
+is_other : (event : Event) (answer : Reply) (fault : Fault) → IsRefusedWith fault event answer → IsTaken event answer → ⊥
+is_other (Offer now packet) (reply.Offered (Ok offered)) fault refused taken = refused
+is_other (Offer now packet) (reply.Offered (Err back)) fault refused taken = taken
+is_other event answer fault refused taken = refused
+
+-- not all of a list are taken that has a refusal
+pub not_taken : (log : List Entry) (fault : Fault) → Any (IsRefusal fault) log → AreTaken log → ⊥
+not_taken log fault (i, e, within, at, refused) taken =
+    is_other e.event e.reply fault refused (subst (λ (x : Entry). IsTaken x.event x.reply) at (taken i e within))
+
+-- a refusal in one of the lists is in the log that is a shuffle of them
+pub refusal_in_log : (fault : Fault) (lists : List (List Entry)) (log : List Entry) → IsShuffle lists log → (seat : ℕ) → seat < length lists
+    → Any (IsRefusal fault) (get_or lists seat []) → Any (IsRefusal fault) log
+refusal_in_log fault lists log shuffle seat within (i, e, inside, at, refused) =
+    let part_in_log = All-filter (λ (e : Entry). e.seat == seat) (Contains log) log (All-contains_itself log) in
+    let found = subst (Contains log) at (subst (All (Contains log)) (shuffle.parts seat within) part_in_log i e inside) in
+    (found.0, e, found.1, found.2, refused)
 
 -- no more passes a test than there is
 pub filter_fewer : {X : Type 0} (p : X → Bool) (xs : List X) → length (filter p xs) ≤ length xs
