@@ -1,5 +1,5 @@
 -- What the tests before a step tell, where all pass.
-use Rattle.std.proofs.Common.{◌≡◌, ℕ, ◌+◌, ◌<◌, ◌≤◌, ◌^◌, Bool, true, false, not, List, length, get_or, All, Option, Some, None, refl, arith}
+use Rattle.std.proofs.Common.{◌≡◌, ℕ, ◌+◌, ◌<◌, ◌≤◌, ◌^◌, Bool, false, not, List, length, get_or, All, Option, Some, None, refl, arith}
 use Rattle.std.specs.List.{find, list_any, position_or_len}
 use Rattle.std.proofs.lemmas.Bool.{and_parts, both_ways, false_from_ne_true, ltb-false, not-false, or_parts}
 use Rattle.std.proofs.lemmas.List.Folds.{find_at, list_any_at}

@@ -1,5 +1,5 @@
 -- From what each recorder and each store says, to the step.
-use Rattle.std.proofs.Common.{◌≡◌, ◌≢◌, ◌⊎◌, inl, inr, ℕ, ◌*◌, ◌<◌, ◌≤◌, List, [], ◌∷◌, ◌++◌, length, get_or, map, filter, All, Option, Some, None, IfNone, IfSome, refl, sym, subst, ap, ◌∙◌, append_assoc, length-append, arith}
+use Rattle.std.proofs.Common.{◌≡◌, ◌⊎◌, inl, inr, ℕ, ◌*◌, ◌<◌, ◌≤◌, List, [], ◌∷◌, ◌++◌, length, get_or, map, filter, All, Option, Some, None, IfNone, IfSome, refl, sym, subst, ap, ◌∙◌, append_assoc, length-append, arith}
 use Rattle.std.proofs.lemmas.List.{append-nil, get_or-map, length-map}
 use Rattle.std.proofs.lemmas.List.Elements.{All-head, All-map, All-tail}
 use Rattle.std.proofs.lemmas.List.Sums.{sum_by-le}
@@ -7,7 +7,6 @@ use Rattle.std.proofs.lemmas.Option.{IfSome_then, MatchOption-at_none}
 use Rattle.std.proofs.lemmas.Simd.{map-map}
 use Rattle.mm_base.proofs.Elements.{All-unmapped}
 use Rattle.mm_base.proofs.Pairs.{All-front}
-use Rattle.mm_base.specs.declared.rows.RouteRow.{RouteRow}
 use Rattle.mm_packet.specs.Packet.{SpacePacket}
 use Rattle.mm_desk.specs.declared.entry.Entry.{Entry}
 use Rattle.mm_desk.specs.declared.event.Event.{Event}
@@ -15,7 +14,7 @@ use Rattle.mm_desk.specs.declared.event.Event.TheVariants.{Offer}
 use Rattle.mm_desk.specs.declared.fault.Fault.{Fault}
 use Rattle.mm_desk.specs.declared.fault.Fault.TheVariants.{NoMemory}
 use Rattle.mm_desk.specs.declared.held.Held.{Held}
-use Rattle.mm_desk.specs.Machine.{State, IsState}
+use Rattle.mm_desk.specs.Machine.{IsState}
 use Rattle.mm_desk.specs.Offers.{AreTaken, IsTaken, IsShuffleOfEvents, count_of}
 use Rattle.mm_desk.specs.Offers.{asked as asked_in}
 use Rattle.mm_desk.specs.Runs.{opening_at, blank}
@@ -26,11 +25,11 @@ use Rattle.mm_shared.specs.Views.{PortView}
 use Rattle.mm_record.specs.Offering.{asked, IsReason}
 use Rattle.mm_memory.specs.Recording.{is_routed}
 use Rattle.mm_record.specs.Supplies.{Supply, WhateverComes}
-use Rattle.mm_record.specs.Recorded.{RecordingContext, recording, open_recording, offers}
+use Rattle.mm_record.specs.Recorded.{RecordingContext, offers}
 use Rattle.mm_record.specs.Recorders.{HaveRun}
 use Rattle.mm_record.specs.Steps.{given_in, AllRecorded, AllHaveLegalOffers, AreRecorderRuns, HasLegalOffers, IsOpen, IsRecorderRun, IsWhy, RecorderRun, Records, StoreRefused, TakesAll}
 use Rattle.mm_record.proofs.Offers.{offers_more}
-use Rattle.mm_record.proofs.Runs.{AreRuns, IsRunOf, Run, run_of, runs_until}
+use Rattle.mm_record.proofs.Runs.{IsRunOf, Run, run_of, runs_until}
 use Rattle.mm_record.proofs.Supplying.{length-supplies, zip_long}
 use Rattle.mm_record.proofs.Taking.{IsOfferAt, filter_fewer, not_taken, parts_all, refusal_in_log, shuffle_is_taken}
 
