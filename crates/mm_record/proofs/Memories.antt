@@ -76,9 +76,9 @@ module _ (e : RecordingContext) (old : Holdings) (stores : List Held) (why : Opt
       many = rows.count;
       ids = same_lists _ _ (length-map told (λ (r : Recorded). r.store) ∙ rows.count ∙ sym (length-map stores (λ (h : Held). h.id))) (λ k id inside.
           let within : k < length stores = omega (arith, length-map told (λ (r : Recorded). r.store), rows.count) in
-          get_or-map (λ (r : Recorded). r.store) told k (record { store = id; came = 0; lost = 0 }) id (omega (arith, rows.count))
-          ∙ ap (λ (r : Recorded). r.store) (rows.each k _ (counters_of blank) (record { id = id; channel = 0; state = blank }) within)
-          ∙ sym (get_or-map (λ (h : Held). h.id) stores k _ id within));
+          let d : Recorded = record { store = id; came = 0; lost = 0 } in
+          get_or-map (λ (r : Recorded). r.store) told k d id (omega (arith, rows.count)) ∙ ap (λ (r : Recorded). r.store) (row k d within)
+          ∙ sym (get_or-map (λ (h : Held). h.id) stores k nobody id within));
       came = λ k d within. ap (λ (r : Recorded). r.came) (row k d within) ∙ omega (arith, (leaves k within).offered);
       lost = λ k d within. ap (λ (r : Recorded). r.lost) (row k d within);
     };

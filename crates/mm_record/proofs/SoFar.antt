@@ -4,9 +4,9 @@ use Rattle.mm_packet.specs.Packet.{SpacePacket}
 use Rattle.mm_desk.specs.declared.entry.Entry.{Entry}
 use Rattle.mm_desk.specs.declared.event.Event.{Event}
 use Rattle.mm_desk.specs.declared.fault.Fault.{Fault}
-use Rattle.mm_desk.specs.Offers.{AreTaken}
+use Rattle.std.proofs.lemmas.List.Elements.{All-nil}
+use Rattle.mm_desk.specs.Offers.{AreTaken, IsTaken}
 use Rattle.mm_desk.specs.Offers.{asked as asked_in}
-use Rattle.mm_shared.specs.Rule.{calls_on}
 use Rattle.mm_shared.specs.Stores.{list_at, IsFresh}
 use Rattle.mm_shared.specs.Views.{PortView}
 use Rattle.mm_record.specs.Offering.{asked, offers_of, Offers}
@@ -29,8 +29,8 @@ so_far_start e before port fresh = record {
   gave = [];
   order = refl;
   others = λ t other. refl;
-  asked_are = λ k within. ap (λ (calls : List (ℕ × Entry)). asked_in (calls_on k calls)) fresh;
-  taken = λ k within. subst (λ (calls : List (ℕ × Entry)). AreTaken (calls_on k calls)) (sym fresh) (λ i d inside. absurd (omega arith));
+  asked_are = λ k within. rw fresh refl;
+  taken = λ k within. rw fresh (All-nil (λ (x : Entry). IsTaken x.event x.reply));
 }
 
 -- the source gives a packet more
