@@ -1,23 +1,11 @@
 -- The calls through a port go on, store by store.
 use Rattle.std.proofs.Common.{◌≡◌, inr, ℕ, ◌<◌, List, [], ◌∷◌, ◌++◌, length, Result, Ok, Err, refl, sym, ◌∙◌, append_assoc, arith}
-use Rattle.std.specs.Prelude.{is_ok}
-use Rattle.std.proofs.lemmas.Bool.Decides.{nat_tests}
-use Rattle.std.proofs.lemmas.List.Elements.{filter-append}
-use Rattle.std.proofs.lemmas.List.{append-nil, map-append}
+use Rattle.mm_record.proofs.Words.{is_ok, nat_tests, filter-append, append-nil, map-append, SpacePacket, Entry, Offer, Fault, Returned, list_at, PortView}
+use Rattle.mm_record.proofs.Words.{with_call, asked, offer_at, offers_by, ExtendsBy, Goes, Offers, RecordingContext, IsRefusedWith}
 use Rattle.std.proofs.lemmas.List.Quantifiers.{Any-push}
 use Rattle.mm_base.specs.declared.rows.RouteRow.{RouteRow}
-use Rattle.mm_packet.specs.Packet.{SpacePacket}
-use Rattle.mm_desk.specs.declared.entry.Entry.{Entry}
-use Rattle.mm_desk.specs.declared.event.Event.TheVariants.{Offer}
-use Rattle.mm_desk.specs.declared.fault.Fault.{Fault}
-use Rattle.mm_desk.specs.declared.reply.Returned.{Returned}
 use Rattle.mm_desk.specs.declared.reply.Reply.TheVariants as reply
-use Rattle.mm_shared.specs.Stores.{list_at}
-use Rattle.mm_shared.specs.Views.{PortView, with_call}
 use Rattle.mm_shared.proofs.CallsOn.{list_here}
-use Rattle.mm_record.specs.Offering.{asked, offer_at, offers_by, ExtendsBy, Goes, Offers}
-use Rattle.mm_record.specs.Recorded.{RecordingContext}
-use Rattle.mm_record.specs.Steps.{IsRefusedWith}
 
 -- an offer to the store at an index that is refused: it is in the list too, and is the reason
 pub offer_refused : {T : Type 0} (e : RecordingContext) (port : PortView) (index : ℕ) (p : SpacePacket) (back : Returned) → index < length e.ids

@@ -1,18 +1,11 @@
 -- What the tests before a step tell, where all pass.
 use Rattle.std.proofs.Common.{◌≡◌, ℕ, ◌+◌, ◌<◌, ◌≤◌, ◌^◌, Bool, false, not, List, length, get_or, All, Option, Some, None, refl, arith}
-use Rattle.std.specs.List.{find, list_any, position_or_len}
-use Rattle.std.proofs.lemmas.Bool.{and_parts, both_ways, false_from_ne_true, ltb-false, not-false, or_parts}
+use Rattle.mm_record.proofs.Words.{find, list_any, position_or_len, and_parts, both_ways, false_from_ne_true, ltb-false, not-false, or_parts}
+use Rattle.mm_record.proofs.Words.{fails_before_first, slice_get_cases, Held, Holdings, cause_before, cause_by, is_clock_late, is_late, is_ready, Supply}
+use Rattle.mm_record.proofs.Words.{recording_of, IsWithinLimits, TakesAll}
 use Rattle.std.proofs.lemmas.List.Folds.{find_at, list_any_at}
-use Rattle.std.proofs.lemmas.List.Sums.{fails_before_first}
-use Rattle.std.proofs.lemmas.Option.{slice_get_cases}
-use Rattle.mm_desk.specs.declared.held.Held.{Held}
-use Rattle.mm_memory.specs.Holdings.{Holdings}
 use Rattle.mm_report.specs.declared.cause.Cause.TheVariants.{ClockTooLate}
 use Rattle.mm_report.specs.declared.cause.TheConstants.{LATEST_START}
-use Rattle.mm_record.specs.Causes.{cause_before, cause_by, is_clock_late, is_late, is_ready}
-use Rattle.mm_record.specs.Supplies.{Supply}
-use Rattle.mm_record.specs.MemorySteps.{recording_of}
-use Rattle.mm_record.specs.Steps.{IsWithinLimits, TakesAll}
 
 -- where nothing is found, and where none passes, each fails the test
 none_found : {X : Type 0} (p : X → Bool) (xs : List X) → find p xs ≡ None → All (λ x. p x ≡ false) xs

@@ -1,3 +1,4 @@
+mod Words
 pub mod Lives
 pub mod Supplying
 pub mod Offers

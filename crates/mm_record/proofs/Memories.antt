@@ -1,33 +1,17 @@
 -- A step over the stores of a memory.
 use Rattle.std.proofs.Common.{◌≡◌, ◌⊎◌, inl, inr, ℕ, ◌-◌, ◌<◌, bytes_eq, false, List, [], length, get_or, map, All, Option, Some, None, IfSome, refl, sym, ap, ◌∙◌, arith}
-use Rattle.std.specs.List.{AllPairs}
-use Rattle.std.proofs.lemmas.List.{get_or-map, length-map, same_lists}
-use Rattle.std.proofs.lemmas.List.Elements.{All-map}
-use Rattle.std.proofs.lemmas.Option.{MatchOption-at_none}
-use Rattle.std.proofs.lemmas.Simd.{map-map}
-use Rattle.mm_base.proofs.Pairs.{AllPairs-map}
-use Rattle.mm_base.proofs.Elements.{All-unmapped}
-use Rattle.mm_desk.specs.declared.fault.Fault.{Fault}
+use Rattle.mm_record.proofs.Words.{AllPairs, get_or-map, length-map, same_lists, All-map, MatchOption-at_none, map-map, AllPairs-map, All-unmapped, Fault, Held}
+use Rattle.mm_record.proofs.Words.{IsState, Leaves, blank, AreHeld, HaveOtherIds, Holdings, labels_of, states_of, AreNamed, cause_in, counters_of, AreRows}
+use Rattle.mm_record.proofs.Words.{came, store_at, IsRecorded, WasEnded, Supply, RecordingContext, offers, given_in, AllRecorded, Records, RecorderRun}
+use Rattle.mm_record.proofs.Words.{StoreRefused}
 use Rattle.mm_desk.specs.declared.fault.Fault.TheVariants as fault
-use Rattle.mm_desk.specs.declared.held.Held.{Held}
 use Rattle.mm_desk.specs.Laws.{OffersLeave}
-use Rattle.mm_desk.specs.Machine.{IsState}
-use Rattle.mm_desk.specs.Offers.{Leaves}
-use Rattle.mm_desk.specs.Runs.{blank}
-use Rattle.mm_memory.specs.Holdings.{AreHeld, HaveOtherIds, Holdings}
 use Rattle.mm_memory.proofs.LawLemmas.{AreHeld-same_ids}
 use Rattle.mm_memory.proofs.PlaceLemmas.{is_other}
-use Rattle.mm_shared.specs.Stores.{labels_of, states_of, AreNamed}
 use Rattle.mm_report.specs.declared.cause.Cause.{Cause}
 use Rattle.mm_report.specs.declared.cause.Cause.TheVariants.{NoMemory, LogMismatch}
 use Rattle.mm_record.specs.declared.counters.Counters.{Counters}
 use Rattle.mm_record.specs.declared.memory_step.Recorded.{Recorded}
-use Rattle.mm_record.specs.Causes.{cause_in}
-use Rattle.mm_record.specs.Counters.{counters_of, AreRows}
-use Rattle.mm_record.specs.MemorySteps.{came, store_at, IsRecorded, WasEnded}
-use Rattle.mm_record.specs.Supplies.{Supply}
-use Rattle.mm_record.specs.Recorded.{RecordingContext, offers}
-use Rattle.mm_record.specs.Steps.{given_in, AllRecorded, Records, RecorderRun, StoreRefused}
 use Rattle.mm_record.proofs.Steps.{same_many}
 
 -- stores with identifiers of their own are named

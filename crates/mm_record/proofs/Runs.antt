@@ -1,19 +1,9 @@
 -- Recorders of two groups, one after the other: why some stopped early, and what each did until its source is as it will be later.
 use Rattle.std.proofs.Common.{◌∙◌, ◌≡◌, ◌+◌, List, [], ◌∷◌, ◌++◌, length, get_or, map, All, Option, Some, None, IfSome, refl, ap, arith, length-append}
-use Rattle.std.specs.List.{AllZip}
+use Rattle.mm_record.proofs.Words.{AllZip, get_or-append-add, get_or_append_left, map-append, nil_from_length, All-append, All-cons, All-nil, Fault, NoMemory}
+use Rattle.mm_record.proofs.Words.{SpacePacket, end_of, PortView, asked, RecordingContext, Supply, supplies, EachHasRun, HasOffered, HasRunUntil, HaveRun}
+use Rattle.mm_record.proofs.Words.{is_worse, IsWhy, RecorderRun}
 use Rattle.std.proofs.Math.ListN.{set}
-use Rattle.std.proofs.lemmas.List.{get_or-append-add, get_or_append_left, map-append, nil_from_length}
-use Rattle.std.proofs.lemmas.List.Elements.{All-append, All-cons, All-nil}
-use Rattle.mm_desk.specs.declared.fault.Fault.{Fault}
-use Rattle.mm_desk.specs.declared.fault.Fault.TheVariants.{NoMemory}
-use Rattle.mm_packet.specs.Packet.{SpacePacket}
-use Rattle.mm_shared.specs.Stores.{end_of}
-use Rattle.mm_shared.specs.Views.{PortView}
-use Rattle.mm_record.specs.Offering.{asked}
-use Rattle.mm_record.specs.Recorded.{RecordingContext}
-use Rattle.mm_record.specs.Supplies.{Supply, supplies}
-use Rattle.mm_record.specs.Recorders.{EachHasRun, HasOffered, HasRunUntil, HaveRun, is_worse}
-use Rattle.mm_record.specs.Steps.{IsWhy, RecorderRun}
 
 -- a recorder did not stop early for another reason than out of memory
 abbrev IsLack : Option Fault → Type 0

@@ -1,18 +1,7 @@
 -- A recorder at work: what its source gave so far is recorded.
 use Rattle.std.proofs.Common.{◌≡◌, ◌≢◌, ℕ, ◌<◌, List, [], ◌∷◌, ◌++◌, length, Some, Ok, Err, refl, sym, subst, ap, ◌∙◌, append_assoc, arith}
-use Rattle.mm_packet.specs.Packet.{SpacePacket}
-use Rattle.mm_desk.specs.declared.entry.Entry.{Entry}
-use Rattle.mm_desk.specs.declared.event.Event.{Event}
-use Rattle.mm_desk.specs.declared.fault.Fault.{Fault}
-use Rattle.std.proofs.lemmas.List.Elements.{All-nil}
-use Rattle.mm_desk.specs.Offers.{AreTaken, IsTaken}
-use Rattle.mm_desk.specs.Offers.{asked as asked_in}
-use Rattle.mm_shared.specs.Stores.{list_at, IsFresh}
-use Rattle.mm_shared.specs.Views.{PortView}
-use Rattle.mm_record.specs.Offering.{asked, offers_of, Offers}
-use Rattle.mm_record.specs.Supplies.{Supply, Gave}
-use Rattle.mm_record.specs.Recorded.{RecordingContext, offers}
-use Rattle.mm_record.specs.Recorders.{HasRun}
+use Rattle.mm_record.proofs.Words.{SpacePacket, Entry, Event, Fault, All-nil, AreTaken, IsTaken, asked_in, list_at, IsFresh, PortView, asked, offers_of, Offers}
+use Rattle.mm_record.proofs.Words.{Supply, Gave, RecordingContext, offers, HasRun}
 use Rattle.mm_record.proofs.Offers.{offers_more}
 
 -- what the source gave so far is recorded: to each store exactly the offers of these packets were made, in order, and none was refused

@@ -1,33 +1,13 @@
 -- From what each recorder and each store says, to the step.
 use Rattle.std.proofs.Common.{◌≡◌, ◌⊎◌, inl, inr, ℕ, ◌*◌, ◌<◌, ◌≤◌, List, [], ◌∷◌, ◌++◌, length, get_or, map, filter, All, Option, Some, None, IfNone, IfSome, refl, sym, subst, ap, ◌∙◌, append_assoc, length-append, arith}
-use Rattle.std.proofs.lemmas.List.{append-nil, get_or-map, length-map}
-use Rattle.std.proofs.lemmas.List.Elements.{All-head, All-map, All-tail}
-use Rattle.std.proofs.lemmas.List.Sums.{sum_by-le}
-use Rattle.std.proofs.lemmas.Option.{IfSome_then, MatchOption-at_none}
-use Rattle.std.proofs.lemmas.Simd.{map-map}
-use Rattle.mm_base.proofs.Elements.{All-unmapped}
-use Rattle.mm_base.proofs.Pairs.{All-front}
-use Rattle.mm_packet.specs.Packet.{SpacePacket}
-use Rattle.mm_desk.specs.declared.entry.Entry.{Entry}
-use Rattle.mm_desk.specs.declared.event.Event.{Event}
-use Rattle.mm_desk.specs.declared.event.Event.TheVariants.{Offer}
-use Rattle.mm_desk.specs.declared.fault.Fault.{Fault}
-use Rattle.mm_desk.specs.declared.fault.Fault.TheVariants.{NoMemory}
-use Rattle.mm_desk.specs.declared.held.Held.{Held}
-use Rattle.mm_desk.specs.Machine.{IsState}
-use Rattle.mm_desk.specs.Offers.{AreTaken, IsTaken, IsShuffleOfEvents, count_of}
-use Rattle.mm_desk.specs.Offers.{asked as asked_in}
-use Rattle.mm_desk.specs.Runs.{opening_at, blank}
-use Rattle.mm_desk.specs.Shuffles.{AreBelow, IsShuffle}
+use Rattle.mm_record.specs.Steps.{AreRecorderRuns}
+use Rattle.mm_record.proofs.Words.{append-nil, get_or-map, length-map, All-head, All-map, All-tail, sum_by-le, IfSome_then, MatchOption-at_none, map-map}
+use Rattle.mm_record.proofs.Words.{All-unmapped, All-front, SpacePacket, Entry, Event, Offer, Fault, NoMemory, Held, IsState, AreTaken, IsTaken}
+use Rattle.mm_record.proofs.Words.{IsShuffleOfEvents, count_of, asked_in, opening_at, blank, AreBelow, IsShuffle, list_at, lists_at, states_of, labels_of}
+use Rattle.mm_record.proofs.Words.{names_of, ids_of, id_at, HaveLegalLogs, PortView, asked, IsReason, is_routed, Supply, WhateverComes, RecordingContext}
+use Rattle.mm_record.proofs.Words.{offers, HaveRun, given_in, AllRecorded, AllHaveLegalOffers, HasLegalOffers, IsOpen, IsRecorderRun, IsWhy, RecorderRun}
+use Rattle.mm_record.proofs.Words.{Records, StoreRefused, TakesAll}
 use Rattle.mm_shared.specs.declared.label.StoreLabel.{StoreLabel}
-use Rattle.mm_shared.specs.Stores.{list_at, lists_at, states_of, labels_of, names_of, ids_of, id_at, HaveLegalLogs}
-use Rattle.mm_shared.specs.Views.{PortView}
-use Rattle.mm_record.specs.Offering.{asked, IsReason}
-use Rattle.mm_memory.specs.Recording.{is_routed}
-use Rattle.mm_record.specs.Supplies.{Supply, WhateverComes}
-use Rattle.mm_record.specs.Recorded.{RecordingContext, offers}
-use Rattle.mm_record.specs.Recorders.{HaveRun}
-use Rattle.mm_record.specs.Steps.{given_in, AllRecorded, AllHaveLegalOffers, AreRecorderRuns, HasLegalOffers, IsOpen, IsRecorderRun, IsWhy, RecorderRun, Records, StoreRefused, TakesAll}
 use Rattle.mm_record.proofs.Offers.{offers_more}
 use Rattle.mm_record.proofs.Runs.{IsRunOf, Run, run_of, runs_until}
 use Rattle.mm_record.proofs.Supplying.{length-supplies, zip_long}

@@ -1,32 +1,18 @@
 -- Offers that no store refuses, since storage is on, and clock and count are far from their ends; and offers that a store refused.
 use Rattle.std.proofs.Common.{◌≡◌, ℕ, suc, ◌+◌, ◌<◌, ◌≤◌, ◌==◌, ◌||◌, Bool, true, false, not, cond, max, ltb, List, [], ◌∷◌, length, get_or, filter, All, Result, Ok, Err, refl, sym, subst, arith}
-use Rattle.std.specs.Prelude.{Any}
-use Rattle.std.specs.List.{Contains}
-use Rattle.std.proofs.lemmas.Bool.{both_ways, cond_both, eq-eqb}
-use Rattle.std.proofs.lemmas.Bool.Decides.{nat_tests}
-use Rattle.std.proofs.lemmas.List.Elements.{All-cons, All-contains_itself, All-filter, All-head, All-nil, All-tail}
+use Rattle.mm_record.proofs.Words.{Any, Contains, both_ways, cond_both, eq-eqb, nat_tests, All-cons, All-contains_itself, All-filter, All-head, All-nil}
+use Rattle.mm_record.proofs.Words.{All-tail, All-unmapped, SpacePacket, Entry, Event, Offer, Fault, Returned, State, answer_of, after_put, offer, step}
+use Rattle.mm_record.proofs.Words.{AreTaken, IsTaken, IsShuffleOfEvents, count_of, IsLegal, IsRun, AreBelow, IsShuffle, part, IsRefusedWith}
 use Rattle.std.proofs.lemmas.List.Filters.{length-filter_both}
-use Rattle.mm_base.proofs.Elements.{All-unmapped}
 use Rattle.mm_base.specs.declared.kind.Kind.{Kind}
 use Rattle.mm_base.specs.declared.kind.Kind.TheVariants.{Circular}
-use Rattle.mm_packet.specs.Packet.{SpacePacket}
 use Rattle.mm_store.specs.declared.stored.Stored.{Stored}
 use Rattle.mm_store.specs.declared.put.Put.{Put}
 use Rattle.mm_store.specs.Content.{Store, clock_end, put_full, put_timed}
-use Rattle.mm_desk.specs.declared.entry.Entry.{Entry}
-use Rattle.mm_desk.specs.declared.event.Event.{Event}
-use Rattle.mm_desk.specs.declared.event.Event.TheVariants.{Offer}
 use Rattle.mm_desk.specs.declared.reply.Offered.{Offered}
 use Rattle.mm_desk.specs.declared.reply.Reply.{Reply}
 use Rattle.mm_desk.specs.declared.reply.Reply.TheVariants as reply
-use Rattle.mm_desk.specs.declared.fault.Fault.{Fault}
-use Rattle.mm_desk.specs.declared.reply.Returned.{Returned}
-use Rattle.mm_desk.specs.Machine.{State, answer_of, after_put, offer, step}
-use Rattle.mm_desk.specs.Offers.{AreTaken, IsTaken, IsShuffleOfEvents, count_of}
-use Rattle.mm_desk.specs.Runs.{IsLegal, IsRun}
-use Rattle.mm_desk.specs.Shuffles.{AreBelow, IsShuffle, part}
 use Rattle.mm_desk.proofs.Logs.{count_of_shuffle}
-use Rattle.mm_record.specs.Steps.{IsRefusedWith}
 
 -- an event is an offer at a moment
 abbrev pub IsOfferAt : ℕ → Event → Type 0

@@ -1,8 +1,5 @@
 use Rattle.std.proofs.Common.{rules, arith}
-use Rattle.std.proofs.lemmas.Grind.{common_steps}
-use Rattle.std.proofs.lemmas.List.{map_more}
-use Rattle.std.proofs.lemmas.List.Elements.{All-more}
-use Rattle.mm_desk.specs.Machine.{IsState}
+use Rattle.mm_record.proofs.Words.{common_steps, map_more, All-more, IsState}
 use Rattle.mm_record.proofs.memory_step.all_counters.Goals as goal
 
 pub loop-held-preserved : goal.loop-held-preserved

@@ -1,13 +1,6 @@
 use Rattle.std.proofs.Common.{rules, ◌≡◌, map, ap, ◌∙◌, inr, All, Some}
-use Rattle.mm_desk.specs.Machine.{IsState}
-use Rattle.mm_record.specs.Causes.{cause_in}
-use Rattle.mm_record.specs.Supplies.{WhateverComes}
+use Rattle.mm_record.proofs.Words.{IsState, cause_in, WhateverComes, Holdings, labels_of, counters_of, recording_of, Records}
 use Rattle.mm_record.proofs.Supplying.{comes_weaker}
-use Rattle.mm_memory.specs.Holdings.{Holdings}
-use Rattle.mm_shared.specs.Stores.{labels_of}
-use Rattle.mm_record.specs.Counters.{counters_of}
-use Rattle.mm_record.specs.MemorySteps.{recording_of}
-use Rattle.mm_record.specs.Steps.{Records}
 use Rattle.mm_record.proofs.Memories.{named_of, held_as, not_caused, recorded_of, ended_of}
 use Rattle.mm_record.proofs.memory_step.record_ready.Given as given
 use Rattle.mm_record.proofs.memory_step.record_ready.Goals as goal

@@ -1,7 +1,5 @@
 use Rattle.std.proofs.Common.{rules, ◌≡◌, Err, ap, ◌∷◌, ◌∙◌, arith}
-use Rattle.std.proofs.lemmas.Grind.{common_steps}
-use Rattle.std.proofs.lemmas.List.{nil_from_length}
-use Rattle.mm_record.specs.Offering.{step_of}
+use Rattle.mm_record.proofs.Words.{common_steps, nil_from_length, step_of}
 use Rattle.mm_record.proofs.Adding.{row_after, row_ends}
 use Rattle.mm_record.proofs.offering.+offer_routed.Goals as goal
 

@@ -1,9 +1,6 @@
 use Rattle.std.proofs.Common.{rules, ◌≡◌, ℕ, length, refl, sym, ap, ◌∙◌, arith}
 use Rattle.std.specs.Vec.{with_items}
-use Rattle.std.proofs.lemmas.List.{length-map, with_items_is}
-use Rattle.mm_desk.specs.declared.held.Held.{Held}
-use Rattle.mm_shared.specs.Stores.{all_ends, stores_in}
-use Rattle.mm_shared.specs.Views.{Origin}
+use Rattle.mm_record.proofs.Words.{length-map, with_items_is, Held, all_ends, stores_in, Origin}
 use Rattle.mm_shared.proofs.StillOpen.{still_open}
 use Rattle.mm_record.proofs.Steps.{ids_open, comes_of}
 use Rattle.mm_record.proofs.step.record_open.Goals as goal
