@@ -38,6 +38,7 @@ of_second fs gs fault others two =
       lack = λ same. All-append IsLack fs gs others (two.lack same);
     }
 
+-- no reason is no other reason
 lacks_none : (fs : List (Option Fault)) → All (λ f. f ≡ None) fs → All IsLack fs
 lacks_none fs none i d within = rw (none i d within) tt
 
@@ -88,6 +89,7 @@ module _ {S : Type 0} (leads : S → S → Type 0) (until : S → S → Supply) 
       record { ends = ap (λ x. x ∷ []) end; faults = broken ∷ []; each = (ran, tt); why_is = why_one broken }
   one_run sources workers d now p new broken one same end ran = absurd (omega (arith, one, same))
 
+  -- the runs of one group and of another are those of both
   each_append : (ss ts us vs : List S) (xs zs : List PortView) (fs gs : List (Option Fault)) → EachHasRun leads until e ss ts xs fs
       → EachHasRun leads until e us vs zs gs → EachHasRun leads until e (ss ++ us) (ts ++ vs) (xs ++ zs) (fs ++ gs)
   each_append [] [] us vs [] zs [] gs one two = two

@@ -1,6 +1,6 @@
 -- A recorder at work: what its source gave so far is recorded.
-use Rattle.std.proofs.Common.{◌≡◌, ◌≢◌, ℕ, ◌<◌, List, [], ◌∷◌, ◌++◌, length, Some, Ok, Err, refl, sym, subst, ap, ◌∙◌, append_assoc, arith}
-use Rattle.mm_record.proofs.Words.{SpacePacket, Entry, Event, Fault, All-nil, AreTaken, IsTaken, asked_in, list_at, IsFresh, PortView, asked, offers_of, Offers}
+use Rattle.std.proofs.Common.{◌≡◌, ◌≢◌, ℕ, ◌<◌, List, [], ◌∷◌, ◌++◌, length, Some, Ok, Err, refl, sym, ap, ◌∙◌, append_assoc}
+use Rattle.mm_record.proofs.Words.{SpacePacket, Entry, Event, Fault, All-nil, AreTaken, IsTaken, list_at, IsFresh, PortView, asked, offers_of, Offers}
 use Rattle.mm_record.proofs.Words.{Supply, Gave, RecordingContext, offers, HasRun}
 use Rattle.mm_record.proofs.Offers.{offers_more}
 

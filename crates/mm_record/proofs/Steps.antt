@@ -79,6 +79,7 @@ same_many a b labels =
 module _ (e : RecordingContext) (runs : List Run) (before after : List Held) (did : All (IsRunOf e) runs)
     (went : HaveLegalLogs (map (λ r. r.port) runs) (states_of before) (states_of after))
     (as_many : length e.ids ≡ length before) (labels : labels_of after ≡ labels_of before) where
+  -- the calls of each recorder on the store at an index
   abbrev lists : ℕ → List (List Entry)
   lists k = lists_at k (map (λ r. r.port) runs)
 
