@@ -1,26 +1,17 @@
 -- What the tests before a step tell, where all pass.
-use Rattle.std.proofs.Common.{◌≡◌, ℕ, ◌+◌, ◌<◌, ◌≤◌, ◌^◌, Bool, true, false, not, cond, List, [], ◌∷◌, get_or, All, Option, Some, None, refl, arith}
-use Rattle.std.specs.List.{find, list_any}
-use Rattle.std.proofs.lemmas.Bool.{and_parts, both_ways, false_from_ne_true, ltb-false, not-false, or_parts}
-use Rattle.std.proofs.lemmas.List.Elements.{All-cons, All-nil}
-use Rattle.std.proofs.lemmas.List.Folds.{list_any_at}
-use Rattle.mm_desk.specs.declared.held.Held.{Held}
-use Rattle.mm_memory.specs.Holdings.{Holdings}
+use Rattle.std.proofs.Common.{◌≡◌, ℕ, ◌+◌, ◌<◌, ◌≤◌, ◌^◌, Bool, false, not, List, length, get_or, All, Option, Some, None, refl, arith}
+use Rattle.mm_record.proofs.Words.{find, list_any, position_or_len, and_parts, both_ways, false_from_ne_true, ltb-false, not-false, or_parts}
+use Rattle.mm_record.proofs.Words.{fails_before_first, slice_get_cases, Held, Holdings, cause_before, cause_by, is_clock_late, is_late, is_ready, Supply}
+use Rattle.mm_record.proofs.Words.{recording_of, IsWithinLimits, TakesAll}
+use Rattle.std.proofs.lemmas.List.Folds.{find_at, list_any_at}
 use Rattle.mm_report.specs.declared.cause.Cause.TheVariants.{ClockTooLate}
 use Rattle.mm_report.specs.declared.cause.TheConstants.{LATEST_START}
-use Rattle.mm_record.specs.Causes.{cause_before, cause_by, is_clock_late, is_late, is_ready}
-use Rattle.mm_record.specs.Supplies.{Supply}
-use Rattle.mm_record.specs.MemorySteps.{recording_of}
-use Rattle.mm_record.specs.Steps.{IsWithinLimits, TakesAll}
 
 -- where nothing is found, and where none passes, each fails the test
 none_found : {X : Type 0} (p : X → Bool) (xs : List X) → find p xs ≡ None → All (λ x. p x ≡ false) xs
-none_found p [] none = All-nil (λ x. p x ≡ false)
-none_found p (y ∷ ys) none =
-    elim (p y) as (λ t. p y ≡ t → cond t (Some y) (find p ys) ≡ None → All (λ x. p x ≡ false) (y ∷ ys)) [
-      | true ↦ λ e bad. absurd (cc)
-      | false ↦ λ e rest. All-cons (λ x. p x ≡ false) y ys e (none_found p ys rest)
-    ] refl none
+none_found p xs none i d within =
+    let past : length xs ≤ position_or_len p xs = grind (arith, slice_get_cases xs (position_or_len p xs), find_at p xs) in
+    fails_before_first p xs i d (omega arith)
 
 none_of_any : {X : Type 0} (p : X → Bool) (xs : List X) → list_any p xs ≡ false → All (λ x. p x ≡ false) xs
 none_of_any p xs none i d within = false_from_ne_true (p (get_or xs i d)) (λ passes. both_ways (list_any p xs) none (list_any_at p xs i d within passes))

@@ -1,12 +1,11 @@
+mod Words
 pub mod Lives
 pub mod Supplying
 pub mod Offers
 pub mod Adding
 pub mod SoFar
-pub mod Whys
 pub mod Runs
 pub mod Taking
-pub mod Reasons
 pub mod Steps
 pub mod Before
 pub mod Memories

@@ -1,11 +1,8 @@
 -- Sources of which nobody knows before what they will give.
 use Rattle.std.proofs.Common.{◌≡◌, ◌≢◌, ◌⊎◌, inl, inr, ℕ, ◌≤◌, List, [], ◌++◌, length, drop, Option, Some, None, IfNone, refl, sym, subst, ap, ◌∙◌, append_assoc, arith}
 use Rattle.std.specs.Option.{option_to_list}
-use Rattle.std.proofs.lemmas.Bool.{cases_eq}
-use Rattle.std.proofs.lemmas.List.{drop_at}
-use Rattle.mm_packet.specs.Packet.{SpacePacket}
+use Rattle.mm_record.proofs.Words.{cases_eq, drop_at, SpacePacket, Supply, Gave}
 use Rattle.mm_record.specs.Lives.{rest, Follows}
-use Rattle.mm_record.specs.Supplies.{Supply, Gave}
 
 -- what comes after a moment, where this much more was given
 rest_is : (before after : Supply) (t : ℕ) (more : List SpacePacket) → after t ≡ before t ++ more → rest before after t ≡ more

@@ -1,36 +1,54 @@
--- Recorders of two groups, one after the other, and what each did until its source is as it will be later.
-use Rattle.std.proofs.Common.{◌∙◌, ◌≡◌, ℕ, List, [], ◌∷◌, ◌++◌, length, get_or, map, All, Option, None, refl, sym, subst, ap, arith}
-use Rattle.std.specs.List.{AllZip}
+-- Recorders of two groups, one after the other: why some stopped early, and what each did until its source is as it will be later.
+use Rattle.std.proofs.Common.{◌∙◌, ◌≡◌, ◌+◌, List, [], ◌∷◌, ◌++◌, length, get_or, map, All, Option, Some, None, IfSome, refl, ap, arith, length-append}
+use Rattle.mm_record.proofs.Words.{AllZip, get_or-append-add, get_or_append_left, map-append, nil_from_length, All-append, All-cons, All-nil, Fault, NoMemory}
+use Rattle.mm_record.proofs.Words.{SpacePacket, end_of, PortView, asked, RecordingContext, Supply, supplies, EachHasRun, HasOffered, HasRunUntil, HaveRun}
+use Rattle.mm_record.proofs.Words.{is_worse, IsWhy, RecorderRun}
 use Rattle.std.proofs.Math.ListN.{set}
-use Rattle.std.proofs.lemmas.List.{map-append, nil_from_length}
-use Rattle.std.proofs.lemmas.List.Elements.{All-append, All-cons, All-head, All-nil, All-tail}
-use Rattle.mm_desk.specs.declared.fault.Fault.{Fault}
-use Rattle.mm_packet.specs.Packet.{SpacePacket}
-use Rattle.mm_shared.specs.declared.label.StoreLabel.{StoreLabel}
-use Rattle.mm_shared.specs.Stores.{ids_of, end_of, AreNamed, AreWorkers, IsFresh}
-use Rattle.mm_shared.specs.Views.{Origin, PortView, StoresView}
-use Rattle.mm_record.specs.Offering.{asked}
-use Rattle.mm_record.specs.Recorded.{RecordingContext}
-use Rattle.mm_record.specs.Supplies.{Supply, supplies}
-use Rattle.mm_record.specs.Recorders.{HasOffered, HasRunUntil, HaveRun, MayRecord, Recorder, is_worse}
-use Rattle.mm_record.specs.Steps.{RecorderRun, IsWhy}
-use Rattle.mm_record.proofs.Whys.{why_none, why_one, why_both}
 
--- workers of stores that were opened, one for each source, may record where no two stores have one identifier
-pub may_of : {S : Type 0} (labels : List StoreLabel) (stores : StoresView) (sources : List S) (workers : List PortView) → AreNamed (ids_of labels)
-    → length labels ≡ stores.many → length workers ≡ length sources → (of : Origin) → of.table ≡ stores.id → AreWorkers of 0 workers → All IsFresh workers
-    → MayRecord labels stores sources workers
-may_of labels stores sources workers named as_many same of table are fresh = record {
-  same = same;
-  may = λ i d within. record { named = named; as_many = as_many; of_them = ap (λ (end : Origin × ℕ). end.0.table) (are i d within) ∙ table };
-  fresh = fresh;
-}
+-- a recorder did not stop early for another reason than out of memory
+abbrev IsLack : Option Fault → Type 0
+IsLack broken = IfSome broken (λ fault. fault ≡ NoMemory)
 
--- a list of one element
-pub only : {X : Type 0} (xs : List X) (x : X) → length xs ≡ 1 → get_or xs 0 x ≡ x → xs ≡ x ∷ []
-only [] x one at = absurd (omega (arith, one))
-only (y ∷ []) x one at = ap (λ z. z ∷ []) at
-only (y ∷ z ∷ xs) x one at = absurd (omega (arith, one))
+-- no recorder
+pub why_none : IsWhy [] None
+why_none = record { none = All-nil (λ f. f ≡ None); some = tt; lack = λ is. All-nil IsLack }
+
+-- one recorder
+pub why_one : (broken : Option Fault) → IsWhy (broken ∷ []) broken
+why_one None = record { none = All-cons (λ f. f ≡ None) None [] refl (All-nil (λ f. f ≡ None)); some = tt; lack = λ is. cc }
+why_one (Some fault) = record { none = tt; some = (0, omega arith, refl); lack = λ is. All-cons IsLack (Some fault) [] (cc) (All-nil IsLack) }
+
+-- the reason of the first group is that of both
+of_first : (fs gs : List (Option Fault)) (fault : Fault) → IsWhy fs (Some fault) → (fault ≡ NoMemory → All IsLack gs) → IsWhy (fs ++ gs) (Some fault)
+of_first fs gs fault one others =
+    let (i, within, is) = one.some in
+    record {
+      none = tt;
+      some = (i, omega (arith, length-append fs gs), get_or_append_left fs gs None i within ∙ is);
+      lack = λ same. All-append IsLack fs gs (one.lack same) (others (cc));
+    }
+
+-- so is that of the second, where the first has none that is worse
+of_second : (fs gs : List (Option Fault)) (fault : Fault) → All IsLack fs → IsWhy gs (Some fault) → IsWhy (fs ++ gs) (Some fault)
+of_second fs gs fault others two =
+    let (i, within, is) = two.some in
+    record {
+      none = tt;
+      some = (length fs + i, omega (arith, length-append fs gs), get_or-append-add fs gs i None ∙ is);
+      lack = λ same. All-append IsLack fs gs others (two.lack same);
+    }
+
+-- no reason is no other reason
+lacks_none : (fs : List (Option Fault)) → All (λ f. f ≡ None) fs → All IsLack fs
+lacks_none fs none i d within = rw (none i d within) tt
+
+-- the worse reason of two groups is the reason of both
+pub why_both : (fs gs : List (Option Fault)) (first second : Option Fault) → IsWhy fs first → IsWhy gs second → IsWhy (fs ++ gs) (is_worse first second)
+why_both fs gs None None one two = record { none = All-append (λ f. f ≡ None) fs gs one.none two.none; some = tt; lack = λ is. cc }
+why_both fs gs None (Some fault) one two = of_second fs gs fault (lacks_none fs one.none) two
+why_both fs gs (Some NoMemory) None one two = of_first fs gs NoMemory one (λ same. lacks_none gs two.none)
+why_both fs gs (Some NoMemory) (Some fault) one two = of_second fs gs fault (one.lack refl) two
+why_both fs gs (Some fault) second one two = of_first fs gs fault one (λ same. cc)
 
 -- the run of one recorder, until its source is as it will be later: what the source gives before and after it, what it gave, through which port, and
 -- why the recorder stopped early, where it did
@@ -47,81 +65,66 @@ run_of r = record { gave = r.gave; offered = asked r.port; broken = r.broken }
 abbrev pub IsRunOf : RecordingContext → Run → Type 0
 IsRunOf e r = HasOffered e r.before r.after r.gave r.broken r.port
 
+-- these runs, of sources that gave the first before and give the second now, through these ports, with these faults
+pub record AreRuns (e : RecordingContext) (given left : List Supply) (workers : List PortView) (faults : List (Option Fault)) : Type 0 where
+  pub runs : List Run
+  pub each : All (IsRunOf e) runs
+  pub given_are : given ≡ map (λ r. r.before) runs
+  pub left_are : left ≡ map (λ r. r.after) runs
+  pub workers_are : workers ≡ map (λ r. r.port) runs
+  pub faults_are : faults ≡ map (λ run. run.broken) (map run_of runs)
+
 module _ {S : Type 0} (leads : S → S → Type 0) (until : S → S → Supply) (e : RecordingContext) where
   -- no recorder
   pub none_run : (sources : List S) (workers : List PortView) → length sources ≡ 0 → length workers ≡ length sources
       → HaveRun leads until e sources sources workers workers None
-  none_run sources workers none same = record {
-    recorders = [];
-    before_are = nil_from_length sources none;
-    now_are = nil_from_length sources none;
-    workers_are = nil_from_length workers (same ∙ none);
-    ends = refl;
-    each = All-nil (HasRunUntil leads until e);
-    why_is = why_none;
-  }
+  none_run sources workers none same =
+      rw (nil_from_length sources none, nil_from_length workers (same ∙ none)) (record { ends = refl; faults = []; each = tt; why_is = why_none })
 
   -- the recorder of one source
-  pub one_run : (sources : List S) (workers : List PortView) (r : Recorder S) (port : PortView) → sources ≡ r.before ∷ [] → workers ≡ port ∷ []
-      → end_of r.port ≡ end_of port → HasRunUntil leads until e r
-      → HaveRun leads until e sources (set sources 0 r.now) workers (set workers 0 r.port) r.broken
-  one_run sources workers r port source worker end ran = rw (source, worker) (record {
-    recorders = r ∷ [];
-    before_are = refl;
-    now_are = refl;
-    workers_are = refl;
-    ends = ap (λ x. x ∷ []) end;
-    each = All-cons (HasRunUntil leads until e) r [] ran (All-nil (HasRunUntil leads until e));
-    why_is = why_one r.broken;
-  })
+  pub one_run : (sources : List S) (workers : List PortView) (d now : S) (p new : PortView) (broken : Option Fault)
+      → length sources ≡ 1 → length workers ≡ length sources → end_of new ≡ end_of (get_or workers 0 p)
+      → HasRunUntil leads until e (get_or sources 0 d) now new broken → HaveRun leads until e sources (set sources 0 now) workers (set workers 0 new) broken
+  one_run (s ∷ []) (w ∷ []) d now p new broken one same end ran =
+      record { ends = ap (λ x. x ∷ []) end; faults = broken ∷ []; each = (ran, tt); why_is = why_one broken }
+  one_run sources workers d now p new broken one same end ran = absurd (omega (arith, one, same))
+
+  -- the runs of one group and of another are those of both
+  each_append : (ss ts us vs : List S) (xs zs : List PortView) (fs gs : List (Option Fault)) → EachHasRun leads until e ss ts xs fs
+      → EachHasRun leads until e us vs zs gs → EachHasRun leads until e (ss ++ us) (ts ++ vs) (xs ++ zs) (fs ++ gs)
+  each_append [] [] us vs [] zs [] gs one two = two
+  each_append (s ∷ ss) (t ∷ ts) us vs (x ∷ xs) zs (f ∷ fs) gs one two = (one.0, each_append ss ts us vs xs zs fs gs one.1 two)
+  each_append ss ts us vs xs zs fs gs one two = absurd one
 
   -- two groups
   pub both_run : (ss ts us vs : List S) (ws xs ys zs : List PortView) (first second : Option Fault) → HaveRun leads until e ss ts ws xs first
       → HaveRun leads until e us vs ys zs second → HaveRun leads until e (ss ++ us) (ts ++ vs) (ws ++ ys) (xs ++ zs) (is_worse first second)
   both_run ss ts us vs ws xs ys zs first second one two = record {
-    recorders = one.recorders ++ two.recorders;
-    before_are = let all = map-append (λ (r : Recorder S). r.before) one.recorders two.recorders in cc;
-    now_are = let all = map-append (λ (r : Recorder S). r.now) one.recorders two.recorders in cc;
-    workers_are = let all = map-append (λ (r : Recorder S). r.port) one.recorders two.recorders in cc;
     ends = cc (map-append end_of xs zs, map-append end_of ws ys);
-    each = All-append (HasRunUntil leads until e) one.recorders two.recorders one.each two.each;
-    why_is = subst (λ (fs : List (Option Fault)). IsWhy fs (is_worse first second)) (sym (map-append (λ (r : Recorder S). r.broken) one.recorders two.recorders))
-        (why_both _ _ first second one.why_is two.why_is);
+    faults = one.faults ++ two.faults;
+    each = each_append ss ts us vs xs zs one.faults two.faults one.each two.each;
+    why_is = why_both one.faults two.faults first second one.why_is two.why_is;
   }
 
   -- the runs of recorders, until their sources are as these last ones
-  pub record HaveRuns (recorders : List (Recorder S)) (lasts : List S) : Type 0 where
-    pub lead : AllZip leads (map (λ r. r.before) recorders) lasts
-    pub runs : List Run
-    pub each : All (IsRunOf e) runs
-    pub given_are : supplies until (map (λ r. r.before) recorders) lasts ≡ map (λ r. r.before) runs
-    pub left_are : supplies until (map (λ r. r.now) recorders) lasts ≡ map (λ r. r.after) runs
-    pub workers_are : map (λ r. r.port) recorders ≡ map (λ r. r.port) runs
-    pub faults_are : map (λ r. r.broken) recorders ≡ map (λ run. run.broken) (map run_of runs)
-
-  pub runs_until : (recorders : List (Recorder S)) (lasts : List S) → All (HasRunUntil leads until e) recorders → AllZip leads (map (λ r. r.now) recorders) lasts
-      → HaveRuns recorders lasts
-  runs_until [] [] each lead = record {
-    lead = tt;
-    runs = [];
-    each = All-nil (IsRunOf e);
-    given_are = refl;
-    left_are = refl;
-    workers_are = refl;
-    faults_are = refl;
-  }
-  runs_until [] (last ∷ lasts) each lead = absurd lead
-  runs_until (r ∷ rs) [] each lead = absurd lead
-  runs_until (r ∷ rs) (last ∷ lasts) each lead =
-      let one = All-head (HasRunUntil leads until e) r rs each last lead.0 in
-      let others = runs_until rs lasts (All-tail (HasRunUntil leads until e) r rs each) lead.1 in
-      let run : Run = record { before = until r.before last; after = until r.now last; gave = one.1.0; port = r.port; broken = r.broken } in
-      record {
-        lead = (one.0, others.lead);
-        runs = run ∷ others.runs;
-        each = All-cons (IsRunOf e) run others.runs one.1.1 others.each;
-        given_are = ap (λ ss. run.before ∷ ss) others.given_are;
-        left_are = ap (λ ss. run.after ∷ ss) others.left_are;
-        workers_are = ap (λ ws. r.port ∷ ws) others.workers_are;
-        faults_are = ap (λ fs. r.broken ∷ fs) others.faults_are;
-      }
+  pub runs_until : (ss ts lasts : List S) (workers : List PortView) (faults : List (Option Fault)) → EachHasRun leads until e ss ts workers faults
+      → AllZip leads ts lasts → AllZip leads ss lasts × AreRuns e (supplies until ss lasts) (supplies until ts lasts) workers faults
+  runs_until [] [] [] [] [] each lead =
+      (tt, record { runs = []; each = All-nil (IsRunOf e); given_are = refl; left_are = refl; workers_are = refl; faults_are = refl })
+  runs_until (s ∷ ss) (t ∷ ts) (last ∷ lasts) (w ∷ ws) (f ∷ fs) each lead =
+      let one = each.0 last lead.0 in
+      let others = runs_until ss ts lasts ws fs each.1 lead.1 in
+      let run : Run = record { before = until s last; after = until t last; gave = one.1.0; port = w; broken = f } in (
+        (one.0, others.0),
+        record {
+          runs = run ∷ others.1.runs;
+          each = All-cons (IsRunOf e) run others.1.runs one.1.1 others.1.each;
+          given_are = ap (λ ss. run.before ∷ ss) others.1.given_are;
+          left_are = ap (λ ss. run.after ∷ ss) others.1.left_are;
+          workers_are = ap (λ ws. w ∷ ws) others.1.workers_are;
+          faults_are = ap (λ fs. f ∷ fs) others.1.faults_are;
+        },
+      )
+  runs_until [] [] (last ∷ lasts) [] [] each lead = absurd lead
+  runs_until (s ∷ ss) (t ∷ ts) [] (w ∷ ws) (f ∷ fs) each lead = absurd lead
+  runs_until ss ts lasts ws fs each lead = absurd each

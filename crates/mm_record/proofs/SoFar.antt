@@ -1,19 +1,7 @@
 -- A recorder at work: what its source gave so far is recorded.
-use Rattle.std.proofs.Common.{◌≡◌, ◌≢◌, ℕ, ◌<◌, List, [], ◌∷◌, ◌++◌, length, Option, Some, Ok, Err, refl, sym, subst, ap, ◌∙◌, append_assoc, arith}
-use Rattle.std.specs.Option.{option_to_list}
-use Rattle.mm_packet.specs.Packet.{SpacePacket}
-use Rattle.mm_desk.specs.declared.entry.Entry.{Entry}
-use Rattle.mm_desk.specs.declared.event.Event.{Event}
-use Rattle.mm_desk.specs.declared.fault.Fault.{Fault}
-use Rattle.mm_desk.specs.Offers.{AreTaken}
-use Rattle.mm_desk.specs.Offers.{asked as asked_in}
-use Rattle.mm_shared.specs.Rule.{calls_on}
-use Rattle.mm_shared.specs.Stores.{list_at, IsFresh}
-use Rattle.mm_shared.specs.Views.{PortView}
-use Rattle.mm_record.specs.Offering.{asked, offers_of, Offers}
-use Rattle.mm_record.specs.Supplies.{Supply, Gave}
-use Rattle.mm_record.specs.Recorded.{RecordingContext, offers}
-use Rattle.mm_record.specs.Recorders.{HasRun}
+use Rattle.std.proofs.Common.{◌≡◌, ◌≢◌, ℕ, ◌<◌, List, [], ◌∷◌, ◌++◌, length, Some, Ok, Err, refl, sym, ap, ◌∙◌, append_assoc}
+use Rattle.mm_record.proofs.Words.{SpacePacket, Entry, Event, Fault, All-nil, AreTaken, IsTaken, list_at, IsFresh, PortView, asked, offers_of, Offers}
+use Rattle.mm_record.proofs.Words.{Supply, Gave, RecordingContext, offers, HasRun}
 use Rattle.mm_record.proofs.Offers.{offers_more}
 
 -- what the source gave so far is recorded: to each store exactly the offers of these packets were made, in order, and none was refused
@@ -30,50 +18,40 @@ so_far_start e before port fresh = record {
   gave = [];
   order = refl;
   others = λ t other. refl;
-  asked_are = λ k within. ap (λ (calls : List (ℕ × Entry)). asked_in (calls_on k calls)) fresh;
-  taken = λ k within. subst (λ (calls : List (ℕ × Entry)). AreTaken (calls_on k calls)) (sym fresh) (λ i d inside. absurd (omega arith));
+  asked_are = λ k within. rw fresh refl;
+  taken = λ k within. rw fresh (All-nil (λ (x : Entry). IsTaken x.event x.reply));
 }
 
-module _ (e : RecordingContext) (before mid after : Supply) (port : PortView) (so_far : RecordedSoFar e before mid port) where
-  -- what was given so far is what was given before, and what is given now
-  order_now : (given : Option SpacePacket) → Gave e.step given mid after → before e.step ≡ so_far.gave ++ (option_to_list given ++ after e.step)
-  order_now given gives = so_far.order ∙ ap (λ (x : List SpacePacket). so_far.gave ++ x) gives.packet
+-- the source gives a packet more
+module _ {e : RecordingContext} {before mid after : Supply} {port : PortView} (so_far : RecordedSoFar e before mid port) (p : SpacePacket)
+    (gives : Gave e.step (Some p) mid after) where
+  order_more : before e.step ≡ (so_far.gave ++ p ∷ []) ++ after e.step
+  order_more = so_far.order ∙ ap (λ (x : List SpacePacket). so_far.gave ++ x) gives.packet ∙ sym (append_assoc so_far.gave (p ∷ []) (after e.step))
 
-  others_now : (given : Option SpacePacket) → Gave e.step given mid after → (t : ℕ) → t ≢ e.step → after t ≡ before t
-  others_now given gives t other = gives.others t other ∙ so_far.others t other
+  -- which is offered
+  pub so_far_more : {T : Type 0} {new : PortView} (x : T) → Offers e (offers_of e p) port new (Ok x) → RecordedSoFar e before after new
+  so_far_more x adds = record {
+    gave = so_far.gave ++ p ∷ [];
+    order = order_more;
+    others = λ t other. gives.others t other ∙ so_far.others t other;
+    asked_are = λ k within.
+        (adds.lists k within).all ∙ ap (λ (x : List Event). x ++ offers_of e p k) (so_far.asked_are k within) ∙ sym (offers_more e k so_far.gave (p ∷ []));
+    taken = λ k within. (adds.lists k within).taken (so_far.taken k within);
+  }
 
-  module _ (p : SpacePacket) (gives : Gave e.step (Some p) mid after) (new : PortView) where
-    order_more : before e.step ≡ (so_far.gave ++ p ∷ []) ++ after e.step
-    order_more = order_now (Some p) gives ∙ sym (append_assoc so_far.gave (p ∷ []) (after e.step))
-
-    -- a packet more
-    pub so_far_more : {T : Type 0} (x : T) → Offers e (offers_of e p) port new (Ok x) → RecordedSoFar e before after new
-    so_far_more x adds = record {
-      gave = so_far.gave ++ p ∷ [];
-      order = order_more;
-      others = others_now (Some p) gives;
-      asked_are = λ k within.
-          (adds.lists k within).all ∙ ap (λ (x : List Event). x ++ offers_of e p k) (so_far.asked_are k within) ∙ sym (offers_more e k so_far.gave (p ∷ []));
-      taken = λ k within. (adds.lists k within).taken (so_far.taken k within);
-    }
-
-    -- an offer failed
-    pub ran_partly : {T : Type 0} (fault : Fault) → Offers {T = T} e (offers_of e p) port new (Err fault) → HasRun e before after (Some fault) new
-    ran_partly fault adds = (
-      so_far.gave ++ p ∷ [],
-      record {
-        is = record {
-          order = order_more;
-          others = others_now (Some p) gives;
-          whole = tt;
-          partly = record {
-            before = so_far.gave;
-            last = p;
-            are = refl;
-            began = λ k within. rw (← so_far.asked_are k within) (adds.lists k within);
-          };
-        };
-        taken = tt;
-        reason = adds.reason;
-      },
-    )
+  -- an offer of which fails
+  pub ran_partly : {T : Type 0} {new : PortView} (fault : Fault) → Offers {T = T} e (offers_of e p) port new (Err fault)
+      → HasRun e before after (Some fault) new
+  ran_partly fault adds = (
+    so_far.gave ++ p ∷ [],
+    record {
+      is = record {
+        order = order_more;
+        others = λ t other. gives.others t other ∙ so_far.others t other;
+        whole = tt;
+        partly = record { before = so_far.gave; last = p; are = refl; began = λ k within. rw (← so_far.asked_are k within) (adds.lists k within) };
+      };
+      taken = tt;
+      reason = adds.reason;
+    },
+  )

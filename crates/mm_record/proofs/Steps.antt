@@ -1,50 +1,28 @@
 -- From what each recorder and each store says, to the step.
-use Rattle.std.proofs.Common.{◌≡◌, ◌≢◌, ◌⊎◌, inl, inr, ℕ, ◌*◌, ◌<◌, ◌≤◌, List, [], ◌∷◌, ◌++◌, length, get_or, map, filter, All, Option, Some, None, IfNone, IfSome, refl, sym, subst, ap, ◌∙◌, append_assoc, length-append, arith}
-use Rattle.std.specs.List.{AllZip}
-use Rattle.std.proofs.lemmas.List.{append-nil, get_or-map, length-map}
-use Rattle.std.proofs.lemmas.List.Elements.{All-head, All-map, All-tail}
-use Rattle.std.proofs.lemmas.List.Sums.{sum_by-le}
-use Rattle.std.proofs.lemmas.Option.{IfSome_then, MatchOption-at_none, MatchOption-at_some}
-use Rattle.atomic_table.specs.Seated.{TableId}
-use Rattle.mm_base.proofs.Elements.{All-unmapped}
-use Rattle.mm_base.proofs.Pairs.{All-front}
-use Rattle.mm_base.specs.declared.rows.RouteRow.{RouteRow}
-use Rattle.mm_packet.specs.Packet.{SpacePacket}
-use Rattle.mm_desk.specs.declared.entry.Entry.{Entry}
-use Rattle.mm_desk.specs.declared.event.Event.{Event}
-use Rattle.mm_desk.specs.declared.event.Event.TheVariants.{Offer}
-use Rattle.mm_desk.specs.declared.fault.Fault.{Fault}
-use Rattle.mm_desk.specs.declared.fault.Fault.TheVariants.{NoMemory}
-use Rattle.mm_desk.specs.declared.held.Held.{Held}
-use Rattle.mm_desk.specs.Machine.{State, IsState}
-use Rattle.mm_desk.specs.Offers.{AreTaken, IsTaken, IsShuffleOfEvents, count_of}
-use Rattle.mm_desk.specs.Offers.{asked as asked_in}
-use Rattle.mm_desk.specs.Runs.{opening_at, blank}
-use Rattle.mm_desk.specs.Shuffles.{AreBelow, IsShuffle}
+use Rattle.std.proofs.Common.{◌≡◌, ◌⊎◌, inl, inr, ℕ, ◌*◌, ◌<◌, ◌≤◌, List, [], ◌∷◌, ◌++◌, length, get_or, map, filter, All, Option, Some, None, IfNone, IfSome, refl, sym, subst, ap, ◌∙◌, append_assoc, length-append, arith}
+use Rattle.mm_record.specs.Steps.{AreRecorderRuns}
+use Rattle.mm_record.proofs.Words.{append-nil, get_or-map, length-map, All-head, All-map, All-tail, sum_by-le, IfSome_then, MatchOption-at_none, map-map}
+use Rattle.mm_record.proofs.Words.{All-unmapped, All-front, SpacePacket, Entry, Event, Offer, Fault, NoMemory, Held, IsState, AreTaken, IsTaken}
+use Rattle.mm_record.proofs.Words.{IsShuffleOfEvents, count_of, asked_in, opening_at, blank, AreBelow, IsShuffle, list_at, lists_at, states_of, labels_of}
+use Rattle.mm_record.proofs.Words.{names_of, ids_of, id_at, HaveLegalLogs, PortView, asked, IsReason, is_routed, Supply, WhateverComes, RecordingContext}
+use Rattle.mm_record.proofs.Words.{offers, HaveRun, given_in, AllRecorded, AllHaveLegalOffers, HasLegalOffers, IsOpen, IsRecorderRun, IsWhy, RecorderRun}
+use Rattle.mm_record.proofs.Words.{Records, StoreRefused, TakesAll}
 use Rattle.mm_shared.specs.declared.label.StoreLabel.{StoreLabel}
-use Rattle.mm_shared.specs.Stores.{list_at, lists_at, states_of, labels_of, names_of, ids_of, id_at, HaveLegalLogs}
-use Rattle.mm_shared.specs.Views.{PortView, origin}
-use Rattle.mm_record.specs.Offering.{asked, IsReason}
-use Rattle.mm_record.proofs.Reasons.{not_taken, refusal_in_log}
-use Rattle.mm_memory.specs.Recording.{is_routed}
-use Rattle.mm_record.specs.Supplies.{Supply, WhateverComes}
-use Rattle.mm_record.specs.Recorded.{RecordingContext, recording, open_recording, offers}
-use Rattle.mm_record.specs.Recorders.{HaveRun, Recorder}
-use Rattle.mm_record.specs.Steps.{given_in, latest, AllRecorded, AllHaveLegalOffers, AreFew, AreRecorderRuns, IsOpen, IsWhy, RecorderRun, Records, StoppedEarly, StoreRefused}
 use Rattle.mm_record.proofs.Offers.{offers_more}
 use Rattle.mm_record.proofs.Runs.{IsRunOf, Run, run_of, runs_until}
-use Rattle.mm_record.proofs.Taking.{HasTime, IsOfferAt, filter_fewer, lists_taken, parts_all, shuffle_is_taken}
+use Rattle.mm_record.proofs.Supplying.{length-supplies, zip_long}
+use Rattle.mm_record.proofs.Taking.{IsOfferAt, filter_fewer, not_taken, parts_all, refusal_in_log, shuffle_is_taken}
 
--- no table
-no_table : TableId
-no_table = record { words = 0; slots = 0; views_name = 0; atom = 0; block = 0; offset = 0; slot_names = [] }
-
--- a port of no stores, which is read where a list of ports has none
-no_port : PortView
-no_port = record { of = origin no_table []; number = 0; list = [] }
+-- a list is mapped alike by two functions that agree on each element
+map_agree : {X Y : Type 0} (f g : X → Y) (xs : List X) → All (λ x. f x ≡ g x) xs → map f xs ≡ map g xs
+map_agree f g [] all = refl
+map_agree f g (x ∷ xs) all =
+    let here = All-head (λ x. f x ≡ g x) x xs all in
+    let rest = map_agree f g xs (All-tail (λ x. f x ≡ g x) x xs all) in
+    λ i. here i ∷ rest i
 
 -- a log that is a shuffle of lists is one of what is asked in them
-pub asked_shuffled : (lists : List (List Entry)) (log : List Entry) → IsShuffle lists log → IsShuffleOfEvents (map asked_in lists) log
+asked_shuffled : (lists : List (List Entry)) (log : List Entry) → IsShuffle lists log → IsShuffleOfEvents (map asked_in lists) log
 asked_shuffled lists log shuffle = record {
   below = subst (λ n. AreBelow n log) (sym (length-map lists asked_in)) shuffle.below;
   parts = λ seat within.
@@ -52,65 +30,35 @@ asked_shuffled lists log shuffle = record {
       ap asked_in (shuffle.parts seat here) ∙ sym (get_or-map asked_in lists seat [] [] here);
 }
 
--- a log that is a shuffle of lists is taken where they are
-shuffle_taken : (lists : List (List Entry)) (log : List Entry) → IsShuffle lists log → All AreTaken lists → AreTaken log
-shuffle_taken lists log shuffle taken =
-    parts_all (λ e. IsTaken e.event e.reply) (length lists) log shuffle.below
-    (λ seat within. subst AreTaken (sym (shuffle.parts seat within)) (taken seat [] within))
-
--- what was asked of a store is offers at the step's moment, and no more of them than the source gave packets
+-- offers at the step's moment, and no more of them than a source gives packets
 record AreOffers (e : RecordingContext) (asks : List Event) : Type 0 where
   offers_are : All (IsOfferAt e.now) asks
   few : length asks ≤ 65535
 
-offers_all : (e : RecordingContext) (k : ℕ) (ps : List SpacePacket) → All (IsOfferAt e.now) (offers e k ps)
-offers_all e k ps = All-map (IsOfferAt e.now) (λ (p : SpacePacket). Offer e.now p) (filter (is_routed e.routes (id_at e.ids k)) ps) (λ i d within. refl)
+-- the first of the offers of the packets that a source gave, of few
+first_offers : (e : RecordingContext) (k : ℕ) (given gave left : List SpacePacket) (asks rest : List Event) → given ≡ gave ++ left → length given ≤ 65535
+    → offers e k gave ≡ asks ++ rest → AreOffers e asks
+first_offers e k given gave left asks rest order few are =
+    let kept = filter (is_routed e.routes (id_at e.ids k)) gave in
+    let fewer = filter_fewer (is_routed e.routes (id_at e.ids k)) gave in
+    let mapped = length-map kept (λ (p : SpacePacket). Offer e.now p) in
+    record {
+      offers_are = All-front (IsOfferAt e.now) asks rest
+          (subst (All (IsOfferAt e.now)) are (All-map (IsOfferAt e.now) (λ (p : SpacePacket). Offer e.now p) kept (λ i d within. (get_or kept i d, refl))));
+      few = omega (arith, fewer, mapped, ap length order, ap length are, length-append gave left, length-append asks rest);
+    }
 
-offers_fewer : (e : RecordingContext) (k : ℕ) (ps : List SpacePacket) → length (offers e k ps) ≤ length ps
-offers_fewer e k ps =
-    let routed = is_routed e.routes (id_at e.ids k) in
-    omega (arith, length-map (filter routed ps) (λ (p : SpacePacket). Offer e.now p), filter_fewer routed ps)
-
--- what a recorder did
-module _ (e : RecordingContext) (r : Run) (did : IsRunOf e r) where
-  -- where it did not stop early nothing is left, and all offers of what its source gave were made
-  none_left_of : r.broken ≡ None → r.after e.step ≡ []
-  none_left_of none = (MatchOption-at_none _ _ none did.is.whole).0
-
-  whole_asked : r.broken ≡ None → (k : ℕ) → k < length e.ids → asked r.port k ≡ offers e k (r.before e.step)
-  whole_asked none k within =
-      (MatchOption-at_none _ _ none did.is.whole).1 k within
-      ∙ ap (offers e k) (sym (did.is.order ∙ ap (λ (x : List SpacePacket). r.gave ++ x) (none_left_of none) ∙ append-nil r.gave))
-
-  -- what it offered to a store is the first part of the offers of what its source gave
-  first_of : (k : ℕ) → k < length e.ids → (rest : List Event) × (offers e k r.gave ≡ asked r.port k ++ rest)
-  first_of k within = by_end r.broken did.is.whole did.is.partly
-    where
-      by_end : (broken : Option Fault) → IfNone broken ((r.after e.step ≡ []) × ((k : ℕ) → k < length e.ids → asked r.port k ≡ offers e k r.gave))
-          → IfSome broken (λ fault. StoppedEarly e r.gave (asked r.port)) → (rest : List Event) × (offers e k r.gave ≡ asked r.port k ++ rest)
-      by_end None whole partly = ([], sym (whole.1 k within) ∙ sym (append-nil (asked r.port k)))
-      by_end (Some fault) whole partly =
-          let began = partly.began k within in (
-            began.rest,
-            ap (offers e k) partly.are ∙ offers_more e k partly.before (partly.last ∷ []) ∙ ap (λ (es : List Event). offers e k partly.before ++ es) began.are
-                ∙ sym (append_assoc (offers e k partly.before) began.did began.rest) ∙ ap (λ (es : List Event). es ++ began.rest) (sym began.asks_are),
-          )
-
-  are_offers : (k : ℕ) → k < length e.ids → length (r.before e.step) ≤ 65535 → AreOffers e (asked r.port k)
-  are_offers k within few =
-      let first = first_of k within in
-      record {
-        offers_are = All-front (IsOfferAt e.now) (asked r.port k) first.0 (subst (All (IsOfferAt e.now)) first.1 (offers_all e k r.gave));
-        few = omega (arith, offers_fewer e k r.gave, ap length first.1, length-append (asked r.port k) first.0, ap length did.is.order, length-append r.gave (r.after e.step), few);
-      }
-
-  -- why it stopped early is out of memory, where no offer of its was refused
-  reason_of : ((k : ℕ) → k < length e.ids → AreTaken (list_at r.port k)) → IfSome r.broken (λ fault. fault ≡ NoMemory)
-  reason_of taken = IfSome_then r.broken did.reason by_reason
-    where
-      by_reason : (fault : Fault) → IsReason (length e.ids) r.port fault → fault ≡ NoMemory
-      by_reason fault (inl lack) = lack
-      by_reason fault (inr refusal) = absurd (not_taken (list_at r.port refusal.index) fault refusal.refused (taken refusal.index refusal.within))
+-- what a recorder offered to a store is the first of the offers of what its source gave
+few_offers : (e : RecordingContext) (before after : Supply) (gave : List SpacePacket) (offered : ℕ → List Event) (broken : Option Fault)
+    → IsRecorderRun e before after (record { gave = gave; offered = offered; broken = broken }) → length (before e.step) ≤ 65535 → (k : ℕ) → k < length e.ids
+    → AreOffers e (offered k)
+few_offers e before after gave offered None run few k within =
+    first_offers e k (before e.step) gave (after e.step) (offered k) [] run.order few (sym (run.whole.1 k within) ∙ sym (append-nil (offered k)))
+few_offers e before after gave offered (Some fault) run few k within =
+    let began = run.partly.began k within in
+    let all = offers_more e k run.partly.before (run.partly.last ∷ []) in
+    first_offers e k (before e.step) gave (after e.step) (offered k) began.rest run.order few
+    (ap (offers e k) run.partly.are ∙ cc (all, began.are, began.asks_are, append_assoc (offers e k run.partly.before) began.did began.rest))
 
 -- what recorders did, without their ports
 are_runs : (e : RecordingContext) (runs : List Run) → All (IsRunOf e) runs → AreRecorderRuns e (map (λ r. r.before) runs) (map (λ r. r.after) runs) (map run_of runs)
@@ -118,170 +66,133 @@ unfolding AreRecorderRuns
 are_runs e [] did = tt
 are_runs e (r ∷ runs) did = ((All-head (IsRunOf e) r runs did).is, are_runs e runs (All-tail (IsRunOf e) r runs did))
 
--- what recorders offered is what was asked through their ports
-runs_offered : (k : ℕ) (runs : List Run) → map (λ run. run.offered k) (map run_of runs) ≡ map asked_in (lists_at k (map (λ r. r.port) runs))
-runs_offered k [] = refl
-runs_offered k (r ∷ runs) = ap (λ (es : List (List Event)). asked r.port k ∷ es) (runs_offered k runs)
-
--- in another step the sources give what they gave
-others_same : (e : RecordingContext) (runs : List Run) → All (IsRunOf e) runs → (t : ℕ) → t ≢ e.step → given_in t (map (λ r. r.after) runs) ≡ given_in t (map (λ r. r.before) runs)
-others_same e [] did t other = refl
-others_same e (r ∷ runs) did t other =
-    let one = (All-head (IsRunOf e) r runs did).is.others t other in
-    let rest = others_same e runs (All-tail (IsRunOf e) r runs did) t other in
-    λ i. one i ∷ rest i
-
--- where no recorder stopped early, the offers of what the sources gave were made
-all_asked : (e : RecordingContext) (k : ℕ) (runs : List Run) → k < length e.ids → All (IsRunOf e) runs → All (λ r. r.broken ≡ None) runs
-    → map asked_in (lists_at k (map (λ r. r.port) runs)) ≡ map (offers e k) (given_in e.step (map (λ r. r.before) runs))
-all_asked e k [] within did whole = refl
-all_asked e k (r ∷ runs) within did whole =
-    let one = whole_asked e r (All-head (IsRunOf e) r runs did) (All-head (λ r. r.broken ≡ None) r runs whole) k within in
-    let rest = all_asked e k runs within (All-tail (IsRunOf e) r runs did) (All-tail (λ r. r.broken ≡ None) r runs whole) in
-    λ i. one i ∷ rest i
-
--- the fault of one of the recorders is out of memory where that of each is
-why_lacks : (faults : List (Option Fault)) (why : Option Fault) → IsWhy faults why → All (λ f. IfSome f (λ fault. fault ≡ NoMemory)) faults
-    → IfSome why (λ fault. fault ≡ NoMemory)
-why_lacks faults why is all =
-    IfSome_then why is.some (λ fault one. subst (λ f. IfSome f (λ g. g ≡ NoMemory)) one.2 (all one.0 None one.1))
-
--- what is the first of pairs in two lists
-pub same_firsts : {X Y : Type 0} (f : X → List ℕ) (g : X → ℕ) (h : Y → List ℕ) (i : Y → ℕ) (xs : List X) (ys : List Y)
-    → map {B = List ℕ × ℕ} (λ x. (f x, g x)) xs ≡ map (λ y. (h y, i y)) ys → map f xs ≡ map h ys
-same_firsts f g h i xs ys same = firsts f g xs ∙ ap (map (λ (l : List ℕ × ℕ). l.0)) same ∙ sym (firsts h i ys)
-  where
-    firsts : {X : Type 0} (f : X → List ℕ) (g : X → ℕ) (xs : List X) → map f xs ≡ map (λ (l : List ℕ × ℕ). l.0) (map {B = List ℕ × ℕ} (λ x. (f x, g x)) xs)
-    firsts f g [] = refl
-    firsts f g (x ∷ xs) = ap (λ ids. f x ∷ ids) (firsts f g xs)
-
 -- the identifiers of stores that are open
 pub ids_open : (labels : List StoreLabel) (before : List Held) → names_of labels ≡ labels_of before → ids_of labels ≡ map (λ h. h.id) before
-ids_open labels before same = same_firsts (λ (s : StoreLabel). s.id) (λ (s : StoreLabel). s.channel) (λ (h : Held). h.id) (λ (h : Held). h.channel) labels before same
+ids_open labels before same = simp map-map at (ap (map (λ (name : List ℕ × ℕ). name.0)) same)
 
 -- as many stores as labels
 pub same_many : (a b : List Held) → labels_of a ≡ labels_of b → length a ≡ length b
 same_many a b labels =
     sym (length-map a (λ (h : Held). (h.id, h.channel))) ∙ ap length labels ∙ length-map b (λ (h : Held). (h.id, h.channel))
 
--- what recorders and stores did in a step
-module _ (e : RecordingContext) (runs : List Run) (before after : List State) (did : All (IsRunOf e) runs)
-    (went : HaveLegalLogs (map (λ r. r.port) runs) before after) (many : length after ≡ length e.ids) where
-  abbrev workers : List PortView
-  workers = map (λ r. r.port) runs
+-- what a step of recorders leaves of stores that were opened
+module _ (e : RecordingContext) (runs : List Run) (before after : List Held) (did : All (IsRunOf e) runs)
+    (went : HaveLegalLogs (map (λ r. r.port) runs) (states_of before) (states_of after))
+    (as_many : length e.ids ≡ length before) (labels : labels_of after ≡ labels_of before) where
+  -- the calls of each recorder on the store at an index
+  abbrev lists : ℕ → List (List Entry)
+  lists k = lists_at k (map (λ r. r.port) runs)
 
-  abbrev sources : List Supply
-  sources = map (λ r. r.before) runs
+  many : length (states_of after) ≡ length e.ids
+  many = length-map after (λ (h : Held). h.state) ∙ same_many after before labels ∙ sym as_many
+
+  -- the log of a store is a shuffle of what the recorders asked of it
+  shuffled : (k : ℕ) (within : k < length (states_of after)) → IsShuffleOfEvents (map (λ r. asked r.port k) runs) (went k within).log
+  shuffled k within =
+      rw (map-map asked_in (λ (w : PortView). list_at w k) (map (λ (r : Run). r.port) runs), map-map (λ (w : PortView). asked w k) (λ (r : Run). r.port) runs)
+      at (asked_shuffled (lists k) (went k within).log (went k within).shuffle)
 
   -- each store went by what the recorders offered
-  went_offers : AllHaveLegalOffers (map run_of runs) before after
-  went_offers k within =
-      let store = went k within in
-      record {
-        log = store.log;
-        run = store.run;
-        shuffle = subst (λ (xs : List (List Event)). IsShuffleOfEvents xs store.log) (sym (runs_offered k runs)) (asked_shuffled (lists_at k workers) store.log store.shuffle);
-      }
+  abbrev went_offers : AllHaveLegalOffers (map run_of runs) (states_of before) (states_of after)
+  went_offers k within = record {
+    log = (went k within).log;
+    run = (went k within).run;
+    shuffle = rw (map-map (λ (run : RecorderRun). run.offered k) run_of runs) (shuffled k within);
+  }
 
-  -- each store has recorded what the sources gave
-  all_recorded : All (λ r. r.broken ≡ None) runs → AllRecorded e (given_in e.step sources) before after
+  -- each store has recorded what the sources gave, where no recorder stopped early
+  all_recorded : All (λ r. r.broken ≡ None) runs → AllRecorded e (given_in e.step (map (λ r. r.before) runs)) (states_of before) (states_of after)
   all_recorded whole k within =
       let inside : k < length e.ids = omega (arith, many) in
-      let store = went k within in
+      let all_asked = map_agree (λ (r : Run). asked r.port k) (λ (r : Run). offers e k (r.before e.step)) runs (λ i d here.
+      let r = get_or runs i d in
+      let done = MatchOption-at_none _ _ (whole i d here) (did i d here).is.whole in
+      done.1 k inside ∙ ap (offers e k) (sym ((did i d here).is.order ∙ ap (λ (x : List SpacePacket). r.gave ++ x) done.0 ∙ append-nil r.gave))) in
+      let lists_taken : All AreTaken (lists k) = simp map-map (All-map AreTaken (λ (r : Run). list_at r.port k) runs
+      (λ i d here. MatchOption-at_none _ _ (whole i d here) (did i d here).taken k inside)) in
       record {
-        log = store.log;
-        run = store.run;
-        shuffle = subst (λ (xs : List (List Event)). IsShuffleOfEvents xs store.log) (all_asked e k runs inside did whole) (asked_shuffled (lists_at k workers) store.log store.shuffle);
-        taken = shuffle_taken (lists_at k workers) store.log store.shuffle (All-map AreTaken (λ (w : PortView). list_at w k) workers
-            (All-map (λ w. AreTaken (list_at w k)) (λ (r : Run). r.port) runs (λ i d here. MatchOption-at_none _ _ (whole i d here) (did i d here).taken k inside)));
+        log = (went k within).log;
+        run = (went k within).run;
+        shuffle = simp map-map (subst (λ (xs : List (List Event)). IsShuffleOfEvents xs (went k within).log) all_asked (shuffled k within));
+        taken = parts_all (λ e. IsTaken e.event e.reply) (length (lists k)) (went k within).log (went k within).shuffle.below
+            (λ seat here. subst AreTaken (sym ((went k within).shuffle.parts seat here)) (lists_taken seat [] here));
       }
 
   -- why a recorder stopped early: out of memory, or what a store answered to an offer
-  reason_at : (fault : Fault) (i : ℕ) → i < length (map run_of runs) → get_or (map (λ run. run.broken) (map run_of runs)) i None ≡ Some fault
-      → (fault ≡ NoMemory) ⊎ StoreRefused (map run_of runs) before after fault
-  unfolding went_offers
-  reason_at fault i within is = by_reason (MatchOption-at_some _ _ fault broken (did i nobody here).reason)
+  abbrev IsCause : Fault → Type 0
+  IsCause fault = (fault ≡ NoMemory) ⊎ StoreRefused (map run_of runs) (states_of before) (states_of after) fault
+
+  reason_at : All (λ r. IfSome r.broken IsCause) runs
+  reason_at i d here = IfSome_then (get_or runs i d).broken (did i d here).reason by_reason
     where
-      nobody : Run
-      nobody = record { before = λ t. []; after = λ t. []; gave = []; port = no_port; broken = None }
-
-      here : i < length runs
-      here = omega (arith, within, length-map runs run_of)
-
-      broken : (get_or runs i nobody).broken ≡ Some fault
-      broken = sym (ap (λ (r : RecorderRun). r.broken) (get_or-map run_of runs i nobody (run_of nobody) here))
-          ∙ sym (get_or-map (λ (run : RecorderRun). run.broken) (map run_of runs) i (run_of nobody) None within) ∙ is
-
-      by_reason : IsReason (length e.ids) (get_or runs i nobody).port fault → (fault ≡ NoMemory) ⊎ StoreRefused (map run_of runs) before after fault
-      by_reason (inl lack) = inl lack
-      by_reason (inr refusal) =
-          let inside : refusal.index < length after = omega (arith, refusal.within, many) in
-          let store = went refusal.index inside in
-          let seat : i < length workers = omega (arith, here, length-map runs (λ (r : Run). r.port)) in
-          let list : get_or (lists_at refusal.index workers) i [] ≡ list_at (get_or runs i nobody).port refusal.index =
-          get_or-map (λ (w : PortView). list_at w refusal.index) workers i no_port [] seat ∙ ap (λ (w : PortView). list_at w refusal.index) (get_or-map (λ (r : Run). r.port) runs i nobody no_port here) in
+      by_reason : (fault : Fault) → IsReason (length e.ids) (get_or runs i d).port fault → IsCause fault
+      by_reason fault (inl lack) = inl lack
+      by_reason fault (inr refusal) =
+          let k = refusal.index in
+          let inside : k < length (states_of after) = omega (arith, refusal.within, many) in
+          let list : get_or (lists k) i [] ≡ list_at (get_or runs i d).port k = simp map-map (get_or-map (λ (r : Run). list_at r.port k) runs i d [] here) in
+          let seat : i < length (lists k) = simp length-map here in
           inr (record {
-            place = refusal.index;
+            place = k;
             within = inside;
-            went = went_offers refusal.index inside;
-            refused = refusal_in_log fault (lists_at refusal.index workers) store.log store.shuffle i (omega (arith, seat, length-map workers (λ (w : PortView). list_at w refusal.index)))
-                (rw list refusal.refused);
+            went = went_offers k inside;
+            refused = refusal_in_log fault (lists k) (went k inside).log (went k inside).shuffle i seat (rw list refusal.refused);
           })
 
-  -- where there is time, no offer was refused
-  all_taken : length runs ≤ 16 → e.now ≤ latest → ((k : ℕ) → k < length after → IsOpen (opening_at before k)) → AreFew e.step sources
-      → (k : ℕ) → k < length e.ids → All (λ r. AreTaken (list_at r.port k)) runs
-  all_taken few_sources moment are_open few k within =
-      let asks = map asked_in (lists_at k workers) in
-      let few_each = All-unmapped (λ (s : Supply). length (s e.step) ≤ 65535) (λ (r : Run). r.before) runs few in
-      let are : All (AreOffers e) asks = All-map (AreOffers e) asked_in (lists_at k workers) (All-map (λ es. AreOffers e (asked_in es)) (λ (w : PortView). list_at w k) workers
-      (All-map (λ w. AreOffers e (asked w k)) (λ (r : Run). r.port) runs (λ i d here. are_offers e (get_or runs i d) (did i d here) k within (few_each i d here)))) in
-      let store = went k (omega (arith, many)) in
-      let state = are_open k (omega (arith, many)) in
+  -- a store that surely takes what comes in the step takes all offers
+  all_taken : length runs ≤ 16 → TakesAll e before (map (λ r. r.before) runs) → (k : ℕ) → k < length (states_of after)
+      → (store : HasLegalOffers (map (λ run. run.offered k) (map run_of runs)) (opening_at (states_of before) k) (opening_at (states_of after) k))
+      → AreTaken store.log
+  all_taken few takes k within store =
+      let asks = map (λ (run : RecorderRun). run.offered k) (map run_of runs) in
+      let few_each = All-unmapped (λ (s : Supply). length (s e.step) ≤ 65535) (λ (r : Run). r.before) runs takes.few in
+      let are : All (AreOffers e) asks = All-map (AreOffers e) (λ (run : RecorderRun). run.offered k) (map run_of runs)
+      (All-map (λ run. AreOffers e (run.offered k)) run_of runs (λ i d here.
+      let r = get_or runs i d in
+      few_offers e r.before r.after r.gave (asked r.port) r.broken (did i d here).is (few_each i d here) k (omega (arith, within, many)))) in
+      let state : IsOpen (opening_at (states_of before) k) = All-map IsOpen (λ (h : Held). h.state) before takes.stores_are k blank
+      (omega (arith, within, many, as_many, length-map before (λ (h : Held). h.state))) in
       let total : count_of asks ≤ length asks * 65535 = sum_by-le (λ (es : List Event). length es) 65535 asks (λ i d inside. (are i d inside).few) in
-      let asks_many : length asks ≡ length runs = length-map (lists_at k workers) asked_in ∙ length-map workers (λ (w : PortView). list_at w k) ∙ length-map runs (λ (r : Run). r.port) in
-      let most : length asks ≤ 16 = omega (arith, asks_many, few_sources) in
+      let most : length asks ≤ 16 = simp length-map few in
       let sum : count_of asks ≤ 1048560 = omega (arith, total, most) in
-      let time : HasTime e.now (count_of asks) (opening_at before k) = record {
+      shuffle_is_taken e.now (opening_at (states_of before) k) (opening_at (states_of after) k) asks store.log
+      (record {
         storage = state.storage;
         last = omega (arith, state.last, sum);
-        moment = omega (arith, moment, sum);
+        moment = omega (arith, takes.moment, sum);
         count = omega (arith, state.offered, sum);
-      } in
-      All-unmapped (λ w. AreTaken (list_at w k)) (λ (r : Run). r.port) runs (All-unmapped AreTaken (λ (w : PortView). list_at w k) workers
-      (lists_taken (lists_at k workers) store.log store.shuffle
-      (shuffle_is_taken e.now (opening_at before k) (opening_at after k) asks store.log time store.run (asked_shuffled (lists_at k workers) store.log store.shuffle)
-      (λ i d inside. (are i d inside).offers_are))))
+      })
+      store.run store.shuffle (λ i d inside. (are i d inside).offers_are)
 
--- what a step of recorders leaves of stores that were opened
-module _ (step now : ℕ) (routes : List RouteRow) (before after : List Held) (labels : List StoreLabel) (names : names_of labels ≡ labels_of before)
-    (back : labels_of after ≡ names_of labels) (sound : All (λ h. IsState h.state) after) where
-  abbrev e : RecordingContext
-  e = recording step now routes before
-
-  many : length (states_of after) ≡ length e.ids
-  many = length-map after (λ (h : Held). h.state) ∙ same_many after before (back ∙ names) ∙ sym (length-map before (λ (h : Held). h.id))
-
-  records_of : (runs : List Run) (why : Option Fault) → All (IsRunOf e) runs → HaveLegalLogs (map (λ r. r.port) runs) (states_of before) (states_of after)
-      → IsWhy (map (λ run. run.broken) (map run_of runs)) why → length runs ≤ 16
+  records_of : (why : Option Fault) → IsWhy (map (λ run. run.broken) (map run_of runs)) why → All (λ h. IsState h.state) after → length runs ≤ 16
       → Records e before after why (map (λ r. r.before) runs) (map (λ r. r.after) runs)
-  records_of runs why did went is few_sources = record {
-    labels = back ∙ names;
+  records_of why is sound few = record {
+    labels = labels;
     sound = sound;
     many = length-map runs (λ (r : Run). r.after) ∙ sym (length-map runs (λ (r : Run). r.before));
     runs = map run_of runs;
     are_runs = are_runs e runs did;
     why_is = is;
-    went = went_offers e runs (states_of before) (states_of after) did went many;
-    others = others_same e runs did;
-    reason = IfSome_then why is.some (λ fault one. reason_at e runs (states_of before) (states_of after) did went many fault one.0 (omega (arith, one.1, length-map (map run_of runs) (λ (run : RecorderRun). run.broken))) one.2);
-    recorded = if_none why is.none (λ none. all_recorded e runs (states_of before) (states_of after) did went many (whole none));
-    nothing_left = if_none why is.none (λ none. All-map (λ s. s e.step ≡ []) (λ (r : Run). r.after) runs (λ i d here. none_left_of e (get_or runs i d) (did i d here) (whole none i d here)));
-    none_refused = λ takes. why_lacks (map (λ run. run.broken) (map run_of runs)) why is (All-map (λ f. IfSome f (λ fault. fault ≡ NoMemory)) (λ (run : RecorderRun). run.broken) (map run_of runs)
-        (All-map (λ run. IfSome run.broken (λ fault. fault ≡ NoMemory)) run_of runs (λ i d here. reason_of e (get_or runs i d) (did i d here) (λ k within.
-        all_taken e runs (states_of before) (states_of after) did went many few_sources takes.moment (state_open takes.stores_are) takes.few k within i d here))));
+    went = went_offers;
+    others = λ t other. simp map-map (map_agree (λ (r : Run). r.after t) (λ (r : Run). r.before t) runs (λ i d here. (did i d here).is.others t other));
+    reason = reason;
+    recorded = if_none why is.none (λ none. all_recorded (whole none));
+    nothing_left = if_none why is.none (λ none. All-map (λ s. s e.step ≡ []) (λ (r : Run). r.after) runs
+        (λ i d here. (MatchOption-at_none _ _ (whole none i d here) (did i d here).is.whole).0));
+    none_refused = λ takes. IfSome_then why reason (λ fault. lacked takes fault);
   }
     where
+      causes : All (λ f. IfSome f IsCause) (map (λ run. run.broken) (map run_of runs))
+      causes = simp map-map (All-map (λ f. IfSome f IsCause) (λ (r : Run). r.broken) runs reason_at)
+
+      reason : IfSome why IsCause
+      reason = IfSome_then why is.some (λ fault one. subst (λ f. IfSome f IsCause) one.2 (causes one.0 None one.1))
+
+      lacked : TakesAll e before (map (λ r. r.before) runs) → (fault : Fault) → IsCause fault → fault ≡ NoMemory
+      lacked takes fault (inl lack) = lack
+      lacked takes fault (inr refused) =
+          absurd (not_taken refused.went.log fault refused.refused (all_taken few takes refused.place refused.within refused.went))
+
       if_none : {P Q : Type 0} (o : Option Fault) → IfNone o P → (P → Q) → IfNone o Q
       if_none None p f = f p
       if_none (Some x) p f = tt
@@ -289,23 +200,15 @@ module _ (step now : ℕ) (routes : List RouteRow) (before after : List Held) (l
       whole : All (λ f. f ≡ None) (map (λ run. run.broken) (map run_of runs)) → All (λ r. r.broken ≡ None) runs
       whole none = All-unmapped (λ run. run.broken ≡ None) run_of runs (All-unmapped (λ f. f ≡ None) (λ (run : RecorderRun). run.broken) (map run_of runs) none)
 
-      state_open : All (λ h. IsOpen h.state) before → (k : ℕ) → k < length (states_of after) → IsOpen (opening_at (states_of before) k)
-      state_open are_open k within =
-          All-map IsOpen (λ (h : Held). h.state) before are_open k blank
-          (omega (arith, within, many, length-map before (λ (h : Held). h.id), length-map before (λ (h : Held). h.state)))
-
-  -- whatever comes
-  pub comes_of : {S : Type 0} (leads : S → S → Type 0) (until : S → S → Supply) (sources left : List S) (ports workers : List PortView) (why : Option Fault) (openings : List State)
-      → HaveRun leads until (open_recording step now routes labels) sources left ports workers why → openings ≡ states_of before
-      → HaveLegalLogs workers openings (states_of after) → length sources ≤ 16 → WhateverComes leads until sources left (Records e before after why)
-  comes_of {S} leads until sources left ports workers why openings run opened logs few lasts lead =
-      let ran : HaveRun leads until e sources left ports workers why =
-      subst (λ (ids : List (List ℕ)). HaveRun leads until (record { step = step; now = now; routes = routes; ids = ids }) sources left ports workers why) (ids_open labels before names) run in
-      let until_last = runs_until leads until e ran.recorders lasts ran.each (subst (λ (now : List S). AllZip leads now lasts) ran.now_are lead) in
-      let logs : HaveLegalLogs (map (λ r. r.port) until_last.runs) (states_of before) (states_of after) =
-      subst (λ (states : List State). HaveLegalLogs (map (λ r. r.port) until_last.runs) states (states_of after)) opened
-      (subst (λ (ws : List PortView). HaveLegalLogs ws openings (states_of after)) (ran.workers_are ∙ until_last.workers_are) logs) in
-      let count : length until_last.runs ≤ 16 =
-      omega (arith, few, ap length ran.workers_are, ap length until_last.workers_are, ap length ran.before_are, length-map until_last.runs (λ (r : Run). r.port), length-map ran.recorders (λ (r : Recorder S). r.port), length-map ran.recorders (λ (r : Recorder S). r.before)) in
-      rw (ran.before_are, ran.now_are, until_last.given_are, until_last.left_are)
-      (until_last.lead, records_of until_last.runs why until_last.each logs (subst (λ (fs : List (Option Fault)). IsWhy fs why) until_last.faults_are ran.why_is) count)
+-- what a step of recorders leaves, whatever comes
+pub comes_of : {S : Type 0} (leads : S → S → Type 0) (until : S → S → Supply) (e : RecordingContext) (sources left : List S) (ports workers : List PortView)
+    (why : Option Fault) (before after : List Held) → HaveRun leads until e sources left ports workers why
+    → HaveLegalLogs workers (states_of before) (states_of after) → length e.ids ≡ length before → labels_of after ≡ labels_of before
+    → All (λ h. IsState h.state) after → length sources ≤ 16 → WhateverComes leads until sources left (Records e before after why)
+comes_of leads until e sources left ports workers why before after run went as_many labels sound few lasts lead =
+    let both = runs_until leads until e sources left lasts workers run.faults run.each lead in
+    let ran = both.1 in
+    let supplied = length-supplies until sources lasts (zip_long leads sources lasts both.0) in
+    let count : length ran.runs ≤ 16 = omega (arith, few, supplied, ap length ran.given_are, length-map ran.runs (λ (r : Run). r.before)) in
+    rw (ran.given_are, ran.left_are)
+    (both.0, records_of e ran.runs before after ran.each (rw ran.workers_are at went) as_many labels why (rw ran.faults_are at run.why_is) sound count)

@@ -1,34 +1,22 @@
--- Offers that no store refuses: storage is on, and clock and count are far from their ends.
-use Rattle.std.proofs.Common.{◌≡◌, ℕ, suc, ◌+◌, ◌<◌, ◌≤◌, ◌==◌, ◌||◌, Bool, true, false, not, cond, max, ltb, List, [], ◌∷◌, length, get_or, filter, All, Result, Ok, Err, refl, sym, subst, ◌∙◌, rules, arith}
-use Rattle.std.specs.Prelude.{IsOk}
-use Rattle.std.proofs.lemmas.Bool.{both_ways, cond_both, eq-eqb}
-use Rattle.std.proofs.lemmas.Bool.Decides.{nat_tests}
-use Rattle.std.proofs.lemmas.List.{get_or_default}
-use Rattle.std.proofs.lemmas.List.Elements.{All-cons, All-filter, All-head, All-nil, All-tail}
+-- Offers that no store refuses, since storage is on, and clock and count are far from their ends; and offers that a store refused.
+use Rattle.std.proofs.Common.{◌≡◌, ℕ, suc, ◌+◌, ◌<◌, ◌≤◌, ◌==◌, ◌||◌, Bool, true, false, not, cond, max, ltb, List, [], ◌∷◌, length, get_or, filter, All, Result, Ok, Err, refl, sym, subst, arith}
+use Rattle.mm_record.proofs.Words.{Any, Contains, both_ways, cond_both, eq-eqb, nat_tests, All-cons, All-contains_itself, All-filter, All-head, All-nil}
+use Rattle.mm_record.proofs.Words.{All-tail, All-unmapped, SpacePacket, Entry, Event, Offer, Fault, Returned, State, answer_of, after_put, offer, step}
+use Rattle.mm_record.proofs.Words.{AreTaken, IsTaken, IsShuffleOfEvents, count_of, IsLegal, IsRun, AreBelow, IsShuffle, part, IsRefusedWith}
 use Rattle.std.proofs.lemmas.List.Filters.{length-filter_both}
-use Rattle.mm_base.proofs.Elements.{All-unmapped}
 use Rattle.mm_base.specs.declared.kind.Kind.{Kind}
 use Rattle.mm_base.specs.declared.kind.Kind.TheVariants.{Circular}
-use Rattle.mm_packet.specs.Packet.{SpacePacket}
 use Rattle.mm_store.specs.declared.stored.Stored.{Stored}
 use Rattle.mm_store.specs.declared.put.Put.{Put}
 use Rattle.mm_store.specs.Content.{Store, clock_end, put_full, put_timed}
-use Rattle.mm_desk.specs.declared.entry.Entry.{Entry}
-use Rattle.mm_desk.specs.declared.event.Event.{Event}
-use Rattle.mm_desk.specs.declared.event.Event.TheVariants.{Offer}
 use Rattle.mm_desk.specs.declared.reply.Offered.{Offered}
+use Rattle.mm_desk.specs.declared.reply.Reply.{Reply}
 use Rattle.mm_desk.specs.declared.reply.Reply.TheVariants as reply
-use Rattle.mm_desk.specs.declared.reply.Returned.{Returned}
-use Rattle.mm_desk.specs.Machine.{State, answer_of, after_put, offer, step}
-use Rattle.mm_desk.specs.Offers.{AreTaken, IsTaken, IsShuffleOfEvents, count_of}
-use Rattle.mm_desk.specs.Runs.{IsLegal, IsRun}
-use Rattle.mm_desk.specs.Shuffles.{AreBelow, IsShuffle, part}
 use Rattle.mm_desk.proofs.Logs.{count_of_shuffle}
 
 -- an event is an offer at a moment
 abbrev pub IsOfferAt : ℕ → Event → Type 0
-IsOfferAt now (Offer at p) = at ≡ now
-IsOfferAt now other = ⊥
+IsOfferAt now event = (p : SpacePacket) × (event ≡ Offer now p)
 
 -- a store takes this many offers more at a moment
 pub record HasTime (now n : ℕ) (s : State) : Type 0 where
@@ -39,36 +27,36 @@ pub record HasTime (now n : ℕ) (s : State) : Type 0 where
 
 -- a put is taken, and the last time is at most the new one
 record Takes (time : ℕ) (done : Put × Store) : Type 0 where
-  taken : IsOk (answer_of done.0)
+  taken : (now : ℕ) (p : SpacePacket) → IsTaken (Offer now p) (reply.Offered (answer_of done.0))
   last : done.1.last ≤ time
 
 full_takes : (kind : Kind) (held : List Stored) (s : Store) (new : Stored) → s.last ≤ new.time → Takes new.time (put_full kind held s new)
-full_takes Circular (x ∷ xs) s new later = record { taken = search rules; last = omega arith }
-full_takes kind held s new later = record { taken = search rules; last = later }
+full_takes Circular (x ∷ xs) s new later = record { taken = λ now p. tt; last = omega arith }
+full_takes kind held s new later = record { taken = λ now p. tt; last = later }
 
 timed_takes : (s : Store) (new : Stored) → s.last ≤ new.time → Takes new.time (put_timed s new)
 timed_takes s new later =
     cond_both (ltb (length s.content) s.size) _ _ (Takes new.time)
-    (λ free. record { taken = search rules; last = omega arith })
+    (λ free. record { taken = λ now p. tt; last = omega arith })
     (λ full. full_takes s.kind s.content s new later)
 
 -- one offer is taken, and leaves time for one fewer
-record TakesOne (now n : ℕ) (answered : Result Offered Returned × State) : Type 0 where
-  taken : IsOk answered.0
+record TakesOne (now n : ℕ) (packet : SpacePacket) (answered : Result Offered Returned × State) : Type 0 where
+  taken : IsTaken (Offer now packet) (reply.Offered answered.0)
   time : HasTime now n answered.1
 
-offer_taken : (s : State) (now n : ℕ) (packet : SpacePacket) → HasTime now (suc n) s → TakesOne now n (offer s now packet)
+offer_taken : (s : State) (now n : ℕ) (packet : SpacePacket) → HasTime now (suc n) s → TakesOne now n packet (offer s now packet)
 offer_taken s now n packet time =
-    cond_both (not s.storage) _ _ (TakesOne now n)
+    cond_both (not s.storage) _ _ (TakesOne now n packet)
     (λ off. absurd (cc (off, time.storage)))
-    (λ on. cond_both ((s.store.last == clock_end) || (s.offered == clock_end)) _ _ (TakesOne now n)
+    (λ on. cond_both ((s.store.last == clock_end) || (s.offered == clock_end)) _ _ (TakesOne now n packet)
     (λ late. absurd (grind (arith, nat_tests)))
-    (λ early. cond_both (s.store.last == clock_end) _ _ (λ (done : Put × Store). TakesOne now n (answer_of done.0, after_put s done))
+    (λ early. cond_both (s.store.last == clock_end) _ _ (λ (done : Put × Store). TakesOne now n packet (answer_of done.0, after_put s done))
     (λ late. absurd (grind (arith, nat_tests)))
     (λ before.
     let put = timed_takes s.store (record { time = max now (s.store.last + 1); packet = packet }) (omega arith) in
     record {
-      taken = put.taken;
+      taken = put.taken now packet;
       time = record {
         storage = time.storage;
         last = omega (arith, put.last, time.last, time.moment);
@@ -77,26 +65,14 @@ offer_taken s now n packet time =
       };
     })))
 
-is_taken : (now : ℕ) (packet : SpacePacket) (answer : Result Offered Returned) → IsOk answer → IsTaken (Offer now packet) (reply.Offered answer)
-is_taken now packet (Ok offered) ok = tt
-is_taken now packet (Err back) ok = absurd (search rules)
-
--- one event
-event_taken : (s : State) (now n : ℕ) (event : Event) → HasTime now (suc n) s → IsOfferAt now event
-    → IsTaken event (step s event).0 × HasTime now n (step s event).1
-event_taken s now n (Offer at packet) time is =
-    let one = offer_taken s now n packet time in
-    subst (λ (m : ℕ). IsTaken (Offer m packet) (step s (Offer m packet)).0 × HasTime now n (step s (Offer m packet)).1) (sym is)
-    (is_taken now packet (offer s now packet).0 one.taken, one.time)
-event_taken s now n other time is = absurd is
-
 -- a log of offers is taken, where there is time for as many
-pub log_taken : (now : ℕ) (s : State) (log : List Entry) → HasTime now (length log) s → All (λ e. IsOfferAt now e.event) log → IsLegal s log → AreTaken log
-log_taken now s [] time offers legal = λ i d within. absurd (omega arith)
+log_taken : (now : ℕ) (s : State) (log : List Entry) → HasTime now (length log) s → All (λ e. IsOfferAt now e.event) log → IsLegal s log → AreTaken log
+log_taken now s [] time offers legal = All-nil (λ (e : Entry). IsTaken e.event e.reply)
 log_taken now s (e ∷ es) time offers legal =
-    let one = event_taken s now (length es) e.event time (All-head (λ (x : Entry). IsOfferAt now x.event) e es offers) in
-    All-cons (λ (x : Entry). IsTaken x.event x.reply) e es (subst (IsTaken e.event) (sym legal.0) one.0)
-    (log_taken now (step s e.event).1 es one.1 (All-tail (λ (x : Entry). IsOfferAt now x.event) e es offers) legal.1)
+    let is = All-head (λ (x : Entry). IsOfferAt now x.event) e es offers in
+    let one = offer_taken s now (length es) is.0 time in
+    All-cons (λ (x : Entry). IsTaken x.event x.reply) e es (rw (legal.0, is.1) one.taken)
+    (log_taken now (step s e.event).1 es (rw is.1 one.time) (All-tail (λ (x : Entry). IsOfferAt now x.event) e es offers) legal.1)
 
 -- what holds of each element that passes a test
 All-unfiltered : {X : Type 0} (P : X → Type 0) (p : X → Bool) (xs : List X) → All P (filter p xs) → All (λ x. p x ≡ true → P x) xs
@@ -114,7 +90,7 @@ parts_all P seats log below parts i d within =
     All-unfiltered P (λ e. e.seat == seat) log (parts seat (below i d within)) i d within (eq-eqb seat seat refl)
 
 -- a log that is a shuffle of offers has offers alone
-pub offers_alone : (now : ℕ) (lists : List (List Event)) (log : List Entry) → IsShuffleOfEvents lists log → All (λ es. All (IsOfferAt now) es) lists
+offers_alone : (now : ℕ) (lists : List (List Event)) (log : List Entry) → IsShuffleOfEvents lists log → All (λ es. All (IsOfferAt now) es) lists
     → All (λ e. IsOfferAt now e.event) log
 offers_alone now lists log shuffle offers =
     parts_all (λ e. IsOfferAt now e.event) (length lists) log shuffle.below
@@ -126,11 +102,28 @@ pub shuffle_is_taken : (now : ℕ) (s t : State) (lists : List (List Event)) (lo
 shuffle_is_taken now s t lists log time run shuffle offers =
     log_taken now s log (subst (λ (n : ℕ). HasTime now n s) (count_of_shuffle lists log shuffle) time) (offers_alone now lists log shuffle offers) run.legal
 
--- a list of each seat is taken where the log is
-pub lists_taken : (lists : List (List Entry)) (log : List Entry) → IsShuffle lists log → AreTaken log → All AreTaken lists
-lists_taken lists log shuffle taken i d within =
-    subst AreTaken (shuffle.parts i within ∙ get_or_default lists i [] d within)
-    (All-filter (λ (e : Entry). e.seat == i) (λ (e : Entry). IsTaken e.event e.reply) log taken)
+-- a refusal with this fault
+abbrev pub IsRefusal : Fault → Entry → Type 0
+IsRefusal fault e = IsRefusedWith fault e.event e.reply
+
+-- an offer that was refused was not taken
+is_other : (event : Event) (answer : Reply) (fault : Fault) → IsRefusedWith fault event answer → IsTaken event answer → ⊥
+is_other (Offer now packet) (reply.Offered (Ok offered)) fault refused taken = refused
+is_other (Offer now packet) (reply.Offered (Err back)) fault refused taken = taken
+is_other event answer fault refused taken = refused
+
+-- not all of a list are taken that has a refusal
+pub not_taken : (log : List Entry) (fault : Fault) → Any (IsRefusal fault) log → AreTaken log → ⊥
+not_taken log fault (i, e, within, at, refused) taken =
+    is_other e.event e.reply fault refused (subst (λ (x : Entry). IsTaken x.event x.reply) at (taken i e within))
+
+-- a refusal in one of the lists is in the log that is a shuffle of them
+pub refusal_in_log : (fault : Fault) (lists : List (List Entry)) (log : List Entry) → IsShuffle lists log → (seat : ℕ) → seat < length lists
+    → Any (IsRefusal fault) (get_or lists seat []) → Any (IsRefusal fault) log
+refusal_in_log fault lists log shuffle seat within (i, e, inside, at, refused) =
+    let part_in_log = All-filter (λ (e : Entry). e.seat == seat) (Contains log) log (All-contains_itself log) in
+    let found = subst (Contains log) at (subst (All (Contains log)) (shuffle.parts seat within) part_in_log i e inside) in
+    (found.0, e, found.1, found.2, refused)
 
 -- no more passes a test than there is
 pub filter_fewer : {X : Type 0} (p : X → Bool) (xs : List X) → length (filter p xs) ≤ length xs

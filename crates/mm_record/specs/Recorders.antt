@@ -1,5 +1,5 @@
 -- What recorders at open stores did. No public clause cites this module.
-use Rattle.std.specs.Prelude.{◌≡◌, ℕ, ◌<◌, List, length, map, All, Option, Some, None, IfNone, IfSome}
+use Rattle.std.specs.Prelude.{◌≡◌, ℕ, ◌<◌, List, [], ◌∷◌, length, All, Option, Some, None, IfNone, IfSome}
 use Rattle.mm_desk.specs.declared.fault.Fault.{Fault}
 use Rattle.mm_desk.specs.declared.fault.Fault.TheVariants.{NoMemory}
 use Rattle.mm_desk.specs.Offers.{AreTaken}
@@ -23,32 +23,28 @@ pub record HasOffered (e : RecordingContext) (before after : Supply) (gave : Lis
 abbrev pub HasRun : RecordingContext → Supply → Supply → Option Fault → PortView → Type 0
 HasRun e before after broken port = (gave : List SpacePacket) × HasOffered e before after gave broken port
 
+-- whatever a source becomes later, it could become it before too, and its recorder had its run until then
+abbrev pub HasRunUntil : {S : Type 0} → (S → S → Type 0) → (S → S → Supply) → RecordingContext → S → S → PortView → Option Fault → Type 0
+HasRunUntil leads until e before now port broken = (last : _) → leads now last → leads before last × HasRun e (until before last) (until now last) broken port
+
 -- there is a fresh port for each source, through which packets may be offered
 pub record MayRecord {S : Type 0} (labels : List StoreLabel) (stores : StoresView) (sources : List S) (workers : List PortView) : Type 0 where
   pub same : length workers ≡ length sources
   pub may : All (λ w. MayOffer labels stores w.of) workers
   pub fresh : All IsFresh workers
 
--- a recorder that has run: its source before and now, its port, and why it stopped early, where it did
-pub record Recorder (S : Type 0) : Type 0 where
-  pub before : S
-  pub now : S
-  pub port : PortView
-  pub broken : Option Fault
-
--- whatever its source becomes later, it could become it before too, and the recorder had its run until then
-abbrev pub HasRunUntil : {S : Type 0} → (S → S → Type 0) → (S → S → Supply) → RecordingContext → Recorder S → Type 0
-HasRunUntil leads until e r = (last : _) → leads r.now last → leads r.before last × HasRun e (until r.before last) (until r.now last) r.broken r.port
+-- the recorder of each source had its run, through the port at its place, and stopped early for the fault at its place, where it did
+abbrev pub EachHasRun : {S : Type 0} → (S → S → Type 0) → (S → S → Supply) → RecordingContext → List S → List S → List PortView → List (Option Fault) → Type 0
+EachHasRun leads until e [] [] [] [] = Unit {0}
+EachHasRun leads until e (s ∷ ss) (t ∷ ts) (w ∷ ws) (f ∷ fs) = HasRunUntil leads until e s t w f × EachHasRun leads until e ss ts ws fs
+EachHasRun leads until e ss ts ws fs = ⊥
 
 -- the recorder of each source had its run, through the ports that there were before, and this is why some stopped early
 pub record HaveRun {S : Type 0} (leads : S → S → Type 0) (until : S → S → Supply) (e : RecordingContext) (before now : List S) (ports workers : List PortView) (why : Option Fault) : Type 0 where
-  pub recorders : List (Recorder S)
-  pub before_are : before ≡ map (λ r. r.before) recorders
-  pub now_are : now ≡ map (λ r. r.now) recorders
-  pub workers_are : workers ≡ map (λ r. r.port) recorders
   pub ends : all_ends workers ≡ all_ends ports
-  pub each : All (HasRunUntil leads until e) recorders
-  pub why_is : IsWhy (map (λ r. r.broken) recorders) why
+  pub faults : List (Option Fault)
+  pub each : EachHasRun leads until e before now workers faults
+  pub why_is : IsWhy faults why
 
 -- the worse of two reasons: out of memory only where neither is another
 abbrev pub is_worse : Option Fault → Option Fault → Option Fault

@@ -4,7 +4,7 @@ ghost use Rattle.mm_desk.specs.Machine.{IsState};
 ghost use Rattle.mm_report.specs.declared.cause.Cause.TheVariants.{LogMismatch};
 ghost use Rattle.mm_report.specs.declared.cause.TheConstants.{MAX_SOURCES};
 ghost use Rattle.mm_record.specs.Causes.{cause_before};
-ghost use Rattle.mm_record.specs.Counters.{counters_of, change_of, AreRows};
+ghost use Rattle.mm_record.specs.Counters.{counters_of, AreRows};
 ghost use Rattle.mm_record.specs.MemorySteps.{recording_of, IsRecorded, IsRefused, Halts};
 ghost use Rattle.mm_record.specs.Supplies.{WhateverComes};
 ghost use Rattle.mm_record.specs.Steps.{IsWithinLimits, TakesAll};
@@ -45,13 +45,6 @@ pub struct RecordHalted<S: Drop> {
     pub sources: Vec<S>,
 }
 
-// The counters of stores before a step, and room for what will be told of each.
-#[derive(Drop)]
-struct Rows {
-    before: Vec<Counters>,
-    recorded: Vec<Recorded>,
-}
-
 // The counters of each store.
 fn all_counters(alloc: Global, stores: &[Held]) -> Result<Vec<Counters>, NoMemory>
     ensures counters { IfOk result (λ counters. counters.items ≡ map (λ h. counters_of h.state) stores.now) }
@@ -64,39 +57,21 @@ fn all_counters(alloc: Global, stores: &[Held]) -> Result<Vec<Counters>, NoMemor
     Ok(counters)
 }
 
-// The counters of stores, and room for a row for each.
-fn new_rows(alloc: Global, stores: &[Held]) -> Result<Rows, NoMemory>
-    ensures before { IfOk result (λ rows. rows.before.items ≡ map (λ h. counters_of h.state) stores.now) }
-    ensures sound { OnOk result (All (λ h. IsState h.state) stores.now) }
-    ensures recorded { IfOk result (λ rows. (rows.recorded.items ≡ []) × (length stores.now ≤ vec_capacity rows.recorded)) }
-{
-    let before = all_counters(alloc, stores)?;
-    let recorded = Vec::with_capacity(alloc, stores.len())?;
-    Ok(Rows { before, recorded })
-}
-
-// What a step has recorded into a store with these counters before it.
-fn change_of(before: Counters, held: &Held) -> Recorded
-    ensures { result ≡ change_of before held.now }
-{
-    let rise = Counters::of(&held.state).since(before);
-    Recorded {
-        store: held.id,
-        came: rise.offered,
-        lost: rise.lost,
-    }
-}
-
 // What a step has recorded into each store.
-fn changes_of(rows: Rows, stores: &[Held]) -> Vec<Recorded>
-    requires before { vec_len rows.before ≡ length stores.now }
-    requires room { (rows.recorded.items ≡ []) × (length stores.now ≤ vec_capacity rows.recorded) }
-    ensures rows { AreRows rows.before.items stores.now (length stores.now) result.items }
+fn changes_of(before: Vec<Counters>, room: Vec<Recorded>, stores: &[Held]) -> Vec<Recorded>
+    requires before { vec_len before ≡ length stores.now }
+    requires room { (room.items ≡ []) × (length stores.now ≤ vec_capacity room) }
+    ensures rows { AreRows before.items stores.now (length stores.now) result.items }
 {
-    let Rows { before, recorded } = rows;
-    let mut recorded = recorded;
+    let mut recorded = room;
     for index in 0..stores.len() {
-        recorded.push_reserved(change_of(before[index], &stores[index]));
+        let held = &stores[index];
+        let rise = Counters::of(&held.state).since(before[index]);
+        recorded.push_reserved(Recorded {
+            store: held.id,
+            came: rise.offered,
+            lost: rise.lost,
+        });
     }
     recorded
 }
@@ -116,7 +91,10 @@ fn record_ready<S: AnySource + Send, R: Threads + Wait + Sync>(
     ensures none_refused { IfErr result (λ cause. WhateverComes S.leads S.until sources.old sources.new
         (λ given left. TakesAll (recording_of step now memory.old) memory.old.stores given → cause ≢ LogMismatch step)) }
 {
-    let Ok(rows) = new_rows(alloc, memory.stores()) else {
+    let Ok(before) = all_counters(alloc, memory.stores()) else {
+        return Err(Cause::NoMemory { step });
+    };
+    let Ok(room) = Vec::with_capacity(alloc, before.len()) else {
         return Err(Cause::NoMemory { step });
     };
     let mut stores = memory.lift();
@@ -127,7 +105,7 @@ fn record_ready<S: AnySource + Send, R: Threads + Wait + Sync>(
     };
     let done = record(rt, alloc, &context, &mut stores, sources);
     any_order_loses_alike();
-    let recorded = changes_of(rows, &stores);
+    let recorded = changes_of(before, room, &stores);
     memory.restore(stores);
     let Ok(why) = done else {
         return Err(Cause::NoMemory { step });

@@ -59,16 +59,16 @@ fn offer_routed<R: Wait>(
     requires may { MayOffer context.now.labels.now context.now.stores.now port.old.of }
     ensures offers { Offers (step_of context.now) (offers_by (step_of context.now) packet rows.now) port.old port.new result }
 {
-    match rows {
-        [] => Ok(()),
-        [last] => match place_of(context.labels, &last.store) {
-            Some(index) => offer_at(context, port, packet, index),
-            None => Ok(()),
-        },
-        [row, others @ ..] => {
-            offer_copy(context, port, &packet, row)?;
-            offer_routed(context, port, packet, others)
-        }
+    let Some((row, others)) = rows.split_first() else {
+        return Ok(());
+    };
+    if !others.is_empty() {
+        offer_copy(context, port, &packet, row)?;
+        return offer_routed(context, port, packet, others);
+    }
+    match place_of(context.labels, &row.store) {
+        Some(index) => offer_at(context, port, packet, index),
+        None => Ok(()),
     }
 }
 

@@ -4,7 +4,7 @@ ghost use Rattle.std.specs.Result.{result_err};
 ghost use Rattle.std.specs.Thread.{IsSync, IsSend};
 ghost use Rattle.mm_shared.specs.Stores.{end_of, IsFresh};
 ghost use Rattle.mm_record.specs.Offering.{MayOffer, step_of};
-ghost use Rattle.mm_record.specs.Recorders.{HasRun, MayRecord, HaveRun, is_worse};
+ghost use Rattle.mm_record.specs.Recorders.{HasRunUntil, MayRecord, HaveRun, is_worse};
 
 use crate::context::StepContext;
 use crate::offering::offer_packet;
@@ -23,8 +23,7 @@ fn record_source<S: AnySource, R: Wait>(
 ) -> Result<(), Fault>
     requires may { MayOffer context.now.labels.now context.now.stores.now port.old.of }
     requires fresh { IsFresh port.old }
-    ensures run { (last : S) → S.leads source.new last
-        → S.leads source.old last × HasRun (step_of context.now) (S.until source.old last) (S.until source.new last) (result_err result) port.new }
+    ensures run { HasRunUntil S.leads S.until (step_of context.now) source.old source.new port.new (result_err result) }
     ensures end { end_of port.new ≡ end_of port.old }
 {
     let mut routings = Routings::new();
@@ -48,19 +47,6 @@ fn worse(first: Option<Fault>, second: Option<Fault>) -> Option<Fault>
     }
 }
 
-// Lets the recorder of one source run.
-fn record_one<S: AnySource, R: Wait>(
-    context: &StepContext<'_, R>,
-    sources: &mut [S],
-    workers: &mut [Port],
-) -> Option<Fault>
-    requires may { MayRecord context.now.labels.now context.now.stores.now sources.old workers.old }
-    requires one { length sources.old ≡ 1 }
-    ensures run { HaveRun S.leads S.until (step_of context.now) sources.old sources.new workers.old workers.new result }
-{
-    record_source(context, &mut sources[0], &mut workers[0]).err()
-}
-
 // Lets recorders run, each in a thread of its own where one can be made, and tells why they stopped early, where some did.
 #[cycle(recorders)]
 pub(crate) fn record_all<S: AnySource + Send, R: Threads + Wait + Sync>(
@@ -75,7 +61,7 @@ pub(crate) fn record_all<S: AnySource + Send, R: Threads + Wait + Sync>(
         return None;
     }
     if sources.len() == 1 {
-        return record_one(context, sources, workers);
+        return record_source(context, &mut sources[0], &mut workers[0]).err();
     }
     let half = sources.len() / 2;
     let (low_sources, high_sources) = sources.split_at_mut(half);

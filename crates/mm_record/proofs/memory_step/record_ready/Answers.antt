@@ -1,13 +1,6 @@
-use Rattle.std.proofs.Common.{rules, ◌≡◌, length, map, subst, ap, ◌∙◌, inr, All, Some}
-use Rattle.mm_desk.specs.Machine.{IsState}
-use Rattle.mm_record.specs.Causes.{cause_in}
-use Rattle.mm_record.specs.Supplies.{WhateverComes}
+use Rattle.std.proofs.Common.{rules, ◌≡◌, map, ap, ◌∙◌, inr, All, Some}
+use Rattle.mm_record.proofs.Words.{IsState, cause_in, WhateverComes, Holdings, labels_of, counters_of, recording_of, Records}
 use Rattle.mm_record.proofs.Supplying.{comes_weaker}
-use Rattle.mm_memory.specs.Holdings.{Holdings}
-use Rattle.mm_shared.specs.Stores.{labels_of}
-use Rattle.mm_record.specs.Counters.{counters_of, AreRows}
-use Rattle.mm_record.specs.MemorySteps.{recording_of}
-use Rattle.mm_record.specs.Steps.{Records}
 use Rattle.mm_record.proofs.Memories.{named_of, held_as, not_caused, recorded_of, ended_of}
 use Rattle.mm_record.proofs.memory_step.record_ready.Given as given
 use Rattle.mm_record.proofs.memory_step.record_ready.Goals as goal
@@ -38,22 +31,18 @@ restored g c =
 pub returns-in-None-clause-ok : goal.returns-in-None-clause-ok
 returns-in-None-clause-ok g c =
     let memory = c.args.memory.now in
-    let after = c.record-done.new.stores.items in
     let back = restored g ((goal.at.returns-in-None-clause-ok g c).In-Ok-done) in
-    let rows : AreRows c.in-Ok.rows.before.items after (length after) c.changes_of-recorded.result.items =
-    subst (λ ss. AreRows c.in-Ok.rows.before.items ss (length ss) c.changes_of-recorded.result.items) c.deref.ensures.value c.changes_of-recorded.ensures.rows in
     let done = not_caused c.args.step c.in-Ok-done.why (search rules) in
     let sound : All (λ h. IsState h.state) memory.stores = search rules in
-    let counters : c.in-Ok.rows.before.items ≡ map (λ h. counters_of h.state) memory.stores = search rules in
-    comes_weaker g.S.AnySource.leads g.S.AnySource.until c.args.sources.now c.record-done.new.sources _ _
-    (λ given left records. recorded_of (recording_of c.args.step c.args.now memory) memory c.restore.new.self after c.in-Ok-done.why given left records back.1
-    c.in-Ok.rows.before.items _ c.any_order_loses_alike.ensures.leaves sound counters rows done) back.0
+    let counters : c.in-Ok.before.items ≡ map (λ h. counters_of h.state) memory.stores = search rules in
+    rw back.1 (comes_weaker g.S.AnySource.leads g.S.AnySource.until c.args.sources.now c.record-done.new.sources _ _
+    (λ given left records. recorded_of (recording_of c.args.step c.args.now memory) memory _ c.in-Ok-done.why given left records
+    c.in-Ok.before.items _ c.any_order_loses_alike.ensures.leaves sound counters (rw c.deref.ensures.value at c.changes_of-recorded.ensures.rows) done) back.0)
 
 pub returns-in-Some-clause-err : goal.returns-in-Some-clause-err
 returns-in-Some-clause-err g c =
-    let memory = c.args.memory.now in
-    let after = c.record-done.new.stores.items in
     let back = restored g ((goal.at.returns-in-Some-clause-err g c).In-Ok-done) in
     let ended : cause_in c.args.step c.in-Ok-done.why ≡ Some c.in-Some.cause = search rules in
-    inr (comes_weaker g.S.AnySource.leads g.S.AnySource.until c.args.sources.now c.record-done.new.sources _ _
-    (λ given left records. ended_of (recording_of c.args.step c.args.now memory) memory c.restore.new.self after c.in-Ok-done.why given left records back.1 c.in-Some.cause ended) back.0)
+    rw back.1 (inr (comes_weaker g.S.AnySource.leads g.S.AnySource.until c.args.sources.now c.record-done.new.sources _ _
+    (λ given left records. ended_of (recording_of c.args.step c.args.now c.args.memory.now) c.args.memory.now c.record-done.new.stores.items
+    c.in-Ok-done.why given left records c.in-Some.cause ended) back.0))

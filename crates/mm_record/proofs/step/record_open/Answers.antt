@@ -1,11 +1,7 @@
-use Rattle.std.proofs.Common.{rules, ◌≡◌, length, refl, sym, subst, ap, ◌∙◌, arith}
+use Rattle.std.proofs.Common.{rules, ◌≡◌, ℕ, length, refl, sym, ap, ◌∙◌, arith}
 use Rattle.std.specs.Vec.{with_items}
-use Rattle.std.proofs.lemmas.List.{with_items_is}
-use Rattle.mm_shared.specs.Stores.{all_ends, states_of, stores_in, AreNamed, HaveLegalLogs}
+use Rattle.mm_record.proofs.Words.{length-map, with_items_is, Held, all_ends, stores_in, Origin}
 use Rattle.mm_shared.proofs.StillOpen.{still_open}
-use Rattle.mm_record.specs.Recorded.{open_recording}
-use Rattle.mm_record.specs.Recorders.{HaveRun}
-use Rattle.mm_record.proofs.Runs.{may_of}
 use Rattle.mm_record.proofs.Steps.{ids_open, comes_of}
 use Rattle.mm_record.proofs.step.record_open.Goals as goal
 
@@ -14,10 +10,15 @@ record_all-why-requires-clause-may g c κs within =
     let it = c.seat_workers.new.opened in
     let new = c.seat_workers.ensures.new in
     let kept = new.are_open.kept in
-    let many : length it.workers.items ≡ length c.args.sources.now = search rules in
-    let named = subst AreNamed (sym (ids_open it.labels.items (stores_in c.args.stores.now) new.labels)) c.requires.named in
-    let may = may_of it.labels.items it.stores c.args.sources.now it.workers.items named (sym kept.many) many it.rest.of kept.of new.are_open.workers new.fresh in
-    rw (c.deref.ensures.value, c.deref_mut.ensures.value) may
+    let same : length it.workers.items ≡ length c.args.sources.now = search rules in
+    let named = rw (← ids_open it.labels.items (stores_in c.args.stores.now) new.labels) at c.requires.named in
+    rw (c.deref.ensures.value, c.deref_mut.ensures.value) (record {
+      same = same;
+      may = λ i d inside.
+          let of_them = ap (λ (end : Origin × ℕ). end.0.table) (new.are_open.workers i d inside) ∙ kept.of in
+          record { named = named; as_many = sym kept.many; of_them = of_them };
+      fresh = new.fresh;
+    })
 
 pub settle-requires : goal.settle-requires
 settle-requires g c =
@@ -32,13 +33,10 @@ pub returns-clause-records : goal.returns-clause-records
 returns-clause-records g c =
     let it = c.seat_workers.new.opened in
     let new = c.seat_workers.ensures.new in
-    let step = c.args.step.now in
-    let after = stores_in c.settle.new.opened in
-    let leads = g.S.AnySource.leads in
-    let until = g.S.AnySource.until in
+    let before = stores_in c.args.stores.now in
     let written = with_items_is it.workers c.record_all-why.new.workers (omega (arith, c.record_all-why.auto.workers, c.deref_mut.ensures.len, it.workers.ok.0)) in
-    let logs = subst (λ ws. HaveLegalLogs ws it.rest.of.states (states_of after)) written c.settle.ensures.went in
-    let run = subst (λ ss. HaveRun leads until (open_recording step.step step.now step.control.now ss) c.args.sources.now c.record_all-why.new.sources c.deref_mut.result.now
-    c.record_all-why.new.workers c.record_all-why.result) c.deref.ensures.value c.record_all-why.ensures.run in
-    comes_of step.step step.now step.control.now (stores_in c.args.stores.now) after it.labels.items new.labels c.settle.ensures.labels c.settle.ensures.sound
-    leads until c.args.sources.now c.record_all-why.new.sources c.deref_mut.result.now c.record_all-why.new.workers c.record_all-why.result it.rest.of.states run new.states logs c.requires.many
+    let ids = ids_open it.labels.items before new.labels in
+    rw (← ids) (comes_of g.S.AnySource.leads g.S.AnySource.until _ c.args.sources.now c.record_all-why.new.sources _ _
+    c.record_all-why.result before (stores_in c.settle.new.opened)
+    (rw c.deref.ensures.value at c.record_all-why.ensures.run) (rw (written, new.states) at c.settle.ensures.went)
+    (ap length ids ∙ length-map before (λ (h : Held). h.id)) (c.settle.ensures.labels ∙ new.labels) c.settle.ensures.sound c.requires.many)
