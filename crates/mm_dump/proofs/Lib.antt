@@ -1,6 +1,5 @@
 mod Leaving
 mod Moves
-mod Refusing
 mod OneOrder
 mod Courses
 mod Working

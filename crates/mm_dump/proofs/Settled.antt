@@ -1,7 +1,7 @@
 -- What a step's dump leaves, from what was carried out over each link and what became of the stores.
 use Rattle.std.proofs.Common.{◌≡◌, ℕ, ◌+◌, ◌<◌, ◌≤◌, ◌==◌, List, [], ◌∷◌, ◌++◌, length, get_or, map, take, All, Contains, refl, sym, ap, subst, ◌∙◌, length-append, arith}
 use Rattle.std.specs.List.{sum_by, flat_map}
-use Rattle.std.specs.Prelude.{Option, None, IfNone, Some}
+use Rattle.std.specs.Prelude.{Option, None, IfNone, Some, is_some}
 use Rattle.std.proofs.lemmas.List.{get_or-map, length-map, take_all, map-id}
 use Rattle.std.proofs.lemmas.List.Concat.{length-flat_map}
 use Rattle.std.proofs.lemmas.List.Elements.{All-nil, All-cons, All-head, All-tail, All-append, All-contains}
@@ -21,7 +21,7 @@ use Rattle.mm_dump.specs.Courses.{Course, IsCourse, worst_of, sent_by, failed_by
 use Rattle.mm_dump.specs.Dumped.{MayDump, AllKept, AllTook, AllTried, HasDumped, HasTaken, HasTried, AllDumped, AllSettled, CarriesOut, amount_of, places_of, times, used_by, wanted}
 use Rattle.mm_dump.specs.Sending.{Sent, all_sent}
 use Rattle.mm_dump.specs.Workers.{AreTried, IsTried}
-use Rattle.mm_dump.proofs.Courses.{cause_of_all, no_failures, none_broke, whole_course}
+use Rattle.mm_dump.proofs.Courses.{cause_of_all, course_few, no_failures, none_broke, whole_course}
 use Rattle.mm_dump.proofs.Finding.{find, found_again, here, is_found, none_found}
 use Rattle.mm_dump.proofs.Ordered.{named_once, names, times_named, wanted_named, wanted_own}
 
@@ -174,7 +174,7 @@ module _ {L : Type 0} (sent : L → List Sent) (failed : L → ℕ) (ids : List 
         let tried = flat_all IsTried (λ l. l.courses) lines (λ j e within. (each j e within).are.each) i d inside in
         let within = All-contains (λ (o : Order). o.place < length stores) orders c.order may.places of in
         let idle = All-contains (λ (o : Order). (opening_at before o.place).retrieval ≡ None) orders c.order may.idle of in
-        tried.alone (opening_at before p) (opening_at after p) idle
+        tried.alone (opening_at before p) (opening_at after p) (ap is_some idle)
         (subst (λ (e : Course). IsRun (opening_at before p) e.calls (opening_at after p)) (at i d inside) (h.runs p (omega (arith, within, same)) (few p)))
 
     -- its amount is what is wanted of its place
@@ -258,7 +258,7 @@ module _ {L : Type 0} (sent : L → List Sent) (failed : L → ℕ) (ids : List 
           let l : Line L = get_or lines i d in
           let is = each i d inside in (
             is.all ∙ ap (λ (ss : List Sent). sent l.old ++ ss) (sym (took_same course l.courses (all_flat (λ (c : Course). course c.order.place ≡ c) (λ l. l.courses) lines at i d inside))),
-            omega (arith, is.failures, no_failures l.courses is.are.each (unbroken i d inside)),
+            omega (arith, is.failures, no_failures l.courses (all_flat IsCourse (λ l. l.courses) lines known i d inside) (unbroken i d inside)),
           )
 
       all_dumped : AllDumped sent failed ids orders before after (map (λ l. l.old) lines) (map (λ l. l.new) lines)
@@ -287,7 +287,7 @@ module _ {L : Type 0} (sent : L → List Sent) (failed : L → ℕ) (ids : List 
           arith,
           sum_by-le_each (λ l. l.spent) (λ l. sum_by (λ (c : Course). c.order.amount) l.courses) lines (λ i d inside.
               let is = each i d inside in
-              omega (arith, is.blocks, sum_by-le_each (λ (c : Course). length c.sent + length c.unsent) (λ c. c.order.amount) (get_or lines i d).courses (λ j e within. (is.are.each j e within).few))),
+              omega (arith, is.blocks, sum_by-le_each (λ (c : Course). length c.sent + length c.unsent) (λ c. c.order.amount) (get_or lines i d).courses (λ j e within. course_few (get_or (get_or lines i d).courses j e) (all_flat IsCourse (λ l. l.courses) lines known i d inside j e within)))),
           sum_by-flat_map (λ (c : Course). c.order.amount) (λ (l : Line L). l.courses) lines,
           h.weigh (λ (o : Order). o.amount),
           sum_by-take-le (λ (o : Order). o.amount) orders h.next,

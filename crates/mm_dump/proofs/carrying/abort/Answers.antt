@@ -1,5 +1,5 @@
-use Rattle.mm_dump.proofs.Refusing.{abort_refused, was_refused}
+use Rattle.mm_dump.proofs.OneOrder.{call_abort}
 use Rattle.mm_dump.proofs.carrying.abort.Goals as goal
 
-pub returns-in-Err : goal.returns-in-Err
-returns-in-Err g c = record { aborted = was_refused _ _ _ _ _ c.in-Err.ensures.called (abort_refused _ _) }
+pub returns-clause-called : goal.returns-clause-called
+returns-clause-called g c = call_abort _ _ _ _ c.abort-aborted.ensures.called

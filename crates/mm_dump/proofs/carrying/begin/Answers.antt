@@ -1,5 +1,5 @@
-use Rattle.mm_dump.proofs.Refusing.{begin_refused, was_refused}
+use Rattle.mm_dump.proofs.OneOrder.{call_begin}
 use Rattle.mm_dump.proofs.carrying.begin.Goals as goal
 
-pub returns-in-Err-clause-err : goal.returns-in-Err-clause-err
-returns-in-Err-clause-err g c = was_refused _ _ _ _ _ c.in-Err.ensures.called (begin_refused _ _)
+pub returns-clause-called : goal.returns-clause-called
+returns-clause-called g c = call_begin _ _ _ _ c.begin-begun.ensures.called

@@ -1,13 +1,17 @@
-use Rattle.std.proofs.Common.{rules, true}
-use Rattle.std.specs.Prelude.{Err}
+use Rattle.std.proofs.Common.{rules, ◌≡◌, refl}
+use Rattle.std.specs.Prelude.{Ok, Err}
 use Rattle.mm_desk.specs.declared.event.Event.TheVariants.{Next}
 use Rattle.mm_desk.specs.declared.reply.Reply.TheVariants as reply
-use Rattle.mm_desk.specs.Runs.{entry}
-use Rattle.mm_dump.proofs.Refusing.{next_refused, was_refused}
+use Rattle.mm_shared.specs.Views.{with_call}
+use Rattle.mm_dump.proofs.OneOrder.{call_next, call_refused}
 use Rattle.mm_dump.proofs.carrying.next.Goals as goal
 
-pub returns-in_default : goal.returns-in_default
-returns-in_default g c = record {
-  ok = tt;
-  err = was_refused c.args.context.now.place true c.args.port.now c.next.new.port (entry c.args.port.now.number Next (reply.Given (Err c.in-Err.fault))) (search rules) (next_refused _ _);
-}
+pub returns-in-Ok-clause-ok : goal.returns-in-Ok-clause-ok
+returns-in-Ok-clause-ok g c =
+    let called : c.next.new.port ≡ with_call c.args.port.now c.args.context.now.place Next (reply.Given (Ok c.in-Ok.next)) = search rules in
+    call_next _ _ _ _ called
+
+pub returns-in_default-clause-err : goal.returns-in_default-clause-err
+returns-in_default-clause-err g c =
+    let called : c.next.new.port ≡ with_call c.args.port.now c.args.context.now.place Next (reply.Given (Err c.in-Err.fault)) = search rules in
+    (refl, call_refused _ _ _ _ _ called)

@@ -1,23 +1,22 @@
-use Rattle.std.proofs.Common.{rules, ◌≡◌, ◌+◌, refl, ap, ◌∙◌}
-use Rattle.std.specs.Prelude.{Option, Ok}
-use Rattle.mm_store.specs.declared.stored.Stored.{Stored}
-use Rattle.mm_desk.specs.declared.event.Event.TheVariants.{Next}
-use Rattle.mm_desk.specs.declared.reply.Reply.TheVariants as reply
-use Rattle.mm_shared.specs.Views.{with_call}
-use Rattle.mm_dump.specs.OrderSteps.{order_store}
-use Rattle.mm_dump.specs.Sending.{link_state}
-use Rattle.mm_dump.proofs.OneOrder.{no_memory_stops, link_failed_stops}
+use Rattle.std.proofs.Common.{rules, ◌≡◌, ◌+◌, [], ◌∷◌, refl, arith}
+use Rattle.std.proofs.lemmas.Result.{err_from_is_err_and}
+use Rattle.mm_dump.proofs.OneOrder.{only_called, packet_failed, packet_sent}
 use Rattle.mm_dump.proofs.carrying.send_next.Goals as goal
 
 pub returns-in_err-stored-clause-err : goal.returns-in_err-stored-clause-err
 returns-in_err-stored-clause-err g c =
-    let stopped = no_memory_stops (order_store c.args.context.now.place c.args.context.now.id.now) c.in_err-stored.field-0.0 c.args.port.now c.next.new.port
-    (link_state (g.L.Link.sent c.args.link.now) (g.L.Link.failed c.args.link.now) c.args.spent.now) c.in_err-stored.ensures.err in
-    search rules
+    let failed = err_from_is_err_and c.from_residual.result c.from_residual.ensures.1 in
+    rw (failed.1, failed.2, c.in_err-stored.ensures.err.0)
+    ([], only_called _ _ _ _ _ _ _ c.in_err-stored.ensures.err.1 refl refl refl (λ seat calls are. record { most = omega arith; last = refl; are = are }))
+
+pub returns-in_default-clause-ok : goal.returns-in_default-clause-ok
+returns-in_default-clause-ok g c = only_called _ _ _ _ _ _ _ (rw c.in_default.is at c.in_ok-stored.ensures.ok) refl refl refl (λ seat calls are. (refl, are))
 
 pub returns-then-is_err-clause-err : goal.returns-then-is_err-clause-err
 returns-then-is_err-clause-err g c =
     let sent : g.L.Link.sent c.send.new.self ≡ g.L.Link.sent c.args.link.now = search rules in
     let failed : g.L.Link.failed c.send.new.self ≡ g.L.Link.failed c.args.link.now + 1 = search rules in
-    let gave = c.in_ok-stored.ensures.ok ∙ ap (λ (o : Option Stored). with_call c.args.port.now c.args.context.now.place Next (reply.Given (Ok o))) c.in-Some.is in
-    link_failed_stops _ c.in-Some.stored _ c.next.new.port _ _ _ gave sent failed refl _ c.abort.ensures.aborted
+    (c.in-Some.stored ∷ [], packet_failed _ c.in-Some.stored _ _ _ (rw c.in-Some.is at c.in_ok-stored.ensures.ok) c.abort.ensures.called sent failed refl)
+
+pub returns-clause-ok : goal.returns-clause-ok
+returns-clause-ok g c = packet_sent _ c.in-Some.stored _ _ (rw c.in-Some.is at c.in_ok-stored.ensures.ok) (search rules) (search rules) refl
