@@ -14,7 +14,7 @@ use Rattle.mm_desk.specs.Orders.{given, last_time, begun, ended, removed}
 use Rattle.mm_desk.specs.Runs.{entry, IsRun}
 use Rattle.mm_store.specs.Content.{clock_end}
 use Rattle.mm_shared.specs.Views.{PortView, with_call}
-use Rattle.mm_dump.specs.OrderSteps.{OrderStore, Progress, HasCalled, HasGone, with_calls, SentNext, HasBroken, SentAll, last_of, end_where, abort_where, deletion, course_of}
+use Rattle.mm_dump.specs.OrderSteps.{OrderStore, Progress, HasCalled, HasGone, with_calls, BreaksOff, AreGiven, SentAll, last_of, end_where, abort_where, deletion, course_of}
 use Rattle.mm_dump.specs.Courses.{IsWhole, IsBroken}
 use Rattle.mm_dump.specs.Sending.{Sent, all_sent}
 use Rattle.std.proofs.lemmas.Bool.{le-ltb, lt-ltb}
@@ -105,76 +105,60 @@ called_as place on off one so a b called turns = record {
   alone = λ s t is run. let both = called.alone s t is run in (both.0, turns a.number called.calls both.1);
 }
 
--- a part of an order that sends nothing
-pub only_called : (store : OrderStore) (on off : Bool) (one : ℕ → List Entry → Type 0) (so : ℕ → List Stored → List Entry → Type 0) (a b : Progress) → HasCalled store.place on off one a.port b.port
-    → b.sent ≡ a.sent → b.failed ≡ a.failed → b.spent ≡ a.spent → ((seat : ℕ) (calls : List Entry) → one seat calls → so seat [] calls) → HasGone store on off [] so a b
-only_called store on off one so a b called same failed spent turns = record {
-  sent = [];
-  called = called_as store.place on off one _ a.port b.port called turns;
-  all = same ∙ sym (append-nil a.sent);
-  failures = omega (arith, failed);
-  blocks = omega (arith, spent);
-}
+module _ (store : OrderStore) (on off : Bool) (so : ℕ → List Entry → Type 0) (a b : Progress) where
+  -- calls that send nothing
+  pub only_called : HasCalled store.place on off so a.port b.port → b.sent ≡ a.sent → b.failed ≡ a.failed → b.spent ≡ a.spent → HasGone store on off [] [] so a b
+  only_called called same failed spent = record { called = called; all = same ∙ sym (append-nil a.sent); failures = omega (arith, failed); blocks = omega (arith, spent) }
 
--- a packet that was given and sent
-pub packet_sent : (store : OrderStore) (p : Stored) (a b : Progress) → HasCalled store.place true true (λ seat calls. calls ≡ entry seat Next (reply.Given (Ok (Some p))) ∷ []) a.port b.port
-    → b.sent ≡ a.sent ++ record { store = store.id; stored = p } ∷ [] → b.failed ≡ a.failed → b.spent ≡ a.spent + 1 → HasGone store true true [] (SentNext (Some p)) a b
-packet_sent store p a b called all failed spent = record {
-  sent = p ∷ [];
-  called = called_as store.place true true _ _ a.port b.port called (λ seat calls are. (refl, are));
-  all = all;
-  failures = omega (arith, failed);
-  blocks = omega (arith, spent);
-}
+  -- a packet that was given and sent
+  pub packet_sent : (p : Stored) → HasCalled store.place on off so a.port b.port → b.sent ≡ a.sent ++ record { store = store.id; stored = p } ∷ [] → b.failed ≡ a.failed → b.spent ≡ a.spent + 1
+      → HasGone store on off (p ∷ []) [] so a b
+  packet_sent p called all failed spent = record { called = called; all = all; failures = omega (arith, failed); blocks = omega (arith, spent) }
 
--- a packet that was given and that the link did not take, after which the order was aborted
-pub packet_failed : (store : OrderStore) (p : Stored) (a b : Progress) (mid : PortView) → HasCalled store.place true true (λ seat calls. calls ≡ entry seat Next (reply.Given (Ok (Some p))) ∷ []) a.port mid
-    → HasCalled store.place true false (λ seat calls. calls ≡ aborted seat ∷ []) mid b.port → b.sent ≡ a.sent → b.failed ≡ a.failed + 1 → b.spent ≡ a.spent + 1
-    → HasGone store true false (p ∷ []) (HasBroken LinkFailed 1 (p ∷ [])) a b
-packet_failed store p a b mid given aborts all failed spent = record {
-  sent = [];
-  called = called_then store.place true true false _ _ _ a.port mid b.port given aborts (λ seat xs ys one two. record { most = omega arith; last = refl; are = λ i. one i ++ two i });
-  all = all ∙ sym (append-nil a.sent);
-  failures = omega (arith, failed);
-  blocks = omega (arith, spent);
-}
-
-module _ (store : OrderStore) (on mid off : Bool) (a b c : Progress) where
-  -- calls, and then a part of an order
-  pub called_gone : (unsent : List Stored) (one : ℕ → List Entry → Type 0) (two so : ℕ → List Stored → List Entry → Type 0) → HasCalled store.place on mid one a.port b.port
-      → b.sent ≡ a.sent → b.failed ≡ a.failed → b.spent ≡ a.spent → HasGone store mid off unsent two b c
-      → ((seat : ℕ) (sent : List Stored) (xs ys : List Entry) → one seat xs → two seat sent ys → so seat sent (xs ++ ys)) → HasGone store on off unsent so a c
-  called_gone unsent one two so called same failed spent more turns = record {
-    sent = more.sent;
-    called = called_then store.place on mid off _ _ _ a.port b.port c.port called more.called (λ seat xs ys. turns seat more.sent xs ys);
-    all = more.all ∙ ap (λ (ss : List Sent). ss ++ all_sent store.id more.sent) same;
-    failures = omega (arith, more.failures, failed);
-    blocks = omega (arith, more.blocks, spent);
+  -- a part of an order, and then another
+  gone_then : (mid : Bool) (ps qs us : List Stored) (one two : ℕ → List Entry → Type 0) (m : Progress) → HasGone store on mid ps [] one a m → HasGone store mid off qs us two m b
+      → ((seat : ℕ) (xs ys : List Entry) → one seat xs → two seat ys → so seat (xs ++ ys)) → HasGone store on off (ps ++ qs) us so a b
+  gone_then mid ps qs us one two m went more turns = record {
+    called = called_then store.place on mid off one two so a.port m.port b.port went.called more.called turns;
+    all = more.all ∙ ap (λ (ss : List Sent). ss ++ all_sent store.id qs) went.all ∙ append_assoc a.sent (all_sent store.id ps) (all_sent store.id qs)
+        ∙ ap (λ (ss : List Sent). a.sent ++ ss) (sym (map-append (λ (p : Stored). record { store = store.id; stored = p }) ps qs));
+    failures = omega (arith, went.failures, more.failures);
+    blocks = omega (arith, went.blocks, more.blocks, length-append ps qs);
   }
 
-  -- a part of an order, and then calls
-  pub gone_called : (unsent : List Stored) (one so : ℕ → List Stored → List Entry → Type 0) (two : ℕ → List Entry → Type 0) → HasGone store on mid unsent one a b
-      → HasCalled store.place mid off two b.port c.port → c.sent ≡ b.sent → c.failed ≡ b.failed → c.spent ≡ b.spent
-      → ((seat : ℕ) (sent : List Stored) (xs ys : List Entry) → one seat sent xs → two seat ys → so seat sent (xs ++ ys)) → HasGone store on off unsent so a c
-  gone_called unsent one so two went called same failed spent turns = record {
-    sent = went.sent;
-    called = called_then store.place on mid off _ _ _ a.port b.port c.port went.called called (λ seat xs ys. turns seat went.sent xs ys);
+  -- a part of an order, and then calls that send nothing
+  gone_called : (mid : Bool) (ps : List Stored) (one two : ℕ → List Entry → Type 0) (m : Progress) → HasGone store on mid ps [] one a m → HasCalled store.place mid off two m.port b.port
+      → b.sent ≡ m.sent → b.failed ≡ m.failed → b.spent ≡ m.spent → ((seat : ℕ) (xs ys : List Entry) → one seat xs → two seat ys → so seat (xs ++ ys)) → HasGone store on off ps [] so a b
+  gone_called mid ps one two m went called same failed spent turns = record {
+    called = called_then store.place on mid off one two so a.port m.port b.port went.called called turns;
     all = same ∙ went.all;
     failures = omega (arith, went.failures, failed);
     blocks = omega (arith, went.blocks, spent);
   }
 
-  -- packets that were sent, and then a part of an order
-  pub gone_then : (unsent : List Stored) (one two so : ℕ → List Stored → List Entry → Type 0) → HasGone store on mid [] one a b → HasGone store mid off unsent two b c
-      → ((seat : ℕ) (ps qs : List Stored) (xs ys : List Entry) → one seat ps xs → two seat qs ys → so seat (ps ++ qs) (xs ++ ys)) → HasGone store on off unsent so a c
-  gone_then unsent one two so went more turns = record {
-    sent = went.sent ++ more.sent;
-    called = called_then store.place on mid off _ _ _ a.port b.port c.port went.called more.called (λ seat xs ys. turns seat went.sent more.sent xs ys);
-    all = more.all ∙ ap (λ (ss : List Sent). ss ++ all_sent store.id more.sent) went.all ∙ append_assoc a.sent (all_sent store.id went.sent) (all_sent store.id more.sent)
-        ∙ ap (λ (ss : List Sent). a.sent ++ ss) (sym (map-append (λ (p : Stored). record { store = store.id; stored = p }) went.sent more.sent));
-    failures = omega (arith, went.failures, more.failures);
-    blocks = omega (arith, went.blocks, more.blocks, length-append went.sent more.sent);
-  }
+-- no memory for a packet's copy, after which the order was aborted
+pub memory_lacks : (store : OrderStore) (a b : Progress) → HasCalled store.place true false (λ seat calls. calls ≡ aborted seat ∷ []) a.port b.port
+    → b.sent ≡ a.sent → b.failed ≡ a.failed → b.spent ≡ a.spent → BreaksOff store 1 NoMemory a b
+memory_lacks store a b aborts same failed spent = record {
+  sent = [];
+  unsent = [];
+  gone = only_called store true false _ a b (called_as store.place true false _ _ a.port b.port aborts (λ seat calls are. record { most = omega arith; last = refl; are = are })) same failed spent;
+}
+
+-- a packet that was given and that the link did not take, after which the order was aborted
+pub packet_failed : (store : OrderStore) (p : Stored) (a b : Progress) (mid : PortView) → HasCalled store.place true true (λ seat calls. calls ≡ entry seat Next (reply.Given (Ok (Some p))) ∷ []) a.port mid
+    → HasCalled store.place true false (λ seat calls. calls ≡ aborted seat ∷ []) mid b.port → b.sent ≡ a.sent → b.failed ≡ a.failed + 1 → b.spent ≡ a.spent + 1
+    → BreaksOff store 1 LinkFailed a b
+packet_failed store p a b mid given aborts all failed spent = record {
+  sent = [];
+  unsent = p ∷ [];
+  gone = record {
+    called = called_then store.place true true false _ _ _ a.port mid b.port given aborts (λ seat xs ys one two. record { most = omega arith; last = refl; are = λ i. one i ++ two i });
+    all = all ∙ sym (append-nil a.sent);
+    failures = omega (arith, failed);
+    blocks = omega (arith, spent);
+  };
+}
 
 -- the packets given, and then others
 given_more : (seat : ℕ) (ps qs : List Stored) → given seat (ps ++ qs) ≡ given seat ps ++ given seat qs
@@ -190,58 +174,72 @@ last_of_more [] p = refl
 last_of_more (q ∷ ps) p = ap (λ (time : ℕ). Some time) (last_time_of q.time ps p)
 
 -- this many packets were given and sent
-abbrev pub SentSoFar : ℕ → Option ℕ → ℕ → List Stored → List Entry → Type 0
-SentSoFar many last seat sent calls = (length sent ≡ many) × (last ≡ last_of sent) × (calls ≡ given seat sent)
+pub record SentSoFar (store : OrderStore) (many : ℕ) (last : Option ℕ) (a b : Progress) : Type 0 where
+  pub sent : List Stored
+  pub count : length sent ≡ many
+  pub last_is : last ≡ last_of sent
+  pub gone : HasGone store true true sent [] (λ seat calls. calls ≡ given seat sent) a b
 
 -- at the start none was given
-pub none_so_far : (store : OrderStore) (a : Progress) → HasGone store true true [] (SentSoFar 0 None) a a
+pub none_so_far : (store : OrderStore) (a : Progress) → SentSoFar store 0 None a a
 none_so_far store a =
-    only_called store true true (λ seat calls. SentSoFar 0 None seat [] calls) _ a a (no_call store.place true _ a.port (refl, refl, refl)) refl refl refl (λ seat calls is. is)
+    record { sent = []; count = refl; last_is = refl; gone = only_called store true true _ a a (no_call store.place true (λ seat calls. calls ≡ []) a.port refl) refl refl refl }
 
-module _ (store : OrderStore) (many : ℕ) (last : Option ℕ) (a b : Progress) (so_far : HasGone store true true [] (SentSoFar many last) a b) where
+module _ (store : OrderStore) (many : ℕ) (last : Option ℕ) (a b : Progress) (so_far : SentSoFar store many last a b) where
   -- a packet more
-  pub so_far_more : (c : Progress) (p : Stored) → HasGone store true true [] (SentNext (Some p)) b c → HasGone store true true [] (SentSoFar (many + 1) (Some p.time)) a c
-  so_far_more c p next =
-      gone_then store true true true a b c [] _ _ _ so_far next (λ seat ps qs xs ys one two.
-      let more = ap (λ (rest : List Stored). ps ++ rest) two.0 in
-      (omega (arith, one.0, ap length more, length-append ps (p ∷ [])), sym (ap last_of more ∙ last_of_more ps p), (λ i. one.2 i ++ two.1 i) ∙ sym (ap (given seat) more ∙ given_more seat ps (p ∷ []))))
+  pub so_far_more : (c : Progress) (p : Stored) → HasGone store true true (p ∷ []) [] (λ seat calls. calls ≡ entry seat Next (reply.Given (Ok (Some p))) ∷ []) b c
+      → SentSoFar store (many + 1) (Some p.time) a c
+  so_far_more c p next = record {
+    sent = so_far.sent ++ p ∷ [];
+    count = omega (arith, so_far.count, length-append so_far.sent (p ∷ []));
+    last_is = sym (last_of_more so_far.sent p);
+    gone = gone_then store true true _ a c true so_far.sent (p ∷ []) [] _ _ b so_far.gone next (λ seat xs ys one two. (λ i. one i ++ two i) ∙ sym (given_more seat so_far.sent (p ∷ [])));
+  }
 
   -- the order broke
-  pub so_far_broken : (c : Progress) (wanted : ℕ) (why : OrderBroken) (unsent : List Stored) → many < wanted → HasGone store true false unsent (HasBroken why 1 unsent) b c
-      → HasGone store true false unsent (HasBroken why wanted unsent) a c
-  so_far_broken c wanted why unsent fewer broken =
-      gone_then store true true false a b c unsent _ _ _ so_far broken (λ seat ps qs xs ys one two. record {
-        most = omega (arith, fewer, one.0, two.most, length-append (ps ++ qs) unsent, length-append ps qs, length-append qs unsent);
-        last = two.last;
-        are = (λ i. one.2 i ++ two.are i) ∙ sym (append_assoc (given seat ps) (given seat (qs ++ unsent)) (aborted seat ∷ []))
-            ∙ ap (λ (x : List Entry). x ++ aborted seat ∷ []) (sym (given_more seat ps (qs ++ unsent)) ∙ ap (given seat) (sym (append_assoc ps qs unsent)));
-      })
+  pub so_far_broken : (c : Progress) (wanted : ℕ) (why : OrderBroken) → many < wanted → BreaksOff store 1 why b c → BreaksOff store wanted why a c
+  so_far_broken c wanted why fewer broken =
+      let ps : List Stored = so_far.sent in
+      let qs : List Stored = broken.sent in
+      let us : List Stored = broken.unsent in
+      record {
+        sent = ps ++ qs;
+        unsent = us;
+        gone = gone_then store true false _ a c true ps qs us _ _ b so_far.gone broken.gone (λ seat xs ys one two. record {
+          most = omega (arith, fewer, so_far.count, two.most, length-append (ps ++ qs) us, length-append ps qs, length-append qs us);
+          last = two.last;
+          are = (λ i. one i ++ two.are i) ∙ sym (append_assoc (given seat ps) (given seat (qs ++ us)) (aborted seat ∷ []))
+              ∙ ap (λ (x : List Entry). x ++ aborted seat ∷ []) (sym (given_more seat ps (qs ++ us)) ∙ ap (given seat) (sym (append_assoc ps qs us)));
+        });
+      }
 
   -- the retrieval came to its end
-  pub so_far_over : (c : Progress) (wanted : ℕ) → many < wanted → HasGone store true false [] (SentNext None) b c → HasGone store true false [] (SentAll wanted last true (λ seat. []) (end_where true)) a c
-  so_far_over c wanted fewer next =
-      gone_then store true true false a b c [] _ _ _ so_far next (λ seat ps qs xs ys one two.
-      let same = ap (λ (rest : List Stored). ps ++ rest) two.0 ∙ append-nil ps in
-      let few : length (ps ++ qs) < wanted = omega (arith, fewer, one.0, ap length same) in record {
-        most = omega (arith, few);
-        fewer = sym (lt-ltb (length (ps ++ qs)) wanted few);
-        last_is = one.1 ∙ sym (ap last_of same);
-        are = (λ i. one.2 i ++ two.1 i) ∙ ap (λ (gave : List Stored). given seat gave ++ end_where true seat) (sym same);
-      })
+  pub so_far_over : (c : Progress) (wanted : ℕ) → many < wanted → HasGone store true false [] [] (λ seat calls. calls ≡ end_where true seat) b c → SentAll store wanted last true a c
+  so_far_over c wanted fewer next = record {
+    sent = so_far.sent;
+    gone = gone_called store true false _ a c true so_far.sent _ _ b so_far.gone next.called (next.all ∙ append-nil b.sent) (omega (arith, next.failures)) (omega (arith, next.blocks)) (λ seat xs ys one two. record {
+      most = omega (arith, fewer, so_far.count);
+      fewer = sym (lt-ltb (length so_far.sent) wanted (omega (arith, fewer, so_far.count)));
+      last_is = so_far.last_is;
+      are = λ i. one i ++ two i;
+    });
+  }
 
   -- all that were wanted were given
-  pub so_far_all : (wanted : ℕ) → many ≡ wanted → HasGone store true true [] (SentAll wanted last false (λ seat. []) (end_where false)) a b
+  pub so_far_all : (wanted : ℕ) → many ≡ wanted → SentAll store wanted last false a b
   so_far_all wanted all = record {
     sent = so_far.sent;
-    called = called_as store.place true true _ _ a.port b.port so_far.called (λ seat calls is. record {
-      most = omega (arith, is.0, all);
-      fewer = sym (le-ltb (length so_far.sent) wanted (omega (arith, is.0, all)));
-      last_is = is.1;
-      are = is.2 ∙ sym (append-nil (given seat so_far.sent));
-    });
-    all = so_far.all;
-    failures = so_far.failures;
-    blocks = so_far.blocks;
+    gone = record {
+      called = called_as store.place true true _ _ a.port b.port so_far.gone.called (λ seat calls are. record {
+        most = omega (arith, so_far.count, all);
+        fewer = sym (le-ltb (length so_far.sent) wanted (omega (arith, so_far.count, all)));
+        last_is = so_far.last_is;
+        are = are ∙ sym (append-nil (given seat so_far.sent));
+      });
+      all = so_far.gone.all;
+      failures = so_far.gone.failures;
+      blocks = so_far.gone.blocks;
+    };
   }
 
 -- how a retrieval ended
@@ -255,35 +253,34 @@ deletes_as seat count [] = refl
 deletes_as seat count (p ∷ gave) = refl
 
 -- an order that was begun
-module _ (store : OrderStore) (order : Order) (a b c : Progress) (begins : HasCalled store.place false true (λ seat calls. calls ≡ begun seat ∷ []) a.port b.port)
-    (same : b.sent ≡ a.sent) (failed : b.failed ≡ a.failed) (spent : b.spent ≡ a.spent) where
+module _ (store : OrderStore) (order : Order) (a b c : Progress) (begins : HasGone store false true [] [] (λ seat calls. calls ≡ begun seat ∷ []) a b) where
   -- it broke
-  pub broken : (why : OrderBroken) (unsent : List Stored) → HasGone store true false unsent (HasBroken why order.amount unsent) b c
-      → HasGone store false false unsent (λ seat sent calls. IsBroken why (course_of order (Some why) seat unsent sent calls)) a c
-  broken why unsent breaks =
-      called_gone store false true false a b c unsent _ _ _ begins same failed spent breaks (λ seat sent xs ys one two. record {
+  pub broken : (why : OrderBroken) (breaks : BreaksOff store order.amount why b c)
+      → HasGone store false false breaks.sent breaks.unsent (λ seat calls. IsBroken why (course_of order (Some why) breaks.sent breaks.unsent seat calls)) a c
+  broken why breaks =
+      gone_then store false false _ a c true [] breaks.sent breaks.unsent _ _ b begins breaks.gone (λ seat xs ys one two. record {
         order = record { most = two.most; are = λ i. one i ++ two.are i };
         last = two.last;
       })
 
   -- its packets were sent, its retrieval ended, and those sent were deleted
-  pub whole : (last : Option ℕ) (over : Bool) (d e : PortView) → HasGone store true (not over) [] (SentAll order.amount last over (λ seat. []) (end_where over)) b c
+  pub whole : (last : Option ℕ) (over : Bool) (d e : PortView) (sends : SentAll store order.amount last over b c)
       → HasCalled store.place (not over) false (λ seat calls. calls ≡ abort_where over seat) c.port d
       → HasCalled store.place false false (λ seat calls. (count : ℕ) × (calls ≡ deletion last seat count)) d e
-      → HasGone store false false [] (λ seat sent calls. IsWhole (course_of order None seat [] sent calls)) a (record c { port = e })
+      → HasGone store false false sends.sent [] (λ seat calls. IsWhole (course_of order None sends.sent [] seat calls)) a (record c { port = e })
   whole last over d e sends ends deletes =
-      let sent_all = SentAll order.amount last over (λ seat. begun seat ∷ []) in
-      let sent : HasGone store false (not over) [] (sent_all (end_where over)) a c =
-      called_gone store false true (not over) a b c [] _ _ _ begins same failed spent sends (λ seat sent xs ys one two.
-      record { most = two.most; fewer = two.fewer; last_is = two.last_is; are = λ i. one i ++ two.are i }) in
-      let over_all : HasGone store false false [] (sent_all (λ seat. end_where over seat ++ abort_where over seat)) a (record c { port = d }) =
-      gone_called store false (not over) false a c (record c { port = d }) [] _ _ _ sent ends refl refl refl (λ seat sent xs ys one two. record {
+      let sent = sends.sent in
+      let are_given = AreGiven order.amount last over sent (λ seat. begun seat ∷ []) in
+      let first : HasGone store false (not over) sent [] (are_given (end_where over)) a c =
+      gone_then store false (not over) _ a c true [] sent [] _ _ b begins sends.gone (λ seat xs ys one two. record { most = two.most; fewer = two.fewer; last_is = two.last_is; are = λ i. one i ++ two.are i }) in
+      let ended : HasGone store false false sent [] (are_given (λ seat. end_where over seat ++ abort_where over seat)) a (record c { port = d }) =
+      gone_called store false false _ a (record c { port = d }) (not over) sent _ _ c first ends refl refl refl (λ seat xs ys one two. record {
         most = one.most;
         fewer = one.fewer;
         last_is = one.last_is;
         are = (λ i. one.are i ++ two i) ∙ ap (λ (es : List Entry). begun seat ∷ es) (append_assoc (given seat sent) (end_where over seat) (abort_where over seat));
       }) in
-      gone_called store false false false a (record c { port = d }) (record c { port = e }) [] _ _ _ over_all deletes refl refl refl (λ seat sent xs ys one two. record {
+      gone_called store false false _ a (record c { port = e }) false sent _ _ (record c { port = d }) ended deletes refl refl refl (λ seat xs ys one two. record {
         order = record {
           most = one.most;
           count = two.0;

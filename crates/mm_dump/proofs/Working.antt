@@ -56,7 +56,7 @@ module _ (ids : List (List ℕ)) (orders : List Order) (taken all : List ℕ) (n
       → (courses : List Course) × Worked ids orders all 0 why a c courses
   worked_more order why c inside at carried =
       let went = carried.gone in
-      let course : Course = course_of order why b.port.number carried.unsent went.sent went.called.calls in (
+      let course : Course = course_of order why carried.sent carried.unsent b.port.number went.called.calls in (
         courses ++ course ∷ [],
         record {
           of = map-append (λ (d : Course). d.order) courses (course ∷ []) ∙ (λ i. worked.of i ++ at i ∷ [])
@@ -72,7 +72,7 @@ module _ (ids : List (List ℕ)) (orders : List Order) (taken all : List ℕ) (n
           shown = record {
             port = went.called.port ∙ (λ i. record (worked.shown.port i) { list = (worked.shown.port i).list ++ map (λ (e : Entry). (order.place, e)) went.called.calls })
                 ∙ ap (λ (calls : List (ℕ × Entry)). record a.port { list = calls }) (flat_map_more (λ (d : Course). map (λ (e : Entry). (d.order.place, e)) d.calls) a.port.list courses course);
-            all = went.all ∙ ap (λ (xs : List Sent). xs ++ all_sent (id_at ids order.place) went.sent) worked.shown.all
+            all = went.all ∙ ap (λ (xs : List Sent). xs ++ all_sent (id_at ids order.place) carried.sent) worked.shown.all
                 ∙ flat_map_more (λ (d : Course). all_sent (id_at ids d.order.place) d.sent) a.sent courses course;
             failures = omega (arith, went.failures, worked.shown.failures, sum_by_push (λ (d : Course). length d.unsent) courses course);
             blocks = omega (arith, went.blocks, worked.shown.blocks, sum_by_push (λ (d : Course). length d.sent + length d.unsent) courses course);

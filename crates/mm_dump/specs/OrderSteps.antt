@@ -1,6 +1,5 @@
 -- The parts of an order. No public clause cites this module.
-use Rattle.std.specs.Prelude.{◌≡◌, ℕ, ◌+◌, ◌<◌, ◌≤◌, Bool, true, false, nat_lt, is_some, if◌then◌else◌, List, [], ◌∷◌, ◌++◌, length, map, Option, Some, None, Ok}
-use Rattle.std.specs.Option.{option_to_list}
+use Rattle.std.specs.Prelude.{◌≡◌, ℕ, ◌+◌, ◌<◌, ◌≤◌, Bool, true, false, not, nat_lt, is_some, if◌then◌else◌, List, [], ◌∷◌, ◌++◌, length, map, Option, Some, None, Ok}
 use Rattle.mm_store.specs.declared.stored.Stored.{Stored}
 use Rattle.mm_desk.specs.declared.entry.Entry.{Entry}
 use Rattle.mm_desk.specs.declared.event.Event.TheVariants.{Next, Delete}
@@ -51,28 +50,25 @@ pub record HasCalled (place : ℕ) (on off : Bool) (so : ℕ → List Entry → 
   pub port : new ≡ with_calls place old calls
   pub alone : (s t : State) → is_some s.retrieval ≡ on → IsRun s calls t → (is_some t.retrieval ≡ off) × so old.number calls
 
--- a part of an order made such calls, of which this holds with the packets that the link took; it did not take these others, and a block of
--- the window was spent for each
-pub record HasGone (store : OrderStore) (on off : Bool) (unsent : List Stored) (so : ℕ → List Stored → List Entry → Type 0) (a b : Progress) : Type 0 where
-  pub sent : List Stored
-  pub called : HasCalled store.place on off (λ seat calls. so seat sent calls) a.port b.port
+-- a part of an order made such calls. Of the packets that they gave the link took these and did not take those, and a block of the window
+-- was spent for each
+pub record HasGone (store : OrderStore) (on off : Bool) (sent unsent : List Stored) (so : ℕ → List Entry → Type 0) (a b : Progress) : Type 0 where
+  pub called : HasCalled store.place on off so a.port b.port
   pub all : b.sent ≡ a.sent ++ all_sent store.id sent
   pub failures : b.failed ≡ a.failed + length unsent
   pub blocks : b.spent ≡ a.spent + length sent + length unsent
 
--- a next was answered with this packet, which was sent, or with the end of the retrieval
-abbrev pub SentNext : Option Stored → ℕ → List Stored → List Entry → Type 0
-SentNext next seat sent calls = (sent ≡ option_to_list next) × (calls ≡ entry seat Next (reply.Given (Ok next)) ∷ [])
-
 -- an order broke in its retrieval and was aborted, after at most this many packets
-pub record HasBroken (why : OrderBroken) (wanted : ℕ) (unsent : List Stored) (seat : ℕ) (sent : List Stored) (calls : List Entry) : Type 0 where
+pub record HasBroken (why : OrderBroken) (wanted : ℕ) (sent unsent : List Stored) (seat : ℕ) (calls : List Entry) : Type 0 where
   pub most : length (sent ++ unsent) ≤ wanted
   pub last : length unsent ≡ unsent_at why
   pub are : calls ≡ given seat (sent ++ unsent) ++ aborted seat ∷ []
 
 -- a part of an order ended so
-abbrev pub BreaksOff : OrderStore → ℕ → OrderBroken → Progress → Progress → Type 0
-BreaksOff store wanted why a b = (unsent : List Stored) × HasGone store true false unsent (HasBroken why wanted unsent) a b
+pub record BreaksOff (store : OrderStore) (wanted : ℕ) (why : OrderBroken) (a b : Progress) : Type 0 where
+  pub sent : List Stored
+  pub unsent : List Stored
+  pub gone : HasGone store true false sent unsent (HasBroken why wanted sent unsent) a b
 
 -- the time of the packet given last
 abbrev pub last_of : List Stored → Option ℕ
@@ -87,12 +83,17 @@ end_where over seat = if over then entry seat Next (reply.Given (Ok None)) ∷ [
 abbrev pub abort_where : Bool → ℕ → List Entry
 abort_where over seat = if over then [] else aborted seat ∷ []
 
--- these packets were given and sent, this many or fewer, between other calls; where fewer, the retrieval came to its end
-pub record SentAll (wanted : ℕ) (last : Option ℕ) (over : Bool) (before after : ℕ → List Entry) (seat : ℕ) (sent : List Stored) (calls : List Entry) : Type 0 where
+-- these packets were given, this many or fewer, between other calls; where fewer, the retrieval came to its end
+pub record AreGiven (wanted : ℕ) (last : Option ℕ) (over : Bool) (sent : List Stored) (before after : ℕ → List Entry) (seat : ℕ) (calls : List Entry) : Type 0 where
   pub most : length sent ≤ wanted
   pub fewer : over ≡ nat_lt (length sent) wanted
   pub last_is : last ≡ last_of sent
   pub are : calls ≡ before seat ++ (given seat sent ++ after seat)
+
+-- the packets of a retrieval were given and sent, this many or fewer
+pub record SentAll (store : OrderStore) (wanted : ℕ) (last : Option ℕ) (over : Bool) (a b : Progress) : Type 0 where
+  pub sent : List Stored
+  pub gone : HasGone store true (not over) sent [] (AreGiven wanted last over sent (λ seat. []) (end_where over)) a b
 
 -- the entry of the deletion up to the packet given last, where one was given
 abbrev pub deletion : Option ℕ → ℕ → ℕ → List Entry
@@ -100,10 +101,11 @@ deletion None seat count = []
 deletion (Some limit) seat count = entry seat (Delete limit) (reply.Deleted (Ok count)) ∷ []
 
 -- an order that went so
-abbrev pub course_of : Order → Option OrderBroken → ℕ → List Stored → List Stored → List Entry → Course
-course_of order why seat unsent sent calls = record { order = order; seat = seat; calls = calls; sent = sent; unsent = unsent; why = why }
+abbrev pub course_of : Order → Option OrderBroken → List Stored → List Stored → ℕ → List Entry → Course
+course_of order why sent unsent seat calls = record { order = order; seat = seat; calls = calls; sent = sent; unsent = unsent; why = why }
 
 -- an order was carried out, and broke for this cause, where there is one
 pub record OrderCarriedOut (ids : List (List ℕ)) (order : Order) (why : Option OrderBroken) (a b : Progress) : Type 0 where
+  pub sent : List Stored
   pub unsent : List Stored
-  pub gone : HasGone (order_store order.place (id_at ids order.place)) false false unsent (λ seat sent calls. IsCourse (course_of order why seat unsent sent calls)) a b
+  pub gone : HasGone (order_store order.place (id_at ids order.place)) false false sent unsent (λ seat calls. IsCourse (course_of order why sent unsent seat calls)) a b

@@ -1,10 +1,11 @@
 //! One dump order carried out. It alone makes calls on its store, at which no retrieval was on, so none of its calls is refused.
-ghost use Rattle.std.specs.Prelude.{◌≡◌, ℕ, ◌+◌, ◌-◌, ◌<◌, ◌≤◌, ◌^◌, [], ◌∷◌, not, false, true, is_some, length, IfOk, IfErr, IfNone};
+ghost use Rattle.std.specs.Prelude.{◌≡◌, ℕ, ◌+◌, ◌-◌, ◌<◌, ◌≤◌, ◌^◌, [], ◌∷◌, not, false, true, is_some, length, Ok, IfOk, IfErr, IfNone};
+ghost use Rattle.std.specs.Option.{option_to_list};
 ghost use Rattle.mm_desk.specs.Orders.{begun};
 ghost use Rattle.mm_desk.specs.Runs.{entry};
 ghost use Rattle.mm_shared.specs.Stores.{ids_of};
 ghost use Rattle.mm_dump.specs.Broken.{aborted};
-ghost use Rattle.mm_dump.specs.OrderSteps.{order_store, IsPortAt, progress, HasCalled, HasGone, SentNext, BreaksOff, SentAll, OrderCarriedOut, end_where, abort_where, deletion};
+ghost use Rattle.mm_dump.specs.OrderSteps.{order_store, IsPortAt, progress, HasCalled, HasGone, BreaksOff, SentAll, OrderCarriedOut, abort_where, deletion};
 
 use crate::dumper::DumpContext;
 use crate::link::Link;
@@ -90,7 +91,8 @@ fn send_next<L: Link, R: Wait>(
     requires blocks { spent.old + 1 < 2 ^ 64 }
     ensures of { port.new.of ≡ port.old.of }
     ensures few { spent.new ≤ spent.old + 1 }
-    ensures ok { IfOk result (λ next. HasGone (order_store context.now.place context.now.id.now) true (is_some next) [] (SentNext next)
+    ensures ok { IfOk result (λ next. HasGone (order_store context.now.place context.now.id.now) true (is_some next) (option_to_list next) []
+        (λ seat calls. calls ≡ entry seat Event.Next (Reply.Given (Ok next)) ∷ [])
         (progress L.sent L.failed port.old link.old spent.old) (progress L.sent L.failed port.new link.new spent.new)) }
     ensures err { IfErr result (λ why. BreaksOff (order_store context.now.place context.now.id.now) 1 why
         (progress L.sent L.failed port.old link.old spent.old) (progress L.sent L.failed port.new link.new spent.new)) }
@@ -119,8 +121,7 @@ fn send_all<L: Link, R: Wait>(
     requires blocks { spent.old + amount < 2 ^ 64 }
     ensures of { port.new.of ≡ port.old.of }
     ensures few { spent.new ≤ spent.old + amount }
-    ensures ok { IfOk result (λ sending. HasGone (order_store context.now.place context.now.id.now) true (not sending.over) []
-        (SentAll amount sending.last sending.over (λ seat. []) (end_where sending.over))
+    ensures ok { IfOk result (λ sending. SentAll (order_store context.now.place context.now.id.now) amount sending.last sending.over
         (progress L.sent L.failed port.old link.old spent.old) (progress L.sent L.failed port.new link.new spent.new)) }
     ensures err { IfErr result (λ why. BreaksOff (order_store context.now.place context.now.id.now) amount why
         (progress L.sent L.failed port.old link.old spent.old) (progress L.sent L.failed port.new link.new spent.new)) }

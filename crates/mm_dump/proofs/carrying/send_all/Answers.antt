@@ -18,8 +18,7 @@ loop-preserved g c =
 pub returns-in_err-stored-clause-err : goal.returns-in_err-stored-clause-err
 returns-in_err-stored-clause-err g c =
     let failed = err_from_is_err_and c.from_residual.result c.from_residual.ensures.1 in
-    let broken = c.in_err-stored.ensures.err in
-    rw (failed.1, failed.2) (broken.0, so_far_broken _ _ _ _ _ c.loop.invariant.so_far _ c.args.amount _ broken.0 (omega (arith, c.loop-test.true)) broken.1)
+    rw (failed.1, failed.2) (so_far_broken _ _ _ _ _ c.loop.invariant.so_far _ c.args.amount _ (omega (arith, c.loop-test.true)) c.in_err-stored.ensures.err)
 
 pub returns-in-None-clause-ok : goal.returns-in-None-clause-ok
 returns-in-None-clause-ok g c =
