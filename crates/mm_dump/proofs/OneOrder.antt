@@ -14,7 +14,7 @@ use Rattle.mm_desk.specs.Orders.{given, last_time, begun, ended, removed}
 use Rattle.mm_desk.specs.Runs.{entry, IsRun}
 use Rattle.mm_store.specs.Content.{clock_end}
 use Rattle.mm_shared.specs.Views.{PortView, with_call}
-use Rattle.mm_dump.specs.OrderSteps.{OrderStore, Progress, HasCalled, HasGone, with_calls, BreaksOff, AreGiven, SentAll, last_of, end_where, abort_where, deletion, course_of}
+use Rattle.mm_dump.specs.OrderSteps.{OrderStore, Progress, HasCalled, HasGone, with_calls, BreaksOff, SentAll, last_of, deletion, course_of}
 use Rattle.mm_dump.specs.Courses.{IsWhole, IsBroken}
 use Rattle.mm_dump.specs.Sending.{Sent, all_sent}
 use Rattle.std.proofs.lemmas.Bool.{le-ltb, lt-ltb}
@@ -214,38 +214,27 @@ module _ (store : OrderStore) (many : ℕ) (last : Option ℕ) (a b : Progress) 
       }
 
   -- the retrieval came to its end
-  pub so_far_over : (c : Progress) (wanted : ℕ) → many < wanted → HasGone store true false [] [] (λ seat calls. calls ≡ end_where true seat) b c → SentAll store wanted last true a c
-  so_far_over c wanted fewer next = record {
-    sent = so_far.sent;
-    gone = gone_called store true false _ a c true so_far.sent _ _ b so_far.gone next.called (next.all ∙ append-nil b.sent) (omega (arith, next.failures)) (omega (arith, next.blocks)) (λ seat xs ys one two. record {
-      most = omega (arith, fewer, so_far.count);
-      fewer = sym (lt-ltb (length so_far.sent) wanted (omega (arith, fewer, so_far.count)));
-      last_is = so_far.last_is;
-      are = λ i. one i ++ two i;
-    });
-  }
-
-  -- all that were wanted were given
-  pub so_far_all : (wanted : ℕ) → many ≡ wanted → SentAll store wanted last false a b
-  so_far_all wanted all = record {
-    sent = so_far.sent;
-    gone = record {
-      called = called_as store.place true true _ _ a.port b.port so_far.gone.called (λ seat calls are. record {
-        most = omega (arith, so_far.count, all);
-        fewer = sym (le-ltb (length so_far.sent) wanted (omega (arith, so_far.count, all)));
+  pub so_far_over : (c : Progress) (wanted : ℕ) → many < wanted → HasGone store true false [] [] (λ seat calls. calls ≡ entry seat Next (reply.Given (Ok None)) ∷ []) b c → SentAll store wanted last a c
+  so_far_over c wanted fewer next =
+      let few : length so_far.sent < wanted = omega (arith, fewer, so_far.count) in
+      let all : c.sent ≡ b.sent = next.all ∙ append-nil b.sent in
+      record {
+        sent = so_far.sent;
+        most = omega (arith, few);
         last_is = so_far.last_is;
-        are = are ∙ sym (append-nil (given seat so_far.sent));
-      });
-      all = so_far.gone.all;
-      failures = so_far.gone.failures;
-      blocks = so_far.gone.blocks;
-    };
-  }
+        gone = rw (lt-ltb (length so_far.sent) wanted few)
+            (gone_called store true false _ a c true so_far.sent _ _ b so_far.gone next.called all (omega (arith, next.failures)) (omega (arith, next.blocks)) (λ seat xs ys one two i. one i ++ two i));
+      }
 
--- how a retrieval ended
-ends_as : (over : Bool) (seat wanted : ℕ) (gave : List Stored) → over ≡ nat_lt (length gave) wanted → end_where over seat ++ abort_where over seat ≡ ended seat wanted gave ∷ []
-ends_as true seat wanted gave fewer = rw (← fewer) refl
-ends_as false seat wanted gave fewer = rw (← fewer) refl
+  -- all that were wanted were given, and the retrieval was aborted
+  pub so_far_all : (port : PortView) (wanted : ℕ) → many ≡ wanted → HasCalled store.place true false (λ seat calls. calls ≡ aborted seat ∷ []) b.port port → SentAll store wanted last a (record b { port = port })
+  so_far_all port wanted all aborts = record {
+    sent = so_far.sent;
+    most = omega (arith, so_far.count, all);
+    last_is = so_far.last_is;
+    gone = rw (le-ltb (length so_far.sent) wanted (omega (arith, so_far.count, all)))
+        (gone_called store true false _ a (record b { port = port }) true so_far.sent _ _ b so_far.gone aborts refl refl refl (λ seat xs ys one two i. one i ++ two i));
+  }
 
 -- which deletion was made
 deletes_as : (seat count : ℕ) (gave : List Stored) → deletion (last_of gave) seat count ≡ removed seat gave count
@@ -263,30 +252,20 @@ module _ (store : OrderStore) (order : Order) (a b c : Progress) (begins : HasGo
         last = two.last;
       })
 
-  -- its packets were sent, its retrieval ended, and those sent were deleted
-  pub whole : (last : Option ℕ) (over : Bool) (d e : PortView) (sends : SentAll store order.amount last over b c)
-      → HasCalled store.place (not over) false (λ seat calls. calls ≡ abort_where over seat) c.port d
-      → HasCalled store.place false false (λ seat calls. (count : ℕ) × (calls ≡ deletion last seat count)) d e
-      → HasGone store false false sends.sent [] (λ seat calls. IsWhole (course_of order None sends.sent [] seat calls)) a (record c { port = e })
-  whole last over d e sends ends deletes =
+  -- its packets were sent, and then deleted
+  pub whole : (last : Option ℕ) (port : PortView) (sends : SentAll store order.amount last b c)
+      → HasCalled store.place false false (λ seat calls. (count : ℕ) × (calls ≡ deletion last seat count)) c.port port
+      → HasGone store false false sends.sent [] (λ seat calls. IsWhole (course_of order None sends.sent [] seat calls)) a (record c { port = port })
+  whole last port sends deletes =
       let sent = sends.sent in
-      let are_given = AreGiven order.amount last over sent (λ seat. begun seat ∷ []) in
-      let first : HasGone store false (not over) sent [] (are_given (end_where over)) a c =
-      gone_then store false (not over) _ a c true [] sent [] _ _ b begins sends.gone (λ seat xs ys one two. record { most = two.most; fewer = two.fewer; last_is = two.last_is; are = λ i. one i ++ two.are i }) in
-      let ended : HasGone store false false sent [] (are_given (λ seat. end_where over seat ++ abort_where over seat)) a (record c { port = d }) =
-      gone_called store false false _ a (record c { port = d }) (not over) sent _ _ c first ends refl refl refl (λ seat xs ys one two. record {
-        most = one.most;
-        fewer = one.fewer;
-        last_is = one.last_is;
-        are = (λ i. one.are i ++ two i) ∙ ap (λ (es : List Entry). begun seat ∷ es) (append_assoc (given seat sent) (end_where over seat) (abort_where over seat));
-      }) in
-      gone_called store false false _ a (record c { port = e }) false sent _ _ (record c { port = d }) ended deletes refl refl refl (λ seat xs ys one two. record {
+      let first : HasGone store false false sent [] (λ seat calls. calls ≡ begun seat ∷ given seat sent ++ ended seat order.amount sent ∷ []) a c =
+      gone_then store false false _ a c true [] sent [] _ _ b begins sends.gone (λ seat xs ys one two i. one i ++ two i) in
+      gone_called store false false _ a (record c { port = port }) false sent _ _ c first deletes refl refl refl (λ seat xs ys one two. record {
         order = record {
-          most = one.most;
+          most = sends.most;
           count = two.0;
-          are = (λ i. one.are i ++ two.1 i)
-              ∙ ap (λ (es : List Entry). begun seat ∷ es) (append_assoc (given seat sent) (end_where over seat ++ abort_where over seat) (deletion last seat two.0)
-              ∙ (λ i. given seat sent ++ (ends_as over seat order.amount sent one.fewer i ++ (ap (λ (t : Option ℕ). deletion t seat two.0) one.last_is ∙ deletes_as seat two.0 sent) i)));
+          are = (λ i. one i ++ (two.1 ∙ ap (λ (t : Option ℕ). deletion t seat two.0) sends.last_is ∙ deletes_as seat two.0 sent) i)
+              ∙ ap (λ (es : List Entry). begun seat ∷ es) (append_assoc (given seat sent) (ended seat order.amount sent ∷ []) (removed seat sent two.0));
         };
         all = refl;
       })

@@ -5,7 +5,7 @@ use Rattle.mm_desk.specs.declared.entry.Entry.{Entry}
 use Rattle.mm_desk.specs.declared.event.Event.TheVariants.{Next, Delete}
 use Rattle.mm_desk.specs.declared.reply.Reply.TheVariants as reply
 use Rattle.mm_desk.specs.Machine.{State}
-use Rattle.mm_desk.specs.Orders.{given, last_time}
+use Rattle.mm_desk.specs.Orders.{ended, given, last_time}
 use Rattle.mm_desk.specs.Runs.{entry, IsRun}
 use Rattle.mm_shared.specs.Stores.{id_at}
 use Rattle.mm_shared.specs.Views.{PortView, StoresView}
@@ -75,25 +75,12 @@ abbrev pub last_of : List Stored → Option ℕ
 last_of [] = None
 last_of (stored ∷ gave) = Some (last_time stored.time gave)
 
--- the entry of the end of a retrieval, where it came to its end
-abbrev pub end_where : Bool → ℕ → List Entry
-end_where over seat = if over then entry seat Next (reply.Given (Ok None)) ∷ [] else []
-
--- the entry of an abort, where the retrieval did not come to its end
-abbrev pub abort_where : Bool → ℕ → List Entry
-abort_where over seat = if over then [] else aborted seat ∷ []
-
--- these packets were given, this many or fewer, between other calls; where fewer, the retrieval came to its end
-pub record AreGiven (wanted : ℕ) (last : Option ℕ) (over : Bool) (sent : List Stored) (before after : ℕ → List Entry) (seat : ℕ) (calls : List Entry) : Type 0 where
-  pub most : length sent ≤ wanted
-  pub fewer : over ≡ nat_lt (length sent) wanted
-  pub last_is : last ≡ last_of sent
-  pub are : calls ≡ before seat ++ (given seat sent ++ after seat)
-
--- the packets of a retrieval were given and sent, this many or fewer
-pub record SentAll (store : OrderStore) (wanted : ℕ) (last : Option ℕ) (over : Bool) (a b : Progress) : Type 0 where
+-- the packets of a retrieval were given and sent, this many or fewer, and it was ended
+pub record SentAll (store : OrderStore) (wanted : ℕ) (last : Option ℕ) (a b : Progress) : Type 0 where
   pub sent : List Stored
-  pub gone : HasGone store true (not over) sent [] (AreGiven wanted last over sent (λ seat. []) (end_where over)) a b
+  pub most : length sent ≤ wanted
+  pub last_is : last ≡ last_of sent
+  pub gone : HasGone store true false sent [] (λ seat calls. calls ≡ given seat sent ++ ended seat wanted sent ∷ []) a b
 
 -- the entry of the deletion up to the packet given last, where one was given
 abbrev pub deletion : Option ℕ → ℕ → ℕ → List Entry

@@ -1,11 +1,11 @@
 //! One dump order carried out. It alone makes calls on its store, at which no retrieval was on, so none of its calls is refused.
-ghost use Rattle.std.specs.Prelude.{◌≡◌, ℕ, ◌+◌, ◌-◌, ◌<◌, ◌≤◌, ◌^◌, [], ◌∷◌, not, false, true, is_some, length, Ok, IfOk, IfErr, IfNone};
+ghost use Rattle.std.specs.Prelude.{◌≡◌, ℕ, ◌+◌, ◌-◌, ◌<◌, ◌≤◌, ◌^◌, [], ◌∷◌, false, true, is_some, length, Ok, IfOk, IfErr, IfNone};
 ghost use Rattle.std.specs.Option.{option_to_list};
 ghost use Rattle.mm_desk.specs.Orders.{begun};
 ghost use Rattle.mm_desk.specs.Runs.{entry};
 ghost use Rattle.mm_shared.specs.Stores.{ids_of};
 ghost use Rattle.mm_dump.specs.Broken.{aborted};
-ghost use Rattle.mm_dump.specs.OrderSteps.{order_store, IsPortAt, progress, HasCalled, HasGone, BreaksOff, SentAll, OrderCarriedOut, abort_where, deletion};
+ghost use Rattle.mm_dump.specs.OrderSteps.{order_store, IsPortAt, progress, HasCalled, HasGone, BreaksOff, SentAll, OrderCarriedOut, deletion};
 
 use crate::dumper::DumpContext;
 use crate::link::Link;
@@ -16,13 +16,6 @@ use mm_shared::{Port, SharedStores};
 use mm_store::Stored;
 use std::alloc::Global;
 use std::sync::Wait;
-
-// What was sent of an order: the time of the packet given last, where one was given, and whether the retrieval came to its end.
-#[derive(Clone, Copy)]
-struct Sending {
-    last: Option<u64>,
-    over: bool,
-}
 
 /// Where an order is carried out: at the store of a place, under its identifier.
 #[derive(Drop)]
@@ -108,20 +101,20 @@ fn send_next<L: Link, R: Wait>(
     Ok(Some(stored))
 }
 
-// Sends the packets of a retrieval: this many, or as many as there are.
+// Sends the packets of a retrieval, this many or as many as there are, and ends it. Gives the time of the last one, where one was sent.
 fn send_all<L: Link, R: Wait>(
     context: &OrderContext<'_, R>,
     port: &mut Port,
     link: &mut L,
     spent: &mut u64,
     amount: u32,
-) -> Result<Sending, OrderBroken>
+) -> Result<Option<u64>, OrderBroken>
     requires at { IsPortAt context.now.stores.now context.now.place port.old }
     requires room { L.failed link.old < 2 ^ 64 - 1 }
     requires blocks { spent.old + amount < 2 ^ 64 }
     ensures of { port.new.of ≡ port.old.of }
     ensures few { spent.new ≤ spent.old + amount }
-    ensures ok { IfOk result (λ sending. SentAll (order_store context.now.place context.now.id.now) amount sending.last sending.over
+    ensures ok { IfOk result (λ last. SentAll (order_store context.now.place context.now.id.now) amount last
         (progress L.sent L.failed port.old link.old spent.old) (progress L.sent L.failed port.new link.new spent.new)) }
     ensures err { IfErr result (λ why. BreaksOff (order_store context.now.place context.now.id.now) amount why
         (progress L.sent L.failed port.old link.old spent.old) (progress L.sent L.failed port.new link.new spent.new)) }
@@ -130,22 +123,11 @@ fn send_all<L: Link, R: Wait>(
     for _ in 0..amount {
         match send_next(context, port, link, spent)? {
             Some(stored) => last = Some(stored.time),
-            None => return Ok(Sending { last, over: true }),
+            None => return Ok(last),
         }
     }
-    Ok(Sending { last, over: false })
-}
-
-// Ends the retrieval where it did not come to its end.
-fn end_retrieval<R: Wait>(context: &OrderContext<'_, R>, port: &mut Port, over: bool)
-    requires at { IsPortAt context.now.stores.now context.now.place port.old }
-    ensures called { HasCalled context.now.place (not over) false (λ seat calls. calls ≡ abort_where over seat) port.old port.new }
-    ensures of { port.new.of ≡ port.old.of }
-{
-    if over {
-        return;
-    }
     abort(context, port);
+    Ok(last)
 }
 
 // Deletes the packets that were sent, up to the time of the last one.
@@ -189,11 +171,9 @@ pub(crate) fn carry<L: Link, R: Wait>(
         id: &context.labels[place].id,
     };
     begin(&at, port);
-    let sending = match send_all(&at, port, link, spent, order.amount) {
-        Ok(sending) => sending,
+    match send_all(&at, port, link, spent, order.amount) {
+        Ok(last) => delete_sent(&at, port, last),
         Err(why) => return Some(why),
-    };
-    end_retrieval(&at, port, sending.over);
-    delete_sent(&at, port, sending.last);
+    }
     None
 }

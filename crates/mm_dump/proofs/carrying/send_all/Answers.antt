@@ -26,4 +26,4 @@ returns-in-None-clause-ok g c =
     so_far_over _ _ _ _ _ c.loop.invariant.so_far _ c.args.amount (omega (arith, c.loop-test.true)) next
 
 pub returns-clause-ok : goal.returns-clause-ok
-returns-clause-ok g c = so_far_all _ _ _ _ _ c.loop.invariant.so_far c.args.amount (search rules)
+returns-clause-ok g c = so_far_all _ _ _ _ _ c.loop.invariant.so_far _ c.args.amount (search rules) c.abort.ensures.called
