@@ -28,6 +28,7 @@ struct OrderContext<'a, R: Wait> {
 }
 
 // Begins a retrieval of all packets.
+#[tactic(auto, using(crate::proofs::OneOrder::call_begin))]
 fn begin<R: Wait>(context: &OrderContext<'_, R>, port: &mut Port)
     requires at { IsPortAt context.now.stores.now context.now.place port.old }
     ensures called { HasCalled context.now.place false true (λ seat calls. calls ≡ begun seat ∷ []) port.old port.new }
@@ -39,6 +40,7 @@ fn begin<R: Wait>(context: &OrderContext<'_, R>, port: &mut Port)
 }
 
 // Aborts the retrieval.
+#[tactic(auto, using(crate::proofs::OneOrder::call_abort))]
 fn abort<R: Wait>(context: &OrderContext<'_, R>, port: &mut Port)
     requires at { IsPortAt context.now.stores.now context.now.place port.old }
     ensures called { HasCalled context.now.place true false (λ seat calls. calls ≡ aborted seat ∷ []) port.old port.new }

@@ -66,23 +66,6 @@ fn work<L: Link, R: Wait>(
     unreachable!()
 }
 
-// Lets one worker carry out orders.
-fn run<L: Link, R: Wait>(
-    context: &DumpContext<'_, R>,
-    links: &mut [L],
-    ports: &mut [Port],
-    workers: &mut [DumpWorker],
-)
-    requires one { length links.old ≡ 1 }
-    requires ready { AreReady L.sent L.failed context.now.queue.now context.now.stores.now context.now.labels.now context.now.orders.now links.old ports.old workers.old }
-    ensures worked { AllWorked L.sent L.failed context.now.queue.now (ids_of context.now.labels.now) context.now.orders.now
-        links.old links.new ports.old ports.new workers.new }
-{
-    let worker = &mut workers[0];
-    let why = work(context, &mut ports[0], worker, &mut links[0]);
-    worker.why = why;
-}
-
 // Lets workers carry out orders, each in a thread of its own where one can be made.
 #[cycle(halves)]
 pub(crate) fn dump_all<L: Link + Send, R: Threads + Wait + Sync>(
@@ -96,7 +79,9 @@ pub(crate) fn dump_all<L: Link + Send, R: Threads + Wait + Sync>(
         links.old links.new ports.old ports.new workers.new }
 {
     if links.len() == 1 {
-        run(context, links, ports, workers);
+        let worker = &mut workers[0];
+        let why = work(context, &mut ports[0], worker, &mut links[0]);
+        worker.why = why;
         return;
     }
     let middle = links.len() / 2;
