@@ -5,7 +5,7 @@ use Rattle.std.specs.Prelude.{Option, Some, None}
 use Rattle.std.proofs.Math.ListN.{get_or-map}
 use Rattle.std.proofs.Math.Seq.{take-append_seam}
 use Rattle.std.proofs.lemmas.Bool.{cases_lt, ltb-true}
-use Rattle.std.proofs.lemmas.List.{length-map, length-append, length-take, map-append, map-id, append-nil, get_or_append_left}
+use Rattle.std.proofs.lemmas.List.{length-map, length-append, length-take, map-append, map-id, append-nil}
 use Rattle.std.proofs.lemmas.List.Concat.{flat_map-append, length-flat_map}
 use Rattle.std.proofs.lemmas.List.Elements.{All-append, All-map, All-nil, All-weaker, Contains-get_or, filter-append, filter_passes}
 use Rattle.std.proofs.lemmas.List.Folds.{flat_map-map}
@@ -36,7 +36,7 @@ use Rattle.mm_dump.specs.Dumped.{CarriesOut, MayDump}
 use Rattle.mm_dump.specs.Sending.{Sent}
 use Rattle.mm_dump.specs.Steps.{IsHired, IsBack}
 use Rattle.mm_dump.specs.Workers.{AllWorked, AreReady, HasWorked, causes_of, IsNewPort, IsTried, Work, calls_of, has_order, order_at, past_of}
-use Rattle.mm_dump.proofs.Courses.{cause_of_all, none_broke}
+use Rattle.mm_dump.proofs.Courses.{cause_of_all}
 use Rattle.mm_dump.proofs.Finding.{calls_on-calls_of, find, found_calls, here, lone_list}
 use Rattle.mm_dump.proofs.Ordered.{weighs_first, weight_of}
 use Rattle.mm_dump.proofs.Settled.{HaveEnded, IsLine, Line, all_of, carries_out, flat_all, map_same}

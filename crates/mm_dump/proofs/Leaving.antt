@@ -1,15 +1,14 @@
 -- What a store answers to the calls of an order, and what they leave of its state.
 use Rattle.std.proofs.Common.{◌≡◌, ℕ, Bool, true, false, List, [], ◌∷◌, ◌++◌, refl, sym, ap, subst, ◌∙◌, zero, suc, All}
-use Rattle.std.specs.Prelude.{Option, Some, None, Result, Ok, Err, is_some}
+use Rattle.std.specs.Prelude.{Option, Some, None, Result, Ok, is_some}
 use Rattle.mm_store.specs.declared.stored.Stored.{Stored}
 use Rattle.mm_store.specs.Content.{clock_end, count_up_to, first_in}
 use Rattle.mm_desk.specs.declared.entry.Entry.{Entry}
-use Rattle.mm_desk.specs.declared.event.Event.{Event}
 use Rattle.mm_desk.specs.declared.event.Event.TheVariants.{Begin, Next, Abort, Delete}
 use Rattle.mm_desk.specs.declared.fault.Fault.{Fault}
 use Rattle.mm_desk.specs.declared.reply.Reply.TheVariants as reply
 use Rattle.mm_desk.specs.declared.state.Retrieval.{Retrieval}
-use Rattle.mm_desk.specs.Machine.{State, give, next_of, step}
+use Rattle.mm_desk.specs.Machine.{State, give, step}
 use Rattle.mm_desk.specs.Orders.{begun, given}
 use Rattle.mm_desk.specs.Runs.{replay, IsLegal, IsRun, opening_at}
 use Rattle.mm_dump.specs.Broken.{aborted, IsBrokenOrder}

@@ -1,5 +1,5 @@
 -- One order carried out: its begin, its packets, and its end.
-use Rattle.std.proofs.Common.{◌≡◌, ℕ, List, [], ◌∷◌, ◌++◌, map, refl, sym, ap, ◌∙◌, append_assoc, arith, length-append, ◌+◌, ◌<◌, ◌≤◌, true, false, length, subst, Bool, not, nat_lt}
+use Rattle.std.proofs.Common.{◌≡◌, ℕ, List, [], ◌∷◌, ◌++◌, map, refl, sym, ap, ◌∙◌, append_assoc, arith, length-append, ◌+◌, ◌<◌, true, false, length, subst, Bool}
 use Rattle.std.specs.Prelude.{Some, Ok, Err, Option, None, Result, is_some}
 use Rattle.std.proofs.lemmas.List.{append-nil, map-append}
 use Rattle.mm_store.specs.declared.stored.Stored.{Stored}
@@ -21,7 +21,7 @@ use Rattle.std.proofs.lemmas.Bool.{le-ltb, lt-ltb}
 use Rattle.mm_dump.specs.declared.order.Order.{Order}
 use Rattle.mm_dump.specs.declared.order.OrderBroken.{OrderBroken}
 use Rattle.mm_dump.specs.declared.order.OrderBroken.TheVariants.{NoMemory, LinkFailed}
-use Rattle.mm_dump.specs.Broken.{aborted, unsent_at}
+use Rattle.mm_dump.specs.Broken.{aborted}
 use Rattle.mm_dump.proofs.Leaving.{begins, nexts, aborts, deletes}
 
 -- a run of calls and then others

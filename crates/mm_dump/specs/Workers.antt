@@ -1,5 +1,5 @@
 -- What a dump worker did, and what any number of dump workers did. No public clause cites this module.
-use Rattle.std.specs.Prelude.{◌≡◌, ℕ, ◌+◌, ◌-◌, ◌<◌, ◌≤◌, ◌^◌, Bool, false, is_some, nat_lt, List, [], ◌∷◌, ◌++◌, length, map, filter, flat_map, slice_index_or, All, Option, Some, None, suc}
+use Rattle.std.specs.Prelude.{◌≡◌, ℕ, ◌+◌, ◌-◌, ◌<◌, ◌^◌, Bool, false, is_some, nat_lt, List, [], ◌++◌, length, map, filter, flat_map, slice_index_or, All, Option, Some, None, suc}
 use Rattle.crossbeam_queue.specs.declared.array_queue.Doing.{Doing}
 use Rattle.crossbeam_queue.specs.declared.array_queue.Slotted.{Slotted}
 use Rattle.crossbeam_queue.specs.Passes.{view}

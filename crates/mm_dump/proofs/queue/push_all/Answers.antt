@@ -1,6 +1,3 @@
-use Rattle.std.proofs.Common.{◌≡◌, [], refl, ap, arith}
-use Rattle.crossbeam_queue.specs.Passes.{view}
-use Rattle.mm_dump.specs.Queue.{queue_view}
 use Rattle.mm_dump.proofs.Moves.{pushes, learns}
 use Rattle.mm_dump.proofs.queue.push_all.Goals as goal
 
