@@ -1,12 +1,7 @@
 -- The worst of the causes for which orders broke.
-use Rattle.std.proofs.Common.{◌≡◌, ℕ, ◌+◌, ◌<◌, List, [], ◌∷◌, ◌++◌, length, get_or, map, take, refl, sym, ap, ◌∙◌, All, subst, ◌≤◌, arith, length-append}
-use Rattle.std.specs.Prelude.{Option, Some, None}
-use Rattle.std.proofs.lemmas.List.{map_more}
-use Rattle.std.proofs.lemmas.List.Elements.{All-nil, All-cons}
-use Rattle.mm_base.proofs.Sums.{sum_by_zeros}
-use Rattle.mm_dump.specs.declared.order.OrderBroken.{OrderBroken}
-use Rattle.mm_dump.specs.declared.order.OrderBroken.TheVariants.{LinkFailed, NoMemory}
-use Rattle.mm_dump.specs.Courses.{worse, worst_of, Course, IsWhole, EndedAs, IsCourse, failed_by}
+use Rattle.mm_dump.proofs.Words.{◌≡◌, ℕ, ◌+◌, ◌<◌, List, [], ◌∷◌, ◌++◌, length, get_or, map, take, refl, sym, ap, ◌∙◌, All, subst, ◌≤◌, arith, length-append}
+use Rattle.mm_dump.proofs.Words.{Option, Some, None, map_more, All-nil, All-cons, sum_by_zeros, OrderBroken, LinkFailed, NoMemory, worse, worst_of, Course}
+use Rattle.mm_dump.proofs.Words.{IsWhole, EndedAs, IsCourse, failed_by}
 
 -- the worst of three is found in either order
 worse-assoc : (a b c : Option OrderBroken) → worse (worse a b) c ≡ worse a (worse b c)

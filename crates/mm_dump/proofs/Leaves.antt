@@ -1,41 +1,19 @@
 -- Workers that are ready, and what a step's dump leaves once they have ended.
-use Rattle.std.proofs.Common.{◌≡◌, inl, inr, ℕ, ◌+◌, ◌-◌, ◌<◌, ◌≤◌, ◌^◌, ◌==◌, true, List, [], ◌∷◌, ◌++◌, length, get_or, map, filter, take, All, Contains, refl, sym, ap, subst, ◌∙◌, arith}
-use Rattle.std.specs.List.{sum_by, flat_map, range_with_len}
-use Rattle.std.specs.Prelude.{Option, Some, None}
+use Rattle.mm_dump.proofs.Words.{◌≡◌, inl, inr, ℕ, ◌+◌, ◌-◌, ◌<◌, ◌≤◌, ◌^◌, ◌==◌, true, List, [], ◌∷◌, ◌++◌, length, get_or, map, filter, take, All, Contains}
+use Rattle.mm_dump.proofs.Words.{refl, sym, ap, subst, ◌∙◌, arith, sum_by, flat_map, range_with_len, Option, Some, None, cases_lt, ltb-true, length-map}
+use Rattle.mm_dump.proofs.Words.{length-append, length-take, map-append, map-id, append-nil, flat_map-append, length-flat_map, All-append, All-map, All-nil}
+use Rattle.mm_dump.proofs.Words.{All-weaker, Contains-get_or, filter-append, filter_passes, length-range_with_len, sum_by-append, get_or-le-sum_by, map-map}
+use Rattle.mm_dump.proofs.Words.{Doing, Slotted, view, sum_by-map, sum_by-map-filter, sum_by-same, sum_by-add, sum_by-le_each, sum_by-flat_map, sum_by_ones}
+use Rattle.mm_dump.proofs.Words.{sum_by_zeros, Entry, Held, State, IsRun, opening_at, StoreLabel, calls_on, list_at, lists_at, all_ends, end_of, ids_of}
+use Rattle.mm_dump.proofs.Words.{names_of, labels_of, AreNew, states_of, HaveLegalLogs, PortView, StoresView, HasLegalLog, DumpWorker, Order, OrderBroken}
+use Rattle.mm_dump.proofs.Words.{QueueView, Course, calls_at, worse, worst_of, CarriesOut, MayDump, Sent, IsHired, IsBack, AllWorked, AreReady, HasWorked}
+use Rattle.mm_dump.proofs.Words.{causes_of, IsNewPort, IsTried, Work, calls_of, has_order, order_at, past_of}
 use Rattle.std.proofs.Math.ListN.{get_or-map}
 use Rattle.std.proofs.Math.Seq.{take-append_seam}
-use Rattle.std.proofs.lemmas.Bool.{cases_lt, ltb-true}
-use Rattle.std.proofs.lemmas.List.{length-map, length-append, length-take, map-append, map-id, append-nil}
-use Rattle.std.proofs.lemmas.List.Concat.{flat_map-append, length-flat_map}
-use Rattle.std.proofs.lemmas.List.Elements.{All-append, All-map, All-nil, All-weaker, Contains-get_or, filter-append, filter_passes}
 use Rattle.std.proofs.lemmas.List.Folds.{flat_map-map}
-use Rattle.std.proofs.lemmas.List.FromFn.{length-range_with_len}
-use Rattle.std.proofs.lemmas.List.Sums.{sum_by-append, get_or-le-sum_by}
-use Rattle.std.proofs.lemmas.Simd.{map-map}
-use Rattle.crossbeam_queue.specs.declared.array_queue.Doing.{Doing}
-use Rattle.crossbeam_queue.specs.declared.array_queue.Slotted.{Slotted}
-use Rattle.crossbeam_queue.specs.Passes.{view}
 use Rattle.mm_base.proofs.Elements.{All-unmapped}
-use Rattle.mm_base.proofs.Sums.{sum_by-map, sum_by-map-filter, sum_by-same, sum_by-add, sum_by-le_each, sum_by-flat_map, sum_by_ones, sum_by_zeros}
-use Rattle.mm_desk.specs.declared.entry.Entry.{Entry}
-use Rattle.mm_desk.specs.declared.held.Held.{Held}
 use Rattle.mm_desk.proofs.Lone.{lone_log}
-use Rattle.mm_desk.specs.Machine.{State}
-use Rattle.mm_desk.specs.Runs.{IsRun, opening_at}
-use Rattle.mm_shared.specs.declared.label.StoreLabel.{StoreLabel}
 use Rattle.mm_shared.specs.declared.stores.OpenStores.{OpenStores}
-use Rattle.mm_shared.specs.Rule.{calls_on}
-use Rattle.mm_shared.specs.Stores.{list_at, lists_at, all_ends, end_of, ids_of, names_of, labels_of, AreNew, states_of, HaveLegalLogs}
-use Rattle.mm_shared.specs.Views.{PortView, StoresView, HasLegalLog}
-use Rattle.mm_dump.specs.declared.dumper.DumpWorker.{DumpWorker}
-use Rattle.mm_dump.specs.declared.order.Order.{Order}
-use Rattle.mm_dump.specs.declared.order.OrderBroken.{OrderBroken}
-use Rattle.mm_dump.specs.declared.queue.QueueView.{QueueView}
-use Rattle.mm_dump.specs.Courses.{Course, calls_at, worse, worst_of}
-use Rattle.mm_dump.specs.Dumped.{CarriesOut, MayDump}
-use Rattle.mm_dump.specs.Sending.{Sent}
-use Rattle.mm_dump.specs.Steps.{IsHired, IsBack}
-use Rattle.mm_dump.specs.Workers.{AllWorked, AreReady, HasWorked, causes_of, IsNewPort, IsTried, Work, calls_of, has_order, order_at, past_of}
 use Rattle.mm_dump.proofs.Courses.{cause_of_all}
 use Rattle.mm_dump.proofs.Finding.{calls_on-calls_of, find, found_calls, here, lone_list}
 use Rattle.mm_dump.proofs.Ordered.{weighs_first, weight_of}

@@ -1,21 +1,9 @@
 -- What a store answers to the calls of an order, and what they leave of its state.
-use Rattle.std.proofs.Common.{◌≡◌, ℕ, Bool, true, false, List, [], ◌∷◌, ◌++◌, refl, sym, ap, subst, ◌∙◌, zero, suc, All}
-use Rattle.std.specs.Prelude.{Option, Some, None, Result, Ok, is_some}
-use Rattle.mm_store.specs.declared.stored.Stored.{Stored}
-use Rattle.mm_store.specs.Content.{clock_end, count_up_to, first_in}
-use Rattle.mm_desk.specs.declared.entry.Entry.{Entry}
-use Rattle.mm_desk.specs.declared.event.Event.TheVariants.{Begin, Next, Abort, Delete}
-use Rattle.mm_desk.specs.declared.fault.Fault.{Fault}
-use Rattle.mm_desk.specs.declared.reply.Reply.TheVariants as reply
+use Rattle.mm_dump.proofs.Words.{◌≡◌, ℕ, Bool, true, false, List, [], ◌∷◌, ◌++◌, refl, sym, ap, subst, ◌∙◌, zero, suc, All, Option, Some, None, Result, Ok}
+use Rattle.mm_dump.proofs.Words.{is_some, Stored, clock_end, count_up_to, first_in, Entry, Begin, Next, Abort, Delete, Fault, State, give, step, begun, given}
+use Rattle.mm_dump.proofs.Words.{replay, IsLegal, IsRun, opening_at, aborted, IsBrokenOrder, All-head, All-tail, Held, states_of, Order}
 use Rattle.mm_desk.specs.declared.state.Retrieval.{Retrieval}
-use Rattle.mm_desk.specs.Machine.{State, give, step}
-use Rattle.mm_desk.specs.Orders.{begun, given}
-use Rattle.mm_desk.specs.Runs.{replay, IsLegal, IsRun, opening_at}
-use Rattle.mm_dump.specs.Broken.{aborted, IsBrokenOrder}
-use Rattle.std.proofs.lemmas.List.Elements.{All-head, All-tail}
-use Rattle.mm_desk.specs.declared.held.Held.{Held}
-use Rattle.mm_shared.specs.Stores.{states_of}
-use Rattle.mm_dump.specs.declared.order.Order.{Order}
+use Rattle.mm_desk.specs.declared.reply.Reply.TheVariants as reply
 
 -- after calls a retrieval is on or none is, and nothing else has changed
 pub record Turns (on : Bool) (s t : State) : Type 0 where

@@ -1,3 +1,4 @@
+mod Words
 mod Leaving
 mod Moves
 mod OneOrder

@@ -1,19 +1,13 @@
 -- Each step of the queue keeps its rule.
-use Rattle.std.proofs.Common.{◌≡◌, ◌≢◌, inl, inr, ⊎_elim, ℕ, zero, suc, ◌+◌, ◌-◌, ◌<◌, ◌≤◌, List, [], ◌∷◌, ◌++◌, length, get_or, set, refl, sym, ap, subst, ◌∙◌, arith}
-use Rattle.std.specs.List.{sum_by, range_with_len}
-use Rattle.std.proofs.lemmas.Bool.{cases_lt}
-use Rattle.std.proofs.lemmas.List.{get_or_default, nil_from_length}
-use Rattle.std.proofs.lemmas.List.FromFn.{length-range_with_len}
-use Rattle.std.proofs.lemmas.List.Sums.{sum_by-cons, sum_by-append, sum_by_push}
+use Rattle.mm_dump.proofs.Words.{◌≡◌, ◌≢◌, inl, inr, ⊎_elim, ℕ, zero, suc, ◌+◌, ◌-◌, ◌<◌, ◌≤◌, List, [], ◌∷◌, ◌++◌, length, get_or, set, refl, sym, ap, subst}
+use Rattle.mm_dump.proofs.Words.{◌∙◌, arith, sum_by, range_with_len, cases_lt, get_or_default, nil_from_length, length-range_with_len, sum_by-cons}
+use Rattle.mm_dump.proofs.Words.{sum_by-append, sum_by_push, sum_by_range_more, sum_by_ones, sum_by_zeros, QueueView, queue_view, Knows, AreTakenOnce}
+use Rattle.mm_dump.proofs.Words.{TakesNext, Tells}
 use mathlib.Core.Option.{some, some-injective, some-ne-none}
 use lib.ListN.{get_elem?}
 use Rattle.crossbeam_queue.specs.Fifo.{Pushes, Pops, Forks, Merges, Learns}
 use Rattle.crossbeam_queue.proofs.Lists.{at_index, at_set, at_snoc, set_else}
 use Rattle.mm_base.proofs.Ranges.{range_with_len_more}
-use Rattle.mm_base.proofs.RangeSums.{sum_by_range_more}
-use Rattle.mm_base.proofs.Sums.{sum_by_ones, sum_by_zeros}
-use Rattle.mm_dump.specs.declared.queue.QueueView.{QueueView}
-use Rattle.mm_dump.specs.Queue.{queue_view, Knows, AreTakenOnce, TakesNext, Tells}
 
 -- a sum over passes after a change of one
 total_set : (f : QueueView → ℕ) (views : List QueueView) (pass : ℕ) (v w : QueueView) → get_elem? views pass ≡ some v → sum_by f (set views pass w) + f v ≡ sum_by f views + f w

@@ -1,27 +1,12 @@
 -- One order carried out: its begin, its packets, and its end.
-use Rattle.std.proofs.Common.{◌≡◌, ℕ, List, [], ◌∷◌, ◌++◌, map, refl, sym, ap, ◌∙◌, append_assoc, arith, length-append, ◌+◌, ◌<◌, true, false, length, subst, Bool}
-use Rattle.std.specs.Prelude.{Some, Ok, Err, Option, None, Result, is_some}
-use Rattle.std.proofs.lemmas.List.{append-nil, map-append}
-use Rattle.mm_store.specs.declared.stored.Stored.{Stored}
-use Rattle.mm_desk.specs.declared.entry.Entry.{Entry}
+use Rattle.mm_dump.proofs.Words.{◌≡◌, ℕ, List, [], ◌∷◌, ◌++◌, map, refl, sym, ap, ◌∙◌, append_assoc, arith, length-append, ◌+◌, ◌<◌, true, false, length, subst}
+use Rattle.mm_dump.proofs.Words.{Bool, Some, Ok, Err, Option, None, Result, is_some, append-nil, map-append, Stored, Entry, Begin, Next, Abort, Delete, Fault}
+use Rattle.mm_dump.proofs.Words.{State, step, given, last_time, begun, ended, removed, entry, IsRun, clock_end, PortView, with_call, OrderStore, Progress}
+use Rattle.mm_dump.proofs.Words.{HasCalled, HasGone, with_calls, BreaksOff, SentAll, last_of, deletion, course_of, IsWhole, IsBroken, Sent, all_sent, le-ltb}
+use Rattle.mm_dump.proofs.Words.{lt-ltb, Order, OrderBroken, NoMemory, LinkFailed, aborted}
 use Rattle.mm_desk.specs.declared.event.Event.{Event}
-use Rattle.mm_desk.specs.declared.event.Event.TheVariants.{Begin, Next, Abort, Delete}
-use Rattle.mm_desk.specs.declared.fault.Fault.{Fault}
 use Rattle.mm_desk.specs.declared.reply.Reply.{Reply}
 use Rattle.mm_desk.specs.declared.reply.Reply.TheVariants as reply
-use Rattle.mm_desk.specs.Machine.{State, step}
-use Rattle.mm_desk.specs.Orders.{given, last_time, begun, ended, removed}
-use Rattle.mm_desk.specs.Runs.{entry, IsRun}
-use Rattle.mm_store.specs.Content.{clock_end}
-use Rattle.mm_shared.specs.Views.{PortView, with_call}
-use Rattle.mm_dump.specs.OrderSteps.{OrderStore, Progress, HasCalled, HasGone, with_calls, BreaksOff, SentAll, last_of, deletion, course_of}
-use Rattle.mm_dump.specs.Courses.{IsWhole, IsBroken}
-use Rattle.mm_dump.specs.Sending.{Sent, all_sent}
-use Rattle.std.proofs.lemmas.Bool.{le-ltb, lt-ltb}
-use Rattle.mm_dump.specs.declared.order.Order.{Order}
-use Rattle.mm_dump.specs.declared.order.OrderBroken.{OrderBroken}
-use Rattle.mm_dump.specs.declared.order.OrderBroken.TheVariants.{NoMemory, LinkFailed}
-use Rattle.mm_dump.specs.Broken.{aborted}
 use Rattle.mm_dump.proofs.Leaving.{begins, nexts, aborts, deletes}
 
 -- a run of calls and then others

@@ -1,26 +1,12 @@
 -- What a step's dump leaves, from what was carried out over each link and what became of the stores.
-use Rattle.std.proofs.Common.{◌≡◌, ℕ, ◌+◌, ◌<◌, ◌≤◌, ◌==◌, List, [], ◌∷◌, ◌++◌, length, get_or, map, take, All, Contains, refl, sym, ap, subst, ◌∙◌, length-append, arith}
-use Rattle.std.specs.List.{sum_by, flat_map}
-use Rattle.std.specs.Prelude.{Option, None, IfNone, Some, is_some}
-use Rattle.std.proofs.lemmas.List.{get_or-map, length-map, take_all, map-id}
-use Rattle.std.proofs.lemmas.List.Concat.{length-flat_map}
-use Rattle.std.proofs.lemmas.List.Elements.{All-nil, All-cons, All-head, All-tail, All-append, All-contains, All-map}
-use Rattle.std.proofs.lemmas.List.Sums.{sum_by-take-le, length-filter}
-use Rattle.std.proofs.lemmas.Simd.{map-map}
-use Rattle.mm_base.proofs.Pairs.{All-front, All-back}
-use Rattle.mm_base.proofs.Sums.{sum_by-map, sum_by-same, sum_by-add, sum_by-le_each, sum_by-flat_map}
-use Rattle.mm_store.specs.declared.stored.Stored.{Stored}
-use Rattle.mm_desk.specs.declared.held.Held.{Held}
-use Rattle.mm_desk.specs.Machine.{State}
-use Rattle.mm_desk.specs.Orders.{IsOrderOf}
-use Rattle.mm_desk.specs.Runs.{IsRun, opening_at}
-use Rattle.mm_shared.specs.Stores.{id_at, states_of}
-use Rattle.mm_dump.specs.declared.order.Order.{Order}
-use Rattle.mm_dump.specs.declared.order.OrderBroken.{OrderBroken}
-use Rattle.mm_dump.specs.Courses.{Course, IsCourse, worst_of, sent_by, failed_by, spent_by}
-use Rattle.mm_dump.specs.Dumped.{MayDump, AllKept, AllTook, AllTried, HasDumped, HasTaken, HasTried, AllDumped, AllSettled, CarriesOut, amount_of, places_of, times, used_by, wanted}
-use Rattle.mm_dump.specs.Sending.{Sent, all_sent}
-use Rattle.mm_dump.specs.Workers.{AreTried, IsTried}
+use Rattle.mm_dump.proofs.Words.{◌≡◌, ℕ, ◌+◌, ◌<◌, ◌≤◌, ◌==◌, List, [], ◌∷◌, ◌++◌, length, get_or, map, take, All, Contains, refl, sym, ap, subst, ◌∙◌}
+use Rattle.mm_dump.proofs.Words.{length-append, arith, sum_by, flat_map, Option, None, IfNone, Some, is_some, get_or-map, length-map, take_all, map-id}
+use Rattle.mm_dump.proofs.Words.{length-flat_map, All-nil, All-cons, All-head, All-tail, All-append, All-contains, All-map, sum_by-take-le, length-filter}
+use Rattle.mm_dump.proofs.Words.{map-map, All-front, All-back, sum_by-map, sum_by-same, sum_by-add, sum_by-le_each, sum_by-flat_map, Stored, Held, State}
+use Rattle.mm_dump.proofs.Words.{IsOrderOf, IsRun, opening_at, id_at, states_of, Order, OrderBroken, Course, IsCourse, worst_of, sent_by, failed_by, spent_by}
+use Rattle.mm_dump.proofs.Words.{MayDump, AllKept, HasDumped, HasTaken, HasTried, AllDumped, AllSettled, CarriesOut, amount_of, places_of, times, used_by}
+use Rattle.mm_dump.proofs.Words.{wanted, Sent, all_sent, AreTried, IsTried}
+use Rattle.mm_dump.specs.Dumped.{AllTook, AllTried}
 use Rattle.mm_dump.proofs.Courses.{cause_of_all, course_few, no_failures, none_broke, whole_course}
 use Rattle.mm_dump.proofs.Finding.{find, found_again, here, is_found, none_found}
 use Rattle.mm_dump.proofs.Ordered.{named_once, names, times_named, wanted_named, wanted_own}

@@ -1,18 +1,8 @@
 -- A worker at work: the orders that it carried out so far, and one more.
-use Rattle.std.proofs.Common.{◌≡◌, ℕ, ◌+◌, ◌≤◌, Bool, false, cond, List, [], ◌∷◌, ◌++◌, length, map, filter, refl, sym, ap, ◌∙◌, length-append, arith, ◌<◌, true}
-use Rattle.std.specs.Prelude.{Option, Some, None, is_some}
-use Rattle.std.proofs.lemmas.Bool.{lt-ltb, le-ltb}
-use Rattle.std.proofs.lemmas.List.{append-nil, map-append, get_or_append_left, flat_map_more}
-use Rattle.std.proofs.lemmas.List.Sums.{sum_by_push}
-use Rattle.std.proofs.lemmas.List.Elements.{All-nil, All-push, filter-append}
-use Rattle.mm_desk.specs.declared.entry.Entry.{Entry}
-use Rattle.mm_shared.specs.Stores.{id_at}
-use Rattle.mm_dump.specs.declared.order.Order.{Order}
-use Rattle.mm_dump.specs.declared.order.OrderBroken.{OrderBroken}
-use Rattle.mm_dump.specs.Courses.{Course, worse, worst_of}
-use Rattle.mm_dump.specs.OrderSteps.{Progress, OrderCarriedOut, course_of}
-use Rattle.mm_dump.specs.Sending.{Sent, all_sent}
-use Rattle.mm_dump.specs.Workers.{IsTried, order_at, has_order, past_of, Worked}
+use Rattle.mm_dump.proofs.Words.{◌≡◌, ℕ, ◌+◌, ◌≤◌, Bool, false, cond, List, [], ◌∷◌, ◌++◌, length, map, filter, refl, sym, ap, ◌∙◌, length-append, arith, ◌<◌}
+use Rattle.mm_dump.proofs.Words.{true, Option, Some, None, is_some, lt-ltb, le-ltb, append-nil, map-append, get_or_append_left, flat_map_more, sum_by_push}
+use Rattle.mm_dump.proofs.Words.{All-nil, All-push, filter-append, Entry, id_at, Order, OrderBroken, Course, worse, worst_of, Progress, OrderCarriedOut}
+use Rattle.mm_dump.proofs.Words.{course_of, Sent, all_sent, IsTried, order_at, has_order, past_of, Worked}
 use Rattle.mm_dump.proofs.Courses.{worst-push, none_broke}
 
 -- at the start no order was taken

@@ -1,6 +1,4 @@
-use Rattle.std.proofs.Common.{[], refl}
-use Rattle.std.proofs.lemmas.List.{get_or-map}
-use Rattle.mm_shared.specs.declared.label.StoreLabel.{StoreLabel}
+use Rattle.mm_dump.proofs.Words.{[], refl, get_or-map, StoreLabel}
 use Rattle.mm_dump.proofs.OneOrder.{broken, only_called, whole}
 use Rattle.mm_dump.proofs.carrying.carry.Goals as goal
 

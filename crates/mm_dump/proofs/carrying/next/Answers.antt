@@ -1,8 +1,5 @@
-use Rattle.std.proofs.Common.{rules, ◌≡◌, refl}
-use Rattle.std.specs.Prelude.{Ok, Err}
-use Rattle.mm_desk.specs.declared.event.Event.TheVariants.{Next}
+use Rattle.mm_dump.proofs.Words.{rules, ◌≡◌, refl, Ok, Err, Next, with_call}
 use Rattle.mm_desk.specs.declared.reply.Reply.TheVariants as reply
-use Rattle.mm_shared.specs.Views.{with_call}
 use Rattle.mm_dump.proofs.OneOrder.{call_next, call_refused}
 use Rattle.mm_dump.proofs.carrying.next.Goals as goal
 

@@ -1,5 +1,4 @@
-use Rattle.std.proofs.Common.{rules, ◌∙◌, arith, refl}
-use Rattle.std.proofs.lemmas.Result.{err_from_is_err_and}
+use Rattle.mm_dump.proofs.Words.{rules, ◌∙◌, arith, refl, err_from_is_err_and}
 use Rattle.mm_dump.proofs.OneOrder.{none_so_far, so_far_all, so_far_more, so_far_broken, so_far_over}
 use Rattle.mm_dump.proofs.carrying.send_all.Goals as goal
 

@@ -1,5 +1,4 @@
-use Rattle.std.proofs.Common.{◌≡◌, ◌+◌, ◌≤◌}
-use Rattle.mm_dump.specs.OrderSteps.{order_store, progress}
+use Rattle.mm_dump.proofs.Words.{◌≡◌, ◌+◌, ◌≤◌, order_store, progress}
 use Rattle.mm_dump.proofs.OneOrder.{SentSoFar}
 use Rattle.mm_dump.proofs.carrying.send_all.Given as goal
 

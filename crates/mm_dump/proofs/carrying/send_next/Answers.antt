@@ -1,5 +1,4 @@
-use Rattle.std.proofs.Common.{rules, ◌≡◌, ◌+◌, refl}
-use Rattle.std.proofs.lemmas.Result.{err_from_is_err_and}
+use Rattle.mm_dump.proofs.Words.{rules, ◌≡◌, ◌+◌, refl, err_from_is_err_and}
 use Rattle.mm_dump.proofs.OneOrder.{memory_lacks, only_called, packet_failed, packet_sent}
 use Rattle.mm_dump.proofs.carrying.send_next.Goals as goal
 

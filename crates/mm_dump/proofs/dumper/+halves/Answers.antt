@@ -1,6 +1,4 @@
-use Rattle.std.proofs.Common.{◌≡◌, length, get_or, refl, arith}
-use Rattle.mm_dump.specs.declared.dumper.DumpWorker.{DumpWorker}
-use Rattle.mm_dump.specs.Steps.{IsBack}
+use Rattle.mm_dump.proofs.Words.{◌≡◌, length, get_or, refl, arith, DumpWorker, IsBack}
 use Rattle.mm_dump.proofs.Halves.{both_ready, both_worked, one_worked}
 use Rattle.mm_dump.proofs.dumper.+halves.Goals as goal
 

@@ -1,8 +1,4 @@
-use Rattle.std.proofs.Common.{rules, ◌≡◌, ◌+◌, ◌<◌, ◌≤◌, true, [], ◌∷◌, length, refl, ap, ◌∙◌, arith, length-append}
-use Rattle.std.specs.Prelude.{None, is_some}
-use Rattle.crossbeam_queue.specs.Passes.{view}
-use Rattle.mm_shared.specs.Stores.{ids_of}
-use Rattle.mm_dump.specs.declared.queue.QueueView.{QueueView}
+use Rattle.mm_dump.proofs.Words.{rules, ◌≡◌, ◌+◌, ◌<◌, ◌≤◌, true, [], ◌∷◌, length, refl, ap, ◌∙◌, arith, length-append, None, is_some, view, ids_of, QueueView}
 use Rattle.mm_dump.proofs.Working.{worked_start, worked_past, worked_more, worked_stopped}
 use Rattle.mm_dump.proofs.dumper.work.Goals as goal
 

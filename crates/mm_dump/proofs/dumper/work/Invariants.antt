@@ -1,9 +1,4 @@
-use Rattle.std.proofs.Common.{◌≡◌, ◌*◌, ◌^◌, ◌≤◌, List, length, None}
-use Rattle.crossbeam_queue.specs.Passes.{view, IsPassOf}
-use Rattle.mm_shared.specs.Stores.{ids_of}
-use Rattle.mm_dump.specs.Courses.{Course}
-use Rattle.mm_dump.specs.OrderSteps.{progress}
-use Rattle.mm_dump.specs.Workers.{Worked}
+use Rattle.mm_dump.proofs.Words.{◌≡◌, ◌*◌, ◌^◌, ◌≤◌, List, length, None, view, IsPassOf, ids_of, Course, progress, Worked}
 use Rattle.mm_dump.proofs.dumper.work.Given as goal
 
 abbrev pub invariant-loop : goal.invariant-loop

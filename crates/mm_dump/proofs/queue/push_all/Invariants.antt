@@ -1,5 +1,4 @@
-use Rattle.std.proofs.Common.{◌≡◌, ◌+◌, ◌<◌, [], length}
-use Rattle.crossbeam_queue.specs.Passes.{view, IsPassOf}
+use Rattle.mm_dump.proofs.Words.{◌≡◌, ◌+◌, ◌<◌, [], length, view, IsPassOf}
 use Rattle.mm_dump.proofs.queue.push_all.Given as goal
 
 abbrev pub invariant-loop-number : goal.invariant-loop-number
