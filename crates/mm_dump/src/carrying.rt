@@ -49,61 +49,8 @@ fn abort<R: Wait>(context: &OrderContext<'_, R>, port: &mut Port)
     let _aborted = context.stores.abort(context.rt, port, context.place);
 }
 
-// Takes the next packet of the retrieval. Where there is no memory for its copy the retrieval is aborted.
-fn next<R: Wait>(context: &OrderContext<'_, R>, port: &mut Port) -> Result<Option<Stored>, OrderBroken>
-    requires at { IsPortAt context.now.stores.now context.now.place port.old }
-    ensures ok { IfOk result (λ next. HasCalled context.now.place true (is_some next)
-        (λ seat calls. calls ≡ entry seat Event.Next (Reply.Given (Ok next)) ∷ []) port.old port.new) }
-    ensures err { IfErr result (λ why. (why ≡ OrderBroken.NoMemory) × HasCalled context.now.place true false (λ seat calls. calls ≡ aborted seat ∷ []) port.old port.new) }
-    ensures of { port.new.of ≡ port.old.of }
-{
-    let fault = match context
-        .stores
-        .next(context.rt, context.alloc, port, context.place)
-    {
-        Ok(next) => return Ok(next),
-        Err(fault) => fault,
-    };
-    match fault {
-        Fault::NoMemory => {
-            abort(context, port);
-            Err(OrderBroken::NoMemory)
-        }
-        _ => Err(OrderBroken::NoMemory),
-    }
-}
-
-// Takes the next packet of the retrieval and sends it, for which a block of the window is spent. Where memory lacks, or the link
-// does not take the packet, the retrieval is aborted.
-fn send_next<L: Link, R: Wait>(
-    context: &OrderContext<'_, R>,
-    port: &mut Port,
-    link: &mut L,
-    spent: &mut u64,
-) -> Result<Option<Stored>, OrderBroken>
-    requires at { IsPortAt context.now.stores.now context.now.place port.old }
-    requires room { L.failed link.old < 2 ^ 64 - 1 }
-    requires blocks { spent.old + 1 < 2 ^ 64 }
-    ensures of { port.new.of ≡ port.old.of }
-    ensures few { spent.new ≤ spent.old + 1 }
-    ensures ok { IfOk result (λ next. HasGone (order_store context.now.place context.now.id.now) true (is_some next) (option_to_list next) []
-        (λ seat calls. calls ≡ entry seat Event.Next (Reply.Given (Ok next)) ∷ [])
-        (progress L.sent L.failed port.old link.old spent.old) (progress L.sent L.failed port.new link.new spent.new)) }
-    ensures err { IfErr result (λ why. BreaksOff (order_store context.now.place context.now.id.now) 1 why
-        (progress L.sent L.failed port.old link.old spent.old) (progress L.sent L.failed port.new link.new spent.new)) }
-{
-    let Some(stored) = next(context, port)? else {
-        return Ok(None);
-    };
-    *spent += 1;
-    if link.send(context.id, stored.time, &stored.packet).is_err() {
-        abort(context, port);
-        return Err(OrderBroken::LinkFailed);
-    }
-    Ok(Some(stored))
-}
-
-// Sends the packets of a retrieval, this many or as many as there are, and ends it. Gives the time of the last one, where one was sent.
+// Sends the packets of a retrieval, this many or as many as there are, and ends it. A block of the window is spent for each. Gives the time
+// of the last one, where one was sent. Where memory for a copy lacks, or the link does not take a packet, the retrieval is aborted.
 fn send_all<L: Link, R: Wait>(
     context: &OrderContext<'_, R>,
     port: &mut Port,
@@ -123,10 +70,26 @@ fn send_all<L: Link, R: Wait>(
 {
     let mut last = None;
     for _ in 0..amount {
-        match send_next(context, port, link, spent)? {
-            Some(stored) => last = Some(stored.time),
-            None => return Ok(last),
+        let next = match context
+            .stores
+            .next(context.rt, context.alloc, port, context.place)
+        {
+            Ok(next) => next,
+            Err(Fault::NoMemory) => {
+                abort(context, port);
+                return Err(OrderBroken::NoMemory);
+            }
+            Err(_) => return Err(OrderBroken::NoMemory),
+        };
+        let Some(stored) = next else {
+            return Ok(last);
+        };
+        *spent += 1;
+        if link.send(context.id, stored.time, &stored.packet).is_err() {
+            abort(context, port);
+            return Err(OrderBroken::LinkFailed);
         }
+        last = Some(stored.time);
     }
     abort(context, port);
     Ok(last)
