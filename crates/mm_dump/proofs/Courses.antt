@@ -1,13 +1,7 @@
 -- The worst of the causes for which orders broke.
-use Rattle.std.proofs.Common.{◌≡◌, ℕ, ◌+◌, ◌<◌, List, [], ◌∷◌, ◌++◌, length, get_or, map, take, refl, sym, ap, ◌∙◌, All, subst}
-use Rattle.std.specs.Prelude.{Option, Some, None}
-use Rattle.std.proofs.lemmas.List.{map_more}
-use Rattle.std.proofs.lemmas.List.Elements.{All-nil, All-cons}
-use Rattle.mm_base.proofs.Sums.{sum_by_zeros}
-use Rattle.mm_dump.specs.declared.order.OrderBroken.{OrderBroken}
-use Rattle.mm_dump.specs.declared.order.OrderBroken.TheVariants.{LinkFailed, NoMemory}
-use Rattle.mm_dump.specs.Courses.{worse, worst_of, Course, IsWhole, EndedAs, IsCourse, failed_by}
-use Rattle.mm_dump.specs.Workers.{IsTried}
+use Rattle.mm_dump.proofs.Words.{◌≡◌, ℕ, ◌+◌, ◌<◌, List, [], ◌∷◌, ◌++◌, length, get_or, map, take, refl, sym, ap, ◌∙◌, All, subst, ◌≤◌, arith, length-append}
+use Rattle.mm_dump.proofs.Words.{Option, Some, None, map_more, All-nil, All-cons, sum_by_zeros, OrderBroken, LinkFailed, NoMemory, worse, worst_of, Course}
+use Rattle.mm_dump.proofs.Words.{IsWhole, EndedAs, IsCourse, failed_by}
 
 -- the worst of three is found in either order
 worse-assoc : (a b c : Option OrderBroken) → worse (worse a b) c ≡ worse a (worse b c)
@@ -58,6 +52,15 @@ pub whole_course : (c : Course) → c.why ≡ None → IsCourse c → IsWhole c
 whole_course c none is = subst (λ (why : Option OrderBroken). EndedAs why c) none is
 
 -- where nothing broke no send failed
-pub no_failures : (cs : List Course) → All IsTried cs → cause_of_all cs ≡ None → failed_by cs ≡ 0
-no_failures cs tried none =
-    sum_by_zeros (λ (c : Course). length c.unsent) cs (λ i d inside. ap length ((tried i d inside).whole (none_broke (λ (c : Course). c.why) cs none i d inside)))
+pub no_failures : (cs : List Course) → All IsCourse cs → cause_of_all cs ≡ None → failed_by cs ≡ 0
+no_failures cs known none =
+    sum_by_zeros (λ (c : Course). length c.unsent) cs (λ i d inside.
+    ap length (whole_course (get_or cs i d) (none_broke (λ (c : Course). c.why) cs none i d inside) (known i d inside)).all)
+
+-- what an order sent and what failed of it is no more than it wanted
+pub course_few : (c : Course) → IsCourse c → length c.sent + length c.unsent ≤ c.order.amount
+course_few c is = of c.why is
+  where
+    of : (why : Option OrderBroken) → EndedAs why c → length c.sent + length c.unsent ≤ c.order.amount
+    of None whole = omega (arith, whole.order.most, ap length whole.all)
+    of (Some why) broken = omega (arith, broken.order.most, length-append c.sent c.unsent)

@@ -1,15 +1,7 @@
 -- The order carried out at a place, among those of all workers.
-use Rattle.std.proofs.Common.{◌≡◌, ◌≢◌, inl, inr, ℕ, zero, suc, ◌<◌, ◌≤◌, ◌==◌, Bool, true, false, eqb, List, [], ◌∷◌, ◌++◌, length, get_or, map, filter, All, refl, sym, ap, ◌∙◌, length-append, arith}
-use Rattle.std.specs.List.{flat_map}
-use Rattle.std.specs.Prelude.{None}
-use Rattle.std.proofs.lemmas.Bool.{eq-eqb, eqb-true, cases_Bool}
-use Rattle.std.proofs.lemmas.Bool.Decides.{eqb_tells}
-use Rattle.std.proofs.lemmas.List.{append-nil, map-append, nil_from_length}
-use Rattle.std.proofs.lemmas.List.Elements.{All-filter, filter-append, filter_passes}
-use Rattle.mm_desk.specs.declared.entry.Entry.{Entry}
-use Rattle.mm_shared.specs.Rule.{calls_on}
-use Rattle.mm_dump.specs.Courses.{Course, calls_at}
-use Rattle.mm_dump.specs.Workers.{calls_of}
+use Rattle.mm_dump.proofs.Words.{◌≡◌, ◌≢◌, inl, inr, ℕ, zero, suc, ◌<◌, ◌≤◌, ◌==◌, Bool, true, false, eqb, List, [], ◌∷◌, ◌++◌, length, get_or, map, filter}
+use Rattle.mm_dump.proofs.Words.{All, refl, sym, ap, ◌∙◌, length-append, arith, flat_map, None, eq-eqb, eqb-true, cases_Bool, eqb_tells, append-nil, map-append}
+use Rattle.mm_dump.proofs.Words.{nil_from_length, All-filter, filter-append, filter_passes, Entry, calls_on, Course, calls_at, calls_of}
 
 -- where at most one element passes a test, one that does is the only one
 pub only : {X : Type 0} (p : X → Bool) (xs : List X) (i : ℕ) (d : X) → i < length xs → p (get_or xs i d) ≡ true → length (filter p xs) ≤ 1 → filter p xs ≡ get_or xs i d ∷ []

@@ -1,19 +1,7 @@
 -- Workers side by side, in two halves.
-use Rattle.std.proofs.Common.{◌≡◌, ℕ, ◌-◌, ◌<◌, ◌^◌, List, [], ◌∷◌, ◌++◌, length, get_or, set, map, All, refl, sym, ap, subst, ◌∙◌, arith, length-append}
-use Rattle.std.specs.Prelude.{Option}
-use Rattle.std.proofs.lemmas.List.{map-append, set-get_or}
-use Rattle.std.proofs.lemmas.List.Elements.{All-append, All-cons, All-nil}
-use Rattle.crossbeam_queue.specs.declared.array_queue.Doing.{Doing}
-use Rattle.crossbeam_queue.specs.declared.array_queue.Slotted.{Slotted}
-use Rattle.mm_base.proofs.Pairs.{All-front, All-back}
-use Rattle.mm_shared.specs.declared.label.StoreLabel.{StoreLabel}
-use Rattle.mm_shared.specs.Views.{PortView, StoresView}
-use Rattle.mm_dump.specs.declared.dumper.DumpWorker.{DumpWorker}
-use Rattle.mm_dump.specs.declared.order.Order.{Order}
-use Rattle.mm_dump.specs.declared.queue.QueueView.{QueueView}
-use Rattle.mm_dump.specs.Sending.{Sent}
-use Rattle.mm_dump.specs.Steps.{IsHired, IsBack}
-use Rattle.mm_dump.specs.Workers.{AllWorked, AreReady, HasWorked, IsNewPort, Work}
+use Rattle.mm_dump.proofs.Words.{◌≡◌, ℕ, ◌-◌, ◌<◌, ◌^◌, List, [], ◌∷◌, ◌++◌, length, get_or, set, map, All, refl, sym, ap, subst, ◌∙◌, arith, length-append}
+use Rattle.mm_dump.proofs.Words.{Option, map-append, set-get_or, All-append, All-cons, All-nil, Doing, Slotted, All-front, All-back, StoreLabel, PortView}
+use Rattle.mm_dump.proofs.Words.{StoresView, DumpWorker, Order, QueueView, Sent, IsHired, IsBack, AllWorked, AreReady, HasWorked, IsNewPort, Work}
 
 -- what holds of each element of a list holds of each of its two parts
 parts : {X : Type 0} (P : X → Type 0) (xs ys zs : List X) → zs ≡ xs ++ ys → All P zs → All P xs × All P ys

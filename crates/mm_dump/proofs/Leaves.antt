@@ -1,42 +1,20 @@
 -- Workers that are ready, and what a step's dump leaves once they have ended.
-use Rattle.std.proofs.Common.{◌≡◌, inl, inr, ℕ, ◌+◌, ◌-◌, ◌<◌, ◌≤◌, ◌^◌, ◌==◌, true, List, [], ◌∷◌, ◌++◌, length, get_or, map, filter, take, All, Contains, refl, sym, ap, subst, ◌∙◌, arith}
-use Rattle.std.specs.List.{sum_by, flat_map, range_with_len}
-use Rattle.std.specs.Prelude.{Option, Some, None}
+use Rattle.mm_dump.proofs.Words.{◌≡◌, inl, inr, ℕ, ◌+◌, ◌-◌, ◌<◌, ◌≤◌, ◌^◌, ◌==◌, true, List, [], ◌∷◌, ◌++◌, length, get_or, map, filter, take, All, Contains}
+use Rattle.mm_dump.proofs.Words.{refl, sym, ap, subst, ◌∙◌, arith, sum_by, flat_map, range_with_len, Option, Some, None, cases_lt, ltb-true, length-map}
+use Rattle.mm_dump.proofs.Words.{length-append, length-take, map-append, map-id, append-nil, flat_map-append, length-flat_map, All-append, All-map, All-nil}
+use Rattle.mm_dump.proofs.Words.{All-weaker, Contains-get_or, filter-append, filter_passes, length-range_with_len, sum_by-append, get_or-le-sum_by, map-map}
+use Rattle.mm_dump.proofs.Words.{Doing, Slotted, view, sum_by-map, sum_by-map-filter, sum_by-same, sum_by-add, sum_by-le_each, sum_by-flat_map, sum_by_ones}
+use Rattle.mm_dump.proofs.Words.{sum_by_zeros, Entry, Held, State, IsRun, opening_at, StoreLabel, calls_on, list_at, lists_at, all_ends, end_of, ids_of}
+use Rattle.mm_dump.proofs.Words.{names_of, labels_of, AreNew, states_of, HaveLegalLogs, PortView, StoresView, HasLegalLog, DumpWorker, Order, OrderBroken}
+use Rattle.mm_dump.proofs.Words.{QueueView, Course, calls_at, worse, worst_of, CarriesOut, MayDump, Sent, IsHired, IsBack, AllWorked, AreReady, HasWorked}
+use Rattle.mm_dump.proofs.Words.{causes_of, IsNewPort, IsTried, Work, calls_of, has_order, order_at, past_of}
 use Rattle.std.proofs.Math.ListN.{get_or-map}
 use Rattle.std.proofs.Math.Seq.{take-append_seam}
-use Rattle.std.proofs.lemmas.Bool.{cases_lt, ltb-true}
-use Rattle.std.proofs.lemmas.List.{length-map, length-append, length-take, map-append, map-id, append-nil, get_or_append_left}
-use Rattle.std.proofs.lemmas.List.Concat.{flat_map-append, length-flat_map}
-use Rattle.std.proofs.lemmas.List.Elements.{All-append, All-map, All-nil, All-weaker, Contains-get_or, filter-append, filter_passes}
 use Rattle.std.proofs.lemmas.List.Folds.{flat_map-map}
-use Rattle.std.proofs.lemmas.List.FromFn.{length-range_with_len}
-use Rattle.std.proofs.lemmas.List.Sums.{sum_by-append, get_or-le-sum_by}
-use Rattle.std.proofs.lemmas.Simd.{map-map}
-use Rattle.crossbeam_queue.specs.declared.array_queue.Doing.{Doing}
-use Rattle.crossbeam_queue.specs.declared.array_queue.Slotted.{Slotted}
-use Rattle.crossbeam_queue.specs.Passes.{view}
 use Rattle.mm_base.proofs.Elements.{All-unmapped}
-use Rattle.mm_base.proofs.Sums.{sum_by-map, sum_by-map-filter, sum_by-same, sum_by-add, sum_by-le_each, sum_by-flat_map, sum_by_ones, sum_by_zeros}
-use Rattle.mm_desk.specs.declared.entry.Entry.{Entry}
-use Rattle.mm_desk.specs.declared.held.Held.{Held}
 use Rattle.mm_desk.proofs.Lone.{lone_log}
-use Rattle.mm_desk.specs.Machine.{State}
-use Rattle.mm_desk.specs.Runs.{IsRun, opening_at}
-use Rattle.mm_shared.specs.declared.label.StoreLabel.{StoreLabel}
 use Rattle.mm_shared.specs.declared.stores.OpenStores.{OpenStores}
-use Rattle.mm_shared.specs.Rule.{calls_on}
-use Rattle.mm_shared.specs.Stores.{list_at, lists_at, all_ends, end_of, ids_of, names_of, labels_of, AreNew, states_of, HaveLegalLogs}
-use Rattle.mm_shared.specs.Views.{PortView, StoresView, HasLegalLog}
-use Rattle.mm_dump.specs.declared.dumper.DumpWorker.{DumpWorker}
-use Rattle.mm_dump.specs.declared.order.Order.{Order}
-use Rattle.mm_dump.specs.declared.order.OrderBroken.{OrderBroken}
-use Rattle.mm_dump.specs.declared.queue.QueueView.{QueueView}
-use Rattle.mm_dump.specs.Courses.{Course, calls_at, worse, worst_of}
-use Rattle.mm_dump.specs.Dumped.{CarriesOut, MayDump}
-use Rattle.mm_dump.specs.Sending.{Sent}
-use Rattle.mm_dump.specs.Steps.{IsHired, IsBack}
-use Rattle.mm_dump.specs.Workers.{AllWorked, AreReady, HasWorked, causes_of, IsNewPort, IsTried, Work, calls_of, has_order, order_at, past_of}
-use Rattle.mm_dump.proofs.Courses.{cause_of_all, none_broke}
+use Rattle.mm_dump.proofs.Courses.{cause_of_all}
 use Rattle.mm_dump.proofs.Finding.{calls_on-calls_of, find, found_calls, here, lone_list}
 use Rattle.mm_dump.proofs.Ordered.{weighs_first, weight_of}
 use Rattle.mm_dump.proofs.Settled.{HaveEnded, IsLine, Line, all_of, carries_out, flat_all, map_same}
@@ -104,7 +82,7 @@ module _ {L : Type 0} (sent : L → List Sent) (failed : L → ℕ) (ids : List 
     (fresh : All (λ w. w.old_port.list ≡ []) works) (next : ℕ)
     (total : (weight : ℕ → ℕ) → sum_by weight (range_with_len 0 next) ≡ sum_by (λ (w : Work L). sum_by weight (view w.worker.pass).taken) works)
     (logs : (p : ℕ) → p < length after → HasLegalLog (map (λ w. list_at w.new_port p) works) (opening_at (states_of before) p) (opening_at after p))
-    (idle : List L) (few : 0 < length idle → length orders ≤ length works) (some : 0 < length orders → 0 < length works) where
+    (idle : List L) (few : 0 < length idle → length orders ≤ length works) (some : 0 < length works + length idle) where
   abbrev all : List Course
   all = flat_map (λ w. w.courses) works
 
@@ -115,18 +93,8 @@ module _ {L : Type 0} (sent : L → List Sent) (failed : L → ℕ) (ids : List 
   abbrev lines : List (Line L)
   lines = map line_of works ++ map idle_line idle
 
-  lines_are : All (IsLine sent failed ids) lines
-  lines_are =
-      All-append (IsLine sent failed ids) (map line_of works) (map idle_line idle)
-      (All-map (IsLine sent failed ids) line_of works (λ i d inside.
-      let is = each i d inside in
-      record { all = is.shown.all; failures = is.shown.failures; blocks = omega (arith, is.shown.blocks); are = is.are }))
-      (All-map (IsLine sent failed ids) idle_line idle (λ i d inside. record {
-        all = sym (append-nil (sent (get_or idle i d)));
-        failures = omega arith;
-        blocks = refl;
-        are = record { each = All-nil IsTried; early = λ j e within. absurd (omega (arith, within)); cause = refl };
-      }))
+  lines_count : length lines ≡ length works + length idle
+  lines_count = length-append (map line_of works) (map idle_line idle) ∙ (λ i. length-map works line_of i + length-map idle idle_line i)
 
   -- what they weigh
   weigh : (f : Order → ℕ) → sum_by (λ (c : Course). f c.order) all ≡ sum_by f (take next orders)
@@ -178,8 +146,8 @@ module _ {L : Type 0} (sent : L → List Sent) (failed : L → ℕ) (ids : List 
       (λ i d inside. sum_by_ones (view (get_or works i d).worker.pass).taken ∙ (each i d inside).count)
 
   -- where there is one more, all orders were taken
-  reach : (i : ℕ) → i < length whys → get_or whys i None ≡ None → length orders ≤ next
-  reach i inside none =
+  reach : All (λ w. w.worker.why ≡ None → length orders ≤ next) works
+  reach i d inside none =
       omega (
         arith,
         counts,
@@ -189,8 +157,7 @@ module _ {L : Type 0} (sent : L → List Sent) (failed : L → ℕ) (ids : List 
         sum_by_ones all,
         sum_by_ones (take next orders),
         length-take next orders,
-        sum_by-map past_of (λ (w : Work L). w.worker.why) works,
-        get_or-le-sum_by past_of whys i None inside,
+        get_or-le-sum_by (λ w. past_of w.worker.why) works i d inside,
         ap past_of none,
       )
 
@@ -206,40 +173,36 @@ module _ {L : Type 0} (sent : L → List Sent) (failed : L → ℕ) (ids : List 
             (λ i d inside. took_some (get_or works i d).worker.why (get_or works i d).courses (each i d inside).are.cause),
       )
 
-  whole : worst_of whys ≡ None → length orders ≤ next
-  whole none =
-      elim (cases_lt 0 (length orders)) [
-        | inl wants ↦
-            let first = All-map (λ (why : Option OrderBroken). why ≡ None) (λ (w : Work L). w.worker.why) works (none_broke (λ (w : Work L). w.worker.why) works none) in
-            let inside : 0 < length whys = omega (arith, some wants, length-map works (λ (w : Work L). w.worker.why)) in
-            reach 0 inside (first 0 None inside)
-        | inr nothing ↦ omega (arith, nothing)
-      ]
+  -- what became of the links
+  lines_are : All (IsLine sent failed ids (length orders ≤ next)) lines
+  lines_are =
+      let P = IsLine sent failed ids (length orders ≤ next) in
+      All-append P (map line_of works) (map idle_line idle)
+      (All-map P line_of works (λ i d inside.
+      let is = each i d inside in
+      record { all = is.shown.all; failures = is.shown.failures; blocks = omega (arith, is.shown.blocks); are = is.are; whole = reach i d inside }))
+      (All-map P idle_line idle (λ i d inside. record {
+        all = sym (append-nil (sent (get_or idle i d)));
+        failures = omega arith;
+        blocks = refl;
+        are = record { each = All-nil IsTried; early = λ j e within. absurd (omega (arith, within)); cause = refl };
+        whole = λ none. enough (few (omega (arith, inside)));
+      }))
 
   -- what is made of the links, from what is made of those with a worker and of those without one
   lined : {X : Type 0} (f : Line L → X) → map f lines ≡ map (λ w. f (line_of w)) works ++ map (λ (x : L). f (idle_line x)) idle
   lined f = map-append f (map line_of works) (map idle_line idle) ∙ (λ i. map-map f line_of works i ++ map-map f idle_line idle i)
 
-  whys_count : length (whys ++ map (λ (x : L). (idle_line x).why) idle) ≡ length works + length idle
-  whys_count =
-      length-append whys (map (λ (x : L). (idle_line x).why) idle) ∙ (λ i. length-map works (λ (w : Work L). w.worker.why) i + length-map idle (λ (x : L). (idle_line x).why) i)
-
-  ended : HaveEnded orders (whys ++ map (λ (x : L). (idle_line x).why) idle) all (states_of before) after
+  ended : HaveEnded orders (length lines) all (states_of before) after
   ended = record {
     ordered = ordered;
     next = next;
     weigh = weigh;
     runs = runs;
-    left = λ i inside none.
-        elim (cases_lt i (length whys)) [
-          | inl mine ↦ reach i mine (sym (get_or_append_left whys (map (λ (x : L). (idle_line x).why) idle) None i mine) ∙ none)
-          | inr beyond ↦ enough (few (omega (arith, inside, beyond, whys_count, length-map works (λ (w : Work L). w.worker.why))))
-        ];
-    whole = λ none. whole (sym (worst-idle whys idle) ∙ none);
     enough = λ many.
         elim (cases_lt 0 (length idle)) [
           | inl unused ↦ enough (few unused)
-          | inr none ↦ enough (omega (arith, many, none, whys_count))
+          | inr none ↦ enough (omega (arith, many, none, lines_count))
         ];
   }
 
@@ -254,6 +217,7 @@ module _ {L : Type 0} (sent : L → List Sent) (failed : L → ℕ) (ids : List 
 
   -- so the step's dump was carried out
   pub leaves : CarriesOut sent failed ids orders (states_of before) after (map (λ w. w.old_link) works ++ idle) (map (λ w. w.new_link) works ++ idle) (worst_of whys) (sum_by (λ w. w.worker.spent) works)
+  unfolding ended
   leaves =
       let olds = lined (λ (l : Line L). l.old) ∙ ap (λ (xs : List L). map (λ w. w.old_link) works ++ xs) (map-id idle) in
       let news = lined (λ (l : Line L). l.new) ∙ ap (λ (xs : List L). map (λ w. w.new_link) works ++ xs) (map-id idle) in
@@ -266,10 +230,9 @@ module _ {L : Type 0} (sent : L → List Sent) (failed : L → ℕ) (ids : List 
         sum_by-map (λ (l : Line L). l.spent) idle_line idle,
         sum_by_zeros (λ (x : L). 0) idle (λ i d inside. refl),
       ) in
-      let h : HaveEnded orders (map (λ l. l.why) lines) (all_of lines) (states_of before) after =
-      subst (λ (T : Type 0). T) (λ i. HaveEnded orders (sym broke i) (sym all_is i) (states_of before) after) ended in
+      let h : HaveEnded orders (length lines) (all_of lines) (states_of before) after = subst (λ (cs : List Course). HaveEnded orders (length lines) cs (states_of before) after) (sym all_is) ended in
       subst (λ (T : Type 0). T) (λ i. CarriesOut sent failed ids orders (states_of before) after (olds i) (news i) ((ap worst_of broke ∙ worst-idle whys idle) i) (spent i))
-      (carries_out sent failed ids orders before links may lines after same lines_are h)
+      (carries_out sent failed ids orders before links may lines (omega (arith, some, lines_count)) after same h lines_are)
 
 -- without orders nothing is carried out
 pub nothing : {L : Type 0} (sent : L → List Sent) (failed : L → ℕ) (ids : List (List ℕ)) (orders : List Order) (stores : List Held) (links : List L) → MayDump failed orders stores links
@@ -278,7 +241,7 @@ nothing sent failed ids orders stores links may none =
     leaves sent failed ids orders stores links may (states_of stores) (length-map stores (λ h. h.state)) [] (λ i d inside. absurd (omega (arith, inside))) (λ i d inside. absurd (omega (arith, inside)))
     0 (λ weight. refl)
     (λ p inside. record { log = []; run = record { legal = tt; leaves = refl }; shuffle = record { below = λ i d within. absurd (omega (arith, within)); parts = λ seat within. absurd (omega (arith, within)) } })
-    links (λ unused. omega (arith, ap length none)) (λ wants. absurd (omega (arith, wants, ap length none)))
+    links (λ unused. omega (arith, ap length none)) (omega (arith, may.lowest))
 
 -- a step's workers, once they have ended
 module _ {L Q A : Type 0} (sent : L → List Sent) (failed : L → ℕ) (queue : Slotted (Option ℕ) (Doing ℕ QueueView) Q A) (ids : List (List ℕ)) (orders : List Order)
@@ -312,4 +275,4 @@ module _ {L Q A : Type 0} (sent : L → List Sent) (failed : L → ℕ) (queue :
       (λ weight. total weight ∙ sym (summed (λ (d : DumpWorker). sum_by weight (view d.pass).taken)))
       (λ p inside. subst (λ ls. HasLegalLog ls (opening_at (states_of before) p) (opening_at after p))
       (ap (lists_at p) (sym w.new_ports_are) ∙ map-map (λ (q : PortView). list_at q p) (λ (v : Work L). v.new_port) w.works) (logs p inside))
-      idle (λ unused. omega (arith, few unused, count)) (λ wants. omega (arith, some, count)))
+      idle (λ unused. omega (arith, few unused, count)) (omega (arith, some, count)))

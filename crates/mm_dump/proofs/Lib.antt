@@ -1,6 +1,6 @@
+mod Words
 mod Leaving
 mod Moves
-mod Refusing
 mod OneOrder
 mod Courses
 mod Working

@@ -1,18 +1,13 @@
 -- Each step of the queue keeps its rule.
-use Rattle.std.proofs.Common.{◌≡◌, ◌≢◌, ⊎_elim, ℕ, zero, suc, ◌+◌, ◌-◌, ◌<◌, ◌≤◌, List, [], ◌∷◌, ◌++◌, length, get_or, set, refl, sym, ap, subst, ◌∙◌, arith}
-use Rattle.std.specs.List.{sum_by, range_with_len}
-use Rattle.std.proofs.lemmas.List.{get_or_default, nil_from_length}
-use Rattle.std.proofs.lemmas.List.FromFn.{length-range_with_len}
-use Rattle.std.proofs.lemmas.List.Sums.{sum_by-cons, sum_by-append, sum_by_push}
+use Rattle.mm_dump.proofs.Words.{◌≡◌, ◌≢◌, inl, inr, ⊎_elim, ℕ, zero, suc, ◌+◌, ◌-◌, ◌<◌, ◌≤◌, List, [], ◌∷◌, ◌++◌, length, get_or, set, refl, sym, ap, subst}
+use Rattle.mm_dump.proofs.Words.{◌∙◌, arith, sum_by, range_with_len, cases_lt, get_or_default, nil_from_length, length-range_with_len, sum_by-cons}
+use Rattle.mm_dump.proofs.Words.{sum_by-append, sum_by_push, sum_by_range_more, sum_by_ones, sum_by_zeros, QueueView, queue_view, Knows, AreTakenOnce}
+use Rattle.mm_dump.proofs.Words.{TakesNext, Tells}
 use mathlib.Core.Option.{some, some-injective, some-ne-none}
 use lib.ListN.{get_elem?}
 use Rattle.crossbeam_queue.specs.Fifo.{Pushes, Pops, Forks, Merges, Learns}
 use Rattle.crossbeam_queue.proofs.Lists.{at_index, at_set, at_snoc, set_else}
 use Rattle.mm_base.proofs.Ranges.{range_with_len_more}
-use Rattle.mm_base.proofs.RangeSums.{sum_by_range_more}
-use Rattle.mm_base.proofs.Sums.{sum_by_ones, sum_by_zeros}
-use Rattle.mm_dump.specs.declared.queue.QueueView.{QueueView}
-use Rattle.mm_dump.specs.Queue.{queue_view, Knows, AreTakenOnce, TakesNext, Tells}
 
 -- a sum over passes after a change of one
 total_set : (f : QueueView → ℕ) (views : List QueueView) (pass : ℕ) (v w : QueueView) → get_elem? views pass ≡ some v → sum_by f (set views pass w) + f v ≡ sum_by f views + f w
@@ -107,33 +102,6 @@ begins = record {
     only zero u here = refl
     only (suc other) u here = absurd (some-ne-none u (sym here))
 
--- a push of the next number, by the pass with all parts
-pub pushes : (room pass : ℕ) (v : QueueView) (x : ℕ) → v.parts ≡ 1024 → x ≡ v.pushed → Pushes AreTakenOnce room pass v x (λ w. w ≡ queue_view v.parts (v.pushed + 1) v.taken)
-pushes room pass v x all number items views within rule at =
-    let w = queue_view v.parts (v.pushed + 1) v.taken in
-    let known = rule.known pass v at in
-    let count : v.pushed ≡ rule.pushed = known.some_part (omega arith) in
-    let bound : rule.next ≤ rule.pushed = rule.within in (
-      w,
-      record {
-        pushed = rule.pushed + 1;
-        next = rule.next;
-        within = omega arith;
-        queued = longer (omega arith) (omega arith);
-        parts = omega (arith, total_set parts_of views pass v w at, rule.parts);
-        each = λ h. omega (arith, total_set (took h) views pass v w at, rule.each h);
-        known = known_set (rule.pushed + 1) views pass w (knows_part (rule.pushed + 1) w (omega arith) (omega arith))
-            (others_know (rule.pushed + 1) pass v rule at all);
-      },
-      refl,
-    )
-  where
-    longer : rule.next + (rule.pushed - rule.next) ≡ x → rule.pushed + 1 - rule.next ≡ suc (rule.pushed - rule.next)
-        → items ++ x ∷ [] ≡ range_with_len rule.next (rule.pushed + 1 - rule.next)
-    longer last more =
-        ap (λ (xs : List ℕ). xs ++ x ∷ []) rule.queued ∙ sym (range_with_len_more rule.next (rule.pushed - rule.next) x last)
-        ∙ ap (range_with_len rule.next) (sym more)
-
 -- a pop that takes
 pub takes : (pass : ℕ) (v : QueueView) → 0 < v.parts → Pops AreTakenOnce pass v (TakesNext v)
 takes pass v some_part x items views rule at =
@@ -214,20 +182,37 @@ learns pass v items views rule at =
       each = λ all. took_all pass v rule at all;
     }
 
--- a push of the first number, by the pass with all parts, where it took all that were pushed
-pub pushes_first : (room pass : ℕ) (v : QueueView) (x : ℕ) → v.parts ≡ 1024 → length v.taken ≡ v.pushed → x ≡ 0 → Pushes AreTakenOnce room pass v x (λ w. w ≡ queue_view 1024 1 [])
-pushes_first room pass v x all none first items views within rule at =
-    let w = queue_view 1024 1 [] in
-    let empty : items ≡ [] = nil_from_length items (omega (arith, (learns pass v items views rule at).counted all)) in (
+-- a push of the next number by the pass with all parts, and of 0 where it took all that were pushed
+pub pushes : (room pass : ℕ) (v : QueueView) (x : ℕ) → v.parts ≡ 1024 → length v.taken + x ≡ v.pushed → (0 < x → v.taken ≡ [])
+    → Pushes AreTakenOnce room pass v x (λ w. w ≡ queue_view 1024 (x + 1) [])
+pushes room pass v x all number none items views within rule at =
+    let w = queue_view 1024 (x + 1) [] in
+    let count : length items ≡ x = omega (arith, (learns pass v items views rule at).counted all, number) in (
       w,
       record {
-        pushed = 1;
+        pushed = x + 1;
         next = 0;
         within = omega arith;
-        queued = (λ i. empty i ++ first i ∷ []);
+        queued = ap (λ (xs : List ℕ). xs ++ x ∷ []) (from_0 count) ∙ sym (range_with_len_more 0 x x (omega arith)) ∙ ap (range_with_len 0) (one_more x);
         parts = omega (arith, total_set parts_of views pass v w at, rule.parts);
         each = λ h. omega (arith, total_set (took h) views pass v w at, rule.each h, took_all pass v rule at all h);
-        known = known_set 1 views pass w (knows_part 1 w refl (omega arith)) (others_know 1 pass v rule at all);
+        known = known_set (x + 1) views pass w (knows_part (x + 1) w refl (omega arith)) (others_know (x + 1) pass v rule at all);
       },
       refl,
     )
+  where
+    one_more : (n : ℕ) → suc n ≡ n + 1 - 0
+    one_more n = omega arith
+
+    from_0 : length items ≡ x → items ≡ range_with_len 0 x
+    from_0 count =
+        elim (cases_lt 0 x) [
+          | inl has ↦
+              let start : rule.next ≡ 0 = omega (arith, took_all pass v rule at all (λ (k : ℕ). 1), counted rule.next, sum_by_ones v.taken, ap length (none has)) in
+              let many : rule.pushed - rule.next ≡ x = omega (arith, ap length rule.queued, length-range_with_len rule.next (rule.pushed - rule.next), count) in
+              rule.queued ∙ (λ i. range_with_len (start i) (many i))
+          | inr first ↦ nil_from_length items (omega (arith, count, first)) ∙ ap (range_with_len 0) (sym (is_0 first))
+        ]
+      where
+        is_0 : x ≤ 0 → x ≡ 0
+        is_0 first = omega arith

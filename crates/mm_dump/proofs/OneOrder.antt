@@ -1,80 +1,153 @@
 -- One order carried out: its begin, its packets, and its end.
-use Rattle.std.proofs.Common.{◌≡◌, ℕ, List, [], ◌∷◌, ◌++◌, map, refl, sym, ap, ◌∙◌, append_assoc, arith, length-append, ◌+◌, ◌<◌, ◌≤◌, true, false, length, subst, Bool, not, nat_lt}
-use Rattle.std.specs.Prelude.{Some, Ok, Option, None}
-use Rattle.std.proofs.lemmas.List.{append-nil, map-append}
-use Rattle.mm_store.specs.declared.stored.Stored.{Stored}
-use Rattle.mm_desk.specs.declared.entry.Entry.{Entry}
-use Rattle.mm_desk.specs.declared.event.Event.TheVariants.{Next}
+use Rattle.mm_dump.proofs.Words.{◌≡◌, ℕ, List, [], ◌∷◌, ◌++◌, map, refl, sym, ap, ◌∙◌, append_assoc, arith, length-append, ◌+◌, ◌<◌, true, false, length, subst}
+use Rattle.mm_dump.proofs.Words.{Bool, Some, Ok, Err, Option, None, Result, is_some, append-nil, map-append, Stored, Entry, Begin, Next, Abort, Delete, Fault}
+use Rattle.mm_dump.proofs.Words.{State, step, given, last_time, begun, ended, removed, entry, IsRun, clock_end, PortView, with_call, OrderStore, Progress}
+use Rattle.mm_dump.proofs.Words.{HasCalled, HasGone, with_calls, BreaksOff, SentAll, last_of, deletion, course_of, IsWhole, IsBroken, Sent, all_sent, le-ltb}
+use Rattle.mm_dump.proofs.Words.{lt-ltb, Order, OrderBroken, NoMemory, LinkFailed, aborted}
+use Rattle.mm_desk.specs.declared.event.Event.{Event}
+use Rattle.mm_desk.specs.declared.reply.Reply.{Reply}
 use Rattle.mm_desk.specs.declared.reply.Reply.TheVariants as reply
-use Rattle.mm_desk.specs.Orders.{given, last_time, begun, ended, removed}
-use Rattle.mm_desk.specs.Runs.{entry}
-use Rattle.mm_shared.specs.Views.{PortView, with_call}
-use Rattle.mm_dump.specs.OrderSteps.{OrderStore, HasGone, HasSent, with_calls, SentNext, AbortsAs, StopsAs, OrderStopped, SentAll, last_of, end_where, IsRefused, WasRefused, EndsAs, HasEnded, abort_where, deletion}
-use Rattle.mm_dump.specs.Sending.{Sent, LinkState, all_sent}
-use Rattle.std.proofs.lemmas.Bool.{lt-ltb}
-use Rattle.mm_dump.specs.declared.order.OrderBroken.{OrderBroken}
-use Rattle.mm_dump.specs.declared.order.OrderBroken.TheVariants.{NoMemory, LinkFailed}
-use Rattle.mm_dump.specs.declared.stop.Stop.{Stop}
-use Rattle.mm_dump.specs.declared.stop.Stop.TheVariants.{Broken, Refused}
-use Rattle.mm_dump.specs.Broken.{aborted, unsent_at}
-use Rattle.mm_dump.proofs.Refusing.{after_given, after_begun, after_end, after_abort}
+use Rattle.mm_dump.proofs.Leaving.{begins, nexts, aborts, deletes}
 
--- a port with calls more, and then others
-pub with_more : (place : ℕ) (port : PortView) (xs ys : List Entry) → with_calls place (with_calls place port xs) ys ≡ with_calls place port (xs ++ ys)
-with_more place port xs ys =
+-- a run of calls and then others
+run_split : (s t : State) (xs ys : List Entry) → IsRun s (xs ++ ys) t → (mid : State) × IsRun s xs mid × IsRun mid ys t
+run_split s t [] ys run = (s, record { legal = tt; leaves = refl }, run)
+run_split s t (x ∷ xs) ys run =
+    let rest = run_split (step s x.event).1 t xs ys (record { legal = run.legal.1; leaves = run.leaves }) in
+    (rest.0, record { legal = (run.legal.0, rest.1.legal); leaves = rest.1.leaves }, rest.2)
+
+-- one call, by what the store answers to it
+one_call : (place : ℕ) (on off : Bool) (so : ℕ → List Entry → Type 0) (old new : PortView) (event : Event) (answer : Reply) → new ≡ with_call old place event answer
+    → ((s : State) → is_some s.retrieval ≡ on → answer ≡ (step s event).0 → (is_some (step s event).1.retrieval ≡ off) × so old.number (entry old.number event answer ∷ []))
+    → HasCalled place on off so old new
+one_call place on off so old new event answer called answers = record {
+  calls = entry old.number event answer ∷ [];
+  port = called;
+  alone = λ s t is run. let both = answers s is run.legal.0 in (ap (λ (u : State). is_some u.retrieval) run.leaves ∙ both.0, both.1);
+}
+
+pub call_begin : (place : ℕ) (old new : PortView) (r : Result (Unit {0}) Fault) → new ≡ with_call old place (Begin 1 clock_end) (reply.Done r)
+    → HasCalled place false true (λ seat calls. calls ≡ begun seat ∷ []) old new
+call_begin place old new r called =
+    one_call place false true _ old new _ _ called (λ s off answers. let both = begins s r off answers in (both.1.now, ap (λ x. entry old.number (Begin 1 clock_end) (reply.Done x) ∷ []) both.0))
+
+pub call_abort : (place : ℕ) (old new : PortView) (r : Result (Unit {0}) Fault) → new ≡ with_call old place Abort (reply.Done r)
+    → HasCalled place true false (λ seat calls. calls ≡ aborted seat ∷ []) old new
+call_abort place old new r called =
+    one_call place true false _ old new _ _ called (λ s on answers. let both = aborts s r on answers in (both.1.now, ap (λ x. entry old.number Abort (reply.Done x) ∷ []) both.0))
+
+pub call_next : (place : ℕ) (old new : PortView) (next : Option Stored) → new ≡ with_call old place Next (reply.Given (Ok next))
+    → HasCalled place true (is_some next) (λ seat calls. calls ≡ entry seat Next (reply.Given (Ok next)) ∷ []) old new
+call_next place old new next called =
+    one_call place true (is_some next) _ old new _ _ called (λ s on answers.
+    let given = nexts s (Ok next) on answers in
+    let same : given.0 ≡ next = cc given.1 in
+    (given.2.now ∙ ap is_some same, refl))
+
+-- a next is not refused in a retrieval
+pub call_refused : (place : ℕ) (so : ℕ → List Entry → Type 0) (old new : PortView) (fault : Fault) → new ≡ with_call old place Next (reply.Given (Err fault)) → HasCalled place true false so old new
+call_refused place so old new fault called =
+    one_call place true false so old new _ _ called (λ s on answers. let given = nexts s (Err fault) on answers in absurd (cc given.1))
+
+pub call_delete : (place limit : ℕ) (old new : PortView) (r : Result ℕ Fault) → new ≡ with_call old place (Delete limit) (reply.Deleted r)
+    → HasCalled place false false (λ seat calls. (count : ℕ) × (calls ≡ deletion (Some limit) seat count)) old new
+call_delete place limit old new r called =
+    one_call place false false _ old new _ _ called (λ s off answers.
+    let both = deletes limit s r off answers in
+    (both.1, (both.0.0, ap (λ x. entry old.number (Delete limit) (reply.Deleted x) ∷ []) both.0.1)))
+
+-- no call
+pub no_call : (place : ℕ) (on : Bool) (so : ℕ → List Entry → Type 0) (old : PortView) → so old.number [] → HasCalled place on on so old old
+no_call place on so old is = record {
+  calls = [];
+  port = ap (λ (calls : List (ℕ × Entry)). record old { list = calls }) (sym (append-nil old.list));
+  alone = λ s t same run. (ap (λ (u : State). is_some u.retrieval) run.leaves ∙ same, is);
+}
+
+-- calls and then others
+called_then : (place : ℕ) (on mid off : Bool) (one two so : ℕ → List Entry → Type 0) (a b c : PortView) → HasCalled place on mid one a b → HasCalled place mid off two b c
+    → ((seat : ℕ) (xs ys : List Entry) → one seat xs → two seat ys → so seat (xs ++ ys)) → HasCalled place on off so a c
+called_then place on mid off one two so a b c went more turns =
     let there : Entry → ℕ × Entry = λ e. (place, e) in
-    ap (λ (calls : List (ℕ × Entry)). record port { list = calls })
-    (append_assoc port.list (map there xs) (map there ys) ∙ ap (λ (calls : List (ℕ × Entry)). port.list ++ calls) (sym (map-append there xs ys)))
+    record {
+      calls = went.calls ++ more.calls;
+      port = more.port ∙ ap (λ (p : PortView). with_calls place p more.calls) went.port
+          ∙ ap (λ (calls : List (ℕ × Entry)). record a { list = calls })
+            (append_assoc a.list (map there went.calls) (map there more.calls) ∙ ap (λ (calls : List (ℕ × Entry)). a.list ++ calls) (sym (map-append there went.calls more.calls)));
+      alone = λ s t is run.
+          let cut = run_split s t went.calls more.calls run in
+          let first = went.alone s cut.0 is cut.1 in
+          let second = more.alone cut.0 t first.0 cut.2 in
+          (second.0, turns a.number went.calls more.calls first.1 (subst (λ (k : ℕ). two k more.calls) (ap (λ (p : PortView). p.number) went.port) second.1));
+    }
+
+-- what holds of calls, from what is known of them
+called_as : (place : ℕ) (on off : Bool) (one so : ℕ → List Entry → Type 0) (a b : PortView) → HasCalled place on off one a b → ((seat : ℕ) (calls : List Entry) → one seat calls → so seat calls)
+    → HasCalled place on off so a b
+called_as place on off one so a b called turns = record {
+  calls = called.calls;
+  port = called.port;
+  alone = λ s t is run. let both = called.alone s t is run in (both.0, turns a.number called.calls both.1);
+}
+
+module _ (store : OrderStore) (on off : Bool) (so : ℕ → List Entry → Type 0) (a b : Progress) where
+  -- calls that send nothing
+  pub only_called : HasCalled store.place on off so a.port b.port → b.sent ≡ a.sent → b.failed ≡ a.failed → b.spent ≡ a.spent → HasGone store on off [] [] so a b
+  only_called called same failed spent = record { called = called; all = same ∙ sym (append-nil a.sent); failures = omega (arith, failed); blocks = omega (arith, spent) }
+
+  -- a packet that was given and sent
+  pub packet_sent : (p : Stored) → HasCalled store.place on off so a.port b.port → b.sent ≡ a.sent ++ record { store = store.id; stored = p } ∷ [] → b.failed ≡ a.failed → b.spent ≡ a.spent + 1
+      → HasGone store on off (p ∷ []) [] so a b
+  packet_sent p called all failed spent = record { called = called; all = all; failures = omega (arith, failed); blocks = omega (arith, spent) }
+
+  -- a part of an order, and then another
+  gone_then : (mid : Bool) (ps qs us : List Stored) (one two : ℕ → List Entry → Type 0) (m : Progress) → HasGone store on mid ps [] one a m → HasGone store mid off qs us two m b
+      → ((seat : ℕ) (xs ys : List Entry) → one seat xs → two seat ys → so seat (xs ++ ys)) → HasGone store on off (ps ++ qs) us so a b
+  gone_then mid ps qs us one two m went more turns = record {
+    called = called_then store.place on mid off one two so a.port m.port b.port went.called more.called turns;
+    all = more.all ∙ ap (λ (ss : List Sent). ss ++ all_sent store.id qs) went.all ∙ append_assoc a.sent (all_sent store.id ps) (all_sent store.id qs)
+        ∙ ap (λ (ss : List Sent). a.sent ++ ss) (sym (map-append (λ (p : Stored). record { store = store.id; stored = p }) ps qs));
+    failures = omega (arith, went.failures, more.failures);
+    blocks = omega (arith, went.blocks, more.blocks, length-append ps qs);
+  }
+
+  -- a part of an order, and then calls that send nothing
+  gone_called : (mid : Bool) (ps : List Stored) (one two : ℕ → List Entry → Type 0) (m : Progress) → HasGone store on mid ps [] one a m → HasCalled store.place mid off two m.port b.port
+      → b.sent ≡ m.sent → b.failed ≡ m.failed → b.spent ≡ m.spent → ((seat : ℕ) (xs ys : List Entry) → one seat xs → two seat ys → so seat (xs ++ ys)) → HasGone store on off ps [] so a b
+  gone_called mid ps one two m went called same failed spent turns = record {
+    called = called_then store.place on mid off one two so a.port m.port b.port went.called called turns;
+    all = same ∙ went.all;
+    failures = omega (arith, went.failures, failed);
+    blocks = omega (arith, went.blocks, spent);
+  }
+
+-- no memory for a packet's copy, after which the order was aborted
+pub memory_lacks : (store : OrderStore) (a b : Progress) → HasCalled store.place true false (λ seat calls. calls ≡ aborted seat ∷ []) a.port b.port
+    → b.sent ≡ a.sent → b.failed ≡ a.failed → b.spent ≡ a.spent → BreaksOff store 1 NoMemory a b
+memory_lacks store a b aborts same failed spent = record {
+  sent = [];
+  unsent = [];
+  gone = only_called store true false _ a b (called_as store.place true false _ _ a.port b.port aborts (λ seat calls are. record { most = omega arith; last = refl; are = are })) same failed spent;
+}
+
+-- a packet that was given and that the link did not take, after which the order was aborted
+pub packet_failed : (store : OrderStore) (p : Stored) (a b : Progress) (mid : PortView) → HasCalled store.place true true (λ seat calls. calls ≡ entry seat Next (reply.Given (Ok (Some p))) ∷ []) a.port mid
+    → HasCalled store.place true false (λ seat calls. calls ≡ aborted seat ∷ []) mid b.port → b.sent ≡ a.sent → b.failed ≡ a.failed + 1 → b.spent ≡ a.spent + 1
+    → BreaksOff store 1 LinkFailed a b
+packet_failed store p a b mid given aborts all failed spent = record {
+  sent = [];
+  unsent = p ∷ [];
+  gone = record {
+    called = called_then store.place true true false _ _ _ a.port mid b.port given aborts (λ seat xs ys one two. record { most = omega arith; last = refl; are = λ i. one i ++ two i });
+    all = all ∙ sym (append-nil a.sent);
+    failures = omega (arith, failed);
+    blocks = omega (arith, spent);
+  };
+}
 
 -- the packets given, and then others
 given_more : (seat : ℕ) (ps qs : List Stored) → given seat (ps ++ qs) ≡ given seat ps ++ given seat qs
 given_more seat ps qs = map-append (λ (p : Stored). entry seat Next (reply.Given (Ok (Some p)))) ps qs
-
--- it goes on
-pub went_on : (store : OrderStore) (first second : List Entry) (ps qs us : List Stored) (a b c : PortView) (l m n : LinkState)
-    → HasSent store first ps [] a b l m → HasSent store second qs us b c m n → HasSent store (first ++ second) (ps ++ qs) us a c l n
-went_on store first second ps qs us a b c l m n went more = record {
-  port = more.port ∙ ap (λ (p : PortView). with_calls store.place p second) went.port ∙ with_more store.place a first second;
-  all = more.all ∙ ap (λ (x : List Sent). x ++ all_sent store.id qs) went.all ∙ append_assoc l.sent (all_sent store.id ps) (all_sent store.id qs)
-      ∙ ap (λ (x : List Sent). l.sent ++ x) (sym (map-append (λ (p : Stored). record { store = store.id; stored = p }) ps qs));
-  failures = (let f = went.failures in let g = more.failures in omega arith);
-  blocks = (let f = went.blocks in let g = more.blocks in omega (arith, length-append ps qs));
-}
-
--- calls alone
-pub called : (store : OrderStore) (calls : List Entry) (a b : PortView) (l : LinkState) → b ≡ with_calls store.place a calls → HasSent store calls [] [] a b l l
-called store calls a b l port = record {
-  port = port;
-  all = sym (append-nil l.sent);
-  failures = omega arith;
-  blocks = omega arith;
-}
-
--- the seat's number stays
-pub same_seat : (store : OrderStore) (calls : List Entry) (ps us : List Stored) (a b : PortView) (l m : LinkState) → HasSent store calls ps us a b l m
-    → b.number ≡ a.number
-same_seat store calls ps us a b l m went = ap (λ (p : PortView). p.number) went.port
-
--- after packets that were sent an order goes on
-gone_on : (first : List Entry) (ps : List Stored) (store : OrderStore) (few wanted : ℕ) (so later : ℕ → List Stored → List Stored → List Entry → Type 0) (a b c : PortView) (l m n : LinkState)
-    → HasSent store first ps [] a b l m → HasGone so store few b c m n → length ps + few ≤ wanted
-    → ((qs us : List Stored) (calls : List Entry) → length (qs ++ us) ≤ few → so a.number qs us calls → later a.number (ps ++ qs) us (first ++ calls))
-    → HasGone later store wanted a c l n
-gone_on first ps store few wanted so later a b c l m n went more fits turns = record {
-  sent = ps ++ more.sent;
-  unsent = more.unsent;
-  calls = first ++ more.calls;
-  most = omega (arith, fits, more.most, length-append (ps ++ more.sent) more.unsent, length-append ps more.sent, length-append more.sent more.unsent);
-  has_sent = went_on store first more.calls ps more.sent more.unsent a b c l m n went more.has_sent;
-  goes = turns more.sent more.unsent more.calls more.most (subst (λ (k : ℕ). so k more.sent more.unsent more.calls) (same_seat store first ps [] a b l m went) more.goes);
-}
-
--- this many packets were given and sent
-pub record SentSoFar (store : OrderStore) (many : ℕ) (last : Option ℕ) (old new : PortView) (before after : LinkState) : Type 0 where
-  pub gave : List Stored
-  pub count : length gave ≡ many
-  pub last_is : last ≡ last_of gave
-  pub has_sent : HasSent store (given old.number gave) gave [] old new before after
 
 -- the time of the last packet
 last_time_of : (time : ℕ) (ps : List Stored) (p : Stored) → last_time time (ps ++ p ∷ []) ≡ p.time
@@ -85,206 +158,99 @@ last_of_more : (ps : List Stored) (p : Stored) → last_of (ps ++ p ∷ []) ≡ 
 last_of_more [] p = refl
 last_of_more (q ∷ ps) p = ap (λ (time : ℕ). Some time) (last_time_of q.time ps p)
 
--- the calls of an abort after packets that were given and not sent, where the order broke for a cause that leaves as many unsent
-abort_stops : (stop : Stop) (why : OrderBroken) (place : ℕ) (a b : PortView) (us : List Stored) → length us ≡ unsent_at why → AbortsAs place why stop a b
-    → (calls : List Entry) × (b ≡ with_calls place a calls) × StopsAs stop a.number [] us (given a.number us ++ calls)
-abort_stops (Broken other) why place a b us count aborts = (aborted a.number ∷ [], aborts.1, (refl, count ∙ ap unsent_at (sym aborts.0)))
-abort_stops Refused why place a b us count aborts = (aborts.0, aborts.1, after_given a.number us aborts.0 aborts.2)
+-- this many packets were given and sent
+pub record SentSoFar (store : OrderStore) (many : ℕ) (last : Option ℕ) (a b : Progress) : Type 0 where
+  pub sent : List Stored
+  pub count : length sent ≡ many
+  pub last_is : last ≡ last_of sent
+  pub gone : HasGone store true true sent [] (λ seat calls. calls ≡ given seat sent) a b
 
--- it was aborted where there was no memory
-pub no_memory_stops : (store : OrderStore) (stop : Stop) (a b : PortView) (l : LinkState) → AbortsAs store.place NoMemory stop a b → OrderStopped store 1 stop a b l l
-no_memory_stops store stop a b l aborts =
-    let stops = abort_stops stop NoMemory store.place a b [] refl aborts in
-    record { sent = []; unsent = []; calls = stops.0; most = omega arith; has_sent = called store stops.0 a b l stops.1; goes = stops.2 }
+-- at the start none was given
+pub none_so_far : (store : OrderStore) (a : Progress) → SentSoFar store 0 None a a
+none_so_far store a =
+    record { sent = []; count = refl; last_is = refl; gone = only_called store true true _ a a (no_call store.place true (λ seat calls. calls ≡ []) a.port refl) refl refl refl }
 
--- the link did not take a packet
-pub link_failed_stops : (store : OrderStore) (p : Stored) (a b c : PortView) (l m : LinkState) → b ≡ with_call a store.place Next (reply.Given (Ok (Some p))) → m.sent ≡ l.sent
-    → m.failed ≡ l.failed + 1 → m.spent ≡ l.spent + 1 → (stop : Stop) → AbortsAs store.place LinkFailed stop b c → OrderStopped store 1 stop a c l m
-link_failed_stops store p a b c l m gave same failed spent stop aborts =
-    let stops = abort_stops stop LinkFailed store.place b c (p ∷ []) refl aborts in
-    record {
-      sent = [];
-      unsent = p ∷ [];
-      calls = given a.number (p ∷ []) ++ stops.0;
-      most = omega arith;
-      has_sent = record {
-        port = stops.1 ∙ ap (λ (q : PortView). with_calls store.place q stops.0) gave ∙ with_more store.place a (given a.number (p ∷ [])) stops.0;
-        all = same ∙ sym (append-nil l.sent);
-        failures = omega (arith, failed);
-        blocks = omega (arith, spent);
-      };
-      goes = subst (λ (k : ℕ). StopsAs stop k [] (p ∷ []) (given k (p ∷ []) ++ stops.0)) (ap (λ (q : PortView). q.number) gave) stops.2;
-    }
-
--- packets given before those that were given when an order stopped
-stops_after : (stop : Stop) (seat : ℕ) (before sent unsent : List Stored) (calls : List Entry)
-    → StopsAs stop seat sent unsent calls → StopsAs stop seat (before ++ sent) unsent (given seat before ++ calls)
-stops_after (Broken why) seat before sent unsent calls stops =
-    let all : given seat before ++ (given seat (sent ++ unsent) ++ aborted seat ∷ []) ≡ given seat ((before ++ sent) ++ unsent) ++ aborted seat ∷ [] =
-    sym (append_assoc (given seat before) (given seat (sent ++ unsent)) (aborted seat ∷ []))
-    ∙ ap (λ (x : List Entry). x ++ aborted seat ∷ []) (sym (given_more seat before (sent ++ unsent)))
-    ∙ ap (λ (ps : List Stored). given seat ps ++ aborted seat ∷ []) (sym (append_assoc before sent unsent)) in
-    (ap (λ (x : List Entry). given seat before ++ x) stops.0 ∙ all, stops.1)
-stops_after Refused seat before sent unsent calls stops = after_given seat before calls stops
-
-module _ (store : OrderStore) (many : ℕ) (last : Option ℕ) (a b c : PortView) (l m n : LinkState) (so_far : SentSoFar store many last a b l m) where
-  seat_is : b.number ≡ a.number
-  seat_is = same_seat store _ _ [] a b l m so_far.has_sent
-
+module _ (store : OrderStore) (many : ℕ) (last : Option ℕ) (a b : Progress) (so_far : SentSoFar store many last a b) where
   -- a packet more
-  pub so_far_more : (p : Stored) → SentNext store (Some p) b c m n → SentSoFar store (many + 1) (Some p.time) a c l n
-  so_far_more p next =
-      let P : ℕ → Type 0 = λ k. HasSent store (given k (p ∷ [])) (p ∷ []) [] b c m n in
-      let goes = went_on store (given a.number so_far.gave) (given a.number (p ∷ [])) so_far.gave (p ∷ []) [] a b c l m n so_far.has_sent (subst P seat_is next) in
-      record {
-        gave = so_far.gave ++ p ∷ [];
-        count = omega (arith, so_far.count, length-append so_far.gave (p ∷ []));
-        last_is = sym (last_of_more so_far.gave p);
-        has_sent = rw (given_more a.number so_far.gave (p ∷ [])) goes;
-      }
+  pub so_far_more : (c : Progress) (p : Stored) → HasGone store true true (p ∷ []) [] (λ seat calls. calls ≡ entry seat Next (reply.Given (Ok (Some p))) ∷ []) b c
+      → SentSoFar store (many + 1) (Some p.time) a c
+  so_far_more c p next = record {
+    sent = so_far.sent ++ p ∷ [];
+    count = omega (arith, so_far.count, length-append so_far.sent (p ∷ []));
+    last_is = sym (last_of_more so_far.sent p);
+    gone = gone_then store true true _ a c true so_far.sent (p ∷ []) [] _ _ b so_far.gone next (λ seat xs ys one two. (λ i. one i ++ two i) ∙ sym (given_more seat so_far.sent (p ∷ [])));
+  }
 
-  -- the order stopped
-  pub so_far_stopped : (wanted : ℕ) (stop : Stop) → many < wanted → OrderStopped store 1 stop b c m n → OrderStopped store wanted stop a c l n
-  so_far_stopped wanted stop fewer after =
-      gone_on (given a.number so_far.gave) so_far.gave store 1 wanted (StopsAs stop) (StopsAs stop) a b c l m n so_far.has_sent after (omega (arith, so_far.count, fewer))
-      (λ qs us calls few stops. stops_after stop a.number so_far.gave qs us calls stops)
+  -- the order broke
+  pub so_far_broken : (c : Progress) (wanted : ℕ) (why : OrderBroken) → many < wanted → BreaksOff store 1 why b c → BreaksOff store wanted why a c
+  so_far_broken c wanted why fewer broken =
+      let ps : List Stored = so_far.sent in
+      let qs : List Stored = broken.sent in
+      let us : List Stored = broken.unsent in
+      record {
+        sent = ps ++ qs;
+        unsent = us;
+        gone = gone_then store true false _ a c true ps qs us _ _ b so_far.gone broken.gone (λ seat xs ys one two. record {
+          most = omega (arith, fewer, so_far.count, two.most, length-append (ps ++ qs) us, length-append ps qs, length-append qs us);
+          last = two.last;
+          are = (λ i. one i ++ two.are i) ∙ sym (append_assoc (given seat ps) (given seat (qs ++ us)) (aborted seat ∷ []))
+              ∙ ap (λ (x : List Entry). x ++ aborted seat ∷ []) (sym (given_more seat ps (qs ++ us)) ∙ ap (given seat) (sym (append_assoc ps qs us)));
+        });
+      }
 
   -- the retrieval came to its end
-  pub so_far_over : (wanted : ℕ) → many < wanted → SentNext store None b c m n → SentAll store wanted last true a c l n
-  so_far_over wanted fewer next =
-      let P : ℕ → Type 0 = λ k. HasSent store (end_where k true) [] [] b c m n in
-      let goes = went_on store (given a.number so_far.gave) (end_where a.number true) so_far.gave [] [] a b c l m n so_far.has_sent (subst P seat_is next) in
+  pub so_far_over : (c : Progress) (wanted : ℕ) → many < wanted → HasGone store true false [] [] (λ seat calls. calls ≡ entry seat Next (reply.Given (Ok None)) ∷ []) b c → SentAll store wanted last a c
+  so_far_over c wanted fewer next =
+      let few : length so_far.sent < wanted = omega (arith, fewer, so_far.count) in
+      let all : c.sent ≡ b.sent = next.all ∙ append-nil b.sent in
       record {
-        gave = so_far.gave;
-        most = omega (arith, so_far.count);
-        fewer = sym (lt-ltb (length so_far.gave) wanted (omega (arith, so_far.count)));
+        sent = so_far.sent;
+        most = omega (arith, few);
         last_is = so_far.last_is;
-        has_sent = rw (append-nil so_far.gave) at goes;
+        gone = rw (lt-ltb (length so_far.sent) wanted few)
+            (gone_called store true false _ a c true so_far.sent _ _ b so_far.gone next.called all (omega (arith, next.failures)) (omega (arith, next.blocks)) (λ seat xs ys one two i. one i ++ two i));
       }
 
--- how a retrieval ended
-ends_as : (seat wanted : ℕ) (gave : List Stored) (over : Bool) → over ≡ nat_lt (length gave) wanted
-    → end_where seat over ++ abort_where seat over ≡ ended seat wanted gave ∷ []
-ends_as seat wanted gave true fewer = rw (← fewer) refl
-ends_as seat wanted gave false fewer = rw (← fewer) refl
+  -- all that were wanted were given, and the retrieval was aborted
+  pub so_far_all : (port : PortView) (wanted : ℕ) → many ≡ wanted → HasCalled store.place true false (λ seat calls. calls ≡ aborted seat ∷ []) b.port port → SentAll store wanted last a (record b { port = port })
+  so_far_all port wanted all aborts = record {
+    sent = so_far.sent;
+    most = omega (arith, so_far.count, all);
+    last_is = so_far.last_is;
+    gone = rw (le-ltb (length so_far.sent) wanted (omega (arith, so_far.count, all)))
+        (gone_called store true false _ a (record b { port = port }) true so_far.sent _ _ b so_far.gone aborts refl refl refl (λ seat xs ys one two i. one i ++ two i));
+  }
 
 -- which deletion was made
-deletes_as : (seat count : ℕ) (gave : List Stored) → deletion seat (last_of gave) count ≡ removed seat gave count
+deletes_as : (seat count : ℕ) (gave : List Stored) → deletion (last_of gave) seat count ≡ removed seat gave count
 deletes_as seat count [] = refl
 deletes_as seat count (p ∷ gave) = refl
 
--- the calls from the first packet on, where the retrieval ended
-calls_are : (seat wanted : ℕ) (gave : List Stored) (over : Bool) (rest : List Entry) → over ≡ nat_lt (length gave) wanted
-    → (given seat gave ++ end_where seat over) ++ (abort_where seat over ++ rest) ≡ given seat gave ++ ended seat wanted gave ∷ rest
-calls_are seat wanted gave over rest fewer =
-    append_assoc (given seat gave) (end_where seat over) (abort_where seat over ++ rest)
-    ∙ ap (λ (x : List Entry). given seat gave ++ x) (sym (append_assoc (end_where seat over) (abort_where seat over) rest)
-    ∙ ap (λ (x : List Entry). x ++ rest) (ends_as seat wanted gave over fewer))
-
--- calls that are refused after the end of a retrieval, where it came to it, and after the abort, where it did not
-after_end_where : (seat : ℕ) (over : Bool) (calls : List Entry) → IsRefused (not over) calls → IsRefused true (end_where seat over ++ calls)
-after_end_where seat true calls refused = after_end seat calls refused
-after_end_where seat false calls refused = refused
-
-after_abort_where : (seat : ℕ) (over : Bool) (calls : List Entry) → IsRefused false calls → IsRefused (not over) (abort_where seat over ++ calls)
-after_abort_where seat true calls refused = refused
-after_abort_where seat false calls refused = after_abort seat calls refused
-
--- an order that could not be begun
-pub unbegun : (store : OrderStore) (wanted : ℕ) (stop : Stop) (a b : PortView) (l : LinkState) → stop ≡ Refused → WasRefused store.place false a b → HasEnded store wanted (Some stop) a b l l
-unbegun store wanted stop a b l is refused =
-    subst (λ (s : Stop). HasEnded store wanted (Some s) a b l l) (sym is)
-    (record { sent = []; unsent = []; calls = refused.0; most = omega arith; has_sent = called store refused.0 a b l refused.1; goes = refused.2 })
-
 -- an order that was begun
-module _ (store : OrderStore) (wanted : ℕ) (a b : PortView) (l : LinkState) (port : b ≡ with_calls store.place a (begun a.number ∷ [])) where
-  first : HasSent store (begun a.number ∷ []) [] [] a b l l
-  first = called store (begun a.number ∷ []) a b l port
+module _ (store : OrderStore) (order : Order) (a b c : Progress) (begins : HasGone store false true [] [] (λ seat calls. calls ≡ begun seat ∷ []) a b) where
+  -- it broke
+  pub broken : (why : OrderBroken) (breaks : BreaksOff store order.amount why b c)
+      → HasGone store false false breaks.sent breaks.unsent (λ seat calls. IsBroken why (course_of order (Some why) breaks.sent breaks.unsent seat calls)) a c
+  broken why breaks =
+      gone_then store false false _ a c true [] breaks.sent breaks.unsent _ _ b begins breaks.gone (λ seat xs ys one two. record {
+        order = record { most = two.most; are = λ i. one i ++ two.are i };
+        last = two.last;
+      })
 
-  number : b.number ≡ a.number
-  number = same_seat store _ [] [] a b l l first
-
-  -- it stopped in the retrieval
-  pub stopped : (stop : Stop) (c : PortView) (m : LinkState) → OrderStopped store wanted stop b c l m → HasEnded store wanted (Some stop) a c l m
-  stopped stop c m stops =
-      gone_on (begun a.number ∷ []) [] store wanted wanted (StopsAs stop) (λ seat sent unsent calls. EndsAs (Some stop) seat wanted sent unsent calls) a b c l l m first stops (omega arith) (by_stop stop)
-    where
-      by_stop : (s : Stop) (qs us : List Stored) (calls : List Entry) → length (qs ++ us) ≤ wanted → StopsAs s a.number qs us calls → EndsAs (Some s) a.number wanted qs us (begun a.number ∷ calls)
-      by_stop (Broken why) qs us calls most so = (record { most = most; are = ap (λ (x : List Entry). begun a.number ∷ x) so.0 }, so.1)
-      by_stop Refused qs us calls most so = after_begun a.number calls so
-
-  -- its packets were sent
-  module _ (last : Option ℕ) (over : Bool) (c : PortView) (m : LinkState) (sends : SentAll store wanted last over b c l m) where
-    abbrev gave : List Stored
-    gave = sends.gave
-
-    abbrev n : ℕ
-    n = a.number
-
-    -- what the calls so far are
-    so_far : HasSent store (begun n ∷ (given n gave ++ end_where n over)) gave [] a c l m
-    so_far =
-        let P : ℕ → Type 0 = λ k. HasSent store (given k gave ++ end_where k over) gave [] b c l m in
-        went_on store (begun n ∷ []) (given n gave ++ end_where n over) [] gave [] a b c l l m first (subst P number sends.has_sent)
-
-    same_number : c.number ≡ n
-    same_number = same_seat store _ gave [] a c l m so_far
-
-    -- and calls more
-    then_called : (calls : List Entry) (d : PortView) → d ≡ with_calls store.place c calls → HasSent store (begun n ∷ ((given n gave ++ end_where n over) ++ calls)) gave [] a d l m
-    then_called calls d goes =
-        rw (append-nil gave) at (went_on store (begun n ∷ (given n gave ++ end_where n over)) calls gave [] [] a c d l m m so_far (called store calls c d m goes))
-
-    -- a call was refused then
-    refused_then : (calls : List Entry) (d : PortView) → d ≡ with_calls store.place c calls → IsRefused (not over) calls → HasEnded store wanted (Some Refused) a d l m
-    refused_then calls d goes refused = record {
-      sent = gave;
-      unsent = [];
-      calls = begun n ∷ ((given n gave ++ end_where n over) ++ calls);
-      most = rw (append-nil gave) sends.most;
-      has_sent = then_called calls d goes;
-      goes = after_begun n _ (subst (λ (es : List Entry). IsRefused true es) (sym (append_assoc (given n gave) (end_where n over) calls))
-          (after_given n gave (end_where n over ++ calls) (after_end_where n over calls refused)));
-    }
-
-    -- the retrieval could not be ended
-    pub unended : (stop : Stop) (d : PortView) → stop ≡ Refused → WasRefused store.place (not over) c d → HasEnded store wanted (Some stop) a d l m
-    unended stop d is refused =
-        subst (λ (s : Stop). HasEnded store wanted (Some s) a d l m) (sym is) (refused_then refused.0 d refused.1 refused.2)
-
-    -- it was ended
-    module _ (d : PortView) (ended_is : d ≡ with_calls store.place c (abort_where c.number over)) where
-      and_then : (calls : List Entry) (e : PortView) → e ≡ with_calls store.place d calls → e ≡ with_calls store.place c (abort_where n over ++ calls)
-      and_then calls e goes =
-          let end : d ≡ with_calls store.place c (abort_where n over) = subst (λ (k : ℕ). d ≡ with_calls store.place c (abort_where k over)) same_number ended_is in
-          goes ∙ ap (λ (p : PortView). with_calls store.place p calls) end ∙ with_more store.place c (abort_where n over) calls
-
-      -- what was sent could not be deleted
-      pub undeleted : (stop : Stop) (e : PortView) → stop ≡ Refused → WasRefused store.place false d e → HasEnded store wanted (Some stop) a e l m
-      undeleted stop e is refused =
-          subst (λ (s : Stop). HasEnded store wanted (Some s) a e l m) (sym is)
-          (refused_then (abort_where n over ++ refused.0) e (and_then refused.0 e refused.1) (after_abort_where n over refused.0 refused.2))
-
-      -- what was sent was deleted
-      pub whole : (e : PortView) → ((count : ℕ) × (e ≡ with_calls store.place d (deletion d.number last count))) → HasEnded store wanted None a e l m
-      whole e deleted =
-          let count = deleted.0 in
-          let at : d.number ≡ n = ap (λ (p : PortView). p.number) ended_is ∙ same_number in
-          let rest : deletion d.number last count ≡ removed n gave count =
-          ap (λ (k : ℕ). deletion k last count) at ∙ ap (λ (t : Option ℕ). deletion n t count) sends.last_is ∙ deletes_as n count gave in
-          let goes : e ≡ with_calls store.place d (removed n gave count) = deleted.1 ∙ ap (λ (x : List Entry). with_calls store.place d x) rest in
-          record {
-            sent = gave;
-            unsent = [];
-            calls = begun n ∷ ((given n gave ++ end_where n over) ++ (abort_where n over ++ removed n gave count));
-            most = rw (append-nil gave) sends.most;
-            has_sent = then_called (abort_where n over ++ removed n gave count) e (and_then (removed n gave count) e goes);
-            goes = (
-              record {
-                most = sends.most;
-                count = count;
-                are = ap (λ (x : List Entry). begun n ∷ x) (calls_are n wanted gave over (removed n gave count) sends.fewer);
-              },
-              refl,
-            );
-          }
+  -- its packets were sent, and then deleted
+  pub whole : (last : Option ℕ) (port : PortView) (sends : SentAll store order.amount last b c)
+      → HasCalled store.place false false (λ seat calls. (count : ℕ) × (calls ≡ deletion last seat count)) c.port port
+      → HasGone store false false sends.sent [] (λ seat calls. IsWhole (course_of order None sends.sent [] seat calls)) a (record c { port = port })
+  whole last port sends deletes =
+      let sent = sends.sent in
+      let first : HasGone store false false sent [] (λ seat calls. calls ≡ begun seat ∷ given seat sent ++ ended seat order.amount sent ∷ []) a c =
+      gone_then store false false _ a c true [] sent [] _ _ b begins sends.gone (λ seat xs ys one two i. one i ++ two i) in
+      gone_called store false false _ a (record c { port = port }) false sent _ _ c first deletes refl refl refl (λ seat xs ys one two. record {
+        order = record {
+          most = sends.most;
+          count = two.0;
+          are = (λ i. one i ++ (two.1 ∙ ap (λ (t : Option ℕ). deletion t seat two.0) sends.last_is ∙ deletes_as seat two.0 sent) i)
+              ∙ ap (λ (es : List Entry). begun seat ∷ es) (append_assoc (given seat sent) (ended seat order.amount sent ∷ []) (removed seat sent two.0));
+        };
+        all = refl;
+      })

@@ -1,15 +1,8 @@
 -- Orders of which no two name one place, and what the numbers weigh that were taken of them.
-use Rattle.std.proofs.Common.{◌≡◌, inl, inr, ℕ, zero, suc, ◌+◌, ◌<◌, ◌≤◌, Bool, true, false, cond, eqb, List, [], ◌∷◌, All, refl, sym, ap, ◌∙◌, arith, ◌≢◌, ◌==◌, length, get_or, filter, take, AllPairs}
-use Rattle.std.specs.List.{sum_by, range_with_len}
-use Rattle.std.proofs.lemmas.Bool.{cases_lt, lt-ltb, le-ltb, eq-eqb, ne_eqb}
-use Rattle.std.proofs.lemmas.Bool.Decides.{eqb_tells}
-use Rattle.std.proofs.lemmas.List.{take_all, nil_from_length}
-use Rattle.std.proofs.lemmas.List.Sums.{sum_by-cons, sum_by_more, length-filter}
-use Rattle.mm_base.proofs.RangeSums.{sum_by_range_more}
-use Rattle.mm_base.proofs.Sums.{sum_by-map, sum_by-filter, sum_by-le_each, sum_by-le_one}
-use Rattle.mm_dump.specs.declared.order.Order.{Order}
-use Rattle.mm_dump.specs.Workers.{order_at, has_order}
-use Rattle.mm_dump.specs.Dumped.{wanted, times, places_of}
+use Rattle.mm_dump.proofs.Words.{◌≡◌, inl, inr, ℕ, zero, suc, ◌+◌, ◌<◌, ◌≤◌, Bool, true, false, cond, eqb, List, [], ◌∷◌, All, refl, sym, ap, ◌∙◌, arith, ◌≢◌}
+use Rattle.mm_dump.proofs.Words.{◌==◌, length, get_or, filter, take, AllPairs, sum_by, range_with_len, cases_lt, lt-ltb, le-ltb, eq-eqb, ne_eqb, eqb_tells}
+use Rattle.mm_dump.proofs.Words.{take_all, nil_from_length, sum_by-cons, sum_by_more, length-filter, sum_by_range_more, sum_by-map, sum_by-filter}
+use Rattle.mm_dump.proofs.Words.{sum_by-le_each, sum_by-le_one, Order, order_at, has_order, wanted, times, places_of}
 use Rattle.mm_dump.proofs.Finding.{only}
 
 -- an order's number weighs what the order does, and a number that no order has weighs nothing

@@ -1,27 +1,13 @@
 -- What a step's dump leaves, from what was carried out over each link and what became of the stores.
-use Rattle.std.proofs.Common.{◌≡◌, ℕ, ◌+◌, ◌<◌, ◌≤◌, ◌==◌, List, [], ◌∷◌, ◌++◌, length, get_or, map, take, All, Contains, refl, sym, ap, subst, ◌∙◌, length-append, arith}
-use Rattle.std.specs.List.{sum_by, flat_map}
-use Rattle.std.specs.Prelude.{Option, None, IfNone, Some}
-use Rattle.std.proofs.lemmas.List.{get_or-map, length-map, take_all, map-id}
-use Rattle.std.proofs.lemmas.List.Concat.{length-flat_map}
-use Rattle.std.proofs.lemmas.List.Elements.{All-nil, All-cons, All-head, All-tail, All-append, All-contains}
-use Rattle.std.proofs.lemmas.List.Sums.{sum_by-take-le, length-filter}
-use Rattle.std.proofs.lemmas.Simd.{map-map}
-use Rattle.mm_base.proofs.Pairs.{All-front, All-back}
-use Rattle.mm_base.proofs.Sums.{sum_by-map, sum_by-same, sum_by-add, sum_by-le_each, sum_by-flat_map}
-use Rattle.mm_store.specs.declared.stored.Stored.{Stored}
-use Rattle.mm_desk.specs.declared.held.Held.{Held}
-use Rattle.mm_desk.specs.Machine.{State}
-use Rattle.mm_desk.specs.Orders.{IsOrderOf}
-use Rattle.mm_desk.specs.Runs.{IsRun, opening_at}
-use Rattle.mm_shared.specs.Stores.{id_at, states_of}
-use Rattle.mm_dump.specs.declared.order.Order.{Order}
-use Rattle.mm_dump.specs.declared.order.OrderBroken.{OrderBroken}
-use Rattle.mm_dump.specs.Courses.{Course, IsCourse, worst_of, sent_by, failed_by, spent_by}
-use Rattle.mm_dump.specs.Dumped.{MayDump, AllKept, AllTook, AllTried, HasDumped, HasTaken, HasTried, AllDumped, AllSettled, CarriesOut, amount_of, places_of, times, used_by, wanted}
-use Rattle.mm_dump.specs.Sending.{Sent, all_sent}
-use Rattle.mm_dump.specs.Workers.{AreTried, IsTried}
-use Rattle.mm_dump.proofs.Courses.{cause_of_all, no_failures, none_broke, whole_course}
+use Rattle.mm_dump.proofs.Words.{◌≡◌, ℕ, ◌+◌, ◌<◌, ◌≤◌, ◌==◌, List, [], ◌∷◌, ◌++◌, length, get_or, map, take, All, Contains, refl, sym, ap, subst, ◌∙◌}
+use Rattle.mm_dump.proofs.Words.{length-append, arith, sum_by, flat_map, Option, None, IfNone, Some, is_some, get_or-map, length-map, take_all, map-id}
+use Rattle.mm_dump.proofs.Words.{length-flat_map, All-nil, All-cons, All-head, All-tail, All-append, All-contains, All-map, sum_by-take-le, length-filter}
+use Rattle.mm_dump.proofs.Words.{map-map, All-front, All-back, sum_by-map, sum_by-same, sum_by-add, sum_by-le_each, sum_by-flat_map, Stored, Held, State}
+use Rattle.mm_dump.proofs.Words.{IsOrderOf, IsRun, opening_at, id_at, states_of, Order, OrderBroken, Course, IsCourse, worst_of, sent_by, failed_by, spent_by}
+use Rattle.mm_dump.proofs.Words.{MayDump, AllKept, HasDumped, HasTaken, HasTried, AllDumped, AllSettled, CarriesOut, amount_of, places_of, times, used_by}
+use Rattle.mm_dump.proofs.Words.{wanted, Sent, all_sent, AreTried, IsTried}
+use Rattle.mm_dump.specs.Dumped.{AllTook, AllTried}
+use Rattle.mm_dump.proofs.Courses.{cause_of_all, course_few, no_failures, none_broke, whole_course}
 use Rattle.mm_dump.proofs.Finding.{find, found_again, here, is_found, none_found}
 use Rattle.mm_dump.proofs.Ordered.{named_once, names, times_named, wanted_named, wanted_own}
 
@@ -64,35 +50,34 @@ pub record Line (L : Type 0) : Type 0 where
   pub why : Option OrderBroken
   pub spent : ℕ
 
--- a link took what these orders sent, and its failures rose
-pub record IsLine {L : Type 0} (sent : L → List Sent) (failed : L → ℕ) (ids : List (List ℕ)) (l : Line L) : Type 0 where
+-- a link took what these orders sent, and its failures rose; where none of its orders broke, all of the step were taken
+pub record IsLine {L : Type 0} (sent : L → List Sent) (failed : L → ℕ) (ids : List (List ℕ)) (all_taken : Type 0) (l : Line L) : Type 0 where
   pub all : sent l.new ≡ sent l.old ++ sent_by ids l.courses
   pub failures : failed l.new ≡ failed l.old + failed_by l.courses
   pub blocks : l.spent ≡ spent_by l.courses
   pub are : AreTried l.why l.courses
+  pub whole : l.why ≡ None → all_taken
 
 -- all orders that were carried out
 abbrev pub all_of : {L : Type 0} → List (Line L) → List Course
 all_of lines = flat_map (λ l. l.courses) lines
 
 -- what is known once all workers have ended: the first orders were carried out, up to some number; what happened to each store; and all
--- orders were taken where those of some link did not break, and where there is a link for each
-pub record HaveEnded (orders : List Order) (whys : List (Option OrderBroken)) (all : List Course) (before after : List State) : Type 0 where
+-- orders were taken where there is a link for each
+pub record HaveEnded (orders : List Order) (links : ℕ) (all : List Course) (before after : List State) : Type 0 where
   pub ordered : All (λ (c : Course). Contains orders c.order) all
   pub next : ℕ
   pub weigh : (f : Order → ℕ) → sum_by (λ (c : Course). f c.order) all ≡ sum_by f (take next orders)
   pub runs : (p : ℕ) → p < length after → length (here p all) ≤ 1 → IsRun (opening_at before p) (find p all).calls (opening_at after p)
-  pub left : (i : ℕ) → i < length whys → get_or whys i None ≡ None → length orders ≤ next
-  pub whole : worst_of whys ≡ None → length orders ≤ next
-  pub enough : length orders ≤ length whys → length orders ≤ next
+  pub enough : length orders ≤ links → length orders ≤ next
 
 module _ {L : Type 0} (sent : L → List Sent) (failed : L → ℕ) (ids : List (List ℕ)) where
   -- each link has sent what it had sent before
-  all_kept : (lines : List (Line L)) → All (IsLine sent failed ids) lines → AllKept sent failed (map (λ l. l.old) lines) (map (λ l. l.new) lines)
-  all_kept [] each = tt
-  all_kept (l ∷ lines) each =
-      let is = All-head (IsLine sent failed ids) l lines each in
-      (record { more = sent_by ids l.courses; all = is.all; failures = omega (arith, is.failures) }, all_kept lines (All-tail (IsLine sent failed ids) l lines each))
+  all_kept : (all_taken : Type 0) (lines : List (Line L)) → All (IsLine sent failed ids all_taken) lines → AllKept sent failed (map (λ l. l.old) lines) (map (λ l. l.new) lines)
+  all_kept all_taken [] each = tt
+  all_kept all_taken (l ∷ lines) each =
+      let is = All-head (IsLine sent failed ids all_taken) l lines each in
+      (record { more = sent_by ids l.courses; all = is.all; failures = omega (arith, is.failures) }, all_kept all_taken lines (All-tail (IsLine sent failed ids all_taken) l lines each))
 
   -- the places of the orders of a link
   abbrev spots : Line L → List ℕ
@@ -126,8 +111,8 @@ module _ {L : Type 0} (sent : L → List Sent) (failed : L → ℕ) (ids : List 
         let rest = took_same cs (All-tail (λ (c : Course). course c.order.place ≡ c) c cs at) in
         λ i. first i ++ rest i
 
-  module _ (orders : List Order) (stores : List Held) (links : List L) (may : MayDump failed orders stores links) (lines : List (Line L)) (after : List State) (same : length after ≡ length stores)
-      (each : All (IsLine sent failed ids) lines) (h : HaveEnded orders (map (λ l. l.why) lines) (all_of lines) (states_of stores) after) where
+  module _ (orders : List Order) (stores : List Held) (links : List L) (may : MayDump failed orders stores links) (lines : List (Line L)) (some : 0 < length lines) (after : List State) (same : length after ≡ length stores)
+      (h : HaveEnded orders (length lines) (all_of lines) (states_of stores) after) (each : All (IsLine sent failed ids (length orders ≤ h.next)) lines) where
     abbrev before : List State
     before = states_of stores
 
@@ -150,6 +135,15 @@ module _ {L : Type 0} (sent : L → List Sent) (failed : L → ℕ) (ids : List 
 
     tally_all : length orders ≤ h.next → (p : ℕ) → length (here p all) ≡ sum_by (names p) orders
     tally_all reach p = tally_is p ∙ ap (sum_by (names p)) (take_all h.next orders reach)
+
+    -- all were taken where the orders of some link did not break, and where none broke
+    left : All (λ (why : Option OrderBroken). why ≡ None → length orders ≤ h.next) (map (λ l. l.why) lines)
+    left = All-map (λ (why : Option OrderBroken). why ≡ None → length orders ≤ h.next) (λ (l : Line L). l.why) lines (λ i d inside. (each i d inside).whole)
+
+    full : worst_of (map (λ l. l.why) lines) ≡ None → length orders ≤ h.next
+    full none =
+        let inside : 0 < length (map (λ (l : Line L). l.why) lines) = omega (arith, some, length-map lines (λ (l : Line L). l.why)) in
+        left 0 None inside (All-map (λ (why : Option OrderBroken). why ≡ None) (λ (l : Line L). l.why) lines (none_broke (λ (l : Line L). l.why) lines none) 0 None inside)
 
     -- how often a place stands among those of the links
     taken_is : (p : ℕ) → sum_by (times p) places ≡ length (here p all)
@@ -174,7 +168,7 @@ module _ {L : Type 0} (sent : L → List Sent) (failed : L → ℕ) (ids : List 
         let tried = flat_all IsTried (λ l. l.courses) lines (λ j e within. (each j e within).are.each) i d inside in
         let within = All-contains (λ (o : Order). o.place < length stores) orders c.order may.places of in
         let idle = All-contains (λ (o : Order). (opening_at before o.place).retrieval ≡ None) orders c.order may.idle of in
-        tried.alone (opening_at before p) (opening_at after p) idle
+        tried.alone (opening_at before p) (opening_at after p) (ap is_some idle)
         (subst (λ (e : Course). IsRun (opening_at before p) e.calls (opening_at after p)) (at i d inside) (h.runs p (omega (arith, within, same)) (few p)))
 
     -- its amount is what is wanted of its place
@@ -224,12 +218,12 @@ module _ {L : Type 0} (sent : L → List Sent) (failed : L → ℕ) (ids : List 
       stores = tried;
       amounts = λ k has. amount k (omega (arith, has, taken_is k));
       once = λ k. omega (arith, taken_is k, tally_is k, sum_by-take-le (names k) orders h.next, times_named k orders);
-      all = λ whole. once_all (h.whole whole);
+      all = λ whole. once_all (full whole);
       others = λ one.
           let unbroken = ap (λ (whys : List (Option OrderBroken)). get_or whys one.0 None) (sym causes_same)
           ∙ get_or-map (λ (ks : List ℕ). cause_of_all (map course ks)) places one.0 one.1 None one.2
           ∙ ap (λ (ks : List ℕ). cause_of_all (map course ks)) one.3 ∙ one.4 in
-          once_all (h.left one.0 (omega (arith, one.2, length-map lines spots, length-map lines (λ (l : Line L). l.why))) unbroken);
+          once_all (left one.0 None (omega (arith, one.2, length-map lines spots, length-map lines (λ (l : Line L). l.why))) unbroken);
       links = all_tried course lines taken;
       cause = ap worst_of causes_same;
     }
@@ -244,10 +238,10 @@ module _ {L : Type 0} (sent : L → List Sent) (failed : L → ℕ) (ids : List 
         calls = (course p).calls;
         run = h.runs p inside (few p);
         none = λ nothing_wanted.
-            let nothing = none_found p all (tally_all (h.whole none) p ∙ (wanted_named p orders may.amounts).1 nothing_wanted) in
+            let nothing = none_found p all (tally_all (full none) p ∙ (wanted_named p orders may.amounts).1 nothing_wanted) in
             (ap (λ (c : Course). c.sent) nothing, ap (λ (c : Course). c.calls) nothing);
         whole = λ some_wanted.
-            let has : 0 < length (here p all) = omega (arith, tally_all (h.whole none) p, (wanted_named p orders may.amounts).0 some_wanted) in
+            let has : 0 < length (here p all) = omega (arith, tally_all (full none) p, (wanted_named p orders may.amounts).0 some_wanted) in
             let whys = flat_all (λ (c : Course). c.why ≡ None) (λ l. l.courses) lines (λ i d within. none_broke (λ (c : Course). c.why) (get_or lines i d).courses (unbroken i d within)) in
             let whole = whole_course (course p) (is_found (λ (c : Course). c.why ≡ None) p all whys has).1 (is_found IsCourse p all known has).1 in
             ((course p).seat, subst (λ (n : ℕ). IsOrderOf (course p).seat n (course p).sent (course p).calls) (amount p has) whole.order);
@@ -258,7 +252,7 @@ module _ {L : Type 0} (sent : L → List Sent) (failed : L → ℕ) (ids : List 
           let l : Line L = get_or lines i d in
           let is = each i d inside in (
             is.all ∙ ap (λ (ss : List Sent). sent l.old ++ ss) (sym (took_same course l.courses (all_flat (λ (c : Course). course c.order.place ≡ c) (λ l. l.courses) lines at i d inside))),
-            omega (arith, is.failures, no_failures l.courses is.are.each (unbroken i d inside)),
+            omega (arith, is.failures, no_failures l.courses (all_flat IsCourse (λ l. l.courses) lines known i d inside) (unbroken i d inside)),
           )
 
       all_dumped : AllDumped sent failed ids orders before after (map (λ l. l.old) lines) (map (λ l. l.new) lines)
@@ -266,7 +260,7 @@ module _ {L : Type 0} (sent : L → List Sent) (failed : L → ℕ) (ids : List 
         gave = λ p. (course p).sent;
         places = places;
         stores = dumped;
-        once = once_all (h.whole none);
+        once = once_all (full none);
         links = all_took course lines took;
       }
 
@@ -287,7 +281,7 @@ module _ {L : Type 0} (sent : L → List Sent) (failed : L → ℕ) (ids : List 
           arith,
           sum_by-le_each (λ l. l.spent) (λ l. sum_by (λ (c : Course). c.order.amount) l.courses) lines (λ i d inside.
               let is = each i d inside in
-              omega (arith, is.blocks, sum_by-le_each (λ (c : Course). length c.sent + length c.unsent) (λ c. c.order.amount) (get_or lines i d).courses (λ j e within. (is.are.each j e within).few))),
+              omega (arith, is.blocks, sum_by-le_each (λ (c : Course). length c.sent + length c.unsent) (λ c. c.order.amount) (get_or lines i d).courses (λ j e within. course_few (get_or (get_or lines i d).courses j e) (all_flat IsCourse (λ l. l.courses) lines known i d inside j e within)))),
           sum_by-flat_map (λ (c : Course). c.order.amount) (λ (l : Line L). l.courses) lines,
           h.weigh (λ (o : Order). o.amount),
           sum_by-take-le (λ (o : Order). o.amount) orders h.next,
@@ -299,8 +293,8 @@ module _ {L : Type 0} (sent : L → List Sent) (failed : L → ℕ) (ids : List 
     carries_out = record {
       dumped = if_none (worst_of (map (λ l. l.why) lines)) all_dumped;
       settled = settled;
-      enough = λ many. once_all (h.enough (omega (arith, many, length-map lines (λ (l : Line L). l.old), length-map lines (λ (l : Line L). l.why))));
-      kept = all_kept lines each;
+      enough = λ many. once_all (h.enough (omega (arith, many, length-map lines (λ (l : Line L). l.old))));
+      kept = all_kept (length orders ≤ h.next) lines each;
       used = used_is;
       within = spent_few;
     }

@@ -17,15 +17,6 @@ sent_at id time packet = record { store = id; stored = record { time = time; pac
 abbrev pub all_sent : List ℕ → List Stored → List Sent
 all_sent id gave = map (λ stored. record { store = id; stored = stored }) gave
 
--- a link: what was sent over it, how many of its sends have failed, and how many blocks of the window were spent on it
-pub record LinkState : Type 0 where
-  pub sent : List Sent
-  pub failed : ℕ
-  pub spent : ℕ
-
-abbrev pub link_state : List Sent → ℕ → ℕ → LinkState
-link_state sent failed spent = record { sent = sent; failed = failed; spent = spent }
-
 -- a link in memory: what was sent over it, and how many of its sends have failed
 pub record MemoryLinkView : Type 0 where
   pub sent : List Sent

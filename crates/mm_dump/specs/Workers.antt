@@ -1,5 +1,5 @@
 -- What a dump worker did, and what any number of dump workers did. No public clause cites this module.
-use Rattle.std.specs.Prelude.{◌≡◌, ℕ, ◌+◌, ◌-◌, ◌<◌, ◌≤◌, ◌^◌, Bool, nat_lt, List, [], ◌∷◌, ◌++◌, length, map, filter, flat_map, slice_index_or, All, Option, Some, None, suc}
+use Rattle.std.specs.Prelude.{◌≡◌, ℕ, ◌+◌, ◌-◌, ◌<◌, ◌^◌, Bool, false, is_some, nat_lt, List, [], ◌++◌, length, map, filter, flat_map, slice_index_or, All, Option, Some, None, suc}
 use Rattle.crossbeam_queue.specs.declared.array_queue.Doing.{Doing}
 use Rattle.crossbeam_queue.specs.declared.array_queue.Slotted.{Slotted}
 use Rattle.crossbeam_queue.specs.Passes.{view}
@@ -13,7 +13,8 @@ use Rattle.mm_dump.specs.declared.order.Order.{Order}
 use Rattle.mm_dump.specs.declared.order.OrderBroken.{OrderBroken}
 use Rattle.mm_dump.specs.declared.queue.QueueView.{QueueView}
 use Rattle.mm_dump.specs.Courses.{Course, IsCourse, worst_of, sent_by, failed_by, spent_by}
-use Rattle.mm_dump.specs.Sending.{Sent, LinkState, link_state}
+use Rattle.mm_dump.specs.OrderSteps.{Progress, progress}
+use Rattle.mm_dump.specs.Sending.{Sent}
 use Rattle.mm_dump.specs.Steps.{IsHired, IsBack}
 
 -- the order of a number
@@ -27,28 +28,18 @@ pub record OrdersFit (stores : StoresView) (labels : List StoreLabel) (orders : 
 
 -- how an order went, where its calls are all that happened to its store, at which no retrieval was on
 pub record IsTried (c : Course) : Type 0 where
-  pub alone : (s t : State) → s.retrieval ≡ None → IsRun s c.calls t → IsCourse c
-  pub whole : c.why ≡ None → c.unsent ≡ []
-  pub few : length c.sent + length c.unsent ≤ c.order.amount
+  pub alone : (s t : State) → is_some s.retrieval ≡ false → IsRun s c.calls t → IsCourse c
 
 -- the calls of orders, each with the place of its store
 abbrev pub calls_of : List Course → List (ℕ × Entry)
 calls_of courses = flat_map (λ c. map (λ e. (c.order.place, e)) c.calls) courses
 
 -- the port and the link of a worker show these orders, one after another
-pub record Shows (ids : List (List ℕ)) (courses : List Course) (old new : PortView) (before after : LinkState) : Type 0 where
-  pub port : new ≡ record old { list = old.list ++ calls_of courses }
-  pub all : after.sent ≡ before.sent ++ sent_by ids courses
-  pub failures : after.failed ≡ before.failed + failed_by courses
-  pub blocks : after.spent ≡ before.spent + spent_by courses
-
--- an order was carried out, and broke for this cause, where there is one
-pub record OrderCarriedOut (ids : List (List ℕ)) (order : Order) (why : Option OrderBroken) (old new : PortView) (before after : LinkState) : Type 0 where
-  pub course : Course
-  pub of : course.order ≡ order
-  pub why_is : course.why ≡ why
-  pub is : IsTried course
-  pub shown : Shows ids (course ∷ []) old new before after
+pub record Shows (ids : List (List ℕ)) (courses : List Course) (a b : Progress) : Type 0 where
+  pub port : b.port ≡ record a.port { list = a.port.list ++ calls_of courses }
+  pub all : b.sent ≡ a.sent ++ sent_by ids courses
+  pub failures : b.failed ≡ a.failed + failed_by courses
+  pub blocks : b.spent ≡ a.spent + spent_by courses
 
 -- orders were carried out one after another; the last alone may have broken, and this is why, where it did
 pub record AreTried (why : Option OrderBroken) (courses : List Course) : Type 0 where
@@ -67,12 +58,12 @@ past_of (Some why) = 0
 
 -- a worker took these numbers, of which this many are no order's, and carried out the orders of the others, of which the last broke for this
 -- cause, where there is one
-pub record Worked (ids : List (List ℕ)) (orders : List Order) (taken : List ℕ) (past : ℕ) (why : Option OrderBroken) (old new : PortView) (before after : LinkState)
+pub record Worked (ids : List (List ℕ)) (orders : List Order) (taken : List ℕ) (past : ℕ) (why : Option OrderBroken) (a b : Progress)
     (courses : List Course) : Type 0 where
   pub of : map (λ c. c.order) courses ≡ map (order_at orders) (filter (has_order orders) taken)
   pub count : length taken ≡ length courses + past
   pub are : AreTried why courses
-  pub shown : Shows ids courses old new before after
+  pub shown : Shows ids courses a b
 
 -- a worker's link and port before it worked and after, what it is after, and the orders that it carried out
 pub record Work (L : Type 0) : Type 0 where
@@ -91,8 +82,8 @@ pub record IsNewPort (stores : StoresView) (port : PortView) : Type 0 where
 -- a worker carried out the orders of the numbers that its pass took
 abbrev pub HasWorked : {L : Type 0} → (L → List Sent) → (L → ℕ) → List (List ℕ) → List Order → Work L → Type 0
 HasWorked sent failed ids orders w =
-    Worked ids orders (view w.worker.pass).taken (past_of w.worker.why) w.worker.why w.old_port w.new_port
-    (link_state (sent w.old_link) (failed w.old_link) 0) (link_state (sent w.new_link) (failed w.new_link) w.worker.spent) w.courses
+    Worked ids orders (view w.worker.pass).taken (past_of w.worker.why) w.worker.why
+    (progress sent failed w.old_port w.old_link 0) (progress sent failed w.new_port w.new_link w.worker.spent) w.courses
 
 module _ {L Q A : Type 0} (sent : L → List Sent) (failed : L → ℕ) (queue : Slotted (Option ℕ) (Doing ℕ QueueView) Q A) where
   -- there are as many workers as links, one at least, each with a port through which no call was made, and each link may fail once more

@@ -71,6 +71,7 @@ pub(crate) fn hire<R: Wait>(
 }
 
 // Joins the passes of workers to one pass. No worker is left.
+#[tactic(auto, using(crate::proofs::Moves::merges))]
 pub(crate) fn join_passes(queue: &OrderQueue, pass: &mut OrderPass, workers: &mut Vec<DumpWorker>)
     requires pass { IsPassOf queue.now pass.old }
     requires part { 0 < (view pass.old).parts }

@@ -3,13 +3,12 @@ ghost use Rattle.std.specs.Prelude.{◌≡◌, ◌+◌, ◌-◌, ◌<◌, ◌≤
 ghost use Rattle.std.specs.Thread.{IsSync, IsSend};
 ghost use Rattle.crossbeam_queue.specs.Passes.{view};
 ghost use Rattle.mm_shared.specs.Stores.{ids_of};
-ghost use Rattle.mm_dump.specs.OrderSteps.{IsPortAt};
-ghost use Rattle.mm_dump.specs.Sending.{link_state};
+ghost use Rattle.mm_dump.specs.OrderSteps.{progress};
 ghost use Rattle.mm_dump.specs.Courses.{Course};
 ghost use Rattle.mm_dump.specs.Steps.{IsHired, IsBack};
-ghost use Rattle.mm_dump.specs.Workers.{OrdersFit, OrderCarriedOut, past_of, Worked, IsNewPort, AreReady, AllWorked};
+ghost use Rattle.mm_dump.specs.Workers.{OrdersFit, past_of, Worked, IsNewPort, AreReady, AllWorked};
 
-use crate::carrying::{OrderContext, carry};
+use crate::carrying::carry;
 use crate::link::Link;
 use crate::order::{Order, OrderBroken};
 use crate::queue::{OrderPass, OrderQueue, take_next};
@@ -38,36 +37,6 @@ pub(crate) struct DumpContext<'a, R: Wait> {
     pub(crate) alloc: Global,
 }
 
-// Carries an order out at the store of its place, and says why it broke, where it did.
-fn carry_at<L: Link, R: Wait>(
-    context: &DumpContext<'_, R>,
-    order: Order,
-    port: &mut Port,
-    link: &mut L,
-    spent: &mut u64,
-) -> Option<OrderBroken>
-    requires named { order.place < length context.now.labels.now }
-    requires at { IsPortAt context.now.stores.now order.place port.old }
-    requires room { L.failed link.old < 2 ^ 64 - 1 }
-    requires blocks { spent.old < 2 ^ 48 }
-    ensures few { spent.new ≤ spent.old + 2 ^ 32 }
-    ensures carried { OrderCarriedOut (ids_of context.now.labels.now) order result port.old port.new
-        (link_state (L.sent link.old) (L.failed link.old) spent.old) (link_state (L.sent link.new) (L.failed link.new) spent.new) }
-{
-    let place = order.place as usize;
-    let at = OrderContext {
-        rt: context.rt,
-        alloc: context.alloc,
-        stores: context.stores,
-        place,
-        id: &context.labels[place].id,
-    };
-    match carry(&at, port, link, spent, order.amount) {
-        Ok(()) => None,
-        Err(stop) => Some(stop.cause()),
-    }
-}
-
 // Carries out orders of the queue until none is left or one breaks, and says why that one did.
 fn work<L: Link, R: Wait>(
     context: &DumpContext<'_, R>,
@@ -80,8 +49,8 @@ fn work<L: Link, R: Wait>(
     requires hired { IsHired context.now.queue.now worker.old }
     requires room { L.failed link.old < 2 ^ 64 - 1 }
     ensures back { IsBack context.now.queue.now worker.new }
-    ensures worked { (courses : List Course) × Worked (ids_of context.now.labels.now) context.now.orders.now (view worker.new.pass).taken (past_of result) result port.old port.new
-        (link_state (L.sent link.old) (L.failed link.old) 0) (link_state (L.sent link.new) (L.failed link.new) worker.new.spent) courses }
+    ensures worked { (courses : List Course) × Worked (ids_of context.now.labels.now) context.now.orders.now (view worker.new.pass).taken (past_of result) result
+        (progress L.sent L.failed port.old link.old 0) (progress L.sent L.failed port.new link.new worker.new.spent) courses }
 {
     for _ in context.rt.forever() {
         let number = take_next(context.rt, context.queue, &mut worker.pass) as usize;
@@ -89,29 +58,12 @@ fn work<L: Link, R: Wait>(
             return None;
         }
         let order = context.orders[number];
-        let broken = carry_at(context, order, port, link, &mut worker.spent);
+        let broken = carry(context, order, port, link, &mut worker.spent);
         if broken.is_some() {
             return broken;
         }
     }
     unreachable!()
-}
-
-// Lets one worker carry out orders.
-fn run<L: Link, R: Wait>(
-    context: &DumpContext<'_, R>,
-    links: &mut [L],
-    ports: &mut [Port],
-    workers: &mut [DumpWorker],
-)
-    requires one { length links.old ≡ 1 }
-    requires ready { AreReady L.sent L.failed context.now.queue.now context.now.stores.now context.now.labels.now context.now.orders.now links.old ports.old workers.old }
-    ensures worked { AllWorked L.sent L.failed context.now.queue.now (ids_of context.now.labels.now) context.now.orders.now
-        links.old links.new ports.old ports.new workers.new }
-{
-    let worker = &mut workers[0];
-    let why = work(context, &mut ports[0], worker, &mut links[0]);
-    worker.why = why;
 }
 
 // Lets workers carry out orders, each in a thread of its own where one can be made.
@@ -127,7 +79,9 @@ pub(crate) fn dump_all<L: Link + Send, R: Threads + Wait + Sync>(
         links.old links.new ports.old ports.new workers.new }
 {
     if links.len() == 1 {
-        run(context, links, ports, workers);
+        let worker = &mut workers[0];
+        let why = work(context, &mut ports[0], worker, &mut links[0]);
+        worker.why = why;
         return;
     }
     let middle = links.len() / 2;

@@ -7,6 +7,7 @@ pub fn broken_orders_change_nothing()
 {}
 
 /// Where no retrieval is on at any store, none is on at a store that an order names.
+#[tactic(auto, using(crate::proofs::Leaving::all_idle))]
 pub fn idle_stores_suit_orders()
     ensures law { IdleStoresSuitOrders }
 {}

@@ -10,7 +10,6 @@ mod memory_link;
 mod order;
 mod queue;
 mod step;
-mod stop;
 mod worst;
 
 pub use buffers::{DumpBuffers, reserve_dump};

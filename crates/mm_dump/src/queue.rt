@@ -54,33 +54,17 @@ impl Join<QueueView> for SplitOne {
     ghost spent = { queue_view 0 0 [] };
 }
 
-/// The first number is pushed, where the pass with all parts took all that were pushed before. What it took is forgotten.
-pub(crate) struct PushFirst;
+/// The next number is pushed by the pass with all parts, and 0 where it took all that were pushed before. What it took is forgotten.
+pub(crate) struct PushNumber;
 
-impl Outcome<u32, QueueView> for PushFirst {
-    ghost use Rattle.std.specs.Prelude.{◌≡◌, []};
+impl Outcome<u32, QueueView> for PushNumber {
+    ghost use Rattle.std.specs.Prelude.{◌≡◌, ◌+◌, []};
     ghost use Rattle.mm_dump.specs.Queue.{queue_view};
 
-    ghost then = { λ v x w. w ≡ queue_view 1024 1 [] };
+    ghost then = { λ v x w. w ≡ queue_view 1024 (x + 1) [] };
 }
 
-impl Lesson<u32, QueueView> for PushFirst {
-    ghost use Rattle.mm_dump.specs.Queue.{Tells};
-
-    ghost fact = { Tells };
-}
-
-/// The next number is pushed.
-pub(crate) struct PushNext;
-
-impl Outcome<u32, QueueView> for PushNext {
-    ghost use Rattle.std.specs.Prelude.{◌≡◌, ◌+◌};
-    ghost use Rattle.mm_dump.specs.Queue.{queue_view};
-
-    ghost then = { λ v x w. w ≡ queue_view v.parts (v.pushed + 1) v.taken };
-}
-
-impl Lesson<u32, QueueView> for PushNext {
+impl Lesson<u32, QueueView> for PushNumber {
     ghost use Rattle.mm_dump.specs.Queue.{Tells};
 
     ghost fact = { Tells };
@@ -134,11 +118,8 @@ pub(crate) fn push_all<R: Wait>(rt: &R, queue: &OrderQueue, pass: &mut OrderPass
     ensures pushed { view pass.new ≡ queue_view 1024 numbers [] }
 {
     drain(rt, queue, pass);
-    let Ok(()) = queue.push_as::<PushFirst, R>(rt, pass, 0) else {
-        unreachable!()
-    };
-    for number in 1..numbers {
-        let Ok(()) = queue.push_as::<PushNext, R>(rt, pass, number) else {
+    for number in 0..numbers {
+        let Ok(()) = queue.push_as::<PushNumber, R>(rt, pass, number) else {
             unreachable!()
         };
     }

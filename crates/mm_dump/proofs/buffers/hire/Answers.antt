@@ -1,9 +1,4 @@
-use Rattle.std.proofs.Common.{rules, ℕ, List, [], All, refl, sym, ap, subst, ◌∙◌, arith}
-use Rattle.std.proofs.lemmas.List.Elements.{All-push}
-use Rattle.mm_dump.specs.declared.dumper.DumpWorker.{DumpWorker}
-use Rattle.mm_dump.specs.declared.queue.QueueView.{QueueView}
-use Rattle.mm_dump.specs.Queue.{queue_view}
-use Rattle.mm_dump.specs.Steps.{IsHired}
+use Rattle.mm_dump.proofs.Words.{rules, ℕ, List, [], All, refl, sym, ap, subst, ◌∙◌, arith, All-push, DumpWorker, QueueView, queue_view, IsHired}
 use Rattle.mm_dump.proofs.Moves.{forks}
 use Rattle.mm_dump.proofs.buffers.hire.Goals as goal
 

@@ -1,6 +1,4 @@
-use Rattle.std.proofs.Common.{◌≡◌, ◌+◌, ◌≤◌, [], All, vec_len, vec_capacity}
-use Rattle.crossbeam_queue.specs.Passes.{view, IsPassOf}
-use Rattle.mm_dump.specs.Steps.{IsHired}
+use Rattle.mm_dump.proofs.Words.{◌≡◌, ◌+◌, ◌≤◌, [], All, vec_len, vec_capacity, view, IsPassOf, IsHired}
 use Rattle.mm_dump.proofs.buffers.hire.Given as goal
 
 abbrev pub invariant-loop : goal.invariant-loop

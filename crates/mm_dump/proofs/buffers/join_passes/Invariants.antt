@@ -1,8 +1,4 @@
-use Rattle.std.proofs.Common.{◌≡◌, ◌<◌, ℕ, ◌+◌, All, length, vec_len, vec_capacity}
-use Rattle.std.specs.List.{sum_by}
-use Rattle.crossbeam_queue.specs.Passes.{view, IsPassOf}
-use Rattle.mm_dump.specs.declared.dumper.DumpWorker.{DumpWorker}
-use Rattle.mm_dump.specs.Steps.{IsBack}
+use Rattle.mm_dump.proofs.Words.{◌≡◌, ◌<◌, ℕ, ◌+◌, All, length, vec_len, vec_capacity, sum_by, view, IsPassOf, DumpWorker, IsBack}
 use Rattle.mm_dump.proofs.buffers.join_passes.Given as goal
 
 abbrev pub invariant-loop-worker : goal.invariant-loop-worker

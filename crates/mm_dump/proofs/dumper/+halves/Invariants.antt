@@ -1,4 +1,4 @@
-use Rattle.std.proofs.Common.{◌+◌, ◌-◌, ◌*◌, length}
+use Rattle.mm_dump.proofs.Words.{◌+◌, ◌-◌, ◌*◌, length}
 use Rattle.mm_dump.proofs.dumper.+halves.Given as goal
 
 abbrev pub decreases-dump_all : goal.decreases-dump_all

@@ -1,10 +1,5 @@
-use Rattle.std.proofs.Common.{rules, ◌≡◌, ◌+◌, ◌<◌, ◌≤◌, true, [], ◌∷◌, length, refl, ap, ◌∙◌, arith, length-append}
-use Rattle.std.specs.Prelude.{None, is_some}
-use Rattle.crossbeam_queue.specs.Passes.{view}
-use Rattle.mm_shared.specs.Stores.{ids_of}
-use Rattle.mm_dump.specs.declared.queue.QueueView.{QueueView}
-use Rattle.mm_dump.specs.Sending.{link_state}
-use Rattle.mm_dump.proofs.Working.{worked_start, worked_past, worked_more, worked_stopped, worked_well}
+use Rattle.mm_dump.proofs.Words.{rules, ◌≡◌, ◌+◌, ◌<◌, ◌≤◌, true, [], ◌∷◌, length, refl, ap, ◌∙◌, arith, length-append, None, is_some, view, ids_of, QueueView}
+use Rattle.mm_dump.proofs.Working.{worked_start, worked_past, worked_more, worked_stopped}
 use Rattle.mm_dump.proofs.dumper.work.Goals as goal
 
 pub loop-init : goal.loop-init
@@ -17,28 +12,20 @@ loop-init g c =
       part = ap (λ (v : QueueView). v.parts) c.requires.hired.first;
       pushed = refl;
       spent = omega (arith, ap length none, c.requires.hired.spent);
-      worked = (
-        [],
-        worked_start (ids_of c.args.context.now.labels.now) c.args.context.now.orders.now (view c.args.worker.now.pass).taken c.args.port.now
-            (link_state (g.L.Link.sent c.args.link.now) (g.L.Link.failed c.args.link.now) 0)
-            (link_state (g.L.Link.sent c.args.link.now) (g.L.Link.failed c.args.link.now) c.args.worker.now.spent) none refl refl c.requires.hired.spent,
-      );
+      well = refl;
+      worked = ([], worked_start (ids_of c.args.context.now.labels.now) c.args.context.now.orders.now _ _ _ none refl refl refl c.requires.hired.spent);
     }
 
-pub carry_at-broken-requires-clause-room : goal.carry_at-broken-requires-clause-room
-carry_at-broken-requires-clause-room g c =
-    omega (arith, worked_well (ids_of c.args.context.now.labels.now) _ _ _ _ _ _ _ _ c.loop.invariant.worked.1, c.requires.room)
-
 -- 65536 orders of 2^32 blocks are 2^48 blocks
-pub carry_at-broken-requires-clause-blocks : goal.carry_at-broken-requires-clause-blocks
-carry_at-broken-requires-clause-blocks g c =
+pub carry-broken-requires-clause-blocks : goal.carry-broken-requires-clause-blocks
+carry-broken-requires-clause-blocks g c =
     let less : c.loop.worker.spent < 281474976710656 = omega (arith, c.loop.invariant.spent, c.take_next-number.ensures.few, c.loop.invariant.pushed, c.requires.hired.few) in
     less
 
 pub returns-then-number-context-clause-worked : goal.returns-then-number-context-clause-worked
 returns-then-number-context-clause-worked g c =
     let more = ap (λ (v : QueueView). v.taken) c.take_next-number.ensures.taken in
-    (c.loop.invariant.worked.0, worked_past (ids_of c.args.context.now.labels.now) _ _ _ _ _ _ _ _ _ more c.loop.invariant.worked.1 c.if-number-context.true)
+    (c.loop.invariant.worked.0, worked_past (ids_of c.args.context.now.labels.now) _ _ _ _ _ _ _ more c.loop.invariant.worked.1 c.if-number-context.true)
 
 pub returns-then-number-context-clause-back : goal.returns-then-number-context-clause-back
 returns-then-number-context-clause-back g c = record {
@@ -51,24 +38,21 @@ pub returns-then-is_some-clause-back : goal.returns-then-is_some-clause-back
 returns-then-is_some-clause-back g c = record {
   pass = search rules;
   part = ap (λ (v : QueueView). v.parts) c.take_next-number.ensures.taken ∙ c.loop.invariant.part;
-  bound = omega (arith, c.carry_at-broken.ensures.few, c.loop.invariant.spent, c.take_next-number.ensures.few, c.loop.invariant.pushed, c.requires.hired.few);
+  bound = omega (arith, c.carry-broken.ensures.few, c.loop.invariant.spent, c.take_next-number.ensures.few, c.loop.invariant.pushed, c.requires.hired.few);
 }
 
 pub returns-then-is_some-clause-worked : goal.returns-then-is_some-clause-worked
 returns-then-is_some-clause-worked g c =
     let more = ap (λ (v : QueueView). v.taken) c.take_next-number.ensures.taken in
-    let stopped : is_some c.carry_at-broken.result ≡ true = search rules in (
-      _,
-      worked_stopped (ids_of c.args.context.now.labels.now) _ _ c.carry_at-broken.result _ _ _ _ _ stopped
-          (worked_more (ids_of c.args.context.now.labels.now) _ _ _ _ _ _ _ _ _ more c.loop.invariant.worked.1 _ c.carry_at-broken.result c.carry_at-broken.result _ _
-          c.if-number-context.false refl refl c.carry_at-broken.ensures.carried),
-    )
+    let stopped : is_some c.carry-broken.result ≡ true = search rules in
+    let worked = worked_more (ids_of c.args.context.now.labels.now) _ _ _ _ _ _ _ more c.loop.invariant.worked.1 _ _ _ c.if-number-context.false refl c.carry-broken.ensures.carried in
+    (worked.0, worked_stopped (ids_of c.args.context.now.labels.now) _ _ c.carry-broken.result _ _ _ stopped worked.1)
 
 pub loop-preserved : goal.loop-preserved
 loop-preserved g c =
     let more = ap (λ (v : QueueView). v.taken) c.take_next-number.ensures.taken in
-    let none : c.carry_at-broken.result ≡ None = search rules in
-    let spent : c.carry_at-broken.new.spent ≤ c.loop.worker.spent + 4294967296 = c.carry_at-broken.ensures.few in
+    let none : c.carry-broken.result ≡ None = search rules in
+    let spent : c.carry-broken.new.spent ≤ c.loop.worker.spent + 4294967296 = c.carry-broken.ensures.few in
     record {
       can_next = tt;
       is_finite = tt;
@@ -76,9 +60,6 @@ loop-preserved g c =
       part = ap (λ (v : QueueView). v.parts) c.take_next-number.ensures.taken ∙ c.loop.invariant.part;
       pushed = ap (λ (v : QueueView). v.pushed) c.take_next-number.ensures.taken ∙ c.loop.invariant.pushed;
       spent = omega (arith, spent, c.loop.invariant.spent, ap (λ (v : QueueView). length v.taken) c.take_next-number.ensures.taken, length-append (view c.loop.worker.pass).taken (c.take_next-number.result ∷ []));
-      worked = (
-        _,
-        worked_more (ids_of c.args.context.now.labels.now) _ _ _ _ _ _ _ _ _ more c.loop.invariant.worked.1 _ None c.carry_at-broken.result _ _
-            c.if-number-context.false refl none c.carry_at-broken.ensures.carried,
-      );
+      well = search rules;
+      worked = worked_more (ids_of c.args.context.now.labels.now) _ _ _ _ _ _ _ more c.loop.invariant.worked.1 _ None _ c.if-number-context.false refl (rw none at c.carry-broken.ensures.carried);
     }

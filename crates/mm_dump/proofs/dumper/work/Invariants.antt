@@ -1,9 +1,4 @@
-use Rattle.std.proofs.Common.{◌≡◌, ◌*◌, ◌^◌, ◌≤◌, List, length, None}
-use Rattle.crossbeam_queue.specs.Passes.{view, IsPassOf}
-use Rattle.mm_shared.specs.Stores.{ids_of}
-use Rattle.mm_dump.specs.Sending.{link_state}
-use Rattle.mm_dump.specs.Courses.{Course}
-use Rattle.mm_dump.specs.Workers.{Worked}
+use Rattle.mm_dump.proofs.Words.{◌≡◌, ◌*◌, ◌^◌, ◌≤◌, List, length, None, view, IsPassOf, ids_of, Course, progress, Worked}
 use Rattle.mm_dump.proofs.dumper.work.Given as goal
 
 abbrev pub invariant-loop : goal.invariant-loop
@@ -14,7 +9,7 @@ invariant-loop g l = record {
   part : (view l.worker.pass).parts ≡ 1;
   pushed : (view l.worker.pass).pushed ≡ (view l.initial.worker.pass).pushed;
   spent : l.worker.spent ≤ length (view l.worker.pass).taken * 2 ^ 32;
-  worked : (courses : List Course) × Worked (ids_of l.context.labels.now) l.context.orders.now (view l.worker.pass).taken 0 None l.initial.port l.port
-      (link_state (g.L.Link.sent l.initial.link) (g.L.Link.failed l.initial.link) 0)
-      (link_state (g.L.Link.sent l.link) (g.L.Link.failed l.link) l.worker.spent) courses;
+  well : g.L.Link.failed l.link ≡ g.L.Link.failed l.initial.link;
+  worked : (courses : List Course) × Worked (ids_of l.context.labels.now) l.context.orders.now (view l.worker.pass).taken 0 None
+      (progress g.L.Link.sent g.L.Link.failed l.initial.port l.initial.link 0) (progress g.L.Link.sent g.L.Link.failed l.port l.link l.worker.spent) courses;
 }

@@ -1,4 +1,4 @@
-use Rattle.std.proofs.Common.{arith}
+use Rattle.mm_dump.proofs.Words.{arith}
 use Rattle.mm_dump.proofs.Moves.{takes, learns}
 use Rattle.mm_dump.proofs.queue.drain.Goals as goal
 

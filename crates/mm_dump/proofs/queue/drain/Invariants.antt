@@ -1,5 +1,4 @@
-use Rattle.std.proofs.Common.{◌-◌, length}
-use Rattle.crossbeam_queue.specs.Passes.{view}
+use Rattle.mm_dump.proofs.Words.{◌-◌, length, view}
 use Rattle.mm_dump.specs.Steps.{IsWhole}
 use Rattle.mm_dump.proofs.queue.drain.Given as goal
 

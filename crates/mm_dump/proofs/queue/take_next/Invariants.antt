@@ -1,5 +1,4 @@
-use Rattle.std.proofs.Common.{◌≡◌, ◌<◌}
-use Rattle.crossbeam_queue.specs.Passes.{view, IsPassOf}
+use Rattle.mm_dump.proofs.Words.{◌≡◌, ◌<◌, view, IsPassOf}
 use Rattle.mm_dump.proofs.queue.take_next.Given as goal
 
 abbrev pub invariant-loop : goal.invariant-loop

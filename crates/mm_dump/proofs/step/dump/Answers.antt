@@ -1,5 +1,4 @@
-use Rattle.std.proofs.Common.{rules, map}
-use Rattle.std.proofs.lemmas.List.{nil_from_length}
+use Rattle.mm_dump.proofs.Words.{rules, map, nil_from_length}
 use Rattle.mm_dump.proofs.Leaves.{nothing}
 use Rattle.mm_dump.proofs.step.dump.Goals as goal
 

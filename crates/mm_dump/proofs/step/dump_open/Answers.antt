@@ -1,22 +1,12 @@
-use Rattle.std.proofs.Common.{rules, ◌≡◌, ◌-◌, ◌<◌, ◌≤◌, ◌^◌, ℕ, List, ◌++◌, length, map, take, drop, All, vec_len, refl, sym, ap, subst, ◌∙◌, arith}
-use Rattle.std.specs.List.{sum_by, range_with_len}
-use Rattle.std.proofs.lemmas.List.{length-take-le, length-drop, length-map, take-append-drop, nil_from_length}
-use Rattle.std.proofs.lemmas.List.Elements.{All-take}
-use Rattle.crossbeam_queue.specs.Passes.{view}
-use Rattle.mm_desk.specs.declared.held.Held.{Held}
-use Rattle.mm_shared.specs.Stores.{states_of, stores_in, all_ends, names_of, HaveLegalLogs}
-use Rattle.mm_shared.specs.Views.{PortView}
+use Rattle.mm_dump.proofs.Words.{rules, ◌≡◌, ◌-◌, ◌<◌, ◌≤◌, ◌^◌, ℕ, List, ◌++◌, length, map, take, drop, All, vec_len, refl, sym, ap, subst, ◌∙◌, arith, sum_by}
+use Rattle.mm_dump.proofs.Words.{range_with_len, length-take-le, length-drop, length-map, take-append-drop, nil_from_length, All-take, view, Held, states_of}
+use Rattle.mm_dump.proofs.Words.{stores_in, all_ends, names_of, HaveLegalLogs, PortView, DumpWorker, worst_of, CarriesOut, Tells, IsHired, IsBack, AreBack}
+use Rattle.mm_dump.proofs.Words.{AreReady, causes_of}
 use Rattle.mm_shared.proofs.StillOpen.{still_open}
-use Rattle.mm_dump.specs.declared.dumper.DumpWorker.{DumpWorker}
-use Rattle.mm_dump.specs.Courses.{worst_of}
-use Rattle.mm_dump.specs.Dumped.{CarriesOut}
-use Rattle.mm_dump.specs.Queue.{Tells}
-use Rattle.mm_dump.specs.Steps.{IsHired, IsBack, AreBack}
-use Rattle.mm_dump.specs.Workers.{AreReady, causes_of}
 use Rattle.mm_dump.proofs.Leaves.{all_back, ends_same, lent, nothing, same_ids, step_leaves, step_ready}
+use Rattle.mm_dump.proofs.step.dump_open.Goals.{After-deref_mut-2, After-dump_all}
 use Rattle.mm_dump.proofs.step.dump_open.Given as given
 use Rattle.mm_dump.proofs.step.dump_open.Goals as goal
-use Rattle.mm_dump.proofs.step.dump_open.Goals.{After-deref_mut-2, After-dump_all}
 
 pub returns-then-is_empty-clause-carried : goal.returns-then-is_empty-clause-carried
 returns-then-is_empty-clause-carried g c =

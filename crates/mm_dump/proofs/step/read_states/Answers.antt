@@ -1,7 +1,4 @@
-use Rattle.std.proofs.Common.{All, subst, take_all, arith}
-use Rattle.std.proofs.lemmas.List.Elements.{All-more}
-use Rattle.mm_desk.specs.declared.held.Held.{Held}
-use Rattle.mm_desk.specs.Machine.{IsState}
+use Rattle.mm_dump.proofs.Words.{All, subst, take_all, arith, All-more, Held, IsState}
 use Rattle.mm_dump.proofs.step.read_states.Goals as goal
 
 pub loop-held-preserved : goal.loop-held-preserved

@@ -1,6 +1,4 @@
-use Rattle.std.proofs.Common.{◌≡◌, ◌*◌, ◌^◌, ◌≤◌, take}
-use Rattle.std.specs.List.{sum_by}
-use Rattle.mm_dump.specs.declared.dumper.DumpWorker.{DumpWorker}
+use Rattle.mm_dump.proofs.Words.{◌≡◌, ◌*◌, ◌^◌, ◌≤◌, take, sum_by, DumpWorker}
 use Rattle.mm_dump.proofs.step.spent_by.Given as goal
 
 abbrev pub invariant-loop-worker : goal.invariant-loop-worker

@@ -1,4 +1,4 @@
-use Rattle.mm_dump.specs.declared.dumper.DumpWorker.{DumpWorker}
+use Rattle.mm_dump.proofs.Words.{DumpWorker}
 use Rattle.mm_dump.proofs.Courses.{worst_next}
 use Rattle.mm_dump.proofs.worst.worst_broken.Goals as goal
 

@@ -1,6 +1,4 @@
-use Rattle.std.proofs.Common.{◌≡◌, take}
-use Rattle.mm_dump.specs.Courses.{worst_of}
-use Rattle.mm_dump.specs.Workers.{causes_of}
+use Rattle.mm_dump.proofs.Words.{◌≡◌, take, worst_of, causes_of}
 use Rattle.mm_dump.proofs.worst.worst_broken.Given as goal
 
 abbrev pub invariant-loop-worker : goal.invariant-loop-worker
