@@ -5,8 +5,7 @@ ghost use Rattle.crossbeam_queue.specs.Passes.{view};
 ghost use Rattle.mm_shared.specs.Stores.{ids_of};
 ghost use Rattle.mm_dump.specs.OrderSteps.{progress};
 ghost use Rattle.mm_dump.specs.Courses.{Course};
-ghost use Rattle.mm_dump.specs.Steps.{IsHired, IsBack};
-ghost use Rattle.mm_dump.specs.Workers.{OrdersFit, past_of, Worked, IsNewPort, AreReady, AllWorked};
+ghost use Rattle.mm_dump.specs.Workers.{IsHired, IsBack, OrdersFit, past_of, Worked, IsNewPort, AreReady, AllWorked};
 
 use crate::carrying::carry;
 use crate::link::Link;
