@@ -73,7 +73,7 @@ called_then place on mid off one two so a b c went more turns =
       calls = went.calls ++ more.calls;
       port = more.port ∙ ap (λ (p : PortView). with_calls place p more.calls) went.port
           ∙ ap (λ (calls : List (ℕ × Entry)). record a { list = calls })
-            (append_assoc a.list (map there went.calls) (map there more.calls) ∙ ap (λ (calls : List (ℕ × Entry)). a.list ++ calls) (sym (map-append there went.calls more.calls)));
+          (append_assoc a.list (map there went.calls) (map there more.calls) ∙ ap (λ (calls : List (ℕ × Entry)). a.list ++ calls) (sym (map-append there went.calls more.calls)));
       alone = λ s t is run.
           let cut = run_split s t went.calls more.calls run in
           let first = went.alone s cut.0 is cut.1 in

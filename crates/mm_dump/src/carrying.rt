@@ -49,8 +49,12 @@ fn abort<R: Wait>(context: &OrderContext<'_, R>, port: &mut Port)
     let _aborted = context.stores.abort(context.rt, port, context.place);
 }
 
-// Takes the next packet of the retrieval. Where there is no memory for its copy the retrieval is aborted.
-fn next<R: Wait>(context: &OrderContext<'_, R>, port: &mut Port) -> Result<Option<Stored>, OrderBroken>
+// Takes the next packet of the retrieval. Where there is no memory for its copy the retrieval is aborted. A refused call, which never comes,
+// is told as out of memory.
+fn next<R: Wait>(
+    context: &OrderContext<'_, R>,
+    port: &mut Port,
+) -> Result<Option<Stored>, OrderBroken>
     requires at { IsPortAt context.now.stores.now context.now.place port.old }
     ensures ok { IfOk result (λ next. HasCalled context.now.place true (is_some next)
         (λ seat calls. calls ≡ entry seat Event.Next (Reply.Given (Ok next)) ∷ []) port.old port.new) }
