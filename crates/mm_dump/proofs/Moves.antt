@@ -203,7 +203,8 @@ pushes room pass v x all number none items views within rule at =
     from_0 count =
         elim (cases_lt 0 x) [
           | inl has ↦
-              let start : rule.next ≡ 0 = omega (arith, took_all pass v rule at all (λ (k : ℕ). 1), counted rule.next, sum_by_ones v.taken, ap length (none has)) in
+              let start : rule.next ≡ 0 =
+              omega (arith, took_all pass v rule at all (λ (k : ℕ). 1), counted rule.next, sum_by_ones v.taken, ap length (none has)) in
               let many : rule.pushed - rule.next ≡ x = omega (arith, ap length rule.queued, length-range_with_len rule.next (rule.pushed - rule.next), count) in
               rule.queued ∙ (λ i. range_with_len (start i) (many i))
           | inr first ↦

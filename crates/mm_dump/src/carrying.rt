@@ -58,7 +58,8 @@ fn next<R: Wait>(
     requires at { IsPortAt context.now.stores.now context.now.place port.old }
     ensures ok { IfOk result (λ next. HasCalled context.now.place true (is_some next)
         (λ seat calls. calls ≡ entry seat Event.Next (Reply.Given (Ok next)) ∷ []) port.old port.new) }
-    ensures err { IfErr result (λ why. (why ≡ OrderBroken.NoMemory) × HasCalled context.now.place true false (λ seat calls. calls ≡ aborted seat ∷ []) port.old port.new) }
+    ensures err { IfErr result (λ why. (why ≡ OrderBroken.NoMemory)
+        × HasCalled context.now.place true false (λ seat calls. calls ≡ aborted seat ∷ []) port.old port.new) }
     ensures of { port.new.of ≡ port.old.of }
 {
     let fault = match context
