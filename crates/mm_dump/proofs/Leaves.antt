@@ -230,7 +230,8 @@ module _ {L : Type 0} (sent : L → List Sent) (failed : L → ℕ) (ids : List 
         sum_by-map (λ (l : Line L). l.spent) idle_line idle,
         sum_by_zeros (λ (x : L). 0) idle (λ i d inside. refl),
       ) in
-      let h : HaveEnded orders (length lines) (all_of lines) (states_of before) after = subst (λ (cs : List Course). HaveEnded orders (length lines) cs (states_of before) after) (sym all_is) ended in
+      let h : HaveEnded orders (length lines) (all_of lines) (states_of before) after =
+      subst (λ (cs : List Course). HaveEnded orders (length lines) cs (states_of before) after) (sym all_is) ended in
       subst (λ (T : Type 0). T) (λ i. CarriesOut sent failed ids orders (states_of before) after (olds i) (news i) ((ap worst_of broke ∙ worst-idle whys idle) i) (spent i))
       (carries_out sent failed ids orders before links may lines (omega (arith, some, lines_count)) after same h lines_are)
 

@@ -15,7 +15,8 @@ turns_on : (one two : Bool) (s t u : State) → Turns one s t → Turns two t u 
 turns_on one two s t u first second = record { now = second.now; close = second.close ∙ ap (λ (v : State). record v { retrieval = u.retrieval }) first.close }
 
 -- what holds of a state at which a retrieval is on, and of one at which none is
-by_retrieval : (P : State → Type 0) → ((s : State) (r : Retrieval) → P (record s { retrieval = Some r })) → ((s : State) → P (record s { retrieval = None })) → (s : State) → P s
+by_retrieval : (P : State → Type 0) → ((s : State) (r : Retrieval) → P (record s { retrieval = Some r })) → ((s : State) → P (record s { retrieval = None }))
+    → (s : State) → P s
 by_retrieval P on off s = of s.retrieval
   where
     of : (r : Option Retrieval) → P (record s { retrieval = r })
@@ -23,13 +24,15 @@ by_retrieval P on off s = of s.retrieval
     of None = off s
 
 -- where no retrieval is on one is begun
-pub begins : (s : State) (r : Result (Unit {0}) Fault) → is_some s.retrieval ≡ false → reply.Done r ≡ (step s (Begin 1 clock_end)).0 → (r ≡ Ok tt) × Turns true s (step s (Begin 1 clock_end)).1
+pub begins : (s : State) (r : Result (Unit {0}) Fault) → is_some s.retrieval ≡ false → reply.Done r ≡ (step s (Begin 1 clock_end)).0
+    → (r ≡ Ok tt) × Turns true s (step s (Begin 1 clock_end)).1
 begins s r =
     by_retrieval (λ u. is_some u.retrieval ≡ false → reply.Done r ≡ (step u (Begin 1 clock_end)).0 → (r ≡ Ok tt) × Turns true u (step u (Begin 1 clock_end)).1)
     (λ u q off answers. absurd (cc off)) (λ u off answers. (cc answers, record { now = refl; close = refl })) s
 
 -- where one is on it gives a packet and stays on, or it comes to its end
-pub nexts : (s : State) (r : Result (Option Stored) Fault) → is_some s.retrieval ≡ true → reply.Given r ≡ (step s Next).0 → (p : Option Stored) × (r ≡ Ok p) × Turns (is_some p) s (step s Next).1
+pub nexts : (s : State) (r : Result (Option Stored) Fault) → is_some s.retrieval ≡ true → reply.Given r ≡ (step s Next).0
+    → (p : Option Stored) × (r ≡ Ok p) × Turns (is_some p) s (step s Next).1
 nexts s r =
     by_retrieval (λ u. is_some u.retrieval ≡ true → reply.Given r ≡ (step u Next).0 → (p : Option Stored) × (r ≡ Ok p) × Turns (is_some p) u (step u Next).1)
     (λ u q on answers. found u q (first_in q.from q.to q.after u.store.content) answers) (λ u off answers. absurd (cc off)) s
@@ -40,7 +43,8 @@ nexts s r =
     found u q None answers = (None, cc answers, record { now = refl; close = refl })
 
 -- where one is on it is aborted
-pub aborts : (s : State) (r : Result (Unit {0}) Fault) → is_some s.retrieval ≡ true → reply.Done r ≡ (step s Abort).0 → (r ≡ Ok tt) × Turns false s (step s Abort).1
+pub aborts : (s : State) (r : Result (Unit {0}) Fault) → is_some s.retrieval ≡ true → reply.Done r ≡ (step s Abort).0
+    → (r ≡ Ok tt) × Turns false s (step s Abort).1
 aborts s r =
     by_retrieval (λ u. is_some u.retrieval ≡ true → reply.Done r ≡ (step u Abort).0 → (r ≡ Ok tt) × Turns false u (step u Abort).1)
     (λ u q on answers. (cc answers, record { now = refl; close = refl })) (λ u off answers. absurd (cc off)) s
@@ -49,11 +53,13 @@ aborts s r =
 pub deletes : (limit : ℕ) (s : State) (r : Result ℕ Fault) → is_some s.retrieval ≡ false → reply.Deleted r ≡ (step s (Delete limit)).0
     → ((count : ℕ) × (r ≡ Ok count)) × (is_some (step s (Delete limit)).1.retrieval ≡ false)
 deletes limit s r =
-    by_retrieval (λ u. is_some u.retrieval ≡ false → reply.Deleted r ≡ (step u (Delete limit)).0 → ((count : ℕ) × (r ≡ Ok count)) × (is_some (step u (Delete limit)).1.retrieval ≡ false))
+    by_retrieval (λ u. is_some u.retrieval ≡ false → reply.Deleted r ≡ (step u (Delete limit)).0
+    → ((count : ℕ) × (r ≡ Ok count)) × (is_some (step u (Delete limit)).1.retrieval ≡ false))
     (λ u q off answers. absurd (cc off)) (λ u off answers. ((count_up_to limit u.store.content, cc answers), refl)) s
 
 -- a retrieval that gives packets and is then aborted changes nothing else
-inside_keeps : (s : State) (seat : ℕ) (gave : List Stored) → is_some s.retrieval ≡ true → IsLegal s (given seat gave ++ aborted seat ∷ []) → Turns false s (replay s (given seat gave ++ aborted seat ∷ []))
+inside_keeps : (s : State) (seat : ℕ) (gave : List Stored) → is_some s.retrieval ≡ true → IsLegal s (given seat gave ++ aborted seat ∷ [])
+    → Turns false s (replay s (given seat gave ++ aborted seat ∷ []))
 inside_keeps s seat [] on legal = (aborts s (Ok tt) on legal.0).1
 inside_keeps s seat (p ∷ gave) on legal =
     let next = nexts s (Ok (Some p)) on legal.0 in
@@ -71,7 +77,8 @@ broken_keeps s t seat wanted gave calls order run =
     (same.leaves ∙ all.close ∙ ap (λ (r : Option Retrieval). record s { retrieval = r }) (none ∙ sym idle), ap (λ (u : State). u.retrieval) same.leaves ∙ none)
   where
     was_off : (u : State) → reply.Done (Ok tt) ≡ (step u (Begin 1 clock_end)).0 → u.retrieval ≡ None
-    was_off = by_retrieval (λ u. reply.Done (Ok tt) ≡ (step u (Begin 1 clock_end)).0 → u.retrieval ≡ None) (λ u q answers. absurd (cc answers)) (λ u answers. refl)
+    was_off = by_retrieval (λ u. reply.Done (Ok tt) ≡ (step u (Begin 1 clock_end)).0 → u.retrieval ≡ None)
+        (λ u q answers. absurd (cc answers)) (λ u answers. refl)
 
     none_on : (r : Option Retrieval) → is_some r ≡ false → r ≡ None
     none_on (Some r) on = absurd (cc on)

@@ -111,8 +111,8 @@ takes pass v some_part x items views rule at =
     let bound : rule.next ≤ rule.pushed = rule.within in
     let first = first_queued x items rule.next (rule.pushed - rule.next) rule.queued in
     let number : x ≡ rule.next = first.1 in
-    let rest : items ≡ range_with_len (rule.next + 1) (rule.pushed - (rule.next + 1)) =
-    first.2 ∙ ap (range_with_len (rule.next + 1)) (less rule.pushed rule.next) in
+    let less : rule.pushed - rule.next - 1 ≡ rule.pushed - (rule.next + 1) = omega arith in
+    let rest : items ≡ range_with_len (rule.next + 1) (rule.pushed - (rule.next + 1)) = first.2 ∙ ap (range_with_len (rule.next + 1)) less in
     let mine : sum_by (took (λ k. 1)) (set views pass nothing) + took (λ k. 1) v ≡ sum_by (took (λ k. 1)) views + 0 = total_set (took (λ k. 1)) views pass v nothing at in
     let before : length v.taken ≤ rule.next = omega (arith, mine, rule.each (λ k. 1), counted rule.next, sum_by_ones v.taken) in (
       w,
@@ -127,9 +127,6 @@ takes pass v some_part x items views rule at =
       },
       record { within = omega (arith, first.0); taken = refl; few = omega (arith, first.0, before) },
     )
-  where
-    less : (a b : ℕ) → a - b - 1 ≡ a - (b + 1)
-    less a b = omega arith
 
 -- splitting a pass
 pub forks : (pass : ℕ) (v : QueueView) → 1 < v.parts → Forks AreTakenOnce pass v (queue_view (v.parts - 1) v.pushed v.taken) (queue_view 1 v.pushed [])
@@ -187,13 +184,14 @@ pub pushes : (room pass : ℕ) (v : QueueView) (x : ℕ) → v.parts ≡ 1024 �
     → Pushes AreTakenOnce room pass v x (λ w. w ≡ queue_view 1024 (x + 1) [])
 pushes room pass v x all number none items views within rule at =
     let w = queue_view 1024 (x + 1) [] in
-    let count : length items ≡ x = omega (arith, (learns pass v items views rule at).counted all, number) in (
+    let count : length items ≡ x = omega (arith, (learns pass v items views rule at).counted all, number) in
+    let more : suc x ≡ x + 1 - 0 = omega arith in (
       w,
       record {
         pushed = x + 1;
         next = 0;
         within = omega arith;
-        queued = ap (λ (xs : List ℕ). xs ++ x ∷ []) (from_0 count) ∙ sym (range_with_len_more 0 x x (omega arith)) ∙ ap (range_with_len 0) (one_more x);
+        queued = ap (λ (xs : List ℕ). xs ++ x ∷ []) (from_0 count) ∙ sym (range_with_len_more 0 x x (omega arith)) ∙ ap (range_with_len 0) more;
         parts = omega (arith, total_set parts_of views pass v w at, rule.parts);
         each = λ h. omega (arith, total_set (took h) views pass v w at, rule.each h, took_all pass v rule at all h);
         known = known_set (x + 1) views pass w (knows_part (x + 1) w refl (omega arith)) (others_know (x + 1) pass v rule at all);
@@ -201,18 +199,15 @@ pushes room pass v x all number none items views within rule at =
       refl,
     )
   where
-    one_more : (n : ℕ) → suc n ≡ n + 1 - 0
-    one_more n = omega arith
-
     from_0 : length items ≡ x → items ≡ range_with_len 0 x
     from_0 count =
         elim (cases_lt 0 x) [
           | inl has ↦
-              let start : rule.next ≡ 0 = omega (arith, took_all pass v rule at all (λ (k : ℕ). 1), counted rule.next, sum_by_ones v.taken, ap length (none has)) in
+              let start : rule.next ≡ 0 =
+              omega (arith, took_all pass v rule at all (λ (k : ℕ). 1), counted rule.next, sum_by_ones v.taken, ap length (none has)) in
               let many : rule.pushed - rule.next ≡ x = omega (arith, ap length rule.queued, length-range_with_len rule.next (rule.pushed - rule.next), count) in
               rule.queued ∙ (λ i. range_with_len (start i) (many i))
-          | inr first ↦ nil_from_length items (omega (arith, count, first)) ∙ ap (range_with_len 0) (sym (is_0 first))
+          | inr first ↦
+              let start : 0 ≡ x = omega (arith, first) in
+              nil_from_length items (omega (arith, count, first)) ∙ ap (range_with_len 0) start
         ]
-      where
-        is_0 : x ≤ 0 → x ≡ 0
-        is_0 first = omega arith

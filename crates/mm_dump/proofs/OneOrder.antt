@@ -17,8 +17,10 @@ run_split s t (x ∷ xs) ys run =
     (rest.0, record { legal = (run.legal.0, rest.1.legal); leaves = rest.1.leaves }, rest.2)
 
 -- one call, by what the store answers to it
-one_call : (place : ℕ) (on off : Bool) (so : ℕ → List Entry → Type 0) (old new : PortView) (event : Event) (answer : Reply) → new ≡ with_call old place event answer
-    → ((s : State) → is_some s.retrieval ≡ on → answer ≡ (step s event).0 → (is_some (step s event).1.retrieval ≡ off) × so old.number (entry old.number event answer ∷ []))
+one_call : (place : ℕ) (on off : Bool) (so : ℕ → List Entry → Type 0) (old new : PortView) (event : Event) (answer : Reply)
+    → new ≡ with_call old place event answer
+    → ((s : State) → is_some s.retrieval ≡ on → answer ≡ (step s event).0
+    → (is_some (step s event).1.retrieval ≡ off) × so old.number (entry old.number event answer ∷ []))
     → HasCalled place on off so old new
 one_call place on off so old new event answer called answers = record {
   calls = entry old.number event answer ∷ [];
@@ -29,12 +31,16 @@ one_call place on off so old new event answer called answers = record {
 pub call_begin : (place : ℕ) (old new : PortView) (r : Result (Unit {0}) Fault) → new ≡ with_call old place (Begin 1 clock_end) (reply.Done r)
     → HasCalled place false true (λ seat calls. calls ≡ begun seat ∷ []) old new
 call_begin place old new r called =
-    one_call place false true _ old new _ _ called (λ s off answers. let both = begins s r off answers in (both.1.now, ap (λ x. entry old.number (Begin 1 clock_end) (reply.Done x) ∷ []) both.0))
+    one_call place false true _ old new _ _ called (λ s off answers.
+    let both = begins s r off answers in
+    (both.1.now, ap (λ x. entry old.number (Begin 1 clock_end) (reply.Done x) ∷ []) both.0))
 
 pub call_abort : (place : ℕ) (old new : PortView) (r : Result (Unit {0}) Fault) → new ≡ with_call old place Abort (reply.Done r)
     → HasCalled place true false (λ seat calls. calls ≡ aborted seat ∷ []) old new
 call_abort place old new r called =
-    one_call place true false _ old new _ _ called (λ s on answers. let both = aborts s r on answers in (both.1.now, ap (λ x. entry old.number Abort (reply.Done x) ∷ []) both.0))
+    one_call place true false _ old new _ _ called (λ s on answers.
+    let both = aborts s r on answers in
+    (both.1.now, ap (λ x. entry old.number Abort (reply.Done x) ∷ []) both.0))
 
 pub call_next : (place : ℕ) (old new : PortView) (next : Option Stored) → new ≡ with_call old place Next (reply.Given (Ok next))
     → HasCalled place true (is_some next) (λ seat calls. calls ≡ entry seat Next (reply.Given (Ok next)) ∷ []) old new
@@ -45,7 +51,8 @@ call_next place old new next called =
     (given.2.now ∙ ap is_some same, refl))
 
 -- a next is not refused in a retrieval
-pub call_refused : (place : ℕ) (so : ℕ → List Entry → Type 0) (old new : PortView) (fault : Fault) → new ≡ with_call old place Next (reply.Given (Err fault)) → HasCalled place true false so old new
+pub call_refused : (place : ℕ) (so : ℕ → List Entry → Type 0) (old new : PortView) (fault : Fault) → new ≡ with_call old place Next (reply.Given (Err fault))
+    → HasCalled place true false so old new
 call_refused place so old new fault called =
     one_call place true false so old new _ _ called (λ s on answers. let given = nexts s (Err fault) on answers in absurd (cc given.1))
 
@@ -65,7 +72,8 @@ no_call place on so old is = record {
 }
 
 -- calls and then others
-called_then : (place : ℕ) (on mid off : Bool) (one two so : ℕ → List Entry → Type 0) (a b c : PortView) → HasCalled place on mid one a b → HasCalled place mid off two b c
+called_then : (place : ℕ) (on mid off : Bool) (one two so : ℕ → List Entry → Type 0) (a b c : PortView) → HasCalled place on mid one a b
+    → HasCalled place mid off two b c
     → ((seat : ℕ) (xs ys : List Entry) → one seat xs → two seat ys → so seat (xs ++ ys)) → HasCalled place on off so a c
 called_then place on mid off one two so a b c went more turns =
     let there : Entry → ℕ × Entry = λ e. (place, e) in
@@ -73,7 +81,8 @@ called_then place on mid off one two so a b c went more turns =
       calls = went.calls ++ more.calls;
       port = more.port ∙ ap (λ (p : PortView). with_calls place p more.calls) went.port
           ∙ ap (λ (calls : List (ℕ × Entry)). record a { list = calls })
-            (append_assoc a.list (map there went.calls) (map there more.calls) ∙ ap (λ (calls : List (ℕ × Entry)). a.list ++ calls) (sym (map-append there went.calls more.calls)));
+          (append_assoc a.list (map there went.calls) (map there more.calls)
+          ∙ ap (λ (calls : List (ℕ × Entry)). a.list ++ calls) (sym (map-append there went.calls more.calls)));
       alone = λ s t is run.
           let cut = run_split s t went.calls more.calls run in
           let first = went.alone s cut.0 is cut.1 in
@@ -82,7 +91,8 @@ called_then place on mid off one two so a b c went more turns =
     }
 
 -- what holds of calls, from what is known of them
-called_as : (place : ℕ) (on off : Bool) (one so : ℕ → List Entry → Type 0) (a b : PortView) → HasCalled place on off one a b → ((seat : ℕ) (calls : List Entry) → one seat calls → so seat calls)
+called_as : (place : ℕ) (on off : Bool) (one so : ℕ → List Entry → Type 0) (a b : PortView) → HasCalled place on off one a b
+    → ((seat : ℕ) (calls : List Entry) → one seat calls → so seat calls)
     → HasCalled place on off so a b
 called_as place on off one so a b called turns = record {
   calls = called.calls;
@@ -92,16 +102,24 @@ called_as place on off one so a b called turns = record {
 
 module _ (store : OrderStore) (on off : Bool) (so : ℕ → List Entry → Type 0) (a b : Progress) where
   -- calls that send nothing
-  pub only_called : HasCalled store.place on off so a.port b.port → b.sent ≡ a.sent → b.failed ≡ a.failed → b.spent ≡ a.spent → HasGone store on off [] [] so a b
-  only_called called same failed spent = record { called = called; all = same ∙ sym (append-nil a.sent); failures = omega (arith, failed); blocks = omega (arith, spent) }
+  pub only_called : HasCalled store.place on off so a.port b.port → b.sent ≡ a.sent → b.failed ≡ a.failed → b.spent ≡ a.spent
+      → HasGone store on off [] [] so a b
+  only_called called same failed spent = record {
+    called = called;
+    all = same ∙ sym (append-nil a.sent);
+    failures = omega (arith, failed);
+    blocks = omega (arith, spent);
+  }
 
   -- a packet that was given and sent
-  pub packet_sent : (p : Stored) → HasCalled store.place on off so a.port b.port → b.sent ≡ a.sent ++ record { store = store.id; stored = p } ∷ [] → b.failed ≡ a.failed → b.spent ≡ a.spent + 1
+  pub packet_sent : (p : Stored) → HasCalled store.place on off so a.port b.port
+      → b.sent ≡ a.sent ++ record { store = store.id; stored = p } ∷ [] → b.failed ≡ a.failed → b.spent ≡ a.spent + 1
       → HasGone store on off (p ∷ []) [] so a b
   packet_sent p called all failed spent = record { called = called; all = all; failures = omega (arith, failed); blocks = omega (arith, spent) }
 
   -- a part of an order, and then another
-  gone_then : (mid : Bool) (ps qs us : List Stored) (one two : ℕ → List Entry → Type 0) (m : Progress) → HasGone store on mid ps [] one a m → HasGone store mid off qs us two m b
+  gone_then : (mid : Bool) (ps qs us : List Stored) (one two : ℕ → List Entry → Type 0) (m : Progress) → HasGone store on mid ps [] one a m
+      → HasGone store mid off qs us two m b
       → ((seat : ℕ) (xs ys : List Entry) → one seat xs → two seat ys → so seat (xs ++ ys)) → HasGone store on off (ps ++ qs) us so a b
   gone_then mid ps qs us one two m went more turns = record {
     called = called_then store.place on mid off one two so a.port m.port b.port went.called more.called turns;
@@ -112,8 +130,10 @@ module _ (store : OrderStore) (on off : Bool) (so : ℕ → List Entry → Type 
   }
 
   -- a part of an order, and then calls that send nothing
-  gone_called : (mid : Bool) (ps : List Stored) (one two : ℕ → List Entry → Type 0) (m : Progress) → HasGone store on mid ps [] one a m → HasCalled store.place mid off two m.port b.port
-      → b.sent ≡ m.sent → b.failed ≡ m.failed → b.spent ≡ m.spent → ((seat : ℕ) (xs ys : List Entry) → one seat xs → two seat ys → so seat (xs ++ ys)) → HasGone store on off ps [] so a b
+  gone_called : (mid : Bool) (ps : List Stored) (one two : ℕ → List Entry → Type 0) (m : Progress) → HasGone store on mid ps [] one a m
+      → HasCalled store.place mid off two m.port b.port
+      → b.sent ≡ m.sent → b.failed ≡ m.failed → b.spent ≡ m.spent → ((seat : ℕ) (xs ys : List Entry) → one seat xs → two seat ys → so seat (xs ++ ys))
+      → HasGone store on off ps [] so a b
   gone_called mid ps one two m went called same failed spent turns = record {
     called = called_then store.place on mid off one two so a.port m.port b.port went.called called turns;
     all = same ∙ went.all;
@@ -127,18 +147,21 @@ pub memory_lacks : (store : OrderStore) (a b : Progress) → HasCalled store.pla
 memory_lacks store a b aborts same failed spent = record {
   sent = [];
   unsent = [];
-  gone = only_called store true false _ a b (called_as store.place true false _ _ a.port b.port aborts (λ seat calls are. record { most = omega arith; last = refl; are = are })) same failed spent;
+  gone = only_called store true false _ a b
+      (called_as store.place true false _ _ a.port b.port aborts (λ seat calls are. record { most = omega arith; last = refl; are = are })) same failed spent;
 }
 
 -- a packet that was given and that the link did not take, after which the order was aborted
-pub packet_failed : (store : OrderStore) (p : Stored) (a b : Progress) (mid : PortView) → HasCalled store.place true true (λ seat calls. calls ≡ entry seat Next (reply.Given (Ok (Some p))) ∷ []) a.port mid
+pub packet_failed : (store : OrderStore) (p : Stored) (a b : Progress) (mid : PortView)
+    → HasCalled store.place true true (λ seat calls. calls ≡ entry seat Next (reply.Given (Ok (Some p))) ∷ []) a.port mid
     → HasCalled store.place true false (λ seat calls. calls ≡ aborted seat ∷ []) mid b.port → b.sent ≡ a.sent → b.failed ≡ a.failed + 1 → b.spent ≡ a.spent + 1
     → BreaksOff store 1 LinkFailed a b
 packet_failed store p a b mid given aborts all failed spent = record {
   sent = [];
   unsent = p ∷ [];
   gone = record {
-    called = called_then store.place true true false _ _ _ a.port mid b.port given aborts (λ seat xs ys one two. record { most = omega arith; last = refl; are = λ i. one i ++ two i });
+    called = called_then store.place true true false _ _ _ a.port mid b.port given aborts
+        (λ seat xs ys one two. record { most = omega arith; last = refl; are = λ i. one i ++ two i });
     all = all ∙ sym (append-nil a.sent);
     failures = omega (arith, failed);
     blocks = omega (arith, spent);
@@ -168,17 +191,20 @@ pub record SentSoFar (store : OrderStore) (many : ℕ) (last : Option ℕ) (a b 
 -- at the start none was given
 pub none_so_far : (store : OrderStore) (a : Progress) → SentSoFar store 0 None a a
 none_so_far store a =
-    record { sent = []; count = refl; last_is = refl; gone = only_called store true true _ a a (no_call store.place true (λ seat calls. calls ≡ []) a.port refl) refl refl refl }
+    let called = no_call store.place true (λ seat calls. calls ≡ []) a.port refl in
+    record { sent = []; count = refl; last_is = refl; gone = only_called store true true _ a a called refl refl refl }
 
 module _ (store : OrderStore) (many : ℕ) (last : Option ℕ) (a b : Progress) (so_far : SentSoFar store many last a b) where
   -- a packet more
-  pub so_far_more : (c : Progress) (p : Stored) → HasGone store true true (p ∷ []) [] (λ seat calls. calls ≡ entry seat Next (reply.Given (Ok (Some p))) ∷ []) b c
+  pub so_far_more : (c : Progress) (p : Stored)
+      → HasGone store true true (p ∷ []) [] (λ seat calls. calls ≡ entry seat Next (reply.Given (Ok (Some p))) ∷ []) b c
       → SentSoFar store (many + 1) (Some p.time) a c
   so_far_more c p next = record {
     sent = so_far.sent ++ p ∷ [];
     count = omega (arith, so_far.count, length-append so_far.sent (p ∷ []));
     last_is = sym (last_of_more so_far.sent p);
-    gone = gone_then store true true _ a c true so_far.sent (p ∷ []) [] _ _ b so_far.gone next (λ seat xs ys one two. (λ i. one i ++ two i) ∙ sym (given_more seat so_far.sent (p ∷ [])));
+    gone = gone_then store true true _ a c true so_far.sent (p ∷ []) [] _ _ b so_far.gone next
+        (λ seat xs ys one two. (λ i. one i ++ two i) ∙ sym (given_more seat so_far.sent (p ∷ [])));
   }
 
   -- the order broke
@@ -199,7 +225,8 @@ module _ (store : OrderStore) (many : ℕ) (last : Option ℕ) (a b : Progress) 
       }
 
   -- the retrieval came to its end
-  pub so_far_over : (c : Progress) (wanted : ℕ) → many < wanted → HasGone store true false [] [] (λ seat calls. calls ≡ entry seat Next (reply.Given (Ok None)) ∷ []) b c → SentAll store wanted last a c
+  pub so_far_over : (c : Progress) (wanted : ℕ) → many < wanted
+      → HasGone store true false [] [] (λ seat calls. calls ≡ entry seat Next (reply.Given (Ok None)) ∷ []) b c → SentAll store wanted last a c
   so_far_over c wanted fewer next =
       let few : length so_far.sent < wanted = omega (arith, fewer, so_far.count) in
       let all : c.sent ≡ b.sent = next.all ∙ append-nil b.sent in
@@ -208,17 +235,20 @@ module _ (store : OrderStore) (many : ℕ) (last : Option ℕ) (a b : Progress) 
         most = omega (arith, few);
         last_is = so_far.last_is;
         gone = rw (lt-ltb (length so_far.sent) wanted few)
-            (gone_called store true false _ a c true so_far.sent _ _ b so_far.gone next.called all (omega (arith, next.failures)) (omega (arith, next.blocks)) (λ seat xs ys one two i. one i ++ two i));
+            (gone_called store true false _ a c true so_far.sent _ _ b so_far.gone next.called all (omega (arith, next.failures)) (omega (arith, next.blocks))
+            (λ seat xs ys one two i. one i ++ two i));
       }
 
   -- all that were wanted were given, and the retrieval was aborted
-  pub so_far_all : (port : PortView) (wanted : ℕ) → many ≡ wanted → HasCalled store.place true false (λ seat calls. calls ≡ aborted seat ∷ []) b.port port → SentAll store wanted last a (record b { port = port })
+  pub so_far_all : (port : PortView) (wanted : ℕ) → many ≡ wanted → HasCalled store.place true false (λ seat calls. calls ≡ aborted seat ∷ []) b.port port
+      → SentAll store wanted last a (record b { port = port })
   so_far_all port wanted all aborts = record {
     sent = so_far.sent;
     most = omega (arith, so_far.count, all);
     last_is = so_far.last_is;
     gone = rw (le-ltb (length so_far.sent) wanted (omega (arith, so_far.count, all)))
-        (gone_called store true false _ a (record b { port = port }) true so_far.sent _ _ b so_far.gone aborts refl refl refl (λ seat xs ys one two i. one i ++ two i));
+        (gone_called store true false _ a (record b { port = port }) true so_far.sent _ _ b so_far.gone aborts refl refl refl
+        (λ seat xs ys one two i. one i ++ two i));
   }
 
 -- which deletion was made

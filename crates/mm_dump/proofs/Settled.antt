@@ -73,11 +73,14 @@ pub record HaveEnded (orders : List Order) (links : ℕ) (all : List Course) (be
 
 module _ {L : Type 0} (sent : L → List Sent) (failed : L → ℕ) (ids : List (List ℕ)) where
   -- each link has sent what it had sent before
-  all_kept : (all_taken : Type 0) (lines : List (Line L)) → All (IsLine sent failed ids all_taken) lines → AllKept sent failed (map (λ l. l.old) lines) (map (λ l. l.new) lines)
+  all_kept : (all_taken : Type 0) (lines : List (Line L)) → All (IsLine sent failed ids all_taken) lines
+      → AllKept sent failed (map (λ l. l.old) lines) (map (λ l. l.new) lines)
   all_kept all_taken [] each = tt
   all_kept all_taken (l ∷ lines) each =
-      let is = All-head (IsLine sent failed ids all_taken) l lines each in
-      (record { more = sent_by ids l.courses; all = is.all; failures = omega (arith, is.failures) }, all_kept all_taken lines (All-tail (IsLine sent failed ids all_taken) l lines each))
+      let is = All-head (IsLine sent failed ids all_taken) l lines each in (
+        record { more = sent_by ids l.courses; all = is.all; failures = omega (arith, is.failures) },
+        all_kept all_taken lines (All-tail (IsLine sent failed ids all_taken) l lines each),
+      )
 
   -- the places of the orders of a link
   abbrev spots : Line L → List ℕ
@@ -111,7 +114,8 @@ module _ {L : Type 0} (sent : L → List Sent) (failed : L → ℕ) (ids : List 
         let rest = took_same cs (All-tail (λ (c : Course). course c.order.place ≡ c) c cs at) in
         λ i. first i ++ rest i
 
-  module _ (orders : List Order) (stores : List Held) (links : List L) (may : MayDump failed orders stores links) (lines : List (Line L)) (some : 0 < length lines) (after : List State) (same : length after ≡ length stores)
+  module _ (orders : List Order) (stores : List Held) (links : List L) (may : MayDump failed orders stores links)
+      (lines : List (Line L)) (some : 0 < length lines) (after : List State) (same : length after ≡ length stores)
       (h : HaveEnded orders (length lines) (all_of lines) (states_of stores) after) (each : All (IsLine sent failed ids (length orders ≤ h.next)) lines) where
     abbrev before : List State
     before = states_of stores
@@ -143,7 +147,8 @@ module _ {L : Type 0} (sent : L → List Sent) (failed : L → ℕ) (ids : List 
     full : worst_of (map (λ l. l.why) lines) ≡ None → length orders ≤ h.next
     full none =
         let inside : 0 < length (map (λ (l : Line L). l.why) lines) = omega (arith, some, length-map lines (λ (l : Line L). l.why)) in
-        left 0 None inside (All-map (λ (why : Option OrderBroken). why ≡ None) (λ (l : Line L). l.why) lines (none_broke (λ (l : Line L). l.why) lines none) 0 None inside)
+        let each_none = All-map (λ (why : Option OrderBroken). why ≡ None) (λ (l : Line L). l.why) lines (none_broke (λ (l : Line L). l.why) lines none) in
+        left 0 None inside (each_none 0 None inside)
 
     -- how often a place stands among those of the links
     taken_is : (p : ℕ) → sum_by (times p) places ≡ length (here p all)
@@ -281,7 +286,10 @@ module _ {L : Type 0} (sent : L → List Sent) (failed : L → ℕ) (ids : List 
           arith,
           sum_by-le_each (λ l. l.spent) (λ l. sum_by (λ (c : Course). c.order.amount) l.courses) lines (λ i d inside.
               let is = each i d inside in
-              omega (arith, is.blocks, sum_by-le_each (λ (c : Course). length c.sent + length c.unsent) (λ c. c.order.amount) (get_or lines i d).courses (λ j e within. course_few (get_or (get_or lines i d).courses j e) (all_flat IsCourse (λ l. l.courses) lines known i d inside j e within)))),
+              let cs : List Course = (get_or lines i d).courses in
+              let few : All (λ (c : Course). length c.sent + length c.unsent ≤ c.order.amount) cs =
+              λ j e within. course_few (get_or cs j e) (all_flat IsCourse (λ l. l.courses) lines known i d inside j e within) in
+              omega (arith, is.blocks, sum_by-le_each (λ (c : Course). length c.sent + length c.unsent) (λ c. c.order.amount) cs few)),
           sum_by-flat_map (λ (c : Course). c.order.amount) (λ (l : Line L). l.courses) lines,
           h.weigh (λ (o : Order). o.amount),
           sum_by-take-le (λ (o : Order). o.amount) orders h.next,

@@ -21,9 +21,8 @@ pub use Rattle.mm_dump.specs.OrderSteps.{Progress, OrderCarriedOut, course_of, O
 pub use Rattle.mm_dump.specs.OrderSteps.{deletion, progress, order_store}
 pub use Rattle.mm_dump.specs.Queue.{queue_view, Knows, AreTakenOnce, TakesNext, Tells}
 pub use Rattle.mm_dump.specs.Sending.{Sent, all_sent}
-pub use Rattle.mm_dump.specs.Steps.{IsHired, IsBack, AreBack}
-pub use Rattle.mm_dump.specs.Workers.{IsTried, order_at, has_order, past_of, Worked, AllWorked, AreReady, HasWorked, IsNewPort, Work, AreTried, calls_of}
-pub use Rattle.mm_dump.specs.Workers.{causes_of}
+pub use Rattle.mm_dump.specs.Workers.{IsTried, order_at, has_order, past_of, Worked, IsHired, IsBack, AllWorked, AreReady, HasWorked, IsNewPort, Work, AreTried}
+pub use Rattle.mm_dump.specs.Workers.{calls_of, causes_of, HasAllParts, AreBack}
 pub use Rattle.mm_dump.specs.declared.dumper.DumpWorker.{DumpWorker}
 pub use Rattle.mm_dump.specs.declared.order.Order.{Order}
 pub use Rattle.mm_dump.specs.declared.order.OrderBroken.{OrderBroken}

@@ -6,7 +6,8 @@ use Rattle.mm_dump.proofs.Words.{course_of, Sent, all_sent, IsTried, order_at, h
 use Rattle.mm_dump.proofs.Courses.{worst-push, none_broke}
 
 -- at the start no order was taken
-pub worked_start : (ids : List (List ℕ)) (orders : List Order) (taken : List ℕ) (a b : Progress) → taken ≡ [] → b.port ≡ a.port → b.sent ≡ a.sent → b.failed ≡ a.failed → b.spent ≡ a.spent
+pub worked_start : (ids : List (List ℕ)) (orders : List Order) (taken : List ℕ) (a b : Progress) → taken ≡ [] → b.port ≡ a.port → b.sent ≡ a.sent
+    → b.failed ≡ a.failed → b.spent ≡ a.spent
     → Worked ids orders taken 0 None a b []
 worked_start ids orders taken a b none port sent failed spent = record {
   of = ap (λ (ks : List ℕ). map (order_at orders) (filter (has_order orders) ks)) (sym none);
@@ -20,7 +21,8 @@ worked_start ids orders taken a b none port sent failed spent = record {
   };
 }
 
-module _ (ids : List (List ℕ)) (orders : List Order) (taken all : List ℕ) (number : ℕ) (a b : Progress) (courses : List Course) (more : all ≡ taken ++ number ∷ [])
+module _ (ids : List (List ℕ)) (orders : List Order) (taken all : List ℕ) (number : ℕ) (a b : Progress) (courses : List Course)
+    (more : all ≡ taken ++ number ∷ [])
     (worked : Worked ids orders taken 0 None a b courses) where
   -- the numbers of orders among those taken
   numbers : (t : Bool) → has_order orders number ≡ t → filter (has_order orders) all ≡ filter (has_order orders) taken ++ cond t (number ∷ []) []
@@ -41,7 +43,8 @@ module _ (ids : List (List ℕ)) (orders : List Order) (taken all : List ℕ) (n
   }
 
   -- one order more, which broke for this cause, where there is one
-  pub worked_more : (order : Order) (why : Option OrderBroken) (c : Progress) → number < length orders → order ≡ order_at orders number → OrderCarriedOut ids order why b c
+  pub worked_more : (order : Order) (why : Option OrderBroken) (c : Progress) → number < length orders → order ≡ order_at orders number
+      → OrderCarriedOut ids order why b c
       → (courses : List Course) × Worked ids orders all 0 why a c courses
   worked_more order why c inside at carried =
       let went = carried.gone in
@@ -49,18 +52,23 @@ module _ (ids : List (List ℕ)) (orders : List Order) (taken all : List ℕ) (n
         courses ++ course ∷ [],
         record {
           of = map-append (λ (d : Course). d.order) courses (course ∷ []) ∙ (λ i. worked.of i ++ at i ∷ [])
-              ∙ sym (ap (map (order_at orders)) (numbers true (lt-ltb number (length orders) inside)) ∙ map-append (order_at orders) (filter (has_order orders) taken) (number ∷ []));
+              ∙ sym (ap (map (order_at orders)) (numbers true (lt-ltb number (length orders) inside))
+              ∙ map-append (order_at orders) (filter (has_order orders) taken) (number ∷ []));
           count = omega (arith, count_more, worked.count, length-append courses (course ∷ []));
           are = record {
             each = All-push IsTried courses course worked.are.each (record { alone = λ s t idle run. (went.called.alone s t idle run).1 });
             early = λ i d within.
                 let before : i < length courses = omega (arith, within, length-append courses (course ∷ [])) in
-                ap (λ (d : Course). d.why) (get_or_append_left courses (course ∷ []) d i before) ∙ none_broke (λ (d : Course). d.why) courses worked.are.cause i d before;
-            cause = ap worst_of (map-append (λ (d : Course). d.why) courses (course ∷ [])) ∙ worst-push (map (λ (d : Course). d.why) courses) why ∙ ap (λ (worst : Option OrderBroken). worse worst why) worked.are.cause;
+                ap (λ (d : Course). d.why) (get_or_append_left courses (course ∷ []) d i before)
+                ∙ none_broke (λ (d : Course). d.why) courses worked.are.cause i d before;
+            cause = ap worst_of (map-append (λ (d : Course). d.why) courses (course ∷ []))
+                ∙ worst-push (map (λ (d : Course). d.why) courses) why ∙ ap (λ (worst : Option OrderBroken). worse worst why) worked.are.cause;
           };
           shown = record {
-            port = went.called.port ∙ (λ i. record (worked.shown.port i) { list = (worked.shown.port i).list ++ map (λ (e : Entry). (order.place, e)) went.called.calls })
-                ∙ ap (λ (calls : List (ℕ × Entry)). record a.port { list = calls }) (flat_map_more (λ (d : Course). map (λ (e : Entry). (d.order.place, e)) d.calls) a.port.list courses course);
+            port = went.called.port
+                ∙ (λ i. record (worked.shown.port i) { list = (worked.shown.port i).list ++ map (λ (e : Entry). (order.place, e)) went.called.calls })
+                ∙ ap (λ (calls : List (ℕ × Entry)). record a.port { list = calls })
+                (flat_map_more (λ (d : Course). map (λ (e : Entry). (d.order.place, e)) d.calls) a.port.list courses course);
             all = went.all ∙ ap (λ (xs : List Sent). xs ++ all_sent (id_at ids order.place) carried.sent) worked.shown.all
                 ∙ flat_map_more (λ (d : Course). all_sent (id_at ids d.order.place) d.sent) a.sent courses course;
             failures = omega (arith, went.failures, worked.shown.failures, sum_by_push (λ (d : Course). length d.unsent) courses course);

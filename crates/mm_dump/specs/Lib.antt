@@ -6,5 +6,4 @@ pub mod Queue
 pub mod OrderSteps
 pub mod Courses
 pub mod Dumped
-pub mod Steps
 pub mod Workers

@@ -95,4 +95,5 @@ course_of order why sent unsent seat calls = record { order = order; seat = seat
 pub record OrderCarriedOut (ids : List (List ℕ)) (order : Order) (why : Option OrderBroken) (a b : Progress) : Type 0 where
   pub sent : List Stored
   pub unsent : List Stored
-  pub gone : HasGone (order_store order.place (id_at ids order.place)) false false sent unsent (λ seat calls. IsCourse (course_of order why sent unsent seat calls)) a b
+  pub gone : HasGone (order_store order.place (id_at ids order.place)) false false sent unsent
+      (λ seat calls. IsCourse (course_of order why sent unsent seat calls)) a b

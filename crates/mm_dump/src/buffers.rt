@@ -1,7 +1,7 @@
 //! What the dumps of a run use beside stores and links: reserved once, and used again in each step.
 ghost use Rattle.std.specs.Prelude.{◌≡◌, ◌<◌, [], All, vec_capacity};
 ghost use Rattle.crossbeam_queue.specs.Passes.{view, IsPassOf};
-ghost use Rattle.mm_dump.specs.Steps.{MayHire, AreHired, IsBack, AreBack};
+ghost use Rattle.mm_dump.specs.Workers.{MayHire, AreHired, IsBack, AreBack};
 
 use crate::dumper::DumpWorker;
 use crate::queue::{OrderPass, OrderQueue, SplitOne, new_queue, push_all};
@@ -26,13 +26,13 @@ impl Model for DumpBuffers {
     ghost use Rattle.crossbeam_queue.specs.Passes.{ruled_capacity};
     ghost use Rattle.mm_base.specs.declared.limits.TheConstants.{MAX_STORES};
     ghost use Rattle.mm_desk.specs.declared.desk.TheConstants.{MAX_SEATS};
-    ghost use Rattle.mm_dump.specs.Steps.{IsWhole};
+    ghost use Rattle.mm_dump.specs.Workers.{HasAllParts};
 
     ghost Value = { Unit {0} };
 
     ghost view = { λ _. tt };
 
-    ghost invariant = { λ b. IsWhole b.queue b.pass × (b.workers.items ≡ [])
+    ghost invariant = { λ b. HasAllParts b.queue b.pass × (b.workers.items ≡ [])
         × (MAX_STORES + MAX_SEATS ≤ ruled_capacity b.queue) × (MAX_SEATS ≤ vec_capacity b.workers) };
 }
 

@@ -50,7 +50,8 @@ fn abort<R: Wait>(context: &OrderContext<'_, R>, port: &mut Port)
 }
 
 // Sends the packets of a retrieval, this many or as many as there are, and ends it. A block of the window is spent for each. Gives the time
-// of the last one, where one was sent. Where memory for a copy lacks, or the link does not take a packet, the retrieval is aborted.
+// of the last one, where one was sent. Where memory for a copy lacks, or the link does not take a packet, the retrieval is aborted. A refused
+// call, which never comes, is told as out of memory.
 fn send_all<L: Link, R: Wait>(
     context: &OrderContext<'_, R>,
     port: &mut Port,

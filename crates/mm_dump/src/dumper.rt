@@ -5,8 +5,7 @@ ghost use Rattle.crossbeam_queue.specs.Passes.{view};
 ghost use Rattle.mm_shared.specs.Stores.{ids_of};
 ghost use Rattle.mm_dump.specs.OrderSteps.{progress};
 ghost use Rattle.mm_dump.specs.Courses.{Course};
-ghost use Rattle.mm_dump.specs.Steps.{IsHired, IsBack};
-ghost use Rattle.mm_dump.specs.Workers.{OrdersFit, past_of, Worked, IsNewPort, AreReady, AllWorked};
+ghost use Rattle.mm_dump.specs.Workers.{IsHired, IsBack, OrdersFit, past_of, Worked, IsNewPort, AreReady, AllWorked};
 
 use crate::carrying::carry;
 use crate::link::Link;
@@ -49,8 +48,8 @@ fn work<L: Link, R: Wait>(
     requires hired { IsHired context.now.queue.now worker.old }
     requires room { L.failed link.old < 2 ^ 64 - 1 }
     ensures back { IsBack context.now.queue.now worker.new }
-    ensures worked { (courses : List Course) × Worked (ids_of context.now.labels.now) context.now.orders.now (view worker.new.pass).taken (past_of result) result
-        (progress L.sent L.failed port.old link.old 0) (progress L.sent L.failed port.new link.new worker.new.spent) courses }
+    ensures worked { (courses : List Course) × Worked (ids_of context.now.labels.now) context.now.orders.now (view worker.new.pass).taken (past_of result)
+        result (progress L.sent L.failed port.old link.old 0) (progress L.sent L.failed port.new link.new worker.new.spent) courses }
 {
     for _ in context.rt.forever() {
         let number = take_next(context.rt, context.queue, &mut worker.pass) as usize;

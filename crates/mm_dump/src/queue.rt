@@ -4,7 +4,7 @@
 ghost use Rattle.std.specs.Prelude.{◌≡◌, ℕ, ◌+◌, ◌<◌, ◌≤◌, List, [], ◌∷◌, ◌++◌, length, IfOk};
 ghost use Rattle.crossbeam_queue.specs.Passes.{view, IsPassOf, ruled_capacity};
 ghost use Rattle.mm_dump.specs.Queue.{queue_view, Tells};
-ghost use Rattle.mm_dump.specs.Steps.{IsWhole};
+ghost use Rattle.mm_dump.specs.Workers.{HasAllParts};
 
 use crossbeam_queue::protocol::{Join, Lesson, Outcome, Protocol, Split};
 use crossbeam_queue::{Pass, RuledArrayQueue};
@@ -95,15 +95,15 @@ pub(crate) type OrderPass = Pass<u32, QueueView>;
 pub(crate) fn new_queue(alloc: Global, numbers: u32) -> Result<(OrderQueue, OrderPass), NoMemory>
     requires some { 1 ≤ numbers }
     ensures room { IfOk result (λ made. numbers ≤ ruled_capacity made.0) }
-    ensures whole { IfOk result (λ made. IsWhole made.0 made.1) }
+    ensures whole { IfOk result (λ made. HasAllParts made.0 made.1) }
 {
     Ok(OrderQueue::ruled(alloc, numbers as usize)?)
 }
 
 // Takes the numbers that the last step left.
 fn drain<R: Wait>(rt: &R, queue: &OrderQueue, pass: &mut OrderPass)
-    requires whole { IsWhole queue.now pass.old }
-    ensures whole { IsWhole queue.now pass.new }
+    requires whole { HasAllParts queue.now pass.old }
+    ensures whole { HasAllParts queue.now pass.new }
     ensures all { length (view pass.new).taken ≡ (view pass.new).pushed }
 {
     while queue.pop_as::<TakeNext, R>(rt, pass).is_some() {}
@@ -111,7 +111,7 @@ fn drain<R: Wait>(rt: &R, queue: &OrderQueue, pass: &mut OrderPass)
 
 // Queues the numbers from 0 on, and no others.
 pub(crate) fn push_all<R: Wait>(rt: &R, queue: &OrderQueue, pass: &mut OrderPass, numbers: u32)
-    requires whole { IsWhole queue.now pass.old }
+    requires whole { HasAllParts queue.now pass.old }
     requires some { 1 ≤ numbers }
     requires room { numbers ≤ ruled_capacity queue.now }
     ensures pass { IsPassOf queue.now pass.new }

@@ -17,5 +17,6 @@ returns-clause-carried g c =
     record {
       sent = c.in-Ok.ensures.ok.sent;
       unsent = [];
-      gone = rw named (whole _ c.args.order _ _ _ (only_called _ _ _ _ _ _ c.begin.ensures.called refl refl refl) _ _ c.in-Ok.ensures.ok c.delete_sent.ensures.called);
+      gone = rw named (whole _ c.args.order _ _ _ (only_called _ _ _ _ _ _ c.begin.ensures.called refl refl refl) _ _
+          c.in-Ok.ensures.ok c.delete_sent.ensures.called);
     }

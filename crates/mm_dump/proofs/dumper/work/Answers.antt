@@ -45,7 +45,8 @@ pub returns-then-is_some-clause-worked : goal.returns-then-is_some-clause-worked
 returns-then-is_some-clause-worked g c =
     let more = ap (λ (v : QueueView). v.taken) c.take_next-number.ensures.taken in
     let stopped : is_some c.carry-broken.result ≡ true = search rules in
-    let worked = worked_more (ids_of c.args.context.now.labels.now) _ _ _ _ _ _ _ more c.loop.invariant.worked.1 _ _ _ c.if-number-context.false refl c.carry-broken.ensures.carried in
+    let worked = worked_more (ids_of c.args.context.now.labels.now) _ _ _ _ _ _ _ more c.loop.invariant.worked.1 _ _ _
+    c.if-number-context.false refl c.carry-broken.ensures.carried in
     (worked.0, worked_stopped (ids_of c.args.context.now.labels.now) _ _ c.carry-broken.result _ _ _ stopped worked.1)
 
 pub loop-preserved : goal.loop-preserved
@@ -61,5 +62,6 @@ loop-preserved g c =
       pushed = ap (λ (v : QueueView). v.pushed) c.take_next-number.ensures.taken ∙ c.loop.invariant.pushed;
       spent = omega (arith, spent, c.loop.invariant.spent, ap (λ (v : QueueView). length v.taken) c.take_next-number.ensures.taken, length-append (view c.loop.worker.pass).taken (c.take_next-number.result ∷ []));
       well = search rules;
-      worked = worked_more (ids_of c.args.context.now.labels.now) _ _ _ _ _ _ _ more c.loop.invariant.worked.1 _ None _ c.if-number-context.false refl (rw none at c.carry-broken.ensures.carried);
+      worked = worked_more (ids_of c.args.context.now.labels.now) _ _ _ _ _ _ _ more c.loop.invariant.worked.1 _ None _
+          c.if-number-context.false refl (rw none at c.carry-broken.ensures.carried);
     }
