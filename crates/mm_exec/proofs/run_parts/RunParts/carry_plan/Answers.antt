@@ -26,18 +26,6 @@ returns-in-Err-clause-stopped g c =
     (inl (start_by (λ o. Stops o c.in-Err.cause) run.problem.now run.plan.now run.base c.as_slice-stores.ensures.value (omega (arith, c.len-many_sources.ensures, parts.sources.ok.0))
     (omega (arith, c.len-many_links.ensures, parts.links.ok.0)) c.in-Err.ensures.err))
 
-pub returns-in_default-reserve_run-clause-stopped : goal.returns-in_default-reserve_run-clause-stopped
-returns-in_default-reserve_run-clause-stopped g c =
-    let run = c.args.run.now in
-    let parts = c.args.self.now in
-    let ended = c.never_began-in_default-reserve_run in
-    not_begun _ _ g.L.Link.sent g.L.Link.failed run (state_of parts) ended.result ended.ensures.broken ended.ensures.report
-    (inr (
-      refl,
-      start_by MayBegin run.problem.now run.plan.now run.base c.as_slice-stores.ensures.value (omega (arith, c.len-many_sources.ensures, parts.sources.ok.0))
-          (omega (arith, c.len-many_links.ensures, parts.links.ok.0)) c.in_default.ensures.ok,
-    ))
-
 pub returns-in_default-open_all-clause-stopped : goal.returns-in_default-open_all-clause-stopped
 returns-in_default-open_all-clause-stopped g c =
     let run = c.args.run.now in
@@ -54,42 +42,58 @@ returns-in_default-open_all-clause-stopped g c =
           (omega (arith, c.len-many_links.ensures, parts.links.ok.0)) c.in_default.ensures.ok,
     )))
 
+pub returns-in_default-reserve_run-clause-stopped : goal.returns-in_default-reserve_run-clause-stopped
+returns-in_default-reserve_run-clause-stopped g c =
+    let run = c.args.run.now in
+    let parts = c.args.self.now in
+    let first = state_of parts in
+    let ended = c.never_began-in_default-reserve_run in
+    subst (λ (stores : List Held). let after = run_state g stores parts.sources.items parts.links.items in
+    InRun g.S.AnySource.leads g.S.AnySource.until first after
+    (λ begun now. IsStopped g.L.Link.sent g.L.Link.failed (given_to run begun) run.plan.now first after now.sources ended.result)) (sym (c.close_all.ensures.stores ∙ c.in-Ok.ensures.opened.1))
+    (not_begun _ _ g.L.Link.sent g.L.Link.failed run first ended.result ended.ensures.broken ended.ensures.report
+    (inr (
+      refl,
+      start_by MayBegin run.problem.now run.plan.now run.base c.as_slice-stores.ensures.value (omega (arith, c.len-many_sources.ensures, parts.sources.ok.0))
+          (omega (arith, c.len-many_links.ensures, parts.links.ok.0)) c.in_default.ensures.ok,
+    )))
+
 pub carry_steps-ended-requires-clause-may : goal.carry_steps-ended-requires-clause-may
 carry_steps-ended-requires-clause-may g c κs within =
     let run = c.args.run.now in
     let parts = c.args.self.now in
-    let opened = c.in-Ok-open_all.ensures.opened.1 in
+    let opened = c.in-Ok.ensures.opened.1 in
     let stores = ap stores_in c.read_states.ensures.same ∙ opened in
     let sources = ap (λ (v : Vec g.row.S.Denot Global). v.items) c.replace.ensures.value in
     let links = ap (λ (v : Vec g.row.L.Denot Global). v.items) c.replace-2.ensures.value in
-    subst (λ (s : RunState g.row.S.Denot g.row.L.Denot). MayRun g.L.Link.failed run c.in-Ok.buffers s) (λ i. record { stores = sym stores i; sources = sym sources i; links = sym links i })
+    subst (λ (s : RunState g.row.S.Denot g.row.L.Denot). MayRun g.L.Link.failed run c.in-Ok-reserve_run.buffers s) (λ i. record { stores = sym stores i; sources = sym sources i; links = sym links i })
     (record {
       begins = start_by MayBegin run.problem.now run.plan.now run.base c.as_slice-stores.ensures.value (omega (arith, c.len-many_sources.ensures, parts.sources.ok.0))
           (omega (arith, c.len-many_links.ensures, parts.links.ok.0)) c.in_default.ensures.ok;
       held = c.requires.held;
       sound = subst (All (λ (h : Held). IsState h.state)) opened c.read_states.ensures.sound;
       links = c.requires.links;
-      report = c.in-Ok.ensures.report;
-      orders = c.in-Ok.ensures.orders;
+      report = c.in-Ok-reserve_run.ensures.report;
+      orders = c.in-Ok-reserve_run.ensures.orders;
     })
 
 -- the run whose stores were opened is the one that was given
 begun_is : (g : given.Over) (c : goal.After-drop-self-2 g) → run_state g (stores_in c.read_states.new.opened) c.replace.result.items c.replace-2.result.items ≡ state_of c.args.self.now
 begun_is g c =
-    let stores = ap stores_in c.read_states.ensures.same ∙ c.in-Ok-open_all.ensures.opened.1 in
+    let stores = ap stores_in c.read_states.ensures.same ∙ c.in-Ok.ensures.opened.1 in
     let sources = ap (λ (v : Vec g.row.S.Denot Global). v.items) c.replace.ensures.value in
     let links = ap (λ (v : Vec g.row.L.Denot Global). v.items) c.replace-2.ensures.value in
     λ i. record { stores = stores i; sources = sources i; links = links i }
 
 -- what its steps left is left
 left_is : (g : given.Over) (c : goal.After-drop-self-2 g)
-    → run_state g c.close_all.new.stores.items c.open.inside.sources.items c.open.inside.links.items ≡ c.carry_steps-ended.new.self
-left_is g c = ap (λ (stores : List Held). run_state g stores c.open.inside.sources.items c.open.inside.links.items) c.close_all.ensures.stores ∙ c.open.view_is
+    → run_state g c.close_all-2.new.stores.items c.open.inside.sources.items c.open.inside.links.items ≡ c.carry_steps-ended.new.self
+left_is g c = ap (λ (stores : List Held). run_state g stores c.open.inside.sources.items c.open.inside.links.items) c.close_all-2.ensures.stores ∙ c.open.view_is
 
 -- so what holds of the steps holds of the run
 of_run : (g : given.Over) (c : goal.After-drop-self-2 g) (P : RunState g.row.S.Denot g.row.L.Denot → RunState g.row.S.Denot g.row.L.Denot → Type 0)
     → P (run_state g (stores_in c.read_states.new.opened) c.replace.result.items c.replace-2.result.items) c.carry_steps-ended.new.self
-    → P (state_of c.args.self.now) (run_state g c.close_all.new.stores.items c.open.inside.sources.items c.open.inside.links.items)
+    → P (state_of c.args.self.now) (run_state g c.close_all-2.new.stores.items c.open.inside.sources.items c.open.inside.links.items)
 of_run g c P holds =
     subst (P (state_of c.args.self.now)) (sym (left_is g c))
     (subst (λ (s : RunState g.row.S.Denot g.row.L.Denot). P s c.carry_steps-ended.new.self) (begun_is g c) holds)
