@@ -1,6 +1,6 @@
 -- The parts of a step, and the first offers of what sources give.
 use Rattle.std.proofs.Common.{◌≡◌, inl, inr, ℕ, suc, ◌<◌, List, [], ◌∷◌, ◌++◌, length, map, All, refl, sym, ap, subst, ◌∙◌, arith, append_assoc}
-use Rattle.std.specs.Prelude.{Option, Some, None, Result, Ok, Err, OnOk, IfErr, IfNone, IfSome}
+use Rattle.std.specs.Prelude.{Option, Some, None, IfNone, IfSome}
 use Rattle.std.specs.List.{AllZip}
 use Rattle.std.proofs.lemmas.List.{length-map, append-nil}
 use Rattle.std.proofs.lemmas.Option.{same_Some}
@@ -30,11 +30,6 @@ use Rattle.mm_exec.specs.Step.{StepRecorded, StepDumped, StepDone, KeepsRest, Is
 use Rattle.mm_desk.specs.declared.event.Event.{Event}
 use Rattle.mm_record.proofs.Offers.{offers_more}
 use Rattle.mm_exec.specs.Halts.{AreFirstOffers}
-
--- what follows in either case
-pub both_follow : {A E : Type 0} (P Q : Type 0) (R : E → Type 0) (r : Result A E) → OnOk r P → IfErr r R → (P → Q) → ((e : E) → R e → Q) → Q
-both_follow P Q R (Ok x) p e first second = first p
-both_follow P Q R (Err e) p r first second = second e r
 
 -- stores with the same labels have the same identifiers
 pub same_ids : (xs ys : List Held) → labels_of xs ≡ labels_of ys → map (λ (h : Held). h.id) xs ≡ map (λ (h : Held). h.id) ys

@@ -18,6 +18,7 @@ use Rattle.mm_plan.specs.Fit.{FitsAt}
 use Rattle.mm_plan.specs.Table.{amount}
 use Rattle.mm_desk.specs.declared.held.Held.{Held}
 use Rattle.mm_desk.specs.declared.state.Retrieval.{Retrieval}
+use Rattle.mm_desk.specs.Laws.{OrdersDumpTheOldest}
 use Rattle.mm_desk.specs.Machine.{State, IsState}
 use Rattle.mm_desk.specs.Runs.{opening_at, blank}
 use Rattle.mm_shared.specs.Stores.{labels_of, states_of}
@@ -56,7 +57,7 @@ use Rattle.mm_exec.proofs.Ordered.{named_once, may_order, wanted_in_all, orders_
 use Rattle.mm_exec.proofs.StepMore.{Footing, all_same, done_on}
 use Rattle.mm_exec.proofs.Parts.{as_many, as_many_sources, stopped_of}
 use Rattle.mm_exec.proofs.Placing.{no_held, places_differ}
-use Rattle.mm_exec.proofs.StoresReady.{AllFar, state_holds, far_after, takes_all}
+use Rattle.mm_exec.proofs.StoresReady.{AllFar, state_holds, ready_halted, ready_after, far_after, takes_all}
 
 -- the moment before the first step is early, and so is the last storage time of each store
 pub record IsEarly (stores : List Held) (base : ℕ) : Type 0 where
@@ -274,9 +275,14 @@ module _ {L : Type 0} (sent : L → List Sent) (failed : L → ℕ) (run : RunCo
     orders_here u = orders_are input places u (λ s store. (here.footing.stand_at s store).is)
 
     -- one step more
-    pub ran_on : RunsLoseAsPlanned → RunsLoseNoPacketUncounted → (after : RunState Supply L) (left : RunBuffers)
-        → StepReported sent failed run places t now after buffers left → AreReady after.stores → HasRun sent failed input run.plan.now first (t + 1 - 1) after left.report
-    ran_on law counts after left stepped ready = record { began = here.ran.began; done = done; fit = all_fit; ready = ready }
+    pub ran_on : RunsLoseAsPlanned → RunsLoseNoPacketUncounted → StepRunsKeepStores → (after : RunState Supply L) (left : RunBuffers)
+        → StepReported sent failed run places t now after buffers left → HasRun sent failed input run.plan.now first (t + 1 - 1) after left.report
+    ran_on law counts keeps after left stepped = record {
+      began = here.ran.began;
+      done = done;
+      fit = all_fit;
+      ready = ready_after sent failed keeps (recording_at run t now.stores) (orders_at run places t) now after here.early here.ran.ready stepped.done;
+    }
       where
         done : StepsDone sent failed input first.sources first.links (t + 1 - 1) after left.report
         done =
@@ -294,10 +300,10 @@ module _ {L : Type 0} (sent : L → List Sent) (failed : L → ℕ) (run : RunCo
             (here.ran.began.fits (omega arith) u from_one (omega (arith, last, here.last)))
 
     -- the step was broken off
-    pub halted_in : BrokenOrdersChangeNothing → (after : RunState Supply L) (left : RunBuffers) (broken : StepBroken)
-        → StepUnreported sent failed run places t now after buffers left broken → AreReady after.stores
+    pub halted_in : OrdersDumpTheOldest → BrokenOrdersChangeNothing → (after : RunState Supply L) (left : RunBuffers) (broken : StepBroken)
+        → StepUnreported sent failed run places t now after buffers left broken
         → IsHaltedIn sent failed input run.plan.now first t after (record { broken = broken; report = left.report })
-    halted_in changes after left broken stepped ready =
+    halted_in dump changes after left broken stepped =
         let e = recording_in input t now.stores in
         let how = subst (λ (orders : List Order). StepBroke sent failed e orders now after broken) (orders_here t) stepped.how in
         let stopped = stopped_of sent failed e (step_orders input t) now after broken how in
@@ -307,7 +313,7 @@ module _ {L : Type 0} (sent : L → List Sent) (failed : L → ℕ) (run : RunCo
           before = now;
           ran = subst (λ (r : Reported). HasRun sent failed input run.plan.now first (t - 1) now r) (sym stepped.unreported) here.ran;
           labels = stopped.labels ∙ here.labels;
-          ready = ready;
+          ready = ready_halted sent failed e (step_orders input t) now after broken dump changes refl here.ran.ready how;
           stopped_is = stopped;
           within = stepped.within;
           how = how;

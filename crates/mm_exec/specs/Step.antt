@@ -33,11 +33,6 @@ pub record AreReady (stores : List Held) : Type 0 where
   pub storage : All (λ h. IsTrue h.state.storage) stores
   pub idle : All (λ h. h.state.retrieval ≡ None) stores
 
--- stores are left in their order, each sound and ready for more
-pub record AreLeft (before after : List Held) : Type 0 where
-  pub labels : labels_of after ≡ labels_of before
-  pub ready : AreReady after
-
 -- orders of stores that are there, no two of one store, each of one packet or more
 pub record AreOrders (stores : ℕ) (orders : List Order) : Type 0 where
   pub few : length orders ≤ MAX_STORES

@@ -1,4 +1,4 @@
-use Rattle.std.proofs.Common.{◌≡◌, ℕ, ◌+◌, ◌-◌, ◌≤◌, List, length, take, refl, sym, subst, arith}
+use Rattle.std.proofs.Common.{◌≡◌, ◌∙◌, ℕ, ◌+◌, ◌-◌, ◌≤◌, List, length, take, refl, sym, subst, arith}
 use Rattle.std.specs.List.{AllZip}
 use Rattle.mm_record.specs.Supplies.{Supply, supplies}
 use Rattle.mm_record.proofs.Supplying.{all_stay, length-supplies, zip_long}
@@ -8,7 +8,6 @@ use Rattle.mm_exec.specs.Ending.{HasRun}
 use Rattle.mm_exec.specs.RunState.{RunState, with_supplies, InRun}
 use Rattle.mm_exec.proofs.Parts.{as_many}
 use Rattle.mm_exec.proofs.Placing.{places_cut, stand_cut}
-use Rattle.mm_exec.proofs.StoresReady.{left_on}
 use Rattle.mm_exec.proofs.Starting.{Underway, underway, may_report, all_ready, early_by, done_first, far_first, ran_on, far_on, halted_in, takes_here}
 use Rattle.mm_exec.proofs.open_run.OpenRun.carry_steps.Given as given
 use Rattle.mm_exec.proofs.open_run.OpenRun.carry_steps.Goals as goal
@@ -28,7 +27,7 @@ here g c lasts lead =
     let places = c.requires.places in
     underway g.L.Link.sent g.L.Link.failed c.args.run.now _ c.loop-step.step (first_in g c lasts) (now_in g c lasts) c.loop-step.buffers.report places.sound
     (places_cut _ c.args.self.now.stores c.args.all.now c.stores.result places c.stores.ensures.stores) c.requires.may.sound c.loop-step.auto.step
-    (omega (arith, c.loop-step-test.true, c.steps-step-end.ensures.steps)) c.loop-step.invariant.left.labels (c.loop-step.invariant.ran lasts lead).1
+    (omega (arith, c.loop-step-test.true, c.steps-step-end.ensures.steps)) c.loop-step.invariant.labels (c.loop-step.invariant.ran lasts lead).1
 
 pub loop-step-init : goal.loop-step-init
 loop-step-init g c =
@@ -54,7 +53,7 @@ loop-step-init g c =
         λ limits. far_first (length run.problem.now.windows) (supplies until begun.sources lasts) begun.stores run.base
             (early_by begun.stores run.base (may.begins.in_time (omega arith))) limits,
       );
-      left = record { labels = refl; ready = ready };
+      labels = refl;
       room = may.orders;
     }
 
@@ -67,7 +66,7 @@ report_step-requires-clause-may g c κs within =
     may_report g.L.Link.sent g.L.Link.failed c.args.run.now _ c.loop-step.step (first_in g at now.sources) now (supplies until now.sources now.sources) c.loop-step.buffers
     (length-supplies until now.sources now.sources refl)
     (here g at now.sources (all_stay g.S.AnySource.leads until c.sources_may_stay.ensures.law now.sources)) c.requires.may.held c.requires.may.links
-    (stand_cut _ begun.stores c.args.all.now c.stores.result c.requires.places c.stores.ensures.stores now.stores (as_many now.stores begun.stores c.loop-step.invariant.left.labels))
+    (stand_cut _ begun.stores c.args.all.now c.stores.result c.requires.places c.stores.ensures.stores now.stores (as_many now.stores begun.stores c.loop-step.invariant.labels))
     c.loop-step.invariant.room
 
 pub loop-step-preserved : goal.loop-step-preserved
@@ -78,15 +77,15 @@ loop-step-preserved g c =
           let stepped = c.in_default.ensures.done lasts lead in
           let before = here g at lasts stepped.0 in (
             (c.loop-step.invariant.ran lasts stepped.0).0,
-            ran_on _ _ _ _ _ _ _ _ before c.runs_lose_as_planned.ensures.each c.runs_lose_no_packet_uncounted.ensures.law _ c.report_step.new.buffers
-                stepped.1 c.in_default.ensures.left.ready,
+            ran_on _ _ _ _ _ _ _ _ before c.runs_lose_as_planned.ensures.each c.runs_lose_no_packet_uncounted.ensures.law c.step_runs_keep_stores.ensures.law _
+                c.report_step.new.buffers stepped.1,
           );
       far = λ lasts lead.
           let stepped = c.in_default.ensures.done lasts lead in
           let before = here g at lasts stepped.0 in
           let was = c.loop-step.invariant.far lasts stepped.0 in
           (was.0, λ limits. far_on _ _ _ _ _ _ _ c.loop-step.buffers before limits (was.1 limits) c.step_runs_keep_stores.ensures.law _ stepped.1.done);
-      left = left_on c.args.self.now.stores c.loop-step.self.stores c.report_step.new.self.stores c.loop-step.invariant.left c.in_default.ensures.left;
+      labels = c.in_default.ensures.labels ∙ c.loop-step.invariant.labels;
       room = omega (arith, c.loop-step.invariant.room, c.in_default.ensures.capacity);
     }
 
@@ -103,7 +102,7 @@ returns-in-Err-clause-halted g c = λ lasts lead.
     let stepped = c.in-Err.ensures.broke lasts lead in
     let before = here g (goal.at.returns-in-Err-clause-halted g c).In-loop-step lasts stepped.0 in (
       (c.loop-step.invariant.ran lasts stepped.0).0,
-      (c.loop-step.step, halted_in _ _ _ _ _ _ _ _ before c.broken_orders_change_nothing.ensures.law _ c.report_step.new.buffers c.in-Err.broken stepped.1 c.in-Err.ensures.left.ready),
+      (c.loop-step.step, halted_in _ _ _ _ _ _ _ _ before c.orders_dump_the_oldest.ensures.law c.broken_orders_change_nothing.ensures.law _ c.report_step.new.buffers c.in-Err.broken stepped.1),
     )
 
 pub returns-in-Err-clause-far : goal.returns-in-Err-clause-far
@@ -112,6 +111,3 @@ returns-in-Err-clause-far g c = λ lasts lead.
     let before = here g (goal.at.returns-in-Err-clause-far g c).In-loop-step lasts stepped.0 in
     let was = c.loop-step.invariant.far lasts stepped.0 in
     (was.0, λ limits. stepped.1 (takes_here _ _ _ _ _ _ _ c.loop-step.buffers before limits (was.1 limits)))
-
-pub returns-in-Err-clause-left : goal.returns-in-Err-clause-left
-returns-in-Err-clause-left g c = left_on c.args.self.now.stores c.loop-step.self.stores c.report_step.new.self.stores c.loop-step.invariant.left c.in-Err.ensures.left

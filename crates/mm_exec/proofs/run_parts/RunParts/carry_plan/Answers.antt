@@ -120,4 +120,4 @@ returns-clause-far g c =
     (λ first now. AreWithinLimits (length run.problem.now.windows) first.stores first.sources → NeverRefused stopped.broken.cause))) c.carry_steps-ended.ensures.far
 
 pub returns-clause-labels : goal.returns-clause-labels
-returns-clause-labels g c = of_run g c (λ first after. labels_of after.stores ≡ labels_of first.stores) c.carry_steps-ended.ensures.left.labels
+returns-clause-labels g c = of_run g c (λ first after. labels_of after.stores ≡ labels_of first.stores) c.carry_steps-ended.ensures.labels
