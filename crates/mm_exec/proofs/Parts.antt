@@ -15,7 +15,7 @@ use Rattle.mm_record.specs.Supplies.{Supply, WhateverComes}
 use Rattle.mm_record.proofs.Supplying.{as_they_are, comes_weaker}
 use Rattle.mm_record.specs.Causes.{cause_in}
 use Rattle.mm_record.specs.Recorded.{RecordingContext, offers}
-use Rattle.mm_record.specs.Steps.{given_in, AllRecorded, Records, RecorderRun, AreRecorderRuns, StoppedEarly, IsRecorderRun}
+use Rattle.mm_record.specs.Steps.{given_in, AllRecorded, Records, RecorderRun, AreRecorderRuns, StoppedEarly, IsRecorderRun, TakesAll}
 use Rattle.mm_dump.specs.declared.order.Order.{Order}
 use Rattle.mm_dump.specs.declared.order.OrderBroken.{OrderBroken}
 use Rattle.mm_dump.specs.declared.order.OrderBroken.TheVariants as worst
@@ -26,7 +26,7 @@ use Rattle.mm_exec.specs.Laws.{HalvesMakeStepRuns}
 use Rattle.mm_memory.specs.Laws.{ids_of}
 use Rattle.mm_exec.specs.RunState.{RunState, with_supplies, InRun}
 use Rattle.mm_exec.specs.declared.step.StepBroken.{StepBroken}
-use Rattle.mm_exec.specs.Step.{StepRecorded, StepDumped, StepDone, KeepsRest, IsCauseIn, dump_cause, RecordersBroke, OrdersBroke, StepBroke, StepStopped}
+use Rattle.mm_exec.specs.Step.{StepRecorded, StepDumped, StepDone, KeepsRest, IsCauseIn, NeverRefused, dump_cause, RecordersBroke, OrdersBroke, StepBroke, StepStopped}
 use Rattle.mm_desk.specs.declared.event.Event.{Event}
 use Rattle.mm_record.proofs.Offers.{offers_more}
 use Rattle.mm_exec.specs.Halts.{AreFirstOffers}
@@ -74,6 +74,16 @@ cause_recorded step (Some other) cause is = subst (IsCauseIn step) (same_Some _ 
 cause_dumped : (step : ℕ) (why : OrderBroken) → IsCauseIn step (dump_cause step why)
 cause_dumped step worst.LinkFailed = refl
 cause_dumped step why = refl
+
+-- where memory alone is the reason, or orders broke, no store refused
+not_refused : (step : ℕ) (why : Option Fault) (cause : Cause) → IfSome why (λ f. f ≡ fault.NoMemory) → cause_in step why ≡ Some cause → NeverRefused cause
+not_refused step None cause lack is = absurd (cc is)
+not_refused step (Some fault.NoMemory) cause lack is = λ at same. absurd (cc (is, same))
+not_refused step (Some other) cause lack is = absurd (cc lack)
+
+dump_not_refused : (step : ℕ) (why : OrderBroken) → NeverRefused (dump_cause step why)
+dump_not_refused step worst.LinkFailed = λ at same. absurd (cc same)
+dump_not_refused step worst.NoMemory = λ at same. absurd (cc same)
 
 -- all offers were made of what sources gave
 pub all_first : (e : RecordingContext) (k : ℕ) (given : List (List SpacePacket)) → AllZip (AreFirstOffers e k) given (map (offers e k) given)
@@ -164,6 +174,12 @@ module _ {L : Type 0} (sent : L → List Sent) (failed : L → ℕ) (e : Recordi
         keep = subst (AllZip (KeepsRest e.step) before.sources) (sym broke.sources) (keep_none e.step before.sources mid.sources many recorded.nothing_left);
         others = λ t other. ap (given_in t) broke.sources ∙ recorded.others t other;
       })
+
+  -- where each store surely takes what comes, no store refused a packet
+  pub never_refused : TakesAll e before.stores before.sources → StepBroke sent failed e orders before after stop → NeverRefused stop.cause
+  never_refused takes =
+      by_how (NeverRefused stop.cause) (λ broke. not_refused e.step broke.why stop.cause (broke.records.none_refused takes) broke.cause_is)
+      (λ mid recorded broke. subst NeverRefused (sym broke.cause_is) (dump_not_refused e.step broke.why))
 
 -- a step in which no recorder stopped early
 pub recorded_whole : {L : Type 0} (e : RecordingContext) (before after : RunState Supply L) (why : Option Fault) → why ≡ None → after.links ≡ before.links

@@ -1,10 +1,11 @@
 -- How a run begins, and what is known of it on the way.
-use Rattle.std.proofs.Common.{◌≡◌, ◌≢◌, ℕ, ◌+◌, ◌-◌, ◌*◌, ◌<◌, ◌≤◌, ◌^◌, Bool, true, false, List, [], length, map, get_or, All, refl, sym, subst, ap, ◌∙◌, arith}
+use Rattle.std.proofs.Common.{◌≡◌, ◌≢◌, ℕ, zero, suc, ◌+◌, ◌-◌, ◌*◌, ◌<◌, ◌≤◌, ◌^◌, Bool, true, false, List, [], length, map, get_or, All, refl, sym, subst, ap, ◌∙◌, arith}
 use Rattle.std.specs.Prelude.{slice_index, slice_index_or, bytes_eq, slice_get, Option, Some, None, is_some, not, ◌&&◌, IsTrue, vec_capacity}
 use Rattle.std.specs.List.{list_any, position_or_len}
 use Rattle.std.proofs.lemmas.Bool.{eqb-true, eqb-false, ltb-false, or_parts, both_ways, false_from_ne_true}
 use Rattle.std.proofs.lemmas.List.{length-map, get_or-map, append-nil}
 use Rattle.std.proofs.lemmas.List.FromFn.{length-map-range_with_len}
+use Rattle.std.proofs.lemmas.List.Elements.{All-map}
 use Rattle.std.proofs.lemmas.List.Folds.{find_at, list_any_at}
 use Rattle.std.proofs.lemmas.List.Sums.{passes_at_first, position_or_len_is, prefix_len-le-length}
 use Rattle.std.proofs.lemmas.List.Sorted.{IsPermutation-refl}
@@ -25,7 +26,7 @@ use Rattle.mm_shared.specs.Stores.{labels_of, states_of}
 use Rattle.mm_memory.specs.Holdings.{AreHeld, has_id, store_of}
 use Rattle.mm_record.specs.Supplies.{Supply}
 use Rattle.mm_record.specs.Causes.{is_clock_late, is_late}
-use Rattle.mm_record.specs.Steps.{latest, AreFew, TakesAll}
+use Rattle.mm_record.specs.Steps.{TakesAll}
 use Rattle.mm_dump.specs.declared.order.Order.{Order}
 use Rattle.mm_dump.specs.Dumped.{times, places_of}
 use Rattle.mm_dump.specs.Laws.{BrokenOrdersChangeNothing}
@@ -40,11 +41,12 @@ use Rattle.mm_exec.specs.declared.step.StepBroken.{StepBroken}
 use Rattle.mm_exec.specs.Readiness.{AllMeet, NoneUnknown, is_unknown, meets, meets_at}
 use Rattle.mm_exec.specs.Laws.{RunsLoseAsPlanned, RunsLoseNoPacketUncounted, StepRunsKeepStores}
 use Rattle.mm_exec.specs.AsPlanned.{IsReady}
+use Rattle.mm_exec.specs.StepRuns.{IsStepRun}
 use Rattle.mm_exec.specs.Places.{IsPlaceOf, ArePlaces, StandWithin}
-use Rattle.mm_exec.specs.RunInput.{RunInput, recording_in, place_in_memory, step_orders}
+use Rattle.mm_exec.specs.RunInput.{RunInput, recording_in, step_of, offered, place_in_memory, store_state, step_orders}
 use Rattle.mm_exec.specs.RunState.{RunState, with_supplies}
 use Rattle.mm_exec.specs.Numbers.{AreByCounters}
-use Rattle.mm_exec.specs.Step.{AreReady, AreOrders, StepDone, StepBroke}
+use Rattle.mm_exec.specs.Step.{AreReady, AreOrders, StepBroke, NeverRefused}
 use Rattle.mm_exec.specs.Steps.{StepsDone, taken_amounts}
 use Rattle.mm_exec.specs.Course.{given_to, recording_at, orders_at, MayReport, StepReported, StepUnreported, AreWithinLimits}
 use Rattle.mm_exec.specs.Ending.{HasRun, IsHaltedIn}
@@ -55,9 +57,9 @@ use Rattle.mm_exec.proofs.Halts.{failed_link}
 use Rattle.mm_exec.proofs.Drawing.{taken_fits}
 use Rattle.mm_exec.proofs.Ordered.{named_once, may_order, wanted_in_all, orders_are}
 use Rattle.mm_exec.proofs.StepMore.{Footing, all_same, done_on}
-use Rattle.mm_exec.proofs.Parts.{as_many, as_many_sources, stopped_of}
+use Rattle.mm_exec.proofs.Parts.{as_many, as_many_sources, stopped_of, never_refused}
 use Rattle.mm_exec.proofs.Placing.{no_held, places_differ}
-use Rattle.mm_exec.proofs.StoresReady.{AllFar, state_holds, ready_halted, ready_after, far_after, takes_all}
+use Rattle.mm_exec.proofs.StoresReady.{IsFar, state_there, state_holds, all_by, ready_halted, ready_after, offers_few}
 
 -- the moment before the first step is early, and so is the last storage time of each store
 pub record IsEarly (stores : List Held) (base : ℕ) : Type 0 where
@@ -164,26 +166,8 @@ done_first sent failed m now report stores is = record {
 }
 
 -- counts after some steps: each store was offered, and has its last storage time, at most this far
-abbrev pub bound_at : ℕ → ℕ
+abbrev bound_at : ℕ → ℕ
 bound_at steps = 2 ^ 63 + (steps + 1) * 2 ^ 20
-
-pub bound_more : (t : ℕ) → 1 ≤ t → bound_at (t - 1) + 2 ^ 20 ≡ bound_at (t + 1 - 1)
-bound_more t first = omega arith
-
-pub bound_within : (t n : ℕ) → t ≤ n → n ≤ MAX_STEPS → bound_at (t - 1) ≤ latest
-bound_within t n last few = omega arith
-
--- the moment of a step is no later
-pub early_at : (base t n : ℕ) → base ≤ LATEST_START → t ≤ n → n ≤ MAX_STEPS → base + t ≤ bound_at (t - 1)
-early_at base t n first last few = omega arith
-
--- counts that are far from their end as a run begins
-pub far_first : (steps : ℕ) (sources : List Supply) (stores : List Held) (base : ℕ) → IsEarly stores base → AreWithinLimits steps stores sources
-    → AllFar (bound_at 0) stores
-far_first steps sources stores base early far k d inside =
-    let offered = far.offered k d inside in
-    let last = early.last_times k d inside in
-    record { offered = omega (arith, offered); last = omega (arith, last) }
 
 -- a run before one of its steps, whose stores stand at these places
 module _ {L : Type 0} (sent : L → List Sent) (failed : L → ℕ) (run : RunContext) (places : List ℕ) (t : ℕ) (first : RunState Supply L) where
@@ -322,23 +306,61 @@ module _ {L : Type 0} (sent : L → List Sent) (failed : L → ℕ) (run : RunCo
               (subst (All (λ (o : Order). o.place < length now.stores)) (orders_here t) here.orders.places) is_link how;
         }
 
-    -- counts that are far from their end stay so, and each store takes what comes
-    module _ (limits : AreWithinLimits (length q.windows) first.stores first.sources) (far : AllFar (bound_at (t - 1)) now.stores) where
-      few_here : AreFew t now.sources
-      few_here =
-          all_same (λ (ps : List SpacePacket). length ps ≤ 65535) (λ s. s t) first.sources now.sources (here.ran.done.sources_are.others t (λ from to. absurd (omega (arith, here.from_one, to)))) (limits.few t here.from_one here.last)
+    -- where counts are far from their end as the run begins, each store takes what comes
+    module _ (law : StepRunsKeepStores) (limits : AreWithinLimits (length q.windows) first.stores first.sources) (held : AreHeld first.stores) where
+      begun_early : IsEarly first.stores run.base
+      begun_early = early_by first.stores run.base (here.ran.began.in_time (omega arith))
 
-      early_here : run.base + t ≤ bound_at (t - 1)
-      early_here = early_at run.base t (length q.windows) (early_by first.stores run.base (here.ran.began.in_time (omega arith))).first here.last here.is.steps.at_most
+      -- a store of the problem, after some of the steps
+      abbrev state_after : (s n : ℕ) → State
+      state_after s n = store_state input (here.ran.done.stores n) s
 
-      pub takes_here : TakesAll (recording_at run t now.stores) now.stores now.sources
-      takes_here =
-          takes_all (recording_at run t now.stores) now.stores now.sources (bound_at (t - 1)) (bound_within t _ here.last here.is.steps.at_most) here.ran.ready far early_here few_here
+      -- it is sound, and its counts moved by less than 2^20 in each step
+      far_along : (s n : ℕ) → s < length q.rows → n ≤ t - 1 → IsState (state_after s n) × IsFar (bound_at n) (state_after s n)
+      far_along s zero store within =
+          let there = here.footing.stand_at s store in
+          let inside = subst (λ (k : ℕ). k < length first.stores) there.is there.within in
+          let offered : (store_state input first.stores s).offered ≤ 2 ^ 63 = state_holds (λ (u : State). u.offered ≤ 2 ^ 63) first.stores limits.offered _ inside in
+          let last = state_holds (λ (u : State). u.store.last ≤ LATEST_START) first.stores begun_early.last_times _ inside in
+          subst (λ (held : List Held). let u = store_state input held s in IsState u × IsFar (bound_at 0) u) (sym here.ran.done.runs.first)
+          ((here.footing.ready s store).sound, record { offered = omega (arith, offered); last = omega (arith, last) })
+      far_along s (suc n) store within =
+          let was = far_along s n store (omega arith) in
+          let came = map (λ gives. gives (suc n)) first.sources in
+          let back : suc n - 1 ≡ n = omega arith in
+          let went = subst (λ (k : ℕ). IsStepRun (offered input s (suc n)) (input.amounts s (suc n)) (here.ran.done.gave (place_in_memory input s) (suc n)) (state_after s k) (state_after s (suc n)))
+          back (here.ran.done.runs.runs s (suc n) store (omega arith) within) in
+          let kept = law (run.base + suc n) _ _ _ _ _ (omega (arith, here.early)) was.0 (all_by (step_of input (suc n)) s came) went in
+          let each = All-map (λ (ps : List SpacePacket). length ps ≤ 65535) (λ gives. gives (suc n)) first.sources (limits.few (suc n) (omega arith) (omega (arith, here.last))) in
+          let number = offers_few (step_of input (suc n)) s 65535 came each in
+          let many : length came ≡ length first.sources = length-map first.sources (λ gives. gives (suc n)) in
+          let counts = here.ran.began.counts (omega arith) in
+          (kept.sound, record {
+            offered = omega (arith, kept.offered, was.1.offered, number, many, counts.few_sources);
+            last = omega (arith, kept.last, was.1.last, number, many, counts.few_sources, begun_early.first, here.is.steps.at_most, here.last);
+          })
 
-      pub far_on : StepRunsKeepStores → (after : RunState Supply L) → StepDone sent failed (recording_at run t now.stores) (orders_at run places t) now after
-          → AllFar (bound_at (t + 1 - 1)) after.stores
-      far_on law after done =
-          let sources_many = as_many_sources 0 first.sources now.sources (here.ran.done.sources_are.others 0 (λ first last. absurd (omega arith))) in
-          subst (λ (b : ℕ). AllFar b after.stores) (bound_more t here.from_one)
-          (far_after sent failed law (recording_at run t now.stores) (orders_at run places t) now after here.early here.ran.ready done (bound_at (t - 1))
-          (omega (arith, sources_many, (here.ran.began.counts (omega arith)).few_sources)) few_here early_here far)
+      takes_here : TakesAll (recording_at run t now.stores) now.stores now.sources
+      takes_here = record {
+        moment = omega (arith, begun_early.first, here.is.steps.at_most, here.last);
+        stores_are = λ k d inside.
+            let within : k < length first.stores = omega (arith, inside, as_many now.stores first.stores here.labels) in
+            let found = row_there q (get_or first.stores k no_held) (here.ran.began.known (omega arith) k no_held within) in
+            let at : place_in_memory input found.0 ≡ k = first_is first.stores held k no_held (row q found.0).id within (sym found.2) in
+            let is = ap (λ (held : List Held). store_state input held found.0) (sym here.ran.done.stores_are)
+            ∙ ap (opening_at (states_of now.stores)) at ∙ state_there now.stores k d inside in
+            let far = subst (IsFar (bound_at (t - 1))) is (far_along found.0 (t - 1) found.1 (omega arith)).1 in
+            record {
+              storage = here.ran.ready.storage k d inside;
+              last = omega (arith, far.last, here.is.steps.at_most, here.last);
+              offered = omega (arith, far.offered, here.is.steps.at_most, here.last);
+            };
+        few =
+            all_same (λ (ps : List SpacePacket). length ps ≤ 65535) (λ s. s t) first.sources now.sources
+            (here.ran.done.sources_are.others t (λ from to. absurd (omega (arith, here.from_one, to)))) (limits.few t here.from_one here.last);
+      }
+
+      -- so no store refused a packet in a step that was broken off
+      pub far_halted : (after : RunState Supply L) (left : RunBuffers) (broken : StepBroken) → StepUnreported sent failed run places t now after buffers left broken
+          → NeverRefused broken.cause
+      far_halted after left broken stepped = never_refused sent failed (recording_at run t now.stores) (orders_at run places t) now after broken takes_here stepped.how

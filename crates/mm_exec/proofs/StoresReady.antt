@@ -41,7 +41,7 @@ use Rattle.mm_exec.proofs.Placing.{no_held}
 use Rattle.mm_exec.proofs.Parts.{as_many, by_how, first_turns}
 
 -- the state at a place is that of the store there
-state_there : (held : List Held) (k : ℕ) (d : Held) → k < length held → opening_at (states_of held) k ≡ (get_or held k d).state
+pub state_there : (held : List Held) (k : ℕ) (d : Held) → k < length held → opening_at (states_of held) k ≡ (get_or held k d).state
 state_there held k d within = get_or-map (λ (h : Held). h.state) held k d blank within
 
 -- what holds of each state holds of each store
@@ -157,11 +157,8 @@ pub record IsFar (bound : ℕ) (s : State) : Type 0 where
   pub offered : s.offered ≤ bound
   pub last : s.store.last ≤ bound
 
-abbrev pub AllFar : ℕ → List Held → Type 0
-AllFar bound stores = All (λ h. IsFar bound h.state) stores
-
 -- no more packets are offered than are given
-offers_few : (e : RecordingContext) (k most : ℕ) (gave : List (List SpacePacket)) → All (λ ps. length ps ≤ most) gave → count_of (map (offers e k) gave) ≤ length gave * most
+pub offers_few : (e : RecordingContext) (k most : ℕ) (gave : List (List SpacePacket)) → All (λ ps. length ps ≤ most) gave → count_of (map (offers e k) gave) ≤ length gave * most
 offers_few e k most gave all =
     subst (λ (n : ℕ). n ≤ length gave * most) (sym (sum_by-map (λ (events : List Event). length events) (offers e k) gave)) (sum_by-le (λ (g : List SpacePacket). length (offers e k g)) most gave each)
   where
@@ -193,31 +190,3 @@ module _ {L : Type 0} (sent : L → List Sent) (failed : L → ℕ) (law : StepR
       (λ k within.
       let kept = kept_at k (omega (arith, within, length-map after.stores (λ (h : Held). h.state))) in
       record { storage = kept.storage; retrieval = kept.retrieval }) ready
-
-  -- counts move by less than 2^20
-  pub far_after : (bound : ℕ) → length before.sources ≤ 8 → All (λ s. length (s e.step) ≤ 65535) before.sources → e.now ≤ bound → AllFar bound before.stores
-      → AllFar (bound + 2 ^ 20) after.stores
-  far_after bound few_sources few early far =
-      all_states (IsFar (bound + 2 ^ 20)) after.stores
-      (λ k within.
-      let kept = kept_at k within in
-      let was = state_holds (IsFar bound) before.stores far k (omega (arith, many)) in
-      let given = given_in e.step before.sources in
-      let each : All (λ (ps : List SpacePacket). length ps ≤ 65535) given = All-map (λ (ps : List SpacePacket). length ps ≤ 65535) (λ s. s e.step) before.sources few in
-      let number = offers_few e k 65535 given each in
-      let as_many_given : length given ≡ length before.sources = length-map before.sources (λ s. s e.step) in
-      record {
-        offered = omega (arith, kept.offered, was.offered, number, as_many_given, few_sources);
-        last = omega (arith, kept.last, was.last, number, as_many_given, few_sources, early);
-      })
-
--- each store surely takes what the sources give
-pub takes_all : (e : RecordingContext) (stores : List Held) (sources : List Supply) (bound : ℕ) → bound ≤ latest
-    → AreReady stores → AllFar bound stores → e.now ≤ bound → AreFew e.step sources → TakesAll e stores sources
-takes_all e stores sources bound within ready far early few = record {
-  moment = omega (arith, early, within);
-  stores_are = λ k d inside.
-      let here = far k d inside in
-      record { storage = ready.storage k d inside; last = omega (arith, here.last, within); offered = omega (arith, here.offered, within) };
-  few = few;
-}

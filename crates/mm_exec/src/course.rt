@@ -1,11 +1,10 @@
 //! The steps of a run, one after another.
 ghost use Rattle.std.specs.Prelude.{◌≡◌, ℕ, length, IfOk, OnOk, IfErr, vec_capacity};
 ghost use Rattle.mm_shared.specs.Stores.{labels_of};
-ghost use Rattle.mm_record.specs.Steps.{TakesAll};
 ghost use Rattle.mm_exec.specs.RunState.{InRun};
 ghost use Rattle.mm_exec.specs.Step.{NeverRefused};
 ghost use Rattle.mm_exec.specs.Places.{AreAllPlaces};
-ghost use Rattle.mm_exec.specs.Course.{given_to, recording_at, MayReport, StepReported, StepUnreported, MayRun, AreWithinLimits};
+ghost use Rattle.mm_exec.specs.Course.{given_to, MayReport, StepReported, StepUnreported, MayRun, AreWithinLimits};
 ghost use Rattle.mm_exec.specs.Ending.{HasRun, IsHaltedIn};
 
 use crate::laws::{runs_lose_as_planned, runs_lose_no_packet_uncounted, step_runs_keep_stores};
@@ -60,8 +59,6 @@ impl<S: AnySource + Send + Drop, L: Link + Send + Drop> OpenRun<S, L> {
             (λ before after. StepReported L.sent L.failed run.now places.now step before after buffers.old buffers.new)) }
         ensures broke { IfErr result (λ broken. InRun S.leads S.until self.old self.new
             (λ before after. StepUnreported L.sent L.failed run.now places.now step before after buffers.old buffers.new broken)) }
-        ensures far { IfErr result (λ broken. InRun S.leads S.until self.old self.new
-            (λ before after. TakesAll (recording_at run.now step before.stores) before.stores before.sources → NeverRefused broken.cause)) }
         ensures capacity { vec_capacity buffers.new.orders ≡ vec_capacity buffers.old.orders }
         ensures labels { labels_of self.new.stores ≡ labels_of self.old.stores }
     {

@@ -1,11 +1,9 @@
 //! One step of a run: what comes is recorded, and then dumped.
-ghost use Rattle.std.specs.Prelude.{◌≡◌, ◌≤◌, None, Some, OnOk, IfErr, IfSome};
+ghost use Rattle.std.specs.Prelude.{◌≡◌, ◌≤◌, None, Some, OnOk, IfErr};
 ghost use Rattle.mm_exec.specs.RunState.{InRun};
-ghost use Rattle.mm_exec.specs.Step.{MayCarry, MayRecord, recording_by, StepRecorded, StepDumped, StepDone, RecordersBroke, OrdersBroke, StepBroke, NeverRefused, dump_cause};
-ghost use Rattle.mm_desk.specs.declared.fault.Fault.TheVariants.{NoMemory};
+ghost use Rattle.mm_exec.specs.Step.{MayCarry, MayRecord, recording_by, StepRecorded, StepDumped, StepDone, RecordersBroke, OrdersBroke, StepBroke, dump_cause};
 ghost use Rattle.mm_shared.specs.Stores.{labels_of};
 ghost use Rattle.mm_record.specs.Causes.{cause_in};
-ghost use Rattle.mm_record.specs.Steps.{TakesAll};
 ghost use Rattle.mm_dump.specs.Dumped.{MayDump, amount_of};
 
 use crate::laws::halves_make_step_runs;
@@ -30,7 +28,6 @@ pub(crate) struct StepBroken {
 fn recorders_end(step: u32, why: Option<Fault>) -> Result<(), StepBroken>
     ensures ok { OnOk result (why ≡ None) }
     ensures how { IfErr result (λ broken. (broken.spent ≡ 0) × (cause_in step why ≡ Some broken.cause)) }
-    ensures far { IfSome why (λ fault. fault ≡ NoMemory) → IfErr result (λ broken. NeverRefused broken.cause) }
 {
     match cause_in(step, why) {
         None => Ok(()),
@@ -61,8 +58,6 @@ impl<S: AnySource + Send + Drop, L: Link + Send + Drop> OpenRun<S, L> {
         ensures how { IfErr result (λ broken. InRun S.leads S.until self.old self.new
             (λ before after. RecordersBroke (recording_by step.entry.now before.stores) before after broken)) }
         ensures spent { IfErr result (λ broken. broken.spent ≡ 0) }
-        ensures far { IfErr result (λ broken. InRun S.leads S.until self.old self.new
-            (λ before after. TakesAll (recording_by step.entry.now before.stores) before.stores before.sources → NeverRefused broken.cause)) }
         ensures labels { labels_of self.new.stores ≡ labels_of self.old.stores }
     {
         let why = record_open(rt, alloc, step, &mut self.stores, &mut self.sources);
@@ -116,8 +111,6 @@ impl<S: AnySource + Send + Drop, L: Link + Send + Drop> OpenRun<S, L> {
         ensures how { IfErr result (λ broken. InRun S.leads S.until self.old self.new
             (λ before after. StepBroke L.sent L.failed (recording_by step.entry.now before.stores) orders.now before after broken)) }
         ensures within { IfErr result (λ broken. broken.spent ≤ amount_of orders.now) }
-        ensures far { IfErr result (λ broken. InRun S.leads S.until self.old self.new
-            (λ before after. TakesAll (recording_by step.entry.now before.stores) before.stores before.sources → NeverRefused broken.cause)) }
         ensures labels { labels_of self.new.stores ≡ labels_of self.old.stores }
     {
         halves_make_step_runs();

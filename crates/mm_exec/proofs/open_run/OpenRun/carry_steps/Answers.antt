@@ -8,7 +8,7 @@ use Rattle.mm_exec.specs.Ending.{HasRun}
 use Rattle.mm_exec.specs.RunState.{RunState, with_supplies, InRun}
 use Rattle.mm_exec.proofs.Parts.{as_many}
 use Rattle.mm_exec.proofs.Placing.{places_cut, stand_cut}
-use Rattle.mm_exec.proofs.Starting.{Underway, underway, may_report, all_ready, early_by, done_first, far_first, ran_on, far_on, halted_in, takes_here}
+use Rattle.mm_exec.proofs.Starting.{Underway, underway, may_report, all_ready, done_first, ran_on, halted_in, far_halted}
 use Rattle.mm_exec.proofs.open_run.OpenRun.carry_steps.Given as given
 use Rattle.mm_exec.proofs.open_run.OpenRun.carry_steps.Goals as goal
 use Rattle.mm_exec.proofs.open_run.OpenRun.carry_steps.Goals.{In-loop-step}
@@ -48,11 +48,6 @@ loop-step-init g c =
               ready = ready;
             },
           );
-      far = λ lasts lead. (
-        lead,
-        λ limits. far_first (length run.problem.now.windows) (supplies until begun.sources lasts) begun.stores run.base
-            (early_by begun.stores run.base (may.begins.in_time (omega arith))) limits,
-      );
       labels = refl;
       room = may.orders;
     }
@@ -80,11 +75,6 @@ loop-step-preserved g c =
             ran_on _ _ _ _ _ _ _ _ before c.runs_lose_as_planned.ensures.each c.runs_lose_no_packet_uncounted.ensures.law c.step_runs_keep_stores.ensures.law _
                 c.report_step.new.buffers stepped.1,
           );
-      far = λ lasts lead.
-          let stepped = c.in_default.ensures.done lasts lead in
-          let before = here g at lasts stepped.0 in
-          let was = c.loop-step.invariant.far lasts stepped.0 in
-          (was.0, λ limits. far_on _ _ _ _ _ _ _ c.loop-step.buffers before limits (was.1 limits) c.step_runs_keep_stores.ensures.law _ stepped.1.done);
       labels = c.in_default.ensures.labels ∙ c.loop-step.invariant.labels;
       room = omega (arith, c.loop-step.invariant.room, c.in_default.ensures.capacity);
     }
@@ -107,7 +97,8 @@ returns-in-Err-clause-halted g c = λ lasts lead.
 
 pub returns-in-Err-clause-far : goal.returns-in-Err-clause-far
 returns-in-Err-clause-far g c = λ lasts lead.
-    let stepped = c.in-Err.ensures.far lasts lead in
-    let before = here g (goal.at.returns-in-Err-clause-far g c).In-loop-step lasts stepped.0 in
-    let was = c.loop-step.invariant.far lasts stepped.0 in
-    (was.0, λ limits. stepped.1 (takes_here _ _ _ _ _ _ _ c.loop-step.buffers before limits (was.1 limits)))
+    let stepped = c.in-Err.ensures.broke lasts lead in
+    let before = here g (goal.at.returns-in-Err-clause-far g c).In-loop-step lasts stepped.0 in (
+      (c.loop-step.invariant.ran lasts stepped.0).0,
+      λ limits. far_halted _ _ _ _ _ _ _ _ before c.step_runs_keep_stores.ensures.law limits c.requires.may.held _ c.report_step.new.buffers c.in-Err.broken stepped.1,
+    )
