@@ -58,9 +58,7 @@ whole_fits m steps stores gave are t first last fits =
 
 -- at most once as much is at most as much
 once_most : (n l : ℕ) → n ≤ 1 → n * l ≤ l
-once_most zero l few = omega arith
-once_most (suc zero) l few = omega arith
-once_most (suc (suc n)) l few = absurd (omega (arith, few))
+once_most n l few = grind arith
 
 -- what the links took in a whole step fits, where they took each order once at most
 pub taken_fits : (m : RunInput) (steps : ℕ) (stores : ℕ → List Held) (gave : ℕ → ℕ → List Stored) (took : ℕ → List (List ℕ)) → AreStepRuns m steps stores gave

@@ -65,25 +65,16 @@ module _ (q : Dumping) (other : List ℕ) (x : Amounts)
   abbrev c : Dumping
   c = record q { arrived = other }
 
-  written_alike : (s t : ℕ) → s < length q.rows → 1 ≤ t → t ≤ length q.windows → left c x s (t - 1) ≡ left q x s (t - 1) → written c x s t ≡ written q x s t
-  written_alike s t store first last before =
-      ap (λ (v : ℕ). min (v + arrivals c s t) (size q s)) before ∙ ap (λ (a : ℕ). min (left q x s (t - 1) + a) (size q s)) (same s t store first last)
-
   left_alike : (s n : ℕ) → s < length q.rows → n ≤ length q.windows → left c x s n ≡ left q x s n
   left_alike s zero store last = left_start c x s ∙ sym (left_start q x s)
   left_alike s (suc n) store last =
       let before = left_alike s n store (omega arith) in
       let back : suc n - 1 ≡ n = omega arith in
-      let here : left c x s (suc n - 1) ≡ left q x s (suc n - 1) = ap (left c x s) back ∙ before ∙ sym (ap (left q x s) back) in
-      let full = written_alike s (suc n) store (omega arith) last here in
-      left_step c x s n (suc n) (omega arith) ∙ ap (λ (u : ℕ). u - min (x s (suc n)) u) full ∙ sym (left_step q x s n (suc n) (omega arith))
+      omega (arith, before, same s (suc n) store (omega arith) last, ap (left c x s) back, ap (left q x s) back,
+      left_step c x s n (suc n) (omega arith), left_step q x s n (suc n) (omega arith))
 
   lost_alike : (s t : ℕ) → s < length q.rows → 1 ≤ t → t ≤ length q.windows → lost c x s t ≡ lost q x s t
-  lost_alike s t store first last =
-      let before = left_alike s (t - 1) store (omega arith) in
-      ap (λ (v : ℕ). v + arrivals c s t - written c x s t) before
-      ∙ ap (λ (a : ℕ). left q x s (t - 1) + a - written c x s t) (same s t store first last)
-      ∙ ap (λ (u : ℕ). left q x s (t - 1) + arrivals q s t - u) (written_alike s t store first last before)
+  lost_alike s t store first last = omega (arith, left_alike s (t - 1) store (omega arith), same s t store first last)
 
   loss_alike : loss c x ≡ loss q x
   loss_alike =

@@ -11,8 +11,7 @@ use Rattle.mm_desk.specs.declared.fault.Fault.{Fault}
 use Rattle.mm_desk.specs.declared.fault.Fault.TheVariants as fault
 use Rattle.mm_desk.specs.declared.held.Held.{Held}
 use Rattle.mm_shared.specs.Stores.{labels_of, states_of}
-use Rattle.mm_record.specs.Supplies.{Supply, WhateverComes}
-use Rattle.mm_record.proofs.Supplying.{as_they_are, comes_weaker}
+use Rattle.mm_record.specs.Supplies.{Supply, supplies}
 use Rattle.mm_record.specs.Causes.{cause_in}
 use Rattle.mm_record.specs.Recorded.{RecordingContext, offers}
 use Rattle.mm_record.specs.Steps.{given_in, AllRecorded, Records, RecorderRun, AreRecorderRuns, StoppedEarly, IsRecorderRun, TakesAll}
@@ -125,7 +124,7 @@ first_turns e xs ys turns k had within = absurd had
 pub both_parts : {L : Type 0} (sent : L → List Sent) (failed : L → ℕ) (e : RecordingContext) (orders : List Order)
     (before mid after : RunState Supply L) → HalvesMakeStepRuns → ids_of before.stores ≡ e.ids → StepRecorded e before mid → StepDumped sent failed orders mid after
     → StepDone sent failed e orders before after
-both_parts {L = L} sent failed e orders before mid after halves ids recorded dumped =
+both_parts sent failed e orders before mid after halves ids recorded dumped =
     let many : length after.stores ≡ length mid.stores = as_many after.stores mid.stores dumped.labels in
     record {
       labels = dumped.labels ∙ recorded.labels;
@@ -138,10 +137,7 @@ both_parts {L = L} sent failed e orders before mid after halves ids recorded dum
           halves _ _ _ first.log second.calls _ _ _ first.run first.shuffle first.taken second.run (record { none = second.none; whole = second.whole });
       places = dumped.dumped.places;
       once = dumped.dumped.once;
-      links =
-          subst (λ (olds : List L). AllTook sent failed e.ids dumped.dumped.gave dumped.dumped.places olds after.links) recorded.links
-          (subst (λ (ids : List (List ℕ)). AllTook sent failed ids dumped.dumped.gave dumped.dumped.places mid.links after.links)
-          (same_ids mid.stores before.stores recorded.labels ∙ ids) dumped.dumped.links);
+      links = rw (same_ids mid.stores before.stores recorded.labels ∙ ids, recorded.links) at dumped.dumped.links;
       nothing_left = subst (All (λ (s : Supply). s e.step ≡ [])) (sym dumped.sources) recorded.nothing_left;
       others = λ t other. ap (given_in t) dumped.sources ∙ recorded.others t other;
     }
@@ -187,52 +183,39 @@ pub recorded_whole : {L : Type 0} (e : RecordingContext) (before after : RunStat
 recorded_whole e before after why none links records = record {
   labels = records.labels;
   sound = records.sound;
-  stores_are = subst (λ (w : Option Fault). IfNone w (AllRecorded e (given_in e.step before.sources) (states_of before.stores) (states_of after.stores))) none records.recorded;
-  nothing_left = subst (λ (w : Option Fault). IfNone w (All (λ s. s e.step ≡ []) after.sources)) none records.nothing_left;
+  stores_are = rw none at records.recorded;
+  nothing_left = rw none at records.nothing_left;
   others = records.others;
   links = links;
 }
-
--- what follows of a step from what was recorded in it, where the sources are as recording left them
-pub then_dumped : {S L : Type 0} (leads : S → S → Type 0) (until : S → S → Supply) (before mid after : RunState S L) (P Q : RunState Supply L → RunState Supply L → Type 0)
-    → after.sources ≡ mid.sources
-    → ((given left : List Supply) → P (with_supplies before given) (with_supplies mid left) → Q (with_supplies before given) (with_supplies after left))
-    → InRun leads until before mid P → InRun leads until before after Q
-then_dumped leads until before mid after P Q same so =
-    subst (λ ss. InRun leads until before mid P → WhateverComes leads until before.sources ss (λ given left. Q (with_supplies before given) (with_supplies after left)))
-    (sym same)
-    (comes_weaker leads until before.sources mid.sources (λ given left. P (with_supplies before given) (with_supplies mid left))
-    (λ given left. Q (with_supplies before given) (with_supplies after left)) so)
-
--- what holds in a run holds where nothing more comes
-pub as_is : {S L : Type 0} (leads : S → S → Type 0) (until : S → S → Supply) → ((s : S) → leads s s) → (before after : RunState S L) (P : RunState Supply L → RunState Supply L → Type 0)
-    → InRun leads until before after P → (given : List Supply) × (left : List Supply) × P (with_supplies before given) (with_supplies after left)
-as_is leads until stays before after P whole =
-    (_, _, as_they_are leads until stays before.sources after.sources (λ given left. P (with_supplies before given) (with_supplies after left)) whole)
 
 -- a step that was recorded and then dumped, whatever its sources give
 module _ {S L : Type 0} (leads : S → S → Type 0) (until : S → S → Supply) (sent : L → List Sent) (failed : L → ℕ) (e : RecordingContext) (orders : List Order)
     (before mid after : RunState S L) (recorded : InRun leads until before mid (StepRecorded e)) where
   pub whole_step : HalvesMakeStepRuns → ids_of before.stores ≡ e.ids → StepDumped sent failed orders mid after → InRun leads until before after (StepDone sent failed e orders)
   whole_step halves ids dumped =
-      then_dumped leads until before mid after (StepRecorded e) (StepDone sent failed e orders) dumped.sources
-      (λ given left recorded. both_parts sent failed e orders (with_supplies before given) (with_supplies mid left) (with_supplies after left) halves ids recorded
-      (record { labels = dumped.labels; dumped = dumped.dumped; sources = refl })) recorded
+      rw dumped.sources (λ lasts lead.
+      let one = recorded lasts lead in
+      let left = with_supplies after (supplies until mid.sources lasts) in
+      (one.0, both_parts sent failed e orders _ _ left halves ids one.1 (record { labels = dumped.labels; dumped = dumped.dumped; sources = refl })))
 
   pub broken_step : (stop : StepBroken) → OrdersBroke sent failed e.step orders mid after stop → InRun leads until before after (λ b a. StepBroke sent failed e orders b a stop)
   broken_step stop broke =
-      then_dumped leads until before mid after (StepRecorded e) (λ b a. StepBroke sent failed e orders b a stop) broke.sources
-      (λ given left recorded. inr (record {
-        mid = with_supplies mid left;
-        recorded = recorded;
-        how = record {
-          labels = broke.labels;
-          sound = broke.sound;
-          why = broke.why;
-          settled = broke.settled;
-          sources = refl;
-          spent_is = broke.spent_is;
-          kept = broke.kept;
-          cause_is = broke.cause_is;
-        };
-      })) recorded
+      rw broke.sources (λ lasts lead.
+      let one = recorded lasts lead in (
+        one.0,
+        inr (record {
+          mid = with_supplies mid (supplies until mid.sources lasts);
+          recorded = one.1;
+          how = record {
+            labels = broke.labels;
+            sound = broke.sound;
+            why = broke.why;
+            settled = broke.settled;
+            sources = refl;
+            spent_is = broke.spent_is;
+            kept = broke.kept;
+            cause_is = broke.cause_is;
+          };
+        }),
+      ))
