@@ -129,9 +129,7 @@ module _ (conserve : ConservePackets) (leave : OffersLeave) (keep : ReplaysKeepS
       let log = conserve s (asked is.recorded) in
       let left = over given_up s (asked is.recorded) in
       let held : IsPermutation (packets_of s.store.content ++ packets_in (asked is.recorded)) (packets_of mid.store.content ++ left) =
-      subst (λ l. IsPermutation (packets_of s.store.content ++ l) (packets_of mid.store.content ++ left)) takes.takes
-      (subst (λ (u : State). IsPermutation (packets_of s.store.content ++ over taken s (asked is.recorded)) (packets_of u.store.content ++ left)) takes.leaves
-      (subst (λ l. IsPermutation (packets_of s.store.content ++ over taken s (asked is.recorded)) (l ++ packets_of (after s (asked is.recorded)).store.content ++ left)) takes.deletes log.packets)) in
+      rw (takes.deletes, takes.leaves, takes.takes) at log.packets in
       let split : packets_of mid.store.content ≡ packets_of gave ++ packets_of t.store.content =
       ap packets_of parts.dumps.oldest ∙ map-append (λ (p : Stored). p.packet) gave t.store.content in
       record {

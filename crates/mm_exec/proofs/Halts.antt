@@ -324,8 +324,7 @@ module _ {L : Type 0} (sent : L → List Sent) (failed : L → ℕ) (e : Recordi
       (λ mid recorded broke.
       let worst_is : broke.why ≡ worst.LinkFailed = link_failed e.step broke.why (sym broke.cause_is ∙ is_link) in
       let ids_are = same_ids mid.stores before.stores recorded.labels ∙ ids in
-      let Settled = λ (p : OrderBroken × List (List ℕ) × List L). AllSettled sent failed p.1 orders (Some p.0) (states_of mid.stores) (states_of after.stores) p.2 after.links in
-      let settled = subst Settled (λ i. (worst_is i, ids_are i, recorded.links i)) broke.settled in
+      let settled = rw (worst_is, ids_are, recorded.links) at broke.settled in
       let many : length after.stores ≡ length mid.stores = as_many after.stores mid.stores broke.labels in
       let all : length after.stores ≡ length before.stores = many ∙ as_many mid.stores before.stores recorded.labels in
       let counted = length-map after.stores (λ (h : Held). h.state) in
@@ -334,7 +333,6 @@ module _ {L : Type 0} (sent : L → List Sent) (failed : L → ℕ) (e : Recordi
         recorded = recorded;
         sources = broke.sources;
         links =
-            links_failed sent failed e.ids orders (states_of mid.stores) (states_of after.stores) before.links after.links changes
-            (subst (λ (n : ℕ). All (λ (o : Order). o.place < n) orders) (sym (counted ∙ all)) there)
+            links_failed sent failed e.ids orders (states_of mid.stores) (states_of after.stores) before.links after.links changes (rw (counted ∙ all) there)
             (λ k within. state_holds IsState mid.stores recorded.sound k (omega (arith, within, counted, many))) settled;
       })

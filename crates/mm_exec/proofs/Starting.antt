@@ -159,10 +159,7 @@ done_first sent failed m now report stores is = record {
   accounted = λ s store. record { lost = []; packets = IsPermutation-refl _; counted = omega arith; rising = λ t first last. absurd (omega arith) };
   report_is = is;
   rows = ap (λ (r : Reported). r.steps) is;
-  counted =
-      subst (λ (held : List Held). AreByCounters m held report.steps) (sym stores)
-      (subst (λ (r : Reported). AreByCounters m m.memory.stores r.steps) (sym is)
-      (by_counters m (λ t. m.memory.stores) 0 refl m.problem m.amounts (λ s t store first last. absurd (omega (arith, first, last)))));
+  counted = rw (stores, is) (by_counters m (λ t. m.memory.stores) 0 refl m.problem m.amounts (λ s t store first last. absurd (omega (arith, first, last))));
 }
 
 -- counts after some steps: each store was offered, and has its last storage time, at most this far
@@ -204,7 +201,7 @@ module _ {L : Type 0} (sent : L → List Sent) (failed : L → ℕ) (run : RunCo
           apart = apart;
           ready = λ s store.
               let place = stand s store in
-              subst (λ (k : ℕ). IsReady q s (opening_at (states_of first.stores) k)) place.is
+              rw (← place.is)
               (ready_of q first.stores s (slice_index places s) place (ran.began.sizes (omega arith) s store) (ran.began.openings (omega arith) s store)
               (state_holds IsState first.stores sound (slice_index places s) place.within));
           early = by_clock run.base (length q.windows) base_early is.steps.at_most;
@@ -277,10 +274,8 @@ module _ {L : Type 0} (sent : L → List Sent) (failed : L → ℕ) (run : RunCo
         all_fit u from_one last =
             taken_fits input (t + 1 - 1) done.stores done.gave done.links_are.took done.runs u from_one last
             (λ s store.
-            let once = named_once input.amounts places u (length q.rows) s here.footing.apart store in
-            let Once = λ (by : ℕ × List Order). times by.0 (places_of by.1) ≤ 1 in
-            let one = subst Once (λ i. ((here.footing.stand_at s store).is i, orders_here u i)) once in
-            subst (λ (k : ℕ). k ≤ 1) (sym (done.links_are.once (place_in_memory input s) u from_one last)) one)
+            let once = rw ((here.footing.stand_at s store).is, orders_here u) at (named_once input.amounts places u (length q.rows) s here.footing.apart store) in
+            omega (arith, once, done.links_are.once (place_in_memory input s) u from_one last))
             (here.ran.began.fits (omega arith) u from_one (omega (arith, last, here.last)))
 
     -- the step was broken off
@@ -289,21 +284,20 @@ module _ {L : Type 0} (sent : L → List Sent) (failed : L → ℕ) (run : RunCo
         → IsHaltedIn sent failed input run.plan.now first t after (record { broken = broken; report = left.report })
     halted_in dump changes after left broken stepped =
         let e = recording_in input t now.stores in
-        let how = subst (λ (orders : List Order). StepBroke sent failed e orders now after broken) (orders_here t) stepped.how in
+        let how = rw (orders_here t) at stepped.how in
         let stopped = stopped_of sent failed e (step_orders input t) now after broken how in
         record {
           from_one = here.from_one;
           last = here.last;
           before = now;
-          ran = subst (λ (r : Reported). HasRun sent failed input run.plan.now first (t - 1) now r) (sym stepped.unreported) here.ran;
+          ran = rw stepped.unreported here.ran;
           labels = stopped.labels ∙ here.labels;
           ready = ready_halted sent failed e (step_orders input t) now after broken dump changes refl here.ran.ready how;
           stopped_is = stopped;
           within = stepped.within;
           how = how;
           failed_link = λ is_link.
-              failed_link sent failed e (step_orders input t) now after broken changes refl
-              (subst (All (λ (o : Order). o.place < length now.stores)) (orders_here t) here.orders.places) is_link how;
+              failed_link sent failed e (step_orders input t) now after broken changes refl (rw (orders_here t) at here.orders.places) is_link how;
         }
 
     -- where counts are far from their end as the run begins, each store takes what comes
@@ -322,14 +316,12 @@ module _ {L : Type 0} (sent : L → List Sent) (failed : L → ℕ) (run : RunCo
           let inside = subst (λ (k : ℕ). k < length first.stores) there.is there.within in
           let offered : (store_state input first.stores s).offered ≤ 2 ^ 63 = state_holds (λ (u : State). u.offered ≤ 2 ^ 63) first.stores limits.offered _ inside in
           let last = state_holds (λ (u : State). u.store.last ≤ LATEST_START) first.stores begun_early.last_times _ inside in
-          subst (λ (held : List Held). let u = store_state input held s in IsState u × IsFar (bound_at 0) u) (sym here.ran.done.runs.first)
-          ((here.footing.ready s store).sound, record { offered = omega (arith, offered); last = omega (arith, last) })
+          rw here.ran.done.runs.first ((here.footing.ready s store).sound, record { offered = omega (arith, offered); last = omega (arith, last) })
       far_along s (suc n) store within =
           let was = far_along s n store (omega arith) in
           let came = map (λ gives. gives (suc n)) first.sources in
           let back : suc n - 1 ≡ n = omega arith in
-          let went = subst (λ (k : ℕ). IsStepRun (offered input s (suc n)) (input.amounts s (suc n)) (here.ran.done.gave (place_in_memory input s) (suc n)) (state_after s k) (state_after s (suc n)))
-          back (here.ran.done.runs.runs s (suc n) store (omega arith) within) in
+          let went = rw back at (here.ran.done.runs.runs s (suc n) store (omega arith) within) in
           let kept = law (run.base + suc n) _ _ _ _ _ (omega (arith, here.early)) was.0 (all_by (step_of input (suc n)) s came) went in
           let each = All-map (λ (ps : List SpacePacket). length ps ≤ 65535) (λ gives. gives (suc n)) first.sources (limits.few (suc n) (omega arith) (omega (arith, here.last))) in
           let number = offers_few (step_of input (suc n)) s 65535 came each in

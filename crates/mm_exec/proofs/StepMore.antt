@@ -157,9 +157,8 @@ module _ {L : Type 0} (sent : L → List Sent) (failed : L → ℕ) (m : RunInpu
         let there = footing.stand_at s store in
         let many : length after.stores ≡ length m.memory.stores = as_many after.stores m.memory.stores (stepped.labels ∙ labels_before) in
         let gave : stepped.gave p ≡ gave_after (place_in_memory m s) t = rw (eq-eqb t t refl) (ap stepped.gave there.is) in
-        let wants = wanted_is m.amounts places t n s footing.apart store in
-        let Run = λ (parts : List (List Event) × ℕ × List Stored × State × State). IsStepRun parts.0 parts.1 parts.2 parts.3 parts.4 in
-        subst Run (λ i. (offered_here s store i, wants i, gave i, state_before s store i, state_after s store i)) (stepped.runs p (omega (arith, many, there.within)))
+        rw (offered_here s store, wanted_is m.amounts places t n s footing.apart store, gave, state_before s store, state_after s store)
+            at (stepped.runs p (omega (arith, many, there.within)))
 
     each_run : (s u : ℕ) → s < n → 1 ≤ u → u ≤ count → RunAt s u
     each_run s u store first last = elim (cases_eq u t) [
@@ -192,7 +191,7 @@ module _ {L : Type 0} (sent : L → List Sent) (failed : L → ℕ) (m : RunInpu
 
     -- the links took what the orders of the step were given
     took_now : AllTook sent failed (map (λ h. h.id) m.memory.stores) stepped.gave stepped.places before.links after.links
-    took_now = subst (λ (ids : List (List ℕ)). AllTook sent failed ids stepped.gave stepped.places before.links after.links) ids_before stepped.links
+    took_now = rw ids_before at stepped.links
 
     -- the links before the step are as many as at first
     links_many : length before.links ≡ length links
@@ -241,9 +240,8 @@ module _ {L : Type 0} (sent : L → List Sent) (failed : L → ℕ) (m : RunInpu
       run_of : IsRunOf (as_came m) m.amounts count (offered m) gave_of states
       run_of = record {
         ready = λ s store.
-            let as_first : IsReady m.problem s (states s 0) =
-            subst (λ (held : List Held). IsReady m.problem s (store_state m held s)) (sym ran_on.first) (footing.ready s store) in
-            record { sound = as_first.sound; sized = as_first.sized; holds = as_first.holds };
+            let first = footing.ready s store in
+            rw ran_on.first (record { sound = first.sound; sized = first.sized; holds = first.holds });
         timed = λ s u store first last. timed_offers m s u (omega (arith, footing.early));
         runs = each_run;
         came = λ s u store first last. came_at m s u store first (omega arith);
@@ -287,7 +285,5 @@ module _ {L : Type 0} (sent : L → List Sent) (failed : L → ℕ) (m : RunInpu
             accounted = counts (as_came m) m.amounts count (offered m) gave_of states run_of;
             report_is = is ∙ (λ i. record { ids = ap (λ (r : Reported). r.ids) was i; most = ap (λ (r : Reported). r.most) was i; steps = (rows_counted ∙ rows_planned) i });
             rows = rows;
-            counted =
-                subst (λ (steps : List (List StepCounts)). AreByCounters m after.stores steps) (sym rows)
-                (subst (λ (held : List Held). AreByCounters m held (rows_by_counters m stores_after count)) at_count (by_counters m stores_after count ran_on.first (as_came m) m.amounts planned_at));
+            counted = rw (← at_count, rows) (by_counters m stores_after count ran_on.first (as_came m) m.amounts planned_at);
           }

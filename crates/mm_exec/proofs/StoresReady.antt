@@ -108,11 +108,10 @@ tried_keeps dump changes k s t taken c sound tried = elim (cases_lt 0 taken) [
 ]
   where
     alike : t ≡ s → KeepsSwitches s t
-    alike same = subst (KeepsSwitches s) (sym same) (record { storage = refl; retrieval = refl })
+    alike same = rw same (record { storage = refl; retrieval = refl })
 
     by_why : (why : Option OrderBroken) → EndedAs why c → KeepsSwitches s t
-    by_why None whole =
-        subst (KeepsSwitches s) (sym (dump s t c.seat c.order.amount c.sent c.calls sound whole.order tried.run).others) (record { storage = refl; retrieval = refl })
+    by_why None whole = rw (dump s t c.seat c.order.amount c.sent c.calls sound whole.order tried.run).others (record { storage = refl; retrieval = refl })
     by_why (Some why) broke = alike (changes s t c.seat c.order.amount (c.sent ++ c.unsent) c.calls broke.order tried.run).0
 
 -- stores of a dump of which orders broke are ready

@@ -1,14 +1,12 @@
 //! One step of a run: what comes is recorded, and then dumped.
-ghost use Rattle.std.specs.Prelude.{◌≡◌, ◌≤◌, None, Some, OnOk, IfErr};
+ghost use Rattle.std.specs.Prelude.{◌≡◌, ◌≤◌, OnOk, IfErr};
 ghost use Rattle.mm_exec.specs.RunState.{InRun};
 ghost use Rattle.mm_exec.specs.Step.{MayCarry, MayRecord, recording_by, StepRecorded, StepDumped, StepDone, RecordersBroke, OrdersBroke, StepBroke, dump_cause};
 ghost use Rattle.mm_shared.specs.Stores.{labels_of};
-ghost use Rattle.mm_record.specs.Causes.{cause_in};
 ghost use Rattle.mm_dump.specs.Dumped.{MayDump, amount_of};
 
 use crate::laws::halves_make_step_runs;
 use crate::open_run::OpenRun;
-use mm_desk::Fault;
 use mm_dump::{DumpBuffers, Dumped, Link, Order, OrderBroken, dump_open};
 use mm_record::laws::sources_may_stay;
 use mm_record::{AnySource, RecordingStep, cause_in, record_open};
@@ -22,17 +20,6 @@ use std::thread::Threads;
 pub(crate) struct StepBroken {
     pub(crate) cause: Cause,
     pub(crate) spent: u64,
-}
-
-// How a step goes on whose recorders stopped early for this reason, or did not.
-fn recorders_end(step: u32, why: Option<Fault>) -> Result<(), StepBroken>
-    ensures ok { OnOk result (why ≡ None) }
-    ensures how { IfErr result (λ broken. (broken.spent ≡ 0) × (cause_in step why ≡ Some broken.cause)) }
-{
-    match cause_in(step, why) {
-        None => Ok(()),
-        Some(cause) => Err(StepBroken { cause, spent: 0 }),
-    }
 }
 
 // Why dump workers of which this is the worst broken order end a run.
@@ -61,7 +48,10 @@ impl<S: AnySource + Send + Drop, L: Link + Send + Drop> OpenRun<S, L> {
         ensures labels { labels_of self.new.stores ≡ labels_of self.old.stores }
     {
         let why = record_open(rt, alloc, step, &mut self.stores, &mut self.sources);
-        recorders_end(step.step, why)
+        if let Some(cause) = cause_in(step.step, why) {
+            return Err(StepBroken { cause, spent: 0 });
+        }
+        Ok(())
     }
 
     // Carries out the orders of a step.

@@ -42,7 +42,7 @@ loop-step-init g c =
           let many = length-supplies until begun.sources lasts (zip_long g.S.AnySource.leads _ _ lead) in (
             lead,
             record {
-              began = subst (λ (n : ℕ). MayBegin (run_start run.problem.now run.plan.now begun.stores run.base n (length begun.links))) (sym many) may.begins;
+              began = rw many may.begins;
               done = done_first g.L.Link.sent g.L.Link.failed (given_to run first) first c.args.buffers.report refl may.report;
               fit = λ t from_one last. absurd (omega (arith, from_one, last));
               ready = ready;
@@ -84,8 +84,7 @@ returns-clause-done g c =
     let run = c.args.run.now in
     let over : c.steps-step-end.result + 1 ≤ c.loop-step.step = c.loop-step-test.false in
     let all : c.loop-step.step - 1 ≡ length run.problem.now.windows = omega (arith, over, c.steps-step-end.ensures.steps, c.loop-step.auto.step-end) in
-    subst (λ (t : ℕ). InRun g.S.AnySource.leads g.S.AnySource.until c.args.self.now c.loop-step.self
-    (λ first now. HasRun g.L.Link.sent g.L.Link.failed (given_to run first) run.plan.now first t now c.loop-step.buffers.report)) all c.loop-step.invariant.ran
+    rw all at c.loop-step.invariant.ran
 
 pub returns-in-Err-clause-halted : goal.returns-in-Err-clause-halted
 returns-in-Err-clause-halted g c = λ lasts lead.
