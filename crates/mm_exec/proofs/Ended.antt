@@ -1,10 +1,10 @@
 -- How a run ends: what is not begun, and that what was printed is what is lost.
-use Rattle.std.proofs.Common.{◌≡◌, inr, refl, ℕ, List, [], length, map, get_or, sym, ap, subst, ◌∙◌, zero, suc, ◌+◌, ◌-◌, ◌<◌, ◌≤◌, min, arith}
+use Rattle.std.proofs.Common.{◌≡◌, inr, refl, ℕ, List, [], length, map, get_or, sym, ap, subst, ◌∙◌, zero, suc, ◌-◌, ◌<◌, ◌≤◌, arith}
 use Rattle.std.specs.Prelude.{sum_by}
 use Rattle.mm_base.proofs.Sums.{sum_by-same, sum_by-map, sum_by-swap}
-use Rattle.mm_problem.specs.Dumping.{Dumping, stores, steps, size, arrivals}
+use Rattle.mm_problem.specs.Dumping.{Dumping, stores, steps, arrivals}
 use Rattle.mm_plan.specs.Table.{Table, amount}
-use Rattle.mm_plan.specs.Volumes.{Amounts, lost, loss, left, written, store_loss}
+use Rattle.mm_plan.specs.Volumes.{Amounts, lost, loss, left, store_loss}
 use Rattle.mm_desk.specs.declared.held.Held.{Held}
 use Rattle.mm_record.specs.Supplies.{Supply}
 use Rattle.mm_dump.specs.Sending.{Sent}

@@ -14,12 +14,11 @@ use Rattle.mm_shared.specs.Stores.{labels_of, states_of}
 use Rattle.mm_record.specs.Supplies.{Supply, supplies}
 use Rattle.mm_record.specs.Causes.{cause_in}
 use Rattle.mm_record.specs.Recorded.{RecordingContext, offers}
-use Rattle.mm_record.specs.Steps.{given_in, AllRecorded, Records, RecorderRun, AreRecorderRuns, StoppedEarly, IsRecorderRun, TakesAll}
+use Rattle.mm_record.specs.Steps.{given_in, Records, RecorderRun, AreRecorderRuns, StoppedEarly, IsRecorderRun, TakesAll}
 use Rattle.mm_dump.specs.declared.order.Order.{Order}
 use Rattle.mm_dump.specs.declared.order.OrderBroken.{OrderBroken}
 use Rattle.mm_dump.specs.declared.order.OrderBroken.TheVariants as worst
 use Rattle.mm_dump.specs.Sending.{Sent}
-use Rattle.mm_dump.specs.Dumped.{AllTook}
 use Rattle.mm_report.specs.declared.cause.Cause.{Cause}
 use Rattle.mm_exec.specs.Laws.{HalvesMakeStepRuns}
 use Rattle.mm_memory.specs.Laws.{ids_of}

@@ -27,8 +27,6 @@ use Rattle.mm_memory.specs.Holdings.{AreHeld, has_id, store_of}
 use Rattle.mm_record.specs.Supplies.{Supply}
 use Rattle.mm_record.specs.Causes.{is_clock_late, is_late}
 use Rattle.mm_record.specs.Steps.{TakesAll}
-use Rattle.mm_dump.specs.declared.order.Order.{Order}
-use Rattle.mm_dump.specs.Dumped.{times, places_of}
 use Rattle.mm_dump.specs.Laws.{BrokenOrdersChangeNothing}
 use Rattle.mm_dump.specs.Sending.{Sent}
 use Rattle.mm_report.specs.declared.cause.TheConstants.{LATEST_START}
@@ -41,12 +39,10 @@ use Rattle.mm_exec.specs.declared.step.StepBroken.{StepBroken}
 use Rattle.mm_exec.specs.Readiness.{AllMeet, NoneUnknown, is_unknown, meets, meets_at}
 use Rattle.mm_exec.specs.Laws.{RunsLoseAsPlanned, RunsLoseNoPacketUncounted, StepRunsKeepStores}
 use Rattle.mm_exec.specs.AsPlanned.{IsReady}
-use Rattle.mm_exec.specs.StepRuns.{IsStepRun}
 use Rattle.mm_exec.specs.Places.{IsPlaceOf, ArePlaces, StandWithin}
-use Rattle.mm_exec.specs.RunInput.{RunInput, recording_in, step_of, offered, place_in_memory, store_state, step_orders}
+use Rattle.mm_exec.specs.RunInput.{RunInput, recording_in, step_of, place_in_memory, store_state, step_orders}
 use Rattle.mm_exec.specs.RunState.{RunState, with_supplies}
-use Rattle.mm_exec.specs.Numbers.{AreByCounters}
-use Rattle.mm_exec.specs.Step.{AreReady, AreOrders, StepBroke, NeverRefused}
+use Rattle.mm_exec.specs.Step.{AreReady, AreOrders, NeverRefused}
 use Rattle.mm_exec.specs.Steps.{StepsDone, taken_amounts}
 use Rattle.mm_exec.specs.Course.{given_to, recording_at, orders_at, MayReport, StepReported, StepUnreported, AreWithinLimits}
 use Rattle.mm_exec.specs.Ending.{HasRun, IsHaltedIn}

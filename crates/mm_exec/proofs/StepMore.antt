@@ -10,7 +10,6 @@ use Rattle.mm_base.specs.declared.rows.StoreRow.{StoreRow}
 use Rattle.mm_packet.specs.Packet.{SpacePacket}
 use Rattle.mm_problem.specs.Dumping.{row, no_row, stores}
 use Rattle.mm_store.specs.declared.stored.Stored.{Stored}
-use Rattle.mm_desk.specs.declared.event.Event.{Event}
 use Rattle.mm_desk.specs.declared.event.Event.TheVariants.{Offer}
 use Rattle.mm_desk.specs.declared.held.Held.{Held}
 use Rattle.mm_desk.specs.Machine.{State}
@@ -23,7 +22,6 @@ use Rattle.mm_record.specs.Steps.{given_in}
 use Rattle.mm_dump.specs.declared.order.Order.{Order}
 use Rattle.mm_dump.specs.Sending.{Sent, all_sent}
 use Rattle.mm_dump.specs.Dumped.{times, places_of, AllTook}
-use Rattle.mm_report.specs.declared.counts.StepCounts.{StepCounts}
 use Rattle.mm_report.specs.Report.{Reported}
 use Rattle.mm_base.proofs.Elements.{All-unmapped}
 use Rattle.mm_exec.specs.StepRuns.{IsStepRun}
@@ -32,7 +30,7 @@ use Rattle.mm_exec.specs.Laws.{IsRunOf, RunsLoseAsPlanned, RunsLoseNoPacketUncou
 use Rattle.mm_exec.specs.Places.{ArePlaces, AreApart}
 use Rattle.mm_exec.specs.RunInput.{RunInput, step_of, offered, as_came, place_in_memory, store_state}
 use Rattle.mm_record.specs.Counters.{counters_of}
-use Rattle.mm_exec.specs.Numbers.{counts_from, rows_of, row_from, rows_by_counters, orders_of, AreByCounters}
+use Rattle.mm_exec.specs.Numbers.{counts_from, rows_of, row_from, rows_by_counters, orders_of}
 use Rattle.mm_exec.specs.RunState.{RunState}
 use Rattle.mm_exec.specs.Step.{StepDone}
 use Rattle.mm_exec.specs.Steps.{AreStepRuns, SourcesGave, LinksSent, StepsDone, sent_in}

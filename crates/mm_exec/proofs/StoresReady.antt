@@ -1,5 +1,5 @@
 -- Stores that are ready, and counts that are far from their end, from step to step.
-use Rattle.std.proofs.Common.{◌≡◌, inl, inr, ℕ, ◌+◌, ◌*◌, ◌<◌, ◌≤◌, ◌^◌, List, [], ◌∷◌, ◌++◌, length, map, get_or, All, refl, sym, ap, subst, ◌∙◌, ◌-◌, arith}
+use Rattle.std.proofs.Common.{◌≡◌, inl, inr, ℕ, ◌*◌, ◌<◌, ◌≤◌, ◌^◌, List, [], ◌∷◌, ◌++◌, length, map, get_or, All, refl, sym, ap, subst, ◌∙◌, ◌-◌, arith}
 use Rattle.std.specs.Prelude.{IsTrue, Option, Some, None, filter}
 use Rattle.std.specs.List.{AllZip}
 use Rattle.std.proofs.lemmas.Bool.{cases_lt}
@@ -23,7 +23,7 @@ use Rattle.mm_shared.specs.Stores.{labels_of, states_of, id_at}
 use Rattle.mm_memory.specs.Laws.{ids_of}
 use Rattle.mm_memory.specs.Recording.{is_routed}
 use Rattle.mm_record.specs.Recorded.{RecordingContext, offers}
-use Rattle.mm_record.specs.Steps.{given_in, Records, latest, AreFew, TakesAll}
+use Rattle.mm_record.specs.Steps.{given_in, Records}
 use Rattle.mm_dump.specs.declared.order.Order.{Order}
 use Rattle.mm_dump.specs.declared.order.OrderBroken.{OrderBroken}
 use Rattle.mm_dump.specs.Courses.{Course, EndedAs}
