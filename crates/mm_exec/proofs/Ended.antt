@@ -1,28 +1,11 @@
 -- How a run ends: what is not begun, and that what was printed is what is lost.
 use Rattle.std.proofs.Common.{◌≡◌, inr, refl, ℕ, List, [], length, map, get_or, sym, ap, subst, ◌∙◌, zero, suc, ◌-◌, ◌<◌, ◌≤◌, arith}
 use Rattle.std.specs.Prelude.{sum_by}
-use Rattle.mm_base.proofs.Sums.{sum_by-same, sum_by-map, sum_by-swap}
-use Rattle.mm_problem.specs.Dumping.{Dumping, stores, steps, arrivals}
-use Rattle.mm_plan.specs.Table.{Table, amount}
-use Rattle.mm_plan.specs.Volumes.{Amounts, lost, loss, left, store_loss}
-use Rattle.mm_desk.specs.declared.held.Held.{Held}
-use Rattle.mm_record.specs.Supplies.{Supply}
-use Rattle.mm_dump.specs.Sending.{Sent}
-use Rattle.mm_report.specs.declared.cause.Cause.{Cause}
-use Rattle.mm_report.specs.declared.counts.StepCounts.{StepCounts}
-use Rattle.mm_report.specs.Report.{Reported, totals_of}
-use Rattle.mm_exec.specs.declared.course.RunStopped.{RunStopped}
-use Rattle.mm_exec.specs.declared.step.StepBroken.{StepBroken}
-use Rattle.mm_exec.specs.Readiness.{RunStart, run_start}
-use Rattle.mm_exec.specs.RunInput.{RunInput, as_came}
-use Rattle.mm_exec.specs.RunState.{RunState, InRun}
-use Rattle.mm_exec.specs.Numbers.{report_of, rows_of, planned_counts}
-use Rattle.mm_exec.specs.Ending.{IsRefusal, IsStopped}
-use Rattle.mm_exec.specs.Course.{given_to}
-use Rattle.mm_exec.specs.declared.course.RunContext.{RunContext}
-use Rattle.mm_base.proofs.RangeSums.{sum_by_range_same}
+use Rattle.mm_exec.proofs.Words.{sum_by_range_same, sum_by-same, sum_by-map, sum_by-swap, Dumping, stores, steps, arrivals, left_start, left_step, Table}
+use Rattle.mm_exec.proofs.Words.{amount, Amounts, lost, loss, left, store_loss, Held, Supply, Sent, Reported, totals_of, Cause, StepCounts, given_to, IsRefusal}
+use Rattle.mm_exec.proofs.Words.{IsStopped, report_of, rows_of, planned_counts, RunStart, run_start, RunInput, as_came, RunState, InRun, RunContext, RunStopped}
+use Rattle.mm_exec.proofs.Words.{StepBroken}
 use Rattle.mm_plan.specs.Sheet.{SheetRows}
-use Rattle.mm_plan.proofs.Steps.{left_start, left_step}
 use Rattle.mm_planner.specs.PlanTexts.{PlansFor}
 use Rattle.mm_exec.specs.Flying.{LosesWhatIsPrinted}
 use Rattle.mm_exec.proofs.Counters.{came_at}

@@ -1,48 +1,23 @@
 -- What a step that was broken off leaves at a store, and what each link did where a failed one halted it.
 use Rattle.std.proofs.Common.{◌≡◌, inl, inr, ℕ, ◌<◌, List, [], length, map, All, refl, sym, ap, subst, ◌∙◌, arith, ◌⊎◌, zero, suc, ◌+◌, ◌≤◌, cond, eqb, ◌∷◌, ◌++◌}
 use Rattle.std.specs.Prelude.{Option, Some, None, sum_by, slice_index_or}
-use Rattle.std.specs.List.{AllZip}
-use Rattle.std.proofs.lemmas.Bool.{cases_lt}
-use Rattle.std.proofs.lemmas.List.{length-map, append-nil, nil_from_length}
-use Rattle.mm_packet.specs.Packet.{SpacePacket}
-use Rattle.mm_desk.specs.declared.entry.Entry.{Entry}
-use Rattle.mm_desk.specs.declared.event.Event.{Event}
-use Rattle.mm_desk.specs.declared.fault.Fault.{Fault}
 use Rattle.mm_desk.specs.declared.fault.Fault.TheVariants as fault
-use Rattle.mm_desk.specs.declared.held.Held.{Held}
-use Rattle.mm_desk.specs.Machine.{State, IsState}
-use Rattle.mm_desk.specs.Offers.{IsShuffleOfEvents}
-use Rattle.mm_desk.specs.Runs.{IsRun, opening_at, IsLegal}
-use Rattle.mm_shared.specs.Stores.{labels_of, states_of}
-use Rattle.mm_record.specs.Supplies.{Supply}
-use Rattle.mm_record.specs.Causes.{cause_in}
-use Rattle.mm_record.specs.Recorded.{RecordingContext, offers, recording}
-use Rattle.mm_record.specs.Steps.{given_in, HasRecorded}
-use Rattle.mm_dump.specs.declared.order.Order.{Order}
-use Rattle.mm_dump.specs.declared.order.OrderBroken.{OrderBroken}
 use Rattle.mm_dump.specs.declared.order.OrderBroken.TheVariants as worst
-use Rattle.mm_dump.specs.Laws.{BrokenOrdersChangeNothing}
-use Rattle.mm_dump.specs.Sending.{Sent}
-use Rattle.mm_dump.specs.Courses.{Course, EndedAs, IsWhole, IsBroken, IsCourse, worse, worst_of, failed_by, sent_by}
 use Rattle.mm_dump.specs.Dumped.{times, wanted, HasTried, AllSettled, places_of, AllTried}
-use Rattle.mm_report.specs.declared.cause.Cause.{Cause}
 use Rattle.mm_report.specs.declared.cause.Cause.TheVariants.{LinkFailed}
 use Rattle.mm_exec.proofs.Replays.{IsRun-append}
 use Rattle.mm_base.specs.declared.rows.RouteRow.{RouteRow}
 use Rattle.mm_exec.specs.Failure.{FailedLink, NoneBroke, LastBroke, LinksFailed}
-use Rattle.mm_exec.specs.Halts.{AreFirstOffers, IsByOneLog, BrokenStepsAreLogs}
-use Rattle.mm_memory.specs.Laws.{ids_of}
-use Rattle.mm_exec.specs.RunState.{RunState}
-use Rattle.mm_exec.specs.declared.step.StepBroken.{StepBroken}
-use Rattle.mm_exec.specs.Step.{StepBroke, dump_cause}
 use Rattle.mm_exec.proofs.Parts.{as_many, same_ids, by_how, all_first, first_turns}
 use Rattle.mm_exec.proofs.StoresReady.{state_holds}
 use Rattle.std.proofs.lemmas.Bool.Decides.{eqb_tells}
-use Rattle.std.proofs.lemmas.List.Elements.{All-nil, All-cons, All-head, All-tail}
-use Rattle.std.proofs.lemmas.List.Sums.{sum_by-cons, sum_by-append, get_or-le-sum_by}
-use Rattle.mm_base.proofs.Tests.{cond-eqb_same, cond-eqb_other}
+use Rattle.mm_exec.proofs.Words.{cases_lt, length-map, append-nil, nil_from_length, All-nil, All-cons, All-head, All-tail, sum_by-cons, sum_by-append}
+use Rattle.mm_exec.proofs.Words.{get_or-le-sum_by, AllZip, cond-eqb_same, cond-eqb_other, SpacePacket, given_oldest, State, IsState, IsShuffleOfEvents, IsRun}
+use Rattle.mm_exec.proofs.Words.{opening_at, IsLegal, Entry, Event, Fault, Held, labels_of, states_of, ids_of, cause_in, RecordingContext, offers, recording}
+use Rattle.mm_exec.proofs.Words.{given_in, HasRecorded, Supply, Course, EndedAs, IsWhole, IsBroken, IsCourse, worse, worst_of, failed_by, sent_by}
+use Rattle.mm_exec.proofs.Words.{BrokenOrdersChangeNothing, Sent, Order, OrderBroken, Cause, AreFirstOffers, IsByOneLog, BrokenStepsAreLogs, RunState}
+use Rattle.mm_exec.proofs.Words.{StepBroke, dump_cause, StepBroken}
 use Rattle.mm_dump.specs.Broken.{aborted}
-use Rattle.mm_desk.proofs.Logs.{given_oldest}
 
 -- recorders know nothing of links
 no_link : (step : ℕ) (why : Option Fault) → cause_in step why ≡ Some (LinkFailed step) → ⊥

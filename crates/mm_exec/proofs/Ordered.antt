@@ -1,26 +1,11 @@
 -- What the orders of a step want of each store.
 use Rattle.std.proofs.Common.{◌≡◌, ◌≢◌, ℕ, ◌<◌, ◌≤◌, Bool, cond, ltb, eqb, List, [], ◌∷◌, length, map, All, refl, sym, subst, ◌∙◌, arith, ◌+◌, ◌++◌, ap, add-one}
-use Rattle.std.specs.Prelude.{filter, slice_index, AllPairs, nat_lt}
-use Rattle.std.specs.List.{sum_by, range_with_len}
-use Rattle.std.proofs.lemmas.Bool.{lt-ltb, le-ltb, ltb-true, ltb-false, ne_eqb, eq-eqb, cond_both}
-use Rattle.std.proofs.lemmas.List.Elements.{All-map, filter-append}
-use Rattle.mm_base.proofs.Pairs.{AllPairs-map}
-use Rattle.mm_base.proofs.Ranges.{All-filter-range_with_len, AllPairs-filter-range_with_len, range_with_len_more}
-use Rattle.mm_base.proofs.RangeSums.{sum_by_range_one, sum_by_range_same}
-use Rattle.mm_base.proofs.Sums.{sum_by-filter, sum_by-map, sum_by-map-filter}
-use Rattle.mm_plan.specs.Fit.{in_step}
-use Rattle.mm_plan.specs.Volumes.{Amounts}
-use Rattle.mm_dump.specs.declared.order.Order.{Order}
-use Rattle.mm_dump.specs.Dumped.{wanted, times, places_of}
+use Rattle.mm_exec.proofs.Words.{lt-ltb, le-ltb, ltb-true, ltb-false, ne_eqb, eq-eqb, cond_both, length-map, map-append, append-nil, All-map, filter-append}
+use Rattle.mm_exec.proofs.Words.{length-range_with_len, length-filter, count_by-le-length, sum_by, range_with_len, filter, slice_index, AllPairs, nat_lt}
+use Rattle.mm_exec.proofs.Words.{AllPairs-map, sum_by_range_one, sum_by_range_same, All-filter-range_with_len, AllPairs-filter-range_with_len}
+use Rattle.mm_exec.proofs.Words.{range_with_len_more, sum_by-filter, sum_by-map, sum_by-map-filter, MAX_STORES, in_step, Amounts, wanted, times, places_of}
+use Rattle.mm_exec.proofs.Words.{Order, orders_of, AreApart, RunInput, place_in_memory, step_orders, AreOrders}
 use Rattle.mm_exec.proofs.RangeLists.{made_alike}
-use Rattle.mm_exec.specs.Places.{AreApart}
-use Rattle.mm_exec.specs.RunInput.{RunInput, place_in_memory, step_orders}
-use Rattle.mm_exec.specs.Numbers.{orders_of}
-use Rattle.mm_exec.specs.Step.{AreOrders}
-use Rattle.mm_base.specs.declared.limits.TheConstants.{MAX_STORES}
-use Rattle.std.proofs.lemmas.List.{length-map, map-append, append-nil}
-use Rattle.std.proofs.lemmas.List.FromFn.{length-range_with_len}
-use Rattle.std.proofs.lemmas.List.Sums.{length-filter, count_by-le-length}
 
 module _ (x : Amounts) (places : List ℕ) (t : ℕ) where
   -- whether a store has an order, and the order

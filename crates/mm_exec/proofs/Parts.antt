@@ -1,33 +1,14 @@
 -- The parts of a step, and the first offers of what sources give.
 use Rattle.std.proofs.Common.{◌≡◌, inl, inr, ℕ, suc, ◌<◌, List, [], ◌∷◌, ◌++◌, length, map, All, refl, sym, ap, subst, ◌∙◌, arith, append_assoc}
-use Rattle.std.specs.Prelude.{Option, Some, None, IfNone, IfSome}
-use Rattle.std.specs.List.{AllZip}
-use Rattle.std.proofs.lemmas.List.{length-map, append-nil}
-use Rattle.std.proofs.lemmas.Option.{same_Some}
-use Rattle.std.proofs.lemmas.List.Elements.{All-head, All-tail}
 use Rattle.std.proofs.lemmas.Simd.{map-map}
-use Rattle.mm_packet.specs.Packet.{SpacePacket}
-use Rattle.mm_desk.specs.declared.fault.Fault.{Fault}
+use Rattle.mm_exec.proofs.Words.{length-map, append-nil, All-head, All-tail, same_Some, AllZip, Option, Some, None, IfNone, IfSome, SpacePacket, Event, Fault}
+use Rattle.mm_exec.proofs.Words.{Held, labels_of, states_of, ids_of, cause_in, RecordingContext, offers, Supply, supplies, Sent, Order, OrderBroken, Cause}
+use Rattle.mm_exec.proofs.Words.{AreFirstOffers, HalvesMakeStepRuns, RunState, with_supplies, InRun, StepRecorded, StepDumped, StepDone, KeepsRest, IsCauseIn}
+use Rattle.mm_exec.proofs.Words.{NeverRefused, dump_cause, RecordersBroke, OrdersBroke, StepBroke, StepStopped, StepBroken}
 use Rattle.mm_desk.specs.declared.fault.Fault.TheVariants as fault
-use Rattle.mm_desk.specs.declared.held.Held.{Held}
-use Rattle.mm_shared.specs.Stores.{labels_of, states_of}
-use Rattle.mm_record.specs.Supplies.{Supply, supplies}
-use Rattle.mm_record.specs.Causes.{cause_in}
-use Rattle.mm_record.specs.Recorded.{RecordingContext, offers}
 use Rattle.mm_record.specs.Steps.{given_in, Records, RecorderRun, AreRecorderRuns, StoppedEarly, IsRecorderRun, TakesAll}
-use Rattle.mm_dump.specs.declared.order.Order.{Order}
-use Rattle.mm_dump.specs.declared.order.OrderBroken.{OrderBroken}
 use Rattle.mm_dump.specs.declared.order.OrderBroken.TheVariants as worst
-use Rattle.mm_dump.specs.Sending.{Sent}
-use Rattle.mm_report.specs.declared.cause.Cause.{Cause}
-use Rattle.mm_exec.specs.Laws.{HalvesMakeStepRuns}
-use Rattle.mm_memory.specs.Laws.{ids_of}
-use Rattle.mm_exec.specs.RunState.{RunState, with_supplies, InRun}
-use Rattle.mm_exec.specs.declared.step.StepBroken.{StepBroken}
-use Rattle.mm_exec.specs.Step.{StepRecorded, StepDumped, StepDone, KeepsRest, IsCauseIn, NeverRefused, dump_cause, RecordersBroke, OrdersBroke, StepBroke, StepStopped}
-use Rattle.mm_desk.specs.declared.event.Event.{Event}
 use Rattle.mm_record.proofs.Offers.{offers_more}
-use Rattle.mm_exec.specs.Halts.{AreFirstOffers}
 
 -- stores with the same labels have the same identifiers
 pub same_ids : (xs ys : List Held) → labels_of xs ≡ labels_of ys → map (λ (h : Held). h.id) xs ≡ map (λ (h : Held). h.id) ys

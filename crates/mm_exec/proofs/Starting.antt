@@ -1,53 +1,21 @@
 -- How a run begins, and what is known of it on the way.
 use Rattle.std.proofs.Common.{◌≡◌, ◌≢◌, ℕ, zero, suc, ◌+◌, ◌-◌, ◌*◌, ◌<◌, ◌≤◌, ◌^◌, Bool, true, false, List, [], length, map, get_or, All, refl, sym, subst, ap, ◌∙◌, arith}
-use Rattle.std.specs.Prelude.{slice_index, slice_index_or, bytes_eq, slice_get, Option, Some, None, is_some, not, ◌&&◌, IsTrue, vec_capacity}
-use Rattle.std.specs.List.{list_any, position_or_len}
-use Rattle.std.proofs.lemmas.Bool.{eqb-true, eqb-false, ltb-false, or_parts, both_ways, false_from_ne_true}
-use Rattle.std.proofs.lemmas.List.{length-map, get_or-map, append-nil}
-use Rattle.std.proofs.lemmas.List.FromFn.{length-map-range_with_len}
-use Rattle.std.proofs.lemmas.List.Elements.{All-map}
-use Rattle.std.proofs.lemmas.List.Folds.{find_at, list_any_at}
-use Rattle.std.proofs.lemmas.List.Sums.{passes_at_first, position_or_len_is, prefix_len-le-length}
-use Rattle.std.proofs.lemmas.List.Sorted.{IsPermutation-refl}
-use Rattle.std.proofs.lemmas.Option.{slice_get-get_or}
-use Rattle.std.proofs.lemmas.Slice.Eq.{bytes_eq-Decides}
-use Rattle.mm_base.specs.declared.limits.TheConstants.{MAX_STEPS, MAX_STORES}
-use Rattle.mm_base.specs.declared.rows.StoreRow.{StoreRow}
-use Rattle.mm_packet.specs.Packet.{SpacePacket}
-use Rattle.mm_problem.specs.Dumping.{Dumping, IsDumping, row, no_row, place}
-use Rattle.mm_plan.specs.Fit.{FitsAt}
-use Rattle.mm_plan.specs.Table.{amount}
-use Rattle.mm_desk.specs.declared.held.Held.{Held}
+use Rattle.mm_exec.proofs.Words.{eqb-true, eqb-false, ltb-false, or_parts, both_ways, false_from_ne_true, length-map, get_or-map, append-nil, All-map, find_at}
+use Rattle.mm_exec.proofs.Words.{list_any_at, length-map-range_with_len, IsPermutation-refl, passes_at_first, position_or_len_is, prefix_len-le-length}
+use Rattle.mm_exec.proofs.Words.{slice_get-get_or, bytes_eq-Decides, list_any, position_or_len, slice_index, slice_index_or, bytes_eq, slice_get, Option, Some}
+use Rattle.mm_exec.proofs.Words.{None, is_some, not, ◌&&◌, IsTrue, vec_capacity, MAX_STEPS, MAX_STORES, StoreRow, SpacePacket, Dumping, IsDumping, row, no_row}
+use Rattle.mm_exec.proofs.Words.{place, FitsAt, amount, OrdersDumpTheOldest, State, IsState, opening_at, blank, Held, labels_of, states_of, AreHeld, has_id}
+use Rattle.mm_exec.proofs.Words.{store_of, named_of, held_as, is_clock_late, is_late, TakesAll, Supply, BrokenOrdersChangeNothing, Sent, Reported, IsReady}
+use Rattle.mm_exec.proofs.Words.{given_to, recording_at, orders_at, MayReport, StepReported, StepUnreported, AreWithinLimits, HasRun, IsHaltedIn}
+use Rattle.mm_exec.proofs.Words.{RunsLoseAsPlanned, RunsLoseNoPacketUncounted, StepRunsKeepStores, IsPlaceOf, ArePlaces, StandWithin, AllMeet, NoneUnknown}
+use Rattle.mm_exec.proofs.Words.{is_unknown, meets, meets_at, RunInput, recording_in, step_of, place_in_memory, store_state, step_orders, RunState}
+use Rattle.mm_exec.proofs.Words.{with_supplies, AreReady, AreOrders, NeverRefused, StepsDone, taken_amounts, RunContext, StepBroken}
 use Rattle.mm_desk.specs.declared.state.Retrieval.{Retrieval}
-use Rattle.mm_desk.specs.Laws.{OrdersDumpTheOldest}
-use Rattle.mm_desk.specs.Machine.{State, IsState}
-use Rattle.mm_desk.specs.Runs.{opening_at, blank}
-use Rattle.mm_shared.specs.Stores.{labels_of, states_of}
-use Rattle.mm_memory.specs.Holdings.{AreHeld, has_id, store_of}
-use Rattle.mm_record.specs.Supplies.{Supply}
-use Rattle.mm_record.specs.Causes.{is_clock_late, is_late}
-use Rattle.mm_record.specs.Steps.{TakesAll}
-use Rattle.mm_dump.specs.Laws.{BrokenOrdersChangeNothing}
-use Rattle.mm_dump.specs.Sending.{Sent}
 use Rattle.mm_report.specs.declared.cause.TheConstants.{LATEST_START}
-use Rattle.mm_report.specs.Report.{Reported}
-use Rattle.mm_exec.specs.declared.course.RunContext.{RunContext}
 use Rattle.mm_exec.specs.declared.requirement.Requirement.{Requirement}
 use Rattle.mm_exec.specs.declared.requirement.Requirement.TheVariants.{Ready, Size, Opening}
 use Rattle.mm_exec.specs.declared.room.RunBuffers.{RunBuffers}
-use Rattle.mm_exec.specs.declared.step.StepBroken.{StepBroken}
-use Rattle.mm_exec.specs.Readiness.{AllMeet, NoneUnknown, is_unknown, meets, meets_at}
-use Rattle.mm_exec.specs.Laws.{RunsLoseAsPlanned, RunsLoseNoPacketUncounted, StepRunsKeepStores}
-use Rattle.mm_exec.specs.AsPlanned.{IsReady}
-use Rattle.mm_exec.specs.Places.{IsPlaceOf, ArePlaces, StandWithin}
-use Rattle.mm_exec.specs.RunInput.{RunInput, recording_in, step_of, place_in_memory, store_state, step_orders}
-use Rattle.mm_exec.specs.RunState.{RunState, with_supplies}
-use Rattle.mm_exec.specs.Step.{AreReady, AreOrders, NeverRefused}
-use Rattle.mm_exec.specs.Steps.{StepsDone, taken_amounts}
-use Rattle.mm_exec.specs.Course.{given_to, recording_at, orders_at, MayReport, StepReported, StepUnreported, AreWithinLimits}
-use Rattle.mm_exec.specs.Ending.{HasRun, IsHaltedIn}
 use Rattle.mm_memory.proofs.PlaceLemmas.{is_other}
-use Rattle.mm_record.proofs.Memories.{named_of, held_as}
 use Rattle.mm_exec.proofs.Counters.{by_counters}
 use Rattle.mm_exec.proofs.Halts.{failed_link}
 use Rattle.mm_exec.proofs.Drawing.{taken_fits}

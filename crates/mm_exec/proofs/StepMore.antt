@@ -1,39 +1,12 @@
 -- One step more of a run.
 use Rattle.std.proofs.Common.{◌≡◌, ◌≢◌, inl, inr, ℕ, zero, suc, ◌+◌, ◌-◌, ◌<◌, ◌≤◌, ◌^◌, cond, eqb, List, [], ◌∷◌, ◌++◌, length, map, All, refl, sym, subst, ap, ◌∙◌, arith, append_assoc}
-use Rattle.std.specs.Prelude.{flat_map, slice_index, slice_index_or, filter}
-use Rattle.std.specs.List.{range_with_len}
-use Rattle.std.proofs.lemmas.Bool.{cases_eq, eq-eqb, ne_eqb}
-use Rattle.std.proofs.lemmas.List.{map_push, flat_map_more, length-map, get_or-map}
-use Rattle.std.proofs.lemmas.List.Elements.{All-map}
-use Rattle.mm_base.proofs.Ranges.{range_with_len_next}
-use Rattle.mm_base.specs.declared.rows.StoreRow.{StoreRow}
-use Rattle.mm_packet.specs.Packet.{SpacePacket}
-use Rattle.mm_problem.specs.Dumping.{row, no_row, stores}
-use Rattle.mm_store.specs.declared.stored.Stored.{Stored}
-use Rattle.mm_desk.specs.declared.event.Event.TheVariants.{Offer}
-use Rattle.mm_desk.specs.declared.held.Held.{Held}
-use Rattle.mm_desk.specs.Machine.{State}
-use Rattle.mm_desk.specs.Runs.{opening_at}
-use Rattle.mm_shared.specs.Stores.{labels_of, states_of, id_at}
-use Rattle.mm_memory.specs.Recording.{is_routed}
-use Rattle.mm_record.specs.Supplies.{Supply}
-use Rattle.mm_record.specs.Recorded.{RecordingContext, offers, recording}
-use Rattle.mm_record.specs.Steps.{given_in}
-use Rattle.mm_dump.specs.declared.order.Order.{Order}
-use Rattle.mm_dump.specs.Sending.{Sent, all_sent}
+use Rattle.mm_exec.proofs.Words.{cases_eq, eq-eqb, ne_eqb, map_push, flat_map_more, length-map, get_or-map, All-map, range_with_len, flat_map, slice_index}
+use Rattle.mm_exec.proofs.Words.{slice_index_or, filter, All-unmapped, range_with_len_next, StoreRow, SpacePacket, row, no_row, stores, Stored, State}
+use Rattle.mm_exec.proofs.Words.{opening_at, Offer, Held, labels_of, states_of, id_at, is_routed, counters_of, RecordingContext, offers, recording, given_in}
+use Rattle.mm_exec.proofs.Words.{Supply, Sent, all_sent, Order, Reported, AtEach, IsReady, AsPlanned, IsRunOf, RunsLoseAsPlanned, RunsLoseNoPacketUncounted}
+use Rattle.mm_exec.proofs.Words.{counts_from, rows_of, row_from, rows_by_counters, orders_of, ArePlaces, AreApart, RunInput, step_of, offered, as_came}
+use Rattle.mm_exec.proofs.Words.{place_in_memory, store_state, RunState, StepDone, IsStepRun, AreStepRuns, SourcesGave, LinksSent, StepsDone, sent_in}
 use Rattle.mm_dump.specs.Dumped.{times, places_of, AllTook}
-use Rattle.mm_report.specs.Report.{Reported}
-use Rattle.mm_base.proofs.Elements.{All-unmapped}
-use Rattle.mm_exec.specs.StepRuns.{IsStepRun}
-use Rattle.mm_exec.specs.AsPlanned.{AtEach, IsReady, AsPlanned}
-use Rattle.mm_exec.specs.Laws.{IsRunOf, RunsLoseAsPlanned, RunsLoseNoPacketUncounted}
-use Rattle.mm_exec.specs.Places.{ArePlaces, AreApart}
-use Rattle.mm_exec.specs.RunInput.{RunInput, step_of, offered, as_came, place_in_memory, store_state}
-use Rattle.mm_record.specs.Counters.{counters_of}
-use Rattle.mm_exec.specs.Numbers.{counts_from, rows_of, row_from, rows_by_counters, orders_of}
-use Rattle.mm_exec.specs.RunState.{RunState}
-use Rattle.mm_exec.specs.Step.{StepDone}
-use Rattle.mm_exec.specs.Steps.{AreStepRuns, SourcesGave, LinksSent, StepsDone, sent_in}
 use Rattle.mm_exec.proofs.Counters.{counts_planned, by_counters, came_at, timed_offers}
 use Rattle.mm_exec.proofs.RangeLists.{map_range_same, flat_map_range_same}
 use Rattle.mm_exec.proofs.Ordered.{wanted_is, orders_are}

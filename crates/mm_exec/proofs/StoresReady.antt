@@ -1,42 +1,11 @@
 -- Stores that are ready, and counts that are far from their end, from step to step.
 use Rattle.std.proofs.Common.{◌≡◌, inl, inr, ℕ, ◌*◌, ◌<◌, ◌≤◌, ◌^◌, List, [], ◌∷◌, ◌++◌, length, map, get_or, All, refl, sym, ap, subst, ◌∙◌, ◌-◌, arith}
-use Rattle.std.specs.Prelude.{IsTrue, Option, Some, None, filter}
-use Rattle.std.specs.List.{AllZip}
-use Rattle.std.proofs.lemmas.Bool.{cases_lt}
-use Rattle.std.proofs.lemmas.List.{length-map, get_or-map}
-use Rattle.std.proofs.lemmas.List.Elements.{All-nil, All-cons, All-map}
-use Rattle.std.proofs.lemmas.List.Sums.{sum_by-le}
-use Rattle.mm_base.proofs.Pairs.{All-front}
-use Rattle.mm_base.proofs.Sums.{sum_by-map}
-use Rattle.mm_record.specs.Supplies.{Supply}
-use Rattle.mm_record.proofs.Taking.{filter_fewer}
-use Rattle.mm_packet.specs.Packet.{SpacePacket}
-use Rattle.mm_desk.specs.declared.event.Event.{Event}
-use Rattle.mm_desk.specs.declared.event.Event.TheVariants.{Offer}
-use Rattle.mm_desk.specs.declared.fault.Fault.{Fault}
-use Rattle.mm_desk.specs.declared.held.Held.{Held}
-use Rattle.mm_desk.specs.Laws.{OrdersDumpTheOldest}
-use Rattle.mm_desk.specs.Machine.{State, IsState, step}
-use Rattle.mm_desk.specs.Offers.{count_of}
-use Rattle.mm_desk.specs.Runs.{blank, opening_at, replay}
-use Rattle.mm_shared.specs.Stores.{labels_of, states_of, id_at}
-use Rattle.mm_memory.specs.Laws.{ids_of}
-use Rattle.mm_memory.specs.Recording.{is_routed}
-use Rattle.mm_record.specs.Recorded.{RecordingContext, offers}
-use Rattle.mm_record.specs.Steps.{given_in, Records}
-use Rattle.mm_dump.specs.declared.order.Order.{Order}
-use Rattle.mm_dump.specs.declared.order.OrderBroken.{OrderBroken}
-use Rattle.mm_dump.specs.Courses.{Course, EndedAs}
-use Rattle.mm_dump.specs.Dumped.{HasTried, MayDump}
-use Rattle.mm_dump.specs.Laws.{BrokenOrdersChangeNothing}
-use Rattle.mm_dump.specs.Sending.{Sent}
-use Rattle.mm_exec.specs.Laws.{StepRunsKeepStores}
-use Rattle.mm_exec.specs.StepRuns.{IsBy, AreBy, KeepsStore}
+use Rattle.mm_exec.proofs.Words.{cases_lt, length-map, get_or-map, All-nil, All-cons, All-map, sum_by-le, AllZip, IsTrue, Option, Some, None, filter, All-front}
+use Rattle.mm_exec.proofs.Words.{sum_by-map, SpacePacket, OrdersDumpTheOldest, State, IsState, step, count_of, blank, opening_at, replay, Event, Offer, Fault}
+use Rattle.mm_exec.proofs.Words.{Held, labels_of, states_of, id_at, ids_of, is_routed, filter_fewer, RecordingContext, offers, given_in, Records, Supply}
+use Rattle.mm_exec.proofs.Words.{Course, EndedAs, HasTried, MayDump, BrokenOrdersChangeNothing, Sent, Order, OrderBroken, AreFirstOffers, StepRunsKeepStores}
+use Rattle.mm_exec.proofs.Words.{RunState, AreReady, MayCarry, StepRecorded, StepDone, OrdersBroke, StepBroke, IsBy, AreBy, KeepsStore, StepBroken}
 use Rattle.mm_exec.proofs.Replays.{KeepsSwitches, run_moves}
-use Rattle.mm_exec.specs.Halts.{AreFirstOffers}
-use Rattle.mm_exec.specs.Step.{AreReady, MayCarry, StepRecorded, StepDone, OrdersBroke, StepBroke}
-use Rattle.mm_exec.specs.RunState.{RunState}
-use Rattle.mm_exec.specs.declared.step.StepBroken.{StepBroken}
 use Rattle.mm_exec.proofs.Placing.{no_held}
 use Rattle.mm_exec.proofs.Parts.{as_many, by_how, first_turns}
 

@@ -1,9 +1,5 @@
 use Rattle.std.proofs.Common.{◌≡◌, ◌∙◌, refl, ap}
-use Rattle.mm_memory.specs.Holdings.{Holdings}
-use Rattle.mm_shared.specs.Stores.{labels_of}
-use Rattle.mm_record.specs.Supplies.{supplies}
-use Rattle.mm_record.proofs.Memories.{held_as}
-use Rattle.mm_exec.specs.RunInput.{run_input}
+use Rattle.mm_exec.proofs.Words.{labels_of, Holdings, held_as, supplies, run_input}
 use Rattle.mm_exec.proofs.Ended.{total_is}
 use Rattle.mm_exec.proofs.run.carry_out.Given as given
 use Rattle.mm_exec.proofs.run.carry_out.Goals as goal

@@ -1,7 +1,5 @@
 use Rattle.std.proofs.Common.{refl}
-use Rattle.std.proofs.lemmas.Result.{IfErr-weaker, on_ok_weaker}
-use Rattle.mm_record.proofs.Supplying.{all_stay}
-use Rattle.mm_exec.specs.Step.{recording_by}
+use Rattle.mm_exec.proofs.Words.{IfErr-weaker, on_ok_weaker, all_stay, recording_by}
 use Rattle.mm_exec.proofs.Parts.{as_many, whole_step, broken_step}
 use Rattle.mm_exec.proofs.StoresReady.{may_dump, ready_recorded}
 use Rattle.mm_exec.proofs.open_run.OpenRun.carry_step.Goals as goal

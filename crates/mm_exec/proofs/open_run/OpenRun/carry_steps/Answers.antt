@@ -1,9 +1,5 @@
 use Rattle.std.proofs.Common.{◌≡◌, ◌∙◌, ◌+◌, ◌-◌, ◌≤◌, List, length, take, refl, arith}
-use Rattle.std.specs.List.{AllZip}
-use Rattle.mm_record.specs.Supplies.{Supply, supplies}
-use Rattle.mm_record.proofs.Supplying.{all_stay, length-supplies, zip_long}
-use Rattle.mm_exec.specs.Course.{given_to}
-use Rattle.mm_exec.specs.RunState.{RunState, with_supplies}
+use Rattle.mm_exec.proofs.Words.{AllZip, all_stay, length-supplies, zip_long, Supply, supplies, given_to, RunState, with_supplies}
 use Rattle.mm_exec.proofs.Parts.{as_many}
 use Rattle.mm_exec.proofs.Placing.{places_cut, stand_cut}
 use Rattle.mm_exec.proofs.Starting.{Underway, underway, may_report, all_ready, done_first, ran_on, halted_in, far_halted}

@@ -1,9 +1,5 @@
 use Rattle.std.proofs.Common.{◌≡◌, ◌-◌, ◌≤◌, vec_capacity}
-use Rattle.mm_base.specs.declared.limits.TheConstants.{MAX_STORES}
-use Rattle.mm_shared.specs.Stores.{labels_of}
-use Rattle.mm_exec.specs.Course.{given_to}
-use Rattle.mm_exec.specs.Ending.{HasRun}
-use Rattle.mm_exec.specs.RunState.{InRun}
+use Rattle.mm_exec.proofs.Words.{MAX_STORES, labels_of, given_to, HasRun, InRun}
 use Rattle.mm_exec.proofs.open_run.OpenRun.carry_steps.Given as goal
 
 abbrev pub invariant-loop-step : goal.invariant-loop-step

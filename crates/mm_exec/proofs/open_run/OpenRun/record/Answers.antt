@@ -1,6 +1,5 @@
 use Rattle.std.proofs.Common.{refl, sym, arith}
-use Rattle.std.proofs.lemmas.List.{with_items_is}
-use Rattle.mm_record.proofs.Memories.{not_caused}
+use Rattle.mm_exec.proofs.Words.{with_items_is, not_caused}
 use Rattle.mm_exec.proofs.Parts.{recorded_whole}
 use Rattle.mm_exec.proofs.open_run.OpenRun.record.Goals as goal
 

@@ -1,8 +1,5 @@
 use Rattle.std.proofs.Common.{◌∙◌, ℕ, List, [], ◌∷◌, ◌++◌, length, ap, arith}
-use Rattle.mm_plan.specs.Table.{amount}
-use Rattle.mm_report.specs.declared.counts.StepCounts.{StepCounts}
-use Rattle.mm_exec.specs.Numbers.{row_from, orders_of}
-use Rattle.mm_shared.specs.Stores.{stores_in}
+use Rattle.mm_exec.proofs.Words.{amount, stores_in, StepCounts, row_from, orders_of}
 use Rattle.mm_exec.proofs.Counters.{row_taken}
 use Rattle.mm_exec.proofs.open_run.OpenRun.report_step.Goals as goal
 

@@ -1,12 +1,6 @@
 use Rattle.std.proofs.Common.{◌∙◌, length, refl, inl, inr, All, arith, ap, subst}
-use Rattle.std.proofs.lemmas.Result.{IfErr-weaker}
-use Rattle.mm_desk.specs.declared.held.Held.{Held}
-use Rattle.mm_desk.specs.Machine.{IsState}
-use Rattle.mm_exec.specs.Readiness.{RunStart, run_start, Stops, MayBegin}
-use Rattle.mm_exec.specs.declared.course.RunStopped.{RunStopped}
-use Rattle.mm_exec.specs.RunState.{state_of}
+use Rattle.mm_exec.proofs.Words.{IfErr-weaker, IsState, Held, stores_in, RunStart, run_start, Stops, MayBegin, state_of, RunStopped}
 use Rattle.mm_exec.proofs.Ended.{start_by, not_begun}
-use Rattle.mm_shared.specs.Stores.{stores_in}
 use Rattle.mm_exec.proofs.run_parts.RunParts.carry_plan.Given as given
 use Rattle.mm_exec.proofs.run_parts.RunParts.carry_plan.Goals as goal
 use Rattle.mm_exec.proofs.run_parts.RunParts.carry_plan.Goals.{After-ready}
