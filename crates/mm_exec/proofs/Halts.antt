@@ -60,7 +60,8 @@ then_nothing e given orders k s t firsts are log run shuffle = record {
 }
 
 module _ {L : Type 0} (sent : L → List Sent) (failed : L → ℕ) (step now : ℕ) (routes : List RouteRow) (orders : List Order)
-    (before after : RunState Supply L) (stop : StepBroken) (k : ℕ) (within : k < length before.stores) where
+    (before after : RunState Supply L) (stop : StepBroken) (broke : StepBroke sent failed (recording step now routes before.stores) orders before after stop)
+    (labels : labels_of after.stores ≡ labels_of before.stores) (k : ℕ) (within : k < length before.stores) where
   abbrev e : RecordingContext
   e = recording step now routes before.stores
 
@@ -73,8 +74,9 @@ module _ {L : Type 0} (sent : L → List Sent) (failed : L → ℕ) (step now : 
   inside : (x : RunState Supply L) → labels_of x.stores ≡ labels_of before.stores → k < length (states_of x.stores)
   inside x same = omega (arith, within, as_many x.stores before.stores same, length-map x.stores (λ (h : Held). h.state))
 
-  one_log : labels_of after.stores ≡ labels_of before.stores → StepBroke sent failed e orders before after stop → IsByOneLog e came orders k (state_in before) (state_in after)
-  one_log labels =
+  -- the law
+  pub one_log : IsByOneLog e came orders k (state_in before) (state_in after)
+  one_log =
       by_how sent failed e orders before after stop (IsByOneLog e came orders k (state_in before) (state_in after))
       (λ broke.
       let went = broke.records.went k (inside after labels) in
@@ -83,12 +85,7 @@ module _ {L : Type 0} (sent : L → List Sent) (failed : L → ℕ) (step now : 
       went.log went.run went.shuffle)
       (λ mid recorded broke.
       then_tried e came orders k (state_in before) (state_in mid) (state_in after) (recorded.stores_are k (inside mid recorded.labels)) (sum_by (times k) broke.settled.places)
-      (broke.settled.course k) (broke.settled.stores k (inside after (broke.labels ∙ recorded.labels))) (broke.settled.amounts k))
-
--- the law
-pub steps_are_logs : {L : Type 0} (sent : L → List Sent) (failed : L → ℕ) → BrokenStepsAreLogs sent failed
-steps_are_logs sent failed step now routes orders before after stop broke labels k within =
-    one_log sent failed step now routes orders before after stop k within labels broke
+      (broke.settled.course k) (broke.settled.stores k (inside after (broke.labels ∙ recorded.labels))) (broke.settled.amounts k)) broke
 
 -- what an order broke for was at worst a link
 abbrev pub IsMild : Option OrderBroken → Type 0

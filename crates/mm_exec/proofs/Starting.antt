@@ -68,19 +68,20 @@ standing_gives true None is = (refl, refl)
 standing_gives true (Some r) is = absurd (cc is)
 standing_gives false r is = absurd (cc is)
 
--- a store of the problem stands where the row with its identifier is
-row_there : (q : Dumping) (h : Held) → is_unknown q h ≡ false → (s : ℕ) × (s < length q.rows) × ((row q s).id ≡ h.id)
-row_there q h known =
-    let few : place q h.id ≤ length q.rows = prefix_len-le-length _ q.rows in
-    let other : place q h.id ≢ length q.rows = eqb-false (place q h.id) (length q.rows) known in
-    let within : place q h.id < length q.rows = omega (arith, few, other) in
-    (place q h.id, within, (bytes_eq-Decides _ h.id).0 (passes_at_first (λ (r : StoreRow). bytes_eq r.id h.id) q.rows no_row within))
-
--- each store is the first with its identifier
-first_is : (stores : List Held) → AreHeld stores → (k : ℕ) (d : Held) (id : List ℕ) → k < length stores → (get_or stores k d).id ≡ id → position_or_len (has_id id) stores ≡ k
-first_is stores held k d id within same =
-    position_or_len_is (has_id id) stores k d (omega arith)
-    (λ j before. is_other (get_or stores j d).id id (λ other. held.named j k d before within (other ∙ sym same))) (λ inside. (bytes_eq-Decides _ id).1 same)
+-- each store of the memory is that of a row of the problem, and the first with its identifier
+stands_at : (q : Dumping) (stores : List Held) → AreHeld stores → NoneUnknown q stores → (k : ℕ) (d : Held) → k < length stores
+    → (s : ℕ) × (s < length q.rows) × (position_or_len (has_id (row q s).id) stores ≡ k)
+stands_at q stores held known k d inside =
+    let h = get_or stores k d in
+    let s = place q h.id in
+    let few : s ≤ length q.rows = prefix_len-le-length _ q.rows in
+    let other : s ≢ length q.rows = eqb-false s (length q.rows) (known k d inside) in
+    let within : s < length q.rows = omega (arith, few, other) in
+    let id = (row q s).id in
+    let same : id ≡ h.id = (bytes_eq-Decides _ h.id).0 (passes_at_first (λ (r : StoreRow). bytes_eq r.id h.id) q.rows no_row within) in
+    let first = position_or_len_is (has_id id) stores k d (omega arith)
+    (λ j before. is_other (get_or stores j d).id id (λ equal. held.named j k d before inside (equal ∙ same))) (λ at. (bytes_eq-Decides _ id).1 (sym same)) in
+    (s, within, first)
 
 -- where all tests passed, each store of the memory is ready
 pub all_ready : (q : Dumping) (stores : List Held) → AreHeld stores → AllMeet Ready q stores → NoneUnknown q stores → All (λ h. IsState h.state) stores → AreReady stores
@@ -93,10 +94,9 @@ all_ready q stores held stores_ready known sound = record {
     each : (k : ℕ) (d : Held) → k < length stores → IsTrue (get_or stores k d).state.storage × ((get_or stores k d).state.retrieval ≡ None)
     each k d inside =
         let h = get_or stores k d in
-        let found = row_there q h (known k d inside) in
+        let found = stands_at q stores held known k d inside in
         let id = (row q found.0).id in
-        let at : position_or_len (has_id id) stores ≡ k = first_is stores held k d id inside (sym found.2) in
-        let is : store_of id stores ≡ Some h = find_at (has_id id) stores ∙ ap (λ (j : ℕ). slice_get stores j) at ∙ slice_get-get_or stores k d inside in
+        let is : store_of id stores ≡ Some h = find_at (has_id id) stores ∙ ap (λ (j : ℕ). slice_get stores j) found.2 ∙ slice_get-get_or stores k d inside in
         standing_gives h.state.storage h.state.retrieval (subst (λ (o : Option Held). meets Ready (row q found.0) o ≡ true) is (stores_ready found.0 found.1))
 
 -- before its first step a run has done nothing
@@ -301,10 +301,9 @@ module _ {L : Type 0} (sent : L → List Sent) (failed : L → ℕ) (run : RunCo
         moment = omega (arith, begun_early.first, here.is.steps.at_most, here.last);
         stores_are = λ k d inside.
             let within : k < length first.stores = omega (arith, inside, as_many now.stores first.stores here.labels) in
-            let found = row_there q (get_or first.stores k no_held) (here.ran.began.known (omega arith) k no_held within) in
-            let at : place_in_memory input found.0 ≡ k = first_is first.stores held k no_held (row q found.0).id within (sym found.2) in
+            let found = stands_at q first.stores held (here.ran.began.known (omega arith)) k no_held within in
             let is = ap (λ (held : List Held). store_state input held found.0) (sym here.ran.done.stores_are)
-            ∙ ap (opening_at (states_of now.stores)) at ∙ state_there now.stores k d inside in
+            ∙ ap (opening_at (states_of now.stores)) found.2 ∙ state_there now.stores k d inside in
             let far = subst (IsFar (bound_at (t - 1))) is (far_along found.0 (t - 1) found.1 (omega arith)).1 in
             record {
               storage = here.ran.ready.storage k d inside;

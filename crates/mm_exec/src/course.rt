@@ -104,19 +104,11 @@ impl<S: AnySource + Send + Drop, L: Link + Send + Drop> OpenRun<S, L> {
         let mut buffers = buffers;
         for step in 1..run.problem.steps() + 1 {
             if let Err(broken) = self.report_step(rt, alloc, run, places, step, &mut buffers) {
-                let RunBuffers {
-                    report,
-                    orders: _,
-                    dumping: _,
-                } = buffers;
+                let RunBuffers { report, .. } = buffers;
                 return Err(RunStopped { broken, report });
             }
         }
-        let RunBuffers {
-            report,
-            orders: _,
-            dumping: _,
-        } = buffers;
+        let RunBuffers { report, .. } = buffers;
         Ok(report)
     }
 }
