@@ -235,7 +235,15 @@ links_failed sent failed ids orders before after olds news changes there sound s
     record {
       settled = settled;
       many = many;
-      links = λ l within. record { grew = (link l within).grew; how = of_link l within _ _ (link l within).failures (link l within).how };
+      links = λ l within.
+          let one = link l within in
+          record {
+            grew = one.grew;
+            how = elim one.how [
+              | inl all ↦ inl (record { whole = all.whole; failures = omega (arith, one.failures, all.fails) })
+              | inr last ↦ inr (last_broke l within _ _ one.failures last)
+            ];
+          };
       some =
           let found = some_broke sent failed ids settled.course settled.places settled.cause (λ l within. (link l (omega (arith, many, within))).how) in
           let inside : found.0 < length olds = omega (arith, many, found.1) in
@@ -278,12 +286,6 @@ links_failed sent failed ids orders before after olds news changes there sound s
           newer = oldest.0;
           oldest = ap (λ (s : State). s.store.content) kept.0 ∙ oldest.1;
         }
-
-    of_link : (l : ℕ) → l < length olds → (was is : ℕ) → is ≡ was + failed_by (map settled.course (slice_index_or settled.places l []))
-        → AllWhole settled.course (slice_index_or settled.places l []) ⊎ LastMild settled.course (slice_index_or settled.places l [])
-        → NoneBroke settled.course (slice_index_or settled.places l []) was is ⊎ LastBroke settled.course (slice_index_or settled.places l []) before after was is
-    of_link l within was is rose (inl all) = inl (record { whole = all.whole; failures = omega (arith, rose, all.fails) })
-    of_link l within was is rose (inr last) = inr (last_broke l within was is rose last)
 
 -- a step that a failed link halted
 module _ {L : Type 0} (sent : L → List Sent) (failed : L → ℕ) (e : RecordingContext) (orders : List Order)

@@ -79,33 +79,25 @@ module _ (x : Amounts) (places : List ℕ) (t n : ℕ) where
       sum_by-map-filter (λ (o : Order). o.amount) (order_of x places t) (is_ordered x places t) (range_with_len 0 n)
       ∙ sum_by_range_same (λ s. cond (is_ordered x places t s) (x s t) 0) (in_step x t) 0 n (λ s from to. amount_counted (x s t))
 
-  -- the orders are of stores that are there
-  places_within : (m : ℕ) → ((s : ℕ) → s < n → slice_index places s < m) → All (λ o. o.place < m) (orders_of x places t n)
-  places_within m within =
-      All-map (λ (o : Order). o.place < m) (order_of x places t) (filter (is_ordered x places t) (range_with_len 0 n))
-      (All-filter-range_with_len (λ (s : ℕ). slice_index places s < m) (is_ordered x places t) 0 n (λ s from to passes. within s (omega arith)))
-
-  -- each is of one packet or more
-  amounts_some : All (λ o. 1 ≤ o.amount) (orders_of x places t n)
-  amounts_some =
-      All-map (λ (o : Order). 1 ≤ o.amount) (order_of x places t) (filter (is_ordered x places t) (range_with_len 0 n))
-      (All-filter-range_with_len (λ (s : ℕ). 1 ≤ x s t) (is_ordered x places t) 0 n (λ s from to passes. ltb-true 0 (x s t) passes))
-
-  -- no two are of one store
-  places_apart : AreApart places n → AllPairs (λ a b. a.place ≢ b.place) (orders_of x places t n)
-  places_apart apart =
-      AllPairs-map (λ (a b : Order). a.place ≢ b.place) (order_of x places t) (filter (is_ordered x places t) (range_with_len 0 n))
-      (AllPairs-filter-range_with_len (λ (r s : ℕ). slice_index places r ≢ slice_index places s) (is_ordered x places t) 0 n
-      (λ r s from before to one other. apart r s (omega arith) (omega arith) (λ same. omega (arith, same))))
-
-  -- the orders may be carried out
+  -- the orders may be carried out: each is of a store that is there, of one packet or more, and no two are of one store
   pub may_order : (many : ℕ) → n ≤ MAX_STORES → ((s : ℕ) → s < n → slice_index places s < many) → AreApart places n → AreOrders many (orders_of x places t n)
-  may_order many few within apart = record {
-    few = omega (arith, orders_few x places t n, few);
-    places = places_within many within;
-    some = amounts_some;
-    apart = places_apart apart;
-  }
+  may_order many few within apart =
+      let order = order_of x places t in
+      let ordered = is_ordered x places t in
+      let stores = filter ordered (range_with_len 0 n) in
+      record {
+        few = omega (arith, orders_few x places t n, few);
+        places =
+            All-map (λ (o : Order). o.place < many) order stores
+            (All-filter-range_with_len (λ (s : ℕ). slice_index places s < many) ordered 0 n (λ s from to passes. within s (omega arith)));
+        some =
+            All-map (λ (o : Order). 1 ≤ o.amount) order stores
+            (All-filter-range_with_len (λ (s : ℕ). 1 ≤ x s t) ordered 0 n (λ s from to passes. ltb-true 0 (x s t) passes));
+        apart =
+            AllPairs-map (λ (a b : Order). a.place ≢ b.place) order stores
+            (AllPairs-filter-range_with_len (λ (r s : ℕ). slice_index places r ≢ slice_index places s) ordered 0 n
+            (λ r s from before to one other. apart r s (omega arith) (omega arith) (λ same. omega (arith, same))));
+      }
 
 -- the orders of a run, for stores at their places
 pub orders_are : (m : RunInput) (places : List ℕ) (t : ℕ) → ((s : ℕ) → s < length m.problem.rows → slice_index places s ≡ place_in_memory m s)

@@ -40,10 +40,6 @@ shuffled P lists log shuffle all =
     (λ seat within. All-unmapped P (λ (e : Entry). e.event) (part seat log)
     (subst (All P) (sym (shuffle.parts seat within)) (all seat [] within)))
 
--- so do moments that fit
-pub timed_log : (lists : List (List Event)) (log : List Entry) → IsShuffleOfEvents lists log → AreTimed lists → All (λ e. HasTimes e.event) log
-timed_log lists log shuffle timed = shuffled HasTimes lists log shuffle timed
-
 -- what holds of the offers by a moment holds of each such event
 pub by_offer : (P : Event → Type 0) (now : ℕ) → ((at : ℕ) (packet : SpacePacket) → at ≤ now → P (Offer at packet)) → (event : Event) → IsBy now event → P event
 by_offer P now offers (Offer at packet) by = offers at packet by

@@ -6,7 +6,7 @@ use Rattle.mm_exec.proofs.Words.{HasTimes, ReplaysKeepStates, OffersLeave, Order
 use Rattle.mm_exec.proofs.Words.{Event, AtEach, AsPlanned, IsRunOf, StepRunsKeepStores, IsDumpOf, IsStepRun, AreTimed, IsBy, AreBy}
 use Rattle.mm_store.proofs.ContentLemmas.{IsRising-rest}
 use Rattle.mm_desk.specs.Orders.{Dumps}
-use Rattle.mm_exec.proofs.Replays.{IsLegal-parts, replay-append, timed_log, by_offer, run_moves}
+use Rattle.mm_exec.proofs.Replays.{IsLegal-parts, replay-append, shuffled, by_offer, run_moves}
 
 -- times rise in the back of a list in which they rise
 rising_back : (gave rest : List Stored) → IsRising (gave ++ rest) → IsRising rest
@@ -85,7 +85,7 @@ module _ (leave : OffersLeave) (keep : ReplaysKeepStates) (dump : OrdersDumpTheO
   halves s t offers wanted gave sound timed is =
       let mid = replay s is.recorded in
       let legal = IsLegal-parts s is.recorded is.dumped is.run.legal in
-      let stood : IsState mid = keep s is.recorded sound (timed_log offers is.recorded is.shuffle timed) in
+      let stood : IsState mid = keep s is.recorded sound (shuffled HasTimes offers is.recorded is.shuffle timed) in
       record {
         legal = legal.0;
         stood = stood;
