@@ -53,8 +53,15 @@ module _ (q : Dumping) (other : List ℕ) (x : Amounts)
   left_alike s (suc n) store last =
       let before = left_alike s n store (omega arith) in
       let back : suc n - 1 ≡ n = omega arith in
-      omega (arith, before, same s (suc n) store (omega arith) last, ap (left c x s) back, ap (left q x s) back,
-      left_step c x s n (suc n) (omega arith), left_step q x s n (suc n) (omega arith))
+      omega (
+        arith,
+        before,
+        same s (suc n) store (omega arith) last,
+        ap (left c x s) back,
+        ap (left q x s) back,
+        left_step c x s n (suc n) (omega arith),
+        left_step q x s n (suc n) (omega arith),
+      )
 
   lost_alike : (s t : ℕ) → s < length q.rows → 1 ≤ t → t ≤ length q.windows → lost c x s t ≡ lost q x s t
   lost_alike s t store first last = omega (arith, left_alike s (t - 1) store (omega arith), same s t store first last)

@@ -7,7 +7,7 @@ use Rattle.mm_dump.specs.Dumped.{times, wanted, HasTried, AllSettled, places_of,
 use Rattle.mm_report.specs.declared.cause.Cause.TheVariants.{LinkFailed}
 use Rattle.mm_exec.proofs.Replays.{IsRun-append}
 use Rattle.mm_base.specs.declared.rows.RouteRow.{RouteRow}
-use Rattle.mm_exec.specs.Failure.{FailedLink, NoneBroke, LastBroke, LinksFailed}
+use Rattle.mm_exec.specs.Failure.{FailedLink, LastBroke, LinksFailed}
 use Rattle.mm_exec.proofs.Parts.{as_many, same_ids, by_how, all_first, first_turns}
 use Rattle.mm_exec.proofs.StoresReady.{state_holds}
 use Rattle.std.proofs.lemmas.Bool.Decides.{eqb_tells}
@@ -15,7 +15,7 @@ use Rattle.mm_exec.proofs.Words.{cases_lt, length-map, append-nil, nil_from_leng
 use Rattle.mm_exec.proofs.Words.{get_or-le-sum_by, AllZip, cond-eqb_same, cond-eqb_other, SpacePacket, given_oldest, State, IsState, IsShuffleOfEvents, IsRun}
 use Rattle.mm_exec.proofs.Words.{opening_at, IsLegal, Entry, Event, Fault, Held, labels_of, states_of, ids_of, cause_in, RecordingContext, offers, recording}
 use Rattle.mm_exec.proofs.Words.{given_in, HasRecorded, Supply, Course, EndedAs, IsWhole, IsBroken, IsCourse, worse, worst_of, failed_by, sent_by}
-use Rattle.mm_exec.proofs.Words.{BrokenOrdersChangeNothing, Sent, Order, OrderBroken, Cause, AreFirstOffers, IsByOneLog, BrokenStepsAreLogs, RunState}
+use Rattle.mm_exec.proofs.Words.{BrokenOrdersChangeNothing, Sent, Order, OrderBroken, Cause, AreFirstOffers, IsByOneLog, RunState}
 use Rattle.mm_exec.proofs.Words.{StepBroke, dump_cause, StepBroken}
 use Rattle.mm_dump.specs.Broken.{aborted}
 
@@ -284,7 +284,7 @@ links_failed sent failed ids orders before after olds news changes there sound s
           failures = omega (arith, rose, last.fails);
           same = kept.0;
           newer = oldest.0;
-          oldest = ap (λ (s : State). s.store.content) kept.0 ∙ oldest.1;
+          oldest = ◌∙◌ {c = (c.sent ++ c.unsent) ++ oldest.0} (ap (λ (s : State). s.store.content) kept.0) oldest.1;
         }
 
 -- a step that a failed link halted

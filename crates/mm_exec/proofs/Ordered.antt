@@ -1,7 +1,7 @@
 -- What the orders of a step want of each store.
-use Rattle.std.proofs.Common.{◌≡◌, ◌≢◌, ℕ, ◌<◌, ◌≤◌, Bool, cond, ltb, eqb, List, [], ◌∷◌, length, map, All, refl, sym, subst, ◌∙◌, arith, ◌+◌, ◌++◌, ap, add-one}
+use Rattle.std.proofs.Common.{◌≡◌, ◌≢◌, ℕ, ◌<◌, ◌≤◌, Bool, cond, ltb, eqb, List, [], ◌∷◌, length, map, refl, sym, subst, ◌∙◌, arith, ◌+◌, ◌++◌, ap, add-one}
 use Rattle.mm_exec.proofs.Words.{lt-ltb, le-ltb, ltb-true, ltb-false, ne_eqb, eq-eqb, cond_both, length-map, map-append, append-nil, All-map, filter-append}
-use Rattle.mm_exec.proofs.Words.{length-range_with_len, length-filter, count_by-le-length, sum_by, range_with_len, filter, slice_index, AllPairs, nat_lt}
+use Rattle.mm_exec.proofs.Words.{length-range_with_len, length-filter, count_by-le-length, sum_by, range_with_len, filter, slice_index, nat_lt}
 use Rattle.mm_exec.proofs.Words.{AllPairs-map, sum_by_range_one, sum_by_range_same, All-filter-range_with_len, AllPairs-filter-range_with_len}
 use Rattle.mm_exec.proofs.Words.{range_with_len_more, sum_by-filter, sum_by-map, sum_by-map-filter, MAX_STORES, in_step, Amounts, wanted, times, places_of}
 use Rattle.mm_exec.proofs.Words.{Order, orders_of, AreApart, RunInput, place_in_memory, step_orders, AreOrders}

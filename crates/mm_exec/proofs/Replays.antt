@@ -1,8 +1,8 @@
 -- Logs in two parts, what holds of the entries of a log by its seats, and what a log of offers leaves of a store.
 use Rattle.std.proofs.Common.{◌≡◌, List, [], ◌∷◌, ◌++◌, length, All, refl, sym, subst, ap, ◌∙◌, ℕ, ◌+◌, ◌≤◌, max, arith}
 use Rattle.mm_exec.proofs.Words.{cond_both, All-head, All-tail, nat_lt, ◌==◌, ◌||◌, not, Result, All-unmapped, SpacePacket, Store, clock_end, put, put_timed}
-use Rattle.mm_exec.proofs.Words.{put_full, Stored, HasTimes, State, step, offer, IsShuffleOfEvents, replay, IsLegal, IsRun, part, Entry, Event, Offer}
-use Rattle.mm_exec.proofs.Words.{parts_all, AreTimed, IsBy, AreBy}
+use Rattle.mm_exec.proofs.Words.{put_full, Stored, State, step, offer, IsShuffleOfEvents, replay, IsLegal, IsRun, part, Entry, Event, Offer}
+use Rattle.mm_exec.proofs.Words.{parts_all, IsBy, AreBy}
 use Rattle.mm_base.specs.declared.kind.Kind.{Kind}
 use Rattle.mm_base.specs.declared.kind.Kind.TheVariants.{Circular, Bounded}
 use Rattle.mm_store.specs.declared.put.Put.{Put}

@@ -8,7 +8,7 @@ use Rattle.mm_exec.proofs.Words.{place, FitsAt, amount, OrdersDumpTheOldest, Sta
 use Rattle.mm_exec.proofs.Words.{store_of, named_of, held_as, is_clock_late, is_late, TakesAll, Supply, BrokenOrdersChangeNothing, Sent, Reported, IsReady}
 use Rattle.mm_exec.proofs.Words.{given_to, recording_at, orders_at, MayReport, StepReported, StepUnreported, AreWithinLimits, HasRun, IsHaltedIn}
 use Rattle.mm_exec.proofs.Words.{RunsLoseAsPlanned, RunsLoseNoPacketUncounted, StepRunsKeepStores, IsPlaceOf, ArePlaces, StandWithin, AllMeet, NoneUnknown}
-use Rattle.mm_exec.proofs.Words.{is_unknown, meets, meets_at, RunInput, recording_in, step_of, place_in_memory, store_state, step_orders, RunState}
+use Rattle.mm_exec.proofs.Words.{meets, meets_at, RunInput, recording_in, step_of, place_in_memory, store_state, step_orders, RunState}
 use Rattle.mm_exec.proofs.Words.{with_supplies, AreReady, AreOrders, NeverRefused, StepsDone, taken_amounts, RunContext, StepBroken}
 use Rattle.mm_desk.specs.declared.state.Retrieval.{Retrieval}
 use Rattle.mm_report.specs.declared.cause.TheConstants.{LATEST_START}
@@ -290,11 +290,13 @@ module _ {L : Type 0} (sent : L → List Sent) (failed : L → ℕ) (run : RunCo
           let each = All-map (λ (ps : List SpacePacket). length ps ≤ 65535) (λ gives. gives (suc n)) first.sources (limits.few (suc n) (omega arith) (omega (arith, here.last))) in
           let number = offers_few (step_of input (suc n)) s 65535 came each in
           let many : length came ≡ length first.sources = length-map first.sources (λ gives. gives (suc n)) in
-          let counts = here.ran.began.counts (omega arith) in
-          (kept.sound, record {
-            offered = omega (arith, kept.offered, was.1.offered, number, many, counts.few_sources);
-            last = omega (arith, kept.last, was.1.last, number, many, counts.few_sources, begun_early.first, here.is.steps.at_most, here.last);
-          })
+          let counts = here.ran.began.counts (omega arith) in (
+            kept.sound,
+            record {
+              offered = omega (arith, kept.offered, was.1.offered, number, many, counts.few_sources);
+              last = omega (arith, kept.last, was.1.last, number, many, counts.few_sources, begun_early.first, here.is.steps.at_most, here.last);
+            },
+          )
 
       takes_here : TakesAll (recording_at run t now.stores) now.stores now.sources
       takes_here = record {

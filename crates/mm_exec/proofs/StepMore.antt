@@ -129,7 +129,7 @@ module _ {L : Type 0} (sent : L → List Sent) (failed : L → ℕ) (m : RunInpu
         let many : length after.stores ≡ length m.memory.stores = as_many after.stores m.memory.stores (stepped.labels ∙ labels_before) in
         let gave : stepped.gave p ≡ gave_after (place_in_memory m s) t = rw (eq-eqb t t refl) (ap stepped.gave there.is) in
         rw (offered_here s store, wanted_is m.amounts places t n s footing.apart store, gave, state_before s store, state_after s store)
-            at (stepped.runs p (omega (arith, many, there.within)))
+        at (stepped.runs p (omega (arith, many, there.within)))
 
     each_run : (s u : ℕ) → s < n → 1 ≤ u → u ≤ count → RunAt s u
     each_run s u store first last = elim (cases_eq u t) [

@@ -1,9 +1,9 @@
 -- What the proofs of a run are written in: the words and the lemmas of std and of the crates below, and the words of this crate, passed on from one place.
-pub use Rattle.mm_exec.specs.Words.{MAX_STORES, SpacePacket, Dumping, IsDumping, arrivals, limit, place, row, size, steps, stores, window, FitsAt, Table, amount}
-pub use Rattle.mm_exec.specs.Words.{Amounts, left, loss, lost, written, Stored, IsState, State, AreTaken, IsShuffleOfEvents, count_of, IsRun, opening_at, Entry}
-pub use Rattle.mm_exec.specs.Words.{Event, Offer, Held, id_at, labels_of, states_of, AreHeld, Holdings, has_id, store_of, cause_in, is_clock_late, RecordingContext}
-pub use Rattle.mm_exec.specs.Words.{offers, recording, Records, given_in, Supply, Course, IsBroken, IsCourse, IsWhole, sent_by, places_of, times, wanted, Sent}
-pub use Rattle.mm_exec.specs.Words.{all_sent, Order, Reported, totals_of, Cause}
+pub use Rattle.mm_exec.specs.Words.{MAX_STORES, SpacePacket, Dumping, IsDumping, arrivals, limit, place, row, size, steps, stores, window, FitsAt, Table}
+pub use Rattle.mm_exec.specs.Words.{amount, Amounts, left, loss, lost, written, Stored, IsState, State, AreTaken, IsShuffleOfEvents, count_of, IsRun}
+pub use Rattle.mm_exec.specs.Words.{opening_at, Entry, Event, Offer, Held, id_at, labels_of, states_of, AreHeld, Holdings, has_id, store_of, cause_in}
+pub use Rattle.mm_exec.specs.Words.{is_clock_late, RecordingContext, offers, recording, Records, given_in, Supply, Course, IsBroken, IsCourse, IsWhole, sent_by}
+pub use Rattle.mm_exec.specs.Words.{places_of, times, wanted, Sent, all_sent, Order, Reported, totals_of, Cause}
 pub use Rattle.std.proofs.lemmas.Bool.{both_ways, cases_eq, cases_lt, cases_order, cond_both, eq-eqb, eqb-false, eqb-true, false_from_ne_true, le-ltb, lt-ltb}
 pub use Rattle.std.proofs.lemmas.Bool.{ltb-false, ltb-true, ne_eqb, or_parts}
 pub use Rattle.std.proofs.lemmas.List.{append-nil, flat_map_more, get_or-map, get_or-take, get_or_append_left, length-map, length-take-le, map-append, map_push}
@@ -19,7 +19,7 @@ pub use Rattle.std.proofs.lemmas.Option.{same_Some, slice_get-get_or}
 pub use Rattle.std.proofs.lemmas.Result.{IfErr-weaker, on_ok_weaker}
 pub use Rattle.std.proofs.lemmas.Slice.Eq.{bytes_eq-Decides}
 pub use Rattle.std.specs.List.{AllZip, count_by, list_any, position_or_len, range_with_len, sum_by}
-pub use Rattle.std.specs.Prelude.{AllPairs, IfNone, IfSome, IsPermutation, IsTrue, None, Ok, Option, Result, Some, bytes_eq, filter, flat_map, is_some, nat_lt, not}
+pub use Rattle.std.specs.Prelude.{IfNone, IfSome, IsPermutation, IsTrue, None, Ok, Option, Result, Some, bytes_eq, filter, flat_map, is_some, nat_lt, not}
 pub use Rattle.std.specs.Prelude.{slice_get, slice_index, slice_index_or, vec_capacity, ◌&&◌, ◌==◌, ◌||◌}
 pub use Rattle.mm_base.proofs.Elements.{All-unmapped}
 pub use Rattle.mm_base.proofs.Pairs.{All-back, All-front, AllPairs-map}
@@ -59,7 +59,7 @@ pub use Rattle.mm_report.specs.declared.counts.StepCounts.{StepCounts}
 pub use Rattle.mm_exec.specs.AsPlanned.{AsPlanned, AtEach, IsReady}
 pub use Rattle.mm_exec.specs.Course.{AreWithinLimits, MayReport, StepReported, StepUnreported, given_to, orders_at, recording_at}
 pub use Rattle.mm_exec.specs.Ending.{HasRun, IsHaltedIn, IsRefusal, IsStopped}
-pub use Rattle.mm_exec.specs.Halts.{AreFirstOffers, BrokenStepsAreLogs, IsByOneLog}
+pub use Rattle.mm_exec.specs.Halts.{AreFirstOffers, IsByOneLog}
 pub use Rattle.mm_exec.specs.Laws.{HalvesMakeStepRuns, IsRunOf, RunsLoseAsPlanned, RunsLoseNoPacketUncounted, StepRunsKeepStores}
 pub use Rattle.mm_exec.specs.Numbers.{AreByCounters, AreCounters, AreStepCounts, counted, counts_from, orders_of, planned_counts, report_of, row_from}
 pub use Rattle.mm_exec.specs.Numbers.{rows_by_counters, rows_of}
@@ -67,8 +67,8 @@ pub use Rattle.mm_exec.specs.Places.{AreAllPlaces, AreApart, ArePlaces, IsPlaceO
 pub use Rattle.mm_exec.specs.Readiness.{AllMeet, MayBegin, NoneUnknown, RunStart, Stops, is_unknown, meets, meets_at, run_start}
 pub use Rattle.mm_exec.specs.RunInput.{RunInput, as_came, came, offered, place_in_memory, recording_in, run_input, step_of, step_orders, store_state}
 pub use Rattle.mm_exec.specs.RunState.{InRun, RunState, state_of, with_supplies}
-pub use Rattle.mm_exec.specs.Step.{AreOrders, AreReady, IsCauseIn, KeepsRest, MayCarry, NeverRefused, OrdersBroke, RecordersBroke, StepBroke, StepDone, StepDumped}
-pub use Rattle.mm_exec.specs.Step.{StepRecorded, StepStopped, dump_cause, recording_by}
+pub use Rattle.mm_exec.specs.Step.{AreOrders, AreReady, IsCauseIn, KeepsRest, MayCarry, NeverRefused, OrdersBroke, RecordersBroke, StepBroke, StepDone}
+pub use Rattle.mm_exec.specs.Step.{StepDumped, StepRecorded, StepStopped, dump_cause, recording_by}
 pub use Rattle.mm_exec.specs.StepRuns.{AreBy, AreTimed, IsBy, IsDumpOf, IsStepRun, KeepsStore}
 pub use Rattle.mm_exec.specs.Steps.{AreStepRuns, LinksSent, SourcesGave, StepsDone, sent_amounts, sent_in, taken_amounts}
 pub use Rattle.mm_exec.specs.declared.course.RunContext.{RunContext}

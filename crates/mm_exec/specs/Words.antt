@@ -25,5 +25,5 @@ pub use Rattle.mm_dump.specs.Sending.{Sent, all_sent}
 pub use Rattle.mm_dump.specs.declared.order.Order.{Order}
 pub use Rattle.mm_report.specs.Report.{Reported, totals_of}
 pub use Rattle.mm_report.specs.declared.cause.Cause.{Cause}
-pub use Rattle.mm_report.specs.declared.cause.Cause.TheVariants.{ChannelDiffers, ClockTooLate, Counts, LinkFailed, LogMismatch, NoMemory, NotReady, OpeningDiffers}
-pub use Rattle.mm_report.specs.declared.cause.Cause.TheVariants.{PlanDoesNotFit, PlanShape, SizeDiffers}
+pub use Rattle.mm_report.specs.declared.cause.Cause.TheVariants.{ChannelDiffers, ClockTooLate, Counts, LinkFailed, LogMismatch, NoMemory, NotReady}
+pub use Rattle.mm_report.specs.declared.cause.Cause.TheVariants.{OpeningDiffers, PlanDoesNotFit, PlanShape, SizeDiffers}
