@@ -1,34 +1,16 @@
 -- What became of the packets of a run: a log of offers, the log's seats, a step run, and then one step after another.
 use Rattle.std.proofs.Common.{◌≡◌, ◌≢◌, inl, inr, ℕ, zero, suc, ◌+◌, ◌-◌, ◌<◌, ◌≤◌, List, [], ◌∷◌, ◌++◌, length, get_or, refl, sym, ap, subst, ◌∙◌, arith, length-append, append_assoc}
-use Rattle.std.specs.Prelude.{Ok, flat_map, IsPermutation}
-use Rattle.std.proofs.lemmas.Bool.{cases_lt, cases_eq, eq-eqb, ne_eqb}
-use Rattle.std.proofs.lemmas.List.{map-append, get_or_append_left}
-use Rattle.std.specs.List.{range_with_len}
-use Rattle.std.proofs.lemmas.List.FromFn.{fill_by_all}
-use Rattle.std.proofs.lemmas.List.Folds.{flat_map-map}
+use Rattle.mm_exec.proofs.Words.{cases_lt, cases_eq, eq-eqb, ne_eqb, map-append, get_or_append_left, All-head, All-tail, flat_map-map, fill_by_all}
+use Rattle.mm_exec.proofs.Words.{IsPermutation-refl, IsPermutation-sym, IsPermutation-trans, IsPermutation-append_left, IsPermutation-append_right}
+use Rattle.mm_exec.proofs.Words.{IsPermutation-append_comm, range_with_len, Ok, flat_map, IsPermutation, SpacePacket, Dumping, Amounts, IsRising, Stored}
+use Rattle.mm_exec.proofs.Words.{ReplaysKeepStates, OffersLeave, OrdersDumpTheOldest, State, IsState, step, IsTaken, AreTaken, asked, IsShuffleOfEvents, replay}
+use Rattle.mm_exec.proofs.Words.{IsLegal, AreBelow, part, Entry, Event, Offer, IsRunOf, IsStepRun, AreTimed}
 use Rattle.mm_exec.proofs.RangeLists.{flat_map_range_same}
-use Rattle.std.proofs.lemmas.List.Elements.{All-head, All-tail}
-use Rattle.std.proofs.lemmas.List.Sorted.{IsPermutation-refl, IsPermutation-sym, IsPermutation-trans, IsPermutation-append_left, IsPermutation-append_right, IsPermutation-append_comm}
-use Rattle.mm_packet.specs.Packet.{SpacePacket}
-use Rattle.mm_problem.specs.Dumping.{Dumping}
-use Rattle.mm_plan.specs.Volumes.{Amounts}
-use Rattle.mm_store.specs.declared.stored.Stored.{Stored}
-use Rattle.mm_store.specs.Content.{IsRising}
-use Rattle.mm_desk.specs.declared.entry.Entry.{Entry}
-use Rattle.mm_desk.specs.declared.event.Event.{Event}
-use Rattle.mm_desk.specs.declared.event.Event.TheVariants.{Offer}
 use Rattle.mm_desk.specs.declared.reply.Reply.{Reply}
 use Rattle.mm_desk.specs.declared.reply.Reply.TheVariants as reply
 use Rattle.mm_desk.specs.Fates.{packets_of, accepted, taken, given_up, deleted, after, over, ConservePackets}
-use Rattle.mm_desk.specs.Laws.{ReplaysKeepStates, OffersLeave, OrdersDumpTheOldest}
-use Rattle.mm_desk.specs.Machine.{State, IsState, step}
-use Rattle.mm_desk.specs.Offers.{IsTaken, AreTaken, asked, IsShuffleOfEvents}
-use Rattle.mm_desk.specs.Runs.{replay, IsLegal}
-use Rattle.mm_desk.specs.Shuffles.{AreBelow, part}
 use Rattle.mm_desk.proofs.FateLemmas.{joined}
 use Rattle.mm_exec.specs.Accounts.{packet_in, packets_in, packets_offered, IsAccounted}
-use Rattle.mm_exec.specs.Laws.{IsRunOf}
-use Rattle.mm_exec.specs.StepRuns.{IsStepRun, AreTimed}
 use Rattle.mm_exec.proofs.Stepping.{halves, stands}
 
 -- what an offer that is taken takes and deletes
@@ -129,9 +111,7 @@ module _ (conserve : ConservePackets) (leave : OffersLeave) (keep : ReplaysKeepS
       let log = conserve s (asked is.recorded) in
       let left = over given_up s (asked is.recorded) in
       let held : IsPermutation (packets_of s.store.content ++ packets_in (asked is.recorded)) (packets_of mid.store.content ++ left) =
-      subst (λ l. IsPermutation (packets_of s.store.content ++ l) (packets_of mid.store.content ++ left)) takes.takes
-      (subst (λ (u : State). IsPermutation (packets_of s.store.content ++ over taken s (asked is.recorded)) (packets_of u.store.content ++ left)) takes.leaves
-      (subst (λ l. IsPermutation (packets_of s.store.content ++ over taken s (asked is.recorded)) (l ++ packets_of (after s (asked is.recorded)).store.content ++ left)) takes.deletes log.packets)) in
+      rw (takes.deletes, takes.leaves, takes.takes) at log.packets in
       let split : packets_of mid.store.content ≡ packets_of gave ++ packets_of t.store.content =
       ap packets_of parts.dumps.oldest ∙ map-append (λ (p : Stored). p.packet) gave t.store.content in
       record {

@@ -1,26 +1,14 @@
 -- What comes in a run in place of the forecast, and what the stores' counters rise by over a step and over a run, beside the rows of the report.
 use Rattle.std.proofs.Common.{◌≡◌, ℕ, ◌+◌, ◌-◌, ◌<◌, ◌≤◌, List, length, map, refl, sym, ap, ◌∙◌, arith, take, ◌*◌, ◌^◌, [], ◌∷◌, get_or, length-append}
 use Rattle.std.specs.Prelude.{sum_by, slice_index, flat_map}
-use Rattle.std.specs.List.{range_with_len}
-use Rattle.mm_base.proofs.Sums.{sum_by-add, sum_by-map, sum_by-swap}
-use Rattle.mm_base.proofs.RangeSums.{sum_by_range_same}
-use Rattle.mm_problem.specs.Dumping.{Dumping, arrivals, stores, steps}
-use Rattle.mm_plan.specs.Volumes.{Amounts, left, written, lost}
-use Rattle.mm_desk.specs.declared.held.Held.{Held}
-use Rattle.mm_desk.specs.Machine.{State}
-use Rattle.mm_desk.specs.Runs.{opening_at}
-use Rattle.mm_shared.specs.Stores.{states_of}
-use Rattle.mm_report.specs.declared.counts.StepCounts.{StepCounts}
-use Rattle.mm_exec.specs.AsPlanned.{AtEach, AsPlanned}
-use Rattle.mm_exec.specs.RunInput.{RunInput, store_state, step_of, offered, came, as_came}
-use Rattle.mm_record.specs.Counters.{counters_of}
-use Rattle.mm_exec.specs.Numbers.{counts_from, planned_counts, row_from, rows_by_counters, counted, AreByCounters, AreCounters, AreStepCounts}
 use Rattle.mm_exec.proofs.Stepping.{grown, timed_by}
-use Rattle.std.proofs.lemmas.List.{length-take-le, get_or-take}
-use Rattle.std.proofs.lemmas.List.FromFn.{fill_by_all, get_or-map-range_with_len, length-map-range_with_len, get_or-range_with_len, length-range_with_len}
 use Rattle.mm_record.specs.declared.counters.Counters.{Counters}
 use Rattle.std.proofs.lemmas.List.Concat.{get_or-flat_map}
-use Rattle.mm_exec.specs.StepRuns.{AreTimed}
+use Rattle.mm_exec.proofs.Words.{length-take-le, get_or-take, fill_by_all, get_or-map-range_with_len, length-map-range_with_len, get_or-range_with_len}
+use Rattle.mm_exec.proofs.Words.{length-range_with_len, range_with_len, sum_by_range_same, sum_by-add, sum_by-map, sum_by-swap, Dumping, arrivals, stores}
+use Rattle.mm_exec.proofs.Words.{steps, Amounts, left, written, lost, State, opening_at, Held, states_of, counters_of, StepCounts, AtEach, AsPlanned}
+use Rattle.mm_exec.proofs.Words.{counts_from, planned_counts, row_from, rows_by_counters, counted, AreByCounters, AreCounters, AreStepCounts, RunInput}
+use Rattle.mm_exec.proofs.Words.{store_state, step_of, offered, came, as_came, AreTimed}
 use Rattle.mm_exec.proofs.StoresReady.{all_by}
 
 -- counters of nothing

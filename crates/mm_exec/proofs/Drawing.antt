@@ -1,21 +1,9 @@
 -- What is given in a step that a plan fits, and draws from its window, which is not passed.
-use Rattle.std.proofs.Common.{◌≡◌, inl, inr, ℕ, zero, suc, ◌+◌, ◌*◌, ◌<◌, ◌≤◌, cond, eqb, List, [], ◌∷◌, length, get_or, All, refl, sym, ap, ◌∙◌, arith}
-use Rattle.std.specs.List.{sum_by, count_by, range_with_len}
-use Rattle.std.proofs.lemmas.Bool.{cases_lt}
-use Rattle.mm_base.proofs.Tests.{cond-eqb_same, cond-eqb_other}
-use Rattle.mm_base.proofs.RangeSums.{sum_by_filter_range-le, sum_by_range_one, sum_by_range_same, sum_by_range-le}
-use Rattle.mm_base.proofs.Sums.{sum_by-swap, sum_by-same, sum_by_ones}
-use Rattle.mm_problem.specs.Dumping.{Dumping, is_of, window}
-use Rattle.mm_plan.specs.Fit.{FitsAt, in_step}
-use Rattle.mm_plan.specs.Volumes.{Amounts}
-use Rattle.mm_store.specs.declared.stored.Stored.{Stored}
-use Rattle.mm_desk.specs.declared.entry.Entry.{Entry}
-use Rattle.mm_desk.specs.declared.held.Held.{Held}
-use Rattle.mm_dump.specs.Dumped.{times}
-use Rattle.mm_exec.specs.StepRuns.{IsDumpOf}
+use Rattle.std.proofs.Common.{◌≡◌, inl, inr, ℕ, ◌+◌, ◌*◌, ◌<◌, ◌≤◌, cond, eqb, List, [], ◌∷◌, length, get_or, All, refl, sym, ap, ◌∙◌, arith}
+use Rattle.mm_exec.proofs.Words.{cases_lt, sum_by, count_by, range_with_len, sum_by_filter_range-le, sum_by_range_one, sum_by_range_same, sum_by_range-le}
+use Rattle.mm_exec.proofs.Words.{sum_by-swap, sum_by-same, sum_by_ones, cond-eqb_same, cond-eqb_other, Dumping, is_of, window, FitsAt, in_step, Amounts, Stored}
+use Rattle.mm_exec.proofs.Words.{Entry, Held, times, RunInput, place_in_memory, IsDumpOf, AreStepRuns, sent_amounts, taken_amounts}
 use Rattle.mm_exec.specs.Draws.{AreDrawsOf, MeetNoRefusal}
-use Rattle.mm_exec.specs.RunInput.{RunInput, place_in_memory}
-use Rattle.mm_exec.specs.Steps.{AreStepRuns, sent_amounts, taken_amounts}
 
 -- draws that the window has room for meet no refusal
 with_room : (window drawn : ℕ) (draws : List ℕ) → drawn + length draws ≤ window → MeetNoRefusal window drawn draws
@@ -58,9 +46,7 @@ whole_fits m steps stores gave are t first last fits =
 
 -- at most once as much is at most as much
 once_most : (n l : ℕ) → n ≤ 1 → n * l ≤ l
-once_most zero l few = omega arith
-once_most (suc zero) l few = omega arith
-once_most (suc (suc n)) l few = absurd (omega (arith, few))
+once_most n l few = grind arith
 
 -- what the links took in a whole step fits, where they took each order once at most
 pub taken_fits : (m : RunInput) (steps : ℕ) (stores : ℕ → List Held) (gave : ℕ → ℕ → List Stored) (took : ℕ → List (List ℕ)) → AreStepRuns m steps stores gave

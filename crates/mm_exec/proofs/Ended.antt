@@ -1,28 +1,11 @@
 -- How a run ends: what is not begun, and that what was printed is what is lost.
-use Rattle.std.proofs.Common.{◌≡◌, inr, refl, ℕ, List, [], length, map, get_or, sym, ap, subst, ◌∙◌, zero, suc, ◌+◌, ◌-◌, ◌<◌, ◌≤◌, min, arith}
+use Rattle.std.proofs.Common.{◌≡◌, inr, refl, ℕ, List, [], length, map, get_or, sym, ap, subst, ◌∙◌, zero, suc, ◌-◌, ◌<◌, ◌≤◌, arith}
 use Rattle.std.specs.Prelude.{sum_by}
-use Rattle.mm_base.proofs.Sums.{sum_by-same, sum_by-map, sum_by-swap}
-use Rattle.mm_problem.specs.Dumping.{Dumping, stores, steps, size, arrivals}
-use Rattle.mm_plan.specs.Table.{Table, amount}
-use Rattle.mm_plan.specs.Volumes.{Amounts, lost, loss, left, written, store_loss}
-use Rattle.mm_desk.specs.declared.held.Held.{Held}
-use Rattle.mm_record.specs.Supplies.{Supply}
-use Rattle.mm_dump.specs.Sending.{Sent}
-use Rattle.mm_report.specs.declared.cause.Cause.{Cause}
-use Rattle.mm_report.specs.declared.counts.StepCounts.{StepCounts}
-use Rattle.mm_report.specs.Report.{Reported, totals_of}
-use Rattle.mm_exec.specs.declared.course.RunStopped.{RunStopped}
-use Rattle.mm_exec.specs.declared.step.StepBroken.{StepBroken}
-use Rattle.mm_exec.specs.Readiness.{RunStart, run_start}
-use Rattle.mm_exec.specs.RunInput.{RunInput, as_came}
-use Rattle.mm_exec.specs.RunState.{RunState, InRun}
-use Rattle.mm_exec.specs.Numbers.{report_of, rows_of, planned_counts}
-use Rattle.mm_exec.specs.Ending.{IsRefusal, IsStopped}
-use Rattle.mm_exec.specs.Course.{given_to}
-use Rattle.mm_exec.specs.declared.course.RunContext.{RunContext}
-use Rattle.mm_base.proofs.RangeSums.{sum_by_range_same}
+use Rattle.mm_exec.proofs.Words.{sum_by_range_same, sum_by-same, sum_by-map, sum_by-swap, Dumping, stores, steps, arrivals, left_start, left_step, Table}
+use Rattle.mm_exec.proofs.Words.{amount, Amounts, lost, loss, left, store_loss, Held, Supply, Sent, Reported, totals_of, Cause, StepCounts, given_to, IsRefusal}
+use Rattle.mm_exec.proofs.Words.{IsStopped, report_of, rows_of, planned_counts, RunStart, run_start, RunInput, as_came, RunState, InRun, RunContext, RunStopped}
+use Rattle.mm_exec.proofs.Words.{StepBroken}
 use Rattle.mm_plan.specs.Sheet.{SheetRows}
-use Rattle.mm_plan.proofs.Steps.{left_start, left_step}
 use Rattle.mm_planner.specs.PlanTexts.{PlansFor}
 use Rattle.mm_exec.specs.Flying.{LosesWhatIsPrinted}
 use Rattle.mm_exec.proofs.Counters.{came_at}
@@ -65,25 +48,23 @@ module _ (q : Dumping) (other : List ℕ) (x : Amounts)
   abbrev c : Dumping
   c = record q { arrived = other }
 
-  written_alike : (s t : ℕ) → s < length q.rows → 1 ≤ t → t ≤ length q.windows → left c x s (t - 1) ≡ left q x s (t - 1) → written c x s t ≡ written q x s t
-  written_alike s t store first last before =
-      ap (λ (v : ℕ). min (v + arrivals c s t) (size q s)) before ∙ ap (λ (a : ℕ). min (left q x s (t - 1) + a) (size q s)) (same s t store first last)
-
   left_alike : (s n : ℕ) → s < length q.rows → n ≤ length q.windows → left c x s n ≡ left q x s n
   left_alike s zero store last = left_start c x s ∙ sym (left_start q x s)
   left_alike s (suc n) store last =
       let before = left_alike s n store (omega arith) in
       let back : suc n - 1 ≡ n = omega arith in
-      let here : left c x s (suc n - 1) ≡ left q x s (suc n - 1) = ap (left c x s) back ∙ before ∙ sym (ap (left q x s) back) in
-      let full = written_alike s (suc n) store (omega arith) last here in
-      left_step c x s n (suc n) (omega arith) ∙ ap (λ (u : ℕ). u - min (x s (suc n)) u) full ∙ sym (left_step q x s n (suc n) (omega arith))
+      omega (
+        arith,
+        before,
+        same s (suc n) store (omega arith) last,
+        ap (left c x s) back,
+        ap (left q x s) back,
+        left_step c x s n (suc n) (omega arith),
+        left_step q x s n (suc n) (omega arith),
+      )
 
   lost_alike : (s t : ℕ) → s < length q.rows → 1 ≤ t → t ≤ length q.windows → lost c x s t ≡ lost q x s t
-  lost_alike s t store first last =
-      let before = left_alike s (t - 1) store (omega arith) in
-      ap (λ (v : ℕ). v + arrivals c s t - written c x s t) before
-      ∙ ap (λ (a : ℕ). left q x s (t - 1) + a - written c x s t) (same s t store first last)
-      ∙ ap (λ (u : ℕ). left q x s (t - 1) + arrivals q s t - u) (written_alike s t store first last before)
+  lost_alike s t store first last = omega (arith, left_alike s (t - 1) store (omega arith), same s t store first last)
 
   loss_alike : loss c x ≡ loss q x
   loss_alike =

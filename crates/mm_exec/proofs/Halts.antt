@@ -1,48 +1,23 @@
 -- What a step that was broken off leaves at a store, and what each link did where a failed one halted it.
 use Rattle.std.proofs.Common.{◌≡◌, inl, inr, ℕ, ◌<◌, List, [], length, map, All, refl, sym, ap, subst, ◌∙◌, arith, ◌⊎◌, zero, suc, ◌+◌, ◌≤◌, cond, eqb, ◌∷◌, ◌++◌}
 use Rattle.std.specs.Prelude.{Option, Some, None, sum_by, slice_index_or}
-use Rattle.std.specs.List.{AllZip}
-use Rattle.std.proofs.lemmas.Bool.{cases_lt}
-use Rattle.std.proofs.lemmas.List.{length-map, append-nil, nil_from_length}
-use Rattle.mm_packet.specs.Packet.{SpacePacket}
-use Rattle.mm_desk.specs.declared.entry.Entry.{Entry}
-use Rattle.mm_desk.specs.declared.event.Event.{Event}
-use Rattle.mm_desk.specs.declared.fault.Fault.{Fault}
 use Rattle.mm_desk.specs.declared.fault.Fault.TheVariants as fault
-use Rattle.mm_desk.specs.declared.held.Held.{Held}
-use Rattle.mm_desk.specs.Machine.{State, IsState}
-use Rattle.mm_desk.specs.Offers.{IsShuffleOfEvents}
-use Rattle.mm_desk.specs.Runs.{IsRun, opening_at, IsLegal}
-use Rattle.mm_shared.specs.Stores.{labels_of, states_of}
-use Rattle.mm_record.specs.Supplies.{Supply}
-use Rattle.mm_record.specs.Causes.{cause_in}
-use Rattle.mm_record.specs.Recorded.{RecordingContext, offers, recording}
-use Rattle.mm_record.specs.Steps.{given_in, HasRecorded}
-use Rattle.mm_dump.specs.declared.order.Order.{Order}
-use Rattle.mm_dump.specs.declared.order.OrderBroken.{OrderBroken}
 use Rattle.mm_dump.specs.declared.order.OrderBroken.TheVariants as worst
-use Rattle.mm_dump.specs.Laws.{BrokenOrdersChangeNothing}
-use Rattle.mm_dump.specs.Sending.{Sent}
-use Rattle.mm_dump.specs.Courses.{Course, EndedAs, IsWhole, IsBroken, IsCourse, worse, worst_of, failed_by, sent_by}
 use Rattle.mm_dump.specs.Dumped.{times, wanted, HasTried, AllSettled, places_of, AllTried}
-use Rattle.mm_report.specs.declared.cause.Cause.{Cause}
 use Rattle.mm_report.specs.declared.cause.Cause.TheVariants.{LinkFailed}
 use Rattle.mm_exec.proofs.Replays.{IsRun-append}
 use Rattle.mm_base.specs.declared.rows.RouteRow.{RouteRow}
-use Rattle.mm_exec.specs.Failure.{FailedLink, NoneBroke, LastBroke, LinksFailed}
-use Rattle.mm_exec.specs.Halts.{AreFirstOffers, IsByOneLog, BrokenStepsAreLogs}
-use Rattle.mm_memory.specs.Laws.{ids_of}
-use Rattle.mm_exec.specs.RunState.{RunState}
-use Rattle.mm_exec.specs.declared.step.StepBroken.{StepBroken}
-use Rattle.mm_exec.specs.Step.{StepBroke, dump_cause}
+use Rattle.mm_exec.specs.Failure.{FailedLink, LastBroke, LinksFailed}
 use Rattle.mm_exec.proofs.Parts.{as_many, same_ids, by_how, all_first, first_turns}
 use Rattle.mm_exec.proofs.StoresReady.{state_holds}
 use Rattle.std.proofs.lemmas.Bool.Decides.{eqb_tells}
-use Rattle.std.proofs.lemmas.List.Elements.{All-nil, All-cons, All-head, All-tail}
-use Rattle.std.proofs.lemmas.List.Sums.{sum_by-cons, sum_by-append, get_or-le-sum_by}
-use Rattle.mm_base.proofs.Tests.{cond-eqb_same, cond-eqb_other}
+use Rattle.mm_exec.proofs.Words.{cases_lt, length-map, append-nil, nil_from_length, All-nil, All-cons, All-head, All-tail, sum_by-cons, sum_by-append}
+use Rattle.mm_exec.proofs.Words.{get_or-le-sum_by, AllZip, cond-eqb_same, cond-eqb_other, SpacePacket, given_oldest, State, IsState, IsShuffleOfEvents, IsRun}
+use Rattle.mm_exec.proofs.Words.{opening_at, IsLegal, Entry, Event, Fault, Held, labels_of, states_of, ids_of, cause_in, RecordingContext, offers, recording}
+use Rattle.mm_exec.proofs.Words.{given_in, HasRecorded, Supply, Course, EndedAs, IsWhole, IsBroken, IsCourse, worse, worst_of, failed_by, sent_by}
+use Rattle.mm_exec.proofs.Words.{BrokenOrdersChangeNothing, Sent, Order, OrderBroken, Cause, AreFirstOffers, IsByOneLog, RunState}
+use Rattle.mm_exec.proofs.Words.{StepBroke, dump_cause, StepBroken}
 use Rattle.mm_dump.specs.Broken.{aborted}
-use Rattle.mm_desk.proofs.Logs.{given_oldest}
 
 -- recorders know nothing of links
 no_link : (step : ℕ) (why : Option Fault) → cause_in step why ≡ Some (LinkFailed step) → ⊥
@@ -85,7 +60,8 @@ then_nothing e given orders k s t firsts are log run shuffle = record {
 }
 
 module _ {L : Type 0} (sent : L → List Sent) (failed : L → ℕ) (step now : ℕ) (routes : List RouteRow) (orders : List Order)
-    (before after : RunState Supply L) (stop : StepBroken) (k : ℕ) (within : k < length before.stores) where
+    (before after : RunState Supply L) (stop : StepBroken) (broke : StepBroke sent failed (recording step now routes before.stores) orders before after stop)
+    (labels : labels_of after.stores ≡ labels_of before.stores) (k : ℕ) (within : k < length before.stores) where
   abbrev e : RecordingContext
   e = recording step now routes before.stores
 
@@ -98,8 +74,9 @@ module _ {L : Type 0} (sent : L → List Sent) (failed : L → ℕ) (step now : 
   inside : (x : RunState Supply L) → labels_of x.stores ≡ labels_of before.stores → k < length (states_of x.stores)
   inside x same = omega (arith, within, as_many x.stores before.stores same, length-map x.stores (λ (h : Held). h.state))
 
-  one_log : labels_of after.stores ≡ labels_of before.stores → StepBroke sent failed e orders before after stop → IsByOneLog e came orders k (state_in before) (state_in after)
-  one_log labels =
+  -- the law
+  pub one_log : IsByOneLog e came orders k (state_in before) (state_in after)
+  one_log =
       by_how sent failed e orders before after stop (IsByOneLog e came orders k (state_in before) (state_in after))
       (λ broke.
       let went = broke.records.went k (inside after labels) in
@@ -108,12 +85,7 @@ module _ {L : Type 0} (sent : L → List Sent) (failed : L → ℕ) (step now : 
       went.log went.run went.shuffle)
       (λ mid recorded broke.
       then_tried e came orders k (state_in before) (state_in mid) (state_in after) (recorded.stores_are k (inside mid recorded.labels)) (sum_by (times k) broke.settled.places)
-      (broke.settled.course k) (broke.settled.stores k (inside after (broke.labels ∙ recorded.labels))) (broke.settled.amounts k))
-
--- the law
-pub steps_are_logs : {L : Type 0} (sent : L → List Sent) (failed : L → ℕ) → BrokenStepsAreLogs sent failed
-steps_are_logs sent failed step now routes orders before after stop broke labels k within =
-    one_log sent failed step now routes orders before after stop k within labels broke
+      (broke.settled.course k) (broke.settled.stores k (inside after (broke.labels ∙ recorded.labels))) (broke.settled.amounts k)) broke
 
 -- what an order broke for was at worst a link
 abbrev pub IsMild : Option OrderBroken → Type 0
@@ -263,7 +235,15 @@ links_failed sent failed ids orders before after olds news changes there sound s
     record {
       settled = settled;
       many = many;
-      links = λ l within. record { grew = (link l within).grew; how = of_link l within _ _ (link l within).failures (link l within).how };
+      links = λ l within.
+          let one = link l within in
+          record {
+            grew = one.grew;
+            how = elim one.how [
+              | inl all ↦ inl (record { whole = all.whole; failures = omega (arith, one.failures, all.fails) })
+              | inr last ↦ inr (last_broke l within _ _ one.failures last)
+            ];
+          };
       some =
           let found = some_broke sent failed ids settled.course settled.places settled.cause (λ l within. (link l (omega (arith, many, within))).how) in
           let inside : found.0 < length olds = omega (arith, many, found.1) in
@@ -304,14 +284,8 @@ links_failed sent failed ids orders before after olds news changes there sound s
           failures = omega (arith, rose, last.fails);
           same = kept.0;
           newer = oldest.0;
-          oldest = ap (λ (s : State). s.store.content) kept.0 ∙ oldest.1;
+          oldest = ◌∙◌ {c = (c.sent ++ c.unsent) ++ oldest.0} (ap (λ (s : State). s.store.content) kept.0) oldest.1;
         }
-
-    of_link : (l : ℕ) → l < length olds → (was is : ℕ) → is ≡ was + failed_by (map settled.course (slice_index_or settled.places l []))
-        → AllWhole settled.course (slice_index_or settled.places l []) ⊎ LastMild settled.course (slice_index_or settled.places l [])
-        → NoneBroke settled.course (slice_index_or settled.places l []) was is ⊎ LastBroke settled.course (slice_index_or settled.places l []) before after was is
-    of_link l within was is rose (inl all) = inl (record { whole = all.whole; failures = omega (arith, rose, all.fails) })
-    of_link l within was is rose (inr last) = inr (last_broke l within was is rose last)
 
 -- a step that a failed link halted
 module _ {L : Type 0} (sent : L → List Sent) (failed : L → ℕ) (e : RecordingContext) (orders : List Order)
@@ -324,8 +298,7 @@ module _ {L : Type 0} (sent : L → List Sent) (failed : L → ℕ) (e : Recordi
       (λ mid recorded broke.
       let worst_is : broke.why ≡ worst.LinkFailed = link_failed e.step broke.why (sym broke.cause_is ∙ is_link) in
       let ids_are = same_ids mid.stores before.stores recorded.labels ∙ ids in
-      let Settled = λ (p : OrderBroken × List (List ℕ) × List L). AllSettled sent failed p.1 orders (Some p.0) (states_of mid.stores) (states_of after.stores) p.2 after.links in
-      let settled = subst Settled (λ i. (worst_is i, ids_are i, recorded.links i)) broke.settled in
+      let settled = rw (worst_is, ids_are, recorded.links) at broke.settled in
       let many : length after.stores ≡ length mid.stores = as_many after.stores mid.stores broke.labels in
       let all : length after.stores ≡ length before.stores = many ∙ as_many mid.stores before.stores recorded.labels in
       let counted = length-map after.stores (λ (h : Held). h.state) in
@@ -334,7 +307,6 @@ module _ {L : Type 0} (sent : L → List Sent) (failed : L → ℕ) (e : Recordi
         recorded = recorded;
         sources = broke.sources;
         links =
-            links_failed sent failed e.ids orders (states_of mid.stores) (states_of after.stores) before.links after.links changes
-            (subst (λ (n : ℕ). All (λ (o : Order). o.place < n) orders) (sym (counted ∙ all)) there)
+            links_failed sent failed e.ids orders (states_of mid.stores) (states_of after.stores) before.links after.links changes (rw (counted ∙ all) there)
             (λ k within. state_holds IsState mid.stores recorded.sound k (omega (arith, within, counted, many))) settled;
       })

@@ -1,3 +1,4 @@
+pub mod Words
 pub mod RangeLists
 pub mod Replays
 pub mod Stepping

@@ -1,26 +1,11 @@
 -- What the orders of a step want of each store.
-use Rattle.std.proofs.Common.{◌≡◌, ◌≢◌, ℕ, ◌<◌, ◌≤◌, Bool, cond, ltb, eqb, List, [], ◌∷◌, length, map, All, refl, sym, subst, ◌∙◌, arith, ◌+◌, ◌++◌, ap, add-one}
-use Rattle.std.specs.Prelude.{filter, slice_index, AllPairs, nat_lt}
-use Rattle.std.specs.List.{sum_by, range_with_len}
-use Rattle.std.proofs.lemmas.Bool.{lt-ltb, le-ltb, ltb-true, ltb-false, ne_eqb, eq-eqb, cond_both}
-use Rattle.std.proofs.lemmas.List.Elements.{All-map, filter-append}
-use Rattle.mm_base.proofs.Pairs.{AllPairs-map}
-use Rattle.mm_base.proofs.Ranges.{All-filter-range_with_len, AllPairs-filter-range_with_len, range_with_len_more}
-use Rattle.mm_base.proofs.RangeSums.{sum_by_range_one, sum_by_range_same}
-use Rattle.mm_base.proofs.Sums.{sum_by-filter, sum_by-map, sum_by-map-filter}
-use Rattle.mm_plan.specs.Fit.{in_step}
-use Rattle.mm_plan.specs.Volumes.{Amounts}
-use Rattle.mm_dump.specs.declared.order.Order.{Order}
-use Rattle.mm_dump.specs.Dumped.{wanted, times, places_of}
+use Rattle.std.proofs.Common.{◌≡◌, ◌≢◌, ℕ, ◌<◌, ◌≤◌, Bool, cond, ltb, eqb, List, [], ◌∷◌, length, map, refl, sym, subst, ◌∙◌, arith, ◌+◌, ◌++◌, ap, add-one}
+use Rattle.mm_exec.proofs.Words.{lt-ltb, le-ltb, ltb-true, ltb-false, ne_eqb, eq-eqb, cond_both, length-map, map-append, append-nil, All-map, filter-append}
+use Rattle.mm_exec.proofs.Words.{length-range_with_len, length-filter, count_by-le-length, sum_by, range_with_len, filter, slice_index, nat_lt}
+use Rattle.mm_exec.proofs.Words.{AllPairs-map, sum_by_range_one, sum_by_range_same, All-filter-range_with_len, AllPairs-filter-range_with_len}
+use Rattle.mm_exec.proofs.Words.{range_with_len_more, sum_by-filter, sum_by-map, sum_by-map-filter, MAX_STORES, in_step, Amounts, wanted, times, places_of}
+use Rattle.mm_exec.proofs.Words.{Order, orders_of, AreApart, RunInput, place_in_memory, step_orders, AreOrders}
 use Rattle.mm_exec.proofs.RangeLists.{made_alike}
-use Rattle.mm_exec.specs.Places.{AreApart}
-use Rattle.mm_exec.specs.RunInput.{RunInput, place_in_memory, step_orders}
-use Rattle.mm_exec.specs.Numbers.{orders_of}
-use Rattle.mm_exec.specs.Step.{AreOrders}
-use Rattle.mm_base.specs.declared.limits.TheConstants.{MAX_STORES}
-use Rattle.std.proofs.lemmas.List.{length-map, map-append, append-nil}
-use Rattle.std.proofs.lemmas.List.FromFn.{length-range_with_len}
-use Rattle.std.proofs.lemmas.List.Sums.{length-filter, count_by-le-length}
 
 module _ (x : Amounts) (places : List ℕ) (t : ℕ) where
   -- whether a store has an order, and the order
@@ -94,33 +79,25 @@ module _ (x : Amounts) (places : List ℕ) (t n : ℕ) where
       sum_by-map-filter (λ (o : Order). o.amount) (order_of x places t) (is_ordered x places t) (range_with_len 0 n)
       ∙ sum_by_range_same (λ s. cond (is_ordered x places t s) (x s t) 0) (in_step x t) 0 n (λ s from to. amount_counted (x s t))
 
-  -- the orders are of stores that are there
-  places_within : (m : ℕ) → ((s : ℕ) → s < n → slice_index places s < m) → All (λ o. o.place < m) (orders_of x places t n)
-  places_within m within =
-      All-map (λ (o : Order). o.place < m) (order_of x places t) (filter (is_ordered x places t) (range_with_len 0 n))
-      (All-filter-range_with_len (λ (s : ℕ). slice_index places s < m) (is_ordered x places t) 0 n (λ s from to passes. within s (omega arith)))
-
-  -- each is of one packet or more
-  amounts_some : All (λ o. 1 ≤ o.amount) (orders_of x places t n)
-  amounts_some =
-      All-map (λ (o : Order). 1 ≤ o.amount) (order_of x places t) (filter (is_ordered x places t) (range_with_len 0 n))
-      (All-filter-range_with_len (λ (s : ℕ). 1 ≤ x s t) (is_ordered x places t) 0 n (λ s from to passes. ltb-true 0 (x s t) passes))
-
-  -- no two are of one store
-  places_apart : AreApart places n → AllPairs (λ a b. a.place ≢ b.place) (orders_of x places t n)
-  places_apart apart =
-      AllPairs-map (λ (a b : Order). a.place ≢ b.place) (order_of x places t) (filter (is_ordered x places t) (range_with_len 0 n))
-      (AllPairs-filter-range_with_len (λ (r s : ℕ). slice_index places r ≢ slice_index places s) (is_ordered x places t) 0 n
-      (λ r s from before to one other. apart r s (omega arith) (omega arith) (λ same. omega (arith, same))))
-
-  -- the orders may be carried out
+  -- the orders may be carried out: each is of a store that is there, of one packet or more, and no two are of one store
   pub may_order : (many : ℕ) → n ≤ MAX_STORES → ((s : ℕ) → s < n → slice_index places s < many) → AreApart places n → AreOrders many (orders_of x places t n)
-  may_order many few within apart = record {
-    few = omega (arith, orders_few x places t n, few);
-    places = places_within many within;
-    some = amounts_some;
-    apart = places_apart apart;
-  }
+  may_order many few within apart =
+      let order = order_of x places t in
+      let ordered = is_ordered x places t in
+      let stores = filter ordered (range_with_len 0 n) in
+      record {
+        few = omega (arith, orders_few x places t n, few);
+        places =
+            All-map (λ (o : Order). o.place < many) order stores
+            (All-filter-range_with_len (λ (s : ℕ). slice_index places s < many) ordered 0 n (λ s from to passes. within s (omega arith)));
+        some =
+            All-map (λ (o : Order). 1 ≤ o.amount) order stores
+            (All-filter-range_with_len (λ (s : ℕ). 1 ≤ x s t) ordered 0 n (λ s from to passes. ltb-true 0 (x s t) passes));
+        apart =
+            AllPairs-map (λ (a b : Order). a.place ≢ b.place) order stores
+            (AllPairs-filter-range_with_len (λ (r s : ℕ). slice_index places r ≢ slice_index places s) ordered 0 n
+            (λ r s from before to one other. apart r s (omega arith) (omega arith) (λ same. omega (arith, same))));
+      }
 
 -- the orders of a run, for stores at their places
 pub orders_are : (m : RunInput) (places : List ℕ) (t : ℕ) → ((s : ℕ) → s < length m.problem.rows → slice_index places s ≡ place_in_memory m s)

@@ -1,40 +1,14 @@
 -- The parts of a step, and the first offers of what sources give.
 use Rattle.std.proofs.Common.{◌≡◌, inl, inr, ℕ, suc, ◌<◌, List, [], ◌∷◌, ◌++◌, length, map, All, refl, sym, ap, subst, ◌∙◌, arith, append_assoc}
-use Rattle.std.specs.Prelude.{Option, Some, None, Result, Ok, Err, OnOk, IfErr, IfNone, IfSome}
-use Rattle.std.specs.List.{AllZip}
-use Rattle.std.proofs.lemmas.List.{length-map, append-nil}
-use Rattle.std.proofs.lemmas.Option.{same_Some}
-use Rattle.std.proofs.lemmas.List.Elements.{All-head, All-tail}
 use Rattle.std.proofs.lemmas.Simd.{map-map}
-use Rattle.mm_packet.specs.Packet.{SpacePacket}
-use Rattle.mm_desk.specs.declared.fault.Fault.{Fault}
+use Rattle.mm_exec.proofs.Words.{length-map, append-nil, All-head, All-tail, same_Some, AllZip, Option, Some, None, IfNone, IfSome, SpacePacket, Event, Fault}
+use Rattle.mm_exec.proofs.Words.{Held, labels_of, states_of, ids_of, cause_in, RecordingContext, offers, Supply, supplies, Sent, Order, OrderBroken, Cause}
+use Rattle.mm_exec.proofs.Words.{AreFirstOffers, HalvesMakeStepRuns, RunState, with_supplies, InRun, StepRecorded, StepDumped, StepDone, KeepsRest, IsCauseIn}
+use Rattle.mm_exec.proofs.Words.{NeverRefused, dump_cause, RecordersBroke, OrdersBroke, StepBroke, StepStopped, StepBroken}
 use Rattle.mm_desk.specs.declared.fault.Fault.TheVariants as fault
-use Rattle.mm_desk.specs.declared.held.Held.{Held}
-use Rattle.mm_shared.specs.Stores.{labels_of, states_of}
-use Rattle.mm_record.specs.Supplies.{Supply, WhateverComes}
-use Rattle.mm_record.proofs.Supplying.{as_they_are, comes_weaker}
-use Rattle.mm_record.specs.Causes.{cause_in}
-use Rattle.mm_record.specs.Recorded.{RecordingContext, offers}
-use Rattle.mm_record.specs.Steps.{given_in, AllRecorded, Records, RecorderRun, AreRecorderRuns, StoppedEarly, IsRecorderRun}
-use Rattle.mm_dump.specs.declared.order.Order.{Order}
-use Rattle.mm_dump.specs.declared.order.OrderBroken.{OrderBroken}
+use Rattle.mm_record.specs.Steps.{given_in, Records, RecorderRun, AreRecorderRuns, StoppedEarly, IsRecorderRun, TakesAll}
 use Rattle.mm_dump.specs.declared.order.OrderBroken.TheVariants as worst
-use Rattle.mm_dump.specs.Sending.{Sent}
-use Rattle.mm_dump.specs.Dumped.{AllTook}
-use Rattle.mm_report.specs.declared.cause.Cause.{Cause}
-use Rattle.mm_exec.specs.Laws.{HalvesMakeStepRuns}
-use Rattle.mm_memory.specs.Laws.{ids_of}
-use Rattle.mm_exec.specs.RunState.{RunState, with_supplies, InRun}
-use Rattle.mm_exec.specs.declared.step.StepBroken.{StepBroken}
-use Rattle.mm_exec.specs.Step.{StepRecorded, StepDumped, StepDone, KeepsRest, IsCauseIn, dump_cause, RecordersBroke, OrdersBroke, StepBroke, StepStopped}
-use Rattle.mm_desk.specs.declared.event.Event.{Event}
 use Rattle.mm_record.proofs.Offers.{offers_more}
-use Rattle.mm_exec.specs.Halts.{AreFirstOffers}
-
--- what follows in either case
-pub both_follow : {A E : Type 0} (P Q : Type 0) (R : E → Type 0) (r : Result A E) → OnOk r P → IfErr r R → (P → Q) → ((e : E) → R e → Q) → Q
-both_follow P Q R (Ok x) p e first second = first p
-both_follow P Q R (Err e) p r first second = second e r
 
 -- stores with the same labels have the same identifiers
 pub same_ids : (xs ys : List Held) → labels_of xs ≡ labels_of ys → map (λ (h : Held). h.id) xs ≡ map (λ (h : Held). h.id) ys
@@ -80,6 +54,16 @@ cause_dumped : (step : ℕ) (why : OrderBroken) → IsCauseIn step (dump_cause s
 cause_dumped step worst.LinkFailed = refl
 cause_dumped step why = refl
 
+-- where memory alone is the reason, or orders broke, no store refused
+not_refused : (step : ℕ) (why : Option Fault) (cause : Cause) → IfSome why (λ f. f ≡ fault.NoMemory) → cause_in step why ≡ Some cause → NeverRefused cause
+not_refused step None cause lack is = absurd (cc is)
+not_refused step (Some fault.NoMemory) cause lack is = λ at same. absurd (cc (is, same))
+not_refused step (Some other) cause lack is = absurd (cc lack)
+
+dump_not_refused : (step : ℕ) (why : OrderBroken) → NeverRefused (dump_cause step why)
+dump_not_refused step worst.LinkFailed = λ at same. absurd (cc same)
+dump_not_refused step worst.NoMemory = λ at same. absurd (cc same)
+
 -- all offers were made of what sources gave
 pub all_first : (e : RecordingContext) (k : ℕ) (given : List (List SpacePacket)) → AllZip (AreFirstOffers e k) given (map (offers e k) given)
 all_first e k [] = tt
@@ -120,7 +104,7 @@ first_turns e xs ys turns k had within = absurd had
 pub both_parts : {L : Type 0} (sent : L → List Sent) (failed : L → ℕ) (e : RecordingContext) (orders : List Order)
     (before mid after : RunState Supply L) → HalvesMakeStepRuns → ids_of before.stores ≡ e.ids → StepRecorded e before mid → StepDumped sent failed orders mid after
     → StepDone sent failed e orders before after
-both_parts {L = L} sent failed e orders before mid after halves ids recorded dumped =
+both_parts sent failed e orders before mid after halves ids recorded dumped =
     let many : length after.stores ≡ length mid.stores = as_many after.stores mid.stores dumped.labels in
     record {
       labels = dumped.labels ∙ recorded.labels;
@@ -133,10 +117,7 @@ both_parts {L = L} sent failed e orders before mid after halves ids recorded dum
           halves _ _ _ first.log second.calls _ _ _ first.run first.shuffle first.taken second.run (record { none = second.none; whole = second.whole });
       places = dumped.dumped.places;
       once = dumped.dumped.once;
-      links =
-          subst (λ (olds : List L). AllTook sent failed e.ids dumped.dumped.gave dumped.dumped.places olds after.links) recorded.links
-          (subst (λ (ids : List (List ℕ)). AllTook sent failed ids dumped.dumped.gave dumped.dumped.places mid.links after.links)
-          (same_ids mid.stores before.stores recorded.labels ∙ ids) dumped.dumped.links);
+      links = rw (same_ids mid.stores before.stores recorded.labels ∙ ids, recorded.links) at dumped.dumped.links;
       nothing_left = subst (All (λ (s : Supply). s e.step ≡ [])) (sym dumped.sources) recorded.nothing_left;
       others = λ t other. ap (given_in t) dumped.sources ∙ recorded.others t other;
     }
@@ -170,58 +151,51 @@ module _ {L : Type 0} (sent : L → List Sent) (failed : L → ℕ) (e : Recordi
         others = λ t other. ap (given_in t) broke.sources ∙ recorded.others t other;
       })
 
+  -- where each store surely takes what comes, no store refused a packet
+  pub never_refused : TakesAll e before.stores before.sources → StepBroke sent failed e orders before after stop → NeverRefused stop.cause
+  never_refused takes =
+      by_how (NeverRefused stop.cause) (λ broke. not_refused e.step broke.why stop.cause (broke.records.none_refused takes) broke.cause_is)
+      (λ mid recorded broke. subst NeverRefused (sym broke.cause_is) (dump_not_refused e.step broke.why))
+
 -- a step in which no recorder stopped early
 pub recorded_whole : {L : Type 0} (e : RecordingContext) (before after : RunState Supply L) (why : Option Fault) → why ≡ None → after.links ≡ before.links
     → Records e before.stores after.stores why before.sources after.sources → StepRecorded e before after
 recorded_whole e before after why none links records = record {
   labels = records.labels;
   sound = records.sound;
-  stores_are = subst (λ (w : Option Fault). IfNone w (AllRecorded e (given_in e.step before.sources) (states_of before.stores) (states_of after.stores))) none records.recorded;
-  nothing_left = subst (λ (w : Option Fault). IfNone w (All (λ s. s e.step ≡ []) after.sources)) none records.nothing_left;
+  stores_are = rw none at records.recorded;
+  nothing_left = rw none at records.nothing_left;
   others = records.others;
   links = links;
 }
-
--- what follows of a step from what was recorded in it, where the sources are as recording left them
-pub then_dumped : {S L : Type 0} (leads : S → S → Type 0) (until : S → S → Supply) (before mid after : RunState S L) (P Q : RunState Supply L → RunState Supply L → Type 0)
-    → after.sources ≡ mid.sources
-    → ((given left : List Supply) → P (with_supplies before given) (with_supplies mid left) → Q (with_supplies before given) (with_supplies after left))
-    → InRun leads until before mid P → InRun leads until before after Q
-then_dumped leads until before mid after P Q same so =
-    subst (λ ss. InRun leads until before mid P → WhateverComes leads until before.sources ss (λ given left. Q (with_supplies before given) (with_supplies after left)))
-    (sym same)
-    (comes_weaker leads until before.sources mid.sources (λ given left. P (with_supplies before given) (with_supplies mid left))
-    (λ given left. Q (with_supplies before given) (with_supplies after left)) so)
-
--- what holds in a run holds where nothing more comes
-pub as_is : {S L : Type 0} (leads : S → S → Type 0) (until : S → S → Supply) → ((s : S) → leads s s) → (before after : RunState S L) (P : RunState Supply L → RunState Supply L → Type 0)
-    → InRun leads until before after P → (given : List Supply) × (left : List Supply) × P (with_supplies before given) (with_supplies after left)
-as_is leads until stays before after P whole =
-    (_, _, as_they_are leads until stays before.sources after.sources (λ given left. P (with_supplies before given) (with_supplies after left)) whole)
 
 -- a step that was recorded and then dumped, whatever its sources give
 module _ {S L : Type 0} (leads : S → S → Type 0) (until : S → S → Supply) (sent : L → List Sent) (failed : L → ℕ) (e : RecordingContext) (orders : List Order)
     (before mid after : RunState S L) (recorded : InRun leads until before mid (StepRecorded e)) where
   pub whole_step : HalvesMakeStepRuns → ids_of before.stores ≡ e.ids → StepDumped sent failed orders mid after → InRun leads until before after (StepDone sent failed e orders)
   whole_step halves ids dumped =
-      then_dumped leads until before mid after (StepRecorded e) (StepDone sent failed e orders) dumped.sources
-      (λ given left recorded. both_parts sent failed e orders (with_supplies before given) (with_supplies mid left) (with_supplies after left) halves ids recorded
-      (record { labels = dumped.labels; dumped = dumped.dumped; sources = refl })) recorded
+      rw dumped.sources (λ lasts lead.
+      let one = recorded lasts lead in
+      let left = with_supplies after (supplies until mid.sources lasts) in
+      (one.0, both_parts sent failed e orders _ _ left halves ids one.1 (record { labels = dumped.labels; dumped = dumped.dumped; sources = refl })))
 
   pub broken_step : (stop : StepBroken) → OrdersBroke sent failed e.step orders mid after stop → InRun leads until before after (λ b a. StepBroke sent failed e orders b a stop)
   broken_step stop broke =
-      then_dumped leads until before mid after (StepRecorded e) (λ b a. StepBroke sent failed e orders b a stop) broke.sources
-      (λ given left recorded. inr (record {
-        mid = with_supplies mid left;
-        recorded = recorded;
-        how = record {
-          labels = broke.labels;
-          sound = broke.sound;
-          why = broke.why;
-          settled = broke.settled;
-          sources = refl;
-          spent_is = broke.spent_is;
-          kept = broke.kept;
-          cause_is = broke.cause_is;
-        };
-      })) recorded
+      rw broke.sources (λ lasts lead.
+      let one = recorded lasts lead in (
+        one.0,
+        inr (record {
+          mid = with_supplies mid (supplies until mid.sources lasts);
+          recorded = one.1;
+          how = record {
+            labels = broke.labels;
+            sound = broke.sound;
+            why = broke.why;
+            settled = broke.settled;
+            sources = refl;
+            spent_is = broke.spent_is;
+            kept = broke.kept;
+            cause_is = broke.cause_is;
+          };
+        }),
+      ))

@@ -1,19 +1,8 @@
 -- The stores of the problem at their places in the memory.
 use Rattle.std.proofs.Common.{◌≡◌, ◌≢◌, inl, inr, ℕ, ◌<◌, List, [], length, map, take, get_or, sym, subst, ap, ◌∙◌, arith}
-use Rattle.std.specs.Prelude.{slice_index}
-use Rattle.std.specs.List.{position_or_len}
-use Rattle.std.proofs.lemmas.Bool.{cases_order}
-use Rattle.std.proofs.lemmas.List.{get_or-map, get_or-take, length-take-le}
-use Rattle.std.proofs.lemmas.List.Elements.{All-from_get_or}
-use Rattle.std.proofs.lemmas.List.Sums.{passes_at_first}
-use Rattle.std.proofs.lemmas.Slice.Eq.{bytes_eq-Decides}
-use Rattle.mm_problem.specs.Dumping.{Dumping, row, no_row}
+use Rattle.mm_exec.proofs.Words.{cases_order, get_or-map, get_or-take, length-take-le, All-from_get_or, passes_at_first, bytes_eq-Decides, position_or_len}
+use Rattle.mm_exec.proofs.Words.{slice_index, Dumping, row, no_row, blank, Held, id_at, has_id, IsPlaceOf, ArePlaces, AreAllPlaces, StandWithin}
 use Rattle.mm_problem.specs.Setup.{AreStores}
-use Rattle.mm_desk.specs.declared.held.Held.{Held}
-use Rattle.mm_desk.specs.Runs.{blank}
-use Rattle.mm_shared.specs.Stores.{id_at}
-use Rattle.mm_memory.specs.Holdings.{has_id}
-use Rattle.mm_exec.specs.Places.{IsPlaceOf, ArePlaces, AreAllPlaces, StandWithin}
 
 -- no store
 abbrev pub no_held : Held

@@ -1,10 +1,6 @@
 -- Lists that the numbers of a range make.
 use Rattle.std.proofs.Common.{◌≡◌, ℕ, ◌+◌, ◌<◌, ◌≤◌, List, [], ◌∷◌, map, All, refl, sym, ap, ◌∙◌}
-use Rattle.std.specs.Prelude.{flat_map}
-use Rattle.std.specs.List.{range_with_len}
-use Rattle.std.proofs.lemmas.List.Elements.{All-head, All-tail}
-use Rattle.std.proofs.lemmas.List.Folds.{flat_map-map}
-use Rattle.mm_base.proofs.Ranges.{All-range_with_len}
+use Rattle.mm_exec.proofs.Words.{All-head, All-tail, flat_map-map, range_with_len, flat_map, All-range_with_len}
 
 -- lists are equal where they are made alike of each element
 pub made_alike : {X Y : Type 0} (f g : X → Y) (xs : List X) → All (λ x. f x ≡ g x) xs → map f xs ≡ map g xs

@@ -1,27 +1,13 @@
 -- Logs in two parts, what holds of the entries of a log by its seats, and what a log of offers leaves of a store.
 use Rattle.std.proofs.Common.{◌≡◌, List, [], ◌∷◌, ◌++◌, length, All, refl, sym, subst, ap, ◌∙◌, ℕ, ◌+◌, ◌≤◌, max, arith}
-use Rattle.std.specs.Prelude.{nat_lt, ◌==◌, ◌||◌, not, Result}
-use Rattle.std.proofs.lemmas.Bool.{cond_both}
-use Rattle.std.proofs.lemmas.List.Elements.{All-head, All-tail}
-use Rattle.mm_base.proofs.Elements.{All-unmapped}
+use Rattle.mm_exec.proofs.Words.{cond_both, All-head, All-tail, nat_lt, ◌==◌, ◌||◌, not, Result, All-unmapped, SpacePacket, Store, clock_end, put, put_timed}
+use Rattle.mm_exec.proofs.Words.{put_full, Stored, State, step, offer, IsShuffleOfEvents, replay, IsLegal, IsRun, part, Entry, Event, Offer}
+use Rattle.mm_exec.proofs.Words.{parts_all, IsBy, AreBy}
 use Rattle.mm_base.specs.declared.kind.Kind.{Kind}
 use Rattle.mm_base.specs.declared.kind.Kind.TheVariants.{Circular, Bounded}
-use Rattle.mm_packet.specs.Packet.{SpacePacket}
-use Rattle.mm_store.specs.Content.{Store, clock_end, put, put_timed, put_full}
 use Rattle.mm_store.specs.declared.put.Put.{Put}
-use Rattle.mm_store.specs.declared.stored.Stored.{Stored}
-use Rattle.mm_desk.specs.declared.entry.Entry.{Entry}
-use Rattle.mm_desk.specs.declared.event.Event.{Event}
-use Rattle.mm_desk.specs.Laws.{HasTimes}
-use Rattle.mm_desk.specs.Machine.{State, step, offer}
-use Rattle.mm_desk.specs.Offers.{IsShuffleOfEvents}
-use Rattle.mm_desk.specs.Runs.{replay, IsLegal, IsRun}
-use Rattle.mm_desk.specs.Shuffles.{part}
 use Rattle.mm_desk.specs.declared.reply.Offered.{Offered}
 use Rattle.mm_desk.specs.declared.reply.Returned.{Returned}
-use Rattle.mm_desk.specs.declared.event.Event.TheVariants.{Offer}
-use Rattle.mm_record.proofs.Taking.{parts_all}
-use Rattle.mm_exec.specs.StepRuns.{AreTimed, IsBy, AreBy}
 
 -- a legal list is legal in its first part, and from there in its second
 pub IsLegal-parts : (s : State) (es fs : List Entry) → IsLegal s (es ++ fs) → IsLegal s es × IsLegal (replay s es) fs
@@ -53,10 +39,6 @@ shuffled P lists log shuffle all =
     parts_all (λ (e : Entry). P e.event) (length lists) log shuffle.below
     (λ seat within. All-unmapped P (λ (e : Entry). e.event) (part seat log)
     (subst (All P) (sym (shuffle.parts seat within)) (all seat [] within)))
-
--- so do moments that fit
-pub timed_log : (lists : List (List Event)) (log : List Entry) → IsShuffleOfEvents lists log → AreTimed lists → All (λ e. HasTimes e.event) log
-timed_log lists log shuffle timed = shuffled HasTimes lists log shuffle timed
 
 -- what holds of the offers by a moment holds of each such event
 pub by_offer : (P : Event → Type 0) (now : ℕ) → ((at : ℕ) (packet : SpacePacket) → at ≤ now → P (Offer at packet)) → (event : Event) → IsBy now event → P event

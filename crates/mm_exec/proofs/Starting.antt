@@ -1,62 +1,29 @@
 -- How a run begins, and what is known of it on the way.
-use Rattle.std.proofs.Common.{◌≡◌, ◌≢◌, ℕ, ◌+◌, ◌-◌, ◌*◌, ◌<◌, ◌≤◌, ◌^◌, Bool, true, false, List, [], length, map, get_or, All, refl, sym, subst, ap, ◌∙◌, arith}
-use Rattle.std.specs.Prelude.{slice_index, slice_index_or, bytes_eq, slice_get, Option, Some, None, is_some, not, ◌&&◌, IsTrue, vec_capacity}
-use Rattle.std.specs.List.{list_any, position_or_len}
-use Rattle.std.proofs.lemmas.Bool.{eqb-true, eqb-false, ltb-false, or_parts, both_ways, false_from_ne_true}
-use Rattle.std.proofs.lemmas.List.{length-map, get_or-map, append-nil}
-use Rattle.std.proofs.lemmas.List.FromFn.{length-map-range_with_len}
-use Rattle.std.proofs.lemmas.List.Folds.{find_at, list_any_at}
-use Rattle.std.proofs.lemmas.List.Sums.{passes_at_first, position_or_len_is, prefix_len-le-length}
-use Rattle.std.proofs.lemmas.List.Sorted.{IsPermutation-refl}
-use Rattle.std.proofs.lemmas.Option.{slice_get-get_or}
-use Rattle.std.proofs.lemmas.Slice.Eq.{bytes_eq-Decides}
-use Rattle.mm_base.specs.declared.limits.TheConstants.{MAX_STEPS, MAX_STORES}
-use Rattle.mm_base.specs.declared.rows.StoreRow.{StoreRow}
-use Rattle.mm_packet.specs.Packet.{SpacePacket}
-use Rattle.mm_problem.specs.Dumping.{Dumping, IsDumping, row, no_row, place}
-use Rattle.mm_plan.specs.Fit.{FitsAt}
-use Rattle.mm_plan.specs.Table.{amount}
-use Rattle.mm_desk.specs.declared.held.Held.{Held}
+use Rattle.std.proofs.Common.{◌≡◌, ◌≢◌, ℕ, zero, suc, ◌+◌, ◌-◌, ◌*◌, ◌<◌, ◌≤◌, ◌^◌, Bool, true, false, List, [], length, map, get_or, All, refl, sym, subst, ap, ◌∙◌, arith}
+use Rattle.mm_exec.proofs.Words.{eqb-true, eqb-false, ltb-false, or_parts, both_ways, false_from_ne_true, length-map, get_or-map, append-nil, All-map, find_at}
+use Rattle.mm_exec.proofs.Words.{list_any_at, length-map-range_with_len, IsPermutation-refl, passes_at_first, position_or_len_is, prefix_len-le-length}
+use Rattle.mm_exec.proofs.Words.{slice_get-get_or, bytes_eq-Decides, list_any, position_or_len, slice_index, slice_index_or, bytes_eq, slice_get, Option, Some}
+use Rattle.mm_exec.proofs.Words.{None, is_some, not, ◌&&◌, IsTrue, vec_capacity, MAX_STEPS, MAX_STORES, StoreRow, SpacePacket, Dumping, IsDumping, row, no_row}
+use Rattle.mm_exec.proofs.Words.{place, FitsAt, amount, OrdersDumpTheOldest, State, IsState, opening_at, blank, Held, labels_of, states_of, AreHeld, has_id}
+use Rattle.mm_exec.proofs.Words.{store_of, named_of, held_as, is_clock_late, is_late, TakesAll, Supply, BrokenOrdersChangeNothing, Sent, Reported, IsReady}
+use Rattle.mm_exec.proofs.Words.{given_to, recording_at, orders_at, MayReport, StepReported, StepUnreported, AreWithinLimits, HasRun, IsHaltedIn}
+use Rattle.mm_exec.proofs.Words.{RunsLoseAsPlanned, RunsLoseNoPacketUncounted, StepRunsKeepStores, IsPlaceOf, ArePlaces, StandWithin, AllMeet, NoneUnknown}
+use Rattle.mm_exec.proofs.Words.{meets, meets_at, RunInput, recording_in, step_of, place_in_memory, store_state, step_orders, RunState}
+use Rattle.mm_exec.proofs.Words.{with_supplies, AreReady, AreOrders, NeverRefused, StepsDone, taken_amounts, RunContext, StepBroken}
 use Rattle.mm_desk.specs.declared.state.Retrieval.{Retrieval}
-use Rattle.mm_desk.specs.Machine.{State, IsState}
-use Rattle.mm_desk.specs.Runs.{opening_at, blank}
-use Rattle.mm_shared.specs.Stores.{labels_of, states_of}
-use Rattle.mm_memory.specs.Holdings.{AreHeld, has_id, store_of}
-use Rattle.mm_record.specs.Supplies.{Supply}
-use Rattle.mm_record.specs.Causes.{is_clock_late, is_late}
-use Rattle.mm_record.specs.Steps.{latest, AreFew, TakesAll}
-use Rattle.mm_dump.specs.declared.order.Order.{Order}
-use Rattle.mm_dump.specs.Dumped.{times, places_of}
-use Rattle.mm_dump.specs.Laws.{BrokenOrdersChangeNothing}
-use Rattle.mm_dump.specs.Sending.{Sent}
 use Rattle.mm_report.specs.declared.cause.TheConstants.{LATEST_START}
-use Rattle.mm_report.specs.Report.{Reported}
-use Rattle.mm_exec.specs.declared.course.RunContext.{RunContext}
 use Rattle.mm_exec.specs.declared.requirement.Requirement.{Requirement}
 use Rattle.mm_exec.specs.declared.requirement.Requirement.TheVariants.{Ready, Size, Opening}
 use Rattle.mm_exec.specs.declared.room.RunBuffers.{RunBuffers}
-use Rattle.mm_exec.specs.declared.step.StepBroken.{StepBroken}
-use Rattle.mm_exec.specs.Readiness.{AllMeet, NoneUnknown, is_unknown, meets, meets_at}
-use Rattle.mm_exec.specs.Laws.{RunsLoseAsPlanned, RunsLoseNoPacketUncounted, StepRunsKeepStores}
-use Rattle.mm_exec.specs.AsPlanned.{IsReady}
-use Rattle.mm_exec.specs.Places.{IsPlaceOf, ArePlaces, StandWithin}
-use Rattle.mm_exec.specs.RunInput.{RunInput, recording_in, place_in_memory, step_orders}
-use Rattle.mm_exec.specs.RunState.{RunState, with_supplies}
-use Rattle.mm_exec.specs.Numbers.{AreByCounters}
-use Rattle.mm_exec.specs.Step.{AreReady, AreOrders, StepDone, StepBroke}
-use Rattle.mm_exec.specs.Steps.{StepsDone, taken_amounts}
-use Rattle.mm_exec.specs.Course.{given_to, recording_at, orders_at, MayReport, StepReported, StepUnreported, AreWithinLimits}
-use Rattle.mm_exec.specs.Ending.{HasRun, IsHaltedIn}
 use Rattle.mm_memory.proofs.PlaceLemmas.{is_other}
-use Rattle.mm_record.proofs.Memories.{named_of, held_as}
 use Rattle.mm_exec.proofs.Counters.{by_counters}
 use Rattle.mm_exec.proofs.Halts.{failed_link}
 use Rattle.mm_exec.proofs.Drawing.{taken_fits}
 use Rattle.mm_exec.proofs.Ordered.{named_once, may_order, wanted_in_all, orders_are}
 use Rattle.mm_exec.proofs.StepMore.{Footing, all_same, done_on}
-use Rattle.mm_exec.proofs.Parts.{as_many, as_many_sources, stopped_of}
+use Rattle.mm_exec.proofs.Parts.{as_many, as_many_sources, stopped_of, never_refused}
 use Rattle.mm_exec.proofs.Placing.{no_held, places_differ}
-use Rattle.mm_exec.proofs.StoresReady.{AllFar, state_holds, far_after, takes_all}
+use Rattle.mm_exec.proofs.StoresReady.{IsFar, state_there, state_holds, all_by, ready_halted, ready_after, offers_few}
 
 -- the moment before the first step is early, and so is the last storage time of each store
 pub record IsEarly (stores : List Held) (base : ℕ) : Type 0 where
@@ -101,19 +68,20 @@ standing_gives true None is = (refl, refl)
 standing_gives true (Some r) is = absurd (cc is)
 standing_gives false r is = absurd (cc is)
 
--- a store of the problem stands where the row with its identifier is
-row_there : (q : Dumping) (h : Held) → is_unknown q h ≡ false → (s : ℕ) × (s < length q.rows) × ((row q s).id ≡ h.id)
-row_there q h known =
-    let few : place q h.id ≤ length q.rows = prefix_len-le-length _ q.rows in
-    let other : place q h.id ≢ length q.rows = eqb-false (place q h.id) (length q.rows) known in
-    let within : place q h.id < length q.rows = omega (arith, few, other) in
-    (place q h.id, within, (bytes_eq-Decides _ h.id).0 (passes_at_first (λ (r : StoreRow). bytes_eq r.id h.id) q.rows no_row within))
-
--- each store is the first with its identifier
-first_is : (stores : List Held) → AreHeld stores → (k : ℕ) (d : Held) (id : List ℕ) → k < length stores → (get_or stores k d).id ≡ id → position_or_len (has_id id) stores ≡ k
-first_is stores held k d id within same =
-    position_or_len_is (has_id id) stores k d (omega arith)
-    (λ j before. is_other (get_or stores j d).id id (λ other. held.named j k d before within (other ∙ sym same))) (λ inside. (bytes_eq-Decides _ id).1 same)
+-- each store of the memory is that of a row of the problem, and the first with its identifier
+stands_at : (q : Dumping) (stores : List Held) → AreHeld stores → NoneUnknown q stores → (k : ℕ) (d : Held) → k < length stores
+    → (s : ℕ) × (s < length q.rows) × (position_or_len (has_id (row q s).id) stores ≡ k)
+stands_at q stores held known k d inside =
+    let h = get_or stores k d in
+    let s = place q h.id in
+    let few : s ≤ length q.rows = prefix_len-le-length _ q.rows in
+    let other : s ≢ length q.rows = eqb-false s (length q.rows) (known k d inside) in
+    let within : s < length q.rows = omega (arith, few, other) in
+    let id = (row q s).id in
+    let same : id ≡ h.id = (bytes_eq-Decides _ h.id).0 (passes_at_first (λ (r : StoreRow). bytes_eq r.id h.id) q.rows no_row within) in
+    let first = position_or_len_is (has_id id) stores k d (omega arith)
+    (λ j before. is_other (get_or stores j d).id id (λ equal. held.named j k d before inside (equal ∙ same))) (λ at. (bytes_eq-Decides _ id).1 (sym same)) in
+    (s, within, first)
 
 -- where all tests passed, each store of the memory is ready
 pub all_ready : (q : Dumping) (stores : List Held) → AreHeld stores → AllMeet Ready q stores → NoneUnknown q stores → All (λ h. IsState h.state) stores → AreReady stores
@@ -126,10 +94,9 @@ all_ready q stores held stores_ready known sound = record {
     each : (k : ℕ) (d : Held) → k < length stores → IsTrue (get_or stores k d).state.storage × ((get_or stores k d).state.retrieval ≡ None)
     each k d inside =
         let h = get_or stores k d in
-        let found = row_there q h (known k d inside) in
+        let found = stands_at q stores held known k d inside in
         let id = (row q found.0).id in
-        let at : position_or_len (has_id id) stores ≡ k = first_is stores held k d id inside (sym found.2) in
-        let is : store_of id stores ≡ Some h = find_at (has_id id) stores ∙ ap (λ (j : ℕ). slice_get stores j) at ∙ slice_get-get_or stores k d inside in
+        let is : store_of id stores ≡ Some h = find_at (has_id id) stores ∙ ap (λ (j : ℕ). slice_get stores j) found.2 ∙ slice_get-get_or stores k d inside in
         standing_gives h.state.storage h.state.retrieval (subst (λ (o : Option Held). meets Ready (row q found.0) o ≡ true) is (stores_ready found.0 found.1))
 
 -- before its first step a run has done nothing
@@ -156,33 +123,12 @@ done_first sent failed m now report stores is = record {
   accounted = λ s store. record { lost = []; packets = IsPermutation-refl _; counted = omega arith; rising = λ t first last. absurd (omega arith) };
   report_is = is;
   rows = ap (λ (r : Reported). r.steps) is;
-  counted =
-      subst (λ (held : List Held). AreByCounters m held report.steps) (sym stores)
-      (subst (λ (r : Reported). AreByCounters m m.memory.stores r.steps) (sym is)
-      (by_counters m (λ t. m.memory.stores) 0 refl m.problem m.amounts (λ s t store first last. absurd (omega (arith, first, last)))));
+  counted = rw (stores, is) (by_counters m (λ t. m.memory.stores) 0 refl m.problem m.amounts (λ s t store first last. absurd (omega (arith, first, last))));
 }
 
 -- counts after some steps: each store was offered, and has its last storage time, at most this far
-abbrev pub bound_at : ℕ → ℕ
+abbrev bound_at : ℕ → ℕ
 bound_at steps = 2 ^ 63 + (steps + 1) * 2 ^ 20
-
-pub bound_more : (t : ℕ) → 1 ≤ t → bound_at (t - 1) + 2 ^ 20 ≡ bound_at (t + 1 - 1)
-bound_more t first = omega arith
-
-pub bound_within : (t n : ℕ) → t ≤ n → n ≤ MAX_STEPS → bound_at (t - 1) ≤ latest
-bound_within t n last few = omega arith
-
--- the moment of a step is no later
-pub early_at : (base t n : ℕ) → base ≤ LATEST_START → t ≤ n → n ≤ MAX_STEPS → base + t ≤ bound_at (t - 1)
-early_at base t n first last few = omega arith
-
--- counts that are far from their end as a run begins
-pub far_first : (steps : ℕ) (sources : List Supply) (stores : List Held) (base : ℕ) → IsEarly stores base → AreWithinLimits steps stores sources
-    → AllFar (bound_at 0) stores
-far_first steps sources stores base early far k d inside =
-    let offered = far.offered k d inside in
-    let last = early.last_times k d inside in
-    record { offered = omega (arith, offered); last = omega (arith, last) }
 
 -- a run before one of its steps, whose stores stand at these places
 module _ {L : Type 0} (sent : L → List Sent) (failed : L → ℕ) (run : RunContext) (places : List ℕ) (t : ℕ) (first : RunState Supply L) where
@@ -219,7 +165,7 @@ module _ {L : Type 0} (sent : L → List Sent) (failed : L → ℕ) (run : RunCo
           apart = apart;
           ready = λ s store.
               let place = stand s store in
-              subst (λ (k : ℕ). IsReady q s (opening_at (states_of first.stores) k)) place.is
+              rw (← place.is)
               (ready_of q first.stores s (slice_index places s) place (ran.began.sizes (omega arith) s store) (ran.began.openings (omega arith) s store)
               (state_holds IsState first.stores sound (slice_index places s) place.within));
           early = by_clock run.base (length q.windows) base_early is.steps.at_most;
@@ -274,9 +220,14 @@ module _ {L : Type 0} (sent : L → List Sent) (failed : L → ℕ) (run : RunCo
     orders_here u = orders_are input places u (λ s store. (here.footing.stand_at s store).is)
 
     -- one step more
-    pub ran_on : RunsLoseAsPlanned → RunsLoseNoPacketUncounted → (after : RunState Supply L) (left : RunBuffers)
-        → StepReported sent failed run places t now after buffers left → AreReady after.stores → HasRun sent failed input run.plan.now first (t + 1 - 1) after left.report
-    ran_on law counts after left stepped ready = record { began = here.ran.began; done = done; fit = all_fit; ready = ready }
+    pub ran_on : RunsLoseAsPlanned → RunsLoseNoPacketUncounted → StepRunsKeepStores → (after : RunState Supply L) (left : RunBuffers)
+        → StepReported sent failed run places t now after buffers left → HasRun sent failed input run.plan.now first (t + 1 - 1) after left.report
+    ran_on law counts keeps after left stepped = record {
+      began = here.ran.began;
+      done = done;
+      fit = all_fit;
+      ready = ready_after sent failed keeps (recording_at run t now.stores) (orders_at run places t) now after here.early here.ran.ready stepped.done;
+    }
       where
         done : StepsDone sent failed input first.sources first.links (t + 1 - 1) after left.report
         done =
@@ -287,52 +238,86 @@ module _ {L : Type 0} (sent : L → List Sent) (failed : L → ℕ) (run : RunCo
         all_fit u from_one last =
             taken_fits input (t + 1 - 1) done.stores done.gave done.links_are.took done.runs u from_one last
             (λ s store.
-            let once = named_once input.amounts places u (length q.rows) s here.footing.apart store in
-            let Once = λ (by : ℕ × List Order). times by.0 (places_of by.1) ≤ 1 in
-            let one = subst Once (λ i. ((here.footing.stand_at s store).is i, orders_here u i)) once in
-            subst (λ (k : ℕ). k ≤ 1) (sym (done.links_are.once (place_in_memory input s) u from_one last)) one)
+            let once = rw ((here.footing.stand_at s store).is, orders_here u) at (named_once input.amounts places u (length q.rows) s here.footing.apart store) in
+            omega (arith, once, done.links_are.once (place_in_memory input s) u from_one last))
             (here.ran.began.fits (omega arith) u from_one (omega (arith, last, here.last)))
 
     -- the step was broken off
-    pub halted_in : BrokenOrdersChangeNothing → (after : RunState Supply L) (left : RunBuffers) (broken : StepBroken)
-        → StepUnreported sent failed run places t now after buffers left broken → AreReady after.stores
+    pub halted_in : OrdersDumpTheOldest → BrokenOrdersChangeNothing → (after : RunState Supply L) (left : RunBuffers) (broken : StepBroken)
+        → StepUnreported sent failed run places t now after buffers left broken
         → IsHaltedIn sent failed input run.plan.now first t after (record { broken = broken; report = left.report })
-    halted_in changes after left broken stepped ready =
+    halted_in dump changes after left broken stepped =
         let e = recording_in input t now.stores in
-        let how = subst (λ (orders : List Order). StepBroke sent failed e orders now after broken) (orders_here t) stepped.how in
+        let how = rw (orders_here t) at stepped.how in
         let stopped = stopped_of sent failed e (step_orders input t) now after broken how in
         record {
           from_one = here.from_one;
           last = here.last;
           before = now;
-          ran = subst (λ (r : Reported). HasRun sent failed input run.plan.now first (t - 1) now r) (sym stepped.unreported) here.ran;
+          ran = rw stepped.unreported here.ran;
           labels = stopped.labels ∙ here.labels;
-          ready = ready;
+          ready = ready_halted sent failed e (step_orders input t) now after broken dump changes refl here.ran.ready how;
           stopped_is = stopped;
           within = stepped.within;
           how = how;
           failed_link = λ is_link.
-              failed_link sent failed e (step_orders input t) now after broken changes refl
-              (subst (All (λ (o : Order). o.place < length now.stores)) (orders_here t) here.orders.places) is_link how;
+              failed_link sent failed e (step_orders input t) now after broken changes refl (rw (orders_here t) at here.orders.places) is_link how;
         }
 
-    -- counts that are far from their end stay so, and each store takes what comes
-    module _ (limits : AreWithinLimits (length q.windows) first.stores first.sources) (far : AllFar (bound_at (t - 1)) now.stores) where
-      few_here : AreFew t now.sources
-      few_here =
-          all_same (λ (ps : List SpacePacket). length ps ≤ 65535) (λ s. s t) first.sources now.sources (here.ran.done.sources_are.others t (λ from to. absurd (omega (arith, here.from_one, to)))) (limits.few t here.from_one here.last)
+    -- where counts are far from their end as the run begins, each store takes what comes
+    module _ (law : StepRunsKeepStores) (limits : AreWithinLimits (length q.windows) first.stores first.sources) (held : AreHeld first.stores) where
+      begun_early : IsEarly first.stores run.base
+      begun_early = early_by first.stores run.base (here.ran.began.in_time (omega arith))
 
-      early_here : run.base + t ≤ bound_at (t - 1)
-      early_here = early_at run.base t (length q.windows) (early_by first.stores run.base (here.ran.began.in_time (omega arith))).first here.last here.is.steps.at_most
+      -- a store of the problem, after some of the steps
+      abbrev state_after : (s n : ℕ) → State
+      state_after s n = store_state input (here.ran.done.stores n) s
 
-      pub takes_here : TakesAll (recording_at run t now.stores) now.stores now.sources
-      takes_here =
-          takes_all (recording_at run t now.stores) now.stores now.sources (bound_at (t - 1)) (bound_within t _ here.last here.is.steps.at_most) here.ran.ready far early_here few_here
+      -- it is sound, and its counts moved by less than 2^20 in each step
+      far_along : (s n : ℕ) → s < length q.rows → n ≤ t - 1 → IsState (state_after s n) × IsFar (bound_at n) (state_after s n)
+      far_along s zero store within =
+          let there = here.footing.stand_at s store in
+          let inside = subst (λ (k : ℕ). k < length first.stores) there.is there.within in
+          let offered : (store_state input first.stores s).offered ≤ 2 ^ 63 = state_holds (λ (u : State). u.offered ≤ 2 ^ 63) first.stores limits.offered _ inside in
+          let last = state_holds (λ (u : State). u.store.last ≤ LATEST_START) first.stores begun_early.last_times _ inside in
+          rw here.ran.done.runs.first ((here.footing.ready s store).sound, record { offered = omega (arith, offered); last = omega (arith, last) })
+      far_along s (suc n) store within =
+          let was = far_along s n store (omega arith) in
+          let came = map (λ gives. gives (suc n)) first.sources in
+          let back : suc n - 1 ≡ n = omega arith in
+          let went = rw back at (here.ran.done.runs.runs s (suc n) store (omega arith) within) in
+          let kept = law (run.base + suc n) _ _ _ _ _ (omega (arith, here.early)) was.0 (all_by (step_of input (suc n)) s came) went in
+          let each = All-map (λ (ps : List SpacePacket). length ps ≤ 65535) (λ gives. gives (suc n)) first.sources (limits.few (suc n) (omega arith) (omega (arith, here.last))) in
+          let number = offers_few (step_of input (suc n)) s 65535 came each in
+          let many : length came ≡ length first.sources = length-map first.sources (λ gives. gives (suc n)) in
+          let counts = here.ran.began.counts (omega arith) in (
+            kept.sound,
+            record {
+              offered = omega (arith, kept.offered, was.1.offered, number, many, counts.few_sources);
+              last = omega (arith, kept.last, was.1.last, number, many, counts.few_sources, begun_early.first, here.is.steps.at_most, here.last);
+            },
+          )
 
-      pub far_on : StepRunsKeepStores → (after : RunState Supply L) → StepDone sent failed (recording_at run t now.stores) (orders_at run places t) now after
-          → AllFar (bound_at (t + 1 - 1)) after.stores
-      far_on law after done =
-          let sources_many = as_many_sources 0 first.sources now.sources (here.ran.done.sources_are.others 0 (λ first last. absurd (omega arith))) in
-          subst (λ (b : ℕ). AllFar b after.stores) (bound_more t here.from_one)
-          (far_after sent failed law (recording_at run t now.stores) (orders_at run places t) now after here.early here.ran.ready done (bound_at (t - 1))
-          (omega (arith, sources_many, (here.ran.began.counts (omega arith)).few_sources)) few_here early_here far)
+      takes_here : TakesAll (recording_at run t now.stores) now.stores now.sources
+      takes_here = record {
+        moment = omega (arith, begun_early.first, here.is.steps.at_most, here.last);
+        stores_are = λ k d inside.
+            let within : k < length first.stores = omega (arith, inside, as_many now.stores first.stores here.labels) in
+            let found = stands_at q first.stores held (here.ran.began.known (omega arith)) k no_held within in
+            let is = ap (λ (held : List Held). store_state input held found.0) (sym here.ran.done.stores_are)
+            ∙ ap (opening_at (states_of now.stores)) found.2 ∙ state_there now.stores k d inside in
+            let far = subst (IsFar (bound_at (t - 1))) is (far_along found.0 (t - 1) found.1 (omega arith)).1 in
+            record {
+              storage = here.ran.ready.storage k d inside;
+              last = omega (arith, far.last, here.is.steps.at_most, here.last);
+              offered = omega (arith, far.offered, here.is.steps.at_most, here.last);
+            };
+        few =
+            all_same (λ (ps : List SpacePacket). length ps ≤ 65535) (λ s. s t) first.sources now.sources
+            (here.ran.done.sources_are.others t (λ from to. absurd (omega (arith, here.from_one, to)))) (limits.few t here.from_one here.last);
+      }
+
+      -- so no store refused a packet in a step that was broken off
+      pub far_halted : (after : RunState Supply L) (left : RunBuffers) (broken : StepBroken) → StepUnreported sent failed run places t now after buffers left broken
+          → NeverRefused broken.cause
+      far_halted after left broken stepped = never_refused sent failed (recording_at run t now.stores) (orders_at run places t) now after broken takes_here stepped.how

@@ -1,41 +1,12 @@
 -- One step more of a run.
 use Rattle.std.proofs.Common.{◌≡◌, ◌≢◌, inl, inr, ℕ, zero, suc, ◌+◌, ◌-◌, ◌<◌, ◌≤◌, ◌^◌, cond, eqb, List, [], ◌∷◌, ◌++◌, length, map, All, refl, sym, subst, ap, ◌∙◌, arith, append_assoc}
-use Rattle.std.specs.Prelude.{flat_map, slice_index, slice_index_or, filter}
-use Rattle.std.specs.List.{range_with_len}
-use Rattle.std.proofs.lemmas.Bool.{cases_eq, eq-eqb, ne_eqb}
-use Rattle.std.proofs.lemmas.List.{map_push, flat_map_more, length-map, get_or-map}
-use Rattle.std.proofs.lemmas.List.Elements.{All-map}
-use Rattle.mm_base.proofs.Ranges.{range_with_len_next}
-use Rattle.mm_base.specs.declared.rows.StoreRow.{StoreRow}
-use Rattle.mm_packet.specs.Packet.{SpacePacket}
-use Rattle.mm_problem.specs.Dumping.{row, no_row, stores}
-use Rattle.mm_store.specs.declared.stored.Stored.{Stored}
-use Rattle.mm_desk.specs.declared.event.Event.{Event}
-use Rattle.mm_desk.specs.declared.event.Event.TheVariants.{Offer}
-use Rattle.mm_desk.specs.declared.held.Held.{Held}
-use Rattle.mm_desk.specs.Machine.{State}
-use Rattle.mm_desk.specs.Runs.{opening_at}
-use Rattle.mm_shared.specs.Stores.{labels_of, states_of, id_at}
-use Rattle.mm_memory.specs.Recording.{is_routed}
-use Rattle.mm_record.specs.Supplies.{Supply}
-use Rattle.mm_record.specs.Recorded.{RecordingContext, offers, recording}
-use Rattle.mm_record.specs.Steps.{given_in}
-use Rattle.mm_dump.specs.declared.order.Order.{Order}
-use Rattle.mm_dump.specs.Sending.{Sent, all_sent}
+use Rattle.mm_exec.proofs.Words.{cases_eq, eq-eqb, ne_eqb, map_push, flat_map_more, length-map, get_or-map, All-map, range_with_len, flat_map, slice_index}
+use Rattle.mm_exec.proofs.Words.{slice_index_or, filter, All-unmapped, range_with_len_next, StoreRow, SpacePacket, row, no_row, stores, Stored, State}
+use Rattle.mm_exec.proofs.Words.{opening_at, Offer, Held, labels_of, states_of, id_at, is_routed, counters_of, RecordingContext, offers, recording, given_in}
+use Rattle.mm_exec.proofs.Words.{Supply, Sent, all_sent, Order, Reported, AtEach, IsReady, AsPlanned, IsRunOf, RunsLoseAsPlanned, RunsLoseNoPacketUncounted}
+use Rattle.mm_exec.proofs.Words.{counts_from, rows_of, row_from, rows_by_counters, orders_of, ArePlaces, AreApart, RunInput, step_of, offered, as_came}
+use Rattle.mm_exec.proofs.Words.{place_in_memory, store_state, RunState, StepDone, IsStepRun, AreStepRuns, SourcesGave, LinksSent, StepsDone, sent_in}
 use Rattle.mm_dump.specs.Dumped.{times, places_of, AllTook}
-use Rattle.mm_report.specs.declared.counts.StepCounts.{StepCounts}
-use Rattle.mm_report.specs.Report.{Reported}
-use Rattle.mm_base.proofs.Elements.{All-unmapped}
-use Rattle.mm_exec.specs.StepRuns.{IsStepRun}
-use Rattle.mm_exec.specs.AsPlanned.{AtEach, IsReady, AsPlanned}
-use Rattle.mm_exec.specs.Laws.{IsRunOf, RunsLoseAsPlanned, RunsLoseNoPacketUncounted}
-use Rattle.mm_exec.specs.Places.{ArePlaces, AreApart}
-use Rattle.mm_exec.specs.RunInput.{RunInput, step_of, offered, as_came, place_in_memory, store_state}
-use Rattle.mm_record.specs.Counters.{counters_of}
-use Rattle.mm_exec.specs.Numbers.{counts_from, rows_of, row_from, rows_by_counters, orders_of, AreByCounters}
-use Rattle.mm_exec.specs.RunState.{RunState}
-use Rattle.mm_exec.specs.Step.{StepDone}
-use Rattle.mm_exec.specs.Steps.{AreStepRuns, SourcesGave, LinksSent, StepsDone, sent_in}
 use Rattle.mm_exec.proofs.Counters.{counts_planned, by_counters, came_at, timed_offers}
 use Rattle.mm_exec.proofs.RangeLists.{map_range_same, flat_map_range_same}
 use Rattle.mm_exec.proofs.Ordered.{wanted_is, orders_are}
@@ -157,9 +128,8 @@ module _ {L : Type 0} (sent : L → List Sent) (failed : L → ℕ) (m : RunInpu
         let there = footing.stand_at s store in
         let many : length after.stores ≡ length m.memory.stores = as_many after.stores m.memory.stores (stepped.labels ∙ labels_before) in
         let gave : stepped.gave p ≡ gave_after (place_in_memory m s) t = rw (eq-eqb t t refl) (ap stepped.gave there.is) in
-        let wants = wanted_is m.amounts places t n s footing.apart store in
-        let Run = λ (parts : List (List Event) × ℕ × List Stored × State × State). IsStepRun parts.0 parts.1 parts.2 parts.3 parts.4 in
-        subst Run (λ i. (offered_here s store i, wants i, gave i, state_before s store i, state_after s store i)) (stepped.runs p (omega (arith, many, there.within)))
+        rw (offered_here s store, wanted_is m.amounts places t n s footing.apart store, gave, state_before s store, state_after s store)
+        at (stepped.runs p (omega (arith, many, there.within)))
 
     each_run : (s u : ℕ) → s < n → 1 ≤ u → u ≤ count → RunAt s u
     each_run s u store first last = elim (cases_eq u t) [
@@ -192,7 +162,7 @@ module _ {L : Type 0} (sent : L → List Sent) (failed : L → ℕ) (m : RunInpu
 
     -- the links took what the orders of the step were given
     took_now : AllTook sent failed (map (λ h. h.id) m.memory.stores) stepped.gave stepped.places before.links after.links
-    took_now = subst (λ (ids : List (List ℕ)). AllTook sent failed ids stepped.gave stepped.places before.links after.links) ids_before stepped.links
+    took_now = rw ids_before at stepped.links
 
     -- the links before the step are as many as at first
     links_many : length before.links ≡ length links
@@ -241,9 +211,8 @@ module _ {L : Type 0} (sent : L → List Sent) (failed : L → ℕ) (m : RunInpu
       run_of : IsRunOf (as_came m) m.amounts count (offered m) gave_of states
       run_of = record {
         ready = λ s store.
-            let as_first : IsReady m.problem s (states s 0) =
-            subst (λ (held : List Held). IsReady m.problem s (store_state m held s)) (sym ran_on.first) (footing.ready s store) in
-            record { sound = as_first.sound; sized = as_first.sized; holds = as_first.holds };
+            let first = footing.ready s store in
+            rw ran_on.first (record { sound = first.sound; sized = first.sized; holds = first.holds });
         timed = λ s u store first last. timed_offers m s u (omega (arith, footing.early));
         runs = each_run;
         came = λ s u store first last. came_at m s u store first (omega arith);
@@ -287,7 +256,5 @@ module _ {L : Type 0} (sent : L → List Sent) (failed : L → ℕ) (m : RunInpu
             accounted = counts (as_came m) m.amounts count (offered m) gave_of states run_of;
             report_is = is ∙ (λ i. record { ids = ap (λ (r : Reported). r.ids) was i; most = ap (λ (r : Reported). r.most) was i; steps = (rows_counted ∙ rows_planned) i });
             rows = rows;
-            counted =
-                subst (λ (steps : List (List StepCounts)). AreByCounters m after.stores steps) (sym rows)
-                (subst (λ (held : List Held). AreByCounters m held (rows_by_counters m stores_after count)) at_count (by_counters m stores_after count ran_on.first (as_came m) m.amounts planned_at));
+            counted = rw (← at_count, rows) (by_counters m stores_after count ran_on.first (as_came m) m.amounts planned_at);
           }

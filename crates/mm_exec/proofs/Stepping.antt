@@ -1,29 +1,12 @@
 -- What step runs do to the stores, step by step, and what the stores lose over all steps.
 use Rattle.std.proofs.Common.{◌≡◌, inl, inr, ℕ, zero, suc, ◌+◌, ◌-◌, ◌<◌, ◌≤◌, ◌^◌, min, List, [], ◌∷◌, ◌++◌, length, All, refl, sym, ap, subst, ◌∙◌, arith, length-append, add-one}
-use Rattle.std.proofs.lemmas.Bool.{cases_lt}
-use Rattle.std.proofs.lemmas.List.Elements.{All-weaker}
-use Rattle.mm_base.proofs.Pairs.{All-back}
-use Rattle.mm_problem.specs.Dumping.{Dumping, size, arrivals, stores}
-use Rattle.mm_plan.specs.Volumes.{Amounts, left, written, lost, store_loss, loss}
-use Rattle.mm_plan.proofs.Steps.{left_step, left_start}
-use Rattle.mm_store.specs.declared.stored.Stored.{Stored}
-use Rattle.mm_store.specs.Content.{IsRising}
+use Rattle.mm_exec.proofs.Words.{cases_lt, All-weaker, sum_by, range_with_len, All-back, sum_by_range_more, sum_by_range_same, sum_by-add, Dumping, size}
+use Rattle.mm_exec.proofs.Words.{arrivals, stores, left_step, left_start, Amounts, left, written, lost, store_loss, loss, IsRising, Stored, count_of_shuffle}
+use Rattle.mm_exec.proofs.Words.{HasTimes, ReplaysKeepStates, OffersLeave, OrdersDumpTheOldest, State, IsState, Leaves, count_of, IsLegal, IsRun, replay, Entry}
+use Rattle.mm_exec.proofs.Words.{Event, AtEach, AsPlanned, IsRunOf, StepRunsKeepStores, IsDumpOf, IsStepRun, AreTimed, IsBy, AreBy}
 use Rattle.mm_store.proofs.ContentLemmas.{IsRising-rest}
-use Rattle.mm_desk.specs.declared.entry.Entry.{Entry}
-use Rattle.mm_desk.specs.declared.event.Event.{Event}
-use Rattle.mm_desk.specs.Laws.{HasTimes, ReplaysKeepStates, OffersLeave, OrdersDumpTheOldest}
-use Rattle.mm_desk.specs.Machine.{State, IsState}
-use Rattle.mm_desk.specs.Offers.{Leaves, count_of}
 use Rattle.mm_desk.specs.Orders.{Dumps}
-use Rattle.mm_desk.specs.Runs.{IsLegal, IsRun, replay}
-use Rattle.mm_desk.proofs.Logs.{count_of_shuffle}
-use Rattle.mm_exec.specs.StepRuns.{IsDumpOf, IsStepRun, AreTimed, IsBy, AreBy}
-use Rattle.mm_exec.specs.AsPlanned.{AtEach, AsPlanned}
-use Rattle.mm_exec.specs.Laws.{IsRunOf, StepRunsKeepStores}
-use Rattle.mm_exec.proofs.Replays.{IsLegal-parts, replay-append, timed_log, by_offer, run_moves}
-use Rattle.std.specs.List.{sum_by, range_with_len}
-use Rattle.mm_base.proofs.RangeSums.{sum_by_range_more, sum_by_range_same}
-use Rattle.mm_base.proofs.Sums.{sum_by-add}
+use Rattle.mm_exec.proofs.Replays.{IsLegal-parts, replay-append, shuffled, by_offer, run_moves}
 
 -- times rise in the back of a list in which they rise
 rising_back : (gave rest : List Stored) → IsRising (gave ++ rest) → IsRising rest
@@ -102,7 +85,7 @@ module _ (leave : OffersLeave) (keep : ReplaysKeepStates) (dump : OrdersDumpTheO
   halves s t offers wanted gave sound timed is =
       let mid = replay s is.recorded in
       let legal = IsLegal-parts s is.recorded is.dumped is.run.legal in
-      let stood : IsState mid = keep s is.recorded sound (timed_log offers is.recorded is.shuffle timed) in
+      let stood : IsState mid = keep s is.recorded sound (shuffled HasTimes offers is.recorded is.shuffle timed) in
       record {
         legal = legal.0;
         stood = stood;

@@ -1,47 +1,16 @@
 -- Stores that are ready, and counts that are far from their end, from step to step.
-use Rattle.std.proofs.Common.{◌≡◌, inl, inr, ℕ, ◌+◌, ◌*◌, ◌<◌, ◌≤◌, ◌^◌, List, [], ◌∷◌, ◌++◌, length, map, get_or, All, refl, sym, ap, subst, ◌∙◌, ◌-◌, arith}
-use Rattle.std.specs.Prelude.{IsTrue, Option, Some, None, filter}
-use Rattle.std.specs.List.{AllZip}
-use Rattle.std.proofs.lemmas.Bool.{cases_lt}
-use Rattle.std.proofs.lemmas.List.{length-map, get_or-map}
-use Rattle.std.proofs.lemmas.List.Elements.{All-nil, All-cons, All-map}
-use Rattle.std.proofs.lemmas.List.Sums.{sum_by-le}
-use Rattle.mm_base.proofs.Pairs.{All-front}
-use Rattle.mm_base.proofs.Sums.{sum_by-map}
-use Rattle.mm_record.specs.Supplies.{Supply}
-use Rattle.mm_record.proofs.Taking.{filter_fewer}
-use Rattle.mm_packet.specs.Packet.{SpacePacket}
-use Rattle.mm_desk.specs.declared.event.Event.{Event}
-use Rattle.mm_desk.specs.declared.event.Event.TheVariants.{Offer}
-use Rattle.mm_desk.specs.declared.fault.Fault.{Fault}
-use Rattle.mm_desk.specs.declared.held.Held.{Held}
-use Rattle.mm_desk.specs.Laws.{OrdersDumpTheOldest}
-use Rattle.mm_desk.specs.Machine.{State, IsState, step}
-use Rattle.mm_desk.specs.Offers.{count_of}
-use Rattle.mm_desk.specs.Runs.{blank, opening_at, replay}
-use Rattle.mm_shared.specs.Stores.{labels_of, states_of, id_at}
-use Rattle.mm_memory.specs.Laws.{ids_of}
-use Rattle.mm_memory.specs.Recording.{is_routed}
-use Rattle.mm_record.specs.Recorded.{RecordingContext, offers}
-use Rattle.mm_record.specs.Steps.{given_in, Records, latest, AreFew, TakesAll}
-use Rattle.mm_dump.specs.declared.order.Order.{Order}
-use Rattle.mm_dump.specs.declared.order.OrderBroken.{OrderBroken}
-use Rattle.mm_dump.specs.Courses.{Course, EndedAs}
-use Rattle.mm_dump.specs.Dumped.{HasTried, MayDump}
-use Rattle.mm_dump.specs.Laws.{BrokenOrdersChangeNothing}
-use Rattle.mm_dump.specs.Sending.{Sent}
-use Rattle.mm_exec.specs.Laws.{StepRunsKeepStores}
-use Rattle.mm_exec.specs.StepRuns.{IsBy, AreBy, KeepsStore}
+use Rattle.std.proofs.Common.{◌≡◌, inl, inr, ℕ, ◌*◌, ◌<◌, ◌≤◌, ◌^◌, List, [], ◌∷◌, ◌++◌, length, map, get_or, All, refl, sym, ap, subst, ◌∙◌, ◌-◌, arith}
+use Rattle.mm_exec.proofs.Words.{cases_lt, length-map, get_or-map, All-nil, All-cons, All-map, sum_by-le, AllZip, IsTrue, Option, Some, None, filter, All-front}
+use Rattle.mm_exec.proofs.Words.{sum_by-map, SpacePacket, OrdersDumpTheOldest, State, IsState, step, count_of, blank, opening_at, replay, Event, Offer, Fault}
+use Rattle.mm_exec.proofs.Words.{Held, labels_of, states_of, id_at, ids_of, is_routed, filter_fewer, RecordingContext, offers, given_in, Records, Supply}
+use Rattle.mm_exec.proofs.Words.{Course, EndedAs, HasTried, MayDump, BrokenOrdersChangeNothing, Sent, Order, OrderBroken, AreFirstOffers, StepRunsKeepStores}
+use Rattle.mm_exec.proofs.Words.{RunState, AreReady, MayCarry, StepRecorded, StepDone, OrdersBroke, StepBroke, IsBy, AreBy, KeepsStore, StepBroken}
 use Rattle.mm_exec.proofs.Replays.{KeepsSwitches, run_moves}
-use Rattle.mm_exec.specs.Halts.{AreFirstOffers}
-use Rattle.mm_exec.specs.Step.{AreReady, AreLeft, MayCarry, StepRecorded, StepDone, OrdersBroke, StepBroke}
-use Rattle.mm_exec.specs.RunState.{RunState}
-use Rattle.mm_exec.specs.declared.step.StepBroken.{StepBroken}
 use Rattle.mm_exec.proofs.Placing.{no_held}
 use Rattle.mm_exec.proofs.Parts.{as_many, by_how, first_turns}
 
 -- the state at a place is that of the store there
-state_there : (held : List Held) (k : ℕ) (d : Held) → k < length held → opening_at (states_of held) k ≡ (get_or held k d).state
+pub state_there : (held : List Held) (k : ℕ) (d : Held) → k < length held → opening_at (states_of held) k ≡ (get_or held k d).state
 state_there held k d within = get_or-map (λ (h : Held). h.state) held k d blank within
 
 -- what holds of each state holds of each store
@@ -58,31 +27,24 @@ offers_by e k g = All-map (IsBy e.now) (λ (p : SpacePacket). Offer e.now p) (fi
 pub all_by : (e : RecordingContext) (k : ℕ) (gave : List (List SpacePacket)) → AreBy e.now (map (offers e k) gave)
 all_by e k gave = All-map (λ (list : List Event). All (IsBy e.now) list) (offers e k) gave (λ i g inside. offers_by e k (get_or gave i g))
 
--- stores that are sound, and whose switches are as they were, are left ready where they were
-pub left_ready : (stores left : List Held) → labels_of left ≡ labels_of stores → All (λ h. IsState h.state) left
-    → ((k : ℕ) → k < length (states_of left) → KeepsSwitches (opening_at (states_of stores) k) (opening_at (states_of left) k)) → AreReady stores → AreLeft stores left
-left_ready stores left labels sound at ready =
+-- stores that are sound, and whose switches are as they were, are ready where they were
+ready_on : (stores left : List Held) → labels_of left ≡ labels_of stores → All (λ h. IsState h.state) left
+    → ((k : ℕ) → k < length (states_of left) → KeepsSwitches (opening_at (states_of stores) k) (opening_at (states_of left) k)) → AreReady stores → AreReady left
+ready_on stores left labels sound at ready =
     let many = as_many left stores labels in
     let counted = length-map left (λ (h : Held). h.state) in
     record {
-      labels = labels;
-      ready = record {
-        sound = sound;
-        storage = all_states (λ (s : State). IsTrue s.storage) left (λ k within.
-            (at k (omega (arith, counted, within))).storage ∙ state_holds (λ (s : State). IsTrue s.storage) stores ready.storage k (omega (arith, many, within)));
-        idle = all_states (λ (s : State). s.retrieval ≡ None) left (λ k within.
-            (at k (omega (arith, counted, within))).retrieval ∙ state_holds (λ (s : State). s.retrieval ≡ None) stores ready.idle k (omega (arith, many, within)));
-      };
+      sound = sound;
+      storage = all_states (λ (s : State). IsTrue s.storage) left (λ k within.
+          (at k (omega (arith, counted, within))).storage ∙ state_holds (λ (s : State). IsTrue s.storage) stores ready.storage k (omega (arith, many, within)));
+      idle = all_states (λ (s : State). s.retrieval ≡ None) left (λ k within.
+          (at k (omega (arith, counted, within))).retrieval ∙ state_holds (λ (s : State). s.retrieval ≡ None) stores ready.idle k (omega (arith, many, within)));
     }
 
--- stores that are left twice
-pub left_on : (before mid after : List Held) → AreLeft before mid → AreLeft mid after → AreLeft before after
-left_on before mid after first second = record { labels = second.labels ∙ first.labels; ready = second.ready }
-
 -- stores that have recorded are ready
-pub left_recorded : {L : Type 0} (e : RecordingContext) (before mid : RunState Supply L) → AreReady before.stores → StepRecorded e before mid → AreLeft before.stores mid.stores
-left_recorded e before mid ready recorded =
-    left_ready before.stores mid.stores recorded.labels recorded.sound
+pub ready_recorded : {L : Type 0} (e : RecordingContext) (before mid : RunState Supply L) → AreReady before.stores → StepRecorded e before mid → AreReady mid.stores
+ready_recorded e before mid ready recorded =
+    ready_on before.stores mid.stores recorded.labels recorded.sound
     (λ k within.
     let has = recorded.stores_are k within in
     (run_moves e.now (map (offers e k) (given_in e.step before.sources)) has.log _ _ has.run has.shuffle (all_by e k (given_in e.step before.sources))).switches) ready
@@ -96,10 +58,10 @@ firsts_by e k (g ∷ gs) (f ∷ fs) are =
 firsts_by e k given firsts are = absurd are
 
 -- stores at which recorders stopped early are ready
-left_stopped : (e : RecordingContext) (stores left : List Held) (sources sources_left : List Supply) (why : Option Fault)
-    → length e.ids ≡ length stores → AreReady stores → Records e stores left why sources sources_left → AreLeft stores left
-left_stopped e stores left sources sources_left why ids ready records =
-    left_ready stores left records.labels records.sound
+ready_stopped : (e : RecordingContext) (stores left : List Held) (sources sources_left : List Supply) (why : Option Fault)
+    → length e.ids ≡ length stores → AreReady stores → Records e stores left why sources sources_left → AreReady left
+ready_stopped e stores left sources sources_left why ids ready records =
+    ready_on stores left records.labels records.sound
     (λ k within.
     let went = records.went k within in
     let many = as_many left stores records.labels in
@@ -115,34 +77,31 @@ tried_keeps dump changes k s t taken c sound tried = elim (cases_lt 0 taken) [
 ]
   where
     alike : t ≡ s → KeepsSwitches s t
-    alike same = subst (KeepsSwitches s) (sym same) (record { storage = refl; retrieval = refl })
+    alike same = rw same (record { storage = refl; retrieval = refl })
 
     by_why : (why : Option OrderBroken) → EndedAs why c → KeepsSwitches s t
-    by_why None whole =
-        subst (KeepsSwitches s) (sym (dump s t c.seat c.order.amount c.sent c.calls sound whole.order tried.run).others) (record { storage = refl; retrieval = refl })
+    by_why None whole = rw (dump s t c.seat c.order.amount c.sent c.calls sound whole.order tried.run).others (record { storage = refl; retrieval = refl })
     by_why (Some why) broke = alike (changes s t c.seat c.order.amount (c.sent ++ c.unsent) c.calls broke.order tried.run).0
 
 -- stores of a dump of which orders broke are ready
-left_broken : {S L : Type 0} (sent : L → List Sent) (failed : L → ℕ) (step : ℕ) (orders : List Order) (mid after : RunState S L) (stop : StepBroken)
-    → OrdersDumpTheOldest → BrokenOrdersChangeNothing → AreReady mid.stores → OrdersBroke sent failed step orders mid after stop → AreLeft mid.stores after.stores
-left_broken sent failed step orders mid after stop dump changes ready broke =
+ready_broken : {S L : Type 0} (sent : L → List Sent) (failed : L → ℕ) (step : ℕ) (orders : List Order) (mid after : RunState S L) (stop : StepBroken)
+    → OrdersDumpTheOldest → BrokenOrdersChangeNothing → AreReady mid.stores → OrdersBroke sent failed step orders mid after stop → AreReady after.stores
+ready_broken sent failed step orders mid after stop dump changes ready broke =
     let many = as_many after.stores mid.stores broke.labels in
-    left_ready mid.stores after.stores broke.labels broke.sound
+    ready_on mid.stores after.stores broke.labels broke.sound
     (λ k within.
     tried_keeps dump changes k _ _ _ (broke.settled.course k)
     (state_holds IsState mid.stores ready.sound k (omega (arith, within, length-map after.stores (λ (h : Held). h.state), many))) (broke.settled.stores k within)) ready
 
 -- stores of a step that was broken off are ready for more
-pub left_halted : {L : Type 0} (sent : L → List Sent) (failed : L → ℕ) (e : RecordingContext) (orders : List Order)
+pub ready_halted : {L : Type 0} (sent : L → List Sent) (failed : L → ℕ) (e : RecordingContext) (orders : List Order)
     (before after : RunState Supply L) (stop : StepBroken) → OrdersDumpTheOldest → BrokenOrdersChangeNothing → ids_of before.stores ≡ e.ids → AreReady before.stores
-    → StepBroke sent failed e orders before after stop → AreLeft before.stores after.stores
-left_halted sent failed e orders before after stop dump changes ids ready =
-    by_how sent failed e orders before after stop (AreLeft before.stores after.stores)
+    → StepBroke sent failed e orders before after stop → AreReady after.stores
+ready_halted sent failed e orders before after stop dump changes ids ready =
+    by_how sent failed e orders before after stop (AreReady after.stores)
     (λ broke.
-    left_stopped e before.stores after.stores before.sources after.sources broke.why (ap length (sym ids) ∙ length-map before.stores (λ (h : Held). h.id)) ready broke.records)
-    (λ mid recorded broke.
-    let left = left_recorded e before mid ready recorded in
-    left_on before.stores mid.stores after.stores left (left_broken sent failed e.step orders mid after stop dump changes left.ready broke))
+    ready_stopped e before.stores after.stores before.sources after.sources broke.why (ap length (sym ids) ∙ length-map before.stores (λ (h : Held). h.id)) ready broke.records)
+    (λ mid recorded broke. ready_broken sent failed e.step orders mid after stop dump changes (ready_recorded e before mid ready recorded) broke)
 
 -- a step's dump may be carried out after what came is recorded
 pub may_dump : {S L : Type 0} (failed : L → ℕ) (moment : ℕ) (orders : List Order) (before mid : RunState S L) → MayCarry failed moment orders before
@@ -166,11 +125,8 @@ pub record IsFar (bound : ℕ) (s : State) : Type 0 where
   pub offered : s.offered ≤ bound
   pub last : s.store.last ≤ bound
 
-abbrev pub AllFar : ℕ → List Held → Type 0
-AllFar bound stores = All (λ h. IsFar bound h.state) stores
-
 -- no more packets are offered than are given
-offers_few : (e : RecordingContext) (k most : ℕ) (gave : List (List SpacePacket)) → All (λ ps. length ps ≤ most) gave → count_of (map (offers e k) gave) ≤ length gave * most
+pub offers_few : (e : RecordingContext) (k most : ℕ) (gave : List (List SpacePacket)) → All (λ ps. length ps ≤ most) gave → count_of (map (offers e k) gave) ≤ length gave * most
 offers_few e k most gave all =
     subst (λ (n : ℕ). n ≤ length gave * most) (sym (sum_by-map (λ (events : List Event). length events) (offers e k) gave)) (sum_by-le (λ (g : List SpacePacket). length (offers e k g)) most gave each)
   where
@@ -196,37 +152,9 @@ module _ {L : Type 0} (sent : L → List Sent) (failed : L → ℕ) (law : StepR
       (all_by e k (given_in e.step before.sources)) (done.runs k within)
 
   -- the stores are ready for the next step
-  pub left_after : AreLeft before.stores after.stores
-  left_after =
-      left_ready before.stores after.stores done.labels (all_states IsState after.stores (λ k within. (kept_at k within).sound))
+  pub ready_after : AreReady after.stores
+  ready_after =
+      ready_on before.stores after.stores done.labels (all_states IsState after.stores (λ k within. (kept_at k within).sound))
       (λ k within.
       let kept = kept_at k (omega (arith, within, length-map after.stores (λ (h : Held). h.state))) in
       record { storage = kept.storage; retrieval = kept.retrieval }) ready
-
-  -- counts move by less than 2^20
-  pub far_after : (bound : ℕ) → length before.sources ≤ 8 → All (λ s. length (s e.step) ≤ 65535) before.sources → e.now ≤ bound → AllFar bound before.stores
-      → AllFar (bound + 2 ^ 20) after.stores
-  far_after bound few_sources few early far =
-      all_states (IsFar (bound + 2 ^ 20)) after.stores
-      (λ k within.
-      let kept = kept_at k within in
-      let was = state_holds (IsFar bound) before.stores far k (omega (arith, many)) in
-      let given = given_in e.step before.sources in
-      let each : All (λ (ps : List SpacePacket). length ps ≤ 65535) given = All-map (λ (ps : List SpacePacket). length ps ≤ 65535) (λ s. s e.step) before.sources few in
-      let number = offers_few e k 65535 given each in
-      let as_many_given : length given ≡ length before.sources = length-map before.sources (λ s. s e.step) in
-      record {
-        offered = omega (arith, kept.offered, was.offered, number, as_many_given, few_sources);
-        last = omega (arith, kept.last, was.last, number, as_many_given, few_sources, early);
-      })
-
--- each store surely takes what the sources give
-pub takes_all : (e : RecordingContext) (stores : List Held) (sources : List Supply) (bound : ℕ) → bound ≤ latest
-    → AreReady stores → AllFar bound stores → e.now ≤ bound → AreFew e.step sources → TakesAll e stores sources
-takes_all e stores sources bound within ready far early few = record {
-  moment = omega (arith, early, within);
-  stores_are = λ k d inside.
-      let here = far k d inside in
-      record { storage = ready.storage k d inside; last = omega (arith, here.last, within); offered = omega (arith, here.offered, within) };
-  few = few;
-}

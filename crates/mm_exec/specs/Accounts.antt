@@ -1,12 +1,8 @@
 -- What became of the packets of a run, store by store: none is lost uncounted, none is invented, none is given twice.
 use Rattle.std.specs.Prelude.{◌≡◌, ℕ, zero, suc, ◌+◌, ◌≤◌, List, [], ◌∷◌, ◌++◌, length, flat_map, IsPermutation}
-use Rattle.mm_packet.specs.Packet.{SpacePacket}
-use Rattle.mm_store.specs.declared.stored.Stored.{Stored}
+use Rattle.mm_exec.specs.Words.{SpacePacket, Stored, State, Event, Offer}
 use Rattle.mm_store.specs.Content.{IsRising}
-use Rattle.mm_desk.specs.declared.event.Event.{Event}
-use Rattle.mm_desk.specs.declared.event.Event.TheVariants.{Offer}
 use Rattle.mm_desk.specs.Fates.{packets_of}
-use Rattle.mm_desk.specs.Machine.{State}
 
 -- the packet of an offer
 abbrev pub packet_in : Event → List SpacePacket

@@ -1,8 +1,6 @@
 -- The numbers of a run, beside those of a plan.
 use Rattle.std.specs.Prelude.{◌≡◌, ℕ, ◌+◌, ◌-◌, ◌<◌, ◌≤◌, length}
-use Rattle.mm_problem.specs.Dumping.{Dumping, size, start, arrivals}
-use Rattle.mm_plan.specs.Volumes.{Amounts, left, written, lost}
-use Rattle.mm_desk.specs.Machine.{State, IsState}
+use Rattle.mm_exec.specs.Words.{Dumping, size, start, arrivals, Amounts, left, written, lost, State, IsState}
 
 -- at each of this many stores, in each of this many steps
 abbrev pub AtEach : ℕ → ℕ → (ℕ → ℕ → Type 0) → Type 0

@@ -1,17 +1,7 @@
 -- The steps of a run, one after another.
 use Rattle.std.specs.Prelude.{◌≡◌, ℕ, ◌+◌, ◌-◌, ◌<◌, ◌≤◌, ◌^◌, List, [], ◌∷◌, ◌++◌, length, map, All, vec_capacity}
-use Rattle.mm_base.specs.declared.limits.TheConstants.{MAX_STORES}
-use Rattle.mm_problem.specs.Dumping.{window}
-use Rattle.mm_plan.specs.Table.{amount, HasShape}
-use Rattle.mm_desk.specs.declared.held.Held.{Held}
-use Rattle.mm_desk.specs.Machine.{IsState}
-use Rattle.mm_memory.specs.Holdings.{AreHeld}
-use Rattle.mm_record.specs.Supplies.{Supply}
-use Rattle.mm_record.specs.Recorded.{RecordingContext, recording}
-use Rattle.mm_record.specs.Steps.{AreFew}
-use Rattle.mm_dump.specs.declared.order.Order.{Order}
-use Rattle.mm_dump.specs.Dumped.{amount_of}
-use Rattle.mm_dump.specs.Sending.{Sent}
+use Rattle.mm_exec.specs.Words.{MAX_STORES, window, amount, HasShape, IsState, Held, AreHeld, RecordingContext, recording, AreFew, Supply, amount_of, Sent}
+use Rattle.mm_exec.specs.Words.{Order}
 use Rattle.mm_exec.specs.Readiness.{run_start, MayBegin}
 use Rattle.mm_exec.specs.Places.{StandWithin}
 use Rattle.mm_exec.specs.declared.course.RunContext.{RunContext}

@@ -1,16 +1,6 @@
 -- How a run ends: carried out, or halted.
 use Rattle.std.specs.Prelude.{◌≡◌, ℕ, ◌-◌, ◌≤◌, ◌⊎◌, List, [], length}
-use Rattle.mm_problem.specs.Dumping.{window}
-use Rattle.mm_plan.specs.Fit.{FitsAt}
-use Rattle.mm_plan.specs.Table.{Table}
-use Rattle.mm_plan.specs.Volumes.{loss}
-use Rattle.mm_shared.specs.Stores.{labels_of}
-use Rattle.mm_memory.specs.Holdings.{Holdings}
-use Rattle.mm_record.specs.Supplies.{Supply}
-use Rattle.mm_dump.specs.Sending.{Sent}
-use Rattle.mm_report.specs.declared.cause.Cause.{Cause}
-use Rattle.mm_report.specs.declared.cause.Cause.TheVariants.{NoMemory, LinkFailed}
-use Rattle.mm_report.specs.Report.{Reported, totals_of}
+use Rattle.mm_exec.specs.Words.{window, FitsAt, Table, loss, labels_of, Holdings, Supply, Sent, Reported, totals_of, Cause, NoMemory, LinkFailed}
 use Rattle.mm_exec.specs.Readiness.{RunStart, run_start, MayBegin, Stops}
 use Rattle.mm_exec.specs.declared.course.RunStopped.{RunStopped}
 use Rattle.mm_exec.specs.declared.run_end.Halted.{Halted}

@@ -1,16 +1,7 @@
 -- What each link did in a step that a failed link halted.
 use Rattle.std.specs.Prelude.{◌≡◌, ◌⊎◌, ℕ, ◌+◌, ◌<◌, List, [], ◌∷◌, ◌++◌, length, map, slice_index_or, All, Some}
-use Rattle.mm_store.specs.declared.stored.Stored.{Stored}
-use Rattle.mm_desk.specs.Machine.{State}
-use Rattle.mm_desk.specs.Runs.{opening_at}
-use Rattle.mm_record.specs.Supplies.{Supply}
-use Rattle.mm_dump.specs.declared.order.Order.{Order}
+use Rattle.mm_exec.specs.Words.{Stored, State, opening_at, states_of, RecordingContext, Supply, Course, IsWhole, IsBroken, sent_by, AllSettled, Sent, Order}
 use Rattle.mm_dump.specs.declared.order.OrderBroken.TheVariants.{LinkFailed}
-use Rattle.mm_dump.specs.Sending.{Sent}
-use Rattle.mm_dump.specs.Courses.{Course, IsWhole, IsBroken, sent_by}
-use Rattle.mm_dump.specs.Dumped.{AllSettled}
-use Rattle.mm_shared.specs.Stores.{states_of}
-use Rattle.mm_record.specs.Recorded.{RecordingContext}
 use Rattle.mm_exec.specs.RunState.{RunState}
 use Rattle.mm_exec.specs.Step.{StepRecorded}
 

@@ -1,17 +1,9 @@
 -- A run that begins with its plan: what is printed, and what is lost.
 use Rattle.std.specs.Prelude.{◌≡◌, ◌≤◌, ℕ, List, [], length, pos}
-use Rattle.mm_problem.specs.Dumping.{Dumping, arrivals}
-use Rattle.mm_plan.specs.Table.{amount}
-use Rattle.mm_plan.specs.Volumes.{Amounts, loss}
-use Rattle.mm_plan.specs.Fit.{Fits}
+use Rattle.mm_exec.specs.Words.{Dumping, arrivals, Fits, amount, Amounts, loss, Holdings, Supply, Sent, Reported, totals_of, NoMemory}
 use Rattle.mm_plan.specs.Sheet.{SheetRows}
 use Rattle.mm_cut.specs.Cuts.{IsCut, bound}
 use Rattle.mm_planner.specs.PlanTexts.{PlansFor}
-use Rattle.mm_memory.specs.Holdings.{Holdings}
-use Rattle.mm_record.specs.Supplies.{Supply}
-use Rattle.mm_dump.specs.Sending.{Sent}
-use Rattle.mm_report.specs.declared.cause.Cause.TheVariants.{NoMemory}
-use Rattle.mm_report.specs.Report.{Reported, totals_of}
 use Rattle.mm_exec.specs.AsPlanned.{AtEach}
 use Rattle.mm_exec.specs.declared.run_end.Flown.{Flown}
 use Rattle.mm_exec.specs.declared.run_end.FlyHalted.{FlyHalted}

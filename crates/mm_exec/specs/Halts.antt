@@ -1,23 +1,9 @@
 -- Laws of a step that was broken off, over the definitions alone.
 use Rattle.std.specs.Prelude.{◌≡◌, ◌⊎◌, ℕ, ◌<◌, List, [], ◌++◌, length}
 use Rattle.std.specs.List.{AllZip}
+use Rattle.mm_exec.specs.Words.{SpacePacket, State, IsShuffleOfEvents, IsRun, opening_at, Entry, Event, Held, labels_of, states_of, RecordingContext, offers}
+use Rattle.mm_exec.specs.Words.{recording, given_in, Supply, Course, IsCourse, wanted, Sent, Order}
 use Rattle.mm_base.specs.declared.rows.RouteRow.{RouteRow}
-use Rattle.mm_packet.specs.Packet.{SpacePacket}
-use Rattle.mm_desk.specs.declared.entry.Entry.{Entry}
-use Rattle.mm_desk.specs.declared.event.Event.{Event}
-use Rattle.mm_desk.specs.declared.held.Held.{Held}
-use Rattle.mm_desk.specs.Machine.{State}
-use Rattle.mm_desk.specs.Offers.{IsShuffleOfEvents}
-use Rattle.mm_desk.specs.Runs.{IsRun, opening_at}
-use Rattle.mm_shared.specs.Stores.{labels_of, states_of}
-use Rattle.mm_record.specs.Supplies.{Supply}
-use Rattle.mm_record.specs.Recorded.{RecordingContext, offers}
-use Rattle.mm_record.specs.Recorded.{recording}
-use Rattle.mm_record.specs.Steps.{given_in}
-use Rattle.mm_dump.specs.declared.order.Order.{Order}
-use Rattle.mm_dump.specs.Sending.{Sent}
-use Rattle.mm_dump.specs.Courses.{Course, IsCourse}
-use Rattle.mm_dump.specs.Dumped.{wanted}
 use Rattle.mm_exec.specs.RunState.{RunState}
 use Rattle.mm_exec.specs.declared.step.StepBroken.{StepBroken}
 use Rattle.mm_exec.specs.Step.{StepBroke}

@@ -1,16 +1,8 @@
 -- Laws of whole runs.
 use Rattle.std.specs.Prelude.{◌≡◌, ℕ, ◌+◌, ◌-◌, ◌<◌, ◌≤◌, ◌^◌, List, length}
 use Rattle.std.specs.List.{sum_by}
-use Rattle.mm_problem.specs.Dumping.{Dumping, arrivals, window, stores}
-use Rattle.mm_plan.specs.Fit.{FitsAt}
-use Rattle.mm_plan.specs.Volumes.{Amounts, loss}
-use Rattle.mm_store.specs.declared.stored.Stored.{Stored}
-use Rattle.mm_desk.specs.declared.entry.Entry.{Entry}
-use Rattle.mm_desk.specs.declared.event.Event.{Event}
-use Rattle.mm_desk.specs.declared.held.Held.{Held}
-use Rattle.mm_desk.specs.Machine.{State, IsState}
-use Rattle.mm_desk.specs.Offers.{AreTaken, IsShuffleOfEvents, count_of}
-use Rattle.mm_desk.specs.Runs.{IsRun}
+use Rattle.mm_exec.specs.Words.{Dumping, arrivals, window, stores, FitsAt, Amounts, loss, Stored, State, IsState, AreTaken, IsShuffleOfEvents, count_of, IsRun}
+use Rattle.mm_exec.specs.Words.{Entry, Event, Held}
 use Rattle.mm_exec.specs.StepRuns.{IsDumpOf, IsStepRun, AreTimed, AreBy, KeepsStore}
 use Rattle.mm_exec.specs.Accounts.{IsAccounted}
 use Rattle.mm_exec.specs.AsPlanned.{AtEach, IsReady, AsPlanned}

@@ -1,4 +1,5 @@
 pub use Rattle.mm_report.specs.Cause
+pub mod Words
 pub mod StepRuns
 pub mod AsPlanned
 pub mod Draws

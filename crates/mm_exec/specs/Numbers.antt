@@ -1,17 +1,10 @@
 -- The report of a run, by the plan.
 use Rattle.std.specs.Prelude.{◌≡◌, ℕ, ◌+◌, ◌-◌, ◌<◌, nat_lt, List, length, map, filter, sum_by, slice_index, slice_index_or}
 use Rattle.std.specs.List.{range_with_len}
-use Rattle.mm_problem.specs.Dumping.{Dumping, arrivals, stores}
-use Rattle.mm_plan.specs.Volumes.{Amounts, left, written, lost}
-use Rattle.mm_desk.specs.declared.held.Held.{Held}
-use Rattle.mm_desk.specs.Machine.{State}
-use Rattle.mm_desk.specs.Runs.{opening_at}
-use Rattle.mm_shared.specs.Stores.{states_of}
-use Rattle.mm_dump.specs.declared.order.Order.{Order}
+use Rattle.mm_exec.specs.Words.{Dumping, arrivals, stores, Amounts, left, written, lost, State, opening_at, Held, states_of, Order, Reported, totals_of}
 use Rattle.mm_record.specs.declared.counters.Counters.{Counters}
 use Rattle.mm_record.specs.Counters.{counters_of}
 use Rattle.mm_report.specs.declared.counts.StepCounts.{StepCounts}
-use Rattle.mm_report.specs.Report.{Reported, totals_of}
 use Rattle.mm_exec.specs.RunInput.{RunInput, store_state}
 
 -- what a step brings to a store: what was forecast, what came, and what the plan loses, dumps and leaves of what came

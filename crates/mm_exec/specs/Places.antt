@@ -1,10 +1,7 @@
 -- The places of the problem's stores in the memory.
 use Rattle.std.specs.Prelude.{◌≡◌, ◌≢◌, ℕ, ◌<◌, ◌≤◌, List, length, slice_index, All}
 use Rattle.std.specs.List.{position_or_len}
-use Rattle.mm_base.specs.declared.limits.TheConstants.{MAX_STORES}
-use Rattle.mm_problem.specs.Dumping.{Dumping, IsDumping, row}
-use Rattle.mm_desk.specs.declared.held.Held.{Held}
-use Rattle.mm_memory.specs.Holdings.{has_id}
+use Rattle.mm_exec.specs.Words.{MAX_STORES, Dumping, IsDumping, row, Held, has_id}
 
 -- the store with this identifier stands at this place
 pub record IsPlaceOf (id : List ℕ) (stores : List Held) (place : ℕ) : Type 0 where

@@ -1,14 +1,8 @@
 -- What is tested before a run, in which order.
 use Rattle.std.specs.Prelude.{◌≡◌, ℕ, ◌<◌, ◌≤◌, Bool, true, false, ◌==◌, ◌⊎◌, List, length, slice_index_or, take, All, Option, Some, None, is_some}
+use Rattle.mm_exec.specs.Words.{Dumping, row, place, limit, Fits, IsFirstMisfit, Table, amount, HasShape, Held, store_of, is_ready, is_clock_late, Cause}
+use Rattle.mm_exec.specs.Words.{PlanShape, NotReady, SizeDiffers, OpeningDiffers, ChannelDiffers, ClockTooLate, PlanDoesNotFit, Counts}
 use Rattle.mm_base.specs.declared.rows.StoreRow.{StoreRow}
-use Rattle.mm_problem.specs.Dumping.{Dumping, row, place, limit}
-use Rattle.mm_plan.specs.Table.{Table, amount, HasShape}
-use Rattle.mm_plan.specs.Fit.{Fits, IsFirstMisfit}
-use Rattle.mm_desk.specs.declared.held.Held.{Held}
-use Rattle.mm_memory.specs.Holdings.{store_of}
-use Rattle.mm_record.specs.Causes.{is_ready, is_clock_late}
-use Rattle.mm_report.specs.declared.cause.Cause.{Cause}
-use Rattle.mm_report.specs.declared.cause.Cause.TheVariants.{PlanShape, NotReady, SizeDiffers, OpeningDiffers, ChannelDiffers, ClockTooLate, PlanDoesNotFit, Counts}
 use Rattle.mm_exec.specs.declared.requirement.Requirement.{Requirement}
 use Rattle.mm_exec.specs.declared.requirement.Requirement.TheVariants.{Ready, Size, Opening, Channel}
 use Rattle.mm_report.specs.declared.cause.TheConstants.{MAX_SOURCES}

@@ -1,19 +1,8 @@
 -- What a run is given, and what comes in it.
 use Rattle.std.specs.Prelude.{ℕ, ◌+◌, nat_lt, List, map, filter, flat_map}
 use Rattle.std.specs.List.{position_or_len}
-use Rattle.mm_problem.specs.Dumping.{Dumping, row, stores, steps}
-use Rattle.mm_plan.specs.Table.{Table, amount}
-use Rattle.mm_plan.specs.Volumes.{Amounts}
-use Rattle.mm_desk.specs.declared.event.Event.{Event}
-use Rattle.mm_desk.specs.declared.held.Held.{Held}
-use Rattle.mm_desk.specs.Machine.{State}
-use Rattle.mm_desk.specs.Offers.{count_of}
-use Rattle.mm_desk.specs.Runs.{opening_at}
-use Rattle.mm_shared.specs.Stores.{states_of}
-use Rattle.mm_memory.specs.Holdings.{Holdings, has_id}
-use Rattle.mm_record.specs.Supplies.{Supply}
-use Rattle.mm_record.specs.Recorded.{RecordingContext, recording, offers}
-use Rattle.mm_dump.specs.declared.order.Order.{Order}
+use Rattle.mm_exec.specs.Words.{Dumping, row, stores, steps, Table, amount, Amounts, State, count_of, opening_at, Event, Held, states_of, Holdings, has_id}
+use Rattle.mm_exec.specs.Words.{RecordingContext, recording, offers, Supply, Order}
 
 -- what a run is given: the problem, the plan's amounts, the moment before the first step, the memory, and what each source gives in
 -- each step

@@ -1,8 +1,7 @@
 -- What a run holds.
 use Rattle.std.specs.Prelude.{List}
-use Rattle.mm_desk.specs.declared.held.Held.{Held}
+use Rattle.mm_exec.specs.Words.{Held, Supply, WhateverComes}
 use Rattle.mm_exec.specs.declared.run_parts.RunParts.{RunParts}
-use Rattle.mm_record.specs.Supplies.{Supply, WhateverComes}
 
 -- the stores, the sources and the links of a run
 pub record RunState (S L : Type 0) : Type 0 where

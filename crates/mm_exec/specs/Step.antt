@@ -1,42 +1,24 @@
 -- One step of a run: recorded, and then dumped.
 use Rattle.std.specs.Prelude.{◌≡◌, ◌≢◌, ◌⊎◌, ℕ, ◌+◌, ◌-◌, ◌<◌, ◌≤◌, ◌^◌, IsTrue, List, [], ◌++◌, length, map, sum_by, All, AllPairs, Option, Some, None}
 use Rattle.std.specs.List.{AllZip}
-use Rattle.mm_base.specs.declared.limits.TheConstants.{MAX_STORES}
-use Rattle.mm_packet.specs.Packet.{SpacePacket}
-use Rattle.mm_store.specs.declared.stored.Stored.{Stored}
+use Rattle.mm_exec.specs.Words.{MAX_STORES, SpacePacket, Stored, IsState, opening_at, Held, labels_of, states_of, AreNamed, cause_in, RecordingContext}
+use Rattle.mm_exec.specs.Words.{recording, offers, given_in, AllRecorded, Records, Supply, Sent, Order, Cause, NoMemory, LinkFailed, LogMismatch}
 use Rattle.mm_desk.specs.declared.desk.TheConstants.{MAX_SEATS}
 use Rattle.mm_desk.specs.declared.fault.Fault.{Fault}
-use Rattle.mm_desk.specs.declared.held.Held.{Held}
-use Rattle.mm_desk.specs.Machine.{IsState}
-use Rattle.mm_desk.specs.Runs.{opening_at}
-use Rattle.mm_shared.specs.Stores.{labels_of, states_of, AreNamed}
 use Rattle.mm_memory.specs.Laws.{ids_of}
-use Rattle.mm_record.specs.Recorded.{RecordingContext, recording, offers}
 use Rattle.mm_record.specs.declared.step.RecordingStep.{RecordingStep}
-use Rattle.mm_record.specs.Causes.{cause_in}
-use Rattle.mm_record.specs.Supplies.{Supply}
-use Rattle.mm_record.specs.Steps.{given_in, AllRecorded, Records}
-use Rattle.mm_dump.specs.declared.order.Order.{Order}
 use Rattle.mm_dump.specs.declared.order.OrderBroken.{OrderBroken}
 use Rattle.mm_dump.specs.declared.order.OrderBroken.TheVariants as worst
-use Rattle.mm_dump.specs.Sending.{Sent}
 use Rattle.mm_dump.specs.Dumped.{wanted, times, places_of, AllTook, AllDumped, AllSettled, AllKept, used_by}
 use Rattle.mm_exec.specs.StepRuns.{IsStepRun}
 use Rattle.mm_exec.specs.RunState.{RunState}
 use Rattle.mm_exec.specs.declared.step.StepBroken.{StepBroken}
-use Rattle.mm_report.specs.declared.cause.Cause.{Cause}
-use Rattle.mm_report.specs.declared.cause.Cause.TheVariants.{NoMemory, LinkFailed, LogMismatch}
 
 -- each store is sound, its storage is on and no retrieval is
 pub record AreReady (stores : List Held) : Type 0 where
   pub sound : All (λ h. IsState h.state) stores
   pub storage : All (λ h. IsTrue h.state.storage) stores
   pub idle : All (λ h. h.state.retrieval ≡ None) stores
-
--- stores are left in their order, each sound and ready for more
-pub record AreLeft (before after : List Held) : Type 0 where
-  pub labels : labels_of after ≡ labels_of before
-  pub ready : AreReady after
 
 -- orders of stores that are there, no two of one store, each of one packet or more
 pub record AreOrders (stores : ℕ) (orders : List Order) : Type 0 where

@@ -1,14 +1,8 @@
 -- What is done at one store in one step of a run: recorders make offers, and then one dump order is carried out.
 use Rattle.std.specs.Prelude.{◌≡◌, ℕ, ◌+◌, ◌≤◌, max, List, [], ◌++◌, All}
-use Rattle.mm_store.specs.declared.stored.Stored.{Stored}
-use Rattle.mm_desk.specs.declared.entry.Entry.{Entry}
-use Rattle.mm_desk.specs.declared.event.Event.{Event}
-use Rattle.mm_desk.specs.declared.event.Event.TheVariants.{Offer}
+use Rattle.mm_exec.specs.Words.{Stored, State, IsState, AreTaken, IsShuffleOfEvents, IsRun, Entry, Event, Offer}
 use Rattle.mm_desk.specs.Laws.{HasTimes}
-use Rattle.mm_desk.specs.Machine.{State, IsState}
-use Rattle.mm_desk.specs.Offers.{AreTaken, IsShuffleOfEvents}
 use Rattle.mm_desk.specs.Orders.{IsOrderOf}
-use Rattle.mm_desk.specs.Runs.{IsRun}
 
 -- these calls are one whole order of at most this many packets, through one seat, which was given these; where no packet is
 -- wanted there is no call

@@ -1,15 +1,7 @@
 -- The first steps of a run, carried out whole.
 use Rattle.std.specs.Prelude.{◌≡◌, ℕ, ◌-◌, ◌*◌, ◌<◌, ◌≤◌, List, [], ◌++◌, length, map, flat_map, sum_by, slice_index_or, All}
 use Rattle.std.specs.List.{range_with_len}
-use Rattle.mm_plan.specs.Volumes.{Amounts}
-use Rattle.mm_store.specs.declared.stored.Stored.{Stored}
-use Rattle.mm_desk.specs.declared.held.Held.{Held}
-use Rattle.mm_shared.specs.Stores.{labels_of, id_at}
-use Rattle.mm_record.specs.Supplies.{Supply}
-use Rattle.mm_record.specs.Steps.{given_in}
-use Rattle.mm_dump.specs.Sending.{Sent, all_sent}
-use Rattle.mm_dump.specs.Dumped.{times, places_of}
-use Rattle.mm_report.specs.Report.{Reported}
+use Rattle.mm_exec.specs.Words.{Amounts, Stored, Held, labels_of, id_at, given_in, Supply, times, places_of, Sent, all_sent, Reported}
 use Rattle.mm_exec.specs.StepRuns.{IsStepRun}
 use Rattle.mm_exec.specs.Accounts.{IsAccounted}
 use Rattle.mm_exec.specs.AsPlanned.{AtEach}

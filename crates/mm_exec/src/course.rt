@@ -1,10 +1,10 @@
 //! The steps of a run, one after another.
 ghost use Rattle.std.specs.Prelude.{◌≡◌, ℕ, length, IfOk, OnOk, IfErr, vec_capacity};
-ghost use Rattle.mm_record.specs.Steps.{TakesAll};
+ghost use Rattle.mm_shared.specs.Stores.{labels_of};
 ghost use Rattle.mm_exec.specs.RunState.{InRun};
-ghost use Rattle.mm_exec.specs.Step.{AreLeft, NeverRefused};
+ghost use Rattle.mm_exec.specs.Step.{NeverRefused};
 ghost use Rattle.mm_exec.specs.Places.{AreAllPlaces};
-ghost use Rattle.mm_exec.specs.Course.{given_to, recording_at, MayReport, StepReported, StepUnreported, MayRun, AreWithinLimits};
+ghost use Rattle.mm_exec.specs.Course.{given_to, MayReport, StepReported, StepUnreported, MayRun, AreWithinLimits};
 ghost use Rattle.mm_exec.specs.Ending.{HasRun, IsHaltedIn};
 
 use crate::laws::{runs_lose_as_planned, runs_lose_no_packet_uncounted, step_runs_keep_stores};
@@ -15,6 +15,7 @@ use crate::step::StepBroken;
 use crate::step_counts::{all_counters, step_counts};
 use mm_base::MAX_STORES;
 use mm_control::ControlTable;
+use mm_desk::laws::orders_dump_the_oldest;
 use mm_dump::Link;
 use mm_dump::laws::broken_orders_change_nothing;
 use mm_plan::Plan;
@@ -58,10 +59,8 @@ impl<S: AnySource + Send + Drop, L: Link + Send + Drop> OpenRun<S, L> {
             (λ before after. StepReported L.sent L.failed run.now places.now step before after buffers.old buffers.new)) }
         ensures broke { IfErr result (λ broken. InRun S.leads S.until self.old self.new
             (λ before after. StepUnreported L.sent L.failed run.now places.now step before after buffers.old buffers.new broken)) }
-        ensures far { IfErr result (λ broken. InRun S.leads S.until self.old self.new
-            (λ before after. TakesAll (recording_at run.now step before.stores) before.stores before.sources → NeverRefused broken.cause)) }
         ensures capacity { vec_capacity buffers.new.orders ≡ vec_capacity buffers.old.orders }
-        ensures left { AreLeft self.old.stores self.new.stores }
+        ensures labels { labels_of self.new.stores ≡ labels_of self.old.stores }
     {
         let counters = all_counters(places, &mut self.stores);
         list_orders(&mut buffers.orders, run.plan, places, step);
@@ -93,9 +92,10 @@ impl<S: AnySource + Send + Drop, L: Link + Send + Drop> OpenRun<S, L> {
             (λ first left. (step : ℕ) × IsHaltedIn L.sent L.failed (given_to run.now first) run.now.plan.now first step left stopped)) }
         ensures far { IfErr result (λ stopped. InRun S.leads S.until self.old self.new
             (λ first left. AreWithinLimits (length run.now.problem.now.windows) first.stores first.sources → NeverRefused stopped.broken.cause)) }
-        ensures left { AreLeft self.old.stores self.new.stores }
+        ensures labels { labels_of self.new.stores ≡ labels_of self.old.stores }
     {
         broken_orders_change_nothing();
+        orders_dump_the_oldest();
         runs_lose_as_planned();
         runs_lose_no_packet_uncounted();
         step_runs_keep_stores();
@@ -104,19 +104,11 @@ impl<S: AnySource + Send + Drop, L: Link + Send + Drop> OpenRun<S, L> {
         let mut buffers = buffers;
         for step in 1..run.problem.steps() + 1 {
             if let Err(broken) = self.report_step(rt, alloc, run, places, step, &mut buffers) {
-                let RunBuffers {
-                    report,
-                    orders: _,
-                    dumping: _,
-                } = buffers;
+                let RunBuffers { report, .. } = buffers;
                 return Err(RunStopped { broken, report });
             }
         }
-        let RunBuffers {
-            report,
-            orders: _,
-            dumping: _,
-        } = buffers;
+        let RunBuffers { report, .. } = buffers;
         Ok(report)
     }
 }

@@ -72,10 +72,12 @@ impl<S: AnySource + Send + Drop, L: Link + Send + Drop> RunParts<S, L> {
             return Err(never_began(alloc, cause));
         }
         let all = places_of(run.problem, stores);
-        let Ok(buffers) = reserve_run(alloc, run.problem) else {
+        let Ok(mut stores) = open_all(alloc, &mut self.stores) else {
             return Err(never_began(alloc, Cause::NoMemory { step: 0 }));
         };
-        let Ok(mut stores) = open_all(alloc, &mut self.stores) else {
+        // Asked for last, so that the room of the open stores does not lie at the end of the heap.
+        let Ok(buffers) = reserve_run(alloc, run.problem) else {
+            close_all(stores, &mut self.stores);
             return Err(never_began(alloc, Cause::NoMemory { step: 0 }));
         };
         read_states(&mut stores);

@@ -1,17 +1,12 @@
 //! One step of a run: what comes is recorded, and then dumped.
-ghost use Rattle.std.specs.Prelude.{◌≡◌, ◌≤◌, None, Some, OnOk, IfErr, IfSome};
+ghost use Rattle.std.specs.Prelude.{◌≡◌, ◌≤◌, OnOk, IfErr};
 ghost use Rattle.mm_exec.specs.RunState.{InRun};
-ghost use Rattle.mm_exec.specs.Step.{AreLeft, MayCarry, MayRecord, recording_by, StepRecorded, StepDumped, StepDone, RecordersBroke, OrdersBroke, StepBroke, NeverRefused, dump_cause};
-ghost use Rattle.mm_desk.specs.declared.fault.Fault.TheVariants.{NoMemory};
-ghost use Rattle.mm_record.specs.Causes.{cause_in};
-ghost use Rattle.mm_record.specs.Steps.{TakesAll};
+ghost use Rattle.mm_exec.specs.Step.{MayCarry, MayRecord, recording_by, StepRecorded, StepDumped, StepDone, RecordersBroke, OrdersBroke, StepBroke, dump_cause};
+ghost use Rattle.mm_shared.specs.Stores.{labels_of};
 ghost use Rattle.mm_dump.specs.Dumped.{MayDump, amount_of};
 
-use crate::laws::{halves_make_step_runs, step_runs_keep_stores};
+use crate::laws::halves_make_step_runs;
 use crate::open_run::OpenRun;
-use mm_desk::Fault;
-use mm_desk::laws::{any_order_loses_alike, orders_dump_the_oldest};
-use mm_dump::laws::broken_orders_change_nothing;
 use mm_dump::{DumpBuffers, Dumped, Link, Order, OrderBroken, dump_open};
 use mm_record::laws::sources_may_stay;
 use mm_record::{AnySource, RecordingStep, cause_in, record_open};
@@ -25,18 +20,6 @@ use std::thread::Threads;
 pub(crate) struct StepBroken {
     pub(crate) cause: Cause,
     pub(crate) spent: u64,
-}
-
-// How a step goes on whose recorders stopped early for this reason, or did not.
-fn recorders_end(step: u32, why: Option<Fault>) -> Result<(), StepBroken>
-    ensures ok { OnOk result (why ≡ None) }
-    ensures how { IfErr result (λ broken. (broken.spent ≡ 0) × (cause_in step why ≡ Some broken.cause)) }
-    ensures far { IfSome why (λ fault. fault ≡ NoMemory) → IfErr result (λ broken. NeverRefused broken.cause) }
-{
-    match cause_in(step, why) {
-        None => Ok(()),
-        Some(cause) => Err(StepBroken { cause, spent: 0 }),
-    }
 }
 
 // Why dump workers of which this is the worst broken order end a run.
@@ -62,11 +45,13 @@ impl<S: AnySource + Send + Drop, L: Link + Send + Drop> OpenRun<S, L> {
         ensures how { IfErr result (λ broken. InRun S.leads S.until self.old self.new
             (λ before after. RecordersBroke (recording_by step.entry.now before.stores) before after broken)) }
         ensures spent { IfErr result (λ broken. broken.spent ≡ 0) }
-        ensures far { IfErr result (λ broken. InRun S.leads S.until self.old self.new
-            (λ before after. TakesAll (recording_by step.entry.now before.stores) before.stores before.sources → NeverRefused broken.cause)) }
+        ensures labels { labels_of self.new.stores ≡ labels_of self.old.stores }
     {
         let why = record_open(rt, alloc, step, &mut self.stores, &mut self.sources);
-        recorders_end(step.step, why)
+        if let Some(cause) = cause_in(step.step, why) {
+            return Err(StepBroken { cause, spent: 0 });
+        }
+        Ok(())
     }
 
     // Carries out the orders of a step.
@@ -82,6 +67,7 @@ impl<S: AnySource + Send + Drop, L: Link + Send + Drop> OpenRun<S, L> {
         ensures ok { OnOk result (StepDumped L.sent L.failed orders.now self.old self.new) }
         ensures how { IfErr result (OrdersBroke L.sent L.failed step orders.now self.old self.new) }
         ensures within { IfErr result (λ broken. broken.spent ≤ amount_of orders.now) }
+        ensures labels { labels_of self.new.stores ≡ labels_of self.old.stores }
     {
         let Dumped { broken, spent } = dump_open(
             rt,
@@ -115,16 +101,9 @@ impl<S: AnySource + Send + Drop, L: Link + Send + Drop> OpenRun<S, L> {
         ensures how { IfErr result (λ broken. InRun S.leads S.until self.old self.new
             (λ before after. StepBroke L.sent L.failed (recording_by step.entry.now before.stores) orders.now before after broken)) }
         ensures within { IfErr result (λ broken. broken.spent ≤ amount_of orders.now) }
-        ensures far { IfErr result (λ broken. InRun S.leads S.until self.old self.new
-            (λ before after. TakesAll (recording_by step.entry.now before.stores) before.stores before.sources → NeverRefused broken.cause)) }
-        // In any case the stores are left in their order, each sound and ready for more.
-        ensures left { AreLeft self.old.stores self.new.stores }
+        ensures labels { labels_of self.new.stores ≡ labels_of self.old.stores }
     {
-        any_order_loses_alike();
-        broken_orders_change_nothing();
         halves_make_step_runs();
-        orders_dump_the_oldest();
-        step_runs_keep_stores();
         sources_may_stay::<S>();
         self.record(rt, alloc, step)?;
         self.dump(rt, alloc, buffers, step.step, orders)

@@ -1,6 +1,5 @@
 use Rattle.std.proofs.Common.{◌≡◌, ◌≤◌, vec_len, vec_capacity}
-use Rattle.mm_plan.specs.Table.{amount}
-use Rattle.mm_exec.specs.Numbers.{orders_of}
+use Rattle.mm_exec.proofs.Words.{amount, orders_of}
 use Rattle.mm_exec.proofs.orders.list_orders.Given as goal
 
 abbrev pub invariant-loop-store : goal.invariant-loop-store

@@ -1,6 +1,5 @@
 use Rattle.std.proofs.Common.{◌≡◌, ◌<◌, ℕ, false}
-use Rattle.std.specs.Prelude.{is_some}
-use Rattle.mm_problem.specs.Dumping.{limit}
+use Rattle.mm_exec.proofs.Words.{is_some, limit}
 use Rattle.mm_exec.proofs.readiness.has_limit.Given as goal
 
 abbrev pub invariant-loop-channel : goal.invariant-loop-channel

@@ -1,7 +1,5 @@
 use Rattle.std.proofs.Common.{◌≡◌, false, sym, subst, ◌∙◌, arith}
-use Rattle.std.proofs.lemmas.List.Elements.{All-more}
-use Rattle.mm_desk.specs.declared.held.Held.{Held}
-use Rattle.mm_exec.specs.Readiness.{is_unknown}
+use Rattle.mm_exec.proofs.Words.{All-more, Held, is_unknown}
 use Rattle.mm_exec.proofs.requirement.first_unknown.Goals as goal
 
 pub loop-held-preserved : goal.loop-held-preserved

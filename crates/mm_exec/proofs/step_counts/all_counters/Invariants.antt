@@ -1,6 +1,5 @@
 use Rattle.std.proofs.Common.{◌≡◌, length}
-use Rattle.mm_shared.specs.Stores.{stores_in}
-use Rattle.mm_exec.specs.Numbers.{AreCounters}
+use Rattle.mm_exec.proofs.Words.{stores_in, AreCounters}
 use Rattle.mm_exec.proofs.step_counts.all_counters.Given as goal
 
 abbrev pub invariant-loop-store : goal.invariant-loop-store

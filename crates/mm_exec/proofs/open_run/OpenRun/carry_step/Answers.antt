@@ -1,65 +1,23 @@
-use Rattle.std.proofs.Common.{inl, refl}
-use Rattle.std.proofs.lemmas.Result.{IfErr-weaker, on_ok_weaker}
-use Rattle.mm_record.specs.Recorded.{RecordingContext}
-use Rattle.mm_exec.specs.declared.step.StepBroken.{StepBroken}
-use Rattle.mm_exec.specs.RunState.{with_supplies, InRun}
-use Rattle.mm_exec.specs.Step.{AreLeft, recording_by, StepRecorded, StepDumped, StepDone, OrdersBroke, RecordersBroke, StepBroke}
-use Rattle.mm_exec.proofs.Parts.{as_many, as_is, both_follow, whole_step, broken_step}
-use Rattle.mm_exec.proofs.StoresReady.{may_dump, left_after, left_halted, left_recorded}
-use Rattle.mm_exec.proofs.open_run.OpenRun.carry_step.Given as given
+use Rattle.std.proofs.Common.{refl}
+use Rattle.mm_exec.proofs.Words.{IfErr-weaker, on_ok_weaker, all_stay, recording_by}
+use Rattle.mm_exec.proofs.Parts.{as_many, whole_step, broken_step}
+use Rattle.mm_exec.proofs.StoresReady.{may_dump, ready_recorded}
 use Rattle.mm_exec.proofs.open_run.OpenRun.carry_step.Goals as goal
-use Rattle.mm_exec.proofs.open_run.OpenRun.carry_step.Goals.{After-dump}
-
--- what the recorders share
-abbrev context : (g : given.Over) (c : goal.After-dump g) → RecordingContext
-context g c = recording_by c.args.step.now c.args.self.now.stores
-
--- the dump, carried out or broken off, makes the step
-done : (g : given.Over) (c : goal.After-dump g) → StepDumped g.L.Link.sent g.L.Link.failed c.args.orders.now c.record.new.self c.dump.new.self
-    → InRun g.S.AnySource.leads g.S.AnySource.until c.args.self.now c.dump.new.self (StepDone g.L.Link.sent g.L.Link.failed (context g c) c.args.orders.now)
-done g c = whole_step _ _ _ _ (context g c) _ _ c.record.new.self _ c.in_ok-record.ensures.ok c.halves_make_step_runs.ensures.law refl
-
-broke : (g : given.Over) (c : goal.After-dump g) (stop : StepBroken)
-    → OrdersBroke g.L.Link.sent g.L.Link.failed c.args.step.now.step c.args.orders.now c.record.new.self c.dump.new.self stop
-    → InRun g.S.AnySource.leads g.S.AnySource.until c.args.self.now c.dump.new.self (λ b a. StepBroke g.L.Link.sent g.L.Link.failed (context g c) c.args.orders.now b a stop)
-broke g c = broken_step _ _ _ _ (context g c) _ _ c.record.new.self _ c.in_ok-record.ensures.ok
-
-pub returns-in_err-record-clause-left : goal.returns-in_err-record-clause-left
-returns-in_err-record-clause-left g c =
-    let e = recording_by c.args.step.now c.args.self.now.stores in
-    let begun = c.args.self.now in
-    let stop = c.in_err-record.field-0.0 in
-    let is = as_is g.S.AnySource.leads g.S.AnySource.until c.sources_may_stay.ensures.law begun c.record.new.self (λ before after. RecordersBroke e before after stop) c.in_err-record.ensures.how in
-    left_halted g.L.Link.sent g.L.Link.failed e c.args.orders.now (with_supplies begun is.0) (with_supplies c.record.new.self is.1) stop
-    c.orders_dump_the_oldest.ensures.law c.broken_orders_change_nothing.ensures.law refl c.requires.may.ready (inl is.2)
 
 pub dump-requires-clause-may : goal.dump-requires-clause-may
 dump-requires-clause-may g c κs within =
-    let e = recording_by c.args.step.now c.args.self.now.stores in
     let begun = c.args.self.now in
-    let is = as_is g.S.AnySource.leads g.S.AnySource.until c.sources_may_stay.ensures.law begun c.record.new.self (StepRecorded e) c.in_ok-record.ensures.ok in
-    may_dump g.L.Link.failed c.args.step.now.now c.args.orders.now begun c.record.new.self c.requires.may
-    (as_many c.record.new.self.stores begun.stores is.2.labels) is.2.links
-    (left_recorded e (with_supplies begun is.0) (with_supplies c.record.new.self is.1) c.requires.may.ready is.2).ready
+    let mid = c.record.new.self in
+    let recorded = (c.in_ok-record.ensures.ok mid.sources (all_stay g.S.AnySource.leads g.S.AnySource.until c.sources_may_stay.ensures.law mid.sources)).1 in
+    may_dump g.L.Link.failed c.args.step.now.now c.args.orders.now begun mid c.requires.may (as_many mid.stores begun.stores recorded.labels) recorded.links
+    (ready_recorded (recording_by c.args.step.now begun.stores) _ _ c.requires.may.ready recorded)
 
 pub returns-clause-ok : goal.returns-clause-ok
-returns-clause-ok g c = on_ok_weaker c.dump.result (done g (goal.at.returns-clause-ok g c).After-dump) c.dump.ensures.ok
+returns-clause-ok g c =
+    let e = recording_by c.args.step.now c.args.self.now.stores in
+    on_ok_weaker c.dump.result (whole_step _ _ _ _ e _ _ c.record.new.self _ c.in_ok-record.ensures.ok c.halves_make_step_runs.ensures.law refl) c.dump.ensures.ok
 
 pub returns-clause-how : goal.returns-clause-how
-returns-clause-how g c = IfErr-weaker c.dump.result _ _ (broke g (goal.at.returns-clause-how g c).After-dump) c.dump.ensures.how
-
-pub returns-clause-left : goal.returns-clause-left
-returns-clause-left g c =
-    let at = (goal.at.returns-clause-left g c).After-dump in
-    let begun = c.args.self.now in
-    let left = c.dump.new.self in
-    let as_it_is = as_is g.S.AnySource.leads g.S.AnySource.until c.sources_may_stay.ensures.law begun left in
-    both_follow _ (AreLeft begun.stores left.stores) _ c.dump.result c.dump.ensures.ok c.dump.ensures.how
-    (λ dumped.
-    let is = as_it_is (StepDone g.L.Link.sent g.L.Link.failed (context g at) c.args.orders.now) (done g at dumped) in
-    left_after g.L.Link.sent g.L.Link.failed c.step_runs_keep_stores.ensures.law (context g at) c.args.orders.now (with_supplies begun is.0)
-    (with_supplies left is.1) c.requires.may.early c.requires.may.ready is.2)
-    (λ stop how.
-    let is = as_it_is (λ b a. StepBroke g.L.Link.sent g.L.Link.failed (context g at) c.args.orders.now b a stop) (broke g at stop how) in
-    left_halted g.L.Link.sent g.L.Link.failed (context g at) c.args.orders.now (with_supplies begun is.0) (with_supplies left is.1) stop
-    c.orders_dump_the_oldest.ensures.law c.broken_orders_change_nothing.ensures.law refl c.requires.may.ready is.2)
+returns-clause-how g c =
+    let e = recording_by c.args.step.now c.args.self.now.stores in
+    IfErr-weaker c.dump.result _ _ (broken_step _ _ _ _ e _ _ c.record.new.self _ c.in_ok-record.ensures.ok) c.dump.ensures.how

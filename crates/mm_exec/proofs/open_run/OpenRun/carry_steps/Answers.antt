@@ -1,15 +1,8 @@
-use Rattle.std.proofs.Common.{◌≡◌, ℕ, ◌+◌, ◌-◌, ◌≤◌, List, length, take, refl, sym, subst, arith}
-use Rattle.std.specs.List.{AllZip}
-use Rattle.mm_record.specs.Supplies.{Supply, supplies}
-use Rattle.mm_record.proofs.Supplying.{all_stay, length-supplies, zip_long}
-use Rattle.mm_exec.specs.Readiness.{run_start, MayBegin}
-use Rattle.mm_exec.specs.Course.{given_to}
-use Rattle.mm_exec.specs.Ending.{HasRun}
-use Rattle.mm_exec.specs.RunState.{RunState, with_supplies, InRun}
+use Rattle.std.proofs.Common.{◌≡◌, ◌∙◌, ◌+◌, ◌-◌, ◌≤◌, List, length, take, refl, arith}
+use Rattle.mm_exec.proofs.Words.{AllZip, all_stay, length-supplies, zip_long, Supply, supplies, given_to, RunState, with_supplies}
 use Rattle.mm_exec.proofs.Parts.{as_many}
 use Rattle.mm_exec.proofs.Placing.{places_cut, stand_cut}
-use Rattle.mm_exec.proofs.StoresReady.{left_on}
-use Rattle.mm_exec.proofs.Starting.{Underway, underway, may_report, all_ready, early_by, done_first, far_first, ran_on, far_on, halted_in, takes_here}
+use Rattle.mm_exec.proofs.Starting.{Underway, underway, may_report, all_ready, done_first, ran_on, halted_in, far_halted}
 use Rattle.mm_exec.proofs.open_run.OpenRun.carry_steps.Given as given
 use Rattle.mm_exec.proofs.open_run.OpenRun.carry_steps.Goals as goal
 use Rattle.mm_exec.proofs.open_run.OpenRun.carry_steps.Goals.{In-loop-step}
@@ -28,7 +21,7 @@ here g c lasts lead =
     let places = c.requires.places in
     underway g.L.Link.sent g.L.Link.failed c.args.run.now _ c.loop-step.step (first_in g c lasts) (now_in g c lasts) c.loop-step.buffers.report places.sound
     (places_cut _ c.args.self.now.stores c.args.all.now c.stores.result places c.stores.ensures.stores) c.requires.may.sound c.loop-step.auto.step
-    (omega (arith, c.loop-step-test.true, c.steps-step-end.ensures.steps)) c.loop-step.invariant.left.labels (c.loop-step.invariant.ran lasts lead).1
+    (omega (arith, c.loop-step-test.true, c.steps-step-end.ensures.steps)) c.loop-step.invariant.labels (c.loop-step.invariant.ran lasts lead).1
 
 pub loop-step-init : goal.loop-step-init
 loop-step-init g c =
@@ -43,18 +36,13 @@ loop-step-init g c =
           let many = length-supplies until begun.sources lasts (zip_long g.S.AnySource.leads _ _ lead) in (
             lead,
             record {
-              began = subst (λ (n : ℕ). MayBegin (run_start run.problem.now run.plan.now begun.stores run.base n (length begun.links))) (sym many) may.begins;
+              began = rw many may.begins;
               done = done_first g.L.Link.sent g.L.Link.failed (given_to run first) first c.args.buffers.report refl may.report;
               fit = λ t from_one last. absurd (omega (arith, from_one, last));
               ready = ready;
             },
           );
-      far = λ lasts lead. (
-        lead,
-        λ limits. far_first (length run.problem.now.windows) (supplies until begun.sources lasts) begun.stores run.base
-            (early_by begun.stores run.base (may.begins.in_time (omega arith))) limits,
-      );
-      left = record { labels = refl; ready = ready };
+      labels = refl;
       room = may.orders;
     }
 
@@ -67,7 +55,7 @@ report_step-requires-clause-may g c κs within =
     may_report g.L.Link.sent g.L.Link.failed c.args.run.now _ c.loop-step.step (first_in g at now.sources) now (supplies until now.sources now.sources) c.loop-step.buffers
     (length-supplies until now.sources now.sources refl)
     (here g at now.sources (all_stay g.S.AnySource.leads until c.sources_may_stay.ensures.law now.sources)) c.requires.may.held c.requires.may.links
-    (stand_cut _ begun.stores c.args.all.now c.stores.result c.requires.places c.stores.ensures.stores now.stores (as_many now.stores begun.stores c.loop-step.invariant.left.labels))
+    (stand_cut _ begun.stores c.args.all.now c.stores.result c.requires.places c.stores.ensures.stores now.stores (as_many now.stores begun.stores c.loop-step.invariant.labels))
     c.loop-step.invariant.room
 
 pub loop-step-preserved : goal.loop-step-preserved
@@ -78,15 +66,10 @@ loop-step-preserved g c =
           let stepped = c.in_default.ensures.done lasts lead in
           let before = here g at lasts stepped.0 in (
             (c.loop-step.invariant.ran lasts stepped.0).0,
-            ran_on _ _ _ _ _ _ _ _ before c.runs_lose_as_planned.ensures.each c.runs_lose_no_packet_uncounted.ensures.law _ c.report_step.new.buffers
-                stepped.1 c.in_default.ensures.left.ready,
+            ran_on _ _ _ _ _ _ _ _ before c.runs_lose_as_planned.ensures.each c.runs_lose_no_packet_uncounted.ensures.law c.step_runs_keep_stores.ensures.law _
+                c.report_step.new.buffers stepped.1,
           );
-      far = λ lasts lead.
-          let stepped = c.in_default.ensures.done lasts lead in
-          let before = here g at lasts stepped.0 in
-          let was = c.loop-step.invariant.far lasts stepped.0 in
-          (was.0, λ limits. far_on _ _ _ _ _ _ _ c.loop-step.buffers before limits (was.1 limits) c.step_runs_keep_stores.ensures.law _ stepped.1.done);
-      left = left_on c.args.self.now.stores c.loop-step.self.stores c.report_step.new.self.stores c.loop-step.invariant.left c.in_default.ensures.left;
+      labels = c.in_default.ensures.labels ∙ c.loop-step.invariant.labels;
       room = omega (arith, c.loop-step.invariant.room, c.in_default.ensures.capacity);
     }
 
@@ -95,23 +78,20 @@ returns-clause-done g c =
     let run = c.args.run.now in
     let over : c.steps-step-end.result + 1 ≤ c.loop-step.step = c.loop-step-test.false in
     let all : c.loop-step.step - 1 ≡ length run.problem.now.windows = omega (arith, over, c.steps-step-end.ensures.steps, c.loop-step.auto.step-end) in
-    subst (λ (t : ℕ). InRun g.S.AnySource.leads g.S.AnySource.until c.args.self.now c.loop-step.self
-    (λ first now. HasRun g.L.Link.sent g.L.Link.failed (given_to run first) run.plan.now first t now c.loop-step.buffers.report)) all c.loop-step.invariant.ran
+    rw all at c.loop-step.invariant.ran
 
 pub returns-in-Err-clause-halted : goal.returns-in-Err-clause-halted
 returns-in-Err-clause-halted g c = λ lasts lead.
     let stepped = c.in-Err.ensures.broke lasts lead in
     let before = here g (goal.at.returns-in-Err-clause-halted g c).In-loop-step lasts stepped.0 in (
       (c.loop-step.invariant.ran lasts stepped.0).0,
-      (c.loop-step.step, halted_in _ _ _ _ _ _ _ _ before c.broken_orders_change_nothing.ensures.law _ c.report_step.new.buffers c.in-Err.broken stepped.1 c.in-Err.ensures.left.ready),
+      (c.loop-step.step, halted_in _ _ _ _ _ _ _ _ before c.orders_dump_the_oldest.ensures.law c.broken_orders_change_nothing.ensures.law _ c.report_step.new.buffers c.in-Err.broken stepped.1),
     )
 
 pub returns-in-Err-clause-far : goal.returns-in-Err-clause-far
 returns-in-Err-clause-far g c = λ lasts lead.
-    let stepped = c.in-Err.ensures.far lasts lead in
-    let before = here g (goal.at.returns-in-Err-clause-far g c).In-loop-step lasts stepped.0 in
-    let was = c.loop-step.invariant.far lasts stepped.0 in
-    (was.0, λ limits. stepped.1 (takes_here _ _ _ _ _ _ _ c.loop-step.buffers before limits (was.1 limits)))
-
-pub returns-in-Err-clause-left : goal.returns-in-Err-clause-left
-returns-in-Err-clause-left g c = left_on c.args.self.now.stores c.loop-step.self.stores c.report_step.new.self.stores c.loop-step.invariant.left c.in-Err.ensures.left
+    let stepped = c.in-Err.ensures.broke lasts lead in
+    let before = here g (goal.at.returns-in-Err-clause-far g c).In-loop-step lasts stepped.0 in (
+      (c.loop-step.invariant.ran lasts stepped.0).0,
+      λ limits. far_halted _ _ _ _ _ _ _ _ before c.step_runs_keep_stores.ensures.law limits c.requires.may.held _ c.report_step.new.buffers c.in-Err.broken stepped.1,
+    )
