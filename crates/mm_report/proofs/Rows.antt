@@ -56,10 +56,5 @@ room_for_row n most steps len capacity h less = omega (arith, h.whole, h.room, r
 pub row_within : (n i k len : ℕ) → len ≡ k * n → i < k → i * n + n ≤ len
 row_within n i k len whole less = omega (arith, whole, rows-le n (suc i) k (omega (arith, less)))
 
--- a row more is within the room
-pub IsRoomy-more : (n most steps : ℕ) (xs row : List StepCounts) (capacity : ℕ) → IsRoomy n most steps (length xs) capacity → steps < most → length row ≡ n → IsRoomy n most (steps + 1) (length (xs ++ row)) capacity
-IsRoomy-more n most steps xs row capacity h less size = record {
-  whole = omega (arith, h.whole, size, length-append xs row);
-  within = omega (arith, less);
-  room = h.room;
-}
+-- what is known of rows
+pub ruleset row_facts = (length-in_rows, get_or-in_rows, in_rows-more, sum_by-in_rows, room_for_row, row_within)

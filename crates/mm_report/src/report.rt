@@ -1,5 +1,5 @@
 //! The report of a run.
-ghost use Rattle.std.specs.Prelude.{◌≡◌, ◌==◌, ◌+◌, ◌-◌, ◌*◌, ◌<◌, ◌≤◌, ◌∷◌, ◌++◌, [], length, take, drop, slice_index_or, vec_len, vec_capacity, IfOk};
+ghost use Rattle.std.specs.Prelude.{◌≡◌, ◌==◌, ◌+◌, ◌-◌, ◌*◌, ◌<◌, ◌≤◌, ◌∷◌, ◌++◌, [], length, take, drop, slice_index_or, IfOk};
 ghost use Rattle.mm_base.specs.declared.limits.TheConstants.{MAX_STORES};
 ghost use Rattle.mm_report.specs.Report.{totals_of};
 ghost use Rattle.mm_report.specs.Text.{report_text};
@@ -36,19 +36,6 @@ impl Model for Report {
     ghost invariant = { λ r. IsRoomy (length r.ids.items) r.most r.steps (length r.counts.items) (vec_capacity r.counts) };
 }
 
-// Appends counts that there is room for.
-fn push_all(counts: &mut Vec<StepCounts>, row: &[StepCounts])
-    requires { vec_len counts.old + length row.now ≤ vec_capacity counts.old }
-    ensures items { counts.new.items ≡ counts.old.items ++ row.now }
-    ensures capacity { vec_capacity counts.new ≡ vec_capacity counts.old }
-{
-    let mut rest = row;
-    while let [first, more @ ..] = rest {
-        counts.push_reserved(*first);
-        rest = more;
-    }
-}
-
 // The row at this place, counted from 0, where rows of this many stores stand one after the other.
 fn row_at(counts: &[StepCounts], stores: usize, place: usize) -> &[StepCounts]
     requires { place * stores + stores ≤ length counts.now }
@@ -59,6 +46,7 @@ fn row_at(counts: &[StepCounts], stores: usize, place: usize) -> &[StepCounts]
     row
 }
 
+#[tactic(auto, using(crate::proofs::Rows::row_facts))]
 impl Report {
     /// The report of a run before its first step, with room for this many steps of at most 16 stores.
     pub fn new(alloc: Global, ids: Vec<StoreId>, most: u32) -> Result<Report, NoMemory>
@@ -93,8 +81,10 @@ impl Report {
         requires room { length self.old.steps < self.old.most }
         ensures added { self.new ≡ record self.old { steps = self.old.steps ++ row.now ∷ [] } }
     {
-        push_all(&mut self.counts, row);
-        self.steps += 1;
+        // There is room, so that this is never refused.
+        if let Ok(()) = self.counts.extend_from_slice(row) {
+            self.steps += 1;
+        }
     }
 
     /// The identifiers of the stores.
