@@ -1,6 +1,6 @@
 //! What a step brought to a store, and what steps brought in all.
 ghost use Rattle.std.specs.Prelude.{◌≡◌, ◌+◌, ◌^◌, ◌<◌};
-ghost use Rattle.mm_report.specs.Totals.{totals_in};
+ghost use Rattle.mm_report.specs.Report.{totals_in};
 
 /// What a step of a run brought to a store, in blocks.
 #[derive(Clone, Copy, Debug, PartialEq, Eq)]

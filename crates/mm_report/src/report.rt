@@ -36,16 +36,6 @@ impl Model for Report {
     ghost invariant = { λ r. IsRoomy (length r.ids.items) r.most r.steps (length r.counts.items) (vec_capacity r.counts) };
 }
 
-// The row at this place, counted from 0, where rows of this many stores stand one after the other.
-fn row_at(counts: &[StepCounts], stores: usize, place: usize) -> &[StepCounts]
-    requires { place * stores + stores ≤ length counts.now }
-    ensures { result.now ≡ take stores (drop (place * stores) counts.now) }
-{
-    let (_, rest) = counts.split_at(place * stores);
-    let (row, _) = rest.split_at(stores);
-    row
-}
-
 #[tactic(auto, using(crate::proofs::Rows::row_facts))]
 impl Report {
     /// The report of a run before its first step, with room for this many steps of at most 16 stores.
@@ -115,8 +105,9 @@ impl Report {
         requires last { step ≤ length self.now.steps }
         ensures row { result.now ≡ slice_index_or self.now.steps (step - 1) [] }
     {
-        let stores = self.ids.as_slice().len();
-        row_at(self.counts.as_slice(), stores, step as usize - 1)
+        let stores = self.ids.len();
+        let place = (step as usize - 1) * stores;
+        &self.counts.as_slice()[place..place + stores]
     }
 
     /// What all steps brought to all stores; what is held is what they hold as the last step ends, and 0 before the

@@ -1,6 +1,8 @@
 //! The lines of a report.
+#![tactic(auto, using(std::proofs::Common::append_assoc))]
+
 ghost use Rattle.std.specs.Prelude.{◌≡◌, ◌++◌, ◌∷◌, [], codes, decimal, length, OnOk};
-ghost use Rattle.mm_base.specs.Characters.{line_feed, space};
+ghost use Rattle.mm_base.specs.Characters.{space};
 ghost use Rattle.mm_base.specs.Id.{id_text};
 ghost use Rattle.mm_report.specs.Text.{named_text, number_text, numbers_text, sums_of, total_line, line_of, row_text, steps_text};
 
@@ -18,7 +20,6 @@ pub(crate) enum Listing {
 }
 
 // ` N`
-#[tactic(auto, using(std::proofs::Common::append_assoc))]
 fn push_decimal(text: &mut Vec<u8>, number: u128) -> Result<(), AllocError>
     ensures { OnOk result (text.new.items ≡ text.old.items ++ space ∷ decimal number) }
 {
@@ -28,7 +29,6 @@ fn push_decimal(text: &mut Vec<u8>, number: u128) -> Result<(), AllocError>
 }
 
 // ` WORD N`
-#[tactic(auto, using(std::proofs::Common::append_assoc))]
 fn push_number(text: &mut Vec<u8>, word: &[u8], number: u128) -> Result<(), AllocError>
     ensures { OnOk result (text.new.items ≡ text.old.items ++ number_text word.now number) }
 {
@@ -38,7 +38,6 @@ fn push_number(text: &mut Vec<u8>, word: &[u8], number: u128) -> Result<(), Allo
 }
 
 // `WORD T ID`
-#[tactic(auto, using(std::proofs::Common::append_assoc))]
 fn push_named(text: &mut Vec<u8>, word: &[u8], step: u32, id: StoreId) -> Result<(), AllocError>
     ensures { OnOk result (text.new.items ≡ text.old.items ++ named_text word.now step id) }
 {
@@ -49,7 +48,6 @@ fn push_named(text: &mut Vec<u8>, word: &[u8], step: u32, id: StoreId) -> Result
 }
 
 // What arrived, was lost, was dumped and is held, up to the end of the line.
-#[tactic(auto, using(std::proofs::Common::append_assoc))]
 fn push_numbers(text: &mut Vec<u8>, totals: Totals) -> Result<(), AllocError>
     ensures { OnOk result (text.new.items ≡ text.old.items ++ numbers_text totals) }
 {
@@ -74,7 +72,6 @@ fn sums_of(counts: StepCounts) -> Totals
 }
 
 // The line of a step and a store in this listing, if there is one.
-#[tactic(auto, using(std::proofs::Common::append_assoc))]
 fn push_line(
     text: &mut Vec<u8>,
     listing: Listing,
@@ -138,7 +135,6 @@ pub(crate) fn push_steps(
 }
 
 /// The last line.
-#[tactic(auto, using(std::proofs::Common::append_assoc))]
 pub(crate) fn push_total(text: &mut Vec<u8>, totals: Totals) -> Result<(), AllocError>
     ensures { OnOk result (text.new.items ≡ text.old.items ++ total_line totals) }
 {
