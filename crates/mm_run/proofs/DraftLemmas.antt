@@ -1,20 +1,14 @@
 -- A line more is read.
 use Rattle.std.proofs.Common.{◌≡◌, ℕ, zero, suc, ◌+◌, ◌-◌, ◌<◌, ◌≤◌, ◌==◌, ◌&&◌, Bool, true, false, cond, max, List, [], ◌∷◌, ◌++◌, length, map, filter, get_or, set, refl, ap, ◌∙◌, arith, append-nil, length-append, Ok}
 use Rattle.std.specs.Prelude.{nat_lt}
-use Rattle.std.proofs.Math.ListN.{replicate}
 use Rattle.std.proofs.lemmas.Bool.Decides.{nat_tests}
 use Rattle.std.proofs.lemmas.List.{map-append, get_or-set_same, get_or-set_other}
 use Rattle.std.proofs.lemmas.List.Elements.{All-from_get_or, filter-append}
 use Rattle.std.proofs.lemmas.List.Sums.{fold-append}
-use Rattle.mm_base.specs.declared.limits.TheConstants.{MAX_STEPS}
-use Rattle.mm_packet.specs.Packet.{SpacePacket}
+use Rattle.mm_run.specs.Types.{SpacePacket, ScriptFault, SourceLine, ScriptedSource}
 use Rattle.mm_report.specs.declared.cause.TheConstants.{MAX_SOURCES}
-use Rattle.mm_run.specs.declared.script_fault.ScriptFault.{ScriptFault}
-use Rattle.mm_run.specs.declared.source_line.SourceLine.{SourceLine}
-use Rattle.mm_run.specs.declared.source.ScriptedSource.{ScriptedSource}
 use Rattle.mm_run.specs.declared.source.TheConstants.{MAX_PACKETS}
-use Rattle.mm_run.specs.declared.sources.Draft.{Draft}
-use Rattle.mm_run.specs.Given.{nothing_given}
+use Rattle.mm_run.specs.declared.sources.SourceFile.{SourceFile}
 use Rattle.mm_run.specs.Sources.{is_of, packets_of, has_room, with_source_line, given, AreFew}
 use Rattle.mm_run.specs.Drafts.{IsRead, Adds}
 
@@ -30,19 +24,13 @@ picked-more f p xs x = ap (map f) (filter-append p xs (x ∷ [])) ∙ map-append
 pub updated : {X : Type 0} (f : X → X) (xs : List X) (i k : ℕ) (d : X) → i < length xs → get_or (set xs i (f (get_or xs i d))) k d ≡ cond (i == k) (f (get_or xs k d)) (get_or xs k d)
 updated f xs i k d within = grind (arith, nat_tests, get_or-set_same, get_or-set_other)
 
--- nothing is given in any step
-none_in : (n t : ℕ) → ◌≡◌ {A = List SpacePacket} (get_or (replicate n []) t []) []
-none_in zero t = refl
-none_in (suc n) zero = refl
-none_in (suc n) (suc t) = none_in n t
-
 -- a source that gives nothing is added
-pub none_more : (sources : List ScriptedSource) (i t : ℕ) → get_or (get_or (sources ++ nothing_given ∷ []) i []) t [] ≡ get_or (get_or sources i []) t []
-unfolding nothing_given
-none_more [] zero t = none_in (MAX_STEPS + 1) t
-none_more [] (suc i) t = refl
-none_more (x ∷ xs) zero t = refl
-none_more (x ∷ xs) (suc i) t = none_more xs i t
+pub none_more : (sources : List ScriptedSource) (source : ScriptedSource) (i t : ℕ) → ((t : ℕ) → get_or source t [] ≡ [])
+    → get_or (get_or (sources ++ source ∷ []) i []) t [] ≡ get_or (get_or sources i []) t []
+none_more [] source zero t none = none t
+none_more [] source (suc i) t none = refl
+none_more (x ∷ xs) source zero t none = refl
+none_more (x ∷ xs) source (suc i) t none = none_more xs source i t none
 
 -- a packet more is given by one source in one step
 pub given_more : (sources : List ScriptedSource) (d : SourceLine) (s t : ℕ) → 1 ≤ d.source → d.source - 1 < length sources → d.step < length (get_or sources (d.source - 1) []) → 1 ≤ s
@@ -60,14 +48,14 @@ few_more ds d few room s t =
     let left : (d.source ≡ s) → (d.step ≡ t) → length (packets_of s t ds) < MAX_PACKETS = λ source step. rw (← source, ← step) (grind (arith, nat_tests)) in
     rw (picked-more (λ x. x.packet) (is_of s t) ds d, length-append) (grind (arith, nat_tests, few s t))
 
--- the draft of one line more
-pub read_more : (bad : ScriptFault) (ds : List SourceLine) (d : SourceLine) (old new : Draft) → IsRead ds old → length (packets_of d.source d.step ds) < MAX_PACKETS
+-- the file of one line more
+pub read_more : (bad : ScriptFault) (ds : List SourceLine) (d : SourceLine) (old new : SourceFile) (was opened : List ℕ) → IsRead ds old was → length (packets_of d.source d.step ds) < MAX_PACKETS
     → length new.sources.items ≡ max (length old.sources.items) d.source
     → ((s t : ℕ) → 1 ≤ s → given new.sources.items s t ≡ given old.sources.items s t ++ cond (is_of s t d && nat_lt 0 d.step) (d.packet ∷ []) [])
     → new.opening.items ≡ old.opening.items ++ cond (d.step == 0) (d.packet ∷ []) []
-    → ((s : ℕ) → 1 ≤ s → s ≤ MAX_SOURCES → get_or new.opened (s - 1) 0 ≡ get_or old.opened (s - 1) 0 + cond (is_of s 0 d) 1 0)
-    → Adds (with_source_line bad ds d) new (Ok tt)
-read_more bad ds d old new h left reached gives opening opened = let room : has_room ds d ≡ true = grind (arith, nat_tests) in (
+    → ((s : ℕ) → 1 ≤ s → s ≤ MAX_SOURCES → get_or opened (s - 1) 0 ≡ get_or was (s - 1) 0 + cond (is_of s 0 d) 1 0)
+    → Adds (with_source_line bad ds d) new opened (Ok tt)
+read_more bad ds d old new was opened h left reached gives before counted = let room : has_room ds d ≡ true = grind (arith, nat_tests) in (
   ds ++ d ∷ [],
   rw room refl,
   record {
@@ -77,13 +65,13 @@ read_more bad ds d old new h left reached gives opening opened = let room : has_
       each = λ s t first later. grind (arith, nat_tests, gives s t first, h.lines.each s t first later, picked-more (λ x. x.packet) (is_of s t) ds d);
       none = λ s first. grind (arith, nat_tests, gives s 0 first, h.lines.none s first);
     };
-    opened = λ s first last. opened s first last ∙ rw (h.opened s first last, picked-more (λ x. x.packet) (is_of s 0) ds d, length-append) (grind arith);
+    counted = λ s first last. counted s first last ∙ rw (h.counted s first last, picked-more (λ x. x.packet) (is_of s 0) ds d, length-append) (grind arith);
     few = few_more ds d h.few room;
   },
 )
 
 -- sources of lines give no more packets in a step than there may be
-pub few_given : (ds : List SourceLine) (draft : Draft) → IsRead ds draft → AreFew draft.sources.items
-few_given ds draft h = All-from_get_or (λ source. (t : ℕ) → length (get_or source t []) ≤ MAX_PACKETS) draft.sources.items [] (λ i within t.
+pub few_given : (ds : List SourceLine) (file : SourceFile) (opened : List ℕ) → IsRead ds file opened → AreFew file.sources.items
+few_given ds file opened h = All-from_get_or (λ source. (t : ℕ) → length (get_or source t []) ≤ MAX_PACKETS) file.sources.items [] (λ i within t.
     let here : i + 1 - 1 ≡ i = omega arith in
     grind (arith, rw here at (h.lines.none (i + 1)), rw here at (h.lines.each (i + 1) t), h.few (i + 1) t))

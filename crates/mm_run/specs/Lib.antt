@@ -1,7 +1,7 @@
+pub mod Types
 pub mod ScriptFault
 pub mod Words
 pub mod SourceLine
-pub mod Given
 pub mod Sources
 pub mod Drafts
 pub mod LinkView

@@ -1,8 +1,7 @@
 -- The packets of step 0: they are offered before a run, at the moment 0.
 use Rattle.std.specs.Prelude.{ℕ, ◌≤◌, List, fold, All}
-use Rattle.mm_packet.specs.Packet.{SpacePacket}
+use Rattle.mm_run.specs.Types.{SpacePacket, Holdings}
 use Rattle.mm_desk.specs.declared.held.Held.{Held}
-use Rattle.mm_memory.specs.Holdings.{Holdings}
 use Rattle.mm_memory.specs.Recording.{after_record}
 
 -- packets are offered, in order, each to the stores of its report type

@@ -1,16 +1,9 @@
 -- What a run from texts prints.
 use Rattle.std.specs.Prelude.{◌≡◌, ◌⊎◌, ℕ, List, [], map, slice_index_or, Option, Some, None}
-use Rattle.mm_problem.specs.Dumping.{Dumping}
-use Rattle.mm_packet.specs.Packet.{SpacePacket}
-use Rattle.mm_plan.specs.Sheet.{SheetRows}
+use Rattle.mm_run.specs.Types.{Dumping, SpacePacket, SheetRows, Holdings, Flown, FlyHalted, ScriptedSource, ScriptedLink}
 use Rattle.mm_plan.specs.Table.{Table}
-use Rattle.mm_memory.specs.Holdings.{Holdings}
 use Rattle.mm_record.specs.Supplies.{Supply}
 use Rattle.mm_dump.specs.Sending.{Sent}
-use Rattle.mm_run.specs.declared.link.ScriptedLink.{ScriptedLink}
-use Rattle.mm_run.specs.declared.source.ScriptedSource.{ScriptedSource}
-use Rattle.mm_exec.specs.declared.run_end.Flown.{Flown}
-use Rattle.mm_exec.specs.declared.run_end.FlyHalted.{FlyHalted}
 use Rattle.mm_exec.specs.RunInput.{RunInput, run_input}
 use Rattle.mm_exec.specs.Step.{NeverRefused}
 use Rattle.mm_exec.specs.Ending.{IsCarriedOut, IsHalted}

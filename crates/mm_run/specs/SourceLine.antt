@@ -3,13 +3,11 @@ use Rattle.std.specs.Prelude.{ℕ, ◌≤◌, nat_le, List, length, Result, Ok, 
 use Rattle.std.specs.Option.{ok_or}
 use Rattle.mm_base.specs.declared.limits.TheConstants.{MAX_STEPS}
 use Rattle.mm_base.specs.Reading.{◌>>=◌, test}
-use Rattle.mm_packet.specs.Packet.{SpacePacket}
+use Rattle.mm_run.specs.Types.{SpacePacket, ScriptFault, SourceLine}
 use Rattle.mm_packet.specs.Spelling.{spelling}
 use Rattle.mm_packet.specs.declared.block.TheConstants.{BLOCK}
 use Rattle.mm_ask.specs.Line.{packet_of}
-use Rattle.mm_run.specs.declared.source_line.SourceLine.{SourceLine}
 use Rattle.mm_report.specs.declared.cause.TheConstants.{MAX_SOURCES}
-use Rattle.mm_run.specs.declared.script_fault.ScriptFault.{ScriptFault}
 use Rattle.mm_base.specs.Lines.{cut_word}
 use Rattle.mm_run.specs.Words.{number_in}
 

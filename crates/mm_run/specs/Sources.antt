@@ -1,11 +1,8 @@
 -- What a text of sources says.
 use Rattle.std.specs.Prelude.{◌≡◌, ℕ, ◌+◌, ◌-◌, ◌≤◌, ◌==◌, ◌&&◌, nat_lt, max, All, Bool, List, [], ◌∷◌, ◌++◌, length, map, filter, fold, slice_index_or, Result, Ok}
 use Rattle.mm_base.specs.Reading.{◌>>=◌, test}
-use Rattle.mm_packet.specs.Packet.{SpacePacket}
-use Rattle.mm_run.specs.declared.source_line.SourceLine.{SourceLine}
-use Rattle.mm_run.specs.declared.script_fault.ScriptFault.{ScriptFault}
+use Rattle.mm_run.specs.Types.{SpacePacket, ScriptFault, SourceLine, ScriptedSource}
 use Rattle.mm_run.specs.declared.script_fault.ScriptFault.TheVariants.{SourcesText}
-use Rattle.mm_run.specs.declared.source.ScriptedSource.{ScriptedSource}
 use Rattle.mm_run.specs.declared.source.TheConstants.{MAX_PACKETS}
 use Rattle.mm_run.specs.SourceLine.{source_line_at}
 use Rattle.mm_base.specs.Lines.{file_lines}

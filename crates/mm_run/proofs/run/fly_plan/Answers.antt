@@ -2,14 +2,11 @@ use Rattle.std.proofs.Common.{length, inl, inr}
 use Rattle.std.proofs.lemmas.Result.{IfOk-weaker, IfErr-weaker}
 use Rattle.mm_record.proofs.Supplying.{as_known}
 use Rattle.mm_exec.specs.RunInput.{run_input}
-use Rattle.mm_exec.specs.declared.run_end.Flown.{Flown}
-use Rattle.mm_exec.specs.declared.run_end.FlyHalted.{FlyHalted}
+use Rattle.mm_run.specs.Types.{Flown, FlyHalted, ScriptedSource, ScriptedLink}
 use Rattle.mm_exec.specs.Course.{AreWithinLimits}
 use Rattle.mm_exec.specs.Ending.{IsCarriedOut, IsHalted}
 use Rattle.mm_exec.specs.Flying.{Flies, FliesNot}
 use Rattle.mm_exec.specs.Step.{NeverRefused}
-use Rattle.mm_run.specs.declared.link.ScriptedLink.{ScriptedLink}
-use Rattle.mm_run.specs.declared.source.ScriptedSource.{ScriptedSource}
 use Rattle.mm_run.specs.Runs.{gives, sent, failed, IsFlown, IsNotFlown}
 use Rattle.mm_run.proofs.run.fly_plan.Goals as goal
 

@@ -8,4 +8,4 @@ unfolding source_lines_of
 loop-front-init c = record { line = omega arith; earlier = []; read = search rules; lines = refl }
 
 pub returns-clause-few : goal.returns-clause-few
-returns-clause-few c = few_given c.loop-front.invariant.earlier c.loop-front.draft c.loop-front.invariant.read
+returns-clause-few c = few_given c.loop-front.invariant.earlier c.loop-front.file c.loop-front.opened c.loop-front.invariant.read
