@@ -42,12 +42,6 @@ given_more sources d s t first source step some =
     let there = updated (λ ps. ps ++ d.packet ∷ []) (get_or sources (d.source - 1) []) d.step t [] step in
     grind (arith, nat_tests, append-nil)
 
--- a line more of a source and a step is there, where there is room for it
-few_more : (ds : List SourceLine) (d : SourceLine) → ((s t : ℕ) → length (packets_of s t ds) ≤ MAX_PACKETS) → has_room ds d ≡ true → (s t : ℕ) → length (packets_of s t (ds ++ d ∷ [])) ≤ MAX_PACKETS
-few_more ds d few room s t =
-    let left : (d.source ≡ s) → (d.step ≡ t) → length (packets_of s t ds) < MAX_PACKETS = λ source step. rw (← source, ← step) (grind (arith, nat_tests)) in
-    rw (picked-more (λ x. x.packet) (is_of s t) ds d, length-append) (grind (arith, nat_tests, few s t))
-
 -- the file of one line more
 pub read_more : (bad : ScriptFault) (ds : List SourceLine) (d : SourceLine) (old new : SourceFile) (was opened : List ℕ) → IsRead ds old was → length (packets_of d.source d.step ds) < MAX_PACKETS
     → length new.sources.items ≡ max (length old.sources.items) d.source
@@ -66,7 +60,7 @@ read_more bad ds d old new was opened h left reached gives before counted = let 
       none = λ s first. grind (arith, nat_tests, gives s 0 first, h.lines.none s first);
     };
     counted = λ s first last. counted s first last ∙ rw (h.counted s first last, picked-more (λ x. x.packet) (is_of s 0) ds d, length-append) (grind arith);
-    few = few_more ds d h.few room;
+    few = λ s t first. grind (arith, nat_tests, gives s t first, h.few s t first, h.lines.each s t first, length-append);
   },
 )
 
@@ -74,4 +68,4 @@ read_more bad ds d old new was opened h left reached gives before counted = let 
 pub few_given : (ds : List SourceLine) (file : SourceFile) (opened : List ℕ) → IsRead ds file opened → AreFew file.sources.items
 few_given ds file opened h = All-from_get_or (λ source. (t : ℕ) → length (get_or source t []) ≤ MAX_PACKETS) file.sources.items [] (λ i within t.
     let here : i + 1 - 1 ≡ i = omega arith in
-    grind (arith, rw here at (h.lines.none (i + 1)), rw here at (h.lines.each (i + 1) t), h.few (i + 1) t))
+    rw here at (h.few (i + 1) t (omega arith)))

@@ -1,9 +1,10 @@
 //! A run from texts to what is printed: of the plan of a text, or of one that is made.
-ghost use Rattle.std.specs.Prelude.{◌≡◌, ◌<◌, ◌-◌, ◌^◌, All, length, map, IfOk, IfErr, OnOk};
+ghost use Rattle.std.specs.Prelude.{◌≡◌, ◌<◌, ◌-◌, ◌^◌, All, length, IfOk, IfErr, OnOk};
 ghost use Rattle.std.specs.Option.{option_copied};
 ghost use Rattle.mm_base.specs.Reading.{IfRefused};
 ghost use Rattle.mm_exec.specs.Course.{AreWithinLimits};
 ghost use Rattle.mm_exec.specs.Step.{NeverRefused};
+ghost use Rattle.mm_record.specs.Supplies.{WhateverComes};
 ghost use Rattle.mm_run.specs.Judging.{IsFirstFault, IsRunFault, IsFlyFault};
 ghost use Rattle.mm_run.specs.Sources.{AreFew};
 ghost use Rattle.mm_run.specs.Opening.{opened_with, AreOffered};
@@ -52,7 +53,8 @@ fn fly_plan<R: Threads + Wait + Sync>(
     requires links { All (λ l. l.failed < 2 ^ 64 - 1) links.items }
     ensures flown { IfOk result (IsFlown sheet problem.now memory.old sources.items links.items memory.new) }
     ensures not_flown { IfErr result (IsNotFlown sheet problem.now memory.old sources.items links.items memory.new) }
-    ensures far { AreWithinLimits (length problem.now.windows) memory.old.stores (map gives sources.items) → IfErr result (λ ended. NeverRefused ended.halted.cause) }
+    ensures far { IfErr result (λ ended. WhateverComes (λ _ _. Unit {0}) (λ s _. gives s) sources.items ended.halted.sources.items
+        (λ given left. AreWithinLimits (length problem.now.windows) memory.old.stores given → NeverRefused ended.halted.cause)) }
 {
     let Some(sheet) = sheet else {
         return fly(rt, alloc, memory, problem, sources, links, 0);

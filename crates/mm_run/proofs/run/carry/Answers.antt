@@ -1,7 +1,11 @@
 use Rattle.std.proofs.Common.{◌≡◌, ◌∙◌, ap, inl, inr, length, arith}
 use Rattle.std.proofs.lemmas.Result.{IfOk-weaker}
+use Rattle.mm_record.proofs.Supplying.{as_known}
+use Rattle.mm_exec.specs.Course.{AreWithinLimits}
+use Rattle.mm_exec.specs.Step.{NeverRefused}
 use Rattle.mm_run.specs.declared.printed.Printed.{Printed}
 use Rattle.mm_run.specs.Opening.{opened_with}
+use Rattle.mm_run.specs.Runs.{gives}
 use Rattle.mm_run.proofs.Offered.{within_limits}
 use Rattle.mm_run.proofs.run.carry.Goals as goal
 
@@ -24,7 +28,9 @@ returns g c =
       left = c.fly_plan.new.memory;
       ended = c.in-Err.field-0;
       not_flown = c.in-Err.ensures.not_flown;
-      never_refused = c.in-Err.ensures.far (rw memory limits);
+      never_refused = as_known gives c.args.sides.sources.items c.in-Err.field-0.halted.sources.items
+          (λ given rest. AreWithinLimits (length c.args.start.problem.windows) c.offer_all.new.memory.stores given → NeverRefused c.in-Err.field-0.halted.cause)
+          c.in-Err.ensures.far (rw memory limits);
       tells = told;
     }))
     c.stopped.ensures)

@@ -1,42 +1,33 @@
 use Rattle.std.proofs.Common.{◌≡◌, ◌+◌, ◌-◌, ◌<◌, ◌==◌, [], false, max, length, get_or, arith, sym, ◌∙◌, rules, append-nil}
 use Rattle.std.proofs.lemmas.Bool.Decides.{nat_tests}
-use Rattle.std.proofs.lemmas.List.{get_or_default, length-set}
+use Rattle.std.proofs.lemmas.List.{get_or_default, get_or-set_same, get_or-set_other, length-set}
 use Rattle.mm_run.specs.declared.sources.SourceLine.{SourceLine}
-use Rattle.mm_run.specs.declared.source.TheConstants.{MAX_PACKETS}
-use Rattle.mm_run.specs.Sources.{packets_of}
-use Rattle.mm_run.proofs.DraftLemmas.{given_more, read_more, updated}
+use Rattle.mm_run.proofs.DraftLemmas.{given_more, read_more}
 use Rattle.mm_run.proofs.sources.SourceFile.add.Goals as goal
 
 pub returns-in_ok-map_err : goal.returns-in_ok-map_err
 returns-in_ok-map_err c = λ earlier read.
     let d : SourceLine = c.args.source_line in
     let step : d.step ≡ 0 = search rules in
-    let counts = read.counted d.source c.requires.first c.requires.last in
-    let room = rw c.from-place.ensures at c.if-opened-place-ge-MAX_PACKETS.false in
-    let few : length (packets_of d.source 0 earlier) < MAX_PACKETS = omega (arith, counts, room) in
-    read_more c.args.bad earlier d c.args.self.now _ c.args.opened.now _ read (rw step few)
+    read_more c.args.bad earlier d c.args.self.now _ c.args.opened.now _ read (rw step (grind (arith, read.counted d.source c.requires.first c.requires.last)))
     (rw (← c.from.ensures) c.in_ok-reach.ensures.count)
     (λ s t first. grind (arith, nat_tests, append-nil, c.in_ok-reach.ensures.given s t))
     (rw step (search rules))
-    (λ s first last.
-    let counted = updated (λ n. n + 1) c.args.opened.now (d.source - 1) (s - 1) 0 (omega (arith, c.requires.first, c.requires.last)) in
-    rw c.from-place.ensures (grind (arith, nat_tests)))
+    (λ s first last. grind (arith, nat_tests, get_or-set_same, get_or-set_other, c.requires.first, c.requires.last))
 
 pub returns-in_ok-add : goal.returns-in_ok-add
 returns-in_ok-add c = λ earlier read.
     let d : SourceLine = c.args.source_line in
-    let later : d.step == 0 ≡ false = search rules in
     let mid = c.reach.new.sources.items in
-    let reached : length mid ≡ max (length c.args.self.now.sources.items) d.source = rw (← c.from.ensures) c.in_ok-reach.ensures.count in
     let same = c.in_ok-reach.ensures.given in
-    let within : d.source - 1 < length mid = omega (arith, reached, c.requires.first) in
+    let within : d.source - 1 < length mid = omega (arith, c.in_ok-reach.ensures.count, c.requires.first) in
     let here : c.index_mut.result.now ≡ get_or mid (d.source - 1) [] =
     rw c.from-place.ensures at c.index_mut.ensures.value ∙ get_or_default mid (d.source - 1) c.index_mut.result.now [] within in
     read_more c.args.bad earlier d c.args.self.now _ c.args.opened.now _ read
     (grind (arith, same d.source d.step, read.lines.each d.source d.step c.requires.first (omega arith), get_or_default mid))
-    (length-set mid (c.from-place.result - 1) c.add.new.self ∙ reached)
+    (length-set mid (c.from-place.result - 1) c.add.new.self ∙ rw (← c.from.ensures) c.in_ok-reach.ensures.count)
     (λ s t first.
     let more = given_more mid d s t c.requires.first within (rw here at c.add.ensures.step) first in
     rw (c.from-place.ensures, c.in_ok-add.ensures.packet, here) (grind (arith, nat_tests, same s t)))
-    (rw later (sym (append-nil _)))
+    (grind (arith, nat_tests, append-nil))
     (λ s first last. grind (arith, nat_tests))
