@@ -20,10 +20,6 @@ picked_one f x false = refl
 picked-more : {A B : Type 0} (f : A → B) (p : A → Bool) (xs : List A) (x : A) → map f (filter p (xs ++ x ∷ [])) ≡ map f (filter p xs) ++ cond (p x) (f x ∷ []) []
 picked-more f p xs x = ap (map f) (filter-append p xs (x ∷ [])) ∙ map-append f (filter p xs) (filter p (x ∷ [])) ∙ ap (λ ys. map f (filter p xs) ++ ys) (picked_one f x (p x))
 
--- one element becomes another
-pub updated : {X : Type 0} (f : X → X) (xs : List X) (i k : ℕ) (d : X) → i < length xs → get_or (set xs i (f (get_or xs i d))) k d ≡ cond (i == k) (f (get_or xs k d)) (get_or xs k d)
-updated f xs i k d within = grind (arith, nat_tests, get_or-set_same, get_or-set_other)
-
 -- a source that gives nothing is added
 pub none_more : (sources : List ScriptedSource) (source : ScriptedSource) (i t : ℕ) → ((t : ℕ) → get_or source t [] ≡ [])
     → get_or (get_or (sources ++ source ∷ []) i []) t [] ≡ get_or (get_or sources i []) t []
@@ -37,10 +33,7 @@ pub given_more : (sources : List ScriptedSource) (d : SourceLine) (s t : ℕ) �
     → given (set sources (d.source - 1) (set (get_or sources (d.source - 1) []) d.step (given sources d.source d.step ++ d.packet ∷ []))) s t
     ≡ given sources s t ++ cond (is_of s t d) (d.packet ∷ []) []
 given_more sources d s t first source step some =
-    let more : List (List SpacePacket) → List (List SpacePacket) = λ steps. set steps d.step (get_or steps d.step [] ++ d.packet ∷ []) in
-    let here = updated more sources (d.source - 1) (s - 1) [] source in
-    let there = updated (λ ps. ps ++ d.packet ∷ []) (get_or sources (d.source - 1) []) d.step t [] step in
-    grind (arith, nat_tests, append-nil)
+    grind (arith, nat_tests, append-nil, get_or-set_same, get_or-set_other)
 
 -- the file of one line more
 pub read_more : (bad : ScriptFault) (ds : List SourceLine) (d : SourceLine) (old new : SourceFile) (was opened : List ℕ) → IsRead ds old was → length (packets_of d.source d.step ds) < MAX_PACKETS
