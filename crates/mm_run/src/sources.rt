@@ -67,7 +67,6 @@ fn source_line_at(alloc: Global, bad: ScriptFault, line: &[u8]) -> Result<Source
 }
 
 // Adds sources that give nothing until there are this many.
-#[tactic(auto, using(crate::proofs::DraftLemmas::none_more))]
 fn reach(alloc: Global, sources: &mut Vec<ScriptedSource>, count: usize) -> Result<(), NoMemory>
     ensures count { OnOk result (length sources.new.items ≡ max (length sources.old.items) count) }
     ensures given { OnOk result ((s t : ℕ) → given sources.new.items s t ≡ given sources.old.items s t) }

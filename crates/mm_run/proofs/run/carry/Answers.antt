@@ -11,16 +11,14 @@ use Rattle.mm_run.proofs.run.carry.Goals as goal
 
 pub returns-in-Ok : goal.returns-in-Ok
 returns-in-Ok g c =
-    let memory : c.offer_all.new.memory ≡ opened_with c.args.start.memory c.args.sides.opening.items =
-    c.in_ok-offer_all.ensures ∙ ap (opened_with c.args.start.memory) c.as_slice.ensures.value in
+    let memory : c.offer_all.new.memory ≡ opened_with c.args.start.memory c.args.sides.opening.items = cc c.in_ok-offer_all.ensures in
     rw (← memory) (IfOk-weaker c.whole.result _ _
     (λ (p : Printed) told. inl (record { left = c.fly_plan.new.memory; flown = c.in-Ok.field-0; is_flown = c.in-Ok.ensures.flown; tells = told }))
     c.whole.ensures)
 
 pub returns : goal.returns
 returns g c =
-    let memory : c.offer_all.new.memory ≡ opened_with c.args.start.memory c.args.sides.opening.items =
-    c.in_ok-offer_all.ensures ∙ ap (opened_with c.args.start.memory) c.as_slice.ensures.value in
+    let memory : c.offer_all.new.memory ≡ opened_with c.args.start.memory c.args.sides.opening.items = cc c.in_ok-offer_all.ensures in
     let limits = within_limits (length c.args.start.problem.windows) c.args.start.memory c.args.sides.opening.items c.args.sides.sources.items
     (omega (arith, c.args.sides.opening.ok.0)) c.constants_are.ensures.packets c.requires.opened c.requires.few in
     rw (← memory) (IfOk-weaker c.stopped.result _ _

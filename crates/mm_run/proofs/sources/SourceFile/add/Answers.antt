@@ -2,7 +2,7 @@ use Rattle.std.proofs.Common.{◌≡◌, ◌+◌, ◌-◌, ◌<◌, ◌==◌, []
 use Rattle.std.proofs.lemmas.Bool.Decides.{nat_tests}
 use Rattle.std.proofs.lemmas.List.{get_or_default, get_or-set_same, get_or-set_other, length-set}
 use Rattle.mm_run.specs.declared.sources.SourceLine.{SourceLine}
-use Rattle.mm_run.proofs.DraftLemmas.{given_more, read_more}
+use Rattle.mm_run.proofs.DraftLemmas.{read_more}
 use Rattle.mm_run.proofs.sources.SourceFile.add.Goals as goal
 
 pub returns-in_ok-map_err : goal.returns-in_ok-map_err
@@ -27,7 +27,6 @@ returns-in_ok-add c = λ earlier read.
     (grind (arith, same d.source d.step, read.lines.each d.source d.step c.requires.first (omega arith), get_or_default mid))
     (length-set mid (c.from-place.result - 1) c.add.new.self ∙ rw (← c.from.ensures) c.in_ok-reach.ensures.count)
     (λ s t first.
-    let more = given_more mid d s t c.requires.first within (rw here at c.add.ensures.step) first in
-    rw (c.from-place.ensures, c.in_ok-add.ensures.packet, here) (grind (arith, nat_tests, same s t)))
+    rw (c.from-place.ensures, c.in_ok-add.ensures.packet, here) (grind (arith, nat_tests, append-nil, get_or-set_same, get_or-set_other, same s t)))
     (grind (arith, nat_tests, append-nil))
     (λ s first last. grind (arith, nat_tests))
