@@ -5,15 +5,13 @@ use Rattle.std.proofs.lemmas.List.Elements.{All-map}
 use Rattle.mm_base.specs.declared.rows.StoreRow.{StoreRow}
 use Rattle.mm_run.specs.Types.{SpacePacket, Holdings, ScriptedSource}
 use Rattle.mm_desk.specs.declared.held.Held.{Held}
-use Rattle.mm_desk.specs.Machine.{State, offer}
 use Rattle.mm_memory.specs.Holdings.{opened}
 use Rattle.mm_memory.specs.Recording.{after_offer, after_record, packet_for}
 use Rattle.mm_record.specs.Supplies.{Supply}
 use Rattle.mm_exec.specs.Course.{AreWithinLimits}
 use Rattle.mm_run.specs.Sources.{AreFew}
 use Rattle.mm_run.specs.declared.source.TheConstants.{MAX_PACKETS}
-use Rattle.mm_run.specs.Opening.{AreOffered, opened_with}
-use Rattle.mm_run.specs.Runs.{gives}
+use Rattle.mm_run.specs.Runs.{AreOffered, opened_with, gives}
 
 -- the stores of a setup were offered nothing
 pub none_offered : (rows : List StoreRow) → AreOffered 0 (map opened rows)

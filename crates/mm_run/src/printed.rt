@@ -95,8 +95,7 @@ fn push_end(text: &mut Vec<u8>, cause: &Cause) -> io::Result<()>
 {
     let Some(step) = step_of(cause) else {
         let refusal = cause.refusal();
-        let (number, name) = (refusal.number(), refusal.name());
-        write!(text, "refused {number} {name}")?;
+        write!(text, "refused {} {}", refusal.number(), refusal.name())?;
         push_field(text, cause)?;
         return text.write_all(b"\n");
     };

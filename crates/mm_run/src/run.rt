@@ -7,8 +7,7 @@ ghost use Rattle.mm_exec.specs.Step.{NeverRefused};
 ghost use Rattle.mm_record.specs.Supplies.{WhateverComes};
 ghost use Rattle.mm_run.specs.Judging.{IsFirstFault, IsRunFault, IsFlyFault};
 ghost use Rattle.mm_run.specs.Sources.{AreFew};
-ghost use Rattle.mm_run.specs.Opening.{opened_with, AreOffered};
-ghost use Rattle.mm_run.specs.Runs.{gives, IsFlown, IsNotFlown, RunEnds, PrintsRun, Runs, FliesBy};
+ghost use Rattle.mm_run.specs.Runs.{opened_with, AreOffered, gives, IsFlown, IsNotFlown, RunEnds, PrintsRun, Runs, FliesBy};
 
 use crate::fault::Fault;
 use crate::laws::constants_are;

@@ -3,8 +3,7 @@ ghost use Rattle.std.specs.Prelude.{◌≡◌, ◌+◌, ◌-◌, ◌<◌, ℕ, L
 ghost use Rattle.mm_base.specs.Reading.{Gives, IfRefused};
 ghost use Rattle.mm_run.specs.declared.sources.SourceLine.{SourceLine};
 ghost use Rattle.mm_run.specs.declared.source.TheConstants.{MAX_PACKETS};
-ghost use Rattle.mm_run.specs.SourceLine.{packet_in, source_line_at, IsSourceLine};
-ghost use Rattle.mm_run.specs.Sources.{given, Says, AreFew, source_lines_of};
+ghost use Rattle.mm_run.specs.Sources.{packet_in, source_line_at, IsSourceLine, given, Says, AreFew, source_lines_of};
 
 use crate::script_fault::ScriptFault;
 use crate::source::{MAX_PACKETS, ScriptedSource};
@@ -37,7 +36,7 @@ pub struct SourceFile {
 }
 
 // The packet that the digits spell, with nothing after it, where a block has room for it.
-#[tactic(auto, unfolding(crate::specs::SourceLine::packet_in))]
+#[tactic(auto, unfolding(crate::specs::Sources::packet_in))]
 fn packet_in(alloc: Global, bad: ScriptFault, digits: &[u8]) -> Result<BlockPacket, ScriptFault>
     ensures { Gives ScriptFault.NoMemory (λ packet. packet) result (packet_in bad digits.now) }
 {
@@ -49,7 +48,7 @@ fn packet_in(alloc: Global, bad: ScriptFault, digits: &[u8]) -> Result<BlockPack
 }
 
 // What a line `source step HEX` says.
-#[tactic(auto, unfolding(crate::specs::SourceLine::source_line_at))]
+#[tactic(auto, unfolding(crate::specs::Sources::source_line_at))]
 fn source_line_at(alloc: Global, bad: ScriptFault, line: &[u8]) -> Result<SourceLine, ScriptFault>
     ensures source_line { Gives ScriptFault.NoMemory (λ source_line. source_line) result (source_line_at bad line.now) }
     ensures in_range { IfOk result IsSourceLine }

@@ -6,7 +6,7 @@ ghost use Rattle.mm_problem.specs.declared.fault.Fault.TheVariants as problem;
 ghost use Rattle.mm_plan.specs.declared.fault.Fault.TheVariants as plan_fault;
 ghost use Rattle.mm_run.specs.Sources.{AreFew};
 ghost use Rattle.mm_run.specs.declared.script_fault.ScriptFault.TheVariants as script;
-ghost use Rattle.mm_run.specs.Opening.{AreOffered};
+ghost use Rattle.mm_run.specs.Runs.{AreOffered};
 ghost use Rattle.mm_run.specs.Texts.{SaysProblemAndMemory, SaysPlan, SaysSourcesAndLinks, IsProblemFault, IsPlanTextFault, IsScriptFault};
 
 use crate::link::{ScriptedLink, read_links};

@@ -1,11 +1,10 @@
-use Rattle.std.proofs.Common.{◌≡◌, ◌∙◌, ap, inl, inr, length, arith}
+use Rattle.std.proofs.Common.{◌≡◌, inl, inr, length, arith}
 use Rattle.std.proofs.lemmas.Result.{IfOk-weaker}
 use Rattle.mm_record.proofs.Supplying.{as_known}
 use Rattle.mm_exec.specs.Course.{AreWithinLimits}
 use Rattle.mm_exec.specs.Step.{NeverRefused}
 use Rattle.mm_run.specs.declared.printed.Printed.{Printed}
-use Rattle.mm_run.specs.Opening.{opened_with}
-use Rattle.mm_run.specs.Runs.{gives}
+use Rattle.mm_run.specs.Runs.{opened_with, gives}
 use Rattle.mm_run.proofs.Offered.{within_limits}
 use Rattle.mm_run.proofs.run.carry.Goals as goal
 

@@ -1,5 +1,5 @@
 use Rattle.std.proofs.Common.{◌≡◌, take}
-use Rattle.mm_run.specs.Opening.{opened_with}
+use Rattle.mm_run.specs.Runs.{opened_with}
 use Rattle.mm_run.proofs.run.offer_all.Given as goal
 
 abbrev pub invariant-loop-packet : goal.invariant-loop-packet
