@@ -1,11 +1,10 @@
 -- Counts that stand one after the other, as rows.
-use Rattle.std.proofs.Common.{◌≡◌, ℕ, zero, suc, ◌+◌, ◌*◌, ◌<◌, ◌≤◌, List, [], ◌∷◌, ◌++◌, length, get_or, take, drop, refl, ap, ◌∙◌, arith, length-drop, length-append}
+use Rattle.std.proofs.Common.{◌≡◌, ℕ, zero, suc, ◌+◌, ◌*◌, ◌<◌, ◌≤◌, List, [], ◌∷◌, ◌++◌, length, get_or, take, drop, refl, ap, ◌∙◌, arith, length-drop}
 use Rattle.std.specs.Prelude.{sum_by}
-use Rattle.std.proofs.Math.Nat.{mul_comm, mul-le-mul_left}
 use Rattle.std.proofs.lemmas.List.{take_all, take-append-le, drop-append-le, drop-drop, nil_from_length}
 use Rattle.std.proofs.lemmas.List.Sums.{sum_by-cons, sum_by-take-drop}
 use Rattle.mm_report.specs.declared.counts.StepCounts.{StepCounts}
-use Rattle.mm_report.specs.Report.{in_rows, IsRoomy}
+use Rattle.mm_report.specs.Report.{in_rows}
 
 -- what is left where a row is taken from several
 rest_rows : (n k : ℕ) (xs : List StepCounts) → length xs ≡ suc k * n → (n ≤ length xs) × (length (drop n xs) ≡ k * n)
@@ -44,22 +43,5 @@ sum_by-in_rows f n (suc k) xs whole =
     ∙ ap (λ m. sum_by f (take n xs) + m) (sum_by-in_rows f n k (drop n xs) (rest_rows n k xs whole).1)
     ∙ sum_by-take-drop f xs n
 
--- fewer rows are no longer
-rows-le : (n k m : ℕ) → k ≤ m → k * n ≤ m * n
-rows-le n k m within = omega (arith, mul_comm k n, mul_comm m n, mul-le-mul_left n within)
-
--- where there is room for more steps there is room for a row
-pub room_for_row : (n most steps len capacity : ℕ) → IsRoomy n most steps len capacity → steps < most → len + n ≤ capacity
-room_for_row n most steps len capacity h less = omega (arith, h.whole, h.room, rows-le n (suc steps) most (omega (arith, less)))
-
--- a row ends within the counts
-pub row_within : (n i k len : ℕ) → len ≡ k * n → i < k → i * n + n ≤ len
-row_within n i k len whole less = omega (arith, whole, rows-le n (suc i) k (omega (arith, less)))
-
--- a row more is within the room
-pub IsRoomy-more : (n most steps : ℕ) (xs row : List StepCounts) (capacity : ℕ) → IsRoomy n most steps (length xs) capacity → steps < most → length row ≡ n → IsRoomy n most (steps + 1) (length (xs ++ row)) capacity
-IsRoomy-more n most steps xs row capacity h less size = record {
-  whole = omega (arith, h.whole, size, length-append xs row);
-  within = omega (arith, less);
-  room = h.room;
-}
+-- what is known of rows
+pub ruleset row_facts = (length-in_rows, get_or-in_rows, in_rows-more, sum_by-in_rows)

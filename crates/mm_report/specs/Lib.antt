@@ -1,4 +1,3 @@
-pub mod Totals
 pub mod Report
 pub mod Text
 pub mod Cause

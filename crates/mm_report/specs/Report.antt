@@ -22,6 +22,15 @@ totals_of steps = record {
   held = sum_by (λ x. x.held) (last_of steps);
 }
 
+-- the sums of these counts
+abbrev pub totals_in : List StepCounts → Totals
+totals_in all = record {
+  arrived = sum_by (λ x. x.arrived) all;
+  lost = sum_by (λ x. x.lost) all;
+  dumped = sum_by (λ x. x.dumped) all;
+  held = sum_by (λ x. x.held) all;
+}
+
 -- k rows of n counts, which stand one after the other
 abbrev pub in_rows : ℕ → ℕ → List StepCounts → List (List StepCounts)
 in_rows n zero counts = []

@@ -1,6 +1,6 @@
 //! What a step brought to a store, and what steps brought in all.
-ghost use Rattle.std.specs.Prelude.{◌≡◌};
-ghost use Rattle.mm_report.specs.Totals.{totals_in, with_counts, HasRoom, IsOneMore};
+ghost use Rattle.std.specs.Prelude.{◌≡◌, ◌+◌, ◌^◌, ◌<◌};
+ghost use Rattle.mm_report.specs.Report.{totals_in};
 
 /// What a step of a run brought to a store, in blocks.
 #[derive(Clone, Copy, Debug, PartialEq, Eq)]
@@ -27,24 +27,17 @@ pub struct Totals {
     pub held: u128,
 }
 
-impl Totals {
-    // These sums, with the counts of one more store and step.
-    fn with(self, counts: StepCounts) -> Totals
-        requires room { HasRoom self }
-        ensures added { result ≡ with_counts self counts }
-        ensures grown { IsOneMore self result }
-    {
-        Totals {
-            arrived: self.arrived + u128::from(counts.arrived),
-            lost: self.lost + u128::from(counts.lost),
-            dumped: self.dumped + u128::from(counts.dumped),
-            held: self.held + u128::from(counts.held),
-        }
-    }
+// A sum and one number more, where there is room for it.
+fn more(sum: u128, number: u64) -> u128
+    requires { sum < 2 ^ 127 }
+    ensures sum { result ≡ sum + number }
+    ensures bound { result < sum + 2 ^ 64 }
+{
+    sum + u128::from(number)
 }
 
 // The sums of these counts.
-#[tactic(auto, using(crate::proofs::Sums::totals_more))]
+#[tactic(auto, using(std::proofs::lemmas::List::Sums::sum_by_more))]
 pub(crate) fn totals_in(all: &[StepCounts]) -> Totals
     ensures { result ≡ totals_in all.now }
 {
@@ -55,7 +48,12 @@ pub(crate) fn totals_in(all: &[StepCounts]) -> Totals
         held: 0,
     };
     for counts in all {
-        totals = totals.with(*counts);
+        totals = Totals {
+            arrived: more(totals.arrived, counts.arrived),
+            lost: more(totals.lost, counts.lost),
+            dumped: more(totals.dumped, counts.dumped),
+            held: more(totals.held, counts.held),
+        };
     }
     totals
 }

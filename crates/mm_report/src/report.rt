@@ -1,5 +1,5 @@
 //! The report of a run.
-ghost use Rattle.std.specs.Prelude.{◌≡◌, ◌==◌, ◌+◌, ◌-◌, ◌*◌, ◌<◌, ◌≤◌, ◌∷◌, ◌++◌, [], length, take, drop, slice_index_or, vec_len, vec_capacity, IfOk};
+ghost use Rattle.std.specs.Prelude.{◌≡◌, ◌==◌, ◌+◌, ◌-◌, ◌*◌, ◌<◌, ◌≤◌, ◌∷◌, ◌++◌, [], length, take, drop, slice_index_or, IfOk};
 ghost use Rattle.mm_base.specs.declared.limits.TheConstants.{MAX_STORES};
 ghost use Rattle.mm_report.specs.Report.{totals_of};
 ghost use Rattle.mm_report.specs.Text.{report_text};
@@ -36,29 +36,7 @@ impl Model for Report {
     ghost invariant = { λ r. IsRoomy (length r.ids.items) r.most r.steps (length r.counts.items) (vec_capacity r.counts) };
 }
 
-// Appends counts that there is room for.
-fn push_all(counts: &mut Vec<StepCounts>, row: &[StepCounts])
-    requires { vec_len counts.old + length row.now ≤ vec_capacity counts.old }
-    ensures items { counts.new.items ≡ counts.old.items ++ row.now }
-    ensures capacity { vec_capacity counts.new ≡ vec_capacity counts.old }
-{
-    let mut rest = row;
-    while let [first, more @ ..] = rest {
-        counts.push_reserved(*first);
-        rest = more;
-    }
-}
-
-// The row at this place, counted from 0, where rows of this many stores stand one after the other.
-fn row_at(counts: &[StepCounts], stores: usize, place: usize) -> &[StepCounts]
-    requires { place * stores + stores ≤ length counts.now }
-    ensures { result.now ≡ take stores (drop (place * stores) counts.now) }
-{
-    let (_, rest) = counts.split_at(place * stores);
-    let (row, _) = rest.split_at(stores);
-    row
-}
-
+#[tactic(auto, using(crate::proofs::Rows::row_facts))]
 impl Report {
     /// The report of a run before its first step, with room for this many steps of at most 16 stores.
     pub fn new(alloc: Global, ids: Vec<StoreId>, most: u32) -> Result<Report, NoMemory>
@@ -93,8 +71,10 @@ impl Report {
         requires room { length self.old.steps < self.old.most }
         ensures added { self.new ≡ record self.old { steps = self.old.steps ++ row.now ∷ [] } }
     {
-        push_all(&mut self.counts, row);
-        self.steps += 1;
+        // There is room, so that this is never refused.
+        if let Ok(()) = self.counts.extend_from_slice(row) {
+            self.steps += 1;
+        }
     }
 
     /// The identifiers of the stores.
@@ -125,8 +105,9 @@ impl Report {
         requires last { step ≤ length self.now.steps }
         ensures row { result.now ≡ slice_index_or self.now.steps (step - 1) [] }
     {
-        let stores = self.ids.as_slice().len();
-        row_at(self.counts.as_slice(), stores, step as usize - 1)
+        let stores = self.ids.len();
+        let place = (step as usize - 1) * stores;
+        &self.counts.as_slice()[place..place + stores]
     }
 
     /// What all steps brought to all stores; what is held is what they hold as the last step ends, and 0 before the

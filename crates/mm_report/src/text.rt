@@ -1,8 +1,10 @@
 //! The lines of a report.
+#![tactic(auto, using(std::proofs::Common::append_assoc))]
+
 ghost use Rattle.std.specs.Prelude.{◌≡◌, ◌++◌, ◌∷◌, [], codes, decimal, length, OnOk};
-ghost use Rattle.mm_base.specs.Characters.{line_feed, space};
+ghost use Rattle.mm_base.specs.Characters.{space};
 ghost use Rattle.mm_base.specs.Id.{id_text};
-ghost use Rattle.mm_report.specs.Text.{named_text, number_text, numbers_text, sums_of, step_line, differs_line, total_line, line_of, row_text, steps_text};
+ghost use Rattle.mm_report.specs.Text.{named_text, number_text, numbers_text, sums_of, total_line, line_of, row_text, steps_text};
 
 use crate::counts::{StepCounts, Totals};
 use crate::report::Report;
@@ -17,15 +19,7 @@ pub(crate) enum Listing {
     Differences,
 }
 
-// A cell of the table that a report is: a step and a store.
-#[derive(Clone, Copy)]
-struct Cell {
-    step: u32,
-    id: StoreId,
-}
-
 // ` N`
-#[tactic(auto, using(std::proofs::Common::append_assoc))]
 fn push_decimal(text: &mut Vec<u8>, number: u128) -> Result<(), AllocError>
     ensures { OnOk result (text.new.items ≡ text.old.items ++ space ∷ decimal number) }
 {
@@ -35,7 +29,6 @@ fn push_decimal(text: &mut Vec<u8>, number: u128) -> Result<(), AllocError>
 }
 
 // ` WORD N`
-#[tactic(auto, using(std::proofs::Common::append_assoc))]
 fn push_number(text: &mut Vec<u8>, word: &[u8], number: u128) -> Result<(), AllocError>
     ensures { OnOk result (text.new.items ≡ text.old.items ++ number_text word.now number) }
 {
@@ -45,18 +38,16 @@ fn push_number(text: &mut Vec<u8>, word: &[u8], number: u128) -> Result<(), Allo
 }
 
 // `WORD T ID`
-#[tactic(auto, using(std::proofs::Common::append_assoc))]
-fn push_named(text: &mut Vec<u8>, word: &[u8], cell: Cell) -> Result<(), AllocError>
-    ensures { OnOk result (text.new.items ≡ text.old.items ++ named_text word.now cell.step cell.id) }
+fn push_named(text: &mut Vec<u8>, word: &[u8], step: u32, id: StoreId) -> Result<(), AllocError>
+    ensures { OnOk result (text.new.items ≡ text.old.items ++ named_text word.now step id) }
 {
     text.extend_from_slice(word)?;
-    push_decimal(text, u128::from(cell.step))?;
+    push_decimal(text, u128::from(step))?;
     text.push(b' ')?;
-    text.extend_from_slice(cell.id.text())
+    text.extend_from_slice(id.text())
 }
 
 // What arrived, was lost, was dumped and is held, up to the end of the line.
-#[tactic(auto, using(std::proofs::Common::append_assoc))]
 fn push_numbers(text: &mut Vec<u8>, totals: Totals) -> Result<(), AllocError>
     ensures { OnOk result (text.new.items ≡ text.old.items ++ numbers_text totals) }
 {
@@ -80,38 +71,29 @@ fn sums_of(counts: StepCounts) -> Totals
     }
 }
 
-#[tactic(auto, using(std::proofs::Common::append_assoc))]
-fn push_step_line(text: &mut Vec<u8>, cell: Cell, counts: StepCounts) -> Result<(), AllocError>
-    ensures { OnOk result (text.new.items ≡ text.old.items ++ step_line cell.step cell.id counts) }
-{
-    push_named(text, b"step", cell)?;
-    push_numbers(text, sums_of(counts))
-}
-
-#[tactic(auto, using(std::proofs::Common::append_assoc))]
-fn push_differs_line(text: &mut Vec<u8>, cell: Cell, counts: StepCounts) -> Result<(), AllocError>
-    ensures { OnOk result (text.new.items ≡ text.old.items ++ differs_line cell.step cell.id counts) }
-{
-    push_named(text, b"differs step", cell)?;
-    push_number(text, b"forecast", u128::from(counts.forecast))?;
-    push_number(text, b"came", u128::from(counts.arrived))?;
-    text.push(b'\n')?;
-    Ok(())
-}
-
 // The line of a step and a store in this listing, if there is one.
 fn push_line(
     text: &mut Vec<u8>,
     listing: Listing,
-    at: Cell,
+    step: u32,
+    id: StoreId,
     counts: StepCounts,
 ) -> Result<(), AllocError>
-    ensures { OnOk result (text.new.items ≡ text.old.items ++ line_of listing at.step at.id counts) }
+    ensures { OnOk result (text.new.items ≡ text.old.items ++ line_of listing step id counts) }
 {
     match listing {
-        Listing::Numbers => push_step_line(text, at, counts),
+        Listing::Numbers => {
+            push_named(text, b"step", step, id)?;
+            push_numbers(text, sums_of(counts))
+        }
         Listing::Differences if counts.forecast == counts.arrived => Ok(()),
-        Listing::Differences => push_differs_line(text, at, counts),
+        Listing::Differences => {
+            push_named(text, b"differs step", step, id)?;
+            push_number(text, b"forecast", u128::from(counts.forecast))?;
+            push_number(text, b"came", u128::from(counts.arrived))?;
+            text.push(b'\n')?;
+            Ok(())
+        }
     }
 }
 
@@ -130,7 +112,7 @@ fn push_row(
         let [counts, more @ ..] = rest else {
             return Ok(());
         };
-        push_line(text, listing, Cell { step, id: *id }, *counts)?;
+        push_line(text, listing, step, *id, *counts)?;
         rest_ids = more_ids;
         rest = more;
     }
@@ -153,7 +135,6 @@ pub(crate) fn push_steps(
 }
 
 /// The last line.
-#[tactic(auto, using(std::proofs::Common::append_assoc))]
 pub(crate) fn push_total(text: &mut Vec<u8>, totals: Totals) -> Result<(), AllocError>
     ensures { OnOk result (text.new.items ≡ text.old.items ++ total_line totals) }
 {

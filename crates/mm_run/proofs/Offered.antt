@@ -3,31 +3,24 @@ use Rattle.std.proofs.Common.{◌≡◌, ℕ, ◌+◌, ◌≤◌, ◌^◌, List,
 use Rattle.std.specs.Prelude.{Option, Some, None}
 use Rattle.std.proofs.lemmas.List.Elements.{All-map}
 use Rattle.mm_base.specs.declared.rows.StoreRow.{StoreRow}
-use Rattle.mm_packet.specs.Packet.{SpacePacket}
+use Rattle.mm_run.specs.Types.{SpacePacket, Holdings, ScriptedSource}
 use Rattle.mm_desk.specs.declared.held.Held.{Held}
-use Rattle.mm_desk.specs.Machine.{State, offer}
-use Rattle.mm_memory.specs.Holdings.{Holdings, opened}
+use Rattle.mm_memory.specs.Holdings.{opened}
 use Rattle.mm_memory.specs.Recording.{after_offer, after_record, packet_for}
 use Rattle.mm_record.specs.Supplies.{Supply}
 use Rattle.mm_exec.specs.Course.{AreWithinLimits}
 use Rattle.mm_run.specs.Sources.{AreFew}
-use Rattle.mm_run.specs.declared.source.ScriptedSource.{ScriptedSource}
 use Rattle.mm_run.specs.declared.source.TheConstants.{MAX_PACKETS}
-use Rattle.mm_run.specs.Opening.{AreOffered, opened_with}
-use Rattle.mm_run.specs.Runs.{gives}
+use Rattle.mm_run.specs.Runs.{AreOffered, opened_with, gives}
 
 -- the stores of a setup were offered nothing
 pub none_offered : (rows : List StoreRow) → AreOffered 0 (map opened rows)
 none_offered rows = All-map (λ (h : Held). h.state.offered ≤ 0) opened rows (λ k d within. omega arith)
 
--- an offer is one packet more at most
-one_more : (s : State) (packet : SpacePacket) → (offer s 0 packet).1.offered ≤ s.offered + 1
-one_more s packet = grind arith
-
 -- a store that is offered one packet or none
-offered_one : (most : ℕ) (h : Held) (packet : Option SpacePacket) → h.state.offered ≤ most → (after_offer 0 h packet).state.offered ≤ most + 1
-offered_one most h (Some packet) few = omega (arith, few, one_more h.state packet)
-offered_one most h None few = omega (arith, few)
+offered_one : (h : Held) (packet : Option SpacePacket) → (after_offer 0 h packet).state.offered ≤ h.state.offered + 1
+offered_one h (Some packet) = grind arith
+offered_one h None = omega arith
 
 -- each packet is one more at most
 offered_all : (most : ℕ) (memory : Holdings) (packets : List SpacePacket) → AreOffered most memory.stores → AreOffered (most + length packets) (opened_with memory packets).stores
@@ -35,9 +28,8 @@ offered_all most memory [] few = λ k d within. omega (arith, few k d within)
 offered_all most memory (p ∷ ps) few =
     let offer_to : Held → Held = λ h. after_offer 0 h (packet_for memory.routes p h) in
     let once = All-map (λ (h : Held). h.state.offered ≤ most + 1) offer_to memory.stores
-    (λ k d within. let h = get_or memory.stores k d in offered_one most h (packet_for memory.routes p h) (few k d within)) in
-    let rest = offered_all (most + 1) (after_record 0 p memory) ps once in
-    λ k d within. omega (arith, rest k d within)
+    (λ k d within. let h = get_or memory.stores k d in omega (arith, few k d within, offered_one h (packet_for memory.routes p h))) in
+    λ k d within. omega (arith, offered_all (most + 1) (after_record 0 p memory) ps once k d within)
 
 -- a run of scripted sources over stores that were offered few packets is within the limits in which no store refuses one
 pub within_limits : (steps : ℕ) (memory : Holdings) (packets : List SpacePacket) (sources : List ScriptedSource) → length packets ≤ 2 ^ 63 → MAX_PACKETS ≡ 65535 → AreOffered 0 memory.stores

@@ -1,20 +1,19 @@
 -- What has been read of a text of sources so far.
 use Rattle.std.specs.Prelude.{◌≡◌, ◌≢◌, ℕ, ◌-◌, ◌≤◌, List, length, slice_index, Result, Ok, Err}
-use Rattle.mm_run.specs.declared.source_line.SourceLine.{SourceLine}
+use Rattle.mm_run.specs.Types.{ScriptFault, SourceLine}
 use Rattle.mm_report.specs.declared.cause.TheConstants.{MAX_SOURCES}
-use Rattle.mm_run.specs.declared.script_fault.ScriptFault.{ScriptFault}
 use Rattle.mm_run.specs.declared.script_fault.ScriptFault.TheVariants.{NoMemory}
-use Rattle.mm_run.specs.declared.sources.Draft.{Draft}
+use Rattle.mm_run.specs.declared.sources.SourceFile.{SourceFile}
 use Rattle.mm_run.specs.declared.source.TheConstants.{MAX_PACKETS}
-use Rattle.mm_run.specs.Sources.{AreFrom, packets_of}
+use Rattle.mm_run.specs.Sources.{AreFrom, given, packets_of}
 
--- a draft is of these lines, counts those of step 0 of each source, and of each source and step there are no more than there may be
-pub record IsRead (source_lines : List SourceLine) (draft : Draft) : Type 0 where
-  pub lines : AreFrom source_lines draft.opening.items draft.sources.items
-  pub opened : (s : ℕ) → 1 ≤ s → s ≤ MAX_SOURCES → slice_index draft.opened (s - 1) ≡ length (packets_of s 0 source_lines)
-  pub few : (s t : ℕ) → length (packets_of s t source_lines) ≤ MAX_PACKETS
+-- a file is of these lines, those of step 0 of each source are counted, and no source gives more in a step than there may be
+pub record IsRead (source_lines : List SourceLine) (file : SourceFile) (opened : List ℕ) : Type 0 where
+  pub lines : AreFrom source_lines file.opening.items file.sources.items
+  pub counted : (s : ℕ) → 1 ≤ s → s ≤ MAX_SOURCES → slice_index opened (s - 1) ≡ length (packets_of s 0 source_lines)
+  pub few : (s t : ℕ) → 1 ≤ s → length (given file.sources.items s t) ≤ MAX_PACKETS
 
--- a line was added to the draft, as this says; or it says that the line is refused, out of memory aside
-abbrev pub Adds : Result (List SourceLine) ScriptFault → Draft → Result (Unit {0}) ScriptFault → Type 0
-Adds given new (Ok u) = (source_lines : List SourceLine) × (given ≡ Ok source_lines) × IsRead source_lines new
-Adds given new (Err e) = e ≢ NoMemory → given ≡ Err e
+-- a line was added to the file, as this says; or it says that the line is refused, out of memory aside
+abbrev pub Adds : Result (List SourceLine) ScriptFault → SourceFile → List ℕ → Result (Unit {0}) ScriptFault → Type 0
+Adds said file opened (Ok u) = (source_lines : List SourceLine) × (said ≡ Ok source_lines) × IsRead source_lines file opened
+Adds said file opened (Err e) = e ≢ NoMemory → said ≡ Err e

@@ -1,10 +1,7 @@
 -- Which fault of the texts is told: the first, in the order setup, forecast, plan text, its shape, sources, links.
 use Rattle.std.specs.Prelude.{ℕ, List, Option, Some, None}
-use Rattle.mm_problem.specs.Dumping.{Dumping}
-use Rattle.mm_memory.specs.Holdings.{Holdings}
-use Rattle.mm_plan.specs.Sheet.{SheetRows}
+use Rattle.mm_run.specs.Types.{Dumping, SheetRows, Holdings, ScriptFault}
 use Rattle.mm_plan.specs.declared.fault.Fault.{Fault as PlanFault}
-use Rattle.mm_run.specs.declared.script_fault.ScriptFault.{ScriptFault}
 use Rattle.mm_run.specs.declared.fault.Fault.{Fault}
 use Rattle.mm_run.specs.declared.fault.Fault.TheVariants.{NoMemory, Problem, Plan, Script}
 use Rattle.mm_run.specs.Texts.{SaysProblemAndMemory, SaysStart, IsProblemFault, IsPlanTextFault, IsScriptFault}

@@ -1,7 +1,6 @@
+pub mod Types
 pub mod ScriptFault
 pub mod Words
-pub mod SourceLine
-pub mod Given
 pub mod Sources
 pub mod Drafts
 pub mod LinkView
@@ -9,7 +8,6 @@ pub mod Links
 pub mod Fault
 pub mod Texts
 pub mod Ending
-pub mod Opening
 pub mod Printed
 pub mod Runs
 pub mod Judging

@@ -3,11 +3,10 @@ use Rattle.std.specs.Prelude.{◌≡◌, ℕ, ◌+◌, ◌-◌, ◌≤◌, ◌==
 use Rattle.std.specs.Option.{ok_or}
 use Rattle.std.specs.Str.{bytes_eq}
 use Rattle.mm_base.specs.Reading.{◌>>=◌, test}
-use Rattle.mm_run.specs.declared.script_fault.ScriptFault.{ScriptFault}
+use Rattle.mm_run.specs.Types.{ScriptFault, ScriptedLink}
 use Rattle.mm_run.specs.declared.script_fault.ScriptFault.TheVariants.{LinksText}
-use Rattle.mm_run.specs.declared.link.ScriptedLink.{ScriptedLink}
-use Rattle.mm_run.specs.declared.links.Failing.{Failing}
-use Rattle.mm_run.specs.declared.links.TheConstants.{MAX_WRITTEN, MAX_SEND}
+use Rattle.mm_run.specs.declared.link.Failing.{Failing}
+use Rattle.mm_run.specs.declared.link.TheConstants.{MAX_WRITTEN, MAX_SEND}
 use Rattle.mm_run.specs.LinkView.{new_link}
 use Rattle.mm_base.specs.Lines.{file_lines, cut_word}
 use Rattle.mm_run.specs.Words.{number_in}

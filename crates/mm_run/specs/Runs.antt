@@ -1,24 +1,26 @@
 -- What a run from texts prints.
-use Rattle.std.specs.Prelude.{◌≡◌, ◌⊎◌, ℕ, List, [], map, slice_index_or, Option, Some, None}
-use Rattle.mm_problem.specs.Dumping.{Dumping}
-use Rattle.mm_packet.specs.Packet.{SpacePacket}
-use Rattle.mm_plan.specs.Sheet.{SheetRows}
+use Rattle.std.specs.Prelude.{◌≡◌, ◌⊎◌, ℕ, ◌≤◌, List, [], All, fold, map, slice_index_or, Option, Some, None}
+use Rattle.mm_run.specs.Types.{Dumping, SpacePacket, SheetRows, Holdings, Flown, FlyHalted, ScriptedSource, ScriptedLink}
 use Rattle.mm_plan.specs.Table.{Table}
-use Rattle.mm_memory.specs.Holdings.{Holdings}
+use Rattle.mm_desk.specs.declared.held.Held.{Held}
+use Rattle.mm_memory.specs.Recording.{after_record}
 use Rattle.mm_record.specs.Supplies.{Supply}
 use Rattle.mm_dump.specs.Sending.{Sent}
-use Rattle.mm_run.specs.declared.link.ScriptedLink.{ScriptedLink}
-use Rattle.mm_run.specs.declared.source.ScriptedSource.{ScriptedSource}
-use Rattle.mm_exec.specs.declared.run_end.Flown.{Flown}
-use Rattle.mm_exec.specs.declared.run_end.FlyHalted.{FlyHalted}
 use Rattle.mm_exec.specs.RunInput.{RunInput, run_input}
 use Rattle.mm_exec.specs.Step.{NeverRefused}
 use Rattle.mm_exec.specs.Ending.{IsCarriedOut, IsHalted}
 use Rattle.mm_exec.specs.Flying.{Flies, FliesNot, HasNoPlan}
 use Rattle.mm_run.specs.declared.printed.Printed.{Printed}
-use Rattle.mm_run.specs.Opening.{opened_with}
 use Rattle.mm_run.specs.Printed.{TellsAll, TellsEnd}
 use Rattle.mm_run.specs.Texts.{SaysStart, SaysSourcesAndLinks}
+
+-- packets are offered, in order, each to the stores of its report type
+abbrev pub opened_with : Holdings → List SpacePacket → Holdings
+opened_with memory packets = fold (λ m p. after_record 0 p m) memory packets
+
+-- each store was offered at most this many packets
+abbrev pub AreOffered : ℕ → List Held → Type 0
+AreOffered most stores = All (λ h. h.state.offered ≤ most) stores
 
 -- what a scripted source gives, what was sent over a scripted link, and how many of its sends failed
 abbrev pub gives : ScriptedSource → Supply

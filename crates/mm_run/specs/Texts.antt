@@ -1,24 +1,18 @@
 -- What the texts of a run say.
 use Rattle.std.specs.Prelude.{◌≡◌, ◌⊎◌, ℕ, List, Ok, Err, Option, Some, None}
 use Rattle.mm_problem.specs.Document.{setup_of}
-use Rattle.mm_problem.specs.Dumping.{Dumping}
+use Rattle.mm_run.specs.Types.{Dumping, SpacePacket, SheetRows, Holdings, ScriptFault, SourceLine, ScriptedSource, ScriptedLink}
 use Rattle.mm_problem.specs.Forecast.{problem_of}
 use Rattle.mm_problem.specs.Setup.{SetupRows}
 use Rattle.mm_problem.specs.declared.fault.Fault.{Fault as ProblemFault}
 use Rattle.mm_problem.specs.declared.fault.Fault.TheVariants as problem
-use Rattle.mm_packet.specs.Packet.{SpacePacket}
 use Rattle.mm_problem.specs.Texts.{problem_in}
-use Rattle.mm_plan.specs.Sheet.{SheetRows}
 use Rattle.mm_plan.specs.declared.fault.Fault.{Fault as PlanFault}
 use Rattle.mm_cut.specs.Checking.{SaysSheet, IsPlanFault}
-use Rattle.mm_memory.specs.Holdings.{Holdings, memory_of}
+use Rattle.mm_memory.specs.Holdings.{memory_of}
 use Rattle.mm_run.specs.Links.{linked_of, SaysLinks}
 use Rattle.mm_run.specs.Sources.{source_lines_of, Says}
-use Rattle.mm_run.specs.declared.source_line.SourceLine.{SourceLine}
-use Rattle.mm_run.specs.declared.script_fault.ScriptFault.{ScriptFault}
 use Rattle.mm_run.specs.declared.script_fault.ScriptFault.TheVariants as script
-use Rattle.mm_run.specs.declared.link.ScriptedLink.{ScriptedLink}
-use Rattle.mm_run.specs.declared.source.ScriptedSource.{ScriptedSource}
 
 -- the setup and the forecast say this problem, and this memory is the setup's
 pub record SaysProblemAndMemory (setup forecast : List ℕ) (problem : Dumping) (memory : Holdings) : Type 0 where

@@ -2,7 +2,7 @@
 ghost use Rattle.std.specs.Prelude.{◌≡◌};
 ghost use Rattle.mm_report.specs.declared.cause.TheConstants.{MAX_SOURCES};
 ghost use Rattle.mm_run.specs.declared.source.TheConstants.{MAX_PACKETS};
-ghost use Rattle.mm_run.specs.declared.links.TheConstants.{MAX_WRITTEN, MAX_SEND};
+ghost use Rattle.mm_run.specs.declared.link.TheConstants.{MAX_WRITTEN, MAX_SEND};
 
 /// The greatest number of a source, the most packets of a source in a step, the most links that a text says, and the
 /// greatest number of a send.

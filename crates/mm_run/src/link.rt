@@ -1,10 +1,17 @@
-//! Links that fail where the lines say so.
-ghost use Rattle.std.specs.Prelude.{◌≡◌, ◌+◌, ◌-◌, ◌^◌, ◌<◌, ◌==◌, ◌∷◌, ◌++◌, [], length, is_err, IfOk, OnOk, OnErr};
-ghost use Rattle.mm_run.specs.declared.link.TheConstants.{MAX_SENT};
+//! Links that fail where the lines of a text say so.
+ghost use Rattle.std.specs.Prelude.{◌≡◌, ◌+◌, ◌-◌, ◌^◌, ◌<◌, ◌≤◌, ◌==◌, ◌∷◌, ◌++◌, [], length, is_err, All, IfOk, OnOk, OnErr};
 ghost use Rattle.std.specs.List.{list_any};
-ghost use Rattle.mm_run.specs.LinkView.{new_link, fails_next};
+ghost use Rattle.std.proofs.Math.ListN.{replicate};
+ghost use Rattle.mm_base.specs.Lines.{file_lines};
+ghost use Rattle.mm_base.specs.Reading.{IfRefused};
 ghost use Rattle.mm_dump.specs.Sending.{sent_at};
+ghost use Rattle.mm_run.specs.declared.link.TheConstants.{MAX_SENT};
+ghost use Rattle.mm_run.specs.LinkView.{new_link, fails_next};
+ghost use Rattle.mm_run.specs.Links.{count_at, failing_at, with_failing, linked_of, AreLinked, AreFailing, SaysLinks};
 
+use crate::script_fault::ScriptFault;
+use crate::words::number_in;
+use mm_base::lines::{cut_word, first_line};
 use mm_base::{NoMemory, StoreId};
 use mm_dump::{Link, SendFailed};
 use mm_packet::BlockPacket;
@@ -14,6 +21,12 @@ use std::snapshot::Snapshot;
 
 /// The most packets that a link takes: so many values without bytes a list can have.
 pub const MAX_SENT: usize = 0x7fff_ffff_ffff_ffff;
+
+/// The greatest number of links that a text can say: one of two digits. A run takes fewer.
+pub const MAX_WRITTEN: u8 = 99;
+
+/// The greatest number of a send that a text can say.
+pub const MAX_SEND: u32 = u32::MAX;
 
 // A packet that was sent, for contracts alone: it has no bytes, and neither has a list of such.
 #[derive(Drop)]
@@ -112,4 +125,92 @@ impl Link for ScriptedLink {
     fn failures(&self) -> u64 {
         self.failed
     }
+}
+
+/// A send that fails: what a line says.
+#[derive(Clone, Copy, Debug, PartialEq, Eq)]
+pub struct Failing {
+    /// The number of the link, counted from 1.
+    pub link: u8,
+    /// Which of its sends it is, counted from 1, those that failed too.
+    pub send: u32,
+}
+
+/// The number of links that a line `links N` says.
+#[tactic(auto, unfolding(crate::specs::Links::count_at))]
+fn count_at(bad: ScriptFault, line: &[u8]) -> Result<u8, ScriptFault>
+    ensures count { result ≡ count_at bad line.now }
+    ensures most { IfOk result (λ n. n ≤ MAX_WRITTEN) }
+{
+    let (word, number) = cut_word(line).ok_or(bad)?;
+    if word != b"links".as_slice() {
+        return Err(bad);
+    }
+    let count = number_in(bad, 0, u64::from(MAX_WRITTEN), number)?;
+    Ok(count as u8)
+}
+
+/// What a line `fail LINK SEND` says.
+#[tactic(auto, unfolding(crate::specs::Links::failing_at))]
+fn failing_at(bad: ScriptFault, count: u8, line: &[u8]) -> Result<Failing, ScriptFault>
+    ensures failing { result ≡ failing_at bad count line.now }
+    ensures first { IfOk result (λ f. 1 ≤ f.link) }
+    ensures last { IfOk result (λ f. f.link ≤ count) }
+{
+    let (word, rest) = cut_word(line).ok_or(bad)?;
+    if word != b"fail".as_slice() {
+        return Err(bad);
+    }
+    let (link, send) = cut_word(rest).ok_or(bad)?;
+    let link = number_in(bad, 1, u64::from(count), link)?;
+    let send = number_in(bad, 1, u64::from(MAX_SEND), send)?;
+    Ok(Failing {
+        link: link as u8,
+        send: send as u32,
+    })
+}
+
+// This many links that do not fail.
+fn new_links(alloc: Global, count: u8) -> Result<Vec<ScriptedLink>, NoMemory>
+    ensures { IfOk result (λ links. links.items ≡ replicate count new_link) }
+{
+    let mut links = Vec::new(alloc);
+    for _ in 0..count {
+        links.push(ScriptedLink::new(alloc)?)?;
+    }
+    Ok(links)
+}
+
+// Lets the sends fail that the lines say, of which the first is line 2.
+fn fail_all(links: &mut Vec<ScriptedLink>, count: u8, text: &[u8]) -> Result<(), ScriptFault>
+    requires { AreLinked (record { count = count; failing = [] }) links.old.items }
+    ensures failing { OnOk result (AreFailing count text.now links.new.items) }
+    ensures refused { IfRefused ScriptFault.NoMemory result (λ e. with_failing count 2 [] (file_lines text.now) ≡ Err e) }
+{
+    let mut rest = text;
+    let mut line: u64 = 2;
+    while let Some((front, after)) = first_line(rest) {
+        let failing = failing_at(ScriptFault::LinksText { line }, count, front)?;
+        links[usize::from(failing.link) - 1].fail(failing.send)?;
+        rest = after;
+        line += 1;
+    }
+    Ok(())
+}
+
+/// The links that a text says: `links N` in its first line, and then lines `fail LINK SEND`. Otherwise `LinksText`
+/// with the first line, from 1, that is of another form, or that names a link that is not there.
+#[tactic(auto, unfolding(crate::specs::Links::linked_of))]
+pub fn read_links(alloc: Global, text: &[u8]) -> Result<Vec<ScriptedLink>, ScriptFault>
+    ensures found { IfOk result (λ links. SaysLinks text.now links.items) }
+    ensures unfailed { IfOk result (λ links. All (λ l. l.failed ≡ 0) links.items) }
+    ensures refused { IfRefused ScriptFault.NoMemory result (λ e. linked_of text.now ≡ Err e) }
+{
+    let Some((first, rest)) = first_line(text) else {
+        return Err(ScriptFault::LinksText { line: 1 });
+    };
+    let count = count_at(ScriptFault::LinksText { line: 1 }, first)?;
+    let mut links = new_links(alloc, count)?;
+    fail_all(&mut links, count, rest)?;
+    Ok(links)
 }

@@ -1,12 +1,13 @@
 //! What a run prints.
-ghost use Rattle.std.specs.Prelude.{◌≡◌, [], IfOk};
+ghost use Rattle.std.specs.Prelude.{◌≡◌, ◌++◌, [], IfOk, OnOk};
+ghost use Rattle.mm_run.specs.Ending.{field_text, step_of, halted_line, end_line, lacking_line};
 ghost use Rattle.mm_run.specs.Printed.{TellsReport};
 
-use crate::ending::{push_end, push_lacking, step_of};
 use crate::untaken::Untaken;
-use mm_base::NoMemory;
+use mm_base::{NoMemory, Refusal, Refused};
 use mm_report::{Cause, Report};
 use std::alloc::Global;
+use std::io::{self, Write};
 
 /// Whether a run was carried out whole and its report printed.
 #[derive(Clone, Copy, Debug, PartialEq, Eq)]
@@ -46,6 +47,69 @@ pub struct Printed {
 
 // The longest of the lines that are printed where there is no memory any more have fewer octets.
 const LINE: usize = 64;
+
+// The step in which a run was halted, 0 before the first; nothing where it did not begin.
+fn step_of(cause: &Cause) -> Option<u32>
+    ensures { result ≡ step_of cause.now }
+{
+    match *cause {
+        Cause::NoMemory { step } | Cause::LinkFailed { step } | Cause::LogMismatch { step } => {
+            Some(step)
+        }
+        _ => None,
+    }
+}
+
+// The store or the step that a refusal names.
+fn push_field(text: &mut Vec<u8>, cause: &Cause) -> io::Result<()>
+    ensures { OnOk result (text.new.items ≡ text.old.items ++ field_text cause.now) }
+{
+    match *cause {
+        Cause::NotReady { store }
+        | Cause::SizeDiffers { store }
+        | Cause::OpeningDiffers { store }
+        | Cause::ChannelDiffers { store } => {
+            text.write_all(b" store ")?;
+            text.write_all(store.text())
+        }
+        Cause::PlanDoesNotFit { step } => write!(text, " step {step}"),
+        _ => Ok(()),
+    }
+}
+
+#[tactic(auto, using(std::proofs::Common::append_assoc))]
+fn push_halted(text: &mut Vec<u8>, step: u32, cause: &Cause) -> io::Result<()>
+    ensures { OnOk result (text.new.items ≡ text.old.items ++ halted_line step cause.now) }
+{
+    let refusal = cause.refusal();
+    let (number, name) = (refusal.number(), refusal.name());
+    write!(text, "halted step {step}")?;
+    write!(text, " {number} {name}")?;
+    text.write_all(b"\n")
+}
+
+// The line on why a run did not begin, or was halted.
+#[tactic(auto, using(std::proofs::Common::append_assoc))]
+fn push_end(text: &mut Vec<u8>, cause: &Cause) -> io::Result<()>
+    ensures { OnOk result (text.new.items ≡ text.old.items ++ end_line cause.now) }
+{
+    let Some(step) = step_of(cause) else {
+        let refusal = cause.refusal();
+        write!(text, "refused {} {}", refusal.number(), refusal.name())?;
+        push_field(text, cause)?;
+        return text.write_all(b"\n");
+    };
+    push_halted(text, step, cause)
+}
+
+// The line that stands for a text for which there is no memory.
+#[tactic(auto, using(std::proofs::Common::append_assoc))]
+fn push_lacking(text: &mut Vec<u8>) -> io::Result<()>
+    ensures { OnOk result (text.new.items ≡ text.old.items ++ lacking_line) }
+{
+    let refusal = Refusal::NoMemory;
+    writeln!(text, "refused {} {}", refusal.number(), refusal.name())
+}
 
 // Writes the report's text, or where there is no memory for it the line that stands for it.
 fn write_report(text: &mut Vec<u8>, alloc: Global, report: &Report) -> Result<Outcome, NoMemory>

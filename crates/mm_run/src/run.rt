@@ -1,18 +1,17 @@
 //! A run from texts to what is printed: of the plan of a text, or of one that is made.
-ghost use Rattle.std.specs.Prelude.{◌<◌, ◌-◌, ◌^◌, All, length, map, IfOk, IfErr};
+ghost use Rattle.std.specs.Prelude.{◌≡◌, ◌<◌, ◌-◌, ◌^◌, All, length, IfOk, IfErr, OnOk};
 ghost use Rattle.std.specs.Option.{option_copied};
 ghost use Rattle.mm_base.specs.Reading.{IfRefused};
 ghost use Rattle.mm_exec.specs.Course.{AreWithinLimits};
 ghost use Rattle.mm_exec.specs.Step.{NeverRefused};
+ghost use Rattle.mm_record.specs.Supplies.{WhateverComes};
 ghost use Rattle.mm_run.specs.Judging.{IsFirstFault, IsRunFault, IsFlyFault};
 ghost use Rattle.mm_run.specs.Sources.{AreFew};
-ghost use Rattle.mm_run.specs.Opening.{opened_with, AreOffered};
-ghost use Rattle.mm_run.specs.Runs.{gives, IsFlown, IsNotFlown, RunEnds, PrintsRun, Runs, FliesBy};
+ghost use Rattle.mm_run.specs.Runs.{opened_with, AreOffered, gives, IsFlown, IsNotFlown, RunEnds, PrintsRun, Runs, FliesBy};
 
 use crate::fault::Fault;
 use crate::laws::constants_are;
 use crate::link::ScriptedLink;
-use crate::opening::offer_all;
 use crate::printed::{Given, Printed};
 use crate::source::ScriptedSource;
 use crate::texts::{
@@ -22,12 +21,23 @@ use crate::texts::{
 use mm_base::NoMemory;
 use mm_exec::{Flown, FlyHalted, FlyResult, carry_out, fly};
 use mm_memory::Memory;
+use mm_packet::BlockPacket;
 use mm_plan::Sheet;
 use mm_problem::Problem;
 use mm_report::Cause;
 use std::alloc::Global;
 use std::sync::Wait;
 use std::thread::Threads;
+
+// Offers packets at the moment 0, in order, each to the stores of its report type.
+fn offer_all(alloc: Global, memory: &mut Memory, packets: &[BlockPacket]) -> Result<(), NoMemory>
+    ensures { OnOk result (memory.new ≡ opened_with memory.old packets.now) }
+{
+    for packet in packets {
+        memory.record(alloc, 0, packet)?;
+    }
+    Ok(())
+}
 
 // Carries out the plan of the sheet, of which no text is printed, or without one makes a plan, prints it and carries it out.
 fn fly_plan<R: Threads + Wait + Sync>(
@@ -42,7 +52,8 @@ fn fly_plan<R: Threads + Wait + Sync>(
     requires links { All (λ l. l.failed < 2 ^ 64 - 1) links.items }
     ensures flown { IfOk result (IsFlown sheet problem.now memory.old sources.items links.items memory.new) }
     ensures not_flown { IfErr result (IsNotFlown sheet problem.now memory.old sources.items links.items memory.new) }
-    ensures far { AreWithinLimits (length problem.now.windows) memory.old.stores (map gives sources.items) → IfErr result (λ ended. NeverRefused ended.halted.cause) }
+    ensures far { IfErr result (λ ended. WhateverComes (λ _ _. Unit {0}) (λ s _. gives s) sources.items ended.halted.sources.items
+        (λ given left. AreWithinLimits (length problem.now.windows) memory.old.stores given → NeverRefused ended.halted.cause)) }
 {
     let Some(sheet) = sheet else {
         return fly(rt, alloc, memory, problem, sources, links, 0);
@@ -72,7 +83,7 @@ fn offered_for(memory: &Memory, cause: &Cause) -> u64 {
 fn carry<R: Threads + Wait + Sync>(
     rt: &R,
     alloc: Global,
-    start: ProblemAndMemory,
+    mut start: ProblemAndMemory,
     sheet: Option<Sheet>,
     sides: SourcesAndLinks,
 ) -> Result<Printed, NoMemory>
@@ -81,10 +92,6 @@ fn carry<R: Threads + Wait + Sync>(
     requires unfailed { All (λ l. l.failed < 2 ^ 64 - 1) sides.links.items }
     ensures { IfOk result (RunEnds sheet start.problem (opened_with start.memory sides.opening.items) sides.sources.items sides.links.items) }
 {
-    let ProblemAndMemory {
-        problem,
-        mut memory,
-    } = start;
     let SourcesAndLinks {
         opening,
         sources,
@@ -92,7 +99,8 @@ fn carry<R: Threads + Wait + Sync>(
         untaken,
     } = sides;
     constants_are();
-    offer_all(alloc, &mut memory, opening.as_slice())?;
+    let memory = &mut start.memory;
+    offer_all(alloc, memory, opening.as_slice())?;
     let given = Given {
         sources: sources.len(),
         links: links.len(),
@@ -100,10 +108,10 @@ fn carry<R: Threads + Wait + Sync>(
         untaken,
     };
     let mut printed = Printed::reserved(alloc, given)?;
-    match fly_plan(rt, alloc, &mut memory, &problem, sheet, sources, links) {
+    match fly_plan(rt, alloc, memory, &start.problem, sheet, sources, links) {
         Ok(Flown { sheet, report, .. }) => printed.whole(alloc, sheet, &report),
         Err(FlyHalted { sheet, halted }) => {
-            printed.given.opening = offered_for(&memory, &halted.cause);
+            printed.given.opening = offered_for(memory, &halted.cause);
             printed.stopped(alloc, sheet, &halted.cause, &halted.report)
         }
     }

@@ -1,10 +1,8 @@
 //! Sources that give what the lines say.
-ghost use Rattle.std.specs.Prelude.{◌≡◌, ◌≢◌, ◌<◌, ◌≤◌, ◌∷◌, ◌++◌, [], length, slice_index_or, slice_set, IfOk, IfErr, IfNone, OnOk};
+ghost use Rattle.std.specs.Prelude.{◌≡◌, ℕ, ◌<◌, ◌≤◌, ◌∷◌, ◌++◌, [], length, slice_index_or, slice_set, IfOk, IfNone, OnOk};
 ghost use Rattle.std.specs.Option.{option_to_list};
 ghost use Rattle.mm_base.specs.declared.limits.TheConstants.{MAX_STEPS};
-ghost use Rattle.mm_run.specs.Given.{nothing_given};
 
-use crate::script_fault::ScriptFault;
 use mm_base::{MAX_STEPS, NoMemory};
 use mm_packet::BlockPacket;
 use mm_record::Source;
@@ -34,32 +32,18 @@ impl Model for Queue {
 }
 
 impl Queue {
-    fn new(alloc: Global) -> Queue
-        ensures { result ≡ [] }
-    {
-        Queue {
-            packets: VecDeque::new(alloc),
-        }
-    }
-
     fn len(&self) -> u32
         ensures { result ≡ length self.now }
     {
         self.packets.len() as u32
     }
 
-    // Adds a packet, where there is room for it.
-    fn push(&mut self, bad: ScriptFault, packet: BlockPacket) -> Result<(), ScriptFault>
-        ensures room { OnOk result (length self.old < MAX_PACKETS) }
-        ensures packet { OnOk result (self.new ≡ self.old ++ packet ∷ []) }
-        ensures full { IfErr result (λ e. e ≢ ScriptFault.NoMemory → (e ≡ bad) × (MAX_PACKETS ≤ length self.old)) }
+    // Adds a packet, for which there is room.
+    fn push(&mut self, packet: BlockPacket) -> Result<(), NoMemory>
+        requires { length self.old < MAX_PACKETS }
+        ensures { OnOk result (self.new ≡ self.old ++ packet ∷ []) }
     {
-        if self.len() >= MAX_PACKETS {
-            return Err(bad);
-        }
-        let Ok(()) = self.packets.push_back(packet) else {
-            return Err(ScriptFault::NoMemory);
-        };
+        self.packets.push_back(packet)?;
         Ok(())
     }
 
@@ -92,33 +76,26 @@ impl Model for ScriptedSource {
 
 impl ScriptedSource {
     /// A source that gives nothing.
-    #[tactic(auto, unfolding(crate::specs::Given::nothing_given))]
     pub(crate) fn new(alloc: Global) -> Result<ScriptedSource, NoMemory>
-        ensures { IfOk result (λ source. source ≡ nothing_given) }
+        ensures { IfOk result (λ source. (t : ℕ) → slice_index_or source t [] ≡ []) }
     {
         let mut steps = Vec::new(alloc);
         for _ in 0..MAX_STEPS + 1 {
-            steps.push(Queue::new(alloc))?;
+            let packets = VecDeque::new(alloc);
+            steps.push(Queue { packets })?;
         }
         Ok(ScriptedSource { steps })
     }
 
-    /// Adds a packet after those of a step, where there is room for it.
-    pub(crate) fn add(
-        &mut self,
-        bad: ScriptFault,
-        step: u32,
-        packet: BlockPacket,
-    ) -> Result<(), ScriptFault>
-        requires { step ≤ MAX_STEPS }
-        ensures step { OnOk result (step < length self.old) }
-        ensures room { OnOk result (length (slice_index_or self.old step []) < MAX_PACKETS) }
+    /// Adds a packet after those of a step, which has room for it.
+    pub(crate) fn add(&mut self, step: u32, packet: BlockPacket) -> Result<(), NoMemory>
+        requires step { step ≤ MAX_STEPS }
+        requires room { length (slice_index_or self.old step []) < MAX_PACKETS }
+        ensures step { step < length self.old }
         ensures packet { OnOk result (self.new
             ≡ slice_set self.old step (slice_index_or self.old step [] ++ packet ∷ [])) }
-        ensures full { IfErr result (λ e. e ≢ ScriptFault.NoMemory
-            → (e ≡ bad) × (MAX_PACKETS ≤ length (slice_index_or self.old step []))) }
     {
-        self.steps[step as usize].push(bad, packet)
+        self.steps[step as usize].push(packet)
     }
 }
 
@@ -128,18 +105,10 @@ impl Source for ScriptedSource {
     ghost gives = { λ source step. slice_index_or source step [] };
 
     fn left(&self, step: u32) -> u32 {
-        if step <= MAX_STEPS {
-            self.steps[step as usize].len()
-        } else {
-            0
-        }
+        self.steps.get(step as usize).map_or(0, Queue::len)
     }
 
     fn next(&mut self, step: u32) -> Option<BlockPacket> {
-        if step <= MAX_STEPS {
-            self.steps[step as usize].pop()
-        } else {
-            None
-        }
+        self.steps.get_mut(step as usize)?.pop()
     }
 }

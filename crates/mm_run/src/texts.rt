@@ -6,11 +6,10 @@ ghost use Rattle.mm_problem.specs.declared.fault.Fault.TheVariants as problem;
 ghost use Rattle.mm_plan.specs.declared.fault.Fault.TheVariants as plan_fault;
 ghost use Rattle.mm_run.specs.Sources.{AreFew};
 ghost use Rattle.mm_run.specs.declared.script_fault.ScriptFault.TheVariants as script;
-ghost use Rattle.mm_run.specs.Opening.{AreOffered};
+ghost use Rattle.mm_run.specs.Runs.{AreOffered};
 ghost use Rattle.mm_run.specs.Texts.{SaysProblemAndMemory, SaysPlan, SaysSourcesAndLinks, IsProblemFault, IsPlanTextFault, IsScriptFault};
 
-use crate::link::ScriptedLink;
-use crate::links::read_links;
+use crate::link::{ScriptedLink, read_links};
 use crate::script_fault::ScriptFault;
 use crate::source::ScriptedSource;
 use crate::sources::SourceFile;
@@ -49,7 +48,7 @@ pub(crate) struct SourcesAndLinks {
 }
 
 /// Reads the setup and the forecast. Otherwise the first fault, of the setup and then of the forecast.
-#[tactic(auto, unfolding(mm_problem::specs::Texts::problem_in))]
+#[tactic(auto, using(crate::proofs::Offered::none_offered), unfolding(mm_problem::specs::Texts::problem_in))]
 pub(crate) fn read_problem_and_memory(
     alloc: Global,
     setup: &[u8],

@@ -20,12 +20,6 @@ pub(crate) struct Unrouted<'a> {
     pub(crate) first: Option<Untaken>,
 }
 
-// Whether a packet is telemetry that no route of the memory takes.
-fn is_untaken(memory: &Memory, packet: &Packet) -> bool {
-    let (apid, service, subtype) = (packet.apid(), packet.service(), packet.subtype());
-    !packet.is_telecommand() && memory.control().rows_for(apid, service, subtype).is_empty()
-}
-
 impl<'a> Unrouted<'a> {
     pub(crate) fn new(memory: Option<&'a Memory>) -> Unrouted<'a> {
         Unrouted {
@@ -39,12 +33,14 @@ impl<'a> Unrouted<'a> {
         let (Some(memory), None) = (self.memory, self.first) else {
             return;
         };
-        if is_untaken(memory, packet) {
+        let (apid, service, subtype) = (packet.apid(), packet.service(), packet.subtype());
+        let control = memory.control();
+        if !packet.is_telecommand() && control.rows_for(apid, service, subtype).is_empty() {
             self.first = Some(Untaken {
                 line,
-                apid: packet.apid(),
-                service: packet.service(),
-                subtype: packet.subtype(),
+                apid,
+                service,
+                subtype,
             });
         }
     }

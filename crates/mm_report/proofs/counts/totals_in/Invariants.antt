@@ -1,5 +1,5 @@
 use Rattle.std.proofs.Common.{◌≡◌, ◌*◌, ◌^◌, ◌≤◌, take}
-use Rattle.mm_report.specs.Totals.{totals_in}
+use Rattle.mm_report.specs.Report.{totals_in}
 use Rattle.mm_report.proofs.counts.totals_in.Given as goal
 
 -- each sum has room for as many counts as there may be

@@ -1,15 +1,10 @@
-use Rattle.std.proofs.Common.{length, inl, inr}
+use Rattle.std.proofs.Common.{inl, inr}
 use Rattle.std.proofs.lemmas.Result.{IfOk-weaker, IfErr-weaker}
 use Rattle.mm_record.proofs.Supplying.{as_known}
 use Rattle.mm_exec.specs.RunInput.{run_input}
-use Rattle.mm_exec.specs.declared.run_end.Flown.{Flown}
-use Rattle.mm_exec.specs.declared.run_end.FlyHalted.{FlyHalted}
-use Rattle.mm_exec.specs.Course.{AreWithinLimits}
+use Rattle.mm_run.specs.Types.{Flown, FlyHalted, ScriptedSource, ScriptedLink}
 use Rattle.mm_exec.specs.Ending.{IsCarriedOut, IsHalted}
 use Rattle.mm_exec.specs.Flying.{Flies, FliesNot}
-use Rattle.mm_exec.specs.Step.{NeverRefused}
-use Rattle.mm_run.specs.declared.link.ScriptedLink.{ScriptedLink}
-use Rattle.mm_run.specs.declared.source.ScriptedSource.{ScriptedSource}
 use Rattle.mm_run.specs.Runs.{gives, sent, failed, IsFlown, IsNotFlown}
 use Rattle.mm_run.proofs.run.fly_plan.Goals as goal
 
@@ -30,12 +25,6 @@ returns-in_default-clause-not_flown g c = rw c.in_default.is (IfErr-weaker c.fly
     ])
     c.fly.ensures.not_flown)
 
-pub returns-in_default-clause-far : goal.returns-in_default-clause-far
-returns-in_default-clause-far g c = λ limits. IfErr-weaker c.fly.result _ _
-    (λ (ended : FlyHalted ScriptedSource ScriptedLink) comes. as_known gives c.args.sources.items ended.halted.sources.items
-    (λ given rest. AreWithinLimits (length c.args.problem.now.windows) c.args.memory.now.stores given → NeverRefused ended.halted.cause) comes limits)
-    c.fly.ensures.far
-
 pub returns-in-Ok-clause-flown : goal.returns-in-Ok-clause-flown
 unfolding IsFlown
 returns-in-Ok-clause-flown g c = rw (c.in-Some.is, c.with_sheet.ensures, ← c.plan.ensures) (
@@ -55,7 +44,3 @@ returns-clause-not_flown g c = rw (c.in-Some.is, ← c.plan.ensures) (
       c.carry_out.new.memory c.in-Err.halted rest)
       c.in-Err.ensures.halted,
 )
-
-pub returns-clause-far : goal.returns-clause-far
-returns-clause-far g c = as_known gives c.args.sources.items c.in-Err.halted.sources.items
-    (λ given rest. AreWithinLimits (length c.args.problem.now.windows) c.args.memory.now.stores given → NeverRefused c.in-Err.halted.cause) c.in-Err.ensures.far

@@ -1,6 +1,7 @@
-use Rattle.std.proofs.Common.{[], arith, refl, rules}
+use Rattle.std.proofs.Common.{◌≡◌, ℕ, ◌+◌, ◌-◌, ◌≤◌, [], length, get_or, arith, refl, rules}
+use Rattle.std.proofs.lemmas.List.Elements.{All-from_get_or}
+use Rattle.mm_run.specs.declared.source.TheConstants.{MAX_PACKETS}
 use Rattle.mm_run.specs.Sources.{source_lines_of}
-use Rattle.mm_run.proofs.DraftLemmas.{few_given}
 use Rattle.mm_run.proofs.sources.SourceFile.read_noting.Goals as goal
 
 pub loop-front-init : goal.loop-front-init
@@ -8,4 +9,6 @@ unfolding source_lines_of
 loop-front-init c = record { line = omega arith; earlier = []; read = search rules; lines = refl }
 
 pub returns-clause-few : goal.returns-clause-few
-returns-clause-few c = few_given c.loop-front.invariant.earlier c.loop-front.draft c.loop-front.invariant.read
+returns-clause-few c = All-from_get_or (λ source. (t : ℕ) → length (get_or source t []) ≤ MAX_PACKETS) c.loop-front.file.sources.items [] (λ i within t.
+    let here : i + 1 - 1 ≡ i = omega arith in
+    rw here at (c.loop-front.invariant.read.few (i + 1) t (omega arith)))

@@ -1,5 +1,5 @@
 use Rattle.std.proofs.Common.{◌≡◌, ◌+◌, ◌≤◌, List, length}
-use Rattle.mm_run.specs.declared.source_line.SourceLine.{SourceLine}
+use Rattle.mm_run.specs.declared.sources.SourceLine.{SourceLine}
 use Rattle.mm_base.specs.Lines.{file_lines}
 use Rattle.mm_run.specs.Sources.{with_lines, source_lines_of}
 use Rattle.mm_run.specs.Drafts.{IsRead}
@@ -9,7 +9,7 @@ abbrev pub invariant-loop-front : goal.invariant-loop-front
 invariant-loop-front l = record {
   line : l.line + length l.rest ≤ 1 + length l.text;
   earlier : List SourceLine;
-  read : IsRead earlier l.draft;
+  read : IsRead earlier l.file l.opened;
   lines : with_lines l.line earlier (file_lines l.rest) ≡ source_lines_of l.text;
 }
 

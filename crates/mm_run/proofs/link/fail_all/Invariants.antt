@@ -1,8 +1,8 @@
 use Rattle.std.proofs.Common.{◌≡◌, ◌+◌, ◌≤◌, [], List, length}
-use Rattle.mm_run.specs.declared.links.Failing.{Failing}
+use Rattle.mm_run.specs.declared.link.Failing.{Failing}
 use Rattle.mm_base.specs.Lines.{file_lines}
 use Rattle.mm_run.specs.Links.{AreLinked, with_failing}
-use Rattle.mm_run.proofs.links.fail_all.Given as goal
+use Rattle.mm_run.proofs.link.fail_all.Given as goal
 
 abbrev pub invariant-loop-front : goal.invariant-loop-front
 invariant-loop-front l = record {
