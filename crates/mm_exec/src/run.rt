@@ -75,7 +75,7 @@ impl<S: AnySource + Send + Drop, L: Link + Send + Drop> RunParts<S, L> {
         let Ok(mut stores) = open_all(alloc, &mut self.stores) else {
             return Err(never_began(alloc, Cause::NoMemory { step: 0 }));
         };
-        // Asked for last, so that the room of the open stores does not lie at the end of the heap.
+        // Asked for last: where the room of the open stores is the last of the heap, glibc merges all free blocks once it is given back.
         let Ok(buffers) = reserve_run(alloc, run.problem) else {
             close_all(stores, &mut self.stores);
             return Err(never_began(alloc, Cause::NoMemory { step: 0 }));

@@ -71,10 +71,10 @@ impl Report {
         requires room { length self.old.steps < self.old.most }
         ensures added { self.new ≡ record self.old { steps = self.old.steps ++ row.now ∷ [] } }
     {
-        // There is room, so that this is never refused.
-        if let Ok(()) = self.counts.extend_from_slice(row) {
-            self.steps += 1;
-        }
+        let Ok(()) = self.counts.extend_from_slice(row) else {
+            unreachable!()
+        };
+        self.steps += 1;
     }
 
     /// The identifiers of the stores.
