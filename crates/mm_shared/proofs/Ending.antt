@@ -1,4 +1,4 @@
--- The ports of all seats come back: the state is in its slot, and went by a log of their calls.
+-- A store on which no call was made is as it was, and one view at most holds the state of a store.
 use Rattle.std.proofs.Common.{◌≡◌, ◌≢◌, ℕ, List, [], ◌∷◌, length, map, refl, sym, ap, ◌∙◌, arith, Option, Some, None}
 use Rattle.mm_shared.proofs.Words.{eq-eqb, ne_eqb, get_or_past, Entry, State, lone_log, calls_on, held_by, HasLegalLog, replay, opening_at, All-map, dite}
 use Rattle.mm_shared.proofs.Words.{ℕ_discrete, Seated, IsTakenByAll, All}

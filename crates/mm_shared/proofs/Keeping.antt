@@ -1,4 +1,4 @@
--- A step of a seat on one store keeps the rule of shared stores.
+-- A step of a seat on one store keeps the rule of shared stores, and who has all seats finds its state in its slot.
 use Rattle.std.proofs.Common.{◌≡◌, ◌≢◌, ℕ, ◌+◌, ◌<◌, List, [], ◌∷◌, ◌++◌, length, map, get_or, set, refl, sym, ap, ◌∙◌, subst, arith, Option, Some, None}
 use Rattle.mm_shared.proofs.Words.{eq-eqb, ne_eqb, length-map, length-set, get_or-map, get_or_default, get_or-set_same, get_or-set_other, set-get_or, Entry}
 use Rattle.mm_shared.proofs.Words.{State, AreBelow, part, Course, IsCourse, Owns, Fits, Stands, Keeps, IsKept, calls_on, held_of, held_by, HasLegalLog, entry}

@@ -72,8 +72,8 @@ pub record Keeps (opening : State) (seats : ℕ) (owner : ℕ → ℕ) (k : ℕ)
   pub course : IsCourse opening seats (slice_index_or t.words k 0) (slice_index_or t.homes k none) it
   pub fits : Each (Fits owner k it) t.views
 
--- there are states from which calls count, one for each of this many stores; each seat is in one view, and each store keeps the rule. A
--- word more is no store's, so that a table without stores has one. Without seats no call is ever made
+-- there are states from which calls count; each seat is in one view at most, and each of this many stores keeps the rule. A word more is
+-- no store's, so that a table without stores has one. Without seats no call is ever made
 pub record IsKept (stores seats : ℕ) (t : Table State Knows) : Type 0 where
   pub openings : List State
   pub owner : ℕ → ℕ

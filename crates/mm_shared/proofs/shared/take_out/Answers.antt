@@ -16,7 +16,7 @@ loop-k-preserved c =
     let in_labels : k < length labels = omega (arith, c.loop-k-test.true, c.loop-k.auto.k-end) in
     let in_filled : k < length filled = omega (arith, before.many, (slots_counts c.loop-k.closed.slots).1, in_labels) in
     let in_all : k < length all = omega (arith, (slots_counts c.args.closed.slots).0, c.requires.as_many, in_labels) in
-    let there : get_or all k state ≡ state = grind (arith, before.items, at_get all k state state) in
+    let there : get_or all k state ≡ state = at_get all k state state (rw before.items at c.take-state.ensures.value) in
     record {
       items = grind (arith, common_steps);
       many = grind (arith, common_steps);
