@@ -3,7 +3,7 @@ use Rattle.std.proofs.Common.{◌≡◌, inr, refl, ℕ, List, [], length, map, 
 use Rattle.std.specs.Prelude.{sum_by}
 use Rattle.mm_exec.proofs.Words.{sum_by_range_same, sum_by-same, sum_by-map, sum_by-swap, Dumping, stores, steps, arrivals, left_start, left_step, Table}
 use Rattle.mm_exec.proofs.Words.{amount, Amounts, lost, loss, left, store_loss, Held, Supply, Sent, Reported, totals_of, Cause, StepCounts, given_to, IsRefusal}
-use Rattle.mm_exec.proofs.Words.{IsStopped, report_of, rows_of, planned_counts, RunStart, run_start, RunInput, as_came, RunState, InRun, RunContext, RunStopped}
+use Rattle.mm_exec.proofs.Words.{IsStopped, report_of, planned_counts, RunStart, run_start, RunInput, as_came, RunState, InRun, RunContext, RunStopped}
 use Rattle.mm_exec.proofs.Words.{StepBroken}
 use Rattle.mm_plan.specs.Sheet.{SheetRows}
 use Rattle.mm_planner.specs.PlanTexts.{PlansFor}
@@ -28,19 +28,17 @@ not_begun leads until sent failed run first stopped broken report refusal lasts 
   ),
 )
 
--- the lost packets of the rows are as many as the plan loses
-rows_lost : (q : Dumping) (came : Dumping) (x : Amounts) → (totals_of (rows_of q came x (length q.windows))).lost ≡ sum_by (λ s. sum_by (lost came x s) (steps q)) (stores q)
-rows_lost q came x =
-    let row = λ (t : ℕ). map (λ s. planned_counts q came x s t) (stores q) in
-    sum_by-map (sum_by (λ (y : StepCounts). y.lost)) row (steps q)
-    ∙ sum_by-same (λ (t : ℕ). sum_by (λ (y : StepCounts). y.lost) (row t)) (λ t. sum_by (λ s. lost came x s t) (stores q)) (steps q)
-    (λ k d within. sum_by-map (λ (y : StepCounts). y.lost) (λ s. planned_counts q came x s (get_or (steps q) k d)) (stores q))
-    ∙ sum_by-swap (λ (t s : ℕ). lost came x s t) (steps q) (stores q)
-
 -- the total of the lost packets is the loss of the plan, with what came in place of the forecast
 pub total_is : (m : RunInput) (report : Reported) → report ≡ report_of m.problem (as_came m) m.amounts (length m.problem.windows)
     → (totals_of report.steps).lost ≡ loss (as_came m) m.amounts
-total_is m report is = ap (λ (r : Reported). (totals_of r.steps).lost) is ∙ rows_lost m.problem (as_came m) m.amounts
+total_is m report is =
+    let q = m.problem in
+    let lost_at = λ (t s : ℕ). lost (as_came m) m.amounts s t in
+    let row = λ (t : ℕ). map (λ s. planned_counts q (as_came m) m.amounts s t) (stores q) in
+    ap (λ (r : Reported). (totals_of r.steps).lost) is ∙ sum_by-map (sum_by (λ (y : StepCounts). y.lost)) row (steps q)
+    ∙ sum_by-same (λ (t : ℕ). sum_by (λ (y : StepCounts). y.lost) (row t)) (λ t. sum_by (lost_at t) (stores q)) (steps q)
+    (λ k d within. sum_by-map (λ (y : StepCounts). y.lost) (λ s. planned_counts q (as_came m) m.amounts s (get_or (steps q) k d)) (stores q))
+    ∙ sum_by-swap lost_at (steps q) (stores q)
 
 -- where as much arrives, a plan leaves and loses as much
 module _ (q : Dumping) (other : List ℕ) (x : Amounts)

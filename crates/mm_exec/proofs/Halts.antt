@@ -3,7 +3,7 @@ use Rattle.std.proofs.Common.{◌≡◌, inl, inr, ℕ, ◌<◌, List, [], lengt
 use Rattle.std.specs.Prelude.{Option, Some, None, sum_by, slice_index_or}
 use Rattle.mm_desk.specs.declared.fault.Fault.TheVariants as fault
 use Rattle.mm_dump.specs.declared.order.OrderBroken.TheVariants as worst
-use Rattle.mm_dump.specs.Dumped.{times, wanted, HasTried, AllSettled, places_of, AllTried}
+use Rattle.mm_dump.specs.Dumped.{times, AllSettled, places_of, AllTried}
 use Rattle.mm_report.specs.declared.cause.Cause.TheVariants.{LinkFailed}
 use Rattle.mm_exec.proofs.Replays.{IsRun-append}
 use Rattle.mm_base.specs.declared.rows.RouteRow.{RouteRow}
@@ -12,10 +12,10 @@ use Rattle.mm_exec.proofs.Parts.{as_many, same_ids, by_how, all_first, first_tur
 use Rattle.mm_exec.proofs.StoresReady.{state_holds}
 use Rattle.std.proofs.lemmas.Bool.Decides.{eqb_tells}
 use Rattle.mm_exec.proofs.Words.{cases_lt, length-map, append-nil, nil_from_length, All-nil, All-cons, All-head, All-tail, sum_by-cons, sum_by-append}
-use Rattle.mm_exec.proofs.Words.{get_or-le-sum_by, AllZip, cond-eqb_same, cond-eqb_other, SpacePacket, given_oldest, State, IsState, IsShuffleOfEvents, IsRun}
-use Rattle.mm_exec.proofs.Words.{opening_at, IsLegal, Entry, Event, Fault, Held, labels_of, states_of, ids_of, cause_in, RecordingContext, offers, recording}
-use Rattle.mm_exec.proofs.Words.{given_in, HasRecorded, Supply, Course, EndedAs, IsWhole, IsBroken, IsCourse, worse, worst_of, failed_by, sent_by}
-use Rattle.mm_exec.proofs.Words.{BrokenOrdersChangeNothing, Sent, Order, OrderBroken, Cause, AreFirstOffers, IsByOneLog, RunState}
+use Rattle.mm_exec.proofs.Words.{get_or-le-sum_by, cond-eqb_same, cond-eqb_other, SpacePacket, given_oldest, State, IsState}
+use Rattle.mm_exec.proofs.Words.{opening_at, IsLegal, Fault, Held, labels_of, states_of, ids_of, cause_in, RecordingContext, offers, recording}
+use Rattle.mm_exec.proofs.Words.{given_in, Supply, Course, EndedAs, IsWhole, IsBroken, IsCourse, worse, worst_of, failed_by, sent_by}
+use Rattle.mm_exec.proofs.Words.{BrokenOrdersChangeNothing, Sent, Order, OrderBroken, Cause, IsByOneLog, RunState}
 use Rattle.mm_exec.proofs.Words.{StepBroke, dump_cause, StepBroken}
 use Rattle.mm_dump.specs.Broken.{aborted}
 
@@ -29,35 +29,6 @@ no_link step (Some why) is = absurd (cc is)
 link_failed : (step : ℕ) (why : OrderBroken) → dump_cause step why ≡ LinkFailed step → why ≡ worst.LinkFailed
 link_failed step worst.LinkFailed is = refl
 link_failed step worst.NoMemory is = absurd (cc is)
-
--- a store at which all offers were made, and then the calls of one order
-then_tried : (e : RecordingContext) (given : List (List SpacePacket)) (orders : List Order) (k : ℕ) (s mid t : State) → HasRecorded e given k s mid
-    → (taken : ℕ) (c : Course) → HasTried taken k c mid t → (0 < taken → c.order.amount ≡ wanted orders k) → IsByOneLog e given orders k s t
-then_tried e given orders k s mid t first taken c tried amount = record {
-  firsts = map (offers e k) given;
-  are = all_first e k given;
-  offered = first.log;
-  ordered = c.calls;
-  run = IsRun-append s mid t first.log c.calls first.run tried.run;
-  shuffle = first.shuffle;
-  order = elim (cases_lt 0 taken) [
-    | inl some ↦ inr (c, refl, (tried.some some).1, record { place = (tried.some some).0; amount = amount some })
-    | inr none ↦ inl (tried.none (omega arith)).0
-  ];
-}
-
--- an offered log and no order
-then_nothing : (e : RecordingContext) (given : List (List SpacePacket)) (orders : List Order) (k : ℕ) (s t : State) → (firsts : List (List Event)) → AllZip (AreFirstOffers e k) given firsts
-    → (log : List Entry) → IsRun s log t → IsShuffleOfEvents firsts log → IsByOneLog e given orders k s t
-then_nothing e given orders k s t firsts are log run shuffle = record {
-  firsts = firsts;
-  are = are;
-  offered = log;
-  ordered = [];
-  run = subst (λ (es : List Entry). IsRun s es t) (sym (append-nil log)) run;
-  shuffle = shuffle;
-  order = inl refl;
-}
 
 module _ {L : Type 0} (sent : L → List Sent) (failed : L → ℕ) (step now : ℕ) (routes : List RouteRow) (orders : List Order)
     (before after : RunState Supply L) (stop : StepBroken) (broke : StepBroke sent failed (recording step now routes before.stores) orders before after stop)
@@ -78,14 +49,35 @@ module _ {L : Type 0} (sent : L → List Sent) (failed : L → ℕ) (step now : 
   pub one_log : IsByOneLog e came orders k (state_in before) (state_in after)
   one_log =
       by_how sent failed e orders before after stop (IsByOneLog e came orders k (state_in before) (state_in after))
-      (λ broke.
-      let went = broke.records.went k (inside after labels) in
-      then_nothing e came orders k (state_in before) (state_in after) (map (λ run. run.offered k) broke.records.runs)
-      (first_turns e before.sources after.sources broke.records.runs k broke.records.are_runs (omega (arith, within, length-map before.stores (λ (h : Held). h.id))))
-      went.log went.run went.shuffle)
-      (λ mid recorded broke.
-      then_tried e came orders k (state_in before) (state_in mid) (state_in after) (recorded.stores_are k (inside mid recorded.labels)) (sum_by (times k) broke.settled.places)
-      (broke.settled.course k) (broke.settled.stores k (inside after (broke.labels ∙ recorded.labels))) (broke.settled.amounts k)) broke
+      (λ early.
+      let went = early.records.went k (inside after labels) in
+      record {
+        firsts = map (λ run. run.offered k) early.records.runs;
+        are =
+            first_turns e before.sources after.sources early.records.runs k early.records.are_runs
+            (omega (arith, within, length-map before.stores (λ (h : Held). h.id)));
+        offered = went.log;
+        ordered = [];
+        run = rw append-nil went.run;
+        shuffle = went.shuffle;
+        order = inl refl;
+      })
+      (λ mid recorded dump.
+      let first = recorded.stores_are k (inside mid recorded.labels) in
+      let c = dump.settled.course k in
+      let tried = dump.settled.stores k (inside after (dump.labels ∙ recorded.labels)) in
+      record {
+        firsts = map (offers e k) came;
+        are = all_first e k came;
+        offered = first.log;
+        ordered = c.calls;
+        run = IsRun-append (state_in before) (state_in mid) (state_in after) first.log c.calls first.run tried.run;
+        shuffle = first.shuffle;
+        order = elim (cases_lt 0 (sum_by (times k) dump.settled.places)) [
+          | inl some ↦ inr (c, refl, (tried.some some).1, record { place = (tried.some some).0; amount = dump.settled.amounts k some })
+          | inr none ↦ inl (tried.none (omega arith)).0
+        ];
+      }) broke
 
 -- what an order broke for was at worst a link
 abbrev pub IsMild : Option OrderBroken → Type 0

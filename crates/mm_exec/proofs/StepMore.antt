@@ -31,12 +31,6 @@ module _ {L : Type 0} (sent : L → List Sent) (failed : L → ℕ) (ids : List 
   took_all (p ∷ ps) (o ∷ os) (n ∷ ns) took = let rest = took_all ps os ns took.2 in (ap suc rest.0, λ i. took.1 i ∷ rest.1 i)
   took_all places olds news took = absurd took
 
--- offers of two errands that share the moment, the routes and the store
-given_offers : (e f : RecordingContext) (j k t : ℕ) → e.now ≡ f.now → e.routes ≡ f.routes → id_at e.ids j ≡ id_at f.ids k
-    → (xs : List Supply) → map (offers e j) (given_in t xs) ≡ map (offers f k) (map (λ g. g t) xs)
-given_offers e f j k t now routes ids xs =
-    λ i. map (λ ps. map (λ p. Offer (now i) p) (filter (is_routed (routes i) (ids i)) ps)) (given_in t xs)
-
 -- what holds of what some are made into holds of others that are made into the same
 pub all_same : {X Y : Type 0} (P : Y → Type 0) (f : X → Y) (xs ys : List X) → map f ys ≡ map f xs → All (λ x. P (f x)) xs → All (λ x. P (f x)) ys
 all_same P f xs ys same all = All-unmapped P f ys (subst (All P) (sym same) (All-map P f xs all))
@@ -115,8 +109,9 @@ module _ {L : Type 0} (sent : L → List Sent) (failed : L → ℕ) (m : RunInpu
     -- what was offered in the step
     offered_here : (s : ℕ) → s < n → map (offers e (slice_index places s)) (given_in t before.sources) ≡ offered m s t
     offered_here s store =
-        ap (map (offers e (slice_index places s))) (done.sources_are.others t (λ first last. omega arith))
-        ∙ given_offers e (step_of m t) (slice_index places s) s t refl refl (id_here s store) m.gives
+        let alike : map (offers e (slice_index places s)) (given_in t m.gives) ≡ offered m s t =
+        λ i. map (λ ps. map (λ p. Offer e.now p) (filter (is_routed e.routes (id_here s store i)) ps)) (given_in t m.gives) in
+        ap (map (offers e (slice_index places s))) (done.sources_are.others t (λ first last. omega arith)) ∙ alike
 
     -- a store went by a step run in a step, this one or an earlier one
     abbrev RunAt : ℕ → ℕ → Type 0

@@ -41,12 +41,8 @@ timed_by now offers fits by =
 -- where no packet is wanted, none is dumped
 none_dumped : (mid t : State) (wanted : ℕ) (gave : List Stored) → wanted ≡ 0 → gave ≡ [] → t ≡ mid → Dumps mid t wanted gave
 none_dumped mid t wanted gave none nothing same =
-    let many : mid.deleted ≡ mid.deleted + length gave = omega (arith, ap length nothing) in
-    record {
-      many = omega (arith, ap length nothing);
-      oldest = ap (λ (u : State). u.store.content) (sym same) ∙ ap (λ l. l ++ t.store.content) (sym nothing);
-      others = same ∙ (λ i. record mid { store = record mid.store { content = (sym same i).store.content }; deleted = many i });
-    }
+    let many : mid.deleted ≡ mid.deleted + 0 = omega arith in
+    rw (same, nothing, none) (record { many = omega arith; oldest = refl; others = λ i. record mid { deleted = many i } })
 
 -- what stands in a store once this many packets have come
 abbrev filled : State → ℕ → ℕ

@@ -1,10 +1,10 @@
 -- Stores that are ready, and counts that are far from their end, from step to step.
 use Rattle.std.proofs.Common.{◌≡◌, inl, inr, ℕ, ◌*◌, ◌<◌, ◌≤◌, ◌^◌, List, [], ◌∷◌, ◌++◌, length, map, get_or, All, refl, sym, ap, subst, ◌∙◌, ◌-◌, arith}
 use Rattle.mm_exec.proofs.Words.{cases_lt, length-map, get_or-map, All-nil, All-cons, All-map, sum_by-le, AllZip, IsTrue, Option, Some, None, filter, All-front}
-use Rattle.mm_exec.proofs.Words.{sum_by-map, SpacePacket, OrdersDumpTheOldest, State, IsState, step, count_of, blank, opening_at, replay, Event, Offer, Fault}
-use Rattle.mm_exec.proofs.Words.{Held, labels_of, states_of, id_at, ids_of, is_routed, filter_fewer, RecordingContext, offers, given_in, Records, Supply}
+use Rattle.mm_exec.proofs.Words.{sum_by-map, SpacePacket, OrdersDumpTheOldest, State, IsState, count_of, blank, opening_at, replay, Event, Offer}
+use Rattle.mm_exec.proofs.Words.{Held, labels_of, states_of, id_at, ids_of, is_routed, filter_fewer, RecordingContext, offers, given_in, Supply}
 use Rattle.mm_exec.proofs.Words.{Course, EndedAs, HasTried, MayDump, BrokenOrdersChangeNothing, Sent, Order, OrderBroken, AreFirstOffers, StepRunsKeepStores}
-use Rattle.mm_exec.proofs.Words.{RunState, AreReady, MayCarry, StepRecorded, StepDone, OrdersBroke, StepBroke, IsBy, AreBy, KeepsStore, StepBroken}
+use Rattle.mm_exec.proofs.Words.{RunState, AreReady, MayCarry, StepRecorded, StepDone, StepBroke, IsBy, AreBy, KeepsStore, StepBroken}
 use Rattle.mm_exec.proofs.Replays.{KeepsSwitches, run_moves}
 use Rattle.mm_exec.proofs.Placing.{no_held}
 use Rattle.mm_exec.proofs.Parts.{as_many, by_how, first_turns}
@@ -57,18 +57,6 @@ firsts_by e k (g ∷ gs) (f ∷ fs) are =
     (All-front (IsBy e.now) f are.0.0 (subst (All (IsBy e.now)) are.0.1 (offers_by e k g))) (firsts_by e k gs fs are.1)
 firsts_by e k given firsts are = absurd are
 
--- stores at which recorders stopped early are ready
-ready_stopped : (e : RecordingContext) (stores left : List Held) (sources sources_left : List Supply) (why : Option Fault)
-    → length e.ids ≡ length stores → AreReady stores → Records e stores left why sources sources_left → AreReady left
-ready_stopped e stores left sources sources_left why ids ready records =
-    ready_on stores left records.labels records.sound
-    (λ k within.
-    let went = records.went k within in
-    let many = as_many left stores records.labels in
-    (run_moves e.now (map (λ run. run.offered k) records.runs) went.log _ _ went.run went.shuffle
-    (firsts_by e k (given_in e.step sources) (map (λ run. run.offered k) records.runs)
-    (first_turns e sources sources_left records.runs k records.are_runs (omega (arith, within, length-map left (λ (h : Held). h.state), many, ids))))).switches) ready
-
 -- an order leaves the switches
 tried_keeps : OrdersDumpTheOldest → BrokenOrdersChangeNothing → (k : ℕ) (s t : State) (taken : ℕ) (c : Course) → IsState s → HasTried taken k c s t → KeepsSwitches s t
 tried_keeps dump changes k s t taken c sound tried = elim (cases_lt 0 taken) [
@@ -83,25 +71,32 @@ tried_keeps dump changes k s t taken c sound tried = elim (cases_lt 0 taken) [
     by_why None whole = rw (dump s t c.seat c.order.amount c.sent c.calls sound whole.order tried.run).others (record { storage = refl; retrieval = refl })
     by_why (Some why) broke = alike (changes s t c.seat c.order.amount (c.sent ++ c.unsent) c.calls broke.order tried.run).0
 
--- stores of a dump of which orders broke are ready
-ready_broken : {S L : Type 0} (sent : L → List Sent) (failed : L → ℕ) (step : ℕ) (orders : List Order) (mid after : RunState S L) (stop : StepBroken)
-    → OrdersDumpTheOldest → BrokenOrdersChangeNothing → AreReady mid.stores → OrdersBroke sent failed step orders mid after stop → AreReady after.stores
-ready_broken sent failed step orders mid after stop dump changes ready broke =
-    let many = as_many after.stores mid.stores broke.labels in
-    ready_on mid.stores after.stores broke.labels broke.sound
-    (λ k within.
-    tried_keeps dump changes k _ _ _ (broke.settled.course k)
-    (state_holds IsState mid.stores ready.sound k (omega (arith, within, length-map after.stores (λ (h : Held). h.state), many))) (broke.settled.stores k within)) ready
-
 -- stores of a step that was broken off are ready for more
 pub ready_halted : {L : Type 0} (sent : L → List Sent) (failed : L → ℕ) (e : RecordingContext) (orders : List Order)
     (before after : RunState Supply L) (stop : StepBroken) → OrdersDumpTheOldest → BrokenOrdersChangeNothing → ids_of before.stores ≡ e.ids → AreReady before.stores
     → StepBroke sent failed e orders before after stop → AreReady after.stores
 ready_halted sent failed e orders before after stop dump changes ids ready =
     by_how sent failed e orders before after stop (AreReady after.stores)
-    (λ broke.
-    ready_stopped e before.stores after.stores before.sources after.sources broke.why (ap length (sym ids) ∙ length-map before.stores (λ (h : Held). h.id)) ready broke.records)
-    (λ mid recorded broke. ready_broken sent failed e.step orders mid after stop dump changes (ready_recorded e before mid ready recorded) broke)
+    (λ early.
+    let records = early.records in
+    let many = as_many after.stores before.stores records.labels in
+    let all = ap length (sym ids) ∙ length-map before.stores (λ (h : Held). h.id) in
+    ready_on before.stores after.stores records.labels records.sound
+    (λ k within.
+    let went = records.went k within in
+    let asked : List (List Event) = map (λ run. run.offered k) records.runs in
+    let turns = first_turns e before.sources after.sources records.runs k records.are_runs (omega (arith, within, counted, many, all)) in
+    (run_moves e.now asked went.log _ _ went.run went.shuffle (firsts_by e k (given_in e.step before.sources) asked turns)).switches) ready)
+    (λ mid recorded broke.
+    let ready_mid = ready_recorded e before mid ready recorded in
+    let many = as_many after.stores mid.stores broke.labels in
+    ready_on mid.stores after.stores broke.labels broke.sound
+    (λ k within.
+    tried_keeps dump changes k _ _ _ (broke.settled.course k) (state_holds IsState mid.stores ready_mid.sound k (omega (arith, within, counted, many)))
+    (broke.settled.stores k within)) ready_mid)
+  where
+    counted : length (states_of after.stores) ≡ length after.stores
+    counted = length-map after.stores (λ (h : Held). h.state)
 
 -- a step's dump may be carried out after what came is recorded
 pub may_dump : {S L : Type 0} (failed : L → ℕ) (moment : ℕ) (orders : List Order) (before mid : RunState S L) → MayCarry failed moment orders before

@@ -2,7 +2,7 @@
 pub use Rattle.mm_exec.specs.Words.{MAX_STORES, SpacePacket, Dumping, IsDumping, arrivals, limit, place, row, size, steps, stores, window, FitsAt, Table}
 pub use Rattle.mm_exec.specs.Words.{amount, Amounts, left, loss, lost, written, Stored, IsState, State, AreTaken, IsShuffleOfEvents, count_of, IsRun}
 pub use Rattle.mm_exec.specs.Words.{opening_at, Entry, Event, Offer, Held, id_at, labels_of, states_of, AreHeld, Holdings, has_id, store_of, cause_in}
-pub use Rattle.mm_exec.specs.Words.{is_clock_late, RecordingContext, offers, recording, Records, given_in, Supply, Course, IsBroken, IsCourse, IsWhole, sent_by}
+pub use Rattle.mm_exec.specs.Words.{is_clock_late, RecordingContext, offers, recording, given_in, Supply, Course, IsBroken, IsCourse, IsWhole, sent_by}
 pub use Rattle.mm_exec.specs.Words.{places_of, times, wanted, Sent, all_sent, Order, Reported, totals_of, Cause}
 pub use Rattle.std.proofs.lemmas.Bool.{both_ways, cases_eq, cases_lt, cases_order, cond_both, eq-eqb, eqb-false, eqb-true, false_from_ne_true, le-ltb, lt-ltb}
 pub use Rattle.std.proofs.lemmas.Bool.{ltb-false, ltb-true, ne_eqb, or_parts}
@@ -49,7 +49,7 @@ pub use Rattle.mm_record.proofs.Supplying.{all_stay, length-supplies, zip_long}
 pub use Rattle.mm_record.proofs.Taking.{filter_fewer, parts_all}
 pub use Rattle.mm_record.specs.Causes.{is_late}
 pub use Rattle.mm_record.specs.Counters.{counters_of}
-pub use Rattle.mm_record.specs.Steps.{HasRecorded, TakesAll}
+pub use Rattle.mm_record.specs.Steps.{TakesAll}
 pub use Rattle.mm_record.specs.Supplies.{supplies}
 pub use Rattle.mm_dump.specs.Courses.{EndedAs, failed_by, worse, worst_of}
 pub use Rattle.mm_dump.specs.Dumped.{HasTried, MayDump}
