@@ -16,7 +16,7 @@ run_split s t (x ∷ xs) ys run =
     let rest = run_split (step s x.event).1 t xs ys (record { legal = run.legal.1; leaves = run.leaves }) in
     (rest.0, record { legal = (run.legal.0, rest.1.legal); leaves = rest.1.leaves }, rest.2)
 
--- one call, by what the store answers to it
+-- one call, from what the store answers to it
 one_call : (place : ℕ) (on off : Bool) (so : ℕ → List Entry → Type 0) (old new : PortView) (event : Event) (answer : Reply)
     → new ≡ with_call old place event answer
     → ((s : State) → is_some s.retrieval ≡ on → answer ≡ (step s event).0
@@ -28,6 +28,7 @@ one_call place on off so old new event answer called answers = record {
   alone = λ s t is run. let both = answers s is run.legal.0 in (ap (λ (u : State). is_some u.retrieval) run.leaves ∙ both.0, both.1);
 }
 
+-- a retrieval is begun where none is on
 pub call_begin : (place : ℕ) (old new : PortView) (r : Result (Unit {0}) Fault) → new ≡ with_call old place (Begin 1 clock_end) (reply.Done r)
     → HasCalled place false true (λ seat calls. calls ≡ begun seat ∷ []) old new
 call_begin place old new r called =
@@ -35,6 +36,7 @@ call_begin place old new r called =
     let both = begins s r off answers in
     (both.1.now, ap (λ x. entry old.number (Begin 1 clock_end) (reply.Done x) ∷ []) both.0))
 
+-- one that is on is aborted
 pub call_abort : (place : ℕ) (old new : PortView) (r : Result (Unit {0}) Fault) → new ≡ with_call old place Abort (reply.Done r)
     → HasCalled place true false (λ seat calls. calls ≡ aborted seat ∷ []) old new
 call_abort place old new r called =
@@ -42,6 +44,7 @@ call_abort place old new r called =
     let both = aborts s r on answers in
     (both.1.now, ap (λ x. entry old.number Abort (reply.Done x) ∷ []) both.0))
 
+-- one that is on gives this packet, or comes to its end
 pub call_next : (place : ℕ) (old new : PortView) (next : Option Stored) → new ≡ with_call old place Next (reply.Given (Ok next))
     → HasCalled place true (is_some next) (λ seat calls. calls ≡ entry seat Next (reply.Given (Ok next)) ∷ []) old new
 call_next place old new next called =
@@ -56,6 +59,7 @@ pub call_refused : (place : ℕ) (so : ℕ → List Entry → Type 0) (old new :
 call_refused place so old new fault called =
     one_call place true false so old new _ _ called (λ s on answers. let given = nexts s (Err fault) on answers in absurd (cc given.1))
 
+-- packets are deleted where none is on
 pub call_delete : (place limit : ℕ) (old new : PortView) (r : Result ℕ Fault) → new ≡ with_call old place (Delete limit) (reply.Deleted r)
     → HasCalled place false false (λ seat calls. (count : ℕ) × (calls ≡ deletion (Some limit) seat count)) old new
 call_delete place limit old new r called =
