@@ -72,12 +72,10 @@ impl<S: AnySource + Send + Drop, L: Link + Send + Drop> RunParts<S, L> {
             return Err(never_began(alloc, cause));
         }
         let all = places_of(run.problem, stores);
-        let Ok(mut stores) = open_all(alloc, &mut self.stores) else {
+        let Ok(buffers) = reserve_run(alloc, run.problem) else {
             return Err(never_began(alloc, Cause::NoMemory { step: 0 }));
         };
-        // Asked for last: where the room of the open stores is the last of the heap, glibc merges all free blocks once it is given back.
-        let Ok(buffers) = reserve_run(alloc, run.problem) else {
-            close_all(stores, &mut self.stores);
+        let Ok(mut stores) = open_all(alloc, &mut self.stores) else {
             return Err(never_began(alloc, Cause::NoMemory { step: 0 }));
         };
         read_states(&mut stores);

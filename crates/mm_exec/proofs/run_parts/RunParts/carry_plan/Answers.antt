@@ -28,39 +28,38 @@ returns-in_default-open_all-clause-stopped g c =
 pub returns-in_default-reserve_run-clause-stopped : goal.returns-in_default-reserve_run-clause-stopped
 returns-in_default-reserve_run-clause-stopped g c =
     let ended = c.never_began-in_default-reserve_run in
-    rw (c.close_all.ensures.stores ∙ c.in-Ok.ensures.opened.1)
-    (not_begun _ _ g.L.Link.sent g.L.Link.failed c.args.run.now (state_of c.args.self.now) ended.result ended.ensures.broken ended.ensures.report
-    (inr (refl, tested g (goal.at.returns-in_default-reserve_run-clause-stopped g c).After-ready MayBegin c.in_default.ensures.ok)))
+    not_begun _ _ g.L.Link.sent g.L.Link.failed c.args.run.now (state_of c.args.self.now) ended.result ended.ensures.broken ended.ensures.report
+    (inr (refl, tested g (goal.at.returns-in_default-reserve_run-clause-stopped g c).After-ready MayBegin c.in_default.ensures.ok))
 
 pub carry_steps-ended-requires-clause-may : goal.carry_steps-ended-requires-clause-may
 carry_steps-ended-requires-clause-may g c κs within =
-    let opened = c.in-Ok.ensures.opened.1 in
+    let opened = c.in-Ok-open_all.ensures.opened.1 in
     rw (c.read_states.ensures.same, opened, c.replace.ensures.value, c.replace-2.ensures.value) (record {
       begins = tested g (goal.at.carry_steps-ended-requires-clause-may g c).After-ready MayBegin c.in_default.ensures.ok;
       held = c.requires.held;
       sound = subst (All (λ (h : Held). IsState h.state)) opened c.read_states.ensures.sound;
       links = c.requires.links;
-      report = c.in-Ok-reserve_run.ensures.report;
-      orders = c.in-Ok-reserve_run.ensures.orders;
+      report = c.in-Ok.ensures.report;
+      orders = c.in-Ok.ensures.orders;
     })
 
 pub returns-clause-done : goal.returns-clause-done
 returns-clause-done g c =
-    let opened = ap stores_in c.read_states.ensures.same ∙ c.in-Ok.ensures.opened.1 in
-    rw (opened, c.replace.ensures.value, c.replace-2.ensures.value, ← c.open.view_is, ← c.close_all-2.ensures.stores) at c.carry_steps-ended.ensures.done
+    let opened = ap stores_in c.read_states.ensures.same ∙ c.in-Ok-open_all.ensures.opened.1 in
+    rw (opened, c.replace.ensures.value, c.replace-2.ensures.value, ← c.open.view_is, ← c.close_all.ensures.stores) at c.carry_steps-ended.ensures.done
 
 pub returns-clause-stopped : goal.returns-clause-stopped
 returns-clause-stopped g c =
-    let opened = ap stores_in c.read_states.ensures.same ∙ c.in-Ok.ensures.opened.1 in
-    let halted = rw (opened, c.replace.ensures.value, c.replace-2.ensures.value, ← c.open.view_is, ← c.close_all-2.ensures.stores) at c.carry_steps-ended.ensures.halted in
+    let opened = ap stores_in c.read_states.ensures.same ∙ c.in-Ok-open_all.ensures.opened.1 in
+    let halted = rw (opened, c.replace.ensures.value, c.replace-2.ensures.value, ← c.open.view_is, ← c.close_all.ensures.stores) at c.carry_steps-ended.ensures.halted in
     IfErr-weaker c.carry_steps-ended.result _ _ (λ (stopped : RunStopped) halted lasts lead. let one = halted lasts lead in (one.0, inl one.1)) halted
 
 pub returns-clause-far : goal.returns-clause-far
 returns-clause-far g c =
-    let opened = ap stores_in c.read_states.ensures.same ∙ c.in-Ok.ensures.opened.1 in
+    let opened = ap stores_in c.read_states.ensures.same ∙ c.in-Ok-open_all.ensures.opened.1 in
     rw (opened, c.replace.ensures.value, ← c.open.view_is) at c.carry_steps-ended.ensures.far
 
 pub returns-clause-labels : goal.returns-clause-labels
 returns-clause-labels g c =
-    let opened = ap stores_in c.read_states.ensures.same ∙ c.in-Ok.ensures.opened.1 in
-    rw (opened, ← c.open.view_is, ← c.close_all-2.ensures.stores) at c.carry_steps-ended.ensures.labels
+    let opened = ap stores_in c.read_states.ensures.same ∙ c.in-Ok-open_all.ensures.opened.1 in
+    rw (opened, ← c.open.view_is, ← c.close_all.ensures.stores) at c.carry_steps-ended.ensures.labels
