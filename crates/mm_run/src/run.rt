@@ -73,10 +73,7 @@ fn offered_for(memory: &Memory, cause: &Cause) -> u64 {
     let Cause::OpeningDiffers { store } = cause else {
         return 0;
     };
-    match memory.state(store) {
-        Some(state) => state.offered(),
-        None => 0,
-    }
+    memory.state(store).map_or(0, |state| state.offered())
 }
 
 // Offers the packets of step 0, carries the plan out, and says what is printed of it.

@@ -13,7 +13,8 @@ use Rattle.mm_run.specs.Drafts.{IsRead, Adds}
 use Rattle.mm_run.proofs.sources.SourceFile.add.Goals as goal
 
 -- the file of one line more
-read_more : (bad : ScriptFault) (ds : List SourceLine) (d : SourceLine) (old new : SourceFile) (was opened : List ℕ) → IsRead ds old was → length (packets_of d.source d.step ds) < MAX_PACKETS
+read_more : (bad : ScriptFault) (ds : List SourceLine) (d : SourceLine) (old new : SourceFile) (was opened : List ℕ)
+    → IsRead ds old was → length (packets_of d.source d.step ds) < MAX_PACKETS
     → length new.sources.items ≡ max (length old.sources.items) d.source
     → ((s t : ℕ) → 1 ≤ s → given new.sources.items s t ≡ given old.sources.items s t ++ cond (is_of s t d && nat_lt 0 d.step) (d.packet ∷ []) [])
     → new.opening.items ≡ old.opening.items ++ cond (d.step == 0) (d.packet ∷ []) []
