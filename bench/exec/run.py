@@ -127,11 +127,12 @@ def counted(twin):
         print("\nInstructions are left out: valgrind is not there.")
         return
     print("\nInstructions for each packet of 64 octets, stores with room\n")
-    print("| Sources | Stores | Links | recording | plain | ratio | dumping | plain | ratio |")
-    print("|" + "---|" * 9)
-    for sources, stores, links in ((1, 1, 1), (1, 16, 1), (8, 1, 1), (8, 16, 4)):
-        words = [str(word) for word in (sources, stores, links, 1, EACH // sources, 64, EACH)]
-        packets = sources * (EACH // sources)
+    print("| Sources | Stores | Links | Steps | recording | plain | ratio | dumping | plain | ratio |")
+    print("|" + "---|" * 10)
+    for sources, stores, links, steps in ((1, 1, 1, 1), (1, 16, 1, 1), (8, 1, 1, 1), (8, 16, 4, 1), (8, 16, 4, 4)):
+        each = EACH // sources // steps
+        words = [str(word) for word in (sources, stores, links, steps, each, 64, EACH)]
+        packets = sources * each * steps
         takes = [
             [instructions([*map(str, program), mode, *words]) / packets for mode in ("make", "record", "dump")]
             for program in (PROGRAM, (twin,))
@@ -140,7 +141,7 @@ def counted(twin):
         for last in (1, 2):
             ours, plain = (take[last] - take[last - 1] for take in takes)
             cells.append(f"{ours:,.0f} | {plain:,.0f} | {ours / plain:.1f}")
-        print(f"| {sources} | {stores} | {links} | {' | '.join(cells)} |", flush=True)
+        print(f"| {sources} | {stores} | {links} | {steps} | {' | '.join(cells)} |", flush=True)
 
 
 def telemetry(apid, count, octets):
