@@ -4,8 +4,9 @@ use Rattle.mm_record.proofs.Words.{is_ok, nat_tests, filter-append, append-nil, 
 use Rattle.mm_record.proofs.Words.{with_call, asked, offer_at, offers_by, ExtendsBy, Goes, Offers, RecordingContext, IsRefusedWith}
 use Rattle.std.proofs.lemmas.List.Quantifiers.{Any-push}
 use Rattle.mm_base.specs.declared.rows.RouteRow.{RouteRow}
+use Rattle.mm_desk.specs.Runs.{entry}
 use Rattle.mm_desk.specs.declared.reply.Reply.TheVariants as reply
-use Rattle.mm_shared.proofs.CallsOn.{list_here}
+use Rattle.mm_shared.proofs.CallsOn.{call_here}
 
 -- an offer to the store at an index that is refused: it is in the list too, and is the reason
 pub offer_refused : {T : Type 0} (e : RecordingContext) (port : PortView) (index : ℕ) (p : SpacePacket) (back : Returned) → index < length e.ids
@@ -21,7 +22,7 @@ offer_refused e port index p back within = record {
   reason = inr (record {
     index = index;
     within = within;
-    refused = rw (list_here port index (Offer e.now p) (reply.Offered (Err back)))
+    refused = rw (call_here index port.list index (entry port.number (Offer e.now p) (reply.Offered (Err back))) refl)
         (Any-push (λ (e : Entry). IsRefusedWith back.fault e.event e.reply) (list_at port index) _ refl);
   });
 }
