@@ -14,10 +14,19 @@
  * - No call is made from a signal handler, nor in the forked child of a process with threads.
  * - The handle of a memory is `RUDLAYOG_MEMORY_CLOSED`, or all its octets are 0, before its first call. It is changed by calls alone, it is
  *   not copied, and no two calls on it are made at once.
- * - The stack has room for the call (`RUDLAYOG_PLAN_STACK` and the like).
+ * - The stack has room for the call (`RUDLAYOG_PLAN_STACK` and the like; those of calls with a setup are large, and much smaller where it is
+ *   known to be flat).
+ * - Pointers have 64 bits.
+ *
+ * The archive librudlayog.a also has the names `rattle_alloc`, `rattle_realloc` and `rattle_dealloc`, by which it calls `malloc`, `realloc`
+ * and `free`; the shared library has only the calls below.
  *
  * The library keeps nothing between two calls but what a handle holds, starts no thread and takes no lock: calls may be made in several
  * threads at once.
+ *
+ * A call that is refused tells the first test that fails, in the order in which the call lists its refusals; those of texts and packets
+ * stand below, at `enum rudlayog_refusal`. Out of memory, `RUDLAYOG_REFUSAL_NO_MEMORY`, may come in place of any other answer of a call that
+ * lists it.
  *
  * Whatever it answers, a call writes its `answer` whole, and each value beside it (`losses`, `verdict`, `outcome`, `fate`, `tally`, `time`,
  * `state`, `reports`, `report`), which is all 0 but where the call says another. It writes into its buffer only where it tells
@@ -30,8 +39,10 @@
 #include <stddef.h>
 #include <stdint.h>
 
-/* The version of this header. rudlayog_version tells that of the library. */
+/* The version of this header, also as a number: two digits for each of its parts. rudlayog_version and rudlayog_version_number tell that of
+ * the library. */
 #define RUDLAYOG_VERSION "0.4.0"
+#define RUDLAYOG_VERSION_NUMBER 400
 
 #ifdef __cplusplus
 #define RUDLAYOG_SAME(fact) static_assert(fact, "the library has this layout")
@@ -74,28 +85,50 @@ enum {
     RUDLAYOG_ROWS = 16377         /* for the entries of any report, in entries */
 };
 
-/* Bytes of stack that do for a call, with the allocator of glibc. bindings/c/tests/stack.c measures less, also with setups that are nested
- * as deeply as they may be; they are not proved. */
+/* Bytes of stack that do for a call, whatever its texts are, with the allocator of glibc. bindings/c/tests/stack.c measures less, also with
+ * setups whose tables are nested as deeply as they may be, and with made ones; they are not proved.
+ *
+ * A setup is refused where tables are nested in it otherwise than in docs/FORMATS.md, 'Setup', but only once it is read whole, and the reader
+ * takes stack for each level: up to 80 for the parts of a header, 80 for those of a key, and 80 times 80 in one value. The constants that
+ * begin with `RUDLAYOG_FLAT_` do where the setup is flat: each of its lines is empty, a comment, one of the headers `[[store]]`,
+ * `[[route]]` and `[[limit]]`, or a key without a dot with a text or a number as its value. */
 enum {
-    RUDLAYOG_PLAN_STACK = 114688,
-    RUDLAYOG_CHECK_STACK = 114688,
-    RUDLAYOG_CHART_STACK = 114688,
-    RUDLAYOG_TABLE_STACK = 114688,
-    RUDLAYOG_SENSITIVITY_STACK = 114688,
-    RUDLAYOG_ASK_STACK = 49152,
+    RUDLAYOG_PLAN_STACK = 2621440,
+    RUDLAYOG_CHECK_STACK = 2621440,
+    RUDLAYOG_CHART_STACK = 2621440,
+    RUDLAYOG_TABLE_STACK = 2621440,
+    RUDLAYOG_SENSITIVITY_STACK = 2621440,
+    RUDLAYOG_ASK_STACK = 2621440,
     RUDLAYOG_READ_STACK = 8192,
     RUDLAYOG_WORDS_STACK = 4096,
-    RUDLAYOG_HINT_STACK = 114688,
+    RUDLAYOG_HINT_STACK = 2621440,
     RUDLAYOG_VERSION_STACK = 1024,
-    RUDLAYOG_FIELDS_STACK = 4096, /* for rudlayog_request_write and rudlayog_report_read */
-    RUDLAYOG_OPEN_STACK = 49152,  /* for rudlayog_memory_open */
-    RUDLAYOG_MEMORY_STACK = 4096  /* for each other call on a memory */
+    RUDLAYOG_FIELDS_STACK = 4096,     /* for rudlayog_request_write and rudlayog_report_read */
+    RUDLAYOG_OPEN_STACK = 2621440,    /* for rudlayog_memory_open */
+    RUDLAYOG_MEMORY_STACK = 8192,     /* for each other call on a memory */
+    RUDLAYOG_FLAT_STACK = 114688,     /* for each call, where the setup is flat */
+    RUDLAYOG_FLAT_OPEN_STACK = 16384, /* for rudlayog_memory_open and rudlayog_ask, where it is */
+    /* On 64-bit Arm and RISC-V those of flat setups and of memories hold too; what nested setups take there is not measured. */
 };
 
-/* Bytes of memory that do for a report that waits, measured by bindings/c/tests/answers.c with the allocator of glibc. */
-enum { RUDLAYOG_REPORT_MEMORY = 10240 };
+/* Bytes of memory that do for a report that waits, and the most that stay allocated for reports where none waits; measured by
+ * bindings/c/tests/answers.c with the allocator of glibc. */
+enum { RUDLAYOG_REPORT_MEMORY = 10240, RUDLAYOG_WAITING_MEMORY = 32768 };
 
-/* The refusals, by the number of each. docs/FORMATS.md, 'Refusals', says what each expects. bindings/c/make_refusals prints this enum. */
+/* The refusals, by the number of each. docs/FORMATS.md, 'Refusals', says what each expects. bindings/c/make_refusals prints this enum.
+ *
+ * What is refused, with the tests in their order (docs/FORMATS.md and docs/PACKETS.md say them whole); the names begin with
+ * `RUDLAYOG_REFUSAL_`:
+ *
+ * - a setup: SETUP_TEXT, it is not TOML; SETUP_FIELD, a key at the top; LIMIT, how many tables there are; then SETUP_FIELD or LIMIT, the
+ *   first fault of each store, route and limit, table by table;
+ * - a forecast: HEADER; then, record by record, FORECAST_TEXT, LIMIT (too many records), CELL, STEP_NUMBER or LIMIT, from the left; at the
+ *   end LIMIT (no record);
+ * - a plan text: PLAN_TEXT, line by line; SHAPE, it is for another setup or forecast;
+ * - a packet: SHORT, VERSION, IDLE_PACKET, NO_SECONDARY_HEADER, SEGMENTED, SHORT (its data length), HEADER_CUT, PUS_VERSION; HEX_LINE, there
+ *   are octets after it;
+ * - a telecommand or a report of the storage service: as a packet; NOT_ST15, UNKNOWN_SUBTYPE, COUNT_MISMATCH;
+ * - an identifier: BAD_ID, the text is none; NO_SUCH_STORE, no store has it. */
 enum rudlayog_refusal {
     RUDLAYOG_REFUSAL_NO_MEMORY = 0,
     RUDLAYOG_REFUSAL_SHORT = 1,
@@ -151,6 +184,7 @@ enum rudlayog_refusal {
     RUDLAYOG_REFUSAL_SOURCES_TEXT = 51,
     RUDLAYOG_REFUSAL_LINKS_TEXT = 52,
     RUDLAYOG_REFUSAL_CHANNEL_DIFFERS = 53,
+    RUDLAYOG_REFUSAL_TOO_MANY_REPORTS = 54,
 };
 
 /* A refusal: its number, of `enum rudlayog_refusal`, and its place, of `enum rudlayog_place`. Lines, rows and columns count from 1. `name`
@@ -180,6 +214,7 @@ struct rudlayog_losses {
     uint64_t by_store[RUDLAYOG_STORES];
 };
 
+/* The kinds of a verdict. rudlayog_is_least says which of them are a plan that loses least. */
 enum rudlayog_kind {
     RUDLAYOG_NO_VERDICT = 0,   /* the call is refused */
     RUDLAYOG_LEAST = 1,        /* no plan that fits loses fewer blocks; loss */
@@ -200,6 +235,9 @@ struct rudlayog_verdict {
     uint64_t loss;
     int64_t bound;
 };
+
+/* Whether a verdict of this kind says that no plan that fits loses fewer blocks. */
+static inline bool rudlayog_is_least(uint32_t kind) { return kind == RUDLAYOG_LEAST || kind == RUDLAYOG_LEAST_IN_ORDER; }
 
 /* Whether all was done that requests asked, or all packets could be read. */
 enum rudlayog_outcome {
@@ -231,13 +269,16 @@ struct rudlayog_fate {
     uint64_t time;
 };
 
+/* The kind of a store, which is also its type in requests and reports: one enum for both, with two names for each kind. */
 enum rudlayog_store_kind {
-    RUDLAYOG_NO_STORE = 0, /* the call is refused */
-    RUDLAYOG_CIRCULAR = 1, /* a full store overwrites its oldest packet */
-    RUDLAYOG_BOUNDED = 2   /* a full store keeps what it holds */
+    RUDLAYOG_CIRCULAR = 0, /* a full store overwrites its oldest packet */
+    RUDLAYOG_BOUNDED = 1,  /* a full store keeps what it holds */
+    RUDLAYOG_TYPE_CIRCULAR = RUDLAYOG_CIRCULAR,
+    RUDLAYOG_TYPE_BOUNDED = RUDLAYOG_BOUNDED,
+    RUDLAYOG_NO_STORE = 255 /* of a state: the call is refused. In an instruction it is refused, as any other type is */
 };
 
-/* What a store holds and has lost: its kind, its size in blocks, and how many packets it holds; 1 where storage is on, and 1 where a
+/* What a store holds and has lost: its kind, of `enum rudlayog_store_kind`, its size in blocks, and how many packets it holds; 1 where storage is on, and 1 where a
  * retrieval is; how many packets were offered and not refused, were lost, and were deleted, so that `offered` is the sum of `lost`,
  * `deleted` and `held`; the storage times of its oldest and its newest packet, 0 where it is empty; and of the retrieval that is on the
  * first and the last time, and the time of the packet that it gave last, 0 where it gave none. Times are in ticks. */
@@ -301,16 +342,13 @@ enum rudlayog_report_subtype {
     RUDLAYOG_CONFIGURATIONS = 23 /* id, size, type, channel */
 };
 
-/* The type of a store in packets. */
-enum rudlayog_packet_type { RUDLAYOG_TYPE_CIRCULAR = 0, RUDLAYOG_TYPE_BOUNDED = 1 };
-
 /* The fields of a request. */
 struct rudlayog_request {
     uint16_t apid;           /* the application process identifier of the storage service, 0 to 2046 */
     uint16_t count;          /* the packet sequence count, 0 to 16383 */
     uint16_t source;         /* the source identifier */
     uint8_t acknowledgement; /* the acknowledgement flags, 0 to 15 */
-    uint8_t subtype;         /* of enum rudlayog_request_subtype */
+    enum rudlayog_request_subtype subtype : 8;
 };
 
 /* An instruction of a request. Fields that the instructions of the request do not have are not read. */
@@ -322,7 +360,7 @@ struct rudlayog_instruction {
     uint16_t apid;   /* the application process identifier of a report type */
     uint8_t service; /* the service type of a report type */
     uint8_t subtype; /* the message subtype of a report type */
-    uint8_t type;    /* of enum rudlayog_packet_type */
+    enum rudlayog_store_kind type : 8;
     uint8_t channel; /* the virtual channel of the store */
 };
 
@@ -350,7 +388,7 @@ struct rudlayog_entry {
     uint8_t subtype;   /* the message subtype of a report type */
     uint8_t storage;   /* 1 where its storage is on, 0 where it is off */
     uint8_t retrieval; /* 1 where a retrieval is on, 0 where none is */
-    uint8_t type;      /* of enum rudlayog_packet_type */
+    uint8_t type;      /* of enum rudlayog_store_kind */
     uint8_t channel;   /* its virtual channel */
 };
 
@@ -377,7 +415,7 @@ RUDLAYOG_SAME(sizeof(struct rudlayog_tally) == 12);
 RUDLAYOG_SAME(offsetof(struct rudlayog_tally, kept) == 0 && offsetof(struct rudlayog_tally, lost) == 4 &&
               offsetof(struct rudlayog_tally, refused) == 8);
 
-RUDLAYOG_SAME(sizeof(struct rudlayog_request) == 8 && offsetof(struct rudlayog_request, subtype) == 7);
+RUDLAYOG_SAME(sizeof(struct rudlayog_request) == 8 && offsetof(struct rudlayog_request, acknowledgement) == 6);
 RUDLAYOG_SAME(sizeof(struct rudlayog_instruction) == 40 && offsetof(struct rudlayog_instruction, to) == 16);
 RUDLAYOG_SAME(offsetof(struct rudlayog_instruction, apid) == 28 && offsetof(struct rudlayog_instruction, channel) == 33);
 RUDLAYOG_SAME(sizeof(struct rudlayog_report) == 32 && offsetof(struct rudlayog_report, apid) == 16);
@@ -387,7 +425,8 @@ RUDLAYOG_SAME(offsetof(struct rudlayog_entry, apid) == 32 && offsetof(struct rud
 
 /* The text of a dump plan that loses least for a setup and a forecast, with the cut that shows it. Stack: `RUDLAYOG_PLAN_STACK`.
  *
- * `RUDLAYOG_WRITTEN`, `RUDLAYOG_TOO_SMALL` (never where `room` is `RUDLAYOG_PLAN_ROOM` or more), `RUDLAYOG_REFUSED`. */
+ * `RUDLAYOG_WRITTEN`, `RUDLAYOG_TOO_SMALL` (never where `room` is `RUDLAYOG_PLAN_ROOM` or more), `RUDLAYOG_REFUSED`: the setup, the
+ * forecast; or out of memory. */
 void rudlayog_plan(const uint8_t *setup, size_t setup_length, const uint8_t *forecast, size_t forecast_length, uint8_t *out, size_t room,
                    struct rudlayog_answer *answer);
 
@@ -395,54 +434,55 @@ void rudlayog_plan(const uint8_t *setup, size_t setup_length, const uint8_t *for
  * `RUDLAYOG_PLAN_STACK`.
  *
  * `RUDLAYOG_WRITTEN`, `RUDLAYOG_TOO_SMALL` (never where `room` is `RUDLAYOG_PLAN_ROOM` or more): `losses` is what the stores lose.
- * `RUDLAYOG_REFUSED`: it is all 0. */
+ * `RUDLAYOG_REFUSED`, as of rudlayog_plan: it is all 0. */
 void rudlayog_plan_losses(const uint8_t *setup, size_t setup_length, const uint8_t *forecast, size_t forecast_length, uint8_t *out,
                           size_t room, struct rudlayog_losses *losses, struct rudlayog_answer *answer);
 
 /* The text of a dump plan that serves the stores in the setup's order: of the first store, of the first two and so on no plan that fits loses
  * fewer blocks, and a cut of each shows it. Stack: `RUDLAYOG_PLAN_STACK`.
  *
- * `RUDLAYOG_WRITTEN`, `RUDLAYOG_TOO_SMALL`, `RUDLAYOG_REFUSED`. */
+ * `RUDLAYOG_WRITTEN`, `RUDLAYOG_TOO_SMALL`, `RUDLAYOG_REFUSED` as of rudlayog_plan. */
 void rudlayog_plan_in_order(const uint8_t *setup, size_t setup_length, const uint8_t *forecast, size_t forecast_length, uint8_t *out,
                             size_t room, struct rudlayog_answer *answer);
 
 /* The verdict on a plan text, whoever made it: in `verdict`, and as its line in `out`. Stack: `RUDLAYOG_CHECK_STACK`.
  *
  * `RUDLAYOG_WRITTEN`, `RUDLAYOG_TOO_SMALL` (never where `room` is `RUDLAYOG_LINE_ROOM` or more): `verdict` is the verdict.
- * `RUDLAYOG_REFUSED`: it is all 0. */
+ * `RUDLAYOG_REFUSED`, the setup, the forecast, the plan text; or out of memory: it is all 0. */
 void rudlayog_check(const uint8_t *setup, size_t setup_length, const uint8_t *forecast, size_t forecast_length, const uint8_t *plan,
                     size_t plan_length, uint8_t *out, size_t room, struct rudlayog_verdict *verdict, struct rudlayog_answer *answer);
 
 /* The chart of a plan text: a document of Scalable Vector Graphics (SVG) 1.1. Stack: `RUDLAYOG_CHART_STACK`.
  *
- * `RUDLAYOG_WRITTEN`, `RUDLAYOG_TOO_SMALL`, `RUDLAYOG_REFUSED`. */
+ * `RUDLAYOG_WRITTEN`, `RUDLAYOG_TOO_SMALL`, `RUDLAYOG_REFUSED` as of rudlayog_check. */
 void rudlayog_chart(const uint8_t *setup, size_t setup_length, const uint8_t *forecast, size_t forecast_length, const uint8_t *plan,
                     size_t plan_length, uint8_t *out, size_t room, struct rudlayog_answer *answer);
 
 /* The chart of a plan text with what each window is worth, as a bar above it (`most` of rudlayog_sensitivity). It takes up to some hundred
  * times rudlayog_plan. Stack: `RUDLAYOG_CHART_STACK`.
  *
- * `RUDLAYOG_WRITTEN`, `RUDLAYOG_TOO_SMALL`, `RUDLAYOG_REFUSED`. */
+ * `RUDLAYOG_WRITTEN`, `RUDLAYOG_TOO_SMALL`, `RUDLAYOG_REFUSED` as of rudlayog_check. */
 void rudlayog_chart_worth(const uint8_t *setup, size_t setup_length, const uint8_t *forecast, size_t forecast_length, const uint8_t *plan,
                           size_t plan_length, uint8_t *out, size_t room, struct rudlayog_answer *answer);
 
 /* The table of a plan text: what each step does to each store, as comma separated values. Stack: `RUDLAYOG_TABLE_STACK`.
  *
- * `RUDLAYOG_WRITTEN`, `RUDLAYOG_TOO_SMALL`, `RUDLAYOG_REFUSED`. */
+ * `RUDLAYOG_WRITTEN`, `RUDLAYOG_TOO_SMALL`, `RUDLAYOG_REFUSED` as of rudlayog_check. */
 void rudlayog_table(const uint8_t *setup, size_t setup_length, const uint8_t *forecast, size_t forecast_length, const uint8_t *plan,
                     size_t plan_length, uint8_t *out, size_t room, struct rudlayog_answer *answer);
 
 /* What each window, store size and limit is worth for a setup and a forecast, as comma separated values: how many blocks fewer the least plan
  * loses if it is larger. It takes up to some two hundred times rudlayog_plan. Stack: `RUDLAYOG_SENSITIVITY_STACK`.
  *
- * `RUDLAYOG_WRITTEN`, `RUDLAYOG_TOO_SMALL`, `RUDLAYOG_REFUSED`. */
+ * `RUDLAYOG_WRITTEN`, `RUDLAYOG_TOO_SMALL`, `RUDLAYOG_REFUSED` as of rudlayog_plan. */
 void rudlayog_sensitivity(const uint8_t *setup, size_t setup_length, const uint8_t *forecast, size_t forecast_length, uint8_t *out,
                           size_t room, struct rudlayog_answer *answer);
 
 /* The lines that answer telecommands of the storage service, one a line, to the memory of a setup; and their outcome. Stack:
  * `RUDLAYOG_ASK_STACK`.
  *
- * `RUDLAYOG_WRITTEN`, `RUDLAYOG_TOO_SMALL`: `outcome` is the outcome. `RUDLAYOG_REFUSED`: it is `RUDLAYOG_NO_OUTCOME`. */
+ * `RUDLAYOG_WRITTEN`, `RUDLAYOG_TOO_SMALL`: `outcome` is the outcome. `RUDLAYOG_REFUSED`, the setup; or out of memory: it is
+ * `RUDLAYOG_NO_OUTCOME`. A line or an instruction that is refused is answered in the text. */
 void rudlayog_ask(const uint8_t *setup, size_t setup_length, const uint8_t *requests, size_t requests_length, uint8_t *out, size_t room,
                   uint32_t *outcome, struct rudlayog_answer *answer);
 
@@ -468,6 +508,10 @@ void rudlayog_words(const struct rudlayog_refused *refused, uint8_t *out, size_t
 void rudlayog_hint(const uint8_t *setup, size_t setup_length, const uint8_t *forecast, size_t forecast_length, const uint8_t *plan,
                    size_t plan_length, const struct rudlayog_refused *refused, uint8_t *out, size_t room, struct rudlayog_answer *answer);
 
+/* The version of the library as a number, to be compared with `RUDLAYOG_VERSION_NUMBER`. It has no answer, since it always tells. Stack:
+ * `RUDLAYOG_VERSION_STACK`. */
+void rudlayog_version_number(uint32_t *number);
+
 /* The version of the library, as `0.4.0`. Stack: `RUDLAYOG_VERSION_STACK`.
  *
  * `RUDLAYOG_WRITTEN`, `RUDLAYOG_TOO_SMALL` (not where `room` is `RUDLAYOG_VERSION_ROOM` or more). */
@@ -488,8 +532,8 @@ void rudlayog_request_write(const struct rudlayog_request *request, const struct
  * `RUDLAYOG_FIELDS_STACK`.
  *
  * `RUDLAYOG_WRITTEN`: `report` has the fields, and the first `answer.length` of `entries` are its entries. `RUDLAYOG_TOO_SMALL`: `report`
- * has the fields, and `entries` is as it was. `RUDLAYOG_REFUSED`: the octets are no packet, there are more than the packet has, it is no
- * report, or out of memory; `report` is all 0. */
+ * has the fields, and `entries` is as it was. `RUDLAYOG_REFUSED`, as a report of the storage service; or out of memory: `report` is all
+ * 0. */
 void rudlayog_report_read(const uint8_t *packet, size_t packet_length, struct rudlayog_report *report, struct rudlayog_entry *entries,
                           size_t entries_room, struct rudlayog_answer *answer);
 
@@ -499,28 +543,33 @@ void rudlayog_report_read(const uint8_t *packet, size_t packet_length, struct ru
 
 /* Opens a closed handle with the memory of a setup: its stores empty, their storage on, and its routes. Stack: `RUDLAYOG_OPEN_STACK`.
  *
- * `RUDLAYOG_WRITTEN`, with no text; `RUDLAYOG_OPEN`, `RUDLAYOG_REFUSED`. */
+ * `RUDLAYOG_WRITTEN`, with no text; `RUDLAYOG_OPEN`, also for a setup that is none; `RUDLAYOG_REFUSED`, the setup; or out of memory. */
 void rudlayog_memory_open(struct rudlayog_memory *memory, const uint8_t *setup, size_t setup_length, struct rudlayog_answer *answer);
 
 /* Offers a packet to one store.
  *
- * `RUDLAYOG_WRITTEN`, with no text: `fate` is what became of it. `RUDLAYOG_REFUSED`: `fate` is all 0. */
+ * `RUDLAYOG_WRITTEN`, with no text: `fate` is what became of it. `RUDLAYOG_REFUSED`: `fate` is all 0. The tests: `RUDLAYOG_REFUSAL_BAD_ID`;
+ * the packet; `RUDLAYOG_REFUSAL_TOO_LONG`, it has more than `RUDLAYOG_BLOCK` octets; `RUDLAYOG_REFUSAL_NO_SUCH_STORE`;
+ * `RUDLAYOG_REFUSAL_DISABLED`, storage into the store is off; `RUDLAYOG_REFUSAL_CLOCK_END`. Or out of memory. */
 void rudlayog_memory_offer(struct rudlayog_memory *memory, const uint8_t *id, size_t id_length, uint64_t now, const uint8_t *packet,
                            size_t packet_length, struct rudlayog_fate *fate, struct rudlayog_answer *answer);
 
 /* Offers a packet to each store that its report type is routed to.
  *
- * `RUDLAYOG_WRITTEN`, with no text: `tally` is what became of it; it may be all 0. `RUDLAYOG_REFUSED`: `tally` is all 0. */
+ * `RUDLAYOG_WRITTEN`, with no text: `tally` is what became of it; it may be all 0. `RUDLAYOG_REFUSED`, the packet,
+ * `RUDLAYOG_REFUSAL_TOO_LONG`; or out of memory: `tally` is all 0. */
 void rudlayog_memory_record(struct rudlayog_memory *memory, uint64_t now, const uint8_t *packet, size_t packet_length,
                             struct rudlayog_tally *tally, struct rudlayog_answer *answer);
 
 /* Applies a telecommand of the storage service, whose reports then wait for rudlayog_memory_report. One that waits takes up to
  * `RUDLAYOG_REPORT_MEMORY` bytes until it is given or the handle is closed. A request has up to 255 reports. As many wait as memory holds,
- * or as rudlayog_memory_bound lets; rudlayog_memory_waiting counts them.
+ * or as rudlayog_memory_bound lets; rudlayog_memory_waiting counts them. Where the last one that waits is given, no more than
+ * `RUDLAYOG_WAITING_MEMORY` bytes stay allocated for those to come; a request that is refused out of memory may leave as many.
  *
  * `RUDLAYOG_WRITTEN`: the first answer.length octets of `each` are the answers to its instructions, in order: `RUDLAYOG_DONE`, or the
- * number of a refusal. `RUDLAYOG_REFUSED`: the request is refused whole. `RUDLAYOG_TOO_SMALL`: `each_room` is below
- * `RUDLAYOG_INSTRUCTIONS`, whatever the request. */
+ * number of a refusal, by the tests of docs/PACKETS.md, 'Carrying out a request'. `RUDLAYOG_TOO_SMALL`: `each_room` is below
+ * `RUDLAYOG_INSTRUCTIONS`, whatever the request. `RUDLAYOG_REFUSED`: the request is refused whole, as a telecommand of the storage
+ * service; `RUDLAYOG_REFUSAL_TOO_MANY_REPORTS`, see rudlayog_memory_bound; or out of memory. */
 void rudlayog_memory_apply(struct rudlayog_memory *memory, uint64_t now, const uint8_t *request, size_t request_length, uint8_t *each,
                            size_t each_room, struct rudlayog_answer *answer);
 
@@ -533,32 +582,32 @@ void rudlayog_memory_report(struct rudlayog_memory *memory, uint8_t *out, size_t
 /* Gives the next packet of the retrieval from a store, with its storage time. It takes no memory.
  *
  * `RUDLAYOG_WRITTEN`: `time` is the storage time. `RUDLAYOG_END`: the retrieval is over. `RUDLAYOG_TOO_SMALL`: `room` is below
- * `RUDLAYOG_BLOCK`, whatever the packet. `RUDLAYOG_REFUSED`: no store has this identifier, or no retrieval is on. `time` is 0 with each
- * answer but `RUDLAYOG_WRITTEN`. */
+ * `RUDLAYOG_BLOCK`, whatever the packet. `RUDLAYOG_REFUSED`: the identifier; `RUDLAYOG_REFUSAL_NO_RETRIEVAL`. `time` is 0 with each answer
+ * but `RUDLAYOG_WRITTEN`. */
 void rudlayog_memory_next(struct rudlayog_memory *memory, const uint8_t *id, size_t id_length, uint8_t *out, size_t room, uint64_t *time,
                           struct rudlayog_answer *answer);
 
-/* Tells what a store holds and has lost.
+/* Tells what a store holds and has lost. It takes no memory.
  *
- * `RUDLAYOG_WRITTEN`, with no text: `state` is that of the store. `RUDLAYOG_REFUSED`: no store has this identifier, and `state` is all
- * 0. */
+ * `RUDLAYOG_WRITTEN`, with no text: `state` is that of the store. `RUDLAYOG_REFUSED`, the identifier, and `RUDLAYOG_CLOSED`: `state` is all 0
+ * but for its kind, `RUDLAYOG_NO_STORE`. */
 void rudlayog_memory_state(struct rudlayog_memory *memory, const uint8_t *id, size_t id_length, struct rudlayog_state *state,
                            struct rudlayog_answer *answer);
 
-/* Tells how many reports wait.
+/* Tells how many reports wait. It takes no memory.
  *
  * `RUDLAYOG_WRITTEN`, with no text: `reports` is their number. */
 void rudlayog_memory_waiting(struct rudlayog_memory *memory, uint64_t *reports, struct rudlayog_answer *answer);
 
-/* Lets at most so many reports wait from now on. Before the first call as many wait as memory holds, and so they do with `UINT64_MAX`;
- * those that wait already go on waiting. A request is then refused whole, as it is out of memory, where the bound is below the sum of how
- * many wait and how many reports it has at most: one for each instruction of TC[15,5]; one for TC[15,12], TC[15,18] and TC[15,22]. A
- * request of another subtype has none, and is not refused for the bound.
+/* Lets at most this number of reports wait from now on. Before the first call as many wait as memory holds, and with `UINT64_MAX` again;
+ * those that wait already go on waiting. It takes no memory. A request is then refused whole, `RUDLAYOG_REFUSAL_TOO_MANY_REPORTS`, where the
+ * bound is below the sum of how many wait and how many reports it has at most: one for each instruction of TC[15,5]; one for TC[15,12],
+ * TC[15,18] and TC[15,22]. A request of another subtype has none, and is not refused for the bound.
  *
  * `RUDLAYOG_WRITTEN`, with no text. */
 void rudlayog_memory_bound(struct rudlayog_memory *memory, uint64_t reports, struct rudlayog_answer *answer);
 
-/* Closes a handle, and frees what it held. A closed one stays closed. */
+/* Closes a handle, and frees what it held: all its octets that hold something are 0 then. A closed one stays closed. */
 void rudlayog_memory_close(struct rudlayog_memory *memory);
 
 #ifdef __cplusplus

@@ -1,5 +1,6 @@
 #!/usr/bin/env python3
-"""Puts the module, the scripts, the style and the examples into one page: make_page.py MODULE OUT. Prints the name of the page."""
+"""Puts the module, the scripts, the style and the examples into one page: make_page.py MODULE OUT [--hook]. Prints the
+name of the page. With `--hook` it is a page for tests, which lets them see what it holds."""
 
 import base64
 import hashlib
@@ -8,6 +9,7 @@ import json
 import re
 import subprocess
 import sys
+import zlib
 from pathlib import Path
 
 HERE = Path(__file__).resolve().parent
@@ -22,7 +24,8 @@ def refuse(words: str) -> None:
 
 
 def scripts(name: str, seen: list[str]) -> str:
-    """A module of the page after those that it imports, as one script: no name is given twice, so that nothing has to be renamed."""
+    """A module of the page after those that it imports, as one script: no name is given twice, so that nothing has to
+    be renamed."""
     if name in seen:
         return ""
     seen.append(name)
@@ -34,10 +37,10 @@ def scripts(name: str, seen: list[str]) -> str:
     return below + own
 
 
-def script() -> str:
-    """All modules as one script."""
-    text = "\n" + scripts("main", [])
-    names = re.findall(r"^(?:async )?(?:function|class|const|let) ([A-Za-z]\w*)", text, re.M)
+def script(name: str) -> str:
+    """A module with all that it imports as one script."""
+    text = "\n" + scripts(name, [])
+    names = re.findall(r"^(?:async )?(?:function\*?|class|const|let) ([A-Za-z]\w*)", text, re.M)
     twice = sorted({name for name in names if names.count(name) > 1})
     if twice:
         refuse(f"two modules have {', '.join(twice)}")
@@ -52,22 +55,26 @@ def source(text: str) -> str:
 def examples() -> dict[str, dict[str, str]]:
     """The texts of the examples."""
     texts = (("setup", "setup.toml"), ("forecast", "forecast.csv"))
-    return {name: {what: (TOP / "examples" / name / file).read_text(encoding="utf-8") for what, file in texts} for name in EXAMPLES}
+    return {name: {what: (TOP / "examples" / name / file).read_text(encoding="utf-8") for what, file in texts}
+        for name in EXAMPLES}
 
 
-def main(module: str, out: str) -> None:
+def main(module: str, out: str, hook: str = "") -> None:
     """The program."""
-    octets, code, style = Path(module).read_bytes(), script(), (HERE / "page.css").read_text(encoding="utf-8")
+    octets, code, style = Path(module).read_bytes(), script("hook" if hook == "--hook" else "main"), (
+        HERE / "page.css").read_text(encoding="utf-8")
     kit = subprocess.run(["rt", "version"], capture_output=True, text=True, check=True).stdout.strip()
     parts = {
         "SCRIPT_HASH": source(code),
         "STYLE_HASH": source(style),
         "OPTIONS": "".join(f'<option value="{name}">{name}</option>' for name in EXAMPLES),
-        "BUILD": f"Made with <code>{html.escape(kit)}</code>; SHA-256 of the module <code>{hashlib.sha256(octets).hexdigest()}</code>.",
+        "BUILD": f"Made with <code>{html.escape(kit)}</code>; SHA-256 of the module "
+        f"<code>{hashlib.sha256(octets).hexdigest()}</code>.",
         "STYLE": style,
         # No text ends the element that it stands in.
         "EXAMPLES": json.dumps(examples()).replace("<", "\\u003c"),
-        "MODULE": base64.b64encode(octets).decode(),
+        "MODULE": base64.b64encode(zlib.compress(octets, 9)).decode(),
+        "WORKER": script("worker"),
         "SCRIPT": code,
     }
     page = (HERE / "page.html").read_text(encoding="utf-8")

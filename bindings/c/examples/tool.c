@@ -8,7 +8,7 @@
  *   tool ask SETUP REQUESTS
  *   tool read PACKETS
  *
- * The status is 0 where all is done, 1 where something is refused or a verdict is not `least`, and 2 where the command line or a file is
+ * The status is 0 where all is done, 1 where something is refused or a plan is not told to lose least, and 2 where the command line or a file is
  * not well. */
 #include <rudlayog.h>
 #include <stdio.h>
@@ -150,7 +150,8 @@ static int print(const struct call *call, const uint8_t *out) {
     struct rudlayog_answer said;
     if (call->answer.status == RUDLAYOG_WRITTEN) {
         fwrite(out, 1, call->answer.length, stdout);
-        return call->verdict.kind > RUDLAYOG_LEAST || call->outcome == RUDLAYOG_SOME_REFUSED;
+        const bool is_less = call->verdict.kind != RUDLAYOG_NO_VERDICT && !rudlayog_is_least(call->verdict.kind);
+        return is_less || call->outcome == RUDLAYOG_SOME_REFUSED;
     }
     rudlayog_words(&call->answer.refused, words, sizeof words, &said);
     if (said.status == RUDLAYOG_WRITTEN) {

@@ -3,6 +3,7 @@
  * `-Wl,--wrap=malloc,--wrap=realloc,--wrap=free`. */
 #include <malloc.h>
 #include <rudlayog.h>
+#include <stddef.h>
 #include <stdio.h>
 #include <stdlib.h>
 #include <string.h>
@@ -221,6 +222,12 @@ static void try_losses(void) {
     expect(losses.by_store[0] == 2 && losses.by_store[1] == 1 && losses.by_store[2] == 0, "rudlayog_plan_losses", "losses of other stores");
 }
 
+/* Whether a state is that of no store: all 0 but for its kind. */
+static int is_no_state(const struct rudlayog_state *state) {
+    const size_t after = offsetof(struct rudlayog_state, size);
+    return state->kind == RUDLAYOG_NO_STORE && is_all((const uint8_t *)state + after, sizeof *state - after, 0);
+}
+
 /* The calls on a closed handle: each tells so, and writes nothing else. */
 static void try_closed(struct rudlayog_memory *memory, const char *name) {
     uint8_t out[RUDLAYOG_BLOCK];
@@ -245,7 +252,7 @@ static void try_closed(struct rudlayog_memory *memory, const char *name) {
         expect(answers[k].status == RUDLAYOG_CLOSED && answers[k].length == 0, name, "a closed handle is not told");
     }
     expect(fate.kind == RUDLAYOG_NO_FATE && fate.time == 0 && is_all(&tally, sizeof tally, 0) && time == 0, name, "another value");
-    expect(state.kind == RUDLAYOG_NO_STORE && state.offered == 0 && state.after == 0 && reports == 0, name, "another state");
+    expect(is_no_state(&state) && reports == 0, name, "another state");
     expect(is_all(out, sizeof out, 0xA5), name, "octets are written");
     rudlayog_memory_close(memory);
 }
@@ -346,7 +353,7 @@ static void try_state(struct rudlayog_memory *memory) {
     expect(state.held == 1 && state.offered == 5 && state.lost == 1 && state.deleted == 3, "rudlayog_memory_state", "after a deletion");
     expect(state.oldest == 4 && state.newest == 4 && state.retrieval == 0 && state.to == 0, "rudlayog_memory_state", "after a deletion");
     state = state_of(memory, "HK", RUDLAYOG_REFUSED);
-    expect(state.kind == RUDLAYOG_NO_STORE && state.size == 0 && state.offered == 0, "rudlayog_memory_state", "of no store");
+    expect(is_no_state(&state), "rudlayog_memory_state", "of no store");
     expect(waiting(memory) == 0, "rudlayog_memory_waiting", "another number");
     rudlayog_memory_apply(memory, 9, status_request, sizeof status_request, out, sizeof out, &answer);
     rudlayog_memory_apply(memory, 9, status_request, sizeof status_request, out, sizeof out, &answer);
@@ -361,8 +368,8 @@ static void bound(struct rudlayog_memory *memory, uint64_t reports) {
     expect(answer.status == RUDLAYOG_WRITTEN && answer.length == 0, "rudlayog_memory_bound", "another status");
 }
 
-/* Applies a request of this subtype with so many times the store SCI, or without instructions. It is done, or it is refused as out of
- * memory is and has written nothing. */
+/* Applies a request of this subtype with that many times the store SCI, or without instructions. It is done, or it is refused for the bound
+ * and has written nothing. */
 static int is_done(struct rudlayog_memory *memory, uint8_t subtype, uint8_t count) {
     uint8_t request[12 + 3 * 8] = {0x18, 100, 0xC0, 0, 0, 0, 0x20, 15, subtype, 0, 7, count};
     const size_t length = count == 0 ? 11 : 12u + count * 8u;
@@ -378,7 +385,7 @@ static int is_done(struct rudlayog_memory *memory, uint8_t subtype, uint8_t coun
         expect(answer.length == count && is_all(each, count, RUDLAYOG_DONE), "rudlayog_memory_apply", "other answers within the bound");
         return 1;
     }
-    expect(answer.status == RUDLAYOG_REFUSED && answer.refused.number == RUDLAYOG_REFUSAL_NO_MEMORY && answer.length == 0,
+    expect(answer.status == RUDLAYOG_REFUSED && answer.refused.number == RUDLAYOG_REFUSAL_TOO_MANY_REPORTS && answer.length == 0,
            "rudlayog_memory_apply", "another refusal beyond the bound");
     expect(is_all(each, sizeof each, 0xA5), "rudlayog_memory_apply", "octets are written beyond the bound");
     return 0;
@@ -442,39 +449,103 @@ static size_t taken(struct rudlayog_memory *memory, uint8_t subtype, size_t time
     return (held - before) / (times * reports);
 }
 
+/* Gives all reports that wait. What stays allocated for reports then is little; there were as many bytes before the first one waited. */
+static void give_all(struct rudlayog_memory *memory, size_t reports, size_t before) {
+    static uint8_t out[RUDLAYOG_PACKET];
+    struct rudlayog_answer answer;
+    for (size_t k = 0; k < reports; k++) {
+        rudlayog_memory_report(memory, out, sizeof out, &answer);
+        expect(answer.status == RUDLAYOG_WRITTEN, "rudlayog_memory_report", "fewer reports wait");
+    }
+    rudlayog_memory_report(memory, out, sizeof out, &answer);
+    expect(answer.status == RUDLAYOG_END, "rudlayog_memory_report", "more reports wait");
+    expect(held - before <= RUDLAYOG_WAITING_MEMORY, "rudlayog_memory_report", "more than is told stays allocated where none waits");
+}
+
 /* What a report takes that waits: a summary of 255 entries, and a storage control of 256 rows. */
 static void measure_waiting(void) {
     static char text[65536];
     struct rudlayog_memory summaries = RUDLAYOG_MEMORY_CLOSED, controls = RUDLAYOG_MEMORY_CLOSED;
-    size_t length = sizeof setup - 1, summary, control;
+    size_t length = sizeof setup - 1, before, summary, control;
     memcpy(text, setup, length);
     for (int k = 0; k < 256; k++) {
         length += (size_t)sprintf(text + length, "[[route]]\napid = %d\nservice = 3\nsubtype = 25\nstore = \"SCI\"\n", k);
     }
     open_memory(&summaries, text);
-    open_memory(&controls, text);
+    before = held;
     summary = taken(&summaries, 12, 1000, 1);
+    give_all(&summaries, 1000, before);
+    rudlayog_memory_close(&summaries);
+    open_memory(&controls, text);
+    before = held;
     control = taken(&controls, 5, 10, 255);
+    give_all(&controls, 10 * 255, before);
+    rudlayog_memory_close(&controls);
     printf("answers: a report that waits takes %zu bytes (255 entries), %zu bytes (256 rows); %d are told\n", summary, control,
            RUDLAYOG_REPORT_MEMORY);
     expect(summary <= RUDLAYOG_REPORT_MEMORY && control <= RUDLAYOG_REPORT_MEMORY, "a report", "it takes more than is told");
-    rudlayog_memory_close(&summaries);
-    rudlayog_memory_close(&controls);
+}
+
+/* A type of a store that is created, and its kind then: the same names. A type that is neither is refused. */
+static void try_kinds(void) {
+    static const struct { enum rudlayog_store_kind type; const char *id; uint8_t answer; } created[] = {
+        {RUDLAYOG_CIRCULAR, "A", RUDLAYOG_DONE},
+        {RUDLAYOG_BOUNDED, "B", RUDLAYOG_DONE},
+        {RUDLAYOG_NO_STORE, "C", RUDLAYOG_REFUSAL_BAD_ENUM},
+    };
+    struct rudlayog_memory memory = RUDLAYOG_MEMORY_CLOSED;
+    struct rudlayog_answer answer;
+    uint8_t request[RUDLAYOG_REQUEST_ROOM], each[RUDLAYOG_INSTRUCTIONS];
+    const struct rudlayog_request fields = {.apid = 100, .subtype = RUDLAYOG_CREATE_STORES};
+    open_memory(&memory, setup);
+    for (size_t k = 0; k < sizeof created / sizeof created[0]; k++) {
+        struct rudlayog_instruction create = {.size = 4, .type = created[k].type, .channel = 1};
+        memcpy(create.id, created[k].id, 1);
+        rudlayog_request_write(&fields, &create, 1, request, sizeof request, &answer);
+        rudlayog_memory_apply(&memory, 1, request, answer.length, each, sizeof each, &answer);
+        expect(answer.status == RUDLAYOG_WRITTEN && answer.length == 1 && each[0] == created[k].answer, "rudlayog_memory_apply",
+               "another answer to a type");
+        if (each[0] == RUDLAYOG_DONE) {
+            expect(state_of(&memory, created[k].id, RUDLAYOG_WRITTEN).kind == (uint32_t)created[k].type, "rudlayog_memory_state",
+                   "another kind than the type of the store that was created");
+        }
+    }
+    rudlayog_memory_close(&memory);
+}
+
+/* The kinds of verdicts that say that a plan loses least. */
+static void try_least(void) {
+    for (uint32_t kind = 0; kind < 12; kind++) {
+        expect(rudlayog_is_least(kind) == (kind == 1 || kind == 8), "rudlayog_is_least", "another answer");
+    }
+}
+
+/* The version as a text and as a number: two digits for each part. */
+static void try_version(void) {
+    struct rudlayog_answer answer;
+    uint8_t version[RUDLAYOG_VERSION_ROOM];
+    unsigned major, minor, patch;
+    uint32_t number = 0;
+    rudlayog_version(version, sizeof version, &answer);
+    expect(answer.length == strlen(RUDLAYOG_VERSION) && memcmp(version, RUDLAYOG_VERSION, answer.length) == 0, "rudlayog_version",
+           "another than the header's");
+    rudlayog_version_number(&number);
+    expect(number == RUDLAYOG_VERSION_NUMBER, "rudlayog_version_number", "another than the header's");
+    expect(sscanf(RUDLAYOG_VERSION, "%u.%u.%u", &major, &minor, &patch) == 3 && number == 10000 * major + 100 * minor + patch,
+           "rudlayog_version_number", "another than the text");
 }
 
 int main(void) {
     struct rudlayog_memory memory;
     struct rudlayog_answer answer;
-    uint8_t version[RUDLAYOG_VERSION_ROOM];
     make_plan(plan, ROOM, &answer);
     plan_length = answer.length;
     for (size_t k = 0; k < sizeof texts / sizeof texts[0]; k++) {
         try_text(texts[k].name, texts[k].call, texts[k].refusal);
     }
     try_losses();
-    rudlayog_version(version, sizeof version, &answer);
-    expect(answer.length == strlen(RUDLAYOG_VERSION) && memcmp(version, RUDLAYOG_VERSION, answer.length) == 0, "rudlayog_version",
-           "another than the header's");
+    try_least();
+    try_version();
     make_no_words(NULL, 0, &answer);
     make_hint(plan, ROOM, &answer);
     expect(answer.length == strlen(hint) && memcmp(plan, hint, answer.length) == 0, "rudlayog_hint", "another hint");
@@ -484,8 +555,10 @@ int main(void) {
     try_open(&memory);
     try_state(&memory);
     rudlayog_memory_close(&memory);
+    expect(memory.at == NULL && !memory.is_open, "rudlayog_memory_close", "another handle");
     try_closed(&memory, "a handle that was closed");
     try_bound();
+    try_kinds();
     measure_waiting();
     expect(held == 0, "all calls", "a block stays allocated");
     return failed;

@@ -127,6 +127,20 @@ static void make_ask(uint8_t *out, struct rudlayog_answer *answer) {
 
 static void make_words(uint8_t *out, struct rudlayog_answer *answer) { rudlayog_words(&cell, out, ROOM, answer); }
 
+/* A setup whose key is misspelt, which is read again for the hint, and a forecast whose header is looked for in the setup. */
+static const char bad_setup[] = "[[store]]\nid = \"SCI\"\nsizes = 4\ntype = \"bounded\"\nchannel = 0\n";
+static const char bad_header[] = "step,window,SCI\n1,2,5\n";
+
+static void make_setup_hint(uint8_t *out, struct rudlayog_answer *answer) {
+    static const struct rudlayog_refused key = {RUDLAYOG_REFUSAL_SETUP_FIELD, RUDLAYOG_KEY, 1, 0, 0, 6};
+    rudlayog_hint(TEXT(bad_setup), (const uint8_t *)"", 0, (const uint8_t *)"", 0, &key, out, ROOM, answer);
+}
+
+static void make_header_hint(uint8_t *out, struct rudlayog_answer *answer) {
+    static const struct rudlayog_refused header = {RUDLAYOG_REFUSAL_HEADER, RUDLAYOG_WHOLE, 0, 0, 0, 0};
+    rudlayog_hint(TEXT(setup), TEXT(bad_header), (const uint8_t *)"", 0, &header, out, ROOM, answer);
+}
+
 static void make_hint(uint8_t *out, struct rudlayog_answer *answer) {
     rudlayog_hint(TEXT(setup), TEXT(bad_forecast), (const uint8_t *)"", 0, &cell, out, ROOM, answer);
 }
@@ -147,6 +161,8 @@ static const struct part parts[] = {
     {"rudlayog_chart_worth", make_chart_worth, RUDLAYOG_WRITTEN},
     {"rudlayog_ask", make_ask, RUDLAYOG_WRITTEN},     {"rudlayog_words", make_words, RUDLAYOG_WRITTEN},
     {"rudlayog_hint", make_hint, RUDLAYOG_WRITTEN},
+    {"rudlayog_hint on a setup", make_setup_hint, RUDLAYOG_WRITTEN},
+    {"rudlayog_hint on a header", make_header_hint, RUDLAYOG_WRITTEN},
 };
 
 static int fail(const struct part *part, const char *what) {

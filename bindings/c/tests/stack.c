@@ -1,13 +1,17 @@
 /* Measures the stack that each call takes, on a stack of its own that is filled first: `stack FOLDER ..`. Each folder has a setup, a
- * forecast and a plan; setups that are nested as deeply as they may be, and deeper, come to them. Prints the most that each call took, in
- * bytes, and fails where that is more than the header says. */
+ * forecast and a plan. A packet is recorded in one store, and in each of 16. To these come setups whose tables are nested, by headers, dotted keys, inline tables and arrays, and made ones: a search
+ * with random numbers of a fixed seed. Prints the most that each call took, in bytes, and fails where that is more than the header says.
+ * `stack --flat FOLDER ..` measures those of the folders alone: what nested setups take is told for x86-64. */
 #include <rudlayog.h>
 #include <stdio.h>
 #include <stdlib.h>
 #include <string.h>
 #include <ucontext.h>
 
-#define STACK 1048576
+#define STACK 4194304
+#define FILL 0xA5
+#define PIECE 4096
+#define MADE 2000
 #define ROOM 1048576
 #define TEXT(text) (const uint8_t *)(text), strlen(text)
 #define GIVEN(text) (text).octets, (text).length
@@ -18,14 +22,16 @@ struct text {
 };
 
 static struct text setup, forecast, plan;
-static struct rudlayog_memory memory, other;
+static struct rudlayog_memory memory, other, wide;
 static struct rudlayog_answer answer;
-static uint8_t stack[STACK], out[ROOM];
+static struct rudlayog_refused refused; /* why the setup is refused, or a fault of its first store */
+static uint8_t stack[STACK], full[PIECE], out[ROOM];
 
 static const char memory_setup[] = "[[store]]\nid = \"HK\"\nsize = 9\ntype = \"circular\"\nchannel = 1\n"
                                    "[[route]]\napid = 100\nservice = 3\nsubtype = 25\nstore = \"HK\"\n";
 static const char requests[] = "1864C0000004200F120007\n1864C005000D200F01000701484B202020202020\n";
 static const uint8_t packet[] = {0x08, 100, 0xC0, 0, 0, 14, 0x20, 3, 25, 0, 0, 0, 0, 0, 0, 0, 0, 0, 0, 0, 0};
+static const struct rudlayog_refused field = {RUDLAYOG_REFUSAL_SETUP_FIELD, RUDLAYOG_KEY, 1, 0, 0, 9};
 static const struct rudlayog_refused cell = {RUDLAYOG_REFUSAL_CELL, RUDLAYOG_CELL, 2, 3, 0, 0};
 
 static void nothing(void) {}
@@ -69,12 +75,14 @@ static void call_ask_of_setup(void) {
 
 static void call_words(void) { rudlayog_words(&cell, out, ROOM, &answer); }
 
-static void call_hint(void) {
-    static const struct rudlayog_refused refused = {RUDLAYOG_REFUSAL_SETUP_FIELD, RUDLAYOG_KEY, 1, 0, 0, 9};
-    rudlayog_hint(GIVEN(setup), GIVEN(forecast), GIVEN(plan), &refused, out, ROOM, &answer);
-}
+static void call_hint(void) { rudlayog_hint(GIVEN(setup), GIVEN(forecast), GIVEN(plan), &refused, out, ROOM, &answer); }
 
 static void call_version(void) { rudlayog_version(out, ROOM, &answer); }
+
+static void call_version_number(void) {
+    uint32_t number;
+    rudlayog_version_number(&number);
+}
 
 static void call_open(void) { rudlayog_memory_open(&memory, TEXT(memory_setup), &answer); }
 
@@ -86,6 +94,24 @@ static void call_open_of_setup(void) {
 static void call_record(void) {
     struct rudlayog_tally tally;
     rudlayog_memory_record(&memory, 1, packet, sizeof packet, &tally, &answer);
+}
+
+/* The report type of the packet goes to each store of the memory, of which there are as many as there may be. */
+static void open_wide(void) {
+    static char text[4096];
+    size_t length = 0;
+    for (int store = 0; store < RUDLAYOG_STORES; store++) {
+        length += (size_t)snprintf(text + length, sizeof text - length,
+                                   "[[store]]\nid = \"S%d\"\nsize = 9\ntype = \"circular\"\nchannel = 1\n"
+                                   "[[route]]\napid = 100\nservice = 3\nsubtype = 25\nstore = \"S%d\"\n",
+                                   store, store);
+    }
+    rudlayog_memory_open(&wide, TEXT(text), &answer);
+}
+
+static void call_record_in_all(void) {
+    struct rudlayog_tally tally;
+    rudlayog_memory_record(&wide, 1, packet, sizeof packet, &tally, &answer);
 }
 
 static void call_offer(void) {
@@ -168,52 +194,57 @@ static void call_close(void) { rudlayog_memory_close(&memory); }
 static struct {
     const char *name;
     void (*call)(void);
-    size_t told, most; /* what the header says, and the most that was met */
+    size_t flat, told, most; /* what the header says where the setup is flat, and of any; and the most that was met */
 } calls[] = {
-    {"rudlayog_plan", call_plan, RUDLAYOG_PLAN_STACK, 0},
-    {"rudlayog_plan_losses", call_plan_losses, RUDLAYOG_PLAN_STACK, 0},
-    {"rudlayog_check", call_check, RUDLAYOG_CHECK_STACK, 0},
-    {"rudlayog_chart", call_chart, RUDLAYOG_CHART_STACK, 0},
-    {"rudlayog_table", call_table, RUDLAYOG_TABLE_STACK, 0},
-    {"rudlayog_sensitivity", call_sensitivity, RUDLAYOG_SENSITIVITY_STACK, 0},
-    {"rudlayog_plan_in_order", call_in_order, RUDLAYOG_PLAN_STACK, 0},
-    {"rudlayog_chart_worth", call_chart_worth, RUDLAYOG_CHART_STACK, 0},
-    {"rudlayog_read", call_read, RUDLAYOG_READ_STACK, 0},
-    {"rudlayog_ask", call_ask, RUDLAYOG_ASK_STACK, 0},
-    {"rudlayog_ask", call_ask_of_setup, RUDLAYOG_ASK_STACK, 0},
-    {"rudlayog_words", call_words, RUDLAYOG_WORDS_STACK, 0},
-    {"rudlayog_hint", call_hint, RUDLAYOG_HINT_STACK, 0},
-    {"rudlayog_version", call_version, RUDLAYOG_VERSION_STACK, 0},
-    {"rudlayog_request_write", call_request_write, RUDLAYOG_FIELDS_STACK, 0},
-    {"rudlayog_report_read", call_report_read, RUDLAYOG_FIELDS_STACK, 0},
-    {"rudlayog_memory_open", call_open, RUDLAYOG_OPEN_STACK, 0},
-    {"rudlayog_memory_open", call_open_of_setup, RUDLAYOG_OPEN_STACK, 0},
-    {"rudlayog_memory_apply", call_apply, RUDLAYOG_MEMORY_STACK, 0},
-    {"rudlayog_memory_record", call_record, RUDLAYOG_MEMORY_STACK, 0},
-    {"rudlayog_memory_offer", call_offer, RUDLAYOG_MEMORY_STACK, 0},
-    {"rudlayog_memory_next", call_next, RUDLAYOG_MEMORY_STACK, 0},
-    {"rudlayog_memory_state", call_state, RUDLAYOG_MEMORY_STACK, 0},
-    {"rudlayog_memory_waiting", call_waiting, RUDLAYOG_MEMORY_STACK, 0},
-    {"rudlayog_memory_bound", call_bound, RUDLAYOG_MEMORY_STACK, 0},
-    {"rudlayog_memory_report", call_report, RUDLAYOG_MEMORY_STACK, 0},
-    {"rudlayog_memory_close", call_close, RUDLAYOG_MEMORY_STACK, 0},
+    {"rudlayog_plan", call_plan, RUDLAYOG_FLAT_STACK, RUDLAYOG_PLAN_STACK, 0},
+    {"rudlayog_plan_losses", call_plan_losses, RUDLAYOG_FLAT_STACK, RUDLAYOG_PLAN_STACK, 0},
+    {"rudlayog_check", call_check, RUDLAYOG_FLAT_STACK, RUDLAYOG_CHECK_STACK, 0},
+    {"rudlayog_chart", call_chart, RUDLAYOG_FLAT_STACK, RUDLAYOG_CHART_STACK, 0},
+    {"rudlayog_table", call_table, RUDLAYOG_FLAT_STACK, RUDLAYOG_TABLE_STACK, 0},
+    {"rudlayog_sensitivity", call_sensitivity, RUDLAYOG_FLAT_STACK, RUDLAYOG_SENSITIVITY_STACK, 0},
+    {"rudlayog_plan_in_order", call_in_order, RUDLAYOG_FLAT_STACK, RUDLAYOG_PLAN_STACK, 0},
+    {"rudlayog_chart_worth", call_chart_worth, RUDLAYOG_FLAT_STACK, RUDLAYOG_CHART_STACK, 0},
+    {"rudlayog_read", call_read, RUDLAYOG_READ_STACK, RUDLAYOG_READ_STACK, 0},
+    {"rudlayog_ask", call_ask, RUDLAYOG_FLAT_OPEN_STACK, RUDLAYOG_ASK_STACK, 0},
+    {"rudlayog_ask", call_ask_of_setup, RUDLAYOG_FLAT_OPEN_STACK, RUDLAYOG_ASK_STACK, 0},
+    {"rudlayog_words", call_words, RUDLAYOG_WORDS_STACK, RUDLAYOG_WORDS_STACK, 0},
+    {"rudlayog_hint", call_hint, RUDLAYOG_FLAT_STACK, RUDLAYOG_HINT_STACK, 0},
+    {"rudlayog_version", call_version, RUDLAYOG_VERSION_STACK, RUDLAYOG_VERSION_STACK, 0},
+    {"rudlayog_version_number", call_version_number, RUDLAYOG_VERSION_STACK, RUDLAYOG_VERSION_STACK, 0},
+    {"rudlayog_request_write", call_request_write, RUDLAYOG_FIELDS_STACK, RUDLAYOG_FIELDS_STACK, 0},
+    {"rudlayog_report_read", call_report_read, RUDLAYOG_FIELDS_STACK, RUDLAYOG_FIELDS_STACK, 0},
+    {"rudlayog_memory_open", call_open, RUDLAYOG_FLAT_OPEN_STACK, RUDLAYOG_OPEN_STACK, 0},
+    {"rudlayog_memory_open", call_open_of_setup, RUDLAYOG_FLAT_OPEN_STACK, RUDLAYOG_OPEN_STACK, 0},
+    {"rudlayog_memory_apply", call_apply, RUDLAYOG_MEMORY_STACK, RUDLAYOG_MEMORY_STACK, 0},
+    {"rudlayog_memory_record", call_record, RUDLAYOG_MEMORY_STACK, RUDLAYOG_MEMORY_STACK, 0},
+    {"rudlayog_memory_record", call_record_in_all, RUDLAYOG_MEMORY_STACK, RUDLAYOG_MEMORY_STACK, 0},
+    {"rudlayog_memory_offer", call_offer, RUDLAYOG_MEMORY_STACK, RUDLAYOG_MEMORY_STACK, 0},
+    {"rudlayog_memory_next", call_next, RUDLAYOG_MEMORY_STACK, RUDLAYOG_MEMORY_STACK, 0},
+    {"rudlayog_memory_state", call_state, RUDLAYOG_MEMORY_STACK, RUDLAYOG_MEMORY_STACK, 0},
+    {"rudlayog_memory_waiting", call_waiting, RUDLAYOG_MEMORY_STACK, RUDLAYOG_MEMORY_STACK, 0},
+    {"rudlayog_memory_bound", call_bound, RUDLAYOG_MEMORY_STACK, RUDLAYOG_MEMORY_STACK, 0},
+    {"rudlayog_memory_report", call_report, RUDLAYOG_MEMORY_STACK, RUDLAYOG_MEMORY_STACK, 0},
+    {"rudlayog_memory_close", call_close, RUDLAYOG_MEMORY_STACK, RUDLAYOG_MEMORY_STACK, 0},
 };
 enum { CALLS = sizeof calls / sizeof calls[0] };
 
-/* How many bytes of its stack a call takes. */
+/* How many bytes of its stack a call takes, which is full of one octet before and after. */
 static size_t taken(void (*call)(void)) {
     static ucontext_t inner, outer;
     size_t free = 0;
-    memset(stack, 0xA5, STACK);
     getcontext(&inner);
     inner.uc_stack.ss_sp = stack;
     inner.uc_stack.ss_size = STACK;
     inner.uc_link = &outer;
     makecontext(&inner, call, 0);
     swapcontext(&outer, &inner);
-    while (free < STACK && stack[free] == 0xA5) {
+    while (free + PIECE <= STACK && memcmp(stack + free, full, PIECE) == 0) {
+        free += PIECE;
+    }
+    while (free < STACK && stack[free] == FILL) {
         free++;
     }
+    memset(stack + free, FILL, STACK - free);
     return STACK - free;
 }
 
@@ -230,43 +261,156 @@ static int read_text(struct text *text, const char *folder, const char *name) {
     return 0;
 }
 
-/* A setup with this piece again and again. */
-static void nest(const char *first, const char *piece) {
-    const size_t step = strlen(piece);
-    setup.length = strlen(first);
-    memcpy(setup.octets, first, setup.length);
-    while (setup.length + step <= 4096) {
-        memcpy(setup.octets + setup.length, piece, step);
-        setup.length += step;
+/* How a setup is nested: headers `[[a]]`, `[[a.a]]` and so on; a header in single brackets; a key with dots, whose value is inline tables, with
+ * dots in their keys, or arrays, one in another; and how it ends. */
+struct nesting {
+    unsigned headers, header, key, levels, dots;
+    uint64_t arrays; /* the level L is an array where the bit L modulo 64 is 1 */
+    enum { CLOSED, CUT, NO_TOML, TWICE, ENDS } end; /* TWICE: the key is defined before too */
+};
+
+static void put(const char *text) {
+    const size_t length = strlen(text);
+    memcpy(setup.octets + setup.length, text, length);
+    setup.length += length;
+}
+
+static void put_key(const char *name, unsigned parts) {
+    for (unsigned k = 0; k < parts; k++) {
+        put(k == 0 ? "" : ".");
+        put(name);
     }
 }
 
-/* Measures each call, with the address that it returns to. */
-static void measure(size_t rest) {
+static void put_value(const struct nesting *n) {
+    for (unsigned level = 0; level < n->levels; level++) {
+        if (n->arrays >> level % 64 & 1) {
+            put("[");
+        } else {
+            put("{");
+            put_key("c", n->dots);
+            put("=");
+        }
+    }
+    put("1");
+    for (unsigned level = n->levels; n->end != CUT && level > 0; level--) {
+        put(n->arrays >> (level - 1) % 64 & 1 ? "]" : "}");
+    }
+}
+
+/* Makes the setup that is nested so. */
+static void nest(const struct nesting *n) {
+    setup.length = 0;
+    for (unsigned parts = 1; parts <= n->headers; parts++) {
+        put("[[");
+        put_key("a", parts);
+        put("]]\n");
+    }
+    if (n->header > 0) {
+        put("[");
+        put_key("a", n->header);
+        put("]\n");
+    }
+    if (n->key > 0) {
+        put_key("b", n->key);
+        put(n->end == TWICE ? "=1\n" : "=");
+    }
+    if (n->key > 0 && n->end == TWICE) {
+        put_key("b", n->key);
+        put("=");
+    }
+    if (n->key > 0) {
+        put_value(n);
+    }
+    put(n->end == NO_TOML ? "\n?" : "\n");
+}
+
+/* Measures these calls, with the address that each returns to. */
+static void measure(size_t rest, int is_measured(void (*call)(void))) {
+    rudlayog_plan(GIVEN(setup), GIVEN(forecast), out, ROOM, &answer);
+    refused = answer.status == RUDLAYOG_REFUSED ? answer.refused : field;
     for (size_t c = 0; c < CALLS; c++) {
-        const size_t now = taken(calls[c].call) - rest + sizeof(void *);
-        calls[c].most = now > calls[c].most ? now : calls[c].most;
+        if (is_measured(calls[c].call)) {
+            const size_t now = taken(calls[c].call) - rest + sizeof(void *);
+            calls[c].most = now > calls[c].most ? now : calls[c].most;
+        }
+    }
+}
+
+static int is_any(void (*call)(void)) { return call != NULL; }
+
+/* The calls that read a setup, each in its own way; the others do so as rudlayog_plan does. */
+static int is_reader(void (*call)(void)) {
+    return call == call_plan || call == call_ask_of_setup || call == call_hint || call == call_open_of_setup;
+}
+
+/* Prints the most that each call took, and whether that is more than the header says. */
+static int judge(int is_flat) {
+    int failed = 0;
+    for (size_t c = 0; c < CALLS; c++) {
+        const size_t told = is_flat ? calls[c].flat : calls[c].told;
+        printf("stack: %s took %zu bytes%s, and %zu are told\n", calls[c].name, calls[c].most, is_flat ? " where the setup is flat" : "", told);
+        failed |= calls[c].most == 0 || calls[c].most > told;
+    }
+    return failed;
+}
+
+/* The next of random numbers, below a bound. */
+static unsigned random_below(unsigned bound) {
+    static uint64_t state = 20261128;
+    state = state * 6364136223846793005u + 1442695040888963407u;
+    return (unsigned)((state >> 33) % bound);
+}
+
+/* How many parts or levels: at the reader's limit, 80, beside it, none, or any number. */
+static unsigned depth(void) {
+    static const unsigned depths[] = {0, 1, 79, 80, 81};
+    const unsigned k = random_below(10);
+    return k < 5 ? depths[k] : k < 8 ? 80 : random_below(82);
+}
+
+/* Measures made setups. */
+static void search(size_t rest) {
+    for (int k = 0; k < MADE; k++) {
+        struct nesting n = {depth(), depth(), depth(), depth(), 1 + depth(), 0, CLOSED};
+        for (int bit = 0; random_below(2) == 0 && bit < 64; bit++) {
+            n.arrays |= (uint64_t)1 << random_below(64);
+        }
+        n.end = random_below(3) == 0 ? random_below(ENDS) : CLOSED;
+        nest(&n);
+        measure(rest, is_reader);
     }
 }
 
 int main(int count, char **folders) {
-    static const char *const nested[][2] = {{"a=", "{a="}, {"a=", "["}, {"a=", "[{a="}, {"a", ".a"}, {"[a", ".a"}, {"[[a", ".a"}};
-    const size_t rest = taken(nothing);
+    static const struct nesting nested[] = {
+        {0, 80, 80, 0, 0, 0, CLOSED},   {80, 0, 80, 0, 0, 0, CLOSED},   {80, 80, 80, 0, 0, 0, CLOSED},    {0, 0, 1, 80, 1, 0, CLOSED},
+        {0, 0, 80, 80, 80, 0, CLOSED},  {0, 80, 80, 80, 80, 0, CLOSED}, {80, 0, 80, 80, 80, 0, CLOSED},   {0, 0, 1, 80, 1, UINT64_MAX, CLOSED},
+        {80, 0, 80, 80, 80, 0, NO_TOML}, {80, 0, 80, 80, 80, 0, TWICE}, {80, 0, 80, 80, 80, 0, CUT}, {0, 80, 80, 80, 80, 0, TWICE}, {0, 0, 1, 80, 80, 0x5555, CLOSED}, {0, 81, 0, 0, 0, 0, CLOSED},
+        {0, 0, 81, 0, 0, 0, CLOSED},    {0, 0, 1, 81, 1, 0, CLOSED},
+    };
+    const int is_flat_alone = count > 1 && strcmp(folders[1], "--flat") == 0;
+    size_t rest;
     int failed = 0;
-    for (int k = 1; k < count; k++) {
+    memset(full, FILL, sizeof full);
+    memset(stack, FILL, sizeof stack);
+    rest = taken(nothing);
+    open_wide();
+    for (int k = 1 + is_flat_alone; k < count; k++) {
         if (read_text(&setup, folders[k], "setup.toml") || read_text(&forecast, folders[k], "forecast.csv") ||
             read_text(&plan, folders[k], "plan.txt")) {
             return 2;
         }
-        measure(rest);
+        measure(rest, is_any);
+    }
+    failed = judge(1);
+    if (is_flat_alone) {
+        return failed;
     }
     for (size_t k = 0; k < sizeof nested / sizeof nested[0]; k++) {
-        nest(nested[k][0], nested[k][1]);
-        measure(rest);
+        nest(&nested[k]);
+        measure(rest, is_any);
     }
-    for (size_t c = 0; c < CALLS; c++) {
-        printf("stack: %s took %zu bytes, and %zu are told\n", calls[c].name, calls[c].most, calls[c].told);
-        failed |= calls[c].most == 0 || calls[c].most > calls[c].told;
-    }
-    return failed;
+    search(rest);
+    return judge(0) | failed;
 }

@@ -39,11 +39,12 @@ export function fill(input, text) {
 // What was typed stands there already.
 export const notice = input => lastWritten.set(input, input.value);
 
-export function mark(input, isBad) {
+// Marks an input whose text cannot be read, or no longer; `ids` are those of what says why.
+export function mark(input, isBad, ids) {
   if (isBad === lastMarked.has(input)) return;
   lastMarked[isBad ? "add" : "delete"](input);
-  if (isBad) input.setAttribute("aria-invalid", "true");
-  else input.removeAttribute("aria-invalid");
+  const does = isBad ? "setAttribute" : "removeAttribute", names = { "aria-invalid": "true", "aria-describedby": ids };
+  for (const [name, value] of Object.entries(names)) if (value) input[does](name, value);
 }
 
 export const number = (value, name) => [value === undefined ? "" : digits(value), `is ${value ? name : "none"}`.trim()];
@@ -64,9 +65,13 @@ export function button(text, act, label) {
 
 // Lays something anew, with the focus where it was: on what is called the same.
 export function keepingFocus(lays) {
-  const { act, cell } = document.activeElement?.dataset ?? {}, name = act ? `[data-act="${act}"]` : cell ? `[data-cell="${cell}"]` : null;
+  const it = document.activeElement, { act, cell } = it?.dataset ?? {},
+    name = act ? `[data-act="${act}"]` : cell ? `[data-cell="${cell}"]` : null;
+  const place = cell ? [it.selectionStart, it.selectionEnd] : null;
   lays();
-  if (name) document.querySelector(name)?.focus({ preventScroll: true });
+  const found = name && document.querySelector(name);
+  found?.focus({ preventScroll: true });
+  if (found && place) found.setSelectionRange(...place);
 }
 
 export function cellWith(...inside) {

@@ -1,15 +1,17 @@
-// The calls of the library, as bindings/c/rudlayog.h says them, on texts as octets. Nothing outside this file knows of memory.
+// The calls of the library, as bindings/c/rudlayog.h says them, on texts as octets. Nothing outside this file knows of
+// memory.
 //
-// The module takes its heap from here: blocks lie one after another, and one that was given back serves the next of its size. An instance whose
-// call returned serves the next one, with each octet of its memory as it was at first. So no call sees what another one left, and what a fault
-// left is never called again.
+// The module takes its heap from here: blocks lie one after another, and one that was given back serves the next of its
+// size. An instance whose call returned serves the next one, with each octet of its memory as it was at first. So no
+// call sees what another one left, and what a fault left is never called again.
 const WRITTEN = 0, TOO_SMALL = 1, REFUSED = 2; // RUDLAYOG_WRITTEN and so on
 const PLAN_ROOM = 204800, LINE_ROOM = 64, PICTURE_ROOM = 1 << 18, WORDS_ROOM = 512, HINT_ROOM = 1024, VERSION_ROOM = 16;
 const REFUSED_SIZE = 32, VERDICT_SIZE = 24, ANSWER_SIZE = 48, LENGTH_AT = 40;
 const PAGE = 65536n, ALIGN = 16n;
 const MOST_KEPT_MEMORY = 1 << 24; // octets, above which the memory of a call goes with it
 // RUDLAYOG_LEAST and so on
-const KINDS = ["no verdict", "least", "does not fit", "loss is", "bad stretch", "bad count", "bound is", "not shown", "least in order", "first not shown"];
+const KINDS = ["no verdict", "least", "does not fit", "loss is", "bad stretch", "bad count", "bound is", "not shown",
+  "least in order", "first not shown"];
 
 export class NoMemory extends Error {}
 
@@ -54,7 +56,8 @@ function instantiate(module) {
     }
   }
 
-  // The place of a new block, or 0 where there is no memory. The memory doubles, since some browsers move it where it grows.
+  // The place of a new block, or 0 where there is no memory. The memory doubles, since some browsers move it where it
+  // grows.
   function takeNew(size) {
     const at = top, end = at + size, has = BigInt(memory.buffer.byteLength);
     if (end > has && !(end - has < has && grows(has)) && !grows(end - has)) return 0n;
@@ -88,7 +91,8 @@ function instantiate(module) {
   } catch {
     isWide = false;
   }
-  const base = (BigInt(exports.__heap_base.value) + ALIGN - 1n) & ~(ALIGN - 1n), atFirst = new Uint8Array(memory.buffer, 0, Number(base)).slice();
+  const base = (BigInt(exports.__heap_base.value) + ALIGN - 1n) & ~(ALIGN - 1n),
+    atFirst = new Uint8Array(memory.buffer, 0, Number(base)).slice();
   top = base;
   return {
     exports, take, view,
@@ -138,7 +142,8 @@ function callOn(it, name, { texts = [], given = [], room, told = [] }) {
   const words = texts.flatMap(octets => [put(octets), BigInt(octets.length)]);
   const [structs, out, results, answer] = [given.map(put), block(room), told.map(block), block(ANSWER_SIZE)];
   it.exports[`rudlayog_${name}`](...words, ...structs, out, BigInt(room), ...results, answer);
-  const view = it.view(), at = Number(answer), status = view.getUint32(at, true), length = Number(view.getBigUint64(at + LENGTH_AT, true));
+  const view = it.view(), at = Number(answer), status = view.getUint32(at, true),
+    length = Number(view.getBigUint64(at + LENGTH_AT, true));
   return {
     status,
     length,
@@ -148,16 +153,21 @@ function callOn(it, name, { texts = [], given = [], room, told = [] }) {
   };
 }
 
-// The library over a compiled module. Each call answers `octets`, or `refused`: the refusal's words, its number and its place.
+// The library over a compiled module. Each call answers `octets`, or `refused`: the refusal's words, its number and its
+// place.
 export function libraryOf(module) {
   const call = callsOf(module), ascii = octets => String.fromCharCode(...octets);
 
   function refusalOf(refused, texts) {
     const fields = new DataView(refused.buffer), number = fields.getUint32(0, true);
-    const of = { number, row: fields.getUint32(8, true), column: fields.getUint32(12, true), line: Number(fields.getBigUint64(16, true)) };
+    const of = { number, row: fields.getUint32(8, true), column: fields.getUint32(12, true),
+      line: Number(fields.getBigUint64(16, true)) };
     const words = call("words", { given: [refused], room: WORDS_ROOM }).octets;
-    const hint = number && call("hint", { texts: [...texts, new Uint8Array(), new Uint8Array()].slice(0, 3), given: [refused], room: HINT_ROOM }).octets;
-    return { ...of, words: words ? ascii(words) : "0 NoMemory: expected memory for the task; free some memory", hint: hint ? ascii(hint) : "" };
+    const hint = number
+      && call("hint", { texts: [...texts, new Uint8Array(), new Uint8Array()].slice(0, 3), given: [refused],
+      room: HINT_ROOM }).octets;
+    return { ...of, words: words ? ascii(words) : "0 NoMemory: expected memory for the task; free some memory",
+      hint: hint ? ascii(hint) : "" };
   }
 
   function answerTo(name, texts, room, told) {
@@ -171,7 +181,8 @@ export function libraryOf(module) {
     check(setup, forecast, plan) {
       const { told: [it], ...answer } = answerTo("check", [setup, forecast, plan], LINE_ROOM, [VERDICT_SIZE]);
       const [kind, place] = [KINDS[it.getUint32(0, true)], it.getUint32(4, true)];
-      return { ...answer, verdict: { kind, place, loss: Number(it.getBigUint64(8, true)), bound: Number(it.getBigInt64(16, true)) } };
+      return { ...answer, verdict: { kind, place, loss: Number(it.getBigUint64(8, true)),
+        bound: Number(it.getBigInt64(16, true)) } };
     },
     chart: (setup, forecast, plan) => answerTo("chart", [setup, forecast, plan], PICTURE_ROOM),
     chartWorth: (setup, forecast, plan) => answerTo("chart_worth", [setup, forecast, plan], PICTURE_ROOM),

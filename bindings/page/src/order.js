@@ -1,19 +1,10 @@
-// The order of the stores: how it is changed, and what the text of a plan in order shows of the first stores.
-import { certificatesOf, digits, forecastOf, setupOf, withColumnsSwapped, withStoresSwapped } from "./texts.js";
+// What the text of a plan in order shows of the first stores.
+import { certificatesOf, digits } from "./texts.js";
 
 const RANGES = 6; // of a cut, that are listed
 
-// Whether a store can be moved: the texts can be read here, and no plan is judged, which has the stores in the order that they had.
-export const isMovable = ({ setup, forecast, given }) => given.length === 0 && setupOf(setup) !== null && forecastOf(forecast) !== null;
-
-// The texts in which a store has changed places with the next one.
-export function withOrder({ setup, forecast }, nth) {
-  const ids = setupOf(setup).store.slice(nth, nth + 2).map(({ keys }) => keys.id);
-  return { setup: withStoresSwapped(setup, nth), forecast: withColumnsSwapped(forecast, ids) };
-}
-
-// The certificates of the first store, of the first two and so on to all stores, where the plan is one in order; null in place of one of which
-// the verdict does not say that it shows its loss.
+// The certificates of the first store, of the first two and so on to all stores, where the plan is one in order; null
+// in place of one of which the verdict does not say that it shows its loss.
 export function firstsOf({ refused, plan, verdict }) {
   if (refused || !["least in order", "first not shown"].includes(verdict.kind)) return null;
   const [all, ...firsts] = certificatesOf(plan);
@@ -24,15 +15,20 @@ export function firstsOf({ refused, plan, verdict }) {
 function stretchesIn({ stretches }) {
   const listed = stretches.slice(0, RANGES), left = stretches.length - listed.length;
   const of = new Map();
-  for (const { id, steps: [from, to] } of listed) of.set(id, [...(of.get(id) ?? []), from === to ? `${from}` : `${from} to ${to}`]);
-  const words = [...of].map(([id, ranges]) => `${id} in ${ranges.length === 1 && !ranges[0].includes("to") ? "step" : "steps"} ${listOf(ranges)}`);
+  for (const { id, steps: [from, to] } of listed) of.set(
+    id, [...(of.get(id) ?? []), from === to ? `${from}` : `${from} to ${to}`]);
+  const words = [...of].map(
+    ([id, ranges]) =>
+    `${id} in ${ranges.length === 1 && !ranges[0].includes("to") ? "step" : "steps"} ${listOf(ranges)}`);
   return listOf(left ? [...words, `${digits(left)} more stretches`] : words);
 }
 
-const listOf = words => (words.length > 1 ? `${words.slice(0, -1).join(", ")} and ${words.at(-1)}` : words.join());
+const listOf = words => (words.length > 1 ? `${words.slice(0, -1).join(", ")} and ${words.at(-1)}`
+  : words.join());
 
 // Why a store loses blocks, in a sentence.
 export function lossSentence(id, lost, count, certificate) {
-  const all = count === 1 ? ", as few as it can" : `, and the first ${count} stores ${digits(certificate.loss)} together, as few as they can`;
+  const all = count === 1 ? ", as few as it can"
+    : `, and the first ${count} stores ${digits(certificate.loss)} together, as few as they can`;
   return `${id} loses ${digits(lost)}${all}: more comes to ${stretchesIn(certificate)} than can stay there and leave.`;
 }

@@ -1,40 +1,61 @@
 // The table of the steps: windows and arrivals to edit, and what is sent, held and lost.
-import { worthSentence } from "./answers.js";
+import { amountsOf } from "./amounts.js";
+import { beginOf } from "./clock.js";
 import { at, cellWith, fill, head, input, make, mark, number, row, write } from "./dom.js";
-import { beginOf, shown } from "./planning.js";
-import { digits, forecastOf } from "./texts.js";
+import { shown } from "./moments.js";
+import { forecastOf } from "./texts.js";
+import { worthSentence } from "./words.js";
 import { worthOf } from "./worth.js";
 
 // After the stores a forecast may have limits by step, which are edited whatever the stores' columns show.
 const isLimit = name => name.startsWith("limit:");
 const isEdited = name => shows === "arrived" || isLimit(name);
 // The rows as they stand in the table: the document is not asked for them again.
-let laid = "", lines = [], names = [], held = { row: 0, column: 1 };
+let laid = "", lines = [], names = [], heldCell = { row: 0, column: 1 };
 export let shows = "arrived";
+
+const fixed = ["f1", "f2", "f3"];
+
+function layHead(header) {
+  const worths = ["one more saves", "at most"].map(it =>
+    head(it, { className: "asked", title: "What a larger window saves, in blocks" }));
+  const first = [head("step", { className: fixed[0] }), head("begins UTC", { className: `clock ${fixed[1]}` }),
+    head("window", { className: fixed[2] })];
+  return row(...first, ...worths, ...["sent", "lost", ...header.slice(2)].map(it => head(it, { title: it })));
+}
+
+function layLine(stores, step) {
+  const label = id => (isLimit(id) ? `Limit of channel ${id.slice(6)} in step ${step}`
+    : `What arrives in ${id} in step ${step}`);
+  const window = input(`${step} 1`, `Window of step ${step}`, { className: "window" }),
+    [begins, next, most, sent, lost] = Array.from({ length: 5 }, () => make("td"));
+  const own = stores.map((id, nth) => (isEdited(id) ? input(`${step} ${nth + 2}`, label(id)) : make("td"))),
+    box = cellWith(window);
+  box.className = fixed[2];
+  const tr = row(make("th", String(step), { scope: "row", className: fixed[0] }), begins, box, next, most, sent, lost,
+    ...own.map(it => (it.tagName === "TD" ? it : cellWith(it))));
+  for (const it of [next, most]) it.className = "asked";
+  return { tr, begins, window, next, most, sent, lost, own, isPass: false };
+}
 
 function laySteps(header, count) {
   const form = JSON.stringify([header, count, shows]);
   if (form === laid) return;
   laid = form;
   names = header;
-  const grid = at("grid"), stores = header.slice(2), worths = ["one more saves", "at most"].map(it => head(it, { className: "asked", title: "What a larger window saves, in blocks" }));
-  grid.tHead.replaceChildren(row(head("step"), head("begins (UTC)", { className: "clock" }), head("window"), ...worths, ...["sent", "lost", ...stores].map(it => head(it))));
-  lines = Array.from({ length: count }, (_, nth) => {
-    const step = nth + 1, label = id => (isLimit(id) ? `Limit of channel ${id.slice(6)} in step ${step}, in blocks` : `Blocks that arrive in ${id} in step ${step}`);
-    const window = input(`${step} 1`, `Window of step ${step}, in blocks`, { className: "window" }), [begins, next, most, sent, lost] = Array.from({ length: 5 }, () => make("td"));
-    const own = stores.map((id, at) => (isEdited(id) ? input(`${step} ${at + 2}`, label(id)) : make("td")));
-    const tr = row(make("th", String(step), { scope: "row" }), begins, cellWith(window), next, most, sent, lost, ...own.map(it => (it.tagName === "TD" ? it : cellWith(it))));
-    for (const it of [next, most]) it.className = "asked";
-    return { tr, begins, window, next, most, sent, lost, own, isPass: false };
-  });
+  const grid = at("grid"), stores = header.slice(2);
+  grid.tHead.replaceChildren(layHead(header));
+  lines = Array.from({ length: count }, (_, nth) => layLine(stores, nth + 1));
   grid.tBodies[0].replaceChildren(...lines.map(it => it.tr));
   for (const it of grid.querySelectorAll("input")) it.tabIndex = -1;
   // Rows that are laid out by themselves stay rows of a table for a reader of the screen.
-  for (const [what, role] of Object.entries({ tr: "row", "thead th": "columnheader", "tbody th": "rowheader", td: "cell" }))
+  for (const [what, role] of Object.entries({ tr: "row", "thead th": "columnheader", "tbody th": "rowheader",
+    td: "cell" }))
     for (const it of grid.querySelectorAll(what)) it.setAttribute("role", role);
   lines.forEach(({ tr }, nth) => tr.setAttribute("aria-label", `Step ${nth + 1}`));
-  held = { row: Math.min(held.row, count - 1), column: shows === "arrived" ? Math.min(held.column, header.length - 1) : 1 };
-  inputAt(held).tabIndex = 0;
+  heldCell = { row: Math.min(heldCell.row, count - 1),
+    column: shows === "arrived" ? Math.min(heldCell.column, header.length - 1) : 1 };
+  inputAt(heldCell).tabIndex = 0;
 }
 
 function inputAt({ row: nth, column }) {
@@ -44,17 +65,17 @@ function inputAt({ row: nth, column }) {
 
 // One cell of the table is reached by Tab; the arrow keys go from it to the others.
 export function hold(it) {
-  const [step, column] = it.dataset.cell.split(" ").map(Number);
-  const last = inputAt(held);
+  const [step, column] = it.dataset.cell.split(" ").map(Number), last = inputAt(heldCell);
   if (last) last.tabIndex = -1;
   it.tabIndex = 0;
-  held = { row: step - 1, column };
+  heldCell = { row: step - 1, column };
   sayWorth(step, names[column], column === 1);
 }
 
 // What a window, or a limit by step, is worth in words, where it is known.
 function sayWorth(step, name, isWindow) {
-  const worth = isWindow ? worthOf("window", "", step) : isLimit(name) ? worthOf("limit", name.slice(6), step) : undefined;
+  const worth = isWindow ? worthOf("window", "", step) : isLimit(name) ? worthOf("limit", name.slice(6), step)
+    : undefined;
   at("held-worth").textContent = worth ? `Step ${step}: ${worthSentence(worth)}` : "";
 }
 
@@ -65,7 +86,8 @@ export function moveBy(key, it) {
   if (isEnd || it.selectionStart !== it.selectionEnd) moves.ArrowRight = [0, 1];
   if (!moves[key]) return false;
   const [down, right] = moves[key];
-  const next = inputAt({ row: Math.max(0, Math.min(lines.length - 1, held.row + down)), column: Math.max(1, held.column + right) });
+  const next = inputAt({ row: Math.max(0, Math.min(lines.length - 1, heldCell.row + down)),
+    column: Math.max(1, heldCell.column + right) });
   if (next && next !== it) {
     next.focus();
     next.select();
@@ -75,7 +97,32 @@ export function moveBy(key, it) {
 
 export function show(what) {
   shows = what;
-  for (const it of document.querySelectorAll("[data-shows]")) it.setAttribute("aria-pressed", String(it.dataset.shows === what));
+  for (const it of document.querySelectorAll("[data-shows]")) it.setAttribute(
+    "aria-pressed", String(it.dataset.shows === what));
+}
+
+function showLine(line, session, nth, record, told, { totalRate }) {
+  const step = nth + 1, isPass = Number(record[1]) > 0, window = worthOf("window", "", step);
+  if (isPass !== line.isPass) {
+    line.isPass = isPass;
+    line.tr.classList.toggle("pass", isPass);
+  }
+  write(line.begins, shown(beginOf(session, step)), `clock ${fixed[1]}`);
+  for (const [cell, it] of [[line.next, window?.next], [line.most, window?.most]]) {
+    const [text, name] = number(it, "");
+    write(cell, text, `${name} asked`);
+  }
+  if (!told) return;
+  const totalOf = what => totalRate([...told.of].map(([id, it]) => [id, it[what]]), step);
+  write(line.sent, totalOf("dumped"), number(told.dumped, "")[1]);
+  write(line.lost, totalOf("lost"), number(told.lost, "lost")[1]);
+}
+
+// What stands in a cell of a store's column that is not edited.
+function showTold(it, told, name, step, { rate, volume }) {
+  const value = told.of.get(name)?.[shows];
+  const text = value === undefined ? "" : shows === "held" ? volume(name, value) : rate(name, value, step);
+  write(it, text, number(value, shows === "lost" ? "lost" : "")[1]);
 }
 
 export function showSteps(session, records, place) {
@@ -83,35 +130,59 @@ export function showSteps(session, records, place) {
   at("grid-box").hidden = !read;
   at("grid-none").hidden = !!read;
   if (!read) return;
-  const { header, records: rows } = read, first = beginOf(session, 1), length = beginOf(session, 2) - first;
-  laySteps(header, rows.length);
-  at("step").max = rows.length;
-  rows.forEach((record, nth) => {
-    const line = lines[nth], told = records?.steps[nth], isPass = record[1] !== "0";
-    write(line.begins, first === null ? "" : shown(first + nth * length), "text clock");
-    if (line.isPass !== isPass) line.tr.classList.toggle("pass", (line.isPass = isPass));
-    const worth = worthOf("window", "", nth + 1);
-    for (const it of worth ? ["next", "most"] : []) write(line[it], digits(worth[it]), worth[it] ? "asked" : "asked none");
-    if (told) {
-      write(line.sent, ...number(told.dumped, ""));
-      write(line.lost, ...number(told.lost, "lost"));
-    }
+  const { header } = read, amounts = amountsOf(session), isPlain = session.isInBlocks;
+  // What is typed in other units stays as it is typed while it is.
+  const typed = isPlain ? null : document.activeElement;
+  at("steps-unit").textContent = shows === "held" && !isPlain ? "MB" : amounts.flow;
+  laySteps(header, read.records.length);
+  read.records.forEach((record, nth) => {
+    const line = lines[nth], told = records?.steps[nth], step = nth + 1;
+    showLine(line, session, nth, record, told, amounts);
     for (let column = 1; column < header.length; column++) {
-      const it = column === 1 ? line.window : line.own[column - 2];
-      if (column === 1 || isEdited(header[column])) {
-        fill(it, record[column]);
-        mark(it, place?.row === nth + 1 && place.column === column + 1);
-      } else if (told) write(it, ...number(told.of.get(header[column])?.[shows], shows === "lost" ? "lost" : ""));
+      const it = column === 1 ? line.window : line.own[column - 2], name = header[column], text = record[column];
+      if (column > 1 && !isEdited(name)) {
+        if (told) showTold(it, told, name, step, amounts);
+        continue;
+      }
+      const isNumber = !isPlain && /^\d+$/.test(text);
+      if (it !== typed) fill(it, isNumber ? amounts.rate(name, Number(text), step) : text);
+      mark(it, place?.row === step && place.column === column + 1, "said expected");
     }
   });
 }
 
+// The first columns stay where the table is scrolled: those of the rows that are in sight, since a browser needs time
+// for each of them.
+const ROW = 26, MORE = 6;
+let stuck = [];
+export function stickColumns() {
+  const box = at("grid-box"), first = Math.max(0, Math.floor(box.scrollTop / ROW) - MORE);
+  const last = Math.ceil((box.scrollTop + box.clientHeight) / ROW) + MORE, rows = lines.slice(first, last);
+  const wanted = box.scrollLeft > 0 ? [at("grid").tHead.rows[0], ...rows.map(it => it.tr)] : [];
+  for (const it of stuck) if (!wanted.includes(it)) it.classList.remove("stuck");
+  for (const it of wanted) it.classList.add("stuck");
+  stuck = wanted;
+}
+
+// The cells that a range of a spreadsheet fills, from a cell on: of each its step, its column and its text. Null where
+// it is one cell alone.
+export function pastedFrom(it, text) {
+  const [step, column] = it.dataset.cell.split(" ").map(Number),
+    rows = text.replace(/\r?\n$/, "").split(/\r?\n/).map(line => line.split("\t"));
+  if (rows.length === 1 && rows[0].length === 1) return null;
+  return rows.flatMap(
+    (cells, down) => cells.map((cell, right) => ({ step: step + down, column: column + right, text: cell.trim() })))
+    .filter(each => each.step <= lines.length && inputAt({ row: each.step - 1, column: each.column }));
+}
+
+// Goes to a step that is there, and answers whether it is.
 export function goTo(step) {
-  const found = lines[step - 1];
+  const found = Number.isInteger(step) ? lines[step - 1] : undefined;
   for (const other of document.querySelectorAll("#grid .at")) other.classList.remove("at");
-  if (!found) return;
+  if (!found) return false;
   found.tr.classList.add("at");
   at("step").value = step;
   found.tr.scrollIntoView({ block: "nearest" });
   found.window.focus({ preventScroll: true });
+  return true;
 }

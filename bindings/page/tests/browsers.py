@@ -1,5 +1,5 @@
-"""Chromium and Firefox without a window, driven by what they offer themselves: the DevTools protocol over a pipe, and Marionette over a socket
-(Mozilla's remote protocol). Each runs scripts in a page as it is."""
+"""Chromium and Firefox without a window, driven by what they offer themselves: the DevTools protocol over a pipe, and
+Marionette over a socket (Mozilla's remote protocol). Each runs scripts in a page as it is."""
 
 from __future__ import annotations
 
@@ -45,14 +45,17 @@ class Chromium:
         self.come, up = os.pipe()
 
         def place() -> None:
-            # The browser reads descriptor 3 and writes descriptor 4. The copies are others than these, which would be closed as it begins.
+            # The browser reads descriptor 3 and writes descriptor 4. The copies are others than these, which would be
+            # closed as it begins.
             one, other = fcntl.fcntl(down, fcntl.F_DUPFD, 5), fcntl.fcntl(up, fcntl.F_DUPFD, 5)
             os.dup2(one, 3)
             os.dup2(other, 4)
 
-        words = [program, "--headless", "--no-sandbox", "--disable-gpu", "--remote-debugging-pipe", "--no-first-run", "--hide-scrollbars"]
+        words = [program, "--headless", "--no-sandbox", "--disable-gpu", "--remote-debugging-pipe", "--no-first-run",
+            "--hide-scrollbars"]
         words += [f"--user-data-dir={self.folder}", f"--window-size={width},{height}", *flags, "about:blank"]
-        self.ran = subprocess.Popen(words, preexec_fn=place, close_fds=False, stdout=subprocess.DEVNULL, stderr=subprocess.DEVNULL, start_new_session=True)
+        self.ran = subprocess.Popen(words, preexec_fn=place, close_fds=False, stdout=subprocess.DEVNULL,
+            stderr=subprocess.DEVNULL, start_new_session=True)
         os.close(down)
         os.close(up)
         self.left, self.number, self.session, self.events = b"", 0, "", list[dict[str, Any]]()
@@ -65,7 +68,8 @@ class Chromium:
     def ask(self, method: str, **words: object) -> Any:
         """The answer to a command."""
         self.number += 1
-        said = {"id": self.number, "method": method, "params": words} | ({"sessionId": self.session} if self.session else {})
+        said = {"id": self.number, "method": method, "params": words} | (
+            {"sessionId": self.session} if self.session else {})
         data = json.dumps(said).encode() + b"\0"
         while data:
             data = data[os.write(self.to, data) :]
@@ -90,7 +94,8 @@ class Chromium:
         """Keeps an event; a dialog, as that before a page is left, is agreed to."""
         self.events.append(event)
         if event.get("method") == "Page.javascriptDialogOpening":
-            said = {"id": 0, "method": "Page.handleJavaScriptDialog", "params": {"accept": True}, "sessionId": self.session}
+            said = {"id": 0, "method": "Page.handleJavaScriptDialog", "params": {"accept": True},
+                "sessionId": self.session}
             os.write(self.to, json.dumps(said).encode() + b"\0")
 
     def open(self, url: str) -> None:
@@ -100,10 +105,24 @@ class Chromium:
             self.take(self.read())
         self.events = [it for it in self.events if it.get("method") != "Page.loadEventFired"]
 
+    def tab(self) -> str:
+        """Goes to a new tab, and says in which one it was before."""
+        before, self.session = self.session, ""
+        target = self.ask("Target.createTarget", url="about:blank")["targetId"]
+        self.session = self.ask("Target.attachToTarget", targetId=target, flatten=True)["sessionId"]
+        for domain in ("Page", "Runtime", "Log", "Network"):
+            self.ask(f"{domain}.enable")
+        return before
+
+    def go(self, tab: str) -> None:
+        """Goes to a tab."""
+        self.session = tab
+
     def run(self, script: str, limit: int = 0) -> Any:
         """The value of an async function's body. A limit in milliseconds ends a body that waits for nothing."""
         more = {"timeout": limit} if limit else {}
-        told = self.ask("Runtime.evaluate", expression=f"(async () => {{{script}}})()", awaitPromise=True, returnByValue=True, userGesture=True, **more)
+        told = self.ask("Runtime.evaluate", expression=f"(async () => {{{script}}})()", awaitPromise=True,
+            returnByValue=True, userGesture=True, **more)
         if "exceptionDetails" in told:
             raise Fault(json.dumps(told["exceptionDetails"])[:2000])
         return told["result"].get("value")
@@ -111,21 +130,24 @@ class Chromium:
     def key(self, key: str, modifiers: int = 0) -> None:
         """Presses a key, as a planner does; 2 is Control, 8 is Shift."""
         text = {"text": "\r" if key == "Enter" else key} if (len(key) == 1 or key == "Enter") and not modifiers else {}
-        codes = {"Tab": 9, "Enter": 13, "ArrowUp": 38, "ArrowDown": 40, "ArrowLeft": 37, "ArrowRight": 39, "Backspace": 8}
+        codes = {"Tab": 9, "Enter": 13, "ArrowUp": 38, "ArrowDown": 40, "ArrowLeft": 37, "ArrowRight": 39,
+            "Backspace": 8}
         more = {"windowsVirtualKeyCode": codes.get(key, ord(key.upper()[0]))}
         self.ask("Input.dispatchKeyEvent", type="keyDown", key=key, modifiers=modifiers, **text, **more)
         self.ask("Input.dispatchKeyEvent", type="keyUp", key=key, modifiers=modifiers, **more)
 
     def record(self) -> None:
         """Has the browser record the tasks of its threads."""
-        self.ask("Tracing.start", transferMode="ReportEvents", traceConfig={"includedCategories": ["toplevel"], "traceBufferSizeInKb": 400000})
+        self.ask("Tracing.start", transferMode="ReportEvents",
+            traceConfig={"includedCategories": ["toplevel"], "traceBufferSizeInKb": 400000})
 
     def recorded(self) -> list[dict[str, Any]]:
         """The events that were recorded."""
         self.ask("Tracing.end")
         while not any(it.get("method") == "Tracing.tracingComplete" for it in self.events):
             self.take(self.read())
-        found = [event for it in self.events if it.get("method") == "Tracing.dataCollected" for event in it["params"]["value"]]
+        found = [event for it in self.events if it.get("method") == "Tracing.dataCollected"
+            for event in it["params"]["value"]]
         self.events = [it for it in self.events if not it.get("method", "").startswith("Tracing.")]
         return found
 
@@ -139,7 +161,8 @@ class Chromium:
         """What the page told the console, or what it asked the network for, since the last time."""
         kinds = ("Log.entryAdded", "Runtime.exceptionThrown", "Runtime.consoleAPICalled")
         found = [json.dumps(it["params"])[:400] for it in self.events if it.get("method") in kinds]
-        asked = (it["params"]["request"]["url"] for it in self.events if it.get("method") == "Network.requestWillBeSent")
+        asked = (it["params"]["request"]["url"] for it in self.events
+            if it.get("method") == "Network.requestWillBeSent")
         found += [f"asked for {url[:100]}" for url in asked if not url.startswith(("file:", "blob:", "data:"))]
         self.events = []
         return found
@@ -153,7 +176,8 @@ class Chromium:
         if whole:
             # Rows that nobody sees are not painted, so the window gets the height of the page.
             size = self.ask("Page.getLayoutMetrics")["cssContentSize"]
-            self.ask("Emulation.setDeviceMetricsOverride", width=size["width"], height=size["height"], deviceScaleFactor=1, mobile=False)
+            self.ask("Emulation.setDeviceMetricsOverride", width=size["width"], height=size["height"],
+                deviceScaleFactor=1, mobile=False)
             self.run("await new Promise(done => setTimeout(done, 500));")
         with open(path, "wb") as file:
             file.write(base64.b64decode(self.ask("Page.captureScreenshot")["data"]))
@@ -163,7 +187,8 @@ class Chromium:
     def printed(self, path: str) -> None:
         """Leaves the page as it is printed."""
         with open(path, "wb") as file:
-            file.write(base64.b64decode(self.ask("Page.printToPDF", landscape=True, printBackground=True)["data"]))
+            file.write(base64.b64decode(self.ask("Page.printToPDF", preferCSSPageSize=True, printBackground=True)[
+                "data"]))
 
     def close(self) -> None:
         end(self.ran)
@@ -182,9 +207,11 @@ class Firefox:
             port = free.getsockname()[1]
         with open(f"{self.folder}/user.js", "w", encoding="utf-8") as file:
             file.write(f'user_pref("marionette.port", {port});\nuser_pref("remote.log.level", "Fatal");\n')
-        env = {**os.environ, "HOME": self.folder, "MOZ_HEADLESS": "1", "MOZ_HEADLESS_WIDTH": str(width), "MOZ_HEADLESS_HEIGHT": str(height)}
+        env = {**os.environ, "HOME": self.folder, "MOZ_HEADLESS": "1", "MOZ_HEADLESS_WIDTH": str(width),
+            "MOZ_HEADLESS_HEIGHT": str(height)}
         words = [program, "--headless", "--marionette", "--no-remote", "--profile", self.folder, "about:blank"]
-        self.ran = subprocess.Popen(words, env=env, stdout=subprocess.DEVNULL, stderr=subprocess.DEVNULL, start_new_session=True)
+        self.ran = subprocess.Popen(words, env=env, stdout=subprocess.DEVNULL, stderr=subprocess.DEVNULL,
+            start_new_session=True)
         self.line = self.connect(port)
         self.left, self.number = b"", 0
         self.read()
@@ -227,6 +254,16 @@ class Firefox:
     def open(self, url: str) -> None:
         self.ask("WebDriver:Navigate", url=url)
 
+    def tab(self) -> str:
+        """Goes to a new tab, and says in which one it was before."""
+        before = str(self.ask("WebDriver:GetWindowHandle")["value"])
+        self.go(self.ask("WebDriver:NewWindow", type="tab")["handle"])
+        return before
+
+    def go(self, tab: str) -> None:
+        """Goes to a tab."""
+        self.ask("WebDriver:SwitchToWindow", handle=tab)
+
     def run(self, script: str) -> Any:
         made = "const done = arguments[arguments.length - 1], window = globalThis.wrappedJSObject ?? globalThis;"
         made += f"(async () => {{{script}}})().then(it => done([0, it]), fault => done([1, String(fault)]));"
@@ -237,6 +274,11 @@ class Firefox:
 
     def faults(self) -> list[str]:
         return []
+
+    def printed(self, path: str) -> None:
+        """Leaves the page as it is printed."""
+        with open(path, "wb") as file:
+            file.write(base64.b64decode(self.ask("WebDriver:Print", background=True)["value"]))
 
     def picture(self, path: str, whole: bool = True) -> None:
         with open(path, "wb") as file:

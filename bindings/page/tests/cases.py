@@ -1,5 +1,5 @@
-"""What the page is compared on: the examples, the families of bench/make.py, problems made at random, and texts that are hard on memory or on
-the stack. Each case is a name, a setup, a forecast, and a plan where one is judged."""
+"""What the page is compared on: the examples, the families of bench/make.py, problems made at random, and texts that
+are hard on memory or on the stack. Each case is a name, a setup, a forecast, and a plan where one is judged."""
 
 from __future__ import annotations
 
@@ -43,17 +43,21 @@ def problem(dice: random.Random) -> tuple[bytes, bytes]:
         size = dice.randint(1, most)
         start = f"start = {dice.randint(0, size)}\n" if dice.random() < 0.5 else ""
         kind = dice.choice(["circular", "bounded"])
-        setup.append(f'[[store]]\nid = "{name}"\nsize = {size}\ntype = "{kind}"\nchannel = {dice.randrange(8)}\n{start}')
+        setup.append(
+            f'[[store]]\nid = "{name}"\nsize = {size}\ntype = "{kind}"\nchannel = {dice.randrange(8)}\n{start}')
     limited = dice.choice([0, 0.3, 1])
-    setup += [f"[[limit]]\nchannel = {it}\nblocks = {dice.randint(0, most)}\n" for it in range(8) if dice.random() < limited]
+    setup += [f"[[limit]]\nchannel = {it}\nblocks = {dice.randint(0, most)}\n" for it in range(8)
+        if dice.random() < limited]
     for _ in range(dice.choice([0, 0, 3])):
-        setup.append(f'[[route]]\napid = {dice.randrange(2047)}\nservice = {dice.randrange(256)}\nsubtype = {dice.randrange(256)}\nstore = "{dice.choice(names)}"\n')
+        setup.append(f'[[route]]\napid = {dice.randrange(2047)}\nservice = {dice.randrange(256)}\nsubtype = '
+            f'{dice.randrange(256)}\nstore = "{dice.choice(names)}"\n')
     often, rich = dice.choice([0.1, 0.4, 1]), dice.choice([1, stores, 3 * stores])
     columns = [f"limit:{it}" for it in range(8) if dice.random() < limited / 8]
     rows = ["step,window," + ",".join([*names, *columns])]
     for step in range(1, steps + 1):
         window = min(1_000_000, dice.randint(0, most * rich)) if dice.random() < often else 0
-        cells = [dice.randint(0, most) if dice.random() < 0.4 else 0 for _ in names] + [dice.randint(0, most) for _ in columns]
+        cells = [dice.randint(0, most) if dice.random() < 0.4 else 0 for _ in names] + [
+            dice.randint(0, most) for _ in columns]
         rows.append(f"{step},{window}," + ",".join(map(str, cells)))
     end, mark = dice.choice(["\n", "\n", "\n", "\r\n"]), dice.choice([b"", b"", b"", MARK])
     return mark + end.join("\n".join(setup).split("\n")).encode(), mark + (end.join(rows) + end).encode()
@@ -81,7 +85,8 @@ def other_plan(dice: random.Random, text: bytes) -> bytes:
     for _ in range(dice.choice([1, 2, 9])):
         at = dice.randrange(2, len(lines) - 2)
         words = lines[at].split(" ")
-        numbers = [nth for nth, word in enumerate(words) if re.fullmatch(r"-?\d+", word) and not (words[0] == "dump" and nth == 1)]
+        numbers = [nth for nth, word in enumerate(words) if re.fullmatch(r"-?\d+", word)
+            and not (words[0] == "dump" and nth == 1)]
         if numbers:
             nth = dice.choice(numbers)
             words[nth] = str(max(0, int(words[nth]) + dice.choice([-1, 1, 1, -5, 40, 1000])))
@@ -92,7 +97,8 @@ def other_plan(dice: random.Random, text: bytes) -> bytes:
 
 
 def made(count: int, seed: int, plan: Callable[[bytes, bytes], bytes]) -> Iterator[Case]:
-    """Problems at random: six in ten are planned, one has a fault, and three come with a plan that is not quite the one of the program."""
+    """Problems at random: six in ten are planned, one has a fault, and three come with a plan that is not quite the one
+    of the program."""
     dice = random.Random(seed)
     for nth in range(count):
         setup, forecast = problem(dice)
@@ -107,7 +113,8 @@ def made(count: int, seed: int, plan: Callable[[bytes, bytes], bytes]) -> Iterat
 
 
 def is_short(case: Case) -> bool:
-    """Whether a case is a problem of an example, or one at random of few steps: what each of its numbers is worth is soon known."""
+    """Whether a case is a problem of an example, or one at random of few steps: what each of its numbers is worth is
+    soon known."""
     name, _, forecast, plan = case
     return not plan and (name in EXAMPLES or (name.startswith("problem") and forecast.count(b"\n") < 30))
 
@@ -128,7 +135,8 @@ def hard() -> Iterator[Case]:
         "CR LF": setup.replace(b"\n", b"\r\n"),
         "comments": setup + b"# x\n" * 2_000_000,
         "a long text": b'a = "' + b"x" * 8_000_000 + b'"\n' + setup,
-        "many stores": b"".join(b'[[store]]\nid = "S%d"\nsize = 5\ntype = "bounded"\nchannel = 0\n' % it for it in range(50_000)),
+        "many stores": b"".join(b'[[store]]\nid = "S%d"\nsize = 5\ntype = "bounded"\nchannel = 0\n' % it
+        for it in range(50_000)),
         "a great number": setup.replace(b"size = ", b"size = 9", 1),
         "a minus": setup.replace(b"size = ", b"size = -", 1),
         "no UTF-8": setup + b"# \xff\n",

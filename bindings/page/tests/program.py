@@ -14,7 +14,8 @@ JUDGED = ("check", "chart", "table")
 
 
 def told(task: str, *texts: bytes) -> bytes | str:
-    """The text that the program prints, of a task perhaps with its flag; or of a refusal its line and its hint, in a str."""
+    """The text that the program prints, of a task perhaps with its flag; or of a refusal its line and its hint, in a
+    str."""
     with tempfile.TemporaryDirectory() as folder:
         files = [str(Path(folder, str(nth))) for nth in range(len(texts))]
         for file, text in zip(files, texts):
@@ -40,8 +41,8 @@ def plan_or_nothing(task: str, setup: bytes, forecast: bytes) -> bytes:
 
 
 def answers(case: Case, task: str = PLAN) -> dict[str, bytes | str]:
-    """What is printed of a case, in the order in which the page asks: the plan, by one task or the other, and the plan judged, drawn and
-    tabulated; a refusal is the last."""
+    """What is printed of a case, in the order in which the page asks: the plan, by one task or the other, and the plan
+    judged, drawn and tabulated; a refusal is the last."""
     _, setup, forecast, plan = case
     said: dict[str, bytes | str] = {"plan": plan or told(task, setup, forecast)}
     for judges in JUDGED:

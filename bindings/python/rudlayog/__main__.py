@@ -5,6 +5,7 @@ from __future__ import annotations
 import os
 import sys
 import tempfile
+import warnings
 from argparse import SUPPRESS, ArgumentParser, Namespace
 from collections.abc import Callable, Iterator
 from itertools import chain
@@ -13,32 +14,51 @@ from typing import NoReturn
 
 from . import __version__, version
 from ._units import MissionError, fault, number_of
-from .mission import Mission
+from .mission import Mission, MissionWarning
 from .refusals import Refusal
 from .study import Variant, each_pass_lost, each_store_sized, rated, scaled, study
 
-COMMANDS = ("plan", "passes", "study", "sensitivity")
+# The options of each command, beside those of all.
+OPTIONS = {
+    "plan": ("step", "horizon", "look", "in_order"),
+    "passes": ("step", "horizon", "look", "in_order"),
+    "timeline": ("step", "horizon", "look", "in_order"),
+    "study": ("horizon", "look", "in_order", "lost", "sizes", "arrivals", "rates", "ages", "mb", "quiet"),
+    "sensitivity": ("step",),
+    "margin": ("stores",),
+}
+COMMANDS = tuple(OPTIONS)
 USAGE = """\
-usage: rudlayog MISSION.toml [plan|passes|study|sensitivity] [options]
+usage: rudlayog MISSION.toml [plan|passes|timeline|study|sensitivity|margin] [options]
 
   plan         the plan text of each part, with its cut; as .svg the chart
-  passes       the sheet for operations; as .csv, .md or .html by the name of the output (this is done if nothing is said)
+  passes       the sheet for operations; as .csv, .md or .html by the name of the output (done if nothing is said)
+  timeline     each dump with its begin, end, store, station, packets and MB, as .csv
   study        the loss of each variant, as .csv; as .svg, or with matplotlib .png or .pdf, a picture
   sensitivity  what each window, size and limit is worth, as .csv
+  margin       by how much arrivals may grow and stores may shrink before more is lost, as .csv; as .svg the loss
+               over the growth
 
 options:
   --output FILE     write into FILE, and print nothing
-  --step MINUTES    steps of this length; without it they go from event to event
-  --horizon MINUTES plan in parts of this length (plan, passes)
-  --in-order        serve the stores in the mission's order: the first loses least, the first two together, and so on (plan, passes)
+  --step MINUTES    steps of at most this length; without it they go from event to event (plan, passes, timeline,
+                    sensitivity)
+  --horizon MINUTES plan in parts of this length (plan, passes, timeline, study)
+  --look MINUTES    plan each part together with this time after it; without it with as much as the horizon
+  --in-order        serve the stores in the mission's order: the first loses least, the first two together, and so on
+                    (plan, passes, timeline, study)
   --lost            study: each pass lost (this is done if no other variant is named)
   --sizes FACTOR    study: each store this many times as large
   --arrivals FACTOR study: all that arrives this many times as much; may be said again
   --rates FACTOR    study: the rates of all passes this many times as high; may be said again
+  --ages            study: how old the oldest octet is when it goes down
+  --mb              study: losses in MB
   --quiet           study: no progress bar
+  --stores A,B      margin: growth of what arrives in these stores
   --help, --version
 
-The status is 0 where it is done, 1 where something is refused or cannot be read or written, and 2 for a bad command line and for --help.
+What is odd with a mission goes to standard error. The status is 0 where it is done, 1 where something is refused or
+cannot be read or written, and 2 for a bad command line and for --help.
 """
 
 
@@ -53,11 +73,11 @@ class _Words(ArgumentParser):
 def _read_words(given: list[str]) -> Namespace:
     words = _Words("rudlayog", add_help=False, argument_default=SUPPRESS, allow_abbrev=False)
     words.add_argument("words", nargs="*", default=[])
-    for name in ("--output", "--step", "--horizon", "--sizes"):
+    for name in ("--output", "--step", "--horizon", "--look", "--sizes", "--stores"):
         words.add_argument(name, default=None)
     for name in ("--arrivals", "--rates"):
         words.add_argument(name, action="append", default=[])
-    for name in ("--in-order", "--lost", "--quiet", "--help", "-h", "--version", "-V"):
+    for name in ("--in-order", "--lost", "--ages", "--mb", "--quiet", "--help", "-h", "--version", "-V"):
         words.add_argument(name, action="store_true", default=False)
     found = words.parse_intermixed_args(given)
     if found.help or found.h:
@@ -65,11 +85,19 @@ def _read_words(given: list[str]) -> Namespace:
         sys.exit(2)
     if found.version or found.V:
         return found
-    named = [word for word in found.words if word in COMMANDS]
-    files = [word for word in found.words if word not in COMMANDS]
+    named = [word for word in found.words if word in OPTIONS]
+    files = [word for word in found.words if word not in OPTIONS]
     if len(files) != 1 or len(named) > 1:
-        words.error("one file of a mission, and at most one of " + ", ".join(COMMANDS))
+        words.error("one file of a mission, and at most one of " + ", ".join(OPTIONS))
     found.mission, found.command = files[0], named[0] if named else "passes"
+    for name in {name for names in OPTIONS.values() for name in names} - set(OPTIONS[found.command]):
+        if getattr(found, name):
+            words.error(
+                f"--{name.replace('_', '-')} is none of {found.command}; its options are "
+                + ", ".join(f"--{each.replace('_', '-')}" for each in OPTIONS[found.command])
+            )
+    if found.look is not None and found.horizon is None:
+        words.error("--look goes with --horizon")
     return found
 
 
@@ -101,16 +129,23 @@ def main(given: list[str] | None = None) -> int:
 
 def _done(words: Namespace) -> None:
     """Does what the words say."""
-    mission = Mission.read(words.mission)
+    mission = _read(words.mission)
     kind = Path(words.output).suffix if words.output else ""
-    step, horizon = _minutes("--step", words.step), _minutes("--horizon", words.horizon)
+    step, horizon, look = (_minutes(f"--{name}", getattr(words, name)) for name in ("step", "horizon", "look"))
     if words.command == "study":
-        _study(words, mission, kind)
+        _study(words, mission, kind, horizon, look)
         return
     if words.command == "sensitivity":
         _put(words, mission.sensitivity(step).text())
         return
-    made = mission.plan(step, horizon, in_order=words.in_order)
+    if words.command == "margin":
+        margin = mission.margin(*(words.stores.split(",") if words.stores else ()))
+        _put(words, margin.plot().svg if kind == ".svg" else margin.text())
+        return
+    made = mission.plan(step, horizon, look=look, in_order=words.in_order)
+    if words.command == "timeline":
+        _put(words, made.timeline().text())
+        return
     if words.command == "plan":
         if kind == ".svg":
             _put(words, made.charts()[0])
@@ -118,30 +153,57 @@ def _done(words: Namespace) -> None:
             _put(words, "".join(plan.text for _, plan in made.parts))
         return
     sheet = made.passes()
-    forms: dict[str, Callable[[], str]] = {"": sheet.markdown, ".md": sheet.markdown, ".csv": sheet.text, ".html": sheet.html}
+    forms: dict[str, Callable[[], str]] = {
+        "": sheet.markdown,
+        ".md": sheet.markdown,
+        ".csv": sheet.text,
+        ".html": sheet.html,
+    }
     if kind not in forms:
         raise fault("--output", words.output, "a name that ends in .csv, .md or .html")
     _put(words, forms[kind]())
+
+
+def _read(path: str) -> Mission:
+    """The mission of a file; what is odd with it goes to standard error."""
+    with warnings.catch_warnings(record=True) as odd:
+        warnings.simplefilter("always", MissionWarning)
+        mission = Mission.read(path)
+    for each in odd:
+        sys.stderr.write(f"rudlayog: warning: {each.message}\n")
+    return mission
 
 
 def _minutes(name: str, given: str | None) -> float | None:
     return None if given is None else float(number_of(given, name, "minutes"))
 
 
-def _study(words: Namespace, mission: Mission, kind: str) -> None:
+def _study(words: Namespace, mission: Mission, kind: str, horizon: float | None, look: float | None) -> None:
     """Prints or draws a study, also of what is done where it is interrupted."""
-    found = study(mission, list(_variants(words, mission)), progress=False if words.quiet else None)
+    variants = list(_variants(words, mission))
+    found = study(
+        mission,
+        variants,
+        in_order=words.in_order,
+        ages=words.ages,
+        horizon=horizon,
+        look=look,
+        progress=False if words.quiet else None,
+    )
     if kind in (".svg", ".png", ".pdf"):
         picture = found.plot()
         _put(words, picture.svg) if kind == ".svg" else picture.save(words.output)
     else:
-        _put(words, found.text())
+        _put(words, found.text("MB" if words.mb else "blocks"))
     if not found.is_whole:
         raise fault("", f"an interrupt after {len(found)} variants", "to go on until the last one")
 
 
 def _variants(words: Namespace, mission: Mission) -> Iterator[Variant]:
     parts = []
+    for name in ("sizes", "arrivals", "rates"):
+        for factor in [words.sizes] if name == "sizes" and words.sizes is not None else getattr(words, name) or []:
+            number_of(factor, f"--{name}", "a factor of 0 or more")
     if words.sizes is not None:
         parts.append(each_store_sized(mission, words.sizes))
     parts.append(Variant(f"arrivals x {factor}", (scaled(factor),)) for factor in words.arrivals)
@@ -152,7 +214,8 @@ def _variants(words: Namespace, mission: Mission) -> Iterator[Variant]:
 
 
 def _put(words: Namespace, text: str) -> None:
-    """Prints a text, or writes it into a new file that takes the name of the output; that is as it was where this fails."""
+    """Prints a text, or writes it into a new file that takes the name of the output; that is as it was where this
+    fails."""
     if words.output is None:
         sys.stdout.write(text)
         return

@@ -1,207 +1,238 @@
-"""What a study begins with: a mission with its steps, or a setup and a forecast; and what its variants are made from."""
+"""What a study begins with: a mission with its steps, or a setup and a forecast; and the texts of variants that differ
+from it in lost passes, in what arrives and in sizes. They are those of the problem of the changed mission, made of
+parts that are kept."""
 
 from __future__ import annotations
 
+import csv
+import io
 import re
 from bisect import bisect_left, bisect_right
-from collections.abc import Mapping
-from dataclasses import dataclass, replace
-from fractions import Fraction
-from functools import cached_property
-from math import gcd
-from operator import add, sub
-from typing import TYPE_CHECKING, NamedTuple
+from collections.abc import Iterable, Sequence
+from dataclasses import dataclass
+from functools import cached_property, lru_cache
+from itertools import chain
+from operator import itemgetter
+from typing import TYPE_CHECKING, Any, NamedTuple
 
-from ._data import LIMIT, Column
-from ._timeline import Contact, arrivals_of, contacts_of, falls, problem_of, takes_limits
-from ._units import fault
+from ._data import LIMIT, STEP, WINDOW
+from ._flows import arrivals_of, came, contacts_of, micro
+from ._parts import remade
+from ._timeline import MOST_BLOCKS, Problem
+from ._units import MissionError, number_of
+from ._windows import Rooms, limited_in, rooms_of
 from .forecasts import Forecast
-from .setups import Setup, Store
+from .setups import Setup
+from .variants import FACTOR, Change, Lost, Scaled, Sized
 
 if TYPE_CHECKING:
     from .mission import Mission, Pass
 
-
 _SIZE = re.compile(rb"\nsize = \d+\n")
+# How many parts of texts are kept: of passes that overlap, of what arrives in all, and of what arrives in a store.
+ROOMS, ROWS, COLUMNS = 4096, 512, 64
+# A number above another one.
+Factor = tuple[int, int]
 
 
-def channel_of(column: str) -> int:
-    """The channel of a column of limits."""
-    return int(column.removeprefix(LIMIT))
-
-
-def sized_setup(setup: Setup, stores: list[Store]) -> Setup:
-    """The setup with these stores, which differ from its own in their sizes alone. Its text is made from that of the setup."""
-    made = Setup(tuple(stores), setup.routes, setup.limits)
-    sizes = iter(stores)
-    vars(made)["_octets"] = _SIZE.sub(lambda _: b"\nsize = %d\n" % next(sizes).size, bytes(setup))
-    return made
-
-
-class Rise(NamedTuple):
-    """What `came` until the edges of the steps of some observations, as numerators of fractions with one denominator; and the step, from 0,
-    that begins at each edge, which is after the last one where the edge ends an observation. `is_one` says whether there is one of them."""
-
-    came: list[int]
-    steps: list[int]
-    is_one: bool
-
-
-class Joined(NamedTuple):
-    """A base with joined steps, and the place that each of its edges has among those of the steps that were joined."""
-
-    base: Base
-    places: list[int]
-
-    def unjoined(self, cut: str) -> str:
-        """The lines of a cut with the steps that were joined. Its bound is the same."""
-        lines = []
-        for line in cut.splitlines():
-            word, name, *ends = line.split(" ")
-            if word == "stretch":
-                first, last = map(int, ends)
-                lines.append(f"stretch {name} {self.places[first - 1] + 1} {self.places[last]}\n")
-            else:
-                lines.append(f"{word} {self.places[int(name)]} {' '.join(ends)}\n")
-        return "".join(lines)
-
-
-class Rooms(NamedTuple):
-    """What a pass can send in its steps, of which `first` is the first, from 0: all together, and by the columns of limits."""
-
-    first: int
-    windows: list[int]
-    limits: dict[str, list[int]]
+def _product(one: Factor, other: Factor) -> Factor:
+    return one[0] * other[0], one[1] * other[1]
 
 
 @dataclass(frozen=True)
 class Base:
-    """The mission of a study, if there is one, with its steps; its setup and its forecast."""
+    """The setup and the forecast of a study, and the mission that they are of, with its steps, if there is one."""
 
     setup: Setup
     forecast: Forecast
     mission: Mission | None = None
-    edges: tuple[int, ...] = ()
+
+    @classmethod
+    def of_mission(cls, mission: Mission) -> Base:
+        """The base of a mission."""
+        kept = mission.kept
+        return cls(*kept.problem(), mission=kept)
+
+    @classmethod
+    def in_parts(cls, mission: Mission) -> Base:
+        """The base of a mission that is planned in parts: of its setup and its forecast the stores alone are used."""
+        stores = tuple(map(mission.setup_store, mission.stores))
+        return cls(Setup(stores, mission.routes), Forecast.of([0], {store.id: [0] for store in stores}), mission)
 
     @property
-    def block(self) -> int:
-        """The octets of a block."""
-        return self.mission.block if self.mission else 1024
-
-    def mission_of(self, what: str) -> Mission:
-        """The mission."""
-        if self.mission is None:
-            raise fault("", f"{what}, of a setup and a forecast", "a study of a mission")
-        return self.mission
+    def problem(self) -> Problem:
+        """The problem of the mission."""
+        assert self.mission is not None
+        return self.mission.problem()
 
     @cached_property
-    def joined(self) -> Joined | None:
-        """The base with steps joined to one that follow one another and have no pass in them. In such steps only what comes is counted, so each
-        variant loses the same, all together and by store. None where there are none, or more arrive in one than a step may have."""
-        if self.mission is None:
-            return None
-        is_used = [False] * (len(self.edges) + 1)
-        for contact in contacts_of(self.mission):
-            first, last = bisect_right(self.edges, contact.sends.begin), bisect_left(self.edges, contact.sends.end)
-            is_used[first : last + 1] = [True] * (last + 1 - first)
-        # the step before an edge, and the one after it
-        places = [place for place in range(len(self.edges)) if is_used[place] or is_used[place + 1] or place in (0, len(self.edges) - 1)]
-        if len(places) == len(self.edges):
-            return None
+    def quick(self) -> Quick | None:
+        """What makes texts of variants of a mission quickly."""
+        return None if self.mission is None else Quick(self.problem)
+
+    def __reduce__(self) -> tuple[object, ...]:
+        return Base, (self.setup, self.forecast, self.mission)
+
+
+class Group(NamedTuple):
+    """Passes that overlap one another, and the rows of their steps: of the first one, and of the one after the last."""
+
+    passes: tuple[Pass, ...]
+    first: int
+    last: int
+
+
+class Quick:
+    """The texts of variants of a problem."""
+
+    def __init__(self, problem: Problem) -> None:
+        mission, self.unit, self.edges = problem.mission, problem.unit, problem.edges
+        self.mission = mission
+        self.stores = {store.id: store for store in mission.stores}
+        self.coming = {store: came(flows, self.edges).coming() for store, flows in arrivals_of(mission).items()}
+        # the middles of the rows, with a place for each number that is not 0, and which one stands there
+        cells = [(step, place) for place, (steps, _) in enumerate(self.coming.values()) for step in steps]
+        order = sorted(range(len(cells)), key=cells.__getitem__)
+        self.order: Any = itemgetter(*order) if len(order) > 1 else tuple
+        is_cell = set(cells)
+        steps = range(len(self.edges) - 1)
+        row = [["%d" if (step, place) in is_cell else "0" for place in range(len(self.stores))] for step in steps]
+        self.rows = "\n".join("," + ",".join(each) for each in row)
+        self.groups = list(_groups(problem, self.edges))
+        self.group_of = {one.name: place for place, group in enumerate(self.groups) for one in group.passes}
+        self.with_rate = {
+            channel: {one.name for one in mission.passes if channel in mission.rates(one)[1]}
+            for channel in limited_in(mission)
+        }
+        self.packets = tuple(self.unit.packets.values())
+        self.form = _SIZE.sub(b"\nsize = %d\n", bytes(problem.setup).replace(b"%", b"%%"))
+        self.sizes = [store.size for store in problem.setup.stores]
+        self.starts = [store.start for store in problem.setup.stores]
+        self._rooms = lru_cache(ROOMS)(self._rooms_of)
+        self._whole = lru_cache(ROOMS)(self._whole_of)
+        self._rows = lru_cache(ROWS)(self._rows_of)
+        self._column = lru_cache(COLUMNS)(self._column_of)
+
+    def texts(self, changes: Sequence[Change]) -> tuple[bytes, bytes] | None:
+        """The setup and the forecast of the mission with these changes. None where others than lost passes, arrivals
+        and sizes change, or where something is refused or out of range: the changed mission says what that is."""
         try:
-            problem = problem_of(self.mission, edges=tuple(self.edges[place] for place in places))
-        except ValueError:
+            return self._texts(changes)
+        except MissionError:
             return None
-        return Joined(Base(problem.setup, problem.forecast, self.mission, problem.edges), places)
 
-    @cached_property
-    def _own(self) -> dict[str, Rooms]:
-        """What each pass adds to the windows, and to the limits of channels."""
-        return {contact.one.name: self._rooms(contact) for contact in contacts_of(self.mission_of("a pass"))}
+    def _texts(self, changes: Sequence[Change]) -> tuple[bytes, bytes] | None:
+        gone: set[str] = set()
+        common: Factor = (1, 1)
+        own: dict[str, Factor] = {}
+        for change in changes:
+            if isinstance(change, Lost):
+                gone.update(change.passes)
+            elif isinstance(change, Scaled):
+                factor = number_of(change.factor, "factor", FACTOR).as_integer_ratio()
+                for store in set(change.stores):
+                    own[store] = _product(own.get(store, (1, 1)), factor)
+                common = common if change.stores else _product(common, factor)
+            elif not isinstance(change, Sized):
+                return None
+        sizes = list(self.sizes)
+        if not gone <= self.group_of.keys() or not own.keys() <= self.stores.keys() or not self._sized(sizes, changes):
+            return None
+        rows = self._rows(tuple([_product(common, own[store]) if store in own else common for store in self.stores]))
+        return None if rows is None else (self.form % tuple(sizes), self._forecast(gone, rows.split("\n")))
 
-    @cached_property
-    def _rises(self) -> dict[str, dict[int, Rise]]:
-        """What comes of the observations of each store, by the denominators of its fractions."""
-        found: dict[str, dict[int, Rise]] = {}
-        for store, flows in arrivals_of(self.mission_of("an observation")).items():
-            found[store] = {}
-            for flow in flows:
-                first, last = max(bisect_right(self.edges, flow.begin) - 1, 0), bisect_left(self.edges, flow.end)
-                edges = self.edges[first : last + 1]
-                came = [flow.above * (min(max(edge, flow.begin), flow.end) - flow.begin) for edge in edges]
-                # small numbers take less time
-                common = gcd(flow.below, *came)
-                before = found[store].get(flow.below // common)
-                rise = found[store][flow.below // common] = Rise(before.came, before.steps, False) if before else Rise([], [], True)
-                rise.came.extend(numerator // common for numerator in came)
-                rise.steps.extend([*range(first, last), len(self.edges) - 1])
-        return found
-
-    @cached_property
-    def _adds_up(self) -> bool:
-        """Whether windows and limits are those of the passes, one after the other, since none overlaps another one."""
-        passes = self.mission_of("a pass").passes
-        return all(before.end <= after.begin for before, after in zip(passes, passes[1:]))
-
-    @cached_property
-    def _lowers(self) -> bool:
-        """Whether windows are lowered to limits of the setup."""
-        mission = self.mission_of("a pass")
-        return not takes_limits() and any(mission.rates(one)[1] for one in mission.passes)
-
-    def _rooms(self, contact: Contact) -> Rooms:
-        first, last = bisect_right(self.edges, contact.sends.begin) - 1, bisect_left(self.edges, contact.sends.end)
-        edges = self.edges[first : last + 1]
-        limits = {name: falls(contact.channels.get(channel_of(name), contact.sends), edges) for name in self.forecast.limits}
-        return Rooms(first, falls(contact.sends, edges), limits)
-
-    def without(self, setup: Setup, forecast: Forecast, changed: Mapping[str, Pass | None]) -> tuple[Setup, Forecast]:
-        """The setup and the forecast where passes are others, or are not there."""
-        mission = self.mission_of("a pass")
-        for name in changed:
-            mission.the_pass(name)
-        if not self._adds_up or (self._lowers and any(changed.values())):
-            return self._anew(setup, forecast, changed)
-        windows = list(forecast.windows)
-        limits = {name: list(column) for name, column in forecast.limits.items()}
-        steps: list[int] = []
-        for name, one in changed.items():
-            own = self._own[name]
-            end = own.first + len(own.windows)
-            steps += range(own.first, end)
-            for column in (windows, *limits.values()):
-                column[own.first : end] = [0] * len(own.windows)
-            for contact in contacts_of(replace(mission, passes=(one,))) if one else ():
-                rooms = self._rooms(contact)
-                steps += range(rooms.first, rooms.first + len(rooms.windows))
-                for column, blocks in ((windows, rooms.windows), *((limits[each], rooms.limits[each]) for each in limits)):
-                    column[rooms.first : rooms.first + len(blocks)] = blocks
-        return setup, forecast.with_rooms(Column(windows), {name: Column(column) for name, column in limits.items()}, steps)
-
-    def _anew(self, setup: Setup, forecast: Forecast, changed: Mapping[str, Pass | None]) -> tuple[Setup, Forecast]:
-        """The same where passes overlap: all windows are made again."""
-        mission = self.mission_of("a pass")
-        passes = [changed.get(one.name, one) for one in mission.passes]
-        problem = problem_of(replace(mission, passes=[one for one in passes if one]), edges=self.edges)
-        # where no pass is left that has a rate for a channel, its limit is the window
-        limits = {name: problem.forecast.limits.get(name, problem.forecast.windows) for name in self.forecast.limits}
-        limited = setup if setup.limits == problem.setup.limits else Setup(setup.stores, setup.routes, problem.setup.limits)
-        return limited, forecast.having(windows=problem.forecast.windows, limits=limits)
-
-    def scaled(self, store: str, forecast: Forecast, factor: Fraction) -> Column:
-        """What arrives in a store, this many times as much."""
-        if self.mission is None:
-            return Column(-(-blocks * factor.numerator // factor.denominator) for blocks in forecast.arrivals[store])
-        column = [0] * len(self.edges)
-        for below, rise in self._rises[store].items():
-            # what has come until each edge rises to whole blocks
-            above, whole = factor.numerator, factor.denominator * below
-            counts = [(numerator * above + whole - 1) // whole for numerator in rise.came]
-            came = map(sub, counts[1:], counts)
-            if rise.is_one:
-                steps = slice(rise.steps[0], rise.steps[0] + len(counts) - 1)
-                column[steps] = map(add, column[steps], came)
+    def _sized(self, sizes: list[int], changes: Iterable[Change]) -> bool:
+        """Puts in the sizes that are changed, and says whether they are in range."""
+        volumes = {store: each.size for store, each in self.stores.items()}
+        for change in changes:
+            if not isinstance(change, Sized):
                 continue
-            for step, blocks in zip(rise.steps, came):
-                column[step] += blocks
-        return Column(column[:-1])
+            if change.store not in volumes:
+                return False
+            volumes[change.store] = change.sized(volumes[change.store])
+            place = list(volumes).index(change.store)
+            room = int(volumes[change.store].blocks(self.mission.block))
+            sizes[place] = room // self.packets[place]
+            held = self.mission.held_in(self.stores[change.store])
+            # what is held is not cut off at the size, in the problem or here
+            is_room = held <= room and self.starts[place] == -(-held // self.packets[place]) <= sizes[place]
+            is_unit = self.packets[place] == self.unit.packets_in(
+                self.mission.packet_of(self.stores[change.store]), room
+            )
+            if not is_room or not is_unit or not 1 <= sizes[place] <= MOST_BLOCKS:
+                return False
+        return True
+
+    def _forecast(self, gone: set[str], rows: list[str]) -> bytes:
+        """The text of a forecast without these passes, of rows with what arrives."""
+        limited = tuple([channel for channel, names in self.with_rate.items() if not names <= gone])
+        header, heads, tails = self._whole(limited)
+        if gone:
+            heads, tails = list(heads), list(tails)
+            for place in {self.group_of[name] for name in gone}:
+                group = self.groups[place]
+                left = tuple([one.name not in gone for one in group.passes])
+                heads[group.first : group.last], tails[group.first : group.last] = self._rooms(place, left, limited)
+        return "".join([header, *chain.from_iterable(zip(heads, rows, tails))]).encode()
+
+    def _whole_of(self, limited: tuple[int, ...]) -> tuple[str, list[str], list[str]]:
+        """The header, and the begins and the ends of the rows, where no pass is lost and these channels have limits."""
+        line = io.StringIO()
+        csv.writer(line, lineterminator="\n").writerow(
+            [STEP, WINDOW, *self.stores, *(f"{LIMIT}{channel}" for channel in limited)]
+        )
+        count = len(self.edges) - 1
+        heads, tails = [f"{step},0" for step in range(1, count + 1)], [",0" * len(limited) + "\n"] * count
+        for place, group in enumerate(self.groups):
+            left = (True,) * len(group.passes)
+            heads[group.first : group.last], tails[group.first : group.last] = self._rooms(place, left, limited)
+        return line.getvalue(), heads, tails
+
+    def _rooms_of(self, place: int, left: tuple[bool, ...], limited: tuple[int, ...]) -> tuple[list[str], list[str]]:
+        """The begins and the ends of the rows of passes that overlap, of which these are left."""
+        group = self.groups[place]
+        passes = tuple(one for one, is_left in zip(group.passes, left) if is_left)
+        count = group.last - group.first
+        windows, limits = [0] * count, {channel: [0] * count for channel in limited}
+        if passes:
+            rooms = self._sent_by(passes, limited)
+            span = slice(rooms.first - group.first, rooms.first - group.first + len(rooms.windows))
+            windows[span] = rooms.windows
+            for channel in limited:
+                limits[channel][span] = rooms.limits[channel]
+        heads = [f"{step},{window}" for step, window in enumerate(windows, group.first + 1)]
+        return heads, ["".join([f",{column[step]}" for column in limits.values()]) + "\n" for step in range(count)]
+
+    def _sent_by(self, passes: tuple[Pass, ...], limited: tuple[int, ...]) -> Rooms:
+        return rooms_of(contacts_of(remade(self.mission, passes=passes), self.unit), self.edges, limited)
+
+    def _rows_of(self, factors: tuple[Factor, ...]) -> str | None:
+        """The middles of the rows, in lines: what arrives in the stores, so many times as much. None where it is out of
+        range."""
+        values: list[int] = []
+        for store, factor in zip(self.coming, factors):
+            column = self._column(store, factor)
+            if max(column, default=0) > MOST_BLOCKS:
+                return None
+            values += column
+        text: str = self.rows % self.order(values)
+        return text
+
+    def _column_of(self, store: str, factor: Factor) -> list[int]:
+        """What arrives in a store in the steps in which something does, this many times as much."""
+        return self.coming[store][1].column(self.unit.packets[store], *factor)
+
+
+
+def _groups(problem: Problem, edges: Sequence[int]) -> Iterable[Group]:
+    """The passes of a problem that overlap one another, with the rows of their steps."""
+    mission = problem.mission
+    group: list[Pass] = []
+    for one in (*mission.passes, None):
+        if group and (one is None or one.begin >= max(other.end for other in group)):
+            first = bisect_right(edges, max(micro(mission, group[0].begin), 0)) - 1
+            last = bisect_left(edges, min(max(micro(mission, other.end) for other in group), edges[-1]))
+            yield Group(tuple(group), first, last)
+            group = []
+        if one is not None:
+            group.append(one)

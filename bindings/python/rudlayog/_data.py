@@ -1,4 +1,5 @@
-"""Texts as octets, and plain data as numbers, columns and rows. What is no such data raises an error that names its place and its value."""
+"""Texts as octets, and plain data as numbers, columns and rows. What is no such data raises an error that names its
+place and its value."""
 
 from __future__ import annotations
 
@@ -10,15 +11,17 @@ from collections.abc import ItemsView, Iterable, Iterator, Mapping
 from functools import cached_property
 from pathlib import Path
 from types import MappingProxyType
-from typing import Any, Protocol, SupportsIndex
+from typing import Any, Protocol, SupportsFloat, SupportsIndex
 
-# A text: its octets, its characters, or the file that has it. A str with a line end in it is the text itself; one without names a file.
+# A text: its octets, its characters, or the file that has it. A str with a line end in it is the text itself; one
+# without names a file.
 Text = bytes | bytearray | memoryview | str | os.PathLike[str]
 
 # A packet: its octets, whatever holds them.
 Packet = bytes | bytearray | memoryview
 
-# The columns of a forecast that are no stores: the steps' numbers, their windows, and what the names of columns with limits begin with.
+# The columns of a forecast that are no stores: the steps' numbers, their windows, and what the names of columns with
+# limits begin with.
 STEP = "step"
 WINDOW = "window"
 LIMIT = "limit:"
@@ -31,7 +34,8 @@ class Frame(Protocol):
     def columns(self) -> Iterable[Any]:
         """The names of the columns."""
 
-    def __getitem__(self, name: Any, /) -> Any: ...
+    def __getitem__(self, name: Any, /) -> Any:
+        ...
 
 
 # A table of numbers: a column for each name, a data frame, or rows with the same keys.
@@ -57,7 +61,9 @@ class Columns(Mapping[str, Column]):
     """Columns of whole numbers, by their names and in their order. They stay as they are."""
 
     def __init__(self, named: Mapping[str, Iterable[int]]) -> None:
-        self._named = MappingProxyType({name: column if type(column) is Column else Column(column) for name, column in named.items()})
+        self._named = MappingProxyType(
+            {name: column if type(column) is Column else Column(column) for name, column in named.items()}
+        )
         self._forms: dict[tuple[str, ...], bytes] = {}
 
     def __getitem__(self, name: str) -> Column:
@@ -91,8 +97,8 @@ class Columns(Mapping[str, Column]):
         return self._named.items()
 
     def form(self, steps: int, open_names: tuple[str, ...] = ()) -> bytes:
-        """The text of a forecast with that many steps, with `%d` for each window, and `%%d` for each number of the columns that are named. It
-        is kept: forecasts that differ in these alone are made from it."""
+        """The text of a forecast with that many steps, with `%d` for each window, and `%%d` for each number of the
+        columns that are named. It is kept: forecasts that differ in these alone are made from it."""
         if open_names not in self._forms:
             header = io.StringIO()
             csv.writer(header, lineterminator="\n").writerow([STEP, WINDOW, *self._named])
@@ -126,11 +132,14 @@ def packet_octets(given: Packet, name: str = "packet") -> bytes:
 
 
 def whole(given: object, place: str) -> int:
-    """A whole number of any kind: an int, or what numpy and its like have. `place` says where it stands."""
+    """A whole number of any kind: an int, what numpy and its like have, or a float that is whole. `place` says where it
+    stands."""
     if type(given) is int:
         return given
     if not isinstance(given, bool) and isinstance(given, SupportsIndex):
         return operator.index(given)
+    if isinstance(given, SupportsFloat) and hasattr(given, "is_integer") and given.is_integer():
+        return int(float(given))
     raise ValueError(f"{place}: {given!r} is no whole number")
 
 
@@ -148,14 +157,19 @@ def values_of(given: Any, name: str) -> tuple[Any, ...]:
     """The values of a column, in their order."""
     if isinstance(given, tuple):
         return given
-    if is_text(given) or isinstance(given, (Mapping, set, frozenset)) or hasattr(given, "columns") or not hasattr(given, "__iter__"):
+    if (
+        is_text(given)
+        or isinstance(given, (Mapping, set, frozenset))
+        or hasattr(given, "columns")
+        or not hasattr(given, "__iter__")
+    ):
         raise ValueError(f"column {name}: {given!r} is no list of values")
     return tuple(given)
 
 
 def columns(given: Any) -> dict[str, tuple[Any, ...]]:
-    """The columns of a table by their names: of a mapping from names to values, of a data frame, or of rows that are mappings with the same
-    keys."""
+    """The columns of a table by their names: of a mapping from names to values, of a data frame, or of rows that are
+    mappings with the same keys."""
     if not isinstance(given, Mapping) and not hasattr(given, "columns"):
         return _columns_of_rows(rows(given))
     keys: dict[str, Any] = {}
@@ -180,7 +194,10 @@ def _columns_of_rows(given: list[dict[str, Any]]) -> dict[str, tuple[Any, ...]]:
     for place, row in enumerate(given, 1):
         for name in (*names, *row):
             if name not in row or name not in names:
-                raise ValueError(f"column {name} is in row {place if name in row else 1}, and not in row {1 if name in row else place}")
+                raise ValueError(
+                    f"column {name} is in row {place if name in row else 1}, "
+                    f"and not in row {1 if name in row else place}"
+                )
     return {name: tuple(row[name] for row in given) for name in names}
 
 

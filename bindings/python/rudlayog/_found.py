@@ -19,6 +19,7 @@ class Found(NamedTuple):
     bound: int | None = None
     shown: str = ""
     refused: str = ""
+    ages: tuple[float, ...] = ()
 
 
 class _No(Enum):
@@ -26,16 +27,19 @@ class _No(Enum):
 
 
 # Which numbers a row has.
-DONE, LOSS, BOUND, BY_STORE = 1, 2, 4, 8
+DONE, LOSS, BOUND, BY_STORE, AGES = 1, 2, 4, 8, 16
 
 
 class FoundTable:
-    """The rows of a study, which may come in any order. Their numbers stand in arrays, and texts that are the same are one."""
+    """The rows of a study, which may come in any order. Their numbers stand in arrays, and texts that are the same are
+    one."""
 
     def __init__(self, width: int) -> None:
         self._width = width
         self._has = bytearray()
         self._losses, self._bounds, self._by_store = array("q"), array("q"), array("q")
+        # for each store the greatest and the median age
+        self._ages = array("d")
         self._shown: list[str] = []
         self._refused: dict[int, str] = {}
         self._texts: dict[str, str] = {}
@@ -59,6 +63,10 @@ class FoundTable:
         if found.by_store:
             self._has[row] |= BY_STORE
             self._by_store[row * self._width : (row + 1) * self._width] = array("q", found.by_store)
+        if found.ages:
+            self._has[row] |= AGES
+            self._ages.extend([0.0] * (2 * self._width * (row + 1) - len(self._ages)))
+            self._ages[2 * row * self._width : 2 * (row + 1) * self._width] = array("d", found.ages)
         self._shown[row] = self._texts.setdefault(found.shown, found.shown)
         if found.refused:
             self._refused[row] = self._texts.setdefault(found.refused, found.refused)
@@ -85,7 +93,9 @@ class FoundTable:
 
     def found(self, row: int) -> Found:
         """What is found in a row."""
-        return Found(self.loss(row), self.by_store(row), self.bound(row), self._shown[row], self.refused(row))
+        return Found(
+            self.loss(row), self.by_store(row), self.bound(row), self._shown[row], self.refused(row), self.ages(row)
+        )
 
     def loss(self, row: int) -> int | None:
         """The loss of a row."""
@@ -103,6 +113,15 @@ class FoundTable:
         """The loss of the store at a place, in a row."""
         return self._by_store[row * self._width + place] if self._has[row] & BY_STORE else None
 
+    def ages(self, row: int) -> tuple[float, ...]:
+        """The greatest and the median age of each store in a row."""
+        return tuple(self._ages[2 * row * self._width : 2 * (row + 1) * self._width]) if self._has[row] & AGES else ()
+
+    @property
+    def has_ages(self) -> bool:
+        """Whether some row has ages."""
+        return bool(self._ages)
+
     def refused(self, row: int) -> str:
         """Why a row is refused."""
         return self._refused.get(row, "")
@@ -118,7 +137,11 @@ class FoundTable:
 
     def parameters(self, row: int) -> Mapping[str, Any]:
         """The parameters of a row."""
-        return {name: values[row] for name, values in self._values.items() if row < len(values) and values[row] is not _No.VALUE}
+        return {
+            name: values[row]
+            for name, values in self._values.items()
+            if row < len(values) and values[row] is not _No.VALUE
+        }
 
     def rows(self) -> Iterator[int]:
         """The rows that are there."""

@@ -6,6 +6,7 @@ import ctypes
 import os
 from collections.abc import Callable
 from pathlib import Path
+from typing import SupportsIndex
 
 from ._data import whole
 from .refusals import Refusal
@@ -20,6 +21,7 @@ INSTRUCTIONS = 255  # RUDLAYOG_INSTRUCTIONS
 BLOCK = 1024  # RUDLAYOG_BLOCK
 PACKET = 65542  # RUDLAYOG_PACKET
 DONE = 255  # RUDLAYOG_DONE
+LEAST = (1, 8)  # RUDLAYOG_LEAST and RUDLAYOG_LEAST_IN_ORDER: the kinds of a verdict for which rudlayog_is_least is true
 
 _octets = ctypes.c_char_p
 _size = ctypes.c_size_t
@@ -247,7 +249,7 @@ def accept(*texts: bytes) -> None:
 def number(given: object, name: str, bits: int) -> int:
     """A number that the library takes in this many bits."""
     try:
-        value = whole(given, name)
+        value = whole(given, name) if isinstance(given, SupportsIndex) else -1
     except ValueError:
         value = -1
     if not 0 <= value < 2**bits:

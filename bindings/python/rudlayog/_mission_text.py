@@ -14,7 +14,7 @@ from pathlib import Path
 from typing import Any, TypeVar
 
 from ._data import is_text, rows
-from ._units import Fault, MissionError, fault, moment_of
+from ._units import Fault, MissionError, fault, moment_of, whole_of
 from .mission import Mission, Observation, PacketStore, Pass, Station
 from .setups import Route
 
@@ -27,7 +27,18 @@ TABLES: dict[str, tuple[str, type[Any]]] = {
     "pass": ("passes", Pass),
     "observation": ("observations", Observation),
 }
-PLAIN = ("name", "begin", "end", "packet", "block", "overlap")
+PLAIN = ("name", "begin", "end", "packet", "block", "overlap", "unit", "moments")
+# What reads the keys at the top that are no names.
+READ: dict[str, Callable[[Any, str], Any]] = {
+    "begin": moment_of,
+    "end": moment_of,
+    "packet": whole_of,
+    "block": whole_of,
+    "unit": whole_of,
+    "moments": lambda given, place: tuple(
+        moment_of(each, place) for each in (given if isinstance(given, list) else [given])
+    ),
+}
 # Columns for the rates of channels.
 CHANNEL = re.compile(r"channel:([0-7])\Z")
 
@@ -52,10 +63,10 @@ def mission_in(path: str | os.PathLike[str]) -> Mission:
             meant = f"one of {', '.join((*PLAIN, *TABLES))}, or the name of a CSV file as {', '.join(files)}"
             faults.append(Fault(places.key(key), f"the key {key}", meant))
     plain = {key: given[key] for key in PLAIN if key in given}
-    for key in ("begin", "end"):
+    for key, make in READ.items():
         if key in plain:
             try:
-                plain[key] = moment_of(plain[key], places.key(key))
+                plain[key] = make(plain[key], places.key(key))
             except MissionError as error:
                 faults += error.faults
                 del plain[key]
@@ -70,7 +81,7 @@ def mission_in(path: str | os.PathLike[str]) -> Mission:
         if plural in given:
             parts[plural] += _named_file(kind, file.parent, given[plural], places.key(plural), faults)
     routes = tuple(_routes(given.get("route", []), places, faults))
-    return _made({**parts, **plain, "routes": routes}, faults, str(file))
+    return _made({**parts, **plain, "routes": routes}, faults, str(file), places.found)
 
 
 def mission_of(**given: Any) -> Mission:
@@ -82,19 +93,35 @@ def mission_of(**given: Any) -> Mission:
         if is_text(table):
             made[plural] = _csv_parts(kind, Path(os.fspath(table)), faults)
         else:
-            listed = [*table] if isinstance(table, Iterable) and not isinstance(table, Mapping) and not hasattr(table, "columns") else rows(table)
+            try:
+                listed = (
+                    [*table]
+                    if isinstance(table, Iterable) and not isinstance(table, Mapping) and not hasattr(table, "columns")
+                    else rows(table)
+                )
+            except ValueError as error:
+                faults.append(
+                    Fault(
+                        plural,
+                        str(error),
+                        f"a table: a list of {kind.__name__} or of dicts, a dict of columns, or a data frame",
+                    )
+                )
+                listed = []
             placed = [(f"row {number} of {plural}", row) for number, row in enumerate(listed, 1)]
             made[plural] = list(_parts(kind, placed, faults, lambda place, name: f"{place}, {name}"))
     return _made(made, faults, "the mission")
 
 
-def _made(fields: dict[str, Any], faults: list[Fault], place: str) -> Mission:
-    """The mission of these parts. What is wrong with all of it is told after the faults of its parts."""
+def _made(fields: dict[str, Any], faults: list[Fault], place: str, found: Callable[[str], str] = str) -> Mission:
+    """The mission of these parts. What is wrong with all of it is told after the faults of its parts, at the places
+    that are `found` for theirs."""
     try:
         made = Mission(**fields, place=place)
     except MissionError as error:
         # a part that is left out for its fault makes others seem wrong
-        raise MissionError([*faults, *(error.faults if not faults else ())]) from None
+        more = [Fault(found(each.place), each.found, each.meant) for each in error.faults]
+        raise MissionError([*faults, *(more if not faults else ())]) from None
     if faults:
         raise MissionError(faults)
     return made
@@ -112,10 +139,20 @@ def _csv_parts(kind: type[Part], path: Path, faults: list[Fault]) -> list[Part]:
     try:
         text = path.read_bytes().decode("utf-8-sig")
     except (OSError, UnicodeDecodeError) as error:
-        faults.append(Fault(str(path), getattr(error, "strerror", None) or "octets that are no UTF-8", "a CSV file in UTF-8 that can be read"))
+        faults.append(
+            Fault(
+                str(path),
+                getattr(error, "strerror", None) or "octets that are no UTF-8",
+                "a CSV file in UTF-8 that can be read",
+            )
+        )
         return []
     reader = csv.reader(io.StringIO(text, newline=""))
     header = [name.strip() for name in next(reader, [])]
+    twice = sorted({name for name in header if header.count(name) > 1})
+    if twice:
+        faults.append(Fault(f"{path}, line 1", f"the column {', '.join(twice)} twice", "each column once"))
+        return []
     placed: list[tuple[str, dict[str, Any]]] = []
     for cells in reader:
         place = f"{path}, line {reader.line_num}"
@@ -134,8 +171,11 @@ def _columns(kind: type[Any]) -> list[str]:
     return [field.name for field in fields(kind) if field.name != "place"]
 
 
-def _parts(kind: type[Part], placed: list[tuple[str, Any]], faults: list[Fault], inside: Callable[[str, str], str]) -> Iterable[Part]:
-    """The parts of these rows that are right; the faults of the others are added."""
+def _parts(
+    kind: type[Part], placed: list[tuple[str, Any]], faults: list[Fault], inside: Callable[[str, str], str]
+) -> Iterable[Part]:
+    """The parts of these rows that are right; the faults of the others are added. A key that is none is named once."""
+    named: set[str] = set()
     for place, row in placed:
         if isinstance(row, kind):
             yield row
@@ -143,31 +183,48 @@ def _parts(kind: type[Part], placed: list[tuple[str, Any]], faults: list[Fault],
         if not isinstance(row, Mapping):
             faults.append(Fault(place, repr(row), f"a {kind.__name__} or its fields"))
             continue
+        found = {str(key): value for key, value in row.items() if not _is_missing(value)}
+        strange = [
+            key
+            for key in found
+            if key not in _columns(kind) and not (CHANNEL.match(key) and "channels" in _columns(kind))
+        ]
+        for key in strange:
+            if key not in named:
+                faults.append(Fault(inside(place, key), f"the key {key}", f"one of {', '.join(_columns(kind))}"))
+            named.add(key)
+            del found[key]
         try:
-            yield _part(kind, {str(key): value for key, value in row.items()}, place, inside)
+            part = _part(kind, found, place, inside)
         except MissionError as error:
             faults += error.faults
+            continue
+        if not strange:
+            yield part
 
 
-def _part(kind: type[Part], row: dict[str, Any], place: str, inside: Callable[[str, str], str]) -> Part:
+def _part(kind: type[Part], found: dict[str, Any], place: str, inside: Callable[[str, str], str]) -> Part:
     """One part of its fields."""
-    known, found = _columns(kind), {key: value for key, value in row.items() if not _is_missing(value)}
-    rates = {match[1]: found.pop(key) for key in list(found) if (match := CHANNEL.match(key)) and "channels" in known}
-    strange = [key for key in found if key not in known]
-    if strange:
-        raise fault(inside(place, strange[0]), f"the key {strange[0]}", f"one of {', '.join(known)}")
-    needed = {"PacketStore": ("id", "size"), "Station": ("name",), "Pass": ("station", "begin", "end"), "Observation": ("store", "begin", "end")}
+    rates = {match[1]: found.pop(key) for key in list(found) if (match := CHANNEL.match(key))}
+    needed = {
+        "PacketStore": ("id", "size"),
+        "Station": ("name",),
+        "Pass": ("station", "begin", "end"),
+        "Observation": ("store", "begin", "end"),
+    }
     for name in needed[kind.__name__]:
         if name not in found:
-            raise fault(place, f"no {name}", f"{name}, beside {', '.join(key for key in known if key != name)}")
+            raise fault(
+                place, f"no {name}", f"{name}, beside {', '.join(key for key in _columns(kind) if key != name)}"
+            )
     for name in ("id", "type", "name", "station", "store"):
         if name in found and not isinstance(found[name], str):
             raise fault(inside(place, name), repr(found[name]), "a text in quotes")
-    for name in ("channel", "packet"):
-        if name in found:
-            found[name] = _whole(found[name], inside(place, name))
     if rates:
-        found["channels"] = {**found.get("channels", {}), **rates}
+        channels = found.get("channels", {})
+        if not isinstance(channels, Mapping):
+            raise fault(inside(place, "channels"), repr(channels), 'the rates of channels, as {1 = "20 kbit/s"}')
+        found["channels"] = {**channels, **rates}
     try:
         return kind(**found, place=place)
     except MissionError as error:
@@ -180,16 +237,9 @@ def _placed(each: Fault, place: str, inside: Callable[[str, str], str]) -> Fault
     return Fault(inside(place, name), each.found, each.meant) if each.place != place else each
 
 
-def _whole(given: Any, place: str) -> int:
-    try:
-        value = int(str(given))
-    except ValueError:
-        raise fault(place, repr(given), "a whole number") from None
-    return value
-
-
 def _is_missing(value: Any) -> bool:
-    """Whether a data frame has nothing here: None, or what is not itself, as nan, or neither is nor is not, as NA of pandas."""
+    """Whether a data frame has nothing here: None, or what is not itself, as nan, or neither is nor is not, as NA of
+    pandas."""
     if value is None or isinstance(value, (str, Mapping)):
         return value is None
     try:
@@ -233,6 +283,20 @@ class _Places:
         """The place of a key at the top."""
         line = self._keys.get(("", 0, key)) or next(iter(self._rows.get(key, [])), None)
         return f"{self._file}, line {line}, {key}" if line else f"{self._file}, {key}"
+
+    def found(self, place: str) -> str:
+        """The place of a key of the file, or of one of its tables, which is named after that of the file or of the
+        table."""
+        whole, _, key = place.rpartition(", ")
+        if not whole:
+            return place
+        if whole == str(self._file) and key.isidentifier():
+            return self.key(key)
+        for table in self._rows:
+            found = self.inside(table, whole, key)
+            if found != place:
+                return found
+        return place
 
     def inside(self, table: str, place: str, key: str) -> str:
         """The place of a key of the table that has this place."""

@@ -4,11 +4,14 @@ from __future__ import annotations
 
 import os
 import pickle
+import signal
 import sys
+import threading
 import time
 from collections import deque
 from collections.abc import Callable, Iterator, Sized
 from concurrent.futures import FIRST_COMPLETED, BrokenExecutor, ProcessPoolExecutor, ThreadPoolExecutor, wait
+from contextlib import suppress
 from functools import lru_cache
 from importlib import import_module
 from itertools import islice
@@ -85,6 +88,13 @@ class _Cluster:
         self.workers = sum(client.nthreads().values()) or 1
         self._tasks: set[Any] = set()
         self._shared: Any = None
+        # Ctrl-C goes to each process of a terminal, so to workers on this machine too
+        self._run(_without_interrupts)
+
+    def _run(self, function: Callable[[], None]) -> None:
+        """Calls a function in each worker; one that is dying does not answer."""
+        with suppress(Exception):
+            self._client.run(function)
 
     def submit(self, function: Function, shared: Any, chunk: list[Any]) -> Any:
         """Begins with a chunk."""
@@ -103,10 +113,28 @@ class _Cluster:
     def again(self) -> None:
         """Makes a second try possible: what is shared is sent again, since it may have been lost with a worker."""
         self._shared = None
+        self._run(_without_interrupts)
 
     def close(self) -> None:
         """Takes back the tasks that are not done."""
         self._client.cancel(list(self._tasks))
+        self._run(_with_interrupts)
+
+
+# What an interrupt did in this process before a study.
+_earlier: list[Any] = []
+
+
+def _without_interrupts() -> None:
+    """Lets interrupts pass by this process, if it is one of its own for a worker."""
+    if threading.current_thread() is threading.main_thread() and not _earlier:
+        _earlier.append(signal.signal(signal.SIGINT, signal.SIG_IGN))
+
+
+def _with_interrupts() -> None:
+    """Lets an interrupt do what it did before."""
+    if threading.current_thread() is threading.main_thread() and _earlier:
+        signal.signal(signal.SIGINT, _earlier.pop())
 
 
 @lru_cache(maxsize=2)
@@ -131,20 +159,30 @@ def _worker(executor: Any) -> _Threads | _Executor | _Cluster:
 
 def _died(error: BaseException) -> bool:
     """Whether this is the end of a worker, and not what the call raises."""
-    return isinstance(error, BrokenExecutor) or type(error).__name__ in ("KilledWorker", "CancelledError", "CommClosedError", "FutureCancelledError")
+    return isinstance(error, BrokenExecutor) or type(error).__name__ in (
+        "KilledWorker",
+        "CancelledError",
+        "CommClosedError",
+        "FutureCancelledError",
+    )
 
 
-def results(executor: Any, function: Function, shared: Any, items: Iterator[Any], most: int) -> Iterator[tuple[list[Any], Any]]:
-    """What the function gives for chunks of the items, as they are done, or what it raised. The first chunks are small, so that few items are
-    shared out too; none has more than `most`. Chunks whose worker died are tried once more, one at a time."""
+def results(
+    executor: Any, function: Function, shared: Any, items: Iterator[Any], most: int
+) -> Iterator[tuple[list[Any], Any]]:
+    """What the function gives for chunks of the items, as they are done, or what it raised. The first chunks are small,
+    so that few items are shared out too; none has more than `most`. Chunks whose worker died are tried once more, one
+    at a time, and the items of one that cannot be answered whole each alone."""
     worker = _worker(executor)
     tasks: dict[Any, list[Any]] = {}
     failed: deque[list[Any]] = deque()
+    # items of chunks that could not be sent or answered whole
+    single: deque[list[Any]] = deque()
     count = 0
     try:
         while True:
             while len(tasks) < AHEAD * worker.workers and not failed:
-                chunk = list(islice(items, min(most, 1 + count // worker.workers)))
+                chunk = single.popleft() if single else list(islice(items, min(most, 1 + count // worker.workers)))
                 if not chunk:
                     break
                 count += 1
@@ -153,7 +191,7 @@ def results(executor: Any, function: Function, shared: Any, items: Iterator[Any]
                     failed.append(chunk)
                 else:
                     tasks[task] = chunk
-            if not tasks and not failed:
+            if not tasks and not failed and not single:
                 return
             if tasks:
                 for task in worker.first(list(tasks)):
@@ -161,6 +199,9 @@ def results(executor: Any, function: Function, shared: Any, items: Iterator[Any]
                     done = _result(task)
                     if isinstance(done, BaseException) and _died(done):
                         failed.append(chunk)
+                    elif isinstance(done, BaseException) and len(chunk) > 1:
+                        # one of them, as a function that cannot be sent to another process, makes the others fail
+                        single.extend([item] for item in chunk)
                     else:
                         yield chunk, done
                 continue
@@ -197,7 +238,8 @@ def _result(task: Any) -> Any:
 
 
 class Progress:
-    """A progress bar on standard error: that of tqdm where it is installed. It is shown where standard error is a terminal."""
+    """A progress bar on standard error: that of tqdm where it is installed. It is shown where standard error is a
+    terminal."""
 
     def __init__(self, items: object, shown: bool | None = None) -> None:
         self._total = len(items) if isinstance(items, Sized) else None
@@ -206,7 +248,7 @@ class Progress:
         self._bar: Any = None
         if self._shown:
             try:
-                from tqdm import tqdm  # type: ignore[import]
+                from tqdm.auto import tqdm  # type: ignore[import]
 
                 self._bar = tqdm(total=self._total, unit="variant", file=sys.stderr)
             except ImportError:
@@ -223,7 +265,9 @@ class Progress:
     def _tell(self, end: str) -> None:
         self._told = time.monotonic()
         whole = f" of {self._total}" if self._total is not None else ""
-        sys.stderr.write(f"\r{self._count}{whole} variants, {self._count / max(self._told - self._begin, 1e-9):.0f} a second{end}")
+        sys.stderr.write(
+            f"\r{self._count}{whole} variants, {self._count / max(self._told - self._begin, 1e-9):.0f} a second{end}"
+        )
         sys.stderr.flush()
 
     def close(self) -> None:

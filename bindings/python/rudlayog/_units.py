@@ -6,6 +6,7 @@ import re
 from collections.abc import Callable, Iterable
 from dataclasses import dataclass
 from datetime import date, datetime, timedelta, timezone
+from decimal import Decimal
 from fractions import Fraction
 from functools import lru_cache
 from typing import Any, SupportsIndex, TypeVar, Union
@@ -19,26 +20,37 @@ OCTETS = {
     **{f"{letter}iB": Fraction(1024**power) for power, letter in enumerate("KMGT", 1)},
     **{f"{letter}bit": Fraction(1000**power, 8) for power, letter in enumerate(("", "k", "M", "G"))},
 }
-BITS = {f"{letter}{name}": Fraction(1000**power) for power, letter in enumerate(("", "k", "M", "G")) for name in ("bit/s", "bps")}
+BITS = {
+    f"{letter}{name}": Fraction(1000**power)
+    for power, letter in enumerate(("", "k", "M", "G"))
+    for name in ("bit/s", "bps")
+}
 BLOCKS = ("block", "blocks")
 BLOCK_SECONDS = {"s": 1, "min": 60, "h": 3600}
 
 MICROSECOND = timedelta(microseconds=1)
-_NUMBER = re.compile(r"\s*([+-]?(?:\d+\.?\d*|\.\d+)(?:[eE][+-]?\d+)?)\s*(\S*)\s*\Z")
+# a number as it is written, or the fraction of two, and a unit
+_NUMBER = re.compile(r"\s*([+-]?(?:\d+/\d+|(?:\d+\.?\d*|\.\d+)(?:[eE][+-]?\d{1,3})?))\s*(\S*)\s*\Z")
+_LEAP = re.compile(r"T?\d\d:\d\d:60")
 _DAY_OF_YEAR = re.compile(r"(\d{4})-(\d{3})(T.*)\Z")
 _ZONE = "a moment in UTC with its zone, as 2027-03-01T12:00:00Z"
 
 
 @dataclass(frozen=True)
 class Fault:
-    """A fault of a mission: the `place` where it is (a file with its line, or a row), what was `found` there, and what is `meant`."""
+    """A fault of a mission: the `place` where it is (a file with its line, or a row), what was `found` there, and what
+    is `meant`."""
 
     place: str
     found: str
     meant: str
 
     def __str__(self) -> str:
-        return f"{self.place}: found {self.found}; expected {self.meant}" if self.place else f"found {self.found}; expected {self.meant}"
+        return (
+            f"{self.place}: found {self.found}; expected {self.meant}"
+            if self.place
+            else f"found {self.found}; expected {self.meant}"
+        )
 
 
 class MissionError(ValueError):
@@ -74,7 +86,7 @@ class Faults:
 
 def fault(place: str, found: object, meant: str) -> MissionError:
     """The error of one fault."""
-    return MissionError([Fault(place, found if isinstance(found, str) else repr(found), meant)])
+    return MissionError([Fault(place, found if isinstance(found, str) else repr(found)[:200], meant)])
 
 
 @dataclass(frozen=True)
@@ -89,13 +101,24 @@ class Volume:
         """The blocks that it takes, where each has this many octets."""
         return self.amount if self.in_blocks else self.amount / octets
 
+    def times(self, factor: Fraction) -> Volume:
+        """The volume that is this many times as large."""
+        return Volume(self.amount * factor, self.in_blocks, self.unit)
+
+    def text(self) -> str:
+        """The volume in its unit, exactly: `volume_of` reads it as the same one."""
+        if self.in_blocks:
+            return f"{_exactly(self.amount)} {self.unit or 'blocks'}"
+        return f"{_exactly(self.amount / OCTETS.get(self.unit, Fraction(1)))} {self.unit}".strip()
+
     def __str__(self) -> str:
         return f"{_decimal(self.amount)} {'blocks' if self.in_blocks else 'octets'}"
 
 
 @dataclass(frozen=True)
 class Rate:
-    """A rate: so many bits a second, or so many blocks a second where `in_blocks`. Bits are those of packets, without frames and codes."""
+    """A rate: so many bits a second, or so many blocks a second where `in_blocks`. Bits are those of packets, without
+    frames and codes."""
 
     amount: Fraction
     in_blocks: bool = False
@@ -107,6 +130,10 @@ class Rate:
     def times(self, factor: Fraction) -> Rate:
         """The rate that is this many times as high."""
         return Rate(self.amount * factor, self.in_blocks)
+
+    def text(self) -> str:
+        """The rate, exactly: `rate_of` reads it as the same one."""
+        return f"{_exactly(self.amount)} {'blocks/s' if self.in_blocks else 'bit/s'}"
 
     def __str__(self) -> str:
         if self.in_blocks:
@@ -125,9 +152,44 @@ def _decimal(value: Fraction) -> str:
     return str(value.numerator) if value.denominator == 1 else f"{float(value):.10g}"
 
 
-@lru_cache
+def _exactly(value: Fraction) -> str:
+    """A number as a decimal where it is one of few digits, or as a fraction."""
+    if value.denominator == 1:
+        return str(value.numerator)
+    digits = value * 10**12
+    return (
+        f"{value.numerator}/{value.denominator}"
+        if digits.denominator != 1
+        else f"{Decimal(digits.numerator).scaleb(-12).normalize():f}"
+    )
+
+
+# Numbers are not greater than this.
+GREATEST = 10**30
+
+
+@lru_cache(maxsize=4096)
 def _fraction(written: str) -> Fraction:
-    return Fraction(written.strip())
+    """A number as it is written. Raises `ValueError` where it is none, or out of range."""
+    if len(written) > 400 or re.search(r"[eE][+-]?0*[1-9]\d\d", written):
+        raise ValueError(written)
+    value = Fraction(written.strip())
+    if abs(value) > GREATEST:
+        raise ValueError(written)
+    return value
+
+
+def whole_of(given: Any, place: str) -> int:
+    """A whole number: an int, also one of numpy, a float that is whole, or the text of one."""
+    if type(given) is int:
+        return given
+    try:
+        value = _fraction(str(given))
+    except (ValueError, ZeroDivisionError) as error:
+        raise fault(place, given, "a whole number") from error
+    if isinstance(given, bool) or value.denominator != 1:
+        raise fault(place, given, "a whole number")
+    return int(value)
 
 
 def number_of(given: Any, place: str, meant: str) -> Fraction:
@@ -180,9 +242,13 @@ def _parts(given: Any, place: str, meant: str) -> tuple[Fraction, str]:
 
 
 def _unit_meant(unit: str, known: dict[str, Fraction]) -> str | None:
-    """What may be meant by a unit that is none: those that differ from it in capitals, in an `i`, or in bits for bytes."""
-    short = unit.lower().replace("i", "") if unit.lower().endswith("ib") else unit.lower()
-    near = [name for name in known if name.lower() in (unit.lower(), short) or name.lower().replace("ib", "b") == short]
+    """What may be meant by a unit that is none: those that differ from it in capitals, in an `i`, or in bits for
+    bytes."""
+    lower = unit.lower()
+    short = lower.replace("i", "") if lower.endswith("ib") else lower
+    # megabits may be meant by Mb, and by Mb/s
+    bits = re.sub(r"b(?=/s\Z|\Z)", "bit", lower)
+    near = [name for name in known if name.lower() in (lower, short, bits) or name.lower().replace("ib", "b") == short]
     if not near:
         return None
     return " or ".join(f"{name} ({_in_full(name, known[name])})" for name in near)
@@ -193,7 +259,8 @@ def _in_full(name: str, amount: Fraction) -> str:
 
 
 def moment_of(given: Any, place: str) -> datetime:
-    """A moment, in UTC: a `datetime` with its zone, or the text of one in ISO 8601 or as CCSDS 301.0-B writes it, with the day of the year."""
+    """A moment, in UTC: a `datetime` with its zone, or the text of one in ISO 8601 or as CCSDS 301.0-B writes it, with
+    the day of the year."""
     if isinstance(given, str):
         given = _moment_in(given.strip(), place)
     if not isinstance(given, datetime):
@@ -201,7 +268,10 @@ def moment_of(given: Any, place: str) -> datetime:
         raise fault(place, f"{given}" if local else given, f"{_ZONE}, and no {'date' if local else 'such value'}")
     if given.tzinfo is None or given.utcoffset() is None:
         raise fault(place, f"the local time {given}", f"{_ZONE}; write Z after it if it is in UTC")
-    utc = given.astimezone(timezone.utc)
+    try:
+        utc = given.astimezone(timezone.utc)
+    except OverflowError as error:
+        raise fault(place, str(given), "a moment from the year 1 to the year 9999 in UTC") from error
     return datetime(utc.year, utc.month, utc.day, utc.hour, utc.minute, utc.second, utc.microsecond, timezone.utc)
 
 
@@ -218,7 +288,12 @@ def _moment_in(text: str, place: str) -> datetime:
             return found
         return datetime.fromisoformat(text)
     except (ValueError, OverflowError) as error:
-        raise fault(place, repr(text), _ZONE) from error
+        leap = (
+            "; a leap second, 23:59:60, is no moment here: take the second before it or after it"
+            if _LEAP.search(text)
+            else ""
+        )
+        raise fault(place, repr(text), _ZONE + leap) from error
 
 
 def span_of(given: Any, place: str) -> timedelta:
@@ -226,7 +301,11 @@ def span_of(given: Any, place: str) -> timedelta:
     if isinstance(given, timedelta):
         found = given
     else:
-        found = timedelta(microseconds=int(number_of(given, place, "a time span: a timedelta, or a number of minutes") * 60_000_000))
+        meant = "a time span: a timedelta, or a number of minutes"
+        try:
+            found = timedelta(microseconds=int(number_of(given, place, meant) * 60_000_000))
+        except OverflowError as error:
+            raise fault(place, given, f"{meant}, of at most some thousand years") from error
     if found <= timedelta(0):
         raise fault(place, str(found), "a time span that is longer than nothing")
     return found

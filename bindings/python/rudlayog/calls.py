@@ -20,7 +20,7 @@ from .setups import Setup, SetupLike, setup_octets
 Made = TypeVar("Made")
 KINDS = ("", "least", "does not fit", "loss is", "bad stretch", "bad count", "bound is", "not shown", "least in order", "first not shown")
 PLACED = ("bad stretch", "bad count")
-LEAST = ("least", "least in order")
+LEAST = tuple(KINDS[kind] for kind in _library.LEAST)
 
 
 @dataclass(frozen=True)

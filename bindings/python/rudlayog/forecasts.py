@@ -20,9 +20,10 @@ Made = TypeVar("Made")
 
 @dataclass(frozen=True, eq=False)
 class Forecast:
-    """A forecast: `windows`, how many blocks may leave all stores together in each step, `arrivals`, what arrives in each step in each
-    store, in blocks, and `limits`, how many blocks may leave the stores of channel C in each step, in columns named `limit:C`. The stores
-    stand in the setup's order, the limits by their channels. A forecast stays as it is, and may be a key of a dict."""
+    """A forecast: `windows`, how many blocks may leave all stores together in each step, `arrivals`, what arrives in
+    each step in each store, in blocks, and `limits`, how many blocks may leave the stores of channel C in each step, in
+    columns named `limit:C`. The stores stand in the setup's order, the limits by their channels. A forecast stays as it
+    is, and may be a key of a dict."""
 
     windows: tuple[int, ...]
     arrivals: Columns
@@ -40,15 +41,16 @@ class Forecast:
 
     @classmethod
     def of(cls, windows: Iterable[SupportsIndex], arrivals: Table, limits: Table | None = None) -> Forecast:
-        """The forecast of these windows and arrivals: a table with a column for each store, and as many rows as there are windows; and of
-        limits, in the same way with a column `limit:C` for each channel C that has its own in each step."""
+        """The forecast of these windows and arrivals: a table with a column for each store, and as many rows as there
+        are windows; and of limits, in the same way with a column `limit:C` for each channel C that has its own in each
+        step."""
         return cls(windows, arrivals, Columns({}) if limits is None else limits)  # type: ignore[arg-type]
 
     @classmethod
     def table(cls, given: Table) -> Forecast:
-        """The forecast of a table with the columns `window`, one for each store, and `limit:C` for channels: rows that are dicts, a dict of
-        columns, or a data frame. With a column `step` the rows may stand in any order. Raises `Refusal` where the steps are not 1, 2, 3
-        and so on."""
+        """The forecast of a table with the columns `window`, one for each store, and `limit:C` for channels: rows that
+        are dicts, a dict of columns, or a data frame. With a column `step` the rows may stand in any order. Raises
+        `Refusal` where the steps are not 1, 2, 3 and so on."""
         named = by_step(given)
         if WINDOW not in named:
             raise ValueError(f"a forecast has a column {WINDOW}, and here are only the columns {', '.join(named)}")
@@ -67,7 +69,11 @@ class Forecast:
     def to_dict(self) -> dict[str, list[int]]:
         """The columns of the forecast, as the text has them."""
         steps = list(range(1, len(self.windows) + 1))
-        return {STEP: steps, WINDOW: list(self.windows), **{name: list(column) for name, column in self._columns.items()}}
+        return {
+            STEP: steps,
+            WINDOW: list(self.windows),
+            **{name: list(column) for name, column in self._columns.items()},
+        }
 
     def to_frame(self, make: Callable[[dict[str, list[int]]], Made]) -> Made:
         """The forecast as a data frame, made by `make`, as `pandas.DataFrame`."""
@@ -81,63 +87,48 @@ class Forecast:
         """What is forecast after a step, or from the first on after 0: its steps count from 1 again."""
         if not 0 <= whole(step, STEP) <= len(self.windows):
             raise ValueError(f"the forecast has {len(self.windows)} steps, and no step {step}")
-        arrivals, limits = (Columns({name: column[step:] for name, column in named.items()}) for named in (self.arrivals, self.limits))
+        arrivals, limits = (
+            Columns({name: column[step:] for name, column in named.items()}) for named in (self.arrivals, self.limits)
+        )
         return Forecast(self.windows[step:], arrivals, limits)
 
-    def having(self, windows: Iterable[SupportsIndex] | None = None, arrivals: Table | None = None, limits: Table | None = None) -> Forecast:
-        """The same forecast with other windows, with other arrivals in the stores that are named, or with other limits in the columns that
-        are named. Its text is made from this one's."""
+    def having(
+        self, windows: Iterable[SupportsIndex] | None = None, arrivals: Table | None = None, limits: Table | None = None
+    ) -> Forecast:
+        """The same forecast with other windows, with other arrivals in the stores that are named, or with other limits
+        in the columns that are named. Its text is made from this one's."""
         arriving, limiting = ({} if given is None else by_step(given) for given in (arrivals, limits))
         for kind, named, own in (("store", arriving, self.arrivals), ("column", limiting, self.limits)):
             strange = [name for name in named if name not in own]
             if strange:
                 raise ValueError(f"the forecast has no {kind} {', '.join(strange)}")
-        merged = [own.with_others(named) if named else own for own, named in ((self.arrivals, arriving), (self.limits, limiting))]
+        merged = [
+            own.with_others(named) if named else own
+            for own, named in ((self.arrivals, arriving), (self.limits, limiting))
+        ]
         forecast = Forecast(self.windows if windows is None else windows, *merged)  # type: ignore[arg-type]
         changed = {**arriving, **limiting}
         if changed and len(forecast.windows) == len(self.windows):
             vars(forecast)["_octets"] = self._text_having(None if windows is None else forecast.windows, changed)
         return forecast
 
-    def with_arrivals(self, arrivals: Mapping[str, Column]) -> Forecast:
-        """The same as `having`, of columns with as many steps in stores of the forecast, neither of which is tested."""
-        return self._varied(self.windows, self.arrivals.with_others(arrivals), self.limits, self._text_having(None, arrivals))
-
-    def with_rooms(self, windows: Column, limits: Mapping[str, Column], steps: Iterable[int]) -> Forecast:
-        """The same with other windows, and other limits in all their columns, where none but these steps, from 0, have others. Nothing of
-        this is tested."""
-        lines = list(self._lines)
-        for step in steps:
-            # the header is one line or more
-            place = step - len(windows)
-            number, _, rest = lines[place].split(b",", 2)
-            arrivals = rest.rsplit(b",", len(limits))[0] if limits else rest[:-1]
-            rooms = "".join([f",{column[step]}" for column in limits.values()])
-            lines[place] = b"%b,%d,%b%b\n" % (number, windows[step], arrivals, rooms.encode())
-        return self._varied(windows, self.arrivals, self.limits.with_others(limits), b"".join(lines))
-
-    def _varied(self, windows: tuple[int, ...], arrivals: Columns, limits: Columns, text: bytes) -> Forecast:
-        """Another forecast, whose text is made already."""
-        made = object.__new__(Forecast)
-        vars(made).update(windows=windows, arrivals=arrivals, limits=limits, _octets=text)
-        return made
-
     def _text_having(self, windows: tuple[int, ...] | None, changed: Mapping[str, Column]) -> bytes:
         """The text with other windows, if there are any, and these columns in the place of those with their names."""
         open_names = tuple([name for name in self._columns if name in changed]) if len(changed) > 1 else tuple(changed)
-        form = self._form(open_names) if windows is None else self._columns.form(len(self.windows), open_names) % windows
-        in_order = changed[open_names[0]] if len(open_names) == 1 else tuple(chain.from_iterable(zip(*(changed[name] for name in open_names))))
+        form = (
+            self._form(open_names) if windows is None else self._columns.form(len(self.windows), open_names) % windows
+        )
+        in_order = (
+            changed[open_names[0]]
+            if len(open_names) == 1
+            else tuple(chain.from_iterable(zip(*(changed[name] for name in open_names))))
+        )
         return form % in_order
 
     @cached_property
     def _columns(self) -> Columns:
         """The columns after the windows."""
         return self.arrivals.with_others(dict(self.limits.items())) if self.limits else self.arrivals
-
-    @cached_property
-    def _lines(self) -> list[bytes]:
-        """The lines of the text, with their ends."""
-        return self._octets.splitlines(keepends=True)
 
     @cached_property
     def _forms(self) -> dict[tuple[str, ...], bytes]:

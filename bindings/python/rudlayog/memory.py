@@ -18,7 +18,7 @@ from .requests import Request
 from .setups import SetupLike
 
 FATES = ("", "kept", "kept over", "lost")
-STORE_KINDS = ("", "circular", "bounded")
+STORE_KINDS = ("circular", "bounded")
 
 
 @dataclass(frozen=True)
@@ -79,8 +79,8 @@ class Memory:
     raises `Refusal` and has changed nothing; a call on a closed memory raises `ValueError`. Calls of several threads wait for one another,
     and a signal handler may make calls too.
 
-    At most `most_waiting` reports wait, or as many as memory holds where none is given. A request that might let more wait is refused as one
-    out of memory: it has at most one report for each instruction (subtype 5), one on all (12, 18, 22), or none."""
+    At most `most_waiting` reports wait, or as many as memory holds where none is given. A request that might let more wait is refused,
+    `54 TooManyReports`: it has at most one report for each instruction (subtype 5), one on all (12, 18, 22), or none."""
 
     def __init__(self, setup: SetupLike, *, most_waiting: SupportsIndex | None = None) -> None:
         self._handle = _library.Handle()

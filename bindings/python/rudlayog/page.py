@@ -2,7 +2,8 @@
 
     python3 -m rudlayog.page [SETUP FORECAST [PLAN]] [--output FILE]
 
-opens it with these texts, or writes it into a file and opens nothing. The status is 0; 1 where a file cannot be read or written or no browser
+opens it with these texts, or writes it into a file and opens nothing. The status is 0;
+  1 where a file cannot be read or written or no browser
 opens; 2 for a bad command line."""
 
 from __future__ import annotations
@@ -28,14 +29,16 @@ _SESSION = re.compile(r'(<script type="application/json" id="session">)null(</sc
 
 
 def page_file() -> Path:
-    """The file of the page: that of RUDLAYOG_PAGE, or the one in the package, or the one that bindings/page has made. Raises
+    """The file of the page: that of RUDLAYOG_PAGE, or the one in the package, or the one that bindings/page has made.
+    Raises
     `FileNotFoundError` where there is none."""
     named, here = os.environ.get("RUDLAYOG_PAGE"), Path(__file__).resolve().parent
     found = [Path(named)] if named else [here / "page.html", here.parents[1] / "page" / "out" / "rudlayog.html"]
     for file in found:
         if file.is_file():
             return file
-    raise FileNotFoundError(f"no page: it is in the wheel of a release; `bindings/page/test` makes it, and RUDLAYOG_PAGE names it; looked for {found[-1]}")
+    raise FileNotFoundError(f"no page: it is in the wheel of a release; `bindings/page/test` makes it, and "
+        f"RUDLAYOG_PAGE names it; looked for {found[-1]}")
 
 
 def page(
@@ -47,8 +50,10 @@ def page(
     minutes: float = 60,
     stations: Mapping[int, str] | None = None,
 ) -> str:
-    """The page as a document of HTML, which begins with these texts: data, texts or paths, as `rudlayog.plan` takes them, and a plan if one is
-    to be judged. Without a setup it begins with none. `begins` is when step 1 begins, with its time zone, `minutes` how long a step is, and
+    """The page as a document of HTML, which begins with these texts: data, texts or paths, as `rudlayog.plan` takes
+    them, and a plan if one is
+    to be judged. Without a setup it begins with none. `begins` is when step 1 begins, with its time zone, `minutes`
+    how long a step is, and
     `stations` names the stations by step. What the library refuses in the texts is shown by the page."""
     document = page_file().read_text(encoding="utf-8")
     if setup is None or forecast is None:
@@ -61,7 +66,7 @@ def page(
     session = {
         "rudlayog": 1,
         **{name: _written(text) for name, text in zip(("setup", "forecast", "given"), given)},
-        "begins": "" if begins is None else begins.astimezone(timezone.utc).strftime("%Y-%m-%d %H:%M"),
+        "begins": "" if begins is None else _utc(begins),
         "minutes": minutes,
         "stations": dict(stations or {}),
     }
@@ -73,6 +78,12 @@ def page(
     return made
 
 
+def _utc(moment: datetime) -> str:
+    """A moment in UTC as the page writes it: to the minute, or as exact as it is."""
+    text = moment.astimezone(timezone.utc).strftime("%Y-%m-%d %H:%M:%S.%f")
+    return text.removesuffix(".000000").removesuffix(":00")
+
+
 def _written(text: bytes) -> str | list[int]:
     """A text in JSON: as numbers where it is none in UTF-8."""
     try:
@@ -82,7 +93,8 @@ def _written(text: bytes) -> str | list[int]:
 
 
 def open_page(document: str, path: str | os.PathLike[str] | None = None) -> Path:
-    """Writes a document into a file, or into a new one in the folder for files that do not stay, and opens it in the browser. Raises `OSError`
+    """Writes a document into a file, or into a new one in the folder for files that do not stay, and opens it in the
+    browser. Raises `OSError`
     where none opens."""
     if path is None:
         number, path = tempfile.mkstemp(prefix="rudlayog-", suffix=".html")

@@ -1,21 +1,22 @@
-"""Pictures: the program's chart with UTC on its axis, and what a study found, by matplotlib where it is installed and as SVG elsewhere."""
+"""Pictures: the program's chart with UTC on its axis, and what a study found, by matplotlib where it is installed and
+as SVG elsewhere."""
 
 from __future__ import annotations
 
 import io
 import os
 import re
-from collections.abc import Sequence
+from collections.abc import Mapping, Sequence
 from datetime import datetime, timedelta
 from html import escape
 from pathlib import Path
 from typing import TYPE_CHECKING, Any
 
 from .calls import chart
+from .plans import Certificate, Cut, Plan, Stretch
 
 if TYPE_CHECKING:
     from ._timeline import Problem
-    from .plans import Plan
     from .study import Answer, Study
 
 # How many bars a picture has at most.
@@ -35,7 +36,9 @@ _RANGES = re.compile(r"(?<=>)In steps? ((?:\d+(?:&#8211;\d+)?, )+)")
 
 
 def chart_of(problem: Problem, made: Plan) -> str:
-    """The program's chart of a plan, whose axis is the time: steps are as wide as they are long, and UTC stands above them."""
+    """The program's chart of a plan, whose axis is the time: steps are as wide as they are long, and UTC stands above
+    them."""
+    problem, made = _shown(problem, made)
     drawn = chart(problem.setup, problem.forecast, made).svg
     first, found = _AXIS.search(drawn), _WIDTH.search(drawn)
     if first is None or found is None:
@@ -51,9 +54,47 @@ def chart_of(problem: Problem, made: Plan) -> str:
         return f"{place[1]}{edges[step] + (drawn_at - step) * (edges[step + 1] - edges[step]):.2f}"
 
     lines = _AXIS.sub("", drawn[first.start() :]).split("\n")
-    moved = "\n".join(_PATH.sub(lambda path: _ACROSS.sub(across, path[0]), line) if line.startswith("<path") else line for line in lines)
+    moved = "\n".join(
+        _PATH.sub(lambda path: _ACROSS.sub(across, path[0]), line) if line.startswith("<path") else line
+        for line in lines
+    )
     head = drawn[: first.start()].replace(f"x='172' y='{NUMBERS}'>step<", f"x='150' y='{NUMBERS}'>UTC<")
-    return head + _utc_axis(problem.times, width, first[1], first[2]) + _RANGES.sub(lambda ranges: _times_of(ranges, problem), moved)
+    return (
+        head
+        + _utc_axis(problem.times, width, first[1], first[2])
+        + _RANGES.sub(lambda ranges: _times_of(ranges, problem), moved)
+    )
+
+
+def _shown(problem: Problem, made: Plan) -> tuple[Problem, Plan]:
+    """A problem and its plan with all events between passes, where nothing is sent."""
+    shown = problem.shown()
+    if shown is problem:
+        return problem, made
+    place = {edge: number for number, edge in enumerate(shown.edges)}
+    dumps = {store: [0] * len(shown) for store in made.stores}
+    for step, amounts in enumerate(made.dumps):
+        for store, blocks in zip(made.stores, amounts):
+            dumps[store][place[problem.edges[step]]] = blocks
+    return shown, Plan.of(dumps, made.loss, _moved(made.cut, problem, place), _moved_firsts(made, problem, place))
+
+
+def _moved(cut: Cut, problem: Problem, place: Mapping[int, int]) -> Cut:
+    """A cut of other steps."""
+    stretches = [
+        Stretch(each.store, place[problem.edges[each.first - 1]] + 1, place[problem.edges[each.last]])
+        for each in cut.stretches
+    ]
+    return Cut(tuple(stretches), tuple(place[problem.edges[step - 1]] + 1 for step in cut.by_channels), cut.bound)
+
+
+def _moved_firsts(made: Plan, problem: Problem, place: Mapping[int, int]) -> list[Certificate] | None:
+    """The certificates of the first stores, of other steps."""
+    return (
+        None
+        if made.firsts is None
+        else [Certificate(each.stores, each.loss, _moved(each.cut, problem, place)) for each in made.firsts]
+    )
 
 
 def _utc_axis(times: Sequence[datetime], width: int, top: str, bottom: str) -> str:
@@ -67,7 +108,9 @@ def _utc_axis(times: Sequence[datetime], width: int, top: str, bottom: str) -> s
         # the day stands at its first tick
         words = clock.strip() if f"{moment:%m-%d}" == day else f"{moment:%m-%d}{clock}"
         day = f"{moment:%m-%d}"
-        found.append(f"<text class='k' x='{x:.1f}' y='{NUMBERS}'>{words}</text>\n<path class='i' d='M{x:.1f} {top}V{bottom}'/>\n")
+        found.append(
+            f"<text class='k' x='{x:.1f}' y='{NUMBERS}'>{words}</text>\n<path class='i' d='M{x:.1f} {top}V{bottom}'/>\n"
+        )
     return "".join(found)
 
 
@@ -76,7 +119,11 @@ def _ticks(begin: datetime, end: datetime) -> list[datetime]:
     minutes = next((minutes for minutes in TICKS if (end - begin) / timedelta(minutes=minutes) <= 8), TICKS[-1])
     first = begin.replace(hour=0, minute=0, second=0, microsecond=0)
     count = int((end - first) / timedelta(minutes=minutes)) + 1
-    return [moment for moment in (first + timedelta(minutes=minutes * number) for number in range(count)) if begin <= moment <= end]
+    return [
+        moment
+        for moment in (first + timedelta(minutes=minutes * number) for number in range(count))
+        if begin <= moment <= end
+    ]
 
 
 def _times_of(ranges: re.Match[str], problem: Problem) -> str:
@@ -117,11 +164,47 @@ def windows_picture(worths: Sequence[tuple[datetime, datetime, int]], times: Seq
         left, right = (LEFT + width * ((moment - times[0]) / (times[-1] - times[0])) for moment in (begin, end))
         tall = height * blocks / most
         if blocks:
-            lines.append(f"<rect x='{left:.2f}' y='{top + height - tall:.1f}' width='{right - left:.2f}' height='{tall:.1f}' fill='#2f6fb0'/>")
-    lines.append(f"<rect x='{LEFT}' y='{top}' width='{width}' height='{height}' fill='none' stroke='#222' stroke-width='.5'/>")
+            lines.append(
+                f"<rect x='{left:.2f}' y='{top + height - tall:.1f}' width='{right - left:.2f}' height='{tall:.1f}' "
+                f"fill='#2f6fb0'/>"
+            )
+    lines.append(
+        f"<rect x='{LEFT}' y='{top}' width='{width}' height='{height}' fill='none' stroke='#222' stroke-width='.5'/>"
+    )
     lines.append(f"<text x='{LEFT - 8}' y='{top + 12}' text-anchor='end'>{most:,}</text>")
     style = "<style>.k{text-anchor:middle;fill:#444}.i{fill:none;stroke:#bbb;stroke-width:.5}</style>"
-    return Picture(_svg(LEFT + width + 40, top + height + 20, "Blocks saved where one window is as wide as can be", [style, *lines]))
+    return Picture(
+        _svg(
+            LEFT + width + 40, top + height + 20, "Blocks saved where one window is as wide as can be", [style, *lines]
+        )
+    )
+
+
+def line_picture(points: Sequence[tuple[float, int]], mark: float, title: str, below: str) -> Picture:
+    """A line through points, with a mark across, as SVG."""
+    left, top, width, height = 96, 48, 640, 240
+    last, most = max(x for x, _ in points) or 1, max(max(y for _, y in points), 1)
+    places = [(left + width * x / last, top + height - height * y / most) for x, y in points]
+    lines = [
+        f"<rect x='{left}' y='{top}' width='{width}' height='{height}' fill='none' stroke='#222' stroke-width='.5'/>"
+    ]
+    lines.append(
+        f"<path d='M{' '.join(f'{x:.1f} {y:.1f}' for x, y in places)}' fill='none' stroke='#2f6fb0' stroke-width='2'/>"
+    )
+    for part in range(5):
+        x = left + width * part / 4
+        lines.append(f"<text x='{x:.1f}' y='{top + height + 16}' text-anchor='middle'>{last * part / 4:.1f}</text>")
+    lines.append(f"<text x='{left - 8}' y='{top + 10}' text-anchor='end'>{most:,}</text>")
+    lines.append(f"<text x='{left - 8}' y='{top + height}' text-anchor='end'>0</text>")
+    if mark <= last:
+        x = left + width * mark / last
+        lines.append(f"<path d='M{x:.1f} {top}V{top + height}' stroke='#c4161c' stroke-dasharray='4 3' fill='none'/>")
+        lines.append(f"<text x='{x:.1f}' y='{top - 6}' fill='#c4161c' text-anchor='middle'>{mark:.1f} %</text>")
+    lines.append(
+        f"<text x='{left + width / 2}' y='{top + height + 36}' text-anchor='middle' "
+        f"font-weight='bold'>{escape(below)}</text>"
+    )
+    return Picture(_svg(left + width + 40, top + height + 52, title, lines))
 
 
 def picture_of(study: Study, parameters: Sequence[str] = (), matplotlib: bool | None = None) -> Picture:
@@ -130,7 +213,9 @@ def picture_of(study: Study, parameters: Sequence[str] = (), matplotlib: bool | 
     for name in parameters:
         if not any(name in answer.parameters for answer in answers):
             known = sorted({name for answer in answers for name in answer.parameters})
-            raise ValueError(f"no variant has the parameter {name}" + (f"; there are {', '.join(known)}" if known else ""))
+            raise ValueError(
+                f"no variant has the parameter {name}" + (f"; there are {', '.join(known)}" if known else "")
+            )
     answers = [answer for answer in answers if all(name in answer.parameters for name in parameters)]
     if len(parameters) > 2:
         raise ValueError("a picture has one or two parameters")
@@ -154,15 +239,23 @@ def _sorted(answers: list[Answer], parameters: Sequence[str]) -> list[Answer]:
         return sorted(answers, key=lambda answer: -(answer.loss or 0))
     values = [answer.parameters[parameters[0]] for answer in answers]
     try:
-        return [answer for _, _, answer in sorted(zip(values, range(len(values)), answers), key=lambda entry: entry[:2])]
+        return [
+            answer for _, _, answer in sorted(zip(values, range(len(values)), answers), key=lambda entry: entry[:2])
+        ]
     except TypeError:
         return answers
 
 
-def _axes_of(answers: list[Answer], parameters: Sequence[str]) -> tuple[list[Any], list[Any], dict[tuple[Any, Any], int]]:
+def _axes_of(
+    answers: list[Answer], parameters: Sequence[str]
+) -> tuple[list[Any], list[Any], dict[tuple[Any, Any], int]]:
     """The values of two parameters, and the loss at each pair of them."""
     first, second = ([*dict.fromkeys(answer.parameters[name] for answer in answers)] for name in parameters)
-    return first, second, {(answer.parameters[parameters[0]], answer.parameters[parameters[1]]): answer.loss or 0 for answer in answers}
+    return (
+        first,
+        second,
+        {(answer.parameters[parameters[0]], answer.parameters[parameters[1]]): answer.loss or 0 for answer in answers},
+    )
 
 
 def _by_matplotlib(figure: Any, study: Study, answers: list[Answer], parameters: Sequence[str]) -> Picture:
@@ -213,7 +306,9 @@ def _bars_svg(study: Study, answers: list[Answer], parameters: Sequence[str]) ->
         lines.append(f"<text x='{left + width + 6:.1f}' y='{y + 11}'>{answer.loss:,}</text>")
     base = left + 640 * (study.base.loss or 0) / most
     lines.append(f"<path d='M{base:.1f} 40V{height - 12}' stroke='#c4161c' stroke-dasharray='4 3' fill='none'/>")
-    lines.append(f"<text x='{base:.1f}' y='34' fill='#c4161c' text-anchor='middle'>as it is: {study.base.loss or 0:,}</text>")
+    lines.append(
+        f"<text x='{base:.1f}' y='34' fill='#c4161c' text-anchor='middle'>as it is: {study.base.loss or 0:,}</text>"
+    )
     more = f", the {len(shown)} greatest of {len(answers)}" if len(shown) < len(answers) else ""
     return _svg(left + 740, height, f"Blocks lost{more}", lines)
 
@@ -224,17 +319,28 @@ def _map_svg(answers: list[Answer], parameters: Sequence[str]) -> str:
     most = max([*losses.values(), 1])
     lines = []
     for column, x in enumerate(first):
-        lines.append(f"<text x='{130 + 70 * column}' y='{72 + 30 * len(second)}' text-anchor='middle'>{escape(str(x))}</text>")
+        lines.append(
+            f"<text x='{130 + 70 * column}' y='{72 + 30 * len(second)}' text-anchor='middle'>{escape(str(x))}</text>"
+        )
     for row, y in enumerate(reversed(second)):
         lines.append(f"<text x='88' y='{68 + 30 * row}' text-anchor='end'>{escape(str(y))}</text>")
         for column, x in enumerate(first):
             if (x, y) in losses:
                 shade = losses[x, y] / most
                 fill = f"rgb({255 - int(59 * shade)},{255 - int(233 * shade)},{255 - int(227 * shade)})"
-                lines.append(f"<rect x='{96 + 70 * column}' y='{48 + 30 * row}' width='68' height='28' fill='{fill}' stroke='#ccc'/>")
+                lines.append(
+                    f"<rect x='{96 + 70 * column}' y='{48 + 30 * row}' width='68' height='28' fill='{fill}' "
+                    f"stroke='#ccc'/>"
+                )
                 ink = "#fff" if shade > 0.6 else "#111"
-                lines.append(f"<text x='{130 + 70 * column}' y='{67 + 30 * row}' text-anchor='middle' fill='{ink}'>{losses[x, y]:,}</text>")
-    lines.append(f"<text x='{96 + 35 * len(first)}' y='{92 + 30 * len(second)}' text-anchor='middle' font-weight='bold'>{escape(parameters[0])}</text>")
+                lines.append(
+                    f"<text x='{130 + 70 * column}' y='{67 + 30 * row}' text-anchor='middle' "
+                    f"fill='{ink}'>{losses[x, y]:,}</text>"
+                )
+    lines.append(
+        f"<text x='{96 + 35 * len(first)}' y='{92 + 30 * len(second)}' text-anchor='middle' "
+        f"font-weight='bold'>{escape(parameters[0])}</text>"
+    )
     lines.append(f"<text x='16' y='40' font-weight='bold'>{escape(parameters[1])}</text>")
     return _svg(120 + 70 * len(first), 104 + 30 * len(second), "Blocks lost", lines)
 
@@ -244,6 +350,15 @@ def _named(answer: Answer, parameters: Sequence[str]) -> str:
 
 
 def _svg(width: int, height: int, title: str, lines: list[str]) -> str:
-    head = f"<svg xmlns='http://www.w3.org/2000/svg' version='1.1' viewBox='0 0 {width} {height}' font-family='sans-serif' font-size='12'>"
-    body = "\n".join(["<rect width='100%' height='100%' fill='#fff'/>", f"<text x='16' y='20' font-size='15' font-weight='bold'>{title}</text>", *lines])
+    head = (
+        f"<svg xmlns='http://www.w3.org/2000/svg' version='1.1' viewBox='0 0 {width} {height}' "
+        f"font-family='sans-serif' font-size='12'>"
+    )
+    body = "\n".join(
+        [
+            "<rect width='100%' height='100%' fill='#fff'/>",
+            f"<text x='16' y='20' font-size='15' font-weight='bold'>{title}</text>",
+            *lines,
+        ]
+    )
     return f"{head}\n{body}\n</svg>\n"

@@ -37,8 +37,8 @@ class Stretch:
 
 @dataclass(frozen=True)
 class Cut:
-    """A cut: its `stretches`, the inner steps `by_channels`, in which the limits of the channels count and not the window, and its `bound`
-    in blocks. No plan that fits loses less than the bound."""
+    """A cut: its `stretches`, the inner steps `by_channels`, in which the limits of the channels count and not the
+    window, and its `bound` in blocks. No plan that fits loses less than the bound."""
 
     stretches: tuple[Stretch, ...]
     by_channels: tuple[int, ...]
@@ -47,8 +47,8 @@ class Cut:
 
 @dataclass(frozen=True)
 class Certificate:
-    """What shows that no plan that fits loses less of the first stores of a setup: how many `stores` they are, their `loss` in blocks, and a `cut`
-    of them, whose bound is the loss."""
+    """What shows that no plan that fits loses less of the first stores of a setup: how many `stores` they are, their
+    `loss` in blocks, and a `cut` of them, whose bound is the loss."""
 
     stores: int
     loss: int
@@ -56,8 +56,8 @@ class Certificate:
 
 
 class Plan:
-    """A plan text. When something of it is asked for the library reads it, and raises `Refusal` where it is no plan text. A plan that `plan`
-    made knows its setup and its forecast, and is shown in a notebook as its chart."""
+    """A plan text. When something of it is asked for the library reads it, and raises `Refusal` where it is no plan
+    text. A plan that `plan` made knows its setup and its forecast, and is shown in a notebook as its chart."""
 
     def __init__(self, text: Text) -> None:
         self._octets = octets(text)
@@ -71,10 +71,13 @@ class Plan:
         return plan
 
     @classmethod
-    def of(cls, dumps: Table, loss: SupportsIndex = 0, cut: Cut | None = None, firsts: Iterable[Certificate] | None = None) -> Plan:
-        """The plan with these dumps: a table with a column for each store, and a row for each step. With a column `step` the rows may stand
-        in any order. Raises `Refusal` where the steps are not 1, 2, 3 and so on. `loss` and `cut` are what the text says, and so are the
-        certificates of the `firsts` stores, where the text is to say that stores are served in order; `check` tells whether they are right."""
+    def of(
+        cls, dumps: Table, loss: SupportsIndex = 0, cut: Cut | None = None, firsts: Iterable[Certificate] | None = None
+    ) -> Plan:
+        """The plan with these dumps: a table with a column for each store, and a row for each step. With a column
+        `step` the rows may stand in any order. Raises `Refusal` where the steps are not 1, 2, 3 and so on. `loss` and
+        `cut` are what the text says, and so are the certificates of the `firsts` stores, where the text is to say that
+        stores are served in order; `check` tells whether they are right. """
         named = by_step(dumps)
         cut = cut or Cut((), (), 0)
         form = 3 if firsts is not None else 2 if cut.by_channels else 1
@@ -83,7 +86,10 @@ class Plan:
             lines.append(" ".join(["dump", str(step), *map(str, amounts)]))
         lines += _certificate_lines(whole(loss, "loss"), cut)
         for first in firsts or ():
-            lines += [f"first {whole(first.stores, 'stores')}", *_certificate_lines(whole(first.loss, "loss"), first.cut)]
+            lines += [
+                f"first {whole(first.stores, 'stores')}",
+                *_certificate_lines(whole(first.loss, "loss"), first.cut),
+            ]
         return cls("\n".join([*lines, "end", ""]).encode())
 
     def __bytes__(self) -> bytes:
@@ -100,7 +106,7 @@ class Plan:
 
     def __repr__(self) -> str:
         try:
-            return f"<Plan of {len(self.dumps)} steps for {', '.join(self.stores)}: loses {self.loss}>"
+            return f"<Plan of {len(self.dumps)} steps for {', '.join(self.stores)}: loses {self.loss}>"[:300]
         except Refusal:
             return f"<Plan of a text of {len(self._octets)} octets that is no plan text>"
 
@@ -152,7 +158,8 @@ class Plan:
 
     @cached_property
     def firsts(self) -> tuple[Certificate, ...] | None:
-        """Where the text says that stores are served in order, the certificates of the first store, of the first two and so on, but for all."""
+        """Where the text says that stores are served in order, the certificates of the first store, of the first two
+        and so on, but for all."""
         return self._certificates[1:] if self._read.startswith(b"mmplan 3\n") else None
 
     @cached_property
@@ -164,15 +171,18 @@ class Plan:
 
     def to_dict(self) -> dict[str, list[int]]:
         """The steps and the dumps, as columns."""
-        return {STEP: list(range(1, len(self.dumps) + 1)), **{store: list(column) for store, column in self.by_store.items()}}
+        return {
+            STEP: list(range(1, len(self.dumps) + 1)),
+            **{store: list(column) for store, column in self.by_store.items()},
+        }
 
     def to_frame(self, make: Callable[[dict[str, list[int]]], Made]) -> Made:
         """The steps and the dumps as a data frame, made by `make`, as `pandas.DataFrame`."""
         return make(self.to_dict())
 
     def passes(self, mission: Mission, step: timedelta | float | None = None) -> Sheet:
-        """The sheet for operations: what each pass of the mission sends, where this plan is one for its problem, with steps from event to
-        event or of this length."""
+        """The sheet for operations: what each pass of the mission sends, where this plan is one for its problem, with
+        steps from event to event or of this length."""
         from .calls import check
         from .sheets import MissionPlan
 
@@ -189,6 +199,11 @@ class Plan:
 
         setup, forecast = self._problem
         return chart(setup, forecast, self).svg
+
+    def _repr_html_(self) -> str:
+        from ._tables import html_of
+
+        return (self._repr_svg_() or "") + html_of(self.to_dict())
 
 
 def _certificate(text: str) -> Certificate:
@@ -218,7 +233,8 @@ PlanLike = Union[Text, Plan, Table]
 
 
 def _problem_for(plan: bytes) -> tuple[bytes, bytes]:
-    """A setup and a forecast with the stores and as many steps as a plan text; or others, where there are none with such."""
+    """A setup and a forecast with the stores and as many steps as a plan text; or others, where there are none with
+    such."""
     lines = plan.decode("utf-8", "replace").split("\n")
     names = [line.split(" ")[1:] for line in lines if line.startswith("stores ")]
     setup = setup_with(names[0] if names else [])
@@ -237,4 +253,6 @@ def request_octets(given: Any) -> bytes:
     """The octets of requests: of a text, or of the packets, one for each request."""
     if is_text(given):
         return octets(given)
-    return "".join(packet_octets(packet, f"packet {place}").hex().upper() + "\n" for place, packet in enumerate(given, 1)).encode()
+    return "".join(
+        packet_octets(packet, f"packet {place}").hex().upper() + "\n" for place, packet in enumerate(given, 1)
+    ).encode()

@@ -2,38 +2,40 @@
 
 from __future__ import annotations
 
-import csv
-import io
 import os
 from bisect import bisect_right
-from collections.abc import Callable, Iterator, Mapping, Sequence
+from collections.abc import Callable, Iterable, Iterator, Mapping, Sequence
 from dataclasses import dataclass
 from datetime import datetime, timedelta
 from fractions import Fraction
 from functools import cached_property
 from pathlib import Path
-from typing import TYPE_CHECKING, Any, TypeVar
+from typing import TYPE_CHECKING, Any, TypeVar, overload
 
-from ._timeline import Problem, falls, micro, rises
-from ._units import MICROSECOND, Moment, Volume, VolumeLike, fault, moment_of, written
-from .calls import Verdict, check, plan, table
+from ._flown import Flown, first_steps, flown_of
+from ._flows import arrivals_of, came, micro, use_of
+from ._sharing import shared as shared
+from ._tables import csv_of, html_of
+from ._timeline import Problem, problem_of
+from ._units import MICROSECOND, Moment, Volume, VolumeLike, fault, moment_of, span_of, written
+from .calls import Verdict, check, plan
 from .plans import Plan
+from .timelines import Timeline
 
 if TYPE_CHECKING:
+    from .ages import Age
     from .mission import Mission, Pass
 
 Made = TypeVar("Made")
 BEFORE = "before the first pass"
-# A link of a step: its number, its window, and the limits of channels.
-Link = tuple[int, int, Mapping[int, int]]
-COLUMNS = ("pass", "station", "begin", "end", "store", "blocks", "MB", "minutes", "before", "after", "lost")
+COLUMNS = ("pass", "station", "begin", "end", "store", "blocks", "MB", "minutes", "before", "after", "lost", "lost MB")
 
 
 @dataclass(frozen=True)
 class Row:
-    """What a pass does to a store: the `blocks` that leave it, their megabytes `mb`, the `minutes` that the link needs for them, what the store
-    holds `before` and `after` the pass, and what is `lost` from the pass's begin to that of the next one, in blocks. `name` is that of the
-    pass."""
+    """What a pass does to a store: the `blocks` that leave it, their megabytes `mb`, the `minutes` that the link needs
+    for them, what the store holds `before` and `after` the pass, and what is `lost` from the pass's begin to that of
+    the next one, in blocks and in megabytes. A block is a packet of the store. `name` is that of the pass."""
 
     name: str
     station: str
@@ -46,37 +48,37 @@ class Row:
     before: int
     after: int
     lost: int
+    lost_mb: float
 
     def cells(self) -> tuple[Any, ...]:
         """The values, in the order of the columns."""
-        return (self.name, self.station, self.begin, self.end, self.store, self.blocks, self.mb, self.minutes, self.before, self.after, self.lost)
+        return tuple(vars(self).values())
 
 
-@dataclass(frozen=True)
-class Flown:
-    """What a step does, by store: what is lost and dumped, and what is held as it ends. `shares` is what leaves in each pass."""
-
-    begin: datetime
-    end: datetime
-    arrived: Mapping[str, int]
-    lost: Mapping[str, int]
-    dumped: Mapping[str, int]
-    held: Mapping[str, int]
-    shares: Mapping[str, Mapping[str, int]]
-
-
-@dataclass(frozen=True)
+@dataclass(frozen=True, repr=False)
 class Sheet(Sequence[Row]):
-    """The sheet of a plan: a row for each pass and store, in the order of the passes. Where something is lost before the first pass, rows with
-    the name `before the first pass` come first; so all that the rows lose is the loss of the plan."""
+    """The sheet of a plan: a row for each pass and store, in the order of the passes. Where something is lost before
+    the first pass, rows with the name `before the first pass` come first; so all that the rows lose is the loss of the
+    plan."""
 
     rows: tuple[Row, ...]
     made: MissionPlan
 
+    def __repr__(self) -> str:
+        return f"<Sheet of {len(self.rows)} rows for {len(self.made.mission.passes)} passes: loses {self.made.loss}>"
+
     def __len__(self) -> int:
         return len(self.rows)
 
-    def __getitem__(self, place: Any) -> Any:
+    @overload
+    def __getitem__(self, place: int) -> Row:
+        ...
+
+    @overload
+    def __getitem__(self, place: slice) -> tuple[Row, ...]:
+        ...
+
+    def __getitem__(self, place: int | slice) -> Row | tuple[Row, ...]:
         return self.rows[place]
 
     def to_dict(self) -> dict[str, list[Any]]:
@@ -90,20 +92,22 @@ class Sheet(Sequence[Row]):
 
     def text(self) -> str:
         """The sheet as comma separated values."""
-        lines = io.StringIO()
-        writer = csv.writer(lines, lineterminator="\n")
-        writer.writerow(COLUMNS)
-        writer.writerows(_printed(row) for row in self.rows)
-        return lines.getvalue()
+        return csv_of(COLUMNS, map(_printed, self.rows))
 
     def markdown(self) -> str:
-        """The sheet as a table of Markdown."""
-        lines = ["| " + " | ".join(COLUMNS) + " |", "|---|---|---|---|---|" + "--:|" * (len(COLUMNS) - 5)]
-        lines += ["| " + " | ".join(str(cell).replace("|", "\\|") for cell in _printed(row)) + " |" for row in self.rows]
-        return "\n".join([*lines, ""])
+        """The sheet as tables of Markdown: its rows, what the plan loses and how far that is least, and the ages."""
+        from ._page import summary
+
+        ages = [(store, f"{age.greatest:.1f}", f"{age.median:.1f}") for store, age in self.made.ages().items()]
+        parts = [
+            _markdown(COLUMNS, 5, map(_printed, self.rows)),
+            "\n\n".join(summary(self)) + "\n",
+            _markdown(("store", "greatest age in hours", "median age in hours"), 1, ages),
+        ]
+        return "\n".join(parts)
 
     def html(self) -> str:
-        """The sheet as a page that can be printed, with the chart of the plan."""
+        """The sheet as a page that can be printed, with the timeline and the chart of the plan."""
         from ._page import page
 
         return page(self)
@@ -117,71 +121,136 @@ class Sheet(Sequence[Row]):
         Path(path).write_text(forms[kind](), encoding="utf-8", newline="")
 
     def _repr_html_(self) -> str:
-        head = "".join(f"<th>{name}</th>" for name in COLUMNS)
-        from html import escape
+        return html_of(dict(zip(COLUMNS, zip(*map(_printed, self.rows)))), most=len(self.rows))
 
-        rows = "".join("<tr>" + "".join(f"<td>{escape(str(cell))}</td>" for cell in _printed(row)) + "</tr>" for row in self.rows)
-        return f"<table><thead><tr>{head}</tr></thead><tbody>{rows}</tbody></table>"
+
+def _markdown(names: Sequence[str], words: int, rows: Iterable[Iterable[object]]) -> str:
+    """A table of Markdown, whose first columns are words."""
+    lines = ["| " + " | ".join(names) + " |", "|" + "---|" * words + "--:|" * (len(names) - words)]
+    lines += ["| " + " | ".join(str(cell).replace("|", "\\|") for cell in row) + " |" for row in rows]
+    return "\n".join([*lines, ""])
 
 
 def _printed(row: Row) -> list[object]:
+    forms = {"MB": ".3f", "lost MB": ".3f", "minutes": ".1f"}
     return [
-        written(cell) if isinstance(cell, datetime) else f"{cell:.3f}" if name == "MB" else f"{cell:.1f}" if name == "minutes" else cell
+        written(cell) if isinstance(cell, datetime) else format(cell, forms[name]) if name in forms else cell
         for name, cell in zip(COLUMNS, row.cells())
     ]
 
 
-@dataclass(frozen=True)
+@dataclass(frozen=True, repr=False)
 class MissionPlan:
-    """The plan of a `mission`, in one part or several: each with its problem and its plan, which loses least from what the part before
-    leaves. It is shown in a notebook as its chart."""
+    """The plan of a `mission`, in one part or several: each with its problem and its plan, which in its steps loses
+    least from what the part before leaves. Of each part the first `kept` steps are flown; those after them are what the
+    part looks ahead. It is shown in a notebook as its chart."""
 
     mission: Mission
     parts: tuple[tuple[Problem, Plan], ...]
+    kept: tuple[int, ...] = ()
 
     @classmethod
     def of(
-        cls, mission: Mission, step: timedelta | float | None = None, horizon: timedelta | None = None, in_order: bool = False
+        cls,
+        mission: Mission,
+        step: timedelta | float | None = None,
+        horizon: timedelta | None = None,
+        in_order: bool = False,
+        look: timedelta | None = None,
     ) -> MissionPlan:
-        """The plan of a mission, in parts of this horizon if there is one, which serves the stores in order or not."""
+        """The plan of a mission, in parts of this horizon if there is one, which looks so far ahead, and serves the
+        stores in order or not."""
+        if horizon is None:
+            return cls.of_problem(mission.problem(step), in_order)
+        ahead = horizon if look is None else look
         parts: list[tuple[Problem, Plan]] = []
-        begin = mission.begin
+        kept: list[int] = []
+        begin, left = mission.begin, mission
         while begin < mission.end:
-            end = mission.end if horizon is None else min(begin + horizon, mission.end)
-            left = _flown(*parts[-1])[-1].held if parts else {}
-            holds = {store: Volume(Fraction(held), True) for store, held in left.items()}
-            problem = mission.between(begin, end, holds).problem(step)
+            end = min(begin + horizon, mission.end)
+            part = left.between(begin, min(end + ahead, mission.end))
+            problem = problem_of(part, None if step is None else span_of(step, "step"), kept=(micro(part, end),))
             parts.append((problem, plan(problem.setup, problem.forecast, in_order=in_order)))
+            kept.append(problem.times.index(end))
+            if end < mission.end:
+                held = flown_of(*first_steps(problem, parts[-1][1], kept[-1]))[-1].held
+                left = mission.between(
+                    end, holds={store: Volume(Fraction(count), True) for store, count in held.items()}
+                )
             begin = end
-        return cls(mission, tuple(parts))
+        return cls(mission, tuple(parts), tuple(kept))
+
+    @classmethod
+    def of_problem(cls, problem: Problem, in_order: bool = False) -> MissionPlan:
+        """A least plan of a problem."""
+        return cls(problem.mission, ((problem, plan(problem.setup, problem.forecast, in_order=in_order)),))
+
+    def __repr__(self) -> str:
+        parts = f" in {len(self.parts)} parts" if len(self.parts) > 1 else ""
+        return (
+            f"<MissionPlan of {self.mission.name[:60]!r}{parts}, {len(self.mission.passes)} passes: loses {self.loss}>"
+        )
+
+    @cached_property
+    def flown(self) -> tuple[tuple[Problem, Plan], ...]:
+        """The parts without the steps that they look ahead."""
+        counts = self.kept or [len(problem) for problem, _ in self.parts]
+        return tuple(first_steps(problem, made, count) for (problem, made), count in zip(self.parts, counts))
 
     @property
     def loss(self) -> int:
-        """The blocks that the plan loses."""
-        return sum(made.loss for _, made in self.parts)
+        """The blocks that the plan loses. A block is a packet of its store."""
+        return sum(self.losses.values())
+
+    @cached_property
+    def losses(self) -> dict[str, int]:
+        """The blocks that each store loses."""
+        return {store.id: sum(step.lost[store.id] for step in self.steps) for store in self.mission.stores}
+
+    @property
+    def loss_mb(self) -> float:
+        """The megabytes of packets that the plan loses."""
+        return sum(self.losses[store.id] * self.mission.packet_of(store) for store in self.mission.stores) / 1e6
 
     @property
     def plan(self) -> Plan:
         """The plan, where there is one part."""
-        if len(self.parts) != 1:
-            raise fault("", f"a plan of {len(self.parts)} parts", "a plan without a horizon")
-        return self.parts[0][1]
+        return self._one[1]
 
     @property
     def problem(self) -> Problem:
         """The problem, where there is one part."""
+        return self._one[0]
+
+    @property
+    def _one(self) -> tuple[Problem, Plan]:
         if len(self.parts) != 1:
             raise fault("", f"a plan of {len(self.parts)} parts", "a plan without a horizon")
-        return self.parts[0][0]
+        return self.parts[0]
 
     def check(self) -> tuple[Verdict, ...]:
-        """The verdict on the plan of each part."""
+        """The verdict on the plan of each part, with what it looks ahead."""
         return tuple(check(problem.setup, problem.forecast, made) for problem, made in self.parts)
 
     @cached_property
     def steps(self) -> tuple[Flown, ...]:
         """What each step does."""
-        return tuple(flown for problem, made in self.parts for flown in _flown(problem, made))
+        return tuple(step for problem, made in self.flown for step in flown_of(problem, made))
+
+    def timeline(self) -> Timeline:
+        """The dumps one after the other: which store is sent when, in which pass."""
+        return Timeline.of(self)
+
+    def ages(self) -> dict[str, Age]:
+        """For each store how old the oldest octet is when it goes down: the greatest and the median age, in hours."""
+        from .ages import ages_of
+
+        return ages_of(self)
+
+    def ages_in_line(self) -> Iterator[float]:
+        """The greatest and the median age of each store, in the order of the stores."""
+        for age in self.ages().values():
+            yield from (age.greatest, age.median)
 
     def passes(self, mission: Mission | None = None) -> Sheet:
         """The sheet for operations."""
@@ -196,146 +265,77 @@ class MissionPlan:
         first = [max(bisect_right(begins, max(one.begin, self.mission.begin)) - 1, 0) for one in passes]
         if any(any(step.lost.values()) for step in self.steps[: first[0] if passes else None]):
             upto = first[0] if passes else len(self.steps)
-            yield from self._quiet_rows(upto)
+            for store in self.mission.stores:
+                yield self._row(None, store.id, 0, upto, upto)
         for place, one in enumerate(passes):
-            end = min(one.end, self.mission.end)
-            last = max(bisect_right(begins, end - MICROSECOND), first[place] + 1)
+            last = max(bisect_right(begins, min(one.end, self.mission.end) - MICROSECOND), first[place] + 1)
             after = first[place + 1] if place + 1 < len(passes) else len(self.steps)
             for store in self.mission.stores:
-                blocks = sum(step.shares.get(one.name, {}).get(store.id, 0) for step in self.steps[first[place] : last])
-                lost = sum(step.lost[store.id] for step in self.steps[first[place] : after])
-                begin, end_held = self._held(store.id, first[place]), self.steps[last - 1].held[store.id]
-                size, minutes = blocks * self.mission.packet_of(store) / 1e6, self._minutes(one, store.id, blocks)
-                yield Row(one.name, one.station, max(one.begin, self.mission.begin), end, store.id, blocks, size, minutes, begin, end_held, lost)
+                yield self._row(one, store.id, first[place], last, after)
 
-    def _quiet_rows(self, upto: int) -> Iterator[Row]:
-        """What is lost before the first pass begins."""
-        for store in self.mission.stores:
-            lost = sum(step.lost[store.id] for step in self.steps[:upto])
-            begin, end = self.mission.begin, self.steps[upto - 1].end
-            yield Row(BEFORE, "", begin, end, store.id, 0, 0.0, 0.0, self._held(store.id, 0), self.steps[upto - 1].held[store.id], lost)
+    def _row(self, one: Pass | None, store: str, first: int, last: int, after: int) -> Row:
+        """What a pass does to a store from a step on until another one, and what is lost until a third one; or what is
+        lost before the first pass."""
+        blocks = sum(step.shares.get(one.name, {}).get(store, 0) for step in self.steps[first:last]) if one else 0
+        lost = sum(step.lost[store] for step in self.steps[first:after])
+        octets = next(self.mission.packet_of(each) for each in self.mission.stores if each.id == store)
+        begin = max(one.begin, self.mission.begin) if one else self.mission.begin
+        end = min(one.end, self.mission.end) if one else self.steps[last - 1].end
+        minutes = self._minutes(one, blocks * octets) if one else 0.0
+        name, station = (one.name, one.station) if one else (BEFORE, "")
+        held = self._held(store, first), self._held(store, last)
+        return Row(
+            name, station, begin, end, store, blocks, blocks * octets / 1e6, minutes, *held, lost, lost * octets / 1e6
+        )
 
     def _held(self, store: str, steps: int) -> int:
         """What a store holds after that many steps."""
         if steps:
             return self.steps[steps - 1].held[store]
-        return next(each.start for each in self.parts[0][0].setup.stores if each.id == store)
+        problem = self.parts[0][0]
+        return next(each.start for each in problem.setup.stores if each.id == store) * problem.unit.packets[store]
 
-    def _minutes(self, one: Pass, store: str, blocks: int) -> float:
-        """How long the link sends these blocks, at the rate of the pass or of the store's channel."""
-        found = next(each for each in self.mission.stores if each.id == store)
-        rate, channels = self.mission.rates(one)
-        octets = self.mission.packet_of(found)
-        least = min(each.blocks(octets) for each in (rate, channels.get(found.channel, rate)))
-        return float(blocks / least / 60) if blocks else 0.0
+    def _minutes(self, one: Pass, octets: int) -> float:
+        """How long the link sends these octets."""
+        return float(octets / use_of(self.mission, one).octets / 60) if octets else 0.0
 
     def holds(self, utc: Moment) -> dict[str, int]:
-        """The blocks that each store holds at a moment. Inside of a step what has arrived rises to whole blocks, and what has left falls."""
+        """The blocks that each store holds at a moment. Inside of a step what has arrived rises to whole blocks, and
+        what has left falls."""
         moment = moment_of(utc, "utc")
         if not self.mission.begin <= moment <= self.mission.end:
-            raise fault("", written(moment), f"a moment from {written(self.mission.begin)} to {written(self.mission.end)}")
+            raise fault(
+                "", written(moment), f"a moment from {written(self.mission.begin)} to {written(self.mission.end)}"
+            )
         done = bisect_right([step.end for step in self.steps], moment)
         found = {store.id: self._held(store.id, done) for store in self.mission.stores}
         if done == len(self.steps) or self.steps[done].begin == moment:
             return found
         step = self.steps[done]
-        problem = next(problem for problem, _ in self.parts if moment < problem.times[-1])
         part = Fraction((moment - step.begin) // MICROSECOND, (step.end - step.begin) // MICROSECOND)
-        span = [micro(problem.mission, time) for time in (step.begin, moment)]
-        sizes = {store.id: store.size for store in problem.setup.stores}
-        came = {store: sum(rises(flows, span)) for store, flows in problem.arrivals.items()}
-        return {store: max(min(held + came[store], sizes[store]) - int(step.dumped[store] * part), 0) for store, held in found.items()}
+        part_begin = next(problem.times[0] for problem, _ in reversed(self.parts) if problem.times[0] <= moment)
+        times = [micro(self.mission, time) for time in (part_begin, step.begin, moment)]
+        # what rises to a whole packet until the step begins is there already
+        come = {store: came(flows, times).column()[1] for store, flows in arrivals_of(self.mission).items()}
+        sizes = {store.id: self.mission.size_of(store) for store in self.mission.stores}
+        return {
+            store: max(min(held + come[store], sizes[store]) - int(step.dumped[store] * part), 0)
+            for store, held in found.items()
+        }
 
     def at(self, utc: Moment, holds: Mapping[str, VolumeLike] | None = None) -> Mission:
-        """The mission from a moment on, to be planned again: its stores hold what they do then by this plan, or the volumes that were measured."""
-        planned: dict[str, VolumeLike] = {store: Volume(Fraction(held), True) for store, held in self.holds(utc).items()}
+        """The mission from a moment on, to be planned again: its stores hold what they do then by this plan, or the
+        volumes that were measured."""
+        planned: dict[str, VolumeLike] = {
+            store: Volume(Fraction(held), True) for store, held in self.holds(utc).items()
+        }
         return self.mission.between(utc, holds={**planned, **(holds or {})})
 
     def charts(self) -> tuple[str, ...]:
         """The chart of each part, with UTC on its axis, as SVG."""
         from .pictures import chart_of
 
-        return tuple(chart_of(problem, made) for problem, made in self.parts)
+        return tuple(chart_of(problem, made) for problem, made in self.flown)
 
     def _repr_html_(self) -> str:
         return "".join(self.charts())
-
-
-def _flown(problem: Problem, made: Plan) -> list[Flown]:
-    """What each step of a problem does, from the table of its plan."""
-    columns = table(problem.setup, problem.forecast, made).to_dict()
-    stores = [store.id for store in problem.setup.stores]
-    sends = [falls(contact.sends, problem.edges) for contact in problem.contacts]
-    by_channel = [{channel: falls(flow, problem.edges) for channel, flow in contact.channels.items()} for contact in problem.contacts]
-    channels = {store.id: store.channel for store in problem.setup.stores}
-    found = []
-    for step in range(len(problem)):
-        rows = slice(step * len(stores), (step + 1) * len(stores))
-        values = {name: dict(zip(stores, columns[name][rows])) for name in ("arrived", "lost", "dumped", "held")}
-        links: list[Link] = [
-            (place, column[step], {channel: limits[step] for channel, limits in by_channel[place].items()})
-            for place, column in enumerate(sends)
-            if column[step]
-        ]
-        shares: dict[str, dict[str, int]] = {}
-        for place, share in shared(values["dumped"], channels, links).items():
-            mine = shares.setdefault(problem.contacts[place].one.name, {})
-            for store, blocks in share.items():
-                mine[store] = mine.get(store, 0) + blocks
-        found.append(Flown(problem.times[step], problem.times[step + 1], **values, shares=shares))
-    return found
-
-
-def shared(dumped: Mapping[str, int], channels: Mapping[str, int], links: list[Link]) -> dict[int, dict[str, int]]:
-    """What of each store leaves by each link, which has a number, a window and the limits of channels. What cannot be shared out at once is by
-    moving what other channels send to other links (augmenting paths)."""
-    if len(links) == 1:
-        return {links[0][0]: {store: blocks for store, blocks in dumped.items() if blocks}}
-    wanted: dict[int, int] = {}
-    for store, blocks in dumped.items():
-        wanted[channels[store]] = wanted.get(channels[store], 0) + blocks
-    sent = {(channel, place): 0 for channel in wanted for place, _, _ in links}
-    for channel, blocks in wanted.items():
-        while blocks > 0:
-            gain = _sent_more(channel, blocks, sent, links, set())
-            if not gain:
-                raise AssertionError(f"{blocks} blocks of channel {channel} find no link")
-            blocks -= gain
-    return _by_store(dumped, channels, links, sent)
-
-
-def _sent_more(channel: int, most: int, sent: dict[tuple[int, int], int], links: list[Link], seen: set[int]) -> int:
-    """Sends more blocks of a channel, at most this many, if need be in place of another channel that has another link, and says how many."""
-    for place, window, limits in links:
-        room = min(most, limits.get(channel, window) - sent[channel, place])
-        if room <= 0 or place in seen:
-            continue
-        seen.add(place)
-        free = window - sum(blocks for (_, link), blocks in sent.items() if link == place)
-        if free > 0:
-            gain = min(room, free)
-            sent[channel, place] += gain
-            return gain
-        for other in {each for each, link in sent if link == place and each != channel and sent[each, place]}:
-            gain = _sent_more(other, min(room, sent[other, place]), sent, links, seen)
-            if gain:
-                sent[other, place] -= gain
-                sent[channel, place] += gain
-                return gain
-    return 0
-
-
-def _by_store(
-    dumped: Mapping[str, int], channels: Mapping[str, int], links: list[Link], sent: dict[tuple[int, int], int]
-) -> dict[int, dict[str, int]]:
-    """What of each store leaves by each link, where the links have what their channels send."""
-    left = dict(dumped)
-    found: dict[int, dict[str, int]] = {}
-    for (channel, place), blocks in sent.items():
-        for store in left:
-            if channels[store] == channel and blocks and left[store]:
-                share = min(blocks, left[store])
-                found.setdefault(place, {})[store] = found.get(place, {}).get(store, 0) + share
-                left[store] -= share
-                blocks -= share
-    return found

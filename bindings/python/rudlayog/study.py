@@ -20,26 +20,23 @@ from __future__ import annotations
 import csv
 import io
 import os
-import re
 from array import array
 from collections.abc import Callable, Iterator, Mapping, Sequence
 from dataclasses import dataclass
+from datetime import timedelta
 from functools import partial
 from heapq import nsmallest
-from operator import sub
-from typing import TYPE_CHECKING, Any, NamedTuple, TextIO, TypeVar, Union
+from typing import TYPE_CHECKING, Any, TextIO, TypeVar, Union, overload
 
-from . import _library
-from ._base import Base, channel_of
+from ._answering import Task, found_of, found_of_all
+from ._base import Base
 from ._found import Found, FoundTable
 from ._running import Progress, results
-from .forecasts import Forecast, ForecastLike
+from .forecasts import Forecast, ForecastLike, forecast_octets
 from .mission import Mission
-from .plans import Cut, Plan, Stretch, plan_octets
-from .refusals import Refusal
+from .plans import Cut, Plan, Stretch
 from .setups import Setup, SetupLike, setup_octets
 from .variants import (
-    Change,
     Changed,
     Replaced,
     Variant,
@@ -59,22 +56,24 @@ if TYPE_CHECKING:
     from .pictures import Picture
 
 __all__ = [
-    "Answer", "Changed", "Replaced", "Study", "Variant", "answers", "each_pass_lost", "each_store_sized", "grid", "lost", "rated", "scaled",
-    "shortened", "sized", "study",
+    "Answer", "Changed", "Replaced", "Study", "Variant", "answers", "each_pass_lost", "each_store_sized", "grid",
+    "lost", "rated", "scaled", "shortened", "sized", "study",
 ]  # fmt: skip
 
 Made = TypeVar("Made")
-_LOSS = re.compile(rb"\nloss (\d+)\n")
-_CERTIFICATE = re.compile(rb"\nloss (\d+)\n((?:[sc].*\n)*)bound (.*)\n")
 # How many variants a worker is given at a time.
 CHUNK = 64
+# What a table of a study may count in, and octets of one.
+UNITS = {"blocks": 0, "MB": 1_000_000}
 Given = Union[Mission, tuple[SetupLike, ForecastLike]]
 
 
 @dataclass(frozen=True, slots=True)
 class Answer:
-    """What a variant loses, in blocks: all together, and by store. `bound` is that of its cut: no plan loses fewer, and `is_least` says whether
-    this one loses as few. `shown` are the lines of the cut. Where the variant is refused there are no numbers, and `refused` says why."""
+    """What a variant loses, in blocks: all together, and by store. `bound` is that of its cut: no plan in these steps
+    loses fewer, and `is_least` says whether this one loses as few. `shown` are the lines of the cut. `ages` are for
+    each store the greatest and the median age of the oldest octet that goes down, in hours, where they are asked for.
+    Where the variant is refused there are no numbers, and `refused` says why. """
 
     name: str
     loss: int | None
@@ -83,26 +82,36 @@ class Answer:
     shown: str
     refused: str
     parameters: Mapping[str, Any]
+    ages: tuple[float, ...] = ()
 
     @property
     def is_least(self) -> bool:
-        """Whether it is shown that no plan loses less."""
+        """Whether it is shown that no plan in these steps loses less."""
         return self.loss is not None and self.loss == self.bound
 
     @property
     def cut(self) -> Cut:
-        """The cut."""
+        """The cut, whose bound is in the units of the problem."""
         lines = [line.split(" ") for line in self.shown.splitlines()]
         stretches = tuple(Stretch(line[1], int(line[2]), int(line[3])) for line in lines if line[0] == "stretch")
-        return Cut(stretches, tuple(int(line[1]) for line in lines if line[0] == "count"), self.bound or 0)
+        bound = next((int(line[1]) for line in lines if line[0] == "bound"), self.bound or 0)
+        return Cut(stretches, tuple(int(line[1]) for line in lines if line[0] == "count"), bound)
 
 
 class Study(Sequence[Answer]):
-    """What a study found: an answer for each variant, in their order, beside the `base`, which is the mission as it is. `stores` are the
-    identifiers to which `by_store` belongs. Where it was interrupted, `is_whole` is false, and only what is done is here."""
+    """What a study found: an answer for each variant, in their order, beside the `base`, which is the mission as it is.
+    `stores` are the identifiers to which `by_store` belongs, and `octets` those of their packets, if they are known.
+    Where it was interrupted, `is_whole` is false, and only what is done is here."""
 
-    def __init__(self, table: FoundTable, base: Answer, stores: tuple[str, ...], is_whole: bool = True) -> None:
-        self._table, self.base, self.stores, self.is_whole = table, base, stores, is_whole
+    def __init__(
+        self,
+        table: FoundTable,
+        base: Answer,
+        stores: tuple[str, ...],
+        is_whole: bool = True,
+        octets: tuple[int, ...] = (),
+    ) -> None:
+        self._table, self.base, self.stores, self.is_whole, self.octets = table, base, stores, is_whole, octets
         # the rows of the table that are there
         self._rows: Sequence[int] = range(len(table)) if is_whole else array("q", table.rows())
 
@@ -117,18 +126,36 @@ class Study(Sequence[Answer]):
     def __eq__(self, other: object) -> bool:
         if not isinstance(other, Study):
             return NotImplemented
-        return (self.base, self.stores, self.is_whole, self.answers) == (other.base, other.stores, other.is_whole, other.answers)
+        return (self.base, self.stores, self.is_whole, self.answers) == (
+            other.base,
+            other.stores,
+            other.is_whole,
+            other.answers,
+        )
 
     def __len__(self) -> int:
         return len(self._rows)
 
-    def __getitem__(self, place: Any) -> Any:
+    @overload
+    def __getitem__(self, place: int) -> Answer:
+        ...
+
+    @overload
+    def __getitem__(self, place: slice) -> tuple[Answer, ...]:
+        ...
+
+    def __getitem__(self, place: int | slice) -> Answer | tuple[Answer, ...]:
         if isinstance(place, slice):
             return tuple(map(self._answer, self._rows[place]))
         return self._answer(self._rows[place])
 
+    def _repr_html_(self) -> str:
+        from ._tables import html_of
+
+        return html_of(self._columns())
+
     def _answer(self, row: int) -> Answer:
-        return Answer(self._table.names[row], *self._table.found(row), self._table.parameters(row))
+        return _answered(self._table.names[row], self._table.found(row), self._table.parameters(row))
 
     def change(self, answer: Answer) -> int | None:
         """How many blocks more than the base a variant loses."""
@@ -137,45 +164,90 @@ class Study(Sequence[Answer]):
     def _change(self, loss: int | None) -> int | None:
         return None if loss is None or self.base.loss is None else loss - self.base.loss
 
-    def _columns(self) -> dict[str, Iterator[Any]]:
+    def mb(self, answer: Answer) -> float | None:
+        """What a variant loses in megabytes of packets. None where the packets of the stores, or the losses by store,
+        are not known."""
+        return self._mb(answer.loss, answer.by_store)
+
+    def _mb(self, loss: int | None, by_store: Sequence[int | None]) -> float | None:
+        if loss is None or not self.octets:
+            return None
+        if by_store and None not in by_store:
+            return sum(blocks * octets for blocks, octets in zip(by_store, self.octets) if blocks is not None) / 1e6
+        return loss * self.octets[0] / 1e6 if len(set(self.octets)) == 1 else None
+
+    def _columns(self, unit: str = "blocks") -> dict[str, Iterator[Any]]:
         """The columns of the table."""
+        if unit not in UNITS:
+            raise ValueError(f"the unit is {unit!r}, and can be {' or '.join(UNITS)}")
+        if unit == "MB" and not self.octets:
+            raise ValueError(
+                "a study of a setup and a forecast does not know the octets of packets, and counts in blocks"
+            )
         table, rows = self._table, self._rows
-        return {
-            "variant": (table.names[row] for row in rows),
-            **{name: map(partial(table.parameter, name), rows) for name in table.parameter_names()},
+        losses: dict[str, Iterator[Any]] = {
             "loss": map(table.loss, rows),
             "change": (self._change(table.loss(row)) for row in rows),
             **{store: map(partial(table.loss_of, place), rows) for place, store in enumerate(self.stores)},
             "bound": map(table.bound, rows),
+        }
+        if unit == "MB":
+            base = self.mb(self.base)
+            whole = [self._mb(table.loss(row), table.by_store(row)) for row in rows]
+            losses = {
+                "loss MB": iter(whole),
+                "change MB": (None if loss is None or base is None else round(loss - base, 6) for loss in whole),
+                **{f"{store} MB": map(partial(self._store_mb, place), rows) for place, store in enumerate(self.stores)},
+            }
+        ages = {
+            f"{store} {word} age": place
+            for place, (store, word) in enumerate(
+                (store, word) for store in self.stores for word in ("greatest", "median")
+            )
+        }
+        return {
+            "variant": (table.names[row] for row in rows),
+            **{name: map(partial(table.parameter, name), rows) for name in table.parameter_names()},
+            **losses,
             "least": (table.loss(row) is not None and table.loss(row) == table.bound(row) for row in rows),
+            **({name: map(partial(self._age, place), rows) for name, place in ages.items()} if table.has_ages else {}),
             "refused": map(table.refused, rows),
         }
 
-    def to_dict(self) -> dict[str, list[Any]]:
-        """The columns: the variant, its parameters, its loss and the change, the loss of each store, whether that is least, and the refusal."""
-        return {name: list(column) for name, column in self._columns().items()}
+    def _store_mb(self, place: int, row: int) -> float | None:
+        loss = self._table.loss_of(place, row)
+        return None if loss is None else loss * self.octets[place] / 1e6
 
-    def to_frame(self, make: Callable[[dict[str, list[Any]]], Made]) -> Made:
+    def _age(self, place: int, row: int) -> float | None:
+        ages = self._table.ages(row)
+        return round(ages[place], 3) if ages else None
+
+    def to_dict(self, unit: str = "blocks") -> dict[str, list[Any]]:
+        """The columns: the variant, its parameters, its loss and the change, the loss of each store, whether that is
+        least, the ages if they are asked for, and the refusal. Losses are in `blocks` or in `MB`."""
+        return {name: list(column) for name, column in self._columns(unit).items()}
+
+    def to_frame(self, make: Callable[[dict[str, list[Any]]], Made], unit: str = "blocks") -> Made:
         """The table as a data frame, made by `make`, as `pandas.DataFrame`."""
-        return make(self.to_dict())
+        return make(self.to_dict(unit))
 
-    def _write(self, lines: TextIO) -> None:
+    def _write(self, lines: TextIO, unit: str) -> None:
         """Writes the table as comma separated values."""
         writer = csv.writer(lines, lineterminator="\n")
-        columns = self._columns()
+        columns = self._columns(unit)
         writer.writerow(columns)
         writer.writerows(zip(*columns.values()))
 
-    def text(self) -> str:
-        """The table as comma separated values."""
+    def text(self, unit: str = "blocks") -> str:
+        """The table as comma separated values, with losses in `blocks` or in `MB`."""
         lines = io.StringIO()
-        self._write(lines)
+        self._write(lines, unit)
         return lines.getvalue()
 
-    def save(self, path: str | os.PathLike[str]) -> None:
-        """Writes the table into a file."""
+    def save(self, path: str | os.PathLike[str], unit: str = "blocks") -> None:
+        """Writes the table into a file, with losses in `blocks` or in `MB`."""
         with open(path, "w", encoding="utf-8", newline="") as file:
-            self._write(file)
+            self._write(file, unit)
 
     def worst(self, count: int = 10) -> list[Answer]:
         """The variants that lose most."""
@@ -184,11 +256,15 @@ class Study(Sequence[Answer]):
         return [self._answer(row) for _, row in nsmallest(count, lost, key=lambda each: -each[0])]
 
     def plot(self, *parameters: str, matplotlib: bool | None = None) -> Picture:
-        """A picture: the loss of each variant, sorted; or over one or two parameters. It is drawn by matplotlib where that is installed, unless
-        `matplotlib` is false."""
+        """A picture: the loss of each variant, sorted; or over one or two parameters. It is drawn by matplotlib where
+        that is installed, unless `matplotlib` is false."""
         from .pictures import picture_of
 
         return picture_of(self, parameters, matplotlib)
+
+
+def _answered(name: str, found: Found, parameters: Mapping[str, Any]) -> Answer:
+    return Answer(name, *found[:5], parameters, found.ages)
 
 
 def study(
@@ -199,18 +275,24 @@ def study(
     *,
     by_store: bool = True,
     in_order: bool = False,
+    ages: bool = False,
+    horizon: timedelta | float | None = None,
+    look: timedelta | float | None = None,
     chunk: int = CHUNK,
     progress: bool | None = None,
 ) -> Study:
     """The answers for variants of a mission, or of a setup and a forecast.
 
-    Each variant is planned anew, with the least loss; or, with a `plan`, that one is flown, and where less can be sent than it says, the
-    stores give way in the reverse of their order. `by_store=False` leaves the losses by store out, but those of a plan that is given. With
-    `in_order` the stores are served in their order. `executor` is any of `concurrent.futures`, or Dask's `Client`; without one threads of this
-    machine are used. Whatever executes it, the table is the same. A worker that dies costs its variants a second try. A progress bar is shown
-    where standard error is a terminal; `Ctrl-C` ends the study with what is done."""
-    base = _base(given)
-    task = Task(base, None if plan is None else _fixed(plan, base), by_store, in_order)
+    Each variant is planned anew, with the least loss in its steps: the answer is that of
+    `mission.changed(variant.changes).plan()`. Or, with a `plan`, that one is flown, and where less can be sent than it
+    says, the stores give way in the reverse of their order. `by_store=False` leaves the losses by store out, but those
+    of a plan that is given. With `in_order` the stores are served in their order, and with `ages` it is told how old
+    data are that go down. With `horizon` and `look` the plans are made in parts, as `mission.plan` makes them.
+    `executor` is any of `concurrent.futures`, or Dask's `Client`; without one threads of this machine are used.
+    Whatever executes it, the table is the same. A worker that dies costs its variants a second try. A progress bar is
+    shown where standard error is a terminal; `Ctrl-C` ends the study with what is done."""
+    task = _task(given, plan, by_store, in_order, ages, horizon, look)
+    base = task.base
     table = FoundTable(len(base.setup.stores))
     is_whole = True
     bar = Progress(variants, progress)
@@ -222,7 +304,10 @@ def study(
         is_whole = False
     finally:
         bar.close()
-    return Study(table, answer_of(task, Variant("as it is")), tuple(store.id for store in base.setup.stores), is_whole)
+    octets = tuple(map(base.mission.packet_of, base.mission.stores)) if base.mission else ()
+    return Study(
+        table, answer_of(task, Variant("as it is")), tuple(store.id for store in base.setup.stores), is_whole, octets
+    )
 
 
 def answers(
@@ -233,26 +318,32 @@ def answers(
     *,
     by_store: bool = True,
     in_order: bool = False,
+    ages: bool = False,
+    horizon: timedelta | float | None = None,
+    look: timedelta | float | None = None,
     chunk: int = CHUNK,
 ) -> Iterator[tuple[int, Answer]]:
     """The answers as they are done, each with its place among the variants, from 0."""
-    base = _base(given)
-    task = Task(base, None if plan is None else _fixed(plan, base), by_store, in_order)
-    return ((place, _answer(variant, found)) for place, variant, found in _all_found(task, variants, executor, chunk))
+    task = _task(given, plan, by_store, in_order, ages, horizon, look)
+    found = _all_found(task, variants, executor, chunk)
+    return ((place, _answered(variant.name, each, variant.parameters)) for place, variant, each in found)
 
 
-class Task(NamedTuple):
-    """What is asked of each variant: the `base`, the `dumps` of a plan that stays, if there is one, whether losses `by_store` are told, and
-    whether stores are served `in_order`."""
-
-    base: Base
-    dumps: tuple[tuple[int, ...], ...] | None = None
-    by_store: bool = True
-    in_order: bool = False
+def _task(given: Given, plan: Any, by_store: bool, in_order: bool, ages: bool, horizon: Any, look: Any) -> Task:
+    if look is not None and horizon is None:
+        raise ValueError("look goes with a horizon")
+    base = Base.in_parts(given) if horizon is not None and isinstance(given, Mission) else _base(given)
+    if (ages or horizon is not None) and base.mission is None:
+        raise ValueError("ages and a horizon are of a mission, and not of a setup and a forecast")
+    if plan is not None and (ages or horizon is not None or in_order):
+        raise ValueError("a plan that is given is flown as it is: without in_order, ages and a horizon")
+    return Task(base, None if plan is None else Task.fixed(plan, base), by_store, in_order, ages, horizon, look)
 
 
 def _all_found(task: Task, variants: VariantsLike, executor: Any, chunk: int) -> Iterator[tuple[int, Variant, Found]]:
     """What is found of each variant, with its place, as it is done."""
+    if chunk < 1:
+        raise ValueError(f"chunk is {chunk}, and a worker is given at least 1 variant at a time")
     numbered = enumerate(variants_of(variants))
     for given, done in results(executor, found_of_all, task, numbered, chunk):
         if isinstance(done, BaseException):
@@ -261,133 +352,16 @@ def _all_found(task: Task, variants: VariantsLike, executor: Any, chunk: int) ->
             yield place, variant, found
 
 
-def _answer(variant: Variant, found: Found) -> Answer:
-    return Answer(variant.name, *found, variant.parameters)
+def answer_of(task: Task, variant: Variant) -> Answer:
+    """The answer for one variant."""
+    return _answered(variant.name, found_of(task, variant), variant.parameters)
 
 
 def _base(given: Given) -> Base:
     if isinstance(given, Mission):
-        problem = given.problem()
-        return Base(problem.setup, problem.forecast, given, problem.edges)
+        return Base.of_mission(given)
     setup, forecast = given
     return Base(
         setup if isinstance(setup, Setup) else Setup.read(setup_octets(setup)),
-        forecast if isinstance(forecast, Forecast) else Forecast.read(_forecast_octets(forecast)),
+        forecast if isinstance(forecast, Forecast) else Forecast.read(forecast_octets(forecast)),
     )
-
-
-def _forecast_octets(given: Any) -> bytes:
-    from .forecasts import forecast_octets
-
-    return forecast_octets(given)
-
-
-def _fixed(plan: Any, base: Base) -> tuple[tuple[int, ...], ...]:
-    """The dumps of a plan that stays."""
-    made = plan.plan if hasattr(plan, "parts") else plan
-    dumps = (made if isinstance(made, Plan) else Plan(plan_octets(made))).dumps
-    if len(dumps) != len(base.forecast.windows) or len(dumps[0]) != len(base.setup.stores):
-        wanted = f"{len(base.forecast.windows)} of {len(base.setup.stores)}"
-        raise ValueError(f"the plan has {len(dumps)} steps of {len(dumps[0])} stores, and the mission {wanted}")
-    return dumps
-
-
-def found_of_all(task: Task, given: list[tuple[int, Variant]]) -> list[Found]:
-    """What is found of some variants; a worker is given this call."""
-    return [found_of(task, variant) for _, variant in given]
-
-
-def answer_of(task: Task, variant: Variant) -> Answer:
-    """The answer for one variant."""
-    return _answer(variant, found_of(task, variant))
-
-
-def found_of(task: Task, variant: Variant) -> Found:
-    """What is found of one variant."""
-    try:
-        base, changes = task.base, variant.changes
-        while changes and isinstance(changes[0], Changed):
-            base, changes = changes[0].base_of(base), changes[1:]
-        if base is task.base and task.dumps is None:
-            found = _found_by_joined(task, changes)
-            if found is not None:
-                return found
-        setup, forecast = _changed(base, changes)
-        if task.dumps is not None:
-            by_store = _flown(setup, forecast, task.dumps)
-            return Found(sum(by_store), by_store)
-        return _planned_for(task, setup, forecast)
-    except (Refusal, ValueError, TypeError, ArithmeticError, LookupError) as error:
-        words = str(error) if isinstance(error, (Refusal, ValueError)) else f"{type(error).__name__}: {error}"
-        return Found(None, refused=words)
-
-
-def _changed(base: Base, changes: tuple[Change, ...]) -> tuple[Setup, Forecast]:
-    """The setup and the forecast of the base with these changes."""
-    setup, forecast = base.setup, base.forecast
-    for change in changes:
-        setup, forecast = change.of(base, setup, forecast)
-    return setup, forecast
-
-
-def _planned_for(task: Task, setup: Setup, forecast: Forecast) -> Found:
-    """What is found of a plan of the kind that is asked for."""
-    return _served_in_order(setup, forecast) if task.in_order else _planned(setup, forecast, task.by_store)
-
-
-def _found_by_joined(task: Task, changes: tuple[Change, ...]) -> Found | None:
-    """What is found with joined steps, where there are some, the variant is not refused with them, and no change is a function."""
-    joined = task.base.joined
-    if joined is None or any(isinstance(change, (Changed, Replaced)) for change in changes):
-        return None
-    try:
-        found = _planned_for(task, *_changed(joined.base, changes))
-    except (Refusal, ValueError, TypeError, ArithmeticError, LookupError):
-        return None
-    return found._replace(shown=joined.unjoined(found.shown))
-
-
-def _planned(setup: Setup, forecast: Forecast, by_store: bool) -> Found:
-    """What is found of a least plan, read from its text; its losses by store come with it."""
-    losses = _library.LossesTold()
-    text = _library.told(_library.rudlayog_plan_losses, texts=(bytes(setup), bytes(forecast)), more=(losses,))
-    loss, shown, bound = _shown(text, text.rindex(b"\nloss "))
-    return Found(loss, tuple(losses.by_store[: len(setup.stores)]) if by_store else (), bound, shown)
-
-
-def _shown(text: bytes, at: int) -> tuple[int, str, int]:
-    """The loss, the lines of the cut, and the bound, which come after the dumps."""
-    loss, cut, bound = _CERTIFICATE.match(text, at).groups()  # type: ignore[union-attr]
-    return int(loss), cut.decode("ascii"), int(bound)
-
-
-def _served_in_order(setup: Setup, forecast: Forecast) -> Found:
-    """What is found of a plan that serves the stores in order. What the first ones lose up to a store, less what they lose before it, is what it
-    loses."""
-    text = _library.told(_library.rudlayog_plan_in_order, texts=(bytes(setup), bytes(forecast)))
-    at = text.index(b"\nloss ")
-    loss, shown, bound = _shown(text, at)
-    _, *firsts = map(int, _LOSS.findall(text, at))
-    return Found(loss, tuple(map(sub, [*firsts, loss], [0, *firsts])), bound, shown)
-
-
-def _flown(setup: Setup, forecast: Forecast, dumps: tuple[tuple[int, ...], ...]) -> tuple[int, ...]:
-    """What each store loses with these dumps, as far as windows and limits allow them. The stores of the setup come in their order."""
-    held = [store.start for store in setup.stores]
-    gone = [0] * len(held)
-    limits = {limit.channel: [limit.blocks] * len(dumps) for limit in setup.limits}
-    for name, column in forecast.limits.items():
-        channel = channel_of(name)
-        limits[channel] = [min(both) for both in zip(column, limits.get(channel, column))]
-    for step, amounts in enumerate(dumps):
-        window = forecast.windows[step]
-        rooms = {channel: column[step] for channel, column in limits.items()}
-        for place, store in enumerate(setup.stores):
-            came = held[place] + forecast.arrivals[store.id][step]
-            gone[place] += max(came - store.size, 0)
-            sent = min(came, store.size, amounts[place], window, rooms.get(store.channel, window))
-            held[place] = min(came, store.size) - sent
-            window -= sent
-            if store.channel in rooms:
-                rooms[store.channel] -= sent
-    return tuple(gone)

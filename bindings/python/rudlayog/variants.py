@@ -1,8 +1,7 @@
 """Variants of a mission: what a study changes. Each is a name with its changes, which may go to another process.
 
-A change of one of the kinds here keeps the steps of the mission, so that losses can be compared, and costs little more than the library's
-call. `Changed` takes any function of the mission, and `Replaced` any of a setup and a forecast.
-"""
+`Mission.changed` makes the mission of some changes, and planning it anew is what a study answers for them. `Changed`
+takes any function of the mission, and `Replaced`, after all other changes, any of a setup and a forecast. """
 
 from __future__ import annotations
 
@@ -13,16 +12,34 @@ from fractions import Fraction
 from itertools import product
 from typing import TYPE_CHECKING, Any, Union
 
-from ._base import Base, sized_setup
-from ._timeline import problem_of
-from ._units import Number, RateLike, VolumeLike, fault, number_of, rate_of, span_of, volume_of
+from ._flows import use_of
+from ._units import Number, RateLike, Volume, VolumeLike, fault, number_of, rate_of, span_of, volume_of
 from .forecasts import Forecast
-from .setups import Setup
+from ._parts import Pass, remade
+from .mission import Mission, tested
+from .setups import Setup, Store
 
 if TYPE_CHECKING:
-    from .mission import Mission, Pass
+    from ._units import Rate
 
 Texts = tuple[Setup, Forecast]
+FACTOR = "a factor of 0 or more"
+
+
+def _known(name: str, mission: Mission, first: Mission) -> bool:
+    """Whether there is a pass of this name; one that an earlier change has lost is passed over. Raises `MissionError`
+    where there never was one."""
+    if any(one.name == name for one in mission.passes):
+        return True
+    first.the_pass(name)
+    return False
+
+
+def _store_named(name: str, stores: Iterable[str]) -> None:
+    """Raises `MissionError` where there is no such store."""
+    names = list(stores)
+    if name not in names:
+        raise fault("", f"the store {name!r}", f"one of the stores {', '.join(names)}")
 
 
 @dataclass(frozen=True)
@@ -31,9 +48,9 @@ class Lost:
 
     passes: tuple[str, ...]
 
-    def of(self, base: Base, setup: Setup, forecast: Forecast) -> Texts:
-        """The setup and the forecast that this makes of others of the base."""
-        return base.without(setup, forecast, dict.fromkeys(self.passes))
+    def of(self, mission: Mission, first: Mission) -> Mission:
+        """The mission that this makes of another one, which was `first` before any change."""
+        return mission.without(*[name for name in dict.fromkeys(self.passes) if _known(name, mission, first)])
 
 
 @dataclass(frozen=True)
@@ -44,59 +61,106 @@ class Shortened:
     late: timedelta | float = 0
     early: timedelta | float = 0
 
-    def of(self, base: Base, setup: Setup, forecast: Forecast) -> Texts:
-        """The setup and the forecast that this makes of others of the base."""
-        mission = base.mission_of("a pass that is shortened")
-        late, early = (span_of(given, f"pass {self.one}") if given else timedelta(0) for given in (self.late, self.early))
+    def of(self, mission: Mission, first: Mission) -> Mission:
+        """The mission that this makes of another one, which was `first` before any change."""
+        late, early = (
+            span_of(given, f"pass {self.one}") if given else timedelta(0) for given in (self.late, self.early)
+        )
+        if not _known(self.one, mission, first):
+            return mission
         one = mission.the_pass(self.one)
-        if one.begin + late >= one.end - early:
-            return base.without(setup, forecast, {self.one: None})
-        return base.without(setup, forecast, {self.one: replace(one, begin=one.begin + late, end=one.end - early)})
+        begin, end = one.begin + late, one.end - early
+        if begin >= end or begin >= mission.end or end <= mission.begin:
+            return mission.without(self.one)
+        return _with_passes(mission, {self.one: remade(one, begin=begin, end=end)})
 
 
 @dataclass(frozen=True)
 class Rated:
-    """The passes of these names, or of these stations, or all, have another rate, or one that is this many times theirs; those of their channels
-    go with it."""
+    """The passes of these names, or of these stations, or all, have another rate, or one that is this many times
+    theirs; those of their channels go with it."""
 
     rate: RateLike | None = None
     factor: Number | None = None
     of_passes: tuple[str, ...] = ()
 
-    def of(self, base: Base, setup: Setup, forecast: Forecast) -> Texts:
-        """The setup and the forecast that this makes of others of the base."""
-        mission = base.mission_of("another rate")
-        meant = [one for one in mission.passes if not self.of_passes or one.name in self.of_passes or one.station in self.of_passes]
+    def of(self, mission: Mission, first: Mission) -> Mission:
+        """The mission that this makes of another one, which was `first` before any change."""
+        if (self.rate is None) == (self.factor is None):
+            raise fault(
+                "rated",
+                "a rate and a factor" if self.factor is not None else "no rate and no factor",
+                "one of rate and factor",
+            )
         for name in self.of_passes:
-            if not any(name in (one.name, one.station) for one in meant):
+            if not any(name in (one.name, one.station) for one in first.passes):
                 raise fault("", f"the pass {name!r}", "the name of a pass or of a station")
-        changed: dict[str, Pass | None] = {}
-        for one in meant:
-            rate, channels = mission.rates(one)
-            factor = Fraction(1) if self.factor is None else number_of(self.factor, "factor", "a factor of 0 or more")
-            if factor == 0:
-                changed[one.name] = None
-                continue
-            made = rate.times(factor) if self.rate is None else rate_of(self.rate, "rate")
-            changed[one.name] = replace(one, rate=made, channels={channel: each.times(factor) for channel, each in channels.items()})
-        return base.without(setup, forecast, changed)
+        meant = [
+            one
+            for one in mission.passes
+            if not self.of_passes or one.name in self.of_passes or one.station in self.of_passes
+        ]
+        rates = {one.name: self._rates(mission, one) for one in meant}
+        gone = [name for name, (rate, _) in rates.items() if not rate.amount]
+        made = {
+            one.name: remade(one, rate=rates[one.name][0], channels=rates[one.name][1])
+            for one in meant
+            if one.name not in gone
+        }
+        return _with_passes(mission, made).without(*gone)
+
+    def _rates(self, mission: Mission, one: Pass) -> tuple[Rate, dict[int, Rate]]:
+        """The rate of a pass, and those of its channels."""
+        rate, channels = mission.rates(one)
+        if self.rate is None:
+            factor = number_of(self.factor, "factor", FACTOR)
+            made = rate.times(factor)
+        else:
+            made = rate_of(self.rate, "rate")
+            now = use_of(mission, one).octets
+            if channels and not now:
+                raise fault(
+                    "rate", f"the pass {one.name}, whose rate is 0", "a pass with a rate, where its channels have some"
+                )
+            factor = use_of(mission, remade(one, rate=made)).octets / now if channels else Fraction(1)
+        return made, {channel: each.times(factor) for channel, each in channels.items()}
 
 
 @dataclass(frozen=True)
 class Scaled:
-    """What arrives is this many times as much, in the stores that are named or in all; it rises to whole blocks."""
+    """What arrives is this many times as much, in the stores that are named or in all."""
 
     factor: Number
     stores: tuple[str, ...] = ()
 
-    def of(self, base: Base, setup: Setup, forecast: Forecast) -> Texts:
-        """The setup and the forecast that this makes of others of the base."""
-        factor = number_of(self.factor, "factor", "a factor of 0 or more")
-        names = self.stores or tuple([store.id for store in setup.stores])
-        strange = [name for name in names if name not in forecast.arrivals]
-        if strange:
-            raise fault("", f"the store {strange[0]!r}", f"one of the stores {', '.join(store.id for store in setup.stores)}")
-        return setup, forecast.with_arrivals({name: base.scaled(name, forecast, factor) for name in names})
+    def of(self, mission: Mission, first: Mission) -> Mission:
+        """The mission that this makes of another one, which was `first` before any change."""
+        factor = number_of(self.factor, "factor", FACTOR)
+        names = self.stores or tuple(store.id for store in mission.stores)
+        for name in names:
+            _store_named(name, (store.id for store in mission.stores))
+        found = []
+        for one in mission.observations:
+            if one.store in names:
+                amounts = {
+                    "rate": one.rate and one.rate.times(factor),
+                    "volume": one.volume and one.volume.times(factor),
+                }
+                one = remade(one, **amounts)
+            found.append(one)
+        return remade(mission, observations=tuple(found))
+
+    def of_texts(self, setup: Setup, forecast: Forecast) -> Texts:
+        """The same of a setup and a forecast: what arrives in each step rises to whole blocks."""
+        factor = number_of(self.factor, "factor", FACTOR)
+        names = self.stores or tuple(store.id for store in setup.stores)
+        for name in names:
+            _store_named(name, (store.id for store in setup.stores))
+        columns = {
+            name: [-(-blocks * factor.numerator // factor.denominator) for blocks in forecast.arrivals[name]]
+            for name in names
+        }
+        return setup, forecast.having(arrivals=columns)
 
 
 @dataclass(frozen=True)
@@ -107,48 +171,74 @@ class Sized:
     size: VolumeLike | None = None
     factor: Number | None = None
 
-    def of(self, base: Base, setup: Setup, forecast: Forecast) -> Texts:
-        """The setup and the forecast that this makes of others of the base."""
-        if self.store not in [store.id for store in setup.stores]:
-            raise fault("", f"the store {self.store!r}", f"one of the stores {', '.join(store.id for store in setup.stores)}")
-        made = [replace(store, size=self._blocks(base, store.size)) if store.id == self.store else store for store in setup.stores]
-        return sized_setup(setup, made), forecast
+    def of(self, mission: Mission, first: Mission) -> Mission:
+        """The mission that this makes of another one, which was `first` before any change."""
+        _store_named(self.store, (store.id for store in mission.stores))
+        stores = tuple(
+            remade(store, size=self.sized(store.size), place=f"size, store {store.id}")
+            if store.id == self.store
+            else store
+            for store in mission.stores
+        )
+        return tested(remade(mission, stores=stores))
 
-    def _blocks(self, base: Base, now: int) -> int:
-        if self.size is not None:
-            return int(volume_of(self.size, "size").blocks(base.block))
-        return int(now * number_of(1 if self.factor is None else self.factor, "factor", "a factor of 0 or more"))
+    def sized(self, size: Any) -> Any:
+        """The volume that is made of that of a store."""
+        if (self.size is None) == (self.factor is None):
+            raise fault(
+                "sized",
+                "no size and no factor" if self.size is None else "a size and a factor",
+                "one of size and factor",
+            )
+        return (
+            volume_of(self.size, "size")
+            if self.size is not None
+            else size.times(number_of(self.factor, "factor", FACTOR))
+        )
+
+    def of_texts(self, setup: Setup, forecast: Forecast) -> Texts:
+        """The same of a setup and a forecast, whose blocks have 1,024 octets."""
+        _store_named(self.store, (store.id for store in setup.stores))
+        return (
+            replace(
+                setup, stores=tuple(self._block(store) if store.id == self.store else store for store in setup.stores)
+            ),
+            forecast,
+        )
+
+    def _block(self, store: Store) -> Store:
+        return replace(store, size=int(self.sized(Volume(Fraction(store.size), True)).blocks(1024)))
 
 
 @dataclass(frozen=True)
 class Changed:
-    """Any function of the mission, which gives another one. Its steps are its own, and it comes before changes of the other kinds."""
+    """Any function of the mission, which gives another one."""
 
     function: Callable[[Mission], Mission]
 
-    def base_of(self, base: Base) -> Base:
-        """The base of the other mission."""
-        mission = self.function(base.mission_of("a function of the mission"))
-        problem = problem_of(mission)
-        return Base(problem.setup, problem.forecast, mission, problem.edges)
-
-    def of(self, base: Base, setup: Setup, forecast: Forecast) -> Texts:
-        """Refused: it comes too late."""
-        raise fault("", "a function of the mission after another change", "such a function first")
+    def of(self, mission: Mission, first: Mission) -> Mission:
+        """The mission that this makes of another one, which was `first` before any change."""
+        made = self.function(mission)
+        if not isinstance(made, Mission):
+            raise fault("", made, "a function that gives a mission")
+        return made
 
 
 @dataclass(frozen=True)
 class Replaced:
-    """Any function of a setup and a forecast, which gives others."""
+    """Any function of a setup and a forecast, which gives others. It comes after all changes of a mission."""
 
     function: Callable[[Setup, Forecast], Texts]
 
-    def of(self, base: Base, setup: Setup, forecast: Forecast) -> Texts:
-        """The setup and the forecast that this makes of others of the base."""
+    def of_texts(self, setup: Setup, forecast: Forecast) -> Texts:
+        """The setup and the forecast that this makes of others."""
         return self.function(setup, forecast)
 
 
 Change = Union[Lost, Shortened, Rated, Scaled, Sized, Changed, Replaced]
+KINDS = (Lost, Shortened, Rated, Scaled, Sized, Changed, Replaced)
+# What is taken as changes: one, several, or a function of the mission.
+ChangesLike = Union[Change, Callable[[Mission], Mission], Iterable[Any]]
 
 
 @dataclass(frozen=True)
@@ -185,8 +275,9 @@ def sized(store: str, size: VolumeLike | None = None, factor: Number | None = No
 
 
 def rated(rate: RateLike | None = None, factor: Number | None = None, of: Iterable[str] = ()) -> Rated:
-    """These passes, or all of a station, or all, have this rate, or one this many times as high."""
-    return Rated(rate, factor, tuple(of))
+    """These passes, or all of a station, or all, have this rate, or one this many times as high; those of their
+    channels go with it."""
+    return Rated(rate, factor, (of,) if isinstance(of, str) else tuple(of))
 
 
 def each_pass_lost(mission: Mission) -> Iterator[Variant]:
@@ -196,31 +287,88 @@ def each_pass_lost(mission: Mission) -> Iterator[Variant]:
 
 def each_store_sized(mission: Mission, factor: Number) -> Iterator[Variant]:
     """A variant for each store, whose size is this many times its own."""
-    return (Variant(f"{store.id} x {factor}", (Sized(store.id, factor=factor),), {"store": store.id}) for store in mission.stores)
+    return (
+        Variant(f"{store.id} x {factor}", (Sized(store.id, factor=factor),), {"store": store.id})
+        for store in mission.stores
+    )
 
 
 def grid(**axes: Mapping[Any, Any] | tuple[Callable[[Any], Any], Iterable[Any]]) -> Iterator[Variant]:
-    """Each combination of the values of some parameters. A parameter has its values with their changes, or a function that makes a change of a
-    value, and the values: `grid(arrivals=(scaled, [1, 1.1, 1.2]), size=(lambda mb: sized("CAM", f"{mb} MB"), range(100, 400, 50)))`."""
+    """Each combination of the values of some parameters. A parameter has its values with their changes, or a function
+    that makes a change of a value, and the values: `grid(arrivals=(scaled, [1, 1.1, 1.2]), size=(lambda mb:
+    sized("CAM", f"{mb} MB"), range(100, 400, 50)))`. """
     names = list(axes)
-    values = [list(axis.items()) if isinstance(axis, Mapping) else [(value, axis[0](value)) for value in axis[1]] for axis in axes.values()]
+    values = [
+        list(axis.items()) if isinstance(axis, Mapping) else [(value, axis[0](value)) for value in axis[1]]
+        for axis in axes.values()
+    ]
     for chosen in product(*values):
         given = {name: value for name, (value, _) in zip(names, chosen)}
-        changes = tuple(each for _, change in chosen for each in _changes(change))
+        changes = tuple(each for _, change in chosen for each in changes_of(change))
         yield Variant(", ".join(f"{name} {value}" for name, value in given.items()), changes, given)
 
 
 def variants_of(given: Any) -> Iterator[Variant]:
-    """The variants that are given: by their names, each with a change or several, or a function of the mission; or as they are."""
+    """The variants that are given: by their names, each with a change or several, or a function of the mission; or as
+    they are."""
     if isinstance(given, Mapping):
-        return (Variant(str(name), _changes(change)) for name, change in given.items())
-    return (variant if isinstance(variant, Variant) else Variant(str(variant[0]), _changes(variant[1])) for variant in given)
+        return (Variant(str(name), changes_of(change)) for name, change in given.items())
+    return (
+        variant if isinstance(variant, Variant) else Variant(str(variant[0]), changes_of(variant[1]))
+        for variant in given
+    )
 
 
-def _changes(given: Any) -> tuple[Change, ...]:
+def changes_of(given: Any) -> tuple[Change, ...]:
     """The changes that are given: one, or several, or a function of the mission."""
-    if isinstance(given, (Lost, Shortened, Rated, Scaled, Sized, Changed, Replaced)):
+    if isinstance(given, KINDS):
         return (given,)
     if callable(given):
         return (Changed(given),)
-    return tuple(each for change in given for each in _changes(change))
+    if isinstance(given, (str, bytes)) or not hasattr(given, "__iter__"):
+        raise fault("", given, "changes, as lost(..) and scaled(..), or a function of the mission")
+    return tuple(each for change in given for each in changes_of(change))
+
+
+def changed(mission: Mission, given: ChangesLike) -> Mission:
+    """The mission with these changes, one after the other."""
+    first = made = mission.kept
+    for change in changes_of(given):
+        if isinstance(change, Replaced):
+            raise fault(
+                "",
+                "a function of a setup and a forecast",
+                "changes of the mission; such a function comes after all of them, in a study",
+            )
+        made = change.of(made, first)
+    return made
+
+
+def texts_changed(setup: Setup, forecast: Forecast, changes: Iterable[Change]) -> Texts:
+    """A setup and a forecast with these changes, one after the other."""
+    for change in changes:
+        if isinstance(change, (Scaled, Sized, Replaced)):
+            setup, forecast = change.of_texts(setup, forecast)
+        else:
+            raise fault("", f"{type(change).__name__} of a setup and a forecast", "a study of a mission")
+    return setup, forecast
+
+
+def split(changes: tuple[Change, ...]) -> tuple[tuple[Change, ...], tuple[Replaced, ...]]:
+    """The changes of a mission, and the functions of its setup and forecast that come after them. Raises `MissionError`
+    where a change of the mission comes after such a function."""
+    first = next((place for place, change in enumerate(changes) if isinstance(change, Replaced)), len(changes))
+    last = tuple(change for change in changes[first:] if isinstance(change, Replaced))
+    if len(last) < len(changes) - first:
+        raise fault(
+            "",
+            "a change of the mission after a function of a setup and a forecast",
+            "such functions after all other changes",
+        )
+    return changes[:first], last
+
+
+def _with_passes(mission: Mission, others: Mapping[str, Pass]) -> Mission:
+    """The mission with others in the place of passes with these names, in the order of their time."""
+    passes = sorted((others.get(one.name, one) for one in mission.passes), key=lambda one: (one.begin, one.end))
+    return remade(mission, passes=tuple(passes))

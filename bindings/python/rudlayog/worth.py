@@ -1,20 +1,19 @@
-"""What each window, size and limit of a mission is worth, as the library's sensitivity says it, with the time of each step."""
+"""What each window, size and limit of a mission is worth, as the library's sensitivity says it, with the time of each
+step."""
 
 from __future__ import annotations
 
-import csv
-import io
 import os
 from collections.abc import Callable
 from dataclasses import asdict, dataclass
 from datetime import timedelta
-from html import escape
 from pathlib import Path
 from typing import TYPE_CHECKING, Any, TypeVar
 
 import rudlayog
 
-from ._units import fault, written
+from ._tables import csv_of, html_of
+from ._units import fault
 
 if TYPE_CHECKING:
     from ._timeline import Problem
@@ -25,13 +24,17 @@ Made = TypeVar("Made")
 COLUMNS = ("item", "name", "step", "begin", "end", "now", "next", "most", "without")
 
 
-@dataclass(frozen=True)
+@dataclass(frozen=True, repr=False)
 class Sensitivity:
-    """A row for each window, size and limit: `item`, `name`, `step`, `begin` and `end` of the step, and in blocks its value `now`, how many fewer
-    are lost if it is one larger (`next`) or as large as can be (`most`), and how many more `without` it."""
+    """A row for each window, size and limit: `item`, `name`, `step`, `begin` and `end` of the step, and in blocks its
+    value `now`, how many fewer are lost if it is one larger (`next`) or as large as can be (`most`), and how many more
+    `without` it."""
 
     rows: tuple[dict[str, Any], ...]
     problem: Problem
+
+    def __repr__(self) -> str:
+        return f"<Sensitivity of {len(self.rows)} windows, sizes and limits in {len(self.problem)} steps>"
 
     @classmethod
     def of(cls, mission: Mission, step: timedelta | float | None = None) -> Sensitivity:
@@ -39,7 +42,7 @@ class Sensitivity:
         call: Callable[..., Any] | None = getattr(rudlayog, "sensitivity", None)
         if call is None:
             raise fault("", f"library {rudlayog.version()}, which has no sensitivity", "one that has it")
-        problem = mission.problem(step)
+        problem = mission.problem(step).shown()
         found = []
         for worth in call(problem.setup, problem.forecast):
             row = asdict(worth)
@@ -57,12 +60,7 @@ class Sensitivity:
 
     def text(self) -> str:
         """The table as comma separated values."""
-        lines = io.StringIO()
-        writer = csv.writer(lines, lineterminator="\n")
-        writer.writerow(COLUMNS)
-        for row in self.rows:
-            writer.writerow(written(cell) if hasattr(cell, "tzinfo") else "" if cell is None else cell for cell in row.values())
-        return lines.getvalue()
+        return csv_of(COLUMNS, (row.values() for row in self.rows))
 
     def save(self, path: str | os.PathLike[str]) -> None:
         """Writes the table into a file."""
@@ -72,11 +70,14 @@ class Sensitivity:
         """A picture of the windows: how many blocks fewer are lost where one is as wide as can be, over the time."""
         from .pictures import windows_picture
 
-        return windows_picture([(row["begin"], row["end"], row["most"]) for row in self.rows if row["item"] == "window"], self.problem.times)
+        return windows_picture(
+            [(row["begin"], row["end"], row["most"]) for row in self.rows if row["item"] == "window"],
+            self.problem.times,
+        )
 
     def _repr_html_(self) -> str:
         """What is worth anything, the most first."""
-        shown = sorted((row for row in self.rows if row["most"] or row["without"]), key=lambda row: (-row["most"], -row["without"]))[:40]
-        head = "".join(f"<th>{name}</th>" for name in COLUMNS)
-        cells = ["".join(f"<td>{escape(str('' if cell is None else cell))}</td>" for cell in row.values()) for row in shown]
-        return f"<table><thead><tr>{head}</tr></thead><tbody>" + "".join(f"<tr>{row}</tr>" for row in cells) + "</tbody></table>"
+        shown = sorted(
+            (row for row in self.rows if row["most"] or row["without"]), key=lambda row: (-row["most"], -row["without"])
+        )[:40]
+        return html_of({name: [row[name] for row in shown] for name in COLUMNS})

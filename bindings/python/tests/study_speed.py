@@ -1,21 +1,24 @@
 #!/usr/bin/env python3
 """Measures what a variant of a study takes. On one thread it is compared with the call in C, whose texts and buffer are
-there already: each of many variants is answered once in a round, after the others, and the least time of some rounds counts. Then threads for
-all processors work at once, beside as many that make C calls alone: on a busy machine both get the same share of it. Then as many processes.
-And scipy's linprog (HiGHS) solves the same problem, where it is installed. Prints a line for each."""
+there already: each of many variants is answered once in a round, after the others, and the least time of some rounds
+counts. Then threads for all processors work at once, beside as many that make C calls alone: on a busy machine both get
+the same share of it. Then as many processes. And scipy's linprog (HiGHS) solves the same problem, where it is
+installed. Prints a line for each."""
 
 import os
 import sys
 import time
 from concurrent.futures import ProcessPoolExecutor, ThreadPoolExecutor
+from dataclasses import replace
 from itertools import combinations
 from pathlib import Path
 
 sys.path.insert(0, str(Path(__file__).resolve().parents[1]))
 sys.path.insert(0, str(Path(__file__).resolve().parent))
-from rudlayog import study as studies  # noqa: E402
-from rudlayog.mission import Mission  # noqa: E402
-from rudlayog.study import Task, Variant, answer_of, each_pass_lost, each_store_sized, lost, scaled, study  # noqa: E402
+from rudlayog._answering import Task  # noqa: E402
+from rudlayog._base import Base  # noqa: E402
+from rudlayog.mission import Mission, Pass, Station  # noqa: E402
+from rudlayog.study import Variant, answer_of, each_pass_lost, each_store_sized, grid, lost, scaled, study  # noqa: E402
 from what_if import c_call  # noqa: E402
 
 EXAMPLE = Path(__file__).resolve().parents[3] / "examples" / "mars_week" / "mission.toml"
@@ -24,18 +27,17 @@ ROUNDS = 5
 
 
 def texts_of(base, variant):
-    """The texts of a variant."""
-    setup, forecast = base.setup, base.forecast
-    for change in variant.changes:
-        setup, forecast = change.of(base, setup, forecast)
-    return bytes(setup), bytes(forecast)
+    """The texts of a variant, with all steps of the mission."""
+    return tuple(map(bytes, base.mission.changed(variant.changes).problem()))
 
 
 def times_of(base, variants):
-    """What a variant takes without and with its losses by store, and what the C call takes: the mean of the least processor times, in
-    microseconds."""
+    """What a variant takes without and with its losses by store, and what the C call takes: the mean of the least
+    processor times, in microseconds."""
     alone, whole = Task(base, by_store=False), Task(base)
-    calls = [(lambda v=v: answer_of(alone, v), lambda v=v: answer_of(whole, v), c_call(*texts_of(base, v))) for v in variants]
+    calls = [
+        (lambda v=v: answer_of(alone, v), lambda v=v: answer_of(whole, v), c_call(*texts_of(base, v))) for v in variants
+    ]
     least = [[float("inf")] * 3 for _ in calls]
     for _ in range(ROUNDS):
         for times, kinds in zip(least, calls):
@@ -56,8 +58,8 @@ def a_second(work, workers):
 
 
 def gains(mission, base, workers):
-    """How many times as many variants, without and with the losses by store, and C calls that many threads answer as one does. They take turns,
-    and the greatest gain counts."""
+    """How many times as many variants, without and with the losses by store, and C calls that many threads answer as
+    one does. They take turns, and the greatest gain counts."""
     kinds = list(each_pass_lost(mission)) * 16
     texts = [texts_of(base, variant) for variant in kinds[:14]]
 
@@ -92,51 +94,90 @@ def in_processes(mission, workers):
 
 
 def linprog_time(setup, forecast):
-    """What scipy takes for the same problem, and the loss that it finds: a volume, a dump and a loss for each store and step."""
+    """What scipy takes for the same problem, and the loss that it finds."""
     try:
-        from scipy.optimize import linprog
-        from scipy.sparse import lil_matrix
+        from least import least_blocks
     except ImportError:
         return None
-    steps, stores = len(forecast.windows), setup.stores
-    limits = forecast.limits
-    count = len(stores) * steps
-
-    def at(kind, place, step):
-        return kind * count + place * steps + step
-
-    # what is held before and arrives is lost, dumped or held; what is held and dumped is at most the size
-    equal, right = lil_matrix((count, 3 * count)), []
-    rooms, most = lil_matrix((count + steps * (1 + len(limits)), 3 * count)), []
-    for place, store in enumerate(stores):
-        for step in range(steps):
-            row = place * steps + step
-            for kind in range(3):
-                equal[row, at(kind, place, step)] = 1
-            if step:
-                equal[row, at(2, place, step - 1)] = -1
-            right.append(forecast.arrivals[store.id][step] + (0 if step else store.start))
-            rooms[row, at(1, place, step)] = rooms[row, at(2, place, step)] = 1
-            most.append(store.size)
-    for number, (channel, column) in enumerate([(None, forecast.windows), *((int(name[6:]), column) for name, column in limits.items())]):
-        for step in range(steps):
-            for place, store in enumerate(stores):
-                if channel in (None, store.channel):
-                    rooms[count + number * steps + step, at(1, place, step)] = 1
-            most.append(column[step])
     begin = time.perf_counter()
-    found = linprog([1] * count + [0] * 2 * count, A_ub=rooms.tocsr(), b_ub=most, A_eq=equal.tocsr(), b_eq=right, method="highs")
-    return time.perf_counter() - begin, round(found.fun)
+    found = least_blocks(setup, forecast)
+    return time.perf_counter() - begin, round(found)
+
+
+def overlapping(mission):
+    """The mission with a third station, of which each second pass overlaps one over another station."""
+    more = [
+        Pass(
+            "Cebreros",
+            one.begin + (one.end - one.begin) / 2,
+            one.end + (one.end - one.begin) / 3,
+            "90 kbit/s",
+            {1: "50 kbit/s"},
+        )
+        for one in mission.passes[::2]
+    ]
+    return replace(
+        mission, passes=(*mission.passes, *more), stations=(*mission.stations, Station("Cebreros")), overlap="both"
+    )
+
+
+def variants_for(mission):
+    """2,000 variants of passes lost and arrivals scaled: a pass or two lost beside some factor, and arrivals scaled
+    alone."""
+    names = [one.name for one in mission.passes]
+    pairs = [*((name,) for name in names), *combinations(names, 2)][:100]
+    axes = {
+        "lost": {" and ".join(pair): lost(*pair) for pair in pairs},
+        "arrivals": (scaled, [0.9 + k / 50 for k in range(15)]),
+    }
+    return [*grid(**axes), *(Variant(f"x {k}", (scaled(0.5 + k / 1000),)) for k in range(500))]
+
+
+def rate_of(mission, pool, clock):
+    """How many of 2,000 variants are answered in a second of this clock."""
+    variants = variants_for(mission)
+    study(mission, variants[:200], executor=pool, progress=False)
+    begin = clock()
+    found = study(mission, variants, executor=pool, progress=False)
+    seconds = clock() - begin
+    assert len(found) == len(variants) == 2000 and not any(answer.refused for answer in found)
+    return len(variants) / seconds
+
+
+def print_rates(mission, base):
+    """Variants a second of a processor, in one thread, and as many C calls; and by the clock on the wall in one thread
+    and in four processes, which says something on a quiet machine alone."""
+    kinds = (("mars_week", mission), ("with passes that overlap", overlapping(mission)))
+    with ThreadPoolExecutor(1) as pool:
+        told = ", ".join(
+            f"{name} {max(rate_of(one, pool, time.process_time) for _ in range(3)):.0f}" for name, one in kinds
+        )
+        alone = max(rate_of(mission, pool, time.perf_counter) for _ in range(3))
+    with ProcessPoolExecutor(4) as pool:
+        many = max(rate_of(mission, pool, time.perf_counter) for _ in range(3))
+    call = c_call(*map(bytes, (base.setup, base.forecast)))
+    begin = time.process_time()
+    for _ in range(1000):
+        call()
+    in_c = 1000 / (time.process_time() - begin)
+    print(
+        f"study: 2000 variants of passes lost and arrivals scaled, variants a second of a processor: {told}; C calls "
+        f"{in_c:.0f}; by the clock on the wall {alone:.0f}, in four processes {many:.0f}, {many / alone:.2f} times as "
+        f"many; "
+        f"load {os.getloadavg()[0]:.1f}"
+    )
 
 
 def main():
     """The program."""
     mission = Mission.read(EXAMPLE)
-    base = studies._base(mission)
+    base = Base.of_mission(mission)
     names = [one.name for one in mission.passes]
     kinds = {
         "two passes lost": [Variant("", (lost(*pair),)) for pair in combinations(names, 2)][::2],
-        "arrivals of one store scaled": [Variant("", (scaled(k / 100, store.id),)) for k in range(97, 104) for store in mission.stores],
+        "arrivals of one store scaled": [
+            Variant("", (scaled(k / 100, store.id),)) for k in range(97, 104) for store in mission.stores
+        ],
         "a store larger": [variant for k in range(101, 108) for variant in each_store_sized(mission, k / 100)],
     }
     for kind, variants in kinds.items():
@@ -145,19 +186,28 @@ def main():
             f"study: {kind}: {in_python:.0f} us in Python, {in_c:.0f} us in C, {in_python / in_c:.2f} times; "
             f"with the losses by store {by_store:.0f} us, {by_store / in_c:.2f} times"
         )
+    print_rates(mission, base)
     workers = os.cpu_count() or 1
     (one, many), (one_by_store, many_by_store), (one_in_c, many_in_c) = gains(mission, base, workers)
     print(
-        f"study: in {workers} threads {many / one:.2f} times as many variants a second as in one, {many_by_store / one_by_store:.2f} times with "
-        f"the losses by store; C calls alone {many_in_c / one_in_c:.2f} times; in one thread {one:.0f}, {one_by_store:.0f} and {one_in_c:.0f}"
+        f"study: in {workers} threads {many / one:.2f} times as many variants a second as in one, "
+        f"{many_by_store / one_by_store:.2f} times with "
+        f"the losses by store; C calls alone {many_in_c / one_in_c:.2f} times; in one thread {one:.0f}, "
+        f"{one_by_store:.0f} and {one_in_c:.0f}"
     )
-    print(f"study: in {workers} processes {in_processes(mission, workers):.2f} times as many variants a second as in one thread")
+    print(
+        f"study: in {workers} processes {in_processes(mission, workers):.2f} times as many variants a second as in "
+        f"one thread"
+    )
     found = linprog_time(base.setup, base.forecast)
     if found is None:
         print("study: linprog is passed over: no scipy")
     else:
         answer = answer_of(Task(base), Variant("as it is"))
-        print(f"study: linprog takes {found[0] * 1e3:.0f} ms for the same problem, and finds {found[1]}; the plan loses {answer.loss}")
+        print(
+            f"study: linprog takes {found[0] * 1e3:.0f} ms for the same problem, and finds {found[1]}; the plan loses "
+            f"{answer.loss}"
+        )
 
 
 if __name__ == "__main__":

@@ -18,6 +18,7 @@ from pathlib import Path
 import rudlayog
 from interrupting import interrupted_by
 from rudlayog import Cut, Forecast, Plan, Refusal, Replies, Setup, Store, Stretch, Worth, _library, ask, chart, check, plan, read, sensitivity, table
+from rudlayog.memory import STORE_KINDS
 
 EXAMPLES = Path(__file__).resolve().parents[3] / "examples"
 FIRST = EXAMPLES / "first_run"
@@ -195,10 +196,10 @@ class Refusing(unittest.TestCase):
             self.assertEqual((refusal.found, str(refusal)), (found, f"{refusal.words()}; found {found}"))
 
     def test_words_of_every_refusal(self):
-        for number in range(54):
+        for number in range(55):
             words = _library.told(_library.rudlayog_words, _library.RefusedAt(number=number)).decode()
             self.assertTrue(words.startswith(f"{number} "), words)
-        self.assertEqual(_library.told(_library.rudlayog_words, _library.RefusedAt(number=54)), b"")
+        self.assertEqual(_library.told(_library.rudlayog_words, _library.RefusedAt(number=55)), b"")
         self.assertEqual(_library.told(_library.rudlayog_words, _library.RefusedAt(number=1, place=6)), b"")
         self.assertEqual(_library.told(_library.rudlayog_words, _library.RefusedAt(number=1, place=5, name=20)), b"")
 
@@ -292,9 +293,11 @@ class Buffers(unittest.TestCase):
             self.assertEqual(getattr(_library, name), told[name], name)
         for name in ("NO_MEMORY", "SHORT", "HEADER", "STEP_NUMBER", "PLAN_TEXT", "HEX_LINE"):
             self.assertEqual(getattr(_library, name), told[f"REFUSAL_{name}"], name)
+        self.assertEqual(_library.LEAST, (told["LEAST"], told["LEAST_IN_ORDER"]))
+        self.assertEqual([told["CIRCULAR"], told["BOUNDED"]], [STORE_KINDS.index("circular"), STORE_KINDS.index("bounded")])
         # The room for words does for each refusal, at any place.
         far = {"row": 2**32 - 1, "column": 2**32 - 1, "line": 2**64 - 1}
-        for number in range(54):
+        for number in range(55):
             for place in range(6):
                 refused = _library.RefusedAt(number=number, place=place, name=6, **far)
                 self.assertLessEqual(len(_library.told(_library.rudlayog_words, refused)), told["WORDS_ROOM"])

@@ -176,7 +176,7 @@ class Missions(unittest.TestCase):
         for number in range(5):
             mission = made_mission(number)
             made = mission.plan(in_order=True)
-            self.assertEqual(made.loss, mission.plan().loss)
+            self.assertEqual(made.plan.loss, mission.plan().plan.loss)
             self.assertEqual([verdict.kind for verdict in made.check()], ["least in order"])
             self.assertEqual([verdict.kind for verdict in mission.plan(horizon=400, in_order=True).check() if verdict.kind != "least in order"], [])
 
@@ -185,10 +185,12 @@ class Missions(unittest.TestCase):
             mission = made_mission(number, apart=True)
             variants = [*each_pass_lost(mission), Variant("more", (scaled(2),))]
             in_order, free = study(mission, variants, in_order=True), study(mission, variants)
-            self.assertEqual([answer.loss for answer in in_order], [answer.loss for answer in free])
+            # in the units of the problem: where packets differ in length, packets say less
+            self.assertEqual([answer.cut.bound for answer in in_order], [answer.cut.bound for answer in free])
             self.assertTrue(all(answer.is_least and sum(answer.by_store) == answer.loss for answer in in_order))
             problem = mission.problem()
-            self.assertEqual(dict(zip(in_order.stores, in_order.base.by_store)), lost_by(problem.setup, problem.forecast, mission.plan(in_order=True).plan))
+            units = lost_by(problem.setup, problem.forecast, mission.plan(in_order=True).plan)
+            self.assertEqual(dict(zip(in_order.stores, in_order.base.by_store)), {store: count * problem.unit.packets[store] for store, count in units.items()})
 
     def test_the_command(self):
         with tempfile.TemporaryDirectory() as room:

@@ -75,10 +75,10 @@ class Memories(unittest.TestCase):
     def test_a_bound_on_the_reports_that_wait(self):
         one = name("SCI")
         with Memory(SETUP, most_waiting=2) as memory:
-            self.assertEqual(self.refused(memory.apply, 1, telecommand(5, one, one, one)), "NoMemory")
+            self.assertEqual(self.refused(memory.apply, 1, telecommand(5, one, one, one)), "TooManyReports")
             self.assertEqual(memory.apply(1, telecommand(5, one, one)), (None, None))
             for request in (telecommand(5, one), telecommand(12, one), telecommand(18), telecommand(22)):
-                self.assertEqual(self.refused(memory.apply, 1, request), "NoMemory")
+                self.assertEqual(self.refused(memory.apply, 1, request), "TooManyReports")
             # A request that has no report is carried out.
             self.assertEqual(memory.apply(1, telecommand(2, one)), (None,))
             self.assertFalse(memory.state("SCI").storage)
@@ -88,7 +88,7 @@ class Memories(unittest.TestCase):
             self.assertEqual(memory.apply(1, telecommand(12, one, one)), (None, None))
             self.assertEqual([packet[3] for packet in [first, *memory.reports()]], [0, 1, 2])
         with Memory(SETUP, most_waiting=0) as memory:
-            self.assertEqual(self.refused(memory.apply, 1, telecommand(18)), "NoMemory")
+            self.assertEqual(self.refused(memory.apply, 1, telecommand(18)), "TooManyReports")
             self.assertEqual(memory.apply(1, telecommand(2, one)), (None,))
         with Memory(SETUP) as memory:
             self.assertEqual(memory.apply(1, telecommand(5, one, one, one)), (None, None, None))

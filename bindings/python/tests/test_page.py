@@ -41,6 +41,13 @@ class Pages(unittest.TestCase):
         self.assertEqual((said["begins"], said["minutes"], said["stations"]), ("2026-11-27 06:00", 10, {"1": "Kiruna"}))
         self.assertNotIn("given", said)
 
+    def test_a_begin_keeps_its_seconds(self) -> None:
+        begins = datetime(2026, 11, 27, 6, 0, tzinfo=timezone.utc)
+        for more, text in ((timedelta(0), "06:00"), (timedelta(seconds=30), "06:00:30"),
+            (timedelta(milliseconds=250), "06:00:00.250000")):
+            said = self.session(page(SETUP, FORECAST, begins=begins + more))
+            self.assertEqual(said["begins"], f"2026-11-27 {text}")
+
     def test_data_a_plan_and_a_text_that_would_end_the_element(self) -> None:
         setup = Setup.of([Store("SCI", size=4)])
         document = page(setup, {"window": [2], "SCI": [3]}, b"mmplan 1</script>\xff\n")
@@ -66,7 +73,8 @@ class Pages(unittest.TestCase):
             file = open_page(EMPTY, self.folder / "mine.html")
             opened.assert_called_once_with(file.as_uri())
             self.assertEqual(file.read_text(), EMPTY)
-        with unittest.mock.patch("webbrowser.open", return_value=False), self.assertRaisesRegex(OSError, "no browser opens"):
+        with unittest.mock.patch("webbrowser.open", return_value=False), self.assertRaisesRegex(
+            OSError, "no browser opens"):
             open_page(EMPTY, self.folder / "mine.html")
 
     def test_the_command(self) -> None:

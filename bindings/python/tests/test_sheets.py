@@ -66,7 +66,7 @@ class Sheets(unittest.TestCase):
                 self.assertAlmostEqual(row.mb, row.blocks * 1000 / 1e6)
         for one in self.mission.passes:
             minutes = sum(row.minutes for row in self.sheet if row.name == one.name)
-            self.assertGreaterEqual(minutes, 0)
+            self.assertLessEqual(minutes, (one.end - one.begin).total_seconds() / 60 + 1e-6)
         self.assertEqual(sum(row.lost for row in self.sheet), self.made.loss)
 
     def test_csv(self):
@@ -76,9 +76,16 @@ class Sheets(unittest.TestCase):
         self.assertEqual(records[0]["begin"], "2031-03-03T03:40:00Z")
 
     def test_markdown(self):
-        lines = self.sheet.markdown().splitlines()
+        table, *words, ages = self.sheet.markdown().split("\n\n")
+        lines = table.splitlines()
         self.assertEqual(len(lines), 2 + 14 * 7)
-        self.assertEqual({line.count("|") for line in lines}, {12})
+        self.assertEqual({line.count("|") for line in lines}, {13})
+        said = " ".join(words)
+        self.assertIn(f"{self.made.loss:,} are lost ({self.made.loss_mb:,.3f} MB)", said)
+        self.assertIn("No plan in these steps loses fewer", said)
+        self.assertIn("may grow by", said)
+        self.assertIn("Rounding to whole packets may cost at most", said)
+        self.assertEqual(len(ages.splitlines()), 2 + 7)
 
     def test_frame(self):
         try:
@@ -91,7 +98,15 @@ class Sheets(unittest.TestCase):
         # a mission of data frames is the mission of the file
         passes = pandas.read_csv(WEEK.parent / "passes.csv", parse_dates=["begin", "end"])
         observations = pandas.read_csv(WEEK.parent / "observations.csv")
-        again = Mission.of(self.mission.stores, passes, observations, self.mission.stations, begin=self.mission.begin, end=self.mission.end, packet=1000)
+        again = Mission.of(
+            self.mission.stores,
+            passes,
+            observations,
+            self.mission.stations,
+            begin=self.mission.begin,
+            end=self.mission.end,
+            packet=1000,
+        )
         self.assertEqual(again.problem().forecast, self.mission.problem().forecast)
 
     def test_page(self):
@@ -99,8 +114,10 @@ class Sheets(unittest.TestCase):
         reader = Balanced()
         reader.feed(page)
         self.assertEqual(reader.open, [])
-        self.assertEqual(reader.tables, 1 + 14)
-        self.assertIn("No plan loses fewer", page)
+        # all passes, each of them, the timeline, and the ages
+        self.assertEqual(reader.tables, 1 + 14 + 2)
+        self.assertIn("No plan in these steps loses fewer", page)
+        self.assertIn("Before more is lost, all that arrives may grow by", page)
         self.assertIn("2031-03-03 03:40", page)
         for one in self.mission.passes:
             self.assertTrue(any(text.startswith(f"{one.name}, ") for text in reader.texts), one.name)
@@ -119,7 +136,9 @@ class Sheets(unittest.TestCase):
         self.assertNotIn("step", words)
         self.assertIn("03-04", words)
         # where a pass begins its window is drawn: the first of them 220 minutes into seven days
-        windows = next(path.get("d") for path in root.iter("{http://www.w3.org/2000/svg}path") if path.get("class") == "p")
+        windows = next(
+            path.get("d") for path in root.iter("{http://www.w3.org/2000/svg}path") if path.get("class") == "p"
+        )
         self.assertAlmostEqual(float(re.match(r"M([\d.]+)", windows)[1]), 180 + 768 * 220 / (7 * 24 * 60), delta=0.02)
 
     def test_charts_of_made_missions(self):
@@ -135,7 +154,15 @@ class Sheets(unittest.TestCase):
         with tempfile.TemporaryDirectory() as room:
             page, drawn = Path(room, "sheet.html"), Path(room, "sheet.pdf")
             self.sheet.save(page)
-            words = ["chromium", "--headless", "--no-sandbox", "--disable-gpu", f"--user-data-dir={room}/profile", f"--print-to-pdf={drawn}", page.as_uri()]
+            words = [
+                "chromium",
+                "--headless",
+                "--no-sandbox",
+                "--disable-gpu",
+                f"--user-data-dir={room}/profile",
+                f"--print-to-pdf={drawn}",
+                page.as_uri(),
+            ]
             subprocess.run(words, check=True, capture_output=True, timeout=120)
             self.assertTrue(drawn.read_bytes().startswith(b"%PDF"))
 
@@ -174,7 +201,14 @@ class Sensitivities(unittest.TestCase):
 
 class Command(unittest.TestCase):
     def run_words(self, *words, status=0, folder=None):
-        ran = subprocess.run([sys.executable, "-B", "-m", "rudlayog", *map(str, words)], capture_output=True, text=True, check=False, env={**os.environ, "PYTHONPATH": str(PACKAGE)}, cwd=folder)
+        ran = subprocess.run(
+            [sys.executable, "-B", "-m", "rudlayog", *map(str, words)],
+            capture_output=True,
+            text=True,
+            check=False,
+            env={**os.environ, "PYTHONPATH": str(PACKAGE)},
+            cwd=folder,
+        )
         self.assertEqual(ran.returncode, status, ran.stderr)
         return ran.stdout, ran.stderr
 
@@ -186,18 +220,38 @@ class Command(unittest.TestCase):
         rows = list(csv.DictReader(io.StringIO(self.run_words(WEEK, "study", "--quiet")[0])))
         self.assertEqual(len(rows), 14)
         self.assertEqual({row["least"] for row in rows}, {"True"})
-        rows = list(csv.DictReader(io.StringIO(self.run_words(WEEK, "study", "--sizes", "1.25", "--arrivals", "0.9", "--arrivals", "1.1", "--rates", "2")[0])))
+        rows = list(
+            csv.DictReader(
+                io.StringIO(
+                    self.run_words(
+                        WEEK, "study", "--sizes", "1.25", "--arrivals", "0.9", "--arrivals", "1.1", "--rates", "2"
+                    )[0]
+                )
+            )
+        )
         self.assertEqual([row["variant"] for row in rows][-3:], ["arrivals x 0.9", "arrivals x 1.1", "rates x 2"])
         self.assertEqual(len(rows), 10)
 
     def test_output(self):
         with tempfile.TemporaryDirectory() as room:
-            for words, name, begin in (((), "a.html", "<!doctype"), (("passes",), "a.csv", "pass,"), (("plan",), "a.txt", "mmplan"), (("plan",), "a.svg", "<svg"), (("study",), "s.svg", "<")):
+            for words, name, begin in (
+                ((), "a.html", "<!doctype"),
+                (("passes",), "a.csv", "pass,"),
+                (("plan",), "a.txt", "mmplan"),
+                (("plan",), "a.svg", "<svg"),
+                (("study",), "s.svg", "<"),
+            ):
                 self.assertEqual(self.run_words(WEEK, *words, "--output", Path(room, name))[0], "")
                 self.assertTrue(Path(room, name).read_text().startswith(begin), name)
-            self.assertEqual(sorted(path.name for path in Path(room).iterdir()), ["a.csv", "a.html", "a.svg", "a.txt", "s.svg"])
+            self.assertEqual(
+                sorted(path.name for path in Path(room).iterdir()), ["a.csv", "a.html", "a.svg", "a.txt", "s.svg"]
+            )
             copy = Path(room, "mission.toml")
-            copy.write_text(WEEK.read_text().replace('"passes.csv"', f'"{WEEK.parent}/passes.csv"').replace('"observations.csv"', f'"{WEEK.parent}/observations.csv"'))
+            copy.write_text(
+                WEEK.read_text()
+                .replace('"passes.csv"', f'"{WEEK.parent}/passes.csv"')
+                .replace('"observations.csv"', f'"{WEEK.parent}/observations.csv"')
+            )
             before = copy.read_text()
             self.run_words(copy, "plan", "--output", copy, status=1)
             self.assertEqual(copy.read_text(), before)
@@ -216,10 +270,13 @@ class Command(unittest.TestCase):
         if not hasattr(rudlayog, "sensitivity"):
             self.assertIn("has no sensitivity", self.run_words(WEEK, "sensitivity", status=1)[1])
         with tempfile.TemporaryDirectory() as room:
-            Path(room, "m.toml").write_text('begin = 2031-03-03T00:00:00Z\nend = 2031-03-04T00:00:00Z\n[[store]]\nid = "small letters"\nsize = 9999\n')
+            Path(room, "m.toml").write_text(
+                'begin = 2031-03-03T00:00:00Z\nend = 2031-03-04T00:00:00Z\n[[store]]\nid = "small letters"\nsize = '
+                '9999\n'
+            )
             out, said = self.run_words("m.toml", "plan", status=1, folder=room)
-            self.assertTrue(out.startswith("refused 28 SetupField"))
-            self.assertIn("expected", said)
+            self.assertEqual((out, said[:30]), ("", "rudlayog: m.toml, line 4, id: "))
+            self.assertIn("expected an identifier", said)
 
 
 if __name__ == "__main__":

@@ -241,7 +241,7 @@ class Forecasts(unittest.TestCase):
     def test_faults_of_data(self):
         named = {"window": [2, 3], "SCI": [5, 3]}
         for change, words in (
-            ({"SCI": [5, 3.0]}, "column SCI, row 2: 3.0 is no whole number"),
+            ({"SCI": [5, 3.5]}, "column SCI, row 2: 3.5 is no whole number"),
             ({"SCI": [float("nan"), 3]}, "column SCI, row 1: nan is no whole number"),
             ({"window": [2, None]}, "column window, row 2: None is no whole number"),
             ({"SCI": [5, "3"]}, "column SCI, row 2: '3' is no whole number"),

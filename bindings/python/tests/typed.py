@@ -4,7 +4,24 @@
 from collections.abc import Mapping
 from datetime import datetime, timedelta, timezone
 
-from rudlayog import Cut, Forecast, ForecastLike, Limit, Memory, Plan, Refusal, Route, Setup, SetupLike, Store, Tally, ask, chart, check, plan
+from rudlayog import (
+    Cut,
+    Forecast,
+    ForecastLike,
+    Limit,
+    Memory,
+    Plan,
+    Refusal,
+    Route,
+    Setup,
+    SetupLike,
+    Store,
+    Tally,
+    ask,
+    chart,
+    check,
+    plan,
+)
 from rudlayog.mission import Mission, Observation, PacketStore, Pass, Station
 from rudlayog.reports import Summaries
 from rudlayog.requests import StartRetrieval, SummariseContent, TimeRange
@@ -26,13 +43,19 @@ def planned() -> tuple[int, Mapping[str, tuple[int, ...]]]:
     forecast = Forecast.of([2, 3], {"SCI": [5, 2], "HK": [1, 0]})
     made = plan(setup, forecast)
     assert made == plan(bytes(setup), columns) == plan(setup.text(), rows) == plan(setup.to_dict(), forecast.text())
-    assert least(setup, [forecast, columns, rows, forecast.text(), forecast.having(windows=[9, 9])]) == least(bytes(setup), [forecast.having([9, 9])])
+    assert least(setup, [forecast, columns, rows, forecast.text(), forecast.having(windows=[9, 9])]) == least(
+        bytes(setup), [forecast.having([9, 9])]
+    )
     assert made == Plan.of(made.to_dict(), made.loss, Cut(made.cut.stretches, made.cut.by_channels, made.cut.bound))
     assert check(setup, forecast, made) and check(setup, forecast, made.to_dict()).loss == made.loss
     assert chart(setup, forecast, bytes(made)).svg == made._repr_svg_()
     served = plan(setup, forecast, in_order=True)
     losses: list[int] = [first.loss for first in served.firsts or ()]
-    assert len(losses) == 1 and check(setup, forecast, served).stores is None and chart(setup, forecast, served, worth=True).svg
+    assert (
+        len(losses) == 1
+        and check(setup, forecast, served).stores is None
+        and chart(setup, forecast, served, worth=True).svg
+    )
     return made.loss, made.by_store
 
 
@@ -69,13 +92,33 @@ def flown() -> tuple[int, list[Answer]]:
         packet=1000,
     )
     made = mission.plan(step=timedelta(minutes=10), in_order=True)
+    setup, forecast = mission.problem()
+    windows: tuple[int, ...] = forecast.windows
+    stores: tuple[Store, ...] = setup.stores
+    assert len(stores) == 1 and sum(windows) > 0
+    sheet, timeline = made.passes(), made.timeline()
+    first: int = sheet[0].blocks + timeline[0].packets
+    assert first > 0 and [row.store for row in sheet[:1]] == ["CAM"]
+    changed: Mission = mission.changed([scaled(2), sized("CAM", factor=2)])
+    assert changed.plan(horizon=30, look=30).loss_mb >= 0 and mission.margin("CAM").growth.percent >= 0
     rows: list[int] = [row.blocks for row in made.passes()]
     again = made.at(begin, holds={"CAM": "1 MB"}).plan(horizon=30)
-    variants: list[Variant] = [*each_pass_lost(mission), *grid(size=(lambda mb: sized("CAM", mb), ["1 MB", "3 MB"])), Variant("more", (Changed(lambda other: other), scaled(1.5)))]
+    variants: list[Variant] = [
+        *each_pass_lost(mission),
+        *grid(size=(lambda mb: sized("CAM", mb), ["1 MB", "3 MB"])),
+        Variant("more", (Changed(lambda other: other), scaled(1.5))),
+    ]
     found = study(mission, variants, plan=None, in_order=True)
+    answer: Answer = found[0]
+    assert answer.loss is not None and isinstance(found[:1], tuple)
     return sum(rows) + again.loss, list(found)
 
 
 if __name__ == "__main__":
-    assert flown()[0] >= 0 and planned()[0] >= 0 and recorded() == (Tally(0, 0, 0), []) and asked(("SCI", "HK"))[1] == (0, 0)
+    assert (
+        flown()[0] >= 0
+        and planned()[0] >= 0
+        and recorded() == (Tally(0, 0, 0), [])
+        and asked(("SCI", "HK"))[1] == (0, 0)
+    )
     assert ask("[[store]]\nid = 'HK'\nsize = 2\ntype = 'bounded'\nchannel = 0\n", [b"\x18"]).all_done is False

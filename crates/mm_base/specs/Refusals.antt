@@ -1,7 +1,19 @@
 -- The table of refusals.
 use Rattle.std.specs.Prelude.{ℕ, List, codes}
 use Rattle.mm_base.specs.declared.refusal.Refusal.{Refusal}
-use Rattle.mm_base.specs.declared.refusal.Refusal.TheVariants.{NoMemory, Short, Version, NoSecondaryHeader, PusVersion, Segmented, IdlePacket, HeaderCut, TooLong, HoldsMore, NoSuchRoute, TableFull, NotSt15, UnknownSubtype, CountMismatch, BadId, BadEnum, Disabled, Busy, NoRetrieval, BadRange, ClockEnd, WindowFull, NoSuchStore, Exists, TooManyStores, StorageOn, SetupText, SetupField, ForecastText, Header, Cell, StepNumber, Limit, PlanText, Shape, Unbounded, SameEnds, PlanShape, NotReady, SizeDiffers, OpeningDiffers, ClockTooLate, PlanDoesNotFit, Counts, NoMemoryInStep, LinkFailed, LogMismatch, BadSize, HexLine, NotRead, SourcesText, LinksText, ChannelDiffers}
+use Rattle.mm_base.specs.declared.refusal.Refusal.TheVariants.{NoMemory, Short, Version, NoSecondaryHeader}
+use Rattle.mm_base.specs.declared.refusal.Refusal.TheVariants.{PusVersion, Segmented, IdlePacket, HeaderCut}
+use Rattle.mm_base.specs.declared.refusal.Refusal.TheVariants.{TooLong, HoldsMore, NoSuchRoute, TableFull, NotSt15}
+use Rattle.mm_base.specs.declared.refusal.Refusal.TheVariants.{UnknownSubtype, CountMismatch, BadId, BadEnum}
+use Rattle.mm_base.specs.declared.refusal.Refusal.TheVariants.{Disabled, Busy, NoRetrieval, BadRange, ClockEnd}
+use Rattle.mm_base.specs.declared.refusal.Refusal.TheVariants.{WindowFull, NoSuchStore, Exists, TooManyStores}
+use Rattle.mm_base.specs.declared.refusal.Refusal.TheVariants.{StorageOn, SetupText, SetupField, ForecastText}
+use Rattle.mm_base.specs.declared.refusal.Refusal.TheVariants.{Header, Cell, StepNumber, Limit, PlanText, Shape}
+use Rattle.mm_base.specs.declared.refusal.Refusal.TheVariants.{Unbounded, SameEnds, PlanShape, NotReady}
+use Rattle.mm_base.specs.declared.refusal.Refusal.TheVariants.{SizeDiffers, OpeningDiffers, ClockTooLate}
+use Rattle.mm_base.specs.declared.refusal.Refusal.TheVariants.{PlanDoesNotFit, Counts, NoMemoryInStep, LinkFailed}
+use Rattle.mm_base.specs.declared.refusal.Refusal.TheVariants.{LogMismatch, BadSize, HexLine, NotRead, SourcesText}
+use Rattle.mm_base.specs.declared.refusal.Refusal.TheVariants.{LinksText, ChannelDiffers, TooManyReports}
 
 -- the number and the name of each refusal
 abbrev pub entry_of : Refusal → ℕ × List ℕ
@@ -59,6 +71,7 @@ entry_of NotRead = (50, codes "NotRead")
 entry_of SourcesText = (51, codes "SourcesText")
 entry_of LinksText = (52, codes "LinksText")
 entry_of ChannelDiffers = (53, codes "ChannelDiffers")
+entry_of TooManyReports = (54, codes "TooManyReports")
 
 -- the number that a refusal is shown with
 abbrev pub number_of : Refusal → ℕ

@@ -115,6 +115,8 @@ pub enum Refusal {
     LinksText,
     /// A store has another virtual channel than the setup says.
     ChannelDiffers,
+    /// More reports of the storage service would wait to be given than the bound that was set.
+    TooManyReports,
 }
 
 impl Refusal {
@@ -178,6 +180,7 @@ impl Refusal {
             Refusal::SourcesText => (51, "SourcesText"),
             Refusal::LinksText => (52, "LinksText"),
             Refusal::ChannelDiffers => (53, "ChannelDiffers"),
+            Refusal::TooManyReports => (54, "TooManyReports"),
         }
     }
 

@@ -56,12 +56,14 @@ tally_told tally = record { kept = tally.kept; lost = tally.lost; refused = tall
 abbrev pub no_tally : TallyTold
 no_tally = record { kept = 0; lost = 0; refused = 0 }
 
--- a closed handle is opened with the memory of a setup, or the call is refused with the setup's fault; an open one stays as it is
+-- a closed handle is opened with the memory of a setup, or the call is refused with the setup's fault; an open one
+-- stays as it is
 abbrev pub Opens : List ℕ → Option Serving → Option Serving → Answer → Type 0
 Opens setup (Some s) new answer = (new ≡ Some s) × (answer ≡ ended Open)
 Opens setup None new answer =
     ((s : Serving) × (opened_of setup ≡ Ok s) × (new ≡ Some s) × (answer ≡ ended Written))
-    ⊎ ((fault : SetupFault) × (fault ≢ NoSetupMemory → opened_of setup ≡ Err fault) × (new ≡ None) × (answer ≡ refused_answer (of_setup fault)))
+    ⊎ ((fault : SetupFault) × (fault ≢ NoSetupMemory → opened_of setup ≡ Err fault)
+    × (new ≡ None) × (answer ≡ refused_answer (of_setup fault)))
 
 -- a call on an open handle does what P says to what it holds; on a closed one it says so and does nothing, as Q says
 abbrev pub OnOpen : (Serving → Serving → Type 0) → Type 0 → Option Serving → Option Serving → Answer → Type 0
@@ -70,7 +72,8 @@ OnOpen P Q None new answer = (new ≡ None) × Q × (answer ≡ ended Closed)
 
 -- a call is refused for this fault, and nothing has changed
 abbrev pub IsRefused : (Fault → Type 0) → Serving → Serving → Answer → Type 0
-IsRefused Why s t answer = (fault : Fault) × (fault ≢ NoMemory → Why fault) × (t ≡ s) × (answer ≡ refused_answer (of_call fault))
+IsRefused Why s t answer =
+    (fault : Fault) × (fault ≢ NoMemory → Why fault) × (t ≡ s) × (answer ≡ refused_answer (of_call fault))
 
 -- a packet is offered: its fate is told, or the call is refused
 abbrev pub Offers : (id octets : List ℕ) (now : ℕ) → FateTold → Answer → Serving → Serving → Type 0
@@ -92,7 +95,7 @@ LacksRoom room old new s t answer = (length old < room) × (new ≡ old) × (t �
 abbrev pub IsApplied : (octets : List ℕ) (now : ℕ) → List ℕ → List ℕ → Answer → Serving → Serving → Type 0
 IsApplied octets now old new answer s t =
     ((count : ℕ) × Applies octets now s t count old new × (answer ≡ length_answer Written count))
-    ⊎ ((IsRefused (RefusesRequest octets) s t answer × (new ≡ old)) ⊎ LacksRoom INSTRUCTIONS old new s t answer)
+    ⊎ ((IsRefused (RefusesRequest octets s) s t answer × (new ≡ old)) ⊎ LacksRoom INSTRUCTIONS old new s t answer)
 
 -- how a call for a report is answered
 abbrev pub report_answer : Reported → Answer

@@ -10,11 +10,12 @@ use Rattle.mm_told.specs.declared.answer.Answer.{Answer}
 use Rattle.mm_told.specs.declared.answer.Status.TheVariants.{Written}
 use Rattle.mm_c.specs.Serving.{ended, IsRefused}
 use Rattle.mm_c.specs.declared.showing.StoreTold.{StoreTold}
+use Rattle.mm_c.specs.declared.showing.TheConstants.{NO_KIND}
 
--- the code of a kind
+-- the code of a kind, as packets have it
 abbrev pub code_of_kind : Kind → ℕ
-code_of_kind Circular = 1
-code_of_kind Bounded = 2
+code_of_kind Circular = 0
+code_of_kind Bounded = 1
 
 -- the code of a switch
 abbrev pub code_of_switch : Bool → ℕ
@@ -23,7 +24,7 @@ code_of_switch on = if on then 1 else 0
 -- what is told where there is no store
 abbrev pub no_store : StoreTold
 no_store = record {
-  kind = 0;
+  kind = NO_KIND;
   size = 0;
   held = 0;
   storage = 0;

@@ -16,7 +16,8 @@ pub extern "C" fn rudlayog_memory_bound(
     reports: u64,
     answer: &mut Answer,
 )
-    ensures bounded { OnOpen (Bounds reports answer.new) ⊤ memory.old.loose.service memory.new.loose.service answer.new }
+    ensures bounded { OnOpen (Bounds reports answer.new) ⊤
+        memory.old.loose.service memory.new.loose.service answer.new }
 {
     if !memory.is_open {
         *answer = ended(Status::Closed);

@@ -1,6 +1,7 @@
 //! The handle of a memory: C holds a pointer to its service, which owns it.
 ghost use Rattle.std.specs.Prelude.{◌≡◌, ◌↔◌, IsTrue, IsSome, Some, None, Option, is_some};
 ghost use Rattle.std.specs.declared.alloc.Global.{Global};
+ghost use denote.RawPtr.{null_ptr};
 ghost use Rattle.mm_service.specs.Serving.{Serving};
 
 use crate::parts::Parts;
@@ -45,6 +46,16 @@ impl Loose {
     }
 }
 
+impl Loose {
+    // Makes the pointer of a closed handle null.
+    fn clear(&mut self)
+        requires closed { self.old.service ≡ None }
+        ensures { (self.new.service ≡ None) × (self.new.at ≡ null_ptr) }
+    {
+        self.at = std::ptr::null_mut();
+    }
+}
+
 /// The handle of a memory, as C has it: all 0 where it is closed.
 #[repr(C)]
 pub struct MemoryHandle {
@@ -62,6 +73,16 @@ impl MemoryHandle {
     {
         self.is_open = false;
         self.loose.take(alloc).into_box()
+    }
+
+    // Frees what an open handle holds, which is closed then, and all 0.
+    pub(crate) fn close(&mut self, alloc: Global)
+        requires open { IsTrue self.old.is_open }
+        ensures closed { self.new.loose.service ≡ None }
+        ensures cleared { self.new.loose.at ≡ null_ptr }
+    {
+        let _service = self.take(alloc);
+        self.loose.clear();
     }
 
     // Puts a service into a closed handle, which is open then.

@@ -3,7 +3,7 @@ ghost use Rattle.mm_told.specs.Telling.{Tells};
 ghost use Rattle.mm_c.specs.Telling.{IsAnyText, IsNoMemory};
 
 use mm_base::NoMemory;
-use mm_told::{Answer, Hint, Reason, RefusedAt, Texts, hint_for, tell_text};
+use mm_told::{Answer, Hint, Reason, RefusedAt, Texts, found_for, tell_text};
 use std::alloc::Global;
 
 // A hint in one line without its end.
@@ -17,14 +17,16 @@ fn found_in(alloc: Global, texts: Texts<'_>, refused: &RefusedAt) -> Result<Vec<
     let Some(reason) = refused.reason() else {
         return Ok(Vec::new(alloc));
     };
-    match hint_for(alloc, reason, texts) {
-        Some(hint) => text_of(alloc, &hint),
-        None => Ok(Vec::new(alloc)),
+    match found_for(alloc, reason, texts) {
+        Ok(Some(hint)) => text_of(alloc, &hint),
+        Ok(None) => Ok(Vec::new(alloc)),
+        Err(error) => Err(error),
     }
 }
 
-/// What is found in a setup, a forecast and a plan text of which a call was refused so: the hint that the program prints, in one line without
-/// its end. There is no octet where no more can be said. A text that the call did not have is empty.
+/// What is found in a setup, a forecast and a plan text of which a call was refused so: the hint that the program
+/// prints, in one line without its end. There is no octet where no more can be said. A text that the call did not have
+/// is empty.
 #[unsafe(no_mangle)]
 pub extern "C" fn rudlayog_hint(
     alloc: Global,

@@ -1,10 +1,12 @@
 //! A memory with its storage service, behind a handle.
-ghost use Rattle.std.specs.Prelude.{◌≡◌, None};
+ghost use Rattle.std.specs.Prelude.{◌≡◌, IsTrue, None};
+ghost use denote.RawPtr.{null_ptr};
 ghost use Rattle.mm_base.specs.Reading.{Gives};
 ghost use Rattle.mm_problem.specs.declared.fault.Fault.TheVariants.{NoMemory};
 ghost use Rattle.mm_service.specs.Serving.{opened_of};
 ghost use Rattle.mm_told.specs.Telling.{refused_answer};
-ghost use Rattle.mm_c.specs.Serving.{no_fate, fate_told, no_tally, tally_told, ended, of_call, Opens, OnOpen, Offers, Records, IsApplied, IsReported, IsGiven};
+ghost use Rattle.mm_c.specs.Serving.{no_fate, fate_told, no_tally, tally_told, ended, of_call, Opens, OnOpen, Offers};
+ghost use Rattle.mm_c.specs.Serving.{Records, IsApplied, IsReported, IsGiven};
 
 use crate::handle::MemoryHandle;
 use mm_base::Refused;
@@ -155,7 +157,8 @@ pub extern "C" fn rudlayog_memory_offer(
     memory.put(service);
 }
 
-/// Offers a packet at a moment, in ticks, to each store that its report type is routed to, as `Service::record` of `mm_service` does.
+/// Offers a packet at a moment, in ticks, to each store that its report type is routed to, as `Service::record` of
+/// `mm_service` does.
 #[unsafe(no_mangle)]
 pub extern "C" fn rudlayog_memory_record(
     alloc: Global,
@@ -184,8 +187,8 @@ pub extern "C" fn rudlayog_memory_record(
     memory.put(service);
 }
 
-/// Applies a request at a moment, in ticks, as `Service::apply` of `mm_service` does. A buffer of `INSTRUCTIONS` octets has room for the codes
-/// of each request's answers; with less nothing is done.
+/// Applies a request at a moment, in ticks, as `Service::apply` of `mm_service` does. A buffer of `INSTRUCTIONS` octets
+/// has room for the codes of each request's answers; with less nothing is done.
 #[unsafe(no_mangle)]
 pub extern "C" fn rudlayog_memory_apply(
     alloc: Global,
@@ -239,8 +242,8 @@ pub extern "C" fn rudlayog_memory_report(
     memory.put(service);
 }
 
-/// Gives the next packet of the retrieval from the store with an identifier, as `Service::next` of `mm_service` does. A buffer of `BLOCK`
-/// octets has room for each packet; with less nothing is done.
+/// Gives the next packet of the retrieval from the store with an identifier, as `Service::next` of `mm_service` does. A
+/// buffer of `BLOCK` octets has room for each packet; with less nothing is done.
 #[unsafe(no_mangle)]
 pub extern "C" fn rudlayog_memory_next(
     alloc: Global,
@@ -274,12 +277,13 @@ pub extern "C" fn rudlayog_memory_next(
     memory.put(service);
 }
 
-/// Closes a handle, and frees what it held. A closed one stays closed.
+/// Closes a handle, and frees what it held: its pointer is null then. A closed one stays closed.
 #[unsafe(no_mangle)]
 pub extern "C" fn rudlayog_memory_close(alloc: Global, memory: &mut MemoryHandle)
     ensures closed { memory.new.loose.service ≡ None }
+    ensures cleared { IsTrue memory.old.is_open → memory.new.loose.at ≡ null_ptr }
 {
     if memory.is_open {
-        let _service = memory.take(alloc);
+        memory.close(alloc);
     }
 }

@@ -1,4 +1,5 @@
 //! The words of a refusal, and the version of the library.
+ghost use Rattle.std.specs.Prelude.{◌≡◌};
 ghost use Rattle.mm_told.specs.Telling.{Tells, TellsText};
 ghost use Rattle.mm_told.specs.Wording.{SaysTold};
 ghost use Rattle.mm_c.specs.Telling.{IsNoMemory};
@@ -9,8 +10,11 @@ use std::alloc::Global;
 /// The version of the library: that of its calls and of the texts that they take and give.
 pub const VERSION: &[u8] = b"0.4.0";
 
-/// The words of a refusal for people, in one line without its end: its number, its name and its fields, what was expected, and what to
-/// do. There is no octet where no refusal has these codes.
+/// The same as a number, of two digits for each part.
+pub const VERSION_NUMBER: u32 = 400;
+
+/// The words of a refusal for people, in one line without its end: its number, its name and its fields, what was
+/// expected, and what to do. There is no octet where no refusal has these codes.
 #[unsafe(no_mangle)]
 pub extern "C" fn rudlayog_words(
     alloc: Global,
@@ -32,4 +36,12 @@ pub extern "C" fn rudlayog_version(out: &mut [u8], answer: &mut Answer)
     ensures told { TellsText VERSION.now out.old out.new answer.new }
 {
     *answer = tell_text(VERSION, out);
+}
+
+/// The version of the library as a number.
+#[unsafe(no_mangle)]
+pub extern "C" fn rudlayog_version_number(number: &mut u32)
+    ensures told { number.new ≡ VERSION_NUMBER }
+{
+    *number = VERSION_NUMBER;
 }

@@ -1,7 +1,8 @@
 //! What a store of a memory holds and has lost, and how many reports wait.
 ghost use Rattle.std.specs.Prelude.{◌≡◌};
 ghost use Rattle.mm_c.specs.Serving.{OnOpen};
-ghost use Rattle.mm_c.specs.Showing.{code_of_kind, code_of_switch, no_store, with_retrieval, store_told, ShowsStore, ShowsWaiting};
+ghost use Rattle.mm_c.specs.Showing.{code_of_kind, code_of_switch, no_store, with_retrieval, store_told, ShowsStore};
+ghost use Rattle.mm_c.specs.Showing.{ShowsWaiting};
 
 use crate::handle::MemoryHandle;
 use crate::memory::{ended, refused};
@@ -11,7 +12,8 @@ use mm_service::Shown;
 use mm_told::{Answer, Status};
 use std::alloc::Global;
 
-/// What a packet store holds and has lost. A switch is 1 where it is on. Where no retrieval is on, its three times are 0.
+/// What a packet store holds and has lost. A switch is 1 where it is on. Where no retrieval is on, its three times are
+/// 0.
 #[repr(C)]
 #[derive(Clone, Copy)]
 pub struct StoreTold {
@@ -30,13 +32,16 @@ pub struct StoreTold {
     pub after: u64,
 }
 
-// The code of a kind. 0 is that of none.
+/// The code of no kind: that where no store is told.
+pub const NO_KIND: u32 = 255;
+
+// The code of a kind, as packets have it.
 fn code_of_kind(kind: Kind) -> u32
     ensures { result ≡ code_of_kind kind }
 {
     match kind {
-        Kind::Circular => 1,
-        Kind::Bounded => 2,
+        Kind::Circular => 0,
+        Kind::Bounded => 1,
     }
 }
 
@@ -53,7 +58,7 @@ impl StoreTold {
         ensures { result ≡ no_store }
     {
         StoreTold {
-            kind: 0,
+            kind: NO_KIND,
             size: 0,
             held: 0,
             storage: 0,

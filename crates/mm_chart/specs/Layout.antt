@@ -3,9 +3,11 @@ use Rattle.std.specs.Prelude.{ℕ, ◌+◌, ◌-◌, ◌*◌, ◌/◌, ◌<◌, 
 use Rattle.std.specs.List.{sum_by, range_with_len}
 use Rattle.mm_base.specs.declared.limits.TheConstants.{MAX_STORES}
 use Rattle.mm_problem.specs.Dumping.{Dumping, limit}
-use Rattle.mm_chart.specs.declared.layout.TheConstants.{LEFT, ROOM, MAX_WIDTH, WINDOW_BASE, CHANNEL_PITCH, STORE_PITCH, TALL, THIN, LOSS, SAVED, OVER, WORDS_BELOW, LINE_PITCH}
+use Rattle.mm_chart.specs.declared.layout.TheConstants.{LEFT, ROOM, MAX_WIDTH, WINDOW_BASE, CHANNEL_PITCH, STORE_PITCH}
+use Rattle.mm_chart.specs.declared.layout.TheConstants.{TALL, THIN, LOSS, SAVED, RAISED, OVER, WORDS_BELOW, LINE_PITCH}
 use Rattle.mm_chart.specs.declared.series.Series.{Series}
-use Rattle.mm_chart.specs.declared.series.Series.TheVariants.{WindowCounts, ChannelCounts, Sent, Inner, Last, Written, Left, Lost, Worth}
+use Rattle.mm_chart.specs.declared.series.Series.TheVariants.{WindowCounts, ChannelCounts, Sent, Inner, Last, Written}
+use Rattle.mm_chart.specs.declared.series.Series.TheVariants.{Left, Lost, Worth, Raised}
 
 -- the width of a step
 abbrev pub step_width : Dumping → ℕ
@@ -52,6 +54,7 @@ room_of (ChannelCounts c) = THIN + 2 * OVER
 room_of (Sent c) = THIN
 room_of (Lost s) = LOSS
 room_of Worth = SAVED
+room_of (Raised c) = RAISED
 room_of _ = TALL
 
 -- the line on which it stands
@@ -63,6 +66,7 @@ base_of q (Inner s) = store_base q s + OVER
 base_of q (Last s) = store_base q s + OVER
 base_of q (Lost s) = store_base q s - TALL
 base_of q Worth = WINDOW_BASE - TALL
+base_of q (Raised c) = channel_base q c - THIN
 base_of q (Written s) = store_base q s
 base_of q (Left s) = store_base q s
 base_of q _ = WINDOW_BASE
@@ -78,4 +82,5 @@ IsPlaced _ = Unit {0}
 
 -- from one tick to the next, in steps
 abbrev pub tick_every : ℕ → ℕ
-tick_every n = if nat_le n 12 then 1 else if nat_le n 24 then 2 else if nat_le n 60 then 5 else if nat_le n 120 then 10 else 20
+tick_every n = if nat_le n 12 then 1 else if nat_le n 24 then 2 else if nat_le n 60 then 5 else if nat_le n 120 then 10
+    else 20

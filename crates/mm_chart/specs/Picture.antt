@@ -1,4 +1,5 @@
--- What a chart is drawn of: a problem, a sheet for it, the verdict on the sheet, and what the windows are worth where that is known.
+-- What a chart is drawn of: a problem, a sheet for it, the verdict on the sheet, and what windows and limits are worth
+-- where that is known.
 use Rattle.std.specs.Prelude.{Bool, true, false, Option, is_some, List, [], if◌then◌else◌, ℕ}
 use Rattle.mm_problem.specs.Dumping.{Dumping}
 use Rattle.mm_plan.specs.declared.stretch.Stretch.{Stretch}
@@ -11,18 +12,26 @@ use Rattle.mm_cut.specs.Verdicts.{IsSheetVerdict}
 use Rattle.mm_cut.specs.declared.verdict.Verdict.{Verdict}
 use Rattle.mm_cut.specs.declared.verdict.Verdict.TheVariants.{BoundIs, NotShown, FirstNotShown, Least, LeastInOrder}
 
+-- how many blocks a larger window or limit saves at most; what is after the end of a list saves 0
+pub record WorthLists : Type 0 where
+  -- the window of each step
+  pub windows : List ℕ
+  -- the limit of each channel in the setup
+  pub limits : List ℕ
+  -- the limits of steps: step by step, in each all channels
+  pub step_limits : List ℕ
+
 pub record Drawn : Type 0 where
   pub problem : Dumping
   pub sheet : SheetRows
   pub verdict : Verdict
-  -- of each step, how many blocks a larger window saves at most; a step after the end of the list has 0
-  pub worth : Option (List ℕ)
+  pub worth : Option WorthLists
 
 -- the picture with these parts
-abbrev pub picture_of : Dumping → SheetRows → Verdict → Option (List ℕ) → Drawn
+abbrev pub picture_of : Dumping → SheetRows → Verdict → Option WorthLists → Drawn
 picture_of q s v worth = record { problem = q; sheet = s; verdict = v; worth = worth }
 
--- whether it is known what the windows are worth
+-- whether it is known what windows and limits are worth
 abbrev pub has_worth : Drawn → Bool
 has_worth p = is_some p.worth
 

@@ -1,13 +1,18 @@
 -- The numbers that a chart draws: one for each step.
-use Rattle.std.specs.Prelude.{ℕ, Option, Some, None, slice_index_or, ◌+◌, ◌-◌, ◌*◌, ◌/◌, ◌<◌, min, max, nat_le, Bool, ◌==◌, ◌&&◌, if◌then◌else◌, List, [], ◌∷◌, length}
+use Rattle.std.specs.Prelude.{ℕ, Option, Some, None, slice_index_or, ◌+◌, ◌-◌, ◌*◌, ◌/◌, ◌<◌, min, max, nat_le, Bool}
+use Rattle.std.specs.Prelude.{◌==◌, ◌&&◌, if◌then◌else◌, List, [], ◌∷◌, length}
 use Rattle.std.specs.List.{sum_by, list_any}
+use Rattle.mm_base.specs.declared.limits.TheConstants.{CHANNELS}
+use Rattle.mm_base.specs.Grid.{grid_place}
 use Rattle.mm_problem.specs.Dumping.{Dumping, size, window, stores, stores_of, steps}
 use Rattle.mm_plan.specs.Volumes.{written, left, lost}
 use Rattle.mm_cut.specs.Stretches.{store_of, goes_past, is_inner_on}
 use Rattle.mm_cut.specs.Cuts.{limit_or_0, counts_window, counts_limits}
 use Rattle.mm_chart.specs.declared.series.Series.{Series}
-use Rattle.mm_chart.specs.declared.series.Series.TheVariants.{WindowCounts, Window, Used, ChannelCounts, Sent, LimitsCount, CountedWindow, Inner, Last, Written, Left, Lost, Worth}
-use Rattle.mm_chart.specs.Picture.{Drawn, amounts, cut, counts}
+use Rattle.mm_chart.specs.declared.series.Series.TheVariants.{WindowCounts, Window, Used, ChannelCounts, Sent}
+use Rattle.mm_chart.specs.declared.series.Series.TheVariants.{LimitsCount, CountedWindow, Inner, Last, Written, Left}
+use Rattle.mm_chart.specs.declared.series.Series.TheVariants.{Lost, Worth, Raised}
+use Rattle.mm_chart.specs.Picture.{Drawn, WorthLists, amounts, cut, counts}
 
 abbrev pub one_if : Bool → ℕ
 one_if b = if b then 1 else 0
@@ -33,9 +38,19 @@ abbrev pub has_stretch : Drawn → ℕ → Bool
 has_stretch p s = list_any (λ d. store_of p.problem d == s) (cut p)
 
 -- what the window of a step is worth, and 0 where that is not known
-abbrev pub worth_of : Option (List ℕ) → ℕ → ℕ
-worth_of (Some ns) t = slice_index_or ns (t - 1) 0
+abbrev pub worth_of : Option WorthLists → ℕ → ℕ
+worth_of (Some w) t = slice_index_or w.windows (t - 1) 0
 worth_of None t = 0
+
+-- what the limit of this step alone is worth, and 0 where the channel has none
+abbrev pub step_limit_worth : List ℕ → ℕ → ℕ → ℕ
+step_limit_worth ns c t = slice_index_or ns (grid_place CHANNELS t c) 0
+
+-- what one higher limit of a channel is worth in a step: that of the setup, or that of this step alone, whichever is
+-- worth more
+abbrev pub limit_worth_of : Option WorthLists → ℕ → ℕ → ℕ
+limit_worth_of (Some w) c t = max (slice_index_or w.limits c 0) (step_limit_worth w.step_limits c t)
+limit_worth_of None c t = 0
 
 -- the store or the channel is there
 abbrev pub IsSeries : Drawn → Series → Type 0
@@ -61,6 +76,7 @@ amount_of p (Written s) t = written p.problem (amounts p) s t
 amount_of p (Left s) t = left p.problem (amounts p) s t
 amount_of p (Lost s) t = lost p.problem (amounts p) s t
 amount_of p Worth t = worth_of p.worth t
+amount_of p (Raised c) t = limit_worth_of p.worth c t
 
 -- the number of a step, and 0 at what is no step
 abbrev pub amount_at : Drawn → Series → ℕ → ℕ
@@ -100,6 +116,7 @@ whole_of p (Written s) = size p.problem s
 whole_of p (Left s) = size p.problem s
 whole_of p (Lost s) = most_lost p
 whole_of p Worth = most_of p Worth
+whole_of p (Raised c) = most_of p (Raised c)
 whole_of p _ = 1
 
 -- an amount in a scale in which the whole has this height: amount * height / whole, rounded up, and at most the height

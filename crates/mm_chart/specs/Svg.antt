@@ -1,11 +1,13 @@
 -- Parts of the text of a picture: Scalable Vector Graphics (SVG) 1.1.
-use Rattle.std.specs.Prelude.{ℕ, ◌+◌, ◌-◌, ◌%◌, ◌==◌, if◌then◌else◌, List, [], ◌∷◌, ◌++◌, length, codes, decimal, flat_map, ℤ, pos, negsuc}
+use Rattle.std.specs.Prelude.{ℕ, ◌+◌, ◌-◌, ◌%◌, ◌==◌, if◌then◌else◌, List, [], ◌∷◌, ◌++◌, length, codes, decimal}
+use Rattle.std.specs.Prelude.{flat_map, ℤ, pos, negsuc}
 use Rattle.mm_base.specs.Characters.{line_feed}
 use Rattle.mm_problem.specs.Dumping.{steps}
 use Rattle.mm_chart.specs.declared.pen.Style.{Style}
 use Rattle.mm_chart.specs.declared.pen.Style.TheVariants as style
 use Rattle.mm_chart.specs.declared.series.Series.{Series}
-use Rattle.mm_chart.specs.declared.series.Series.TheVariants.{WindowCounts, Window, Used, ChannelCounts, Sent, Inner, Last, Written, Left, Lost, Worth}
+use Rattle.mm_chart.specs.declared.series.Series.TheVariants.{WindowCounts, Window, Used, ChannelCounts, Sent, Inner}
+use Rattle.mm_chart.specs.declared.series.Series.TheVariants.{Last, Written, Left, Lost, Worth, Raised}
 use Rattle.mm_chart.specs.Picture.{Drawn}
 use Rattle.mm_chart.specs.Series.{amount_at, total_of, whole_of, scaled}
 use Rattle.mm_chart.specs.Layout.{edge, room_of, base_of}
@@ -16,7 +18,8 @@ said words = words
 
 -- a character as it stands in the text of an element (Extensible Markup Language 1.0, 2.4)
 abbrev pub escaped_char : ℕ → List ℕ
-escaped_char c = if c == 38 then codes "&amp;" else if c == 60 then codes "&lt;" else if c == 62 then codes "&gt;" else c ∷ []
+escaped_char c = if c == 38 then codes "&amp;" else if c == 60 then codes "&lt;" else if c == 62 then codes "&gt;" else
+    c ∷ []
 
 -- words from outside, with each character that would be read as markup escaped
 unfoldable pub escaped : List ℕ → List ℕ
@@ -59,7 +62,8 @@ style_name style.Heading = codes "b"
 style_name style.Plain = codes "w"
 
 unfoldable pub opened : Style → ℕ → ℕ → List ℕ
-opened style x y = said (codes "<text class='") ++ style_name style ++ said (codes "' x='") ++ decimal x ++ said (codes "' y='") ++ decimal y ++ said (codes "'>")
+opened style x y = said (codes "<text class='") ++ style_name style ++ said (codes "' x='") ++ decimal x ++ said
+    (codes "' y='") ++ decimal y ++ said (codes "'>")
 
 unfoldable pub closed : List ℕ
 closed = said (codes "</text>" ++ line_feed ∷ [])
@@ -85,7 +89,8 @@ line_at y = said (codes "V") ++ decimal y
 unfoldable pub begun : ℕ → ℕ → List ℕ
 begun x y = said (codes "M") ++ decimal x ++ said (codes " ") ++ decimal y
 
--- a step of a height after one of another: from the base line where there was none, and down to it where there is none now
+-- a step of a height after one of another: from the base line where there was none, and down to it where there is none
+-- now
 unfoldable pub outline : Drawn → ℕ → ℕ → ℕ → ℕ → List ℕ
 outline p base before here t =
     if here == 0 then (if before == 0 then [] else line_at base)
@@ -94,7 +99,8 @@ outline p base before here t =
 
 -- what leads to a height from another: from the base line where that is none
 abbrev pub rise : ℕ → ℕ → ℕ → ℕ → List ℕ
-rise left base before here = if here == before then [] else (if before == 0 then begun left base else []) ++ line_at (base - here)
+rise left base before here = if here == before then [] else (if before == 0 then begun left base else []) ++ line_at
+    (base - here)
 
 -- the outline of a step between two edges, as it is written
 unfoldable pub bar_line : ℕ → ℕ → ℕ → ℕ → ℕ → List ℕ
@@ -119,6 +125,7 @@ series_name (Written s) = codes "g"
 series_name (Left s) = codes "f"
 series_name (Lost s) = codes "l"
 series_name Worth = codes "q"
+series_name (Raised c) = codes "q"
 series_name _ = codes "o"
 
 -- the beginning of its outline

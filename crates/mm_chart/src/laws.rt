@@ -4,7 +4,13 @@ ghost use Rattle.mm_chart.specs.Listed.{SumsAddUp, OnlyListedHelps};
 ghost use Rattle.mm_chart.specs.Legend.{legend, worth_key};
 ghost use Rattle.mm_chart.specs.Table.{RecordsBalance};
 ghost use Rattle.mm_chart.specs.declared.document.TheConstants.{LEGEND};
-ghost use Rattle.mm_chart.specs.declared.phrases.TheConstants.{AS_ENDS, AT_LEAST, BY_LIMITS, BY_WINDOWS, COME, FEWER, FIRSTS, HELP, HIGHER, IN_ORDER, IN_STRETCHES, LARGER, LOSE, MARKED, MARKED_LIMITS, MARKED_PASSES, MARKED_WINDOWS, MARKED_WORTH, NONE_WIDER, NO_FEWER, NO_HIGHER, NO_LIMITS, NO_OTHER, NO_WIDER, NO_WINDOWS, ONE_WIDER, ONLY_SHOWN, SAVES, STAND, WHY, WIDER};
+ghost use Rattle.mm_chart.specs.declared.phrases.TheConstants.{AS_ENDS, AT_LEAST, BY_LIMITS, BY_WINDOWS, COME, FEWER};
+ghost use Rattle.mm_chart.specs.declared.phrases.TheConstants.{FIRSTS, HELP, HIGHER, IN_ORDER, IN_STRETCHES, LARGER};
+ghost use Rattle.mm_chart.specs.declared.phrases.TheConstants.{LOSE, MARKED, MARKED_LIMITS, MARKED_PASSES};
+ghost use Rattle.mm_chart.specs.declared.phrases.TheConstants.{MARKED_WINDOWS, MARKED_WORTH, NONE_WIDER, NO_FEWER};
+ghost use Rattle.mm_chart.specs.declared.phrases.TheConstants.{NO_HIGHER, NO_LIMITS, NO_OTHER, NO_WIDER, NO_WINDOWS};
+ghost use Rattle.mm_chart.specs.declared.phrases.TheConstants.{ONE_HIGHER, ONE_WIDER, ONLY_SHOWN, SAVES, STAND, WHY};
+ghost use Rattle.mm_chart.specs.declared.phrases.TheConstants.{WIDER};
 ghost use Rattle.mm_chart.specs.declared.rows.TheConstants.{WORTH_KEY};
 
 /// The four numbers of the sum give the number that follows it: the loss that no plan goes below, or the cut's bound.
@@ -67,16 +73,18 @@ pub fn marked_words_are()
     ensures windows { MARKED_WINDOWS.now ≡ codes " steps marked in the row of the windows," }
     ensures passes { MARKED_PASSES.now ≡ codes " steps marked in the row of the windows that have one," }
     ensures limits { MARKED_LIMITS.now ≡ codes " steps marked in the rows of the channels," }
-    ensures worth { MARKED_WORTH.now ≡ codes " steps that have a bar above the windows," }
+    ensures worth { MARKED_WORTH.now ≡ codes " steps that have a bar above the windows" }
     ensures others { MARKED.now ≡ codes " steps," }
 {}
 
-/// The words of what one window is worth, and what its colour means.
+/// The words of what one window or limit is worth, and what their colour means.
 pub fn worth_words_are()
     ensures key { WORTH_KEY.now ≡ worth_key }
     ensures most { SAVES.now ≡ codes "saves up to " }
     ensures heading { ONE_WIDER.now
         ≡ codes "What one wider window saves: a block for each block that it is wider, up to the number in brackets" }
+    ensures limits { ONE_HIGHER.now
+        ≡ codes "What one higher limit saves at most, for all steps or for one, stands above its channel's row." }
     ensures others { NO_OTHER.now ≡ codes " and in no other." }
     ensures none { NONE_WIDER.now ≡ codes "In no step: no wider window saves a block by itself." }
 {}

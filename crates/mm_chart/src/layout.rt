@@ -2,7 +2,8 @@
 ghost use Rattle.std.specs.Prelude.{◌≡◌, ◌+◌, ◌-◌, ◌*◌, ◌/◌, ◌<◌, ◌≤◌, ◌^◌, length};
 ghost use Rattle.mm_base.specs.declared.limits.TheConstants.{MAX_STORES, MAX_STEPS};
 ghost use Rattle.mm_problem.specs.Dumping.{IsDumping};
-ghost use Rattle.mm_chart.specs.Layout.{step_width, edge, limits_below, has_limit, channel_base, store_base, bottom, word_line, room_of, base_of, IsPlaced, tick_every};
+ghost use Rattle.mm_chart.specs.Layout.{step_width, edge, limits_below, has_limit, channel_base, store_base, bottom};
+ghost use Rattle.mm_chart.specs.Layout.{word_line, room_of, base_of, IsPlaced, tick_every};
 
 use crate::picture::Picture;
 use crate::series::Series;
@@ -40,6 +41,12 @@ pub const SAVED: u32 = 12;
 
 /// The line of the words on it.
 pub const SAVED_AT: u32 = 111;
+
+/// The height of the most that a higher limit of a channel saves.
+pub const RAISED: u32 = 8;
+
+/// How far the words on it stand above a channel's line.
+pub const RAISED_AT: u32 = 19;
 
 /// How far the marks of a cut reach over a row, above and below.
 pub const OVER: u32 = 4;
@@ -107,7 +114,7 @@ pub(crate) fn has_limit(problem: &Problem, channel: u8) -> u32
 
 // How many of the channels below this one have a limit.
 #[tactic(auto, using(mm_base::proofs::RangeSums::sum_by_range_more))]
-fn limits_below(problem: &Problem, channel: u8) -> u32
+pub(crate) fn limits_below(problem: &Problem, channel: u8) -> u32
     ensures count { result ≡ limits_below problem.now channel }
     ensures most { result ≤ channel }
 {
@@ -150,7 +157,7 @@ pub(crate) fn bottom(problem: &Problem) -> u32
 
 // A line of words below the rows.
 pub(crate) fn word_line(problem: &Problem, line: u32) -> u32
-    requires { line ≤ 19 }
+    requires { line ≤ 23 }
     ensures line { result ≡ word_line problem.now line }
     ensures most { result < 2 ^ 20 }
 {
@@ -168,6 +175,7 @@ pub(crate) fn room_of(series: Series) -> u32
         Series::Sent(_) => THIN,
         Series::Lost(_) => LOSS,
         Series::Worth => SAVED,
+        Series::Raised(_) => RAISED,
         _ => TALL,
     }
 }
@@ -186,6 +194,7 @@ pub(crate) fn base_of(problem: &Problem, series: Series) -> u32
         Series::Inner(store) | Series::Last(store) => store_base(problem, store) + OVER,
         Series::Lost(store) => store_base(problem, store) - TALL,
         Series::Worth => WINDOW_BASE - TALL,
+        Series::Raised(channel) => channel_base(problem, channel) - THIN,
         Series::Written(store) | Series::Left(store) => store_base(problem, store),
         _ => WINDOW_BASE,
     }

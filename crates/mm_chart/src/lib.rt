@@ -15,6 +15,7 @@ mod series;
 mod shades;
 mod table;
 mod words;
+mod worths;
 
 pub use column::Column;
 pub use document::{chart_bytes, draw};
@@ -26,3 +27,4 @@ pub use mm_cut::Fault;
 pub use picture::Picture;
 pub use series::Series;
 pub use table::table_bytes;
+pub use worths::Worths;

@@ -5,7 +5,9 @@ ghost use Rattle.mm_problem.specs.Dumping.{steps};
 ghost use Rattle.mm_chart.specs.declared.series.TheConstants.{AMOUNT_PLACES};
 ghost use Rattle.mm_chart.specs.Layout.{word_line};
 ghost use Rattle.mm_chart.specs.Series.{IsSeries};
-ghost use Rattle.mm_chart.specs.Words.{is_marked, goes_on, begins, ranges_of, range_first, range_amount, range_end, range_last, range_part, marks, marked_where, step_word, in_steps, steps_line};
+ghost use Rattle.mm_chart.specs.Words.{is_marked, goes_on, begins, ranges_of, range_first, range_amount, range_end};
+ghost use Rattle.mm_chart.specs.Words.{range_last, range_part, marks, marked_where, step_word, most_amount, in_steps};
+ghost use Rattle.mm_chart.specs.Words.{steps_line};
 
 use crate::column::Column;
 use crate::layout::{MARGIN, word_line};
@@ -107,7 +109,8 @@ fn push_range_last(text: &mut Vec<u8>, column: &Column<'_>, before: bool, step: 
     requires first { 1 ≤ step }
     requires last { step ≤ MAX_STEPS }
     requires before { before ≡ goes_on column.now.picture.now column.now.series step }
-    ensures { OnOk result (text.new.items ≡ text.old.items ++ range_last column.now.picture.now column.now.series step) }
+    ensures { OnOk result (text.new.items ≡ text.old.items
+        ++ range_last column.now.picture.now column.now.series step) }
 {
     if goes_on(column, step + 1) {
         return Ok(());
@@ -122,7 +125,8 @@ fn push_range_last(text: &mut Vec<u8>, column: &Column<'_>, before: bool, step: 
 fn push_range_part(text: &mut Vec<u8>, column: &Column<'_>, step: u32) -> Pushed
     requires first { 1 ≤ step }
     requires last { step ≤ MAX_STEPS }
-    ensures { OnOk result (text.new.items ≡ text.old.items ++ range_part column.now.picture.now column.now.series step) }
+    ensures { OnOk result (text.new.items ≡ text.old.items
+        ++ range_part column.now.picture.now column.now.series step) }
 {
     if !is_marked(column, step) {
         return Ok(());
@@ -168,6 +172,21 @@ fn push_step_word(text: &mut Vec<u8>, steps: u64) -> Pushed
     }
 }
 
+// The largest number, where the steps have numbers.
+#[tactic(auto, using(std::proofs::Common::append_assoc), unfolding(crate::specs::Words::most_amount))]
+fn push_most_amount(text: &mut Vec<u8>, series: Series, number: u64) -> Pushed
+    ensures { OnOk result (text.new.items ≡ text.old.items ++ most_amount series number) }
+{
+    match series {
+        Series::Worth => {
+            push_said(text, b" (at most ")?;
+            push_grouped(text, number)?;
+            push_said(text, b"),")
+        }
+        _ => Ok(()),
+    }
+}
+
 // The steps as ranges, or their number where they are many ranges.
 #[tactic(auto, using(std::proofs::Common::append_assoc), unfolding(crate::specs::Words::in_steps))]
 fn push_in_steps(text: &mut Vec<u8>, column: &Column<'_>) -> Pushed
@@ -180,7 +199,8 @@ fn push_in_steps(text: &mut Vec<u8>, column: &Column<'_>) -> Pushed
     }
     push_said(text, b"In the ")?;
     push_grouped(text, marks.steps)?;
-    text.extend_from_slice(marked_where(column.series))
+    text.extend_from_slice(marked_where(column.series))?;
+    push_most_amount(text, column.series, column.most())
 }
 
 // A line on the steps of a series, or on that there are none.
@@ -194,7 +214,7 @@ pub(crate) fn push_steps_line(
     none: &[u8],
 ) -> Pushed
     requires series { IsSeries picture.now series }
-    requires line { line ≤ 15 }
+    requires line { line ≤ 18 }
     ensures { OnOk result (text.new.items ≡ text.old.items
         ++ steps_line picture.now series (word_line picture.now.problem line) words.now none.now) }
 {

@@ -1,12 +1,15 @@
 //! Parts of the text of a picture: Scalable Vector Graphics (SVG) 1.1.
-ghost use Rattle.std.specs.Prelude.{◌≡◌, ◌+◌, ◌-◌, ◌*◌, ◌<◌, ◌≤◌, ◌++◌, ◌∷◌, [], OnOk, length, drop, codes, decimal, flat_map, ◌^◌};
+ghost use Rattle.std.specs.Prelude.{◌≡◌, ◌+◌, ◌-◌, ◌*◌, ◌<◌, ◌≤◌, ◌++◌, ◌∷◌, [], OnOk, length, drop, codes, decimal};
+ghost use Rattle.std.specs.Prelude.{flat_map, ◌^◌};
 ghost use Rattle.mm_problem.specs.Dumping.{steps};
 ghost use Rattle.mm_base.specs.declared.limits.TheConstants.{MAX_STEPS};
 ghost use Rattle.mm_base.specs.Characters.{line_feed};
 ghost use Rattle.mm_chart.specs.Series.{IsSeries, whole_of};
 ghost use Rattle.mm_chart.specs.declared.series.TheConstants.{AMOUNT_PLACES};
 ghost use Rattle.mm_chart.specs.Layout.{IsPlaced};
-ghost use Rattle.mm_chart.specs.Svg.{said, separated, grouped, signed_grouped, style_name, opened, closed, labelled, height_of, line_at, begun, rise, bar_line, step_outline, series_name, path_begun, outlined, profile};
+ghost use Rattle.mm_chart.specs.Svg.{said, separated, grouped, signed_grouped, style_name, opened, closed, labelled};
+ghost use Rattle.mm_chart.specs.Svg.{height_of, line_at, begun, rise, bar_line, step_outline, series_name, path_begun};
+ghost use Rattle.mm_chart.specs.Svg.{outlined, profile};
 
 use crate::column::Column;
 use crate::layout::{base_of, edge_at, room_of, step_width};
@@ -228,7 +231,8 @@ fn write_rise(octets: &mut [u8], end: usize, bar: Bar) -> usize
 #[tactic(auto, using(std::proofs::Common::append_assoc), unfolding(crate::specs::Svg::said, crate::specs::Svg::bar_line))]
 fn push_bar(text: &mut Vec<u8>, bar: Bar) -> Pushed
     requires { bar.here ≤ bar.base }
-    ensures { OnOk result (text.new.items ≡ text.old.items ++ bar_line bar.left bar.right bar.base bar.before bar.here) }
+    ensures { OnOk result (text.new.items ≡ text.old.items
+        ++ bar_line bar.left bar.right bar.base bar.before bar.here) }
 {
     if bar.here == 0 {
         if bar.before != 0 {
@@ -254,7 +258,7 @@ fn series_name(series: Series) -> &'static [u8]
         Series::Written(_) => b"g",
         Series::Left(_) => b"f",
         Series::Lost(_) => b"l",
-        Series::Worth => b"q",
+        Series::Worth | Series::Raised(_) => b"q",
         _ => b"o",
     }
 }
@@ -265,7 +269,8 @@ fn push_steps(text: &mut Vec<u8>, column: &Column<'_>, whole: u64) -> Pushed
     requires placed { IsPlaced column.now.series }
     requires whole { whole ≤ 2 ^ 40 }
     ensures { OnOk result (text.new.items ≡ text.old.items
-        ++ flat_map (step_outline column.now.picture.now column.now.series whole) (steps column.now.picture.now.problem)) }
+        ++ flat_map (step_outline column.now.picture.now column.now.series whole)
+        (steps column.now.picture.now.problem)) }
 {
     let problem = column.picture.problem();
     let base = base_of(problem, column.series);

@@ -3,8 +3,14 @@
 /// The most ranges that are listed.
 pub const MANY_RANGES: u64 = 6;
 
-/// Where the second line of a list of stores begins.
+/// Where the other lines of a list of stores begin.
 pub const INDENT: u32 = 32;
+
+/// How many stores stand on a line of names.
+pub const FEW_NAMES: usize = 8;
+
+/// How many stores stand on a line with what they lose.
+pub const FEW_LOSSES: usize = 4;
 
 /// What is said of a plan that loses least.
 pub const NO_FEWER: &[u8] = b" blocks are lost, and no plan loses fewer";
@@ -23,7 +29,7 @@ pub const MARKED_PASSES: &[u8] = b" steps marked in the row of the windows that 
 pub const MARKED_LIMITS: &[u8] = b" steps marked in the rows of the channels,";
 
 /// of those in which a wider window helps,
-pub const MARKED_WORTH: &[u8] = b" steps that have a bar above the windows,";
+pub const MARKED_WORTH: &[u8] = b" steps that have a bar above the windows";
 
 /// and of any others.
 pub const MARKED: &[u8] = b" steps,";
@@ -88,6 +94,10 @@ pub const SAVES: &[u8] = b"saves up to ";
 /// The heading of what one window is worth.
 pub const ONE_WIDER: &[u8] =
     b"What one wider window saves: a block for each block that it is wider, up to the number in brackets";
+
+/// What is said of higher limits, where a channel has one.
+pub const ONE_HIGHER: &[u8] =
+    b"What one higher limit saves at most, for all steps or for one, stands above its channel's row.";
 
 /// What follows the steps in which one saves blocks.
 pub const NO_OTHER: &[u8] = b" and in no other.";

@@ -1,5 +1,6 @@
 //! A plan to be drawn, and the numbers of its chart.
-ghost use Rattle.std.specs.Prelude.{◌≡◌, ℕ, ◌^◌, ◌+◌, ◌*◌, ◌<◌, ◌≤◌, [], if◌then◌else◌, All, IfOk, Some, None, length, slice_index_or};
+ghost use Rattle.std.specs.Prelude.{◌≡◌, ℕ, ◌^◌, ◌+◌, ◌*◌, ◌<◌, ◌≤◌, [], if◌then◌else◌, All, IfOk, Some, None, length};
+ghost use Rattle.std.specs.Prelude.{slice_index_or};
 ghost use Rattle.mm_base.specs.declared.limits.TheConstants.{MAX_STORES, MAX_STEPS, MAX_BLOCKS};
 ghost use Rattle.std.specs.List.{sum_by};
 ghost use Rattle.mm_problem.specs.Dumping.{IsDumping, stores, stores_of};
@@ -15,9 +16,11 @@ ghost use Rattle.mm_chart.specs.Columns.{AreMarks, AreAmounts};
 ghost use Rattle.mm_chart.specs.Picture.{amounts, has_cut, has_worth, cut, counts, IsDrawn};
 ghost use Rattle.mm_chart.specs.declared.series.Series.TheVariants.{CountedWindow};
 ghost use Rattle.mm_chart.specs.Series.{one_if, sent, has_stretch, IsSeries, amount_of, scaled, worth_of};
+ghost use Rattle.mm_chart.specs.Series.{limit_worth_of};
 
 use crate::series::{AMOUNT_PLACES, Series};
 use crate::shades::{Shade, has_stretch, inner_steps_of, inner_steps_on, last_steps_of, shades_of};
+use crate::worths::Worths;
 use mm_base::{MAX_STEPS, NoMemory};
 use mm_cut::{Parts, STEP_PLACES, Verdict, inner_steps, listed_steps, parts_of, verdict_of};
 use mm_plan::{Sheet, Simulated, Stretch, first_loss, simulate};
@@ -26,15 +29,15 @@ use std::alloc::Global;
 use std::fmt;
 use std::marker::Model;
 
-/// A problem, a sheet for it, the verdict on the sheet, what its plan does to the stores, and what the windows are worth where that is known.
+/// A problem, a sheet for it, the verdict on the sheet, what its plan does to the stores, and what windows and limits
+/// are worth where that is known.
 #[derive(Drop)]
 pub struct Picture {
     problem: Problem,
     sheet: Sheet,
     verdict: Verdict,
     volumes: Simulated,
-    // How many blocks a larger window saves at most, step by step.
-    worth: Option<Vec<u32>>,
+    worth: Option<Worths>,
     // The stretches that are drawn.
     shades: Vec<Shade>,
     // Whether each step is inner in some of them.
@@ -59,19 +62,18 @@ impl fmt::Debug for Picture {
 
 impl Model for Picture {
     ghost use Rattle.std.specs.Prelude.{◌≡◌, map};
-    ghost use Rattle.std.specs.Option.{option_map};
     ghost use Rattle.mm_chart.specs.Picture.{Drawn, picture_of, cut, IsDrawn, AreVolumesOf};
     ghost use Rattle.mm_chart.specs.Shading.{shade_of};
     ghost use Rattle.mm_chart.specs.Columns.{AreStepMarks};
 
     ghost Value = { Drawn };
 
-    ghost view = { λ a. picture_of a.problem a.sheet a.verdict (option_map (λ worth. worth.items) a.worth) };
+    ghost view = { λ a. picture_of a.problem a.sheet a.verdict a.worth };
 
-    ghost invariant = { λ a. IsDrawn (picture_of a.problem a.sheet a.verdict (option_map (λ worth. worth.items) a.worth))
-        × AreVolumesOf (picture_of a.problem a.sheet a.verdict (option_map (λ worth. worth.items) a.worth)) a.volumes
-        × (a.shades.items ≡ map (shade_of a.problem) (cut (picture_of a.problem a.sheet a.verdict (option_map (λ worth. worth.items) a.worth))))
-        × AreStepMarks (picture_of a.problem a.sheet a.verdict (option_map (λ worth. worth.items) a.worth)) a.inner a.listed };
+    ghost invariant = { λ a. IsDrawn (picture_of a.problem a.sheet a.verdict a.worth)
+        × AreVolumesOf (picture_of a.problem a.sheet a.verdict a.worth) a.volumes
+        × (a.shades.items ≡ map (shade_of a.problem) (cut (picture_of a.problem a.sheet a.verdict a.worth)))
+        × AreStepMarks (picture_of a.problem a.sheet a.verdict a.worth) a.inner a.listed };
 }
 
 fn has_cut(verdict: Verdict) -> bool
@@ -116,7 +118,8 @@ fn counts_of(sheet: &Sheet, verdict: Verdict) -> &[u32]
 fn volumes_of(alloc: Global, problem: &Problem, sheet: &Sheet) -> Result<Simulated, NoMemory>
     requires { HasShape problem.now sheet.now.plan }
     ensures shape { IfOk result (CoversProblem problem.now) }
-    ensures written { IfOk result (λ v. AgreeEach problem.now (written_in v) (written problem.now (amount sheet.now.plan))) }
+    ensures written { IfOk result (λ v. AgreeEach problem.now (written_in v)
+        (written problem.now (amount sheet.now.plan))) }
     ensures left { IfOk result (λ v. AgreeEach problem.now (left_in v) (left problem.now (amount sheet.now.plan))) }
     ensures lost { IfOk result (λ v. AgreeEach problem.now (lost_in v) (lost problem.now (amount sheet.now.plan))) }
 {
@@ -149,10 +152,10 @@ impl Picture {
         })
     }
 
-    /// The same, with how many blocks a larger window saves at most, step by step from step 1 on.
+    /// The same, with what windows and limits are worth.
     #[must_use]
-    pub fn with_worth(self, worth: Vec<u32>) -> Picture
-        ensures { result ≡ record self { worth = Some worth.items } }
+    pub fn with_worth(self, worth: Worths) -> Picture
+        ensures { result ≡ record self { worth = Some worth } }
     {
         Picture {
             worth: Some(worth),
@@ -160,7 +163,7 @@ impl Picture {
         }
     }
 
-    /// Whether it is known what the windows are worth.
+    /// Whether it is known what windows and limits are worth.
     #[must_use]
     pub fn has_worth(&self) -> bool
         ensures { result ≡ has_worth self.now }
@@ -175,7 +178,19 @@ impl Picture {
         ensures most { result < 2 ^ 32 }
     {
         match &self.worth {
-            Some(worth) => u64::from(worth.get(step as usize - 1).copied().unwrap_or(0)),
+            Some(worth) => u64::from(worth.window(step)),
+            None => 0,
+        }
+    }
+
+    // What one higher limit of a channel is worth in a step.
+    fn limit_worth_of(&self, channel: u8, step: u32) -> u64
+        requires { 1 ≤ step }
+        ensures worth { result ≡ limit_worth_of self.now.worth channel step }
+        ensures most { result ≤ MAX_STORES * 2 ^ 32 }
+    {
+        match &self.worth {
+            Some(worth) => worth.limit(channel).max(worth.step_limit(channel, step)),
             None => 0,
         }
     }
@@ -352,6 +367,7 @@ impl Picture {
             Series::Left(store) => u64::from(self.volumes.left(store, step)),
             Series::Lost(store) => u64::from(self.volumes.lost(store, step)),
             Series::Worth => self.worth_of(step),
+            Series::Raised(channel) => self.limit_worth_of(channel, step),
         }
     }
 

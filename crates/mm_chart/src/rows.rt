@@ -1,17 +1,21 @@
 //! The rows of a chart.
-ghost use Rattle.std.specs.Prelude.{◌≡◌, ◌+◌, ◌-◌, ◌*◌, ◌^◌, ◌<◌, ◌≤◌, ◌++◌, ◌∷◌, [], OnOk, length, codes, decimal, flat_map};
+ghost use Rattle.std.specs.Prelude.{◌≡◌, ◌+◌, ◌-◌, ◌*◌, ◌^◌, ◌<◌, ◌≤◌, ◌++◌, ◌∷◌, [], OnOk, length, codes, decimal};
+ghost use Rattle.std.specs.Prelude.{flat_map};
 ghost use Rattle.mm_base.specs.declared.limits.TheConstants.{MAX_STORES, MAX_STEPS, MAX_BLOCKS};
 ghost use Rattle.mm_base.specs.Id.{id_text};
 ghost use Rattle.mm_problem.specs.Dumping.{IsDumping, row, stores, steps, channels};
 ghost use Rattle.mm_chart.specs.declared.series.Series.TheVariants.{Window, Used, Lost};
 ghost use Rattle.mm_chart.specs.Series.{total_of, most_of, most_limit, most_lost};
 ghost use Rattle.mm_chart.specs.Layout.{edge};
-ghost use Rattle.mm_chart.specs.Rows.{right, counted, frame, name, guide, numbered, windows_words, windows_row, worth_bars, worth_part, limit_front, channel_side, channel_row, channel_part, coming_to, all_coming, store_side, store_loss, store_words, store_bars, store_row, tick, rows};
+ghost use Rattle.mm_chart.specs.Rows.{right, counted, frame, name, guide, numbered, windows_words, windows_row};
+ghost use Rattle.mm_chart.specs.Rows.{worth_bars, worth_part, is_by_step, limit_front, limit_back, raised_bars};
+ghost use Rattle.mm_chart.specs.Rows.{raised_part, channel_side, channel_row, channel_part, coming_to, all_coming};
+ghost use Rattle.mm_chart.specs.Rows.{store_side, store_loss, store_words, store_bars, store_row, tick, rows};
 
 use crate::column::Column;
 use crate::layout::{
-    LEFT, NAME_AT, SAVED_AT, TALL, THIN, TICK_AT, WINDOW_BASE, bottom, channel_base, edge,
-    has_limit, step_width, store_base, tick_every,
+    LEFT, NAME_AT, RAISED_AT, SAVED_AT, TALL, THIN, TICK_AT, WINDOW_BASE, bottom, channel_base,
+    edge, has_limit, step_width, store_base, tick_every,
 };
 use crate::pen::{
     Line, Pushed, Style, push_begun, push_closed, push_column, push_grouped, push_labelled,
@@ -39,7 +43,8 @@ pub(crate) fn push_counted(
     number: u64,
     back: &[u8],
 ) -> Pushed
-    ensures { OnOk result (text.new.items ≡ text.old.items ++ counted line.style line.x line.y front.now number back.now) }
+    ensures { OnOk result (text.new.items ≡ text.old.items
+        ++ counted line.style line.x line.y front.now number back.now) }
 {
     push_opened(text, line.style, line.x, line.y)?;
     text.extend_from_slice(front)?;
@@ -107,9 +112,11 @@ fn push_windows_row(text: &mut Vec<u8>, picture: &Picture) -> Pushed
     push_windows_words(text, picture, most, windows.total(), used.total())
 }
 
-/// The key of what windows are worth, with its colour.
+/// The keys of what windows and limits are worth, with their colour.
 pub const WORTH_KEY: &[u8] =
-    b"<style>.q{fill:#1e8a4c;stroke:#000;stroke-width:.5}</style>\n<g class='t'><rect class='q' x='870' y='44' width='12' height='12'/><text x='886' y='54'>saved by a wider window</text></g>\n";
+    b"<style>.q{fill:#1e8a4c;stroke:#000;stroke-width:.5}</style>\n<g class='t'><rect class='q' x='870' y='44' \
+    width='12' height='12'/><text x='886' y='54'>saved by a wider window</text><rect class='q' x='946' y='62' \
+    width='12' height='12'/><text x='962' y='72'>by a higher limit</text></g>\n";
 
 // What the windows are worth.
 #[tactic(auto, using(std::proofs::Common::append_assoc), unfolding(crate::specs::Rows::worth_bars))]
@@ -146,14 +153,32 @@ fn most_limit(problem: &Problem, channel: u8) -> u32
     most
 }
 
+// Whether a channel has limits of its own in each step.
+fn is_by_step(problem: &Problem, channel: u8) -> bool
+    ensures { result ≡ is_by_step problem.now channel }
+{
+    problem.limited().contains(&channel)
+}
+
 // What stands before the limit of a channel: the limits of its column may differ from step to step.
 fn limit_front(problem: &Problem, channel: u8) -> &'static [u8]
     ensures { result.now ≡ limit_front problem.now channel }
 {
-    if problem.limited().contains(&channel) {
+    if is_by_step(problem, channel) {
         b": up to "
     } else {
         b": "
+    }
+}
+
+// What stands after it, where there is room for it.
+fn limit_back(problem: &Problem, channel: u8) -> &'static [u8]
+    ensures { result.now ≡ limit_back problem.now channel }
+{
+    if is_by_step(problem, channel) {
+        b""
+    } else {
+        b" a step"
     }
 }
 
@@ -168,8 +193,31 @@ fn push_channel_side(text: &mut Vec<u8>, picture: &Picture, channel: u8) -> Push
     push_value(text, b"channel ", u32::from(channel))?;
     push_said(text, limit_front(problem, channel))?;
     push_grouped(text, u64::from(most_limit(problem, channel)))?;
-    push_said(text, b" a step")?;
+    push_said(text, limit_back(problem, channel))?;
     push_closed(text)
+}
+
+// What the limits of a channel are worth, above its row.
+#[tactic(auto, using(std::proofs::Common::append_assoc), unfolding(crate::specs::Rows::raised_bars))]
+fn push_raised_bars(text: &mut Vec<u8>, picture: &Picture, channel: u8) -> Pushed
+    ensures { OnOk result (text.new.items ≡ text.old.items ++ raised_bars picture.now channel) }
+{
+    let raised = Column::new(picture, Series::Raised(channel));
+    let most = raised.most();
+    let y = channel_base(picture.problem(), channel) - RAISED_AT;
+    push_column(text, &raised, most)?;
+    push_counted(text, Style::Side.at(NAME_AT, y), SAVES, most, b"")
+}
+
+// Nothing where that is not known.
+#[tactic(auto, unfolding(crate::specs::Rows::raised_part))]
+fn push_raised_part(text: &mut Vec<u8>, picture: &Picture, channel: u8) -> Pushed
+    ensures { OnOk result (text.new.items ≡ text.old.items ++ raised_part picture.now channel) }
+{
+    if !picture.has_worth() {
+        return Ok(());
+    }
+    push_raised_bars(text, picture, channel)
 }
 
 #[tactic(auto, using(std::proofs::Common::append_assoc), unfolding(crate::specs::Rows::channel_row))]
@@ -185,7 +233,8 @@ fn push_channel_row(text: &mut Vec<u8>, picture: &Picture, channel: u8) -> Pushe
     push_channel_side(text, picture, channel)?;
     let right = right(picture.problem());
     let at_right = Style::Total.at(right, base - 5);
-    push_counted(text, at_right, b"", sent.total(), b" sent")
+    push_counted(text, at_right, b"", sent.total(), b" sent")?;
+    push_raised_part(text, picture, channel)
 }
 
 // Nothing for a channel without a limit.
@@ -201,7 +250,8 @@ fn push_channel_part(text: &mut Vec<u8>, picture: &Picture, channel: u8) -> Push
 
 #[tactic(auto, using(std::proofs::Common::append_assoc, crate::proofs::Ranges::flat_map_range_more))]
 fn push_channels(text: &mut Vec<u8>, picture: &Picture) -> Pushed
-    ensures { OnOk result (text.new.items ≡ text.old.items ++ flat_map (channel_part picture.now) (channels picture.now.problem)) }
+    ensures { OnOk result (text.new.items ≡ text.old.items
+        ++ flat_map (channel_part picture.now) (channels picture.now.problem)) }
 {
     for channel in 0..picture.problem().channels() {
         push_channel_part(text, picture, channel)?;
@@ -326,7 +376,8 @@ fn push_store_row(text: &mut Vec<u8>, picture: &Picture, store: usize, whole: u6
 
 #[tactic(auto, using(std::proofs::Common::append_assoc, crate::proofs::Ranges::flat_map_range_more))]
 fn push_stores(text: &mut Vec<u8>, picture: &Picture) -> Pushed
-    ensures { OnOk result (text.new.items ≡ text.old.items ++ flat_map (store_row picture.now) (stores picture.now.problem)) }
+    ensures { OnOk result (text.new.items ≡ text.old.items
+        ++ flat_map (store_row picture.now) (stores picture.now.problem)) }
 {
     let whole = most_lost(picture);
     for store in 0..picture.problem().stores() {

@@ -32,4 +32,7 @@ pub enum Series {
     Lost(usize),
     /// How many blocks a larger window saves at most; 0 where that is not known.
     Worth,
+    /// How many blocks a higher limit of the channel saves at most, that of the setup or that of the step; 0 where that
+    /// is not known.
+    Raised(u8),
 }

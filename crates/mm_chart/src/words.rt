@@ -3,19 +3,23 @@ ghost use Rattle.std.specs.Prelude.{◌≡◌, ◌<◌, ◌≤◌, ◌^◌, ◌+
 ghost use Rattle.mm_base.specs.declared.limits.TheConstants.{MAX_STORES};
 ghost use Rattle.mm_problem.specs.Dumping.{stores};
 ghost use Rattle.mm_cut.specs.declared.verdict.Verdict.TheVariants.{LeastInOrder};
+ghost use Rattle.mm_chart.specs.Layout.{limits_below};
 ghost use Rattle.mm_chart.specs.Svg.{said, grouped, signed_grouped, closed};
-ghost use Rattle.mm_chart.specs.Words.{why_heading, words_of, at_most, sum_line, leaving, why, stretched, broken, stretched_at, stores_line, help, worth_lines, worth_words, first_at, firsts_lines, firsts_line, least_words, words, word_lines};
+ghost use Rattle.mm_chart.specs.Words.{why_heading, words_of, at_most, sum_line, leaving, why, stretched, broken};
+ghost use Rattle.mm_chart.specs.Words.{stretched_at, stores_line, help, limits_line, worth_lines, worth_words};
+ghost use Rattle.mm_chart.specs.Words.{worth_room, firsts_room, first_at, firsts_lines, firsts_line, least_words};
+ghost use Rattle.mm_chart.specs.Words.{words, word_lines};
 
-use crate::layout::{LINE_PITCH, MARGIN, word_line};
+use crate::layout::{LINE_PITCH, MARGIN, limits_below, word_line};
 use crate::marked::push_steps_line;
 use crate::pen::{
     Pushed, Style, push_closed, push_grouped, push_labelled, push_opened, push_said,
     push_signed_grouped,
 };
 use crate::phrases::{
-    AS_ENDS, AT_LEAST, BY_LIMITS, BY_WINDOWS, COME, FEWER, FIRSTS, HELP, HIGHER, IN_STRETCHES,
-    INDENT, LARGER, LOSE, NO_HIGHER, NO_LIMITS, NO_OTHER, NO_WIDER, NO_WINDOWS, NONE_WIDER,
-    ONE_WIDER, STAND, WHY, WIDER,
+    AS_ENDS, AT_LEAST, BY_LIMITS, BY_WINDOWS, COME, FEW_LOSSES, FEW_NAMES, FEWER, FIRSTS, HELP,
+    HIGHER, IN_STRETCHES, INDENT, LARGER, LOSE, NO_HIGHER, NO_LIMITS, NO_OTHER, NO_WIDER,
+    NO_WINDOWS, NONE_WIDER, ONE_HIGHER, ONE_WIDER, STAND, WHY, WIDER,
 };
 use crate::picture::Picture;
 use crate::rows::{push_counted, push_name};
@@ -129,34 +133,39 @@ fn push_stretched(text: &mut Vec<u8>, picture: &Picture, store: usize) -> Pushed
     push_name(text, picture.problem(), store)
 }
 
-// A new line, before the ninth store.
+// A new line after each so many stores, where more follow.
 #[tactic(auto, using(std::proofs::Common::append_assoc), unfolding(crate::specs::Words::broken))]
-fn push_broken(text: &mut Vec<u8>, y: u32, store: usize) -> Pushed
-    requires { y < 2 ^ 20 }
-    ensures { OnOk result (text.new.items ≡ text.old.items ++ broken y store) }
+fn push_broken(text: &mut Vec<u8>, few: usize, y: u32, store: usize) -> Pushed
+    requires few { 1 ≤ few }
+    requires store { store < MAX_STORES }
+    requires height { y < 2 ^ 20 }
+    ensures { OnOk result (text.new.items ≡ text.old.items ++ broken few y store) }
 {
-    if store != 8 {
+    if store == 0 || store % few != 0 {
         return Ok(());
     }
     push_closed(text)?;
-    push_opened(text, Style::Plain, INDENT, y + LINE_PITCH)
+    let line = (store / few) as u32;
+    push_opened(text, Style::Plain, INDENT, y + LINE_PITCH * line)
 }
 
-// The identifier of a store with a stretch, on a line of 8 stores.
+// The identifier of a store with a stretch, on a line of few stores.
 #[tactic(auto, using(std::proofs::Common::append_assoc), unfolding(crate::specs::Words::stretched_at))]
 fn push_stretched_at(text: &mut Vec<u8>, picture: &Picture, y: u32, store: usize) -> Pushed
     requires store { store < length picture.now.problem.rows }
+    requires few { store < MAX_STORES }
     requires height { y < 2 ^ 20 }
     ensures { OnOk result (text.new.items ≡ text.old.items ++ stretched_at picture.now y store) }
 {
-    push_broken(text, y, store)?;
+    push_broken(text, FEW_NAMES, y, store)?;
     push_stretched(text, picture, store)
 }
 
 #[tactic(auto, using(std::proofs::Common::append_assoc, crate::proofs::Ranges::flat_map_range_more))]
 fn push_all_stretched(text: &mut Vec<u8>, picture: &Picture, y: u32) -> Pushed
     requires { y < 2 ^ 20 }
-    ensures { OnOk result (text.new.items ≡ text.old.items ++ flat_map (stretched_at picture.now y) (stores picture.now.problem)) }
+    ensures { OnOk result (text.new.items ≡ text.old.items
+        ++ flat_map (stretched_at picture.now y) (stores picture.now.problem)) }
 {
     for store in 0..picture.problem().stores() {
         push_stretched_at(text, picture, y, store)?;
@@ -189,15 +198,36 @@ fn push_help(text: &mut Vec<u8>, picture: &Picture) -> Pushed
     push_stores_line(text, picture, word_line(problem, 11))
 }
 
+// How many channels have a limit.
+fn limited(picture: &Picture) -> u32
+    ensures { result ≡ limits_below picture.now.problem (length picture.now.problem.limits) }
+{
+    let problem = picture.problem();
+    limits_below(problem, problem.channels())
+}
+
+// Where the rows say what a limit is worth.
+#[tactic(auto, unfolding(crate::specs::Words::limits_line))]
+fn push_limits_line(text: &mut Vec<u8>, picture: &Picture, y: u32) -> Pushed
+    ensures { OnOk result (text.new.items ≡ text.old.items ++ limits_line picture.now y) }
+{
+    if limited(picture) == 0 {
+        return Ok(());
+    }
+    push_labelled(text, Style::Plain, MARGIN, y, ONE_HIGHER)
+}
+
 // Exactly the steps in which a wider window saves blocks by itself.
 #[tactic(auto, using(std::proofs::Common::append_assoc), unfolding(crate::specs::Words::worth_lines))]
 fn push_worth_lines(text: &mut Vec<u8>, picture: &Picture, line: u32) -> Pushed
     requires { line ≤ 14 }
     ensures { OnOk result (text.new.items ≡ text.old.items ++ worth_lines picture.now line) }
 {
-    let y = word_line(picture.problem(), line);
+    let problem = picture.problem();
+    let y = word_line(problem, line);
     push_labelled(text, Style::Heading, MARGIN, y, ONE_WIDER)?;
-    push_steps_line(text, picture, Series::Worth, line + 1, NO_OTHER, NONE_WIDER)
+    push_steps_line(text, picture, Series::Worth, line + 1, NO_OTHER, NONE_WIDER)?;
+    push_limits_line(text, picture, word_line(problem, line + 2))
 }
 
 // Nothing where that is not known.
@@ -212,7 +242,7 @@ fn push_worth_words(text: &mut Vec<u8>, picture: &Picture, line: u32) -> Pushed
     push_worth_lines(text, picture, line)
 }
 
-// A store and what it and those before it lose, on a line of 8 stores.
+// A store and what it and those before it lose, on a line of few stores.
 #[tactic(auto, using(std::proofs::Common::append_assoc), unfolding(crate::specs::Words::first_at))]
 fn push_first_at(text: &mut Vec<u8>, picture: &Picture, y: u32, store: usize) -> Pushed
     requires store { store < length picture.now.problem.rows }
@@ -220,7 +250,7 @@ fn push_first_at(text: &mut Vec<u8>, picture: &Picture, y: u32, store: usize) ->
     requires height { y < 2 ^ 20 }
     ensures { OnOk result (text.new.items ≡ text.old.items ++ first_at picture.now y store) }
 {
-    push_broken(text, y, store)?;
+    push_broken(text, FEW_LOSSES, y, store)?;
     push_said(text, b" ")?;
     push_name(text, picture.problem(), store)?;
     push_said(text, b" (")?;
@@ -231,7 +261,8 @@ fn push_first_at(text: &mut Vec<u8>, picture: &Picture, y: u32, store: usize) ->
 #[tactic(auto, using(std::proofs::Common::append_assoc, crate::proofs::Ranges::flat_map_range_more))]
 fn push_all_firsts(text: &mut Vec<u8>, picture: &Picture, y: u32) -> Pushed
     requires { y < 2 ^ 20 }
-    ensures { OnOk result (text.new.items ≡ text.old.items ++ flat_map (first_at picture.now y) (stores picture.now.problem)) }
+    ensures { OnOk result (text.new.items ≡ text.old.items
+        ++ flat_map (first_at picture.now y) (stores picture.now.problem)) }
 {
     for store in 0..picture.problem().stores() {
         push_first_at(text, picture, y, store)?;
@@ -242,7 +273,7 @@ fn push_all_firsts(text: &mut Vec<u8>, picture: &Picture, y: u32) -> Pushed
 // What is said of what the first stores lose, and each of the stores.
 #[tactic(auto, using(std::proofs::Common::append_assoc), unfolding(crate::specs::Words::firsts_lines))]
 fn push_firsts_lines(text: &mut Vec<u8>, picture: &Picture, line: u32) -> Pushed
-    requires { line ≤ 16 }
+    requires { line ≤ 17 }
     ensures { OnOk result (text.new.items ≡ text.old.items ++ firsts_lines picture.now line) }
 {
     let problem = picture.problem();
@@ -260,12 +291,31 @@ fn push_firsts_lines(text: &mut Vec<u8>, picture: &Picture, line: u32) -> Pushed
     push_closed(text)
 }
 
-// The first line after what one window is worth.
+// How many lines say what one window is worth, with an empty one after them.
+fn worth_room(picture: &Picture) -> u32
+    ensures room { result ≡ worth_room picture.now }
+    ensures most { result ≤ 4 }
+{
+    if !picture.has_worth() {
+        return 0;
+    }
+    if limited(picture) > 0 { 4 } else { 3 }
+}
+
+// The first line after them.
 fn firsts_line(picture: &Picture) -> u32
     ensures line { result ≡ firsts_line picture.now }
-    ensures most { result ≤ 16 }
+    ensures most { result ≤ 17 }
 {
-    if picture.has_worth() { 16 } else { 13 }
+    13 + worth_room(picture)
+}
+
+// How many lines say what the first stores lose, with the one before them.
+fn firsts_room(picture: &Picture) -> u32
+    ensures room { result ≡ firsts_room picture.now }
+    ensures most { result ≤ 6 }
+{
+    2 + ((picture.problem().stores() + (FEW_LOSSES - 1)) / FEW_LOSSES) as u32
 }
 
 // The sum and the help of a plan that loses least of the first stores too.
@@ -295,7 +345,8 @@ fn push_least_words(alloc: Global, text: &mut Vec<u8>, picture: &Picture, loss: 
 // The sum where the cut does not show that no plan loses fewer.
 #[tactic(auto, using(std::proofs::Common::append_assoc))]
 fn push_other_words(alloc: Global, text: &mut Vec<u8>, picture: &Picture, bound: i64) -> Pushed
-    ensures { OnOk result (text.new.items ≡ text.old.items ++ (why picture.now (signed_grouped bound) ++ worth_words picture.now 7)) }
+    ensures { OnOk result (text.new.items ≡ text.old.items ++ (why picture.now (signed_grouped bound)
+        ++ worth_words picture.now 7)) }
 {
     let mut number = Vec::new(alloc);
     push_signed_grouped(&mut number, bound)?;
@@ -320,16 +371,14 @@ pub(crate) fn push_words(alloc: Global, text: &mut Vec<u8>, picture: &Picture) -
 /// How many lines the words have room for.
 pub(crate) fn word_lines(picture: &Picture) -> u32
     ensures lines { result ≡ word_lines picture.now picture.now.verdict }
-    ensures most { result ≤ 19 }
+    ensures most { result ≤ 23 }
 {
-    let has_worth = picture.has_worth();
     match picture.verdict() {
         Verdict::Least(0) | Verdict::LeastInOrder(0) => 0,
-        Verdict::LeastInOrder(_) => firsts_line(picture) + 3,
-        Verdict::Least(_) if has_worth => 15,
+        Verdict::LeastInOrder(_) => firsts_line(picture) + firsts_room(picture),
+        Verdict::Least(_) if picture.has_worth() => 12 + worth_room(picture),
         Verdict::Least(_) => 13,
-        Verdict::NotShown { .. } if has_worth => 9,
-        Verdict::NotShown { .. } => 6,
+        Verdict::NotShown { .. } => 6 + worth_room(picture),
         _ => 0,
     }
 }

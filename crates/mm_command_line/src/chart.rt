@@ -14,7 +14,7 @@ Options, --worth right after `chart`, --output after the files:
   --worth                     a bar above a window shows how many blocks it saves at most if it alone is
                               wider, and the words tell them
   --output FILE               the picture goes into FILE, whole or not at all, and is not printed; FILE is
-                              none of the files above
+                              none of the files above; - prints it
 
 Examples:
   mm_tool chart setup.toml forecast.csv plan.txt --output chart.svg

@@ -16,25 +16,31 @@ pub(crate) struct File {
     pub(crate) help: &'static str,
 }
 
-/// A command: the word that names it, what help says of it, and the files whose names follow the word.
+/// A command: the word that names it, the words of a whole line, what help says of it, and the files whose names follow
+/// the word.
 pub(crate) struct Form {
     pub(crate) word: &'static str,
+    /// A line of the command with each of its flags, as help shows it.
+    pub(crate) usage: &'static str,
     pub(crate) about: &'static str,
     pub(crate) help: &'static str,
     pub(crate) files: &'static [File],
 }
 
 const ABOUT: &str =
-    "Plans when a spacecraft's packet stores are dumped, checks, draws and carries out such plans, and answers and reads requests of the storage service";
+    "Plans when a spacecraft's packet stores are dumped, checks, draws and carries out such plans, and answers and \
+        reads requests of the storage service";
 
 const TOOL_HELP: &str = "\
 Without words the program reads a script from standard input: a first line with the words, and then
-each file under a line `=== NAME`.
+each file under a line `=== NAME`. With words, a file named - is standard input, for one file at most,
+and --output - is standard output. In a script - is a name like any other.
 
 Examples:
   mm_tool plan setup.toml forecast.csv --output plan.txt
   mm_tool plan --in-order setup.toml forecast.csv --output plan.txt
   mm_tool check setup.toml forecast.csv plan.txt
+  mm_tool plan setup.toml forecast.csv | mm_tool check setup.toml forecast.csv -
   mm_tool chart setup.toml forecast.csv plan.txt --output chart.svg
   mm_tool chart --worth setup.toml forecast.csv plan.txt --output chart.svg
   mm_tool table setup.toml forecast.csv plan.txt --output table.csv
@@ -64,6 +70,7 @@ fn command_of<'a>(alloc: Global, form: &Form) -> Result<Command<'a>, AllocError>
     ensures is { IfOk result (IsCommand (entry_of form.now)) }
 {
     let mut command = Command::new(alloc, form.word)
+        .override_usage(form.usage)
         .about(form.about)
         .after_help(form.help);
     for file in form.files {
@@ -109,7 +116,8 @@ pub(crate) fn tool_command<'a>(alloc: Global) -> Result<Command<'a>, AllocError>
 
 /// The command of this word.
 pub(crate) fn form_of<'f>(forms: &'f [Form], word: &str) -> Option<&'f Form>
-    ensures row { option_map (λ form. entry_of form.now) result ≡ find (λ entry. bytes_eq entry.0 word.now) (map entry_of forms.now) }
+    ensures row { option_map (λ form. entry_of form.now) result
+        ≡ find (λ entry. bytes_eq entry.0 word.now) (map entry_of forms.now) }
 {
     forms.iter().find(|form| form.word == word)
 }

@@ -46,54 +46,63 @@ const PACKETS: File = File {
 pub(crate) static COMMANDS: [Form; 9] = [
     Form {
         word: "plan",
+        usage: "mm_tool plan [--in-order] <SETUP> <FORECAST> [--output <FILE>]",
         about: PLAN_ABOUT,
         help: PLAN_HELP,
         files: &[SETUP, FORECAST],
     },
     Form {
         word: "check",
+        usage: "mm_tool check <SETUP> <FORECAST> <PLAN>",
         about: CHECK_ABOUT,
         help: CHECK_HELP,
         files: &[SETUP, FORECAST, PLAN],
     },
     Form {
         word: "chart",
+        usage: "mm_tool chart [--worth] <SETUP> <FORECAST> <PLAN> [--output <FILE>]",
         about: chart::ABOUT,
         help: chart::HELP,
         files: &[SETUP, FORECAST, PLAN],
     },
     Form {
         word: "table",
+        usage: "mm_tool table <SETUP> <FORECAST> <PLAN> [--output <FILE>]",
         about: table::ABOUT,
         help: table::HELP,
         files: &[SETUP, FORECAST, PLAN],
     },
     Form {
         word: "sensitivity",
+        usage: "mm_tool sensitivity <SETUP> <FORECAST>",
         about: sensitivity::ABOUT,
         help: sensitivity::HELP,
         files: &[SETUP, FORECAST],
     },
     Form {
         word: "run",
+        usage: "mm_tool run <SETUP> <FORECAST> <PLAN> <SOURCES> <LINKS>",
         about: flight::RUN_ABOUT,
         help: flight::RUN_HELP,
         files: &[SETUP, FORECAST, FLOWN_PLAN, SOURCES, LINKS],
     },
     Form {
         word: "fly",
+        usage: "mm_tool fly <SETUP> <FORECAST> <SOURCES> <LINKS>",
         about: flight::FLY_ABOUT,
         help: flight::FLY_HELP,
         files: &[SETUP, FORECAST, SOURCES, LINKS],
     },
     Form {
         word: "ask",
+        usage: "mm_tool ask <SETUP> <REQUESTS>",
         about: ASK_ABOUT,
         help: ASK_HELP,
         files: &[SETUP, REQUESTS],
     },
     Form {
         word: "read",
+        usage: "mm_tool read <PACKETS>",
         about: read::ABOUT,
         help: read::HELP,
         files: &[PACKETS],
@@ -121,7 +130,9 @@ Options, --in-order right after `plan`, --output after the files:
   --in-order                  of the plans that lose least, one that serves the stores in the setup's order:
                               no plan that fits loses fewer of the first K stores, for each K
   --output FILE               the plan text goes into FILE, whole or not at all, and is not printed; FILE is
-                              none of the files above
+                              none of the files above; - prints it
+
+A file named - is standard input, for one file at most.
 
 Examples:
   mm_tool plan setup.toml forecast.csv

@@ -11,7 +11,9 @@ mod sensitivity;
 mod table;
 mod task;
 mod version;
+mod wrong_flag;
 
-pub use line::{has_misplaced_flag, has_misplaced_output, parse};
+pub use line::parse;
 pub use task::{FileNames, FlightFiles, PlanFiles, Role, Task};
 pub use version::{VERSION, asks_version};
+pub use wrong_flag::{FlagFault, flag_fault};

@@ -1,10 +1,13 @@
 //! The words of a command line, read as a task.
-ghost use Rattle.std.specs.Prelude.{◌≡◌, ◌↔◌, ◌⊎◌, ℕ, List, [], ◌∷◌, IfErr, IfOk, IfNone, IfSome, IsTrue, Some, false, map, option_map};
+ghost use Rattle.std.specs.Prelude.{◌≡◌, ◌↔◌, ◌⊎◌, ℕ, List, [], ◌∷◌, IfErr, IfOk, IfNone, IfSome, IsTrue, Some, false};
+ghost use Rattle.std.specs.Prelude.{map, option_map};
 ghost use Rattle.std.specs.List.{All, filter, list_any};
 ghost use Rattle.clap.specs.Words.{found_of, kind_of, rows_of, subcommand_rows_of};
 ghost use Rattle.clap.specs.declared.error.kind.ErrorKind.TheVariants.{OutOfMemory};
 ghost use Rattle.mm_command_line.specs.Commands.{entry_of, line_found, row_found, words_found};
-ghost use Rattle.mm_command_line.specs.Lines.{ArePlain, EndsWithOutput, IsCommandLine, IsFileName, IsSplit, IsTaskLine, before_dashes, command_words, flags_of, has_flag, is_dashes, is_flag, is_flag_of, spelling, without_dashes, without_flag};
+ghost use Rattle.mm_command_line.specs.Lines.{ArePlain, EndsWithOutput, IsCommandLine, IsFileName, IsSplit, IsTaskLine};
+ghost use Rattle.mm_command_line.specs.Lines.{before_dashes, command_words, flags_of, has_flag, is_dashes, is_flag};
+ghost use Rattle.mm_command_line.specs.Lines.{is_flag_of, spelling, without_dashes, without_flag};
 
 use crate::command::{Form, form_of, tool_command};
 use crate::commands::COMMANDS;
@@ -15,13 +18,13 @@ use std::alloc::{AllocError, Global};
 use std::convert::AsStr;
 
 /// The word before the name of an output.
-const OUTPUT: &str = "--output";
+pub(crate) const OUTPUT: &str = "--output";
 
 /// The flag of `plan`: the stores are served in the setup's order.
-const IN_ORDER: &str = "--in-order";
+pub(crate) const IN_ORDER: &str = "--in-order";
 
 /// The flag of `chart`: the chart says what each window is worth.
-const WORTH: &str = "--worth";
+pub(crate) const WORTH: &str = "--worth";
 
 // The task that the words of a command ask for, without its flag and its output.
 fn task_of<'a>(words: &[&'a str]) -> Option<Task<'a>>
@@ -87,7 +90,8 @@ fn is_file_name(word: &str) -> bool
 
 // The words without the first `--`; none where a flag stands before that.
 fn plain_words<'a>(alloc: Global, words: &[&'a str]) -> Result<Option<Vec<&'a str>>, AllocError>
-    ensures plain { IfOk result (λ plain. IfSome plain (λ plain. ArePlain (map (λ word. word.now) words.now) (map (λ word. word.now) plain.items))) }
+    ensures plain { IfOk result (λ plain. IfSome plain (λ plain. ArePlain (map (λ word. word.now) words.now)
+        (map (λ word. word.now) plain.items))) }
     ensures flagged { IfOk result (λ plain. IfNone plain (All IsFileName (map (λ word. word.now) words.now) → ⊥)) }
 {
     let mut plain = Vec::new(alloc);
@@ -109,7 +113,8 @@ fn plain_words<'a>(alloc: Global, words: &[&'a str]) -> Result<Option<Vec<&'a st
 
 // The command that was found, and what was found for its files.
 fn command_in<'m, 'a>(matches: &'m ArgMatches<'a>) -> Option<(&'static Form, &'m ArgMatches<'a>)>
-    ensures row { option_map (λ row. (entry_of row.0.now, rows_of (found_of row.1.now))) result ≡ row_found (subcommand_rows_of matches.now) }
+    ensures row { option_map (λ row. (entry_of row.0.now, rows_of (found_of row.1.now))) result
+        ≡ row_found (subcommand_rows_of matches.now) }
 {
     let (word, files) = matches.subcommand()?;
     Some((form_of(&COMMANDS, word)?, files))
@@ -121,7 +126,8 @@ fn words_in<'a>(
     form: &Form,
     files: &ArgMatches<'a>,
 ) -> Result<Vec<&'a str>, AllocError>
-    ensures words { IfOk result (λ words. map (λ word. word.now) words.items ≡ words_found (entry_of form.now) (rows_of (found_of files.now))) }
+    ensures words { IfOk result (λ words. map (λ word. word.now) words.items
+        ≡ words_found (entry_of form.now) (rows_of (found_of files.now))) }
 {
     let mut words = Vec::new(alloc);
     words.push(form.word)?;
@@ -133,13 +139,15 @@ fn words_in<'a>(
     Ok(words)
 }
 
-// The task that the matches ask for. They have to have the words that were given, but for the first `--`, and no flag stands before that.
+// The task that the matches ask for. They have to have the words that were given, but for the first `--`, and no flag
+// stands before that.
 fn read_matches<'a>(
     alloc: Global,
     words: &[&'a str],
     matches: &ArgMatches<'_>,
 ) -> Result<Option<Task<'a>>, AllocError>
-    ensures spelled { IfOk result (λ task. IfSome task (λ task. ArePlain (map (λ word. word.now) words.now) (command_words task))) }
+    ensures spelled { IfOk result (λ task. IfSome task (λ task. ArePlain (map (λ word. word.now) words.now)
+        (command_words task))) }
     ensures none { IfOk result (λ task. IfNone task (IsCommandLine (map (λ word. word.now) words.now)
         → line_found (subcommand_rows_of matches.now) ≡ Some (map (λ word. word.now) words.now) → ⊥)) }
 {
@@ -178,7 +186,8 @@ fn parse_command<'a>(alloc: Global, words: &[&'a str]) -> Result<Task<'a>, Error
     // Whatever the words, a task that is read is spelled by them, without the first `--`.
     ensures spelled { IfOk result (λ task. command_words task ≡ without_dashes (map (λ word. word.now) words.now)) }
     // No word before that is a flag, as a call for help is.
-    ensures unflagged { IfOk result (λ task. list_any is_flag (before_dashes (map (λ word. word.now) words.now)) ≡ false) }
+    ensures unflagged { IfOk result (λ task. list_any is_flag (before_dashes (map (λ word. word.now) words.now))
+        ≡ false) }
 {
     let mut command = tool_command(alloc)?;
     let matches = command.try_get_matches_from_mut(words)?;
@@ -198,10 +207,13 @@ fn has_dashes<S: AsStr>(words: &[S]) -> bool
     words.iter().any(|word| word.as_str() == "--")
 }
 
-// The words before a last `--output FILE`, and the name of that file. After a `--`, and before a flag, `--output` is not that option.
+// The words before a last `--output FILE`, and the name of that file. After a `--`, and before a flag, `--output` is
+// not that option.
 fn last_output<'a, S: AsStr>(words: &'a [S]) -> Option<(&'a [S], &'a str)>
-    ensures found { IfSome result (λ found. EndsWithOutput (map S.text words.entry.now) (map S.text found.0.now) found.1.now) }
-    ensures none { IfNone result ((before : List (List ℕ)) → (name : List ℕ) → EndsWithOutput (map S.text words.entry.now) before name → ⊥) }
+    ensures found { IfSome result (λ found. EndsWithOutput (map S.text words.entry.now) (map S.text found.0.now)
+        found.1.now) }
+    ensures none { IfNone result ((before : List (List ℕ)) → (name : List ℕ)
+        → EndsWithOutput (map S.text words.entry.now) before name → ⊥) }
 {
     let (file, others) = words.split_last()?;
     let (flag, front) = others.split_last()?;
@@ -217,8 +229,8 @@ fn last_output<'a, S: AsStr>(words: &'a [S]) -> Option<(&'a [S], &'a str)>
     Some((front, file.as_str()))
 }
 
-// The words before a last output, and its name, where there is one.
-fn split_output<'a, S: AsStr>(words: &'a [S]) -> (&'a [S], Option<&'a str>)
+/// The words before a last output, and its name, where there is one.
+pub(crate) fn split_output<'a, S: AsStr>(words: &'a [S]) -> (&'a [S], Option<&'a str>)
     ensures split { IsSplit (map S.text words.entry.now) (map S.text result.0.now) result.1 }
 {
     match last_output(words) {
@@ -234,8 +246,8 @@ fn is_flag_of(command: &str, word: &str) -> bool
     matches!((command, word), ("plan", IN_ORDER) | ("chart", WORTH))
 }
 
-// Whether the second word is the flag of the first.
-fn has_flag<S: AsStr>(words: &[S]) -> bool
+/// Whether the second word is the flag of the first.
+pub(crate) fn has_flag<S: AsStr>(words: &[S]) -> bool
     ensures { result ≡ has_flag (map S.text words.now) }
 {
     match words {
@@ -260,7 +272,8 @@ fn split_flag<'a, S: AsStr>(
     alloc: Global,
     words: &'a [S],
 ) -> Result<(Vec<&'a str>, bool), AllocError>
-    ensures plain { IfOk result (λ split. map (λ word. word.now) split.0.items ≡ without_flag (map S.text words.entry.now)) }
+    ensures plain { IfOk result (λ split. map (λ word. word.now) split.0.items
+        ≡ without_flag (map S.text words.entry.now)) }
     ensures flag { IfOk result (λ split. split.1 ≡ has_flag (map S.text words.entry.now)) }
 {
     let mut plain = texts_of(alloc, words)?;
@@ -270,32 +283,6 @@ fn split_flag<'a, S: AsStr>(
     } else {
         Ok((plain, false))
     }
-}
-
-// Whether a word is meant as this option.
-fn is_option(word: &str, option: &str) -> bool {
-    word.strip_prefix(option)
-        .is_some_and(|rest| rest.is_empty() || rest.starts_with('='))
-}
-
-// Whether a word is meant as the option of an output.
-fn is_output(word: &str) -> bool {
-    is_option(word, OUTPUT) || (word.starts_with("-o") && !word.starts_with("--"))
-}
-
-/// Whether the words have the option of an output where none is read: in one word, in short, or not as the last two words.
-pub fn has_misplaced_output<S: AsStr>(words: &[S]) -> bool {
-    let (words, _) = split_output(words);
-    words.iter().any(|word| is_output(word.as_str()))
-}
-
-/// Whether the words have the flag of a task where none is read: not right after the word of its command, or with a value.
-pub fn has_misplaced_flag<S: AsStr>(words: &[S]) -> bool {
-    let (words, _) = split_output(words);
-    let after = if has_flag(words) { &words[2..] } else { words };
-    after.iter().any(|word| {
-        is_option(word.as_str(), IN_ORDER) || is_option(word.as_str(), WORTH)
-    })
 }
 
 /// What the words ask for; the error has the text for the user.
@@ -309,7 +296,8 @@ pub fn parse<'a, S: AsStr>(alloc: Global, words: &'a [S]) -> Result<Task<'a>, Er
     // Whatever the words, a task that is read is spelled by them, without the first `--`.
     ensures spelled { IfOk result (λ task. spelling task ≡ without_dashes (map S.text words.entry.now)) }
     // No word before that is a flag, as a call for help is, but the flag and the `--output` of the task.
-    ensures unflagged { IfOk result (λ task. filter is_flag (before_dashes (map S.text words.entry.now)) ≡ flags_of task) }
+    ensures unflagged { IfOk result (λ task. filter is_flag (before_dashes (map S.text words.entry.now))
+        ≡ flags_of task) }
 {
     let (words, output) = split_output(words);
     let (plain, flag) = split_flag(alloc, words)?;

@@ -14,7 +14,7 @@ Or one line:
 
 Option, after the files:
   --output FILE               the table goes into FILE, whole or not at all, and is not printed; FILE is
-                              none of the files above
+                              none of the files above; - prints it
 
 Example:
   mm_tool table setup.toml forecast.csv plan.txt --output table.csv

@@ -2,4 +2,5 @@ pub mod ScriptLemmas
 mod Printing
 mod Refusals
 mod Codes
+mod Flying
 mod Words

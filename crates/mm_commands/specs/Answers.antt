@@ -15,17 +15,20 @@ use Rattle.mm_ask.specs.Asking.{Answers}
 use Rattle.mm_ask.specs.Reads.{Reads}
 use Rattle.mm_run.specs.declared.printed.Outcome.{Outcome as Ended}
 use Rattle.mm_run.specs.declared.printed.Outcome.TheVariants as ended
+use Rattle.mm_run.specs.declared.prepared.PreparedRun.{PreparedRun}
 use Rattle.mm_run.specs.declared.printed.Printed.{Printed}
+use Rattle.mm_run.specs.Prepared.{IsPrepared}
 use Rattle.mm_run.specs.Printed.{text_of}
 use Rattle.mm_run.specs.Runs.{PrintsRun}
 use Rattle.mm_sensitivity.specs.Charts.{ChartsWorth}
 use Rattle.mm_sensitivity.specs.Table.{IsWorthTable}
 use Rattle.mm_commands.specs.Contents.{Contents, FilesView, IsStored, WereRead}
 use Rattle.mm_commands.specs.Reading.{readings_of}
+use Rattle.mm_commands.specs.Streams.{file_of}
 use Rattle.mm_commands.specs.declared.status.Status.{Status}
 use Rattle.mm_commands.specs.declared.status.Status.TheVariants.{Done, Refused}
 use Rattle.mm_commands.specs.declared.answers.Answer.{Answer}
-use Rattle.mm_commands.specs.declared.answers.Answer.TheVariants.{Text, Lines, Line, Run}
+use Rattle.mm_commands.specs.declared.answers.Answer.TheVariants.{Text, Lines, Line}
 use Rattle.mm_commands.specs.declared.texts.TaskTexts.{TaskTexts}
 use Rattle.mm_command_line.specs.Lines.{output_of}
 use Rattle.mm_command_line.specs.Names.{names_in}
@@ -54,8 +57,8 @@ status_of (Least n) = Done
 status_of (LeastInOrder n) = Done
 status_of verdict = Refused
 
--- the line is that of the verdict on the plan, which is `Least` only where no plan that fits loses fewer blocks, and `LeastInOrder` only
--- where none loses fewer of the first stores either
+-- the line is that of the verdict on the plan, which is `Least` only where no plan that fits loses fewer blocks, and
+-- `LeastInOrder` only where none loses fewer of the first stores either
 pub record Judges (status : Status) (line setup forecast plan : List ℕ) : Type 0 where
   pub verdict : Verdict
   pub checks : Checks setup forecast plan verdict
@@ -98,7 +101,13 @@ given_plan None texts = None
 
 -- what is printed of the run of the plan that is given, or of one that is made where none is
 abbrev pub FliesTexts : Option (List ℕ) → TaskTexts → Printed → Type 0
-FliesTexts plan texts printed = PrintsRun plan texts.setup.items texts.forecast.items texts.sources.items texts.links.items printed
+FliesTexts plan texts printed = PrintsRun plan texts.setup.items texts.forecast.items texts.sources.items
+    texts.links.items printed
+
+-- the run is that of the texts, of the plan that is given, or of one that is made where none is
+abbrev pub PreparesTexts : Option (List ℕ) → TaskTexts → PreparedRun → Type 0
+PreparesTexts plan texts run = IsPrepared plan texts.setup.items texts.forecast.items texts.sources.items
+    texts.links.items run
 
 -- the text is what is printed of such a run, with its status
 pub record Flown (plan : Option (List ℕ)) (texts : TaskTexts) (status : Status) (text : List ℕ) : Type 0 where
@@ -107,10 +116,17 @@ pub record Flown (plan : Option (List ℕ)) (texts : TaskTexts) (status : Status
   pub text_is : text ≡ text_of printed
   pub status_is : status ≡ status_of_run printed.outcome
 
+-- a writer had the first of these bytes, and then the second: what is printed of such a run was written between
+pub record PrintsFlown (plan : Option (List ℕ)) (texts : TaskTexts) (status : Status) (before after : Option (List ℕ)) :
+    Type 0 where
+  pub text : List ℕ
+  pub flown : Flown plan texts status text
+  pub printed : Appends before after text
+
 -- ---- all of them
 
--- the task, whose files have these texts, is done, or the answer says what is not well: this text answers it, and the run of the program
--- ends in this status
+-- the task, whose files have these texts, is done, or the answer says what is not well: this text answers it, and the
+-- run of the program ends in this status
 abbrev pub AnswersTask : Task → TaskTexts → Status → List ℕ → Type 0
 AnswersTask (Plan setup forecast in_order output) texts status text =
     (status ≡ Done) × PlansText in_order texts.setup.items texts.forecast.items text
@@ -130,13 +146,11 @@ abbrev pub text_in : Answer → List ℕ
 text_in (Text text output) = text.items
 text_in (Lines replies) = replies.text.items
 text_in (Line verdict line) = line.items
-text_in (Run printed) = text_of printed
 
 abbrev pub status_in : Answer → Status
 status_in (Text text output) = Done
 status_in (Lines replies) = status_of_replies replies.outcome
 status_in (Line verdict line) = status_of verdict
-status_in (Run printed) = status_of_run printed.outcome
 
 -- the file that it goes into, where one is named
 abbrev pub output_in : Answer → Option (Bor (List ℕ))
@@ -148,7 +162,8 @@ pub record IsAnswerTo (task : Task) (texts : TaskTexts) (answer : Answer) : Type
   pub answers : AnswersTask task texts (status_in answer) (text_in answer)
   pub output : output_in answer ≡ output_of task
 
--- the text was printed, and the files are as they were; or it was stored in the file of this name, and nothing was printed
+-- the text was printed, and the files are as they were; or it was stored in the file of this name, and nothing was
+-- printed
 abbrev pub Gives : Option (Bor (List ℕ)) → List ℕ → Contents → Contents → Option (List ℕ) → Option (List ℕ) → Type 0
 Gives (Some name) text old new before after = IsStored old new name.now text × (after ≡ before)
 Gives None text old new before after = (new ≡ old) × Appends before after text
@@ -162,15 +177,16 @@ pub record AreOthers (names : FileNames) (name : List ℕ) : Type 0 where
   pub links : IfSome names.links (λ n. n.now ≢ name)
   pub packets : IfSome names.packets (λ n. n.now ≢ name)
 
--- the files and a writer had the first of these, and then the second: the task's files were read, what was stored or written between answers
--- the task by the bytes that came, and no file that the task reads has the name of its output
+-- the files and a writer had the first of these, and then the second: the task's files were read, what was stored or
+-- written between answers the task by the bytes that came, and no file that the task reads has the name of the file
+-- that was stored
 pub record Prints (old new : FilesView) (task : Task) (status : Status) (before after : Option (List ℕ)) : Type 0 where
   pub texts : TaskTexts
   pub read : WereRead old.contents old.readings new.readings (readings_of (names_in task) texts)
   pub text : List ℕ
   pub answers : AnswersTask task texts status text
-  pub given : Gives (output_of task) text old.contents new.contents before after
-  pub others : IfSome (output_of task) (λ name. AreOthers (names_in task) name.now)
+  pub given : Gives (file_of old.streams (output_of task)) text old.contents new.contents before after
+  pub others : IfSome (file_of old.streams (output_of task)) (λ name. AreOthers (names_in task) name.now)
 
 -- the task carries a plan out
 abbrev pub is_run : Task → Bool

@@ -1,5 +1,5 @@
 -- What is known of files by their names, and what was read of them.
-use Rattle.std.specs.Prelude.{◌≡◌, ◌≢◌, ◌++◌, ℕ, List, Option, Some, None, All}
+use Rattle.std.specs.Prelude.{◌≡◌, ◌≢◌, ◌++◌, ℕ, Bool, List, Option, Some, None, All}
 
 -- what is known of a file: that there is none, nothing, or its bytes
 pub data Content : Type 0 where
@@ -42,14 +42,16 @@ pub record Reading : Type 0 where
 abbrev pub reading : List ℕ → List ℕ → Reading
 reading name octets = record { name = name; octets = octets }
 
--- what is known of each file, and what was read so far, in order, where that is noted
+-- what is known of each file; what was read so far, in order, where that is noted; and whether `-` is no file, but a
+-- standard stream
 pub record FilesView : Type 0 where
+  pub streams : Bool
   pub contents : Contents
   pub readings : Option (List Reading)
 
--- both together
-abbrev pub seen : Contents → Option (List Reading) → FilesView
-seen contents readings = record { contents = contents; readings = readings }
+-- these together
+abbrev pub seen : Bool → Contents → Option (List Reading) → FilesView
+seen streams contents readings = record { streams = streams; contents = contents; readings = readings }
 
 -- these are noted after those before
 abbrev pub Notes : Option (List Reading) → Option (List Reading) → List Reading → Type 0
@@ -58,6 +60,7 @@ Notes (Some before) None readings = ⊥
 Notes (Some before) (Some after) readings = after ≡ before ++ readings
 
 -- these were read: each is noted after those before, and has the bytes of its file where they are known
-pub record WereRead (contents : Contents) (before after : Option (List Reading)) (readings : List Reading) : Type 0 where
-  pub noted : Notes before after readings
-  pub known : All (λ r. MayBe (contents r.name) r.octets) readings
+pub record WereRead (contents : Contents) (before after : Option (List Reading)) (readings : List Reading) : Type 0
+  where
+    pub noted : Notes before after readings
+    pub known : All (λ r. MayBe (contents r.name) r.octets) readings

@@ -1,5 +1,5 @@
 -- What a run of the program has done.
-use Rattle.std.specs.Prelude.{◌≡◌, ◌⊎◌, ◌==◌, ℕ, true, false, List, [], ◌∷◌, Option}
+use Rattle.std.specs.Prelude.{◌≡◌, ◌⊎◌, ◌==◌, ℕ, Bool, true, false, List, [], ◌∷◌, Option}
 use Rattle.std.specs.List.{slice_split}
 use Rattle.std.specs.Str.{IsUtf8}
 use Rattle.std.specs.Io.KnownBytes.{Appends}
@@ -14,16 +14,19 @@ use Rattle.mm_command_line.specs.declared.version.TheConstants.{VERSION}
 use Rattle.mm_command_line.specs.declared.task.Task.{Task}
 use Rattle.mm_commands.specs.Answers.{Prints}
 use Rattle.mm_commands.specs.Refusing.{Settles, refused_input}
+use Rattle.mm_commands.specs.Streams.{ReadsTwice, reads_twice}
 
 -- the words of a line, separated by single spaces; an empty line has none
 abbrev pub words_in : List ℕ → List (List ℕ)
 words_in [] = []
 words_in (octet ∷ rest) = slice_split (λ o. o == space) (octet ∷ rest)
 
--- the task that the words ask for was done, or refused
-pub record DoesTask (old new : FilesView) (words : List (List ℕ)) (status : Status) (before after : Option (List ℕ)) : Type 0 where
+-- the task that the words ask for, which has standard input for one file at most, was done or refused
+pub record DoesTask (old new : FilesView) (words : List (List ℕ)) (status : Status) (before after : Option (List ℕ)) :
+    Type 0 where
   pub task : Task
   pub asked : spelling task ≡ without_dashes words
+  pub once : reads_twice old.streams task ≡ false
   pub told : Settles old new task status before after
 
 -- there was no memory to read the words
@@ -36,9 +39,11 @@ pub record TellsVersion (words : List (List ℕ)) (before after : Option (List �
   pub asked : is_version_line words ≡ true
   pub printed : Appends before after VERSION.now
 
--- the words spell no task, and do not ask for the version; only standard error says so
-pub record IsBadLine (words : List (List ℕ)) (status : Status) (before after : Option (List ℕ)) : Type 0 where
-  pub no_task : IsTaskLine words → ⊥
+-- the words spell no task, or one that has standard input for more than one file, and do not ask for the version; only
+-- standard error says so
+pub record IsBadLine (streams : Bool) (words : List (List ℕ)) (status : Status) (before after : Option (List ℕ)) : Type
+    0 where
+  pub no_task : (IsTaskLine words → ⊥) ⊎ ReadsTwice streams words
   pub no_version : is_version_line words ≡ false
   pub untold : after ≡ before
   pub status_is : status ≡ BadCommandLine
@@ -46,7 +51,7 @@ pub record IsBadLine (words : List (List ℕ)) (status : Status) (before after :
 -- what became of the words of a command line
 abbrev pub Does : FilesView → FilesView → List (List ℕ) → Status → Option (List ℕ) → Option (List ℕ) → Type 0
 Does old new words status before after = DoesTask old new words status before after
-    ⊎ ((new ≡ old) × (WantsMemory status before after ⊎ IsBadLine words status before after
+    ⊎ ((new ≡ old) × (WantsMemory status before after ⊎ IsBadLine old.streams words status before after
     ⊎ (TellsVersion words before after × (status ≡ Done))))
 
 -- the task that the words ask for was done: what was stored or written between answers it
@@ -55,7 +60,8 @@ pub record IsDone (old new : FilesView) (words : List (List ℕ)) (before after 
   pub asked : spelling task ≡ without_dashes words
   pub prints : Prints old new task Done before after
 
--- the task that the first line of a script asks for was done over the files that follow, or the line asks for the version
+-- the task that the first line of a script asks for was done over the files that follow, or the line asks for the
+-- version
 pub record DoesScript (script : List ℕ) (before after : Option (List ℕ)) : Type 0 where
   pub line : List ℕ
   pub files : List ℕ

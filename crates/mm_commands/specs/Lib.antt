@@ -5,6 +5,7 @@ pub mod Inputs
 pub mod ReadFaults
 pub mod Scripts
 pub mod Statuses
+pub mod Streams
 pub mod Answers
 pub mod Spots
 pub mod FileNames

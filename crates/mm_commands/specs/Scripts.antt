@@ -1,5 +1,6 @@
 -- The files of a script: each is headed by a line `=== NAME`.
-use Rattle.std.specs.Prelude.{◌≡◌, ℕ, Bool, if◌then◌else◌, List, [], ◌∷◌, ◌++◌, Option, Some, None, nat_eq, bytes_eq, codes, ◌⊎◌}
+use Rattle.std.specs.Prelude.{◌≡◌, ℕ, Bool, false, if◌then◌else◌, List, [], ◌∷◌, ◌++◌, Option, Some, None, nat_eq}
+use Rattle.std.specs.Prelude.{bytes_eq, codes, ◌⊎◌}
 use Rattle.std.specs.List.{starts_with}
 use Rattle.mm_base.specs.Characters.{line_feed}
 use Rattle.mm_base.specs.Lines.{text_lines}
@@ -36,9 +37,9 @@ script_file text name = file_in name (text_lines text)
 abbrev pub script_contents : List ℕ → Contents
 script_contents text = λ name. content_of (script_file text name)
 
--- what is seen of them
+-- what is seen of them: each name is a file's, `-` too
 abbrev pub script_view : List ℕ → FilesView
-script_view text = seen (script_contents text) None
+script_view text = seen false (script_contents text) None
 
 -- the line and the rest are what stands before and after the first line feed of a text, or the line is the whole text
 abbrev pub IsFirstLine : List ℕ → List ℕ → List ℕ → Type 0

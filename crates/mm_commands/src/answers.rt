@@ -2,30 +2,26 @@
 ghost use Rattle.std.specs.Prelude.{◌≡◌, false, IfOk, IfErr};
 ghost use Rattle.std.specs.Option.{option_copied};
 ghost use Rattle.mm_base.specs.Reading.{IfRefused};
-ghost use Rattle.mm_command_line.specs.declared.task.Task.TheVariants.{Fly};
-ghost use Rattle.mm_run.specs.declared.fault.Fault.TheVariants as flight_fault;
 ghost use Rattle.mm_cut.specs.Checking.{IsFaultOf as IsCheckFault};
 ghost use Rattle.mm_cut.specs.declared.fault.Fault.TheVariants as cut_fault;
 ghost use Rattle.mm_planner.specs.PlanTexts.{IsPlanningFault};
 ghost use Rattle.mm_sensitivity.specs.Table.{IsWorthTable};
-ghost use Rattle.mm_commands.specs.Answers.{DrawsPlan, FliesTexts, IsAnswerTo, PlansText, given_plan, is_run, status_in, status_of, status_of_replies};
-ghost use Rattle.mm_commands.specs.Refusing.{IsFaultIn, IsFlightFault};
+ghost use Rattle.mm_commands.specs.Answers.{DrawsPlan, IsAnswerTo, PlansText, given_plan, is_run, status_in, status_of};
+ghost use Rattle.mm_commands.specs.Answers.{status_of_replies};
+ghost use Rattle.mm_commands.specs.Refusing.{IsFaultIn};
 
 use crate::fault::Fault;
 use crate::status::Status;
 use crate::texts::TaskTexts;
 use mm_ask::{Outcome, Replies, ask_bytes, read_bytes};
 use mm_chart::{chart_bytes, table_bytes};
-use mm_command_line::{FlightFiles, Task};
+use mm_command_line::Task;
 use mm_cut::{Verdict, check_bytes};
 use mm_planner::{plan_bytes, plan_in_order_bytes};
-use mm_run::{Printed, RunTexts, run_texts};
 use mm_sensitivity::{Progress, sensitivity_with_progress, worth_chart_bytes};
 use std::alloc::Global;
-use std::sync::Wait;
-use std::thread::Threads;
 
-/// What answers a task.
+/// What answers a task other than a run.
 #[derive(Drop)]
 pub(crate) enum Answer<'a> {
     /// A text, which goes into the file of this name or is printed.
@@ -40,8 +36,6 @@ pub(crate) enum Answer<'a> {
         verdict: Verdict,
         line: Vec<u8>,
     },
-    /// What the run of a plan prints.
-    Run(Printed),
 }
 
 // The status of a task that is answered by the verdict.
@@ -73,10 +67,6 @@ impl Answer<'_> {
             Answer::Text { .. } => Status::Done,
             Answer::Lines(replies) => status_of_replies(replies.outcome),
             Answer::Line { verdict, .. } => status_of(*verdict),
-            Answer::Run(printed) => match printed.outcome {
-                mm_run::Outcome::CarriedOut => Status::Done,
-                mm_run::Outcome::Unreported | mm_run::Outcome::Stopped(_) => Status::Refused,
-            },
         }
     }
 }
@@ -84,7 +74,8 @@ impl Answer<'_> {
 // The text of a plan, which serves the stores in order where that is asked.
 fn plan_text(alloc: Global, in_order: bool, texts: &TaskTexts) -> Result<Vec<u8>, mm_cut::Fault>
     ensures plans { IfOk result (λ text. PlansText in_order texts.now.setup.items texts.now.forecast.items text.items) }
-    ensures refused { IfRefused cut_fault.NoMemory result (IsPlanningFault texts.now.setup.items texts.now.forecast.items) }
+    ensures refused { IfRefused cut_fault.NoMemory result (IsPlanningFault texts.now.setup.items
+        texts.now.forecast.items) }
 {
     if in_order {
         plan_in_order_bytes(alloc, &texts.setup, &texts.forecast)
@@ -107,15 +98,16 @@ fn chart_text(alloc: Global, worth: bool, texts: &TaskTexts) -> Result<Vec<u8>, 
     }
 }
 
-// The table of what each window, store size and limit is worth. The progress is told of each record, and that nothing is left to do where the
-// table breaks off.
+// The table of what each window, store size and limit is worth. The progress is told of each record, and that nothing
+// is left to do where the table breaks off.
 fn worth_table<P: Progress>(
     alloc: Global,
     texts: &TaskTexts,
     progress: &mut P,
 ) -> Result<Vec<u8>, mm_cut::Fault>
     ensures table { IfOk result (λ text. IsWorthTable texts.now.setup.items texts.now.forecast.items text.items) }
-    ensures refused { IfRefused cut_fault.NoMemory result (IsPlanningFault texts.now.setup.items texts.now.forecast.items) }
+    ensures refused { IfRefused cut_fault.NoMemory result (IsPlanningFault texts.now.setup.items
+        texts.now.forecast.items) }
 {
     let table = sensitivity_with_progress(alloc, &texts.setup, &texts.forecast, progress);
     if table.is_err() {
@@ -124,46 +116,14 @@ fn worth_table<P: Progress>(
     table
 }
 
-// The text of the plan of a run, where it is given.
-fn given_plan<'t>(name: Option<&str>, texts: &'t TaskTexts) -> Option<&'t [u8]>
+/// The text of the plan of a run, where it is given.
+pub(crate) fn given_plan<'t>(name: Option<&str>, texts: &'t TaskTexts) -> Option<&'t [u8]>
     ensures given { option_copied result ≡ given_plan name.entry texts.now }
 {
     match name {
         Some(_) => Some(texts.plan.as_slice()),
         None => None,
     }
-}
-
-// What the run of the plan prints, which is made where none is given.
-fn carry_out<R: Threads + Wait + Sync>(
-    rt: &R,
-    alloc: Global,
-    files: FlightFiles<'_>,
-    texts: &TaskTexts,
-) -> Result<Printed, mm_run::Fault>
-    ensures flies { IfOk result (FliesTexts (given_plan files.entry.plan texts.now) texts.now) }
-    ensures refused { IfRefused flight_fault.NoMemory result (IsFlightFault (given_plan files.entry.plan texts.now) texts.now) }
-{
-    let run = RunTexts {
-        setup: &texts.setup,
-        forecast: &texts.forecast,
-        sources: &texts.sources,
-        links: &texts.links,
-    };
-    run_texts(rt, alloc, run, given_plan(files.plan, texts))
-}
-
-/// What answers a run, whose files have these texts.
-pub(crate) fn answer_to_run<'a, R: Threads + Wait + Sync>(
-    rt: &R,
-    alloc: Global,
-    files: FlightFiles<'a>,
-    texts: &TaskTexts,
-) -> Result<Answer<'a>, Fault<'a>>
-    ensures answers { IfOk result (IsAnswerTo (Fly files.entry) texts.now) }
-    ensures refused { IfErr result (IsFaultIn (Fly files.entry) texts.now) }
-{
-    Ok(Answer::Run(carry_out(rt, alloc, files, texts)?))
 }
 
 /// What answers a task other than a run, whose files have these texts.

@@ -1,5 +1,6 @@
 //! Where the program's files come from, and how they are read to their end.
-ghost use Rattle.std.specs.Prelude.{◌≡◌, ◌≤◌, ◌<◌, ℕ, List, Option, None, Some, Bool, true, false, [], ◌∷◌, length, IsOk, IsErrAnd, IfOk, IfErr, IfSome, IsTrue, IsFalse};
+ghost use Rattle.std.specs.Prelude.{◌≡◌, ◌≤◌, ◌<◌, ℕ, List, Option, None, Some, Bool, true, false, [], ◌∷◌, length};
+ghost use Rattle.std.specs.Prelude.{IsOk, IsErrAnd, IfOk, IfErr, IfSome, IsTrue, IsFalse};
 ghost use Rattle.std.specs.Io.{ReadsAtMost};
 ghost use Rattle.std.specs.Io.KnownBytes.{ReadConsumes};
 ghost use Rattle.std.specs.IoError.{error_kind};
@@ -42,7 +43,8 @@ impl Obstacle {
         match self {
             Obstacle::Missing => (
                 "a file of this name",
-                "check the name and its folder, or in a script the line === NAME above the file; standard input has the name /dev/stdin",
+                "check the name and its folder, or in a script the line === NAME above the file; outside a script - is \
+                    standard input",
             ),
             Obstacle::Forbidden => (
                 "a file that may be read",
@@ -216,6 +218,13 @@ fn is_interrupted(error: &io::Error) -> bool
 
 /// Files by name.
 pub trait Files {
+    /// Whether the name `-` is no file's, but that of standard input, and of standard output as an output.
+    ghost has_streams: { Bool };
+
+    /// Whether `-` is the name of standard input and standard output.
+    fn has_streams() -> bool
+        ensures streams { result ≡ has_streams };
+
     /// What is known of the file of a name.
     ghost content: { Self → List ℕ → Content };
 
@@ -228,7 +237,8 @@ pub trait Files {
         ensures unread { IfErr result (λ fault. IsTrue (is_unread fault) → MayBeUnread (content self.old name.now)) }
         ensures stays { content self.new ≡ content self.old }
         // What is handed back is noted, and nothing else.
-        ensures noted { IfOk result (λ text. Notes (readings self.old) (readings self.new) (reading name.now text.items ∷ [])) }
+        ensures noted { IfOk result (λ text. Notes (readings self.old) (readings self.new)
+            (reading name.now text.items ∷ [])) }
         ensures unnoted { IfErr result (λ _. Notes (readings self.old) (readings self.new) []) };
 
     /// Whether both names are known to be of one file. The same name always is.
@@ -249,7 +259,8 @@ pub fn read_to_end<I: Input>(alloc: Global, input: &mut I) -> Result<Vec<u8>, Re
     ensures read { IsTrue (I.is_sure input.old) → IfSome (I.coming input.old)
         (λ octets. length octets < MAX_READS → IfErr result (λ fault. fault ≡ NoMemory)) }
     // A read that fails is told as `NotRead`, and as nothing else.
-    ensures failed { IsFalse (I.has_failed input.old) → IsTrue (I.has_failed input.new) → IsErrAnd result (λ fault. IsTrue (is_unread fault)) }
+    ensures failed { IsFalse (I.has_failed input.old) → IsTrue (I.has_failed input.new)
+        → IsErrAnd result (λ fault. IsTrue (is_unread fault)) }
 {
     let mut text = Vec::new(alloc);
     let mut piece = [0u8; PIECE];

@@ -1,4 +1,5 @@
-//! The program, over any files and any writers: its words are read as a task, the task's files are read, and what answers it is printed.
+//! The program, over any files and any writers: its words are read as a task, the task's files are read, and what
+//! answers it is printed.
 #![tactic(auto)]
 
 mod advice;
@@ -6,6 +7,7 @@ mod answers;
 mod fault;
 mod file_name;
 mod files;
+mod flight;
 pub mod laws;
 mod readings;
 mod remark;
@@ -13,9 +15,11 @@ mod run;
 mod script;
 mod spot;
 mod status;
+mod streams;
 mod system;
 mod tasks;
 mod texts;
+mod until_closed;
 
 pub use fault::Fault;
 pub use files::{Device, Files, Input, MAX_READS, Obstacle, ReadFault, StoreFault, read_to_end};
@@ -29,3 +33,4 @@ pub use script::{ScriptFiles, first_line};
 pub use status::{Status, Unwritten};
 pub use system::SystemFiles;
 pub use tasks::{do_task, do_without_run};
+pub use until_closed::UntilClosed;

@@ -6,12 +6,13 @@ use crate::file_name::Shown;
 use crate::status::Status;
 use crate::texts::TaskTexts;
 use mm_ask::{MOST_KEPT, Place, Replies};
-use mm_base::{Refusal, Refused};
+use mm_base::{NoMemory, Refusal, Refused};
 use mm_command_line::{Role, Task};
 use mm_cut::Verdict;
-use mm_run::{Cause, Outcome, Printed, Untaken};
+use mm_run::{Cause, Given, Outcome, Printed, Unstored, Untaken};
 use mm_told::{
-    EndsHint, Hint, RequestHints, Texts, Words, fit_hint, notes_on, opening_hint, refusal_numbered,
+    EndsHint, Hint, Note, RequestHints, Texts, Words, column_notes, fit_hint, notes_on,
+    opening_hint, packets_hint, refusal_numbered,
 };
 use std::alloc::Global;
 use std::fmt;
@@ -21,8 +22,8 @@ use std::io::{self, Write};
 const PLAN_MISPLACED: &str =
     "the files are in another order; name the setup first, then the forecast, then the plan";
 
-/// What is said of a verdict that is neither `Least` nor `LeastInOrder`. It is shown in one line: the file of the plan with the place in it,
-/// and the words.
+/// What is said of a verdict that is neither `Least` nor `LeastInOrder`. It is shown in one line: the file of the plan
+/// with the place in it, and the words.
 #[derive(Clone, Copy)]
 pub(crate) struct Remark<'a> {
     plan: &'a str,
@@ -55,7 +56,8 @@ impl fmt::Display for Remark<'_> {
     }
 }
 
-// What is said of a place that is refused: the file of the packets, what the numbers count there, and the place with the words.
+// What is said of a place that is refused: the file of the packets, what the numbers count there, and the place with
+// the words.
 #[derive(Clone, Copy)]
 struct RefusedIn<'a> {
     file: &'a str,
@@ -68,8 +70,9 @@ impl RefusedIn<'_> {
     // What is found in the line of the requests.
     fn hint(&self, requests: &mut RequestHints<'_>) -> Option<Hint> {
         match self.place {
-            Place::Line(line) | Place::Instruction { line, .. } => {
-                requests.hint(self.refusal, *line)
+            Place::Line(line) => requests.hint(self.refusal, *line),
+            Place::Instruction { line, number } => {
+                requests.instruction_hint(self.refusal, *line, *number)
             }
             Place::Said(_) => None,
         }
@@ -116,7 +119,8 @@ impl fmt::Display for Found {
     }
 }
 
-/// Whether the refusal comes from a plan text that stands where the setup or the forecast of a task with a plan is to stand.
+/// Whether the refusal comes from a plan text that stands where the setup or the forecast of a task with a plan is to
+/// stand.
 pub(crate) fn is_plan_misplaced(task: Task<'_>, refusal: Refusal, texts: &TaskTexts) -> bool {
     let text = match refusal {
         Refusal::SetupText => &texts.setup,
@@ -126,8 +130,8 @@ pub(crate) fn is_plan_misplaced(task: Task<'_>, refusal: Refusal, texts: &TaskTe
     task.file(Role::Plan).is_some() && text.starts_with(b"mmplan ")
 }
 
-// The file of packets of a task, and what the numbers that the task prints count there: a report in the file has the number that `ask`
-// gave it.
+// The file of packets of a task, and what the numbers that the task prints count there: a report in the file has the
+// number that `ask` gave it.
 fn packets_of(task: Task<'_>) -> Option<(&str, &'static str)> {
     match task {
         Task::Ask { requests, .. } => Some((requests, "line")),
@@ -209,14 +213,9 @@ fn hint_of_run(alloc: Global, printed: &Printed, texts: Texts<'_>) -> Option<Hin
     }
 }
 
-// Says what in the setup of a task has no effect.
-fn tell_notes<E: Write>(
-    alloc: Global,
-    task: Task<'_>,
-    texts: Texts<'_>,
-    err: &mut E,
-) -> io::Result<()> {
-    let Ok(notes) = notes_on(alloc, task.file(Role::Links).is_some(), texts.setup) else {
+// Says what is noted.
+fn tell_each<E: Write>(notes: Result<Vec<Note>, NoMemory>, err: &mut E) -> io::Result<()> {
+    let Ok(notes) = notes else {
         return Ok(());
     };
     for note in &notes {
@@ -225,23 +224,84 @@ fn tell_notes<E: Write>(
     Ok(())
 }
 
-// Says which packets of a run go to no store.
-fn tell_untaken<E: Write>(untaken: Option<Untaken>, err: &mut E) -> io::Result<()> {
-    let Some(
-        Untaken {
-            line,
-            apid,
-            service,
-            subtype,
-        },
-    ) = untaken
-    else {
-        return Ok(());
-    };
+// Says what in the setup and the forecast of a task has no effect.
+fn tell_notes<E: Write>(
+    alloc: Global,
+    task: Task<'_>,
+    texts: Texts<'_>,
+    err: &mut E,
+) -> io::Result<()> {
+    let is_run = task.file(Role::Links).is_some();
+    tell_each(notes_on(alloc, is_run, texts.setup), err)?;
+    tell_each(column_notes(alloc, texts), err)
+}
+
+// A number of packets of the sources, and what is said of one or of several.
+#[derive(Clone, Copy)]
+struct Packets {
+    count: u64,
+    of_one: &'static str,
+    of_more: &'static str,
+}
+
+impl fmt::Display for Packets {
+    fn fmt<W: fmt::Write>(&self, f: &mut fmt::Formatter<W>) -> fmt::Result {
+        match self.count {
+            1 => write!(f, "1 packet of the sources {}", self.of_one),
+            count => write!(f, "{count} packets of the sources {}", self.of_more),
+        }
+    }
+}
+
+// Says how many packets no route takes, and which is the first.
+fn tell_unrouted<E: Write>(packets: Packets, first: Untaken, err: &mut E) -> io::Result<()> {
+    let Untaken {
+        line,
+        apid,
+        service,
+        subtype,
+    } = first;
     writeln!(
         err,
-        "note: no route takes APID {apid}, service {service}, subtype {subtype}, as line {line} of the sources has it; such packets go to no store"
+        "note: {packets} APID {apid}, service {service}, subtype {subtype} in line {line}"
     )
+}
+
+// Says how many packets, where there are any.
+fn tell_packets<E: Write>(packets: Packets, err: &mut E) -> io::Result<()> {
+    match packets.count {
+        0 => Ok(()),
+        _ => writeln!(err, "note: {packets}"),
+    }
+}
+
+// Says how many packets of a run that was carried out went to no store, and why.
+fn tell_unstored<E: Write>(given: &Given, err: &mut E) -> io::Result<()> {
+    let Unstored {
+        late,
+        telecommands,
+        unrouted,
+    } = given.unstored;
+    if let Some(first) = given.untaken {
+        let unrouted = Packets {
+            count: unrouted,
+            of_one: "goes to no store, since no route takes it:",
+            of_more: "go to no store, since no route takes them; the first is",
+        };
+        tell_unrouted(unrouted, first, err)?;
+    }
+    let telecommands = Packets {
+        count: telecommands,
+        of_one: "is a telecommand, which goes to no store",
+        of_more: "are telecommands, which go to no store",
+    };
+    tell_packets(telecommands, err)?;
+    let late = Packets {
+        count: late,
+        of_one: "is of a step after the last one, and is not recorded",
+        of_more: "are of steps after the last one, and are not recorded",
+    };
+    tell_packets(late, err)
 }
 
 // Says what is refused at a place, and what is found there.
@@ -298,8 +358,29 @@ fn tell_refused<E: Write>(
     }
 }
 
-/// Says more of an answer: what it means where something is refused, a verdict is neither `Least` nor `LeastInOrder`, or a run did not begin
-/// or was halted; and of a task that is done, what in its files has no effect.
+// Says what is refused of the packets of a task. A number that `read` prints need not be that of a line of its file, so
+// the file is looked at as a whole.
+fn tell_replies<E: Write>(
+    task: Task<'_>,
+    replies: &Replies,
+    packets: &[u8],
+    err: &mut E,
+) -> io::Result<()> {
+    if let Task::Ask { .. } = task {
+        return tell_refused(task, packets, replies, err);
+    }
+    tell_refused(task, &[], replies, err)?;
+    let counts = &replies.refused.counts;
+    match counts[usize::from(Refusal::HexLine.number())].max(
+        counts[usize::from(Refusal::Short.number())],
+    ) {
+        0 => Ok(()),
+        _ => tell_hint(packets_hint(packets), err),
+    }
+}
+
+/// Says more of an answer: what it means where something is refused, or a verdict is neither `Least` nor
+/// `LeastInOrder`; and of a task that is done, what in its files has no effect.
 pub(crate) fn tell_more<E: Write>(
     alloc: Global,
     task: Task<'_>,
@@ -309,26 +390,32 @@ pub(crate) fn tell_more<E: Write>(
 ) -> io::Result<()> {
     match answer {
         Answer::Text { .. } => {}
-        Answer::Lines(replies) => {
-            // A number that `read` prints need not be that of a line of its file.
-            let requests = match task {
-                Task::Ask { .. } => texts.packets.as_slice(),
-                _ => &[],
-            };
-            return tell_refused(task, requests, replies, err);
-        }
+        Answer::Lines(replies) => return tell_replies(task, replies, &texts.packets, err),
         Answer::Line { verdict, .. } => {
             tell_verdict(alloc, task, *verdict, texts.hinted(), err)?;
         }
-        Answer::Run(printed) => {
-            tell_stop(alloc, task, printed, texts.hinted(), err)?;
-        }
     }
-    if matches!(answer.status(), Status::Done) {
-        tell_notes(alloc, task, texts.hinted(), err)?;
-        if let Answer::Run(printed) = answer {
-            tell_untaken(printed.given.untaken, err)?;
-        }
+    match answer.status() {
+        Status::Done => tell_notes(alloc, task, texts.hinted(), err),
+        _ => Ok(()),
     }
-    Ok(())
+}
+
+/// Says more of what a run printed: why it did not begin or was halted; and of one that was carried out, what in its
+/// files has no effect.
+pub(crate) fn tell_run<E: Write>(
+    alloc: Global,
+    task: Task<'_>,
+    printed: &Printed,
+    texts: &TaskTexts,
+    err: &mut E,
+) -> io::Result<()> {
+    tell_stop(alloc, task, printed, texts.hinted(), err)?;
+    match printed.outcome {
+        Outcome::CarriedOut => {
+            tell_notes(alloc, task, texts.hinted(), err)?;
+            tell_unstored(&printed.given, err)
+        }
+        Outcome::Unreported | Outcome::Stopped(_) => Ok(()),
+    }
 }

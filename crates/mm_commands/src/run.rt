@@ -5,36 +5,34 @@ ghost use Rattle.mm_commands.specs.Statuses.{exit_code};
 ghost use Rattle.mm_commands.specs.declared.status.Status.TheVariants.{BadCommandLine};
 ghost use Rattle.mm_command_line.specs.Lines.{IsTaskLine};
 ghost use Rattle.mm_commands.specs.Doing.{Does, DoesScript, IsDone, IsTaskScript, TellsVersion, words_in};
+ghost use Rattle.mm_commands.specs.Streams.{ReadsTwice};
 
 use crate::files::{Files, ReadFault};
 use crate::script::{ScriptFiles, first_line};
 use crate::status::{Status, Unwritten};
+use crate::streams::reads_twice;
 use crate::tasks::{self, do_task};
 use clap::error::ErrorKind;
-use mm_command_line::{VERSION, asks_version, has_misplaced_flag, has_misplaced_output, parse};
+use mm_command_line::{FlagFault, VERSION, asks_version, flag_fault, parse};
 use mm_sensitivity::{Progress, Silent};
 use std::alloc::{AllocError, Global};
 use std::convert::AsStr;
+use std::fmt;
 use std::io::{self, Write};
 use std::sync::Wait;
 use std::thread::Threads;
 
-// What is said of an output that is not read as one.
-const OUTPUT_MISPLACED: &str = "\
-error: --output FILE stands last, as two words, after the files of plan, chart or table, and with no -- before it
+// What ends the text of a bad command line.
+const MORE: &str = "For more information, try '--help'.";
 
-For more information, try '--help'.";
+// What is said of words that have standard input for more than one file.
+const READ_TWICE: &str =
+    "standard input, which - names, is given for more than one file; give it once, and name the other files";
 
-// What is said of a flag of a task that is not read as one.
-const FLAG_MISPLACED: &str = "\
-error: --in-order stands right after plan, and --worth right after chart
-
-For more information, try '--help'.";
-
-/// Does what the words of a command line, without the program's own name, ask for. What answers the task goes to `out`, or into the file of
-/// its output. The line that says why it is refused goes to `out`, and so does the version. The texts of a bad command line and of help go
-/// to `err`, and so do the lines that say more of an answer or a refusal. The error says what could not be written. The progress is told how
-/// far a long answer has come.
+/// Does what the words of a command line, without the program's own name, ask for. What answers the task goes to `out`,
+/// or into the file of its output. The line that says why it is refused goes to `out`, and so does the version. The
+/// texts of a bad command line and of help go to `err`, and so do the lines that say more of an answer or a refusal.
+/// The error says what could not be written. The progress is told how far a long answer has come.
 pub fn run_words<R: Threads + Wait + Sync, S: AsStr, F: Files, W: Write, E: Write, P: Progress>(
     rt: &R,
     alloc: Global,
@@ -44,10 +42,12 @@ pub fn run_words<R: Threads + Wait + Sync, S: AsStr, F: Files, W: Write, E: Writ
     err: &mut E,
     progress: &mut P,
 ) -> Result<Status, Unwritten>
-    ensures does { IfOk result (λ status. Does (seen (F.content files.old) (F.readings files.old)) (seen (F.content files.new) (F.readings files.new))
+    ensures does { IfOk result (λ status. Does (seen F.has_streams (F.content files.old) (F.readings files.old))
+        (seen F.has_streams (F.content files.new) (F.readings files.new))
         (map S.text words.now) status (W.contents out.old) (W.contents out.new)) }
-    // Words that spell a task are no bad command line.
-    ensures taken { IsTaskLine (map S.text words.now) → IfOk result (λ status. status ≢ BadCommandLine) }
+    // Words that spell a task, and have standard input for one file at most, are no bad command line.
+    ensures taken { IsTaskLine (map S.text words.now) → (ReadsTwice F.has_streams (map S.text words.now) → ⊥)
+        → IfOk result (λ status. status ≢ BadCommandLine) }
     ensures kept { IfErr result (λ _. F.content files.new ≡ F.content files.old) }
 {
     if asks_version(words) {
@@ -56,6 +56,7 @@ pub fn run_words<R: Threads + Wait + Sync, S: AsStr, F: Files, W: Write, E: Writ
         return Ok(Status::Done);
     }
     match parse(alloc, words) {
+        Ok(task) if reads_twice(F::has_streams(), task) => bad_line(tell_wrong(READ_TWICE, err)),
         Ok(task) => do_task(rt, alloc, task, files, out, err, progress),
         Err(error) if error.kind() == ErrorKind::OutOfMemory => {
             tasks::refuse_input(ReadFault::NoMemory, out, err)
@@ -64,11 +65,23 @@ pub fn run_words<R: Threads + Wait + Sync, S: AsStr, F: Files, W: Write, E: Writ
     }
 }
 
-// What is said of words in which an option of a task stands where none is read.
-fn misplaced<S: AsStr>(kind: ErrorKind, words: &[S]) -> Option<&'static str> {
+// Says what is wrong with the words of a command line.
+fn tell_wrong<T: fmt::Display + Drop, E: Write>(text: T, err: &mut E) -> io::Result<()> {
+    write!(err, "error: {text}\n\n{MORE}\n")
+}
+
+// The status of a bad command line, where it could be said what is wrong with it.
+fn bad_line(said: io::Result<()>) -> Result<Status, Unwritten>
+    ensures status { IfOk result (λ status. status ≡ BadCommandLine) }
+{
+    said.map_err(|_| Unwritten::Messages)?;
+    Ok(Status::BadCommandLine)
+}
+
+// What is wrong with a flag among words that spell no task.
+fn wrong_flag<S: AsStr>(kind: ErrorKind, words: &[S]) -> Option<FlagFault<'_>> {
     match kind {
-        ErrorKind::UnknownArgument if has_misplaced_flag(words) => Some(FLAG_MISPLACED),
-        ErrorKind::UnknownArgument if has_misplaced_output(words) => Some(OUTPUT_MISPLACED),
+        ErrorKind::UnknownArgument => flag_fault(words),
         _ => None,
     }
 }
@@ -81,12 +94,10 @@ fn refuse_bad_words<S: AsStr, E: Write>(
 ) -> Result<Status, Unwritten>
     ensures status { IfOk result (λ status. status ≡ BadCommandLine) }
 {
-    let said = match misplaced(error.kind(), words) {
-        Some(misplaced) => writeln!(err, "{misplaced}"),
+    bad_line(match wrong_flag(error.kind(), words) {
+        Some(fault) => tell_wrong(fault, err),
         None => write!(err, "{error}"),
-    };
-    said.map_err(|_| Unwritten::Messages)?;
-    Ok(Status::BadCommandLine)
+    })
 }
 
 // The exit status of a run. Where standard output could not be written, standard error says so.
@@ -101,9 +112,9 @@ fn end<E: Write>(run: Result<Status, Unwritten>, err: &mut E) -> u8
     Status::code_of(run)
 }
 
-/// Runs the program on its words, as `run_words` does. The exit status is 0 where the task is done or the version is told, 1
-/// where something is refused, a verdict is neither `Least` nor `LeastInOrder` or a write failed, and 2 for a bad command line or a call for help.
-/// Where `out` could not be written, a line on `err` says so.
+/// Runs the program on its words, as `run_words` does. The exit status is 0 where the task is done or the version is
+/// told, 1 where something is refused, a verdict is neither `Least` nor `LeastInOrder` or a write failed, and 2 for a
+/// bad command line or a call for help. Where `out` could not be written, a line on `err` says so.
 pub fn run_tool_with_progress<
     R: Threads + Wait + Sync,
     S: AsStr,
@@ -121,12 +132,15 @@ pub fn run_tool_with_progress<
     progress: &mut P,
 ) -> u8
     ensures status { result ≤ 2 }
-    // Where the exit status is 0, the task that the words ask for was done: what was written answers it. Or they ask for the version.
-    ensures does { result ≡ 0 → IsDone (seen (F.content files.old) (F.readings files.old)) (seen (F.content files.new) (F.readings files.new))
+    // Where the exit status is 0, the task that the words ask for was done: what was written answers it. Or they ask
+    // for the version.
+    ensures does { result ≡ 0 → IsDone (seen F.has_streams (F.content files.old) (F.readings files.old))
+        (seen F.has_streams (F.content files.new) (F.readings files.new))
         (map S.text words.now) (W.contents out.old) (W.contents out.new)
         ⊎ TellsVersion (map S.text words.now) (W.contents out.old) (W.contents out.new) }
-    // Words that spell a task are no bad command line.
-    ensures taken { IsTaskLine (map S.text words.now) → result ≤ 1 }
+    // Words that spell a task, and have standard input for one file at most, are no bad command line.
+    ensures taken { IsTaskLine (map S.text words.now) → (ReadsTwice F.has_streams (map S.text words.now) → ⊥)
+        → result ≤ 1 }
     // Where the task was not done, each file is as it was.
     ensures kept { result ≢ 0 → F.content files.new ≡ F.content files.old }
 {
@@ -144,10 +158,12 @@ pub fn run_tool<R: Threads + Wait + Sync, S: AsStr, F: Files, W: Write, E: Write
     err: &mut E,
 ) -> u8
     ensures status { result ≤ 2 }
-    ensures does { result ≡ 0 → IsDone (seen (F.content files.old) (F.readings files.old)) (seen (F.content files.new) (F.readings files.new))
+    ensures does { result ≡ 0 → IsDone (seen F.has_streams (F.content files.old) (F.readings files.old))
+        (seen F.has_streams (F.content files.new) (F.readings files.new))
         (map S.text words.now) (W.contents out.old) (W.contents out.new)
         ⊎ TellsVersion (map S.text words.now) (W.contents out.old) (W.contents out.new) }
-    ensures taken { IsTaskLine (map S.text words.now) → result ≤ 1 }
+    ensures taken { IsTaskLine (map S.text words.now) → (ReadsTwice F.has_streams (map S.text words.now) → ⊥)
+        → result ≤ 1 }
     ensures kept { result ≢ 0 → F.content files.new ≡ F.content files.old }
 {
     run_tool_with_progress(rt, alloc, words, files, out, err, &mut Silent)
@@ -164,7 +180,8 @@ fn refuse_line<E: Write>(why: &str, err: &mut E) -> u8
     }
 }
 
-/// Says why the words of a command line were not read, as the error tells, and gives the exit status: 2, or 1 where a write failed.
+/// Says why the words of a command line were not read, as the error tells, and gives the exit status: 2, or 1 where a
+/// write failed.
 pub fn refuse_words<E: Write>(error: &io::Error, err: &mut E) -> u8
     ensures refused { result ≢ 0 }
     ensures status { result ≤ 2 }
@@ -186,8 +203,8 @@ pub fn run_script_with_progress<R: Threads + Wait + Sync, W: Write, E: Write, P:
     progress: &mut P,
 ) -> u8
     ensures status { result ≤ 2 }
-    // Where the exit status is 0, the task of the first line was done over the files of the script: what was written answers it.
-    // Or the line asks for the version.
+    // Where the exit status is 0, the task of the first line was done over the files of the script: what was written
+    // answers it. Or the line asks for the version.
     ensures does { result ≡ 0 → DoesScript script.now (W.contents out.old) (W.contents out.new) }
     ensures taken { IsTaskScript script.now → result ≤ 1 }
 {

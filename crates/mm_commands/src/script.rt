@@ -1,9 +1,11 @@
 //! Scripts: the words of a command line, and then its files, in one text.
-ghost use Rattle.std.specs.Prelude.{◌≡◌, ◌<◌, ◌≤◌, [], ◌∷◌, length, bytes_eq, None, IfOk, IfErr, IfSome, IfNone, IsErrAnd, IsTrue};
+ghost use Rattle.std.specs.Prelude.{◌≡◌, ◌<◌, ◌≤◌, [], ◌∷◌, length, bytes_eq, false, None, IfOk, IfErr, IfSome, IfNone};
+ghost use Rattle.std.specs.Prelude.{IsErrAnd, IsTrue};
 ghost use Rattle.std.specs.Option.{option_map};
 ghost use Rattle.mm_base.specs.Lines.{text_lines};
 ghost use Rattle.mm_commands.specs.Contents.{MayBe, MayBeUnread, Notes, content_of, reading};
-ghost use Rattle.mm_commands.specs.Scripts.{IsFirstLine, is_heading, heading_of, before_heading, script_contents, script_file};
+ghost use Rattle.mm_commands.specs.Scripts.{IsFirstLine, is_heading, heading_of, before_heading, script_contents};
+ghost use Rattle.mm_commands.specs.Scripts.{script_file};
 ghost use Rattle.mm_commands.specs.ReadFaults.{is_unread};
 ghost use Rattle.mm_commands.specs.declared.files.ReadFault.TheVariants.{NoMemory};
 
@@ -57,7 +59,7 @@ fn before_heading(text: &[u8]) -> &[u8]
     &text[..text.len() - rest.len()]
 }
 
-/// The files of a script. Contracts see the text that they stand in.
+/// The files of a script, in which `-` is a name like any other. Contracts see the text that they stand in.
 #[derive(Drop)]
 pub struct ScriptFiles<'a> {
     text: &'a [u8],
@@ -97,6 +99,14 @@ impl<'a> ScriptFiles<'a> {
 }
 
 impl Files for ScriptFiles<'_> {
+    ghost has_streams = { false };
+
+    fn has_streams() -> bool
+        ensures streams { result ≡ false }
+    {
+        false
+    }
+
     ghost content = { λ text. script_contents text };
 
     #[tactic(auto, using(crate::proofs::ScriptLemmas::is_file, crate::proofs::ScriptLemmas::is_no_file))]
@@ -104,7 +114,8 @@ impl Files for ScriptFiles<'_> {
         ensures whole { IfOk result (λ text. MayBe (content_of (script_file self.old name.now)) text.items) }
         ensures found { IfSome (script_file self.old name.now) (λ _. IfErr result (λ fault. fault ≡ NoMemory)) }
         ensures none { IfNone (script_file self.old name.now) (IsErrAnd result (λ fault. IsTrue (is_unread fault))) }
-        ensures unread { IfErr result (λ fault. IsTrue (is_unread fault) → MayBeUnread (content_of (script_file self.old name.now))) }
+        ensures unread { IfErr result (λ fault. IsTrue (is_unread fault)
+            → MayBeUnread (content_of (script_file self.old name.now))) }
         ensures stays { self.new ≡ self.old }
         ensures noted { IfOk result (λ text. Notes None None (reading name.now text.items ∷ [])) }
         ensures unnoted { IfErr result (λ _. Notes None None []) }

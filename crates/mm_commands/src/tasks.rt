@@ -1,39 +1,42 @@
 //! A task is done: what answers it goes to one writer or into a file, and what is said of it to another writer.
-ghost use Rattle.std.specs.Prelude.{◌≡◌, ◌≢◌, false, IfOk, IfErr, IfSome, IsFalse};
+ghost use Rattle.std.specs.Prelude.{◌≡◌, ◌≢◌, List, Option, false, IfOk, IfErr, IfSome, IsFalse};
 ghost use Rattle.std.specs.Io.KnownBytes.{Appends};
 ghost use Rattle.mm_commands.specs.declared.status.Status.TheVariants.{Refused, BadCommandLine};
 ghost use Rattle.mm_command_line.specs.Names.{names_in};
-ghost use Rattle.mm_command_line.specs.declared.task.Task.TheVariants.{Fly};
 ghost use Rattle.mm_commands.specs.Answers.{AreOthers, Gives, IsAnswerTo, is_run, output_in, status_in, text_in};
-ghost use Rattle.mm_commands.specs.Contents.{FilesView, IsStored, WereRead, seen};
+ghost use Rattle.mm_commands.specs.Contents.{Contents, IsStored, Reading, WereRead, seen};
 ghost use Rattle.mm_commands.specs.Faults.{refused_line};
 ghost use Rattle.mm_commands.specs.Reading.{readings_of};
 ghost use Rattle.mm_commands.specs.Refusing.{IsFaultIn, Settles, refused_input};
+ghost use Rattle.mm_commands.specs.Streams.{file_of};
 
 use crate::advice::Advice;
-use crate::answers::{Answer, answer_to_run, answer_without_run};
+use crate::answers::{Answer, answer_without_run};
 use crate::fault::Fault;
 use crate::file_name::Shown;
 use crate::files::{Files, ReadFault, StoreFault};
+use crate::flight::do_run;
 use crate::remark::{Found, tell_found, tell_more};
 use crate::status::{Status, Unwritten};
+use crate::streams::{STREAM, is_stream};
 use crate::texts::TaskTexts;
-use mm_command_line::{FileNames, FlightFiles, Task};
+use mm_command_line::{FileNames, Task};
 use mm_sensitivity::Progress;
 use std::alloc::Global;
 use std::io::{self, Write};
 use std::sync::Wait;
 use std::thread::Threads;
 
-// Says why a task is refused, what that means, and what is found.
-fn refuse<'a, W: Write, E: Write>(
+/// Says why a task is refused, what that means, and what is found.
+pub(crate) fn refuse<'a, W: Write, E: Write>(
     task: Option<Task<'a>>,
     fault: Fault<'a>,
     found: Option<Found>,
     out: &mut W,
     err: &mut E,
 ) -> Result<Status, Unwritten>
-    ensures line { IfOk result (λ status. Appends (W.contents out.old) (W.contents out.new) (refused_line fault.entry)) }
+    ensures line { IfOk result (λ status. Appends (W.contents out.old) (W.contents out.new)
+        (refused_line fault.entry)) }
     ensures status { IfOk result (λ status. status ≡ Refused) }
 {
     writeln!(out, "refused {fault}").map_err(|_| Unwritten::Output)?;
@@ -54,7 +57,7 @@ pub fn refuse_input<W: Write, E: Write>(
     let fault = match fault {
         ReadFault::NoMemory => Fault::NoMemory,
         ReadFault::NotRead { obstacle } => Fault::NotRead {
-            name: "-",
+            name: STREAM,
             obstacle,
         },
     };
@@ -83,7 +86,8 @@ fn is_among<F: Files>(files: &F, inputs: FileNames<'_>, name: &str) -> bool
         || is_that(files, inputs.packets, name)
 }
 
-// Stores the text in the file of this name, which must be none of the inputs; standard error has its name where that fails.
+// Stores the text in the file of this name, which must be none of the inputs; standard error has its name where that
+// fails.
 fn store<F: Files, E: Write>(
     alloc: Global,
     files: &mut F,
@@ -124,15 +128,11 @@ fn print<W: Write>(answer: &Answer<'_>, out: &mut W) -> io::Result<()>
         Answer::Text { text, .. } => out.write_all(text),
         Answer::Lines(replies) => out.write_all(&replies.text),
         Answer::Line { line, .. } => out.write_all(line),
-        Answer::Run(printed) => {
-            out.write_all(&printed.sheet)?;
-            out.write_all(&printed.report)?;
-            out.write_all(&printed.end)
-        }
     }
 }
 
-// Gives the answer to its writer, and then says what is to be said of it. Into a file it goes last: where a write fails, no file is changed.
+// Gives the answer to its writer, and then says what is to be said of it. An output that is standard output is that
+// writer. Into a file the answer goes last: where a write fails, no file is changed.
 fn give<F: Files, W: Write, E: Write>(
     alloc: Global,
     task: Task<'_>,
@@ -142,10 +142,11 @@ fn give<F: Files, W: Write, E: Write>(
     out: &mut W,
     err: &mut E,
 ) -> Result<Status, Unwritten>
-    ensures given { IfOk result (λ status. Gives (output_in answer.now) (text_in answer.now)
+    ensures given { IfOk result (λ status. Gives (file_of F.has_streams (output_in answer.now)) (text_in answer.now)
         (F.content files.old) (F.content files.new) (W.contents out.old) (W.contents out.new)) }
     // A text goes into no file that the task reads.
-    ensures others { IfOk result (λ status. IfSome (output_in answer.now) (λ name. AreOthers (names_in task.entry) name.now)) }
+    ensures others { IfOk result (λ status. IfSome (file_of F.has_streams (output_in answer.now))
+        (λ name. AreOthers (names_in task.entry) name.now)) }
     ensures status { IfOk result (λ status. status ≡ status_in answer.now) }
     ensures kept { IfErr result (λ _. F.content files.new ≡ F.content files.old) }
     ensures unread { F.readings files.new ≡ F.readings files.old }
@@ -154,7 +155,7 @@ fn give<F: Files, W: Write, E: Write>(
         Answer::Text {
             text,
             output: Some(name),
-        } => {
+        } if !is_stream(F::has_streams(), *name) => {
             tell_more(alloc, task, answer, texts, err).map_err(|_| Unwritten::Messages)?;
             store(alloc, files, task.names(), *name, text, err)?;
         }
@@ -178,8 +179,10 @@ fn conclude<'a, F: Files, W: Write, E: Write>(
 ) -> Result<Status, Unwritten>
     requires answers { IfOk answer (IsAnswerTo task texts.now) }
     requires refused { IfErr answer (IsFaultIn task texts.now) }
-    ensures prints { (start : FilesView) → F.content files.old ≡ start.contents
-        → WereRead start.contents start.readings (F.readings files.old) (readings_of (names_in task.entry) texts.now) → IfOk result (λ status. Settles start (seen (F.content files.new) (F.readings files.new))
+    ensures prints { (contents : Contents) (readings : Option (List Reading)) → F.content files.old ≡ contents
+        → WereRead contents readings (F.readings files.old) (readings_of (names_in task.entry) texts.now)
+        → IfOk result (λ status. Settles (seen F.has_streams contents readings)
+        (seen F.has_streams (F.content files.new) (F.readings files.new))
         task.entry status (W.contents out.old) (W.contents out.new)) }
     ensures status { IfOk result (λ status. status ≢ BadCommandLine) }
     ensures kept { IfErr result (λ _. F.content files.new ≡ F.content files.old) }
@@ -193,30 +196,6 @@ fn conclude<'a, F: Files, W: Write, E: Write>(
     }
 }
 
-// Carries out a plan.
-fn do_run<R: Threads + Wait + Sync, F: Files, W: Write, E: Write>(
-    rt: &R,
-    alloc: Global,
-    flight: FlightFiles<'_>,
-    files: &mut F,
-    out: &mut W,
-    err: &mut E,
-) -> Result<Status, Unwritten>
-    ensures prints { IfOk result (λ status. Settles (seen (F.content files.old) (F.readings files.old)) (seen (F.content files.new) (F.readings files.new))
-        (Fly flight.entry) status (W.contents out.old) (W.contents out.new)) }
-    ensures status { IfOk result (λ status. status ≢ BadCommandLine) }
-    ensures kept { IfErr result (λ _. F.content files.new ≡ F.content files.old) }
-{
-    let task = Task::Fly(flight);
-    match TaskTexts::read(alloc, files, task.names()) {
-        Ok(texts) => {
-            let answer = answer_to_run(rt, alloc, flight, &texts);
-            conclude(alloc, task, answer, &texts, files, out, err)
-        }
-        Err(fault) => refuse(Some(task), fault, None, out, err),
-    }
-}
-
 /// Does a task other than a run, as `do_task` does, and waits for nothing.
 pub fn do_without_run<F: Files, W: Write, E: Write, P: Progress>(
     alloc: Global,
@@ -227,7 +206,8 @@ pub fn do_without_run<F: Files, W: Write, E: Write, P: Progress>(
     progress: &mut P,
 ) -> Result<Status, Unwritten>
     requires other { is_run task ≡ false }
-    ensures prints { IfOk result (λ status. Settles (seen (F.content files.old) (F.readings files.old)) (seen (F.content files.new) (F.readings files.new))
+    ensures prints { IfOk result (λ status. Settles (seen F.has_streams (F.content files.old) (F.readings files.old))
+        (seen F.has_streams (F.content files.new) (F.readings files.new))
         task.entry status (W.contents out.old) (W.contents out.new)) }
     ensures status { IfOk result (λ status. status ≢ BadCommandLine) }
     ensures kept { IfErr result (λ _. F.content files.new ≡ F.content files.old) }
@@ -241,11 +221,12 @@ pub fn do_without_run<F: Files, W: Write, E: Write, P: Progress>(
     }
 }
 
-/// Does a task. What answers it goes to `out`, or into the file of the task's output, and nothing of it to `out` then. The line that says why
-/// a task is refused goes to `out`; what is said of an answer or of a refusal goes to `err`. The status is `Done` where the task is done,
-/// and `Refused` where something is refused, a verdict is neither `Least` nor `LeastInOrder`, or a run was halted. The error says what could not be written. No file
-/// is changed but that of the output of a task that is done. Only a run may wait for its threads. The progress is told how far a long answer
-/// has come.
+/// Does a task. What answers it goes to `out`, or into the file of the task's output, and nothing of it to `out` then.
+/// The line that says why a task is refused goes to `out`; what is said of an answer or of a refusal goes to `err`. The
+/// status is `Done` where the task is done, and `Refused` where something is refused, a verdict is neither `Least` nor
+/// `LeastInOrder`, or a run was halted. The error says what could not be written. No file is changed but that of the
+/// output of a task that is done. Only a run may wait for its threads. The progress is told how far a long answer has
+/// come.
 pub fn do_task<R: Threads + Wait + Sync, F: Files, W: Write, E: Write, P: Progress>(
     rt: &R,
     alloc: Global,
@@ -255,7 +236,8 @@ pub fn do_task<R: Threads + Wait + Sync, F: Files, W: Write, E: Write, P: Progre
     err: &mut E,
     progress: &mut P,
 ) -> Result<Status, Unwritten>
-    ensures prints { IfOk result (λ status. Settles (seen (F.content files.old) (F.readings files.old)) (seen (F.content files.new) (F.readings files.new))
+    ensures prints { IfOk result (λ status. Settles (seen F.has_streams (F.content files.old) (F.readings files.old))
+        (seen F.has_streams (F.content files.new) (F.readings files.new))
         task.entry status (W.contents out.old) (W.contents out.new)) }
     ensures status { IfOk result (λ status. status ≢ BadCommandLine) }
     ensures kept { IfErr result (λ _. F.content files.new ≡ F.content files.old) }

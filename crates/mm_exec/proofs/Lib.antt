@@ -11,5 +11,6 @@ pub mod Counters
 pub mod StepMore
 pub mod Starting
 pub mod Halts
+pub mod Beyond
 pub mod Ended
 pub mod AccountLemmas

@@ -1,6 +1,7 @@
 -- A run that begins with its plan: what is printed, and what is lost.
-use Rattle.std.specs.Prelude.{◌≡◌, ◌≤◌, ℕ, List, [], length, pos}
-use Rattle.mm_exec.specs.Words.{Dumping, arrivals, Fits, amount, Amounts, loss, Holdings, Supply, Sent, Reported, totals_of, NoMemory}
+use Rattle.std.specs.Prelude.{◌≡◌, ◌≤◌, ℕ, None, List, [], length, pos}
+use Rattle.mm_exec.specs.Words.{Dumping, arrivals, Fits, amount, Amounts, loss, Holdings, Supply, Sent, Reported}
+use Rattle.mm_exec.specs.Words.{totals_of, NoMemory}
 use Rattle.mm_plan.specs.Sheet.{SheetRows}
 use Rattle.mm_cut.specs.Cuts.{IsCut, bound}
 use Rattle.mm_planner.specs.PlanTexts.{PlansFor}
@@ -8,40 +9,53 @@ use Rattle.mm_exec.specs.AsPlanned.{AtEach}
 use Rattle.mm_exec.specs.declared.run_end.Flown.{Flown}
 use Rattle.mm_exec.specs.declared.run_end.FlyHalted.{FlyHalted}
 use Rattle.mm_exec.specs.RunInput.{RunInput, run_input, came}
+use Rattle.mm_exec.specs.Beyond.{LosesAtMost}
 use Rattle.mm_exec.specs.Ending.{over_memory, IsCarriedOut, IsUntouched, stop_of, IsHalted}
 
 -- what came is what was forecast, in each store and step
 abbrev pub AsForecast : RunInput → Type 0
 AsForecast m = AtEach (length m.problem.rows) (length m.problem.windows) (λ s t. came m s t ≡ arrivals m.problem s t)
 
--- THE HEADLINE: what was printed is what is lost. The printed plan fits every window and every channel's limit, no plan that fits loses
--- fewer blocks than the printed number, and the printed cut shows this; and where what came is what was forecast, the packets lost in
--- the run are the printed number
+-- THE HEADLINE: what was printed is what is lost. The printed plan fits every window and every channel's limit, no plan
+-- that fits loses fewer blocks than the printed number, and the printed cut shows this; where what came is what was
+-- forecast, the packets lost in the run are the printed number; and what came beyond the forecast cost no more than
+-- itself
 pub record LosesWhatIsPrinted (m : RunInput) (sheet : SheetRows) (report : Reported) : Type 0 where
   pub fits : Fits m.problem (amount sheet.plan)
   pub least : (other : Amounts) → Fits m.problem other → sheet.loss ≤ loss m.problem other
   pub cut : IsCut m.problem sheet.cut sheet.by_channels
   pub shown : bound m.problem sheet.cut sheet.by_channels ≡ pos sheet.loss
   pub lost : AsForecast m → (totals_of report.steps).lost ≡ sheet.loss
+  pub at_most : LosesAtMost m sheet.loss (totals_of report.steps).lost
 
--- a plan was made, printed and carried out, with sources that give this and have that left
-pub record Flies {S L : Type 0} (sent : L → List Sent) (failed : L → ℕ) (q : Dumping) (base : ℕ) (before : Holdings) (given : List Supply) (links : List L)
-    (after : Holdings) (flown : Flown S L) (left : List Supply) : Type 0 where
+-- a plan was made, printed with the certificate of all stores alone, and carried out, with sources that give this and
+-- have that left
+pub record Flies {S L : Type 0} (sent : L → List Sent) (failed : L → ℕ) (q : Dumping) (base : ℕ)
+    (before : Holdings) (given : List Supply) (links : List L) (after : Holdings) (flown : Flown S L)
+    (left : List Supply) : Type 0 where
   pub sheet : SheetRows
   pub plans : PlansFor q flown.sheet.items sheet
-  pub carried_out : IsCarriedOut sent failed (run_input q sheet.plan base before given) sheet.plan links after left flown.links.items flown.report
+  pub plain : sheet.firsts ≡ None
+  pub carried_out : IsCarriedOut sent failed (run_input q sheet.plan base before given) sheet.plan links after left
+      flown.links.items flown.report
   pub headline : LosesWhatIsPrinted (run_input q sheet.plan base before given) sheet flown.report
 
--- a plan was made and printed, and its run was halted, with sources that give this and have that left
-pub record FliesNot {S L : Type 0} (sent : L → List Sent) (failed : L → ℕ) (q : Dumping) (base : ℕ) (before : Holdings) (sources : List S) (given : List Supply)
-    (links : List L) (after : Holdings) (ended : FlyHalted S L) (left : List Supply) : Type 0 where
+-- a plan was made and printed with the certificate of all stores alone, and its run was halted, with sources that give
+-- this and have that left
+pub record FliesNot {S L : Type 0} (sent : L → List Sent) (failed : L → ℕ) (q : Dumping) (base : ℕ)
+    (before : Holdings) (sources : List S) (given : List Supply) (links : List L) (after : Holdings)
+    (ended : FlyHalted S L) (left : List Supply) : Type 0 where
   pub sheet : SheetRows
   pub plans : PlansFor q ended.sheet.items sheet
-  pub halted : IsHalted sent failed (run_input q sheet.plan base before given) sheet.plan sources links after ended.halted left
+  pub plain : sheet.firsts ≡ None
+  pub halted : IsHalted sent failed (run_input q sheet.plan base before given) sheet.plan sources links after
+      ended.halted left
 
 -- there was no memory to plan: nothing is printed, and nothing was done
-pub record HasNoPlan {S L : Type 0} (before : Holdings) (sources : List S) (links : List L) (after : Holdings) (ended : FlyHalted S L) : Type 0 where
+pub record HasNoPlan {S L : Type 0} (before : Holdings) (sources : List S) (links : List L) (after : Holdings)
+    (ended : FlyHalted S L) : Type 0 where
   pub sheet_is : ended.sheet.items ≡ []
   pub cause_is : ended.halted.cause ≡ NoMemory 0
   pub routes : after.routes ≡ before.routes
-  pub untouched : IsUntouched (over_memory before sources links) (over_memory after ended.halted.sources.items ended.halted.links.items) (stop_of ended.halted)
+  pub untouched : IsUntouched (over_memory before sources links)
+      (over_memory after ended.halted.sources.items ended.halted.links.items) (stop_of ended.halted)

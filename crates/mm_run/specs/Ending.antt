@@ -7,7 +7,19 @@ use Rattle.mm_base.specs.declared.refusal.Refusal.{Refusal}
 use Rattle.mm_base.specs.declared.refusal.Refusal.TheVariants as refusal
 use Rattle.mm_report.specs.Cause.{refusal_of}
 use Rattle.mm_report.specs.declared.cause.Cause.{Cause}
-use Rattle.mm_report.specs.declared.cause.Cause.TheVariants.{NotReady, SizeDiffers, OpeningDiffers, ChannelDiffers, PlanDoesNotFit, NoMemory, LinkFailed, LogMismatch}
+use Rattle.mm_report.specs.declared.cause.Cause.TheVariants.{NotReady, SizeDiffers, OpeningDiffers, ChannelDiffers}
+use Rattle.mm_report.specs.declared.cause.Cause.TheVariants.{PlanDoesNotFit, NoMemory, LinkFailed, LogMismatch}
+
+-- a number below 2^32 has at most this many digits, the name of a cause at most this many letters, and an identifier
+-- this many
+abbrev pub NUMBER : ℕ
+NUMBER = 10
+
+abbrev pub NAME : ℕ
+NAME = 20
+
+abbrev pub ID : ℕ
+ID = 8
 
 -- the number and the name of a refusal
 abbrev pub refusal_text : Refusal → List ℕ
@@ -35,7 +47,8 @@ refused_line cause = codes "refused " ++ refusal_text (refusal_of cause) ++ fiel
 
 -- why the run was halted in this step
 abbrev pub halted_line : ℕ → Cause → List ℕ
-halted_line step cause = codes "halted step " ++ decimal step ++ space ∷ refusal_text (refusal_of cause) ++ line_feed ∷ []
+halted_line step cause =
+    codes "halted step " ++ decimal step ++ space ∷ refusal_text (refusal_of cause) ++ line_feed ∷ []
 
 -- the last line of a run that was not carried out whole
 abbrev pub end_line : Cause → List ℕ

@@ -11,3 +11,4 @@ pub mod Ending
 pub mod Printed
 pub mod Runs
 pub mod Judging
+pub mod Prepared

@@ -1,25 +1,29 @@
 -- What a run prints.
-use Rattle.std.specs.Prelude.{◌≡◌, ◌⊎◌, ℕ, List, [], ◌++◌, Option, Some, None}
+use Rattle.std.specs.Prelude.{◌≡◌, ◌≤◌, ◌⊎◌, ℕ, List, [], ◌++◌, vec_capacity, Option, Some, None}
 use Rattle.mm_report.specs.Report.{Reported}
 use Rattle.mm_report.specs.Text.{report_text}
 use Rattle.mm_report.specs.declared.cause.Cause.{Cause}
 use Rattle.mm_run.specs.declared.printed.Outcome.{Outcome}
 use Rattle.mm_run.specs.declared.printed.Outcome.TheVariants.{CarriedOut, Unreported, Stopped}
 use Rattle.mm_run.specs.declared.printed.Printed.{Printed}
+use Rattle.mm_run.specs.declared.printed.TheConstants.{LINE}
 use Rattle.mm_run.specs.Ending.{step_of, end_line, lacking_line}
 
 -- the text that is printed: the plan text, where the plan was made here, then the report, then the last line
 abbrev pub text_of : Printed → List ℕ
 text_of p = p.sheet.items ++ p.report.items ++ p.end.items
 
--- nothing is printed yet
+-- nothing is printed yet, and there is room for a line in the report and at the end
 pub record IsReserved (p : Printed) : Type 0 where
   pub report : p.report.items ≡ []
+  pub report_room : LINE ≤ vec_capacity p.report
   pub end : p.end.items ≡ []
+  pub end_room : LINE ≤ vec_capacity p.end
 
 -- the report is printed, or a line stands for a report for whose text there is no memory
 abbrev pub TellsReport : Reported → List ℕ → Outcome → Type 0
-TellsReport report text outcome = ((text ≡ report_text report) × (outcome ≡ CarriedOut)) ⊎ ((text ≡ lacking_line) × (outcome ≡ Unreported))
+TellsReport report text outcome =
+    ((text ≡ report_text report) × (outcome ≡ CarriedOut)) ⊎ ((text ≡ lacking_line) × (outcome ≡ Unreported))
 
 -- a run that was carried out has its report printed, and nothing after it
 pub record TellsAll (sheet : List ℕ) (report : Reported) (p : Printed) : Type 0 where

@@ -1,11 +1,16 @@
-//! Runs from bytes to bytes: what the commands `run` and `fly` read and print, with sources and links that do what a text says.
+//! Runs from bytes to bytes: what the commands `run` and `fly` read and print, with sources and links that do what a
+//! text says.
 #![tactic(auto)]
 
 mod fault;
+mod flight;
+mod keeping_link;
 pub mod laws;
 mod link;
+mod prepared;
 mod printed;
 mod run;
+mod run_plan;
 mod script_fault;
 mod source;
 mod sources;
@@ -14,13 +19,15 @@ mod untaken;
 mod words;
 
 pub use fault::Fault;
+pub use keeping_link::KeepingLink;
 pub use link::{Failing, MAX_SEND, MAX_SENT, MAX_WRITTEN, ScriptedLink, read_links};
 pub use mm_base::NoMemory;
 pub use mm_report::{Cause, MAX_SOURCES};
+pub use prepared::PreparedRun;
 pub use printed::{Given, Outcome, Printed};
-pub use run::{fly_bytes, run_bytes, run_texts};
+pub use run::{fly_bytes, prepare_run, run_bytes, run_texts};
 pub use script_fault::ScriptFault;
 pub use source::{MAX_PACKETS, ScriptedSource};
 pub use sources::{SourceFile, SourceLine};
 pub use texts::RunTexts;
-pub use untaken::Untaken;
+pub use untaken::{Unstored, Untaken};

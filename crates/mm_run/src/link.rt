@@ -1,5 +1,6 @@
 //! Links that fail where the lines of a text say so.
-ghost use Rattle.std.specs.Prelude.{◌≡◌, ◌+◌, ◌-◌, ◌^◌, ◌<◌, ◌≤◌, ◌==◌, ◌∷◌, ◌++◌, [], length, is_err, All, IfOk, OnOk, OnErr};
+ghost use Rattle.std.specs.Prelude.{◌≡◌, ◌+◌, ◌-◌, ◌^◌, ◌<◌, ◌≤◌, ◌==◌, ◌∷◌, ◌++◌, [], length, is_err, All, IfOk, OnOk};
+ghost use Rattle.std.specs.Prelude.{OnErr};
 ghost use Rattle.std.specs.List.{list_any};
 ghost use Rattle.std.proofs.Math.ListN.{replicate};
 ghost use Rattle.mm_base.specs.Lines.{file_lines};
@@ -36,8 +37,8 @@ struct Note {
     packet: Snapshot<BlockPacket>,
 }
 
-/// A link that fails at the sends of a text's lines, and keeps nothing of what is sent over it. Contracts see which of its
-/// sends fail by the lines, what was sent, and how many sends have failed.
+/// A link that fails at the sends of a text's lines, and keeps nothing of what is sent over it. Contracts see which of
+/// its sends fail by the lines, what was sent, and how many sends have failed.
 #[derive(Drop)]
 pub struct ScriptedLink {
     failing: Vec<u32>,
@@ -90,6 +91,15 @@ impl ScriptedLink {
         Ok(())
     }
 
+    /// Counts a send that fails.
+    pub(crate) fn refuse(&mut self) -> SendFailed
+        requires room { self.old.failed < 2 ^ 64 - 1 }
+        ensures after { self.new ≡ record self.old { failed = self.old.failed + 1 } }
+    {
+        self.failed += 1;
+        SendFailed
+    }
+
     // Whether the next send fails by the lines.
     fn fails_next(&self) -> bool
         ensures { result ≡ fails_next self.now }
@@ -106,7 +116,8 @@ impl Link for ScriptedLink {
 
     fn send(&mut self, store: &StoreId, time: u64, packet: &BlockPacket) -> Result<(), SendFailed>
         requires room { self.old.failed < 2 ^ 64 - 1 }
-        ensures ok { OnOk result (self.new ≡ record self.old { sent = self.old.sent ++ sent_at store.now time packet.now ∷ [] }) }
+        ensures ok { OnOk result (self.new
+            ≡ record self.old { sent = self.old.sent ++ sent_at store.now time packet.now ∷ [] }) }
         ensures err { OnErr result (self.new ≡ record self.old { failed = self.old.failed + 1 }) }
         ensures lines { length self.old.sent < MAX_SENT → is_err result ≡ fails_next self.old }
     {
@@ -118,8 +129,7 @@ impl Link for ScriptedLink {
         if !self.fails_next() && self.notes.push(note).is_ok() {
             return Ok(());
         }
-        self.failed += 1;
-        Err(SendFailed)
+        Err(self.refuse())
     }
 
     fn failures(&self) -> u64 {
@@ -185,7 +195,8 @@ fn new_links(alloc: Global, count: u8) -> Result<Vec<ScriptedLink>, NoMemory>
 fn fail_all(links: &mut Vec<ScriptedLink>, count: u8, text: &[u8]) -> Result<(), ScriptFault>
     requires { AreLinked (record { count = count; failing = [] }) links.old.items }
     ensures failing { OnOk result (AreFailing count text.now links.new.items) }
-    ensures refused { IfRefused ScriptFault.NoMemory result (λ e. with_failing count 2 [] (file_lines text.now) ≡ Err e) }
+    ensures refused { IfRefused ScriptFault.NoMemory result
+        (λ e. with_failing count 2 [] (file_lines text.now) ≡ Err e) }
 {
     let mut rest = text;
     let mut line: u64 = 2;

@@ -1,13 +1,17 @@
 //! What a run prints.
-ghost use Rattle.std.specs.Prelude.{◌≡◌, ◌++◌, [], IfOk, OnOk};
-ghost use Rattle.mm_run.specs.Ending.{field_text, step_of, halted_line, end_line, lacking_line};
+ghost use Rattle.std.specs.Prelude.{◌≡◌, ◌+◌, ◌≤◌, ◌++◌, [], length, decimal, vec_capacity, IfOk};
+ghost use Rattle.mm_base.specs.Id.{id_text};
+ghost use Rattle.mm_base.specs.Refusals.{name_of};
+ghost use Rattle.mm_run.specs.Ending.{ID, NAME, NUMBER, refusal_text, field_text, step_of, halted_line, end_line};
+ghost use Rattle.mm_run.specs.Ending.{lacking_line};
 ghost use Rattle.mm_run.specs.Printed.{TellsReport};
+ghost use Rattle.mm_run.specs.declared.printed.TheConstants.{LINE};
 
-use crate::untaken::Untaken;
-use mm_base::{NoMemory, Refusal, Refused};
+use crate::untaken::{Unstored, Untaken};
+use itoa::Buffer;
+use mm_base::{NoMemory, Refusal, Refused, StoreId};
 use mm_report::{Cause, Report};
 use std::alloc::Global;
-use std::io::{self, Write};
 
 /// Whether a run was carried out whole and its report printed.
 #[derive(Clone, Copy, Debug, PartialEq, Eq)]
@@ -28,7 +32,9 @@ pub struct Given {
     pub links: usize,
     /// How many packets of step 0 went to the store that does not hold its start volume, where that is the cause.
     pub opening: u64,
-    /// The first packet that goes to no store, though it is telemetry.
+    /// How many packets of the sources go to no store.
+    pub unstored: Unstored,
+    /// The first of those that no route takes.
     pub untaken: Option<Untaken>,
 }
 
@@ -60,70 +66,128 @@ fn step_of(cause: &Cause) -> Option<u32>
     }
 }
 
-// The store or the step that a refusal names.
-fn push_field(text: &mut Vec<u8>, cause: &Cause) -> io::Result<()>
-    ensures { OnOk result (text.new.items ≡ text.old.items ++ field_text cause.now) }
+// Pushes octets for which there is room.
+fn push(text: &mut Vec<u8>, part: &[u8])
+    requires room { length text.old.items + length part.now ≤ vec_capacity text.old }
+    ensures text { text.new.items ≡ text.old.items ++ part.now }
+    ensures room { vec_capacity text.old ≤ vec_capacity text.new }
+{
+    let _pushed = text.extend_from_slice(part);
+}
+
+// Pushes a number, for whose digits there is room.
+fn push_number(text: &mut Vec<u8>, number: u32)
+    requires room { length text.old.items + NUMBER ≤ vec_capacity text.old }
+    ensures text { text.new.items ≡ text.old.items ++ decimal number }
+    ensures short { length (decimal number) ≤ NUMBER }
+    ensures room { vec_capacity text.old ≤ vec_capacity text.new }
+{
+    let mut buffer = Buffer::new();
+    push(text, buffer.format(number).as_bytes());
+}
+
+// Pushes the number and the name of a refusal, for which there is room.
+#[tactic(auto, using(std::proofs::Common::append_assoc))]
+fn push_refusal(text: &mut Vec<u8>, refusal: Refusal)
+    requires short { length (name_of refusal) ≤ NAME }
+    requires room { length text.old.items + (NUMBER + 1 + NAME) ≤ vec_capacity text.old }
+    ensures text { text.new.items ≡ text.old.items ++ refusal_text refusal }
+    ensures short { length (refusal_text refusal) ≤ NUMBER + 1 + NAME }
+    ensures room { vec_capacity text.old ≤ vec_capacity text.new }
+{
+    push_number(text, u32::from(refusal.number()));
+    push(text, b" ");
+    push(text, refusal.name().as_bytes());
+}
+
+// Pushes the text of an identifier, for which there is room.
+fn push_store(text: &mut Vec<u8>, store: &StoreId)
+    requires room { length text.old.items + ID ≤ vec_capacity text.old }
+    ensures text { text.new.items ≡ text.old.items ++ id_text store.now }
+    ensures short { length (id_text store.now) ≤ ID }
+    ensures room { vec_capacity text.old ≤ vec_capacity text.new }
+{
+    let _is_field = store.field();
+    push(text, store.text());
+}
+
+// Pushes the store or the step that a refusal names, for which there is room.
+#[tactic(auto, using(std::proofs::Common::append_assoc))]
+fn push_field(text: &mut Vec<u8>, cause: &Cause)
+    requires room { length text.old.items + (7 + NUMBER) ≤ vec_capacity text.old }
+    ensures text { text.new.items ≡ text.old.items ++ field_text cause.now }
+    ensures short { length (field_text cause.now) ≤ 7 + NUMBER }
+    ensures room { vec_capacity text.old ≤ vec_capacity text.new }
 {
     match *cause {
         Cause::NotReady { store }
         | Cause::SizeDiffers { store }
         | Cause::OpeningDiffers { store }
         | Cause::ChannelDiffers { store } => {
-            text.write_all(b" store ")?;
-            text.write_all(store.text())
+            push(text, b" store ");
+            push_store(text, &store);
         }
-        Cause::PlanDoesNotFit { step } => write!(text, " step {step}"),
-        _ => Ok(()),
+        Cause::PlanDoesNotFit { step } => {
+            push(text, b" step ");
+            push_number(text, step);
+        }
+        _ => {}
     }
 }
 
+// Pushes the line on the step in which a run was halted, for which there is room.
 #[tactic(auto, using(std::proofs::Common::append_assoc))]
-fn push_halted(text: &mut Vec<u8>, step: u32, cause: &Cause) -> io::Result<()>
-    ensures { OnOk result (text.new.items ≡ text.old.items ++ halted_line step cause.now) }
+fn push_halted(text: &mut Vec<u8>, step: u32, cause: &Cause)
+    requires room { length text.old.items + LINE ≤ vec_capacity text.old }
+    ensures text { text.new.items ≡ text.old.items ++ halted_line step cause.now }
 {
-    let refusal = cause.refusal();
-    let (number, name) = (refusal.number(), refusal.name());
-    write!(text, "halted step {step}")?;
-    write!(text, " {number} {name}")?;
-    text.write_all(b"\n")
+    push(text, b"halted step ");
+    push_number(text, step);
+    push(text, b" ");
+    push_refusal(text, cause.refusal());
+    push(text, b"\n");
 }
 
-// The line on why a run did not begin, or was halted.
+// Pushes the line on why a run did not begin, or was halted, for which there is room.
 #[tactic(auto, using(std::proofs::Common::append_assoc))]
-fn push_end(text: &mut Vec<u8>, cause: &Cause) -> io::Result<()>
-    ensures { OnOk result (text.new.items ≡ text.old.items ++ end_line cause.now) }
+fn push_end(text: &mut Vec<u8>, cause: &Cause)
+    requires room { length text.old.items + LINE ≤ vec_capacity text.old }
+    ensures text { text.new.items ≡ text.old.items ++ end_line cause.now }
 {
     let Some(step) = step_of(cause) else {
-        let refusal = cause.refusal();
-        write!(text, "refused {} {}", refusal.number(), refusal.name())?;
-        push_field(text, cause)?;
-        return text.write_all(b"\n");
+        push(text, b"refused ");
+        push_refusal(text, cause.refusal());
+        push_field(text, cause);
+        return push(text, b"\n");
     };
     push_halted(text, step, cause)
 }
 
-// The line that stands for a text for which there is no memory.
+// Pushes the line that stands for a text for which there is no memory; there is room for the line.
 #[tactic(auto, using(std::proofs::Common::append_assoc))]
-fn push_lacking(text: &mut Vec<u8>) -> io::Result<()>
-    ensures { OnOk result (text.new.items ≡ text.old.items ++ lacking_line) }
+fn push_lacking(text: &mut Vec<u8>)
+    requires room { length text.old.items + LINE ≤ vec_capacity text.old }
+    ensures text { text.new.items ≡ text.old.items ++ lacking_line }
 {
-    let refusal = Refusal::NoMemory;
-    writeln!(text, "refused {} {}", refusal.number(), refusal.name())
+    push(text, b"refused ");
+    push_refusal(text, Refusal::NoMemory);
+    push(text, b"\n");
 }
 
-// Writes the report's text, or where there is no memory for it the line that stands for it.
-fn write_report(text: &mut Vec<u8>, alloc: Global, report: &Report) -> Result<Outcome, NoMemory>
-    requires { text.old.items ≡ [] }
-    ensures { IfOk result (TellsReport report.now text.new.items) }
+// Writes the report's text, or where there is no memory for it the line that stands for it, for which there is room.
+fn write_report(text: &mut Vec<u8>, alloc: Global, report: &Report) -> Outcome
+    requires empty { text.old.items ≡ [] }
+    requires room { LINE ≤ vec_capacity text.old }
+    ensures { TellsReport report.now text.new.items result }
 {
     match report.text(alloc) {
         Ok(whole) => {
             *text = whole;
-            Ok(Outcome::CarriedOut)
+            Outcome::CarriedOut
         }
         Err(NoMemory) => {
-            push_lacking(text).map_err(|_| NoMemory)?;
-            Ok(Outcome::Unreported)
+            push_lacking(text);
+            Outcome::Unreported
         }
     }
 }
@@ -145,18 +209,13 @@ impl Printed {
     }
 
     /// What a run prints that was carried out.
-    pub(crate) fn whole(
-        mut self,
-        alloc: Global,
-        sheet: Vec<u8>,
-        report: &Report,
-    ) -> Result<Printed, NoMemory>
+    pub(crate) fn whole(mut self, alloc: Global, sheet: Vec<u8>, report: &Report) -> Printed
         requires { IsReserved self }
-        ensures { IfOk result (TellsAll sheet.items report.now) }
+        ensures { TellsAll sheet.items report.now result }
     {
         self.sheet = sheet;
-        self.outcome = write_report(&mut self.report, alloc, report)?;
-        Ok(self)
+        self.outcome = write_report(&mut self.report, alloc, report);
+        self
     }
 
     /// What a run prints that did not begin, or was halted.
@@ -166,16 +225,16 @@ impl Printed {
         sheet: Vec<u8>,
         cause: &Cause,
         report: &Report,
-    ) -> Result<Printed, NoMemory>
+    ) -> Printed
         requires { IsReserved self }
-        ensures { IfOk result (TellsEnd sheet.items cause.now report.now) }
+        ensures { TellsEnd sheet.items cause.now report.now result }
     {
         self.sheet = sheet;
         if step_of(cause).is_some() {
-            write_report(&mut self.report, alloc, report)?;
+            write_report(&mut self.report, alloc, report);
         }
-        push_end(&mut self.end, cause).map_err(|_| NoMemory)?;
+        push_end(&mut self.end, cause);
         self.outcome = Outcome::Stopped(*cause);
-        Ok(self)
+        self
     }
 }

@@ -7,7 +7,7 @@ ghost use Rattle.mm_run.specs.Sources.{packet_in, source_line_at, IsSourceLine, 
 
 use crate::script_fault::ScriptFault;
 use crate::source::{MAX_PACKETS, ScriptedSource};
-use crate::untaken::Unrouted;
+use crate::untaken::UnstoredCount;
 use crate::words::number_in;
 use mm_ask::{LineFault, packet_of};
 use mm_base::lines::{cut_word, first_line};
@@ -122,14 +122,14 @@ impl SourceFile {
         ensures few { IfOk result (λ read. AreFew read.sources.items) }
         ensures refused { IfRefused ScriptFault.NoMemory result (λ e. source_lines_of text.now ≡ Err e) }
     {
-        SourceFile::read_noting(alloc, text, &mut Unrouted::new(None))
+        SourceFile::read_noting(alloc, text, &mut UnstoredCount::new(None))
     }
 
-    /// `read`, which looks for the first packet that no route takes.
+    /// `read`, which counts the packets that go to no store.
     pub(crate) fn read_noting(
         alloc: Global,
         text: &[u8],
-        unrouted: &mut Unrouted<'_>,
+        count: &mut UnstoredCount<'_>,
     ) -> Result<SourceFile, ScriptFault>
         ensures found { IfOk result (λ read. Says text.now read.opening.items read.sources.items) }
         ensures few { IfOk result (λ read. AreFew read.sources.items) }
@@ -145,7 +145,7 @@ impl SourceFile {
         while let Some((front, after)) = first_line(rest) {
             let bad = ScriptFault::SourcesText { line };
             let source_line = source_line_at(alloc, bad, front)?;
-            unrouted.note(line, source_line.packet.packet());
+            count.note(line, &source_line);
             file.add(alloc, &mut opened, bad, source_line)?;
             rest = after;
             line += 1;

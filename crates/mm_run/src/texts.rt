@@ -7,13 +7,15 @@ ghost use Rattle.mm_plan.specs.declared.fault.Fault.TheVariants as plan_fault;
 ghost use Rattle.mm_run.specs.Sources.{AreFew};
 ghost use Rattle.mm_run.specs.declared.script_fault.ScriptFault.TheVariants as script;
 ghost use Rattle.mm_run.specs.Runs.{AreOffered};
-ghost use Rattle.mm_run.specs.Texts.{SaysProblemAndMemory, SaysPlan, SaysSourcesAndLinks, IsProblemFault, IsPlanTextFault, IsScriptFault};
+ghost use Rattle.mm_run.specs.Texts.{SaysProblemAndMemory, SaysPlan, SaysSourcesAndLinks, IsProblemFault};
+ghost use Rattle.mm_run.specs.Texts.{IsPlanTextFault, IsScriptFault};
 
 use crate::link::{ScriptedLink, read_links};
+use crate::printed::Given;
 use crate::script_fault::ScriptFault;
 use crate::source::ScriptedSource;
 use crate::sources::SourceFile;
-use crate::untaken::{Unrouted, Untaken};
+use crate::untaken::UnstoredCount;
 use mm_cut::read_sheet;
 use mm_memory::Memory;
 use mm_packet::BlockPacket;
@@ -44,7 +46,7 @@ pub(crate) struct SourcesAndLinks {
     pub(crate) opening: Vec<BlockPacket>,
     pub(crate) sources: Vec<ScriptedSource>,
     pub(crate) links: Vec<ScriptedLink>,
-    pub(crate) untaken: Option<Untaken>,
+    pub(crate) given: Given,
 }
 
 /// Reads the setup and the forecast. Otherwise the first fault, of the setup and then of the forecast.
@@ -81,25 +83,34 @@ pub(crate) fn read_plan(
     }
 }
 
-/// Reads the sources, whose packets the memory has routes for, and the links. Otherwise the first fault, of the sources and then of the links.
+/// Reads the sources and the links, and counts the packets that go to no store. Otherwise the first fault, of the
+/// sources and then of the links.
 pub(crate) fn read_sources_and_links(
     alloc: Global,
-    memory: &Memory,
+    start: &ProblemAndMemory,
     sources: &[u8],
     links: &[u8],
 ) -> Result<SourcesAndLinks, ScriptFault>
-    ensures found { IfOk result (λ e. SaysSourcesAndLinks sources.now links.now e.opening.items e.sources.items e.links.items) }
+    ensures found { IfOk result (λ e. SaysSourcesAndLinks sources.now links.now
+        e.opening.items e.sources.items e.links.items) }
     ensures few { IfOk result (λ e. AreFew e.sources.items) }
     ensures unfailed { IfOk result (λ e. All (λ l. l.failed ≡ 0) e.links.items) }
     ensures refused { IfRefused script.NoMemory result (IsScriptFault sources.now links.now) }
 {
-    let mut unrouted = Unrouted::new(Some(memory));
-    let SourceFile { opening, sources } = SourceFile::read_noting(alloc, sources, &mut unrouted)?;
+    let mut count = UnstoredCount::new(Some(start));
+    let SourceFile { opening, sources } = SourceFile::read_noting(alloc, sources, &mut count)?;
     let links = read_links(alloc, links)?;
+    let given = Given {
+        sources: sources.len(),
+        links: links.len(),
+        opening: 0,
+        unstored: count.unstored,
+        untaken: count.untaken,
+    };
     Ok(SourcesAndLinks {
         opening,
         sources,
         links,
-        untaken: unrouted.first,
+        given,
     })
 }

@@ -1,5 +1,7 @@
-//! Telemetry that no route takes.
+//! Packets of the sources that go to no store.
 
+use crate::sources::SourceLine;
+use crate::texts::ProblemAndMemory;
 use mm_memory::Memory;
 use mm_packet::Packet;
 
@@ -13,35 +15,72 @@ pub struct Untaken {
     pub subtype: u8,
 }
 
-/// Looks for the first packet that no route takes, where a memory has routes to look at.
-#[derive(Clone, Copy)]
-pub(crate) struct Unrouted<'a> {
-    memory: Option<&'a Memory>,
-    pub(crate) first: Option<Untaken>,
+impl Untaken {
+    // What is told of the packet of a line, which has this number.
+    fn of(line: u64, packet: &Packet) -> Untaken {
+        Untaken {
+            line,
+            apid: packet.apid(),
+            service: packet.service(),
+            subtype: packet.subtype(),
+        }
+    }
 }
 
-impl<'a> Unrouted<'a> {
-    pub(crate) fn new(memory: Option<&'a Memory>) -> Unrouted<'a> {
-        Unrouted {
-            memory,
-            first: None,
+/// How many packets of the sources go to no store. Each is counted once.
+#[derive(Clone, Copy, Debug, PartialEq, Eq)]
+pub struct Unstored {
+    /// Packets of steps after the last one, which are never asked for.
+    pub late: u64,
+    /// Telecommands among the others.
+    pub telecommands: u64,
+    /// Telemetry among the others that no route takes.
+    pub unrouted: u64,
+}
+
+/// Counts the packets that go to no store, where the number of steps and the routes are known.
+#[derive(Clone, Copy)]
+pub(crate) struct UnstoredCount<'a> {
+    start: Option<&'a ProblemAndMemory>,
+    pub(crate) unstored: Unstored,
+    /// The first that no route takes.
+    pub(crate) untaken: Option<Untaken>,
+}
+
+impl<'a> UnstoredCount<'a> {
+    pub(crate) fn new(start: Option<&'a ProblemAndMemory>) -> UnstoredCount<'a> {
+        UnstoredCount {
+            start,
+            unstored: Unstored {
+                late: 0,
+                telecommands: 0,
+                unrouted: 0,
+            },
+            untaken: None,
         }
     }
 
     /// Looks at the packet of a line, which has this number.
-    pub(crate) fn note(&mut self, line: u64, packet: &Packet) {
-        let (Some(memory), None) = (self.memory, self.first) else {
+    pub(crate) fn note(&mut self, line: u64, source_line: &SourceLine) {
+        let Some(start) = self.start else {
             return;
         };
-        let (apid, service, subtype) = (packet.apid(), packet.service(), packet.subtype());
-        let control = memory.control();
-        if !packet.is_telecommand() && control.rows_for(apid, service, subtype).is_empty() {
-            self.first = Some(Untaken {
-                line,
-                apid,
-                service,
-                subtype,
-            });
+        let packet = source_line.packet.packet();
+        let counted = &mut self.unstored;
+        if source_line.step > start.problem.steps() {
+            counted.late = counted.late.saturating_add(1);
+        } else if packet.is_telecommand() {
+            counted.telecommands = counted.telecommands.saturating_add(1);
+        } else if !is_routed(&start.memory, packet) {
+            counted.unrouted = counted.unrouted.saturating_add(1);
+            self.untaken = self.untaken.or(Some(Untaken::of(line, packet)));
         }
     }
+}
+
+// Whether a route takes telemetry of the packet's report type.
+fn is_routed(memory: &Memory, packet: &Packet) -> bool {
+    let control = memory.control();
+    let rows = control.rows_for(packet.apid(), packet.service(), packet.subtype());
+    !rows.is_empty()
 }

@@ -1,7 +1,10 @@
 -- What the least losses that are found say of a number of a problem.
-use Rattle.std.proofs.Common.{◌≡◌, ℕ, ◌+◌, ◌-◌, ◌≤◌, min, List, length, set, pos, refl, sym, ap, ◌∙◌, subst, inl, inr, true≢false, false, arith}
+use Rattle.std.proofs.Common.{◌≡◌, ℕ, ◌+◌, ◌-◌, ◌<◌, ◌≤◌, min, List, ◌∷◌, length, set, pos, refl, sym, ap, ◌∙◌, subst}
+use Rattle.std.proofs.Common.{inl, inr, true≢false, false, arith}
 use Rattle.std.specs.Prelude.{Option, Some, None, unwrap_or, IsSome}
-use Rattle.std.proofs.lemmas.Bool.{cases_lt}
+use Rattle.std.specs.Prelude.{◌+ℤ◌, ◌≤ℤ◌}
+use Rattle.std.specs.List.{list_any}
+use Rattle.std.proofs.lemmas.Bool.{cases_Bool, cases_lt}
 use Rattle.std.proofs.lemmas.Int.{ints}
 use Rattle.std.proofs.lemmas.List.{length-set, set-get_or}
 use Rattle.mm_base.specs.declared.limits.TheConstants.{MAX_BLOCKS}
@@ -19,14 +22,16 @@ use Rattle.mm_planner.specs.declared.planner.Planned.{Planned}
 use Rattle.mm_sensitivity.specs.declared.item.Item.{Item}
 use Rattle.mm_sensitivity.specs.declared.item.Item.TheVariants.{Window, Size, Limit, StepLimit}
 use Rattle.mm_sensitivity.specs.Items.{IsItem, number, with_number, fitted, spilled, least_number}
-use Rattle.mm_sensitivity.specs.Worth.{IsLeastLoss, IsPlanFor, Saves, IsSaved, WiderWindows}
+use Rattle.mm_sensitivity.specs.Worth.{IsLeastLoss, IsPlanFor, IsSaved}
 use Rattle.mm_sensitivity.proofs.Growing.{grows}
 use Rattle.mm_sensitivity.proofs.Losing.{whole_loss, part_fits, whole_fits}
-use Rattle.mm_sensitivity.proofs.Least.{one_least, tight, bound_uncounted}
-use Rattle.mm_sensitivity.proofs.Windows.{as_many, cut_there, wider_window}
+use Rattle.mm_sensitivity.proofs.Spilling.{begins_here, first_step, shows_with, shows_without}
+use Rattle.mm_sensitivity.proofs.Least.{tight, bound-le, bound_counted, bound_uncounted}
+use Rattle.mm_sensitivity.proofs.Windows.{as_many, cut_there, cut_back, wider_window}
 
 -- a plan that fits and loses as much as the bound of a cut
-pub matched_least : CutsBoundLosses → (q : Dumping) (x : Amounts) (ds : List Stretch) (ts : List ℕ) (n : ℕ) → Fits q x → IsCut q ds ts → loss q x ≡ n → bound q ds ts ≡ pos n → IsLeastLoss q n
+pub matched_least : CutsBoundLosses → (q : Dumping) (x : Amounts) (ds : List Stretch) (ts : List ℕ) (n : ℕ) → Fits q x
+    → IsCut q ds ts → loss q x ≡ n → bound q ds ts ≡ pos n → IsLeastLoss q n
 matched_least bounds q x ds ts n fits cut loses bounded = record {
   plan = x;
   cut = ds;
@@ -40,7 +45,8 @@ matched_least bounds q x ds ts n fits cut loses bounded = record {
 }
 
 -- a plan that shows that it loses least
-pub shown_least : (q : Dumping) (x : Table) (ds : List Stretch) (ts : List ℕ) (n : ℕ) → ShowsLeast q x ds ts n → IsLeastLoss q n
+pub shown_least : (q : Dumping) (x : Table) (ds : List Stretch) (ts : List ℕ) (n : ℕ) → ShowsLeast q x ds ts n
+    → IsLeastLoss q n
 shown_least q x ds ts n shows = record {
   plan = amount x;
   cut = ds;
@@ -61,49 +67,127 @@ with_own q (Window t) is = ap (λ ws. record q { windows = ws }) (set-get_or q.w
 with_own q (Size s) is = ap (λ rs. record q { rows = rs }) (set-get_or q.rows s no_row)
 with_own q (Limit c) is =
     ap (λ ls. record q { limits = ls }) (ap (λ o. set q.limits c o) (some_limit _ is.1) ∙ set-get_or q.limits c None)
-with_own q (StepLimit k t) is = ap (λ ls. record q { step_limits = ls }) (set-get_or q.step_limits (grid_place (length q.limited) t k) 0)
+with_own q (StepLimit k t) is = ap (λ ls. record q { step_limits = ls })
+    (set-get_or q.step_limits (grid_place (length q.limited) t k) 0)
 
 -- where the number is no smaller, a store has room for all with which it begins
-pub fitted_whole : (q : Dumping) (i : Item) (b : ℕ) → IsDumping q → IsItem q i → number q i ≤ b → fitted q i b ≡ with_number q i b
+pub fitted_whole : (q : Dumping) (i : Item) (b : ℕ) → IsDumping q → IsItem q i → number q i ≤ b → fitted q i b
+    ≡ with_number q i b
 fitted_whole q (Window t) b is item larger = refl
 fitted_whole q (Size s) b is item larger =
     let fits = (is.stores.each s no_row item).start in
     let same : min (start q s) b ≡ start q s = omega (arith, fits, larger) in
-    ap (λ n. record q { rows = set q.rows s (record { id = (row q s).id; size = b; start = n; kind = (row q s).kind; channel = (row q s).channel }) }) same
+    ap (λ n. record q {
+      rows = set q.rows s (record {
+        id = (row q s).id;
+        size = b;
+        start = n;
+        kind = (row q s).kind;
+        channel = (row q s).channel;
+      });
+    }) same
 fitted_whole q (Limit c) b is item larger = refl
 fitted_whole q (StepLimit k t) b is item larger = refl
 
 -- a plan for the problem has the shape of the other
 pub fitted_shape : (q : Dumping) (i : Item) (b : ℕ) (x : Table) → HasShape q x → HasShape (fitted q i b) x
-fitted_shape q (Window t) b x shape = record { stores = shape.stores; steps = shape.steps ∙ sym (length-set q.windows (t - 1) b) }
-fitted_shape q (Size s) b x shape = record { stores = shape.stores ∙ sym (length-set q.rows s (sized (row q s) b)); steps = shape.steps }
+fitted_shape q (Window t) b x shape = record {
+  stores = shape.stores;
+  steps = shape.steps
+      ∙ sym (length-set q.windows (t - 1) b);
+}
+fitted_shape q (Size s) b x shape = record {
+  stores = shape.stores
+      ∙ sym (length-set q.rows s (sized (row q s) b));
+  steps = shape.steps;
+}
 fitted_shape q (Limit c) b x shape = record { stores = shape.stores; steps = shape.steps }
 fitted_shape q (StepLimit k t) b x shape = record { stores = shape.stores; steps = shape.steps }
 
 -- what a plan loses there, with what a store has no room for as it begins
-pub spilled_loss : (q : Dumping) (i : Item) (b : ℕ) (x : Amounts) → IsDumping q → IsItem q i → loss (with_number q i b) x ≡ loss (fitted q i b) x + spilled q i b
+pub spilled_loss : (q : Dumping) (i : Item) (b : ℕ) (x : Amounts) → IsDumping q → IsItem q i
+    → loss (with_number q i b) x ≡ loss (fitted q i b) x + spilled q i b
 spilled_loss q (Window t) b x is item = omega arith
 spilled_loss q (Size s) b x is item = whole_loss q s b item x is.steps.has_step
 spilled_loss q (Limit c) b x is item = omega arith
 spilled_loss q (StepLimit k t) b x is item = omega arith
 
-fits_whole : (q : Dumping) (i : Item) (b : ℕ) (x : Amounts) → IsItem q i → Fits (fitted q i b) x → Fits (with_number q i b) x
+fits_whole : (q : Dumping) (i : Item) (b : ℕ) (x : Amounts) → IsItem q i → Fits (fitted q i b) x
+    → Fits (with_number q i b) x
 fits_whole q (Window t) b x item fits = fits
 fits_whole q (Size s) b x item fits = whole_fits q s b item x fits
 fits_whole q (Limit c) b x item fits = fits
 fits_whole q (StepLimit k t) b x item fits = fits
 
-fits_part : (q : Dumping) (i : Item) (b : ℕ) (x : Amounts) → IsItem q i → Fits (with_number q i b) x → Fits (fitted q i b) x
+fits_part : (q : Dumping) (i : Item) (b : ℕ) (x : Amounts) → IsItem q i → Fits (with_number q i b) x
+    → Fits (fitted q i b) x
 fits_part q (Window t) b x item fits = fits
 fits_part q (Size s) b x item fits = part_fits q s b item x fits
 fits_part q (Limit c) b x item fits = fits
 fits_part q (StepLimit k t) b x item fits = fits
 
+-- where a store begins with no more than it has room for, all of it stands there
+whole_part : (q : Dumping) (s b : ℕ) → start q s ≤ b → fitted q (Size s) b ≡ with_number q (Size s) b
+whole_part q s b fits =
+    let same : min (start q s) b ≡ start q s = omega (arith, fits) in
+    ap (λ n. record q {
+      rows = set q.rows s (record {
+        id = (row q s).id;
+        size = b;
+        start = n;
+        kind = (row q s).kind;
+        channel = (row q s).channel;
+      });
+    }) same
+
+-- the least loss of a problem with a smaller store: that of the problem in which it begins full, and what it has no
+-- room for
+whole_size : CutsBoundLosses → (q : Dumping) (s a k : ℕ) → IsDumping q → s < length q.rows
+    → IsLeastLoss (fitted q (Size s) a) k
+    → IsLeastLoss (with_number q (Size s) a) (k + (start q s - a))
+whole_size bounds q s a k is_dumping item is =
+    let whole = with_number q (Size s) a in
+    let part = fitted q (Size s) a in
+    let x = is.plan in
+    let ds = is.cut in
+    let ts = is.by_channels in
+    let lost : loss whole x ≡ k + (start q s - a) = omega (
+      arith,
+      whole_loss q s a item x is_dumping.steps.has_step,
+      is.loss,
+    ) in
+    let fits = whole_fits q s a item x is.planned.plan.fits in
+    let here = tight part k is in
+    let showing : (es : List Stretch) → IsCut whole es ts
+    × ((bound part ds ts +ℤ pos (start q s - a)) ≤ℤ bound whole es ts) → IsLeastLoss whole (k + (start q s - a)) =
+    λ es shows. matched_least bounds whole x es ts (k + (start q s - a)) fits shows.0 lost
+    (omega (arith, ints, bounds whole x es ts fits shows.0, shows.1, lost, here)) in
+    elim (cases_lt a (start q s)) [
+      | inl more ↦ elim (cases_Bool (list_any (begins_here q s a item) ds)) [
+        | inl has ↦ showing ds (shows_with q s a item (omega (arith, more)) ds ts is.planned.cut has)
+        | inr none ↦ showing (first_step q s a item ∷ ds) (shows_without q s a item is_dumping ds ts is.planned.cut none
+            (omega (arith, more)))
+      ]
+      | inr enough ↦
+          let nothing : k ≡ k + (start q s - a) = omega (arith, enough) in
+          subst (IsLeastLoss whole) nothing (subst (λ r. IsLeastLoss r k) (whole_part q s a (omega (arith, enough))) is)
+    ]
+
+whole_least : CutsBoundLosses → (q : Dumping) (i : Item) (a k : ℕ) → IsDumping q → IsItem q i
+    → IsLeastLoss (fitted q i a) k → IsLeastLoss (with_number q i a) (k + spilled q i a)
+whole_least bounds q (Window t) a k is_dumping item is = subst (IsLeastLoss (with_window q t a)) (omega arith) is
+whole_least bounds q (Size s) a k is_dumping item is = whole_size bounds q s a k is_dumping item is
+whole_least bounds q (Limit c) a k is_dumping item is = subst (IsLeastLoss (with_number q (Limit c) a)) (omega arith) is
+whole_least bounds q (StepLimit c t) a k is_dumping item is = subst (IsLeastLoss (with_number q (StepLimit c t) a))
+    (omega arith) is
+
 module _ (helps : OnlyCountedHelps) (q : Dumping) (is_dumping : IsDumping q) (i : Item) (item : IsItem q i) where
   -- no plan that fits a problem with a smaller number loses less
-  smaller_loses : (a b m : ℕ) → a ≤ b → IsLeastLoss (with_number q i b) m → (x : Amounts) → Fits (with_number q i a) x → m ≤ loss (with_number q i a) x
+  smaller_loses : (a b m : ℕ) → a ≤ b → IsLeastLoss (with_number q i b) m → (x : Amounts) → Fits (with_number q i a) x
+      → m ≤ loss (with_number q i a) x
   smaller_loses a b m le is x fits =
-      let least = helps (with_number q i b) (with_number q i a) is.cut is.by_channels x is.planned.cut (grows q i a b is_dumping item le is.cut is.by_channels is.planned.cut) fits in
+      let least = helps (with_number q i b) (with_number q i a) is.cut is.by_channels x is.planned.cut
+      (grows q i a b is_dumping item le is.cut is.by_channels is.planned.cut) fits in
       omega (arith, ints, least, tight (with_number q i b) m is)
 
   -- a larger number saves what the least losses differ by
@@ -111,9 +195,14 @@ module _ (helps : OnlyCountedHelps) (q : Dumping) (is_dumping : IsDumping q) (i 
   less_lost b n m larger is_n is_m =
       let own = with_own q i item in
       let fits = subst (λ r. Fits r is_n.plan) (sym own) is_n.planned.plan.fits in
-      omega (arith, subst (λ r. m ≤ loss r is_n.plan) own (smaller_loses (number q i) b m larger is_m is_n.plan fits), is_n.loss)
+      omega (
+        arith,
+        subst (λ r. m ≤ loss r is_n.plan) own (smaller_loses (number q i) b m larger is_m is_n.plan fits),
+        is_n.loss,
+      )
 
-  pub is_saved : (b n m : ℕ) → number q i ≤ b → IsLeastLoss q n → IsLeastLoss (with_number q i b) m → IsSaved q (with_number q i b) (n - m)
+  pub is_saved : (b n m : ℕ) → number q i ≤ b → IsLeastLoss q n → IsLeastLoss (with_number q i b) m
+      → IsSaved q (with_number q i b) (n - m)
   is_saved b n m larger is_n is_m =
       let same : n ≡ m + (n - m) = omega (arith, less_lost b n m larger is_n is_m) in
       record { after = m; first = subst (IsLeastLoss q) same is_n; second = is_m }
@@ -124,55 +213,28 @@ module _ (helps : OnlyCountedHelps) (q : Dumping) (is_dumping : IsDumping q) (i 
     more_lost =
         let fits = fits_whole q i a is_k.plan item is_k.planned.plan.fits in
         let least = subst (λ r. IsLeastLoss r n) (sym (with_own q i item)) is_n in
-        omega (arith, smaller_loses a (number q i) n smaller least is_k.plan fits, spilled_loss q i a is_k.plan is_dumping item, is_k.loss)
-
-    pub costs : Saves (with_number q i a) q (k + spilled q i a - n)
-    costs m l is_m is_l =
-        let fits = fits_whole q i a is_k.plan item is_k.planned.plan.fits in
-        let no_more = is_m.planned.plan.least is_k.plan fits in
-        let no_less = is_k.planned.plan.least is_m.plan (fits_part q i a is_m.plan item is_m.planned.plan.fits) in
         omega (
           arith,
-          no_more,
-          no_less,
-          spilled_loss q i a is_k.plan is_dumping item,
-          spilled_loss q i a is_m.plan is_dumping item,
+          smaller_loses a (number q i) n smaller least is_k.plan fits,
+          spilled_loss q i a is_k.plan
+              is_dumping item,
           is_k.loss,
-          is_m.loss,
-          one_least q n l is_n is_l,
-          more_lost,
         )
 
--- what is saved, whatever shows the least losses
-pub saves : (q r : Dumping) (k : ℕ) → IsSaved q r k → Saves q r k
-saves q r k is n m is_n is_m = omega (arith, one_least q n (is.after + k) is_n is.first, one_least r m is.after is_m is.second)
-
--- ---- one more
-
--- a window one larger saves a block or none
-pub next_window : WiderWindows → (q : Dumping) (t most : ℕ) → IsItem q (Window t) → window q t ≤ MAX_BLOCKS → IsSaved q (with_window q t MAX_BLOCKS) most → Saves q (with_window q t (min (window q t + 1) MAX_BLOCKS)) (min most 1)
-next_window law q t most is within saved =
-    elim (cases_lt (window q t) MAX_BLOCKS) [
-      | inl below ↦
-          let next : min (window q t + 1) MAX_BLOCKS ≡ window q t + 1 = omega (arith, below) in
-          let one : min most 1 ≡ min 1 most = omega arith in
-          subst (λ w. Saves q (with_window q t w) (min most 1)) (sym next)
-          (subst (λ k. Saves q (with_window q t (window q t + 1)) k) (sym one) (law q t 1 most is.0 is.1 (omega (arith, below)) saved))
-      | inr full ↦
-          let next : min (window q t + 1) MAX_BLOCKS ≡ MAX_BLOCKS = omega (arith, full) in
-          let here : window q t + 0 ≡ MAX_BLOCKS = omega (arith, full, within) in
-          let none = subst (λ w. Saves q (with_window q t w) (min 0 most)) here (law q t 0 most is.0 is.1 (omega (arith, within)) saved) in
-          let nothing = none (saved.after + most) saved.after saved.first saved.second in
-          let same : min most 1 ≡ most = omega (arith, nothing) in
-          subst (λ w. Saves q (with_window q t w) (min most 1)) (sym next)
-          (subst (λ k. Saves q (with_window q t MAX_BLOCKS) k) (sym same) (saves q (with_window q t MAX_BLOCKS) most saved))
-    ]
+    -- and that is known of both problems
+    pub costs : CutsBoundLosses → IsSaved (with_number q i a) q (k + spilled q i a - n)
+    costs bounds =
+        let whole = whole_least bounds q i a k is_dumping item is_k in
+        let same : k + spilled q i a ≡ n + (k + spilled q i a - n) = omega (arith, more_lost) in
+        record { after = n; first = subst (IsLeastLoss (with_number q i a)) same whole; second = is_n }
 
 -- ---- where as much is lost
 
 -- the least loss with the number that stands there
-pub own_least : (q : Dumping) (i : Item) (n : ℕ) → IsDumping q → IsItem q i → IsLeastLoss q n → IsLeastLoss (fitted q i (number q i)) n
-own_least q i n is_dumping item is = subst (λ r. IsLeastLoss r n) (sym (fitted_whole q i (number q i) is_dumping item (omega arith) ∙ with_own q i item)) is
+pub own_least : (q : Dumping) (i : Item) (n : ℕ) → IsDumping q → IsItem q i → IsLeastLoss q n
+    → IsLeastLoss (fitted q i (number q i)) n
+own_least q i n is_dumping item is = subst (λ r. IsLeastLoss r n)
+    (sym (fitted_whole q i (number q i) is_dumping item (omega arith) ∙ with_own q i item)) is
 
 -- a plan loses as much with another window
 same_loss : (q : Dumping) (t b : ℕ) (x : Amounts) → loss (with_window q t b) x ≡ loss q x
@@ -180,7 +242,8 @@ unfolding left
 same_loss q t b x = rw (as_many q t b) refl
 
 -- a plan fits where a window is wider
-fits_wider : (q : Dumping) (t b : ℕ) (x : Amounts) → 1 ≤ t → t ≤ length q.windows → window q t ≤ b → Fits q x → Fits (with_window q t b) x
+fits_wider : (q : Dumping) (t b : ℕ) (x : Amounts) → 1 ≤ t → t ≤ length q.windows → window q t ≤ b → Fits q x
+    → Fits (with_window q t b) x
 fits_wider q t b x first last wider fits u from to =
     let here = fits u from (omega (arith, as_many q t b, to)) in
     record {
@@ -189,10 +252,58 @@ fits_wider q t b x first last wider fits u from to =
     }
 
 -- a window that the cut does not count may be wider
-pub wider_least : CutsBoundLosses → (q : Dumping) (t b : ℕ) (x : Table) (ds : List Stretch) (ts : List ℕ) (n : ℕ) → 1 ≤ t → t ≤ length q.windows → window q t ≤ b → counts_window ds ts t ≡ false → ShowsLeast q x ds ts n → IsLeastLoss (with_window q t b) n
+pub wider_least : CutsBoundLosses → (q : Dumping) (t b : ℕ) (x : Table) (ds : List Stretch) (ts : List ℕ) (n : ℕ) → 1
+    ≤ t → t ≤ length q.windows → window q t ≤ b → counts_window ds ts t ≡ false → ShowsLeast q x ds ts n
+    → IsLeastLoss (with_window q t b) n
 wider_least bounds q t b x ds ts n first last wider other shows =
-    matched_least bounds (with_window q t b) (amount x) ds ts n (fits_wider q t b (amount x) first last wider shows.least.fits) (cut_there q t b ds ts shows.cut)
+    matched_least bounds (with_window q t b) (amount x) ds ts n
+    (fits_wider q t b (amount x) first last wider shows.least.fits) (cut_there q t b ds ts shows.cut)
     (same_loss q t b (amount x) ∙ shows.loss) (bound_uncounted q t b first last ds ts other ∙ shows.bound)
+
+-- where the largest window saves nothing, no wider window does
+pub nothing_wider : CutsBoundLosses → (q : Dumping) (t b : ℕ) → IsItem q (Window t) → window q t ≤ b → b ≤ MAX_BLOCKS
+    → IsSaved q (with_window q t MAX_BLOCKS) 0 → IsSaved q (with_window q t b) 0
+nothing_wider bounds q t b item wider most saved =
+    let n = saved.after in
+    let widest = saved.second in
+    let ds = widest.cut in
+    let ts = widest.by_channels in
+    let own = cut_back q t MAX_BLOCKS ds ts widest.planned.cut in
+    let below = bound-le bounds q (n + 0) saved.first ds ts own in
+    let here = tight (with_window q t MAX_BLOCKS) n widest in
+    let there : bound (with_window q t b) ds ts ≡ pos n =
+    elim (cases_Bool (counts_window ds ts t)) [
+      | inl counts ↦
+          omega (
+            arith,
+            ints,
+            below,
+            here,
+            wider,
+            most,
+            bound_counted q t MAX_BLOCKS item.0 item.1 ds ts counts,
+            bound_counted q t b item.0 item.1 ds ts counts,
+          )
+      | inr other ↦
+          omega (
+            arith,
+            ints,
+            here,
+            bound_uncounted q t MAX_BLOCKS item.0 item.1 ds ts other,
+            bound_uncounted q t b
+                item.0 item.1 ds ts other,
+          )
+    ] in
+    let x = saved.first.plan in
+    let lost : loss q x ≡ n = omega (arith, saved.first.loss) in
+    record {
+      after = n;
+      first = saved.first;
+      second =
+          matched_least bounds (with_window q t b) x ds ts n (fits_wider q t b x item.0 item.1 wider
+          saved.first.planned.plan.fits)
+          (cut_there q t b ds ts own) (same_loss q t b x ∙ lost) there;
+    }
 
 -- ---- what is found of the changed problem r
 
@@ -204,7 +315,8 @@ module _ (q : Dumping) (p : Planned) (i : Item) (base : IsPlanFor q p) (item : I
   shape_there b = fitted_shape q i b p.plan base.shows.shape
 
   pub alike_own : (b : ℕ) → number q i ≡ b → IsLeastLoss (fitted q i b) p.loss
-  alike_own b same = subst (λ k. IsLeastLoss (fitted q i k) p.loss) same (own_least q i p.loss base.problem item least_here)
+  alike_own b same = subst (λ k. IsLeastLoss (fitted q i k) p.loss) same
+      (own_least q i p.loss base.problem item least_here)
 
   module _ (helps : OnlyCountedHelps) (b m : ℕ) (least : IsLeastLoss (fitted q i b) m) where
     whole : number q i ≤ b → IsLeastLoss (with_number q i b) m
@@ -219,8 +331,8 @@ module _ (q : Dumping) (p : Planned) (i : Item) (base : IsPlanFor q p) (item : I
     pub more_there : b ≤ number q i → p.loss ≤ m + spilled q i b
     more_there smaller = more_lost helps q base.problem i item b p.loss m smaller least_here least
 
-    pub costs_there : b ≤ number q i → Saves (with_number q i b) q (m + spilled q i b - p.loss)
-    costs_there smaller = costs helps q base.problem i item b p.loss m smaller least_here least
+    pub costs_there : CutsBoundLosses → b ≤ number q i → IsSaved (with_number q i b) q (m + spilled q i b - p.loss)
+    costs_there bounds smaller = costs helps q base.problem i item b p.loss m smaller least_here least bounds
 
 -- the least number is no larger than any
 pub least_first : (q : Dumping) (i : Item) → IsDumping q → IsItem q i → least_number i ≤ number q i

@@ -3,4 +3,5 @@ pub mod Windows
 pub mod Growing
 pub mod Losing
 pub mod Least
+pub mod Spilling
 pub mod Found

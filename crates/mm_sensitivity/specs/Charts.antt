@@ -1,30 +1,64 @@
--- Charts with what each window is worth.
-use Rattle.std.specs.Prelude.{◌≡◌, ℕ, ◌-◌, ◌≤◌, List, length, slice_index_or, Some}
-use Rattle.mm_base.specs.declared.limits.TheConstants.{MAX_BLOCKS}
-use Rattle.mm_problem.specs.Changed.{with_window}
-use Rattle.mm_problem.specs.Dumping.{Dumping}
+-- Charts with what windows and limits are worth.
+use Rattle.std.specs.Prelude.{◌≡◌, ◌<◌, ℕ, ◌-◌, ◌≤◌, ◌*◌, List, length, slice_index, slice_index_or, All, Some, None}
+use Rattle.std.specs.Prelude.{IsSome}
+use Rattle.mm_base.specs.declared.limits.TheConstants.{CHANNELS, MAX_BLOCKS, MAX_STEPS, MAX_STORES}
+use Rattle.mm_problem.specs.Changed.{with_window, with_limit, with_column_limit}
+use Rattle.mm_problem.specs.Dumping.{Dumping, setup_limit}
 use Rattle.mm_problem.specs.Texts.{SaysProblem}
 use Rattle.mm_plan.specs.Sheet.{SheetRows}
 use Rattle.mm_cut.specs.Checking.{SaysSheet}
 use Rattle.mm_cut.specs.Verdicts.{IsSheetVerdict}
 use Rattle.mm_cut.specs.declared.verdict.Verdict.{Verdict}
 use Rattle.mm_chart.specs.Charts.{chart}
-use Rattle.mm_chart.specs.Picture.{picture_of}
-use Rattle.mm_sensitivity.specs.Worth.{Saves}
+use Rattle.mm_chart.specs.Picture.{WorthLists, picture_of}
+use Rattle.mm_chart.specs.Series.{step_limit_worth}
+use Rattle.mm_sensitivity.specs.Worth.{IsSaved}
 
 -- of each step, how many blocks fewer the least plan loses where its window is the largest
 pub record AreWindowWorths (q : Dumping) (worths : List ℕ) : Type 0 where
   pub steps : length worths ≡ length q.windows
-  pub each : (t : ℕ) → 1 ≤ t → t ≤ length q.windows → Saves q (with_window q t MAX_BLOCKS) (slice_index_or worths (t - 1) 0)
+  pub each : (t : ℕ) → 1 ≤ t → t ≤ length q.windows → IsSaved q (with_window q t MAX_BLOCKS)
+      (slice_index_or worths (t - 1) 0)
 
--- the chart of what a setup, a forecast and a plan text say, by the verdict on them, with what each window is worth
+-- the same of the limit of a channel in the setup; a channel without one has 0
+pub record IsLimitWorth (q : Dumping) (c n : ℕ) : Type 0 where
+  pub limited : IsSome (setup_limit q c) → IsSaved q (with_limit q c MAX_BLOCKS) n
+  pub other : setup_limit q c ≡ None → n ≡ 0
+
+-- no number is greater than the most that a plan loses
+abbrev pub AreLosses : List ℕ → Type 0
+AreLosses ns = All (λ n. n ≤ 2 * MAX_BLOCKS * MAX_STEPS * MAX_STORES) ns
+
+-- the same of each channel
+abbrev pub AreLimitWorths : Dumping → List ℕ → Type 0
+AreLimitWorths q worths = (c : ℕ) → c < length q.limits → IsLimitWorth q c (slice_index_or worths c 0)
+
+-- the same of the limit of a channel in one step: that of its column, the first
+pub record IsStepLimitWorth (q : Dumping) (c t n : ℕ) : Type 0 where
+  pub column : (k : ℕ) → k < length q.limited → slice_index q.limited k ≡ c
+      → IsSaved q (with_column_limit q k t MAX_BLOCKS) n
+  pub other : ((k : ℕ) → k < length q.limited → ¬ (slice_index q.limited k ≡ c)) → n ≡ 0
+
+-- the same of each channel, step by step, in the first steps
+pub record AreStepLimitWorths (q : Dumping) (steps : ℕ) (worths : List ℕ) : Type 0 where
+  pub count : length worths ≡ CHANNELS * steps
+  pub each : (c t : ℕ) → c < CHANNELS → 1 ≤ t → t ≤ steps → IsStepLimitWorth q c t (step_limit_worth worths c t)
+
+-- what the windows and limits of the problem are worth
+pub record AreWorthLists (q : Dumping) (worths : WorthLists) : Type 0 where
+  pub windows : AreWindowWorths q worths.windows
+  pub limits : AreLimitWorths q worths.limits
+  pub step_limits : AreStepLimitWorths q (length q.windows) worths.step_limits
+
+-- the chart of what a setup, a forecast and a plan text say, by the verdict on them, with what each window and limit is
+-- worth
 pub record ChartsWorth (setup forecast text octets : List ℕ) : Type 0 where
   pub problem : Dumping
   pub sheet : SheetRows
   pub verdict : Verdict
-  pub worths : List ℕ
+  pub worths : WorthLists
   pub says_problem : SaysProblem setup forecast problem
   pub says_sheet : SaysSheet problem text sheet
   pub is_verdict : IsSheetVerdict problem sheet verdict
-  pub are_worths : AreWindowWorths problem worths
+  pub are_worths : AreWorthLists problem worths
   pub drawn : octets ≡ chart (picture_of problem sheet verdict (Some worths))

@@ -37,13 +37,14 @@ pub record IsSaved (q r : Dumping) (k : ℕ) : Type 0 where
 -- where the largest window saves `most`, a window larger by e, up to the largest, saves the lesser of e and `most`
 abbrev pub WiderWindows : Type 0
 WiderWindows =
-    (q : Dumping) (t e most : ℕ) → 1 ≤ t → t ≤ length q.windows → window q t + e ≤ MAX_BLOCKS → IsSaved q (with_window q t MAX_BLOCKS) most
+    (q : Dumping) (t e most : ℕ) → 1 ≤ t → t ≤ length q.windows → window q t + e ≤ MAX_BLOCKS
+    → IsSaved q (with_window q t MAX_BLOCKS) most
     → Saves q (with_window q t (window q t + e)) (min e most)
 
--- what a number of the problem is worth
+-- what a number of the problem is worth: all of these least losses are known
 pub record IsWorth (q : Dumping) (w : Worth) : Type 0 where
   pub item : IsItem q w.item
   pub now : w.now ≡ number q w.item
-  pub next : Saves q (with_number q w.item (next_number w.now)) w.next
-  pub most : Saves q (with_number q w.item MAX_BLOCKS) w.most
-  pub without : Saves (with_number q w.item (least_number w.item)) q w.without
+  pub next : IsSaved q (with_number q w.item (next_number w.now)) w.next
+  pub most : IsSaved q (with_number q w.item MAX_BLOCKS) w.most
+  pub without : IsSaved (with_number q w.item (least_number w.item)) q w.without

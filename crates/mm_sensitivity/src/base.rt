@@ -6,7 +6,7 @@ ghost use Rattle.mm_plan.specs.Table.{HasShape};
 ghost use Rattle.mm_cut.specs.Counts.{is_listed};
 ghost use Rattle.mm_cut.specs.Cuts.{IsCut, bound, counts_window};
 ghost use Rattle.mm_sensitivity.specs.Items.{IsItem, number, least_number, with_number, fitted};
-ghost use Rattle.mm_sensitivity.specs.Worth.{IsLeastLoss, IsPlanFor, Saves, IsSaved};
+ghost use Rattle.mm_sensitivity.specs.Worth.{IsLeastLoss, IsPlanFor, IsSaved};
 
 use crate::item::{Item, fitted, least_number, number, spilled};
 use crate::lowering::lowered;
@@ -112,7 +112,8 @@ fn bound_there(
     }
 }
 
-// The least loss of the problem, where the plan of the base, cut down to fit it and filled, loses as much as the cut of the base shows.
+// The least loss of the problem, where the plan of the base, cut down to fit it and filled, loses as much as the cut of
+// the base shows.
 fn shown(
     alloc: Global,
     problem: &Problem,
@@ -197,7 +198,8 @@ pub(crate) fn saved(
     requires item { IsItem problem.now item }
     requires larger { number problem.now item ≤ blocks }
     requires most { blocks ≤ MAX_BLOCKS }
-    ensures { IfOk result (IsSaved problem.now (with_number problem.now item blocks)) }
+    ensures saved { IfOk result (IsSaved problem.now (with_number problem.now item blocks)) }
+    ensures most { IfOk result (λ blocks. blocks ≤ 2 * MAX_BLOCKS * MAX_STEPS * MAX_STORES) }
 {
     only_counted_helps();
     let loss = least_loss(alloc, problem, base, item, blocks)?;
@@ -213,8 +215,9 @@ pub(crate) fn cost(
 ) -> Result<u64, NoMemory>
     requires base { IsPlanFor problem.now base.now }
     requires item { IsItem problem.now item }
-    ensures { IfOk result (Saves (with_number problem.now item (least_number item)) problem.now) }
+    ensures { IfOk result (IsSaved (with_number problem.now item (least_number item)) problem.now) }
 {
+    cuts_bound_losses();
     only_counted_helps();
     let least = least_number(item);
     let loss = least_loss(alloc, problem, base, item, least)?;

@@ -2,13 +2,13 @@
 ghost use Rattle.std.specs.Prelude.{◌≡◌, ◌≤◌, map, All, IfOk};
 ghost use Rattle.mm_sensitivity.specs.Items.{IsItem, number, next_number, with_number, items};
 ghost use Rattle.mm_sensitivity.specs.Table.{AreWorths};
-ghost use Rattle.mm_sensitivity.specs.Worth.{IsPlanFor, Saves, IsSaved, IsWorth};
+ghost use Rattle.mm_sensitivity.specs.Worth.{IsPlanFor, IsSaved, IsWorth};
 
 use crate::base::{cost, saved};
 use crate::item::{Item, items, number};
-use crate::laws::wider_windows;
 use crate::progress::{Progress, Silent};
 use mm_base::{MAX_BLOCKS, NoMemory};
+use mm_cut::cuts_bound_losses;
 use mm_planner::{Planned, plan};
 use mm_problem::Problem;
 use std::alloc::Global;
@@ -27,7 +27,7 @@ pub struct Worth {
     pub without: u64,
 }
 
-// How many blocks fewer the least plan loses where a number is one larger. In a window one block more saves a block, or none.
+// How many blocks fewer the least plan loses where a number is one larger: none, where the largest window saves none.
 fn next_saved(
     alloc: Global,
     problem: &Problem,
@@ -38,16 +38,13 @@ fn next_saved(
     requires base { IsPlanFor problem.now base.now }
     requires item { IsItem problem.now item }
     requires most { IsSaved problem.now (with_number problem.now item MAX_BLOCKS) most }
-    ensures { IfOk result (Saves problem.now (with_number problem.now item (next_number (number problem.now item)))) }
+    ensures { IfOk result (IsSaved problem.now (with_number problem.now item (next_number (number problem.now item)))) }
 {
-    wider_windows();
+    cuts_bound_losses();
     let now = number(problem, item);
     match item {
-        Item::Window(_) => Ok(most.min(1)),
-        _ => {
-            let next = saved(alloc, problem, base, item, (now + 1).min(MAX_BLOCKS))?;
-            Ok(next)
-        }
+        Item::Window(_) if most == 0 => Ok(0),
+        _ => saved(alloc, problem, base, item, (now + 1).min(MAX_BLOCKS)),
     }
 }
 

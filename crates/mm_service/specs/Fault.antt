@@ -6,7 +6,8 @@ use Rattle.mm_ask.specs.declared.fault.LineFault.{LineFault}
 use Rattle.mm_ask.specs.declared.fault.LineFault.TheVariants as octets
 use Rattle.mm_ask.specs.Fault.{refusal_of as octets_refusal}
 use Rattle.mm_service.specs.declared.fault.Fault.{Fault}
-use Rattle.mm_service.specs.declared.fault.Fault.TheVariants.{NoMemory, BadId, TooLong, NoSuchStore, Octets, State}
+use Rattle.mm_service.specs.declared.fault.Fault.TheVariants.{NoMemory, BadId, TooLong, NoSuchStore, TooManyReports}
+use Rattle.mm_service.specs.declared.fault.Fault.TheVariants.{Octets, State}
 
 -- which refusal it is
 abbrev pub refusal_of : Fault → Refusal
@@ -15,6 +16,7 @@ refusal_of = elim [
   | BadId ↦ refusal.BadId
   | TooLong ↦ refusal.TooLong
   | NoSuchStore ↦ refusal.NoSuchStore
+  | TooManyReports ↦ refusal.TooManyReports
   | Octets fault ↦ octets_refusal fault
   | State fault ↦ state_refusal fault
 ]

@@ -1,9 +1,11 @@
 //! Requests that are applied to the memory.
-ghost use Rattle.std.specs.Prelude.{◌≡◌, ◌≢◌, ◌+◌, ◌*◌, ◌<◌, ◌≤◌, length, fold, All, MatchResult, OnOk, OnErr};
+ghost use Rattle.std.specs.Prelude.{◌≡◌, ◌≢◌, ◌↔◌, ◌+◌, ◌*◌, ◌<◌, ◌≤◌, length, fold, All, Err};
+ghost use Rattle.std.specs.Prelude.{MatchResult, OnOk, OnErr};
 ghost use Rattle.std.specs.VecDeque.{deque_len, deque_capacity};
 ghost use Rattle.mm_packet.specs.Packet.{IsTelecommand};
 ghost use Rattle.mm_st15.specs.Report.{HasCount};
 ghost use Rattle.mm_service.specs.declared.answers.TheConstants.{INSTRUCTIONS};
+ghost use Rattle.mm_service.specs.declared.fault.Fault.TheVariants.{NoMemory, TooManyReports};
 ghost use Rattle.mm_service.specs.Queue.{queue_of, with_report};
 
 use crate::answers::{INSTRUCTIONS, tell_answers};
@@ -55,7 +57,8 @@ fn wait_for_all(
     }
 }
 
-// Makes room for the reports of one request more. Where it lacks, the room doubles at least, so that few calls ask for memory.
+// Makes room for the reports of one request more. Where it lacks, the room doubles at least, so that few calls ask for
+// memory.
 fn make_room(waiting: &mut VecDeque<Waiting>) -> Result<(), AllocError>
     ensures same { waiting.new.items ≡ waiting.old.items }
     ensures room { OnOk result (deque_len waiting.new + INSTRUCTIONS ≤ deque_capacity waiting.new) }
@@ -70,11 +73,12 @@ fn make_room(waiting: &mut VecDeque<Waiting>) -> Result<(), AllocError>
 }
 
 impl Service {
-    ghost use Rattle.mm_service.specs.Applying.{Applies, RefusesRequest};
+    ghost use Rattle.mm_service.specs.Applying.{Applies, RefusesRequest, PassesBound};
 
-    /// Applies the request of the packet that the octets are, at a moment in ticks. The codes of the answers to its instructions, in order,
-    /// are then at the head of a buffer with room for each request's, and their number is given; its reports wait after those that
-    /// waited. Where they may not wait within the bound, the request is refused as out of memory is. A refusal has changed nothing.
+    /// Applies the request of the packet that the octets are, at a moment in ticks. The codes of the answers to its
+    /// instructions, in order, are then at the head of a buffer with room for each request's, and their number is
+    /// given; its reports wait after those that waited. Where they may not wait within the bound, the request is
+    /// refused. A refusal has changed nothing.
     pub fn apply(
         &mut self,
         alloc: Global,
@@ -85,7 +89,8 @@ impl Service {
         requires room { INSTRUCTIONS ≤ length each.old }
         ensures applied { MatchResult result
             (λ count. Applies packet.now now self.old self.new count each.old each.new)
-            (RefusesRequest packet.now) }
+            (RefusesRequest packet.now self.old) }
+        ensures bound { result ≢ Err NoMemory → (result ≡ Err TooManyReports) ↔ PassesBound packet.now self.old }
         ensures err { OnErr result (self.new ≡ self.old) }
         ensures left { OnErr result (each.new ≡ each.old) }
     {

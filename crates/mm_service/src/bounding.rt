@@ -1,9 +1,10 @@
 //! How many reports may wait.
-ghost use Rattle.std.specs.Prelude.{◌≡◌, OnOk, OnErr};
+ghost use Rattle.std.specs.Prelude.{◌≡◌, OnOk, IfErr};
+ghost use Rattle.mm_service.specs.declared.fault.Fault.TheVariants.{TooManyReports};
 ghost use Rattle.mm_service.specs.Bounding.{most_reports, MayWait};
 
+use crate::fault::Fault;
 use crate::service::Service;
-use mm_base::NoMemory;
 use mm_st15::Request;
 
 // How many reports a request has at most.
@@ -18,21 +19,22 @@ fn most_reports(request: &Request) -> usize
 }
 
 impl Service {
-    /// Lets at most so many reports wait from now on, or as many as memory holds. Those that wait already go on waiting.
+    /// Lets at most this number of reports wait from now on, or as many as memory holds. Those that wait already go on
+    /// waiting.
     pub fn bound_waiting(&mut self, bound: Option<usize>)
         ensures bound { self.new ≡ record self.old { bound = bound } }
     {
         self.bound = bound;
     }
 
-    // Is out of memory where the reports on a request may not wait.
-    pub(crate) fn admit(&self, request: &Request) -> Result<(), NoMemory>
+    // Refuses a request whose reports may not wait.
+    pub(crate) fn admit(&self, request: &Request) -> Result<(), Fault>
         ensures may { OnOk result (MayWait request.now self.now) }
-        ensures refused { OnErr result (MayWait request.now self.now → ⊥) }
+        ensures beyond { IfErr result (λ fault. (fault ≡ TooManyReports) × (MayWait request.now self.now → ⊥)) }
     {
         match self.bound {
             Some(bound) if most_reports(request) > bound.saturating_sub(self.waiting.len()) => {
-                Err(NoMemory)
+                Err(Fault::TooManyReports)
             }
             _ => Ok(()),
         }

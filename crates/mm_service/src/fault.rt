@@ -18,6 +18,8 @@ pub enum Fault {
     TooLong,
     /// No store has the identifier.
     NoSuchStore,
+    /// More reports might wait than the bound lets.
+    TooManyReports,
     /// The octets are no packet or no request, or there are octets after the packet.
     Octets(LineFault),
     /// A refusal of the store's state.
@@ -26,7 +28,7 @@ pub enum Fault {
 
 impl Refused for Fault {
     fn refusal(self) -> Refusal {
-        refusals!(self; NoMemory, BadId, TooLong, NoSuchStore; below Octets, State)
+        refusals!(self; NoMemory, BadId, TooLong, NoSuchStore, TooManyReports; below Octets, State)
     }
 
     ghost use Rattle.mm_service.specs.Fault.{refusal_of};

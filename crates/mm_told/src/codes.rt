@@ -57,7 +57,7 @@ pub static NAMES: [Name; 20] = [
 ];
 
 /// The refusals by their numbers.
-pub static REFUSALS: [Refusal; 54] = [
+pub static REFUSALS: [Refusal; 55] = [
     Refusal::NoMemory,
     Refusal::Short,
     Refusal::Version,
@@ -112,6 +112,7 @@ pub static REFUSALS: [Refusal; 54] = [
     Refusal::SourcesText,
     Refusal::LinksText,
     Refusal::ChannelDiffers,
+    Refusal::TooManyReports,
 ];
 
 impl Place {

@@ -19,7 +19,7 @@ impl Words {
             }),
             Verdict::LossIs(_) => Some(Words {
                 expected: "the loss that the plan has, which is the number printed",
-                advice: "plan again if dumps were changed, since it is then no least plan; else write that number after loss",
+                advice: "take the setup and the forecast that it was planned for; if dumps were changed, plan again",
             }),
             Verdict::BadStretch(_) => Some(Words {
                 expected: "stretches of stores of the setup, with steps in order and in range, that share no step",
@@ -31,7 +31,7 @@ impl Words {
             }),
             Verdict::BoundIs(_) => Some(Words {
                 expected: "the bound that the cut has, which is the number printed",
-                advice: "write that number after bound, or plan again",
+                advice: "take the setup and the forecast that it was planned for, or plan again",
             }),
             Verdict::NotShown { .. } => Some(Words {
                 expected: "a cut whose bound is the loss of the plan",

@@ -1,11 +1,17 @@
 //! What is found in the files of a task that is refused, for people: one line that says what to change.
 
+// A table: the columns of each row.
+macro_rules! table {
+    ($($($column:expr),+;)+) => { [$(($($column),+)),+] };
+}
+
 mod cells;
 mod ends;
 mod excerpt;
 mod fit;
 mod forecast;
 mod form;
+mod kind;
 mod lines;
 mod notes;
 mod packets;
@@ -20,10 +26,11 @@ pub use ends::{EndsHint, opening_hint};
 use ends::{links_hint, sources_hint};
 pub use fit::fit_hint;
 use forecast::forecast_hint;
-use mm_base::Refusal;
+pub use kind::TextKind;
+use mm_base::{NoMemory, Refusal};
 use mm_problem::Name;
-pub use notes::{Note, notes_on};
-pub use packets::{RequestHints, request_hint};
+pub use notes::{Note, column_notes, notes_on};
+pub use packets::{RequestHints, packets_hint, request_hint};
 use plan::{plan_hint, shape_hint};
 pub use sentence::Sentence;
 use setup::setup_hint;
@@ -69,7 +76,7 @@ fn is_of_forecast(reason: Reason) -> bool {
 }
 
 // What is found in a file that is refused for this reason.
-fn said_of(alloc: Global, reason: Reason, texts: Texts<'_>) -> Option<Sentence> {
+fn said_of(alloc: Global, reason: Reason, texts: Texts<'_>) -> Result<Option<Sentence>, NoMemory> {
     if is_of_forecast(reason) {
         return forecast_hint(alloc, reason, texts);
     }
@@ -77,16 +84,31 @@ fn said_of(alloc: Global, reason: Reason, texts: Texts<'_>) -> Option<Sentence> 
         (Refusal::SetupText | Refusal::SetupField | Refusal::Limit, _) => {
             setup_hint(alloc, reason.spot, texts.setup)
         }
-        (Refusal::PlanText, Spot::Line(line)) => Some(plan_hint(texts.plan, line)),
+        (Refusal::PlanText, Spot::Line(line)) => Ok(Some(plan_hint(texts.plan, line))),
         (Refusal::Shape, _) => shape_hint(alloc, texts),
-        (Refusal::SourcesText, Spot::Line(line)) => sources_hint(texts.sources, line),
-        (Refusal::LinksText, Spot::Line(line)) => links_hint(texts.links, line),
-        _ => None,
+        (Refusal::SourcesText, Spot::Line(line)) => Ok(sources_hint(texts.sources, line)),
+        (Refusal::LinksText, Spot::Line(line)) => Ok(links_hint(texts.links, line)),
+        _ => Ok(None),
     }
 }
 
-/// What is found in the files of a task that is refused for this reason, if more can be said of it.
+/// What is found in the files of a task that is refused for this reason, if more can be said of it; or out of memory.
+pub fn found_for(
+    alloc: Global,
+    reason: Reason,
+    texts: Texts<'_>,
+) -> Result<Option<Hint>, NoMemory> {
+    match said_of(alloc, reason, texts)? {
+        Some(sentence) => Ok(Some(Hint::Said(sentence))),
+        None => Ok(None),
+    }
+}
+
+/// The same, with no hint where memory runs out.
 #[must_use]
 pub fn hint_for(alloc: Global, reason: Reason, texts: Texts<'_>) -> Option<Hint> {
-    Some(Hint::Said(said_of(alloc, reason, texts)?))
+    match found_for(alloc, reason, texts) {
+        Ok(found) => found,
+        Err(_) => None,
+    }
 }

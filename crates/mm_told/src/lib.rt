@@ -1,4 +1,5 @@
-//! What people and callers are told: the words of each refusal, and for a call from C or Python a text or a refusal with its place.
+//! What people and callers are told: the words of each refusal, and for C and Python a text or a refusal with its
+//! place.
 #![tactic(auto)]
 
 mod answer;
@@ -16,8 +17,8 @@ mod words;
 pub use answer::{Answer, Status, tell_text};
 pub use codes::{NAMES, PLACES, Place, REFUSALS, refusal_numbered};
 pub use hints::{
-    EndsHint, Hint, Note, RequestHints, Texts, fit_hint, hint_for, notes_on, opening_hint,
-    request_hint,
+    EndsHint, Hint, Note, RequestHints, TextKind, Texts, column_notes, fit_hint, found_for,
+    hint_for, notes_on, opening_hint, packets_hint, request_hint,
 };
 pub use reason::Reason;
 pub use refused_at::RefusedAt;

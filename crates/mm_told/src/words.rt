@@ -125,6 +125,7 @@ fn expected(refusal: Refusal) -> &'static str
         }
         Refusal::LinksText => "links N in the first line, and fail LINK SEND in each further line",
         Refusal::ChannelDiffers => "a store on the virtual channel that the setup says",
+        Refusal::TooManyReports => "reports of a request that may wait within the bound on reports",
     }
 }
 
@@ -210,5 +211,6 @@ fn advice(refusal: Refusal) -> &'static str
             "compare the line with 'Sources as text' in docs/FORMATS.md, and the packet data length with the octets; it ends with LF alone",
         Refusal::LinksText => "compare the line with 'Links as text' in docs/FORMATS.md",
         Refusal::ChannelDiffers => "change the channel with subtype 28, or correct the setup",
+        Refusal::TooManyReports => "take the reports that wait, or set a larger bound",
     }
 }

@@ -5,8 +5,8 @@ mod progress_line;
 
 use crate::progress_line::ProgressLine;
 use mm_commands::{
-    Device, SystemFiles, read_to_end, refuse_input, refuse_words, run_script_with_progress,
-    run_tool_with_progress,
+    Device, SystemFiles, UntilClosed, read_to_end, refuse_input, refuse_words,
+    run_script_with_progress, run_tool_with_progress,
 };
 use std::io::{self, IsTerminal, Write};
 use std::process::ExitCode;
@@ -21,7 +21,7 @@ fn words_of(rt: &HostRuntime) -> io::Result<Vec<String>> {
 /// Runs the program on its words, or where it has none on the script that standard input holds.
 fn main(rt: HostRuntime) -> ExitCode {
     let alloc = rt.alloc();
-    let (mut out, mut err) = (rt.stdout(), rt.stderr());
+    let (mut out, mut err) = (UntilClosed::new(rt.stdout()), rt.stderr());
     let words = match words_of(&rt) {
         Ok(words) => words,
         Err(error) => return ExitCode::from(refuse_words(&error, &mut err)),
@@ -44,7 +44,7 @@ fn main(rt: HostRuntime) -> ExitCode {
             Err(fault) => refuse_input(fault, &mut out, &mut err),
         }
     } else {
-        let mut files = SystemFiles::new(alloc, &rt);
+        let mut files = SystemFiles::new(alloc, &rt, Device::new(rt.reader()));
         run_tool_with_progress(
             &rt,
             alloc,

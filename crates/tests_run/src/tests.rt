@@ -17,6 +17,7 @@ mod first_calls;
 mod gates;
 mod links;
 mod noting;
+mod prepared;
 mod records;
 mod reports;
 mod runs;

@@ -1,4 +1,5 @@
 //! Where the program is called: its files are texts in memory, and what it prints is kept and digested.
+ghost use Rattle.std.specs.Prelude.{false};
 ghost use Rattle.mm_commands.specs.Contents.{unknown};
 
 use mm_commands::{Device, Files, Obstacle, ReadFault, StoreFault, read_to_end, run_tool};
@@ -45,6 +46,12 @@ impl TextFiles {
 }
 
 impl Files for TextFiles {
+    ghost has_streams = { false };
+
+    fn has_streams() -> bool {
+        false
+    }
+
     ghost content = { λ _ _. unknown };
 
     // As a file of the system is read, which here is in memory.

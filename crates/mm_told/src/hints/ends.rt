@@ -3,8 +3,9 @@
 use crate::hints::Hint;
 use crate::hints::excerpt::Excerpt;
 use crate::hints::form::{form_hint, quoted};
+use crate::hints::kind::{TextKind, misplaced, parts_of};
 use crate::hints::lines::line_at;
-use crate::hints::packets::packet_hint;
+use crate::hints::packets::source_hint;
 use crate::hints::sentence::{Sentence, Shown};
 use mm_base::lines::{cut_word, first_line};
 use mm_base::numbers::Numeral;
@@ -76,16 +77,6 @@ impl EndsHint {
 /// The most packets of a source in a step.
 const MAX_PACKETS: u64 = 65_535;
 
-// The source, the step and the digits of a line of sources.
-fn parts_of(line: &[u8]) -> Option<(u64, u64, &[u8])> {
-    let (source, rest) = cut_word(line)?;
-    let (step, digits) = cut_word(rest)?;
-    match (Numeral::read(source, 8), Numeral::read(step, 256)) {
-        (Numeral::Number(source), Numeral::Number(step)) => Some((source, step, digits)),
-        _ => None,
-    }
-}
-
 // Whether a line of sources is of this source and step.
 fn is_of(line: &[u8], source: u64, step: u64) -> bool {
     match parts_of(line) {
@@ -112,16 +103,16 @@ fn packets_before(text: &[u8], line: u64, source: u64, step: u64) -> u64 {
 
 /// What is found in this line of the sources.
 pub(crate) fn sources_hint(text: &[u8], line: u64) -> Option<Sentence> {
-    if let Some(hint) = form_hint(text, line) {
+    if let Some(hint) = form_hint(text, line).or(misplaced(text, TextKind::Sources)) {
         return Some(hint);
     }
     if let Some((source, step, digits)) = parts_of(line_at(text, line)?) {
-        if let Some(hint) = packet_hint(digits, line) {
+        if let Some(hint) = source_hint(digits, line) {
             return Some(hint);
         }
         if packets_before(text, line, source, step) >= MAX_PACKETS {
             return Some(Sentence::new(
-                "before line {} come 65,535 packets of source {} in step {}, which is the most; another source can give the rest",
+                "before line {} are 65,535 packets of source {} in step {}, the most; another source can give the rest",
                 &[Shown::Count(line), Shown::Count(source), Shown::Count(step)],
             ));
         }
@@ -129,12 +120,39 @@ pub(crate) fn sources_hint(text: &[u8], line: u64) -> Option<Sentence> {
     quoted(text, line)
 }
 
+// The number after a word at the front of a line.
+fn number_after(word: &[u8], line: &[u8]) -> Option<u64> {
+    let (front, rest) = cut_word(line)?;
+    let (number, _) = cut_word(rest).unwrap_or((rest, &[]));
+    match Numeral::read(number, u64::from(u32::MAX)) {
+        Numeral::Number(number) if front == word => Some(number),
+        _ => None,
+    }
+}
+
+// What is found where a line fails a send of a link that the first line does not have.
+fn no_link_hint(text: &[u8], line: u64) -> Option<Sentence> {
+    let links = number_after(b"links", line_at(text, 1)?)?;
+    let link = number_after(b"fail", line_at(text, line)?)?;
+    if 1 <= link && link <= links {
+        return None;
+    }
+    Some(Sentence::new(
+        "line {} names link {}, and line 1 says links {}; links are numbered from 1 to that number",
+        &[Shown::Count(line), Shown::Count(link), Shown::Count(links)],
+    ))
+}
+
 /// What is found in this line of the links.
 pub(crate) fn links_hint(text: &[u8], line: u64) -> Option<Sentence> {
-    match form_hint(text, line) {
-        Some(hint) => Some(hint),
-        None => quoted(text, line),
+    if text.is_empty() {
+        let words = "the file is empty; its first line says how many links there are, as links 1";
+        return Some(Sentence::new(words, &[]));
     }
+    form_hint(text, line)
+        .or(misplaced(text, TextKind::Links))
+        .or(no_link_hint(text, line))
+        .or(quoted(text, line))
 }
 
 /// Whether a route leads to a store.

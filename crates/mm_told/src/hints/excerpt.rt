@@ -6,8 +6,8 @@ use std::fmt::{self, Write};
 /// How many bytes of a text are quoted.
 const ROOM: usize = 160;
 
-/// A piece of a text, as a line quotes it: in quotes, with `<tab>` for a tab, `?` for another byte that is not printable ASCII, and `..`
-/// where the text goes on.
+/// A piece of a text, as a line quotes it: in quotes, with `<tab>` for a tab, `?` for another byte that is not
+/// printable ASCII, and `..` where the text goes on.
 #[derive(Clone, Copy)]
 pub struct Excerpt {
     pub(crate) bytes: [u8; ROOM],

@@ -3,14 +3,15 @@
 use crate::hints::Texts;
 use crate::hints::cells::{Wanted, record_in, rows_in};
 use crate::hints::excerpt::Excerpt;
-use crate::hints::form::{swapped, utf16_hint};
-use crate::hints::lines::{after_mark, lines_with};
+use crate::hints::form::utf16_hint;
+use crate::hints::kind::{TextKind, misplaced};
+use crate::hints::lines::after_mark;
 use crate::hints::sentence::{Sentence, Shown};
 use crate::reason::Reason;
 use crate::spot::Spot;
-use mm_base::Refusal;
 use mm_base::lines::first_line;
-use mm_problem::{Name, Setup};
+use mm_base::{NoMemory, Refusal};
+use mm_problem::{Fault, Name, Setup};
 use std::alloc::Global;
 
 // The header that the stores of a setup want.
@@ -23,16 +24,20 @@ fn wanted_header(setup: &Setup) -> Excerpt {
     wanted
 }
 
-fn header_hint(alloc: Global, texts: Texts<'_>) -> Option<Sentence> {
+fn header_hint(alloc: Global, texts: Texts<'_>) -> Result<Option<Sentence>, NoMemory> {
     let header = match first_line(after_mark(texts.forecast)) {
         Some((line, _)) => line.strip_suffix(b"\r").unwrap_or(line),
         None => &[],
     };
     if header.contains(&b';') && !header.contains(&b',') {
         let words = "semicolons separate the cells; save the file with commas";
-        return Some(Sentence::new(words, &[]));
+        return Ok(Some(Sentence::new(words, &[])));
     }
-    let setup = Setup::read(alloc, texts.setup).ok()?;
+    let setup = match Setup::read(alloc, texts.setup) {
+        Ok(setup) => setup,
+        Err(Fault::NoMemory) => return Err(NoMemory),
+        Err(_) => return Ok(None),
+    };
     let found = Shown::Text(Excerpt::of(header));
     let wanted = Shown::Text(wanted_header(&setup));
     // No other column has a colon in its name.
@@ -41,7 +46,7 @@ fn header_hint(alloc: Global, texts: Texts<'_>) -> Option<Sentence> {
     } else {
         "the header is {}, and {} is expected"
     };
-    Some(Sentence::new(words, &[found, wanted]))
+    Ok(Some(Sentence::new(words, &[found, wanted])))
 }
 
 fn cells_hint(text: &[u8]) -> Option<Sentence> {
@@ -100,9 +105,8 @@ fn open_hint(text: &[u8]) -> Option<Sentence> {
     Some(Sentence::new(words, &[Shown::Count(line)]))
 }
 
-fn in_forecast(alloc: Global, reason: Reason, texts: Texts<'_>) -> Option<Sentence> {
+fn in_records(reason: Reason, texts: Texts<'_>) -> Option<Sentence> {
     match (reason.refusal, reason.spot) {
-        (Refusal::Header, _) => header_hint(alloc, texts),
         (Refusal::ForecastText, _) => cells_hint(texts.forecast),
         (Refusal::Cell, Spot::Cell { row, column }) => cell_hint(texts.forecast, row, column),
         (Refusal::StepNumber, Spot::Row(row)) => step_hint(texts.forecast, row),
@@ -111,16 +115,32 @@ fn in_forecast(alloc: Global, reason: Reason, texts: Texts<'_>) -> Option<Senten
     }
 }
 
+fn in_forecast(
+    alloc: Global,
+    reason: Reason,
+    texts: Texts<'_>,
+) -> Result<Option<Sentence>, NoMemory> {
+    if reason.refusal == Refusal::Header {
+        header_hint(alloc, texts)
+    } else {
+        Ok(in_records(reason, texts))
+    }
+}
+
 /// What is found in a forecast that is refused for this reason.
-pub(crate) fn forecast_hint(alloc: Global, reason: Reason, texts: Texts<'_>) -> Option<Sentence> {
-    if let Some(hint) = utf16_hint(texts.forecast) {
-        return Some(hint);
+pub(crate) fn forecast_hint(
+    alloc: Global,
+    reason: Reason,
+    texts: Texts<'_>,
+) -> Result<Option<Sentence>, NoMemory> {
+    if let Some(hint) = utf16_hint(texts.forecast).or(misplaced(
+        texts.forecast,
+        TextKind::Forecast,
+    )) {
+        return Ok(Some(hint));
     }
-    if lines_with(texts.forecast, b"[[store]]") > 0 {
-        return Some(swapped());
-    }
-    match in_forecast(alloc, reason, texts) {
-        Some(hint) => Some(hint),
-        None => open_hint(texts.forecast),
+    match in_forecast(alloc, reason, texts)? {
+        Some(hint) => Ok(Some(hint)),
+        None => Ok(open_hint(texts.forecast)),
     }
 }

@@ -13,14 +13,6 @@ pub(crate) fn utf16_hint(text: &[u8]) -> Option<Sentence> {
     }
 }
 
-/// The files of a setup and of a forecast stand for one another.
-pub(crate) fn swapped() -> Sentence {
-    Sentence::new(
-        "the files are in another order; name the setup first, then the forecast",
-        &[],
-    )
-}
-
 /// What is found in the form of a whole file whose lines end with LF alone.
 pub(crate) fn file_hint(text: &[u8]) -> Option<Sentence> {
     if let Some(hint) = utf16_hint(text) {

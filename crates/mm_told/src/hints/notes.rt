@@ -1,9 +1,10 @@
 //! Notes on the setup of a task that is done: what in it has no effect.
 
+use crate::hints::Texts;
 use crate::hints::ends::is_reached;
 use crate::hints::excerpt::Excerpt;
 use mm_base::{NoMemory, StoreId};
-use mm_problem::Setup;
+use mm_problem::{Problem, Setup};
 use std::alloc::Global;
 use std::fmt;
 
@@ -12,6 +13,8 @@ use std::fmt;
 pub enum Note {
     /// A limit is of a channel that no store has.
     LimitOfNone { channel: u8 },
+    /// A column of the forecast has limits of a channel that no store has.
+    ColumnOfNone { channel: u8 },
     /// No route leads to a store.
     Unreached { store: StoreId },
 }
@@ -23,6 +26,12 @@ impl fmt::Display for Note {
                 write!(
                     f,
                     "the setup has a limit for channel {channel}, on which no store is"
+                )
+            }
+            Note::ColumnOfNone { channel } => {
+                write!(
+                    f,
+                    "the forecast has a column limit:{channel}, and no store is on that channel"
                 )
             }
             Note::Unreached { store } => write!(
@@ -70,6 +79,22 @@ pub fn notes_on(alloc: Global, is_run: bool, setup: &[u8]) -> Result<Vec<Note>, 
         push_limits(&mut notes, &setup)?;
         if is_run {
             push_stores(&mut notes, &setup)?;
+        }
+    }
+    Ok(notes)
+}
+
+/// What in the forecast of a task that is done has no effect: columns with limits.
+pub fn column_notes(alloc: Global, texts: Texts<'_>) -> Result<Vec<Note>, NoMemory> {
+    let mut notes = Vec::new(alloc);
+    let Ok(setup) = Setup::read(alloc, texts.setup) else {
+        return Ok(notes);
+    };
+    if let Ok(problem) = Problem::read(alloc, &setup, texts.forecast) {
+        for channel in problem.limited() {
+            if !is_used(&setup, *channel) {
+                notes.push(Note::ColumnOfNone { channel: *channel })?;
+            }
         }
     }
     Ok(notes)

@@ -3,14 +3,16 @@
 use crate::hints::Texts;
 use crate::hints::excerpt::Excerpt;
 use crate::hints::form::{form_hint, quoted};
+use crate::hints::kind::{TextKind, misplaced};
 use crate::hints::lines::{line_at, lines_with};
 use crate::hints::sentence::{Sentence, Shown};
-use mm_problem::read_problem;
+use mm_base::NoMemory;
+use mm_problem::{Fault, Problem, read_problem};
 use std::alloc::Global;
 
 /// What is found in this line of a plan text.
 pub(crate) fn plan_hint(text: &[u8], line: u64) -> Sentence {
-    if let Some(hint) = form_hint(text, line) {
+    if let Some(hint) = form_hint(text, line).or(misplaced(text, TextKind::Plan)) {
         return hint;
     }
     if text.starts_with(b"refused ") {
@@ -29,8 +31,15 @@ pub(crate) fn plan_hint(text: &[u8], line: u64) -> Sentence {
 }
 
 /// The stores and the steps of a plan, and those of the setup and the forecast.
-pub(crate) fn shape_hint(alloc: Global, texts: Texts<'_>) -> Option<Sentence> {
-    let problem = read_problem(alloc, texts.setup, texts.forecast).ok()?;
+pub(crate) fn shape_hint(alloc: Global, texts: Texts<'_>) -> Result<Option<Sentence>, NoMemory> {
+    match read_problem(alloc, texts.setup, texts.forecast) {
+        Ok(problem) => Ok(shapes(&problem, texts.plan)),
+        Err(Fault::NoMemory) => Err(NoMemory),
+        Err(_) => Ok(None),
+    }
+}
+
+fn shapes(problem: &Problem, plan: &[u8]) -> Option<Sentence> {
     let mut wanted = Excerpt::of(b"stores");
     for store in 0..problem.stores() {
         wanted.push(b" ");
@@ -39,8 +48,8 @@ pub(crate) fn shape_hint(alloc: Global, texts: Texts<'_>) -> Option<Sentence> {
     Some(Sentence::new(
         "the plan has {} and {} steps; {} and {} steps are wanted",
         &[
-            Shown::Text(Excerpt::of(line_at(texts.plan, 2)?)),
-            Shown::Count(lines_with(texts.plan, b"dump ")),
+            Shown::Text(Excerpt::of(line_at(plan, 2)?)),
+            Shown::Count(lines_with(plan, b"dump ")),
             Shown::Text(wanted),
             Shown::Count(u64::from(problem.steps())),
         ],

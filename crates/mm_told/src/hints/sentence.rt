@@ -1,7 +1,8 @@
 //! What is found, in words: a text with places, and what is shown there.
 
 use crate::hints::excerpt::Excerpt;
-use crate::hints::tables::TableAt;
+use crate::hints::kind::TextKind;
+use crate::hints::tables::{KeyList, TableAt};
 use mm_problem::Name;
 use std::fmt::{self, Write};
 
@@ -15,6 +16,8 @@ pub(crate) enum Shown {
     Count(u64),
     Number(i64),
     Name(Name),
+    Keys(KeyList),
+    Kind(TextKind),
     Text(Excerpt),
 }
 
@@ -25,13 +28,15 @@ impl fmt::Display for Shown {
             Shown::Count(count) => write!(f, "{count}"),
             Shown::Number(number) => write!(f, "{number}"),
             Shown::Name(name) => write!(f, "{name}"),
+            Shown::Keys(keys) => write!(f, "{keys}"),
+            Shown::Kind(kind) => write!(f, "{kind}"),
             Shown::Text(text) => write!(f, "{text}"),
         }
     }
 }
 
-/// What is found, in words without a full stop. Each `{}` of the words is a place. Of what stands in a table of a setup, the table is named
-/// before the words. The words are a copy: a hint holds no reference.
+/// What is found, in words without a full stop. Each `{}` of the words is a place. Of what stands in a table of a
+/// setup, the table is named before the words. The words are a copy: a hint holds no reference.
 #[derive(Clone, Copy)]
 pub struct Sentence {
     table: Option<TableAt>,
@@ -42,15 +47,29 @@ pub struct Sentence {
 impl Sentence {
     /// These words, with this at their places.
     pub(crate) fn new(words: &str, shown: &[Shown]) -> Sentence {
+        Sentence::joined(words, "", shown)
+    }
+
+    /// These words and what is said after them, with this at the places of both.
+    pub(crate) fn joined(words: &str, said: &str, shown: &[Shown]) -> Sentence {
+        let mut all = Excerpt::of(words.as_bytes());
+        all.push(said.as_bytes());
         let mut places = [Shown::Nothing; PLACES];
         for (place, one) in places.iter_mut().zip(shown) {
             *place = *one;
         }
         Sentence {
             table: None,
-            words: Excerpt::of(words.as_bytes()),
+            words: all,
             shown: places,
         }
+    }
+
+    /// What is said of a line, of this number: the line as it is, and these words with this at their place.
+    pub(crate) fn of_line(number: u64, line: &[u8], said: &str, shown: Shown) -> Sentence {
+        let line = Excerpt::of(line.strip_suffix(b"\r").unwrap_or(line));
+        let shown = [Shown::Count(number), Shown::Text(line), shown];
+        Sentence::joined("line {} is {}; ", said, &shown)
     }
 
     /// The same of this table.

@@ -1,14 +1,18 @@
 //! Hints on a setup.
 
 use crate::hints::excerpt::Excerpt;
-use crate::hints::form::{swapped, utf16_hint};
+use crate::hints::form::utf16_hint;
+use crate::hints::kind::{TextKind, misplaced};
 use crate::hints::lines::{after_mark, line_at, line_of};
 use crate::hints::sentence::{Sentence, Shown};
 use crate::hints::tables::{
     ARRAYS, elements, keys_of, named, number_at, table_in, text_at, unknown_key,
 };
 use crate::spot::Spot;
-use mm_base::{CHANNELS, Kind, MAX_APID, MAX_BLOCKS, MAX_CHANNEL, MAX_ROUTES, MAX_STORES, StoreId};
+use mm_base::lines::first_line;
+use mm_base::{
+    CHANNELS, Kind, MAX_APID, MAX_BLOCKS, MAX_CHANNEL, MAX_ROUTES, MAX_STORES, NoMemory, StoreId,
+};
 use mm_problem::Name;
 use std::alloc::Global;
 use toml::Table;
@@ -24,48 +28,98 @@ fn single_table(line: &[u8]) -> Option<Name> {
     None
 }
 
-// Whether this is a number in digits alone, which is then too large where it is not TOML.
-fn is_whole_number(word: &[u8]) -> bool {
-    for byte in word {
-        if !byte.is_ascii_digit() && *byte != b'_' && *byte != b'-' && *byte != b'+' {
+// The first line that has the name of an array in single brackets.
+fn single_hint(text: &[u8]) -> Option<Sentence> {
+    let mut rest = after_mark(text);
+    let mut number: u64 = 1;
+    while let Some((line, after)) = first_line(rest) {
+        if let Some(array) = single_table(line) {
+            let words = "write [[{}]] above each table";
+            return Some(Sentence::of_line(number, line, words, Shown::Name(array)));
+        }
+        rest = after;
+        number = number.saturating_add(1);
+    }
+    None
+}
+
+// Why a text is not TOML: how the reader of TOML begins to say it, how the text goes on at the place, and what is said.
+// In the text `9` is any digit, and 0x80 any byte beyond ASCII. The first row that fits is told.
+static FAULTS: [(&str, &[u8], &str); 17] = table! {
+    "", b"\x80", "write straight quotes and plain spaces, which are ASCII";
+    "", b"//", "a comment begins with #";
+    "", b",9", "numbers have no commas";
+    "", b",", "no comma ends a line";
+    "", b"]", "write [[ before the name of an array and ]] after it";
+    "unclosed", b"", "write [[ before the name of an array and ]] after it";
+    "duplicate key", b"", "the name comes twice in its table; leave one out, or begin another table above it";
+    "number out of range", b"", "the number is too large";
+    "invalid value", b"09", "numbers have no leading zero";
+    "invalid value", b"9", "a whole number has digits alone";
+    "`_`", b"9", "a whole number has digits alone";
+    "invalid value", b"", "a value is a number in digits, or a text in quotes";
+    "invalid string", b"", "a text has a quote at each end";
+    "key with no value", b"", "write = between a key and its value";
+    "unexpected key", b"", "write each key in a line of its own";
+    "cannot recurse", b"", "keys and lists are nested too deeply";
+    "", b"", "a setup has lines KEY = VALUE below [[store]], [[route]] and [[limit]]";
+};
+
+// Whether a text begins so.
+fn begins(text: &[u8], front: &[u8]) -> bool {
+    for (i, wanted) in front.iter().enumerate() {
+        let is_so = match (text.get(i), wanted) {
+            (Some(byte), b'9') => byte.is_ascii_digit(),
+            (Some(byte), 0x80) => !byte.is_ascii(),
+            (Some(byte), wanted) => byte == wanted,
+            (None, _) => false,
+        };
+        if !is_so {
             return false;
         }
     }
-    !word.is_empty()
+    true
 }
 
-// What is found in a line in which the text is not TOML, from this word on.
-fn line_hint(number: u64, line: &[u8], word: &[u8]) -> Sentence {
-    let line = line.strip_suffix(b"\r").unwrap_or(line);
-    let (number, text) = (Shown::Count(number), Shown::Text(Excerpt::of(line)));
-    if let Some(array) = single_table(line) {
-        let words = "line {} is {}; write [[{}]] above each table";
-        return Sentence::new(words, &[number, text, Shown::Name(array)]);
+// What is said of this fault at the front of this text.
+fn said_of(fault: &str, text: &[u8]) -> &'static str {
+    for (wanted, front, said) in &FAULTS {
+        if fault.starts_with(wanted) && begins(text, front) {
+            return said;
+        }
     }
-    let words = if is_whole_number(word) {
-        "line {} is {}; the number is too large"
-    } else {
-        "line {} is {}; numbers have no commas, and texts have quotes"
-    };
-    Sentence::new(words, &[number, text])
+    ""
+}
+
+// What is found at the place where a text is not TOML.
+fn fault_hint(text: &[u8], place: usize, fault: &str) -> Option<Sentence> {
+    let rest = text.get(place..)?;
+    if fault == "duplicate key" && rest.starts_with(b"[") {
+        if let Some(hint) = single_hint(text) {
+            return Some(hint);
+        }
+    }
+    let number = line_of(text, place);
+    let line = line_at(text, number)?;
+    Some(Sentence::of_line(number, line, said_of(fault, rest), Shown::Nothing))
 }
 
 // The line in which the text is not TOML.
-fn toml_hint(alloc: Global, octets: &[u8]) -> Option<Sentence> {
+fn toml_hint(alloc: Global, octets: &[u8]) -> Result<Option<Sentence>, NoMemory> {
     let text = match std::str::from_utf8(octets) {
         Ok(text) => text,
         Err(error) => {
             let line = Shown::Count(line_of(octets, error.valid_up_to()));
-            return Some(Sentence::new("line {} is not in UTF-8", &[line]));
+            return Ok(Some(Sentence::new("line {} is not in UTF-8", &[line])));
         }
     };
     match toml::table_from_str(alloc, text) {
-        Ok(_) => None,
-        Err(error) => {
-            let span = error.span()?;
-            let line = line_of(octets, span.start);
-            Some(line_hint(line, line_at(octets, line)?, octets.get(span)?))
-        }
+        Ok(_) => Ok(None),
+        Err(error) if error.is_memory() => Err(NoMemory),
+        Err(error) => Ok(match error.span() {
+            Some(span) => fault_hint(octets, span.start, error.message()),
+            None => None,
+        }),
     }
 }
 
@@ -73,9 +127,9 @@ fn toml_hint(alloc: Global, octets: &[u8]) -> Option<Sentence> {
 fn top_hint(document: &Table, name: Name) -> Option<Sentence> {
     let array = Shown::Name(name);
     if name == Name::Unknown {
-        let key = Shown::Text(unknown_key(document, &ARRAYS)?);
-        let words = "the key {} is none of store, route and limit";
-        return Some(Sentence::new(words, &[key]));
+        let (key, keys) = unknown_key(document, name)?;
+        let words = "the key {} is none of {}";
+        return Some(Sentence::new(words, &[Shown::Text(key), Shown::Keys(keys)]));
     }
     if document.get(name.text()).is_none() {
         return Some(Sentence::new("there is no table [[{}]]", &[array]));
@@ -208,9 +262,9 @@ fn in_table(
         }
         Name::Repeated => None,
         Name::Unknown => {
-            let key = Shown::Text(unknown_key(table, keys_of(array))?);
-            let words = "has the key {}, which it cannot have";
-            Some(Sentence::new(words, &[key]))
+            let (key, keys) = unknown_key(table, array)?;
+            let words = "has the key {}, which is none of {}";
+            Some(Sentence::new(words, &[Shown::Text(key), Shown::Keys(keys)]))
         }
         key => key_hint(document, array, key, table),
     }
@@ -262,7 +316,13 @@ fn out_of_range(document: &Table, array: Name, row: u32, key: Name) -> Option<Se
         Shown::Count(u64::from(low)),
         Shown::Count(u64::from(high)),
     ];
-    let hint = Sentence::new("has {} = {}; {} to {} can be", &shown);
+    // More blocks than there can be of anything.
+    let said = if high == MAX_BLOCKS && number > i64::from(high) {
+        "; a block is room for one packet; plan more in coarser units: docs/PLANNING.md, 'Limits of scale'"
+    } else {
+        ""
+    };
+    let hint = Sentence::joined("has {} = {}; {} to {} can be", said, &shown);
     Some(hint.of_table(named(array, row, table)))
 }
 
@@ -297,32 +357,44 @@ fn limit_hint(document: &Table, name: Name) -> Option<Sentence> {
     }
 }
 
-// Whether the text begins as a forecast does.
-fn is_forecast(text: &[u8]) -> bool {
-    let text = after_mark(text);
-    text.starts_with(b"step,") || text.starts_with(b"step;")
-}
-
-fn in_setup(alloc: Global, spot: Spot, text: &[u8]) -> Option<Sentence> {
+// What is found in the document of a setup.
+fn document_hint(document: &Table, spot: Spot) -> Option<Sentence> {
     match spot {
-        Spot::Key { row, name } => field_hint(&document_of(alloc, text)?, row, name),
-        Spot::Number(name) => limit_hint(&document_of(alloc, text)?, name),
-        _ => toml_hint(alloc, text),
+        Spot::Key { row, name } => field_hint(document, row, name),
+        Spot::Number(name) => limit_hint(document, name),
+        _ => None,
     }
 }
 
-fn document_of(alloc: Global, octets: &[u8]) -> Option<Table> {
-    let text = std::str::from_utf8(octets).ok()?;
-    toml::table_from_str(alloc, text).ok()
+fn in_setup(alloc: Global, spot: Spot, text: &[u8]) -> Result<Option<Sentence>, NoMemory> {
+    if !matches!(spot, Spot::Key { .. } | Spot::Number(_)) {
+        return toml_hint(alloc, text);
+    }
+    match document_of(alloc, text)? {
+        Some(document) => Ok(document_hint(&document, spot)),
+        None => Ok(None),
+    }
+}
+
+fn document_of(alloc: Global, octets: &[u8]) -> Result<Option<Table>, NoMemory> {
+    let Ok(text) = std::str::from_utf8(octets) else {
+        return Ok(None);
+    };
+    match toml::table_from_str(alloc, text) {
+        Ok(document) => Ok(Some(document)),
+        Err(error) if error.is_memory() => Err(NoMemory),
+        Err(_) => Ok(None),
+    }
 }
 
 /// What is found in a setup that is refused with its fault there.
-pub(crate) fn setup_hint(alloc: Global, spot: Spot, text: &[u8]) -> Option<Sentence> {
-    if let Some(hint) = utf16_hint(text) {
-        return Some(hint);
+pub(crate) fn setup_hint(
+    alloc: Global,
+    spot: Spot,
+    text: &[u8],
+) -> Result<Option<Sentence>, NoMemory> {
+    match utf16_hint(text).or(misplaced(text, TextKind::Setup)) {
+        Some(hint) => Ok(Some(hint)),
+        None => in_setup(alloc, spot, text),
     }
-    if is_forecast(text) {
-        return Some(swapped());
-    }
-    in_setup(alloc, spot, text)
 }

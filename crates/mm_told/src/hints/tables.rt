@@ -26,12 +26,13 @@ impl fmt::Display for TableAt {
 /// The arrays of a setup, in the order in which they are tested.
 pub(crate) static ARRAYS: [Name; 3] = [Name::Store, Name::Route, Name::Limit];
 
-/// The keys of the tables of an array.
+/// The keys of the tables of an array, or else those of the top.
 pub(crate) fn keys_of(array: Name) -> &'static [Name] {
     match array {
         Name::Store => &[Name::Id, Name::Size, Name::Type, Name::Channel, Name::Start],
         Name::Route => &[Name::Apid, Name::Service, Name::Subtype, Name::Store],
-        _ => &[Name::Channel, Name::Blocks],
+        Name::Limit => &[Name::Channel, Name::Blocks],
+        _ => &ARRAYS,
     }
 }
 
@@ -62,11 +63,60 @@ pub(crate) fn number_at(table: &Table, key: Name) -> Option<i64> {
     table.get(key.text())?.as_integer()
 }
 
-/// The first key of a table that is none of these.
-pub(crate) fn unknown_key(table: &Table, keys: &[Name]) -> Option<Excerpt> {
+/// The keys that a table of an array can have, with one of them first. They are shown as `id, size and start`.
+#[derive(Clone, Copy)]
+pub struct KeyList {
+    array: Name,
+    first: Name,
+}
+
+impl fmt::Display for KeyList {
+    fn fmt<W: fmt::Write>(&self, f: &mut fmt::Formatter<W>) -> fmt::Result {
+        let keys = keys_of(self.array);
+        let mut left = keys.len();
+        write!(f, "{}", self.first)?;
+        for key in keys {
+            if *key != self.first {
+                left = left.saturating_sub(1);
+                let before = if left == 1 { " and " } else { ", " };
+                write!(f, "{before}{key}")?;
+            }
+        }
+        Ok(())
+    }
+}
+
+// How many letters two words have in common before they differ, small or capital.
+fn common_front(one: &str, other: &str) -> u32 {
+    let mut common: u32 = 0;
+    for (byte, of_other) in one.as_bytes().iter().zip(other.as_bytes()) {
+        if !byte.eq_ignore_ascii_case(of_other) {
+            return common;
+        }
+        common = common.saturating_add(1);
+    }
+    common
+}
+
+// The keys of an array, the one that begins most like this word first.
+fn keys_like(word: &str, array: Name) -> KeyList {
+    let mut first = array;
+    let mut most = 0;
+    for key in keys_of(array) {
+        let likeness = common_front(word, key.text()).saturating_add(1);
+        if likeness > most {
+            first = *key;
+            most = likeness;
+        }
+    }
+    KeyList { array, first }
+}
+
+/// The first key of a table that no table of the array can have, and those that it can have.
+pub(crate) fn unknown_key(table: &Table, array: Name) -> Option<(Excerpt, KeyList)> {
     for key in table.keys() {
-        if !is_among(key.as_str(), keys) {
-            return Some(Excerpt::of(key.as_bytes()));
+        if !is_among(key.as_str(), keys_of(array)) {
+            return Some((Excerpt::of(key.as_bytes()), keys_like(key.as_str(), array)));
         }
     }
     None

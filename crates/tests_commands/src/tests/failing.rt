@@ -1,8 +1,9 @@
 //! Files and writers that fail.
+ghost use Rattle.std.specs.Prelude.{false};
 ghost use Rattle.mm_commands.specs.Contents.{unknown};
 
 use crate::tests::samples::{FIRST_PLAN, Host, SCI, THREE_STEPS, answer_to, holds, joined};
-use mm_commands::{Files, Obstacle, ReadFault, StoreFault, run_tool};
+use mm_commands::{Files, Obstacle, ReadFault, StoreFault, UntilClosed, run_tool};
 use std::alloc::Global;
 use std::io::{self, ErrorKind, Write};
 
@@ -41,6 +42,12 @@ struct FailingFiles {
 }
 
 impl Files for FailingFiles {
+    ghost has_streams = { false };
+
+    fn has_streams() -> bool {
+        false
+    }
+
     ghost content = { λ _ _. unknown };
 
     fn read(&mut self, alloc: Global, name: &str) -> Result<Vec<u8>, ReadFault> {
@@ -65,18 +72,29 @@ impl Files for FailingFiles {
 // What standard error says where standard output refuses a write.
 pub(crate) const UNWRITTEN: &[u8] = b"mm_tool: standard output could not be written\n";
 
-// A writer that refuses one write, the one after so many, and takes all others.
+// A writer that refuses one write, the one after so many, with such an error, and takes all others.
 #[derive(Drop)]
 pub(crate) struct FailingWriter {
     left: u32,
+    kind: ErrorKind,
     has_refused: bool,
 }
 
 impl FailingWriter {
+    // One whose disk is full.
     pub(crate) fn after(writes: u32) -> FailingWriter {
         FailingWriter {
             left: writes,
+            kind: ErrorKind::StorageFull,
             has_refused: false,
+        }
+    }
+
+    // One whose pipe is closed.
+    fn closed_after(writes: u32) -> FailingWriter {
+        FailingWriter {
+            kind: ErrorKind::BrokenPipe,
+            ..FailingWriter::after(writes)
         }
     }
 }
@@ -85,7 +103,7 @@ impl Write for FailingWriter {
     fn write(&mut self, buf: &[u8]) -> io::Result<usize> {
         if self.left == 0 && !self.has_refused {
             self.has_refused = true;
-            return Err(io::Error::from(ErrorKind::BrokenPipe));
+            return Err(io::Error::from(self.kind));
         }
         self.left = self.left.saturating_sub(1);
         Ok(buf.len())
@@ -97,7 +115,8 @@ impl Write for FailingWriter {
 }
 
 // Commands with their files in the order in which they are read, the fewest writes of what is printed, and the status,
-// where nothing fails. A run is printed as the plan text where it was made, the report, and the last line where it was halted.
+// where nothing fails. A run is printed as the plan text where it was made, the report, and the last line where it was
+// halted.
 static COMMANDS: [(&[&str], u32, u8); 11] = [
     (&["plan", "S", "F"], 1, 0),
     (&["check", "S", "F", "P"], 1, 0),
@@ -137,8 +156,8 @@ fn each_file_that_is_not_read(rt: HostRuntime) {
 // No command writes as often for the first run.
 const MANY_WRITES: u32 = 100;
 
-// Whether a command writes more often than this. The write after so many is refused: the status is 1, and standard error says why. With
-// none refused it is this status.
+// Whether a command writes more often than this. The write after so many is refused: the status is 1, and standard
+// error says why. With none refused it is this status.
 fn is_refused_after(rt: &impl Host, words: &[&str], status: u8, writes: u32) -> bool {
     let alloc = rt.alloc();
     let mut files = FailingFiles { left: words.len() };
@@ -171,7 +190,52 @@ fn each_write_that_fails(rt: HostRuntime) {
     }
 }
 
-// Whether more is written to standard error than so often. A write of it that fails is not told as one to standard output.
+// Whether a command writes more often than this to a pipe. Where nobody reads the pipe after so many writes, the status
+// is that of the command, nothing is said of that, and nothing more is written.
+fn is_closed_after(rt: &impl Host, words: &[&str], status: u8, writes: u32) -> bool {
+    let alloc = rt.alloc();
+    let mut files = FailingFiles { left: words.len() };
+    let (mut pipe, mut err) = (FailingWriter::closed_after(writes), Vec::new(alloc));
+    let mut out = UntilClosed::new(&mut pipe);
+    let got = run_tool(rt, alloc, words, &mut files, &mut out, &mut err);
+    let is_told = err.ends_with(UNWRITTEN);
+    assert!(rt; got == status && !is_told, "after {writes} writes");
+    pipe.has_refused
+}
+
+// How many writes of a command's output find the pipe closed, each in turn.
+fn closed_writes(rt: &impl Host, words: &[&str], status: u8) -> u32 {
+    for writes in 0..MANY_WRITES {
+        if !is_closed_after(rt, words, status, writes) {
+            return writes;
+        }
+    }
+    MANY_WRITES
+}
+
+#[test]
+fn a_closed_pipe_is_not_told(rt: HostRuntime) {
+    for (words, fewest, status) in &COMMANDS {
+        let writes = closed_writes(&rt, words, *status);
+        assert!(rt;
+            *fewest <= writes && writes < MANY_WRITES,
+            "{writes} writes, not {fewest}"
+        );
+    }
+}
+
+// A full disk is no closed pipe.
+#[test]
+fn other_errors_of_a_pipe_are_told(rt: HostRuntime) {
+    let (mut files, mut err) = (FailingFiles { left: 3 }, Vec::new(rt.alloc()));
+    let mut out = UntilClosed::new(FailingWriter::after(0));
+    let words = ["check", "S", "F", "P"];
+    let status = run_tool(&rt, rt.alloc(), &words, &mut files, &mut out, &mut err);
+    assert!(rt; status == 1 && err.as_slice() == UNWRITTEN);
+}
+
+// Whether more is written to standard error than so often. A write of it that fails is not told as one to standard
+// output.
 fn is_unsaid_after(rt: &impl Host, writes: u32) -> bool {
     let alloc = rt.alloc();
     let words = ["ask", "S", "R"];

@@ -1,7 +1,9 @@
 //! What `run` and `fly` print of the worked examples.
 
 use crate::tests::in_order::FIRST_PLAN_IN_ORDER;
-use crate::tests::samples::{FIRST_PLAN, Host, SCI, THREE_STEPS, joined, prints};
+use crate::tests::samples::{FIRST_PLAN, Host, SCI, THREE_STEPS, answers, joined, prints};
+use mm_commands::run_script;
+use std::io::{self, Write};
 
 mod refusals;
 
@@ -53,7 +55,8 @@ const STARTS_WITH_2: &str = "\
 const PLAN_FROM_2: &str =
     "mmplan 1\nstores SCI\ndump 1 2\ndump 2 2\ndump 3 0\nloss 4\nstretch SCI 1 3\nbound 4\nend\n";
 
-// A bounded store and a circular one of two blocks each, both full as the run begins, each with a report type of its own.
+// A bounded store and a circular one of two blocks each, both full as the run begins, each with a report type of its
+// own.
 const TWO_ARE_FULL: &str = "\
     [[store]]\nid = \"A\"\nsize = 2\ntype = \"bounded\"\nchannel = 0\nstart = 2\n\n\
     [[store]]\nid = \"C\"\nsize = 2\ntype = \"circular\"\nchannel = 0\nstart = 2\n\n\
@@ -110,7 +113,7 @@ const OTHER_ARRIVALS: Run = Run {
     ..FIRST_RUN
 };
 
-static RUNS: [Run; 10] = based! { Run;
+static RUNS: [Run; 9] = based! { Run;
     FIRST_FLIGHT: example "a_plan_in_order_is_run", plan FIRST_PLAN_IN_ORDER;
     OTHER_ARRIVALS: status 0;
     FIRST_RUN: example "fewer_arrivals_than_forecast",
@@ -149,22 +152,36 @@ static RUNS: [Run; 10] = based! { Run;
             step 1 A arrived 1 lost 1 dumped 2 held 0\n\
             step 1 C arrived 1 lost 1 dumped 1 held 1\n\
             total arrived 2 lost 2 dumped 3 held 1\n";
-    FIRST_RUN: example "a_telecommand_is_not_stored", forecast "step,window,SCI\n1,3,0\n",
-        plan THREE_BLOCKS, sources &["1 0 1864C0000004200319FFFF\n2 1 1864C0000004200319FFFF\n"],
-        links "links 4",
-        prints "\
-            step 1 SCI arrived 0 lost 0 dumped 0 held 0\n\
-            total arrived 0 lost 0 dumped 0 held 0\n";
 };
 
-// `run` with the files of a row and these links prints this report.
-fn runs_over(rt: &impl Host, row: &Run, links: &str, report: &str, status: u8) {
+const TELECOMMANDS: Run = Run {
+    example: "a_telecommand_is_not_stored",
+    forecast: "step,window,SCI\n1,3,0\n",
+    plan: THREE_BLOCKS,
+    sources: &["1 0 1864C0000004200319FFFF\n2 1 1864C0000004200319FFFF\n"],
+    links: "links 4",
+    prints: "\
+        step 1 SCI arrived 0 lost 0 dumped 0 held 0\n\
+        total arrived 0 lost 0 dumped 0 held 0\n",
+    ..FIRST_RUN
+};
+
+const TELECOMMANDS_NOTED: &str =
+    "note: 2 packets of the sources are telecommands, which go to no store\n";
+
+// The script of a run with the files of a row and these links.
+fn script_of(rt: &impl Host, row: &Run, links: &str) -> String {
     let sources = joined(rt, row.sources);
     let script = format!(in rt.alloc();
         "run S F P X L\n=== S\n{}=== F\n{}=== P\n{}=== X\n{sources}=== L\n{links}",
         row.setup, row.forecast, row.plan
     );
-    let script = script.expect(rt, "memory");
+    script.expect(rt, "memory")
+}
+
+// `run` with the files of a row and these links prints this report.
+fn runs_over(rt: &impl Host, row: &Run, links: &str, report: &str, status: u8) {
+    let script = script_of(rt, row, links);
     prints(rt, row.example, &[script.as_str()], report, status)
 }
 
@@ -177,6 +194,56 @@ fn runs_of_the_examples(rt: HostRuntime) {
     for row in &RUNS {
         runs(&rt, row);
     }
+}
+
+#[test]
+fn telecommands_are_not_stored(rt: HostRuntime) {
+    let script = script_of(&rt, &TELECOMMANDS, TELECOMMANDS.links);
+    let prints = TELECOMMANDS.prints;
+    answers(&rt, &[script.as_str()], prints, TELECOMMANDS_NOTED, 0);
+}
+
+// A writer that keeps how many bytes it had when it was flushed for the first time.
+#[derive(Drop)]
+struct Flushed {
+    written: Vec<u8>,
+    first: Option<usize>,
+}
+
+impl Write for Flushed {
+    fn write(&mut self, buf: &[u8]) -> io::Result<usize> {
+        self.written.write(buf)
+    }
+
+    fn flush(&mut self) -> io::Result<()> {
+        self.first = self.first.or(Some(self.written.len()));
+        Ok(())
+    }
+}
+
+// The plan of a flight is handed on whole, and nothing else, before the report is there.
+#[test]
+fn the_plan_is_handed_on_first(rt: HostRuntime) {
+    let sources = joined(&rt, FIRST_RUN.sources);
+    let front = [
+        "fly S F X L\n=== S\n",
+        SCI,
+        "=== F\n",
+        THREE_STEPS,
+        "=== X\n",
+    ];
+    let back = [sources.as_str(), "=== L\n", FIRST_RUN.links];
+    let (front, back) = (joined(&rt, &front), joined(&rt, &back));
+    let script = joined(&rt, &[front.as_str(), back.as_str()]);
+    let (written, mut err) = (Vec::new(rt.alloc()), Vec::new(rt.alloc()));
+    let mut out = Flushed {
+        written,
+        first: None,
+    };
+    let status = run_script(&rt, rt.alloc(), script.as_bytes(), &mut out, &mut err);
+    let is_first = out.first == Some(FIRST_PLAN.len());
+    let is_planned = out.written.starts_with(FIRST_PLAN.as_bytes());
+    assert!(&rt; status == 0 && is_first && is_planned && out.written.len() > FIRST_PLAN.len());
 }
 
 // `fly` for the files of a row but its plan, and these links, makes the plan: it is printed before the report.

@@ -1,17 +1,18 @@
 //! Hints: what the program says of a file that is refused, in a further line on standard error.
 
-use crate::tests::samples::{Answer, Host, holds, joined, told, told_bytes};
+use crate::tests::samples::{Answer, Host, holds, joined, replaced, told, told_bytes};
 
 // Setups that are refused, and what is found in each.
 static SETUP_HINTS: [(&str, &str); 18] = wanted! {
     "[[store]]\nid = \"A\"\nsize = 2,000\n"
-    => "line 3 is \"size = 2,000\"; numbers have no commas, and texts have quotes";
+    => "line 3 is \"size = 2,000\"; numbers have no commas";
     "[[store]]\nid = \"A\"\nsize 2000\n"
-    => "line 3 is \"size 2000\"; numbers have no commas, and texts have quotes";
+    => "line 3 is \"size 2000\"; write = between a key and its value";
     "store = 1\n" => "store is no array of tables; write [[store]] above each table";
     "stores = 1\n" => "the key \"stores\" is none of store, route and limit";
-    "[[store]]\nid = \"A\"\nsize = 4\ntype = \"bounded\"\nchannel = 0\n[[store]]\nid = \"B\"\nsize = 4\ntype = \"bounded\"\nchannel = 0\nsise = 4\n"
-    => "table 2 of store, \"B\", has the key \"sise\", which it cannot have";
+    "[[store]]\nid = \"A\"\nsize = 4\ntype = \"bounded\"\nchannel = 0\n[[store]]\nid = \"B\"\nsize = 4\ntype = \
+        \"bounded\"\nchannel = 0\nsise = 4\n"
+    => "table 2 of store, \"B\", has the key \"sise\", which is none of size, id, type, channel and start";
     "[[store]]\nid = \"A\"\nsize = 4\ntype = \"bounded\"\n"
     => "table 1 of store, \"A\", has no key channel";
     "[[store]]\nid = \"A\"\nsize = 4\ntype = \"bounded\"\nchannel = 0\n[[limit]]\nblocks = 4\n"
@@ -20,22 +21,27 @@ static SETUP_HINTS: [(&str, &str); 18] = wanted! {
     => "table 1 of store, \"A\", has no whole number as size; write it without quotes";
     "[[store]]\nid = 5\nsize = 4\ntype = \"bounded\"\nchannel = 0\n"
     => "table 1 of store has no text as id; write it in quotes";
-    "[[store]]\nid = \"A\"\nsize = 4\ntype = \"bounded\"\nchannel = 0\n[[store]]\nid = \"cam\"\nsize = 4\ntype = \"bounded\"\nchannel = 0\n"
+    "[[store]]\nid = \"A\"\nsize = 4\ntype = \"bounded\"\nchannel = 0\n[[store]]\nid = \"cam\"\nsize = 4\ntype = \
+        \"bounded\"\nchannel = 0\n"
     => "table 2 of store, \"cam\", has small letters in its id; write capital letters";
     "[[store]]\nid = \"CAM 1\"\nsize = 4\ntype = \"bounded\"\nchannel = 0\n"
     => "table 1 of store, \"CAM 1\", has \"CAM 1\" as id; 1 to 8 of the characters A-Z, 0-9, _ and - can be";
     "[[store]]\nid = \"A\"\nsize = 4\ntype = \"ring\"\nchannel = 0\n"
     => "table 1 of store, \"A\", has the type \"ring\"; \"circular\" and \"bounded\" can be";
-    "[[store]]\nid = \"A\"\nsize = 4\ntype = \"bounded\"\nchannel = 0\n[[route]]\napid = 100\nservice = 3\nsubtype = 25\nstore = \"B\"\n"
+    "[[store]]\nid = \"A\"\nsize = 4\ntype = \"bounded\"\nchannel = 0\n[[route]]\napid = 100\nservice = 3\nsubtype = \
+        25\nstore = \"B\"\n"
     => "table 1 of route names the store \"B\", which no table of store has";
-    "[[store]]\nid = \"A\"\nsize = 4\ntype = \"bounded\"\nchannel = 0\n[[store]]\nid = \"A\"\nsize = 4\ntype = \"bounded\"\nchannel = 0\n"
+    "[[store]]\nid = \"A\"\nsize = 4\ntype = \"bounded\"\nchannel = 0\n[[store]]\nid = \"A\"\nsize = 4\ntype = \
+        \"bounded\"\nchannel = 0\n"
     => "table 2 of store, \"A\", has the id of an earlier one; rename one of them";
-    "[[store]]\nid = \"A\"\nsize = 4\ntype = \"bounded\"\nchannel = 0\n[[route]]\napid = 100\nservice = 3\nsubtype = 25\nstore = \"A\"\n[[route]]\napid = 100\nservice = 3\nsubtype = 25\nstore = \"A\"\n"
+    "[[store]]\nid = \"A\"\nsize = 4\ntype = \"bounded\"\nchannel = 0\n[[route]]\napid = 100\nservice = 3\nsubtype = \
+        25\nstore = \"A\"\n[[route]]\napid = 100\nservice = 3\nsubtype = 25\nstore = \"A\"\n"
     => "table 2 of route is the same as an earlier one; leave one of them out";
     "[[store]]\nid = \"A\"\nsize = 4\ntype = \"bounded\"\nchannel = 0\nstart = 5\n"
     => "table 1 of store, \"A\", has start = 5; 0 to 4 can be";
     "[[store]]\nid = \"A\"\nsize = 2000000\ntype = \"bounded\"\nchannel = 0\n"
-    => "table 1 of store, \"A\", has size = 2000000; 1 to 1000000 can be";
+    => "table 1 of store, \"A\", has size = 2000000; 1 to 1000000 can be; a block is room for one packet; plan more in \
+        coarser units: docs/PLANNING.md, 'Limits of scale'";
     "[[store]]\nid = \"A\"\nsize = 4\ntype = \"bounded\"\nchannel = 0\n[[limit]]\nchannel = 8\nblocks = 4\n"
     => "table 1 of limit has channel = 8; 0 to 7 can be";
 };
@@ -53,7 +59,8 @@ static FORECAST_HINTS: [(&str, &str); 17] = wanted! {
     => "the header is \"step,window,a\", and \"step,window,A\" is expected";
     "" => "the header is \"\", and \"step,window,A\" is expected";
     "step,window,A,limit:8\n1,2,3,4\n"
-    => "the header is \"step,window,A,limit:8\", and \"step,window,A\" is expected, then limit:0 to limit:7 for limits, rising";
+    => "the header is \"step,window,A,limit:8\", and \"step,window,A\" is expected, then limit:0 to limit:7 for \
+        limits, rising";
     "step,window,A,limit:0\n1,2,3,4,5\n"
     => "row 1 is line 2 of the file, whose header is line 1; cells: 5 there, 4 in the header";
     "step,window,A,limit:0\n1,2,3,1000001\n"
@@ -105,7 +112,7 @@ static FLIGHT_HINTS: [(&str, &str); 9] = wanted! {
     "1 1 0864C000000E200319000000000000000000000000\n9 1 0864C000000E200319000000000000000000000000\n=== L\nlinks 1\n"
     => "line 2 is \"9 1 0864C000000E200319000000000000000000000000\"";
     "1 1 0864C000000E200319000000000000000000000000\n=== L\nlinks 1\nfail 2 1\n"
-    => "line 2 is \"fail 2 1\"";
+    => "line 2 names link 2, and line 1 says links 1; links are numbered from 1 to that number";
     "=== L\nlinks 1\n" => "the file of sources has 0 sources";
     "1 1 0864C000000E200319000000000000000000000000\n=== L\nlinks 5\n"
     => "the file of links says links 5";
@@ -126,16 +133,21 @@ static REQUEST_HINTS: [(&str, &str); 4] = wanted! {
 static OTHER_HINTS: [(&str, &str); 7] = wanted! {
     "check P S F\n=== S\n=== F\n=== P\nmmplan 1\nstores A\n"
     => "the files are in another order; name the setup first, then the forecast, then the plan";
-    "run S P F X L\n=== S\n[[store]]\nid = \"A\"\nsize = 4\ntype = \"bounded\"\nchannel = 0\n=== F\n=== P\nmmplan 2\nstores A\n=== X\n=== L\n"
+    "run S P F X L\n=== S\n[[store]]\nid = \"A\"\nsize = 4\ntype = \"bounded\"\nchannel = 0\n=== F\n=== P\nmmplan \
+        2\nstores A\n=== X\n=== L\n"
     => "the files are in another order; name the setup first, then the forecast, then the plan";
     "plan P F\n=== F\n=== P\nmmplan 1\nstores A\n"
-    => "line 1 is \"mmplan 1\"; numbers have no commas, and texts have quotes";
-    "plan S F\n=== S\nstep,window,A\n1,2,3\n2,2,3\n=== F\n[[store]]\nid = \"A\"\nsize = 4\ntype = \"bounded\"\nchannel = 0\n"
+    => "the file holds a plan text in place of a setup";
+    "plan S F\n=== S\nstep,window,A\n1,2,3\n2,2,3\n=== F\n[[store]]\nid = \"A\"\nsize = 4\ntype = \"bounded\"\nchannel \
+        = 0\n"
     => "the files are in another order; name the setup first, then the forecast";
     "plan S F\n=== S\n=== F\nstep\n" => "there is no table [[store]]";
-    "fly S F X L\n=== S\n[[store]]\nid = \"A\"\nsize = 4\ntype = \"bounded\"\nchannel = 0\nstart = 2\n[[route]]\napid = 100\nservice = 3\nsubtype = 25\nstore = \"A\"\n=== F\nstep,window,A\n1,2,3\n2,2,3\n=== X\n1 0 0864C000000E200319000000000000000000000000\n=== L\nlinks 1\n"
+    "fly S F X L\n=== S\n[[store]]\nid = \"A\"\nsize = 4\ntype = \"bounded\"\nchannel = 0\nstart = 2\n[[route]]\napid \
+        = 100\nservice = 3\nsubtype = 25\nstore = \"A\"\n=== F\nstep,window,A\n1,2,3\n2,2,3\n=== X\n1 0 \
+        0864C000000E200319000000000000000000000000\n=== L\nlinks 1\n"
     => "1 packets of step 0 go to \"A\", and its start is 2";
-    "fly S F X L\n=== S\n[[store]]\nid = \"A\"\nsize = 4\ntype = \"bounded\"\nchannel = 0\nstart = 2\n=== F\nstep,window,A\n1,2,3\n2,2,3\n=== X\n1 0 0864C000000E200319000000000000000000000000\n=== L\nlinks 1\n"
+    "fly S F X L\n=== S\n[[store]]\nid = \"A\"\nsize = 4\ntype = \"bounded\"\nchannel = 0\nstart = 2\n=== \
+        F\nstep,window,A\n1,2,3\n2,2,3\n=== X\n1 0 0864C000000E200319000000000000000000000000\n=== L\nlinks 1\n"
     => "no route of the setup leads to \"A\", so no packet can come to it";
 };
 
@@ -148,10 +160,12 @@ const BEFORE_FORECAST: &str =
     "plan S F\n=== S\n[[store]]\nid = \"A\"\nsize = 4\ntype = \"bounded\"\nchannel = 0\n=== F\n";
 
 const BEFORE_PLAN: &str =
-    "check S F P\n=== S\n[[store]]\nid = \"A\"\nsize = 4\ntype = \"bounded\"\nchannel = 0\n=== F\nstep,window,A\n1,2,3\n2,2,3\n=== P\n";
+    "check S F P\n=== S\n[[store]]\nid = \"A\"\nsize = 4\ntype = \"bounded\"\nchannel = 0\n=== \
+        F\nstep,window,A\n1,2,3\n2,2,3\n=== P\n";
 
 const BEFORE_PACKETS: &str =
-    "fly S F X L\n=== S\n[[store]]\nid = \"A\"\nsize = 4\ntype = \"bounded\"\nchannel = 0\n[[route]]\napid = 100\nservice = 3\nsubtype = 25\nstore = \"A\"\n=== F\nstep,window,A\n1,2,3\n2,2,3\n=== X\n";
+    "fly S F X L\n=== S\n[[store]]\nid = \"A\"\nsize = 4\ntype = \"bounded\"\nchannel = 0\n[[route]]\napid = \
+        100\nservice = 3\nsubtype = 25\nstore = \"A\"\n=== F\nstep,window,A\n1,2,3\n2,2,3\n=== X\n";
 
 const BEFORE_REQUESTS: &str =
     "ask S R\n=== S\n[[store]]\nid = \"A\"\nsize = 4\ntype = \"bounded\"\nchannel = 0\n=== R\n";
@@ -198,7 +212,7 @@ fn a_file_in_utf16_is_shown(rt: HostRuntime) {
 const NOTED: &str = "\
 note: the setup has a limit for channel 3, on which no store is
 note: no route of the setup leads to \"B\", so nothing arrives there
-note: no route takes APID 101, service 3, subtype 25, as line 2 of the sources has it; such packets go to no store
+note: 1 packet of the sources goes to no store, since no route takes it: APID 101, service 3, subtype 25 in line 2
 ";
 
 const UNUSED: &str = "fly S F X L
@@ -230,6 +244,38 @@ step,window,A,B
 === L
 links 1
 ";
+
+// Sources after the packet that UNUSED has for the store, and the last notes on them: how many packets go to no store,
+// and why.
+static UNSTORED: [(&str, &str); 3] = wanted! {
+    "1 1 0865C000000E200319000000000000000000000000\n1 1 0866C000000E200319000000000000000000000000\n"
+    => "note: 2 packets of the sources go to no store, since no route takes them; the first is APID 101, service 3, \
+        subtype 25 in line 2\n";
+    "1 0 1864C0000004200F160000\n1 2 0864C000000E200319000000000000000000000000\n"
+    => "note: 1 packet of the sources is a telecommand, which goes to no store\nnote: 1 packet of the sources is of a \
+        step after the last one, and is not recorded\n";
+    "1 1 1864C0000004200F160000\n1 1 1864C0000004200F160000\n1 2 1864C0000004200F160000\n1 3 \
+        0865C000000E200319000000000000000000000000\n"
+    => "note: 2 packets of the sources are telecommands, which go to no store\nnote: 2 packets of the sources are of \
+        steps after the last one, and are not recorded\n";
+};
+
+// The notes on a run with these sources too are the first two of NOTED and these.
+fn is_unstored(rt: &impl Host, sources: &str, notes: &str) {
+    let unrouted = "1 1 0865C000000E200319000000000000000000000000\n";
+    let script = replaced(rt, UNUSED, unrouted, sources);
+    let answer = told(rt, &[script.as_str()]);
+    let last = joined(rt, &["so nothing arrives there\n", notes]);
+    let is_noted = answer.status == 0 && answer.err.as_str().ends_with(last.as_str());
+    holds(rt, notes, &answer, is_noted);
+}
+
+#[test]
+fn packets_that_go_to_no_store_are_counted(rt: HostRuntime) {
+    for (sources, notes) in &UNSTORED {
+        is_unstored(&rt, sources, notes);
+    }
+}
 
 // A run with a limit, a store and a packet that have no effect, and what is said of them.
 #[test]

@@ -1,4 +1,5 @@
-//! Plans that serve the stores in the setup's order: what `plan` prints of them, and what the other commands say of their texts.
+//! Plans that serve the stores in the setup's order: what `plan` prints of them, and what the other commands say of
+//! their texts.
 
 use crate::tests::charting::is_document;
 use crate::tests::samples::{
@@ -6,7 +7,8 @@ use crate::tests::samples::{
     prints, replaced, told,
 };
 
-// Of the 3 + 2 blocks that come to A it holds 3, and the window of step 1 takes the other two. So it loses none, and B loses two.
+// Of the 3 + 2 blocks that come to A it holds 3, and the window of step 1 takes the other two. So it loses none, and B
+// loses two.
 const BEGINS: &str = "\
 mmplan 3
 stores A B
@@ -58,10 +60,10 @@ fn a_plan_in_order_of_one_store_has_no_part(rt: HostRuntime) {
 }
 
 // A flag that is not read as one.
-static MISPLACED: [&str; 9] = lines! {
+static MISPLACED: [&str; 8] = lines! {
     "plan S F --in-order", "plan S --in-order F", "plan S F --in-order --output X",
-    "plan --in-order --in-order S F", "plan --in-order=yes S F", "check --in-order S F P",
-    "chart --in-order S F P", "chart S F P --worth", "plan --worth S F"
+    "plan --in-order=yes S F", "check --in-order S F P", "chart --in-order S F P",
+    "chart S F P --worth", "plan --worth S F"
 };
 
 const STANDS_FIRST: &str = "\

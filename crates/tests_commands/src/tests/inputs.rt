@@ -74,13 +74,14 @@ fn inputs_that_fail_or_are_interrupted(rt: HostRuntime) {
 // Files of the system that are not read, and what is said of them.
 static OBSTACLES: [(&str, Obstacle, &str); 2] = wanted! {
     "no/such/file", Obstacle::Missing
-    => "no/such/file: expected a file of this name; check the name and its folder, or in a script the line === NAME above the file; standard input has the name /dev/stdin\n";
+    => "no/such/file: expected a file of this name; check the name and its folder, or in a script the line === NAME \
+        above the file; outside a script - is standard input\n";
     "/", Obstacle::Folder => "/: expected a file, and this is a folder; name a file in it\n";
 };
 
 // The file of this name is told as not read.
 fn is_unread(rt: &impl System, name: &str, obstacle: Obstacle, words: &str) {
-    let mut files = SystemFiles::new(rt.alloc(), rt);
+    let mut files = SystemFiles::new(rt.alloc(), rt, b"".as_slice());
     let read = files.read(rt.alloc(), name);
     let answer = answer_to(rt, &["plan", name, "nor/this/one"], &mut files);
     let is_told = answer.out.as_str().starts_with("refused 50 NotRead name ")

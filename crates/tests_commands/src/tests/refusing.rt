@@ -1,10 +1,10 @@
-//! What is said of the lines that are refused: of long made texts, beside a plain form of it that searches each line of the answer as text and
-//! seeks each hint from the front of the file; and where standard error does not take it.
+//! What is said of the lines that are refused: of long made texts, beside a plain form of it that searches each line of
+//! the answer as text and seeks each hint from the front of the file; and where standard error does not take it.
 
 use crate::tests::samples::{Answer, Host, SCI, holds, joined, told, told_bytes};
 use mm_base::Refusal;
 use mm_commands::run_script;
-use mm_told::{Words, refusal_numbered, request_hint};
+use mm_told::{Hint, RequestHints, Words, packets_hint, refusal_numbered, request_hint};
 use std::io::{self, ErrorKind, Write};
 
 // Texts, several a line.
@@ -14,7 +14,7 @@ macro_rules! pieces {
 
 // What made lines consist of.
 static PIECES: [&str; 20] = pieces! {
-    " ", " ", "refused", " refused ", "done", " done", "24", "49 HexLine", " 16 BadEnum", "3.1", "3.", ".", "+7", "54",
+    " ", " ", "refused", " refused ", "done", " done", "24", "49 HexLine", " 16 BadEnum", "3.1", "3.", ".", "+7", "55",
     "\u{e9}", "\r", "1864C0000004200F160007", "1864C0000004200F1600", "1 report 1864C0010004200F120007", ""
 };
 
@@ -45,7 +45,19 @@ fn refused(answer: &str) -> Option<(&str, Refusal)> {
     Some((place, refusal_numbered(number.parse().ok()?)?))
 }
 
-// What is said of a refused line, where the file has this name, what it is counted as, and the requests in which hints are sought are given.
+// What is found at a place of these requests, which is refused.
+fn hint_of(requests: &[u8], (place, refusal): (&str, Refusal)) -> Option<Hint> {
+    match place.split_once('.') {
+        Some((line, number)) => {
+            let (line, number) = (line.parse().ok()?, number.parse().ok()?);
+            RequestHints::new(requests).instruction_hint(refusal, line, number)
+        }
+        None => request_hint(refusal, requests, place.parse().ok()?),
+    }
+}
+
+// What is said of a refused line, where the file has this name, what it is counted as, and the requests in which hints
+// are sought are given.
 fn push_said(
     rt: &impl Host,
     said: &mut String,
@@ -53,24 +65,17 @@ fn push_said(
     (place, refusal): (&str, Refusal),
 ) {
     let words = Words::of(refusal);
-    let line = match place.split_once('.') {
-        Some((line, instruction)) => {
-            let told = writeln!(
+    let told = match place.split_once('.') {
+        Some((line, number)) => {
+            writeln!(
                 said,
-                "{name}, {counted} {line}, instruction {instruction}: {words}"
-            );
-            told.expect(rt, "memory");
-            line
+                "{name}, {counted} {line}, instruction {number}: {words}"
+            )
         }
-        None => {
-            writeln!(said, "{name}, {counted} {place}: {words}").expect(rt, "memory");
-            place
-        }
+        None => writeln!(said, "{name}, {counted} {place}: {words}"),
     };
-    let Ok(number) = line.parse() else {
-        return;
-    };
-    if let Some(hint) = request_hint(refusal, requests.as_bytes(), number) {
+    told.expect(rt, "memory");
+    if let Some(hint) = hint_of(requests.as_bytes(), (place, refusal)) {
         writeln!(said, "hint: {hint}").expect(rt, "memory");
     }
 }
@@ -78,7 +83,8 @@ fn push_said(
 // How many lines are said of each refusal.
 const MOST: u32 = 10;
 
-// What is said of the refused lines of the answer, as above: of each refusal the first ones, and then how many more there are.
+// What is said of the refused lines of the answer, as above: of each refusal the first ones, and then how many more
+// there are.
 fn all_said(rt: &impl Host, texts: [&str; 3], answer: &Answer) -> String {
     let (mut said, mut more) = (String::new(rt.alloc()), 0);
     let mut counts = [0u32; 256];
@@ -108,12 +114,27 @@ fn push_more(rt: &impl Host, said: &mut String, name: &str, more: u32) {
     }
 }
 
+// What is said of a whole file of packets, where a line of it is no packet.
+fn push_whole(rt: &impl Host, said: &mut String, packets: &str, answer: &str) {
+    for line in answer.lines() {
+        if let Some((_, Refusal::HexLine | Refusal::Short)) = refused(line) {
+            if let Some(hint) = packets_hint(packets.as_bytes()) {
+                writeln!(said, "hint: {hint}").expect(rt, "memory");
+            }
+            return;
+        }
+    }
+}
+
 // What the program says of this text of packets, in a file of this name, is what the plain form says.
 fn is_as_plain(rt: &impl Host, front: &str, name: &str, counted: &str, text: &str) {
     let script = joined(rt, &[front, "=== ", name, "\n", text]);
     let answer = told_bytes(rt, script.as_bytes());
     let requests = if counted == "line" { text } else { "" };
-    let said = all_said(rt, [name, counted, requests], &answer);
+    let mut said = all_said(rt, [name, counted, requests], &answer);
+    if counted == "packet" {
+        push_whole(rt, &mut said, text, answer.out.as_str());
+    }
     holds(rt, text, &answer, answer.err.as_str() == said.as_str());
 }
 
@@ -130,12 +151,15 @@ fn refused_lines_are_told_as_by_a_plain_form(rt: HostRuntime) {
     }
 }
 
-// Eleven lines that are no packet, an answer of another refusal, and a twelfth. What is said of the tenth, and after it.
+// Eleven lines that are no packet, an answer of another refusal, and a twelfth. What is said of the tenth, and after
+// it.
 const TWELVE: &str = "y\ny\ny\ny\ny\ny\ny\ny\ny\ny\ny\n1.1 refused 24 Exists\ny\n";
 
 const AFTER_NINE: &str = "\
-P, packet 10: expected one packet in hexadecimal digits, two for each octet, and nothing after it; write one packet a line, and compare its packet data length with its octets
-P, packet 1, instruction 1: expected an identifier that no store has yet; choose another identifier, or delete that store with subtype 21
+P, packet 10: expected one packet in hexadecimal digits, two for each octet, and nothing after it; write one packet a \
+    line, and compare its packet data length with its octets
+P, packet 1, instruction 1: expected an identifier that no store has yet; choose another identifier, or delete that \
+    store with subtype 21
 P: more of the same refusals: 2; standard output has them all
 ";
 
@@ -147,7 +171,8 @@ fn ten_lines_are_told_of_a_refusal(rt: HostRuntime) {
     holds(&rt, TWELVE, &answer, lines == 12 && is_told);
 }
 
-// An answer of `ask`, which `read` prints as it stands, with status 0. What is said of it, by the pieces that standard error takes.
+// An answer of `ask`, which `read` prints as it stands, with status 0. What is said of it, by the pieces that standard
+// error takes.
 const ANSWERED: &str = "read P\n=== P\n8.1 refused 18 Busy\n";
 
 static SAID: [&str; 13] = pieces! {
@@ -223,7 +248,8 @@ fn whole_pieces(at: usize) -> usize {
     whole
 }
 
-// A write that is refused, or of which nothing is taken, ends what is said, and the status is 1. Any other changes nothing.
+// A write that is refused, or of which nothing is taken, ends what is said, and the status is 1. Any other changes
+// nothing.
 fn is_said_as_far(rt: &impl Host, said: &[u8], turn: Turn, at: usize) {
     let alloc = rt.alloc();
     let mut out = Vec::new(alloc);

@@ -63,10 +63,15 @@ fn run(rt: &impl Host, system: &impl rt::Files, folder: &str, line: &str) -> Ans
         let word = replaced(rt, word, "@", folder);
         words.push(word).expect(rt, "memory");
     }
-    answer_to(rt, &words, &mut SystemFiles::new(rt.alloc(), system))
+    answer_to(
+        rt,
+        &words,
+        &mut SystemFiles::new(rt.alloc(), system, b"".as_slice()),
+    )
 }
 
-// Tasks whose text is stored, each with the file and with one that is not left over. A file that is not there yet is made.
+// Tasks whose text is stored, each with the file and with one that is not left over. A file that is not there yet is
+// made.
 static STORED: [(&str, &str, &str); 6] = [
     ("chart @/S @/F @/P", "OLD", "OLD.new1"),
     ("chart --worth @/S @/F @/P", "OLD", "OLD.new1"),
@@ -76,7 +81,8 @@ static STORED: [(&str, &str, &str); 6] = [
     ("plan @/S @/F", "OLD", "OLD.new1"),
 ];
 
-// The text of a task goes into the file as it is printed, and nothing is printed then. What an earlier run left over is passed over.
+// The text of a task goes into the file as it is printed, and nothing is printed then. What an earlier run left over is
+// passed over.
 fn stores(rt: &impl System, folder: &str, task: &str, file: &str, left_over: &str) {
     let printed = run(rt, rt, folder, task);
     let is_printed = printed.status == 0 && !printed.out.is_empty();
@@ -131,7 +137,8 @@ static UNSTORED: [Unstored; 3] = table! { Unstored;
 hint: the step is \"2\" in line 2 of the file, whose header is line 1; it is to be 1
 ";
     line "plan @/S @/F --output @", prints "",
-        says "mm_tool: @ could not be written, and is as it was: what has this name is no file, but a folder, a device or a link\n";
+        says "mm_tool: @ could not be written, and is as it was: what has this name is no file, but a folder, a device \
+            or a link\n";
     line "plan @/S @/F --output @/NONE/P", prints "",
         says "mm_tool: @/NONE/P could not be written, and is as it was: its folder is not there\n";
 };
@@ -236,10 +243,9 @@ fn scripts_store_nothing(rt: HostRuntime) {
 }
 
 // An output that is not read as one, and what is said of it.
-static MISPLACED: [&str; 8] = lines! {
+static MISPLACED: [&str; 7] = lines! {
     "plan --output X S F", "plan S F --output", "plan S F --output --help",
-    "plan S F --output X --output Y", "plan -- S F --output X", "plan S F --output=X",
-    "plan S F -o X", "chart S F P -oX"
+    "plan -- S F --output X", "plan S F --output=X", "plan S F -o X", "chart S F P -oX"
 };
 
 const STANDS_LAST: &str = "\

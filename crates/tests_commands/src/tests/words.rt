@@ -155,7 +155,7 @@ static NAMES: [(&str, &str); 4] = [
 
 // A file of this name is told as not read, in one line of standard output and one of standard error.
 fn is_shown(rt: &impl System, name: &str, shown: &str) {
-    let mut files = SystemFiles::new(rt.alloc(), rt);
+    let mut files = SystemFiles::new(rt.alloc(), rt, b"".as_slice());
     let answer = answer_to(rt, &["plan", name, "F"], &mut files);
     let line = joined(rt, &["refused 50 NotRead name ", shown, "\n"]);
     let front = joined(rt, &[shown, ": expected a file of this name; "]);

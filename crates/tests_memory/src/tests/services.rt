@@ -9,7 +9,8 @@ const PACKET: [u8; 21] = *b"\x08\x64\xC0\0\0\x0E\x20\x03\x19\0\0\0\0\0\0\0\0\0\0
 
 const MORE: [u8; 22] = *b"\x08\x64\xC0\0\0\x0E\x20\x03\x19\0\0\0\0\0\0\0\0\0\0\0\0\0";
 
-// Requests of APID 100: a retrieval from SCI of all times up to 255, storage into SCI off, and the status of each store.
+// Requests of APID 100: a retrieval from SCI of all times up to 255, storage into SCI off, and the status of each
+// store.
 const RETRIEVE: [u8; 36] =
     *b"\x18\x64\xC0\0\0\x1D\x20\x0F\x09\0\0\x01SCI     \0\0\0\0\0\0\0\0\0\0\0\0\0\0\0\xFF";
 
@@ -17,7 +18,12 @@ const DISABLE: [u8; 20] = *b"\x18\x64\xC0\0\0\x0D\x20\x0F\x02\0\0\x01SCI     ";
 
 const STATUS: [u8; 11] = *b"\x18\x64\xC0\0\0\x04\x20\x0F\x12\0\0";
 
-// The report on the last at moment 7: both stores have their storage on, and no retrieval.
+// The storage control of SCI three times, and a summary of what it holds.
+const CONTROLS: [u8; 36] = *b"\x18\x64\xC0\0\0\x1D\x20\x0F\x05\0\0\x03SCI     SCI     SCI     ";
+
+const SUMMARY: [u8; 20] = *b"\x18\x64\xC0\0\0\x0D\x20\x0F\x0C\0\0\x01SCI     ";
+
+// The report on the request of each status at moment 7: both stores have their storage on, and no retrieval.
 const STATUSES: [u8; 42] =
     *b"\x08\x64\xC0\0\0\x23\x20\x0F\x13\0\0\0\0\0\0\0\0\0\0\0\x07\x02SCI     \x01\0HK      \x01\0";
 
@@ -159,4 +165,41 @@ fn next_packets_of_no_store(rt: HostRuntime) {
         is_shown(&rt, &fault, text);
         holds(&rt, &buffer, b"");
     }
+}
+
+// The request is refused whole, so.
+fn is_refused(rt: &impl Host, service: &mut Service, request: &[u8], text: &str) {
+    let mut each = [9; INSTRUCTIONS];
+    let applied = service.apply(rt.alloc(), 7, request, &mut each);
+    let fault = applied.expect_err(rt, text);
+    is_shown(rt, &fault, text);
+    holds(rt, &each, b"");
+}
+
+// A report is given, and this many wait then.
+fn leaves(rt: &impl Host, service: &mut Service, count: usize) {
+    let mut buffer = [9; 43];
+    let told = service.report(rt.alloc(), &mut buffer);
+    assert!(rt; told.is_ok(), "{told:?}");
+    assert!(rt; service.waiting() == count, "{count}");
+}
+
+#[test]
+fn requests_whose_reports_pass_the_bound(rt: HostRuntime) {
+    let mut service = opened(&rt);
+    service.bound_waiting(Some(2));
+    is_refused(&rt, &mut service, &CONTROLS, "54 TooManyReports");
+    does(&rt, &mut service, &STATUS, 0);
+    does(&rt, &mut service, &SUMMARY, 1);
+    is_refused(&rt, &mut service, &STATUS, "54 TooManyReports");
+    // The octets are tested before the bound.
+    is_refused(&rt, &mut service, &STATUS[..10], "1 Short");
+    is_refused(&rt, &mut service, &CONTROLS[..20], "1 Short");
+    does(&rt, &mut service, &DISABLE, 1);
+    leaves(&rt, &mut service, 1);
+    does(&rt, &mut service, &STATUS, 0);
+    service.bound_waiting(Some(0));
+    is_refused(&rt, &mut service, &SUMMARY, "54 TooManyReports");
+    service.bound_waiting(None);
+    does(&rt, &mut service, &CONTROLS, 3);
 }

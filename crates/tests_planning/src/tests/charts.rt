@@ -22,6 +22,7 @@ mod pictures;
 mod samples;
 mod sizes;
 mod tables;
+mod worths;
 
 const LEAST: &str = "no plan loses fewer<";
 
@@ -41,7 +42,8 @@ pub(crate) static SHOWN: [&str; 15] = [
     "<path class='l' d='M372 160V150H468V160'/>",
     "<text class='s' x='172' y='188'>4, channel 0</text>",
     "<text class='r' x='476' y='174'>2 lost</text>",
-    "<text class='w' x='16' y='328'>10 &#8722; 4 &#8722; 4 &#8722; 0 = 2: at least that many blocks are lost, whatever is dumped.</text>",
+    "<text class='w' x='16' y='328'>10 &#8722; 4 &#8722; 4 &#8722; 0 = 2: at least that many blocks are lost, \
+    whatever is dumped.</text>",
     "<text class='w' x='16' y='388'>In steps 1&#8211;2, and only there, a wider window.</text>",
     "<text class='w' x='16' y='408'>No higher limit, and no other channel for a store.</text>",
     "<text class='w' x='16' y='448'>Larger stores, and only these: SCI</text>",
@@ -54,22 +56,26 @@ static BY_CHANNELS: [&str; 7] = [
     "<text class='s' x='172' y='169'>channel 0: 1 a step</text>",
     "<text class='w' x='16' y='318'>No open window counts.</text>",
     "<text class='w' x='16' y='338'>In step 1, at most 1 leave by the limits of the channels.</text>",
-    "<text class='w' x='16' y='358'>6 &#8722; 3 &#8722; 0 &#8722; 1 = 2: at least that many blocks are lost, whatever is dumped.</text>",
+    "<text class='w' x='16' y='358'>6 &#8722; 3 &#8722; 0 &#8722; 1 = 2: at least that many blocks are lost, \
+    whatever is dumped.</text>",
     "<text class='w' x='16' y='418'>No wider window.</text>",
 ];
 
 const LIMITED_STEPS_OF_A: &str = "step,window,A,limit:0\n1,5,3,1\n2,0,3,2\n";
 
-// The same where the limit is one of the step, and that of the next step is twice as high: 1 of 2 in a height of 18 is 9.
+// The same where the limit is one of the step, and that of the next step is twice as high: 1 of 2 in a height of 18 is
+// 9.
 static BY_LIMITS_OF_STEPS: [&str; 4] = [
     "<path class='c' d='M180 178V152H276V178V178'/>",
     "<path class='v' d='M180 174V165H276V174V174'/>",
-    "<text class='s' x='172' y='169'>channel 0: up to 2 a step</text>",
+    "<text class='s' x='172' y='169'>channel 0: up to 2</text>",
     "<text class='w' x='16' y='338'>In step 1, at most 1 leave by the limits of the channels.</text>",
 ];
 
 const THREE_SIZES: &str =
-    "[[store]]\nid = \"A\"\nsize = 3\ntype = \"bounded\"\nchannel = 0\n[[store]]\nid = \"B\"\nsize = 1000000\ntype = \"bounded\"\nchannel = 0\n[[store]]\nid = \"C\"\nsize = 4\ntype = \"bounded\"\nchannel = 1\n[[limit]]\nchannel = 1\nblocks = 2\n";
+    "[[store]]\nid = \"A\"\nsize = 3\ntype = \"bounded\"\nchannel = 0\n[[store]]\nid = \"B\"\nsize = 1000000\ntype = \
+    \"bounded\"\nchannel = 0\n[[store]]\nid = \"C\"\nsize = 4\ntype = \"bounded\"\nchannel = 1\n[[limit]]\nchannel = \
+    1\nblocks = 2\n";
 
 const ONE_COMES: &str = "step,window,A,B,C\n1,3,1,1,3\n2,0,0,0,0\n3,0,0,0,4\n";
 
@@ -77,8 +83,8 @@ const ONE_COMES: &str = "step,window,A,B,C\n1,3,1,1,3\n2,0,0,0,0\n3,0,0,0,4\n";
 const OVER_THE_LIMIT: &str =
     "mmplan 1\nstores A B C\ndump 1 0 0 3\ndump 2 0 0 0\ndump 3 0 0 0\nloss 0\nbound 0\nend\n";
 
-// Amounts in a height of 32 and one in a height of 18: 3 of a limit of 2 are 18; 1 of 3 is 11, since 32 / 3 is rounded up;
-// 1 of 1,000,000 is 1; 3 of 4 are 24, none is nothing, and 4 of 4 are 32.
+// Amounts in a height of 32 and one in a height of 18: 3 of a limit of 2 are 18; 1 of 3 is 11, since 32 / 3 is rounded
+// up; 1 of 1,000,000 is 1; 3 of 4 are 24, none is nothing, and 4 of 4 are 32.
 static SCALED: [&str; 4] = [
     "<path class='v' d='M180 174V156H276V174V174'/>",
     "<path class='g' d='M180 222V211H276H372H468V222'/>",
@@ -87,7 +93,8 @@ static SCALED: [&str; 4] = [
 ];
 
 const TWO_OF_SIZE_1: &str =
-    "[[store]]\nid = \"A\"\nsize = 1\ntype = \"bounded\"\nchannel = 0\n[[store]]\nid = \"B\"\nsize = 1\ntype = \"bounded\"\nchannel = 0\n";
+    "[[store]]\nid = \"A\"\nsize = 1\ntype = \"bounded\"\nchannel = 0\n[[store]]\nid = \"B\"\nsize = 1\ntype = \
+    \"bounded\"\nchannel = 0\n";
 
 const MORE_IN_A: &str = "step,window,A,B\n1,0,11,6\n2,0,1,0\n";
 
@@ -134,7 +141,8 @@ static FORGED: [(&str, &str); 6] = wanted! {
     "mmplan 1\nstores SCI\ndump 1 3\ndump 2 1\ndump 3 0\nloss 2\nstretch SCI 1 3\nbound 2\nend\n"
     => "<text class='a' x='16' y='30'>does not fit, step 1";
     "mmplan 1\nstores SCI\ndump 1 2\ndump 2 1\ndump 3 0\nloss 3\nstretch SCI 1 3\nbound 2\nend\n"
-    => "<text class='m' x='16' y='30'>3 of 10 blocks are lost; this cut shows only that no plan loses fewer than 2</text>";
+    => "<text class='m' x='16' y='30'>3 of 10 blocks are lost; this cut shows only that no plan loses fewer than \
+    2</text>";
 };
 
 // The styles of these headlines, in red.

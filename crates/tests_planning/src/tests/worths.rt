@@ -1,30 +1,36 @@
-//! What windows, sizes and limits are worth: by hand, beside all plans of tiny problems, and beside plans that are made anew.
+//! What windows, sizes and limits are worth: by hand, beside all plans of tiny problems, and beside plans that are made
+//! anew.
 use crate::tests::samples::{NAMES, Runtime, is_least, limited, made, next_below, row};
 use mm_planner::plan;
 use mm_problem::{LimitRow, MAX_BLOCKS, Problem, StoreRow};
 use mm_sensitivity::{Item, sensitivity_bytes, worths};
 
 const THREE_STORES: &str =
-    "[[store]]\nid = \"CAM\"\nsize = 4\ntype = \"bounded\"\nchannel = 0\n[[store]]\nid = \"SPEC\"\nsize = 3\ntype = \"bounded\"\nchannel = 1\n[[store]]\nid = \"HK\"\nsize = 2\ntype = \"bounded\"\nchannel = 0\n";
+    "[[store]]\nid = \"CAM\"\nsize = 4\ntype = \"bounded\"\nchannel = 0\n[[store]]\nid = \"SPEC\"\nsize = 3\ntype = \
+    \"bounded\"\nchannel = 1\n[[store]]\nid = \"HK\"\nsize = 2\ntype = \"bounded\"\nchannel = 0\n";
 
 const EIGHT_STEPS: &str =
     "step,window,CAM,SPEC,HK\n1,1,2,0,1\n2,1,3,1,0\n3,2,4,1,0\n4,6,0,1,1\n5,3,0,0,0\n6,0,0,2,0\n7,0,0,3,1\n8,5,0,0,0\n";
 
-// The least plan loses 5: of the 2 + 3 + 4 blocks that come to CAM in steps 1 to 3 the windows of steps 1 and 2 take 2, and it holds 4; of
-// the 2 + 3 that come to SPEC in steps 6 and 7 the window of step 6 takes none, and it holds 3. A window of step 2 that is larger by 3
-// saves the 3 of CAM. Then no cut counts it.
+// The least plan loses 5: of the 2 + 3 + 4 blocks that come to CAM in steps 1 to 3 the windows of steps 1 and 2 take 2,
+// and it holds 4; of the 2 + 3 that come to SPEC in steps 6 and 7 the window of step 6 takes none, and it holds 3. A
+// window of step 2 that is larger by 3 saves the 3 of CAM. Then no cut counts it.
 const WORTH_3_THEN_NOTHING: &str =
-    "item,name,step,now,next,most,without\nwindow,,1,1,1,1,1\nwindow,,2,1,1,3,1\nwindow,,3,2,0,0,0\nwindow,,4,6,0,0,0\nwindow,,5,3,0,0,0\nwindow,,6,0,1,2,0\nwindow,,7,0,0,0,0\nwindow,,8,5,0,0,0\nsize,CAM,,4,1,3,3\nsize,SPEC,,3,1,2,3\nsize,HK,,2,0,0,0\n";
+    "item,name,step,now,next,most,without\nwindow,,1,1,1,1,1\nwindow,,2,1,1,3,1\nwindow,,3,2,0,0,0\n\
+    window,,4,6,0,0,0\nwindow,,5,3,0,0,0\nwindow,,6,0,1,2,0\nwindow,,7,0,0,0,0\nwindow,,8,5,0,0,0\n\
+    size,CAM,,4,1,3,3\nsize,SPEC,,3,1,2,3\nsize,HK,,2,0,0,0\n";
 
-const ONE_STORE: &str =
+pub(crate) const ONE_STORE: &str =
     "[[store]]\nid = \"CAM\"\nsize = 4\ntype = \"bounded\"\nchannel = 0\n[[limit]]\nchannel = 0\nblocks = 5\n";
 
-const LIMITS_BY_STEP: &str = "step,window,CAM,limit:0\n1,3,6,2\n2,4,4,1\n";
+pub(crate) const LIMITS_BY_STEP: &str = "step,window,CAM,limit:0\n1,3,6,2\n2,4,4,1\n";
 
-// The least plan loses 4: of 6 blocks the store holds 4, step 1 sends 2, and of the 2 + 4 then it holds 4. With a limit of 3 in step 1 that
-// is 3, and its window lets no more through. Where step 1 sends nothing, it loses 2 + 4. What step 2 sends comes too late.
+// The least plan loses 4: of 6 blocks the store holds 4, step 1 sends 2, and of the 2 + 4 then it holds 4. With a limit
+// of 3 in step 1 that is 3, and its window lets no more through. Where step 1 sends nothing, it loses 2 + 4. What step
+// 2 sends comes too late.
 const WORTH_BY_STEP: &str =
-    "item,name,step,now,next,most,without\nwindow,,1,3,0,0,2\nwindow,,2,4,0,0,0\nsize,CAM,,4,1,4,4\nlimit,0,,5,0,0,2\nlimit,0,1,2,1,1,2\nlimit,0,2,1,0,0,0\n";
+    "item,name,step,now,next,most,without\nwindow,,1,3,0,0,2\nwindow,,2,4,0,0,0\nsize,CAM,,4,1,4,4\n\
+    limit,0,,5,0,0,2\nlimit,0,1,2,1,1,2\nlimit,0,2,1,0,0,0\n";
 
 static TABLES: [(&str, &str, &str, &str); 2] = wanted! {
     "a limit of a step is worth one block", ONE_STORE, LIMITS_BY_STEP => WORTH_BY_STEP;
@@ -110,7 +116,8 @@ impl Numbers {
         limited(rt, &problem, &self.limited, &self.step_limits)
     }
 
-    // The problem with another number in place of one. What a store begins with comes in the first step where it is smaller.
+    // The problem with another number in place of one. What a store begins with comes in the first step where it is
+    // smaller.
     fn with(&self, rt: &impl Runtime, item: Item, blocks: u32) -> Problem {
         let mut changed = self.clone().expect(rt, "memory");
         match item {
@@ -184,8 +191,8 @@ fn numbers_are_worth_what_plans_made_anew_lose(rt: HostRuntime) {
     }
 }
 
-// Each number is worth what the best of all plans loses fewer or more. Two stores hold no more than eight blocks, so a number that is
-// eight larger is as good as the largest.
+// Each number is worth what the best of all plans loses fewer or more. Two stores hold no more than eight blocks, so a
+// number that is eight larger is as good as the largest.
 fn is_worth_what_all_plans_lose(rt: &impl Runtime, numbers: &Numbers) {
     let problem = numbers.problem(rt);
     let least = least_loss(rt, &problem);

@@ -1,54 +1,89 @@
-//! The first packet that no route takes, of made sources, beside a plain form of it, which looks at the digits of each line.
+//! How many packets of made sources go to no store, and the first that no route takes, beside a plain form, which looks
+//! at the digits of each line; and by hand.
 
+use crate::tests::runs::trials::ONE_STORE;
 use mm_base::lines::{cut_word, first_line};
 use mm_problem::Setup;
-use mm_run::{RunTexts, Untaken, run_texts};
+use mm_run::{Given, RunTexts, Unstored, Untaken, run_texts};
+use std::alloc::Global;
 use std::ops::Range;
 use std::process::Abort;
 use std::str;
 use std::sync::Wait;
 use std::thread::Threads;
 
+// The last step of the forecasts here.
+const LAST: u32 = 2;
+
+// What is noted of the lines of sources.
+#[derive(Clone, Copy)]
+struct Noted {
+    unstored: Unstored,
+    untaken: Option<Untaken>,
+}
+
+const NOTHING: Unstored = Unstored {
+    late: 0,
+    telecommands: 0,
+    unrouted: 0,
+};
+
 // The digits at these places.
 fn digits_at(digits: &[u8], places: Range<usize>) -> Option<&str> {
     str::from_utf8(digits.get(places)?).ok()
 }
 
-// What is noted of the line of this number, if it has telemetry that no route takes.
-fn untaken(setup: &Setup, line: u64, text: &[u8]) -> Option<Untaken> {
-    let (_, rest) = cut_word(text)?;
-    let (_, digits) = cut_word(rest)?;
-    let front = u16::from_str_radix(digits_at(digits, 0..4)?, 16).ok()?;
-    let service = u8::from_str_radix(digits_at(digits, 14..16)?, 16).ok()?;
-    let subtype = u8::from_str_radix(digits_at(digits, 16..18)?, 16).ok()?;
-    let apid = front & 0x07FF;
-    if front & 0x1000 != 0 {
-        return None;
-    }
+// Whether a route takes telemetry of a report type.
+fn is_routed(setup: &Setup, found: &Untaken) -> bool {
     for route in setup.routes() {
-        if (route.apid, route.service, route.subtype) == (apid, service, subtype) {
-            return None;
+        if (route.apid, route.service, route.subtype)
+            == (found.apid, found.service, found.subtype)
+        {
+            return true;
         }
     }
-    Some(Untaken {
-        line,
-        apid,
-        service,
-        subtype,
-    })
+    false
 }
 
-// What is noted of the first line that no route takes.
-fn plain_untaken(setup: &Setup, sources: &[u8]) -> Option<Untaken> {
+// Notes the line of this number, where it has a packet.
+fn note(setup: &Setup, line: u64, text: &[u8], noted: &mut Noted) -> Option<()> {
+    let (_, rest) = cut_word(text)?;
+    let (step, digits) = cut_word(rest)?;
+    let step = u32::from_str_radix(str::from_utf8(step).ok()?, 10).ok()?;
+    let front = u16::from_str_radix(digits_at(digits, 0..4)?, 16).ok()?;
+    let found = Untaken {
+        line,
+        apid: front & 0x07FF,
+        service: u8::from_str_radix(digits_at(digits, 14..16)?, 16).ok()?,
+        subtype: u8::from_str_radix(digits_at(digits, 16..18)?, 16).ok()?,
+    };
+    let counted = &mut noted.unstored;
+    if step > LAST {
+        counted.late = counted.late.saturating_add(1);
+    } else if front & 0x1000 != 0 {
+        counted.telecommands = counted.telecommands.saturating_add(1);
+    } else if !is_routed(setup, &found) {
+        counted.unrouted = counted.unrouted.saturating_add(1);
+        noted.untaken = noted.untaken.or(Some(found));
+    }
+    Some(())
+}
+
+// What is noted of all lines.
+fn plain_noted(setup: &Setup, sources: &[u8]) -> Noted {
+    let mut noted = Noted {
+        unstored: NOTHING,
+        untaken: None,
+    };
     let mut rest = sources;
     for number in 1..u64::MAX {
-        let (line, after) = first_line(rest)?;
-        if let Some(untaken) = untaken(setup, number, line) {
-            return Some(untaken);
-        }
+        let Some((line, after)) = first_line(rest) else {
+            return noted;
+        };
+        let _packet = note(setup, number, line, &mut noted);
         rest = after;
     }
-    None
+    noted
 }
 
 // A setup with so many routes, four for each APID from 0 on.
@@ -90,7 +125,8 @@ impl Maker {
         (self.state >> 40) as usize % below.max(1)
     }
 
-    // Pushes a line with a packet of a report type, or with a telecommand. Four in so many lines are of a type beyond those of the routes.
+    // Pushes a line with a packet of a report type, or with a telecommand. Four in so many lines are of a type beyond
+    // those of the routes.
     fn push_line<R: Abort + AllocGlobal>(&mut self, rt: &R, text: &mut String, among: usize) {
         let route = self.next(self.routes);
         let (mut apid, mut service, mut subtype) = (route / 4, 3, route % 4);
@@ -115,8 +151,8 @@ impl Maker {
     }
 }
 
-// A forecast of one step, and links that no run takes.
-const FORECAST: &[u8] = b"step,window,A\n1,0,0\n";
+// A forecast of two steps, and links that no run takes.
+const FORECAST: &[u8] = b"step,window,A\n1,0,0\n2,0,0\n";
 
 const LINKS: &[u8] = b"links 0\n";
 
@@ -134,13 +170,26 @@ fn is_as_plain<R: Abort + AllocGlobal + Threads + Wait + Sync>(
         links: LINKS,
     };
     let printed = run_texts(rt, rt.alloc(), texts, None).expect(rt, "texts");
-    let told = printed.given.untaken;
-    let plain = plain_untaken(&read, sources);
-    assert!(rt; told == plain, "{told:?} for {plain:?}");
+    let Given {
+        unstored,
+        untaken,
+        ..
+    } = printed.given;
+    let plain = plain_noted(&read, sources);
+    assert!(rt;
+        untaken == plain.untaken,
+        "{untaken:?} for {:?}",
+        plain.untaken
+    );
+    assert!(rt;
+        unstored == plain.unstored,
+        "{unstored:?} for {:?}",
+        plain.unstored
+    );
 }
 
-// How many lines the sources have, and among how many of them four are strange. Where none is, a route takes each report type, and strange
-// lines follow.
+// How many lines the sources have, and among how many of them four are strange. Where none is, a route takes each
+// report type, and strange lines follow.
 const NONE: usize = 1 << 40;
 
 static SIZES: [(usize, usize); 11] = [
@@ -176,5 +225,50 @@ fn packets_that_no_route_takes_are_noted_as_by_a_plain_form(rt: HostRuntime) {
             }
             is_as_plain(&rt, setup.as_str(), text.as_bytes());
         }
+    }
+}
+
+// Lines of sources, how many of their packets are late, telecommands and without a route, and the line of the first
+// without one. The route takes APID 100, service 3, subtype 25.
+static BY_HAND: [(&str, [u64; 3], Option<u64>); 4] = wanted! {
+    "", [0, 0, 0] => None;
+    "1 0 0864C000000E200319000000000000000000000000\n\
+        1 2 0864C001000E200319000000000000000000000000\n", [0, 0, 0] => None;
+    "1 3 0864C000000E200319000000000000000000000000\n1 256 1864C0010004200F160000\n\
+        2 3 0864C000000E20031A000000000000000000000000\n", [3, 0, 0] => None;
+    "1 1 1864C0000004200F160000\n1 3 0864C000000E20031A000000000000000000000000\n\
+        1 2 0864C000000E20031A000000000000000000000000\n2 0 1864C0000004200F160000\n\
+        2 0 0865C000000E200319000000000000000000000000\n\
+        1 2 0864C001000E20031A000000000000000000000000\n", [1, 2, 3] => Some(3);
+};
+
+// What a run of the first setup is given, with a forecast of two steps.
+fn given_by<R: Abort + Threads + Wait + Sync>(rt: &R, alloc: Global, sources: &str) -> Given {
+    let texts = RunTexts {
+        setup: ONE_STORE.as_bytes(),
+        forecast: b"step,window,SCI\n1,0,0\n2,0,0\n",
+        sources: sources.as_bytes(),
+        links: LINKS,
+    };
+    run_texts(rt, alloc, texts, None).expect(rt, "texts").given
+}
+
+#[test]
+fn packets_that_go_to_no_store_are_counted_by_why(rt: HostRuntime) {
+    for (sources, counts, first) in &BY_HAND {
+        let given = given_by(&rt, rt.alloc(), *sources);
+        let Unstored {
+            late,
+            telecommands,
+            unrouted,
+        } = given.unstored;
+        assert!(rt;
+            [late, telecommands, unrouted] == *counts,
+            "the counts of {sources}"
+        );
+        assert!(rt;
+            given.untaken.map(|untaken| untaken.line) == *first,
+            "the first of {sources}"
+        );
     }
 }

@@ -4,6 +4,7 @@ mod allocations;
 mod crowds;
 mod flights;
 mod halts;
+mod octets;
 mod refusals;
 mod rows;
 mod standing;

@@ -11,9 +11,9 @@ macro_rules! names {
     (of $refusal:ident $name:literal) => { $name };
 }
 
-// Each refusal in the order of its number, from 0, by the tables of docs/FORMATS.md: five a line. It is printed with its own name, or with the
-// one beside it.
-static ALL: [(Refusal, &str); 54] = names! {
+// Each refusal in the order of its number, from 0, by the tables of docs/FORMATS.md: five a line. It is printed with
+// its own name, or with the one beside it.
+static ALL: [(Refusal, &str); 55] = names! {
     NoMemory, Short, Version, NoSecondaryHeader, PusVersion,
     Segmented, IdlePacket "Idle", HeaderCut, TooLong, HoldsMore,
     NoSuchRoute, TableFull, NotSt15, UnknownSubtype, CountMismatch,
@@ -24,7 +24,7 @@ static ALL: [(Refusal, &str); 54] = names! {
     Shape, Unbounded, SameEnds, PlanShape, NotReady,
     SizeDiffers, OpeningDiffers, ClockTooLate, PlanDoesNotFit, Counts,
     NoMemoryInStep "NoMemory", LinkFailed, LogMismatch, BadSize, HexLine,
-    NotRead, SourcesText, LinksText, ChannelDiffers
+    NotRead, SourcesText, LinksText, ChannelDiffers, TooManyReports
 };
 
 #[test]
@@ -65,7 +65,7 @@ fn each_refusal_has_words_of_its_own(rt: HostRuntime) {
         let found = Words::of_number(refusal.number());
         assert!(rt; found == Some(words), "{refusal}");
     }
-    assert!(rt; Words::of_number(54).is_none(), "a number of no refusal");
+    assert!(rt; Words::of_number(55).is_none(), "a number of no refusal");
 }
 
 static FINDINGS: [Verdict; 7] = [
@@ -101,12 +101,32 @@ fn findings_have_words_of_their_own(rt: HostRuntime) {
     }
 }
 
+// A number of the plan that is another may be one of another setup or forecast: nobody is told to write the number
+// that fits.
+static OF_OTHER_TEXTS: [(Verdict, &str); 2] = wanted! {
+    Verdict::LossIs(2)
+    => "expected the loss that the plan has, which is the number printed; take the setup and the forecast that it \
+        was planned for; if dumps were changed, plan again";
+    Verdict::BoundIs(-5)
+    => "expected the bound that the cut has, which is the number printed; take the setup and the forecast that it \
+        was planned for, or plan again";
+};
+
+#[test]
+fn a_plan_of_other_texts_is_told(rt: HostRuntime) {
+    for (verdict, text) in &OF_OTHER_TEXTS {
+        is_shown(&rt, &words_of(&rt, *verdict), text);
+    }
+}
+
 static SHOWN: [(Refusal, &str); 3] = wanted! {
     Refusal::Cell
-    => "expected a whole number of at most 1,000,000, without sign or leading zeros; write plain digits, without spaces";
+    => "expected a whole number of at most 1,000,000, without sign or leading zeros; write plain digits, without \
+        spaces";
     Refusal::NoRetrieval => "expected a store with a retrieval on; begin a retrieval with subtype 9";
     Refusal::Shape
-    => "expected a plan for the stores and the steps of this setup and this forecast; take the plan that was made from them";
+    => "expected a plan for the stores and the steps of this setup and this forecast; take the plan that was made \
+        from them";
 };
 
 #[test]

@@ -6,9 +6,11 @@ returns-clause-does g c =
     code-done _ _ _ _ _ c.run_words-run.result _ c.end.ensures.code c.end.ensures.failed c.run_words-run.ensures.does
 
 pub returns-clause-taken : goal.returns-clause-taken
-returns-clause-taken g c line =
-    code-taken c.run_words-run.result _ c.end.ensures.code c.end.ensures.failed (c.run_words-run.ensures.taken line)
+returns-clause-taken g c line once =
+    code-taken c.run_words-run.result _ c.end.ensures.code c.end.ensures.failed
+    (c.run_words-run.ensures.taken line once)
 
 pub returns-clause-kept : goal.returns-clause-kept
 returns-clause-kept g c other =
-    code-kept _ _ _ _ _ c.run_words-run.result _ c.end.ensures.code c.run_words-run.ensures.kept c.run_words-run.ensures.does other
+    code-kept _ _ _ _ _ c.run_words-run.result _ c.end.ensures.code c.run_words-run.ensures.kept
+    c.run_words-run.ensures.does other

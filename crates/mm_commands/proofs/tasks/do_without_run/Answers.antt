@@ -1,5 +1,5 @@
 use Rattle.std.proofs.Common.{subst}
-use Rattle.mm_commands.specs.Contents.{WereRead, seen}
+use Rattle.mm_commands.specs.Contents.{WereRead}
 use Rattle.mm_commands.specs.Reading.{readings_of}
 use Rattle.mm_commands.proofs.tasks.do_without_run.Goals as goal
 
@@ -8,5 +8,6 @@ returns-in-Ok-clause-prints g c =
     let contents = g.F.Files.content c.args.files.now in
     let before = g.F.Files.readings c.args.files.now in
     let after = g.F.Files.readings c.read.new.files in
-    let read = subst (λ names. WereRead contents before after (readings_of names c.in-Ok.texts)) c.names.ensures c.in-Ok.ensures.read in
-    c.conclude.ensures.prints (seen contents before) c.in-Ok.ensures.stays read
+    let read = subst (λ names. WereRead contents before after (readings_of names c.in-Ok.texts)) c.names.ensures
+    c.in-Ok.ensures.read in
+    c.conclude.ensures.prints contents before c.in-Ok.ensures.stays read

@@ -1,8 +1,6 @@
 use Rattle.std.proofs.Common.{◌+◌, ◌-◌, ◌*◌, length}
 use Rattle.mm_base.specs.declared.limits.TheConstants.{MAX_STORES}
-use Rattle.mm_plan.specs.Table.{amount, HasShape}
-use Rattle.mm_exhaustive.specs.Plans.{AgreesBefore}
-use Rattle.mm_exhaustive.proofs.Tried.{NoneUpTo}
+use Rattle.mm_plan.specs.Table.{HasShape}
 use Rattle.mm_exhaustive.proofs.trying.+try_from.Given as goal
 
 -- the places that are left, with one more for each step
@@ -10,8 +8,4 @@ abbrev pub decreases-try_from : goal.decreases-try_from
 decreases-try_from l = (length l.problem.now.windows + 1 - l.step) * (MAX_STORES + 1) + (MAX_STORES - l.store)
 
 abbrev pub invariant-loop-blocks : goal.invariant-loop-blocks
-invariant-loop-blocks l = record {
-  shape : HasShape l.problem l.plan;
-  same : AgreesBefore l.problem (amount l.fn.plan) (amount l.plan) l.step l.store;
-  tried : NoneUpTo l.problem (amount l.fn.plan) l.step l.store l.blocks l.most;
-}
+invariant-loop-blocks l = HasShape l.problem l.plan

@@ -1,8 +1,6 @@
 use Rattle.std.proofs.Common.{sym, subst}
-use Rattle.mm_base.specs.declared.limits.TheConstants.{MAX_BLOCKS}
 use Rattle.mm_sensitivity.specs.Items.{next_number, with_number}
-use Rattle.mm_sensitivity.specs.Worth.{Saves}
-use Rattle.mm_sensitivity.proofs.Found.{saves}
+use Rattle.mm_sensitivity.specs.Worth.{IsSaved}
 use Rattle.mm_sensitivity.proofs.worth.worth_of.Goals as goal
 
 pub returns-clause-worth : goal.returns-clause-worth
@@ -12,7 +10,8 @@ returns-clause-worth c =
     record {
       item = c.requires.item;
       now = c.number-now.ensures.number;
-      next = subst (λ n. Saves q (with_number q i (next_number n)) c.in_ok-next.next) (sym c.number-now.ensures.number) c.in_ok-next.ensures;
-      most = saves q (with_number q i MAX_BLOCKS) c.in_ok-most.most c.in_ok-most.ensures;
+      next = subst (λ n. IsSaved q (with_number q i (next_number n)) c.in_ok-next.next)
+          (sym c.number-now.ensures.number) c.in_ok-next.ensures;
+      most = c.in_ok-most.ensures.saved;
       without = c.in_ok-without.ensures;
     }

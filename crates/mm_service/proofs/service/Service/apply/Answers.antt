@@ -1,11 +1,15 @@
-use Rattle.std.proofs.Common.{rules, ◌≡◌, length, ap, arith}
+use Rattle.std.proofs.Common.{rules, ◌≡◌, length, sym, ap, arith}
+use Rattle.std.specs.Prelude.{Ok}
 use Rattle.mm_memory.specs.Instruction.{instructions_of}
 use Rattle.mm_memory.specs.Reports.{reports_on}
+use Rattle.mm_service.specs.declared.fault.Fault.TheVariants.{TooManyReports}
 use Rattle.mm_service.specs.Applying.{Applies}
+use Rattle.mm_service.specs.Reading.{request_of}
 use Rattle.mm_service.specs.Queue.{queue_of, with_reports}
 use Rattle.mm_service.specs.Serving.{Serving}
 use Rattle.mm_service.specs.contracts.service.Service.{the_view}
-use Rattle.mm_service.proofs.BoundLemmas.{keeps_bound}
+use Rattle.mm_service.proofs.BoundLemmas.{keeps_bound, not_beyond}
+use Rattle.mm_service.proofs.SpellingLemmas.{no_value}
 use Rattle.mm_service.proofs.ReportLemmas.{as_many_answers, few_instructions, few_reports}
 use Rattle.mm_service.proofs.service.Service.apply.Goals as goal
 
@@ -27,14 +31,22 @@ returns-clause-applied c =
     let asked = c.in_ok-asked.asked.packet in
     let request = c.in_ok-asked.asked.request in
     let s = c.args.self.now in
-    let t : Serving = the_view (record { memory = c.apply.new.self; counters = c.wait_for_all.new.counters; waiting = c.wait_for_all.new.waiting; bound = c.self.inside.bound }) in
-    let waits : queue_of t.counts t.waiting ≡ with_reports asked (reports_on request c.args.now s.memory) (queue_of s.counts s.waiting) = search rules in
-    let applied : Applies c.args.packet.now c.args.now s t c.len-count.result c.args.each.now c.tell_answers.new.out = record {
+    let t : Serving = the_view (record {
+      memory = c.apply.new.self;
+      counters = c.wait_for_all.new.counters;
+      waiting = c.wait_for_all.new.waiting;
+      bound = c.self.inside.bound;
+    }) in
+    let reports = reports_on request c.args.now s.memory in
+    let waits : queue_of t.counts t.waiting ≡ with_reports asked reports (queue_of s.counts s.waiting) = search rules in
+    let told = c.tell_answers.new.out in
+    let applied : Applies c.args.packet.now c.args.now s t c.len-count.result c.args.each.now told = record {
       asked = asked;
       asks = search rules;
       request = request;
       is_request = c.in_ok-asked.ensures.spelled.0;
       spelled = c.in_ok-asked.ensures.spelled.1;
+      admitted = c.in_ok-admit.ensures.may;
       answers = c.in_ok-answers.answers.each.items;
       each = search rules;
       count_is = search rules;
@@ -44,3 +56,14 @@ returns-clause-applied c =
       bound = search rules;
     } in
     applied
+
+pub returns-clause-bound : goal.returns-clause-bound
+returns-clause-bound c =
+    let asked = c.in_ok-asked.asked in
+    let asks : request_of c.args.packet.now ≡ Ok asked.packet = search rules in
+    let spelled = c.in_ok-asked.ensures.spelled in
+    λ apart. (
+      λ same. absurd (no_value TooManyReports c.len-count.result (sym same)),
+      λ passes. absurd (not_beyond c.args.packet.now c.args.self.now asked.packet asked.request asks
+          spelled.0 spelled.1 c.in_ok-admit.ensures.may passes),
+    )

@@ -1,0 +1,15 @@
+/* The memory of the machine `virt` begins at 0x40000000. */
+ENTRY(start)
+PHDRS {
+    code PT_LOAD FLAGS(5);
+    data PT_LOAD FLAGS(6);
+}
+SECTIONS {
+    . = 0x40080000;
+    .text : { *(.text.start) *(.text*) } :code
+    .rodata : { *(.rodata*) *(.srodata*) } :code
+    .data : ALIGN(4096) { *(.data*) *(.sdata*) *(.got*) } :data
+    .bss (NOLOAD) : ALIGN(16) { zeros = .; *(.bss*) *(.sbss*) *(COMMON) . = ALIGN(16); zeros_end = .; } :data
+    .stack (NOLOAD) : ALIGN(16) { stack = .; . += 262144; stack_end = .; } :data
+    /DISCARD/ : { *(.note*) *(.comment) *(.eh_frame*) }
+}

@@ -1,0 +1,255 @@
+/* Measures each call on a memory: how many instructions it takes, and how deep its stack is. Memories of 1 and of 16
+ * stores have 10, 1,000 and 1,000,000 blocks in all; they are empty, and full. bindings/c/measure_bounds builds this
+ * for each processor, runs it, and prints a table.
+ *
+ * A machine of bindings/c/bare counts instructions itself. With `-DHOSTED` callgrind counts them, for whom each call
+ * is marked. */
+#include "../bare/machine.h"
+#include <rudlayog.h>
+
+#define TEXT(text) (const uint8_t *)(text), sizeof(text) - 1
+
+enum { MOST_STORES = 16, PACKET = 64, DEEPEST = 131072 };
+
+static struct rudlayog_memory memory = RUDLAYOG_MEMORY_CLOSED;
+static struct rudlayog_answer answer;
+static uint8_t out[RUDLAYOG_PACKET], request[RUDLAYOG_REQUEST_ROOM];
+static size_t request_length;
+static uint64_t now;
+static uint32_t stores, blocks;
+static bool is_full;
+static const char *name;
+
+/* Telemetry that is routed to the last store, and telemetry that is routed to all. */
+static const uint8_t to_one[PACKET] = {0x08, 1, 0xC0, 0, 0, PACKET - 7, 0x20, 3, 25};
+static const uint8_t to_all[PACKET] = {0x08, 2, 0xC0, 0, 0, PACKET - 7, 0x20, 3, 25};
+
+static void write_text(const char *text) {
+    while (*text != 0) {
+        machine_write(*text++);
+    }
+}
+
+static void write_number(uint64_t number) {
+    char digits[20];
+    int count = 0;
+    do {
+        digits[count++] = (char)('0' + number % 10);
+        number /= 10;
+    } while (number != 0);
+    for (machine_write(' '); count > 0;) {
+        machine_write(digits[--count]);
+    }
+}
+
+/* Makes a call, and writes its line: the memory, the state, the call, the instructions and the stack. */
+static void measure(void (*call)(void)) {
+    uint64_t instructions, stack;
+    machine_measure(call, name, &instructions, &stack);
+    write_text("bound");
+    write_number(stores);
+    write_number(blocks);
+    write_text(is_full ? " full " : " empty ");
+    write_text(name);
+    write_number(instructions);
+    write_number(stack);
+    if (answer.status == RUDLAYOG_REFUSED || answer.status > RUDLAYOG_END) {
+        write_text(" refused");
+        write_number(answer.refused.number);
+    }
+    machine_write('\n');
+}
+
+/* Room for the rows of 16 stores and 32 routes. */
+static char setup[4096];
+static size_t setup_length;
+
+static void put(const char *text) {
+    while (*text != 0) {
+        setup[setup_length++] = *text++;
+    }
+}
+
+static void put_number(uint32_t number) {
+    if (number >= 10) {
+        put_number(number / 10);
+    }
+    setup[setup_length++] = (char)('0' + number % 10);
+}
+
+static void put_id(uint32_t store) {
+    const char id[] = {'"', (char)('A' + store), '"', '\n', 0};
+    put(id);
+}
+
+static void put_route(uint32_t apid, uint32_t store) {
+    put("[[route]]\napid = ");
+    put_number(apid);
+    put("\nservice = 3\nsubtype = 25\nstore = ");
+    put_id(store);
+}
+
+/* The last store is circular and is retrieved from; the others are bounded and circular in turn. */
+static void make_setup(void) {
+    setup_length = 0;
+    for (uint32_t store = 0; store < stores; store++) {
+        put("[[store]]\nid = ");
+        put_id(store);
+        put("size = ");
+        put_number(blocks / stores != 0 ? blocks / stores : 1);
+        put((stores - store) % 2 != 0 ? "\ntype = \"circular\"" : "\ntype = \"bounded\"");
+        put("\nchannel = 1\n");
+    }
+    for (uint32_t store = 0; store < stores; store++) {
+        put_route(2, store);
+    }
+    put_route(1, stores - 1);
+}
+
+static uint8_t last_id(void) { return (uint8_t)('A' + stores - 1); }
+
+static void call_open(void) { rudlayog_memory_open(&memory, (const uint8_t *)setup, setup_length, &answer); }
+
+static void call_close(void) { rudlayog_memory_close(&memory); }
+
+static void call_record(void) {
+    struct rudlayog_tally tally;
+    rudlayog_memory_record(&memory, ++now, to_one, sizeof to_one, &tally, &answer);
+}
+
+static void call_record_all(void) {
+    struct rudlayog_tally tally;
+    rudlayog_memory_record(&memory, ++now, to_all, sizeof to_all, &tally, &answer);
+}
+
+static void call_offer(void) {
+    struct rudlayog_fate fate;
+    const uint8_t id = last_id();
+    rudlayog_memory_offer(&memory, &id, 1, ++now, to_one, sizeof to_one, &fate, &answer);
+}
+
+static void call_next(void) {
+    uint64_t time;
+    const uint8_t id = last_id();
+    rudlayog_memory_next(&memory, &id, 1, out, sizeof out, &time, &answer);
+}
+
+static void call_state(void) {
+    struct rudlayog_state state;
+    const uint8_t id = last_id();
+    rudlayog_memory_state(&memory, &id, 1, &state, &answer);
+}
+
+static void call_waiting(void) {
+    uint64_t reports;
+    rudlayog_memory_waiting(&memory, &reports, &answer);
+}
+
+static void call_bound(void) { rudlayog_memory_bound(&memory, 300, &answer); }
+
+static void call_report(void) { rudlayog_memory_report(&memory, out, sizeof out, &answer); }
+
+static void call_apply(void) { rudlayog_memory_apply(&memory, now, request, request_length, out, sizeof out, &answer); }
+
+/* Measures a request with this many instructions, all alike. */
+static void measure_request(const char *called, uint8_t subtype, size_t count, struct rudlayog_instruction fields) {
+    const struct rudlayog_request head = {.apid = 1, .subtype = subtype};
+    struct rudlayog_answer written;
+    static struct rudlayog_instruction instructions[RUDLAYOG_INSTRUCTIONS];
+    for (size_t k = 0; k < count; k++) {
+        instructions[k] = fields;
+    }
+    rudlayog_request_write(&head, instructions, count, request, sizeof request, &written);
+    request_length = written.length;
+    name = called;
+    measure(call_apply);
+}
+
+static void measure_one(const char *called, void (*call)(void)) {
+    name = called;
+    measure(call);
+}
+
+/* With short packets, which take less time to be made. */
+static void fill(void) {
+    const uint32_t each = blocks / stores != 0 ? blocks / stores : 1;
+    for (uint32_t k = 0; is_full && k < each; k++) {
+        struct rudlayog_tally tally;
+        static const uint8_t packet[21] = {0x08, 2, 0xC0, 0, 0, 14, 0x20, 3, 25};
+        rudlayog_memory_record(&memory, ++now, packet, sizeof packet, &tally, &answer);
+    }
+}
+
+static void open_again(void) {
+    call_close();
+    call_open();
+    fill();
+}
+
+static void measure_requests(void) {
+    struct rudlayog_instruction of_last = {.id = {last_id()}, .to = UINT64_MAX, .apid = 9, .service = 3, .subtype = 25};
+    of_last.size = blocks / stores != 0 ? blocks / stores : 1;
+    measure_request("start-retrieval", RUDLAYOG_START_RETRIEVAL, 1, of_last);
+    measure_one("next", call_next);
+    measure_request("abort-retrieval", RUDLAYOG_ABORT_RETRIEVAL, 1, of_last);
+    measure_request("add-report-type", RUDLAYOG_ADD_REPORT_TYPES, 1, of_last);
+    measure_request("delete-report-type", RUDLAYOG_DELETE_REPORT_TYPES, 1, of_last);
+    measure_request("report-control", RUDLAYOG_REPORT_CONTROL, 1, of_last);
+    measure_one("report", call_report);
+    measure_request("summarise-content", RUDLAYOG_SUMMARISE_CONTENT, 1, of_last);
+    measure_one("report", call_report);
+    measure_request("report-status", RUDLAYOG_REPORT_STATUS, 0, of_last);
+    measure_one("report", call_report);
+    measure_request("report-configuration", RUDLAYOG_REPORT_CONFIGURATION, 0, of_last);
+    measure_one("report", call_report);
+    measure_request("255-summaries", RUDLAYOG_SUMMARISE_CONTENT, RUDLAYOG_INSTRUCTIONS, of_last);
+    measure_one("report", call_report);
+    measure_request("disable-storage", RUDLAYOG_DISABLE_STORAGE, 1, of_last);
+    measure_request("255-enable-storage", RUDLAYOG_ENABLE_STORAGE, RUDLAYOG_INSTRUCTIONS, of_last);
+    measure_request("disable-storage", RUDLAYOG_DISABLE_STORAGE, 1, of_last);
+    measure_request("change-channel", RUDLAYOG_CHANGE_CHANNEL, 1, of_last);
+    measure_request("change-to-bounded", RUDLAYOG_CHANGE_TO_BOUNDED, 1, of_last);
+    measure_request("change-to-circular", RUDLAYOG_CHANGE_TO_CIRCULAR, 1, of_last);
+    measure_request("resize-store", RUDLAYOG_RESIZE_STORES, 1, of_last);
+    measure_request("delete-content", RUDLAYOG_DELETE_CONTENT, 1, of_last);
+}
+
+/* A store is deleted with all that it holds, and another one is made. */
+static void measure_stores(void) {
+    const struct rudlayog_instruction of_last = {.id = {last_id()}};
+    const struct rudlayog_instruction other = {.id = "NEW", .size = 10, .channel = 1};
+    measure_request("disable-storage", RUDLAYOG_DISABLE_STORAGE, 1, of_last);
+    measure_request("delete-store", RUDLAYOG_DELETE_STORES, 1, of_last);
+    measure_request("create-store", RUDLAYOG_CREATE_STORES, 1, other);
+}
+
+static void measure_memory(void) {
+    make_setup();
+    measure_one("open", call_open);
+    fill();
+    measure_one("record", call_record);
+    measure_one("record-to-all", call_record_all);
+    measure_one("offer", call_offer);
+    measure_one("state", call_state);
+    measure_one("waiting", call_waiting);
+    measure_one("bound", call_bound);
+    measure_requests();
+    open_again();
+    measure_stores();
+    open_again();
+    measure_one("close", call_close);
+}
+
+int main(void) {
+    static const uint32_t sizes[] = {10, 1000, 1000000};
+    for (stores = 1; stores <= MOST_STORES; stores += MOST_STORES - 1) {
+        for (int k = 0; k < 3; k++) {
+            blocks = sizes[k];
+            is_full = false;
+            measure_memory();
+            is_full = true;
+            measure_memory();
+        }
+    }
+    return 0;
+}

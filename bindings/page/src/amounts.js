@@ -1,0 +1,51 @@
+// Amounts as they are shown and typed: in blocks, or in MB and kbit/s where that is wanted. The texts have blocks
+// alone.
+import { minutesOf } from "./clock.js";
+import { missionOf, unitOf } from "./passes.js";
+import { digits } from "./texts.js";
+
+const MEGA = 1_000_000, BLOCK = 1024, DECIMALS = /^\d+(\.\d+)?$/;
+const short = value => value.toLocaleString("en", { maximumFractionDigits: value < 10 ? 3 : value < 1000 ? 2 : 1 });
+
+// The octets of a block of a store, or of one on a link.
+function octetsOf(session, id) {
+  const unit = unitOf(session);
+  return unit ? Number(unit.octets.get(id) ?? unit.link) : session.packet;
+}
+
+// The octets of memory that a block of a store takes.
+const roomOf = (session, id) =>
+  (missionOf(session)?.block ?? BLOCK) * Number(unitOf(session)?.packets.get(id) ?? 1);
+
+const sumIn = pairs => pairs.reduce((sum, [, blocks]) => sum + blocks, 0);
+const IN_BLOCKS = {
+  unit: "blocks", flow: "blocks", volume: (_, blocks) => digits(blocks), size: (_, blocks) => digits(blocks),
+  rate: (_, blocks) => digits(blocks), total: pairs => digits(sumIn(pairs)), totalRate: pairs => digits(sumIn(pairs)),
+};
+
+// Of a session: how a volume in a store, its size, and what flows in a step are shown, and the totals of stores, which
+// are given as pairs of an identifier and blocks.
+export function amountsOf(session) {
+  if (session.isInBlocks) return IN_BLOCKS;
+  const octets = pairs => pairs.reduce((sum, [id, blocks]) => sum + blocks * octetsOf(session, id), 0);
+  const flow = (count, step) => short((8 * count) / (minutesOf(session, step) * 60_000));
+  return {
+    unit: "MB",
+    flow: "kbit/s",
+    volume: (id, blocks) => short((blocks * octetsOf(session, id)) / MEGA),
+    size: (id, blocks) => short((blocks * roomOf(session, id)) / MEGA),
+    rate: (id, blocks, step) => flow(blocks * octetsOf(session, id), step),
+    total: pairs => short(octets(pairs) / MEGA),
+    totalRate: (pairs, step) => flow(octets(pairs), step),
+  };
+}
+
+// What is typed as the size of a store, what it holds, or what flows in a step, in blocks: as text, which stays as it
+// is where it is no number. Sizes and windows fall to whole blocks, and what is held or arrives rises.
+export function blocksTyped(session, typed, { id, key, step }) {
+  const plain = typed.trim().replaceAll(",", "");
+  if (session.isInBlocks || !DECIMALS.test(plain)) return typed;
+  const value = Number(plain), octets = key === "size" ? roomOf(session, id) : octetsOf(session, id);
+  const blocks = step ? (value * minutesOf(session, step) * 60_000) / (8 * octets) : (value * MEGA) / octets;
+  return String(["size", "window", "limit"].includes(key) ? Math.floor(blocks + 1e-9) : Math.ceil(blocks - 1e-9));
+}

@@ -1,0 +1,130 @@
+// Which event does what.
+import { addPass, ask, cancelPass, changeCell, changeClock, changeText, closeSession, compareWith, dropVariant,
+  forgetKept, goToStep, keepVariant, moveStore, openExample, openKept, openVariant, paste, planAnew, planRest, print,
+  save, take, toggleShade } from "./changes.js";
+import { at, mark, notice } from "./dom.js";
+import { listenToLanes } from "./lanes.js";
+import { history, keeper, note, showAgain } from "./main.js";
+import { TEXTS } from "./session.js";
+import { hold, moveBy, show, stickColumns } from "./steps.js";
+import { stepOnChart } from "./view.js";
+import { forecastOf } from "./texts.js";
+
+export let taken = 0;
+
+function takeInput({ target: it }) {
+  if (it.form) return;
+  note("");
+  notice(it);
+  if (TEXTS.includes(it.id)) changeText(it.id, it.value);
+  else if (it.id === "in-order") history.change({ isInOrder: it.checked });
+  else if (it.id === "in-units") history.change({ isInBlocks: !it.checked });
+  else if (it.id === "begins" || it.id === "minutes") changeClock(it.id, it.value);
+  else if (it.id === "name") history.change({ name: it.value }, "name");
+  else if (it.id === "packet") changePacket(it);
+  else if (it.dataset.cell) changeCell(it);
+}
+
+function changePacket(it) {
+  const octets = Number(it.value), isOne = Number.isInteger(octets) && octets >= 1 && octets <= 1024;
+  mark(it, !isOne);
+  if (isOne) changeClock("packet", octets);
+}
+
+// What stands in `data-act`: which change it is, and of what.
+const ACTS = {
+  up: nth => moveStore(Number(nth), "up"), down: nth => moveStore(Number(nth), "down"),
+  cancel: nth => cancelPass(Number(nth)), open: nth => openVariant(Number(nth)),
+  compare: nth => compareWith(Number(nth)), drop: nth => dropVariant(Number(nth)),
+  "kept-open": openKept, "kept-forget": forgetKept,
+};
+
+function takeClick({ target: it }) {
+  const [act, of] = it.dataset?.act?.split(" ") ?? [];
+  if (act) ACTS[act](of);
+  else if (it.dataset?.saves) save(it.dataset.saves);
+  else if (it.dataset?.shows) {
+    show(it.dataset.shows);
+    showAgain(false);
+  }
+}
+
+const isOwnText = it => it.tagName === "TEXTAREA" || it.form || ["name", "step", "packet"].includes(it.id);
+
+function takeKey(event) {
+  const it = event.target, key = event.key.toLowerCase();
+  const isUndo = (event.ctrlKey || event.metaKey) && !event.altKey && !isOwnText(it);
+  if (isUndo && key === "z") event.shiftKey ? history.redo() : history.undo();
+  else if (isUndo && key === "y") history.redo();
+  else if (it.id === "step" && event.key === "Enter") goToStep(Number(it.value));
+  else if (event.key === "Escape" && (it.dataset?.cell ?? it.id) === history.kind) restore(it);
+  else if (
+    !(it.closest("#grid") && it.dataset.cell && !event.ctrlKey && !event.shiftKey && moveBy(event.key, it))) return;
+  event.preventDefault();
+}
+
+// What stood in a cell before it was typed into.
+function restore(it) {
+  history.undo();
+  it.blur();
+  setTimeout(() => it.focus({ preventScroll: true }));
+}
+
+function listenToFiles() {
+  at("files").addEventListener("change", async event => {
+    await take(event.target.files);
+    event.target.value = "";
+  });
+  for (const name of ["dragover", "dragleave", "drop"])
+    document.addEventListener(name, event => {
+      event.preventDefault();
+      document.body.classList.toggle("over", name === "dragover");
+      if (name === "drop" && event.dataTransfer.files.length) take(event.dataTransfer.files).finally(() => taken++);
+    });
+  at("example").addEventListener("change", event => {
+    const name = event.target.value;
+    event.target.value = "";
+    openExample(name);
+  });
+}
+
+const CLICKS = {
+  undo: history => history.undo(), redo: history => history.redo(), keep: keepVariant, print, ask, anew: planAnew,
+    close: closeSession,
+  back: history => history.now.reference !== null && openVariant(history.now.reference),
+    go: () => goToStep(Number(at("step").value)), rest: () => planRest(Number(at("step").value)),
+};
+
+export function listenToAll() {
+  document.addEventListener("input", takeInput);
+  document.addEventListener("focusin", ({ target: it }) => it.closest("#grid") && it.dataset.cell && hold(it));
+  document.addEventListener("focusout", () => history.leave());
+  document.addEventListener("click", takeClick);
+  document.addEventListener("keydown", takeKey);
+  document.addEventListener("paste", event => {
+    const it = event.target;
+    if (it.closest?.("#grid") && it.dataset.cell && paste(
+      it, event.clipboardData.getData("text/plain"))) event.preventDefault();
+  });
+  for (const [id, does] of Object.entries(CLICKS)) at(id).addEventListener("click", () => does(history));
+  at("shade").addEventListener("change", toggleShade);
+  at("pass").addEventListener("submit", event => {
+    event.preventDefault();
+    addPass(event.target);
+  });
+  for (const box of document.querySelectorAll("details")) box.addEventListener("toggle", () => showAgain(true));
+  at("chart").addEventListener("click", event => {
+    const step = stepOnChart(event, forecastOf(history.now.forecast)?.records.length ?? 0);
+    if (step) goToStep(step);
+  });
+  // What is focused comes to lie below the verdict, however high that is.
+  new ResizeObserver(() => document.documentElement.style.setProperty("--bar", `${at("verdict").offsetHeight}px`))
+    .observe(at("verdict"));
+  at("grid-box").addEventListener("scroll", stickColumns);
+  listenToLanes(goToStep);
+  listenToFiles();
+  window.addEventListener("beforeunload", event => {
+    keeper.now();
+    if (!history.isSaved) event.preventDefault();
+  });
+}

@@ -1,0 +1,29 @@
+// A question with several answers, which waits until one is chosen; Escape chooses the last.
+import { at, make } from "./dom.js";
+
+let waiting = Promise.resolve();
+
+function put(words, answers) {
+  const box = at("question"), isOpen = answers.length > 0;
+  at("question-words").textContent = words;
+  return new Promise(tell => {
+    const end = answer => {
+      box.onclose = null;
+      box.close();
+      tell(answer);
+    };
+    at("question-answers").replaceChildren(...answers.map(([name, answer], nth) => {
+      const made = make("button", name, { type: "button", autofocus: nth === 0 });
+      made.onclick = () => end(answer);
+      return made;
+    }));
+    box.onclose = () => tell(answers.at(-1)[1]);
+    if (isOpen) box.showModal();
+  });
+}
+
+// One question after another.
+export function question(words, answers) {
+  waiting = waiting.then(() => put(words, answers));
+  return waiting;
+}

@@ -1,0 +1,110 @@
+// What is printed: the mission with its verdict and checksums, the chart on a page of its own, and each pass with what
+// stores send in it.
+import { amountsOf } from "./amounts.js";
+import { at, head, make, row } from "./dom.js";
+import { textOf } from "./moments.js";
+import { sentBy } from "./passtable.js";
+import { spanOf, stepsOf, sumOf } from "./passes.js";
+import { digits } from "./texts.js";
+import { sentenceOf } from "./words.js";
+
+async function checksum(octets) {
+  if (!globalThis.crypto?.subtle) return "not known";
+  const sum = new Uint8Array(await crypto.subtle.digest("SHA-256", octets));
+  return [...sum].map(it => it.toString(16).padStart(2, "0")).join("");
+}
+
+function facts(rows) {
+  const list = make("dl");
+  for (const [name, text] of rows) list.append(make("dt", name), make("dd", text));
+  return list;
+}
+
+const whenOf = (session, pass) => {
+  const span = spanOf(session, pass);
+  return span ? `${textOf(span[0])} to ${textOf(span[1])} UTC` : `steps ${stepsOf(pass)}`;
+};
+
+// What stores hold before the first of these steps and after the last, and what they lose until the next pass begins.
+function rowsOf(records, startOf, pass, until, of) {
+  const first = pass.windows[0][0], last = pass.windows.at(-1)[0];
+  return [...records.stores.keys()].map(id => {
+    const before = first > 1 ? records.steps[first - 2].of.get(id).held : startOf(id),
+      after = records.steps[last - 1].of.get(id).held;
+    const lost = records.steps.slice(first - 1, until - 1).reduce((sum, it) => sum + it.of.get(id).lost, 0);
+    return { id, sent: of.get(id), before, after, lost };
+  });
+}
+
+function passSection(session, records, startOf, nth, of) {
+  const pass = session.passes[nth], next = session.passes.slice(nth + 1).find(it => it.windows.length);
+  const until = next ? next.windows[0][0] : records.steps.length + 1, { unit, volume } = amountsOf(session);
+  const made = make("section");
+  const own = pass.name && pass.name !== pass.station ? ` (${pass.name})` : "";
+  const name = `${pass.station || "Pass"}${own}`;
+  made.append(make("h3", `${nth + 1}. ${name}: ${whenOf(session, pass)}, at most ${digits(sumOf(pass))} blocks`));
+  if (!pass.windows.length) return made;
+  const inUnit = (...cells) => (session.isInBlocks ? [] : cells);
+  const rows = rowsOf(records, startOf, pass, until, of).map(({ id, sent, before, after, lost }) =>
+    [id, digits(sent), ...inUnit(volume(id, sent)), digits(before), digits(after), digits(lost)]);
+  const heads = ["<store", "blocks", ...inUnit(unit), "held before", "held after", "lost until the next"];
+  made.append(tableOfRows(heads, rows));
+  return made;
+}
+
+// A table of these rows. A head that begins with < is of words.
+function tableOfRows(heads, rows) {
+  const table = make("table"), top = make("thead"), body = make("tbody"), isText = nth => heads[nth].startsWith("<");
+  const cell = (text, nth) => {
+    const className = isText(nth) ? "text" : heads[nth].startsWith("lost") && text !== "0" ? "lost" : "";
+    return nth ? make("td", text, { className }) : make("th", text, { className, scope: "row" });
+  };
+  top.append(row(...heads.map((it, nth) => head(it.replace("<", ""), { className: isText(nth) ? "text" : "" }))));
+  body.append(...rows.map(cells => row(...cells.map(cell))));
+  table.append(top, body);
+  return table;
+}
+
+// What each store has, gets, sends and loses, and what each pass sends, on the first page.
+function overview(session, { records }, startOf, sent) {
+  const { unit, volume } = amountsOf(session), made = make("div", "", { className: "overview" });
+  const amounts = (id, it) => [startOf(id), it.arrived, it.dumped, it.lost, it.held].map(each => volume(id, each));
+  const stores = [...records.stores].map(([id, it]) => [id, ...amounts(id, it)]);
+  const sums = (pass, nth) => [sumOf(pass), sent[nth].sent].map(digits);
+  const passes = session.passes.map((it, nth) => [`${nth + 1}`, it.station, whenOf(session, it), ...sums(it, nth)]);
+  const part = (title, heads, rows) => {
+    const box = make("div");
+    box.append(make("h2", title), tableOfRows(heads, rows));
+    return box;
+  };
+  made.append(part(`Stores, in ${unit}`, ["<store", "at the start", "arrives", "sent", "lost", "at the end"], stores));
+  made.append(part("Passes, in blocks", ["<nr", "<station", "<when", "at most", "sent"], passes));
+  return made;
+}
+
+// Lays the sheet of a session with its answer.
+export async function laySheet(session, answer, starts) {
+  const sums = await Promise.all([session.setup, session.forecast, answer.plan].map(checksum)),
+    startOf = id => starts.get(id) ?? 0, { records } = answer;
+  const chart = make("div", "", { className: "chart-page" }), sent = sentBy(session.passes, records);
+  const begin = records.steps.length ? whenOf(session, { from: null, windows: [[1, 0], [records.steps.length, 0]] })
+    : "";
+  chart.append(make("h2", "Chart"), at("chart").cloneNode());
+  chart.lastChild.removeAttribute("id");
+  const top = make("div");
+  top.append(make("h1", session.name || "Downlink plan"),
+    make("p", `${sentenceOf(answer.verdict)}.`, { className: "verdict" }));
+  top.append(
+    facts([["Planned", begin], ["Printed", `${textOf(Date.now() * 1000).slice(0, 16)} UTC`],
+    ["Verdict of the checker", answer.line],
+    ["SHA-256 of the setup", sums[0]], ["SHA-256 of the forecast", sums[1]], ["SHA-256 of the plan", sums[2]]]));
+  top.append(overview(session, answer, startOf, sent));
+  const passes = make("div", "", { className: "passes-page" }), first = session.passes[0]?.windows[0]?.[0] ?? 1;
+  const early = records.steps.slice(0, first - 1).reduce((sum, it) => sum + it.lost, 0);
+  passes.append(make("h2", `Passes${session.passes.length ? "" : ": none"}`),
+    ...(early ? [make("p", `Before the first pass ${digits(early)} blocks are lost.`)] : []),
+    ...session.passes.map((_, nth) => passSection(session, records, startOf, nth, sent[nth].of)));
+  at("sheet").replaceChildren(top, chart, passes);
+  await chart.querySelector("img").decode().catch(() => {});
+}
+

@@ -1,0 +1,76 @@
+//! What larger windows and limits are worth.
+ghost use Rattle.std.specs.Prelude.{◌≡◌, ◌≤◌, ◌<◌, ◌*◌, ◌-◌, ◌^◌, All, slice_index_or};
+ghost use Rattle.mm_base.specs.declared.limits.TheConstants.{MAX_STORES};
+ghost use Rattle.mm_chart.specs.Series.{step_limit_worth};
+
+use mm_base::CHANNELS;
+use mm_base::grid::place;
+use std::marker::Model;
+
+/// How many blocks fewer the least plan loses where one window or limit of a problem is the largest.
+#[derive(Debug, Drop)]
+pub struct Worths {
+    windows: Vec<u32>,
+    limits: Vec<u64>,
+    step_limits: Vec<u64>,
+}
+
+impl Model for Worths {
+    ghost use Rattle.std.specs.Prelude.{◌≤◌, ◌*◌, ◌^◌, All};
+    ghost use Rattle.mm_base.specs.declared.limits.TheConstants.{MAX_STORES};
+    ghost use Rattle.mm_chart.specs.Picture.{WorthLists};
+
+    ghost Value = { WorthLists };
+
+    ghost view = { λ a. record {
+      windows = a.windows.items;
+      limits = a.limits.items;
+      step_limits = a.step_limits.items;
+    } };
+
+    ghost invariant = { λ a. All (λ n. n ≤ MAX_STORES * 2 ^ 32) a.limits.items
+        × All (λ n. n ≤ MAX_STORES * 2 ^ 32) a.step_limits.items };
+}
+
+impl Worths {
+    /// What the windows are worth, step by step; the limits of the channels in the setup; and the limits of steps, step
+    /// by step, in each all channels. A channel without a limit has 0.
+    #[must_use]
+    pub fn new(windows: Vec<u32>, limits: Vec<u64>, step_limits: Vec<u64>) -> Worths
+        requires limits { All (λ n. n ≤ MAX_STORES * 2 ^ 32) limits.items }
+        requires step_limits { All (λ n. n ≤ MAX_STORES * 2 ^ 32) step_limits.items }
+        ensures { result ≡ record { windows = windows.items; limits = limits.items; step_limits = step_limits.items } }
+    {
+        Worths {
+            windows,
+            limits,
+            step_limits,
+        }
+    }
+
+    // What the window of a step is worth.
+    pub(crate) fn window(&self, step: u32) -> u32
+        requires { 1 ≤ step }
+        ensures { result ≡ slice_index_or self.now.windows (step - 1) 0 }
+    {
+        self.windows.get(step as usize - 1).copied().unwrap_or(0)
+    }
+
+    // What the limit of a channel in the setup is worth.
+    pub(crate) fn limit(&self, channel: u8) -> u64
+        ensures worth { result ≡ slice_index_or self.now.limits channel 0 }
+        ensures most { result ≤ MAX_STORES * 2 ^ 32 }
+    {
+        self.limits.get(channel as usize).copied().unwrap_or(0)
+    }
+
+    // What the limit of a channel in this step alone is worth.
+    pub(crate) fn step_limit(&self, channel: u8, step: u32) -> u64
+        requires { 1 ≤ step }
+        ensures worth { result ≡ step_limit_worth self.now.step_limits channel step }
+        ensures most { result ≤ MAX_STORES * 2 ^ 32 }
+    {
+        let place = place(CHANNELS, step, channel as usize);
+        self.step_limits.get(place).copied().unwrap_or(0)
+    }
+}

@@ -1,0 +1,15 @@
+use Rattle.std.proofs.Common.{subst}
+use Rattle.mm_commands.specs.Contents.{WereRead, seen}
+use Rattle.mm_commands.specs.Reading.{readings_of}
+use Rattle.mm_commands.proofs.flight.do_run.Goals as goal
+
+pub returns-in-Ok-clause-prints : goal.returns-in-Ok-clause-prints
+returns-in-Ok-clause-prints g c =
+    let streams = g.F.Files.has_streams in
+    let contents = g.F.Files.content c.args.files.now in
+    let before = g.F.Files.readings c.args.files.now in
+    let after = g.F.Files.readings c.read.new.files in
+    let read = subst (λ names. WereRead contents before after (readings_of names c.in-Ok.texts)) c.names.ensures
+    c.in-Ok.ensures.read in
+    c.fly.ensures.settles (seen streams contents before) (seen streams (g.F.Files.content c.read.new.files) after)
+    c.in-Ok.ensures.stays read

@@ -1,0 +1,153 @@
+//! A run is carried out: its plan is printed before it begins, and what became of it after it has ended.
+ghost use Rattle.std.specs.Prelude.{◌≡◌, ◌≢◌, ◌++◌, ℕ, List, Option, IfOk, IfErr};
+ghost use Rattle.std.specs.Io.KnownBytes.{Appends};
+ghost use Rattle.mm_base.specs.Reading.{IfRefused};
+ghost use Rattle.mm_command_line.specs.Names.{names_in};
+ghost use Rattle.mm_command_line.specs.declared.task.Task.TheVariants.{Fly};
+ghost use Rattle.mm_run.specs.Prepared.{plan_text_of};
+ghost use Rattle.mm_run.specs.declared.fault.Fault.TheVariants as flight_fault;
+ghost use Rattle.mm_commands.specs.Answers.{PreparesTexts, PrintsFlown, given_plan, status_of_run};
+ghost use Rattle.mm_commands.specs.Contents.{FilesView, WereRead, seen};
+ghost use Rattle.mm_commands.specs.Reading.{readings_of};
+ghost use Rattle.mm_commands.specs.Refusing.{IsFaultIn, IsFlightFault, Settles};
+ghost use Rattle.mm_commands.specs.declared.status.Status.TheVariants.{BadCommandLine};
+
+use crate::answers::given_plan;
+use crate::fault::Fault;
+use crate::files::Files;
+use crate::remark::tell_run;
+use crate::status::{Status, Unwritten};
+use crate::tasks::refuse;
+use crate::texts::TaskTexts;
+use mm_command_line::{FlightFiles, Task};
+use mm_run::{Outcome, PreparedRun, Printed, RunTexts, prepare_run};
+use std::alloc::Global;
+use std::io::{self, Write};
+use std::sync::Wait;
+use std::thread::Threads;
+
+// The status of a run that ended so.
+fn status_of_run(outcome: Outcome) -> Status
+    ensures status { result ≡ status_of_run outcome }
+    ensures known { result ≢ BadCommandLine }
+{
+    match outcome {
+        Outcome::CarriedOut => Status::Done,
+        Outcome::Unreported | Outcome::Stopped(_) => Status::Refused,
+    }
+}
+
+// The run of the plan, which is made where none is given. Nothing is carried out yet.
+fn prepared(
+    alloc: Global,
+    files: FlightFiles<'_>,
+    texts: &TaskTexts,
+) -> Result<PreparedRun, mm_run::Fault>
+    ensures prepared { IfOk result (PreparesTexts (given_plan files.entry.plan texts.now) texts.now) }
+    ensures refused { IfRefused flight_fault.NoMemory result (IsFlightFault (given_plan files.entry.plan texts.now)
+        texts.now) }
+{
+    let run = RunTexts {
+        setup: &texts.setup,
+        forecast: &texts.forecast,
+        sources: &texts.sources,
+        links: &texts.links,
+    };
+    prepare_run(alloc, run, given_plan(files.plan, texts))
+}
+
+// The run that a task asks for, whose files have these texts.
+fn prepare<'a>(
+    alloc: Global,
+    files: FlightFiles<'a>,
+    texts: &TaskTexts,
+) -> Result<PreparedRun, Fault<'a>>
+    ensures prepared { IfOk result (PreparesTexts (given_plan files.entry.plan texts.now) texts.now) }
+    ensures refused { IfErr result (IsFaultIn (Fly files.entry) texts.now) }
+{
+    Ok(prepared(alloc, files, texts)?)
+}
+
+// Prints the plan of a run, if it was made, and has it handed on.
+fn print_plan<W: Write>(run: &PreparedRun, out: &mut W) -> io::Result<()>
+    ensures text { IfOk result (λ _. Appends (W.contents out.old) (W.contents out.new) (plan_text_of run.now)) }
+{
+    out.write_all(run.plan_text())?;
+    out.flush()
+}
+
+// Prints what comes after the plan.
+fn print_rest<W: Write>(printed: &Printed, out: &mut W) -> io::Result<()>
+    ensures text { IfOk result (λ _. Appends (W.contents out.old) (W.contents out.new)
+        (printed.now.report.items ++ printed.now.end.items)) }
+{
+    out.write_all(&printed.report)?;
+    out.write_all(&printed.end)
+}
+
+// Prints the plan of a run, carries the run out, prints what became of it, and then says what is to be said of it.
+fn carry_out<R: Threads + Wait + Sync, W: Write, E: Write>(
+    rt: &R,
+    alloc: Global,
+    task: Task<'_>,
+    run: PreparedRun,
+    texts: &TaskTexts,
+    out: &mut W,
+    err: &mut E,
+) -> Result<Status, Unwritten>
+    ensures flies { (plan : Option (List ℕ)) → PreparesTexts plan texts.now run
+        → IfOk result (λ status. PrintsFlown plan texts.now status (W.contents out.old) (W.contents out.new)) }
+    ensures status { IfOk result (λ status. status ≢ BadCommandLine) }
+{
+    print_plan(&run, out).map_err(|_| Unwritten::Output)?;
+    let printed = run.carry_out(rt, alloc);
+    print_rest(&printed, out).map_err(|_| Unwritten::Output)?;
+    tell_run(alloc, task, &printed, texts, err).map_err(|_| Unwritten::Messages)?;
+    Ok(status_of_run(printed.outcome))
+}
+
+// Carries out a plan, where the task's files have these texts.
+fn fly<R: Threads + Wait + Sync, W: Write, E: Write>(
+    rt: &R,
+    alloc: Global,
+    flight: FlightFiles<'_>,
+    texts: &TaskTexts,
+    out: &mut W,
+    err: &mut E,
+) -> Result<Status, Unwritten>
+    ensures settles { (old new : FilesView) → new.contents ≡ old.contents
+        → WereRead old.contents old.readings new.readings (readings_of (names_in (Fly flight.entry)) texts.now)
+        → IfOk result (λ status. Settles old new (Fly flight.entry) status (W.contents out.old) (W.contents out.new)) }
+    ensures status { IfOk result (λ status. status ≢ BadCommandLine) }
+{
+    let task = Task::Fly(flight);
+    match prepare(alloc, flight, texts) {
+        Ok(run) => carry_out(rt, alloc, task, run, texts, out, err),
+        Err(fault) => {
+            let found = fault.found(alloc, task, texts);
+            refuse(Some(task), fault, found, out, err)
+        }
+    }
+}
+
+/// Carries out a plan. One that is made is printed, and the writer flushed, before the run begins.
+pub(crate) fn do_run<R: Threads + Wait + Sync, F: Files, W: Write, E: Write>(
+    rt: &R,
+    alloc: Global,
+    flight: FlightFiles<'_>,
+    files: &mut F,
+    out: &mut W,
+    err: &mut E,
+) -> Result<Status, Unwritten>
+    ensures prints { IfOk result (λ status. Settles (seen F.has_streams (F.content files.old) (F.readings files.old))
+        (seen F.has_streams (F.content files.new) (F.readings files.new))
+        (Fly flight.entry) status (W.contents out.old) (W.contents out.new)) }
+    ensures status { IfOk result (λ status. status ≢ BadCommandLine) }
+    ensures kept { IfErr result (λ _. F.content files.new ≡ F.content files.old) }
+{
+    let task = Task::Fly(flight);
+    match TaskTexts::read(alloc, files, task.names()) {
+        Ok(texts) => fly(rt, alloc, flight, &texts, out, err),
+        Err(fault) => refuse(Some(task), fault, None, out, err),
+    }
+}

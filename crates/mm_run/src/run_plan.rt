@@ -1,0 +1,32 @@
+//! The plan of a run: that of a text, or one that is made.
+ghost use Rattle.mm_run.specs.Prepared.{IsPlanBy};
+
+use mm_base::NoMemory;
+use mm_plan::Sheet;
+use mm_planner::{PrintedPlan, print_plan};
+use mm_problem::Problem;
+use std::alloc::Global;
+
+/// The plan of a run.
+#[derive(Drop)]
+pub(crate) enum RunPlan {
+    /// The plan of a text, which is not printed.
+    Given(Sheet),
+    /// A plan that was made, and its text.
+    Made(PrintedPlan),
+    /// There was no memory to make a plan.
+    Unplanned,
+}
+
+/// The plan of the sheet, or without one a plan that is made and printed.
+pub(crate) fn plan_by(alloc: Global, problem: &Problem, sheet: Option<Sheet>) -> RunPlan
+    ensures { IsPlanBy sheet problem.now result }
+{
+    match sheet {
+        Some(sheet) => RunPlan::Given(sheet),
+        None => match print_plan(alloc, problem) {
+            Ok(printed) => RunPlan::Made(printed),
+            Err(NoMemory) => RunPlan::Unplanned,
+        },
+    }
+}

@@ -1,0 +1,122 @@
+//! The name `-`: standard input as a file of a task, and standard output as its output.
+
+use crate::tests::samples::{
+    Answer, FIRST_PLAN, Host, SCI, System, THREE_STEPS, answer_to, answers, holds, joined,
+    replaced, told,
+};
+use mm_commands::{Files, SystemFiles};
+use std::{env, fs};
+
+// The name of a setup and that of a forecast, as the system has them.
+const SETUP: &str = "S";
+
+const FORECAST: &str = "F";
+
+// What the program answers to a line of words, in which @ stands for the folder, where standard input has this text.
+fn answer_with(rt: &impl System, folder: &str, line: &str, input: &str) -> Answer {
+    let mut words: Vec<String> = Vec::new(rt.alloc());
+    for word in line.split(' ') {
+        let word = replaced(rt, word, "@", folder);
+        words.push(word).expect(rt, "memory");
+    }
+    let mut files = SystemFiles::new(rt.alloc(), rt, input.as_bytes());
+    answer_to(rt, &words, &mut files)
+}
+
+// Lines, standard input, and what is printed. Standard input stands for any one file, and `--output -` prints.
+static PIPED: [(&str, &str, &str); 6] = wanted! {
+    "check @/S @/F -", FIRST_PLAN => "least 2\n";
+    "plan - @/F", SCI => FIRST_PLAN;
+    "plan @/S -", THREE_STEPS => FIRST_PLAN;
+    "plan @/S @/F --output -", "" => FIRST_PLAN;
+    "plan - @/F --output -", SCI => FIRST_PLAN;
+    "plan -- @/S -", THREE_STEPS => FIRST_PLAN;
+};
+
+const TWICE: &str = "\
+error: standard input, which - names, is given for more than one file; give it once, and name the other files
+
+For more information, try '--help'.
+";
+
+// Lines that have standard input for more than one file.
+static TWICE_READ: [&str; 3] = ["plan - -", "check - @/F -", "fly @/S - - @/L --"];
+
+// A new folder with the setup and the forecast.
+fn make_folder(rt: &impl System, name: &str) -> String {
+    let temporary = env::temp_dir(rt).expect(rt, "a folder");
+    let folder = joined(rt, &[temporary.as_str(), "/mm_tool-", name]);
+    let _left_over = fs::remove_dir_all(rt, folder.as_str());
+    fs::create_dir(rt, folder.as_str()).expect(rt, "a folder");
+    for (file, text) in [(SETUP, SCI), (FORECAST, THREE_STEPS)] {
+        let path = joined(rt, &[folder.as_str(), "/", file]);
+        fs::write(rt, path.as_str(), text).expect(rt, "a file");
+    }
+    folder
+}
+
+fn streams_are_used(rt: &impl System) {
+    let folder = make_folder(rt, "streams");
+    for (line, input, out) in &PIPED {
+        let answer = answer_with(rt, folder.as_str(), line, input);
+        holds(
+            rt,
+            line,
+            &answer,
+            answer.has(out, 0) && answer.err.is_empty(),
+        );
+    }
+    for line in &TWICE_READ {
+        let answer = answer_with(rt, folder.as_str(), line, SCI);
+        holds(
+            rt,
+            line,
+            &answer,
+            answer.has("", 2) && answer.err.as_str() == TWICE,
+        );
+    }
+    fs::remove_dir_all(rt, folder.as_str()).expect(rt, "a folder");
+}
+
+#[test]
+fn a_dash_is_a_standard_stream(rt: HostRuntime) {
+    streams_are_used(&rt);
+    let is_there = fs::symlink_metadata(&rt, "-").is_ok();
+    assert!(&rt; !is_there, "a file named -");
+}
+
+// No text is stored under the name of standard output, and it is read to its end once.
+#[test]
+fn system_files_have_no_file_of_that_name(rt: HostRuntime) {
+    let mut files = SystemFiles::new(rt.alloc(), &rt, b"ab".as_slice());
+    let is_stored = files.store(rt.alloc(), "-", b"text").is_ok();
+    let first = files.read(rt.alloc(), "-").expect(&rt, "standard input");
+    let second = files.read(rt.alloc(), "-").expect(&rt, "its end");
+    assert!(&rt; !is_stored && first.as_slice() == b"ab".as_slice() && second.is_empty());
+}
+
+// In a script `-` is a name like any other, of a file and of an output.
+#[test]
+fn a_dash_in_a_script_is_a_name(rt: HostRuntime) {
+    let front = [
+        "check S - P\n=== S\n",
+        SCI,
+        "=== -\n",
+        THREE_STEPS,
+        "=== P\n",
+        FIRST_PLAN,
+    ];
+    answers(&rt, &front, "least 2\n", "", 0);
+    let unwritten =
+        "mm_tool: - could not be written, and is as it was: the files of a script are only read\n";
+    let output = ["plan S F --output -\n=== S\n", SCI, "=== F\n", THREE_STEPS];
+    answers(&rt, &output, "", unwritten, 1);
+    is_read_twice(&rt);
+}
+
+// One file of a script may be named twice: the forecast that it is not is told.
+fn is_read_twice(rt: &impl Host) {
+    let answer = told(rt, &["plan - -\n=== -\n", SCI]);
+    let is_told = answer.out.as_str().starts_with("refused 30 Header") && answer.status == 1;
+    holds(rt, "a file named twice", &answer, is_told);
+}

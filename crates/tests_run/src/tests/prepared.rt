@@ -1,0 +1,71 @@
+//! Runs from texts in two steps: the plan text before the run, and then what the run prints.
+
+use crate::tests::runs::trials::{FIRST_RUN, TWO_PASSES};
+use mm_run::{PreparedRun, RunTexts, prepare_run};
+use std::alloc::Global;
+use std::process::Abort;
+
+// Three packets in step 1, three in step 2 and four in step 3, as is forecast.
+const SOURCES: &str = "\
+1 1 0864C001000E200319000000000000000000000000
+1 1 0864C002000E200319000000000000000000000000
+1 1 0864C003000E200319000000000000000000000000
+1 2 0864C004000E200319000000000000000000000000
+1 2 0864C005000E200319000000000000000000000000
+1 2 0864C006000E200319000000000000000000000000
+1 3 0864C007000E200319000000000000000000000000
+1 3 0864C008000E200319000000000000000000000000
+1 3 0864C009000E200319000000000000000000000000
+1 3 0864C00A000E200319000000000000000000000000
+";
+
+// What the whole run reports, worked out by hand: the store of four blocks loses two packets in step 3.
+const REPORT: &str = "\
+step 1 SCI arrived 3 lost 0 dumped 2 held 1
+step 2 SCI arrived 3 lost 0 dumped 2 held 2
+step 3 SCI arrived 4 lost 2 dumped 0 held 4
+total arrived 10 lost 2 dumped 4 held 4
+";
+
+// A run with these links that is ready to begin, of a plan text or of a plan that is made.
+fn prepared(rt: &impl Abort, alloc: Global, links: &str, plan: Option<&str>) -> PreparedRun {
+    let texts = RunTexts {
+        setup: FIRST_RUN.setup.as_bytes(),
+        forecast: FIRST_RUN.forecast.as_bytes(),
+        sources: SOURCES.as_bytes(),
+        links: links.as_bytes(),
+    };
+    let plan = plan.map(str::as_bytes);
+    prepare_run(alloc, texts, plan).expect(rt, "texts")
+}
+
+// Links, the plan text where it is given, and what is printed: the plan text before the run, then the report and the
+// last line.
+static RUNS: [(&str, Option<&str>, &str, &str, &str); 4] = wanted! {
+    "links 1\n", None, TWO_PASSES, REPORT => "";
+    "links 1\n", Some(TWO_PASSES), "", REPORT => "";
+    "links 1\nfail 1 1\n", None, TWO_PASSES, "total arrived 0 lost 0 dumped 0 held 0\n"
+    => "halted step 1 46 LinkFailed\n";
+    "links 0\n", None, TWO_PASSES, "" => "refused 44 Counts\n";
+};
+
+#[test]
+fn the_plan_text_is_there_before_the_run(rt: HostRuntime) {
+    for (links, plan, text, report, end) in &RUNS {
+        let run = prepared(&rt, rt.alloc(), *links, *plan);
+        assert!(rt;
+            run.plan_text() == text.as_bytes(),
+            "the plan text before the run"
+        );
+        let printed = run.carry_out(&rt, rt.alloc());
+        assert!(rt;
+            printed.sheet.as_slice() == text.as_bytes(),
+            "the same plan text"
+        );
+        assert!(rt;
+            printed.report.as_slice() == report.as_bytes(),
+            "the report"
+        );
+        assert!(rt; printed.end.as_slice() == end.as_bytes(), "the last line");
+    }
+}
