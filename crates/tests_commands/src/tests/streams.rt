@@ -48,11 +48,15 @@ fn make_folder(rt: &impl System, name: &str) -> String {
     let folder = joined(rt, &[temporary.as_str(), "/mm_tool-", name]);
     let _left_over = fs::remove_dir_all(rt, folder.as_str());
     fs::create_dir(rt, folder.as_str()).expect(rt, "a folder");
-    for (file, text) in [(SETUP, SCI), (FORECAST, THREE_STEPS)] {
-        let path = joined(rt, &[folder.as_str(), "/", file]);
-        fs::write(rt, path.as_str(), text).expect(rt, "a file");
-    }
+    write_into(rt, folder.as_str(), SETUP, SCI);
+    write_into(rt, folder.as_str(), FORECAST, THREE_STEPS);
     folder
+}
+
+// Writes a file of a folder.
+fn write_into(rt: &impl System, folder: &str, file: &str, text: &str) {
+    let path = joined(rt, &[folder, "/", file]);
+    fs::write(rt, path.as_str(), text).expect(rt, "a file");
 }
 
 fn streams_are_used(rt: &impl System) {
