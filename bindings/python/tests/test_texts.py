@@ -421,10 +421,11 @@ class DataFrames(unittest.TestCase):
     def test_faults(self):
         frame = self.forecast.to_frame(self.pandas.DataFrame)
         self.assertEqual(wrong(self, Forecast.table, frame.to_dict()), "column step: {0: 1, 1: 2} is no list of values")
-        self.assertEqual(wrong(self, Forecast.table, frame.astype({"HK": float})), "column HK, row 1: 1.0 is no whole number")
+        self.assertEqual(Forecast.table(frame.astype({"HK": float})), self.forecast)
+        self.assertEqual(wrong(self, Forecast.table, frame.assign(HK=[1.5, 0.0])), "column HK, row 1: 1.5 is no whole number")
         self.assertEqual(wrong(self, Forecast.table, frame.astype({"HK": str})), "column HK, row 1: '1' is no whole number")
         self.assertEqual(wrong(self, Forecast.table, self.pandas.concat([frame, frame["HK"]], axis=1)), "there are two columns HK")
-        self.assertEqual(wrong(self, Forecast.table, frame.join(frame["HK"].head(1), rsuffix="2")), "column HK2, row 1: 1.0 is no whole number")
+        self.assertEqual(wrong(self, Forecast.table, frame.join(frame["HK"].head(1), rsuffix="2")), "column HK2, row 2: nan is no whole number")
         self.assertEqual(refused(self, Forecast.table, frame.iloc[[1]]), "32 StepNumber row 1")
 
     def test_setups(self):
