@@ -1,5 +1,5 @@
 //! Phases of level graphs and blocking flows (Dinitz, 1970).
-ghost use Rattle.std.specs.Prelude.{◌≡◌, ◌≢◌, ◌<◌, ◌≤◌, ◌-◌, true, length, slice_index, IfOk, IfSome, IfNone};
+ghost use Rattle.std.specs.Prelude.{◌≡◌, ◌≢◌, ◌<◌, ◌≤◌, ◌-◌, true, length, slice_index, IfSome, IfNone};
 ghost use Rattle.flow_plain.specs.Links.{StandsAt, IsCursors};
 
 use crate::residual::{head, residual, twin};
@@ -8,8 +8,8 @@ use std::alloc::{AllocError, Global};
 
 /// A solver that moves flow along the paths of one level graph after another.
 ///
-/// In a phase each node has a cursor, which stands in the chain of its entries and only moves on, and the entry by which a
-/// path last led on from it.
+/// In a phase each node has a cursor, which stands in the chain of its entries and only moves on, and the entry by
+/// which a path last led on from it.
 #[derive(Drop)]
 pub(crate) struct Phase<'a> {
     pub(crate) tables: Tables<'a>,
@@ -27,9 +27,7 @@ impl<'a> Phase<'a> {
     ghost use Rattle.flow_plain.specs.Phase.{LeadsFrom, cursors_of};
 
     // A solver before its first phase.
-    pub(crate) fn new(alloc: Global, tables: Tables<'a>) -> Result<Phase<'a>, AllocError>
-        ensures { IfOk result (λ phase. phase.tables ≡ tables.entry) }
-    {
+    pub(crate) fn new(alloc: Global, tables: Tables<'a>) -> Result<Phase<'a>, AllocError> {
         let nodes = tables.network.node_count();
         Ok(Phase {
             tables,

@@ -5,6 +5,7 @@ mod build;
 mod families;
 mod job;
 mod small;
+mod solver;
 mod text;
 mod timed;
 
@@ -19,25 +20,24 @@ use thiserror::Error;
 /// Words that ask for nothing.
 #[derive(Clone, Copy, Debug, Error)]
 #[error("the words are: networks SEED, or solve SOLVER FAMILY SIZE, or solve SOLVER text")]
-pub(crate) struct UnknownWords;
+pub struct UnknownWords;
 
 // What the words ask for.
 fn said<R: Clock + Input + AllocGlobal>(rt: &R, alloc: Global, words: &[String]) -> Result<String> {
     match words {
-        [] => Ok(small(alloc)?),
+        [] => small(alloc),
         [name, words @ ..] if name.as_str() == "solve" => timed::run(rt, alloc, words),
         [name, seed] if name.as_str() == "networks" => {
-            let seed: u32 = seed.parse()?;
-            let digest = networks(alloc, seed)?;
+            let digest = networks(alloc, seed.parse()?)?;
             Ok(format!(in alloc; "networks {digest}")?)
         }
         _ => Err(UnknownWords.into()),
     }
 }
 
-/// `networks SEED` solves networks that are made from the seed, and prints a digest of the answers. `solve` solves one network, and prints
-/// the value of a maximum flow and the milliseconds that the solver took. With no words a few tiny networks are solved, and their flows are
-/// printed.
+/// `networks SEED` solves networks that are made from the seed, and prints a digest of the answers. `solve` solves one
+/// network, and prints the value of a maximum flow and the milliseconds that the solver took. With no words a few tiny
+/// networks are solved, and their flows are printed.
 fn main(rt: HostRuntime) -> Result<()> {
     let alloc = rt.alloc();
     let words: Vec<String> = std::env::args(&rt)?.skip(1).collect(alloc)?;

@@ -1,11 +1,12 @@
 //! Tiny networks whose greatest flow can be worked out by hand.
 
 use crate::build::{SINK, SOURCE, bare, limited, unlimited};
+use crate::solver::Solver;
 use crate::text;
 use anyhow::Result;
-use mm_flow::paths::solve_paths;
-use mm_flow::{Fault, Network, Solved, solve};
+use mm_flow::{Fault, Network, Solved};
 use std::alloc::Global;
+use std::io::Write;
 
 // Two ways to the sink, of which the second takes no more than 5: all that leaves the source arrives.
 const TWO_WAYS: &str = "4 5\n0 2 7\n0 3 5\n2 3 4\n2 1 -\n3 1 5\n";
@@ -44,54 +45,41 @@ fn unbounded(alloc: Global) -> Result<Network> {
 }
 
 // Adds a line: the value, what each arc carries, and the nodes of the source's side; or why there is none.
-fn push(alloc: Global, lines: &mut String, answer: Result<Solved, Fault>) -> Result<()> {
-    if !lines.is_empty() {
-        lines.push('\n')?;
-    }
+fn push(lines: &mut Vec<u8>, answer: Result<Solved, Fault>) -> Result<()> {
     match answer {
         Ok(solved) => {
-            lines.push_str(format!(in alloc; "value {} flow", solved.value)?.as_str())?;
+            write!(lines, "value {} flow", solved.value)?;
             for flow in &solved.flow {
-                lines.push_str(format!(in alloc; " {flow}")?.as_str())?;
+                write!(lines, " {flow}")?;
             }
-            lines.push_str(" side")?;
+            write!(lines, " side")?;
             for side in &solved.side {
-                lines.push_str(if *side { " s" } else { " t" })?;
+                write!(lines, "{}", if *side { " s" } else { " t" })?;
             }
         }
-        Err(fault) => lines.push_str(format!(in alloc; "{fault}")?.as_str())?,
+        Err(fault) => write!(lines, "{fault}")?,
     }
-    Ok(())
-}
-
-// Adds a line that says why a text is no network.
-fn push_refusal(alloc: Global, lines: &mut String, text: &str) -> Result<()> {
-    match text::read(alloc, text) {
-        Ok(_) => lines.push_str("\na network")?,
-        Err(fault) => lines.push_str(format!(in alloc; "\n{fault}")?.as_str())?,
-    }
-    Ok(())
+    Ok(writeln!(lines)?)
 }
 
 /// What both solvers answer on each, and why each of some texts is none.
-pub(crate) fn small(alloc: Global) -> Result<String> {
-    let mut lines = String::new(alloc);
+pub fn small(alloc: Global) -> Result<String> {
+    let mut lines = Vec::new(alloc);
     for network in [
         text::read(alloc, TWO_WAYS)?,
         narrow(alloc)?,
         unbounded(alloc)?,
     ] {
-        if network.node_count() > SINK as usize {
-            push(alloc, &mut lines, solve(alloc, &network, SOURCE, SINK))?;
-            push(
-                alloc,
-                &mut lines,
-                solve_paths(alloc, &network, SOURCE, SINK),
-            )?;
+        for solver in Solver::ALL {
+            push(&mut lines, solver.answer(alloc, &network))?;
         }
     }
     for text in &REFUSED {
-        push_refusal(alloc, &mut lines, text)?;
+        match text::read(alloc, text) {
+            Ok(_) => writeln!(lines, "a network")?,
+            Err(fault) => writeln!(lines, "{fault}")?,
+        }
     }
-    Ok(lines)
+    let said = std::str::from_utf8(&lines)?.trim_end();
+    Ok(format!(in alloc; "{said}")?)
 }

@@ -1,13 +1,13 @@
 //! Networks as text: a line `nodes arcs`, then for each arc a line `from to capacity`, where `-` is no limit.
 
-use crate::build::{limited, roomy, unlimited};
+use crate::build::{add, roomy};
 use mm_flow::{MAX_ARCS, MAX_CAPACITY, MAX_NODES, Network, NoMemory};
 use std::alloc::Global;
 use thiserror::Error;
 
 /// Why a text is no network.
 #[derive(Clone, Copy, Debug, PartialEq, Eq, Error)]
-pub(crate) enum TextFault {
+pub enum TextFault {
     #[error("out of memory")]
     NoMemory,
     #[error("the first line is not `nodes arcs`, within the limits")]
@@ -44,16 +44,14 @@ fn arc(line: &str, nodes: u32) -> Option<(u32, u32, Option<u64>)> {
 }
 
 /// The network of a text.
-pub(crate) fn read(alloc: Global, text: &str) -> Result<Network, TextFault> {
+pub fn read(alloc: Global, text: &str) -> Result<Network, TextFault> {
     let mut lines = text.lines();
     let (nodes, arcs) = lines.next().and_then(head).ok_or(TextFault::Head)?;
     let mut network = roomy(alloc, nodes, arcs)?;
     for number in 0..arcs {
         let line = lines.next().ok_or(TextFault::Arc(number))?;
-        match arc(line, nodes).ok_or(TextFault::Arc(number))? {
-            (from, to, Some(most)) => limited(&mut network, from, to, most)?,
-            (from, to, None) => unlimited(&mut network, from, to)?,
-        }
+        let (from, to, capacity) = arc(line, nodes).ok_or(TextFault::Arc(number))?;
+        add(&mut network, from, to, capacity)?;
     }
     match lines.next() {
         Some(_) => Err(TextFault::More),
