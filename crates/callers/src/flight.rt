@@ -6,7 +6,7 @@ ghost use Rattle.mm_report.specs.declared.cause.Cause.TheVariants.{NoMemory};
 ghost use Rattle.mm_exec.specs.Flying.{AsForecast, Flies, FliesNot};
 ghost use Rattle.mm_planner.specs.PlanTexts.{PlansFor};
 ghost use Rattle.mm_exec.specs.RunInput.{run_input};
-ghost use Rattle.mm_exec.specs.declared.run_end.FlyHalted.{FlyHalted};
+ghost use Rattle.mm_carry.specs.declared.run_end.FlyHalted.{FlyHalted};
 ghost use Rattle.callers.specs.declared.ends.Burst.{Burst};
 ghost use Rattle.callers.specs.declared.ends.Downlink.{Downlink};
 
@@ -37,16 +37,22 @@ pub fn plan_and_fly<R: Threads + Wait + Sync>(
     links: Vec<Downlink>,
 ) -> Result<Told, Cause>
     requires links { All (λ l. l.failed < 2 ^ 64 - 1) links.items }
-    // The text shows that no plan loses fewer blocks than it says. If what came is what was forecast, that many were lost.
+    // The text shows that no plan loses fewer blocks than it says. If what came is what was forecast, that many were
+    // lost.
     ensures lost { IfOk result (λ told. (sheet : SheetRows) × PlansFor problem.now told.flown.sheet.items sheet
-        × (AsForecast (run_input problem.now sheet.plan 0 (memory_of setup.now) (map ⟦<Burst as Source>⟧.gives sources.items))
+        × (AsForecast (run_input problem.now sheet.plan 0 (memory_of setup.now)
+        (map ⟦<Burst as Source>⟧.gives sources.items))
         → told.lost ≡ sheet.loss)) }
     ensures flown { IfOk result (λ told. (left : Holdings)
         × Flies ⟦<Downlink as Link>⟧.sent ⟦<Downlink as Link>⟧.failed problem.now 0 (memory_of setup.now)
-        (map ⟦<Burst as Source>⟧.gives sources.items) links.items left told.flown (map ⟦<Burst as Source>⟧.gives told.flown.sources.items)) }
-    ensures halted { IfErr result (λ cause. (cause ≡ NoMemory 0) ⊎ ((left : Holdings) × (ended : FlyHalted Burst Downlink)
-        × FliesNot ⟦<Downlink as Link>⟧.sent ⟦<Downlink as Link>⟧.failed problem.now 0 (memory_of setup.now) sources.items
-        (map ⟦<Burst as Source>⟧.gives sources.items) links.items left ended (map ⟦<Burst as Source>⟧.gives ended.halted.sources.items)
+        (map ⟦<Burst as Source>⟧.gives sources.items) links.items left told.flown
+        (map ⟦<Burst as Source>⟧.gives told.flown.sources.items)) }
+    ensures halted { IfErr result (λ cause. (cause ≡ NoMemory 0)
+        ⊎ ((left : Holdings) × (ended : FlyHalted Burst Downlink)
+        × FliesNot ⟦<Downlink as Link>⟧.sent ⟦<Downlink as Link>⟧.failed problem.now 0 (memory_of setup.now)
+        sources.items
+        (map ⟦<Burst as Source>⟧.gives sources.items) links.items left ended
+        (map ⟦<Burst as Source>⟧.gives ended.halted.sources.items)
         × (cause ≡ ended.halted.cause))) }
 {
     let Ok(mut memory) = Memory::of_setup(alloc, setup) else {

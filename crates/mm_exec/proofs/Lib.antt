@@ -1,16 +1,1 @@
-pub mod Words
-pub mod RangeLists
-pub mod Replays
-pub mod Stepping
-pub mod Drawing
-pub mod Placing
-pub mod Parts
-pub mod StoresReady
-pub mod Ordered
-pub mod Counters
-pub mod StepMore
-pub mod Starting
-pub mod Halts
-pub mod Beyond
-pub mod Ended
-pub mod AccountLemmas
+pub mod Headline

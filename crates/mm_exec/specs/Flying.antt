@@ -1,20 +1,15 @@
 -- A run that begins with its plan: what is printed, and what is lost.
-use Rattle.std.specs.Prelude.{◌≡◌, ◌≤◌, ℕ, None, List, [], length, pos}
-use Rattle.mm_exec.specs.Words.{Dumping, arrivals, Fits, amount, Amounts, loss, Holdings, Supply, Sent, Reported}
-use Rattle.mm_exec.specs.Words.{totals_of, NoMemory}
+use Rattle.std.specs.Prelude.{◌≡◌, ◌≤◌, ℕ, None, List, [], pos}
+use Rattle.mm_carry.specs.Words.{Dumping, Fits, amount, Amounts, loss, Holdings, Supply, Sent, Reported, totals_of}
+use Rattle.mm_carry.specs.Words.{NoMemory}
 use Rattle.mm_plan.specs.Sheet.{SheetRows}
 use Rattle.mm_cut.specs.Cuts.{IsCut, bound}
 use Rattle.mm_planner.specs.PlanTexts.{PlansFor}
-use Rattle.mm_exec.specs.AsPlanned.{AtEach}
-use Rattle.mm_exec.specs.declared.run_end.Flown.{Flown}
-use Rattle.mm_exec.specs.declared.run_end.FlyHalted.{FlyHalted}
-use Rattle.mm_exec.specs.RunInput.{RunInput, run_input, came}
-use Rattle.mm_exec.specs.Beyond.{LosesAtMost}
-use Rattle.mm_exec.specs.Ending.{over_memory, IsCarriedOut, IsUntouched, stop_of, IsHalted}
-
--- what came is what was forecast, in each store and step
-abbrev pub AsForecast : RunInput → Type 0
-AsForecast m = AtEach (length m.problem.rows) (length m.problem.windows) (λ s t. came m s t ≡ arrivals m.problem s t)
+use Rattle.mm_carry.specs.declared.run_end.Flown.{Flown}
+use Rattle.mm_carry.specs.declared.run_end.FlyHalted.{FlyHalted}
+use Rattle.mm_carry.specs.RunInput.{RunInput, run_input}
+pub use Rattle.mm_carry.specs.Beyond.{AsForecast, LosesAtMost}
+use Rattle.mm_carry.specs.Ending.{over_memory, IsCarriedOut, IsUntouched, stop_of, IsHalted}
 
 -- THE HEADLINE: what was printed is what is lost. The printed plan fits every window and every channel's limit, no plan
 -- that fits loses fewer blocks than the printed number, and the printed cut shows this; where what came is what was

@@ -4,12 +4,11 @@ ghost use Rattle.mm_planner.specs.PlanTexts.{IsPrintedFor};
 ghost use Rattle.mm_record.specs.Supplies.{WhateverComes};
 ghost use Rattle.mm_memory.specs.Holdings.{Holdings};
 ghost use Rattle.mm_exec.specs.Flying.{Flies, FliesNot, HasNoPlan};
-ghost use Rattle.mm_exec.specs.Step.{NeverRefused};
-ghost use Rattle.mm_exec.specs.Course.{AreWithinLimits};
+ghost use Rattle.mm_carry.specs.Step.{NeverRefused};
+ghost use Rattle.mm_carry.specs.Course.{AreWithinLimits};
 
-use crate::run::carry_out;
-use crate::run_end::{FlyHalted, FlyResult, Halted};
 use mm_base::NoMemory;
+use mm_carry::{FlyHalted, FlyResult, Halted, carry_out};
 use mm_dump::Link;
 use mm_memory::Memory;
 use mm_planner::{PrintedPlan, print_plan};

@@ -1,14 +1,15 @@
 -- What a run from texts prints.
 use Rattle.std.specs.Prelude.{◌≡◌, ◌⊎◌, ℕ, ◌≤◌, List, [], All, fold, map, slice_index_or, Option, Some, None}
-use Rattle.mm_run.specs.Types.{Dumping, SpacePacket, SheetRows, Holdings, Flown, FlyHalted, ScriptedSource, ScriptedLink}
+use Rattle.mm_run.specs.Types.{Dumping, SpacePacket, SheetRows, Holdings, Flown, FlyHalted, ScriptedSource}
+use Rattle.mm_run.specs.Types.{ScriptedLink}
 use Rattle.mm_plan.specs.Table.{Table}
 use Rattle.mm_desk.specs.declared.held.Held.{Held}
 use Rattle.mm_memory.specs.Recording.{after_record}
 use Rattle.mm_record.specs.Supplies.{Supply}
 use Rattle.mm_dump.specs.Sending.{Sent}
-use Rattle.mm_exec.specs.RunInput.{RunInput, run_input}
-use Rattle.mm_exec.specs.Step.{NeverRefused}
-use Rattle.mm_exec.specs.Ending.{IsCarriedOut, IsHalted}
+use Rattle.mm_carry.specs.RunInput.{RunInput, run_input}
+use Rattle.mm_carry.specs.Step.{NeverRefused}
+use Rattle.mm_carry.specs.Ending.{IsCarriedOut, IsHalted}
 use Rattle.mm_exec.specs.Flying.{Flies, FliesNot, HasNoPlan}
 use Rattle.mm_run.specs.declared.printed.Printed.{Printed}
 use Rattle.mm_run.specs.Printed.{TellsAll, TellsEnd}
@@ -32,35 +33,44 @@ sent link = link.sent
 abbrev pub failed : ScriptedLink → ℕ
 failed link = link.failed
 
--- a run with these sources and links: the problem, the plan, the memory with the packets of step 0, and the moment 0 before the first step
+-- a run with these sources and links: the problem, the plan, the memory with the packets of step 0, and the moment 0
+-- before the first step
 abbrev pub scripted : Dumping → Table → Holdings → List ScriptedSource → RunInput
 scripted problem plan memory sources = run_input problem plan 0 memory (map gives sources)
 
--- the plan of the sheet was carried out, and no text of it is printed; or without a sheet, a plan was made, printed and carried out
-unfoldable pub IsFlown : Option SheetRows → Dumping → Holdings → List ScriptedSource → List ScriptedLink → Holdings → Flown ScriptedSource ScriptedLink → Type 0
+-- the plan of the sheet was carried out, and no text of it is printed; or without a sheet, a plan was made, printed and
+-- carried out
+unfoldable pub IsFlown : Option SheetRows → Dumping → Holdings → List ScriptedSource → List ScriptedLink → Holdings
+    → Flown ScriptedSource ScriptedLink → Type 0
 IsFlown (Some sheet) problem memory sources links left flown = (flown.sheet.items ≡ [])
-    × IsCarriedOut sent failed (scripted problem sheet.plan memory sources) sheet.plan links left (map gives flown.sources.items) flown.links.items flown.report
+    × IsCarriedOut sent failed (scripted problem sheet.plan memory sources) sheet.plan links left
+    (map gives flown.sources.items) flown.links.items flown.report
 IsFlown None problem memory sources links left flown =
     Flies sent failed problem 0 memory (map gives sources) links left flown (map gives flown.sources.items)
 
--- the run of the sheet's plan did not begin, or was halted, and no text of the plan is printed; or without a sheet, this is so of a plan
--- that was made and printed, or there was no memory to plan
-unfoldable pub IsNotFlown : Option SheetRows → Dumping → Holdings → List ScriptedSource → List ScriptedLink → Holdings → FlyHalted ScriptedSource ScriptedLink → Type 0
+-- the run of the sheet's plan did not begin, or was halted, and no text of the plan is printed; or without a sheet,
+-- this is so of a plan that was made and printed, or there was no memory to plan
+unfoldable pub IsNotFlown : Option SheetRows → Dumping → Holdings → List ScriptedSource → List ScriptedLink → Holdings
+    → FlyHalted ScriptedSource ScriptedLink → Type 0
 IsNotFlown (Some sheet) problem memory sources links left ended = (ended.sheet.items ≡ [])
-    × IsHalted sent failed (scripted problem sheet.plan memory sources) sheet.plan sources links left ended.halted (map gives ended.halted.sources.items)
+    × IsHalted sent failed (scripted problem sheet.plan memory sources) sheet.plan sources links left ended.halted
+    (map gives ended.halted.sources.items)
 IsNotFlown None problem memory sources links left ended =
-    FliesNot sent failed problem 0 memory sources (map gives sources) links left ended (map gives ended.halted.sources.items)
+    FliesNot sent failed problem 0 memory sources (map gives sources) links left ended
+    (map gives ended.halted.sources.items)
     ⊎ HasNoPlan memory sources links left ended
 
 -- the run was carried out, and this is printed
-pub record EndsWhole (sheet : Option SheetRows) (problem : Dumping) (memory : Holdings) (sources : List ScriptedSource) (links : List ScriptedLink) (p : Printed) : Type 0 where
+pub record EndsWhole (sheet : Option SheetRows) (problem : Dumping) (memory : Holdings) (sources : List ScriptedSource)
+    (links : List ScriptedLink) (p : Printed) : Type 0 where
   pub left : Holdings
   pub flown : Flown ScriptedSource ScriptedLink
   pub is_flown : IsFlown sheet problem memory sources links left flown
   pub tells : TellsAll flown.sheet.items flown.report p
 
 -- the run did not begin, or was halted, though never since a store refused a packet, and this is printed
-pub record EndsEarly (sheet : Option SheetRows) (problem : Dumping) (memory : Holdings) (sources : List ScriptedSource) (links : List ScriptedLink) (p : Printed) : Type 0 where
+pub record EndsEarly (sheet : Option SheetRows) (problem : Dumping) (memory : Holdings) (sources : List ScriptedSource)
+    (links : List ScriptedLink) (p : Printed) : Type 0 where
   pub left : Holdings
   pub ended : FlyHalted ScriptedSource ScriptedLink
   pub not_flown : IsNotFlown sheet problem memory sources links left ended
@@ -69,10 +79,12 @@ pub record EndsEarly (sheet : Option SheetRows) (problem : Dumping) (memory : Ho
 
 -- how the run ended, and what is printed of it
 abbrev pub RunEnds : Option SheetRows → Dumping → Holdings → List ScriptedSource → List ScriptedLink → Printed → Type 0
-RunEnds sheet problem memory sources links p = EndsWhole sheet problem memory sources links p ⊎ EndsEarly sheet problem memory sources links p
+RunEnds sheet problem memory sources links p = EndsWhole sheet problem memory sources links p ⊎ EndsEarly sheet problem
+    memory sources links p
 
 -- what is printed of the run that the texts say: of the plan of a text, or of one that is made
-pub record PrintsRun (plan : Option (List ℕ)) (setup forecast sources_text links_text : List ℕ) (p : Printed) : Type 0 where
+pub record PrintsRun (plan : Option (List ℕ)) (setup forecast sources_text links_text : List ℕ)
+    (p : Printed) : Type 0 where
   pub problem : Dumping
   pub memory : Holdings
   pub sheet : Option SheetRows

@@ -1,7 +1,7 @@
 //! The run of a plan, from texts.
 ghost use Rattle.std.specs.Prelude.{◌≡◌, ◌-◌, ◌<◌, ◌^◌, Option, Some, [], All, length, IfOk, IfErr};
-ghost use Rattle.mm_exec.specs.Course.{AreWithinLimits};
-ghost use Rattle.mm_exec.specs.Step.{NeverRefused};
+ghost use Rattle.mm_carry.specs.Course.{AreWithinLimits};
+ghost use Rattle.mm_carry.specs.Step.{NeverRefused};
 ghost use Rattle.mm_record.specs.Supplies.{WhateverComes};
 ghost use Rattle.mm_run.specs.Types.{SheetRows};
 ghost use Rattle.mm_run.specs.Prepared.{IsPlanBy, text_of_plan};
@@ -10,7 +10,8 @@ ghost use Rattle.mm_run.specs.Runs.{gives, IsFlown, IsNotFlown};
 use crate::link::ScriptedLink;
 use crate::run_plan::RunPlan;
 use crate::source::ScriptedSource;
-use mm_exec::{FlyHalted, FlyResult, carry_out, fly_printed, unplanned};
+use mm_carry::{FlyHalted, FlyResult, carry_out};
+use mm_exec::{fly_printed, unplanned};
 use mm_memory::Memory;
 use mm_plan::Sheet;
 use mm_problem::Problem;

@@ -1,6 +1,6 @@
 //! A run that is read, judged and planned, and has not begun.
 ghost use Rattle.std.specs.Prelude.{◌-◌, ◌<◌, ◌^◌, All, length, map};
-ghost use Rattle.mm_exec.specs.Course.{AreWithinLimits};
+ghost use Rattle.mm_carry.specs.Course.{AreWithinLimits};
 ghost use Rattle.mm_run.specs.Printed.{IsReserved};
 ghost use Rattle.mm_run.specs.Runs.{gives};
 
@@ -9,7 +9,7 @@ use crate::link::ScriptedLink;
 use crate::printed::Printed;
 use crate::run_plan::RunPlan;
 use crate::source::ScriptedSource;
-use mm_exec::{Flown, FlyHalted};
+use mm_carry::{Flown, FlyHalted};
 use mm_memory::Memory;
 use mm_problem::Problem;
 use std::alloc::Global;

@@ -1,5 +1,5 @@
 use Rattle.std.proofs.Common.{◌∙◌, refl}
-use Rattle.mm_exec.proofs.Ended.{headline_of}
+use Rattle.mm_exec.proofs.Headline.{headline_of}
 use Rattle.mm_exec.proofs.flying.fly_printed.Goals as goal
 
 pub returns-in-Ok-clause-flown : goal.returns-in-Ok-clause-flown

@@ -1,6 +1,6 @@
 use Rattle.mm_record.proofs.Supplying.{as_known}
-use Rattle.mm_exec.specs.RunInput.{run_input}
-use Rattle.mm_exec.specs.Ending.{IsCarriedOut, IsHalted}
+use Rattle.mm_carry.specs.RunInput.{run_input}
+use Rattle.mm_carry.specs.Ending.{IsCarriedOut, IsHalted}
 use Rattle.mm_run.specs.Runs.{gives, sent, failed, IsFlown, IsNotFlown}
 use Rattle.mm_run.proofs.flight.fly_given.Goals as goal
 

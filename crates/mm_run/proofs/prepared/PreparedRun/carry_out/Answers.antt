@@ -1,46 +1,49 @@
-use Rattle.std.proofs.Common.{inl, inr, length}
+use Rattle.std.proofs.Common.{inl, inr, ℕ, List, length}
+use Rattle.std.specs.Prelude.{Option}
 use Rattle.mm_record.proofs.Supplying.{as_known}
-use Rattle.mm_exec.specs.Course.{AreWithinLimits}
-use Rattle.mm_exec.specs.Step.{NeverRefused}
-use Rattle.mm_run.specs.Runs.{gives}
+use Rattle.mm_carry.specs.Course.{AreWithinLimits}
+use Rattle.mm_carry.specs.Step.{NeverRefused}
+use Rattle.mm_run.specs.declared.prepared.PreparedRun.{PreparedRun}
+use Rattle.mm_run.specs.declared.printed.Printed.{Printed}
+use Rattle.mm_run.specs.Prepared.{IsPrepared}
+use Rattle.mm_run.specs.Runs.{PrintsRun, RunEnds, gives}
 use Rattle.mm_run.proofs.prepared.PreparedRun.carry_out.Goals as goal
 
-pub returns-in-Ok-clause-runs : goal.returns-in-Ok-clause-runs
-returns-in-Ok-clause-runs g c = λ plan setup forecast sources links run. record {
-  problem = c.args.self.problem;
+-- what is printed of a run that was prepared, by how it ended
+prints : {plan : Option (List ℕ)} {setup forecast sources links : List ℕ} (prepared : PreparedRun) (p : Printed)
+    → (run : IsPrepared plan setup forecast sources links prepared)
+    → RunEnds run.sheet prepared.problem prepared.memory prepared.sources.items prepared.links.items p
+    → PrintsRun plan setup forecast sources links p
+prints prepared p run ends = record {
+  problem = prepared.problem;
   memory = run.memory;
   sheet = run.sheet;
   start_says = run.start_says;
   opening = run.opening;
-  sources = c.args.self.sources.items;
-  links = c.args.self.links.items;
+  sources = prepared.sources.items;
+  links = prepared.links.items;
   sides_say = run.sides_say;
-  ended = rw (← run.opened) (inl (record {
-    left = c.fly_plan.new.memory;
-    flown = c.in-Ok.field-0;
-    is_flown = c.in-Ok.ensures.flown run.sheet run.plan_is;
-    tells = c.whole.ensures;
-  }));
+  ended = rw (← run.opened) ends;
 }
 
+pub returns-in-Ok-clause-runs : goal.returns-in-Ok-clause-runs
+returns-in-Ok-clause-runs g c = λ plan setup forecast sources links run.
+    prints c.args.self c.whole.result run (inl (record {
+      left = c.fly_plan.new.memory;
+      flown = c.in-Ok.field-0;
+      is_flown = c.in-Ok.ensures.flown run.sheet run.plan_is;
+      tells = c.whole.ensures;
+    }))
+
 pub returns-clause-runs : goal.returns-clause-runs
-returns-clause-runs g c = λ plan setup forecast sources links run. record {
-  problem = c.args.self.problem;
-  memory = run.memory;
-  sheet = run.sheet;
-  start_says = run.start_says;
-  opening = run.opening;
-  sources = c.args.self.sources.items;
-  links = c.args.self.links.items;
-  sides_say = run.sides_say;
-  ended = rw (← run.opened) (inr (record {
-    left = c.fly_plan.new.memory;
-    ended = c.in-Err.field-0;
-    not_flown = c.in-Err.ensures.not_flown run.sheet run.plan_is;
-    never_refused = as_known gives c.args.self.sources.items c.in-Err.field-0.halted.sources.items
-        (λ given rest. AreWithinLimits (length c.args.self.problem.windows) c.args.self.memory.stores given
-        → NeverRefused c.in-Err.field-0.halted.cause)
-        c.in-Err.ensures.far c.args.self.within;
-    tells = c.stopped.ensures;
-  }));
-}
+returns-clause-runs g c = λ plan setup forecast sources links run.
+    prints c.args.self c.stopped.result run (inr (record {
+      left = c.fly_plan.new.memory;
+      ended = c.in-Err.field-0;
+      not_flown = c.in-Err.ensures.not_flown run.sheet run.plan_is;
+      never_refused = as_known gives c.args.self.sources.items c.in-Err.field-0.halted.sources.items
+          (λ given rest. AreWithinLimits (length c.args.self.problem.windows) c.args.self.memory.stores given
+          → NeverRefused c.in-Err.field-0.halted.cause)
+          c.in-Err.ensures.far c.args.self.within;
+      tells = c.stopped.ensures;
+    }))

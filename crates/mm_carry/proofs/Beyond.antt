@@ -1,0 +1,107 @@
+-- What comes beyond the forecast costs no more than itself.
+use Rattle.std.proofs.Common.{◌≡◌, ℕ, zero, suc, ◌+◌, ◌-◌, ◌<◌, ◌≤◌, min, List, length, refl, ◌∙◌, ap, subst, arith}
+use Rattle.std.proofs.Common.{add-one}
+use Rattle.mm_base.proofs.RangeSums.{sum_by_range_zeros}
+use Rattle.mm_carry.specs.Beyond.{AsForecast, LosesAtMost, more_came}
+use Rattle.mm_carry.proofs.Words.{sum_by, range_with_len, sum_by_range_more, sum_by_range-le, sum_by_range_same}
+use Rattle.mm_carry.proofs.Words.{sum_by-add, Dumping, arrivals, size, steps, stores, left_start, left_step, Amounts}
+use Rattle.mm_carry.proofs.Words.{left, lost, loss, store_loss, RunInput, as_came}
+use Rattle.mm_carry.proofs.Counters.{came_at}
+
+-- a sum over one step more
+sum_next : (f : ℕ → ℕ) (n : ℕ) → sum_by f (range_with_len 1 (suc n)) ≡ sum_by f (range_with_len 1 n) + f (suc n)
+sum_next f n =
+    subst
+    (λ k. sum_by f (range_with_len 1 k) ≡ sum_by f (range_with_len 1 n) + f k)
+    (add-one n)
+    (sum_by_range_more f 1 n (n + 1) (omega arith))
+
+-- of a step, what is lost, and what is left
+lost_next : (q : Dumping) (x : Amounts) (s n : ℕ)
+    → lost q x s (suc n) ≡ left q x s n + arrivals q s (suc n) - min (left q x s n + arrivals q s (suc n)) (size q s)
+lost_next q x s n = let back : suc n - 1 ≡ n = omega arith in rw back refl
+
+left_next : (q : Dumping) (x : Amounts) (s n : ℕ)
+    → left q x s (suc n) ≡ min (left q x s n + arrivals q s (suc n)) (size q s)
+    - min (x s (suc n)) (min (left q x s n + arrivals q s (suc n)) (size q s))
+left_next q x s n =
+    let back : suc n - 1 ≡ n = omega arith in
+    left_step q x s n (suc n) (omega arith) ∙ rw back refl
+
+-- one step of a store of size z that holds v blocks, and of one that holds w: a blocks arrive, and b, and of what is
+-- written x leave. The second loses, and then holds, more by at most what it held more and what arrived more
+step_costs : (v w a b z x : ℕ)
+    → (w + b - min (w + b) z) + ((min (w + b) z - min x (min (w + b) z)) - (min (v + a) z - min x (min (v + a) z)))
+    ≤ (v + a - min (v + a) z) + (w - v) + (b - a)
+step_costs v w a b z x = omega arith
+
+-- the costs of a step are added to those of the steps before it
+chain : (more_lost lost came d next_more_lost next_lost next_came next_d : ℕ) → more_lost + d ≤ lost + came
+    → next_more_lost + next_d ≤ next_lost + d + next_came
+    → (more_lost + next_more_lost) + next_d ≤ (lost + next_lost) + (came + next_came)
+chain more_lost lost came d next_more_lost next_lost next_came next_d before here = omega (arith, before, here)
+
+module _ (q : Dumping) (other : List ℕ) (x : Amounts) where
+  -- the problem with other arrivals
+  abbrev c : Dumping
+  c = record q { arrived = other }
+
+  -- how much more arrives
+  abbrev more : ℕ → ℕ → ℕ
+  more s t = arrivals c s t - arrivals q s t
+
+  -- what a store loses up to a step, and holds after it, is more by at most what came more
+  store_costs : (s n : ℕ)
+      → sum_by (lost c x s) (range_with_len 1 n) + (left c x s n - left q x s n)
+      ≤ sum_by (lost q x s) (range_with_len 1 n) + sum_by (more s) (range_with_len 1 n)
+  store_costs s zero = omega (arith, left_start c x s, left_start q x s)
+  store_costs s (suc n) =
+      let here = step_costs (left q x s n) (left c x s n) (arrivals q s (suc n)) (arrivals c s (suc n)) (size q s)
+      (x s (suc n)) in
+      rw (sum_next (lost c x s) n, sum_next (lost q x s) n, sum_next (more s) n)
+      (chain _ _ _ _ _ _ _ _ (store_costs s n)
+      (rw (lost_next c x s n, lost_next q x s n, left_next c x s n, left_next q x s n) here))
+
+  -- what all stores lose
+  loss_costs : loss c x ≤ loss q x + sum_by (λ s. sum_by (more s) (steps q)) (stores q)
+  loss_costs =
+      let each = sum_by_range-le (store_loss c x) (λ s. store_loss q x s + sum_by (more s) (steps q)) 0 (length q.rows)
+      (λ s _ _. omega (arith, store_costs s (length q.windows))) in
+      omega (arith, each, sum_by-add (store_loss q x) (λ s. sum_by (more s) (steps q)) (stores q))
+
+  -- where no more arrives, no more is lost
+  loss_no_more : ((s t : ℕ) → s < length q.rows → 1 ≤ t → t ≤ length q.windows → arrivals c s t ≤ arrivals q s t)
+      → loss c x ≤ loss q x
+  loss_no_more each =
+      let none = sum_by_range_zeros (λ s. sum_by (more s) (steps q)) 0 (length q.rows)
+      (λ s _ store. sum_by_range_zeros (more s) 1 (length q.windows)
+      (λ t first last. omega (arith, each s t (omega arith) first (omega arith)))) in
+      omega (arith, loss_costs, none)
+
+-- where what comes is what was forecast, the plan loses of it what it loses of the forecast
+pub same_loss : (m : RunInput) → AsForecast m → loss (as_came m) m.amounts ≡ loss m.problem m.amounts
+same_loss m met =
+    omega (
+      arith,
+      loss_no_more m.problem (as_came m).arrived m.amounts
+          (λ s t store first last. omega (arith, came_at m s t store first last, met s t store first last)),
+      loss_no_more (as_came m) m.problem.arrived m.amounts
+          (λ s t store first last. omega (arith, came_at m s t store first last, met s t store first last)),
+    )
+
+-- the lost packets of a run, beside the loss of its plan
+pub loses_at_most : (m : RunInput) (planned lost_in_run : ℕ) → loss m.problem m.amounts ≡ planned
+    → lost_in_run ≡ loss (as_came m) m.amounts → LosesAtMost m planned lost_in_run
+loses_at_most m planned lost_in_run planned_is total =
+    let q = m.problem in
+    let same = sum_by_range_same (λ s. sum_by (more q (as_came m).arrived m.amounts s) (steps q))
+    (λ s. sum_by (more_came m s) (steps q)) 0 (length q.rows)
+    (λ s _ store. sum_by_range_same (more q (as_came m).arrived m.amounts s) (more_came m s) 1 (length q.windows)
+    (λ t first last. ap (λ k. k - arrivals q s t) (came_at m s t (omega arith) first (omega arith)))) in
+    record {
+      beyond = omega (arith, planned_is, total, same, loss_costs q (as_came m).arrived m.amounts);
+      within = λ met.
+          let no_more = loss_no_more q (as_came m).arrived m.amounts
+          (λ s t store first last. omega (arith, came_at m s t store first last, met s t store first last)) in
+          omega (arith, planned_is, total, no_more);
+    }

@@ -1,0 +1,188 @@
+-- Stores that are ready, and counts that are far from their end, from step to step.
+use Rattle.std.proofs.Common.{◌≡◌, inl, inr, ℕ, ◌*◌, ◌<◌, ◌≤◌, ◌^◌, List, [], ◌∷◌, ◌++◌, length, map, get_or, All, refl}
+use Rattle.std.proofs.Common.{sym, ap, subst, ◌∙◌, ◌-◌, arith}
+use Rattle.mm_carry.proofs.Words.{cases_lt, length-map, get_or-map, All-nil, All-cons, All-map, sum_by-le, AllZip}
+use Rattle.mm_carry.proofs.Words.{IsTrue, Option, Some, None, filter, All-front, sum_by-map, SpacePacket}
+use Rattle.mm_carry.proofs.Words.{OrdersDumpTheOldest, State, IsState, count_of, blank, opening_at, replay, Event}
+use Rattle.mm_carry.proofs.Words.{Offer, Held, labels_of, states_of, id_at, ids_of, is_routed, filter_fewer}
+use Rattle.mm_carry.proofs.Words.{RecordingContext, offers, given_in, Supply, Course, EndedAs, HasTried, MayDump}
+use Rattle.mm_carry.proofs.Words.{BrokenOrdersChangeNothing, Sent, Order, OrderBroken, AreFirstOffers}
+use Rattle.mm_carry.proofs.Words.{StepRunsKeepStores, RunState, AreReady, MayCarry, StepRecorded, StepDone, StepBroke}
+use Rattle.mm_carry.proofs.Words.{IsBy, AreBy, KeepsStore, StepBroken}
+use Rattle.mm_carry.proofs.Replays.{KeepsSwitches, run_moves}
+use Rattle.mm_carry.proofs.Placing.{no_held}
+use Rattle.mm_carry.proofs.Parts.{as_many, by_how, first_turns}
+
+-- the state at a place is that of the store there
+pub state_there : (held : List Held) (k : ℕ) (d : Held) → k < length held → opening_at (states_of held) k
+    ≡ (get_or held k d).state
+state_there held k d within = get_or-map (λ (h : Held). h.state) held k d blank within
+
+-- what holds of each state holds of each store
+pub all_states : (P : State → Type 0) (held : List Held)
+    → ((k : ℕ) → k < length held → P (opening_at (states_of held) k)) → All (λ h. P h.state) held
+all_states P held each k d within = subst P (state_there held k d within) (each k within)
+
+pub state_holds : (P : State → Type 0) (held : List Held) → All (λ h. P h.state) held → (k : ℕ) → k < length held
+    → P (opening_at (states_of held) k)
+state_holds P held all k within = subst P (sym (state_there held k no_held within)) (all k no_held within)
+
+-- offers of a step are made at its moment
+offers_by : (e : RecordingContext) (k : ℕ) (g : List SpacePacket) → All (IsBy e.now) (offers e k g)
+offers_by e k g = All-map (IsBy e.now) (λ (p : SpacePacket). Offer e.now p) (filter (is_routed e.routes (id_at e.ids k))
+    g) (λ i p inside. omega arith)
+
+pub all_by : (e : RecordingContext) (k : ℕ) (gave : List (List SpacePacket)) → AreBy e.now (map (offers e k) gave)
+all_by e k gave = All-map (λ (list : List Event). All (IsBy e.now) list) (offers e k) gave
+    (λ i g inside. offers_by e k (get_or gave i g))
+
+-- stores that are sound, and whose switches are as they were, are ready where they were
+ready_on : (stores left : List Held) → labels_of left ≡ labels_of stores → All (λ h. IsState h.state) left
+    → ((k : ℕ) → k < length (states_of left) → KeepsSwitches (opening_at (states_of stores) k)
+    (opening_at (states_of left) k)) → AreReady stores → AreReady left
+ready_on stores left labels sound at ready =
+    let many = as_many left stores labels in
+    let counted = length-map left (λ (h : Held). h.state) in
+    record {
+      sound = sound;
+      storage = all_states (λ (s : State). IsTrue s.storage) left (λ k within.
+          (at k (omega (arith, counted, within))).storage ∙ state_holds (λ (s : State). IsTrue s.storage) stores
+          ready.storage k (omega (arith, many, within)));
+      idle = all_states (λ (s : State). s.retrieval ≡ None) left (λ k within.
+          (at k (omega (arith, counted, within))).retrieval ∙ state_holds (λ (s : State). s.retrieval ≡ None) stores
+          ready.idle k (omega (arith, many, within)));
+    }
+
+-- stores that have recorded are ready
+pub ready_recorded : {L : Type 0} (e : RecordingContext) (before mid : RunState Supply L) → AreReady before.stores
+    → StepRecorded e before mid → AreReady mid.stores
+ready_recorded e before mid ready recorded =
+    ready_on before.stores mid.stores recorded.labels recorded.sound
+    (λ k within.
+    let has = recorded.stores_are k within in
+    (run_moves e.now (map (offers e k) (given_in e.step before.sources)) has.log _ _ has.run has.shuffle
+    (all_by e k (given_in e.step before.sources))).switches) ready
+
+-- the first of the offers of sources are offers at the moment
+firsts_by : (e : RecordingContext) (k : ℕ) (given : List (List SpacePacket)) (firsts : List (List Event))
+    → AllZip (AreFirstOffers e k) given firsts → AreBy e.now firsts
+firsts_by e k [] [] are = All-nil (λ (list : List Event). All (IsBy e.now) list)
+firsts_by e k (g ∷ gs) (f ∷ fs) are =
+    All-cons (λ (list : List Event). All (IsBy e.now) list) f fs
+    (All-front (IsBy e.now) f are.0.0 (subst (All (IsBy e.now)) are.0.1 (offers_by e k g))) (firsts_by e k gs fs are.1)
+firsts_by e k given firsts are = absurd are
+
+-- an order leaves the switches
+tried_keeps : OrdersDumpTheOldest → BrokenOrdersChangeNothing → (k : ℕ) (s t : State) (taken : ℕ) (c : Course)
+    → IsState s → HasTried taken k c s t → KeepsSwitches s t
+tried_keeps dump changes k s t taken c sound tried = elim (cases_lt 0 taken) [
+  | inl some ↦ by_why c.why (tried.some some).1
+  | inr none ↦ alike (tried.run.leaves ∙ ap (replay s) (tried.none (omega arith)).0)
+]
+  where
+    alike : t ≡ s → KeepsSwitches s t
+    alike same = rw same (record { storage = refl; retrieval = refl })
+
+    by_why : (why : Option OrderBroken) → EndedAs why c → KeepsSwitches s t
+    by_why None whole = rw (dump s t c.seat c.order.amount c.sent c.calls sound whole.order tried.run).others
+        (record { storage = refl; retrieval = refl })
+    by_why (Some why) broke = alike (changes s t c.seat c.order.amount (c.sent ++ c.unsent) c.calls broke.order
+        tried.run).0
+
+-- stores of a step that was broken off are ready for more
+pub ready_halted : {L : Type 0} (sent : L → List Sent) (failed : L → ℕ) (e : RecordingContext) (orders : List Order)
+    (before after : RunState Supply L) (stop : StepBroken) → OrdersDumpTheOldest → BrokenOrdersChangeNothing
+    → ids_of before.stores ≡ e.ids → AreReady before.stores
+    → StepBroke sent failed e orders before after stop → AreReady after.stores
+ready_halted sent failed e orders before after stop dump changes ids ready =
+    by_how sent failed e orders before after stop (AreReady after.stores)
+    (λ early.
+    let records = early.records in
+    let many = as_many after.stores before.stores records.labels in
+    let all = ap length (sym ids) ∙ length-map before.stores (λ (h : Held). h.id) in
+    ready_on before.stores after.stores records.labels records.sound
+    (λ k within.
+    let went = records.went k within in
+    let asked : List (List Event) = map (λ run. run.offered k) records.runs in
+    let turns = first_turns e before.sources after.sources records.runs k records.are_runs
+    (omega (arith, within, counted, many, all)) in
+    (run_moves e.now asked went.log _ _ went.run went.shuffle (firsts_by e k (given_in e.step before.sources) asked
+    turns)).switches) ready)
+    (λ mid recorded broke.
+    let ready_mid = ready_recorded e before mid ready recorded in
+    let many = as_many after.stores mid.stores broke.labels in
+    ready_on mid.stores after.stores broke.labels broke.sound
+    (λ k within.
+    tried_keeps dump changes k _ _ _ (broke.settled.course k) (state_holds IsState mid.stores ready_mid.sound k
+    (omega (arith, within, counted, many)))
+    (broke.settled.stores k within)) ready_mid)
+  where
+    counted : length (states_of after.stores) ≡ length after.stores
+    counted = length-map after.stores (λ (h : Held). h.state)
+
+-- a step's dump may be carried out after what came is recorded
+pub may_dump : {S L : Type 0} (failed : L → ℕ) (moment : ℕ) (orders : List Order) (before mid : RunState S L)
+    → MayCarry failed moment orders before
+    → length mid.stores ≡ length before.stores → mid.links ≡ before.links → AreReady mid.stores → MayDump failed orders
+    mid.stores mid.links
+may_dump failed moment orders before mid may many links ready =
+    let there = subst (λ (n : ℕ). All (λ (o : Order). o.place < n) orders) (sym many) may.orders_may.places in
+    record {
+      lowest = omega (arith, ap length links, may.some_link);
+      highest = omega (arith, ap length links, may.few_links);
+      few = omega (arith, many, may.record_may.few);
+      few_orders = may.orders_may.few;
+      places = there;
+      amounts = may.orders_may.some;
+      distinct = may.orders_may.apart;
+      idle = λ i d inside. state_holds (λ (s : State). s.retrieval ≡ None) mid.stores ready.idle
+          (get_or orders i d).place (there i d inside);
+      room = subst (All (λ l. failed l < 2 ^ 64 - 1)) (sym links) may.links;
+    }
+
+-- a store that was offered at most this many packets, and whose last storage time is no later
+pub record IsFar (bound : ℕ) (s : State) : Type 0 where
+  pub offered : s.offered ≤ bound
+  pub last : s.store.last ≤ bound
+
+-- no more packets are offered than are given
+pub offers_few : (e : RecordingContext) (k most : ℕ) (gave : List (List SpacePacket)) → All (λ ps. length ps ≤ most)
+    gave → count_of (map (offers e k) gave) ≤ length gave * most
+offers_few e k most gave all =
+    subst (λ (n : ℕ). n ≤ length gave * most) (sym (sum_by-map (λ (events : List Event). length events) (offers e k)
+    gave)) (sum_by-le (λ (g : List SpacePacket). length (offers e k g)) most gave each)
+  where
+    each : All (λ g. length (offers e k g) ≤ most) gave
+    each i d inside =
+        let kept = filter (is_routed e.routes (id_at e.ids k)) (get_or gave i d) in
+        let few : length kept ≤ length (get_or gave i d) = filter_fewer (is_routed e.routes (id_at e.ids k))
+        (get_or gave i d) in
+        let most_here : length (get_or gave i d) ≤ most = all i d inside in
+        omega (arith, length-map kept (λ (p : SpacePacket). Offer e.now p), few, most_here)
+
+-- what a step keeps of each store
+module _ {L : Type 0} (sent : L → List Sent) (failed : L → ℕ) (law : StepRunsKeepStores) (e : RecordingContext)
+    (orders : List Order)
+    (before after : RunState Supply L) (fits : e.now < 2 ^ 64) (ready : AreReady before.stores)
+    (done : StepDone sent failed e orders before after) where
+  many : length after.stores ≡ length before.stores
+  many = as_many after.stores before.stores done.labels
+
+  abbrev came_at_most : ℕ → ℕ
+  came_at_most k = count_of (map (offers e k) (given_in e.step before.sources))
+
+  kept_at : (k : ℕ) → k < length after.stores → KeepsStore e.now (came_at_most k)
+      (opening_at (states_of before.stores) k) (opening_at (states_of after.stores) k)
+  kept_at k within =
+      law e.now _ _ (map (offers e k) (given_in e.step before.sources)) _ _ fits
+      (state_holds IsState before.stores ready.sound k (omega (arith, many)))
+      (all_by e k (given_in e.step before.sources)) (done.runs k within)
+
+  -- the stores are ready for the next step
+  pub ready_after : AreReady after.stores
+  ready_after =
+      ready_on before.stores after.stores done.labels (all_states IsState after.stores
+      (λ k within. (kept_at k within).sound))
+      (λ k within.
+      let kept = kept_at k (omega (arith, within, length-map after.stores (λ (h : Held). h.state))) in
+      record { storage = kept.storage; retrieval = kept.retrieval }) ready

@@ -1,0 +1,13 @@
+use Rattle.mm_carry.proofs.Stepping.{as_planned, all_lost}
+use Rattle.mm_carry.proofs.laws.runs_lose_as_planned.Goals as goal
+use Rattle.std.proofs.Common.{length}
+
+pub returns-clause-each : goal.returns-clause-each
+returns-clause-each c = as_planned c.any_order_loses_alike.ensures.leaves c.events_keep_a_state.ensures.log
+    c.orders_dump_the_oldest.ensures.law
+
+pub returns-clause-total : goal.returns-clause-total
+returns-clause-total c = λ q x offers gave states is.
+    all_lost q x states
+    (as_planned c.any_order_loses_alike.ensures.leaves c.events_keep_a_state.ensures.log
+    c.orders_dump_the_oldest.ensures.law q x (length q.windows) offers gave states is)

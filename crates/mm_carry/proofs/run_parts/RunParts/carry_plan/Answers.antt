@@ -1,0 +1,90 @@
+use Rattle.std.proofs.Common.{◌∙◌, length, refl, inl, inr, All, arith, ap, subst}
+use Rattle.mm_carry.proofs.Words.{IfErr-weaker, IsState, Held, stores_in, RunStart, run_start, Stops, MayBegin}
+use Rattle.mm_carry.proofs.Words.{state_of, RunStopped}
+use Rattle.mm_carry.proofs.Ended.{start_by, not_begun}
+use Rattle.mm_carry.proofs.run_parts.RunParts.carry_plan.Given as given
+use Rattle.mm_carry.proofs.run_parts.RunParts.carry_plan.Goals as goal
+use Rattle.mm_carry.proofs.run_parts.RunParts.carry_plan.Goals.{After-ready}
+
+-- what the tests say of what they read holds of the run
+tested : (g : given.Over) (c : goal.After-ready g) (P : RunStart → Type 0) → let run = c.args.run.now in
+    P (run_start run.problem.now run.plan.now c.as_slice-stores.result.now run.base c.len-many_sources.result
+    c.len-many_links.result)
+    → let parts = c.args.self.now in P (run_start run.problem.now run.plan.now parts.stores.items run.base
+    (length parts.sources.items) (length parts.links.items))
+tested g c P =
+    let parts = c.args.self.now in
+    start_by P _ _ _ c.as_slice-stores.ensures.value (omega (arith, c.len-many_sources.ensures, parts.sources.ok.0))
+    (omega (arith, c.len-many_links.ensures, parts.links.ok.0))
+
+pub returns-in-Err-clause-stopped : goal.returns-in-Err-clause-stopped
+returns-in-Err-clause-stopped g c =
+    not_begun _ _ g.L.Link.sent g.L.Link.failed c.args.run.now (state_of c.args.self.now) c.never_began.result
+    c.never_began.ensures.broken c.never_began.ensures.report
+    (inl (tested g (goal.at.returns-in-Err-clause-stopped g c).After-ready (λ o. Stops o c.in-Err.cause)
+    c.in-Err.ensures.err))
+
+pub returns-in_default-open_all-clause-stopped : goal.returns-in_default-open_all-clause-stopped
+returns-in_default-open_all-clause-stopped g c =
+    let ended = c.never_began-in_default-open_all in
+    rw c.in_default-open_all.ensures.err
+    (not_begun _ _ g.L.Link.sent g.L.Link.failed c.args.run.now (state_of c.args.self.now) ended.result
+    ended.ensures.broken ended.ensures.report
+    (inr (
+      refl,
+      tested g (goal.at.returns-in_default-open_all-clause-stopped g c).After-ready MayBegin
+          c.in_default.ensures.ok,
+    )))
+
+pub returns-in_default-reserve_run-clause-stopped : goal.returns-in_default-reserve_run-clause-stopped
+returns-in_default-reserve_run-clause-stopped g c =
+    let ended = c.never_began-in_default-reserve_run in
+    not_begun _ _ g.L.Link.sent g.L.Link.failed c.args.run.now (state_of c.args.self.now) ended.result
+    ended.ensures.broken ended.ensures.report
+    (inr (
+      refl,
+      tested g (goal.at.returns-in_default-reserve_run-clause-stopped g c).After-ready MayBegin
+          c.in_default.ensures.ok,
+    ))
+
+pub carry_steps-ended-requires-clause-may : goal.carry_steps-ended-requires-clause-may
+carry_steps-ended-requires-clause-may g c κs within =
+    let opened = c.in-Ok-open_all.ensures.opened.1 in
+    rw (c.read_states.ensures.same, opened, c.replace.ensures.value, c.replace-2.ensures.value) (record {
+      begins = tested g (goal.at.carry_steps-ended-requires-clause-may g c).After-ready MayBegin
+          c.in_default.ensures.ok;
+      held = c.requires.held;
+      sound = subst (All (λ (h : Held). IsState h.state)) opened c.read_states.ensures.sound;
+      links = c.requires.links;
+      report = c.in-Ok.ensures.report;
+      orders = c.in-Ok.ensures.orders;
+    })
+
+pub returns-clause-done : goal.returns-clause-done
+returns-clause-done g c =
+    let opened = ap stores_in c.read_states.ensures.same ∙ c.in-Ok-open_all.ensures.opened.1 in
+    rw (opened, c.replace.ensures.value, c.replace-2.ensures.value, ← c.open.view_is, ← c.close_all.ensures.stores)
+    at c.carry_steps-ended.ensures.done
+
+pub returns-clause-stopped : goal.returns-clause-stopped
+returns-clause-stopped g c =
+    let opened = ap stores_in c.read_states.ensures.same ∙ c.in-Ok-open_all.ensures.opened.1 in
+    let halted = rw (
+      opened,
+      c.replace.ensures.value,
+      c.replace-2.ensures.value,
+      ← c.open.view_is,
+      ← c.close_all.ensures.stores,
+    ) at c.carry_steps-ended.ensures.halted in
+    IfErr-weaker c.carry_steps-ended.result _ _ (λ (stopped : RunStopped) halted lasts lead. let one = halted lasts
+    lead in (one.0, inl one.1)) halted
+
+pub returns-clause-far : goal.returns-clause-far
+returns-clause-far g c =
+    let opened = ap stores_in c.read_states.ensures.same ∙ c.in-Ok-open_all.ensures.opened.1 in
+    rw (opened, c.replace.ensures.value, ← c.open.view_is) at c.carry_steps-ended.ensures.far
+
+pub returns-clause-labels : goal.returns-clause-labels
+returns-clause-labels g c =
+    let opened = ap stores_in c.read_states.ensures.same ∙ c.in-Ok-open_all.ensures.opened.1 in
+    rw (opened, ← c.open.view_is, ← c.close_all.ensures.stores) at c.carry_steps-ended.ensures.labels

@@ -1,0 +1,72 @@
+//! Laws of runs, over the definitions alone, and the number of this crate's constant.
+ghost use Rattle.std.specs.Prelude.{◌≡◌};
+ghost use Rattle.mm_carry.specs.Laws.{RunsLoseAsPlanned, RunsLoseThePlansLoss, RunsLoseNoPacketUncounted};
+ghost use Rattle.mm_carry.specs.Laws.{HalvesMakeStepRuns, StepRunsKeepStores, WholeStepsFit, DrawsMeetNoRefusal};
+ghost use Rattle.mm_carry.specs.Halts.{BrokenStepsAreLogs};
+ghost use Rattle.mm_carry.specs.declared.readiness.TheConstants.{MAX_LINKS};
+
+use mm_desk::laws::{
+    any_order_loses_alike, events_conserve_packets, events_keep_a_state, orders_dump_the_oldest,
+};
+use mm_dump::Link;
+
+/// The most links of a run.
+pub fn constants_are()
+    ensures links { MAX_LINKS ≡ 4 }
+{}
+
+/// Step runs of whole orders, each from the state that the one before left, lose and leave what the plan says, in every
+/// store and step, whatever the order in which a step's offers were made, and whatever the kind of each store. What
+/// comes in the problem is what was offered.
+pub fn runs_lose_as_planned()
+    ensures each { RunsLoseAsPlanned }
+    ensures total { RunsLoseThePlansLoss }
+{
+    any_order_loses_alike();
+    events_keep_a_state();
+    orders_dump_the_oldest();
+}
+
+/// In step runs of whole orders no packet is lost uncounted, none is invented and none is given twice: of each store,
+/// what stood in it and what was offered to it is what its orders were given, what it holds, and the lost, as many as
+/// its counter says. What an order was given has rising times.
+pub fn runs_lose_no_packet_uncounted()
+    ensures law { RunsLoseNoPacketUncounted }
+{
+    any_order_loses_alike();
+    events_conserve_packets();
+    events_keep_a_state();
+    orders_dump_the_oldest();
+}
+
+/// Offers that a store takes, in any order that keeps each recorder's own, and then a dump make a step run.
+pub fn halves_make_step_runs()
+    ensures law { HalvesMakeStepRuns }
+{}
+
+/// A step run leaves a sound store sound, with its storage and its retrieval as they were; its counter of offers and
+/// its last storage time move by no more than the offers made.
+pub fn step_runs_keep_stores()
+    ensures law { StepRunsKeepStores }
+{
+    any_order_loses_alike();
+    events_keep_a_state();
+    orders_dump_the_oldest();
+}
+
+/// In each whole step of a run no more was sent than the window, and of each channel no more than its limit.
+pub fn whole_steps_fit()
+    ensures law { WholeStepsFit }
+{}
+
+/// Where the plan fits a step's window, draws of one block for each packet that an order was given are never refused,
+/// whatever their order. No run draws: this is for a caller that keeps a pass book.
+pub fn draws_meet_no_refusal()
+    ensures law { DrawsMeetNoRefusal }
+{}
+
+/// A step that was broken off took each store by one legal log: offers of what the sources gave, in an order that keeps
+/// each source's own, and then at most one dump order, whole or broken.
+pub fn broken_steps_are_logs<L: Link>()
+    ensures logs { BrokenStepsAreLogs L.sent L.failed }
+{}

@@ -1,0 +1,163 @@
+//! The run of a dump plan.
+ghost use Rattle.std.specs.Prelude.{◌≡◌, ◌-◌, ◌<◌, ◌^◌, [], All, length, IfOk, IfErr};
+ghost use Rattle.mm_shared.specs.Stores.{labels_of};
+ghost use Rattle.mm_memory.specs.Holdings.{AreHeld};
+ghost use Rattle.mm_record.specs.Supplies.{WhateverComes};
+ghost use Rattle.mm_carry.specs.RunState.{InRun, state_of};
+ghost use Rattle.mm_carry.specs.RunInput.{run_input};
+ghost use Rattle.mm_carry.specs.Step.{NeverRefused};
+ghost use Rattle.mm_carry.specs.Course.{given_to, AreWithinLimits};
+ghost use Rattle.mm_carry.specs.Ending.{HasRun, IsCarriedOut, IsStopped, IsHalted};
+
+use crate::course::{RunContext, RunStopped};
+use crate::open_run::OpenRun;
+use crate::places::places_of;
+use crate::readiness::ready;
+use crate::room::reserve_run;
+use crate::run_end::{Halted, RunEnd};
+use crate::run_parts::RunParts;
+use crate::step::StepBroken;
+use mm_dump::Link;
+use mm_memory::Memory;
+use mm_plan::Plan;
+use mm_problem::Problem;
+use mm_record::AnySource;
+use mm_report::{Cause, Report};
+use mm_shared::{close_all, open_all, read_states};
+use std::alloc::Global;
+use std::mem::replace;
+use std::sync::Wait;
+use std::thread::Threads;
+
+// A run that did not begin.
+fn never_began(alloc: Global, cause: Cause) -> RunStopped
+    ensures broken { result.broken ≡ record { cause = cause; spent = 0 } }
+    ensures report { result.report.steps ≡ [] }
+{
+    RunStopped {
+        broken: StepBroken { cause, spent: 0 },
+        report: Report::none(alloc),
+    }
+}
+
+impl<S: AnySource + Send + Drop, L: Link + Send + Drop> RunParts<S, L> {
+    // Carries out a plan, where a run may begin and there is memory for it.
+    fn carry_plan<R: Threads + Wait + Sync>(
+        &mut self,
+        rt: &R,
+        alloc: Global,
+        run: &RunContext<'_>,
+    ) -> Result<Report, RunStopped>
+        requires held { AreHeld self.old.stores.items }
+        requires links { All (λ l. L.failed l < 2 ^ 64 - 1) self.old.links.items }
+        ensures done { IfOk result (λ report. InRun S.leads S.until (state_of self.old) (state_of self.new)
+            (λ first now. HasRun L.sent L.failed (given_to run.now first) run.now.plan.now first
+            (length run.now.problem.now.windows) now report)) }
+        ensures stopped { IfErr result (λ stopped. InRun S.leads S.until (state_of self.old) (state_of self.new)
+            (λ first now. IsStopped L.sent L.failed (given_to run.now first) run.now.plan.now (state_of self.old)
+            (state_of self.new) now.sources stopped)) }
+        ensures far { IfErr result (λ stopped. InRun S.leads S.until (state_of self.old) (state_of self.new)
+            (λ first now. AreWithinLimits (length run.now.problem.now.windows) first.stores first.sources
+            → NeverRefused stopped.broken.cause)) }
+        ensures labels { labels_of self.new.stores.items ≡ labels_of self.old.stores.items }
+    {
+        let stores = self.stores.as_slice();
+        let many_sources = self.sources.len();
+        let many_links = self.links.len();
+        if let Err(cause) = ready(
+            run.problem,
+            run.plan,
+            stores,
+            run.base,
+            many_sources,
+            many_links,
+        ) {
+            return Err(never_began(alloc, cause));
+        }
+        let all = places_of(run.problem, stores);
+        let Ok(buffers) = reserve_run(alloc, run.problem) else {
+            return Err(never_began(alloc, Cause::NoMemory { step: 0 }));
+        };
+        let Ok(mut stores) = open_all(alloc, &mut self.stores) else {
+            return Err(never_began(alloc, Cause::NoMemory { step: 0 }));
+        };
+        read_states(&mut stores);
+        let mut open = OpenRun {
+            stores,
+            sources: replace(&mut self.sources, Vec::new(alloc)),
+            links: replace(&mut self.links, Vec::new(alloc)),
+        };
+        let ended = open.carry_steps(rt, alloc, run, &all, buffers);
+        let OpenRun {
+            stores,
+            sources,
+            links,
+        } = open;
+        close_all(stores, &mut self.stores);
+        self.sources = sources;
+        self.links = links;
+        ended
+    }
+}
+
+/// Carries out a plan over a memory: in each step from 1 what the sources give is recorded, at the moment of the step,
+/// which is that many ticks after `base`, and then the plan's amounts are sent over the links and deleted. Before the
+/// first step it is tested whether the run may begin; the tests stand at `ready`, in their order, and where one fails
+/// nothing has been done.
+pub fn carry_out<S: AnySource + Send + Drop, L: Link + Send + Drop, R: Threads + Wait + Sync>(
+    rt: &R,
+    alloc: Global,
+    memory: &mut Memory,
+    problem: &Problem,
+    plan: &Plan,
+    sources: Vec<S>,
+    links: Vec<L>,
+    base: u64,
+) -> Result<RunEnd<S, L>, Halted<S, L>>
+    requires links { All (λ l. L.failed l < 2 ^ 64 - 1) links.items }
+    ensures carried_out { IfOk result (λ ended. WhateverComes S.leads S.until sources.items ended.sources.items
+        (λ given left. IsCarriedOut L.sent L.failed (run_input problem.now plan.now base memory.old given) plan.now
+        links.items memory.new
+        left ended.links.items ended.report)) }
+    ensures halted { IfErr result (λ halted. WhateverComes S.leads S.until sources.items halted.sources.items
+        (λ given left. IsHalted L.sent L.failed (run_input problem.now plan.now base memory.old given) plan.now
+        sources.items links.items memory.new
+        halted left)) }
+    // Where counts are far from their end, no store refuses a packet.
+    ensures far { IfErr result (λ halted. WhateverComes S.leads S.until sources.items halted.sources.items
+        (λ given left. AreWithinLimits (length problem.now.windows) memory.old.stores given
+        → NeverRefused halted.cause)) }
+{
+    let mut parts = RunParts {
+        stores: memory.lift(),
+        sources,
+        links,
+    };
+    let run = RunContext {
+        control: memory.control(),
+        problem,
+        plan,
+        base,
+    };
+    let ended = parts.carry_plan(rt, alloc, &run);
+    let RunParts {
+        stores,
+        sources,
+        links,
+    } = parts;
+    memory.restore(stores);
+    match ended {
+        Ok(report) => Ok(RunEnd {
+            report,
+            sources,
+            links,
+        }),
+        Err(RunStopped { broken, report }) => Err(Halted {
+            cause: broken.cause,
+            report,
+            spent: broken.spent,
+            sources,
+            links,
+        }),
+    }
+}

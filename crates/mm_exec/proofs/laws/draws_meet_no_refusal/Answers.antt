@@ -1,5 +1,0 @@
-use Rattle.mm_exec.proofs.Drawing.{no_refusal}
-use Rattle.mm_exec.proofs.laws.draws_meet_no_refusal.Goals as goal
-
-pub returns : goal.returns
-returns c = record { law = no_refusal }

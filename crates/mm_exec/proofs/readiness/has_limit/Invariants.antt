@@ -1,6 +1,0 @@
-use Rattle.std.proofs.Common.{◌≡◌, ◌<◌, ℕ, false}
-use Rattle.mm_exec.proofs.Words.{is_some, limit}
-use Rattle.mm_exec.proofs.readiness.has_limit.Given as goal
-
-abbrev pub invariant-loop-channel : goal.invariant-loop-channel
-invariant-loop-channel l = (c : ℕ) → c < l.channel → is_some (limit l.problem c 1) ≡ false
