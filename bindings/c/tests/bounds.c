@@ -145,6 +145,11 @@ static void call_waiting(void) {
     rudlayog_memory_waiting(&memory, &reports, &answer);
 }
 
+static void call_refused(void) {
+    uint64_t packets;
+    rudlayog_memory_refused(&memory, &packets, &answer);
+}
+
 static void call_bound(void) { rudlayog_memory_bound(&memory, 300, &answer); }
 
 static void call_report(void) { rudlayog_memory_report(&memory, out, sizeof out, &answer); }
