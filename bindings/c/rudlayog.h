@@ -545,10 +545,9 @@ void rudlayog_report_read(const uint8_t *packet, size_t packet_length, struct ru
  * Out of memory. An open memory keeps what one packet and one request take. So, tested by bindings/c/tests/full.c and not
  * proved, these calls are done where the allocator has nothing left:
  *
- * - rudlayog_memory_offer and rudlayog_memory_record, of a packet that a full circular store takes: it takes the place of the
- *   oldest, without a call of the allocator. Where another store holds that oldest packet too, what is kept is used up, and the
- *   next packet needs new memory until a store has given up a packet that no other holds. A packet that each of its stores
- *   loses or refuses needs no memory either;
+ * - rudlayog_memory_offer and rudlayog_memory_record, of a packet that a full circular store takes: it needs no more memory
+ *   than the oldest, which it overwrites, unless another store, which does not overwrite it at once, holds that one too. Nor does a
+ *   packet that each of its stores loses or refuses, or that has none, need memory;
  * - rudlayog_memory_apply, of a request that switches storage on or off, starts or aborts retrievals, deletes content, stores
  *   or report types, or changes channels: what is kept is freed, and allocated again after it;
  * - rudlayog_memory_next, rudlayog_memory_state, rudlayog_memory_waiting, rudlayog_memory_refused, rudlayog_memory_bound and

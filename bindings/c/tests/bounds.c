@@ -237,6 +237,7 @@ static void measure_memory(void) {
     measure_one("offer", call_offer);
     measure_one("state", call_state);
     measure_one("waiting", call_waiting);
+    measure_one("refused", call_refused);
     measure_one("bound", call_bound);
     measure_requests();
     open_again();

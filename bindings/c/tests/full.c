@@ -52,11 +52,15 @@ void *__wrap_realloc(void *block, size_t size) {
     return moved;
 }
 
-enum { CIR = 1, BND, BIG, CIR_BIG, NONE, LEAST = 21, SHARED = 4 };
+enum { CIR = 1, BND, BIG, CIR_BIG, MIRROR, NONE, LEAST = 21, SHARED = 4 };
 
 static const char setup[] = "[[store]]\nid = \"CIR\"\nsize = 4\ntype = \"circular\"\nchannel = 0\n"
                             "[[store]]\nid = \"BND\"\nsize = 4\ntype = \"bounded\"\nchannel = 0\n"
                             "[[store]]\nid = \"BIG\"\nsize = 1000\ntype = \"circular\"\nchannel = 0\n"
+                            "[[store]]\nid = \"ONE\"\nsize = 4\ntype = \"circular\"\nchannel = 0\n"
+                            "[[store]]\nid = \"TWO\"\nsize = 4\ntype = \"circular\"\nchannel = 0\n"
+                            "[[route]]\napid = 5\nservice = 3\nsubtype = 25\nstore = \"ONE\"\n"
+                            "[[route]]\napid = 5\nservice = 3\nsubtype = 25\nstore = \"TWO\"\n"
                             "[[route]]\napid = 1\nservice = 3\nsubtype = 25\nstore = \"CIR\"\n"
                             "[[route]]\napid = 2\nservice = 3\nsubtype = 25\nstore = \"BND\"\n"
                             "[[route]]\napid = 3\nservice = 3\nsubtype = 25\nstore = \"BIG\"\n"
@@ -172,22 +176,33 @@ static void try_refused(void) {
     expect(offer("CIR", 500) == RUDLAYOG_KEPT_OVER, "a refusal uses up what is kept", 0);
 }
 
-/* What is kept serves a packet that a full store and another share, until what is given up is shared too. */
+/* What is kept serves a packet that a full store and another share, while what is given up is not shared; then it is
+ * kept until it is not. */
 static void try_shared(void) {
-    for (size_t k = 0; k < SHARED + 1; k++) {
+    for (size_t k = 0; k < SHARED; k++) {
         const struct rudlayog_tally tally = record(CIR_BIG, 40 + k);
         expect(tally.kept == 2 && tally.lost == 1, "a packet for two stores is refused", k);
     }
     record(CIR_BIG, 50);
     expect(is_out_of_memory(), "shared memory is used again", 0);
-    expect(refused() == 3, "refusals are not counted", 1);
+    record(CIR, 50);
+    expect(is_out_of_memory(), "shared memory is used again", 1);
+    expect(refused() == 4, "refusals are not counted", 1);
+}
+
+/* Two full circular stores share each of their packets, and so give up each together. */
+static void try_mirrored(void) {
+    for (size_t length = LEAST + 1; length <= RUDLAYOG_BLOCK; length++) {
+        const struct rudlayog_tally tally = record(MIRROR, length);
+        expect(tally.kept == 2 && tally.lost == 2, "two full circular stores refuse a packet", length);
+    }
 }
 
 /* Each request of which nothing stays is carried out; others are refused. */
 static void try_requests(void) {
     static const enum rudlayog_request_subtype done[] = {
-        RUDLAYOG_DISABLE_STORAGE,  RUDLAYOG_START_RETRIEVAL, RUDLAYOG_ABORT_RETRIEVAL,     RUDLAYOG_DELETE_CONTENT,
-        RUDLAYOG_ENABLE_STORAGE,   RUDLAYOG_CHANGE_CHANNEL,  RUDLAYOG_DELETE_REPORT_TYPES,
+        RUDLAYOG_DISABLE_STORAGE, RUDLAYOG_START_RETRIEVAL, RUDLAYOG_ABORT_RETRIEVAL,     RUDLAYOG_DELETE_CONTENT,
+        RUDLAYOG_CHANGE_CHANNEL,  RUDLAYOG_ENABLE_STORAGE,  RUDLAYOG_DELETE_REPORT_TYPES,
     };
     expect(!is_done(RUDLAYOG_SUMMARISE_CONTENT, "BIG", 1) && is_out_of_memory(), "a report waits without memory", 0);
     for (size_t k = 0; k < sizeof done / sizeof done[0]; k++) {
@@ -221,10 +236,12 @@ int main(void) {
     for (size_t k = 0; k < 4; k++) {
         record(CIR, LEAST + 1);
         record(BND, LEAST + 1);
+        record(MIRROR, LEAST + 1);
     }
     most = 0;
     try_full_circular();
     try_lost();
+    try_mirrored();
     try_refused();
     try_shared();
     try_requests();

@@ -5,7 +5,7 @@ ghost use Rattle.mm_memory.specs.Recording.{after_offer, tally_in, after_offers,
 ghost use Rattle.mm_memory.specs.Routing.{rows_for, leads_to, packet_along, passed};
 
 use crate::memory::Memory;
-use crate::spare::{Spare, gives_up, hands_back};
+use crate::spare::{Spare, given_up, hands_back};
 use crate::tally::Tally;
 use mm_base::{NoMemory, RouteRow, StoreId};
 use mm_control::ControlTable;
@@ -172,8 +172,26 @@ impl Memory {
         Ok(tally)
     }
 
-    /// Whether the stores that a packet is routed to hand back as much memory as they take of it: one would give up its
-    /// oldest packet, or none would keep it.
+    // How many stores to which one of the rows leads would give this packet up, or one that is equal.
+    fn givers(&self, rows: &[RouteRow], packet: &BlockPacket) -> usize {
+        self.stores
+            .iter()
+            .filter(|held| leads_to(rows, 0, &held.id))
+            .filter(|held| given_up(&held.state).is_some_and(|other| other.is(packet)))
+            .count()
+    }
+
+    // Whether one of the stores to which the rows lead gives up a packet that no other store shares.
+    fn gives_memory(&self, rows: &[RouteRow]) -> bool {
+        self.stores
+            .iter()
+            .filter(|held| leads_to(rows, 0, &held.id))
+            .filter_map(|held| given_up(&held.state))
+            .any(|oldest| oldest.owners() <= self.givers(rows, oldest))
+    }
+
+    /// Whether the stores that a packet is routed to hand as much memory back as they take of it: none keeps it, or they
+    /// give up a packet that no other store shares.
     #[must_use]
     pub fn hands_back(&self, packet: &LentPacket<'_>) -> bool {
         if packet.is_telecommand() {
@@ -183,15 +201,10 @@ impl Memory {
         let rows = self
             .control
             .rows_for(header.apid, header.service, header.subtype);
-        let mut is_kept = false;
-        for held in &self.stores {
-            if leads_to(rows, 0, &held.id) {
-                if gives_up(&held.state) {
-                    return true;
-                }
-                is_kept = is_kept || !hands_back(&held.state);
-            }
-        }
-        !is_kept
+        let mut routed = self
+            .stores
+            .iter()
+            .filter(|held| leads_to(rows, 0, &held.id));
+        self.gives_memory(rows) || routed.all(|held| hands_back(&held.state))
     }
 }

@@ -25,18 +25,25 @@ fn handed_back(answer: Result<Offered, Returned>) -> Option<BlockPacket> {
     }
 }
 
-/// Whether an offer to a store gives up its oldest packet: storage is on, and the store is circular and full.
-#[must_use]
-pub fn gives_up(state: &StoreState) -> bool {
+// The packet that an offer to a store gives up: its oldest, where storage is on, and the store is circular and full.
+pub(crate) fn given_up(state: &StoreState) -> Option<&BlockPacket> {
     let store = state.store();
-    state.storage() && store.kind() == Kind::Circular && store.len() == store.size()
+    if !state.storage() || store.kind() != Kind::Circular || store.len() < store.size() {
+        return None;
+    }
+    let (_time, oldest) = store.first_in(0, u64::MAX, 0)?;
+    Some(oldest)
 }
 
-/// Whether an offer to a store hands a packet back: its oldest, or the one that is offered.
+/// Whether an offer to a store hands as much memory back as it takes: the packet is lost or refused, or the store gives
+/// up one that no other shares.
 #[must_use]
 pub fn hands_back(state: &StoreState) -> bool {
     let store = state.store();
-    !state.storage() || store.len() == store.size()
+    match given_up(state) {
+        Some(oldest) => oldest.owners() == 1,
+        None => !state.storage() || store.len() == store.size(),
+    }
 }
 
 impl Spare {
@@ -56,7 +63,7 @@ impl Spare {
 
     /// Keeps the memory of a packet, where there is none yet and no store shares it.
     pub fn keep(&mut self, packet: BlockPacket) {
-        if self.packet.is_none() && packet.is_sole() {
+        if self.packet.is_none() && packet.owners() == 1 {
             self.packet = Some(packet);
         }
     }

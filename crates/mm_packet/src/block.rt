@@ -102,10 +102,10 @@ impl BlockPacket {
         Ok(BlockPacket { packet })
     }
 
-    /// Whether nobody shares its memory, so that it can be replaced.
+    /// How many packets share its memory, with this one. One of which it is 1 can be replaced.
     #[must_use]
-    pub fn is_sole(&self) -> bool {
-        self.packet.body.are_sole()
+    pub fn owners(&self) -> usize {
+        self.packet.body.owners()
     }
 
     /// A packet equal to this one.

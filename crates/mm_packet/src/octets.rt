@@ -50,9 +50,9 @@ impl Octets {
         Ok(list)
     }
 
-    // Whether nobody shares them.
-    pub(crate) fn are_sole(&self) -> bool {
-        Arc::strong_count(&self.bytes) == 1
+    // How many packets share them, with this one.
+    pub(crate) fn owners(&self) -> usize {
+        Arc::strong_count(&self.bytes)
     }
 
     // The octets of a slice in the memory of these; none where they are shared. Where there is room for them no memory

@@ -3,9 +3,9 @@
 use mm_base::NoMemory;
 use std::alloc::Global;
 
-// What a request takes while it is applied, in octets: its data, what counts their owners, its instructions, the
-// answers to them, and its reports, of which it has none.
-const SIZES: [usize; 4] = [6_144, 64, 6_144, 2_048];
+// What a request of 255 instructions takes while it is applied, in octets: its data, what counts their owners, its
+// instructions, these with their fields, and the answers.
+const SIZES: [usize; 5] = [6_144, 32, 6_144, 12_240, 768];
 
 // Memory for a request that comes when there is no other. It is given back to the allocator before such a request is
 // applied, and taken again after it.
