@@ -29,9 +29,10 @@
  * lists it.
  *
  * Whatever it answers, a call writes its `answer` whole, and each value beside it (`losses`, `verdict`, `outcome`, `fate`, `tally`, `time`,
- * `state`, `reports`, `report`), which is all 0 but where the call says another. It writes into its buffer only where it tells
+ * `state`, `reports`, `packets`, `report`), which is all 0 but where the call says another. It writes into its buffer only where it tells
  * `RUDLAYOG_WRITTEN`, and then only the `answer.length` octets of the text, or the first `answer.length` entries. A call on a handle that
- * tells another status has changed nothing, but that the retrieval is over where rudlayog_memory_next tells `RUDLAYOG_END`. */
+ * tells another status has changed nothing, but that the retrieval is over where rudlayog_memory_next tells `RUDLAYOG_END`, and that a
+ * packet that is refused out of memory is counted. */
 #ifndef RUDLAYOG_H
 #define RUDLAYOG_H
 
@@ -539,14 +540,33 @@ void rudlayog_report_read(const uint8_t *packet, size_t packet_length, struct ru
 
 /* A memory with its storage service. Moments and storage times are in ticks; an identifier is its text, as `SCI`; a packet is its octets,
  * with nothing after them: octets after it are refused, `RUDLAYOG_REFUSAL_HEX_LINE`. Each call but rudlayog_memory_open tells
- * `RUDLAYOG_CLOSED` where the handle is closed. Stack: `RUDLAYOG_MEMORY_STACK`, but for rudlayog_memory_open. */
+ * `RUDLAYOG_CLOSED` where the handle is closed. Stack: `RUDLAYOG_MEMORY_STACK`, but for rudlayog_memory_open.
+ *
+ * Out of memory. An open memory keeps what one packet and one request take. So, tested by bindings/c/tests/full.c and not
+ * proved, these calls are done where the allocator has nothing left:
+ *
+ * - rudlayog_memory_offer and rudlayog_memory_record, of a packet that a full circular store takes: it needs no more memory
+ *   than the oldest, which it overwrites, unless another store, which does not overwrite it at once, holds that one too. Nor does a
+ *   packet that each of its stores loses or refuses, or that has none, need memory;
+ * - rudlayog_memory_apply, of a request that switches storage on or off, starts or aborts retrievals, deletes content, stores
+ *   or report types, or changes channels: what is kept is freed, and allocated again after it;
+ * - rudlayog_memory_next, rudlayog_memory_state, rudlayog_memory_waiting, rudlayog_memory_refused, rudlayog_memory_bound and
+ *   rudlayog_memory_close, which allocate nothing.
+ *
+ * Each other packet is refused, and counted: rudlayog_memory_refused. Deleting content makes room for it.
+ *
+ * Moments. A packet is stored with the moment of its call, or with one tick more than the packet before it in the store where
+ * that is greater: the storage times of a store rise, whatever the clock does. Where the clock is set back, times go on tick by
+ * tick until it has come up again. A moment that is too great stays: all later packets of the store have greater ones, and after
+ * 2^64 - 1 each offer to the store is refused, `RUDLAYOG_REFUSAL_CLOCK_END`, until the store is deleted and created again. The
+ * caller owes moments of a clock that was checked. */
 
 /* Opens a closed handle with the memory of a setup: its stores empty, their storage on, and its routes. Stack: `RUDLAYOG_OPEN_STACK`.
  *
  * `RUDLAYOG_WRITTEN`, with no text; `RUDLAYOG_OPEN`, also for a setup that is none; `RUDLAYOG_REFUSED`, the setup; or out of memory. */
 void rudlayog_memory_open(struct rudlayog_memory *memory, const uint8_t *setup, size_t setup_length, struct rudlayog_answer *answer);
 
-/* Offers a packet to one store.
+/* Offers a packet to one store. A refusal out of memory is counted, and nothing else has changed.
  *
  * `RUDLAYOG_WRITTEN`, with no text: `fate` is what became of it. `RUDLAYOG_REFUSED`: `fate` is all 0. The tests: `RUDLAYOG_REFUSAL_BAD_ID`;
  * the packet; `RUDLAYOG_REFUSAL_TOO_LONG`, it has more than `RUDLAYOG_BLOCK` octets; `RUDLAYOG_REFUSAL_NO_SUCH_STORE`;
@@ -554,7 +574,8 @@ void rudlayog_memory_open(struct rudlayog_memory *memory, const uint8_t *setup, 
 void rudlayog_memory_offer(struct rudlayog_memory *memory, const uint8_t *id, size_t id_length, uint64_t now, const uint8_t *packet,
                            size_t packet_length, struct rudlayog_fate *fate, struct rudlayog_answer *answer);
 
-/* Offers a packet to each store that its report type is routed to.
+/* Offers a packet to each store that its report type is routed to. A refusal out of memory is counted, and nothing else has
+ * changed.
  *
  * `RUDLAYOG_WRITTEN`, with no text: `tally` is what became of it; it may be all 0. `RUDLAYOG_REFUSED`, the packet,
  * `RUDLAYOG_REFUSAL_TOO_LONG`; or out of memory: `tally` is all 0. */
@@ -598,6 +619,12 @@ void rudlayog_memory_state(struct rudlayog_memory *memory, const uint8_t *id, si
  *
  * `RUDLAYOG_WRITTEN`, with no text: `reports` is their number. */
 void rudlayog_memory_waiting(struct rudlayog_memory *memory, uint64_t *reports, struct rudlayog_answer *answer);
+
+/* Tells how many packets were refused out of memory since the handle was opened, by rudlayog_memory_offer and
+ * rudlayog_memory_record; `UINT64_MAX` where there were more. They are in no counter of a store. It takes no memory.
+ *
+ * `RUDLAYOG_WRITTEN`, with no text: `packets` is their number. */
+void rudlayog_memory_refused(struct rudlayog_memory *memory, uint64_t *packets, struct rudlayog_answer *answer);
 
 /* Lets at most this number of reports wait from now on. Before the first call as many wait as memory holds, and with `UINT64_MAX` again;
  * those that wait already go on waiting. It takes no memory. A request is then refused whole, `RUDLAYOG_REFUSAL_TOO_MANY_REPORTS`, where the

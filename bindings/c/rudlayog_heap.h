@@ -57,16 +57,16 @@ struct rudlayog_pool_use rudlayog_pool_use(void);
  *   - no packet or request that is given has more than RUDLAYOG_REQUEST_ROOM octets;
  *   - nothing else is in the pool.
  *
- * A block of a store takes 2,416 to 2,864 octets, since packets of all lengths may have stood in it: 2,016 are one
- * block of the pool of each power of two up to 1,024, and 64 what counts the owners of a packet; the rest is its row
- * in the tables of stores of all sizes. One packet more is in the pool than the stores hold, since a new one is there
- * before the oldest is given up. A report may have 255 entries, and then has blocks of 8,192 octets and less, and a
- * place in the queue. What is constant is for requests of 255 instructions, and for reading the setup. */
+ * A block of a store takes 1,424 to 1,872 octets: 1,024 have room for each packet that is stored, and 64 what counts
+ * its owners; the rest is its row in the tables of stores of all sizes. One packet more is in the pool than the stores
+ * hold, since a new one is there before the oldest is given up, and another is kept (rudlayog.h, 'Out of memory'). A
+ * report may have 255 entries, and then has blocks of 8,192 octets and less, and a place in the queue. What is constant
+ * is for requests of 255 instructions, of which one is kept too, and for reading the setup. */
 #define RUDLAYOG_POOL_FOR(stores, blocks, reports)                                                                     \
-    ((size_t)229376 + (size_t)21504 * (stores) + RUDLAYOG_POOL_OF_BLOCK(stores) * ((size_t)(blocks) + 1) +             \
+    ((size_t)263168 + (size_t)21504 * (stores) + RUDLAYOG_POOL_OF_BLOCK(stores) * ((size_t)(blocks) + 2) +             \
      (size_t)33040 * (reports))
 #define RUDLAYOG_POOL_OF_BLOCK(stores)                                                                                 \
-    ((size_t)2304 + 112 * (size_t)(((stores) > 0) + ((stores) > 1) + ((stores) > 3) + ((stores) > 7) + ((stores) > 15)))
+    ((size_t)1312 + 112 * (size_t)(((stores) > 0) + ((stores) > 1) + ((stores) > 3) + ((stores) > 7) + ((stores) > 15)))
 
 #ifdef __cplusplus
 }

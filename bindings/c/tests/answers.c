@@ -231,11 +231,11 @@ static int is_no_state(const struct rudlayog_state *state) {
 /* The calls on a closed handle: each tells so, and writes nothing else. */
 static void try_closed(struct rudlayog_memory *memory, const char *name) {
     uint8_t out[RUDLAYOG_BLOCK];
-    struct rudlayog_answer answers[8];
+    struct rudlayog_answer answers[9];
     struct rudlayog_fate fate;
     struct rudlayog_tally tally;
     struct rudlayog_state state;
-    uint64_t time = 7, reports = 7;
+    uint64_t time = 7, reports = 7, packets = 7;
     memset(out, 0xA5, sizeof out);
     memset(&fate, 0xA5, sizeof fate);
     memset(&tally, 0xA5, sizeof tally);
@@ -248,11 +248,12 @@ static void try_closed(struct rudlayog_memory *memory, const char *name) {
     rudlayog_memory_state(memory, TEXT("SCI"), &state, &answers[5]);
     rudlayog_memory_waiting(memory, &reports, &answers[6]);
     rudlayog_memory_bound(memory, 0, &answers[7]);
-    for (size_t k = 0; k < 8; k++) {
+    rudlayog_memory_refused(memory, &packets, &answers[8]);
+    for (size_t k = 0; k < 9; k++) {
         expect(answers[k].status == RUDLAYOG_CLOSED && answers[k].length == 0, name, "a closed handle is not told");
     }
     expect(fate.kind == RUDLAYOG_NO_FATE && fate.time == 0 && is_all(&tally, sizeof tally, 0) && time == 0, name, "another value");
-    expect(is_no_state(&state) && reports == 0, name, "another state");
+    expect(is_no_state(&state) && reports == 0 && packets == 0, name, "another state");
     expect(is_all(out, sizeof out, 0xA5), name, "octets are written");
     rudlayog_memory_close(memory);
 }

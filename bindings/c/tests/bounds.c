@@ -145,6 +145,11 @@ static void call_waiting(void) {
     rudlayog_memory_waiting(&memory, &reports, &answer);
 }
 
+static void call_refused(void) {
+    uint64_t packets;
+    rudlayog_memory_refused(&memory, &packets, &answer);
+}
+
 static void call_bound(void) { rudlayog_memory_bound(&memory, 300, &answer); }
 
 static void call_report(void) { rudlayog_memory_report(&memory, out, sizeof out, &answer); }
@@ -232,6 +237,7 @@ static void measure_memory(void) {
     measure_one("offer", call_offer);
     measure_one("state", call_state);
     measure_one("waiting", call_waiting);
+    measure_one("refused", call_refused);
     measure_one("bound", call_bound);
     measure_requests();
     open_again();

@@ -430,7 +430,7 @@ static int sweep_kinds(void) {
 }
 
 /* Rounds of two requests with a report each, of which one is taken: each round leaves one report more. */
-enum { ROUNDS = 300 };
+enum { ROUNDS = 600 };
 
 static int ask_twice_take_one(struct life *life, long *told) {
     static const struct request summary = {12, "HK", 0, {0}};
@@ -468,8 +468,8 @@ static int live_rounds(long *told) {
     return taken == ROUNDS && life.answer.status == RUDLAYOG_END ? 0 : fail_life(taken, "other reports were left");
 }
 
-/* Room for 255 reports more is asked for by each request: 255 places by the first, 510 by the second, and 1,020 where 256 reports wait.
- * Each of these requests for memory is refused once. */
+/* Room for reports is asked for where it lacks: 255 places by the first request, 510 where 255 reports wait, and 1,020
+ * where 510 do. Each of these requests for memory is refused once. */
 static int sweep_rounds(void) {
     long told = 0;
     if (live_rounds(&told) || large_asked != GROWTHS || large[1] != 2 * large[0] || large[2] != 4 * large[0]) {

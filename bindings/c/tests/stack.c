@@ -165,6 +165,11 @@ static void call_waiting(void) {
     rudlayog_memory_waiting(&memory, &reports, &answer);
 }
 
+static void call_refused(void) {
+    uint64_t packets;
+    rudlayog_memory_refused(&memory, &packets, &answer);
+}
+
 static void call_bound(void) { rudlayog_memory_bound(&memory, 1000, &answer); }
 
 /* Each subtype with as many instructions as a request has. */
@@ -222,6 +227,7 @@ static struct {
     {"rudlayog_memory_next", call_next, RUDLAYOG_MEMORY_STACK, RUDLAYOG_MEMORY_STACK, 0},
     {"rudlayog_memory_state", call_state, RUDLAYOG_MEMORY_STACK, RUDLAYOG_MEMORY_STACK, 0},
     {"rudlayog_memory_waiting", call_waiting, RUDLAYOG_MEMORY_STACK, RUDLAYOG_MEMORY_STACK, 0},
+    {"rudlayog_memory_refused", call_refused, RUDLAYOG_MEMORY_STACK, RUDLAYOG_MEMORY_STACK, 0},
     {"rudlayog_memory_bound", call_bound, RUDLAYOG_MEMORY_STACK, RUDLAYOG_MEMORY_STACK, 0},
     {"rudlayog_memory_report", call_report, RUDLAYOG_MEMORY_STACK, RUDLAYOG_MEMORY_STACK, 0},
     {"rudlayog_memory_close", call_close, RUDLAYOG_MEMORY_STACK, RUDLAYOG_MEMORY_STACK, 0},

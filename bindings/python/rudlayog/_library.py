@@ -184,6 +184,7 @@ rudlayog_memory_report = _call("rudlayog_memory_report", _handle, *_out)
 rudlayog_memory_next = _call("rudlayog_memory_next", _handle, *_text, *_out, ctypes.POINTER(ctypes.c_uint64))
 rudlayog_memory_state = _call("rudlayog_memory_state", _handle, *_text, ctypes.POINTER(StateTold))
 rudlayog_memory_waiting = _call("rudlayog_memory_waiting", _handle, ctypes.POINTER(ctypes.c_uint64))
+rudlayog_memory_refused = _call("rudlayog_memory_refused", _handle, ctypes.POINTER(ctypes.c_uint64))
 rudlayog_memory_bound = _call("rudlayog_memory_bound", _handle, ctypes.c_uint64)
 rudlayog_memory_close = _calls.rudlayog_memory_close
 rudlayog_memory_close.restype = None

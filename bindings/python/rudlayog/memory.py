@@ -174,6 +174,12 @@ class Memory:
         self._tell(_library.rudlayog_memory_waiting, told)
         return told.value
 
+    def refused(self) -> int:
+        """How many packets were refused out of memory. They are in no counter of a store."""
+        told = ctypes.c_uint64()
+        self._tell(_library.rudlayog_memory_refused, told)
+        return told.value
+
     def close(self) -> None:
         """Closes the memory, and frees what it held. It may be closed again."""
         with self._lock:

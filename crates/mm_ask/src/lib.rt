@@ -21,7 +21,7 @@ pub use answering::Outcome;
 pub use ask::ask_bytes;
 pub use counters::{Counters, Numbers};
 pub use fault::LineFault;
-pub use line::{Asked, packet_alone, packet_of, request_alone, request_of};
+pub use line::{Asked, lent_alone, packet_alone, packet_of, request_alone, request_of};
 pub use mm_base::NoMemory;
 pub use mm_packet::SEQUENCE_COUNTS;
 pub use mm_problem::Fault;

@@ -1,15 +1,16 @@
 //! Requests from lines of hexadecimal digits.
-ghost use Rattle.std.specs.Prelude.{◌≡◌, ◌*◌, ◌≤◌, length, take, IfOk, IfErr, IsTrue};
+ghost use Rattle.std.specs.Prelude.{◌≡◌, ◌≢◌, ◌*◌, ◌≤◌, length, take, Ok, Err, MatchResult, IfOk, IfErr, IsTrue};
 ghost use Rattle.std.specs.Char.{is_ascii_hexdigit};
 ghost use Rattle.std.specs.List.{list_all};
 ghost use Rattle.mm_base.specs.Reading.{Gives};
 ghost use Rattle.mm_st15.specs.Request.{IsRequest, SpellsRequest, request_fault};
 ghost use Rattle.mm_ask.specs.declared.fault.LineFault.TheVariants.{NoMemory, HexLine};
-ghost use Rattle.mm_ask.specs.Line.{has_digits, octets_in, packet_alone, packet_of, request_alone, request_of, request_tested};
+ghost use Rattle.mm_ask.specs.Line.{has_digits, octets_in, packet_alone, packet_of, request_alone, request_of};
+ghost use Rattle.mm_ask.specs.Line.{request_tested};
 
 use crate::fault::LineFault;
 use mm_base::passed_on;
-use mm_packet::{BLOCK, Packet};
+use mm_packet::{BLOCK, LentPacket, Packet};
 use mm_st15::Request;
 use std::alloc::Global;
 
@@ -56,6 +57,20 @@ impl From<mm_packet::Fault> for LineFault {
 
     fn from(fault: mm_packet::Fault) -> LineFault {
         passed_on!(fault; mm_packet as Packet)
+    }
+}
+
+/// The packet that the octets are, with nothing after it, read without memory.
+pub fn lent_alone(octets: &[u8]) -> Result<LentPacket<'_>, LineFault>
+    ensures exact { MatchResult result (λ packet. packet_alone octets.now ≡ Ok packet)
+        (λ fault. packet_alone octets.now ≡ Err fault) }
+    ensures no_memory { IfErr result (λ fault. fault ≢ NoMemory) }
+{
+    let (packet, rest) = LentPacket::parse(octets)?;
+    if rest.is_empty() {
+        Ok(packet)
+    } else {
+        Err(LineFault::HexLine)
     }
 }
 

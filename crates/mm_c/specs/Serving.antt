@@ -18,7 +18,7 @@ use Rattle.mm_service.specs.Giving.{GivesNext}
 use Rattle.mm_service.specs.Offering.{offered}
 use Rattle.mm_service.specs.Recording.{recorded}
 use Rattle.mm_service.specs.Reporting.{Reports}
-use Rattle.mm_service.specs.Serving.{Serving, opened_of}
+use Rattle.mm_service.specs.Serving.{Serving, opened_of, after_refusal}
 use Rattle.mm_told.specs.Reasons.{of_setup, no_memory}
 use Rattle.mm_told.specs.Telling.{length_answer, refused_answer}
 use Rattle.mm_told.specs.declared.answer.Answer.{Answer}
@@ -75,17 +75,22 @@ abbrev pub IsRefused : (Fault → Type 0) → Serving → Serving → Answer →
 IsRefused Why s t answer =
     (fault : Fault) × (fault ≢ NoMemory → Why fault) × (t ≡ s) × (answer ≡ refused_answer (of_call fault))
 
+-- a packet is refused for this fault: out of memory it is counted, and nothing else has changed
+abbrev pub RefusesPacket : (Fault → Type 0) → Serving → Serving → Answer → Type 0
+RefusesPacket Why s t answer = (fault : Fault) × (fault ≢ NoMemory → Why fault) × (t ≡ after_refusal fault s)
+    × (answer ≡ refused_answer (of_call fault))
+
 -- a packet is offered: its fate is told, or the call is refused
 abbrev pub Offers : (id octets : List ℕ) (now : ℕ) → FateTold → Answer → Serving → Serving → Type 0
 Offers id octets now told answer s t =
     ((f : Fate) × (offered id octets now s ≡ Ok (f, t)) × (told ≡ fate_told f) × (answer ≡ ended Written))
-    ⊎ (IsRefused (λ fault. offered id octets now s ≡ Err fault) s t answer × (told ≡ no_fate))
+    ⊎ (RefusesPacket (λ fault. offered id octets now s ≡ Err fault) s t answer × (told ≡ no_fate))
 
 -- a packet is recorded: what became of it is told, or the call is refused
 abbrev pub Records : (octets : List ℕ) (now : ℕ) → TallyTold → Answer → Serving → Serving → Type 0
 Records octets now told answer s t =
     ((tally : Tally) × (recorded octets now s ≡ Ok (tally, t)) × (told ≡ tally_told tally) × (answer ≡ ended Written))
-    ⊎ (IsRefused (λ fault. recorded octets now s ≡ Err fault) s t answer × (told ≡ no_tally))
+    ⊎ (RefusesPacket (λ fault. recorded octets now s ≡ Err fault) s t answer × (told ≡ no_tally))
 
 -- the buffer is too small for a call that needs this much room, and nothing has changed
 abbrev pub LacksRoom : ℕ → List ℕ → List ℕ → Serving → Serving → Answer → Type 0

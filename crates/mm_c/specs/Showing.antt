@@ -67,3 +67,7 @@ ShowsStore id told answer s t =
 -- how many reports wait is told, and nothing has changed
 abbrev pub ShowsWaiting : ℕ → Answer → Serving → Serving → Type 0
 ShowsWaiting told answer s t = (t ≡ s) × (told ≡ length s.waiting) × (answer ≡ ended Written)
+
+-- how many packets were refused out of memory is told, and nothing has changed
+abbrev pub ShowsRefused : ℕ → Answer → Serving → Serving → Type 0
+ShowsRefused told answer s t = (t ≡ s) × (told ≡ s.refused) × (answer ≡ ended Written)

@@ -1,8 +1,8 @@
-//! What a store of a memory holds and has lost, and how many reports wait.
+//! What a store of a memory holds and has lost, how many reports wait, and how many packets were refused out of memory.
 ghost use Rattle.std.specs.Prelude.{◌≡◌};
 ghost use Rattle.mm_c.specs.Serving.{OnOpen};
 ghost use Rattle.mm_c.specs.Showing.{code_of_kind, code_of_switch, no_store, with_retrieval, store_told, ShowsStore};
-ghost use Rattle.mm_c.specs.Showing.{ShowsWaiting};
+ghost use Rattle.mm_c.specs.Showing.{ShowsWaiting, ShowsRefused};
 
 use crate::handle::MemoryHandle;
 use crate::memory::{ended, refused};
@@ -156,6 +156,28 @@ pub extern "C" fn rudlayog_memory_waiting(
     }
     let service = memory.take(alloc);
     *reports = service.waiting() as u64;
+    *answer = ended(Status::Written);
+    memory.put(service);
+}
+
+/// Tells how many packets were refused out of memory, as `Service::refused` of `mm_service` does.
+#[unsafe(no_mangle)]
+pub extern "C" fn rudlayog_memory_refused(
+    alloc: Global,
+    memory: &mut MemoryHandle,
+    packets: &mut u64,
+    answer: &mut Answer,
+)
+    ensures shown { OnOpen (ShowsRefused packets.new answer.new) (packets.new ≡ 0)
+        memory.old.loose.service memory.new.loose.service answer.new }
+{
+    *packets = 0;
+    if !memory.is_open {
+        *answer = ended(Status::Closed);
+        return;
+    }
+    let service = memory.take(alloc);
+    *packets = service.refused();
     *answer = ended(Status::Written);
     memory.put(service);
 }

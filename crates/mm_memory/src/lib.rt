@@ -13,6 +13,7 @@ mod recording;
 mod reports;
 mod request;
 mod setup;
+mod spare;
 mod tally;
 mod validation;
 
@@ -22,4 +23,5 @@ pub use memory::Memory;
 pub use mm_base::NoMemory;
 pub use mm_desk::Held;
 pub use places::{place_of, store_of};
+pub use spare::{Spare, hands_back};
 pub use tally::Tally;

@@ -5,11 +5,12 @@ ghost use Rattle.mm_memory.specs.Recording.{after_offer, tally_in, after_offers,
 ghost use Rattle.mm_memory.specs.Routing.{rows_for, leads_to, packet_along, passed};
 
 use crate::memory::Memory;
+use crate::spare::{Spare, given_up, hands_back};
 use crate::tally::Tally;
 use mm_base::{NoMemory, RouteRow, StoreId};
 use mm_control::ControlTable;
 use mm_desk::Held;
-use mm_packet::{BlockPacket, Packet};
+use mm_packet::{BlockPacket, LentPacket, Packet};
 use std::alloc::Global;
 
 // The rows of a packet's report type; none for a telecommand.
@@ -36,18 +37,22 @@ fn leads_to(rows: &[RouteRow], near: usize, id: &StoreId) -> bool
     leads_at(rows, near, id) || rows.iter().any(|row| row.store == *id)
 }
 
-// Offers a packet to a store.
-fn offer_one(held: &mut Held, now: u64, packet: BlockPacket) -> Tally
+// Offers a packet to a store, whose answer may leave a spare.
+fn offer_one(held: &mut Held, now: u64, packet: BlockPacket, spare: &mut Spare) -> Tally
     ensures store { held.new ≡ after_offer now held.old (Some packet) }
     ensures tally { result ≡ tally_in now held.old (Some packet) }
     ensures kept { result.kept ≤ 1 }
     ensures lost { result.lost ≤ 1 }
     ensures refused { result.refused ≤ 1 }
 {
-    Tally::of(held.state.offer(now, packet))
+    let answer = held.state.offer(now, packet);
+    let tally = Tally::of(&answer);
+    spare.keep_of(answer);
+    tally
 }
 
-// How many stores stand before the first to which one of the rows leads. It is the row at `near` where rows and stores stand in one order.
+// How many stores stand before the first to which one of the rows leads. It is the row at `near` where rows and stores
+// stand in one order.
 fn passed(rows: &[RouteRow], near: usize, stores: &[Held]) -> usize
     ensures passed { result ≡ passed rows.now stores.now }
     ensures within { result ≤ length stores.now }
@@ -58,8 +63,9 @@ fn passed(rows: &[RouteRow], near: usize, stores: &[Held]) -> usize
         .unwrap_or(stores.len())
 }
 
-// Offers a packet to each of the stores to which one of the rows leads; the first is one. It takes the packet itself, and the others
-// take copies, which are all made before the first offer. The row at `near` leads to the first where rows and stores stand in one order.
+// Offers a packet to each of the stores to which one of the rows leads; the first is one. It takes the packet itself,
+// and the others take copies, which are all made before the first offer. The row at `near` leads to the first where
+// rows and stores stand in one order.
 fn offer_from_first(
     alloc: Global,
     stores: &mut [Held],
@@ -67,6 +73,7 @@ fn offer_from_first(
     near: usize,
     now: u64,
     packet: BlockPacket,
+    spare: &mut Spare,
 ) -> Result<Tally, NoMemory>
     requires few { length stores.old ≤ MAX_STORES }
     requires some { 0 < length stores.old }
@@ -84,11 +91,12 @@ fn offer_from_first(
     let next_row = near.wrapping_add(1);
     let next = passed(rows, next_row, rest);
     if next == rest.len() {
-        return Ok(offer_one(first, now, packet));
+        return Ok(offer_one(first, now, packet, spare));
     }
     let (_passed, others) = rest.split_at_mut(next);
-    let more = offer_from_first(alloc, others, rows, next_row, now, packet.copy(alloc)?)?;
-    let one = offer_one(first, now, packet);
+    let copy = packet.copy(alloc)?;
+    let more = offer_from_first(alloc, others, rows, next_row, now, copy, spare)?;
+    let one = offer_one(first, now, packet, spare);
     Ok(Tally {
         kept: one.kept + more.kept,
         lost: one.lost + more.lost,
@@ -103,6 +111,7 @@ fn offer_each(
     rows: &[RouteRow],
     now: u64,
     packet: BlockPacket,
+    spare: &mut Spare,
 ) -> Result<Tally, NoMemory>
     requires few { length stores.old ≤ MAX_STORES }
     ensures stores { OnOk result (stores.new ≡ after_offers now (packet_along rows.now packet) stores.old) }
@@ -111,17 +120,18 @@ fn offer_each(
 {
     let first = passed(rows, 0, stores);
     if first == stores.len() {
+        spare.keep(packet);
         return Ok(Tally::nothing());
     }
     let (_passed, others) = stores.split_at_mut(first);
-    let tally = offer_from_first(alloc, others, rows, 0, now, packet)?;
+    let tally = offer_from_first(alloc, others, rows, 0, now, packet, spare)?;
     Ok(tally)
 }
 
 impl Memory {
-    /// Offers a packet at a moment, in ticks, to each store that its report type is routed to, as the recorders of a run do; a telecommand
-    /// goes to no store. A store whose storage is off, or whose clock is at its end, refuses it, and the others take it all the same.
-    /// `NoMemory` has changed nothing.
+    /// Offers a packet at a moment, in ticks, to each store that its report type is routed to, as the recorders of a
+    /// run do; a telecommand goes to no store. A store whose storage is off, or whose clock is at its end, refuses it,
+    /// and the others take it all the same. `NoMemory` has changed nothing.
     pub fn record(
         &mut self,
         alloc: Global,
@@ -137,16 +147,17 @@ impl Memory {
             return Ok(Tally::nothing());
         }
         let packet = packet.copy(alloc)?;
-        self.record_owned(alloc, now, packet)
+        self.record_owned(alloc, now, packet, &mut Spare::none())
     }
 
-    /// As `record`, of a packet that is given up: it goes to one of the stores, and copies of it to the others. It is dropped where no
-    /// store keeps it, and after `NoMemory`.
+    /// As `record`, of a packet that is given up: it goes to one of the stores, and copies of it to the others. It is
+    /// dropped where no store keeps it, and after `NoMemory`. A packet that a store hands back may become the spare.
     pub fn record_owned(
         &mut self,
         alloc: Global,
         now: u64,
         packet: BlockPacket,
+        spare: &mut Spare,
     ) -> Result<Tally, NoMemory>
         ensures after { OnOk result (self.new ≡ after_record now packet self.old) }
         ensures tally { IfOk result (λ tally. tally ≡ tally_after now packet self.old) }
@@ -154,9 +165,46 @@ impl Memory {
     {
         let rows = rows_for(&self.control, packet.packet());
         if rows.is_empty() {
+            spare.keep(packet);
             return Ok(Tally::nothing());
         }
-        let tally = offer_each(alloc, &mut self.stores, rows, now, packet)?;
+        let tally = offer_each(alloc, &mut self.stores, rows, now, packet, spare)?;
         Ok(tally)
+    }
+
+    // How many stores to which one of the rows leads would give this packet up, or one that is equal.
+    fn givers(&self, rows: &[RouteRow], packet: &BlockPacket) -> usize {
+        self.stores
+            .iter()
+            .filter(|held| leads_to(rows, 0, &held.id))
+            .filter(|held| given_up(&held.state).is_some_and(|other| other.is(packet)))
+            .count()
+    }
+
+    // Whether one of the stores to which the rows lead gives up a packet that no other store shares.
+    fn gives_memory(&self, rows: &[RouteRow]) -> bool {
+        self.stores
+            .iter()
+            .filter(|held| leads_to(rows, 0, &held.id))
+            .filter_map(|held| given_up(&held.state))
+            .any(|oldest| oldest.owners() <= self.givers(rows, oldest))
+    }
+
+    /// Whether the stores that a packet is routed to hand as much memory back as they take of it: none keeps it, or they
+    /// give up a packet that no other store shares.
+    #[must_use]
+    pub fn hands_back(&self, packet: &LentPacket<'_>) -> bool {
+        if packet.is_telecommand() {
+            return true;
+        }
+        let header = packet.header();
+        let rows = self
+            .control
+            .rows_for(header.apid, header.service, header.subtype);
+        let mut routed = self
+            .stores
+            .iter()
+            .filter(|held| leads_to(rows, 0, &held.id));
+        self.gives_memory(rows) || routed.all(|held| hands_back(&held.state))
     }
 }

@@ -4,8 +4,8 @@ ghost use Rattle.mm_memory.specs.Tallies.{nothing, tally_of};
 
 use mm_desk::{Offered, Returned};
 
-/// How many stores keep a packet, how many packets are lost by it (itself in a full bounded store, the oldest in a full circular one), and
-/// how many stores refuse it.
+/// How many stores keep a packet, how many packets are lost by it (itself in a full bounded store, the oldest in a full
+/// circular one), and how many stores refuse it.
 #[derive(Clone, Copy, Debug, PartialEq, Eq)]
 pub struct Tally {
     pub kept: u32,
@@ -26,8 +26,8 @@ impl Tally {
     }
 
     // That of one store, by its answer.
-    pub(crate) fn of(answer: Result<Offered, Returned>) -> Tally
-        ensures tally { result ≡ tally_of answer }
+    pub(crate) fn of(answer: &Result<Offered, Returned>) -> Tally
+        ensures tally { result ≡ tally_of answer.now }
         ensures kept { result.kept ≤ 1 }
         ensures lost { result.lost ≤ 1 }
         ensures refused { result.refused ≤ 1 }

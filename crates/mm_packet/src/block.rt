@@ -1,7 +1,8 @@
 //! Packets that a block of a store has room for.
-ghost use Rattle.std.specs.Prelude.{◌≡◌, ◌≤◌, ◌↔◌, length, IsTrue, IsOk, IfOk, MatchResult};
+ghost use Rattle.std.specs.Prelude.{◌≡◌, ◌≤◌, ◌↔◌, length, IsTrue, IsOk, IfOk, IfSome, MatchResult};
 ghost use Rattle.mm_packet.specs.Spelling.{spelling};
 
+use crate::lent::LentPacket;
 use crate::packet::Packet;
 use mm_base::{NoMemory, Refusal, Refused};
 use std::alloc::Global;
@@ -73,6 +74,38 @@ impl BlockPacket {
         ensures equal { IsTrue result ↔ (self.now ≡ other.now) }
     {
         self.packet.is(&other.packet)
+    }
+
+    /// The packet, in memory for all that a block holds.
+    pub fn lent(alloc: Global, packet: &LentPacket<'_>) -> Result<BlockPacket, NoMemory>
+        requires fits { length (spelling packet.now) ≤ BLOCK }
+        ensures same { IfOk result (λ block. block ≡ packet.now) }
+    {
+        let packet = packet.packet_in_block(alloc)?;
+        Ok(BlockPacket { packet })
+    }
+
+    /// The packet in the memory of this one, which is given up. It takes no memory where this one was made by `lent` or
+    /// `with_room`; none where others share the memory.
+    #[must_use]
+    pub fn replaced(self, packet: &LentPacket<'_>) -> Option<BlockPacket>
+        requires fits { length (spelling packet.now) ≤ BLOCK }
+        ensures same { IfSome result (λ block. block ≡ packet.now) }
+    {
+        let packet = packet.packet_in_place_of(self.packet)?;
+        Some(BlockPacket { packet })
+    }
+
+    /// A packet without data, in memory for all that a block holds.
+    pub fn with_room(alloc: Global) -> Result<BlockPacket, NoMemory> {
+        let packet = LentPacket::empty().packet_in_block(alloc)?;
+        Ok(BlockPacket { packet })
+    }
+
+    /// How many packets share its memory, with this one. One of which it is 1 can be replaced.
+    #[must_use]
+    pub fn owners(&self) -> usize {
+        self.packet.body.owners()
     }
 
     /// A packet equal to this one.

@@ -8,6 +8,7 @@ mod fields;
 mod header;
 pub mod laws;
 mod layout;
+mod lent;
 mod number;
 mod octets;
 mod packet;
@@ -20,6 +21,7 @@ pub use fault::Fault;
 pub use header::{
     Header, IDLE_APID, PacketType, SEQUENCE_COUNTS, TELECOMMAND_BODY, TELEMETRY_BODY,
 };
+pub use lent::LentPacket;
 pub use mm_base::NoMemory;
 pub use number::{octet_at, u16_at, u32_at, u64_at};
 pub use octets::Octets;

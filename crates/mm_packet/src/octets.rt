@@ -1,5 +1,5 @@
 //! A list of octets that its copies share.
-ghost use Rattle.std.specs.Prelude.{◌≡◌, IfOk, IfErr};
+ghost use Rattle.std.specs.Prelude.{◌≡◌, IfOk, IfErr, IfSome};
 
 use std::alloc::{AllocError, AllocFailed, Global};
 use std::marker::Model;
@@ -38,6 +38,32 @@ impl Octets {
         let bytes = Vec::from_slice(alloc, octets)?;
         let list = Octets::new(bytes)?;
         Ok(list)
+    }
+
+    // The octets of a slice, in memory for at least `room` octets.
+    pub(crate) fn with_room(alloc: Global, octets: &[u8], room: usize) -> Result<Octets, AllocError>
+        ensures octets { IfOk result (λ list. list ≡ octets.now) }
+    {
+        let mut bytes = Vec::with_capacity(alloc, room)?;
+        bytes.extend_from_slice(octets)?;
+        let list = Octets::new(bytes)?;
+        Ok(list)
+    }
+
+    // How many packets share them, with this one.
+    pub(crate) fn owners(&self) -> usize {
+        Arc::strong_count(&self.bytes)
+    }
+
+    // The octets of a slice in the memory of these; none where they are shared. Where there is room for them no memory
+    // is taken.
+    pub(crate) fn refilled(mut self, octets: &[u8]) -> Option<Octets>
+        ensures octets { IfSome result (λ list. list ≡ octets.now) }
+    {
+        let bytes = Arc::get_mut(&mut self.bytes)?;
+        bytes.clear();
+        bytes.extend_from_slice(octets).ok()?;
+        Some(self)
     }
 
     #[must_use]

@@ -1,9 +1,11 @@
 //! Packets from octets.
-ghost use Rattle.std.specs.Prelude.{◌≡◌, ◌++◌, ◌+◌, length, List, ℕ, None, MatchResult, IsOk, IfOk, IfErr, IfSome, if◌then◌else◌};
+ghost use Rattle.std.specs.Prelude.{◌≡◌, ◌≢◌, ◌++◌, ◌+◌, length, List, ℕ, None, Ok, Err, MatchResult, IsOk, IfOk};
+ghost use Rattle.std.specs.Prelude.{IfErr, IfSome, if◌then◌else◌};
 ghost use Rattle.std.specs.Option.{option_map};
 ghost use Rattle.mm_packet.specs.Packet.{SpacePacket, FitsType, IsPacket};
 ghost use Rattle.mm_packet.specs.Spelling.{type_bit, type_fields, spelling};
-ghost use Rattle.mm_packet.specs.Headers.{primary_at, primary_octets, secondary_octets, FitsPrimary, FitsSecondary, type_at, secondary_at, fault_of, is_telecommand, apid_of, count_of};
+ghost use Rattle.mm_packet.specs.Headers.{primary_at, primary_octets, secondary_octets, FitsPrimary, FitsSecondary};
+ghost use Rattle.mm_packet.specs.Headers.{type_at, secondary_at, fault_of, is_telecommand, apid_of, count_of};
 ghost use Rattle.mm_base.specs.Reading.{Gives};
 ghost use Rattle.mm_packet.specs.Reading.{tested, data_field_at, header_of, packet_at};
 
@@ -11,8 +13,8 @@ use crate::fault::Fault;
 use crate::fields_at;
 use crate::header::{Header, IDLE_APID, PacketType, SEQUENCE_COUNTS};
 use crate::layout::{APID_MASK, LOW_MASK, PUS_VERSION, UNSEGMENTED, VERSION};
+use crate::lent::LentPacket;
 use crate::number::{octet_at, u16_at, u64_at};
-use crate::octets::Octets;
 use crate::packet::Packet;
 use std::alloc::Global;
 
@@ -147,23 +149,41 @@ impl Packet {
 }
 
 // The packet at the front of the octets, and what follows it.
-#[tactic(auto, unfolding(crate::specs::Reading::packet_at))]
 fn packet_at(alloc: Global, octets: &[u8]) -> Result<(Packet, &[u8]), Fault>
     ensures found { IfOk result (λ x. IsPacket x.0 × (octets.now ≡ spelling x.0 ++ x.1.now)) }
     ensures exact { Gives Fault.NoMemory (λ x. (x.0, x.1.now)) result (packet_at octets.now) }
     ensures no_memory { IfErr result (λ e. e ≡ Fault.NoMemory → IsOk (packet_at octets.now)) }
 {
-    let (primary, rest) = primary_at(octets).ok_or(Fault::Short)?;
-    let primary = primary.tested()?;
-    let (field, rest) = data_field_at(primary, rest).ok_or(Fault::Short)?;
-    let (secondary, body) = secondary_at(primary.is_telecommand(), field).ok_or(Fault::HeaderCut)?;
-    if secondary.first >> 4 != PUS_VERSION {
-        return Err(Fault::PusVersion);
-    }
-    let packet = Packet {
-        header: header_of(primary, secondary),
-        kind: secondary.kind,
-        body: Octets::of(alloc, body)?,
-    };
+    let (lent, rest) = LentPacket::parse(octets)?;
+    let packet = lent.packet(alloc)?;
     Ok((packet, rest))
+}
+
+impl<'a> LentPacket<'a> {
+    /// The packet at the front of the octets, and what follows it, without memory.
+    #[tactic(auto, unfolding(crate::specs::Reading::packet_at))]
+    pub fn parse(octets: &'a [u8]) -> Result<(LentPacket<'a>, &'a [u8]), Fault>
+        // The octets are the packet's spelling, and what follows it.
+        ensures found { IfOk result (λ x. IsPacket x.0 × (octets.now ≡ spelling x.0 ++ x.1.now)) }
+        // Which refusal it is: the first test that fails.
+        ensures exact { MatchResult result (λ x. packet_at octets.now ≡ Ok (x.0, x.1.now))
+            (λ fault. packet_at octets.now ≡ Err fault) }
+        ensures no_memory { IfErr result (λ fault. fault ≢ Fault.NoMemory) }
+    {
+        let (primary, rest) = primary_at(octets).ok_or(Fault::Short)?;
+        let primary = primary.tested()?;
+        let (field, rest) = data_field_at(primary, rest).ok_or(Fault::Short)?;
+        let (secondary, body) = secondary_at(primary.is_telecommand(), field).ok_or(
+            Fault::HeaderCut,
+        )?;
+        if secondary.first >> 4 != PUS_VERSION {
+            return Err(Fault::PusVersion);
+        }
+        let packet = LentPacket {
+            header: header_of(primary, secondary),
+            kind: secondary.kind,
+            body,
+        };
+        Ok((packet, rest))
+    }
 }

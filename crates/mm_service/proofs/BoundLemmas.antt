@@ -35,7 +35,7 @@ waits_each asked (report ∷ rest) q =
     omega (arith, more, one)
 
 -- no request has more reports than the most
-few : (r : Request) (now : ℕ) (m : Holdings) → length (reports_on r now m) ≤ most_reports r
+pub few : (r : Request) (now : ℕ) (m : Holdings) → length (reports_on r now m) ≤ most_reports r
 few (request.ReportControl targets) now m = length-filter_map (control_at now m) targets
 few other now m = omega arith
 

@@ -1,5 +1,6 @@
 -- The calls of a service are calls on its memory, and what they give was brought.
-use Rattle.std.proofs.Common.{◌≡◌, ℕ, Bool, true, false, List, [], ◌∷◌, ◌++◌, length, take, drop, All, Contains, refl, sym, ap, subst, ◌∙◌}
+use Rattle.std.proofs.Common.{◌≡◌, ℕ, Bool, true, false, List, [], ◌∷◌, ◌++◌, length, take, drop, All, Contains, refl}
+use Rattle.std.proofs.Common.{sym, ap, subst, ◌∙◌}
 use Rattle.std.specs.Prelude.{if◌then◌else◌, map, bytes_eq, Option, Some, None, Result, Ok, Err}
 use Rattle.std.proofs.lemmas.List.{append-nil, take_at}
 use Rattle.std.proofs.lemmas.List.Elements.{All-nil, All-cons, All-head, All-tail, All-append, All-contains_itself}
@@ -18,7 +19,8 @@ use Rattle.mm_desk.specs.declared.reply.Returned.{Returned}
 use Rattle.mm_desk.specs.Fates.{found_in, over}
 use Rattle.mm_desk.specs.Machine.{State, offer, next, step}
 use Rattle.mm_memory.specs.declared.tally.Tally.{Tally}
-use Rattle.mm_memory.specs.Accounts.{records, asks, Turn as MemoryTurn, AreTurns as AreMemoryTurns, after_turns, calls_of, kept_by, kept, kept_in, in_store, in_turns, held_in, AccountForPackets}
+use Rattle.mm_memory.specs.Accounts.{records, asks, Turn as MemoryTurn, AreTurns as AreMemoryTurns, after_turns}
+use Rattle.mm_memory.specs.Accounts.{calls_of, kept_by, kept, kept_in, in_store, in_turns, held_in, AccountForPackets}
 use Rattle.mm_memory.specs.Holdings.{Holdings, state_of}
 use Rattle.mm_memory.specs.Instruction.{instructions_of}
 use Rattle.mm_memory.specs.Lending.{with_state}
@@ -31,7 +33,9 @@ use Rattle.mm_service.specs.declared.giving.Given.{Given}
 use Rattle.mm_service.specs.declared.offering.Fate.{Fate}
 use Rattle.mm_service.specs.declared.reporting.Reported.{Reported}
 use Rattle.mm_service.specs.declared.reporting.Reported.TheVariants.{Written, TooSmall, End}
-use Rattle.mm_service.specs.Accounts.{Call, offer_call, record_call, apply_call, next_call, report_call, bound_call, Turn, MayLeave, AreTurns, AreCallsOf, AreAccounted, brought, gave, in_calls, octets_held}
+use Rattle.mm_service.specs.Accounts.{Call, offer_call, record_call, apply_call, next_call, report_call, bound_call}
+use Rattle.mm_service.specs.Accounts.{refused_call, Turn, MayLeave, AreTurns, AreCallsOf, AreAccounted, brought, gave}
+use Rattle.mm_service.specs.Accounts.{in_calls, octets_held}
 use Rattle.mm_service.specs.Giving.{Tells, TellsPacket, next_of, first_of, given_of, Leaves as LeavesNext}
 use Rattle.mm_service.specs.Offering.{fate_of}
 use Rattle.mm_service.specs.Reading.{id_tested, block_of}
@@ -43,7 +47,8 @@ use Rattle.mm_service.proofs.SpellingLemmas.{no_value, block_is, request_is}
 tested_field : (id field : List ℕ) → id_tested id ≡ Ok field → field_of id ≡ field
 tested_field id field e = (cond_ok (is_id_text id) (field_of id) BadId field e).1
 
-named_state : (id : List ℕ) (s : Serving) (state : State) (found : Option State) → state_of id s.memory ≡ found → state_named id s ≡ Ok state → state_of id s.memory ≡ Some state
+named_state : (id : List ℕ) (s : Serving) (state : State) (found : Option State) → state_of id s.memory ≡ found
+    → state_named id s ≡ Ok state → state_of id s.memory ≡ Some state
 named_state id s state (Some x) at e = at ∙ ap Some (ok_same x state (rw at at e))
 named_state id s state None at e = absurd (no_value NoSuchStore state (rw at at e))
 
@@ -56,9 +61,12 @@ abbrev Has : (List ℕ → Type 0) → Stored → Type 0
 Has Q p = Q (spelling p.packet)
 
 module _ (Q : List ℕ → Type 0) where
-  kept_have : (packet : SpacePacket) (r : Result Offered Returned) → Q (spelling packet) → All (Has Q) (kept_by packet r)
-  kept_have packet (Ok (Kept time)) has = All-cons (Has Q) (record { time = time; packet = packet }) [] has (All-nil (Has Q))
-  kept_have packet (Ok (KeptOver time oldest)) has = All-cons (Has Q) (record { time = time; packet = packet }) [] has (All-nil (Has Q))
+  kept_have : (packet : SpacePacket) (r : Result Offered Returned) → Q (spelling packet)
+      → All (Has Q) (kept_by packet r)
+  kept_have packet (Ok (Kept time)) has = All-cons (Has Q) (record { time = time; packet = packet }) [] has
+      (All-nil (Has Q))
+  kept_have packet (Ok (KeptOver time oldest)) has =
+      All-cons (Has Q) (record { time = time; packet = packet }) [] has (All-nil (Has Q))
   kept_have packet (Ok (Lost lost)) has = All-nil (Has Q)
   kept_have packet (Err back) has = All-nil (Has Q)
 
@@ -70,7 +78,8 @@ module _ (Q : List ℕ → Type 0) where
   offer_keeps now packet false (Some s) has = All-nil (Has Q)
   offer_keeps now packet b None has = All-nil (Has Q)
 
-  next_keeps : (b : Bool) (before : Option State) → All (Has Q) (in_store (λ s. over kept s (if b then Next ∷ [] else [])) before ++ [])
+  next_keeps : (b : Bool) (before : Option State)
+      → All (Has Q) (in_store (λ s. over kept s (if b then Next ∷ [] else [])) before ++ [])
   next_keeps true (Some s) = All-nil (Has Q)
   next_keeps false (Some s) = All-nil (Has Q)
   next_keeps b None = All-nil (Has Q)
@@ -81,10 +90,12 @@ record Made (call : Call) (s t : Serving) : Type 1 where
   are : AreCallsOf call (calls_of turns)
   made : AreMemoryTurns s.memory turns
   left : t.memory ≡ after_turns s.memory turns
-  keeps : (id : List ℕ) (Q : List ℕ → Type 0) → All Q (brought id call) → All (Has Q) (in_turns kept_in id s.memory turns)
+  keeps : (id : List ℕ) (Q : List ℕ → Type 0) → All Q (brought id call)
+      → All (Has Q) (in_turns kept_in id s.memory turns)
   gives : (id : List ℕ) (Q : List ℕ → Type 0) → All (Has Q) (held_in id s.memory) → All Q (gave id call)
 
-offer_made : (id octets : List ℕ) (now : ℕ) (s t : Serving) → MayLeave (offer_call id octets now) s t → Made (offer_call id octets now) s t
+offer_made : (id octets : List ℕ) (now : ℕ) (s t : Serving) → MayLeave (offer_call id octets now) s t
+    → Made (offer_call id octets now) s t
 offer_made id octets now s t is =
     let a = bind_ok (id_tested id) _ (is.1, t) is.2 in
     let b = bind_ok (block_of octets) _ (is.1, t) a.2 in
@@ -93,69 +104,101 @@ offer_made id octets now s t is =
     let named = tested_field id a.0 a.1 in
     let found = named_state a.0 s c.0 (state_of a.0 s.memory) refl c.1 in
     let spelled = block_is octets is.0 b.0 b.1 in
-    let left = ap (λ (x : Fate × Serving). x.1.memory) (ok_same (d.0, with_store a.0 s (offer c.0 now b.0).1) (is.1, t) d.2) in
+    let left = ap (λ (x : Fate × Serving). x.1.memory)
+    (ok_same (d.0, with_store a.0 s (offer c.0 now b.0).1) (is.1, t) d.2) in
     record {
       turns = record { call = asks (field_of id) (Offer now b.0); left = t.memory } ∷ [];
       are = (b.0, spelled, refl);
-      made = ((c.0, ap (λ (k : List ℕ). state_of k s.memory) named ∙ found, sym left ∙ ap (λ (k : List ℕ). with_state k s.memory (step c.0 (Offer now b.0)).1) (sym named)), tt);
+      made = (
+        (
+          c.0,
+          ap (λ (k : List ℕ). state_of k s.memory) named ∙ found,
+          sym left
+              ∙ ap (λ (k : List ℕ). with_state k s.memory (step c.0 (Offer now b.0)).1) (sym named),
+        ),
+        tt,
+      );
       left = refl;
       keeps = λ k Q all. offer_keeps Q now b.0 (bytes_eq (field_of id) k) (state_of k s.memory)
-          (λ same. subst Q spelled (All-head Q octets [] (subst (λ (t : Bool). All Q (if t then octets ∷ [] else [])) same all)));
+          (λ same. subst Q spelled (All-head Q octets []
+          (subst (λ (t : Bool). All Q (if t then octets ∷ [] else [])) same all)));
       gives = λ k Q all. All-nil Q;
     }
 
-record_made : (octets : List ℕ) (now : ℕ) (s t : Serving) → MayLeave (record_call octets now) s t → Made (record_call octets now) s t
+record_made : (octets : List ℕ) (now : ℕ) (s t : Serving) → MayLeave (record_call octets now) s t
+    → Made (record_call octets now) s t
 record_made octets now s t is =
     let a = bind_ok (block_of octets) _ (is.1, t) is.2 in
     let after_it : Serving = record s { memory = after_record now a.0 s.memory } in
-    let left = ap (λ (x : Tally × Serving). x.1.memory) (ok_same (tally_after now a.0 s.memory, after_it) (is.1, t) a.2) in
+    let left = ap (λ (x : Tally × Serving). x.1.memory)
+    (ok_same (tally_after now a.0 s.memory, after_it) (is.1, t) a.2) in
     let spelled = block_is octets is.0 a.0 a.1 in
     record {
       turns = record { call = records now a.0; left = t.memory } ∷ [];
       are = (a.0, spelled, refl);
       made = (sym left, tt);
       left = refl;
-      keeps = λ k Q all. offer_keeps Q now a.0 (is_routed s.memory.routes k a.0) (state_of k s.memory) (λ routed. subst Q spelled (All-head Q octets [] all));
+      keeps = λ k Q all. offer_keeps Q now a.0 (is_routed s.memory.routes k a.0) (state_of k s.memory)
+          (λ routed. subst Q spelled (All-head Q octets [] all));
       gives = λ k Q all. All-nil Q;
     }
 
-apply_made : (octets : List ℕ) (now : ℕ) (s t : Serving) → MayLeave (apply_call octets now) s t → Made (apply_call octets now) s t
+apply_made : (octets : List ℕ) (now : ℕ) (s t : Serving) → MayLeave (apply_call octets now) s t
+    → Made (apply_call octets now) s t
 apply_made octets now s t is =
     let applied = is.4 in
     let instructions = instructions_of applied.request in
     let turns = requested instructions s.memory t.memory applied.answers applied.each in
     record {
       turns = turns.0;
-      are = (applied.asked, request_is octets is.0 applied.asked applied.asks, applied.request, applied.spelled, turns.1);
+      are = (
+        applied.asked,
+        request_is octets is.0 applied.asked applied.asks,
+        applied.request,
+        applied.spelled,
+        turns.1,
+      );
       made = turns.2;
       left = turns.3;
-      keeps = λ k Q all. subst (All (Has Q)) (sym (instructions_keep k s.memory instructions turns.0 turns.1)) (All-nil (Has Q));
+      keeps = λ k Q all. subst (All (Has Q)) (sym (instructions_keep k s.memory instructions turns.0 turns.1))
+          (All-nil (Has Q));
       gives = λ k Q all. All-nil Q;
     }
 
 -- what is told of a packet that is given is its octets
-told_octets : (stored : Stored) (told : Given) (old new : List ℕ) → TellsPacket stored told old new → take told.len new ≡ spelling stored.packet
+told_octets : (stored : Stored) (told : Given) (old new : List ℕ) → TellsPacket stored told old new
+    → take told.len new ≡ spelling stored.packet
 told_octets stored told old new tells =
-    ap (take told.len) tells.written ∙ take_at (spelling stored.packet) (drop (length (spelling stored.packet)) old) told.len (sym tells.len)
+    ap (take told.len) tells.written ∙ take_at (spelling stored.packet) (drop (length (spelling stored.packet)) old)
+    told.len (sym tells.len)
 
-gave_has : (Q : List ℕ → Type 0) (given : Option Stored) (told : Option Given) (old new : List ℕ) (name id : List ℕ) → bytes_eq (field_of name) id ≡ true → Tells (Ok given) (Ok told) old new
+gave_has : (Q : List ℕ → Type 0) (given : Option Stored) (told : Option Given) (old new : List ℕ) (name id : List ℕ)
+    → bytes_eq (field_of name) id ≡ true → Tells (Ok given) (Ok told) old new
     → All (Has Q) (found_in (Ok given)) → All Q (gave id (next_call name told new))
 gave_has Q given None old new name id same tells all = All-nil Q
 gave_has Q (Some stored) (Some told) old new name id same tells all =
-    rw same (All-cons Q (take told.len new) [] (subst Q (sym (told_octets stored told old new tells)) (All-head (Has Q) stored [] all)) (All-nil Q))
+    rw same (All-cons Q (take told.len new) []
+    (subst Q (sym (told_octets stored told old new tells)) (All-head (Has Q) stored [] all)) (All-nil Q))
 gave_has Q None (Some told) old new name id same tells all = absurd tells
 
-gave_none : (Q : List ℕ → Type 0) (told : Option Given) (new : List ℕ) (name id : List ℕ) → bytes_eq (field_of name) id ≡ false → All Q (gave id (next_call name told new))
+gave_none : (Q : List ℕ → Type 0) (told : Option Given) (new : List ℕ) (name id : List ℕ)
+    → bytes_eq (field_of name) id ≡ false → All Q (gave id (next_call name told new))
 gave_none Q None new name id other = All-nil Q
 gave_none Q (Some told) new name id other = rw other (All-nil Q)
 
 -- what the store gives was held
-store_gives : (Q : List ℕ → Type 0) (m : Holdings) (state : State) (given : Option Stored) (told : Option Given) (old new name id : List ℕ) → state_of (field_of name) m ≡ Some state → (next state).0 ≡ Ok given
-    → Tells (Ok given) (Ok told) old new → All (Has Q) (held_in id m) → (b : Bool) → bytes_eq (field_of name) id ≡ b → All Q (gave id (next_call name told new))
+store_gives : (Q : List ℕ → Type 0) (m : Holdings) (state : State) (given : Option Stored) (told : Option Given)
+    (old new name id : List ℕ) → state_of (field_of name) m ≡ Some state → (next state).0 ≡ Ok given
+    → Tells (Ok given) (Ok told) old new → All (Has Q) (held_in id m) → (b : Bool) → bytes_eq (field_of name) id ≡ b
+    → All Q (gave id (next_call name told new))
 store_gives Q m state given told old new name id found gives tells all true same =
-    let here : state_of id m ≡ Some state = ap (λ (k : List ℕ). state_of k m) (sym ((bytes_eq-Decides (field_of name) id).0 same)) ∙ found in
-    let held : All (Has Q) state.store.content = subst (λ (o : Option State). All (Has Q) (in_store (λ s. s.store.content) o)) here all in
-    gave_has Q given told old new name id same tells (subst (λ (r : Result (Option Stored) StateFault). All (Has Q) (found_in r)) gives (next_has (Has Q) state state.retrieval held).0)
+    let here : state_of id m ≡ Some state =
+    ap (λ (k : List ℕ). state_of k m) (sym ((bytes_eq-Decides (field_of name) id).0 same)) ∙ found in
+    let held : All (Has Q) state.store.content =
+    subst (λ (o : Option State). All (Has Q) (in_store (λ s. s.store.content) o)) here all in
+    gave_has Q given told old new name id same tells
+    (subst (λ (r : Result (Option Stored) StateFault). All (Has Q) (found_in r)) gives
+    (next_has (Has Q) state state.retrieval held).0)
 store_gives Q m state given told old new name id found gives tells all false other = gave_none Q told new name id other
 
 -- the next packet of a retrieval is told only where it is given
@@ -163,7 +206,9 @@ refuses : (fault : Fault) (told : Option Given) (old new : List ℕ) → Tells (
 refuses fault None old new tells = tells
 refuses fault (Some given) old new tells = tells
 
-by_next : (id : List ℕ) (told : Option Given) (old new : List ℕ) (s t : Serving) (r : Result (Option Stored × Serving) Fault) → next_of id s ≡ r → Tells (first_of r) (Ok told) old new → LeavesNext r s t
+by_next : (id : List ℕ) (told : Option Given) (old new : List ℕ) (s t : Serving)
+    (r : Result (Option Stored × Serving) Fault)
+    → next_of id s ≡ r → Tells (first_of r) (Ok told) old new → LeavesNext r s t
     → Made (next_call id told new) s t
 by_next id told old new s t (Err fault) at tells leaves = absurd (refuses fault told old new tells)
 by_next id told old new s t (Ok (given, after_it)) at tells leaves =
@@ -171,16 +216,28 @@ by_next id told old new s t (Ok (given, after_it)) at tells leaves =
     let b = bind_ok (state_named a.0 s) _ (given, after_it) a.2 in
     let c = bind_ok (given_of (next b.0).0) _ (given, after_it) b.2 in
     let named = tested_field id a.0 a.1 in
-    let found = ap (λ (k : List ℕ). state_of k s.memory) named ∙ named_state a.0 s b.0 (state_of a.0 s.memory) refl b.1 in
+    let found = ap (λ (k : List ℕ). state_of k s.memory) named
+    ∙ named_state a.0 s b.0 (state_of a.0 s.memory) refl b.1 in
     let both = ok_same (c.0, with_store a.0 s (next b.0).1) (given, after_it) c.2 in
-    let gives : (next b.0).0 ≡ Ok given = given_ok (next b.0).0 c.0 c.1 ∙ ap (λ (x : Option Stored × Serving). Ok x.0) both in
+    let gives : (next b.0).0 ≡ Ok given = given_ok (next b.0).0 c.0 c.1
+    ∙ ap (λ (x : Option Stored × Serving). Ok x.0) both in
     record {
       turns = record { call = asks (field_of id) Next; left = t.memory } ∷ [];
       are = refl;
-      made = ((b.0, found, ap (λ (x : Serving). x.memory) leaves ∙ ap (λ (x : Option Stored × Serving). x.1.memory) (sym both) ∙ ap (λ (k : List ℕ). with_state k s.memory (step b.0 Next).1) (sym named)), tt);
+      made = (
+        (
+          b.0,
+          found,
+          ap (λ (x : Serving). x.memory) leaves
+              ∙ ap (λ (x : Option Stored × Serving). x.1.memory) (sym both)
+              ∙ ap (λ (k : List ℕ). with_state k s.memory (step b.0 Next).1) (sym named),
+        ),
+        tt,
+      );
       left = refl;
       keeps = λ k Q all. next_keeps Q (bytes_eq (field_of id) k) (state_of k s.memory);
-      gives = λ k Q all. store_gives Q s.memory b.0 given told old new id k found gives tells all (bytes_eq (field_of id) k) refl;
+      gives = λ k Q all. store_gives Q s.memory b.0 given told old new id k found gives tells all
+          (bytes_eq (field_of id) k) refl;
     }
 
 -- a report leaves the memory as it was
@@ -189,7 +246,8 @@ after_memory (Written n) rest s = refl
 after_memory (TooSmall n) rest s = refl
 after_memory End rest s = refl
 
-report_memory : (waiting : List SpacePacket) (told : Reported) (s t : Serving) (old new : List ℕ) → Reports waiting told s t old new → t.memory ≡ s.memory
+report_memory : (waiting : List SpacePacket) (told : Reported) (s t : Serving) (old new : List ℕ)
+    → Reports waiting told s t old new → t.memory ≡ s.memory
 report_memory [] told s t old new is = ap (λ (x : Serving). x.memory) is.1
 report_memory (packet ∷ rest) told s t old new is = ap (λ (x : Serving). x.memory) is.1 ∙ after_memory told rest s
 
@@ -214,13 +272,23 @@ made_of (bound_call bound) s t is = record {
   keeps = λ k Q all. All-nil (Has Q);
   gives = λ k Q all. All-nil Q;
 }
+made_of refused_call s t is = record {
+  turns = [];
+  are = refl;
+  made = tt;
+  left = ap (λ (x : Serving). x.memory) is;
+  keeps = λ k Q all. All-nil (Has Q);
+  gives = λ k Q all. All-nil Q;
+}
 
 -- turns after one another
-turns-append : (m : Holdings) (turns more : List MemoryTurn) → AreMemoryTurns m turns → AreMemoryTurns (after_turns m turns) more → AreMemoryTurns m (turns ++ more)
+turns-append : (m : Holdings) (turns more : List MemoryTurn) → AreMemoryTurns m turns
+    → AreMemoryTurns (after_turns m turns) more → AreMemoryTurns m (turns ++ more)
 turns-append m [] more first second = second
 turns-append m (t ∷ ts) more first second = (first.0, turns-append t.left ts more first.1 second)
 
-after-append : (m : Holdings) (turns more : List MemoryTurn) → after_turns m (turns ++ more) ≡ after_turns (after_turns m turns) more
+after-append : (m : Holdings) (turns more : List MemoryTurn)
+    → after_turns m (turns ++ more) ≡ after_turns (after_turns m turns) more
 after-append m [] more = refl
 after-append m (t ∷ ts) more = after-append t.left ts more
 
@@ -230,17 +298,20 @@ module _ (account : AccountForPackets) where
   calls_made s (t ∷ ts) made =
       let here = made_of t.call s t.left made.0 in
       let rest = calls_made t.left ts made.1 in
-      let whole = turns-append s.memory here.turns rest.turns here.made (subst (λ (m : Holdings). AreMemoryTurns m rest.turns) here.left rest.made) in
+      let whole = turns-append s.memory here.turns rest.turns here.made
+      (subst (λ (m : Holdings). AreMemoryTurns m rest.turns) here.left rest.made) in
       record {
         turns = here.turns ++ rest.turns;
         are = (here.turns, rest.turns, refl, here.are, rest.are);
         made = whole;
-        left = rest.left ∙ ap (λ (m : Holdings). after_turns m rest.turns) here.left ∙ sym (after-append s.memory here.turns rest.turns);
+        left = rest.left ∙ ap (λ (m : Holdings). after_turns m rest.turns) here.left
+            ∙ sym (after-append s.memory here.turns rest.turns);
         accounted = account s.memory (here.turns ++ rest.turns) whole;
       }
 
 -- what is given has what all that is held and brought has
-all_given : (Q : List ℕ → Type 0) (id : List ℕ) (s : Serving) (calls : List Turn) → AreTurns s calls → All (Has Q) (held_in id s.memory) → All Q (in_calls (brought id) calls) → All Q (in_calls (gave id) calls)
+all_given : (Q : List ℕ → Type 0) (id : List ℕ) (s : Serving) (calls : List Turn) → AreTurns s calls
+    → All (Has Q) (held_in id s.memory) → All Q (in_calls (brought id) calls) → All Q (in_calls (gave id) calls)
 all_given Q id s [] made held came = All-nil Q
 all_given Q id s (t ∷ ts) made held came =
     let here = made_of t.call s t.left made.0 in
@@ -254,11 +325,15 @@ spelled_all : (Q : List ℕ → Type 0) (held : List Stored) → All Q (map (λ 
 spelled_all Q [] all = All-nil (Has Q)
 spelled_all Q (p ∷ held) all =
     let octets = map (λ (x : Stored). spelling x.packet) held in
-    All-cons (Has Q) p held (All-head Q (spelling p.packet) octets all) (spelled_all Q held (All-tail Q (spelling p.packet) octets all))
+    All-cons (Has Q) p held (All-head Q (spelling p.packet) octets all)
+    (spelled_all Q held (All-tail Q (spelling p.packet) octets all))
 
-pub given_was_brought : (s : Serving) (calls : List Turn) → AreTurns s calls → (id : List ℕ) → All (Contains (octets_held id s ++ in_calls (brought id) calls)) (in_calls (gave id) calls)
+pub given_was_brought : (s : Serving) (calls : List Turn) → AreTurns s calls → (id : List ℕ)
+    → All (Contains (octets_held id s ++ in_calls (brought id) calls)) (in_calls (gave id) calls)
 given_was_brought s calls made id =
     let pool = octets_held id s ++ in_calls (brought id) calls in
     let all = All-contains_itself pool in
-    all_given (Contains pool) id s calls made (spelled_all (Contains pool) (held_in id s.memory) (All-front (Contains pool) (octets_held id s) (in_calls (brought id) calls) all))
+    all_given (Contains pool) id s calls made
+    (spelled_all (Contains pool) (held_in id s.memory)
+    (All-front (Contains pool) (octets_held id s) (in_calls (brought id) calls) all))
     (All-back (Contains pool) (octets_held id s) (in_calls (brought id) calls) all)

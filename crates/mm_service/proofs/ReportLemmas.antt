@@ -24,16 +24,9 @@ length-filter_map f (x ∷ xs) =
     let more = length-filter_map f xs in
     omega arith
 
--- a request has at most 255 reports
-pub few_reports : (r : Request) (now : ℕ) (m : Holdings) → IsRequest r → length (reports_on r now m) ≤ 255
-few_reports (request.ReportControl targets) now m is =
-    let few = length-filter_map (control_at now m) targets in
-    let count : length targets < 256 = is.count.1 in
-    omega arith
-few_reports other now m is = omega arith
-
 -- there are as many answers as instructions
-pub as_many_answers : (parsed : List Parsed) (m : Holdings) (answers : List Answer) (left : Holdings) → AppliesEach parsed m answers left → length answers ≡ length parsed
+pub as_many_answers : (parsed : List Parsed) (m : Holdings) (answers : List Answer) (left : Holdings)
+    → AppliesEach parsed m answers left → length answers ≡ length parsed
 as_many_answers [] m [] left applies = refl
 as_many_answers [] m (a ∷ more) left applies = absurd applies
 as_many_answers (i ∷ rest) m [] left applies = absurd applies

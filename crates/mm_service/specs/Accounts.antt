@@ -1,5 +1,6 @@
 -- What becomes of packets in the calls of a service, octet for octet.
-use Rattle.std.specs.Prelude.{◌≡◌, ℕ, ◌<◌, if◌then◌else◌, List, [], ◌∷◌, ◌++◌, take, map, flat_map, bytes_eq, All, Contains, Option, Some, Ok}
+use Rattle.std.specs.Prelude.{◌≡◌, ℕ, ◌<◌, if◌then◌else◌, List, [], ◌∷◌, ◌++◌, take, map, flat_map, bytes_eq, All}
+use Rattle.std.specs.Prelude.{Contains, Option, Some, Ok}
 use Rattle.mm_base.specs.Id.{field_of}
 use Rattle.mm_packet.specs.Packet.{SpacePacket}
 use Rattle.mm_packet.specs.Spelling.{spelling}
@@ -7,7 +8,8 @@ use Rattle.mm_st15.specs.declared.request.Request.{Request}
 use Rattle.mm_st15.specs.Request.{SpellsRequest}
 use Rattle.mm_desk.specs.declared.event.Event.TheVariants.{Offer, Next}
 use Rattle.mm_memory.specs.declared.tally.Tally.{Tally}
-use Rattle.mm_memory.specs.Accounts.{Call as MemoryCall, records, asks, applies, Turn as MemoryTurn, AreTurns as AreMemoryTurns, after_turns, calls_of, held_in, IsAccounted}
+use Rattle.mm_memory.specs.Accounts.{Call as MemoryCall, records, asks, applies, Turn as MemoryTurn}
+use Rattle.mm_memory.specs.Accounts.{AreTurns as AreMemoryTurns, after_turns, calls_of, held_in, IsAccounted}
 use Rattle.mm_memory.specs.Instruction.{instructions_of}
 use Rattle.mm_service.specs.declared.giving.Given.{Given}
 use Rattle.mm_service.specs.declared.offering.Fate.{Fate}
@@ -17,11 +19,12 @@ use Rattle.mm_service.specs.Giving.{GivesNext}
 use Rattle.mm_service.specs.Offering.{offered}
 use Rattle.mm_service.specs.Recording.{recorded}
 use Rattle.mm_service.specs.Reporting.{Reports}
-use Rattle.mm_service.specs.Serving.{Serving}
+use Rattle.mm_service.specs.Serving.{Serving, with_refusal}
 
--- a call on a service: octets are offered to the store with a name at a moment; they are recorded at a moment; the request that they are is
--- applied at a moment; the next packet of a retrieval from the store with a name is told and written into a buffer; a report is given;
--- the reports that wait are bounded
+-- a call on a service: octets are offered to the store with a name at a moment; they are recorded at a moment; the
+-- request that they are is applied at a moment; the next packet of a retrieval from the store with a name is told and
+-- written into a buffer; a report is given; the reports that wait are bounded; a packet that is offered or recorded is
+-- refused out of memory
 pub data Call : Type 0 where
   offer_call : List ℕ → List ℕ → ℕ → Call
   record_call : List ℕ → ℕ → Call
@@ -29,8 +32,9 @@ pub data Call : Type 0 where
   next_call : List ℕ → Option Given → List ℕ → Call
   report_call : Call
   bound_call : Option ℕ → Call
+  refused_call : Call
 
--- a call, and the service that it left; a call that is refused changes nothing, and is none of these
+-- a call, and the service that it left; a call that is refused otherwise changes nothing, and is none of these
 pub record Turn : Type 0 where
   pub call : Call
   pub left : Serving
@@ -43,10 +47,12 @@ AreOctets octets = All (λ octet. octet < 256) octets
 abbrev pub MayLeave : Call → Serving → Serving → Type 0
 MayLeave (offer_call id octets now) s t = AreOctets octets × (fate : Fate) × (offered id octets now s ≡ Ok (fate, t))
 MayLeave (record_call octets now) s t = AreOctets octets × (tally : Tally) × (recorded octets now s ≡ Ok (tally, t))
-MayLeave (apply_call octets now) s t = AreOctets octets × (count : ℕ) × (old : List ℕ) × (new : List ℕ) × Applies octets now s t count old new
+MayLeave (apply_call octets now) s t = AreOctets octets × (count : ℕ) × (old : List ℕ) × (new : List ℕ)
+    × Applies octets now s t count old new
 MayLeave (next_call id told new) s t = (old : List ℕ) × GivesNext id (Ok told) s t old new
 MayLeave report_call s t = (told : Reported) × (old : List ℕ) × (new : List ℕ) × Reports s.waiting told s t old new
 MayLeave (bound_call bound) s t = t ≡ record s { bound = bound }
+MayLeave refused_call s t = t ≡ with_refusal s
 
 -- each call leaves what its contract says, from what the one before it left
 abbrev pub AreTurns : Serving → List Turn → Type 0
@@ -60,18 +66,23 @@ after_calls s (t ∷ ts) = after_calls t.left ts
 
 -- the calls on the memory that a call of the service is; the packets are spelled by the octets
 abbrev pub AreCallsOf : Call → List MemoryCall → Type 0
-AreCallsOf (offer_call id octets now) calls = (packet : SpacePacket) × (octets ≡ spelling packet) × (calls ≡ asks (field_of id) (Offer now packet) ∷ [])
-AreCallsOf (record_call octets now) calls = (packet : SpacePacket) × (octets ≡ spelling packet) × (calls ≡ records now packet ∷ [])
+AreCallsOf (offer_call id octets now) calls =
+    (packet : SpacePacket) × (octets ≡ spelling packet) × (calls ≡ asks (field_of id) (Offer now packet) ∷ [])
+AreCallsOf (record_call octets now) calls =
+    (packet : SpacePacket) × (octets ≡ spelling packet) × (calls ≡ records now packet ∷ [])
 AreCallsOf (apply_call octets now) calls =
-    (packet : SpacePacket) × (octets ≡ spelling packet) × (request : Request) × SpellsRequest packet request × (calls ≡ map applies (instructions_of request))
+    (packet : SpacePacket) × (octets ≡ spelling packet) × (request : Request) × SpellsRequest packet request
+    × (calls ≡ map applies (instructions_of request))
 AreCallsOf (next_call id told new) calls = calls ≡ asks (field_of id) Next ∷ []
 AreCallsOf report_call calls = calls ≡ []
 AreCallsOf (bound_call bound) calls = calls ≡ []
+AreCallsOf refused_call calls = calls ≡ []
 
 -- turns of the memory, part by part those of the calls of the service
 abbrev pub AreOfCalls : List Turn → List MemoryTurn → Type 0
 AreOfCalls [] turns = turns ≡ []
-AreOfCalls (t ∷ ts) turns = (first : List MemoryTurn) × (rest : List MemoryTurn) × (turns ≡ first ++ rest) × AreCallsOf t.call (calls_of first) × AreOfCalls ts rest
+AreOfCalls (t ∷ ts) turns = (first : List MemoryTurn) × (rest : List MemoryTurn) × (turns ≡ first ++ rest)
+    × AreCallsOf t.call (calls_of first) × AreOfCalls ts rest
 
 -- calls on a service are calls on its memory, over which the packets of each store are accounted for
 pub record AreAccounted (s : Serving) (calls : List Turn) : Type 0 where

@@ -9,13 +9,14 @@ ghost use Rattle.mm_service.specs.declared.fault.Fault.TheVariants.{NoMemory, To
 ghost use Rattle.mm_service.specs.Queue.{queue_of, with_report};
 
 use crate::answers::{INSTRUCTIONS, tell_answers};
+use crate::bounding::most_reports;
 use crate::fault::Fault;
 use crate::reading::request_of;
 use crate::service::Service;
 use crate::waiting::Waiting;
-use mm_ask::Counters;
+use mm_ask::{Counters, lent_alone};
 use mm_packet::Packet;
-use mm_st15::Report;
+use mm_st15::{Report, RequestKind};
 use std::alloc::{AllocError, Global};
 use std::collections::VecDeque;
 
@@ -57,29 +58,46 @@ fn wait_for_all(
     }
 }
 
-// Makes room for the reports of one request more. Where it lacks, the room doubles at least, so that few calls ask for
+// Makes room for this number of reports more. Where it lacks, the room doubles at least, so that few calls ask for
 // memory.
-fn make_room(waiting: &mut VecDeque<Waiting>) -> Result<(), AllocError>
+fn make_room(waiting: &mut VecDeque<Waiting>, most: usize) -> Result<(), AllocError>
     ensures same { waiting.new.items ≡ waiting.old.items }
-    ensures room { OnOk result (deque_len waiting.new + INSTRUCTIONS ≤ deque_capacity waiting.new) }
+    ensures room { OnOk result (deque_len waiting.new + most ≤ deque_capacity waiting.new) }
     ensures doubled { deque_capacity waiting.new ≢ deque_capacity waiting.old
         → 2 * deque_capacity waiting.old ≤ deque_capacity waiting.new }
 {
     let (held, room) = (waiting.len(), waiting.capacity());
-    if room - held < INSTRUCTIONS {
-        waiting.reserve_exact(INSTRUCTIONS.max(2 * room - held))?;
+    if room - held < most {
+        waiting.reserve_exact(INSTRUCTIONS.max(most).max(2 * room - held))?;
     }
     Ok(())
+}
+
+// Whether the octets are a request of which nothing stays in memory.
+fn leaves_nothing(octets: &[u8]) -> bool {
+    let Ok(packet) = lent_alone(octets) else {
+        return false;
+    };
+    matches!(
+        RequestKind::of_code(packet.header().subtype),
+        Some(
+            RequestKind::EnableStorage
+                | RequestKind::DisableStorage
+                | RequestKind::DeleteReportTypes
+                | RequestKind::StartRetrieval
+                | RequestKind::DeleteContent
+                | RequestKind::AbortRetrieval
+                | RequestKind::DeleteStores
+                | RequestKind::ChangeChannel
+        )
+    )
 }
 
 impl Service {
     ghost use Rattle.mm_service.specs.Applying.{Applies, RefusesRequest, PassesBound};
 
-    /// Applies the request of the packet that the octets are, at a moment in ticks. The codes of the answers to its
-    /// instructions, in order, are then at the head of a buffer with room for each request's, and their number is
-    /// given; its reports wait after those that waited. Where they may not wait within the bound, the request is
-    /// refused. A refusal has changed nothing.
-    pub fn apply(
+    // Applies a request in the memory that there is.
+    fn apply_in_memory(
         &mut self,
         alloc: Global,
         now: u64,
@@ -96,7 +114,7 @@ impl Service {
     {
         let asked = request_of(alloc, packet)?;
         self.admit(&asked.request)?;
-        make_room(&mut self.waiting)?;
+        make_room(&mut self.waiting, most_reports(&asked.request))?;
         let answers = self.memory.apply(alloc, now, &asked.request)?;
         tell_answers(&answers.each, each);
         let count = answers.each.len();
@@ -107,5 +125,36 @@ impl Service {
             answers.reports,
         );
         Ok(count)
+    }
+
+    /// Applies the request of the packet that the octets are, at a moment in ticks. The codes of the answers to its
+    /// instructions, in order, are then at the head of a buffer with room for each request's, and their number is
+    /// given; its reports wait after those that waited. Where they may not wait within the bound, the request is
+    /// refused. A refusal has changed nothing. A request of which nothing stays in memory is applied in what is kept
+    /// for it where there is no other memory: one that changes a switch, a channel or a retrieval, or deletes.
+    pub fn apply(
+        &mut self,
+        alloc: Global,
+        now: u64,
+        packet: &[u8],
+        each: &mut [u8],
+    ) -> Result<usize, Fault>
+        requires room { INSTRUCTIONS ≤ length each.old }
+        ensures applied { MatchResult result
+            (λ count. Applies packet.now now self.old self.new count each.old each.new)
+            (RefusesRequest packet.now self.old) }
+        ensures bound { result ≢ Err NoMemory → (result ≡ Err TooManyReports) ↔ PassesBound packet.now self.old }
+        ensures err { OnErr result (self.new ≡ self.old) }
+        ensures left { OnErr result (each.new ≡ each.old) }
+    {
+        let result = match self.apply_in_memory(alloc, now, packet, each) {
+            Err(Fault::NoMemory) if leaves_nothing(packet) => {
+                self.reserve.release();
+                self.apply_in_memory(alloc, now, packet, each)
+            }
+            result => result,
+        };
+        let _filled = self.reserve.fill(alloc);
+        result
     }
 }

@@ -8,7 +8,7 @@ use crate::service::Service;
 use mm_st15::Request;
 
 // How many reports a request has at most.
-fn most_reports(request: &Request) -> usize
+pub(crate) fn most_reports(request: &Request) -> usize
     ensures { result ≡ most_reports request.now }
 {
     match request {

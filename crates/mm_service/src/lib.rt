@@ -1,5 +1,5 @@
-//! The storage service of a mass memory, called with octets: packets are offered and recorded, requests are applied, and their reports and
-//! the packets of retrievals are given one by one.
+//! The storage service of a mass memory, called with octets: packets are offered and recorded, requests are applied,
+//! and their reports and the packets of retrievals are given one by one.
 #![tactic(auto)]
 
 mod answers;
@@ -16,6 +16,7 @@ mod received;
 mod recording;
 mod reporting;
 mod requesting;
+mod reserve;
 mod service;
 mod showing;
 mod waiting;

@@ -1,14 +1,16 @@
 //! Identifiers, packets and requests from octets.
-ghost use Rattle.std.specs.Prelude.{◌≡◌, IfOk};
+ghost use Rattle.std.specs.Prelude.{◌≡◌, ◌≢◌, ◌≤◌, length, Ok, Err, MatchResult, IfOk, IfErr};
 ghost use Rattle.mm_base.specs.Reading.{Gives};
+ghost use Rattle.mm_packet.specs.Spelling.{spelling};
+ghost use Rattle.mm_packet.specs.declared.block.TheConstants.{BLOCK};
 ghost use Rattle.mm_st15.specs.Request.{IsRequest, SpellsRequest};
 ghost use Rattle.mm_service.specs.declared.fault.Fault.TheVariants.{NoMemory};
 ghost use Rattle.mm_service.specs.Reading.{id_tested, missing, block_of, request_of};
 
 use crate::fault::Fault;
-use mm_ask::{Asked, packet_alone, request_alone};
+use mm_ask::{Asked, lent_alone, request_alone};
 use mm_base::StoreId;
-use mm_packet::BlockPacket;
+use mm_packet::LentPacket;
 use std::alloc::Global;
 
 // The identifier that a text is.
@@ -31,14 +33,18 @@ pub(crate) fn missing(text: &[u8]) -> Fault
     }
 }
 
-// The packet that the octets are, where a block has room for it.
-pub(crate) fn block_of(alloc: Global, octets: &[u8]) -> Result<BlockPacket, Fault>
-    ensures { Gives NoMemory (λ packet. packet) result (block_of octets.now) }
+// The packet that the octets are, where a block has room for it, read without memory.
+pub(crate) fn packet_of(octets: &[u8]) -> Result<LentPacket<'_>, Fault>
+    ensures exact { MatchResult result (λ packet. block_of octets.now ≡ Ok packet)
+        (λ fault. block_of octets.now ≡ Err fault) }
+    ensures fits { IfOk result (λ packet. length (spelling packet) ≤ BLOCK) }
+    ensures no_memory { IfErr result (λ fault. fault ≢ NoMemory) }
 {
-    let packet = packet_alone(alloc, octets)?;
-    match BlockPacket::of(packet) {
-        Ok(packet) => Ok(packet),
-        Err(_) => Err(Fault::TooLong),
+    let packet = lent_alone(octets)?;
+    if packet.fits_block() {
+        Ok(packet)
+    } else {
+        Err(Fault::TooLong)
     }
 }
 

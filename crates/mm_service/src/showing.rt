@@ -1,4 +1,5 @@
-//! What a store of the memory holds and has lost, and how many reports wait.
+//! What a store of the memory holds and has lost, how many reports wait, and how many
+//! packets were refused out of memory.
 ghost use Rattle.std.specs.Prelude.{◌≡◌, length};
 ghost use Rattle.mm_service.specs.Showing.{shown};
 
@@ -9,9 +10,9 @@ use mm_base::Kind;
 use mm_desk::{Retrieval, StoreState};
 use mm_store::PacketStore;
 
-/// What a packet store holds and has lost: its kind, its size in blocks and how many packets it holds; how many were offered and not refused,
-/// lost, and deleted; whether storage is on, and the retrieval that is on; the storage times of its oldest and its newest packet, in ticks,
-/// both 0 where it is empty.
+/// What a packet store holds and has lost: its kind, its size in blocks and how many packets it holds; how many were
+/// offered and not refused, lost, and deleted; whether storage is on, and the retrieval that is on; the storage times
+/// of its oldest and its newest packet, in ticks, both 0 where it is empty.
 #[derive(Clone, Copy)]
 pub struct Shown {
     pub kind: Kind,
@@ -66,5 +67,12 @@ impl Service {
         ensures waiting { result ≡ length self.now.waiting }
     {
         self.waiting.len()
+    }
+
+    /// How many packets were refused out of memory, in `offer` and in `record`; 2^64 - 1 where there were more.
+    pub fn refused(&self) -> u64
+        ensures refused { result ≡ self.now.refused }
+    {
+        self.refused
     }
 }

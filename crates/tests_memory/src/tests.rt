@@ -16,3 +16,4 @@ mod memories;
 mod reads;
 mod samples;
 mod services;
+mod spares;

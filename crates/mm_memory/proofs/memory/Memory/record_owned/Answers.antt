@@ -15,7 +15,7 @@ pub returns-then-is_empty-clause-after : goal.returns-then-is_empty-clause-after
 returns-then-is_empty-clause-after c =
     let m = the_view c.self.inside in
     let rows = c.rows_for-rows.result.now in
-    let rows_is = c.rows_for-rows.ensures ∙ ap (rows_for c.self.inside.control) c.packet-2.ensures.same in
+    let rows_is = c.rows_for-rows.ensures ∙ ap (rows_for c.self.inside.control) c.packet.ensures.same in
     let empty : (length rows == 0) ≡ true = cc in
     let Kept : Holdings → Type 0 = λ x. x ≡ after_record c.args.now c.args.packet x in
     subst Kept c.self.view_is (recorded_none c.args.now c.args.packet m rows rows_is (empty_leads rows m.stores empty))
@@ -24,9 +24,10 @@ pub returns-then-is_empty-clause-tally : goal.returns-then-is_empty-clause-tally
 returns-then-is_empty-clause-tally c =
     let m = the_view c.self.inside in
     let rows = c.rows_for-rows.result.now in
-    let rows_is = c.rows_for-rows.ensures ∙ ap (rows_for c.self.inside.control) c.packet-2.ensures.same in
+    let rows_is = c.rows_for-rows.ensures ∙ ap (rows_for c.self.inside.control) c.packet.ensures.same in
     let empty : (length rows == 0) ≡ true = cc in
-    rw (← c.self.view_is) (c.nothing.ensures ∙ told_none c.args.now c.args.packet m rows rows_is (empty_leads rows m.stores empty))
+    rw (← c.self.view_is) (c.nothing.ensures
+    ∙ told_none c.args.now c.args.packet m rows rows_is (empty_leads rows m.stores empty))
 
 pub invariant_of-self-2 : goal.invariant_of-self-2
 invariant_of-self-2 c =
@@ -34,15 +35,17 @@ invariant_of-self-2 c =
     let packet = packet_along c.rows_for-rows.result.now c.args.packet in
     let new = c.offer_each.new.stores in
     let lent = c.deref_mut.ensures.value in
-    let ids = ap ids_of c.in_ok-tally.ensures.stores ∙ ids_kept c.args.now packet c.deref_mut.result.now ∙ ap ids_of lent in
+    let ids = ap ids_of c.in_ok-tally.ensures.stores ∙ ids_kept c.args.now packet c.deref_mut.result.now
+    ∙ ap ids_of lent in
     let long : m.stores.len ≡ length new = omega (arith, m.stores.ok.0, c.offer_each.auto.stores, ap length lent) in
-    subst AreHeld (sym (all_written m.stores.len new m.stores.items long)) (AreHeld-same_ids m.stores.items new (sym ids) c.self.invariant)
+    subst AreHeld (sym (all_written m.stores.len new m.stores.items long))
+    (AreHeld-same_ids m.stores.items new (sym ids) c.self.invariant)
 
 pub returns-clause-after : goal.returns-clause-after
 returns-clause-after c =
     let m = c.self.inside in
     let rows = c.rows_for-rows.result.now in
-    let rows_is = c.rows_for-rows.ensures ∙ ap (rows_for m.control) c.packet-2.ensures.same in
+    let rows_is = c.rows_for-rows.ensures ∙ ap (rows_for m.control) c.packet.ensures.same in
     let new = c.offer_each.new.stores in
     let lent = c.deref_mut.ensures.value in
     let after = c.in_ok-tally.ensures.stores ∙ ap (after_offers c.args.now (packet_along rows c.args.packet)) lent in
@@ -56,6 +59,7 @@ pub returns-clause-tally : goal.returns-clause-tally
 returns-clause-tally c =
     let m = c.self.inside in
     let rows = c.rows_for-rows.result.now in
-    let rows_is = c.rows_for-rows.ensures ∙ ap (rows_for m.control) c.packet-2.ensures.same in
-    let told = c.in_ok-tally.ensures.tally ∙ ap (tally_over c.args.now (packet_along rows c.args.packet)) c.deref_mut.ensures.value in
+    let rows_is = c.rows_for-rows.ensures ∙ ap (rows_for m.control) c.packet.ensures.same in
+    let told = c.in_ok-tally.ensures.tally
+    ∙ ap (tally_over c.args.now (packet_along rows c.args.packet)) c.deref_mut.ensures.value in
     rw (← c.self.view_is) (told_along c.args.now c.args.packet (the_view m) rows c.in_ok-tally.tally rows_is told)

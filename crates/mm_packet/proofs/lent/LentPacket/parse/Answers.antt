@@ -3,7 +3,7 @@ use Rattle.std.specs.Prelude.{if◌then◌else◌}
 use Rattle.mm_packet.specs.declared.reading.Primary.{Primary}
 use Rattle.mm_packet.specs.Headers.{primary_octets, FitsPrimary}
 use Rattle.mm_packet.proofs.FoundLemmas.{is_found, fits}
-use Rattle.mm_packet.proofs.reading.packet_at.Goals as goal
+use Rattle.mm_packet.proofs.lent.LentPacket.parse.Goals as goal
 
 pub returns-clause-found : goal.returns-clause-found
 returns-clause-found c =
@@ -20,7 +20,7 @@ returns-clause-found c =
     let front_fits = rw (c.in_ok-primary.ensures.ok_part) at c.primary_at.ensures.fits in
     let fits_front = subst FitsPrimary (sym same) front_fits in
     let bit = rw c.in_ok-secondary.ensures.ok_part at c.secondary_at.ensures.kind in
-    rw (c.header_of.ensures, c.in_ok-of.ensures.octets) (
+    rw c.header_of.ensures (
       fits primary secondary _ body none back_fits back (omega (arith, len, fits_front.data_length)),
       is_found _ _ _ _ primary secondary body fits_front none
           (bit ∙ ap (λ (b : Bool). if b then 1 else 0) c.is_telecommand.ensures) (omega arith)

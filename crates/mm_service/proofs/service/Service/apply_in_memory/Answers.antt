@@ -8,10 +8,10 @@ use Rattle.mm_service.specs.Reading.{request_of}
 use Rattle.mm_service.specs.Queue.{queue_of, with_reports}
 use Rattle.mm_service.specs.Serving.{Serving}
 use Rattle.mm_service.specs.contracts.service.Service.{the_view}
-use Rattle.mm_service.proofs.BoundLemmas.{keeps_bound, not_beyond}
+use Rattle.mm_service.proofs.BoundLemmas.{few, keeps_bound, not_beyond}
 use Rattle.mm_service.proofs.SpellingLemmas.{no_value}
-use Rattle.mm_service.proofs.ReportLemmas.{as_many_answers, few_instructions, few_reports}
-use Rattle.mm_service.proofs.service.Service.apply.Goals as goal
+use Rattle.mm_service.proofs.ReportLemmas.{as_many_answers, few_instructions}
+use Rattle.mm_service.proofs.service.Service.apply_in_memory.Goals as goal
 
 pub tell_answers-requires : goal.tell_answers-requires
 tell_answers-requires c =
@@ -23,8 +23,8 @@ tell_answers-requires c =
 
 pub wait_for_all-requires-clause-room : goal.wait_for_all-requires-clause-room
 wait_for_all-requires-clause-room c =
-    let few = few_reports c.in_ok-asked.asked.request c.args.now c.self.inside.memory c.in_ok-asked.ensures.spelled.0 in
-    omega (arith, ap length c.in_ok-answers.ensures.reports, few, c.in_ok-make_room.ensures.room)
+    let many = few c.in_ok-asked.asked.request c.args.now c.self.inside.memory in
+    omega (arith, ap length c.in_ok-answers.ensures.reports, many, c.most_reports.ensures, c.in_ok-make_room.ensures.room)
 
 pub returns-clause-applied : goal.returns-clause-applied
 returns-clause-applied c =
@@ -36,6 +36,9 @@ returns-clause-applied c =
       counters = c.wait_for_all.new.counters;
       waiting = c.wait_for_all.new.waiting;
       bound = c.self.inside.bound;
+      refused = c.self.inside.refused;
+      spare = c.self.inside.spare;
+      reserve = c.self.inside.reserve;
     }) in
     let reports = reports_on request c.args.now s.memory in
     let waits : queue_of t.counts t.waiting ≡ with_reports asked reports (queue_of s.counts s.waiting) = search rules in

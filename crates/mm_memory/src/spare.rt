@@ -1,0 +1,86 @@
+//! The memory of a packet that no store holds.
+ghost use Rattle.std.specs.Prelude.{◌≡◌, ◌≤◌, length, IfSome};
+ghost use Rattle.mm_packet.specs.declared.block.TheConstants.{BLOCK};
+ghost use Rattle.mm_packet.specs.Spelling.{spelling};
+
+use mm_base::{Kind, NoMemory};
+use mm_desk::{Offered, Returned, StoreState};
+use mm_packet::{BlockPacket, LentPacket};
+use mm_store::PacketStore;
+use std::alloc::Global;
+
+/// The memory of one packet that no store holds, where there is some: for a packet that comes when there is no other
+/// memory. What a store hands back for it takes its place.
+#[derive(Debug, Drop)]
+pub struct Spare {
+    packet: Option<BlockPacket>,
+}
+
+// The packet that an answer to an offer hands back.
+fn handed_back(answer: Result<Offered, Returned>) -> Option<BlockPacket> {
+    match answer {
+        Ok(Offered::Kept(_)) => None,
+        Ok(Offered::KeptOver(_, packet)) | Ok(Offered::Lost(packet)) => Some(packet),
+        Err(back) => Some(back.packet),
+    }
+}
+
+// The packet that an offer to a store gives up: its oldest, where storage is on, and the store is circular and full.
+pub(crate) fn given_up(state: &StoreState) -> Option<&BlockPacket> {
+    let store = state.store();
+    if !state.storage() || store.kind() != Kind::Circular || store.len() < store.size() {
+        return None;
+    }
+    let (_time, oldest) = store.first_in(0, u64::MAX, 0)?;
+    Some(oldest)
+}
+
+/// Whether an offer to a store hands as much memory back as it takes: the packet is lost or refused, or the store gives
+/// up one that no other shares.
+#[must_use]
+pub fn hands_back(state: &StoreState) -> bool {
+    let store = state.store();
+    match given_up(state) {
+        Some(oldest) => oldest.owners() == 1,
+        None => !state.storage() || store.len() == store.size(),
+    }
+}
+
+impl Spare {
+    /// No memory.
+    #[must_use]
+    pub fn none() -> Spare {
+        Spare { packet: None }
+    }
+
+    /// Takes memory for a packet of a block, where there is none.
+    pub fn fill(&mut self, alloc: Global) -> Result<(), NoMemory> {
+        if self.packet.is_none() {
+            self.packet = Some(BlockPacket::with_room(alloc)?);
+        }
+        Ok(())
+    }
+
+    /// Keeps the memory of a packet, where there is none yet and no store shares it.
+    pub fn keep(&mut self, packet: BlockPacket) {
+        if self.packet.is_none() && packet.owners() == 1 {
+            self.packet = Some(packet);
+        }
+    }
+
+    /// Keeps that of the packet that an answer to an offer hands back.
+    pub fn keep_of(&mut self, answer: Result<Offered, Returned>) {
+        if let Some(packet) = handed_back(answer) {
+            self.keep(packet);
+        }
+    }
+
+    /// A packet in that memory, of which there is none then.
+    #[must_use]
+    pub fn take(&mut self, packet: &LentPacket<'_>) -> Option<BlockPacket>
+        requires fits { length (spelling packet.now) ≤ BLOCK }
+        ensures same { IfSome result (λ block. block ≡ packet.now) }
+    {
+        self.packet.take()?.replaced(packet)
+    }
+}

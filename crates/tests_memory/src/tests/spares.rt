@@ -1,0 +1,77 @@
+//! Packets in the memory of others.
+use crate::tests::samples::{Host, TWO_STORES};
+use mm_base::StoreId;
+use mm_memory::{Memory, Spare};
+use mm_packet::{BlockPacket, LentPacket, Packet};
+use mm_problem::Setup;
+
+// Telemetry of APID 100, which TWO_STORES routes to SCI, of APID 101, which has no route, and a telecommand.
+const ROUTED: [u8; 22] = *b"\x08\x64\xC0\0\0\x0F\x20\x03\x19\0\0\0\0\0\0\0\0\0\0\0\0\x07";
+
+const UNROUTED: [u8; 21] = *b"\x08\x65\xC0\0\0\x0E\x20\x03\x19\0\0\0\0\0\0\0\0\0\0\0\0";
+
+const TELECOMMAND: [u8; 11] = *b"\x18\x64\xC0\0\0\x04\x20\x0F\x12\0\0";
+
+fn lent<'a>(rt: &impl Host, octets: &'a [u8]) -> LentPacket<'a> {
+    let (packet, _rest) = LentPacket::parse(octets).expect(rt, "a packet");
+    packet
+}
+
+// A packet that is read without memory is the one that is read with memory, in new memory and in that of another.
+#[test]
+fn a_lent_packet_is_the_packet(rt: HostRuntime) {
+    for octets in [
+        ROUTED.as_slice(),
+        UNROUTED.as_slice(),
+        TELECOMMAND.as_slice(),
+    ] {
+        let (parsed, _rest) = Packet::parse(rt.alloc(), octets).expect(&rt, "a packet");
+        let packet = lent(&rt, octets);
+        let block = BlockPacket::lent(rt.alloc(), &packet).expect(&rt, "memory");
+        let other = BlockPacket::with_room(rt.alloc()).expect(&rt, "memory");
+        let replaced = other.replaced(&packet).expect(&rt, "a sole packet");
+        assert!(&rt; packet.fits_block() && block.packet().is(&parsed) && replaced.is(&block));
+    }
+}
+
+// The memory of a packet that is shared is no other packet's.
+#[test]
+fn shared_memory_is_not_replaced(rt: HostRuntime) {
+    let packet = BlockPacket::with_room(rt.alloc()).expect(&rt, "memory");
+    assert!(&rt; packet.owners() == 1);
+    let copy = packet.copy(rt.alloc()).expect(&rt, "memory");
+    assert!(&rt; packet.owners() == 2);
+    assert!(&rt; packet.replaced(&lent(&rt, &ROUTED)).is_none());
+    assert!(&rt; copy.owners() == 1 && copy.replaced(&lent(&rt, &ROUTED)).is_some());
+}
+
+fn hands_back(rt: &impl Host, memory: &Memory, octets: &[u8], want: bool) {
+    assert!(rt; memory.hands_back(&lent(rt, octets)) == want, "{octets:?}");
+}
+
+// SCI, which is bounded, hands back what it loses or refuses; what goes to no store comes back too.
+#[test]
+fn packets_that_are_handed_back(rt: HostRuntime) {
+    let setup = Setup::read(rt.alloc(), TWO_STORES.as_bytes()).expect(&rt, "a setup");
+    let mut memory = Memory::of_setup(rt.alloc(), &setup).expect(&rt, "memory");
+    let sci = StoreId::of_text(b"SCI").expect(&rt, "an identifier");
+    let mut spare = Spare::none();
+    for now in 1..5 {
+        hands_back(&rt, &memory, &ROUTED, false);
+        let block = BlockPacket::lent(rt.alloc(), &lent(&rt, &ROUTED)).expect(&rt, "memory");
+        memory
+            .record_owned(rt.alloc(), now, block, &mut spare)
+            .expect(&rt, "memory");
+    }
+    assert!(&rt; spare.take(&lent(&rt, &ROUTED)).is_none());
+    hands_back(&rt, &memory, &ROUTED, true);
+    hands_back(&rt, &memory, &UNROUTED, true);
+    hands_back(&rt, &memory, &TELECOMMAND, true);
+    let block = BlockPacket::lent(rt.alloc(), &lent(&rt, &ROUTED)).expect(&rt, "memory");
+    memory
+        .record_owned(rt.alloc(), 9, block, &mut spare)
+        .expect(&rt, "memory");
+    assert!(&rt; spare.take(&lent(&rt, &ROUTED)).is_some());
+    memory.state_mut(&sci).expect(&rt, "a store").disable();
+    hands_back(&rt, &memory, &ROUTED, true);
+}
