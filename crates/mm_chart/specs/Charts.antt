@@ -11,7 +11,7 @@ use Rattle.mm_chart.specs.declared.document.TheConstants.{OPENING, FONT, STYLES,
 use Rattle.mm_chart.specs.Picture.{Drawn, picture_of}
 use Rattle.mm_chart.specs.Layout.{word_line}
 use Rattle.mm_chart.specs.Rows.{rows}
-use Rattle.mm_chart.specs.Svg.{said}
+use Rattle.mm_chart.specs.Svg.{said, printed, drawn}
 use Rattle.mm_chart.specs.Words.{headline, words, word_lines}
 
 -- the first line of the document, with the size of the picture
@@ -22,7 +22,7 @@ head p =
 
 -- the document of a picture
 unfoldable pub chart : Drawn → List ℕ
-chart p = head p ++ said STYLES.now ++ headline p ++ said LEGEND.now ++ rows p ++ words p ++ said (codes "</svg>" ++ line_feed ∷ [])
+chart p = head p ++ said STYLES.now ++ printed (headline p) ++ said LEGEND.now ++ rows p ++ drawn (words p) ++ said (codes "</svg>" ++ line_feed ∷ [])
 
 -- the chart of what a setup, a forecast and a plan text say, by the verdict on them
 pub record Charts (setup forecast text octets : List ℕ) : Type 0 where

@@ -34,7 +34,7 @@ frame q base height =
     height ++ said (codes "'/>" ++ line_feed ∷ [])
 
 -- the identifier of a store
-unfoldable pub name : Dumping → ℕ → List ℕ
+abbrev pub name : Dumping → ℕ → List ℕ
 name q s = escaped (id_text (row q s).id)
 
 -- ---- the row of the windows

@@ -2,7 +2,10 @@
 use Rattle.std.specs.Prelude.{ℕ, ◌+◌, ◌-◌, ◌%◌, ◌==◌, if◌then◌else◌, List, [], ◌∷◌, ◌++◌, length, codes, decimal}
 use Rattle.std.specs.Prelude.{flat_map, ℤ, pos, negsuc}
 use Rattle.mm_base.specs.Characters.{line_feed}
+use Rattle.mm_base.specs.Id.{id_text}
 use Rattle.mm_problem.specs.Dumping.{steps}
+use Rattle.mm_chart.specs.declared.pen.Part.{Part}
+use Rattle.mm_chart.specs.declared.pen.Part.TheVariants.{Said, Name, Number, Grouped, Signed}
 use Rattle.mm_chart.specs.declared.pen.Style.{Style}
 use Rattle.mm_chart.specs.declared.pen.Style.TheVariants as style
 use Rattle.mm_chart.specs.declared.series.Series.{Series}
@@ -70,6 +73,33 @@ closed = said (codes "</text>" ++ line_feed ∷ [])
 
 unfoldable pub labelled : Style → ℕ → ℕ → List ℕ → List ℕ
 labelled style x y words = opened style x y ++ words ++ closed
+
+-- a part of a line of words as the code has it
+abbrev pub part_text : Part → List ℕ
+part_text (Said words) = words.now
+part_text (Name id) = escaped (id_text id.now)
+part_text (Number n) = decimal n
+part_text (Grouped n) = grouped n
+part_text (Signed n) = signed_grouped n
+
+-- parts one after another
+unfoldable pub joined : List (List ℕ) → List ℕ
+joined parts = flat_map (λ part. part) parts
+
+unfoldable pub label : Style → ℕ → ℕ → List (List ℕ) → List ℕ
+label style x y parts = opened style x y ++ joined parts ++ closed
+
+-- what the words of a chart are made of: a line in a style that begins at a place, part by part
+pub data Shape : Type 0 where
+  Label : Style → ℕ → ℕ → List (List ℕ) → Shape
+
+-- a shape as it is written
+abbrev pub printed : Shape → List ℕ
+printed (Label style x y parts) = label style x y parts
+
+-- shapes one after another
+abbrev pub drawn : List Shape → List ℕ
+drawn shapes = flat_map printed shapes
 
 -- ---- heights
 

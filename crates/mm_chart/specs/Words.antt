@@ -1,6 +1,6 @@
 -- What a chart says in words.
 use Rattle.std.specs.Prelude.{ℕ, ◌+◌, ◌-◌, ◌*◌, ◌/◌, ◌%◌, ◌==◌, length, nat_le, nat_lt, Bool, ◌&&◌, not, if◌then◌else◌}
-use Rattle.std.specs.Prelude.{List, [], ◌++◌, codes, decimal, flat_map}
+use Rattle.std.specs.Prelude.{List, [], ◌∷◌, ◌++◌, codes, decimal, flat_map}
 use Rattle.std.specs.List.{sum_by}
 use Rattle.mm_problem.specs.Dumping.{Dumping, steps, stores}
 use Rattle.mm_plan.specs.Volumes.{first_loss}
@@ -15,30 +15,30 @@ use Rattle.mm_chart.specs.declared.phrases.TheConstants.{IN_STRETCHES, COME, AS_
 use Rattle.mm_chart.specs.declared.phrases.TheConstants.{BY_LIMITS, NO_LIMITS, HELP, WIDER, NO_WIDER, HIGHER, NO_HIGHER}
 use Rattle.mm_chart.specs.declared.phrases.TheConstants.{LARGER, FEWER, MARKED_WORTH, ONE_WIDER, ONE_HIGHER, FEW_NAMES}
 use Rattle.mm_chart.specs.declared.phrases.TheConstants.{FEW_LOSSES, NO_OTHER, NONE_WIDER, IN_ORDER, FIRSTS, LOSE}
+use Rattle.mm_chart.specs.declared.pen.Style.{Style}
 use Rattle.mm_chart.specs.declared.pen.Style.TheVariants as style
 use Rattle.mm_chart.specs.declared.series.Series.{Series}
 use Rattle.mm_chart.specs.declared.series.Series.TheVariants.{WindowCounts, CountedWindow, LimitsCount, Worth}
 use Rattle.mm_chart.specs.Picture.{Drawn, amounts, has_worth, cut, counts}
 use Rattle.mm_chart.specs.Series.{one_if, amount_at, total_of, most_of, has_stretch}
 use Rattle.mm_chart.specs.Layout.{word_line, limits_below}
-use Rattle.mm_chart.specs.Svg.{said, grouped, signed_grouped, opened, closed, labelled}
-use Rattle.mm_chart.specs.Rows.{all_coming, counted, name}
+use Rattle.mm_chart.specs.Svg.{Shape, Label, grouped, signed_grouped, joined, opened, closed}
+use Rattle.mm_chart.specs.Rows.{all_coming, name}
 
 -- ---- the headline
 
--- some of all blocks
-unfoldable pub of_all : Drawn → ℕ → List ℕ
-of_all p n = grouped n ++ said (codes " of ") ++ grouped (all_coming p)
-
 -- what the verdict lets the chart say
-unfoldable pub headline_of : Drawn → Verdict → List ℕ
-headline_of p (Least n) = opened style.Headline MARGIN HEADLINE_AT ++ of_all p n ++ said NO_FEWER.now ++ closed
-headline_of p (LeastInOrder n) = opened style.Headline MARGIN HEADLINE_AT ++ of_all p n ++ said IN_ORDER.now ++ closed
+unfoldable pub headline_of : Drawn → Verdict → Shape
+headline_of p (Least n) =
+    Label style.Headline MARGIN HEADLINE_AT (grouped n ∷ codes " of " ∷ grouped (all_coming p) ∷ NO_FEWER.now ∷ [])
+headline_of p (LeastInOrder n) =
+    Label style.Headline MARGIN HEADLINE_AT (grouped n ∷ codes " of " ∷ grouped (all_coming p) ∷ IN_ORDER.now ∷ [])
 headline_of p (NotShown n m) =
-    opened style.Doubtful MARGIN HEADLINE_AT ++ of_all p n ++ said ONLY_SHOWN.now ++ signed_grouped m ++ closed
-headline_of p v = labelled style.Alarm MARGIN HEADLINE_AT (line_of v)
+    Label style.Doubtful MARGIN HEADLINE_AT
+    (grouped n ∷ codes " of " ∷ grouped (all_coming p) ∷ ONLY_SHOWN.now ∷ signed_grouped m ∷ [])
+headline_of p v = Label style.Alarm MARGIN HEADLINE_AT (line_of v ∷ [])
 
-abbrev pub headline : Drawn → List ℕ
+abbrev pub headline : Drawn → Shape
 headline p = headline_of p p.verdict
 
 -- ---- steps as ranges
@@ -65,29 +65,21 @@ begins p x t = one_if (is_marked p x t && not (goes_on p x t))
 abbrev pub ranges_of : Drawn → Series → ℕ
 ranges_of p x = sum_by (begins p x) (steps p.problem)
 
--- the first step of a range, where the step before is not in it
-unfoldable pub range_first : Bool → ℕ → List ℕ
-range_first before t = if before then [] else said (codes " ") ++ decimal t
+-- before the first step of a range, or the last
+abbrev pub before_step : Bool → List ℕ
+before_step goes_on = if goes_on then codes "&#8211;" else codes " "
 
--- the number of each of its steps, where they have one
-unfoldable pub range_amount : Series → ℕ → List ℕ
-range_amount Worth n = said (codes " (") ++ grouped n ++ said (codes ")")
-range_amount _ n = []
+-- after the last step of a range: the number of each of its steps, where they have one
+abbrev pub after_range : Series → ℕ → List (List ℕ)
+after_range Worth n = codes " (" ∷ grouped n ∷ codes ")," ∷ []
+after_range _ n = codes "," ∷ []
 
--- its last step, where it has several
-unfoldable pub range_end : Bool → ℕ → List ℕ
-range_end before t = if before then said (codes "&#8211;") ++ decimal t else []
-
--- what stands at its last step, after which the step is not in it, and a comma
-unfoldable pub range_last : Drawn → Series → ℕ → List ℕ
-range_last p x t =
-    if goes_on p x (t + 1) then []
-    else range_end (goes_on p x t) t ++ range_amount x (amount_at p x t) ++ said (codes ",")
-
--- what a step adds to the ranges
+-- what a step adds to the ranges: its number where it is the first or the last of one, and what follows the last
 unfoldable pub range_part : Drawn → Series → ℕ → List ℕ
 range_part p x t =
-    if is_marked p x t then range_first (goes_on p x t) t ++ range_last p x t else []
+    if not (is_marked p x t) then []
+    else if goes_on p x (t + 1) then (if goes_on p x t then [] else joined (codes " " ∷ decimal t ∷ []))
+    else joined (before_step (goes_on p x t) ∷ decimal t ∷ after_range x (amount_at p x t))
 
 -- how many such steps there are
 abbrev pub marks : Drawn → Series → ℕ
@@ -102,91 +94,74 @@ marked_where Worth = MARKED_WORTH.now
 marked_where _ = MARKED.now
 
 -- before one step or several
-unfoldable pub step_word : ℕ → List ℕ
-step_word n = if n == 1 then said (codes "In step") else said (codes "In steps")
+abbrev pub step_word : ℕ → List ℕ
+step_word n = if n == 1 then codes "In step" else codes "In steps"
 
 -- the largest number, where the steps have numbers
-unfoldable pub most_amount : Series → ℕ → List ℕ
-most_amount Worth n = said (codes " (at most ") ++ grouped n ++ said (codes "),")
-most_amount _ n = []
+unfoldable pub most_amount : Drawn → Series → List ℕ
+most_amount p Worth = joined (codes " (at most " ∷ grouped (most_of p Worth) ∷ codes ")," ∷ [])
+most_amount p _ = []
 
 -- the steps as ranges, or their number where they are many ranges
 unfoldable pub in_steps : Drawn → Series → List ℕ
 in_steps p x =
-    if nat_le (ranges_of p x) MANY_RANGES then step_word (marks p x) ++ flat_map (range_part p x) (steps p.problem)
-    else said (codes "In the ") ++ grouped (marks p x) ++ marked_where x ++ most_amount x (most_of p x)
+    if nat_le (ranges_of p x) MANY_RANGES
+    then joined (step_word (marks p x) ∷ []) ++ flat_map (range_part p x) (steps p.problem)
+    else joined (codes "In the " ∷ grouped (marks p x) ∷ marked_where x ∷ []) ++ most_amount p x
 
--- ---- why no plan loses fewer
+-- ---- lines of words
+
+-- words on a line below the rows
+abbrev pub line_words : Drawn → Style → ℕ → List (List ℕ) → Shape
+line_words p style n parts = Label style MARGIN (word_line p.problem n) parts
 
 -- a line on the steps of a series, or on that there are none
-unfoldable pub steps_line : Drawn → Series → ℕ → List ℕ → List ℕ → List ℕ
-steps_line p x y words none =
-    if total_of p x == 0 then labelled style.Plain MARGIN y none
-    else opened style.Plain MARGIN y ++ in_steps p x ++ words ++ closed
-
--- what leaves at most
-unfoldable pub at_most : ℕ → List ℕ → List ℕ
-at_most n back = said (codes " at most ") ++ grouped n ++ back
-
--- the sum
-unfoldable pub sum_line : Drawn → ℕ → List ℕ → List ℕ
-sum_line p y bound =
-    opened style.Plain MARGIN y
-    ++ grouped (coming_sum p.problem (cut p)) ++ said (codes " &#8722; ") ++ grouped (held_sum p.problem (cut p)) ++
-    said (codes " &#8722; ")
-    ++ grouped (windows_sum p.problem (cut p) (counts p)) ++ said (codes " &#8722; ") ++ grouped
-    (limits_sum p.problem (cut p) (counts p))
-    ++ said (codes " = ") ++ bound ++ said AT_LEAST.now ++ closed
-
--- what is shown
-unfoldable pub why_heading : ℕ → List ℕ → List ℕ
-why_heading y bound = opened style.Heading MARGIN y ++ said WHY.now ++ bound ++ closed
-
--- what leaves by windows, and by limits
-unfoldable pub leaving : Drawn → List ℕ
-leaving p =
-    steps_line p CountedWindow (word_line p.problem 3) (at_most (windows_sum p.problem (cut p) (counts p))
-    BY_WINDOWS.now) NO_WINDOWS.now
-    ++ steps_line p LimitsCount (word_line p.problem 4) (at_most (limits_sum p.problem (cut p) (counts p))
-    BY_LIMITS.now) NO_LIMITS.now
-
--- what comes, less what the stores hold, less what leaves
-unfoldable pub why : Drawn → List ℕ → List ℕ
-why p bound =
-    why_heading (word_line p.problem 0) bound
-    ++ counted style.Plain MARGIN (word_line p.problem 1) IN_STRETCHES.now (coming_sum p.problem (cut p)) COME.now
-    ++ counted style.Plain MARGIN (word_line p.problem 2) AS_ENDS.now (held_sum p.problem (cut p)) STAND.now
-    ++ leaving p
-    ++ sum_line p (word_line p.problem 5) bound
-
--- ---- what may help
+unfoldable pub steps_line : Drawn → Series → ℕ → List (List ℕ) → List ℕ → Shape
+steps_line p x n words none = line_words p style.Plain n (if total_of p x == 0 then none ∷ [] else in_steps p x ∷ words)
 
 -- a new line after each so many stores, where more follow
 unfoldable pub broken : ℕ → ℕ → ℕ → List ℕ
 broken few y s =
     if s == 0 then [] else if s % few == 0 then closed ++ opened style.Plain INDENT (y + LINE_PITCH * (s / few)) else []
 
--- the identifier of a store with a stretch
-unfoldable pub stretched : Drawn → ℕ → List ℕ
-stretched p s = if has_stretch p s then said (codes " ") ++ name p.problem s else []
+-- ---- why no plan loses fewer
 
--- the same, on a line of few stores
+-- what comes, less what the stores hold, less what leaves by windows and by limits
+unfoldable pub why : Drawn → List ℕ → List Shape
+why p bound =
+    let coming = grouped (coming_sum p.problem (cut p)) in
+    let held = grouped (held_sum p.problem (cut p)) in
+    let windows = grouped (windows_sum p.problem (cut p) (counts p)) in
+    let limits = grouped (limits_sum p.problem (cut p) (counts p)) in
+    line_words p style.Heading 0 (WHY.now ∷ bound ∷ [])
+    ∷ line_words p style.Plain 1 (IN_STRETCHES.now ∷ coming ∷ COME.now ∷ [])
+    ∷ line_words p style.Plain 2 (AS_ENDS.now ∷ held ∷ STAND.now ∷ [])
+    ∷ steps_line p CountedWindow 3 (codes " at most " ∷ windows ∷ BY_WINDOWS.now ∷ []) NO_WINDOWS.now
+    ∷ steps_line p LimitsCount 4 (codes " at most " ∷ limits ∷ BY_LIMITS.now ∷ []) NO_LIMITS.now
+    ∷ line_words p style.Plain 5 (coming ∷ codes " &#8722; " ∷ held ∷ codes " &#8722; " ∷ windows ∷ codes " &#8722; "
+    ∷ limits ∷ codes " = " ∷ bound ∷ AT_LEAST.now ∷ [])
+    ∷ []
+
+-- ---- what may help
+
+-- the identifier of a store with a stretch, on a line of few stores
 unfoldable pub stretched_at : Drawn → ℕ → ℕ → List ℕ
-stretched_at p y s = broken FEW_NAMES y s ++ stretched p s
+stretched_at p y s =
+    broken FEW_NAMES y s ++ (if has_stretch p s then joined (codes " " ∷ name p.problem s ∷ []) else [])
 
 -- the stores that have a stretch
-unfoldable pub stores_line : Drawn → ℕ → List ℕ
-stores_line p y = opened style.Plain MARGIN y ++ said LARGER.now ++ flat_map (stretched_at p y) (stores p.problem) ++
-    closed
+unfoldable pub stores_line : Drawn → ℕ → Shape
+stores_line p n =
+    line_words p style.Plain n (LARGER.now ∷ flat_map (stretched_at p (word_line p.problem n)) (stores p.problem) ∷ [])
 
 -- what the cut counts: nothing else can lower the loss
-unfoldable pub help : Drawn → List ℕ
+unfoldable pub help : Drawn → List Shape
 help p =
-    labelled style.Heading MARGIN (word_line p.problem 7) HELP.now
-    ++ steps_line p WindowCounts (word_line p.problem 8) WIDER.now NO_WIDER.now
-    ++ steps_line p LimitsCount (word_line p.problem 9) HIGHER.now NO_HIGHER.now
-    ++ labelled style.Plain MARGIN (word_line p.problem 10) FEWER.now
-    ++ stores_line p (word_line p.problem 11)
+    line_words p style.Heading 7 (HELP.now ∷ [])
+    ∷ steps_line p WindowCounts 8 (WIDER.now ∷ []) NO_WIDER.now
+    ∷ steps_line p LimitsCount 9 (HIGHER.now ∷ []) NO_HIGHER.now
+    ∷ line_words p style.Plain 10 (FEWER.now ∷ [])
+    ∷ stores_line p 11 ∷ []
 
 -- ---- what one window is worth
 
@@ -194,35 +169,33 @@ help p =
 abbrev pub is_limited : Dumping → Bool
 is_limited q = nat_lt 0 (limits_below q (length q.limits))
 
--- where the rows say what a limit is worth
-unfoldable pub limits_line : Drawn → ℕ → List ℕ
-limits_line p y = if is_limited p.problem then labelled style.Plain MARGIN y ONE_HIGHER.now else []
-
--- exactly the steps in which a wider window saves blocks by itself, and how many at most
-unfoldable pub worth_lines : Drawn → ℕ → List ℕ
-worth_lines p n =
-    labelled style.Heading MARGIN (word_line p.problem n) ONE_WIDER.now
-    ++ steps_line p Worth (word_line p.problem (n + 1)) NO_OTHER.now NONE_WIDER.now
-    ++ limits_line p (word_line p.problem (n + 2))
-
--- nothing where that is not known
-unfoldable pub worth_words : Drawn → ℕ → List ℕ
-worth_words p n = if has_worth p then worth_lines p n else []
+-- exactly the steps in which a wider window saves blocks by itself, how many at most, and where the rows say what a
+-- limit is worth; nothing where that is not known
+unfoldable pub worth_words : Drawn → ℕ → List Shape
+worth_words p n =
+    if has_worth p
+    then line_words p style.Heading n (ONE_WIDER.now ∷ [])
+    ∷ steps_line p Worth (n + 1) (NO_OTHER.now ∷ []) NONE_WIDER.now
+    ∷ (if is_limited p.problem then line_words p style.Plain (n + 2) (ONE_HIGHER.now ∷ []) ∷ [] else [])
+    else []
 
 -- ---- what the first stores lose
 
 -- a store and what it and those before it lose, on a line of few stores
 unfoldable pub first_at : Drawn → ℕ → ℕ → List ℕ
 first_at p y s =
-    broken FEW_LOSSES y s ++ said (codes " ") ++ name p.problem s ++ said (codes " (") ++ grouped
-    (first_loss (s + 1) p.problem (amounts p)) ++ said (codes ")")
+    broken FEW_LOSSES y s
+    ++ joined (codes " " ∷ name p.problem s ∷ codes " (" ∷ grouped (first_loss (s + 1) p.problem (amounts p))
+    ∷ codes ")" ∷ [])
 
--- what is said of them, and each of the stores
-unfoldable pub firsts_lines : Drawn → ℕ → List ℕ
-firsts_lines p n =
-    labelled style.Heading MARGIN (word_line p.problem n) FIRSTS.now
-    ++ opened style.Plain MARGIN (word_line p.problem (n + 1)) ++ said LOSE.now
-    ++ flat_map (first_at p (word_line p.problem (n + 1))) (stores p.problem) ++ closed
+-- each of the stores
+unfoldable pub firsts_list : Drawn → ℕ → Shape
+firsts_list p n =
+    line_words p style.Plain n (LOSE.now ∷ flat_map (first_at p (word_line p.problem n)) (stores p.problem) ∷ [])
+
+-- what is said of them, and each of them
+unfoldable pub firsts_lines : Drawn → ℕ → List Shape
+firsts_lines p n = line_words p style.Heading n (FIRSTS.now ∷ []) ∷ firsts_list p (n + 1) ∷ []
 
 -- ---- all of the words
 
@@ -239,17 +212,17 @@ abbrev pub firsts_room : Drawn → ℕ
 firsts_room p = 2 + (length p.problem.rows + (FEW_LOSSES - 1)) / FEW_LOSSES
 
 -- the sum where the cut's bound is the loss, and the help
-unfoldable pub least_words : Drawn → ℕ → List ℕ
+unfoldable pub least_words : Drawn → ℕ → List Shape
 least_words p n = why p (grouped n) ++ help p ++ worth_words p 13
 
 -- the sum where there is a cut to its bound, and the help where it is the loss and there is one
-unfoldable pub words_of : Drawn → Verdict → List ℕ
+unfoldable pub words_of : Drawn → Verdict → List Shape
 words_of p (Least n) = if n == 0 then [] else least_words p n
 words_of p (LeastInOrder n) = if n == 0 then [] else least_words p n ++ firsts_lines p (firsts_line p)
 words_of p (NotShown n m) = why p (signed_grouped m) ++ worth_words p 7
 words_of p v = []
 
-abbrev pub words : Drawn → List ℕ
+abbrev pub words : Drawn → List Shape
 words p = words_of p p.verdict
 
 -- how many lines they have room for

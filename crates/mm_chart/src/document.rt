@@ -49,7 +49,7 @@ fn push_chart(alloc: Global, text: &mut Vec<u8>, picture: &Picture) -> Result<()
     push_headline(alloc, text, picture)?;
     push_said(text, LEGEND)?;
     push_rows(text, picture)?;
-    push_words(alloc, text, picture)?;
+    push_words(text, picture)?;
     push_said(text, b"</svg>\n")?;
     Ok(())
 }

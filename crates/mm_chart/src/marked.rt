@@ -1,19 +1,17 @@
 //! The steps that a series marks, in words.
-ghost use Rattle.std.specs.Prelude.{◌≡◌, ◌<◌, ◌≤◌, ◌++◌, OnOk, flat_map};
+ghost use Rattle.std.specs.Prelude.{◌≡◌, ◌<◌, ◌≤◌, ◌++◌, OnOk, flat_map, map, decimal, ◌∷◌};
 ghost use Rattle.mm_base.specs.declared.limits.TheConstants.{MAX_STEPS};
 ghost use Rattle.mm_problem.specs.Dumping.{steps};
 ghost use Rattle.mm_chart.specs.declared.series.TheConstants.{AMOUNT_PLACES};
-ghost use Rattle.mm_chart.specs.Layout.{word_line};
-ghost use Rattle.mm_chart.specs.Series.{IsSeries};
-ghost use Rattle.mm_chart.specs.Words.{is_marked, goes_on, begins, ranges_of, range_first, range_amount, range_end};
-ghost use Rattle.mm_chart.specs.Words.{range_last, range_part, marks, marked_where, step_word, most_amount, in_steps};
-ghost use Rattle.mm_chart.specs.Words.{steps_line};
+ghost use Rattle.mm_chart.specs.Series.{IsSeries, amount_at};
+ghost use Rattle.mm_chart.specs.Svg.{part_text, joined, printed};
+ghost use Rattle.mm_chart.specs.Words.{is_marked, goes_on, begins, ranges_of, before_step, after_range, range_part};
+ghost use Rattle.mm_chart.specs.Words.{marks, marked_where, step_word, most_amount, in_steps, steps_line};
 
 use crate::column::Column;
 use crate::layout::{MARGIN, word_line};
-use crate::pen::{
-    Pushed, Style, push_closed, push_grouped, push_labelled, push_opened, push_said, push_value,
-};
+use crate::pen::Part::{self, Grouped, Number, Said};
+use crate::pen::{Pushed, Style, label, parts, push_closed, push_label, push_opened, push_parts};
 use crate::phrases::{
     MANY_RANGES, MARKED, MARKED_LIMITS, MARKED_PASSES, MARKED_WINDOWS, MARKED_WORTH,
 };
@@ -66,62 +64,31 @@ fn marks_of(column: &Column<'_>) -> Marks
     Marks { steps, ranges }
 }
 
-// The first step of a range, where the step before is not in it.
-#[tactic(auto, unfolding(crate::specs::Words::range_first))]
-fn push_range_first(text: &mut Vec<u8>, before: bool, step: u32) -> Pushed
-    ensures { OnOk result (text.new.items ≡ text.old.items ++ range_first before step) }
+// What stands before the first step of a range, or the last.
+fn before_step(goes_on: bool) -> &'static [u8]
+    ensures { result.now ≡ before_step goes_on }
 {
-    if before {
-        return Ok(());
-    }
-    push_value(text, b" ", step)
+    if goes_on { b"&#8211;" } else { b" " }
 }
 
-// The number of each of its steps, where they have one.
-#[tactic(auto, using(std::proofs::Common::append_assoc), unfolding(crate::specs::Words::range_amount))]
-fn push_range_amount(text: &mut Vec<u8>, series: Series, number: u64) -> Pushed
-    ensures { OnOk result (text.new.items ≡ text.old.items ++ range_amount series number) }
+// The last step of a range, or the only one, and what follows it.
+#[tactic(auto, using(std::proofs::Common::append_assoc))]
+fn push_range_end(text: &mut Vec<u8>, column: &Column<'_>, before: bool, step: u32) -> Pushed
+    requires { step < AMOUNT_PLACES }
+    ensures { OnOk result (text.new.items ≡ text.old.items ++ joined (before_step before ∷ decimal step
+        ∷ after_range column.now.series (amount_at column.now.picture.now column.now.series step))) }
 {
-    match series {
-        Series::Worth => {
-            push_said(text, b" (")?;
-            push_grouped(text, number)?;
-            push_said(text, b")")
-        }
-        _ => Ok(()),
+    let front = before_step(before);
+    let amount = column.amount_at(step);
+    match column.series {
+        Series::Worth =>
+            parts!(text; Said(front), Number(step), Said(b" ("), Grouped(amount), Said(b"),")),
+        _ => parts!(text; Said(front), Number(step), Said(b",")),
     }
 }
 
-// Its last step, where it has several.
-#[tactic(auto, unfolding(crate::specs::Words::range_end))]
-fn push_range_end(text: &mut Vec<u8>, before: bool, step: u32) -> Pushed
-    ensures { OnOk result (text.new.items ≡ text.old.items ++ range_end before step) }
-{
-    if !before {
-        return Ok(());
-    }
-    push_value(text, b"&#8211;", step)
-}
-
-// What stands at its last step, after which the step is not in it, and a comma.
-#[tactic(auto, using(std::proofs::Common::append_assoc), unfolding(crate::specs::Words::range_last))]
-fn push_range_last(text: &mut Vec<u8>, column: &Column<'_>, before: bool, step: u32) -> Pushed
-    requires first { 1 ≤ step }
-    requires last { step ≤ MAX_STEPS }
-    requires before { before ≡ goes_on column.now.picture.now column.now.series step }
-    ensures { OnOk result (text.new.items ≡ text.old.items
-        ++ range_last column.now.picture.now column.now.series step) }
-{
-    if goes_on(column, step + 1) {
-        return Ok(());
-    }
-    push_range_end(text, before, step)?;
-    push_range_amount(text, column.series, column.amount_at(step))?;
-    push_said(text, b",")
-}
-
-// What a step adds to the ranges.
-#[tactic(auto, using(std::proofs::Common::append_assoc), unfolding(crate::specs::Words::range_part))]
+// What a step adds to the ranges: its number where it is the first or the last of one, and what follows the last.
+#[tactic(auto, unfolding(crate::specs::Words::range_part))]
 fn push_range_part(text: &mut Vec<u8>, column: &Column<'_>, step: u32) -> Pushed
     requires first { 1 ≤ step }
     requires last { step ≤ MAX_STEPS }
@@ -132,8 +99,13 @@ fn push_range_part(text: &mut Vec<u8>, column: &Column<'_>, step: u32) -> Pushed
         return Ok(());
     }
     let before = goes_on(column, step);
-    push_range_first(text, before, step)?;
-    push_range_last(text, column, before, step)
+    if !goes_on(column, step + 1) {
+        return push_range_end(text, column, before, step);
+    }
+    if before {
+        return Ok(());
+    }
+    parts!(text; Said(b" "), Number(step))
 }
 
 #[tactic(auto, using(std::proofs::Common::append_assoc, crate::proofs::Ranges::flat_map_next))]
@@ -161,28 +133,19 @@ fn marked_where(series: Series) -> &'static [u8]
 }
 
 // Before one step or several.
-#[tactic(auto, unfolding(crate::specs::Words::step_word))]
-fn push_step_word(text: &mut Vec<u8>, steps: u64) -> Pushed
-    ensures { OnOk result (text.new.items ≡ text.old.items ++ step_word steps) }
+fn step_word(steps: u64) -> &'static [u8]
+    ensures { result.now ≡ step_word steps }
 {
-    if steps == 1 {
-        push_said(text, b"In step")
-    } else {
-        push_said(text, b"In steps")
-    }
+    if steps == 1 { b"In step" } else { b"In steps" }
 }
 
 // The largest number, where the steps have numbers.
-#[tactic(auto, using(std::proofs::Common::append_assoc), unfolding(crate::specs::Words::most_amount))]
-fn push_most_amount(text: &mut Vec<u8>, series: Series, number: u64) -> Pushed
-    ensures { OnOk result (text.new.items ≡ text.old.items ++ most_amount series number) }
+#[tactic(auto, unfolding(crate::specs::Words::most_amount))]
+fn push_most_amount(text: &mut Vec<u8>, column: &Column<'_>) -> Pushed
+    ensures { OnOk result (text.new.items ≡ text.old.items ++ most_amount column.now.picture.now column.now.series) }
 {
-    match series {
-        Series::Worth => {
-            push_said(text, b" (at most ")?;
-            push_grouped(text, number)?;
-            push_said(text, b"),")
-        }
+    match column.series {
+        Series::Worth => parts!(text; Said(b" (at most "), Grouped(column.most()), Said(b"),")),
         _ => Ok(()),
     }
 }
@@ -194,37 +157,35 @@ fn push_in_steps(text: &mut Vec<u8>, column: &Column<'_>) -> Pushed
 {
     let marks = marks_of(column);
     if marks.ranges <= MANY_RANGES {
-        push_step_word(text, marks.steps)?;
+        parts!(text; Said(step_word(marks.steps)))?;
         return push_ranges(text, column);
     }
-    push_said(text, b"In the ")?;
-    push_grouped(text, marks.steps)?;
-    text.extend_from_slice(marked_where(column.series))?;
-    push_most_amount(text, column.series, column.most())
+    parts!(text; Said(b"In the "), Grouped(marks.steps), Said(marked_where(column.series)))?;
+    push_most_amount(text, column)
 }
 
 // A line on the steps of a series, or on that there are none.
-#[tactic(auto, using(std::proofs::Common::append_assoc), unfolding(crate::specs::Words::steps_line))]
+#[tactic(auto, using(std::proofs::Common::append_assoc), unfolding(crate::specs::Words::steps_line, crate::specs::Svg::label, crate::specs::Svg::joined))]
 pub(crate) fn push_steps_line(
     text: &mut Vec<u8>,
     picture: &Picture,
     series: Series,
     line: u32,
-    words: &[u8],
+    words: &[Part<'_>],
     none: &[u8],
 ) -> Pushed
     requires series { IsSeries picture.now series }
     requires line { line ≤ 18 }
     ensures { OnOk result (text.new.items ≡ text.old.items
-        ++ steps_line picture.now series (word_line picture.now.problem line) words.now none.now) }
+        ++ printed (steps_line picture.now series line (map part_text words.now) none.now)) }
 {
     let y = word_line(picture.problem(), line);
     let column = Column::new(picture, series);
     if column.total() == 0 {
-        return push_labelled(text, Style::Plain, MARGIN, y, none);
+        return label!(text; Plain MARGIN, y; Said(none));
     }
     push_opened(text, Style::Plain, MARGIN, y)?;
     push_in_steps(text, &column)?;
-    text.extend_from_slice(words)?;
+    push_parts(text, words)?;
     push_closed(text)
 }

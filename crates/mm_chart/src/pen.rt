@@ -1,6 +1,6 @@
 //! Parts of the text of a picture: Scalable Vector Graphics (SVG) 1.1.
 ghost use Rattle.std.specs.Prelude.{◌≡◌, ◌+◌, ◌-◌, ◌*◌, ◌<◌, ◌≤◌, ◌++◌, ◌∷◌, [], OnOk, length, drop, codes, decimal};
-ghost use Rattle.std.specs.Prelude.{flat_map, ◌^◌};
+ghost use Rattle.std.specs.Prelude.{flat_map, map, ◌^◌};
 ghost use Rattle.mm_problem.specs.Dumping.{steps};
 ghost use Rattle.mm_base.specs.declared.limits.TheConstants.{MAX_STEPS};
 ghost use Rattle.mm_base.specs.Characters.{line_feed};
@@ -8,6 +8,8 @@ ghost use Rattle.mm_chart.specs.Series.{IsSeries, whole_of};
 ghost use Rattle.mm_chart.specs.declared.series.TheConstants.{AMOUNT_PLACES};
 ghost use Rattle.mm_chart.specs.Layout.{IsPlaced};
 ghost use Rattle.mm_chart.specs.Svg.{said, separated, grouped, signed_grouped, style_name, opened, closed, labelled};
+ghost use Rattle.mm_base.specs.Id.{id_text};
+ghost use Rattle.mm_chart.specs.Svg.{escaped, part_text, joined, label};
 ghost use Rattle.mm_chart.specs.Svg.{height_of, line_at, begun, rise, bar_line, step_outline, series_name, path_begun};
 ghost use Rattle.mm_chart.specs.Svg.{outlined, profile};
 
@@ -16,6 +18,7 @@ use crate::layout::{base_of, edge_at, room_of, step_width};
 use crate::picture::{Picture, scaled};
 use crate::series::Series;
 use itoa::Buffer;
+use mm_base::StoreId;
 use mm_base::numbers::{push_number, write_number};
 use std::alloc::AllocError;
 
@@ -119,6 +122,71 @@ pub fn push_signed_grouped(text: &mut Vec<u8>, number: i64) -> Pushed
     push_grouped(text, number.unsigned_abs())
 }
 
+// Writes an identifier: it has no character that wants to be escaped.
+#[tactic(auto, using(crate::proofs::Names::escaped_id))]
+pub(crate) fn push_id(text: &mut Vec<u8>, id: &StoreId) -> Pushed
+    ensures { OnOk result (text.new.items ≡ text.old.items ++ escaped (id_text id.now)) }
+{
+    // its field is that of an identifier
+    let _field = id.field();
+    text.extend_from_slice(id.text())
+}
+
+/// A part of a text.
+#[derive(Clone, Copy)]
+pub enum Part<'a> {
+    Said(&'a [u8]),
+    /// The identifier of a store.
+    Name(&'a StoreId),
+    Number(u32),
+    /// A number with its thousands separated.
+    Grouped(u64),
+    /// The same of a number that may be below 0.
+    Signed(i64),
+}
+
+fn push_part(text: &mut Vec<u8>, part: &Part<'_>) -> Pushed
+    ensures { OnOk result (text.new.items ≡ text.old.items ++ part_text part.now) }
+{
+    match *part {
+        Part::Said(words) => text.extend_from_slice(words),
+        Part::Name(id) => push_id(text, id),
+        Part::Number(number) => push_number(text, u64::from(number)),
+        Part::Grouped(number) => push_grouped(text, number),
+        Part::Signed(number) => push_signed_grouped(text, number),
+    }
+}
+
+/// Writes parts one after another.
+#[tactic(auto, using(std::proofs::Common::append_assoc), unfolding(crate::specs::Svg::joined))]
+pub fn push_parts(text: &mut Vec<u8>, parts: &[Part<'_>]) -> Pushed
+    ensures { OnOk result (text.new.items ≡ text.old.items ++ joined (map part_text parts.now)) }
+{
+    let mut rest = parts;
+    while let [part, after @ ..] = rest {
+        push_part(text, part)?;
+        rest = after;
+    }
+    Ok(())
+}
+
+/// Writes these parts one after another.
+macro_rules! parts {
+    ($text:expr; $($part:expr),+) => {
+        push_parts($text, &[$($part),+])
+    };
+}
+
+/// Writes words in a style at a place, part by part.
+macro_rules! label {
+    ($text:expr; $style:ident $x:expr, $y:expr; $($part:expr),+) => {
+        push_label($text, Style::$style, $x, $y, &[$($part),+])
+    };
+}
+
+pub(crate) use label;
+pub(crate) use parts;
+
 // Writes a word and a number.
 #[tactic(auto, using(std::proofs::Common::append_assoc))]
 pub(crate) fn push_value(text: &mut Vec<u8>, word: &[u8], number: u32) -> Pushed
@@ -146,6 +214,22 @@ pub(crate) fn push_closed(text: &mut Vec<u8>) -> Pushed
     ensures { OnOk result (text.new.items ≡ text.old.items ++ closed) }
 {
     push_said(text, b"</text>\n")
+}
+
+/// Words at a place.
+#[tactic(auto, using(std::proofs::Common::append_assoc), unfolding(crate::specs::Svg::label))]
+pub(crate) fn push_label(
+    text: &mut Vec<u8>,
+    style: Style,
+    x: u32,
+    y: u32,
+    parts: &[Part<'_>],
+) -> Pushed
+    ensures { OnOk result (text.new.items ≡ text.old.items ++ label style x y (map part_text parts.now)) }
+{
+    push_opened(text, style, x, y)?;
+    push_parts(text, parts)?;
+    push_closed(text)
 }
 
 // Fixed words at a place.

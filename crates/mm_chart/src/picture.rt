@@ -19,7 +19,7 @@ ghost use Rattle.mm_chart.specs.Series.{one_if, sent, has_stretch, IsSeries, amo
 ghost use Rattle.mm_chart.specs.Series.{limit_worth_of};
 
 use crate::series::{AMOUNT_PLACES, Series};
-use crate::shades::{Shade, has_stretch, inner_steps_of, inner_steps_on, last_steps_of, shades_of};
+use crate::shades::{Shade, has_stretch, marks_of, shades_of};
 use crate::worths::Worths;
 use mm_base::{MAX_STEPS, NoMemory};
 use mm_cut::{Parts, STEP_PLACES, Verdict, inner_steps, listed_steps, parts_of, verdict_of};
@@ -335,9 +335,9 @@ impl Picture {
         ensures marks { AreMarks self.now series result }
     {
         match series {
-            Series::Inner(store) => inner_steps_of(self.shades.as_slice(), store),
-            Series::Last(store) => last_steps_of(self.shades.as_slice(), store),
-            Series::ChannelCounts(channel) => inner_steps_on(self.shades.as_slice(), channel),
+            Series::Inner(_) | Series::Last(_) | Series::ChannelCounts(_) => {
+                marks_of(self.shades.as_slice(), series)
+            }
             _ => [false; STEP_PLACES],
         }
     }

@@ -18,8 +18,8 @@ use crate::layout::{
     edge, has_limit, step_width, store_base, tick_every,
 };
 use crate::pen::{
-    Line, Pushed, Style, push_begun, push_closed, push_column, push_grouped, push_labelled,
-    push_line, push_opened, push_profile, push_said, push_value,
+    Line, Pushed, Style, push_begun, push_closed, push_column, push_grouped, push_id,
+    push_labelled, push_line, push_opened, push_profile, push_said, push_value,
 };
 use crate::phrases::SAVES;
 use crate::picture::Picture;
@@ -36,13 +36,7 @@ fn right(problem: &Problem) -> u32
 
 // Words with a number among them.
 #[tactic(auto, using(std::proofs::Common::append_assoc), unfolding(crate::specs::Rows::counted))]
-pub(crate) fn push_counted(
-    text: &mut Vec<u8>,
-    line: Line,
-    front: &[u8],
-    number: u64,
-    back: &[u8],
-) -> Pushed
+fn push_counted(text: &mut Vec<u8>, line: Line, front: &[u8], number: u64, back: &[u8]) -> Pushed
     ensures { OnOk result (text.new.items ≡ text.old.items
         ++ counted line.style line.x line.y front.now number back.now) }
 {
@@ -53,14 +47,13 @@ pub(crate) fn push_counted(
     push_closed(text)
 }
 
-// The identifier of a store: it has no character that wants to be escaped.
-#[tactic(auto, using(crate::proofs::Names::escaped_id), unfolding(crate::specs::Rows::name))]
-pub(crate) fn push_name(text: &mut Vec<u8>, problem: &Problem, store: usize) -> Pushed
+// The identifier of a store.
+fn push_name(text: &mut Vec<u8>, problem: &Problem, store: usize) -> Pushed
     requires { store < length problem.now.rows }
     ensures { OnOk result (text.new.items ≡ text.old.items ++ name problem.now store) }
 {
     let id = problem.id(store);
-    text.extend_from_slice(id.text())
+    push_id(text, &id)
 }
 
 // The frame of a row.

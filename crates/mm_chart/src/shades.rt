@@ -1,10 +1,12 @@
 //! Stretches with the place and the channel of their stores, which are looked up once.
-ghost use Rattle.std.specs.Prelude.{◌≡◌, ℕ, ◌<◌, ◌==◌, ◌&&◌, ◌||◌, nat_le, nat_lt, false, All, IfOk, length, map, slice_index_or};
+ghost use Rattle.std.specs.Prelude.{◌≡◌, ℕ, ◌<◌, ◌==◌, ◌&&◌, ◌||◌, nat_le, nat_lt, false, All, IfOk, length, map};
+ghost use Rattle.std.specs.Prelude.{slice_index_or};
 ghost use Rattle.std.specs.List.{list_any};
 ghost use Rattle.mm_cut.specs.Stretches.{IsStretch};
 ghost use Rattle.mm_cut.specs.declared.marks.TheConstants.{STEP_PLACES};
-ghost use Rattle.mm_chart.specs.Shading.{shade_of};
+ghost use Rattle.mm_chart.specs.Shading.{shade_of, is_asked};
 
+use crate::series::Series;
 use mm_base::NoMemory;
 use mm_cut::{STEP_PLACES, store_of};
 use mm_plan::Stretch;
@@ -61,47 +63,28 @@ fn mark(marks: &mut [bool], first: u32, end: u32)
     }
 }
 
-// Marks the inner steps of the stretches of a store.
-pub(crate) fn inner_steps_of(shades: &[Shade], store: usize) -> [bool; STEP_PLACES]
-    ensures places { length result ≡ STEP_PLACES }
-    ensures marks { (t : ℕ) → t < STEP_PLACES → slice_index_or result t false
-        ≡ list_any (λ h. (h.store == store) && (nat_le h.first t && nat_lt t h.last)) shades.now }
+// The first of the steps in which a series asks for a stretch, and the first after them.
+fn asked(shade: &Shade, series: Series) -> (u32, u32)
+    ensures { (t : ℕ) → t < STEP_PLACES → (nat_le result.0 t && nat_lt t result.1) ≡ is_asked series t shade.now }
 {
-    let mut marks = [false; STEP_PLACES];
-    for shade in shades {
-        if shade.store == store {
-            mark(&mut marks, shade.first, shade.last);
-        }
+    match series {
+        Series::Inner(store) if shade.store == store => (shade.first, shade.last),
+        Series::Last(store) if shade.store == store => (shade.last, shade.last.saturating_add(1)),
+        Series::ChannelCounts(channel) if shade.channel == channel => (shade.first, shade.last),
+        _ => (0, 0),
     }
-    marks
 }
 
-// Marks the inner steps of the stretches of the stores of a channel.
-pub(crate) fn inner_steps_on(shades: &[Shade], channel: u8) -> [bool; STEP_PLACES]
+// Marks the steps in which a series asks for one of the stretches.
+pub(crate) fn marks_of(shades: &[Shade], series: Series) -> [bool; STEP_PLACES]
     ensures places { length result ≡ STEP_PLACES }
     ensures marks { (t : ℕ) → t < STEP_PLACES → slice_index_or result t false
-        ≡ list_any (λ h. (nat_le h.first t && nat_lt t h.last) && (h.channel == channel)) shades.now }
+        ≡ list_any (is_asked series t) shades.now }
 {
     let mut marks = [false; STEP_PLACES];
     for shade in shades {
-        if shade.channel == channel {
-            mark(&mut marks, shade.first, shade.last);
-        }
-    }
-    marks
-}
-
-// Marks the last steps of the stretches of a store.
-pub(crate) fn last_steps_of(shades: &[Shade], store: usize) -> [bool; STEP_PLACES]
-    ensures places { length result ≡ STEP_PLACES }
-    ensures marks { (t : ℕ) → t < STEP_PLACES → slice_index_or result t false
-        ≡ list_any (λ h. (h.store == store) && (h.last == t)) shades.now }
-{
-    let mut marks = [false; STEP_PLACES];
-    for shade in shades {
-        if shade.store == store && (shade.last as usize) < STEP_PLACES {
-            marks[shade.last as usize] = true;
-        }
+        let (first, end) = asked(shade, series);
+        mark(&mut marks, first, end);
     }
     marks
 }
