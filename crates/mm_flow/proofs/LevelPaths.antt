@@ -9,13 +9,26 @@ use Rattle.mm_flow.specs.Graph.{Graph}
 use Rattle.mm_flow.specs.Flow.{Flow}
 use Rattle.mm_flow.specs.Residual.{tail, residual}
 use Rattle.mm_flow.specs.Links.{degree}
-use Rattle.mm_flow.specs.Marks.{mark, level, HasMark, IsReached, IsMarking}
+use Rattle.mm_flow.specs.Marks.{no_mark, mark, level, HasMark, IsReached, IsMarking}
 use Rattle.mm_flow.specs.Levels.{IsPath, HasPath, IsLevelled, IsCursors}
 use Rattle.mm_flow.proofs.Marking.{slice_index-nothing}
 
 -- the marks of a search hold all through the phase that follows
 pub marking_levelled : (g : Graph) (f : Flow) (source least : ℕ) (marks : List Mark) → IsMarking g f source least marks → IsLevelled g source marks
 marking_levelled g f source least marks marking = record { size = marking.size; start = marking.start }
+
+-- a node is marked anew
+pub levelled_set : (g : Graph) (source n : ℕ) (marks : List Mark) (own : Mark) → IsLevelled g source marks → n < g.nodes → 0 < own.level
+    → IsLevelled g source (slice_set marks n own)
+levelled_set g source n marks own levelled known some = record {
+  size = omega (arith, length-set marks n own, levelled.size);
+  start = elim (cases_eq source n) [
+    | inl same ↦
+        let set = ap (λ (m : Mark). m.level) (get_or-set_same marks n own no_mark (omega (arith, levelled.size))) in
+        omega (arith, set, some, ap (level (slice_set marks n own)) same)
+    | inr ne ↦ omega (arith, ap (λ (m : Mark). m.level) (get_or-set_other marks n source own no_mark ne), levelled.start)
+  ];
+}
 
 -- a path leads to each node that a search marked
 tree_path : (g : Graph) (f : Flow) (source least : ℕ) (marks : List Mark) → IsMarking g f source least marks → (d n : ℕ) → level marks n ≤ d → HasMark marks n → HasPath g f marks source least n
