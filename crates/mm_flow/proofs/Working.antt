@@ -2,15 +2,13 @@
 use Rattle.std.proofs.Common.{◌≡◌, ℕ, ◌≤◌, List, slice_index, sym, ap, ◌∙◌, subst, arith}
 use Rattle.mm_flow.specs.declared.limits.TheConstants.{MAX_VALUE}
 use Rattle.mm_flow.specs.declared.search.Search.{Search}
-use Rattle.mm_flow.specs.declared.solved.Solved.{Solved}
 use Rattle.mm_flow.specs.declared.tables.Tables.{Tables}
 use Rattle.mm_flow.specs.Graph.{Graph, arc}
-use Rattle.mm_flow.specs.Solution.{IsSolved}
-use Rattle.mm_flow.specs.Balance.{IsAugmented, IsBounded, IsBegun}
+use Rattle.mm_flow.specs.Balance.{IsAugmented, IsBounded}
 use Rattle.mm_flow.specs.Levels.{IsLevelled}
 use Rattle.mm_flow.specs.Marks.{Fits}
 use Rattle.mm_flow.specs.Tables.{IsAtWork}
-use Rattle.mm_flow.specs.Task.{IsTask, SameTask}
+use Rattle.mm_flow.specs.Task.{SameTask}
 use Rattle.mm_flow.proofs.Augmenting.{augmented_small, arcs_small}
 
 module _ (g : Graph) (sink : ℕ) (search : Search) (flow : List ℕ) (value : ℕ) (work : IsAtWork g sink search flow value) where

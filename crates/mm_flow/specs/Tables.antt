@@ -1,5 +1,5 @@
 -- The tables of a solver between augmentations, and after the last.
-use Rattle.std.specs.Prelude.{◌≡◌, ◌≢◌, ℕ, ◌<◌, List, slice_index}
+use Rattle.std.specs.Prelude.{◌≢◌, ℕ, ◌<◌, List, slice_index}
 use Rattle.mm_flow.specs.declared.search.Search.{Search}
 use Rattle.mm_flow.specs.Graph.{Graph}
 use Rattle.mm_flow.specs.Balance.{IsAugmented, IsBounded}

@@ -1,4 +1,4 @@
-use Rattle.std.proofs.Common.{◌≡◌, ◌+◌, slice_index, arith}
+use Rattle.std.proofs.Common.{◌+◌, arith}
 use Rattle.mm_flow.proofs.Working.{value_small, flow_small, work_more}
 use Rattle.mm_flow.proofs.tables.Tables.augment.Goals as goal
 
