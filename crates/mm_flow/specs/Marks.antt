@@ -73,6 +73,14 @@ pub record IsSearch (g : Graph) (f : Flow) (source least : ℕ) (marks : List Ma
 abbrev pub IsSearching : Residual → Search → Type 0
 IsSearching r s = IsSearch r.network.now.graph (slice_index r.flow.items) s.source s.least s.marks.items s.order.items s.found s.done
 
+-- each marked node is the source or was reached by a search, along entries of at least this residual capacity
+abbrev pub HasMarked : Residual → Search → ℕ → Type 0
+HasMarked r s least = IsMarking r.network.now.graph (slice_index r.flow.items) s.source least s.marks.items
+
+-- a search has marked all that its source reaches along entries of at least this residual capacity
+abbrev pub HasSearched : Residual → Search → ℕ → Type 0
+HasSearched r s least = IsSearched r.network.now.graph (slice_index r.flow.items) s.source least s.marks.items
+
 -- a search has its source in a network, and room for all of its nodes
 pub record Fits (g : Graph) (s : Search) : Type 0 where
   pub source : s.source < g.nodes

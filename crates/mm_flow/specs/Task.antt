@@ -3,8 +3,8 @@ use Rattle.std.specs.Prelude.{◌≡◌, ℕ, slice_index}
 use Rattle.mm_flow.specs.declared.tables.Tables.{Tables}
 use Rattle.mm_flow.specs.Graph.{Graph}
 use Rattle.mm_flow.specs.Balance.{KeepsSource}
-use Rattle.mm_flow.specs.Marks.{HasMark, level, IsSearched}
-use Rattle.mm_flow.specs.Levels.{IsUp, HasPath}
+use Rattle.mm_flow.specs.Marks.{HasMark, level, HasSearched}
+use Rattle.mm_flow.specs.Levels.{IsUp, Carries}
 
 -- the tables are of this network, source and sink
 pub record IsTask (g : Graph) (from to : ℕ) (t : Tables) : Type 0 where
@@ -31,9 +31,9 @@ IsOpen t e = IsUp t.residual.network.now.graph (slice_index t.residual.flow.item
 
 -- a path with residual capacity leads from the source to a node
 abbrev pub Reaches : Tables → ℕ → Type 0
-Reaches t n = HasPath t.residual.network.now.graph (slice_index t.residual.flow.items) t.search.marks.items t.search.source 1 n
+Reaches t n = Carries t.residual t.search 1 n
 
 -- a search of the residual network does not reach the sink
 pub record IsOver (t : Tables) : Type 0 where
-  pub searched : IsSearched t.residual.network.now.graph (slice_index t.residual.flow.items) t.search.source 1 t.search.marks.items
+  pub searched : HasSearched t.residual t.search 1
   pub missed : ¬ HasMark t.search.marks.items t.sink

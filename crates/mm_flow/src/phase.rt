@@ -133,7 +133,8 @@ impl<'a> Phase<'a> {
         requires known { at < self.now.tables.residual.network.now.graph.nodes }
         ensures most { result ≤ slice_index self.now.next.items at }
         ensures leads { 0 < result
-            → LeadsUp self.now at (step_left self.now.tables.residual.links at result).entry }
+            → LeadsUp self.now at (step_left self.now.tables.residual.network.now.graph
+            self.now.tables.residual.links at result).entry }
     {
         let mut cursor = self.next[at as usize];
         while cursor > 0 && !self.leads_up(at, self.tables.residual.step(at, cursor)) {

@@ -19,8 +19,8 @@ pub(crate) struct Residual<'a> {
 }
 
 impl<'a> Residual<'a> {
-    ghost use Rattle.mm_flow.specs.Links.{degree, step_left, IsStep};
-    ghost use Rattle.mm_flow.specs.Levels.{IsLevelled, HasPath};
+    ghost use Rattle.mm_flow.specs.Links.{start, degree, step_left, IsStep};
+    ghost use Rattle.mm_flow.specs.Levels.{IsLevelled, Carries};
     ghost use Rattle.mm_flow.specs.Balance.{Augments, KeepsSource};
 
     // What an entry can still carry.
@@ -41,13 +41,21 @@ impl<'a> Residual<'a> {
         }
     }
 
+    // Where the steps of a node begin, which is where those of the node before it end.
+    pub(crate) fn start(&self, node: usize) -> u32
+        requires { node ≤ self.now.network.now.graph.nodes }
+        ensures { result ≡ start self.now.network.now.graph node }
+    {
+        self.links.first[node]
+    }
+
     // How many entries leave a node.
     pub(crate) fn degree(&self, node: usize) -> u32
         requires { node < self.now.network.now.graph.nodes }
         ensures { result ≡ degree self.now.network.now.graph node }
     {
-        let first = self.links.first[node];
-        let end = self.links.first[node + 1];
+        let first = self.start(node);
+        let end = self.start(node + 1);
         end - first
     }
 
@@ -56,10 +64,10 @@ impl<'a> Residual<'a> {
         requires node { node < self.now.network.now.graph.nodes }
         requires some { 0 < left }
         requires left { left ≤ degree self.now.network.now.graph node }
-        ensures step { result ≡ step_left self.now.links node left }
+        ensures step { result ≡ step_left self.now.network.now.graph self.now.links node left }
         ensures own { IsStep self.now.network.now.graph node result }
     {
-        let end = self.links.first[node as usize + 1];
+        let end = self.start(node as usize + 1);
         self.links.steps[(end - left) as usize]
     }
 
@@ -68,8 +76,7 @@ impl<'a> Residual<'a> {
         requires small { (k : ℕ) → slice_index self.old.flow.items k ≤ MAX_VALUE }
         requires levelled { IsLevelled self.old.network.now.graph search.now.source
             search.now.marks.items }
-        requires path { HasPath self.old.network.now.graph (slice_index self.old.flow.items)
-            search.now.marks.items search.now.source amount sink }
+        requires path { Carries self.old search.now amount sink }
         ensures network { self.new.network ≡ self.old.network }
         ensures augmented { Augments self.old.network.now.graph search.now.source sink
             (slice_index self.old.flow.items) (slice_index self.new.flow.items) amount }

@@ -35,9 +35,9 @@ pub(crate) struct Search {
 
 impl Search {
     ghost use Rattle.mm_flow.specs.declared.search.Mark.{Mark};
-    ghost use Rattle.mm_flow.specs.Marks.{Fits, IsMarking, IsSearching, IsSearched, GoesOn, HasMark, level};
+    ghost use Rattle.mm_flow.specs.Marks.{Fits, HasMarked, IsSearching, HasSearched, GoesOn, HasMark, level};
     ghost use Rattle.mm_flow.specs.Balance.{IsCarried, Augments, KeepsSource};
-    ghost use Rattle.mm_flow.specs.Levels.{IsLevelled, HasPath};
+    ghost use Rattle.mm_flow.specs.Levels.{IsLevelled, HasPath, Carries};
 
     // A search from this source that has not begun.
     pub(crate) fn new(alloc: Global, network: &Network, source: u32) -> Result<Search, AllocError>
@@ -59,8 +59,7 @@ impl Search {
     // Marks all nodes that the source reaches along entries of at least this residual capacity.
     pub(crate) fn run(&mut self, residual: &Residual, least: u64)
         requires fits { Fits residual.now.network.now.graph self.old }
-        ensures searched { IsSearched residual.now.network.now.graph
-            (slice_index residual.now.flow.items) self.new.source least self.new.marks.items }
+        ensures searched { HasSearched residual.now self.new least }
         ensures fits { Fits residual.now.network.now.graph self.new }
         ensures source { self.new.source ≡ self.old.source }
     {
@@ -74,11 +73,8 @@ impl Search {
     pub(crate) fn run_to(&mut self, residual: &Residual, sink: u32)
         requires fits { Fits residual.now.network.now.graph self.old }
         requires sink { sink < residual.now.network.now.graph.nodes }
-        ensures marking { IsMarking residual.now.network.now.graph
-            (slice_index residual.now.flow.items) self.new.source 1 self.new.marks.items }
-        ensures searched { level self.new.marks.items sink ≡ 0
-            → IsSearched residual.now.network.now.graph (slice_index residual.now.flow.items)
-            self.new.source 1 self.new.marks.items }
+        ensures marking { HasMarked residual.now self.new 1 }
+        ensures searched { level self.new.marks.items sink ≡ 0 → HasSearched residual.now self.new 1 }
         ensures fits { Fits residual.now.network.now.graph self.new }
         ensures source { self.new.source ≡ self.old.source }
     {
@@ -114,8 +110,8 @@ impl Search {
         ensures done { self.new.done ≡ self.old.done + 1 }
     {
         let node = self.order[self.done];
-        let first = residual.links.first[node as usize];
-        let end = residual.links.first[node as usize + 1];
+        let first = residual.start(node as usize);
+        let end = residual.start(node as usize + 1);
         for at in first..end {
             let step = residual.links.steps[at as usize];
             self.reach(residual, node, step);
@@ -154,14 +150,11 @@ impl Search {
     pub(crate) fn bottleneck(&self, residual: &Residual, sink: u32) -> u64
         requires levelled { IsLevelled residual.now.network.now.graph self.now.source
             self.now.marks.items }
-        requires path { HasPath residual.now.network.now.graph (slice_index residual.now.flow.items)
-            self.now.marks.items self.now.source 1 sink }
+        requires path { Carries residual.now self.now 1 sink }
         ensures within { result ≤ UNLIMITED }
-        ensures fits { HasPath residual.now.network.now.graph (slice_index residual.now.flow.items)
-            self.now.marks.items self.now.source result sink }
-        ensures greatest { (amount : ℕ) → amount ≤ UNLIMITED
-            → HasPath residual.now.network.now.graph (slice_index residual.now.flow.items)
-            self.now.marks.items self.now.source amount sink → amount ≤ result }
+        ensures fits { Carries residual.now self.now result sink }
+        ensures greatest { (amount : ℕ) → amount ≤ UNLIMITED → Carries residual.now self.now amount sink
+            → amount ≤ result }
     {
         let mut least = UNLIMITED;
         let mut at = sink;

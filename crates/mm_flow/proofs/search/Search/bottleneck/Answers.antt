@@ -3,15 +3,14 @@ use Rattle.std.proofs.lemmas.List.{get_or_read}
 use Rattle.mm_flow.specs.declared.search.Mark.{Mark}
 use Rattle.mm_flow.specs.Residual.{tail, residual}
 use Rattle.mm_flow.specs.Marks.{no_mark, mark, level, HasMark, IsReached}
-use Rattle.mm_flow.specs.Levels.{HasPath}
+use Rattle.mm_flow.specs.Levels.{HasPath, Carries}
 use Rattle.mm_flow.proofs.Visiting.{marked_lt}
 use Rattle.mm_flow.proofs.LevelPaths.{path_marked, path_back, path_on}
 use Rattle.mm_flow.proofs.search.Search.bottleneck.Goals as goal
 use Rattle.mm_flow.proofs.search.Search.bottleneck.Goals.{In-loop-at, After-index}
 
 -- the path to the node that was come to can carry something
-at_path : (c : In-loop-at) → HasPath c.args.residual.now.network.now.graph (slice_index c.args.residual.now.flow.items)
-    c.args.self.now.marks.items c.args.self.now.source 1 c.loop-at.at
+at_path : (c : In-loop-at) → Carries c.args.residual.now c.args.self.now 1 c.loop-at.at
 at_path c = (c.loop-at.invariant.greatest 1 (omega arith) c.requires.path).1
 
 -- that node is marked

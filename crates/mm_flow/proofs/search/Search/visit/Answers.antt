@@ -8,7 +8,7 @@ use Rattle.mm_flow.specs.Marks.{level}
 use Rattle.mm_flow.proofs.Linking.{end_is, end-most, spot_within}
 use Rattle.mm_flow.proofs.Visiting.{marked_lt, goes_on_same, goes_on_further, search_next}
 use Rattle.mm_flow.proofs.search.Search.visit.Goals as goal
-use Rattle.mm_flow.proofs.search.Search.visit.Goals.{After-index-node, After-index-first, After-index-end, After-index-step}
+use Rattle.mm_flow.proofs.search.Search.visit.Goals.{After-index-node, After-index-step}
 
 -- the node that waits next
 node_is : (c : After-index-node) → c.index-node.result.now ≡ slice_index c.args.self.now.order.items c.args.self.now.done
@@ -20,20 +20,8 @@ node_lt c =
     let s = c.args.self.now in
     omega (arith, node_is c, marked_lt s.marks.items (slice_index s.order.items s.done) (c.requires.search.queued s.done c.requires.waits), c.requires.search.marking.size)
 
--- where its steps begin
-first_is : (c : After-index-first) → c.index-node.result.now < c.args.residual.now.network.now.graph.nodes → c.index-first.result.now ≡ start c.args.residual.now.network.now.graph c.index-node.result.now
-first_is c known =
-    get_or_read c.args.residual.now.links.first.items c.index-node.result.now c.index-first.result.now (omega (arith, c.args.residual.now.sound.linked.table_size)) c.index-first.ensures 0
-    ∙ c.args.residual.now.sound.linked.starts c.index-node.result.now (omega arith)
-
--- where its steps end
-end_there : (c : After-index-end) → c.index-node.result.now < c.args.residual.now.network.now.graph.nodes → c.index-end.result.now ≡ end c.args.residual.now.network.now.graph c.index-node.result.now
-end_there c known =
-    get_or_read c.args.residual.now.links.first.items (c.index-node.result.now + 1) c.index-end.result.now (omega (arith, c.args.residual.now.sound.linked.table_size)) c.index-end.ensures 0
-    ∙ c.args.residual.now.sound.linked.starts (c.index-node.result.now + 1) (omega arith) ∙ end_is c.args.residual.now.network.now.graph c.index-node.result.now
-
 -- a step of the node that waits next
-own_step : (c : After-index-step) → c.loop-at.at < c.index-end.result.now
+own_step : (c : After-index-step) → c.loop-at.at < c.start-end.result
     → (c.index-step.result.now ≡ step c.args.residual.now.links.steps.items c.loop-at.at) × IsStep c.args.residual.now.network.now.graph c.index-node.result.now c.index-step.result.now
 own_step c below =
     let g = c.args.residual.now.network.now.graph in
@@ -42,24 +30,21 @@ own_step c below =
     let read = get_or_read steps c.loop-at.at c.index-step.result.now (omega (arith, below, invariant.ends, c.args.residual.now.sound.linked.steps_size, end-most g c.index-node.result.now)) c.index-step.ensures no_step in
     (read, subst (λ (s : Step). IsStep g c.index-node.result.now s) (sym read) (c.args.residual.now.sound.linked.own c.index-node.result.now c.loop-at.at invariant.known invariant.from (omega (arith, below, invariant.ends))))
 
-pub index-first-requires : goal.index-first-requires
-index-first-requires c = omega (arith, node_lt (goal.at.index-first-requires c).After-index-node, c.args.residual.now.sound.linked.table_size, c.args.residual.now.links.first.ok.0)
+pub start-first-requires : goal.start-first-requires
+start-first-requires c = omega (arith, node_lt (goal.at.start-first-requires c).After-index-node)
 
-pub index-end-requires : goal.index-end-requires
-index-end-requires c = omega (arith, node_lt (goal.at.index-end-requires c).After-index-node, c.args.residual.now.sound.linked.table_size, c.args.residual.now.links.first.ok.0)
+pub start-end-requires : goal.start-end-requires
+start-end-requires c = omega (arith, node_lt (goal.at.start-end-requires c).After-index-node)
 
 pub loop-at-init : goal.loop-at-init
-loop-at-init c =
-    let known = node_lt (goal.at.loop-at-init c).After-index-node in
-    let first = first_is (goal.at.loop-at-init c).After-index-first known in
-    record {
-      known = known;
-      ends = end_there (goal.at.loop-at-init c).After-index-end known;
-      searching = c.requires.search;
-      goes_on = goes_on_same c.args.self.now;
-      from = omega (arith, first);
-      swept = λ i up below fits. absurd (omega (arith, first, up, below));
-    }
+loop-at-init c = record {
+  known = node_lt (goal.at.loop-at-init c).After-index-node;
+  ends = c.start-end.ensures ∙ end_is c.args.residual.now.network.now.graph c.index-node.result.now;
+  searching = c.requires.search;
+  goes_on = goes_on_same c.args.self.now;
+  from = omega (arith, c.start-first.ensures);
+  swept = λ i up below fits. absurd (omega (arith, c.start-first.ensures, up, below));
+}
 
 pub index-step-requires : goal.index-step-requires
 index-step-requires c =
