@@ -150,9 +150,3 @@ augmented_small g source sink f value ends bounded augmented = bounded f value (
 -- no arc of it carries more than that bound
 pub arcs_small : (g : Graph) (source sink : ℕ) (f : Flow) (value : ℕ) → source ≢ sink → IsBounded g source sink → IsAugmented g source sink f value → (k : ℕ) → f k ≤ MAX_VALUE
 arcs_small g source sink f value ends bounded augmented k = omega (arith, augmented.most k, augmented_small g source sink f value ends bounded augmented)
-
--- one more augmentation from the same source
-pub augmented_more : (g : Graph) (source same sink : ℕ) (old new : Flow) (value amount : ℕ) → same ≡ source → IsAugmented g source sink old value
-    → ((before : ℕ) → IsAugmented g same sink old before → IsAugmented g same sink new (before + amount)) → IsAugmented g source sink new (value + amount)
-augmented_more g source same sink old new value amount is augmented more =
-    subst (λ (s : ℕ). IsAugmented g s sink new (value + amount)) is (more value (subst (λ (s : ℕ). IsAugmented g s sink old value) (sym is) augmented))

@@ -49,14 +49,6 @@ module _ (g : Graph) (e : ℕ) (backward : length g.arcs ≤ e) where
   unfolding residual
   residual-backward f = rw (le-ltb e (length g.arcs) backward) refl
 
--- the arc of an entry is an arc
-pub place-lt : (g : Graph) (e : ℕ) → e < entries g → place g e < length g.arcs
-place-lt g e known =
-    elim (cases_lt e (length g.arcs)) [
-      | inl forward ↦ omega (arith, place-forward g e forward)
-      | inr backward ↦ omega (arith, place-backward g e backward)
-    ]
-
 -- the twin of a forward entry
 twin-forward : (g : Graph) (e : ℕ) → e < length g.arcs → twin g e ≡ e + length g.arcs
 unfolding twin
@@ -79,22 +71,6 @@ twin_ends g e known =
           let is = twin-backward g e backward in
           let at = ap (arc g) is in
           (tail-forward g (twin g e) (omega arith) ∙ ap (λ (a : Arc). a.from) at ∙ sym (head-backward g e backward), head-forward g (twin g e) (omega arith) ∙ ap (λ (a : Arc). a.to) at ∙ sym (tail-backward g e backward))
-    ]
-
--- an entry leaves a node of the network
-pub tail-lt : (g : Graph) (e : ℕ) → IsNetwork g → e < entries g → tail g e < g.nodes
-tail-lt g e network known =
-    elim (cases_lt e (length g.arcs)) [
-      | inl forward ↦ omega (arith, tail-forward g e forward, (network.each e forward).from)
-      | inr backward ↦ omega (arith, tail-backward g e backward, (network.each (e - length g.arcs) (omega arith)).to)
-    ]
-
--- an entry leads to a node of the network
-pub head-lt : (g : Graph) (e : ℕ) → IsNetwork g → e < entries g → head g e < g.nodes
-head-lt g e network known =
-    elim (cases_lt e (length g.arcs)) [
-      | inl forward ↦ omega (arith, head-forward g e forward, (network.each e forward).to)
-      | inr backward ↦ omega (arith, head-backward g e backward, (network.each (e - length g.arcs) (omega arith)).from)
     ]
 
 -- an arc can carry as much more as its forward entry

@@ -76,7 +76,7 @@ module _ (g : Graph) (f : Flow) (sink : ℕ) where
       (suc steps, rw here (record { leaves = leaves; up = up; cursor = stands }, subst (λ (m : ℕ). IsLead g f marks moved turned sink steps m) (sym leads) rest))
 
 -- a way up begins at a node of the network
-pub lead_known : (p : Phase) (n : ℕ) → LeadsFrom p n → n < p.tables.network.now.graph.nodes
+pub lead_known : (p : Phase) (n : ℕ) → LeadsFrom p n → n < p.tables.residual.network.now.graph.nodes
 lead_known p n (zero, lead) = omega (arith, lead, p.tables.at_work.sink_known)
 lead_known p n (suc steps, lead) =
     let marks = p.tables.search.marks.items in
@@ -86,18 +86,18 @@ lead_known p n (suc steps, lead) =
 
 -- the entry that was read ahead of a node leads on up from it
 pub lead_read : (p : Phase) (n e : ℕ) → LeadsFrom p n → n ≢ p.tables.sink → e ≡ get_or p.ahead.items n e
-    → IsAhead p.tables.network.now.graph (slice_index p.tables.flow.items) p.tables.search.marks.items p.next.items n e × LeadsFrom p (head p.tables.network.now.graph e)
+    → IsAhead p.tables.residual.network.now.graph (slice_index p.tables.residual.flow.items) p.tables.search.marks.items p.next.items n e × LeadsFrom p (head p.tables.residual.network.now.graph e)
 lead_read p n e lead ne read =
     let t = p.tables in
     let is = get_or_read p.ahead.items n e (omega (arith, lead_known p n lead, p.places)) read 0 in
-    rw is (lead_on t.network.now.graph (slice_index t.flow.items) t.sink t.search.marks.items p.next.items p.ahead.items n ne lead)
+    rw is (lead_on t.residual.network.now.graph (slice_index t.residual.flow.items) t.sink t.search.marks.items p.next.items p.ahead.items n ne lead)
 
 -- a way up stands in other tables of the same task, flow and levels
-pub lead_same : (t u : Tables) (next ahead : List ℕ) (n : ℕ) → SameTask t u → u.flow ≡ t.flow → ((m : ℕ) → level u.search.marks.items m ≡ level t.search.marks.items m)
-    → HasLead t.network.now.graph (slice_index t.flow.items) t.search.marks.items next ahead t.sink n → HasLead u.network.now.graph (slice_index u.flow.items) u.search.marks.items next ahead u.sink n
+pub lead_same : (t u : Tables) (next ahead : List ℕ) (n : ℕ) → SameTask t u → u.residual.flow ≡ t.residual.flow → ((m : ℕ) → level u.search.marks.items m ≡ level t.search.marks.items m)
+    → HasLead t.residual.network.now.graph (slice_index t.residual.flow.items) t.search.marks.items next ahead t.sink n → HasLead u.residual.network.now.graph (slice_index u.residual.flow.items) u.search.marks.items next ahead u.sink n
 lead_same t u next ahead n task flow levels lead =
     let marks = u.search.marks.items in
-    rw (task.graph, task.sink, flow) (lead_marked t.network.now.graph (slice_index t.flow.items) t.sink t.search.marks.items marks next ahead n levels lead)
+    rw (task.graph, task.sink, flow) (lead_marked t.residual.network.now.graph (slice_index t.residual.flow.items) t.sink t.search.marks.items marks next ahead n levels lead)
 
 -- a measure with a count and a height falls where the count does
 pub falls_back : (a b w x y : ℕ) → a < b → x < w → a * w + x < b * w + y

@@ -1,7 +1,7 @@
 -- Paths of a level graph.
-use Rattle.std.proofs.Common.{◌≡◌, ◌≢◌, ℕ, zero, suc, ◌+◌, ◌<◌, ◌≤◌, List, length, slice_index, slice_set, replicate, ap, sym, arith, inl, inr, subst}
+use Rattle.std.proofs.Common.{◌≡◌, ◌≢◌, ℕ, zero, suc, ◌+◌, ◌<◌, ◌≤◌, List, slice_index, slice_set, ap, sym, arith, inl, inr, subst}
 use Rattle.std.proofs.lemmas.Bool.{cases_eq}
-use Rattle.std.proofs.lemmas.List.{get_or-set_same, get_or-set_other, length-set, length-replicate}
+use Rattle.std.proofs.lemmas.List.{get_or-set_same, get_or-set_other, length-set}
 use Rattle.std.specs.List.{sum_by}
 use Rattle.std.proofs.lemmas.List.Sums.{sum_by-set}
 use Rattle.mm_flow.specs.declared.search.Mark.{Mark}
@@ -9,13 +9,25 @@ use Rattle.mm_flow.specs.Graph.{Graph}
 use Rattle.mm_flow.specs.Flow.{Flow}
 use Rattle.mm_flow.specs.Residual.{tail, residual}
 use Rattle.mm_flow.specs.Links.{degree}
-use Rattle.mm_flow.specs.Marks.{mark, level, HasMark, IsReached, IsMarking}
+use Rattle.mm_flow.specs.Marks.{no_mark, mark, level, HasMark, IsReached, IsMarking}
 use Rattle.mm_flow.specs.Levels.{IsPath, HasPath, IsLevelled, IsCursors}
-use Rattle.mm_flow.proofs.Marking.{slice_index-nothing}
 
 -- the marks of a search hold all through the phase that follows
 pub marking_levelled : (g : Graph) (f : Flow) (source least : ℕ) (marks : List Mark) → IsMarking g f source least marks → IsLevelled g source marks
 marking_levelled g f source least marks marking = record { size = marking.size; start = marking.start }
+
+-- a node is marked anew
+pub levelled_set : (g : Graph) (source n : ℕ) (marks : List Mark) (own : Mark) → IsLevelled g source marks → n < g.nodes → 0 < own.level
+    → IsLevelled g source (slice_set marks n own)
+levelled_set g source n marks own levelled known some = record {
+  size = omega (arith, length-set marks n own, levelled.size);
+  start = elim (cases_eq source n) [
+    | inl same ↦
+        let set = ap (λ (m : Mark). m.level) (get_or-set_same marks n own no_mark (omega (arith, levelled.size))) in
+        omega (arith, set, some, ap (level (slice_set marks n own)) same)
+    | inr ne ↦ omega (arith, ap (λ (m : Mark). m.level) (get_or-set_other marks n source own no_mark ne), levelled.start)
+  ];
+}
 
 -- a path leads to each node that a search marked
 tree_path : (g : Graph) (f : Flow) (source least : ℕ) (marks : List Mark) → IsMarking g f source least marks → (d n : ℕ) → level marks n ≤ d → HasMark marks n → HasPath g f marks source least n
@@ -78,10 +90,3 @@ cursors_put g next at cursor cursors within own = record {
 -- the cursors add up to as much less or more as one of them is
 pub cursors_sum : (g : Graph) (next : List ℕ) (at cursor : ℕ) → IsCursors g next → at < g.nodes → sum_by (λ (c : ℕ). c) (slice_set next at cursor) + slice_index next at ≡ sum_by (λ (c : ℕ). c) next + cursor
 cursors_sum g next at cursor cursors within = sum_by-set (λ (c : ℕ). c) next at cursor 0 (omega (arith, cursors.size))
-
--- no cursor stands in a list of zeros
-pub cursors_none : (g : Graph) (next : List ℕ) (count : ℕ) → next ≡ replicate count 0 → count ≡ g.nodes → IsCursors g next
-cursors_none g next count same all = record {
-  size = omega (arith, ap length same, length-replicate {A = ℕ} count 0, all);
-  own = λ n. omega (arith, ap (λ (xs : List ℕ). slice_index xs n) same, slice_index-nothing count n);
-}

@@ -1,5 +1,5 @@
 -- What an augmentation keeps: the flow is balanced at every node.
-use Rattle.std.specs.Prelude.{◌≡◌, ℕ, ◌+◌, ◌≤◌, ◌==◌, if◌then◌else◌, length, slice_index}
+use Rattle.std.specs.Prelude.{◌≡◌, ℕ, ◌+◌, ◌≤◌, ◌==◌, if◌then◌else◌, List, length, slice_index}
 use Rattle.mm_flow.specs.declared.limits.TheConstants.{MAX_VALUE}
 use Rattle.mm_flow.specs.declared.solved.Solved.{Solved}
 use Rattle.mm_flow.specs.Graph.{Graph, arc}
@@ -20,6 +20,16 @@ pub record IsAugmented (g : Graph) (source sink : ℕ) (f : Flow) (value : ℕ) 
   pub within : IsWithin g f
   pub balanced : IsBalanced g source sink f value
   pub most : (k : ℕ) → f k ≤ value
+
+-- flows of every value become flows of this much more
+abbrev pub Augments : Graph → ℕ → ℕ → Flow → Flow → ℕ → Type 0
+Augments g source sink old new amount = (value : ℕ) → IsAugmented g source sink old value → IsAugmented g source sink new (value + amount)
+
+-- a flow in a table, so small that no sum with a residual capacity overflows
+pub record IsCarried (g : Graph) (flow : List ℕ) : Type 0 where
+  pub arcs : length flow ≡ length g.arcs
+  pub within : IsWithin g (slice_index flow)
+  pub small : (k : ℕ) → slice_index flow k ≤ MAX_VALUE
 
 -- a flow in a table, from which a solver may go on
 pub record IsBegun (g : Graph) (source sink : ℕ) (s : Solved) : Type 0 where

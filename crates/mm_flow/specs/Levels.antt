@@ -2,6 +2,8 @@
 -- with each entry. Dinitz, "Algorithm for solution of a problem of maximum flow in networks with power estimation", 1970.
 use Rattle.std.specs.Prelude.{◌≡◌, ℕ, zero, suc, ◌<◌, ◌≤◌, List, length, slice_index}
 use Rattle.mm_flow.specs.declared.search.Mark.{Mark}
+use Rattle.mm_flow.specs.declared.residual.Residual.{Residual}
+use Rattle.mm_flow.specs.declared.search.Search.{Search}
 use Rattle.mm_flow.specs.Graph.{Graph}
 use Rattle.mm_flow.specs.Flow.{Flow}
 use Rattle.mm_flow.specs.Residual.{entries, tail, head, residual}
@@ -17,6 +19,10 @@ IsPath g f marks source amount (suc steps) n = IsReached g f marks amount n × I
 -- a path that can carry an amount leads from the source to a node; of the marks of other nodes it says nothing
 abbrev pub HasPath : Graph → Flow → List Mark → ℕ → ℕ → ℕ → Type 0
 HasPath g f marks source amount n = (steps : ℕ) × IsPath g f marks source amount steps n
+
+-- the path of a search to a node can carry an amount
+abbrev pub Carries : Residual → Search → ℕ → ℕ → Type 0
+Carries r s amount n = HasPath r.network.now.graph (slice_index r.flow.items) s.marks.items s.source amount n
 
 -- what holds of the marks all through a phase, whatever flow was moved in it
 pub record IsLevelled (g : Graph) (source : ℕ) (marks : List Mark) : Type 0 where

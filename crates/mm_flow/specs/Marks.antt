@@ -3,6 +3,7 @@
 use Rattle.std.specs.Prelude.{◌≡◌, ◌≢◌, ℕ, ◌+◌, ◌<◌, ◌≤◌, ◌==◌, ◌⊎◌, List, length, slice_index, slice_index_or, count_by}
 use Rattle.mm_flow.specs.declared.search.Mark.{Mark}
 use Rattle.mm_flow.specs.declared.search.Search.{Search}
+use Rattle.mm_flow.specs.declared.residual.Residual.{Residual}
 use Rattle.mm_flow.specs.Graph.{Graph}
 use Rattle.mm_flow.specs.Flow.{Flow}
 use Rattle.mm_flow.specs.Residual.{entries, tail, head, residual}
@@ -68,9 +69,23 @@ pub record IsSearch (g : Graph) (f : Flow) (source least : ℕ) (marks : List Ma
   pub queued : (i : ℕ) → i < found → HasMark marks (slice_index order i)
   pub swept : (n : ℕ) → HasMark marks n → IsClosed g f marks least n ⊎ Waits order done found n
 
--- the same of a `Search`
-abbrev pub IsSearching : Graph → Flow → Search → Type 0
-IsSearching g f s = IsSearch g f s.source s.least s.marks.items s.order.items s.found s.done
+-- the same of a `Search` of a residual network
+abbrev pub IsSearching : Residual → Search → Type 0
+IsSearching r s = IsSearch r.network.now.graph (slice_index r.flow.items) s.source s.least s.marks.items s.order.items s.found s.done
+
+-- each marked node is the source or was reached by a search, along entries of at least this residual capacity
+abbrev pub HasMarked : Residual → Search → ℕ → Type 0
+HasMarked r s least = IsMarking r.network.now.graph (slice_index r.flow.items) s.source least s.marks.items
+
+-- a search has marked all that its source reaches along entries of at least this residual capacity
+abbrev pub HasSearched : Residual → Search → ℕ → Type 0
+HasSearched r s least = IsSearched r.network.now.graph (slice_index r.flow.items) s.source least s.marks.items
+
+-- a search has its source in a network, and room for all of its nodes
+pub record Fits (g : Graph) (s : Search) : Type 0 where
+  pub source : s.source < g.nodes
+  pub marks : length s.marks.items ≡ g.nodes
+  pub order : length s.order.items ≡ g.nodes
 
 -- a search goes on: what was marked stays so, and the order of reaching has only grown
 pub record GoesOn (old new : Search) : Type 0 where

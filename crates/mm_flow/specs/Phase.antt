@@ -7,13 +7,13 @@ use Rattle.mm_flow.specs.Task.{IsOpen}
 
 -- an entry leaves a node, and a path can go on by its twin to come to the node
 pub record LeadsUp (p : Phase) (at e : ℕ) : Type 0 where
-  pub known : e < entries p.tables.network.now.graph
-  pub leaves : tail p.tables.network.now.graph e ≡ at
-  pub back : IsOpen p.tables (twin p.tables.network.now.graph e)
+  pub known : e < entries p.tables.residual.network.now.graph
+  pub leaves : tail p.tables.residual.network.now.graph e ≡ at
+  pub back : IsOpen p.tables (twin p.tables.residual.network.now.graph e)
 
 -- a path leads up from a node to the sink
 abbrev pub LeadsFrom : Phase → ℕ → Type 0
-LeadsFrom p n = HasLead p.tables.network.now.graph (slice_index p.tables.flow.items) p.tables.search.marks.items p.next.items p.ahead.items p.tables.sink n
+LeadsFrom p n = HasLead p.tables.residual.network.now.graph (slice_index p.tables.residual.flow.items) p.tables.search.marks.items p.next.items p.ahead.items p.tables.sink n
 
 -- the cursors of all nodes, added up
 abbrev pub cursors_of : Phase → ℕ

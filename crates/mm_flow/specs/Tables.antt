@@ -1,30 +1,16 @@
 -- The tables of a solver between augmentations, and after the last.
-use Rattle.std.specs.Prelude.{◌≡◌, ◌≢◌, ℕ, ◌<◌, List, length, slice_index}
-use Rattle.mm_flow.specs.declared.links.Links.{Links}
+use Rattle.std.specs.Prelude.{◌≢◌, ℕ, ◌<◌, List, slice_index}
 use Rattle.mm_flow.specs.declared.search.Search.{Search}
-use Rattle.mm_flow.specs.declared.search.Mark.{Mark}
 use Rattle.mm_flow.specs.Graph.{Graph}
-use Rattle.mm_flow.specs.Flow.{IsFlow}
 use Rattle.mm_flow.specs.Balance.{IsAugmented, IsBounded}
-use Rattle.mm_flow.specs.Links.{IsLinked}
-use Rattle.mm_flow.specs.Marks.{HasMark, IsSearched}
+use Rattle.mm_flow.specs.Marks.{Fits}
 use Rattle.mm_flow.specs.Levels.{IsLevelled}
 
 -- augmentations have made a flow of this value
-pub record IsAtWork (g : Graph) (sink : ℕ) (links : Links) (search : Search) (flow : List ℕ) (value : ℕ) : Type 0 where
+pub record IsAtWork (g : Graph) (sink : ℕ) (search : Search) (flow : List ℕ) (value : ℕ) : Type 0 where
   pub ends : search.source ≢ sink
-  pub source_known : search.source < g.nodes
   pub sink_known : sink < g.nodes
-  pub linked : IsLinked g links
+  pub fits : Fits g search
   pub levelled : IsLevelled g search.source search.marks.items
-  pub order : length search.order.items ≡ g.nodes
-  pub arcs : length flow ≡ length g.arcs
   pub bounded : IsBounded g search.source sink
   pub augmented : IsAugmented g search.source sink (slice_index flow) value
-
--- a flow of this value, and marks of a search that does not reach the sink
-pub record IsEnded (g : Graph) (source sink : ℕ) (marks : List Mark) (flow : List ℕ) (value : ℕ) : Type 0 where
-  pub arcs : length flow ≡ length g.arcs
-  pub is_flow : IsFlow g source sink (slice_index flow) value
-  pub searched : IsSearched g (slice_index flow) source 1 marks
-  pub ended : ¬ HasMark marks sink

@@ -3,7 +3,7 @@ ghost use Rattle.std.specs.Prelude.{◌≡◌, ◌≢◌, ◌<◌, ◌≤◌, �
 ghost use Rattle.mm_flow.specs.Levels.{IsCursors};
 
 use crate::links::Step;
-use crate::residual::{residual, twin};
+use crate::residual::{head, twin};
 use crate::tables::Tables;
 use std::alloc::{AllocError, Global};
 
@@ -16,8 +16,8 @@ pub(crate) struct Phase<'a> {
     pub(crate) tables: Tables<'a>,
     next: Vec<u32>,
     ahead: Vec<u32>,
-    ghost cursors: { IsCursors tables.network.now.graph next.items },
-    ghost places: { length ahead.items ≡ tables.network.now.graph.nodes },
+    ghost cursors: { IsCursors tables.residual.network.now.graph next.items },
+    ghost places: { length ahead.items ≡ tables.residual.network.now.graph.nodes },
 }
 
 impl<'a> Phase<'a> {
@@ -31,7 +31,7 @@ impl<'a> Phase<'a> {
     pub(crate) fn new(alloc: Global, tables: Tables<'a>) -> Result<Phase<'a>, AllocError>
         ensures { IfOk result (λ phase. phase.tables ≡ tables.entry) }
     {
-        let nodes = tables.network.node_count();
+        let nodes = tables.residual.network.node_count();
         Ok(Phase {
             tables,
             next: vec![in alloc; 0; nodes]?,
@@ -70,7 +70,7 @@ impl<'a> Phase<'a> {
     {
         self.tables.raise_sink();
         for node in 0..self.next.len() {
-            self.next[node] = self.tables.degree(node);
+            self.next[node] = self.tables.residual.degree(node);
         }
     }
 
@@ -120,20 +120,24 @@ impl<'a> Phase<'a> {
         if cursor == 0 {
             return None;
         }
-        let step = self.tables.step(at, cursor);
-        self.ahead[step.head as usize] = twin(self.tables.network, step.entry as usize) as u32;
+        let step = self.tables.residual.step(at, cursor);
+        self.ahead[step.head as usize] = twin(
+            self.tables.residual.network,
+            step.entry as usize,
+        ) as u32;
         Some(step.head)
     }
 
     // Moves a node's cursor on to an entry whose twin leads up to the node.
     fn way_back(&self, at: u32) -> u32
-        requires known { at < self.now.tables.network.now.graph.nodes }
+        requires known { at < self.now.tables.residual.network.now.graph.nodes }
         ensures most { result ≤ slice_index self.now.next.items at }
         ensures leads { 0 < result
-            → LeadsUp self.now at (step_left self.now.tables.links at result).entry }
+            → LeadsUp self.now at (step_left self.now.tables.residual.network.now.graph
+            self.now.tables.residual.links at result).entry }
     {
         let mut cursor = self.next[at as usize];
-        while cursor > 0 && !self.leads_up(at, self.tables.step(at, cursor)) {
+        while cursor > 0 && !self.leads_up(at, self.tables.residual.step(at, cursor)) {
             cursor -= 1;
         }
         cursor
@@ -141,15 +145,15 @@ impl<'a> Phase<'a> {
 
     // Whether the twin of a node's entry can be taken up to the node.
     fn leads_up(&self, at: u32, step: Step) -> bool
-        requires known { at < self.now.tables.network.now.graph.nodes }
-        requires own { IsStep self.now.tables.network.now.graph at step }
+        requires known { at < self.now.tables.residual.network.now.graph.nodes }
+        requires own { IsStep self.now.tables.residual.network.now.graph at step }
         ensures { result ≡ true → IsOpen self.now.tables
-            (twin self.now.tables.network.now.graph step.entry) }
+            (twin self.now.tables.residual.network.now.graph step.entry) }
     {
         let height = self.tables.search.marks[at as usize].level;
         let below = self.tables.search.marks[step.head as usize].level;
-        let back = twin(self.tables.network, step.entry as usize);
-        below > 0 && below < height && residual(self.tables.network, &self.tables.flow, back) > 0
+        let back = twin(self.tables.residual.network, step.entry as usize);
+        below > 0 && below < height && self.tables.residual.capacity(back) > 0
     }
 
     // Takes a path one step towards the sink again, and moves the cursor of the node there on.
@@ -160,7 +164,10 @@ impl<'a> Phase<'a> {
         ensures cursors { cursors_of self.new < cursors_of self.old }
         ensures leads { LeadsFrom self.new result }
     {
-        let to = self.tables.head(self.ahead[at as usize] as usize);
+        let to = head(
+            self.tables.residual.network,
+            self.ahead[at as usize] as usize,
+        );
         self.next[to as usize] -= 1;
         to
     }
@@ -175,9 +182,7 @@ impl<'a> Phase<'a> {
         let mut at = self.tables.search.source;
         while at != self.tables.sink {
             let entry = self.ahead[at as usize];
-            let to = self.tables.head(entry as usize);
-            self.tables.reach_by(entry, to);
-            at = to;
+            at = self.tables.reach_by(entry);
         }
     }
 }

@@ -1,11 +1,98 @@
 //! The residual network: each arc forward and backward, as entries numbered from 0.
-ghost use Rattle.std.specs.Prelude.{◌≡◌, ◌<◌, ◌≤◌, length, slice_index};
+ghost use Rattle.std.specs.Prelude.{◌≡◌, ◌<◌, ◌≤◌, ℕ, length, slice_index};
 ghost use Rattle.mm_flow.specs.Residual.{entries, tail, head, twin, place, residual, IsPushed};
-ghost use Rattle.mm_flow.specs.Flow.{IsWithin};
 ghost use Rattle.mm_flow.specs.Graph.{IsNetwork};
+ghost use Rattle.mm_flow.specs.Links.{IsResidual};
 
 use crate::limits::{MAX_VALUE, UNLIMITED};
+use crate::links::{Links, Step};
 use crate::network::Network;
+use crate::search::Search;
+
+/// The residual network of a flow: a network, the entries that leave each node, and what each arc carries.
+#[derive(Drop)]
+pub(crate) struct Residual<'a> {
+    pub(crate) network: &'a Network,
+    pub(crate) links: Links,
+    pub(crate) flow: Vec<u64>,
+    ghost sound: { IsResidual network.now.graph links flow.items },
+}
+
+impl<'a> Residual<'a> {
+    ghost use Rattle.mm_flow.specs.Links.{start, degree, step_left, IsStep};
+    ghost use Rattle.mm_flow.specs.Levels.{IsLevelled, Carries};
+    ghost use Rattle.mm_flow.specs.Balance.{Augments, KeepsSource};
+
+    // What an entry can still carry.
+    #[tactic(auto, unfolding(crate::specs::Residual::residual))]
+    pub(crate) fn capacity(&self, entry: usize) -> u64
+        requires { entry < entries self.now.network.now.graph }
+        ensures residual { result ≡ residual self.now.network.now.graph (slice_index self.now.flow.items) entry }
+        ensures network { IsNetwork self.now.network.now.graph }
+    {
+        let arcs = self.network.arc_count();
+        if entry < arcs {
+            match self.network.arc(entry).capacity {
+                Some(most) => most - self.flow[entry],
+                None => UNLIMITED,
+            }
+        } else {
+            self.flow[entry - arcs]
+        }
+    }
+
+    // Where the steps of a node begin, which is where those of the node before it end.
+    pub(crate) fn start(&self, node: usize) -> u32
+        requires { node ≤ self.now.network.now.graph.nodes }
+        ensures { result ≡ start self.now.network.now.graph node }
+    {
+        self.links.first[node]
+    }
+
+    // How many entries leave a node.
+    pub(crate) fn degree(&self, node: usize) -> u32
+        requires { node < self.now.network.now.graph.nodes }
+        ensures { result ≡ degree self.now.network.now.graph node }
+    {
+        let first = self.start(node);
+        let end = self.start(node + 1);
+        end - first
+    }
+
+    // The step of a node at which this many of its steps are left.
+    pub(crate) fn step(&self, node: u32, left: u32) -> Step
+        requires node { node < self.now.network.now.graph.nodes }
+        requires some { 0 < left }
+        requires left { left ≤ degree self.now.network.now.graph node }
+        ensures step { result ≡ step_left self.now.network.now.graph self.now.links node left }
+        ensures own { IsStep self.now.network.now.graph node result }
+    {
+        let end = self.start(node as usize + 1);
+        self.links.steps[(end - left) as usize]
+    }
+
+    // Moves an amount that fits along the path by which a search reached the sink.
+    pub(crate) fn push_along(&mut self, search: &Search, sink: u32, amount: u64)
+        requires small { (k : ℕ) → slice_index self.old.flow.items k ≤ MAX_VALUE }
+        requires levelled { IsLevelled self.old.network.now.graph search.now.source
+            search.now.marks.items }
+        requires path { Carries self.old search.now amount sink }
+        ensures network { self.new.network ≡ self.old.network }
+        ensures augmented { Augments self.old.network.now.graph search.now.source sink
+            (slice_index self.old.flow.items) (slice_index self.new.flow.items) amount }
+        ensures source { KeepsSource self.old.network.now.graph search.now.source
+            (slice_index self.old.flow.items) (slice_index self.new.flow.items) }
+    {
+        search.push_along(self.network, &mut self.flow, sink, amount);
+    }
+
+    // What each arc carries.
+    pub(crate) fn into_flow(self) -> Vec<u64>
+        ensures { result ≡ self.entry.flow }
+    {
+        self.flow
+    }
+}
 
 // How many entries the network has.
 pub(crate) fn entry_count(network: &Network) -> usize
@@ -53,26 +140,6 @@ pub(crate) fn head(network: &Network, entry: usize) -> u32
     ensures known { result < network.now.graph.nodes }
 {
     tail(network, twin(network, entry))
-}
-
-// What an entry can still carry.
-#[tactic(auto, unfolding(crate::specs::Residual::residual))]
-pub(crate) fn residual(network: &Network, flow: &[u64], entry: usize) -> u64
-    requires entry { entry < entries network.now.graph }
-    requires flow { length flow.now ≡ length network.now.graph.arcs }
-    requires within { IsWithin network.now.graph (slice_index flow.now) }
-    ensures residual { result ≡ residual network.now.graph (slice_index flow.now) entry }
-    ensures network { IsNetwork network.now.graph }
-{
-    let arcs = network.arc_count();
-    if entry < arcs {
-        match network.arc(entry).capacity {
-            Some(most) => most - flow[entry],
-            None => UNLIMITED,
-        }
-    } else {
-        flow[entry - arcs]
-    }
 }
 
 // Moves this much along an entry: more on the arc forward, less on the arc backward.

@@ -1,14 +1,14 @@
 //! A search by breadth through the residual network (Edmonds and Karp, 1972).
-ghost use Rattle.std.specs.Prelude.{◌≡◌, ◌≢◌, ◌+◌, ◌<◌, ◌≤◌, ℕ, length, slice_index, IfOk, replicate, map, nat_lt};
+ghost use Rattle.std.specs.Prelude.{◌≡◌, ◌+◌, ◌<◌, ◌≤◌, ℕ, length, slice_index, IfOk, replicate, map, nat_lt};
 ghost use Rattle.mm_flow.specs.Flow.{IsWithin};
-ghost use Rattle.mm_flow.specs.Residual.{entries, tail, head, residual};
-ghost use Rattle.mm_flow.specs.Links.{IsLinked};
+ghost use Rattle.mm_flow.specs.Residual.{head, residual as residual_capacity};
+ghost use Rattle.mm_flow.specs.Links.{IsStep};
 ghost use Rattle.mm_flow.specs.Marks.{no_mark};
 
-use crate::limits::{MAX_VALUE, UNLIMITED};
-use crate::links::Links;
+use crate::limits::UNLIMITED;
+use crate::links::Step;
 use crate::network::Network;
-use crate::residual::{push, residual, tail};
+use crate::residual::{Residual, push, tail};
 use std::alloc::{AllocError, Global};
 
 /// How a node was reached: its level, one more than the entries on the path to it and 0 where there is none, and the
@@ -35,15 +35,15 @@ pub(crate) struct Search {
 
 impl Search {
     ghost use Rattle.mm_flow.specs.declared.search.Mark.{Mark};
-    ghost use Rattle.mm_flow.specs.Marks.{IsMarking, IsSearching, IsSearched, GoesOn, HasMark, level};
-    ghost use Rattle.mm_flow.specs.Balance.{IsAugmented, KeepsSource};
-    ghost use Rattle.mm_flow.specs.Levels.{IsLevelled, IsUp, HasPath};
+    ghost use Rattle.mm_flow.specs.Marks.{Fits, HasMarked, IsSearching, HasSearched, GoesOn, HasMark, level};
+    ghost use Rattle.mm_flow.specs.Balance.{IsCarried, Augments, KeepsSource};
+    ghost use Rattle.mm_flow.specs.Levels.{IsLevelled, HasPath, Carries};
 
     // A search from this source that has not begun.
     pub(crate) fn new(alloc: Global, network: &Network, source: u32) -> Result<Search, AllocError>
+        requires { source < network.now.graph.nodes }
+        ensures fits { IfOk result (Fits network.now.graph) }
         ensures source { IfOk result (λ s. s.source ≡ source) }
-        ensures marks { IfOk result (λ s. length s.marks.items ≡ network.now.graph.nodes) }
-        ensures order { IfOk result (λ s. length s.order.items ≡ network.now.graph.nodes) }
     {
         let nodes = network.node_count();
         Ok(Search {
@@ -57,53 +57,37 @@ impl Search {
     }
 
     // Marks all nodes that the source reaches along entries of at least this residual capacity.
-    pub(crate) fn run(&mut self, network: &Network, links: &Links, flow: &[u64], least: u64)
-        requires linked { IsLinked network.now.graph links.now }
-        requires flow { length flow.now ≡ length network.now.graph.arcs }
-        requires within { IsWithin network.now.graph (slice_index flow.now) }
-        requires source { self.old.source < network.now.graph.nodes }
-        requires marks { length self.old.marks.items ≡ network.now.graph.nodes }
-        requires order { length self.old.order.items ≡ network.now.graph.nodes }
-        ensures searched { IsSearched network.now.graph (slice_index flow.now) self.old.source least
-            self.new.marks.items }
+    pub(crate) fn run(&mut self, residual: &Residual, least: u64)
+        requires fits { Fits residual.now.network.now.graph self.old }
+        ensures searched { HasSearched residual.now self.new least }
+        ensures fits { Fits residual.now.network.now.graph self.new }
         ensures source { self.new.source ≡ self.old.source }
-        ensures order { length self.new.order.items ≡ network.now.graph.nodes }
     {
-        self.start(network, flow, least);
+        self.start(residual, least);
         while self.done < self.found {
-            self.visit(network, links, flow);
+            self.visit(residual);
         }
     }
 
     // Marks nodes as `run` does along entries that carry anything, and visits no further node once the sink is marked.
-    pub(crate) fn run_to(&mut self, network: &Network, links: &Links, flow: &[u64], sink: u32)
-        requires linked { IsLinked network.now.graph links.now }
-        requires flow { length flow.now ≡ length network.now.graph.arcs }
-        requires within { IsWithin network.now.graph (slice_index flow.now) }
-        requires source { self.old.source < network.now.graph.nodes }
-        requires sink { sink < network.now.graph.nodes }
-        requires marks { length self.old.marks.items ≡ network.now.graph.nodes }
-        requires order { length self.old.order.items ≡ network.now.graph.nodes }
-        ensures marking { IsMarking network.now.graph (slice_index flow.now) self.old.source 1
-            self.new.marks.items }
-        ensures searched { level self.new.marks.items sink ≡ 0
-            → IsSearched network.now.graph (slice_index flow.now) self.old.source 1
-            self.new.marks.items }
+    pub(crate) fn run_to(&mut self, residual: &Residual, sink: u32)
+        requires fits { Fits residual.now.network.now.graph self.old }
+        requires sink { sink < residual.now.network.now.graph.nodes }
+        ensures marking { HasMarked residual.now self.new 1 }
+        ensures searched { level self.new.marks.items sink ≡ 0 → HasSearched residual.now self.new 1 }
+        ensures fits { Fits residual.now.network.now.graph self.new }
         ensures source { self.new.source ≡ self.old.source }
-        ensures order { length self.new.order.items ≡ network.now.graph.nodes }
     {
-        self.start(network, flow, 1);
+        self.start(residual, 1);
         while self.done < self.found && self.marks[sink as usize].level == 0 {
-            self.visit(network, links, flow);
+            self.visit(residual);
         }
     }
 
     // Marks the source alone.
-    fn start(&mut self, network: &Network, flow: &[u64], least: u64)
-        requires source { self.old.source < network.now.graph.nodes }
-        requires marks { length self.old.marks.items ≡ network.now.graph.nodes }
-        requires order { length self.old.order.items ≡ network.now.graph.nodes }
-        ensures begun { IsSearching network.now.graph (slice_index flow.now) self.new }
+    fn start(&mut self, residual: &Residual, least: u64)
+        requires fits { Fits residual.now.network.now.graph self.old }
+        ensures begun { IsSearching residual.now self.new }
         ensures source { self.new.source ≡ self.old.source }
         ensures least { self.new.least ≡ least }
     {
@@ -117,149 +101,80 @@ impl Search {
     }
 
     // Marks what the next node in the order leads to.
-    fn visit(&mut self, network: &Network, links: &Links, flow: &[u64])
-        requires linked { IsLinked network.now.graph links.now }
-        requires flow { length flow.now ≡ length network.now.graph.arcs }
-        requires within { IsWithin network.now.graph (slice_index flow.now) }
-        requires search { IsSearching network.now.graph (slice_index flow.now) self.old }
+    fn visit(&mut self, residual: &Residual)
+        requires search { IsSearching residual.now self.old }
         requires waits { self.old.done < self.old.found }
-        ensures search { IsSearching network.now.graph (slice_index flow.now) self.new }
+        ensures search { IsSearching residual.now self.new }
         ensures source { self.new.source ≡ self.old.source }
         ensures least { self.new.least ≡ self.old.least }
         ensures done { self.new.done ≡ self.old.done + 1 }
     {
         let node = self.order[self.done];
-        let first = links.first[node as usize];
-        let end = links.first[node as usize + 1];
+        let first = residual.start(node as usize);
+        let end = residual.start(node as usize + 1);
         for at in first..end {
-            let step = links.steps[at as usize];
-            self.reach(network, flow, step.entry, node, step.head);
+            let step = residual.links.steps[at as usize];
+            self.reach(residual, node, step);
         }
         self.done += 1;
     }
 
-    // Marks the node that an entry leads to, if that has no mark and the entry the residual capacity.
-    fn reach(&mut self, network: &Network, flow: &[u64], entry: u32, node: u32, to: u32)
-        requires entry { entry < entries network.now.graph }
-        requires leaves { node ≡ tail network.now.graph entry }
-        requires leads { to ≡ head network.now.graph entry }
-        requires node { node < network.now.graph.nodes }
-        requires to { to < network.now.graph.nodes }
-        requires flow { length flow.now ≡ length network.now.graph.arcs }
-        requires within { IsWithin network.now.graph (slice_index flow.now) }
-        requires search { IsSearching network.now.graph (slice_index flow.now) self.old }
-        requires from { HasMark self.old.marks.items (tail network.now.graph entry) }
-        ensures search { IsSearching network.now.graph (slice_index flow.now) self.new }
+    // Marks the node that a step of a node leads to, if that has no mark and the step's entry the residual capacity.
+    fn reach(&mut self, residual: &Residual, node: u32, step: Step)
+        requires own { IsStep residual.now.network.now.graph node step }
+        requires search { IsSearching residual.now self.old }
+        requires from { HasMark self.old.marks.items node }
+        ensures search { IsSearching residual.now self.new }
         ensures kept { GoesOn self.old self.new }
-        ensures leads { self.old.least ≤ residual network.now.graph (slice_index flow.now) entry
-            → HasMark self.new.marks.items (head network.now.graph entry) }
+        ensures leads { self.old.least ≤ residual_capacity residual.now.network.now.graph
+            (slice_index residual.now.flow.items) step.entry
+            → HasMark self.new.marks.items (head residual.now.network.now.graph step.entry) }
     {
-        if self.marks[to as usize].level > 0 {
+        if self.marks[step.head as usize].level > 0 {
             return;
         }
-        let capacity = residual(network, flow, entry as usize);
+        let capacity = residual.capacity(step.entry as usize);
         if capacity < self.least {
             return;
         }
         let from = self.marks[node as usize];
-        self.marks[to as usize] = Mark {
+        self.marks[step.head as usize] = Mark {
             level: from.level + 1,
-            via: entry,
+            via: step.entry,
         };
-        self.order[self.found] = to;
+        self.order[self.found] = step.head;
         self.found += 1;
     }
 
-    // Puts a node above all levels.
-    pub(crate) fn put_above_all(&mut self, network: &Network, node: u32)
-        requires node { node < network.now.graph.nodes }
-        requires levelled { IsLevelled network.now.graph self.old.source self.old.marks.items }
-        ensures levelled { IsLevelled network.now.graph self.new.source self.new.marks.items }
-        ensures source { self.new.source ≡ self.old.source }
-        ensures order { length self.new.order.items ≡ length self.old.order.items }
-    {
-        self.marks[node as usize] = Mark {
-            level: u32::MAX,
-            via: 0,
-        };
-    }
-
-    // Lets a path go on by an entry that leads up from its last node.
-    pub(crate) fn reach_by(&mut self, network: &Network, flow: &[u64], entry: u32, to: u32)
-        requires leads { to ≡ head network.now.graph entry }
-        requires to { to < network.now.graph.nodes }
-        requires levelled { IsLevelled network.now.graph self.old.source self.old.marks.items }
-        requires up { IsUp network.now.graph (slice_index flow.now) self.old.marks.items entry }
-        requires path { HasPath network.now.graph (slice_index flow.now) self.old.marks.items
-            self.old.source 1 (tail network.now.graph entry) }
-        ensures levelled { IsLevelled network.now.graph self.new.source self.new.marks.items }
-        ensures source { self.new.source ≡ self.old.source }
-        ensures order { length self.new.order.items ≡ length self.old.order.items }
-        ensures levels { (n : ℕ) → level self.new.marks.items n ≡ level self.old.marks.items n }
-        ensures path { HasPath network.now.graph (slice_index flow.now) self.new.marks.items
-            self.new.source 1 to }
-    {
-        self.marks[to as usize].via = entry;
-    }
-
-    // Moves as much as fits along the path by which the sink was reached, and returns how much.
-    pub(crate) fn augment(&self, network: &Network, flow: &mut [u64], sink: u32) -> u64
-        requires flow { length flow.old ≡ length network.now.graph.arcs }
-        requires within { IsWithin network.now.graph (slice_index flow.old) }
-        requires small { (k : ℕ) → slice_index flow.old k ≤ MAX_VALUE }
-        requires sink { sink < network.now.graph.nodes }
-        requires levelled { IsLevelled network.now.graph self.now.source self.now.marks.items }
-        requires path { HasPath network.now.graph (slice_index flow.old) self.now.marks.items
-            self.now.source 1 sink }
-        ensures positive { (0 < result) × (result ≤ UNLIMITED) }
-        ensures augmented { (value : ℕ)
-            → IsAugmented network.now.graph self.now.source sink (slice_index flow.old) value
-            → IsAugmented network.now.graph self.now.source sink (slice_index flow.new)
-            (value + result) }
-        ensures source { KeepsSource network.now.graph self.now.source (slice_index flow.old)
-            (slice_index flow.new) }
-    {
-        let amount = self.bottleneck(network, flow, sink);
-        self.push_along(network, flow, sink, amount);
-        amount
-    }
-
     // The residual capacity of the path by which the sink was reached: the least of its entries.
-    fn bottleneck(&self, network: &Network, flow: &[u64], sink: u32) -> u64
-        requires flow { length flow.now ≡ length network.now.graph.arcs }
-        requires within { IsWithin network.now.graph (slice_index flow.now) }
-        requires levelled { IsLevelled network.now.graph self.now.source self.now.marks.items }
-        requires path { HasPath network.now.graph (slice_index flow.now) self.now.marks.items
-            self.now.source 1 sink }
+    pub(crate) fn bottleneck(&self, residual: &Residual, sink: u32) -> u64
+        requires levelled { IsLevelled residual.now.network.now.graph self.now.source
+            self.now.marks.items }
+        requires path { Carries residual.now self.now 1 sink }
         ensures within { result ≤ UNLIMITED }
-        ensures fits { HasPath network.now.graph (slice_index flow.now) self.now.marks.items
-            self.now.source result sink }
-        ensures greatest { (amount : ℕ) → amount ≤ UNLIMITED
-            → HasPath network.now.graph (slice_index flow.now) self.now.marks.items
-            self.now.source amount sink → amount ≤ result }
+        ensures fits { Carries residual.now self.now result sink }
+        ensures greatest { (amount : ℕ) → amount ≤ UNLIMITED → Carries residual.now self.now amount sink
+            → amount ≤ result }
     {
         let mut least = UNLIMITED;
         let mut at = sink;
         while at != self.source {
             let entry = self.marks[at as usize].via as usize;
-            least = least.min(residual(network, flow, entry));
-            at = tail(network, entry);
+            least = least.min(residual.capacity(entry));
+            at = tail(residual.network, entry);
         }
         least
     }
 
     // Moves an amount that fits along the path by which the sink was reached.
-    fn push_along(&self, network: &Network, flow: &mut [u64], sink: u32, amount: u64)
-        requires flow { length flow.old ≡ length network.now.graph.arcs }
-        requires within { IsWithin network.now.graph (slice_index flow.old) }
-        requires small { (k : ℕ) → slice_index flow.old k ≤ MAX_VALUE }
+    pub(crate) fn push_along(&self, network: &Network, flow: &mut [u64], sink: u32, amount: u64)
+        requires carried { IsCarried network.now.graph flow.old }
         requires levelled { IsLevelled network.now.graph self.now.source self.now.marks.items }
         requires path { HasPath network.now.graph (slice_index flow.old) self.now.marks.items
             self.now.source amount sink }
-        ensures augmented { (value : ℕ)
-            → IsAugmented network.now.graph self.now.source sink (slice_index flow.old) value
-            → IsAugmented network.now.graph self.now.source sink (slice_index flow.new)
-            (value + amount) }
+        ensures within { IsWithin network.now.graph (slice_index flow.new) }
+        ensures augmented { Augments network.now.graph self.now.source sink (slice_index flow.old)
+            (slice_index flow.new) amount }
         ensures source { KeepsSource network.now.graph self.now.source (slice_index flow.old)
             (slice_index flow.new) }
     {

@@ -8,7 +8,7 @@ pub degree-requires : goal.degree-requires
 degree-requires c =
     let p = c.loop-node.self in
     let old = c.args.self.now in
-    omega (arith, c.len-node-end.ensures, old.cursors.size, old.next.ok.0, ap (λ (g : Graph). g.nodes) c.raise_sink.ensures.task.graph, ap (λ (u : Tables). u.network.now.graph.nodes) c.loop-node.invariant.tables)
+    omega (arith, c.len-node-end.ensures, old.cursors.size, old.next.ok.0, ap (λ (g : Graph). g.nodes) c.raise_sink.ensures.task.graph, ap (λ (u : Tables). u.residual.network.now.graph.nodes) c.loop-node.invariant.tables)
 
 pub invariant_of-self-in-loop-node : goal.invariant_of-self-in-loop-node
 invariant_of-self-in-loop-node c =
@@ -16,6 +16,6 @@ invariant_of-self-in-loop-node c =
     let t = p.tables in
     let old = c.args.self.now in
     let node = c.loop-node.node in
-    let known : node < t.network.now.graph.nodes =
-    omega (arith, c.len-node-end.ensures, old.cursors.size, old.next.ok.0, ap (λ (g : Graph). g.nodes) c.raise_sink.ensures.task.graph, ap (λ (u : Tables). u.network.now.graph.nodes) c.loop-node.invariant.tables) in
-    record { cursors = cursors_put t.network.now.graph p.next.items node c.degree.result p.cursors known (omega (arith, c.degree.ensures)); places = p.places }
+    let known : node < t.residual.network.now.graph.nodes =
+    omega (arith, c.len-node-end.ensures, old.cursors.size, old.next.ok.0, ap (λ (g : Graph). g.nodes) c.raise_sink.ensures.task.graph, ap (λ (u : Tables). u.residual.network.now.graph.nodes) c.loop-node.invariant.tables) in
+    record { cursors = cursors_put t.residual.network.now.graph p.next.items node c.degree.result p.cursors known (omega (arith, c.degree.ensures)); places = p.places }

@@ -1,4 +1,4 @@
-use Rattle.std.proofs.Common.{List, ℕ, slice_index, ap, sym, ◌∙◌, arith}
+use Rattle.std.proofs.Common.{slice_index, ap, sym, ◌∙◌, arith}
 use Rattle.std.proofs.lemmas.Bool.{ltb-true}
 use Rattle.std.proofs.lemmas.List.{get_or_read}
 use Rattle.mm_flow.specs.declared.search.Mark.{Mark}
@@ -10,7 +10,7 @@ use Rattle.mm_flow.proofs.phase.Phase.leads_up.Goals as goal
 pub returns-then-below-height : goal.returns-then-below-height
 returns-then-below-height c = λ some.
     let t = c.args.self.now.tables in
-    let g = t.network.now.graph in
+    let g = t.residual.network.now.graph in
     let marks = t.search.marks.items in
     let own = c.requires.own in
     let twin_is = c.twin-back.ensures.twin in
@@ -23,5 +23,5 @@ returns-then-below-height c = λ some.
       known = omega (arith, c.twin-back.ensures.known, twin_is);
       marked = omega (arith, c.if-below-height.true.0, from_read, below);
       up = omega (arith, c.if-below-height.true.1, from_read, at_read, below, above);
-      open_still = omega (arith, ltb-true 0 c.residual.result some, c.residual.ensures.residual, ap (λ (flow : List ℕ). residual g (slice_index flow) c.twin-back.result) c.deref.ensures.value, ap (residual g (slice_index t.flow.items)) twin_is);
+      open_still = omega (arith, ltb-true 0 c.capacity.result some, c.capacity.ensures.residual, ap (residual g (slice_index t.residual.flow.items)) twin_is);
     }

@@ -15,15 +15,15 @@ index-requires c =
 
 -- the entry that was read leads on to where the path came from
 ahead_is : (c : After-index)
-    → IsAhead c.args.self.now.tables.network.now.graph (slice_index c.args.self.now.tables.flow.items) c.args.self.now.tables.search.marks.items c.args.self.now.next.items c.args.at c.index.result.now
-    × LeadsFrom c.args.self.now (head c.args.self.now.tables.network.now.graph c.index.result.now)
+    → IsAhead c.args.self.now.tables.residual.network.now.graph (slice_index c.args.self.now.tables.residual.flow.items) c.args.self.now.tables.search.marks.items c.args.self.now.next.items c.args.at c.index.result.now
+    × LeadsFrom c.args.self.now (head c.args.self.now.tables.residual.network.now.graph c.index.result.now)
 ahead_is c = lead_read c.args.self.now c.args.at c.index.result.now c.requires.leads c.requires.inner c.index.ensures
 
 pub head-to-requires : goal.head-to-requires
 head-to-requires c = (ahead_is (goal.at.head-to-requires c).After-index).0.up.known
 
 -- the cursor of the node that the path goes back to stands
-stands : (c : After-index_mut) → 0 < slice_index c.args.self.now.next.items (head c.args.self.now.tables.network.now.graph c.index.result.now)
+stands : (c : After-index_mut) → 0 < slice_index c.args.self.now.next.items (head c.args.self.now.tables.residual.network.now.graph c.index.result.now)
     → (c.index_mut.result.now ≡ slice_index c.args.self.now.next.items c.head-to.result) × (0 < slice_index c.args.self.now.next.items c.head-to.result)
 stands c some =
     let p = c.args.self.now in
@@ -38,14 +38,14 @@ pub returns-clause-cursors : goal.returns-clause-cursors
 returns-clause-cursors c =
     let p = c.args.self.now in
     let there = stands (goal.at.returns-clause-cursors c).After-index_mut (ahead_is (goal.at.returns-clause-cursors c).After-index).0.cursor in
-    omega (arith, there.0, there.1, cursors_sum p.tables.network.now.graph p.next.items c.head-to.result (c.index_mut.result.now - 1) p.cursors c.head-to.ensures.known)
+    omega (arith, there.0, there.1, cursors_sum p.tables.residual.network.now.graph p.next.items c.head-to.result (c.index_mut.result.now - 1) p.cursors c.head-to.ensures.known)
 
 pub returns-clause-leads : goal.returns-clause-leads
 returns-clause-leads c =
     let p = c.args.self.now in
     let t = p.tables in
-    let f = slice_index t.flow.items in
+    let f = slice_index t.residual.flow.items in
     let marks = t.search.marks.items in
     let lead = (ahead_is (goal.at.returns-clause-leads c).After-index).1 in
-    lead_moved t.network.now.graph f t.sink marks p.next.items p.ahead.items c.head-to.result (c.index_mut.result.now - 1)
-    (subst (λ (n : ℕ). HasLead t.network.now.graph f marks p.next.items p.ahead.items t.sink n) (sym c.head-to.ensures.node) lead)
+    lead_moved t.residual.network.now.graph f t.sink marks p.next.items p.ahead.items c.head-to.result (c.index_mut.result.now - 1)
+    (subst (λ (n : ℕ). HasLead t.residual.network.now.graph f marks p.next.items p.ahead.items t.sink n) (sym c.head-to.ensures.node) lead)

@@ -19,10 +19,10 @@ index_mut-requires c =
     omega (arith, lead_known p c.args.at c.requires.leads, p.cursors.size, p.next.ok.0)
 
 -- the cursors, with the node's where it was moved to
-cursors_there : (c : After-way_back-cursor) → IsCursors c.args.self.now.tables.network.now.graph (slice_set c.args.self.now.next.items c.args.at c.way_back-cursor.result)
+cursors_there : (c : After-way_back-cursor) → IsCursors c.args.self.now.tables.residual.network.now.graph (slice_set c.args.self.now.next.items c.args.at c.way_back-cursor.result)
 cursors_there c =
     let p = c.args.self.now in
-    let g = p.tables.network.now.graph in
+    let g = p.tables.residual.network.now.graph in
     cursors_put g p.next.items c.args.at c.way_back-cursor.result p.cursors (lead_known p c.args.at c.requires.leads) (omega (arith, c.way_back-cursor.ensures.most, p.cursors.own c.args.at))
 
 pub invariant_of-self : goal.invariant_of-self
@@ -32,7 +32,7 @@ pub returns-then-cursor-eq0-clause-stays : goal.returns-then-cursor-eq0-clause-s
 returns-then-cursor-eq0-clause-stays c =
     let p = c.args.self.now in
     let t = p.tables in
-    lead_moved t.network.now.graph (slice_index t.flow.items) t.sink t.search.marks.items p.next.items p.ahead.items c.args.at c.way_back-cursor.result c.requires.leads
+    lead_moved t.residual.network.now.graph (slice_index t.residual.flow.items) t.sink t.search.marks.items p.next.items p.ahead.items c.args.at c.way_back-cursor.result c.requires.leads
 
 pub invariant_of-self-2 : goal.invariant_of-self-2
 invariant_of-self-2 c = record {
@@ -44,8 +44,8 @@ pub returns-clause-leads : goal.returns-clause-leads
 returns-clause-leads c =
     let p = c.args.self.now in
     let t = p.tables in
-    let g = t.network.now.graph in
-    let f = slice_index t.flow.items in
+    let g = t.residual.network.now.graph in
+    let f = slice_index t.residual.flow.items in
     let marks = t.search.marks.items in
     let up = c.way_back-cursor.ensures.leads (omega arith) in
     let own = c.step-step.ensures.own in
@@ -61,7 +61,7 @@ returns-clause-leads c =
 pub returns-clause-lower : goal.returns-clause-lower
 returns-clause-lower c =
     let t = c.args.self.now.tables in
-    let g = t.network.now.graph in
+    let g = t.residual.network.now.graph in
     let marks = t.search.marks.items in
     let up = c.way_back-cursor.ensures.leads (omega arith) in
     let own = c.step-step.ensures.own in

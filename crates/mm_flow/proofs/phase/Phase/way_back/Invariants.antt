@@ -4,7 +4,7 @@ use Rattle.mm_flow.proofs.phase.Phase.way_back.Given as goal
 
 abbrev pub invariant-loop-cursor : goal.invariant-loop-cursor
 invariant-loop-cursor l = record {
-  own : l.cursor ≤ degree l.self.tables.network.now.graph l.at;
+  own : l.cursor ≤ degree l.self.tables.residual.network.now.graph l.at;
   most : l.cursor ≤ slice_index l.self.next.items l.at;
 }
 

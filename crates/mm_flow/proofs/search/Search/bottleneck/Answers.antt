@@ -3,23 +3,30 @@ use Rattle.std.proofs.lemmas.List.{get_or_read}
 use Rattle.mm_flow.specs.declared.search.Mark.{Mark}
 use Rattle.mm_flow.specs.Residual.{tail, residual}
 use Rattle.mm_flow.specs.Marks.{no_mark, mark, level, HasMark, IsReached}
-use Rattle.mm_flow.specs.Levels.{HasPath}
+use Rattle.mm_flow.specs.Levels.{HasPath, Carries}
 use Rattle.mm_flow.proofs.Visiting.{marked_lt}
 use Rattle.mm_flow.proofs.LevelPaths.{path_marked, path_back, path_on}
 use Rattle.mm_flow.proofs.search.Search.bottleneck.Goals as goal
 use Rattle.mm_flow.proofs.search.Search.bottleneck.Goals.{In-loop-at, After-index}
 
--- the node that was come to is marked
+-- the path to the node that was come to can carry something
+at_path : (c : In-loop-at) → Carries c.args.residual.now c.args.self.now 1 c.loop-at.at
+at_path c = (c.loop-at.invariant.greatest 1 (omega arith) c.requires.path).1
+
+-- that node is marked
 at_marked : (c : In-loop-at) → HasMark c.args.self.now.marks.items c.loop-at.at
 at_marked c =
+    let r = c.args.residual.now in
     let s = c.args.self.now in
-    path_marked c.args.network.now.graph (slice_index c.args.flow.now) s.marks.items s.source 1 c.loop-at.at c.requires.levelled.start (c.loop-at.invariant.greatest 1 (omega arith) c.requires.path).1
+    path_marked r.network.now.graph (slice_index r.flow.items) s.marks.items s.source 1 c.loop-at.at c.requires.levelled.start (at_path c)
 
 -- it was reached by an entry
-at_reached : (c : In-loop-at) → c.loop-at.at ≢ c.args.self.now.source → IsReached c.args.network.now.graph (slice_index c.args.flow.now) c.args.self.now.marks.items 1 c.loop-at.at
+at_reached : (c : In-loop-at) → c.loop-at.at ≢ c.args.self.now.source
+    → IsReached c.args.residual.now.network.now.graph (slice_index c.args.residual.now.flow.items) c.args.self.now.marks.items 1 c.loop-at.at
 at_reached c inner =
+    let r = c.args.residual.now in
     let s = c.args.self.now in
-    (path_back c.args.network.now.graph (slice_index c.args.flow.now) s.marks.items s.source 1 c.loop-at.at inner (c.loop-at.invariant.greatest 1 (omega arith) c.requires.path).1).0
+    (path_back r.network.now.graph (slice_index r.flow.items) s.marks.items s.source 1 c.loop-at.at inner (at_path c)).0
 
 -- that is the entry that was read
 via_is : (c : After-index) → HasMark c.args.self.now.marks.items c.loop-at.at → c.index.result.now.via ≡ (mark c.args.self.now.marks.items c.loop-at.at).via
@@ -30,10 +37,10 @@ via_is c marked =
 pub index-requires : goal.index-requires
 index-requires c = omega (arith, marked_lt c.args.self.now.marks.items c.loop-at.at (at_marked (goal.at.index-requires c).In-loop-at), c.args.self.now.marks.ok.0)
 
-pub residual-requires-clause-entry : goal.residual-requires-clause-entry
-residual-requires-clause-entry c =
-    let here = (goal.at.residual-requires-clause-entry c).In-loop-at in
-    omega (arith, via_is (goal.at.residual-requires-clause-entry c).After-index (at_marked here), (at_reached here (omega arith)).known)
+pub capacity-requires : goal.capacity-requires
+capacity-requires c =
+    let here = (goal.at.capacity-requires c).In-loop-at in
+    omega (arith, via_is (goal.at.capacity-requires c).After-index (at_marked here), (at_reached here (omega arith)).known)
 
 pub tail-at-requires : goal.tail-at-requires
 tail-at-requires c =
@@ -44,21 +51,21 @@ pub loop-at-smaller : goal.loop-at-smaller
 loop-at-smaller c =
     let here = (goal.at.loop-at-smaller c).In-loop-at in
     let marks = c.args.self.now.marks.items in
-    let leaves = c.tail-at.ensures.node ∙ ap (tail c.args.network.now.graph) (via_is (goal.at.loop-at-smaller c).After-index (at_marked here)) in
+    let leaves = c.tail-at.ensures.node ∙ ap (tail c.args.residual.now.network.now.graph) (via_is (goal.at.loop-at-smaller c).After-index (at_marked here)) in
     omega (arith, (at_reached here (omega arith)).above, ap (level marks) leaves)
 
 pub loop-at-preserved : goal.loop-at-preserved
 loop-at-preserved c =
     let here = (goal.at.loop-at-preserved c).In-loop-at in
-    let g = c.args.network.now.graph in
-    let f = slice_index c.args.flow.now in
+    let g = c.args.residual.now.network.now.graph in
+    let f = slice_index c.args.residual.now.flow.items in
     let marks = c.args.self.now.marks.items in
     let source = c.args.self.now.source in
     let at = c.loop-at.at in
     let invariant = c.loop-at.invariant in
     let via = via_is (goal.at.loop-at-preserved c).After-index (at_marked here) in
     let leaves = c.tail-at.ensures.node ∙ ap (tail g) via in
-    let carries : c.residual.result ≡ residual g f (mark marks at).via = c.residual.ensures.residual ∙ ap (residual g f) via in
+    let carries : c.capacity.result ≡ residual g f (mark marks at).via = c.capacity.ensures.residual ∙ ap (residual g f) via in
     record {
       within = omega (arith, c.min-least.ensures, invariant.within);
       fits = λ amount fits path. invariant.fits amount (omega (arith, c.min-least.ensures))

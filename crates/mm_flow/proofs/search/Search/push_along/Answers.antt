@@ -29,7 +29,7 @@ loop-at-init c =
       followed = record {
         marked = path_marked g f s.marks.items s.source c.args.amount c.args.sink c.requires.levelled.start c.requires.path;
         path = c.requires.path;
-        within = c.requires.within;
+        within = c.requires.carried.within;
         most = λ k. omega arith;
         untouched = untouched_start g s.marks.items f _;
       };
@@ -46,7 +46,7 @@ push-requires-clause-fits c = (entry_ready (goal.at.push-requires-clause-fits c)
 pub push-requires-clause-small : goal.push-requires-clause-small
 push-requires-clause-small c =
     let ready = entry_ready (goal.at.push-requires-clause-small c).After-index (omega arith) in
-    omega (arith, ready.same, c.requires.small (place c.args.network.now.graph c.index.result.now.via))
+    omega (arith, ready.same, c.requires.carried.small (place c.args.network.now.graph c.index.result.now.via))
 
 pub tail-at-requires : goal.tail-at-requires
 tail-at-requires c = (entry_ready (goal.at.tail-at-requires c).After-index (omega arith)).known

@@ -1,13 +1,13 @@
-use Rattle.std.proofs.Common.{◌≡◌, ◌-◌, slice_index}
+use Rattle.std.proofs.Common.{◌≡◌, ◌-◌}
 use Rattle.mm_flow.specs.Marks.{IsSearching}
 use Rattle.mm_flow.proofs.search.Search.run_to.Given as goal
 
 abbrev pub invariant-loop-self : goal.invariant-loop-self
 invariant-loop-self l = record {
-  searching : IsSearching l.network.graph (slice_index l.flow) l.self;
+  searching : IsSearching l.residual l.self;
   source : l.self.source ≡ l.fn.self.source;
   least : l.self.least ≡ 1;
 }
 
 abbrev pub decreases-loop-self : goal.decreases-loop-self
-decreases-loop-self l = l.network.graph.nodes - l.self.done
+decreases-loop-self l = l.residual.network.now.graph.nodes - l.self.done

@@ -7,8 +7,8 @@ use Rattle.mm_flow.proofs.search.Search.start.Goals as goal
 
 pub returns-clause-begun : goal.returns-clause-begun
 returns-clause-begun c =
-    let g = c.args.network.now.graph in
+    let g = c.args.residual.now.network.now.graph in
     let s = c.args.self.now in
     let start : Mark = record { level = 1; via = 0 } in
     let cleared : take s.marks.len (c.clear.new.marks ++ drop (length c.clear.new.marks) s.marks.items) ≡ replicate g.nodes no_mark = grind (arith, common_steps) in
-    rw cleared (search_begun g (slice_index c.args.flow.now) s.source c.args.least s.order.items start c.requires.source c.requires.order refl)
+    rw cleared (search_begun g (slice_index c.args.residual.now.flow.items) s.source c.args.least s.order.items start c.requires.fits.source c.requires.fits.order refl)

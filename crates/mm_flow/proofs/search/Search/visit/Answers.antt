@@ -1,4 +1,4 @@
-use Rattle.std.proofs.Common.{◌≡◌, ℕ, ◌+◌, ◌<◌, slice_index, ap, sym, ◌∙◌, subst, arith, inl, inr}
+use Rattle.std.proofs.Common.{◌≡◌, ℕ, ◌<◌, slice_index, ap, sym, ◌∙◌, subst, arith, inl, inr}
 use Rattle.std.proofs.lemmas.List.{get_or_read}
 use Rattle.std.proofs.lemmas.Bool.{cases_eq}
 use Rattle.mm_flow.specs.declared.links.Step.{Step}
@@ -8,90 +8,62 @@ use Rattle.mm_flow.specs.Marks.{level}
 use Rattle.mm_flow.proofs.Linking.{end_is, end-most, spot_within}
 use Rattle.mm_flow.proofs.Visiting.{marked_lt, goes_on_same, goes_on_further, search_next}
 use Rattle.mm_flow.proofs.search.Search.visit.Goals as goal
-use Rattle.mm_flow.proofs.search.Search.visit.Goals.{After-index-node, After-index-first, After-index-end, After-index-step}
+use Rattle.mm_flow.proofs.search.Search.visit.Goals.{After-index-node, After-index-step}
 
 -- the node that waits next
 node_is : (c : After-index-node) → c.index-node.result.now ≡ slice_index c.args.self.now.order.items c.args.self.now.done
 node_is c = get_or_read c.args.self.now.order.items c.args.self.now.done c.index-node.result.now (omega (arith, c.requires.search.count, c.requires.search.order_size, c.requires.waits)) c.index-node.ensures 0
 
 -- it is a node of the network
-node_lt : (c : After-index-node) → c.index-node.result.now < c.args.network.now.graph.nodes
+node_lt : (c : After-index-node) → c.index-node.result.now < c.args.residual.now.network.now.graph.nodes
 node_lt c =
     let s = c.args.self.now in
     omega (arith, node_is c, marked_lt s.marks.items (slice_index s.order.items s.done) (c.requires.search.queued s.done c.requires.waits), c.requires.search.marking.size)
 
--- where its steps begin
-first_is : (c : After-index-first) → c.index-node.result.now < c.args.network.now.graph.nodes → c.index-first.result.now ≡ start c.args.network.now.graph c.index-node.result.now
-first_is c known =
-    get_or_read c.args.links.now.first.items c.index-node.result.now c.index-first.result.now (omega (arith, c.requires.linked.table_size)) c.index-first.ensures 0
-    ∙ c.requires.linked.starts c.index-node.result.now (omega arith)
-
--- where its steps end
-end_there : (c : After-index-end) → c.index-node.result.now < c.args.network.now.graph.nodes → c.index-end.result.now ≡ end c.args.network.now.graph c.index-node.result.now
-end_there c known =
-    get_or_read c.args.links.now.first.items (c.index-node.result.now + 1) c.index-end.result.now (omega (arith, c.requires.linked.table_size)) c.index-end.ensures 0
-    ∙ c.requires.linked.starts (c.index-node.result.now + 1) (omega arith) ∙ end_is c.args.network.now.graph c.index-node.result.now
-
 -- a step of the node that waits next
-own_step : (c : After-index-step) → c.loop-at.at < c.index-end.result.now
-    → (c.index-step.result.now ≡ step c.args.links.now.steps.items c.loop-at.at) × IsStep c.args.network.now.graph c.index-node.result.now c.index-step.result.now
+own_step : (c : After-index-step) → c.loop-at.at < c.start-end.result
+    → (c.index-step.result.now ≡ step c.args.residual.now.links.steps.items c.loop-at.at) × IsStep c.args.residual.now.network.now.graph c.index-node.result.now c.index-step.result.now
 own_step c below =
-    let g = c.args.network.now.graph in
-    let steps = c.args.links.now.steps.items in
+    let g = c.args.residual.now.network.now.graph in
+    let steps = c.args.residual.now.links.steps.items in
     let invariant = c.loop-at.invariant in
-    let read = get_or_read steps c.loop-at.at c.index-step.result.now (omega (arith, below, invariant.ends, c.requires.linked.steps_size, end-most g c.index-node.result.now)) c.index-step.ensures no_step in
-    (read, subst (λ (s : Step). IsStep g c.index-node.result.now s) (sym read) (c.requires.linked.own c.index-node.result.now c.loop-at.at invariant.known invariant.from (omega (arith, below, invariant.ends))))
+    let read = get_or_read steps c.loop-at.at c.index-step.result.now (omega (arith, below, invariant.ends, c.args.residual.now.sound.linked.steps_size, end-most g c.index-node.result.now)) c.index-step.ensures no_step in
+    (read, subst (λ (s : Step). IsStep g c.index-node.result.now s) (sym read) (c.args.residual.now.sound.linked.own c.index-node.result.now c.loop-at.at invariant.known invariant.from (omega (arith, below, invariant.ends))))
 
-pub index-first-requires : goal.index-first-requires
-index-first-requires c = omega (arith, node_lt (goal.at.index-first-requires c).After-index-node, c.requires.linked.table_size, c.args.links.now.first.ok.0)
+pub start-first-requires : goal.start-first-requires
+start-first-requires c = omega (arith, node_lt (goal.at.start-first-requires c).After-index-node)
 
-pub index-end-requires : goal.index-end-requires
-index-end-requires c = omega (arith, node_lt (goal.at.index-end-requires c).After-index-node, c.requires.linked.table_size, c.args.links.now.first.ok.0)
+pub start-end-requires : goal.start-end-requires
+start-end-requires c = omega (arith, node_lt (goal.at.start-end-requires c).After-index-node)
 
 pub loop-at-init : goal.loop-at-init
-loop-at-init c =
-    let known = node_lt (goal.at.loop-at-init c).After-index-node in
-    let first = first_is (goal.at.loop-at-init c).After-index-first known in
-    record {
-      known = known;
-      ends = end_there (goal.at.loop-at-init c).After-index-end known;
-      searching = c.requires.search;
-      goes_on = goes_on_same c.args.self.now;
-      from = omega (arith, first);
-      swept = λ i up below fits. absurd (omega (arith, first, up, below));
-    }
+loop-at-init c = record {
+  known = node_lt (goal.at.loop-at-init c).After-index-node;
+  ends = c.start-end.ensures ∙ end_is c.args.residual.now.network.now.graph c.index-node.result.now;
+  searching = c.requires.search;
+  goes_on = goes_on_same c.args.self.now;
+  from = omega (arith, c.start-first.ensures);
+  swept = λ i up below fits. absurd (omega (arith, c.start-first.ensures, up, below));
+}
 
 pub index-step-requires : goal.index-step-requires
 index-step-requires c =
-    omega (arith, c.loop-at.invariant.ends, end-most c.args.network.now.graph c.index-node.result.now, c.requires.linked.steps_size, c.args.links.now.steps.ok.0)
+    omega (arith, c.loop-at.invariant.ends, end-most c.args.residual.now.network.now.graph c.index-node.result.now, c.args.residual.now.sound.linked.steps_size, c.args.residual.now.links.steps.ok.0)
 
-pub reach-requires-clause-entry : goal.reach-requires-clause-entry
-reach-requires-clause-entry c = (own_step (goal.at.reach-requires-clause-entry c).After-index-step (omega arith)).1.known
-
-pub reach-requires-clause-leaves : goal.reach-requires-clause-leaves
-reach-requires-clause-leaves c = sym (own_step (goal.at.reach-requires-clause-leaves c).After-index-step (omega arith)).1.leaves
-
-pub reach-requires-clause-leads : goal.reach-requires-clause-leads
-reach-requires-clause-leads c = (own_step (goal.at.reach-requires-clause-leads c).After-index-step (omega arith)).1.leads
-
-pub reach-requires-clause-node : goal.reach-requires-clause-node
-reach-requires-clause-node c = c.loop-at.invariant.known
-
-pub reach-requires-clause-to : goal.reach-requires-clause-to
-reach-requires-clause-to c = (own_step (goal.at.reach-requires-clause-to c).After-index-step (omega arith)).1.there
+pub reach-requires-clause-own : goal.reach-requires-clause-own
+reach-requires-clause-own c = (own_step (goal.at.reach-requires-clause-own c).After-index-step (omega arith)).1
 
 pub reach-requires-clause-from : goal.reach-requires-clause-from
 reach-requires-clause-from c =
     let s = c.args.self.now in
-    let now = c.loop-at.self.marks.items in
-    let here = c.loop-at.invariant.goes_on.marked c.index-node.result.now (omega (arith, c.requires.search.queued s.done c.requires.waits, ap (level s.marks.items) (node_is (goal.at.reach-requires-clause-from c).After-index-node))) in
-    omega (arith, here, ap (level now) (own_step (goal.at.reach-requires-clause-from c).After-index-step (omega arith)).1.leaves)
+    c.loop-at.invariant.goes_on.marked c.index-node.result.now
+    (omega (arith, c.requires.search.queued s.done c.requires.waits, ap (level s.marks.items) (node_is (goal.at.reach-requires-clause-from c).After-index-node)))
 
 pub loop-at-preserved : goal.loop-at-preserved
 loop-at-preserved c =
-    let g = c.args.network.now.graph in
-    let f = slice_index c.args.flow.now in
-    let steps = c.args.links.now.steps.items in
+    let g = c.args.residual.now.network.now.graph in
+    let f = slice_index c.args.residual.now.flow.items in
+    let steps = c.args.residual.now.links.steps.items in
     let own = own_step (goal.at.loop-at-preserved c).After-index-step (omega arith) in
     let entry_is = ap (λ (s : Step). s.entry) own.0 in
     let invariant = c.loop-at.invariant in
@@ -112,10 +84,10 @@ loop-at-preserved c =
 
 pub returns-clause-search : goal.returns-clause-search
 returns-clause-search c =
-    let g = c.args.network.now.graph in
-    let f = slice_index c.args.flow.now in
+    let g = c.args.residual.now.network.now.graph in
+    let f = slice_index c.args.residual.now.flow.items in
     let s = c.loop-at.self in
-    let steps = c.args.links.now.steps.items in
+    let steps = c.args.residual.now.links.steps.items in
     let at_node = c.index-node.result.now in
     let invariant = c.loop-at.invariant in
     let node = node_is (goal.at.returns-clause-search c).After-index-node in
@@ -123,6 +95,6 @@ returns-clause-search c =
     search_next g f s.source s.least s.marks.items s.order.items s.found s.done at_node invariant.searching (omega (arith, invariant.goes_on.done, invariant.goes_on.found, c.requires.waits)) here
     (λ e there leaves fits.
     let within = spot_within g e there in
-    let stands = c.requires.linked.each e there in
+    let stands = c.args.residual.now.sound.linked.each e there in
     let marked = invariant.swept (spot g e) (omega (arith, within.0, ap (start g) leaves)) (omega (arith, within.1, ap (end g) leaves, invariant.ends)) (omega (arith, fits, ap (residual g f) stands)) in
     omega (arith, marked, ap (λ (d : ℕ). level s.marks.items (head g d)) stands))

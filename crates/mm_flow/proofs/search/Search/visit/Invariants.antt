@@ -5,11 +5,15 @@ use Rattle.mm_flow.specs.Marks.{IsSearching, GoesOn, HasMark}
 use Rattle.mm_flow.proofs.search.Search.visit.Given as goal
 
 abbrev pub invariant-loop-at : goal.invariant-loop-at
-invariant-loop-at l = record {
-  searching : IsSearching l.network.graph (slice_index l.flow) l.self;
-  goes_on : GoesOn l.initial.self l.self;
-  known : l.node < l.network.graph.nodes;
-  ends : l.end ≡ end l.network.graph l.node;
-  from : start l.network.graph l.node ≤ l.at;
-  swept : (i : ℕ) → start l.network.graph l.node ≤ i → i < l.at → l.self.least ≤ residual l.network.graph (slice_index l.flow) (step l.links.steps.items i).entry → HasMark l.self.marks.items (head l.network.graph (step l.links.steps.items i).entry);
-}
+invariant-loop-at l =
+    let g = l.residual.network.now.graph in
+    let entry = λ (i : ℕ). (step l.residual.links.steps.items i).entry in
+    record {
+      searching : IsSearching l.residual l.self;
+      goes_on : GoesOn l.initial.self l.self;
+      known : l.node < g.nodes;
+      ends : l.end ≡ end g l.node;
+      from : start g l.node ≤ l.at;
+      swept : (i : ℕ) → start g l.node ≤ i → i < l.at → l.self.least ≤ residual g (slice_index l.residual.flow.items) (entry i)
+          → HasMark l.self.marks.items (head g (entry i));
+    }

@@ -1,33 +1,25 @@
-use Rattle.std.proofs.Common.{ℕ, ◌+◌, List, subst, sym, arith}
-use Rattle.std.proofs.lemmas.List.{with_items_is}
-use Rattle.mm_flow.specs.Tables.{IsAtWork}
+use Rattle.std.proofs.Common.{◌+◌, arith}
 use Rattle.mm_flow.proofs.Working.{value_small, flow_small, work_more}
 use Rattle.mm_flow.proofs.tables.Tables.augment.Goals as goal
-use Rattle.mm_flow.proofs.tables.Tables.augment.Goals.{After-deref_mut}
 
--- the flow that is lent is that of the tables
-work_there : (c : After-deref_mut) → IsAtWork c.args.self.now.network.now.graph c.args.self.now.sink c.args.self.now.links c.args.self.now.search c.deref_mut.result.now c.args.self.now.value
-work_there c =
+pub push_along-requires-clause-small : goal.push_along-requires-clause-small
+push_along-requires-clause-small c =
     let t = c.args.self.now in
-    subst (λ (flow : List ℕ). IsAtWork t.network.now.graph t.sink t.links t.search flow t.value) (sym c.deref_mut.ensures.value) t.at_work
-
-pub augment-amount-requires-clause-small : goal.augment-amount-requires-clause-small
-augment-amount-requires-clause-small c =
-    let t = c.args.self.now in
-    flow_small t.network.now.graph t.sink t.links t.search c.deref_mut.result.now t.value (work_there (goal.at.augment-amount-requires-clause-small c).After-deref_mut)
+    flow_small t.residual.network.now.graph t.sink t.search t.residual.flow.items t.value t.at_work
 
 pub overflow_add-self : goal.overflow_add-self
 overflow_add-self c =
     let t = c.args.self.now in
-    omega (arith, c.augment-amount.ensures.positive.1, value_small t.network.now.graph t.sink t.links t.search t.flow.items t.value t.at_work)
+    omega (arith, c.bottleneck-amount.ensures.within, value_small t.residual.network.now.graph t.sink t.search t.residual.flow.items t.value t.at_work)
+
+pub returns-clause-more : goal.returns-clause-more
+returns-clause-more c = omega (arith, c.bottleneck-amount.ensures.greatest 1 (omega arith) c.requires.way)
 
 pub invariant_of-self : goal.invariant_of-self
 invariant_of-self c =
     let t = c.args.self.now in
-    let work = work_there (goal.at.invariant_of-self c).After-deref_mut in
-    let written = with_items_is t.flow c.augment-amount.new.flow (omega (arith, c.augment-amount.auto.flow, c.deref_mut.ensures.len, t.flow.ok.0)) in
-    let more = t.value + c.augment-amount.result in
-    record {
-      at_work = subst (λ (flow : List ℕ). IsAtWork t.network.now.graph t.sink t.links t.search flow more) (sym written)
-          (work_more t.network.now.graph t.sink t.links t.search c.deref_mut.result.now t.value work c.augment-amount.new.flow more (omega (arith, c.augment-amount.auto.flow, work.arcs)) (c.augment-amount.ensures.augmented t.value work.augmented));
-    }
+    let g = t.residual.network.now.graph in
+    let more = t.value + c.bottleneck-amount.result in
+    rw c.push_along.ensures.network (record {
+      at_work = work_more g t.sink t.search t.residual.flow.items t.value t.at_work c.push_along.new.self.flow.items more (c.push_along.ensures.augmented t.value t.at_work.augmented);
+    })

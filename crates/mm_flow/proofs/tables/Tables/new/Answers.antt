@@ -3,66 +3,68 @@ use Rattle.std.proofs.lemmas.List.{get_or_read}
 use Rattle.mm_flow.specs.declared.search.Mark.{Mark}
 use Rattle.mm_flow.specs.declared.limits.TheConstants.{UNLIMITED}
 use Rattle.mm_flow.specs.Solution.{HasUnlimitedPath}
-use Rattle.mm_flow.specs.Marks.{no_mark, mark, HasMark, IsSearched}
+use Rattle.mm_flow.specs.Marks.{no_mark, level}
 use Rattle.mm_flow.proofs.Marking.{slice_index-nothing}
 use Rattle.mm_flow.proofs.Ends.{value_bounded, nothing_augmented, unlimited_path, no_unlimited_path}
 use Rattle.mm_flow.proofs.LevelPaths.{marking_levelled}
 use Rattle.mm_flow.proofs.tables.Tables.new.Goals as goal
 use Rattle.mm_flow.proofs.tables.Tables.new.Goals.{After-run, After-index}
 
--- the flow that the search goes by carries nothing
-nothing_there : (c : After-run) → (k : ℕ) → slice_index c.deref.result.now k ≡ 0
-nothing_there c k =
-    let items : c.deref.result.now ≡ replicate c.arc_count.result 0 = search rules in
-    ap (λ (xs : List ℕ). slice_index xs k) items ∙ slice_index-nothing c.arc_count.result k
+-- a flow of zeros carries nothing
+nothing_in : (items : List ℕ) (count : ℕ) → items ≡ replicate count 0 → (k : ℕ) → slice_index items k ≡ 0
+nothing_in items count same k = ap (λ (xs : List ℕ). slice_index xs k) same ∙ slice_index-nothing count k
 
--- the search, from the source that it has
-searched_there : (c : After-run) → IsSearched c.args.network.now.graph (slice_index c.deref.result.now) c.run.new.self.source UNLIMITED c.run.new.self.marks.items
-searched_there c =
-    subst (λ (s : ℕ). IsSearched c.args.network.now.graph (slice_index c.deref.result.now) s UNLIMITED c.run.new.self.marks.items) (sym c.run.ensures.source) c.run.ensures.searched
-
--- that source
+-- the source of the search
 source_is : (c : After-run) → c.run.new.self.source ≡ c.args.source
 source_is c = c.run.ensures.source ∙ c.in_ok-search.ensures.source
 
 -- the level of the sink
-level_is : (c : After-index) → c.index.result.now.level ≡ (mark c.run.new.self.marks.items c.args.sink).level
+level_is : (c : After-index) → c.index.result.now.level ≡ level c.run.new.self.marks.items c.args.sink
 level_is c =
-    ap (λ (m : Mark). m.level) (get_or_read c.run.new.self.marks.items c.args.sink c.index.result.now (omega (arith, c.run.ensures.searched.marking.size, c.requires.sink)) c.index.ensures no_mark)
+    let marks = c.run.new.self.marks.items in
+    ap (λ (m : Mark). m.level) (get_or_read marks c.args.sink c.index.result.now (omega (arith, c.run.ensures.fits.marks, c.requires.sink)) c.index.ensures no_mark)
 
 pub returns-then-index-gt0-clause-refused : goal.returns-then-index-gt0-clause-refused
 returns-then-index-gt0-clause-refused c =
     let g = c.args.network.now.graph in
-    let run = (goal.at.returns-then-index-gt0-clause-refused c).After-run in
-    let marks = c.run.new.self.marks.items in
-    let has : HasMark marks c.args.sink = omega (arith, level_is (goal.at.returns-then-index-gt0-clause-refused c).After-index, c.if-index-gt0.true) in
+    let s = c.run.new.self in
+    let here = goal.at.returns-then-index-gt0-clause-refused c in
+    let level = level_is here.After-index in
+    let path = unlimited_path g s.source c.args.sink (slice_index c.in_ok-flow.flow.items) s.marks.items c.arc_count.ensures.network (nothing_in c.in_ok-flow.flow.items c.arc_count.result (search rules)) c.run.ensures.searched (omega (arith, level, c.if-index-gt0.true)) in
     record {
       same_ends = search rules;
-      unbounded = λ same. (c.if-source-sink.false, subst (λ (s : ℕ). HasUnlimitedPath g s c.args.sink) (source_is run) (unlimited_path g c.run.new.self.source c.args.sink (slice_index c.deref.result.now) marks c.arc_count.ensures.network (nothing_there run) (searched_there run) has));
+      unbounded = λ same. (c.if-source-sink.false, subst (λ (n : ℕ). HasUnlimitedPath g n c.args.sink) (source_is here.After-run) path);
       bounded = search rules;
+    }
+
+pub invariant_of-residual : goal.invariant_of-residual
+invariant_of-residual c =
+    let nothing = nothing_in c.in_ok-flow.flow.items c.arc_count.result (search rules) in
+    record {
+      sound = record {
+        linked = c.in_ok-links.ensures;
+        arcs = omega (arith, c.in_ok-flow.ensures.len, c.arc_count.ensures.count);
+        within = λ k most is. omega (arith, nothing k);
+      };
     }
 
 pub invariant_of-result : goal.invariant_of-result
 invariant_of-result c =
     let g = c.args.network.now.graph in
-    let nothing = slice_index c.deref.result.now in
-    let source = c.run.new.self.source in
-    let marks = c.run.new.self.marks.items in
-    let run = (goal.at.invariant_of-result c).After-run in
-    let level = level_is (goal.at.invariant_of-result c).After-index in
-    let searched = searched_there run in
-    let flow : c.in_ok-flow.flow.items ≡ c.deref.result.now = search rules in
+    let s = c.run.new.self in
+    let flow = slice_index c.in_ok-flow.flow.items in
+    let here = goal.at.invariant_of-result c in
+    let level = level_is here.After-index in
+    let nothing = nothing_in c.in_ok-flow.flow.items c.arc_count.result (search rules) in
+    let searched = c.run.ensures.searched in
     record {
       at_work = record {
-        ends = λ same. c.if-source-sink.false (sym (source_is run) ∙ same);
-        source_known = omega (arith, source_is run);
+        ends = λ same. c.if-source-sink.false (sym (source_is here.After-run) ∙ same);
         sink_known = c.requires.sink;
-        linked = c.in_ok-links.ensures;
-        levelled = marking_levelled g nothing source UNLIMITED marks searched.marking;
-        order = c.run.ensures.order;
-        arcs = omega (arith, c.in_ok-flow.ensures.len, c.arc_count.ensures.count);
-        bounded = value_bounded g source c.args.sink nothing marks c.arc_count.ensures.network searched (λ has. omega (arith, level, has, c.if-index-gt0.false));
-        augmented = nothing_augmented g source c.args.sink (slice_index c.in_ok-flow.flow.items) (λ k. ap (λ (xs : List ℕ). slice_index xs k) flow ∙ nothing_there run k);
+        fits = c.run.ensures.fits;
+        levelled = marking_levelled g flow s.source UNLIMITED s.marks.items searched.marking;
+        bounded = value_bounded g s.source c.args.sink flow s.marks.items c.arc_count.ensures.network searched (λ has. omega (arith, level, has, c.if-index-gt0.false));
+        augmented = nothing_augmented g s.source c.args.sink flow nothing;
       };
     }
 
@@ -72,11 +74,12 @@ returns-clause-task c = record { graph = refl; source = source_is (goal.at.retur
 pub returns-clause-refused : goal.returns-clause-refused
 returns-clause-refused c =
     let g = c.args.network.now.graph in
-    let run = (goal.at.returns-clause-refused c).After-run in
-    let level = level_is (goal.at.returns-clause-refused c).After-index in
-    let none = no_unlimited_path g c.run.new.self.source c.args.sink (slice_index c.deref.result.now) c.run.new.self.marks.items (searched_there run) (λ has. omega (arith, level, has, c.if-index-gt0.false)) in
+    let s = c.run.new.self in
+    let here = goal.at.returns-clause-refused c in
+    let level = level_is here.After-index in
+    let none = no_unlimited_path g s.source c.args.sink (slice_index c.in_ok-flow.flow.items) s.marks.items c.run.ensures.searched (λ has. omega (arith, level, has, c.if-index-gt0.false)) in
     record {
       same_ends = search rules;
       unbounded = search rules;
-      bounded = subst (λ (s : ℕ). ¬ HasUnlimitedPath g s c.args.sink) (source_is run) none;
+      bounded = subst (λ (n : ℕ). ¬ HasUnlimitedPath g n c.args.sink) (source_is here.After-run) none;
     }
