@@ -106,4 +106,5 @@ vectors:
         .balign 4096
 table:  .quad   0x00000401
         .quad   0x40000705
-        .quad   0, 0
+        .quad   0x80000705
+        .quad   0xC0000705
