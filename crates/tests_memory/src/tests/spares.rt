@@ -17,6 +17,27 @@ fn lent<'a>(rt: &impl Host, octets: &'a [u8]) -> LentPacket<'a> {
     packet
 }
 
+// A packet in memory of its own.
+fn in_block(rt: &impl Host, octets: &[u8]) -> BlockPacket {
+    let packet = lent(rt, octets);
+    assert!(rt; packet.fits_block(), "a block");
+    BlockPacket::lent(rt.alloc(), &packet).expect(rt, "memory")
+}
+
+// A packet in the memory of another.
+fn in_place_of(rt: &impl Host, block: BlockPacket, octets: &[u8]) -> Option<BlockPacket> {
+    let packet = lent(rt, octets);
+    assert!(rt; packet.fits_block(), "a block");
+    block.replaced(&packet)
+}
+
+// Whether there is a spare for a packet.
+fn is_spare(rt: &impl Host, spare: &mut Spare) -> bool {
+    let packet = lent(rt, &ROUTED);
+    assert!(rt; packet.fits_block(), "a block");
+    spare.take(&packet).is_some()
+}
+
 // A packet that is read without memory is the one that is read with memory, in new memory and in that of another.
 #[test]
 fn a_lent_packet_is_the_packet(rt: HostRuntime) {
@@ -26,11 +47,10 @@ fn a_lent_packet_is_the_packet(rt: HostRuntime) {
         TELECOMMAND.as_slice(),
     ] {
         let (parsed, _rest) = Packet::parse(rt.alloc(), octets).expect(&rt, "a packet");
-        let packet = lent(&rt, octets);
-        let block = BlockPacket::lent(rt.alloc(), &packet).expect(&rt, "memory");
+        let block = in_block(&rt, octets);
         let other = BlockPacket::with_room(rt.alloc()).expect(&rt, "memory");
-        let replaced = other.replaced(&packet).expect(&rt, "a sole packet");
-        assert!(&rt; packet.fits_block() && block.packet().is(&parsed) && replaced.is(&block));
+        let replaced = in_place_of(&rt, other, octets).expect(&rt, "a sole packet");
+        assert!(&rt; block.packet().is(&parsed) && replaced.is(&block));
     }
 }
 
@@ -41,12 +61,20 @@ fn shared_memory_is_not_replaced(rt: HostRuntime) {
     assert!(&rt; packet.owners() == 1);
     let copy = packet.copy(rt.alloc()).expect(&rt, "memory");
     assert!(&rt; packet.owners() == 2);
-    assert!(&rt; packet.replaced(&lent(&rt, &ROUTED)).is_none());
-    assert!(&rt; copy.owners() == 1 && copy.replaced(&lent(&rt, &ROUTED)).is_some());
+    assert!(&rt; in_place_of(&rt, packet, &ROUTED).is_none());
+    assert!(&rt; copy.owners() == 1 && in_place_of(&rt, copy, &ROUTED).is_some());
 }
 
 fn hands_back(rt: &impl Host, memory: &Memory, octets: &[u8], want: bool) {
     assert!(rt; memory.hands_back(&lent(rt, octets)) == want, "{octets:?}");
+}
+
+// Records telemetry that is routed to SCI.
+fn record(rt: &impl Host, memory: &mut Memory, now: u64, spare: &mut Spare) {
+    let block = in_block(rt, &ROUTED);
+    memory
+        .record_owned(rt.alloc(), now, block, spare)
+        .expect(rt, "memory");
 }
 
 // SCI, which is bounded, hands back what it loses or refuses; what goes to no store comes back too.
@@ -58,20 +86,14 @@ fn packets_that_are_handed_back(rt: HostRuntime) {
     let mut spare = Spare::none();
     for now in 1..5 {
         hands_back(&rt, &memory, &ROUTED, false);
-        let block = BlockPacket::lent(rt.alloc(), &lent(&rt, &ROUTED)).expect(&rt, "memory");
-        memory
-            .record_owned(rt.alloc(), now, block, &mut spare)
-            .expect(&rt, "memory");
+        record(&rt, &mut memory, now, &mut spare);
     }
-    assert!(&rt; spare.take(&lent(&rt, &ROUTED)).is_none());
+    assert!(&rt; !is_spare(&rt, &mut spare));
     hands_back(&rt, &memory, &ROUTED, true);
     hands_back(&rt, &memory, &UNROUTED, true);
     hands_back(&rt, &memory, &TELECOMMAND, true);
-    let block = BlockPacket::lent(rt.alloc(), &lent(&rt, &ROUTED)).expect(&rt, "memory");
-    memory
-        .record_owned(rt.alloc(), 9, block, &mut spare)
-        .expect(&rt, "memory");
-    assert!(&rt; spare.take(&lent(&rt, &ROUTED)).is_some());
+    record(&rt, &mut memory, 9, &mut spare);
+    assert!(&rt; is_spare(&rt, &mut spare));
     memory.state_mut(&sci).expect(&rt, "a store").disable();
     hands_back(&rt, &memory, &ROUTED, true);
 }
