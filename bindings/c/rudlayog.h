@@ -106,7 +106,7 @@ enum {
     RUDLAYOG_VERSION_STACK = 1024,
     RUDLAYOG_FIELDS_STACK = 4096,     /* for rudlayog_request_write and rudlayog_report_read */
     RUDLAYOG_OPEN_STACK = 2621440,    /* for rudlayog_memory_open */
-    RUDLAYOG_MEMORY_STACK = 8192,     /* for each other call on a memory */
+    RUDLAYOG_MEMORY_STACK = 12288,    /* for each other call on a memory */
     RUDLAYOG_FLAT_STACK = 114688,     /* for each call, where the setup is flat */
     RUDLAYOG_FLAT_OPEN_STACK = 16384, /* for rudlayog_memory_open and rudlayog_ask, where it is */
     /* On 64-bit Arm and RISC-V those of flat setups and of memories hold too; what nested setups take there is not measured. */
