@@ -82,7 +82,7 @@ class Memories(unittest.TestCase):
             # A request that has no report is carried out.
             self.assertEqual(memory.apply(1, telecommand(2, one)), (None,))
             self.assertFalse(memory.state("SCI").storage)
-            self.assertEqual(memory.waiting(), 2)
+            self.assertEqual((memory.waiting(), memory.refused()), (2, 0))
             # The refused ones were not counted: the sequence counts of the packets go on (CCSDS 133.0-B, 4.1.3.4).
             first = next(memory.reports())
             self.assertEqual(memory.apply(1, telecommand(12, one, one)), (None, None))
