@@ -34,6 +34,7 @@ pub record Applies (octets : List ℕ) (now : ℕ) (s t : Serving) (count : ℕ)
       ≡ with_reports asked (reports_on request now s.memory) (queue_of s.counts s.waiting)
   pub bounded : KeepsBound s t
   pub bound : t.bound ≡ s.bound
+  pub refused : t.refused ≡ s.refused
 
 -- the octets ask a request whose reports may not wait
 pub record PassesBound (octets : List ℕ) (s : Serving) : Type 0 where

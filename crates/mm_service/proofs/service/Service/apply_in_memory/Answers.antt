@@ -57,6 +57,7 @@ returns-clause-applied c =
       waits = waits;
       bounded = keeps_bound asked request c.args.now s t c.in_ok-admit.ensures.may waits;
       bound = search rules;
+      refused = search rules;
     } in
     applied
 
