@@ -7,19 +7,21 @@
 #   end with status 0, or with N under `<!-- session N -->`;
 # - the commands of a fenced block in which a line begins with `./mm_tool ` are run, and each must end with status 0, or with N
 #   under `<!-- status N -->`;
-# - each file that a link or a path of any document names is there;
-# - each heading of a page of docs/ that a document cites (docs/PAGE.md, 'Heading') is there;
+# - the commands of a fenced block under `<!-- unproved -->` are run in the same way where the toolchain is installed;
+# - each command of README.md that names a file of the repository names one that can be run;
+# - each file that a link or a path of any document names is there, and so is each heading that a document, a source or a script cites:
+#   docs/links;
 # - each name in code style in a crate's README stands in the sources of that crate, or of another that it names; the table of crates of
-#   docs/LAYERS.md has those of crates.txt; and each promise of docs/PROMISES.md names something of its crates;
+#   docs/ARCHITECTURE.md has those of crates.txt; and each promise of docs/PROMISES.md names something of its crates;
 # - each must-fail edit is named in docs/PROMISES.md in a sentence that begins with 'Refused:', each edit named there is there, each promise
 #   names one, and there are at most as many as the gate has time for;
 # - each must-fail edit changes a function that the program or the library for C runs: docs/reached;
-# - each name in code style in docs/TOUR.md, docs/READING.md and docs/LAYERS.md stands in some source;
+# - each name in code style in docs/ARCHITECTURE.md, docs/READING.md and docs/PROMISES.md stands in some source;
 # - each definition that a clause of a public function or docs/PROMISES.md names has words: docs/definitions;
-# - each function of a picture of docs/TOUR.md stands in the file that stands beside it;
+# - each function of a picture of docs/ARCHITECTURE.md stands in the file that stands beside it;
 # - each refusal of mm_base's table has one row in the tables of refusals of docs/FORMATS.md, with its number, its name and the
-#   words of mm_told, and what `check` finds has a row with its words; docs/CONTRIBUTING.md, 'Where each refusal is met' names a test for
-#   each, and that test and its crate are there.
+#   words of mm_told, and what `check` finds has a row with its words; docs/refusals.txt names a test for each, and that test
+#   and its crate are there.
 # The commands of one document are run one after another in one new folder, in which the top of the repository is seen, but not its
 # folder out.
 # The program must be built from the sources that are there: `./mm_tool --help` builds it. Prints one line where all is well.
@@ -126,6 +128,15 @@ check_commands() {
   done <"$work/block"
 }
 
+# What the toolchain runs without a proof takes a minute or two, and needs no built program.
+check_unproved() {
+  if command -v rt >/dev/null; then
+    check_commands 0
+  else
+    echo "docs: $place is passed over: the command rt is not installed"
+  fi
+}
+
 when_built() {
   if [ "$is_ready" = 1 ]; then "$@"; else unbuilt=$((unbuilt + 1)); fi
 }
@@ -137,13 +148,14 @@ check_block() {
     output*) when_built check_output "$marker" ;;
     session*) when_built check_session "$marker" ;;
     status*) when_built check_commands "${marker#status }" ;;
+    unproved) check_unproved ;;
     *) if grep -q '^\./mm_tool ' "$work/block"; then when_built check_commands 0; fi ;;
   esac
   marker=""
 }
 
 check_blocks() {
-  local line fenced=0 number=0 marker="" marked='^<!-- ((file|output|output [0-9]+): .*|(status|session) [0-9]+|session) -->$'
+  local line fenced=0 number=0 marker="" marked='^<!-- ((file|output|output [0-9]+): .*|(status|session) [0-9]+|session|unproved) -->$'
   while IFS= read -r line || [ -n "$line" ]; do
     number=$((number + 1))
     case $fenced$line in
@@ -161,27 +173,19 @@ check_blocks() {
   done <"$top/$document"
 }
 
-# The files that the links and the paths of the document name. A path with a word in capitals for a folder is a pattern.
-check_paths() {
-  local path
-  while IFS= read -r path; do
-    [ -e "$top/$(dirname "$document")/$path" ] || fail "$document: no file for the link $path"
-  done < <(grep -oE '\]\([^)#: ]+' "$top/$document" | sed 's/^](//' | sort -u)
-  while IFS= read -r path; do
-    [ -e "$top/$path" ] || fail "$document: there is no $path"
-  done < <(grep -oE '(^|[ `(])(docs|examples|bench|bindings|crates)/[A-Za-z0-9_./-]+' "$top/$document" |
-    sed -E 's/^[ `(]//; s/[./]+$//' | grep -vE '/(NAME|THING|out)(/|$)' | sort -u)
+# The links, paths and headings that documents, sources and scripts name.
+check_links() {
+  local line
+  "$top/docs/links" >"$work/broken" 2>&1 && return
+  while IFS= read -r line; do fail "$line"; done <"$work/broken"
 }
 
-# The headings that the document cites, as docs/PAGE.md, 'Heading' or 'Heading' and 'Heading'.
-check_headings() {
-  local cited page heading
-  while IFS= read -r cited; do
-    page=${cited%%,*}
-    while IFS= read -r heading; do
-      grep -qE "^#+ $heading( \\(.*\\))?\$" "$top/docs/${page#docs/}" || fail "$document: $page has no heading '$heading'"
-    done < <(grep -oE "'[^']+'" <<<"${cited#*,}" | tr -d "'")
-  done < <(tr -s '\n ' ' ' <"$top/$document" | grep -oE "docs/[A-Z]+\.md, '[^']+'((,| and|, and) '[^']+')*")
+# The commands of README.md that are files of the repository.
+check_readme_commands() {
+  local command
+  while IFS= read -r command; do
+    [ -x "$top/$command" ] && [ -f "$top/$command" ] || fail "README.md: $command cannot be run"
+  done < <(grep -oE '(^|`)(\./mm_tool|\.ci/run|(dist|docs|bench|bindings)/[a-z_/-]+)( |`|$)' "$top/README.md" | grep -oE '[a-z./_-]*[a-z]' | sort -u)
 }
 
 # The names in code style of standard input: of two letters or more, without path and parentheses.
@@ -221,18 +225,18 @@ check_page_names() {
     find "$top"/crates/*/must-fail "$top"/crates/*/wrong-bodies -name '*.edit' -exec basename -s .edit {} +
     grep -rhowE --include='*.rt' --include='*.antt' --exclude-dir=out '[A-Za-z_][A-Za-z_0-9]+' "$top/crates"
   } | sort -u >"$work/known"
-  for page in TOUR READING LAYERS PROMISES; do
+  for page in ARCHITECTURE READING PROMISES; do
     while IFS= read -r name; do
       fail "docs/$page.md: $name stands in no source"
     done < <(names <"$top/docs/$page.md" | comm -23 - "$work/known")
   done
 }
 
-# The table of crates of docs/LAYERS.md: a row for each crate that stands above the line `# Tools` of crates.txt, in that order, and no other.
+# The table of crates of docs/ARCHITECTURE.md: a row for each crate that stands above the line `# Tools` of crates.txt, in that order, and no other.
 check_crate_rows() {
   sed '/^# Tools/q' "$top/crates.txt" | grep -oE '^[a-z_0-9]+' >"$work/crates"
-  grep -E '^\| \[`[a-z_0-9]+`\]\(\.\./crates/' "$top/docs/LAYERS.md" | cut -d '`' -f 2 >"$work/rows"
-  diff "$work/crates" "$work/rows" || fail "docs/LAYERS.md: the table of crates has other rows than crates.txt"
+  grep -E '^\| \[`[a-z_0-9]+`\]\(\.\./crates/' "$top/docs/ARCHITECTURE.md" | cut -d '`' -f 2 >"$work/rows"
+  diff "$work/crates" "$work/rows" || fail "docs/ARCHITECTURE.md: the table of crates has other rows than crates.txt"
 }
 
 # Each promise of docs/PROMISES.md whose heading names a crate.
@@ -308,15 +312,15 @@ check_definitions() {
   "$top/docs/definitions" >/dev/null 2>"$work/errors" || fail "$(tail -n 1 "$work/errors")"
 }
 
-# The pictures of docs/TOUR.md: a function, and beside it its file below crates/.
-check_tour() {
+# The pictures of docs/ARCHITECTURE.md: a function, and beside it its file below crates/.
+check_pictures() {
   local name file
   while read -r name file; do
-    grep -qE "fn ${name##*::}[<(]" "$top/crates/$file" || fail "docs/TOUR.md: crates/$file has no function ${name##*::}"
-  done < <(sed -nE 's|^ *([A-Za-z_:]+) +(mm_[a-z0-9_]+/src/[a-z_]+\.rt) .*|\1 \2|p' "$top/docs/TOUR.md")
+    grep -qE "fn ${name##*::}[<(]" "$top/crates/$file" || fail "docs/ARCHITECTURE.md: crates/$file has no function ${name##*::}"
+  done < <(sed -nE 's|^ *([A-Za-z_:]+) +(mm_[a-z0-9_]+/src/[a-z_]+\.rt) .*|\1 \2|p' "$top/docs/ARCHITECTURE.md")
   while IFS= read -r file; do
-    [ -f "$top/crates/$file" ] || fail "docs/TOUR.md: there is no crates/$file"
-  done < <(grep -oE 'mm_[a-z0-9_]+/(src|specs)/[A-Za-z_]+\.(rt|antt)' "$top/docs/TOUR.md" | sort -u)
+    [ -f "$top/crates/$file" ] || fail "docs/ARCHITECTURE.md: there is no crates/$file"
+  done < <(grep -oE 'mm_[a-z0-9_]+/(src|specs)/[A-Za-z_]+\.(rt|antt)' "$top/docs/ARCHITECTURE.md" | sort -u)
 }
 
 # The table of mm_base: number, name and case of each refusal.
@@ -372,21 +376,9 @@ check_findings() {
   done <"$work/findings"
 }
 
-# The tests that docs/CONTRIBUTING.md names for refusals, as lines of crate, test and number. There the tests of a crate are one point of a
-# list, each with its numbers in parentheses.
+# The tests that docs/refusals.txt names, as lines of crate, test and number.
 refusal_tests() {
-  awk '
-    /^## / { inside = /^## Where each refusal is met/ }
-    inside && /^- / { crate = $2; gsub(/[`:]/, "", crate) }
-    inside && /^(- |  )/ { told[crate] = told[crate] " " $0 }
-    END {
-      for (crate in told)
-        while (match(told[crate], /`[a-z_0-9]+` +\([0-9, ]+\)/)) {
-          split(substr(told[crate], RSTART, RLENGTH), word, /[`(), ]+/)
-          for (i = 3; word[i] != ""; i++) print crate, word[2], word[i]
-          told[crate] = substr(told[crate], RSTART + RLENGTH)
-        }
-    }' "$top/docs/CONTRIBUTING.md"
+  awk '/^[a-z]/ { for (i = 3; i <= NF; i++) print $1, $2, $i }' "$top/docs/refusals.txt"
 }
 
 # At least one test for each refusal, in a crate whose sources name the refusal.
@@ -394,16 +386,16 @@ check_refusal_tests() {
   local crate name number case file
   refusal_tests >"$work/met"
   while read -r number case _; do
-    grep -q " $number\$" "$work/met" || fail "docs/CONTRIBUTING.md: no test is named that meets $number $case"
+    grep -q " $number\$" "$work/met" || fail "docs/refusals.txt: no test is named that meets $number $case"
   done < <(refusals)
   while read -r crate name number; do
     case=$(refusals | sed -nE "s/^$number ([A-Za-z0-9]+) .*/\1/p")
-    [ -n "$case" ] || fail "docs/CONTRIBUTING.md: $name of $crate is to meet $number, which is no refusal"
+    [ -n "$case" ] || fail "docs/refusals.txt: $name of $crate is to meet $number, which is no refusal"
     file=$(grep -rlE --include='*.rt' --exclude-dir=out "^ *fn $name\(" "$top/crates/$crate/src" | head -n 1)
     if [ -z "$file" ]; then
-      fail "docs/CONTRIBUTING.md: $crate has no test $name, in which $number $case is met"
+      fail "docs/refusals.txt: $crate has no test $name, in which $number $case is met"
     elif ! grep -rqswE -- "$case|$number" "$file" "${file%.rt}" "${file%/*}.rt"; then
-      fail "docs/CONTRIBUTING.md: the module of the test $name of $crate has neither $number nor $case"
+      fail "docs/refusals.txt: the module of the test $name of $crate has neither $number nor $case"
     fi
   done <"$work/met"
 }
@@ -418,13 +410,13 @@ check_promises
 check_edits
 check_reached
 check_definitions
-check_tour
+check_pictures
 check_refusals
 check_findings
 check_refusal_tests
+check_links
+check_readme_commands
 while IFS= read -r document; do
-  check_paths
-  check_headings
   case $document in
     README.md | docs/* | examples/*)
       room=$work/$(printf '%s' "$document" | tr / _)
