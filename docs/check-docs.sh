@@ -11,7 +11,7 @@
 # - each command of README.md that names a file of the repository names one that can be run;
 # - each file that a link or a path of any document names is there, and so is each heading that a document, a source or a script cites:
 #   docs/links;
-# - each name in code style in a crate's README stands in the sources of that crate, or of another that it names; the table of crates of
+# - each name in code style in a crate's README stands in the sources of that crate, or of another that it names; the list of crates of
 #   docs/ARCHITECTURE.md has those of crates.txt; and each promise of docs/PROMISES.md names something of its crates;
 # - each must-fail edit is named in docs/PROMISES.md in a sentence that begins with 'Refused:', each edit named there is there, each promise
 #   names one, and there are at most as many as the gate has time for;
@@ -232,11 +232,11 @@ check_page_names() {
   done
 }
 
-# The table of crates of docs/ARCHITECTURE.md: a row for each crate that stands above the line `# Tools` of crates.txt, in that order, and no other.
+# The list of crates of docs/ARCHITECTURE.md: a row for each crate that stands above the line `# Tools` of crates.txt, in that order, and no other.
 check_crate_rows() {
   sed '/^# Tools/q' "$top/crates.txt" | grep -oE '^[a-z_0-9]+' >"$work/crates"
-  grep -E '^\| \[`[a-z_0-9]+`\]\(\.\./crates/' "$top/docs/ARCHITECTURE.md" | cut -d '`' -f 2 >"$work/rows"
-  diff "$work/crates" "$work/rows" || fail "docs/ARCHITECTURE.md: the table of crates has other rows than crates.txt"
+  grep -E '^- \[`[a-z_0-9]+`\]\(\.\./crates/' "$top/docs/ARCHITECTURE.md" | cut -d '`' -f 2 >"$work/rows"
+  diff "$work/crates" "$work/rows" || fail "docs/ARCHITECTURE.md: the list of crates has other rows than crates.txt"
 }
 
 # Each promise of docs/PROMISES.md whose heading names a crate.
