@@ -357,11 +357,11 @@ words_of() {
 check_refusals() {
   local number name case row
   words >"$work/words"
-  awk '/^## /{inside = /^## Refusals/} inside && /^\| `[0-9]/' "$top/docs/FORMATS.md" >"$work/rows"
+  awk '/^## /{inside = /^## Refusals/} inside && /^`[0-9]/' "$top/docs/FORMATS.md" >"$work/rows"
   [ "$(wc -l <"$work/rows")" = "$(refusals | wc -l)" ] || fail "docs/FORMATS.md: not one row for each refusal"
   while read -r number name case; do
-    row=$(grep -E "^\| \`$number ${name}[ \`]" "$work/rows")
-    [ "${row#*\` }" = "| $(words_of expected "$case") | $(words_of advice "$case") |" ] ||
+    row=$(grep -E "^\`$number ${name}[ \`]" "$work/rows")
+    [ "${row#*\` }" = "| $(words_of expected "$case") | $(words_of advice "$case")" ] ||
       fail "docs/FORMATS.md: the row of $number $name has other words than mm_told"
   done < <(refusals)
 }
@@ -372,7 +372,7 @@ check_findings() {
   findings >"$work/findings"
   [ "$(wc -l <"$work/findings")" = 7 ] || fail "crates/mm_told/src/findings.rt: not one row of words for each verdict but the least"
   while IFS=$'\t' read -r verdict expected advice; do
-    grep -qF -- "| $expected | $advice |" "$top/docs/FORMATS.md" || fail "docs/FORMATS.md: no row has the words of mm_told for $verdict"
+    grep -qF -- "| $expected | $advice" "$top/docs/FORMATS.md" || fail "docs/FORMATS.md: no row has the words of mm_told for $verdict"
   done <"$work/findings"
 }
 
