@@ -7,3 +7,5 @@ pub mod Keeping
 pub mod Answering
 pub mod Foreseeing
 pub mod FateLemmas
+pub mod RetrievalLemmas
+pub mod LossLemmas

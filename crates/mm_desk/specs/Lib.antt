@@ -14,3 +14,5 @@ pub mod Offers
 pub mod Orders
 pub mod Passes
 pub mod Fates
+pub mod Retrievals
+pub mod Losses

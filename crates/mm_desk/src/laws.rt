@@ -2,7 +2,10 @@
 ghost use Rattle.std.specs.Prelude.{◌≡◌};
 ghost use Rattle.mm_desk.specs.declared.desk.TheConstants.{MAX_SEATS};
 ghost use Rattle.mm_desk.specs.Fates.{ConservePackets, GiveWhatIsKnown, GiveInOrder};
-ghost use Rattle.mm_desk.specs.Laws.{KeepBalance, KeepStates, ReplaysKeepStates, OffersLeave, ShufflesLoseAlike, OrdersDumpTheOldest, LoneSeatsAreLogs};
+ghost use Rattle.mm_desk.specs.Losses.{BoundedLoseNew, CircularLoseOldest};
+ghost use Rattle.mm_desk.specs.Retrievals.{RetrievalsGiveRanges};
+ghost use Rattle.mm_desk.specs.Laws.{KeepBalance, KeepStates, ReplaysKeepStates, OffersLeave, ShufflesLoseAlike};
+ghost use Rattle.mm_desk.specs.Laws.{OrdersDumpTheOldest, LoneSeatsAreLogs};
 
 use mm_store::laws::{stores_lose_alike, stores_stay_stores};
 
@@ -22,15 +25,16 @@ pub fn events_keep_a_state()
     stores_stay_stores();
 }
 
-/// Offers of which none is refused leave the same volume and lose as many packets in any order, in either kind of store: one
-/// packet more for each, up to the size, and the rest is lost.
+/// Offers of which none is refused leave the same volume and lose as many packets in any order, in either kind of
+/// store: one packet more for each, up to the size, and the rest is lost.
 pub fn any_order_loses_alike()
     ensures leaves { OffersLeave }
     ensures alike { ShufflesLoseAlike }
 {}
 
-/// No packet is lost uncounted, and none is invented: over any events from any state, in either kind of store, each packet that was
-/// held or offered and not refused is deleted, held or given up. What was given up the counter of losses tells.
+/// No packet is lost uncounted, and none is invented: over any events from any state, in either kind of store, each
+/// packet that was held or offered and not refused is deleted, held or given up. What was given up the counter of
+/// losses tells.
 pub fn events_conserve_packets()
     ensures law { ConservePackets }
 {}
@@ -40,6 +44,20 @@ pub fn events_conserve_packets()
 pub fn retrievals_give_in_order()
     ensures known { GiveWhatIsKnown }
     ensures rising { GiveInOrder }
+{}
+
+/// While a by-time-range retrieval is on, whatever else is asked of the store, each packet that it gives is held and in
+/// the range, times rise, and nothing is deleted. Once it has ended and was not aborted, each packet of the range that
+/// was held at its begin was given or overwritten.
+pub fn retrievals_give_their_range()
+    ensures law { RetrievalsGiveRanges }
+{}
+
+/// A bounded store loses only packets that find it full, and none that it holds for them. A circular store loses only
+/// what it overwrites, and each such packet is older than all that the store holds then and later.
+pub fn stores_lose_new_or_oldest()
+    ensures bounded { BoundedLoseNew }
+    ensures circular { CircularLoseOldest }
 {}
 
 /// A whole dump order gives and deletes the oldest packets: as many as it wants, or all that are held.

@@ -10,3 +10,5 @@ pub mod TurnLemmas
 pub mod AccountLemmas
 pub mod GivenLemmas
 pub mod TextLemmas
+pub mod RetrievalLemmas
+pub mod LossLemmas

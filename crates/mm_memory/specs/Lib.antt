@@ -13,3 +13,5 @@ pub mod Tallies
 pub mod Recording
 pub mod Routing
 pub mod Accounts
+pub mod Retrievals
+pub mod Losses

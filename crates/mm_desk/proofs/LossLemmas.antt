@@ -1,0 +1,131 @@
+-- What a store loses for room.
+use Rattle.std.proofs.Common.{◌≡◌, ◌≢◌, ℕ, ◌<◌, ◌≤◌, List, [], ◌∷◌, ◌++◌, length, All, refl, ap, ◌∙◌, arith}
+use Rattle.std.proofs.lemmas.List.{map-append}
+use Rattle.std.proofs.lemmas.List.Elements.{All-nil, All-cons, All-tail, All-append, All-filter, All-weaker}
+use Rattle.mm_base.proofs.Pairs.{AllPairs-head}
+use Rattle.mm_desk.specs.Types.{Stored, Event, Offer, Delete, Bounded, Circular}
+use Rattle.mm_desk.specs.Fates.{packets_of, left_out, given_up, after, over}
+use Rattle.mm_desk.specs.Losses.{LosesNone, IsOlder, LosesNew, LosesOldest}
+use Rattle.mm_desk.specs.Machine.{State, IsState, step}
+use Rattle.mm_desk.specs.Retrievals.{oldest_over, overwritten}
+use Rattle.mm_desk.proofs.Cases.{put_cases, delete_cases, quiet_leaves}
+use Rattle.mm_desk.proofs.RetrievalLemmas.{IsOrdered, stays_ordered}
+
+-- a store keeps its kind and its size
+record IsAlike (s t : State) : Type 0 where
+  kind : t.store.kind ≡ s.store.kind
+  size : t.store.size ≡ s.store.size
+
+stays_alike : (s : State) (e : Event) → IsAlike s (step s e).1
+stays_alike s (Offer now packet) =
+    put_cases s (λ r. IsAlike s r.1) now packet (λ fault other. record { kind = refl; size = refl })
+    (λ new is free. record { kind = refl; size = refl })
+    (λ new is oldest later o. record { kind = refl; size = refl }) (λ stuck. record { kind = refl; size = refl })
+stays_alike s (Delete limit) =
+    delete_cases s (λ r. IsAlike s r.1) limit (λ busy. record { kind = refl; size = refl })
+    (λ idle. record { kind = refl; size = refl })
+stays_alike s e = quiet_leaves s e tt (IsAlike s) (λ storage retrieval. record { kind = refl; size = refl })
+
+-- a bounded store loses the packet that finds it full
+loses_none : (s : State) (e : Event) → s.store.kind ≡ Bounded → LosesNone s e
+loses_none s (Offer now packet) bounded =
+    put_cases s (λ r. left_out r.0 ≢ [] → (s.store.size ≤ length s.store.content) × (r.1.store ≡ s.store)) now packet
+    (λ fault other lost. absurd (lost refl)) (λ new is free lost. absurd (lost refl))
+    (λ new is oldest later o lost. let circular = o.circular in absurd cc) (λ stuck lost. (stuck.full, refl))
+loses_none s e bounded = λ lost. absurd (lost refl)
+
+overwrites_none : (s : State) (e : Event) → s.store.kind ≡ Bounded → overwritten s e ≡ []
+overwrites_none s (Offer now packet) bounded =
+    put_cases s (λ r. oldest_over r.0 s.store.content ≡ []) now packet (λ fault other. refl) (λ new is free. refl)
+    (λ new is oldest later o. let circular = o.circular in absurd cc) (λ stuck. refl)
+overwrites_none s e bounded = refl
+
+pub loses_new : (s : State) (es : List Event) → s.store.kind ≡ Bounded → LosesNew s es
+loses_new s [] bounded = record { full = tt; none = refl }
+loses_new s (e ∷ es) bounded =
+    let rest = loses_new (step s e).1 es ((stays_alike s e).kind ∙ bounded) in
+    record {
+      full = (loses_none s e bounded, rest.full);
+      none = ap (λ lost. lost ++ over overwritten (step s e).1 es) (overwrites_none s e bounded) ∙ rest.none;
+    }
+
+-- a circular store loses what it overwrites
+loses_overwritten : (s : State) (e : Event) → 1 ≤ s.store.size → s.store.kind ≡ Circular
+    → given_up s e ≡ packets_of (overwritten s e)
+loses_overwritten s (Offer now packet) room circular =
+    put_cases s (λ r. left_out r.0 ≡ packets_of (oldest_over r.0 s.store.content)) now packet (λ fault other. refl)
+    (λ new is free. refl)
+    (λ new is oldest later o. rw o.held refl)
+    (λ stuck. let none = ap length (stuck.none circular) in absurd (omega (arith, none, stuck.full)))
+loses_overwritten s e room circular = refl
+
+pub all_overwritten : (s : State) (es : List Event) → 1 ≤ s.store.size → s.store.kind ≡ Circular
+    → over given_up s es ≡ packets_of (over overwritten s es)
+all_overwritten s [] room circular = refl
+all_overwritten s (e ∷ es) room circular =
+    let t = (step s e).1 in
+    let alike = stays_alike s e in
+    let rest = all_overwritten t es (omega (arith, alike.size)) (alike.kind ∙ circular) in
+    rw (loses_overwritten s e room circular, rest, map-append) refl
+
+-- a packet is older than all that a state holds and will hold
+abbrev IsPast : State → Stored → Type 0
+IsPast s lost = IsOlder s.store.content lost × (lost.time ≤ s.store.last)
+
+module _ (lost : Stored) where
+  -- what is kept is newer
+  newer_kept : (held : List Stored) (new : Stored) (last : ℕ) → last < new.time → IsOlder held lost → lost.time ≤ last
+      → IsOlder (held ++ new ∷ []) lost × (lost.time ≤ new.time)
+  newer_kept held new last later older past = (
+    All-append (λ p. lost.time < p.time) held (new ∷ []) older
+        (All-cons (λ p. lost.time < p.time) new [] (omega arith) (All-nil _)),
+    omega arith,
+  )
+
+  stays_past : (s : State) (e : Event) → IsPast s lost → IsPast (step s e).1 lost
+  stays_past s (Offer now packet) past =
+      put_cases s (λ r. IsPast r.1 lost) now packet (λ fault other. past)
+      (λ new is free. newer_kept s.store.content new s.store.last is.later past.0 past.1)
+      (λ new is oldest later o.
+      newer_kept later new s.store.last is.later (All-tail (λ p. lost.time < p.time) oldest later
+      (rw o.held at past.0)) past.1)
+      (λ stuck. past)
+  stays_past s (Delete limit) past =
+      delete_cases s (λ r. IsPast r.1 lost) limit (λ busy. past)
+      (λ idle. (All-filter _ (λ p. lost.time < p.time) s.store.content past.0, past.1))
+  stays_past s e past = quiet_leaves s e tt (λ t. IsPast t lost) (λ storage retrieval. past)
+
+  pub always_past : (s : State) (es : List Event) → IsPast s lost → IsPast (after s es) lost
+  always_past s [] past = past
+  always_past s (e ∷ es) past = always_past (step s e).1 es (stays_past s e past)
+
+-- what is overwritten is older than all that is held then
+pub overwrites_past : (s : State) (e : Event) → IsOrdered s.store → All (IsPast (step s e).1) (overwritten s e)
+overwrites_past s (Offer now packet) ordered =
+    put_cases s (λ r. All (IsPast r.1) (oldest_over r.0 s.store.content)) now packet (λ fault other. All-nil _)
+    (λ new is free. All-nil _)
+    (λ new is oldest later o.
+    let older = AllPairs-head (λ p q. p.time < q.time) oldest later (rw o.held at ordered.rising) in
+    let early : oldest.time ≤ s.store.last = (rw o.held at ordered.up_to_last) 0 oldest (omega arith) in
+    rw o.held (All-cons (λ q. IsOlder (later ++ new ∷ []) q × (q.time ≤ new.time)) oldest []
+    (newer_kept oldest later new s.store.last is.later older early) (All-nil _)))
+    (λ stuck. All-nil _)
+overwrites_past s e ordered = All-nil _
+
+all_past : (s : State) (es : List Event) → IsOrdered s.store → All (IsPast (after s es)) (over overwritten s es)
+all_past s [] ordered = All-nil _
+all_past s (e ∷ es) ordered =
+    let t = (step s e).1 in
+    All-append (IsPast (after t es)) (overwritten s e) (over overwritten t es)
+    (All-weaker (IsPast t) (IsPast (after t es)) (λ lost past. always_past lost t es past) (overwritten s e)
+    (overwrites_past s e ordered))
+    (all_past t es (stays_ordered s e ordered))
+
+pub loses_oldest : (s : State) (es : List Event) → IsState s → s.store.kind ≡ Circular → LosesOldest s es
+loses_oldest s es sound circular =
+    let ordered : IsOrdered s.store = record { rising = sound.store.rising; up_to_last = sound.store.up_to_last } in
+    record {
+      lost = all_overwritten s es sound.store.has_room circular;
+      older = All-weaker (IsPast (after s es)) (IsOlder (after s es).store.content) (λ lost past. past.0)
+          (over overwritten s es) (all_past s es ordered);
+    }

@@ -1,0 +1,64 @@
+-- What a store of a memory loses for room in a turn.
+use Rattle.std.proofs.Common.{◌≡◌, ◌≢◌, inl, inr, ℕ, ◌≤◌, Bool, List, [], ◌∷◌, ◌++◌, length, All, refl, ap, subst, ◌∙◌}
+use Rattle.std.specs.Prelude.{Option, Some, None}
+use Rattle.std.proofs.lemmas.List.{append-nil}
+use Rattle.std.proofs.lemmas.List.Elements.{All-nil}
+use Rattle.mm_base.specs.declared.kind.Kind.TheVariants.{Circular, Bounded}
+use Rattle.mm_desk.specs.declared.event.Event.{Event}
+use Rattle.mm_desk.specs.Fates.{given_up, after, over}
+use Rattle.mm_desk.specs.Losses.{LosesNone, IsOlder, BoundedLoseNew, CircularLoseOldest}
+use Rattle.mm_desk.specs.Machine.{State, IsState, step}
+use Rattle.mm_desk.specs.Retrievals.{AtEach, overwritten}
+use Rattle.mm_memory.specs.Accounts.{Turn, AreTurns, MayLeave, in_store, events_in, removes_in}
+use Rattle.mm_memory.specs.Holdings.{Holdings, state_of}
+use Rattle.mm_memory.specs.Losses.{LosesNewIn, LosesOldestIn, LosesInTurn}
+use Rattle.mm_memory.specs.Retrievals.{AtEachTurn, HasState}
+use Rattle.mm_memory.proofs.RetrievalLemmas.{IsOne, call_asks}
+use Rattle.mm_memory.proofs.TurnLemmas.{Becomes, becomes}
+
+-- a store that lost the one packet offered is left as it was
+full_by : (es : List Event) (gone : State → Bool) (s : State) (left : Option State) → IsOne es
+    → Becomes es gone (Some s) left → AtEach LosesNone s es → over given_up s es ≢ []
+    → (s.store.size ≤ length s.store.content) × HasState (λ u. u.store ≡ s.store) left
+full_by [] gone s left one became none lost = absurd (lost refl)
+full_by (e ∷ []) gone s (Some u) one (stays, inl is) none lost =
+    let full = none.0 (λ empty. lost (rw (append-nil (given_up s e)) empty)) in
+    (full.0, ap (λ (u : State). u.store) is ∙ full.1)
+full_by (e ∷ []) gone s (Some u) one (stays, inr shape) none lost = let asked = shape.asked in absurd cc
+full_by (e ∷ []) gone s None one (goes, nothing) none lost = absurd cc
+full_by (e ∷ f ∷ es) gone s left one became none lost = absurd one
+
+-- what is overwritten is older than what is held then
+older_by : (es : List Event) (gone : State → Bool) (s : State) (left : Option State) → Becomes es gone (Some s) left
+    → All (IsOlder (after s es).store.content) (over overwritten s es)
+    → All (IsOlder (in_store (λ u. u.store.content) left)) (over overwritten s es)
+older_by es gone s (Some u) (stays, inl is) older = rw is older
+older_by es gone s (Some u) (stays, inr shape) older = rw shape.asked (All-nil _)
+older_by es gone s None (goes, nothing) older = rw nothing (All-nil _)
+
+module _ (bounded : BoundedLoseNew) (circular : CircularLoseOldest) (id : List ℕ) where
+  turn_loses : (m : Holdings) (t : Turn) → MayLeave t.call m t.left → LosesInTurn id m t
+  turn_loses m t made = by_state (state_of id m) refl
+    where
+      by_state : (o : Option State) → state_of id m ≡ o → LosesInTurn id m t
+      by_state None at = rw at tt
+      by_state (Some s) at =
+          let became = subst (λ (o : Option State). Becomes (events_in id m t.call) (removes_in id t.call) o
+          (state_of id t.left)) at (becomes id m t.left t.call made) in
+          let new = λ (kind : s.store.kind ≡ Bounded).
+          full_by (events_in id m t.call) (removes_in id t.call) s (state_of id t.left) (call_asks id m t.call)
+          became (bounded s (events_in id m t.call) kind).full in
+          rw at (
+            (λ kind. record { full = new kind; none = (bounded s (events_in id m t.call) kind).none }),
+            (λ kind sound.
+                let oldest = circular s (events_in id m t.call) sound kind in
+                record {
+                  lost = oldest.lost;
+                  older = older_by (events_in id m t.call) (removes_in id t.call) s (state_of id t.left) became
+                      oldest.older;
+                }),
+          )
+
+  pub turns_lose : (m : Holdings) (turns : List Turn) → AreTurns m turns → AtEachTurn (LosesInTurn id) m turns
+  turns_lose m [] made = tt
+  turns_lose m (t ∷ ts) made = (turn_loses m t made.0, turns_lose t.left ts made.1)
