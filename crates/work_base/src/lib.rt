@@ -1,8 +1,13 @@
-//! What the workloads of `bench/workloads.txt` share: numbers that look random, and a digest of what was answered.
+//! What the programs `work_..` share: words of the command line, rows that are printed, random numbers, and a digest of
+//! answers.
 #![tactic(auto)]
 
+mod asked;
 mod digest;
 mod numbers;
+mod said;
 
+pub use asked::{UnknownWords, named, words};
 pub use digest::Digest;
 pub use numbers::Numbers;
+pub use said::Seconds;

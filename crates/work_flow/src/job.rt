@@ -1,8 +1,8 @@
 //! The job: networks of each family, solved, with a digest of what was answered.
 
 use crate::families::{chain, picture, projects, random, stores};
-use crate::solver::Solver;
 use crate::solver::Solver::Levels;
+use crate::solver::{SOLVERS, Solver};
 use anyhow::Result;
 use mm_flow::{Fault, Network};
 use std::alloc::Global;
@@ -48,8 +48,8 @@ fn few(alloc: Global, numbers: &mut Numbers, digest: &mut Digest) -> Result<()> 
         projects(alloc, numbers, 200)?,
         picture(alloc, numbers, 16)?,
     ] {
-        for solver in Solver::ALL {
-            add(alloc, digest, &network, solver);
+        for (_, solver) in &SOLVERS {
+            add(alloc, digest, &network, *solver);
         }
     }
     Ok(())

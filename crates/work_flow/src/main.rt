@@ -15,12 +15,12 @@ use small::small;
 use std::alloc::{AllocGlobal, Global};
 use std::io::Input;
 use std::time::Clock;
-use thiserror::Error;
+use work_base::{UnknownWords, words};
 
 /// Words that ask for nothing.
-#[derive(Clone, Copy, Debug, Error)]
-#[error("the words are: networks SEED, or solve SOLVER FAMILY SIZE, or solve SOLVER text")]
-pub struct UnknownWords;
+pub const UNKNOWN: UnknownWords = UnknownWords(
+    "the words are: networks SEED, or solve SOLVER FAMILY SIZE, or solve SOLVER text",
+);
 
 // What the words ask for.
 fn said<R: Clock + Input + AllocGlobal>(rt: &R, alloc: Global, words: &[String]) -> Result<String> {
@@ -31,7 +31,7 @@ fn said<R: Clock + Input + AllocGlobal>(rt: &R, alloc: Global, words: &[String])
             let digest = networks(alloc, seed.parse()?)?;
             Ok(format!(in alloc; "networks {digest}")?)
         }
-        _ => Err(UnknownWords.into()),
+        _ => Err(UNKNOWN.into()),
     }
 }
 
@@ -39,9 +39,7 @@ fn said<R: Clock + Input + AllocGlobal>(rt: &R, alloc: Global, words: &[String])
 /// network, and prints the value of a maximum flow and the milliseconds that the solver took. With no words a few tiny
 /// networks are solved, and their flows are printed.
 fn main(rt: HostRuntime) -> Result<()> {
-    let alloc = rt.alloc();
-    let words: Vec<String> = std::env::args(&rt)?.skip(1).collect(alloc)?;
-    let said = said(&rt, alloc, &words)?;
+    let said = said(&rt, rt.alloc(), &words(&rt)?)?;
     println!(rt; "{said}")?;
     Ok(())
 }

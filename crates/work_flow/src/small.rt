@@ -1,7 +1,7 @@
 //! Tiny networks whose greatest flow can be worked out by hand.
 
 use crate::build::{SINK, SOURCE, bare, limited, unlimited};
-use crate::solver::Solver;
+use crate::solver::SOLVERS;
 use crate::text;
 use anyhow::Result;
 use mm_flow::{Fault, Network, Solved};
@@ -70,7 +70,7 @@ pub fn small(alloc: Global) -> Result<String> {
         narrow(alloc)?,
         unbounded(alloc)?,
     ] {
-        for solver in Solver::ALL {
+        for (_, solver) in &SOLVERS {
             push(&mut lines, solver.answer(alloc, &network))?;
         }
     }

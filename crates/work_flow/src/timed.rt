@@ -1,15 +1,15 @@
 //! One network, solved by one solver between two looks at the clock.
 
 use crate::families::{random, stores};
-use crate::solver::Solver;
-use crate::{UnknownWords, text};
+use crate::solver::SOLVERS;
+use crate::{UNKNOWN, text};
 use anyhow::Result;
 use mm_flow::Network;
 use std::alloc::{AllocGlobal, Global};
 use std::io;
 use std::io::Input;
 use std::time::{Clock, Instant};
-use work_base::Numbers;
+use work_base::{Numbers, named};
 
 // The network of a family, of this size.
 fn made(alloc: Global, family: &str, size: u16) -> Result<Network> {
@@ -18,7 +18,7 @@ fn made(alloc: Global, family: &str, size: u16) -> Result<Network> {
         "tight" => Ok(stores(alloc, &mut numbers, size, 3199)?),
         "spare" => Ok(stores(alloc, &mut numbers, size, 199)?),
         "random" => Ok(random(alloc, &mut numbers, size)?),
-        _ => Err(UnknownWords.into()),
+        _ => Err(UNKNOWN.into()),
     }
 }
 
@@ -35,9 +35,9 @@ pub fn run<R: Clock + Input + AllocGlobal>(
             (solver, text::read(alloc, text.as_str())?)
         }
         [solver, family, size] => (solver, made(alloc, family.as_str(), size.parse()?)?),
-        _ => return Err(UnknownWords.into()),
+        _ => return Err(UNKNOWN.into()),
     };
-    let solver = Solver::named(solver.as_str())?;
+    let solver = named(&SOLVERS, solver.as_str(), UNKNOWN.0)?;
     let start = Instant::now(rt)?;
     let solved = solver.answer(alloc, &network)?;
     let spent = start.elapsed(rt)?;

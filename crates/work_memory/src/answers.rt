@@ -3,10 +3,10 @@
 use mm_base::Refused;
 use mm_service::{Fate, Fault, Given, Tally};
 use std::fmt;
-use work_base::Digest;
+use work_base::{Digest, rows};
 
-/// How often packets were kept, lost and refused by stores, and given by retrievals; how often an instruction was done, how many reports were
-/// given, and how many calls and instructions were refused.
+/// How often packets were kept, lost and refused by stores, and given by retrievals; how often an instruction was done,
+/// how many reports were given, and how many calls and instructions were refused.
 #[derive(Clone, Copy, Default)]
 pub struct Counts {
     kept: u64,
@@ -20,10 +20,7 @@ pub struct Counts {
 
 impl fmt::Display for Counts {
     fn fmt<W: fmt::Write>(&self, f: &mut fmt::Formatter<W>) -> fmt::Result {
-        write!(f, "kept {} lost {} ", self.kept, self.lost)?;
-        write!(f, "refused {} given {} ", self.refused, self.given)?;
-        write!(f, "done {} reports {} ", self.done, self.reports)?;
-        write!(f, "faults {}", self.faults)
+        rows!(f, self; kept, lost, refused, given, done, reports, faults)
     }
 }
 

@@ -1,5 +1,5 @@
-//! The workload of a memory on board or in a simulator: packets are recorded, offered and retrieved, and requests are applied; and packet
-//! stores alone, which `bench/stores` times.
+//! The workload of a memory on board or in a simulator: packets are recorded, offered and retrieved, and requests are
+//! applied; and packet stores alone, which `bench/stores` times.
 #![tactic(auto)]
 
 mod answers;
@@ -14,12 +14,7 @@ use anyhow::Result;
 use setting::Setting;
 use std::alloc::Global;
 use std::time::Clock;
-use thiserror::Error;
-
-/// Words that are no workload.
-#[derive(Clone, Copy, Debug, Error)]
-#[error("the words are: memory SEED, or stores FORM ROUNDS")]
-struct UnknownWorkload;
+use work_base::{UnknownWords, words};
 
 // What is answered in these settings, one after another.
 fn answered(alloc: Global, settings: &[Setting], seed: u64) -> Result<Answers> {
@@ -43,16 +38,14 @@ fn said(clock: &impl Clock, alloc: Global, words: &[String]) -> Result<String> {
             let answers = answered(alloc, &setting::MEMORIES, seed.as_str().parse()?)?;
             Ok(format!(in alloc; "{}", answers.digest)?)
         }
-        _ => Err(UnknownWorkload.into()),
+        _ => Err(UnknownWords("the words are: memory SEED, or stores FORM ROUNDS").into()),
     }
 }
 
-/// With the words `memory SEED` the digest of all answers is printed, with `stores FORM ROUNDS` the seconds of rounds on a store, and with no
-/// words what small runs count.
+/// With the words `memory SEED` the digest of all answers is printed, with `stores FORM ROUNDS` the seconds of rounds
+/// on a store, and with no words what small runs count.
 fn main(rt: HostRuntime) -> Result<()> {
-    let alloc = rt.alloc();
-    let words: Vec<String> = std::env::args(&rt)?.skip(1).collect(alloc)?;
-    let said = said(&rt, alloc, &words)?;
+    let said = said(&rt, rt.alloc(), &words(&rt)?)?;
     println!(rt; "{said}")?;
     Ok(())
 }

@@ -2,7 +2,7 @@
 
 use anyhow::Result;
 use std::alloc::Global;
-use work_base::Numbers;
+use work_base::{Numbers, table};
 
 /// A memory, and what it is given.
 #[derive(Clone, Copy)]
@@ -26,19 +26,15 @@ pub struct Setting {
     pub strays: u32,
 }
 
-// Settings: the fields of each.
-macro_rules! settings {
-    ($($($field:ident $value:expr),+;)+) => { [$(Setting { $($field: $value),+ }),+] };
-}
-
-/// What is run with no words: in each of two rounds ten packets of one report type come, which goes to sixteen stores of six blocks.
-pub const SMALL: [Setting; 1] = settings! {
+/// What is run with no words: in each of two rounds ten packets of one report type come, which goes to sixteen stores
+/// of six blocks.
+pub const SMALL: [Setting; 1] = table! { Setting;
     stores 16, types 1, more 0, fan 16, least 6, spread 0, rounds 2, packets 10, pace 0, strays 0;
 };
 
-/// The memories: 16 stores with 64 report types, each routed to four of them; 16 stores with 256 report types; 16 stores with one report
-/// type, routed to all; one store with one report type.
-pub const MEMORIES: [Setting; 4] = settings! {
+/// The memories: 16 stores with 64 report types, each routed to four of them; 16 stores with 256 report types; 16
+/// stores with one report type, routed to all; one store with one report type.
+pub const MEMORIES: [Setting; 4] = table! { Setting;
     stores 16, types 64, more 0, fan 4, least 600, spread 2400, rounds 40, packets 3000, pace 3,
         strays 8;
     stores 16, types 255, more 1, fan 1, least 300, spread 1200, rounds 40, packets 3000, pace 3,

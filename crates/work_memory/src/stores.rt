@@ -1,14 +1,37 @@
 //! Times packet stores: packets are put, read and deleted in rounds, and the time of each part is told.
-mod form;
 mod rounds;
 
 use anyhow::Result;
-use form::{Form, UnknownForm};
 use mm_base::Kind;
 use mm_store::{AnyStore, BlockStore, RingStore};
 use rounds::{Report, SIZE};
 use std::alloc::Global;
 use std::time::Clock;
+use work_base::{UnknownWords, named};
+
+/// A type of store, and for `AnyStore` its kind.
+#[derive(Clone, Copy)]
+pub enum Form {
+    /// A `RingStore`.
+    Ring,
+    /// A `BlockStore`.
+    Blocks,
+    /// A circular `AnyStore`.
+    Circular,
+    /// A bounded `AnyStore`.
+    Bounded,
+}
+
+/// All, by their names.
+pub static FORMS: [(&str, Form); 4] = [
+    ("ring", Form::Ring),
+    ("blocks", Form::Blocks),
+    ("circular", Form::Circular),
+    ("bounded", Form::Bounded),
+];
+
+// What the first word may be.
+const UNKNOWN: &str = "the first word is ring, blocks, circular or bounded";
 
 // Runs this many rounds on a new store of this form.
 fn measured(clock: &impl Clock, alloc: Global, form: Form, rounds: u32) -> Result<Report> {
@@ -29,8 +52,8 @@ fn measured(clock: &impl Clock, alloc: Global, form: Form, rounds: u32) -> Resul
 /// The sum over what one round on each form of store reads.
 pub fn small(clock: &impl Clock, alloc: Global) -> Result<String> {
     let mut sums = String::new(alloc);
-    for form in Form::ALL {
-        let sum = measured(clock, alloc, form, 1)?.sum;
+    for (_, form) in &FORMS {
+        let sum = measured(clock, alloc, *form, 1)?.sum;
         sums.push_str(format!(in alloc; " {sum}")?.as_str())?;
     }
     Ok(sums)
@@ -39,9 +62,9 @@ pub fn small(clock: &impl Clock, alloc: Global) -> Result<String> {
 /// The words are a form of store and a number of rounds.
 pub fn run(clock: &impl Clock, alloc: Global, words: &[String]) -> Result<String> {
     let [form, rounds] = words else {
-        return Err(UnknownForm.into());
+        return Err(UnknownWords(UNKNOWN).into());
     };
-    let form = Form::named(form.as_str())?;
+    let form = named(&FORMS, form.as_str(), UNKNOWN)?;
     let report = measured(clock, alloc, form, rounds.as_str().parse()?)?;
     Ok(format!(in alloc; "{report}")?)
 }

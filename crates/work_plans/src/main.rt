@@ -1,4 +1,5 @@
-//! A workload of `bench/workloads.txt`: a study of many plans, made, checked, drawn and listed; and how often a proposal is not enough.
+//! A workload of `bench/workloads.txt`: a study of many plans, made, checked, drawn and listed; and how often a
+//! proposal is not enough.
 #![tactic(auto)]
 
 mod extent;
@@ -10,13 +11,7 @@ mod texts;
 
 use anyhow::Result;
 use std::alloc::Global;
-use std::io::Input;
-use thiserror::Error;
-
-/// Words that ask for nothing.
-#[derive(Clone, Copy, Debug, Error)]
-#[error("the words are: study SEED, or propose COUNT SEED")]
-struct UnknownWords;
+use work_base::{UnknownWords, words};
 
 // What the job of the words answers.
 fn said(alloc: Global, words: &[String]) -> Result<String> {
@@ -26,16 +21,14 @@ fn said(alloc: Global, words: &[String]) -> Result<String> {
         [job, count, seed] if job.as_str() == "propose" => {
             propose::counted(alloc, count.parse()?, seed.parse()?)
         }
-        _ => Err(UnknownWords.into()),
+        _ => Err(UnknownWords("the words are: study SEED, or propose COUNT SEED").into()),
     }
 }
 
-/// With `study` and a seed a digest of all that is answered is printed, with `propose` how many proposals are not shown to lose least. With
-/// no words a small run is made, and what it prints can be worked out by hand.
+/// With `study` and a seed a digest of all that is answered is printed, with `propose` how many proposals are not shown
+/// to lose least. With no words a small run is made, and what it prints can be worked out by hand.
 fn main(rt: HostRuntime) -> Result<()> {
-    let alloc = rt.alloc();
-    let words: Vec<String> = std::env::args(&rt)?.skip(1).collect(alloc)?;
-    let said = said(alloc, &words)?;
+    let said = said(rt.alloc(), &words(&rt)?)?;
     println!(rt; "{said}")?;
     Ok(())
 }

@@ -1,4 +1,5 @@
-//! A study: many problems, each with its plan, the check of it or of a changed one, and for some the chart and the table.
+//! A study: many problems, each with its plan, the check of it or of a changed one, and for some the chart and the
+//! table.
 
 use crate::extent::Extent;
 use crate::texts::{forecast, setup};
@@ -11,8 +12,8 @@ use work_base::{Digest, Numbers};
 
 const PROBLEMS: u32 = 2048;
 
-/// What a study has answered: a digest of all texts, and of the plans that were checked unchanged how many were shown to
-/// lose least.
+/// What a study has answered: a digest of all texts, and of the plans that were checked unchanged how many were shown
+/// to lose least.
 #[derive(Clone, Copy)]
 pub struct Answers {
     pub digest: Digest,

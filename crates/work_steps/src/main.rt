@@ -1,7 +1,6 @@
 //! A workload: steps of recorders and of dump workers, called as a library.
 #![tactic(auto)]
 
-mod meter;
 mod mission;
 mod setting;
 mod settings;
@@ -16,16 +15,10 @@ use std::alloc::Global;
 use std::sync::Wait;
 use std::thread::Threads;
 use tally::Tally;
-use thiserror::Error;
-use work_base::{Digest, Numbers};
+use work_base::{Digest, Numbers, UnknownWords, words};
 
 // How often each setting is run, with other numbers each time.
 const ROUNDS: u32 = 4;
-
-/// Words that ask for nothing.
-#[derive(Clone, Copy, Debug, Error)]
-#[error("the words are: steps SEED")]
-struct UnknownWords;
 
 // What a small run counts, once with recorders alone and once with dump workers too.
 fn small<R: Threads + Wait + Sync>(rt: &R, alloc: Global) -> Result<String> {
@@ -57,23 +50,18 @@ fn steps<R: Threads + Wait + Sync>(rt: &R, alloc: Global, seed: u64) -> Result<D
 fn said<R: Threads + Wait + Sync>(rt: &R, alloc: Global, words: &[String]) -> Result<String> {
     match words {
         [] => small(rt, alloc),
-        [name, seed] => {
-            if name.as_str() != "steps" {
-                return Err(UnknownWords.into());
-            }
+        [name, seed] if name.as_str() == "steps" => {
             let digest = steps(rt, alloc, u64::from(seed.parse::<u32>()?))?;
             Ok(format!(in alloc; "{digest}")?)
         }
-        _ => Err(UnknownWords.into()),
+        _ => Err(UnknownWords("the words are: steps SEED").into()),
     }
 }
 
-/// With the words `steps SEED` all settings are run, and the digest of what they count is printed. With no words a small run is made,
-/// and its counts are printed.
+/// With the words `steps SEED` all settings are run, and the digest of what they count is printed. With no words a
+/// small run is made, and its counts are printed.
 fn main(rt: HostRuntime) -> Result<()> {
-    let alloc = rt.alloc();
-    let words: Vec<String> = std::env::args(&rt)?.skip(1).collect(alloc)?;
-    let said = said(&rt, alloc, &words)?;
+    let said = said(&rt, rt.alloc(), &words(&rt)?)?;
     println!(rt; "{said}")?;
     Ok(())
 }

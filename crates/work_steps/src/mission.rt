@@ -1,34 +1,17 @@
 //! Runs of a setting.
 
-use crate::meter::meters;
 use crate::setting::Setting;
 use crate::sources::{Given, make_sources};
 use crate::tally::Tally;
 use anyhow::Result;
-use mm_base::StoreId;
-use mm_dump::may_fail;
-use mm_exec::carry_out;
 use mm_memory::Memory;
-use mm_plan::Sheet;
-use mm_problem::{Problem, Setup};
+use mm_problem::Setup;
 use mm_record::record_step;
 use std::alloc::Global;
 use std::sync::Wait;
 use std::thread::Threads;
 use work_base::Numbers;
-
-// Deletes all that is held.
-fn delete(alloc: Global, memory: &mut Memory, stores: u32) -> Result<()> {
-    for store in 0..stores {
-        let name = format!(in alloc; "S{store}")?;
-        if let Ok(id) = StoreId::of_text(name.as_bytes()) {
-            if let Some(state) = memory.state_mut(&id) {
-                let _deleted = state.delete(u64::MAX);
-            }
-        }
-    }
-    Ok(())
-}
+use work_parts::{Mission, delete, forecast, plan};
 
 /// Records what the sources of a setting give, step by step.
 pub fn record<R: Threads + Wait + Sync>(
@@ -38,8 +21,8 @@ pub fn record<R: Threads + Wait + Sync>(
     setting: &Setting,
     tally: &mut Tally,
 ) -> Result<()> {
-    let setup = setting.setup(alloc)?;
-    let mut memory = Memory::of_setup(alloc, &Setup::read(alloc, setup.as_bytes())?)?;
+    let setup = Setup::read(alloc, &setting.setup(alloc)?)?;
+    let mut memory = Memory::of_setup(alloc, &setup)?;
     let Given { sources, came: _ } = make_sources(alloc, numbers, setting)?;
     let mut sources = sources;
     for step in 0..setting.steps {
@@ -59,7 +42,8 @@ pub fn record<R: Threads + Wait + Sync>(
     Ok(())
 }
 
-/// Carries out a plan of a setting: in each step what its sources give is recorded, and three quarters of what is held are dumped.
+/// Carries out a plan of a setting: in each step what its sources give is recorded, and three quarters of what is held
+/// are dumped.
 pub fn carry<R: Threads + Wait + Sync>(
     rt: &R,
     alloc: Global,
@@ -67,39 +51,14 @@ pub fn carry<R: Threads + Wait + Sync>(
     setting: &Setting,
     tally: &mut Tally,
 ) -> Result<()> {
-    let setup = setting.setup(alloc)?;
-    let setup = Setup::read(alloc, setup.as_bytes())?;
-    let mut memory = Memory::of_setup(alloc, &setup)?;
     let Given { sources, came } = make_sources(alloc, numbers, setting)?;
     let amounts = setting.amounts(alloc, &came)?;
-    let forecast = setting.forecast(alloc, &came, &amounts)?;
-    let problem = Problem::read(alloc, &setup, forecast.as_bytes())?;
-    let text = setting.plan(alloc, &amounts)?;
-    let sheet = Sheet::parse(alloc, text.as_bytes())?;
-    let links = meters(alloc, setting.links)?;
-    if !may_fail(&links) {
-        return Ok(());
-    }
-    match carry_out(
-        rt,
-        alloc,
-        &mut memory,
-        &problem,
-        sheet.plan(),
-        sources,
-        links,
-        0,
-    ) {
-        Err(halted) => Err(halted.cause.into()),
-        Ok(ended) => {
-            tally.add_report(&ended.report);
-            let mut octets = 0u64;
-            for link in &ended.links {
-                octets = octets.saturating_add(link.modem.octets());
-            }
-            tally.add_octets(octets);
-            tally.add_memory(&memory);
-            Ok(())
-        }
-    }
+    let forecast = forecast(alloc, setting.stores, &came, &amounts)?;
+    let plan = plan(alloc, setting.stores, &amounts)?;
+    let mut mission = Mission::read(alloc, &setting.setup(alloc)?, &forecast, &plan)?;
+    let carried = mission.carry_out(rt, alloc, sources, setting.links)?;
+    tally.add_report(&carried.report);
+    tally.add_octets(carried.octets);
+    tally.add_memory(&mission.memory);
+    Ok(())
 }

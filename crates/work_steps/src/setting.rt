@@ -3,6 +3,7 @@
 use anyhow::Result;
 use std::alloc::Global;
 use work_base::Numbers;
+use work_parts::{write_route, write_store};
 
 /// What a store does where it is full.
 #[derive(Clone, Copy, PartialEq, Eq)]
@@ -13,9 +14,10 @@ pub enum Full {
     Refuses,
 }
 
-/// How many sources, stores, links and steps there are (without a link all is recorded and nothing is dumped); about how many packets
-/// a source gives in each step, of how many report types, and of how many octets; how many blocks each store has, and what it does
-/// where it is full; and whether the stores are emptied after each step that is only recorded.
+/// How many sources, stores, links and steps there are (without a link all is recorded and nothing is dumped); about
+/// how many packets a source gives in each step, of how many report types, and of how many octets; how many blocks each
+/// store has, and what it does where it is full; and whether the stores are emptied after each step that is only
+/// recorded.
 #[derive(Clone, Copy)]
 pub struct Setting {
     pub sources: u32,
@@ -31,8 +33,8 @@ pub struct Setting {
 }
 
 impl Setting {
-    /// What is run where no words are given: in each of three steps two sources give 7 packets each, which go to two stores of ten
-    /// blocks each.
+    /// What is run where no words are given: in each of three steps two sources give 7 packets each, which go to two
+    /// stores of ten blocks each.
     pub const SMALL: Setting = Setting {
         sources: 2,
         stores: 2,
@@ -82,33 +84,20 @@ impl Setting {
         }
     }
 
-    // The table of a route.
-    fn push_route(&self, text: &mut String, alloc: Global, kind: u32, store: u32) -> Result<()> {
-        let route = format!(in alloc;
-            "[[route]]\napid = {kind}\nservice = 3\nsubtype = 25\nstore = \"S{store}\"\n\n"
-        )?;
-        text.push_str(route.as_str())?;
-        Ok(())
-    }
-
     /// The setup text of the stores and their routes: report type n is the telemetry of APID n, service 3, subtype 25.
-    pub fn setup(&self, alloc: Global) -> Result<String> {
-        let mut text = String::new(alloc);
-        let size = self.blocks;
+    pub fn setup(&self, alloc: Global) -> Result<Vec<u8>> {
+        let mut text = Vec::new(alloc);
         let kind = match self.full {
             Full::Overwrites => "circular",
             Full::Refuses => "bounded",
         };
         for store in 0..self.stores {
-            let table = format!(in alloc;
-                "[[store]]\nid = \"S{store}\"\nsize = {size}\ntype = \"{kind}\"\nchannel = 0\nstart = 0\n\n"
-            )?;
-            text.push_str(table.as_str())?;
+            write_store(&mut text, store, kind, self.blocks, 0)?;
         }
-        for kind in 0..self.types {
-            for store in [self.store(kind), self.other_store(kind)] {
+        for apid in 0..self.types {
+            for store in [self.store(apid), self.other_store(apid)] {
                 if let Some(store) = store {
-                    self.push_route(&mut text, alloc, kind, store)?;
+                    write_route(&mut text, apid, store)?;
                 }
             }
         }
@@ -130,61 +119,4 @@ impl Setting {
         }
         Ok(amounts)
     }
-
-    // The names of the stores, each after this text.
-    fn push_names(&self, text: &mut String, alloc: Global, before: &str) -> Result<()> {
-        for store in 0..self.stores {
-            text.push_str(format!(in alloc; "{before}S{store}")?.as_str())?;
-        }
-        Ok(())
-    }
-
-    /// The forecast of what came, with windows for these amounts.
-    pub fn forecast(
-        &self,
-        alloc: Global,
-        came: &[Vec<u32>],
-        amounts: &[Vec<u32>],
-    ) -> Result<String> {
-        let mut text = String::new(alloc);
-        text.push_str("step,window")?;
-        self.push_names(&mut text, alloc, ",")?;
-        text.push_str("\n")?;
-        let mut step = 0u32;
-        for (row, amounts) in came.iter().zip(amounts) {
-            step = step.saturating_add(1);
-            let mut window = 0u32;
-            for amount in amounts {
-                window = window.saturating_add(*amount);
-            }
-            text.push_str(format!(in alloc; "{step},{window}")?.as_str())?;
-            push_row(&mut text, alloc, ",", row)?;
-        }
-        Ok(text)
-    }
-
-    /// The plan text by which these amounts are dumped.
-    pub fn plan(&self, alloc: Global, amounts: &[Vec<u32>]) -> Result<String> {
-        let mut text = String::new(alloc);
-        text.push_str("mmplan 1\nstores")?;
-        self.push_names(&mut text, alloc, " ")?;
-        text.push_str("\n")?;
-        let mut step = 0u32;
-        for row in amounts {
-            step = step.saturating_add(1);
-            text.push_str(format!(in alloc; "dump {step}")?.as_str())?;
-            push_row(&mut text, alloc, " ", row)?;
-        }
-        text.push_str("loss 0\nbound 0\nend\n")?;
-        Ok(text)
-    }
-}
-
-// The rest of a line: numbers, each after this text.
-fn push_row(text: &mut String, alloc: Global, before: &str, row: &[u32]) -> Result<()> {
-    for number in row {
-        text.push_str(format!(in alloc; "{before}{number}")?.as_str())?;
-    }
-    text.push_str("\n")?;
-    Ok(())
 }

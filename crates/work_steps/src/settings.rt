@@ -1,15 +1,11 @@
 //! The settings of the workload.
 
 use crate::setting::{Full, Setting};
+use work_base::table;
 
-// Settings: the fields of each.
-macro_rules! settings {
-    ($($($field:ident $value:expr),+;)+) => { [$(Setting { $($field: $value),+ }),+] };
-}
-
-/// Recorders alone, over stores that are emptied or stay full; then runs with dump workers, with room for all or less; at last many
-/// steps with few packets of the longest kind.
-pub static SETTINGS: [Setting; 8] = settings! {
+/// Recorders alone, over stores that are emptied or stay full; then runs with dump workers, with room for all or less;
+/// at last many steps with few packets of the longest kind.
+pub static SETTINGS: [Setting; 8] = table! { Setting;
     sources 1, stores 16, links 0, steps 4, each 30_000, types 33, octets 64, blocks 10_000,
         full Full::Overwrites, emptied true;
     sources 8, stores 4, links 0, steps 8, each 2_500, types 9, octets 64, blocks 2_000,

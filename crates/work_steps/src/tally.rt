@@ -6,10 +6,10 @@ use mm_record::Recorded;
 use mm_report::Report;
 use mm_store::PacketStore;
 use std::fmt;
-use work_base::Digest;
+use work_base::{Digest, rows};
 
-/// How many packets came to the stores, were lost and were dumped, how many are left, and the octets that were sent; and a digest of
-/// these numbers, store by store.
+/// How many packets came to the stores, were lost and were dumped, how many are left, and the octets that were sent;
+/// and a digest of these numbers, store by store.
 #[derive(Clone, Copy)]
 pub struct Tally {
     came: u64,
@@ -101,17 +101,6 @@ impl Tally {
 
 impl fmt::Display for Tally {
     fn fmt<W: fmt::Write>(&self, f: &mut fmt::Formatter<W>) -> fmt::Result {
-        let Tally {
-            came,
-            lost,
-            dumped,
-            left,
-            octets,
-            digest: _,
-        } = self;
-        write!(
-            f,
-            "came {came} lost {lost} dumped {dumped} left {left} octets {octets}"
-        )
+        rows!(f, self; came, lost, dumped, left, octets)
     }
 }

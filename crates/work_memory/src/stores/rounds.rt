@@ -6,6 +6,7 @@ use mm_store::PacketStore;
 use std::alloc::Global;
 use std::fmt;
 use std::time::{Clock, Duration, Instant};
+use work_base::Seconds;
 
 /// The blocks of the store, and the packets of one round.
 pub const SIZE: u32 = 10_000;
@@ -25,14 +26,8 @@ pub struct Report {
 impl fmt::Display for Report {
     /// The times in seconds, and the sum.
     fn fmt<W: fmt::Write>(&self, f: &mut fmt::Formatter<W>) -> fmt::Result {
-        for (name, time) in [
-            ("put", self.put),
-            ("read", self.read),
-            ("delete", self.delete),
-        ] {
-            write!(f, "{name} {}.{:09} ", time.as_secs(), time.subsec_nanos())?;
-        }
-        write!(f, "sum {}", self.sum)
+        let (put, read, delete) = (Seconds(self.put), Seconds(self.read), Seconds(self.delete));
+        write!(f, "put {put} read {read} delete {delete} sum {}", self.sum)
     }
 }
 

@@ -1,6 +1,6 @@
 use Rattle.std.proofs.Common.{rules}
-use Rattle.work_steps.proofs.Taking.{taken_here, others_same}
-use Rattle.work_steps.proofs.sources.BurstsSource.next.Goals as goal
+use Rattle.work_parts.proofs.Taking.{taken_here, others_same}
+use Rattle.work_parts.proofs.bursts.BurstsSource.next.Goals as goal
 
 pub returns-then-step-len-clause-gives : goal.returns-then-step-len-clause-gives
 returns-then-step-len-clause-gives c =

@@ -1,7 +1,6 @@
 //! Links that count octets, and keep nothing of a packet.
 
-use crate::packets::HEADERS;
-use crate::setting::Setting;
+use crate::bursts::HEADERS;
 use anyhow::Result;
 use callers::radio::{Modem, Radio};
 use mm_packet::Packet;
@@ -13,13 +12,6 @@ pub struct Meter {
     octets: u64,
 }
 
-impl Meter {
-    /// The octets of the packets that were sent.
-    pub fn octets(&self) -> u64 {
-        self.octets
-    }
-}
-
 impl Modem for Meter {
     fn transmit(&mut self, packet: &Packet) -> bool {
         let octets = u64::from(HEADERS).saturating_add(packet.body().len() as u64);
@@ -28,11 +20,20 @@ impl Modem for Meter {
     }
 }
 
-/// The links of one step.
-pub fn meters(alloc: Global, setting: &Setting) -> Result<Vec<Radio<Meter>>> {
-    let mut links = Vec::new(alloc);
-    for _ in 0..setting.links {
-        links.push(Radio::new(alloc, Meter { octets: 0 }))?;
+/// This many links over which nothing was sent.
+pub fn meters(alloc: Global, links: u32) -> Result<Vec<Radio<Meter>>> {
+    let mut meters = Vec::new(alloc);
+    for _ in 0..links {
+        meters.push(Radio::new(alloc, Meter { octets: 0 }))?;
     }
-    Ok(links)
+    Ok(meters)
+}
+
+/// The octets of all packets that were sent over these links.
+pub fn octets_of(links: &[Radio<Meter>]) -> u64 {
+    let mut octets = 0u64;
+    for link in links {
+        octets = octets.saturating_add(link.modem.octets);
+    }
+    octets
 }
