@@ -1,5 +1,6 @@
 -- What is read at a key, and what the key says.
-use Rattle.std.proofs.Common.{◌≡◌, ℕ, ℤ, pos, negsuc, ◌≤◌, ◌<◌, zero, suc, length, get_or, nat_le, Bool, true, false, ◌||◌, List, [], ◌∷◌, map, Option, Some, Ok, refl, sym, ap, ◌∙◌, arith, inl, inr}
+use Rattle.std.proofs.Common.{◌≡◌, ℕ, ℤ, pos, negsuc, ◌≤◌, ◌<◌, zero, suc, length, get_or, nat_le, Bool, true, false}
+use Rattle.std.proofs.Common.{◌||◌, List, [], ◌∷◌, map, Option, Some, Ok, refl, sym, ap, ◌∙◌, arith, inl, inr}
 use Rattle.std.specs.Prelude.{Contains, bytes_eq, option_and_then}
 use Rattle.std.specs.Bool.{Decides}
 use Rattle.std.specs.List.{list_any, list_all}
@@ -14,7 +15,7 @@ use Rattle.mm_problem.specs.Name.{text_of}
 use Rattle.mm_problem.specs.ReadableSetup.{HasOnly, SaysText, SaysNumber, SaysId}
 use Rattle.mm_problem.specs.Tables.{id_at}
 use Rattle.mm_base.proofs.IdFields.{is_id_text_decides}
-use Rattle.mm_base.proofs.ReadingSteps.{bind_ok, test_ok, ok_or_ok, cond_ok}
+use Rattle.mm_base.proofs.ReadingSteps.{bind_ok, ok_or_ok, cond_ok}
 
 -- ---- the kinds of values
 
@@ -55,19 +56,22 @@ module _ {X : Type 0} (f : X → List ℕ) where
   ]
 
   -- a value that is there is found
-  found_read : (xs : List X) (key : List ℕ) (k : ℕ) → k < length (map f xs) → get_or (map f xs) k key ≡ key → list_any (λ x. bytes_eq (f x) key) xs ≡ true
+  found_read : (xs : List X) (key : List ℕ) (k : ℕ)
+      → k < length (map f xs) → get_or (map f xs) k key ≡ key → list_any (λ x. bytes_eq (f x) key) xs ≡ true
   found_read [] key k within is = absurd (omega arith)
   found_read (x ∷ xs) key zero within is = rw ((bytes_eq-Decides (f x) key).1 is) refl
   found_read (x ∷ xs) key (suc k) within is = rw (found_read xs key k (omega arith) is) (or_true (bytes_eq (f x) key))
 
   -- an element at which f has a value
-  pub found_decides : (xs : List X) (key : List ℕ) → Decides (list_any (λ x. bytes_eq (f x) key) xs) (Contains (map f xs) key)
+  pub found_decides : (xs : List X) (key : List ℕ)
+      → Decides (list_any (λ x. bytes_eq (f x) key) xs) (Contains (map f xs) key)
   found_decides xs key = (found_said xs key, λ h. found_read xs key h.0 h.1 h.2)
 
 -- the test of the keys of a table
 pub has_only_decides : (names : List Name) (ms : Members) → Decides (has_only names ms) (HasOnly names ms)
 has_only_decides names ms =
-    Decides-by_and (is_named names) (Contains (map text_of names)) (list_all (is_named names)) (found_decides text_of names) refl (λ _ _. refl) (keys_of ms)
+    Decides-by_and (is_named names) (Contains (map text_of names))
+    (list_all (is_named names)) (found_decides text_of names) refl (λ _ _. refl) (keys_of ms)
 
 -- ---- texts and numbers
 
@@ -88,9 +92,14 @@ module _ (row : ℕ) (name : Name) (ms : Members) where
   pub id_said : (id : List ℕ) → id_at row name ms ≡ Ok id → SaysId ms name id
   unfolding id_at
   id_said id h =
-      let (text, said, more) = bind_ok _ _ _ h in
-      let (u, passed, last) = bind_ok _ _ _ more in
-      record { text = text; says = text_said text said; well_formed = (is_id_text_decides text).0 (test_ok _ _ _ passed); padded = cc }
+      let (text, said, is) = bind_ok _ _ _ h in
+      let (passed, same) = cond_ok _ _ _ _ is in
+      record {
+        text = text;
+        says = text_said text said;
+        well_formed = (is_id_text_decides text).0 passed;
+        padded = sym same;
+      }
 
   -- the identifier that the key has is read
   pub id_read : (id : List ℕ) → SaysId ms name id → id_at row name ms ≡ Ok id

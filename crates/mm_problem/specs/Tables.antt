@@ -1,5 +1,6 @@
 -- The rows of a setup, read from its tables in the order of their faults.
-use Rattle.std.specs.Prelude.{ℕ, ◌+◌, Bool, ◌==◌, not, if◌then◌else◌, List, [], ◌∷◌, ◌++◌, length, Option, Some, None, Result, Ok, Err, bytes_eq}
+use Rattle.std.specs.Prelude.{ℕ, ◌+◌, Bool, ◌==◌, not, if◌then◌else◌, List, [], ◌∷◌, ◌++◌, length, Option, Some, None}
+use Rattle.std.specs.Prelude.{Result, Ok, Err, bytes_eq}
 use Rattle.std.specs.List.{list_any}
 use Rattle.std.specs.Option.{ok_or}
 use Rattle.toml.specs.Data.{Data, Members, as_table}
@@ -40,12 +41,15 @@ table_of row element keys d = do
   known ← test (has_only keys ms) (SetupField row name.Unknown)
   Ok ms
 
--- the identifier at a key, as its field
+-- the identifier with this text, as its field
+abbrev pub id_of : ℕ → Name → List ℕ → Result (List ℕ) Fault
+id_of row name text = if is_id_text text then Ok (field_of text) else Err (SetupField row name)
+
+-- the identifier at a key
 unfoldable pub id_at : ℕ → Name → Members → Result (List ℕ) Fault
 id_at row name ms = do
   text ← text_at row name ms
-  well_formed ← test (is_id_text text) (SetupField row name)
-  Ok (field_of text)
+  id_of row name text
 
 -- the kind that a word means
 abbrev pub kind_of : ℕ → List ℕ → Result Kind Fault
@@ -70,7 +74,8 @@ abbrev pub start_at : ℕ → ℕ → Members → Result ℕ Fault
 start_at row size ms = start_from row size ms (value_at name.Start ms)
 
 -- the row in the table after these earlier rows, where it passes the tests beside them
-unfoldable pub row_after : {R : Type 0} → (ℕ → Data → Result R Fault) → (List R → R → Result (Unit {0}) Fault) → List R → Data → Result R Fault
+unfoldable pub row_after : {R : Type 0} → (ℕ → Data → Result R Fault) → (List R → R → Result (Unit {0}) Fault)
+    → List R → Data → Result R Fault
 row_after row_at new_row earlier d = do
   row ← row_at (length earlier + 1) d
   new ← new_row earlier row
@@ -136,7 +141,8 @@ limit_at row d = do
 
 -- the test that no limit so far is of the row's channel
 abbrev pub new_limit : List LimitRow → LimitRow → Result (Unit {0}) Fault
-new_limit earlier row = test (not (list_any (λ r. r.channel == row.channel) earlier)) (SetupField (length earlier + 1) name.Repeated)
+new_limit earlier row =
+    test (not (list_any (λ r. r.channel == row.channel) earlier)) (SetupField (length earlier + 1) name.Repeated)
 
 -- the limits of these tables
 abbrev pub limits_in : List Data → Result (List LimitRow) Fault

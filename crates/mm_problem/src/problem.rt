@@ -1,9 +1,9 @@
 //! The dumping problem: what the setup and the forecast say together.
-ghost use Rattle.std.specs.Prelude.{◌≡◌, ℕ, ◌+◌, ◌-◌, ◌*◌, ◌==◌, ◌<◌, ◌≤◌, length, IfOk, IfErr, IfSome, IfNone};
-ghost use Rattle.std.specs.List.{position_or_len};
+ghost use Rattle.std.specs.Prelude.{◌≡◌, ◌==◌, ◌<◌, ◌≤◌, length, position, bytes_eq, IfOk, IfErr, IfSome, IfNone};
 ghost use Rattle.mm_base.specs.declared.limits.TheConstants.{MAX_STORES, MAX_STEPS, MAX_BLOCKS, MAX_CHANNEL, CHANNELS};
 ghost use Rattle.mm_base.specs.Id.{IsIdField};
-ghost use Rattle.mm_problem.specs.Dumping.{row, place_in, place, size, start, channel, setup_limit, step_limit, column_limit, lesser, limit, window, arrivals, IsDumping};
+ghost use Rattle.mm_problem.specs.Dumping.{row, place, size, start, channel, setup_limit, step_limit, column_limit};
+ghost use Rattle.mm_problem.specs.Dumping.{lesser, limit, window, arrivals, IsDumping};
 ghost use Rattle.mm_problem.specs.Forecast.{limit_of, limits_of, problem_of};
 ghost use Rattle.mm_problem.specs.Data.{problem_from, limited_by};
 ghost use Rattle.mm_problem.specs.Rest.{rows_from, starts_fit, rest_from};
@@ -21,8 +21,9 @@ use mm_base::{CHANNELS, LimitRow, StoreId, StoreRow};
 use std::alloc::Global;
 use std::marker::Model;
 
-/// A problem of memory dumping: stores with sizes, start volumes and channels, limits of channels, and for each step
-/// a pass window, what arrives at each store, and limits of channels in this step, all in blocks. Stores count from 0 in setup order, steps from 1.
+/// A problem of memory dumping: stores with sizes, start volumes and channels, limits of channels, and for each step a
+/// pass window, what arrives at each store, and limits of channels in this step, all in blocks. Stores count from 0 in
+/// setup order, steps from 1.
 #[derive(Debug, Drop)]
 pub struct Problem {
     pub(crate) rows: Vec<StoreRow>,
@@ -42,22 +43,30 @@ impl Model for Problem {
 
     ghost Value = { Dumping };
 
-    ghost view = { λ a. record { rows = a.rows.items; limits = a.limits; windows = a.windows.items; arrived = a.arrived.items; limited = a.limited.items; step_limits = a.step_limits.items } };
+    ghost view = { λ a. record {
+      rows = a.rows.items;
+      limits = a.limits;
+      windows = a.windows.items;
+      arrived = a.arrived.items;
+      limited = a.limited.items;
+      step_limits = a.step_limits.items;
+    } };
 
-    ghost invariant = { λ a. IsDumping (record { rows = a.rows.items; limits = a.limits; windows = a.windows.items; arrived = a.arrived.items; limited = a.limited.items; step_limits = a.step_limits.items }) };
+    ghost invariant = { λ a. IsDumping (record {
+      rows = a.rows.items;
+      limits = a.limits;
+      windows = a.windows.items;
+      arrived = a.arrived.items;
+      limited = a.limited.items;
+      step_limits = a.step_limits.items;
+    }) };
 }
 
-// The place of the store with this identifier, or the number of stores.
-fn place_in(rows: &[StoreRow], id: &StoreId) -> usize
-    ensures place { result ≡ place_in rows.now id.now }
-    ensures within { result ≤ length rows.now }
+// The place of the store with this identifier.
+fn place_in(rows: &[StoreRow], id: &StoreId) -> Option<usize>
+    ensures { result ≡ position (λ r. bytes_eq r.id id.now) rows.now }
 {
-    for (place, row) in rows.iter().enumerate() {
-        if row.id == *id {
-            return place;
-        }
-    }
-    rows.len()
+    rows.iter().position(|row| row.id == *id)
 }
 
 // Whether each store has room for its start volume.
@@ -108,17 +117,11 @@ fn limits_of(limits: &[LimitRow]) -> [Option<u32>; CHANNELS]
     by_channel
 }
 
-// The place of a channel, or how many there are.
-fn column_of(limited: &[u8], channel: u8) -> usize
-    ensures column { result ≡ position_or_len (λ k. k == channel) limited.now }
-    ensures within { result ≤ length limited.now }
+// The place of a channel.
+fn column_of(limited: &[u8], channel: u8) -> Option<usize>
+    ensures { result ≡ position (λ k. k == channel) limited.now }
 {
-    for (column, of) in limited.iter().enumerate() {
-        if *of == channel {
-            return column;
-        }
-    }
-    limited.len()
+    limited.iter().position(|of| *of == channel)
 }
 
 // The lesser of two limits, of those that there are.
@@ -133,9 +136,10 @@ fn lesser(a: Option<u32>, b: Option<u32>) -> Option<u32>
 }
 
 impl Problem {
-    /// The problem of these stores and limits of channels, windows of the steps, and arrivals step by step, in each the stores in
-    /// order. Otherwise the first fault, as the readers test what they read: 28 `SetupField` for a repeated store or channel, 29
-    /// `ForecastText` where there are not as many arrivals as stores in each step, or 33 `Limit`; or 0 `NoMemory`.
+    /// The problem of these stores and limits of channels, windows of the steps, and arrivals step by step, in each the
+    /// stores in order. Otherwise the first fault, as the readers test what they read: 28 `SetupField` for a repeated
+    /// store or channel, 29 `ForecastText` where there are not as many arrivals as stores in each step, or 33 `Limit`;
+    /// or 0 `NoMemory`.
     #[tactic(auto, unfolding(crate::specs::Data::problem_from))]
     pub fn new(
         alloc: Global,
@@ -167,9 +171,9 @@ impl Problem {
         })
     }
 
-    /// The same problem with limits of their own in each step for these channels, which rise: step by step, in each the channels in
-    /// order. Otherwise the first fault, as the reader tests such columns: 30 `Header`, 29 `ForecastText` where there are not as many
-    /// limits as channels in each step, or 33 `Limit`; or 0 `NoMemory`.
+    /// The same problem with limits of their own in each step for these channels, which rise: step by step, in each the
+    /// channels in order. Otherwise the first fault, as the reader tests such columns: 30 `Header`, 29 `ForecastText`
+    /// where there are not as many limits as channels in each step, or 33 `Limit`; or 0 `NoMemory`.
     #[tactic(auto, unfolding(crate::specs::Data::limited_by))]
     pub fn with_step_limits(
         &self,
@@ -197,8 +201,8 @@ impl Problem {
         })
     }
 
-    /// The problem of the steps after this one, where each store begins with this many blocks, in setup order. A start above its
-    /// store's size is 33 `Limit`; or 0 `NoMemory`.
+    /// The problem of the steps after this one, where each store begins with this many blocks, in setup order. A start
+    /// above its store's size is 33 `Limit`; or 0 `NoMemory`.
     #[tactic(auto, unfolding(crate::specs::Rest::rest_from))]
     pub fn rest(&self, alloc: Global, step: u32, starts: &[u32]) -> Result<Problem, Fault>
         requires before_last { step < length self.now.windows }
@@ -287,12 +291,7 @@ impl Problem {
         ensures found { IfSome result (λ s. (s ≡ place self.now id.now) × (s < length self.now.rows)) }
         ensures none { IfNone result (place self.now id.now ≡ length self.now.rows) }
     {
-        let place = place_in(self.rows.as_slice(), id);
-        if place < self.rows.len() {
-            Some(place)
-        } else {
-            None
-        }
+        place_in(self.rows.as_slice(), id)
     }
 
     /// The identifier of a store.
@@ -354,16 +353,12 @@ impl Problem {
         ensures limit { result ≡ step_limit self.now channel step }
         ensures most { IfSome result (λ blocks. blocks ≤ MAX_BLOCKS) }
     {
-        let column = column_of(self.limited.as_slice(), channel);
-        if column < self.limited.len() {
-            Some(self.column_limit(column, step))
-        } else {
-            None
-        }
+        let column = column_of(self.limited.as_slice(), channel)?;
+        Some(self.column_limit(column, step))
     }
 
-    /// How many blocks may leave the stores of a channel together in a step: as many as the setup's limit and the forecast's limit of
-    /// this step let through, of those that there are; none where it has neither.
+    /// How many blocks may leave the stores of a channel together in a step: as many as the setup's limit and the
+    /// forecast's limit of this step let through, of those that there are; none where it has neither.
     #[must_use]
     pub fn limit(&self, channel: u8, step: u32) -> Option<u32>
         requires first { 1 ≤ step }
@@ -389,7 +384,8 @@ impl Problem {
         self.limited.as_slice()
     }
 
-    /// The limit that the forecast has in a step for a channel, in blocks: that in this place, from 0, of those of `limited`.
+    /// The limit that the forecast has in a step for a channel, in blocks: that in this place, from 0, of those of
+    /// `limited`.
     #[must_use]
     pub fn column_limit(&self, column: usize, step: u32) -> u32
         requires column { column < length self.now.limited }

@@ -5,7 +5,8 @@ ghost use Rattle.toml.specs.View.{view, table_view};
 ghost use Rattle.mm_problem.specs.declared.fault.Fault.TheVariants.{NoMemory};
 ghost use Rattle.mm_base.specs.Reading.{Gives};
 ghost use Rattle.mm_base.specs.SameRoutes.{same_route};
-ghost use Rattle.mm_problem.specs.Tables.{table_at, table_of, id_at, kind_of, kind_at, start_at, store_at, has_store, new_store, route_at, new_route, limit_at, new_limit};
+ghost use Rattle.mm_problem.specs.Tables.{table_at, table_of, id_of, id_at, kind_of, kind_at, start_at};
+ghost use Rattle.mm_problem.specs.Tables.{store_at, has_store, new_store, route_at, new_route, limit_at, new_limit};
 
 use crate::fault::{Fault, Name};
 use crate::keys::{has_only, number_at, text_at, value_at};
@@ -43,15 +44,23 @@ fn table_of<'a>(
     Ok(table)
 }
 
-// The identifier at a key.
-fn id_at(row: u32, name: Name, table: &Table) -> Result<StoreId, Fault>
-    ensures { Gives NoMemory (λ id. id) result (id_at row name (table_view table.now)) }
+// The identifier with this text.
+fn id_of(row: u32, name: Name, text: &str) -> Result<StoreId, Fault>
+    ensures { Gives NoMemory (λ id. id) result (id_of row name text.now) }
 {
-    let text = text_at(row, name, table)?;
     match StoreId::of_text(text.as_bytes()) {
         Ok(id) => Ok(id),
         Err(_) => Err(Fault::SetupField { row, name }),
     }
+}
+
+// The identifier at a key.
+#[tactic(auto, unfolding(crate::specs::Tables::id_at))]
+fn id_at(row: u32, name: Name, table: &Table) -> Result<StoreId, Fault>
+    ensures { Gives NoMemory (λ id. id) result (id_at row name (table_view table.now)) }
+{
+    let text = text_at(row, name, table)?;
+    id_of(row, name, text)
 }
 
 fn kind_of(row: u32, word: &str) -> Result<Kind, Fault>
