@@ -46,7 +46,7 @@ module _ (m : RunInput) (plan : Table) (sources : List Burst) (links : List Down
   left = over_memory memory halted.sources.items halted.links.items
 
   in_step : (at step : ℕ) → halted.cause ≡ LinkFailed step → IsHaltedIn sent_over failed_of m plan
-      (over_memory m.memory m.gives links) at (with_supplies left rest) (stop_of halted)
+      (over_memory m.memory m.gives links) at (with_supplies left rest) (stop_of halted) halted.report
       → GoesOutAgain links halted.links.items memory
   in_step at step is_link was =
       let same : step ≡ at = subst (IsCauseIn at) is_link was.stopped_is.cause_is in
@@ -94,6 +94,6 @@ module _ (m : RunInput) (plan : Table) (sources : List Burst) (links : List Down
   goes_again step is_link halts = by_end halts.1
     where
       by_end : IsStopped sent_over failed_of m plan (over_memory m.memory sources links) left rest (stop_of halted)
-          → GoesOutAgain links halted.links.items memory
+          halted.report → GoesOutAgain links halted.links.items memory
       by_end (inl was) = in_step was.0 step is_link was.1
       by_end (inr never) = no_refusal _ step is_link never.1

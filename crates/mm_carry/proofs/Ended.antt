@@ -1,10 +1,13 @@
 -- How a run ends: what is not begun, and the total of what is lost.
-use Rattle.std.proofs.Common.{◌≡◌, inr, refl, ℕ, List, [], length, map, get_or, sym, ap, subst, ◌∙◌}
+use Rattle.std.proofs.Common.{◌≡◌, inl, inr, refl, ℕ, List, [], length, map, get_or, sym, ap, subst, ◌∙◌}
 use Rattle.std.specs.Prelude.{sum_by}
 use Rattle.mm_carry.proofs.Words.{sum_by-same, sum_by-map, sum_by-swap, Dumping, stores, steps, Table, lost, loss, Held}
 use Rattle.mm_carry.proofs.Words.{Supply, Sent, Reported, totals_of, Cause, StepCounts, given_to, IsRefusal, IsStopped}
 use Rattle.mm_carry.proofs.Words.{report_of, planned_counts, RunStart, run_start, RunInput, as_came, RunState, InRun}
-use Rattle.mm_carry.proofs.Words.{RunContext, RunStopped, StepBroken}
+use Rattle.mm_carry.proofs.Words.{RunContext, Stop, Stops, HasEnded, HasRun, AreWithinLimits, NeverRefused}
+use Rattle.mm_carry.specs.Ending.{run_start_of}
+use Rattle.std.specs.Prelude.{OnOk, IfErr, Result, Ok, Err}
+use Rattle.std.specs.Result.{result_err}
 
 -- what holds of what a run begins with holds of the same, by whatever names
 pub start_by : (P : RunStart → Type 0) (q : Dumping) (plan : Table) (base : ℕ) {held stores : List Held}
@@ -16,20 +19,52 @@ start_by P q plan base read many_sources many_links holds =
 
 -- how a run ended that did not begin, whatever its sources give
 pub not_begun : {S L : Type 0} (leads : S → S → Type 0) (until : S → S → Supply) (sent : L → List Sent) (failed : L → ℕ)
-    (run : RunContext) (first : RunState S L) (stopped : RunStopped)
-    {cause : Cause} → stopped.broken ≡ record { cause = cause; spent = 0 } → stopped.report.steps ≡ []
+    (run : RunContext) (first : RunState S L) (report : Reported) (stop : Stop)
+    {cause : Cause} → stop ≡ record { cause = cause; spent = 0 } → report.steps ≡ []
     → IsRefusal (run_start run.problem.now run.plan.now first.stores run.base (length first.sources)
     (length first.links)) cause
     → InRun leads until first first (λ begun now. IsStopped sent failed (given_to run begun) run.plan.now first first
-    now.sources stopped)
-not_begun leads until sent failed run first stopped broken report refusal lasts lead = (
+    now.sources stop report)
+not_begun leads until sent failed run first report stop is none refusal lasts lead = (
   lead,
   inr (
-    record { same = refl; report_is = report; spent_is = ap (λ (b : StepBroken). b.spent) broken },
+    record { same = refl; report_is = none; spent_is = ap (λ (s : Stop). s.spent) is },
     subst (IsRefusal (run_start run.problem.now run.plan.now first.stores run.base (length first.sources)
-        (length first.links))) (sym (ap (λ (b : StepBroken). b.cause) broken)) refusal,
+        (length first.links))) (sym (ap (λ (s : Stop). s.cause) is)) refusal,
   ),
 )
+
+-- how the steps of a run ended is how it ended
+pub ended_whole : {S L : Type 0} (leads : S → S → Type 0) (until : S → S → Supply) (sent : L → List Sent)
+    (failed : L → ℕ) (run : RunContext) (first now : RunState S L) (report : Reported)
+    (result : Result (Unit {0}) Stop) → InRun leads until first now
+    (λ begun left. HasEnded sent failed (given_to run begun) run.plan.now begun (result_err result) left report)
+    → OnOk result (InRun leads until first now
+    (λ begun left. HasRun sent failed (given_to run begun) run.plan.now begun (length run.problem.now.windows) left
+    report))
+ended_whole leads until sent failed run first now report (Ok x) ended = ended
+ended_whole leads until sent failed run first now report (Err stop) ended = tt
+
+pub ended_early : {S L : Type 0} (leads : S → S → Type 0) (until : S → S → Supply) (sent : L → List Sent)
+    (failed : L → ℕ) (run : RunContext) (first now : RunState S L) (report : Reported)
+    (result : Result (Unit {0}) Stop) → InRun leads until first now
+    (λ begun left. HasEnded sent failed (given_to run begun) run.plan.now begun (result_err result) left report)
+    → IfErr result (λ stop. InRun leads until first now
+    (λ begun left. IsStopped sent failed (given_to run begun) run.plan.now first now left.sources stop report))
+ended_early leads until sent failed run first now report (Ok x) ended = tt
+ended_early leads until sent failed run first now report (Err stop) ended =
+    λ lasts lead. let one = ended lasts lead in (one.0, inl one.1)
+
+-- where counts are far from their end, no store refused a packet in a run that was stopped
+pub stopped_far : {S L : Type 0} (sent : L → List Sent) (failed : L → ℕ) (m : RunInput) (plan : Table)
+    (first after : RunState S L) (left : List Supply) (stop : Stop) (report : Reported)
+    → IsStopped sent failed m plan first after left stop report
+    → AreWithinLimits (length m.problem.windows) m.memory.stores m.gives → NeverRefused stop.cause
+stopped_far sent failed m plan first after left stop report (inl halted) limits = halted.1.never_refused limits
+stopped_far sent failed m plan first after left stop report (inr (untouched, inl stops)) limits =
+    λ at same. let none = subst (Stops (run_start_of m plan first)) same stops in absurd none
+stopped_far sent failed m plan first after left stop report (inr (untouched, inr lack)) limits =
+    λ at same. absurd (cc (lack.0, same))
 
 -- the total of the lost packets is the loss of the plan, with what came in place of the forecast
 pub total_is : (m : RunInput) (report : Reported)

@@ -9,89 +9,77 @@ use Rattle.mm_report.specs.declared.cause.Cause.TheVariants.{LinkFailed}
 use Rattle.mm_carry.proofs.Replays.{IsRun-append}
 use Rattle.mm_base.specs.declared.rows.RouteRow.{RouteRow}
 use Rattle.mm_carry.specs.Failure.{FailedLink, LastBroke, LinksFailed}
-use Rattle.mm_carry.proofs.Parts.{as_many, same_ids, by_how, all_first, first_turns}
+use Rattle.mm_carry.proofs.Parts.{as_many, first_turns, its_cause}
 use Rattle.mm_carry.proofs.StoresReady.{state_holds}
 use Rattle.std.proofs.lemmas.Bool.Decides.{eqb_tells}
-use Rattle.mm_carry.proofs.Words.{cases_lt, length-map, append-nil, nil_from_length, All-nil, All-cons, All-head}
+use Rattle.std.proofs.lemmas.Option.{IfSome_then}
+use Rattle.mm_carry.proofs.Words.{cases_lt, length-map, nil_from_length, All-nil, All-cons, All-head}
 use Rattle.mm_carry.proofs.Words.{All-tail, sum_by-cons, sum_by-append, get_or-le-sum_by, cond-eqb_same, cond-eqb_other}
-use Rattle.mm_carry.proofs.Words.{SpacePacket, given_oldest, State, IsState, opening_at, IsLegal, Fault, Held}
-use Rattle.mm_carry.proofs.Words.{labels_of, states_of, ids_of, cause_in, RecordingContext, offers, recording, given_in}
+use Rattle.mm_carry.proofs.Words.{given_oldest, State, IsState, opening_at, IsLegal, Fault, Held, IfSome}
+use Rattle.mm_carry.proofs.Words.{states_of, RecordingContext, recording, given_in, wanted}
 use Rattle.mm_carry.proofs.Words.{Supply, Course, EndedAs, IsWhole, IsBroken, IsCourse, worse, worst_of, failed_by}
 use Rattle.mm_carry.proofs.Words.{sent_by, BrokenOrdersChangeNothing, Sent, Order, OrderBroken, Cause, IsByOneLog}
-use Rattle.mm_carry.proofs.Words.{RunState, StepBroke, dump_cause, StepBroken}
+use Rattle.mm_carry.proofs.Words.{AtEachStore, RunState, IsStep, Stop, cause_of, orders_after}
 use Rattle.mm_dump.specs.Broken.{aborted}
 
--- recorders know nothing of links
-no_link : (step : ℕ) (why : Option Fault) → cause_in step why ≡ Some (LinkFailed step) → ⊥
-no_link step None is = absurd (cc is)
-no_link step (Some fault.NoMemory) is = absurd (cc is)
-no_link step (Some why) is = absurd (cc is)
-
 -- where the cause is a link, a link was the worst for which orders broke
-link_failed : (step : ℕ) (why : OrderBroken) → dump_cause step why ≡ LinkFailed step → why ≡ worst.LinkFailed
-link_failed step worst.LinkFailed is = refl
-link_failed step worst.NoMemory is = absurd (cc is)
+link_failed : (step : ℕ) (fault : Option Fault) (broken : Option OrderBroken) (cause : Cause)
+    → cause_of step fault broken ≡ Some cause → cause ≡ LinkFailed step → broken ≡ Some worst.LinkFailed
+link_failed step None None cause is is_link = absurd (cc is)
+link_failed step (Some fault.NoMemory) None cause is is_link = absurd (cc (is, is_link))
+link_failed step (Some other) None cause is is_link = absurd (cc (is, is_link))
+link_failed step fault (Some worst.LinkFailed) cause is is_link = refl
+link_failed step fault (Some worst.NoMemory) cause is is_link = absurd (cc (is, is_link))
 
-module _ {L : Type 0} (sent : L → List Sent) (failed : L → ℕ) (step now : ℕ) (routes : List RouteRow)
-    (orders : List Order)
-    (before after : RunState Supply L) (stop : StepBroken)
-    (broke : StepBroke sent failed (recording step now routes before.stores) orders before after stop)
-    (labels : labels_of after.stores ≡ labels_of before.stores) (k : ℕ) (within : k < length before.stores) where
-  abbrev e : RecordingContext
-  e = recording step now routes before.stores
+-- and no recorder stopped early
+none_early : (fault : Option Fault) (broken : Option OrderBroken) → IfSome fault (λ _. broken ≡ None)
+    → broken ≡ Some worst.LinkFailed → fault ≡ None
+none_early None broken early linked = refl
+none_early (Some fault) broken early linked = absurd (cc (early, linked))
 
-  abbrev came : List (List SpacePacket)
-  came = given_in step before.sources
+-- a store at which an order is carried out: all orders are
+all_orders : (fault : Option Fault) (orders : List Order) (k : ℕ) → 0 < times k (places_of (orders_after fault orders))
+    → orders_after fault orders ≡ orders
+all_orders None orders k some = refl
+all_orders (Some fault) orders k some = absurd (omega (arith, some))
 
-  abbrev state_in : RunState Supply L → State
-  state_in x = opening_at (states_of x.stores) k
-
-  inside : (x : RunState Supply L) → labels_of x.stores ≡ labels_of before.stores → k < length (states_of x.stores)
-  inside x same = omega (
-    arith,
-    within,
-    as_many x.stores before.stores same,
-    length-map x.stores (λ (h : Held). h.state),
-  )
-
-  -- the law
-  pub one_log : IsByOneLog e came orders k (state_in before) (state_in after)
-  one_log =
-      by_how sent failed e orders before after stop (IsByOneLog e came orders k (state_in before) (state_in after))
-      (λ early.
-      let went = early.records.went k (inside after labels) in
-      record {
-        firsts = map (λ run. run.offered k) early.records.runs;
-        are =
-            first_turns e before.sources after.sources early.records.runs k early.records.are_runs
-            (omega (arith, within, length-map before.stores (λ (h : Held). h.id)));
-        offered = went.log;
-        ordered = [];
-        run = rw append-nil went.run;
-        shuffle = went.shuffle;
-        order = inl refl;
-      })
-      (λ mid recorded dump.
-      let first = recorded.stores_are k (inside mid recorded.labels) in
-      let c = dump.settled.course k in
-      let tried = dump.settled.stores k (inside after (dump.labels ∙ recorded.labels)) in
-      record {
-        firsts = map (offers e k) came;
-        are = all_first e k came;
-        offered = first.log;
-        ordered = c.calls;
-        run = IsRun-append (state_in before) (state_in mid) (state_in after) first.log c.calls first.run tried.run;
-        shuffle = first.shuffle;
-        order = elim (cases_lt 0 (sum_by (times k) dump.settled.places)) [
-          | inl some ↦ inr (
-            c,
-            refl,
-            (tried.some some).1,
-            record { place = (tried.some some).0; amount = dump.settled.amounts k some },
-          )
-          | inr none ↦ inl (tried.none (omega arith)).0
-        ];
-      }) broke
+-- the law
+pub one_log : {L : Type 0} (sent : L → List Sent) (failed : L → ℕ) (step now : ℕ) (routes : List RouteRow)
+    (orders : List Order) (before after : RunState Supply L) (stop : Option Stop)
+    → IsStep sent failed (recording step now routes before.stores) orders stop before after
+    → AtEachStore (IsByOneLog (recording step now routes before.stores) (given_in step before.sources) orders)
+    before.stores after.stores
+one_log sent failed step now routes orders before after stop is k within =
+    let e = recording step now routes before.stores in
+    let many : length is.mid ≡ length before.stores = as_many is.mid before.stores is.records.labels in
+    let all : length after.stores ≡ length before.stores = as_many after.stores before.stores is.labels in
+    let went = is.records.went k (omega (arith, within, many, length-map is.mid (λ (h : Held). h.state))) in
+    let settled = is.dumps.settled in
+    let c = settled.course k in
+    let tried = settled.stores k (omega (arith, within, all, length-map after.stores (λ (h : Held). h.state))) in
+    record {
+      firsts = map (λ run. run.offered k) is.records.runs;
+      are =
+          first_turns e before.sources after.sources is.records.runs k is.records.are_runs
+          (omega (arith, within, length-map before.stores (λ (h : Held). h.id)));
+      offered = went.log;
+      ordered = c.calls;
+      run = IsRun-append _ _ _ went.log c.calls went.run tried.run;
+      shuffle = went.shuffle;
+      order = elim (cases_lt 0 (sum_by (times k) settled.places)) [
+        | inl some ↦ inr (
+          c,
+          refl,
+          (tried.some some).1,
+          record {
+            place = (tried.some some).0;
+            amount = settled.amounts k some ∙ ap (λ (os : List Order). wanted os k)
+                (all_orders is.fault orders k (omega (arith, some, settled.once k)));
+          },
+        )
+        | inr none ↦ inl (tried.none (omega arith)).0
+      ];
+    }
 
 -- what an order broke for was at worst a link
 abbrev pub IsMild : Option OrderBroken → Type 0
@@ -316,28 +304,23 @@ links_failed sent failed ids orders before after olds news changes there sound s
         }
 
 -- a step that a failed link halted
-module _ {L : Type 0} (sent : L → List Sent) (failed : L → ℕ) (e : RecordingContext) (orders : List Order)
-    (before after : RunState Supply L) (stop : StepBroken) (changes : BrokenOrdersChangeNothing)
-    (ids : ids_of before.stores ≡ e.ids)
-    (there : All (λ o. o.place < length before.stores) orders) (is_link : stop.cause ≡ LinkFailed e.step) where
-  pub failed_link : StepBroke sent failed e orders before after stop → FailedLink sent failed e orders before after
-  failed_link =
-      by_how sent failed e orders before after stop (FailedLink sent failed e orders before after)
-      (λ broke. absurd (no_link e.step broke.why (broke.cause_is ∙ ap (λ (c : Cause). Some c) is_link)))
-      (λ mid recorded broke.
-      let worst_is : broke.why ≡ worst.LinkFailed = link_failed e.step broke.why (sym broke.cause_is ∙ is_link) in
-      let ids_are = same_ids mid.stores before.stores recorded.labels ∙ ids in
-      let settled = rw (worst_is, ids_are, recorded.links) at broke.settled in
-      let many : length after.stores ≡ length mid.stores = as_many after.stores mid.stores broke.labels in
-      let all : length after.stores ≡ length before.stores = many ∙ as_many mid.stores before.stores recorded.labels in
-      let counted = length-map after.stores (λ (h : Held). h.state) in
-      record {
-        mid = mid;
-        recorded = recorded;
-        sources = broke.sources;
-        links =
-            links_failed sent failed e.ids orders (states_of mid.stores) (states_of after.stores) before.links
-            after.links changes (rw (counted ∙ all) there)
-            (λ k within. state_holds IsState mid.stores recorded.sound k (omega (arith, within, counted, many)))
-            settled;
-      })
+pub failed_link : {L : Type 0} (sent : L → List Sent) (failed : L → ℕ) (e : RecordingContext) (orders : List Order)
+    (stop : Stop) (before after : RunState Supply L) → BrokenOrdersChangeNothing
+    → All (λ o. o.place < length before.stores) orders → stop.cause ≡ LinkFailed e.step
+    → IsStep sent failed e orders (Some stop) before after → FailedLink sent failed e orders before after
+failed_link sent failed e orders stop before after changes there is_link is =
+    let cause = its_cause sent failed e orders stop before after is in
+    let linked = link_failed e.step is.fault is.broken stop.cause cause is_link in
+    let none = none_early is.fault is.broken (IfSome_then is.fault is.early (λ _ nothing. nothing.0)) linked in
+    let many : length is.mid ≡ length before.stores = as_many is.mid before.stores is.records.labels in
+    let all : length after.stores ≡ length before.stores = as_many after.stores before.stores is.labels in
+    let counted = length-map after.stores (λ (h : Held). h.state) in
+    record {
+      mid = is.mid;
+      recorded = rw none at is.records;
+      links =
+          links_failed sent failed e.ids orders (states_of is.mid) (states_of after.stores) before.links after.links
+          changes (rw (counted ∙ all) there)
+          (λ k within. state_holds IsState is.mid is.records.sound k (omega (arith, within, counted, many, all)))
+          (rw (none, linked) at is.dumps).settled;
+    }

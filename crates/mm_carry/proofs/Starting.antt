@@ -10,12 +10,13 @@ use Rattle.mm_carry.proofs.Words.{vec_capacity, MAX_STEPS, MAX_STORES, StoreRow,
 use Rattle.mm_carry.proofs.Words.{no_row, place, FitsAt, amount, OrdersDumpTheOldest, State, IsState, opening_at, blank}
 use Rattle.mm_carry.proofs.Words.{Held, labels_of, states_of, AreHeld, has_id, store_of, named_of, held_as}
 use Rattle.mm_carry.proofs.Words.{is_clock_late, is_late, TakesAll, Supply, BrokenOrdersChangeNothing, Sent, Reported}
-use Rattle.mm_carry.proofs.Words.{IsReady, given_to, recording_at, orders_at, MayReport, StepReported, StepUnreported}
+use Rattle.mm_carry.proofs.Words.{IsReady, given_to, recording_at, orders_at, MayReport, IsReportedStep}
 use Rattle.mm_carry.proofs.Words.{AreWithinLimits, HasRun, IsHaltedIn, RunsLoseAsPlanned, RunsLoseNoPacketUncounted}
 use Rattle.mm_carry.proofs.Words.{StepRunsKeepStores, IsPlaceOf, ArePlaces, StandWithin, AllMeet, NoneUnknown, meets}
 use Rattle.mm_carry.proofs.Words.{meets_at, RunInput, recording_in, step_of, place_in_memory, store_state, step_orders}
-use Rattle.mm_carry.proofs.Words.{RunState, with_supplies, AreReady, AreOrders, NeverRefused, StepsDone, taken_amounts}
-use Rattle.mm_carry.proofs.Words.{RunContext, StepBroken}
+use Rattle.mm_carry.proofs.Words.{RunState, with_supplies, AreReady, AreOrders, StepsDone, taken_amounts}
+use Rattle.mm_carry.proofs.Words.{RunContext, Stop, AreCounters}
+use Rattle.mm_shared.specs.declared.tally.Tally.{Tally}
 use Rattle.mm_desk.specs.declared.state.Retrieval.{Retrieval}
 use Rattle.mm_report.specs.declared.cause.TheConstants.{LATEST_START}
 use Rattle.mm_carry.specs.declared.requirement.Requirement.{Requirement}
@@ -27,9 +28,9 @@ use Rattle.mm_carry.proofs.Halts.{failed_link}
 use Rattle.mm_carry.proofs.Drawing.{taken_fits}
 use Rattle.mm_carry.proofs.Ordered.{named_once, may_order, wanted_in_all, orders_are}
 use Rattle.mm_carry.proofs.StepMore.{Footing, all_same, done_on}
-use Rattle.mm_carry.proofs.Parts.{as_many, as_many_sources, stopped_of, never_refused}
+use Rattle.mm_carry.proofs.Parts.{as_many, as_many_sources, stopped_of, never_refused, whole_step}
 use Rattle.mm_carry.proofs.Placing.{no_held, places_differ}
-use Rattle.mm_carry.proofs.StoresReady.{IsFar, state_there, state_holds, all_by, ready_halted, ready_after, offers_few}
+use Rattle.mm_carry.proofs.StoresReady.{IsFar, state_there, state_holds, all_by, ready_after, offers_few}
 
 -- the moment before the first step is early, and so is the last storage time of each store
 pub record IsEarly (stores : List Held) (base : ℕ) : Type 0 where
@@ -211,13 +212,13 @@ module _ {L : Type 0} (sent : L → List Sent) (failed : L → ℕ) (run : RunCo
       by_clock b s early few = omega arith
 
   -- the step may be carried out and reported, with sources that give this
-  pub may_report : {S : Type 0} (now : RunState S L) (given : List Supply) (buffers : RunBuffers) → length given
-      ≡ length now.sources
+  pub may_report : {S : Type 0} (now : RunState S L) (given : List Supply) (counters : List Tally)
+      (buffers : RunBuffers) → length given ≡ length now.sources
       → Underway (with_supplies now given) buffers.report → AreHeld first.stores → All (λ l. failed l < 2 ^ 64 - 1)
       first.links
-      → StandWithin (length q.rows) now.stores places → MAX_STORES ≤ vec_capacity buffers.orders → MayReport failed run
-      places t buffers now
-  may_report now given buffers same here held links stand room =
+      → StandWithin (length q.rows) now.stores places → AreCounters now.stores places (length q.rows) counters
+      → MAX_STORES ≤ vec_capacity buffers.orders → MayReport failed run places t counters buffers now
+  may_report now given counters buffers same here held links stand counted room =
       let ran = here.ran in
       let many = as_many now.stores first.stores here.labels in
       let sources_many = as_many_sources 0 first.sources given
@@ -233,13 +234,12 @@ module _ {L : Type 0} (sent : L → List Sent) (failed : L → ℕ) (run : RunCo
         first = here.from_one;
         last = here.last;
         stand = stand;
+        counters_are = counted;
         carry = record {
-          record_may = record {
-            few = omega (arith, many, held.at_most);
-            named = named_of now.stores (held_as now.stores first.stores here.labels held).named;
-            many = omega (arith, same, sources_many, counts.few_sources);
-          };
+          few = omega (arith, many, held.at_most);
+          named = named_of now.stores (held_as now.stores first.stores here.labels held).named;
           ready = ran.ready;
+          few_sources = omega (arith, same, sources_many, counts.few_sources);
           some_link = omega (arith, links_many, counts.some_link);
           few_links = omega (arith, links_many, counts.few_links);
           links = all_same (λ (n : ℕ). n < 2 ^ 64 - 1) failed first.links now.links failures links;
@@ -253,28 +253,33 @@ module _ {L : Type 0} (sent : L → List Sent) (failed : L → ℕ) (run : RunCo
         room = omega (arith, steps_many, ap (λ (r : Reported). r.most) ran.done.report_is, here.from_one, here.last);
       }
 
-  module _ (now : RunState Supply L) (buffers : RunBuffers) (here : Underway now buffers.report) where
+  module _ (now : RunState Supply L) (report : Reported) (here : Underway now report) where
     -- the orders of the step, by their stores' places in the memory
     orders_here : (u : ℕ) → orders_at run places u ≡ step_orders input u
     orders_here u = orders_are input places u (λ s store. (here.footing.stand_at s store).is)
 
+    -- the recorders of the step know the identifiers of its stores
+    ids_many : length (recording_at run t now.stores).ids ≡ length now.stores
+    ids_many = length-map now.stores (λ (h : Held). h.id)
+
     -- one step more
-    pub ran_on : RunsLoseAsPlanned → RunsLoseNoPacketUncounted → StepRunsKeepStores → (after : RunState Supply L)
-        (left : RunBuffers)
-        → StepReported sent failed run places t now after buffers left → HasRun sent failed input run.plan.now first
-        (t + 1 - 1) after left.report
-    ran_on law counts keeps after left stepped = record {
+    pub ran_on : RunsLoseAsPlanned → RunsLoseNoPacketUncounted → OrdersDumpTheOldest → BrokenOrdersChangeNothing
+        → (after : RunState Supply L) (new : Reported)
+        → IsReportedStep sent failed run places t None report new now after
+        → HasRun sent failed input run.plan.now first (t + 1 - 1) after new
+    ran_on law counts dump changes after new stepped = record {
       began = here.ran.began;
       done = done;
       fit = all_fit;
-      ready = ready_after sent failed keeps (recording_at run t now.stores) (orders_at run places t) now after
-          here.early here.ran.ready stepped.done;
+      ready = ready_after sent failed (recording_at run t now.stores) (orders_at run places t) None now after dump
+          changes ids_many here.ran.ready stepped.step;
     }
       where
-        done : StepsDone sent failed input first.sources first.links (t + 1 - 1) after left.report
+        done : StepsDone sent failed input first.sources first.links (t + 1 - 1) after new
         done =
-            done_on sent failed input first.links places here.footing t here.from_one now after buffers.report
-            here.ran.done stepped.done law counts (omega (arith, here.last)) left.report stepped.row
+            done_on sent failed input first.links places here.footing t here.from_one now after report here.ran.done
+            (whole_step sent failed (recording_at run t now.stores) (orders_at run places t) now after stepped.step)
+            law counts (omega (arith, here.last)) new stepped.row
 
         -- what the links took in each of the steps fits
         all_fit : (u : ℕ) → 1 ≤ u → u ≤ t + 1 - 1 → FitsAt q (taken_amounts input done.gave done.links_are.took) u
@@ -285,31 +290,6 @@ module _ {L : Type 0} (sent : L → List Sent) (failed : L → ℕ) (run : RunCo
             at (named_once input.amounts places u (length q.rows) s here.footing.apart store) in
             omega (arith, once, done.links_are.once (place_in_memory input s) u from_one last))
             (here.ran.began.fits (omega arith) u from_one (omega (arith, last, here.last)))
-
-    -- the step was broken off
-    pub halted_in : OrdersDumpTheOldest → BrokenOrdersChangeNothing → (after : RunState Supply L) (left : RunBuffers)
-        (broken : StepBroken)
-        → StepUnreported sent failed run places t now after buffers left broken
-        → IsHaltedIn sent failed input run.plan.now first t after (record { broken = broken; report = left.report })
-    halted_in dump changes after left broken stepped =
-        let e = recording_in input t now.stores in
-        let how = rw (orders_here t) at stepped.how in
-        let stopped = stopped_of sent failed e (step_orders input t) now after broken how in
-        record {
-          from_one = here.from_one;
-          last = here.last;
-          before = now;
-          ran = rw stepped.unreported here.ran;
-          labels = stopped.labels ∙ here.labels;
-          ready = ready_halted sent failed e (step_orders input t) now after broken dump changes refl here.ran.ready
-              how;
-          stopped_is = stopped;
-          within = stepped.within;
-          how = how;
-          failed_link = λ is_link.
-              failed_link sent failed e (step_orders input t) now after broken changes refl
-              (rw (orders_here t) at here.orders.places) is_link how;
-        }
 
     -- where counts are far from their end as the run begins, each store takes what comes
     module _ (law : StepRunsKeepStores) (limits : AreWithinLimits (length q.windows) first.stores first.sources)
@@ -384,9 +364,29 @@ module _ {L : Type 0} (sent : L → List Sent) (failed : L → ℕ) (run : RunCo
             (limits.few t here.from_one here.last);
       }
 
-      -- so no store refused a packet in a step that was broken off
-      pub far_halted : (after : RunState Supply L) (left : RunBuffers) (broken : StepBroken)
-          → StepUnreported sent failed run places t now after buffers left broken
-          → NeverRefused broken.cause
-      far_halted after left broken stepped = never_refused sent failed (recording_at run t now.stores)
-          (orders_at run places t) now after broken takes_here stepped.how
+    -- the step was broken off
+    pub halted_in : OrdersDumpTheOldest → BrokenOrdersChangeNothing → StepRunsKeepStores → AreHeld first.stores
+        → (after : RunState Supply L) (new : Reported) (stop : Stop)
+        → IsReportedStep sent failed run places t (Some stop) report new now after
+        → IsHaltedIn sent failed input run.plan.now first t after stop new
+    halted_in dump changes law held after new stop stepped =
+        let e = recording_in input t now.stores in
+        let orders = step_orders input t in
+        let how = rw (orders_here t) at stepped.step in
+        let stopped = stopped_of sent failed e orders stop now after how in
+        record {
+          from_one = here.from_one;
+          last = here.last;
+          before = now;
+          ran = rw stepped.unreported here.ran;
+          labels = stopped.labels ∙ here.labels;
+          ready = ready_after sent failed e orders (Some stop) now after dump changes ids_many here.ran.ready how;
+          stopped_is = stopped;
+          within = stepped.within;
+          how = how;
+          failed_link = λ is_link.
+              failed_link sent failed e orders stop now after changes (rw (orders_here t) at here.orders.places) is_link
+              how;
+          never_refused = λ limits.
+              never_refused sent failed e orders stop now after how (takes_here law limits held);
+        }

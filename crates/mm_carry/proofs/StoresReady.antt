@@ -1,17 +1,18 @@
 -- Stores that are ready, and counts that are far from their end, from step to step.
-use Rattle.std.proofs.Common.{◌≡◌, inl, inr, ℕ, ◌*◌, ◌<◌, ◌≤◌, ◌^◌, List, [], ◌∷◌, ◌++◌, length, map, get_or, All, refl}
-use Rattle.std.proofs.Common.{sym, ap, subst, ◌∙◌, ◌-◌, arith}
+use Rattle.std.proofs.Common.{◌≡◌, inl, inr, ℕ, ◌*◌, ◌<◌, ◌≤◌, List, [], ◌∷◌, ◌++◌, length, map, get_or, All, refl}
+use Rattle.std.proofs.Common.{sym, ap, subst, ◌∙◌, arith}
 use Rattle.mm_carry.proofs.Words.{cases_lt, length-map, get_or-map, All-nil, All-cons, All-map, sum_by-le, AllZip}
 use Rattle.mm_carry.proofs.Words.{IsTrue, Option, Some, None, filter, All-front, sum_by-map, SpacePacket}
 use Rattle.mm_carry.proofs.Words.{OrdersDumpTheOldest, State, IsState, count_of, blank, opening_at, replay, Event}
-use Rattle.mm_carry.proofs.Words.{Offer, Held, labels_of, states_of, id_at, ids_of, is_routed, filter_fewer}
+use Rattle.mm_carry.proofs.Words.{Offer, Held, labels_of, states_of, id_at, is_routed, filter_fewer}
 use Rattle.mm_carry.proofs.Words.{RecordingContext, offers, given_in, Supply, Course, EndedAs, HasTried, MayDump}
-use Rattle.mm_carry.proofs.Words.{BrokenOrdersChangeNothing, Sent, Order, OrderBroken, AreFirstOffers}
-use Rattle.mm_carry.proofs.Words.{StepRunsKeepStores, RunState, AreReady, MayCarry, StepRecorded, StepDone, StepBroke}
-use Rattle.mm_carry.proofs.Words.{IsBy, AreBy, KeepsStore, StepBroken}
+use Rattle.mm_carry.proofs.Words.{BrokenOrdersChangeNothing, Sent, Order, OrderBroken, AreFirstOffers, Fault}
+use Rattle.mm_carry.proofs.Words.{RunState, AreReady, MayCarry, IsStep, orders_after, Stop}
+use Rattle.mm_carry.proofs.Words.{IsBy, AreBy}
+use Rattle.mm_record.specs.Steps.{Records}
 use Rattle.mm_carry.proofs.Replays.{KeepsSwitches, run_moves}
 use Rattle.mm_carry.proofs.Placing.{no_held}
-use Rattle.mm_carry.proofs.Parts.{as_many, by_how, first_turns}
+use Rattle.mm_carry.proofs.Parts.{as_many, first_turns, orders_left}
 
 -- the state at a place is that of the store there
 pub state_there : (held : List Held) (k : ℕ) (d : Held) → k < length held → opening_at (states_of held) k
@@ -53,16 +54,6 @@ ready_on stores left labels sound at ready =
           ready.idle k (omega (arith, many, within)));
     }
 
--- stores that have recorded are ready
-pub ready_recorded : {L : Type 0} (e : RecordingContext) (before mid : RunState Supply L) → AreReady before.stores
-    → StepRecorded e before mid → AreReady mid.stores
-ready_recorded e before mid ready recorded =
-    ready_on before.stores mid.stores recorded.labels recorded.sound
-    (λ k within.
-    let has = recorded.stores_are k within in
-    (run_moves e.now (map (offers e k) (given_in e.step before.sources)) has.log _ _ has.run has.shuffle
-    (all_by e k (given_in e.step before.sources))).switches) ready
-
 -- the first of the offers of sources are offers at the moment
 firsts_by : (e : RecordingContext) (k : ℕ) (given : List (List SpacePacket)) (firsts : List (List Event))
     → AllZip (AreFirstOffers e k) given firsts → AreBy e.now firsts
@@ -89,55 +80,56 @@ tried_keeps dump changes k s t taken c sound tried = elim (cases_lt 0 taken) [
     by_why (Some why) broke = alike (changes s t c.seat c.order.amount (c.sent ++ c.unsent) c.calls broke.order
         tried.run).0
 
--- stores of a step that was broken off are ready for more
-pub ready_halted : {L : Type 0} (sent : L → List Sent) (failed : L → ℕ) (e : RecordingContext) (orders : List Order)
-    (before after : RunState Supply L) (stop : StepBroken) → OrdersDumpTheOldest → BrokenOrdersChangeNothing
-    → ids_of before.stores ≡ e.ids → AreReady before.stores
-    → StepBroke sent failed e orders before after stop → AreReady after.stores
-ready_halted sent failed e orders before after stop dump changes ids ready =
-    by_how sent failed e orders before after stop (AreReady after.stores)
-    (λ early.
-    let records = early.records in
-    let many = as_many after.stores before.stores records.labels in
-    let all = ap length (sym ids) ∙ length-map before.stores (λ (h : Held). h.id) in
-    ready_on before.stores after.stores records.labels records.sound
+-- stores that recorders have left are ready
+pub ready_recorded : (e : RecordingContext) (before mid : List Held) (fault : Option Fault)
+    (given left : List Supply) → length e.ids ≡ length before → AreReady before → Records e before mid fault given left
+    → AreReady mid
+ready_recorded e before mid fault given left ids ready records =
+    let many = as_many mid before records.labels in
+    ready_on before mid records.labels records.sound
     (λ k within.
     let went = records.went k within in
     let asked : List (List Event) = map (λ run. run.offered k) records.runs in
-    let turns = first_turns e before.sources after.sources records.runs k records.are_runs
-    (omega (arith, within, counted, many, all)) in
-    (run_moves e.now asked went.log _ _ went.run went.shuffle (firsts_by e k (given_in e.step before.sources) asked
-    turns)).switches) ready)
-    (λ mid recorded broke.
-    let ready_mid = ready_recorded e before mid ready recorded in
-    let many = as_many after.stores mid.stores broke.labels in
-    ready_on mid.stores after.stores broke.labels broke.sound
+    let turns = first_turns e given left records.runs k records.are_runs
+    (omega (arith, within, length-map mid (λ (h : Held). h.state), many, ids)) in
+    (run_moves e.now asked went.log _ _ went.run went.shuffle (firsts_by e k (given_in e.step given) asked
+    turns)).switches) ready
+
+-- stores of a step are ready for more, whether it is whole or was broken off
+pub ready_after : {L : Type 0} (sent : L → List Sent) (failed : L → ℕ) (e : RecordingContext) (orders : List Order)
+    (stop : Option Stop) (before after : RunState Supply L) → OrdersDumpTheOldest → BrokenOrdersChangeNothing
+    → length e.ids ≡ length before.stores → AreReady before.stores
+    → IsStep sent failed e orders stop before after → AreReady after.stores
+ready_after sent failed e orders stop before after dump changes ids ready is =
+    let ready_mid = ready_recorded e before.stores is.mid is.fault before.sources after.sources ids ready is.records in
+    let labels = is.labels ∙ sym is.records.labels in
+    let many = as_many after.stores is.mid labels in
+    let counted = length-map after.stores (λ (h : Held). h.state) in
+    ready_on is.mid after.stores labels is.sound
     (λ k within.
-    tried_keeps dump changes k _ _ _ (broke.settled.course k) (state_holds IsState mid.stores ready_mid.sound k
+    tried_keeps dump changes k _ _ _ (is.dumps.settled.course k) (state_holds IsState is.mid ready_mid.sound k
     (omega (arith, within, counted, many)))
-    (broke.settled.stores k within)) ready_mid)
-  where
-    counted : length (states_of after.stores) ≡ length after.stores
-    counted = length-map after.stores (λ (h : Held). h.state)
+    (is.dumps.settled.stores k within)) ready_mid
 
 -- a step's dump may be carried out after what came is recorded
-pub may_dump : {S L : Type 0} (failed : L → ℕ) (moment : ℕ) (orders : List Order) (before mid : RunState S L)
-    → MayCarry failed moment orders before
-    → length mid.stores ≡ length before.stores → mid.links ≡ before.links → AreReady mid.stores → MayDump failed orders
-    mid.stores mid.links
-may_dump failed moment orders before mid may many links ready =
-    let there = subst (λ (n : ℕ). All (λ (o : Order). o.place < n) orders) (sym many) may.orders_may.places in
+pub may_dump : {S L : Type 0} (failed : L → ℕ) (moment : ℕ) (fault : Option Fault) (orders : List Order)
+    (before : RunState S L) (mid : List Held) → MayCarry failed moment orders before
+    → length mid ≡ length before.stores → AreReady mid → MayDump failed (orders_after fault orders) mid before.links
+may_dump failed moment fault orders before mid may many ready =
+    let left = orders_left (length before.stores) fault orders may.orders_may in
+    let there = subst (λ (n : ℕ). All (λ (o : Order). o.place < n) (orders_after fault orders)) (sym many)
+    left.places in
     record {
-      lowest = omega (arith, ap length links, may.some_link);
-      highest = omega (arith, ap length links, may.few_links);
-      few = omega (arith, many, may.record_may.few);
-      few_orders = may.orders_may.few;
+      lowest = may.some_link;
+      highest = may.few_links;
+      few = omega (arith, many, may.few);
+      few_orders = left.few;
       places = there;
-      amounts = may.orders_may.some;
-      distinct = may.orders_may.apart;
-      idle = λ i d inside. state_holds (λ (s : State). s.retrieval ≡ None) mid.stores ready.idle
-          (get_or orders i d).place (there i d inside);
-      room = subst (All (λ l. failed l < 2 ^ 64 - 1)) (sym links) may.links;
+      amounts = left.some;
+      distinct = left.apart;
+      idle = λ i d inside. state_holds (λ (s : State). s.retrieval ≡ None) mid ready.idle
+          (get_or (orders_after fault orders) i d).place (there i d inside);
+      room = may.links;
     }
 
 -- a store that was offered at most this many packets, and whose last storage time is no later
@@ -159,30 +151,3 @@ offers_few e k most gave all =
         (get_or gave i d) in
         let most_here : length (get_or gave i d) ≤ most = all i d inside in
         omega (arith, length-map kept (λ (p : SpacePacket). Offer e.now p), few, most_here)
-
--- what a step keeps of each store
-module _ {L : Type 0} (sent : L → List Sent) (failed : L → ℕ) (law : StepRunsKeepStores) (e : RecordingContext)
-    (orders : List Order)
-    (before after : RunState Supply L) (fits : e.now < 2 ^ 64) (ready : AreReady before.stores)
-    (done : StepDone sent failed e orders before after) where
-  many : length after.stores ≡ length before.stores
-  many = as_many after.stores before.stores done.labels
-
-  abbrev came_at_most : ℕ → ℕ
-  came_at_most k = count_of (map (offers e k) (given_in e.step before.sources))
-
-  kept_at : (k : ℕ) → k < length after.stores → KeepsStore e.now (came_at_most k)
-      (opening_at (states_of before.stores) k) (opening_at (states_of after.stores) k)
-  kept_at k within =
-      law e.now _ _ (map (offers e k) (given_in e.step before.sources)) _ _ fits
-      (state_holds IsState before.stores ready.sound k (omega (arith, many)))
-      (all_by e k (given_in e.step before.sources)) (done.runs k within)
-
-  -- the stores are ready for the next step
-  pub ready_after : AreReady after.stores
-  ready_after =
-      ready_on before.stores after.stores done.labels (all_states IsState after.stores
-      (λ k within. (kept_at k within).sound))
-      (λ k within.
-      let kept = kept_at k (omega (arith, within, length-map after.stores (λ (h : Held). h.state))) in
-      record { storage = kept.storage; retrieval = kept.retrieval }) ready

@@ -60,7 +60,7 @@ pub use Rattle.mm_record.proofs.Memories.{held_as, named_of, not_caused}
 pub use Rattle.mm_record.proofs.Supplying.{all_stay, length-supplies, zip_long}
 pub use Rattle.mm_record.proofs.Taking.{filter_fewer, parts_all}
 pub use Rattle.mm_record.specs.Causes.{is_late}
-pub use Rattle.mm_record.specs.Counters.{counters_of}
+pub use Rattle.mm_shared.specs.Views.{tally_of}
 pub use Rattle.mm_record.specs.Steps.{TakesAll}
 pub use Rattle.mm_record.specs.Supplies.{supplies}
 pub use Rattle.mm_dump.specs.Courses.{EndedAs, failed_by, worse, worst_of}
@@ -69,10 +69,10 @@ pub use Rattle.mm_dump.specs.Laws.{BrokenOrdersChangeNothing}
 pub use Rattle.mm_dump.specs.declared.order.OrderBroken.{OrderBroken}
 pub use Rattle.mm_report.specs.declared.counts.StepCounts.{StepCounts}
 pub use Rattle.mm_carry.specs.AsPlanned.{AsPlanned, AtEach, IsReady}
-pub use Rattle.mm_carry.specs.Course.{AreWithinLimits, MayReport, StepReported, StepUnreported, given_to, orders_at}
+pub use Rattle.mm_carry.specs.Course.{AreWithinLimits, IsReportedStep, MayReport, given_to, orders_at}
 pub use Rattle.mm_carry.specs.Course.{recording_at}
-pub use Rattle.mm_carry.specs.Ending.{HasRun, IsHaltedIn, IsRefusal, IsStopped}
-pub use Rattle.mm_carry.specs.Halts.{AreFirstOffers, IsByOneLog}
+pub use Rattle.mm_carry.specs.Ending.{HasEnded, HasRun, IsHaltedIn, IsRefusal, IsStopped}
+pub use Rattle.mm_carry.specs.Halts.{AreFirstOffers, AtEachStore, IsByOneLog}
 pub use Rattle.mm_carry.specs.Laws.{HalvesMakeStepRuns, IsRunOf, RunsLoseAsPlanned, RunsLoseNoPacketUncounted}
 pub use Rattle.mm_carry.specs.Laws.{StepRunsKeepStores}
 pub use Rattle.mm_carry.specs.Numbers.{AreByCounters, AreCounters, AreStepCounts, counted, counts_from, orders_of}
@@ -83,12 +83,10 @@ pub use Rattle.mm_carry.specs.Readiness.{run_start}
 pub use Rattle.mm_carry.specs.RunInput.{RunInput, as_came, came, offered, place_in_memory, recording_in, run_input}
 pub use Rattle.mm_carry.specs.RunInput.{step_of, step_orders, store_state}
 pub use Rattle.mm_carry.specs.RunState.{InRun, RunState, state_of, with_supplies}
-pub use Rattle.mm_carry.specs.Step.{AreOrders, AreReady, IsCauseIn, KeepsRest, MayCarry, NeverRefused, OrdersBroke}
-pub use Rattle.mm_carry.specs.Step.{RecordersBroke, StepBroke, StepDone}
-pub use Rattle.mm_carry.specs.Step.{StepDumped, StepRecorded, StepStopped, dump_cause, recording_by}
+pub use Rattle.mm_carry.specs.Step.{AreOrders, AreReady, IsCauseIn, IsStep, IsWholeStep, KeepsRest, MayCarry}
+pub use Rattle.mm_carry.specs.Step.{NeverRefused, StepStopped, cause_of, orders_after, recording_by, stop_for}
 pub use Rattle.mm_carry.specs.StepRuns.{AreBy, AreTimed, IsBy, IsDumpOf, IsStepRun, KeepsStore}
 pub use Rattle.mm_carry.specs.Steps.{AreStepRuns, LinksSent, SourcesGave, StepsDone, sent_amounts, sent_in}
 pub use Rattle.mm_carry.specs.Steps.{taken_amounts}
 pub use Rattle.mm_carry.specs.declared.course.RunContext.{RunContext}
-pub use Rattle.mm_carry.specs.declared.course.RunStopped.{RunStopped}
-pub use Rattle.mm_carry.specs.declared.step.StepBroken.{StepBroken}
+pub use Rattle.mm_carry.specs.declared.step.Stop.{Stop}

@@ -1,14 +1,15 @@
 -- How a run ends: carried out, or halted.
-use Rattle.std.specs.Prelude.{◌≡◌, ℕ, ◌-◌, ◌≤◌, ◌⊎◌, List, [], length}
+use Rattle.std.specs.Prelude.{◌≡◌, ℕ, ◌-◌, ◌≤◌, ◌⊎◌, List, [], length, Option, None, Some}
 use Rattle.mm_carry.specs.Words.{window, FitsAt, Table, loss, labels_of, Holdings, Supply, Sent, Reported, totals_of}
 use Rattle.mm_carry.specs.Words.{Cause, NoMemory, LinkFailed}
 use Rattle.mm_carry.specs.Readiness.{RunStart, run_start, MayBegin, Stops}
-use Rattle.mm_carry.specs.declared.course.RunStopped.{RunStopped}
+use Rattle.mm_carry.specs.declared.step.Stop.{Stop}
 use Rattle.mm_carry.specs.declared.run_end.Halted.{Halted}
 use Rattle.mm_carry.specs.RunInput.{RunInput, recording_in, as_came, step_orders}
 use Rattle.mm_carry.specs.Beyond.{LosesAtMost}
 use Rattle.mm_carry.specs.RunState.{RunState, with_supplies}
-use Rattle.mm_carry.specs.Step.{AreReady, StepStopped, StepBroke}
+use Rattle.mm_carry.specs.Step.{AreReady, NeverRefused, StepStopped, IsStep}
+use Rattle.mm_carry.specs.Course.{AreWithinLimits}
 use Rattle.mm_carry.specs.Steps.{StepsDone, taken_amounts}
 use Rattle.mm_carry.specs.Failure.{FailedLink}
 
@@ -45,31 +46,41 @@ pub record IsCarriedOut {L : Type 0} (sent : L → List Sent) (failed : L → �
 
 -- the tests before a run passed, and it was halted in a step: those before it are carried out, and the report is
 -- theirs. The stores are left in their order, each sound and ready for more; each source keeps the rest of what it gave
--- in the step, and no more was spent in it than its window
+-- in the step, and no more was spent in it than its window. Where counts are far from their end, no store refused a
+-- packet
 pub record IsHaltedIn {L : Type 0} (sent : L → List Sent) (failed : L → ℕ) (m : RunInput) (plan : Table)
     (first : RunState Supply L)
-    (step : ℕ) (left : RunState Supply L) (stopped : RunStopped) : Type 0 where
+    (step : ℕ) (left : RunState Supply L) (stop : Stop) (report : Reported) : Type 0 where
   pub from_one : 1 ≤ step
   pub last : step ≤ length m.problem.windows
   -- what the step began with
   pub before : RunState Supply L
-  pub ran : HasRun sent failed m plan first (step - 1) before stopped.report
+  pub ran : HasRun sent failed m plan first (step - 1) before report
   -- the stores, the sources and the window
   pub labels : labels_of left.stores ≡ labels_of m.memory.stores
   pub ready : AreReady left.stores
-  pub stopped_is : StepStopped step before left stopped.broken.cause
-  pub within : stopped.broken.spent ≤ window m.problem step
+  pub stopped_is : StepStopped step before left stop.cause
+  pub within : stop.spent ≤ window m.problem step
   -- how the step was broken off: what the recorders and the dump workers did, and why; and what each link did where one
   -- failed
-  pub how : StepBroke sent failed (recording_in m step before.stores) (step_orders m step) before left stopped.broken
-  pub failed_link : stopped.broken.cause ≡ LinkFailed step
+  pub how : IsStep sent failed (recording_in m step before.stores) (step_orders m step) (Some stop) before left
+  pub failed_link : stop.cause ≡ LinkFailed step
       → FailedLink sent failed (recording_in m step before.stores) (step_orders m step) before left
+  pub never_refused : AreWithinLimits (length m.problem.windows) m.memory.stores m.gives → NeverRefused stop.cause
+
+-- how the steps of a run ended: without a stop all are carried out, and with one the run was halted in one of them
+abbrev pub HasEnded : {L : Type 0} → (L → List Sent) → (L → ℕ) → RunInput → Table → RunState Supply L → Option Stop
+    → RunState Supply L → Reported → Type 0
+HasEnded sent failed m plan first None now report =
+    HasRun sent failed m plan first (length m.problem.windows) now report
+HasEnded sent failed m plan first (Some stop) left report =
+    (step : ℕ) × IsHaltedIn sent failed m plan first step left stop report
 
 -- nothing was done
-pub record IsUntouched {S L : Type 0} (first left : RunState S L) (stopped : RunStopped) : Type 0 where
+pub record IsUntouched {S L : Type 0} (first left : RunState S L) (stop : Stop) (report : Reported) : Type 0 where
   pub same : left ≡ first
-  pub report_is : stopped.report.steps ≡ []
-  pub spent_is : stopped.broken.spent ≡ 0
+  pub report_is : report.steps ≡ []
+  pub spent_is : stop.spent ≡ 0
 
 -- a cause before the first step: its test is the first that fails, or all tests passed and there was no memory
 abbrev pub IsRefusal : RunStart → Cause → Type 0
@@ -77,14 +88,15 @@ IsRefusal o cause = Stops o cause ⊎ ((cause ≡ NoMemory 0) × MayBegin o)
 
 -- how a run ended that was not carried out, with sources that still give this: in a step, or before the first
 abbrev pub IsStopped : {S L : Type 0} → (L → List Sent) → (L → ℕ) → RunInput → Table → RunState S L → RunState S L
-    → List Supply → RunStopped → Type 0
-IsStopped sent failed m plan first after left stopped =
-    ((step : ℕ) × IsHaltedIn sent failed m plan (with_supplies first m.gives) step (with_supplies after left) stopped)
-    ⊎ (IsUntouched first after stopped × IsRefusal (run_start_of m plan first) stopped.broken.cause)
+    → List Supply → Stop → Reported → Type 0
+IsStopped sent failed m plan first after left stop report =
+    ((step : ℕ)
+    × IsHaltedIn sent failed m plan (with_supplies first m.gives) step (with_supplies after left) stop report)
+    ⊎ (IsUntouched first after stop report × IsRefusal (run_start_of m plan first) stop.cause)
 
--- why a run was halted, and the report of its steps
-abbrev pub stop_of : {S L : Type 0} → Halted S L → RunStopped
-stop_of halted = record { broken = record { cause = halted.cause; spent = halted.spent }; report = halted.report }
+-- why a run was halted
+abbrev pub stop_of : {S L : Type 0} → Halted S L → Stop
+stop_of halted = record { cause = halted.cause; spent = halted.spent }
 
 -- how a run was halted, which left this memory, with its routes, and sources that still give this: in a step, for a
 -- cause in that step; or before the first, with nothing done, where the test of the cause is the first to fail, or all
@@ -94,4 +106,4 @@ abbrev pub IsHalted : {S L : Type 0} → (L → List Sent) → (L → ℕ) → R
 IsHalted sent failed m plan sources links memory halted left =
     (memory.routes ≡ m.memory.routes)
     × IsStopped sent failed m plan (over_memory m.memory sources links)
-    (over_memory memory halted.sources.items halted.links.items) left (stop_of halted)
+    (over_memory memory halted.sources.items halted.links.items) left (stop_of halted) halted.report

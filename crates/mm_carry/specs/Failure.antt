@@ -1,10 +1,9 @@
 -- What each link did in a step that a failed link halted.
-use Rattle.std.specs.Prelude.{◌≡◌, ◌⊎◌, ℕ, ◌+◌, ◌<◌, List, [], ◌∷◌, ◌++◌, length, map, slice_index_or, All, Some}
+use Rattle.std.specs.Prelude.{◌≡◌, ◌⊎◌, ℕ, ◌+◌, ◌<◌, List, [], ◌∷◌, ◌++◌, length, map, slice_index_or, All, Some, None}
 use Rattle.mm_carry.specs.Words.{Stored, State, opening_at, states_of, RecordingContext, Supply, Course, IsWhole}
-use Rattle.mm_carry.specs.Words.{IsBroken, sent_by, AllSettled, Sent, Order}
+use Rattle.mm_carry.specs.Words.{IsBroken, sent_by, AllSettled, Sent, Order, Held, Records}
 use Rattle.mm_dump.specs.declared.order.OrderBroken.TheVariants.{LinkFailed}
 use Rattle.mm_carry.specs.RunState.{RunState}
-use Rattle.mm_carry.specs.Step.{StepRecorded}
 
 -- a link carried out whole orders of the stores at these places, and none of its sends failed
 pub record NoneBroke (course : ℕ → Course) (places : List ℕ) (before after : ℕ) : Type 0 where
@@ -52,8 +51,6 @@ pub record LinksFailed {L : Type 0} (sent : L → List Sent) (failed : L → ℕ
 -- the links carried out
 pub record FailedLink {L : Type 0} (sent : L → List Sent) (failed : L → ℕ) (e : RecordingContext) (orders : List Order)
     (before after : RunState Supply L) : Type 0 where
-  pub mid : RunState Supply L
-  pub recorded : StepRecorded e before mid
-  pub sources : after.sources ≡ mid.sources
-  pub links : LinksFailed sent failed e.ids orders (states_of mid.stores) (states_of after.stores) before.links
-      after.links
+  pub mid : List Held
+  pub recorded : Records e before.stores mid None before.sources after.sources
+  pub links : LinksFailed sent failed e.ids orders (states_of mid) (states_of after.stores) before.links after.links

@@ -1,13 +1,13 @@
--- Laws of a step that was broken off, over the definitions alone.
-use Rattle.std.specs.Prelude.{◌≡◌, ◌⊎◌, ℕ, ◌<◌, List, [], ◌++◌, length}
+-- Laws of a step, whole or broken off, over the definitions alone.
+use Rattle.std.specs.Prelude.{◌≡◌, ◌⊎◌, ℕ, ◌<◌, List, [], ◌++◌, length, Option, None}
 use Rattle.std.specs.List.{AllZip}
 use Rattle.mm_carry.specs.Words.{SpacePacket, State, IsShuffleOfEvents, IsRun, opening_at, Entry, Event, Held}
-use Rattle.mm_carry.specs.Words.{labels_of, states_of, RecordingContext, offers}
+use Rattle.mm_carry.specs.Words.{states_of, RecordingContext, offers}
 use Rattle.mm_carry.specs.Words.{recording, given_in, Supply, Course, IsCourse, wanted, Sent, Order}
 use Rattle.mm_base.specs.declared.rows.RouteRow.{RouteRow}
 use Rattle.mm_carry.specs.RunState.{RunState}
-use Rattle.mm_carry.specs.declared.step.StepBroken.{StepBroken}
-use Rattle.mm_carry.specs.Step.{StepBroke}
+use Rattle.mm_carry.specs.declared.step.Stop.{Stop}
+use Rattle.mm_carry.specs.Step.{IsStep, IsWholeStep}
 
 -- it is the order for the store at a place: it wants as much as all these orders want of that store
 pub record IsOrderFor (orders : List Order) (k : ℕ) (c : Course) : Type 0 where
@@ -39,11 +39,17 @@ abbrev pub AtEachStore : (ℕ → State → State → Type 0) → List Held → 
 AtEachStore went before after = (k : ℕ) → k < length before → went k (opening_at (states_of before) k)
     (opening_at (states_of after) k)
 
--- where a step was broken off, each store went by one log
+-- in each step, whole or broken off, each store went by one log
 abbrev pub BrokenStepsAreLogs : {L : Type 0} → (L → List Sent) → (L → ℕ) → Type 0
 BrokenStepsAreLogs {L} sent failed = (step now : ℕ) (routes : List RouteRow) (orders : List Order)
-    (before after : RunState Supply L) (broken : StepBroken)
-    → StepBroke sent failed (recording step now routes before.stores) orders before after broken
-    → labels_of after.stores ≡ labels_of before.stores
+    (before after : RunState Supply L) (stop : Option Stop)
+    → IsStep sent failed (recording step now routes before.stores) orders stop before after
     → AtEachStore (IsByOneLog (recording step now routes before.stores) (given_in step before.sources) orders)
     before.stores after.stores
+
+-- a step without a stop is whole
+abbrev pub StepsWithoutStopAreWhole : {L : Type 0} → (L → List Sent) → (L → ℕ) → Type 0
+StepsWithoutStopAreWhole {L} sent failed = (step now : ℕ) (routes : List RouteRow) (orders : List Order)
+    (before after : RunState Supply L)
+    → IsStep sent failed (recording step now routes before.stores) orders None before after
+    → IsWholeStep sent failed (recording step now routes before.stores) orders before after

@@ -1,20 +1,20 @@
 -- One step of a run: recorded, and then dumped.
-use Rattle.std.specs.Prelude.{◌≡◌, ◌≢◌, ◌⊎◌, ℕ, ◌+◌, ◌-◌, ◌<◌, ◌≤◌, ◌^◌, IsTrue, List, [], ◌++◌, length, map, sum_by}
-use Rattle.std.specs.Prelude.{All, AllPairs, Option, Some, None}
+use Rattle.std.specs.Prelude.{◌≡◌, ◌≢◌, ℕ, ◌-◌, ◌<◌, ◌≤◌, ◌^◌, IsTrue, List, [], ◌++◌, length, map, sum_by}
+use Rattle.std.specs.Prelude.{All, AllPairs, Option, Some, None, IfSome}
 use Rattle.std.specs.List.{AllZip}
 use Rattle.mm_carry.specs.Words.{MAX_STORES, SpacePacket, Stored, IsState, opening_at, Held, labels_of, states_of}
-use Rattle.mm_carry.specs.Words.{AreNamed, cause_in, RecordingContext, recording, offers, given_in, AllRecorded}
+use Rattle.mm_carry.specs.Words.{AreNamed, cause_in, RecordingContext, recording, offers, given_in}
 use Rattle.mm_carry.specs.Words.{Records, Supply, Sent, Order, Cause, NoMemory, LinkFailed, LogMismatch}
 use Rattle.mm_desk.specs.declared.desk.TheConstants.{MAX_SEATS}
 use Rattle.mm_desk.specs.declared.fault.Fault.{Fault}
 use Rattle.mm_memory.specs.Laws.{ids_of}
 use Rattle.mm_record.specs.declared.step.RecordingStep.{RecordingStep}
 use Rattle.mm_dump.specs.declared.order.OrderBroken.{OrderBroken}
-use Rattle.mm_dump.specs.declared.order.OrderBroken.TheVariants as worst
-use Rattle.mm_dump.specs.Dumped.{wanted, times, places_of, AllTook, AllDumped, AllSettled, AllKept, used_by}
+use Rattle.mm_dump.specs.declared.order.OrderBroken.TheVariants as broken
+use Rattle.mm_dump.specs.Dumped.{wanted, times, places_of, AllTook, CarriesOut}
 use Rattle.mm_carry.specs.StepRuns.{IsStepRun}
 use Rattle.mm_carry.specs.RunState.{RunState}
-use Rattle.mm_carry.specs.declared.step.StepBroken.{StepBroken}
+use Rattle.mm_carry.specs.declared.step.Stop.{Stop}
 
 -- each store is sound, its storage is on and no retrieval is
 pub record AreReady (stores : List Held) : Type 0 where
@@ -29,18 +29,14 @@ pub record AreOrders (stores : ℕ) (orders : List Order) : Type 0 where
   pub some : All (λ o. 1 ≤ o.amount) orders
   pub apart : AllPairs (λ a b. a.place ≢ b.place) orders
 
--- a step may be recorded: there are few stores, with identifiers of their own, and few sources
-pub record MayRecord {S L : Type 0} (now : RunState S L) : Type 0 where
-  pub few : length now.stores ≤ MAX_STORES
-  pub named : AreNamed (ids_of now.stores)
-  pub many : length now.sources ≤ MAX_SEATS
-
--- a step at this moment may be carried out: it may be recorded, its stores are ready, there are links, not too many,
--- and each may fail once more
+-- a step at this moment may be carried out: there are few stores, with identifiers of their own and ready, and few
+-- sources; there are links, not too many, and each may fail once more
 pub record MayCarry {S L : Type 0} (failed : L → ℕ) (moment : ℕ) (orders : List Order)
     (now : RunState S L) : Type 0 where
-  pub record_may : MayRecord now
+  pub few : length now.stores ≤ MAX_STORES
+  pub named : AreNamed (ids_of now.stores)
   pub ready : AreReady now.stores
+  pub few_sources : length now.sources ≤ MAX_SEATS
   pub some_link : 1 ≤ length now.links
   pub few_links : length now.links ≤ MAX_SEATS
   pub links : All (λ l. failed l < 2 ^ 64 - 1) now.links
@@ -51,27 +47,46 @@ pub record MayCarry {S L : Type 0} (failed : L → ℕ) (moment : ℕ) (orders :
 abbrev pub recording_by : RecordingStep → List Held → RecordingContext
 recording_by step stores = recording step.step step.now step.control.now stores
 
--- what came in a step is recorded in each store, which is sound, and nothing of it is left in the sources
-pub record StepRecorded {L : Type 0} (e : RecordingContext) (before after : RunState Supply L) : Type 0 where
+-- the orders that are carried out in a step: none where a recorder stopped early
+abbrev pub orders_after : Option Fault → List Order → List Order
+orders_after None orders = orders
+orders_after (Some fault) orders = []
+
+-- why a step was broken off, where a recorder stopped early for the fault, or where the worst order broke
+abbrev pub cause_of : ℕ → Option Fault → Option OrderBroken → Option Cause
+cause_of step fault None = cause_in step fault
+cause_of step fault (Some broken.LinkFailed) = Some (LinkFailed step)
+cause_of step fault (Some broken.NoMemory) = Some (NoMemory step)
+
+-- where there is a cause the run stopped for it, with this much of the window spent
+abbrev pub stop_for : Option Cause → ℕ → Option Stop
+stop_for None spent = None
+stop_for (Some cause) spent = Some (record { cause = cause; spent = spent })
+
+-- A STEP OF A RUN, whole or broken off. Recorders recorded what came, and then, where none of them stopped early, dump
+-- workers carried out the orders. Where none stopped early and no order broke, there is no stop and the step is whole
+pub record IsStep {L : Type 0} (sent : L → List Sent) (failed : L → ℕ) (e : RecordingContext) (orders : List Order)
+    (stop : Option Stop) (before after : RunState Supply L) : Type 0 where
+  -- the recorders: why some stopped early, and the stores and the sources as they left them
+  pub fault : Option Fault
+  pub mid : List Held
+  pub records : Records e before.stores mid fault before.sources after.sources
+  -- the dump workers: why orders broke, how much of the window was spent, and the stores and the links as they left
+  -- them
+  pub broken : Option OrderBroken
+  pub spent : ℕ
+  pub dumps : CarriesOut sent failed e.ids (orders_after fault orders) (states_of mid) (states_of after.stores)
+      before.links after.links broken spent
   pub labels : labels_of after.stores ≡ labels_of before.stores
   pub sound : All (λ h. IsState h.state) after.stores
-  pub stores_are : AllRecorded e (given_in e.step before.sources) (states_of before.stores) (states_of after.stores)
-  pub nothing_left : All (λ s. s e.step ≡ []) after.sources
-  pub others : (t : ℕ) → t ≢ e.step → given_in t after.sources ≡ given_in t before.sources
-  pub links : after.links ≡ before.links
+  -- where a recorder stopped early nothing was dumped
+  pub early : IfSome fault (λ _. (broken ≡ None) × (spent ≡ 0) × (after.stores ≡ mid) × (after.links ≡ before.links))
+  pub stop_is : stop ≡ stop_for (cause_of e.step fault broken) spent
 
--- the orders of a step are carried out
-pub record StepDumped {S L : Type 0} (sent : L → List Sent) (failed : L → ℕ) (orders : List Order)
-    (before after : RunState S L) : Type 0 where
-  pub labels : labels_of after.stores ≡ labels_of before.stores
-  pub dumped : AllDumped sent failed (ids_of before.stores) orders (states_of before.stores) (states_of after.stores)
-      before.links after.links
-  pub sources : after.sources ≡ before.sources
-
--- in a step each store went by a step run: the offers of what the sources gave, and then its order, where it has one.
--- Each order was one link's, once, and the links sent what the orders were given; nothing is left in the sources for
--- the step
-pub record StepDone {L : Type 0} (sent : L → List Sent) (failed : L → ℕ) (e : RecordingContext) (orders : List Order)
+-- in a whole step each store went by a step run: the offers of what the sources gave, and then its order, where it has
+-- one. Each order was one link's, once, and the links sent what the orders were given; nothing is left in the sources
+-- for the step
+pub record IsWholeStep {L : Type 0} (sent : L → List Sent) (failed : L → ℕ) (e : RecordingContext) (orders : List Order)
     (before after : RunState Supply L) : Type 0 where
   pub labels : labels_of after.stores ≡ labels_of before.stores
   pub gave : ℕ → List Stored
@@ -83,48 +98,6 @@ pub record StepDone {L : Type 0} (sent : L → List Sent) (failed : L → ℕ) (
   pub links : AllTook sent failed e.ids gave places before.links after.links
   pub nothing_left : All (λ s. s e.step ≡ []) after.sources
   pub others : (t : ℕ) → t ≢ e.step → given_in t after.sources ≡ given_in t before.sources
-
--- recorders stopped early: this is what they left, and the cause is theirs. The links are as they were
-pub record RecordersBroke {L : Type 0} (e : RecordingContext) (before after : RunState Supply L)
-    (broken : StepBroken) : Type 0 where
-  pub why : Option Fault
-  pub records : Records e before.stores after.stores why before.sources after.sources
-  pub links : after.links ≡ before.links
-  pub spent_is : broken.spent ≡ 0
-  pub cause_is : cause_in e.step why ≡ Some broken.cause
-
--- the cause of a step of which this is the worst order that broke
-abbrev pub dump_cause : ℕ → OrderBroken → Cause
-dump_cause step worst.LinkFailed = LinkFailed step
-dump_cause step worst.NoMemory = NoMemory step
-
--- orders broke: which course each order took, what each link sent and how often it failed, how much was spent in all,
--- that no link lost what it had sent before, and the cause is that of the worst. The sources are as they were
-pub record OrdersBroke {S L : Type 0} (sent : L → List Sent) (failed : L → ℕ) (step : ℕ) (orders : List Order)
-    (before after : RunState S L)
-    (broken : StepBroken) : Type 0 where
-  pub labels : labels_of after.stores ≡ labels_of before.stores
-  pub sound : All (λ h. IsState h.state) after.stores
-  pub why : OrderBroken
-  pub settled : AllSettled sent failed (ids_of before.stores) orders (Some why) (states_of before.stores)
-      (states_of after.stores) before.links after.links
-  pub sources : after.sources ≡ before.sources
-  pub spent_is : used_by sent failed after.links ≡ used_by sent failed before.links + broken.spent
-  pub kept : AllKept sent failed before.links after.links
-  pub cause_is : broken.cause ≡ dump_cause step why
-
--- a step was broken off after what came was recorded, which left the stores and the sources so
-pub record DumpBroke {L : Type 0} (sent : L → List Sent) (failed : L → ℕ) (e : RecordingContext) (orders : List Order)
-    (before after : RunState Supply L) (broken : StepBroken) : Type 0 where
-  pub mid : RunState Supply L
-  pub recorded : StepRecorded e before mid
-  pub how : OrdersBroke sent failed e.step orders mid after broken
-
--- how a step was broken off: a source, the copy of a packet, or a link failed. Nothing else in a step takes memory
-abbrev pub StepBroke : {L : Type 0} → (L → List Sent) → (L → ℕ) → RecordingContext → List Order → RunState Supply L
-    → RunState Supply L → StepBroken → Type 0
-StepBroke sent failed e orders before after broken =
-    RecordersBroke e before after broken ⊎ DumpBroke sent failed e orders before after broken
 
 -- a source keeps the rest of what it gave in a step
 abbrev pub KeepsRest : ℕ → Supply → Supply → Type 0

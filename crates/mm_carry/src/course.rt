@@ -1,17 +1,18 @@
 //! The steps of a run, one after another.
-ghost use Rattle.std.specs.Prelude.{◌≡◌, ℕ, length, IfOk, OnOk, IfErr, vec_capacity};
+ghost use Rattle.std.specs.Prelude.{◌≡◌, length, OnOk, vec_capacity};
+ghost use Rattle.std.specs.Result.{result_err};
 ghost use Rattle.mm_shared.specs.Stores.{labels_of};
 ghost use Rattle.mm_carry.specs.RunState.{InRun};
-ghost use Rattle.mm_carry.specs.Step.{NeverRefused};
+ghost use Rattle.mm_carry.specs.Numbers.{AreCounters};
 ghost use Rattle.mm_carry.specs.Places.{AreAllPlaces};
-ghost use Rattle.mm_carry.specs.Course.{given_to, MayReport, StepReported, StepUnreported, MayRun, AreWithinLimits};
-ghost use Rattle.mm_carry.specs.Ending.{HasRun, IsHaltedIn};
+ghost use Rattle.mm_carry.specs.Course.{given_to, MayReport, IsReportedStep, MayRun};
+ghost use Rattle.mm_carry.specs.Ending.{HasEnded};
 
 use crate::laws::{runs_lose_as_planned, runs_lose_no_packet_uncounted, step_runs_keep_stores};
 use crate::open_run::OpenRun;
 use crate::orders::list_orders;
 use crate::room::RunBuffers;
-use crate::step::StepBroken;
+use crate::step::Stop;
 use crate::step_counts::{all_counters, step_counts};
 use mm_base::MAX_STORES;
 use mm_control::ControlTable;
@@ -22,7 +23,7 @@ use mm_plan::Plan;
 use mm_problem::Problem;
 use mm_record::laws::sources_may_stay;
 use mm_record::{AnySource, RecordingStep};
-use mm_report::Report;
+use mm_shared::Tally;
 use std::alloc::Global;
 use std::sync::Wait;
 use std::thread::Threads;
@@ -36,16 +37,9 @@ pub(crate) struct RunContext<'a> {
     pub(crate) base: u64,
 }
 
-/// A run that was broken off, and the report of the steps before.
-#[derive(Drop)]
-pub(crate) struct RunStopped {
-    pub(crate) broken: StepBroken,
-    pub(crate) report: Report,
-}
-
 impl<S: AnySource + Send + Drop, L: Link + Send + Drop> OpenRun<S, L> {
-    // Carries out one step of a plan, for stores of the problem that stand at these places, and adds its row to the
-    // report.
+    // Carries out one step of a plan, for stores of the problem that stand at these places and have these counters, and
+    // adds its row to the report. Their counters after it are in the same place.
     fn report_step<R: Threads + Wait + Sync>(
         &mut self,
         rt: &R,
@@ -53,19 +47,18 @@ impl<S: AnySource + Send + Drop, L: Link + Send + Drop> OpenRun<S, L> {
         run: &RunContext<'_>,
         places: &[usize],
         step: u32,
+        counters: &mut [Tally; MAX_STORES],
         buffers: &mut RunBuffers,
-    ) -> Result<(), StepBroken>
-        requires may { MayReport L.failed run.now places.now step buffers.old self.old }
-        ensures done { OnOk result (InRun S.leads S.until self.old self.new
-            (λ before after. StepReported L.sent L.failed run.now places.now step before after buffers.old
-            buffers.new)) }
-        ensures broke { IfErr result (λ broken. InRun S.leads S.until self.old self.new
-            (λ before after. StepUnreported L.sent L.failed run.now places.now step before after buffers.old buffers.new
-            broken)) }
+    ) -> Result<(), Stop>
+        requires may { MayReport L.failed run.now places.now step counters.old buffers.old self.old }
+        ensures step { InRun S.leads S.until self.old self.new
+            (IsReportedStep L.sent L.failed run.now places.now step (result_err result) buffers.old.report
+            buffers.new.report) }
+        ensures counters { OnOk result
+            (AreCounters self.new.stores places.now (length run.now.problem.now.rows) counters.new) }
         ensures capacity { vec_capacity buffers.new.orders ≡ vec_capacity buffers.old.orders }
         ensures labels { labels_of self.new.stores ≡ labels_of self.old.stores }
     {
-        let counters = all_counters(places, &mut self.stores);
         list_orders(&mut buffers.orders, run.plan, places, step);
         let context = RecordingStep {
             control: run.control,
@@ -73,31 +66,27 @@ impl<S: AnySource + Send + Drop, L: Link + Send + Drop> OpenRun<S, L> {
             now: run.base + u64::from(step),
         };
         self.carry_step(rt, alloc, &mut buffers.dumping, &context, &buffers.orders)?;
-        let counts = step_counts(run.problem, step, places, &counters, &mut self.stores);
+        let after = all_counters(places, &mut self.stores);
+        let counts = step_counts(run.problem, step, counters, &after);
         buffers.report.add(&counts[..places.len()]);
+        *counters = after;
         Ok(())
     }
 
-    // Carries out all steps of a plan.
+    // Carries out all steps of a plan, and reports each in the room for it.
     pub(crate) fn carry_steps<R: Threads + Wait + Sync>(
         &mut self,
         rt: &R,
         alloc: Global,
         run: &RunContext<'_>,
         all: &[usize; MAX_STORES],
-        buffers: RunBuffers,
-    ) -> Result<Report, RunStopped>
+        buffers: &mut RunBuffers,
+    ) -> Result<(), Stop>
         requires places { AreAllPlaces run.now.problem.now self.old.stores all.now }
-        requires may { MayRun L.failed run.now buffers self.old }
-        ensures done { IfOk result (λ report. InRun S.leads S.until self.old self.new
-            (λ first now. HasRun L.sent L.failed (given_to run.now first) run.now.plan.now first
-            (length run.now.problem.now.windows) now report)) }
-        ensures halted { IfErr result (λ stopped. InRun S.leads S.until self.old self.new
-            (λ first left. (step : ℕ) × IsHaltedIn L.sent L.failed (given_to run.now first) run.now.plan.now first step
-            left stopped)) }
-        ensures far { IfErr result (λ stopped. InRun S.leads S.until self.old self.new
-            (λ first left. AreWithinLimits (length run.now.problem.now.windows) first.stores first.sources
-            → NeverRefused stopped.broken.cause)) }
+        requires may { MayRun L.failed run.now buffers.old self.old }
+        ensures ended { InRun S.leads S.until self.old self.new
+            (λ first now. HasEnded L.sent L.failed (given_to run.now first) run.now.plan.now first (result_err result)
+            now buffers.new.report) }
         ensures labels { labels_of self.new.stores ≡ labels_of self.old.stores }
     {
         broken_orders_change_nothing();
@@ -107,14 +96,13 @@ impl<S: AnySource + Send + Drop, L: Link + Send + Drop> OpenRun<S, L> {
         step_runs_keep_stores();
         sources_may_stay::<S>();
         let places = &all[..run.problem.stores()];
-        let mut buffers = buffers;
+        let mut counters = all_counters(places, &mut self.stores);
         for step in 1..run.problem.steps() + 1 {
-            if let Err(broken) = self.report_step(rt, alloc, run, places, step, &mut buffers) {
-                let RunBuffers { report, .. } = buffers;
-                return Err(RunStopped { broken, report });
+            let ended = self.report_step(rt, alloc, run, places, step, &mut counters, buffers);
+            if let Err(stop) = ended {
+                return Err(stop);
             }
         }
-        let RunBuffers { report, .. } = buffers;
-        Ok(report)
+        Ok(())
     }
 }

@@ -2,7 +2,7 @@
 ghost use Rattle.std.specs.Prelude.{◌≡◌};
 ghost use Rattle.mm_carry.specs.Laws.{RunsLoseAsPlanned, RunsLoseThePlansLoss, RunsLoseNoPacketUncounted};
 ghost use Rattle.mm_carry.specs.Laws.{HalvesMakeStepRuns, StepRunsKeepStores, WholeStepsFit, DrawsMeetNoRefusal};
-ghost use Rattle.mm_carry.specs.Halts.{BrokenStepsAreLogs};
+ghost use Rattle.mm_carry.specs.Halts.{BrokenStepsAreLogs, StepsWithoutStopAreWhole};
 ghost use Rattle.mm_carry.specs.declared.readiness.TheConstants.{MAX_LINKS};
 
 use mm_desk::laws::{
@@ -65,8 +65,14 @@ pub fn draws_meet_no_refusal()
     ensures law { DrawsMeetNoRefusal }
 {}
 
-/// A step that was broken off took each store by one legal log: offers of what the sources gave, in an order that keeps
-/// each source's own, and then at most one dump order, whole or broken.
+/// A step, broken off or whole, took each store by one legal log: offers of what the sources gave, in an order that
+/// keeps each source's own, and then at most one dump order, whole or broken.
 pub fn broken_steps_are_logs<L: Link>()
     ensures logs { BrokenStepsAreLogs L.sent L.failed }
+{}
+
+/// A step without a stop is whole: each store went by a step run of all that the sources gave and of its whole order,
+/// and the links sent what the orders were given.
+pub fn steps_without_stop_are_whole<L: Link>()
+    ensures whole { StepsWithoutStopAreWhole L.sent L.failed }
 {}

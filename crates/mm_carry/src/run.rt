@@ -1,5 +1,5 @@
 //! The run of a dump plan.
-ghost use Rattle.std.specs.Prelude.{◌≡◌, ◌-◌, ◌<◌, ◌^◌, [], All, length, IfOk, IfErr};
+ghost use Rattle.std.specs.Prelude.{◌≡◌, ◌-◌, ◌<◌, ◌^◌, [], All, length, IfOk, OnOk, IfErr};
 ghost use Rattle.mm_shared.specs.Stores.{labels_of};
 ghost use Rattle.mm_memory.specs.Holdings.{AreHeld};
 ghost use Rattle.mm_record.specs.Supplies.{WhateverComes};
@@ -9,14 +9,14 @@ ghost use Rattle.mm_carry.specs.Step.{NeverRefused};
 ghost use Rattle.mm_carry.specs.Course.{given_to, AreWithinLimits};
 ghost use Rattle.mm_carry.specs.Ending.{HasRun, IsCarriedOut, IsStopped, IsHalted};
 
-use crate::course::{RunContext, RunStopped};
+use crate::course::RunContext;
 use crate::open_run::OpenRun;
 use crate::places::places_of;
 use crate::readiness::ready;
-use crate::room::reserve_run;
+use crate::room::{RunBuffers, reserve_run};
 use crate::run_end::{Halted, RunEnd};
 use crate::run_parts::RunParts;
-use crate::step::StepBroken;
+use crate::step::Stop;
 use mm_dump::Link;
 use mm_memory::Memory;
 use mm_plan::Plan;
@@ -29,36 +29,30 @@ use std::mem::replace;
 use std::sync::Wait;
 use std::thread::Threads;
 
-// A run that did not begin.
-fn never_began(alloc: Global, cause: Cause) -> RunStopped
-    ensures broken { result.broken ≡ record { cause = cause; spent = 0 } }
-    ensures report { result.report.steps ≡ [] }
+// Why a run did not begin.
+fn never_began(cause: Cause) -> Stop
+    ensures { result ≡ record { cause = cause; spent = 0 } }
 {
-    RunStopped {
-        broken: StepBroken { cause, spent: 0 },
-        report: Report::none(alloc),
-    }
+    Stop { cause, spent: 0 }
 }
 
 impl<S: AnySource + Send + Drop, L: Link + Send + Drop> RunParts<S, L> {
-    // Carries out a plan, where a run may begin and there is memory for it.
+    // Carries out a plan, where a run may begin and there is memory for it, and reports its whole steps.
     fn carry_plan<R: Threads + Wait + Sync>(
         &mut self,
         rt: &R,
         alloc: Global,
         run: &RunContext<'_>,
-    ) -> Result<Report, RunStopped>
+    ) -> Result<(), Stop>
         requires held { AreHeld self.old.stores.items }
         requires links { All (λ l. L.failed l < 2 ^ 64 - 1) self.old.links.items }
-        ensures done { IfOk result (λ report. InRun S.leads S.until (state_of self.old) (state_of self.new)
+        requires report { self.old.report.steps ≡ [] }
+        ensures done { OnOk result (InRun S.leads S.until (state_of self.old) (state_of self.new)
             (λ first now. HasRun L.sent L.failed (given_to run.now first) run.now.plan.now first
-            (length run.now.problem.now.windows) now report)) }
-        ensures stopped { IfErr result (λ stopped. InRun S.leads S.until (state_of self.old) (state_of self.new)
+            (length run.now.problem.now.windows) now self.new.report)) }
+        ensures stopped { IfErr result (λ stop. InRun S.leads S.until (state_of self.old) (state_of self.new)
             (λ first now. IsStopped L.sent L.failed (given_to run.now first) run.now.plan.now (state_of self.old)
-            (state_of self.new) now.sources stopped)) }
-        ensures far { IfErr result (λ stopped. InRun S.leads S.until (state_of self.old) (state_of self.new)
-            (λ first now. AreWithinLimits (length run.now.problem.now.windows) first.stores first.sources
-            → NeverRefused stopped.broken.cause)) }
+            (state_of self.new) now.sources stop self.new.report)) }
         ensures labels { labels_of self.new.stores.items ≡ labels_of self.old.stores.items }
     {
         let stores = self.stores.as_slice();
@@ -72,14 +66,14 @@ impl<S: AnySource + Send + Drop, L: Link + Send + Drop> RunParts<S, L> {
             many_sources,
             many_links,
         ) {
-            return Err(never_began(alloc, cause));
+            return Err(never_began(cause));
         }
         let all = places_of(run.problem, stores);
-        let Ok(buffers) = reserve_run(alloc, run.problem) else {
-            return Err(never_began(alloc, Cause::NoMemory { step: 0 }));
+        let Ok(mut buffers) = reserve_run(alloc, run.problem) else {
+            return Err(never_began(Cause::NoMemory { step: 0 }));
         };
         let Ok(mut stores) = open_all(alloc, &mut self.stores) else {
-            return Err(never_began(alloc, Cause::NoMemory { step: 0 }));
+            return Err(never_began(Cause::NoMemory { step: 0 }));
         };
         read_states(&mut stores);
         let mut open = OpenRun {
@@ -87,7 +81,7 @@ impl<S: AnySource + Send + Drop, L: Link + Send + Drop> RunParts<S, L> {
             sources: replace(&mut self.sources, Vec::new(alloc)),
             links: replace(&mut self.links, Vec::new(alloc)),
         };
-        let ended = open.carry_steps(rt, alloc, run, &all, buffers);
+        let ended = open.carry_steps(rt, alloc, run, &all, &mut buffers);
         let OpenRun {
             stores,
             sources,
@@ -96,6 +90,8 @@ impl<S: AnySource + Send + Drop, L: Link + Send + Drop> RunParts<S, L> {
         close_all(stores, &mut self.stores);
         self.sources = sources;
         self.links = links;
+        let RunBuffers { report, .. } = buffers;
+        self.report = report;
         ended
     }
 }
@@ -132,6 +128,7 @@ pub fn carry_out<S: AnySource + Send + Drop, L: Link + Send + Drop, R: Threads +
         stores: memory.lift(),
         sources,
         links,
+        report: Report::none(alloc),
     };
     let run = RunContext {
         control: memory.control(),
@@ -144,18 +141,19 @@ pub fn carry_out<S: AnySource + Send + Drop, L: Link + Send + Drop, R: Threads +
         stores,
         sources,
         links,
+        report,
     } = parts;
     memory.restore(stores);
     match ended {
-        Ok(report) => Ok(RunEnd {
+        Ok(()) => Ok(RunEnd {
             report,
             sources,
             links,
         }),
-        Err(RunStopped { broken, report }) => Err(Halted {
-            cause: broken.cause,
+        Err(stop) => Err(Halted {
+            cause: stop.cause,
             report,
-            spent: broken.spent,
+            spent: stop.spent,
             sources,
             links,
         }),

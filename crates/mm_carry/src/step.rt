@@ -1,13 +1,12 @@
 //! One step of a run: what comes is recorded, and then dumped.
-ghost use Rattle.std.specs.Prelude.{◌≡◌, ◌≤◌, OnOk, IfErr};
-ghost use Rattle.mm_carry.specs.RunState.{InRun};
-ghost use Rattle.mm_carry.specs.Step.{MayCarry, MayRecord, recording_by, StepRecorded, StepDumped, StepDone};
-ghost use Rattle.mm_carry.specs.Step.{RecordersBroke, OrdersBroke, StepBroke, dump_cause};
+ghost use Rattle.std.specs.Prelude.{◌≡◌};
+ghost use Rattle.std.specs.Result.{result_err};
 ghost use Rattle.mm_shared.specs.Stores.{labels_of};
-ghost use Rattle.mm_dump.specs.Dumped.{MayDump, amount_of};
+ghost use Rattle.mm_carry.specs.RunState.{InRun};
+ghost use Rattle.mm_carry.specs.Step.{MayCarry, recording_by, orders_after, cause_of, stop_for, IsStep};
 
-use crate::laws::halves_make_step_runs;
 use crate::open_run::OpenRun;
+use mm_desk::Fault;
 use mm_dump::{DumpBuffers, Dumped, Link, Order, OrderBroken, dump_open};
 use mm_record::laws::sources_may_stay;
 use mm_record::{AnySource, RecordingStep, cause_in, record_open};
@@ -16,79 +15,46 @@ use std::alloc::Global;
 use std::sync::Wait;
 use std::thread::Threads;
 
-/// A step that was broken off: why, and how many blocks of its window were spent.
+/// Why a run stopped before its end, and how many blocks of the window of its last step were spent.
 #[derive(Clone, Copy)]
-pub(crate) struct StepBroken {
+pub(crate) struct Stop {
     pub(crate) cause: Cause,
     pub(crate) spent: u64,
 }
 
-// Why dump workers of which this is the worst broken order end a run.
-fn dumpers_cause(step: u32, worst: OrderBroken) -> Cause
-    ensures { result ≡ dump_cause step worst }
+// The orders that are carried out in a step: none where a recorder stopped early.
+fn orders_after(fault: Option<Fault>, orders: &[Order]) -> &[Order]
+    ensures { result.now ≡ orders_after fault orders.now }
 {
-    match worst {
-        OrderBroken::LinkFailed => Cause::LinkFailed { step },
-        OrderBroken::NoMemory => Cause::NoMemory { step },
+    match fault {
+        None => orders,
+        Some(_) => &orders[..0],
+    }
+}
+
+// Why a step is broken off, where a recorder stopped early or an order broke.
+fn cause_of(step: u32, fault: Option<Fault>, broken: Option<OrderBroken>) -> Option<Cause>
+    ensures { result ≡ cause_of step fault broken }
+{
+    match broken {
+        None => cause_in(step, fault),
+        Some(OrderBroken::LinkFailed) => Some(Cause::LinkFailed { step }),
+        Some(OrderBroken::NoMemory) => Some(Cause::NoMemory { step }),
+    }
+}
+
+// Stops the run for a cause, where there is one, with this much of the window spent.
+fn stop_for(cause: Option<Cause>, spent: u64) -> Result<(), Stop>
+    ensures { result_err result ≡ stop_for cause spent }
+{
+    match cause {
+        None => Ok(()),
+        Some(cause) => Err(Stop { cause, spent }),
     }
 }
 
 impl<S: AnySource + Send + Drop, L: Link + Send + Drop> OpenRun<S, L> {
-    // Records what comes in a step.
-    fn record<R: Threads + Wait + Sync>(
-        &mut self,
-        rt: &R,
-        alloc: Global,
-        step: &RecordingStep<'_>,
-    ) -> Result<(), StepBroken>
-        requires may { MayRecord self.old }
-        ensures ok { OnOk result (InRun S.leads S.until self.old self.new
-            (StepRecorded (recording_by step.entry.now self.old.stores))) }
-        ensures how { IfErr result (λ broken. InRun S.leads S.until self.old self.new
-            (λ before after. RecordersBroke (recording_by step.entry.now before.stores) before after broken)) }
-        ensures spent { IfErr result (λ broken. broken.spent ≡ 0) }
-        ensures labels { labels_of self.new.stores ≡ labels_of self.old.stores }
-    {
-        let why = record_open(rt, alloc, step, &mut self.stores, &mut self.sources);
-        if let Some(cause) = cause_in(step.step, why) {
-            return Err(StepBroken { cause, spent: 0 });
-        }
-        Ok(())
-    }
-
-    // Carries out the orders of a step.
-    fn dump<R: Threads + Wait + Sync>(
-        &mut self,
-        rt: &R,
-        alloc: Global,
-        buffers: &mut DumpBuffers,
-        step: u32,
-        orders: &[Order],
-    ) -> Result<(), StepBroken>
-        requires may { MayDump L.failed orders.now self.old.stores self.old.links }
-        ensures ok { OnOk result (StepDumped L.sent L.failed orders.now self.old self.new) }
-        ensures how { IfErr result (OrdersBroke L.sent L.failed step orders.now self.old self.new) }
-        ensures within { IfErr result (λ broken. broken.spent ≤ amount_of orders.now) }
-        ensures labels { labels_of self.new.stores ≡ labels_of self.old.stores }
-    {
-        let Dumped { broken, spent } = dump_open(
-            rt,
-            alloc,
-            buffers,
-            orders,
-            &mut self.stores,
-            &mut self.links,
-        );
-        match broken {
-            None => Ok(()),
-            Some(worst) => Err(StepBroken {
-                cause: dumpers_cause(step, worst),
-                spent,
-            }),
-        }
-    }
-
-    // Carries out one step: records what comes, and then carries out its orders.
+    // Carries out one step: records what comes, and then, where no recorder stopped early, carries out its orders.
     pub(crate) fn carry_step<R: Threads + Wait + Sync>(
         &mut self,
         rt: &R,
@@ -96,19 +62,22 @@ impl<S: AnySource + Send + Drop, L: Link + Send + Drop> OpenRun<S, L> {
         buffers: &mut DumpBuffers,
         step: &RecordingStep<'_>,
         orders: &[Order],
-    ) -> Result<(), StepBroken>
+    ) -> Result<(), Stop>
         requires may { MayCarry L.failed step.now.now orders.now self.old }
-        ensures ok { OnOk result (InRun S.leads S.until self.old self.new
-            (StepDone L.sent L.failed (recording_by step.entry.now self.old.stores) orders.now)) }
-        ensures how { IfErr result (λ broken. InRun S.leads S.until self.old self.new
-            (λ before after. StepBroke L.sent L.failed (recording_by step.entry.now before.stores) orders.now before
-            after broken)) }
-        ensures within { IfErr result (λ broken. broken.spent ≤ amount_of orders.now) }
+        ensures step { InRun S.leads S.until self.old self.new
+            (IsStep L.sent L.failed (recording_by step.entry.now self.old.stores) orders.now (result_err result)) }
         ensures labels { labels_of self.new.stores ≡ labels_of self.old.stores }
     {
-        halves_make_step_runs();
         sources_may_stay::<S>();
-        self.record(rt, alloc, step)?;
-        self.dump(rt, alloc, buffers, step.step, orders)
+        let fault = record_open(rt, alloc, step, &mut self.stores, &mut self.sources);
+        let Dumped { broken, spent } = dump_open(
+            rt,
+            alloc,
+            buffers,
+            orders_after(fault, orders),
+            &mut self.stores,
+            &mut self.links,
+        );
+        stop_for(cause_of(step.step, fault, broken), spent)
     }
 }

@@ -54,3 +54,4 @@ pub record HasNoPlan {S L : Type 0} (before : Holdings) (sources : List S) (link
   pub routes : after.routes ≡ before.routes
   pub untouched : IsUntouched (over_memory before sources links)
       (over_memory after ended.halted.sources.items ended.halted.links.items) (stop_of ended.halted)
+      ended.halted.report

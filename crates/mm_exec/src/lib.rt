@@ -7,7 +7,7 @@ mod flying;
 pub use flying::{fly, fly_printed, unplanned};
 pub use mm_carry::laws::{
     broken_steps_are_logs, draws_meet_no_refusal, halves_make_step_runs, runs_lose_as_planned,
-    step_runs_keep_stores, whole_steps_fit,
+    step_runs_keep_stores, steps_without_stop_are_whole, whole_steps_fit,
 };
 pub use mm_carry::{
     Flown, FlyHalted, FlyResult, Halted, MAX_LINKS, Requirement, RunEnd, carry_out, laws, ready,

@@ -1,7 +1,7 @@
 use Rattle.std.proofs.Common.{◌≡◌, ◌∙◌, refl, ap}
 use Rattle.mm_carry.proofs.Words.{labels_of, Holdings, held_as, supplies, run_input}
 use Rattle.mm_carry.proofs.Beyond.{loses_at_most}
-use Rattle.mm_carry.proofs.Ended.{total_is}
+use Rattle.mm_carry.proofs.Ended.{total_is, stopped_far}
 use Rattle.mm_carry.proofs.run.carry_out.Given as given
 use Rattle.mm_carry.proofs.run.carry_out.Goals as goal
 use Rattle.mm_carry.proofs.run.carry_out.Goals.{After-restore}
@@ -23,7 +23,7 @@ returns-in-Ok-clause-carried_out g c =
     rw (c.restore.ensures.after, c.lift.ensures.left) (λ lasts lead.
     let ran = done lasts lead in
     let m = input (supplies g.S.AnySource.until c.args.sources.items lasts) in
-    let total = total_is m c.in-Ok.report ran.1.done.report_is in
+    let total = total_is m c.carry_plan-ended.new.self.report ran.1.done.report_is in
     (ran.0, record { routes = refl; ran = ran.1; total_lost = total; at_most = loses_at_most m _ _ refl total }))
 
 pub returns-in-Err-clause-halted : goal.returns-in-Err-clause-halted
@@ -34,4 +34,7 @@ returns-in-Err-clause-halted g c =
     (ended.0, (refl, ended.1)))
 
 pub returns-in-Err-clause-far : goal.returns-in-Err-clause-far
-returns-in-Err-clause-far g c = rw c.lift.ensures.stores at c.in-Err.ensures.far
+returns-in-Err-clause-far g c =
+    let stopped = rw c.lift.ensures.stores at c.in-Err.ensures.stopped in
+    λ lasts lead. let ended = stopped lasts lead in
+    (ended.0, stopped_far g.L.Link.sent g.L.Link.failed _ _ _ _ _ _ _ ended.1)

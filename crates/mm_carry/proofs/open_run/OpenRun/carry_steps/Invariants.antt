@@ -1,5 +1,5 @@
-use Rattle.std.proofs.Common.{◌≡◌, ◌-◌, ◌≤◌, vec_capacity}
-use Rattle.mm_carry.proofs.Words.{MAX_STORES, labels_of, given_to, HasRun, InRun}
+use Rattle.std.proofs.Common.{◌≡◌, ◌-◌, ◌≤◌, length, vec_capacity}
+use Rattle.mm_carry.proofs.Words.{MAX_STORES, labels_of, given_to, AreCounters, HasRun, InRun}
 use Rattle.mm_carry.proofs.open_run.OpenRun.carry_steps.Given as goal
 
 abbrev pub invariant-loop-step : goal.invariant-loop-step
@@ -8,5 +8,6 @@ invariant-loop-step g l = record {
       (λ first now. HasRun g.L.Link.sent g.L.Link.failed (given_to l.run first) l.run.plan.now first (l.step - 1) now
       l.buffers.report);
   labels : labels_of l.self.stores ≡ labels_of l.fn.self.stores;
+  counters : AreCounters l.self.stores l.places (length l.run.problem.now.rows) l.counters;
   room : MAX_STORES ≤ vec_capacity l.buffers.orders;
 }

@@ -1,7 +1,7 @@
 use Rattle.std.proofs.Common.{◌∙◌, length, refl, inl, inr, All, arith, ap, subst}
-use Rattle.mm_carry.proofs.Words.{IfErr-weaker, IsState, Held, stores_in, RunStart, run_start, Stops, MayBegin}
-use Rattle.mm_carry.proofs.Words.{state_of, RunStopped}
-use Rattle.mm_carry.proofs.Ended.{start_by, not_begun}
+use Rattle.mm_carry.proofs.Words.{IsState, Held, stores_in, RunStart, run_start, Stops, MayBegin}
+use Rattle.mm_carry.proofs.Words.{state_of}
+use Rattle.mm_carry.proofs.Ended.{start_by, not_begun, ended_whole, ended_early}
 use Rattle.mm_carry.proofs.run_parts.RunParts.carry_plan.Given as given
 use Rattle.mm_carry.proofs.run_parts.RunParts.carry_plan.Goals as goal
 use Rattle.mm_carry.proofs.run_parts.RunParts.carry_plan.Goals.{After-ready}
@@ -19,8 +19,8 @@ tested g c P =
 
 pub returns-in-Err-clause-stopped : goal.returns-in-Err-clause-stopped
 returns-in-Err-clause-stopped g c =
-    not_begun _ _ g.L.Link.sent g.L.Link.failed c.args.run.now (state_of c.args.self.now) c.never_began.result
-    c.never_began.ensures.broken c.never_began.ensures.report
+    not_begun _ _ g.L.Link.sent g.L.Link.failed c.args.run.now (state_of c.args.self.now)
+    c.args.self.now.report c.never_began.result c.never_began.ensures c.requires.report
     (inl (tested g (goal.at.returns-in-Err-clause-stopped g c).After-ready (λ o. Stops o c.in-Err.cause)
     c.in-Err.ensures.err))
 
@@ -28,8 +28,8 @@ pub returns-in_default-open_all-clause-stopped : goal.returns-in_default-open_al
 returns-in_default-open_all-clause-stopped g c =
     let ended = c.never_began-in_default-open_all in
     rw c.in_default-open_all.ensures.err
-    (not_begun _ _ g.L.Link.sent g.L.Link.failed c.args.run.now (state_of c.args.self.now) ended.result
-    ended.ensures.broken ended.ensures.report
+    (not_begun _ _ g.L.Link.sent g.L.Link.failed c.args.run.now (state_of c.args.self.now)
+    c.args.self.now.report ended.result ended.ensures c.requires.report
     (inr (
       refl,
       tested g (goal.at.returns-in_default-open_all-clause-stopped g c).After-ready MayBegin
@@ -39,8 +39,8 @@ returns-in_default-open_all-clause-stopped g c =
 pub returns-in_default-reserve_run-clause-stopped : goal.returns-in_default-reserve_run-clause-stopped
 returns-in_default-reserve_run-clause-stopped g c =
     let ended = c.never_began-in_default-reserve_run in
-    not_begun _ _ g.L.Link.sent g.L.Link.failed c.args.run.now (state_of c.args.self.now) ended.result
-    ended.ensures.broken ended.ensures.report
+    not_begun _ _ g.L.Link.sent g.L.Link.failed c.args.run.now (state_of c.args.self.now)
+    c.args.self.now.report ended.result ended.ensures c.requires.report
     (inr (
       refl,
       tested g (goal.at.returns-in_default-reserve_run-clause-stopped g c).After-ready MayBegin
@@ -60,29 +60,32 @@ carry_steps-ended-requires-clause-may g c κs within =
       orders = c.in-Ok.ensures.orders;
     })
 
+-- how the steps of the run ended, from the parts that it was given to those that it left
 pub returns-clause-done : goal.returns-clause-done
 returns-clause-done g c =
     let opened = ap stores_in c.read_states.ensures.same ∙ c.in-Ok-open_all.ensures.opened.1 in
-    rw (opened, c.replace.ensures.value, c.replace-2.ensures.value, ← c.open.view_is, ← c.close_all.ensures.stores)
-    at c.carry_steps-ended.ensures.done
-
-pub returns-clause-stopped : goal.returns-clause-stopped
-returns-clause-stopped g c =
-    let opened = ap stores_in c.read_states.ensures.same ∙ c.in-Ok-open_all.ensures.opened.1 in
-    let halted = rw (
+    let ended = rw (
       opened,
       c.replace.ensures.value,
       c.replace-2.ensures.value,
       ← c.open.view_is,
       ← c.close_all.ensures.stores,
-    ) at c.carry_steps-ended.ensures.halted in
-    IfErr-weaker c.carry_steps-ended.result _ _ (λ (stopped : RunStopped) halted lasts lead. let one = halted lasts
-    lead in (one.0, inl one.1)) halted
+    ) at c.carry_steps-ended.ensures.ended in
+    ended_whole g.S.AnySource.leads g.S.AnySource.until g.L.Link.sent g.L.Link.failed c.args.run.now _ _ _
+    c.carry_steps-ended.result ended
 
-pub returns-clause-far : goal.returns-clause-far
-returns-clause-far g c =
+pub returns-clause-stopped : goal.returns-clause-stopped
+returns-clause-stopped g c =
     let opened = ap stores_in c.read_states.ensures.same ∙ c.in-Ok-open_all.ensures.opened.1 in
-    rw (opened, c.replace.ensures.value, ← c.open.view_is) at c.carry_steps-ended.ensures.far
+    let ended = rw (
+      opened,
+      c.replace.ensures.value,
+      c.replace-2.ensures.value,
+      ← c.open.view_is,
+      ← c.close_all.ensures.stores,
+    ) at c.carry_steps-ended.ensures.ended in
+    ended_early g.S.AnySource.leads g.S.AnySource.until g.L.Link.sent g.L.Link.failed c.args.run.now _ _ _
+    c.carry_steps-ended.result ended
 
 pub returns-clause-labels : goal.returns-clause-labels
 returns-clause-labels g c =
