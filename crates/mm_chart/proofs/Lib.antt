@@ -5,5 +5,5 @@ pub mod Names
 pub mod Ranges
 pub mod Shown
 pub mod Amounts
-pub mod Outlines
 pub mod Scales
+pub mod Outlines

@@ -47,5 +47,13 @@ flat_map_next f t first =
     let here : t - 1 + 1 ≡ t + 1 - 1 = omega arith in
     rw here at (flat_map_range_more f 1 (t - 1) t (omega arith))
 
+-- the same for stores and channels, which count from 0
+pub flat_map_first : {X : Type 0} (f : ℕ → List X) (n : ℕ)
+    → flat_map f (range_with_len 0 (n + 1)) ≡ flat_map f (range_with_len 0 n) ++ f n
+flat_map_first f n = flat_map_range_more f 0 n n (omega arith)
+
+-- one shape after another
+pub ruleset placing = (append_assoc, append-nil)
+
 -- the shapes of a row, of one number more, and one after another
-pub ruleset drawing = (append_assoc, append-nil, flat_map-append, flat_map_next, flat_map_range_more)
+pub ruleset drawing = (append_assoc, append-nil, flat_map-append, flat_map_next, flat_map_first)

@@ -1,6 +1,5 @@
 -- The document of a chart, and the chart of three texts.
 use Rattle.std.specs.Prelude.{◌≡◌, ℕ, None, List, [], ◌∷◌, ◌++◌, codes, decimal}
-use Rattle.mm_base.specs.Characters.{line_feed}
 use Rattle.mm_problem.specs.Texts.{SaysProblem}
 use Rattle.mm_cut.specs.Checking.{SaysSheet}
 use Rattle.mm_plan.specs.Sheet.{SheetRows}
@@ -11,18 +10,20 @@ use Rattle.mm_chart.specs.declared.document.TheConstants.{OPENING, FONT, STYLES,
 use Rattle.mm_chart.specs.Picture.{Drawn, picture_of}
 use Rattle.mm_chart.specs.Layout.{word_line}
 use Rattle.mm_chart.specs.Rows.{rows}
-use Rattle.mm_chart.specs.Svg.{said, printed, drawn}
+use Rattle.mm_chart.specs.Svg.{Shape, Fixed, said, joined, drawn}
 use Rattle.mm_chart.specs.Words.{headline, words, word_lines}
 
 -- the first line of the document, with the size of the picture
-unfoldable pub head : Drawn → List ℕ
-head p =
-    said OPENING.now ++ decimal (word_line p.problem (word_lines p p.verdict))
-    ++ said FONT.now
+abbrev pub head : Drawn → List ℕ
+head p = joined (OPENING.now ∷ decimal (word_line p.problem (word_lines p p.verdict)) ∷ FONT.now ∷ [])
+
+-- what a chart is made of, in order
+abbrev pub shapes : Drawn → List Shape
+shapes p = Fixed STYLES.now ∷ headline p ∷ Fixed LEGEND.now ∷ rows p ++ words p
 
 -- the document of a picture
 unfoldable pub chart : Drawn → List ℕ
-chart p = head p ++ said STYLES.now ++ printed (headline p) ++ said LEGEND.now ++ rows p ++ drawn (words p) ++ said (codes "</svg>" ++ line_feed ∷ [])
+chart p = head p ++ drawn (shapes p) ++ said (codes "</svg>\n")
 
 -- the chart of what a setup, a forecast and a plan text say, by the verdict on them
 pub record Charts (setup forecast text octets : List ℕ) : Type 0 where

@@ -13,6 +13,10 @@ use Rattle.mm_chart.specs.declared.series.Series.TheVariants.{Left, Lost, Worth,
 abbrev pub step_width : Dumping → ℕ
 step_width q = min MAX_WIDTH (ROOM / length q.windows)
 
+-- the width of all steps together
+unfoldable pub steps_width : Dumping → ℕ
+steps_width q = step_width q * length q.windows
+
 -- the right edge of a step; of step 0 it is where the first begins
 abbrev pub edge : Dumping → ℕ → ℕ
 edge q t = LEFT + step_width q * t

@@ -1,63 +1,59 @@
--- The rows of a chart, and the document that they stand in.
+-- The rows of a chart: each is a list of shapes.
 use Rattle.std.specs.Prelude.{ℕ, ◌+◌, ◌-◌, ◌/◌, ◌%◌, ◌==◌, ◌||◌, Bool, if◌then◌else◌, List, [], ◌∷◌, ◌++◌, length}
 use Rattle.std.specs.Prelude.{codes, decimal, flat_map}
 use Rattle.std.specs.List.{sum_by, list_any}
-use Rattle.mm_base.specs.Characters.{line_feed}
 use Rattle.mm_base.specs.Id.{id_text}
 use Rattle.mm_problem.specs.Dumping.{Dumping, row, size, start, channel, arrivals, steps, stores, channels}
 use Rattle.mm_chart.specs.declared.layout.TheConstants.{LEFT, WINDOW_BASE, TALL, THIN, NAME_AT, TICK_AT, SAVED_AT}
 use Rattle.mm_chart.specs.declared.layout.TheConstants.{RAISED_AT}
 use Rattle.mm_chart.specs.declared.phrases.TheConstants.{SAVES}
 use Rattle.mm_chart.specs.declared.rows.TheConstants.{WORTH_KEY}
-use Rattle.mm_chart.specs.declared.pen.Style.{Style}
 use Rattle.mm_chart.specs.declared.pen.Style.TheVariants as style
 use Rattle.mm_chart.specs.declared.series.Series.TheVariants.{WindowCounts, Window, Used, ChannelCounts, Sent, Inner}
 use Rattle.mm_chart.specs.declared.series.Series.TheVariants.{Last, Written, Left, Lost, Worth, Raised}
 use Rattle.mm_chart.specs.Picture.{Drawn, has_worth}
 use Rattle.mm_chart.specs.Series.{total_of, most_of, most_limit}
-use Rattle.mm_chart.specs.Layout.{edge, step_width, has_limit, channel_base, store_base, bottom, tick_every}
-use Rattle.mm_chart.specs.Svg.{said, escaped, grouped, opened, closed, labelled, begun, line_at, profile}
+use Rattle.mm_chart.specs.Layout.{edge, step_width, steps_width, has_limit, channel_base, store_base, bottom}
+use Rattle.mm_chart.specs.Layout.{tick_every}
+use Rattle.mm_chart.specs.Svg.{Shape, Fixed, Label, Frame, Guide, Outline, escaped, grouped}
 
 -- where the words at the right of a row begin
 abbrev pub right : Dumping → ℕ
-right q = edge q (length q.windows) + 8
+right q = LEFT + steps_width q + 8
 
--- words with a number among them
-unfoldable pub counted : Style → ℕ → ℕ → List ℕ → ℕ → List ℕ → List ℕ
-counted style x y front n back = opened style x y ++ (front ++ grouped n ++ back) ++ closed
+-- words beside the name of a row
+abbrev pub side : ℕ → List (List ℕ) → Shape
+side y parts = Label style.Side NAME_AT y parts
+
+-- words at the right of a row
+abbrev pub total : Dumping → ℕ → List (List ℕ) → Shape
+total q y parts = Label style.Total (right q) y parts
 
 -- the frame of a row
-unfoldable pub frame : Dumping → ℕ → ℕ → List ℕ
-frame q base height =
-    said (codes "<rect class='o' x='") ++ decimal LEFT ++ said (codes "' y='") ++ decimal (base - height)
-    ++ said (codes "' width='") ++ decimal (edge q (length q.windows) - LEFT) ++ said (codes "' height='") ++ decimal
-    height ++ said (codes "'/>" ++ line_feed ∷ [])
-
--- the identifier of a store
-abbrev pub name : Dumping → ℕ → List ℕ
-name q s = escaped (id_text (row q s).id)
+abbrev pub frame : Dumping → ℕ → ℕ → Shape
+frame q base height = Frame LEFT (base - height) (steps_width q) height
 
 -- ---- the row of the windows
 
-unfoldable pub windows_words : Drawn → List ℕ
+unfoldable pub windows_words : Drawn → List Shape
 windows_words p =
-    labelled style.Name NAME_AT (WINDOW_BASE - 18) (codes "windows")
-    ++ counted style.Side NAME_AT (WINDOW_BASE - 4) (codes "up to ") (most_of p Window) []
-    ++ counted style.Total (right p.problem) (WINDOW_BASE - 18) [] (total_of p Used) (codes " sent")
-    ++ counted style.Total (right p.problem) (WINDOW_BASE - 4) (codes "of ") (total_of p Window) []
+    Label style.Name NAME_AT (WINDOW_BASE - 18) (codes "windows" ∷ [])
+    ∷ side (WINDOW_BASE - 4) (codes "up to " ∷ grouped (most_of p Window) ∷ [])
+    ∷ total p.problem (WINDOW_BASE - 18) (grouped (total_of p Used) ∷ codes " sent" ∷ [])
+    ∷ total p.problem (WINDOW_BASE - 4) (codes "of " ∷ grouped (total_of p Window) ∷ [])
+    ∷ []
 
-unfoldable pub windows_row : Drawn → List ℕ
-windows_row p = profile p WindowCounts ++ profile p Window ++ profile p Used ++ frame p.problem WINDOW_BASE TALL ++
-    windows_words p
+unfoldable pub windows_row : Drawn → List Shape
+windows_row p =
+    Outline p WindowCounts ∷ Outline p Window ∷ Outline p Used ∷ frame p.problem WINDOW_BASE TALL
+    ∷ windows_words p
 
--- what the windows are worth, above them, and what its colour means
-unfoldable pub worth_bars : Drawn → List ℕ
-worth_bars p = said WORTH_KEY.now ++ profile p Worth ++ counted style.Side NAME_AT SAVED_AT SAVES.now (most_of p Worth)
-    []
-
--- nothing where that is not known
-unfoldable pub worth_part : Drawn → List ℕ
-worth_part p = if has_worth p then worth_bars p else []
+-- what the windows are worth, above them, and what its colour means; nothing where that is not known
+unfoldable pub worth_row : Drawn → List Shape
+worth_row p =
+    if has_worth p
+    then Fixed WORTH_KEY.now ∷ Outline p Worth ∷ side SAVED_AT (SAVES.now ∷ grouped (most_of p Worth) ∷ []) ∷ []
+    else []
 
 -- ---- the rows of the channels with a limit
 
@@ -66,42 +62,41 @@ abbrev pub is_by_step : Dumping → ℕ → Bool
 is_by_step q c = list_any (λ k. k == c) q.limited
 
 -- what stands before the limit of a channel: the limits of its column may differ from step to step
-abbrev pub limit_front : Dumping → ℕ → List ℕ
+unfoldable pub limit_front : Dumping → ℕ → List ℕ
 limit_front q c = if is_by_step q c then codes ": up to " else codes ": "
 
 -- what stands after it, where there is room for it
-abbrev pub limit_back : Dumping → ℕ → List ℕ
+unfoldable pub limit_back : Dumping → ℕ → List ℕ
 limit_back q c = if is_by_step q c then [] else codes " a step"
 
--- the channel and its limit, the greatest of all steps
-unfoldable pub channel_side : Drawn → ℕ → List ℕ
-channel_side p c =
-    opened style.Side NAME_AT (channel_base p.problem c - 5)
-    ++ said (codes "channel ") ++ decimal c ++ said (limit_front p.problem c) ++ grouped (most_limit p.problem c)
-    ++ said (limit_back p.problem c) ++ closed
+-- what its limits are worth, above its row; nothing where that is not known
+unfoldable pub raised : Drawn → ℕ → List Shape
+raised p c =
+    if has_worth p
+    then Outline p (Raised c)
+    ∷ side (channel_base p.problem c - RAISED_AT) (SAVES.now ∷ grouped (most_of p (Raised c)) ∷ []) ∷ []
+    else []
 
--- what its limits are worth, above its row
-unfoldable pub raised_bars : Drawn → ℕ → List ℕ
-raised_bars p c =
-    profile p (Raised c) ++ counted style.Side NAME_AT (channel_base p.problem c - RAISED_AT) SAVES.now
-    (most_of p (Raised c)) []
-
--- nothing where that is not known
-unfoldable pub raised_part : Drawn → ℕ → List ℕ
-raised_part p c = if has_worth p then raised_bars p c else []
-
-unfoldable pub channel_row : Drawn → ℕ → List ℕ
-channel_row p c =
-    profile p (ChannelCounts c) ++ profile p (Sent c) ++ frame p.problem (channel_base p.problem c) THIN ++ channel_side
-    p c
-    ++ counted style.Total (right p.problem) (channel_base p.problem c - 5) [] (total_of p (Sent c)) (codes " sent")
-    ++ raised_part p c
+-- a channel with its limit, the greatest of all steps, and what leaves on it
+unfoldable pub channel_words : Drawn → ℕ → List Shape
+channel_words p c =
+    side (channel_base p.problem c - 5) (codes "channel " ∷ decimal c ∷ limit_front p.problem c
+    ∷ grouped (most_limit p.problem c) ∷ limit_back p.problem c ∷ [])
+    ∷ total p.problem (channel_base p.problem c - 5) (grouped (total_of p (Sent c)) ∷ codes " sent" ∷ [])
+    ∷ []
 
 -- nothing for a channel without a limit
-unfoldable pub channel_part : Drawn → ℕ → List ℕ
-channel_part p c = if has_limit p.problem c == 0 then [] else channel_row p c
+unfoldable pub channel_row : Drawn → ℕ → List Shape
+channel_row p c =
+    if has_limit p.problem c == 0 then []
+    else Outline p (ChannelCounts c) ∷ Outline p (Sent c) ∷ frame p.problem (channel_base p.problem c) THIN
+    ∷ channel_words p c ++ raised p c
 
 -- ---- the rows of the stores
+
+-- the identifier of a store
+abbrev pub name : Dumping → ℕ → List ℕ
+name q s = escaped (id_text (row q s).id)
 
 -- what a store holds at the beginning and what comes to it
 unfoldable pub coming_to : Drawn → ℕ → ℕ
@@ -111,52 +106,50 @@ coming_to p s = start p.problem s + sum_by (arrivals p.problem s) (steps p.probl
 abbrev pub all_coming : Drawn → ℕ
 all_coming p = sum_by (coming_to p) (stores p.problem)
 
--- a store's size and channel
-unfoldable pub store_side : Drawn → ℕ → List ℕ
-store_side p s =
-    opened style.Side NAME_AT (store_base p.problem s - 4)
-    ++ grouped (size p.problem s) ++ said (codes ", channel ") ++ decimal (channel p.problem s) ++ closed
+-- what a store loses, in the row on this line
+unfoldable pub store_loss : Drawn → ℕ → ℕ → Shape
+store_loss p s base =
+    let lost = total_of p (Lost s) in
+    Label (if lost == 0 then style.Total else style.Loss) (right p.problem) (base - 18)
+    (if lost == 0 then codes "nothing lost" ∷ [] else grouped lost ∷ codes " lost" ∷ [])
 
--- what it loses
-unfoldable pub store_loss : Drawn → ℕ → List ℕ
-store_loss p s =
-    if total_of p (Lost s) == 0 then labelled style.Total (right p.problem) (store_base p.problem s - 18)
-    (codes "nothing lost")
-    else counted style.Loss (right p.problem) (store_base p.problem s - 18) [] (total_of p (Lost s)) (codes " lost")
+-- its stretches, and what stands in it
+unfoldable pub store_bars : Drawn → ℕ → List Shape
+store_bars p s = Outline p (Inner s) ∷ Outline p (Last s) ∷ Outline p (Written s) ∷ Outline p (Left s) ∷ []
 
-unfoldable pub store_words : Drawn → ℕ → List ℕ
-store_words p s =
-    opened style.Name NAME_AT (store_base p.problem s - 18) ++ name p.problem s ++ closed
-    ++ store_side p s ++ store_loss p s
-    ++ counted style.Total (right p.problem) (store_base p.problem s - 4) (codes "of ") (coming_to p s) []
+-- its size and its channel
+unfoldable pub store_side : ℕ → ℕ → ℕ → Shape
+store_side y size channel = side y (grouped size ∷ codes ", channel " ∷ decimal channel ∷ [])
 
-unfoldable pub store_bars : Drawn → ℕ → List ℕ
-store_bars p s = profile p (Inner s) ++ profile p (Last s) ++ profile p (Written s) ++ profile p (Left s)
+-- a store with its size and channel, what it loses, and what comes to it
+unfoldable pub store_words : Drawn → ℕ → ℕ → List Shape
+store_words p s base =
+    Label style.Name NAME_AT (base - 18) (name p.problem s ∷ [])
+    ∷ store_side (base - 4) (size p.problem s) (channel p.problem s)
+    ∷ store_loss p s base
+    ∷ total p.problem (base - 4) (codes "of " ∷ grouped (coming_to p s) ∷ [])
+    ∷ []
 
-unfoldable pub store_row : Drawn → ℕ → List ℕ
-store_row p s = store_bars p s ++ profile p (Lost s) ++ frame p.problem (store_base p.problem s) TALL ++ store_words p s
+unfoldable pub store_row : Drawn → ℕ → List Shape
+store_row p s =
+    store_bars p s ++ Outline p (Lost s) ∷ frame p.problem (store_base p.problem s) TALL
+    ∷ store_words p s (store_base p.problem s)
 
 -- ---- ticks
 
--- a line from a tick through all rows
-unfoldable pub guide : Dumping → ℕ → List ℕ
-guide q x =
-    said (codes "<path class='i' d='") ++ begun x (TICK_AT + 4) ++ line_at (bottom q) ++ said
-    (codes "'/>" ++ line_feed ∷ [])
+-- the middle of a step
+abbrev pub middle : Dumping → ℕ → ℕ
+middle q t = edge q (t - 1) + step_width q / 2
 
--- the number of a step over the middle of the step, and a line from it
-unfoldable pub numbered : Dumping → ℕ → ℕ → List ℕ
-numbered q t x = opened style.Tick x TICK_AT ++ decimal t ++ closed ++ guide q x
-
--- the number of a step, where a tick is due
-unfoldable pub tick : Drawn → ℕ → List ℕ
+-- the number of a step over its middle and a line from it through all rows, where a tick is due
+unfoldable pub tick : Drawn → ℕ → List Shape
 tick p t =
     if (t == 1) || (t % tick_every (length p.problem.windows) == 0)
-    then numbered p.problem t (edge p.problem (t - 1) + step_width p.problem / 2)
+    then Label style.Tick (middle p.problem t) TICK_AT (decimal t ∷ [])
+    ∷ Guide (middle p.problem t) (TICK_AT + 4) (bottom p.problem) ∷ []
     else []
 
-unfoldable pub rows : Drawn → List ℕ
+unfoldable pub rows : Drawn → List Shape
 rows p =
-    labelled style.Side NAME_AT TICK_AT (codes "step") ++ flat_map (tick p) (steps p.problem)
-    ++ windows_row p ++ worth_part p ++ flat_map (channel_part p) (channels p.problem) ++ flat_map (store_row p)
-    (stores p.problem)
+    side TICK_AT (codes "step" ∷ []) ∷ flat_map (tick p) (steps p.problem) ++ windows_row p ++ worth_row p
+    ++ flat_map (channel_row p) (channels p.problem) ++ flat_map (store_row p) (stores p.problem)

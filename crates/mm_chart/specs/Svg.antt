@@ -1,7 +1,6 @@
--- Parts of the text of a picture: Scalable Vector Graphics (SVG) 1.1.
+-- The shapes of a picture, and their text: Scalable Vector Graphics (SVG) 1.1.
 use Rattle.std.specs.Prelude.{ℕ, ◌+◌, ◌-◌, ◌%◌, ◌==◌, if◌then◌else◌, List, [], ◌∷◌, ◌++◌, length, codes, decimal}
 use Rattle.std.specs.Prelude.{flat_map, ℤ, pos, negsuc}
-use Rattle.mm_base.specs.Characters.{line_feed}
 use Rattle.mm_base.specs.Id.{id_text}
 use Rattle.mm_problem.specs.Dumping.{steps}
 use Rattle.mm_chart.specs.declared.pen.Part.{Part}
@@ -64,16 +63,6 @@ style_name style.Tick = codes "k"
 style_name style.Heading = codes "b"
 style_name style.Plain = codes "w"
 
-unfoldable pub opened : Style → ℕ → ℕ → List ℕ
-opened style x y = said (codes "<text class='") ++ style_name style ++ said (codes "' x='") ++ decimal x ++ said
-    (codes "' y='") ++ decimal y ++ said (codes "'>")
-
-unfoldable pub closed : List ℕ
-closed = said (codes "</text>" ++ line_feed ∷ [])
-
-unfoldable pub labelled : Style → ℕ → ℕ → List ℕ → List ℕ
-labelled style x y words = opened style x y ++ words ++ closed
-
 -- a part of a line of words as the code has it
 abbrev pub part_text : Part → List ℕ
 part_text (Said words) = words.now
@@ -86,20 +75,29 @@ part_text (Signed n) = signed_grouped n
 unfoldable pub joined : List (List ℕ) → List ℕ
 joined parts = flat_map (λ part. part) parts
 
+-- what comes before the words at a place, and what after them
+unfoldable pub opened : Style → ℕ → ℕ → List ℕ
+opened style x y =
+    said (codes "<text class='") ++ style_name style
+    ++ joined (codes "' x='" ∷ decimal x ∷ codes "' y='" ∷ decimal y ∷ codes "'>" ∷ [])
+
+unfoldable pub closed : List ℕ
+closed = said (codes "</text>\n")
+
 unfoldable pub label : Style → ℕ → ℕ → List (List ℕ) → List ℕ
 label style x y parts = opened style x y ++ joined parts ++ closed
 
--- what the words of a chart are made of: a line in a style that begins at a place, part by part
-pub data Shape : Type 0 where
-  Label : Style → ℕ → ℕ → List (List ℕ) → Shape
+-- ---- frames and lines
 
--- a shape as it is written
-abbrev pub printed : Shape → List ℕ
-printed (Label style x y parts) = label style x y parts
+unfoldable pub framed : ℕ → ℕ → ℕ → ℕ → List ℕ
+framed x y width height =
+    joined (codes "<rect class='o' x='" ∷ decimal x ∷ codes "' y='" ∷ decimal y ∷ codes "' width='" ∷ decimal width
+    ∷ codes "' height='" ∷ decimal height ∷ codes "'/>\n" ∷ [])
 
--- shapes one after another
-abbrev pub drawn : List Shape → List ℕ
-drawn shapes = flat_map printed shapes
+unfoldable pub guided : ℕ → ℕ → ℕ → List ℕ
+guided x y to =
+    joined (codes "<path class='i' d='M" ∷ decimal x ∷ codes " " ∷ decimal y ∷ codes "V" ∷ decimal to
+    ∷ codes "'/>\n" ∷ [])
 
 -- ---- heights
 
@@ -107,32 +105,21 @@ drawn shapes = flat_map printed shapes
 abbrev pub height_of : Drawn → Series → ℕ → ℕ → ℕ
 height_of p x whole t = scaled (room_of x) whole (amount_at p x t)
 
--- to the right edge of a step
-unfoldable pub right_to : Drawn → ℕ → List ℕ
-right_to p t = said (codes "H") ++ decimal (edge p.problem t)
-
 -- up or down to a line
-unfoldable pub line_at : ℕ → List ℕ
+abbrev pub line_at : ℕ → List ℕ
 line_at y = said (codes "V") ++ decimal y
 
 -- to a place
-unfoldable pub begun : ℕ → ℕ → List ℕ
+abbrev pub begun : ℕ → ℕ → List ℕ
 begun x y = said (codes "M") ++ decimal x ++ said (codes " ") ++ decimal y
-
--- a step of a height after one of another: from the base line where there was none, and down to it where there is none
--- now
-unfoldable pub outline : Drawn → ℕ → ℕ → ℕ → ℕ → List ℕ
-outline p base before here t =
-    if here == 0 then (if before == 0 then [] else line_at base)
-    else if here == before then right_to p t
-    else (if before == 0 then begun (edge p.problem (t - 1)) base else []) ++ line_at (base - here) ++ right_to p t
 
 -- what leads to a height from another: from the base line where that is none
 abbrev pub rise : ℕ → ℕ → ℕ → ℕ → List ℕ
 rise left base before here = if here == before then [] else (if before == 0 then begun left base else []) ++ line_at
     (base - here)
 
--- the outline of a step between two edges, as it is written
+-- the outline of a step between two edges: down to the base line where it has no height, or up or down to its height
+-- and to the right
 unfoldable pub bar_line : ℕ → ℕ → ℕ → ℕ → ℕ → List ℕ
 bar_line left right base before here =
     if here == 0 then (if before == 0 then [] else line_at base)
@@ -140,7 +127,9 @@ bar_line left right base before here =
 
 -- the outline of one step of a series
 unfoldable pub step_outline : Drawn → Series → ℕ → ℕ → List ℕ
-step_outline p x whole t = outline p (base_of p.problem x) (height_of p x whole (t - 1)) (height_of p x whole t) t
+step_outline p x whole t =
+    bar_line (edge p.problem (t - 1)) (edge p.problem t) (base_of p.problem x) (height_of p x whole (t - 1))
+    (height_of p x whole t)
 
 -- the letter of a series in the style sheet
 abbrev pub series_name : Series → List ℕ
@@ -162,12 +151,36 @@ series_name _ = codes "o"
 unfoldable pub path_begun : Series → List ℕ
 path_begun x = said (codes "<path class='") ++ series_name x ++ said (codes "' d='")
 
--- the outline of a series over all steps
-unfoldable pub outlined : Drawn → Series → List ℕ
-outlined p x =
-    path_begun x ++ flat_map (step_outline p x (whole_of p x)) (steps p.problem)
-    ++ said (codes "V") ++ decimal (base_of p.problem x) ++ said (codes "'/>" ++ line_feed ∷ [])
-
--- a series over all steps, or nothing where it has none
+-- the outline of a series over all steps, or nothing where it has none
 unfoldable pub profile : Drawn → Series → List ℕ
-profile p x = if total_of p x == 0 then [] else outlined p x
+profile p x =
+    if total_of p x == 0 then []
+    else path_begun x ++ flat_map (step_outline p x (whole_of p x)) (steps p.problem)
+    ++ joined (codes "V" ∷ decimal (base_of p.problem x) ∷ codes "'/>\n" ∷ [])
+
+-- ---- shapes
+
+-- what a chart is made of
+pub data Shape : Type 0 where
+  -- a text as it stands
+  Fixed : List ℕ → Shape
+  -- words in a style that begin at a place, part by part
+  Label : Style → ℕ → ℕ → List (List ℕ) → Shape
+  -- the frame of a row: its left and its upper edge, its width and its height
+  Frame : ℕ → ℕ → ℕ → ℕ → Shape
+  -- a line from a place down to another line
+  Guide : ℕ → ℕ → ℕ → Shape
+  -- the outline of a series
+  Outline : Drawn → Series → Shape
+
+-- a shape as it is written
+abbrev pub printed : Shape → List ℕ
+printed (Fixed text) = said text
+printed (Label style x y parts) = label style x y parts
+printed (Frame x y width height) = framed x y width height
+printed (Guide x y to) = guided x y to
+printed (Outline p x) = profile p x
+
+-- shapes one after another
+abbrev pub drawn : List Shape → List ℕ
+drawn shapes = flat_map printed shapes

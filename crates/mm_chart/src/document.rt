@@ -1,13 +1,14 @@
 //! Charts of texts.
-ghost use Rattle.std.specs.Prelude.{◌≡◌, ◌++◌, ◌∷◌, [], IfOk, OnOk, decimal};
+ghost use Rattle.std.specs.Prelude.{◌≡◌, IfOk};
 ghost use Rattle.mm_base.specs.Reading.{IfRefused};
 ghost use Rattle.mm_cut.specs.declared.fault.Fault.TheVariants.{NoMemory};
 ghost use Rattle.mm_cut.specs.Checking.{IsFaultOf};
-ghost use Rattle.mm_chart.specs.Charts.{head, chart, Charts};
+ghost use Rattle.mm_chart.specs.Charts.{chart, Charts};
 
 use crate::headline::push_headline;
 use crate::layout::word_line;
-use crate::pen::{Pushed, push_said, push_value};
+use crate::pen::Part::{Number, Said};
+use crate::pen::{parts, push_parts, push_said};
 use crate::picture::Picture;
 use crate::rows::push_rows;
 use crate::words::{push_words, word_lines};
@@ -24,35 +25,30 @@ pub const FONT: &[u8] = b"' font-family='sans-serif' font-size='13'>\n";
 /// How each kind of mark and word looks, and the ground. What counts in the cut is hatched, so that it shows without
 /// colours too.
 pub const STYLES: &[u8] =
-    b"<style>.h{font-size:20px;font-weight:bold}.m{font-size:15px;font-weight:bold;fill:#c4161c}.a{font-size:20px;font-weight:bold;fill:#c4161c}.n{font-weight:bold;text-anchor:end}.s{fill:#444;font-size:12px;text-anchor:end}.t{fill:#444;font-size:12px}.r{fill:#c4161c;font-weight:bold}.k{fill:#444;font-size:12px;text-anchor:middle}.b{font-weight:bold}.i{fill:none;stroke:#bbb;stroke-width:.5}.o{fill:none;stroke:#222;stroke-width:.5}.c{fill:url(#cut);stroke:#7a5c00;stroke-width:.5}.e{fill:#b07d00;stroke:#000;stroke-width:.5}.g{fill:#9cc3e6}.f{fill:#2f6fb0}.l{fill:#c4161c;stroke:#000;stroke-width:.5}.p{fill:#cfd4da}.u{fill:#58646f}.v{fill:#8d59c4}</style>\n<defs><pattern id='cut' width='5' height='5' patternUnits='userSpaceOnUse'><rect width='5' height='5' fill='#fbe29b'/><path d='M0 5L5 0' stroke='#b88a1a' stroke-width='.8'/></pattern></defs>\n<rect width='100%' height='100%' fill='#fff'/>\n";
+    b"<style>.h{font-size:20px;font-weight:bold}.m{font-size:15px;font-weight:bold;fill:#c4161c}\
+    .a{font-size:20px;font-weight:bold;fill:#c4161c}.n{font-weight:bold;text-anchor:end}\
+    .s{fill:#444;font-size:12px;text-anchor:end}.t{fill:#444;font-size:12px}.r{fill:#c4161c;font-weight:bold}\
+    .k{fill:#444;font-size:12px;text-anchor:middle}.b{font-weight:bold}.i{fill:none;stroke:#bbb;stroke-width:.5}\
+    .o{fill:none;stroke:#222;stroke-width:.5}.c{fill:url(#cut);stroke:#7a5c00;stroke-width:.5}\
+    .e{fill:#b07d00;stroke:#000;stroke-width:.5}.g{fill:#9cc3e6}.f{fill:#2f6fb0}\
+    .l{fill:#c4161c;stroke:#000;stroke-width:.5}.p{fill:#cfd4da}.u{fill:#58646f}.v{fill:#8d59c4}</style>\n\
+    <defs><pattern id='cut' width='5' height='5' patternUnits='userSpaceOnUse'>\
+    <rect width='5' height='5' fill='#fbe29b'/><path d='M0 5L5 0' stroke='#b88a1a' stroke-width='.8'/>\
+    </pattern></defs>\n<rect width='100%' height='100%' fill='#fff'/>\n";
 
 /// What the colours mean.
-pub const LEGEND: &[u8] =
-    b"<g class='t'><rect class='f' x='16' y='44' width='12' height='12'/><text x='32' y='54'>stays in the store</text><rect class='g' x='170' y='44' width='12' height='12'/><text x='186' y='54'>leaves in this step</text><rect class='l' x='330' y='44' width='12' height='12'/><text x='346' y='54'>lost in this step (one scale for all stores)</text><rect class='p' x='710' y='44' width='12' height='12'/><text x='726' y='54'>window</text><rect class='u' x='800' y='44' width='12' height='12'/><text x='816' y='54'>used</text><rect class='c' x='16' y='62' width='12' height='12'/><text x='32' y='72'>counts in the cut</text><rect class='e' x='170' y='62' width='12' height='12'/><text x='186' y='72'>last step of a stretch: the size of the store counts</text><rect class='v' x='710' y='62' width='12' height='12'/><text x='726' y='72'>sent on a channel with a limit</text></g>\n";
-
-// The first line of the document.
-#[tactic(auto, using(std::proofs::Common::append_assoc), unfolding(crate::specs::Charts::head))]
-fn push_head(text: &mut Vec<u8>, picture: &Picture) -> Pushed
-    ensures { OnOk result (text.new.items ≡ text.old.items ++ head picture.now) }
-{
-    let height = word_line(picture.problem(), word_lines(picture));
-    push_value(text, OPENING, height)?;
-    push_said(text, FONT)
-}
-
-#[tactic(auto, using(std::proofs::Common::append_assoc), unfolding(crate::specs::Charts::chart))]
-fn push_chart(alloc: Global, text: &mut Vec<u8>, picture: &Picture) -> Result<(), mm_base::NoMemory>
-    ensures { OnOk result (text.new.items ≡ text.old.items ++ chart picture.now) }
-{
-    push_head(text, picture)?;
-    push_said(text, STYLES)?;
-    push_headline(alloc, text, picture)?;
-    push_said(text, LEGEND)?;
-    push_rows(text, picture)?;
-    push_words(text, picture)?;
-    push_said(text, b"</svg>\n")?;
-    Ok(())
-}
+pub const LEGEND: &[u8] = b"<g class='t'>\
+    <rect class='f' x='16' y='44' width='12' height='12'/><text x='32' y='54'>stays in the store</text>\
+    <rect class='g' x='170' y='44' width='12' height='12'/><text x='186' y='54'>leaves in this step</text>\
+    <rect class='l' x='330' y='44' width='12' height='12'/>\
+    <text x='346' y='54'>lost in this step (one scale for all stores)</text>\
+    <rect class='p' x='710' y='44' width='12' height='12'/><text x='726' y='54'>window</text>\
+    <rect class='u' x='800' y='44' width='12' height='12'/><text x='816' y='54'>used</text>\
+    <rect class='c' x='16' y='62' width='12' height='12'/><text x='32' y='72'>counts in the cut</text>\
+    <rect class='e' x='170' y='62' width='12' height='12'/>\
+    <text x='186' y='72'>last step of a stretch: the size of the store counts</text>\
+    <rect class='v' x='710' y='62' width='12' height='12'/>\
+    <text x='726' y='72'>sent on a channel with a limit</text></g>\n";
 
 /// The chart of the plan that the plan text says, for the problem that the setup and the forecast say. The faults come
 /// in this order: of the setup, of the forecast, of the plan text, of its shape.
@@ -72,10 +68,18 @@ pub fn chart_bytes(
 }
 
 /// The document of a picture: Scalable Vector Graphics (SVG) 1.1, by itself.
+#[tactic(auto, using(crate::proofs::Ranges::drawing), unfolding(crate::specs::Charts::chart))]
 pub fn draw(alloc: Global, picture: &Picture) -> Result<Vec<u8>, mm_base::NoMemory>
     ensures { IfOk result (λ text. text.items ≡ chart picture.now) }
 {
+    let height = word_line(picture.problem(), word_lines(picture));
     let mut text = Vec::new(alloc);
-    push_chart(alloc, &mut text, picture)?;
+    parts!(&mut text; Said(OPENING), Number(height), Said(FONT))?;
+    push_said(&mut text, STYLES)?;
+    push_headline(alloc, &mut text, picture)?;
+    push_said(&mut text, LEGEND)?;
+    push_rows(&mut text, picture)?;
+    push_words(&mut text, picture)?;
+    push_said(&mut text, b"</svg>\n")?;
     Ok(text)
 }

@@ -2,7 +2,8 @@
 ghost use Rattle.std.specs.Prelude.{◌≡◌, ◌+◌, ◌-◌, ◌*◌, ◌/◌, ◌<◌, ◌≤◌, ◌^◌, length};
 ghost use Rattle.mm_base.specs.declared.limits.TheConstants.{MAX_STORES, MAX_STEPS};
 ghost use Rattle.mm_problem.specs.Dumping.{IsDumping};
-ghost use Rattle.mm_chart.specs.Layout.{step_width, edge, limits_below, has_limit, channel_base, store_base, bottom};
+ghost use Rattle.mm_chart.specs.Layout.{step_width, steps_width, edge, limits_below, has_limit, channel_base};
+ghost use Rattle.mm_chart.specs.Layout.{store_base, bottom};
 ghost use Rattle.mm_chart.specs.Layout.{word_line, room_of, base_of, IsPlaced, tick_every};
 
 use crate::picture::Picture;
@@ -75,6 +76,15 @@ pub(crate) fn step_width(problem: &Problem) -> u32
     ensures most { result ≤ MAX_WIDTH }
 {
     MAX_WIDTH.min(ROOM / problem.steps())
+}
+
+// The width of all steps together.
+#[tactic(auto, unfolding(crate::specs::Layout::steps_width))]
+pub(crate) fn steps_width(problem: &Problem) -> u32
+    ensures width { result ≡ steps_width problem.now }
+    ensures most { result ≤ MAX_WIDTH * MAX_STEPS }
+{
+    step_width(problem) * problem.steps()
 }
 
 // The right edge of a step where steps have this width; of step 0 it is where the first begins.

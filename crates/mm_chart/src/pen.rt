@@ -1,34 +1,24 @@
 //! Parts of the text of a picture: Scalable Vector Graphics (SVG) 1.1.
-ghost use Rattle.std.specs.Prelude.{◌≡◌, ◌+◌, ◌-◌, ◌*◌, ◌<◌, ◌≤◌, ◌++◌, ◌∷◌, [], OnOk, length, drop, codes, decimal};
-ghost use Rattle.std.specs.Prelude.{flat_map, map, ◌^◌};
-ghost use Rattle.mm_problem.specs.Dumping.{steps};
+ghost use Rattle.std.specs.Prelude.{◌≡◌, ◌+◌, ◌-◌, ◌*◌, ◌<◌, ◌≤◌, ◌++◌, OnOk, length, drop, flat_map, map, ◌^◌};
 ghost use Rattle.mm_base.specs.declared.limits.TheConstants.{MAX_STEPS};
-ghost use Rattle.mm_base.specs.Characters.{line_feed};
+ghost use Rattle.mm_base.specs.Id.{id_text};
+ghost use Rattle.mm_problem.specs.Dumping.{steps};
 ghost use Rattle.mm_chart.specs.Series.{IsSeries, whole_of};
 ghost use Rattle.mm_chart.specs.declared.series.TheConstants.{AMOUNT_PLACES};
 ghost use Rattle.mm_chart.specs.Layout.{IsPlaced};
-ghost use Rattle.mm_chart.specs.Svg.{said, separated, grouped, signed_grouped, style_name, opened, closed, labelled};
-ghost use Rattle.mm_base.specs.Id.{id_text};
-ghost use Rattle.mm_chart.specs.Svg.{escaped, part_text, joined, label};
-ghost use Rattle.mm_chart.specs.Svg.{height_of, line_at, begun, rise, bar_line, step_outline, series_name, path_begun};
-ghost use Rattle.mm_chart.specs.Svg.{outlined, profile};
+ghost use Rattle.mm_chart.specs.Svg.{said, separated, grouped, signed_grouped, style_name, opened, closed, escaped};
+ghost use Rattle.mm_chart.specs.Svg.{part_text, joined, label, height_of, rise, bar_line, step_outline, series_name};
+ghost use Rattle.mm_chart.specs.Svg.{path_begun, profile, printed, Frame, Guide};
 
 use crate::column::Column;
 use crate::layout::{base_of, edge_at, room_of, step_width};
+use crate::pen::Part::{Number, Said};
 use crate::picture::{Picture, scaled};
 use crate::series::Series;
 use itoa::Buffer;
 use mm_base::StoreId;
 use mm_base::numbers::{push_number, write_number};
 use std::alloc::AllocError;
-
-/// How a line of words looks, and where it begins.
-#[derive(Clone, Copy)]
-pub(crate) struct Line {
-    pub(crate) style: Style,
-    pub(crate) x: u32,
-    pub(crate) y: u32,
-}
 
 /// What a function answers that writes: an error only where memory is refused.
 pub(crate) type Pushed = Result<(), AllocError>;
@@ -70,13 +60,6 @@ impl Style {
             Style::Heading => b"b",
             Style::Plain => b"w",
         }
-    }
-
-    // A line in this style that begins there.
-    pub(crate) fn at(self, x: u32, y: u32) -> Line
-        ensures { result ≡ record { style = self; x = x; y = y } }
-    {
-        Line { style: self, x, y }
     }
 }
 
@@ -149,9 +132,9 @@ fn push_part(text: &mut Vec<u8>, part: &Part<'_>) -> Pushed
     ensures { OnOk result (text.new.items ≡ text.old.items ++ part_text part.now) }
 {
     match *part {
-        Part::Said(words) => text.extend_from_slice(words),
+        Said(words) => text.extend_from_slice(words),
         Part::Name(id) => push_id(text, id),
-        Part::Number(number) => push_number(text, u64::from(number)),
+        Number(number) => push_number(text, u64::from(number)),
         Part::Grouped(number) => push_grouped(text, number),
         Part::Signed(number) => push_signed_grouped(text, number),
     }
@@ -187,15 +170,6 @@ macro_rules! label {
 pub(crate) use label;
 pub(crate) use parts;
 
-// Writes a word and a number.
-#[tactic(auto, using(std::proofs::Common::append_assoc))]
-pub(crate) fn push_value(text: &mut Vec<u8>, word: &[u8], number: u32) -> Pushed
-    ensures { OnOk result (text.new.items ≡ text.old.items ++ (said word.now ++ decimal number)) }
-{
-    push_said(text, word)?;
-    push_number(text, u64::from(number))
-}
-
 // Begins words at a place.
 #[tactic(auto, using(std::proofs::Common::append_assoc), unfolding(crate::specs::Svg::opened))]
 pub(crate) fn push_opened(text: &mut Vec<u8>, style: Style, x: u32, y: u32) -> Pushed
@@ -203,9 +177,7 @@ pub(crate) fn push_opened(text: &mut Vec<u8>, style: Style, x: u32, y: u32) -> P
 {
     push_said(text, b"<text class='")?;
     text.extend_from_slice(style.name())?;
-    push_value(text, b"' x='", x)?;
-    push_value(text, b"' y='", y)?;
-    push_said(text, b"'>")
+    parts!(text; Said(b"' x='"), Number(x), Said(b"' y='"), Number(y), Said(b"'>"))
 }
 
 // Ends them.
@@ -214,6 +186,24 @@ pub(crate) fn push_closed(text: &mut Vec<u8>) -> Pushed
     ensures { OnOk result (text.new.items ≡ text.old.items ++ closed) }
 {
     push_said(text, b"</text>\n")
+}
+
+/// A frame.
+#[tactic(auto, unfolding(crate::specs::Svg::framed))]
+pub(crate) fn push_frame(text: &mut Vec<u8>, x: u32, y: u32, width: u32, height: u32) -> Pushed
+    ensures { OnOk result (text.new.items ≡ text.old.items ++ printed (Frame x y width height)) }
+{
+    parts!(text; Said(b"<rect class='o' x='"), Number(x), Said(b"' y='"), Number(y), Said(b"' width='"), Number(width),
+        Said(b"' height='"), Number(height), Said(b"'/>\n"))
+}
+
+/// A line from a place down to another line.
+#[tactic(auto, unfolding(crate::specs::Svg::guided))]
+pub(crate) fn push_guide(text: &mut Vec<u8>, x: u32, y: u32, to: u32) -> Pushed
+    ensures { OnOk result (text.new.items ≡ text.old.items ++ printed (Guide x y to)) }
+{
+    parts!(text; Said(b"<path class='i' d='M"), Number(x), Said(b" "), Number(y), Said(b"V"), Number(to),
+        Said(b"'/>\n"))
 }
 
 /// Words at a place.
@@ -232,22 +222,6 @@ pub(crate) fn push_label(
     push_closed(text)
 }
 
-// Fixed words at a place.
-#[tactic(auto, using(std::proofs::Common::append_assoc), unfolding(crate::specs::Svg::labelled))]
-pub(crate) fn push_labelled(
-    text: &mut Vec<u8>,
-    style: Style,
-    x: u32,
-    y: u32,
-    words: &[u8],
-) -> Pushed
-    ensures { OnOk result (text.new.items ≡ text.old.items ++ labelled style x y words.now) }
-{
-    push_opened(text, style, x, y)?;
-    text.extend_from_slice(words)?;
-    push_closed(text)
-}
-
 // How high a step of a series is drawn.
 fn height_of(column: &Column<'_>, whole: u64, step: u32) -> u32
     requires place { step < AMOUNT_PLACES }
@@ -256,26 +230,6 @@ fn height_of(column: &Column<'_>, whole: u64, step: u32) -> u32
     ensures most { result ≤ 40 }
 {
     scaled(room_of(column.series), whole, column.amount_at(step))
-}
-
-// Up or down to a line.
-#[tactic(auto, unfolding(crate::specs::Svg::line_at))]
-pub(crate) fn push_line(text: &mut Vec<u8>, y: u32) -> Pushed
-    ensures { OnOk result (text.new.items ≡ text.old.items ++ line_at y) }
-{
-    push_said(text, b"V")?;
-    push_number(text, u64::from(y))
-}
-
-// To a place.
-#[tactic(auto, using(std::proofs::Common::append_assoc), unfolding(crate::specs::Svg::begun))]
-pub(crate) fn push_begun(text: &mut Vec<u8>, x: u32, y: u32) -> Pushed
-    ensures { OnOk result (text.new.items ≡ text.old.items ++ begun x y) }
-{
-    push_said(text, b"M")?;
-    push_number(text, u64::from(x))?;
-    push_said(text, b" ")?;
-    push_number(text, u64::from(y))
 }
 
 // The octets that a step of an outline takes at most.
@@ -292,7 +246,7 @@ struct Bar {
 }
 
 // Writes what leads up or down to the height of a step so that it ends at a place, and answers where it starts.
-#[tactic(auto, using(std::proofs::Common::append_assoc), unfolding(crate::specs::Svg::said, crate::specs::Svg::begun, crate::specs::Svg::line_at))]
+#[tactic(auto, using(std::proofs::Common::append_assoc), unfolding(crate::specs::Svg::said))]
 fn write_rise(octets: &mut [u8], end: usize, bar: Bar) -> usize
     requires room { 33 ≤ end }
     requires within { end ≤ length octets.old }
@@ -312,17 +266,18 @@ fn write_rise(octets: &mut [u8], end: usize, bar: Bar) -> usize
 }
 
 // A step of a height after one of another, in one piece.
-#[tactic(auto, using(std::proofs::Common::append_assoc), unfolding(crate::specs::Svg::said, crate::specs::Svg::bar_line))]
+#[tactic(auto, using(crate::proofs::Ranges::placing), unfolding(crate::specs::Svg::said, crate::specs::Svg::bar_line))]
 fn push_bar(text: &mut Vec<u8>, bar: Bar) -> Pushed
     requires { bar.here ≤ bar.base }
     ensures { OnOk result (text.new.items ≡ text.old.items
         ++ bar_line bar.left bar.right bar.base bar.before bar.here) }
 {
     if bar.here == 0 {
-        if bar.before != 0 {
-            push_line(text, bar.base)?;
+        if bar.before == 0 {
+            return Ok(());
         }
-        return Ok(());
+        push_said(text, b"V")?;
+        return push_number(text, u64::from(bar.base));
     }
     let mut octets = [0; STEP_ROOM];
     let end = write_number(&mut octets, STEP_ROOM, b'H', bar.right);
@@ -348,7 +303,7 @@ fn series_name(series: Series) -> &'static [u8]
 }
 
 // The outlines of all steps.
-#[tactic(auto, using(std::proofs::Common::append_assoc, crate::proofs::Ranges::flat_map_next), unfolding(crate::specs::Svg::step_outline))]
+#[tactic(auto, using(crate::proofs::Ranges::drawing), unfolding(crate::specs::Svg::step_outline))]
 fn push_steps(text: &mut Vec<u8>, column: &Column<'_>, whole: u64) -> Pushed
     requires placed { IsPlaced column.now.series }
     requires whole { whole ≤ 2 ^ 40 }
@@ -385,22 +340,8 @@ fn push_path(text: &mut Vec<u8>, series: Series) -> Pushed
     push_said(text, b"' d='")
 }
 
-// The outline of a series over all steps.
-#[tactic(auto, using(std::proofs::Common::append_assoc), unfolding(crate::specs::Svg::outlined))]
-fn push_outlined(text: &mut Vec<u8>, column: &Column<'_>, whole: u64) -> Pushed
-    requires placed { IsPlaced column.now.series }
-    requires whole { whole ≡ whole_of column.now.picture.now column.now.series }
-    requires most { whole ≤ 2 ^ 40 }
-    ensures { OnOk result (text.new.items ≡ text.old.items ++ outlined column.now.picture.now column.now.series) }
-{
-    push_path(text, column.series)?;
-    push_steps(text, column, whole)?;
-    push_value(text, b"V", base_of(column.picture.problem(), column.series))?;
-    push_said(text, b"'/>\n")
-}
-
 /// Draws the series of a column over all steps, or nothing where it has none. The whole is drawn in full height.
-#[tactic(auto, unfolding(crate::specs::Svg::profile))]
+#[tactic(auto, using(std::proofs::Common::append_assoc), unfolding(crate::specs::Svg::profile))]
 pub fn push_column(text: &mut Vec<u8>, column: &Column<'_>, whole: u64) -> Pushed
     requires placed { IsPlaced column.now.series }
     requires whole { whole ≡ whole_of column.now.picture.now column.now.series }
@@ -410,7 +351,10 @@ pub fn push_column(text: &mut Vec<u8>, column: &Column<'_>, whole: u64) -> Pushe
     if column.total() == 0 {
         return Ok(());
     }
-    push_outlined(text, column, whole)
+    let base = base_of(column.picture.problem(), column.series);
+    push_path(text, column.series)?;
+    push_steps(text, column, whole)?;
+    parts!(text; Said(b"V"), Number(base), Said(b"'/>\n"))
 }
 
 /// Draws a series over all steps, or nothing where it has none.
