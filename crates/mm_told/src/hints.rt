@@ -98,10 +98,7 @@ pub fn found_for(
     reason: Reason,
     texts: Texts<'_>,
 ) -> Result<Option<Hint>, NoMemory> {
-    match said_of(alloc, reason, texts)? {
-        Some(sentence) => Ok(Some(Hint::Said(sentence))),
-        None => Ok(None),
-    }
+    Ok(said_of(alloc, reason, texts)?.map(|sentence| Hint::Said(sentence)))
 }
 
 /// The same, with no hint where memory runs out.

@@ -1,9 +1,10 @@
 //! Records and cells of a forecast, for hints: a record is a line that is not empty.
-ghost use Rattle.std.specs.Prelude.{◌<◌, length, IfSome};
+ghost use Rattle.std.specs.Prelude.{◌<◌, ◌+◌, length, IfSome};
+ghost use Rattle.std.specs.Iterator.{at_most};
+ghost use Rattle.std.specs.Option.{option_map_or};
 
-use crate::hints::lines::after_mark;
+use crate::hints::lines::{Lines, after_mark};
 use mm_base::MAX_BLOCKS;
-use mm_base::lines::first_line;
 use mm_base::numbers::Numeral;
 
 /// A record of a forecast: its row, from 1, where the header is row 0; the number of its line, from 1; and its text.
@@ -20,7 +21,7 @@ pub(crate) enum Wanted {
     /// The one in this row.
     Row(u32),
     /// The first with another number of cells than this, after the header.
-    Uneven { cells: u32 },
+    Uneven { cells: usize },
     /// The first with a number above 1,000,000.
     TooLarge,
     /// The first in whose line a quoted cell is left open.
@@ -37,13 +38,7 @@ fn without_return(line: &[u8]) -> &[u8] {
 
 // Whether a quoted cell goes on in the next line.
 fn is_open(line: &[u8]) -> bool {
-    let mut is_quoted = false;
-    for byte in line {
-        if *byte == b'"' {
-            is_quoted = !is_quoted;
-        }
-    }
-    is_quoted
+    line.iter().filter(|byte| **byte == b'"').count() % 2 == 1
 }
 
 // The text up to the first comma outside quotes, and what follows it.
@@ -68,41 +63,45 @@ fn is_too_large(cell: &[u8]) -> bool {
     )
 }
 
-impl<'a> Record<'a> {
-    /// How many cells the record has.
-    pub(crate) fn cells(&self) -> u32 {
-        let mut rest = self.text;
-        let mut cells: u32 = 1;
-        while let Some((_, after)) = cut_cell(rest) {
-            rest = after;
-            cells = cells.saturating_add(1);
+// The cells of a record, in order: those of the text that is left, if any is.
+#[derive(Drop)]
+struct Cells<'a>(Option<&'a [u8]>);
+
+impl<'a> Iterator for Cells<'a> {
+    type Item = &'a [u8];
+
+    ghost remaining = { λ s. at_most (option_map_or (λ text. length text.now + 1) s.0 0) };
+
+    fn next(&mut self) -> Option<&'a [u8]> {
+        let text = self.0?;
+        if let Some((cell, after)) = cut_cell(text) {
+            self.0 = Some(after);
+            Some(cell)
+        } else {
+            self.0 = None;
+            Some(text)
         }
-        cells
+    }
+}
+
+impl<'a> Record<'a> {
+    fn each(&self) -> Cells<'a> {
+        Cells(Some(self.text))
+    }
+
+    /// How many cells the record has.
+    pub(crate) fn cells(&self) -> usize {
+        self.each().count()
     }
 
     /// The cell in this column, from 1.
     pub(crate) fn cell(&self, column: u32) -> Option<&'a [u8]> {
-        let mut rest = self.text;
-        for _ in 1..column {
-            let (_, after) = cut_cell(rest)?;
-            rest = after;
-        }
-        match cut_cell(rest) {
-            Some((cell, _)) => Some(cell),
-            None => Some(rest),
-        }
+        self.each().nth((column as usize).saturating_sub(1))
     }
 
     /// The first cell with a number above 1,000,000.
     pub(crate) fn too_large(&self) -> Option<&'a [u8]> {
-        let mut rest = self.text;
-        while let Some((front, after)) = cut_cell(rest) {
-            if is_too_large(front) {
-                return Some(front);
-            }
-            rest = after;
-        }
-        if is_too_large(rest) { Some(rest) } else { None }
+        self.each().find(|cell| is_too_large(cell))
     }
 
     // Whether this is a record that is looked for.
@@ -118,11 +117,9 @@ impl<'a> Record<'a> {
 
 /// The record that is looked for; none where one up to it does not stand in a line of its own.
 pub(crate) fn record_in(text: &[u8], wanted: Wanted) -> Option<Record<'_>> {
-    let mut rest = after_mark(text);
-    let mut line: u64 = 1;
     let mut row: u32 = 0;
-    while let Some((front, after)) = first_line(rest) {
-        let front = without_return(front);
+    for (place, line) in Lines(after_mark(text)).enumerate() {
+        let front = without_return(line);
         let is_alone = !is_open(front) || matches!(wanted, Wanted::Open);
         if !is_alone || front.contains(&b'\r') {
             return None;
@@ -130,7 +127,7 @@ pub(crate) fn record_in(text: &[u8], wanted: Wanted) -> Option<Record<'_>> {
         if !front.is_empty() {
             let record = Record {
                 row,
-                line,
+                line: (place as u64).saturating_add(1),
                 text: front,
             };
             if record.is_wanted(wanted) {
@@ -138,21 +135,12 @@ pub(crate) fn record_in(text: &[u8], wanted: Wanted) -> Option<Record<'_>> {
             }
             row = row.saturating_add(1);
         }
-        rest = after;
-        line = line.saturating_add(1);
     }
     None
 }
 
 /// How many records come after the header.
-pub(crate) fn rows_in(text: &[u8]) -> u32 {
-    let mut rest = after_mark(text);
-    let mut records: u32 = 0;
-    while let Some((front, after)) = first_line(rest) {
-        if !without_return(front).is_empty() {
-            records = records.saturating_add(1);
-        }
-        rest = after;
-    }
-    records.saturating_sub(1)
+pub(crate) fn rows_in(text: &[u8]) -> u64 {
+    let records = Lines(after_mark(text)).filter(|line| !without_return(line).is_empty());
+    (records.count() as u64).saturating_sub(1)
 }

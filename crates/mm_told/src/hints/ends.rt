@@ -4,10 +4,10 @@ use crate::hints::Hint;
 use crate::hints::excerpt::Excerpt;
 use crate::hints::form::{form_hint, quoted};
 use crate::hints::kind::{TextKind, misplaced, parts_of};
-use crate::hints::lines::line_at;
+use crate::hints::lines::{Lines, line_at};
 use crate::hints::packets::source_hint;
 use crate::hints::sentence::{Sentence, Shown};
-use mm_base::lines::{cut_word, first_line};
+use mm_base::lines::cut_word;
 use mm_base::numbers::Numeral;
 use mm_base::{RouteRow, StoreId};
 use mm_problem::Setup;
@@ -79,26 +79,13 @@ const MAX_PACKETS: u64 = 65_535;
 
 // Whether a line of sources is of this source and step.
 fn is_of(line: &[u8], source: u64, step: u64) -> bool {
-    match parts_of(line) {
-        Some((of_source, of_step, _)) => of_source == source && of_step == step,
-        None => false,
-    }
+    matches!(parts_of(line), Some((of_source, of_step, _)) if of_source == source && of_step == step)
 }
 
 // How many of the lines before this one are of this source and step.
 fn packets_before(text: &[u8], line: u64, source: u64, step: u64) -> u64 {
-    let mut rest = text;
-    let mut packets: u64 = 0;
-    for _ in 1..line {
-        let Some((front, after)) = first_line(rest) else {
-            return packets;
-        };
-        if is_of(front, source, step) {
-            packets = packets.saturating_add(1);
-        }
-        rest = after;
-    }
-    packets
+    let before = Lines(text).take(line.saturating_sub(1) as usize);
+    before.filter(|line| is_of(line, source, step)).count() as u64
 }
 
 /// What is found in this line of the sources.
@@ -157,31 +144,20 @@ pub(crate) fn links_hint(text: &[u8], line: u64) -> Option<Sentence> {
 
 /// Whether a route leads to a store.
 pub(crate) fn is_reached(routes: &[RouteRow], store: StoreId) -> bool {
-    for route in routes {
-        if route.store == store {
-            return true;
-        }
-    }
-    false
+    routes.iter().any(|route| route.store == store)
 }
 
 /// Why the store holds so many packets before a run, and not as many as its start in the setup says.
 #[must_use]
 pub fn opening_hint(alloc: Global, setup: &[u8], store: StoreId, found: u64) -> Option<Hint> {
-    let Ok(setup) = Setup::read(alloc, setup) else {
-        return None;
-    };
+    let setup = Setup::read(alloc, setup).ok()?;
     if !is_reached(setup.routes(), store) {
         return Some(Hint::Ends(EndsHint::NoRoute { store }));
     }
-    for row in setup.stores() {
-        if row.id == store {
-            return Some(Hint::Ends(EndsHint::Opening {
-                store,
-                found,
-                start: row.start,
-            }));
-        }
-    }
-    None
+    let start = setup.stores().iter().find(|row| row.id == store)?.start;
+    Some(Hint::Ends(EndsHint::Opening {
+        store,
+        found,
+        start,
+    }))
 }

@@ -57,8 +57,8 @@ fn cells_hint(text: &[u8]) -> Option<Sentence> {
         &[
             Shown::Count(u64::from(record.row)),
             Shown::Count(record.line),
-            Shown::Count(u64::from(record.cells())),
-            Shown::Count(u64::from(wanted)),
+            Shown::Count(record.cells() as u64),
+            Shown::Count(wanted as u64),
         ],
     ))
 }
@@ -85,7 +85,7 @@ fn step_hint(text: &[u8], row: u32) -> Option<Sentence> {
 }
 
 fn steps_hint(text: &[u8]) -> Sentence {
-    let found = Shown::Count(u64::from(rows_in(text)));
+    let found = Shown::Count(rows_in(text));
     let words = "there are {} records after the header; 1 to 256 can be";
     Sentence::new(words, &[found])
 }
@@ -139,8 +139,5 @@ pub(crate) fn forecast_hint(
     )) {
         return Ok(Some(hint));
     }
-    match in_forecast(alloc, reason, texts)? {
-        Some(hint) => Ok(Some(hint)),
-        None => Ok(open_hint(texts.forecast)),
-    }
+    Ok(in_forecast(alloc, reason, texts)?.or_else(|| open_hint(texts.forecast)))
 }

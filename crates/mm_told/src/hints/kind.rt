@@ -38,10 +38,8 @@ impl TextKind {
     #[must_use]
     pub fn of(text: &[u8]) -> Option<TextKind> {
         let text = after_mark(text);
-        for (front, kind) in &FRONTS {
-            if text.starts_with(front) {
-                return Some(*kind);
-            }
+        if let Some((_, kind)) = FRONTS.iter().find(|(front, _)| text.starts_with(front)) {
+            return Some(*kind);
         }
         if lines_with(text, b"[[store]]") > 0 {
             return Some(TextKind::Setup);
@@ -84,12 +82,10 @@ pub(crate) fn parts_of(line: &[u8]) -> Option<(u64, u64, &[u8])> {
 
 /// The first byte that is no hexadecimal digit.
 pub(crate) fn no_digit(digits: &[u8]) -> Option<u8> {
-    for byte in digits {
-        if !byte.is_ascii_hexdigit() {
-            return Some(*byte);
-        }
-    }
-    None
+    digits
+        .iter()
+        .copied()
+        .find(|byte| !byte.is_ascii_hexdigit())
 }
 
 fn are_digits(digits: &[u8]) -> bool {
@@ -98,10 +94,7 @@ fn are_digits(digits: &[u8]) -> bool {
 
 /// Whether a line is a source, a step and the digits of a packet.
 pub(crate) fn is_source_line(line: &[u8]) -> bool {
-    match parts_of(line) {
-        Some((_, _, digits)) => are_digits(digits),
-        None => false,
-    }
+    matches!(parts_of(line), Some((_, _, digits)) if are_digits(digits))
 }
 
 /// What is found in a text that looks like a file of another kind than is wanted.

@@ -1,5 +1,6 @@
 //! Lines of the files that a hint speaks of, as an editor counts them.
-ghost use Rattle.std.specs.Prelude.{◌≡◌, ◌≤◌, drop};
+ghost use Rattle.std.specs.Prelude.{◌≡◌, ◌≤◌, drop, length};
+ghost use Rattle.std.specs.Iterator.{at_most};
 ghost use Rattle.std.specs.Option.{option_map};
 ghost use Rattle.mm_base.specs.Lines.{file_lines};
 ghost use Rattle.mm_told.specs.Lines.{numbered};
@@ -73,26 +74,31 @@ impl<'a> LineFinder<'a> {
     }
 }
 
+/// The lines of a text, in order, without their line feeds.
+#[derive(Drop)]
+pub(crate) struct Lines<'a>(pub(crate) &'a [u8]);
+
+impl<'a> Iterator for Lines<'a> {
+    type Item = &'a [u8];
+
+    ghost remaining = { λ s. at_most (length s.0.now) };
+
+    fn next(&mut self) -> Option<&'a [u8]> {
+        let (line, after) = first_line(self.0)?;
+        self.0 = after;
+        Some(line)
+    }
+}
+
 /// The line of this number, from 1, without its line feed.
 pub(crate) fn line_at(text: &[u8], number: u64) -> Option<&[u8]> {
-    let mut rest = text;
-    for _ in 0..number.checked_sub(1)? {
-        let (_, after) = first_line(rest)?;
-        rest = after;
-    }
-    let (line, _) = first_line(rest)?;
-    Some(line)
+    Lines(text).nth(number.checked_sub(1)? as usize)
 }
 
 /// The number of the line, from 1, in which the byte at this place stands.
 pub(crate) fn line_of(text: &[u8], place: usize) -> u64 {
-    let mut line: u64 = 1;
-    for byte in text.iter().take(place) {
-        if *byte == b'\n' {
-            line = line.saturating_add(1);
-        }
-    }
-    line
+    let feeds = text.iter().take(place).filter(|byte| **byte == b'\n');
+    (feeds.count() as u64).saturating_add(1)
 }
 
 /// Whether the text is as UTF-16 is: it begins with its mark, or with an ASCII character in two bytes.
@@ -119,13 +125,5 @@ pub(crate) fn after_mark(text: &[u8]) -> &[u8] {
 
 /// How many lines of a text begin so.
 pub(crate) fn lines_with(text: &[u8], front: &[u8]) -> u64 {
-    let mut rest = text;
-    let mut lines: u64 = 0;
-    while let Some((line, after)) = first_line(rest) {
-        if line.starts_with(front) {
-            lines = lines.saturating_add(1);
-        }
-        rest = after;
-    }
-    lines
+    Lines(text).filter(|line| line.starts_with(front)).count() as u64
 }

@@ -45,12 +45,7 @@ impl fmt::Display for Note {
 
 // Whether a store of the setup is on this channel.
 fn is_used(setup: &Setup, channel: u8) -> bool {
-    for row in setup.stores() {
-        if row.channel == channel {
-            return true;
-        }
-    }
-    false
+    setup.stores().iter().any(|row| row.channel == channel)
 }
 
 fn push_limits(notes: &mut Vec<Note>, setup: &Setup) -> Result<(), NoMemory> {

@@ -3,13 +3,12 @@
 use crate::hints::excerpt::Excerpt;
 use crate::hints::form::utf16_hint;
 use crate::hints::kind::{TextKind, misplaced};
-use crate::hints::lines::{after_mark, line_at, line_of};
+use crate::hints::lines::{Lines, after_mark, line_at, line_of};
 use crate::hints::sentence::{Sentence, Shown};
 use crate::hints::tables::{
     ARRAYS, elements, keys_of, named, number_at, table_in, text_at, unknown_key,
 };
 use crate::spot::Spot;
-use mm_base::lines::first_line;
 use mm_base::{
     CHANNELS, Kind, MAX_APID, MAX_BLOCKS, MAX_CHANNEL, MAX_ROUTES, MAX_STORES, NoMemory, StoreId,
 };
@@ -20,25 +19,20 @@ use toml::Table;
 // The array whose name a line has in single brackets.
 fn single_table(line: &[u8]) -> Option<Name> {
     let name = line.trim_ascii().strip_prefix(b"[")?.strip_suffix(b"]")?;
-    for array in &ARRAYS {
-        if array.text().as_bytes() == name {
-            return Some(*array);
-        }
-    }
-    None
+    ARRAYS
+        .iter()
+        .copied()
+        .find(|array| array.text().as_bytes() == name)
 }
 
 // The first line that has the name of an array in single brackets.
 fn single_hint(text: &[u8]) -> Option<Sentence> {
-    let mut rest = after_mark(text);
-    let mut number: u64 = 1;
-    while let Some((line, after)) = first_line(rest) {
+    for (place, line) in Lines(after_mark(text)).enumerate() {
         if let Some(array) = single_table(line) {
             let words = "write [[{}]] above each table";
+            let number = (place as u64).saturating_add(1);
             return Some(Sentence::of_line(number, line, words, Shown::Name(array)));
         }
-        rest = after;
-        number = number.saturating_add(1);
     }
     None
 }
@@ -67,18 +61,16 @@ static FAULTS: [(&str, &[u8], &str); 17] = table! {
 
 // Whether a text begins so.
 fn begins(text: &[u8], front: &[u8]) -> bool {
-    for (i, wanted) in front.iter().enumerate() {
-        let is_so = match (text.get(i), wanted) {
-            (Some(byte), b'9') => byte.is_ascii_digit(),
-            (Some(byte), 0x80) => !byte.is_ascii(),
-            (Some(byte), wanted) => byte == wanted,
-            (None, _) => false,
-        };
-        if !is_so {
-            return false;
-        }
-    }
-    true
+    let goes_so = |byte: &u8, wanted: &u8| match *wanted {
+        b'9' => byte.is_ascii_digit(),
+        0x80 => !byte.is_ascii(),
+        wanted => *byte == wanted,
+    };
+    text.len() >= front.len()
+        && text
+            .iter()
+            .zip(front)
+            .all(|(byte, wanted)| goes_so(byte, wanted))
 }
 
 // What is said of this fault at the front of this text.
@@ -149,47 +141,31 @@ fn identity_of(array: Name) -> &'static [Name] {
 
 // Whether two tables have the same values at these keys.
 fn are_same(one: &Table, other: &Table, keys: &[Name]) -> bool {
-    for key in keys {
-        let texts_differ = text_at(one, *key) != text_at(other, *key);
-        if texts_differ || number_at(one, *key) != number_at(other, *key) {
-            return false;
-        }
-    }
-    true
+    keys.iter().all(|key| text_at(one, *key) == text_at(other, *key)
+        && number_at(one, *key) == number_at(other, *key))
 }
 
 // Whether a table of an array before this row is the same as this one.
 fn is_repeated(document: &Table, array: Name, row: u32, table: &Table) -> bool {
-    for earlier in 1..row {
-        if let Some(other) = table_in(document, array, earlier) {
-            if are_same(table, other, identity_of(array)) {
-                return true;
-            }
-        }
-    }
-    false
+    (1..row)
+        .filter_map(|earlier| table_in(document, array, earlier))
+        .any(|other| are_same(table, other, identity_of(array)))
 }
 
 // Whether a store of the setup has this identifier.
 fn has_store(document: &Table, id: &str) -> bool {
-    for value in elements(document, Name::Store) {
-        if let Some(table) = value.as_table() {
-            if text_at(table, Name::Id) == Some(id) {
-                return true;
-            }
-        }
-    }
-    false
+    let mut tables = elements(document, Name::Store)
+        .iter()
+        .filter_map(|value| value.as_table());
+    tables.any(|table| text_at(table, Name::Id) == Some(id))
 }
 
 // Whether it would be an identifier if its letters were capital letters.
 fn has_small_letters(id: &str) -> bool {
-    for byte in id.as_bytes() {
-        if !byte.is_ascii_alphanumeric() && *byte != b'_' && *byte != b'-' {
-            return false;
-        }
-    }
-    !id.is_empty() && id.len() <= 8
+    let id = id.as_bytes();
+    !id.is_empty()
+        && id.len() <= 8
+        && id.iter().all(|byte| byte.is_ascii_alphanumeric() || b"_-".contains(byte))
 }
 
 // What is wrong with an identifier.
@@ -282,12 +258,9 @@ fn field_hint(document: &Table, row: u32, name: Name) -> Option<Sentence> {
     if row == 0 {
         return top_hint(document, name);
     }
-    for array in &ARRAYS {
-        if let Some(hint) = table_hint(document, *array, row, name) {
-            return Some(hint);
-        }
-    }
-    None
+    ARRAYS
+        .iter()
+        .find_map(|array| table_hint(document, *array, row, name))
 }
 
 // The least and the greatest number at a key.
@@ -328,14 +301,10 @@ fn out_of_range(document: &Table, array: Name, row: u32, key: Name) -> Option<Se
 
 // The first number at this key of a table that is out of its range.
 fn range_hint(document: &Table, key: Name) -> Option<Sentence> {
-    for array in &ARRAYS {
-        for row in 1..=MAX_ROUTES as u32 {
-            if let Some(hint) = out_of_range(document, *array, row, key) {
-                return Some(hint);
-            }
-        }
-    }
-    None
+    let in_array = |array: &Name| (1..=MAX_ROUTES as u32).find_map(|row| out_of_range(
+        document, *array, row, key,
+    ));
+    ARRAYS.iter().find_map(in_array)
 }
 
 fn count_hint(document: &Table, array: Name, low: usize, high: usize) -> Sentence {

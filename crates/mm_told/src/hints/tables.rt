@@ -38,11 +38,11 @@ pub(crate) fn keys_of(array: Name) -> &'static [Name] {
 
 /// The elements of an array of the setup.
 pub(crate) fn elements(document: &Table, array: Name) -> &[Value] {
-    match document.get(array.text()) {
-        Some(value) => match value.as_array() {
-            Some(values) => values.as_slice(),
-            None => &[],
-        },
+    match document
+        .get(array.text())
+        .and_then(|value| value.as_array())
+    {
+        Some(values) => values.as_slice(),
         None => &[],
     }
 }
@@ -87,15 +87,11 @@ impl fmt::Display for KeyList {
 }
 
 // How many letters two words have in common before they differ, small or capital.
-fn common_front(one: &str, other: &str) -> u32 {
-    let mut common: u32 = 0;
-    for (byte, of_other) in one.as_bytes().iter().zip(other.as_bytes()) {
-        if !byte.eq_ignore_ascii_case(of_other) {
-            return common;
-        }
-        common = common.saturating_add(1);
-    }
-    common
+fn common_front(one: &str, other: &str) -> usize {
+    let letters = one.as_bytes().iter().zip(other.as_bytes());
+    letters
+        .take_while(|(byte, of_other)| byte.eq_ignore_ascii_case(of_other))
+        .count()
 }
 
 // The keys of an array, the one that begins most like this word first.
@@ -114,28 +110,18 @@ fn keys_like(word: &str, array: Name) -> KeyList {
 
 /// The first key of a table that no table of the array can have, and those that it can have.
 pub(crate) fn unknown_key(table: &Table, array: Name) -> Option<(Excerpt, KeyList)> {
-    for key in table.keys() {
-        if !is_among(key.as_str(), keys_of(array)) {
-            return Some((Excerpt::of(key.as_bytes()), keys_like(key.as_str(), array)));
-        }
-    }
-    None
+    let key = table
+        .keys()
+        .find(|key| !is_among(key.as_str(), keys_of(array)))?;
+    Some((Excerpt::of(key.as_bytes()), keys_like(key.as_str(), array)))
 }
 
 fn is_among(key: &str, keys: &[Name]) -> bool {
-    for name in keys {
-        if name.text() == key {
-            return true;
-        }
-    }
-    false
+    keys.iter().any(|name| name.text() == key)
 }
 
 /// What names a table: its array and row, and its identifier if it has one.
 pub(crate) fn named(array: Name, row: u32, table: &Table) -> TableAt {
-    let id = match text_at(table, Name::Id) {
-        Some(id) => Some(Excerpt::of(id.as_bytes())),
-        None => None,
-    };
+    let id = text_at(table, Name::Id).map(|id| Excerpt::of(id.as_bytes()));
     TableAt { array, row, id }
 }
