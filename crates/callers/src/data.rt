@@ -16,8 +16,9 @@ pub fn plan_of_data(
     windows: &[u32],
     arrivals: &[u32],
 ) -> Result<Planned, Fault>
-    ensures least { IfOk result (λ planned. (q : Dumping) × (problem_from rows.now limits.now windows.now arrivals.now ≡ Ok q)
-        × ShowsLeast q planned.plan planned.cut.items planned.by_channels.items planned.loss) }
+    ensures least { IfOk result (λ planned. (q : Dumping)
+        × (problem_from rows.now limits.now windows.now arrivals.now ≡ Ok q)
+        × ShowsLeast q planned.plan planned.certificate.cut planned.certificate.by_channels planned.certificate.loss) }
 {
     let problem = Problem::new(alloc, rows, limits, windows, arrivals)?;
     plan(alloc, &problem).map_err(|_| Fault::NoMemory)

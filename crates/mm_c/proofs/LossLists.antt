@@ -44,7 +44,7 @@ pub printed_with_losses : (q : Dumping) (setup forecast : List ℕ) (printed : P
 printed_with_losses q setup forecast printed losses says is told =
     let same : losses ≡ losses_in q (amount is.sheet.plan) = told ∙ ap (λ (x : Table). losses_in q (amount x)) is.plan_is in
     record {
-      plans = record { problem = q; sheet = is.sheet; says_problem = says; plans = is.plans; plain = is.plain };
+      plans = record { problem = q; sheet = is.sheet; says_problem = says; plans = is.plans; besides = is.besides };
       each = same;
       all = ap sum same ∙ sum_of_losses q (amount is.sheet.plan) ∙ is.plans.shows_least.loss;
     }

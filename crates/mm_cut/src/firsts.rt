@@ -29,7 +29,14 @@ fn are_of_first(problem: &Problem, stores: usize, stretches: &[Stretch]) -> bool
     true
 }
 
-fn is_first_cut(problem: &Problem, stores: usize, stretches: &[Stretch], counts: &[u32]) -> bool
+/// Whether stretches and counted steps are a cut of that many of the first stores.
+#[must_use]
+pub fn is_first_cut(
+    problem: &Problem,
+    stores: usize,
+    stretches: &[Stretch],
+    counts: &[u32],
+) -> bool
     ensures { IsTrue result ↔ IsFirstCut stores problem.now stretches.now counts.now }
 {
     first_bad(problem, stretches).is_none()
@@ -37,8 +44,8 @@ fn is_first_cut(problem: &Problem, stores: usize, stretches: &[Stretch], counts:
         && are_of_first(problem, stores, stretches)
 }
 
-/// Whether a certificate shows what that many of the first stores lose by the plan: it says their loss, and a cut of them
-/// whose bound is as it says, and both are one number.
+/// Whether a certificate shows what that many of the first stores lose by the plan: it says their loss, and a cut of
+/// them whose bound is as it says, and both are one number.
 #[must_use]
 pub fn shows_first(problem: &Problem, plan: &Plan, stores: usize, certificate: &Certificate) -> bool
     requires shape { HasShape problem.now plan.now }
@@ -54,8 +61,8 @@ pub fn shows_first(problem: &Problem, plan: &Plan, stores: usize, certificate: &
         && bound(problem, stretches, counts) == loss as i64
 }
 
-/// How many stores the first certificate counts that does not show what they lose by the plan, where the certificates are of
-/// the first store, of the first two and so on.
+/// How many stores the first certificate counts that does not show what they lose by the plan, where the certificates
+/// are of the first store, of the first two and so on.
 #[must_use]
 pub fn first_not_shown(problem: &Problem, plan: &Plan, firsts: &[Certificate]) -> Option<u32>
     requires shape { HasShape problem.now plan.now }

@@ -5,14 +5,20 @@ ghost use Rattle.mm_plan.specs.Sheet.{CertificateRows};
 use crate::stretch::Stretch;
 use std::marker::Model;
 
-/// A loss in blocks, and a cut with its bound, which shows the loss where both are one number. Contracts see its parts, with its lists as
-/// lists.
+/// Stretches, and the inner steps that are counted by channels. Nothing is known of them.
+#[derive(Debug, Drop)]
+pub struct Cut {
+    pub stretches: Vec<Stretch>,
+    pub by_channels: Vec<u32>,
+}
+
+/// A loss in blocks, and a cut with its bound, which shows the loss where both are one number. Contracts see its parts,
+/// with its lists as lists.
 #[derive(Debug, Drop)]
 pub struct Certificate {
-    pub(crate) loss: u64,
-    pub(crate) cut: Vec<Stretch>,
-    pub(crate) by_channels: Vec<u32>,
-    pub(crate) bound: i64,
+    loss: u64,
+    cut: Cut,
+    bound: i64,
 }
 
 impl Model for Certificate {
@@ -22,8 +28,8 @@ impl Model for Certificate {
 
     ghost view = { λ a. record {
       loss = a.loss;
-      cut = a.cut.items;
-      by_channels = a.by_channels.items;
+      cut = a.cut.stretches.items;
+      by_channels = a.cut.by_channels.items;
       bound = a.bound;
     } };
 }
@@ -31,20 +37,15 @@ impl Model for Certificate {
 impl Certificate {
     /// The certificate with these parts.
     #[must_use]
-    pub fn new(loss: u64, cut: Vec<Stretch>, by_channels: Vec<u32>, bound: i64) -> Certificate
+    pub fn new(loss: u64, cut: Cut, bound: i64) -> Certificate
         ensures { result ≡ record {
           loss = loss;
-          cut = cut.items;
-          by_channels = by_channels.items;
+          cut = cut.stretches.items;
+          by_channels = cut.by_channels.items;
           bound = bound;
         } }
     {
-        Certificate {
-            loss,
-            cut,
-            by_channels,
-            bound,
-        }
+        Certificate { loss, cut, bound }
     }
 
     /// The loss that it says, in blocks.
@@ -60,7 +61,7 @@ impl Certificate {
     pub fn cut(&self) -> &[Stretch]
         ensures { result.now ≡ self.now.cut }
     {
-        self.cut.as_slice()
+        self.cut.stretches.as_slice()
     }
 
     /// The inner steps that are counted by channels.
@@ -68,7 +69,7 @@ impl Certificate {
     pub fn by_channels(&self) -> &[u32]
         ensures { result.now ≡ self.now.by_channels }
     {
-        self.by_channels.as_slice()
+        self.cut.by_channels.as_slice()
     }
 
     /// The bound of the cut that it says, in blocks.

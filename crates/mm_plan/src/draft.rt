@@ -4,7 +4,7 @@ ghost use Rattle.mm_plan.specs.Reading.{may_begin, has_all, may_follow, after, t
 ghost use Rattle.mm_plan.specs.Sheet.{bound_line};
 ghost use Rattle.mm_plan.specs.Seen.{seen};
 
-use crate::certificate::Certificate;
+use crate::certificate::{Certificate, Cut};
 use crate::form::Form;
 use crate::line::{Line, read_line};
 use crate::row::is_dump;
@@ -125,9 +125,11 @@ impl Draft {
     fn add_bound(&mut self, alloc: Global, bound: i64) -> Result<(), AllocError>
         ensures { OnOk result (self.new ≡ after self.old (bound_line bound)) }
     {
-        let cut = mem::replace(&mut self.cut, Vec::new(alloc));
-        let by_channels = mem::replace(&mut self.by_channels, Vec::new(alloc));
-        let certificate = Certificate::new(self.loss, cut, by_channels, bound);
+        let cut = Cut {
+            stretches: mem::replace(&mut self.cut, Vec::new(alloc)),
+            by_channels: mem::replace(&mut self.by_channels, Vec::new(alloc)),
+        };
+        let certificate = Certificate::new(self.loss, cut, bound);
         self.certificates.push(certificate)?;
         self.loss = 0;
         self.stage = Stage::ToEnd;

@@ -18,7 +18,7 @@ mod simulation;
 mod stretch;
 mod words;
 
-pub use certificate::Certificate;
+pub use certificate::{Certificate, Cut};
 pub use fault::Fault;
 pub use filling::fill;
 pub use fit::fits;

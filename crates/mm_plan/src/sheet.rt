@@ -1,5 +1,6 @@
 //! A plan with its certificate: what a plan text says.
-ghost use Rattle.std.specs.Prelude.{◌≡◌, ◌<◌, ◌≤◌, ◌↔◌, ◌∷◌, [], Some, None, IfOk, IfErr, IfSome, IsOk, IsTrue, OnOk, MatchOption, MatchResult, length, map};
+ghost use Rattle.std.specs.Prelude.{◌≡◌, ◌<◌, ◌≤◌, ◌↔◌, ◌∷◌, [], Some, None, IfOk, IfErr, IfSome, IsOk, IsTrue, OnOk};
+ghost use Rattle.std.specs.Prelude.{MatchOption, MatchResult, length, map};
 ghost use Rattle.std.specs.Option.{option_map};
 ghost use Rattle.mm_plan.specs.Sheet.{SheetRows, IsSheet, IsShapedFor, sheet_text};
 ghost use Rattle.mm_plan.specs.Printing.{AreOrdered, AreRising, IsPrinted};
@@ -25,17 +26,15 @@ use std::marker::Model;
 
 /// A dump plan with its certificate. Contracts see its parts, with its lists as lists.
 ///
-/// Its text has one of three forms: `mmplan 1` where no step is counted by channels, and `mmplan 2` where some are. `mmplan 3` says that
-/// the plan serves the stores in order, and has certificates of the first store, of the first two and so on up to all but one; each may
-/// have counts.
+/// Its text has one of three forms: `mmplan 1` where no step is counted by channels, and `mmplan 2` where some are.
+/// `mmplan 3` says that the plan serves the stores in order, and has certificates of the first store, of the first two
+/// and so on up to all but one; each may have counts.
 #[derive(Debug, Drop)]
 pub struct Sheet {
     pub(crate) stores: Vec<StoreId>,
     pub(crate) plan: Plan,
-    pub(crate) loss: u64,
-    pub(crate) cut: Vec<Stretch>,
-    pub(crate) by_channels: Vec<u32>,
-    pub(crate) bound: i64,
+    // that of all stores
+    pub(crate) own: Certificate,
     pub(crate) firsts: Option<Vec<Certificate>>,
 }
 
@@ -48,10 +47,10 @@ impl Model for Sheet {
     ghost view = { λ a. record {
       stores = a.stores.items;
       plan = a.plan;
-      loss = a.loss;
-      cut = a.cut.items;
-      by_channels = a.by_channels.items;
-      bound = a.bound;
+      loss = a.own.loss;
+      cut = a.own.cut;
+      by_channels = a.own.by_channels;
+      bound = a.own.bound;
       firsts = option_map (λ firsts. firsts.items) a.firsts;
     } };
 }
@@ -97,64 +96,40 @@ fn finish(draft: Draft) -> Sheet
         steps,
         amounts,
     };
-    let Certificate {
-        loss,
-        cut,
-        by_channels,
-        bound,
-    } = certificates.remove(0);
+    let own = certificates.remove(0);
     Sheet {
         stores,
         plan,
-        loss,
-        cut,
-        by_channels,
-        bound,
+        own,
         firsts: form.is_third().then_some(certificates),
     }
 }
 
 impl Sheet {
-    /// The sheet with these parts.
+    /// The sheet with these parts: the certificate of all stores, and those of the first store, of the first two and so
+    /// on where it says that the plan serves the stores in order.
     #[must_use]
     pub fn new(
         stores: Vec<StoreId>,
         plan: Plan,
-        loss: u64,
-        cut: Vec<Stretch>,
-        by_channels: Vec<u32>,
-        bound: i64,
+        own: Certificate,
+        firsts: Option<Vec<Certificate>>,
     ) -> Sheet
         ensures { result ≡ record {
           stores = stores.items;
           plan = plan;
-          loss = loss;
-          cut = cut.items;
-          by_channels = by_channels.items;
-          bound = bound;
-          firsts = None;
+          loss = own.loss;
+          cut = own.cut;
+          by_channels = own.by_channels;
+          bound = own.bound;
+          firsts = option_map (λ firsts. firsts.items) firsts;
         } }
     {
         Sheet {
             stores,
             plan,
-            loss,
-            cut,
-            by_channels,
-            bound,
-            firsts: None,
-        }
-    }
-
-    /// The sheet with these certificates, in place of any that it has: of the first store, of the first two and so on. It says then that
-    /// the plan serves the stores in order.
-    #[must_use]
-    pub fn with_firsts(self, firsts: Vec<Certificate>) -> Sheet
-        ensures { result ≡ record self { firsts = Some firsts.items } }
-    {
-        Sheet {
-            firsts: Some(firsts),
-            ..self
+            own,
+            firsts,
         }
     }
 
@@ -188,7 +163,8 @@ impl Sheet {
     /// Whether the sheet has the problem's stores, in order, and its number of steps; otherwise it is `Shape`.
     pub fn shape(&self, problem: &Problem) -> Result<(), Fault>
         ensures ok { IsOk result ↔ IsShapedFor problem.now self.now }
-        ensures plan { self.now.plan.stores ≡ length self.now.stores → OnOk result (HasShape problem.now self.now.plan) }
+        ensures plan { self.now.plan.stores ≡ length self.now.stores
+            → OnOk result (HasShape problem.now self.now.plan) }
         ensures refused { IfErr result (λ e. e ≡ Shape) }
     {
         if self.plan.steps == problem.steps() && are_stores(self.stores.as_slice(), problem) {
@@ -203,8 +179,8 @@ impl Sheet {
     pub fn print(&self, alloc: Global) -> Result<Vec<u8>, NoMemory>
         ensures { IfOk result (λ text. IsPrinted self.now text.items) }
     {
-        let cut = ordered(alloc, self.stores.as_slice(), self.cut.as_slice())?;
-        let by_channels = rising(alloc, self.by_channels.as_slice())?;
+        let cut = ordered(alloc, self.stores(), self.cut())?;
+        let by_channels = rising(alloc, self.by_channels())?;
         self.print_in_order(alloc, cut.as_slice(), by_channels.as_slice())
     }
 
@@ -248,7 +224,7 @@ impl Sheet {
     pub fn loss(&self) -> u64
         ensures { result ≡ self.now.loss }
     {
-        self.loss
+        self.own.loss()
     }
 
     /// The stretches of the cut.
@@ -256,7 +232,7 @@ impl Sheet {
     pub fn cut(&self) -> &[Stretch]
         ensures { result.now ≡ self.now.cut }
     {
-        self.cut.as_slice()
+        self.own.cut()
     }
 
     /// The inner steps that are counted by channels.
@@ -264,7 +240,7 @@ impl Sheet {
     pub fn by_channels(&self) -> &[u32]
         ensures { result.now ≡ self.now.by_channels }
     {
-        self.by_channels.as_slice()
+        self.own.by_channels()
     }
 
     /// The bound of the cut that the sheet says, in blocks.
@@ -272,10 +248,11 @@ impl Sheet {
     pub fn bound(&self) -> i64
         ensures { result ≡ self.now.bound }
     {
-        self.bound
+        self.own.bound()
     }
 
-    /// The certificates of the first store, of the first two and so on, where the sheet says that the plan serves the stores in order.
+    /// The certificates of the first store, of the first two and so on, where the sheet says that the plan serves the
+    /// stores in order.
     #[must_use]
     pub fn firsts(&self) -> Option<&[Certificate]>
         ensures { option_map (λ firsts. firsts.now) result ≡ self.now.firsts }

@@ -13,9 +13,7 @@ pub mod ArcLists
 pub mod RunLists
 pub mod NoPath
 pub mod TakenAmounts
-pub mod Filling
-pub mod Certified
+pub mod Showing
 pub mod CutOrder
 pub mod PlanTextLemmas
 pub mod SheetLimits
-pub mod Verified

@@ -1,6 +1,9 @@
--- The arcs of the stores are opened one store after another, and what a flow brings to those whose arcs are open does not become less.
-use Rattle.std.proofs.Common.{◌≡◌, ℕ, zero, suc, ◌+◌, ◌-◌, ◌<◌, ◌≤◌, Bool, cond, eqb, ltb, Option, Some, None, List, [], ◌∷◌, ◌++◌, length, slice_index, pos, sym, ap, ◌∙◌, subst, inl, inr, arith, add-one, length-append}
-use Rattle.std.specs.Prelude.{is_some, slice_index_or}
+-- The arcs of the stores are opened one store after another, and what a flow brings to those whose arcs are open does
+-- not become less.
+use Rattle.std.proofs.Common.{◌≡◌, ℕ, zero, suc, ◌+◌, ◌-◌, ◌<◌, ◌≤◌, Bool, cond, eqb, ltb, Option, Some, None, List, []}
+use Rattle.std.proofs.Common.{◌∷◌, ◌++◌, length, slice_index, pos, sym, ap, ◌∙◌, subst, inl, inr, arith, add-one}
+use Rattle.std.proofs.Common.{length-append}
+use Rattle.std.specs.Prelude.{filter, is_some, slice_index_or}
 use Rattle.std.specs.List.{sum_by}
 use Rattle.std.proofs.lemmas.Bool.{cases_Bool, cases_lt, cond-true, cond-false, eqb-true, lt-ltb, le-ltb, false≢true}
 use Rattle.std.proofs.lemmas.Int.{ints}
@@ -11,20 +14,22 @@ use Rattle.mm_base.proofs.Sums.{sum_by-filter}
 use Rattle.mm_problem.specs.Dumping.{Dumping, IsDumping}
 use Rattle.mm_plan.specs.Volumes.{Amounts, lost, store_loss, first_loss}
 use Rattle.mm_plan.specs.Fit.{Fits}
-use Rattle.mm_plan.specs.Least.{IsLeastInOrder}
+use Rattle.mm_plan.specs.Table.{Table, amount}
+use Rattle.mm_plan.specs.declared.certificate.Cut.{Cut}
 use Rattle.mm_cut.specs.Cuts as Cuts
+use Rattle.mm_cut.proofs.Duality.{first_cuts_bound_losses}
 use Rattle.mm_flow.specs.declared.arc.Arc.{Arc}
-use Rattle.mm_flow.specs.Graph.{Graph, no_arc, arc, places, starts_at, ends_at}
+use Rattle.mm_flow.specs.Graph.{Graph, no_arc, arc, places}
 use Rattle.mm_flow.specs.Flow.{Flow, IsWithin, IsFlow, entering, leaving}
 use Rattle.mm_flow.specs.Balance.{IsAugmented, IsBegun, KeepsSource}
 use Rattle.mm_flow.specs.Solution.{IsSolved, side_of}
 use Rattle.mm_flow.specs.declared.solved.Solved.{Solved}
 use Rattle.mm_planner.specs.declared.nodes.TheConstants.{SOURCE, SINK}
-use Rattle.mm_planner.specs.declared.in_order.FirstCut.{FirstCut}
 use Rattle.mm_planner.specs.Network.{Inflows, inflow, first_inflow, net_by, net}
 use Rattle.mm_planner.specs.Runs.{first_stretches, first_counts}
 use Rattle.mm_planner.specs.Taken.{AreTaken}
-use Rattle.mm_planner.specs.Opening.{brought, IsCovered, AreOpened}
+use Rattle.mm_planner.specs.Opening.{brought, IsCovered, IsBegunBy, IsOpened, AreOpened}
+use Rattle.mm_planner.specs.InOrder.{CutShows, AllShow}
 use Rattle.mm_planner.proofs.ArcSums.{arcs_by_kind}
 use Rattle.mm_planner.proofs.ArcLists.{length-arcs_of, net_all}
 use Rattle.mm_planner.proofs.KindSums.{come}
@@ -40,13 +45,15 @@ module _ (q : Dumping) (a b : Inflows) (more : (t s : ℕ) → a t s ≤ b t s) 
   -- what arcs carry over their capacities, of which there is nothing within these
   over_sum : IsWithin (net_by q a) f → sum_by (λ k. over (arc (net_by q b) k).capacity (f k)) (places (net_by q b)) ≡ 0
   over_sum within =
-      let none = sum_by_range_zeros (λ k. over (arc (net_by q a) k).capacity (f k)) 0 (length (net_by q a).arcs) (λ k _ _. over_none (arc (net_by q a) k).capacity (f k) (within k)) in
+      let none = sum_by_range_zeros (λ k. over (arc (net_by q a) k).capacity (f k)) 0 (length (net_by q a).arcs)
+      (λ k _ _. over_none (arc (net_by q a) k).capacity (f k) (within k)) in
       omega (
         arith,
         none,
         arcs_by_kind q a (λ k (arc : Arc). over arc.capacity (f k)),
         arcs_by_kind q b (λ k (arc : Arc). over arc.capacity (f k)),
-        grid-le (λ t s. come q f t s - b t s) (λ t s. come q f t s - a t s) (length q.windows) (length q.rows) (λ t s _ _ _. omega (arith, more t s)),
+        grid-le (λ t s. come q f t s - b t s) (λ t s. come q f t s - a t s) (length q.windows) (length q.rows)
+            (λ t s _ _ _. omega (arith, more t s)),
       )
 
   -- an arc that carries nothing over its capacity carries at most that
@@ -59,41 +66,42 @@ module _ (q : Dumping) (a b : Inflows) (more : (t s : ℕ) → a t s ≤ b t s) 
   within_more : IsWithin (net_by q a) f → IsWithin (net_by q b) f
   within_more within k most is = elim (cases_lt k (length (net_by q b).arcs)) [
     | inl inside ↦
-        let term = term-le-sum_by_range (λ j. over (arc (net_by q b) j).capacity (f j)) 0 (length (net_by q b).arcs) k (omega arith) (omega (arith, inside)) in
+        let term = term-le-sum_by_range (λ j. over (arc (net_by q b) j).capacity (f j)) 0 (length (net_by q b).arcs) k
+        (omega arith) (omega (arith, inside)) in
         within_limit (arc (net_by q b) k).capacity (f k) most (omega (arith, over_sum within, term)) is
-    | inr past ↦ absurd (no_limit most (sym (ap (λ (x : Arc). x.capacity) (get_or_past (net_by q b).arcs k no_arc past)) ∙ is))
+    | inr past ↦ absurd (no_limit most
+        (sym (ap (λ (x : Arc). x.capacity) (get_or_past (net_by q b).arcs k no_arc past)) ∙ is))
   ]
     where
       -- past the last arc there is no limit
       no_limit : (n : ℕ) → (let o : Option ℕ = None in o) ≡ Some n → ⊥
       no_limit n same = absurd (false≢true (ap (λ (o : Option ℕ). is_some o) same))
 
-  -- what enters a node is what it was
+  -- what arcs carry that are chosen by their ends is what it was
+  chosen_same : (at : ℕ → ℕ → Bool)
+      → sum_by f (filter (λ k. at (arc (net_by q b) k).from (arc (net_by q b) k).to) (places (net_by q b))) ≡ sum_by f
+      (filter (λ k. at (arc (net_by q a) k).from (arc (net_by q a) k).to) (places (net_by q a)))
+  chosen_same at =
+      omega (
+        arith,
+        sum_by-filter f (λ k. at (arc (net_by q a) k).from (arc (net_by q a) k).to) (places (net_by q a)),
+        sum_by-filter f (λ k. at (arc (net_by q b) k).from (arc (net_by q b) k).to) (places (net_by q b)),
+        arcs_by_kind q a (λ k (arc : Arc). cond (at arc.from arc.to) (f k) 0),
+        arcs_by_kind q b (λ k (arc : Arc). cond (at arc.from arc.to) (f k) 0),
+      )
+
+  -- so it is with what enters a node, and with what leaves it
   entering_same : (n : ℕ) → entering (net_by q b) f n ≡ entering (net_by q a) f n
   unfolding entering
-  entering_same n =
-      omega (
-        arith,
-        sum_by-filter f (ends_at (net_by q a) n) (places (net_by q a)),
-        sum_by-filter f (ends_at (net_by q b) n) (places (net_by q b)),
-        arcs_by_kind q a (λ k (arc : Arc). cond (eqb arc.to n) (f k) 0),
-        arcs_by_kind q b (λ k (arc : Arc). cond (eqb arc.to n) (f k) 0),
-      )
+  entering_same n = chosen_same (λ _ to. eqb to n)
 
-  -- so is what leaves it
   leaving_same : (n : ℕ) → leaving (net_by q b) f n ≡ leaving (net_by q a) f n
   unfolding leaving
-  leaving_same n =
-      omega (
-        arith,
-        sum_by-filter f (starts_at (net_by q a) n) (places (net_by q a)),
-        sum_by-filter f (starts_at (net_by q b) n) (places (net_by q b)),
-        arcs_by_kind q a (λ k (arc : Arc). cond (eqb arc.from n) (f k) 0),
-        arcs_by_kind q b (λ k (arc : Arc). cond (eqb arc.from n) (f k) 0),
-      )
+  leaving_same n = chosen_same (λ from _. eqb from n)
 
   -- a solver may go on from the flow
-  augmented_more : (value : ℕ) → IsAugmented (net_by q a) SOURCE SINK f value → IsAugmented (net_by q b) SOURCE SINK f value
+  augmented_more : (value : ℕ) → IsAugmented (net_by q a) SOURCE SINK f value
+      → IsAugmented (net_by q b) SOURCE SINK f value
   augmented_more value augmented = record {
     within = within_more augmented.within;
     balanced = λ n. omega (arith, augmented.balanced n, entering_same n, leaving_same n);
@@ -101,18 +109,29 @@ module _ (q : Dumping) (a b : Inflows) (more : (t s : ℕ) → a t s ≤ b t s) 
   }
 
 -- the same of a flow in a table
-pub begun_more : (q : Dumping) (a b : Inflows) (s : Solved) → ((t r : ℕ) → a t r ≤ b t r) → IsBegun (net_by q a) SOURCE SINK s → IsBegun (net_by q b) SOURCE SINK s
+begun_more : (q : Dumping) (a b : Inflows) (s : Solved) → ((t r : ℕ) → a t r ≤ b t r)
+    → IsBegun (net_by q a) SOURCE SINK s → IsBegun (net_by q b) SOURCE SINK s
 begun_more q a b s more begun = record {
   arcs = omega (arith, begun.arcs, length-arcs_of q a (length q.windows), length-arcs_of q b (length q.windows));
   augmented = augmented_more q a b more (slice_index s.flow.items) s.value begun.augmented;
 }
 
 -- where one store more is open no less comes
-pub first_more : (k n : ℕ) (q : Dumping) → k ≤ n → (t s : ℕ) → first_inflow k q t s ≤ first_inflow n q t s
+first_more : (k n : ℕ) (q : Dumping) → k ≤ n → (t s : ℕ) → first_inflow k q t s ≤ first_inflow n q t s
 first_more k n q few t s = elim (cases_lt s k) [
-  | inl among ↦ omega (arith, cond-true (ltb s k) (inflow q t s) 0 (lt-ltb s k among), cond-true (ltb s n) (inflow q t s) 0 (lt-ltb s n (omega arith)))
+  | inl among ↦ omega (
+    arith,
+    cond-true (ltb s k) (inflow q t s) 0 (lt-ltb s k among),
+    cond-true (ltb s n) (inflow q t s) 0 (lt-ltb s n (omega arith)),
+  )
   | inr past ↦ omega (arith, cond-false (ltb s k) (inflow q t s) 0 (le-ltb s k past))
 ]
+
+-- a solver may go on from a flow where no more are open
+pub begun_on : (k : ℕ) (q : Dumping) (s : Solved) → IsBegunBy k q s
+    → IsBegun (net_by q (first_inflow k q)) SOURCE SINK s
+begun_on k q s by = begun_more q (first_inflow by.stores q) (first_inflow k q) s (first_more by.stores k q by.few)
+    by.begun
 
 -- ---- what is brought does not become less
 
@@ -125,9 +144,14 @@ module _ (q : Dumping) (a : Inflows) (old new : Flow) (kept : KeepsSource (net_b
   none_fallen : sum_by (λ k. fallen (eqb (arc (net_by q a) k).from SOURCE) (old k) (new k)) (places (net_by q a)) ≡ 0
   unfolding fallen
   none_fallen =
-      sum_by_range_zeros (λ k. cond (eqb (arc (net_by q a) k).from SOURCE) (old k - new k) 0) 0 (length (net_by q a).arcs)
+      sum_by_range_zeros (λ k. cond (eqb (arc (net_by q a) k).from SOURCE) (old k - new k) 0) 0
+      (length (net_by q a).arcs)
       (λ k _ _. elim (cases_Bool (eqb (arc (net_by q a) k).from SOURCE)) [
-        | inl from ↦ omega (arith, cond-true (eqb (arc (net_by q a) k).from SOURCE) (old k - new k) 0 from, kept k (eqb-true (arc (net_by q a) k).from SOURCE from))
+        | inl from ↦ omega (
+          arith,
+          cond-true (eqb (arc (net_by q a) k).from SOURCE) (old k - new k) 0 from,
+          kept k (eqb-true (arc (net_by q a) k).from SOURCE from),
+        )
         | inr other ↦ cond-false (eqb (arc (net_by q a) k).from SOURCE) (old k - new k) 0 other
       ])
 
@@ -143,19 +167,22 @@ module _ (q : Dumping) (a : Inflows) (old new : Flow) (kept : KeepsSource (net_b
       )
 
 -- a cut of the first stores goes on to cover
-pub covered_more : (k : ℕ) (q : Dumping) (a : Inflows) (old new : Flow) (c : FirstCut) → k ≤ length q.rows → KeepsSource (net_by q a) SOURCE old new → IsCovered k q old c → IsCovered k q new c
+pub covered_more : (k : ℕ) (q : Dumping) (a : Inflows) (old new : Flow) (c : Cut) → k ≤ length q.rows
+    → KeepsSource (net_by q a) SOURCE old new → IsCovered k q old c → IsCovered k q new c
 covered_more k q a old new c few kept covered = record {
   cut = covered.cut;
   covers = omega (
     arith,
     covered.covers,
-    grid-le (brought q old) (brought q new) (length q.windows) k (λ t s first last below. brought_more q a old new kept t s first last (omega (arith, few))),
+    grid-le (brought q old) (brought q new) (length q.windows) k
+        (λ t s first last below. brought_more q a old new kept t s first last (omega (arith, few))),
   );
 }
 
 -- ---- the cut of a solution
 
-module _ (q : Dumping) (is : IsDumping q) (k : ℕ) (few : k ≤ length q.rows) (s : Solved) (solved : IsSolved (net_by q (first_inflow k q)) SOURCE SINK s) where
+module _ (q : Dumping) (is : IsDumping q) (k : ℕ) (few : k ≤ length q.rows) (s : Solved)
+    (solved : IsSolved (net_by q (first_inflow k q)) SOURCE SINK s) where
   -- what the solution's flow carries
   abbrev flow : Flow
   flow = slice_index s.flow.items
@@ -167,16 +194,24 @@ module _ (q : Dumping) (is : IsDumping q) (k : ℕ) (few : k ≤ length q.rows) 
   -- nothing is brought to the others
   none_brought : (t r : ℕ) → 1 ≤ t → t ≤ length q.windows → r < length q.rows → k ≤ r → come q flow t r ≡ 0
   none_brought t r first last below past =
-      omega (arith, come_within q (first_inflow k q) flow solved.solution.flow.within t r first last below, cond-false (ltb r k) (inflow q t r) 0 (le-ltb r k past))
+      omega (
+        arith,
+        come_within q (first_inflow k q) flow solved.solution.flow.within t r first last below,
+        cond-false (ltb r k) (inflow q t r) 0 (le-ltb r k past),
+      )
 
   -- the cut of the solution's side covers the first stores
-  pub covered : (c : FirstCut) → c.stretches.items ≡ first_stretches k q (side_of s.side.items) → c.by_channels.items ≡ first_counts k q (side_of s.side.items) → IsCovered k q flow c
+  pub covered : (c : Cut) → c.stretches.items ≡ first_stretches k q (side_of s.side.items)
+      → c.by_channels.items ≡ first_counts k q (side_of s.side.items) → IsCovered k q flow c
   covered c stretches by_channels =
       let a = first_inflow k q in
       let side = side_of s.side.items in
       let cut = solved.solution.cut in
       let of_side : Cuts.IsFirstCut k q (first_stretches k q side) (first_counts k q side) = record {
-        cut = record { stretches = are_stretches q is k few a as_comes side cut; counted = are_counted q is k few a as_comes side cut };
+        cut = record {
+          stretches = are_stretches q is k few a as_comes side cut;
+          counted = are_counted q is k few a as_comes side cut;
+        };
         first = of_first q is k few a as_comes side cut;
       } in
       record {
@@ -192,69 +227,61 @@ module _ (q : Dumping) (is : IsDumping q) (k : ℕ) (few : k ≤ length q.rows) 
 
 -- ---- the plan
 
--- what the first stores lose by a plan that a flow says, where a cut covers them: no plan loses less, and the cut's bound is that
-pub shown : Cuts.FirstCutsBoundLosses → (k : ℕ) (q : Dumping) (f : Flow) (value : ℕ) (x y : Amounts) (c : FirstCut) → k ≤ length q.rows → IsDumping q → IsFlow (net q) SOURCE SINK f value → AreTaken q f x
-    → Fits q y → ((s t : ℕ) → s < length q.rows → 1 ≤ t → t ≤ length q.windows → lost q y s t ≤ lost q x s t) → IsCovered k q f c
-    → (Cuts.bound q c.stretches.items c.by_channels.items ≡ pos (first_loss k q y)) × ((z : Amounts) → Fits q z → first_loss k q y ≤ first_loss k q z)
-shown bounds k q f value x y c few is flow taken fits_y no_worse covered =
-    let ds = c.stretches.items in
-    let ts = c.by_channels.items in
-    let within = first_loss_within q is f value flow x taken k few in
-    let no_more = sum_by_range-le (store_loss q y) (store_loss q x) 0 k
-    (λ s _ below. sum_by_range-le (lost q y s) (lost q x s) 1 (length q.windows) (λ t low high. no_worse s t (omega (arith, few)) low (omega arith))) in
-    let tight : Cuts.bound q ds ts ≡ pos (first_loss k q y) = omega (arith, ints, bounds k q y ds ts fits_y covered.cut, within, no_more, covered.covers) in
-    (tight, λ z fits_z. omega (arith, ints, bounds k q z ds ts fits_z covered.cut, tight))
+module _ (q : Dumping) (is : IsDumping q) (f : Flow) (value : ℕ) (x : Amounts) (y : Table)
+    (flow : IsFlow (net q) SOURCE SINK f value) (taken : AreTaken q f x)
+    (fits_y : Fits q (amount y))
+    (no_worse : (s t : ℕ) → s < length q.rows → 1 ≤ t → t ≤ length q.windows
+    → lost q (amount y) s t ≤ lost q x s t) where
+  -- a cut of the first stores that covers them shows what they lose by the plan that the flow says, and by one that is
+  -- nowhere worse
+  cut_shows : (k : ℕ) (c : Cut) → k ≤ length q.rows → IsCovered k q f c → CutShows k q y c
+  cut_shows k c few covered =
+      let within = first_loss_within q is f value flow x taken k few in
+      let no_more = sum_by_range-le (store_loss q (amount y)) (store_loss q x) 0 k
+      (λ s _ below. sum_by_range-le (lost q (amount y) s) (lost q x s) 1 (length q.windows)
+      (λ t low high. no_worse s t (omega (arith, few)) low (omega arith))) in
+      let bounds = first_cuts_bound_losses k q (amount y) c.stretches.items c.by_channels.items fits_y covered.cut in
+      record { cut = covered.cut; bound = omega (arith, ints, bounds, within, no_more, covered.covers) }
+
+  -- so do the cuts at each of the first stores, and the cut once the arcs of all are open
+  pub all_show : (k : ℕ) (old new : Solved) (cuts : List Cut) (c : Cut) → k ≤ length q.rows → AreOpened k q old cuts
+      → IsOpened (length q.rows) q old new c → f ≡ slice_index new.flow.items → AllShow q y c cuts
+  all_show k old new cuts c few opened last same = record {
+    all = cut_shows (length q.rows) c (omega arith)
+        (subst (λ (g : Flow). IsCovered (length q.rows) q g c) (sym same) last.covered);
+    each = λ j d below.
+        let within : j < k = omega (arith, opened.count, below) in
+        let cut = slice_index_or cuts j d in
+        let now = covered_more (j + 1) q (first_inflow (length q.rows) q) (slice_index old.flow.items)
+        (slice_index new.flow.items) cut (omega (arith, few)) last.kept (opened.each j d within) in
+        cut_shows (j + 1) cut (omega (arith, few)) (subst (λ (g : Flow). IsCovered (j + 1) q g cut) (sym same) now);
+  }
 
 -- ---- one store after another
 
--- one of some cuts
-one_of : (cuts : List FirstCut) → 0 < length cuts → FirstCut
-one_of [] some = absurd (omega arith)
-one_of (c ∷ cuts) some = c
-
 -- once the arcs of one store more are open
-pub opened_more : (k : ℕ) (q : Dumping) (s next : Solved) (cuts more : List FirstCut) (c : FirstCut) → IsDumping q → k + 1 ≤ length q.rows → AreOpened k q s cuts
-    → IsSolved (net_by q (first_inflow (k + 1) q)) SOURCE SINK next → IsBegun (net_by q (first_inflow (k + 1) q)) SOURCE SINK next
-    → KeepsSource (net_by q (first_inflow (k + 1) q)) SOURCE (slice_index s.flow.items) (slice_index next.flow.items)
-    → c.stretches.items ≡ first_stretches (k + 1) q (side_of next.side.items) → c.by_channels.items ≡ first_counts (k + 1) q (side_of next.side.items)
-    → more ≡ cuts ++ c ∷ [] → AreOpened (k + 1) q next more
-opened_more k q s next cuts more c is few opened solved begun kept stretches by_channels added = record {
-  solved = λ _. solved;
-  begun = begun;
+pub opened_more : (k : ℕ) (q : Dumping) (s next : Solved) (cuts more : List Cut) (c : Cut) → k + 1 ≤ length q.rows
+    → AreOpened k q s cuts → IsOpened (k + 1) q s next c → more ≡ cuts ++ c ∷ [] → AreOpened (k + 1) q next more
+opened_more k q s next cuts more c few opened last added = record {
+  begun = last.begun;
   count = omega (arith, ap length added, length-append cuts (c ∷ []), opened.count);
   each = λ j d below. elim (cases_lt j k) [
     | inl earlier ↦
-        let same : slice_index_or more j d ≡ slice_index_or cuts j d = ap (λ (xs : List FirstCut). slice_index_or xs j d) added ∙ get_or_append_left cuts (c ∷ []) d j (omega (arith, opened.count)) in
-        rw same (covered_more (j + 1) q (first_inflow (k + 1) q) (slice_index s.flow.items) (slice_index next.flow.items) (slice_index_or cuts j d) (omega arith) kept (opened.each j d earlier))
+        let same : slice_index_or more j d ≡ slice_index_or cuts j d = ap (λ (xs : List Cut). slice_index_or xs j d)
+        added ∙ get_or_append_left cuts (c ∷ []) d j (omega (arith, opened.count)) in
+        rw same (covered_more (j + 1) q (first_inflow (k + 1) q) (slice_index s.flow.items)
+        (slice_index next.flow.items) (slice_index_or cuts j d) (omega arith) last.kept (opened.each j d earlier))
     | inr past ↦
         let at : j ≡ k = omega arith in
-        let same : slice_index_or more j d ≡ c = ap (λ (xs : List FirstCut). slice_index_or xs j d) added ∙ get_or_push cuts c d j (omega (arith, opened.count)) in
-        rw (same, at) (covered q is (k + 1) few next solved c stretches by_channels)
+        let same : slice_index_or more j d ≡ c = ap (λ (xs : List Cut). slice_index_or xs j d) added
+        ∙ get_or_push cuts c d j (omega (arith, opened.count)) in
+        rw (same, at) last.covered
   ];
 }
 
-module _ (bounds : Cuts.FirstCutsBoundLosses) (q : Dumping) (is : IsDumping q) (s : Solved) (cuts : List FirstCut) (opened : AreOpened (length q.rows) q s cuts) where
-  -- once all are open the flow is one of the problem's network
-  pub all_solved : IsSolved (net q) SOURCE SINK s
-  all_solved = subst (λ (g : Graph). IsSolved g SOURCE SINK s) (net_all q) (opened.solved (omega (arith, is.stores.has_store)))
-
-  module _ (x y : Amounts) (taken : AreTaken q (slice_index s.flow.items) x) (fits_y : Fits q y) (no_worse : (r t : ℕ) → r < length q.rows → 1 ≤ t → t ≤ length q.windows → lost q y r t ≤ lost q x r t) where
-    -- of each number of first stores the cut shows what they lose
-    each_shown : (k : ℕ) (d : FirstCut) → k < length q.rows → let c = slice_index_or cuts k d in (Cuts.bound q c.stretches.items c.by_channels.items ≡ pos (first_loss (k + 1) q y)) × ((z : Amounts) → Fits q z → first_loss (k + 1) q y ≤ first_loss (k + 1) q z)
-    each_shown k d below =
-        shown bounds (k + 1) q (slice_index s.flow.items) s.value x y (slice_index_or cuts k d) (omega arith) is all_solved.solution.flow taken fits_y no_worse (opened.each k d below)
-
-    -- so it is shown of each cut
-    pub shows_first : (k : ℕ) (d : FirstCut) → k < length cuts → let c = slice_index_or cuts k d in Cuts.IsFirstCut (k + 1) q c.stretches.items c.by_channels.items × (Cuts.bound q c.stretches.items c.by_channels.items ≡ pos (first_loss (k + 1) q y))
-    shows_first k d below =
-        let within : k < length q.rows = omega (arith, below, opened.count) in
-        ((opened.each k d within).cut, (each_shown k d within).0)
-
-    -- the plan loses least in order
-    pub least_in_order : IsLeastInOrder q y
-    least_in_order = record { fits = fits_y; least = least }
-      where
-        least : (k : ℕ) → k ≤ length q.rows → (z : Amounts) → Fits q z → first_loss k q y ≤ first_loss k q z
-        least zero few z fits_z = omega arith
-        least (suc k) few z fits_z =
-            omega (arith, (each_shown k (one_of cuts (omega (arith, opened.count))) (omega arith)).1 z fits_z, ap (λ n. first_loss n q y) (add-one k), ap (λ n. first_loss n q z) (add-one k))
+-- once all are open the flow is one of the problem's network
+pub all_solved : (q : Dumping) (s : Solved) (n : ℕ) → n ≡ length q.rows
+    → IsSolved (net_by q (first_inflow n q)) SOURCE SINK s → IsSolved (net q) SOURCE SINK s
+all_solved q s n all solved =
+    subst (λ (g : Graph). IsSolved g SOURCE SINK s) (net_all q)
+    (subst (λ k. IsSolved (net_by q (first_inflow k q)) SOURCE SINK s) all solved)

@@ -1,13 +1,11 @@
 -- Every solution of a problem's network gives a plan that loses least, and the cut that shows it.
-use Rattle.std.proofs.Common.{◌≡◌, ℕ, ◌<◌, ◌≤◌, Bool, List, length, pos, refl, sym, ap, ◌∙◌, subst, arith}
+use Rattle.std.proofs.Common.{◌≡◌, ℕ, ◌<◌, ◌≤◌, length, pos, refl, arith}
 use Rattle.std.proofs.lemmas.Int.{ints}
 use Rattle.mm_problem.specs.Dumping.{Dumping}
 use Rattle.mm_plan.specs.Volumes.{Amounts, loss}
-use Rattle.mm_plan.specs.declared.stretch.Stretch.{Stretch}
 use Rattle.mm_cut.specs.Cuts as Cuts
-use Rattle.mm_flow.specs.Solution.{side_of}
 use Rattle.mm_planner.specs.Network.{inflow}
-use Rattle.mm_planner.specs.Runs.{stretches, counts_of, counts}
+use Rattle.mm_planner.specs.Runs.{stretches, counts}
 use Rattle.mm_planner.specs.Planned.{IsPlanned, SolutionsPlan}
 use Rattle.mm_planner.proofs.FromFlow.{fits, loss_within}
 use Rattle.mm_planner.proofs.FromSide.{are_stretches, are_counted, inflow_within}
@@ -21,18 +19,21 @@ solutions_plan bounds q f side value x is solution taken =
     let as_comes : (t s : ℕ) → s < length q.rows → inflow q t s ≡ inflow q t s = λ t s _. refl in
     let ds = stretches q side in
     let ts = counts q side in
-    let cut : Cuts.IsCut q ds ts = record { stretches = are_stretches q is (length q.rows) all (inflow q) as_comes side solution.cut; counted = are_counted q is (length q.rows) all (inflow q) as_comes side solution.cut } in
+    let cut : Cuts.IsCut q ds ts = record {
+      stretches = are_stretches q is (length q.rows) all (inflow q) as_comes side solution.cut;
+      counted = are_counted q is (length q.rows) all (inflow q) as_comes side solution.cut;
+    } in
     let tight : Cuts.bound q ds ts ≡ pos (loss q x) =
-    omega (arith, ints, bounds q x ds ts fits_x cut, loss_within q is f value flow x taken, inflow_within q is (length q.rows) all (inflow q) as_comes side solution.cut, solution.equal) in
+    omega (
+      arith,
+      ints,
+      bounds q x ds ts fits_x cut,
+      loss_within q is f value flow x taken,
+      inflow_within q is (length q.rows) all (inflow q) as_comes side solution.cut,
+      solution.equal,
+    ) in
     record {
       plan = record { fits = fits_x; least = λ y fits_y. omega (arith, ints, bounds q y ds ts fits_y cut, tight) };
       cut = cut;
       tight = tight;
     }
-
--- the same, where the side and the stretches stand in tables
-pub planned_lists : (q : Dumping) (x : Amounts) (table now : List Bool) (ds seen : List Stretch) (ts : List ℕ) → now ≡ table → ds ≡ stretches q (side_of now) → seen ≡ ds → ts ≡ counts_of q (side_of now) seen → IsPlanned q x (stretches q (side_of table)) (counts q (side_of table)) → IsPlanned q x ds ts
-planned_lists q x table now ds seen ts same is_stretches is_seen is_counts planned =
-    let all : ds ≡ stretches q (side_of table) = is_stretches ∙ ap (λ n. stretches q (side_of n)) same in
-    let counted : ts ≡ counts q (side_of table) = is_counts ∙ ap (λ n. counts_of q (side_of n) seen) same ∙ ap (counts_of q (side_of table)) (is_seen ∙ all) in
-    subst (λ us. IsPlanned q x ds us) (sym counted) (subst (λ es. IsPlanned q x es (counts q (side_of table))) (sym all) planned)

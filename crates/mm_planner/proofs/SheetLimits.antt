@@ -1,5 +1,6 @@
 -- The sheet of a planned problem is within the limits of the text.
-use Rattle.std.proofs.Common.{◌≡◌, ℕ, ◌+◌, ◌*◌, ◌<◌, ◌≤◌, ℤ, pos, List, [], length, get_or, map, sym, ap, ◌∙◌, subst, arith}
+use Rattle.std.proofs.Common.{◌≡◌, ℕ, ◌+◌, ◌*◌, ◌<◌, ◌≤◌, ℤ, pos, List, [], length, get_or, map, Option, Some, None}
+use Rattle.std.proofs.Common.{refl, sym, ap, ◌∙◌, subst, arith}
 use Rattle.std.specs.Prelude.{All, IfSome, ◌^◌, FitsSigned}
 use Rattle.std.specs.Int.{w64}
 use Rattle.std.specs.Str.{bytes_eq}
@@ -13,13 +14,17 @@ use Rattle.mm_base.specs.declared.limits.TheConstants.{MAX_STORES, MAX_STEPS, MA
 use Rattle.mm_problem.specs.Dumping.{Dumping, IsDumping, no_row}
 use Rattle.mm_base.specs.Id.{IsIdField}
 use Rattle.mm_plan.specs.declared.stretch.Stretch.{Stretch}
-use Rattle.mm_plan.specs.Table.{IsTable, HasShape}
+use Rattle.mm_plan.specs.Table.{amount}
 use Rattle.mm_plan.specs.Volumes.{Amounts}
-use Rattle.mm_plan.specs.Sheet.{SheetRows, CertificateRows, IsCertificate, AreFirsts, IsSheet, IsShapedFor, IsWritten}
+use Rattle.mm_plan.specs.Sheet.{SheetRows, CertificateRows, IsCertificate, AreFirsts, IsWritten}
 use Rattle.mm_cut.specs.Firsts.{ShowFirsts}
 use Rattle.mm_cut.specs.Stretches.{store_of, goes_past, IsStretch, AreStretches}
 use Rattle.mm_cut.specs.Counts.{IsCounted}
 use Rattle.mm_cut.specs.Cuts.{IsCut, CutsAreFew}
+use Rattle.mm_planner.specs.declared.planner.Planned.{Planned}
+use Rattle.mm_planner.specs.Planned.{IsPlan}
+use Rattle.mm_planner.specs.InOrder.{IsPlanInOrder}
+use Rattle.mm_planner.specs.PlanTexts.{IsPlain, SheetShowsInOrder, IsSheetFor}
 
 -- a number below 2^63 fits
 fits_signed : (z : ℤ) (n : ℕ) → z ≡ pos n → n < 2 ^ 63 → FitsSigned w64 z
@@ -34,7 +39,8 @@ stretch_store q d is each =
     let ids = map (λ r. r.id) q.rows in
     let size : length ids ≡ length q.rows = length-map q.rows (λ r. r.id) in
     let at : IsIdField (get_or ids place []) = each place [] (omega (arith, size, is.store)) in
-    let found : (get_or q.rows place no_row).id ≡ d.store = (bytes_eq-Decides (get_or q.rows place no_row).id d.store).0 (passes_at_first (λ r. bytes_eq r.id d.store) q.rows no_row is.store) in
+    let found : (get_or q.rows place no_row).id ≡ d.store = (bytes_eq-Decides (get_or q.rows place no_row).id d.store).0
+    (passes_at_first (λ r. bytes_eq r.id d.store) q.rows no_row is.store) in
     subst IsIdField (get_or-map (λ r. r.id) q.rows place no_row [] is.store ∙ found) at
 
 -- a counted step is not the last
@@ -46,7 +52,9 @@ counted_below q ds t are is =
     grind (arith, nat_tests)
 
 -- a certificate of a cut of the problem, with a loss and a bound that a problem may have
-pub is_certificate : CutsAreFew → (q : Dumping) (c : CertificateRows) → IsDumping q → All IsIdField (map (λ r. r.id) q.rows) → IsCut q c.cut c.by_channels → c.loss ≤ 2 * MAX_BLOCKS * MAX_STEPS * MAX_STORES → c.bound ≡ pos c.loss → IsCertificate c
+is_certificate : CutsAreFew → (q : Dumping) (c : CertificateRows) → IsDumping q → All IsIdField (map (λ r. r.id) q.rows)
+    → IsCut q c.cut c.by_channels → c.loss ≤ 2 * MAX_BLOCKS * MAX_STEPS * MAX_STORES → c.bound ≡ pos c.loss
+    → IsCertificate c
 is_certificate cuts_are_few q c is named cut most tight =
     let few_steps = is.steps.at_most in
     let few = cuts_are_few q c.cut c.by_channels is cut in
@@ -54,38 +62,79 @@ is_certificate cuts_are_few q c is named cut most tight =
       cut = omega (arith, few.0);
       counts = omega (arith, few_steps, few.1);
       each_stretch = All-weaker (IsStretch q) IsWritten (λ d is_stretch.
-          record { store = stretch_store q d is_stretch named; first = omega (arith, few_steps, is_stretch.order, is_stretch.last); last = omega (arith, few_steps, is_stretch.last) }) c.cut cut.stretches.each;
-      each_count = All-weaker (IsCounted q c.cut) (λ t. t < 2 ^ 32) (λ t counted. omega (arith, few_steps, counted_below q c.cut t cut.stretches counted)) c.by_channels cut.counted.each;
+          record {
+            store = stretch_store q d is_stretch named;
+            first = omega (arith, few_steps, is_stretch.order, is_stretch.last);
+            last = omega (arith, few_steps, is_stretch.last);
+          }) c.cut cut.stretches.each;
+      each_count = All-weaker (IsCounted q c.cut) (λ t. t < 2 ^ 32)
+          (λ t counted. omega (arith, few_steps, counted_below q c.cut t cut.stretches counted)) c.by_channels
+          cut.counted.each;
       loss = omega (arith, most);
       bound = fits_signed c.bound c.loss tight (omega (arith, most));
     }
 
 -- certificates that show what the first stores lose, of all stores but the last
-pub are_firsts : CutsAreFew → (q : Dumping) (x : Amounts) (ids : List (List ℕ)) (cs : List CertificateRows) → IsDumping q → ids ≡ map (λ r. r.id) q.rows → All IsIdField ids → length cs + 1 ≡ length q.rows → ShowFirsts q x cs → All (λ c. c.loss ≤ 2 * MAX_BLOCKS * MAX_STEPS * MAX_STORES) cs → AreFirsts (length ids) cs
+are_firsts : CutsAreFew → (q : Dumping) (x : Amounts) (ids : List (List ℕ)) (cs : List CertificateRows) → IsDumping q
+    → ids ≡ map (λ r. r.id) q.rows → All IsIdField ids → length cs + 1 ≡ length q.rows → ShowFirsts q x cs
+    → All (λ c. c.loss ≤ 2 * MAX_BLOCKS * MAX_STEPS * MAX_STORES) cs → AreFirsts (length ids) cs
 are_firsts cuts_are_few q x ids cs is same named count show most = record {
   count = count ∙ sym (length-map q.rows (λ r. r.id)) ∙ sym (ap length same);
   each = λ k d inside.
-      is_certificate cuts_are_few q (get_or cs k d) is (subst (All IsIdField) same named) (show k d inside).cut.cut (most k d inside) (show k d inside).tight;
+      is_certificate cuts_are_few q (get_or cs k d) is (subst (All IsIdField) same named) (show k d inside).cut.cut
+      (most k d inside) (show k d inside).tight;
 }
 
--- a sheet with the problem's stores and steps, a cut of the problem, and a loss and a bound that a problem may have
-pub planned_is_sheet : CutsAreFew → (q : Dumping) (s : SheetRows) → IsDumping q → IsShapedFor q s → HasShape q s.plan → IsTable s.plan → All IsIdField s.stores → IsCut q s.cut s.by_channels → s.loss ≤ 2 * MAX_BLOCKS * MAX_STEPS * MAX_STORES → s.bound ≡ pos s.loss
-    → IfSome s.firsts (AreFirsts (length s.stores)) → IsSheet s
-planned_is_sheet cuts_are_few q s is shaped shape table ids cut most tight firsts =
-    let stores : length s.stores ≡ length q.rows = ap length shaped.stores ∙ length-map q.rows (λ r. r.id) in
-    let few_steps = is.steps.at_most in
-    let named : All IsIdField (map (λ r. r.id) q.rows) = subst (All IsIdField) shaped.stores ids in
-    let own = is_certificate cuts_are_few q (record { loss = s.loss; cut = s.cut; by_channels = s.by_channels; bound = s.bound }) is named cut most tight in
-    record {
-      firsts = firsts;
-      steps = omega (arith, shaped.steps, few_steps);
-      cut = own.cut;
-      counts = own.counts;
-      plan = table;
-      same_stores = shape.stores ∙ sym stores;
-      each_store = ids;
-      each_stretch = own.each_stretch;
-      each_count = own.each_count;
-      loss = own.loss;
-      bound = own.bound;
-    }
+-- a sheet of these stores, a plan with its certificate, and those of the first stores
+abbrev sheet_with : List (List ℕ) → Planned → Option (List CertificateRows) → SheetRows
+sheet_with ids p firsts = record {
+  stores = ids;
+  plan = p.plan;
+  loss = p.certificate.loss;
+  cut = p.certificate.cut;
+  by_channels = p.certificate.by_channels;
+  bound = p.certificate.bound;
+  firsts = firsts;
+}
+
+module _ (few : CutsAreFew) (q : Dumping) (ids : List (List ℕ)) (p : Planned) (is : IsDumping q)
+    (same : ids ≡ map (λ r. r.id) q.rows) (named : All IsIdField ids) where
+  -- the sheet of a plan that loses least, with the problem's stores
+  planned_sheet : (B : Dumping → SheetRows → Type 0) (firsts : Option (List CertificateRows)) → IsPlan q p
+      → IfSome firsts (AreFirsts (length ids)) → B q (sheet_with ids p firsts)
+      → IsSheetFor B q (sheet_with ids p firsts)
+  planned_sheet B firsts plan are besides =
+      let shows = plan.shows_least in
+      let stores : length ids ≡ length q.rows = ap length same ∙ length-map q.rows (λ r. r.id) in
+      let own = is_certificate few q p.certificate is (subst (All IsIdField) same named) shows.cut plan.most
+      plan.tight in
+      record {
+        is_sheet = record {
+          firsts = are;
+          steps = omega (arith, shows.shape.steps, is.steps.at_most);
+          cut = own.cut;
+          counts = own.counts;
+          plan = plan.is_table;
+          same_stores = shows.shape.stores ∙ sym stores;
+          each_store = named;
+          each_stretch = own.each_stretch;
+          each_count = own.each_count;
+          loss = own.loss;
+          bound = own.bound;
+        };
+        shape = record { stores = same; steps = shows.shape.steps };
+        shows_least = shows;
+        tight = plan.tight;
+        besides = besides;
+      }
+
+  -- with no certificates of first stores
+  pub plain_sheet : IsPlan q p → IsSheetFor IsPlain q (sheet_with ids p None)
+  plain_sheet plan = planned_sheet IsPlain None plan tt refl
+
+  -- with certificates of all stores but the last
+  pub ordered_sheet : IsPlanInOrder q p → IsSheetFor SheetShowsInOrder q (sheet_with ids p (Some p.firsts.items))
+  ordered_sheet all =
+      planned_sheet SheetShowsInOrder (Some p.firsts.items) all.plan
+      (are_firsts few q (amount p.plan) ids p.firsts.items is same named all.in_order.count all.in_order.show all.most)
+      (record { certificates = p.firsts.items; has = refl; in_order = all.in_order })

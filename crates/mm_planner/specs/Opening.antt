@@ -3,12 +3,12 @@ use Rattle.std.specs.Prelude.{◌≡◌, ℕ, ◌+◌, ◌<◌, ◌≤◌, List,
 use Rattle.std.specs.List.{sum_by, range_with_len}
 use Rattle.mm_problem.specs.Dumping.{Dumping, steps}
 use Rattle.mm_flow.specs.Flow.{Flow}
-use Rattle.mm_flow.specs.Balance.{IsBegun}
+use Rattle.mm_flow.specs.Balance.{IsBegun, KeepsSource}
 use Rattle.mm_flow.specs.Solution.{IsSolved}
 use Rattle.mm_flow.specs.declared.solved.Solved.{Solved}
+use Rattle.mm_plan.specs.declared.certificate.Cut.{Cut}
 use Rattle.mm_cut.specs.Cuts.{IsFirstCut, coming_sum, held_sum, leaving_sum}
 use Rattle.mm_planner.specs.declared.nodes.TheConstants.{SOURCE, SINK}
-use Rattle.mm_planner.specs.declared.in_order.FirstCut.{FirstCut}
 use Rattle.mm_planner.specs.Network.{Inflows, inflow, first_inflow, net_by}
 use Rattle.mm_planner.specs.Taken.{first_arc}
 
@@ -21,13 +21,27 @@ abbrev pub first_sum : ℕ → Dumping → Inflows → ℕ
 first_sum k q a = sum_by (λ t. sum_by (a t) (range_with_len 0 k)) (steps q)
 
 -- what comes to the first stores, and a flow does not bring, is at most the bound of a cut of them
-pub record IsCovered (k : ℕ) (q : Dumping) (f : Flow) (c : FirstCut) : Type 0 where
+pub record IsCovered (k : ℕ) (q : Dumping) (f : Flow) (c : Cut) : Type 0 where
   pub cut : IsFirstCut k q c.stretches.items c.by_channels.items
-  pub covers : first_sum k q (inflow q) + (held_sum q c.stretches.items + leaving_sum q c.stretches.items c.by_channels.items) ≤ coming_sum q c.stretches.items + first_sum k q (brought q f)
+  pub covers : first_sum k q
+      (inflow q) + (held_sum q c.stretches.items + leaving_sum q c.stretches.items c.by_channels.items) ≤ coming_sum q
+      c.stretches.items + first_sum k q (brought q f)
+
+-- a flow where the arcs of no more than that many of the first stores are open
+pub record IsBegunBy (k : ℕ) (q : Dumping) (s : Solved) : Type 0 where
+  pub stores : ℕ
+  pub few : stores ≤ k
+  pub begun : IsBegun (net_by q (first_inflow stores q)) SOURCE SINK s
+
+-- the flow goes on from one before, where the arcs of the first stores are open, and a cut covers them
+pub record IsOpened (k : ℕ) (q : Dumping) (old new : Solved) (c : Cut) : Type 0 where
+  pub solved : IsSolved (net_by q (first_inflow k q)) SOURCE SINK new
+  pub begun : IsBegun (net_by q (first_inflow k q)) SOURCE SINK new
+  pub kept : KeepsSource (net_by q (first_inflow k q)) SOURCE (slice_index old.flow.items) (slice_index new.flow.items)
+  pub covered : IsCovered k q (slice_index new.flow.items) c
 
 -- of the first store, of the first two and so on to these there is such a cut, and no other store's arcs are open
-pub record AreOpened (k : ℕ) (q : Dumping) (s : Solved) (cuts : List FirstCut) : Type 0 where
-  pub solved : 0 < k → IsSolved (net_by q (first_inflow k q)) SOURCE SINK s
+pub record AreOpened (k : ℕ) (q : Dumping) (s : Solved) (cuts : List Cut) : Type 0 where
   pub begun : IsBegun (net_by q (first_inflow k q)) SOURCE SINK s
   pub count : length cuts ≡ k
-  pub each : (j : ℕ) (c : FirstCut) → j < k → IsCovered (j + 1) q (slice_index s.flow.items) (slice_index_or cuts j c)
+  pub each : (j : ℕ) (c : Cut) → j < k → IsCovered (j + 1) q (slice_index s.flow.items) (slice_index_or cuts j c)

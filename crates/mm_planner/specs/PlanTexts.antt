@@ -5,7 +5,7 @@ use Rattle.mm_problem.specs.declared.fault.Fault.TheVariants as problem
 use Rattle.mm_problem.specs.Dumping.{Dumping}
 use Rattle.mm_plan.specs.Table.{amount}
 use Rattle.mm_plan.specs.Volumes.{loss}
-use Rattle.mm_plan.specs.Sheet.{SheetRows, CertificateRows}
+use Rattle.mm_plan.specs.Sheet.{SheetRows, CertificateRows, IsSheet, IsShapedFor}
 use Rattle.mm_plan.specs.Printing.{stretch_key, key_cmp}
 use Rattle.mm_cut.specs.declared.verdict.Verdict.{Verdict}
 use Rattle.mm_cut.specs.declared.verdict.Verdict.TheVariants.{Least, LeastInOrder}
@@ -13,7 +13,7 @@ use Rattle.mm_cut.specs.declared.fault.Fault.{Fault}
 use Rattle.mm_cut.specs.declared.fault.Fault.TheVariants.{NoMemory, Problem, Plan}
 use Rattle.mm_problem.specs.Texts.{problem_in, SaysProblem}
 use Rattle.mm_cut.specs.Checking.{SaysSheet, Checks}
-use Rattle.mm_planner.specs.Planned.{ShowsLeast}
+use Rattle.mm_planner.specs.Planned.{ShowsLeast, SheetShows}
 use Rattle.mm_planner.specs.InOrder.{ShowsInOrder}
 use Rattle.mm_planner.specs.declared.texts.PrintedPlan.{PrintedPlan}
 
@@ -22,13 +22,17 @@ pub record IsInOrder (s : SheetRows) : Type 0 where
   pub cut : IsSortedByKey (stretch_key s.stores) key_cmp s.cut
   pub counts : IsNonDecreasing s.by_channels
 
--- the text says this sheet for the problem, in the order in which sheets are printed, and the sheet shows that its plan loses least:
--- loss and bound are as it says, and are one number
+-- the text says this sheet for the problem, in the order in which sheets are printed, and the sheet shows that its plan
+-- loses least: loss and bound are as it says, and are one number
 pub record PlansFor (q : Dumping) (text : List ℕ) (sheet : SheetRows) : Type 0 where
   pub says_sheet : SaysSheet q text sheet
   pub shows_least : ShowsLeast q sheet.plan sheet.cut sheet.by_channels sheet.loss
   pub tight : sheet.bound ≡ pos sheet.loss
   pub in_order : IsInOrder sheet
+
+-- the sheet says nothing of the first stores
+abbrev pub IsPlain : Dumping → SheetRows → Type 0
+IsPlain q sheet = sheet.firsts ≡ None
 
 -- the sheet's certificates of the first stores show that its plan loses least in the order of the stores
 pub record SheetShowsInOrder (q : Dumping) (sheet : SheetRows) : Type 0 where
@@ -36,35 +40,45 @@ pub record SheetShowsInOrder (q : Dumping) (sheet : SheetRows) : Type 0 where
   pub has : sheet.firsts ≡ Some certificates
   pub in_order : ShowsInOrder q sheet.plan certificates
 
--- the plan and its text, which says the plan, and nothing of the first stores
-pub record IsPrintedFor (q : Dumping) (printed : PrintedPlan) : Type 0 where
+-- a sheet for the problem that shows that its plan loses least, and besides that
+pub record IsSheetFor (Besides : Dumping → SheetRows → Type 0) (q : Dumping) (s : SheetRows) : Type 0 where
+  pub is_sheet : IsSheet s
+  pub shape : IsShapedFor q s
+  pub shows_least : SheetShows q s
+  pub tight : s.bound ≡ pos s.loss
+  pub besides : Besides q s
+
+-- the plan and its text, which says a sheet that shows that the plan loses least, and besides that
+pub record IsPrintedAs (Besides : Dumping → SheetRows → Type 0) (q : Dumping) (printed : PrintedPlan) : Type 0 where
   pub sheet : SheetRows
   pub plans : PlansFor q printed.text.items sheet
-  pub plain : sheet.firsts ≡ None
+  pub besides : Besides q sheet
   pub plan_is : printed.sheet.plan ≡ sheet.plan
+
+-- the plan and its text, which says the plan, and nothing of the first stores
+abbrev pub IsPrintedFor : Dumping → PrintedPlan → Type 0
+IsPrintedFor q printed = IsPrintedAs IsPlain q printed
 
 -- the plan and its text, which says the plan, and shows that it loses least in the order of the stores
-pub record IsPrintedInOrder (q : Dumping) (printed : PrintedPlan) : Type 0 where
-  pub sheet : SheetRows
-  pub plans : PlansFor q printed.text.items sheet
-  pub shows : SheetShowsInOrder q sheet
-  pub plan_is : printed.sheet.plan ≡ sheet.plan
+abbrev pub IsPrintedInOrder : Dumping → PrintedPlan → Type 0
+IsPrintedInOrder q printed = IsPrintedAs SheetShowsInOrder q printed
 
--- the text says a sheet for the problem that the setup and the forecast say, and the sheet shows that its plan loses least
-pub record PlansLeast (setup forecast text : List ℕ) : Type 0 where
+-- the text says a sheet for the problem that the setup and the forecast say, and the sheet shows that its plan loses
+-- least, and besides that
+pub record PlansAs (Besides : Dumping → SheetRows → Type 0) (setup forecast text : List ℕ) : Type 0 where
   pub problem : Dumping
   pub sheet : SheetRows
   pub says_problem : SaysProblem setup forecast problem
   pub plans : PlansFor problem text sheet
-  pub plain : sheet.firsts ≡ None
+  pub besides : Besides problem sheet
 
--- besides, the sheet shows that its plan loses least in the order of the stores
-pub record PlansLeastInOrder (setup forecast text : List ℕ) : Type 0 where
-  pub problem : Dumping
-  pub sheet : SheetRows
-  pub says_problem : SaysProblem setup forecast problem
-  pub plans : PlansFor problem text sheet
-  pub shows : SheetShowsInOrder problem sheet
+-- the sheet says nothing of the first stores
+abbrev pub PlansLeast : List ℕ → List ℕ → List ℕ → Type 0
+PlansLeast setup forecast text = PlansAs IsPlain setup forecast text
+
+-- the sheet shows that its plan loses least in the order of the stores
+abbrev pub PlansLeastInOrder : List ℕ → List ℕ → List ℕ → Type 0
+PlansLeastInOrder setup forecast text = PlansAs SheetShowsInOrder setup forecast text
 
 -- the first fault of the setup and the forecast; want of memory is none, whoever lacked it
 abbrev pub IsPlanningFault : List ℕ → List ℕ → Fault → Type 0
@@ -73,14 +87,17 @@ IsPlanningFault setup forecast (Problem problem.NoMemory) = ⊥
 IsPlanningFault setup forecast (Problem e) = problem_in setup forecast ≡ Err e
 IsPlanningFault setup forecast (Plan e) = ⊥
 
+-- of a text that plans so only that verdict is said, of the loss of its plan
+abbrev CheckAs : (Dumping → SheetRows → Type 0) → (ℕ → Verdict) → Type 0
+CheckAs Besides says =
+    (setup forecast text : List ℕ) (planned : PlansAs Besides setup forecast text) (v : Verdict)
+    → Checks setup forecast text v
+    → v ≡ says (loss planned.problem (amount planned.sheet.plan))
+
 -- what is said of a text that plans least is `Least` of the loss of its plan
 abbrev pub PlansCheckLeast : Type 0
-PlansCheckLeast =
-    (setup forecast text : List ℕ) (planned : PlansLeast setup forecast text) (v : Verdict) → Checks setup forecast text v
-    → v ≡ Least (loss planned.problem (amount planned.sheet.plan))
+PlansCheckLeast = CheckAs IsPlain Least
 
 -- of a text that plans least in the order of the stores it is `LeastInOrder`
 abbrev pub PlansCheckLeastInOrder : Type 0
-PlansCheckLeastInOrder =
-    (setup forecast text : List ℕ) (planned : PlansLeastInOrder setup forecast text) (v : Verdict) → Checks setup forecast text v
-    → v ≡ LeastInOrder (loss planned.problem (amount planned.sheet.plan))
+PlansCheckLeastInOrder = CheckAs SheetShowsInOrder LeastInOrder

@@ -3,11 +3,10 @@
 
 mod arcs;
 mod building;
-mod in_order;
+mod by_flow;
+mod certified;
 mod laws;
 mod nodes;
-mod order_texts;
-mod ordered;
 mod planner;
 mod runs;
 mod sheets;
@@ -16,13 +15,11 @@ mod texts;
 mod way;
 
 pub use building::network_of;
-pub use in_order::{InOrder, plan_in_order_by_flow};
+pub use by_flow::{plan_by_flow, plan_in_order_by_flow};
 pub use laws::{plans_check_least, plans_check_least_in_order, solutions_plan};
 pub use mm_base::NoMemory;
 pub use mm_cut::{Fault, check_bytes};
 pub use nodes::{SINK, SOURCE};
-pub use order_texts::{plan_in_order_bytes, print_plan_in_order};
-pub use ordered::plan_in_order;
-pub use planner::{Planned, plan, plan_by_flow};
+pub use planner::{Planned, plan, plan_in_order};
 pub use sheets::{sheet, sheet_in_order, store_ids};
-pub use texts::{PrintedPlan, plan_bytes, print_plan};
+pub use texts::{PrintedPlan, plan_bytes, plan_in_order_bytes, print_plan, print_plan_in_order};

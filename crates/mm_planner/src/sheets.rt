@@ -1,14 +1,10 @@
 //! The sheet of a plan that loses least.
-ghost use Rattle.std.specs.Prelude.{◌≡◌, pos, None, map, All, IfOk};
+ghost use Rattle.std.specs.Prelude.{◌≡◌, map, All, IfOk};
 ghost use Rattle.mm_problem.specs.Dumping.{IsDumping};
 ghost use Rattle.mm_base.specs.Id.{IsIdField};
-ghost use Rattle.mm_plan.specs.Sheet.{IsSheet, IsShapedFor};
-ghost use Rattle.mm_planner.specs.Planned.{ShowsLeast};
-ghost use Rattle.mm_planner.specs.PlanTexts.{SheetShowsInOrder};
+ghost use Rattle.mm_planner.specs.PlanTexts.{IsPlain, IsSheetFor, SheetShowsInOrder};
 
-use crate::in_order::InOrder;
-use crate::ordered::plan_in_order;
-use crate::planner::{Planned, plan};
+use crate::planner::{plan, plan_in_order};
 use mm_base::NoMemory;
 use mm_cut::cuts_are_few;
 use mm_plan::Sheet;
@@ -31,44 +27,26 @@ pub fn store_ids(alloc: Global, problem: &Problem) -> Result<Vec<StoreId>, NoMem
 /// The sheet of a dump plan that loses least and leaves no window idle: the stores, the plan with its loss, and a cut
 /// whose bound is the loss.
 pub fn sheet(alloc: Global, problem: &Problem) -> Result<Sheet, NoMemory>
-    ensures is_sheet { IfOk result IsSheet }
-    ensures stores { IfOk result (IsShapedFor problem.now) }
-    ensures shows_least { IfOk result
-        (λ sheet. ShowsLeast problem.now sheet.plan sheet.cut sheet.by_channels sheet.loss) }
-    ensures tight { IfOk result (λ sheet. sheet.bound ≡ pos sheet.loss) }
-    ensures plain { IfOk result (λ sheet. sheet.firsts ≡ None) }
+    ensures { IfOk result (IsSheetFor IsPlain problem.now) }
 {
     let stores = store_ids(alloc, problem)?;
-    let Planned {
-        plan,
-        cut,
-        by_channels,
-        loss,
-    } = plan(alloc, problem)?;
-    let bound = loss as i64;
+    let planned = plan(alloc, problem)?;
     cuts_are_few();
-    Ok(Sheet::new(stores, plan, loss, cut, by_channels, bound))
+    Ok(Sheet::new(stores, planned.plan, planned.certificate, None))
 }
 
-/// The sheet of a dump plan that serves the stores in the problem's order: besides the cut of all stores it has certificates of
-/// the first store, of the first two and so on up to all but one.
+/// The sheet of a dump plan that serves the stores in the problem's order: besides the cut of all stores it has
+/// certificates of the first store, of the first two and so on up to all but one.
 pub fn sheet_in_order(alloc: Global, problem: &Problem) -> Result<Sheet, NoMemory>
-    ensures is_sheet { IfOk result IsSheet }
-    ensures stores { IfOk result (IsShapedFor problem.now) }
-    ensures shows_least { IfOk result
-        (λ sheet. ShowsLeast problem.now sheet.plan sheet.cut sheet.by_channels sheet.loss) }
-    ensures tight { IfOk result (λ sheet. sheet.bound ≡ pos sheet.loss) }
-    ensures shows_in_order { IfOk result (SheetShowsInOrder problem.now) }
+    ensures { IfOk result (IsSheetFor SheetShowsInOrder problem.now) }
 {
     let stores = store_ids(alloc, problem)?;
-    let InOrder { planned, firsts } = plan_in_order(alloc, problem)?;
-    let Planned {
-        plan,
-        cut,
-        by_channels,
-        loss,
-    } = planned;
+    let planned = plan_in_order(alloc, problem)?;
     cuts_are_few();
-    let sheet = Sheet::new(stores, plan, loss, cut, by_channels, loss as i64);
-    Ok(sheet.with_firsts(firsts))
+    Ok(Sheet::new(
+        stores,
+        planned.plan,
+        planned.certificate,
+        Some(planned.firsts),
+    ))
 }

@@ -2,9 +2,10 @@
 ghost use Rattle.std.specs.Prelude.{IfOk};
 ghost use Rattle.mm_base.specs.Reading.{IfRefused};
 ghost use Rattle.mm_cut.specs.declared.fault.Fault.TheVariants as fault;
-ghost use Rattle.mm_planner.specs.PlanTexts.{IsPrintedFor, PlansLeast, IsPlanningFault};
+ghost use Rattle.mm_planner.specs.PlanTexts.{IsPrintedFor, IsPrintedInOrder, PlansLeast, PlansLeastInOrder};
+ghost use Rattle.mm_planner.specs.PlanTexts.{IsPlanningFault};
 
-use crate::sheets::sheet;
+use crate::sheets::{sheet, sheet_in_order};
 use mm_base::NoMemory;
 use mm_cut::Fault;
 use mm_plan::Sheet;
@@ -19,6 +20,7 @@ pub struct PrintedPlan {
 }
 
 /// Plans, and prints the sheet.
+#[tactic(auto, using(crate::proofs::PlanTextLemmas::printed_plain))]
 pub fn print_plan(alloc: Global, problem: &Problem) -> Result<PrintedPlan, NoMemory>
     ensures { IfOk result (IsPrintedFor problem.now) }
 {
@@ -35,5 +37,27 @@ pub fn plan_bytes(alloc: Global, setup: &[u8], forecast: &[u8]) -> Result<Vec<u8
 {
     let problem = read_problem(alloc, setup, forecast)?;
     let printed = print_plan(alloc, &problem)?;
+    Ok(printed.text)
+}
+
+/// Plans in the order of the stores, and prints the sheet.
+#[tactic(auto, using(crate::proofs::PlanTextLemmas::printed_in_order))]
+pub fn print_plan_in_order(alloc: Global, problem: &Problem) -> Result<PrintedPlan, NoMemory>
+    ensures { IfOk result (IsPrintedInOrder problem.now) }
+{
+    let sheet = sheet_in_order(alloc, problem)?;
+    let text = sheet.print(alloc)?;
+    Ok(PrintedPlan { sheet, text })
+}
+
+/// The text of a dump plan that serves the stores in the setup's order, with the cuts that show that it loses least of
+/// the first store, of the first two and so on to all of them. Otherwise the first fault, of the setup and then of the
+/// forecast.
+pub fn plan_in_order_bytes(alloc: Global, setup: &[u8], forecast: &[u8]) -> Result<Vec<u8>, Fault>
+    ensures text { IfOk result (λ text. PlansLeastInOrder setup.now forecast.now text.items) }
+    ensures refused { IfRefused fault.NoMemory result (IsPlanningFault setup.now forecast.now) }
+{
+    let problem = read_problem(alloc, setup, forecast)?;
+    let printed = print_plan_in_order(alloc, &problem)?;
     Ok(printed.text)
 }

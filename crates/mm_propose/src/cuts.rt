@@ -4,7 +4,7 @@ ghost use Rattle.std.specs.Prelude.{◌<◌, length};
 use crate::node::Node;
 use crate::sets::{NodeSet, StoreSet};
 use crate::spans::Span;
-use mm_plan::{NoMemory, Stretch};
+use mm_plan::{Cut, NoMemory, Stretch};
 use mm_problem::Problem;
 use std::alloc::Global;
 
@@ -86,20 +86,9 @@ fn counts_of(alloc: Global, spans: &[Span]) -> Result<Vec<u32>, NoMemory> {
     Ok(counts)
 }
 
-/// A cut with the steps that it counts by channels. Nothing is known of it.
-#[derive(Debug, Drop)]
-pub struct ProposedCut {
-    pub stretches: Vec<Stretch>,
-    pub by_channels: Vec<u32>,
-}
-
 /// The cut that the last search says.
-pub(crate) fn cut_of(
-    alloc: Global,
-    problem: &Problem,
-    spans: &[Span],
-) -> Result<ProposedCut, NoMemory> {
-    Ok(ProposedCut {
+pub(crate) fn cut_of(alloc: Global, problem: &Problem, spans: &[Span]) -> Result<Cut, NoMemory> {
+    Ok(Cut {
         stretches: stretches_of(alloc, problem, spans)?,
         by_channels: counts_of(alloc, spans)?,
     })

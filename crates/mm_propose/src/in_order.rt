@@ -2,36 +2,32 @@
 ghost use Rattle.std.specs.Prelude.{IfOk};
 ghost use Rattle.mm_plan.specs.Table.{HasShape};
 
-use crate::cuts::ProposedCut;
 use crate::lane::Lane;
 use crate::order_cuts::cut_of_first;
+use crate::proposal::Proposal;
 use crate::serve::Service;
 use crate::spans::{Span, spans_of};
 use crate::stores::Stores;
-use mm_plan::{NoMemory, Plan};
+use mm_plan::{Cut, NoMemory, Plan};
 use mm_problem::{MAX_BLOCKS, Problem};
 use std::alloc::Global;
 
-/// A plan, and cuts of the first store, of the first two and so on to all, with what these stores lose. Nothing is known of them but that the
-/// plan is one for the problem.
-#[derive(Debug, Drop)]
-pub struct OrderProposal {
-    pub plan: Plan,
-    pub cuts: Vec<ProposedCut>,
-    pub losses: Vec<u64>,
+// The cut of nothing.
+fn no_cut(alloc: Global) -> Cut {
+    Cut {
+        stretches: Vec::new(alloc),
+        by_channels: Vec::new(alloc),
+    }
 }
 
 // The last of these cuts once more, and where there is none that of nothing.
-fn last_cut(alloc: Global, cuts: &[ProposedCut]) -> Result<ProposedCut, NoMemory> {
+fn last_cut(alloc: Global, cuts: &[Cut]) -> Result<Cut, NoMemory> {
     match cuts.last() {
-        Some(cut) => Ok(ProposedCut {
+        Some(cut) => Ok(Cut {
             stretches: Vec::from_slice(alloc, cut.stretches.as_slice())?,
             by_channels: Vec::from_slice(alloc, cut.by_channels.as_slice())?,
         }),
-        None => Ok(ProposedCut {
-            stretches: Vec::new(alloc),
-            by_channels: Vec::new(alloc),
-        }),
+        None => Ok(no_cut(alloc)),
     }
 }
 
@@ -47,9 +43,9 @@ fn write_lane(plan: &mut Plan, problem: &Problem, spans: &[Span], store: usize, 
     }
 }
 
-/// A plan for the problem that is meant to serve the stores in order, and cuts of the first stores, which mm_cut can look at. Nothing is
-/// promised of what the plan loses, nor that it fits.
-pub fn propose_in_order(alloc: Global, problem: &Problem) -> Result<OrderProposal, NoMemory>
+/// A plan for the problem that is meant to serve the stores in order, and cuts of the first stores, which mm_cut can
+/// look at. Nothing is promised of what the plan loses, nor that it fits.
+pub fn propose_in_order(alloc: Global, problem: &Problem) -> Result<Proposal, NoMemory>
     ensures shape { IfOk result (λ proposal. HasShape problem.now proposal.plan) }
 {
     let stores = Stores::of(problem);
@@ -58,7 +54,6 @@ pub fn propose_in_order(alloc: Global, problem: &Problem) -> Result<OrderProposa
     let mut service = Service::new(alloc, spans);
     let mut plan = Plan::zero(alloc, problem)?;
     let mut cuts = Vec::new(alloc);
-    let mut losses = Vec::new(alloc);
     for _ in 0..problem.stores() {
         let before = service.lost;
         service.serve(&stores, spans)?;
@@ -74,10 +69,14 @@ pub fn propose_in_order(alloc: Global, problem: &Problem) -> Result<OrderProposa
             last_cut(alloc, cuts.as_slice())?
         };
         cuts.push(cut)?;
-        losses.push(service.lost)?;
     }
     for (store, lane) in service.lanes.iter().enumerate() {
         write_lane(&mut plan, problem, spans, store, lane);
     }
-    Ok(OrderProposal { plan, cuts, losses })
+    let cut = cuts.pop().unwrap_or_else(|| no_cut(alloc));
+    Ok(Proposal {
+        plan,
+        cut,
+        firsts: cuts,
+    })
 }

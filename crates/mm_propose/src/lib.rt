@@ -24,6 +24,5 @@ mod spans;
 mod stores;
 mod windows;
 
-pub use cuts::ProposedCut;
-pub use in_order::{OrderProposal, propose_in_order};
+pub use in_order::propose_in_order;
 pub use proposal::{Proposal, propose};

@@ -1,12 +1,11 @@
 //! The cuts of the first stores: runs of a store that the lost blocks could reach.
 ghost use Rattle.std.specs.Prelude.{◌<◌, length};
 
-use crate::cuts::ProposedCut;
 use crate::lane::Lane;
 use crate::reached::Reached;
 use crate::span_sets::SpanSet;
 use crate::spans::Span;
-use mm_plan::{NoMemory, Stretch};
+use mm_plan::{Cut, NoMemory, Stretch};
 use mm_problem::Problem;
 use std::alloc::Global;
 
@@ -26,8 +25,8 @@ fn last_step(spans: &[Span], at: usize) -> u32 {
     }
 }
 
-// Adds the runs of one store: those of the spans in which more of it could leave or be kept, each with the span after it, in which the store
-// is full, and the spans in which it loses blocks that could not leave before.
+// Adds the runs of one store: those of the spans in which more of it could leave or be kept, each with the span after
+// it, in which the store is full, and the spans in which it loses blocks that could not leave before.
 fn add_runs(
     cut: &mut Vec<Stretch>,
     problem: &Problem,
@@ -63,7 +62,7 @@ pub(crate) fn cut_of_first(
     spans: &[Span],
     lanes: &[Lane],
     dead: &Reached,
-) -> Result<ProposedCut, NoMemory> {
+) -> Result<Cut, NoMemory> {
     let mut stretches = Vec::new(alloc);
     let mut by_channels = Vec::new(alloc);
     let mut inner = SpanSet::NONE;
@@ -81,7 +80,7 @@ pub(crate) fn cut_of_first(
         };
         by_channels.push(last_step(spans, at))?;
     }
-    Ok(ProposedCut {
+    Ok(Cut {
         stretches,
         by_channels,
     })

@@ -3,27 +3,29 @@ ghost use Rattle.std.specs.Prelude.{◌≤◌, length, IfOk};
 ghost use Rattle.mm_plan.specs.Table.{HasShape};
 
 use crate::arcs::Arcs;
-use crate::cuts::{ProposedCut, cut_of};
+use crate::cuts::cut_of;
 use crate::greedy::dump_by_next_overflow;
 use crate::moves::{Walks, move_lost};
 use crate::search::search;
 use crate::slots::Slot;
 use crate::spans::{Span, spans_of};
 use crate::stores::Stores;
-use mm_plan::{NoMemory, Plan, Stretch};
+use mm_plan::{Cut, NoMemory, Plan};
 use mm_problem::{MAX_BLOCKS, Problem};
 use std::alloc::Global;
 
 // How many searches are made. Few problems want more than ten.
 const SEARCHES: u32 = 256;
 
-/// A plan, and a cut with the steps that it counts by channels. Nothing is known of them but that the plan is one for the
-/// problem.
+/// A plan, and cuts. Nothing is known of them but that the plan is one for the problem.
 #[derive(Debug, Drop)]
 pub struct Proposal {
     pub plan: Plan,
-    pub cut: Vec<Stretch>,
-    pub by_channels: Vec<u32>,
+    /// The cut of all stores.
+    pub cut: Cut,
+    /// Those of the first store, of the first two and so on up to all but one, where the plan is meant to serve the
+    /// stores in order.
+    pub firsts: Vec<Cut>,
 }
 
 // Writes what leaves the stores in a span into its last step.
@@ -62,8 +64,8 @@ pub(crate) fn look_at_arcs(stores: &Stores, spans: &mut [Span]) {
     }
 }
 
-// Moves lost blocks as long as a search finds where to. The last search finds what the cut is made of. Where nothing is lost,
-// there is nothing to move.
+// Moves lost blocks as long as a search finds where to. The last search finds what the cut is made of. Where nothing is
+// lost, there is nothing to move.
 fn improve(alloc: Global, stores: &Stores, spans: &mut [Span]) -> Result<(), NoMemory> {
     let mut walks = Walks::new(alloc);
     look_at_arcs(stores, spans);
@@ -76,8 +78,8 @@ fn improve(alloc: Global, stores: &Stores, spans: &mut [Span]) -> Result<(), NoM
     Ok(())
 }
 
-/// A plan for the problem and a cut, which `verify` (mm_cut) can look at. Nothing is promised of what the plan loses, nor that
-/// it fits.
+/// A plan for the problem and a cut, which `verify` (mm_cut) can look at. Nothing is promised of what the plan loses,
+/// nor that it fits.
 pub fn propose(alloc: Global, problem: &Problem) -> Result<Proposal, NoMemory>
     ensures shape { IfOk result (λ proposal. HasShape problem.now proposal.plan) }
 {
@@ -87,13 +89,7 @@ pub fn propose(alloc: Global, problem: &Problem) -> Result<Proposal, NoMemory>
         improve(alloc, &stores, spans.as_mut_slice())?;
     }
     let plan = plan_of(alloc, problem, spans.as_slice())?;
-    let ProposedCut {
-        stretches: cut,
-        by_channels,
-    } = cut_of(alloc, problem, spans.as_slice())?;
-    Ok(Proposal {
-        plan,
-        cut,
-        by_channels,
-    })
+    let cut = cut_of(alloc, problem, spans.as_slice())?;
+    let firsts = Vec::new(alloc);
+    Ok(Proposal { plan, cut, firsts })
 }

@@ -17,7 +17,7 @@ use Rattle.mm_plan.specs.Fit.{Fits}
 use Rattle.mm_plan.specs.declared.stretch.Stretch.{Stretch}
 use Rattle.mm_cut.specs.Changes.{OnlyCountedHelps}
 use Rattle.mm_cut.specs.Cuts.{IsCut, bound, counts_window, CutsBoundLosses}
-use Rattle.mm_planner.specs.Planned.{ShowsLeast}
+use Rattle.mm_planner.specs.Planned.{ShowsLeast, IsPlan}
 use Rattle.mm_planner.specs.declared.planner.Planned.{Planned}
 use Rattle.mm_sensitivity.specs.declared.item.Item.{Item}
 use Rattle.mm_sensitivity.specs.declared.item.Item.TheVariants.{Window, Size, Limit, StepLimit}
@@ -44,16 +44,17 @@ matched_least bounds q x ds ts n fits cut loses bounded = record {
   loss = loses;
 }
 
--- a plan that shows that it loses least
-pub shown_least : (q : Dumping) (x : Table) (ds : List Stretch) (ts : List ℕ) (n : ℕ) → ShowsLeast q x ds ts n
-    → IsLeastLoss q n
-shown_least q x ds ts n shows = record {
-  plan = amount x;
-  cut = ds;
-  by_channels = ts;
-  planned = record { plan = shows.least; cut = shows.cut; tight = shows.bound ∙ ap pos (sym shows.loss) };
-  loss = shows.loss;
-}
+-- a plan that loses least, with its certificate
+pub plan_least : (q : Dumping) (p : Planned) → IsPlan q p → IsLeastLoss q p.certificate.loss
+plan_least q p is =
+    let shows = is.shows_least in
+    record {
+      plan = amount p.plan;
+      cut = p.certificate.cut;
+      by_channels = p.certificate.by_channels;
+      planned = record { plan = shows.least; cut = shows.cut; tight = shows.bound ∙ ap pos (sym shows.loss) };
+      loss = shows.loss;
+    }
 
 -- ---- the problem with another number
 
@@ -70,13 +71,10 @@ with_own q (Limit c) is =
 with_own q (StepLimit k t) is = ap (λ ls. record q { step_limits = ls })
     (set-get_or q.step_limits (grid_place (length q.limited) t k) 0)
 
--- where the number is no smaller, a store has room for all with which it begins
-pub fitted_whole : (q : Dumping) (i : Item) (b : ℕ) → IsDumping q → IsItem q i → number q i ≤ b → fitted q i b
-    ≡ with_number q i b
-fitted_whole q (Window t) b is item larger = refl
-fitted_whole q (Size s) b is item larger =
-    let fits = (is.stores.each s no_row item).start in
-    let same : min (start q s) b ≡ start q s = omega (arith, fits, larger) in
+-- where a store begins with no more than it has room for, all of it stands there
+whole_part : (q : Dumping) (s b : ℕ) → start q s ≤ b → fitted q (Size s) b ≡ with_number q (Size s) b
+whole_part q s b fits =
+    let same : min (start q s) b ≡ start q s = omega (arith, fits) in
     ap (λ n. record q {
       rows = set q.rows s (record {
         id = (row q s).id;
@@ -86,6 +84,13 @@ fitted_whole q (Size s) b is item larger =
         channel = (row q s).channel;
       });
     }) same
+
+-- where the number is no smaller, a store has room for all with which it begins
+pub fitted_whole : (q : Dumping) (i : Item) (b : ℕ) → IsDumping q → IsItem q i → number q i ≤ b → fitted q i b
+    ≡ with_number q i b
+fitted_whole q (Window t) b is item larger = refl
+fitted_whole q (Size s) b is item larger = let fits = (is.stores.each s no_row item).start in whole_part q s b
+    (omega (arith, fits, larger))
 fitted_whole q (Limit c) b is item larger = refl
 fitted_whole q (StepLimit k t) b is item larger = refl
 
@@ -125,20 +130,6 @@ fits_part q (Window t) b x item fits = fits
 fits_part q (Size s) b x item fits = part_fits q s b item x fits
 fits_part q (Limit c) b x item fits = fits
 fits_part q (StepLimit k t) b x item fits = fits
-
--- where a store begins with no more than it has room for, all of it stands there
-whole_part : (q : Dumping) (s b : ℕ) → start q s ≤ b → fitted q (Size s) b ≡ with_number q (Size s) b
-whole_part q s b fits =
-    let same : min (start q s) b ≡ start q s = omega (arith, fits) in
-    ap (λ n. record q {
-      rows = set q.rows s (record {
-        id = (row q s).id;
-        size = b;
-        start = n;
-        kind = (row q s).kind;
-        channel = (row q s).channel;
-      });
-    }) same
 
 -- the least loss of a problem with a smaller store: that of the problem in which it begins full, and what it has no
 -- room for
@@ -308,31 +299,33 @@ nothing_wider bounds q t b item wider most saved =
 -- ---- what is found of the changed problem r
 
 module _ (q : Dumping) (p : Planned) (i : Item) (base : IsPlanFor q p) (item : IsItem q i) where
-  least_here : IsLeastLoss q p.loss
-  least_here = shown_least q p.plan p.cut.items p.by_channels.items p.loss base.shows
+  least_here : IsLeastLoss q p.certificate.loss
+  least_here = plan_least q p base.plan
 
   pub shape_there : (b : ℕ) → HasShape (fitted q i b) p.plan
-  shape_there b = fitted_shape q i b p.plan base.shows.shape
+  shape_there b = fitted_shape q i b p.plan base.plan.shows_least.shape
 
-  pub alike_own : (b : ℕ) → number q i ≡ b → IsLeastLoss (fitted q i b) p.loss
-  alike_own b same = subst (λ k. IsLeastLoss (fitted q i k) p.loss) same
-      (own_least q i p.loss base.problem item least_here)
+  pub alike_own : (b : ℕ) → number q i ≡ b → IsLeastLoss (fitted q i b) p.certificate.loss
+  alike_own b same = subst (λ k. IsLeastLoss (fitted q i k) p.certificate.loss) same
+      (own_least q i p.certificate.loss base.problem item least_here)
 
   module _ (helps : OnlyCountedHelps) (b m : ℕ) (least : IsLeastLoss (fitted q i b) m) where
     whole : number q i ≤ b → IsLeastLoss (with_number q i b) m
     whole larger = subst (λ a. IsLeastLoss a m) (fitted_whole q i b base.problem item larger) least
 
-    pub less_there : number q i ≤ b → m ≤ p.loss
-    less_there larger = less_lost helps q base.problem i item b p.loss m larger least_here (whole larger)
+    pub less_there : number q i ≤ b → m ≤ p.certificate.loss
+    less_there larger = less_lost helps q base.problem i item b p.certificate.loss m larger least_here (whole larger)
 
-    pub saved_there : number q i ≤ b → IsSaved q (with_number q i b) (p.loss - m)
-    saved_there larger = is_saved helps q base.problem i item b p.loss m larger least_here (whole larger)
+    pub saved_there : number q i ≤ b → IsSaved q (with_number q i b) (p.certificate.loss - m)
+    saved_there larger = is_saved helps q base.problem i item b p.certificate.loss m larger least_here (whole larger)
 
-    pub more_there : b ≤ number q i → p.loss ≤ m + spilled q i b
-    more_there smaller = more_lost helps q base.problem i item b p.loss m smaller least_here least
+    pub more_there : b ≤ number q i → p.certificate.loss ≤ m + spilled q i b
+    more_there smaller = more_lost helps q base.problem i item b p.certificate.loss m smaller least_here least
 
-    pub costs_there : CutsBoundLosses → b ≤ number q i → IsSaved (with_number q i b) q (m + spilled q i b - p.loss)
-    costs_there bounds smaller = costs helps q base.problem i item b p.loss m smaller least_here least bounds
+    pub costs_there : CutsBoundLosses → b ≤ number q i
+        → IsSaved (with_number q i b) q (m + spilled q i b - p.certificate.loss)
+    costs_there bounds smaller = costs helps q base.problem i item b p.certificate.loss m smaller least_here least
+        bounds
 
 -- the least number is no larger than any
 pub least_first : (q : Dumping) (i : Item) → IsDumping q → IsItem q i → least_number i ≤ number q i

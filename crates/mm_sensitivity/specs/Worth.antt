@@ -5,7 +5,7 @@ use Rattle.mm_problem.specs.Dumping.{Dumping, IsDumping, window}
 use Rattle.mm_problem.specs.Changed.{with_window}
 use Rattle.mm_plan.specs.Volumes.{Amounts, loss}
 use Rattle.mm_plan.specs.declared.stretch.Stretch.{Stretch}
-use Rattle.mm_planner.specs.Planned.{IsPlanned, ShowsLeast}
+use Rattle.mm_planner.specs.Planned.{IsPlanned, IsPlan}
 use Rattle.mm_planner.specs.declared.planner.Planned.{Planned}
 use Rattle.mm_sensitivity.specs.declared.worth.Worth.{Worth}
 use Rattle.mm_sensitivity.specs.Items.{IsItem, number, next_number, least_number, with_number}
@@ -21,8 +21,7 @@ pub record IsLeastLoss (q : Dumping) (n : ℕ) : Type 0 where
 -- a plan that loses least in the problem, with a cut that shows it
 pub record IsPlanFor (q : Dumping) (p : Planned) : Type 0 where
   pub problem : IsDumping q
-  pub shows : ShowsLeast q p.plan p.cut.items p.by_channels.items p.loss
-  pub most : p.loss ≤ 2 * MAX_BLOCKS * MAX_STEPS * MAX_STORES
+  pub plan : IsPlan q p
 
 -- the least loss of the second problem is k less than that of the first
 abbrev pub Saves : Dumping → Dumping → ℕ → Type 0

@@ -26,9 +26,9 @@ fn is_listed(steps: &[u32], step: u32) -> bool
 
 // Whether the cut of the base counts the window of a step.
 fn counts_window(base: &Planned, step: u32) -> bool
-    ensures { result ≡ counts_window base.now.cut.items base.now.by_channels.items step }
+    ensures { result ≡ counts_window base.now.certificate.cut base.now.certificate.by_channels step }
 {
-    is_inner(base.cut.as_slice(), step) && !is_listed(base.by_channels.as_slice(), step)
+    is_inner(base.certificate.cut(), step) && !is_listed(base.certificate.by_channels(), step)
 }
 
 // The bound of the cut of the base where the window of a step is another.
@@ -37,9 +37,10 @@ fn window_bound(problem: &Problem, base: &Planned, step: u32, blocks: u32) -> i6
     requires first { 1 ≤ step }
     requires last { step ≤ length problem.now.windows }
     requires most { blocks ≤ MAX_BLOCKS }
-    ensures { result ≡ bound (with_window problem.now step blocks) base.now.cut.items base.now.by_channels.items }
+    ensures { result ≡ bound (with_window problem.now step blocks)
+        base.now.certificate.cut base.now.certificate.by_channels }
 {
-    let loss = base.loss as i64;
+    let loss = base.certificate.loss() as i64;
     if counts_window(base, step) {
         loss + i64::from(problem.window(step)) - i64::from(blocks)
     } else {
@@ -50,12 +51,12 @@ fn window_bound(problem: &Problem, base: &Planned, step: u32, blocks: u32) -> i6
 // The bound of the cut of the base, where it is a cut of the problem.
 fn cut_bound(problem: &Problem, base: &Planned) -> Option<i64>
     ensures cut { IfSome result
-        (λ _. IsCut problem.now base.now.cut.items base.now.by_channels.items) }
+        (λ _. IsCut problem.now base.now.certificate.cut base.now.certificate.by_channels) }
     ensures bound { IfSome result
-        (λ b. b ≡ bound problem.now base.now.cut.items base.now.by_channels.items) }
+        (λ b. b ≡ bound problem.now base.now.certificate.cut base.now.certificate.by_channels) }
 {
-    let stretches = base.cut.as_slice();
-    let counts = base.by_channels.as_slice();
+    let stretches = base.certificate.cut();
+    let counts = base.certificate.by_channels();
     if first_bad(problem, stretches).is_some() {
         return None;
     }
@@ -96,9 +97,9 @@ fn bound_there(
     requires most { blocks ≤ MAX_BLOCKS }
     requires changed { changed.now ≡ fitted problem.now item blocks }
     ensures cut { IfSome result
-        (λ _. IsCut changed.now base.now.cut.items base.now.by_channels.items) }
+        (λ _. IsCut changed.now base.now.certificate.cut base.now.certificate.by_channels) }
     ensures bound { IfSome result
-        (λ b. b ≡ bound changed.now base.now.cut.items base.now.by_channels.items) }
+        (λ b. b ≡ bound changed.now base.now.certificate.cut base.now.certificate.by_channels) }
 {
     match item {
         Item::Window(step) => {
@@ -121,8 +122,8 @@ fn shown(
     bound_here: i64,
 ) -> Result<Option<u64>, NoMemory>
     requires shape { HasShape problem.now base.now.plan }
-    requires cut { IsCut problem.now base.now.cut.items base.now.by_channels.items }
-    requires bound { bound_here ≡ bound problem.now base.now.cut.items base.now.by_channels.items }
+    requires cut { IsCut problem.now base.now.certificate.cut base.now.certificate.by_channels }
+    requires bound { bound_here ≡ bound problem.now base.now.certificate.cut base.now.certificate.by_channels }
     ensures least { IfOk result (λ found. IfSome found (IsLeastLoss problem.now)) }
     ensures most { IfOk result
         (λ found. IfSome found (λ loss. loss ≤ 2 * MAX_BLOCKS * MAX_STEPS * MAX_STORES)) }
@@ -148,7 +149,7 @@ fn shown(
 fn loses_alike(problem: &Problem, base: &Planned, item: Item, blocks: u32) -> bool
     requires base { IsPlanFor problem.now base.now }
     requires item { IsItem problem.now item }
-    ensures { IsTrue result → IsLeastLoss (fitted problem.now item blocks) base.now.loss }
+    ensures { IsTrue result → IsLeastLoss (fitted problem.now item blocks) base.now.certificate.loss }
 {
     cuts_bound_losses();
     let now = number(problem, item);
@@ -159,7 +160,7 @@ fn loses_alike(problem: &Problem, base: &Planned, item: Item, blocks: u32) -> bo
 }
 
 // The least loss of the problem with another number, where a store begins with as many blocks as it has room for.
-#[tactic(auto, using(crate::proofs::Found::shown_least, crate::proofs::Found::shape_there))]
+#[tactic(auto, using(crate::proofs::Found::plan_least, crate::proofs::Found::shape_there))]
 fn least_loss(
     alloc: Global,
     problem: &Problem,
@@ -175,7 +176,7 @@ fn least_loss(
     ensures most { IfOk result (λ loss. loss ≤ 2 * MAX_BLOCKS * MAX_STEPS * MAX_STORES) }
 {
     if loses_alike(problem, base, item, blocks) {
-        return Ok(base.loss);
+        return Ok(base.certificate.loss());
     }
     let changed = fitted(alloc, problem, item, blocks)?;
     if let Some(bound) = bound_there(problem, &changed, base, item, blocks) {
@@ -183,7 +184,7 @@ fn least_loss(
             return Ok(loss);
         }
     }
-    Ok(plan(alloc, &changed)?.loss)
+    Ok(plan(alloc, &changed)?.certificate.loss())
 }
 
 // How many blocks fewer the least plan loses where the number is this larger one. The base is planned for the problem.
@@ -203,7 +204,7 @@ pub(crate) fn saved(
 {
     only_counted_helps();
     let loss = least_loss(alloc, problem, base, item, blocks)?;
-    Ok(base.loss - loss)
+    Ok(base.certificate.loss() - loss)
 }
 
 // How many blocks more it loses where the number is the least that may stand there.
@@ -221,5 +222,5 @@ pub(crate) fn cost(
     only_counted_helps();
     let least = least_number(item);
     let loss = least_loss(alloc, problem, base, item, least)?;
-    Ok(loss + spilled(problem, item, least) - base.loss)
+    Ok(loss + spilled(problem, item, least) - base.certificate.loss())
 }

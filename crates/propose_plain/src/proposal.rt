@@ -9,7 +9,7 @@ use crate::moves::{Walks, move_lost};
 use crate::search::search;
 use crate::spans::{Span, spans_of};
 use crate::stores::Stores;
-use mm_plan::{NoMemory, Plan};
+use mm_plan::{Cut, NoMemory, Plan};
 use mm_problem::{MAX_BLOCKS, Problem};
 use mm_propose::Proposal;
 use std::alloc::Global;
@@ -62,8 +62,8 @@ fn improve(alloc: Global, stores: &Stores, spans: &mut [Span]) -> Result<(), NoM
     Ok(())
 }
 
-/// A plan for the problem and a cut, which `verify` (mm_cut) can look at. Nothing is promised of what the plan loses, nor that
-/// it fits.
+/// A plan for the problem and a cut, which `verify` (mm_cut) can look at. Nothing is promised of what the plan loses,
+/// nor that it fits.
 pub fn propose(alloc: Global, problem: &Problem) -> Result<Proposal, NoMemory>
     ensures shape { IfOk result (λ proposal. HasShape problem.now proposal.plan) }
 {
@@ -73,8 +73,11 @@ pub fn propose(alloc: Global, problem: &Problem) -> Result<Proposal, NoMemory>
     improve(alloc, &stores, spans.as_mut_slice())?;
     Ok(Proposal {
         plan: plan_of(alloc, problem, spans.as_slice())?,
-        cut: stretches_of(alloc, problem, spans.as_slice())?,
-        by_channels: counts_of(alloc, spans.as_slice())?,
+        cut: Cut {
+            stretches: stretches_of(alloc, problem, spans.as_slice())?,
+            by_channels: counts_of(alloc, spans.as_slice())?,
+        },
+        firsts: Vec::new(alloc),
     })
 }
 

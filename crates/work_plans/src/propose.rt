@@ -29,8 +29,9 @@ fn is_shown(alloc: Global, problem: &Problem) -> Result<bool> {
         return Ok(false);
     };
     let loss = loss_of(problem, &plan);
-    let (cut, by_channels) = (proposal.cut.as_slice(), proposal.by_channels.as_slice());
-    let verdict = verify(problem, &plan, cut, by_channels, loss, loss as i64);
+    let cut = &proposal.cut;
+    let (stretches, counts) = (cut.stretches.as_slice(), cut.by_channels.as_slice());
+    let verdict = verify(problem, &plan, stretches, counts, loss, loss as i64);
     Ok(matches!(verdict, Verdict::Least(_)))
 }
 

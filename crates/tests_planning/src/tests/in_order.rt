@@ -1,4 +1,5 @@
-//! Plans that serve the stores in the setup's order: a problem that is worked by hand, and what the checker says of changed texts.
+//! Plans that serve the stores in the setup's order: a problem that is worked by hand, and what the checker says of
+//! changed texts.
 ghost use Rattle.mm_plan.specs.Table.{HasShape};
 
 use crate::tests::samples::{A_LIMITED_AND_B, FIRST_RUN, Runtime, SCI, THREE_STEPS, problem_of};
@@ -18,11 +19,11 @@ const EIGHT_STEPS: &str =
 
 const THREE: (&str, &str) = (THREE_STORES, EIGHT_STEPS);
 
-// Of the 4 * 2 blocks that come to HK in steps 1 to 4 it holds 6, and no window is open before step 4: 2 are lost. It loses no more only
-// where step 4 empties it. Then 4 blocks of SCI leave in step 4. Of the 7 * 2 + 7 * 2 blocks that come to both in steps 1 to 7 they hold
-// 6 + 8, and the window of step 4 takes 10: 4 are lost. Of the 6 + 6 blocks that come to CAM in steps 2 and 6 it holds 10, and for the
-// three stores that is 28 + 12 - 14 - 10 - 10 = 6. What comes in step 8 fits where step 7 sends 2, 2 and 6 blocks, which fill its window.
-// So there is one such plan.
+// Of the 4 * 2 blocks that come to HK in steps 1 to 4 it holds 6, and no window is open before step 4: 2 are lost. It
+// loses no more only where step 4 empties it. Then 4 blocks of SCI leave in step 4. Of the 7 * 2 + 7 * 2 blocks that
+// come to both in steps 1 to 7 they hold 6 + 8, and the window of step 4 takes 10: 4 are lost. Of the 6 + 6 blocks that
+// come to CAM in steps 2 and 6 it holds 10, and for the three stores that is 28 + 12 - 14 - 10 - 10 = 6. What comes in
+// step 8 fits where step 7 sends 2, 2 and 6 blocks, which fill its window. So there is one such plan.
 const FRONT: &str =
     "mmplan 3\nstores HK SCI CAM\ndump 1 0 0 0\ndump 2 0 0 0\ndump 3 0 0 0\ndump 4 6 4 0\ndump 5 0 0 0\ndump 6 0 0 0\ndump 7 2 2 6\ndump 8 0 0 0\nloss 6\n";
 
@@ -44,9 +45,8 @@ fn firsts_lose(rt: &impl Runtime, problem: &Problem, plan: &Plan)
 
 // The plan in order loses what is counted by hand.
 fn loses_in_order(rt: &impl Runtime, problem: &Problem) {
-    let all = plan_in_order(rt.alloc(), problem).expect(rt, "memory");
-    let planned = &all.planned;
-    assert!(rt; (planned.loss, all.firsts.len()) == (6, 2));
+    let planned = plan_in_order(rt.alloc(), problem).expect(rt, "memory");
+    assert!(rt; (planned.certificate.loss(), planned.firsts.len()) == (6, 2));
     assert!(rt; planned.plan.has_shape(problem));
     firsts_lose(rt, problem, &planned.plan);
 }
@@ -90,8 +90,8 @@ fn the_plan_of_one_store_has_no_part(rt: HostRuntime) {
     assert!(rt; text.as_slice() == ONE_STORE_IN_ORDER.as_bytes());
 }
 
-// Of A_LIMITED_AND_B: in step 1 one block of A leaves by the limit, and it holds 3 of 2 + 3: 2 are lost. All of B leaves in step 1. The
-// window of 5 would count too much.
+// Of A_LIMITED_AND_B: in step 1 one block of A leaves by the limit, and it holds 3 of 2 + 3: 2 are lost. All of B
+// leaves in step 1. The window of 5 would count too much.
 const TWO_STEPS_OF_BOTH: &str = "step,window,A,B\n1,5,3,3\n2,0,3,3\n";
 
 pub(crate) const COUNTS_IN_ORDER: &str =

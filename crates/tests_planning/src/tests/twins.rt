@@ -15,8 +15,8 @@ struct Counted {
     loss: u64,
 }
 
-// Problems by name: each store with its size, its start volume and its channel, each limit with its channel and its blocks, the
-// forecast, and the least loss.
+// Problems by name: each store with its size, its start volume and its channel, each limit with its channel and its
+// blocks, the forecast, and the least loss.
 macro_rules! counted {
     ($(
         name: $name:literal,
@@ -45,10 +45,10 @@ mod sides;
 // What a planned dump loses: its plan fits, and its cut shows that no plan loses less.
 fn shown_loss(rt: &impl Runtime, problem: &Problem, planned: Result<Planned, NoMemory>) -> u64 {
     let planned = planned.expect(rt, "memory");
-    let (plan, loss) = (&planned.plan, planned.loss);
+    let (plan, shown) = (&planned.plan, &planned.certificate);
+    let loss = shown.loss();
     assert!(rt; plan.has_shape(problem) && loss < 1 << 63);
-    let (cut, by_channels) = (planned.cut.as_slice(), planned.by_channels.as_slice());
-    let verdict = verify(problem, plan, cut, by_channels, loss, loss as i64);
+    let verdict = verify(problem, plan, shown.cut(), shown.by_channels(), loss, loss as i64);
     assert!(rt; verdict == Verdict::Least(loss));
     loss
 }
@@ -58,8 +58,9 @@ fn proposed_loss(rt: &impl Runtime, problem: &Problem) -> u64 {
     let proposed = propose(rt.alloc(), problem).expect(rt, "memory");
     let plan = filled(rt, problem, &proposed.plan);
     let loss = loss_of(problem, &plan);
-    let (cut, by_channels) = (proposed.cut.as_slice(), proposed.by_channels.as_slice());
-    let verdict = verify(problem, &plan, cut, by_channels, loss, loss as i64);
+    let cut = &proposed.cut;
+    let (stretches, counts) = (cut.stretches.as_slice(), cut.by_channels.as_slice());
+    let verdict = verify(problem, &plan, stretches, counts, loss, loss as i64);
     assert!(rt; verdict == Verdict::Least(loss), "{verdict:?}");
     loss
 }

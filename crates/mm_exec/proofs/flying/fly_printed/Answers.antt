@@ -10,7 +10,7 @@ returns-in-Ok-clause-flown g c = rw c.with_sheet.ensures (λ p lasts lead.
       record {
         sheet = p.sheet;
         plans = p.plans;
-        plain = p.plain;
+        plain = p.besides;
         carried_out = done.1;
         headline = headline_of _ _ p.sheet c.in-Ok.ended.report refl p.plans done.1.total_lost;
       },
@@ -19,4 +19,4 @@ returns-in-Ok-clause-flown g c = rw c.with_sheet.ensures (λ p lasts lead.
 pub returns-clause-not_flown : goal.returns-clause-not_flown
 returns-clause-not_flown g c = λ p lasts lead.
     let halted = rw (c.plan.ensures ∙ p.plan_is) at c.in-Err.ensures.halted in
-    let one = halted lasts lead in (one.0, record { sheet = p.sheet; plans = p.plans; plain = p.plain; halted = one.1 })
+    let one = halted lasts lead in (one.0, record { sheet = p.sheet; plans = p.plans; plain = p.besides; halted = one.1 })

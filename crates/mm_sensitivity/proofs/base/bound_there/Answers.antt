@@ -13,13 +13,18 @@ pub returns-then-blocks-leaving-clause-cut : goal.returns-then-blocks-leaving-cl
 returns-then-blocks-leaving-clause-cut c =
     let q = c.args.problem.now in
     let p = c.args.base.now in
-    let there : c.args.changed.now ≡ with_window q c.in-Window.step c.args.blocks = c.requires.changed ∙ ap (λ (i : Item). fitted q i c.args.blocks) c.in-Window.is in
-    subst (λ (r : Dumping). IsCut r p.cut.items p.by_channels.items) (sym there) (cut_there q c.in-Window.step c.args.blocks p.cut.items p.by_channels.items c.requires.base.shows.cut)
+    let there : c.args.changed.now ≡ with_window q c.in-Window.step c.args.blocks = c.requires.changed
+    ∙ ap (λ (i : Item). fitted q i c.args.blocks) c.in-Window.is in
+    subst (λ (r : Dumping). IsCut r p.certificate.cut p.certificate.by_channels) (sym there)
+    (cut_there q c.in-Window.step c.args.blocks p.certificate.cut p.certificate.by_channels
+    c.requires.base.plan.shows_least.cut)
 
 pub returns-then-blocks-leaving-clause-bound : goal.returns-then-blocks-leaving-clause-bound
 returns-then-blocks-leaving-clause-bound c =
     let q = c.args.problem.now in
     let p = c.args.base.now in
-    let there : c.args.changed.now ≡ with_window q c.in-Window.step c.args.blocks = c.requires.changed ∙ ap (λ (i : Item). fitted q i c.args.blocks) c.in-Window.is in
+    let there : c.args.changed.now ≡ with_window q c.in-Window.step c.args.blocks = c.requires.changed
+    ∙ ap (λ (i : Item). fitted q i c.args.blocks) c.in-Window.is in
     let fits : FitsSigned w64 c.window_bound.result = search rules in
-    to_z-of_z w64 c.window_bound.result fits ∙ c.window_bound.ensures ∙ sym (ap (λ (r : Dumping). bound r p.cut.items p.by_channels.items) there)
+    to_z-of_z w64 c.window_bound.result fits ∙ c.window_bound.ensures
+    ∙ sym (ap (λ (r : Dumping). bound r p.certificate.cut p.certificate.by_channels) there)

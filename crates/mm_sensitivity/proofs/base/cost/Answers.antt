@@ -14,7 +14,7 @@ overflow_sub-result c =
     ) in
     let more = more_there c.args.problem.now c.args.base.now c.args.item c.requires.base c.requires.item
     c.only_counted_helps.ensures c.least_number-least.result c.in_ok-loss.loss c.in_ok-loss.ensures.least smaller in
-    omega (arith, more, c.spilled.ensures.spilled)
+    omega (arith, more, c.spilled.ensures.spilled, c.loss.ensures)
 
 pub returns : goal.returns
 returns c =
@@ -24,8 +24,9 @@ returns c =
     (arith, c.least_number-least.ensures.least, least_first q i c.requires.base.problem c.requires.item) in
     let costs = costs_there q c.args.base.now i c.requires.base c.requires.item c.only_counted_helps.ensures
     c.least_number-least.result c.in_ok-loss.loss c.in_ok-loss.ensures.least c.cuts_bound_losses.ensures smaller in
-    let told : c.in_ok-loss.loss + spilled q i c.least_number-least.result - c.args.base.now.loss ≡ c.in_ok-loss.loss
-    + c.spilled.result - c.args.base.now.loss = omega (arith, c.spilled.ensures.spilled) in
-    subst (λ (k : ℕ). IsSaved (with_number q i k) q (c.in_ok-loss.loss + c.spilled.result - c.args.base.now.loss))
+    let told : c.in_ok-loss.loss + spilled q i
+    c.least_number-least.result - c.args.base.now.certificate.loss ≡ c.in_ok-loss.loss
+    + c.spilled.result - c.loss.result = omega (arith, c.spilled.ensures.spilled, c.loss.ensures) in
+    subst (λ (k : ℕ). IsSaved (with_number q i k) q (c.in_ok-loss.loss + c.spilled.result - c.loss.result))
     c.least_number-least.ensures.least
     (subst (IsSaved (with_number q i c.least_number-least.result) q) told costs)

@@ -19,11 +19,14 @@ returns-then-now-blocks-2 c is =
     let item : IsItem q (Window t) = subst (IsItem q) here c.requires.item in
     let value : number q c.args.item ≡ window q t = ap (number q) here in
     let wider : window q t ≤ b = omega (arith, value, c.number-now.ensures.number, c.if-now-blocks-2.true) in
-    let other : counts_window p.cut.items p.by_channels.items t ≡ false = sym c.counts_window.ensures ∙ not-true c.counts_window.result is in
-    subst (λ (i : Item). IsLeastLoss (fitted q i b) p.loss) (sym here)
-    (wider_least c.cuts_bound_losses.ensures q t b p.plan p.cut.items p.by_channels.items p.loss item.0 item.1 wider other c.requires.base.shows)
+    let other : counts_window p.certificate.cut p.certificate.by_channels t ≡ false = sym c.counts_window.ensures
+    ∙ not-true c.counts_window.result is in
+    subst (λ (i : Item). IsLeastLoss (fitted q i b) p.certificate.loss) (sym here)
+    (wider_least c.cuts_bound_losses.ensures q t b p.plan p.certificate.cut p.certificate.by_channels p.certificate.loss
+    item.0 item.1 wider other c.requires.base.plan.shows_least)
 
 pub returns-in_default : goal.returns-in_default
 returns-in_default c is =
-    let same : number c.args.problem.now c.args.item ≡ c.args.blocks = sym c.number-now.ensures.number ∙ eqb-true c.number-now.result c.args.blocks is in
+    let same : number c.args.problem.now c.args.item ≡ c.args.blocks = sym c.number-now.ensures.number
+    ∙ eqb-true c.number-now.result c.args.blocks is in
     alike_own c.args.problem.now c.args.base.now c.args.item c.requires.base c.requires.item c.args.blocks same

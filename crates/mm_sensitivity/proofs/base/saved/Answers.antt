@@ -1,4 +1,6 @@
-use Rattle.std.proofs.Common.{arith}
+use Rattle.std.proofs.Common.{ℕ, ◌-◌, sym, subst, arith}
+use Rattle.mm_sensitivity.specs.Items.{with_number}
+use Rattle.mm_sensitivity.specs.Worth.{IsSaved}
 use Rattle.mm_sensitivity.proofs.Found.{less_there, saved_there, least_first}
 use Rattle.mm_sensitivity.proofs.base.saved.Goals as goal
 
@@ -12,10 +14,13 @@ least_loss-requires-clause-least c = omega (
 
 pub returns-clause-saved : goal.returns-clause-saved
 returns-clause-saved c =
-    saved_there c.args.problem.now c.args.base.now c.args.item c.requires.base c.requires.item
-    c.only_counted_helps.ensures c.args.blocks c.in_ok-loss.loss c.in_ok-loss.ensures.least c.requires.larger
+    let q = c.args.problem.now in
+    subst (λ (n : ℕ). IsSaved q (with_number q c.args.item c.args.blocks) (n - c.in_ok-loss.loss)) (sym c.loss.ensures)
+    (saved_there q c.args.base.now c.args.item c.requires.base c.requires.item
+    c.only_counted_helps.ensures c.args.blocks c.in_ok-loss.loss c.in_ok-loss.ensures.least c.requires.larger)
 
 pub overflow_sub-result : goal.overflow_sub-result
 overflow_sub-result c =
-    less_there c.args.problem.now c.args.base.now c.args.item c.requires.base c.requires.item
-    c.only_counted_helps.ensures c.args.blocks c.in_ok-loss.loss c.in_ok-loss.ensures.least c.requires.larger
+    let less = less_there c.args.problem.now c.args.base.now c.args.item c.requires.base c.requires.item
+    c.only_counted_helps.ensures c.args.blocks c.in_ok-loss.loss c.in_ok-loss.ensures.least c.requires.larger in
+    omega (arith, less, c.loss.ensures)

@@ -7,14 +7,17 @@ use Rattle.mm_sensitivity.proofs.base.window_bound.Goals as goal
 pub returns-then-counts_window : goal.returns-then-counts_window
 returns-then-counts_window c =
     let p = c.args.base.now in
-    let counts : counts_window p.cut.items p.by_channels.items c.args.step ≡ true = sym c.counts_window.ensures ∙ c.if-counts_window.true in
-    let changed = bound_counted c.args.problem.now c.args.step c.args.blocks c.requires.first c.requires.last p.cut.items p.by_channels.items counts in
+    let counts : counts_window p.certificate.cut p.certificate.by_channels c.args.step ≡ true = sym
+    c.counts_window.ensures ∙ c.if-counts_window.true in
+    let changed = bound_counted c.args.problem.now c.args.step c.args.blocks c.requires.first c.requires.last
+    p.certificate.cut p.certificate.by_channels counts in
     omega (
       arith,
       ints,
       changed,
-      c.requires.base.shows.bound,
-      c.requires.base.most,
+      c.requires.base.plan.shows_least.bound,
+      c.requires.base.plan.most,
+      c.loss-loss.ensures,
       c.window.ensures.window,
       c.window.ensures.most,
       c.from.ensures,
@@ -25,6 +28,8 @@ returns-then-counts_window c =
 pub returns-else-counts_window : goal.returns-else-counts_window
 returns-else-counts_window c =
     let p = c.args.base.now in
-    let other : counts_window p.cut.items p.by_channels.items c.args.step ≡ false = sym c.counts_window.ensures ∙ c.if-counts_window.false in
-    let same = bound_uncounted c.args.problem.now c.args.step c.args.blocks c.requires.first c.requires.last p.cut.items p.by_channels.items other in
-    omega (arith, ints, same, c.requires.base.shows.bound, c.requires.base.most)
+    let other : counts_window p.certificate.cut p.certificate.by_channels c.args.step ≡ false = sym
+    c.counts_window.ensures ∙ c.if-counts_window.false in
+    let same = bound_uncounted c.args.problem.now c.args.step c.args.blocks c.requires.first c.requires.last
+    p.certificate.cut p.certificate.by_channels other in
+    omega (arith, ints, same, c.requires.base.plan.shows_least.bound, c.requires.base.plan.most, c.loss-loss.ensures)

@@ -94,8 +94,8 @@ fn planned(rt: &impl Runtime, problem: &Problem) -> Sheet
     sheet
 }
 
-// Of all plans none that fits loses less of so many of the first stores, and one loses as much. Where nothing comes to the other stores
-// these lose nothing, and a plan loses what it loses of the first.
+// Of all plans none that fits loses less of so many of the first stores, and one loses as much. Where nothing comes to
+// the other stores these lose nothing, and a plan loses what it loses of the first.
 fn is_least_of_all_plans(rt: &impl Runtime, problem: &Problem, plan: &Plan, stores: usize)
     requires shape { HasShape problem.now plan.now }
     requires stores { stores ≤ length problem.now.rows }
@@ -109,7 +109,7 @@ fn is_least_of_all_plans(rt: &impl Runtime, problem: &Problem, plan: &Plan, stor
 fn is_planned_alike_by_flow(rt: &impl Runtime, problem: &Problem, sheet: &Sheet) {
     let by_flow = plan_in_order_by_flow(rt.alloc(), problem).expect(rt, "memory");
     let firsts = sheet.firsts().expect(rt, "certificates");
-    let found = (by_flow.planned.loss, by_flow.firsts.len());
+    let found = (by_flow.certificate.loss(), by_flow.firsts.len());
     assert!(rt; found == (sheet.loss(), firsts.len()));
     for (found, wanted) in by_flow.firsts.iter().zip(firsts.iter()) {
         assert!(rt; found.loss() == wanted.loss());
@@ -148,12 +148,13 @@ fn is_least_alone(rt: &impl Runtime, problem: &Problem, ordered: &Plan, stores: 
     requires stores { stores ≤ length problem.now.rows }
 {
     let alone = narrowed(rt, problem, stores, stores);
-    let least = plan(rt.alloc(), &alone).expect(rt, "memory").loss;
+    let least = plan(rt.alloc(), &alone).expect(rt, "memory").certificate.loss();
     let loss = first_loss(problem, ordered, stores);
     assert!(rt; loss == least, "{stores} stores lose {loss}");
 }
 
-// So it is for the first store, the first two and so on. Answers whether the plan without order loses more of some of these.
+// So it is for the first store, the first two and so on. Answers whether the plan without order loses more of some of
+// these.
 fn are_least_alone(rt: &impl Runtime, problem: &Problem) -> bool {
     let sheet = planned(rt, problem);
     let unordered = plan(rt.alloc(), problem).expect(rt, "memory").plan;

@@ -1,6 +1,7 @@
-//! The proposal beside its plain form: on many made problems both give the same plan, the same cut and the same counts by channels.
-//! The windows take about what comes, and the limits half of it to twice, so that in more than a third of the problems lost blocks are
-//! moved. The stores are on both sides of eight, the steps on both sides of each number of spans that fills a word.
+//! The proposal beside its plain form: on many made problems both give the same plan, the same cut and the same counts
+//! by channels. The windows take about what comes, and the limits half of it to twice, so that in more than a third of
+//! the problems lost blocks are moved. The stores are on both sides of eight, the steps on both sides of each number of
+//! spans that fills a word.
 ghost use Rattle.std.specs.Prelude.{◌<◌, ◌≤◌};
 ghost use Rattle.mm_plan.specs.Table.{HasShape};
 
@@ -74,7 +75,8 @@ pub(crate) struct Family {
     most: u32,
     /// In how many steps on end they come, before as many in which none do.
     turns: u32,
-    /// The chances that a step has a window, and what a window takes of what comes, in eighths: the least, and how much more.
+    /// The chances that a step has a window, and what a window takes of what comes, in eighths: the least, and how much
+    /// more.
     open: u32,
     least: u32,
     wider: u32,
@@ -192,7 +194,8 @@ impl Family {
     }
 }
 
-/// How many stores and steps a problem has, on how many channels the stores stand, and whether channels have limits of each step.
+/// How many stores and steps a problem has, on how many channels the stores stand, and whether channels have limits of
+/// each step.
 #[derive(Clone, Copy)]
 pub(crate) struct Shape {
     stores: u32,
@@ -237,8 +240,8 @@ fn are_alike(problem: &Problem, first: &Plan, second: &Plan) -> bool
     true
 }
 
-/// What came of the problems: in how many lost blocks were moved, how many lose none, and how many cuts have steps that count by
-/// channels.
+/// What came of the problems: in how many lost blocks were moved, how many lose none, and how many cuts have steps that
+/// count by channels.
 #[derive(Clone, Copy, Default)]
 struct Tally {
     moving: u32,
@@ -249,8 +252,8 @@ struct Tally {
 impl Tally {
     // Counts a proposal. Where nothing is lost, no cut is found.
     fn count(&mut self, proposal: &Proposal, is_moved: bool) {
-        let spares = proposal.cut.is_empty();
-        let counts = !proposal.by_channels.is_empty();
+        let spares = proposal.cut.stretches.is_empty();
+        let counts = !proposal.cut.by_channels.is_empty();
         self.moving = self.moving.saturating_add(u32::from(is_moved));
         self.sparing = self.sparing.saturating_add(u32::from(spares));
         self.by_channels = self.by_channels.saturating_add(u32::from(counts));
@@ -264,7 +267,8 @@ fn is_alike(rt: &impl Runtime, problem: &Problem, name: &str, tally: &mut Tally)
     let plain = propose_plain::propose(rt.alloc(), problem).expect(rt, "memory");
     let plans = are_alike(problem, &proposed.plan, &plain.plan);
     assert!(rt; plans, "the plan of {name}, {stores} stores, {steps} steps");
-    let cuts = proposed.cut == plain.cut && proposed.by_channels == plain.by_channels;
+    let (cut, other) = (&proposed.cut, &plain.cut);
+    let cuts = cut.stretches == other.stretches && cut.by_channels == other.by_channels;
     assert!(rt; cuts, "the cut of {name}, {stores} stores, {steps} steps");
     let first = propose_plain::first_plan(rt.alloc(), problem).expect(rt, "memory");
     let is_moved = !are_alike(problem, &proposed.plan, &first);

@@ -5,7 +5,7 @@ use Rattle.mm_base.specs.declared.limits.TheConstants.{MAX_STORES, MAX_STEPS, MA
 use Rattle.mm_plan.specs.Table.{amount}
 use Rattle.mm_plan.specs.Sheet.{CertificateRows}
 use Rattle.mm_cut.specs.Firsts.{ShowFirsts}
-use Rattle.mm_planner.proofs.in_order.certificates.Given as goal
+use Rattle.mm_planner.proofs.certified.certificates.Given as goal
 
 abbrev pub invariant-loop-cut : goal.invariant-loop-cut
 invariant-loop-cut l = record {

@@ -6,7 +6,7 @@ use Rattle.mm_planner.specs.declared.nodes.TheConstants.{SOURCE, SINK}
 use Rattle.mm_planner.specs.Network.{first_inflow, net_by}
 use Rattle.mm_planner.specs.Taken.{step_width}
 use Rattle.mm_planner.proofs.ArcLists.{length-arcs_of}
-use Rattle.mm_planner.proofs.in_order.nothing.Goals as goal
+use Rattle.mm_planner.proofs.by_flow.nothing.Goals as goal
 
 pub returns : goal.returns
 returns c =
@@ -15,7 +15,10 @@ returns c =
     let items : c.in_ok-flow.flow.items ≡ replicate (length q.windows * step_width q) 0 = search rules in
     record {
       begun = record {
-        arcs = ap length items ∙ length-replicate (length q.windows * step_width q) 0 ∙ sym (length-arcs_of q a (length q.windows));
-        augmented = nothing_augmented (net_by q a) SOURCE SINK (slice_index c.in_ok-flow.flow.items) (λ k. ap (λ (xs : List ℕ). slice_index xs k) items ∙ slice_index-nothing (length q.windows * step_width q) k);
+        arcs = ap length items ∙ length-replicate (length q.windows * step_width q) 0
+            ∙ sym (length-arcs_of q a (length q.windows));
+        augmented = nothing_augmented (net_by q a) SOURCE SINK (slice_index c.in_ok-flow.flow.items)
+            (λ k. ap (λ (xs : List ℕ). slice_index xs k) items
+            ∙ slice_index-nothing (length q.windows * step_width q) k);
       };
     }

@@ -1,0 +1,146 @@
+//! Plans by the network of the problem alone. The arcs by which blocks come to the stores are opened one store after
+//! another.
+ghost use Rattle.std.specs.Prelude.{◌≡◌, ◌+◌, ◌≤◌, length, slice_index, IfOk};
+ghost use Rattle.mm_problem.specs.Dumping.{IsDumping};
+ghost use Rattle.mm_flow.specs.Balance.{IsBegun, KeepsSource};
+ghost use Rattle.mm_flow.specs.Solution.{IsSolved, side_of};
+ghost use Rattle.mm_planner.specs.declared.nodes.TheConstants.{SOURCE, SINK};
+ghost use Rattle.mm_planner.specs.Network.{first_inflow, net_by};
+ghost use Rattle.mm_planner.specs.Runs.{first_stretches, first_counts};
+ghost use Rattle.mm_planner.specs.InOrder.{IsPlanInOrder};
+ghost use Rattle.mm_planner.specs.Planned.{IsPlan, IsShown};
+ghost use Rattle.mm_planner.specs.Opening.{IsBegunBy, IsOpened, AreOpened};
+
+use crate::building::{first_network, step_width};
+use crate::certified::certified;
+use crate::nodes::{SINK, SOURCE};
+use crate::planner::Planned;
+use crate::runs::{counts, stretches};
+use crate::taken::taken_plan;
+use mm_base::NoMemory;
+use mm_flow::{Fault, Solved, solve_from};
+use mm_plan::{Cut, fill};
+use mm_problem::Problem;
+use std::alloc::Global;
+
+// A flow of nothing.
+fn nothing(alloc: Global, problem: &Problem) -> Result<Solved, NoMemory>
+    ensures begun { IfOk result
+        (IsBegun (net_by problem.now (first_inflow 0 problem.now)) SOURCE SINK) }
+{
+    let arcs = problem.steps() * step_width(problem);
+    let flow = vec![in alloc; 0; arcs as usize]?;
+    Ok(Solved {
+        flow,
+        side: Vec::new(alloc),
+        value: 0,
+    })
+}
+
+// Goes on from a flow once the arcs of that many of the first stores are open. Since no unlimited arc leaves the source
+// there is a solution.
+fn next_solved(
+    alloc: Global,
+    problem: &Problem,
+    begun: Solved,
+    first: usize,
+) -> Result<Solved, NoMemory>
+    requires begun { IsBegunBy first problem.now begun }
+    ensures solved { IfOk result
+        (IsSolved (net_by problem.now (first_inflow first problem.now)) SOURCE SINK) }
+    ensures begun { IfOk result
+        (IsBegun (net_by problem.now (first_inflow first problem.now)) SOURCE SINK) }
+    ensures kept { IfOk result
+        (λ s. KeepsSource (net_by problem.now (first_inflow first problem.now)) SOURCE
+        (slice_index begun.flow.items) (slice_index s.flow.items)) }
+{
+    let network = first_network(alloc, problem, first)?;
+    match solve_from(alloc, &network, begun, SOURCE, SINK) {
+        Ok(solved) => Ok(solved),
+        Err(Fault::NoMemory) => Err(NoMemory),
+        Err(Fault::Unbounded) => unreachable!(),
+        Err(Fault::SameEnds) => unreachable!(),
+    }
+}
+
+// The cut of the first stores that a side says.
+fn cut_of(alloc: Global, problem: &Problem, first: usize, side: &[bool]) -> Result<Cut, NoMemory>
+    requires { first ≤ length problem.now.rows }
+    ensures stretches { IfOk result
+        (λ c. c.stretches.items ≡ first_stretches first problem.now (side_of side.now)) }
+    ensures by_channels { IfOk result
+        (λ c. c.by_channels.items ≡ first_counts first problem.now (side_of side.now)) }
+{
+    let stretches = stretches(alloc, problem, first, side)?;
+    let by_channels = counts(alloc, problem, side, stretches.as_slice())?;
+    Ok(Cut {
+        stretches,
+        by_channels,
+    })
+}
+
+// The flow once the arcs of that many of the first stores are open, and their cut.
+fn opened_to(
+    alloc: Global,
+    problem: &Problem,
+    begun: Solved,
+    first: usize,
+) -> Result<(Solved, Cut), NoMemory>
+    requires few { first ≤ length problem.now.rows }
+    requires begun { IsBegunBy first problem.now begun }
+    ensures opened { IfOk result (λ o. IsOpened first problem.now begun o.0 o.1) }
+    ensures problem { IsDumping problem.now }
+{
+    prove!(problem.stores() > 0);
+    let solved = next_solved(alloc, problem, begun, first)?;
+    let cut = cut_of(alloc, problem, first, solved.side.as_slice())?;
+    Ok((solved, cut))
+}
+
+// The flow once the arcs of that many of the first stores are open, one after another, and the cut at each.
+fn opened(alloc: Global, problem: &Problem, firsts: usize) -> Result<(Solved, Vec<Cut>), NoMemory>
+    requires { firsts ≤ length problem.now.rows }
+    ensures opened { IfOk result (λ o. AreOpened firsts problem.now o.0 o.1.items) }
+{
+    let mut solved = nothing(alloc, problem)?;
+    let mut cuts = Vec::new(alloc);
+    for store in 0..firsts {
+        let (next, cut) = opened_to(alloc, problem, solved, store + 1)?;
+        cuts.push(cut)?;
+        solved = next;
+    }
+    Ok((solved, cuts))
+}
+
+// A plan by the network, with certificates of all stores and of the first store, of the first two and so on to that
+// many.
+fn by_flow(alloc: Global, problem: &Problem, firsts: usize) -> Result<Planned, NoMemory>
+    requires { firsts ≤ length problem.now.rows }
+    ensures shown { IfOk result (IsShown problem.now) }
+    ensures count { IfOk result (λ planned. length planned.firsts.items ≡ firsts) }
+{
+    let (begun, cuts) = opened(alloc, problem, firsts)?;
+    let (solved, cut) = opened_to(alloc, problem, begun, problem.stores())?;
+    let taken = taken_plan(alloc, problem, &solved)?;
+    let plan = fill(alloc, problem, &taken)?;
+    let found = certified(alloc, problem, plan, cut, cuts)?;
+    match found {
+        Some(planned) => Ok(planned),
+        None => unreachable!(),
+    }
+}
+
+/// What `plan` answers, found by the network of the problem alone. It takes longer.
+pub fn plan_by_flow(alloc: Global, problem: &Problem) -> Result<Planned, NoMemory>
+    ensures { IfOk result (IsPlan problem.now) }
+{
+    by_flow(alloc, problem, 0)
+}
+
+/// What `plan_in_order` answers, found by the network of the problem alone. It takes longer.
+#[tactic(auto, using(crate::proofs::Showing::in_order))]
+pub fn plan_in_order_by_flow(alloc: Global, problem: &Problem) -> Result<Planned, NoMemory>
+    ensures { IfOk result (IsPlanInOrder problem.now) }
+{
+    by_flow(alloc, problem, problem.stores() - 1)
+}
