@@ -9,7 +9,8 @@ use Rattle.mm_plan.specs.declared.stretch.Stretch.{Stretch}
 use Rattle.mm_cut.specs.Cuts.{IsCut}
 use Rattle.mm_cut.specs.Verdicts.{IsVerdict, IsOwnVerdict, IsVerdictWith}
 use Rattle.mm_cut.specs.declared.verdict.Verdict.{Verdict}
-use Rattle.mm_cut.specs.declared.verdict.Verdict.TheVariants.{DoesNotFit, LossIs, BadStretch, BadCount, BoundIs, NotShown, FirstNotShown, Least, LeastInOrder}
+use Rattle.mm_cut.specs.declared.verdict.Verdict.TheVariants.{BoundIs, NotShown, FirstNotShown, Least}
+use Rattle.mm_cut.specs.declared.verdict.Verdict.TheVariants.{LeastInOrder}
 use Rattle.mm_chart.specs.Picture.{has_cut}
 
 -- no stretches and no counts are a cut
@@ -20,41 +21,35 @@ no_cut q = record {
 }
 
 -- the stretches and counts of which a verdict says that they are a cut
-own_cut : (q : Dumping) (x : Amounts) (ds : List Stretch) (ts : List ℕ) (l : ℕ) (b : ℤ) (v : Verdict) → IsVerdict q x ds ts l b v
-    → IsCut q (if has_cut v then ds else []) (if has_cut v then ts else [])
-own_cut q x ds ts l b (DoesNotFit t) is = no_cut q
-own_cut q x ds ts l b (LossIs n) is = no_cut q
-own_cut q x ds ts l b (BadStretch k) is = no_cut q
-own_cut q x ds ts l b (BadCount k) is = no_cut q
+own_cut : (q : Dumping) (x : Amounts) (ds : List Stretch) (ts : List ℕ) (l : ℕ) (b : ℤ) (v : Verdict)
+    → IsVerdict q x ds ts l b v → IsCut q (if has_cut v then ds else []) (if has_cut v then ts else [])
 own_cut q x ds ts l b (BoundIs m) is = is.1
 own_cut q x ds ts l b (NotShown n m) is = is.0.cut
 own_cut q x ds ts l b (FirstNotShown k) is = absurd is
 own_cut q x ds ts l b (LeastInOrder n) is = absurd is
 own_cut q x ds ts l b (Least n) is = is.0.cut
+own_cut q x ds ts l b v is = no_cut q
 
 -- what is drawn is a cut, whatever the verdict and the certificates of the first stores
-pub drawn_cut : (q : Dumping) (s : SheetRows) (cs : Option (List CertificateRows)) (v : Verdict) → IsVerdictWith q s cs v
-    → IsCut q (if has_cut v then s.cut else []) (if has_cut v then s.by_channels else [])
-drawn_cut q s None v is = own_cut q (amount s.plan) s.cut s.by_channels s.loss s.bound v is
-drawn_cut q s (Some cs) (DoesNotFit t) is = own_cut q (amount s.plan) s.cut s.by_channels s.loss s.bound (DoesNotFit t) is
-drawn_cut q s (Some cs) (LossIs n) is = own_cut q (amount s.plan) s.cut s.by_channels s.loss s.bound (LossIs n) is
-drawn_cut q s (Some cs) (BadStretch k) is = own_cut q (amount s.plan) s.cut s.by_channels s.loss s.bound (BadStretch k) is
-drawn_cut q s (Some cs) (BadCount k) is = own_cut q (amount s.plan) s.cut s.by_channels s.loss s.bound (BadCount k) is
-drawn_cut q s (Some cs) (BoundIs m) is = own_cut q (amount s.plan) s.cut s.by_channels s.loss s.bound (BoundIs m) is
-drawn_cut q s (Some cs) (NotShown n m) is = own_cut q (amount s.plan) s.cut s.by_channels s.loss s.bound (NotShown n m) is
+pub drawn_cut : (q : Dumping) (s : SheetRows) (cs : Option (List CertificateRows)) (v : Verdict)
+    → IsVerdictWith q s cs v → IsCut q (if has_cut v then s.cut else []) (if has_cut v then s.by_channels else [])
 drawn_cut q s (Some cs) (FirstNotShown k) is = is.0.0.cut
 drawn_cut q s (Some cs) (Least n) is = absurd is
 drawn_cut q s (Some cs) (LeastInOrder n) is = is.0.0.cut
+drawn_cut q s cs v is = own_cut q (amount s.plan) s.cut s.by_channels s.loss s.bound v is
 
 -- what a verdict says of the cut of all stores
-pub own_least : (q : Dumping) (s : SheetRows) (cs : Option (List CertificateRows)) (n : ℕ) → IsVerdictWith q s cs (Least n) → IsOwnVerdict q s (Least n)
+pub own_least : (q : Dumping) (s : SheetRows) (cs : Option (List CertificateRows)) (n : ℕ)
+    → IsVerdictWith q s cs (Least n) → IsOwnVerdict q s (Least n)
 own_least q s None n is = is
 own_least q s (Some cs) n is = absurd is
 
-pub own_in_order : (q : Dumping) (s : SheetRows) (cs : Option (List CertificateRows)) (n : ℕ) → IsVerdictWith q s cs (LeastInOrder n) → IsOwnVerdict q s (Least n)
+pub own_in_order : (q : Dumping) (s : SheetRows) (cs : Option (List CertificateRows)) (n : ℕ)
+    → IsVerdictWith q s cs (LeastInOrder n) → IsOwnVerdict q s (Least n)
 own_in_order q s None n is = absurd is
 own_in_order q s (Some cs) n is = is.0
 
-pub own_not_shown : (q : Dumping) (s : SheetRows) (cs : Option (List CertificateRows)) (n : ℕ) (m : ℤ) → IsVerdictWith q s cs (NotShown n m) → IsOwnVerdict q s (NotShown n m)
+pub own_not_shown : (q : Dumping) (s : SheetRows) (cs : Option (List CertificateRows)) (n : ℕ) (m : ℤ)
+    → IsVerdictWith q s cs (NotShown n m) → IsOwnVerdict q s (NotShown n m)
 own_not_shown q s None n m is = is
 own_not_shown q s (Some cs) n m is = is

@@ -194,7 +194,7 @@ firsts_list p n =
     line_words p style.Plain n (LOSE.now ∷ flat_map (first_at p (word_line p.problem n)) (stores p.problem) ∷ [])
 
 -- what is said of them, and each of them
-unfoldable pub firsts_lines : Drawn → ℕ → List Shape
+abbrev pub firsts_lines : Drawn → ℕ → List Shape
 firsts_lines p n = line_words p style.Heading n (FIRSTS.now ∷ []) ∷ firsts_list p (n + 1) ∷ []
 
 -- ---- all of the words

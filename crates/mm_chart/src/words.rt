@@ -4,7 +4,7 @@ ghost use Rattle.mm_base.specs.declared.limits.TheConstants.{MAX_STORES};
 ghost use Rattle.mm_chart.specs.Layout.{limits_below};
 ghost use Rattle.mm_chart.specs.Svg.{grouped, part_text, drawn, printed};
 ghost use Rattle.mm_chart.specs.Words.{line_words, broken, why, stretched_at, stores_line, help, worth_words};
-ghost use Rattle.mm_chart.specs.Words.{worth_room, firsts_room, first_at, firsts_list, firsts_lines, firsts_line};
+ghost use Rattle.mm_chart.specs.Words.{worth_room, firsts_room, first_at, firsts_list, firsts_line};
 ghost use Rattle.mm_chart.specs.Words.{least_words, words, word_lines};
 
 use crate::layout::{LINE_PITCH, MARGIN, limits_below, word_line};
@@ -182,16 +182,6 @@ fn push_firsts_list(text: &mut Vec<u8>, picture: &Picture, line: u32) -> Pushed
     push_closed(text)
 }
 
-// What is said of what the first stores lose, and each of the stores.
-#[tactic(auto, using(crate::proofs::Ranges::drawing), unfolding(crate::specs::Words::firsts_lines))]
-fn push_firsts_lines(text: &mut Vec<u8>, picture: &Picture, line: u32) -> Pushed
-    requires { line ≤ 17 }
-    ensures { OnOk result (text.new.items ≡ text.old.items ++ drawn (firsts_lines picture.now line)) }
-{
-    words!(text, picture; Heading line; Said(FIRSTS))?;
-    push_firsts_list(text, picture, line + 1)
-}
-
 // How many lines say what one window is worth, with an empty one after them.
 fn worth_room(picture: &Picture) -> u32
     ensures room { result ≡ worth_room picture.now }
@@ -238,8 +228,10 @@ pub(crate) fn push_words(text: &mut Vec<u8>, picture: &Picture) -> Pushed
         Verdict::Least(0) | Verdict::LeastInOrder(0) => Ok(()),
         Verdict::Least(loss) => push_least_words(text, picture, loss),
         Verdict::LeastInOrder(loss) => {
+            let line = firsts_line(picture);
             push_least_words(text, picture, loss)?;
-            push_firsts_lines(text, picture, firsts_line(picture))
+            words!(text, picture; Heading line; Said(FIRSTS))?;
+            push_firsts_list(text, picture, line + 1)
         }
         Verdict::NotShown { bound, .. } => {
             push_why(text, picture, &Signed(bound))?;
