@@ -80,10 +80,6 @@ module _ (row : ℕ) (name : Name) (ms : Members) where
   pub text_said : (text : List ℕ) → text_at row name ms ≡ Ok text → SaysText ms name text
   text_said text h = string_said (value_at name ms) text (ok_or_ok _ _ _ h)
 
-  -- the text that the key has is read
-  pub text_read : (text : List ℕ) → SaysText ms name text → text_at row name ms ≡ Ok text
-  text_read text says = rw says refl
-
   -- a whole number that is read is what the key has
   integer_at_said : (z : ℤ) → integer_at row name ms ≡ Ok z → value_at name ms ≡ Some (integer z)
   integer_at_said z h = integer_said (value_at name ms) z (ok_or_ok _ _ _ h)

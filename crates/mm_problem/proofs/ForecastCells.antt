@@ -1,5 +1,6 @@
 -- The cells of a record.
-use Rattle.std.proofs.Common.{◌≡◌, ℕ, ◌&&◌, Bool, true, false, map, get_or, arith, ◌+◌, ◌<◌, ◌≤◌, nat_lt, zero, suc, List, [], ◌∷◌, ◌++◌, length, drop, Ok, Err, unwrap_or, refl}
+use Rattle.std.proofs.Common.{◌≡◌, ℕ, ◌&&◌, Bool, true, false, arith, ◌+◌, ◌<◌, ◌≤◌, nat_lt, zero, suc, List, [], ◌∷◌}
+use Rattle.std.proofs.Common.{◌++◌, length, drop, Ok, Err, unwrap_or, refl}
 use Rattle.std.proofs.lemmas.List.{drop_more, drop_all}
 use Rattle.csv.specs.Records.{field_at}
 use Rattle.mm_problem.specs.Cells.{amount_of}
@@ -27,19 +28,22 @@ and_false false = refl
 -- the amounts from a cell on
 module _ (name : Name) (row column i : ℕ) (earlier : List ℕ) (fields : List (List ℕ)) where
   -- after the last cell there is no further amount
-  pub no_cell_left : (count : ℕ) → count ≡ 0 → amounts_in name row earlier column (cells_from fields i count) ≡ Ok earlier
+  pub no_cell_left : (count : ℕ) → count ≡ 0
+      → amounts_in name row earlier column (cells_from fields i count) ≡ Ok earlier
   unfolding amounts_in
   no_cell_left count none = rw none refl
 
   module _ (count more : ℕ) (one_more : count ≡ suc more) (within : i < length fields) where
     -- the amount in the cell at the place comes next
     pub next_amount : (amount : ℕ) → amount_of row column name (cell_of fields i) ≡ Ok amount
-        → amounts_in name row earlier column (cells_from fields i count) ≡ amounts_in name row (earlier ++ amount ∷ []) (column + 1) (cells_from fields (i + 1) more)
+        → amounts_in name row earlier column (cells_from fields i count)
+        ≡ amounts_in name row (earlier ++ amount ∷ []) (column + 1) (cells_from fields (i + 1) more)
     unfolding amounts_in
     next_amount amount given = rw (one_more, drop_more fields i [] within, given) refl
 
     -- a fault in that cell is the fault of all
-    pub bad_amount : (e : Fault) → amount_of row column name (cell_of fields i) ≡ Err e → amounts_in name row earlier column (cells_from fields i count) ≡ Err e
+    pub bad_amount : (e : Fault) → amount_of row column name (cell_of fields i) ≡ Err e
+        → amounts_in name row earlier column (cells_from fields i count) ≡ Err e
     unfolding amounts_in
     bad_amount e given = rw (one_more, drop_more fields i [] within, given) refl
 
@@ -58,12 +62,14 @@ module _ (i : ℕ) (earlier : List ℕ) (fields : List (List ℕ)) where
 
     module _ (channel : ℕ) (is : channel_in (cell_of fields i) ≡ Ok channel) where
       -- so is one that does not rise
-      pub falling_column : (e : Fault) → test (list_all (λ c. nat_lt c channel) earlier) Header ≡ Err e → channels_in earlier (drop i fields) ≡ Err e
+      pub falling_column : (e : Fault) → test (list_all (λ c. nat_lt c channel) earlier) Header ≡ Err e
+          → channels_in earlier (drop i fields) ≡ Err e
       unfolding channels_in
       falling_column e given = rw (drop_more fields i [] within, is, given) refl
 
       -- a channel that rises comes next
-      pub next_column : (u : Unit {0}) → test (list_all (λ c. nat_lt c channel) earlier) Header ≡ Ok u → channels_in earlier (drop i fields) ≡ channels_in (earlier ++ channel ∷ []) (drop (i + 1) fields)
+      pub next_column : (u : Unit {0}) → test (list_all (λ c. nat_lt c channel) earlier) Header ≡ Ok u
+          → channels_in earlier (drop i fields) ≡ channels_in (earlier ++ channel ∷ []) (drop (i + 1) fields)
       unfolding channels_in
       next_column u given = rw (drop_more fields i [] within, is, given) refl
 
@@ -77,18 +83,8 @@ too_few (x ∷ xs) (y ∷ ys) shorter = rw (too_few xs ys (omega arith)) (and_fa
 
 -- the first two cells, and those after them
 pub header_cells : (fields : Fields) (n : ℕ) (a b : List ℕ) (more : Fields) → n + 2 ≤ length fields
-    → begins_with fields (a ∷ b ∷ more) ≡ (bytes_eq (cell_of fields 0) a && (bytes_eq (cell_of fields 1) b && begins_with (drop 2 fields) more))
+    → begins_with fields (a ∷ b ∷ more)
+    ≡ (bytes_eq (cell_of fields 0) a && (bytes_eq (cell_of fields 1) b && begins_with (drop 2 fields) more))
 header_cells [] n a b more long = absurd (omega arith)
 header_cells (x ∷ []) n a b more long = absurd (omega arith)
 header_cells (x ∷ y ∷ rest) n a b more long = refl
-
-module _ (fields : Fields) where
-  module _ {X : Type 0} (f : X → List ℕ) (stores : List X) (i j : ℕ) where
-    -- the cells at two places, and those after them
-    pub begins_more : (store : X) → i < length fields → j < length stores → store ≡ get_or stores j store
-        → begins_with (drop i fields) (map f (drop j stores)) ≡ (bytes_eq (cell_of fields i) (f store) && begins_with (drop (i + 1) fields) (map f (drop (j + 1) stores)))
-    begins_more store within here is = rw (drop_more fields i [] within, drop_more stores j store here, ← is) refl
-
-    -- after the last name nothing differs
-    pub begins_end : length stores ≤ j → begins_with (drop i fields) (map f (drop j stores)) ≡ true
-    begins_end ended = rw (drop_all j stores ended) refl

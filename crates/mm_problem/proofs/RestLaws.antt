@@ -1,7 +1,8 @@
 -- The rest of a problem, from new start volumes.
-use Rattle.std.proofs.Common.{◌≡◌, ℕ, zero, suc, inl, inr, ◌+◌, ◌-◌, ◌*◌, ◌<◌, ◌≤◌, nat_le, Bool, true, false, List, length, get_or, drop, refl, ◌∙◌, arith, length-drop}
+use Rattle.std.proofs.Common.{◌≡◌, ℕ, zero, suc, inl, inr, ◌+◌, ◌-◌, ◌*◌, ◌<◌, ◌≤◌, nat_le, Bool, true, List}
+use Rattle.std.proofs.Common.{length, get_or, drop, refl, ◌∙◌, arith, length-drop}
 use Rattle.std.specs.List.{list_all, range_with_len}
-use Rattle.std.proofs.lemmas.Bool.{and_parts, cases_Bool}
+use Rattle.std.proofs.lemmas.Bool.{and_parts}
 use Rattle.std.proofs.lemmas.List.Elements.{All-drop}
 use Rattle.std.proofs.Math.Nat.{eq-or-lt_of_le, mul_comm, mul-sub}
 use Rattle.std.proofs.lemmas.List.FromFn.{length-map-range_with_len, get_or-map-range_with_len}
@@ -11,11 +12,6 @@ use Rattle.mm_base.proofs.IdFields.{Decides-nat_le}
 use Rattle.mm_problem.specs.Dumping.{no_row, AreSteps, AreStepLimits}
 use Rattle.mm_problem.specs.Rest.{starting_with, rows_from, starts_fit}
 use Rattle.mm_problem.specs.Setup.{AreStores}
-
--- what all numbers of a range pass
-all_of_range : (p : ℕ → Bool) (n a : ℕ) → ((k : ℕ) → a ≤ k → k < a + n → p k ≡ true) → list_all p (range_with_len a n) ≡ true
-all_of_range p zero a each = refl
-all_of_range p (suc n) a each = rw (each a (omega arith) (omega arith), all_of_range p n (a + 1) (λ k low high. each k (omega arith) (omega arith))) refl
 
 -- each number of a range passes what all pass
 of_range : (p : ℕ → Bool) (n a k : ℕ) → list_all p (range_with_len a n) ≡ true → a ≤ k → k < a + n → p k ≡ true
@@ -28,13 +24,16 @@ of_range p (suc n) a k all low high =
     ]
 
 -- the rows of a table after a step
-later_table : (steps n step : ℕ) (cells : List ℕ) → length cells ≡ steps * n → length (drop (step * n) cells) ≡ (steps - step) * n
+later_table : (steps n step : ℕ) (cells : List ℕ)
+    → length cells ≡ steps * n → length (drop (step * n) cells) ≡ (steps - step) * n
 later_table steps n step cells table =
-    let fewer : (steps - step) * n ≡ steps * n - step * n = mul_comm (steps - step) n ∙ mul-sub n steps step ∙ (omega arith) in
+    let fewer : (steps - step) * n ≡ steps * n - step * n =
+    mul_comm (steps - step) n ∙ mul-sub n steps step ∙ (omega arith) in
     rw (length-drop (step * n) cells, table, fewer) refl
 
 -- the limits of the steps after a step
-pub are_step_limits : (windows limited step_limits : List ℕ) (step : ℕ) → AreStepLimits windows limited step_limits → AreStepLimits (drop step windows) limited (drop (step * length limited) step_limits)
+pub are_step_limits : (windows limited step_limits : List ℕ) (step : ℕ) → AreStepLimits windows limited step_limits
+    → AreStepLimits (drop step windows) limited (drop (step * length limited) step_limits)
 are_step_limits windows limited step_limits step is = record {
   at_most = is.at_most;
   each_channel = is.each_channel;
@@ -44,28 +43,23 @@ are_step_limits windows limited step_limits step is = record {
 }
 
 module _ (rows : List StoreRow) (starts : List ℕ) where
-  -- the test passes where each store has room
-  pub starts_fit_from : ((k : ℕ) → k < length rows → get_or starts k 0 ≤ (get_or rows k no_row).size) → starts_fit rows starts ≡ true
-  starts_fit_from each = all_of_range (λ s. nat_le (get_or starts s 0) (get_or rows s no_row).size) (length rows) 0 (λ k low high. (Decides-nat_le (get_or starts k 0) (get_or rows k no_row).size).1 (each k (omega arith)))
-
   -- each store has room where the test passes
-  pub starts_fit_said : starts_fit rows starts ≡ true → (k : ℕ) → k < length rows → get_or starts k 0 ≤ (get_or rows k no_row).size
-  starts_fit_said all k below = (Decides-nat_le (get_or starts k 0) (get_or rows k no_row).size).0 (of_range (λ s. nat_le (get_or starts s 0) (get_or rows s no_row).size) (length rows) 0 k all (omega arith) (omega arith))
-
-  -- the test fails where one store lacks room
-  pub one_start_too_high : (k : ℕ) → k < length rows → (get_or rows k no_row).size < get_or starts k 0 → starts_fit rows starts ≡ false
-  one_start_too_high k below above = elim (cases_Bool (starts_fit rows starts)) [
-    | inl fit ↦ absurd (let room = starts_fit_said fit k below in omega arith)
-    | inr none ↦ none
-  ]
+  pub starts_fit_said : starts_fit rows starts ≡ true
+      → (k : ℕ) → k < length rows → get_or starts k 0 ≤ (get_or rows k no_row).size
+  starts_fit_said all k below = (Decides-nat_le (get_or starts k 0) (get_or rows k no_row).size).0
+      (of_range (λ s. nat_le (get_or starts s 0) (get_or rows s no_row).size) (length rows) 0 k all (omega arith)
+      (omega arith))
 
   -- the row at a place
-  row_at : (k : ℕ) (d : StoreRow) → k < length rows → get_or (rows_from rows starts) k d ≡ starting_with (get_or rows k no_row) (get_or starts k 0)
-  row_at k d below = get_or-map-range_with_len (λ s. starting_with (get_or rows s no_row) (get_or starts s 0)) 0 (length rows) k k d below (omega arith)
+  row_at : (k : ℕ) (d : StoreRow) → k < length rows
+      → get_or (rows_from rows starts) k d ≡ starting_with (get_or rows k no_row) (get_or starts k 0)
+  row_at k d below = get_or-map-range_with_len
+      (λ s. starting_with (get_or rows s no_row) (get_or starts s 0)) 0 (length rows) k k d below (omega arith)
 
   -- there are as many rows
   pub as_many_rows : length (rows_from rows starts) ≡ length rows
-  as_many_rows = length-map-range_with_len (λ s. starting_with (get_or rows s no_row) (get_or starts s 0)) 0 (length rows)
+  as_many_rows =
+      length-map-range_with_len (λ s. starting_with (get_or rows s no_row) (get_or starts s 0)) 0 (length rows)
 
   -- they are stores
   pub are_stores : AreStores rows → starts_fit rows starts ≡ true → AreStores (rows_from rows starts)
@@ -75,14 +69,20 @@ module _ (rows : List StoreRow) (starts : List ℕ) where
     each = λ k d below.
         let within : k < length rows = omega (arith, as_many_rows) in
         let row = is.each k no_row within in
-        rw (row_at k d within) (record { has_room = row.has_room; size = row.size; start = starts_fit_said fit k within; channel = row.channel });
+        rw (row_at k d within) (record {
+          has_room = row.has_room;
+          size = row.size;
+          start = starts_fit_said fit k within;
+          channel = row.channel;
+        });
     named = λ i j d low high.
         let within : j < length rows = omega (arith, as_many_rows) in
         rw (row_at i d (omega arith), row_at j d within) (is.named i j no_row low within);
   }
 
   -- the steps after a step
-  pub are_steps : (windows arrived : List ℕ) (step : ℕ) → AreSteps rows windows arrived → step < length windows → AreSteps (rows_from rows starts) (drop step windows) (drop (step * length rows) arrived)
+  pub are_steps : (windows arrived : List ℕ) (step : ℕ) → AreSteps rows windows arrived
+      → step < length windows → AreSteps (rows_from rows starts) (drop step windows) (drop (step * length rows) arrived)
   are_steps windows arrived step is below =
       let n = length rows in
       record {

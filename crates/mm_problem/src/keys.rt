@@ -4,7 +4,8 @@ ghost use Rattle.std.specs.BTreeMap.{keys};
 ghost use Rattle.std.specs.List.{list_all};
 ghost use Rattle.toml.specs.Data.{get_member};
 ghost use Rattle.toml.specs.View.{view, table_view};
-ghost use Rattle.mm_problem.specs.Keys.{is_named, has_only, value_at, text_at, integer_at, within, number_at, elements_of, array_at, array_if_any};
+ghost use Rattle.mm_problem.specs.Keys.{is_named, has_only, value_at, text_at, integer_at, within, number_at};
+ghost use Rattle.mm_problem.specs.Keys.{elements_of, array_at, array_if_any};
 ghost use Rattle.mm_problem.specs.declared.fault.Fault.TheVariants.{NoMemory};
 ghost use Rattle.mm_base.specs.Reading.{Gives};
 
@@ -49,19 +50,15 @@ pub(crate) fn value_at(name: Name, table: &Table) -> Option<&Value>
 pub(crate) fn text_at(row: u32, name: Name, table: &Table) -> Result<&str, Fault>
     ensures { Gives NoMemory (λ s. s.now) result (text_at row name (table_view table.now)) }
 {
-    match value_at(name, table) {
-        Some(value) => value.as_str().ok_or(Fault::SetupField { row, name }),
-        None => Err(Fault::SetupField { row, name }),
-    }
+    let text = value_at(name, table).and_then(|value| value.as_str());
+    text.ok_or(Fault::SetupField { row, name })
 }
 
 fn integer_at(row: u32, name: Name, table: &Table) -> Result<i64, Fault>
     ensures { Gives NoMemory (λ z. z) result (integer_at row name (table_view table.now)) }
 {
-    match value_at(name, table) {
-        Some(value) => value.as_integer().ok_or(Fault::SetupField { row, name }),
-        None => Err(Fault::SetupField { row, name }),
-    }
+    let number = value_at(name, table).and_then(|value| value.as_integer());
+    number.ok_or(Fault::SetupField { row, name })
 }
 
 // A whole number within its range.

@@ -1,12 +1,14 @@
 //! The dumping problem: what the setup and the forecast say together.
-ghost use Rattle.std.specs.Prelude.{◌≡◌, ◌==◌, ◌<◌, ◌≤◌, length, position, bytes_eq, IfOk, IfErr, IfSome, IfNone};
+ghost use Rattle.std.specs.Prelude.{◌≡◌, ◌==◌, ◌<◌, ◌≤◌, length, slice_index, slice_index_or, position, bytes_eq, IfOk};
+ghost use Rattle.std.specs.Prelude.{IfErr, IfSome, IfNone};
 ghost use Rattle.mm_base.specs.declared.limits.TheConstants.{MAX_STORES, MAX_STEPS, MAX_BLOCKS, MAX_CHANNEL, CHANNELS};
 ghost use Rattle.mm_base.specs.Id.{IsIdField};
-ghost use Rattle.mm_problem.specs.Dumping.{row, place, size, start, channel, setup_limit, step_limit, column_limit};
+ghost use Rattle.mm_problem.specs.Dumping.{no_row, row, place, size, start, channel, setup_limit, step_limit};
+ghost use Rattle.mm_problem.specs.Dumping.{column_limit};
 ghost use Rattle.mm_problem.specs.Dumping.{lesser, limit, window, arrivals, IsDumping};
 ghost use Rattle.mm_problem.specs.Forecast.{limit_of, limits_of, problem_of};
 ghost use Rattle.mm_problem.specs.Data.{problem_from, limited_by};
-ghost use Rattle.mm_problem.specs.Rest.{rows_from, starts_fit, rest_from};
+ghost use Rattle.mm_problem.specs.Rest.{starting_with, rows_from, starts_fit, rest_from};
 ghost use Rattle.mm_problem.specs.declared.fault.Fault.TheVariants.{NoMemory};
 ghost use Rattle.mm_base.specs.Reading.{Gives};
 
@@ -69,17 +71,27 @@ fn place_in(rows: &[StoreRow], id: &StoreId) -> Option<usize>
     rows.iter().position(|row| row.id == *id)
 }
 
+// The store at a place, with its start volume.
+fn started(rows: &[StoreRow], starts: &[u32], place: usize) -> StoreRow
+    requires within { place < length rows.now }
+    requires as_many { length starts.now ≡ length rows.now }
+    ensures { result ≡ starting_with (slice_index_or rows.now place no_row) (slice_index starts.now place) }
+{
+    StoreRow {
+        start: starts[place],
+        ..rows[place]
+    }
+}
+
 // Whether each store has room for its start volume.
 fn starts_fit(rows: &[StoreRow], starts: &[u32]) -> bool
     requires { length starts.now ≡ length rows.now }
     ensures { result ≡ starts_fit rows.now starts.now }
 {
-    for (place, row) in rows.iter().enumerate() {
-        if row.size < starts[place] {
-            return false;
-        }
-    }
-    true
+    (0..rows.len()).all(|place| {
+        let row = started(rows, starts, place);
+        row.start <= row.size
+    })
 }
 
 // The stores, with these start volumes.
@@ -88,33 +100,23 @@ fn rows_from(alloc: Global, rows: &[StoreRow], starts: &[u32]) -> Result<Vec<Sto
     ensures rows { IfOk result (λ v. v.items ≡ rows_from rows.now starts.now) }
     ensures memory { IfErr result (λ e. e ≡ NoMemory) }
 {
-    let mut started = Vec::new(alloc);
-    for (place, row) in rows.iter().enumerate() {
-        let start = starts[place];
-        started.push(StoreRow { start, ..*row })?;
-    }
-    Ok(started)
+    let rows = (0..rows.len()).map(|place| started(rows, starts, place));
+    Ok(rows.collect(alloc)?)
 }
 
 // The limit of a channel, where there is one.
 fn limit_of(limits: &[LimitRow], channel: u8) -> Option<u32>
     ensures { result ≡ limit_of limits.now channel }
 {
-    match limits.iter().find(|row| row.channel == channel) {
-        Some(row) => Some(row.blocks),
-        None => None,
-    }
+    let row = limits.iter().find(|row| row.channel == channel)?;
+    Some(row.blocks)
 }
 
 // The limit of each channel.
 fn limits_of(limits: &[LimitRow]) -> [Option<u32>; CHANNELS]
     ensures { result ≡ limits_of limits.now }
 {
-    let mut by_channel = [None; CHANNELS];
-    for channel in 0..CHANNELS {
-        by_channel[channel] = limit_of(limits, channel as u8);
-    }
-    by_channel
+    std::array::from_fn(|channel| limit_of(limits, channel as u8))
 }
 
 // The place of a channel.
