@@ -84,8 +84,8 @@ pub fn told_of(answer: Result<(), Fault>) -> Told {
 /// A call through a seat, by its number, with its answer.
 pub(crate) type SeatCall = (usize, Ask, Told);
 
-/// The first seat offers, then the second; the first takes a copy of its packet back, and aborts. The calls that the example lacks
-/// follow.
+/// The first seat offers, then the second; the first takes a copy of its packet back, and aborts. The calls that the
+/// example lacks follow.
 pub(crate) const CALLS: [SeatCall; 8] = [
     (0, Ask::Offer(7, 1), Told::Kept(7)),
     (1, Ask::Offer(7, 2), Told::Kept(8)),

@@ -1,9 +1,10 @@
 //! A problem from data, its rest after a step, and a source from after that step on.
 use crate::met::Met;
+use crate::records::PACKETS;
 use mm_base::{Kind, StoreId, StoreRow};
-use mm_packet::BlockPacket;
 use mm_problem::{Fault, Problem};
-use mm_record::{Source, later_sources};
+use mm_record::later_sources;
+use mm_run::SourceFile;
 use std::alloc::Global;
 
 // A problem of one store and two steps, with limits of its channel in them.
@@ -52,30 +53,9 @@ pub(crate) fn rest(alloc: Global) -> Option<Met> {
     Some(rest_of(alloc, &problem))
 }
 
-// A source that gives nothing.
-#[derive(Drop)]
-struct Silence;
-
-impl Source for Silence {
-    ghost use Rattle.std.specs.Prelude.{[]};
-
-    ghost gives = { λ _ _. [] };
-
-    fn left(&self, _step: u32) -> u32 {
-        0
-    }
-
-    fn next(&mut self, _step: u32) -> Option<BlockPacket> {
-        None
-    }
-}
-
 /// What came of two sources from after a step on; nothing where there was no memory for them.
 pub(crate) fn later(alloc: Global) -> Option<Met> {
-    let mut sources = Vec::new(alloc);
-    for _ in 0..2 {
-        sources.push(Silence).ok()?;
-    }
+    let SourceFile { sources, .. } = SourceFile::read(alloc, PACKETS.as_bytes()).ok()?;
     Some(match later_sources(alloc, sources, 7) {
         Ok(later) => Met::Whole.provided(later.len() == 2, "another number of sources"),
         Err((back, _)) => Met::Wanted.provided(back.len() == 2, "a source not handed back"),

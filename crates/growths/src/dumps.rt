@@ -3,9 +3,8 @@ ghost use Rattle.std.specs.Prelude.{◌≡◌, ◌≢◌, ◌<◌, ◌≤◌, le
 ghost use Rattle.mm_base.specs.declared.limits.TheConstants.{MAX_STORES};
 
 use crate::calls::{new_state, packet};
-use crate::link::{TestLink, new_links};
 use crate::met::Met;
-use crate::traces::sent_over;
+use crate::traces::{TestLink, new_links, sent_over};
 use mm_base::{NoMemory, StoreId};
 use mm_desk::{Held, StoreState};
 use mm_dump::laws::idle_stores_suit_orders;
@@ -158,6 +157,6 @@ fn dumped_or_again<R: Threads + Wait + Sync>(
 /// What came of a step's dump; nothing where there was no memory to begin.
 pub(crate) fn dumps<R: Threads + Wait + Sync>(rt: &R, alloc: Global) -> Option<Met> {
     let mut stores = stores_in_room(alloc)?;
-    let mut links = new_links(alloc, 2).ok()?;
+    let mut links = new_links(alloc, 2)?;
     Some(dumped_or_again(rt, alloc, &mut stores, &mut links))
 }

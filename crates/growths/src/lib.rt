@@ -1,7 +1,9 @@
-//! Calls that may lack memory, in parts: each says what its calls answered, which is wrong where none of them may answer it.
+//! Calls that may lack memory, in parts: each says what its calls answered, which is wrong where none of them may
+//! answer it.
 #![tactic(auto)]
 
-// Telemetry with three octets of data: the source of each packet, its step, and its sequence count as two hexadecimal digits.
+// Telemetry with three octets of data: the source of each packet, its step, and its sequence count as two hexadecimal
+// digits.
 macro_rules! packets {
     ($($source:literal $step:literal $count:literal),+) => {
         concat!($($source, " ", $step, " 0864C0", $count, "0011200319000000000000000000000000010203\n"),+)
@@ -11,7 +13,6 @@ macro_rules! packets {
 pub mod calls;
 mod data;
 pub mod dumps;
-mod link;
 mod met;
 mod parts;
 mod records;

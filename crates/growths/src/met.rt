@@ -12,8 +12,8 @@ pub enum Met {
     Refused,
     /// No plan was made, for want of memory, and nothing was done.
     Unplanned,
-    /// A run was halted for want of memory in this step, or before the first one, in step 0.
-    Halted(u32),
+    /// A run was halted for want of memory before its first step.
+    Halted,
     /// All is as with ample memory.
     Whole,
     /// What none of the calls may answer or leave.
@@ -55,7 +55,7 @@ impl fmt::Display for Met {
             Met::Wanted => write!(f, "memory was wanted"),
             Met::Refused => write!(f, "an instruction found no memory"),
             Met::Unplanned => write!(f, "there was no memory to plan"),
-            Met::Halted(step) => write!(f, "halted in step {step}"),
+            Met::Halted => write!(f, "halted in step 0"),
             Met::Whole => write!(f, "all was as with ample memory"),
             Met::Wrong(told) => write!(f, "wrong: {told}"),
         }

@@ -1,4 +1,5 @@
-//! A step of recorders: two sources of three packets each, which go to a circular store of two blocks and to a bounded one of four.
+//! A step of recorders: two sources of three packets each, which go to a circular store of two blocks and to a bounded
+//! one of four.
 
 use crate::met::Met;
 use crate::requests::memory_of_text;
@@ -16,8 +17,9 @@ const SETUP: &[u8] = b"[[store]]\nid = \"C\"\nsize = 2\ntype = \"circular\"\ncha
     [[route]]\napid = 100\nservice = 3\nsubtype = 25\nstore = \"B\"\n\n\
     [[route]]\napid = 100\nservice = 3\nsubtype = 25\nstore = \"C\"\n";
 
-// Packets 1 to 6 in step 1, of two sources.
-const PACKETS: &str = packets!(1 1 "01", 2 1 "02", 1 1 "03", 2 1 "04", 1 1 "05", 2 1 "06");
+/// Packets 1 to 6 in step 1, of two sources.
+pub(crate) const PACKETS: &str =
+    packets!(1 1 "01", 2 1 "02", 1 1 "03", 2 1 "04", 1 1 "05", 2 1 "06");
 
 // How many packets were offered to a store and lost, and how many it holds.
 type Counts = (u64, u64, u32);

@@ -1,7 +1,6 @@
-//! Requests to a memory: a store that is deleted with its routes, one that is resized and changes its kind, and stores that are created.
-//! What finds no memory changes nothing, and is asked once more.
+//! Requests to a memory: a store that is deleted with its routes, one that is resized and changes its kind, and stores
+//! that are created. What finds no memory changes nothing, and is asked once more.
 use crate::met::Met;
-use crate::runs::SETUP;
 use mm_base::Kind;
 use mm_memory::{Answer, Answers, Fault, Memory};
 use mm_packet::Packet;
@@ -23,6 +22,10 @@ macro_rules! setup {
 const SIXTEEN_STORES: &str = setup!(
     "A", "B", "C", "D", "E", "F", "G", "H", "I", "J", "K", "L", "M", "N", "O", "P"
 );
+
+// One bounded store of four blocks, SCI, on channel 0, with one route.
+const ONE_STORE: &[u8] = b"[[store]]\nid = \"SCI\"\nsize = 4\ntype = \"bounded\"\nchannel = 0\n\n\
+    [[route]]\napid = 100\nservice = 3\nsubtype = 25\nstore = \"SCI\"\n";
 
 // What a store is.
 #[derive(Clone, Copy, PartialEq, Eq)]
@@ -47,15 +50,14 @@ const OF_FOUR: Shape = Shape { size: 4, ..OF_TWO };
 
 const OF_EIGHT: Shape = Shape { size: 8, ..OF_TWO };
 
-// An instruction as a request of its own, the identifier of its store, its answer, whether that may be want of memory, and what the store
-// is before and after it.
+// An instruction as a request of its own, the identifier of its store, its answer, whether that may be want of memory,
+// and what it leaves of the store.
 #[derive(Clone, Copy)]
 struct Instruction {
     alone: &'static [u8],
     id: &'static [u8],
     answer: Answer,
     may_lack: bool,
-    before: Option<Shape>,
     after: Option<Shape>,
 }
 
@@ -97,25 +99,20 @@ fn counts(memory: &Memory) -> (usize, usize) {
     (memory.stores().len(), memory.control().list().len())
 }
 
-// Whether the store of each instruction is as it was before it.
-fn are_unchanged(memory: &Memory, step: &Step) -> bool {
-    step.each
-        .iter()
-        .all(|one| shape_of(memory, one.id) == one.before)
+// What the stores of the instructions are, of which there are at most two.
+fn shapes_of(memory: &Memory, step: &Step) -> [Option<Shape>; 2] {
+    let mut shapes = [None; 2];
+    for (shape, one) in shapes.iter_mut().zip(step.each) {
+        *shape = shape_of(memory, one.id);
+    }
+    shapes
 }
 
-// Whether the store of each instruction is as that leaves it.
-fn are_left(memory: &Memory, step: &Step) -> bool {
-    step.each
-        .iter()
-        .all(|one| shape_of(memory, one.id) == one.after)
-}
-
-// Whether the store that an instruction names is as the answer says.
-fn as_answered(memory: &Memory, one: &Instruction, answer: Answer) -> Met {
+// Whether the store that an instruction names, and that was this before, is as the answer says.
+fn as_answered(memory: &Memory, one: &Instruction, before: Option<Shape>, answer: Answer) -> Met {
     let now = shape_of(memory, one.id);
     if one.may_lack && answer == Answer::Refused(Fault::NoMemory) {
-        return Met::Refused.provided(now == one.before, "a store changed without memory");
+        return Met::Refused.provided(now == before, "a store changed without memory");
     }
     Met::Whole
         .provided(answer == one.answer, "another answer")
@@ -134,8 +131,14 @@ fn is_answered_alone(alloc: Global, memory: &mut Memory, one: &Instruction) -> b
 }
 
 // What came of an instruction. One that found no memory is asked for once more, by itself.
-fn done_or_again(alloc: Global, memory: &mut Memory, one: &Instruction, answer: Answer) -> Met {
-    let met = as_answered(memory, one, answer);
+fn done_or_again(
+    alloc: Global,
+    memory: &mut Memory,
+    one: &Instruction,
+    before: Option<Shape>,
+    answer: Answer,
+) -> Met {
+    let met = as_answered(memory, one, before, answer);
     if !matches!(met, Met::Refused) {
         return met;
     }
@@ -143,41 +146,46 @@ fn done_or_again(alloc: Global, memory: &mut Memory, one: &Instruction, answer: 
     met.provided(done, "an instruction refused twice")
 }
 
-// What came of the instructions of a request.
-fn all_done(alloc: Global, memory: &mut Memory, step: &Step, answers: &Answers) -> Met {
+// What came of the instructions of a request, before which the stores were these.
+fn all_done(
+    alloc: Global,
+    memory: &mut Memory,
+    step: &Step,
+    before: [Option<Shape>; 2],
+    answers: &Answers,
+) -> Met {
     let many = answers.each.len() == step.each.len();
     let mut met = Met::Whole
         .provided(answers.reports.is_empty(), "a report")
         .provided(many, "another number of answers");
-    for (one, answer) in step.each.iter().zip(answers.each.iter()) {
-        met = met.and(done_or_again(alloc, memory, one, *answer));
+    for ((one, before), answer) in step.each.iter().zip(before).zip(answers.each.iter()) {
+        met = met.and(done_or_again(alloc, memory, one, before, *answer));
     }
     met
 }
 
-// What came of a request.
+// What came of a request. One that found no memory has changed nothing.
 fn asked(alloc: Global, memory: &mut Memory, step: &Step, request: &Request) -> Met {
+    let (counted, before) = (counts(memory), shapes_of(memory, step));
     match memory.apply(alloc, 1, request) {
-        Ok(answers) => all_done(alloc, memory, step, &answers),
-        Err(_) => Met::Wanted,
+        Ok(answers) => all_done(alloc, memory, step, before, &answers),
+        Err(_) => Met::Wanted
+            .provided(counts(memory) == counted, "a store more or less")
+            .provided(shapes_of(memory, step) == before, "changed without memory"),
     }
 }
 
-// What came of a request. One that found no memory has changed nothing, and is carried out once more.
+// What came of a request. One that found no memory is carried out once more.
 fn carried_out_or_unchanged(
     alloc: Global,
     memory: &mut Memory,
     step: &Step,
     request: &Request,
 ) -> Met {
-    let before = counts(memory);
     let met = asked(alloc, memory, step, request);
     if !matches!(met, Met::Wanted) {
         return met;
     }
-    let met = met
-        .provided(counts(memory) == before, "a store more or less")
-        .provided(are_unchanged(memory, step), "changed without memory");
     let again = asked(alloc, memory, step, request);
     met.provided(
         matches!(again, Met::Whole),
@@ -189,8 +197,12 @@ fn carried_out_or_unchanged(
 fn carried_out(alloc: Global, memory: &mut Memory, step: &Step) -> Option<Met> {
     let request = request_of(alloc, step.packet)?;
     let met = carried_out_or_unchanged(alloc, memory, step, &request);
+    let mut left = [None; 2];
+    for (left, one) in left.iter_mut().zip(step.each) {
+        *left = one.after;
+    }
     Some(
-        met.provided(are_left(memory, step), "another store is left")
+        met.provided(shapes_of(memory, step) == left, "another store is left")
             .provided(counts(memory) == step.left, "another memory"),
     )
 }
@@ -205,10 +217,10 @@ fn carried_out_on(alloc: Global, setup: &[u8], steps: &[Step]) -> Option<Met> {
     Some(met)
 }
 
-// A step of one instruction: its request, the store, its answer, whether that may be want of memory, what the store is before and after
-// it, and how many stores and routes are left.
+// A step of one instruction: its request, the store, its answer, whether that may be want of memory, what the store is
+// after it, and how many stores and routes are left.
 macro_rules! single {
-    ($packet:literal, $id:literal, $answer:expr, $may_lack:literal, $before:expr => $after:expr, left $left:expr) => {
+    ($packet:literal, $id:literal, $answer:expr, $may_lack:literal => $after:expr, left $left:expr) => {
         Step {
             packet: $packet,
             each: &[Instruction {
@@ -216,7 +228,6 @@ macro_rules! single {
                 id: $id,
                 answer: $answer,
                 may_lack: $may_lack,
-                before: $before,
                 after: $after,
             }],
             left: $left,
@@ -244,7 +255,6 @@ const C_OFF: Instruction = Instruction {
     id: b"C",
     answer: Answer::Done,
     may_lack: false,
-    before: Some(OF_FOUR),
     after: Some(OF_FOUR),
 };
 
@@ -252,22 +262,22 @@ const C_OFF: Instruction = Instruction {
 const SCI_OFF: Instruction = Instruction {
     id: b"sci",
     answer: Answer::Refused(Fault::BadId),
-    before: None,
     after: None,
     ..C_OFF
 };
 
-// A seventeenth store, Z. Then the store C is deleted, whose storage is on; its storage is turned off, it is deleted with its route, and
-// its storage is turned on. It is created without a block, and then with four. Last, storage off by a request of two instructions.
+// A seventeenth store, Z. Then the store C is deleted, whose storage is on; its storage is turned off, it is deleted
+// with its route, and its storage is turned on. It is created without a block, and then with four. Last, storage off by
+// a request of two instructions.
 static DELETED: [Step; 8] = [
-    single!(b"\x18\x64\xC0\0\0\x13\x20\x0F\x14\0\0\x01Z       \0\0\0\x04\x01\0", b"Z", TOO_MANY, false, None => None, left (16, 16)),
-    single!(b"\x18\x64\xC0\0\0\x0D\x20\x0F\x15\0\0\x01C       ", b"C", STORAGE_ON, false, Some(C) => Some(C), left (16, 16)),
-    single!(b"\x18\x64\xC0\0\0\x0D\x20\x0F\x02\0\0\x01C       ", b"C", Answer::Done, false, Some(C) => Some(OF_TWO), left (16, 16)),
-    single!(b"\x18\x64\xC0\0\0\x0D\x20\x0F\x15\0\0\x01C       ", b"C", Answer::Done, false, Some(OF_TWO) => None, left (15, 15)),
-    single!(b"\x18\x64\xC0\0\0\x0D\x20\x0F\x01\0\0\x01C       ", b"C", NO_STORE, false, None => None, left (15, 15)),
-    single!(b"\x18\x64\xC0\0\0\x13\x20\x0F\x14\0\0\x01C       \0\0\0\0\x01\0", b"C", BAD_SIZE, false, None => None, left (15, 15)),
+    single!(b"\x18\x64\xC0\0\0\x13\x20\x0F\x14\0\0\x01Z       \0\0\0\x04\x01\0", b"Z", TOO_MANY, false => None, left (16, 16)),
+    single!(b"\x18\x64\xC0\0\0\x0D\x20\x0F\x15\0\0\x01C       ", b"C", STORAGE_ON, false => Some(C), left (16, 16)),
+    single!(b"\x18\x64\xC0\0\0\x0D\x20\x0F\x02\0\0\x01C       ", b"C", Answer::Done, false => Some(OF_TWO), left (16, 16)),
+    single!(b"\x18\x64\xC0\0\0\x0D\x20\x0F\x15\0\0\x01C       ", b"C", Answer::Done, false => None, left (15, 15)),
+    single!(b"\x18\x64\xC0\0\0\x0D\x20\x0F\x01\0\0\x01C       ", b"C", NO_STORE, false => None, left (15, 15)),
+    single!(b"\x18\x64\xC0\0\0\x13\x20\x0F\x14\0\0\x01C       \0\0\0\0\x01\0", b"C", BAD_SIZE, false => None, left (15, 15)),
     single!(b"\x18\x64\xC0\0\0\x13\x20\x0F\x14\0\0\x01C       \0\0\0\x04\x01\0",
-        b"C", Answer::Done, true, None => Some(OF_FOUR), left (16, 15)),
+        b"C", Answer::Done, true => Some(OF_FOUR), left (16, 15)),
     Step {
         packet: b"\x18\x64\xC0\0\0\x15\x20\x0F\x02\0\0\x02sci     C       ",
         each: &[SCI_OFF, C_OFF],
@@ -304,7 +314,6 @@ const A_MADE: Instruction = Instruction {
     id: b"A",
     answer: Answer::Done,
     may_lack: true,
-    before: None,
     after: Some(OF_FOUR),
 };
 
@@ -315,24 +324,24 @@ const B_MADE: Instruction = Instruction {
     ..A_MADE
 };
 
-// The store SCI is switched off, resized, made circular and bounded again, each by a request of its own; then A and B are created by one;
-// and last, SCI, which is off, is as it was before A and B were created.
+// The store SCI is switched off, resized, made circular and bounded again, each by a request of its own; then A and B
+// are created by one; and last, SCI, which is off, is as it was before A and B were created.
 static CREATED: [Step; 6] = [
-    single!(b"\x18\x64\xC0\0\0\x0D\x20\x0F\x02\0\0\x01SCI     ", b"SCI", Answer::Done, false, Some(SCI) => Some(OF_FOUR), left (1, 1)),
+    single!(b"\x18\x64\xC0\0\0\x0D\x20\x0F\x02\0\0\x01SCI     ", b"SCI", Answer::Done, false => Some(OF_FOUR), left (1, 1)),
     single!(b"\x18\x64\xC0\0\0\x11\x20\x0F\x19\0\0\x01SCI     \0\0\0\x08",
-        b"SCI", Answer::Done, true, Some(OF_FOUR) => Some(OF_EIGHT), left (1, 1)),
-    single!(b"\x18\x64\xC0\0\0\x0D\x20\x0F\x1A\0\0\x01SCI     ", b"SCI", Answer::Done, true, Some(OF_EIGHT) => Some(CIRCULAR), left (1, 1)),
-    single!(b"\x18\x64\xC0\0\0\x0D\x20\x0F\x1B\0\0\x01SCI     ", b"SCI", Answer::Done, true, Some(CIRCULAR) => Some(OF_EIGHT), left (1, 1)),
+        b"SCI", Answer::Done, true => Some(OF_EIGHT), left (1, 1)),
+    single!(b"\x18\x64\xC0\0\0\x0D\x20\x0F\x1A\0\0\x01SCI     ", b"SCI", Answer::Done, true => Some(CIRCULAR), left (1, 1)),
+    single!(b"\x18\x64\xC0\0\0\x0D\x20\x0F\x1B\0\0\x01SCI     ", b"SCI", Answer::Done, true => Some(OF_EIGHT), left (1, 1)),
     Step {
         packet: b"\x18\x64\xC0\0\0\x21\x20\x0F\x14\0\0\x02A       \0\0\0\x04\x01\0B       \0\0\0\x02\0\x01",
         each: &[A_MADE, B_MADE],
         left: (3, 1),
     },
     single!(b"\x18\x64\xC0\0\0\x0D\x20\x0F\x02\0\0\x01SCI     ",
-        b"SCI", Answer::Done, false, Some(OF_EIGHT) => Some(OF_EIGHT), left (3, 1)),
+        b"SCI", Answer::Done, false => Some(OF_EIGHT), left (3, 1)),
 ];
 
 /// What came of the requests that resize a store, change its kind and create two stores.
 pub(crate) fn created(alloc: Global) -> Option<Met> {
-    carried_out_on(alloc, SETUP, &CREATED)
+    carried_out_on(alloc, ONE_STORE, &CREATED)
 }

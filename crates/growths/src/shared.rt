@@ -1,4 +1,5 @@
-//! A bounded store of four blocks that threads may share: it is opened with two ports, each call is made once, and it is closed.
+//! A bounded store of four blocks that threads may share: it is opened with two ports, each call is made once, and it
+//! is closed.
 ghost use Rattle.std.specs.Prelude.{◌≡◌, ◌≤◌, [], length, IfOk, vec_capacity};
 ghost use Rattle.mm_shared.specs.Views.{new_ports};
 
@@ -47,7 +48,8 @@ pub fn answer<R: Wait>(
     }
 }
 
-// What came of a call. It takes no memory itself: that may lack for the packet alone that it offers, which is then made once more.
+// What came of a call. It takes no memory itself: that may lack for the packet alone that it offers, which is then made
+// once more.
 fn called<R: Wait>(
     rt: &R,
     alloc: Global,

@@ -17,7 +17,8 @@ const ENDS: &[u8] = b"\ndump 2 0 0\nloss 2\nstretch A 1 2\nstretch B 1 2\nbound 
 const PLAN: &[u8] = b"mmplan 1\nstores A B\ndump 1 2 0\ndump 2 0 0\nloss 2\n\
     stretch A 1 2\nstretch B 1 2\nbound 2\nend\n";
 
-// The text where the stores are served in order. Without two blocks of step 1 A would lose some, so both are of A, and B loses two.
+// The text where the stores are served in order. Without two blocks of step 1 A would lose some, so both are of A, and
+// B loses two.
 const BEGINS_IN_ORDER: &[u8] = b"mmplan 3\nstores A B\ndump 1 2 0\ndump 2 0 0\nloss 2\n\
     stretch A 1 2\nstretch B 1 2\nbound 2\nfirst 1\nloss 0\n";
 
