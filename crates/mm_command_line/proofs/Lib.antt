@@ -3,6 +3,6 @@ pub mod Walking
 pub mod Taking
 pub mod Finding
 pub mod Plain
-pub mod Flags
-pub mod Outputs
+pub mod Names
+pub mod Parts
 pub mod Versions

@@ -1,11 +1,14 @@
 -- The words that ask for a task.
-use Rattle.std.specs.Prelude.{◌≡◌, ◌++◌, ℕ, List, [], ◌∷◌, Option, Some, None, codes, drop, nat_eq, true, false, bytes_eq, if◌then◌else◌, Bool, ◌&&◌, ◌||◌, nat_lt, length, chars, remove}
+use Rattle.std.specs.Prelude.{◌≡◌, ◌++◌, ℕ, List, [], ◌∷◌, Option, Some, None, codes, drop, nat_eq, true, false}
+use Rattle.std.specs.Prelude.{bytes_eq, if◌then◌else◌, Bool, ◌||◌, fold, length, map}
 use Rattle.std.specs.List.{All, list_any, starts_with}
-use Rattle.std.specs.Option.{option_map_or}
+use Rattle.std.specs.Borrow.{Bor}
+use Rattle.mm_command_line.specs.declared.options.Line.{Line}
+use Rattle.mm_command_line.specs.declared.options.Next.{Next}
+use Rattle.mm_command_line.specs.declared.options.Next.TheVariants.{Command, Any, Output, File}
 use Rattle.mm_command_line.specs.declared.task.PlanFiles.{PlanFiles}
 use Rattle.mm_command_line.specs.declared.task.Task.{Task}
 use Rattle.mm_command_line.specs.declared.task.Task.TheVariants.{Plan, Check, Chart, Table, Sensitivity, Fly, Ask, Read}
-use Rattle.std.specs.Borrow.{Bor}
 
 -- the names of the files of a judged plan
 abbrev pub plan_names : PlanFiles → List (List ℕ)
@@ -36,15 +39,6 @@ output_of (Chart files worth output) = output
 output_of (Table files output) = output
 output_of task = None
 
--- the word before its name
-abbrev pub output_flag : List ℕ
-output_flag = codes "--output"
-
--- the words of an output
-abbrev pub output_words : Option (Bor (List ℕ)) → List (List ℕ)
-output_words (Some name) = output_flag ∷ name.now ∷ []
-output_words None = []
-
 -- the flag of `plan`: the stores are served in the setup's order
 abbrev pub order_flag : List ℕ
 order_flag = codes "--in-order"
@@ -53,54 +47,22 @@ order_flag = codes "--in-order"
 abbrev pub worth_flag : List ℕ
 worth_flag = codes "--worth"
 
+-- a flag that is given, or none
+abbrev pub flags_if : Bool → List ℕ → List (List ℕ)
+flags_if given flag = if given then flag ∷ [] else []
+
 -- the flag of a task, where it has one
 abbrev pub flag_of : Task → List (List ℕ)
-flag_of (Plan setup forecast in_order output) = if in_order then order_flag ∷ [] else []
-flag_of (Chart files worth output) = if worth then worth_flag ∷ [] else []
+flag_of (Plan setup forecast in_order output) = flags_if in_order order_flag
+flag_of (Chart files worth output) = flags_if worth worth_flag
 flag_of task = []
-
--- the words of a command, with these flags after its word
-abbrev pub flagged : List (List ℕ) → List (List ℕ) → List (List ℕ)
-flagged flags [] = flags
-flagged flags (command ∷ names) = command ∷ flags ++ names
-
--- the words of a task: its command, its flag, the names of its files, and last its output
-abbrev pub spelling : Task → List (List ℕ)
-spelling task = flagged (flag_of task) (command_words task) ++ output_words (output_of task)
-
--- the word is the flag of this command
-abbrev pub is_flag_of : List ℕ → List ℕ → Bool
-is_flag_of command word =
-    bytes_eq command (codes "plan") && bytes_eq word order_flag || bytes_eq command (codes "chart") && bytes_eq word worth_flag
-
--- the second word is the flag of the first
-abbrev pub has_flag : List (List ℕ) → Bool
-has_flag [] = false
-has_flag (command ∷ []) = false
-has_flag (command ∷ word ∷ rest) = is_flag_of command word
-
--- the words without that flag
-abbrev pub without_flag : List (List ℕ) → List (List ℕ)
-without_flag words = if has_flag words then remove words 1 else words
-
--- the flag that goes with a command, where it is given and there is one
-abbrev pub flags_with : Bool → List (List ℕ) → List (List ℕ)
-flags_with false words = []
-flags_with true [] = []
-flags_with true (command ∷ names) =
-    if bytes_eq command (codes "plan") then order_flag ∷ [] else if bytes_eq command (codes "chart") then worth_flag ∷ [] else []
-
--- the answer to such a command is a text that can go into a file
-abbrev pub gives_text : List (List ℕ) → Bool
-gives_text [] = false
-gives_text (command ∷ names) =
-    bytes_eq command (codes "plan") || bytes_eq command (codes "chart") || bytes_eq command (codes "table")
 
 -- the word is no flag: it begins with `-` only if it is `-` alone
 abbrev pub IsFileName : List ℕ → Type 0
 IsFileName word = starts_with nat_eq word (codes "-") ≡ true → word ≡ codes "-"
 
--- the words are those of a task without its flag and its output, and none of the files that they name is spelled like a flag
+-- the words are those of a task without its flag and its output, and none of the files that they name is spelled like a
+-- flag
 pub record IsCommandLine (words : List (List ℕ)) : Type 0 where
   pub task : Task
   pub spelled : command_words task ≡ words
@@ -110,12 +72,6 @@ pub record IsCommandLine (words : List (List ℕ)) : Type 0 where
 abbrev pub output_names : Option (Bor (List ℕ)) → List (List ℕ)
 output_names (Some name) = name.now ∷ []
 output_names None = []
-
--- the words spell a task, and none of the files that they name is spelled like a flag
-pub record IsTaskLine (words : List (List ℕ)) : Type 0 where
-  pub task : Task
-  pub spelled : spelling task ≡ words
-  pub names : All IsFileName (drop 1 (command_words task) ++ output_names (output_of task))
 
 -- the words without the first `--`, which only says that no flag follows
 abbrev pub without_dashes : List (List ℕ) → List (List ℕ)
@@ -127,33 +83,118 @@ abbrev pub before_dashes : List (List ℕ) → List (List ℕ)
 before_dashes [] = []
 before_dashes (word ∷ rest) = if bytes_eq word (codes "--") then [] else word ∷ before_dashes rest
 
--- the word is `-` with a character after it
-abbrev pub is_flag : List ℕ → Bool
-is_flag word = starts_with nat_eq word (codes "-") && nat_lt 1 (length (chars word))
-
--- the line is the words without the first `--`, and no word before that is a flag
-pub record ArePlain (words line : List (List ℕ)) : Type 0 where
-  pub same : line ≡ without_dashes words
-  pub unflagged : list_any is_flag (before_dashes words) ≡ false
-
--- the flags in the words of a task
-abbrev pub flags_of : Task → List (List ℕ)
-flags_of task = flag_of task ++ option_map_or (λ name. output_flag ∷ []) (output_of task) []
-
 -- the word is `--`
 abbrev pub is_dashes : List ℕ → Bool
 is_dashes word = bytes_eq word (codes "--")
 
--- the words end with those of an output, and no `--` comes before it
-pub record EndsWithOutput (words front : List (List ℕ)) (name : List ℕ) : Type 0 where
-  pub ends : words ≡ front ++ output_flag ∷ name ∷ []
-  pub name_is : IsFileName name
-  pub undashed : list_any is_dashes front ≡ false
+-- the line is the words without the first `--`, and no word before that is spelled like a flag
+pub record ArePlain (words line : List (List ℕ)) : Type 0 where
+  pub same : line ≡ without_dashes words
+  pub names : All IsFileName (before_dashes words)
 
--- the words before a last output, and its name, where the words end with one
-abbrev pub IsSplit : List (List ℕ) → List (List ℕ) → Option (Bor (List ℕ)) → Type 0
-IsSplit words front (Some name) = EndsWithOutput words front name.now
-IsSplit words front None = (front ≡ words) × ((before : List (List ℕ)) → (name : List ℕ) → EndsWithOutput words before name → ⊥)
+-- ---- a line, of which options are taken out
+
+-- the words of a line by what they are: those of its command, with the first `--`, its flags, and the names of its
+-- outputs; and what may come next
+pub record Parts : Type 0 where
+  pub command : List (List ℕ)
+  pub flags : List (List ℕ)
+  pub outputs : List (List ℕ)
+  pub next : Next
+
+abbrev pub parts_in : Line → Parts
+parts_in line = record {
+  command = map (λ word. word.now) line.command.items;
+  flags = map (λ word. word.now) line.flags.items;
+  outputs = map (λ word. word.now) line.outputs.items;
+  next = line.next;
+}
+
+-- before the first word
+abbrev pub no_parts : Parts
+no_parts = record { command = []; flags = []; outputs = []; next = Command }
+
+-- with a word more of the command
+abbrev pub with_word : Parts → List ℕ → Parts
+with_word line word = record line { command = line.command ++ word ∷ [] }
+
+-- with a flag more
+abbrev pub with_flag : Parts → List ℕ → Parts
+with_flag line flag = record line { flags = line.flags ++ flag ∷ [] }
+
+-- with an output more of this name
+abbrev pub with_output : Parts → List ℕ → Parts
+with_output line name = record line { outputs = line.outputs ++ name ∷ [] }
+
+-- the word before the name of an output
+abbrev pub output_flag : List ℕ
+output_flag = codes "--output"
+
+-- what a word with the name of an output begins with
+abbrev pub output_prefix : List ℕ
+output_prefix = codes "--output="
+
+-- the word is the flag of a command
+abbrev pub is_task_flag : List ℕ → Bool
+is_task_flag word = bytes_eq word order_flag || bytes_eq word worth_flag
+
+-- the name in such a word
+abbrev pub joined_name : List ℕ → Option (List ℕ)
+joined_name word = if starts_with nat_eq word output_prefix then Some (drop (length output_prefix) word) else None
+
+-- a word more, which may have the name of an output in it
+abbrev pub with_joined : Parts → List ℕ → Option (List ℕ) → Parts
+with_joined line word (Some name) = with_output line name
+with_joined line word None = with_word line word
+
+-- a word more, which may be an option
+abbrev pub with_option : Parts → List ℕ → Parts
+with_option line word =
+    if is_task_flag word then with_flag line word
+    else if bytes_eq word output_flag then record line { next = Output }
+    else with_joined line word (joined_name word)
+
+-- a word more, by what may come next: after the command an option may, and after `--` nothing but names
+abbrev pub read_at : Next → Parts → List ℕ → Parts
+read_at Command line word = record (with_word line word) { next = if is_dashes word then File else Any }
+read_at Any line word = if is_dashes word then record (with_word line word) { next = File } else with_option line word
+read_at Output line word = record (with_output line word) { next = Any }
+read_at File line word = with_word line word
+
+abbrev pub read_word : Parts → List ℕ → Parts
+read_word line word = read_at line.next line word
+
+-- the words of a line by what they are
+abbrev pub parts_of : List (List ℕ) → Parts
+parts_of words = fold read_word no_parts words
+
+-- the name of an output is still to come
+abbrev pub awaits_name : Next → Bool
+awaits_name Output = true
+awaits_name next = false
+
+-- these are the names of the output, if one is named, and it is not spelled like a flag
+pub record IsOutput (names : List (List ℕ)) (output : Option (Bor (List ℕ))) : Type 0 where
+  pub same : names ≡ output_names output
+  pub name : All IsFileName names
+
+-- the options of the line are those of the task
+pub record HasOptions (line : Parts) (task : Task) : Type 0 where
+  pub flags : line.flags ≡ flag_of task
+  pub output : IsOutput line.outputs (output_of task)
+  pub whole : awaits_name line.next ≡ false
+
+-- the words ask for the task: they are its command, the names of its files in order, and its options, wherever these
+-- stand after the command; before a `--`, no file is spelled like a flag
+pub record Spells (words : List (List ℕ)) (task : Task) : Type 0 where
+  pub command : ArePlain (parts_of words).command (command_words task)
+  pub options : HasOptions (parts_of words) task
+
+-- the words ask for a task, and there is no `--` among them
+pub record IsTaskLine (words : List (List ℕ)) : Type 0 where
+  pub task : Task
+  pub spelled : Spells words task
+  pub undashed : list_any is_dashes (parts_of words).command ≡ false
 
 -- the word asks for the version: `--version` or `-V`
 abbrev pub is_version_word : List ℕ → Bool

@@ -10,7 +10,7 @@ is what `check` finds: where the cut does not show that the plan loses least, it
 Or one line:
   refused NUMBER NAME ..      a file was not read, or is not what it should be
 
-Options, --worth right after `chart`, --output after the files:
+Options, anywhere after `chart`:
   --worth                     a bar above a window shows how many blocks it saves at most if it alone is
                               wider, and the words tell them
   --output FILE               the picture goes into FILE, whole or not at all, and is not printed; FILE is

@@ -36,6 +36,9 @@ Without words the program reads a script from standard input: a first line with 
 each file under a line `=== NAME`. With words, a file named - is standard input, for one file at most,
 and --output - is standard output. In a script - is a name like any other.
 
+Options stand anywhere after the command, and --output FILE may be written --output=FILE. After the word --
+each word is the name of a file, also where it begins with -.
+
 Examples:
   mm_tool plan setup.toml forecast.csv --output plan.txt
   mm_tool plan --in-order setup.toml forecast.csv --output plan.txt

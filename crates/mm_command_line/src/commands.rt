@@ -126,7 +126,7 @@ Prints a plan text:
 or one line:
   refused NUMBER NAME ..      a file was not read, or is not what it should be
 
-Options, --in-order right after `plan`, --output after the files:
+Options, anywhere after `plan`:
   --in-order                  of the plans that lose least, one that serves the stores in the setup's order:
                               no plan that fits loses fewer of the first K stores, for each K
   --output FILE               the plan text goes into FILE, whole or not at all, and is not printed; FILE is

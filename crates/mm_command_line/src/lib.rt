@@ -6,6 +6,7 @@ mod command;
 mod commands;
 mod flight;
 mod line;
+mod options;
 mod read;
 mod sensitivity;
 mod table;

@@ -1,30 +1,21 @@
 //! The words of a command line, read as a task.
-ghost use Rattle.std.specs.Prelude.{◌≡◌, ◌↔◌, ◌⊎◌, ℕ, List, [], ◌∷◌, IfErr, IfOk, IfNone, IfSome, IsTrue, Some, false};
+ghost use Rattle.std.specs.Prelude.{◌≡◌, ◌⊎◌, IfErr, IfOk, IfNone, IfSome, Some};
 ghost use Rattle.std.specs.Prelude.{map, option_map};
-ghost use Rattle.std.specs.List.{All, filter, list_any};
+ghost use Rattle.std.specs.List.{All};
 ghost use Rattle.clap.specs.Words.{found_of, kind_of, rows_of, subcommand_rows_of};
 ghost use Rattle.clap.specs.declared.error.kind.ErrorKind.TheVariants.{OutOfMemory};
 ghost use Rattle.mm_command_line.specs.Commands.{entry_of, line_found, row_found, words_found};
-ghost use Rattle.mm_command_line.specs.Lines.{ArePlain, EndsWithOutput, IsCommandLine, IsFileName, IsSplit, IsTaskLine};
-ghost use Rattle.mm_command_line.specs.Lines.{before_dashes, command_words, flags_of, has_flag, is_dashes, is_flag};
-ghost use Rattle.mm_command_line.specs.Lines.{is_flag_of, spelling, without_dashes, without_flag};
+ghost use Rattle.mm_command_line.specs.Lines.{ArePlain, HasOptions, IsCommandLine, IsFileName, IsTaskLine, Spells};
+ghost use Rattle.mm_command_line.specs.Lines.{command_words, parts_in};
 
 use crate::command::{Form, form_of, tool_command};
 use crate::commands::COMMANDS;
+use crate::options::{Line, Next, is_file_name, read_line};
 use crate::task::{FlightFiles, PlanFiles, Task};
 use clap::error::ErrorKind;
 use clap::{ArgMatches, Command, Error};
 use std::alloc::{AllocError, Global};
 use std::convert::AsStr;
-
-/// The word before the name of an output.
-pub(crate) const OUTPUT: &str = "--output";
-
-/// The flag of `plan`: the stores are served in the setup's order.
-pub(crate) const IN_ORDER: &str = "--in-order";
-
-/// The flag of `chart`: the chart says what each window is worth.
-pub(crate) const WORTH: &str = "--worth";
 
 // The task that the words of a command ask for, without its flag and its output.
 fn task_of<'a>(words: &[&'a str]) -> Option<Task<'a>>
@@ -79,13 +70,6 @@ fn task_of<'a>(words: &[&'a str]) -> Option<Task<'a>>
         ["read", packets] => Some(Task::Read { packets }),
         _ => None,
     }
-}
-
-// Whether a word is no flag.
-fn is_file_name(word: &str) -> bool
-    ensures is { IsTrue result ↔ IsFileName word.now }
-{
-    !word.starts_with('-') || word == "-"
 }
 
 // The words without the first `--`; none where a flag stands before that.
@@ -175,19 +159,14 @@ fn refusal(command: &mut Command<'_>, kind: ErrorKind, message: &str) -> Error
     }
 }
 
-// What words without a flag of a task and an output ask for: `clap` reads them. The error has the text for the user.
+// What words without options ask for: `clap` reads them. The error has the text for the user.
 fn parse_command<'a>(alloc: Global, words: &[&'a str]) -> Result<Task<'a>, Error>
-    // Words that spell a command give its task and nothing else.
-    ensures taken { IsCommandLine (map (λ word. word.now) words.now)
-        → IfOk result (λ task. command_words task ≡ map (λ word. word.now) words.now) }
-    // Only want of memory can keep them from it.
+    // Only want of memory can keep words that spell a command from giving its task.
     ensures memory { IsCommandLine (map (λ word. word.now) words.now)
         → IfErr result (λ e. kind_of e ≡ OutOfMemory) }
-    // Whatever the words, a task that is read is spelled by them, without the first `--`.
-    ensures spelled { IfOk result (λ task. command_words task ≡ without_dashes (map (λ word. word.now) words.now)) }
-    // No word before that is a flag, as a call for help is.
-    ensures unflagged { IfOk result (λ task. list_any is_flag (before_dashes (map (λ word. word.now) words.now))
-        ≡ false) }
+    // Whatever the words, a task that is read is spelled by them, without the first `--`. No word before that is a
+    // flag, as a call for help is.
+    ensures spelled { IfOk result (λ task. ArePlain (map (λ word. word.now) words.now) (command_words task)) }
 {
     let mut command = tool_command(alloc)?;
     let matches = command.try_get_matches_from_mut(words)?;
@@ -201,113 +180,36 @@ fn parse_command<'a>(alloc: Global, words: &[&'a str]) -> Result<Task<'a>, Error
     }
 }
 
-fn has_dashes<S: AsStr>(words: &[S]) -> bool
-    ensures { result ≡ list_any (λ word. is_dashes (S.text word)) words.now }
+// The task with the options of the line; none where they are not those of its command, or the name of an output is
+// missing.
+fn with_options<'a>(task: Task<'a>, line: &Line<'a>) -> Option<Task<'a>>
+    ensures words { IfSome result (λ read. command_words read ≡ command_words task.entry) }
+    ensures options { IfSome result (HasOptions (parts_in line.now)) }
+    ensures none { IfNone result ((read : Task) → command_words read ≡ command_words task.entry
+        → HasOptions (parts_in line.now) read → ⊥) }
 {
-    words.iter().any(|word| word.as_str() == "--")
-}
-
-// The words before a last `--output FILE`, and the name of that file. After a `--`, and before a flag, `--output` is
-// not that option.
-fn last_output<'a, S: AsStr>(words: &'a [S]) -> Option<(&'a [S], &'a str)>
-    ensures found { IfSome result (λ found. EndsWithOutput (map S.text words.entry.now) (map S.text found.0.now)
-        found.1.now) }
-    ensures none { IfNone result ((before : List (List ℕ)) → (name : List ℕ)
-        → EndsWithOutput (map S.text words.entry.now) before name → ⊥) }
-{
-    let (file, others) = words.split_last()?;
-    let (flag, front) = others.split_last()?;
-    if flag.as_str() != OUTPUT {
-        return None;
-    }
-    if !is_file_name(file.as_str()) {
-        return None;
-    }
-    if has_dashes(front) {
-        return None;
-    }
-    Some((front, file.as_str()))
-}
-
-/// The words before a last output, and its name, where there is one.
-pub(crate) fn split_output<'a, S: AsStr>(words: &'a [S]) -> (&'a [S], Option<&'a str>)
-    ensures split { IsSplit (map S.text words.entry.now) (map S.text result.0.now) result.1 }
-{
-    match last_output(words) {
-        Some((front, name)) => (front, Some(name)),
-        None => (words, None),
-    }
-}
-
-// Whether the word is the flag of this command.
-fn is_flag_of(command: &str, word: &str) -> bool
-    ensures { result ≡ is_flag_of command.now word.now }
-{
-    matches!((command, word), ("plan", IN_ORDER) | ("chart", WORTH))
-}
-
-/// Whether the second word is the flag of the first.
-pub(crate) fn has_flag<S: AsStr>(words: &[S]) -> bool
-    ensures { result ≡ has_flag (map S.text words.now) }
-{
-    match words {
-        [command, word, ..] => is_flag_of(command.as_str(), word.as_str()),
-        _ => false,
-    }
-}
-
-fn texts_of<'a, S: AsStr>(alloc: Global, words: &'a [S]) -> Result<Vec<&'a str>, AllocError>
-    ensures texts { IfOk result (λ texts. map (λ word. word.now) texts.items ≡ map S.text words.entry.now) }
-{
-    let mut texts = Vec::new(alloc);
-    for word in words {
-        texts.push(word.as_str())?;
-    }
-    Ok(texts)
-}
-
-// The words without the flag that follows the word of its command, and whether there is one.
-#[tactic(auto, using(crate::proofs::Flags::without, crate::proofs::Flags::whole))]
-fn split_flag<'a, S: AsStr>(
-    alloc: Global,
-    words: &'a [S],
-) -> Result<(Vec<&'a str>, bool), AllocError>
-    ensures plain { IfOk result (λ split. map (λ word. word.now) split.0.items
-        ≡ without_flag (map S.text words.entry.now)) }
-    ensures flag { IfOk result (λ split. split.1 ≡ has_flag (map S.text words.entry.now)) }
-{
-    let mut plain = texts_of(alloc, words)?;
-    if has_flag(words) {
-        plain.remove(1);
-        Ok((plain, true))
-    } else {
-        Ok((plain, false))
+    match line.next {
+        Next::Output => None,
+        _ => task.with_options(&line.flags, &line.outputs),
     }
 }
 
 /// What the words ask for; the error has the text for the user.
 pub fn parse<'a, S: AsStr>(alloc: Global, words: &'a [S]) -> Result<Task<'a>, Error>
-    // Words that spell a task give that task and nothing else.
-    ensures taken { IsTaskLine (map S.text words.entry.now)
-        → IfOk result (λ task. spelling task ≡ map S.text words.entry.now) }
-    // Only want of memory can keep them from it.
+    // A task that is read is the one that the words spell, whatever they are.
+    ensures spelled { IfOk result (Spells (map S.text words.entry.now)) }
+    // Only want of memory can keep words that spell a task from giving it.
     ensures memory { IsTaskLine (map S.text words.entry.now)
         → IfErr result (λ e. kind_of e ≡ OutOfMemory) }
-    // Whatever the words, a task that is read is spelled by them, without the first `--`.
-    ensures spelled { IfOk result (λ task. spelling task ≡ without_dashes (map S.text words.entry.now)) }
-    // No word before that is a flag, as a call for help is, but the flag and the `--output` of the task.
-    ensures unflagged { IfOk result (λ task. filter is_flag (before_dashes (map S.text words.entry.now))
-        ≡ flags_of task) }
 {
-    let (words, output) = split_output(words);
-    let (plain, flag) = split_flag(alloc, words)?;
-    let task = parse_command(alloc, &plain)?;
-    match task.with_options(flag, output) {
+    let line = read_line(alloc, words)?;
+    let task = parse_command(alloc, &line.command)?;
+    match with_options(task, &line) {
         Some(task) => Ok(task),
         None => Err(refusal(
             &mut tool_command(alloc)?,
             ErrorKind::UnknownArgument,
-            "--output goes with plan, chart and table alone",
+            "these options do not go with this command",
         )),
     }
 }

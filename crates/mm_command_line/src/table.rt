@@ -12,7 +12,7 @@ not judged.
 Or one line:
   refused NUMBER NAME ..      a file was not read, or is not what it should be
 
-Option, after the files:
+Option, anywhere after `table`:
   --output FILE               the table goes into FILE, whole or not at all, and is not printed; FILE is
                               none of the files above; - prints it
 

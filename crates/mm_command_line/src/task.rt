@@ -1,8 +1,10 @@
 //! The tasks of the program, and their files.
-ghost use Rattle.std.specs.Prelude.{◌≡◌, ◌&&◌, not, true, is_some, IfSome, IfNone};
-ghost use Rattle.mm_command_line.specs.Lines.{command_words, flag_of, flags_with, gives_text, output_of};
+ghost use Rattle.std.specs.Prelude.{◌≡◌, IfSome, IfNone, map};
+ghost use Rattle.mm_command_line.specs.Lines.{IsOutput, command_words, flag_of, output_of};
 ghost use Rattle.mm_command_line.specs.Names.{names_in, names_of_plan, no_names};
 ghost use Rattle.mm_command_line.specs.declared.task.Task.TheVariants.{Fly};
+
+use crate::options::{IN_ORDER, WORTH, is_given, output_in};
 
 /// What a file of a task has.
 #[derive(Clone, Copy)]
@@ -86,7 +88,8 @@ impl<'a> FlightFiles<'a> {
     }
 }
 
-/// What the program is asked to do. Of a task with an `output` the text goes into the file of that name, and is printed where there is none.
+/// What the program is asked to do. Of a task with an `output` the text goes into the file of that name, and is printed
+/// where there is none.
 #[derive(Clone, Copy)]
 pub enum Task<'a> {
     /// Plan the dumps so that least is lost, and `in_order` by the stores that stand first in the setup.
@@ -171,32 +174,40 @@ impl<'a> Task<'a> {
         }
     }
 
-    // The task with the flag of its command, where one is given and the command has one, and with this output; none for an output of a
-    // task that cannot have one.
-    pub(crate) fn with_options(self, flag: bool, output: Option<&'a str>) -> Option<Task<'a>>
+    /// The task with these flags and outputs; none where they are not those of its command, or one is given twice.
+    pub(crate) fn with_options(self, flags: &[&str], outputs: &[&'a str]) -> Option<Task<'a>>
         ensures words { IfSome result (λ task. command_words task ≡ command_words self.entry) }
-        ensures flagged { IfSome result (λ task. flag_of task ≡ flags_with flag (command_words self.entry)) }
-        ensures named { IfSome result (λ task. output_of task ≡ output.entry) }
-        ensures none { IfNone result (is_some output.entry && not (gives_text (command_words self.entry)) ≡ true) }
+        ensures flags { IfSome result (λ task. map (λ flag. flag.now) flags.now ≡ flag_of task) }
+        ensures outputs { IfSome result (λ task. IsOutput (map (λ name. name.now) outputs.now) (output_of task)) }
+        ensures none { IfNone result ((task : Task) → command_words task ≡ command_words self.entry
+            → map (λ flag. flag.now) flags.now ≡ flag_of task
+            → IsOutput (map (λ name. name.now) outputs.now) (output_of task) → ⊥) }
     {
+        let output = output_in(outputs)?;
         match self {
             Task::Plan {
                 setup,
                 forecast,
                 ..
-            } => Some(Task::Plan {
-                setup,
-                forecast,
-                in_order: flag,
-                output,
-            }),
-            Task::Chart { files, .. } => Some(Task::Chart {
-                files,
-                worth: flag,
-                output,
-            }),
-            Task::Table { files, .. } => Some(Task::Table { files, output }),
-            _ if output.is_none() => Some(self),
+            } => {
+                let in_order = is_given(flags, IN_ORDER)?;
+                Some(Task::Plan {
+                    setup,
+                    forecast,
+                    in_order,
+                    output,
+                })
+            }
+            Task::Chart { files, .. } => {
+                let worth = is_given(flags, WORTH)?;
+                Some(Task::Chart {
+                    files,
+                    worth,
+                    output,
+                })
+            }
+            Task::Table { files, .. } if flags.is_empty() => Some(Task::Table { files, output }),
+            _ if flags.is_empty() && output.is_none() => Some(self),
             _ => None,
         }
     }

@@ -1,6 +1,6 @@
 //! What is wrong with a flag that is not read.
 
-use crate::line::{IN_ORDER, OUTPUT, WORTH, has_flag, split_output};
+use crate::options::{IN_ORDER, Next, OUTPUT, WORTH, is_file_name};
 use std::convert::AsStr;
 use std::fmt;
 
@@ -8,7 +8,7 @@ use std::fmt;
 /// both end with.
 const NEAR: usize = 3;
 
-// A flag, and where it stands.
+// A flag, and what is said of it where it is meant.
 struct Flag {
     word: &'static str,
     place: &'static str,
@@ -17,36 +17,47 @@ struct Flag {
 static FLAGS: [Flag; 5] = [
     Flag {
         word: IN_ORDER,
-        place: "right after plan",
+        place: "goes with plan",
     },
     Flag {
         word: WORTH,
-        place: "right after chart",
+        place: "goes with chart",
     },
     Flag {
         word: OUTPUT,
-        place: "with FILE after the files of plan, chart or table",
+        place: "goes with plan, chart and table, and has the name of a file after it",
     },
     Flag {
         word: "--help",
-        place: "alone or after a command",
+        place: "stands alone or after a command",
     },
     Flag {
         word: "--version",
-        place: "alone",
+        place: "stands alone",
     },
 ];
 
-/// What is wrong with a flag. It is shown in one line: where the flag stands, or which one is meant.
+/// What is wrong with a flag. It is shown in one line.
 #[derive(Clone, Copy)]
 pub enum FlagFault<'a> {
-    /// The flag of `plan` or `chart` stands elsewhere, or has a value.
-    Misplaced,
-    /// `--output` stands elsewhere, or is spelled otherwise.
-    OutputMisplaced,
+    /// The flag stands before the command.
+    Early(&'static str),
+    /// The flag stands after `--`, where each word is the name of a file.
+    Late(&'static str),
+    /// The flag goes with these commands, and with no other.
+    OfOthers {
+        flag: &'static str,
+        commands: &'static str,
+    },
+    /// The flag has a value.
+    HasValue(&'static str),
+    /// The name of an output is missing, or is spelled like a flag.
+    Nameless,
     /// The flag is there already.
     Twice(&'static str),
-    /// There is no such flag, but this one, which stands there, is spelled alike.
+    /// The flag stands beside other words.
+    NotAlone(&'static str),
+    /// There is no such flag, but this one, of which this is said, is spelled alike.
     Unknown {
         word: &'a str,
         near: &'static str,
@@ -59,26 +70,31 @@ pub enum FlagFault<'a> {
 impl fmt::Display for FlagFault<'_> {
     fn fmt<W: fmt::Write>(&self, f: &mut fmt::Formatter<W>) -> fmt::Result {
         match *self {
-            FlagFault::Misplaced => write!(
+            FlagFault::Early(flag) => write!(f, "{flag} stands after the command"),
+            FlagFault::Late(flag) => write!(
                 f,
-                "--in-order stands right after plan, and --worth right after chart"
+                "{flag} stands before --, after which each word is the name of a file"
             ),
-            FlagFault::OutputMisplaced => write!(
+            FlagFault::OfOthers { flag, commands } => write!(
                 f,
-                "--output FILE stands last, as two words, after the files of plan, chart or table, and with no -- \
-                    before it"
+                "{flag} goes with {commands} alone"
+            ),
+            FlagFault::HasValue(flag) => write!(f, "{flag} has no value; give it alone"),
+            FlagFault::Nameless => write!(
+                f,
+                "the name of a file is missing: write --output FILE, or --output=FILE; if the name begins with -, \
+                    write ./ before it"
             ),
             FlagFault::Twice(flag) => write!(f, "{flag} is given twice; give it once"),
-            FlagFault::Unknown { word, near, place } => {
-                write!(
-                    f,
-                    "there is no flag '{word}'; the nearest is {near}, which stands {place}"
-                )
-            }
+            FlagFault::NotAlone(flag) => write!(f, "{flag} stands alone"),
+            FlagFault::Unknown { word, near, place } => write!(
+                f,
+                "there is no flag '{word}'; did you mean {near}, which {place}?"
+            ),
             FlagFault::NoSuchFlag(word) => write!(
                 f,
-                "there is no flag '{word}', and none is spelled alike; there are --in-order right after plan, --worth \
-                    right after chart, --output FILE after the files of plan, chart or table, and --help"
+                "there is no flag '{word}', and none is spelled alike; there are --in-order of plan, --worth of chart, \
+                    --output FILE of plan, chart and table, and --help"
             ),
         }
     }
@@ -109,64 +125,169 @@ fn is_near(word: &[u8], flag: &[u8]) -> bool {
     longer.saturating_sub(front).saturating_sub(end) <= NEAR
 }
 
-// Whether a word is meant as this option.
-fn is_option(word: &str, option: &str) -> bool {
-    word.strip_prefix(option)
-        .is_some_and(|rest| rest.is_empty() || rest.starts_with('='))
-}
-
-// Whether a word is meant as the option of an output.
-fn is_output(word: &str) -> bool {
-    is_option(word, OUTPUT) || (word.starts_with("-o") && !word.starts_with("--"))
-}
-
-// What is wrong with a word that is an option of a task, where another such option has been read.
-fn misplaced(word: &str, read: &[Option<&str>; 2]) -> Option<FlagFault<'static>> {
+// The option that a word is, and its value after `=`.
+fn option_in(word: &str) -> Option<(&'static str, Option<&str>)> {
     for flag in [IN_ORDER, WORTH, OUTPUT] {
-        if word == flag && read.contains(&Some(flag)) {
-            return Some(FlagFault::Twice(flag));
+        if let Some(rest) = word.strip_prefix(flag) {
+            if rest.is_empty() {
+                return Some((flag, None));
+            }
+            if let Some(value) = rest.strip_prefix('=') {
+                return Some((flag, Some(value)));
+            }
         }
     }
-    if is_option(word, IN_ORDER) || is_option(word, WORTH) {
-        Some(FlagFault::Misplaced)
-    } else if is_output(word) {
-        Some(FlagFault::OutputMisplaced)
-    } else {
-        None
+    None
+}
+
+// The commands that an option goes with.
+fn commands_of(flag: &str) -> &'static str {
+    match flag {
+        IN_ORDER => "plan",
+        WORTH => "chart",
+        _ => "plan, chart and table",
+    }
+}
+
+fn goes_with(flag: &str, command: &str) -> bool {
+    match command {
+        "plan" => flag == IN_ORDER || flag == OUTPUT,
+        "chart" => flag == WORTH || flag == OUTPUT,
+        "table" => flag == OUTPUT,
+        _ => false,
+    }
+}
+
+// A word without its value.
+fn name_in(word: &str) -> &str {
+    match word.split_once('=') {
+        Some((name, _)) => name,
+        None => word,
     }
 }
 
 // What is wrong with a word that is spelled like a flag, and is none.
 fn unknown(word: &str) -> FlagFault<'_> {
+    let name = name_in(word).as_bytes();
+    let is_short = word.starts_with("-o");
     for flag in &FLAGS {
-        if is_near(word.as_bytes(), flag.word.as_bytes()) {
-            let (near, place) = (flag.word, flag.place);
+        let (near, place) = (flag.word, flag.place);
+        if (is_short && near == OUTPUT) || is_near(name, near.as_bytes()) {
             return FlagFault::Unknown { word, near, place };
         }
     }
     FlagFault::NoSuchFlag(word)
 }
 
-/// What is wrong with the first flag among these words that is not read: it stands where none is read, it is given
-/// twice, or there is none of two dashes that is spelled like it.
-pub fn flag_fault<S: AsStr>(words: &[S]) -> Option<FlagFault<'_>> {
-    let (front, output) = split_output(words);
-    let (flag, rest) = if has_flag(front) {
-        (Some(front[1].as_str()), &front[2..])
-    } else {
-        (None, front)
-    };
-    let read = [flag, output.map(|_| OUTPUT)];
-    let mut after_dashes = false;
-    for word in rest {
-        let word = word.as_str();
-        if let Some(fault) = misplaced(word, &read) {
-            return Some(fault);
-        }
-        after_dashes = after_dashes || word == "--";
-        if word.starts_with("--") && !after_dashes {
-            return Some(unknown(word));
+// What is wrong with a word that is no option of a task. Of one with a single dash `clap` says it.
+fn no_option(word: &str) -> Option<FlagFault<'_>> {
+    match word {
+        "--help" => None,
+        "--version" => Some(FlagFault::NotAlone("--version")),
+        _ if word.starts_with("--") || word.starts_with("-o") => Some(unknown(word)),
+        _ => None,
+    }
+}
+
+// How far the words are read.
+#[derive(Drop)]
+struct Read<'a> {
+    command: &'a str,
+    // Whether the flag of the command is given, and whether an output is.
+    has_flag: bool,
+    has_output: bool,
+    next: Next,
+}
+
+impl Read<'_> {
+    // Notes an option of the command, and says whether it was there already.
+    fn note(&mut self, flag: &'static str) -> bool {
+        if flag == OUTPUT {
+            let was = self.has_output;
+            self.has_output = true;
+            was
+        } else {
+            let was = self.has_flag;
+            self.has_flag = true;
+            was
         }
     }
-    None
+
+    // What is wrong with an option.
+    fn option_fault(
+        &mut self,
+        flag: &'static str,
+        value: Option<&str>,
+    ) -> Option<FlagFault<'static>> {
+        if !goes_with(flag, self.command) {
+            let commands = commands_of(flag);
+            return Some(FlagFault::OfOthers { flag, commands });
+        }
+        if self.note(flag) {
+            return Some(FlagFault::Twice(flag));
+        }
+        match value {
+            Some(_) if flag != OUTPUT => Some(FlagFault::HasValue(flag)),
+            Some(name) if !is_file_name(name) => Some(FlagFault::Nameless),
+            None if flag == OUTPUT => {
+                self.next = Next::Output;
+                None
+            }
+            _ => None,
+        }
+    }
+
+    // What is wrong with the next word.
+    fn fault<'w>(&mut self, word: &'w str) -> Option<FlagFault<'w>> {
+        match self.next {
+            Next::File => {
+                let (flag, _) = option_in(word)?;
+                Some(FlagFault::Late(flag))
+            }
+            Next::Output => {
+                self.next = Next::Any;
+                if is_file_name(word) {
+                    None
+                } else {
+                    Some(FlagFault::Nameless)
+                }
+            }
+            _ if word == "--" => {
+                self.next = Next::File;
+                None
+            }
+            _ => match option_in(word) {
+                Some((flag, value)) => self.option_fault(flag, value),
+                None => no_option(word),
+            },
+        }
+    }
+}
+
+/// What is wrong with the first flag among these words that is not read: it stands where none is read, is another
+/// command's, is given twice, lacks its value or has one that it cannot have, or there is none that is spelled like it.
+pub fn flag_fault<S: AsStr>(words: &[S]) -> Option<FlagFault<'_>> {
+    let (command, rest) = words.split_first()?;
+    let command = command.as_str();
+    if let Some((flag, _)) = option_in(command) {
+        return Some(FlagFault::Early(flag));
+    }
+    let mut read = Read {
+        command,
+        has_flag: false,
+        has_output: false,
+        next: Next::Any,
+    };
+    if let Some(fault) = read.fault(command) {
+        return Some(fault);
+    }
+    for word in rest {
+        if let Some(fault) = read.fault(word.as_str()) {
+            return Some(fault);
+        }
+    }
+    match read.next {
+        Next::Output => Some(FlagFault::Nameless),
+        _ => None,
+    }
 }

@@ -10,13 +10,13 @@ use Rattle.mm_commands.specs.Answers.{AnswersTask, Gives, Prints}
 use Rattle.mm_commands.specs.Refusing.{Refuses}
 use Rattle.mm_commands.specs.Streams.{ReadsTwice, file_of, reads_twice}
 use Rattle.mm_commands.specs.Doing.{Does, DoesTask, IsDone, TellsVersion}
-use Rattle.mm_command_line.specs.Lines.{is_version_line, output_of, spelling, without_dashes}
+use Rattle.mm_command_line.specs.Lines.{Spells, is_version_line, output_of}
 use Rattle.mm_command_line.specs.declared.task.Task.{Task}
 use Rattle.mm_command_line.specs.declared.task.Task.TheVariants.{Plan, Check, Chart, Table, Sensitivity, Fly, Ask, Read}
 
 -- a task that the words ask for was done or refused
 pub task-does : {E : Type 0} (old new : FilesView) (words : List (List ℕ)) (task : Task)
-    (before after : Option (List ℕ)) (r : Result Status E) → spelling task ≡ without_dashes words
+    (before after : Option (List ℕ)) (r : Result Status E) → Spells words task
     → reads_twice old.streams task ≡ false → IfOk r (λ status. Prints old new task status before after
     ⊎ Refuses old new task status before after) → IfOk r (λ status. Does old new words status before after)
 task-does old new words task before after (Ok status) asked once told = inl
@@ -26,7 +26,7 @@ task-does old new words task before after (Err e) asked once told = tt
 -- a task that has standard input for more than one file is a bad command line
 pub twice-does : {E : Type 0} (old : FilesView) (words : List (List ℕ)) (task : Task) (before : Option (List ℕ))
     (r : Result Status E)
-    → spelling task ≡ without_dashes words → reads_twice old.streams task ≡ true → is_version_line words ≡ false
+    → Spells words task → reads_twice old.streams task ≡ true → is_version_line words ≡ false
     → IfOk r (λ status. status ≡ BadCommandLine) → IfOk r (λ status. Does old old words status before before)
 twice-does old words task before (Ok status) asked twice other bad = inr (
   refl,
@@ -42,7 +42,7 @@ twice-does old words task before (Err e) asked twice other bad = tt
 -- and no other task is
 pub twice-taken : {E : Type 0} (streams : Bool) (words : List (List ℕ)) (task : Task) (r : Result Status E)
     → (ReadsTwice streams words → ⊥)
-    → spelling task ≡ without_dashes words → reads_twice streams task ≡ true
+    → Spells words task → reads_twice streams task ≡ true
     → IfOk r (λ status. status ≢ BadCommandLine)
 twice-taken streams words task r once asked twice = absurd (once (record { task = task; asked = asked; twice = twice }))
 

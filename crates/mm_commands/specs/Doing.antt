@@ -9,7 +9,7 @@ use Rattle.mm_commands.specs.Scripts.{IsFirstLine, script_view}
 use Rattle.mm_commands.specs.declared.files.ReadFault.TheVariants.{NoMemory}
 use Rattle.mm_commands.specs.declared.status.Status.{Status}
 use Rattle.mm_commands.specs.declared.status.Status.TheVariants.{Done, Refused, BadCommandLine}
-use Rattle.mm_command_line.specs.Lines.{IsTaskLine, is_version_line, spelling, without_dashes}
+use Rattle.mm_command_line.specs.Lines.{IsTaskLine, Spells, is_version_line}
 use Rattle.mm_command_line.specs.declared.version.TheConstants.{VERSION}
 use Rattle.mm_command_line.specs.declared.task.Task.{Task}
 use Rattle.mm_commands.specs.Answers.{Prints}
@@ -25,7 +25,7 @@ words_in (octet ∷ rest) = slice_split (λ o. o == space) (octet ∷ rest)
 pub record DoesTask (old new : FilesView) (words : List (List ℕ)) (status : Status) (before after : Option (List ℕ)) :
     Type 0 where
   pub task : Task
-  pub asked : spelling task ≡ without_dashes words
+  pub asked : Spells words task
   pub once : reads_twice old.streams task ≡ false
   pub told : Settles old new task status before after
 
@@ -57,7 +57,7 @@ Does old new words status before after = DoesTask old new words status before af
 -- the task that the words ask for was done: what was stored or written between answers it
 pub record IsDone (old new : FilesView) (words : List (List ℕ)) (before after : Option (List ℕ)) : Type 0 where
   pub task : Task
-  pub asked : spelling task ≡ without_dashes words
+  pub asked : Spells words task
   pub prints : Prints old new task Done before after
 
 -- the task that the first line of a script asks for was done over the files that follow, or the line asks for the

@@ -2,7 +2,7 @@
 use Rattle.std.specs.Prelude.{◌≡◌, ◌+◌, ◌&&◌, ℕ, Bool, true, List, Option, Some, None, codes, bytes_eq, nat_lt}
 use Rattle.std.specs.Prelude.{if◌then◌else◌}
 use Rattle.std.specs.Borrow.{Bor}
-use Rattle.mm_command_line.specs.Lines.{spelling, without_dashes}
+use Rattle.mm_command_line.specs.Lines.{Spells}
 use Rattle.mm_command_line.specs.Names.{names_in}
 use Rattle.mm_command_line.specs.declared.task.FileNames.{FileNames}
 use Rattle.mm_command_line.specs.declared.task.Task.{Task}
@@ -38,5 +38,5 @@ reads_twice streams task = streams && nat_lt 1 (inputs_in (names_in task))
 -- the words spell a task that has standard input for more than one of its files
 pub record ReadsTwice (streams : Bool) (words : List (List ℕ)) : Type 0 where
   pub task : Task
-  pub asked : spelling task ≡ without_dashes words
+  pub asked : Spells words task
   pub twice : reads_twice streams task ≡ true

@@ -4,26 +4,54 @@ use crate::tests::samples::{Host, answers, holds, joined, told};
 
 const TWICE: &str = "--output is given twice; give it once";
 
+const OF_OTHERS: &str = "--output goes with plan, chart and table alone";
+
+const LATE: &str = "--output stands before --, after which each word is the name of a file";
+
+const NAMELESS: &str =
+    "the name of a file is missing: write --output FILE, or --output=FILE; if the name begins with -, write ./ before \
+        it";
+
+const SHORT: &str =
+    "there is no flag '-o'; did you mean --output, which goes with plan, chart and table, and has the name of a file \
+        after it?";
+
 const NONE_ALIKE: &str =
-    "there is no flag '--json', and none is spelled alike; there are --in-order right after plan, --worth right after \
-        chart, --output FILE after the files of plan, chart or table, and --help";
+    "there is no flag '--json', and none is spelled alike; there are --in-order of plan, --worth of chart, --output \
+        FILE of plan, chart and table, and --help";
 
 // Bad lines, and what is said of their flags.
-static WRONG: [(&str, &str); 9] = wanted! {
+static WRONG: [(&str, &str); 25] = wanted! {
     "plan --in-order --in-order S F" => "--in-order is given twice; give it once";
     "chart --worth S --worth F P" => "--worth is given twice; give it once";
     "plan S F --output X --output Y" => TWICE;
-    "plan --output X S F --output Y" => TWICE;
+    "plan --output X S F --output=Y" => TWICE;
+    "--in-order plan S F" => "--in-order stands after the command";
+    "--output=X plan S F" => "--output stands after the command";
+    "plan -- S F --output X" => LATE;
+    "plan S -- F --output=X" => LATE;
+    "check --in-order S F P" => "--in-order goes with plan alone";
+    "plan S F --worth" => "--worth goes with chart alone";
+    "check S F P --output X" => OF_OTHERS;
+    "sensitivity S F --output=-" => OF_OTHERS;
+    "plan --in-order=yes S F" => "--in-order has no value; give it alone";
+    "plan S F --output" => NAMELESS;
+    "plan S F --output --help" => NAMELESS;
+    "plan S F --output -- X" => NAMELESS;
+    "plan S F --output=-X" => NAMELESS;
+    "plan --version" => "--version stands alone";
+    "plan S F -o X" => SHORT;
     "plan --inorder S F"
-    => "there is no flag '--inorder'; the nearest is --in-order, which stands right after plan";
+    => "there is no flag '--inorder'; did you mean --in-order, which goes with plan?";
     "chart --worht S F P --output X"
-    => "there is no flag '--worht'; the nearest is --worth, which stands right after chart";
-    "table S F P --outptu X"
-    => "there is no flag '--outptu'; the nearest is --output, which stands with FILE after the files of plan, chart or \
-        table";
+    => "there is no flag '--worht'; did you mean --worth, which goes with chart?";
+    "table S F P --outptu=X"
+    => "there is no flag '--outptu=X'; did you mean --output, which goes with plan, chart and table, and has the name \
+        of a file after it?";
     "check --hlep"
-    => "there is no flag '--hlep'; the nearest is --help, which stands alone or after a command";
+    => "there is no flag '--hlep'; did you mean --help, which stands alone or after a command?";
     "check --json S F P" => NONE_ALIKE;
+    "plan --json --output X S F" => NONE_ALIKE;
 };
 
 #[test]
@@ -61,5 +89,27 @@ fn has_usage(rt: &impl Host, line: &str, usage: &str) {
 fn usages_have_each_flag(rt: HostRuntime) {
     for (line, usage) in &USAGES {
         has_usage(&rt, line, usage);
+    }
+}
+
+// Commands that are misspelled, and those that are told.
+static MISSPELLED: [(&str, &str); 4] = wanted! {
+    "paln S F" => "plan";
+    "sensitvity S F --output X" => "sensitivity";
+    "tabel --in-order S F P" => "table";
+    "flyy" => "fly";
+};
+
+fn is_told_as(rt: &impl Host, line: &str, command: &str) {
+    let answer = told(rt, &[line, "\n"]);
+    let tip = joined(rt, &["tip: a similar subcommand exists: '", command, "'\n"]);
+    let is_told = answer.err.as_str().contains(tip.as_str());
+    holds(rt, line, &answer, answer.has("", 2) && is_told);
+}
+
+#[test]
+fn commands_that_are_misspelled(rt: HostRuntime) {
+    for (line, command) in &MISSPELLED {
+        is_told_as(&rt, line, command);
     }
 }

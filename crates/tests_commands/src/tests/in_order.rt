@@ -3,8 +3,8 @@
 
 use crate::tests::charting::is_document;
 use crate::tests::samples::{
-    A_AND_B, Host, SCI, SHARED_WINDOW, THREE_STEPS, answers, checks, holds, joined, of_plan,
-    prints, replaced, told,
+    A_AND_B, Host, SCI, SHARED_WINDOW, THREE_STEPS, checks, holds, joined, of_plan, prints,
+    replaced, told,
 };
 
 // Of the 3 + 2 blocks that come to A it holds 3, and the window of step 1 takes the other two. So it loses none, and B
@@ -51,31 +51,19 @@ fn a_plan_in_order_has_a_part_for_the_first_store(rt: HostRuntime) {
     checks(&rt, "two stores", files, "least 2 in order\n");
 }
 
-// The flag stands before the `--`, after which no word is a flag.
+// The flag stands anywhere after the command, but before the `--`, after which no word is a flag.
+static IN_ORDER: [(&str, &str); 4] = [
+    ("plan --in-order -- -S F\n", "=== -S\n"),
+    ("plan --in-order S F\n", "=== S\n"),
+    ("plan S --in-order F\n", "=== S\n"),
+    ("plan S F --in-order\n", "=== S\n"),
+];
+
 #[test]
 fn a_plan_in_order_of_one_store_has_no_part(rt: HostRuntime) {
-    let words = "plan --in-order -- -S F\n";
-    let script = [words, "=== -S\n", SCI, "=== F\n", THREE_STEPS];
-    prints(&rt, words, &script, FIRST_PLAN_IN_ORDER, 0);
-}
-
-// A flag that is not read as one.
-static MISPLACED: [&str; 8] = lines! {
-    "plan S F --in-order", "plan S --in-order F", "plan S F --in-order --output X",
-    "plan --in-order=yes S F", "check --in-order S F P", "chart --in-order S F P",
-    "chart S F P --worth", "plan --worth S F"
-};
-
-const STANDS_FIRST: &str = "\
-error: --in-order stands right after plan, and --worth right after chart
-
-For more information, try '--help'.
-";
-
-#[test]
-fn a_flag_stands_right_after_its_command(rt: HostRuntime) {
-    for line in &MISPLACED {
-        answers(&rt, &[*line], "", STANDS_FIRST, 2);
+    for (words, setup) in &IN_ORDER {
+        let script = [*words, *setup, SCI, "=== F\n", THREE_STEPS];
+        prints(&rt, words, &script, FIRST_PLAN_IN_ORDER, 0);
     }
 }
 

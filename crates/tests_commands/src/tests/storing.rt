@@ -72,27 +72,35 @@ fn run(rt: &impl Host, system: &impl rt::Files, folder: &str, line: &str) -> Ans
 
 // Tasks whose text is stored, each with the file and with one that is not left over. A file that is not there yet is
 // made.
-static STORED: [(&str, &str, &str); 6] = [
+static STORED: [(&str, &str, &str); 7] = [
     ("chart @/S @/F @/P", "OLD", "OLD.new1"),
     ("chart --worth @/S @/F @/P", "OLD", "OLD.new1"),
+    ("chart @/S @/F @/P --worth", "OLD", "OLD.new1"),
     ("plan --in-order @/S @/F", "OLD", "OLD.new1"),
     ("table @/S @/F @/P", "OLD", "OLD.new1"),
     ("plan @/S @/F", "NEW", "NEW.new2"),
     ("plan @/S @/F", "OLD", "OLD.new1"),
 ];
 
+// The words of a task with the file of its output.
+fn with_output(rt: &impl Host, task: &str, output: &str, file: &str) -> String {
+    joined(rt, &[task, output, file])
+}
+
 // The text of a task goes into the file as it is printed, and nothing is printed then. What an earlier run left over is
 // passed over.
 fn stores(rt: &impl System, folder: &str, task: &str, file: &str, left_over: &str) {
     let printed = run(rt, rt, folder, task);
     let is_printed = printed.status == 0 && !printed.out.is_empty();
-    let line = joined(rt, &[task, " --output @/", file]);
-    let stored = run(rt, rt, folder, line.as_str());
-    let is_quiet = stored.has("", 0) && stored.err.is_empty();
-    let is_stored = is_quiet && has(rt, folder, file, printed.out.as_str());
-    let is_alone = has(rt, folder, "NEW.new1", OLD) && !is_there(rt, folder, left_over);
     holds(rt, task, &printed, is_printed);
-    holds(rt, line.as_str(), &stored, is_stored && is_alone);
+    for output in [" --output @/", " --output=@/"] {
+        let line = with_output(rt, task, output, file);
+        let stored = run(rt, rt, folder, line.as_str());
+        let is_quiet = stored.has("", 0) && stored.err.is_empty();
+        let is_stored = is_quiet && has(rt, folder, file, printed.out.as_str());
+        let is_alone = has(rt, folder, "NEW.new1", OLD) && !is_there(rt, folder, left_over);
+        holds(rt, line.as_str(), &stored, is_stored && is_alone);
+    }
 }
 
 fn each_is_stored(rt: &impl System) {
@@ -233,37 +241,29 @@ fn an_output_is_no_input(rt: HostRuntime) {
     own_files_are_kept(&rt);
 }
 
+// Words with an output: as one word or as two, and at any place after the command.
+static OUTPUTS: [&str; 6] = [
+    "plan S F --output P",
+    "plan S F --output=P",
+    "plan --output P S F",
+    "plan S --output=P F",
+    "plan --output P -- S F",
+    "plan --output=P --in-order S F",
+];
+
 // The files of a script are not written, and its output is told as one that was not.
 #[test]
 fn scripts_store_nothing(rt: HostRuntime) {
-    let script = ["plan S F --output P\n=== S\n", SCI, "=== F\n", THREE_STEPS];
-    let words =
+    let unwritten =
         "mm_tool: P could not be written, and is as it was: the files of a script are only read\n";
-    answers(&rt, &script, "", words, 1);
-}
-
-// An output that is not read as one, and what is said of it.
-static MISPLACED: [&str; 7] = lines! {
-    "plan --output X S F", "plan S F --output", "plan S F --output --help",
-    "plan -- S F --output X", "plan S F --output=X", "plan S F -o X", "chart S F P -oX"
-};
-
-const STANDS_LAST: &str = "\
-error: --output FILE stands last, as two words, after the files of plan, chart or table, and with no -- before it
-
-For more information, try '--help'.
-";
-
-#[test]
-fn an_output_stands_last(rt: HostRuntime) {
-    for line in &MISPLACED {
-        answers(&rt, &[*line], "", STANDS_LAST, 2);
+    for words in &OUTPUTS {
+        let script = [*words, "\n=== S\n", SCI, "=== F\n", THREE_STEPS];
+        answers(&rt, &script, "", unwritten, 1);
     }
 }
 
 // Other bad lines with an output, and what is said first.
-static OUTPUTS: [(&str, &str); 4] = wanted! {
-    "check S F P --output X\n" => "error: --output goes with plan, chart and table alone\n";
+static BAD: [(&str, &str); 3] = wanted! {
     "plan S F P --output X\n" => "error: unexpected argument 'P' found\n";
     "plan S --output X\n"
     => "error: the following required arguments were not provided:\n  <FORECAST>\n";
@@ -279,7 +279,7 @@ fn is_bad(rt: &impl Host, line: &str, front: &str) {
 
 #[test]
 fn bad_lines_with_an_output(rt: HostRuntime) {
-    for (line, front) in &OUTPUTS {
+    for (line, front) in &BAD {
         is_bad(&rt, line, front);
     }
 }

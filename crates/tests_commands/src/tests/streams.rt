@@ -24,12 +24,13 @@ fn answer_with(rt: &impl System, folder: &str, line: &str, input: &str) -> Answe
 }
 
 // Lines, standard input, and what is printed. Standard input stands for any one file, and `--output -` prints.
-static PIPED: [(&str, &str, &str); 6] = wanted! {
+static PIPED: [(&str, &str, &str); 7] = wanted! {
     "check @/S @/F -", FIRST_PLAN => "least 2\n";
     "plan - @/F", SCI => FIRST_PLAN;
     "plan @/S -", THREE_STEPS => FIRST_PLAN;
     "plan @/S @/F --output -", "" => FIRST_PLAN;
     "plan - @/F --output -", SCI => FIRST_PLAN;
+    "plan --output=- @/S @/F", "" => FIRST_PLAN;
     "plan -- @/S -", THREE_STEPS => FIRST_PLAN;
 };
 

@@ -1,0 +1,177 @@
+//! The words of a line by what they are: those of its command, its flags, and the names of its outputs.
+ghost use Rattle.std.specs.Prelude.{◌≡◌, ◌↔◌, ℕ, Bool, List, Option, IfOk, IfSome, IfNone, IsTrue, map, option_map};
+ghost use Rattle.std.specs.Borrow.{Bor};
+ghost use Rattle.mm_command_line.specs.Lines.{IsFileName, IsOutput, flags_if, is_task_flag, joined_name, no_parts};
+ghost use Rattle.mm_command_line.specs.Lines.{parts_in, parts_of, read_word, with_flag, with_option};
+ghost use Rattle.mm_command_line.specs.Lines.{with_output, with_word};
+
+use std::alloc::{AllocError, Global};
+use std::convert::AsStr;
+
+/// The word before the name of an output.
+pub(crate) const OUTPUT: &str = "--output";
+
+/// What a word with the name of an output begins with.
+pub(crate) const OUTPUT_IS: &str = "--output=";
+
+/// The flag of `plan`: the stores are served in the setup's order.
+pub(crate) const IN_ORDER: &str = "--in-order";
+
+/// The flag of `chart`: the chart says what each window is worth.
+pub(crate) const WORTH: &str = "--worth";
+
+/// What the next word of a line may be.
+#[derive(Clone, Copy)]
+pub(crate) enum Next {
+    /// The command, and no option.
+    Command,
+    /// The name of a file, an option, or `--`.
+    Any,
+    /// The name of an output.
+    Output,
+    /// The name of a file, which may be spelled like an option.
+    File,
+}
+
+/// The words of a line by what they are.
+#[derive(Drop)]
+pub(crate) struct Line<'a> {
+    /// The command and the names of its files, with the first `--`.
+    pub(crate) command: Vec<&'a str>,
+    /// Its flags.
+    pub(crate) flags: Vec<&'a str>,
+    /// The names of its outputs.
+    pub(crate) outputs: Vec<&'a str>,
+    pub(crate) next: Next,
+}
+
+/// Whether a word is no flag.
+pub(crate) fn is_file_name(word: &str) -> bool
+    ensures is { IsTrue result ↔ IsFileName word.now }
+{
+    !word.starts_with('-') || word == "-"
+}
+
+fn is_task_flag(word: &str) -> bool
+    ensures { result ≡ is_task_flag word.now }
+{
+    word == IN_ORDER || word == WORTH
+}
+
+// The name in a word `--output=NAME`.
+fn joined_name(word: &str) -> Option<&str>
+    ensures { option_map (λ name. name.now) result ≡ joined_name word.now }
+{
+    word.strip_prefix(OUTPUT_IS)
+}
+
+impl<'a> Line<'a> {
+    // The line before its first word.
+    fn new(alloc: Global) -> Line<'a>
+        ensures { parts_in result ≡ no_parts }
+    {
+        Line {
+            command: Vec::new(alloc),
+            flags: Vec::new(alloc),
+            outputs: Vec::new(alloc),
+            next: Next::Command,
+        }
+    }
+
+    // Adds a word of the command.
+    fn add_word(&mut self, word: &'a str) -> Result<(), AllocError>
+        ensures added { IfOk result (λ _. parts_in self.new ≡ with_word (parts_in self.old) word.entry.now) }
+    {
+        self.command.push(word)?;
+        Ok(())
+    }
+
+    fn add_flag(&mut self, flag: &'a str) -> Result<(), AllocError>
+        ensures added { IfOk result (λ _. parts_in self.new ≡ with_flag (parts_in self.old) flag.entry.now) }
+    {
+        self.flags.push(flag)?;
+        Ok(())
+    }
+
+    fn add_output(&mut self, name: &'a str) -> Result<(), AllocError>
+        ensures added { IfOk result (λ _. parts_in self.new ≡ with_output (parts_in self.old) name.entry.now) }
+    {
+        self.outputs.push(name)?;
+        Ok(())
+    }
+
+    // Reads a word that may be an option.
+    fn read_option(&mut self, word: &'a str) -> Result<(), AllocError>
+        ensures read { IfOk result (λ _. parts_in self.new ≡ with_option (parts_in self.old) word.entry.now) }
+    {
+        if is_task_flag(word) {
+            return self.add_flag(word);
+        }
+        if word == OUTPUT {
+            self.next = Next::Output;
+            return Ok(());
+        }
+        match joined_name(word) {
+            Some(name) => self.add_output(name),
+            None => self.add_word(word),
+        }
+    }
+
+    // Reads the next word.
+    fn read(&mut self, word: &'a str) -> Result<(), AllocError>
+        ensures read { IfOk result (λ _. parts_in self.new ≡ read_word (parts_in self.old) word.entry.now) }
+    {
+        match self.next {
+            Next::Output => {
+                self.next = Next::Any;
+                self.add_output(word)
+            }
+            Next::File => self.add_word(word),
+            _ if word == "--" => {
+                self.next = Next::File;
+                self.add_word(word)
+            }
+            Next::Command => {
+                self.next = Next::Any;
+                self.add_word(word)
+            }
+            Next::Any => self.read_option(word),
+        }
+    }
+}
+
+/// Tells the words of a line apart.
+pub(crate) fn read_line<'a, S: AsStr>(alloc: Global, words: &'a [S]) -> Result<Line<'a>, AllocError>
+    ensures parts { IfOk result (λ line. parts_in line ≡ parts_of (map S.text words.entry.now)) }
+{
+    let mut line = Line::new(alloc);
+    for word in words {
+        line.read(word.as_str())?;
+    }
+    Ok(line)
+}
+
+/// The output of these names; none where there are two, or the name is spelled like a flag.
+pub(crate) fn output_in<'a>(names: &[&'a str]) -> Option<Option<&'a str>>
+    ensures given { IfSome result (IsOutput (map (λ name. name.now) names.now)) }
+    ensures none { IfNone result ((output : Option (Bor (List ℕ)))
+        → IsOutput (map (λ name. name.now) names.now) output → ⊥) }
+{
+    match *names {
+        [] => Some(None),
+        [name] if is_file_name(name) => Some(Some(name)),
+        _ => None,
+    }
+}
+
+/// Whether this flag is given; none where another one is, or it is given twice.
+pub(crate) fn is_given(flags: &[&str], flag: &str) -> Option<bool>
+    ensures given { IfSome result (λ is. map (λ flag. flag.now) flags.now ≡ flags_if is flag.now) }
+    ensures none { IfNone result ((is : Bool) → map (λ flag. flag.now) flags.now ≡ flags_if is flag.now → ⊥) }
+{
+    match *flags {
+        [] => Some(false),
+        [given] if given == flag => Some(true),
+        _ => None,
+    }
+}
