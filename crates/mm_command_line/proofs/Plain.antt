@@ -1,5 +1,5 @@
 -- Words without the first `--`, read one after another.
-use Rattle.std.proofs.Common.{◌≡◌, ◌∙◌, ◌++◌, ◌||◌, ◌+◌, ◌<◌, ℕ, zero, suc, arith, Bool, Bor, cond, true, false, refl}
+use Rattle.std.proofs.Common.{◌≡◌, ◌∙◌, ◌++◌, ◌+◌, ◌<◌, ℕ, zero, suc, arith, Bool, Bor, cond, true, false, refl}
 use Rattle.std.proofs.Common.{sym, ap, ap₂, map, drop, length, slice_index_or, List, [], ◌∷◌, Option, Some, None}
 use Rattle.std.proofs.Common.{IfNone, IfSome, append_assoc, subst}
 use Rattle.std.specs.List.{All}

@@ -1,7 +1,6 @@
 -- The words that ask for a task.
 use Rattle.std.specs.Prelude.{◌≡◌, ◌++◌, ℕ, List, [], ◌∷◌, Option, Some, None, codes, drop, nat_eq, true, false}
-use Rattle.std.specs.Prelude.{bytes_eq}
-use Rattle.std.specs.Prelude.{if◌then◌else◌, Bool, ◌||◌, fold, length, map}
+use Rattle.std.specs.Prelude.{bytes_eq, if◌then◌else◌, Bool, ◌||◌, fold, length, map}
 use Rattle.std.specs.List.{All, list_any, starts_with}
 use Rattle.std.specs.Borrow.{Bor}
 use Rattle.mm_command_line.specs.declared.options.Line.{Line}

@@ -82,6 +82,11 @@ static STORED: [(&str, &str, &str); 7] = [
     ("plan @/S @/F", "OLD", "OLD.new1"),
 ];
 
+// The words of a task with the file of its output.
+fn with_output(rt: &impl Host, task: &str, output: &str, file: &str) -> String {
+    joined(rt, &[task, output, file])
+}
+
 // The text of a task goes into the file as it is printed, and nothing is printed then. What an earlier run left over is
 // passed over.
 fn stores(rt: &impl System, folder: &str, task: &str, file: &str, left_over: &str) {
@@ -89,7 +94,7 @@ fn stores(rt: &impl System, folder: &str, task: &str, file: &str, left_over: &st
     let is_printed = printed.status == 0 && !printed.out.is_empty();
     holds(rt, task, &printed, is_printed);
     for output in [" --output @/", " --output=@/"] {
-        let line = joined(rt, &[task, output, file]);
+        let line = with_output(rt, task, output, file);
         let stored = run(rt, rt, folder, line.as_str());
         let is_quiet = stored.has("", 0) && stored.err.is_empty();
         let is_stored = is_quiet && has(rt, folder, file, printed.out.as_str());
