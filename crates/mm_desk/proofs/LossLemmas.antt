@@ -1,14 +1,19 @@
 -- What a store loses for room.
-use Rattle.std.proofs.Common.{◌≡◌, ◌≢◌, ℕ, ◌<◌, ◌≤◌, List, [], ◌∷◌, ◌++◌, length, All, refl, ap, ◌∙◌, arith}
+use Rattle.std.proofs.Common.{◌≡◌, ◌≢◌, ℕ, ◌<◌, ◌≤◌, ltb, leb, List, [], ◌∷◌, ◌++◌, length, filter, All, Contains, refl}
+use Rattle.std.proofs.Common.{ap, ◌∙◌, arith}
 use Rattle.std.proofs.lemmas.List.{map-append}
-use Rattle.std.proofs.lemmas.List.Elements.{All-nil, All-cons, All-tail, All-append, All-filter, All-weaker}
+use Rattle.std.proofs.lemmas.List.Elements.{All-nil, All-cons, All-tail, All-append, All-contains, All-filter}
+use Rattle.std.proofs.lemmas.List.Elements.{All-weaker}
+use Rattle.std.proofs.lemmas.List.Elements.{filter_passes}
+use Rattle.std.proofs.lemmas.Bool.Decides.{nat_tests}
 use Rattle.mm_base.proofs.Pairs.{AllPairs-head}
 use Rattle.mm_desk.specs.Types.{Stored, Event, Offer, Delete, Bounded, Circular}
-use Rattle.mm_desk.specs.Fates.{packets_of, left_out, given_up, after, over}
-use Rattle.mm_desk.specs.Losses.{LosesNone, IsOlder, LosesNew, LosesOldest}
+use Rattle.mm_desk.specs.Fates.{packets_of, left_out, given, given_up, after, over}
+use Rattle.mm_desk.specs.Losses.{LosesNone, IsOlder, LosesNew, LosesOldest, removed}
 use Rattle.mm_desk.specs.Machine.{State, IsState, step}
 use Rattle.mm_desk.specs.Retrievals.{oldest_over, overwritten}
 use Rattle.mm_desk.proofs.Cases.{put_cases, delete_cases, quiet_leaves}
+use Rattle.mm_desk.proofs.FateLemmas.{gives_held}
 use Rattle.mm_desk.proofs.RetrievalLemmas.{IsOrdered, stays_ordered}
 
 -- a store keeps its kind and its size
@@ -59,7 +64,7 @@ loses_overwritten s (Offer now packet) room circular =
     (λ stuck. let none = ap length (stuck.none circular) in absurd (omega (arith, none, stuck.full)))
 loses_overwritten s e room circular = refl
 
-pub all_overwritten : (s : State) (es : List Event) → 1 ≤ s.store.size → s.store.kind ≡ Circular
+all_overwritten : (s : State) (es : List Event) → 1 ≤ s.store.size → s.store.kind ≡ Circular
     → over given_up s es ≡ packets_of (over overwritten s es)
 all_overwritten s [] room circular = refl
 all_overwritten s (e ∷ es) room circular =
@@ -95,12 +100,12 @@ module _ (lost : Stored) where
       (λ idle. (All-filter _ (λ p. lost.time < p.time) s.store.content past.0, past.1))
   stays_past s e past = quiet_leaves s e tt (λ t. IsPast t lost) (λ storage retrieval. past)
 
-  pub always_past : (s : State) (es : List Event) → IsPast s lost → IsPast (after s es) lost
+  always_past : (s : State) (es : List Event) → IsPast s lost → IsPast (after s es) lost
   always_past s [] past = past
   always_past s (e ∷ es) past = always_past (step s e).1 es (stays_past s e past)
 
 -- what is overwritten is older than all that is held then
-pub overwrites_past : (s : State) (e : Event) → IsOrdered s.store → All (IsPast (step s e).1) (overwritten s e)
+overwrites_past : (s : State) (e : Event) → IsOrdered s.store → All (IsPast (step s e).1) (overwritten s e)
 overwrites_past s (Offer now packet) ordered =
     put_cases s (λ r. All (IsPast r.1) (oldest_over r.0 s.store.content)) now packet (λ fault other. All-nil _)
     (λ new is free. All-nil _)
@@ -112,20 +117,58 @@ overwrites_past s (Offer now packet) ordered =
     (λ stuck. All-nil _)
 overwrites_past s e ordered = All-nil _
 
-all_past : (s : State) (es : List Event) → IsOrdered s.store → All (IsPast (after s es)) (over overwritten s es)
-all_past s [] ordered = All-nil _
-all_past s (e ∷ es) ordered =
+-- and so is what is deleted
+removes_past : (s : State) (e : Event) → IsOrdered s.store → All (IsPast (step s e).1) (removed s e)
+removes_past s (Delete limit) ordered =
+    let held = s.store.content in
+    let gone = filter (λ p. leb p.time limit) held in
+    let early = All-filter (λ p. leb p.time limit) (λ p. p.time ≤ s.store.last) held ordered.up_to_last in
+    let up_to = filter_passes (λ (p : Stored). leb p.time limit) held in
+    let later = filter_passes (λ (p : Stored). ltb limit p.time) held in
+    delete_cases s (λ r. All (IsPast r.1) (removed s (Delete limit))) limit (λ busy. rw busy (All-nil _))
+    (λ idle. rw idle (λ k d within. (
+      λ j f inside. grind (arith, nat_tests, up_to k d within, later j f inside),
+      early k d within,
+    )))
+removes_past s e ordered = overwrites_past s e ordered
+
+-- what left a store over events is past
+all_past : (each : State → Event → List Stored)
+    → ((s : State) (e : Event) → IsOrdered s.store → All (IsPast (step s e).1) (each s e))
+    → (s : State) (es : List Event) → IsOrdered s.store → All (IsPast (after s es)) (over each s es)
+all_past each past s [] ordered = All-nil _
+all_past each past s (e ∷ es) ordered =
     let t = (step s e).1 in
-    All-append (IsPast (after t es)) (overwritten s e) (over overwritten t es)
-    (All-weaker (IsPast t) (IsPast (after t es)) (λ lost past. always_past lost t es past) (overwritten s e)
-    (overwrites_past s e ordered))
-    (all_past t es (stays_ordered s e ordered))
+    All-append (IsPast (after t es)) (each s e) (over each t es)
+    (All-weaker (IsPast t) (IsPast (after t es)) (λ lost gone. always_past lost t es gone) (each s e)
+    (past s e ordered))
+    (all_past each past t es (stays_ordered s e ordered))
+
+is_ordered : (s : State) → IsState s → IsOrdered s.store
+is_ordered s sound = record { rising = sound.store.rising; up_to_last = sound.store.up_to_last }
 
 pub loses_oldest : (s : State) (es : List Event) → IsState s → s.store.kind ≡ Circular → LosesOldest s es
 loses_oldest s es sound circular =
-    let ordered : IsOrdered s.store = record { rising = sound.store.rising; up_to_last = sound.store.up_to_last } in
+    let t = after s es in
     record {
       lost = all_overwritten s es sound.store.has_room circular;
-      older = All-weaker (IsPast (after s es)) (IsOlder (after s es).store.content) (λ lost past. past.0)
-          (over overwritten s es) (all_past s es ordered);
+      older = All-weaker (IsPast t) (IsOlder t.store.content) (λ lost past. past.0) (over overwritten s es)
+          (all_past overwritten overwrites_past s es (is_ordered s sound));
     }
+
+-- what is given is later than what is past
+gives_later : (lost : Stored) (s : State) (es : List Event) → IsPast s lost → IsOlder (over given s es) lost
+gives_later lost s [] past = All-nil _
+gives_later lost s (e ∷ es) past =
+    let Later : Stored → Type 0 = λ p. lost.time < p.time in
+    All-append Later (given s e) (over given (step s e).1 es)
+    (All-weaker (Contains s.store.content) Later (λ p at. All-contains Later s.store.content p past.0 at) (given s e)
+    (gives_held s e))
+    (gives_later lost (step s e).1 es (stays_past lost s e past))
+
+pub give_later : (s : State) (es more : List Event) → IsState s
+    → All (IsOlder (over given (after s es) more)) (over removed s es)
+give_later s es more sound =
+    let t = after s es in
+    All-weaker (IsPast t) (IsOlder (over given t more)) (λ lost past. gives_later lost t more past) (over removed s es)
+    (all_past removed removes_past s es (is_ordered s sound))

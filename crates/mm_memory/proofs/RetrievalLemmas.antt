@@ -14,7 +14,7 @@ use Rattle.mm_desk.specs.Fates.{deleted, given, after, over}
 use Rattle.mm_desk.specs.Machine.{State, IsState, step}
 use Rattle.mm_desk.specs.Rest.{rest_fault}
 use Rattle.mm_desk.specs.Retrievals.{overwritten, AtEach, IsOn, IsBegun, AbortsNone, AreGiven, RetrievalsGiveRanges}
-use Rattle.mm_desk.proofs.RetrievalLemmas.{gives_held}
+use Rattle.mm_desk.proofs.FateLemmas.{gives_held}
 use Rattle.mm_memory.specs.declared.instruction.Action.{Action}
 use Rattle.mm_memory.specs.declared.instruction.Action.TheVariants.{Create, Delete, Route, Report, Change as Changes}
 use Rattle.mm_memory.specs.declared.instruction.StoreChange.TheVariants.{Enable, Disable, Begin, Abort, DeleteContent}
@@ -33,24 +33,33 @@ IsOne [] = Unit {0}
 IsOne (e ∷ []) = Unit {0}
 IsOne (e ∷ f ∷ es) = ⊥
 
-action_asks : (action : Action) → IsOne (events_of action)
-action_asks (Changes Enable) = tt
-action_asks (Changes Disable) = tt
-action_asks (Changes (Begin from to)) = tt
-action_asks (Changes Abort) = tt
-action_asks (Changes (DeleteContent limit)) = tt
-action_asks (Changes (Resize size)) = tt
-action_asks (Changes (SetKind kind)) = tt
-action_asks (Changes (SetChannel channel)) = tt
-action_asks (Create config) = tt
-action_asks Delete = tt
-action_asks (Route change row) = tt
-action_asks Report = tt
+-- an event that an instruction may ask
+abbrev pub IsCommand : Event → Type 0
+IsCommand (event.Offer now packet) = ⊥
+IsCommand event.Next = ⊥
+IsCommand other = Unit {0}
+
+-- what is so of no event, and of each such event, is so of what an action asks
+pub by_action : (P : List Event → Type 0) → P [] → ((e : Event) → IsCommand e → P (e ∷ [])) → (action : Action)
+    → P (events_of action)
+by_action P none each (Changes Enable) = each event.Enable tt
+by_action P none each (Changes Disable) = each event.Disable tt
+by_action P none each (Changes (Begin from to)) = each (event.Begin from to) tt
+by_action P none each (Changes Abort) = each event.Abort tt
+by_action P none each (Changes (DeleteContent limit)) = each (event.Delete limit) tt
+by_action P none each (Changes (Resize size)) = none
+by_action P none each (Changes (SetKind kind)) = none
+by_action P none each (Changes (SetChannel channel)) = none
+by_action P none each (Create config) = none
+by_action P none each Delete = none
+by_action P none each (Route change row) = none
+by_action P none each Report = none
 
 pub call_asks : (id : List ℕ) (m : Holdings) (c : Call) → IsOne (events_in id m c)
 call_asks id m (records now packet) = cond_both (is_routed m.routes id packet) _ _ IsOne (λ yes. tt) (λ no. tt)
 call_asks id m (asks other event) = cond_both (bytes_eq other id) _ _ IsOne (λ yes. tt) (λ no. tt)
-call_asks id m (applies (Ok i)) = cond_both (bytes_eq i.id id) _ _ IsOne (λ yes. action_asks i.action) (λ no. tt)
+call_asks id m (applies (Ok i)) =
+    cond_both (bytes_eq i.id id) _ _ IsOne (λ yes. by_action IsOne tt (λ e command. tt) i.action) (λ no. tt)
 call_asks id m (applies (Err reason)) = tt
 
 -- what is so of a state and its next event is so at each of at most one
