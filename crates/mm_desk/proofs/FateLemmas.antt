@@ -1,6 +1,6 @@
 -- What becomes of packets: one event first, then any list of them.
 use Rattle.std.proofs.Common.{◌≡◌, ℕ, ◌+◌, ◌<◌, ◌≤◌, Bool, true, ltb, leb, List, [], ◌∷◌, ◌++◌, length, filter, All}
-use Rattle.std.proofs.Common.{Contains, refl, arith, length-append, append_assoc, subst}
+use Rattle.std.proofs.Common.{Contains, refl, arith, length-append, append_assoc, sym, ap, ◌∙◌, subst}
 use Rattle.std.specs.Prelude.{Option, Some, None, Result, IsPermutation, is_some}
 use Rattle.std.specs.List.{find}
 use Rattle.std.proofs.lemmas.Bool.{cond_both}
@@ -20,7 +20,7 @@ use Rattle.mm_desk.specs.Types.{SpacePacket, Stored, Event, Offer, Begin, Next, 
 use Rattle.mm_desk.specs.Types.{Retrieval}
 use Rattle.mm_store.specs.Content.{IsRising, is_in, kept_after, count_up_to}
 use Rattle.mm_desk.specs.Fates.{packets_of, accepted, left_out, found_in, taken, given_up, deleted, given, over, known}
-use Rattle.mm_desk.specs.Fates.{IsConserved, BeginsNone}
+use Rattle.mm_desk.specs.Fates.{IsConserved, BeginsNone, after}
 use Rattle.mm_desk.specs.Machine.{State, step}
 use Rattle.mm_desk.specs.Retrievals.{AtEach, IsWithin}
 use Rattle.mm_desk.proofs.Cases.{offer_cases, put_cases, begin_cases, next_cases, abort_cases, delete_cases}
@@ -137,6 +137,14 @@ gives_held s Next =
     (All-nil _))
     (All-nil _)
 gives_held s e = All-nil _
+
+-- what events do after one another
+pub over-append : {X : Type 0} (each : State → Event → List X) (s : State) (es more : List Event)
+    → over each s (es ++ more) ≡ over each s es ++ over each (after s es) more
+over-append each s [] more = refl
+over-append each s (e ∷ es) more =
+    ap (λ l. each s e ++ l) (over-append each (step s e).1 es more)
+    ∙ sym (append_assoc (each s e) (over each (step s e).1 es) (over each (after (step s e).1 es) more))
 
 module _ (pool : List SpacePacket) where
   abbrev IsIn : Stored → Type 0

@@ -2,7 +2,7 @@
 ghost use Rattle.std.specs.Prelude.{◌≡◌};
 ghost use Rattle.mm_desk.specs.declared.desk.TheConstants.{MAX_SEATS};
 ghost use Rattle.mm_desk.specs.Fates.{ConservePackets, GiveWhatIsKnown, GiveInOrder};
-ghost use Rattle.mm_desk.specs.Losses.{BoundedLoseNew, CircularLoseOldest, GiveLater};
+ghost use Rattle.mm_desk.specs.Losses.{BoundedLoseNew, CircularLoseOldest, GiveLater, GiveRising};
 ghost use Rattle.mm_desk.specs.Retrievals.{RetrievalsGiveRanges};
 ghost use Rattle.mm_desk.specs.Laws.{KeepBalance, KeepStates, ReplaysKeepStates, OffersLeave, ShufflesLoseAlike};
 ghost use Rattle.mm_desk.specs.Laws.{OrdersDumpTheOldest, LoneSeatsAreLogs};
@@ -60,6 +60,7 @@ pub fn stores_lose_new_or_oldest()
     ensures bounded { BoundedLoseNew }
     ensures circular { CircularLoseOldest }
     ensures later { GiveLater }
+    ensures rising { GiveRising }
 {}
 
 /// A whole dump order gives and deletes the oldest packets: as many as it wants, or all that are held.

@@ -67,10 +67,8 @@ Has Q p = Q (spelling p.packet)
 module _ (Q : List ℕ → Type 0) where
   kept_have : (packet : SpacePacket) (r : Result Offered Returned) → Q (spelling packet)
       → All (Has Q) (kept_by packet r)
-  kept_have packet (Ok (Kept time)) has = All-cons (Has Q) (record { time = time; packet = packet }) [] has
-      (All-nil (Has Q))
-  kept_have packet (Ok (KeptOver time oldest)) has =
-      All-cons (Has Q) (record { time = time; packet = packet }) [] has (All-nil (Has Q))
+  kept_have packet (Ok (Kept time)) has = All-cons (Has Q) _ [] has (All-nil (Has Q))
+  kept_have packet (Ok (KeptOver time oldest)) has = All-cons (Has Q) _ [] has (All-nil (Has Q))
   kept_have packet (Ok (Lost lost)) has = All-nil (Has Q)
   kept_have packet (Err back) has = All-nil (Has Q)
 
