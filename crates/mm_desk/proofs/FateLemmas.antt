@@ -1,6 +1,6 @@
 -- What becomes of packets: one event first, then any list of them.
 use Rattle.std.proofs.Common.{◌≡◌, ℕ, ◌+◌, ◌<◌, ◌≤◌, Bool, true, ltb, leb, List, [], ◌∷◌, ◌++◌, length, filter, All}
-use Rattle.std.proofs.Common.{Contains, refl, arith, length-append, append_assoc, subst}
+use Rattle.std.proofs.Common.{Contains, refl, arith, length-append, append_assoc, sym, ap, ◌∙◌, subst}
 use Rattle.std.specs.Prelude.{Option, Some, None, Result, IsPermutation, is_some}
 use Rattle.std.specs.List.{find}
 use Rattle.std.proofs.lemmas.Bool.{cond_both}
@@ -12,7 +12,7 @@ use Rattle.std.proofs.lemmas.List.Sorted.{IsPermutation-to_front, IsPermutation-
 use Rattle.std.proofs.lemmas.List.Sorted.{IsPermutation-append_comm, IsPermutation-filter_both, IsPermutation-map}
 use Rattle.std.proofs.lemmas.List.Sorted.{All-permutation}
 use Rattle.std.proofs.lemmas.List.Elements.{All-nil, All-cons, All-head, All-tail, All-append, All-weaker}
-use Rattle.std.proofs.lemmas.List.Elements.{All-contains_itself}
+use Rattle.std.proofs.lemmas.List.Elements.{All-contains, All-contains_itself}
 use Rattle.mm_base.proofs.Elements.{All-unmapped}
 use Rattle.mm_base.proofs.Pairs.{All-front, All-back}
 use Rattle.std.proofs.lemmas.List.Kept.{AllPairs-cons}
@@ -20,7 +20,7 @@ use Rattle.mm_desk.specs.Types.{SpacePacket, Stored, Event, Offer, Begin, Next, 
 use Rattle.mm_desk.specs.Types.{Retrieval}
 use Rattle.mm_store.specs.Content.{IsRising, is_in, kept_after, count_up_to}
 use Rattle.mm_desk.specs.Fates.{packets_of, accepted, left_out, found_in, taken, given_up, deleted, given, over, known}
-use Rattle.mm_desk.specs.Fates.{IsConserved, BeginsNone}
+use Rattle.mm_desk.specs.Fates.{IsConserved, BeginsNone, after}
 use Rattle.mm_desk.specs.Machine.{State, step}
 use Rattle.mm_desk.specs.Retrievals.{AtEach, IsWithin}
 use Rattle.mm_desk.proofs.Cases.{offer_cases, put_cases, begin_cases, next_cases, abort_cases, delete_cases}
@@ -109,7 +109,7 @@ conserved s (e ∷ es) =
     }
 
 -- what is found passes the test, and has what all have
-pub find-some : (P : Stored → Type 0) (test : Stored → Bool) (xs : List Stored) (p : Stored) → All P xs
+find-some : (P : Stored → Type 0) (test : Stored → Bool) (xs : List Stored) (p : Stored) → All P xs
     → find test xs ≡ Some p → (test p ≡ true) × P p
 find-some P test [] p all found = absurd (cc found)
 find-some P test (x ∷ xs) p all found =
@@ -119,7 +119,7 @@ find-some P test (x ∷ xs) p all found =
     (λ no later. find-some P test xs p (All-tail P x xs all) later) found
 
 -- a packet that a search finds is in the range, and later than the one given last
-pub is_in-parts : (from to after : ℕ) (p : Stored) → is_in from to after p ≡ true
+is_in-parts : (from to after : ℕ) (p : Stored) → is_in from to after p ≡ true
     → IsWithin from to p × (after < p.time)
 is_in-parts from to after p is =
     let low : from ≤ p.time = grind (arith, nat_tests, is) in
@@ -127,17 +127,35 @@ is_in-parts from to after p is =
     let later : after < p.time = grind (arith, nat_tests, is) in
     ((low, high), later)
 
+-- what an event gives is held
+pub gives_held : (s : State) (e : Event) → All (Contains s.store.content) (given s e)
+gives_held s Next =
+    let content = s.store.content in
+    next_cases s (λ r. All (Contains content) (found_in r.0)) (All-nil _)
+    (λ r p on found. All-cons (Contains content) p []
+    (find-some (Contains content) (is_in r.from r.to r.after) content p (All-contains_itself content) found).1
+    (All-nil _))
+    (All-nil _)
+gives_held s e = All-nil _
+
+-- what events do after one another
+pub over-append : {X : Type 0} (each : State → Event → List X) (s : State) (es more : List Event)
+    → over each s (es ++ more) ≡ over each s es ++ over each (after s es) more
+over-append each s [] more = refl
+over-append each s (e ∷ es) more =
+    ap (λ l. each s e ++ l) (over-append each (step s e).1 es more)
+    ∙ sym (append_assoc (each s e) (over each (step s e).1 es) (over each (after (step s e).1 es) more))
+
 module _ (pool : List SpacePacket) where
   abbrev IsIn : Stored → Type 0
   IsIn p = Contains pool p.packet
 
   -- what an event gives is in the pool where all that is held is
   given_in : (s : State) (e : Event) → All (Contains pool) (packets_of s.store.content) → All IsIn (given s e)
-  given_in s Next held =
-      next_cases s (λ r. All IsIn (found_in r.0)) (All-nil IsIn)
-      (λ r p on found. All-cons IsIn p [] (find-some IsIn (is_in r.from r.to r.after) s.store.content p
-      (All-unmapped (Contains pool) (λ p. p.packet) s.store.content held) found).1 (All-nil IsIn)) (All-nil IsIn)
-  given_in s e held = All-nil IsIn
+  given_in s e held =
+      let all = All-unmapped (Contains pool) (λ p. p.packet) s.store.content held in
+      All-weaker (Contains s.store.content) IsIn (λ p at. All-contains IsIn s.store.content p all at) (given s e)
+      (gives_held s e)
 
   all_given_in : (s : State) (es : List Event) → All (Contains pool) (packets_of s.store.content)
       → All (Contains pool) (over taken s es) → All IsIn (over given s es)
@@ -164,11 +182,11 @@ Above (Some r) p = IsWithin r.from r.to p × (r.after < p.time)
 Above None p = ⊥
 
 -- packets may be given from a state on: their times rise, and all are above what was given before
-abbrev MayGive : State → List Stored → Type 0
+abbrev pub MayGive : State → List Stored → Type 0
 MayGive s gave = IsRising gave × All (Above s.retrieval) gave
 
 -- where these may be given from the end of a retrieval on, they are none
-at_end : (s : State) (later : List Stored) → MayGive (record s { retrieval = None }) later → MayGive s later
+pub at_end : (s : State) (later : List Stored) → MayGive (record s { retrieval = None }) later → MayGive s later
 at_end s later may = (may.0, All-weaker (λ p. ⊥) (Above s.retrieval) (λ p never. absurd never) later may.1)
 
 -- an event begins no retrieval: where it asks for one, another is on
@@ -177,7 +195,7 @@ Continues s (Begin from to) = is_some s.retrieval ≡ true
 Continues s other = Unit {0}
 
 -- what an event that begins no retrieval gives may be given before all that may be given after it
-by_calls : (s : State) (e : Event) → Continues s e → (rest : List Stored) → MayGive (step s e).1 rest
+pub by_calls : (s : State) (e : Event) → Continues s e → (rest : List Stored) → MayGive (step s e).1 rest
     → MayGive s (given s e ++ rest)
 by_calls s (Offer now packet) goes rest =
     offer_cases s (λ r. MayGive r.1 rest → MayGive s rest) now packet (λ fault other may. may) (λ last offered may. may)
@@ -206,7 +224,7 @@ rises s [] goes = (λ i j d before within. absurd (omega arith), All-nil _)
 rises s (e ∷ es) goes = by_calls s e goes.0 _ (rises (step s e).1 es goes.1)
 
 -- events that begin no retrieval
-continues : (s : State) (e : Event) → BeginsNone e → Continues s e
+pub continues : (s : State) (e : Event) → BeginsNone e → Continues s e
 continues s (Begin from to) none = absurd none
 continues s e none = tt
 

@@ -1,30 +1,34 @@
 -- What a store loses for room.
-use Rattle.std.proofs.Common.{◌≡◌, ◌≢◌, ℕ, ◌<◌, ◌≤◌, List, [], ◌∷◌, ◌++◌, length, All, refl, ap, ◌∙◌, arith}
+use Rattle.std.proofs.Common.{◌≡◌, ◌≢◌, ℕ, ◌<◌, ◌≤◌, ltb, leb, List, [], ◌∷◌, ◌++◌, length, filter, All, Contains, refl}
+use Rattle.std.proofs.Common.{sym, ap, subst, ◌∙◌, arith}
 use Rattle.std.proofs.lemmas.List.{map-append}
-use Rattle.std.proofs.lemmas.List.Elements.{All-nil, All-cons, All-tail, All-append, All-filter, All-weaker}
-use Rattle.mm_base.proofs.Pairs.{AllPairs-head}
+use Rattle.std.proofs.lemmas.List.Elements.{All-nil, All-cons, All-tail, All-append, All-contains, All-filter}
+use Rattle.std.proofs.lemmas.List.Elements.{All-weaker}
+use Rattle.std.proofs.lemmas.List.Elements.{filter_passes}
+use Rattle.std.proofs.lemmas.Bool.Decides.{nat_tests}
+use Rattle.mm_base.proofs.Pairs.{AllPairs-head, AllPairs-append}
+use Rattle.mm_store.specs.Content.{IsRising}
+use Rattle.std.specs.List.{flat_map}
 use Rattle.mm_desk.specs.Types.{Stored, Event, Offer, Delete, Bounded, Circular}
-use Rattle.mm_desk.specs.Fates.{packets_of, left_out, given_up, after, over}
-use Rattle.mm_desk.specs.Losses.{LosesNone, IsOlder, LosesNew, LosesOldest}
+use Rattle.mm_desk.specs.Fates.{packets_of, left_out, given, given_up, after, over}
+use Rattle.mm_desk.specs.Losses.{LosesNone, IsOlder, LosesNew, LosesOldest, taken_out, AreSettled}
 use Rattle.mm_desk.specs.Machine.{State, IsState, step}
 use Rattle.mm_desk.specs.Retrievals.{oldest_over, overwritten}
 use Rattle.mm_desk.proofs.Cases.{put_cases, delete_cases, quiet_leaves}
+use Rattle.mm_desk.proofs.FateLemmas.{gives_held, over-append}
 use Rattle.mm_desk.proofs.RetrievalLemmas.{IsOrdered, stays_ordered}
 
 -- a store keeps its kind and its size
-record IsAlike (s t : State) : Type 0 where
-  kind : t.store.kind ≡ s.store.kind
-  size : t.store.size ≡ s.store.size
+abbrev IsAlike : State → State → Type 0
+IsAlike s t = (t.store.kind ≡ s.store.kind) × (t.store.size ≡ s.store.size)
 
 stays_alike : (s : State) (e : Event) → IsAlike s (step s e).1
 stays_alike s (Offer now packet) =
-    put_cases s (λ r. IsAlike s r.1) now packet (λ fault other. record { kind = refl; size = refl })
-    (λ new is free. record { kind = refl; size = refl })
-    (λ new is oldest later o. record { kind = refl; size = refl }) (λ stuck. record { kind = refl; size = refl })
+    put_cases s (λ r. IsAlike s r.1) now packet (λ fault other. (refl, refl)) (λ new is free. (refl, refl))
+    (λ new is oldest later o. (refl, refl)) (λ stuck. (refl, refl))
 stays_alike s (Delete limit) =
-    delete_cases s (λ r. IsAlike s r.1) limit (λ busy. record { kind = refl; size = refl })
-    (λ idle. record { kind = refl; size = refl })
-stays_alike s e = quiet_leaves s e tt (IsAlike s) (λ storage retrieval. record { kind = refl; size = refl })
+    delete_cases s (λ r. IsAlike s r.1) limit (λ busy. (refl, refl)) (λ idle. (refl, refl))
+stays_alike s e = quiet_leaves s e tt (IsAlike s) (λ storage retrieval. (refl, refl))
 
 -- a bounded store loses the packet that finds it full
 loses_none : (s : State) (e : Event) → s.store.kind ≡ Bounded → LosesNone s e
@@ -43,7 +47,7 @@ overwrites_none s e bounded = refl
 pub loses_new : (s : State) (es : List Event) → s.store.kind ≡ Bounded → LosesNew s es
 loses_new s [] bounded = record { full = tt; none = refl }
 loses_new s (e ∷ es) bounded =
-    let rest = loses_new (step s e).1 es ((stays_alike s e).kind ∙ bounded) in
+    let rest = loses_new (step s e).1 es ((stays_alike s e).0 ∙ bounded) in
     record {
       full = (loses_none s e bounded, rest.full);
       none = ap (λ lost. lost ++ over overwritten (step s e).1 es) (overwrites_none s e bounded) ∙ rest.none;
@@ -59,13 +63,13 @@ loses_overwritten s (Offer now packet) room circular =
     (λ stuck. let none = ap length (stuck.none circular) in absurd (omega (arith, none, stuck.full)))
 loses_overwritten s e room circular = refl
 
-pub all_overwritten : (s : State) (es : List Event) → 1 ≤ s.store.size → s.store.kind ≡ Circular
+all_overwritten : (s : State) (es : List Event) → 1 ≤ s.store.size → s.store.kind ≡ Circular
     → over given_up s es ≡ packets_of (over overwritten s es)
 all_overwritten s [] room circular = refl
 all_overwritten s (e ∷ es) room circular =
     let t = (step s e).1 in
     let alike = stays_alike s e in
-    let rest = all_overwritten t es (omega (arith, alike.size)) (alike.kind ∙ circular) in
+    let rest = all_overwritten t es (omega (arith, alike.1)) (alike.0 ∙ circular) in
     rw (loses_overwritten s e room circular, rest, map-append) refl
 
 -- a packet is older than all that a state holds and will hold
@@ -95,12 +99,12 @@ module _ (lost : Stored) where
       (λ idle. (All-filter _ (λ p. lost.time < p.time) s.store.content past.0, past.1))
   stays_past s e past = quiet_leaves s e tt (λ t. IsPast t lost) (λ storage retrieval. past)
 
-  pub always_past : (s : State) (es : List Event) → IsPast s lost → IsPast (after s es) lost
+  always_past : (s : State) (es : List Event) → IsPast s lost → IsPast (after s es) lost
   always_past s [] past = past
   always_past s (e ∷ es) past = always_past (step s e).1 es (stays_past s e past)
 
 -- what is overwritten is older than all that is held then
-pub overwrites_past : (s : State) (e : Event) → IsOrdered s.store → All (IsPast (step s e).1) (overwritten s e)
+overwrites_past : (s : State) (e : Event) → IsOrdered s.store → All (IsPast (step s e).1) (overwritten s e)
 overwrites_past s (Offer now packet) ordered =
     put_cases s (λ r. All (IsPast r.1) (oldest_over r.0 s.store.content)) now packet (λ fault other. All-nil _)
     (λ new is free. All-nil _)
@@ -112,20 +116,76 @@ overwrites_past s (Offer now packet) ordered =
     (λ stuck. All-nil _)
 overwrites_past s e ordered = All-nil _
 
-all_past : (s : State) (es : List Event) → IsOrdered s.store → All (IsPast (after s es)) (over overwritten s es)
-all_past s [] ordered = All-nil _
-all_past s (e ∷ es) ordered =
+-- and so is what is deleted
+takes_past : (s : State) (e : Event) → IsOrdered s.store → All (IsPast (step s e).1) (taken_out s e)
+takes_past s (Delete limit) ordered =
+    let held = s.store.content in
+    let gone = filter (λ p. leb p.time limit) held in
+    let early = All-filter (λ p. leb p.time limit) (λ p. p.time ≤ s.store.last) held ordered.up_to_last in
+    let up_to = filter_passes (λ (p : Stored). leb p.time limit) held in
+    let later = filter_passes (λ (p : Stored). ltb limit p.time) held in
+    delete_cases s (λ r. All (IsPast r.1) (taken_out s (Delete limit))) limit (λ busy. rw busy (All-nil _))
+    (λ idle. rw idle (λ k d within. (
+      λ j f inside. grind (arith, nat_tests, up_to k d within, later j f inside),
+      early k d within,
+    )))
+takes_past s e ordered = overwrites_past s e ordered
+
+-- what left a store over events is past
+all_past : (each : State → Event → List Stored)
+    → ((s : State) (e : Event) → IsOrdered s.store → All (IsPast (step s e).1) (each s e))
+    → (s : State) (es : List Event) → IsOrdered s.store → All (IsPast (after s es)) (over each s es)
+all_past each past s [] ordered = All-nil _
+all_past each past s (e ∷ es) ordered =
     let t = (step s e).1 in
-    All-append (IsPast (after t es)) (overwritten s e) (over overwritten t es)
-    (All-weaker (IsPast t) (IsPast (after t es)) (λ lost past. always_past lost t es past) (overwritten s e)
-    (overwrites_past s e ordered))
-    (all_past t es (stays_ordered s e ordered))
+    All-append (IsPast (after t es)) (each s e) (over each t es)
+    (All-weaker (IsPast t) (IsPast (after t es)) (λ lost gone. always_past lost t es gone) (each s e)
+    (past s e ordered))
+    (all_past each past t es (stays_ordered s e ordered))
+
+pub is_ordered : (s : State) → IsState s → IsOrdered s.store
+is_ordered s sound = record { rising = sound.store.rising; up_to_last = sound.store.up_to_last }
 
 pub loses_oldest : (s : State) (es : List Event) → IsState s → s.store.kind ≡ Circular → LosesOldest s es
 loses_oldest s es sound circular =
-    let ordered : IsOrdered s.store = record { rising = sound.store.rising; up_to_last = sound.store.up_to_last } in
+    let t = after s es in
     record {
       lost = all_overwritten s es sound.store.has_room circular;
-      older = All-weaker (IsPast (after s es)) (IsOlder (after s es).store.content) (λ lost past. past.0)
-          (over overwritten s es) (all_past s es ordered);
+      older = All-weaker (IsPast t) (IsOlder t.store.content) (λ lost past. past.0) (over overwritten s es)
+          (all_past overwritten overwrites_past s es (is_ordered s sound));
     }
+
+-- what is given is later than what is past
+gives_later : (lost : Stored) (s : State) (es : List Event) → IsPast s lost → IsOlder (over given s es) lost
+gives_later lost s [] past = All-nil _
+gives_later lost s (e ∷ es) past =
+    let Later : Stored → Type 0 = λ p. lost.time < p.time in
+    All-append Later (given s e) (over given (step s e).1 es)
+    (All-weaker (Contains s.store.content) Later (λ p at. All-contains Later s.store.content p past.0 at) (given s e)
+    (gives_held s e))
+    (gives_later lost (step s e).1 es (stays_past lost s e past))
+
+pub give_later : (s : State) (es more : List Event) → IsOrdered s.store
+    → All (IsOlder (over given (after s es) more)) (over taken_out s es)
+give_later s es more ordered =
+    let t = after s es in
+    All-weaker (IsPast t) (IsOlder (over given t more)) (λ lost past. gives_later lost t more past)
+    (over taken_out s es) (all_past taken_out takes_past s es ordered)
+
+-- over settled parts all that is given rises
+all_ordered : (s : State) (es : List Event) → IsOrdered s.store → IsOrdered (after s es).store
+all_ordered s [] ordered = ordered
+all_ordered s (e ∷ es) ordered = all_ordered (step s e).1 es (stays_ordered s e ordered)
+
+pub gives_rising : (s : State) (parts : List (List Event)) → IsOrdered s.store → AreSettled s parts
+    → IsRising (over given s (flat_map (λ es. es) parts))
+gives_rising s [] ordered settled = λ i j d before within. absurd (omega arith)
+gives_rising s (es ∷ parts) ordered settled =
+    let more = flat_map (λ (es : List Event). es) parts in
+    let gave = over given s es in
+    let later = give_later s es more ordered in
+    let across = All-weaker (Contains (over taken_out s es)) (IsOlder (over given (after s es) more))
+    (λ p at. All-contains (IsOlder (over given (after s es) more)) (over taken_out s es) p later at) gave settled.1 in
+    subst IsRising (sym (over-append given s es more))
+    (AllPairs-append (λ p q. p.time < q.time) gave (over given (after s es) more) settled.0
+    (gives_rising (after s es) parts (all_ordered s es ordered) settled.2) across)

@@ -10,13 +10,13 @@ use Rattle.std.proofs.lemmas.List.Elements.{All-contains_itself}
 use Rattle.std.proofs.lemmas.List.Kept.{AllPairs-filter}
 use Rattle.std.proofs.lemmas.List.Quantifiers.{all_pairs_push}
 use Rattle.mm_base.proofs.Pairs.{All-front, All-back, AllPairs-head, AllPairs-tail}
-use Rattle.mm_store.specs.Content.{Store, IsRising, is_in, first_in, with_newest, kept_after}
+use Rattle.mm_store.specs.Content.{Store, IsRising, is_in, with_newest}
 use Rattle.mm_desk.specs.Types.{Stored, Event, Offer, Begin, Next, Abort, Delete, KeptOver, Retrieval}
 use Rattle.mm_desk.specs.Fates.{found_in, given, deleted, after, over}
 use Rattle.mm_desk.specs.Machine.{State, IsState, give, next_of, step}
 use Rattle.mm_desk.specs.Retrievals.{oldest_over, overwritten, AtEach, IsOn, IsBegun, AbortsNone, IsWithin, GivesRange}
-use Rattle.mm_desk.proofs.Cases.{put_cases, begin_cases, next_cases, abort_cases, delete_cases, quiet_leaves}
-use Rattle.mm_desk.proofs.FateLemmas.{find-some, is_in-parts, Above, Continues, rises}
+use Rattle.mm_desk.proofs.Cases.{put_cases, begin_cases, delete_cases, quiet_leaves}
+use Rattle.mm_desk.proofs.FateLemmas.{gives_held, Above, Continues, rises}
 
 -- times rise, up to the last one that was given
 pub record IsOrdered (s : Store) : Type 0 where
@@ -51,28 +51,11 @@ stays_ordered s (Delete limit) ordered =
     })
 stays_ordered s e ordered = quiet_leaves s e tt (λ t. IsOrdered t.store) (λ storage retrieval. ordered)
 
--- what is so of each event is so at each
-pub at_each : (P : State → Event → Type 0) → ((s : State) (e : Event) → P s e) → (s : State) (es : List Event)
-    → AtEach P s es
-at_each P each s [] = tt
-at_each P each s (e ∷ es) = (each s e, at_each P each (step s e).1 es)
-
 -- what is so of each event during a retrieval is so at each
 during : (P : State → Event → Type 0) → ((s : State) (e : Event) → IsOn s → P s e) → (s : State) (es : List Event)
     → AtEach (λ t e. IsOn t) s es → AtEach P s es
 during P each s [] on = tt
 during P each s (e ∷ es) on = (each s e on.0, during P each (step s e).1 es on.1)
-
--- what an event gives is held
-pub gives_held : (s : State) (e : Event) → All (Contains s.store.content) (given s e)
-gives_held s Next =
-    let content = s.store.content in
-    next_cases s (λ r. All (Contains content) (found_in r.0)) (All-nil _)
-    (λ r p on found. All-cons (Contains content) p []
-    (find-some (Contains content) (is_in r.from r.to r.after) content p (All-contains_itself content) found).1
-    (All-nil _))
-    (All-nil _)
-gives_held s e = All-nil _
 
 -- during a retrieval none begins
 on_continues : (s : State) (e : Event) → IsOn s → Continues s e
@@ -88,28 +71,21 @@ deletes_none : (s : State) (es : List Event) → AtEach (λ t e. IsOn t) s es �
 deletes_none s [] on = refl
 deletes_none s (e ∷ es) on = rw (on_keeps s e on.0) (deletes_none (step s e).1 es on.1)
 
--- a search that finds nothing passes all
-finds_none : (test : Stored → Bool) (xs : List Stored) → find test xs ≡ None → All (λ p. test p ≡ false) xs
-finds_none test [] none = All-nil _
-finds_none test (x ∷ xs) none =
-    cond_both (test x) _ _ (λ first. first ≡ None → All (λ p. test p ≡ false) (x ∷ xs)) (λ yes same. absurd cc)
-    (λ no later. All-cons (λ p. test p ≡ false) x xs no (finds_none test xs later)) none
+-- all that pass a test are what a search finds, or later
+abbrev FromFound : Option Stored → Stored → Type 0
+FromFound (Some p) q = (q ≡ p) ⊎ (p.time < q.time)
+FromFound None q = ⊥
 
--- all that pass a test are what is found, or later
-finds_first : (test : Stored → Bool) (xs : List Stored) (p : Stored) → IsRising xs → find test xs ≡ Some p
-    → All (λ q. test q ≡ true → (q ≡ p) ⊎ (p.time < q.time)) xs
-finds_first test [] p rising found = All-nil _
-finds_first test (x ∷ xs) p rising found =
-    let Passes : Stored → Type 0 = λ q. test q ≡ true → (q ≡ p) ⊎ (p.time < q.time) in
-    cond_both (test x) _ _ (λ first. first ≡ Some p → All Passes (x ∷ xs))
-    (λ yes same.
-    let is : x ≡ p = cc in
-    All-cons Passes x xs (λ passes. inl is)
-    (All-weaker (λ q. x.time < q.time) Passes (λ q later passes. inr
-    (subst (λ (r : Stored). r.time < q.time) is later)) xs
+finds_first : (test : Stored → Bool) (xs : List Stored) → IsRising xs
+    → All (λ q. test q ≡ true → FromFound (find test xs) q) xs
+finds_first test [] rising = All-nil _
+finds_first test (x ∷ xs) rising =
+    cond_both (test x) _ _ (λ found. All (λ q. test q ≡ true → FromFound found q) (x ∷ xs))
+    (λ yes. All-cons (λ q. test q ≡ true → FromFound (Some x) q) x xs (λ passes. inl refl)
+    (All-weaker (λ q. x.time < q.time) (λ q. test q ≡ true → FromFound (Some x) q) (λ q later passes. inr later) xs
     (AllPairs-head (λ p q. p.time < q.time) x xs rising)))
-    (λ no later. All-cons Passes x xs (λ passes. absurd cc)
-    (finds_first test xs p (AllPairs-tail (λ p q. p.time < q.time) x xs rising) later)) found
+    (λ no. All-cons (λ q. test q ≡ true → FromFound (find test xs) q) x xs (λ passes. absurd cc)
+    (finds_first test xs (AllPairs-tail (λ p q. p.time < q.time) x xs rising)))
 
 module _ (D : Stored → Type 0) where
   -- what the retrieval has still to give
@@ -134,20 +110,18 @@ module _ (D : Stored → Type 0) where
       → All D (found_in (next_of s retrieval).0)
       → AllAwaited (next_of s retrieval).1 → All (Awaited retrieval) s.store.content
   given_next s ordered None gave later = λ k d within. tt
-  given_next s ordered (Some r) gave later = by_found (first_in r.from r.to r.after s.store.content) refl gave later
+  given_next s ordered (Some r) gave later =
+      let passing = is_in r.from r.to r.after in
+      by_found (find passing s.store.content) gave later (finds_first passing s.store.content ordered.rising)
     where
-      by_found : (next : Option Stored) → first_in r.from r.to r.after s.store.content ≡ next
-          → All D (found_in (give s r next).0)
-          → AllAwaited (give s r next).1 → All (Awaited (Some r)) s.store.content
-      by_found None is gave later =
-          All-weaker (λ p. is_in r.from r.to r.after p ≡ false) (Awaited (Some r))
-          (λ p fails passes. absurd cc) s.store.content
-          (finds_none (is_in r.from r.to r.after) s.store.content is)
-      by_found (Some p) is gave later = λ k d within passes.
-          elim (finds_first (is_in r.from r.to r.after) s.store.content p ordered.rising is k d within passes) [
-            | inl same ↦ subst D (sym same) (All-head D p [] gave)
-            | inr newer ↦ later k d within (grind (arith, nat_tests, passes, newer))
-          ]
+      by_found : (next : Option Stored) → All D (found_in (give s r next).0) → AllAwaited (give s r next).1
+          → All (λ q. is_in r.from r.to r.after q ≡ true → FromFound next q) s.store.content
+          → All (Awaited (Some r)) s.store.content
+      by_found None gave later first = λ k d within passes. absurd (first k d within passes)
+      by_found (Some p) gave later first = λ k d within passes. elim (first k d within passes) [
+        | inl same ↦ subst D (sym same) (All-head D p [] gave)
+        | inr newer ↦ later k d within (grind (arith, nat_tests, passes, newer))
+      ]
 
   -- an event gives what was awaited, or overwrites it, or leaves it awaited
   awaits : (s : State) (e : Event) → IsOrdered s.store → AbortsNone e → All D (given s e) → All D (overwritten s e)
@@ -200,7 +174,7 @@ gives_range from to s es sound begun on =
     let all = All-contains_itself (gave ++ lost) in
     let ordered : IsOrdered s.store = record { rising = sound.store.rising; up_to_last = sound.store.up_to_last } in
     record {
-      held = at_each (λ t e. All (Contains t.store.content) (given t e)) gives_held s es;
+      held = during (λ t e. All (Contains t.store.content) (given t e)) (λ t e on. gives_held t e) s es on;
       within = All-weaker (λ p. IsWithin from to p × (0 < p.time)) (IsWithin from to) (λ p above. above.0) gave above;
       rising = goes.0;
       kept = deletes_none s es on;

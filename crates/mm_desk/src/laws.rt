@@ -2,7 +2,7 @@
 ghost use Rattle.std.specs.Prelude.{◌≡◌};
 ghost use Rattle.mm_desk.specs.declared.desk.TheConstants.{MAX_SEATS};
 ghost use Rattle.mm_desk.specs.Fates.{ConservePackets, GiveWhatIsKnown, GiveInOrder};
-ghost use Rattle.mm_desk.specs.Losses.{BoundedLoseNew, CircularLoseOldest};
+ghost use Rattle.mm_desk.specs.Losses.{BoundedLoseNew, CircularLoseOldest, GiveLater, GiveRising};
 ghost use Rattle.mm_desk.specs.Retrievals.{RetrievalsGiveRanges};
 ghost use Rattle.mm_desk.specs.Laws.{KeepBalance, KeepStates, ReplaysKeepStates, OffersLeave, ShufflesLoseAlike};
 ghost use Rattle.mm_desk.specs.Laws.{OrdersDumpTheOldest, LoneSeatsAreLogs};
@@ -54,10 +54,13 @@ pub fn retrievals_give_their_range()
 {}
 
 /// A bounded store loses only packets that find it full, and none that it holds for them. A circular store loses only
-/// what it overwrites, and each such packet is older than all that the store holds then and later.
+/// what it overwrites, and each such packet is older than all that the store holds then and later. What is given is
+/// later than all that was overwritten or deleted before.
 pub fn stores_lose_new_or_oldest()
     ensures bounded { BoundedLoseNew }
     ensures circular { CircularLoseOldest }
+    ensures later { GiveLater }
+    ensures rising { GiveRising }
 {}
 
 /// A whole dump order gives and deletes the oldest packets: as many as it wants, or all that are held.

@@ -1,106 +1,71 @@
 -- What retrievals give was held or kept, and comes in order.
-use Rattle.std.proofs.Common.{◌≡◌, inl, inr, ℕ, ◌+◌, Bool, ltb, List, [], ◌∷◌, ◌++◌, length, All, Contains, refl, sym, ap, subst, ◌∙◌, arith, append_assoc}
-use Rattle.std.specs.Prelude.{map, bytes_eq, Option, Some, None, Result, Ok, Err, ◌==◌, ◌||◌, not, is_some, IfSome, max}
-use Rattle.std.specs.List.{find}
+use Rattle.std.proofs.Common.{◌≡◌, inl, inr, ℕ, Bool, List, [], ◌∷◌, ◌++◌, All, Contains, refl, sym}
+use Rattle.std.proofs.Common.{ap, subst, ◌∙◌, arith, append_assoc}
+use Rattle.std.specs.Prelude.{map, bytes_eq, Option, Some, None, Ok, Err}
 use Rattle.std.proofs.lemmas.Bool.{cond_both}
-use Rattle.std.proofs.lemmas.List.Elements.{All-nil, All-cons, All-head, All-tail, All-append, All-filter, All-contains_itself}
+use Rattle.std.proofs.lemmas.List.Elements.{All-nil, All-cons, All-head, All-tail, All-append, All-filter, All-weaker}
+use Rattle.std.proofs.lemmas.List.Elements.{All-contains, All-contains_itself}
 use Rattle.std.proofs.lemmas.Slice.Eq.{bytes_eq-Decides}
 use Rattle.mm_base.proofs.Pairs.{All-front, All-back}
-use Rattle.mm_base.specs.declared.kind.Kind.{Kind}
-use Rattle.mm_base.specs.declared.kind.Kind.TheVariants.{Circular, Bounded}
 use Rattle.mm_packet.specs.Packet.{SpacePacket}
-use Rattle.mm_store.specs.declared.put.Put.{Put}
 use Rattle.mm_store.specs.declared.stored.Stored.{Stored}
-use Rattle.mm_store.specs.Content.{Store, clock_end, IsRising, is_in, put_full, put_timed}
+use Rattle.mm_store.specs.Content.{IsRising}
 use Rattle.mm_desk.specs.declared.event.Event.{Event}
 use Rattle.mm_desk.specs.declared.event.Event.TheVariants as event
-use Rattle.mm_desk.specs.declared.fault.Fault.{Fault}
-use Rattle.mm_desk.specs.declared.reply.Offered.{Offered}
-use Rattle.mm_desk.specs.declared.reply.Returned.{Returned}
 use Rattle.mm_desk.specs.declared.state.Retrieval.{Retrieval}
-use Rattle.mm_desk.specs.Fates.{found_in, given, after, over, BeginsNone, GiveInOrder}
-use Rattle.mm_desk.specs.Machine.{State, answer_of, after_put, offer, give, next_of, step}
-use Rattle.mm_memory.specs.declared.instruction.Action.{Action}
-use Rattle.mm_memory.specs.declared.instruction.Action.TheVariants.{Create, Delete, Route, Report, Change as Changes}
-use Rattle.mm_memory.specs.declared.instruction.StoreChange.TheVariants.{Enable, Disable, Begin, Abort, DeleteContent, Resize, SetKind, SetChannel}
-use Rattle.mm_memory.specs.Accounts.{Call, records, asks, applies, Turn, AreTurns, after_turns, calls_of, kept_by, kept, in_store, in_turns, held_in, events_of, events_in, removes_in, kept_in, given_by, BeginsNoneIn}
+use Rattle.mm_desk.specs.Fates.{given, after, over, BeginsNone}
+use Rattle.mm_desk.specs.Machine.{State, step}
+use Rattle.mm_desk.proofs.Cases.{put_cases, delete_cases, quiet_leaves}
+use Rattle.mm_desk.proofs.FateLemmas.{gives_held, Above, MayGive, at_end, by_calls, continues}
+use Rattle.mm_memory.specs.Accounts.{Call, records, asks, applies, Turn, AreTurns, after_turns, calls_of, kept_by, kept}
+use Rattle.mm_memory.specs.Accounts.{in_store, in_turns, held_in, events_of, events_in, removes_in, kept_in, given_by}
+use Rattle.mm_memory.specs.Accounts.{BeginsNoneIn}
 use Rattle.mm_memory.specs.Holdings.{Holdings, state_of}
 use Rattle.mm_memory.specs.Instruction.{Parsed}
 use Rattle.mm_memory.specs.Recording.{is_routed}
+use Rattle.mm_memory.proofs.RetrievalLemmas.{IsCommand, by_action}
 use Rattle.mm_memory.proofs.TurnLemmas.{Becomes, becomes}
 
--- what is found has what all have
-found_has : (P : Stored → Type 0) (test : Stored → Bool) (xs : List Stored) → All P xs → IfSome (find test xs) P
-found_has P test [] all = tt
-found_has P test (x ∷ xs) all =
-    cond_both (test x) _ _ (λ found. IfSome found P) (λ yes. All-head P x xs all) (λ no. found_has P test xs (All-tail P x xs all))
-
--- a packet with its storage time
-abbrev timed : ℕ → SpacePacket → Stored
-timed time packet = record { time = time; packet = packet }
-
 module _ (P : Stored → Type 0) where
-  -- what a put leaves has what all that was held has, and what it keeps
-  abbrev PutHas : SpacePacket → Put × Store → Type 0
-  PutHas packet done = All P (kept_by packet (answer_of done.0)) → All P done.1.content
-
-  full_has : (kind : Kind) (held : List Stored) (s : Store) (time : ℕ) (packet : SpacePacket) → s.content ≡ held → All P held → PutHas packet (put_full kind held s (timed time packet))
-  full_has Circular (oldest ∷ later) s time packet is all keeps = All-append P later (timed time packet ∷ []) (All-tail P oldest later all) keeps
-  full_has Circular [] s time packet is all keeps = subst (All P) (sym is) all
-  full_has Bounded held s time packet is all keeps = subst (All P) (sym is) all
-
-  put_has : (s : Store) (time : ℕ) (packet : SpacePacket) → All P s.content → PutHas packet (put_timed s (timed time packet))
-  put_has s time packet all =
-      cond_both (ltb (length s.content) s.size) _ _ (PutHas packet) (λ free keeps. All-append P s.content (timed time packet ∷ []) all keeps)
-      (λ full. full_has s.kind s.content s time packet refl all)
-
-  abbrev OfferHas : SpacePacket → Result Offered Returned × State → Type 0
-  OfferHas packet r = All P (kept_by packet r.0) → All P r.1.store.content
-
-  offer_has : (s : State) (now : ℕ) (packet : SpacePacket) → All P s.store.content → OfferHas packet (offer s now packet)
-  offer_has s now packet all =
-      cond_both (not s.storage) _ _ (OfferHas packet) (λ off keeps. all)
-      (λ on. cond_both ((s.store.last == clock_end) || (s.offered == clock_end)) _ _ (OfferHas packet) (λ late keeps. all)
-      (λ early. cond_both (s.store.last == clock_end) _ _ (λ done. OfferHas packet (answer_of done.0, after_put s done)) (λ late keeps. all)
-      (λ free. put_has s.store (max now (s.store.last + 1)) packet all)))
-
   -- what an event gives, and what it leaves
   abbrev pub Has : List Stored → State → Type 0
   Has gave t = All P gave × All P t.store.content
 
-  give_has : (s : State) (r : Retrieval) (found : Option Stored) → IfSome found P → All P s.store.content → Has (found_in (give s r found).0) (give s r found).1
-  give_has s r (Some p) has all = (All-cons P p [] has (All-nil P), all)
-  give_has s r None has all = (All-nil P, all)
+  gave_has : (s : State) (e : Event) → All P s.store.content → All P (given s e)
+  gave_has s e all =
+      All-weaker (Contains s.store.content) P (λ p at. All-contains P s.store.content p all at) (given s e)
+      (gives_held s e)
 
-  pub next_has : (s : State) (retrieval : Option Retrieval) → All P s.store.content → Has (found_in (next_of s retrieval).0) (next_of s retrieval).1
-  next_has s (Some r) all = give_has s r _ (found_has P (is_in r.from r.to r.after) s.store.content all) all
-  next_has s None all = (All-nil P, all)
+  newest_has : (older : List Stored) (new : Stored) (packet : SpacePacket) → new.packet ≡ packet → All P older
+      → All P (record { time = new.time; packet = packet } ∷ []) → All P (older ++ new ∷ [])
+  newest_has older new packet is all keeps =
+      All-append P older (new ∷ []) all
+      (subst (λ (q : SpacePacket). All P (record { time = new.time; packet = q } ∷ [])) (sym is) keeps)
 
-  event_has : (s : State) (e : Event) → All P s.store.content → All P (kept s e) → Has (given s e) (step s e).1
-  event_has s (event.Offer now packet) all keeps = (All-nil P, offer_has s now packet all keeps)
-  event_has s (event.Begin from to) all keeps = (
-    All-nil P,
-    cond_both (is_some s.retrieval) _ _ (λ (r : Result (Unit {0}) Fault × State). All P r.1.store.content) (λ busy. all)
-        (λ free. cond_both (ltb to from) _ _ (λ (r : Result (Unit {0}) Fault × State). All P r.1.store.content) (λ bad. all) (λ good. all)),
-  )
-  event_has s event.Next all keeps = next_has s s.retrieval all
-  event_has s event.Abort all keeps =
-      (All-nil P, cond_both (is_some s.retrieval) _ _ (λ (r : Result (Unit {0}) Fault × State). All P r.1.store.content) (λ on. all) (λ off. all))
-  event_has s (event.Delete limit) all keeps =
-      (All-nil P, cond_both (is_some s.retrieval) _ _ (λ (r : Result ℕ Fault × State). All P r.1.store.content) (λ busy. all) (λ free. All-filter _ P s.store.content all))
-  event_has s event.Enable all keeps = (All-nil P, all)
-  event_has s event.Disable all keeps = (All-nil P, all)
+  left_has : (s : State) (e : Event) → All P s.store.content → All P (kept s e) → All P (step s e).1.store.content
+  left_has s (event.Offer now packet) all =
+      put_cases s (λ r. All P (kept_by packet r.0) → All P r.1.store.content) now packet (λ fault other keeps. all)
+      (λ new is free keeps. newest_has s.store.content new packet is.packet all keeps)
+      (λ new is oldest later o keeps.
+      newest_has later new packet is.packet (All-tail P oldest later (rw o.held at all)) keeps)
+      (λ stuck keeps. all)
+  left_has s (event.Delete limit) all = λ keeps.
+      delete_cases s (λ r. All P r.1.store.content) limit (λ busy. all) (λ idle. All-filter _ P s.store.content all)
+  left_has s e all = λ keeps. quiet_leaves s e tt (λ t. All P t.store.content) (λ storage retrieval. all)
 
-  events_have : (s : State) (es : List Event) → All P s.store.content → All P (over kept s es) → Has (over given s es) (after s es)
+  events_have : (s : State) (es : List Event) → All P s.store.content → All P (over kept s es)
+      → Has (over given s es) (after s es)
   events_have s [] all keeps = (All-nil P, all)
   events_have s (e ∷ es) all keeps =
-      let here = event_has s e all (All-front P (kept s e) (over kept (step s e).1 es) keeps) in
-      let rest = events_have (step s e).1 es here.1 (All-back P (kept s e) (over kept (step s e).1 es) keeps) in
-      (All-append P (given s e) (over given (step s e).1 es) here.0 rest.0, rest.1)
+      let left = left_has s e all (All-front P (kept s e) (over kept (step s e).1 es) keeps) in
+      let rest = events_have (step s e).1 es left (All-back P (kept s e) (over kept (step s e).1 es) keeps) in
+      (All-append P (given s e) (over given (step s e).1 es) (gave_has s e all) rest.0, rest.1)
 
   -- the same of one store in one turn
-  turn_has : (es : List Event) (gone : State → Bool) (before left : Option State) → Becomes es gone before left → All P (in_store (λ s. s.store.content) before)
-      → All P (in_store (λ s. over kept s es) before) → All P (in_store (λ s. over given s es) before) × All P (in_store (λ s. s.store.content) left)
+  turn_has : (es : List Event) (gone : State → Bool) (before left : Option State) → Becomes es gone before left
+      → All P (in_store (λ s. s.store.content) before)
+      → All P (in_store (λ s. over kept s es) before)
+      → All P (in_store (λ s. over given s es) before) × All P (in_store (λ s. s.store.content) left)
   turn_has es gone (Some s) (Some t) (stays, inl is) all keeps = rw is (events_have s es all keeps)
   turn_has es gone (Some s) (Some t) (stays, inr shape) all keeps = rw (shape.asked, shape.content) (All-nil P, all)
   turn_has es gone (Some s) None (goes, nothing) all keeps = rw nothing (All-nil P, All-nil P)
@@ -108,146 +73,111 @@ module _ (P : Stored → Type 0) where
   turn_has es gone None None nothing all keeps = (All-nil P, All-nil P)
 
   -- and in any turns
-  pub turns_have : (id : List ℕ) (m : Holdings) (turns : List Turn) → AreTurns m turns → All P (held_in id m) → All P (in_turns kept_in id m turns)
+  pub turns_have : (id : List ℕ) (m : Holdings) (turns : List Turn) → AreTurns m turns → All P (held_in id m)
+      → All P (in_turns kept_in id m turns)
       → All P (in_turns given_by id m turns) × All P (held_in id (after_turns m turns))
   turns_have id m [] made all keeps = (All-nil P, all)
   turns_have id m (t ∷ ts) made all keeps =
       let before = state_of id m in
-      let here = turn_has (events_in id m t.call) (removes_in id t.call) before (state_of id t.left) (becomes id m t.left t.call made.0) all
+      let here = turn_has (events_in id m t.call) (removes_in id t.call) before (state_of id t.left)
+      (becomes id m t.left t.call made.0) all
       (All-front P (in_store (kept_in id m t.call) before) (in_turns kept_in id t.left ts) keeps) in
-      let rest = turns_have id t.left ts made.1 here.1 (All-back P (in_store (kept_in id m t.call) before) (in_turns kept_in id t.left ts) keeps) in
+      let rest = turns_have id t.left ts made.1 here.1 (All-back P (in_store (kept_in id m t.call) before)
+      (in_turns kept_in id t.left ts) keeps) in
       (All-append P (in_store (given_by id m t.call) before) (in_turns given_by id t.left ts) here.0 rest.0, rest.1)
 
-pub gives_kept : (id : List ℕ) (m : Holdings) (turns : List Turn) → AreTurns m turns → All (Contains (held_in id m ++ in_turns kept_in id m turns)) (in_turns given_by id m turns)
+pub gives_kept : (id : List ℕ) (m : Holdings) (turns : List Turn) → AreTurns m turns
+    → All (Contains (held_in id m ++ in_turns kept_in id m turns)) (in_turns given_by id m turns)
 gives_kept id m turns made =
     let pool = held_in id m ++ in_turns kept_in id m turns in
     let all = All-contains_itself pool in
-    (turns_have (Contains pool) id m turns made (All-front (Contains pool) (held_in id m) (in_turns kept_in id m turns) all) (All-back (Contains pool) (held_in id m) (in_turns kept_in id m turns) all)).0
+    (turns_have (Contains pool) id m turns made (All-front (Contains pool) (held_in id m)
+    (in_turns kept_in id m turns) all) (All-back (Contains pool) (held_in id m) (in_turns kept_in id m turns) all)).0
 
--- instructions keep no packets
-action_keeps : (s : State) (action : Action) → over kept s (events_of action) ≡ []
-action_keeps s (Changes Enable) = refl
-action_keeps s (Changes Disable) = refl
-action_keeps s (Changes (Begin from to)) = refl
-action_keeps s (Changes Abort) = refl
-action_keeps s (Changes (DeleteContent limit)) = refl
-action_keeps s (Changes (Resize size)) = refl
-action_keeps s (Changes (SetKind kind)) = refl
-action_keeps s (Changes (SetChannel channel)) = refl
-action_keeps s (Create config) = refl
-action_keeps s Delete = refl
-action_keeps s (Route change row) = refl
-action_keeps s Report = refl
+-- instructions neither keep nor give packets
+pub keeps_none : (s : State) (e : Event) → IsCommand e → kept s e ≡ []
+keeps_none s (event.Offer now packet) command = absurd command
+keeps_none s e command = refl
 
-module _ (id : List ℕ) where
-  instruction_keeps : (m : Holdings) (i : Parsed) (before : Option State) → in_store (kept_in id m (applies i)) before ≡ []
-  instruction_keeps m (Ok i) (Some s) = cond_both (bytes_eq i.id id) (events_of i.action) [] (λ es. over kept s es ≡ []) (λ yes. action_keeps s i.action) (λ no. refl)
-  instruction_keeps m (Err reason) (Some s) = refl
-  instruction_keeps m i None = refl
+pub gives_none : (s : State) (e : Event) → IsCommand e → given s e ≡ []
+gives_none s event.Next command = absurd command
+gives_none s e command = refl
 
-  pub instructions_keep : (m : Holdings) (is : List Parsed) (turns : List Turn) → calls_of turns ≡ map applies is → in_turns kept_in id m turns ≡ []
-  instructions_keep m is [] same = refl
-  instructions_keep m [] (t ∷ ts) same = absurd cc
-  instructions_keep m (i ∷ is) (t ∷ ts) same =
+module _ {X : Type 0} (each : State → Event → List X)
+    (none : (s : State) (e : Event) → IsCommand e → each s e ≡ []) where
+  instruction_does : (id : List ℕ) (m : Holdings) (i : Parsed) (before : Option State)
+      → in_store (λ s. over each s (events_in id m (applies i))) before ≡ []
+  instruction_does id m (Ok i) (Some s) =
+      cond_both (bytes_eq i.id id) (events_of i.action) [] (λ es. over each s es ≡ [])
+      (λ yes. by_action (λ es. over each s es ≡ []) refl (λ e command. rw (none s e command) refl) i.action)
+      (λ no. refl)
+  instruction_does id m (Err reason) (Some s) = refl
+  instruction_does id m i None = refl
+
+  pub instructions_do : (id : List ℕ) (m : Holdings) (is : List Parsed) (turns : List Turn)
+      → calls_of turns ≡ map applies is → in_turns (λ k n c s. over each s (events_in k n c)) id m turns ≡ []
+  instructions_do id m is [] same = refl
+  instructions_do id m [] (t ∷ ts) same = absurd cc
+  instructions_do id m (i ∷ is) (t ∷ ts) same =
       let first : t.call ≡ applies i = cc in
       let rest : calls_of ts ≡ map applies is = cc in
-      ap (λ (c : Call). in_store (kept_in id m c) (state_of id m) ++ in_turns kept_in id t.left ts) first
-      ∙ ap (λ l. l ++ in_turns kept_in id t.left ts) (instruction_keeps m i (state_of id m)) ∙ instructions_keep t.left is ts rest
-
--- without a retrieval nothing is given, and none begins
-abbrev IsQuiet : List Stored → State → Type 0
-IsQuiet gave t = (gave ≡ []) × (t.retrieval ≡ None)
-
-quiet_event : (s : State) (e : Event) → s.retrieval ≡ None → BeginsNone e → IsQuiet (given s e) (step s e).1
-quiet_event s (event.Offer now packet) off none = (
-  refl,
-  cond_both (not s.storage) _ _ (λ (r : Result Offered Returned × State). r.1.retrieval ≡ None) (λ no. off)
-      (λ on. cond_both ((s.store.last == clock_end) || (s.offered == clock_end)) _ _ (λ (r : Result Offered Returned × State). r.1.retrieval ≡ None) (λ late. off) (λ early. off)),
-)
-quiet_event s (event.Begin from to) off none = absurd none
-quiet_event s event.Next off none = subst (λ (r : Option Retrieval). IsQuiet (found_in (next_of s r).0) (next_of s r).1) (sym off) (refl, off)
-quiet_event s event.Abort off none = (refl, cond_both (is_some s.retrieval) _ _ (λ (r : Result (Unit {0}) Fault × State). r.1.retrieval ≡ None) (λ on. refl) (λ no. off))
-quiet_event s (event.Delete limit) off none = (refl, cond_both (is_some s.retrieval) _ _ (λ (r : Result ℕ Fault × State). r.1.retrieval ≡ None) (λ on. off) (λ no. off))
-quiet_event s event.Enable off none = (refl, off)
-quiet_event s event.Disable off none = (refl, off)
-
-quiet_events : (s : State) (es : List Event) → s.retrieval ≡ None → All BeginsNone es → IsQuiet (over given s es) (after s es)
-quiet_events s [] off none = (refl, off)
-quiet_events s (e ∷ es) off none =
-    let here = quiet_event s e off (All-head BeginsNone e es none) in
-    let rest = quiet_events (step s e).1 es here.1 (All-tail BeginsNone e es none) in
-    (ap (λ l. l ++ over given (step s e).1 es) here.0 ∙ rest.0, rest.1)
-
--- the store is not there, or has no retrieval
-abbrev Rests : Option State → Type 0
-Rests (Some s) = s.retrieval ≡ None
-Rests None = Unit {0}
-
-quiet_turn : (es : List Event) (gone : State → Bool) (before left : Option State) → Becomes es gone before left → All BeginsNone es → Rests before → (in_store (λ s. over given s es) before ≡ []) × Rests left
-quiet_turn es gone (Some s) (Some t) (stays, inl is) none off = rw is (quiet_events s es off none)
-quiet_turn es gone (Some s) (Some t) (stays, inr shape) none off = rw shape.asked (refl, shape.still)
-quiet_turn es gone (Some s) None (goes, nothing) none off = rw nothing (refl, tt)
-quiet_turn es gone None (Some t) new none off = (refl, new.still)
-quiet_turn es gone None None nothing none off = (refl, tt)
+      let later = in_turns (λ k n c s. over each s (events_in k n c)) id t.left ts in
+      ap (λ (c : Call). in_store (λ s. over each s (events_in id m c)) (state_of id m) ++ later) first
+      ∙ ap (λ l. l ++ later) (instruction_does id m i (state_of id m)) ∙ instructions_do id t.left is ts rest
 
 -- a call that begins no retrieval from a store asks nothing else of it
 none_begins : (id : List ℕ) (m : Holdings) (c : Call) → BeginsNoneIn id c → All BeginsNone (events_in id m c)
 none_begins id m (records now packet) none =
-    cond_both (is_routed m.routes id packet) _ _ (All BeginsNone) (λ yes. All-cons BeginsNone (event.Offer now packet) [] tt (All-nil BeginsNone)) (λ no. All-nil BeginsNone)
+    cond_both (is_routed m.routes id packet) _ _ (All BeginsNone)
+    (λ yes. All-cons BeginsNone (event.Offer now packet) [] tt (All-nil BeginsNone)) (λ no. All-nil BeginsNone)
 none_begins id m (asks k event) none =
-    cond_both (bytes_eq k id) _ _ (All BeginsNone) (λ same. All-cons BeginsNone event [] (none ((bytes_eq-Decides k id).0 same)) (All-nil BeginsNone)) (λ other. All-nil BeginsNone)
-none_begins id m (applies (Ok i)) none = cond_both (bytes_eq i.id id) _ _ (All BeginsNone) (λ same. none ((bytes_eq-Decides i.id id).0 same)) (λ other. All-nil BeginsNone)
+    cond_both (bytes_eq k id) _ _ (All BeginsNone)
+    (λ same. All-cons BeginsNone event [] (none ((bytes_eq-Decides k id).0 same)) (All-nil BeginsNone))
+    (λ other. All-nil BeginsNone)
+none_begins id m (applies (Ok i)) none =
+    cond_both (bytes_eq i.id id) _ _ (All BeginsNone) (λ same. none ((bytes_eq-Decides i.id id).0 same))
+    (λ other. All-nil BeginsNone)
 none_begins id m (applies (Err reason)) none = All-nil BeginsNone
 
-over-append : (s : State) (es more : List Event) → over given s (es ++ more) ≡ over given s es ++ over given (after s es) more
-over-append s [] more = refl
-over-append s (e ∷ es) more = ap (λ l. given s e ++ l) (over-append (step s e).1 es more) ∙ sym (append_assoc (given s e) (over given (step s e).1 es) (over given (after (step s e).1 es) more))
+-- the retrieval from a store, where there is the store
+abbrev retrieval_at : Option State → Option Retrieval
+retrieval_at (Some s) = s.retrieval
+retrieval_at None = None
 
-module _ (id : List ℕ) where
-  abbrev NoneBegins : List Turn → Type 0
-  NoneBegins turns = All (λ t. BeginsNoneIn id t.call) turns
+-- packets may be given from a store on: their times rise, above what was given before
+abbrev MayGiveFrom : Option State → List Stored → Type 0
+MayGiveFrom before gave = IsRising gave × All (Above (retrieval_at before)) gave
 
-  quiet_turns : (m : Holdings) (turns : List Turn) → AreTurns m turns → NoneBegins turns → Rests (state_of id m) → in_turns given_by id m turns ≡ []
-  quiet_turns m [] made none off = refl
-  quiet_turns m (t ∷ ts) made none off =
-      let begins = none_begins id m t.call (All-head (λ (x : Turn). BeginsNoneIn id x.call) t ts none) in
-      let here = quiet_turn (events_in id m t.call) (removes_in id t.call) (state_of id m) (state_of id t.left) (becomes id m t.left t.call made.0) begins off in
-      ap (λ l. l ++ in_turns given_by id t.left ts) here.0 ∙ quiet_turns t.left ts made.1 (All-tail (λ (x : Turn). BeginsNoneIn id x.call) t ts none) here.1
+events_rise : (s : State) (es : List Event) → All BeginsNone es → (rest : List Stored) → MayGive (after s es) rest
+    → MayGive s (over given s es ++ rest)
+events_rise s [] none rest may = may
+events_rise s (e ∷ es) none rest may =
+    let t = (step s e).1 in
+    let later = events_rise t es (All-tail BeginsNone e es none) rest may in
+    subst (MayGive s) (sym (append_assoc (given s e) (over given t es) rest))
+    (by_calls s e (continues s e (All-head BeginsNone e es none)) (over given t es ++ rest) later)
 
-  -- what is given from a state on is given over some events that begin no retrieval
-  record GivenOver (s : State) (gave : List Stored) : Type 0 where
-    events : List Event
-    begins : All BeginsNone events
-    gives : gave ≡ over given s events
+turn_rises : (es : List Event) (gone : State → Bool) (before left : Option State) → Becomes es gone before left
+    → All BeginsNone es → (rest : List Stored) → MayGiveFrom left rest
+    → MayGiveFrom before (in_store (λ s. over given s es) before ++ rest)
+turn_rises es gone (Some s) (Some t) (stays, inl is) none rest may =
+    events_rise s es none rest (subst (λ (u : State). MayGive u rest) is may)
+turn_rises es gone (Some s) (Some t) (stays, inr shape) none rest may =
+    rw (shape.asked, shape.at_rest) (may.0, subst (λ (r : Option Retrieval). All (Above r) rest) shape.still may.1)
+turn_rises es gone (Some s) None (goes, nothing) none rest may = rw nothing (at_end s rest may)
+turn_rises es gone None (Some t) new none rest may =
+    (may.0, subst (λ (r : Option Retrieval). All (Above r) rest) new.still may.1)
+turn_rises es gone None None nothing none rest may = may
 
-  given_more : (s : State) (es : List Event) (gone : State → Bool) (left : Option State) (more : List Stored) → Becomes es gone (Some s) left → All BeginsNone es → (Rests left → more ≡ [])
-      → ((u : State) → left ≡ Some u → GivenOver u more) → GivenOver s (over given s es ++ more)
-  given_more s es gone (Some u) more (stays, inl is) begins quiet later =
-      let rest = later u refl in
-      record {
-        events = es ++ rest.events;
-        begins = All-append BeginsNone es rest.events begins rest.begins;
-        gives = ap (λ l. over given s es ++ l) (rest.gives ∙ ap (λ (v : State). over given v rest.events) is) ∙ sym (over-append s es rest.events);
-      }
-  given_more s es gone (Some u) more (stays, inr shape) begins quiet later =
-      record { events = []; begins = All-nil BeginsNone; gives = rw (shape.asked, quiet shape.still) refl }
-  given_more s es gone None more (goes, nothing) begins quiet later =
-      record { events = []; begins = All-nil BeginsNone; gives = rw (nothing, quiet tt) refl }
+turns_rise : (id : List ℕ) (m : Holdings) (turns : List Turn) → AreTurns m turns
+    → All (λ t. BeginsNoneIn id t.call) turns → MayGiveFrom (state_of id m) (in_turns given_by id m turns)
+turns_rise id m [] made none = (λ i j d before within. absurd (omega arith), All-nil _)
+turns_rise id m (t ∷ ts) made none =
+    let begins = none_begins id m t.call (All-head (λ (x : Turn). BeginsNoneIn id x.call) t ts none) in
+    turn_rises (events_in id m t.call) (removes_in id t.call) (state_of id m) (state_of id t.left)
+    (becomes id m t.left t.call made.0) begins (in_turns given_by id t.left ts)
+    (turns_rise id t.left ts made.1 (All-tail (λ (x : Turn). BeginsNoneIn id x.call) t ts none))
 
-  given_over : (m : Holdings) (turns : List Turn) → AreTurns m turns → NoneBegins turns → (s : State) → state_of id m ≡ Some s → GivenOver s (in_turns given_by id m turns)
-  given_over m [] made none s at = record { events = []; begins = All-nil BeginsNone; gives = refl }
-  given_over m (t ∷ ts) made none s at =
-      let begins = none_begins id m t.call (All-head (λ (x : Turn). BeginsNoneIn id x.call) t ts none) in
-      let rest = All-tail (λ (x : Turn). BeginsNoneIn id x.call) t ts none in
-      let es = events_in id m t.call in
-      let turn = subst (λ (o : Option State). Becomes es (removes_in id t.call) o (state_of id t.left)) at (becomes id m t.left t.call made.0) in
-      subst (λ (o : Option State). GivenOver s (in_store (given_by id m t.call) o ++ in_turns given_by id t.left ts)) (sym at)
-      (given_more s es (removes_in id t.call) (state_of id t.left) (in_turns given_by id t.left ts) turn begins (quiet_turns t.left ts made.1 rest) (given_over t.left ts made.1 rest))
-
-  pub rises : GiveInOrder → (m : Holdings) (turns : List Turn) → AreTurns m turns → NoneBegins turns → IsRising (in_turns given_by id m turns)
-  rises order m turns made none = by_state (state_of id m) refl (quiet_turns m turns made none) (given_over m turns made none)
-    where
-      by_state : (before : Option State) → state_of id m ≡ before → (Rests (state_of id m) → in_turns given_by id m turns ≡ []) → ((s : State) → state_of id m ≡ Some s → GivenOver s (in_turns given_by id m turns))
-          → IsRising (in_turns given_by id m turns)
-      by_state (Some s) at quiet later = let is = later s at in subst IsRising (sym is.gives) (order s is.events is.begins)
-      by_state None at quiet later = subst IsRising (sym (quiet (subst Rests (sym at) tt))) (λ i j d before within. absurd (omega arith))
+pub rises : (id : List ℕ) (m : Holdings) (turns : List Turn) → AreTurns m turns
+    → All (λ t. BeginsNoneIn id t.call) turns → IsRising (in_turns given_by id m turns)
+rises id m turns made none = (turns_rise id m turns made none).0

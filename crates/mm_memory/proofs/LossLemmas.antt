@@ -38,26 +38,20 @@ older_by es gone s None (goes, nothing) older = rw nothing (All-nil _)
 
 module _ (bounded : BoundedLoseNew) (circular : CircularLoseOldest) (id : List ℕ) where
   turn_loses : (m : Holdings) (t : Turn) → MayLeave t.call m t.left → LosesInTurn id m t
-  turn_loses m t made = by_state (state_of id m) refl
-    where
-      by_state : (o : Option State) → state_of id m ≡ o → LosesInTurn id m t
-      by_state None at = rw at tt
-      by_state (Some s) at =
-          let became = subst (λ (o : Option State). Becomes (events_in id m t.call) (removes_in id t.call) o
-          (state_of id t.left)) at (becomes id m t.left t.call made) in
-          let new = λ (kind : s.store.kind ≡ Bounded).
-          full_by (events_in id m t.call) (removes_in id t.call) s (state_of id t.left) (call_asks id m t.call)
-          became (bounded s (events_in id m t.call) kind).full in
-          rw at (
-            (λ kind. record { full = new kind; none = (bounded s (events_in id m t.call) kind).none }),
-            (λ kind sound.
-                let oldest = circular s (events_in id m t.call) sound kind in
-                record {
-                  lost = oldest.lost;
-                  older = older_by (events_in id m t.call) (removes_in id t.call) s (state_of id t.left) became
-                      oldest.older;
-                }),
-          )
+  turn_loses m t made s at =
+      let es = events_in id m t.call in
+      let gone = removes_in id t.call in
+      let became = subst (λ (o : Option State). Becomes es gone o (state_of id t.left)) at
+      (becomes id m t.left t.call made) in (
+        (λ kind. record {
+          full = full_by es gone s (state_of id t.left) (call_asks id m t.call) became (bounded s es kind).full;
+          none = (bounded s es kind).none;
+        }),
+        (λ kind sound. record {
+          lost = (circular s es sound kind).lost;
+          older = older_by es gone s (state_of id t.left) became (circular s es sound kind).older;
+        }),
+      )
 
   pub turns_lose : (m : Holdings) (turns : List Turn) → AreTurns m turns → AtEachTurn (LosesInTurn id) m turns
   turns_lose m [] made = tt

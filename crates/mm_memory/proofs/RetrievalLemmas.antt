@@ -1,24 +1,21 @@
 -- What a retrieval from a store of a memory gives: over turns while it is on, the store goes on by events alone.
-use Rattle.std.proofs.Common.{◌≡◌, inl, inr, ℕ, Bool, true, false, cond, not, ◌&&◌, List, [], ◌∷◌, ◌++◌, All, Contains}
-use Rattle.std.proofs.Common.{refl, sym, ap, subst, ◌∙◌, append_assoc}
-use Rattle.std.specs.Prelude.{bytes_eq, Option, Some, None, Ok, Err, is_some, if◌then◌else◌}
+use Rattle.std.proofs.Common.{◌≡◌, inl, inr, ℕ, Bool, true, false, not, List, [], ◌∷◌, ◌++◌, All, Contains}
+use Rattle.std.proofs.Common.{refl, sym, ap, subst, ◌∙◌}
+use Rattle.std.specs.Prelude.{bytes_eq, Option, Some, None, Ok, Err, is_some}
 use Rattle.std.proofs.lemmas.Bool.{cond_both, and_right}
 use Rattle.std.proofs.lemmas.List.{append-nil}
 use Rattle.std.proofs.lemmas.List.Elements.{All-nil, All-append}
-use Rattle.mm_store.specs.declared.stored.Stored.{Stored}
 use Rattle.mm_desk.specs.declared.event.Event.{Event}
 use Rattle.mm_desk.specs.declared.event.Event.TheVariants as event
-use Rattle.mm_desk.specs.declared.fault.Fault.TheVariants.{Busy, StorageOn}
-use Rattle.mm_desk.specs.declared.state.Retrieval.{Retrieval}
+use Rattle.mm_desk.specs.declared.fault.Fault.{Fault as StateFault}
 use Rattle.mm_desk.specs.Fates.{deleted, given, after, over}
 use Rattle.mm_desk.specs.Machine.{State, IsState, step}
 use Rattle.mm_desk.specs.Rest.{rest_fault}
 use Rattle.mm_desk.specs.Retrievals.{overwritten, AtEach, IsOn, IsBegun, AbortsNone, AreGiven, RetrievalsGiveRanges}
-use Rattle.mm_desk.proofs.RetrievalLemmas.{gives_held}
+use Rattle.mm_desk.proofs.FateLemmas.{gives_held, over-append}
 use Rattle.mm_memory.specs.declared.instruction.Action.{Action}
-use Rattle.mm_memory.specs.declared.instruction.Action.TheVariants.{Create, Delete, Route, Report, Change as Changes}
+use Rattle.mm_memory.specs.declared.instruction.Action.TheVariants.{Delete, Change as Changes}
 use Rattle.mm_memory.specs.declared.instruction.StoreChange.TheVariants.{Enable, Disable, Begin, Abort, DeleteContent}
-use Rattle.mm_memory.specs.declared.instruction.StoreChange.TheVariants.{Resize, SetKind, SetChannel}
 use Rattle.mm_memory.specs.Accounts.{Call, records, asks, applies, Turn, AreTurns, after_turns, events_of, events_in}
 use Rattle.mm_memory.specs.Accounts.{removes, removes_in, deleted_by, given_by, in_store, in_turns, held_in}
 use Rattle.mm_memory.specs.Holdings.{Holdings, state_of}
@@ -33,24 +30,27 @@ IsOne [] = Unit {0}
 IsOne (e ∷ []) = Unit {0}
 IsOne (e ∷ f ∷ es) = ⊥
 
-action_asks : (action : Action) → IsOne (events_of action)
-action_asks (Changes Enable) = tt
-action_asks (Changes Disable) = tt
-action_asks (Changes (Begin from to)) = tt
-action_asks (Changes Abort) = tt
-action_asks (Changes (DeleteContent limit)) = tt
-action_asks (Changes (Resize size)) = tt
-action_asks (Changes (SetKind kind)) = tt
-action_asks (Changes (SetChannel channel)) = tt
-action_asks (Create config) = tt
-action_asks Delete = tt
-action_asks (Route change row) = tt
-action_asks Report = tt
+-- an event that an instruction may ask
+abbrev pub IsCommand : Event → Type 0
+IsCommand (event.Offer now packet) = ⊥
+IsCommand event.Next = ⊥
+IsCommand other = Unit {0}
+
+-- what is so of no event, and of each such event, is so of what an action asks
+pub by_action : (P : List Event → Type 0) → P [] → ((e : Event) → IsCommand e → P (e ∷ [])) → (action : Action)
+    → P (events_of action)
+by_action P none each (Changes Enable) = each event.Enable tt
+by_action P none each (Changes Disable) = each event.Disable tt
+by_action P none each (Changes (Begin from to)) = each (event.Begin from to) tt
+by_action P none each (Changes Abort) = each event.Abort tt
+by_action P none each (Changes (DeleteContent limit)) = each (event.Delete limit) tt
+by_action P none each other = none
 
 pub call_asks : (id : List ℕ) (m : Holdings) (c : Call) → IsOne (events_in id m c)
 call_asks id m (records now packet) = cond_both (is_routed m.routes id packet) _ _ IsOne (λ yes. tt) (λ no. tt)
 call_asks id m (asks other event) = cond_both (bytes_eq other id) _ _ IsOne (λ yes. tt) (λ no. tt)
-call_asks id m (applies (Ok i)) = cond_both (bytes_eq i.id id) _ _ IsOne (λ yes. action_asks i.action) (λ no. tt)
+call_asks id m (applies (Ok i)) =
+    cond_both (bytes_eq i.id id) _ _ IsOne (λ yes. by_action IsOne tt (λ e command. tt) i.action) (λ no. tt)
 call_asks id m (applies (Err reason)) = tt
 
 -- what is so of a state and its next event is so at each of at most one
@@ -67,35 +67,19 @@ one_gives_held s (e ∷ f ∷ es) one = absurd one
 
 -- a store with a retrieval on is not at rest
 busy : (s : State) → IsOn s → is_some (rest_fault s) ≡ true
-busy s on = by_storage s.storage (is_some s.retrieval) on
-  where
-    by_storage : (b r : Bool) → r ≡ true → is_some (cond b (Some StorageOn) (cond r (Some Busy) None)) ≡ true
-    by_storage true r e = refl
-    by_storage false true e = refl
-    by_storage false false e = absurd cc
+busy s on = cond_both s.storage _ _ (λ (f : Option StateFault). is_some f ≡ true) (λ yes. refl) (λ no. rw on refl)
 
 -- and is not deleted
 action_stays : (action : Action) (s : State) → IsOn s → removes action s ≡ false
 action_stays Delete s on = ap not (busy s on)
-action_stays (Create config) s on = refl
-action_stays (Route change row) s on = refl
-action_stays Report s on = refl
-action_stays (Changes change) s on = refl
+action_stays other s on = refl
 
 call_stays : (id : List ℕ) (c : Call) (s : State) → IsOn s → removes_in id c s ≡ false
-call_stays id (records now packet) s on = refl
-call_stays id (asks other event) s on = refl
-call_stays id (applies (Ok i)) s on = and_right (bytes_eq i.id id) (removes i.action s) (action_stays i.action s on)
-call_stays id (applies (Err reason)) s on = refl
+call_stays id (applies (Ok i)) s on =
+    and_right (bytes_eq i.id id) (removes i.action s) (action_stays i.action s on)
+call_stays id other s on = refl
 
 -- events after one another
-over-append : {X : Type 0} (each : State → Event → List X) (s : State) (es more : List Event)
-    → over each s (es ++ more) ≡ over each s es ++ over each (after s es) more
-over-append each s [] more = refl
-over-append each s (e ∷ es) more =
-    ap (λ l. each s e ++ l) (over-append each (step s e).1 es more)
-    ∙ sym (append_assoc (each s e) (over each (step s e).1 es) (over each (after (step s e).1 es) more))
-
 after-append : (s : State) (es more : List Event) → after s (es ++ more) ≡ after (after s es) more
 after-append s [] more = refl
 after-append s (e ∷ es) more = after-append (step s e).1 es more
@@ -121,11 +105,7 @@ module _ (id : List ℕ) where
   left_by : (es : List Event) (gone : State → Bool) (s : State) (left : Option State) → IsOn s → gone s ≡ false
       → Becomes es gone (Some s) left → left ≡ Some (after s es)
   left_by es gone s (Some u) on stays (kept, inl is) = ap Some is
-  left_by es gone s (Some u) on stays (kept, inr shape) = absurd (off s.retrieval on shape.at_rest)
-    where
-      off : (r : Option Retrieval) → is_some r ≡ true → r ≡ None → ⊥
-      off (Some r) on none = cc
-      off None on none = cc
+  left_by es gone s (Some u) on stays (kept, inr shape) = let never = rw shape.at_rest at on in absurd cc
   left_by es gone s None on stays (goes, nothing) = absurd cc
 
   follows : (m : Holdings) (turns : List Turn) → AreTurns m turns → AtEachTurn (IsOnIn id) m turns → (s : State)

@@ -1,5 +1,5 @@
 -- What a store of a memory loses for room (ECSS-E-ST-70-41C, 6.15: bounded and circular packet stores), in any call.
-use Rattle.std.specs.Prelude.{◌≡◌, ◌≢◌, ℕ, ◌≤◌, List, [], length, All, Option, Some, None}
+use Rattle.std.specs.Prelude.{◌≡◌, ◌≢◌, ℕ, ◌≤◌, List, [], length, All, Some}
 use Rattle.mm_base.specs.declared.kind.Kind.TheVariants.{Circular, Bounded}
 use Rattle.mm_desk.specs.Fates.{packets_of}
 use Rattle.mm_desk.specs.Losses.{IsOlder}
@@ -21,11 +21,8 @@ pub record LosesOldestIn (id : List ℕ) (m : Holdings) (t : Turn) (s : State) :
 
 -- what a turn loses of the store with an identifier, where there is one
 abbrev pub LosesInTurn : List ℕ → Holdings → Turn → Type 0
-LosesInTurn id m t = at (state_of id m) where
-  at : Option State → Type 0
-  at (Some s) = (s.store.kind ≡ Bounded → LosesNewIn id m t s)
-      × (s.store.kind ≡ Circular → IsState s → LosesOldestIn id m t s)
-  at None = Unit {0}
+LosesInTurn id m t = (s : State) → state_of id m ≡ Some s
+    → (s.store.kind ≡ Bounded → LosesNewIn id m t s) × (s.store.kind ≡ Circular → IsState s → LosesOldestIn id m t s)
 
 -- over any turns a bounded store loses new packets alone, and a circular one its oldest
 abbrev pub StoresLoseNewOrOldest : Type 0

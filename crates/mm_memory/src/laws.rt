@@ -26,7 +26,6 @@ pub fn memories_lose_no_packet_uncounted()
     ensures requests { RequestsAreCalls }
 {
     mm_desk::laws::events_conserve_packets();
-    mm_desk::laws::retrievals_give_in_order();
 }
 
 /// While a by-time-range retrieval from a store is on, whatever else is asked of the memory, each packet that it gives

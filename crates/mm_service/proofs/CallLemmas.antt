@@ -1,9 +1,10 @@
 -- The calls of a service are calls on its memory, and what they give was brought.
 use Rattle.std.proofs.Common.{◌≡◌, ℕ, Bool, true, false, List, [], ◌∷◌, ◌++◌, length, take, drop, All, Contains, refl}
-use Rattle.std.proofs.Common.{sym, ap, subst, ◌∙◌}
+use Rattle.std.proofs.Common.{sym, ap, subst, ◌∙◌, append_assoc}
 use Rattle.std.specs.Prelude.{if◌then◌else◌, map, bytes_eq, Option, Some, None, Result, Ok, Err}
-use Rattle.std.proofs.lemmas.List.{append-nil, take_at}
-use Rattle.std.proofs.lemmas.List.Elements.{All-nil, All-cons, All-head, All-tail, All-append, All-contains_itself}
+use Rattle.std.proofs.lemmas.List.{append-nil, map-append, take_at}
+use Rattle.std.proofs.lemmas.List.Elements.{All-nil, All-cons, All-head, All-tail, All-append, All-map}
+use Rattle.std.proofs.lemmas.List.Elements.{All-contains_itself}
 use Rattle.std.proofs.lemmas.Slice.Eq.{bytes_eq-Decides}
 use Rattle.mm_base.specs.Id.{is_id_text, field_of}
 use Rattle.mm_base.proofs.Pairs.{All-front, All-back}
@@ -16,17 +17,20 @@ use Rattle.mm_desk.specs.declared.fault.Fault.{Fault as StateFault}
 use Rattle.mm_desk.specs.declared.reply.Offered.{Offered}
 use Rattle.mm_desk.specs.declared.reply.Offered.TheVariants.{Kept, KeptOver, Lost}
 use Rattle.mm_desk.specs.declared.reply.Returned.{Returned}
-use Rattle.mm_desk.specs.Fates.{found_in, over}
+use Rattle.mm_desk.specs.Fates.{found_in, given, over}
 use Rattle.mm_desk.specs.Machine.{State, offer, next, step}
 use Rattle.mm_memory.specs.declared.tally.Tally.{Tally}
-use Rattle.mm_memory.specs.Accounts.{records, asks, Turn as MemoryTurn, AreTurns as AreMemoryTurns, after_turns}
-use Rattle.mm_memory.specs.Accounts.{calls_of, kept_by, kept, kept_in, in_store, in_turns, held_in, AccountForPackets}
+use Rattle.mm_memory.specs.Accounts.{records, asks, Call as MemoryCall, Turn as MemoryTurn, AreTurns as AreMemoryTurns}
+use Rattle.mm_memory.specs.Accounts.{after_turns, calls_of, kept_by, kept, kept_in, given_by, in_store, in_turns}
+use Rattle.mm_memory.specs.Accounts.{held_in}
+use Rattle.mm_memory.specs.Accounts.{AccountForPackets}
 use Rattle.mm_memory.specs.Holdings.{Holdings, state_of}
 use Rattle.mm_memory.specs.Instruction.{instructions_of}
 use Rattle.mm_memory.specs.Lending.{with_state}
 use Rattle.mm_memory.specs.Recording.{is_routed, after_record, tally_after}
 use Rattle.mm_memory.proofs.ApplyLemmas.{requested}
-use Rattle.mm_memory.proofs.GivenLemmas.{instructions_keep, next_has, turns_have}
+use Rattle.mm_memory.proofs.GivenLemmas.{keeps_none, gives_none, instructions_do, turns_have}
+use Rattle.mm_memory.specs.Retrievals.{RetrievalsGiveRangesIn}
 use Rattle.mm_service.specs.declared.fault.Fault.{Fault}
 use Rattle.mm_service.specs.declared.fault.Fault.TheVariants.{BadId, NoSuchStore}
 use Rattle.mm_service.specs.declared.giving.Given.{Given}
@@ -35,7 +39,7 @@ use Rattle.mm_service.specs.declared.reporting.Reported.{Reported}
 use Rattle.mm_service.specs.declared.reporting.Reported.TheVariants.{Written, TooSmall, End}
 use Rattle.mm_service.specs.Accounts.{Call, offer_call, record_call, apply_call, next_call, report_call, bound_call}
 use Rattle.mm_service.specs.Accounts.{refused_call, Turn, MayLeave, AreTurns, AreCallsOf, AreAccounted, brought, gave}
-use Rattle.mm_service.specs.Accounts.{in_calls, octets_held}
+use Rattle.mm_service.specs.Accounts.{in_calls, octets_of, octets_held}
 use Rattle.mm_service.specs.Giving.{Tells, TellsPacket, next_of, first_of, given_of, Leaves as LeavesNext}
 use Rattle.mm_service.specs.Offering.{fate_of}
 use Rattle.mm_service.specs.Reading.{id_tested, block_of}
@@ -63,10 +67,8 @@ Has Q p = Q (spelling p.packet)
 module _ (Q : List ℕ → Type 0) where
   kept_have : (packet : SpacePacket) (r : Result Offered Returned) → Q (spelling packet)
       → All (Has Q) (kept_by packet r)
-  kept_have packet (Ok (Kept time)) has = All-cons (Has Q) (record { time = time; packet = packet }) [] has
-      (All-nil (Has Q))
-  kept_have packet (Ok (KeptOver time oldest)) has =
-      All-cons (Has Q) (record { time = time; packet = packet }) [] has (All-nil (Has Q))
+  kept_have packet (Ok (Kept time)) has = All-cons (Has Q) _ [] has (All-nil (Has Q))
+  kept_have packet (Ok (KeptOver time oldest)) has = All-cons (Has Q) _ [] has (All-nil (Has Q))
   kept_have packet (Ok (Lost lost)) has = All-nil (Has Q)
   kept_have packet (Err back) has = All-nil (Has Q)
 
@@ -84,7 +86,14 @@ module _ (Q : List ℕ → Type 0) where
   next_keeps false (Some s) = All-nil (Has Q)
   next_keeps b None = All-nil (Has Q)
 
--- a call on the service, as calls on its memory: what it keeps was brought, and what it gives was held
+-- an offer gives nothing
+offer_gives : (now : ℕ) (packet : SpacePacket) (b : Bool) (before : Option State)
+    → [] ≡ octets_of (in_store (λ s. over given s (if b then Offer now packet ∷ [] else [])) before ++ [])
+offer_gives now packet true (Some s) = refl
+offer_gives now packet false (Some s) = refl
+offer_gives now packet b None = refl
+
+-- a call on the service, as calls on its memory: what it keeps was brought, and what it gives is what they give
 record Made (call : Call) (s t : Serving) : Type 1 where
   turns : List MemoryTurn
   are : AreCallsOf call (calls_of turns)
@@ -92,7 +101,7 @@ record Made (call : Call) (s t : Serving) : Type 1 where
   left : t.memory ≡ after_turns s.memory turns
   keeps : (id : List ℕ) (Q : List ℕ → Type 0) → All Q (brought id call)
       → All (Has Q) (in_turns kept_in id s.memory turns)
-  gives : (id : List ℕ) (Q : List ℕ → Type 0) → All (Has Q) (held_in id s.memory) → All Q (gave id call)
+  gives : (id : List ℕ) → gave id call ≡ octets_of (in_turns given_by id s.memory turns)
 
 offer_made : (id octets : List ℕ) (now : ℕ) (s t : Serving) → MayLeave (offer_call id octets now) s t
     → Made (offer_call id octets now) s t
@@ -122,7 +131,7 @@ offer_made id octets now s t is =
       keeps = λ k Q all. offer_keeps Q now b.0 (bytes_eq (field_of id) k) (state_of k s.memory)
           (λ same. subst Q spelled (All-head Q octets []
           (subst (λ (t : Bool). All Q (if t then octets ∷ [] else [])) same all)));
-      gives = λ k Q all. All-nil Q;
+      gives = λ k. offer_gives now b.0 (bytes_eq (field_of id) k) (state_of k s.memory);
     }
 
 record_made : (octets : List ℕ) (now : ℕ) (s t : Serving) → MayLeave (record_call octets now) s t
@@ -140,7 +149,7 @@ record_made octets now s t is =
       left = refl;
       keeps = λ k Q all. offer_keeps Q now a.0 (is_routed s.memory.routes k a.0) (state_of k s.memory)
           (λ routed. subst Q spelled (All-head Q octets [] all));
-      gives = λ k Q all. All-nil Q;
+      gives = λ k. offer_gives now a.0 (is_routed s.memory.routes k a.0) (state_of k s.memory);
     }
 
 apply_made : (octets : List ℕ) (now : ℕ) (s t : Serving) → MayLeave (apply_call octets now) s t
@@ -160,9 +169,9 @@ apply_made octets now s t is =
       );
       made = turns.2;
       left = turns.3;
-      keeps = λ k Q all. subst (All (Has Q)) (sym (instructions_keep k s.memory instructions turns.0 turns.1))
-          (All-nil (Has Q));
-      gives = λ k Q all. All-nil Q;
+      keeps = λ k Q all. subst (All (Has Q))
+          (sym (instructions_do kept keeps_none k s.memory instructions turns.0 turns.1)) (All-nil (Has Q));
+      gives = λ k. sym (ap octets_of (instructions_do given gives_none k s.memory instructions turns.0 turns.1));
     }
 
 -- what is told of a packet that is given is its octets
@@ -172,34 +181,38 @@ told_octets stored told old new tells =
     ap (take told.len) tells.written ∙ take_at (spelling stored.packet) (drop (length (spelling stored.packet)) old)
     told.len (sym tells.len)
 
-gave_has : (Q : List ℕ → Type 0) (given : Option Stored) (told : Option Given) (old new : List ℕ) (name id : List ℕ)
-    → bytes_eq (field_of name) id ≡ true → Tells (Ok given) (Ok told) old new
-    → All (Has Q) (found_in (Ok given)) → All Q (gave id (next_call name told new))
-gave_has Q given None old new name id same tells all = All-nil Q
-gave_has Q (Some stored) (Some told) old new name id same tells all =
-    rw same (All-cons Q (take told.len new) []
-    (subst Q (sym (told_octets stored told old new tells)) (All-head (Has Q) stored [] all)) (All-nil Q))
-gave_has Q None (Some told) old new name id same tells all = absurd tells
+gave_is : (found : Option Stored) (told : Option Given) (old new : List ℕ) (name id : List ℕ)
+    → bytes_eq (field_of name) id ≡ true → Tells (Ok found) (Ok told) old new
+    → gave id (next_call name told new) ≡ octets_of ((found_in (Ok found) ++ []) ++ [])
+gave_is None None old new name id same tells = refl
+gave_is (Some stored) (Some told) old new name id same tells =
+    rw same (ap (λ octets. octets ∷ []) (told_octets stored told old new tells))
+gave_is (Some stored) None old new name id same tells = absurd tells
+gave_is None (Some told) old new name id same tells = absurd tells
 
-gave_none : (Q : List ℕ → Type 0) (told : Option Given) (new : List ℕ) (name id : List ℕ)
-    → bytes_eq (field_of name) id ≡ false → All Q (gave id (next_call name told new))
-gave_none Q None new name id other = All-nil Q
-gave_none Q (Some told) new name id other = rw other (All-nil Q)
+-- another store gives nothing
+gave_none : (told : Option Given) (new name id : List ℕ) (before : Option State) → bytes_eq (field_of name) id ≡ false
+    → gave id (next_call name told new) ≡ octets_of (in_store (λ s. []) before ++ [])
+gave_none None new name id (Some s) other = refl
+gave_none None new name id None other = refl
+gave_none (Some told) new name id (Some s) other = rw other refl
+gave_none (Some told) new name id None other = rw other refl
 
--- what the store gives was held
-store_gives : (Q : List ℕ → Type 0) (m : Holdings) (state : State) (given : Option Stored) (told : Option Given)
-    (old new name id : List ℕ) → state_of (field_of name) m ≡ Some state → (next state).0 ≡ Ok given
-    → Tells (Ok given) (Ok told) old new → All (Has Q) (held_in id m) → (b : Bool) → bytes_eq (field_of name) id ≡ b
-    → All Q (gave id (next_call name told new))
-store_gives Q m state given told old new name id found gives tells all true same =
+-- what is told is what the store gives
+store_gives : (m : Holdings) (state : State) (found : Option Stored) (told : Option Given) (old new name id : List ℕ)
+    → state_of (field_of name) m ≡ Some state → (next state).0 ≡ Ok found → Tells (Ok found) (Ok told) old new
+    → (b : Bool) → bytes_eq (field_of name) id ≡ b
+    → gave id (next_call name told new)
+    ≡ octets_of (in_store (λ s. over given s (if b then Next ∷ [] else [])) (state_of id m) ++ [])
+store_gives m state found told old new name id at gives tells true same =
     let here : state_of id m ≡ Some state =
-    ap (λ (k : List ℕ). state_of k m) (sym ((bytes_eq-Decides (field_of name) id).0 same)) ∙ found in
-    let held : All (Has Q) state.store.content =
-    subst (λ (o : Option State). All (Has Q) (in_store (λ s. s.store.content) o)) here all in
-    gave_has Q given told old new name id same tells
-    (subst (λ (r : Result (Option Stored) StateFault). All (Has Q) (found_in r)) gives
-    (next_has (Has Q) state state.retrieval held).0)
-store_gives Q m state given told old new name id found gives tells all false other = gave_none Q told new name id other
+    ap (λ (k : List ℕ). state_of k m) (sym ((bytes_eq-Decides (field_of name) id).0 same)) ∙ at in
+    let by : gave id (next_call name told new) ≡ octets_of ((found_in (next state).0 ++ []) ++ []) =
+    gave_is found told old new name id same tells
+    ∙ ap (λ (r : Result (Option Stored) StateFault). octets_of ((found_in r ++ []) ++ [])) (sym gives) in
+    by ∙ ap (λ (o : Option State). octets_of (in_store (λ s. over given s (Next ∷ [])) o ++ [])) (sym here)
+store_gives m state found told old new name id at gives tells false other =
+    gave_none told new name id (state_of id m) other
 
 -- the next packet of a retrieval is told only where it is given
 refuses : (fault : Fault) (told : Option Given) (old new : List ℕ) → Tells (Err fault) (Ok told) old new → ⊥
@@ -211,15 +224,15 @@ by_next : (id : List ℕ) (told : Option Given) (old new : List ℕ) (s t : Serv
     → next_of id s ≡ r → Tells (first_of r) (Ok told) old new → LeavesNext r s t
     → Made (next_call id told new) s t
 by_next id told old new s t (Err fault) at tells leaves = absurd (refuses fault told old new tells)
-by_next id told old new s t (Ok (given, after_it)) at tells leaves =
-    let a = bind_ok (id_tested id) _ (given, after_it) at in
-    let b = bind_ok (state_named a.0 s) _ (given, after_it) a.2 in
-    let c = bind_ok (given_of (next b.0).0) _ (given, after_it) b.2 in
+by_next id told old new s t (Ok (got, after_it)) at tells leaves =
+    let a = bind_ok (id_tested id) _ (got, after_it) at in
+    let b = bind_ok (state_named a.0 s) _ (got, after_it) a.2 in
+    let c = bind_ok (given_of (next b.0).0) _ (got, after_it) b.2 in
     let named = tested_field id a.0 a.1 in
     let found = ap (λ (k : List ℕ). state_of k s.memory) named
     ∙ named_state a.0 s b.0 (state_of a.0 s.memory) refl b.1 in
-    let both = ok_same (c.0, with_store a.0 s (next b.0).1) (given, after_it) c.2 in
-    let gives : (next b.0).0 ≡ Ok given = given_ok (next b.0).0 c.0 c.1
+    let both = ok_same (c.0, with_store a.0 s (next b.0).1) (got, after_it) c.2 in
+    let gives : (next b.0).0 ≡ Ok got = given_ok (next b.0).0 c.0 c.1
     ∙ ap (λ (x : Option Stored × Serving). Ok x.0) both in
     record {
       turns = record { call = asks (field_of id) Next; left = t.memory } ∷ [];
@@ -236,8 +249,7 @@ by_next id told old new s t (Ok (given, after_it)) at tells leaves =
       );
       left = refl;
       keeps = λ k Q all. next_keeps Q (bytes_eq (field_of id) k) (state_of k s.memory);
-      gives = λ k Q all. store_gives Q s.memory b.0 given told old new id k found gives tells all
-          (bytes_eq (field_of id) k) refl;
+      gives = λ k. store_gives s.memory b.0 got told old new id k found gives tells (bytes_eq (field_of id) k) refl;
     }
 
 -- a report leaves the memory as it was
@@ -262,7 +274,7 @@ made_of report_call s t is = record {
   made = tt;
   left = report_memory s.waiting is.0 s t is.1 is.2 is.3;
   keeps = λ k Q all. All-nil (Has Q);
-  gives = λ k Q all. All-nil Q;
+  gives = λ k. refl;
 }
 made_of (bound_call bound) s t is = record {
   turns = [];
@@ -270,7 +282,7 @@ made_of (bound_call bound) s t is = record {
   made = tt;
   left = ap (λ (x : Serving). x.memory) is;
   keeps = λ k Q all. All-nil (Has Q);
-  gives = λ k Q all. All-nil Q;
+  gives = λ k. refl;
 }
 made_of refused_call s t is = record {
   turns = [];
@@ -278,7 +290,7 @@ made_of refused_call s t is = record {
   made = tt;
   left = ap (λ (x : Serving). x.memory) is;
   keeps = λ k Q all. All-nil (Has Q);
-  gives = λ k Q all. All-nil Q;
+  gives = λ k. refl;
 }
 
 -- turns after one another
@@ -292,21 +304,46 @@ after-append : (m : Holdings) (turns more : List MemoryTurn)
 after-append m [] more = refl
 after-append m (t ∷ ts) more = after-append t.left ts more
 
-module _ (account : AccountForPackets) where
+in_turns-append : {X : Type 0} (each : List ℕ → Holdings → MemoryCall → State → List X) (id : List ℕ) (m : Holdings)
+    (turns more : List MemoryTurn)
+    → in_turns each id m (turns ++ more) ≡ in_turns each id m turns ++ in_turns each id (after_turns m turns) more
+in_turns-append each id m [] more = refl
+in_turns-append each id m (t ∷ ts) more =
+    let first = in_store (each id m t.call) (state_of id m) in
+    ap (λ l. first ++ l) (in_turns-append each id t.left ts more)
+    ∙ sym (append_assoc first (in_turns each id t.left ts) (in_turns each id (after_turns t.left ts) more))
+
+module _ (account : AccountForPackets) (retrieve : RetrievalsGiveRangesIn) where
   pub calls_made : (s : Serving) (calls : List Turn) → AreTurns s calls → AreAccounted s calls
-  calls_made s [] made = record { turns = []; are = refl; made = tt; left = refl; accounted = account s.memory [] tt }
+  calls_made s [] made = record {
+    turns = [];
+    are = refl;
+    made = tt;
+    left = refl;
+    accounted = account s.memory [] tt;
+    given = λ k. refl;
+    retrieved = λ from to k begun on. retrieve from to k s.memory [] tt begun on;
+  }
   calls_made s (t ∷ ts) made =
       let here = made_of t.call s t.left made.0 in
       let rest = calls_made t.left ts made.1 in
+      let turns = here.turns ++ rest.turns in
       let whole = turns-append s.memory here.turns rest.turns here.made
       (subst (λ (m : Holdings). AreMemoryTurns m rest.turns) here.left rest.made) in
+      let later = λ (k : List ℕ). rest.given k
+      ∙ ap (λ (m : Holdings). octets_of (in_turns given_by k m rest.turns)) here.left in
       record {
-        turns = here.turns ++ rest.turns;
+        turns = turns;
         are = (here.turns, rest.turns, refl, here.are, rest.are);
         made = whole;
         left = rest.left ∙ ap (λ (m : Holdings). after_turns m rest.turns) here.left
             ∙ sym (after-append s.memory here.turns rest.turns);
-        accounted = account s.memory (here.turns ++ rest.turns) whole;
+        accounted = account s.memory turns whole;
+        given = λ k. rw (here.gives k, later k)
+            (sym (ap octets_of (in_turns-append given_by k s.memory here.turns rest.turns)
+            ∙ map-append (λ (p : Stored). spelling p.packet) (in_turns given_by k s.memory here.turns)
+            (in_turns given_by k (after_turns s.memory here.turns) rest.turns)));
+        retrieved = λ from to k begun on. retrieve from to k s.memory turns whole begun on;
       }
 
 -- what is given has what all that is held and brought has
@@ -317,9 +354,10 @@ all_given Q id s (t ∷ ts) made held came =
     let here = made_of t.call s t.left made.0 in
     let first = All-front Q (brought id t.call) (in_calls (brought id) ts) came in
     let rest = All-back Q (brought id t.call) (in_calls (brought id) ts) came in
-    let later = (turns_have (Has Q) id s.memory here.turns here.made held (here.keeps id Q first)).1 in
-    All-append Q (gave id t.call) (in_calls (gave id) ts) (here.gives id Q held)
-    (all_given Q id t.left ts made.1 (subst (λ (m : Holdings). All (Has Q) (held_in id m)) (sym here.left) later) rest)
+    let have = turns_have (Has Q) id s.memory here.turns here.made held (here.keeps id Q first) in
+    All-append Q (gave id t.call) (in_calls (gave id) ts)
+    (subst (All Q) (sym (here.gives id)) (All-map Q (λ (p : Stored). spelling p.packet) _ have.0))
+    (all_given Q id t.left ts made.1 (subst (λ (m : Holdings). All (Has Q) (held_in id m)) (sym here.left) have.1) rest)
 
 spelled_all : (Q : List ℕ → Type 0) (held : List Stored) → All Q (map (λ p. spelling p.packet) held) → All (Has Q) held
 spelled_all Q [] all = All-nil (Has Q)

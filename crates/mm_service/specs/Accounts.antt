@@ -6,11 +6,17 @@ use Rattle.mm_packet.specs.Packet.{SpacePacket}
 use Rattle.mm_packet.specs.Spelling.{spelling}
 use Rattle.mm_st15.specs.declared.request.Request.{Request}
 use Rattle.mm_st15.specs.Request.{SpellsRequest}
+use Rattle.mm_store.specs.declared.stored.Stored.{Stored}
 use Rattle.mm_desk.specs.declared.event.Event.TheVariants.{Offer, Next}
+use Rattle.mm_desk.specs.Machine.{IsState}
+use Rattle.mm_desk.specs.Retrievals.{IsBegun}
 use Rattle.mm_memory.specs.declared.tally.Tally.{Tally}
 use Rattle.mm_memory.specs.Accounts.{Call as MemoryCall, records, asks, applies, Turn as MemoryTurn}
-use Rattle.mm_memory.specs.Accounts.{AreTurns as AreMemoryTurns, after_turns, calls_of, held_in, IsAccounted}
+use Rattle.mm_memory.specs.Accounts.{AreTurns as AreMemoryTurns, after_turns, calls_of, held_in, in_turns, given_by}
+use Rattle.mm_memory.specs.Accounts.{IsAccounted}
+use Rattle.mm_memory.specs.Holdings.{state_of}
 use Rattle.mm_memory.specs.Instruction.{instructions_of}
+use Rattle.mm_memory.specs.Retrievals.{AtEachTurn, HasState, IsOnIn, GivesRangeIn}
 use Rattle.mm_service.specs.declared.giving.Given.{Given}
 use Rattle.mm_service.specs.declared.offering.Fate.{Fate}
 use Rattle.mm_service.specs.declared.reporting.Reported.{Reported}
@@ -84,18 +90,6 @@ AreOfCalls [] turns = turns ≡ []
 AreOfCalls (t ∷ ts) turns = (first : List MemoryTurn) × (rest : List MemoryTurn) × (turns ≡ first ++ rest)
     × AreCallsOf t.call (calls_of first) × AreOfCalls ts rest
 
--- calls on a service are calls on its memory, over which the packets of each store are accounted for
-pub record AreAccounted (s : Serving) (calls : List Turn) : Type 0 where
-  pub turns : List MemoryTurn
-  pub are : AreOfCalls calls turns
-  pub made : AreMemoryTurns s.memory turns
-  pub left : (after_calls s calls).memory ≡ after_turns s.memory turns
-  pub accounted : (id : List ℕ) → IsAccounted id s.memory turns
-
--- over any calls on any service the packets are accounted for
-abbrev pub AccountForCalls : Type 0
-AccountForCalls = (s : Serving) (calls : List Turn) → AreTurns s calls → AreAccounted s calls
-
 -- the octets that a call brings to the store with an identifier
 abbrev pub brought : List ℕ → Call → List (List ℕ)
 brought id (offer_call other octets now) = if bytes_eq (field_of other) id then octets ∷ [] else []
@@ -111,9 +105,29 @@ gave id other = []
 abbrev pub in_calls : (Call → List (List ℕ)) → List Turn → List (List ℕ)
 in_calls each calls = flat_map (λ t. each t.call) calls
 
+-- the octets of packets
+abbrev pub octets_of : List Stored → List (List ℕ)
+octets_of packets = map (λ p. spelling p.packet) packets
+
+-- calls on a service are calls on its memory, over which the packets of each store are accounted for; what is given,
+-- octet for octet, is what retrievals from the store give; and what one retrieval gives is its range
+pub record AreAccounted (s : Serving) (calls : List Turn) : Type 0 where
+  pub turns : List MemoryTurn
+  pub are : AreOfCalls calls turns
+  pub made : AreMemoryTurns s.memory turns
+  pub left : (after_calls s calls).memory ≡ after_turns s.memory turns
+  pub accounted : (id : List ℕ) → IsAccounted id s.memory turns
+  pub given : (id : List ℕ) → in_calls (gave id) calls ≡ octets_of (in_turns given_by id s.memory turns)
+  pub retrieved : (from to : ℕ) (id : List ℕ) → HasState (λ u. IsState u × IsBegun from to u) (state_of id s.memory)
+      → AtEachTurn (IsOnIn id) s.memory turns → GivesRangeIn from to id s.memory turns
+
+-- over any calls on any service the packets are accounted for
+abbrev pub AccountForCalls : Type 0
+AccountForCalls = (s : Serving) (calls : List Turn) → AreTurns s calls → AreAccounted s calls
+
 -- the octets of the packets that the store holds
 abbrev pub octets_held : List ℕ → Serving → List (List ℕ)
-octets_held id s = map (λ p. spelling p.packet) (held_in id s.memory)
+octets_held id s = octets_of (held_in id s.memory)
 
 -- what is given was held or brought, octet for octet
 abbrev pub GiveWhatWasBrought : Type 0

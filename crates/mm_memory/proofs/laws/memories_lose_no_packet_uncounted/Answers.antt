@@ -7,6 +7,11 @@ pub returns : goal.returns
 returns c = record {
   law = λ m turns made id.
       let account = accounts c.events_conserve_packets.ensures.law id m turns made in
-      record { packets = account.packets; counted = account.counted; given = gives_kept id m turns made; rising = rises id c.retrievals_give_in_order.ensures.rising m turns made };
+      record {
+        packets = account.packets;
+        counted = account.counted;
+        given = gives_kept id m turns made;
+        rising = rises id m turns made;
+      };
   requests = requested;
 }
