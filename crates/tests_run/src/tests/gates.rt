@@ -1,6 +1,6 @@
 //! Counts that threads raise, and for which they wait, so that they meet; and sources that do so.
 
-use crate::tests::sources::{Script, new_script};
+use crate::tests::sources::new_script;
 use mm_packet::BlockPacket;
 use mm_record::Source;
 use std::alloc::Global;
@@ -8,6 +8,7 @@ use std::process::Abort;
 use std::sync::Arc;
 use std::sync::atomic::{AtomicU64, Ordering};
 use std::thread::yield_now;
+use work_parts::Bursts;
 
 // The turns for which a thread waits.
 const TURNS: u32 = 1_000_000;
@@ -33,26 +34,24 @@ pub fn shared(rt: &impl Abort, count: &Arc<AtomicU64, Global>) -> Arc<AtomicU64,
 
 /// A source that gives its packet once all sources were asked for theirs, and notes where they were not.
 #[derive(Drop)]
-pub struct GatedSource {
-    script: Script,
+pub struct GatedSource<S: Source> {
+    source: S,
     asked: Arc<AtomicU64, Global>,
     all: u64,
     missed: bool,
 }
 
-impl Source for GatedSource {
-    ghost use Rattle.std.specs.Prelude.{◌==◌, if◌then◌else◌, []};
-
-    ghost gives = { λ g t. if t == 1 then g.script.one.items else if t == 2 then g.script.two.items else if t == 3 then g.script.three.items else [] };
+impl<S: Source> Source for GatedSource<S> {
+    ghost gives = { λ gated. S.gives gated.source };
 
     fn left(&self, step: u32) -> u32 {
-        self.script.left(step)
+        self.source.left(step)
     }
 
     fn next(&mut self, step: u32) -> Option<BlockPacket> {
         self.asked.fetch_add(1, Ordering::SeqCst);
         self.missed = self.missed || !comes_to(&self.asked, self.all);
-        self.script.next(step)
+        self.source.next(step)
     }
 }
 
@@ -63,9 +62,9 @@ fn gated_source(
     apid: u16,
     asked: &Arc<AtomicU64, Global>,
     all: u64,
-) -> GatedSource {
+) -> GatedSource<Bursts> {
     GatedSource {
-        script: new_script(rt, alloc, apid, [1, 0, 0]),
+        source: new_script(rt, alloc, apid, [1, 0, 0]),
         asked: shared(rt, asked),
         all,
         missed: false,
@@ -73,7 +72,12 @@ fn gated_source(
 }
 
 /// Sources of one packet each, this many for each of these APIDs.
-pub fn gated_sources(rt: &impl Abort, alloc: Global, apids: &[u16], each: u32) -> Vec<GatedSource> {
+pub fn gated_sources(
+    rt: &impl Abort,
+    alloc: Global,
+    apids: &[u16],
+    each: u32,
+) -> Vec<GatedSource<Bursts>> {
     let asked = counter(rt, alloc);
     let all = (apids.len() as u64).saturating_mul(u64::from(each));
     let mut list = Vec::new(alloc);
@@ -87,7 +91,7 @@ pub fn gated_sources(rt: &impl Abort, alloc: Global, apids: &[u16], each: u32) -
 }
 
 /// These are so many sources, each of which met the others and has nothing left.
-pub fn all_met(rt: &impl Abort, sources: &[GatedSource], many: usize) {
+pub fn all_met(rt: &impl Abort, sources: &[GatedSource<Bursts>], many: usize) {
     assert!(rt; sources.len() == many, "all sources come back");
     for source in sources {
         assert!(rt; !source.missed, "each met the others");

@@ -5,17 +5,14 @@ use mm_dump::{Link, MemoryLink};
 use std::alloc::Global;
 use std::process::Abort;
 
-// Links of which each fails once, after a number of sends, or never; where there is room for them.
-pub(crate) fn new_links_in_room(alloc: Global, until: &[Option<u64>]) -> Option<Vec<MemoryLink>> {
+// Links of which each fails once, after a number of sends, or never.
+pub(crate) fn new_links(rt: &impl Abort, alloc: Global, until: &[Option<u64>]) -> Vec<MemoryLink> {
     let mut list = Vec::new(alloc);
     for until in until {
-        list.push(MemoryLink::new(alloc, *until)).ok()?;
+        list.push(MemoryLink::new(alloc, *until))
+            .expect(rt, "memory");
     }
-    Some(list)
-}
-
-pub(crate) fn new_links(rt: &impl Abort, alloc: Global, until: &[Option<u64>]) -> Vec<MemoryLink> {
-    new_links_in_room(alloc, until).expect(rt, "memory")
+    list
 }
 
 // The sequence counts of the packets of a store that a link took are these.

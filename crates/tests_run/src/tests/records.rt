@@ -1,9 +1,7 @@
 //! Steps of recorders, with counts by hand.
 use crate::tests::runs::trials::{Change, TOO_LATE, change_store};
-use crate::tests::samples::{counts, id, memory_in_room, memory_of, next_after, one_of_two};
-use crate::tests::sources::{
-    Script, all_have_left, has_left, new_script, script_of, scripts, scripts_in_room,
-};
+use crate::tests::samples::{counts, id, memory_of, next_after};
+use crate::tests::sources::{all_have_left, has_left, new_script, scripts, source_of};
 use mm_base::StoreId;
 use mm_desk::{Fault, Held};
 use mm_memory::Memory;
@@ -14,10 +12,12 @@ use mm_record::{
     record_step,
 };
 use std::alloc::Global;
+use std::collections::VecDeque;
 use std::process::Abort;
 use std::slice;
 use std::sync::Wait;
 use std::thread::Threads;
+use work_parts::Bursts;
 
 mod crowds;
 
@@ -78,7 +78,7 @@ fn lost_one_of_three(rt: &impl Abort, row: &Recorded, store: &StoreId) {
 }
 
 // Both stores lost one of the three packets of one source.
-fn both_lost_one(rt: &impl Abort, step: &RecordedStep<Script>, stores: &[StoreId; 2]) {
+fn both_lost_one(rt: &impl Abort, step: &RecordedStep<Bursts>, stores: &[StoreId; 2]) {
     assert!(rt; step.recorded.len() == 2, "two stores");
     for (row, store) in step.recorded.iter().zip(stores) {
         lost_one_of_three(rt, row, store);
@@ -122,7 +122,7 @@ fn counts_of_both(rt: &impl Abort, memory: &Memory) -> [[u64; 4]; 2] {
 }
 
 // The sources come back whole from a step that is refused for this cause.
-fn refuses(rt: &impl Abort, halted: &RecordHalted<Script>, many: u32, want: Cause) {
+fn refuses(rt: &impl Abort, halted: &RecordHalted<Bursts>, many: u32, want: Cause) {
     assert!(rt; halted.cause == want, "the cause");
     all_have_left(rt, &halted.sources, many as usize, [3, 0, 0]);
 }
@@ -177,14 +177,15 @@ fn a_late_storage_time_refuses_a_step(rt: HostRuntime) {
 }
 
 // A source of one telecommand in step 1.
-fn one_command(rt: &impl Abort, alloc: Global) -> Script {
-    let mut commands = Vec::new(alloc);
-    commands.push(telecommand(rt, alloc)).expect(rt, "memory");
-    script_of(commands, Vec::new(alloc), Vec::new(alloc)).expect(rt, "a source")
+fn one_command(rt: &impl Abort, alloc: Global) -> Bursts {
+    let mut commands = VecDeque::new(alloc);
+    let command = telecommand(rt, alloc);
+    commands.push_back(command).expect(rt, "memory");
+    source_of(rt, alloc, commands)
 }
 
 // Three sources: packets of another step, packets of another APID, and a telecommand.
-fn sources_of_others(rt: &impl Abort, alloc: Global) -> Vec<Script> {
+fn sources_of_others(rt: &impl Abort, alloc: Global) -> Vec<Bursts> {
     let later = new_script(rt, alloc, 100, [0, 3, 0]);
     let other = new_script(rt, alloc, 101, [3, 0, 0]);
     let command = one_command(rt, alloc);
@@ -196,7 +197,7 @@ fn sources_of_others(rt: &impl Abort, alloc: Global) -> Vec<Script> {
 }
 
 // The first of three sources has the packets of step 2 left, and the others have none.
-fn only_later_are_left(rt: &impl Abort, sources: &[Script]) {
+fn only_later_are_left(rt: &impl Abort, sources: &[Bursts]) {
     let [later, others @ ..] = sources else {
         panic!(rt; "sources");
     };
@@ -219,7 +220,7 @@ fn lend_and_record<R: Threads + Wait + Sync + Abort>(
     rt: &R,
     alloc: Global,
     memory: &mut Memory,
-    sources: &mut [Script],
+    sources: &mut [Bursts],
 ) -> Option<Fault> {
     let mut stores = memory.lift();
     held_stores_are_named();
@@ -263,43 +264,6 @@ fn a_store_that_is_off_breaks_recorders_off(rt: HostRuntime) {
     let want = (Some(Fault::Disabled), Some(Cause::LogMismatch { step: 1 }));
     assert!(rt; found == want, "why they stopped early");
     all_have_left(&rt, &sources, 3, [2, 0, 0]);
-}
-
-// A step of three sources that had memory to begin has recorded all. One that had none has changed nothing, also where some of the stores
-// had been opened. Whether all is recorded.
-fn is_whole_or_nothing(
-    rt: &impl Abort,
-    memory: &Memory,
-    answer: Result<RecordedStep<Script>, RecordHalted<Script>>,
-) -> bool {
-    let counts = counts_of_both(rt, memory);
-    match answer {
-        Ok(step) => {
-            all_have_left(rt, &step.sources, 3, [0, 0, 0]);
-            assert!(rt; counts == [[9, 7, 0, 2]; 2], "all is recorded");
-            true
-        }
-        Err(halted) => {
-            refuses(rt, &halted, 3, Cause::NoMemory { step: 1 });
-            assert!(rt; counts == [[0; 4]; 2], "nothing has changed");
-            false
-        }
-    }
-}
-
-// Records the step, where there is room for it; whether all was recorded.
-fn recorded_all<R: Threads + Wait + Sync + Abort>(rt: &R, alloc: Global) -> Option<bool> {
-    let mut memory = memory_in_room(alloc, TWO_STORES)?;
-    let sources = scripts_in_room(alloc, 3, [3, 0, 0])?;
-    let answer = record_step(rt, alloc, &mut memory, 1, 0, sources);
-    Some(is_whole_or_nothing(rt, &memory, answer))
-}
-
-#[test]
-fn a_step_records_all_or_changes_nothing(rt: HostRuntime) {
-    let first = recorded_all(&rt, rt.alloc());
-    let second = recorded_all(&rt, rt.alloc());
-    one_of_two(&rt, first, second);
 }
 
 fn shows(rt: &impl Abort, alloc: Global, cause: Cause, text: &str) {

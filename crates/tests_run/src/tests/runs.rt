@@ -1,6 +1,5 @@
 //! Whole runs: their reports, what they leave, and why some are refused or halted.
 
-mod allocations;
 mod crowds;
 mod flights;
 mod halts;

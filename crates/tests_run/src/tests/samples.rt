@@ -19,17 +19,17 @@ pub fn is_named(rt: &impl Abort, id: &StoreId, text: &str) {
     assert!(rt; id.text() == text.as_bytes(), "the identifier");
 }
 
-/// Telemetry of an APID with this sequence count, by which the tests know it again, where there is room for it.
-pub fn packet_in_room(alloc: Global, apid: u16, count: u16) -> Option<BlockPacket> {
+/// Telemetry of an APID with this sequence count, by which the tests know it again.
+pub fn packet_of(rt: &impl Abort, alloc: Global, apid: u16, count: u16) -> BlockPacket {
     let header = Header::new(apid % 2000, count % 1000, 3, 25);
-    let data = Octets::new(Vec::new(alloc)).ok()?;
+    let data = Octets::new(Vec::new(alloc)).expect(rt, "memory");
     let packet = Packet::tm(header, 0, 0, 0, data);
-    BlockPacket::of(packet).ok()
+    BlockPacket::of(packet).expect(rt, "a short packet")
 }
 
 /// Such a packet of APID 100.
 pub fn packet(rt: &impl Abort, alloc: Global, count: u16) -> BlockPacket {
-    packet_in_room(alloc, 100, count).expect(rt, "a short packet")
+    packet_of(rt, alloc, 100, count)
 }
 
 /// An empty store of this kind, of four blocks, with its storage off.
@@ -67,14 +67,10 @@ pub fn stores_with(rt: &impl Abort, alloc: Global, held: &[u16]) -> Vec<Held> {
     stores
 }
 
-/// The memory of a setup text, where there is room for it.
-pub fn memory_in_room(alloc: Global, setup: &str) -> Option<Memory> {
-    let setup = Setup::read(alloc, setup.as_bytes()).ok()?;
-    Memory::of_setup(alloc, &setup).ok()
-}
-
+/// The memory of a setup text.
 pub fn memory_of(rt: &impl Abort, alloc: Global, setup: &str) -> Memory {
-    memory_in_room(alloc, setup).expect(rt, "a setup and memory")
+    let setup = Setup::read(alloc, setup.as_bytes()).expect(rt, "a setup");
+    Memory::of_setup(alloc, &setup).expect(rt, "memory")
 }
 
 /// How many packets were offered to a store, lost and deleted, and how many it holds.
@@ -105,10 +101,4 @@ pub fn is_told<T: Refused + Display + Copy>(
     assert!(rt; refusal.number() == number, "the number");
     let shown = refusal.to_string(alloc).expect(rt, "memory");
     assert!(rt; shown.as_str() == text, "{text}");
-}
-
-/// Of two tries of which one at the most lacks memory, as under `rt try --test --fail-alloc N`, one at the least came to its end.
-pub fn one_of_two(rt: &impl Abort, first: Option<bool>, second: Option<bool>) {
-    let whole = Some(true);
-    assert!(rt; first == whole || second == whole, "one of two");
 }

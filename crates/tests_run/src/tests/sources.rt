@@ -1,109 +1,62 @@
 //! Sources that give what they were told to give.
-ghost use Rattle.std.specs.Prelude.{◌≡◌, ◌<◌, ◌≤◌, ◌^◌, ◌++◌, [], IfNone, vec_len};
-ghost use Rattle.std.specs.Option.{option_to_list};
 
-use crate::tests::samples::packet_in_room;
+use crate::tests::samples::packet_of;
 use mm_packet::BlockPacket;
 use mm_record::Source;
 use std::alloc::Global;
+use std::collections::VecDeque;
 use std::process::Abort;
-
-// Gives packets in the steps 1, 2 and 3, and none in others.
-#[derive(Drop)]
-pub(crate) struct Script {
-    pub(crate) one: Vec<BlockPacket>,
-    pub(crate) two: Vec<BlockPacket>,
-    pub(crate) three: Vec<BlockPacket>,
-    ghost short_one: { vec_len one < 2 ^ 32 },
-    ghost short_two: { vec_len two < 2 ^ 32 },
-    ghost short_three: { vec_len three < 2 ^ 32 },
-}
-
-// Takes the first of these packets.
-fn take_first(packets: &mut Vec<BlockPacket>) -> Option<BlockPacket>
-    ensures first { packets.old.items ≡ option_to_list result ++ packets.new.items }
-    ensures none { IfNone result (packets.old.items ≡ []) }
-    ensures len { vec_len packets.new ≤ vec_len packets.old }
-{
-    if packets.len() > 0 {
-        Some(packets.remove(0))
-    } else {
-        None
-    }
-}
-
-impl Source for Script {
-    ghost use Rattle.std.specs.Prelude.{◌==◌, if◌then◌else◌, []};
-
-    ghost gives = { λ s t. if t == 1 then s.one.items else if t == 2 then s.two.items else if t == 3 then s.three.items else [] };
-
-    fn left(&self, step: u32) -> u32 {
-        match step {
-            1 => self.one.len() as u32,
-            2 => self.two.len() as u32,
-            3 => self.three.len() as u32,
-            _ => 0,
-        }
-    }
-
-    fn next(&mut self, step: u32) -> Option<BlockPacket> {
-        match step {
-            1 => take_first(&mut self.one),
-            2 => take_first(&mut self.two),
-            3 => take_first(&mut self.three),
-            _ => None,
-        }
-    }
-}
+use work_parts::Bursts;
 
 // This many packets, with the sequence counts after another one.
-fn packets_in_room(alloc: Global, apid: u16, after: u16, many: u16) -> Option<Vec<BlockPacket>> {
-    let mut packets = Vec::new(alloc);
+fn packets(
+    rt: &impl Abort,
+    alloc: Global,
+    apid: u16,
+    after: u16,
+    many: u16,
+) -> VecDeque<BlockPacket> {
+    let mut packets = VecDeque::new(alloc);
     for count in 0..many {
         let count = after.saturating_add(count).saturating_add(1);
-        let packet = packet_in_room(alloc, apid, count)?;
-        packets.push(packet).ok()?;
+        let packet = packet_of(rt, alloc, apid, count);
+        packets.push_back(packet).expect(rt, "memory");
     }
-    Some(packets)
+    packets
 }
 
-// A source of these packets, which are few.
-pub(crate) fn script_of(
-    one: Vec<BlockPacket>,
-    two: Vec<BlockPacket>,
-    three: Vec<BlockPacket>,
-) -> Option<Script> {
-    if one.len() < 65536 && two.len() < 65536 && three.len() < 65536 {
-        Some(Script { one, two, three })
-    } else {
-        None
-    }
+// Lets a source give these packets, which are few, in the next step.
+fn add(rt: &impl Abort, source: &mut Bursts, packets: VecDeque<BlockPacket>) {
+    assert!(rt; packets.len() < 65536, "few packets");
+    source.add(packets).expect(rt, "memory");
+}
+
+// A source of these packets in step 1.
+pub(crate) fn source_of(rt: &impl Abort, alloc: Global, packets: VecDeque<BlockPacket>) -> Bursts {
+    let mut source = Bursts::new(alloc);
+    add(rt, &mut source, VecDeque::new(alloc));
+    add(rt, &mut source, packets);
+    source
 }
 
 // A source that gives this many packets of an APID in each of three steps, with sequence counts from 1 on.
-pub(crate) fn script_in_room(alloc: Global, apid: u16, many: [u16; 3]) -> Option<Script> {
+pub(crate) fn new_script(rt: &impl Abort, alloc: Global, apid: u16, many: [u16; 3]) -> Bursts {
     let [first, second, third] = many;
-    let one = packets_in_room(alloc, apid, 0, first)?;
-    let two = packets_in_room(alloc, apid, first, second)?;
-    let three = packets_in_room(alloc, apid, first.saturating_add(second), third)?;
-    script_of(one, two, three)
+    let mut source = source_of(rt, alloc, packets(rt, alloc, apid, 0, first));
+    add(rt, &mut source, packets(rt, alloc, apid, first, second));
+    let after = first.saturating_add(second);
+    add(rt, &mut source, packets(rt, alloc, apid, after, third));
+    source
 }
 
-pub(crate) fn new_script(rt: &impl Abort, alloc: Global, apid: u16, many: [u16; 3]) -> Script {
-    script_in_room(alloc, apid, many).expect(rt, "a source")
-}
-
-// This many sources of APID 100 that give the same, where there is room for them.
-pub(crate) fn scripts_in_room(alloc: Global, sources: u32, many: [u16; 3]) -> Option<Vec<Script>> {
+// This many sources of APID 100 that give the same.
+pub(crate) fn scripts(rt: &impl Abort, alloc: Global, sources: u32, many: [u16; 3]) -> Vec<Bursts> {
     let mut list = Vec::new(alloc);
     for _ in 0..sources {
-        list.push(script_in_room(alloc, 100, many)?).ok()?;
+        let source = new_script(rt, alloc, 100, many);
+        list.push(source).expect(rt, "memory");
     }
-    Some(list)
-}
-
-pub(crate) fn scripts(rt: &impl Abort, alloc: Global, sources: u32, many: [u16; 3]) -> Vec<Script> {
-    scripts_in_room(alloc, sources, many).expect(rt, "sources")
+    list
 }
 
 // The source still gives this many packets in the steps 1, 2 and 3.
@@ -113,7 +66,7 @@ pub(crate) fn has_left(rt: &impl Abort, source: &impl Source, want: [u32; 3]) {
 }
 
 // These are so many sources, each of which still gives this many packets in the steps 1, 2 and 3.
-pub(crate) fn all_have_left(rt: &impl Abort, sources: &[Script], many: usize, want: [u32; 3]) {
+pub(crate) fn all_have_left(rt: &impl Abort, sources: &[Bursts], many: usize, want: [u32; 3]) {
     assert!(rt; sources.len() == many, "as many sources");
     for source in sources {
         has_left(rt, source, want);

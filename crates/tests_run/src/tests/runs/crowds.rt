@@ -3,7 +3,7 @@
 use crate::tests::gates::{all_met, comes_to, counter, gated_sources, shared};
 use crate::tests::links::{has_sent, new_links};
 use crate::tests::runs::trials::{Left, Task, Trial, has_text, left, setup, task, took_of};
-use crate::tests::sources::{Script, new_script};
+use crate::tests::sources::new_script;
 use mm_base::StoreId;
 use mm_dump::{Link, MemoryLink, SendFailed};
 use mm_exec::Cause;
@@ -13,6 +13,7 @@ use std::process::Abort;
 use std::sync::atomic::{AtomicU64, Ordering};
 use std::sync::{Arc, Wait};
 use std::thread::Threads;
+use work_parts::Bursts;
 
 // What a send waits for.
 #[derive(Clone, Copy)]
@@ -153,7 +154,7 @@ static FOUR_ORDERS: Task = task! {
 };
 
 // A source for each of these APIDs, which gives so many packets in step 1.
-fn sources_by_apid(rt: &impl Abort, alloc: Global, apids: &[u16], many: u16) -> Vec<Script> {
+fn sources_by_apid(rt: &impl Abort, alloc: Global, apids: &[u16], many: u16) -> Vec<Bursts> {
     let mut sources = Vec::new(alloc);
     for apid in apids {
         let source = new_script(rt, alloc, *apid, [many, 0, 0]);

@@ -5,19 +5,20 @@ use crate::tests::runs::rows::{Run, halted, run};
 use crate::tests::runs::trials::{
     Ended, FIRST_RUN, Left, NO_STEP, TWO_PASSES, Trial, Why, left, outcome_of,
 };
-use crate::tests::sources::{Script, scripts};
+use crate::tests::sources::scripts;
 use mm_dump::{MemoryLink, may_fail};
 use mm_exec::{FlyHalted, RunEnd, fly};
 use std::process::Abort;
 use std::sync::Wait;
 use std::thread::Threads;
+use work_parts::Bursts;
 
 // Plans and flies a run. The text of its plan is that of examples/first_run, also where the run is halted or refused.
 fn flown<R: Threads + Wait + Sync + Abort>(
     rt: &R,
     trial: &mut Trial,
     run: &Run,
-) -> Ended<Script, MemoryLink> {
+) -> Ended<Bursts, MemoryLink> {
     let alloc = trial.alloc;
     let sources = scripts(rt, alloc, 1, run.many);
     let links = new_links(rt, alloc, run.until);

@@ -6,7 +6,7 @@ use crate::tests::runs::trials::{
     left, setup, task,
 };
 use crate::tests::samples::id;
-use crate::tests::sources::{Script, all_have_left};
+use crate::tests::sources::all_have_left;
 use mm_dump::MemoryLink;
 use mm_exec::Cause;
 use mm_report::{Report, StepCounts};
@@ -14,6 +14,7 @@ use std::alloc::Global;
 use std::process::Abort;
 use std::sync::Wait;
 use std::thread::Threads;
+use work_parts::Bursts;
 
 // A run of one source, which gives this many packets in the steps 1, 2 and 3, over links of which each fails once, after this many sends,
 // or never; why it is halted and what was drawn then, if it is, what the source still gives, what is reported, what is left of the stores,
@@ -65,7 +66,7 @@ impl Run {
         &self,
         rt: &impl Abort,
         trial: &Trial,
-        ended: &Ended<Script, MemoryLink>,
+        ended: &Ended<Bursts, MemoryLink>,
     ) {
         let name = self.name;
         let halted = match self.halted {
@@ -91,7 +92,7 @@ impl Run {
         &self,
         rt: &R,
         trial: &mut Trial,
-    ) -> Ended<Script, MemoryLink> {
+    ) -> Ended<Bursts, MemoryLink> {
         let ended = trial.run_of(rt, 1, self.many, self.until, 0);
         self.has_ended(rt, trial, &ended);
         ended

@@ -1,8 +1,8 @@
 //! Runs of small problems: what they are given, and what they leave.
 
 use crate::tests::links::{has_sent, has_taken, new_links};
-use crate::tests::samples::{id, memory_in_room, next_after, packet};
-use crate::tests::sources::{Script, scripts};
+use crate::tests::samples::{id, memory_of, next_after, packet};
+use crate::tests::sources::scripts;
 use mm_base::MAX_BLOCKS;
 use mm_desk::StoreState;
 use mm_dump::{Link, MemoryLink, may_fail};
@@ -17,6 +17,7 @@ use std::alloc::Global;
 use std::process::Abort;
 use std::sync::Wait;
 use std::thread::Threads;
+use work_parts::Bursts;
 
 // The text of a setup: stores, each with a route of its own for telemetry of an APID, service 3, subtype 25, and limits.
 macro_rules! setup {
@@ -141,9 +142,9 @@ pub(crate) fn change_store(
     }
 }
 
-fn problem_in_room(alloc: Global, task: &Task) -> Option<Problem> {
-    let setup = Setup::read(alloc, task.setup.as_bytes()).ok()?;
-    Problem::read(alloc, &setup, task.forecast.as_bytes()).ok()
+fn problem_of(rt: &impl Abort, alloc: Global, task: &Task) -> Problem {
+    let setup = Setup::read(alloc, task.setup.as_bytes()).expect(rt, "a setup");
+    Problem::read(alloc, &setup, task.forecast.as_bytes()).expect(rt, "a forecast")
 }
 
 // The packets held in a store: times and sequence counts.
@@ -237,18 +238,14 @@ pub(crate) struct Trial {
 }
 
 impl Trial {
-    // Over an empty memory of the problem's setup, where there is room for it.
-    pub(crate) fn in_room(alloc: Global, task: &Task) -> Option<Trial> {
-        Some(Trial {
-            alloc,
-            memory: memory_in_room(alloc, task.setup)?,
-            problem: problem_in_room(alloc, task)?,
-            sheet: Sheet::parse(alloc, task.plan.as_bytes()).ok()?,
-        })
-    }
-
+    // Over an empty memory of the problem's setup.
     pub(crate) fn new(rt: &impl Abort, alloc: Global, task: &Task) -> Trial {
-        Trial::in_room(alloc, task).expect(rt, "the texts of a task")
+        Trial {
+            alloc,
+            memory: memory_of(rt, alloc, task.setup),
+            problem: problem_of(rt, alloc, task),
+            sheet: Sheet::parse(alloc, task.plan.as_bytes()).expect(rt, "a plan"),
+        }
     }
 
     // Carries out the plan.
@@ -271,7 +268,7 @@ impl Trial {
         many: [u16; 3],
         until: &[Option<u64>],
         base: u64,
-    ) -> Ended<Script, MemoryLink> {
+    ) -> Ended<Bursts, MemoryLink> {
         let sources = scripts(rt, self.alloc, sources, many);
         self.run(rt, sources, new_links(rt, self.alloc, until), base)
     }
