@@ -1,5 +1,6 @@
 -- A buffer of `PLAN_ROOM` octets is not too small for a plan.
-use Rattle.std.proofs.Common.{◌≡◌, ℕ, ◌≤◌, Bool, true, false, nat_le, if◌then◌else◌, List, length, sym, subst, arith, le-leb}
+use Rattle.std.proofs.Common.{◌≡◌, ℕ, ◌≤◌, Bool, true, false, nat_le, if◌then◌else◌, List, length, sym, subst, arith}
+use Rattle.std.proofs.Common.{le-leb}
 use Rattle.std.specs.Prelude.{◌≢◌}
 use Rattle.mm_planner.specs.PlanTexts.{PlansLeast}
 use Rattle.mm_told.specs.Rooms.{PlanTextsFit}

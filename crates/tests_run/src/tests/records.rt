@@ -21,7 +21,8 @@ use work_parts::Bursts;
 
 mod crowds;
 
-// A circular store C and a bounded store B of two blocks, which both have all telemetry of APID 100, service 3, subtype 25.
+// A circular store C and a bounded store B of two blocks, which both have all telemetry of APID 100, service 3, subtype
+// 25.
 const TWO_STORES: &str =
     "[[store]]\nid = \"C\"\nsize = 2\ntype = \"circular\"\nchannel = 3\n\n[[store]]\nid = \"B\"\nsize = 2\ntype = \"bounded\"\nchannel = 0\n\n[[route]]\napid = 100\nservice = 3\nsubtype = 25\nstore = \"C\"\n\n[[route]]\napid = 100\nservice = 3\nsubtype = 25\nstore = \"B\"\n";
 

@@ -37,7 +37,8 @@ pub fn new_state(rt: &impl Abort, alloc: Global, kind: Kind) -> StoreState {
     StoreState::of(AnyStore::new(alloc, kind, 4).expect(rt, "memory"))
 }
 
-/// A store of this kind, of four blocks, with its storage on and the packets 1, 2, .. up to a number at the times 7, 8, ..
+/// A store of this kind, of four blocks, with its storage on and the packets 1, 2, .. up to a number at the times 7, 8,
+/// ..
 pub fn store_with(rt: &impl Abort, alloc: Global, kind: Kind, held: u16) -> StoreState {
     let mut state = new_state(rt, alloc, kind);
     state.enable();

@@ -24,8 +24,8 @@ enum Awaits {
     Ended(u64),
 }
 
-// A link whose sends wait for those of other links, and fail where these do not come; with the counts of the sends that have begun and
-// ended over all links.
+// A link whose sends wait for those of other links, and fail where these do not come; with the counts of the sends that
+// have begun and ended over all links.
 #[derive(Drop)]
 struct GatedLink {
     link: MemoryLink,
@@ -87,8 +87,8 @@ fn gated_links(
     list
 }
 
-// A task of one step for stores with an APID each: sources of one packet, so many for each store, and links, each of which is to send
-// as many packets.
+// A task of one step for stores with an APID each: sources of one packet, so many for each store, and links, each of
+// which is to send as many packets.
 struct Meeting {
     task: Task,
     apids: &'static [u16],
@@ -200,8 +200,8 @@ static B_BROKE: [Left; 2] = [
     left!("B", [2, 0, 0], [(1, 1), (2, 2)], []),
 ];
 
-// Each of two links takes an order, and one fails at its first send: the other's order is whole, and the store of the broken one is as
-// it was after the packets came.
+// Each of two links takes an order, and one fails at its first send: the other's order is whole, and the store of the
+// broken one is as it was after the packets came.
 #[test]
 fn one_of_two_links_fails(rt: HostRuntime) {
     let alloc = rt.alloc();
@@ -247,8 +247,8 @@ const EIGHT_SOURCES: &str = "step 1 A arrived 8 lost 7 dumped 1 held 0\n\
     differs step 3 D forecast 9 came 8\n\
     total arrived 64 lost 47 dumped 7 held 10\n";
 
-// Eight sources of one packet each in the steps 1 and 3, each for four stores of 1, 2, 3 and 4 blocks, and four links. The report is the same
-// whatever the threads did.
+// Eight sources of one packet each in the steps 1 and 3, each for four stores of 1, 2, 3 and 4 blocks, and four links.
+// The report is the same whatever the threads did.
 #[test]
 fn a_hundred_runs_report_the_same(rt: HostRuntime) {
     for _ in 0..100 {

@@ -16,9 +16,9 @@ use std::sync::Wait;
 use std::thread::Threads;
 use work_parts::Bursts;
 
-// A run of one source, which gives this many packets in the steps 1, 2 and 3, over links of which each fails once, after this many sends,
-// or never; why it is halted and what was drawn then, if it is, what the source still gives, what is reported, what is left of the stores,
-// and how many sends of each link have failed.
+// A run of one source, which gives this many packets in the steps 1, 2 and 3, over links of which each fails once,
+// after this many sends, or never; why it is halted and what was drawn then, if it is, what the source still gives,
+// what is reported, what is left of the stores, and how many sends of each link have failed.
 #[derive(Clone, Copy)]
 pub(crate) struct Run {
     pub(crate) name: &'static str,
@@ -45,7 +45,8 @@ macro_rules! run {
 
 pub(crate) use run;
 
-// A run that is halted, as one send of each link fails, or refused: its links, why, what was drawn, and what the source still gives.
+// A run that is halted, as one send of each link fails, or refused: its links, why, what was drawn, and what the source
+// still gives.
 macro_rules! halted {
     (
         $name:literal, $task:expr, $many:expr, until $until:expr =>
@@ -127,7 +128,8 @@ static RUNS: [Run; 3] = [
             total arrived 7 lost 0 dumped 3 held 4\n";
         left!("SCI", [7, 0, 3], [(4, 4), (5, 5), (6, 6), (7, 7)], [1, 2, 3])
     },
-    // Nothing comes and nothing may be sent in step 1, and in step 2 the first packet is stored two ticks after the base.
+    // Nothing comes and nothing may be sent in step 1, and in step 2 the first packet is stored two ticks after the
+    // base.
     run! {
         "a step has its own moment and window",
         Task {

@@ -19,7 +19,8 @@ use std::sync::Wait;
 use std::thread::Threads;
 use work_parts::Bursts;
 
-// The text of a setup: stores, each with a route of its own for telemetry of an APID, service 3, subtype 25, and limits.
+// The text of a setup: stores, each with a route of its own for telemetry of an APID, service 3, subtype 25, and
+// limits.
 macro_rules! setup {
     (
         $(store $id:literal, apid $apid:literal $(, $key:ident $value:literal)+;)+
@@ -77,8 +78,8 @@ pub(crate) const FIRST_RUN: Task = Task {
 // What the report of a run says of which no step was carried out.
 pub(crate) const NO_STEP: &str = "total arrived 0 lost 0 dumped 0 held 0\n";
 
-// What a run leaves of a store: how many packets were offered, lost and deleted, the times and sequence counts of those that it
-// holds, and the sequence counts of those that were sent.
+// What a run leaves of a store: how many packets were offered, lost and deleted, the times and sequence counts of those
+// that it holds, and the sequence counts of those that were sent.
 pub(crate) struct Left {
     pub(crate) store: &'static str,
     pub(crate) counts: [u64; 3],
@@ -259,8 +260,8 @@ impl Trial {
         outcome_of(carry_out(rt, self.alloc, memory, problem, plan, sources, links, base))
     }
 
-    // Carries out the plan from this moment on, over so many sources that give this many packets in three steps, and links of which each
-    // fails once, after so many sends, or never.
+    // Carries out the plan from this moment on, over so many sources that give this many packets in three steps, and
+    // links of which each fails once, after so many sends, or never.
     pub(crate) fn run_of<R: Threads + Wait + Sync + Abort>(
         &mut self,
         rt: &R,
