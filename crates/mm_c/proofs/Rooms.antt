@@ -21,7 +21,8 @@ pub plan_has_room : (setup forecast text out : List ℕ) (answer : Answer) → P
     → answer ≡ text_answer text (length out) → PLAN_ROOM ≤ length out → IsNotTooSmall answer
 plan_has_room setup forecast text out answer fit least is room =
     let fits : length text ≤ PLAN_ROOM =
-    subst (λ (t : List ℕ). length t ≤ PLAN_ROOM) (sym least.plans.says_sheet.text) (fit least.sheet least.plans.says_sheet.is_sheet least.besides) in
+    subst (λ (t : List ℕ). length t ≤ PLAN_ROOM) (sym least.plans.says_sheet.text)
+    (fit least.sheet least.plans.says_sheet.is_sheet least.besides) in
     let below : length text ≤ length out = omega arith in
     subst IsNotTooSmall (sym is) (written (nat_le (length text) (length out)) (le-leb (length text) (length out) below))
 

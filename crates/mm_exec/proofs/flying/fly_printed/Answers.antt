@@ -19,4 +19,7 @@ returns-in-Ok-clause-flown g c = rw c.with_sheet.ensures (λ p lasts lead.
 pub returns-clause-not_flown : goal.returns-clause-not_flown
 returns-clause-not_flown g c = λ p lasts lead.
     let halted = rw (c.plan.ensures ∙ p.plan_is) at c.in-Err.ensures.halted in
-    let one = halted lasts lead in (one.0, record { sheet = p.sheet; plans = p.plans; plain = p.besides; halted = one.1 })
+    let one = halted lasts lead in (
+      one.0,
+      record { sheet = p.sheet; plans = p.plans; plain = p.besides; halted = one.1 },
+    )
