@@ -157,7 +157,10 @@ fn least_number(item: Item) -> u32 {
 
 // What a plan loses that is made anew.
 fn least_loss(rt: &impl Runtime, problem: &Problem) -> u64 {
-    plan(rt.alloc(), problem).expect(rt, "memory").certificate.loss()
+    plan(rt.alloc(), problem)
+        .expect(rt, "memory")
+        .certificate
+        .loss()
 }
 
 // Each number is worth what a plan of the changed problem loses fewer or more.

@@ -148,7 +148,10 @@ fn is_least_alone(rt: &impl Runtime, problem: &Problem, ordered: &Plan, stores: 
     requires stores { stores ≤ length problem.now.rows }
 {
     let alone = narrowed(rt, problem, stores, stores);
-    let least = plan(rt.alloc(), &alone).expect(rt, "memory").certificate.loss();
+    let least = plan(rt.alloc(), &alone)
+        .expect(rt, "memory")
+        .certificate
+        .loss();
     let loss = first_loss(problem, ordered, stores);
     assert!(rt; loss == least, "{stores} stores lose {loss}");
 }
