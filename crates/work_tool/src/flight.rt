@@ -8,15 +8,10 @@ use mission::{Mission, write_mission};
 use std::io::Write;
 use std::sync::Wait;
 use std::thread::Threads;
-use work_base::Numbers;
-
-// Tables of missions: the fields of each.
-macro_rules! missions {
-    ($($($field:ident $value:expr),+;)+) => { [$(Mission { $($field: $value),+ }),+] };
-}
+use work_base::{Numbers, table};
 
 // The missions, each of another shape.
-static MISSIONS: [Mission; 6] = missions! {
+static MISSIONS: [Mission; 6] = table! { Mission;
     // All lengths, in many steps.
     is_planned true, steps 256, links 4, types 4,
         packets (4, 18), octets (64, 1000), fails_after None;

@@ -1,4 +1,5 @@
-//! Workloads of `bench/workloads.txt` over the whole program: recorded missions that are carried out, and long conversations.
+//! Workloads of `bench/workloads.txt` over the whole program: recorded missions that are carried out, and long
+//! conversations.
 #![tactic(auto)]
 
 mod desk;
@@ -12,12 +13,12 @@ use std::alloc::Global;
 use std::io::Write;
 use std::sync::Wait;
 use std::thread::Threads;
-use thiserror::Error;
+use work_base::{UnknownWords, words};
 
-/// Words that name no workload.
-#[derive(Clone, Copy, Debug, Error)]
-#[error("the words are flight SEED or talk SEED, where SEED is a number below 2^32")]
-struct UnknownWords;
+// Words that name no workload.
+const UNKNOWN: UnknownWords = UnknownWords(
+    "the words are flight SEED or talk SEED, where SEED is a number below 2^32",
+);
 
 // What small runs of both workloads count.
 fn small<R: Threads + Wait + Sync, E: Write>(rt: &R, alloc: Global, err: &mut E) -> Result<String> {
@@ -36,23 +37,21 @@ fn said<R: Threads + Wait + Sync, E: Write>(
     let (name, seed) = match words {
         [] => return small(rt, alloc, err),
         [name, seed] => (name.as_str(), seed.parse::<u32>()?),
-        _ => return Err(UnknownWords.into()),
+        _ => return Err(UNKNOWN.into()),
     };
     let mut desk = Desk::new(rt, alloc, err);
     match name {
         "flight" => flight::run(&mut desk, seed)?,
         "talk" => talk::run(&mut desk, seed)?,
-        _ => return Err(UnknownWords.into()),
+        _ => return Err(UNKNOWN.into()),
     }
     Ok(format!(in alloc; "{name} {}", desk.digest())?)
 }
 
 /// The words are a workload and its seed. With no words a small run of each is made, and what was counted is printed.
 fn main(rt: HostRuntime) -> Result<()> {
-    let alloc = rt.alloc();
-    let words: Vec<String> = std::env::args(&rt)?.skip(1).collect(alloc)?;
     let mut err = rt.stderr();
-    let said = said(&rt, alloc, &words, &mut err)?;
+    let said = said(&rt, rt.alloc(), &words(&rt)?, &mut err)?;
     println!(rt; "{said}")?;
     Ok(())
 }
