@@ -1,5 +1,5 @@
-//! Runs of the first plan: a store of four blocks and one that gets nothing, three steps, and two blocks that may leave in each of the first
-//! two.
+//! Runs of the first plan: a store of four blocks and one that gets nothing, three steps, and two blocks that may leave
+//! in each of the first two.
 ghost use Rattle.std.specs.Prelude.{◌<◌, ◌-◌, ◌^◌, All};
 
 use crate::met::Met;
@@ -152,7 +152,8 @@ fn told(alloc: Global, report: &Report, want: &str) -> Met {
     }
 }
 
-// What a run has left: how many packets were given, and how many of them sent. Nothing where another store than SCI was used.
+// What a run has left: how many packets were given, and how many of them sent. Nothing where another store than SCI was
+// used.
 fn left_by(
     case: &Case,
     memory: &Memory,
