@@ -270,12 +270,15 @@ const SCI_OFF: Instruction = Instruction {
 // with its route, and its storage is turned on. It is created without a block, and then with four. Last, storage off by
 // a request of two instructions.
 static DELETED: [Step; 8] = [
-    single!(b"\x18\x64\xC0\0\0\x13\x20\x0F\x14\0\0\x01Z       \0\0\0\x04\x01\0", b"Z", TOO_MANY, false => None, left (16, 16)),
+    single!(b"\x18\x64\xC0\0\0\x13\x20\x0F\x14\0\0\x01Z       \0\0\0\x04\x01\0",
+        b"Z", TOO_MANY, false => None, left (16, 16)),
     single!(b"\x18\x64\xC0\0\0\x0D\x20\x0F\x15\0\0\x01C       ", b"C", STORAGE_ON, false => Some(C), left (16, 16)),
-    single!(b"\x18\x64\xC0\0\0\x0D\x20\x0F\x02\0\0\x01C       ", b"C", Answer::Done, false => Some(OF_TWO), left (16, 16)),
+    single!(b"\x18\x64\xC0\0\0\x0D\x20\x0F\x02\0\0\x01C       ",
+        b"C", Answer::Done, false => Some(OF_TWO), left (16, 16)),
     single!(b"\x18\x64\xC0\0\0\x0D\x20\x0F\x15\0\0\x01C       ", b"C", Answer::Done, false => None, left (15, 15)),
     single!(b"\x18\x64\xC0\0\0\x0D\x20\x0F\x01\0\0\x01C       ", b"C", NO_STORE, false => None, left (15, 15)),
-    single!(b"\x18\x64\xC0\0\0\x13\x20\x0F\x14\0\0\x01C       \0\0\0\0\x01\0", b"C", BAD_SIZE, false => None, left (15, 15)),
+    single!(b"\x18\x64\xC0\0\0\x13\x20\x0F\x14\0\0\x01C       \0\0\0\0\x01\0",
+        b"C", BAD_SIZE, false => None, left (15, 15)),
     single!(b"\x18\x64\xC0\0\0\x13\x20\x0F\x14\0\0\x01C       \0\0\0\x04\x01\0",
         b"C", Answer::Done, true => Some(OF_FOUR), left (16, 15)),
     Step {
@@ -327,11 +330,14 @@ const B_MADE: Instruction = Instruction {
 // The store SCI is switched off, resized, made circular and bounded again, each by a request of its own; then A and B
 // are created by one; and last, SCI, which is off, is as it was before A and B were created.
 static CREATED: [Step; 6] = [
-    single!(b"\x18\x64\xC0\0\0\x0D\x20\x0F\x02\0\0\x01SCI     ", b"SCI", Answer::Done, false => Some(OF_FOUR), left (1, 1)),
+    single!(b"\x18\x64\xC0\0\0\x0D\x20\x0F\x02\0\0\x01SCI     ",
+        b"SCI", Answer::Done, false => Some(OF_FOUR), left (1, 1)),
     single!(b"\x18\x64\xC0\0\0\x11\x20\x0F\x19\0\0\x01SCI     \0\0\0\x08",
         b"SCI", Answer::Done, true => Some(OF_EIGHT), left (1, 1)),
-    single!(b"\x18\x64\xC0\0\0\x0D\x20\x0F\x1A\0\0\x01SCI     ", b"SCI", Answer::Done, true => Some(CIRCULAR), left (1, 1)),
-    single!(b"\x18\x64\xC0\0\0\x0D\x20\x0F\x1B\0\0\x01SCI     ", b"SCI", Answer::Done, true => Some(OF_EIGHT), left (1, 1)),
+    single!(b"\x18\x64\xC0\0\0\x0D\x20\x0F\x1A\0\0\x01SCI     ",
+        b"SCI", Answer::Done, true => Some(CIRCULAR), left (1, 1)),
+    single!(b"\x18\x64\xC0\0\0\x0D\x20\x0F\x1B\0\0\x01SCI     ",
+        b"SCI", Answer::Done, true => Some(OF_EIGHT), left (1, 1)),
     Step {
         packet: b"\x18\x64\xC0\0\0\x21\x20\x0F\x14\0\0\x02A       \0\0\0\x04\x01\0B       \0\0\0\x02\0\x01",
         each: &[A_MADE, B_MADE],
