@@ -1,10 +1,15 @@
 -- What comes beyond the forecast costs no more than itself.
-use Rattle.std.proofs.Common.{◌≡◌, ℕ, zero, suc, ◌+◌, ◌-◌, ◌<◌, ◌≤◌, min, List, length, refl, ◌∙◌, ap, subst, arith}
+use Rattle.std.proofs.Common.{◌≡◌, ℕ, zero, suc, ◌+◌, ◌-◌, ◌<◌, ◌≤◌, min, List, length, map, take, refl, ◌∙◌, ap}
+use Rattle.std.proofs.Common.{subst, arith}
+use Rattle.std.proofs.lemmas.List.FromFn.{take-map-range_with_len}
 use Rattle.std.proofs.Common.{add-one}
 use Rattle.mm_base.proofs.RangeSums.{sum_by_range_zeros}
-use Rattle.mm_carry.specs.Beyond.{AsForecast, LosesAtMost, more_came}
+use Rattle.mm_plan.specs.Volumes.{first_loss}
+use Rattle.mm_carry.specs.Beyond.{AsForecast, LosesAtMost, lost_by_first, more_came}
+use Rattle.mm_carry.specs.Numbers.{planned_counts, report_of, rows_of}
+use Rattle.mm_report.specs.declared.counts.StepCounts.{StepCounts}
 use Rattle.mm_carry.proofs.Words.{sum_by, range_with_len, sum_by_range_more, sum_by_range-le, sum_by_range_same}
-use Rattle.mm_carry.proofs.Words.{sum_by-add, Dumping, arrivals, size, steps, stores, left_start, left_step, Amounts}
+use Rattle.mm_carry.proofs.Words.{sum_by-add, sum_by-map, sum_by-swap, Dumping, arrivals, size, steps, stores, left_start, left_step, Amounts}
 use Rattle.mm_carry.proofs.Words.{left, lost, loss, store_loss, RunInput, as_came}
 use Rattle.mm_carry.proofs.Counters.{came_at}
 
@@ -62,6 +67,14 @@ module _ (q : Dumping) (other : List ℕ) (x : Amounts) where
       (chain _ _ _ _ _ _ _ _ (store_costs s n)
       (rw (lost_next c x s n, lost_next q x s n, left_next c x s n, left_next q x s n) here))
 
+  -- where no more arrives at a store, it loses no more
+  store_no_more : (s : ℕ) → ((t : ℕ) → 1 ≤ t → t ≤ length q.windows → arrivals c s t ≤ arrivals q s t)
+      → store_loss c x s ≤ store_loss q x s
+  store_no_more s each =
+      let none = sum_by_range_zeros (more s) 1 (length q.windows)
+      (λ t first last. omega (arith, each t first (omega arith))) in
+      omega (arith, store_costs s (length q.windows), none)
+
   -- what all stores lose
   loss_costs : loss c x ≤ loss q x + sum_by (λ s. sum_by (more s) (steps q)) (stores q)
   loss_costs =
@@ -78,16 +91,49 @@ module _ (q : Dumping) (other : List ℕ) (x : Amounts) where
       (λ t first last. omega (arith, each s t (omega arith) first (omega arith)))) in
       omega (arith, loss_costs, none)
 
--- where what comes is what was forecast, the plan loses of it what it loses of the forecast
-pub same_loss : (m : RunInput) → AsForecast m → loss (as_came m) m.amounts ≡ loss m.problem m.amounts
-same_loss m met =
+-- where what comes is what was forecast, a store loses of it what it loses of the forecast
+same_store_loss : (m : RunInput) → AsForecast m → (s : ℕ) → s < length m.problem.rows
+    → store_loss (as_came m) m.amounts s ≡ store_loss m.problem m.amounts s
+same_store_loss m met s store =
+    let same : (t : ℕ) → 1 ≤ t → t ≤ length m.problem.windows → arrivals (as_came m) s t ≡ arrivals m.problem s t =
+    λ t first last. came_at m s t store first last ∙ met s t store first last in
     omega (
       arith,
-      loss_no_more m.problem (as_came m).arrived m.amounts
-          (λ s t store first last. omega (arith, came_at m s t store first last, met s t store first last)),
-      loss_no_more (as_came m) m.problem.arrived m.amounts
-          (λ s t store first last. omega (arith, came_at m s t store first last, met s t store first last)),
+      store_no_more m.problem (as_came m).arrived m.amounts s (λ t first last. omega (arith, same t first last)),
+      store_no_more (as_came m) m.problem.arrived m.amounts s (λ t first last. omega (arith, same t first last)),
     )
+
+-- the same of the first stores
+same_first_loss : (m : RunInput) → AsForecast m → (k : ℕ) → k ≤ length m.problem.rows
+    → first_loss k (as_came m) m.amounts ≡ first_loss k m.problem m.amounts
+same_first_loss m met k within =
+    sum_by_range_same (store_loss (as_came m) m.amounts) (store_loss m.problem m.amounts) 0 k
+    (λ s _ below. same_store_loss m met s (omega arith))
+
+-- and of all
+pub same_loss : (m : RunInput) → AsForecast m → loss (as_came m) m.amounts ≡ loss m.problem m.amounts
+same_loss m met = same_first_loss m met (length m.problem.rows) (omega arith)
+
+-- what the first stores lose by the report of the first steps
+lost_by_rows : (forecast came : Dumping) (x : Amounts) (k n : ℕ) → k ≤ length forecast.rows
+    → lost_by_first k (rows_of forecast came x n) ≡ sum_by (λ s. sum_by (lost came x s) (range_with_len 1 n))
+    (range_with_len 0 k)
+lost_by_rows forecast came x k n within =
+    let at = λ (t s : ℕ). planned_counts forecast came x s t in
+    let lost_in = λ (row : List StepCounts). sum_by (λ y. y.lost) (take k row) in
+    sum_by-map lost_in (λ t. map (at t) (stores forecast)) (range_with_len 1 n)
+    ∙ sum_by_range_same (λ t. lost_in (map (at t) (stores forecast)))
+    (λ t. sum_by (λ s. lost came x s t) (range_with_len 0 k)) 1 n
+    (λ t _ _. ap (sum_by (λ y. y.lost)) (take-map-range_with_len (at t) 0 (length forecast.rows) k within)
+    ∙ sum_by-map (λ y. y.lost) (at t) (range_with_len 0 k))
+    ∙ sum_by-swap (λ t s. lost came x s t) (range_with_len 1 n) (range_with_len 0 k)
+
+-- where what comes is what was forecast, the first stores lose in the run what they lose by the plan
+pub first_lost_as_planned : (m : RunInput) → AsForecast m → (k : ℕ) → k ≤ length m.problem.rows
+    → lost_by_first k (report_of m.problem (as_came m) m.amounts (length m.problem.windows)).steps
+    ≡ first_loss k m.problem m.amounts
+first_lost_as_planned m met k within =
+    lost_by_rows m.problem (as_came m) m.amounts k (length m.problem.windows) within ∙ same_first_loss m met k within
 
 -- the lost packets of a run, beside the loss of its plan
 pub loses_at_most : (m : RunInput) (planned lost_in_run : ℕ) → loss m.problem m.amounts ≡ planned

@@ -1,6 +1,7 @@
 -- What comes as it was forecast; what comes beyond the forecast, and what it costs.
-use Rattle.std.specs.Prelude.{◌≡◌, ℕ, ◌+◌, ◌-◌, ◌≤◌, length}
+use Rattle.std.specs.Prelude.{◌≡◌, ℕ, ◌+◌, ◌-◌, ◌≤◌, List, length, take}
 use Rattle.std.specs.List.{sum_by}
+use Rattle.mm_report.specs.declared.counts.StepCounts.{StepCounts}
 use Rattle.mm_carry.specs.Words.{arrivals, stores, steps}
 use Rattle.mm_carry.specs.AsPlanned.{AtEach}
 use Rattle.mm_carry.specs.RunInput.{RunInput, came}
@@ -27,3 +28,7 @@ IsWithinForecast m = AtEach (length m.problem.rows) (length m.problem.windows)
 pub record LosesAtMost (m : RunInput) (loss lost : ℕ) : Type 0 where
   pub beyond : lost ≤ loss + beyond_forecast m
   pub within : IsWithinForecast m → lost ≤ loss
+
+-- how many packets the first k stores lost, by the rows of a report
+abbrev pub lost_by_first : ℕ → List (List StepCounts) → ℕ
+lost_by_first k rows = sum_by (λ row. sum_by (λ x. x.lost) (take k row)) rows

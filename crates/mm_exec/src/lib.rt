@@ -4,7 +4,7 @@
 
 mod flying;
 
-pub use flying::{fly, fly_printed, unplanned};
+pub use flying::{fly, fly_for, fly_printed, unplanned};
 pub use mm_carry::laws::{
     broken_steps_are_logs, draws_meet_no_refusal, halves_make_step_runs, runs_lose_as_planned,
     step_runs_keep_stores, steps_without_stop_are_whole, whole_steps_fit,
@@ -13,6 +13,7 @@ pub use mm_carry::{
     Flown, FlyHalted, FlyResult, Halted, MAX_LINKS, Requirement, RunEnd, carry_out, laws, ready,
 };
 pub use mm_dump::{Link, SendFailed};
+pub use mm_planner::Goal;
 pub use mm_record::{
     AnySource, Live, LiveSource, RecordHalted, Recorded, RecordedStep, Source, record_step,
 };

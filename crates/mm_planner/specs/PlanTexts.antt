@@ -15,6 +15,8 @@ use Rattle.mm_problem.specs.Texts.{problem_in, SaysProblem}
 use Rattle.mm_cut.specs.Checking.{SaysSheet, Checks}
 use Rattle.mm_planner.specs.Planned.{ShowsLeast, SheetShows}
 use Rattle.mm_planner.specs.InOrder.{ShowsInOrder}
+use Rattle.mm_planner.specs.declared.goal.Goal.{Goal}
+use Rattle.mm_planner.specs.declared.goal.Goal.TheVariants as goal
 use Rattle.mm_planner.specs.declared.texts.PrintedPlan.{PrintedPlan}
 
 -- the stretches stand in store order, then by first and by last step, and the counted steps rise
@@ -39,6 +41,11 @@ pub record SheetShowsInOrder (q : Dumping) (sheet : SheetRows) : Type 0 where
   pub certificates : List CertificateRows
   pub has : sheet.firsts ≡ Some certificates
   pub in_order : ShowsInOrder q sheet.plan certificates
+
+-- what a sheet says besides, by what its plan is made for
+abbrev pub Shows : Goal → Dumping → SheetRows → Type 0
+Shows goal.Least = IsPlain
+Shows goal.InOrder = SheetShowsInOrder
 
 -- a sheet for the problem that shows that its plan loses least, and besides that
 pub record IsSheetFor (Besides : Dumping → SheetRows → Type 0) (q : Dumping) (s : SheetRows) : Type 0 where

@@ -2,9 +2,10 @@
 ghost use Rattle.std.specs.Prelude.{IfOk};
 ghost use Rattle.mm_base.specs.Reading.{IfRefused};
 ghost use Rattle.mm_cut.specs.declared.fault.Fault.TheVariants as fault;
-ghost use Rattle.mm_planner.specs.PlanTexts.{IsPrintedFor, IsPrintedInOrder, PlansLeast, PlansLeastInOrder};
-ghost use Rattle.mm_planner.specs.PlanTexts.{IsPlanningFault};
+ghost use Rattle.mm_planner.specs.PlanTexts.{IsPrintedAs, IsPrintedFor, IsPrintedInOrder, Shows};
+ghost use Rattle.mm_planner.specs.PlanTexts.{PlansLeast, PlansLeastInOrder, IsPlanningFault};
 
+use crate::goal::Goal;
 use crate::sheets::{sheet, sheet_in_order};
 use mm_base::NoMemory;
 use mm_cut::Fault;
@@ -60,4 +61,14 @@ pub fn plan_in_order_bytes(alloc: Global, setup: &[u8], forecast: &[u8]) -> Resu
     let problem = read_problem(alloc, setup, forecast)?;
     let printed = print_plan_in_order(alloc, &problem)?;
     Ok(printed.text)
+}
+
+/// Plans for a goal, and prints the sheet.
+pub fn print_plan_for(alloc: Global, problem: &Problem, goal: Goal) -> Result<PrintedPlan, NoMemory>
+    ensures { IfOk result (IsPrintedAs (Shows goal) problem.now) }
+{
+    match goal {
+        Goal::Least => print_plan(alloc, problem),
+        Goal::InOrder => print_plan_in_order(alloc, problem),
+    }
 }

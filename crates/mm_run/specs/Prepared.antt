@@ -1,7 +1,8 @@
 -- A run that is read, judged and planned, and has not begun.
 use Rattle.std.specs.Prelude.{◌≡◌, ℕ, List, [], Option, Some, None}
 use Rattle.mm_run.specs.Types.{Dumping, SpacePacket, SheetRows, Holdings}
-use Rattle.mm_planner.specs.PlanTexts.{IsPrintedFor}
+use Rattle.mm_planner.specs.PlanTexts.{IsPrintedAs, Shows}
+use Rattle.mm_planner.specs.declared.goal.Goal.{Goal}
 use Rattle.mm_run.specs.Texts.{SaysStart, SaysSourcesAndLinks}
 use Rattle.mm_run.specs.Runs.{opened_with}
 use Rattle.mm_run.specs.declared.run_plan.RunPlan.{RunPlan}
@@ -18,15 +19,16 @@ text_of_plan Unplanned = []
 abbrev pub plan_text_of : PreparedRun → List ℕ
 plan_text_of run = text_of_plan run.plan
 
--- the plan is that of the sheet; or without a sheet, one was made and printed, or there was no memory to plan
-abbrev pub IsPlanBy : Option SheetRows → Dumping → RunPlan → Type 0
-IsPlanBy (Some sheet) problem (Given given) = given ≡ sheet
-IsPlanBy None problem (Made printed) = IsPrintedFor problem printed
-IsPlanBy None problem Unplanned = Unit {0}
-IsPlanBy sheet problem plan = ⊥
+-- the plan is that of the sheet; or without a sheet, one was made for this goal and printed, or there was no memory to
+-- plan
+abbrev pub IsPlanBy : Goal → Option SheetRows → Dumping → RunPlan → Type 0
+IsPlanBy goal (Some sheet) problem (Given given) = given ≡ sheet
+IsPlanBy goal None problem (Made printed) = IsPrintedAs (Shows goal) problem printed
+IsPlanBy goal None problem Unplanned = Unit {0}
+IsPlanBy goal sheet problem plan = ⊥
 
 -- the run is that of the texts: its problem, its plan, the memory with the packets of step 0, the sources and the links
-pub record IsPrepared (plan : Option (List ℕ)) (setup forecast sources_text links_text : List ℕ)
+pub record IsPrepared (goal : Goal) (plan : Option (List ℕ)) (setup forecast sources_text links_text : List ℕ)
     (run : PreparedRun) : Type 0 where
   pub memory : Holdings
   pub sheet : Option SheetRows
@@ -34,4 +36,4 @@ pub record IsPrepared (plan : Option (List ℕ)) (setup forecast sources_text li
   pub opening : List SpacePacket
   pub sides_say : SaysSourcesAndLinks sources_text links_text opening run.sources.items run.links.items
   pub opened : run.memory ≡ opened_with memory opening
-  pub plan_is : IsPlanBy sheet run.problem run.plan
+  pub plan_is : IsPlanBy goal sheet run.problem run.plan

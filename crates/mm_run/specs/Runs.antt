@@ -10,7 +10,9 @@ use Rattle.mm_dump.specs.Sending.{Sent}
 use Rattle.mm_carry.specs.RunInput.{RunInput, run_input}
 use Rattle.mm_carry.specs.Step.{NeverRefused}
 use Rattle.mm_carry.specs.Ending.{IsCarriedOut, IsHalted}
-use Rattle.mm_exec.specs.Flying.{Flies, FliesNot, HasNoPlan}
+use Rattle.mm_exec.specs.Flying.{FliesFor, FliesNotFor, HasNoPlan}
+use Rattle.mm_planner.specs.declared.goal.Goal.{Goal}
+use Rattle.mm_planner.specs.declared.goal.Goal.TheVariants.{Least}
 use Rattle.mm_run.specs.declared.printed.Printed.{Printed}
 use Rattle.mm_run.specs.Printed.{TellsAll, TellsEnd}
 use Rattle.mm_run.specs.Texts.{SaysStart, SaysSourcesAndLinks}
@@ -38,52 +40,53 @@ failed link = link.failed
 abbrev pub scripted : Dumping → Table → Holdings → List ScriptedSource → RunInput
 scripted problem plan memory sources = run_input problem plan 0 memory (map gives sources)
 
--- the plan of the sheet was carried out, and no text of it is printed; or without a sheet, a plan was made, printed and
--- carried out
-unfoldable pub IsFlown : Option SheetRows → Dumping → Holdings → List ScriptedSource → List ScriptedLink → Holdings
+-- the plan of the sheet was carried out, and no text of it is printed; or without a sheet, a plan was made for this goal,
+-- printed and carried out
+unfoldable pub IsFlown : Goal → Option SheetRows → Dumping → Holdings → List ScriptedSource → List ScriptedLink → Holdings
     → Flown ScriptedSource ScriptedLink → Type 0
-IsFlown (Some sheet) problem memory sources links left flown = (flown.sheet.items ≡ [])
+IsFlown goal (Some sheet) problem memory sources links left flown = (flown.sheet.items ≡ [])
     × IsCarriedOut sent failed (scripted problem sheet.plan memory sources) sheet.plan links left
     (map gives flown.sources.items) flown.links.items flown.report
-IsFlown None problem memory sources links left flown =
-    Flies sent failed problem 0 memory (map gives sources) links left flown (map gives flown.sources.items)
+IsFlown goal None problem memory sources links left flown =
+    FliesFor goal sent failed problem 0 memory (map gives sources) links left flown (map gives flown.sources.items)
 
 -- the run of the sheet's plan did not begin, or was halted, and no text of the plan is printed; or without a sheet,
 -- this is so of a plan that was made and printed, or there was no memory to plan
-unfoldable pub IsNotFlown : Option SheetRows → Dumping → Holdings → List ScriptedSource → List ScriptedLink → Holdings
+unfoldable pub IsNotFlown : Goal → Option SheetRows → Dumping → Holdings → List ScriptedSource → List ScriptedLink → Holdings
     → FlyHalted ScriptedSource ScriptedLink → Type 0
-IsNotFlown (Some sheet) problem memory sources links left ended = (ended.sheet.items ≡ [])
+IsNotFlown goal (Some sheet) problem memory sources links left ended = (ended.sheet.items ≡ [])
     × IsHalted sent failed (scripted problem sheet.plan memory sources) sheet.plan sources links left ended.halted
     (map gives ended.halted.sources.items)
-IsNotFlown None problem memory sources links left ended =
-    FliesNot sent failed problem 0 memory sources (map gives sources) links left ended
+IsNotFlown goal None problem memory sources links left ended =
+    FliesNotFor goal sent failed problem 0 memory sources (map gives sources) links left ended
     (map gives ended.halted.sources.items)
     ⊎ HasNoPlan memory sources links left ended
 
 -- the run was carried out, and this is printed
-pub record EndsWhole (sheet : Option SheetRows) (problem : Dumping) (memory : Holdings) (sources : List ScriptedSource)
+pub record EndsWhole (goal : Goal) (sheet : Option SheetRows) (problem : Dumping) (memory : Holdings) (sources : List ScriptedSource)
     (links : List ScriptedLink) (p : Printed) : Type 0 where
   pub left : Holdings
   pub flown : Flown ScriptedSource ScriptedLink
-  pub is_flown : IsFlown sheet problem memory sources links left flown
+  pub is_flown : IsFlown goal sheet problem memory sources links left flown
   pub tells : TellsAll flown.sheet.items flown.report p
 
 -- the run did not begin, or was halted, though never since a store refused a packet, and this is printed
-pub record EndsEarly (sheet : Option SheetRows) (problem : Dumping) (memory : Holdings) (sources : List ScriptedSource)
+pub record EndsEarly (goal : Goal) (sheet : Option SheetRows) (problem : Dumping) (memory : Holdings) (sources : List ScriptedSource)
     (links : List ScriptedLink) (p : Printed) : Type 0 where
   pub left : Holdings
   pub ended : FlyHalted ScriptedSource ScriptedLink
-  pub not_flown : IsNotFlown sheet problem memory sources links left ended
+  pub not_flown : IsNotFlown goal sheet problem memory sources links left ended
   pub never_refused : NeverRefused ended.halted.cause
   pub tells : TellsEnd ended.sheet.items ended.halted.cause ended.halted.report p
 
 -- how the run ended, and what is printed of it
-abbrev pub RunEnds : Option SheetRows → Dumping → Holdings → List ScriptedSource → List ScriptedLink → Printed → Type 0
-RunEnds sheet problem memory sources links p = EndsWhole sheet problem memory sources links p ⊎ EndsEarly sheet problem
-    memory sources links p
+abbrev pub RunEnds : Goal → Option SheetRows → Dumping → Holdings → List ScriptedSource → List ScriptedLink → Printed
+    → Type 0
+RunEnds goal sheet problem memory sources links p =
+    EndsWhole goal sheet problem memory sources links p ⊎ EndsEarly goal sheet problem memory sources links p
 
--- what is printed of the run that the texts say: of the plan of a text, or of one that is made
-pub record PrintsRun (plan : Option (List ℕ)) (setup forecast sources_text links_text : List ℕ)
+-- what is printed of the run that the texts say: of the plan of a text, or of one that is made for this goal
+pub record PrintsRun (goal : Goal) (plan : Option (List ℕ)) (setup forecast sources_text links_text : List ℕ)
     (p : Printed) : Type 0 where
   pub problem : Dumping
   pub memory : Holdings
@@ -93,12 +96,12 @@ pub record PrintsRun (plan : Option (List ℕ)) (setup forecast sources_text lin
   pub sources : List ScriptedSource
   pub links : List ScriptedLink
   pub sides_say : SaysSourcesAndLinks sources_text links_text opening sources links
-  pub ended : RunEnds sheet problem (opened_with memory opening) sources links p
+  pub ended : RunEnds goal sheet problem (opened_with memory opening) sources links p
 
 -- what is printed of the run that the five texts say
 abbrev pub Runs : List ℕ → List ℕ → List ℕ → List ℕ → List ℕ → Printed → Type 0
-Runs setup forecast plan sources links p = PrintsRun (Some plan) setup forecast sources links p
+Runs setup forecast plan sources links p = PrintsRun Least (Some plan) setup forecast sources links p
 
 -- what is printed of the plan for the first two of four texts, and of its run
 abbrev pub FliesBy : List ℕ → List ℕ → List ℕ → List ℕ → Printed → Type 0
-FliesBy setup forecast sources links p = PrintsRun None setup forecast sources links p
+FliesBy setup forecast sources links p = PrintsRun Least None setup forecast sources links p

@@ -3,6 +3,7 @@ ghost use Rattle.std.specs.Prelude.{◌≡◌, ◌-◌, ◌<◌, ◌^◌, Option
 ghost use Rattle.mm_carry.specs.Course.{AreWithinLimits};
 ghost use Rattle.mm_carry.specs.Step.{NeverRefused};
 ghost use Rattle.mm_record.specs.Supplies.{WhateverComes};
+ghost use Rattle.mm_planner.specs.declared.goal.Goal.{Goal};
 ghost use Rattle.mm_run.specs.Types.{SheetRows};
 ghost use Rattle.mm_run.specs.Prepared.{IsPlanBy, text_of_plan};
 ghost use Rattle.mm_run.specs.Runs.{gives, IsFlown, IsNotFlown};
@@ -31,9 +32,10 @@ fn fly_given<R: Threads + Wait + Sync>(
     links: Vec<ScriptedLink>,
 ) -> FlyResult<ScriptedSource, ScriptedLink>
     requires links { All (λ l. l.failed < 2 ^ 64 - 1) links.items }
-    ensures flown { IfOk result (IsFlown (Some sheet.now) problem.now memory.old sources.items links.items memory.new) }
-    ensures not_flown { IfErr result (IsNotFlown (Some sheet.now) problem.now memory.old sources.items links.items
-        memory.new) }
+    ensures flown { (goal : Goal) → IfOk result (IsFlown goal (Some sheet.now) problem.now memory.old sources.items
+        links.items memory.new) }
+    ensures not_flown { (goal : Goal) → IfErr result (IsNotFlown goal (Some sheet.now) problem.now memory.old
+        sources.items links.items memory.new) }
     ensures flown_text { IfOk result (λ flown. flown.sheet.items ≡ []) }
     ensures not_flown_text { IfErr result (λ ended. ended.sheet.items ≡ []) }
     ensures far { IfErr result (λ ended. WhateverComes (λ _ _. Unit {0}) (λ s _. gives s)
@@ -62,10 +64,10 @@ pub(crate) fn fly_plan<R: Threads + Wait + Sync>(
     links: Vec<ScriptedLink>,
 ) -> FlyResult<ScriptedSource, ScriptedLink>
     requires links { All (λ l. l.failed < 2 ^ 64 - 1) links.items }
-    ensures flown { (sheet : Option SheetRows) → IsPlanBy sheet problem.now plan
-        → IfOk result (IsFlown sheet problem.now memory.old sources.items links.items memory.new) }
-    ensures not_flown { (sheet : Option SheetRows) → IsPlanBy sheet problem.now plan
-        → IfErr result (IsNotFlown sheet problem.now memory.old sources.items links.items memory.new) }
+    ensures flown { (goal : Goal) (sheet : Option SheetRows) → IsPlanBy goal sheet problem.now plan
+        → IfOk result (IsFlown goal sheet problem.now memory.old sources.items links.items memory.new) }
+    ensures not_flown { (goal : Goal) (sheet : Option SheetRows) → IsPlanBy goal sheet problem.now plan
+        → IfErr result (IsNotFlown goal sheet problem.now memory.old sources.items links.items memory.new) }
     ensures flown_text { IfOk result (λ flown. flown.sheet.items ≡ text_of_plan plan) }
     ensures not_flown_text { IfErr result (λ ended. ended.sheet.items ≡ text_of_plan plan) }
     ensures far { IfErr result (λ ended. WhateverComes (λ _ _. Unit {0}) (λ s _. gives s)

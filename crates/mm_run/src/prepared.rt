@@ -32,6 +32,7 @@ pub struct PreparedRun {
 
 impl PreparedRun {
     ghost use Rattle.std.specs.Prelude.{◌≡◌, ℕ, List, Option};
+    ghost use Rattle.mm_planner.specs.declared.goal.Goal.{Goal};
     ghost use Rattle.mm_run.specs.Prepared.{IsPrepared, plan_text_of};
     ghost use Rattle.mm_run.specs.Runs.{PrintsRun};
 
@@ -50,8 +51,9 @@ impl PreparedRun {
     /// Carries the plan out, its first step at the moment 1. What is printed of the run begins with the plan text.
     #[must_use]
     pub fn carry_out<R: Threads + Wait + Sync>(self, rt: &R, alloc: Global) -> Printed
-        ensures runs { (plan : Option (List ℕ)) (setup forecast sources links : List ℕ)
-            → IsPrepared plan setup forecast sources links self → PrintsRun plan setup forecast sources links result }
+        ensures runs { (goal : Goal) (plan : Option (List ℕ)) (setup forecast sources links : List ℕ)
+            → IsPrepared goal plan setup forecast sources links self
+            → PrintsRun goal plan setup forecast sources links result }
         ensures plan_text { result.sheet.items ≡ plan_text_of self }
     {
         let PreparedRun {

@@ -20,6 +20,7 @@ use mm_base::NoMemory;
 use mm_memory::Memory;
 use mm_packet::BlockPacket;
 use mm_plan::Sheet;
+use mm_planner::Goal;
 use std::alloc::Global;
 use std::sync::Wait;
 use std::thread::Threads;
@@ -39,13 +40,14 @@ fn prepare(
     alloc: Global,
     start: ProblemAndMemory,
     sheet: Option<Sheet>,
+    goal: Goal,
     sides: SourcesAndLinks,
 ) -> Result<PreparedRun, NoMemory>
     requires opened { AreOffered 0 start.memory.stores }
     requires few { AreFew sides.sources.items }
     requires unfailed { All (λ l. l.failed < 2 ^ 64 - 1) sides.links.items }
     ensures problem { IfOk result (λ run. run.problem ≡ start.problem) }
-    ensures plan { IfOk result (λ run. IsPlanBy sheet start.problem run.plan) }
+    ensures plan { IfOk result (λ run. IsPlanBy goal sheet start.problem run.plan) }
     ensures memory { IfOk result (λ run. run.memory ≡ opened_with start.memory sides.opening.items) }
     ensures sides { IfOk result (λ run. (run.sources ≡ sides.sources) × (run.links ≡ sides.links)) }
 {
@@ -62,7 +64,7 @@ fn prepare(
     constants_are();
     offer_all(alloc, &mut memory, opening.as_slice())?;
     let printed = Printed::reserved(alloc, given)?;
-    let plan = plan_by(alloc, &problem, sheet);
+    let plan = plan_by(alloc, &problem, sheet, goal);
     Ok(PreparedRun {
         problem,
         memory,
@@ -73,15 +75,16 @@ fn prepare(
     })
 }
 
-/// Reads and judges what the texts say of a run, and makes and prints a plan where there is no plan text. The run has
+/// Reads and judges what the texts say of a run, and makes a plan for the goal and prints it where there is no plan text. The run has
 /// not begun. Otherwise the first fault of the texts, in the order of the setup, the forecast, the plan text, its
 /// shape, the sources and the links.
 pub fn prepare_run(
     alloc: Global,
     texts: RunTexts<'_>,
     plan: Option<&[u8]>,
+    goal: Goal,
 ) -> Result<PreparedRun, Fault>
-    ensures prepared { IfOk result (IsPrepared (option_copied plan.entry)
+    ensures prepared { IfOk result (IsPrepared goal (option_copied plan.entry)
         texts.entry.setup.now texts.entry.forecast.now texts.entry.sources.now texts.entry.links.now) }
     ensures refused { IfRefused Fault.NoMemory result (IsFirstFault (option_copied plan.entry)
         texts.entry.setup.now texts.entry.forecast.now texts.entry.sources.now texts.entry.links.now) }
@@ -89,25 +92,26 @@ pub fn prepare_run(
     let start = read_problem_and_memory(alloc, texts.setup, texts.forecast)?;
     let sheet = read_plan(alloc, &start.problem, plan)?;
     let sides = read_sources_and_links(alloc, &start, texts.sources, texts.links)?;
-    let run = prepare(alloc, start, sheet, sides)?;
+    let run = prepare(alloc, start, sheet, goal, sides)?;
     Ok(run)
 }
 
 /// What is printed of the run that the texts say: the packets of step 0 are offered at the moment 0, and then the plan
-/// is carried out, its first step at the moment 1. It is the plan of the plan text, or where there is none, one that
-/// loses least is made and printed. Otherwise the first fault of the texts, as `prepare_run` has it.
+/// is carried out, its first step at the moment 1. It is the plan of the plan text, or where there is none, one is made
+/// for the goal and printed. Otherwise the first fault of the texts, as `prepare_run` has it.
 pub fn run_texts<R: Threads + Wait + Sync>(
     rt: &R,
     alloc: Global,
     texts: RunTexts<'_>,
     plan: Option<&[u8]>,
+    goal: Goal,
 ) -> Result<Printed, Fault>
-    ensures runs { IfOk result (PrintsRun (option_copied plan.entry)
+    ensures runs { IfOk result (PrintsRun goal (option_copied plan.entry)
         texts.entry.setup.now texts.entry.forecast.now texts.entry.sources.now texts.entry.links.now) }
     ensures refused { IfRefused Fault.NoMemory result (IsFirstFault (option_copied plan.entry)
         texts.entry.setup.now texts.entry.forecast.now texts.entry.sources.now texts.entry.links.now) }
 {
-    let run = prepare_run(alloc, texts, plan)?;
+    let run = prepare_run(alloc, texts, plan, goal)?;
     Ok(run.carry_out(rt, alloc))
 }
 
@@ -123,7 +127,7 @@ pub fn run_bytes<R: Threads + Wait + Sync>(
     ensures refused { IfRefused Fault.NoMemory result (IsRunFault texts.entry.setup.now texts.entry.forecast.now
         plan.now texts.entry.sources.now texts.entry.links.now) }
 {
-    run_texts(rt, alloc, texts, Some(plan))
+    run_texts(rt, alloc, texts, Some(plan), Goal::Least)
 }
 
 /// `run_texts` without a plan text.
@@ -137,5 +141,5 @@ pub fn fly_bytes<R: Threads + Wait + Sync>(
     ensures refused { IfRefused Fault.NoMemory result
         (IsFlyFault texts.entry.setup.now texts.entry.forecast.now texts.entry.sources.now texts.entry.links.now) }
 {
-    run_texts(rt, alloc, texts, None)
+    run_texts(rt, alloc, texts, None, Goal::Least)
 }

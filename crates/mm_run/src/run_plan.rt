@@ -3,7 +3,7 @@ ghost use Rattle.mm_run.specs.Prepared.{IsPlanBy};
 
 use mm_base::NoMemory;
 use mm_plan::Sheet;
-use mm_planner::{PrintedPlan, print_plan};
+use mm_planner::{Goal, PrintedPlan, print_plan_for};
 use mm_problem::Problem;
 use std::alloc::Global;
 
@@ -18,13 +18,18 @@ pub(crate) enum RunPlan {
     Unplanned,
 }
 
-/// The plan of the sheet, or without one a plan that is made and printed.
-pub(crate) fn plan_by(alloc: Global, problem: &Problem, sheet: Option<Sheet>) -> RunPlan
-    ensures { IsPlanBy sheet problem.now result }
+/// The plan of the sheet, or without one a plan that is made for the goal and printed.
+pub(crate) fn plan_by(
+    alloc: Global,
+    problem: &Problem,
+    sheet: Option<Sheet>,
+    goal: Goal,
+) -> RunPlan
+    ensures { IsPlanBy goal sheet problem.now result }
 {
     match sheet {
         Some(sheet) => RunPlan::Given(sheet),
-        None => match print_plan(alloc, problem) {
+        None => match print_plan_for(alloc, problem, goal) {
             Ok(printed) => RunPlan::Made(printed),
             Err(NoMemory) => RunPlan::Unplanned,
         },

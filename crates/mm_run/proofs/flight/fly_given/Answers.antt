@@ -6,7 +6,7 @@ use Rattle.mm_run.proofs.flight.fly_given.Goals as goal
 
 pub returns-in-Ok-clause-flown : goal.returns-in-Ok-clause-flown
 unfolding IsFlown
-returns-in-Ok-clause-flown g c = rw (c.with_sheet.ensures, ← c.plan.ensures) (
+returns-in-Ok-clause-flown g c = λ aim. rw (c.with_sheet.ensures, ← c.plan.ensures) (
   c.new-text.ensures.items,
   as_known gives c.args.sources.items c.in-Ok.ended.sources.items
       (λ given rest. IsCarriedOut sent failed (run_input c.args.problem.now c.plan.result.now 0 c.args.memory.now given)
@@ -16,7 +16,7 @@ returns-in-Ok-clause-flown g c = rw (c.with_sheet.ensures, ← c.plan.ensures) (
 
 pub returns-in-Err-clause-not_flown : goal.returns-in-Err-clause-not_flown
 unfolding IsNotFlown
-returns-in-Err-clause-not_flown g c = rw (← c.plan.ensures) (
+returns-in-Err-clause-not_flown g c = λ aim. rw (← c.plan.ensures) (
   c.new-text.ensures.items,
   as_known gives c.args.sources.items c.in-Err.halted.sources.items
       (λ given rest. IsHalted sent failed (run_input c.args.problem.now c.plan.result.now 0 c.args.memory.now given)

@@ -7,13 +7,14 @@ use Rattle.mm_run.specs.declared.prepared.PreparedRun.{PreparedRun}
 use Rattle.mm_run.specs.declared.printed.Printed.{Printed}
 use Rattle.mm_run.specs.Prepared.{IsPrepared}
 use Rattle.mm_run.specs.Runs.{PrintsRun, RunEnds, gives}
-use Rattle.mm_run.proofs.prepared.PreparedRun.carry_out.Goals as goal
+use Rattle.mm_planner.specs.declared.goal.Goal.{Goal}
+use Rattle.mm_run.proofs.prepared.PreparedRun.carry_out.Goals as goals
 
 -- what is printed of a run that was prepared, by how it ended
-prints : {plan : Option (List ℕ)} {setup forecast sources links : List ℕ} (prepared : PreparedRun) (p : Printed)
-    → (run : IsPrepared plan setup forecast sources links prepared)
-    → RunEnds run.sheet prepared.problem prepared.memory prepared.sources.items prepared.links.items p
-    → PrintsRun plan setup forecast sources links p
+prints : {goal : Goal} {plan : Option (List ℕ)} {setup forecast sources links : List ℕ} (prepared : PreparedRun) (p : Printed)
+    → (run : IsPrepared goal plan setup forecast sources links prepared)
+    → RunEnds goal run.sheet prepared.problem prepared.memory prepared.sources.items prepared.links.items p
+    → PrintsRun goal plan setup forecast sources links p
 prints prepared p run ends = record {
   problem = prepared.problem;
   memory = run.memory;
@@ -26,21 +27,21 @@ prints prepared p run ends = record {
   ended = rw (← run.opened) ends;
 }
 
-pub returns-in-Ok-clause-runs : goal.returns-in-Ok-clause-runs
-returns-in-Ok-clause-runs g c = λ plan setup forecast sources links run.
+pub returns-in-Ok-clause-runs : goals.returns-in-Ok-clause-runs
+returns-in-Ok-clause-runs g c = λ goal plan setup forecast sources links run.
     prints c.args.self c.whole.result run (inl (record {
       left = c.fly_plan.new.memory;
       flown = c.in-Ok.field-0;
-      is_flown = c.in-Ok.ensures.flown run.sheet run.plan_is;
+      is_flown = c.in-Ok.ensures.flown goal run.sheet run.plan_is;
       tells = c.whole.ensures;
     }))
 
-pub returns-clause-runs : goal.returns-clause-runs
-returns-clause-runs g c = λ plan setup forecast sources links run.
+pub returns-clause-runs : goals.returns-clause-runs
+returns-clause-runs g c = λ goal plan setup forecast sources links run.
     prints c.args.self c.stopped.result run (inr (record {
       left = c.fly_plan.new.memory;
       ended = c.in-Err.field-0;
-      not_flown = c.in-Err.ensures.not_flown run.sheet run.plan_is;
+      not_flown = c.in-Err.ensures.not_flown goal run.sheet run.plan_is;
       never_refused = as_known gives c.args.self.sources.items c.in-Err.field-0.halted.sources.items
           (λ given rest. AreWithinLimits (length c.args.self.problem.windows) c.args.self.memory.stores given
           → NeverRefused c.in-Err.field-0.halted.cause)

@@ -1,5 +1,5 @@
 use Rattle.std.proofs.Common.{inr, arith}
-use Rattle.mm_exec.proofs.flying.fly.Goals as goal
+use Rattle.mm_exec.proofs.flying.fly_for.Goals as goal
 
 pub returns-in-Err-clause-not_flown : goal.returns-in-Err-clause-not_flown
 returns-in-Err-clause-not_flown g c = inr (c.unplanned.ensures.no_plan c.args.memory.now)
