@@ -30,9 +30,9 @@ are_losses q x told few places each rest =
     omega (arith, length-append lost zeros, length-replicate {A = ℕ} (MAX_STORES - n) 0) in
     ext_get_or 0 told (lost ++ zeros) all (λ s within. elim (cases_lt s n) [
       | inl lt ↦ each s lt ∙ sym (get_or_append_left lost zeros 0 s (omega arith)
-      ∙ get_or-map-range_with_len (store_loss q x) 0 n s s 0 lt (omega arith))
+          ∙ get_or-map-range_with_len (store_loss q x) 0 n s s 0 lt (omega arith))
       | inr past ↦ rest s past (omega arith) ∙ sym (get_or-append_right lost zeros n s 0 lost_length past
-      ∙ get_or-replicate (MAX_STORES - n) (s - n) 0 0 (omega arith))
+          ∙ get_or-replicate (MAX_STORES - n) (s - n) 0 0 (omega arith))
     ])
 
 -- their sum is what all stores lose

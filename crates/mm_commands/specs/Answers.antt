@@ -17,6 +17,7 @@ use Rattle.mm_run.specs.declared.printed.Outcome.{Outcome as Ended}
 use Rattle.mm_run.specs.declared.printed.Outcome.TheVariants as ended
 use Rattle.mm_run.specs.declared.prepared.PreparedRun.{PreparedRun}
 use Rattle.mm_run.specs.declared.printed.Printed.{Printed}
+use Rattle.mm_planner.specs.declared.goal.Goal.TheVariants as goal
 use Rattle.mm_run.specs.Prepared.{IsPrepared}
 use Rattle.mm_run.specs.Printed.{text_of}
 use Rattle.mm_run.specs.Runs.{PrintsRun}
@@ -101,12 +102,12 @@ given_plan None texts = None
 
 -- what is printed of the run of the plan that is given, or of one that is made where none is
 abbrev pub FliesTexts : Option (List ℕ) → TaskTexts → Printed → Type 0
-FliesTexts plan texts printed = PrintsRun plan texts.setup.items texts.forecast.items texts.sources.items
+FliesTexts plan texts printed = PrintsRun goal.Least plan texts.setup.items texts.forecast.items texts.sources.items
     texts.links.items printed
 
 -- the run is that of the texts, of the plan that is given, or of one that is made where none is
 abbrev pub PreparesTexts : Option (List ℕ) → TaskTexts → PreparedRun → Type 0
-PreparesTexts plan texts run = IsPrepared plan texts.setup.items texts.forecast.items texts.sources.items
+PreparesTexts plan texts run = IsPrepared goal.Least plan texts.setup.items texts.forecast.items texts.sources.items
     texts.links.items run
 
 -- the text is what is printed of such a run, with its status

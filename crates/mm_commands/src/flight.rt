@@ -20,6 +20,7 @@ use crate::status::{Status, Unwritten};
 use crate::tasks::refuse;
 use crate::texts::TaskTexts;
 use mm_command_line::{FlightFiles, Task};
+use mm_planner::Goal;
 use mm_run::{Outcome, PreparedRun, Printed, RunTexts, prepare_run};
 use std::alloc::Global;
 use std::io::{self, Write};
@@ -53,7 +54,7 @@ fn prepared(
         sources: &texts.sources,
         links: &texts.links,
     };
-    prepare_run(alloc, run, given_plan(files.plan, texts))
+    prepare_run(alloc, run, given_plan(files.plan, texts), Goal::Least)
 }
 
 // The run that a task asks for, whose files have these texts.

@@ -31,12 +31,7 @@ fn are_of_first(problem: &Problem, stores: usize, stretches: &[Stretch]) -> bool
 
 /// Whether stretches and counted steps are a cut of that many of the first stores.
 #[must_use]
-pub fn is_first_cut(
-    problem: &Problem,
-    stores: usize,
-    stretches: &[Stretch],
-    counts: &[u32],
-) -> bool
+pub fn is_first_cut(problem: &Problem, stores: usize, stretches: &[Stretch], counts: &[u32]) -> bool
     ensures { IsTrue result ↔ IsFirstCut stores problem.now stretches.now counts.now }
 {
     first_bad(problem, stretches).is_none()

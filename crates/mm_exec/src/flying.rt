@@ -144,5 +144,14 @@ pub fn fly<S: AnySource + Send + Drop, L: Link + Send + Drop, R: Threads + Wait 
         (λ given left. AreWithinLimits (length problem.now.windows) memory.old.stores given
         → NeverRefused ended.halted.cause)) }
 {
-    fly_for(rt, alloc, memory, problem, Goal::Least, sources, links, base)
+    fly_for(
+        rt,
+        alloc,
+        memory,
+        problem,
+        Goal::Least,
+        sources,
+        links,
+        base,
+    )
 }

@@ -24,4 +24,6 @@ pub use mm_cut::{Fault, check_bytes};
 pub use nodes::{SINK, SOURCE};
 pub use planner::{Planned, plan, plan_in_order};
 pub use sheets::{sheet, sheet_in_order, store_ids};
-pub use texts::{PrintedPlan, plan_bytes, plan_in_order_bytes, print_plan, print_plan_for, print_plan_in_order};
+pub use texts::{
+    PrintedPlan, plan_bytes, plan_in_order_bytes, print_plan, print_plan_for, print_plan_in_order,
+};

@@ -19,12 +19,7 @@ pub(crate) enum RunPlan {
 }
 
 /// The plan of the sheet, or without one a plan that is made for the goal and printed.
-pub(crate) fn plan_by(
-    alloc: Global,
-    problem: &Problem,
-    sheet: Option<Sheet>,
-    goal: Goal,
-) -> RunPlan
+pub(crate) fn plan_by(alloc: Global, problem: &Problem, sheet: Option<Sheet>, goal: Goal) -> RunPlan
     ensures { IsPlanBy goal sheet problem.now result }
 {
     match sheet {

@@ -1,9 +1,8 @@
 //! The words of the command line.
 
 use std::alloc::AllocGlobal;
-use std::env;
 use std::env::Env;
-use std::io;
+use std::{env, io};
 use thiserror::Error;
 
 /// Words that ask for nothing, and which words there are.
@@ -17,7 +16,11 @@ pub fn words<R: Env + AllocGlobal>(rt: &R) -> io::Result<Vec<String>> {
 }
 
 /// What a word names in a table; where it names nothing, the text tells which words there are.
-pub fn named<T: Copy>(table: &[(&str, T)], word: &str, told: &'static str) -> Result<T, UnknownWords> {
+pub fn named<T: Copy>(
+    table: &[(&str, T)],
+    word: &str,
+    told: &'static str,
+) -> Result<T, UnknownWords> {
     for (name, value) in table {
         if *name == word {
             return Ok(*value);

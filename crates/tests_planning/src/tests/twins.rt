@@ -48,7 +48,14 @@ fn shown_loss(rt: &impl Runtime, problem: &Problem, planned: Result<Planned, NoM
     let (plan, shown) = (&planned.plan, &planned.certificate);
     let loss = shown.loss();
     assert!(rt; plan.has_shape(problem) && loss < 1 << 63);
-    let verdict = verify(problem, plan, shown.cut(), shown.by_channels(), loss, loss as i64);
+    let verdict = verify(
+        problem,
+        plan,
+        shown.cut(),
+        shown.by_channels(),
+        loss,
+        loss as i64,
+    );
     assert!(rt; verdict == Verdict::Least(loss));
     loss
 }

@@ -3,6 +3,7 @@
 
 use crate::tests::runs::trials::ONE_STORE;
 use mm_base::lines::{cut_word, first_line};
+use mm_exec::Goal;
 use mm_problem::Setup;
 use mm_run::{Given, RunTexts, Unstored, Untaken, run_texts};
 use std::alloc::Global;
@@ -169,7 +170,7 @@ fn is_as_plain<R: Abort + AllocGlobal + Threads + Wait + Sync>(
         sources,
         links: LINKS,
     };
-    let printed = run_texts(rt, rt.alloc(), texts, None).expect(rt, "texts");
+    let printed = run_texts(rt, rt.alloc(), texts, None, Goal::Least).expect(rt, "texts");
     let Given {
         unstored,
         untaken,
@@ -250,7 +251,9 @@ fn given_by<R: Abort + Threads + Wait + Sync>(rt: &R, alloc: Global, sources: &s
         sources: sources.as_bytes(),
         links: LINKS,
     };
-    run_texts(rt, alloc, texts, None).expect(rt, "texts").given
+    run_texts(rt, alloc, texts, None, Goal::Least)
+        .expect(rt, "texts")
+        .given
 }
 
 #[test]

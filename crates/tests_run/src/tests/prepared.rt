@@ -1,6 +1,7 @@
 //! Runs from texts in two steps: the plan text before the run, and then what the run prints.
 
 use crate::tests::runs::trials::{FIRST_RUN, TWO_PASSES};
+use mm_exec::Goal;
 use mm_run::{PreparedRun, RunTexts, prepare_run};
 use std::alloc::Global;
 use std::process::Abort;
@@ -36,7 +37,7 @@ fn prepared(rt: &impl Abort, alloc: Global, links: &str, plan: Option<&str>) -> 
         links: links.as_bytes(),
     };
     let plan = plan.map(str::as_bytes);
-    prepare_run(alloc, texts, plan).expect(rt, "texts")
+    prepare_run(alloc, texts, plan, Goal::Least).expect(rt, "texts")
 }
 
 // Links, the plan text where it is given, and what is printed: the plan text before the run, then the report and the
