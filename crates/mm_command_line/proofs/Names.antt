@@ -5,6 +5,8 @@ use Rattle.std.specs.List.{All, list_any, starts_with}
 use Rattle.std.proofs.lemmas.List.Elements.{All-cons, All-head, All-tail}
 use Rattle.mm_command_line.specs.Lines.{IsCommandLine, IsFileName, IsTaskLine, before_dashes, command_words}
 use Rattle.mm_command_line.specs.Lines.{flight_spelling, is_dashes, parts_of, plan_names, without_dashes}
+use Rattle.mm_command_line.specs.declared.task.FlightPlan.{FlightPlan}
+use Rattle.mm_command_line.specs.declared.task.FlightPlan.TheVariants.{Given, Made}
 use Rattle.mm_command_line.specs.declared.task.Task.{Task}
 use Rattle.mm_command_line.specs.declared.task.Task.TheVariants.{Plan, Check, Chart, Table, Sensitivity, Fly, Ask, Read}
 use Rattle.mm_command_line.proofs.Walking.{is_value}
@@ -43,12 +45,12 @@ named : (command : Text) (names : List Text) → starts_with nat_eq command (cod
 named command names plain all =
     All-cons IsFileName command names (λ dashed. absurd (true≢false (sym dashed ∙ plain))) all
 
-named_flight : (setup forecast sources links : Text) (plan : Option (Bor Text))
+named_flight : (setup forecast sources links : Text) (plan : FlightPlan)
     → All IsFileName (drop 1 (flight_spelling setup forecast sources links plan))
     → All IsFileName (flight_spelling setup forecast sources links plan)
-named_flight setup forecast sources links None names =
+named_flight setup forecast sources links (Made in_order) names =
     named (codes "fly") (setup ∷ forecast ∷ sources ∷ links ∷ []) refl names
-named_flight setup forecast sources links (Some plan) names =
+named_flight setup forecast sources links (Given plan) names =
     named (codes "run") (setup ∷ forecast ∷ plan.now ∷ sources ∷ links ∷ []) refl names
 
 -- where no file is spelled like a flag, no word of a command is

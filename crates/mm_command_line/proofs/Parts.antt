@@ -1,8 +1,13 @@
 -- The flags among the words of a line.
 use Rattle.std.proofs.Common.{◌≡◌, ℕ, Bool, Bor, arith, cond, map, slice_index_or, true, false, refl, ap, subst, length}
-use Rattle.std.proofs.Common.{List, [], ◌∷◌, codes}
+use Rattle.std.proofs.Common.{List, [], ◌∷◌, ◌∙◌, ◌||◌, Option, Some, None, codes, sym, true≢false}
 use Rattle.std.specs.Str.{bytes_eq}
-use Rattle.mm_command_line.specs.Lines.{command_words, flag_of, flags_if, order_flag, worth_flag}
+use Rattle.mm_command_line.specs.Lines.{IsOutput, command_words, flag_of, flags_if, flight_flags, flight_spelling}
+use Rattle.mm_command_line.specs.Lines.{order_flag, output_names, output_of, worth_flag}
+use Rattle.mm_command_line.specs.declared.task.FlightFiles.{FlightFiles}
+use Rattle.mm_command_line.specs.declared.task.FlightPlan.{FlightPlan}
+use Rattle.mm_command_line.specs.declared.task.FlightPlan.TheVariants.{Given, Made}
+use Rattle.mm_command_line.specs.declared.task.PlanFiles.{PlanFiles}
 use Rattle.mm_command_line.specs.declared.task.Task.{Task}
 use Rattle.mm_command_line.specs.declared.task.Task.TheVariants.{Plan, Check, Chart, Table, Sensitivity, Fly, Ask, Read}
 
@@ -33,11 +38,16 @@ other_given (first ∷ next ∷ rest) flag is one other same = omega (arith, one
 abbrev pub own_flags : List Text → List Text
 own_flags [] = []
 own_flags (command ∷ names) =
-    cond (bytes_eq command (codes "plan")) (order_flag ∷ [])
+    cond (bytes_eq command (codes "plan") || bytes_eq command (codes "fly")) (order_flag ∷ [])
     (cond (bytes_eq command (codes "chart")) (worth_flag ∷ []) [])
 
 abbrev pub HasOwnFlags : Task → List Text → Type 0
 HasOwnFlags task words = (is : Bool) × (flag_of task ≡ cond is (own_flags words) [])
+
+own_flight : (setup forecast sources links : Text) (plan : FlightPlan)
+    → (is : Bool) × (flight_flags plan ≡ cond is (own_flags (flight_spelling setup forecast sources links plan)) [])
+own_flight setup forecast sources links (Given plan) = (false, refl)
+own_flight setup forecast sources links (Made in_order) = (in_order, refl)
 
 has_own_flags : (task : Task) → HasOwnFlags task (command_words task)
 has_own_flags (Plan setup forecast in_order output) = (in_order, refl)
@@ -45,7 +55,7 @@ has_own_flags (Check files) = (false, refl)
 has_own_flags (Chart files worth output) = (worth, refl)
 has_own_flags (Table files output) = (false, refl)
 has_own_flags (Sensitivity setup forecast) = (false, refl)
-has_own_flags (Fly files) = (false, refl)
+has_own_flags (Fly f) = own_flight f.setup.now f.forecast.now f.sources.now f.links.now f.plan
 has_own_flags (Ask setup requests) = (false, refl)
 has_own_flags (Read packets) = (false, refl)
 
@@ -57,3 +67,65 @@ plan_flags task names same = subst (HasOwnFlags task) same (has_own_flags task)
 pub chart_flags : (task : Task) (names : List Text) → command_words task ≡ codes "chart" ∷ names
     → (is : Bool) × (flag_of task ≡ flags_if is worth_flag)
 chart_flags task names same = subst (HasOwnFlags task) same (has_own_flags task)
+
+pub fly_flags : (task : Task) (names : List Text) → command_words task ≡ codes "fly" ∷ names
+    → (is : Bool) × (flag_of task ≡ flags_if is order_flag)
+fly_flags task names same = subst (HasOwnFlags task) same (has_own_flags task)
+
+-- ---- the output that goes with a command
+
+abbrev pub has_output : List Text → Bool
+has_output [] = false
+has_output (command ∷ names) =
+    bytes_eq command (codes "plan") || bytes_eq command (codes "chart") || bytes_eq command (codes "table")
+
+no_output : (task : Task) → has_output (command_words task) ≡ false → output_of task ≡ None
+no_output (Plan setup forecast in_order output) none = absurd (true≢false none)
+no_output (Check files) none = refl
+no_output (Chart files worth output) none = absurd (true≢false none)
+no_output (Table files output) none = absurd (true≢false none)
+no_output (Sensitivity setup forecast) none = refl
+no_output (Fly files) none = refl
+no_output (Ask setup requests) none = refl
+no_output (Read packets) none = refl
+
+-- a task of the words of a command without an output has none
+pub outputs_none : (task : Task) (words : List Text) (names : List Text) (output : Option (Bor Text))
+    → command_words task ≡ words → has_output words ≡ false → IsOutput names (output_of task) → IsOutput names output
+    → output ≡ None
+outputs_none task words names None same none own given = refl
+outputs_none task words names (Some name) same none own given =
+    let is = no_output task (ap has_output same ∙ none) in
+    let empty : names ≡ [] = own.same ∙ ap output_names is in
+    let one = ap length (sym given.same ∙ empty) in
+    absurd (omega (arith, one))
+
+-- a task of the words of a command without a flag has none
+pub flags_none : (task : Task) (words : List Text) → command_words task ≡ words → own_flags words ≡ [] → flag_of task ≡ []
+flags_none task words same none = by (subst (HasOwnFlags task) same (has_own_flags task))
+  where
+    by : HasOwnFlags task words → flag_of task ≡ []
+    by (true, is) = is ∙ none
+    by (false, is) = is
+
+-- ---- the commands without an option
+
+-- words of a command with which no option goes
+pub record AreBare (words : List Text) : Type 0 where
+  pub flags : own_flags words ≡ []
+  pub output : has_output words ≡ false
+
+pub bare : (task : Task)
+    → ((setup forecast : Bor Text) (in_order : Bool) (output : Option (Bor Text))
+    → task ≡ Plan setup forecast in_order output → ⊥)
+    → ((files : PlanFiles) (worth : Bool) (output : Option (Bor Text)) → task ≡ Chart files worth output → ⊥)
+    → ((files : PlanFiles) (output : Option (Bor Text)) → task ≡ Table files output → ⊥)
+    → ((files : FlightFiles) → task ≡ Fly files → ⊥) → AreBare (command_words task)
+bare (Plan setup forecast in_order output) plan chart table fly = absurd (plan setup forecast in_order output refl)
+bare (Check files) plan chart table fly = record { flags = refl; output = refl }
+bare (Chart files worth output) plan chart table fly = absurd (chart files worth output refl)
+bare (Table files output) plan chart table fly = absurd (table files output refl)
+bare (Sensitivity setup forecast) plan chart table fly = record { flags = refl; output = refl }
+bare (Fly files) plan chart table fly = absurd (fly files refl)
+bare (Ask setup requests) plan chart table fly = record { flags = refl; output = refl }
+bare (Read packets) plan chart table fly = record { flags = refl; output = refl }

@@ -13,6 +13,8 @@ use Rattle.clap.proofs.OnLiterals.{clap_on_literals}
 use Rattle.clap.proofs.WalkLemmas.{walk_stopped}
 use Rattle.mm_command_line.specs.Commands.{Entry, app_by, commands, line_found, tool}
 use Rattle.mm_command_line.specs.Lines.{IsCommandLine, IsFileName, command_words, flight_spelling, plan_names}
+use Rattle.mm_command_line.specs.declared.task.FlightPlan.{FlightPlan}
+use Rattle.mm_command_line.specs.declared.task.FlightPlan.TheVariants.{Given, Made}
 use Rattle.mm_command_line.specs.declared.task.Task.{Task}
 use Rattle.mm_command_line.specs.declared.task.Task.TheVariants.{Plan, Check, Chart, Table, Sensitivity, Fly, Ask, Read}
 use Rattle.mm_command_line.proofs.Walking.{end_of, level_passing, level_places, rows_placed}
@@ -169,10 +171,10 @@ row_read word files names entry known same = record {
   found = row_finds (by word) entry files known names same;
 }
 
-read_flight : (setup forecast sources links : Text) (plan : Option (Bor Text)) → All IsFileName (drop 1 (flight_spelling setup forecast sources links plan))
+read_flight : (setup forecast sources links : Text) (plan : FlightPlan) → All IsFileName (drop 1 (flight_spelling setup forecast sources links plan))
     → IsRead (flight_spelling setup forecast sources links plan)
-read_flight setup forecast sources links None names = row_read (codes "fly") (setup ∷ forecast ∷ sources ∷ links ∷ []) names _ refl refl
-read_flight setup forecast sources links (Some plan) names = row_read (codes "run") (setup ∷ forecast ∷ plan.now ∷ sources ∷ links ∷ []) names _ refl refl
+read_flight setup forecast sources links (Made in_order) names = row_read (codes "fly") (setup ∷ forecast ∷ sources ∷ links ∷ []) names _ refl refl
+read_flight setup forecast sources links (Given plan) names = row_read (codes "run") (setup ∷ forecast ∷ plan.now ∷ sources ∷ links ∷ []) names _ refl refl
 
 read_task : (task : Task) → All IsFileName (drop 1 (command_words task)) → IsRead (command_words task)
 read_task (Plan setup forecast in_order output) names = row_read (codes "plan") (setup.now ∷ forecast.now ∷ []) names _ refl refl

@@ -6,6 +6,8 @@ use Rattle.std.specs.Borrow.{Bor}
 use Rattle.mm_command_line.specs.declared.options.Line.{Line}
 use Rattle.mm_command_line.specs.declared.options.Next.{Next}
 use Rattle.mm_command_line.specs.declared.options.Next.TheVariants.{Command, Any, Output, File}
+use Rattle.mm_command_line.specs.declared.task.FlightPlan.{FlightPlan}
+use Rattle.mm_command_line.specs.declared.task.FlightPlan.TheVariants.{Given, Made}
 use Rattle.mm_command_line.specs.declared.task.PlanFiles.{PlanFiles}
 use Rattle.mm_command_line.specs.declared.task.Task.{Task}
 use Rattle.mm_command_line.specs.declared.task.Task.TheVariants.{Plan, Check, Chart, Table, Sensitivity, Fly, Ask, Read}
@@ -15,10 +17,10 @@ abbrev pub plan_names : PlanFiles → List (List ℕ)
 plan_names files = files.setup.now ∷ files.forecast.now ∷ files.plan.now ∷ []
 
 -- the words of a run: with the file of a plan, or with none
-abbrev pub flight_spelling : List ℕ → List ℕ → List ℕ → List ℕ → Option (Bor (List ℕ)) → List (List ℕ)
-flight_spelling setup forecast sources links (Some plan) =
+abbrev pub flight_spelling : List ℕ → List ℕ → List ℕ → List ℕ → FlightPlan → List (List ℕ)
+flight_spelling setup forecast sources links (Given plan) =
     codes "run" ∷ setup ∷ forecast ∷ plan.now ∷ sources ∷ links ∷ []
-flight_spelling setup forecast sources links None =
+flight_spelling setup forecast sources links (Made in_order) =
     codes "fly" ∷ setup ∷ forecast ∷ sources ∷ links ∷ []
 
 -- the words of a task without its flag and its output: its command, and the names of its files
@@ -39,7 +41,7 @@ output_of (Chart files worth output) = output
 output_of (Table files output) = output
 output_of task = None
 
--- the flag of `plan`: the stores are served in the setup's order
+-- the flag of `plan` and `fly`: the stores are served in the setup's order
 abbrev pub order_flag : List ℕ
 order_flag = codes "--in-order"
 
@@ -51,10 +53,16 @@ worth_flag = codes "--worth"
 abbrev pub flags_if : Bool → List ℕ → List (List ℕ)
 flags_if given flag = if given then flag ∷ [] else []
 
+-- the flag of a run: a plan that is made may serve the stores in order
+abbrev pub flight_flags : FlightPlan → List (List ℕ)
+flight_flags (Given plan) = []
+flight_flags (Made in_order) = flags_if in_order order_flag
+
 -- the flag of a task, where it has one
 abbrev pub flag_of : Task → List (List ℕ)
 flag_of (Plan setup forecast in_order output) = flags_if in_order order_flag
 flag_of (Chart files worth output) = flags_if worth worth_flag
+flag_of (Fly f) = flight_flags f.plan
 flag_of task = []
 
 -- the word is no flag: it begins with `-` only if it is `-` alone

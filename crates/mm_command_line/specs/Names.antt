@@ -1,12 +1,20 @@
 -- The names of a task's files.
-use Rattle.std.specs.Prelude.{Some, None}
+use Rattle.std.specs.Prelude.{ℕ, List, Option, Some, None}
+use Rattle.std.specs.Borrow.{Bor}
 use Rattle.mm_command_line.specs.declared.task.FileNames.{FileNames}
+use Rattle.mm_command_line.specs.declared.task.FlightPlan.{FlightPlan}
+use Rattle.mm_command_line.specs.declared.task.FlightPlan.TheVariants.{Given, Made}
 use Rattle.mm_command_line.specs.declared.task.PlanFiles.{PlanFiles}
 use Rattle.mm_command_line.specs.declared.task.Task.{Task}
 use Rattle.mm_command_line.specs.declared.task.Task.TheVariants.{Plan, Check, Chart, Table, Sensitivity, Fly, Ask, Read}
 
 abbrev pub no_names : FileNames
 no_names = record { setup = None; forecast = None; plan = None; sources = None; links = None; packets = None }
+
+-- the name of the plan of a run, where it is given
+abbrev pub name_of_plan : FlightPlan → Option (Bor (List ℕ))
+name_of_plan (Given name) = Some name
+name_of_plan (Made in_order) = None
 
 -- those of a judged plan
 abbrev pub names_of_plan : PlanFiles → FileNames
@@ -23,7 +31,7 @@ names_in (Sensitivity setup forecast) = record no_names { setup = Some setup; fo
 names_in (Fly f) = record no_names {
   setup = Some f.setup;
   forecast = Some f.forecast;
-  plan = f.plan;
+  plan = name_of_plan f.plan;
   sources = Some f.sources;
   links = Some f.links;
 }

@@ -88,7 +88,7 @@ pub(crate) static COMMANDS: [Form; 9] = [
     },
     Form {
         word: "fly",
-        usage: "mm_tool fly <SETUP> <FORECAST> <SOURCES> <LINKS>",
+        usage: "mm_tool fly [--in-order] <SETUP> <FORECAST> <SOURCES> <LINKS>",
         about: flight::FLY_ABOUT,
         help: flight::FLY_HELP,
         files: &[SETUP, FORECAST, SOURCES, LINKS],

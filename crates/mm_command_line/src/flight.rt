@@ -30,8 +30,12 @@ comes is not what the forecast says, 1 otherwise.";
 pub(crate) const FLY_HELP: &str = "\
 Prints the plan text that `plan` prints, and then what `run` prints of it.
 
-Example:
+Option, anywhere after `fly`:
+  --in-order                  the plan serves the stores in the setup's order, as that of `plan --in-order` does
+
+Examples:
   mm_tool fly setup.toml forecast.csv sources.hex links.txt
+  mm_tool fly --in-order setup.toml forecast.csv sources.hex links.txt
 
 The formats are described in docs/FORMATS.md. Exit status: 0 where the plan is carried out, also where what
 comes is not what the forecast says, 1 otherwise.";

@@ -15,6 +15,6 @@ mod version;
 mod wrong_flag;
 
 pub use line::parse;
-pub use task::{FileNames, FlightFiles, PlanFiles, Role, Task};
+pub use task::{FileNames, FlightFiles, FlightPlan, PlanFiles, Role, Task};
 pub use version::{VERSION, asks_version};
 pub use wrong_flag::{FlagFault, flag_fault};

@@ -11,7 +11,7 @@ ghost use Rattle.mm_command_line.specs.Lines.{command_words, parts_in};
 use crate::command::{Form, form_of, tool_command};
 use crate::commands::COMMANDS;
 use crate::options::{Line, Next, is_file_name, read_line};
-use crate::task::{FlightFiles, PlanFiles, Task};
+use crate::task::{FlightFiles, FlightPlan, PlanFiles, Task};
 use clap::error::ErrorKind;
 use clap::{ArgMatches, Command, Error};
 use std::alloc::{AllocError, Global};
@@ -55,14 +55,14 @@ fn task_of<'a>(words: &[&'a str]) -> Option<Task<'a>>
         ["run", setup, forecast, plan, sources, links] => Some(Task::Fly(FlightFiles {
             setup,
             forecast,
-            plan: Some(plan),
+            plan: FlightPlan::Given(plan),
             sources,
             links,
         })),
         ["fly", setup, forecast, sources, links] => Some(Task::Fly(FlightFiles {
             setup,
             forecast,
-            plan: None,
+            plan: FlightPlan::Made { in_order: false },
             sources,
             links,
         })),

@@ -14,7 +14,7 @@ pub(crate) const OUTPUT: &str = "--output";
 /// What a word with the name of an output begins with.
 pub(crate) const OUTPUT_IS: &str = "--output=";
 
-/// The flag of `plan`: the stores are served in the setup's order.
+/// The flag of `plan` and `fly`: the stores are served in the setup's order.
 pub(crate) const IN_ORDER: &str = "--in-order";
 
 /// The flag of `chart`: the chart says what each window is worth.

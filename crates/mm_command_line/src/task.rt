@@ -62,13 +62,21 @@ impl<'a> PlanFiles<'a> {
     }
 }
 
+/// The plan of a run.
+#[derive(Clone, Copy)]
+pub enum FlightPlan<'a> {
+    /// The plan of the file of this name.
+    Given(&'a str),
+    /// A plan that is made: one that loses least, and `in_order` by the stores that stand first in the setup.
+    Made { in_order: bool },
+}
+
 /// The files of a run, by their names.
 #[derive(Clone, Copy)]
 pub struct FlightFiles<'a> {
     pub setup: &'a str,
     pub forecast: &'a str,
-    /// None where the plan is made.
-    pub plan: Option<&'a str>,
+    pub plan: FlightPlan<'a>,
     pub sources: &'a str,
     pub links: &'a str,
 }
@@ -77,13 +85,37 @@ impl<'a> FlightFiles<'a> {
     fn names(self) -> FileNames<'a>
         ensures { result ≡ names_in (Fly self.entry) }
     {
+        let plan = match self.plan {
+            FlightPlan::Given(name) => Some(name),
+            FlightPlan::Made { .. } => None,
+        };
         FileNames {
             setup: Some(self.setup),
             forecast: Some(self.forecast),
-            plan: self.plan,
+            plan,
             sources: Some(self.sources),
             links: Some(self.links),
             packets: None,
+        }
+    }
+
+    // The run with these flags; none where they are not those of its command, or one is given twice.
+    fn with_flags(self, flags: &[&str]) -> Option<FlightFiles<'a>>
+        ensures words { IfSome result (λ run. command_words (Fly run) ≡ command_words (Fly self.entry)) }
+        ensures flags { IfSome result (λ run. map (λ flag. flag.now) flags.now ≡ flag_of (Fly run)) }
+        ensures none { IfNone result ((task : Task) → command_words task ≡ command_words (Fly self.entry)
+            → map (λ flag. flag.now) flags.now ≡ flag_of task → ⊥) }
+    {
+        match self.plan {
+            FlightPlan::Made { .. } => {
+                let in_order = is_given(flags, IN_ORDER)?;
+                Some(FlightFiles {
+                    plan: FlightPlan::Made { in_order },
+                    ..self
+                })
+            }
+            FlightPlan::Given(_) if flags.is_empty() => Some(self),
+            FlightPlan::Given(_) => None,
         }
     }
 }
@@ -207,6 +239,10 @@ impl<'a> Task<'a> {
                 })
             }
             Task::Table { files, .. } if flags.is_empty() => Some(Task::Table { files, output }),
+            Task::Fly(files) => match output {
+                None => Some(Task::Fly(files.with_flags(flags)?)),
+                Some(_) => None,
+            },
             _ if flags.is_empty() && output.is_none() => Some(self),
             _ => None,
         }

@@ -17,7 +17,7 @@ struct Flag {
 static FLAGS: [Flag; 5] = [
     Flag {
         word: IN_ORDER,
-        place: "goes with plan",
+        place: "goes with plan and fly",
     },
     Flag {
         word: WORTH,
@@ -93,7 +93,7 @@ impl fmt::Display for FlagFault<'_> {
             ),
             FlagFault::NoSuchFlag(word) => write!(
                 f,
-                "there is no flag '{word}', and none is spelled alike; there are --in-order of plan, --worth of chart, \
+                "there is no flag '{word}', and none is spelled alike; there are --in-order of plan and fly, --worth of chart, \
                     --output FILE of plan, chart and table, and --help"
             ),
         }
@@ -143,7 +143,7 @@ fn option_in(word: &str) -> Option<(&'static str, Option<&str>)> {
 // The commands that an option goes with.
 fn commands_of(flag: &str) -> &'static str {
     match flag {
-        IN_ORDER => "plan",
+        IN_ORDER => "plan and fly",
         WORTH => "chart",
         _ => "plan, chart and table",
     }
@@ -154,6 +154,7 @@ fn goes_with(flag: &str, command: &str) -> bool {
         "plan" => flag == IN_ORDER || flag == OUTPUT,
         "chart" => flag == WORTH || flag == OUTPUT,
         "table" => flag == OUTPUT,
+        "fly" => flag == IN_ORDER,
         _ => false,
     }
 }

@@ -4,10 +4,11 @@ use Rattle.std.proofs.Common.{append_assoc, subst, sym}
 use Rattle.std.specs.Io.KnownBytes.{Appends}
 use Rattle.mm_command_line.specs.Names.{names_in}
 use Rattle.mm_command_line.specs.declared.task.FlightFiles.{FlightFiles}
+use Rattle.mm_command_line.specs.declared.task.FlightPlan.{FlightPlan}
 use Rattle.mm_command_line.specs.declared.task.Task.TheVariants.{Fly}
 use Rattle.mm_run.specs.Printed.{text_of}
 use Rattle.mm_run.specs.declared.printed.Printed.{Printed}
-use Rattle.mm_commands.specs.Answers.{FliesTexts, PrintsFlown, given_plan, status_of_run}
+use Rattle.mm_commands.specs.Answers.{FliesTexts, PrintsFlown, status_of_run}
 use Rattle.mm_commands.specs.Contents.{FilesView, WereRead}
 use Rattle.mm_commands.specs.Reading.{readings_of}
 use Rattle.mm_commands.specs.Refusing.{Settles}
@@ -25,7 +26,7 @@ Appends-append (Some before) (Some mid) (Some after) first second one two = two 
     ∙ append_assoc before first second
 
 -- the plan was printed, and then the rest
-pub prints-flown : (plan : Option (List ℕ)) (texts : TaskTexts) (printed : Printed) (sheet : List ℕ) (status : Status)
+pub prints-flown : (plan : FlightPlan) (texts : TaskTexts) (printed : Printed) (sheet : List ℕ) (status : Status)
     (before mid after : Option (List ℕ))
     → FliesTexts plan texts printed → printed.sheet.items ≡ sheet → status ≡ status_of_run printed.outcome
     → Appends before mid sheet → Appends mid after (printed.report.items ++ printed.end.items)
@@ -43,7 +44,7 @@ pub flown-settles : {E : Type 0} (old new : FilesView) (files : FlightFiles) (te
     (before after : Option (List ℕ)) (result : Result Status E)
     → new.contents ≡ old.contents → WereRead old.contents old.readings new.readings
     (readings_of (names_in (Fly files)) texts)
-    → IfOk result (λ status. PrintsFlown (given_plan files.plan texts) texts status before after)
+    → IfOk result (λ status. PrintsFlown files.plan texts status before after)
     → IfOk result (λ status. Settles old new (Fly files) status before after)
 flown-settles old new files texts before after (Ok status) same read flown = inl (record {
   texts = texts;

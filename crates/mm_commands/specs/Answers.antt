@@ -1,5 +1,5 @@
 -- What answers a task, by what its files hold.
-use Rattle.std.specs.Prelude.{◌≡◌, ◌≢◌, ℕ, Bool, true, false, List, Option, Some, None, IfSome}
+use Rattle.std.specs.Prelude.{◌≡◌, ◌≢◌, ℕ, Bool, true, false, if◌then◌else◌, List, Option, Some, None, IfSome}
 use Rattle.std.specs.Borrow.{Bor}
 use Rattle.std.specs.Io.KnownBytes.{Appends}
 use Rattle.mm_cut.specs.declared.verdict.Verdict.{Verdict}
@@ -17,6 +17,7 @@ use Rattle.mm_run.specs.declared.printed.Outcome.{Outcome as Ended}
 use Rattle.mm_run.specs.declared.printed.Outcome.TheVariants as ended
 use Rattle.mm_run.specs.declared.prepared.PreparedRun.{PreparedRun}
 use Rattle.mm_run.specs.declared.printed.Printed.{Printed}
+use Rattle.mm_planner.specs.declared.goal.Goal.{Goal}
 use Rattle.mm_planner.specs.declared.goal.Goal.TheVariants as goal
 use Rattle.mm_run.specs.Prepared.{IsPrepared}
 use Rattle.mm_run.specs.Printed.{text_of}
@@ -31,6 +32,8 @@ use Rattle.mm_commands.specs.declared.status.Status.TheVariants.{Done, Refused}
 use Rattle.mm_commands.specs.declared.answers.Answer.{Answer}
 use Rattle.mm_commands.specs.declared.answers.Answer.TheVariants.{Text, Lines, Line}
 use Rattle.mm_commands.specs.declared.texts.TaskTexts.{TaskTexts}
+use Rattle.mm_command_line.specs.declared.task.FlightPlan.{FlightPlan}
+use Rattle.mm_command_line.specs.declared.task.FlightPlan.TheVariants.{Given, Made}
 use Rattle.mm_command_line.specs.Lines.{output_of}
 use Rattle.mm_command_line.specs.Names.{names_in}
 use Rattle.mm_command_line.specs.declared.task.FileNames.{FileNames}
@@ -95,31 +98,36 @@ status_of_run ended.CarriedOut = Done
 status_of_run ended.Unreported = Refused
 status_of_run (ended.Stopped cause) = Refused
 
--- the plan of a run, where it is given
-abbrev pub given_plan : Option (Bor (List ℕ)) → TaskTexts → Option (List ℕ)
-given_plan (Some name) texts = Some texts.plan.items
-given_plan None texts = None
+-- the text of the plan of a run, where it is given
+abbrev pub given_plan : FlightPlan → TaskTexts → Option (List ℕ)
+given_plan (Given name) texts = Some texts.plan.items
+given_plan (Made in_order) texts = None
+
+-- what the plan of a run is made for, where it is made
+abbrev pub goal_of : FlightPlan → Goal
+goal_of (Given name) = goal.Least
+goal_of (Made in_order) = if in_order then goal.InOrder else goal.Least
 
 -- what is printed of the run of the plan that is given, or of one that is made where none is
-abbrev pub FliesTexts : Option (List ℕ) → TaskTexts → Printed → Type 0
-FliesTexts plan texts printed = PrintsRun goal.Least plan texts.setup.items texts.forecast.items texts.sources.items
-    texts.links.items printed
+abbrev pub FliesTexts : FlightPlan → TaskTexts → Printed → Type 0
+FliesTexts plan texts printed = PrintsRun (goal_of plan) (given_plan plan texts) texts.setup.items
+    texts.forecast.items texts.sources.items texts.links.items printed
 
 -- the run is that of the texts, of the plan that is given, or of one that is made where none is
-abbrev pub PreparesTexts : Option (List ℕ) → TaskTexts → PreparedRun → Type 0
-PreparesTexts plan texts run = IsPrepared goal.Least plan texts.setup.items texts.forecast.items texts.sources.items
-    texts.links.items run
+abbrev pub PreparesTexts : FlightPlan → TaskTexts → PreparedRun → Type 0
+PreparesTexts plan texts run = IsPrepared (goal_of plan) (given_plan plan texts) texts.setup.items
+    texts.forecast.items texts.sources.items texts.links.items run
 
 -- the text is what is printed of such a run, with its status
-pub record Flown (plan : Option (List ℕ)) (texts : TaskTexts) (status : Status) (text : List ℕ) : Type 0 where
+pub record Flown (plan : FlightPlan) (texts : TaskTexts) (status : Status) (text : List ℕ) : Type 0 where
   pub printed : Printed
   pub flies : FliesTexts plan texts printed
   pub text_is : text ≡ text_of printed
   pub status_is : status ≡ status_of_run printed.outcome
 
 -- a writer had the first of these bytes, and then the second: what is printed of such a run was written between
-pub record PrintsFlown (plan : Option (List ℕ)) (texts : TaskTexts) (status : Status) (before after : Option (List ℕ)) :
-    Type 0 where
+pub record PrintsFlown (plan : FlightPlan) (texts : TaskTexts) (status : Status)
+    (before after : Option (List ℕ)) : Type 0 where
   pub text : List ℕ
   pub flown : Flown plan texts status text
   pub printed : Appends before after text
@@ -138,7 +146,7 @@ AnswersTask (Table names output) texts status text =
     (status ≡ Done) × IsTableOf texts.setup.items texts.forecast.items texts.plan.items text
 AnswersTask (Sensitivity setup forecast) texts status text =
     (status ≡ Done) × IsWorthTable texts.setup.items texts.forecast.items text
-AnswersTask (Fly names) texts status text = Flown (given_plan names.plan texts) texts status text
+AnswersTask (Fly names) texts status text = Flown names.plan texts status text
 AnswersTask (Ask setup requests) texts status text = Replies status text texts.setup.items texts.packets.items
 AnswersTask (Read packets) texts status text = Says status text texts.packets.items
 

@@ -6,8 +6,8 @@ ghost use Rattle.mm_cut.specs.Checking.{IsFaultOf as IsCheckFault};
 ghost use Rattle.mm_cut.specs.declared.fault.Fault.TheVariants as cut_fault;
 ghost use Rattle.mm_planner.specs.PlanTexts.{IsPlanningFault};
 ghost use Rattle.mm_sensitivity.specs.Table.{IsWorthTable};
-ghost use Rattle.mm_commands.specs.Answers.{DrawsPlan, IsAnswerTo, PlansText, given_plan, is_run, status_in, status_of};
-ghost use Rattle.mm_commands.specs.Answers.{status_of_replies};
+ghost use Rattle.mm_commands.specs.Answers.{DrawsPlan, IsAnswerTo, PlansText, given_plan, goal_of, is_run};
+ghost use Rattle.mm_commands.specs.Answers.{status_in, status_of, status_of_replies};
 ghost use Rattle.mm_commands.specs.Refusing.{IsFaultIn};
 
 use crate::fault::Fault;
@@ -15,9 +15,9 @@ use crate::status::Status;
 use crate::texts::TaskTexts;
 use mm_ask::{Outcome, Replies, ask_bytes, read_bytes};
 use mm_chart::{chart_bytes, table_bytes};
-use mm_command_line::Task;
+use mm_command_line::{FlightPlan, Task};
 use mm_cut::{Verdict, check_bytes};
-use mm_planner::{plan_bytes, plan_in_order_bytes};
+use mm_planner::{Goal, plan_bytes, plan_in_order_bytes};
 use mm_sensitivity::{Progress, sensitivity_with_progress, worth_chart_bytes};
 use std::alloc::Global;
 
@@ -117,12 +117,22 @@ fn worth_table<P: Progress>(
 }
 
 /// The text of the plan of a run, where it is given.
-pub(crate) fn given_plan<'t>(name: Option<&str>, texts: &'t TaskTexts) -> Option<&'t [u8]>
-    ensures given { option_copied result ≡ given_plan name.entry texts.now }
+pub(crate) fn given_plan<'t>(plan: FlightPlan<'_>, texts: &'t TaskTexts) -> Option<&'t [u8]>
+    ensures given { option_copied result ≡ given_plan plan.entry texts.now }
 {
-    match name {
-        Some(_) => Some(texts.plan.as_slice()),
-        None => None,
+    match plan {
+        FlightPlan::Given(_) => Some(texts.plan.as_slice()),
+        FlightPlan::Made { .. } => None,
+    }
+}
+
+/// What the plan of a run is made for, where it is made.
+pub(crate) fn goal_of(plan: FlightPlan<'_>) -> Goal
+    ensures goal { result ≡ goal_of plan.entry }
+{
+    match plan {
+        FlightPlan::Made { in_order: true } => Goal::InOrder,
+        FlightPlan::Made { in_order: false } | FlightPlan::Given(_) => Goal::Least,
     }
 }
 

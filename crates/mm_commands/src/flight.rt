@@ -3,6 +3,7 @@ ghost use Rattle.std.specs.Prelude.{◌≡◌, ◌≢◌, ◌++◌, ℕ, List, O
 ghost use Rattle.std.specs.Io.KnownBytes.{Appends};
 ghost use Rattle.mm_base.specs.Reading.{IfRefused};
 ghost use Rattle.mm_command_line.specs.Names.{names_in};
+ghost use Rattle.mm_command_line.specs.declared.task.FlightPlan.{FlightPlan};
 ghost use Rattle.mm_command_line.specs.declared.task.Task.TheVariants.{Fly};
 ghost use Rattle.mm_run.specs.Prepared.{plan_text_of};
 ghost use Rattle.mm_run.specs.declared.fault.Fault.TheVariants as flight_fault;
@@ -12,7 +13,7 @@ ghost use Rattle.mm_commands.specs.Reading.{readings_of};
 ghost use Rattle.mm_commands.specs.Refusing.{IsFaultIn, IsFlightFault, Settles};
 ghost use Rattle.mm_commands.specs.declared.status.Status.TheVariants.{BadCommandLine};
 
-use crate::answers::given_plan;
+use crate::answers::{given_plan, goal_of};
 use crate::fault::Fault;
 use crate::files::Files;
 use crate::remark::tell_run;
@@ -20,7 +21,6 @@ use crate::status::{Status, Unwritten};
 use crate::tasks::refuse;
 use crate::texts::TaskTexts;
 use mm_command_line::{FlightFiles, Task};
-use mm_planner::Goal;
 use mm_run::{Outcome, PreparedRun, Printed, RunTexts, prepare_run};
 use std::alloc::Global;
 use std::io::{self, Write};
@@ -44,7 +44,7 @@ fn prepared(
     files: FlightFiles<'_>,
     texts: &TaskTexts,
 ) -> Result<PreparedRun, mm_run::Fault>
-    ensures prepared { IfOk result (PreparesTexts (given_plan files.entry.plan texts.now) texts.now) }
+    ensures prepared { IfOk result (PreparesTexts files.entry.plan texts.now) }
     ensures refused { IfRefused flight_fault.NoMemory result (IsFlightFault (given_plan files.entry.plan texts.now)
         texts.now) }
 {
@@ -54,7 +54,12 @@ fn prepared(
         sources: &texts.sources,
         links: &texts.links,
     };
-    prepare_run(alloc, run, given_plan(files.plan, texts), Goal::Least)
+    prepare_run(
+        alloc,
+        run,
+        given_plan(files.plan, texts),
+        goal_of(files.plan),
+    )
 }
 
 // The run that a task asks for, whose files have these texts.
@@ -63,7 +68,7 @@ fn prepare<'a>(
     files: FlightFiles<'a>,
     texts: &TaskTexts,
 ) -> Result<PreparedRun, Fault<'a>>
-    ensures prepared { IfOk result (PreparesTexts (given_plan files.entry.plan texts.now) texts.now) }
+    ensures prepared { IfOk result (PreparesTexts files.entry.plan texts.now) }
     ensures refused { IfErr result (IsFaultIn (Fly files.entry) texts.now) }
 {
     Ok(prepared(alloc, files, texts)?)
@@ -96,7 +101,7 @@ fn carry_out<R: Threads + Wait + Sync, W: Write, E: Write>(
     out: &mut W,
     err: &mut E,
 ) -> Result<Status, Unwritten>
-    ensures flies { (plan : Option (List ℕ)) → PreparesTexts plan texts.now run
+    ensures flies { (plan : FlightPlan) → PreparesTexts plan texts.now run
         → IfOk result (λ status. PrintsFlown plan texts.now status (W.contents out.old) (W.contents out.new)) }
     ensures status { IfOk result (λ status. status ≢ BadCommandLine) }
 {

@@ -17,8 +17,8 @@ const SHORT: &str =
         after it?";
 
 const NONE_ALIKE: &str =
-    "there is no flag '--json', and none is spelled alike; there are --in-order of plan, --worth of chart, --output \
-        FILE of plan, chart and table, and --help";
+    "there is no flag '--json', and none is spelled alike; there are --in-order of plan and fly, --worth of chart, \
+        --output FILE of plan, chart and table, and --help";
 
 // Bad lines, and what is said of their flags.
 static WRONG: [(&str, &str); 25] = wanted! {
@@ -30,7 +30,7 @@ static WRONG: [(&str, &str); 25] = wanted! {
     "--output=X plan S F" => "--output stands after the command";
     "plan -- S F --output X" => LATE;
     "plan S -- F --output=X" => LATE;
-    "check --in-order S F P" => "--in-order goes with plan alone";
+    "check --in-order S F P" => "--in-order goes with plan and fly alone";
     "plan S F --worth" => "--worth goes with chart alone";
     "check S F P --output X" => OF_OTHERS;
     "sensitivity S F --output=-" => OF_OTHERS;
@@ -42,7 +42,7 @@ static WRONG: [(&str, &str); 25] = wanted! {
     "plan --version" => "--version stands alone";
     "plan S F -o X" => SHORT;
     "plan --inorder S F"
-    => "there is no flag '--inorder'; did you mean --in-order, which goes with plan?";
+    => "there is no flag '--inorder'; did you mean --in-order, which goes with plan and fly?";
     "chart --worht S F P --output X"
     => "there is no flag '--worht'; did you mean --worth, which goes with chart?";
     "table S F P --outptu=X"
@@ -73,7 +73,7 @@ static USAGES: [(&str, &str); 9] = wanted! {
     "table --help" => "table <SETUP> <FORECAST> <PLAN> [--output <FILE>]";
     "sensitivity --help" => "sensitivity <SETUP> <FORECAST>";
     "run --help" => "run <SETUP> <FORECAST> <PLAN> <SOURCES> <LINKS>";
-    "fly --help" => "fly <SETUP> <FORECAST> <SOURCES> <LINKS>";
+    "fly --help" => "fly [--in-order] <SETUP> <FORECAST> <SOURCES> <LINKS>";
     "ask S" => "ask <SETUP> <REQUESTS>";
     "read" => "read <PACKETS>";
 };

@@ -246,11 +246,23 @@ fn the_plan_is_handed_on_first(rt: HostRuntime) {
     assert!(&rt; status == 0 && is_first && is_planned && out.written.len() > FIRST_PLAN.len());
 }
 
-// `fly` for the files of a row but its plan, and these links, makes the plan: it is printed before the report.
-fn flies_over(rt: &impl Host, row: &Run, links: &'static str, report: &'static str, status: u8) {
+const FLY: &str = "fly S F X L\n=== S\n";
+
+const FLY_IN_ORDER: &str = "fly S F --in-order X L\n=== S\n";
+
+// `fly`, by these words, for the files of a row but its plan, and these links, makes the plan: it is printed before the
+// report.
+fn flies_over(
+    rt: &impl Host,
+    words: &'static str,
+    row: &Run,
+    links: &'static str,
+    report: &'static str,
+    status: u8,
+) {
     let sources = joined(rt, row.sources);
     let script = [
-        "fly S F X L\n=== S\n",
+        words,
         row.setup,
         "=== F\n",
         row.forecast,
@@ -283,8 +295,18 @@ static FLIGHTS: [Run; 3] = based! { Run;
 #[test]
 fn fly_first_run(rt: HostRuntime) {
     for row in &FLIGHTS {
-        flies_over(&rt, row, row.links, row.prints, row.status);
+        flies_over(&rt, FLY, row, row.links, row.prints, row.status);
     }
+}
+
+// A plan in order is printed as `plan --in-order` prints it, and flown as any other.
+#[test]
+fn a_plan_in_order_is_flown(rt: HostRuntime) {
+    let row = Run {
+        plan: FIRST_PLAN_IN_ORDER,
+        ..FIRST_FLIGHT
+    };
+    flies_over(&rt, FLY_IN_ORDER, &row, row.links, row.prints, row.status);
 }
 
 // A link of which one send fails, and what is printed.
@@ -299,6 +321,6 @@ static SENDS: [(&str, &str); 4] = [
 fn each_send_fails(rt: HostRuntime) {
     for (links, report) in &SENDS {
         runs_over(&rt, &OTHER_ARRIVALS, links, report, 1);
-        flies_over(&rt, &FIRST_RUN, *links, *report, 1);
+        flies_over(&rt, FLY, &FIRST_RUN, *links, *report, 1);
     }
 }

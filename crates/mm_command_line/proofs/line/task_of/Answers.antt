@@ -1,14 +1,16 @@
 use Rattle.std.proofs.Common.{◌≡◌, ℕ, List, Bor, Option, Some, None, map, arith}
 use Rattle.mm_command_line.specs.Lines.{flight_spelling}
+use Rattle.mm_command_line.specs.declared.task.FlightPlan.{FlightPlan}
+use Rattle.mm_command_line.specs.declared.task.FlightPlan.TheVariants.{Given, Made}
 use Rattle.mm_command_line.specs.declared.task.Task.TheVariants.{Plan, Check, Chart, Table, Sensitivity, Fly, Ask, Read}
 use Rattle.mm_command_line.proofs.Plain.{count_is, first_is}
 use Rattle.mm_command_line.proofs.line.task_of.Goals.{In_default}
 use Rattle.mm_command_line.proofs.line.task_of.Goals as goal
 
-no_flight : (c : In_default) (setup forecast sources links : List ℕ) (plan : Option (Bor (List ℕ)))
+no_flight : (c : In_default) (setup forecast sources links : List ℕ) (plan : FlightPlan)
     → flight_spelling setup forecast sources links plan ≡ map (λ word. word.now) c.args.words.now → ⊥
-no_flight c setup forecast sources links None is = grind (arith, count_is _ _ is, first_is _ _ is)
-no_flight c setup forecast sources links (Some plan) is = grind (arith, count_is _ _ is, first_is _ _ is)
+no_flight c setup forecast sources links (Made in_order) is = grind (arith, count_is _ _ is, first_is _ _ is)
+no_flight c setup forecast sources links (Given plan) is = grind (arith, count_is _ _ is, first_is _ _ is)
 
 pub returns-in_default-clause-none : goal.returns-in_default-clause-none
 returns-in_default-clause-none c (Plan setup forecast in_order output) is = grind (arith, count_is _ _ is, first_is _ _ is)

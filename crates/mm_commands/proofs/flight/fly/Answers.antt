@@ -1,6 +1,6 @@
 use Rattle.std.proofs.Common.{inr}
 use Rattle.mm_command_line.specs.declared.task.Task.TheVariants.{Fly}
-use Rattle.mm_commands.specs.Answers.{Prints, given_plan}
+use Rattle.mm_commands.specs.Answers.{Prints}
 use Rattle.mm_commands.proofs.Flying.{flown-settles}
 use Rattle.mm_commands.proofs.Refusals.{refuses}
 use Rattle.mm_commands.proofs.flight.fly.Goals as goal
@@ -8,7 +8,7 @@ use Rattle.mm_commands.proofs.flight.fly.Goals as goal
 pub returns-in-Ok-clause-settles : goal.returns-in-Ok-clause-settles
 returns-in-Ok-clause-settles g c old new same read =
     flown-settles old new c.args.flight c.args.texts.now _ _ c.carry_out.result same read
-    (c.carry_out.ensures.flies (given_plan c.args.flight.plan c.args.texts.now) c.in-Ok.ensures.prepared)
+    (c.carry_out.ensures.flies c.args.flight.plan c.in-Ok.ensures.prepared)
 
 pub returns-in-Err-clause-settles : goal.returns-in-Err-clause-settles
 returns-in-Err-clause-settles g c old new same read =

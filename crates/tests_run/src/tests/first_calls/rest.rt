@@ -96,5 +96,5 @@ fn data_are_planned_without_a_text(rt: HostRuntime) {
         channel: 0,
     }];
     let planned = plan_of_data(rt.alloc(), &rows, &[], &[2, 0], &[3, 4]).expect(&rt, "a plan");
-    assert!(rt; planned.loss == 4, "four lost");
+    assert!(rt; planned.certificate.loss() == 4, "four lost");
 }
