@@ -108,9 +108,9 @@ impl<'a> FlightFiles<'a> {
     {
         match self.plan {
             FlightPlan::Made { .. } => {
-                let in_order = is_given(flags, IN_ORDER)?;
+                let ordered = is_given(flags, IN_ORDER)?;
                 Some(FlightFiles {
-                    plan: FlightPlan::Made { in_order },
+                    plan: FlightPlan::Made { in_order: ordered },
                     ..self
                 })
             }
