@@ -8,7 +8,8 @@
 # - the commands of a fenced block in which a line begins with `./mm_tool ` are run, and each must end with status 0, or with N
 #   under `<!-- status N -->`;
 # - the commands of a fenced block under `<!-- unproved -->` are run in the same way where the toolchain is installed;
-# - each command of README.md that names a file of the repository names one that can be run;
+# - each command of README.md that names a file of the repository names one that can be run; and one line of README.md has the whole name of
+#   the kit that `mm_tool --version` prints;
 # - each file that a link or a path of any document names is there, and so is each heading that a document, a source or a script cites:
 #   docs/links;
 # - each name in code style in a crate's README stands in the sources of that crate, or of another that it names; the list of crates of
@@ -186,6 +187,14 @@ check_readme_commands() {
   while IFS= read -r command; do
     [ -x "$top/$command" ] && [ -f "$top/$command" ] || fail "README.md: $command cannot be run"
   done < <(grep -oE '(^|`)(\./mm_tool|\.ci/run|(dist|docs|bench|bindings)/[a-z_/-]+)( |`|$)' "$top/README.md" | grep -oE '[a-z./_-]*[a-z]' | sort -u)
+}
+
+# The kit of README.md is the one that the program tells, which the script mm_tool looks for.
+check_kit() {
+  local kit
+  kit=$(sed -nE 's/.*\\n(rattle-kit-[^\\"]*).*/\1/p' "$top/crates/mm_command_line/src/version.rt")
+  [ -n "$kit" ] || fail 'crates/mm_command_line/src/version.rt names no kit'
+  grep -qF -- "\`$kit\`" "$top/README.md" || fail "README.md: no line has the kit of version.rt whole: $kit"
 }
 
 # The names in code style of standard input: of two letters or more, without path and parentheses.
@@ -416,6 +425,7 @@ check_findings
 check_refusal_tests
 check_links
 check_readme_commands
+check_kit
 while IFS= read -r document; do
   case $document in
     README.md | docs/* | examples/*)
