@@ -15,7 +15,7 @@
 # - each name in code style in a crate's README stands in the sources of that crate, or of another that it names; the list of crates of
 #   docs/ARCHITECTURE.md has those of crates.txt; and each promise of docs/PROMISES.md names something of its crates;
 # - each must-fail edit is named in docs/PROMISES.md in a sentence that begins with 'Refused:', each edit named there is there, each promise
-#   names one, and there are at most as many as the gate has time for;
+#   names one, and there are at most as many as the gate has time for; docs/TRUST.md tells how many there are;
 # - each must-fail edit changes a function that the program or the library for C runs: docs/reached;
 # - each name in code style in docs/ARCHITECTURE.md, docs/READING.md and docs/PROMISES.md stands in some source;
 # - each definition that a clause of a public function or docs/PROMISES.md names has words: docs/definitions;
@@ -292,7 +292,7 @@ edits_in_promises() {
 
 # Each promise of docs/PROMISES.md, and the edits of the gate.
 check_edits() {
-  local most=110 edits heading edit
+  local most=110 edits second heading edit
   refused_in_promises >"$work/refused"
   edits_in_promises | sort -u >"$work/named"
   (cd "$top/crates" && find . -path '*/must-fail/*.edit') | sed 's|^\./||; s|/must-fail/|/|; s|\.edit$||' | sort >"$work/edits"
@@ -306,6 +306,9 @@ check_edits() {
     cut -f 1 "$work/refused" | grep -qxF -- "$heading" || fail "docs/PROMISES.md: '${heading#\#\# }' names no wrong body after 'Refused:'"
   done < <(grep -E '^## (.*`mm_|The .* promise)' "$top/docs/PROMISES.md")
   edits=$(wc -l <"$work/edits")
+  second=$(find "$top"/crates/*/wrong-bodies -name '*.edit' | wc -l)
+  tr '\n' ' ' <"$top/docs/TRUST.md" | grep -qE "\b$edits must-fail edits .*\b$second more stand in a second tier" ||
+    fail "docs/TRUST.md, 'How large is it?' has other numbers than $edits must-fail edits, and $second in the second tier"
   [ "$edits" -le "$most" ] || fail "$edits must-fail edits, and the gate has time for $most: move some to wrong-bodies"
 }
 
