@@ -1,31 +1,34 @@
 #!/usr/bin/env bash
 # Compares what README.md, docs/ and examples/ show with what is there:
 # - a fenced block under `<!-- file: PATH -->` with that file, whole;
-# - a fenced block under `<!-- output: COMMAND -->` with what the command prints; it must end with status 0, or with N under
-#   `<!-- output N: COMMAND -->`. In the block a line `...` stands for any lines, and what follows a word and two spaces is a note;
-# - a fenced block under `<!-- session -->`: a line `$ COMMAND`, and below it what that command prints, in the same way; each must
-#   end with status 0, or with N under `<!-- session N -->`;
-# - the commands of a fenced block in which a line begins with `./mm_tool ` are run, and each must end with status 0, or with N
-#   under `<!-- status N -->`;
+# - a fenced block under `<!-- output: COMMAND -->` with what the command prints; it must end with status 0, or with N
+#   under `<!-- output N: COMMAND -->`. In the block a line `...` stands for any lines, and what follows a word and two
+#   spaces is a note;
+# - a fenced block under `<!-- session -->`: a line `$ COMMAND`, and below it what that command prints, in the same way;
+#   each must end with status 0, or with N under `<!-- session N -->`;
+# - the commands of a fenced block in which a line begins with `./mm_tool ` are run, and each must end with status 0, or
+#   with N under `<!-- status N -->`;
 # - the commands of a fenced block under `<!-- unproved -->` are run in the same way where the toolchain is installed;
-# - each command of README.md that names a file of the repository names one that can be run; and one line of README.md has the whole name of
-#   the kit that `mm_tool --version` prints;
-# - each file that a link or a path of any document names is there, and so is each heading that a document, a source or a script cites:
-#   docs/links;
-# - each name in code style in a crate's README stands in the sources of that crate, or of another that it names; the list of crates of
-#   docs/ARCHITECTURE.md has those of crates.txt; and each promise of docs/PROMISES.md names something of its crates;
-# - each must-fail edit is named in docs/PROMISES.md in a sentence that begins with 'Refused:', each edit named there is there, each promise
-#   names one, and there are at most as many as the gate has time for; docs/TRUST.md tells how many there are;
+# - each command of README.md that names a file of the repository names one that can be run; and one line of README.md
+#   has the whole name of the kit that `mm_tool --version` prints;
+# - each file that a link or a path of any document names is there, and so is each heading that a document, a source or
+#   a script cites: docs/links;
+# - each name in code style in a crate's README stands in the sources of that crate, or of another that it names; the
+#   list of crates of docs/ARCHITECTURE.md has those of crates.txt; and each promise of docs/PROMISES.md names something
+#   of its crates;
+# - each must-fail edit is named in docs/PROMISES.md in a sentence that begins with 'Refused:', each edit named there is
+#   there, each promise names one, and there are at most as many as the gate has time for; docs/TRUST.md tells how many
+#   there are;
 # - each must-fail edit changes a function that the program or the library for C runs: docs/reached;
 # - each name in code style in docs/ARCHITECTURE.md, docs/READING.md and docs/PROMISES.md stands in some source;
 # - each definition that a clause of a public function or docs/PROMISES.md names has words: docs/definitions;
 # - each function of a picture of docs/ARCHITECTURE.md stands in the file that stands beside it;
-# - each refusal of mm_base's table has one row in the tables of refusals of docs/FORMATS.md, with its number, its name and the
-#   words of mm_told, and what `check` finds has a row with its words; docs/refusals.txt names a test for each, and that test
-#   and its crate are there.
-# The commands of one document are run one after another in one new folder, in which the top of the repository is seen, but not its
-# folder out.
-# The program must be built from the sources that are there: `./mm_tool --help` builds it. Prints one line where all is well.
+# - each refusal of mm_base's table has one row in the tables of refusals of docs/FORMATS.md, with its number, its name
+#   and the words of mm_told, and what `check` finds has a row with its words; docs/refusals.txt names a test for each,
+#   and that test and its crate are there.
+# The commands of one document are run one after another in one new folder, in which the top of the repository is seen,
+# but not its folder out. The program must be built from the sources that are there: `./mm_tool --help` builds it.
+# Prints one line where all is well.
 set -u
 top=$(cd "$(dirname "${BASH_SOURCE[0]}")/.." && pwd)
 work=$(mktemp -d)
@@ -156,7 +159,8 @@ check_block() {
 }
 
 check_blocks() {
-  local line fenced=0 number=0 marker="" marked='^<!-- ((file|output|output [0-9]+): .*|(status|session) [0-9]+|session|unproved) -->$'
+  local line fenced=0 number=0 marker=""
+  local marked='^<!-- ((file|output|output [0-9]+): .*|(status|session) [0-9]+|session|unproved) -->$'
   while IFS= read -r line || [ -n "$line" ]; do
     number=$((number + 1))
     case $fenced$line in
@@ -186,7 +190,8 @@ check_readme_commands() {
   local command
   while IFS= read -r command; do
     [ -x "$top/$command" ] && [ -f "$top/$command" ] || fail "README.md: $command cannot be run"
-  done < <(grep -oE '(^|`)(\./mm_tool|\.ci/run|(dist|docs|bench|bindings)/[a-z_/-]+)( |`|$)' "$top/README.md" | grep -oE '[a-z./_-]*[a-z]' | sort -u)
+  done < <(grep -oE '(^|`)(\./mm_tool|\.ci/run|(dist|docs|bench|bindings)/[a-z_/-]+)( |`|$)' "$top/README.md" |
+    grep -oE '[a-z./_-]*[a-z]' | sort -u)
 }
 
 # The kit of README.md is the one that the program tells, which the script mm_tool looks for.
@@ -241,7 +246,8 @@ check_page_names() {
   done
 }
 
-# The list of crates of docs/ARCHITECTURE.md: a row for each crate that stands above the line `# Tools` of crates.txt, in that order, and no other.
+# The list of crates of docs/ARCHITECTURE.md: a row for each crate that stands above the line `# Tools` of crates.txt,
+# in that order, and no other.
 check_crate_rows() {
   sed '/^# Tools/q' "$top/crates.txt" | grep -oE '^[a-z_0-9]+' >"$work/crates"
   grep -E '^- \[`[a-z_0-9]+`\]\(\.\./crates/' "$top/docs/ARCHITECTURE.md" | cut -d '`' -f 2 >"$work/rows"
@@ -261,8 +267,8 @@ check_promises() {
   done < <(grep -E '^## .*`mm_' "$top/docs/PROMISES.md")
 }
 
-# The headings of docs/PROMISES.md that name a crate or a promise, and the edits named below each in sentences that begin with 'Refused:',
-# separated by tabs.
+# The headings of docs/PROMISES.md that name a crate or a promise, and the edits named below each in sentences that
+# begin with 'Refused:', separated by tabs.
 refused_in_promises() {
   awk -v RS= '
     /^## / { heading = $0; next }
@@ -295,20 +301,23 @@ check_edits() {
   local most=110 edits second heading edit
   refused_in_promises >"$work/refused"
   edits_in_promises | sort -u >"$work/named"
-  (cd "$top/crates" && find . -path '*/must-fail/*.edit') | sed 's|^\./||; s|/must-fail/|/|; s|\.edit$||' | sort >"$work/edits"
+  (cd "$top/crates" && find . -path '*/must-fail/*.edit') | sed 's|^\./||; s|/must-fail/|/|; s|\.edit$||' |
+    sort >"$work/edits"
   while IFS= read -r edit; do
-    fail "docs/PROMISES.md: no promise names the edit $edit after 'Refused:'; if none is to name it, it belongs into wrong-bodies"
+    fail "docs/PROMISES.md: no promise names the edit $edit after 'Refused:';" \
+      'if none is to name it, it belongs into wrong-bodies'
   done < <(comm -13 "$work/named" "$work/edits")
   while IFS= read -r edit; do
     fail "docs/PROMISES.md: there is no must-fail edit $edit"
   done < <(comm -23 "$work/named" "$work/edits")
   while IFS= read -r heading; do
-    cut -f 1 "$work/refused" | grep -qxF -- "$heading" || fail "docs/PROMISES.md: '${heading#\#\# }' names no wrong body after 'Refused:'"
+    cut -f 1 "$work/refused" | grep -qxF -- "$heading" ||
+      fail "docs/PROMISES.md: '${heading#\#\# }' names no wrong body after 'Refused:'"
   done < <(grep -E '^## (.*`mm_|The .* promise)' "$top/docs/PROMISES.md")
   edits=$(wc -l <"$work/edits")
   second=$(find "$top"/crates/*/wrong-bodies -name '*.edit' | wc -l)
   tr '\n' ' ' <"$top/docs/TRUST.md" | grep -qE "\b$edits must-fail edits .*\b$second more stand in a second tier" ||
-    fail "docs/TRUST.md, 'How large is it?' has other numbers than $edits must-fail edits, and $second in the second tier"
+    fail "docs/TRUST.md, 'How large is it?': there are $edits must-fail edits, and $second more in the second tier"
   [ "$edits" -le "$most" ] || fail "$edits must-fail edits, and the gate has time for $most: move some to wrong-bodies"
 }
 
@@ -328,7 +337,8 @@ check_definitions() {
 check_pictures() {
   local name file
   while read -r name file; do
-    grep -qE "fn ${name##*::}[<(]" "$top/crates/$file" || fail "docs/ARCHITECTURE.md: crates/$file has no function ${name##*::}"
+    grep -qE "fn ${name##*::}[<(]" "$top/crates/$file" ||
+      fail "docs/ARCHITECTURE.md: crates/$file has no function ${name##*::}"
   done < <(sed -nE 's|^ *([A-Za-z_:]+) +(mm_[a-z0-9_]+/src/[a-z_]+\.rt) .*|\1 \2|p' "$top/docs/ARCHITECTURE.md")
   while IFS= read -r file; do
     [ -f "$top/crates/$file" ] || fail "docs/ARCHITECTURE.md: there is no crates/$file"
@@ -337,7 +347,8 @@ check_pictures() {
 
 # The table of mm_base: number, name and case of each refusal.
 refusals() {
-  sed -nE 's/^ *Refusal::([A-Za-z0-9]+) => \(([0-9]+), "([A-Za-z0-9]+)"\),$/\2 \3 \1/p' "$top/crates/mm_base/src/refusal.rt"
+  sed -nE 's/^ *Refusal::([A-Za-z0-9]+) => \(([0-9]+), "([A-Za-z0-9]+)"\),$/\2 \3 \1/p' \
+    "$top/crates/mm_base/src/refusal.rt"
 }
 
 # The tables of mm_told: the function, the case and its words, separated by tabs.
@@ -382,9 +393,11 @@ check_refusals() {
 check_findings() {
   local verdict expected advice
   findings >"$work/findings"
-  [ "$(wc -l <"$work/findings")" = 7 ] || fail "crates/mm_told/src/findings.rt: not one row of words for each verdict but the least"
+  [ "$(wc -l <"$work/findings")" = 7 ] ||
+    fail "crates/mm_told/src/findings.rt: not one row of words for each verdict but the least"
   while IFS=$'\t' read -r verdict expected advice; do
-    grep -qF -- "| $expected | $advice" "$top/docs/FORMATS.md" || fail "docs/FORMATS.md: no row has the words of mm_told for $verdict"
+    grep -qF -- "| $expected | $advice" "$top/docs/FORMATS.md" ||
+      fail "docs/FORMATS.md: no row has the words of mm_told for $verdict"
   done <"$work/findings"
 }
 
