@@ -5,7 +5,6 @@ ghost use Rattle.mm_memory.specs.Holdings.{has_id};
 ghost use Rattle.mm_memory.specs.Naming.{IsPadded, NamesAt, store_of_text};
 
 use mm_desk::Held;
-
 pub use mm_desk::holding::{place_of, store_of};
 
 // The text padded with spaces to a field. None where its length or its last octet shows that no identifier has it.
