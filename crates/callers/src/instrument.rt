@@ -3,9 +3,10 @@ ghost use Rattle.std.specs.Prelude.{◌≡◌, ◌+◌, [], map, All, IfOk};
 ghost use Rattle.mm_record.specs.MemorySteps.{recording_of, IsRecorded};
 ghost use Rattle.callers.specs.Instruments.{given_in, nothing};
 
+use mm_exec::record_step;
 use mm_memory::Memory;
 use mm_packet::BlockPacket;
-use mm_record::{Live, LiveSource, RecordHalted, RecordedStep, record_step};
+use mm_record::{Live, LiveSource, RecordHalted, RecordedStep};
 use rtrb::Consumer;
 use std::alloc::Global;
 use std::snapshot::Snapshot;

@@ -4,8 +4,9 @@
 use crate::met::Met;
 use crate::requests::memory_of_text;
 use mm_desk::Held;
+use mm_exec::record_step;
 use mm_memory::Memory;
-use mm_record::{Cause, RecordHalted, Recorded, RecordedStep, Source, record_step};
+use mm_record::{Cause, RecordHalted, Recorded, RecordedStep, Source};
 use mm_run::{ScriptedSource, SourceFile};
 use mm_store::PacketStore;
 use std::alloc::Global;

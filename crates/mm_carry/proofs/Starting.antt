@@ -22,7 +22,7 @@ use Rattle.mm_report.specs.declared.cause.TheConstants.{LATEST_START}
 use Rattle.mm_carry.specs.declared.requirement.Requirement.{Requirement}
 use Rattle.mm_carry.specs.declared.requirement.Requirement.TheVariants.{Ready, Size, Opening}
 use Rattle.mm_carry.specs.declared.room.RunBuffers.{RunBuffers}
-use Rattle.mm_memory.proofs.PlaceLemmas.{is_other}
+use Rattle.mm_desk.proofs.PlaceLemmas.{is_other}
 use Rattle.mm_carry.proofs.Counters.{by_counters}
 use Rattle.mm_carry.proofs.Halts.{failed_link}
 use Rattle.mm_carry.proofs.Drawing.{taken_fits}

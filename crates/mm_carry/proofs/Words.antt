@@ -54,8 +54,8 @@ pub use Rattle.mm_desk.specs.Runs.{IsLegal, blank, replay}
 pub use Rattle.mm_desk.specs.Shuffles.{AreBelow, part}
 pub use Rattle.mm_desk.specs.declared.fault.Fault.{Fault}
 pub use Rattle.mm_shared.specs.Stores.{stores_in}
-pub use Rattle.mm_memory.specs.Laws.{ids_of}
-pub use Rattle.mm_memory.specs.Recording.{is_routed}
+pub use Rattle.mm_desk.specs.Holdings.{ids_of}
+pub use Rattle.mm_control.specs.Routing.{is_routed}
 pub use Rattle.mm_record.proofs.Memories.{held_as, named_of, not_caused}
 pub use Rattle.mm_record.proofs.Supplying.{all_stay, length-supplies, zip_long}
 pub use Rattle.mm_record.proofs.Taking.{filter_fewer, parts_all}

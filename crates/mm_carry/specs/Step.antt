@@ -7,7 +7,7 @@ use Rattle.mm_carry.specs.Words.{AreNamed, cause_in, RecordingContext, recording
 use Rattle.mm_carry.specs.Words.{Records, Supply, Sent, Order, Cause, NoMemory, LinkFailed, LogMismatch}
 use Rattle.mm_desk.specs.declared.desk.TheConstants.{MAX_SEATS}
 use Rattle.mm_desk.specs.declared.fault.Fault.{Fault}
-use Rattle.mm_memory.specs.Laws.{ids_of}
+use Rattle.mm_desk.specs.Holdings.{ids_of}
 use Rattle.mm_record.specs.declared.step.RecordingStep.{RecordingStep}
 use Rattle.mm_dump.specs.declared.order.OrderBroken.{OrderBroken}
 use Rattle.mm_dump.specs.declared.order.OrderBroken.TheVariants as broken

@@ -15,7 +15,7 @@ pub use Rattle.mm_desk.specs.declared.event.Event.{Event}
 pub use Rattle.mm_desk.specs.declared.event.Event.TheVariants.{Offer}
 pub use Rattle.mm_desk.specs.declared.held.Held.{Held}
 pub use Rattle.mm_shared.specs.Stores.{AreNamed, id_at, labels_of, states_of}
-pub use Rattle.mm_memory.specs.Holdings.{AreHeld, Holdings, has_id, store_of}
+pub use Rattle.mm_desk.specs.Holdings.{AreHeld, Holdings, has_id, store_of}
 pub use Rattle.mm_record.specs.Causes.{cause_in, is_clock_late, is_ready}
 pub use Rattle.mm_record.specs.Recorded.{RecordingContext, offers, recording}
 pub use Rattle.mm_record.specs.Steps.{AllRecorded, AreFew, Records, given_in}

@@ -30,11 +30,11 @@ use std::thread::Threads;
 
 /// What the steps of a run share: the storage control, the problem, the plan, and the moment before the first step.
 #[derive(Drop)]
-pub(crate) struct RunContext<'a> {
-    pub(crate) control: &'a ControlTable,
-    pub(crate) problem: &'a Problem,
-    pub(crate) plan: &'a Plan,
-    pub(crate) base: u64,
+pub struct RunContext<'a> {
+    pub control: &'a ControlTable,
+    pub problem: &'a Problem,
+    pub plan: &'a Plan,
+    pub base: u64,
 }
 
 impl<S: AnySource + Send + Drop, L: Link + Send + Drop> OpenRun<S, L> {

@@ -1,5 +1,5 @@
-//! A dump plan carried out: what is tested before it, every step recorded and dumped, the report of what came, was
-//! lost, dumped and is held, and the laws of whole runs.
+//! A dump plan carried out over packet stores: what is tested before it, every step recorded and dumped, the report of
+//! what came, was lost, dumped and is held, and the laws of whole runs.
 #![tactic(auto)]
 
 mod course;
@@ -16,7 +16,9 @@ mod run_parts;
 mod step;
 mod step_counts;
 
+pub use course::RunContext;
 pub use readiness::{MAX_LINKS, ready};
 pub use requirement::Requirement;
-pub use run::carry_out;
 pub use run_end::{Flown, FlyHalted, FlyResult, Halted, RunEnd};
+pub use run_parts::RunParts;
+pub use step::Stop;

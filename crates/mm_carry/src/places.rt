@@ -5,7 +5,7 @@ ghost use Rattle.mm_carry.specs.Places.{AreAllPlaces};
 
 use mm_base::MAX_STORES;
 use mm_desk::Held;
-use mm_memory::place_of;
+use mm_desk::holding::place_of;
 use mm_problem::Problem;
 
 // The place of each store of the problem among stores which have them all.

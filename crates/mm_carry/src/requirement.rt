@@ -1,12 +1,12 @@
 //! What a store of the problem needs to be like before a run.
 ghost use Rattle.std.specs.Prelude.{◌≡◌, ◌<◌, length, IfSome, IfNone};
 ghost use Rattle.mm_problem.specs.Dumping.{row};
-ghost use Rattle.mm_memory.specs.Holdings.{store_of};
+ghost use Rattle.mm_desk.specs.Holdings.{store_of};
 ghost use Rattle.mm_carry.specs.Readiness.{meets, AllMeet, IsFirstMismatch, is_unknown, NoneUnknown, IsFirstUnknown};
 
 use mm_base::StoreId;
 use mm_desk::Held;
-use mm_memory::store_of;
+use mm_desk::holding::store_of;
 use mm_problem::Problem;
 use mm_record::is_ready;
 use mm_store::PacketStore;

@@ -1,28 +1,21 @@
 //! The run of a dump plan.
 ghost use Rattle.std.specs.Prelude.{◌≡◌, ◌-◌, ◌<◌, ◌^◌, [], All, length, IfOk, OnOk, IfErr};
 ghost use Rattle.mm_shared.specs.Stores.{labels_of};
-ghost use Rattle.mm_memory.specs.Holdings.{AreHeld};
-ghost use Rattle.mm_record.specs.Supplies.{WhateverComes};
+ghost use Rattle.mm_desk.specs.Holdings.{AreHeld};
 ghost use Rattle.mm_carry.specs.RunState.{InRun, state_of};
-ghost use Rattle.mm_carry.specs.RunInput.{run_input};
-ghost use Rattle.mm_carry.specs.Step.{NeverRefused};
-ghost use Rattle.mm_carry.specs.Course.{given_to, AreWithinLimits};
-ghost use Rattle.mm_carry.specs.Ending.{HasRun, IsCarriedOut, IsStopped, IsHalted};
+ghost use Rattle.mm_carry.specs.Course.{given_to};
+ghost use Rattle.mm_carry.specs.Ending.{HasRun, IsStopped};
 
 use crate::course::RunContext;
 use crate::open_run::OpenRun;
 use crate::places::places_of;
 use crate::readiness::ready;
 use crate::room::{RunBuffers, reserve_run};
-use crate::run_end::{Halted, RunEnd};
 use crate::run_parts::RunParts;
 use crate::step::Stop;
 use mm_dump::Link;
-use mm_memory::Memory;
-use mm_plan::Plan;
-use mm_problem::Problem;
 use mm_record::AnySource;
-use mm_report::{Cause, Report};
+use mm_report::Cause;
 use mm_shared::{close_all, open_all, read_states};
 use std::alloc::Global;
 use std::mem::replace;
@@ -37,8 +30,10 @@ fn never_began(cause: Cause) -> Stop
 }
 
 impl<S: AnySource + Send + Drop, L: Link + Send + Drop> RunParts<S, L> {
-    // Carries out a plan, where a run may begin and there is memory for it, and reports its whole steps.
-    fn carry_plan<R: Threads + Wait + Sync>(
+    /// Carries out a plan, where a run may begin and there is memory for it, and reports its whole steps. Before the
+    /// first step it is tested whether the run may begin; the tests stand at `ready`, in their order, and where one
+    /// fails nothing has been done.
+    pub fn carry_plan<R: Threads + Wait + Sync>(
         &mut self,
         rt: &R,
         alloc: Global,
@@ -93,69 +88,5 @@ impl<S: AnySource + Send + Drop, L: Link + Send + Drop> RunParts<S, L> {
         let RunBuffers { report, .. } = buffers;
         self.report = report;
         ended
-    }
-}
-
-/// Carries out a plan over a memory: in each step from 1 what the sources give is recorded, at the moment of the step,
-/// which is that many ticks after `base`, and then the plan's amounts are sent over the links and deleted. Before the
-/// first step it is tested whether the run may begin; the tests stand at `ready`, in their order, and where one fails
-/// nothing has been done.
-pub fn carry_out<S: AnySource + Send + Drop, L: Link + Send + Drop, R: Threads + Wait + Sync>(
-    rt: &R,
-    alloc: Global,
-    memory: &mut Memory,
-    problem: &Problem,
-    plan: &Plan,
-    sources: Vec<S>,
-    links: Vec<L>,
-    base: u64,
-) -> Result<RunEnd<S, L>, Halted<S, L>>
-    requires links { All (λ l. L.failed l < 2 ^ 64 - 1) links.items }
-    ensures carried_out { IfOk result (λ ended. WhateverComes S.leads S.until sources.items ended.sources.items
-        (λ given left. IsCarriedOut L.sent L.failed (run_input problem.now plan.now base memory.old given) plan.now
-        links.items memory.new
-        left ended.links.items ended.report)) }
-    ensures halted { IfErr result (λ halted. WhateverComes S.leads S.until sources.items halted.sources.items
-        (λ given left. IsHalted L.sent L.failed (run_input problem.now plan.now base memory.old given) plan.now
-        sources.items links.items memory.new
-        halted left)) }
-    // Where counts are far from their end, no store refuses a packet.
-    ensures far { IfErr result (λ halted. WhateverComes S.leads S.until sources.items halted.sources.items
-        (λ given left. AreWithinLimits (length problem.now.windows) memory.old.stores given
-        → NeverRefused halted.cause)) }
-{
-    let mut parts = RunParts {
-        stores: memory.lift(),
-        sources,
-        links,
-        report: Report::none(alloc),
-    };
-    let run = RunContext {
-        control: memory.control(),
-        problem,
-        plan,
-        base,
-    };
-    let ended = parts.carry_plan(rt, alloc, &run);
-    let RunParts {
-        stores,
-        sources,
-        links,
-        report,
-    } = parts;
-    memory.restore(stores);
-    match ended {
-        Ok(()) => Ok(RunEnd {
-            report,
-            sources,
-            links,
-        }),
-        Err(stop) => Err(Halted {
-            cause: stop.cause,
-            report,
-            spent: stop.spent,
-            sources,
-            links,
-        }),
     }
 }

@@ -4,9 +4,9 @@ use mm_report::Report;
 
 /// The stores, the sources and the links of a run, before it and after it, and the report of its whole steps.
 #[derive(Drop)]
-pub(crate) struct RunParts<S: Drop, L: Drop> {
-    pub(crate) stores: Vec<Held>,
-    pub(crate) sources: Vec<S>,
-    pub(crate) links: Vec<L>,
-    pub(crate) report: Report,
+pub struct RunParts<S: Drop, L: Drop> {
+    pub stores: Vec<Held>,
+    pub sources: Vec<S>,
+    pub links: Vec<L>,
+    pub report: Report,
 }

@@ -17,9 +17,9 @@ use std::thread::Threads;
 
 /// Why a run stopped before its end, and how many blocks of the window of its last step were spent.
 #[derive(Clone, Copy)]
-pub(crate) struct Stop {
-    pub(crate) cause: Cause,
-    pub(crate) spent: u64,
+pub struct Stop {
+    pub cause: Cause,
+    pub spent: u64,
 }
 
 // The orders that are carried out in a step: none where a recorder stopped early.

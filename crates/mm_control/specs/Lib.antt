@@ -2,3 +2,4 @@ pub use Rattle.mm_base.specs.SameRoutes
 pub mod Fault
 pub mod Routes
 pub mod Laws
+pub mod Routing

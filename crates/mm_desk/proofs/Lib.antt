@@ -9,3 +9,4 @@ pub mod Foreseeing
 pub mod FateLemmas
 pub mod RetrievalLemmas
 pub mod LossLemmas
+pub mod PlaceLemmas

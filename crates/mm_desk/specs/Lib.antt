@@ -16,3 +16,4 @@ pub mod Passes
 pub mod Fates
 pub mod Retrievals
 pub mod Losses
+pub mod Holdings

@@ -8,6 +8,7 @@ mod entry;
 mod event;
 mod fault;
 mod held;
+pub mod holding;
 pub mod laws;
 mod locked_store;
 mod named;

@@ -7,8 +7,9 @@ ghost use Rattle.mm_exec.specs.Flying.{Flies, FliesFor, FliesNot, FliesNotFor, H
 ghost use Rattle.mm_carry.specs.Step.{NeverRefused};
 ghost use Rattle.mm_carry.specs.Course.{AreWithinLimits};
 
+use crate::carrying::carry_out;
 use mm_base::NoMemory;
-use mm_carry::{FlyHalted, FlyResult, Halted, carry_out};
+use mm_carry::{FlyHalted, FlyResult, Halted};
 use mm_dump::Link;
 use mm_memory::Memory;
 use mm_planner::{Goal, PrintedPlan, print_plan_for};

@@ -19,7 +19,7 @@ use Rattle.mm_memory.specs.Acting.{Outcome}
 use Rattle.mm_memory.specs.Applying.{ComesUnlessNoMemory, Applies, AppliesEach, changed, without, outcome_told}
 use Rattle.mm_memory.specs.Instruction.{Parsed}
 use Rattle.mm_memory.specs.Holdings.{Holdings, AreHeld, HaveOtherIds, StandsAt, has_id, store_of}
-use Rattle.mm_memory.proofs.PlaceLemmas.{is_itself, with_changed-stands}
+use Rattle.mm_desk.proofs.PlaceLemmas.{is_itself, with_changed-stands}
 
 -- the store at the place of an identifier
 pub stood : (id : List ℕ) (stores : List Held) (place : ℕ) (h : Held) → StandsAt id stores place → store_of id stores ≡ Some h → slice_get stores place ≡ Some h

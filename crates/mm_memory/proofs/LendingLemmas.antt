@@ -10,7 +10,7 @@ use Rattle.mm_desk.specs.declared.held.Held.{Held}
 use Rattle.mm_desk.specs.Machine.{State}
 use Rattle.mm_memory.specs.Holdings.{Holdings, HaveOtherIds, StandsAt, store_of}
 use Rattle.mm_memory.specs.Lending.{with_state}
-use Rattle.mm_memory.proofs.PlaceLemmas.{stands_at_first, with_changed-stands}
+use Rattle.mm_desk.proofs.PlaceLemmas.{stands_at_first, with_changed-stands}
 
 module _ (id : List ℕ) (stores : List Held) (routes : List RouteRow) (named : AllPairs HaveOtherIds stores) where
   abbrev memory : Holdings

@@ -1,5 +1,4 @@
 pub mod HoldingLemmas
-pub mod PlaceLemmas
 pub mod ApplyLemmas
 pub mod ReportLemmas
 pub mod LawLemmas

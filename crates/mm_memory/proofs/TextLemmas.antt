@@ -10,7 +10,7 @@ use Rattle.mm_base.proofs.IdFields.{is_id_text_decides}
 use Rattle.mm_desk.specs.declared.held.Held.{Held}
 use Rattle.mm_memory.specs.Holdings.{StandsAt, store_of}
 use Rattle.mm_memory.specs.Naming.{IsPadded, NamesAt, store_of_text}
-use Rattle.mm_memory.proofs.PlaceLemmas.{found_id}
+use Rattle.mm_desk.proofs.PlaceLemmas.{found_id}
 
 -- after a text there are spaces
 space_from : (text : List ℕ) (k d : ℕ) → length text ≤ k → k < 8 → get_or (field_of text) k d ≡ 32

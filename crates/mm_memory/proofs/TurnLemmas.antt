@@ -32,7 +32,7 @@ use Rattle.mm_memory.specs.Holdings.{Holdings, has_id, store_of, state_of, with_
 use Rattle.mm_memory.specs.Instruction.{Parsed}
 use Rattle.mm_memory.specs.Lending.{with_state}
 use Rattle.mm_memory.specs.Recording.{is_routed, packet_for, after_offer, after_offers}
-use Rattle.mm_memory.proofs.PlaceLemmas.{is_itself, found_id}
+use Rattle.mm_desk.proofs.PlaceLemmas.{is_itself, found_id}
 
 same_id : (a b : List ℕ) → bytes_eq a b ≡ true → a ≡ b
 same_id a b = (bytes_eq-Decides a b).0

@@ -1,13 +1,10 @@
 -- Laws over memories.
-use Rattle.std.specs.Prelude.{◌≡◌, ℕ, List, map}
+use Rattle.std.specs.Prelude.{◌≡◌, List}
 use Rattle.mm_base.specs.declared.rows.RouteRow.{RouteRow}
 use Rattle.mm_control.specs.Routes.{has_row}
 use Rattle.mm_desk.specs.declared.held.Held.{Held}
+pub use Rattle.mm_desk.specs.Holdings.{ids_of}
 use Rattle.mm_memory.specs.Holdings.{AreHeld, table_of}
-
--- the identifiers of stores, in order
-abbrev pub ids_of : List Held → List (List ℕ)
-ids_of stores = map (λ h. h.id) stores
 
 -- whether a memory may hold some stores depends on their identifiers alone
 abbrev pub IdsDecide : Type 0

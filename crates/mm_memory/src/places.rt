@@ -1,30 +1,11 @@
-//! Where a store stands.
-ghost use Rattle.std.specs.Prelude.{◌≡◌, None, MatchOption, IfSome, position};
-ghost use Rattle.std.specs.List.{position_or_len};
-ghost use Rattle.std.specs.Option.{option_copied};
+//! Where the store stands that a text names.
+ghost use Rattle.std.specs.Prelude.{◌≡◌, None, MatchOption, position};
 ghost use Rattle.mm_base.specs.Id.{IsIdText};
-ghost use Rattle.mm_memory.specs.Holdings.{StandsAt, has_id, store_of};
+ghost use Rattle.mm_memory.specs.Holdings.{has_id};
 ghost use Rattle.mm_memory.specs.Naming.{IsPadded, NamesAt, store_of_text};
 
-use mm_base::StoreId;
 use mm_desk::Held;
-
-/// The place of the store with this identifier, from 0.
-#[must_use]
-pub fn place_of(stores: &[Held], id: &StoreId) -> Option<usize>
-    ensures stands { MatchOption result (store_of id.now stores.now ≡ None) (λ place. StandsAt id.now stores.now place) }
-    ensures first { IfSome result (λ place. place ≡ position_or_len (has_id id.now) stores.now) }
-{
-    mm_desk::place_of(stores, id)
-}
-
-/// The store with this identifier.
-#[must_use]
-pub fn store_of<'a>(stores: &'a [Held], id: &StoreId) -> Option<&'a Held>
-    ensures store { option_copied result ≡ store_of id.now stores.now }
-{
-    stores.iter().find(|held| held.id == *id)
-}
+pub use mm_desk::holding::{place_of, store_of};
 
 // The text padded with spaces to a field. None where its length or its last octet shows that no identifier has it.
 fn padded(text: &[u8]) -> Option<[u8; 8]>

@@ -6,8 +6,8 @@ use Rattle.mm_record.proofs.Words.{came, store_at, IsRecorded, WasEnded, Supply,
 use Rattle.mm_record.proofs.Words.{StoreRefused}
 use Rattle.mm_desk.specs.declared.fault.Fault.TheVariants as fault
 use Rattle.mm_desk.specs.Laws.{OffersLeave}
-use Rattle.mm_memory.proofs.LawLemmas.{AreHeld-same_ids}
-use Rattle.mm_memory.proofs.PlaceLemmas.{is_other}
+use Rattle.mm_desk.proofs.PlaceLemmas.{AreHeld-same_ids}
+use Rattle.mm_desk.proofs.PlaceLemmas.{is_other}
 use Rattle.mm_report.specs.declared.cause.Cause.{Cause}
 use Rattle.mm_report.specs.declared.cause.Cause.TheVariants.{NoMemory, LogMismatch}
 use Rattle.mm_record.specs.declared.counters.Counters.{Counters}

@@ -12,8 +12,8 @@ pub use Rattle.mm_desk.specs.declared.fault.Fault.{Fault}
 pub use Rattle.mm_desk.specs.declared.fault.Fault.TheVariants.{NoMemory}
 pub use Rattle.mm_desk.specs.declared.held.Held.{Held}
 pub use Rattle.mm_desk.specs.declared.reply.Returned.{Returned}
-pub use Rattle.mm_memory.specs.Holdings.{AreHeld, HaveOtherIds, Holdings}
-pub use Rattle.mm_memory.specs.Recording.{is_routed}
+pub use Rattle.mm_desk.specs.Holdings.{AreHeld, HaveOtherIds, Holdings}
+pub use Rattle.mm_control.specs.Routing.{is_routed}
 pub use Rattle.mm_packet.specs.Packet.{SpacePacket}
 pub use Rattle.mm_record.specs.Causes.{cause_before, cause_by, cause_in, is_clock_late, is_late, is_ready}
 pub use Rattle.mm_record.specs.Counters.{AreRows, counters_of}

@@ -6,7 +6,9 @@ use Rattle.mm_desk.specs.declared.fault.Fault.TheVariants as fault
 use Rattle.mm_desk.specs.Machine.{State, IsState}
 use Rattle.mm_desk.specs.Offers.{Leaves, count_of}
 use Rattle.mm_desk.specs.Runs.{opening_at}
-use Rattle.mm_memory.specs.Holdings.{Holdings}
+use Rattle.mm_base.specs.declared.rows.RouteRow.{RouteRow}
+use Rattle.mm_desk.specs.declared.held.Held.{Held}
+use Rattle.mm_desk.specs.Holdings.{Holdings}
 use Rattle.mm_shared.specs.Stores.{labels_of, states_of}
 use Rattle.mm_report.specs.declared.cause.Cause.{Cause}
 use Rattle.mm_report.specs.declared.cause.Cause.TheVariants.{NoMemory, LogMismatch}
@@ -16,6 +18,10 @@ use Rattle.mm_record.specs.declared.memory_step.RecordHalted.{RecordHalted}
 use Rattle.mm_record.specs.Supplies.{Supply, WhateverComes}
 use Rattle.mm_record.specs.Recorded.{RecordingContext, recording, offers}
 use Rattle.mm_record.specs.Steps.{given_in, AllRecorded, AllHaveLegalOffers, RecorderRun, AreRecorderRuns, StoreRefused}
+
+-- the memory of these stores and these routes
+abbrev pub held_by : List RouteRow → List Held → Holdings
+held_by routes stores = record { stores = stores; routes = routes }
 
 -- a step at a moment, over the stores of a memory and by its routes
 abbrev pub recording_of : ℕ → ℕ → Holdings → RecordingContext

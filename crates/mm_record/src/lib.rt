@@ -19,7 +19,7 @@ pub use cause::cause_in;
 pub use counters::Counters;
 pub use later::{Later, later_sources};
 pub use live::{Live, LiveSource};
-pub use memory_step::{RecordHalted, Recorded, RecordedStep, record_step};
+pub use memory_step::{RecordHalted, Recorded, RecordedStep, record_stores};
 pub use mm_report::{Cause, LATEST_START, MAX_SOURCES};
 pub use readiness::{cause_before, is_clock_late, is_count, is_ready};
 pub use source::{AnySource, Source};

@@ -1,11 +1,13 @@
-//! A step of recorders over all stores of a memory.
+//! A step of recorders over all stores of a memory, which lends them.
 ghost use Rattle.std.specs.Prelude.{◌≡◌, ◌≢◌, ◌+◌, ◌≤◌, [], None, Some, length, map, All, IfOk, IfErr, OnOk, vec_len, vec_capacity};
 ghost use Rattle.mm_desk.specs.Machine.{IsState};
 ghost use Rattle.mm_report.specs.declared.cause.Cause.TheVariants.{LogMismatch};
 ghost use Rattle.mm_report.specs.declared.cause.TheConstants.{MAX_SOURCES};
 ghost use Rattle.mm_record.specs.Causes.{cause_before};
 ghost use Rattle.mm_record.specs.Counters.{counters_of, AreRows};
-ghost use Rattle.mm_record.specs.MemorySteps.{recording_of, IsRecorded, IsRefused, Halts};
+ghost use Rattle.mm_desk.specs.Holdings.{AreHeld};
+ghost use Rattle.mm_record.specs.MemorySteps.{held_by, IsRecorded, IsRefused, Halts};
+ghost use Rattle.mm_record.specs.Recorded.{recording};
 ghost use Rattle.mm_record.specs.Supplies.{WhateverComes};
 ghost use Rattle.mm_record.specs.Steps.{IsWithinLimits, TakesAll};
 
@@ -15,9 +17,9 @@ use crate::readiness::cause_before;
 use crate::source::AnySource;
 use crate::step::{RecordingStep, record};
 use mm_base::{NoMemory, StoreId};
+use mm_control::ControlTable;
 use mm_desk::Held;
 use mm_desk::laws::any_order_loses_alike;
-use mm_memory::Memory;
 use mm_report::Cause;
 use std::alloc::Global;
 use std::sync::Wait;
@@ -76,37 +78,40 @@ fn changes_of(before: Vec<Counters>, room: Vec<Recorded>, stores: &[Held]) -> Ve
     recorded
 }
 
-// Records a step over the stores of a memory that can take part in it.
+// Records a step over stores that can take part in it.
 fn record_ready<S: AnySource + Send, R: Threads + Wait + Sync>(
     rt: &R,
     alloc: Global,
-    memory: &mut Memory,
-    step: u32,
-    now: u64,
+    context: &RecordingStep<'_>,
+    stores: &mut Vec<Held>,
     sources: &mut [S],
 ) -> Result<Vec<Recorded>, Cause>
+    requires held { AreHeld stores.old.items }
     requires many { length sources.old ≤ MAX_SOURCES }
-    ensures ok { IfOk result (λ told. WhateverComes S.leads S.until sources.old sources.new (IsRecorded (recording_of step now memory.old) memory.old memory.new told.items)) }
-    ensures err { IfErr result (Halts S.leads S.until (recording_of step now memory.old) memory.old memory.new sources.old sources.new) }
+    ensures ok { IfOk result (λ told. WhateverComes S.leads S.until sources.old sources.new
+        (IsRecorded (recording context.entry.now.step context.entry.now.now context.entry.now.control.now
+        stores.old.items)
+        (held_by context.entry.now.control.now stores.old.items)
+        (held_by context.entry.now.control.now stores.new.items) told.items)) }
+    ensures err { IfErr result (Halts S.leads S.until (recording context.entry.now.step context.entry.now.now
+        context.entry.now.control.now stores.old.items)
+        (held_by context.entry.now.control.now stores.old.items)
+        (held_by context.entry.now.control.now stores.new.items) sources.old sources.new) }
     ensures none_refused { IfErr result (λ cause. WhateverComes S.leads S.until sources.old sources.new
-        (λ given left. TakesAll (recording_of step now memory.old) memory.old.stores given → cause ≢ LogMismatch step)) }
+        (λ given left. TakesAll (recording context.entry.now.step context.entry.now.now context.entry.now.control.now
+        stores.old.items) stores.old.items given → cause ≢ LogMismatch context.entry.now.step)) }
+    ensures held { AreHeld stores.new.items }
 {
-    let Ok(before) = all_counters(alloc, memory.stores()) else {
+    let step = context.step;
+    let Ok(before) = all_counters(alloc, stores) else {
         return Err(Cause::NoMemory { step });
     };
     let Ok(room) = Vec::with_capacity(alloc, before.len()) else {
         return Err(Cause::NoMemory { step });
     };
-    let mut stores = memory.lift();
-    let context = RecordingStep {
-        control: memory.control(),
-        step,
-        now,
-    };
-    let done = record(rt, alloc, &context, &mut stores, sources);
+    let done = record(rt, alloc, context, stores, sources);
     any_order_loses_alike();
-    let recorded = changes_of(before, room, &stores);
-    memory.restore(stores);
+    let recorded = changes_of(before, room, stores);
     let Ok(why) = done else {
         return Err(Cause::NoMemory { step });
     };
@@ -116,32 +121,44 @@ fn record_ready<S: AnySource + Send, R: Threads + Wait + Sync>(
     }
 }
 
-/// Records a step over all stores of a memory: each source's packets of the step are taken by a recorder of its own, in a
-/// thread where one can be made, which offers a copy of each at `base + step` to the stores that its report type is routed to.
-/// Where each source gives at most 65,535 packets in the step and no store was offered more than 2^63 packets before, the cause
-/// of a halt is never `LogMismatch`.
-pub fn record_step<S: AnySource + Send + Drop, R: Threads + Wait + Sync>(
+/// Records a step over stores and by routes: each source's packets of the step are taken by a recorder of its own, in a
+/// thread where one can be made, which offers a copy of each at `base + step` to the stores that its report type is
+/// routed to. Where each source gives at most 65,535 packets in the step and no store was offered more than 2^63 packets
+/// before, the cause of a halt is never `LogMismatch`.
+pub fn record_stores<S: AnySource + Send + Drop, R: Threads + Wait + Sync>(
     rt: &R,
     alloc: Global,
-    memory: &mut Memory,
+    stores: &mut Vec<Held>,
+    control: &ControlTable,
     step: u32,
     base: u64,
     sources: Vec<S>,
 ) -> Result<RecordedStep<S>, RecordHalted<S>>
-    ensures refused { (cause : Cause) → cause_before memory.old.stores base (vec_len sources) ≡ Some cause
-        → IsRefused cause memory.old memory.new sources.items result }
+    requires held { AreHeld stores.old.items }
+    ensures refused { (cause : Cause) → cause_before stores.old.items base (vec_len sources) ≡ Some cause
+        → IsRefused cause (held_by control.now stores.old.items) (held_by control.now stores.new.items) sources.items
+        result }
     ensures ok { IfOk result (λ done. WhateverComes S.leads S.until sources.items done.sources.items
-        (IsRecorded (recording_of step (base + step) memory.old) memory.old memory.new done.recorded.items)) }
-    ensures err { cause_before memory.old.stores base (vec_len sources) ≡ None
-        → IfErr result (λ halted. Halts S.leads S.until (recording_of step (base + step) memory.old) memory.old memory.new sources.items halted.sources.items halted.cause) }
+        (IsRecorded (recording step (base + step) control.now stores.old.items)
+        (held_by control.now stores.old.items) (held_by control.now stores.new.items) done.recorded.items)) }
+    ensures err { cause_before stores.old.items base (vec_len sources) ≡ None
+        → IfErr result (λ halted. Halts S.leads S.until (recording step (base + step) control.now stores.old.items)
+        (held_by control.now stores.old.items) (held_by control.now stores.new.items) sources.items
+        halted.sources.items halted.cause) }
     ensures none_refused { IfErr result (λ halted. WhateverComes S.leads S.until sources.items halted.sources.items
-        (λ given left. IsWithinLimits step memory.old.stores given → halted.cause ≢ LogMismatch step)) }
+        (λ given left. IsWithinLimits step stores.old.items given → halted.cause ≢ LogMismatch step)) }
+    ensures held { AreHeld stores.new.items }
 {
     let mut sources = sources;
-    if let Some(cause) = cause_before(memory.stores(), base, sources.len()) {
+    if let Some(cause) = cause_before(stores, base, sources.len()) {
         return Err(RecordHalted { cause, sources });
     }
-    match record_ready(rt, alloc, memory, step, base + step as u64, &mut sources) {
+    let context = RecordingStep {
+        control,
+        step,
+        now: base + step as u64,
+    };
+    match record_ready(rt, alloc, &context, stores, &mut sources) {
         Ok(recorded) => Ok(RecordedStep { recorded, sources }),
         Err(cause) => Err(RecordHalted { cause, sources }),
     }

@@ -3,7 +3,7 @@
 use crate::packets::{STEP, batches, silence};
 use crate::setting::Setting;
 use anyhow::Result;
-use mm_record::record_step;
+use mm_exec::record_step;
 use std::alloc::Global;
 use std::fmt;
 use std::sync::Wait;

@@ -4,12 +4,12 @@ use crate::tests::samples::{counts, id, memory_of, next_after};
 use crate::tests::sources::{all_have_left, has_left, new_script, scripts, source_of};
 use mm_base::StoreId;
 use mm_desk::{Fault, Held};
+use mm_exec::record_step;
 use mm_memory::Memory;
 use mm_packet::{BlockPacket, Header, Octets, Packet};
 use mm_record::laws::held_stores_are_named;
 use mm_record::{
     Cause, RecordHalted, Recorded, RecordedStep, RecordingStep, Source, cause_in, record,
-    record_step,
 };
 use std::alloc::Global;
 use std::collections::VecDeque;

@@ -1,7 +1,7 @@
 use Rattle.std.proofs.Common.{◌≡◌, Some, None, rules, arith}
 use Rattle.std.proofs.lemmas.Option.{slice_get-get_or}
 use Rattle.mm_memory.specs.Holdings.{store_of, StandsAt}
-use Rattle.mm_memory.proofs.PlaceLemmas.{stands_at_first}
+use Rattle.mm_desk.proofs.PlaceLemmas.{stands_at_first}
 use Rattle.mm_memory.proofs.TextLemmas.{none_has, none_stands, names}
 use Rattle.mm_memory.proofs.places.place_named.Goals as goal
 

@@ -3,9 +3,10 @@ ghost use Rattle.std.specs.Prelude.{◌≡◌, [], All};
 
 use crate::tests::samples::{id, memory_of, next_after, packet};
 use callers::instrument::{Instrument, Observed, Observing, RingEnd, record_instruments};
+use mm_exec::record_step;
 use mm_memory::Memory;
 use mm_packet::BlockPacket;
-use mm_record::{AnySource, Live, RecordedStep, record_step};
+use mm_record::{AnySource, Live, RecordedStep};
 use rtrb::{Producer, RingBuffer};
 use std::alloc::Global;
 use std::process::Abort;

@@ -7,7 +7,7 @@ use Rattle.mm_desk.specs.declared.held.Held.{Held}
 use Rattle.mm_memory.specs.Holdings.{Holdings}
 use Rattle.mm_memory.specs.Naming.{NamesAt}
 use Rattle.mm_memory.proofs.LendingLemmas.{with_state-same}
-use Rattle.mm_memory.proofs.PlaceLemmas.{lent_alike, with_changed-stands}
+use Rattle.mm_desk.proofs.PlaceLemmas.{lent_alike, with_changed-stands}
 use Rattle.mm_memory.proofs.TextLemmas.{store_is}
 use Rattle.mm_memory.proofs.memory.Memory.named_mut.Goals as goal
 

@@ -6,7 +6,7 @@ use Rattle.mm_memory.specs.Holdings.{Holdings, AreHeld}
 use Rattle.mm_memory.specs.Laws.{ids_of}
 use Rattle.mm_memory.specs.Recording.{after_offers, after_record, tally_over}
 use Rattle.mm_memory.specs.Routing.{rows_for, packet_along}
-use Rattle.mm_memory.proofs.LawLemmas.{AreHeld-same_ids}
+use Rattle.mm_desk.proofs.PlaceLemmas.{AreHeld-same_ids}
 use Rattle.mm_memory.proofs.RecordLemmas.{all_written, ids_kept}
 use Rattle.mm_memory.proofs.RoutingLemmas.{empty_leads, recorded_none, told_none, recorded_along, told_along}
 use Rattle.mm_memory.proofs.memory.Memory.record_owned.Goals as goal

@@ -5,7 +5,7 @@ use Rattle.mm_desk.specs.Machine.{State}
 use Rattle.mm_desk.specs.declared.held.Held.{Held}
 use Rattle.mm_memory.specs.Holdings.{Holdings, StandsAt}
 use Rattle.mm_memory.proofs.LendingLemmas.{with_state-same}
-use Rattle.mm_memory.proofs.PlaceLemmas.{lent_alike, with_changed-stands}
+use Rattle.mm_desk.proofs.PlaceLemmas.{lent_alike, with_changed-stands}
 use Rattle.mm_memory.proofs.memory.Memory.state_mut.Goals as goal
 
 pub returns : goal.returns

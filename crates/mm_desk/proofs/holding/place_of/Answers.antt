@@ -1,6 +1,6 @@
-use Rattle.mm_memory.specs.Holdings.{has_id}
-use Rattle.mm_memory.proofs.PlaceLemmas.{stands_at_first, is_first}
-use Rattle.mm_memory.proofs.places.place_of.Goals as goal
+use Rattle.mm_desk.specs.Holdings.{has_id}
+use Rattle.mm_desk.proofs.PlaceLemmas.{stands_at_first, is_first}
+use Rattle.mm_desk.proofs.holding.place_of.Goals as goal
 
 pub returns : goal.returns
 returns c =

@@ -2,9 +2,9 @@ use Rattle.std.proofs.Common.{◌≡◌, ◌∙◌, refl, ap}
 use Rattle.mm_carry.proofs.Words.{labels_of, Holdings, held_as, supplies, run_input}
 use Rattle.mm_carry.proofs.Beyond.{loses_at_most}
 use Rattle.mm_carry.proofs.Ended.{total_is, stopped_far}
-use Rattle.mm_carry.proofs.run.carry_out.Given as given
-use Rattle.mm_carry.proofs.run.carry_out.Goals as goal
-use Rattle.mm_carry.proofs.run.carry_out.Goals.{After-restore}
+use Rattle.mm_exec.proofs.carrying.carry_out.Given as given
+use Rattle.mm_exec.proofs.carrying.carry_out.Goals as goal
+use Rattle.mm_exec.proofs.carrying.carry_out.Goals.{After-restore}
 
 -- the run had the routes of the memory
 routes_are : (g : given.Over) (c : goal.After-restore g) → c.control.result.now ≡ c.args.memory.now.routes

@@ -1,4 +1,4 @@
--- The place of the one store with an identifier.
+-- The place of the one store with an identifier, and stores with the same identifiers.
 use Rattle.std.proofs.Common.{◌≡◌, ◌≢◌, ◌⊎◌, inl, inr, ℕ, ◌<◌, ◌≤◌, Bool, true, false, cond, ltb, List, [], ◌∷◌, length, get_or, refl, sym, subst, ap, ◌∙◌, length-set, get_or-set_same, get_or-set_other, arith}
 use Rattle.std.specs.Prelude.{bytes_eq, if◌then◌else◌, slice_get, Option, Some, None, MatchOption, IfSome, AllPairs}
 use Rattle.std.specs.List.{position_or_len, find}
@@ -10,7 +10,7 @@ use Rattle.std.proofs.lemmas.List.Folds.{find_at}
 use Rattle.std.proofs.lemmas.Option.{slice_get_past, get_or_from_slice_get, same_Some}
 use Rattle.std.proofs.lemmas.Slice.Eq.{bytes_eq-Decides}
 use Rattle.mm_desk.specs.declared.held.Held.{Held}
-use Rattle.mm_memory.specs.Holdings.{HaveOtherIds, StandsAt, has_id, store_of, with_changed}
+use Rattle.mm_desk.specs.Holdings.{HaveOtherIds, AreHeld, StandsAt, has_id, ids_of, store_of, with_changed}
 
 -- the first place that passes is the store's place, and where none passes no store has the identifier
 pub stands_at_first : (id : List ℕ) (stores : List Held) (r : Option ℕ) → r ≡ cond (ltb (position_or_len (has_id id) stores) (length stores)) (Some (position_or_len (has_id id) stores)) None → MatchOption r (store_of id stores ≡ None) (StandsAt id stores)
@@ -89,3 +89,25 @@ with_changed-stands id change stores place h named stands at =
 -- two answers that lend under one name are the same where the lender ends the same
 pub lent_alike : {N A B C : Type 0} (name : N) (f g : A → B) → ((a : A) → f a ≡ g a) → ◌≡◌ {A = (N × (A → B)) ⊎ C} (inl (name, f)) (inl (name, g))
 lent_alike name f g same = λ i. inl (name, λ a. same a i)
+
+-- as many identifiers as stores
+length-ids_of : (a b : List Held) → ids_of a ≡ ids_of b → length a ≡ length b
+length-ids_of a b same = sym (length-map a (λ (h : Held). h.id)) ∙ ap length same ∙ length-map b (λ (h : Held). h.id)
+
+-- a store with an identifier of the list
+id_at : (a : List Held) (i : ℕ) (d : Held) → i < length a → get_or (ids_of a) i [] ≡ (get_or a i d).id
+id_at a i d within = get_or-map (λ (h : Held). h.id) a i d [] within
+
+pub AreHeld-same_ids : (a b : List Held) → ids_of a ≡ ids_of b → AreHeld a → AreHeld b
+AreHeld-same_ids a b same held =
+    let as_many = length-ids_of a b same in
+    record {
+      at_most = omega (arith, as_many, held.at_most);
+      named = λ i j d less within.
+          let j_in : j < length a = omega arith in
+          let i_in : i < length a = omega arith in
+          let i_out : i < length b = omega arith in
+          let first = sym (id_at a i d i_in) ∙ ap (λ (ids : List (List ℕ)). get_or ids i []) same ∙ id_at b i d i_out in
+          let second = sym (id_at a j d j_in) ∙ ap (λ (ids : List (List ℕ)). get_or ids j []) same ∙ id_at b j d within in
+          λ alike. held.named i j d less j_in (first ∙ alike ∙ sym second);
+    }
