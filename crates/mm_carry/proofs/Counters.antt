@@ -4,37 +4,37 @@ use Rattle.std.proofs.Common.{◌≡◌, ℕ, ◌+◌, ◌-◌, ◌<◌, ◌≤�
 use Rattle.std.proofs.Common.{[], ◌∷◌, get_or, length-append}
 use Rattle.std.specs.Prelude.{sum_by, slice_index, flat_map}
 use Rattle.mm_carry.proofs.Stepping.{grown, timed_by}
-use Rattle.mm_shared.specs.declared.tally.Tally.{Tally}
+use Rattle.mm_shared.specs.declared.counters.StoreCounters.{StoreCounters}
 use Rattle.std.proofs.lemmas.List.Concat.{get_or-flat_map}
 use Rattle.mm_carry.proofs.Words.{length-take-le, get_or-take, fill_by_all, get_or-map-range_with_len}
 use Rattle.mm_carry.proofs.Words.{length-map-range_with_len, get_or-range_with_len, length-range_with_len}
 use Rattle.mm_carry.proofs.Words.{range_with_len, sum_by_range_same, sum_by-add, sum_by-map, sum_by-swap, Dumping}
 use Rattle.mm_carry.proofs.Words.{arrivals, stores, steps, Amounts, left, written, lost, State, opening_at, Held}
-use Rattle.mm_carry.proofs.Words.{states_of, tally_of, StepCounts, AtEach, AsPlanned, counts_from, planned_counts}
+use Rattle.mm_carry.proofs.Words.{states_of, counters_of, StepCounts, AtEach, AsPlanned, counts_from, planned_counts}
 use Rattle.mm_carry.proofs.Words.{row_from, rows_by_counters, counted, AreByCounters, AreCounters, AreStepCounts}
 use Rattle.mm_carry.proofs.Words.{RunInput, store_state, step_of, offered, came, as_came, AreTimed}
 use Rattle.mm_carry.proofs.StoresReady.{all_by}
 
 -- counters of nothing
-abbrev no_counters : Tally
+abbrev no_counters : StoreCounters
 no_counters = record { offered = 0; lost = 0; deleted = 0; held = 0 }
 
 -- the first counts are the row
-pub row_taken : (q : Dumping) (t : ℕ) (places : List ℕ) (before after : List Held) (old new : List Tally)
+pub row_taken : (q : Dumping) (t : ℕ) (places : List ℕ) (before after : List Held) (old new : List StoreCounters)
     (counts : List StepCounts) (n : ℕ) → AreCounters before places n old → AreCounters after places n new
     → AreStepCounts q t old new n counts → n ≤ length counts
     → take n counts ≡ row_from q t places before after n
 row_taken q t places before after old new counts n was is told fits =
     let one : ℕ → StepCounts = λ s. counts_from q s t
-    (tally_of (opening_at (states_of before) (slice_index places s)))
-    (tally_of (opening_at (states_of after) (slice_index places s))) in
+    (counters_of (opening_at (states_of before) (slice_index places s)))
+    (counters_of (opening_at (states_of after) (slice_index places s))) in
     fill_by_all one (take n counts) n (one 0) (length-take-le n counts fits)
     (λ k inside. get_or-take n counts k (one 0) inside ∙ told k (one 0) no_counters no_counters inside
     ∙ (λ i. counts_from q k t (was k no_counters inside i) (is k no_counters inside i)))
 
 -- what a step brings to a store is what the plan says
 pub counts_planned : (q came : Dumping) (x : Amounts) (s t : ℕ) (u v : State) → AsPlanned came x s t u v
-    → counts_from q s t (tally_of u) (tally_of v) ≡ planned_counts q came x s t
+    → counts_from q s t (counters_of u) (counters_of v) ≡ planned_counts q came x s t
 counts_planned q came x s t u v planned =
     let arrived : v.offered - u.offered ≡ arrivals came s t = omega (arith, planned.takes) in
     let lost_is : v.lost - u.lost ≡ lost came x s t = omega (arith, planned.loses) in
@@ -45,7 +45,7 @@ counts_planned q came x s t u v planned =
 -- the totals of the first rows are what the stores' counters rose by
 module _ (m : RunInput) (held : ℕ → List Held) (steps : ℕ) (first : held 0 ≡ m.memory.stores) where
   total_of : (counter : State → ℕ) (part : StepCounts → ℕ)
-      → ((s t : ℕ) (u v : State) → part (counts_from m.problem s t (tally_of u) (tally_of v))
+      → ((s t : ℕ) (u v : State) → part (counts_from m.problem s t (counters_of u) (counters_of v))
       ≡ counter v - counter u)
       → AtEach (length m.problem.rows) steps (λ s t. counter (store_state m (held (t - 1)) s)
       ≤ counter (store_state m (held t) s))
@@ -55,8 +55,8 @@ module _ (m : RunInput) (held : ℕ → List Held) (steps : ℕ) (first : held 0
       let n = length m.problem.rows in
       let at = λ (s t : ℕ). counter (store_state m (held t) s) in
       let rose = λ (s t : ℕ). at s t - at s (t - 1) in
-      let here = λ (t s : ℕ). counts_from m.problem s t (tally_of (store_state m (held (t - 1)) s))
-      (tally_of (store_state m (held t) s)) in
+      let here = λ (t s : ℕ). counts_from m.problem s t (counters_of (store_state m (held (t - 1)) s))
+      (counters_of (store_state m (held t) s)) in
       let row = λ (t : ℕ). map (here t) (stores m.problem) in
       sum_by_range_same (λ s. at s steps) (λ s. at s 0 + sum_by (rose s) (range_with_len 1 steps)) 0 n
       (λ s from to. grown (at s) (rose s) steps (λ t low high. let up = rise s t (omega arith) low high in omega

@@ -113,7 +113,7 @@ first_turn e before after turn k had within = by_broken turn.broken had.whole ha
         let there : offers e k turn.gave ≡ turn.offered k ++ began.rest =
         ap (offers e k) partly.are ∙ offers_more e k partly.before (partly.last ∷ [])
         ∙ ap (λ (es : List Event). offers e k partly.before ++ es) began.are
-        ∙ sym (append_assoc (offers e k partly.before) began.did began.rest)
+        ∙ sym (append_assoc (offers e k partly.before) began.made began.rest)
         ∙ ap (λ (es : List Event). es ++ began.rest) (sym began.asks_are) in (
           began.rest ++ offers e k (after e.step),
           gave_first ∙ ap (λ (es : List Event). es ++ offers e k (after e.step)) there ∙ append_assoc (turn.offered k)
@@ -145,10 +145,10 @@ whole_step sent failed e orders before after is =
           let first = records.recorded k (omega (arith, within, many, length-map is.mid (λ (h : Held). h.state))) in
           let second = dumped.stores k (omega (arith, within, length-map after.stores (λ (h : Held). h.state))) in
           record {
-            recorded = first.log;
+            recorded = first.legal.log;
             dumped = second.calls;
-            run = IsRun-append _ _ _ first.log second.calls first.run second.run;
-            shuffle = first.shuffle;
+            run = IsRun-append _ _ _ first.legal.log second.calls first.legal.run second.run;
+            shuffle = first.legal.shuffle;
             taken = first.taken;
             dump = record { none = second.none; whole = second.whole };
           };

@@ -16,7 +16,7 @@ use Rattle.mm_carry.proofs.Words.{StepRunsKeepStores, IsPlaceOf, ArePlaces, Stan
 use Rattle.mm_carry.proofs.Words.{meets_at, RunInput, recording_in, step_of, place_in_memory, store_state, step_orders}
 use Rattle.mm_carry.proofs.Words.{RunState, with_supplies, AreReady, AreOrders, StepsDone, taken_amounts}
 use Rattle.mm_carry.proofs.Words.{RunContext, Stop, AreCounters}
-use Rattle.mm_shared.specs.declared.tally.Tally.{Tally}
+use Rattle.mm_shared.specs.declared.counters.StoreCounters.{StoreCounters}
 use Rattle.mm_desk.specs.declared.state.Retrieval.{Retrieval}
 use Rattle.mm_report.specs.declared.cause.TheConstants.{LATEST_START}
 use Rattle.mm_carry.specs.declared.requirement.Requirement.{Requirement}
@@ -212,7 +212,7 @@ module _ {L : Type 0} (sent : L → List Sent) (failed : L → ℕ) (run : RunCo
       by_clock b s early few = omega arith
 
   -- the step may be carried out and reported, with sources that give this
-  pub may_report : {S : Type 0} (now : RunState S L) (given : List Supply) (counters : List Tally)
+  pub may_report : {S : Type 0} (now : RunState S L) (given : List Supply) (counters : List StoreCounters)
       (buffers : RunBuffers) → length given ≡ length now.sources
       → Underway (with_supplies now given) buffers.report → AreHeld first.stores → All (λ l. failed l < 2 ^ 64 - 1)
       first.links

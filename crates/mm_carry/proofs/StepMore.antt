@@ -4,7 +4,7 @@ use Rattle.std.proofs.Common.{length, map, All, refl, sym, subst, ap, ◌∙◌,
 use Rattle.mm_carry.proofs.Words.{cases_eq, eq-eqb, ne_eqb, map_push, flat_map_more, length-map, get_or-map, All-map}
 use Rattle.mm_carry.proofs.Words.{range_with_len, flat_map, slice_index, slice_index_or, filter, All-unmapped}
 use Rattle.mm_carry.proofs.Words.{range_with_len_next, StoreRow, SpacePacket, row, no_row, stores, Stored, State}
-use Rattle.mm_carry.proofs.Words.{opening_at, Offer, Held, labels_of, states_of, id_at, is_routed, tally_of}
+use Rattle.mm_carry.proofs.Words.{opening_at, Offer, Held, labels_of, states_of, id_at, is_routed, counters_of}
 use Rattle.mm_carry.proofs.Words.{RecordingContext, offers, recording, given_in, Supply, Sent, all_sent, Order}
 use Rattle.mm_carry.proofs.Words.{Reported, AtEach, IsReady, AsPlanned, IsRunOf, RunsLoseAsPlanned}
 use Rattle.mm_carry.proofs.Words.{RunsLoseNoPacketUncounted, counts_from, rows_of, row_from, rows_by_counters}
@@ -259,8 +259,8 @@ module _ {L : Type 0} (sent : L → List Sent) (failed : L → ℕ) (m : RunInpu
           ≡ rows_by_counters m stores_after count
       rows_counted =
           let row = λ (before after : List Held) (u : ℕ).
-          map (λ s. counts_from m.problem s u (tally_of (store_state m before s))
-          (tally_of (store_state m after s))) (stores m.problem) in
+          map (λ s. counts_from m.problem s u (counters_of (store_state m before s))
+          (counters_of (store_state m after s))) (stores m.problem) in
           let now = λ (u : ℕ). row (stores_after (u - 1)) (stores_after u) u in
           let earlier : map now (range_with_len 1 (t - 1)) ≡ rows_by_counters m done.stores (t - 1) =
           map_range_same now (λ u. row (done.stores (u - 1)) (done.stores u) u) 1 (t - 1)
@@ -269,7 +269,7 @@ module _ {L : Type 0} (sent : L → List Sent) (failed : L → ℕ) (m : RunInpu
           let last : row_from m.problem t places before.stores after.stores n ≡ now t =
           map_range_same _ _ 0 n
           (λ s from to. let was = state_before s (omega arith) in let is = state_after s (omega arith) in λ i.
-          counts_from m.problem s t (tally_of (was i)) (tally_of (is i))) in
+          counts_from m.problem s t (counters_of (was i)) (counters_of (is i))) in
           let rows = done.rows ∙ sym earlier in
           (λ i. rows i ++ last i ∷ []) ∙ sym (ap (map now) (range_with_len_next t from_one)
           ∙ map_push now (range_with_len 1 (t - 1)) t)

@@ -88,7 +88,7 @@ ready_recorded e before mid fault given left ids ready records =
     let many = as_many mid before records.labels in
     ready_on before mid records.labels records.sound
     (λ k within.
-    let went = records.went k within in
+    let went = records.logs k within in
     let asked : List (List Event) = map (λ run. run.offered k) records.runs in
     let turns = first_turns e given left records.runs k records.are_runs
     (omega (arith, within, length-map mid (λ (h : Held). h.state), many, ids)) in

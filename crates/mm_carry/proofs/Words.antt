@@ -60,7 +60,7 @@ pub use Rattle.mm_record.proofs.Memories.{held_as, named_of, not_caused}
 pub use Rattle.mm_record.proofs.Supplying.{all_stay, length-supplies, zip_long}
 pub use Rattle.mm_record.proofs.Taking.{filter_fewer, parts_all}
 pub use Rattle.mm_record.specs.Causes.{is_late}
-pub use Rattle.mm_shared.specs.Views.{tally_of}
+pub use Rattle.mm_shared.specs.Views.{counters_of}
 pub use Rattle.mm_record.specs.Steps.{TakesAll}
 pub use Rattle.mm_record.specs.Supplies.{supplies}
 pub use Rattle.mm_dump.specs.Courses.{EndedAs, failed_by, worse, worst_of}

@@ -3,7 +3,7 @@ use Rattle.std.specs.Prelude.{◌≡◌, ℕ, ◌+◌, ◌-◌, ◌<◌, ◌≤�
 use Rattle.std.specs.Prelude.{Option, IfNone, IfSome}
 use Rattle.mm_carry.specs.Words.{MAX_STORES, window, amount, HasShape, IsState, Held, AreHeld, RecordingContext}
 use Rattle.mm_carry.specs.Words.{recording, AreFew, Supply, amount_of, Sent, Order, Reported}
-use Rattle.mm_shared.specs.declared.tally.Tally.{Tally}
+use Rattle.mm_shared.specs.declared.counters.StoreCounters.{StoreCounters}
 use Rattle.mm_carry.specs.Readiness.{run_start, MayBegin}
 use Rattle.mm_carry.specs.Places.{StandWithin}
 use Rattle.mm_carry.specs.declared.course.RunContext.{RunContext}
@@ -32,7 +32,7 @@ orders_at run places step = orders_of (amount run.plan.now) places step (length 
 -- moment fits, each store of the problem stands at a place of its own and has these counters, the step may be carried
 -- out, its orders fit the window, and there is room for its row
 pub record MayReport {S L : Type 0} (failed : L → ℕ) (run : RunContext) (places : List ℕ) (step : ℕ)
-    (counters : List Tally) (buffers : RunBuffers) (now : RunState S L) : Type 0 where
+    (counters : List StoreCounters) (buffers : RunBuffers) (now : RunState S L) : Type 0 where
   pub shape : HasShape run.problem.now run.plan.now
   pub first : 1 ≤ step
   pub last : step ≤ length run.problem.now.windows

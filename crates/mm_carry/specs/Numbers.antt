@@ -4,8 +4,8 @@ use Rattle.std.specs.Prelude.{slice_index_or}
 use Rattle.std.specs.List.{range_with_len}
 use Rattle.mm_carry.specs.Words.{Dumping, arrivals, stores, Amounts, left, written, lost, State, opening_at, Held}
 use Rattle.mm_carry.specs.Words.{states_of, Order, Reported, totals_of}
-use Rattle.mm_shared.specs.declared.tally.Tally.{Tally}
-use Rattle.mm_shared.specs.Views.{tally_of}
+use Rattle.mm_shared.specs.declared.counters.StoreCounters.{StoreCounters}
+use Rattle.mm_shared.specs.Views.{counters_of}
 use Rattle.mm_report.specs.declared.counts.StepCounts.{StepCounts}
 use Rattle.mm_carry.specs.RunInput.{RunInput, store_state}
 
@@ -34,7 +34,7 @@ report_of forecast came x steps =
     }
 
 -- what a step brings to a store, by its counters as the step begins and as it ends
-abbrev pub counts_from : Dumping → ℕ → ℕ → Tally → Tally → StepCounts
+abbrev pub counts_from : Dumping → ℕ → ℕ → StoreCounters → StoreCounters → StepCounts
 counts_from q s t before after = record {
   forecast = arrivals q s t;
   arrived = after.offered - before.offered;
@@ -44,27 +44,27 @@ counts_from q s t before after = record {
 }
 
 -- the counters of the stores at these places
-abbrev pub AreCounters : List Held → List ℕ → ℕ → List Tally → Type 0
-AreCounters stores places n counters = (s : ℕ) (d : Tally) → s < n → slice_index_or counters s d
-    ≡ tally_of (opening_at (states_of stores) (slice_index places s))
+abbrev pub AreCounters : List Held → List ℕ → ℕ → List StoreCounters → Type 0
+AreCounters stores places n counters = (s : ℕ) (d : StoreCounters) → s < n → slice_index_or counters s d
+    ≡ counters_of (opening_at (states_of stores) (slice_index places s))
 
 -- what a step brings to the first stores of the problem, which have these counters before it and after it
-abbrev pub AreStepCounts : Dumping → ℕ → List Tally → List Tally → ℕ → List StepCounts → Type 0
-AreStepCounts q t before after n counts = (s : ℕ) (d : StepCounts) (b a : Tally) → s < n
+abbrev pub AreStepCounts : Dumping → ℕ → List StoreCounters → List StoreCounters → ℕ → List StepCounts → Type 0
+AreStepCounts q t before after n counts = (s : ℕ) (d : StepCounts) (b a : StoreCounters) → s < n
     → slice_index_or counts s d ≡ counts_from q s t (slice_index_or before s b) (slice_index_or after s a)
 
 -- what a step brings to the first stores of the problem, which stand at these places, from these stores to those
 abbrev pub row_from : Dumping → ℕ → List ℕ → List Held → List Held → ℕ → List StepCounts
 row_from q t places before after n =
-    map (λ s. counts_from q s t (tally_of (opening_at (states_of before) (slice_index places s)))
-    (tally_of (opening_at (states_of after) (slice_index places s))))
+    map (λ s. counts_from q s t (counters_of (opening_at (states_of before) (slice_index places s)))
+    (counters_of (opening_at (states_of after) (slice_index places s))))
     (range_with_len 0 n)
 
 -- the rows of the first steps, each by its stores' counters before the step and after it
 abbrev pub rows_by_counters : RunInput → (ℕ → List Held) → ℕ → List (List StepCounts)
 rows_by_counters m held steps =
-    map (λ t. map (λ s. counts_from m.problem s t (tally_of (store_state m (held (t - 1)) s))
-    (tally_of (store_state m (held t) s))) (stores m.problem))
+    map (λ t. map (λ s. counts_from m.problem s t (counters_of (store_state m (held (t - 1)) s))
+    (counters_of (store_state m (held t) s))) (stores m.problem))
     (range_with_len 1 steps)
 
 -- the orders of a step, for stores at these places: one where packets are to leave, in the problem's order

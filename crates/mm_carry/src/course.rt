@@ -23,7 +23,7 @@ use mm_plan::Plan;
 use mm_problem::Problem;
 use mm_record::laws::sources_may_stay;
 use mm_record::{AnySource, RecordingStep};
-use mm_shared::Tally;
+use mm_shared::StoreCounters;
 use std::alloc::Global;
 use std::sync::Wait;
 use std::thread::Threads;
@@ -47,7 +47,7 @@ impl<S: AnySource + Send + Drop, L: Link + Send + Drop> OpenRun<S, L> {
         run: &RunContext<'_>,
         places: &[usize],
         step: u32,
-        counters: &mut [Tally; MAX_STORES],
+        counters: &mut [StoreCounters; MAX_STORES],
         buffers: &mut RunBuffers,
     ) -> Result<(), Stop>
         requires may { MayReport L.failed run.now places.now step counters.old buffers.old self.old }

@@ -7,24 +7,24 @@ ghost use Rattle.mm_carry.specs.Numbers.{AreCounters, AreStepCounts};
 use mm_base::MAX_STORES;
 use mm_problem::Problem;
 use mm_report::StepCounts;
-use mm_shared::{OpenStores, Tally, tally_at};
+use mm_shared::{OpenStores, StoreCounters, counters_at};
 
 // The counters of the stores at these places.
-pub(crate) fn all_counters(places: &[usize], stores: &mut OpenStores) -> [Tally; MAX_STORES]
+pub(crate) fn all_counters(places: &[usize], stores: &mut OpenStores) -> [StoreCounters; MAX_STORES]
     requires rest { AreAtRest stores.old }
     requires few { length places.now ≤ MAX_STORES }
     requires within { All (λ place. place < length (stores_in stores.old)) places.now }
     ensures same { stores.new ≡ stores.old }
     ensures counters { AreCounters (stores_in stores.old) places.now (length places.now) result }
 {
-    let mut counters = [Tally {
+    let mut counters = [StoreCounters {
         offered: 0,
         lost: 0,
         deleted: 0,
         held: 0,
     }; MAX_STORES];
     for (store, place) in places.iter().enumerate() {
-        counters[store] = tally_at(stores, *place);
+        counters[store] = counters_at(stores, *place);
     }
     counters
 }
@@ -33,8 +33,8 @@ pub(crate) fn all_counters(places: &[usize], stores: &mut OpenStores) -> [Tally;
 pub(crate) fn step_counts(
     problem: &Problem,
     step: u32,
-    before: &[Tally; MAX_STORES],
-    after: &[Tally; MAX_STORES],
+    before: &[StoreCounters; MAX_STORES],
+    after: &[StoreCounters; MAX_STORES],
 ) -> [StepCounts; MAX_STORES]
     requires step { (1 ≤ step) × (step ≤ length problem.now.windows) }
     ensures len { length result ≡ MAX_STORES }

@@ -1,12 +1,9 @@
 -- Why a step is not begun or is ended.
-use Rattle.std.specs.Prelude.{ℕ, Bool, not, ◌&&◌, ◌||◌, nat_lt, nat_le, if◌then◌else◌, List, find, Option, Some, None, is_some}
-use Rattle.std.specs.List.{list_any}
-use Rattle.mm_desk.specs.declared.fault.Fault.{Fault}
+use Rattle.std.specs.Prelude.{ℕ, Bool, not, ◌&&◌, ◌||◌, nat_lt, nat_le, if◌then◌else◌, List, find, is_some, Option}
+use Rattle.std.specs.Prelude.{Some, None}
+use Rattle.mm_record.specs.Words.{list_any, Fault, Held, Cause, NotReady, ClockTooLate, Counts, NoMemory, LogMismatch}
+use Rattle.mm_record.specs.Words.{MAX_SOURCES, LATEST_START}
 use Rattle.mm_desk.specs.declared.fault.Fault.TheVariants as fault
-use Rattle.mm_desk.specs.declared.held.Held.{Held}
-use Rattle.mm_report.specs.declared.cause.Cause.{Cause}
-use Rattle.mm_report.specs.declared.cause.Cause.TheVariants.{NotReady, ClockTooLate, Counts, NoMemory, LogMismatch}
-use Rattle.mm_report.specs.declared.cause.TheConstants.{MAX_SOURCES, LATEST_START}
 
 -- whether a store can take part in a step: its storage is on, and no retrieval from it is
 abbrev pub is_ready : Held → Bool
@@ -20,12 +17,12 @@ is_late moment = nat_lt LATEST_START moment
 abbrev pub is_clock_late : List Held → ℕ → Bool
 is_clock_late stores base = is_late base || list_any (λ h. is_late h.state.store.last) stores
 
--- whether there is at least one, and no more than the most
+-- whether there is at least one, and at most the greatest number allowed
 abbrev pub is_count : ℕ → ℕ → Bool
 is_count count most = nat_le 1 count && nat_le count most
 
--- why a step is not begun, where this is the first store that is not ready: that store; or else a first moment or a last storage time
--- that is too late; or else too few or too many sources
+-- why a step is not begun: the first store that is not ready, if there is one; else a moment or a last storage time
+-- that is too late; else a number of sources that is too small or too great
 abbrev pub cause_by : List Held → ℕ → ℕ → Option Held → Option Cause
 cause_by stores base sources (Some h) = Some (NotReady h.id)
 cause_by stores base sources None =
@@ -37,7 +34,7 @@ cause_by stores base sources None =
 abbrev pub cause_before : List Held → ℕ → ℕ → Option Cause
 cause_before stores base sources = cause_by stores base sources (find (λ h. not (is_ready h)) stores)
 
--- why a step of recorders is ended: a store refused an offer; or else there was no memory
+-- why a step of recorders is ended: a store refused an offer, or there was no memory
 abbrev pub cause_in : ℕ → Option Fault → Option Cause
 cause_in step None = None
 cause_in step (Some fault.NoMemory) = Some (NoMemory step)

@@ -1,6 +1,6 @@
--- Sources of which the first steps are past.
+-- Sources with their first steps past.
 use Rattle.std.specs.Prelude.{ℕ, ◌+◌, ◌^◌, nat_lt, if◌then◌else◌, List, []}
-use Rattle.mm_packet.specs.Packet.{SpacePacket}
+use Rattle.mm_record.specs.Words.{SpacePacket}
 use Rattle.mm_record.specs.declared.later.Later.{Later}
 
 -- a source from after this step on

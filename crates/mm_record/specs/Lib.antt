@@ -1,6 +1,6 @@
 pub use Rattle.mm_shared.specs.Stores
+pub mod Words
 pub mod Causes
-pub mod Counters
 pub mod Supplies
 pub mod Lives
 pub mod Recorded

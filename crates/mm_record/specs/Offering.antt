@@ -1,17 +1,9 @@
--- How the calls through a port go on while packets are offered. No public clause cites this module.
-use Rattle.std.specs.Prelude.{◌≡◌, ◌⊎◌, ℕ, ◌<◌, ◌==◌, Bool, true, false, if◌then◌else◌, List, [], ◌∷◌, ◌++◌, length, map, filter, Any, bytes_eq, Result, IfErr, is_ok}
-use Rattle.mm_base.specs.declared.rows.RouteRow.{RouteRow}
-use Rattle.mm_packet.specs.Packet.{SpacePacket}
-use Rattle.mm_desk.specs.declared.entry.Entry.{Entry}
-use Rattle.mm_desk.specs.declared.event.Event.{Event}
-use Rattle.mm_desk.specs.declared.event.Event.TheVariants.{Offer}
-use Rattle.mm_desk.specs.declared.fault.Fault.{Fault}
+-- The calls through a port while packets are offered. No public clause cites this module.
+use Rattle.std.specs.Prelude.{◌≡◌, ◌⊎◌, ℕ, ◌<◌, ◌==◌, Bool, true, false, if◌then◌else◌, List, [], ◌∷◌, ◌++◌, length}
+use Rattle.std.specs.Prelude.{map, filter, Any, bytes_eq, Result, IfErr, is_ok}
+use Rattle.mm_record.specs.Words.{RouteRow, SpacePacket, Entry, Event, Offer, Fault, AreTaken, asked_in, StoreLabel}
+use Rattle.mm_record.specs.Words.{list_at, end_of, ids_of, id_at, AreNamed, Origin, PortView, StoresView}
 use Rattle.mm_desk.specs.declared.fault.Fault.TheVariants.{NoMemory}
-use Rattle.mm_desk.specs.Offers.{AreTaken}
-use Rattle.mm_desk.specs.Offers.{asked as asked_in}
-use Rattle.mm_shared.specs.declared.label.StoreLabel.{StoreLabel}
-use Rattle.mm_shared.specs.Stores.{list_at, end_of, ids_of, id_at, AreNamed}
-use Rattle.mm_shared.specs.Views.{Origin, PortView, StoresView}
 use Rattle.mm_record.specs.declared.context.StepContext.{StepContext}
 use Rattle.mm_record.specs.Recorded.{RecordingContext, open_recording, offers}
 use Rattle.mm_record.specs.Steps.{IsRefusedWith, OfferedInPart}
@@ -20,7 +12,7 @@ use Rattle.mm_record.specs.Steps.{IsRefusedWith, OfferedInPart}
 abbrev pub asked : PortView → ℕ → List Event
 asked port k = asked_in (list_at port k)
 
--- the step that recorders are at
+-- the step of recorders
 abbrev pub step_of : {R : Type 0} → StepContext R → RecordingContext
 step_of context = open_recording context.step context.moment context.control.now context.labels.now
 
@@ -32,7 +24,7 @@ offer_at e p index k = if k == index then Offer e.now p ∷ [] else []
 abbrev pub offers_by : RecordingContext → SpacePacket → List RouteRow → ℕ → List Event
 offers_by e p rows k = map (λ _. Offer e.now p) (filter (bytes_eq (id_at e.ids k)) (map (λ r. r.store) rows))
 
--- the offers of a packet to the store at an index: one where it is routed to it
+-- the offers of a packet to the store at an index: one if it is routed there
 abbrev pub offers_of : RecordingContext → SpacePacket → ℕ → List Event
 offers_of e p k = offers e k (p ∷ [])
 
@@ -42,15 +34,15 @@ pub record MayOffer (labels : List StoreLabel) (stores : StoresView) (of : Origi
   pub as_many : length labels ≡ stores.many
   pub of_them : of.table ≡ stores.id
 
--- a list goes on by all of these events
-pub record ExtendsBy (more : List Event) (old new : List Entry) : Type 0 where
+-- all of these offers were made and taken, after those in the old list
+pub record OfferedWhole (more : List Event) (old new : List Entry) : Type 0 where
   pub all : asked_in new ≡ asked_in old ++ more
   pub taken : AreTaken old → AreTaken new
 
--- a list goes on by all of these events, or only by the first of them
-abbrev pub Goes : Bool → List Event → List Entry → List Entry → Type 0
-Goes true more old new = ExtendsBy more old new
-Goes false more old new = OfferedInPart (asked_in old) more (asked_in new)
+-- all of these offers were made and taken, or only the first of them were made
+abbrev pub OfferedUpTo : Bool → List Event → List Entry → List Entry → Type 0
+OfferedUpTo true more old new = OfferedWhole more old new
+OfferedUpTo false more old new = OfferedInPart (asked_in old) more (asked_in new)
 
 -- an offer to one of the stores was refused with this fault
 pub record HasRefusal (count : ℕ) (port : PortView) (fault : Fault) : Type 0 where
@@ -58,12 +50,13 @@ pub record HasRefusal (count : ℕ) (port : PortView) (fault : Fault) : Type 0 w
   pub within : index < count
   pub refused : Any (λ e. IsRefusedWith fault e.event e.reply) (list_at port index)
 
--- why it ended there: out of memory, or an offer was refused so
+-- why a recorder stops early: out of memory, or an offer was refused with this fault
 abbrev pub IsReason : ℕ → PortView → Fault → Type 0
 IsReason count port fault = (fault ≡ NoMemory) ⊎ HasRefusal count port fault
 
--- these offers were made to the stores, and none was refused; or the first of them, and this is why no more
-pub record Offers {T : Type 0} (e : RecordingContext) (more : ℕ → List Event) (old new : PortView) (result : Result T Fault) : Type 0 where
+-- these offers were made to the stores, and none was refused; or only the first of them were made, for this fault
+pub record Offers {T : Type 0} (e : RecordingContext) (more : ℕ → List Event) (old new : PortView)
+    (result : Result T Fault) : Type 0 where
   pub end : end_of new ≡ end_of old
-  pub lists : (k : ℕ) → k < length e.ids → Goes (is_ok result) (more k) (list_at old k) (list_at new k)
+  pub lists : (k : ℕ) → k < length e.ids → OfferedUpTo (is_ok result) (more k) (list_at old k) (list_at new k)
   pub reason : IfErr result (IsReason (length e.ids) new)

@@ -1,13 +1,7 @@
 -- What recorders offer: each packet that a source gives goes to each store that its report type is routed to.
 use Rattle.std.specs.Prelude.{ℕ, List, map, filter}
-use Rattle.mm_base.specs.declared.rows.RouteRow.{RouteRow}
-use Rattle.mm_packet.specs.Packet.{SpacePacket}
-use Rattle.mm_desk.specs.declared.event.Event.{Event}
-use Rattle.mm_desk.specs.declared.event.Event.TheVariants.{Offer}
-use Rattle.mm_desk.specs.declared.held.Held.{Held}
+use Rattle.mm_record.specs.Words.{RouteRow, SpacePacket, Event, Offer, Held, StoreLabel, ids_of, id_at}
 use Rattle.mm_control.specs.Routing.{is_routed}
-use Rattle.mm_shared.specs.declared.label.StoreLabel.{StoreLabel}
-use Rattle.mm_shared.specs.Stores.{ids_of, id_at}
 
 -- what all recorders of a step share: the step, the moment of its offers, the routes, and the identifiers of the stores
 pub record RecordingContext : Type 0 where

@@ -1,43 +1,35 @@
 -- A step of recorders: what its stores and its sources are afterwards.
-use Rattle.std.specs.Prelude.{◌≡◌, ◌≢◌, ◌⊎◌, ℕ, ◌+◌, ◌<◌, ◌≤◌, ◌^◌, true, List, [], ◌∷◌, ◌++◌, length, map, slice_index_or, All, Any, Option, Some, None, IfNone, IfSome, Err}
-use Rattle.mm_packet.specs.Packet.{SpacePacket}
-use Rattle.mm_desk.specs.declared.entry.Entry.{Entry}
-use Rattle.mm_desk.specs.declared.event.Event.{Event}
-use Rattle.mm_desk.specs.declared.event.Event.TheVariants.{Offer}
-use Rattle.mm_desk.specs.declared.fault.Fault.{Fault}
+use Rattle.std.specs.Prelude.{◌≡◌, ◌≢◌, ◌⊎◌, ℕ, ◌+◌, ◌<◌, ◌≤◌, ◌^◌, true, List, [], ◌∷◌, ◌++◌, length, map, All, Any}
+use Rattle.std.specs.Prelude.{Option, Some, None, IfNone, IfSome, Err}
+use Rattle.mm_record.specs.Words.{SpacePacket, Entry, Event, Offer, Fault, Held, State, IsState, AreTaken}
+use Rattle.mm_record.specs.Words.{IsShuffleOfEvents, IsRun, opening_at, states_of, labels_of}
 use Rattle.mm_desk.specs.declared.fault.Fault.TheVariants.{NoMemory}
-use Rattle.mm_desk.specs.declared.held.Held.{Held}
 use Rattle.mm_desk.specs.declared.reply.Reply.{Reply}
-use Rattle.mm_desk.specs.declared.reply.Reply.TheVariants as reply
-use Rattle.mm_desk.specs.Machine.{State, IsState}
-use Rattle.mm_desk.specs.Offers.{AreTaken, IsShuffleOfEvents}
-use Rattle.mm_desk.specs.Runs.{IsRun, opening_at}
-use Rattle.mm_shared.specs.Stores.{states_of, labels_of}
 use Rattle.mm_record.specs.Supplies.{Supply}
 use Rattle.mm_record.specs.Recorded.{RecordingContext, offers}
+use Rattle.mm_desk.specs.declared.reply.Reply.TheVariants as reply
 
 -- what sources still give in a step
 abbrev pub given_in : ℕ → List Supply → List (List SpacePacket)
 given_in step sources = map (λ s. s step) sources
 
--- a store went by a legal log from the first state to the second; replies left aside, the log is a shuffle of these lists of offers
+-- a legal log leads a store from the first state to the second; replies left aside, it is a shuffle of these offers
 pub record HasLegalOffers (lists : List (List Event)) (s t : State) : Type 0 where
   pub log : List Entry
   pub run : IsRun s log t
   pub shuffle : IsShuffleOfEvents lists log
 
--- a store has recorded what the sources gave: it went by a legal log that is a shuffle of all offers, and none was refused
+-- a store has recorded what the sources gave: all offers were made, and none was refused
 pub record HasRecorded (e : RecordingContext) (gave : List (List SpacePacket)) (k : ℕ) (s t : State) : Type 0 where
-  pub log : List Entry
-  pub run : IsRun s log t
-  pub shuffle : IsShuffleOfEvents (map (offers e k) gave) log
-  pub taken : AreTaken log
+  pub legal : HasLegalOffers (map (offers e k) gave) s t
+  pub taken : AreTaken legal.log
 
 -- each store has recorded what the sources gave
 abbrev pub AllRecorded : RecordingContext → List (List SpacePacket) → List State → List State → Type 0
-AllRecorded e gave before after = (k : ℕ) → k < length after → HasRecorded e gave k (opening_at before k) (opening_at after k)
+AllRecorded e gave before after =
+    (k : ℕ) → k < length after → HasRecorded e gave k (opening_at before k) (opening_at after k)
 
--- the run of one recorder: what its source gave, what it offered to the store at each index, and why it stopped early, where it did
+-- the run of one recorder: what its source gave, what it offered to the store at each index, and why it stopped early
 pub record RecorderRun : Type 0 where
   pub gave : List SpacePacket
   pub offered : ℕ → List Event
@@ -45,24 +37,25 @@ pub record RecorderRun : Type 0 where
 
 -- all of the first events were asked, and then the first of the others, perhaps none and perhaps all
 pub record OfferedInPart (all more asks : List Event) : Type 0 where
-  pub did : List Event
+  pub made : List Event
   pub rest : List Event
-  pub are : more ≡ did ++ rest
-  pub asks_are : asks ≡ all ++ did
+  pub are : more ≡ made ++ rest
+  pub asks_are : asks ≡ all ++ made
 
--- of the packet given last the first offers were made to each store, and all of those of the packets before it
+-- of the last packet the first offers were made to each store, and of the packets before it all offers
 pub record StoppedEarly (e : RecordingContext) (gave : List SpacePacket) (offered : ℕ → List Event) : Type 0 where
   pub before : List SpacePacket
   pub last : SpacePacket
   pub are : gave ≡ before ++ last ∷ []
   pub began : (k : ℕ) → k < length e.ids → OfferedInPart (offers e k before) (offers e k (last ∷ [])) (offered k)
 
--- a recorder had this run, and its source is now as the second: it keeps what it did not give, and its other steps. Where the recorder
--- did not stop early nothing is left, and all offers were made
+-- a recorder had this run, and its source is now as the second: the source keeps what it did not give, and its other
+-- steps. If the recorder did not stop early, nothing is left, and all offers were made
 pub record IsRecorderRun (e : RecordingContext) (before after : Supply) (run : RecorderRun) : Type 0 where
   pub order : before e.step ≡ run.gave ++ after e.step
   pub others : (t : ℕ) → t ≢ e.step → after t ≡ before t
-  pub whole : IfNone run.broken ((after e.step ≡ []) × ((k : ℕ) → k < length e.ids → run.offered k ≡ offers e k run.gave))
+  pub whole : IfNone run.broken
+      ((after e.step ≡ []) × ((k : ℕ) → k < length e.ids → run.offered k ≡ offers e k run.gave))
   pub partly : IfSome run.broken (λ fault. StoppedEarly e run.gave run.offered)
 
 -- the recorder of each source had its run
@@ -71,30 +64,38 @@ AreRecorderRuns e [] [] [] = Unit {0}
 AreRecorderRuns e (s ∷ ss) (t ∷ ts) (run ∷ runs) = IsRecorderRun e s t run × AreRecorderRuns e ss ts runs
 AreRecorderRuns e ss ts runs = ⊥
 
--- each store went by a legal log that is a shuffle of what the recorders offered to it
+-- a legal log, which is a shuffle of what the recorders offered to it, leads each store to its state now
 abbrev pub AllHaveLegalOffers : List RecorderRun → List State → List State → Type 0
 AllHaveLegalOffers runs before after =
-    (k : ℕ) → k < length after → HasLegalOffers (map (λ run. run.offered k) runs) (opening_at before k) (opening_at after k)
+    (k : ℕ) → k < length after
+    → HasLegalOffers (map (λ run. run.offered k) runs) (opening_at before k) (opening_at after k)
 
 -- the answer to an offer is a refusal with this fault
 abbrev pub IsRefusedWith : Fault → Event → Reply → Type 0
 IsRefusedWith fault (Offer now packet) (reply.Offered (Err back)) = back.fault ≡ fault
 IsRefusedWith fault event other = ⊥
 
--- a store refused an offer of the recorders with this fault: the refusal is in the log by which it went
+-- a store refused an offer of the recorders with this fault: the refusal is in its log
 pub record StoreRefused (runs : List RecorderRun) (before after : List State) (fault : Fault) : Type 0 where
   pub place : ℕ
   pub within : place < length after
-  pub went : HasLegalOffers (map (λ run. run.offered place) runs) (opening_at before place) (opening_at after place)
-  pub refused : Any (λ e. IsRefusedWith fault e.event e.reply) went.log
+  pub legal : HasLegalOffers (map (λ run. run.offered place) runs) (opening_at before place) (opening_at after place)
+  pub refused : Any (λ e. IsRefusedWith fault e.event e.reply) legal.log
 
--- why recorders stopped early: the fault of one of them; out of memory only where none stopped for another reason
-pub record IsWhy (faults : List (Option Fault)) (why : Option Fault) : Type 0 where
-  pub none : IfNone why (All (λ f. f ≡ None) faults)
-  pub some : IfSome why (λ fault. (i : ℕ) × (i < length faults) × (slice_index_or faults i None ≡ Some fault))
-  pub lack : why ≡ Some NoMemory → All (λ f. IfSome f (λ fault. fault ≡ NoMemory)) faults
+-- the worse of two reasons why recorders stopped early: out of memory only if neither is another
+abbrev pub worse_of : Option Fault → Option Fault → Option Fault
+worse_of None second = second
+worse_of (Some NoMemory) None = Some NoMemory
+worse_of (Some NoMemory) (Some fault) = Some fault
+worse_of (Some fault) second = Some fault
 
--- the latest moment, the latest last storage time and the most packets offered with which a store surely takes what comes in a step
+-- why recorders stopped early, if some did: the worst of their reasons
+abbrev pub worst_of : List (Option Fault) → Option Fault
+worst_of [] = None
+worst_of (reason ∷ reasons) = worse_of reason (worst_of reasons)
+
+-- the latest moment, the latest last storage time and the greatest number of packets offered with which a store surely
+-- takes what comes in a step
 abbrev pub latest : ℕ
 latest = 2 ^ 63 + 2 ^ 62
 
@@ -119,20 +120,21 @@ pub record IsWithinLimits (step : ℕ) (stores : List Held) (sources : List Supp
   pub few : AreFew step sources
   pub offered : All (λ h. h.state.offered ≤ 2 ^ 63) stores
 
--- what a step of recorders leaves of its stores, and of what its sources give
-pub record Records (e : RecordingContext) (before after : List Held) (why : Option Fault) (sources left : List Supply) : Type 0 where
+-- what a step of recorders leaves of its stores, and of what its sources give, and why recorders stopped early
+pub record Records (e : RecordingContext) (before after : List Held) (why : Option Fault)
+    (sources left : List Supply) : Type 0 where
   pub labels : labels_of after ≡ labels_of before
   pub sound : All (λ h. IsState h.state) after
   pub many : length left ≡ length sources
   -- in any case
   pub runs : List RecorderRun
   pub are_runs : AreRecorderRuns e sources left runs
-  pub why_is : IsWhy (map (λ run. run.broken) runs) why
+  pub why_is : why ≡ worst_of (map (λ run. run.broken) runs)
   pub reason : IfSome why (λ fault. (fault ≡ NoMemory) ⊎ StoreRefused runs (states_of before) (states_of after) fault)
-  pub went : AllHaveLegalOffers runs (states_of before) (states_of after)
+  pub logs : AllHaveLegalOffers runs (states_of before) (states_of after)
   pub others : (t : ℕ) → t ≢ e.step → given_in t left ≡ given_in t sources
-  -- where no recorder stopped early
+  -- if no recorder stopped early
   pub recorded : IfNone why (AllRecorded e (given_in e.step sources) (states_of before) (states_of after))
   pub nothing_left : IfNone why (All (λ s. s e.step ≡ []) left)
-  -- where each store surely takes what comes: only out of memory is a reason
+  -- if each store surely takes what comes, only out of memory is a reason
   pub none_refused : TakesAll e before sources → IfSome why (λ fault. fault ≡ NoMemory)

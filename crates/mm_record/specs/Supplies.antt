@@ -1,8 +1,6 @@
 -- What sources still give, whether it is known before or not.
 use Rattle.std.specs.Prelude.{◌≡◌, ◌≢◌, ℕ, List, [], ◌∷◌, ◌++◌, Option, IfNone}
-use Rattle.std.specs.List.{AllZip}
-use Rattle.std.specs.Option.{option_to_list}
-use Rattle.mm_packet.specs.Packet.{SpacePacket}
+use Rattle.mm_record.specs.Words.{AllZip, option_to_list, SpacePacket}
 
 -- what a source still gives, in each step
 abbrev pub Supply : Type 0
@@ -20,8 +18,10 @@ supplies until [] lasts = []
 supplies until (s ∷ ss) [] = []
 supplies until (s ∷ ss) (last ∷ lasts) = until s last ∷ supplies until ss lasts
 
--- whatever these sources become later, they could become it before too, and this holds of what they give until then: of what they gave
--- before, and of what they give now
-abbrev pub WhateverComes : {S : Type 0} → (S → S → Type 0) → (S → S → Supply) → List S → List S → (List Supply → List Supply → Type 0) → Type 0
+-- whatever these sources become later, they could become it before too, and this holds of what they give until then,
+-- from before on and from now on
+abbrev pub WhateverComes : {S : Type 0} → (S → S → Type 0) → (S → S → Supply) → List S → List S
+    → (List Supply → List Supply → Type 0) → Type 0
 WhateverComes leads until before after P =
-    (lasts : List _) → AllZip leads after lasts → AllZip leads before lasts × P (supplies until before lasts) (supplies until after lasts)
+    (lasts : List _) → AllZip leads after lasts
+    → AllZip leads before lasts × P (supplies until before lasts) (supplies until after lasts)

@@ -1,4 +1,4 @@
-//! Sources of which the first steps are past.
+//! Sources with their first steps past.
 ghost use Rattle.std.specs.Prelude.{◌≡◌, ◌+◌, ◌<◌, ◌^◌, ℕ, map, IfOk, IfErr};
 ghost use Rattle.mm_record.specs.Later.{later, later_gives};
 
@@ -7,7 +7,7 @@ use mm_base::NoMemory;
 use mm_packet::BlockPacket;
 use std::alloc::Global;
 
-/// A source as it is for a run of the steps after this one: what it gives in the run's step 1 is what the source gives in the step after.
+/// A source for a run of the steps after this one: in the run's step 1 it gives what the source gives in the next step.
 #[derive(Drop)]
 pub struct Later<S: Drop> {
     pub source: S,

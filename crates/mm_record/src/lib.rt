@@ -3,7 +3,6 @@
 
 mod cause;
 mod context;
-mod counters;
 mod later;
 pub mod laws;
 mod live;
@@ -16,7 +15,6 @@ mod source;
 mod step;
 
 pub use cause::cause_in;
-pub use counters::Counters;
 pub use later::{Later, later_sources};
 pub use live::{Live, LiveSource};
 pub use memory_step::{RecordHalted, Recorded, RecordedStep, record_stores};

@@ -1,28 +1,27 @@
-//! Sources of which nobody knows before what they will give.
+//! Live sources: nobody knows before what they will give.
 ghost use Rattle.std.specs.Prelude.{◌≡◌, ◌≢◌, ℕ, List, ◌++◌};
-ghost use Rattle.std.specs.Option.{option_to_list};
-ghost use Rattle.mm_packet.specs.Packet.{SpacePacket};
+ghost use Rattle.mm_record.specs.Words.{option_to_list, SpacePacket};
 ghost use Rattle.mm_record.specs.Lives.{live, rest, Follows};
 ghost use Rattle.mm_record.specs.Supplies.{Supply};
 
 use crate::source::AnySource;
 use mm_packet::BlockPacket;
 
-/// A source of which nobody knows before what it will give: an instrument, a queue that another thread fills. A mission implements
-/// it for each of its own; recorders take packets from it as a [`Live`].
+/// A live source: nobody knows before what it will give. It is an instrument, or a queue that another thread fills. A
+/// mission implements it for each of its own; recorders take packets from it as a [`Live`].
 ///
-/// Contracts see it as what it gave so far, in each step. It need not keep the packets for that: what its contract speaks of may be
-/// a `Snapshot`, which has no bytes.
+/// Contracts see it as what it gave so far, in each step. It need not keep the packets for that: its contract may speak
+/// of a `Snapshot`, which has no bytes.
 pub trait LiveSource {
     ghost gave: { Self → Supply };
 
-    /// The next packet, which counts to this step; nothing where there is none now.
+    /// The next packet, which counts to this step, or nothing if there is none now.
     fn next(&mut self, step: u32) -> Option<BlockPacket>
         ensures gave { gave self.new step ≡ gave self.old step ++ option_to_list result }
         ensures others { (t : ℕ) → t ≢ step → gave self.new t ≡ gave self.old t };
 }
 
-/// A live source for recorders. A step is over for it once it had no packet in it: what comes later counts to a later step.
+/// A live source for recorders. A step is over for it once it had no packet in it: later packets count to a later step.
 #[derive(Drop)]
 pub struct Live<L: Drop> {
     pub source: L,
@@ -31,7 +30,7 @@ pub struct Live<L: Drop> {
 }
 
 impl<L: LiveSource + Drop> Live<L> {
-    /// A live source of which no step is over.
+    /// A live source for which no step is over.
     pub fn new(source: L) -> Live<L>
         ensures live { result ≡ live source 0 }
     {

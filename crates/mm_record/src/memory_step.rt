@@ -1,18 +1,14 @@
 //! A step of recorders over all stores of a memory, which lends them.
-ghost use Rattle.std.specs.Prelude.{◌≡◌, ◌≢◌, ◌+◌, ◌≤◌, [], None, Some, length, map, All, IfOk, IfErr, OnOk, vec_len, vec_capacity};
-ghost use Rattle.mm_desk.specs.Machine.{IsState};
-ghost use Rattle.mm_report.specs.declared.cause.Cause.TheVariants.{LogMismatch};
-ghost use Rattle.mm_report.specs.declared.cause.TheConstants.{MAX_SOURCES};
+ghost use Rattle.std.specs.Prelude.{◌≡◌, ◌≢◌, ◌+◌, ◌≤◌, [], None, Some, length, map, All, IfOk, IfErr, OnOk, vec_len};
+ghost use Rattle.std.specs.Prelude.{vec_capacity};
+ghost use Rattle.mm_record.specs.Words.{AreHeld, IsState, LogMismatch, MAX_SOURCES, counters_of};
 ghost use Rattle.mm_record.specs.Causes.{cause_before};
-ghost use Rattle.mm_record.specs.Counters.{counters_of, AreRows};
-ghost use Rattle.mm_desk.specs.Holdings.{AreHeld};
-ghost use Rattle.mm_record.specs.MemorySteps.{held_by, IsRecorded, IsRefused, Halts};
+ghost use Rattle.mm_record.specs.MemorySteps.{held_by, AreRows, IsRecorded, IsRefused, Halts};
 ghost use Rattle.mm_record.specs.Recorded.{recording};
 ghost use Rattle.mm_record.specs.Supplies.{WhateverComes};
 ghost use Rattle.mm_record.specs.Steps.{IsWithinLimits, TakesAll};
 
 use crate::cause::cause_in;
-use crate::counters::Counters;
 use crate::readiness::cause_before;
 use crate::source::AnySource;
 use crate::step::{RecordingStep, record};
@@ -21,6 +17,7 @@ use mm_control::ControlTable;
 use mm_desk::Held;
 use mm_desk::laws::any_order_loses_alike;
 use mm_report::Cause;
+use mm_shared::StoreCounters;
 use std::alloc::Global;
 use std::sync::Wait;
 use std::thread::Threads;
@@ -33,7 +30,7 @@ pub struct Recorded {
     pub lost: u64,
 }
 
-/// A step that was recorded: what came to each store, in order, and the sources.
+/// A step that was recorded: what came to each store, in the order of the stores, and the sources.
 #[derive(Drop)]
 pub struct RecordedStep<S: Drop> {
     pub recorded: Vec<Recorded>,
@@ -48,19 +45,23 @@ pub struct RecordHalted<S: Drop> {
 }
 
 // The counters of each store.
-fn all_counters(alloc: Global, stores: &[Held]) -> Result<Vec<Counters>, NoMemory>
+fn all_counters(alloc: Global, stores: &[Held]) -> Result<Vec<StoreCounters>, NoMemory>
     ensures counters { IfOk result (λ counters. counters.items ≡ map (λ h. counters_of h.state) stores.now) }
     ensures sound { OnOk result (All (λ h. IsState h.state) stores.now) }
 {
     let mut counters = Vec::new(alloc);
     for held in stores {
-        counters.push(Counters::of(&held.state))?;
+        counters.push(StoreCounters::of(&held.state))?;
     }
     Ok(counters)
 }
 
 // What a step has recorded into each store.
-fn changes_of(before: Vec<Counters>, room: Vec<Recorded>, stores: &[Held]) -> Vec<Recorded>
+fn changes_of(
+    before: Vec<StoreCounters>,
+    room: Vec<Recorded>,
+    stores: &[Held],
+) -> Vec<Recorded>
     requires before { vec_len before ≡ length stores.now }
     requires room { (room.items ≡ []) × (length stores.now ≤ vec_capacity room) }
     ensures rows { AreRows before.items stores.now (length stores.now) result.items }
@@ -68,7 +69,7 @@ fn changes_of(before: Vec<Counters>, room: Vec<Recorded>, stores: &[Held]) -> Ve
     let mut recorded = room;
     for index in 0..stores.len() {
         let held = &stores[index];
-        let rise = Counters::of(&held.state).since(before[index]);
+        let rise = StoreCounters::of(&held.state).since(before[index]);
         recorded.push_reserved(Recorded {
             store: held.id,
             came: rise.offered,
@@ -123,7 +124,7 @@ fn record_ready<S: AnySource + Send, R: Threads + Wait + Sync>(
 
 /// Records a step over stores and by routes: each source's packets of the step are taken by a recorder of its own, in a
 /// thread where one can be made, which offers a copy of each at `base + step` to the stores that its report type is
-/// routed to. Where each source gives at most 65,535 packets in the step and no store was offered more than 2^63 packets
+/// routed to. If each source gives at most 65,535 packets in the step and no store was offered more than 2^63 packets
 /// before, the cause of a halt is never `LogMismatch`.
 pub fn record_stores<S: AnySource + Send + Drop, R: Threads + Wait + Sync>(
     rt: &R,

@@ -1,4 +1,4 @@
-//! One packet: it is offered to each store that its report type is routed to, to the last one itself and to the others a copy.
+//! One packet: it is offered to the last store that its report type is routed to, and a copy of it to each other one.
 ghost use Rattle.std.specs.Prelude.{◌<◌, [], ◌∷◌, length};
 ghost use Rattle.mm_record.specs.Offering.{step_of, offer_at, offers_by, offers_of, MayOffer, Offers};
 ghost use Rattle.mm_record.specs.Routings.{AreRoutings};
@@ -20,7 +20,8 @@ fn offer_at<R: Wait>(
 ) -> Result<(), Fault>
     requires within { index < length context.now.labels.now }
     requires may { MayOffer context.now.labels.now context.now.stores.now port.old.of }
-    ensures offers { Offers (step_of context.now) (offer_at (step_of context.now) packet index) port.old port.new result }
+    ensures offers { Offers (step_of context.now) (offer_at (step_of context.now) packet index)
+        port.old port.new result }
 {
     match context
         .stores
@@ -31,7 +32,7 @@ fn offer_at<R: Wait>(
     }
 }
 
-// Offers a copy of a packet to the store that a row leads to, where it is one of these.
+// Offers a copy of a packet to the store that a row leads to, if it is one of these.
 fn offer_copy<R: Wait>(
     context: &StepContext<'_, R>,
     port: &mut Port,
@@ -39,7 +40,8 @@ fn offer_copy<R: Wait>(
     row: &RouteRow,
 ) -> Result<(), Fault>
     requires may { MayOffer context.now.labels.now context.now.stores.now port.old.of }
-    ensures offers { Offers (step_of context.now) (offers_by (step_of context.now) packet.now (row.now ∷ [])) port.old port.new result }
+    ensures offers { Offers (step_of context.now) (offers_by (step_of context.now) packet.now (row.now ∷ []))
+        port.old port.new result }
 {
     let Some(index) = place_of(context.labels, &row.store) else {
         return Ok(());
@@ -48,8 +50,8 @@ fn offer_copy<R: Wait>(
     offer_at(context, port, copy, index)
 }
 
-// Offers a packet to each store that a row leads to and that is one of these, in the order of the rows: the last takes the packet
-// itself.
+// Offers a packet to each store that a row leads to and that is one of these, in the order of the rows: the packet
+// itself to the last, and a copy to the others.
 fn offer_routed<R: Wait>(
     context: &StepContext<'_, R>,
     port: &mut Port,
@@ -57,7 +59,8 @@ fn offer_routed<R: Wait>(
     rows: &[RouteRow],
 ) -> Result<(), Fault>
     requires may { MayOffer context.now.labels.now context.now.stores.now port.old.of }
-    ensures offers { Offers (step_of context.now) (offers_by (step_of context.now) packet rows.now) port.old port.new result }
+    ensures offers { Offers (step_of context.now) (offers_by (step_of context.now) packet rows.now)
+        port.old port.new result }
 {
     let Some((row, others)) = rows.split_first() else {
         return Ok(());

@@ -1,7 +1,6 @@
 //! What is tested before recorders begin. Nothing here takes memory.
 ghost use Rattle.std.specs.Prelude.{◌≡◌, not, find};
-ghost use Rattle.std.specs.List.{list_any};
-ghost use Rattle.std.specs.Option.{option_copied};
+ghost use Rattle.mm_record.specs.Words.{list_any, option_copied};
 ghost use Rattle.mm_record.specs.Causes.{is_ready, is_late, is_clock_late, is_count, cause_before};
 
 use mm_desk::Held;

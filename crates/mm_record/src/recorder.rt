@@ -4,7 +4,8 @@ ghost use Rattle.std.specs.Result.{result_err};
 ghost use Rattle.std.specs.Thread.{IsSync, IsSend};
 ghost use Rattle.mm_shared.specs.Stores.{end_of, IsFresh};
 ghost use Rattle.mm_record.specs.Offering.{MayOffer, step_of};
-ghost use Rattle.mm_record.specs.Recorders.{HasRunUntil, MayRecord, HaveRun, is_worse};
+ghost use Rattle.mm_record.specs.Recorders.{HasOfferedUntil, HaveFreshPorts, HaveOffered};
+ghost use Rattle.mm_record.specs.Steps.{worse_of};
 
 use crate::context::StepContext;
 use crate::offering::offer_packet;
@@ -23,7 +24,8 @@ fn record_source<S: AnySource, R: Wait>(
 ) -> Result<(), Fault>
     requires may { MayOffer context.now.labels.now context.now.stores.now port.old.of }
     requires fresh { IsFresh port.old }
-    ensures run { HasRunUntil S.leads S.until (step_of context.now) source.old source.new port.new (result_err result) }
+    ensures offered { HasOfferedUntil S.leads S.until (step_of context.now) source.old source.new port.new
+        (result_err result) }
     ensures end { end_of port.new ≡ end_of port.old }
 {
     let mut routings = Routings::new();
@@ -36,9 +38,9 @@ fn record_source<S: AnySource, R: Wait>(
     unreachable!()
 }
 
-// Why recorders stopped early, of two reasons: out of memory only where neither stopped for another reason.
+// The worse of two reasons why recorders stopped early: out of memory only if neither is another.
 fn worse(first: Option<Fault>, second: Option<Fault>) -> Option<Fault>
-    ensures { result ≡ is_worse first second }
+    ensures { result ≡ worse_of first second }
 {
     match first {
         None => second,
@@ -47,15 +49,16 @@ fn worse(first: Option<Fault>, second: Option<Fault>) -> Option<Fault>
     }
 }
 
-// Lets recorders run, each in a thread of its own where one can be made, and tells why they stopped early, where some did.
+// Lets recorders run, each in a thread of its own where one can be made, and tells why some stopped early.
 #[cycle(recorders)]
 pub(crate) fn record_all<S: AnySource + Send, R: Threads + Wait + Sync>(
     context: &StepContext<'_, R>,
     sources: &mut [S],
     workers: &mut [Port],
 ) -> Option<Fault>
-    requires may { MayRecord context.now.labels.now context.now.stores.now sources.old workers.old }
-    ensures run { HaveRun S.leads S.until (step_of context.now) sources.old sources.new workers.old workers.new result }
+    requires may { HaveFreshPorts context.now.labels.now context.now.stores.now sources.old workers.old }
+    ensures offered { HaveOffered S.leads S.until (step_of context.now) sources.old sources.new workers.old workers.new
+        result }
 {
     if sources.is_empty() {
         return None;
@@ -76,8 +79,8 @@ pub(crate) fn record_all<S: AnySource + Send, R: Threads + Wait + Sync>(
     worse(first, second)
 }
 
-// Lets the recorders of two halves run, each half in a thread of its own where one can be made, and tells why some of each stopped
-// early.
+// Lets the recorders of two halves run, each half in a thread of its own where one can be made, and tells why some of
+// each half stopped early.
 #[cycle(recorders)]
 fn record_halves<S: AnySource + Send, R: Threads + Wait + Sync>(
     context: &StepContext<'_, R>,
@@ -86,20 +89,26 @@ fn record_halves<S: AnySource + Send, R: Threads + Wait + Sync>(
     high_sources: &mut [S],
     high_workers: &mut [Port],
 ) -> (Option<Fault>, Option<Fault>)
-    requires low { MayRecord context.now.labels.now context.now.stores.now low_sources.old low_workers.old }
-    requires high { MayRecord context.now.labels.now context.now.stores.now high_sources.old high_workers.old }
+    requires low { HaveFreshPorts context.now.labels.now context.now.stores.now low_sources.old low_workers.old }
+    requires high { HaveFreshPorts context.now.labels.now context.now.stores.now high_sources.old high_workers.old }
     requires some_low { 0 < length low_sources.old }
     requires some_high { 0 < length high_sources.old }
-    ensures low { HaveRun S.leads S.until (step_of context.now) low_sources.old low_sources.new low_workers.old low_workers.new result.0 }
-    ensures high { HaveRun S.leads S.until (step_of context.now) high_sources.old high_sources.new high_workers.old high_workers.new result.1 }
+    ensures low { HaveOffered S.leads S.until (step_of context.now) low_sources.old low_sources.new low_workers.old
+        low_workers.new result.0 }
+    ensures high { HaveOffered S.leads S.until (step_of context.now) high_sources.old high_sources.new high_workers.old
+        high_workers.new result.1 }
 {
     let mut low = || -> Option<Fault>
-        requires { IsSync R.row × IsSend S.row × MayRecord context.now.labels.now context.now.stores.now low_sources.now low_workers.now }
-        ensures { HaveRun S.leads S.until (step_of context.entry.now) low_sources.entry.now low_sources.exit.now low_workers.entry.now low_workers.exit.now result }
+        requires { IsSync R.row × IsSend S.row
+            × HaveFreshPorts context.now.labels.now context.now.stores.now low_sources.now low_workers.now }
+        ensures { HaveOffered S.leads S.until (step_of context.entry.now) low_sources.entry.now low_sources.exit.now
+            low_workers.entry.now low_workers.exit.now result }
     { record_all(context, low_sources, low_workers) };
     let mut high = || -> Option<Fault>
-        requires { IsSync R.row × IsSend S.row × MayRecord context.now.labels.now context.now.stores.now high_sources.now high_workers.now }
-        ensures { HaveRun S.leads S.until (step_of context.entry.now) high_sources.entry.now high_sources.exit.now high_workers.entry.now high_workers.exit.now result }
+        requires { IsSync R.row × IsSend S.row
+            × HaveFreshPorts context.now.labels.now context.now.stores.now high_sources.now high_workers.now }
+        ensures { HaveOffered S.leads S.until (step_of context.entry.now) high_sources.entry.now high_sources.exit.now
+            high_workers.entry.now high_workers.exit.now result }
     { record_all(context, high_sources, high_workers) };
     join_mut(context.rt, &mut low, &mut high)
 }

@@ -1,8 +1,6 @@
 //! The routings that a recorder remembers, so that the rows of a report type are not looked up for each packet.
 ghost use Rattle.std.specs.Prelude.{◌≡◌, ◌<◌, List, IfSome};
-ghost use Rattle.mm_base.specs.declared.rows.RouteRow.{RouteRow};
-ghost use Rattle.mm_shared.specs.declared.label.StoreLabel.{StoreLabel};
-ghost use Rattle.mm_shared.specs.Stores.{ids_of, AreNamed};
+ghost use Rattle.mm_record.specs.Words.{RouteRow, StoreLabel, ids_of, AreNamed};
 ghost use Rattle.mm_record.specs.declared.routing.TheConstants.{REMEMBERED};
 ghost use Rattle.mm_record.specs.Routings.{LeadsTo, AreRoutings};
 
@@ -29,14 +27,14 @@ impl ReportType {
     }
 }
 
-/// A report type, and the index of the store that its packets go to, where they go to one store alone.
+/// A report type, and the index of the store that its packets go to, if they go to one store alone.
 #[derive(Clone, Copy)]
 pub(crate) struct Routing {
     pub(crate) report: ReportType,
     pub(crate) store: Option<usize>,
 }
 
-// The index of the store that packets of a report type go to, where they go to one store alone.
+// The index of the store that packets of a report type go to, if they go to one store alone.
 fn lone_store_of(labels: &[StoreLabel], control: &ControlTable, report: ReportType) -> Option<usize>
     requires named { AreNamed (ids_of labels.now) }
     ensures leads { IfSome result (LeadsTo control.now labels.now report) }
@@ -55,7 +53,7 @@ pub(crate) struct Routings {
 }
 
 impl Routings {
-    /// Those of a recorder that has met no report type.
+    /// The routings of a recorder that has met no report type.
     pub(crate) fn new() -> Routings
         ensures routings { (routes : List RouteRow) (labels : List StoreLabel) → AreRoutings routes labels result }
     {
@@ -73,7 +71,7 @@ impl Routings {
         }
     }
 
-    /// The index of the store that packets of a report type go to, where they go to one store alone.
+    /// The index of the store that packets of a report type go to, if they go to one store alone.
     pub(crate) fn lone_store(
         &mut self,
         labels: &[StoreLabel],

@@ -1,19 +1,18 @@
 //! Sources: givers of packets.
 ghost use Rattle.std.specs.Prelude.{◌≡◌, ◌≢◌, ℕ, List, [], ◌++◌, length, IfNone};
-ghost use Rattle.std.specs.Option.{option_to_list};
-ghost use Rattle.mm_packet.specs.Packet.{SpacePacket};
+ghost use Rattle.mm_record.specs.Words.{option_to_list, SpacePacket};
 ghost use Rattle.mm_record.specs.Supplies.{Supply, Gave};
 
 use mm_packet::BlockPacket;
 
 /// Where packets come from, whether they are known before or not: recorders take them from any such source.
 ///
-/// A source gives its packets step by step; steps are counted from 1, and 0 is before the first. A recorder asks it for the
-/// packets of one step, one after another, until there is none, in a thread of its own; and never for those of an earlier step
-/// again. Contracts see a source as what it gives until it is as it will be later.
+/// A source gives its packets step by step; steps are counted from 1, and 0 is before the first. A recorder asks it for
+/// the packets of one step, one after another, until there is none, in a thread of its own. It never asks for those of
+/// an earlier step again. Contracts see a source as what it gives until it is as it will be later.
 ///
-/// A mission implements [`Source`] for one whose packets are known before, as those of a file, and [`LiveSource`](crate::LiveSource) for
-/// an instrument.
+/// A mission implements [`Source`] for one whose packets are known before, as those of a file, and
+/// [`LiveSource`](crate::LiveSource) for an instrument.
 pub trait AnySource {
     // What it gives in each step, from the first state until it is as the second.
     ghost until: { Self → Self → Supply };
@@ -21,16 +20,17 @@ pub trait AnySource {
     // The first may become the second.
     ghost leads: { Self → Self → Type 0 };
 
-    /// The next packet of a step; nothing where it gives no more in this step.
+    /// The next packet of a step, or nothing if it gives no more in this step.
     fn next_packet(&mut self, step: u32) -> Option<BlockPacket>
-        ensures gave { (last : Self) → leads self.new last → Gave step result (until self.old last) (until self.new last) }
+        ensures gave { (last : Self) → leads self.new last
+            → Gave step result (until self.old last) (until self.new last) }
         ensures back { (last : Self) → leads self.new last → leads self.old last };
 
     // It may stay as it is.
     ghost stays: { (s : Self) → leads s s };
 }
 
-/// A source of which is known before what it will give. A mission implements it for each of its own.
+/// A source whose packets are known before. A mission implements it for each of its own.
 ///
 /// Contracts see it as the packets that it still gives in each step.
 ///
@@ -52,7 +52,7 @@ pub trait Source {
     fn left(&self, step: u32) -> u32
         ensures left { result ≡ length (gives self.now step) };
 
-    /// The next packet of a step; nothing where it gives no more in this step.
+    /// The next packet of a step, or nothing if it gives no more in this step.
     fn next(&mut self, step: u32) -> Option<BlockPacket>
         ensures gives { gives self.old step ≡ option_to_list result ++ gives self.new step }
         ensures none { IfNone result (gives self.old step ≡ []) }

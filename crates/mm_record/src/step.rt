@@ -26,9 +26,9 @@ pub struct RecordingStep<'a> {
     pub now: u64,
 }
 
-/// Records a step over stores that are open: each source's packets of the step are taken by a recorder of its own, which offers a copy of
-/// each, at the step's moment, to the stores that its report type is routed to. The answer is why recorders stopped early, where some did:
-/// out of memory only where none stopped for another reason.
+/// Records a step over stores that are open: each source's packets of the step are taken by a recorder of its own,
+/// which offers a copy of each, at the step's moment, to the stores that its report type is routed to. The answer is
+/// why recorders stopped early, if some did: out of memory only if none stopped for another reason.
 pub fn record_open<S: AnySource + Send, R: Threads + Wait + Sync>(
     rt: &R,
     alloc: Global,
@@ -40,7 +40,8 @@ pub fn record_open<S: AnySource + Send, R: Threads + Wait + Sync>(
     requires many { length sources.old ≤ MAX_SEATS }
     requires named { AreNamed (recording step.now.step step.now.now step.now.control.now (stores_in stores.old)).ids }
     ensures records { WhateverComes S.leads S.until sources.old sources.new
-        (Records (recording step.entry.now.step step.entry.now.now step.entry.now.control.now (stores_in stores.old)) (stores_in stores.old) (stores_in stores.new) result) }
+        (Records (recording step.entry.now.step step.entry.now.now step.entry.now.control.now (stores_in stores.old))
+        (stores_in stores.old) (stores_in stores.new) result) }
     ensures labels { labels_of (stores_in stores.new) ≡ labels_of (stores_in stores.old) }
     ensures rest { AreAtRest stores.new }
 {
@@ -59,7 +60,8 @@ pub fn record_open<S: AnySource + Send, R: Threads + Wait + Sync>(
     why
 }
 
-/// Records a step over stores that are opened for it alone. Where there is no memory to begin, stores and sources are as before.
+/// Records a step over stores that are opened for it alone. If there is no memory to begin, stores and sources are as
+/// before.
 pub fn record<S: AnySource + Send, R: Threads + Wait + Sync>(
     rt: &R,
     alloc: Global,
@@ -71,7 +73,8 @@ pub fn record<S: AnySource + Send, R: Threads + Wait + Sync>(
     requires many { length sources.old ≤ MAX_SEATS }
     requires named { AreNamed (recording step.now.step step.now.now step.now.control.now stores.old.items).ids }
     ensures records { IfOk result (λ why. WhateverComes S.leads S.until sources.old sources.new
-        (Records (recording step.entry.now.step step.entry.now.now step.entry.now.control.now stores.old.items) stores.old.items stores.new.items why)) }
+        (Records (recording step.entry.now.step step.entry.now.now step.entry.now.control.now stores.old.items)
+        stores.old.items stores.new.items why)) }
     ensures labels { labels_of stores.new.items ≡ labels_of stores.old.items }
     ensures stores { OnErr result (stores.new.items ≡ stores.old.items) }
     ensures sources { OnErr result (sources.new ≡ sources.old) }

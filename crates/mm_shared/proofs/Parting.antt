@@ -1,16 +1,20 @@
 -- Seats that are parted and put together keep the rule of shared stores.
-use Rattle.std.proofs.Common.{◌≡◌, ◌≢◌, ⊎_elim, ℕ, ◌+◌, ◌-◌, ◌<◌, eqb, List, [], ◌∷◌, ◌++◌, length, drop, set, refl, sym, ap, ◌∙◌, arith, Option, Some, None}
-use Rattle.mm_shared.proofs.Words.{eq-eqb, ne_eqb, cases_lt, length-append, length-drop, length-set, get_or_append_left, get_or-append_right, State, part}
-use Rattle.mm_shared.proofs.Words.{knows, Owns, Fits, Stands, Keeps, Each, IsKept, calls_on, held_of, held_by, opening_at, some, dite, ℕ_discrete, get_elem?}
-use Rattle.mm_shared.proofs.Words.{Table, Splits, Joins, Knows, others_of, first_of, joined, set_else, if◌then◌else◌, get_or_after_one}
-use mathlib.Core.Option as slot
+use Rattle.mm_shared.proofs.Words.{◌≡◌, ◌≢◌, ⊎_elim, ℕ, ◌+◌, ◌-◌, ◌<◌, eqb, List, [], ◌∷◌, ◌++◌, length, drop, set}
+use Rattle.mm_shared.proofs.Words.{refl, sym, ap, ◌∙◌, arith, Option, Some, None, eq-eqb, ne_eqb, cases_lt}
+use Rattle.mm_shared.proofs.Words.{length-append, length-drop, length-set, get_or_append_left, get_or-append_right}
+use Rattle.mm_shared.proofs.Words.{State, part, knows, Owns, Fits, Stands, Keeps, Each, IsKept, calls_on, held_of}
+use Rattle.mm_shared.proofs.Words.{held_by, opening_at, some, dite, ℕ_discrete, get_elem?, Table, Splits, Joins, Knows}
+use Rattle.mm_shared.proofs.Words.{others_of, first_of, joined, set_else, if◌then◌else◌, get_or_after_one}
 use Rattle.mm_shared.proofs.Ending.{held_yes, held_no}
 use Rattle.mm_shared.proofs.Lists.{at_below, each_set, each_push}
+use mathlib.Core.Option as slot
 
-module _ (stores seats : ℕ) (s : Table State Knows) (kept : IsKept stores seats s) (id : ℕ) (v : Knows) (me : get_elem? s.views id ≡ some v) (rest : v.held ≡ None) (owner : ℕ → ℕ)
+module _ (stores seats : ℕ) (s : Table State Knows) (kept : IsKept stores seats s) (id : ℕ) (v : Knows)
+    (me : get_elem? s.views id ≡ some v) (rest : v.held ≡ None) (owner : ℕ → ℕ)
     (stays : (seat : ℕ) → kept.owner seat ≢ id → owner seat ≡ kept.owner seat) where
-  -- where some seats have new owners, the other views own what they owned
-  others_own : (port : ℕ) (u : Knows) → port ≢ id → get_elem? s.views port ≡ some u → Owns kept.openings seats owner port u
+  -- if some seats have new owners, the other views own what they owned
+  others_own : (port : ℕ) (u : Knows) → port ≢ id → get_elem? s.views port ≡ some u
+      → Owns kept.openings seats owner port u
   others_own port u apart at =
       let own = kept.owns port u at in
       record {
@@ -23,11 +27,14 @@ module _ (stores seats : ℕ) (s : Table State Knows) (kept : IsKept stores seat
   holds_as : (now : State) (holder : Option ℕ) → held_by kept.owner holder now id ≡ None → (port : ℕ)
       → held_by kept.owner holder now port ≡ held_by owner holder now port
   holds_as now None idle port = refl
-  holds_as now (Some seat) idle port = rw (stays seat (λ mine. absurd (cc (idle, held_yes kept.owner seat now id mine)))) refl
+  holds_as now (Some seat) idle port = rw (stays seat (λ mine. absurd
+      (cc (idle, held_yes kept.owner seat now id mine)))) refl
 
   -- other views of the same seats keep the rule
-  regroups : (views : List Knows) → ((seat : ℕ) → seat < seats → owner seat < length views) → Each (Owns kept.openings seats owner) views
-      → ((k : ℕ) (old : Keeps (opening_at kept.openings k) seats kept.owner k s) → Each (Fits kept.owner k old.it) views)
+  regroups : (views : List Knows) → ((seat : ℕ) → seat < seats → owner seat < length views)
+      → Each (Owns kept.openings seats owner) views
+      → ((k : ℕ) (old : Keeps (opening_at kept.openings k) seats kept.owner k s)
+      → Each (Fits kept.owner k old.it) views)
       → IsKept stores seats record { words = s.words; homes = s.homes; views = views }
   regroups views there owns fits = record {
     openings = kept.openings;
@@ -42,13 +49,15 @@ module _ (stores seats : ℕ) (s : Table State Knows) (kept : IsKept stores seat
         record {
           it = old.it;
           course = old.course;
-          fits = λ port u at. let fit = fits k old port u at in record { parts = fit.parts; held = fit.held ∙ same port };
+          fits = λ port u at. let fit = fits k old port u at in
+              record { parts = fit.parts; held = fit.held ∙ same port };
         };
   }
 
 module _ (stores seats : ℕ) where
   -- the first seat of a view at rest is parted from the others
-  pub splits_kept : (id : ℕ) (v : Knows) → v.held ≡ None → 0 < length v.lists → Splits (IsKept stores seats) id v (others_of v) (first_of v)
+  pub splits_kept : (id : ℕ) (v : Knows) → v.held ≡ None → 0 < length v.lists
+      → Splits (IsKept stores seats) id v (others_of v) (first_of v)
   splits_kept id v rest some_seat s kept me =
       regroups stores seats s kept id v me rest owner not_mine (views ++ first_of v ∷ []) in_views
       (each_push (Owns kept.openings seats owner) views (first_of v)
@@ -100,20 +109,24 @@ module _ (stores seats : ℕ) where
       stays seat other = rw (ne_eqb seat v.first other) refl
 
       not_mine : (seat : ℕ) → kept.owner seat ≢ id → owner seat ≡ kept.owner seat
-      not_mine seat other = stays seat (λ same. other (ap kept.owner same ∙ mine.owned v.first (omega arith) (omega arith)))
+      not_mine seat other = stays seat (λ same. other (ap kept.owner same
+          ∙ mine.owned v.first (omega arith) (omega arith)))
 
       in_views : (seat : ℕ) → seat < seats → owner seat < length (views ++ first_of v ∷ [])
       in_views seat inside =
           rw length-append (dite (ℕ_discrete seat v.first) (λ first. rw (eq-eqb seat v.first first) (omega arith))
           (λ other. rw (stays seat other) (omega (arith, count, kept.there seat inside))))
 
-      none_past : (word : ℕ) (home : slot.Option State) (now : State) (holder : Option ℕ) → Stands seats word home now holder
+      none_past : (word : ℕ) (home : slot.Option State) (now : State) (holder : Option ℕ)
+          → Stands seats word home now holder
           → None ≡ held_by kept.owner holder now (length views)
       none_past word home now None there = refl
-      none_past word home now (Some seat) out = sym (held_no kept.owner seat now (length views) (λ same. omega (arith, count, same, kept.there seat out.1)))
+      none_past word home now (Some seat) out = sym (held_no kept.owner seat now (length views)
+          (λ same. omega (arith, count, same, kept.there seat out.1)))
 
   -- seats are put before those of a view at rest
-  pub joins_kept : (id : ℕ) (v : Knows) (other : ℕ) (w : Knows) → v.held ≡ None → w.held ≡ None → w.first + length w.lists ≡ v.first → 0 < length w.lists
+  pub joins_kept : (id : ℕ) (v : Knows) (other : ℕ) (w : Knows) → v.held ≡ None → w.held ≡ None
+      → w.first + length w.lists ≡ v.first → 0 < length w.lists
       → Joins (IsKept stores seats) id v other w (joined v w) (knows [] 0 [] None)
   joins_kept id v other w v_rest w_rest next some_seat s kept me apart at_other =
       regroups stores seats s kept other w theirs w_rest owner stays (set (set s.views id both) other spent) in_views
@@ -122,10 +135,12 @@ module _ (stores seats : ℕ) where
         within = omega (arith, mine.within, count);
         owned = λ seat from to.
             ⊎_elim (λ before. rw (eq-eqb (kept.owner seat) other (yours.owned seat from (omega arith))) refl)
-            (λ after. let is = mine.owned seat after (omega (arith, count)) in stays seat (λ same. apart (sym same ∙ is)) ∙ is) (cases_lt seat v.first);
+            (λ after. let is = mine.owned seat after (omega (arith, count)) in stays seat
+            (λ same. apart (sym same ∙ is)) ∙ is) (cases_lt seat v.first);
         agree = λ none. yours.agree (λ zero. omega arith);
       })
-      (record { within = omega arith; owned = λ seat from to. absurd (omega arith); agree = λ none. absurd (omega (arith, none refl, yours.within)) })
+      (record { within = omega arith; owned = λ seat from to. absurd (omega arith);
+      agree = λ none. absurd (omega (arith, none refl, yours.within)) })
       (λ port u not_me not_you at. others_own stores seats s kept other w theirs w_rest owner stays port u not_you at))
       (λ k old.
       let fit = old.fits id v me in
@@ -133,7 +148,8 @@ module _ (stores seats : ℕ) where
       each (Fits kept.owner k old.it)
       (record {
         parts = λ n inside.
-            ⊎_elim (λ before. their.parts n before ∙ ap (calls_on k) (sym (get_or_append_left w.lists v.lists [] n before)))
+            ⊎_elim (λ before. their.parts n before ∙ ap (calls_on k)
+                (sym (get_or_append_left w.lists v.lists [] n before)))
             (λ after.
             let theirs = fit.parts (n - length w.lists) (omega (arith, count)) in
             ap (λ (seat : ℕ). part seat old.it.log) (omega arith)
@@ -141,7 +157,8 @@ module _ (stores seats : ℕ) where
             (cases_lt n (length w.lists));
         held = fit.held;
       })
-      (record { parts = λ n inside. absurd (omega arith); held = sym (ap (held_of k) w_rest) ∙ their.held }) (λ port u not_me not_you at. old.fits port u at))
+      (record { parts = λ n inside. absurd (omega arith); held = sym (ap (held_of k) w_rest) ∙ their.held })
+      (λ port u not_me not_you at. old.fits port u at))
     where
       both : Knows
       both = joined v w
@@ -171,12 +188,15 @@ module _ (stores seats : ℕ) where
       in_views : (seat : ℕ) → seat < seats → owner seat < length (set (set s.views id both) other spent)
       in_views seat inside =
           rw (length-set (set s.views id both) other spent, length-set s.views id both)
-          (dite (ℕ_discrete (kept.owner seat) other) (λ is. rw (eq-eqb (kept.owner seat) other is) (at_below s.views id v me))
+          (dite (ℕ_discrete (kept.owner seat) other) (λ is. rw (eq-eqb (kept.owner seat) other is)
+          (at_below s.views id v me))
           (λ isnt. rw (stays seat isnt) (kept.there seat inside)))
 
       -- what the joined view has, the spent one, and each of the others
-      each : (P : ℕ → Knows → Type 0) → P id both → P other spent → ((port : ℕ) (u : Knows) → port ≢ id → port ≢ other → get_elem? s.views port ≡ some u → P port u)
+      each : (P : ℕ → Knows → Type 0) → P id both → P other spent
+          → ((port : ℕ) (u : Knows) → port ≢ id → port ≢ other → get_elem? s.views port ≡ some u → P port u)
           → Each P (set (set s.views id both) other spent)
       each P joint empty old =
           each_set P (set s.views id both) other spent empty
-          (λ port u not_you at. each_set (λ (p : ℕ) (x : Knows). p ≢ other → P p x) s.views id both (λ same. joint) (λ p x not_me there not_it. old p x not_me not_it there) port u at not_you)
+          (λ port u not_you at. each_set (λ (p : ℕ) (x : Knows). p ≢ other → P p x) s.views id both (λ same. joint)
+          (λ p x not_me there not_it. old p x not_me not_it there) port u at not_you)

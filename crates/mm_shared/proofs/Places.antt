@@ -1,7 +1,8 @@
 -- The index of the one store with an identifier.
-use Rattle.std.proofs.Common.{◌≡◌, ◌⊎◌, inl, inr, ℕ, ◌<◌, ◌≤◌, ◌==◌, Bool, true, false, List, [], length, get_or, Option, Some, None, IfSome, IfNone, bytes_eq, refl, sym, ◌∙◌, arith}
+use Rattle.mm_shared.proofs.Words.{◌≡◌, ◌⊎◌, inl, inr, ℕ, ◌<◌, ◌≤◌, ◌==◌, Bool, true, false, List, [], length, get_or}
+use Rattle.mm_shared.proofs.Words.{Option, Some, None, IfSome, IfNone, bytes_eq, refl, sym, ◌∙◌, arith, cases_order}
+use Rattle.mm_shared.proofs.Words.{eq-eqb, ne_eqb, get_or-map, length-map, AreNamed, ids_of, id_at, StoreLabel}
 use Rattle.std.specs.List.{position, position_or_len}
-use Rattle.mm_shared.proofs.Words.{cases_order, eq-eqb, ne_eqb, get_or-map, length-map, AreNamed, ids_of, id_at, StoreLabel}
 use Rattle.std.proofs.lemmas.Bool.Decides.{nat_tests}
 use Rattle.std.proofs.lemmas.List.Quantifiers.{position-Some}
 use Rattle.std.proofs.lemmas.List.Sums.{fails_before_first}
@@ -11,8 +12,9 @@ use Rattle.std.proofs.lemmas.Slice.Eq.{bytes_eq-Decides}
 no_label : StoreLabel
 no_label = record { id = []; channel = 0 }
 
--- where no element passes the first that does is past all
-none_passes : (test : StoreLabel → Bool) (stores : List StoreLabel) → None ≡ position test stores → length stores ≤ position_or_len test stores
+-- if no element passes the test, the first that does is past all
+none_passes : (test : StoreLabel → Bool) (stores : List StoreLabel) → None ≡ position test stores
+    → length stores ≤ position_or_len test stores
 none_passes test stores none = grind (arith, nat_tests)
 
 module _ (id : List ℕ) (stores : List StoreLabel) (named : AreNamed (ids_of stores)) where
@@ -20,7 +22,7 @@ module _ (id : List ℕ) (stores : List StoreLabel) (named : AreNamed (ids_of st
   abbrev Has : ℕ → Bool → Type 0
   Has j b = bytes_eq (id_at (ids_of stores) j) id ≡ b
 
-  -- so has its label
+  -- its label has it too
   at : (j : ℕ) (b : Bool) → j < length stores → bytes_eq (get_or stores j no_label).id id ≡ b → Has j b
   at j b within has = rw (get_or-map (λ (s : StoreLabel). s.id) stores j no_label [] within) has
 
@@ -31,22 +33,27 @@ module _ (id : List ℕ) (stores : List StoreLabel) (named : AreNamed (ids_of st
       let its = (bytes_eq-Decides (id_at (ids_of stores) k) id).0 first in
       let same = (bytes_eq-Decides (id_at (ids_of stores) j) id).0 has in
       let both = (bytes_eq-Decides (id_at (ids_of stores) k) (id_at (ids_of stores) j)).1 (its ∙ sym same) in
-      let apart : bytes_eq (id_at (ids_of stores) k) (id_at (ids_of stores) j) ≡ false = named k j [] later (omega (arith, length-map stores (λ (s : StoreLabel). s.id))) in
+      let apart : bytes_eq (id_at (ids_of stores) k) (id_at (ids_of stores) j) ≡ false =
+          named k j [] later (omega (arith, length-map stores (λ (s : StoreLabel). s.id))) in
       absurd (cc)
 
   -- the first index that passes is the store's, and where none passes no store has the identifier
   pub place_is : (r : Option ℕ) → r ≡ position (λ s. bytes_eq s.id id) stores
-      → IfSome r (λ k. k < length stores) × IfSome r (λ k. (j : ℕ) → j < length stores → bytes_eq (id_at (ids_of stores) j) id ≡ (j == k))
+      → IfSome r (λ k. k < length stores) × IfSome r (λ k. (j : ℕ) → j < length stores
+      → bytes_eq (id_at (ids_of stores) j) id ≡ (j == k))
       × IfNone r ((j : ℕ) → j < length stores → bytes_eq (id_at (ids_of stores) j) id ≡ false)
   place_is None none =
       let past = none_passes (λ s. bytes_eq s.id id) stores none in
-      (tt, tt, λ j within. at j false within (fails_before_first (λ (s : StoreLabel). bytes_eq s.id id) stores j no_label (omega arith)))
+      (tt, tt, λ j within. at j false within (fails_before_first (λ (s : StoreLabel). bytes_eq s.id id) stores j
+      no_label (omega arith)))
   place_is (Some k) found = (is.0, λ j within. by_order j within (cases_order j k), tt)
     where
-      is : (k < length stores) × (bytes_eq (get_or stores k no_label).id id ≡ true) × ((j : ℕ) → j < k → bytes_eq (get_or stores j no_label).id id ≡ false)
+      is : (k < length stores) × (bytes_eq (get_or stores k no_label).id id ≡ true)
+          × ((j : ℕ) → j < k → bytes_eq (get_or stores j no_label).id id ≡ false)
       is = position-Some (λ (s : StoreLabel). bytes_eq s.id id) stores k no_label (sym found)
 
       by_order : (j : ℕ) → j < length stores → (j ≡ k) ⊎ ((j < k) ⊎ (k < j)) → Has j (j == k)
       by_order j within (inl same) = rw (eq-eqb j k same, same) (at k true is.0 is.1)
       by_order j within (inr (inl earlier)) = rw (ne_eqb j k (λ same. omega arith)) (at j false within (is.2 j earlier))
-      by_order j within (inr (inr later)) = rw (ne_eqb j k (λ same. omega arith)) (after k j later within (at k true is.0 is.1) _ refl)
+      by_order j within (inr (inr later)) = rw (ne_eqb j k (λ same. omega arith))
+          (after k j later within (at k true is.0 is.1) _ refl)

@@ -1,12 +1,7 @@
 -- What one step with a shared store's seat does to it. No public clause cites this module.
 use Rattle.std.specs.Prelude.{◌≡◌, ◌≢◌, ℕ, ◌+◌, ◌<◌, List, [], ◌∷◌, ◌++◌, length, map, Some, None, slice_index_or, drop}
+use Rattle.mm_shared.specs.Words.{Me, Step, TableId, Event, Reply, State, step, entry, opening_at}
 use Rattle.atomic_table.specs.declared.shared.Seat.{Seat}
-use Rattle.atomic_table.specs.Table.{Me, Step}
-use Rattle.atomic_table.specs.Seated.{TableId}
-use Rattle.mm_desk.specs.declared.event.Event.{Event}
-use Rattle.mm_desk.specs.declared.reply.Reply.{Reply}
-use Rattle.mm_desk.specs.Machine.{State, step}
-use Rattle.mm_desk.specs.Runs.{entry, opening_at}
 use Rattle.mm_shared.specs.declared.rule.Knows.{Knows}
 use Rattle.mm_shared.specs.Rule.{knows, all_seats, calls_on}
 use Rattle.mm_shared.specs.Views.{HasLegalLog, HaveLogs}
@@ -31,7 +26,7 @@ pub record IsAtRest (m : Seated) : Type 0 where
   pub none : m.0.held ≡ None
   pub empty : m.1 ≡ []
 
--- the seat holding the state of the store of an index, which was the first one when it was taken and is the second one now
+-- the seat holding the state of the store of an index: the first one when it was taken, and the second one now
 abbrev pub holding : ℕ → Seated → State → State → Seated
 holding k m taken now = (record m.0 { held = Some (k, taken) }, (k, now) ∷ [])
 
@@ -78,27 +73,27 @@ pub record HasCalled (k : ℕ) (event : Event) (reply : Reply) (m : Seated) : Ty
   pub seated : 0 < length m.0.lists
   pub stepped : step taken event ≡ (reply, now)
 
--- a try of a lock: the state of its store is held where the word was 0
+-- a try of a lock: the state of its store is held if the word was 0
 abbrev pub tried : Step State → Seated → ℕ → Seated → Type 0
 tried st m r n = (r ≡ 0 → Holds st.word m n) × (r ≢ 0 → n ≡ m)
 
--- who has all seats takes the state of a store, which went by a legal log of the calls of all since they count
+-- the holder of all seats takes the state of a store, to which a legal log of the calls of all seats leads
 pub record IsTakenByAll (k : ℕ) (m n : Seated) : Type 0 where
   pub now : State
   pub holds : n ≡ holding k m now now
-  pub went : HasLegalLog (map (calls_on k) m.0.lists) (opening_at m.0.states k) now
+  pub legal : HasLegalLog (map (calls_on k) m.0.lists) (opening_at m.0.states k) now
 
--- these are all seats, of which there are some, and none holds a state
+-- these are all seats, there is at least one, and none holds a state
 pub record AreAll (seats : ℕ) (m : Seated) : Type 0 where
   pub rest : IsAtRest m
   pub first : m.0.first ≡ 0
   pub count : length m.0.lists ≡ seats
   pub some_seat : 0 < seats
 
--- who has all seats knows what became of each of this many stores, by a legal log of the calls of all; from then on calls count from
--- these states
+-- the holder of all seats knows the state of each of this many stores, to which a legal log of the calls of all seats
+-- leads; from then on calls count from these states
 pub record IsSettled (stores : ℕ) (m n : Seated) : Type 0 where
-  pub went : HaveLogs m.0.lists m.0.states n.0.states
+  pub logs : HaveLogs m.0.lists m.0.states n.0.states
   pub many : length n.0.states ≡ stores
   pub all : n ≡ (all_seats n.0.states (length m.0.lists), [])
 

@@ -1,12 +1,10 @@
 -- The stores of a step that workers share: a table of them, and a port for every worker.
-use Rattle.std.specs.Prelude.{◌≡◌, ℕ, ◌+◌, ◌-◌, ◌<◌, ◌≤◌, List, [], ◌∷◌, length, map, slice_index_or, bytes_eq, AllPairs, All, false, vec_capacity, Vec}
+use Rattle.std.specs.Prelude.{◌≡◌, ℕ, ◌+◌, ◌-◌, ◌<◌, ◌≤◌, List, [], ◌∷◌, length, map, slice_index_or, bytes_eq}
+use Rattle.std.specs.Prelude.{AllPairs, All, false, vec_capacity, Vec}
+use Rattle.mm_shared.specs.Words.{Entry, State, opening_at, MAX_SEATS}
 use Rattle.std.specs.Global.{Global}
-use Rattle.mm_desk.specs.declared.entry.Entry.{Entry}
 use Rattle.mm_desk.specs.declared.held.Held.{Held}
-use Rattle.mm_desk.specs.Machine.{State}
-use Rattle.mm_desk.specs.Runs.{opening_at}
 use Rattle.mm_shared.specs.Rule.{calls_on}
-use Rattle.mm_desk.specs.declared.desk.TheConstants.{MAX_SEATS}
 use Rattle.mm_shared.specs.Views.{Origin, PortView, PortsView, StoresView, HasLegalLog, new_ports, ports_after}
 use Rattle.mm_shared.specs.declared.label.StoreLabel.{StoreLabel}
 use Rattle.mm_shared.specs.declared.stores.OpenStores.{OpenStores}
@@ -27,7 +25,8 @@ label_of h = record { id = h.id; channel = h.channel }
 abbrev pub held_stores : List StoreLabel → List State → List Held
 held_stores [] states = []
 held_stores (label ∷ labels) [] = []
-held_stores (label ∷ labels) (state ∷ states) = record { id = label.id; channel = label.channel; state = state } ∷ held_stores labels states
+held_stores (label ∷ labels) (state ∷ states) =
+    record { id = label.id; channel = label.channel; state = state } ∷ held_stores labels states
 
 -- the identifiers of labels
 abbrev pub ids_of : List StoreLabel → List (List ℕ)
@@ -71,17 +70,18 @@ lists_at k workers = map (λ w. list_at w k) workers
 abbrev pub IsFresh : PortView → Type 0
 IsFresh port = port.list ≡ []
 
--- where a port is, which no call changes: its stores, and the number of its seat
+-- the place of a port, which no call changes: its stores, and the number of its seat
 abbrev pub end_of : PortView → Origin × ℕ
 end_of port = (port.of, port.number)
 
--- where the ports of workers are
+-- the places of the ports of workers
 abbrev pub all_ends : List PortView → List (Origin × ℕ)
 all_ends workers = map end_of workers
 
 -- workers have ports of these stores, with the seats from this number on
 abbrev pub AreWorkers : Origin → ℕ → List PortView → Type 0
-AreWorkers of first workers = (i : ℕ) (d : PortView) → i < length workers → end_of (slice_index_or workers i d) ≡ (of, first + i)
+AreWorkers of first workers =
+    (i : ℕ) (d : PortView) → i < length workers → end_of (slice_index_or workers i d) ≡ (of, first + i)
 
 -- a list is empty, and has room for this many elements
 pub record HasRoom {A : Type 0} (list : Vec A Global) (count : ℕ) : Type 0 where
@@ -97,8 +97,8 @@ pub record IsFilled {A : Type 0} (before after : Vec A Global) (all : List A) : 
 abbrev pub stores_in : OpenStores → List Held
 stores_in it = held_stores it.labels.items it.rest.of.states
 
--- what is so of open stores, in a step and between steps: each has a label, there are seats and room for as many workers as may be, and
--- room to give the stores back
+-- open stores, in a step and between steps: each has a label, and there are seats and room for all workers, and room to
+-- give the stores back
 pub record AreKept (it : OpenStores) : Type 0 where
   pub of : it.rest.of.table ≡ it.stores.id
   pub many : it.stores.many ≡ length it.labels.items
@@ -129,6 +129,7 @@ pub record AreNew (before : List Held) (workers : ℕ) (it : OpenStores) : Type 
   pub count : length it.workers.items ≡ workers
   pub fresh : All IsFresh it.workers.items
 
--- each store went by a legal log that is a shuffle of the workers' calls on it
+-- a legal log that is a shuffle of the workers' calls on it leads each store from its state before to its state after
 abbrev pub HaveLegalLogs : List PortView → List State → List State → Type 0
-HaveLegalLogs workers before after = (k : ℕ) → k < length after → HasLegalLog (lists_at k workers) (opening_at before k) (opening_at after k)
+HaveLegalLogs workers before after =
+    (k : ℕ) → k < length after → HasLegalLog (lists_at k workers) (opening_at before k) (opening_at after k)

@@ -1,13 +1,7 @@
--- What contracts see of a shared store and of its ports, and of what became of a store.
-use Rattle.std.specs.Prelude.{ℕ, ◌+◌, ◌<◌, List, [], ◌∷◌, ◌++◌, length, map, slice_index_or, drop, replicate}
-use Rattle.atomic_table.specs.Seated.{TableId}
-use Rattle.mm_desk.specs.declared.entry.Entry.{Entry}
-use Rattle.mm_desk.specs.declared.event.Event.{Event}
-use Rattle.mm_desk.specs.declared.reply.Reply.{Reply}
-use Rattle.mm_desk.specs.Machine.{State}
-use Rattle.mm_desk.specs.Runs.{entry, IsRun, opening_at}
-use Rattle.mm_desk.specs.Shuffles.{IsShuffle}
-use Rattle.mm_shared.specs.declared.tally.Tally.{Tally}
+-- What contracts see of shared stores, of their ports and of the calls made on them.
+use Rattle.std.specs.Prelude.{ℕ, ◌+◌, ◌-◌, ◌<◌, List, [], ◌∷◌, ◌++◌, length, map, slice_index_or, drop, replicate}
+use Rattle.mm_shared.specs.Words.{TableId, Entry, Event, Reply, State, entry, IsRun, opening_at, IsShuffle}
+use Rattle.mm_shared.specs.declared.counters.StoreCounters.{StoreCounters}
 use Rattle.mm_shared.specs.Rule.{calls_on}
 
 -- stores that threads share: which table it is, how many stores and how many seats there are
@@ -56,13 +50,21 @@ other_ports ports = record ports { first = ports.first + 1; lists = drop 1 ports
 abbrev pub with_port : PortView → PortsView → PortsView
 with_port port ports = record { of = port.of; first = port.number; lists = port.list ∷ ports.lists }
 
--- the ports that are left where this many, the first ones, are with workers
+-- the ports that are left if this many workers have the first ones
 abbrev pub ports_after : Origin → ℕ → ℕ → PortsView
 ports_after of workers left = record { of = of; first = workers; lists = replicate left [] }
 
 -- what a store has counted, and how many packets it holds
-abbrev pub tally_of : State → Tally
-tally_of s = record { offered = s.offered; lost = s.lost; deleted = s.deleted; held = length s.store.content }
+abbrev pub counters_of : State → StoreCounters
+counters_of s = record { offered = s.offered; lost = s.lost; deleted = s.deleted; held = length s.store.content }
+
+-- what the counters rose by since they were these, and how many packets are held
+abbrev pub rise : StoreCounters → StoreCounters → StoreCounters
+rise before after = record after {
+  offered = after.offered - before.offered;
+  lost = after.lost - before.lost;
+  deleted = after.deleted - before.deleted;
+}
 
 -- there is a legal log from the first state to the second that is a shuffle of these lists, one for each seat
 pub record HasLegalLog (lists : List (List Entry)) (s t : State) : Type 0 where
@@ -70,6 +72,8 @@ pub record HasLegalLog (lists : List (List Entry)) (s t : State) : Type 0 where
   pub run : IsRun s log t
   pub shuffle : IsShuffle lists log
 
--- each store went by a legal log that is a shuffle of the calls on it in these lists, one for each seat
+-- a legal log that is a shuffle of the calls on it in these lists, one for each seat, leads each store from its state
+-- before to its state after
 abbrev pub HaveLogs : List (List (ℕ × Entry)) → List State → List State → Type 0
-HaveLogs lists before after = (k : ℕ) → k < length after → HasLegalLog (map (calls_on k) lists) (opening_at before k) (opening_at after k)
+HaveLogs lists before after =
+    (k : ℕ) → k < length after → HasLegalLog (map (calls_on k) lists) (opening_at before k) (opening_at after k)

@@ -1,4 +1,4 @@
-//! The calls that a port makes on a store. Each takes the store's lock, is made on the state itself, and gives the lock back.
+//! The calls that a port makes on a store. Each takes the store's lock, is made on the state, and gives the lock back.
 ghost use Rattle.std.specs.Prelude.{◌≡◌, ◌≢◌, ◌<◌, IfErr, Ok, Err};
 ghost use Rattle.mm_desk.specs.declared.fault.Fault.TheVariants.{NoMemory};
 ghost use Rattle.mm_shared.specs.Views.{with_call};
@@ -27,7 +27,7 @@ macro_rules! call {
 }
 
 impl SharedStores {
-    /// Offers a packet at a moment, in ticks. It is handed back where it is refused.
+    /// Offers a packet at a moment, in ticks. It is handed back if it is refused.
     pub fn offer<R: Wait>(
         &self,
         rt: &R,
@@ -60,8 +60,8 @@ impl SharedStores {
         call!(self.table.shared, rt, port, store; begin(from, to), (from, to))
     }
 
-    /// Gives a copy of the next packet of the retrieval with its storage time; nothing at its end, where it is over. Where there is
-    /// no memory for the copy nothing has changed.
+    /// Gives a copy of the next packet of the retrieval with its storage time, or nothing at its end. If there is no
+    /// memory for the copy, nothing has changed.
     pub fn next<R: Wait>(
         &self,
         rt: &R,

@@ -1,12 +1,13 @@
 //! The lock of each shared store: its state is taken, and given back.
 ghost use Rattle.std.specs.Prelude.{◌≡◌, MatchBool, length};
-ghost use Rattle.mm_shared.specs.Steps.{HasSlot, MayTake, Holds, HasTaken, HasCalled, IsAsTaken, AreAll, IsTakenByAll, called, at_rest};
+ghost use Rattle.mm_shared.specs.Steps.{HasSlot, MayTake, Holds, HasTaken, HasCalled, IsAsTaken, AreAll, IsTakenByAll};
+ghost use Rattle.mm_shared.specs.Steps.{called, at_rest};
 
 use crate::rule::{Call, Give, Restore, StoreSeat, StoreTable, Take, TakeByAll};
 use std::hint::spin_loop;
 use std::sync::Wait;
 
-// The word: 0 where the state is in its slot, 1 where a thread has it, 2 where another may sleep meanwhile.
+// The word: 0 if the state is in its slot, 1 if a thread has it, 2 if another thread may sleep meanwhile.
 const FREE: u64 = 0;
 
 const LOCKED: u64 = 1;
@@ -16,7 +17,7 @@ const AWAITED: u64 = 2;
 // Tries before a thread sleeps.
 const TRIES: u32 = 100;
 
-// Takes the state, where it comes free soon.
+// Takes the state, if it is soon free.
 fn try_take(table: &StoreTable, seat: &mut StoreSeat, store: usize) -> bool
     requires there { HasSlot table.now.table_id (length table.now.key.states.value.items) store }
     requires may { MayTake table.now.table_id seat.old }
@@ -34,7 +35,7 @@ fn try_take(table: &StoreTable, seat: &mut StoreSeat, store: usize) -> bool
     false
 }
 
-// Takes the state once it comes free.
+// Takes the state as soon as it is free.
 #[inline(never)]
 fn wait<R: Wait>(rt: &R, table: &StoreTable, seat: &mut StoreSeat, store: usize)
     requires there { HasSlot table.now.table_id (length table.now.key.states.value.items) store }
@@ -53,7 +54,7 @@ fn wait<R: Wait>(rt: &R, table: &StoreTable, seat: &mut StoreSeat, store: usize)
     unreachable!()
 }
 
-// Takes the state. Where it is free this is one step.
+// Takes the state. If it is free, this is one step.
 #[inline(always)]
 pub(crate) fn take<R: Wait>(rt: &R, table: &StoreTable, seat: &mut StoreSeat, store: usize)
     requires there { HasSlot table.now.table_id (length table.now.key.states.value.items) store }

@@ -3,8 +3,9 @@
 use crate::rule::StoreSeat;
 use std::marker::Model;
 
-/// A port of shared stores: one seat there, through which calls are made on any of them. Contracts see which stores it is of and the
-/// states from which its calls count, the number of its seat, and the list of the calls made through it, each with the index of its store.
+/// A port of shared stores: one seat there, through which calls are made on any of them. Contracts see which stores it
+/// is of and the states from which its calls count, the number of its seat, and the list of the calls made through it,
+/// each with the index of its store.
 #[derive(Drop)]
 pub struct Port {
     pub(crate) number: u32,
@@ -18,7 +19,10 @@ impl Model for Port {
 
     ghost Value = { PortView };
 
-    ghost view = { λ p. record { of = origin p.seat.table_id p.seat.me.0.states; number = p.seat.me.0.first; list = slice_index_or p.seat.me.0.lists 0 [] } };
+    ghost view = { λ p. record {
+        of = origin p.seat.table_id p.seat.me.0.states; number = p.seat.me.0.first;
+        list = slice_index_or p.seat.me.0.lists 0 []
+    } };
 
     ghost invariant = { λ p. IsAtRest p.seat.me × (p.number ≡ p.seat.me.0.first) × (length p.seat.me.0.lists ≡ 1) };
 }
@@ -38,7 +42,10 @@ impl Model for Ports {
 
     ghost Value = { PortsView };
 
-    ghost view = { λ p. record { of = origin p.seat.table_id p.seat.me.0.states; first = p.seat.me.0.first; lists = p.seat.me.0.lists } };
+    ghost view = { λ p. record {
+        of = origin p.seat.table_id p.seat.me.0.states; first = p.seat.me.0.first; lists = p.seat.me.0.lists
+    } };
 
-    ghost invariant = { λ p. IsAtRest p.seat.me × (p.first ≡ p.seat.me.0.first) × (p.first + length p.seat.me.0.lists < 2 ^ 32) };
+    ghost invariant = { λ p. IsAtRest p.seat.me × (p.first ≡ p.seat.me.0.first)
+        × (p.first + length p.seat.me.0.lists < 2 ^ 32) };
 }

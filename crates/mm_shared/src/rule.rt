@@ -1,10 +1,9 @@
 //! What is known of a shared store, in the proofs alone, and the rule that all its steps keep.
+ghost use Rattle.std.specs.Prelude.{◌≡◌, [], None, Ok, length};
+ghost use Rattle.mm_shared.specs.Words.{Asked, Answered};
 ghost use Rattle.mm_shared.specs.Rule.{IsKept, knows, all_seats};
 ghost use Rattle.mm_shared.specs.Steps.{tried, IsTakenByAll, IsSettled, called, at_rest, first_of, others_of, joined};
-ghost use Rattle.std.specs.Prelude.{◌≡◌, [], None, Ok, length};
-ghost use Rattle.mm_desk.specs.declared.event.Event.{Event as Asked};
 ghost use Rattle.mm_desk.specs.declared.event.Event.TheVariants.{Enable};
-ghost use Rattle.mm_desk.specs.declared.reply.Reply.{Reply as Answered};
 
 use atomic_table::{Join, Play, Split, TableRule};
 use mm_desk::{Entry, StoreState};
@@ -12,8 +11,9 @@ use std::collections::LinkedList;
 use std::marker::{Brand, PhantomData};
 use std::snapshot::Snapshot;
 
-/// What is known with seats: the states from which calls count, the number of the first seat, the calls made through each from it on,
-/// each with the index of its store, and the state that it holds, with the index of its store. No value of it is made.
+/// What is known with seats: the states from which calls count, the number of the first seat, the calls made through
+/// each seat from it on, each with the index of its store, and the state that is held, with the index of its store. No
+/// value of it is made.
 pub struct Knows {
     pub states: LinkedList<StoreState>,
     pub first: u64,
@@ -51,14 +51,14 @@ impl Play<StoreState, Knows> for Take {
     ghost then = { tried };
 }
 
-/// The state is taken by who has all seats.
+/// The holder of all seats takes a state.
 pub struct TakeByAll;
 
 impl Play<StoreState, Knows> for TakeByAll {
     ghost then = { λ st m r n. IsTakenByAll st.word m n };
 }
 
-/// Who has all seats learns what became of the stores.
+/// The holder of all seats learns the states of the stores.
 pub struct Settle;
 
 impl Play<StoreState, Knows> for Settle {

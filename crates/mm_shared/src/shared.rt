@@ -1,20 +1,17 @@
 //! Packet stores that threads share.
-ghost use Rattle.std.specs.Prelude.{◌≡◌, ◌+◌, ◌<◌, ◌≤◌, ℕ, [], length, All, IfOk, IfErr, IsTrue, false, vec_capacity, slice_index_or, slice_set};
-ghost use mathlib.Core.Option.{some};
-ghost use lib.ListN.{get_elem?};
+ghost use Rattle.std.specs.Prelude.{◌≡◌, ◌+◌, ◌<◌, ◌≤◌, ℕ, [], length, All, IfOk, IfErr, IsTrue, false, vec_capacity};
+ghost use Rattle.std.specs.Prelude.{slice_index_or, slice_set};
+ghost use Rattle.mm_shared.specs.Words.{some, get_elem?, MAX_STORES, IsState, opening_at};
 ghost use Rattle.std.specs.Slots.{slots_items, slots_len, slots_filled, IsFull};
-ghost use Rattle.mm_base.specs.declared.limits.TheConstants.{MAX_STORES};
-ghost use Rattle.mm_desk.specs.Machine.{IsState};
-ghost use Rattle.mm_desk.specs.Runs.{opening_at};
 ghost use Rattle.mm_shared.specs.Rule.{calls_on};
 ghost use Rattle.mm_shared.specs.Stores.{held_stores, labels_of, names_of, states_of, AreAllPorts, MayClose};
-ghost use Rattle.mm_shared.specs.Views.{HaveLogs, origin, new_ports, first_port, other_ports, with_port, tally_of};
+ghost use Rattle.mm_shared.specs.Views.{HaveLogs, origin, new_ports, first_port, other_ports, with_port, counters_of};
 
+use crate::counters::StoreCounters;
 use crate::label::StoreLabel;
 use crate::lock::{restore, take_by_all};
 use crate::port::{Port, Ports};
 use crate::rule::{Before, First, Knows, Opened, Ruled, Settle};
-use crate::tally::Tally;
 use atomic_table::{Closed, Refused, Table};
 use mm_base::{MAX_STORES, NoMemory};
 use mm_desk::{Held, StoreState};
@@ -22,8 +19,8 @@ use std::alloc::Global;
 use std::marker::Model;
 use std::snapshot::Snapshot;
 
-/// Packet stores that threads share, each by a port of its own. Stores count from 0. Contracts see which ones they are, how many,
-/// and how many seats there are.
+/// Packet stores that threads share, each by a port of its own. Stores count from 0. Contracts see which stores they
+/// are, and the numbers of stores and of seats.
 #[derive(Drop)]
 pub struct SharedStores {
     pub(crate) table: Table<StoreState, Knows, Opened, Ruled, Global>,
@@ -36,7 +33,10 @@ impl Model for SharedStores {
 
     ghost Value = { StoresView };
 
-    ghost view = { λ s. record { id = s.table.shared.table_id; many = length s.table.shared.key.states.value.items; seats = s.table.shared.key.seats } };
+    ghost view = { λ s. record {
+        id = s.table.shared.table_id; many = length s.table.shared.key.states.value.items;
+        seats = s.table.shared.key.seats
+    } };
 
     ghost invariant = { λ s. HasSlots s.table.shared.table_id (length s.table.shared.key.states.value.items) };
 }
@@ -64,7 +64,7 @@ fn take_out(closed: Closed<StoreState, Global>, labels: &[StoreLabel], stores: &
 }
 
 impl SharedStores {
-    /// Stores in these states with this many seats, and all ports. Where there is no memory the states come back.
+    /// Stores in these states with this many seats, and all ports. If there is no memory, the states come back.
     pub fn open(
         alloc: Global,
         states: Vec<StoreState>,
@@ -99,7 +99,7 @@ impl SharedStores {
         Port { number, seat }
     }
 
-    /// Puts a port before those whose first seat comes next after its own.
+    /// Puts a port before the others: their first seat is the next after its own.
     pub fn join(&self, ports: &mut Ports, port: Port)
         requires of { (ports.old.of.table ≡ self.now.id) × (port.of.table ≡ self.now.id) }
         requires next { port.number + 1 ≡ ports.old.first }
@@ -111,30 +111,30 @@ impl SharedStores {
         ports.first = port.number;
     }
 
-    // Learns what became of the stores, with all ports: from then on their calls count from the states that the stores are in.
+    // Learns the states of the stores, with all ports: from then on calls count from these states.
     pub(crate) fn settle(&self, ports: &mut Ports)
         requires all { AreAllPorts self.now ports.old }
-        ensures went { HaveLogs ports.old.lists ports.old.of.states ports.new.of.states }
+        ensures logs { HaveLogs ports.old.lists ports.old.of.states ports.new.of.states }
         ensures many { length ports.new.of.states ≡ self.now.many }
         ensures all { ports.new ≡ new_ports (origin self.now.id ports.new.of.states) self.now.seats }
     {
         self.table.shared.load::<Settle>(&mut ports.seat, 0);
     }
 
-    // The tally of a store, with all ports, through which no call was made.
-    pub(crate) fn tally(&self, ports: &mut Ports, store: usize) -> Tally
+    // The counters of a store, with all ports, through which no call was made.
+    pub(crate) fn counters(&self, ports: &mut Ports, store: usize) -> StoreCounters
         requires all { AreAllPorts self.now ports.old }
         requires fresh { All (λ calls. calls ≡ []) ports.old.lists }
         requires within { store < self.now.many }
         ensures same { ports.new ≡ ports.old }
-        ensures tally { result ≡ tally_of (opening_at ports.old.of.states store) }
+        ensures counters { result ≡ counters_of (opening_at ports.old.of.states store) }
         ensures sound { IsState (opening_at ports.old.of.states store) }
     {
         let table = &self.table.shared;
         take_by_all(table, &mut ports.seat, store);
-        let tally = Tally::of(ports.seat.slot_mut(table, store));
+        let counters = StoreCounters::of(ports.seat.slot_mut(table, store));
         restore(table, &mut ports.seat, store);
-        tally
+        counters
     }
 
     /// Gives the stores back under these labels, with all ports. It takes no memory.
@@ -143,7 +143,7 @@ impl SharedStores {
         requires may { MayClose self ports labels.now }
         requires room { (stores.old.items ≡ []) × (length labels.now ≤ vec_capacity stores.old) }
         ensures labels { labels_of stores.new.items ≡ names_of labels.now }
-        ensures went { HaveLogs ports.lists ports.of.states (states_of stores.new.items) }
+        ensures logs { HaveLogs ports.lists ports.of.states (states_of stores.new.items) }
         ensures untouched { (k : ℕ) → k < self.many → All (λ calls. calls_on k calls ≡ []) ports.lists
             → opening_at (states_of stores.new.items) k ≡ opening_at ports.of.states k }
         ensures sound { All (λ h. IsState h.state) stores.new.items }
@@ -151,7 +151,8 @@ impl SharedStores {
         take_out(self.table.close_with(ports.seat), labels, stores);
     }
 
-    /// Gives the stores back under these labels, without the ports. Nothing is known of them but that they are sound. It takes no memory.
+    /// Gives the stores back under these labels, without the ports. They are sound, and nothing else is known of them.
+    /// It takes no memory.
     #[tactic(auto, using(crate::proofs::Opening::labels_are))]
     pub fn into_stores(self, labels: &[StoreLabel], stores: &mut Vec<Held>)
         requires as_many { length labels.now ≡ self.many }

@@ -1,23 +1,23 @@
 //! The stores of a run that the workers of its steps share.
-ghost use Rattle.std.specs.Prelude.{◌≡◌, ℕ, ◌-◌, ◌<◌, ◌≤◌, ◌==◌, [], ◌++◌, length, map, replicate, All, false, IfOk, OnErr, IfSome, IfNone, bytes_eq, vec_len, vec_capacity};
-ghost use Rattle.mm_desk.specs.declared.desk.TheConstants.{MAX_SEATS};
-ghost use Rattle.mm_desk.specs.Runs.{opening_at};
-ghost use Rattle.mm_base.specs.declared.limits.TheConstants.{MAX_STORES};
-ghost use Rattle.mm_desk.specs.Machine.{IsState};
-ghost use Rattle.mm_shared.specs.Views.{new_ports, ports_after, tally_of};
-ghost use Rattle.mm_shared.specs.Stores.{held_stores, label_of, states_of, labels_of, names_of, ids_of, id_at, stores_in, AreNamed, AreWorkers, HasRoom, IsFilled, AreAtRest, AreOpen, AreNew, HaveLegalLogs};
+ghost use Rattle.std.specs.Prelude.{◌≡◌, ℕ, ◌-◌, ◌<◌, ◌≤◌, ◌==◌, [], ◌++◌, length, map, replicate, All, false, IfOk};
+ghost use Rattle.std.specs.Prelude.{OnErr, IfSome, IfNone, bytes_eq, vec_len, vec_capacity};
+ghost use Rattle.mm_shared.specs.Words.{MAX_SEATS, opening_at, MAX_STORES, IsState};
+ghost use Rattle.mm_shared.specs.Views.{new_ports, ports_after, counters_of};
+ghost use Rattle.mm_shared.specs.Stores.{held_stores, label_of, states_of, labels_of, names_of, ids_of, id_at};
+ghost use Rattle.mm_shared.specs.Stores.{stores_in, AreNamed, AreWorkers, HasRoom, IsFilled, AreAtRest, AreOpen};
+ghost use Rattle.mm_shared.specs.Stores.{AreNew, HaveLegalLogs};
 
+use crate::counters::StoreCounters;
 use crate::label::StoreLabel;
 use crate::port::{Port, Ports};
 use crate::shared::SharedStores;
-use crate::tally::Tally;
 use mm_base::{NoMemory, StoreId};
 use mm_desk::{Held, MAX_SEATS, StoreState};
 use std::alloc::Global;
 use std::mem::replace;
 
-/// Stores that are open for the steps of a run, and the port of each worker of a step. What else is needed to give the stores back is
-/// kept beside them.
+/// Stores that are open for the steps of a run, and the port of each worker of a step. What else is needed to give the
+/// stores back is kept beside them.
 #[derive(Drop)]
 pub struct OpenStores {
     pub labels: Vec<StoreLabel>,
@@ -31,8 +31,10 @@ pub struct OpenStores {
 pub fn place_of(stores: &[StoreLabel], id: &StoreId) -> Option<usize>
     requires named { AreNamed (ids_of stores.now) }
     ensures found { IfSome result (λ k. k < length stores.now) }
-    ensures is { IfSome result (λ k. (j : ℕ) → j < length stores.now → bytes_eq (id_at (ids_of stores.now) j) id.now ≡ (j == k)) }
-    ensures none { IfNone result ((j : ℕ) → j < length stores.now → bytes_eq (id_at (ids_of stores.now) j) id.now ≡ false) }
+    ensures is { IfSome result (λ k. (j : ℕ) → j < length stores.now
+        → bytes_eq (id_at (ids_of stores.now) j) id.now ≡ (j == k)) }
+    ensures none { IfNone result ((j : ℕ) → j < length stores.now
+        → bytes_eq (id_at (ids_of stores.now) j) id.now ≡ false) }
 {
     mm_desk::place_of(stores, id)
 }
@@ -79,7 +81,7 @@ fn join_all(labels: Vec<StoreLabel>, states: Vec<StoreState>, stores: &mut Vec<H
     });
 }
 
-/// Opens stores. Where there is no memory they are as they were; what the steps need of it is taken here.
+/// Opens stores. If there is no memory, they are as before. The memory that the steps need is taken here.
 #[tactic(auto, using(crate::proofs::Opening::together, crate::proofs::Opening::count_is))]
 pub fn open_all(alloc: Global, stores: &mut Vec<Held>) -> Result<OpenStores, NoMemory>
     requires few { vec_len stores.old ≤ MAX_STORES }
@@ -123,13 +125,13 @@ pub fn seat_workers(opened: &mut OpenStores, workers: u32)
     }
 }
 
-/// Ends a step: takes all ports back. Each store went by a legal log of the workers' calls on it.
+/// Ends a step: takes all ports back. A legal log of the workers' calls on it leads each store to its state now.
 #[tactic(auto, using(crate::proofs::Opening::labels_are))]
 pub fn settle(opened: &mut OpenStores)
     requires opened { AreOpen opened.old }
     ensures rest { AreAtRest opened.new }
     ensures labels { labels_of (stores_in opened.new) ≡ names_of opened.old.labels.items }
-    ensures went { HaveLegalLogs opened.old.workers.items opened.old.rest.of.states (states_of (stores_in opened.new)) }
+    ensures logs { HaveLegalLogs opened.old.workers.items opened.old.rest.of.states (states_of (stores_in opened.new)) }
     ensures sound { All (λ h. IsState h.state) (stores_in opened.new) }
 {
     while let Some(port) = opened.workers.pop() {
@@ -147,20 +149,20 @@ pub fn read_states(opened: &mut OpenStores)
     ensures sound { All (λ h. IsState h.state) (stores_in opened.old) }
 {
     for store in 0..opened.labels.len() {
-        tally_at(opened, store);
+        counters_at(opened, store);
     }
 }
 
-/// The tally of the store at an index, between steps.
+/// The counters of the store at an index, between steps.
 #[tactic(auto, using(crate::proofs::Opening::states_are, crate::proofs::Opening::count_is))]
-pub fn tally_at(opened: &mut OpenStores, store: usize) -> Tally
+pub fn counters_at(opened: &mut OpenStores, store: usize) -> StoreCounters
     requires rest { AreAtRest opened.old }
     requires within { store < length (stores_in opened.old) }
     ensures same { opened.new ≡ opened.old }
-    ensures tally { result ≡ tally_of (opening_at (states_of (stores_in opened.old)) store) }
+    ensures counters { result ≡ counters_of (opening_at (states_of (stores_in opened.old)) store) }
     ensures sound { IsState (opening_at (states_of (stores_in opened.old)) store) }
 {
-    opened.stores.tally(&mut opened.rest, store)
+    opened.stores.counters(&mut opened.rest, store)
 }
 
 /// Gives the stores back as they are between steps. It takes no memory.

@@ -10,8 +10,8 @@ use growths::shared::answer;
 use mm_base::Kind;
 use mm_desk::{Fault, StoreState};
 use mm_shared::{
-    Port, Ports, SharedStores, StoreLabel, Tally, close_all, open_all, seat_workers, settle,
-    tally_at,
+    Port, Ports, SharedStores, StoreCounters, StoreLabel, close_all, counters_at, open_all,
+    seat_workers, settle,
 };
 use std::alloc::Global;
 use std::process::Abort;
@@ -243,14 +243,14 @@ fn stores_are_given_back_in_order(rt: HostRuntime) {
     let Ok(mut opened) = open_all(rt.alloc(), &mut stores) else {
         panic!(rt; "memory");
     };
-    let tally = Tally {
+    let counters = StoreCounters {
         offered: 2,
         lost: 0,
         deleted: 0,
         held: 2,
     };
     assert!(rt;
-        tally_at(&mut opened, 1) == tally,
+        counters_at(&mut opened, 1) == counters,
         "what the second store counts"
     );
     seat_workers(&mut opened, 3);

@@ -89,7 +89,7 @@ returns-clause-carried g c =
     let labels = c.settle.ensures.labels ∙ opened.labels in
     let label : Held → List ℕ × ℕ = λ h. (h.id, h.channel) in
     let count : length (states_of after) ≡ length before = length-map after (λ (h : Held). h.state) ∙ sym (length-map after label) ∙ ap length labels ∙ length-map before label in
-    let logs = subst (λ (T : Type 0). T) (λ i. HaveLegalLogs (ports i) (opened.states i) (states_of after)) c.settle.ensures.went in
+    let logs = subst (λ (T : Type 0). T) (λ i. HaveLegalLogs (ports i) (opened.states i) (states_of after)) c.settle.ensures.logs in
     let ids = same_ids c.deref.result.now before (ap names_of c.deref.ensures.value ∙ opened.labels) in
     let few : 0 < length idle → length c.args.orders.now ≤ length (take many c.args.links.now) = λ some. omega (arith, some, length-drop many c.args.links.now, busy g b, c.min-many.ensures) in
     subst (λ (T : Type 0). T)

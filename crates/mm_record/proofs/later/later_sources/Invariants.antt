@@ -1,4 +1,4 @@
-use Rattle.std.proofs.Common.{◌≡◌, ◌+◌, ◌≤◌, ◌++◌, length, map, vec_len, vec_capacity}
+use Rattle.mm_record.proofs.Words.{◌≡◌, ◌+◌, ◌≤◌, ◌++◌, length, map, vec_len, vec_capacity}
 use Rattle.std.specs.Vec.Iter.{into_iter_items, into_iter_len}
 use Rattle.mm_record.specs.Later.{later}
 use Rattle.mm_record.proofs.later.later_sources.Given as goal
@@ -9,5 +9,6 @@ invariant-loop-source g l = record {
   finite : (goal.iterator-loop-source g).is_finite l.source-iterator;
   counted : into_iter_len l.source-iterator ≡ length (into_iter_items l.source-iterator);
   room : vec_len l.all + length (into_iter_items l.source-iterator) ≤ vec_capacity l.all;
-  made : l.all.items ++ map (later l.after) (into_iter_items l.source-iterator) ≡ map (later l.after) l.fn.sources.items;
+  made : l.all.items ++ map (later l.after) (into_iter_items l.source-iterator) ≡ map (later l.after)
+      l.fn.sources.items;
 }

@@ -1,6 +1,4 @@
-use Rattle.std.proofs.Common.{◌≡◌, map, take, All}
-use Rattle.mm_desk.specs.Machine.{IsState}
-use Rattle.mm_record.specs.Counters.{counters_of}
+use Rattle.mm_record.proofs.Words.{◌≡◌, map, take, All, IsState, counters_of}
 use Rattle.mm_record.proofs.memory_step.all_counters.Given as goal
 
 abbrev pub invariant-loop-held : goal.invariant-loop-held

@@ -1,5 +1,4 @@
-use Rattle.std.proofs.Common.{◌≡◌, vec_capacity}
-use Rattle.mm_record.specs.Counters.{AreRows}
+use Rattle.mm_record.proofs.Words.{◌≡◌, vec_capacity, AreRows}
 use Rattle.mm_record.proofs.memory_step.changes_of.Given as goal
 
 abbrev pub invariant-loop-index : goal.invariant-loop-index

@@ -1,4 +1,4 @@
-use Rattle.std.proofs.Common.{◌+◌, ◌-◌, ◌*◌, length}
+use Rattle.mm_record.proofs.Words.{◌+◌, ◌-◌, ◌*◌, length}
 use Rattle.mm_record.proofs.recorder.+recorders.Given as goal
 
 abbrev pub decreases-record_all : goal.decreases-record_all

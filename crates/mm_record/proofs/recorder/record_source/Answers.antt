@@ -1,7 +1,6 @@
-use Rattle.std.proofs.Common.{rules, ◌≡◌, Some, refl, ◌∙◌}
+use Rattle.mm_record.proofs.Words.{rules, ◌≡◌, Some, refl, ◌∙◌, step_of}
 use Rattle.std.specs.Result.{result_err}
-use Rattle.mm_record.specs.Offering.{step_of}
-use Rattle.mm_record.proofs.SoFar.{so_far_start, so_far_more, ran_partly}
+use Rattle.mm_record.proofs.SoFar.{so_far_start, so_far_more, offered_partly}
 use Rattle.mm_record.proofs.recorder.record_source.Goals as goal
 
 pub loop-init : goal.loop-init
@@ -16,13 +15,15 @@ loop-preserved g c = record {
   routings = c.offer_packet.ensures.routings;
   so_far = λ last leads.
       let before = c.loop.invariant.so_far last (c.in-Some-next_packet.ensures.back last leads) in
-      (before.0, so_far_more before.1 c.in-Some-next_packet.packet (c.in-Some-next_packet.ensures.gave last leads) _ c.in_ok-offer_packet.ensures.offers);
+      let gave = c.in-Some-next_packet.ensures.gave last leads in
+      (before.0, so_far_more before.1 c.in-Some-next_packet.packet gave _ c.in_ok-offer_packet.ensures.offers);
   end = c.in_ok-offer_packet.ensures.offers.end ∙ c.loop.invariant.end;
 }
 
-pub returns-in_err-offer_packet-clause-run : goal.returns-in_err-offer_packet-clause-run
-returns-in_err-offer_packet-clause-run g c = λ last leads.
+pub returns-in_err-offer_packet-clause-offered : goal.returns-in_err-offer_packet-clause-offered
+returns-in_err-offer_packet-clause-offered g c = λ last leads.
     let before = c.loop.invariant.so_far last (c.in-Some-next_packet.ensures.back last leads) in
     let failed : result_err c.from_residual.result ≡ Some c.in_err-offer_packet.field-0.0 = search rules in
     let gave = c.in-Some-next_packet.ensures.gave last leads in
-    (before.0, rw failed (ran_partly before.1 c.in-Some-next_packet.packet gave _ c.in_err-offer_packet.ensures.offers))
+    let offered = offered_partly before.1 c.in-Some-next_packet.packet gave _ c.in_err-offer_packet.ensures.offers in
+    (before.0, rw failed offered)

@@ -1,4 +1,4 @@
-use Rattle.std.proofs.Common.{rules}
+use Rattle.mm_shared.proofs.Words.{rules}
 use Rattle.mm_shared.proofs.Kept.{gives_kept}
 use Rattle.mm_shared.proofs.lock.give.Goals as goal
 

@@ -1,4 +1,4 @@
-use Rattle.std.proofs.Common.{rules}
+use Rattle.mm_shared.proofs.Words.{rules}
 use Rattle.mm_shared.proofs.Kept.{restores_kept}
 use Rattle.mm_shared.proofs.lock.restore.Goals as goal
 

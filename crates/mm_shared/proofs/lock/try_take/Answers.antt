@@ -1,5 +1,4 @@
-use Rattle.std.proofs.Common.{rules, ℕ, ◌<◌, arith}
-use Rattle.atomic_table.proofs.Lists.{exchanged}
+use Rattle.mm_shared.proofs.Words.{rules, ℕ, ◌<◌, arith, exchanged}
 use Rattle.mm_shared.proofs.Kept.{tries_kept}
 use Rattle.mm_shared.proofs.lock.try_take.Goals as goal
 
@@ -8,5 +7,7 @@ compare_exchange-requires c =
     rw c.loop.invariant.1 (
       search rules,
       search rules,
-      tries_kept _ _ _ _ _ _ _ 0 1 c.requires.there.opened (λ k. exchanged k 0 1 (λ (n : ℕ). 0 < n) (λ free. omega arith) (λ busy. omega arith)) c.requires.may.rest c.requires.may.seated,
+      tries_kept _ _ _ _ _ _ _ 0 1 c.requires.there.opened
+          (λ k. exchanged k 0 1 (λ (n : ℕ). 0 < n) (λ free. omega arith) (λ busy. omega arith)) c.requires.may.rest
+          c.requires.may.seated,
     )

@@ -1,4 +1,4 @@
-use Rattle.std.proofs.Common.{◌≡◌}
+use Rattle.mm_shared.proofs.Words.{◌≡◌}
 use Rattle.mm_shared.proofs.lock.try_take.Given as goal
 
 abbrev pub invariant-loop : goal.invariant-loop

@@ -1,5 +1,5 @@
-use Rattle.std.proofs.Common.{rules, ◌≡◌, ◌<◌, length, take, get_or, arith}
-use Rattle.mm_shared.proofs.Words.{take_more, IsState, Held, All-push, common_steps, slots_items, slots_filled, slots_counts}
+use Rattle.mm_shared.proofs.Words.{rules, ◌≡◌, ◌<◌, length, take, get_or, arith, take_more, IsState, Held, All-push}
+use Rattle.mm_shared.proofs.Words.{common_steps, slots_items, slots_filled, slots_counts}
 use Rattle.mm_shared.proofs.Lists.{at_get}
 use Rattle.mm_shared.proofs.Opening.{one_more, under}
 use Rattle.mm_shared.proofs.shared.take_out.Goals as goal
@@ -29,6 +29,7 @@ loop-k-preserved c =
           let more = one_more (take k labels) (take k all) label state (grind (arith, common_steps)) in
           cc;
       sound = rw c.push_reserved.ensures.items
-          (All-push (λ (h : Held). IsState h.state) c.loop-k.stores.items (under label state) before.sound (let is : IsState state = search rules in is));
+          (All-push (λ (h : Held). IsState h.state) c.loop-k.stores.items (under label state) before.sound
+          (let is : IsState state = search rules in is));
       room = grind (arith, common_steps);
     }

@@ -1,5 +1,6 @@
-use Rattle.std.proofs.Common.{◌≡◌, ◌<◌, ◌≤◌, ℕ, false, length, take, All, IsTrue, vec_capacity, slice_index_or}
-use Rattle.mm_shared.proofs.Words.{IsState, held_stores, slots_items, slots_len, slots_filled}
+use Rattle.mm_shared.proofs.Words.{◌≡◌, ◌<◌, ◌≤◌, ℕ, false, length, take, IsTrue, slice_index_or, IsState, held_stores}
+use Rattle.mm_shared.proofs.Words.{slots_items, slots_len, slots_filled}
+use Rattle.std.proofs.Common.{All, vec_capacity}
 use Rattle.mm_shared.proofs.shared.take_out.Given as goal
 
 abbrev pub invariant-loop-k : goal.invariant-loop-k

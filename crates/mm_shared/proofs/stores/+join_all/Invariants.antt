@@ -1,4 +1,4 @@
-use Rattle.std.proofs.Common.{vec_len}
+use Rattle.mm_shared.proofs.Words.{vec_len}
 use Rattle.mm_shared.proofs.stores.+join_all.Given as goal
 
 abbrev pub decreases-join_all : goal.decreases-join_all

@@ -1,4 +1,4 @@
-use Rattle.std.proofs.Common.{vec_len}
+use Rattle.mm_shared.proofs.Words.{vec_len}
 use Rattle.mm_shared.proofs.stores.+part_all.Given as goal
 
 abbrev pub decreases-part_all : goal.decreases-part_all

@@ -1,5 +1,4 @@
-use Rattle.std.proofs.Common.{arith}
-use Rattle.std.proofs.lemmas.Grind.{common_steps}
+use Rattle.mm_shared.proofs.Words.{arith, common_steps}
 use Rattle.mm_shared.proofs.Opening.{together}
 use Rattle.mm_shared.proofs.stores.open_all.Goals as goal
 

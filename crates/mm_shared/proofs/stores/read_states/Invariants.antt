@@ -1,5 +1,4 @@
-use Rattle.std.proofs.Common.{◌≡◌, ℕ, ◌<◌}
-use Rattle.mm_shared.proofs.Words.{IsState, states_of, stores_in, opening_at}
+use Rattle.mm_shared.proofs.Words.{◌≡◌, ℕ, ◌<◌, IsState, states_of, stores_in, opening_at}
 use Rattle.mm_shared.proofs.stores.read_states.Given as goal
 
 abbrev pub invariant-loop-store : goal.invariant-loop-store

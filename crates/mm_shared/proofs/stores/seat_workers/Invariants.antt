@@ -1,5 +1,5 @@
-use Rattle.std.proofs.Common.{◌≡◌, ◌-◌, length, All, vec_capacity}
-use Rattle.mm_shared.proofs.Words.{AreWorkers, IsFresh, ports_after, MAX_SEATS}
+use Rattle.mm_shared.proofs.Words.{◌≡◌, ◌-◌, length, AreWorkers, IsFresh, ports_after, MAX_SEATS}
+use Rattle.std.proofs.Common.{All, vec_capacity}
 use Rattle.mm_shared.proofs.stores.seat_workers.Given as goal
 
 abbrev pub invariant-loop : goal.invariant-loop

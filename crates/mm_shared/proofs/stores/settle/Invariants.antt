@@ -1,5 +1,5 @@
-use Rattle.std.proofs.Common.{◌≡◌, ◌-◌, ◌++◌, [], drop, length, map, replicate, vec_len, vec_capacity}
-use Rattle.mm_desk.specs.declared.desk.TheConstants.{MAX_SEATS}
+use Rattle.mm_shared.proofs.Words.{◌≡◌, ◌-◌, ◌++◌, [], drop, length, map, replicate, vec_len, MAX_SEATS}
+use Rattle.std.proofs.Common.{vec_capacity}
 use Rattle.mm_shared.proofs.Lists.{AreFirst}
 use Rattle.mm_shared.proofs.stores.settle.Given as goal
 

@@ -1,4 +1,4 @@
-use Rattle.mm_desk.specs.declared.event.Event.TheVariants.{Abort}
+use Rattle.mm_shared.proofs.Words.{Abort}
 use Rattle.mm_desk.specs.declared.reply.Reply.TheVariants as reply
 use Rattle.mm_shared.proofs.shared.SharedStores.abort.Given as goal
 

@@ -1,4 +1,4 @@
-use Rattle.mm_desk.specs.declared.event.Event.TheVariants.{Begin}
+use Rattle.mm_shared.proofs.Words.{Begin}
 use Rattle.mm_desk.specs.declared.reply.Reply.TheVariants as reply
 use Rattle.mm_shared.proofs.shared.SharedStores.begin.Given as goal
 

@@ -1,4 +1,4 @@
-use Rattle.mm_desk.specs.declared.event.Event.TheVariants.{Delete}
+use Rattle.mm_shared.proofs.Words.{Delete}
 use Rattle.mm_desk.specs.declared.reply.Reply.TheVariants as reply
 use Rattle.mm_shared.proofs.shared.SharedStores.delete.Given as goal
 

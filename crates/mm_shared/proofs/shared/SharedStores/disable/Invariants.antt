@@ -1,5 +1,4 @@
-use Rattle.std.specs.Prelude.{Ok}
-use Rattle.mm_desk.specs.declared.event.Event.TheVariants.{Disable}
+use Rattle.mm_shared.proofs.Words.{Ok, Disable}
 use Rattle.mm_desk.specs.declared.reply.Reply.TheVariants as reply
 use Rattle.mm_shared.proofs.shared.SharedStores.disable.Given as goal
 

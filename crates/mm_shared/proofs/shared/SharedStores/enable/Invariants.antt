@@ -1,5 +1,4 @@
-use Rattle.std.specs.Prelude.{Ok}
-use Rattle.mm_desk.specs.declared.event.Event.TheVariants.{Enable}
+use Rattle.mm_shared.proofs.Words.{Ok, Enable}
 use Rattle.mm_desk.specs.declared.reply.Reply.TheVariants as reply
 use Rattle.mm_shared.proofs.shared.SharedStores.enable.Given as goal
 

@@ -1,4 +1,4 @@
-use Rattle.mm_desk.specs.declared.event.Event.TheVariants.{Next}
+use Rattle.mm_shared.proofs.Words.{Next}
 use Rattle.mm_desk.specs.declared.reply.Reply.TheVariants as reply
 use Rattle.mm_shared.proofs.shared.SharedStores.next.Given as goal
 

@@ -1,5 +1,4 @@
-use Rattle.std.proofs.Common.{arith}
-use Rattle.std.proofs.lemmas.Grind.{common_steps}
+use Rattle.mm_shared.proofs.Words.{arith, common_steps}
 use Rattle.mm_shared.proofs.Kept.{begins_kept}
 use Rattle.mm_shared.proofs.shared.SharedStores.open.Goals as goal
 

@@ -1,5 +1,4 @@
-use Rattle.std.proofs.Common.{rules, arith}
-use Rattle.std.proofs.lemmas.Grind.{common_steps}
+use Rattle.mm_shared.proofs.Words.{rules, arith, common_steps}
 use Rattle.mm_shared.proofs.Kept.{settles}
 use Rattle.mm_shared.proofs.shared.SharedStores.settle.Goals as goal
 
