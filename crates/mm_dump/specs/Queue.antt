@@ -14,7 +14,8 @@ pub record Knows (pushed : ℕ) (v : QueueView) : Type 0 where
   pub some_part : 0 < v.parts → v.pushed ≡ pushed
   pub no_part : v.parts ≡ 0 → v.taken ≡ []
 
--- the numbers below some number were taken, each by one pass: they are so, however numbers are weighed; those from it to the last
+-- the numbers below some number were taken, each by one pass: they are so, however numbers are weighed; those from it
+-- to the last
 -- one pushed are queued, in order
 pub record AreTakenOnce (items : List ℕ) (views : List QueueView) : Type 0 where
   pub pushed : ℕ
@@ -31,7 +32,8 @@ pub record TakesNext (v : QueueView) (number : ℕ) (w : QueueView) : Type 0 whe
   pub taken : w ≡ queue_view v.parts v.pushed (v.taken ++ number ∷ [])
   pub few : length v.taken < v.pushed
 
--- what a pass with a part knows of the numbers queued: they are no more than were pushed. The pass with all parts knows that it took the
+-- what a pass with a part knows of the numbers queued: they are no more than were pushed. The pass with all parts knows
+-- that it took the
 -- others, which are the numbers below some number, each once
 pub record Tells (v : QueueView) (items : List ℕ) : Type 0 where
   pub room : 0 < v.parts → length items ≤ v.pushed
