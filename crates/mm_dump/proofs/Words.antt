@@ -40,13 +40,13 @@ pub use Rattle.mm_shared.specs.Views.{PortView, StoresView, with_call, HasLegalL
 pub use Rattle.mm_shared.specs.declared.label.StoreLabel.{StoreLabel}
 pub use Rattle.mm_store.specs.Content.{clock_end, count_up_to, first_in}
 pub use Rattle.mm_store.specs.declared.stored.Stored.{Stored}
-pub use Rattle.std.proofs.Common.{◌≡◌, ◌≢◌, inl, inr, ⊎_elim, ℕ, zero, suc, ◌+◌, ◌-◌, ◌<◌, ◌≤◌, List, [], ◌∷◌, ◌++◌}
+pub use Rattle.std.proofs.Common.{◌≡◌, ◌≢◌, inl, inr, ℕ, zero, suc, ◌+◌, ◌-◌, ◌<◌, ◌≤◌, List, [], ◌∷◌, ◌++◌}
 pub use Rattle.std.proofs.Common.{length, get_or, set, refl, sym, ap, subst, ◌∙◌, arith, Bool, false, cond, map, filter}
 pub use Rattle.std.proofs.Common.{length-append, true, take, All, ◌^◌, append_assoc, ◌==◌, Contains, eqb, AllPairs, ◌*◌}
 pub use Rattle.std.proofs.Common.{rules, vec_len, vec_capacity, drop}
 pub use Rattle.std.proofs.lemmas.Bool.{cases_lt, lt-ltb, le-ltb, eq-eqb, eqb-true, cases_Bool, ltb-true, ne_eqb}
 pub use Rattle.std.proofs.lemmas.Bool.Decides.{eqb_tells}
-pub use Rattle.std.proofs.lemmas.List.{get_or_default, nil_from_length, append-nil, map-append, get_or_append_left}
+pub use Rattle.std.proofs.lemmas.List.{nil_from_length, append-nil, map-append, get_or_append_left}
 pub use Rattle.std.proofs.lemmas.List.{flat_map_more, map_more, set-get_or, get_or-map, length-map, take_all, map-id}
 pub use Rattle.std.proofs.lemmas.List.{length-take, length-take-le, length-drop, take-append-drop}
 pub use Rattle.std.proofs.lemmas.List.Concat.{length-flat_map, flat_map-append}

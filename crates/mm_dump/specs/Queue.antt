@@ -1,8 +1,6 @@
 -- The queue of the orders' numbers: which are queued, and which each pass has taken.
-use Rattle.std.specs.Prelude.{◌≡◌, ℕ, ◌+◌, ◌-◌, ◌<◌, ◌≤◌, List, [], ◌∷◌, ◌++◌, length, sum_by}
+use Rattle.std.specs.Prelude.{◌≡◌, ℕ, ◌+◌, ◌-◌, ◌<◌, ◌≤◌, List, [], ◌∷◌, ◌++◌, length, sum_by, All}
 use Rattle.std.specs.List.{range_with_len}
-use mathlib.Core.Option.{some}
-use lib.ListN.{get_elem?}
 use Rattle.mm_dump.specs.declared.queue.QueueView.{QueueView}
 
 -- a pass with these parts of all, which knows how many numbers were pushed, and which has taken these
@@ -24,7 +22,7 @@ pub record AreTakenOnce (items : List ℕ) (views : List QueueView) : Type 0 whe
   pub queued : items ≡ range_with_len next (pushed - next)
   pub parts : sum_by (λ v. v.parts) views ≡ 1024
   pub each : (weight : ℕ → ℕ) → sum_by weight (range_with_len 0 next) ≡ sum_by (λ v. sum_by weight v.taken) views
-  pub known : (pass : ℕ) (v : QueueView) → get_elem? views pass ≡ some v → Knows pushed v
+  pub known : All (Knows pushed) views
 
 -- a number is taken that was pushed, by a pass that had taken fewer numbers than were pushed
 pub record TakesNext (v : QueueView) (number : ℕ) (w : QueueView) : Type 0 where

@@ -92,25 +92,13 @@ pub(crate) fn dump_all<L: Link + Send, R: Threads + Wait + Sync>(
     let (low_workers, high_workers) = workers.split_at_mut(middle);
     dump_halves(
         context,
-        HalfOfWorkers {
-            links: low_links,
-            ports: low_ports,
-            workers: low_workers,
-        },
-        HalfOfWorkers {
-            links: high_links,
-            ports: high_ports,
-            workers: high_workers,
-        },
+        (low_links, low_ports, low_workers),
+        (high_links, high_ports, high_workers),
     );
 }
 
-/// Half of a step's workers, with their links and their ports.
-struct HalfOfWorkers<'a, L> {
-    links: &'a mut [L],
-    ports: &'a mut [Port],
-    workers: &'a mut [DumpWorker],
-}
+// The links of half of a step's workers, their ports, and these workers.
+type HalfOfWorkers<'a, L> = (&'a mut [L], &'a mut [Port], &'a mut [DumpWorker]);
 
 // Lets two halves of the workers carry out orders side by side. A function of its own, so that what the closures
 // require is what it
@@ -122,26 +110,16 @@ fn dump_halves<L: Link + Send, R: Threads + Wait + Sync>(
     high: HalfOfWorkers<'_, L>,
 )
     requires ready { AreReady L.sent L.failed context.now.queue.now context.now.stores.now context.now.labels.now
-        context.now.orders.now low.links.now low.ports.now low.workers.now
+        context.now.orders.now low.0.now low.1.now low.2.now
         × AreReady L.sent L.failed context.now.queue.now context.now.stores.now context.now.labels.now
-        context.now.orders.now high.links.now high.ports.now high.workers.now }
+        context.now.orders.now high.0.now high.1.now high.2.now }
     ensures low { AllWorked L.sent L.failed context.now.queue.now (ids_of context.now.labels.now)
-        context.now.orders.now low.entry.links.now low.exit.0.now low.entry.ports.now low.exit.1.0.now
-        low.exit.1.1.0.now }
+        context.now.orders.now low.entry.0.now low.exit.0.now low.entry.1.now low.exit.1.0.now low.exit.1.1.0.now }
     ensures high { AllWorked L.sent L.failed context.now.queue.now (ids_of context.now.labels.now)
-        context.now.orders.now high.entry.links.now high.exit.0.now high.entry.ports.now high.exit.1.0.now
-        high.exit.1.1.0.now }
+        context.now.orders.now high.entry.0.now high.exit.0.now high.entry.1.now high.exit.1.0.now high.exit.1.1.0.now }
 {
-    let HalfOfWorkers {
-        links: low_links,
-        ports: low_ports,
-        workers: low_workers,
-    } = low;
-    let HalfOfWorkers {
-        links: high_links,
-        ports: high_ports,
-        workers: high_workers,
-    } = high;
+    let (low_links, low_ports, low_workers) = low;
+    let (high_links, high_ports, high_workers) = high;
     let mut low = ||
         requires { IsSync R.row × IsSend L.row × AreReady L.sent L.failed context.now.queue.now context.now.stores.now
             context.now.labels.now context.now.orders.now low_links.now low_ports.now low_workers.now }
