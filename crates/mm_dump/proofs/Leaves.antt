@@ -102,7 +102,7 @@ module _ {L : Type 0} (sent : L → List Sent) (failed : L → ℕ) (ids : List 
     (each : All (HasWorked sent failed ids orders) works)
     (fresh : All (λ w. w.old_port.list ≡ []) works) (next : ℕ)
     (total : (weight : ℕ → ℕ) → sum_by weight (range_with_len 0 next)
-        ≡ sum_by (λ (w : Work L). sum_by weight (view w.worker.pass).taken) works)
+    ≡ sum_by (λ (w : Work L). sum_by weight (view w.worker.pass).taken) works)
     (logs : (p : ℕ) → p < length after → HasLegalLog (map (λ w. list_at w.new_port p) works)
     (opening_at (states_of before) p) (opening_at after p))
     (idle : List L) (few : 0 < length idle → length orders ≤ length works) (some : 0 < length works + length idle) where

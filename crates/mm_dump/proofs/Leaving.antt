@@ -126,9 +126,10 @@ broken_keeps s t seat wanted gave calls order run =
     let first = begins s _ (ap is_some idle) same.legal.0 in
     let all = turns_on true false s (step s (Begin 1 clock_end)).1 _ first.1
     (inside_keeps (step s (Begin 1 clock_end)).1 seat gave first.1.now same.legal.1) in
-    let none = none_on _ all.now in
-    (same.leaves ∙ all.close ∙ ap (λ (r : Option Retrieval). record s { retrieval = r }) (none ∙ sym idle),
-      ap (λ (u : State). u.retrieval) same.leaves ∙ none)
+    let none = none_on _ all.now in (
+      same.leaves ∙ all.close ∙ ap (λ (r : Option Retrieval). record s { retrieval = r }) (none ∙ sym idle),
+      ap (λ (u : State). u.retrieval) same.leaves ∙ none,
+    )
   where
     was_off : (u : State) → reply.Done (Ok tt) ≡ (step u (Begin 1 clock_end)).0 → u.retrieval ≡ None
     was_off = by_retrieval (λ u. reply.Done (Ok tt) ≡ (step u (Begin 1 clock_end)).0 → u.retrieval ≡ None)

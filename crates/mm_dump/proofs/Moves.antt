@@ -67,8 +67,13 @@ others_idle {items} {views} pass v rule at all i d inside =
     let others : List QueueView = set views pass nothing in
     let known = All-set (Knows rule.pushed) views pass nothing
     (record { some_part = λ some. absurd (omega arith); no_part = λ none. refl }) rule.known in
-    let none : (get_or others i d).parts ≡ 0 = omega (arith, get_or-le-sum_by parts_of others i d inside,
-    total_set parts_of views pass v nothing at, rule.parts, all) in
+    let none : (get_or others i d).parts ≡ 0 = omega (
+      arith,
+      get_or-le-sum_by parts_of others i d inside,
+      total_set parts_of views pass v nothing at,
+      rule.parts,
+      all,
+    ) in
     (none, (known i d inside).no_part none)
 
 -- and it has taken all that were
@@ -76,9 +81,13 @@ took_all : {items : List ℕ} {views : List QueueView} (pass : ℕ) (v : QueueVi
     → get_elem? views pass ≡ some v → v.parts ≡ 1024
     → (h : ℕ → ℕ) → sum_by h (range_with_len 0 rule.next) ≡ took h v
 took_all {items} {views} pass v rule at all h =
-    omega (arith, rule.each h, total_set (took h) views pass v nothing at,
+    omega (
+      arith,
+      rule.each h,
+      total_set (took h) views pass v nothing at,
       sum_by_zeros (took h) (set views pass nothing)
-          (λ i d inside. ap (sum_by h) (others_idle pass v rule at all i d inside).1))
+          (λ i d inside. ap (sum_by h) (others_idle pass v rule at all i d inside).1),
+    )
 
 -- how many numbers there are
 counted : (next : ℕ) → sum_by (λ (k : ℕ). 1) (range_with_len 0 next) ≡ next
@@ -110,8 +119,13 @@ takes pass v some_part x items views rule at =
     ∙ ap (range_with_len (rule.next + 1)) less in
     let mine : sum_by (took (λ k. 1)) (set views pass nothing) + took (λ k. 1) v ≡ sum_by (took (λ k. 1)) views + 0 =
     total_set (took (λ k. 1)) views pass v nothing at in
-    let before : length v.taken ≤ rule.next = omega (arith, mine, rule.each (λ k. 1), counted rule.next,
-    sum_by_ones v.taken) in (
+    let before : length v.taken ≤ rule.next = omega (
+      arith,
+      mine,
+      rule.each (λ k. 1),
+      counted rule.next,
+      sum_by_ones v.taken,
+    ) in (
       w,
       record {
         pushed = rule.pushed;
@@ -119,8 +133,14 @@ takes pass v some_part x items views rule at =
         within = omega (arith, first.0);
         queued = rest;
         parts = omega (arith, total_set parts_of views pass v w at, rule.parts);
-        each = λ h. omega (arith, total_set (took h) views pass v w at, rule.each h, sum_by_push h v.taken x,
-            sum_by_range_more h 0 rule.next rule.next (omega arith), ap h number);
+        each = λ h. omega (
+          arith,
+          total_set (took h) views pass v w at,
+          rule.each h,
+          sum_by_push h v.taken x,
+          sum_by_range_more h 0 rule.next rule.next (omega arith),
+          ap h number,
+        );
         known = All-set (Knows rule.pushed) views pass w (knows_part rule.pushed w count some_part) rule.known;
       },
       record { within = omega (arith, first.0); taken = refl; few = omega (arith, first.0, before) },
@@ -139,10 +159,18 @@ forks pass v parts items views rule at =
       next = rule.next;
       within = rule.within;
       queued = rule.queued;
-      parts = omega (arith, total_set parts_of views pass v l at, rule.parts,
-          sum_by_push parts_of (set views pass l) r);
-      each = λ h. omega (arith, total_set (took h) views pass v l at, rule.each h,
-          sum_by_push (took h) (set views pass l) r);
+      parts = omega (
+        arith,
+        total_set parts_of views pass v l at,
+        rule.parts,
+        sum_by_push parts_of (set views pass l) r,
+      );
+      each = λ h. omega (
+        arith,
+        total_set (took h) views pass v l at,
+        rule.each h,
+        sum_by_push (took h) (set views pass l) r,
+      );
       known = All-push (Knows rule.pushed) (set views pass l) r
           (All-set (Knows rule.pushed) views pass l (knows_part rule.pushed l count (omega arith)) rule.known)
           (knows_part rule.pushed r count (omega arith));
@@ -162,10 +190,19 @@ merges pass v other w some_part items views rule at apart there =
       next = rule.next;
       within = rule.within;
       queued = rule.queued;
-      parts = omega (arith, total_set parts_of views pass v both at,
-          total_set parts_of (set views pass both) other w spent there, rule.parts);
-      each = λ h. omega (arith, total_set (took h) views pass v both at,
-          total_set (took h) (set views pass both) other w spent there, rule.each h, sum_by-append h v.taken w.taken);
+      parts = omega (
+        arith,
+        total_set parts_of views pass v both at,
+        total_set parts_of (set views pass both) other w spent there,
+        rule.parts,
+      );
+      each = λ h. omega (
+        arith,
+        total_set (took h) views pass v both at,
+        total_set (took h) (set views pass both) other w spent there,
+        rule.each h,
+        sum_by-append h v.taken w.taken,
+      );
       known = All-set (Knows rule.pushed) (set views pass both) other spent
           (record { some_part = λ some. absurd (omega arith); no_part = λ none. refl })
           (All-set (Knows rule.pushed) views pass both (knows_part rule.pushed both count (omega arith)) rule.known);
@@ -179,8 +216,15 @@ learns pass v items views rule at =
     ∙ length-range_with_len rule.next (rule.pushed - rule.next) in
     record {
       room = λ has. omega (arith, known.some_part has, queued);
-      counted = λ all. omega (arith, rule.within, known.some_part (omega arith),
-          took_all pass v rule at all (λ (k : ℕ). 1), counted rule.next, sum_by_ones v.taken, queued);
+      counted = λ all. omega (
+        arith,
+        rule.within,
+        known.some_part (omega arith),
+        took_all pass v rule at all (λ (k : ℕ). 1),
+        counted rule.next,
+        sum_by_ones v.taken,
+        queued,
+      );
       next = rule.next;
       each = λ all. took_all pass v rule at all;
     }
@@ -214,10 +258,19 @@ pushes room pass v x all number none items views within rule at =
         elim (cases_lt 0 x) [
           | inl has ↦
               let start : rule.next ≡ 0 =
-              omega (arith, took_all pass v rule at all (λ (k : ℕ). 1), counted rule.next, sum_by_ones v.taken,
-              ap length (none has)) in
-              let many : rule.pushed - rule.next ≡ x = omega (arith, ap length rule.queued,
-              length-range_with_len rule.next (rule.pushed - rule.next), count) in
+              omega (
+                arith,
+                took_all pass v rule at all (λ (k : ℕ). 1),
+                counted rule.next,
+                sum_by_ones v.taken,
+                ap length (none has),
+              ) in
+              let many : rule.pushed - rule.next ≡ x = omega (
+                arith,
+                ap length rule.queued,
+                length-range_with_len rule.next (rule.pushed - rule.next),
+                count,
+              ) in
               rule.queued ∙ (λ i. range_with_len (start i) (many i))
           | inr first ↦
               let start : 0 ≡ x = omega (arith, first) in

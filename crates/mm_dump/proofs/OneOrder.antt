@@ -176,9 +176,11 @@ deletion : (place seat : ℕ) (gave : List Stored) (last : Option ℕ) (old new 
     → last ≡ last_of gave → Deletes place last old new
     → (calls : List Entry) × (new ≡ with_calls place old calls)
     × ((s : State) → is_some s.retrieval ≡ false → IsLegal s calls → (count : ℕ) × (calls ≡ removed seat gave count))
-deletion place seat [] None old new at is none =
-    ([], none ∙ ap (λ (list : List (ℕ × Entry)). record old { list = list }) (sym (append-nil old.list)),
-      λ s off legal. (0, refl))
+deletion place seat [] None old new at is none = (
+  [],
+  none ∙ ap (λ (list : List (ℕ × Entry)). record old { list = list }) (sym (append-nil old.list)),
+  λ s off legal. (0, refl),
+)
 deletion place seat (p ∷ gave) (Some limit) old new at is once =
     let same : limit ≡ last_time p.time gave = cc is in (
       entry old.number (Delete limit) once.reply ∷ [],

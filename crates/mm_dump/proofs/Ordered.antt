@@ -23,12 +23,24 @@ weighs_first f orders (suc next) =
     elim (cases_lt next (length orders)) [
       | inl less ↦
           let one : weight_of orders f next ≡ f (order_at orders next) = ap chosen (lt-ltb next (length orders) less) in
-          omega (arith, here, rest, one, sum_by_more f orders next (record { place = 0; amount = 0 }) less,
-            ap (λ (n : ℕ). sum_by f (take n orders)) more)
+          omega (
+            arith,
+            here,
+            rest,
+            one,
+            sum_by_more f orders next (record { place = 0; amount = 0 }) less,
+            ap (λ (n : ℕ). sum_by f (take n orders)) more,
+          )
       | inr past ↦
           let none : weight_of orders f next ≡ 0 = ap chosen (le-ltb next (length orders) past) in
-          omega (arith, here, rest, none, ap (sum_by f) (take_all next orders past),
-            ap (sum_by f) (take_all (suc next) orders (omega arith)))
+          omega (
+            arith,
+            here,
+            rest,
+            none,
+            ap (sum_by f) (take_all next orders past),
+            ap (sum_by f) (take_all (suc next) orders (omega arith)),
+          )
     ]
 
 -- whether an order names a place

@@ -261,8 +261,14 @@ module _ {L : Type 0} (sent : L → List Sent) (failed : L → ℕ) (ids : List 
         ∙ sum_by-same (λ l. uses l.new) (λ l. uses l.old + l.spent) lines (λ i d inside.
         let l : Line L = get_or lines i d in
         let is = each i d inside in
-        omega (arith, ap length is.all, length-append (sent l.old) (sent_by ids l.courses), is.failures,
-          spent_is ids l.courses, is.blocks))
+        omega (
+          arith,
+          ap length is.all,
+          length-append (sent l.old) (sent_by ids l.courses),
+          is.failures,
+          spent_is ids l.courses,
+          is.blocks,
+        ))
         ∙ sum_by-add (λ l. uses l.old) (λ l. l.spent) lines
         ∙ ap (λ (n : ℕ). n + sum_by (λ l. l.spent) lines) (sym (sum_by-map uses (λ (l : Line L). l.old) lines))
 
@@ -276,8 +282,11 @@ module _ {L : Type 0} (sent : L → List Sent) (failed : L → ℕ) (ids : List 
               let few : All (λ (c : Course). length c.sent + length c.unsent ≤ c.order.amount) cs =
               λ j e within. course_few (get_or cs j e)
               (all_flat IsCourse (λ l. l.courses) lines known i d inside j e within) in
-              omega (arith, is.blocks,
-                sum_by-le_each (λ (c : Course). length c.sent + length c.unsent) (λ c. c.order.amount) cs few)),
+              omega (
+                arith,
+                is.blocks,
+                sum_by-le_each (λ (c : Course). length c.sent + length c.unsent) (λ c. c.order.amount) cs few,
+              )),
           sum_by-flat_map (λ (c : Course). c.order.amount) (λ (l : Line L). l.courses) lines,
           h.weigh (λ (o : Order). o.amount),
           sum_by-take-le (λ (o : Order). o.amount) orders h.next,

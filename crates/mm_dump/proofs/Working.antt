@@ -78,10 +78,18 @@ module _ (ids : List (List ℕ)) (orders : List Order) (taken all : List ℕ) (n
             all = went.all
                 ∙ ap (λ (xs : List Sent). xs ++ all_sent (id_at ids order.place) carried.sent) worked.advance.all
                 ∙ flat_map_more (λ (d : Course). all_sent (id_at ids d.order.place) d.sent) a.sent courses course;
-            failures = omega (arith, went.failures, worked.advance.failures,
-                sum_by_push (λ (d : Course). length d.unsent) courses course);
-            blocks = omega (arith, went.blocks, worked.advance.blocks,
-                sum_by_push (λ (d : Course). length d.sent + length d.unsent) courses course);
+            failures = omega (
+              arith,
+              went.failures,
+              worked.advance.failures,
+              sum_by_push (λ (d : Course). length d.unsent) courses course,
+            );
+            blocks = omega (
+              arith,
+              went.blocks,
+              worked.advance.blocks,
+              sum_by_push (λ (d : Course). length d.sent + length d.unsent) courses course,
+            );
           };
         },
       )

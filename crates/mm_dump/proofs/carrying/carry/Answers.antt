@@ -8,8 +8,12 @@ returns-in-Err g c =
     c.index-context-place.result [] c.requires.named in
     let breaks = c.in-Err.ensures.err in
     record {
-      few = omega (arith, breaks.retrieval.most, breaks.retrieval.advance.blocks,
-          length-append breaks.sent breaks.unsent);
+      few = omega (
+        arith,
+        breaks.retrieval.most,
+        breaks.retrieval.advance.blocks,
+        length-append breaks.sent breaks.unsent,
+      );
       carried = broken _ c.args.order _ named _ _ _ c.begin.ensures.called refl refl refl _ breaks;
     }
 
