@@ -16,7 +16,7 @@ use Rattle.std.proofs.lemmas.Option.{IfSome_then}
 use Rattle.mm_carry.proofs.Words.{cases_lt, length-map, nil_from_length, All-nil, All-cons, All-head}
 use Rattle.mm_carry.proofs.Words.{All-tail, sum_by-cons, sum_by-append, get_or-le-sum_by, cond-eqb_same, cond-eqb_other}
 use Rattle.mm_carry.proofs.Words.{given_oldest, State, IsState, opening_at, IsLegal, Fault, Held, IfSome}
-use Rattle.mm_carry.proofs.Words.{states_of, RecordingContext, recording, given_in, wanted}
+use Rattle.mm_carry.proofs.Words.{states_of, RecordingContext, recording, given_in, IsOrderFor}
 use Rattle.mm_carry.proofs.Words.{Supply, Course, EndedAs, IsWhole, IsBroken, IsCourse, worse, worst_of, failed_by}
 use Rattle.mm_carry.proofs.Words.{sent_by, BrokenOrdersChangeNothing, Sent, Order, OrderBroken, Cause, IsByOneLog}
 use Rattle.mm_carry.proofs.Words.{AtEachStore, RunState, IsStep, Stop, cause_of, orders_after}
@@ -70,12 +70,9 @@ one_log sent failed step now routes orders before after stop is k within =
         | inl some ↦ inr (
           c,
           refl,
-          (tried.some some).1,
-          record {
-            place = (tried.some some).0;
-            amount = settled.amounts k some ∙ ap (λ (os : List Order). wanted os k)
-                (all_orders is.fault orders k (omega (arith, some, settled.once k)));
-          },
+          tried.some some,
+          subst (λ (os : List Order). IsOrderFor os k c) (all_orders is.fault orders k
+              (omega (arith, some, settled.once k))) (settled.order_is k some),
         )
         | inr none ↦ inl (tried.none (omega arith)).0
       ];
@@ -296,7 +293,7 @@ links_failed sent failed ids orders before after olds news changes there sound s
           are = last.are;
           whole = last.whole;
           broke = last.broke;
-          of = (tried.some taken).0;
+          of = (settled.order_is k taken).place;
           failures = omega (arith, rose, last.fails);
           same = kept.0;
           newer = oldest.0;

@@ -11,6 +11,7 @@ use Rattle.mm_carry.proofs.Replays.{IsRun-append}
 use Rattle.mm_desk.specs.declared.fault.Fault.TheVariants as fault
 use Rattle.mm_record.specs.Steps.{given_in, RecorderRun, AreRecorderRuns, StoppedEarly, IsRecorderRun}
 use Rattle.mm_record.specs.Steps.{TakesAll}
+use Rattle.mm_dump.proofs.Unbroken.{all_dumped}
 use Rattle.mm_dump.specs.declared.order.OrderBroken.TheVariants as worst
 use Rattle.mm_record.proofs.Offers.{offers_more}
 
@@ -136,7 +137,7 @@ pub whole_step : {L : Type 0} (sent : L → List Sent) (failed : L → ℕ) (e :
 whole_step sent failed e orders before after is =
     let none = no_stop e.step is.spent is.fault is.broken is.stop_is in
     let records = rw none.0 at is.records in
-    let dumped = (rw (none.0, none.1) at is.dumps).dumped in
+    let dumped = all_dumped sent failed e.ids orders _ _ _ _ (rw (none.0, none.1) at is.dumps).settled in
     let many : length after.stores ≡ length is.mid = as_many after.stores is.mid (is.labels ∙ sym records.labels) in
     record {
       labels = is.labels;
@@ -150,7 +151,7 @@ whole_step sent failed e orders before after is =
             run = IsRun-append _ _ _ first.legal.log second.calls first.legal.run second.run;
             shuffle = first.legal.shuffle;
             taken = first.taken;
-            dump = record { none = second.none; whole = second.whole };
+            dump = second.dump;
           };
       places = dumped.places;
       once = dumped.once;

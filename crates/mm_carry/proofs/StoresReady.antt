@@ -64,10 +64,10 @@ firsts_by e k (g ∷ gs) (f ∷ fs) are =
 firsts_by e k given firsts are = absurd are
 
 -- an order leaves the switches
-tried_keeps : OrdersDumpTheOldest → BrokenOrdersChangeNothing → (k : ℕ) (s t : State) (taken : ℕ) (c : Course)
-    → IsState s → HasTried taken k c s t → KeepsSwitches s t
-tried_keeps dump changes k s t taken c sound tried = elim (cases_lt 0 taken) [
-  | inl some ↦ by_why c.why (tried.some some).1
+tried_keeps : OrdersDumpTheOldest → BrokenOrdersChangeNothing → (s t : State) (taken : ℕ) (c : Course)
+    → IsState s → HasTried taken c s t → KeepsSwitches s t
+tried_keeps dump changes s t taken c sound tried = elim (cases_lt 0 taken) [
+  | inl some ↦ by_why c.why (tried.some some)
   | inr none ↦ alike (tried.run.leaves ∙ ap (replay s) (tried.none (omega arith)).0)
 ]
   where
@@ -107,7 +107,7 @@ ready_after sent failed e orders stop before after dump changes ids ready is =
     let counted = length-map after.stores (λ (h : Held). h.state) in
     ready_on is.mid after.stores labels is.sound
     (λ k within.
-    tried_keeps dump changes k _ _ _ (is.dumps.settled.course k) (state_holds IsState is.mid ready_mid.sound k
+    tried_keeps dump changes _ _ _ (is.dumps.settled.course k) (state_holds IsState is.mid ready_mid.sound k
     (omega (arith, within, counted, many)))
     (is.dumps.settled.stores k within)) ready_mid
 

@@ -6,7 +6,7 @@ pub use Rattle.mm_carry.specs.Words.{Stored, IsState, State, AreTaken, IsShuffle
 pub use Rattle.mm_carry.specs.Words.{Entry, Event, Offer, Held, id_at, labels_of, states_of, AreHeld, Holdings, has_id}
 pub use Rattle.mm_carry.specs.Words.{store_of, cause_in, is_clock_late, RecordingContext, offers, recording, given_in}
 pub use Rattle.mm_carry.specs.Words.{Supply, Course, IsBroken, IsCourse, IsWhole, sent_by, places_of, times, wanted}
-pub use Rattle.mm_carry.specs.Words.{Sent, all_sent, Order, Reported, totals_of, Cause}
+pub use Rattle.mm_carry.specs.Words.{Sent, all_sent, Order, IsDumpOf, IsOrderFor, Reported, totals_of, Cause}
 pub use Rattle.std.proofs.lemmas.Bool.{both_ways, cases_eq, cases_lt, cases_order, cond_both, eq-eqb, eqb-false}
 pub use Rattle.std.proofs.lemmas.Bool.{eqb-true, false_from_ne_true, le-ltb, lt-ltb}
 pub use Rattle.std.proofs.lemmas.Bool.{ltb-false, ltb-true, ne_eqb, or_parts}
@@ -85,7 +85,7 @@ pub use Rattle.mm_carry.specs.RunInput.{step_of, step_orders, store_state}
 pub use Rattle.mm_carry.specs.RunState.{InRun, RunState, state_of, with_supplies}
 pub use Rattle.mm_carry.specs.Step.{AreOrders, AreReady, IsCauseIn, IsStep, IsWholeStep, KeepsRest, MayCarry}
 pub use Rattle.mm_carry.specs.Step.{NeverRefused, StepStopped, cause_of, orders_after, recording_by, stop_for}
-pub use Rattle.mm_carry.specs.StepRuns.{AreBy, AreTimed, IsBy, IsDumpOf, IsStepRun, KeepsStore}
+pub use Rattle.mm_carry.specs.StepRuns.{AreBy, AreTimed, IsBy, IsStepRun, KeepsStore}
 pub use Rattle.mm_carry.specs.Steps.{AreStepRuns, LinksSent, SourcesGave, StepsDone, sent_amounts, sent_in}
 pub use Rattle.mm_carry.specs.Steps.{taken_amounts}
 pub use Rattle.mm_carry.specs.declared.course.RunContext.{RunContext}

@@ -3,16 +3,11 @@ use Rattle.std.specs.Prelude.{◌≡◌, ◌⊎◌, ℕ, ◌<◌, List, [], ◌+
 use Rattle.std.specs.List.{AllZip}
 use Rattle.mm_carry.specs.Words.{SpacePacket, State, IsShuffleOfEvents, IsRun, opening_at, Entry, Event, Held}
 use Rattle.mm_carry.specs.Words.{states_of, RecordingContext, offers}
-use Rattle.mm_carry.specs.Words.{recording, given_in, Supply, Course, IsCourse, wanted, Sent, Order}
+use Rattle.mm_carry.specs.Words.{recording, given_in, Supply, Course, IsCourse, IsOrderFor, Sent, Order}
 use Rattle.mm_base.specs.declared.rows.RouteRow.{RouteRow}
 use Rattle.mm_carry.specs.RunState.{RunState}
 use Rattle.mm_carry.specs.declared.step.Stop.{Stop}
 use Rattle.mm_carry.specs.Step.{IsStep, IsWholeStep}
-
--- it is the order for the store at a place: it wants as much as all these orders want of that store
-pub record IsOrderFor (orders : List Order) (k : ℕ) (c : Course) : Type 0 where
-  pub place : c.order.place ≡ k
-  pub amount : c.order.amount ≡ wanted orders k
 
 -- no call, or the calls of the dump order for the store at a place, whole or broken
 abbrev pub AreOneOrder : List Order → ℕ → List Entry → Type 0

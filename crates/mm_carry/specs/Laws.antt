@@ -2,8 +2,8 @@
 use Rattle.std.specs.Prelude.{◌≡◌, ℕ, ◌+◌, ◌-◌, ◌<◌, ◌≤◌, ◌^◌, List, length}
 use Rattle.std.specs.List.{sum_by}
 use Rattle.mm_carry.specs.Words.{Dumping, arrivals, window, stores, FitsAt, Amounts, loss, Stored, State, IsState}
-use Rattle.mm_carry.specs.Words.{AreTaken, IsShuffleOfEvents, count_of, IsRun, Entry, Event, Held}
-use Rattle.mm_carry.specs.StepRuns.{IsDumpOf, IsStepRun, AreTimed, AreBy, KeepsStore}
+use Rattle.mm_carry.specs.Words.{AreTaken, IsShuffleOfEvents, count_of, IsRun, Entry, Event, Held, IsDumpOf}
+use Rattle.mm_carry.specs.StepRuns.{IsStepRun, AreTimed, AreBy, KeepsStore}
 use Rattle.mm_carry.specs.Accounts.{IsAccounted}
 use Rattle.mm_carry.specs.AsPlanned.{AtEach, IsReady, AsPlanned}
 use Rattle.mm_carry.specs.Draws.{AreDrawsOf, MeetNoRefusal}

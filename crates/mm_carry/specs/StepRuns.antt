@@ -1,14 +1,8 @@
 -- What is done at one store in one step of a run: recorders make offers, and then one dump order is carried out.
-use Rattle.std.specs.Prelude.{◌≡◌, ℕ, ◌+◌, ◌≤◌, max, List, [], ◌++◌, All}
+use Rattle.std.specs.Prelude.{◌≡◌, ℕ, ◌+◌, ◌≤◌, max, List, ◌++◌, All}
 use Rattle.mm_carry.specs.Words.{Stored, State, IsState, AreTaken, IsShuffleOfEvents, IsRun, Entry, Event, Offer}
+use Rattle.mm_carry.specs.Words.{IsDumpOf}
 use Rattle.mm_desk.specs.Laws.{HasTimes}
-use Rattle.mm_desk.specs.Orders.{IsOrderOf}
-
--- these calls are one whole order of at most this many packets, through one seat, which was given these; where no
--- packet is wanted there is no call
-pub record IsDumpOf (wanted : ℕ) (gave : List Stored) (calls : List Entry) : Type 0 where
-  pub none : wanted ≡ 0 → (gave ≡ []) × (calls ≡ [])
-  pub whole : 1 ≤ wanted → (seat : ℕ) × IsOrderOf seat wanted gave calls
 
 -- a legal list of calls leads from one state to another: first a shuffle of these lists of offers, of which none is
 -- refused, and then the dump of at most this many packets, which gave these

@@ -21,7 +21,7 @@ pub use Rattle.mm_record.specs.Recorded.{RecordingContext, offers, recording}
 pub use Rattle.mm_record.specs.Steps.{AllRecorded, AreFew, Records, given_in}
 pub use Rattle.mm_record.specs.Supplies.{Supply, WhateverComes}
 pub use Rattle.mm_dump.specs.Courses.{Course, IsBroken, IsCourse, IsWhole, sent_by}
-pub use Rattle.mm_dump.specs.Dumped.{AllSettled, amount_of, places_of, times, wanted}
+pub use Rattle.mm_dump.specs.Dumped.{AllSettled, IsDumpOf, IsOrderFor, amount_of, places_of, times, wanted}
 pub use Rattle.mm_dump.specs.Sending.{Sent, all_sent}
 pub use Rattle.mm_dump.specs.declared.order.Order.{Order}
 pub use Rattle.mm_report.specs.Report.{Reported, totals_of}

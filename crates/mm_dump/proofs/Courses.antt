@@ -1,6 +1,7 @@
 -- The worst of the causes for which orders broke.
-use Rattle.mm_dump.proofs.Words.{◌≡◌, ℕ, ◌+◌, ◌<◌, List, [], ◌∷◌, ◌++◌, length, get_or, map, take, refl, sym, ap, ◌∙◌, All, subst, ◌≤◌, arith, length-append}
-use Rattle.mm_dump.proofs.Words.{Option, Some, None, map_more, All-nil, All-cons, sum_by_zeros, OrderBroken, LinkFailed, NoMemory, worse, worst_of, Course}
+use Rattle.mm_dump.proofs.Words.{◌≡◌, ℕ, ◌+◌, ◌<◌, List, [], ◌∷◌, ◌++◌, length, get_or, map, take, refl, sym, ap, ◌∙◌}
+use Rattle.mm_dump.proofs.Words.{All, subst, ◌≤◌, arith, length-append, Option, Some, None, map_more, All-nil, All-cons}
+use Rattle.mm_dump.proofs.Words.{sum_by_zeros, OrderBroken, LinkFailed, NoMemory, worse, worst_of, worst_in, Course}
 use Rattle.mm_dump.proofs.Words.{IsWhole, EndedAs, IsCourse, failed_by}
 
 -- the worst of three is found in either order
@@ -18,44 +19,45 @@ worse-alone None = refl
 worse-alone (Some NoMemory) = refl
 worse-alone (Some LinkFailed) = refl
 
--- nothing is worse than nothing
-worse-none : (a b : Option OrderBroken) → worse a b ≡ None → (a ≡ None) × (b ≡ None)
+-- where the worse of two causes is none, both are
+pub worse-none : (a b : Option OrderBroken) → worse a b ≡ None → (a ≡ None) × (b ≡ None)
 worse-none None b none = (refl, none)
 worse-none (Some NoMemory) b none = absurd (cc none)
 worse-none (Some LinkFailed) None none = absurd (cc none)
 worse-none (Some LinkFailed) (Some why) none = absurd (cc none)
 
 -- the worst of causes and one more
-pub worst-push : (whys : List (Option OrderBroken)) (why : Option OrderBroken) → worst_of (whys ++ why ∷ []) ≡ worse (worst_of whys) why
+pub worst-push : (whys : List (Option OrderBroken)) (why : Option OrderBroken)
+    → worst_of (whys ++ why ∷ []) ≡ worse (worst_of whys) why
 worst-push [] why = worse-alone why
 worst-push (one ∷ whys) why = ap (worse one) (worst-push whys why) ∙ sym (worse-assoc one (worst_of whys) why)
 
 -- the same of the first elements of a list, as a loop finds it
-pub worst_next : {X : Type 0} (cause : X → Option OrderBroken) (xs : List X) (i : ℕ) (x : X) (worst next : Option OrderBroken) → i < length xs → x ≡ get_or xs i x
-    → worst ≡ worst_of (map cause (take i xs)) → next ≡ worse worst (cause x) → next ≡ worst_of (map cause (take (i + 1) xs))
+pub worst_next : {X : Type 0} (cause : X → Option OrderBroken) (xs : List X) (i : ℕ) (x : X)
+    (worst next : Option OrderBroken) → i < length xs → x ≡ get_or xs i x → worst ≡ worst_of (map cause (take i xs))
+    → next ≡ worse worst (cause x) → next ≡ worst_of (map cause (take (i + 1) xs))
 worst_next cause xs i x worst next within at so_far found =
-    found ∙ (λ j. worse (so_far j) (cause (at j))) ∙ sym (worst-push (map cause (take i xs)) (cause (get_or xs i x))) ∙ ap worst_of (sym (map_more cause xs i x within))
+    found ∙ (λ j. worse (so_far j) (cause (at j))) ∙ sym (worst-push (map cause (take i xs)) (cause (get_or xs i x)))
+    ∙ ap worst_of (sym (map_more cause xs i x within))
 
 -- where the worst of causes is none, each is none
-pub none_broke : {X : Type 0} (cause : X → Option OrderBroken) (xs : List X) → worst_of (map cause xs) ≡ None → All (λ x. cause x ≡ None) xs
+pub none_broke : {X : Type 0} (cause : X → Option OrderBroken) (xs : List X) → worst_of (map cause xs) ≡ None
+    → All (λ x. cause x ≡ None) xs
 none_broke cause [] none = All-nil (λ x. cause x ≡ None)
 none_broke cause (x ∷ xs) none =
     let both = worse-none (cause x) (worst_of (map cause xs)) none in
     All-cons (λ y. cause y ≡ None) x xs both.0 (none_broke cause xs both.1)
-
--- why the worst of orders broke
-abbrev pub cause_of_all : List Course → Option OrderBroken
-cause_of_all cs = worst_of (map (λ (c : Course). c.why) cs)
 
 -- an order that did not break is whole
 pub whole_course : (c : Course) → c.why ≡ None → IsCourse c → IsWhole c
 whole_course c none is = subst (λ (why : Option OrderBroken). EndedAs why c) none is
 
 -- where nothing broke no send failed
-pub no_failures : (cs : List Course) → All IsCourse cs → cause_of_all cs ≡ None → failed_by cs ≡ 0
+pub no_failures : (cs : List Course) → All IsCourse cs → worst_in cs ≡ None → failed_by cs ≡ 0
 no_failures cs known none =
     sum_by_zeros (λ (c : Course). length c.unsent) cs (λ i d inside.
-    ap length (whole_course (get_or cs i d) (none_broke (λ (c : Course). c.why) cs none i d inside) (known i d inside)).all)
+    let unbroken = none_broke (λ (c : Course). c.why) cs none i d inside in
+    ap length (whole_course (get_or cs i d) unbroken (known i d inside)).all)
 
 -- what an order sent and what failed of it is no more than it wanted
 pub course_few : (c : Course) → IsCourse c → length c.sent + length c.unsent ≤ c.order.amount

@@ -7,5 +7,6 @@ mod Working
 mod Finding
 mod Ordered
 mod Settled
+pub mod Unbroken
 mod Halves
 mod Leaves

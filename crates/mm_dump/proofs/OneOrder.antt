@@ -1,176 +1,64 @@
 -- One order carried out: its begin, its packets, and its end.
-use Rattle.mm_dump.proofs.Words.{◌≡◌, ℕ, List, [], ◌∷◌, ◌++◌, map, refl, sym, ap, ◌∙◌, append_assoc, arith, length-append, ◌+◌, ◌<◌, true, false, length, subst}
-use Rattle.mm_dump.proofs.Words.{Bool, Some, Ok, Err, Option, None, Result, is_some, append-nil, map-append, Stored, Entry, Begin, Next, Abort, Delete, Fault}
-use Rattle.mm_dump.proofs.Words.{State, step, given, last_time, begun, ended, removed, entry, IsRun, clock_end, PortView, with_call, OrderStore, Progress}
-use Rattle.mm_dump.proofs.Words.{HasCalled, HasGone, with_calls, BreaksOff, SentAll, last_of, deletion, course_of, IsWhole, IsBroken, Sent, all_sent, le-ltb}
-use Rattle.mm_dump.proofs.Words.{lt-ltb, Order, OrderBroken, NoMemory, LinkFailed, aborted}
-use Rattle.mm_desk.specs.declared.event.Event.{Event}
-use Rattle.mm_desk.specs.declared.reply.Reply.{Reply}
+use Rattle.mm_dump.proofs.Words.{◌≡◌, ℕ, List, [], ◌∷◌, ◌++◌, map, refl, sym, ap, ◌∙◌, append_assoc, arith}
+use Rattle.mm_dump.proofs.Words.{length-append, ◌+◌, ◌<◌, ◌≤◌, false, is_some, length, subst, Some, Ok, Option, None}
+use Rattle.mm_dump.proofs.Words.{append-nil, map-append, Stored, Entry, Event, Reply, Begin, Next, Abort, Delete, State}
+use Rattle.mm_dump.proofs.Words.{given, last_time, begun, ended, removed, entry, clock_end, PortView, with_call}
+use Rattle.mm_dump.proofs.Words.{OrderStore, Progress, CallsOnce, Deletes, Advances, Ends, Retrieves, with_calls}
+use Rattle.mm_dump.proofs.Words.{BreaksOff, SentAll, last_of, OrderCarriedOut, order_store, id_at, Sent, all_sent}
+use Rattle.mm_dump.proofs.Words.{le-ltb, lt-ltb, Order, OrderBroken, aborted, unsent_at, IsLegal}
 use Rattle.mm_desk.specs.declared.reply.Reply.TheVariants as reply
-use Rattle.mm_dump.proofs.Leaving.{begins, nexts, aborts, deletes}
+use Rattle.mm_dump.proofs.Leaving.{retrieval_calls, deletes, abort_ends, over_ends}
 
--- a run of calls and then others
-run_split : (s t : State) (xs ys : List Entry) → IsRun s (xs ++ ys) t → (mid : State) × IsRun s xs mid × IsRun mid ys t
-run_split s t [] ys run = (s, record { legal = tt; leaves = refl }, run)
-run_split s t (x ∷ xs) ys run =
-    let rest = run_split (step s x.event).1 t xs ys (record { legal = run.legal.1; leaves = run.leaves }) in
-    (rest.0, record { legal = (run.legal.0, rest.1.legal); leaves = rest.1.leaves }, rest.2)
+-- a call whose reply is known
+pub calls_once : (place : ℕ) (event : Event) (old new : PortView) (r : Reply) → new ≡ with_call old place event r
+    → CallsOnce place event old new
+calls_once place event old new r called = record { reply = r; call = called }
 
--- one call, from what the store answers to it
-one_call : (place : ℕ) (on off : Bool) (so : ℕ → List Entry → Type 0) (old new : PortView) (event : Event) (answer : Reply)
-    → new ≡ with_call old place event answer
-    → ((s : State) → is_some s.retrieval ≡ on → answer ≡ (step s event).0
-    → (is_some (step s event).1.retrieval ≡ off) × so old.number (entry old.number event answer ∷ []))
-    → HasCalled place on off so old new
-one_call place on off so old new event answer called answers = record {
-  calls = entry old.number event answer ∷ [];
-  port = called;
-  alone = λ s t is run. let both = answers s is run.legal.0 in (ap (λ (u : State). is_some u.retrieval) run.leaves ∙ both.0, both.1);
-}
-
--- a retrieval is begun where none is on
-pub call_begin : (place : ℕ) (old new : PortView) (r : Result (Unit {0}) Fault) → new ≡ with_call old place (Begin 1 clock_end) (reply.Done r)
-    → HasCalled place false true (λ seat calls. calls ≡ begun seat ∷ []) old new
-call_begin place old new r called =
-    one_call place false true _ old new _ _ called (λ s off answers.
-    let both = begins s r off answers in
-    (both.1.now, ap (λ x. entry old.number (Begin 1 clock_end) (reply.Done x) ∷ []) both.0))
-
--- one that is on is aborted
-pub call_abort : (place : ℕ) (old new : PortView) (r : Result (Unit {0}) Fault) → new ≡ with_call old place Abort (reply.Done r)
-    → HasCalled place true false (λ seat calls. calls ≡ aborted seat ∷ []) old new
-call_abort place old new r called =
-    one_call place true false _ old new _ _ called (λ s on answers.
-    let both = aborts s r on answers in
-    (both.1.now, ap (λ x. entry old.number Abort (reply.Done x) ∷ []) both.0))
-
--- one that is on gives this packet, or comes to its end
-pub call_next : (place : ℕ) (old new : PortView) (next : Option Stored) → new ≡ with_call old place Next (reply.Given (Ok next))
-    → HasCalled place true (is_some next) (λ seat calls. calls ≡ entry seat Next (reply.Given (Ok next)) ∷ []) old new
-call_next place old new next called =
-    one_call place true (is_some next) _ old new _ _ called (λ s on answers.
-    let given = nexts s (Ok next) on answers in
-    let same : given.0 ≡ next = cc given.1 in
-    (given.2.now ∙ ap is_some same, refl))
-
--- a next is not refused in a retrieval
-pub call_refused : (place : ℕ) (so : ℕ → List Entry → Type 0) (old new : PortView) (fault : Fault) → new ≡ with_call old place Next (reply.Given (Err fault))
-    → HasCalled place true false so old new
-call_refused place so old new fault called =
-    one_call place true false so old new _ _ called (λ s on answers. let given = nexts s (Err fault) on answers in absurd (cc given.1))
-
--- packets are deleted where none is on
-pub call_delete : (place limit : ℕ) (old new : PortView) (r : Result ℕ Fault) → new ≡ with_call old place (Delete limit) (reply.Deleted r)
-    → HasCalled place false false (λ seat calls. (count : ℕ) × (calls ≡ deletion (Some limit) seat count)) old new
-call_delete place limit old new r called =
-    one_call place false false _ old new _ _ called (λ s off answers.
-    let both = deletes limit s r off answers in
-    (both.1, (both.0.0, ap (λ x. entry old.number (Delete limit) (reply.Deleted x) ∷ []) both.0.1)))
-
--- no call
-pub no_call : (place : ℕ) (on : Bool) (so : ℕ → List Entry → Type 0) (old : PortView) → so old.number [] → HasCalled place on on so old old
-no_call place on so old is = record {
-  calls = [];
-  port = ap (λ (calls : List (ℕ × Entry)). record old { list = calls }) (sym (append-nil old.list));
-  alone = λ s t same run. (ap (λ (u : State). is_some u.retrieval) run.leaves ∙ same, is);
-}
-
--- calls and then others
-called_then : (place : ℕ) (on mid off : Bool) (one two so : ℕ → List Entry → Type 0) (a b c : PortView) → HasCalled place on mid one a b
-    → HasCalled place mid off two b c
-    → ((seat : ℕ) (xs ys : List Entry) → one seat xs → two seat ys → so seat (xs ++ ys)) → HasCalled place on off so a c
-called_then place on mid off one two so a b c went more turns =
-    let there : Entry → ℕ × Entry = λ e. (place, e) in
-    record {
-      calls = went.calls ++ more.calls;
-      port = more.port ∙ ap (λ (p : PortView). with_calls place p more.calls) went.port
-          ∙ ap (λ (calls : List (ℕ × Entry)). record a { list = calls })
-          (append_assoc a.list (map there went.calls) (map there more.calls)
-          ∙ ap (λ (calls : List (ℕ × Entry)). a.list ++ calls) (sym (map-append there went.calls more.calls)));
-      alone = λ s t is run.
-          let cut = run_split s t went.calls more.calls run in
-          let first = went.alone s cut.0 is cut.1 in
-          let second = more.alone cut.0 t first.0 cut.2 in
-          (second.0, turns a.number went.calls more.calls first.1 (subst (λ (k : ℕ). two k more.calls) (ap (λ (p : PortView). p.number) went.port) second.1));
-    }
-
--- what holds of calls, from what is known of them
-called_as : (place : ℕ) (on off : Bool) (one so : ℕ → List Entry → Type 0) (a b : PortView) → HasCalled place on off one a b
-    → ((seat : ℕ) (calls : List Entry) → one seat calls → so seat calls)
-    → HasCalled place on off so a b
-called_as place on off one so a b called turns = record {
-  calls = called.calls;
-  port = called.port;
-  alone = λ s t is run. let both = called.alone s t is run in (both.0, turns a.number called.calls both.1);
-}
-
-module _ (store : OrderStore) (on off : Bool) (so : ℕ → List Entry → Type 0) (a b : Progress) where
-  -- calls that send nothing
-  pub only_called : HasCalled store.place on off so a.port b.port → b.sent ≡ a.sent → b.failed ≡ a.failed → b.spent ≡ a.spent
-      → HasGone store on off [] [] so a b
-  only_called called same failed spent = record {
-    called = called;
+module _ (store : OrderStore) (a b : Progress) where
+  -- a call that sends nothing
+  pub called : (event : Event) (r : Reply) → b.port ≡ with_call a.port store.place event r → b.sent ≡ a.sent
+      → b.failed ≡ a.failed → b.spent ≡ a.spent → Advances store (entry a.port.number event r ∷ []) [] [] a b
+  called event r call same failed spent = record {
+    port = call;
     all = same ∙ sym (append-nil a.sent);
     failures = omega (arith, failed);
     blocks = omega (arith, spent);
   }
 
-  -- a packet that was given and sent
-  pub packet_sent : (p : Stored) → HasCalled store.place on off so a.port b.port
-      → b.sent ≡ a.sent ++ record { store = store.id; stored = p } ∷ [] → b.failed ≡ a.failed → b.spent ≡ a.spent + 1
-      → HasGone store on off (p ∷ []) [] so a b
-  packet_sent p called all failed spent = record { called = called; all = all; failures = omega (arith, failed); blocks = omega (arith, spent) }
-
-  -- a part of an order, and then another
-  gone_then : (mid : Bool) (ps qs us : List Stored) (one two : ℕ → List Entry → Type 0) (m : Progress) → HasGone store on mid ps [] one a m
-      → HasGone store mid off qs us two m b
-      → ((seat : ℕ) (xs ys : List Entry) → one seat xs → two seat ys → so seat (xs ++ ys)) → HasGone store on off (ps ++ qs) us so a b
-  gone_then mid ps qs us one two m went more turns = record {
-    called = called_then store.place on mid off one two so a.port m.port b.port went.called more.called turns;
-    all = more.all ∙ ap (λ (ss : List Sent). ss ++ all_sent store.id qs) went.all ∙ append_assoc a.sent (all_sent store.id ps) (all_sent store.id qs)
-        ∙ ap (λ (ss : List Sent). a.sent ++ ss) (sym (map-append (λ (p : Stored). record { store = store.id; stored = p }) ps qs));
-    failures = omega (arith, went.failures, more.failures);
-    blocks = omega (arith, went.blocks, more.blocks, length-append ps qs);
-  }
-
-  -- a part of an order, and then calls that send nothing
-  gone_called : (mid : Bool) (ps : List Stored) (one two : ℕ → List Entry → Type 0) (m : Progress) → HasGone store on mid ps [] one a m
-      → HasCalled store.place mid off two m.port b.port
-      → b.sent ≡ m.sent → b.failed ≡ m.failed → b.spent ≡ m.spent → ((seat : ℕ) (xs ys : List Entry) → one seat xs → two seat ys → so seat (xs ++ ys))
-      → HasGone store on off ps [] so a b
-  gone_called mid ps one two m went called same failed spent turns = record {
-    called = called_then store.place on mid off one two so a.port m.port b.port went.called called turns;
-    all = same ∙ went.all;
-    failures = omega (arith, went.failures, failed);
-    blocks = omega (arith, went.blocks, spent);
-  }
-
--- no memory for a packet's copy, after which the order was aborted
-pub memory_lacks : (store : OrderStore) (a b : Progress) → HasCalled store.place true false (λ seat calls. calls ≡ aborted seat ∷ []) a.port b.port
-    → b.sent ≡ a.sent → b.failed ≡ a.failed → b.spent ≡ a.spent → BreaksOff store 1 NoMemory a b
-memory_lacks store a b aborts same failed spent = record {
-  sent = [];
-  unsent = [];
-  gone = only_called store true false _ a b
-      (called_as store.place true false _ _ a.port b.port aborts (λ seat calls are. record { most = omega arith; last = refl; are = are })) same failed spent;
-}
-
--- a packet that was given and that the link did not take, after which the order was aborted
-pub packet_failed : (store : OrderStore) (p : Stored) (a b : Progress) (mid : PortView)
-    → HasCalled store.place true true (λ seat calls. calls ≡ entry seat Next (reply.Given (Ok (Some p))) ∷ []) a.port mid
-    → HasCalled store.place true false (λ seat calls. calls ≡ aborted seat ∷ []) mid b.port → b.sent ≡ a.sent → b.failed ≡ a.failed + 1 → b.spent ≡ a.spent + 1
-    → BreaksOff store 1 LinkFailed a b
-packet_failed store p a b mid given aborts all failed spent = record {
-  sent = [];
-  unsent = p ∷ [];
-  gone = record {
-    called = called_then store.place true true false _ _ _ a.port mid b.port given aborts
-        (λ seat xs ys one two. record { most = omega arith; last = refl; are = λ i. one i ++ two i });
-    all = all ∙ sym (append-nil a.sent);
+  -- a packet that was given and that the link did not take, after which the retrieval was aborted
+  pub packet_failed : (p : Stored) (mid : PortView) (aborts : CallsOnce store.place Abort mid b.port)
+      → mid ≡ with_call a.port store.place Next (reply.Given (Ok (Some p)))
+      → b.sent ≡ a.sent → b.failed ≡ a.failed + 1 → b.spent ≡ a.spent + 1
+      → Advances store (given a.port.number (p ∷ []) ++ entry a.port.number Abort aborts.reply ∷ []) [] (p ∷ []) a b
+  packet_failed p mid aborts gives same failed spent = record {
+    port = aborts.call ∙ ap (λ (q : PortView). with_call q store.place Abort aborts.reply) gives
+        ∙ ap (λ (calls : List (ℕ × Entry)). record a.port { list = calls })
+        (append_assoc a.port.list ((store.place, entry a.port.number Next (reply.Given (Ok (Some p)))) ∷ [])
+        ((store.place, entry a.port.number Abort aborts.reply) ∷ []));
+    all = same ∙ sym (append-nil a.sent);
     failures = omega (arith, failed);
     blocks = omega (arith, spent);
-  };
-}
+  }
+
+  -- a part of an order, and then another
+  advances_then : (m : Progress) (xs ys calls : List Entry) (ps qs sent us : List Stored) → calls ≡ xs ++ ys
+      → sent ≡ ps ++ qs → Advances store xs ps [] a m → Advances store ys qs us m b → Advances store calls sent us a b
+  advances_then m xs ys calls ps qs sent us calls_are sent_are first more =
+      let there : Entry → ℕ × Entry = λ e. (store.place, e) in
+      record {
+        port = more.port ∙ ap (λ (p : PortView). with_calls store.place p ys) first.port
+            ∙ ap (λ (list : List (ℕ × Entry)). record a.port { list = list })
+            (append_assoc a.port.list (map there xs) (map there ys)
+            ∙ ap (λ (list : List (ℕ × Entry)). a.port.list ++ list)
+            (sym (map-append there xs ys) ∙ ap (map there) (sym calls_are)));
+        all = more.all ∙ ap (λ (ss : List Sent). ss ++ all_sent store.id qs) first.all
+            ∙ append_assoc a.sent (all_sent store.id ps) (all_sent store.id qs)
+            ∙ ap (λ (ss : List Sent). a.sent ++ ss)
+            (sym (map-append (λ (p : Stored). record { store = store.id; stored = p }) ps qs)
+            ∙ ap (all_sent store.id) (sym sent_are));
+        failures = omega (arith, first.failures, more.failures);
+        blocks = omega (arith, first.blocks, more.blocks, length-append ps qs, ap length sent_are);
+      }
 
 -- the packets given, and then others
 given_more : (seat : ℕ) (ps qs : List Stored) → given seat (ps ++ qs) ≡ given seat ps ++ given seat qs
@@ -190,101 +78,204 @@ pub record SentSoFar (store : OrderStore) (many : ℕ) (last : Option ℕ) (a b 
   pub sent : List Stored
   pub count : length sent ≡ many
   pub last_is : last ≡ last_of sent
-  pub gone : HasGone store true true sent [] (λ seat calls. calls ≡ given seat sent) a b
+  pub advance : Advances store (given a.port.number sent) sent [] a b
 
 -- at the start none was given
 pub none_so_far : (store : OrderStore) (a : Progress) → SentSoFar store 0 None a a
-none_so_far store a =
-    let called = no_call store.place true (λ seat calls. calls ≡ []) a.port refl in
-    record { sent = []; count = refl; last_is = refl; gone = only_called store true true _ a a called refl refl refl }
+none_so_far store a = record {
+  sent = [];
+  count = refl;
+  last_is = refl;
+  advance = record {
+    port = ap (λ (calls : List (ℕ × Entry)). record a.port { list = calls }) (sym (append-nil a.port.list));
+    all = sym (append-nil a.sent);
+    failures = omega arith;
+    blocks = omega arith;
+  };
+}
 
-module _ (store : OrderStore) (many : ℕ) (last : Option ℕ) (a b : Progress) (so_far : SentSoFar store many last a b) where
-  -- a packet more
-  pub so_far_more : (c : Progress) (p : Stored)
-      → HasGone store true true (p ∷ []) [] (λ seat calls. calls ≡ entry seat Next (reply.Given (Ok (Some p))) ∷ []) b c
+module _ (store : OrderStore) (many : ℕ) (last : Option ℕ) (a b : Progress) (so_far : SentSoFar store many last a b)
+    (c : Progress) where
+  -- the seat is the same
+  same : b.port.number ≡ a.port.number
+  same = ap (λ (p : PortView). p.number) so_far.advance.port
+
+  -- a packet more was given and sent
+  pub so_far_more : (p : Stored) → c.port ≡ with_call b.port store.place Next (reply.Given (Ok (Some p)))
+      → c.sent ≡ b.sent ++ record { store = store.id; stored = p } ∷ [] → c.failed ≡ b.failed → c.spent ≡ b.spent + 1
       → SentSoFar store (many + 1) (Some p.time) a c
-  so_far_more c p next = record {
+  so_far_more p call all failed spent = record {
     sent = so_far.sent ++ p ∷ [];
     count = omega (arith, so_far.count, length-append so_far.sent (p ∷ []));
     last_is = sym (last_of_more so_far.sent p);
-    gone = gone_then store true true _ a c true so_far.sent (p ∷ []) [] _ _ b so_far.gone next
-        (λ seat xs ys one two. (λ i. one i ++ two i) ∙ sym (given_more seat so_far.sent (p ∷ [])));
+    advance = advances_then store a c b (given a.port.number so_far.sent) (given b.port.number (p ∷ [])) _
+        so_far.sent (p ∷ []) _ []
+        (given_more a.port.number so_far.sent (p ∷ [])
+        ∙ ap (λ (seat : ℕ). given a.port.number so_far.sent ++ given seat (p ∷ [])) (sym same)) refl so_far.advance
+        (record { port = call; all = all; failures = omega (arith, failed); blocks = omega (arith, spent) });
   }
+
+  -- the retrieval was ended by this call, after packets that were not sent
+  ended_by : (wanted : ℕ) (us : List Stored) (e : Entry) (expected : ℕ → Entry) → many + length us ≤ wanted
+      → Ends e (expected b.port.number) → Advances store (given b.port.number us ++ e ∷ []) [] us b c
+      → Retrieves store wanted (expected a.port.number) so_far.sent us a c
+  ended_by wanted us e expected few ends more =
+      let ps : List Stored = so_far.sent in
+      let seat : ℕ = a.port.number in
+      record {
+        most = omega (arith, few, so_far.count, length-append ps us);
+        last_call = e;
+        ends = subst (λ (n : ℕ). Ends e (expected n)) same ends;
+        advance = advances_then store a c b (given seat ps) (given b.port.number us ++ e ∷ []) _ ps [] ps us
+            (ap (λ (calls : List Entry). calls ++ e ∷ []) (given_more seat ps us)
+            ∙ append_assoc (given seat ps) (given seat us) (e ∷ [])
+            ∙ ap (λ (n : ℕ). given seat ps ++ (given n us ++ e ∷ [])) (sym same))
+            (sym (append-nil ps)) so_far.advance more;
+      }
 
   -- the order broke
-  pub so_far_broken : (c : Progress) (wanted : ℕ) (why : OrderBroken) → many < wanted → BreaksOff store 1 why b c → BreaksOff store wanted why a c
-  so_far_broken c wanted why fewer broken =
-      let ps : List Stored = so_far.sent in
-      let qs : List Stored = broken.sent in
-      let us : List Stored = broken.unsent in
-      record {
-        sent = ps ++ qs;
-        unsent = us;
-        gone = gone_then store true false _ a c true ps qs us _ _ b so_far.gone broken.gone (λ seat xs ys one two. record {
-          most = omega (arith, fewer, so_far.count, two.most, length-append (ps ++ qs) us, length-append ps qs, length-append qs us);
-          last = two.last;
-          are = (λ i. one i ++ two.are i) ∙ sym (append_assoc (given seat ps) (given seat (qs ++ us)) (aborted seat ∷ []))
-              ∙ ap (λ (x : List Entry). x ++ aborted seat ∷ []) (sym (given_more seat ps (qs ++ us)) ∙ ap (given seat) (sym (append_assoc ps qs us)));
-        });
-      }
-
-  -- the retrieval came to its end
-  pub so_far_over : (c : Progress) (wanted : ℕ) → many < wanted
-      → HasGone store true false [] [] (λ seat calls. calls ≡ entry seat Next (reply.Given (Ok None)) ∷ []) b c → SentAll store wanted last a c
-  so_far_over c wanted fewer next =
-      let few : length so_far.sent < wanted = omega (arith, fewer, so_far.count) in
-      let all : c.sent ≡ b.sent = next.all ∙ append-nil b.sent in
-      record {
-        sent = so_far.sent;
-        most = omega (arith, few);
-        last_is = so_far.last_is;
-        gone = rw (lt-ltb (length so_far.sent) wanted few)
-            (gone_called store true false _ a c true so_far.sent _ _ b so_far.gone next.called all (omega (arith, next.failures)) (omega (arith, next.blocks))
-            (λ seat xs ys one two i. one i ++ two i));
-      }
-
-  -- all that were wanted were given, and the retrieval was aborted
-  pub so_far_all : (port : PortView) (wanted : ℕ) → many ≡ wanted → HasCalled store.place true false (λ seat calls. calls ≡ aborted seat ∷ []) b.port port
-      → SentAll store wanted last a (record b { port = port })
-  so_far_all port wanted all aborts = record {
+  pub so_far_broken : (wanted : ℕ) (why : OrderBroken) (us : List Stored) (e : Entry) → many + length us ≤ wanted
+      → length us ≡ unsent_at why → Ends e (aborted b.port.number)
+      → Advances store (given b.port.number us ++ e ∷ []) [] us b c → BreaksOff store wanted why a c
+  so_far_broken wanted why us e few last ends more = record {
     sent = so_far.sent;
-    most = omega (arith, so_far.count, all);
-    last_is = so_far.last_is;
-    gone = rw (le-ltb (length so_far.sent) wanted (omega (arith, so_far.count, all)))
-        (gone_called store true false _ a (record b { port = port }) true so_far.sent _ _ b so_far.gone aborts refl refl refl
-        (λ seat xs ys one two i. one i ++ two i));
+    unsent = us;
+    last = last;
+    retrieval = ended_by wanted us e aborted few ends more;
   }
 
--- which deletion was made
-deletes_as : (seat count : ℕ) (gave : List Stored) → deletion (last_of gave) seat count ≡ removed seat gave count
-deletes_as seat count [] = refl
-deletes_as seat count (p ∷ gave) = refl
+  -- all that were given were sent
+  pub so_far_all : (wanted : ℕ) (e : Entry) → many ≤ wanted → Ends e (ended b.port.number wanted so_far.sent)
+      → Advances store (e ∷ []) [] [] b c → SentAll store wanted last a c
+  so_far_all wanted e few ends more = record {
+    sent = so_far.sent;
+    last_is = so_far.last_is;
+    retrieval = ended_by wanted [] e (λ seat. ended seat wanted so_far.sent) (omega (arith, few)) ends more;
+  }
 
--- an order that was begun
-module _ (store : OrderStore) (order : Order) (a b c : Progress) (begins : HasGone store false true [] [] (λ seat calls. calls ≡ begun seat ∷ []) a b) where
+  -- the retrieval came to its end
+  pub so_far_over : (wanted : ℕ) → many < wanted → c.port ≡ with_call b.port store.place Next (reply.Given (Ok None))
+      → c.sent ≡ b.sent → c.failed ≡ b.failed → c.spent ≡ b.spent → SentAll store wanted last a c
+  so_far_over wanted fewer call sent failed spent =
+      let few : length so_far.sent < wanted = omega (arith, fewer, so_far.count) in
+      so_far_all wanted (entry b.port.number Next (reply.Given (Ok None))) (omega (arith, fewer))
+      (rw (lt-ltb (length so_far.sent) wanted few) (over_ends b.port.number))
+      (called store b c Next _ call sent failed spent)
+
+  -- all that were wanted were given, and the retrieval was aborted
+  pub so_far_full : (wanted : ℕ) → many ≡ wanted → (aborts : CallsOnce store.place Abort b.port c.port)
+      → c.sent ≡ b.sent → c.failed ≡ b.failed → c.spent ≡ b.spent → SentAll store wanted last a c
+  so_far_full wanted full aborts sent failed spent =
+      let no_fewer : wanted ≤ length so_far.sent = omega (arith, so_far.count, full) in
+      so_far_all wanted (entry b.port.number Abort aborts.reply) (omega (arith, full))
+      (rw (le-ltb (length so_far.sent) wanted no_fewer) (abort_ends b.port.number aborts.reply))
+      (called store b c Abort aborts.reply aborts.call sent failed spent)
+
+-- the calls of a deletion, made where no retrieval is on, are those by which the packets given are removed
+deletion : (place seat : ℕ) (gave : List Stored) (last : Option ℕ) (old new : PortView) → old.number ≡ seat
+    → last ≡ last_of gave → Deletes place last old new
+    → (calls : List Entry) × (new ≡ with_calls place old calls)
+    × ((s : State) → is_some s.retrieval ≡ false → IsLegal s calls → (count : ℕ) × (calls ≡ removed seat gave count))
+deletion place seat [] None old new at is none = (
+  [],
+  none ∙ ap (λ (list : List (ℕ × Entry)). record old { list = list }) (sym (append-nil old.list)),
+  λ s off legal. (0, refl),
+)
+deletion place seat (p ∷ gave) (Some limit) old new at is once =
+    let same : limit ≡ last_time p.time gave = cc is in (
+      entry old.number (Delete limit) once.reply ∷ [],
+      once.call,
+      λ s off legal.
+          let found = deletes limit s once.reply off legal.0 in
+          (found.0, λ i. entry (at i) (Delete (same i)) (found.1 i) ∷ []),
+    )
+deletion place seat [] (Some limit) old new at is once = absurd (cc is)
+deletion place seat (p ∷ gave) None old new at is none = absurd (cc is)
+
+-- an order that was begun, at a store with this identifier
+module _ (ids : List (List ℕ)) (order : Order) (id : List ℕ) (named : id_at ids order.place ≡ id) (a b c : Progress)
+    (begins : CallsOnce order.place (Begin 1 clock_end) a.port b.port)
+    (sent_same : b.sent ≡ a.sent) (failed_same : b.failed ≡ a.failed) (spent_same : b.spent ≡ a.spent) where
+  abbrev store : OrderStore
+  store = order_store order.place id
+
+  abbrev seat : ℕ
+  seat = a.port.number
+
+  seat_same : b.port.number ≡ seat
+  seat_same = ap (λ (p : PortView). p.number) begins.call
+
+  abbrev first : Entry
+  first = entry seat (Begin 1 clock_end) begins.reply
+
+  -- its begin, and what a retrieval sent
+  retrieved : (expected : ℕ → Entry) (sent us : List Stored)
+      (retrieval : Retrieves store order.amount (expected b.port.number) sent us b c)
+      → Advances store (first ∷ given seat (sent ++ us) ++ retrieval.last_call ∷ []) sent us a c
+  retrieved expected sent us retrieval =
+      advances_then store a c b (first ∷ []) (given b.port.number (sent ++ us) ++ retrieval.last_call ∷ []) _
+      [] sent sent us
+      (ap (λ (n : ℕ). first ∷ given n (sent ++ us) ++ retrieval.last_call ∷ []) (sym seat_same)) refl
+      (called store a b (Begin 1 clock_end) begins.reply begins.call sent_same failed_same spent_same) retrieval.advance
+
   -- it broke
-  pub broken : (why : OrderBroken) (breaks : BreaksOff store order.amount why b c)
-      → HasGone store false false breaks.sent breaks.unsent (λ seat calls. IsBroken why (course_of order (Some why) breaks.sent breaks.unsent seat calls)) a c
+  pub broken : (why : OrderBroken) → BreaksOff store order.amount why b c → OrderCarriedOut ids order (Some why) a c
   broken why breaks =
-      gone_then store false false _ a c true [] breaks.sent breaks.unsent _ _ b begins breaks.gone (λ seat xs ys one two. record {
-        order = record { most = two.most; are = λ i. one i ++ two.are i };
-        last = two.last;
-      })
+      let gave : List Stored = breaks.sent ++ breaks.unsent in
+      let e : Entry = breaks.retrieval.last_call in
+      let ends = subst (λ (n : ℕ). Ends e (aborted n)) seat_same breaks.retrieval.ends in
+      record {
+        sent = breaks.sent;
+        unsent = breaks.unsent;
+        calls = first ∷ given seat gave ++ e ∷ [];
+        advance = rw named (retrieved aborted breaks.sent breaks.unsent breaks.retrieval);
+        tried = record {
+          alone = λ s t idle run.
+              let all = retrieval_calls s seat begins.reply gave e (aborted seat) [] idle ends run.legal in
+              record {
+                order = record {
+                  most = breaks.retrieval.most;
+                  are = λ i. all.0 i ∷ given seat gave ++ all.1 i ∷ [];
+                };
+                last = breaks.last;
+              };
+        };
+        well = tt;
+      }
 
   -- its packets were sent, and then deleted
-  pub whole : (last : Option ℕ) (port : PortView) (sends : SentAll store order.amount last b c)
-      → HasCalled store.place false false (λ seat calls. (count : ℕ) × (calls ≡ deletion last seat count)) c.port port
-      → HasGone store false false sends.sent [] (λ seat calls. IsWhole (course_of order None sends.sent [] seat calls)) a (record c { port = port })
-  whole last port sends deletes =
-      let sent = sends.sent in
-      let first : HasGone store false false sent [] (λ seat calls. calls ≡ begun seat ∷ given seat sent ++ ended seat order.amount sent ∷ []) a c =
-      gone_then store false false _ a c true [] sent [] _ _ b begins sends.gone (λ seat xs ys one two i. one i ++ two i) in
-      gone_called store false false _ a (record c { port = port }) false sent _ _ c first deletes refl refl refl (λ seat xs ys one two. record {
-        order = record {
-          most = sends.most;
-          count = two.0;
-          are = (λ i. one i ++ (two.1 ∙ ap (λ (t : Option ℕ). deletion t seat two.0) sends.last_is ∙ deletes_as seat two.0 sent) i)
-              ∙ ap (λ (es : List Entry). begun seat ∷ es) (append_assoc (given seat sent) (ended seat order.amount sent ∷ []) (removed seat sent two.0));
+  pub whole : (last : Option ℕ) (port : PortView) → SentAll store order.amount last b c
+      → Deletes order.place last c.port port → OrderCarriedOut ids order None a (record c { port = port })
+  whole last port sends removes =
+      let sent : List Stored = sends.sent in
+      let e : Entry = sends.retrieval.last_call in
+      let expected : ℕ → Entry = λ n. ended n order.amount sent in
+      let ends = subst (λ (n : ℕ). Ends e (expected n)) seat_same sends.retrieval.ends in
+      let start = retrieved expected sent [] sends.retrieval in
+      let rest = deletion order.place seat sent last c.port port (ap (λ (p : PortView). p.number) start.port)
+      sends.last_is removes in
+      record {
+        sent = sent;
+        unsent = [];
+        calls = first ∷ given seat sent ++ e ∷ rest.0;
+        advance = rw named (advances_then store a (record c { port = port }) c
+            (first ∷ given seat (sent ++ []) ++ e ∷ []) rest.0 _ sent [] sent []
+            (ap (λ (gave : List Stored). first ∷ given seat gave ++ e ∷ rest.0) (sym (append-nil sent))
+            ∙ ap (λ (es : List Entry). first ∷ es) (sym (append_assoc (given seat (sent ++ [])) (e ∷ []) rest.0)))
+            (sym (append-nil sent)) start
+            (record { port = rest.1; all = sym (append-nil c.sent); failures = omega arith; blocks = omega arith }));
+        tried = record {
+          alone = λ s t idle run.
+              let all = retrieval_calls s seat begins.reply sent e (expected seat) rest.0 idle ends run.legal in
+              let removal = rest.2 all.2.0 all.2.1 all.2.2 in
+              record {
+                order = record {
+                  most = omega (arith, sends.retrieval.most, length-append sent []);
+                  count = removal.0;
+                  are = λ i. all.0 i ∷ given seat sent ++ all.1 i ∷ removal.1 i;
+                };
+                all = refl;
+              };
         };
-        all = refl;
-      })
+        well = omega (arith, start.failures);
+      }

@@ -1,26 +1,34 @@
 -- What a step's dump leaves, from what was carried out over each link and what became of the stores.
-use Rattle.mm_dump.proofs.Words.{◌≡◌, ℕ, ◌+◌, ◌<◌, ◌≤◌, ◌==◌, List, [], ◌∷◌, ◌++◌, length, get_or, map, take, All, Contains, refl, sym, ap, subst, ◌∙◌}
-use Rattle.mm_dump.proofs.Words.{length-append, arith, sum_by, flat_map, Option, None, IfNone, Some, is_some, get_or-map, length-map, take_all, map-id}
-use Rattle.mm_dump.proofs.Words.{length-flat_map, All-nil, All-cons, All-head, All-tail, All-append, All-contains, All-map, sum_by-take-le, length-filter}
-use Rattle.mm_dump.proofs.Words.{map-map, All-front, All-back, sum_by-map, sum_by-same, sum_by-add, sum_by-le_each, sum_by-flat_map, Stored, Held, State}
-use Rattle.mm_dump.proofs.Words.{IsOrderOf, IsRun, opening_at, id_at, states_of, Order, OrderBroken, Course, IsCourse, worst_of, sent_by, failed_by, spent_by}
-use Rattle.mm_dump.proofs.Words.{MayDump, AllKept, HasDumped, HasTaken, HasTried, AllDumped, AllSettled, CarriesOut, amount_of, places_of, times, used_by}
-use Rattle.mm_dump.proofs.Words.{wanted, Sent, all_sent, AreTried, IsTried}
-use Rattle.mm_dump.specs.Dumped.{AllTook, AllTried}
-use Rattle.mm_dump.proofs.Courses.{cause_of_all, course_few, no_failures, none_broke, whole_course}
+use Rattle.mm_dump.proofs.Words.{◌≡◌, ℕ, ◌+◌, ◌<◌, ◌≤◌, ◌==◌, List, [], ◌∷◌, ◌++◌, length, get_or, map, take, All}
+use Rattle.mm_dump.proofs.Words.{Contains, refl, sym, ap, subst, ◌∙◌, length-append, arith, sum_by, flat_map, Option}
+use Rattle.mm_dump.proofs.Words.{None, is_some, get_or-map, length-map, take_all, length-flat_map, All-nil}
+use Rattle.mm_dump.proofs.Words.{All-cons, All-head, All-tail, All-append, All-contains, All-map, sum_by-take-le}
+use Rattle.mm_dump.proofs.Words.{length-filter, map-map, All-front, All-back, sum_by-map, sum_by-same, sum_by-add}
+use Rattle.mm_dump.proofs.Words.{sum_by-le_each, sum_by-flat_map, Stored, Held, State, IsRun, opening_at, id_at}
+use Rattle.mm_dump.proofs.Words.{states_of, Order, OrderBroken, Course, IsCourse, AreCourses, worst_of, worst_in}
+use Rattle.mm_dump.proofs.Words.{sent_by, failed_by, spent_by, MayDump, AllKept, HasTaken, HasTried, IsOrderFor}
+use Rattle.mm_dump.proofs.Words.{AllSettled, AllTaken, CarriesOut, amount_of, taken_at, times, used_by}
+use Rattle.mm_dump.proofs.Words.{wanted, Sent, all_sent, IsTried}
+use Rattle.std.proofs.lemmas.List.Folds.{map_fixed}
+use Rattle.mm_dump.specs.Dumped.{AllTried}
+use Rattle.mm_dump.proofs.Courses.{course_few, none_broke}
 use Rattle.mm_dump.proofs.Finding.{find, found_again, here, is_found, none_found}
-use Rattle.mm_dump.proofs.Ordered.{named_once, names, times_named, wanted_named, wanted_own}
+use Rattle.mm_dump.proofs.Ordered.{named_once, names, times_named, wanted_own}
 
 -- what holds of each element of each list, and of all of them
-pub flat_all : {X Y : Type 0} (P : X → Type 0) (make : Y → List X) (ys : List Y) → All (λ y. All P (make y)) ys → All P (flat_map make ys)
+pub flat_all : {X Y : Type 0} (P : X → Type 0) (make : Y → List X) (ys : List Y) → All (λ y. All P (make y)) ys
+    → All P (flat_map make ys)
 flat_all P make [] all = All-nil P
 flat_all P make (y ∷ ys) all =
-    All-append P (make y) (flat_map make ys) (All-head (λ z. All P (make z)) y ys all) (flat_all P make ys (All-tail (λ z. All P (make z)) y ys all))
+    All-append P (make y) (flat_map make ys) (All-head (λ z. All P (make z)) y ys all)
+    (flat_all P make ys (All-tail (λ z. All P (make z)) y ys all))
 
-all_flat : {X Y : Type 0} (P : X → Type 0) (make : Y → List X) (ys : List Y) → All P (flat_map make ys) → All (λ y. All P (make y)) ys
+all_flat : {X Y : Type 0} (P : X → Type 0) (make : Y → List X) (ys : List Y) → All P (flat_map make ys)
+    → All (λ y. All P (make y)) ys
 all_flat P make [] all = All-nil (λ y. All P (make y))
 all_flat P make (y ∷ ys) all =
-    All-cons (λ z. All P (make z)) y ys (All-front P (make y) (flat_map make ys) all) (all_flat P make ys (All-back P (make y) (flat_map make ys) all))
+    All-cons (λ z. All P (make z)) y ys (All-front P (make y) (flat_map make ys) all)
+    (all_flat P make ys (All-back P (make y) (flat_map make ys) all))
 
 -- two functions that are the same at each element
 pub map_same : {X Y : Type 0} (f g : X → Y) (xs : List X) → All (λ x. f x ≡ g x) xs → map f xs ≡ map g xs
@@ -38,11 +46,13 @@ spent_is ids cs =
       arith,
       length-flat_map sends cs,
       sum_by-same (λ (c : Course). length (sends c)) (λ (c : Course). length c.sent) cs
-          (λ i d inside. length-map (get_or cs i d).sent (λ (p : Stored). record { store = id_at ids (get_or cs i d).order.place; stored = p })),
+          (λ i d inside. length-map (get_or cs i d).sent
+          (λ (p : Stored). record { store = id_at ids (get_or cs i d).order.place; stored = p })),
       sum_by-add (λ (c : Course). length c.sent) (λ (c : Course). length c.unsent) cs,
     )
 
--- a link before and after orders were carried out over it, these orders, why the last one broke, where it did, and how many blocks they spent
+-- a link before and after orders were carried out over it, these orders, why the last one broke, if it broke, and how
+-- many blocks they spent
 pub record Line (L : Type 0) : Type 0 where
   pub old : L
   pub new : L
@@ -51,24 +61,27 @@ pub record Line (L : Type 0) : Type 0 where
   pub spent : ℕ
 
 -- a link took what these orders sent, and its failures rose; where none of its orders broke, all of the step were taken
-pub record IsLine {L : Type 0} (sent : L → List Sent) (failed : L → ℕ) (ids : List (List ℕ)) (all_taken : Type 0) (l : Line L) : Type 0 where
+pub record IsLine {L : Type 0} (sent : L → List Sent) (failed : L → ℕ) (ids : List (List ℕ)) (all_taken : Type 0)
+    (l : Line L) : Type 0 where
   pub all : sent l.new ≡ sent l.old ++ sent_by ids l.courses
   pub failures : failed l.new ≡ failed l.old + failed_by l.courses
   pub blocks : l.spent ≡ spent_by l.courses
-  pub are : AreTried l.why l.courses
+  pub are : AreCourses IsTried l.why l.courses
   pub whole : l.why ≡ None → all_taken
 
 -- all orders that were carried out
 abbrev pub all_of : {L : Type 0} → List (Line L) → List Course
 all_of lines = flat_map (λ l. l.courses) lines
 
--- what is known once all workers have ended: the first orders were carried out, up to some number; what happened to each store; and all
+-- what is known once all workers have ended: the first orders were carried out, up to some number; what happened to
+-- each store; and all
 -- orders were taken where there is a link for each
 pub record HaveEnded (orders : List Order) (links : ℕ) (all : List Course) (before after : List State) : Type 0 where
   pub ordered : All (λ (c : Course). Contains orders c.order) all
   pub next : ℕ
   pub weigh : (f : Order → ℕ) → sum_by (λ (c : Course). f c.order) all ≡ sum_by f (take next orders)
-  pub runs : (p : ℕ) → p < length after → length (here p all) ≤ 1 → IsRun (opening_at before p) (find p all).calls (opening_at after p)
+  pub runs : (p : ℕ) → p < length after → length (here p all) ≤ 1
+      → IsRun (opening_at before p) (find p all).calls (opening_at after p)
   pub enough : length orders ≤ links → length orders ≤ next
 
 module _ {L : Type 0} (sent : L → List Sent) (failed : L → ℕ) (ids : List (List ℕ)) where
@@ -91,32 +104,16 @@ module _ {L : Type 0} (sent : L → List Sent) (failed : L → ℕ) (ids : List 
     abbrev Tried : Line L → Type 0
     Tried l = HasTaken sent failed ids (map course (spots l)) l.old l.new
 
-    all_tried : (lines : List (Line L)) → All Tried lines → AllTried sent failed ids course (map spots lines) (map (λ l. l.old) lines) (map (λ l. l.new) lines)
+    all_tried : (lines : List (Line L)) → All Tried lines
+        → AllTried sent failed ids course (map spots lines) (map (λ l. l.old) lines) (map (λ l. l.new) lines)
     unfolding AllTried
     all_tried [] each = tt
     all_tried (l ∷ lines) each = (All-head Tried l lines each, all_tried lines (All-tail Tried l lines each))
 
-    -- a link took what the stores at its places gave
-    abbrev Took : Line L → Type 0
-    Took l = (sent l.new ≡ sent l.old ++ flat_map (λ (k : ℕ). all_sent (id_at ids k) (course k).sent) (spots l)) × (failed l.new ≡ failed l.old)
-
-    all_took : (lines : List (Line L)) → All Took lines → AllTook sent failed ids (λ (k : ℕ). (course k).sent) (map spots lines) (map (λ l. l.old) lines) (map (λ l. l.new) lines)
-    unfolding AllTook
-    all_took [] each = tt
-    all_took (l ∷ lines) each = let first = All-head Took l lines each in (first.0, first.1, all_took lines (All-tail Took l lines each))
-
-    -- where the order at each place is its own, these are the same
-    took_same : (cs : List Course) → All (λ (c : Course). course c.order.place ≡ c) cs
-        → flat_map (λ (k : ℕ). all_sent (id_at ids k) (course k).sent) (map (λ (c : Course). c.order.place) cs) ≡ sent_by ids cs
-    took_same [] at = refl
-    took_same (c ∷ cs) at =
-        let first = ap (λ (d : Course). all_sent (id_at ids c.order.place) d.sent) (All-head (λ (c : Course). course c.order.place ≡ c) c cs at) in
-        let rest = took_same cs (All-tail (λ (c : Course). course c.order.place ≡ c) c cs at) in
-        λ i. first i ++ rest i
-
   module _ (orders : List Order) (stores : List Held) (links : List L) (may : MayDump failed orders stores links)
       (lines : List (Line L)) (some : 0 < length lines) (after : List State) (same : length after ≡ length stores)
-      (h : HaveEnded orders (length lines) (all_of lines) (states_of stores) after) (each : All (IsLine sent failed ids (length orders ≤ h.next)) lines) where
+      (h : HaveEnded orders (length lines) (all_of lines) (states_of stores) after)
+      (each : All (IsLine sent failed ids (length orders ≤ h.next)) lines) where
     abbrev before : List State
     before = states_of stores
 
@@ -142,22 +139,28 @@ module _ {L : Type 0} (sent : L → List Sent) (failed : L → ℕ) (ids : List 
 
     -- all were taken where the orders of some link did not break, and where none broke
     left : All (λ (why : Option OrderBroken). why ≡ None → length orders ≤ h.next) (map (λ l. l.why) lines)
-    left = All-map (λ (why : Option OrderBroken). why ≡ None → length orders ≤ h.next) (λ (l : Line L). l.why) lines (λ i d inside. (each i d inside).whole)
+    left =
+        All-map (λ (why : Option OrderBroken). why ≡ None → length orders ≤ h.next) (λ (l : Line L). l.why) lines
+        (λ i d inside. (each i d inside).whole)
 
     full : worst_of (map (λ l. l.why) lines) ≡ None → length orders ≤ h.next
     full none =
-        let inside : 0 < length (map (λ (l : Line L). l.why) lines) = omega (arith, some, length-map lines (λ (l : Line L). l.why)) in
-        let each_none = All-map (λ (why : Option OrderBroken). why ≡ None) (λ (l : Line L). l.why) lines (none_broke (λ (l : Line L). l.why) lines none) in
+        let inside : 0 < length (map (λ (l : Line L). l.why) lines) =
+        omega (arith, some, length-map lines (λ (l : Line L). l.why)) in
+        let each_none = All-map (λ (why : Option OrderBroken). why ≡ None) (λ (l : Line L). l.why) lines
+        (none_broke (λ (l : Line L). l.why) lines none) in
         left 0 None inside (each_none 0 None inside)
 
     -- how often a place stands among those of the links
-    taken_is : (p : ℕ) → sum_by (times p) places ≡ length (here p all)
+    taken_is : (p : ℕ) → taken_at places p ≡ length (here p all)
     taken_is p =
         sum_by-map (times p) spots lines
-        ∙ sum_by-same (λ l. times p (spots l)) (λ l. sum_by (λ (c : Course). names p c.order) l.courses) lines (λ i d inside. sum_by-map _ (λ (c : Course). c.order.place) (get_or lines i d).courses)
-        ∙ sym (length-filter (λ (c : Course). c.order.place == p) all ∙ sum_by-flat_map (λ (c : Course). names p c.order) (λ l. l.courses) lines)
+        ∙ sum_by-same (λ l. times p (spots l)) (λ l. sum_by (λ (c : Course). names p c.order) l.courses) lines
+        (λ i d inside. sum_by-map _ (λ (c : Course). c.order.place) (get_or lines i d).courses)
+        ∙ sym (length-filter (λ (c : Course). c.order.place == p) all
+        ∙ sum_by-flat_map (λ (c : Course). names p c.order) (λ l. l.courses) lines)
 
-    once_all : length orders ≤ h.next → (p : ℕ) → sum_by (times p) places ≡ times p (places_of orders)
+    once_all : length orders ≤ h.next → AllTaken orders places
     once_all reach p = taken_is p ∙ tally_all reach p ∙ sym (times_named p orders)
 
     -- each order is found at its place
@@ -172,31 +175,40 @@ module _ {L : Type 0} (sent : L → List Sent) (failed : L → ℕ) (ids : List 
         let of = h.ordered i d inside in
         let tried = flat_all IsTried (λ l. l.courses) lines (λ j e within. (each j e within).are.each) i d inside in
         let within = All-contains (λ (o : Order). o.place < length stores) orders c.order may.places of in
-        let idle = All-contains (λ (o : Order). (opening_at before o.place).retrieval ≡ None) orders c.order may.idle of in
+        let idle =
+        All-contains (λ (o : Order). (opening_at before o.place).retrieval ≡ None) orders c.order may.idle of in
         tried.alone (opening_at before p) (opening_at after p) (ap is_some idle)
-        (subst (λ (e : Course). IsRun (opening_at before p) e.calls (opening_at after p)) (at i d inside) (h.runs p (omega (arith, within, same)) (few p)))
+        (subst (λ (e : Course). IsRun (opening_at before p) e.calls (opening_at after p)) (at i d inside)
+        (h.runs p (omega (arith, within, same)) (few p)))
 
-    -- its amount is what is wanted of its place
-    amount : (p : ℕ) → 0 < length (here p all) → (course p).order.amount ≡ wanted orders p
-    amount p has =
-        let both = is_found (λ (c : Course). Contains orders c.order) p all h.ordered has in
-        sym (All-contains (λ (o : Order). wanted orders o.place ≡ o.amount) orders (course p).order (wanted_own orders may.distinct) both.1) ∙ ap (wanted orders) both.0
+    -- it is the order for its place
+    order_is : (p : ℕ) → 0 < taken_at places p → IsOrderFor orders p (course p)
+    order_is p has =
+        let of = is_found (λ (c : Course). Contains orders c.order) p all h.ordered (omega (arith, has, taken_is p)) in
+        let own = wanted_own orders may.distinct in
+        record {
+          place = of.0;
+          amount = sym (All-contains (λ (o : Order). wanted orders o.place ≡ o.amount) orders (course p).order own of.1)
+              ∙ ap (wanted orders) of.0;
+          some = All-contains (λ (o : Order). 1 ≤ o.amount) orders (course p).order may.amounts of.1;
+        }
 
-    tried : (p : ℕ) → p < length after → HasTried (sum_by (times p) places) p (course p) (opening_at before p) (opening_at after p)
+    tried : (p : ℕ) → p < length after
+        → HasTried (taken_at places p) (course p) (opening_at before p) (opening_at after p)
     tried p inside = record {
       run = h.runs p inside (few p);
       none = λ none.
           let nothing = none_found p all (sym (taken_is p) ∙ none) in
           (ap (λ (c : Course). c.calls) nothing, ap (λ (c : Course). c.sent) nothing);
-      some = λ has. is_found IsCourse p all known (omega (arith, has, taken_is p));
+      some = λ has. (is_found IsCourse p all known (omega (arith, has, taken_is p))).1;
     }
 
     -- the orders of a link, from their places
     again : All (λ l. map course (spots l) ≡ l.courses) lines
     again i d inside =
         let cs : List Course = (get_or lines i d).courses in
-        map-map course (λ (c : Course). c.order.place) cs
-        ∙ map_same (λ (c : Course). course c.order.place) (λ c. c) cs (all_flat (λ (c : Course). course c.order.place ≡ c) (λ l. l.courses) lines at i d inside) ∙ map-id cs
+        map-map course (λ (c : Course). c.order.place) cs ∙ map_fixed (λ (c : Course). course c.order.place) cs
+        (all_flat (λ (c : Course). course c.order.place ≡ c) (λ l. l.courses) lines at i d inside)
 
     taken : All (Tried course) lines
     taken i d inside =
@@ -207,78 +219,58 @@ module _ {L : Type 0} (sent : L → List Sent) (failed : L → ℕ) (ids : List 
           all = is.all;
           failures = is.failures;
           why = l.why;
-          are = record { each = all_flat IsCourse (λ l. l.courses) lines known i d inside; early = is.are.early; cause = is.are.cause };
+          are = record {
+            each = all_flat IsCourse (λ l. l.courses) lines known i d inside;
+            early = is.are.early;
+            cause = is.are.cause;
+          };
         })
 
     -- why the last order of each link broke, where it did
-    causes_same : map (λ (ks : List ℕ). cause_of_all (map course ks)) places ≡ map (λ l. l.why) lines
+    causes_same : map (λ (ks : List ℕ). worst_in (map course ks)) places ≡ map (λ l. l.why) lines
     causes_same =
-        map-map (λ (ks : List ℕ). cause_of_all (map course ks)) spots lines
-        ∙ map_same (λ l. cause_of_all (map course (spots l))) (λ l. l.why) lines (λ i d inside. ap cause_of_all (again i d inside) ∙ (each i d inside).are.cause)
+        map-map (λ (ks : List ℕ). worst_in (map course ks)) spots lines
+        ∙ map_same (λ l. worst_in (map course (spots l))) (λ l. l.why) lines
+        (λ i d inside. ap worst_in (again i d inside) ∙ (each i d inside).are.cause)
 
-    settled : AllSettled sent failed ids orders (worst_of (map (λ l. l.why) lines)) before after (map (λ l. l.old) lines) (map (λ l. l.new) lines)
+    settled : AllSettled sent failed ids orders (worst_of (map (λ l. l.why) lines)) before after
+        (map (λ l. l.old) lines) (map (λ l. l.new) lines)
     settled = record {
       course = course;
       places = places;
       stores = tried;
-      amounts = λ k has. amount k (omega (arith, has, taken_is k));
+      order_is = order_is;
       once = λ k. omega (arith, taken_is k, tally_is k, sum_by-take-le (names k) orders h.next, times_named k orders);
       all = λ whole. once_all (full whole);
       others = λ one.
           let unbroken = ap (λ (whys : List (Option OrderBroken)). get_or whys one.0 None) (sym causes_same)
-          ∙ get_or-map (λ (ks : List ℕ). cause_of_all (map course ks)) places one.0 one.1 None one.2
-          ∙ ap (λ (ks : List ℕ). cause_of_all (map course ks)) one.3 ∙ one.4 in
-          once_all (left one.0 None (omega (arith, one.2, length-map lines spots, length-map lines (λ (l : Line L). l.why))) unbroken);
+          ∙ get_or-map (λ (ks : List ℕ). worst_in (map course ks)) places one.0 one.1 None one.2
+          ∙ ap (λ (ks : List ℕ). worst_in (map course ks)) one.3 ∙ one.4 in
+          once_all (left one.0 None
+          (omega (arith, one.2, length-map lines spots, length-map lines (λ (l : Line L). l.why))) unbroken);
       links = all_tried course lines taken;
       cause = ap worst_of causes_same;
     }
 
-    -- where no order broke
-    module _ (none : worst_of (map (λ l. l.why) lines) ≡ None) where
-      unbroken : All (λ l. cause_of_all l.courses ≡ None) lines
-      unbroken i d inside = (each i d inside).are.cause ∙ none_broke (λ (l : Line L). l.why) lines none i d inside
-
-      dumped : (p : ℕ) → p < length after → HasDumped (wanted orders p) (course p).sent (opening_at before p) (opening_at after p)
-      dumped p inside = record {
-        calls = (course p).calls;
-        run = h.runs p inside (few p);
-        none = λ nothing_wanted.
-            let nothing = none_found p all (tally_all (full none) p ∙ (wanted_named p orders may.amounts).1 nothing_wanted) in
-            (ap (λ (c : Course). c.sent) nothing, ap (λ (c : Course). c.calls) nothing);
-        whole = λ some_wanted.
-            let has : 0 < length (here p all) = omega (arith, tally_all (full none) p, (wanted_named p orders may.amounts).0 some_wanted) in
-            let whys = flat_all (λ (c : Course). c.why ≡ None) (λ l. l.courses) lines (λ i d within. none_broke (λ (c : Course). c.why) (get_or lines i d).courses (unbroken i d within)) in
-            let whole = whole_course (course p) (is_found (λ (c : Course). c.why ≡ None) p all whys has).1 (is_found IsCourse p all known has).1 in
-            ((course p).seat, subst (λ (n : ℕ). IsOrderOf (course p).seat n (course p).sent (course p).calls) (amount p has) whole.order);
-      }
-
-      took : All (Took course) lines
-      took i d inside =
-          let l : Line L = get_or lines i d in
-          let is = each i d inside in (
-            is.all ∙ ap (λ (ss : List Sent). sent l.old ++ ss) (sym (took_same course l.courses (all_flat (λ (c : Course). course c.order.place ≡ c) (λ l. l.courses) lines at i d inside))),
-            omega (arith, is.failures, no_failures l.courses (all_flat IsCourse (λ l. l.courses) lines known i d inside) (unbroken i d inside)),
-          )
-
-      all_dumped : AllDumped sent failed ids orders before after (map (λ l. l.old) lines) (map (λ l. l.new) lines)
-      all_dumped = record {
-        gave = λ p. (course p).sent;
-        places = places;
-        stores = dumped;
-        once = once_all (full none);
-        links = all_took course lines took;
-      }
-
     -- what links were used for is what was spent, which is no more than the orders want
-    used_is : used_by sent failed (map (λ l. l.new) lines) ≡ used_by sent failed (map (λ l. l.old) lines) + sum_by (λ l. l.spent) lines
+    used_is : used_by sent failed (map (λ l. l.new) lines)
+        ≡ used_by sent failed (map (λ l. l.old) lines) + sum_by (λ l. l.spent) lines
     used_is =
         let uses : L → ℕ = λ k. length (sent k) + failed k in
         sum_by-map uses (λ (l : Line L). l.new) lines
         ∙ sum_by-same (λ l. uses l.new) (λ l. uses l.old + l.spent) lines (λ i d inside.
         let l : Line L = get_or lines i d in
         let is = each i d inside in
-        omega (arith, ap length is.all, length-append (sent l.old) (sent_by ids l.courses), is.failures, spent_is ids l.courses, is.blocks))
-        ∙ sum_by-add (λ l. uses l.old) (λ l. l.spent) lines ∙ ap (λ (n : ℕ). n + sum_by (λ l. l.spent) lines) (sym (sum_by-map uses (λ (l : Line L). l.old) lines))
+        omega (
+          arith,
+          ap length is.all,
+          length-append (sent l.old) (sent_by ids l.courses),
+          is.failures,
+          spent_is ids l.courses,
+          is.blocks,
+        ))
+        ∙ sum_by-add (λ l. uses l.old) (λ l. l.spent) lines
+        ∙ ap (λ (n : ℕ). n + sum_by (λ l. l.spent) lines) (sym (sum_by-map uses (λ (l : Line L). l.old) lines))
 
     spent_few : sum_by (λ l. l.spent) lines ≤ amount_of orders
     spent_few =
@@ -288,25 +280,26 @@ module _ {L : Type 0} (sent : L → List Sent) (failed : L → ℕ) (ids : List 
               let is = each i d inside in
               let cs : List Course = (get_or lines i d).courses in
               let few : All (λ (c : Course). length c.sent + length c.unsent ≤ c.order.amount) cs =
-              λ j e within. course_few (get_or cs j e) (all_flat IsCourse (λ l. l.courses) lines known i d inside j e within) in
-              omega (arith, is.blocks, sum_by-le_each (λ (c : Course). length c.sent + length c.unsent) (λ c. c.order.amount) cs few)),
+              λ j e within. course_few (get_or cs j e)
+              (all_flat IsCourse (λ l. l.courses) lines known i d inside j e within) in
+              omega (
+                arith,
+                is.blocks,
+                sum_by-le_each (λ (c : Course). length c.sent + length c.unsent) (λ c. c.order.amount) cs few,
+              )),
           sum_by-flat_map (λ (c : Course). c.order.amount) (λ (l : Line L). l.courses) lines,
           h.weigh (λ (o : Order). o.amount),
           sum_by-take-le (λ (o : Order). o.amount) orders h.next,
         )
 
     -- and so the step
-    pub carries_out : CarriesOut sent failed ids orders before after (map (λ l. l.old) lines) (map (λ l. l.new) lines) (worst_of (map (λ l. l.why) lines)) (sum_by (λ l. l.spent) lines)
+    pub carries_out : CarriesOut sent failed ids orders before after (map (λ l. l.old) lines) (map (λ l. l.new) lines)
+        (worst_of (map (λ l. l.why) lines)) (sum_by (λ l. l.spent) lines)
     unfolding settled
     carries_out = record {
-      dumped = if_none (worst_of (map (λ l. l.why) lines)) all_dumped;
       settled = settled;
       enough = λ many. once_all (h.enough (omega (arith, many, length-map lines (λ (l : Line L). l.old))));
       kept = all_kept (length orders ≤ h.next) lines each;
       used = used_is;
       within = spent_few;
     }
-      where
-        if_none : {P : Type 0} (o : Option OrderBroken) → (o ≡ None → P) → IfNone o P
-        if_none None f = f refl
-        if_none (Some why) f = tt

@@ -1,5 +1,6 @@
--- How dump orders went.
-use Rattle.std.specs.Prelude.{◌≡◌, ℕ, ◌+◌, ◌==◌, List, [], ◌∷◌, ◌++◌, length, filter, flat_map, sum_by, Option, Some, None}
+-- The courses of dump orders.
+use Rattle.std.specs.Prelude.{◌≡◌, ℕ, ◌+◌, ◌<◌, ◌==◌, List, [], ◌∷◌, ◌++◌, length, map, filter, flat_map, sum_by}
+use Rattle.std.specs.Prelude.{slice_index_or, All, Option, Some, None, suc}
 use Rattle.mm_store.specs.declared.stored.Stored.{Stored}
 use Rattle.mm_desk.specs.declared.entry.Entry.{Entry}
 use Rattle.mm_desk.specs.Orders.{IsOrderOf}
@@ -10,8 +11,8 @@ use Rattle.mm_dump.specs.declared.order.OrderBroken.TheVariants.{LinkFailed, NoM
 use Rattle.mm_dump.specs.Broken.{IsBrokenOrder, unsent_at}
 use Rattle.mm_dump.specs.Sending.{Sent, all_sent}
 
--- how an order went: the seat that carried it out, the calls that it made, which of the packets that it was given were sent and
--- which the link did not take, and why it broke, where it did
+-- the course of an order: the seat that carried it out, its calls, which of the packets that it was given were sent and
+-- which the link did not take, and why it broke, if it broke
 pub record Course : Type 0 where
   pub order : Order
   pub seat : ℕ
@@ -25,12 +26,13 @@ pub record IsWhole (c : Course) : Type 0 where
   pub order : IsOrderOf c.seat c.order.amount c.sent c.calls
   pub all : c.unsent ≡ []
 
--- an order that broke for this cause and was aborted: what it was given was sent, except the packet that the link did not take
+-- an order that broke for this cause and was aborted: what it was given was sent, except the packet that the link did
+-- not take
 pub record IsBroken (why : OrderBroken) (c : Course) : Type 0 where
   pub order : IsBrokenOrder c.seat c.order.amount (c.sent ++ c.unsent) c.calls
   pub last : length c.unsent ≡ unsent_at why
 
--- an order ended so: it is whole where there is no cause, and else it broke for this one
+-- how an order ended: it is whole if there is no cause, and otherwise it broke for this cause
 abbrev pub EndedAs : Option OrderBroken → Course → Type 0
 EndedAs None c = IsWhole c
 EndedAs (Some why) c = IsBroken why c
@@ -46,12 +48,23 @@ worse (Some NoMemory) other = Some NoMemory
 worse (Some LinkFailed) None = Some LinkFailed
 worse (Some LinkFailed) (Some why) = Some why
 
--- the worst of causes; none where nothing broke
+-- the worst of causes; none if there is none
 abbrev pub worst_of : List (Option OrderBroken) → Option OrderBroken
 worst_of [] = None
 worst_of (why ∷ whys) = worse why (worst_of whys)
 
--- the calls that orders made at the store of a place
+-- the worst cause for which one of these orders broke; none if none broke
+abbrev pub worst_in : List Course → Option OrderBroken
+worst_in courses = worst_of (map (λ c. c.why) courses)
+
+-- orders were carried out one after another, and `Is` holds of each; the last alone may have broken, and this is the
+-- cause, if there is one
+pub record AreCourses (Is : Course → Type 0) (why : Option OrderBroken) (courses : List Course) : Type 0 where
+  pub each : All Is courses
+  pub early : (i : ℕ) (d : Course) → suc i < length courses → (slice_index_or courses i d).why ≡ None
+  pub cause : worst_in courses ≡ why
+
+-- the calls of orders on the store at a place
 abbrev pub calls_at : ℕ → List Course → List Entry
 calls_at place courses = flat_map (λ c. c.calls) (filter (λ c. c.order.place == place) courses)
 

@@ -1,17 +1,16 @@
-//! One dump order carried out. It alone makes calls on its store, at which no retrieval was on, so none of its calls is refused.
-ghost use Rattle.std.specs.Prelude.{◌≡◌, ℕ, ◌+◌, ◌-◌, ◌<◌, ◌≤◌, ◌^◌, [], ◌∷◌, false, true, is_some, length, Ok, IfOk, IfErr, IfNone};
-ghost use Rattle.std.specs.Option.{option_to_list};
-ghost use Rattle.mm_desk.specs.Orders.{begun};
-ghost use Rattle.mm_desk.specs.Runs.{entry};
+//! One dump order carried out. It alone makes calls on its store, at which no retrieval was on, so none of its calls is
+//! refused.
+ghost use Rattle.std.specs.Prelude.{◌≡◌, ◌+◌, ◌-◌, ◌<◌, ◌≤◌, ◌^◌, length, IfOk, IfErr};
+ghost use Rattle.mm_store.specs.Content.{clock_end};
 ghost use Rattle.mm_shared.specs.Stores.{ids_of};
-ghost use Rattle.mm_dump.specs.Broken.{aborted};
-ghost use Rattle.mm_dump.specs.OrderSteps.{order_store, IsPortAt, progress, HasCalled, HasGone, BreaksOff, SentAll, OrderCarriedOut, deletion};
+ghost use Rattle.mm_dump.specs.OrderSteps.{order_store, IsPortAt, progress, CallsOnce, Deletes, BreaksOff, SentAll};
+ghost use Rattle.mm_dump.specs.OrderSteps.{OrderCarriedOut};
 
 use crate::dumper::DumpContext;
 use crate::link::Link;
 use crate::order::{Order, OrderBroken};
 use mm_base::StoreId;
-use mm_desk::{Event, Fault, Reply};
+use mm_desk::{Event, Fault};
 use mm_shared::{Port, SharedStores};
 use mm_store::Stored;
 use std::alloc::Global;
@@ -28,10 +27,10 @@ struct OrderContext<'a, R: Wait> {
 }
 
 // Begins a retrieval of all packets.
-#[tactic(auto, using(crate::proofs::OneOrder::call_begin))]
+#[tactic(auto, using(crate::proofs::OneOrder::calls_once))]
 fn begin<R: Wait>(context: &OrderContext<'_, R>, port: &mut Port)
     requires at { IsPortAt context.now.stores.now context.now.place port.old }
-    ensures called { HasCalled context.now.place false true (λ seat calls. calls ≡ begun seat ∷ []) port.old port.new }
+    ensures called { CallsOnce context.now.place (Event.Begin 1 clock_end) port.old port.new }
     ensures of { port.new.of ≡ port.old.of }
 {
     let _begun = context
@@ -40,18 +39,19 @@ fn begin<R: Wait>(context: &OrderContext<'_, R>, port: &mut Port)
 }
 
 // Aborts the retrieval.
-#[tactic(auto, using(crate::proofs::OneOrder::call_abort))]
+#[tactic(auto, using(crate::proofs::OneOrder::calls_once))]
 fn abort<R: Wait>(context: &OrderContext<'_, R>, port: &mut Port)
     requires at { IsPortAt context.now.stores.now context.now.place port.old }
-    ensures called { HasCalled context.now.place true false (λ seat calls. calls ≡ aborted seat ∷ []) port.old port.new }
+    ensures called { CallsOnce context.now.place Event.Abort port.old port.new }
     ensures of { port.new.of ≡ port.old.of }
 {
     let _aborted = context.stores.abort(context.rt, port, context.place);
 }
 
-// Sends the packets of a retrieval, this many or as many as there are, and ends it. A block of the window is spent for each. Gives the time
-// of the last one, where one was sent. Where memory for a copy lacks, or the link does not take a packet, the retrieval is aborted. A refused
-// call, which never comes, is told as out of memory.
+// Sends the packets of a retrieval, this many or as many as there are, and ends it. A block of the window is spent for
+// each. Gives the time of the last one, where one was sent. Where there is no memory for a copy, or the link does not
+// take
+// a packet, the retrieval is aborted. A refused call, which never comes, is told as out of memory.
 fn send_all<L: Link, R: Wait>(
     context: &OrderContext<'_, R>,
     port: &mut Port,
@@ -63,7 +63,6 @@ fn send_all<L: Link, R: Wait>(
     requires room { L.failed link.old < 2 ^ 64 - 1 }
     requires blocks { spent.old + amount < 2 ^ 64 }
     ensures of { port.new.of ≡ port.old.of }
-    ensures few { spent.new ≤ spent.old + amount }
     ensures ok { IfOk result (λ last. SentAll (order_store context.now.place context.now.id.now) amount last
         (progress L.sent L.failed port.old link.old spent.old) (progress L.sent L.failed port.new link.new spent.new)) }
     ensures err { IfErr result (λ why. BreaksOff (order_store context.now.place context.now.id.now) amount why
@@ -99,7 +98,7 @@ fn send_all<L: Link, R: Wait>(
 // Deletes the packets that were sent, up to the time of the last one.
 fn delete_sent<R: Wait>(context: &OrderContext<'_, R>, port: &mut Port, last: Option<u64>)
     requires at { IsPortAt context.now.stores.now context.now.place port.old }
-    ensures called { HasCalled context.now.place false false (λ seat calls. (count : ℕ) × (calls ≡ deletion last seat count)) port.old port.new }
+    ensures called { Deletes context.now.place last port.old port.new }
 {
     let Some(limit) = last else {
         return;
@@ -109,9 +108,10 @@ fn delete_sent<R: Wait>(context: &OrderContext<'_, R>, port: &mut Port, last: Op
         .delete(context.rt, port, context.place, limit);
 }
 
-/// Carries out an order at the store of its place, and says why it broke, where it did: each packet that the store gives is sent, for which
-/// a block of the window is spent, and at the end those sent are deleted. Where memory lacks or a send fails the retrieval is aborted and
-/// nothing is deleted.
+/// Carries out an order at the store of its place, and says why it broke, if it broke: each packet that the store gives
+/// is sent, for which a block of the window is spent, and at the end those sent are deleted. Where memory is refused or
+/// a
+/// send fails, the retrieval is aborted and nothing is deleted.
 pub(crate) fn carry<L: Link, R: Wait>(
     context: &DumpContext<'_, R>,
     order: Order,
@@ -124,7 +124,6 @@ pub(crate) fn carry<L: Link, R: Wait>(
     requires room { L.failed link.old < 2 ^ 64 - 1 }
     requires blocks { spent.old < 2 ^ 48 }
     ensures few { spent.new ≤ spent.old + 2 ^ 32 }
-    ensures well { IfNone result (L.failed link.new ≡ L.failed link.old) }
     ensures carried { OrderCarriedOut (ids_of context.now.labels.now) order result
         (progress L.sent L.failed port.old link.old spent.old) (progress L.sent L.failed port.new link.new spent.new) }
 {

@@ -1,5 +1,5 @@
 //! Dump workers: each takes its next order from the queue until it finds that none is left, and carries it out.
-ghost use Rattle.std.specs.Prelude.{◌≡◌, ◌+◌, ◌-◌, ◌<◌, ◌≤◌, ◌^◌, List, length};
+ghost use Rattle.std.specs.Prelude.{◌-◌, ◌<◌, ◌^◌, List};
 ghost use Rattle.std.specs.Thread.{IsSync, IsSend};
 ghost use Rattle.crossbeam_queue.specs.Passes.{view};
 ghost use Rattle.mm_shared.specs.Stores.{ids_of};
@@ -16,7 +16,8 @@ use std::alloc::Global;
 use std::sync::Wait;
 use std::thread::{Threads, join_mut};
 
-/// What a dump worker has beside its link and its port: its pass of the queue, how many blocks of the window it spent, and why its
+/// What a dump worker has beside its link and its port: its pass of the queue, how many blocks of the window it spent,
+/// and why its
 /// last order broke, where it did.
 #[derive(Drop)]
 pub(crate) struct DumpWorker {
@@ -48,8 +49,9 @@ fn work<L: Link, R: Wait>(
     requires hired { IsHired context.now.queue.now worker.old }
     requires room { L.failed link.old < 2 ^ 64 - 1 }
     ensures back { IsBack context.now.queue.now worker.new }
-    ensures worked { (courses : List Course) × Worked (ids_of context.now.labels.now) context.now.orders.now (view worker.new.pass).taken (past_of result)
-        result (progress L.sent L.failed port.old link.old 0) (progress L.sent L.failed port.new link.new worker.new.spent) courses }
+    ensures worked { (courses : List Course) × Worked (ids_of context.now.labels.now) context.now.orders.now
+        (view worker.new.pass).taken (past_of result) result (progress L.sent L.failed port.old link.old 0)
+        (progress L.sent L.failed port.new link.new worker.new.spent) courses }
 {
     for _ in context.rt.forever() {
         let number = take_next(context.rt, context.queue, &mut worker.pass) as usize;
@@ -73,9 +75,10 @@ pub(crate) fn dump_all<L: Link + Send, R: Threads + Wait + Sync>(
     ports: &mut [Port],
     workers: &mut [DumpWorker],
 )
-    requires ready { AreReady L.sent L.failed context.now.queue.now context.now.stores.now context.now.labels.now context.now.orders.now links.old ports.old workers.old }
-    ensures worked { AllWorked L.sent L.failed context.now.queue.now (ids_of context.now.labels.now) context.now.orders.now
-        links.old links.new ports.old ports.new workers.new }
+    requires ready { AreReady L.sent L.failed context.now.queue.now context.now.stores.now context.now.labels.now
+        context.now.orders.now links.old ports.old workers.old }
+    ensures worked { AllWorked L.sent L.failed context.now.queue.now (ids_of context.now.labels.now)
+        context.now.orders.now links.old links.new ports.old ports.new workers.new }
 {
     if links.len() == 1 {
         let worker = &mut workers[0];
@@ -89,27 +92,16 @@ pub(crate) fn dump_all<L: Link + Send, R: Threads + Wait + Sync>(
     let (low_workers, high_workers) = workers.split_at_mut(middle);
     dump_halves(
         context,
-        HalfOfWorkers {
-            links: low_links,
-            ports: low_ports,
-            workers: low_workers,
-        },
-        HalfOfWorkers {
-            links: high_links,
-            ports: high_ports,
-            workers: high_workers,
-        },
+        (low_links, low_ports, low_workers),
+        (high_links, high_ports, high_workers),
     );
 }
 
-/// Half of a step's workers, with their links and their ports.
-struct HalfOfWorkers<'a, L> {
-    links: &'a mut [L],
-    ports: &'a mut [Port],
-    workers: &'a mut [DumpWorker],
-}
+// The links of half of a step's workers, their ports, and these workers.
+type HalfOfWorkers<'a, L> = (&'a mut [L], &'a mut [Port], &'a mut [DumpWorker]);
 
-// Lets two halves of the workers carry out orders side by side. A function of its own, so that what the closures require is what it
+// Lets two halves of the workers carry out orders side by side. A function of its own, so that what the closures
+// require is what it
 // is given.
 #[cycle(halves)]
 fn dump_halves<L: Link + Send, R: Threads + Wait + Sync>(
@@ -117,30 +109,30 @@ fn dump_halves<L: Link + Send, R: Threads + Wait + Sync>(
     low: HalfOfWorkers<'_, L>,
     high: HalfOfWorkers<'_, L>,
 )
-    requires ready { AreReady L.sent L.failed context.now.queue.now context.now.stores.now context.now.labels.now context.now.orders.now low.links.now low.ports.now low.workers.now
-        × AreReady L.sent L.failed context.now.queue.now context.now.stores.now context.now.labels.now context.now.orders.now high.links.now high.ports.now high.workers.now }
-    ensures low { AllWorked L.sent L.failed context.now.queue.now (ids_of context.now.labels.now) context.now.orders.now
-        low.entry.links.now low.exit.0.now low.entry.ports.now low.exit.1.0.now low.exit.1.1.0.now }
-    ensures high { AllWorked L.sent L.failed context.now.queue.now (ids_of context.now.labels.now) context.now.orders.now
-        high.entry.links.now high.exit.0.now high.entry.ports.now high.exit.1.0.now high.exit.1.1.0.now }
+    requires ready { AreReady L.sent L.failed context.now.queue.now context.now.stores.now context.now.labels.now
+        context.now.orders.now low.0.now low.1.now low.2.now
+        × AreReady L.sent L.failed context.now.queue.now context.now.stores.now context.now.labels.now
+        context.now.orders.now high.0.now high.1.now high.2.now }
+    ensures low { AllWorked L.sent L.failed context.now.queue.now (ids_of context.now.labels.now)
+        context.now.orders.now low.entry.0.now low.exit.0.now low.entry.1.now low.exit.1.0.now low.exit.1.1.0.now }
+    ensures high { AllWorked L.sent L.failed context.now.queue.now (ids_of context.now.labels.now)
+        context.now.orders.now high.entry.0.now high.exit.0.now high.entry.1.now high.exit.1.0.now high.exit.1.1.0.now }
 {
-    let HalfOfWorkers {
-        links: low_links,
-        ports: low_ports,
-        workers: low_workers,
-    } = low;
-    let HalfOfWorkers {
-        links: high_links,
-        ports: high_ports,
-        workers: high_workers,
-    } = high;
+    let (low_links, low_ports, low_workers) = low;
+    let (high_links, high_ports, high_workers) = high;
     let mut low = ||
-        requires { IsSync R.row × IsSend L.row × AreReady L.sent L.failed context.now.queue.now context.now.stores.now context.now.labels.now context.now.orders.now low_links.now low_ports.now low_workers.now }
-        ensures { AllWorked L.sent L.failed context.entry.now.queue.now (ids_of context.entry.now.labels.now) context.entry.now.orders.now low_links.entry.now low_links.exit.now low_ports.entry.now low_ports.exit.now low_workers.exit.now }
+        requires { IsSync R.row × IsSend L.row × AreReady L.sent L.failed context.now.queue.now context.now.stores.now
+            context.now.labels.now context.now.orders.now low_links.now low_ports.now low_workers.now }
+        ensures { AllWorked L.sent L.failed context.entry.now.queue.now (ids_of context.entry.now.labels.now)
+            context.entry.now.orders.now low_links.entry.now low_links.exit.now low_ports.entry.now low_ports.exit.now
+            low_workers.exit.now }
     { dump_all(context, low_links, low_ports, low_workers) };
     let mut high = ||
-        requires { IsSync R.row × IsSend L.row × AreReady L.sent L.failed context.now.queue.now context.now.stores.now context.now.labels.now context.now.orders.now high_links.now high_ports.now high_workers.now }
-        ensures { AllWorked L.sent L.failed context.entry.now.queue.now (ids_of context.entry.now.labels.now) context.entry.now.orders.now high_links.entry.now high_links.exit.now high_ports.entry.now high_ports.exit.now high_workers.exit.now }
+        requires { IsSync R.row × IsSend L.row × AreReady L.sent L.failed context.now.queue.now context.now.stores.now
+            context.now.labels.now context.now.orders.now high_links.now high_ports.now high_workers.now }
+        ensures { AllWorked L.sent L.failed context.entry.now.queue.now (ids_of context.entry.now.labels.now)
+            context.entry.now.orders.now high_links.entry.now high_links.exit.now high_ports.entry.now
+            high_ports.exit.now high_workers.exit.now }
     { dump_all(context, high_links, high_ports, high_workers) };
     join_mut(context.rt, &mut low, &mut high);
 }

@@ -16,7 +16,8 @@ pub struct TakenPacket {
     pub stored: Stored,
 }
 
-/// A link that keeps what is sent over it. It fails once, after a number of sends, or never, and where memory for a packet is refused.
+/// A link that keeps what is sent over it. It fails once, after a number of sends, or never, and where memory for a
+/// packet is refused.
 #[derive(Drop)]
 pub struct MemoryLink {
     alloc: Global,

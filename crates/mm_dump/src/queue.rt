@@ -1,5 +1,7 @@
-//! The queue of a step's orders, by their numbers. All numbers are pushed before the workers start, and after those of the orders
-//! one more for each worker: a number that no order has tells the worker which takes it that no order is left. Each step uses the
+//! The queue of a step's orders, by their numbers. All numbers are pushed before the workers start, and after those of
+//! the orders
+//! one more for each worker: a number that no order has tells the worker which takes it that no order is left. Each
+//! step uses the
 //! queue again: what the last one left is taken first, and the numbers begin at 0 anew.
 ghost use Rattle.std.specs.Prelude.{◌≡◌, ℕ, ◌+◌, ◌<◌, ◌≤◌, List, [], ◌∷◌, ◌++◌, length, IfOk};
 ghost use Rattle.crossbeam_queue.specs.Passes.{view, IsPassOf, ruled_capacity};
@@ -13,7 +15,8 @@ use std::alloc::Global;
 use std::collections::LinkedList;
 use std::sync::Wait;
 
-/// What a pass of the queue knows: its parts of the right to know the whole, how many numbers were pushed, and which of them it
+/// What a pass of the queue knows: its parts of the right to know the whole, how many numbers were pushed, and which of
+/// them it
 /// took. No value of it is made.
 pub struct QueueView {
     pub parts: u64,
@@ -21,7 +24,8 @@ pub struct QueueView {
     pub taken: LinkedList<u32>,
 }
 
-/// The queue's rule: the numbers are taken in order, each by one pass, and those still queued come after all that were taken.
+/// The queue's rule: the numbers are taken in order, each by one pass, and those still queued come after all that were
+/// taken.
 pub(crate) struct EachTakenOnce;
 
 impl Protocol<u32, QueueView> for EachTakenOnce {
@@ -54,7 +58,8 @@ impl Join<QueueView> for SplitOne {
     ghost spent = { queue_view 0 0 [] };
 }
 
-/// The next number is pushed by the pass with all parts, and 0 where it took all that were pushed before. What it took is forgotten.
+/// The next number is pushed by the pass with all parts, and 0 where it took all that were pushed before. What it took
+/// is forgotten.
 pub(crate) struct PushNumber;
 
 impl Outcome<u32, QueueView> for PushNumber {
@@ -125,13 +130,15 @@ pub(crate) fn push_all<R: Wait>(rt: &R, queue: &OrderQueue, pass: &mut OrderPass
     }
 }
 
-// Takes the next number. There is one for each worker after those of the orders, so a worker does not wait for one in vain.
+// Takes the next number. There is one for each worker after those of the orders, so a worker does not wait for one in
+// vain.
 pub(crate) fn take_next<R: Wait>(rt: &R, queue: &OrderQueue, pass: &mut OrderPass) -> u32
     requires pass { IsPassOf queue.now pass.old }
     requires part { 0 < (view pass.old).parts }
     ensures pass { IsPassOf queue.now pass.new }
     ensures within { result < (view pass.old).pushed }
-    ensures taken { view pass.new ≡ queue_view (view pass.old).parts (view pass.old).pushed ((view pass.old).taken ++ result ∷ []) }
+    ensures taken { view pass.new
+        ≡ queue_view (view pass.old).parts (view pass.old).pushed ((view pass.old).taken ++ result ∷ []) }
     ensures few { length (view pass.old).taken < (view pass.old).pushed }
 {
     for _ in rt.forever() {

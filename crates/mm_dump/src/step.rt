@@ -3,7 +3,7 @@ ghost use Rattle.std.specs.Prelude.{◌≡◌, ◌≤◌, ◌^◌, [], length, m
 ghost use Rattle.mm_desk.specs.declared.desk.TheConstants.{MAX_SEATS};
 ghost use Rattle.mm_desk.specs.Machine.{IsState};
 ghost use Rattle.mm_shared.specs.Stores.{states_of, labels_of, stores_in, AreAtRest};
-ghost use Rattle.mm_dump.specs.Dumped.{MayDump, CarriesOut};
+ghost use Rattle.mm_dump.specs.Dumped.{MayDump, CarriesOut, LeavesStores};
 
 use crate::buffers::{DumpBuffers, hire, join_passes, reserve_dump};
 use crate::dumper::{DumpContext, DumpWorker, dump_all};
@@ -18,15 +18,16 @@ use std::alloc::Global;
 use std::sync::Wait;
 use std::thread::Threads;
 
-/// How a step's dump went: the worst cause for which an order broke, where one did, and how many blocks of the pass window it
-/// spent: one for each packet sent, and one for each send that failed.
+/// What a step's dump did: the worst cause for which an order broke, if one broke, and how many blocks of the pass
+/// window
+/// it spent: one for each packet sent, and one for each send that failed.
 #[derive(Clone, Copy, Debug, PartialEq, Eq)]
 pub struct Dumped {
     pub broken: Option<OrderBroken>,
     pub spent: u64,
 }
 
-// How a dump without orders went.
+// What a dump without orders does.
 const NOTHING: Dumped = Dumped {
     broken: None,
     spent: 0,
@@ -45,10 +46,13 @@ fn spent_by(workers: &[DumpWorker]) -> u64
     spent
 }
 
-/// Carries out a step's dump orders, of which no two name one store, over stores that are open: each link gets a worker, as far as there are
-/// orders. It takes orders from one queue until none is left, and sends the packets of each before it deletes them. A worker whose order
-/// breaks takes no further one, and the others go on. A store is locked during a call on it and not during a send. Nothing but a packet's copy
-/// takes memory. Without orders no worker is needed.
+/// Carries out a step's dump orders, of which no two name one store, over stores that are open: each link gets a
+/// worker,
+/// as far as there are orders. It takes orders from one queue until none is left, and sends the packets of each before
+/// it
+/// deletes them. A worker whose order breaks takes no further one, and the others go on. A store is locked during a
+/// call
+/// on it and not during a send. Nothing but a packet's copy takes memory. Without orders no worker is needed.
 pub fn dump_open<L: Link + Send, R: Threads + Wait + Sync>(
     rt: &R,
     alloc: Global,
@@ -59,11 +63,10 @@ pub fn dump_open<L: Link + Send, R: Threads + Wait + Sync>(
 ) -> Dumped
     requires rest { AreAtRest stores.old }
     requires may { MayDump L.failed orders.now (stores_in stores.old) links.old }
-    ensures labels { labels_of (stores_in stores.new) ≡ labels_of (stores_in stores.old) }
     ensures carried { CarriesOut L.sent L.failed (map (λ h. h.id) (stores_in stores.old)) orders.now
-        (states_of (stores_in stores.old)) (states_of (stores_in stores.new)) links.old links.new result.broken result.spent }
-    ensures sound { All (λ h. IsState h.state) (stores_in stores.new) }
-    ensures rest { AreAtRest stores.new }
+        (states_of (stores_in stores.old)) (states_of (stores_in stores.new)) links.old links.new
+        result.broken result.spent }
+    ensures stores { LeavesStores stores.old stores.new }
     // Without orders nothing is done.
     ensures without_orders { orders.now ≡ [] → (result ≡ record { broken = None; spent = 0 })
         × (stores_in stores.new ≡ stores_in stores.old) × (links.new ≡ links.old) }
@@ -112,8 +115,9 @@ fn read_states(stores: &[Held])
     }
 }
 
-/// Carries out a step's dump orders as `dump_open` does. The queue, the workers and the shared stores are reserved for this dump alone. The
-/// stores and the links are lent: each store is in its place again afterwards. Where there is no memory for these, nothing is begun.
+/// Carries out a step's dump orders as `dump_open` does. The queue, the workers and the shared stores are reserved for
+/// this dump alone. The stores and the links are lent: each store is in its place again afterwards. Where there is no
+/// memory for these, nothing is begun.
 pub fn dump<L: Link + Send, R: Threads + Wait + Sync>(
     rt: &R,
     alloc: Global,

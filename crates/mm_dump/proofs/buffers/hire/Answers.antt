@@ -1,4 +1,5 @@
-use Rattle.mm_dump.proofs.Words.{rules, ℕ, List, [], All, refl, sym, ap, subst, ◌∙◌, arith, All-push, DumpWorker, QueueView, queue_view, IsHired}
+use Rattle.mm_dump.proofs.Words.{rules, ℕ, List, [], All, refl, sym, ap, subst, ◌∙◌, arith, All-push, DumpWorker}
+use Rattle.mm_dump.proofs.Words.{QueueView, queue_view, IsHired}
 use Rattle.mm_dump.proofs.Moves.{forks}
 use Rattle.mm_dump.proofs.buffers.hire.Goals as goal
 
@@ -19,5 +20,10 @@ loop-preserved g c =
       room = search rules;
       hired = subst (λ (ws : List DumpWorker). All (IsHired c.args.queue.now) ws) (sym c.push_reserved.ensures.items)
           (All-push (IsHired c.args.queue.now) c.loop.workers.items _ c.loop.invariant.hired
-          (record { pass = c.another.ensures.queue.1; first = right ∙ ap (λ (n : ℕ). queue_view 1 n []) (sym pushed); few = omega (arith, pushed, c.loop.invariant.few); spent = refl }));
+          (record {
+            pass = c.another.ensures.queue.1;
+            first = right ∙ ap (λ (n : ℕ). queue_view 1 n []) (sym pushed);
+            few = omega (arith, pushed, c.loop.invariant.few);
+            spent = refl;
+          }));
     }

@@ -1,22 +1,29 @@
-use Rattle.mm_dump.proofs.Words.{[], refl, get_or-map, StoreLabel}
-use Rattle.mm_dump.proofs.OneOrder.{broken, only_called, whole}
+use Rattle.mm_dump.proofs.Words.{[], refl, arith, length-append, get_or-map, StoreLabel}
+use Rattle.mm_dump.proofs.OneOrder.{broken, whole}
 use Rattle.mm_dump.proofs.carrying.carry.Goals as goal
 
-pub returns-in-Err-clause-carried : goal.returns-in-Err-clause-carried
-returns-in-Err-clause-carried g c =
-    let named = get_or-map (λ (s : StoreLabel). s.id) c.args.context.now.labels.now c.args.order.place c.index-context-place.result [] c.requires.named in
+pub returns-in-Err : goal.returns-in-Err
+returns-in-Err g c =
+    let named = get_or-map (λ (s : StoreLabel). s.id) c.args.context.now.labels.now c.args.order.place
+    c.index-context-place.result [] c.requires.named in
+    let breaks = c.in-Err.ensures.err in
     record {
-      sent = c.in-Err.ensures.err.sent;
-      unsent = c.in-Err.ensures.err.unsent;
-      gone = rw named (broken _ c.args.order _ _ _ (only_called _ _ _ _ _ _ c.begin.ensures.called refl refl refl) _ c.in-Err.ensures.err);
+      few = omega (
+        arith,
+        breaks.retrieval.most,
+        breaks.retrieval.advance.blocks,
+        length-append breaks.sent breaks.unsent,
+      );
+      carried = broken _ c.args.order _ named _ _ _ c.begin.ensures.called refl refl refl _ breaks;
     }
 
-pub returns-clause-carried : goal.returns-clause-carried
-returns-clause-carried g c =
-    let named = get_or-map (λ (s : StoreLabel). s.id) c.args.context.now.labels.now c.args.order.place c.index-context-place.result [] c.requires.named in
+pub returns : goal.returns
+returns g c =
+    let named = get_or-map (λ (s : StoreLabel). s.id) c.args.context.now.labels.now c.args.order.place
+    c.index-context-place.result [] c.requires.named in
+    let sends = c.in-Ok.ensures.ok in
     record {
-      sent = c.in-Ok.ensures.ok.sent;
-      unsent = [];
-      gone = rw named (whole _ c.args.order _ _ _ (only_called _ _ _ _ _ _ c.begin.ensures.called refl refl refl) _ _
-          c.in-Ok.ensures.ok c.delete_sent.ensures.called);
+      few = omega (arith, sends.retrieval.most, sends.retrieval.advance.blocks, length-append sends.sent []);
+      carried = whole _ c.args.order _ named _ _ _ c.begin.ensures.called refl refl refl _ _ sends
+          c.delete_sent.ensures.called;
     }

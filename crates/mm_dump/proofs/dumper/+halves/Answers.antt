@@ -5,8 +5,10 @@ use Rattle.mm_dump.proofs.dumper.+halves.Goals as goal
 pub dump_all-returns-then-links-eq1 : goal.dump_all-returns-then-links-eq1
 dump_all-returns-then-links-eq1 g t c =
     let one : length c.args.links.now ≡ 1 = omega (arith, c.if-links-eq1.true) in
-    let worker : DumpWorker = record { pass = c.work-why.new.worker.pass; spent = c.work-why.new.worker.spent; why = c.work-why.result } in
-    let back : IsBack c.args.context.now.queue.now worker = record { pass = c.work-why.ensures.back.pass; part = c.work-why.ensures.back.part; bound = c.work-why.ensures.back.bound } in
+    let worker : DumpWorker = record c.work-why.new.worker { why = c.work-why.result } in
+    let of = c.work-why.ensures.back in
+    let back : IsBack c.args.context.now.queue.now worker =
+    record { pass = of.pass; part = of.part; bound = of.bound } in
     record {
       worked = one_worked g.L.Link.sent g.L.Link.failed c.args.context.now.queue.now _ _
           (record {
@@ -17,13 +19,15 @@ dump_all-returns-then-links-eq1 g t c =
             worker = worker;
             courses = c.work-why.ensures.worked.0;
           })
-          c.args.links.now c.args.ports.now c.args.workers.now c.work-why.ensures.worked.1 back one c.requires.ready.ports_count c.requires.ready.workers_count
+          c.args.links.now c.args.ports.now c.args.workers.now c.work-why.ensures.worked.1 back one
+          c.requires.ready.ports_count c.requires.ready.workers_count
           c.index-links-0.result refl c.index-ports-0.result refl;
     }
 
 pub dump_all-dump_halves-requires-clause-ready : goal.dump_all-dump_halves-requires-clause-ready
 dump_all-dump_halves-requires-clause-ready g t c κs within =
-    both_ready g.L.Link.sent g.L.Link.failed _ _ _ _ _ _ _ c.split_at_mut-low_links.ensures.value c.split_at_mut-low_ports.ensures.value
+    both_ready g.L.Link.sent g.L.Link.failed _ _ _ _ _ _ _ c.split_at_mut-low_links.ensures.value
+    c.split_at_mut-low_ports.ensures.value
     _ _ _ _ _ _ c.split_at_mut-low_workers.ensures.value c.requires.ready
     (omega (arith, c.split_at_mut-low_links.ensures.front_len, c.split_at_mut-low_ports.ensures.front_len))
     (omega (arith, c.split_at_mut-low_links.ensures.front_len, c.split_at_mut-low_workers.ensures.front_len))
@@ -32,7 +36,8 @@ dump_all-dump_halves-requires-clause-ready g t c κs within =
 
 pub dump_all-returns : goal.dump_all-returns
 dump_all-returns g t c = record {
-  worked = both_worked g.L.Link.sent g.L.Link.failed c.args.context.now.queue.now c.args.links.now _ _ c.args.ports.now _ _
+  worked = both_worked g.L.Link.sent g.L.Link.failed c.args.context.now.queue.now c.args.links.now _ _ c.args.ports.now
+      _ _
       c.split_at_mut-low_links.ensures.value c.split_at_mut-low_ports.ensures.value
       _ _ _ _ _ _ _ _ c.dump_halves.ensures.low c.dump_halves.ensures.high;
 }

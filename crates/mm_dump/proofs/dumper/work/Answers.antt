@@ -1,4 +1,5 @@
-use Rattle.mm_dump.proofs.Words.{rules, ◌≡◌, ◌+◌, ◌<◌, ◌≤◌, true, [], ◌∷◌, length, refl, ap, ◌∙◌, arith, length-append, None, is_some, view, ids_of, QueueView}
+use Rattle.mm_dump.proofs.Words.{rules, ◌≡◌, ◌+◌, ◌<◌, ◌≤◌, true, [], ◌∷◌, length, refl, ap, ◌∙◌, arith, length-append}
+use Rattle.mm_dump.proofs.Words.{None, is_some, view, ids_of, QueueView}
 use Rattle.mm_dump.proofs.Working.{worked_start, worked_past, worked_more, worked_stopped}
 use Rattle.mm_dump.proofs.dumper.work.Goals as goal
 
@@ -13,32 +14,58 @@ loop-init g c =
       pushed = refl;
       spent = omega (arith, ap length none, c.requires.hired.spent);
       well = refl;
-      worked = ([], worked_start (ids_of c.args.context.now.labels.now) c.args.context.now.orders.now _ _ _ none refl refl refl c.requires.hired.spent);
+      worked = (
+        [],
+        worked_start (ids_of c.args.context.now.labels.now) c.args.context.now.orders.now _ _ _ none refl
+            refl refl c.requires.hired.spent,
+      );
     }
 
 -- 65536 orders of 2^32 blocks are 2^48 blocks
 pub carry-broken-requires-clause-blocks : goal.carry-broken-requires-clause-blocks
 carry-broken-requires-clause-blocks g c =
-    let less : c.loop.worker.spent < 281474976710656 = omega (arith, c.loop.invariant.spent, c.take_next-number.ensures.few, c.loop.invariant.pushed, c.requires.hired.few) in
+    let less : c.loop.worker.spent < 281474976710656 = omega (
+      arith,
+      c.loop.invariant.spent,
+      c.take_next-number.ensures.few,
+      c.loop.invariant.pushed,
+      c.requires.hired.few,
+    ) in
     less
 
 pub returns-then-number-context-clause-worked : goal.returns-then-number-context-clause-worked
 returns-then-number-context-clause-worked g c =
-    let more = ap (λ (v : QueueView). v.taken) c.take_next-number.ensures.taken in
-    (c.loop.invariant.worked.0, worked_past (ids_of c.args.context.now.labels.now) _ _ _ _ _ _ _ more c.loop.invariant.worked.1 c.if-number-context.true)
+    let more = ap (λ (v : QueueView). v.taken) c.take_next-number.ensures.taken in (
+      c.loop.invariant.worked.0,
+      worked_past (ids_of c.args.context.now.labels.now) _ _ _ _ _ _ _ more
+          c.loop.invariant.worked.1 c.if-number-context.true,
+    )
 
 pub returns-then-number-context-clause-back : goal.returns-then-number-context-clause-back
 returns-then-number-context-clause-back g c = record {
   pass = search rules;
   part = ap (λ (v : QueueView). v.parts) c.take_next-number.ensures.taken ∙ c.loop.invariant.part;
-  bound = omega (arith, c.loop.invariant.spent, c.take_next-number.ensures.few, c.loop.invariant.pushed, c.requires.hired.few);
+  bound = omega (
+    arith,
+    c.loop.invariant.spent,
+    c.take_next-number.ensures.few,
+    c.loop.invariant.pushed,
+    c.requires.hired.few,
+  );
 }
 
 pub returns-then-is_some-clause-back : goal.returns-then-is_some-clause-back
 returns-then-is_some-clause-back g c = record {
   pass = search rules;
   part = ap (λ (v : QueueView). v.parts) c.take_next-number.ensures.taken ∙ c.loop.invariant.part;
-  bound = omega (arith, c.carry-broken.ensures.few, c.loop.invariant.spent, c.take_next-number.ensures.few, c.loop.invariant.pushed, c.requires.hired.few);
+  bound = omega (
+    arith,
+    c.carry-broken.ensures.few,
+    c.loop.invariant.spent,
+    c.take_next-number.ensures.few,
+    c.loop.invariant.pushed,
+    c.requires.hired.few,
+  );
 }
 
 pub returns-then-is_some-clause-worked : goal.returns-then-is_some-clause-worked
@@ -53,6 +80,7 @@ pub loop-preserved : goal.loop-preserved
 loop-preserved g c =
     let more = ap (λ (v : QueueView). v.taken) c.take_next-number.ensures.taken in
     let none : c.carry-broken.result ≡ None = search rules in
+    let carried = rw none at c.carry-broken.ensures.carried in
     let spent : c.carry-broken.new.spent ≤ c.loop.worker.spent + 4294967296 = c.carry-broken.ensures.few in
     record {
       can_next = tt;
@@ -60,8 +88,16 @@ loop-preserved g c =
       pass = search rules;
       part = ap (λ (v : QueueView). v.parts) c.take_next-number.ensures.taken ∙ c.loop.invariant.part;
       pushed = ap (λ (v : QueueView). v.pushed) c.take_next-number.ensures.taken ∙ c.loop.invariant.pushed;
-      spent = omega (arith, spent, c.loop.invariant.spent, ap (λ (v : QueueView). length v.taken) c.take_next-number.ensures.taken, length-append (view c.loop.worker.pass).taken (c.take_next-number.result ∷ []));
-      well = search rules;
+      spent = omega (
+        arith,
+        spent,
+        c.loop.invariant.spent,
+        ap (λ (v : QueueView). length v.taken)
+            c.take_next-number.ensures.taken,
+        length-append (view c.loop.worker.pass).taken
+            (c.take_next-number.result ∷ []),
+      );
+      well = carried.well ∙ c.loop.invariant.well;
       worked = worked_more (ids_of c.args.context.now.labels.now) _ _ _ _ _ _ _ more c.loop.invariant.worked.1 _ None _
-          c.if-number-context.false refl (rw none at c.carry-broken.ensures.carried);
+          c.if-number-context.false refl carried;
     }

@@ -46,8 +46,8 @@ returns-clause-step g c =
         broken = dumped.broken;
         spent = dumped.spent;
         dumps = carried;
-        labels = c.dump_open-broken.ensures.labels ∙ c.record_open-fault.ensures.labels;
-        sound = c.dump_open-broken.ensures.sound;
+        labels = c.dump_open-broken.ensures.stores.labels ∙ c.record_open-fault.ensures.labels;
+        sound = c.dump_open-broken.ensures.stores.sound;
         early = at_early fault c.args.orders.now (λ none.
             let nothing = idle none in
             (ap (λ d. d.broken) nothing.0, ap (λ d. d.spent) nothing.0, nothing.1, nothing.2));
