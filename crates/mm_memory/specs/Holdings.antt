@@ -1,5 +1,6 @@
 -- A mass memory: its named packet stores in order, and the rows of its storage control.
-use Rattle.std.specs.Prelude.{◌≡◌, ◌≢◌, ◌<◌, ◌≤◌, ℕ, Bool, if◌then◌else◌, List, [], length, map, find, fold, slice_get, bytes_eq, AllPairs, Option}
+use Rattle.std.specs.Prelude.{◌≡◌, ◌≢◌, ◌<◌, ◌≤◌, ℕ, Bool, if◌then◌else◌, List, [], length, map, find, fold, slice_get}
+use Rattle.std.specs.Prelude.{bytes_eq, AllPairs, Option}
 use Rattle.std.specs.Option.{option_map}
 use Rattle.mm_base.specs.declared.limits.TheConstants.{MAX_STORES}
 use Rattle.mm_base.specs.declared.rows.RouteRow.{RouteRow}
@@ -26,7 +27,11 @@ pub record AreHeld (stores : List Held) : Type 0 where
 
 -- a store of the setup, empty, with its storage on
 abbrev pub opened : StoreRow → Held
-opened row = record { id = row.id; channel = row.channel; state = (step (opening (empty_store row.kind row.size)) Enable).1 }
+opened row = record {
+  id = row.id;
+  channel = row.channel;
+  state = (step (opening (empty_store row.kind row.size)) Enable).1;
+}
 
 -- the rows of these routes
 abbrev pub table_of : List RouteRow → List RouteRow
@@ -53,6 +58,6 @@ pub record StandsAt (id : List ℕ) (stores : List Held) (place : ℕ) : Type 0 
   pub within : place < length stores
   pub store : store_of id stores ≡ slice_get stores place
 
--- the stores, of which the one with this identifier is changed
+-- the stores, with the one that has this identifier changed
 abbrev pub with_changed : List ℕ → (Held → Held) → List Held → List Held
 with_changed id change stores = map (λ h. if has_id id h then change h else h) stores
