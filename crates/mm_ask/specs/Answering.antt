@@ -51,7 +51,8 @@ with_reports line asked reports s = fold (with_report line asked) s reports
 
 -- the lines on the instructions are printed
 abbrev pub with_answers : ℕ → List Answer → Standing → Standing
-with_answers line answers s = record s { text = s.text ++ answer_lines line 1 answers; outcome = fold outcome_after s.outcome answers }
+with_answers line answers s =
+    record s { text = s.text ++ answer_lines line 1 answers; outcome = fold outcome_after s.outcome answers }
 
 -- the line is refused whole: it says so, and nothing else changes
 abbrev pub refused_whole : ℕ → LineFault → Standing → Standing
@@ -66,14 +67,15 @@ pub record Applied (line : ℕ) (asked : SpacePacket) (s t : Standing) : Type 0 
   pub answers : List Answer
   pub memory : Holdings
   pub each : AppliesEach (instructions_of request) s.memory answers memory
-  pub after : t ≡ with_reports line asked (reports_on request line s.memory) (with_answers line answers (record s { memory = memory }))
+  pub after : t ≡ with_reports line asked (reports_on request line s.memory)
+      (with_answers line answers (record s { memory = memory }))
 
 -- what a line's request leaves
 abbrev pub AnswersTo : ℕ → Result SpacePacket LineFault → Standing → Standing → Type 0
 AnswersTo line (Err fault) s t = t ≡ refused_whole line fault s
 AnswersTo line (Ok asked) s t = Applied line asked s t
 
--- a line is refused for want of memory, which may be where its digits are good: no growth comes before that test
+-- a line is refused out of memory; its digits are valid then, since that test comes before memory is taken
 abbrev pub LacksMemory : ℕ → List ℕ → Standing → Standing → Type 0
 LacksMemory line octets s t = IsTrue (has_digits octets) × (t ≡ refused_whole line NoMemory s)
 

@@ -10,12 +10,11 @@ use Rattle.mm_ask.specs.declared.answering.Outcome.{Outcome}
 use Rattle.mm_ask.specs.Answering.{Standing, opened, Follows}
 use Rattle.mm_ask.specs.Lines.{PassesEach}
 
--- what lines leave, of which the first has this number
+-- what lines leave; they are numbered from this number on
 abbrev pub Converses : ℕ → List (List ℕ) → Standing → Standing → Type 0
 Converses = PassesEach Follows
 
--- the text answers the requests, line by line, from the memory of the setup on, and the outcome is
--- theirs
+-- the text answers the requests, line by line, from the memory of the setup on, and the outcome is theirs
 pub record Answers (setup requests : List ℕ) (outcome : Outcome) (text : List ℕ) : Type 0 where
   pub rows : SetupRows
   pub setup_says : setup_of setup ≡ Ok rows
@@ -24,7 +23,7 @@ pub record Answers (setup requests : List ℕ) (outcome : Outcome) (text : List 
   pub ends : outcome ≡ end.outcome
   pub says_all : text ≡ end.text
 
--- the fault of the setup, want of memory aside
+-- the fault of the setup, or out of memory
 abbrev pub IsSetupFault : List ℕ → Fault → Type 0
 IsSetupFault setup NoMemory = Unit {0}
 IsSetupFault setup e = setup_of setup ≡ Err e

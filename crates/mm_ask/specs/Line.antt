@@ -17,7 +17,7 @@ use Rattle.mm_ask.specs.Fault.{of_packet, of_request}
 abbrev pub has_digits : List ℕ → Bool
 has_digits line = (length line % 2 == 0) && list_all is_hex_digit line
 
--- what the digits spell; whatever is wrong with them is one refusal
+-- what the digits spell; every mistake in them is the same refusal
 abbrev pub digits_tested : Result (List ℕ) FromHexError → Result (List ℕ) LineFault
 digits_tested (Ok octets) = Ok octets
 digits_tested (Err e) = Err HexLine

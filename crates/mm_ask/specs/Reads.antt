@@ -1,5 +1,6 @@
 -- What the lines of packets read as.
-use Rattle.std.specs.Prelude.{◌≡◌, ℕ, ◌==◌, Bool, true, false, not, List, [], ◌∷◌, ◌++◌, filter, Option, Some, None, Result, Ok, Err}
+use Rattle.std.specs.Prelude.{◌≡◌, ℕ, ◌==◌, Bool, true, false, not, List, [], ◌∷◌, ◌++◌, filter, Option, Some, None}
+use Rattle.std.specs.Prelude.{Result, Ok, Err}
 use Rattle.mm_base.specs.Characters.{line_feed, space}
 use Rattle.mm_base.specs.Lines.{text_lines}
 use Rattle.mm_packet.specs.declared.header.PacketType.{PacketType}
@@ -58,8 +59,10 @@ ShowsOr number (Some fault) Shows s t = t ≡ with_refused number (of_request fa
 
 -- what a packet spells as a request, where it is a telecommand, and as a report, where it is telemetry
 abbrev pub ShowsData : PacketType → ℕ → SpacePacket → SoFar → SoFar → Type 0
-ShowsData (Telecommand source) number packet s t = ShowsOr number (request_fault packet) (ShowsRequest number packet) s t
-ShowsData (Telemetry counter destination time) number packet s t = ShowsOr number (report_fault packet) (ShowsReport packet) s t
+ShowsData (Telecommand source) number packet s t =
+    ShowsOr number (request_fault packet) (ShowsRequest number packet) s t
+ShowsData (Telemetry counter destination time) number packet s t =
+    ShowsOr number (report_fault packet) (ShowsReport packet) s t
 
 -- a packet is printed: its headers, and then what it spells
 abbrev pub ShowsPacket : ℕ → SpacePacket → SoFar → SoFar → Type 0
@@ -87,7 +90,7 @@ ShowsLine false line octets s t = ShowsDigits (labelled line octets) s t
 abbrev pub Shows : ℕ → List ℕ → SoFar → SoFar → Type 0
 Shows line octets s t = ShowsLine (is_answer octets) line octets s t
 
--- what lines leave, of which the first has this number
+-- what lines leave; they are numbered from this number on
 abbrev pub ShowsEach : ℕ → List (List ℕ) → SoFar → SoFar → Type 0
 ShowsEach = PassesEach Shows
 
@@ -100,4 +103,5 @@ pub record Reads (packets : List ℕ) (outcome : Outcome) (text : List ℕ) : Ty
 
 -- packets read as one text, with one outcome
 abbrev pub PacketsReadOneWay : Type 0
-PacketsReadOneWay = (packets : List ℕ) (a b : Outcome) (text other : List ℕ) → Reads packets a text → Reads packets b other → (a ≡ b) × (text ≡ other)
+PacketsReadOneWay = (packets : List ℕ) (a b : Outcome) (text other : List ℕ) → Reads packets a text
+    → Reads packets b other → (a ≡ b) × (text ≡ other)

@@ -34,7 +34,7 @@ pub(crate) struct Conversation {
     counters: Counters,
     text: Vec<u8>,
     outcome: Outcome,
-    // What is told beside the text, of which no contract speaks.
+    // What is told in addition to the text. No contract speaks of it.
     refused: Refusals,
 }
 
@@ -158,8 +158,7 @@ impl Conversation {
         Ok(())
     }
 
-    // Applies a request at the moment that is its line's number, and prints its answers and its
-    // reports.
+    // Applies a request at the moment that is its line's number, and prints its answers and its reports.
     fn apply(&mut self, alloc: Global, line: u64, asked: &Asked) -> Result<(), NoMemory>
         requires request { IsRequest asked.now.request }
         requires spelled { SpellsRequest asked.now.packet asked.now.request }

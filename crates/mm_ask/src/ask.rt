@@ -25,7 +25,7 @@ fn conversation_of(alloc: Global, setup: &Setup, requests: &[u8]) -> Result<Conv
 
 /// The text that answers the requests, one a line, to the memory of the setup; whether all was
 /// done that they asked, and what was refused. The moment of a request is its line's number.
-/// Otherwise the fault of the setup, or want of memory.
+/// Otherwise the fault of the setup, or out of memory.
 pub fn ask_bytes(alloc: Global, setup: &[u8], requests: &[u8]) -> Result<Replies, Fault>
     ensures answers { IfOk result (λ a. Answers setup.now requests.now a.outcome a.text.items) }
     ensures refused { IfErr result (IsSetupFault setup.now) }

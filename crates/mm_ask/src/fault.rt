@@ -9,12 +9,11 @@ use thiserror::Error;
 pub enum LineFault {
     /// A growth was refused.
     NoMemory,
-    /// The line has a character that is no hexadecimal digit, an odd number of digits, or octets
-    /// after its packet.
+    /// The line has a character that is no hexadecimal digit, an odd number of digits, or octets after its packet.
     HexLine,
-    /// A refusal of the packet other than want of memory.
+    /// A refusal of the packet other than out of memory.
     Packet(mm_packet::Fault),
-    /// A refusal of the request other than want of memory.
+    /// A refusal of the request other than out of memory.
     Request(mm_st15::Fault),
 }
 

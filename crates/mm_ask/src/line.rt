@@ -102,7 +102,8 @@ fn octets_within(room: &mut [u8], digits: &[u8]) -> Result<usize, LineFault>
     }
 }
 
-// The packet of digits that are no more than those of the longest packet that is stored. Their octets take no memory.
+// The packet that these digits spell, if they are no more than those of the longest stored packet. Its octets take no
+// memory.
 #[tactic(auto, unfolding(crate::specs::Line::packet_of))]
 fn short_packet_of(alloc: Global, digits: &[u8]) -> Result<Packet, LineFault>
     requires { length digits.now ≤ 2 * BLOCK }

@@ -28,7 +28,7 @@ use std::marker::Model;
 struct Reading {
     text: Vec<u8>,
     outcome: Outcome,
-    // What is told beside the text, of which no contract speaks.
+    // What is told in addition to the text. No contract speaks of it.
     refused: Refusals,
 }
 
@@ -66,7 +66,8 @@ fn spaced_packet(alloc: Global, digits: &[u8]) -> Result<Packet, LineFault>
 }
 
 impl Reading {
-    ghost use Rattle.mm_ask.specs.Reads.{nothing, with_lines, with_refused, ShowsRequest, ShowsReport, ShowsOr, ShowsPacket, ShowsResult};
+    ghost use Rattle.mm_ask.specs.Reads.{nothing, with_lines, with_refused, ShowsRequest, ShowsReport, ShowsOr};
+    ghost use Rattle.mm_ask.specs.Reads.{ShowsPacket, ShowsResult};
 
     fn new(alloc: Global) -> Reading
         ensures { result ≡ nothing }

@@ -1,4 +1,4 @@
-//! What is refused of a text, for those who say more of it than its lines do.
+//! The refusals in a text, for callers that report more than its lines say.
 
 use crate::answering::Outcome;
 use mm_base::{Refusal, Refused};
@@ -15,7 +15,7 @@ pub enum Place {
     Line(u64),
     /// An instruction of the request in a line; both count from 1.
     Instruction { line: u64, number: u64 },
-    /// As an answer spells it that `read` prints as it stands.
+    /// As it stands in an answer that `read` prints unchanged.
     Said(Vec<u8>),
 }
 
@@ -26,7 +26,8 @@ pub struct RefusedPlace {
     pub number: u8,
 }
 
-/// What is refused of a text: of each refusal the first places, in the order of the lines, and how often it comes, by its number.
+/// What is refused of a text: of each refusal the first places, in the order of the lines, and how often it comes, by
+/// its number.
 #[derive(Debug, Drop)]
 pub struct Refusals {
     pub first: Vec<RefusedPlace>,
@@ -69,7 +70,7 @@ impl Refusals {
         Ok(())
     }
 
-    /// Adds what an answer says that is printed as it stands, if it says that something is refused.
+    /// Adds the refusal that an answer printed unchanged reports, if it reports one.
     pub(crate) fn add_said(
         &mut self,
         alloc: Global,

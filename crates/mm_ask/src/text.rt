@@ -9,7 +9,7 @@ use mm_base::{Refusal, Refused};
 use mm_memory::Answer;
 use std::alloc::{AllocError, Global};
 
-/// Whether memory was found for what a text was to have.
+/// Whether there was memory for what the text needs.
 pub(crate) type Pushed = Result<(), AllocError>;
 
 /// Ends a line.

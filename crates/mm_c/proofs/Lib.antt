@@ -1,4 +1,3 @@
-pub mod Rooms
 pub mod Values
 pub mod Held
 pub mod Small

@@ -5,6 +5,6 @@ use Rattle.mm_told.specs.declared.answer.Answer.{Answer}
 use Rattle.mm_told.specs.declared.answer.Status.TheVariants.{Written}
 use Rattle.mm_c.specs.Serving.{ended}
 
--- at most so many reports may wait from now on, and nothing else has changed
+-- at most this many reports may wait from now on, and nothing else has changed
 abbrev pub Bounds : ℕ → Answer → Serving → Serving → Type 0
 Bounds reports answer s t = (t ≡ record s { bound = Some reports }) × (answer ≡ ended Written)

@@ -20,7 +20,7 @@ use Rattle.mm_told.specs.declared.answer.Status.TheVariants.{TooSmall}
 use Rattle.mm_told.specs.declared.reason.Reason.{Reason}
 use Rattle.mm_told.specs.declared.verdict.VerdictTold.{VerdictTold}
 
--- it is that of a fault for which P holds, want of memory aside, which may come at any time
+-- it is the reason of a fault for which P holds, or out of memory, which may come at any time
 abbrev pub IsOf : (Fault → Type 0) → Reason → Type 0
 IsOf P reason = (fault : Fault) × (fault ≢ NoMemory → P fault) × (reason ≡ of_texts fault)
 
@@ -32,8 +32,8 @@ IsWhyUnplanned setup forecast = IsOf (IsPlanningFault setup forecast)
 abbrev pub IsWhyUnjudged : List ℕ → List ℕ → List ℕ → Reason → Type 0
 IsWhyUnjudged setup forecast plan = IsOf (IsFaultOf setup forecast plan)
 
--- the verdict on a plan text is told, also as its line; it is `Least` only where no plan that fits loses fewer blocks, and `LeastInOrder`
--- only where none loses fewer of the first stores either
+-- the verdict on a plan text is told, also as its line; it is `Least` only where no plan that fits loses fewer blocks,
+-- and `LeastInOrder` only where none loses fewer of the first stores either
 pub record Judges (setup forecast plan : List ℕ) (told : VerdictTold) (line : List ℕ) : Type 0 where
   pub verdict : Verdict
   pub checks : Checks setup forecast plan verdict
@@ -59,7 +59,8 @@ pub record Replies (setup requests : List ℕ) (code : ℕ) (text : List ℕ) : 
 
 -- no outcome is told, for this reason: the fault of the setup
 abbrev pub LeavesUnasked : List ℕ → ℕ → Reason → Type 0
-LeavesUnasked setup code reason = ((fault : SetupFault) × IsSetupFault setup fault × (reason ≡ of_setup fault)) × (code ≡ 0)
+LeavesUnasked setup code reason =
+    ((fault : SetupFault) × IsSetupFault setup fault × (reason ≡ of_setup fault)) × (code ≡ 0)
 
 -- the text says the packets in words, and the code is that of its outcome
 pub record IsInWords (packets : List ℕ) (code : ℕ) (text : List ℕ) : Type 0 where
@@ -67,11 +68,11 @@ pub record IsInWords (packets : List ℕ) (code : ℕ) (text : List ℕ) : Type 
   pub reads : Reads packets outcome text
   pub code_is : code ≡ code_of_outcome outcome
 
--- no outcome is told, for want of memory
+-- no outcome is told, and the reason is out of memory
 abbrev pub LeavesUnread : ℕ → Reason → Type 0
 LeavesUnread code reason = (reason ≡ no_memory) × (code ≡ 0)
 
--- the reason is want of memory
+-- the reason is out of memory
 abbrev pub IsNoMemory : Reason → Type 0
 IsNoMemory reason = reason ≡ no_memory
 

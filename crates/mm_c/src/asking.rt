@@ -7,7 +7,7 @@ use mm_ask::{Outcome, ask_bytes, read_bytes};
 use mm_told::{Answer, Reason, tell_text};
 use std::alloc::Global;
 
-// The code of an outcome. 0 is that of none.
+// The code of an outcome. 0 stands for no outcome.
 fn code_of_outcome(outcome: Outcome) -> u32
     ensures { result ≡ code_of_outcome outcome }
 {
@@ -17,8 +17,8 @@ fn code_of_outcome(outcome: Outcome) -> u32
     }
 }
 
-/// The lines that answer requests to the memory of a setup, as `ask_bytes` of `mm_ask` gives them; and in `outcome` 1 where all was
-/// done that they asked, 2 where something was refused, and 0 where the call is refused.
+/// The lines that answer requests to the memory of a setup, as `ask_bytes` of `mm_ask` gives them; and in `outcome` 1
+/// where all was done that they asked, 2 where something was refused, and 0 where the call is refused.
 #[unsafe(no_mangle)]
 pub extern "C" fn rudlayog_ask(
     alloc: Global,
@@ -28,7 +28,8 @@ pub extern "C" fn rudlayog_ask(
     outcome: &mut u32,
     answer: &mut Answer,
 )
-    ensures told { Tells (Replies setup.now requests.now outcome.new) (LeavesUnasked setup.now outcome.new) out.old out.new answer.new }
+    ensures told { Tells (Replies setup.now requests.now outcome.new) (LeavesUnasked setup.now outcome.new)
+        out.old out.new answer.new }
 {
     match ask_bytes(alloc, setup, requests) {
         Ok(replies) => {
@@ -42,8 +43,8 @@ pub extern "C" fn rudlayog_ask(
     }
 }
 
-/// What the packets of a text are, in words, as `read_bytes` of `mm_ask` says it; and in `outcome` 1 where no line was refused, 2 where one
-/// was, and 0 where the call is refused, out of memory.
+/// What the packets of a text are, in words, as `read_bytes` of `mm_ask` says it; and in `outcome` 1 where no line was
+/// refused, 2 where one was, and 0 where the call is refused, out of memory.
 #[unsafe(no_mangle)]
 pub extern "C" fn rudlayog_read(
     alloc: Global,

@@ -8,7 +8,7 @@ use crate::memory::ended;
 use mm_told::{Answer, Status};
 use std::alloc::Global;
 
-/// Lets at most so many reports wait from now on, as `Service::bound_waiting` of `mm_service` does.
+/// Sets how many reports may wait from now on, as `Service::bound_waiting` of `mm_service` does.
 #[unsafe(no_mangle)]
 pub extern "C" fn rudlayog_memory_bound(
     alloc: Global,

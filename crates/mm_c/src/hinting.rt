@@ -12,7 +12,7 @@ fn text_of(alloc: Global, hint: &Hint) -> Result<Vec<u8>, NoMemory> {
     Ok(text.into_bytes())
 }
 
-// What is found in texts that are refused so; no octet where no more can be said.
+// The hint found in texts that are refused so, without octets if there is none.
 fn found_in(alloc: Global, texts: Texts<'_>, refused: &RefusedAt) -> Result<Vec<u8>, NoMemory> {
     let Some(reason) = refused.reason() else {
         return Ok(Vec::new(alloc));
@@ -24,9 +24,8 @@ fn found_in(alloc: Global, texts: Texts<'_>, refused: &RefusedAt) -> Result<Vec<
     }
 }
 
-/// What is found in a setup, a forecast and a plan text of which a call was refused so: the hint that the program
-/// prints, in one line without its end. There is no octet where no more can be said. A text that the call did not have
-/// is empty.
+/// The hint on a call that was refused so, found in its setup, its forecast and its plan text: the line that the
+/// program prints, without its end, and no octet if there is no hint. A text that the call did not have is empty.
 #[unsafe(no_mangle)]
 pub extern "C" fn rudlayog_hint(
     alloc: Global,

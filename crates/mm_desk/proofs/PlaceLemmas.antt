@@ -1,5 +1,6 @@
 -- The place of the one store with an identifier, and stores with the same identifiers.
-use Rattle.std.proofs.Common.{◌≡◌, ◌≢◌, ◌⊎◌, inl, inr, ℕ, ◌<◌, ◌≤◌, Bool, true, false, cond, ltb, List, [], ◌∷◌, length, get_or, refl, sym, subst, ap, ◌∙◌, length-set, get_or-set_same, get_or-set_other, arith}
+use Rattle.std.proofs.Common.{◌≡◌, ◌≢◌, ◌⊎◌, inl, inr, ℕ, ◌<◌, ◌≤◌, Bool, true, false, cond, ltb, List, [], ◌∷◌, length}
+use Rattle.std.proofs.Common.{get_or, refl, sym, subst, ap, ◌∙◌, length-set, get_or-set_same, get_or-set_other, arith}
 use Rattle.std.specs.Prelude.{bytes_eq, if◌then◌else◌, slice_get, Option, Some, None, MatchOption, IfSome, AllPairs}
 use Rattle.std.specs.List.{position_or_len, find}
 use Rattle.std.proofs.Math.ListN.{set}
@@ -13,25 +14,32 @@ use Rattle.mm_desk.specs.declared.held.Held.{Held}
 use Rattle.mm_desk.specs.Holdings.{HaveOtherIds, AreHeld, StandsAt, has_id, ids_of, store_of, with_changed}
 
 -- the first place that passes is the store's place, and where none passes no store has the identifier
-pub stands_at_first : (id : List ℕ) (stores : List Held) (r : Option ℕ) → r ≡ cond (ltb (position_or_len (has_id id) stores) (length stores)) (Some (position_or_len (has_id id) stores)) None → MatchOption r (store_of id stores ≡ None) (StandsAt id stores)
+pub stands_at_first : (id : List ℕ) (stores : List Held) (r : Option ℕ)
+    → r ≡ cond (ltb (position_or_len (has_id id) stores) (length stores))
+    (Some (position_or_len (has_id id) stores)) None → MatchOption r (store_of id stores ≡ None) (StandsAt id stores)
 stands_at_first id stores r e =
     let P : Option ℕ → Type 0 = λ o. MatchOption o (store_of id stores ≡ None) (StandsAt id stores) in
     subst P (sym e) (by_test (ltb (position_or_len (has_id id) stores) (length stores)) refl)
   where
-    by_test : (t : Bool) → ltb (position_or_len (has_id id) stores) (length stores) ≡ t → MatchOption (cond t (Some (position_or_len (has_id id) stores)) None) (store_of id stores ≡ None) (StandsAt id stores)
+    by_test : (t : Bool) → ltb (position_or_len (has_id id) stores) (length stores) ≡ t
+        → MatchOption (cond t (Some (position_or_len (has_id id) stores)) None) (store_of id stores ≡ None)
+        (StandsAt id stores)
     by_test true h = record { within = grind (arith, nat_tests); store = find_at (has_id id) stores }
     by_test false h =
         let past : length stores ≤ position_or_len (has_id id) stores = grind (arith, nat_tests) in
         find_at (has_id id) stores ∙ slice_get_past stores (position_or_len (has_id id) stores) past
 
 -- the first place that passes is no other
-pub is_first : (p : Held → Bool) (stores : List Held) (r : Option ℕ) → r ≡ cond (ltb (position_or_len p stores) (length stores)) (Some (position_or_len p stores)) None → IfSome r (λ place. place ≡ position_or_len p stores)
+pub is_first : (p : Held → Bool) (stores : List Held) (r : Option ℕ)
+    → r ≡ cond (ltb (position_or_len p stores) (length stores)) (Some (position_or_len p stores)) None
+    → IfSome r (λ place. place ≡ position_or_len p stores)
 is_first p stores r e =
     let P : Option ℕ → Type 0 = λ o. IfSome o (λ place. place ≡ position_or_len p stores) in
-    subst P (sym e) (elim (ltb (position_or_len p stores) (length stores)) as (λ t. P (cond t (Some (position_or_len p stores)) None)) [ true ↦ refl | false ↦ tt ])
+    subst P (sym e) (elim (ltb (position_or_len p stores) (length stores)) as
+    (λ t. P (cond t (Some (position_or_len p stores)) None)) [ true ↦ refl | false ↦ tt ])
 
 -- an identifier is itself, and no other
-same_id : (a b : List ℕ) → bytes_eq a b ≡ true → a ≡ b
+pub same_id : (a b : List ℕ) → bytes_eq a b ≡ true → a ≡ b
 same_id a b same = (bytes_eq-Decides a b).0 same
 
 pub is_itself : (a b : List ℕ) → a ≡ b → bytes_eq a b ≡ true
@@ -57,19 +65,30 @@ found_passes p (y ∷ ys) x e =
 pub found_id : (id : List ℕ) (stores : List Held) (h : Held) → store_of id stores ≡ Some h → h.id ≡ id
 found_id id stores h found = same_id h.id id (found_passes (has_id id) stores h found)
 
-module _ (id : List ℕ) (change : Held → Held) (stores : List Held) (place : ℕ) (h : Held) (named : AllPairs HaveOtherIds stores) (within : place < length stores) (at : slice_get stores place ≡ Some h) (same : h.id ≡ id) where
+module _ (id : List ℕ) (change : Held → Held) (stores : List Held) (place : ℕ) (h : Held)
+    (named : AllPairs HaveOtherIds stores) (within : place < length stores) (at : slice_get stores place ≡ Some h)
+    (same : h.id ≡ id) where
   abbrev one : Held → Held
   one x = if has_id id x then change x else x
 
-  each : (k : ℕ) (d : Held) → k < length stores → (k ≡ place) ⊎ ((k < place) ⊎ (place < k)) → one (get_or stores k d) ≡ get_or (set stores place (change h)) k d
+  each : (k : ℕ) (d : Held) → k < length stores → (k ≡ place) ⊎ ((k < place) ⊎ (place < k))
+      → one (get_or stores k d) ≡ get_or (set stores place (change h)) k d
   each k d inside (inl here) =
-      rw (here, get_or-set_same stores place (change h) d within, get_or_from_slice_get stores place h d at, is_itself h.id id same) refl
+      rw (
+        here,
+        get_or-set_same stores place (change h) d within,
+        get_or_from_slice_get stores place h d at,
+        is_itself h.id id same,
+      ) refl
   each k d inside (inr (inl before)) =
-      let other = is_other (get_or stores k d).id id (λ e. named k place d before within (e ∙ sym same ∙ ap (λ (x : Held). x.id) (sym (get_or_from_slice_get stores place h d at)))) in
+      let other = is_other (get_or stores k d).id id (λ e. named k place d before within (e ∙ sym same
+      ∙ ap (λ (x : Held). x.id) (sym (get_or_from_slice_get stores place h d at)))) in
       let apart : k ≢ place = λ e. absurd (omega arith) in
       rw (other, get_or-set_other stores place k (change h) d apart) refl
   each k d inside (inr (inr after)) =
-      let other = is_other (get_or stores k d).id id (λ e. named place k d after inside (ap (λ (x : Held). x.id) (get_or_from_slice_get stores place h d at) ∙ same ∙ sym e)) in
+      let other = is_other (get_or stores k d).id id
+      (λ e. named place k d after inside
+      (ap (λ (x : Held). x.id) (get_or_from_slice_get stores place h d at) ∙ same ∙ sym e)) in
       let apart : k ≢ place = λ e. absurd (omega arith) in
       rw (other, get_or-set_other stores place k (change h) d apart) refl
 
@@ -82,12 +101,15 @@ module _ (id : List ℕ) (change : Held → Held) (stores : List Held) (place : 
       get_or-map one stores k d d kept ∙ each k d kept (cases_order k place))
 
 -- the same, where the store stands at the place
-pub with_changed-stands : (id : List ℕ) (change : Held → Held) (stores : List Held) (place : ℕ) (h : Held) → AllPairs HaveOtherIds stores → StandsAt id stores place → slice_get stores place ≡ Some h → with_changed id change stores ≡ set stores place (change h)
+pub with_changed-stands : (id : List ℕ) (change : Held → Held) (stores : List Held) (place : ℕ) (h : Held)
+    → AllPairs HaveOtherIds stores → StandsAt id stores place → slice_get stores place ≡ Some h
+    → with_changed id change stores ≡ set stores place (change h)
 with_changed-stands id change stores place h named stands at =
     with_changed-at id change stores place h named stands.within at (found_id id stores h (stands.store ∙ at))
 
 -- two answers that lend under one name are the same where the lender ends the same
-pub lent_alike : {N A B C : Type 0} (name : N) (f g : A → B) → ((a : A) → f a ≡ g a) → ◌≡◌ {A = (N × (A → B)) ⊎ C} (inl (name, f)) (inl (name, g))
+pub lent_alike : {N A B C : Type 0} (name : N) (f g : A → B) → ((a : A) → f a ≡ g a)
+    → ◌≡◌ {A = (N × (A → B)) ⊎ C} (inl (name, f)) (inl (name, g))
 lent_alike name f g same = λ i. inl (name, λ a. same a i)
 
 -- as many identifiers as stores

@@ -1,7 +1,9 @@
 -- What becomes of packets, over any events from any state: each that was held or taken is deleted, held or given up. A
 -- retrieval gives what is held, the oldest first, each packet once.
-use Rattle.std.specs.Prelude.{◌≡◌, ◌+◌, if◌then◌else◌, List, [], ◌∷◌, ◌++◌, length, map, filter, nat_le, All, Contains, IsPermutation, Option, Some, None, is_some, Result, Ok, Err}
-use Rattle.mm_desk.specs.Types.{SpacePacket, Stored, Event, Offer, Begin, Next, Delete, Fault, Offered, Kept, KeptOver, Lost, Returned}
+use Rattle.std.specs.Prelude.{◌≡◌, ◌+◌, if◌then◌else◌, List, [], ◌∷◌, ◌++◌, length, map, filter, nat_le, All, Contains}
+use Rattle.std.specs.Prelude.{IsPermutation, Option, Some, None, is_some, Result, Ok, Err}
+use Rattle.mm_desk.specs.Types.{SpacePacket, Stored, Event, Offer, Begin, Next, Delete, Fault, Offered, Kept, KeptOver}
+use Rattle.mm_desk.specs.Types.{Lost, Returned}
 use Rattle.mm_store.specs.Content.{IsRising}
 use Rattle.mm_desk.specs.Machine.{State, offer, next, step}
 
@@ -39,7 +41,8 @@ given_up s other = []
 
 -- what an event deletes: the packets up to the limit, where no retrieval is on
 abbrev pub deleted : State → Event → List SpacePacket
-deleted s (Delete limit) = if is_some s.retrieval then [] else packets_of (filter (λ p. nat_le p.time limit) s.store.content)
+deleted s (Delete limit) =
+    if is_some s.retrieval then [] else packets_of (filter (λ p. nat_le p.time limit) s.store.content)
 deleted s other = []
 
 -- what an event gives of the retrieval
@@ -61,10 +64,11 @@ over each s (e ∷ es) = each s e ++ over each (step s e).1 es
 abbrev pub known : State → List Event → List SpacePacket
 known s es = packets_of s.store.content ++ over taken s es
 
--- no packet is lost uncounted, and none is invented: what was held and what was taken is what is deleted, what is held and
--- what is given up, each packet as often; as many are given up, and as many deleted, as the counters say
+-- no packet is lost uncounted, and none is invented: what was held and what was taken is what is deleted, what is held
+-- and what is given up, each packet as often; as many are given up, and as many deleted, as the counters say
 pub record IsConserved (s : State) (es : List Event) : Type 0 where
-  pub packets : IsPermutation (known s es) (over deleted s es ++ packets_of (after s es).store.content ++ over given_up s es)
+  pub packets : IsPermutation (known s es) (over deleted s es ++ packets_of (after s es).store.content
+      ++ over given_up s es)
   pub lost : (after s es).lost ≡ s.lost + length (over given_up s es)
   pub deleted : (after s es).deleted ≡ s.deleted + length (over deleted s es)
 
@@ -81,6 +85,6 @@ ConservePackets = (s : State) (es : List Event) → IsConserved s es
 abbrev pub GiveWhatIsKnown : Type 0
 GiveWhatIsKnown = (s : State) (es : List Event) → All (λ p. Contains (known s es) p.packet) (over given s es)
 
--- the packets of one retrieval have rising times, whatever else is asked meanwhile
+-- the packets of one retrieval have rising times, with any other events between
 abbrev pub GiveInOrder : Type 0
 GiveInOrder = (s : State) (es : List Event) → All BeginsNone es → IsRising (over given s es)

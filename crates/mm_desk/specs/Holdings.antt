@@ -42,6 +42,6 @@ pub record StandsAt (id : List ℕ) (stores : List Held) (place : ℕ) : Type 0 
   pub within : place < length stores
   pub store : store_of id stores ≡ slice_get stores place
 
--- the stores, of which the one with this identifier is changed
+-- the stores, with the one that has this identifier changed
 abbrev pub with_changed : List ℕ → (Held → Held) → List Held → List Held
 with_changed id change stores = map (λ h. if has_id id h then change h else h) stores

@@ -24,9 +24,10 @@ KeepStates = (s : State) (e : Event) → IsState s → HasTimes e → IsState (s
 
 -- a log whose times fit leaves a state
 abbrev pub ReplaysKeepStates : Type 0
-ReplaysKeepStates = (s : State) (log : List Entry) → IsState s → All (λ e. HasTimes e.event) log → IsState (replay s log)
+ReplaysKeepStates = (s : State) (log : List Entry) → IsState s → All (λ e. HasTimes e.event) log
+    → IsState (replay s log)
 
--- offers of which none is refused leave and lose the same in any order: as many as they are
+-- offers that are not refused leave and lose the same in any order: only their number matters
 abbrev pub OffersLeave : Type 0
 OffersLeave = (s t : State) (lists : List (List Event)) (log : List Entry)
     → length s.store.content ≤ s.store.size → 1 ≤ s.store.size

@@ -44,13 +44,13 @@ abbrev pub GiveLater : Type 0
 GiveLater = (s : State) (es more : List Event) → IsState s
     → All (IsOlder (over given (after s es) more)) (over taken_out s es)
 
--- events in parts, as those of steps: what each part gives rises, and has left the store at its end
+-- events in parts, such as steps: the times of what a part gives rise, and at its end all of it has left the store
 abbrev pub AreSettled : State → List (List Event) → Type 0
 AreSettled s [] = Unit {0}
 AreSettled s (es ∷ parts) =
     IsRising (over given s es) × All (Contains (over taken_out s es)) (over given s es) × AreSettled (after s es) parts
 
--- over such parts all that is given rises: as what whole orders are given, since an order deletes it
+-- over such parts the times of all that is given rise; whole dump orders are such parts, since each deletes its packets
 abbrev pub GiveRising : Type 0
 GiveRising = (s : State) (parts : List (List Event)) → IsState s → AreSettled s parts
     → IsRising (over given s (flat_map (λ es. es) parts))

@@ -18,7 +18,7 @@ AreTaken log = All (λ e. IsTaken e.event e.reply) log
 abbrev pub asked : List Entry → List Event
 asked log = map (λ e. e.event) log
 
--- replies left aside, a log is a shuffle of lists of events, one for each seat
+-- the events of a log are a shuffle of lists of events, one for each seat
 pub record IsShuffleOfEvents (lists : List (List Event)) (log : List Entry) : Type 0 where
   pub below : AreBelow (length lists) log
   pub parts : (seat : ℕ) → seat < length lists → asked (part seat log) ≡ slice_index_or lists seat []
@@ -27,8 +27,8 @@ pub record IsShuffleOfEvents (lists : List (List Event)) (log : List Entry) : Ty
 abbrev pub count_of : List (List Event) → ℕ
 count_of lists = sum_by (λ events. length events) lists
 
--- this many offers leave a full store or one with that many packets more, and lose the rest; but for that, for which packets
--- and times are held, and for the counter of offers, the state is as before
+-- this many offers leave a full store, or one with that many packets more, and lose the rest; else only the counter of
+-- offers changes, and which packets and times are held
 pub record Leaves (s t : State) (n : ℕ) : Type 0 where
   pub volume : length t.store.content ≡ min (length s.store.content + n) s.store.size
   pub lost : t.lost ≡ s.lost + (length s.store.content + n - min (length s.store.content + n) s.store.size)

@@ -1,5 +1,5 @@
 -- What a by-time-range retrieval gives from its begin to its end (ECSS-E-ST-70-41C, 6.15: begun by subtype 9, aborted
--- by subtype 17), whatever else is asked of the store meanwhile.
+-- by subtype 17), with any other events between.
 use Rattle.std.specs.Prelude.{◌≡◌, ℕ, ◌≤◌, List, [], ◌∷◌, ◌++◌, take, All, Contains, IsTrue, Some, None, is_some}
 use Rattle.std.specs.Prelude.{Result, Ok}
 use Rattle.mm_desk.specs.Types.{Stored, Event, Offer, Abort, Offered, KeptOver, Returned}

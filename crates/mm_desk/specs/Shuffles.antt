@@ -6,7 +6,7 @@ use Rattle.mm_desk.specs.declared.entry.Entry.{Entry}
 abbrev pub part : ℕ → List Entry → List Entry
 part seat log = filter (λ e. e.seat == seat) log
 
--- a log has no entry of another seat than those below this number
+-- each entry of a log is of a seat below this number
 abbrev pub AreBelow : ℕ → List Entry → Type 0
 AreBelow seats log = All (λ e. e.seat < seats) log
 

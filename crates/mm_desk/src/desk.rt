@@ -1,9 +1,9 @@
 //! A store under a lock, with its log.
 ghost use Rattle.std.specs.Prelude.{◌≡◌, ◌≤◌, IsTrue, IfOk, IfErr, OnErr, Ok, Err};
-ghost use Rattle.mm_desk.specs.Answers.{Answers};
+ghost use Rattle.mm_desk.specs.Answers.{Answers, IsDone};
 ghost use Rattle.mm_desk.specs.Machine.{IsState};
 ghost use Rattle.mm_desk.specs.Runs.{IsRun, opening_at};
-ghost use Rattle.mm_desk.specs.Seats.{desk_view, AreNew, AreInOrder, Tells, lists_of, with_call};
+ghost use Rattle.mm_desk.specs.Seats.{desk_view, AreNew, AreInOrder, Tells, lacking, lists_of, with_call};
 ghost use Rattle.mm_desk.specs.Shuffles.{IsShuffle};
 
 use crate::agree::agrees;
@@ -25,8 +25,8 @@ use std::sync::{Mutex, Wait};
 /// The most seats of a desk or a pass book.
 pub const MAX_SEATS: u32 = 16;
 
-/// A store under a lock, with the log of the calls made on it. Contracts see its place among the desks of its name, and how
-/// many seats it has.
+/// A store under a lock, with the log of the calls made on it. Contracts see its place among the desks of its name, and
+/// how many seats it has.
 #[derive(Drop)]
 pub struct Desk<N: Opening> {
     place: u32,
@@ -50,8 +50,8 @@ pub struct Parts {
     pub log: Vec<Entry>,
 }
 
-/// A desk that was closed: the state of the store, the log, the seats handed back, and whether the log is a shuffle of the
-/// seats' lists.
+/// A desk that was closed: the state of the store, the log, the seats handed back, and whether the log is a shuffle of
+/// the seats' lists.
 #[derive(Drop)]
 pub struct Closed<N: Opening> {
     pub state: StoreState,
@@ -69,6 +69,15 @@ macro_rules! answered {
             _ => unreachable!(),
         }
     };
+}
+
+// Two events equal to this one.
+fn two_copies(alloc: Global, event: &Event) -> Result<(Event, Event), NoMemory>
+    ensures same { IfOk result (λ copies. copies ≡ (event.now, event.now)) }
+{
+    let first = event.copy(alloc)?;
+    let second = event.copy(alloc)?;
+    Ok((first, second))
 }
 
 impl<N: Opening> Desk<N> {
@@ -152,8 +161,8 @@ impl<N: Opening> Desk<N> {
         }
     }
 
-    // Makes the event's call through a seat. Every growth and every copy comes first: where there is no memory the event comes
-    // back.
+    // Makes the event's call through a seat. Every growth and every copy comes first: where there is no memory the
+    // event comes back.
     fn call<R: Wait>(
         &self,
         rt: &R,
@@ -169,7 +178,7 @@ impl<N: Opening> Desk<N> {
         if seat.list.reserve(1).is_err() {
             return Err(event);
         }
-        let (Ok(logged), Ok(listed)) = (event.copy(alloc), event.copy(alloc)) else {
+        let Ok((logged, listed)) = two_copies(alloc, &event) else {
             return Err(event);
         };
         let number = seat.number();
@@ -180,6 +189,21 @@ impl<N: Opening> Desk<N> {
             reply: answered.listed,
         });
         Ok(answered.reply)
+    }
+
+    // Makes a call that is answered only whether it is done.
+    fn call_done<R: Wait>(
+        &self,
+        rt: &R,
+        alloc: Global,
+        event: Event,
+        seat: &mut Seat<N>,
+    ) -> Result<(), Fault>
+        requires answers { (reply : Reply) → Answers event reply → IsDone reply }
+        requires lacking { lacking event ≡ Reply.Done (Err Fault.NoMemory) }
+        ensures tells { Tells seat.old event (Reply.Done result) seat.new }
+    {
+        answered!(Done, self.call(rt, alloc, event, seat))
     }
 
     /// Offers a packet at a moment, in ticks. It is handed back where it is refused.
@@ -215,7 +239,7 @@ impl<N: Opening> Desk<N> {
     ) -> Result<(), Fault>
         ensures tells { Tells seat.old (Event.Begin from to) (Reply.Done result) seat.new }
     {
-        answered!(Done, self.call(rt, alloc, Event::Begin(from, to), seat))
+        self.call_done(rt, alloc, Event::Begin(from, to), seat)
     }
 
     /// Gives a copy of the next packet of the retrieval with its storage time; nothing at its end, where it is over.
@@ -234,7 +258,7 @@ impl<N: Opening> Desk<N> {
     pub fn abort<R: Wait>(&self, rt: &R, alloc: Global, seat: &mut Seat<N>) -> Result<(), Fault>
         ensures tells { Tells seat.old Event.Abort (Reply.Done result) seat.new }
     {
-        answered!(Done, self.call(rt, alloc, Event::Abort, seat))
+        self.call_done(rt, alloc, Event::Abort, seat)
     }
 
     /// Deletes the packets up to a time, that time included, and returns their number.
@@ -254,13 +278,13 @@ impl<N: Opening> Desk<N> {
     pub fn enable<R: Wait>(&self, rt: &R, alloc: Global, seat: &mut Seat<N>) -> Result<(), Fault>
         ensures tells { Tells seat.old Event.Enable (Reply.Done result) seat.new }
     {
-        answered!(Done, self.call(rt, alloc, Event::Enable, seat))
+        self.call_done(rt, alloc, Event::Enable, seat)
     }
 
     /// Switches storage off. A retrieval goes on.
     pub fn disable<R: Wait>(&self, rt: &R, alloc: Global, seat: &mut Seat<N>) -> Result<(), Fault>
         ensures tells { Tells seat.old Event.Disable (Reply.Done result) seat.new }
     {
-        answered!(Done, self.call(rt, alloc, Event::Disable, seat))
+        self.call_done(rt, alloc, Event::Disable, seat)
     }
 }

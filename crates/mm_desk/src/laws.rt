@@ -25,16 +25,16 @@ pub fn events_keep_a_state()
     stores_stay_stores();
 }
 
-/// Offers of which none is refused leave the same volume and lose as many packets in any order, in either kind of
-/// store: one packet more for each, up to the size, and the rest is lost.
+/// Offers that are not refused leave the same volume and lose the same number of packets in any order, in either kind
+/// of store: each adds one packet, up to the size, and the rest is lost.
 pub fn any_order_loses_alike()
     ensures leaves { OffersLeave }
     ensures alike { ShufflesLoseAlike }
 {}
 
 /// No packet is lost uncounted, and none is invented: over any events from any state, in either kind of store, each
-/// packet that was held or offered and not refused is deleted, held or given up. What was given up the counter of
-/// losses tells.
+/// packet that was held or offered and not refused is deleted, held or given up. The counter of losses tells how many
+/// were given up.
 pub fn events_conserve_packets()
     ensures law { ConservePackets }
 {}
@@ -46,9 +46,9 @@ pub fn retrievals_give_in_order()
     ensures rising { GiveInOrder }
 {}
 
-/// While a by-time-range retrieval is on, whatever else is asked of the store, each packet that it gives is held and in
-/// the range, times rise, and nothing is deleted. Once it has ended and was not aborted, each packet of the range that
-/// was held at its begin was given or overwritten.
+/// While a by-time-range retrieval is on, with any other events between, each packet that it gives is held and in the
+/// range, times rise, and nothing is deleted. Once it has ended and was not aborted, each packet of the range that was
+/// held at its begin was given or overwritten.
 pub fn retrievals_give_their_range()
     ensures law { RetrievalsGiveRanges }
 {}

@@ -41,7 +41,6 @@ pub(crate) struct Answered {
 
 impl<N: Opening> LockedStore<N> {
     // Makes the event's call for a seat and logs it. Where there is no memory the event comes back.
-    #[tactic(auto, using(crate::proofs::Answering::step_answers))]
     pub(crate) fn call(
         &mut self,
         alloc: Global,

@@ -36,17 +36,26 @@ macro_rules! copies {
     };
 }
 
+// The reply that gives this packet, with its time.
+fn given_reply(time: u64, packet: BlockPacket) -> Reply
+    ensures given { result ≡ Reply.Given (Ok (Some (record { time = time; packet = packet }))) }
+{
+    Reply::Given(Ok(Some(Stored { time, packet })))
+}
+
 // Copies of a packet that was found, with its time.
 fn given(alloc: Global, time: u64, packet: &BlockPacket) -> Result<ReplyCopies, NoMemory>
-    ensures given { IfOk result (λ c. c.answer ≡ Reply.Given (Ok (Some (record { time = time; packet = packet.now })))) }
+    ensures given { IfOk result (λ c.
+        c.answer ≡ Reply.Given (Ok (Some (record { time = time; packet = packet.now })))) }
 {
-    Ok(copies!(
-        Given,
-        Ok(Some(Stored {
-            time,
-            packet: packet.copy(alloc)?
-        }))
-    ))
+    let answer = packet.copy(alloc)?;
+    let logged = packet.copy(alloc)?;
+    let listed = packet.copy(alloc)?;
+    Ok(ReplyCopies {
+        answer: given_reply(time, answer),
+        logged: given_reply(time, logged),
+        listed: given_reply(time, listed),
+    })
 }
 
 // What a put before the end of the clock would be answered.

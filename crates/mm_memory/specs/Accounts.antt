@@ -1,6 +1,7 @@
--- What becomes of the packets of a memory, store by store, over any calls: what was recorded is held, deleted by a request, or given up and
--- counted as lost; what a retrieval gives was recorded, and comes in order.
-use Rattle.std.specs.Prelude.{◌≡◌, ℕ, ◌+◌, Bool, false, not, ◌&&◌, is_some, if◌then◌else◌, List, [], ◌∷◌, ◌++◌, length, map, sum, bytes_eq, All, Contains, IsPermutation, Option, Some, None, Result, Ok, Err}
+-- What becomes of the packets of a memory, store by store, over any calls: what was recorded is held, deleted by a
+-- request, or given up and counted as lost; what a retrieval gives was recorded, and comes in order.
+use Rattle.std.specs.Prelude.{◌≡◌, ℕ, ◌+◌, Bool, false, not, ◌&&◌, is_some, if◌then◌else◌, List, [], ◌∷◌, ◌++◌, length}
+use Rattle.std.specs.Prelude.{map, sum, bytes_eq, All, Contains, IsPermutation, Option, Some, None, Result, Ok, Err}
 use Rattle.mm_packet.specs.Packet.{SpacePacket}
 use Rattle.mm_store.specs.declared.stored.Stored.{Stored}
 use Rattle.mm_store.specs.Content.{IsRising}
@@ -23,8 +24,8 @@ use Rattle.mm_memory.specs.Instruction.{Parsed}
 use Rattle.mm_memory.specs.Lending.{with_state}
 use Rattle.mm_memory.specs.Recording.{is_routed, after_record}
 
--- a call on a memory: a packet is recorded at a moment; the store with an identifier is asked an event of the store machine; an instruction of
--- a request is applied
+-- a call on a memory: a packet is recorded at a moment; the store with an identifier is asked an event of the store
+-- machine; an instruction of a request is applied
 pub data Call : Type 0 where
   records : ℕ → SpacePacket → Call
   asks : List ℕ → Event → Call
@@ -88,8 +89,8 @@ abbrev pub kept : State → Event → List Stored
 kept s (event.Offer now packet) = kept_by packet (offer s now packet).0
 kept s other = []
 
--- the packets that a call records in a store, with the times of those kept; those that it deletes; those that it gives up for room; and those
--- that it gives of a retrieval
+-- the packets that a call records in a store, with the times of those kept; those that it deletes; those that it gives
+-- up for room; and those that it gives of a retrieval
 abbrev pub recorded_by : List ℕ → Holdings → Call → State → List SpacePacket
 recorded_by id m c s = over taken s (events_in id m c)
 
@@ -109,13 +110,14 @@ given_by id m c s = over given s (events_in id m c)
 abbrev pub counter_gone : List ℕ → Holdings → Call → State → List ℕ
 counter_gone id m c s = if removes_in id c s then s.lost ∷ [] else []
 
--- what is so of a store's state, where there is the store
+-- what a function gives for a store's state, and nothing if there is no store
 abbrev pub in_store : {X : Type 0} → (State → List X) → Option State → List X
 in_store each (Some s) = each s
 in_store each None = []
 
 -- what all calls do with the store with an identifier, in order, each from the memory that the one before it left
-abbrev pub in_turns : {X : Type 0} → (List ℕ → Holdings → Call → State → List X) → List ℕ → Holdings → List Turn → List X
+abbrev pub in_turns : {X : Type 0} → (List ℕ → Holdings → Call → State → List X) → List ℕ → Holdings → List Turn
+    → List X
 in_turns each id m [] = []
 in_turns each id m (t ∷ ts) = in_store (each id m t.call) (state_of id m) ++ in_turns each id t.left ts
 
@@ -137,13 +139,15 @@ BeginsNoneIn id (asks other event) = other ≡ id → BeginsNone event
 BeginsNoneIn id (applies (Ok i)) = i.id ≡ id → All BeginsNone (events_of i.action)
 BeginsNoneIn id other = Unit {0}
 
--- the packets of one store: what it held and what was recorded in it is what requests deleted, what it holds, and what was given up, each packet
--- as often; as many were given up as its counter says, with the counters of those of its name that were deleted; what a retrieval gives was held
--- or kept with that time; and what one retrieval gives has rising times
+-- the packets of one store: what it held and what was recorded in it is what requests deleted, what it holds, and what
+-- was given up, each packet as often; as many were given up as its counter says, with the counters of those of its name
+-- that were deleted; what a retrieval gives was held or kept with that time; and what one retrieval gives has rising
+-- times
 pub record IsAccounted (id : List ℕ) (m : Holdings) (turns : List Turn) : Type 0 where
   pub packets : IsPermutation (packets_of (held_in id m) ++ in_turns recorded_by id m turns)
       (in_turns deleted_by id m turns ++ packets_of (held_in id (after_turns m turns)) ++ in_turns lost_by id m turns)
-  pub counted : losses_in id (after_turns m turns) + sum (in_turns counter_gone id m turns) ≡ losses_in id m + length (in_turns lost_by id m turns)
+  pub counted : losses_in id (after_turns m turns) + sum (in_turns counter_gone id m turns)
+      ≡ losses_in id m + length (in_turns lost_by id m turns)
   pub given : All (Contains (held_in id m ++ in_turns kept_in id m turns)) (in_turns given_by id m turns)
   pub rising : All (λ t. BeginsNoneIn id t.call) turns → IsRising (in_turns given_by id m turns)
 

@@ -1,5 +1,6 @@
 -- Applying an instruction, and a request, which is its instructions in order.
-use Rattle.std.specs.Prelude.{◌≡◌, ◌⊎◌, ℕ, Bool, not, nat_lt, if◌then◌else◌, List, [], ◌∷◌, ◌++◌, length, filter, Option, Some, None, Ok, Err}
+use Rattle.std.specs.Prelude.{◌≡◌, ◌⊎◌, ℕ, Bool, not, nat_lt, if◌then◌else◌, List, [], ◌∷◌, ◌++◌, length, filter}
+use Rattle.std.specs.Prelude.{Option, Some, None, Ok, Err}
 use Rattle.mm_base.specs.declared.limits.TheConstants.{MAX_STORES}
 use Rattle.mm_base.specs.declared.rows.RouteRow.{RouteRow}
 use Rattle.mm_store.specs.Content.{empty_store}
@@ -28,7 +29,8 @@ route_to id row = record { apid = row.apid; service = row.service; subtype = row
 
 -- a new store: empty, and its storage off
 abbrev pub new_store : List ℕ → StoreConfig → Held
-new_store id config = record { id = id; channel = config.channel; state = opening (empty_store config.kind config.size) }
+new_store id config =
+    record { id = id; channel = config.channel; state = opening (empty_store config.kind config.size) }
 
 -- the stores without the one with this identifier
 abbrev pub without : List ℕ → List Held → List Held
@@ -40,7 +42,9 @@ done_if passed reason = if passed then Ok tt else Err reason
 
 -- a store that is not there may be created, and then stands last
 abbrev pub created : List ℕ → StoreConfig → Holdings → Outcome × Holdings
-created id config m = done_or (done_if (nat_lt (length m.stores) MAX_STORES) TooManyStores) (record m { stores = m.stores ++ new_store id config ∷ [] }) m
+created id config m =
+    done_or (done_if (nat_lt (length m.stores) MAX_STORES) TooManyStores)
+    (record m { stores = m.stores ++ new_store id config ∷ [] }) m
 
 -- an action for a store that is not there
 abbrev pub on_no_store : List ℕ → Action → Holdings → Outcome × Holdings
@@ -49,7 +53,8 @@ on_no_store id other m = (Err NoSuchStore, m)
 
 -- a store that is at rest is deleted, and its routes with it
 abbrev pub deleted : List ℕ → Held → Holdings → Outcome × Holdings
-deleted id h m = done_or (refusal_of (rest_fault h.state)) (record { stores = without id m.stores; routes = without_store id m.routes }) m
+deleted id h m = done_or (refusal_of (rest_fault h.state))
+    (record { stores = without id m.stores; routes = without_store id m.routes }) m
 
 -- a store is changed in its place
 abbrev pub changed : List ℕ → Outcome × Held → Holdings → Outcome × Holdings
@@ -57,8 +62,10 @@ changed id left m = (left.0, record m { stores = with_changed id (λ _. left.1) 
 
 -- a row is added to the storage control, or deleted
 abbrev pub routed : RouteChange → RouteRow → Holdings → Outcome × Holdings
-routed Add row m = done_or (done_if (takes row m.routes) (Control TableFull)) (record m { routes = with_row row m.routes }) m
-routed DeleteRow row m = done_or (done_if (has_row row m.routes) (Control NoSuchRoute)) (record m { routes = without_row row m.routes }) m
+routed Add row m = done_or (done_if (takes row m.routes) (Control TableFull))
+    (record m { routes = with_row row m.routes }) m
+routed DeleteRow row m =
+    done_or (done_if (has_row row m.routes) (Control NoSuchRoute)) (record m { routes = without_row row m.routes }) m
 
 -- an action for a store that is there
 abbrev pub on_store : List ℕ → Action → Held → Holdings → Outcome × Holdings
@@ -84,8 +91,8 @@ MayLack (Create config) store = Unit {0}
 MayLack (Changes change) (Some h) = TakesMemory change h
 MayLack other store = ⊥
 
--- what came is what is wanted; or, where memory is taken and nothing else refuses, it is refused for want of memory and
--- has changed nothing
+-- what came is what is wanted; or memory is taken, nothing else refuses, and the refusal is out of memory, which has
+-- changed nothing
 abbrev pub ComesUnlessNoMemory : {A : Type 0} → Type 0 → Outcome × A → A → Outcome × A → Type 0
 ComesUnlessNoMemory Lacks wanted before came =
     (came ≡ wanted) ⊎ (Lacks × (wanted.0 ≡ Ok tt) × (came ≡ (Err NoMemory, before)))
@@ -109,4 +116,5 @@ abbrev pub AppliesEach : List Parsed → Holdings → List Answer → Holdings �
 AppliesEach [] m [] left = left ≡ m
 AppliesEach [] m (answer ∷ answers) left = ⊥
 AppliesEach (i ∷ is) m [] left = ⊥
-AppliesEach (i ∷ is) m (answer ∷ answers) left = (next : Holdings) × Applies i m (outcome_told answer, next) × AppliesEach is next answers left
+AppliesEach (i ∷ is) m (answer ∷ answers) left =
+    (next : Holdings) × Applies i m (outcome_told answer, next) × AppliesEach is next answers left

@@ -12,7 +12,11 @@ pub use Rattle.mm_desk.specs.Holdings.{Holdings, HaveOtherIds, AreHeld, has_id, 
 
 -- a store of the setup, empty, with its storage on
 abbrev pub opened : StoreRow → Held
-opened row = record { id = row.id; channel = row.channel; state = (step (opening (empty_store row.kind row.size)) Enable).1 }
+opened row = record {
+  id = row.id;
+  channel = row.channel;
+  state = (step (opening (empty_store row.kind row.size)) Enable).1;
+}
 
 -- the rows of these routes
 abbrev pub table_of : List RouteRow → List RouteRow

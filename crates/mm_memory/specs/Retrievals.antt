@@ -10,12 +10,12 @@ use Rattle.mm_memory.specs.Accounts.{Call, Turn, AreTurns, after_turns, events_i
 use Rattle.mm_memory.specs.Accounts.{in_turns, held_in}
 use Rattle.mm_memory.specs.Holdings.{Holdings, state_of}
 
--- this is so of each turn and the memory before it
+-- P holds of each turn and the memory before it
 abbrev pub AtEachTurn : (Holdings → Turn → Type 0) → Holdings → List Turn → Type 0
 AtEachTurn P m [] = Unit {0}
 AtEachTurn P m (t ∷ ts) = P m t × AtEachTurn P t.left ts
 
--- there is a store, and this is so of its state
+-- there is a store, and P holds of its state
 abbrev pub HasState : (State → Type 0) → Option State → Type 0
 HasState P (Some s) = P s
 HasState P None = ⊥

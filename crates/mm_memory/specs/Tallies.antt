@@ -5,7 +5,7 @@ use Rattle.mm_desk.specs.declared.reply.Offered.TheVariants.{Kept, KeptOver, Los
 use Rattle.mm_desk.specs.declared.reply.Returned.{Returned}
 use Rattle.mm_memory.specs.declared.tally.Tally.{Tally}
 
--- so many stores keep the packet, so many packets are lost, so many stores refuse it
+-- how many stores keep the packet, how many packets are lost, and how many stores refuse it
 abbrev pub counted : ℕ → ℕ → ℕ → Tally
 counted kept lost refused = record { kept = kept; lost = lost; refused = refused }
 

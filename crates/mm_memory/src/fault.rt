@@ -21,11 +21,11 @@ pub enum Fault {
     NoSuchStore,
     /// A store has the identifier.
     Exists,
-    /// There are as many stores as there may be.
+    /// There are already as many stores as allowed.
     TooManyStores,
     /// A size outside its range.
     BadSize,
-    /// A refusal of the store's state other than want of memory.
+    /// A refusal of the store's state other than out of memory.
     State(mm_desk::Fault),
     /// A refusal of the storage control.
     Control(mm_control::Fault),

@@ -5,7 +5,7 @@ ghost use Rattle.mm_memory.specs.Losses.{StoresLoseNewOrOldest};
 ghost use Rattle.mm_memory.specs.Retrievals.{RetrievalsGiveRangesIn};
 
 /// What `Memory::restore` asks of stores depends on their identifiers alone: they may be put back
-/// whatever has become of their states and their virtual channels.
+/// with any states and virtual channels.
 pub fn identifiers_decide_what_is_restored()
     ensures law { IdsDecide }
 {}
@@ -28,9 +28,9 @@ pub fn memories_lose_no_packet_uncounted()
     mm_desk::laws::events_conserve_packets();
 }
 
-/// While a by-time-range retrieval from a store is on, whatever else is asked of the memory, each packet that it gives
-/// is held and in the range, times rise, and nothing of the store is deleted. Once it has ended and was not aborted,
-/// each packet of the range that was held at its begin was given or overwritten.
+/// While a by-time-range retrieval from a store is on, with any other calls between, each packet that it gives is held
+/// and in the range, times rise, and nothing of the store is deleted. Once it has ended and was not aborted, each
+/// packet of the range that was held at its begin was given or overwritten.
 pub fn retrievals_give_their_range()
     ensures law { RetrievalsGiveRangesIn }
 {

@@ -190,7 +190,7 @@ impl Memory {
             .any(|oldest| oldest.owners() <= self.givers(rows, oldest))
     }
 
-    /// Whether the stores that a packet is routed to hand as much memory back as they take of it: none keeps it, or they
+    /// Whether the stores that a packet is routed to give all memory back that they take for it: none keeps it, or they
     /// give up a packet that no other store shares.
     #[must_use]
     pub fn hands_back(&self, packet: &LentPacket<'_>) -> bool {

@@ -9,8 +9,8 @@ use mm_packet::{BlockPacket, LentPacket};
 use mm_store::PacketStore;
 use std::alloc::Global;
 
-/// The memory of one packet that no store holds, where there is some: for a packet that comes when there is no other
-/// memory. What a store hands back for it takes its place.
+/// The memory of one packet that no store holds, or none: for a packet that comes when there is no other memory. What
+/// a store hands back for it takes its place.
 #[derive(Debug, Drop)]
 pub struct Spare {
     packet: Option<BlockPacket>,
@@ -35,7 +35,7 @@ pub(crate) fn given_up(state: &StoreState) -> Option<&BlockPacket> {
     Some(oldest)
 }
 
-/// Whether an offer to a store hands as much memory back as it takes: the packet is lost or refused, or the store gives
+/// Whether an offer to a store gives all memory back that it takes: the packet is lost or refused, or the store gives
 /// up one that no other shares.
 #[must_use]
 pub fn hands_back(state: &StoreState) -> bool {
@@ -75,7 +75,7 @@ impl Spare {
         }
     }
 
-    /// A packet in that memory, of which there is none then.
+    /// A packet in that memory, which is then used up.
     #[must_use]
     pub fn take(&mut self, packet: &LentPacket<'_>) -> Option<BlockPacket>
         requires fits { length (spelling packet.now) ≤ BLOCK }

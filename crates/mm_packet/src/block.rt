@@ -85,8 +85,8 @@ impl BlockPacket {
         Ok(BlockPacket { packet })
     }
 
-    /// The packet in the memory of this one, which is given up. It takes no memory where this one was made by `lent` or
-    /// `with_room`; none where others share the memory.
+    /// The packet in the memory of this one, which is given up. `None` if others share that memory. No memory is taken
+    /// if this one was made by `lent` or `with_room`.
     #[must_use]
     pub fn replaced(self, packet: &LentPacket<'_>) -> Option<BlockPacket>
         requires fits { length (spelling packet.now) ≤ BLOCK }
@@ -102,7 +102,7 @@ impl BlockPacket {
         Ok(BlockPacket { packet })
     }
 
-    /// How many packets share its memory, with this one. One of which it is 1 can be replaced.
+    /// How many packets share its memory, this one included. A packet that shares it with no other can be replaced.
     #[must_use]
     pub fn owners(&self) -> usize {
         self.packet.body.owners()

@@ -1,6 +1,7 @@
 //! Fields one after another, read from the front of octets and written at their end.
 
-/// The value whose fields stand at the front of the octets, each read by its function, and what follows it: `None` where one is not there.
+/// The value whose fields stand at the front of the octets, each read by its function, and what follows it. `None` if a
+/// field is missing.
 #[macro_export]
 macro_rules! fields_at {
     ($octets:expr; $($value:ident)::+ { $($field:ident: $at:ident $(($given:expr))?),+ }) => {{

@@ -88,7 +88,7 @@ impl<'a> LentPacket<'a> {
         Ok(self.with_body(body))
     }
 
-    // The packet in the memory of another, which is given up; none where others share that.
+    // The packet in the memory of another, which is given up. `None` if others share that memory.
     pub(crate) fn packet_in_place_of(&self, other: Packet) -> Option<Packet>
         ensures packet { IfSome result (λ packet. packet ≡ self.now) }
     {

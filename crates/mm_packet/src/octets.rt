@@ -50,13 +50,13 @@ impl Octets {
         Ok(list)
     }
 
-    // How many packets share them, with this one.
+    // How many packets share them, this one included.
     pub(crate) fn owners(&self) -> usize {
         Arc::strong_count(&self.bytes)
     }
 
-    // The octets of a slice in the memory of these; none where they are shared. Where there is room for them no memory
-    // is taken.
+    // The octets of a slice in the memory of these. `None` if these are shared. No memory is taken if they have room
+    // for them.
     pub(crate) fn refilled(mut self, octets: &[u8]) -> Option<Octets>
         ensures octets { IfSome result (λ list. list ≡ octets.now) }
     {

@@ -26,7 +26,7 @@ struct Primary {
     data_length: u16,
 }
 
-// The fields of a secondary header, its first octet unparted.
+// The fields of a secondary header, its first octet as one number.
 #[derive(Clone, Copy)]
 struct Secondary {
     first: u8,

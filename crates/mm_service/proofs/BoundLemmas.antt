@@ -1,7 +1,7 @@
 -- How many reports wait once a request is applied.
-use Rattle.std.proofs.Common.{◌≡◌, ◌↔◌, inl, inr, ℕ, ◌+◌, ◌≤◌, List, [], ◌∷◌, length, refl, sym, ap, subst, ◌∙◌, arith}
+use Rattle.std.proofs.Common.{◌≡◌, inl, inr, ℕ, ◌+◌, ◌≤◌, List, [], ◌∷◌, length, refl, sym, ap, subst, ◌∙◌, arith}
 use Rattle.std.proofs.Common.{length-append}
-use Rattle.std.specs.Prelude.{Option, Some, None, Result, Ok, Err}
+use Rattle.std.specs.Prelude.{Option, Some, None, Ok}
 use Rattle.mm_base.proofs.ReadingSteps.{ok_same}
 use Rattle.mm_packet.specs.Packet.{SpacePacket}
 use Rattle.mm_st15.specs.declared.report.Report.{Report}
@@ -11,18 +11,13 @@ use Rattle.mm_st15.specs.Request.{IsRequest, SpellsRequest}
 use Rattle.mm_st15.proofs.RequestLemmas.{one_request}
 use Rattle.mm_memory.specs.Holdings.{Holdings}
 use Rattle.mm_memory.specs.Reports.{control_at, reports_on}
-use Rattle.mm_ask.specs.Line.{request_alone}
-use Rattle.mm_ask.specs.declared.fault.LineFault.{LineFault}
 use Rattle.mm_ask.specs.declared.fault.LineFault.TheVariants as octets
-use Rattle.mm_service.specs.declared.fault.Fault.{Fault}
-use Rattle.mm_service.specs.declared.fault.Fault.TheVariants.{TooManyReports}
 use Rattle.mm_service.specs.Applying.{PassesBound}
-use Rattle.mm_service.specs.Reading.{said, request_of}
+use Rattle.mm_service.specs.Reading.{request_of}
 use Rattle.mm_service.specs.Bounding.{IsWithin, most_reports, MayWait, KeepsBound}
 use Rattle.mm_service.specs.Queue.{Queue, queue_of, with_report, with_reports}
 use Rattle.mm_service.specs.Serving.{Serving}
-use Rattle.mm_service.proofs.ReportLemmas.{length-filter_map}
-use Rattle.mm_service.proofs.SpellingLemmas.{no_value}
+use Rattle.mm_memory.proofs.ReportLemmas.{length-filter_map}
 
 -- each report waits
 waits_each : (asked : SpacePacket) (reports : List Report) (q : Queue)
@@ -62,24 +57,6 @@ keeps_bound asked r now s t (inr within) waits =
     let many = waits_each asked (reports_on r now s.memory) (queue_of s.counts s.waiting) in
     let are = ap (λ (q : Queue). length q.waiting) waits in
     inr (fewer s.bound (length t.waiting) (length s.waiting + most_reports r) (omega (arith, are, many, below)) within)
-
--- no test of octets is that of the bound
-said_other : (r : Result SpacePacket LineFault) → said r ≡ Err TooManyReports → ⊥
-said_other (Ok packet) e = absurd cc
-said_other (Err octets.NoMemory) e = absurd cc
-said_other (Err octets.HexLine) e = absurd cc
-said_other (Err (octets.Packet fault)) e = absurd cc
-said_other (Err (octets.Request fault)) e = absurd cc
-
--- octets that fail a test ask no request that passes the bound
-pub fails_before : (octets : List ℕ) (s : Serving) (fault : Fault) → request_of octets ≡ Err fault
-    → (◌≡◌ {A = Result ℕ Fault} (Err fault) (Err TooManyReports)) ↔ PassesBound octets s
-fails_before octets s fault refused = (
-  λ same.
-      let is : fault ≡ TooManyReports = cc in
-      absurd (said_other (request_alone octets) (refused ∙ ap Err is)),
-  λ p. absurd (no_value fault p.asked (sym refused ∙ p.asks)),
-)
 
 -- a request that may wait does not pass the bound
 pub not_beyond : (octets : List ℕ) (s : Serving) (asked : SpacePacket) (r : Request)

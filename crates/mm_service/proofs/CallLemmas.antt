@@ -263,35 +263,28 @@ report_memory : (waiting : List SpacePacket) (told : Reported) (s t : Serving) (
 report_memory [] told s t old new is = ap (λ (x : Serving). x.memory) is.1
 report_memory (packet ∷ rest) told s t old new is = ap (λ (x : Serving). x.memory) is.1 ∙ after_memory told rest s
 
+-- a call that gives nothing and leaves the memory as it was
+same_memory : (call : Call) (s t : Serving) → AreCallsOf call [] → ((id : List ℕ) → gave id call ≡ [])
+    → t.memory ≡ s.memory → Made call s t
+same_memory call s t are none left = record {
+  turns = [];
+  are = are;
+  made = tt;
+  left = left;
+  keeps = λ k Q all. All-nil (Has Q);
+  gives = none;
+}
+
 made_of : (call : Call) (s t : Serving) → MayLeave call s t → Made call s t
 made_of (offer_call id octets now) s t is = offer_made id octets now s t is
 made_of (record_call octets now) s t is = record_made octets now s t is
 made_of (apply_call octets now) s t is = apply_made octets now s t is
 made_of (next_call id told new) s t is = by_next id told is.0 new s t (next_of id s) refl is.1.tells is.1.leaves
-made_of report_call s t is = record {
-  turns = [];
-  are = refl;
-  made = tt;
-  left = report_memory s.waiting is.0 s t is.1 is.2 is.3;
-  keeps = λ k Q all. All-nil (Has Q);
-  gives = λ k. refl;
-}
-made_of (bound_call bound) s t is = record {
-  turns = [];
-  are = refl;
-  made = tt;
-  left = ap (λ (x : Serving). x.memory) is;
-  keeps = λ k Q all. All-nil (Has Q);
-  gives = λ k. refl;
-}
-made_of refused_call s t is = record {
-  turns = [];
-  are = refl;
-  made = tt;
-  left = ap (λ (x : Serving). x.memory) is;
-  keeps = λ k Q all. All-nil (Has Q);
-  gives = λ k. refl;
-}
+made_of report_call s t is =
+    same_memory report_call s t refl (λ k. refl) (report_memory s.waiting is.0 s t is.1 is.2 is.3)
+made_of (bound_call bound) s t is =
+    same_memory (bound_call bound) s t refl (λ k. refl) (ap (λ (x : Serving). x.memory) is)
+made_of refused_call s t is = same_memory refused_call s t refl (λ k. refl) (ap (λ (x : Serving). x.memory) is)
 
 -- turns after one another
 turns-append : (m : Holdings) (turns more : List MemoryTurn) → AreMemoryTurns m turns

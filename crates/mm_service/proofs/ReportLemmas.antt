@@ -1,7 +1,6 @@
 -- How many reports and how many instructions a request has.
-use Rattle.std.proofs.Common.{◌≡◌, ℕ, suc, ◌+◌, ◌<◌, ◌≤◌, List, [], ◌∷◌, length, refl, ap, arith, Option, Some, None}
-use Rattle.std.specs.Prelude.{filter_map, map}
-use Rattle.std.specs.List.{cons_option}
+use Rattle.std.proofs.Common.{◌≡◌, suc, ◌<◌, ◌≤◌, List, [], ◌∷◌, length, refl, ap, arith}
+use Rattle.std.specs.Prelude.{map}
 use Rattle.std.proofs.lemmas.List.{length-map}
 use Rattle.mm_st15.specs.declared.request.Request.{Request}
 use Rattle.mm_st15.specs.declared.request.Request.TheVariants as request
@@ -10,19 +9,6 @@ use Rattle.mm_memory.specs.declared.answer.Answer.{Answer}
 use Rattle.mm_memory.specs.Applying.{AppliesEach}
 use Rattle.mm_memory.specs.Holdings.{Holdings}
 use Rattle.mm_memory.specs.Instruction.{Parsed, instructions_of}
-use Rattle.mm_memory.specs.Reports.{control_at, reports_on}
-
--- no more is left than there was
-length-cons_option : {Y : Type 0} (o : Option Y) (ys : List Y) → length (cons_option o ys) ≤ 1 + length ys
-length-cons_option None ys = omega arith
-length-cons_option (Some y) ys = omega arith
-
-pub length-filter_map : {X Y : Type 0} (f : X → Option Y) (xs : List X) → length (filter_map f xs) ≤ length xs
-length-filter_map f [] = omega arith
-length-filter_map f (x ∷ xs) =
-    let one = length-cons_option (f x) (filter_map f xs) in
-    let more = length-filter_map f xs in
-    omega arith
 
 -- there are as many answers as instructions
 pub as_many_answers : (parsed : List Parsed) (m : Holdings) (answers : List Answer) (left : Holdings)

@@ -4,7 +4,7 @@ use Rattle.mm_st15.specs.declared.request.Request.{Request}
 use Rattle.mm_st15.specs.declared.request.Request.TheVariants as request
 use Rattle.mm_service.specs.Serving.{Serving}
 
--- so many are within a bound, where there is one
+-- this number is within the bound, if there is one
 abbrev pub IsWithin : Option ℕ → ℕ → Type 0
 IsWithin None count = ⊤
 IsWithin (Some bound) count = count ≤ bound
@@ -17,10 +17,11 @@ most_reports request.ReportStatus = 1
 most_reports request.ReportConfiguration = 1
 most_reports other = 0
 
--- the reports on a request may wait: it has none, or with the most that it may have, those that wait are within the bound
+-- the reports on a request may wait: it has none, or with the most that it may have, those that wait are within the
+-- bound
 abbrev pub MayWait : Request → Serving → Type 0
 MayWait request s = (most_reports request ≡ 0) ⊎ IsWithin s.bound (length s.waiting + most_reports request)
 
--- no report waits more, or those that wait are within the bound
+-- no further report waits, or those that wait are within the bound
 abbrev pub KeepsBound : Serving → Serving → Type 0
 KeepsBound s t = (t.waiting ≡ s.waiting) ⊎ IsWithin s.bound (length t.waiting)

@@ -23,7 +23,7 @@ pub record TellsPacket (stored : Stored) (told : Given) (old new : List ℕ) : T
   pub len : told.len ≡ length (spelling stored.packet)
   pub written : new ≡ over (spelling stored.packet) old
 
--- what is told of what is given; but for a packet, the buffer is as it was
+-- what the call reports of what is given; without a packet the buffer is unchanged
 abbrev pub Tells : Result (Option Stored) Fault → Result (Option Given) Fault → List ℕ → List ℕ → Type 0
 Tells (Ok (Some stored)) (Ok (Some told)) old new = TellsPacket stored told old new
 Tells (Ok None) (Ok None) old new = new ≡ old
@@ -43,12 +43,13 @@ abbrev pub first_of : Result (Option Stored × Serving) Fault → Result (Option
 first_of (Ok (given, left)) = Ok given
 first_of (Err fault) = Err fault
 
--- what is left where something is given; a refusal leaves all as it was
+-- the service after the call; a refusal changes nothing
 abbrev pub Leaves : Result (Option Stored × Serving) Fault → Serving → Serving → Type 0
 Leaves (Ok (given, left)) s t = t ≡ left
 Leaves (Err fault) s t = t ≡ s
 
 -- a call gives the next packet of the retrieval from a store: it is told, and the service is the one that is left
-pub record GivesNext (id : List ℕ) (told : Result (Option Given) Fault) (s t : Serving) (old new : List ℕ) : Type 0 where
+pub record GivesNext (id : List ℕ) (told : Result (Option Given) Fault) (s t : Serving)
+    (old new : List ℕ) : Type 0 where
   pub tells : Tells (first_of (next_of id s)) told old new
   pub leaves : Leaves (next_of id s) s t

@@ -14,11 +14,12 @@ pub record Queue : Type 0 where
 abbrev pub queue_of : Counts → List SpacePacket → Queue
 queue_of counts waiting = record { counts = counts; waiting = waiting }
 
--- a report on the request of this packet waits more, and is counted
+-- one more report on the request of this packet waits, and is counted
 abbrev pub with_report : SpacePacket → Queue → Report → Queue
 with_report asked q report =
-    queue_of (counted q.counts (kind_of report)) (q.waiting ++ telemetry_of asked (numbers_of q.counts (kind_of report)) report ∷ [])
+    queue_of (counted q.counts (kind_of report)) (q.waiting
+    ++ telemetry_of asked (numbers_of q.counts (kind_of report)) report ∷ [])
 
--- reports on it wait more, in order
+-- more reports on it wait, in order
 abbrev pub with_reports : SpacePacket → List Report → Queue → Queue
 with_reports asked reports q = fold (with_report asked) q reports

@@ -7,15 +7,15 @@ use Rattle.mm_service.specs.declared.reporting.Reported.TheVariants.{Written, To
 use Rattle.mm_service.specs.Serving.{Serving}
 use Rattle.mm_packet.specs.Buffer.{over}
 
--- the buffer with these octets at its head, or as it was where there is no room for all of them
+-- the buffer with these octets at its head, or unchanged if there is no room for all of them
 abbrev pub put : List ℕ → List ℕ → List ℕ
 put octets buffer = if nat_le (length octets) (length buffer) then over octets buffer else buffer
 
--- what is told of octets for this many octets of room
+-- what the call reports of these octets, by the room in the buffer
 abbrev pub told_of : List ℕ → ℕ → Reported
 told_of octets room = if nat_le (length octets) room then Written (length octets) else TooSmall (length octets)
 
--- the service without the first of the reports that wait, where it was given
+-- the service without the first of the reports that wait, if that one was given
 abbrev pub after : Reported → List SpacePacket → Serving → Serving
 after (Written n) rest s = record s { waiting = rest }
 after other rest s = s

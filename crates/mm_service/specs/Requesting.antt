@@ -1,5 +1,6 @@
 -- Telecommands out of the fields of their requests.
-use Rattle.std.specs.Prelude.{◌≡◌, ◌≢◌, ℕ, ◌==◌, ◌&&◌, Bool, nat_lt, nat_le, List, length, map, Option, Some, None, Result, Ok, Err, if◌then◌else◌}
+use Rattle.std.specs.Prelude.{◌≡◌, ◌≢◌, ℕ, ◌==◌, ◌&&◌, Bool, nat_lt, nat_le, List, length, map, Option, Some, None}
+use Rattle.std.specs.Prelude.{Result, Ok, Err, if◌then◌else◌}
 use Rattle.mm_base.specs.Reading.{◌>>=◌, test}
 use Rattle.mm_packet.specs.Packet.{SpacePacket}
 use Rattle.mm_packet.specs.Spelling.{spelling}
@@ -15,10 +16,12 @@ use Rattle.mm_st15.specs.Request.{kind_of, count_of, data_of, HasCount, IsReques
 use Rattle.mm_ask.specs.Line.{request_alone}
 use Rattle.mm_service.specs.declared.instruction_fields.InstructionFields.{InstructionFields}
 use Rattle.mm_service.specs.declared.requesting.FieldsFault.{FieldsFault}
-use Rattle.mm_service.specs.declared.requesting.FieldsFault.TheVariants.{NoMemory, Idle, Limit, UnknownSubtype, CountMismatch}
+use Rattle.mm_service.specs.declared.requesting.FieldsFault.TheVariants.{NoMemory, Idle, Limit, UnknownSubtype}
+use Rattle.mm_service.specs.declared.requesting.FieldsFault.TheVariants.{CountMismatch}
 use Rattle.mm_service.specs.declared.requesting.RequestFields.{RequestFields}
 use Rattle.mm_service.specs.declared.requesting.TheConstants.{ACKNOWLEDGEMENTS}
-use Rattle.mm_service.specs.InstructionFields.{target_of, report_type_of, time_range_of, time_limit_of, configuration_of, size_of, channel_of}
+use Rattle.mm_service.specs.InstructionFields.{target_of, report_type_of, time_range_of, time_limit_of}
+use Rattle.mm_service.specs.InstructionFields.{configuration_of, size_of, channel_of}
 
 -- the request of a kind whose instructions have these fields; one without data has none
 abbrev pub request_made : RequestKind → List InstructionFields → Request
@@ -47,7 +50,8 @@ is_count (Some width) count = nat_le 1 count && nat_lt count 256
 
 -- the request of a kind whose instructions have these fields, where it may have that many
 abbrev pub counted : RequestKind → List InstructionFields → Result Request FieldsFault
-counted kind fields = if is_count (width_of kind) (length fields) then Ok (request_made kind fields) else Err CountMismatch
+counted kind fields =
+    if is_count (width_of kind) (length fields) then Ok (request_made kind fields) else Err CountMismatch
 
 -- a subtype of the profile
 abbrev pub subtype_tested : Option RequestKind → Result RequestKind FieldsFault
@@ -94,7 +98,7 @@ pub record AsksFor (f : RequestFields) (fields : List InstructionFields) (packet
   pub packet_is : packet ≡ request_packet f request
   pub spelled : SpellsRequest packet request
 
--- the octets are those of that telecommand, of which the request is read again
+-- the octets are those of that telecommand, and its request is read again from them
 pub record Requests (f : RequestFields) (fields : List InstructionFields) (octets : List ℕ) : Type 0 where
   pub packet : SpacePacket
   pub asks : AsksFor f fields packet

@@ -40,7 +40,7 @@ opened_of setup = do
   rows ← setup_of setup
   Ok (opened (memory_of rows))
 
--- what an offer leaves, beside what it does to the memory: it may be refused
+-- what an offer leaves: a refusal out of memory is counted, and without a refusal the service is this one
 abbrev pub after_outcome : Option Fault → Serving → Serving
 after_outcome None s = s
 after_outcome (Some fault) s = after_refusal fault s

@@ -58,8 +58,8 @@ fn wait_for_all(
     }
 }
 
-// Makes room for this number of reports more. Where it lacks, the room doubles at least, so that few calls ask for
-// memory.
+// Makes room for this number of further reports. If there is not enough, the room at least doubles, so that few calls
+// ask for memory.
 fn make_room(waiting: &mut VecDeque<Waiting>, most: usize) -> Result<(), AllocError>
     ensures same { waiting.new.items ≡ waiting.old.items }
     ensures room { OnOk result (deque_len waiting.new + most ≤ deque_capacity waiting.new) }
@@ -73,7 +73,7 @@ fn make_room(waiting: &mut VecDeque<Waiting>, most: usize) -> Result<(), AllocEr
     Ok(())
 }
 
-// Whether the octets are a request of which nothing stays in memory.
+// Whether the octets are a request that leaves nothing in memory.
 fn leaves_nothing(octets: &[u8]) -> bool {
     let Ok(packet) = lent_alone(octets) else {
         return false;
@@ -130,8 +130,8 @@ impl Service {
     /// Applies the request of the packet that the octets are, at a moment in ticks. The codes of the answers to its
     /// instructions, in order, are then at the head of a buffer with room for each request's, and their number is
     /// given; its reports wait after those that waited. Where they may not wait within the bound, the request is
-    /// refused. A refusal has changed nothing. A request of which nothing stays in memory is applied in what is kept
-    /// for it where there is no other memory: one that changes a switch, a channel or a retrieval, or deletes.
+    /// refused. A refusal has changed nothing. A request that leaves nothing in memory (it changes a switch, a channel
+    /// or a retrieval, or deletes) is applied in the memory that is kept for it if there is no other.
     pub fn apply(
         &mut self,
         alloc: Global,

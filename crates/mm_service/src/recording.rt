@@ -14,7 +14,7 @@ use mm_packet::{BlockPacket, LentPacket};
 use std::alloc::Global;
 
 impl Service {
-    // The packet in the spare, where the stores that it is routed to hand as much memory back.
+    // The packet in the spare memory, if the stores that it is routed to give all memory back that they take for it.
     fn in_spare(&mut self, packet: &LentPacket<'_>) -> Option<BlockPacket>
         requires fits { length (spelling packet.now) ≤ BLOCK }
         ensures same { IfSome result (λ block. block ≡ packet.now) }

@@ -12,7 +12,7 @@ use Rattle.mm_st15.specs.declared.report_entry.Row.{Row}
 use Rattle.mm_st15.specs.declared.report_entry.Summary.{Summary}
 use Rattle.mm_st15.specs.declared.report_entry.Status.{Status}
 
--- a field: a store's identifier, or a number of so many bits
+-- a field: a store's identifier, or a number of 8, 16, 32 or 64 bits
 pub data Field : Type 0 where
   identifier : Field
   number8 : Field
@@ -41,7 +41,7 @@ field_octets number16 n = to_be_bytes w16 n
 field_octets number32 n = to_be_bytes w32 n
 field_octets number64 n = to_be_bytes w64 n
 
--- an identifier has eight octets, and a number so many bits
+-- an identifier has eight octets, and a number fits the bits of its field
 abbrev pub FitsField : (f : Field) → Held f → Type 0
 FitsField identifier octets = length octets ≡ 8
 FitsField number8 n = n < 2 ^ 8
@@ -91,7 +91,10 @@ abbrev pub target_layout : Layout Target
 target_layout = record { fields = identifier ∷ []; held = λ e. (e.id, tt) }
 
 abbrev pub report_type_layout : Layout ReportType
-report_type_layout = record { fields = identifier ∷ number16 ∷ number8 ∷ number8 ∷ []; held = λ e. (e.id, (e.apid, (e.service, (e.subtype, tt)))) }
+report_type_layout = record {
+  fields = identifier ∷ number16 ∷ number8 ∷ number8 ∷ [];
+  held = λ e. (e.id, (e.apid, (e.service, (e.subtype, tt))));
+}
 
 abbrev pub time_range_layout : Layout TimeRange
 time_range_layout = record { fields = identifier ∷ number64 ∷ number64 ∷ []; held = λ e. (e.id, (e.from, (e.to, tt))) }
@@ -100,7 +103,10 @@ abbrev pub time_limit_layout : Layout TimeLimit
 time_limit_layout = record { fields = identifier ∷ number64 ∷ []; held = λ e. (e.id, (e.limit, tt)) }
 
 abbrev pub configuration_layout : Layout Configuration
-configuration_layout = record { fields = identifier ∷ number32 ∷ number8 ∷ number8 ∷ []; held = λ e. (e.id, (e.size, (e.kind, (e.channel, tt)))) }
+configuration_layout = record {
+  fields = identifier ∷ number32 ∷ number8 ∷ number8 ∷ [];
+  held = λ e. (e.id, (e.size, (e.kind, (e.channel, tt))));
+}
 
 abbrev pub size_layout : Layout Size
 size_layout = record { fields = identifier ∷ number32 ∷ []; held = λ e. (e.id, (e.size, tt)) }
@@ -112,7 +118,11 @@ abbrev pub row_layout : Layout Row
 row_layout = record { fields = number16 ∷ number8 ∷ number8 ∷ []; held = λ e. (e.apid, (e.service, (e.subtype, tt))) }
 
 abbrev pub summary_layout : Layout Summary
-summary_layout = record { fields = identifier ∷ number64 ∷ number64 ∷ number32 ∷ []; held = λ e. (e.id, (e.oldest, (e.newest, (e.held, tt)))) }
+summary_layout = record {
+  fields = identifier ∷ number64 ∷ number64 ∷ number32 ∷ [];
+  held = λ e. (e.id, (e.oldest, (e.newest, (e.held, tt))));
+}
 
 abbrev pub status_layout : Layout Status
-status_layout = record { fields = identifier ∷ number8 ∷ number8 ∷ []; held = λ e. (e.id, (e.storage, (e.retrieval, tt))) }
+status_layout =
+    record { fields = identifier ∷ number8 ∷ number8 ∷ []; held = λ e. (e.id, (e.storage, (e.retrieval, tt))) }

@@ -1,5 +1,6 @@
 -- Reports: their data, and the packets that spell them.
-use Rattle.std.specs.Prelude.{◌≡◌, ℕ, ◌*◌, ◌<◌, ◌≤◌, ◌^◌, Bool, false, ◌==◌, ◌||◌, nat_lt, not, List, ◌∷◌, ◌++◌, length, drop, Option, Some, None, is_some, if◌then◌else◌}
+use Rattle.std.specs.Prelude.{◌≡◌, ℕ, ◌*◌, ◌<◌, ◌≤◌, ◌^◌, Bool, false, ◌==◌, ◌||◌, nat_lt, not, List, ◌∷◌, ◌++◌, length}
+use Rattle.std.specs.Prelude.{drop, Option, Some, None, is_some, if◌then◌else◌}
 use Rattle.std.specs.List.{flat_map, AllByRecursion}
 use Rattle.std.specs.Int.{w16, to_be_bytes}
 use Rattle.mm_base.specs.NumberFields.{number_at}
@@ -31,7 +32,8 @@ moment_of (report.Summaries moment entries) = moment
 moment_of (report.Statuses moment entries) = moment
 moment_of (report.Configurations moment entries) = moment
 
--- the data of a report: the identifier, the number of rows in two octets and the rows; or the number of entries and the entries
+-- the data of a report: the identifier, the number of rows in two octets and the rows; or the number of entries and the
+-- entries
 abbrev pub data_of : Report → List ℕ
 data_of (report.Control moment id rows) = id ++ to_be_bytes w16 (length rows) ++ flat_map (octets_of row_layout) rows
 data_of (report.Summaries moment entries) = length entries ∷ flat_map (octets_of summary_layout) entries
@@ -65,7 +67,7 @@ pub record SpellsReport (packet : SpacePacket) (report : Report) : Type 0 where
   pub subtype : packet.header.subtype ≡ code_of (kind_of report)
   pub body : packet.body ≡ data_of report
 
--- the octets after the number of rows are so many rows
+-- the octets after the number of rows are that many rows
 abbrev pub are_rows : Option (ℕ × List ℕ) → Bool
 are_rows None = false
 are_rows (Some found) = length found.1 == found.0 * 4

@@ -26,7 +26,7 @@ fn counted_at(least: u8, width: usize, octets: &[u8]) -> Option<(usize, &[u8])>
     Some((count as usize, rest))
 }
 
-// The entries after their count, of which there are at least this many.
+// The entries after their count. There must be at least this many.
 pub(crate) fn counted_entries<E: Entry>(
     alloc: Global,
     least: u8,

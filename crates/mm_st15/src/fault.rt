@@ -13,7 +13,7 @@ pub enum Fault {
     NoMemory,
     /// A packet of the other type, or of another service.
     NotSt15,
-    /// A subtype that the profile has not.
+    /// A subtype that is not in the profile.
     UnknownSubtype,
     /// The data are not as long as their count says, or the count is not allowed.
     CountMismatch,

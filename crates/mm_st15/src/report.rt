@@ -1,12 +1,14 @@
 //! Reports of service 15.
-ghost use Rattle.std.specs.Prelude.{◌≡◌, ◌*◌, ◌<◌, ◌≤◌, ◌^◌, ◌∷◌, ◌++◌, length, is_some, IfOk, IfSome, MatchBool, MatchResult, MatchOption, IsOkUnless};
+ghost use Rattle.std.specs.Prelude.{◌≡◌, ◌*◌, ◌<◌, ◌≤◌, ◌^◌, ◌∷◌, ◌++◌, length, is_some, IfOk, IfSome, MatchBool};
+ghost use Rattle.std.specs.Prelude.{MatchResult, MatchOption, IsOkUnless};
 ghost use Rattle.std.specs.List.{flat_map, AllByRecursion};
 ghost use Rattle.std.specs.Int.{w16, to_be_bytes};
 ghost use Rattle.mm_packet.specs.declared.header.TheConstants.{IDLE_APID, TELEMETRY_BODY};
 ghost use Rattle.mm_packet.specs.declared.header.PacketType.TheVariants.{Telemetry};
 ghost use Rattle.mm_st15.specs.Layout.{octets_of, Fits, row_layout};
 ghost use Rattle.mm_st15.specs.ReportKind.{code_of};
-ghost use Rattle.mm_st15.specs.Report.{is_counted, kind_of, moment_of, data_of, HasCount, FitsEntries, IsReport, SpellsReport, report_fault};
+ghost use Rattle.mm_st15.specs.Report.{is_counted, kind_of, moment_of, data_of, HasCount, FitsEntries, IsReport};
+ghost use Rattle.mm_st15.specs.Report.{SpellsReport, report_fault};
 
 use crate::counted::{counted_entries, counted_octets};
 use crate::entries::Entries;
@@ -160,7 +162,7 @@ fn control_octets(alloc: Global, id: &[u8; 8], rows: &Entries<Row>) -> Result<Ve
     Ok(out)
 }
 
-// The identifier, the number of the rows and their octets, where these are so many rows.
+// The identifier, the number of the rows and their octets, if they are that many rows.
 fn rows_at(octets: &[u8]) -> Option<([u8; 8], usize, &[u8])>
     ensures value { is_some result ≡ is_counted ReportKind.Control octets.now }
     ensures parts { IfSome result (λ x. octets.now ≡ x.0 ++ to_be_bytes w16 x.1 ++ x.2.now) }

@@ -1,5 +1,7 @@
 -- What a packet store holds, and what each call does to it, over one list of packets with their times.
-use Rattle.std.specs.Prelude.{ℕ, Bool, ◌+◌, ◌-◌, ◌<◌, ◌≤◌, ◌^◌, ◌==◌, ◌&&◌, nat_lt, nat_le, max, if◌then◌else◌, List, [], ◌∷◌, ◌++◌, length, map, filter, find, count_by, slice_index, All, AllPairs, Option, option_map}
+use Rattle.std.specs.Prelude.{ℕ, Bool, ◌+◌, ◌-◌, ◌<◌, ◌≤◌, ◌^◌, ◌==◌, ◌&&◌, nat_lt, nat_le, max, if◌then◌else◌, List}
+use Rattle.std.specs.Prelude.{[], ◌∷◌, ◌++◌, length, map, filter, find, count_by, slice_index, All, AllPairs, Option}
+use Rattle.std.specs.Prelude.{option_map}
 use Rattle.std.specs.Borrow.{Bor}
 use Rattle.mm_base.specs.declared.limits.TheConstants.{MAX_BLOCKS}
 use Rattle.mm_base.specs.declared.kind.Kind.{Kind}
@@ -9,8 +11,7 @@ use Rattle.mm_store.specs.declared.stored.Stored.{Stored}
 use Rattle.mm_store.specs.declared.put.Put.{Put}
 use Rattle.mm_store.specs.declared.put.Put.TheVariants.{Kept, KeptOver, Lost, ClockEnd}
 
--- a packet store: its kind, its size in blocks, the last storage time that it gave, and what it
--- holds, the oldest first
+-- a packet store: its kind, its size in blocks, the last storage time that it gave, and what it holds, the oldest first
 pub record Store : Type 0 where
   pub kind : Kind
   pub size : ℕ
@@ -21,8 +22,7 @@ pub record Store : Type 0 where
 abbrev pub IsRising : List Stored → Type 0
 IsRising content = AllPairs (λ p q. p.time < q.time) content
 
--- times rise strictly, are at least 1 and at most the last time, and no more is held than there are
--- blocks
+-- times rise strictly, are at least 1 and at most the last time, and no more is held than there are blocks
 pub record IsStore (s : Store) : Type 0 where
   pub rising : IsRising s.content
   pub from_one : All (λ p. 1 ≤ p.time) s.content
@@ -40,12 +40,11 @@ clock_end = 2 ^ 64 - 1
 abbrev pub empty_store : Kind → ℕ → Store
 empty_store kind size = record { kind = kind; size = size; last = 0; content = [] }
 
--- the store with this content, of which the newest has the last time
+-- the store with this content, whose newest packet has the last time
 abbrev pub with_newest : Store → List Stored → Stored → Store
 with_newest s older newest = record s { last = newest.time; content = older ++ newest ∷ [] }
 
--- a put into a full store: a circular one gives up its oldest packet, a bounded one hands the new
--- one back
+-- a put into a full store: a circular one gives up its oldest packet, a bounded one hands the new one back
 abbrev pub put_full : Kind → List Stored → Store → Stored → Put × Store
 put_full Circular (oldest ∷ later) s new = (KeptOver new.time oldest.packet, with_newest s later new)
 put_full Circular [] s new = (Lost new.packet, s)

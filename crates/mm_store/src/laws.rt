@@ -2,7 +2,7 @@
 ghost use Rattle.mm_store.specs.Laws.{LoseAlike, PutsKeepStores, DeletionsKeepStores};
 
 /// A put before the end of the clock leaves one packet more or a full store, and hands back the one that does not fit,
-/// whatever the kind of the store and the times.
+/// for either kind of store and any times.
 pub fn stores_lose_alike()
     ensures law { LoseAlike }
 {}

@@ -2,7 +2,7 @@ use Rattle.std.proofs.Common.{◌≡◌, length}
 use Rattle.mm_store.specs.Content.{IsRising, kept_after}
 use Rattle.mm_store.proofs.queue.delete_up_to.Given as goal
 
--- only packets that the deletion removes are gone so far
+-- so far only packets that the deletion removes were taken out
 abbrev pub invariant-loop-queue : goal.invariant-loop-queue
 invariant-loop-queue g l =
     let held = g.Q.PacketQueue.held in

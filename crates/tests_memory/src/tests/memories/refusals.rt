@@ -24,7 +24,7 @@ const NONE: [u8; 8] = *b"NONE    ";
 // This is no identifier.
 const BAD: [u8; 8] = *b"sci     ";
 
-// The stores of which a retrieval is on, in one with storage on as well.
+// The stores from which a retrieval is on. The second also has storage on.
 const READ: [u8; 8] = *b"READ    ";
 
 const BOTH: [u8; 8] = *b"BOTH    ";
@@ -41,8 +41,7 @@ const RANGE: &[u8] = b"\0\0\0\0\0\0\0\x01\0\0\0\0\0\0\0\xFF";
 
 const LATE: &[u8] = b"\0\0\0\0\0\0\0\x09\0\0\0\0\0\0\0\x08";
 
-// Sizes, types and virtual channels of stores: one that is good, and others with a field that is not
-// allowed.
+// Sizes, types and virtual channels of stores: one that is good, and others with a field that is not allowed.
 const FORM: &[u8] = b"\x00\x00\x00\x04\x01\x00";
 
 const BAD_KIND_AND_SIZE: &[u8] = b"\x00\x00\x00\x00\x02\x00";
@@ -76,9 +75,9 @@ fn asks_each(rt: &impl Host, memory: &mut Memory, name: &str, cases: &[Case]) {
     }
 }
 
-// The stores READ and BOTH, and then what is refused. A malformed identifier comes before all else; a type, a channel or an APID
-// before a size, and each of them before what there is; a store that is not there before what it would answer. Storage on comes
-// before a retrieval, and a retrieval before its range.
+// The stores READ and BOTH, and then what is refused. A malformed identifier comes before all else; a type, a channel
+// or an APID before a size, and each of them before what there is; a store that is not there before what it would
+// answer. Storage on comes before a retrieval, and a retrieval before its range.
 static CASES: [Case; 39] = cases! {
     Done => 20 READ FORM, 9 READ RANGE, 20 BOTH FORM, 9 BOTH RANGE, 1 BOTH b"";
 

@@ -51,7 +51,7 @@ const SCI: [u8; 8] = *b"SCI     ";
 
 const HK: [u8; 8] = *b"HK      ";
 
-// Three identifiers, of which the second is a store's.
+// Three identifiers. Only the second is a store's.
 const THREE: &[u8] = b"\x03sci     SCI     NONE    ";
 
 const THREE_ANSWERS: [Answer; 3] = [Refused(BadId), Done, Refused(NoSuchStore)];
