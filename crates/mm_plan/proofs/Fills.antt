@@ -4,7 +4,7 @@ use Rattle.std.proofs.lemmas.Bool.{cases_lt}
 use Rattle.mm_problem.specs.Dumping.{Dumping, start, channel}
 use Rattle.mm_plan.specs.Volumes.{Amounts, written, left}
 use Rattle.mm_plan.specs.Fit.{FitsAt, Fits}
-use Rattle.mm_plan.specs.Filled.{IsFilledAt, IsFilled, IsNowhereWorse}
+use Rattle.mm_plan.specs.Filled.{IsFilledAt, IsNowhereWorse}
 use Rattle.mm_plan.specs.Filling.{SameElsewhere, IsLoweredAt, AreLeft, AreSplit, IsStepFilled}
 use Rattle.mm_plan.proofs.Steps.{left_start, left_step, left_same, written_same, left_no_more, lost_no_more}
 use Rattle.mm_plan.proofs.Raises.{IsNoLess, used_kept, fits_no_more}
@@ -81,9 +81,6 @@ done_more q x y z w t blocks new first last is apart cut filled =
 -- all steps
 pub done_fits : (q : Dumping) (x y : Amounts) (n : ℕ) (blocks : List ℕ) → n ≡ length q.windows + 1 → IsDoneBefore q x y n blocks → Fits q y
 done_fits q x y n blocks all is = λ t first below. (is.done t first (omega arith)).fits
-
-pub done_filled : (q : Dumping) (x y : Amounts) (n : ℕ) (blocks : List ℕ) → n ≡ length q.windows + 1 → IsDoneBefore q x y n blocks → IsFilled q y
-done_filled q x y n blocks all is = λ t first last. (is.done t first (omega arith)).filled
 
 pub done_no_worse : (q : Dumping) (x y : Amounts) (n : ℕ) (blocks : List ℕ) → n ≡ length q.windows + 1 → IsDoneBefore q x y n blocks → IsNowhereWorse q x y
 done_no_worse q x y n blocks all is =

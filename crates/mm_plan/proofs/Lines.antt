@@ -1,22 +1,28 @@
 -- Each line of a sheet is read from its text, and what is read is the text of a line.
-use Rattle.std.proofs.Common.{◌≡◌, ℕ, ◌<◌, ◌≤◌, Bool, true, false, cond, ◌==◌, List, [], ◌∷◌, length, map, take, drop, Some, None, refl, sym, ap, ◌∙◌, subst, arith, length-append, length-take, length-drop, ◌-◌}
+use Rattle.std.proofs.Common.{◌≡◌, ℕ, ◌<◌, ◌≤◌, Bool, true, false, cond, ◌==◌, List, [], ◌∷◌, length, map, take, drop}
+use Rattle.std.proofs.Common.{Some, None, refl, sym, ap, ◌∙◌, subst, arith, length-append, length-take, length-drop}
+use Rattle.std.proofs.Common.{◌-◌}
 use Rattle.std.specs.Prelude.{All, codes, decimal, ◌^◌}
 use Rattle.std.specs.List.{slice_split}
 use Rattle.std.specs.Str.{bytes_eq}
 use Rattle.std.proofs.lemmas.List.{length-map, take_all}
-use Rattle.std.proofs.lemmas.List.Elements.{All-from_recursion, All-nil, All-cons, All-head, All-tail, All-map, All-weaker}
+use Rattle.std.proofs.lemmas.List.Elements.{All-from_recursion, All-nil, All-cons, All-head, All-tail, All-map}
+use Rattle.std.proofs.lemmas.List.Elements.{All-weaker}
 use Rattle.std.proofs.Math.Seq.{take-append_seam}
-use Rattle.std.proofs.lemmas.Option.{cond_some}
+use Rattle.std.proofs.lemmas.Bool.{false≢true}
 use Rattle.std.proofs.lemmas.Slice.Eq.{bytes_eq-Decides}
 use Rattle.mm_base.specs.declared.limits.TheConstants.{MAX_STEPS, MAX_BLOCKS}
 use Rattle.mm_base.specs.Id.{IsIdField, id_text}
 use Rattle.mm_plan.specs.declared.form.Form.{Form}
 use Rattle.mm_plan.specs.declared.form.Form.TheVariants.{First, Second, Third}
-use Rattle.mm_plan.specs.Sheet.{Line, title_line, stores_line, dump_line, loss_line, stretch_line, count_line, bound_line, first_line, end_line, IsLine, form_word, words, line_text}
-use Rattle.mm_plan.specs.Reading.{MAX_U32, MAX_U64, line_words, number_of, id_of, word, line_of, read_line}
+use Rattle.mm_plan.specs.Sheet.{Line, title_line, stores_line, dump_line, loss_line, stretch_line, count_line}
+use Rattle.mm_plan.specs.Sheet.{bound_line, first_line, end_line, IsLine, form_word, words, line_text}
+use Rattle.mm_plan.specs.Reading.{MAX_U32, MAX_U64, line_words, number_of, id_of, word, line_of, IsRead}
 use Rattle.mm_plan.specs.Printing.{ended}
-use Rattle.mm_plan.proofs.Spelled.{Lacks, IsBare, bare_lacks, bare_tested, bare_decimal, bare_signed, bare_id, slice_split-join, join_lacks}
-use Rattle.mm_plan.proofs.Saying.{number_of-decimal, number_of-most, id_of-id_text, id_of-is, signed_of-signed_decimal, signed_of-fits}
+use Rattle.mm_plan.proofs.Spelled.{Lacks, IsBare, bare_lacks, bare_tested, bare_decimal, bare_signed, bare_id}
+use Rattle.mm_plan.proofs.Spelled.{slice_split-join, join_lacks}
+use Rattle.mm_plan.proofs.Saying.{number_of-decimal, number_of-most, id_of-id_text, id_of-is, signed_of-signed_decimal}
+use Rattle.mm_plan.proofs.Saying.{signed_of-fits}
 
 -- ---- the words of a line
 
@@ -91,7 +97,8 @@ line_words-line_text x h =
 -- ---- the words of a line say the line
 
 -- printed elements say what they were printed of
-said_each : {A : Type 0} (said : List ℕ → A) (text : A → List ℕ) (P : A → Type 0) → ((x : A) → P x → said (text x) ≡ x) → (xs : List A) → All P xs → map said (map text xs) ≡ xs
+said_each : {A : Type 0} (said : List ℕ → A) (text : A → List ℕ) (P : A → Type 0) → ((x : A) → P x → said (text x) ≡ x)
+    → (xs : List A) → All P xs → map said (map text xs) ≡ xs
 said_each said text P back [] h = refl
 said_each said text P back (x ∷ xs) h =
     ap (λ y. y ∷ map said (map text xs)) (back x (All-head P x xs h)) ∙ ap (λ ys. x ∷ ys) (said_each said text P back xs (All-tail P x xs h))
@@ -123,7 +130,8 @@ cond_is P true x y here there = here
 cond_is P false x y here there = there
 
 -- what any words say
-each_is : {A : Type 0} (said : List ℕ → A) (P : A → Type 0) → ((w : List ℕ) → P (said w)) → (ws : List (List ℕ)) → All P (map said ws)
+each_is : {A : Type 0} (said : List ℕ → A) (P : A → Type 0) → ((w : List ℕ) → P (said w)) → (ws : List (List ℕ))
+    → All P (map said ws)
 each_is said P is [] = All-nil P
 each_is said P is (w ∷ ws) = All-cons P (said w) (map said ws) (is w) (each_is said P is ws)
 
@@ -149,27 +157,42 @@ line_of-is (k ∷ ws) few =
 
 -- ---- the line of a text
 
--- the text of a line is read as the line
-pub read_line-line_text : (x : Line) → IsLine x → read_line (line_text x) ≡ Some x
-unfolding read_line
-read_line-line_text x h =
-    ap (λ y. cond (bytes_eq (line_text y) (line_text x)) (Some y) None) (ap line_of (line_words-line_text x h) ∙ line_of-words x h)
-    ∙ ap (λ b. cond b (Some x) None) ((bytes_eq-Decides (line_text x) (line_text x)).1 refl)
-
 -- the line that a text's words say
-pub said_is : (text : List ℕ) → IsLine (line_of (line_words text))
+abbrev pub said_line : List ℕ → Line
+said_line text = line_of (line_words text)
+
+-- the text of a line says the line
+said_line-line_text : (x : Line) → IsLine x → said_line (line_text x) ≡ x
+said_line-line_text x h = ap line_of (line_words-line_text x h) ∙ line_of-words x h
+
+-- the texts of lines say the lines
+pub said_lines : (xs : List Line) → All IsLine xs → map said_line (map line_text xs) ≡ xs
+said_lines = said_each said_line line_text IsLine said_line-line_text
+
+-- lines of one text are one line
+pub same_line : (x y : Line) → IsLine x → IsLine y → line_text x ≡ line_text y → x ≡ y
+same_line x y h i e = sym (said_line-line_text x h) ∙ ap said_line e ∙ said_line-line_text y i
+
+-- which is within the ranges of a line
+pub said_is : (text : List ℕ) → IsLine (said_line text)
 said_is text = line_of-is (line_words text) (omega (arith, length-take 18 (slice_split (λ c. c == 32) text)))
 
--- what a text is read as is the line whose text it is
-pub read_line_some : (text : List ℕ) (x : Line) → read_line text ≡ Some x → (text ≡ line_text x) × IsLine x
-unfolding read_line
-read_line_some text x e =
-    let said = line_of (line_words text) in
-    let p = cond_some (bytes_eq (line_text said) text) said x e in
-    subst (λ y. (text ≡ line_text y) × IsLine y) p.1 (sym ((bytes_eq-Decides (line_text said) text).0 p.0), said_is text)
+-- a text that is printed again is that of the line which it says
+pub said_read : (text : List ℕ) (x : Line) → x ≡ said_line text → bytes_eq (line_text x) text ≡ true
+    → IsRead text (Some x)
+said_read text x said same =
+    (subst IsLine (sym said) (said_is text), sym ((bytes_eq-Decides (line_text x) text).0 same))
+
+-- a text that is not is no line's
+pub said_unread : (text : List ℕ) (x : Line) → x ≡ said_line text → bytes_eq (line_text x) text ≡ false
+    → IsRead text None
+said_unread text x said other = λ y h is.
+    let same : line_text x ≡ text = ap line_text (said ∙ ap said_line is ∙ said_line-line_text y h) ∙ sym is in
+    false≢true (sym other ∙ (bytes_eq-Decides (line_text x) text).1 same)
 
 -- a line that is printed, without its line feed
-pub line_printed : (x : Line) (printed rest : List ℕ) (n : ℕ) → printed ≡ ended x → n ≡ length printed → rest ≡ take (n - 1) printed → rest ≡ line_text x
+pub line_printed : (x : Line) (printed rest : List ℕ) (n : ℕ) → printed ≡ ended x → n ≡ length printed
+    → rest ≡ take (n - 1) printed → rest ≡ line_text x
 unfolding ended
 line_printed x printed rest n is size cut =
     let len : n - 1 ≡ length (line_text x) = omega (arith, size, ap length is, length-append (line_text x) (10 ∷ [])) in

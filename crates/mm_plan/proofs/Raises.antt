@@ -13,7 +13,7 @@ use Rattle.mm_plan.specs.Volumes.{Amounts}
 use Rattle.mm_plan.specs.Fit.{in_step, FitsAt}
 use Rattle.mm_plan.specs.Filled.{IsWindowUsed, IsLimitUsed}
 use Rattle.mm_plan.specs.Filling.{IsRest, room_in}
-use Rattle.mm_plan.proofs.Options.{none_is_some}
+use Rattle.std.proofs.lemmas.Option.{none-some}
 use Rattle.mm_problem.proofs.Limits.{limit_is_within}
 use Rattle.mm_base.proofs.RangeSums.{sum_by_range-le, sum_by_filter_range-le, sum_by_range_changed, sum_by_filter_range_changed}
 
@@ -74,7 +74,7 @@ rest_raised q x y s t d idle less rests after is raised is_less here others = re
 
 -- what is not used of a limit is 0 or more
 fits_with : (limit rest : Option ℕ) (a b : ℕ) → limit ≡ option_map (λ r. a + r) rest → limit ≡ Some b → a ≤ b
-fits_with limit None a b e some = none_is_some b (sym e ∙ some)
+fits_with limit None a b e some = absurd (none-some b (sym e ∙ some))
 fits_with limit (Some r) a b e some = omega (arith, same_Some (a + r) b (sym e ∙ some))
 
 -- a plan of which something is not used fits

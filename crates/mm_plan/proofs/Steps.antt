@@ -32,10 +32,6 @@ left_most q x s (suc n) is store =
     let row = is.stores.each s no_row store in
     omega (arith, left_suc q x s n, written_next q x s n)
 
--- nor is more written in it
-pub written_most : (q : Dumping) (x : Amounts) (s t : ℕ) → IsDumping q → s < length q.rows → written q x s t ≤ MAX_BLOCKS
-written_most q x s t is store = let row = is.stores.each s no_row store in omega arith
-
 -- what is left depends on the amounts up to that step alone
 pub left_same : (q : Dumping) (x y : Amounts) (s n : ℕ) → ((u : ℕ) → 1 ≤ u → u ≤ n → y s u ≡ x s u) → left q y s n ≡ left q x s n
 left_same q x y s zero same = left_start q y s ∙ sym (left_start q x s)

@@ -1,5 +1,6 @@
 -- Filling a plan, one step after the other.
-use Rattle.std.specs.Prelude.{◌≡◌, ◌≢◌, ℕ, ◌+◌, ◌<◌, ◌≤◌, List, length, slice_index, slice_index_or, min, Option, Some, None, option_map, ◌⊎◌}
+use Rattle.std.specs.Prelude.{◌≡◌, ◌≢◌, ℕ, ◌+◌, ◌<◌, ◌≤◌, List, length, slice_index, slice_index_or, min, Option, Some}
+use Rattle.std.specs.Prelude.{None, option_map, ◌⊎◌}
 use Rattle.std.specs.List.{sum_by}
 use Rattle.mm_base.specs.declared.limits.TheConstants.{CHANNELS}
 use Rattle.mm_problem.specs.Dumping.{Dumping, stores, stores_of, window, limit, channel}
@@ -32,7 +33,8 @@ pub record IsRest (q : Dumping) (x : Amounts) (t idle : ℕ) (rests : List (Opti
   pub windowed : sum_by (in_step x t) (stores q) + idle ≡ window q t
   pub limited : AreUnused q x t rests
 
--- by the second plan no amount of the step is smaller than by the first, and no window or limit is idle that a store could use; blocks has
+-- by the second plan no amount of the step is smaller than by the first, and no window or limit is idle that a store
+-- could use; blocks has
 -- what stays in each store
 pub record IsStepFilled (q : Dumping) (x y : Amounts) (t : ℕ) (blocks : List ℕ) : Type 0 where
   pub others : SameElsewhere q x y t

@@ -1,5 +1,8 @@
 -- Reading a plan text line by line.
-use Rattle.std.specs.Prelude.{ℕ, zero, suc, ◌+◌, ℤ, pos, negsuc, Bool, true, false, not, ◌&&◌, ◌||◌, ◌==◌, nat_le, nat_lt, if◌then◌else◌, List, [], ◌∷◌, ◌++◌, length, map, take, drop, slice_index_or, Option, Some, None, option_and_then, codes}
+use Rattle.std.specs.Prelude.{◌≡◌, ◌≢◌, ℕ, zero, suc, ◌+◌, ℤ, pos, negsuc, Bool, true, false, not, ◌&&◌, ◌||◌, ◌==◌}
+use Rattle.std.specs.Prelude.{nat_le, nat_lt, if◌then◌else◌, List, [], ◌∷◌, ◌++◌, length, map, take, drop}
+use Rattle.std.specs.Prelude.{slice_index_or}
+use Rattle.std.specs.Prelude.{Option, Some, None, codes}
 use Rattle.std.specs.List.{slice_split}
 use Rattle.std.specs.Str.{bytes_eq}
 use Rattle.mm_base.specs.declared.limits.TheConstants.{MAX_STORES, MAX_STEPS, MAX_BLOCKS}
@@ -15,7 +18,8 @@ use Rattle.mm_plan.specs.declared.stretch.TheConstants.{MAX_STRETCHES, MAX_COUNT
 use Rattle.mm_plan.specs.declared.draft.Stage.{Stage}
 use Rattle.mm_plan.specs.declared.draft.Stage.TheVariants.{ToTitle, ToStores, ToDumps, ToLoss, ToCut, ToEnd, Done}
 use Rattle.mm_plan.specs.Table.{Table}
-use Rattle.mm_plan.specs.Sheet.{SheetRows, CertificateRows, Line, title_line, stores_line, dump_line, loss_line, stretch_line, count_line, bound_line, first_line, end_line, line_text}
+use Rattle.mm_plan.specs.Sheet.{SheetRows, CertificateRows, Line, title_line, stores_line, dump_line, loss_line}
+use Rattle.mm_plan.specs.Sheet.{stretch_line, count_line, bound_line, first_line, end_line, line_text, IsLine}
 
 -- the greatest number of 32 bits
 abbrev pub MAX_U32 : ℕ
@@ -90,11 +94,10 @@ line_of (k ∷ ws) =
     else if bytes_eq k (codes "first") then first_line (number_of MAX_U32 (word ws 0))
     else end_line
 
--- the line whose text this is
-unfoldable pub read_line : List ℕ → Option Line
-read_line text =
-    let x = line_of (line_words text) in
-    if bytes_eq (line_text x) text then Some x else None
+-- what was read of a text: the line whose text it is, or none where it is no line's
+abbrev pub IsRead : List ℕ → Option Line → Type 0
+IsRead text (Some x) = IsLine x × (text ≡ line_text x)
+IsRead text None = (x : Line) → IsLine x → text ≢ line_text x
 
 -- ---- what has been read so far
 
@@ -204,15 +207,14 @@ sheet_of d =
       firsts = firsts_in d.form d.rows.certificates;
     }
 
--- the draft with one line more, where it may come next
-unfoldable pub add_line : DraftRows → Line → Option DraftRows
-add_line d x = if may_follow d.stage d.form d.rows x then Some (after d x) else None
+-- a line with this text may come next, and was added
+pub record IsTaken (d : DraftRows) (text : List ℕ) (e : DraftRows) : Type 0 where
+  pub line : Line
+  pub is : IsLine line
+  pub text_is : text ≡ line_text line
+  pub follows : may_follow d.stage d.form d.rows line ≡ true
+  pub added : e ≡ after d line
 
--- the draft after a text, where it is that of a line that may come next
-unfoldable pub take_line : DraftRows → List ℕ → Option DraftRows
-take_line d text = option_and_then (add_line d) (read_line text)
-
--- the draft with these lines more, where each may come next
-unfoldable pub run : DraftRows → List (List ℕ) → Option DraftRows
-run d [] = Some d
-run d (l ∷ ls) = option_and_then (λ e. run e ls) (take_line d l)
+-- no line with this text may come next
+abbrev pub IsRefused : DraftRows → List ℕ → Type 0
+IsRefused d text = (x : Line) → IsLine x → text ≡ line_text x → may_follow d.stage d.form d.rows x ≡ false

@@ -1,12 +1,14 @@
 //! Filling a plan, so that no window stays idle that a store could use.
-ghost use Rattle.std.specs.Prelude.{◌≡◌, ◌≢◌, ℕ, ◌+◌, ◌-◌, ◌<◌, ◌≤◌, length, slice_index, slice_index_or, None, option_map, IfOk, IfSome, ◌⊎◌};
+ghost use Rattle.std.specs.Prelude.{◌≡◌, ◌≢◌, ℕ, ◌+◌, ◌-◌, ◌<◌, ◌≤◌, length, slice_index, slice_index_or, None};
+ghost use Rattle.std.specs.Prelude.{option_map, IfOk, IfSome, ◌⊎◌};
 ghost use Rattle.mm_base.specs.declared.limits.TheConstants.{MAX_STORES, MAX_BLOCKS, CHANNELS};
 ghost use Rattle.std.specs.List.{sum_by};
 ghost use Rattle.mm_problem.specs.Dumping.{start, channel, stores, window};
 ghost use Rattle.mm_plan.specs.Table.{amount, HasShape, ChangesAmount};
 ghost use Rattle.mm_plan.specs.Fit.{in_step, FitsAt, Fits};
 ghost use Rattle.mm_plan.specs.Filled.{IsWindowUsed, IsLimitUsed, IsFilled, IsNowhereWorse};
-ghost use Rattle.mm_plan.specs.Filling.{SameElsewhere, IsLoweredAt, AreLeft, AreSplit, AreUnused, IsRest, IsStepFilled, room_in};
+ghost use Rattle.mm_plan.specs.Filling.{SameElsewhere, IsLoweredAt, AreLeft, AreSplit, AreUnused, IsRest, IsStepFilled};
+ghost use Rattle.mm_plan.specs.Filling.{room_in};
 
 use crate::fit::{channel_amounts, step_amount};
 use crate::plan::Plan;
@@ -168,7 +170,8 @@ fn raise(
     left - more
 }
 
-// Gives the rest of a step's window to stores that still hold blocks, as far as their channels allow. Where the window is
+// Gives the rest of a step's window to stores that still hold blocks, as far as their channels allow. Where the window
+// is
 // closed or used up, there is nothing to give.
 fn use_rest(problem: &Problem, plan: &mut Plan, left: &mut [u32], step: u32)
     requires shape { HasShape problem.now plan.old }

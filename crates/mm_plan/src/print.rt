@@ -1,14 +1,17 @@
 //! The lines of a plan text, as they are printed.
-ghost use Rattle.std.specs.Prelude.{◌≡◌, ◌-◌, ◌*◌, ◌+◌, ◌<◌, ◌≤◌, ◌++◌, ◌∷◌, [], length, map, drop, decimal, codes, unwrap_or, IfOk, OnOk};
+ghost use Rattle.std.specs.Prelude.{◌≡◌, ◌-◌, ◌*◌, ◌+◌, ◌<◌, ◌≤◌, ◌++◌, ◌∷◌, [], length, map, drop, decimal, codes};
+ghost use Rattle.std.specs.Prelude.{unwrap_or, IfOk, OnOk};
 ghost use Rattle.std.specs.Option.{option_map};
 ghost use Rattle.std.specs.Fmt.{signed_decimal};
 ghost use Rattle.mm_base.specs.Characters.{line_feed, space};
 ghost use Rattle.mm_base.specs.declared.limits.TheConstants.{MAX_STORES};
 ghost use Rattle.mm_base.specs.Id.{id_text};
-ghost use Rattle.mm_plan.specs.Sheet.{title_line, stores_line, dump_line, loss_line, stretch_line, count_line, bound_line, end_line, first_line, certificate_lines, first_lines, dump_lines};
+ghost use Rattle.mm_plan.specs.Sheet.{title_line, stores_line, dump_line, loss_line, stretch_line, count_line};
+ghost use Rattle.mm_plan.specs.Sheet.{bound_line, end_line, first_line, certificate_lines, first_lines, dump_lines};
 ghost use Rattle.mm_plan.specs.Seen.{seen};
 ghost use Rattle.mm_plan.specs.Sheet.{IsLine};
-ghost use Rattle.mm_plan.specs.Printing.{place_of, stretch_key, AreOrdered, AreRising, ended, all_ended, spaced, plan_lines};
+ghost use Rattle.mm_plan.specs.Printing.{place_of, stretch_key, AreOrdered, AreRising, ended, all_ended, spaced};
+ghost use Rattle.mm_plan.specs.Printing.{plan_lines};
 
 use crate::certificate::Certificate;
 use crate::form::Form;
@@ -74,7 +77,8 @@ fn push_stores(text: &mut Vec<u8>, ids: &[StoreId]) -> Pushed
     Ok(())
 }
 
-// Writes a space and the digits of a number for each of several so that they end at a place, and answers where they start.
+// Writes a space and the digits of a number for each of several so that they end at a place, and answers where they
+// start.
 fn write_amounts(octets: &mut [u8], end: usize, amounts: &[u32]) -> usize
     requires room { 11 * length amounts.now ≤ end }
     requires within { end ≤ length octets.old }

@@ -1,5 +1,6 @@
 //! The line of a step's amounts, read where it stands.
-ghost use Rattle.std.specs.Prelude.{◌≡◌, ◌≤◌, ◌*◌, ◌<◌, ◌++◌, ◌∷◌, All, IfSome, IsTrue, codes, decimal, length, map, take};
+ghost use Rattle.std.specs.Prelude.{◌≡◌, ◌≤◌, ◌*◌, ◌<◌, ◌++◌, ◌∷◌, All, IfSome, IsTrue, codes, decimal, length, map};
+ghost use Rattle.std.specs.Prelude.{take};
 ghost use Rattle.mm_base.specs.declared.limits.TheConstants.{MAX_STORES, MAX_BLOCKS};
 ghost use Rattle.mm_base.specs.Characters.{space};
 ghost use Rattle.mm_plan.specs.Printing.{spaced};
