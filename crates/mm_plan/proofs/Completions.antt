@@ -34,11 +34,12 @@ pub record Leads (d : DraftRows) : Type 0 where
 -- certificates of all first stores
 all_firsts : (f : Form) (s : ReadRows) → has_all f s ≡ true → 1 ≤ length s.certificates
     → All IsCertificate s.certificates → IfSome (firsts_in f s.certificates) (AreFirsts (length s.stores))
-all_firsts First s all some each = tt
-all_firsts Second s all some each = tt
 all_firsts Third s all some each =
     let count : length s.certificates ≡ length s.stores = grind (arith, nat_tests, all) in
-    record { count = omega (arith, count, length-drop 1 s.certificates); each = All-drop IsCertificate 1 s.certificates each }
+    let rest = length-drop 1 s.certificates in
+    let fewer : length (drop 1 s.certificates) + 1 ≡ length s.stores = omega (arith, count, rest) in
+    record { count = fewer; each = All-drop IsCertificate 1 s.certificates each }
+all_firsts _ s all some each = tt
 
 -- the draft of a whole sheet is the sheet's
 pub whole_is_sheet : (f : Form) (s : ReadRows) → IsRows s → IsEnded f s → IsSheet (sheet_of (at_stage Done f s))
@@ -58,7 +59,7 @@ unfolding lines_of
 lines_of-whole f s at =
     let parts = at.whole.certificates in
     let lines : Form → List CertificateRows → List Line =
-    λ g cs. title_line g ∷ stores_line s.stores ∷ [] ++ dumps_of s ++ first_lines 0 cs ++ end_line ∷ [] in
+        λ g cs. title_line g ∷ stores_line s.stores ∷ [] ++ dumps_of s ++ first_lines 0 cs ++ end_line ∷ [] in
     ap (λ g. lines g (certificates_of (sheet_of (at_stage Done f s)))) parts.form ∙ ap (lines f) parts.all
 
 -- a line more that leads to a sheet
@@ -101,7 +102,8 @@ more_may s n left =
 
 -- by certificates of loss and bound 0, where n are to come
 leads_parts : (n : ℕ) (s : ReadRows) → length s.certificates + n ≡ length s.stores → LeadsAt ToEnd Third s
-leads_parts zero s left sound = leads_all Third s (eq_of (length s.certificates) (length s.stores) (omega (arith, left))) sound
+leads_parts zero s left sound =
+    leads_all Third s (eq_of (length s.certificates) (length s.stores) (omega (arith, left))) sound
 leads_parts (suc n) s left sound =
     let begun : ReadRows = record s { loss = 0; cut = []; by_channels = [] } in
     let part = part_of begun (pos 0) in
@@ -110,19 +112,20 @@ leads_parts (suc n) s left sound =
     let fewer : length (s.certificates ++ part ∷ []) + n ≡ length s.stores = omega (arith, left, size) in
     leads_more (at_stage ToEnd Third s) (first_line (length s.certificates)) few sound (more_may s n left) (λ first.
     leads_more (at_stage ToLoss Third s) (loss_line 0) (omega arith) first refl (λ lost.
-    leads_more (at_stage ToCut Third begun) (bound_line (pos 0)) zero_fits lost refl (leads_parts n (with_part begun part) fewer)))
+    leads_more (at_stage ToCut Third begun) (bound_line (pos 0)) zero_fits lost refl
+    (leads_parts n (with_part begun part) fewer)))
 
 -- by the end, or by certificates
 leads_end : (f : Form) (s : ReadRows) → LeadsAt ToEnd f s
-leads_end First s sound = leads_all First s refl sound
-leads_end Second s sound = leads_all Second s refl sound
 leads_end Third s sound =
     leads_parts (length s.stores - length s.certificates) s (omega (arith, sound.at.certificates.few)) sound
+leads_end f s sound = leads_all f s refl sound
 
 -- by the bound 0
 leads_formed : (f : Form) (s : ReadRows) → fits_form f (length s.by_channels) ≡ true → LeadsAt ToCut f s
 leads_formed f s fits sound =
-    leads_more (at_stage ToCut f s) (bound_line (pos 0)) zero_fits sound fits (leads_end f (with_part s (part_of s (pos 0))))
+    leads_more (at_stage ToCut f s) (bound_line (pos 0)) zero_fits sound fits
+    (leads_end f (with_part s (part_of s (pos 0))))
 
 -- one more is some
 has_more : (n : ℕ) → true ≡ nat_lt 0 (n + 1)
@@ -204,16 +207,11 @@ length-certificate_lines : (c : CertificateRows) → IsCertificate c → length 
 length-certificate_lines c h =
     let cut = map stretch_line c.cut in
     let counts = map count_line c.by_channels in
-    omega (
-      arith,
-      h.cut,
-      h.counts,
-      ap length (sym (append-nil (certificate_lines c)) ∙ certificate_right c []),
-      length-map c.cut stretch_line,
-      length-map c.by_channels count_line,
-      length-append cut (counts ++ (bound_line c.bound ∷ [])),
-      length-append counts (bound_line c.bound ∷ []),
-    )
+    let bound = bound_line c.bound ∷ [] in
+    let lines = ap length (sym (append-nil (certificate_lines c)) ∙ certificate_right c []) in
+    let sizes = length-append cut (counts ++ bound) in
+    let steps = length-map c.by_channels count_line in
+    omega (arith, h.cut, h.counts, lines, sizes, steps, length-map c.cut stretch_line, length-append counts bound)
 
 -- at most one line
 length-opening : (k : ℕ) → length (opening k) ≤ 1
@@ -224,14 +222,11 @@ length-opening (suc k) = omega arith
 length-first_lines : (k : ℕ) (cs : List CertificateRows) → All IsCertificate cs
     → length (first_lines k cs) ≤ 4355 * length cs
 length-first_lines k [] h = omega arith
-length-first_lines k (c ∷ cs) h = omega (
-  arith,
-  length-opening k,
-  length-certificate_lines c (All-head IsCertificate c cs h),
-  length-first_lines (suc k) cs (All-tail IsCertificate c cs h),
-  length-append (opening k ++ certificate_lines c) (first_lines (suc k) cs),
-  length-append (opening k) (certificate_lines c),
-)
+length-first_lines k (c ∷ cs) h =
+    let here = length-certificate_lines c (All-head IsCertificate c cs h) in
+    let others = length-first_lines (suc k) cs (All-tail IsCertificate c cs h) in
+    let all = length-append (opening k ++ certificate_lines c) (first_lines (suc k) cs) in
+    omega (arith, all, length-append (opening k) (certificate_lines c), length-opening k, here, others)
 
 -- at most a title, stores, 256 dumps, 16 certificates and an end
 few_lines : (s : SheetRows) → IsSheet s → length (lines_of s) ≤ 69939
@@ -241,16 +236,11 @@ few_lines s h =
     let front = title_line (form_of s) ∷ stores_line s.stores ∷ [] in
     let dumps = dump_lines s.plan.stores 1 s.plan.steps s.plan.amounts in
     let parts = first_lines 0 (certificates_of s) in
-    omega (
-      arith,
-      h.steps,
-      cs.few,
-      length-first_lines 0 (certificates_of s) cs.each,
-      length-dump_lines s.plan.stores 1 s.plan.steps s.plan.amounts,
-      length-append (front ++ dumps ++ parts) (end_line ∷ []),
-      length-append (front ++ dumps) parts,
-      length-append front dumps,
-    )
+    let steps = length-dump_lines s.plan.stores 1 s.plan.steps s.plan.amounts in
+    let all = length-append (front ++ dumps ++ parts) (end_line ∷ []) in
+    let certificates = length-first_lines 0 (certificates_of s) cs.each in
+    let most = length-append (front ++ dumps) parts in
+    omega (arith, h.steps, cs.few, certificates, steps, all, most, length-append front dumps)
 
 -- no sound draft has more lines than a sheet has at the most
 pub few_so_far : (d : DraftRows) → IsSound d → length (lines_so_far d) ≤ 69939

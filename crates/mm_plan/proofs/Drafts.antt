@@ -156,12 +156,14 @@ first_lines-push k [] c =
 first_lines-push k (d ∷ cs) c =
     let here : suc k + length cs ≡ k + suc (length cs) = omega arith in
     let front = opening k ++ certificate_lines d in
-    ap (λ ls. front ++ ls) (first_lines-push (suc k) cs c ∙ ap (λ j. first_lines (suc k) cs ++ opening j ++ certificate_lines c) here)
+    let more = first_lines-push (suc k) cs c in
+    ap (λ ls. front ++ ls) (more ∙ ap (λ j. first_lines (suc k) cs ++ opening j ++ certificate_lines c) here)
     ∙ simp append_assoc
 
 -- one more stretch, where there is no count
 more_cut : (front : List Line) (ds : List Stretch) (ts : List ℕ) (d : Stretch) → ts ≡ []
-    → front ++ map stretch_line (ds ++ d ∷ []) ++ map count_line ts ≡ front ++ map stretch_line ds ++ map count_line ts ++ stretch_line d ∷ []
+    → front ++ map stretch_line (ds ++ d ∷ []) ++ map count_line ts
+    ≡ front ++ map stretch_line ds ++ map count_line ts ++ stretch_line d ∷ []
 more_cut front ds ts d no_ts =
     ap (λ ts. front ++ map stretch_line (ds ++ d ∷ []) ++ map count_line ts) no_ts
     ∙ append-nil (front ++ map stretch_line (ds ++ d ∷ []))
@@ -178,13 +180,14 @@ more_counts front ts t =
     ∙ sym (append_assoc front (map count_line ts) (count_line t ∷ []))
 
 -- the bound closes the certificate
-more_parts : (front : List Line) (s : ReadRows) (z : ℤ)
-    → front ++ first_lines 0 (s.certificates ++ part_of s z ∷ []) ≡ front ++ first_lines 0 s.certificates ++ opening (length s.certificates) ++ loss_line s.loss ∷ [] ++ map stretch_line s.cut ++ map count_line s.by_channels ++ bound_line z ∷ []
+more_parts : (front : List Line) (s : ReadRows) (z : ℤ) → front ++ first_lines 0 (s.certificates ++ part_of s z ∷ [])
+    ≡ front ++ first_lines 0 s.certificates ++ opening (length s.certificates)
+    ++ loss_line s.loss ∷ [] ++ map stretch_line s.cut ++ map count_line s.by_channels ++ bound_line z ∷ []
 unfolding certificate_lines
 more_parts front s z =
     let here : 0 + length s.certificates ≡ length s.certificates = omega arith in
-    ap (λ ls. front ++ ls) (first_lines-push 0 s.certificates (part_of s z) ∙ ap (λ j. first_lines 0 s.certificates ++ opening j ++ certificate_lines (part_of s z)) here)
-    ∙ simp append_assoc
+    let lines : ℕ → List Line = λ j. first_lines 0 s.certificates ++ opening j ++ certificate_lines (part_of s z) in
+    ap (λ ls. front ++ ls) (first_lines-push 0 s.certificates (part_of s z) ∙ ap lines here) ∙ simp append_assoc
 
 -- ---- one line more
 
@@ -208,7 +211,8 @@ blank_rows : IsRows no_rows
 blank_rows =
     let no_store : 0 ≤ MAX_STORES = omega arith in
     let no_step : 0 ≤ MAX_STEPS = omega arith in
-    assumption (no_store, no_step, All-nil (λ n. n ≤ MAX_BLOCKS), All-nil IsIdField, blank_part 0 (omega arith), All-nil IsCertificate)
+    let blank = blank_part 0 (omega arith) in
+    assumption (no_store, no_step, All-nil (λ n. n ≤ MAX_BLOCKS), All-nil IsIdField, blank, All-nil IsCertificate)
 
 -- and so is the draft
 pub start_sound : IsSound start
@@ -216,7 +220,8 @@ start_sound = record { rows = blank_rows; at = refl }
 
 -- the stores line adds just itself
 added_stores : (f : Form) (ids : List (List ℕ)) → IsLine (stores_line ids)
-    → (nat_lt 0 (length ids) && nat_le (length ids) MAX_STORES) ≡ true → IsAdded (at_stage ToStores f no_rows) (stores_line ids)
+    → (nat_lt 0 (length ids) && nat_le (length ids) MAX_STORES) ≡ true
+    → IsAdded (at_stage ToStores f no_rows) (stores_line ids)
 added_stores f ids line may =
     let p = and_parts (nat_lt 0 (length ids)) (nat_le (length ids) MAX_STORES) may in
     let few = (Decides-nat_le (length ids) MAX_STORES).0 p.1 in
@@ -229,9 +234,8 @@ wider k n t old new is_next table width = omega (arith, ap (λ j. j * n) is_next
 
 -- before the first certificate there is room for one
 room_before : (f : Form) (n : ℕ) (cs : List CertificateRows) → 1 ≤ n → cs ≡ [] → HasRoom f n cs
-room_before First n cs some none = none
-room_before Second n cs some none = none
 room_before Third n cs some none = omega (arith, ap length none)
+room_before _ n cs some none = none
 
 -- without certificates, stretches and counts nothing is added
 no_part : (front : List Line) (x : Line) → front ++ [] ++ [] ++ x ∷ [] ++ [] ++ [] ≡ front ++ [] ++ x ∷ []
@@ -272,18 +276,19 @@ parts_in_form First s c some room fits =
     let form = sym (first_form (length c.by_channels) fits) in
     one_part First (length s.stores) (with_part s c) c some refl (ap (λ cs. cs ++ c ∷ []) room) (ap (form_by None) form)
 parts_in_form Second s c some room fits =
-    one_part Second (length s.stores) (with_part s c) c some refl (ap (λ cs. cs ++ c ∷ []) room) (ap (form_by None) fits)
+    let one = ap (λ cs. cs ++ c ∷ []) room in
+    one_part Second (length s.stores) (with_part s c) c some refl one (ap (form_by None) fits)
 parts_in_form Third s c some room fits =
-    record { form = refl; all = third_parts s s.certificates c; few = omega (arith, length-append s.certificates (c ∷ [])) }
+    let size = length-append s.certificates (c ∷ []) in
+    record { form = refl; all = third_parts s s.certificates c; few = omega (arith, size) }
 
 -- what the test of a first line says
 begins : (f : Form) (k : ℕ) (s : ReadRows) → may_begin f k s ≡ true
     → (k ≡ length s.certificates) × HasRoom f (length s.stores) s.certificates
-begins First k s may = absurd (false≢true may)
-begins Second k s may = absurd (false≢true may)
 begins Third k s may =
     let p = and_parts (k == length s.certificates) (nat_lt (length s.certificates) (length s.stores)) may in
     (grind (arith, nat_tests, p.0), grind (arith, nat_tests, p.1))
+begins _ k s may = absurd (false≢true may)
 
 module _ (f : Form) (s : ReadRows) (rows : IsRows s) where
   -- the lines before the dumps
@@ -292,7 +297,8 @@ module _ (f : Form) (s : ReadRows) (rows : IsRows s) where
 
   -- a dump line adds just itself
   added_dump : (t : ℕ) (xs : List ℕ) → IsLine (dump_line t xs) → IsUncut s
-      → ((t == s.plan.steps + 1) && (length xs == length s.stores)) ≡ true → IsAdded (at_stage ToDumps f s) (dump_line t xs)
+      → ((t == s.plan.steps + 1) && (length xs == length s.stores)) ≡ true
+      → IsAdded (at_stage ToDumps f s) (dump_line t xs)
   added_dump t xs line uncut may =
       let p = and_parts (t == s.plan.steps + 1) (length xs == length s.stores) may in
       let n = s.plan.stores in
@@ -301,12 +307,13 @@ module _ (f : Form) (s : ReadRows) (rows : IsRows s) where
       let number : 1 + s.plan.steps ≡ t = omega (arith, is_next) in
       let same : length xs ≡ length s.stores = grind (arith, nat_tests, p.1) in
       let width : length xs ≡ n = same ∙ sym rows.dumps.same_stores in
-      let table = length-append old xs ∙ wider s.plan.steps n t (length old) (length xs) is_next rows.dumps.table width in
+      let wide = wider s.plan.steps n t (length old) (length xs) is_next rows.dumps.table width in
+      let table = length-append old xs ∙ wide in
       let each = All-append (λ n. n ≤ MAX_BLOCKS) old xs rows.dumps.each_amount line.2 in
       let after_dumps = λ (ls : List Line) (cs : List CertificateRows). front ++ ls ++ first_lines 0 cs in
       let more = ap (λ k. dump_lines n 1 k (old ++ xs)) is_next
-      ∙ dump_lines-push n 1 s.plan.steps old xs rows.dumps.table width
-      ∙ ap (λ k. dumps_of s ++ dump_line k xs ∷ []) number in
+          ∙ dump_lines-push n 1 s.plan.steps old xs rows.dumps.table width
+          ∙ ap (λ k. dumps_of s ++ dump_line k xs ∷ []) number in
       record {
         sound = assumption (line.0, table, each);
         lines =
@@ -337,15 +344,17 @@ module _ (f : Form) (s : ReadRows) (rows : IsRows s) where
 
   -- a stretch line adds just itself
   added_stretch : (d : Stretch) → IsLine (stretch_line d) → IsPlanned f s
-      → (nat_lt (length s.cut) MAX_STRETCHES && (length s.by_channels == 0)) ≡ true → IsAdded (at_stage ToCut f s) (stretch_line d)
+      → (nat_lt (length s.cut) MAX_STRETCHES && (length s.by_channels == 0)) ≡ true
+      → IsAdded (at_stage ToCut f s) (stretch_line d)
   added_stretch d line planned may =
       let p = and_parts (nat_lt (length s.cut) MAX_STRETCHES) (length s.by_channels == 0) may in
       let few : length s.cut < MAX_STRETCHES = grind (arith, nat_tests, p.0) in
-      let none : length s.by_channels ≡ 0 = grind (arith, nat_tests, p.1) in
+      let zero : length s.by_channels ≡ 0 = grind (arith, nat_tests, p.1) in
+      let none = nil_from_length s.by_channels zero in
       let size : length (s.cut ++ d ∷ []) ≤ MAX_STRETCHES = omega (arith, length-append s.cut (d ∷ [])) in
       record {
         sound = assumption (size, All-push IsWritten s.cut d rows.part.each_stretch line);
-        lines = more_cut (upto_part f s ++ loss_line s.loss ∷ []) s.cut s.by_channels d (nil_from_length s.by_channels none);
+        lines = more_cut (upto_part f s ++ loss_line s.loss ∷ []) s.cut s.by_channels d none;
       }
 
   -- a count line adds just itself
@@ -369,7 +378,8 @@ module _ (f : Form) (s : ReadRows) (rows : IsRows s) where
       let part : IsCertificate (part_of s z) = assumption (line) in
       let each = All-push IsCertificate s.certificates (part_of s z) rows.certificates part in
       let forms = parts_in_form f s (part_of s z) planned.opened.has_store planned.opened.room fits in
-      record { sound = assumption (blank_part 0 (omega arith), each, forms); lines = more_parts (front ++ dumps_of s) s z }
+      let blank = blank_part 0 (omega arith) in
+      record { sound = assumption (blank, each, forms); lines = more_parts (front ++ dumps_of s) s z }
 
   -- a first line adds just itself
   added_first : (k : ℕ) → IsWhole f s → may_begin f k s ≡ true → IsAdded (at_stage ToEnd f s) (first_line k)

@@ -2,8 +2,9 @@
 use Rattle.std.proofs.Common.{◌≡◌, ℕ, ◌<◌, ◌≤◌, Bool, true, false, cond, ◌==◌, List, [], ◌∷◌, length, map, take, drop}
 use Rattle.std.proofs.Common.{Some, None, refl, sym, ap, ◌∙◌, subst, arith, length-append, length-take, length-drop}
 use Rattle.std.proofs.Common.{◌-◌}
-use Rattle.std.specs.Prelude.{All, codes, decimal, ◌^◌}
-use Rattle.std.specs.List.{slice_split}
+use Rattle.std.specs.Prelude.{All, codes, decimal, nat_lt, ◌^◌}
+use Rattle.std.specs.Fmt.{signed_decimal}
+use Rattle.std.specs.List.{slice_split, list_all}
 use Rattle.std.specs.Str.{bytes_eq}
 use Rattle.std.proofs.lemmas.List.{length-map, take_all}
 use Rattle.std.proofs.lemmas.List.Elements.{All-from_recursion, All-nil, All-cons, All-head, All-tail, All-map}
@@ -28,7 +29,9 @@ use Rattle.mm_plan.proofs.Saying.{signed_of-fits}
 
 -- amounts are bare
 bare_decimals : (xs : List ℕ) → All (λ n. n ≤ MAX_BLOCKS) xs → All IsBare (map decimal xs)
-bare_decimals xs h = All-map IsBare decimal xs (All-weaker (λ n. n ≤ MAX_BLOCKS) (λ n. IsBare (decimal n)) (λ n le. bare_decimal n (omega arith)) xs h)
+bare_decimals xs h =
+    let P : ℕ → Type 0 = λ n. IsBare (decimal n) in
+    All-map IsBare decimal xs (All-weaker (λ n. n ≤ MAX_BLOCKS) P (λ n le. bare_decimal n (omega arith)) xs h)
 
 -- identifiers are bare
 bare_ids : (ids : List (List ℕ)) → All IsIdField ids → All IsBare (map id_text ids)
@@ -40,26 +43,38 @@ bare_form First = bare_tested (codes "1") refl
 bare_form Second = bare_tested (codes "2") refl
 bare_form Third = bare_tested (codes "3") refl
 
+-- a keyword is bare
+bare_line : (key : List ℕ) (ws : List (List ℕ)) → list_all (λ b. nat_lt 32 b) key ≡ true → All IsBare ws
+    → All IsBare (key ∷ ws)
+bare_line key ws e more = All-cons IsBare key ws (bare_tested key e) more
+
+-- the only word after it
+bare_one : (w : List ℕ) → IsBare w → All IsBare (w ∷ [])
+bare_one w h = All-cons IsBare w [] h (All-nil IsBare)
+
 -- the words of a line are bare
 bare_words : (x : Line) → IsLine x → All IsBare (words x)
-bare_words (title_line f) h = All-from_recursion IsBare (words (title_line f)) (bare_tested (codes "mmplan") refl, (bare_form f, tt))
-bare_words (stores_line ids) h = All-cons IsBare (codes "stores") (map id_text ids) (bare_tested (codes "stores") refl) (bare_ids ids h.1)
+bare_words (title_line f) h = bare_line (codes "mmplan") (form_word f ∷ []) refl (bare_one (form_word f) (bare_form f))
+bare_words (stores_line ids) h = bare_line (codes "stores") (map id_text ids) refl (bare_ids ids h.1)
 bare_words (dump_line t xs) h =
     let step : t ≤ MAX_STEPS = h.0 in
-    All-cons IsBare (codes "dump") (decimal t ∷ map decimal xs) (bare_tested (codes "dump") refl)
+    bare_line (codes "dump") (decimal t ∷ map decimal xs) refl
     (All-cons IsBare (decimal t) (map decimal xs) (bare_decimal t (omega arith)) (bare_decimals xs h.2))
-bare_words (loss_line n) h = All-from_recursion IsBare (words (loss_line n)) (bare_tested (codes "loss") refl, (bare_decimal n h, tt))
+bare_words (loss_line n) h = bare_line (codes "loss") (decimal n ∷ []) refl (bare_one (decimal n) (bare_decimal n h))
 bare_words (stretch_line d) h =
-    let first : d.first < 2 ^ 32 = h.first in
-    let last : d.last < 2 ^ 32 = h.last in
+    let first = bare_decimal d.first (omega (arith, h.first)) in
+    let last = bare_decimal d.last (omega (arith, h.last)) in
     All-from_recursion IsBare (words (stretch_line d))
-    (bare_tested (codes "stretch") refl, (bare_id d.store h.store, (bare_decimal d.first (omega arith), (bare_decimal d.last (omega arith), tt))))
+    (bare_tested (codes "stretch") refl, (bare_id d.store h.store, (first, (last, tt))))
 bare_words (count_line t) h =
-    All-from_recursion IsBare (words (count_line t))
-    (bare_tested (codes "count") refl, (bare_decimal t (omega (arith, h)), (bare_tested (codes "channels") refl, tt)))
-bare_words (bound_line z) h = All-from_recursion IsBare (words (bound_line z)) (bare_tested (codes "bound") refl, (bare_signed z h, tt))
-bare_words (first_line k) h = All-from_recursion IsBare (words (first_line k)) (bare_tested (codes "first") refl, (bare_decimal k (omega (arith, h)), tt))
-bare_words end_line h = All-from_recursion IsBare (words end_line) (bare_tested (codes "end") refl, tt)
+    bare_line (codes "count") (decimal t ∷ codes "channels" ∷ []) refl
+    (All-cons IsBare (decimal t) (codes "channels" ∷ []) (bare_decimal t (omega (arith, h)))
+    (bare_line (codes "channels") [] refl (All-nil IsBare)))
+bare_words (bound_line z) h =
+    bare_line (codes "bound") (signed_decimal z ∷ []) refl (bare_one (signed_decimal z) (bare_signed z h))
+bare_words (first_line k) h =
+    bare_line (codes "first") (decimal k ∷ []) refl (bare_one (decimal k) (bare_decimal k (omega (arith, h))))
+bare_words end_line h = bare_line (codes "end") [] refl (All-nil IsBare)
 
 -- there are 1 to 18 of them
 abbrev IsShort : List (List ℕ) → Type 0
@@ -67,15 +82,9 @@ IsShort ws = (1 ≤ length ws) × (length ws ≤ 18)
 
 -- a line has 1 to 18 words
 short_words : (x : Line) → IsLine x → IsShort (words x)
-short_words (title_line f) h = (omega arith, omega arith)
 short_words (stores_line ids) h = (omega arith, omega (arith, h.0, length-map ids id_text))
 short_words (dump_line t xs) h = (omega arith, omega (arith, h.1, length-map xs decimal))
-short_words (loss_line n) h = (omega arith, omega arith)
-short_words (stretch_line d) h = (omega arith, omega arith)
-short_words (count_line t) h = (omega arith, omega arith)
-short_words (bound_line z) h = (omega arith, omega arith)
-short_words (first_line k) h = (omega arith, omega arith)
-short_words end_line h = (omega arith, omega arith)
+short_words _ h = (omega arith, omega arith)
 
 -- bare words lack white space
 bare_lack : (c : ℕ) → c ≤ 32 → (ws : List (List ℕ)) → All IsBare ws → All (Lacks c) ws
@@ -101,7 +110,8 @@ said_each : {A : Type 0} (said : List ℕ → A) (text : A → List ℕ) (P : A 
     → (xs : List A) → All P xs → map said (map text xs) ≡ xs
 said_each said text P back [] h = refl
 said_each said text P back (x ∷ xs) h =
-    ap (λ y. y ∷ map said (map text xs)) (back x (All-head P x xs h)) ∙ ap (λ ys. x ∷ ys) (said_each said text P back xs (All-tail P x xs h))
+    ap (λ y. y ∷ map said (map text xs)) (back x (All-head P x xs h))
+    ∙ ap (λ ys. x ∷ ys) (said_each said text P back xs (All-tail P x xs h))
 
 -- the words of a line say the line
 line_of-words : (x : Line) → IsLine x → line_of (words x) ≡ x
@@ -111,14 +121,20 @@ line_of-words (title_line Second) h = refl
 line_of-words (title_line Third) h = refl
 line_of-words (stores_line ids) h = ap stores_line (said_each id_of id_text IsIdField id_of-id_text ids h.1)
 line_of-words (dump_line t xs) h =
-    let step : t ≤ MAX_STEPS = h.0 in
-    ap (λ k. dump_line k (map (number_of MAX_BLOCKS) (map decimal xs))) (number_of-decimal MAX_STEPS t step (omega arith))
-    ∙ ap (dump_line t) (said_each (number_of MAX_BLOCKS) decimal (λ n. n ≤ MAX_BLOCKS) (λ n le. number_of-decimal MAX_BLOCKS n le (omega arith)) xs h.2)
+    let amount = number_of MAX_BLOCKS in
+    let back : (n : ℕ) → n ≤ MAX_BLOCKS → amount (decimal n) ≡ n =
+        λ n le. number_of-decimal MAX_BLOCKS n le (omega arith) in
+    ap (λ k. dump_line k (map amount (map decimal xs))) (number_of-decimal MAX_STEPS t h.0 (omega arith))
+    ∙ ap (dump_line t) (said_each amount decimal (λ n. n ≤ MAX_BLOCKS) back xs h.2)
 line_of-words (loss_line n) h = ap loss_line (number_of-decimal MAX_U64 n (omega (arith, h)) (omega arith))
 line_of-words (stretch_line d) h =
-    ap (λ id. stretch_line (record { store = id; first = number_of MAX_U32 (decimal d.first); last = number_of MAX_U32 (decimal d.last) })) (id_of-id_text d.store h.store)
-    ∙ ap (λ n. stretch_line (record { store = d.store; first = n; last = number_of MAX_U32 (decimal d.last) })) (number_of-decimal MAX_U32 d.first (omega (arith, h.first)) (omega arith))
-    ∙ ap (λ n. stretch_line (record { store = d.store; first = d.first; last = n })) (number_of-decimal MAX_U32 d.last (omega (arith, h.last)) (omega arith))
+    let first = number_of-decimal MAX_U32 d.first (omega (arith, h.first)) (omega arith) in
+    let last = number_of-decimal MAX_U32 d.last (omega (arith, h.last)) (omega arith) in
+    let made : List ℕ → ℕ → ℕ → Line = λ id a b. stretch_line (record { store = id; first = a; last = b }) in
+    let number = λ (n : ℕ). number_of MAX_U32 (decimal n) in
+    ap (λ id. made id (number d.first) (number d.last)) (id_of-id_text d.store h.store)
+    ∙ ap (λ a. made d.store a (number d.last)) first
+    ∙ ap (made d.store d.first) last
 line_of-words (count_line t) h = ap count_line (number_of-decimal MAX_U32 t (omega (arith, h)) (omega arith))
 line_of-words (bound_line z) h = ap bound_line (signed_of-signed_decimal z h)
 line_of-words (first_line k) h = ap first_line (number_of-decimal MAX_U32 k (omega (arith, h)) (omega arith))
@@ -143,7 +159,8 @@ line_of-is (k ∷ ws) few =
     let w : ℕ → List ℕ = λ i. word ws i in
     let u32 : (i : ℕ) → number_of MAX_U32 (w i) < 2 ^ 32 = λ i. omega (arith, number_of-most MAX_U32 (w i)) in
     cond_is IsLine (bytes_eq k (codes "mmplan")) _ _ tt
-    (cond_is IsLine (bytes_eq k (codes "stores")) _ _ (omega (arith, few, length-map ws id_of), each_is id_of IsIdField id_of-is ws)
+    (cond_is IsLine (bytes_eq k (codes "stores")) _ _
+    (omega (arith, few, length-map ws id_of), each_is id_of IsIdField id_of-is ws)
     (cond_is IsLine (bytes_eq k (codes "dump")) _ _ (
       number_of-most MAX_STEPS (w 0),
       omega (arith, few, length-map (drop 1 ws) (number_of MAX_BLOCKS), length-drop 1 ws),

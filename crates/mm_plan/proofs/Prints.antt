@@ -52,30 +52,26 @@ pub record AreDumped (n t k : ℕ) (text rest all : List ℕ) : Type 0 where
   pub lines : text ++ all_ended (dump_lines n t k rest) ≡ all
 
 -- one row was printed
-one_dumped : (n t j : ℕ) (text next rest after all : List ℕ) → length rest ≡ suc j * n
-    → next ≡ text ++ ended (dump_line t (take n rest)) → after ≡ drop n rest
-    → text ++ all_ended (dump_lines n t (suc j) rest) ≡ all → AreDumped n (t + 1) j next after all
-one_dumped n t j text next rest after all size printed left lines = record {
-  size = ap length left ∙ omega (arith, size, length-drop n rest);
+pub more_dumped : {n t k : ℕ} {text rest all : List ℕ} (j : ℕ) (next after : List ℕ) → AreDumped n t k text rest all
+    → k ≡ suc j → next ≡ text ++ ended (dump_line t (take n rest)) → after ≡ drop n rest
+    → AreDumped n (t + 1) j next after all
+more_dumped {n} {t} {k} {text} {rest} {all} j next after h is printed left = record {
+  size = ap length left ∙ omega (arith, h.size ∙ ap (λ i. i * n) is, length-drop n rest);
   lines =
       ap (λ front. front ++ all_ended (dump_lines n (t + 1) j after)) printed
       ∙ append_assoc text (ended (dump_line t (take n rest))) (all_ended (dump_lines n (t + 1) j after))
       ∙ ap (λ xs. text ++ (ended (dump_line t (take n rest)) ++ all_ended (dump_lines n (t + 1) j xs))) left
-      ∙ lines;
+      ∙ ap (λ i. text ++ all_ended (dump_lines n t i rest)) (sym is)
+      ∙ h.lines;
 }
-
--- the same, where rows are left by their number
-pub more_dumped : (n t k j : ℕ) (text next rest after all : List ℕ) → k ≡ suc j → AreDumped n t k text rest all
-    → next ≡ text ++ ended (dump_line t (take n rest)) → after ≡ drop n rest → AreDumped n (t + 1) j next after all
-more_dumped n t k j text next rest after all is h printed left =
-    one_dumped n t j text next rest after all (h.size ∙ ap (λ i. i * n) is) printed left (ap (λ i. text ++ all_ended (dump_lines n t i rest)) (sym is) ∙ h.lines)
 
 -- ---- the whole text
 
 -- lines after lines
 all_ended-append : (xs ys : List Line) → all_ended (xs ++ ys) ≡ all_ended xs ++ all_ended ys
 all_ended-append [] ys = refl
-all_ended-append (x ∷ xs) ys = ap (λ rest. ended x ++ rest) (all_ended-append xs ys) ∙ sym (append_assoc (ended x) (all_ended xs) (all_ended ys))
+all_ended-append (x ∷ xs) ys =
+    ap (λ rest. ended x ++ rest) (all_ended-append xs ys) ∙ sym (append_assoc (ended x) (all_ended xs) (all_ended ys))
 
 -- the joined lines, each ended
 join_ended : (xs : List Line) → join_with_byte 10 (map line_text xs ++ [] ∷ []) ≡ all_ended xs
@@ -88,7 +84,9 @@ join_ended (x ∷ y ∷ ys) =
 
 -- the lines of a certificate, printed one after another
 abbrev pub certificate_text : ℕ → List Stretch → List ℕ → ℤ → List ℕ
-certificate_text loss ds ts bound = ended (loss_line loss) ++ all_ended (map stretch_line ds) ++ all_ended (map count_line ts) ++ ended (bound_line bound)
+certificate_text loss ds ts bound =
+    ended (loss_line loss) ++ all_ended (map stretch_line ds) ++ all_ended (map count_line ts)
+    ++ ended (bound_line bound)
 
 -- the lines of a certificate are printed so
 pub certificate_text-is : (c : CertificateRows)
@@ -108,7 +106,9 @@ printed_part old front text k c front_is text_is =
 
 -- the first of certificates, and the others
 split_first : (text : List ℕ) (k : ℕ) (c : CertificateRows) (cs : List CertificateRows)
-    → text ++ all_ended (first_lines (suc k) (c ∷ cs)) ≡ text ++ (ended (first_line (suc k)) ++ all_ended (certificate_lines c)) ++ all_ended (first_lines (suc (suc k)) cs)
+    → text ++ all_ended (first_lines (suc k) (c ∷ cs))
+    ≡ text ++ (ended (first_line (suc k)) ++ all_ended (certificate_lines c))
+    ++ all_ended (first_lines (suc (suc k)) cs)
 split_first text k c cs = simp (all_ended-append, append_assoc, append-nil)
 
 -- one certificate of the first stores more
@@ -119,9 +119,11 @@ pub more_first : (text next all : List ℕ) (k : ℕ) (rest : List CertificateRo
 more_first text next all k [] c some here printed lines = absurd (omega arith)
 more_first text next all k (d ∷ rest) c some here printed lines =
     let place : k + 1 ≡ suc k = omega arith in
+    let part : ℕ → CertificateRows → List ℕ =
+        λ j e. text ++ (ended (first_line j) ++ all_ended (certificate_lines e)) in
     ap (λ cs. next ++ all_ended (first_lines (suc (k + 1)) cs)) (take_all (length (d ∷ rest) - 1) rest (omega arith))
-    ∙ ap (λ t. t ++ all_ended (first_lines (suc (k + 1)) rest)) (printed ∙ ap (λ e. text ++ (ended (first_line (k + 1)) ++ all_ended (certificate_lines e))) here)
-    ∙ ap (λ j. text ++ (ended (first_line j) ++ all_ended (certificate_lines d)) ++ all_ended (first_lines (suc j) rest)) place
+    ∙ ap (λ t. t ++ all_ended (first_lines (suc (k + 1)) rest)) (printed ∙ ap (part (k + 1)) here)
+    ∙ ap (λ j. part j d ++ all_ended (first_lines (suc j) rest)) place
     ∙ sym (split_first text k d rest)
     ∙ lines
 
@@ -135,13 +137,15 @@ firsts_text o = all_ended (first_lines 1 (unwrap_or o []))
 
 -- the lines of a sheet, printed one after another
 sheet_text-printed : (s : SheetRows)
-    → sheet_text s ≡ front_text (form_of s) s.stores s.plan ++ certificate_text s.loss s.cut s.by_channels s.bound ++ firsts_text s.firsts ++ ended end_line
+    → sheet_text s ≡ front_text (form_of s) s.stores s.plan ++ certificate_text s.loss s.cut s.by_channels s.bound
+    ++ firsts_text s.firsts ++ ended end_line
 unfolding sheet_text
 sheet_text-printed s =
     join_ended (lines_of s)
     ∙ ap all_ended (lines_right s)
     ∙ (simp (all_ended-append, append_assoc, append-nil))
-    ∙ ap (λ t. front_text (form_of s) s.stores s.plan ++ t ++ firsts_text s.firsts ++ ended end_line) (certificate_text-is (own s))
+    ∙ ap (λ t. front_text (form_of s) s.stores s.plan ++ t ++ firsts_text s.firsts ++ ended end_line)
+        (certificate_text-is (own s))
 
 -- ---- the order
 
@@ -163,21 +167,22 @@ pub ordered_is_sheet : (s : SheetRows) (ds : List Stretch) (ts : List ℕ) → A
     → AreRising s.by_channels ts → IsSheet s → IsSheet (record s { cut = ds; by_channels = ts })
 ordered_is_sheet s ds ts cut counts h =
     let few_cut : length ds ≤ MAX_STRETCHES = omega (arith, h.cut, length_permutation s.cut ds cut.same) in
-    let few_counts : length ts ≤ MAX_COUNTS = omega (arith, h.counts, length_permutation s.by_channels ts counts.same) in
-    let each_stretch = All-permutation IsWritten s.cut ds cut.same h.each_stretch in
-    assumption (few_cut, few_counts, each_stretch, All-permutation (λ t. t < 2 ^ 32) s.by_channels ts counts.same h.each_count)
+    let size = length_permutation s.by_channels ts counts.same in
+    let few_counts : length ts ≤ MAX_COUNTS = omega (arith, h.counts, size) in
+    let stretches = All-permutation IsWritten s.cut ds cut.same h.each_stretch in
+    let steps = All-permutation (λ t. t < 2 ^ 32) s.by_channels ts counts.same h.each_count in
+    assumption (few_cut, few_counts, stretches, steps)
 
 -- what was printed piece by piece is the text of the sheet in order
 pub is_printed : (s : SheetRows) (ds : List Stretch) (ts : List ℕ) (none front certificate firsts text : List ℕ)
     → AreOrdered s.stores s.cut ds → AreRising s.by_channels ts → none ≡ []
     → front ≡ none ++ front_text (form_by s.firsts (nat_lt 0 (length ts))) s.stores s.plan
-    → certificate ≡ front ++ certificate_text s.loss ds ts s.bound → firsts ≡ certificate ++ firsts_text s.firsts → text ≡ firsts ++ ended end_line → IsPrinted s text
+    → certificate ≡ front ++ certificate_text s.loss ds ts s.bound → firsts ≡ certificate ++ firsts_text s.firsts
+    → text ≡ firsts ++ ended end_line → IsPrinted s text
 is_printed s ds ts none front certificate firsts text ordered rising no_text front_is certificate_is firsts_is text_is =
-    let r : SheetRows = record s { cut = ds; by_channels = ts } in (
-      r,
-      assumption (ordered, rising),
-      ordered_is_sheet s ds ts ordered rising,
-      text_is
-          ∙ ap (λ t. t ++ ended end_line) (firsts_is ∙ ap (λ t. t ++ firsts_text s.firsts) (certificate_is ∙ ap (λ t. t ++ certificate_text s.loss ds ts s.bound) (front_is ∙ ap (λ t. t ++ front_text (form_of r) s.stores s.plan) no_text)))
-          ∙ sym (sheet_text-printed r),
-    )
+    let r : SheetRows = record s { cut = ds; by_channels = ts } in
+    let begun = front_is ∙ ap (λ t. t ++ front_text (form_of r) s.stores s.plan) no_text in
+    let own_shown = certificate_is ∙ ap (λ t. t ++ certificate_text s.loss ds ts s.bound) begun in
+    let all_shown = firsts_is ∙ ap (λ t. t ++ firsts_text s.firsts) own_shown in
+    let printed = text_is ∙ ap (λ t. t ++ ended end_line) all_shown ∙ sym (sheet_text-printed r) in
+    (r, assumption (ordered, rising), ordered_is_sheet s ds ts ordered rising, printed)

@@ -6,7 +6,8 @@ use Rattle.std.specs.Prelude.{All, IfSome, unwrap_or, nat_le, nat_lt, ◌&&◌, 
 use Rattle.std.proofs.lemmas.Bool.{cases_Bool}
 use Rattle.std.proofs.lemmas.Bool.Decides.{nat_tests}
 use Rattle.std.proofs.lemmas.List.{nil_from_length, take-append-drop, length-take-le}
-use Rattle.std.proofs.lemmas.List.Elements.{All-nil, All-cons, All-head, All-tail, All-append, All-take, All-drop}
+use Rattle.std.proofs.lemmas.List.Elements.{All-nil, All-cons, All-from_recursion, All-head, All-tail, All-append}
+use Rattle.std.proofs.lemmas.List.Elements.{All-take, All-drop}
 use Rattle.std.proofs.lemmas.List.Elements.{All-map}
 use Rattle.mm_base.specs.declared.limits.TheConstants.{MAX_STORES, MAX_STEPS, MAX_BLOCKS}
 use Rattle.mm_base.specs.Id.{IsIdField}
@@ -52,7 +53,7 @@ go-append d (x ∷ xs) ys = elim (cases_Bool (may_follow d.stage d.form d.rows x
 
 -- a draft at its dumps
 abbrev dumping : Form → ReadRows → ℕ → List ℕ → DraftRows
-dumping f s k amounts = record { stage = ToDumps; form = f; rows = record s { plan = record { stores = s.plan.stores; steps = k; amounts = amounts } } }
+dumping f s k amounts = at_stage ToDumps f (record s { plan = record s.plan { steps = k; amounts = amounts } })
 
 -- equal numbers pass the test
 pub eq_of : (m n : ℕ) → m ≡ n → (m == n) ≡ true
@@ -67,7 +68,8 @@ dump_may k n xs stores width same =
 -- the dump lines add their amounts
 go-dump_lines : (f : Form) (s : ReadRows) (k m : ℕ) (amounts xs : List ℕ) (more : List Line)
     → s.plan.stores ≡ length s.stores → length xs ≡ m * s.plan.stores
-    → go (dumping f s k amounts) (dump_lines s.plan.stores (k + 1) m xs ++ more) ≡ go (dumping f s (k + m) (amounts ++ xs)) more
+    → go (dumping f s k amounts) (dump_lines s.plan.stores (k + 1) m xs ++ more)
+    ≡ go (dumping f s (k + m) (amounts ++ xs)) more
 go-dump_lines f s k zero amounts xs more same size =
     let empty : xs ≡ [] = nil_from_length xs (omega (arith, size)) in
     let steps : k ≡ k + 0 = omega arith in
@@ -82,12 +84,13 @@ go-dump_lines f s k (suc m) amounts xs more same size =
     go_may (dumping f s k amounts) (dump_line (k + 1) (take n xs)) (dump_lines n (k + 1 + 1) m (drop n xs) ++ more)
     (dump_may (k + 1) n (take n xs) s.stores (length-take-le n xs within) same)
     ∙ go-dump_lines f s (k + 1) m (amounts ++ take n xs) (drop n xs) more same left
-    ∙ ap (λ ys. go (dumping f s (k + 1 + m) ys) more) (append_assoc amounts (take n xs) (drop n xs) ∙ ap (λ ys. amounts ++ ys) (take-append-drop n xs))
+    ∙ ap (λ ys. go (dumping f s (k + 1 + m) ys) more) (append_assoc amounts (take n xs) (drop n xs))
+    ∙ ap (λ ys. go (dumping f s (k + 1 + m) (amounts ++ ys)) more) (take-append-drop n xs)
     ∙ ap (λ j. go (dumping f s j (amounts ++ xs)) more) steps
 
 -- a draft at its stretches and counts
 abbrev cutting : Form → ReadRows → List Stretch → List ℕ → DraftRows
-cutting f s ds ts = record { stage = ToCut; form = f; rows = record s { cut = ds; by_channels = ts } }
+cutting f s ds ts = at_stage ToCut f (record s { cut = ds; by_channels = ts })
 
 -- the stretch lines add their stretches
 go-stretch_lines : (f : Form) (s : ReadRows) (earlier ds : List Stretch) (more : List Line)
@@ -111,7 +114,8 @@ go-count_lines : (f : Form) (s : ReadRows) (ds : List Stretch) (earlier ts : Lis
     → go (cutting f s ds earlier) (map count_line ts ++ more) ≡ go (cutting f s ds (earlier ++ ts)) more
 go-count_lines f s ds earlier [] more may few = ap (λ es. go (cutting f s ds es) more) (sym (append-nil earlier))
 go-count_lines f s ds earlier (t ∷ ts) more may few =
-    go_may (cutting f s ds earlier) (count_line t) (map count_line ts ++ more) (count_may f (length earlier) may (omega (arith, few)))
+    let room = count_may f (length earlier) may (omega (arith, few)) in
+    go_may (cutting f s ds earlier) (count_line t) (map count_line ts ++ more) room
     ∙ go-count_lines f s ds (earlier ++ t ∷ []) ts more may (omega (arith, few, length-append earlier (t ∷ [])))
     ∙ ap (λ es. go (cutting f s ds es) more) (append_assoc earlier (t ∷ []) ts)
 
@@ -121,12 +125,12 @@ go_counted : (f : Form) (s : ReadRows) (ds : List Stretch) (ts : List ℕ) (more
     → go (cutting f s ds []) (map count_line ts ++ more) ≡ go (cutting f s ds ts) more
 go_counted First s ds [] more fits few = refl
 go_counted First s ds (t ∷ ts) more fits few = absurd (grind (arith, nat_tests, fits))
-go_counted Second s ds ts more fits few = go-count_lines Second s ds [] ts more refl (omega (arith, few))
-go_counted Third s ds ts more fits few = go-count_lines Third s ds [] ts more refl (omega (arith, few))
+go_counted f s ds ts more fits few = go-count_lines f s ds [] ts more refl (omega (arith, few))
 
 -- the lines of a certificate, from the first on
 pub certificate_right : (c : CertificateRows) (more : List Line)
-    → certificate_lines c ++ more ≡ loss_line c.loss ∷ (map stretch_line c.cut ++ (map count_line c.by_channels ++ (bound_line c.bound ∷ more)))
+    → certificate_lines c ++ more
+    ≡ loss_line c.loss ∷ (map stretch_line c.cut ++ (map count_line c.by_channels ++ (bound_line c.bound ∷ more)))
 unfolding certificate_lines
 certificate_right c more = simp append_assoc
 
@@ -145,7 +149,7 @@ go-certificate_lines stage f s c more may h fits =
 
 -- a draft with these certificates
 abbrev ending : Stage → Form → ReadRows → List CertificateRows → DraftRows
-ending stage f s cs = record { stage = stage; form = f; rows = record s { certificates = cs; loss = 0; cut = []; by_channels = [] } }
+ending stage f s cs = at_stage stage f (record s { certificates = cs; loss = 0; cut = []; by_channels = [] })
 
 -- the certificate of the first k stores may come
 begin_may : (k m n : ℕ) → k ≡ m → m < n → ((k == m) && nat_lt m n) ≡ true
@@ -156,29 +160,36 @@ begin_may k m n same room =
 -- the certificates of the first stores are added, and then the end
 go-first_lines : (s : ReadRows) (j : ℕ) (earlier cs : List CertificateRows) → suc j ≡ length earlier
     → length earlier + length cs ≡ length s.stores → All IsCertificate cs
-    → go (ending ToEnd Third s earlier) (first_lines (suc j) cs ++ end_line ∷ []) ≡ Some (ending Done Third s (earlier ++ cs))
+    → go (ending ToEnd Third s earlier) (first_lines (suc j) cs ++ end_line ∷ [])
+    ≡ Some (ending Done Third s (earlier ++ cs))
 go-first_lines s j earlier [] next all h =
     go_may (ending ToEnd Third s earlier) end_line [] (eq_of (length earlier) (length s.stores) (omega (arith, all)))
     ∙ ap (λ cs. Some (ending Done Third s cs)) (sym (append-nil earlier))
 go-first_lines s j earlier (c ∷ cs) next all h =
-    let after_part = first_lines (suc (suc j)) cs ++ end_line ∷ [] in
-    ap (λ ls. go (ending ToEnd Third s earlier) (first_line (suc j) ∷ ls)) (append_assoc (certificate_lines c) (first_lines (suc (suc j)) cs) (end_line ∷ []))
-    ∙ go_may (ending ToEnd Third s earlier) (first_line (suc j)) (certificate_lines c ++ after_part) (begin_may (suc j) (length earlier) (length s.stores) next (omega (arith, all)))
-    ∙ go-certificate_lines ToLoss Third (ending ToEnd Third s earlier).rows c after_part refl (All-head IsCertificate c cs h) refl
-    ∙ go-first_lines s (suc j) (earlier ++ c ∷ []) cs (omega (arith, next, length-append earlier (c ∷ []))) (omega (arith, all, length-append earlier (c ∷ []))) (All-tail IsCertificate c cs h)
+    let d = ending ToEnd Third s earlier in
+    let rest = first_lines (suc (suc j)) cs in
+    let may = begin_may (suc j) (length earlier) (length s.stores) next (omega (arith, all)) in
+    let size = length-append earlier (c ∷ []) in
+    ap (λ ls. go d (first_line (suc j) ∷ ls)) (append_assoc (certificate_lines c) rest (end_line ∷ []))
+    ∙ go_may d (first_line (suc j)) (certificate_lines c ++ (rest ++ end_line ∷ [])) may
+    ∙ go-certificate_lines ToLoss Third d.rows c (rest ++ end_line ∷ []) refl (All-head IsCertificate c cs h) refl
+    ∙ go-first_lines s (suc j) (earlier ++ c ∷ []) cs (omega (arith, next, size)) (omega (arith, all, size))
+        (All-tail IsCertificate c cs h)
     ∙ ap (λ es. Some (ending Done Third s es)) (append_assoc earlier (c ∷ []) cs)
 
 -- the certificates after that of all stores, and the end
 go_ending : (s : ReadRows) (c : CertificateRows) (o : Option (List CertificateRows)) (b : Bool)
     → IfSome o (AreFirsts (length s.stores))
-    → go (ending ToEnd (form_by o b) s (c ∷ [])) (first_lines 1 (unwrap_or o []) ++ end_line ∷ []) ≡ Some (ending Done (form_by o b) s (c ∷ unwrap_or o []))
+    → go (ending ToEnd (form_by o b) s (c ∷ [])) (first_lines 1 (unwrap_or o []) ++ end_line ∷ [])
+    ≡ Some (ending Done (form_by o b) s (c ∷ unwrap_or o []))
 go_ending s c None true h = refl
 go_ending s c None false h = refl
 go_ending s c (Some cs) b h = go-first_lines s 0 (c ∷ []) cs refl (omega (arith, h.count)) h.each
 
 -- the draft of a whole sheet
 abbrev pub whole : SheetRows → DraftRows
-whole s = record { stage = Done; form = form_of s; rows = record { stores = s.stores; plan = s.plan; certificates = certificates_of s; loss = 0; cut = []; by_channels = [] } }
+whole s =
+    at_stage Done (form_of s) (record no_rows { stores = s.stores; plan = s.plan; certificates = certificates_of s })
 
 -- certificates and form come back
 firsts_back : (c : CertificateRows) (o : Option (List CertificateRows)) (b : Bool)
@@ -202,15 +213,17 @@ form_fits None n = elim (cases_Bool (nat_lt 0 n)) [
 form_fits (Some cs) n = refl
 
 -- the lines of a sheet, from the first on
-pub lines_right : (s : SheetRows)
-    → lines_of s ≡ title_line (form_of s) ∷ stores_line s.stores ∷ (dump_lines s.plan.stores 1 s.plan.steps s.plan.amounts ++ (certificate_lines (own s) ++ (first_lines 1 (unwrap_or s.firsts []) ++ end_line ∷ [])))
+pub lines_right : (s : SheetRows) → lines_of s
+    ≡ title_line (form_of s) ∷ stores_line s.stores ∷ (dump_lines s.plan.stores 1 s.plan.steps s.plan.amounts
+    ++ (certificate_lines (own s) ++ (first_lines 1 (unwrap_or s.firsts []) ++ end_line ∷ [])))
 unfolding lines_of
 lines_right s =
     let front = title_line (form_of s) ∷ stores_line s.stores ∷ [] in
     let dumps = dump_lines s.plan.stores 1 s.plan.steps s.plan.amounts in
+    let firsts = first_lines 1 (unwrap_or s.firsts []) in
     append_assoc (front ++ dumps) (first_lines 0 (certificates_of s)) (end_line ∷ [])
     ∙ append_assoc front dumps (first_lines 0 (certificates_of s) ++ end_line ∷ [])
-    ∙ ap (λ ls. front ++ (dumps ++ ls)) (append_assoc (certificate_lines (own s)) (first_lines 1 (unwrap_or s.firsts [])) (end_line ∷ []))
+    ∙ ap (λ ls. front ++ (dumps ++ ls)) (append_assoc (certificate_lines (own s)) firsts (end_line ∷ []))
 
 -- some pass the test
 some_may : (n : ℕ) → 1 ≤ n → nat_lt 0 n ≡ true
@@ -229,8 +242,9 @@ go_opening : (s : SheetRows) (f : Form) (more : List Line) → 1 ≤ length s.st
     → s.plan.stores ≡ length s.stores
     → go start (title_line f ∷ stores_line s.stores ∷ more) ≡ go (dumping f (opened s) 0 []) more
 go_opening s f more some few same =
-    go_may (record { stage = ToStores; form = f; rows = no_rows }) (stores_line s.stores) more (stores_may (length s.stores) some few)
-    ∙ ap (λ n. go (dumping f (record no_rows { stores = s.stores; plan = record { stores = n; steps = 0; amounts = [] } }) 0 []) more) (sym same)
+    let rows : ℕ → ReadRows = λ n. record (opened s) { plan = record { stores = n; steps = 0; amounts = [] } } in
+    go_may (at_stage ToStores f no_rows) (stores_line s.stores) more (stores_may (length s.stores) some few)
+    ∙ ap (λ n. go (dumping f (rows n) 0 []) more) (sym same)
 
 -- the sheet's own certificate is one
 pub own_is : (s : SheetRows) → IsSheet s → IsCertificate (own s)
@@ -244,12 +258,16 @@ go-lines_of s h =
     let after_own = first_lines 1 (unwrap_or s.firsts []) ++ end_line ∷ [] in
     let after_dumps = certificate_lines (own s) ++ after_own in
     let f = form_of s in
+    let few : length s.stores ≤ MAX_STORES = omega (arith, h.plan.few, h.same_stores) in
+    let dumped = dumping f (opened s) s.plan.steps s.plan.amounts in
+    let fits = form_fits s.firsts (length s.by_channels) in
+    let may = some_may s.plan.steps h.plan.has_step in
     ap (go start) (lines_right s)
-    ∙ go_opening s f (dump_lines s.plan.stores 1 s.plan.steps s.plan.amounts ++ after_dumps) some (omega (arith, h.plan.few, h.same_stores)) h.same_stores
+    ∙ go_opening s f (dump_lines s.plan.stores 1 s.plan.steps s.plan.amounts ++ after_dumps) some few h.same_stores
     ∙ go-dump_lines f (opened s) 0 s.plan.steps [] s.plan.amounts after_dumps h.same_stores h.plan.table
     ∙ ap (λ k. go (dumping f (opened s) k s.plan.amounts) after_dumps) steps
-    ∙ go-certificate_lines ToDumps f (dumping f (opened s) s.plan.steps s.plan.amounts).rows (own s) after_own (some_may s.plan.steps h.plan.has_step) (own_is s h) (form_fits s.firsts (length s.by_channels))
-    ∙ go_ending (dumping f (opened s) s.plan.steps s.plan.amounts).rows (own s) s.firsts (has_counts s) h.firsts
+    ∙ go-certificate_lines ToDumps f dumped.rows (own s) after_own may (own_is s h) fits
+    ∙ go_ending dumped.rows (own s) s.firsts (has_counts s) h.firsts
 
 -- ---- each line of a sheet is within its ranges
 
@@ -270,8 +288,10 @@ certificate_lines_are c h =
     let ending = bound_line c.bound ∷ [] in
     let counted = map count_line c.by_channels ++ ending in
     let all_end : All IsLine ending = All-cons IsLine (bound_line c.bound) [] h.bound (All-nil IsLine) in
-    let all_counted : All IsLine counted = All-append IsLine (map count_line c.by_channels) ending (All-map IsLine count_line c.by_channels h.each_count) all_end in
-    let all_cut : All IsLine (map stretch_line c.cut ++ counted) = All-append IsLine (map stretch_line c.cut) counted (All-map IsLine stretch_line c.cut h.each_stretch) all_counted in
+    let counts = All-map IsLine count_line c.by_channels h.each_count in
+    let stretches = All-map IsLine stretch_line c.cut h.each_stretch in
+    let all_counted = All-append IsLine (map count_line c.by_channels) ending counts all_end in
+    let all_cut = All-append IsLine (map stretch_line c.cut) counted stretches all_counted in
     subst (All IsLine) (sym (certificate_right c []) ∙ append-nil (certificate_lines c))
     (All-cons IsLine (loss_line c.loss) (map stretch_line c.cut ++ counted) h.loss all_cut)
 
@@ -285,8 +305,9 @@ first_lines_are : (k : ℕ) (cs : List CertificateRows) → k + length cs ≤ 2 
     → All IsLine (first_lines k cs)
 first_lines_are k [] few h = All-nil IsLine
 first_lines_are k (c ∷ cs) few h =
+    let lines = certificate_lines_are c (All-head IsCertificate c cs h) in
     All-append IsLine (opening k ++ certificate_lines c) (first_lines (suc k) cs)
-    (All-append IsLine (opening k) (certificate_lines c) (opening_are k (omega (arith, few))) (certificate_lines_are c (All-head IsCertificate c cs h)))
+    (All-append IsLine (opening k) (certificate_lines c) (opening_are k (omega (arith, few))) lines)
     (first_lines_are (suc k) cs (omega (arith, few)) (All-tail IsCertificate c cs h))
 
 -- few certificates of the first stores, each within the limits
@@ -318,8 +339,11 @@ lines_are s h =
     let front = title_line (form_of s) ∷ stores_line s.stores ∷ [] in
     let dumps = dump_lines s.plan.stores 1 s.plan.steps s.plan.amounts in
     let parts = first_lines 0 (certificates_of s) in
-    let all_front : All IsLine front = All-cons IsLine (title_line (form_of s)) (stores_line s.stores ∷ []) tt (All-cons IsLine (stores_line s.stores) [] (omega (arith, few), h.each_store) (All-nil IsLine)) in
-    let all_dumps : All IsLine dumps = dump_lines_are s.plan.stores 1 s.plan.steps s.plan.amounts h.plan.few (omega (arith, h.steps)) h.plan.table h.plan.each in
+    let fewer : length s.stores ≤ 17 = omega (arith, few) in
+    let all_front : All IsLine front = All-from_recursion IsLine front (tt, ((fewer, h.each_store), tt)) in
+    let last : 1 + s.plan.steps ≤ MAX_STEPS + 1 = omega (arith, h.steps) in
+    let p = s.plan in
+    let all_dumps = dump_lines_are p.stores 1 p.steps p.amounts h.plan.few last h.plan.table h.plan.each in
     let all_parts : All IsLine parts = first_lines_are 0 (certificates_of s) (omega (arith, cs.few)) cs.each in
     let all_end : All IsLine (end_line ∷ []) = All-cons IsLine end_line [] tt (All-nil IsLine) in
     All-append IsLine (front ++ dumps ++ parts) (end_line ∷ [])

@@ -55,13 +55,17 @@ read_on {text} {rest} {d} {e} {line} front after_front h split taken =
     subst (λ f. IsReadTo text f after_front (line + 1)) (sym taken.added) (record {
       sound = more.sound;
       each = subst (All IsLine) (sym more.lines) (All-push IsLine xs x h.each taken.is);
-      ran = ap (go start) more.lines ∙ go-append start xs (x ∷ []) ∙ ap (option_and_then (λ f. go f (x ∷ []))) h.ran ∙ go_may d x [] taken.follows;
+      ran =
+          ap (go start) more.lines
+          ∙ go-append start xs (x ∷ [])
+          ∙ ap (option_and_then (λ f. go f (x ∷ []))) h.ran
+          ∙ go_may d x [] taken.follows;
       number = omega (arith, h.number, ap length more.lines, length-append xs (x ∷ []));
       lines =
           h.lines
           ∙ ap (λ ls. texts_so_far d ++ ls) (split ∙ ap (λ l. l ∷ text_lines after_front) taken.text_is)
           ∙ sym (append_assoc (texts_so_far d) (line_text x ∷ []) (text_lines after_front))
-          ∙ ap (λ ls. ls ++ text_lines after_front) (sym (map_push line_text xs x) ∙ ap (map line_text) (sym more.lines));
+          ∙ ap (λ ls. ls ++ text_lines after_front) (sym (ap (map line_text) more.lines ∙ map_push line_text xs x));
     })
 
 -- ---- the lines of a sheet's text
@@ -71,10 +75,12 @@ text_lines-sheet_text : (s : SheetRows) → IsSheet s → text_lines (sheet_text
 unfolding sheet_text
 text_lines-sheet_text s h =
     let ls = map line_text (lines_of s) in
-    let lacking : All (Lacks 10) ls =
-    All-map (Lacks 10) line_text (lines_of s) (All-weaker IsLine (λ x. Lacks 10 (line_text x)) line_text_lacks (lines_of s) (lines_are s h)) in
-    let last : All (Lacks 10) ([] ∷ []) = All-cons (Lacks 10) [] [] (All-nil (λ b. (b == 10) ≡ false)) (All-nil (Lacks 10)) in
-    slice_split-join 10 (ls ++ [] ∷ []) (omega (arith, length-append ls ([] ∷ []))) (All-append (Lacks 10) ls ([] ∷ []) lacking last)
+    let P : Line → Type 0 = λ x. Lacks 10 (line_text x) in
+    let each = All-weaker IsLine P line_text_lacks (lines_of s) (lines_are s h) in
+    let lacking = All-map (Lacks 10) line_text (lines_of s) each in
+    let last = All-cons (Lacks 10) [] [] (All-nil (λ b. (b == 10) ≡ false)) (All-nil (Lacks 10)) in
+    let all = All-append (Lacks 10) ls ([] ∷ []) lacking last in
+    slice_split-join 10 (ls ++ [] ∷ []) (omega (arith, length-append ls ([] ∷ []))) all
 
 -- lines of the same texts are the same
 same_lines : (xs ys : List Line) → All IsLine xs → All IsLine ys → map line_text xs ≡ map line_text ys → xs ≡ ys
@@ -130,16 +136,18 @@ module _ {text rest : List ℕ} {d : DraftRows} {line : ℕ} (h : IsReadTo text 
       let x = said_line front in
       let xs = map said_line more in
       let all : lines_of s ≡ lines_so_far d ++ x ∷ xs =
-      sym (said_lines (lines_of s) (lines_are s is)) ∙ ap (map said_line) e
-      ∙ map-append said_line (texts_so_far d) (front ∷ more) ∙ ap (λ ys. ys ++ x ∷ xs) (said_lines (lines_so_far d) h.each) in
+          sym (said_lines (lines_of s) (lines_are s is))
+          ∙ ap (map said_line) e
+          ∙ map-append said_line (texts_so_far d) (front ∷ more)
+          ∙ ap (λ ys. ys ++ x ∷ xs) (said_lines (lines_so_far d) h.each) in
       let texts = append_cancel_left (texts_so_far d) (map line_text (x ∷ xs)) (front ∷ more)
-      (sym (map-append line_text (lines_so_far d) (x ∷ xs)) ∙ ap (map line_text) (sym all) ∙ e) in
+          (sym (map-append line_text (lines_so_far d) (x ∷ xs)) ∙ ap (map line_text) (sym all) ∙ e) in
       let first : front ≡ line_text x = cc in
       let ran = ap (go start) (sym all) ∙ go-lines_of s is in
       none-some (whole s) (
-      sym (go_stops d x xs (refused x (said_is front) first))
-      ∙ sym (go-append start (lines_so_far d) (x ∷ xs) ∙ ap (option_and_then (λ e. go e (x ∷ xs))) h.ran)
-      ∙ ran
+        sym (go_stops d x xs (refused x (said_is front) first))
+        ∙ sym (go-append start (lines_so_far d) (x ∷ xs) ∙ ap (option_and_then (λ e. go e (x ∷ xs))) h.ran)
+        ∙ ran
       )
 
   -- a line that is refused is the first bad one
@@ -148,13 +156,14 @@ module _ {text rest : List ℕ} {d : DraftRows} {line : ℕ} (h : IsReadTo text 
   bad_line front after_front split refused =
       let ls = text_lines text in
       let upto = texts_so_far d ++ front ∷ [] in
-      let all : ls ≡ upto ++ text_lines after_front =
-      h.lines ∙ ap (λ ms. texts_so_far d ++ ms) split ∙ sym (append_assoc (texts_so_far d) (front ∷ []) (text_lines after_front)) in
+      let rest_is = ap (λ ms. texts_so_far d ++ ms) split in
+      let all = h.lines ∙ rest_is ∙ sym (append_assoc (texts_so_far d) (front ∷ []) (text_lines after_front)) in
       let size = length-append (texts_so_far d) (front ∷ []) in
       let here : take line ls ≡ upto = first_are line ls upto (text_lines after_front)
-      (omega (arith, h.number, size, length-map (lines_so_far d) line_text)) all in
+          (omega (arith, h.number, size, length-map (lines_so_far d) line_text)) all in
       let none : ¬ Begins (take line ls) = λ b.
-      not_next front b.2 b.0 refused b.1 (b.3 ∙ ap (λ ms. ms ++ b.2) here ∙ append_assoc (texts_so_far d) (front ∷ []) b.2) in
+          let lines = b.3 ∙ ap (λ ms. ms ++ b.2) here ∙ append_assoc (texts_so_far d) (front ∷ []) b.2 in
+          not_next front b.2 b.0 refused b.1 lines in
       let places = count in
       record {
         first = omega (arith, h.number);
@@ -165,8 +174,10 @@ module _ {text rest : List ℕ} {d : DraftRows} {line : ℕ} (h : IsReadTo text 
             let ms = map line_text (lines_of s) in
             let lines : ls ≡ ms ++ [] ∷ [] = ap text_lines e ∙ text_lines-sheet_text s is in
             let size = ap length lines ∙ length-append ms ([] ∷ []) in
-            let within : line ≤ length ms = omega (arith, places, h.number, ap length split, some_lines after_front, size) in
-            none (subst Begins (sym (ap (take line) lines ∙ take-append-le line ms ([] ∷ []) within)) (front_begins s is line));
+            let within : line ≤ length ms =
+                omega (arith, places, h.number, ap length split, some_lines after_front, size) in
+            let fronts = ap (take line) lines ∙ take-append-le line ms ([] ∷ []) within in
+            none (subst Begins (sym fronts) (front_begins s is line));
       }
 
   module _ (last : text_lines rest ≡ rest ∷ []) where
@@ -206,9 +217,10 @@ module _ {text rest : List ℕ} {d : DraftRows} {line : ℕ} (h : IsReadTo text 
     good_end last empty =
         let xs = lines_of (sheet_of d) in
         let lines : lines_so_far d ≡ xs =
-        ap (λ stage. so_far stage d.form d.rows) done ∙ sym (lines_of-whole d.form d.rows ended) in
+            ap (λ stage. so_far stage d.form d.rows) done ∙ sym (lines_of-whole d.form d.rows ended) in
         let all : text_lines text ≡ map line_text xs ++ [] ∷ [] =
-        h.lines
-        ∙ ap (λ ys. map line_text ys ++ text_lines rest) lines
-        ∙ ap (λ ls. map line_text xs ++ ls) (last ∙ ap (λ r. r ∷ []) empty) in
-        (whole_is_sheet d.form d.rows h.sound.rows ended, sym (join_with_byte-slice_split 10 text) ∙ ap (join_with_byte 10) all)
+            h.lines
+            ∙ ap (λ ys. map line_text ys ++ text_lines rest) lines
+            ∙ ap (λ ls. map line_text xs ++ ls) (last ∙ ap (λ r. r ∷ []) empty) in
+        let joined = sym (join_with_byte-slice_split 10 text) ∙ ap (join_with_byte 10) all in
+        (whole_is_sheet d.form d.rows h.sound.rows ended, joined)

@@ -26,7 +26,8 @@ AreSplit q x t blocks = (s : ℕ) → s < length q.rows → x s t + slice_index 
 
 -- of the limit of each channel that has one, what is not used in the step
 abbrev pub AreUnused : Dumping → Amounts → ℕ → List (Option ℕ) → Type 0
-AreUnused q x t rests = (c : ℕ) → c < CHANNELS → limit q c t ≡ option_map (λ rest. sum_by (in_step x t) (stores_of q c) + rest) (slice_index_or rests c None)
+AreUnused q x t rests = (c : ℕ) → c < CHANNELS
+    → limit q c t ≡ option_map (λ rest. sum_by (in_step x t) (stores_of q c) + rest) (slice_index_or rests c None)
 
 -- what is not used in the step: of its window, and of the limits
 pub record IsRest (q : Dumping) (x : Amounts) (t idle : ℕ) (rests : List (Option ℕ)) : Type 0 where
@@ -41,7 +42,8 @@ pub record IsStepFilled (q : Dumping) (x y : Amounts) (t : ℕ) (blocks : List �
   pub raised : (s : ℕ) → s < length q.rows → x s t ≤ y s t
   pub fits : FitsAt q y t
   pub split : AreSplit q y t blocks
-  pub used : (s : ℕ) → s < length q.rows → 0 < slice_index blocks s → IsWindowUsed q y t ⊎ IsLimitUsed q y t (channel q s)
+  pub used : (s : ℕ) → s < length q.rows → 0 < slice_index blocks s
+      → IsWindowUsed q y t ⊎ IsLimitUsed q y t (channel q s)
 
 -- how many blocks more may leave a store, with what is not used of the window and of its channel's limit
 abbrev pub room_in : ℕ → Option ℕ → ℕ

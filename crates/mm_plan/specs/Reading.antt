@@ -71,7 +71,8 @@ word ws k = slice_index_or ws k []
 
 -- the stretch that words say: a store, the first and the last step
 abbrev pub stretch_of : List (List ℕ) → Stretch
-stretch_of ws = record { store = id_of (word ws 0); first = number_of MAX_U32 (word ws 1); last = number_of MAX_U32 (word ws 2) }
+stretch_of ws =
+    record { store = id_of (word ws 0); first = number_of MAX_U32 (word ws 1); last = number_of MAX_U32 (word ws 2) }
 
 -- the form that a word says
 abbrev pub form_said : List ℕ → Form
@@ -86,7 +87,8 @@ line_of [] = end_line
 line_of (k ∷ ws) =
     if bytes_eq k (codes "mmplan") then title_line (form_said (word ws 0))
     else if bytes_eq k (codes "stores") then stores_line (map id_of ws)
-    else if bytes_eq k (codes "dump") then dump_line (number_of MAX_STEPS (word ws 0)) (map (number_of MAX_BLOCKS) (drop 1 ws))
+    else if bytes_eq k (codes "dump")
+    then dump_line (number_of MAX_STEPS (word ws 0)) (map (number_of MAX_BLOCKS) (drop 1 ws))
     else if bytes_eq k (codes "loss") then loss_line (number_of MAX_U64 (word ws 0))
     else if bytes_eq k (codes "stretch") then stretch_line (stretch_of ws)
     else if bytes_eq k (codes "count") then count_line (number_of MAX_U32 (word ws 0))
@@ -120,7 +122,9 @@ pub record DraftRows : Type 0 where
 
 -- nothing is said yet
 abbrev pub no_rows : ReadRows
-no_rows = record { stores = []; plan = record { stores = 0; steps = 0; amounts = [] }; certificates = []; loss = 0; cut = []; by_channels = [] }
+no_rows =
+    let no_plan : Table = record { stores = 0; steps = 0; amounts = [] } in
+    record { stores = []; plan = no_plan; certificates = []; loss = 0; cut = []; by_channels = [] }
 
 -- nothing has been read
 abbrev pub start : DraftRows
@@ -175,8 +179,11 @@ with_part s c = record s { certificates = s.certificates ++ c ∷ []; loss = 0; 
 -- the draft after a line
 abbrev pub after : DraftRows → Line → DraftRows
 after d (title_line f) = record d { stage = ToStores; form = f }
-after d (stores_line ids) = record d { stage = ToDumps; rows = record d.rows { stores = ids; plan = record d.rows.plan { stores = length ids } } }
-after d (dump_line t xs) = record d { rows = record d.rows { plan = record d.rows.plan { steps = t; amounts = d.rows.plan.amounts ++ xs } } }
+after d (stores_line ids) =
+    let plan = record d.rows.plan { stores = length ids } in
+    record d { stage = ToDumps; rows = record d.rows { stores = ids; plan = plan } }
+after d (dump_line t xs) =
+    record d { rows = record d.rows { plan = record d.rows.plan { steps = t; amounts = d.rows.plan.amounts ++ xs } } }
 after d (loss_line n) = record d { stage = ToCut; rows = record d.rows { loss = n; cut = []; by_channels = [] } }
 after d (stretch_line e) = record d { rows = record d.rows { cut = d.rows.cut ++ e ∷ [] } }
 after d (count_line t) = record d { rows = record d.rows { by_channels = d.rows.by_channels ++ t ∷ [] } }

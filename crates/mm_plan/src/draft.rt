@@ -168,7 +168,7 @@ impl Draft {
         Ok(())
     }
 
-    // Takes a line where it is that of the next step, or answers that it is not, and nothing is changed then.
+    // Takes the dump line of the next step. Any other text changes nothing, and the answer is false.
     fn take_dump(&mut self, text: &[u8]) -> Result<bool, AllocError>
         ensures { IfOk result (λ taken. MatchBool taken
             (IsTaken self.old text.now self.new)
@@ -188,7 +188,7 @@ impl Draft {
         Ok(true)
     }
 
-    // Takes the next line, or answers that this line cannot come next.
+    // Takes a line that may come next. The answer is false if this line may not.
     pub(crate) fn take(&mut self, alloc: Global, text: &[u8]) -> Result<bool, AllocError>
         ensures { IfOk result (λ taken. MatchBool taken
             (IsTaken self.old text.now self.new)

@@ -14,7 +14,8 @@ loop-front-init c = rw c.new-draft.ensures (read_to_start c.args.text.now)
 
 pub loop-front-preserved : goal.loop-front-preserved
 loop-front-preserved c =
-    read_on c.in-Some.front.now c.in-Some.after.now c.loop-front.invariant (search rules) (rw c.if-not-taken.false at c.in-Ok.ensures)
+    read_on c.in-Some.front.now c.in-Some.after.now c.loop-front.invariant (search rules)
+    (rw c.if-not-taken.false at c.in-Ok.ensures)
 
 pub overflow_add-line : goal.overflow_add-line
 overflow_add-line c = omega (arith, few_read c.loop-front.invariant)
@@ -22,18 +23,22 @@ overflow_add-line c = omega (arith, few_read c.loop-front.invariant)
 -- the line that cannot come next
 pub returns-then-not-taken-clause-bad : goal.returns-then-not-taken-clause-bad
 returns-then-not-taken-clause-bad c = λ _.
-    bad_line c.loop-front.invariant c.in-Some.front.now c.in-Some.after.now (search rules) (rw c.if-not-taken.true at c.in-Ok.ensures)
+    bad_line c.loop-front.invariant c.in-Some.front.now c.in-Some.after.now (search rules)
+    (rw c.if-not-taken.true at c.in-Ok.ensures)
 
 pub returns-then-not-taken-clause-read : goal.returns-then-not-taken-clause-read
-returns-then-not-taken-clause-read c = λ s is e. absurd ((returns-then-not-taken-clause-bad c (no_want c.loop-front.line)).no_sheet s is e)
+returns-then-not-taken-clause-read c = λ s is e.
+    absurd ((returns-then-not-taken-clause-bad c (no_want c.loop-front.line)).no_sheet s is e)
 
 -- the line on which the text ends
 pub returns-then-not-ends-clause-bad : goal.returns-then-not-ends-clause-bad
 returns-then-not-ends-clause-bad c = λ _.
-    bad_end c.loop-front.invariant (search rules) (λ done empty. let ends = c.ends.ensures.1 (done, empty) in absurd (cc))
+    bad_end c.loop-front.invariant (search rules)
+    (λ done empty. let ends = c.ends.ensures.1 (done, empty) in absurd (cc))
 
 pub returns-then-not-ends-clause-read : goal.returns-then-not-ends-clause-read
-returns-then-not-ends-clause-read c = λ s is e. absurd ((returns-then-not-ends-clause-bad c (no_want c.loop-front.line)).no_sheet s is e)
+returns-then-not-ends-clause-read c = λ s is e.
+    absurd ((returns-then-not-ends-clause-bad c (no_want c.loop-front.line)).no_sheet s is e)
 
 pub finish-requires-clause-plan : goal.finish-requires-clause-plan
 finish-requires-clause-plan c =
