@@ -76,19 +76,6 @@ impl Model for Picture {
         × AreStepMarks (picture_of a.problem a.sheet a.verdict a.worth) a.inner a.listed };
 }
 
-fn has_cut(verdict: Verdict) -> bool
-    ensures { result ≡ has_cut verdict }
-{
-    match verdict {
-        Verdict::BoundIs(_)
-        | Verdict::NotShown { .. }
-        | Verdict::FirstNotShown(_)
-        | Verdict::Least(_)
-        | Verdict::LeastInOrder(_) => true,
-        _ => false,
-    }
-}
-
 pub(crate) fn one_if(test: bool) -> u64
     ensures one { result ≡ one_if test }
     ensures most { result ≤ 1 }
@@ -96,21 +83,18 @@ pub(crate) fn one_if(test: bool) -> u64
     if test { 1 } else { 0 }
 }
 
-// The stretches of a sheet, where they are those of a cut.
-fn cut_of(sheet: &Sheet, verdict: Verdict) -> &[Stretch]
-    ensures { result.now ≡ (if has_cut verdict then sheet.now.cut else []) }
+// The stretches of a sheet and its steps that are counted by channels, where they are those of a cut.
+fn cut_of(sheet: &Sheet, verdict: Verdict) -> (&[Stretch], &[u32])
+    ensures cut { result.0.now ≡ (if has_cut verdict then sheet.now.cut else []) }
+    ensures counts { result.1.now ≡ (if has_cut verdict then sheet.now.by_channels else []) }
 {
-    if has_cut(verdict) { sheet.cut() } else { &[] }
-}
-
-// The steps of a sheet that are counted by channels, where its stretches are those of a cut.
-fn counts_of(sheet: &Sheet, verdict: Verdict) -> &[u32]
-    ensures { result.now ≡ (if has_cut verdict then sheet.now.by_channels else []) }
-{
-    if has_cut(verdict) {
-        sheet.by_channels()
-    } else {
-        &[]
+    match verdict {
+        Verdict::BoundIs(_)
+        | Verdict::NotShown { .. }
+        | Verdict::FirstNotShown(_)
+        | Verdict::Least(_)
+        | Verdict::LeastInOrder(_) => (sheet.cut(), sheet.by_channels()),
+        _ => (&[], &[]),
     }
 }
 
@@ -137,9 +121,10 @@ impl Picture {
     {
         let verdict = verdict_of(&problem, &sheet);
         let volumes = volumes_of(alloc, &problem, &sheet)?;
-        let shades = shades_of(alloc, &problem, cut_of(&sheet, verdict))?;
-        let inner = inner_steps(&problem, cut_of(&sheet, verdict));
-        let listed = listed_steps(counts_of(&sheet, verdict));
+        let (cut, counts) = cut_of(&sheet, verdict);
+        let shades = shades_of(alloc, &problem, cut)?;
+        let inner = inner_steps(&problem, cut);
+        let listed = listed_steps(counts);
         Ok(Picture {
             problem,
             sheet,
@@ -225,14 +210,14 @@ impl Picture {
         ensures stretches { AreStretches self.now.problem result.now }
         ensures each { All (IsStretch self.now.problem) result.now }
     {
-        cut_of(&self.sheet, self.verdict)
+        cut_of(&self.sheet, self.verdict).0
     }
 
     // The steps of the cut that are counted by channels.
     pub(crate) fn counts(&self) -> &[u32]
         ensures { result.now ≡ counts self.now }
     {
-        counts_of(&self.sheet, self.verdict)
+        cut_of(&self.sheet, self.verdict).1
     }
 
     /// The sums of the cut's bound.

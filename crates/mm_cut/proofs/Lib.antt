@@ -7,7 +7,6 @@ pub mod Prefixes
 pub mod ShownFirsts
 pub mod Exclusion
 pub mod Helping
-mod Refusals
 mod WorkedExamples
 pub mod SameVerdict
 pub mod Marking

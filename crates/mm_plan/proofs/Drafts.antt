@@ -1,5 +1,7 @@
 -- What a draft of a sheet says so far, and that each line that may come next adds just itself.
-use Rattle.std.proofs.Common.{◌≡◌, ℕ, zero, suc, ◌+◌, ◌*◌, ◌<◌, ◌≤◌, Bool, true, false, ◌==◌, None, List, [], ◌∷◌, ◌++◌, length, map, take, drop, ℤ, pos, refl, sym, ap, ◌∙◌, subst, arith, append_assoc, append-nil, length-append, length-drop}
+use Rattle.std.proofs.Common.{◌≡◌, ℕ, zero, suc, ◌+◌, ◌*◌, ◌<◌, ◌≤◌, Bool, true, false, ◌==◌, None, List, [], ◌∷◌, ◌++◌}
+use Rattle.std.proofs.Common.{length, map, take, drop, ℤ, pos, refl, sym, ap, ◌∙◌, subst, arith, append_assoc}
+use Rattle.std.proofs.Common.{append-nil, length-append, length-drop}
 use Rattle.std.specs.Prelude.{All, unwrap_or, nat_le, nat_lt, ◌&&◌, ◌^◌, FitsSigned}
 use Rattle.std.specs.Int.{w64}
 use Rattle.std.proofs.lemmas.Bool.{and_parts, false≢true}
@@ -16,8 +18,11 @@ use Rattle.mm_plan.specs.declared.stretch.TheConstants.{MAX_STRETCHES, MAX_COUNT
 use Rattle.mm_plan.specs.declared.draft.Stage.{Stage}
 use Rattle.mm_plan.specs.declared.draft.Stage.TheVariants.{ToTitle, ToStores, ToDumps, ToLoss, ToCut, ToEnd, Done}
 use Rattle.mm_plan.specs.Table.{Table}
-use Rattle.mm_plan.specs.Sheet.{CertificateRows, IsCertificate, IsWritten, Line, title_line, stores_line, dump_line, loss_line, stretch_line, count_line, bound_line, first_line, end_line, dump_lines, form_by, form_of, certificates_of, certificate_lines, opening, first_lines, IsLine}
-use Rattle.mm_plan.specs.Reading.{ReadRows, DraftRows, no_rows, may_count, fits_form, may_begin, has_all, may_follow, part_of, with_part, after, firsts_in, sheet_of}
+use Rattle.mm_plan.specs.Sheet.{CertificateRows, IsCertificate, IsWritten, Line, title_line, stores_line, dump_line}
+use Rattle.mm_plan.specs.Sheet.{loss_line, stretch_line, count_line, bound_line, first_line, end_line, dump_lines}
+use Rattle.mm_plan.specs.Sheet.{form_by, form_of, certificates_of, certificate_lines, opening, first_lines, IsLine}
+use Rattle.mm_plan.specs.Reading.{ReadRows, DraftRows, no_rows, start, may_count, fits_form, may_begin, has_all}
+use Rattle.mm_plan.specs.Reading.{may_follow, part_of, with_part, after, firsts_in, sheet_of}
 
 -- the dump lines of the plan
 abbrev pub dumps_of : ReadRows → List Line
@@ -125,7 +130,8 @@ pub record IsAdded (d : DraftRows) (x : Line) : Type 0 where
 -- ---- lists of lines
 
 -- one step's line more
-pub dump_lines-push : (n t k : ℕ) (xs row : List ℕ) → length xs ≡ k * n → length row ≡ n → dump_lines n t (suc k) (xs ++ row) ≡ dump_lines n t k xs ++ dump_line (t + k) row ∷ []
+pub dump_lines-push : (n t k : ℕ) (xs row : List ℕ) → length xs ≡ k * n → length row ≡ n
+    → dump_lines n t (suc k) (xs ++ row) ≡ dump_lines n t k xs ++ dump_line (t + k) row ∷ []
 dump_lines-push n t zero xs row size width =
     let empty : xs ≡ [] = nil_from_length xs (omega arith) in
     let here : t ≡ t + 0 = omega arith in
@@ -142,18 +148,22 @@ dump_lines-push n t (suc k) xs row size width =
     ∙ ap (λ j. dump_line t (take n xs) ∷ (dump_lines n (t + 1) k (drop n xs) ++ dump_line j row ∷ [])) step
 
 -- one certificate more
-pub first_lines-push : (k : ℕ) (cs : List CertificateRows) (c : CertificateRows) → first_lines k (cs ++ c ∷ []) ≡ first_lines k cs ++ opening (k + length cs) ++ certificate_lines c
+pub first_lines-push : (k : ℕ) (cs : List CertificateRows) (c : CertificateRows)
+    → first_lines k (cs ++ c ∷ []) ≡ first_lines k cs ++ opening (k + length cs) ++ certificate_lines c
 first_lines-push k [] c =
     let here : k ≡ k + 0 = omega arith in
     append-nil (opening k ++ certificate_lines c) ∙ ap (λ j. opening j ++ certificate_lines c) here
 first_lines-push k (d ∷ cs) c =
     let here : suc k + length cs ≡ k + suc (length cs) = omega arith in
     let front = opening k ++ certificate_lines d in
-    ap (λ ls. front ++ ls) (first_lines-push (suc k) cs c ∙ ap (λ j. first_lines (suc k) cs ++ opening j ++ certificate_lines c) here)
+    let more = first_lines-push (suc k) cs c in
+    ap (λ ls. front ++ ls) (more ∙ ap (λ j. first_lines (suc k) cs ++ opening j ++ certificate_lines c) here)
     ∙ simp append_assoc
 
 -- one more stretch, where there is no count
-more_cut : (front : List Line) (ds : List Stretch) (ts : List ℕ) (d : Stretch) → ts ≡ [] → front ++ map stretch_line (ds ++ d ∷ []) ++ map count_line ts ≡ front ++ map stretch_line ds ++ map count_line ts ++ stretch_line d ∷ []
+more_cut : (front : List Line) (ds : List Stretch) (ts : List ℕ) (d : Stretch) → ts ≡ []
+    → front ++ map stretch_line (ds ++ d ∷ []) ++ map count_line ts
+    ≡ front ++ map stretch_line ds ++ map count_line ts ++ stretch_line d ∷ []
 more_cut front ds ts d no_ts =
     ap (λ ts. front ++ map stretch_line (ds ++ d ∷ []) ++ map count_line ts) no_ts
     ∙ append-nil (front ++ map stretch_line (ds ++ d ∷ []))
@@ -163,18 +173,21 @@ more_cut front ds ts d no_ts =
     ∙ ap (λ ts. front ++ map stretch_line ds ++ map count_line ts ++ stretch_line d ∷ []) (sym no_ts)
 
 -- one more count
-more_counts : (front : List Line) (ts : List ℕ) (t : ℕ) → front ++ map count_line (ts ++ t ∷ []) ≡ front ++ map count_line ts ++ count_line t ∷ []
+more_counts : (front : List Line) (ts : List ℕ) (t : ℕ)
+    → front ++ map count_line (ts ++ t ∷ []) ≡ front ++ map count_line ts ++ count_line t ∷ []
 more_counts front ts t =
     ap (λ ls. front ++ ls) (map-append count_line ts (t ∷ []))
     ∙ sym (append_assoc front (map count_line ts) (count_line t ∷ []))
 
 -- the bound closes the certificate
-more_parts : (front : List Line) (s : ReadRows) (z : ℤ) → front ++ first_lines 0 (s.certificates ++ part_of s z ∷ []) ≡ front ++ first_lines 0 s.certificates ++ opening (length s.certificates) ++ loss_line s.loss ∷ [] ++ map stretch_line s.cut ++ map count_line s.by_channels ++ bound_line z ∷ []
+more_parts : (front : List Line) (s : ReadRows) (z : ℤ) → front ++ first_lines 0 (s.certificates ++ part_of s z ∷ [])
+    ≡ front ++ first_lines 0 s.certificates ++ opening (length s.certificates)
+    ++ loss_line s.loss ∷ [] ++ map stretch_line s.cut ++ map count_line s.by_channels ++ bound_line z ∷ []
 unfolding certificate_lines
 more_parts front s z =
     let here : 0 + length s.certificates ≡ length s.certificates = omega arith in
-    ap (λ ls. front ++ ls) (first_lines-push 0 s.certificates (part_of s z) ∙ ap (λ j. first_lines 0 s.certificates ++ opening j ++ certificate_lines (part_of s z)) here)
-    ∙ simp append_assoc
+    let lines : ℕ → List Line = λ j. first_lines 0 s.certificates ++ opening j ++ certificate_lines (part_of s z) in
+    ap (λ ls. front ++ ls) (first_lines-push 0 s.certificates (part_of s z) ∙ ap lines here) ∙ simp append_assoc
 
 -- ---- one line more
 
@@ -182,191 +195,71 @@ more_parts front s z =
 some_passes : (n : ℕ) → nat_lt 0 n ≡ true → 1 ≤ n
 some_passes n e = grind (arith, nat_tests)
 
--- the stores line adds just itself
-added_stores : (f : Form) (ids : List (List ℕ)) → IsLine (stores_line ids) → IsRows no_rows → (nat_lt 0 (length ids) && nat_le (length ids) MAX_STORES) ≡ true → IsAdded (at_stage ToStores f no_rows) (stores_line ids)
-added_stores f ids line rows may =
-    let p = and_parts (nat_lt 0 (length ids)) (nat_le (length ids) MAX_STORES) may in
-    record {
-      sound = record {
-        rows = record {
-          dumps = record {
-            stores = (Decides-nat_le (length ids) MAX_STORES).0 p.1;
-            steps = omega arith;
-            same_stores = refl;
-            table = omega arith;
-            each_amount = All-nil (λ n. n ≤ MAX_BLOCKS);
-            each_store = line.1;
-          };
-          part = rows.part;
-          certificates = rows.certificates;
-        };
-        at = record { has_store = some_passes (length ids) p.0; none = refl };
-      };
-      lines = refl;
-    }
-
--- what the test of a dump line says
-dump_follows : (s : ReadRows) (t : ℕ) (xs : List ℕ) → ((t == s.plan.steps + 1) && (length xs == length s.stores)) ≡ true → (t ≡ s.plan.steps + 1) × (length xs ≡ length s.stores)
-dump_follows s t xs may =
-    let p = and_parts (t == s.plan.steps + 1) (length xs == length s.stores) may in
-    (grind (arith, nat_tests, p.0), grind (arith, nat_tests, p.1))
-
--- a table with one row more
-wider : (k n t old new : ℕ) → t ≡ suc k → old ≡ k * n → new ≡ n → old + new ≡ t * n
-wider k n t old new is_next table width = omega (arith, ap (λ j. j * n) is_next)
-
--- a line at the end of the dumps, where there is no certificate
-more_dumps : (f : Form) (s : ReadRows) (plan : Table) (x : Line) → s.certificates ≡ [] → dumps_of (record s { plan = plan }) ≡ dumps_of s ++ x ∷ [] → upto_whole f (record s { plan = plan }) ≡ upto_whole f s ++ x ∷ []
-more_dumps f s plan x none more =
-    let front = title_line f ∷ stores_line s.stores ∷ [] in
-    ap (λ cs. front ++ dumps_of (record s { plan = plan }) ++ first_lines 0 cs) none
-    ∙ ap (λ ls. front ++ ls ++ []) more
-    ∙ (simp (append_assoc, append-nil))
-    ∙ ap (λ cs. front ++ dumps_of s ++ first_lines 0 cs ++ x ∷ []) (sym none)
-
--- a dump line adds just itself
-added_dump : (f : Form) (s : ReadRows) (t : ℕ) (xs : List ℕ) → IsLine (dump_line t xs) → IsRows s → IsUncut s → ((t == s.plan.steps + 1) && (length xs == length s.stores)) ≡ true → IsAdded (at_stage ToDumps f s) (dump_line t xs)
-added_dump f s t xs line rows uncut may =
-    let p = dump_follows s t xs may in
-    let is_next : t ≡ suc s.plan.steps = omega (arith, p.0) in
-    let number : 1 + s.plan.steps ≡ t = omega (arith, p.0) in
-    let width : length xs ≡ s.plan.stores = p.1 ∙ sym rows.dumps.same_stores in
-    record {
-      sound = record {
-        rows = record {
-          dumps = record {
-            stores = rows.dumps.stores;
-            steps = line.0;
-            same_stores = rows.dumps.same_stores;
-            table = length-append s.plan.amounts xs ∙ wider s.plan.steps s.plan.stores t (length s.plan.amounts) (length xs) is_next rows.dumps.table width;
-            each_amount = All-append (λ n. n ≤ MAX_BLOCKS) s.plan.amounts xs rows.dumps.each_amount line.2;
-            each_store = rows.dumps.each_store;
-          };
-          part = rows.part;
-          certificates = rows.certificates;
-        };
-        at = record { has_store = uncut.has_store; none = uncut.none };
-      };
-      lines = more_dumps f s (record s.plan { steps = t; amounts = s.plan.amounts ++ xs }) (dump_line t xs) uncut.none
-          (ap (λ k. dump_lines s.plan.stores 1 k (s.plan.amounts ++ xs)) is_next
-          ∙ dump_lines-push s.plan.stores 1 s.plan.steps s.plan.amounts xs rows.dumps.table width
-          ∙ ap (λ k. dumps_of s ++ dump_line k xs ∷ []) number);
-    }
-
 -- the bound 0 fits
 pub zero_fits : FitsSigned w64 (pos 0)
 zero_fits = record { sfits = omega arith }
 
 -- a loss alone
-pub blank_part : (n : ℕ) → n < 2 ^ 64 → IsCertificate (record { loss = n; cut = []; by_channels = []; bound = pos 0 })
-blank_part n line = record { cut = omega arith; counts = omega arith; each_stretch = All-nil IsWritten; each_count = All-nil (λ t. t < 2 ^ 32); loss = line; bound = zero_fits }
+blank_part : (n : ℕ) → n < 2 ^ 64 → IsCertificate (part_of (record no_rows { loss = n }) (pos 0))
+blank_part n line =
+    let no_cut : 0 ≤ MAX_STRETCHES = omega arith in
+    let no_count : 0 ≤ MAX_COUNTS = omega arith in
+    assumption (no_cut, no_count, All-nil IsWritten, All-nil (λ t. t < 2 ^ 32), line, zero_fits)
 
--- the rows after a loss
-lossy : (s : ReadRows) (n : ℕ) → IsLine (loss_line n) → IsRows s → IsRows (record s { loss = n; cut = []; by_channels = [] })
-lossy s n line rows = record {
-  dumps = rows.dumps;
-  part = blank_part n line;
-  certificates = rows.certificates;
-}
+-- the rows are sound before the first line
+blank_rows : IsRows no_rows
+blank_rows =
+    let no_store : 0 ≤ MAX_STORES = omega arith in
+    let no_step : 0 ≤ MAX_STEPS = omega arith in
+    let blank = blank_part 0 (omega arith) in
+    assumption (no_store, no_step, All-nil (λ n. n ≤ MAX_BLOCKS), All-nil IsIdField, blank, All-nil IsCertificate)
+
+-- and so is the draft
+pub start_sound : IsSound start
+start_sound = record { rows = blank_rows; at = refl }
+
+-- the stores line adds just itself
+added_stores : (f : Form) (ids : List (List ℕ)) → IsLine (stores_line ids)
+    → (nat_lt 0 (length ids) && nat_le (length ids) MAX_STORES) ≡ true
+    → IsAdded (at_stage ToStores f no_rows) (stores_line ids)
+added_stores f ids line may =
+    let p = and_parts (nat_lt 0 (length ids)) (nat_le (length ids) MAX_STORES) may in
+    let few = (Decides-nat_le (length ids) MAX_STORES).0 p.1 in
+    let no_row : 0 ≡ 0 * length ids = omega arith in
+    record { sound = assumption (few, no_row, line.1, some_passes (length ids) p.0, blank_rows); lines = refl }
+
+-- a table with one row more
+wider : (k n t old new : ℕ) → t ≡ suc k → old ≡ k * n → new ≡ n → old + new ≡ t * n
+wider k n t old new is_next table width = omega (arith, ap (λ j. j * n) is_next)
 
 -- before the first certificate there is room for one
 room_before : (f : Form) (n : ℕ) (cs : List CertificateRows) → 1 ≤ n → cs ≡ [] → HasRoom f n cs
-room_before First n cs some none = none
-room_before Second n cs some none = none
 room_before Third n cs some none = omega (arith, ap length none)
+room_before _ n cs some none = none
 
 -- without certificates, stretches and counts nothing is added
 no_part : (front : List Line) (x : Line) → front ++ [] ++ [] ++ x ∷ [] ++ [] ++ [] ≡ front ++ [] ++ x ∷ []
 no_part front x = simp append-nil
 
--- the loss line adds just itself
-added_loss : (f : Form) (s : ReadRows) (n : ℕ) → IsLine (loss_line n) → IsRows s → IsUncut s → nat_lt 0 s.plan.steps ≡ true → IsAdded (at_stage ToDumps f s) (loss_line n)
-added_loss f s n line rows uncut may = record {
-  sound = record {
-    rows = lossy s n line rows;
-    at = record {
-      opened = record { has_store = uncut.has_store; has_step = some_passes s.plan.steps may; room = room_before f (length s.stores) s.certificates uncut.has_store uncut.none };
-      counts = λ _. refl;
-    };
-  };
-  lines =
-      ap (λ cs. title_line f ∷ stores_line s.stores ∷ [] ++ dumps_of s ++ first_lines 0 cs ++ opening (length cs) ++ loss_line n ∷ [] ++ [] ++ []) uncut.none
-      ∙ no_part (title_line f ∷ stores_line s.stores ∷ [] ++ dumps_of s) (loss_line n)
-      ∙ ap (λ cs. title_line f ∷ stores_line s.stores ∷ [] ++ dumps_of s ++ first_lines 0 cs ++ loss_line n ∷ []) (sym uncut.none);
-}
-
--- the loss line of a certificate of the first stores adds just itself
-added_part : (f : Form) (s : ReadRows) (n : ℕ) → IsLine (loss_line n) → IsRows s → IsOpened f s.stores s.plan s.certificates → IsAdded (at_stage ToLoss f s) (loss_line n)
-added_part f s n line rows opened = record {
-  sound = record { rows = lossy s n line rows; at = record { opened = opened; counts = λ _. refl } };
-  lines = simp append-nil;
-}
-
--- what the test of a stretch line says
-stretch_follows : (s : ReadRows) → (nat_lt (length s.cut) MAX_STRETCHES && (length s.by_channels == 0)) ≡ true → (length s.cut < MAX_STRETCHES) × (s.by_channels ≡ [])
-stretch_follows s may =
-    let p = and_parts (nat_lt (length s.cut) MAX_STRETCHES) (length s.by_channels == 0) may in
-    let none : length s.by_channels ≡ 0 = grind (arith, nat_tests, p.1) in
-    (grind (arith, nat_tests, p.0), nil_from_length s.by_channels none)
-
--- a stretch line adds just itself
-added_stretch : (f : Form) (s : ReadRows) (d : Stretch) → IsLine (stretch_line d) → IsRows s → IsPlanned f s → (nat_lt (length s.cut) MAX_STRETCHES && (length s.by_channels == 0)) ≡ true → IsAdded (at_stage ToCut f s) (stretch_line d)
-added_stretch f s d line rows planned may =
-    let p = stretch_follows s may in
-    record {
-      sound = record {
-        rows = record {
-          dumps = rows.dumps;
-          part = record {
-            cut = omega (arith, p.0, length-append s.cut (d ∷ []));
-            counts = rows.part.counts;
-            each_stretch = All-push IsWritten s.cut d rows.part.each_stretch line;
-            each_count = rows.part.each_count;
-            loss = rows.part.loss;
-            bound = rows.part.bound;
-          };
-          certificates = rows.certificates;
-        };
-        at = record { opened = planned.opened; counts = planned.counts };
-      };
-      lines = more_cut (upto_part f s ++ loss_line s.loss ∷ []) s.cut s.by_channels d p.1;
-    }
-
--- what the test of a count line says
-count_follows : (b : Bool) (s : ReadRows) → (b && nat_lt (length s.by_channels) MAX_COUNTS) ≡ true → (b ≡ true) × (length s.by_channels < MAX_COUNTS)
-count_follows b s may =
-    let p = and_parts b (nat_lt (length s.by_channels) MAX_COUNTS) may in
-    (p.0, grind (arith, nat_tests, p.1))
-
--- a count line adds just itself
-added_count : (f : Form) (s : ReadRows) (t : ℕ) → IsLine (count_line t) → IsRows s → IsPlanned f s → (may_count f && nat_lt (length s.by_channels) MAX_COUNTS) ≡ true → IsAdded (at_stage ToCut f s) (count_line t)
-added_count f s t line rows planned may =
-    let p = count_follows (may_count f) s may in
-    record {
-      sound = record {
-        rows = record {
-          dumps = rows.dumps;
-          part = record {
-            cut = rows.part.cut;
-            counts = omega (arith, p.1, length-append s.by_channels (t ∷ []));
-            each_stretch = rows.part.each_stretch;
-            each_count = All-push (λ t. t < 2 ^ 32) s.by_channels t rows.part.each_count line;
-            loss = rows.part.loss;
-            bound = rows.part.bound;
-          };
-          certificates = rows.certificates;
-        };
-        at = record { opened = planned.opened; counts = λ first. absurd (false≢true (sym first ∙ p.0)) };
-      };
-      lines = more_counts (upto_part f s ++ loss_line s.loss ∷ [] ++ map stretch_line s.cut) s.by_channels t;
-    }
-
 -- without counts it is the first form
 first_form : (n : ℕ) → (n == 0) ≡ true → false ≡ nat_lt 0 n
 first_form n may = grind (arith, nat_tests)
 
+-- the line before a certificate that is not the first
+opening_is : (k : ℕ) → 1 ≤ k → opening k ≡ first_line k ∷ []
+opening_is zero some = absurd (omega arith)
+opening_is (suc k) some = refl
+
+-- certificates of the first stores, of which the last was added
+third_parts : (s : ReadRows) (cs : List CertificateRows) (c : CertificateRows)
+    → certificates_of (sheet_of (at_stage Done Third (record s { certificates = cs ++ c ∷ [] }))) ≡ cs ++ c ∷ []
+third_parts s [] c = refl
+third_parts s (d ∷ cs) c = refl
+
 -- the only certificate
-one_part : (f : Form) (n : ℕ) (s : ReadRows) (c : CertificateRows) → 1 ≤ n → firsts_in f (c ∷ []) ≡ None → s.certificates ≡ c ∷ [] → form_by None (nat_lt 0 (length c.by_channels)) ≡ f → AreInForm f n s
+one_part : (f : Form) (n : ℕ) (s : ReadRows) (c : CertificateRows) → 1 ≤ n → firsts_in f (c ∷ []) ≡ None
+    → s.certificates ≡ c ∷ []
+    → form_by None (nat_lt 0 (length c.by_channels)) ≡ f → AreInForm f n s
 one_part f n s c some no_firsts one form =
     let sheet = λ (cs : List CertificateRows). sheet_of (at_stage Done f (record s { certificates = cs })) in
     record {
@@ -375,67 +268,139 @@ one_part f n s c some no_firsts one form =
       few = omega (arith, ap length one);
     }
 
--- certificates of the first stores, of which the last was added
-third_parts : (s : ReadRows) (cs : List CertificateRows) (c : CertificateRows) → certificates_of (sheet_of (at_stage Done Third (record s { certificates = cs ++ c ∷ [] }))) ≡ cs ++ c ∷ []
-third_parts s [] c = refl
-third_parts s (d ∷ cs) c = refl
-
 -- the certificate that the bound closes is of the form
-parts_in_form : (f : Form) (s : ReadRows) (c : CertificateRows) → 1 ≤ length s.stores → HasRoom f (length s.stores) s.certificates → fits_form f (length c.by_channels) ≡ true → AreInForm f (length s.stores) (with_part s c)
-parts_in_form First s c some room fits = one_part First (length s.stores) (with_part s c) c some refl (ap (λ cs. cs ++ c ∷ []) room) (ap (form_by None) (sym (first_form (length c.by_channels) fits)))
-parts_in_form Second s c some room fits = one_part Second (length s.stores) (with_part s c) c some refl (ap (λ cs. cs ++ c ∷ []) room) (ap (form_by None) fits)
-parts_in_form Third s c some room fits = record { form = refl; all = third_parts s s.certificates c; few = omega (arith, length-append s.certificates (c ∷ [])) }
-
--- the bound line adds just itself
-added_bound : (f : Form) (s : ReadRows) (z : ℤ) → IsLine (bound_line z) → IsRows s → IsPlanned f s → fits_form f (length s.by_channels) ≡ true → IsAdded (at_stage ToCut f s) (bound_line z)
-added_bound f s z line rows planned fits =
-    let part : IsCertificate (part_of s z) = record { cut = rows.part.cut; counts = rows.part.counts; each_stretch = rows.part.each_stretch; each_count = rows.part.each_count; loss = rows.part.loss; bound = line } in
-    record {
-      sound = record {
-        rows = record { dumps = rows.dumps; part = blank_part 0 (omega arith); certificates = All-push IsCertificate s.certificates (part_of s z) rows.certificates part };
-        at = record {
-          has_store = planned.opened.has_store;
-          has_step = planned.opened.has_step;
-          certificates = parts_in_form f s (part_of s z) planned.opened.has_store planned.opened.room fits;
-        };
-      };
-      lines = more_parts (title_line f ∷ stores_line s.stores ∷ [] ++ dumps_of s) s z;
-    }
+parts_in_form : (f : Form) (s : ReadRows) (c : CertificateRows) → 1 ≤ length s.stores
+    → HasRoom f (length s.stores) s.certificates
+    → fits_form f (length c.by_channels) ≡ true → AreInForm f (length s.stores) (with_part s c)
+parts_in_form First s c some room fits =
+    let form = sym (first_form (length c.by_channels) fits) in
+    one_part First (length s.stores) (with_part s c) c some refl (ap (λ cs. cs ++ c ∷ []) room) (ap (form_by None) form)
+parts_in_form Second s c some room fits =
+    let one = ap (λ cs. cs ++ c ∷ []) room in
+    one_part Second (length s.stores) (with_part s c) c some refl one (ap (form_by None) fits)
+parts_in_form Third s c some room fits =
+    let size = length-append s.certificates (c ∷ []) in
+    record { form = refl; all = third_parts s s.certificates c; few = omega (arith, size) }
 
 -- what the test of a first line says
-begins : (f : Form) (k : ℕ) (s : ReadRows) → may_begin f k s ≡ true → (k ≡ length s.certificates) × HasRoom f (length s.stores) s.certificates
-begins First k s may = absurd (false≢true may)
-begins Second k s may = absurd (false≢true may)
+begins : (f : Form) (k : ℕ) (s : ReadRows) → may_begin f k s ≡ true
+    → (k ≡ length s.certificates) × HasRoom f (length s.stores) s.certificates
 begins Third k s may =
     let p = and_parts (k == length s.certificates) (nat_lt (length s.certificates) (length s.stores)) may in
     (grind (arith, nat_tests, p.0), grind (arith, nat_tests, p.1))
+begins _ k s may = absurd (false≢true may)
 
--- the line before a certificate that is not the first
-opening_is : (k : ℕ) → 1 ≤ k → opening k ≡ first_line k ∷ []
-opening_is zero some = absurd (omega arith)
-opening_is (suc k) some = refl
+module _ (f : Form) (s : ReadRows) (rows : IsRows s) where
+  -- the lines before the dumps
+  abbrev front : List Line
+  front = title_line f ∷ stores_line s.stores ∷ []
 
--- a first line adds just itself
-added_first : (f : Form) (s : ReadRows) (k : ℕ) → IsRows s → IsWhole f s → may_begin f k s ≡ true → IsAdded (at_stage ToEnd f s) (first_line k)
-added_first f s k rows whole may =
-    let p = begins f k s may in
-    let some : 1 ≤ length s.certificates = omega (arith, ap length whole.certificates.all) in
-    record {
-      sound = record { rows = rows; at = record { has_store = whole.has_store; has_step = whole.has_step; room = p.1 } };
-      lines = ap (λ ls. upto_whole f s ++ ls) (opening_is (length s.certificates) some ∙ ap (λ j. first_line j ∷ []) (sym p.0));
-    }
+  -- a dump line adds just itself
+  added_dump : (t : ℕ) (xs : List ℕ) → IsLine (dump_line t xs) → IsUncut s
+      → ((t == s.plan.steps + 1) && (length xs == length s.stores)) ≡ true
+      → IsAdded (at_stage ToDumps f s) (dump_line t xs)
+  added_dump t xs line uncut may =
+      let p = and_parts (t == s.plan.steps + 1) (length xs == length s.stores) may in
+      let n = s.plan.stores in
+      let old = s.plan.amounts in
+      let is_next : t ≡ suc s.plan.steps = grind (arith, nat_tests, p.0) in
+      let number : 1 + s.plan.steps ≡ t = omega (arith, is_next) in
+      let same : length xs ≡ length s.stores = grind (arith, nat_tests, p.1) in
+      let width : length xs ≡ n = same ∙ sym rows.dumps.same_stores in
+      let wide = wider s.plan.steps n t (length old) (length xs) is_next rows.dumps.table width in
+      let table = length-append old xs ∙ wide in
+      let each = All-append (λ n. n ≤ MAX_BLOCKS) old xs rows.dumps.each_amount line.2 in
+      let after_dumps = λ (ls : List Line) (cs : List CertificateRows). front ++ ls ++ first_lines 0 cs in
+      let more = ap (λ k. dump_lines n 1 k (old ++ xs)) is_next
+          ∙ dump_lines-push n 1 s.plan.steps old xs rows.dumps.table width
+          ∙ ap (λ k. dumps_of s ++ dump_line k xs ∷ []) number in
+      record {
+        sound = assumption (line.0, table, each);
+        lines =
+            ap (after_dumps (dump_lines n 1 t (old ++ xs))) uncut.none
+            ∙ ap (λ ls. after_dumps ls []) more
+            ∙ (simp (append_assoc, append-nil))
+            ∙ ap (λ cs. after_dumps (dumps_of s) cs ++ dump_line t xs ∷ []) (sym uncut.none);
+      }
+
+  -- the loss line adds just itself
+  added_loss : (n : ℕ) → IsLine (loss_line n) → IsUncut s → nat_lt 0 s.plan.steps ≡ true
+      → IsAdded (at_stage ToDumps f s) (loss_line n)
+  added_loss n line uncut may =
+      let room = room_before f (length s.stores) s.certificates uncut.has_store uncut.none in
+      let before = front ++ dumps_of s in
+      record {
+        sound = assumption (blank_part n line, some_passes s.plan.steps may, room);
+        lines =
+            ap (λ cs. before ++ first_lines 0 cs ++ opening (length cs) ++ loss_line n ∷ [] ++ [] ++ []) uncut.none
+            ∙ no_part before (loss_line n)
+            ∙ ap (λ cs. before ++ first_lines 0 cs ++ loss_line n ∷ []) (sym uncut.none);
+      }
+
+  -- the loss line of a certificate of the first stores adds just itself
+  added_part : (n : ℕ) → IsLine (loss_line n) → IsOpened f s.stores s.plan s.certificates
+      → IsAdded (at_stage ToLoss f s) (loss_line n)
+  added_part n line opened = record { sound = assumption (blank_part n line); lines = simp append-nil }
+
+  -- a stretch line adds just itself
+  added_stretch : (d : Stretch) → IsLine (stretch_line d) → IsPlanned f s
+      → (nat_lt (length s.cut) MAX_STRETCHES && (length s.by_channels == 0)) ≡ true
+      → IsAdded (at_stage ToCut f s) (stretch_line d)
+  added_stretch d line planned may =
+      let p = and_parts (nat_lt (length s.cut) MAX_STRETCHES) (length s.by_channels == 0) may in
+      let few : length s.cut < MAX_STRETCHES = grind (arith, nat_tests, p.0) in
+      let zero : length s.by_channels ≡ 0 = grind (arith, nat_tests, p.1) in
+      let none = nil_from_length s.by_channels zero in
+      let size : length (s.cut ++ d ∷ []) ≤ MAX_STRETCHES = omega (arith, length-append s.cut (d ∷ [])) in
+      record {
+        sound = assumption (size, All-push IsWritten s.cut d rows.part.each_stretch line);
+        lines = more_cut (upto_part f s ++ loss_line s.loss ∷ []) s.cut s.by_channels d none;
+      }
+
+  -- a count line adds just itself
+  added_count : (t : ℕ) → IsLine (count_line t) → IsPlanned f s
+      → (may_count f && nat_lt (length s.by_channels) MAX_COUNTS) ≡ true → IsAdded (at_stage ToCut f s) (count_line t)
+  added_count t line planned may =
+      let ts = s.by_channels in
+      let p = and_parts (may_count f) (nat_lt (length ts) MAX_COUNTS) may in
+      let few : length ts < MAX_COUNTS = grind (arith, nat_tests, p.1) in
+      let size : length (ts ++ t ∷ []) ≤ MAX_COUNTS = omega (arith, length-append ts (t ∷ [])) in
+      let counts : may_count f ≡ false → ts ++ t ∷ [] ≡ [] = λ first. absurd (false≢true (sym first ∙ p.0)) in
+      record {
+        sound = assumption (size, counts, All-push (λ t. t < 2 ^ 32) ts t rows.part.each_count line);
+        lines = more_counts (upto_part f s ++ loss_line s.loss ∷ [] ++ map stretch_line s.cut) ts t;
+      }
+
+  -- the bound line adds just itself
+  added_bound : (z : ℤ) → IsLine (bound_line z) → IsPlanned f s → fits_form f (length s.by_channels) ≡ true
+      → IsAdded (at_stage ToCut f s) (bound_line z)
+  added_bound z line planned fits =
+      let part : IsCertificate (part_of s z) = assumption (line) in
+      let each = All-push IsCertificate s.certificates (part_of s z) rows.certificates part in
+      let forms = parts_in_form f s (part_of s z) planned.opened.has_store planned.opened.room fits in
+      let blank = blank_part 0 (omega arith) in
+      record { sound = assumption (blank, each, forms); lines = more_parts (front ++ dumps_of s) s z }
+
+  -- a first line adds just itself
+  added_first : (k : ℕ) → IsWhole f s → may_begin f k s ≡ true → IsAdded (at_stage ToEnd f s) (first_line k)
+  added_first k whole may =
+      let p = begins f k s may in
+      let some : 1 ≤ length s.certificates = omega (arith, ap length whole.certificates.all) in
+      let opened = opening_is (length s.certificates) some ∙ ap (λ j. first_line j ∷ []) (sym p.0) in
+      record { sound = assumption (p.1); lines = ap (λ ls. upto_whole f s ++ ls) opened }
 
 -- a line that may come next adds just itself
-pub added : (stage : Stage) (f : Form) (s : ReadRows) (x : Line) → IsLine x → IsRows s → IsAt stage f s → may_follow stage f s x ≡ true → IsAdded (at_stage stage f s) x
-added ToTitle f s (title_line g) line rows at may = record { sound = record { rows = rows; at = at }; lines = refl }
+pub added : (stage : Stage) (f : Form) (s : ReadRows) (x : Line) → IsLine x → IsRows s → IsAt stage f s
+    → may_follow stage f s x ≡ true → IsAdded (at_stage stage f s) x
+added ToTitle f s (title_line g) line rows at may = assumption
 added ToStores f s (stores_line ids) line rows at may =
-    subst (λ r. IsAdded (at_stage ToStores f r) (stores_line ids)) (sym at) (added_stores f ids line (subst IsRows at rows) may)
-added ToDumps f s (dump_line t xs) line rows at may = added_dump f s t xs line rows at may
-added ToDumps f s (loss_line n) line rows at may = added_loss f s n line rows at may
-added ToLoss f s (loss_line n) line rows at may = added_part f s n line rows at
-added ToCut f s (stretch_line d) line rows at may = added_stretch f s d line rows at may
-added ToCut f s (count_line t) line rows at may = added_count f s t line rows at may
-added ToCut f s (bound_line z) line rows at may = added_bound f s z line rows at may
-added ToEnd f s (first_line k) line rows at may = added_first f s k rows at may
-added ToEnd f s end_line line rows at may = record { sound = record { rows = rows; at = record { whole = at; all = may } }; lines = refl }
+    subst (λ r. IsAdded (at_stage ToStores f r) (stores_line ids)) (sym at) (added_stores f ids line may)
+added ToDumps f s (dump_line t xs) line rows at may = added_dump f s rows t xs line at may
+added ToDumps f s (loss_line n) line rows at may = added_loss f s rows n line at may
+added ToLoss f s (loss_line n) line rows at may = added_part f s rows n line at
+added ToCut f s (stretch_line d) line rows at may = added_stretch f s rows d line at may
+added ToCut f s (count_line t) line rows at may = added_count f s rows t line at may
+added ToCut f s (bound_line z) line rows at may = added_bound f s rows z line at may
+added ToEnd f s (first_line k) line rows at may = added_first f s rows k at may
+added ToEnd f s end_line line rows at may = assumption
 added _ f s x line rows at may = absurd (false≢true may)

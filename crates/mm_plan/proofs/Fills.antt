@@ -4,7 +4,7 @@ use Rattle.std.proofs.lemmas.Bool.{cases_lt}
 use Rattle.mm_problem.specs.Dumping.{Dumping, start, channel}
 use Rattle.mm_plan.specs.Volumes.{Amounts, written, left}
 use Rattle.mm_plan.specs.Fit.{FitsAt, Fits}
-use Rattle.mm_plan.specs.Filled.{IsFilledAt, IsFilled, IsNowhereWorse}
+use Rattle.mm_plan.specs.Filled.{IsFilledAt, IsNowhereWorse}
 use Rattle.mm_plan.specs.Filling.{SameElsewhere, IsLoweredAt, AreLeft, AreSplit, IsStepFilled}
 use Rattle.mm_plan.proofs.Steps.{left_start, left_step, left_same, written_same, left_no_more, lost_no_more}
 use Rattle.mm_plan.proofs.Raises.{IsNoLess, used_kept, fits_no_more}
@@ -22,7 +22,8 @@ pub record IsDoneBefore (q : Dumping) (x y : Amounts) (n : ℕ) (blocks : List �
   pub volumes : AreLeft q y (n - 1) blocks
 
 -- before the first step
-pub done_start : (q : Dumping) (x : Amounts) (blocks : List ℕ) → ((s : ℕ) → s < length q.rows → get_or blocks s 0 ≡ start q s) → IsDoneBefore q x x 1 blocks
+pub done_start : (q : Dumping) (x : Amounts) (blocks : List ℕ)
+    → ((s : ℕ) → s < length q.rows → get_or blocks s 0 ≡ start q s) → IsDoneBefore q x x 1 blocks
 done_start q x blocks starts = record {
   done = λ t first before. absurd (omega arith);
   later = λ s t store from to. refl;
@@ -30,34 +31,44 @@ done_start q x blocks starts = record {
 }
 
 -- it stays done where amounts of later steps change
-done_along : (q : Dumping) (x y z : Amounts) (t : ℕ) → 1 ≤ t → ((s u : ℕ) → s < length q.rows → 1 ≤ u → u ≤ t → z s u ≡ y s u) → IsDoneAt q x y t → IsDoneAt q x z t
+done_along : (q : Dumping) (x y z : Amounts) (t : ℕ) → 1 ≤ t
+    → ((s u : ℕ) → s < length q.rows → 1 ≤ u → u ≤ t → z s u ≡ y s u) → IsDoneAt q x y t → IsDoneAt q x z t
 done_along q x y z t first same is =
     let here : (s : ℕ) → s < length q.rows → z s t ≡ y s t = λ s store. same s t store first (omega arith) in
     let no_less : IsNoLess q y z t = λ s store. omega (arith, here s store) in
     let fits : FitsAt q z t = fits_no_more q y z t (λ s store. omega (arith, here s store)) is.fits in
-    let is_written : (s : ℕ) → s < length q.rows → written q z s t ≡ written q y s t = λ s store. written_same q y z s t (λ u from to. same s u store from (omega arith)) in
-    let is_left : (s : ℕ) → s < length q.rows → left q z s t ≡ left q y s t = λ s store. left_same q y z s t (λ u from to. same s u store from to) in
+    let is_written : (s : ℕ) → s < length q.rows → written q z s t ≡ written q y s t =
+        λ s store. written_same q y z s t (λ u from to. same s u store from (omega arith)) in
+    let is_left : (s : ℕ) → s < length q.rows → left q z s t ≡ left q y s t =
+        λ s store. left_same q y z s t (λ u from to. same s u store from to) in
     record {
       fits = fits;
       filled = record {
         held = λ s store. omega (arith, here s store, is_written s store, is.filled.held s store);
-        used = λ s store some. used_kept q y z t (channel q s) no_less fits (is.filled.used s store (omega (arith, is_left s store, some)));
+        used = λ s store some. used_kept q y z t (channel q s) no_less fits
+            (is.filled.used s store (omega (arith, is_left s store, some)));
       };
       kept = λ s store. omega (arith, here s store, is_written s store, is.kept s store);
     }
 
 -- a step's amounts that are lowered fit, where the plan given fits
-pub lowered_fits : (q : Dumping) (x y z : Amounts) (t : ℕ) (blocks : List ℕ) → t ≤ length q.windows → IsDoneBefore q x y t blocks → IsLoweredAt q y z t → FitsAt q x t → FitsAt q z t
-lowered_fits q x y z t blocks last is cut fits = fits_no_more q x z t (λ s store. omega (arith, cut s store, is.later s t store (omega arith) last)) fits
+pub lowered_fits : (q : Dumping) (x y z : Amounts) (t : ℕ) (blocks : List ℕ) → t ≤ length q.windows
+    → IsDoneBefore q x y t blocks → IsLoweredAt q y z t → FitsAt q x t → FitsAt q z t
+lowered_fits q x y z t blocks last is cut fits =
+    fits_no_more q x z t (λ s store. omega (arith, cut s store, is.later s t store (omega arith) last)) fits
 
 -- what is left once a step's amounts are split
-split_left : (q : Dumping) (y : Amounts) (t : ℕ) (blocks : List ℕ) → 1 ≤ t → AreSplit q y t blocks → AreLeft q y t blocks
+split_left : (q : Dumping) (y : Amounts) (t : ℕ) (blocks : List ℕ) → 1 ≤ t → AreSplit q y t blocks
+    → AreLeft q y t blocks
 split_left q y t blocks first split = λ s store. omega (arith, split s store, left_step q y s (t - 1) t (omega arith))
 
 -- one step more: y, with its amounts lowered z, and with the rest of the window used w
-pub done_more : (q : Dumping) (x y z w : Amounts) (t : ℕ) (blocks new : List ℕ) → 1 ≤ t → t ≤ length q.windows → IsDoneBefore q x y t blocks → SameElsewhere q y z t → IsLoweredAt q y z t → IsStepFilled q z w t new → IsDoneBefore q x w (t + 1) new
+pub done_more : (q : Dumping) (x y z w : Amounts) (t : ℕ) (blocks new : List ℕ) → 1 ≤ t → t ≤ length q.windows
+    → IsDoneBefore q x y t blocks → SameElsewhere q y z t → IsLoweredAt q y z t → IsStepFilled q z w t new
+    → IsDoneBefore q x w (t + 1) new
 done_more q x y z w t blocks new first last is apart cut filled =
-    let others : SameElsewhere q y w t = λ s u store from to other. filled.others s u store from to other ∙ apart s u store from to other in
+    let others : SameElsewhere q y w t =
+        λ s u store from to other. filled.others s u store from to other ∙ apart s u store from to other in
     let is_left = split_left q w t new first filled.split in
     let here : IsDoneAt q x w t = record {
       fits = filled.fits;
@@ -71,21 +82,22 @@ done_more q x y z w t blocks new first last is apart cut filled =
     } in
     record {
       done = λ u from to. elim (cases_lt u t) [
-        | inl before ↦ done_along q x y w u from (λ s k store low high. others s k store low (omega arith) (omega arith)) (is.done u from before)
+        | inl before ↦ done_along q x y w u from
+            (λ s k store low high. others s k store low (omega arith) (omega arith)) (is.done u from before)
         | inr past ↦ let same : u ≡ t = omega arith in rw same here
       ];
-      later = λ s u store from to. others s u store (omega arith) to (omega arith) ∙ is.later s u store (omega arith) to;
+      later = λ s u store from to. others s u store (omega arith) to (omega arith)
+          ∙ is.later s u store (omega arith) to;
       volumes = let same : t + 1 - 1 ≡ t = omega arith in rw same is_left;
     }
 
 -- all steps
-pub done_fits : (q : Dumping) (x y : Amounts) (n : ℕ) (blocks : List ℕ) → n ≡ length q.windows + 1 → IsDoneBefore q x y n blocks → Fits q y
+pub done_fits : (q : Dumping) (x y : Amounts) (n : ℕ) (blocks : List ℕ) → n ≡ length q.windows + 1
+    → IsDoneBefore q x y n blocks → Fits q y
 done_fits q x y n blocks all is = λ t first below. (is.done t first (omega arith)).fits
 
-pub done_filled : (q : Dumping) (x y : Amounts) (n : ℕ) (blocks : List ℕ) → n ≡ length q.windows + 1 → IsDoneBefore q x y n blocks → IsFilled q y
-done_filled q x y n blocks all is = λ t first last. (is.done t first (omega arith)).filled
-
-pub done_no_worse : (q : Dumping) (x y : Amounts) (n : ℕ) (blocks : List ℕ) → n ≡ length q.windows + 1 → IsDoneBefore q x y n blocks → IsNowhereWorse q x y
+pub done_no_worse : (q : Dumping) (x y : Amounts) (n : ℕ) (blocks : List ℕ) → n ≡ length q.windows + 1
+    → IsDoneBefore q x y n blocks → IsNowhereWorse q x y
 done_no_worse q x y n blocks all is =
     let volumes : (s t : ℕ) → s < length q.rows → t ≤ length q.windows → left q y s t ≤ left q x s t =
     λ s t store last. left_no_more q x y s t (λ u from to. (is.done u from (omega arith)).kept s store) in

@@ -1,5 +1,4 @@
 pub mod Steps
-pub mod Options
 pub mod Saying
 pub mod Spelled
 pub mod Lines

@@ -1,11 +1,14 @@
--- The lines of a sheet run to its end, and what was taken begins some sheet.
-use Rattle.std.proofs.Common.{◌≡◌, ℕ, zero, suc, ◌+◌, ◌*◌, ◌<◌, ◌≤◌, Bool, true, false, cond, ◌==◌, List, [], ◌∷◌, ◌++◌, length, map, take, drop, Option, Some, None, refl, sym, ap, ◌∙◌, subst, inl, inr, arith, append_assoc, append-nil, length-append, length-drop}
-use Rattle.std.specs.Prelude.{All, IfSome, unwrap_or, nat_le, nat_lt, ◌&&◌, ◌^◌, option_and_then}
+-- The lines of a sheet run to its end, each within its ranges.
+use Rattle.std.proofs.Common.{◌≡◌, ℕ, zero, suc, ◌+◌, ◌*◌, ◌<◌, ◌≤◌, Bool, true, false, cond, ◌==◌, List, [], ◌∷◌, ◌++◌}
+use Rattle.std.proofs.Common.{length, map, take, drop, Option, Some, None, refl, sym, ap, ◌∙◌, subst, inl, inr, arith}
+use Rattle.std.proofs.Common.{append_assoc, append-nil, length-append, length-drop}
+use Rattle.std.specs.Prelude.{All, IfSome, unwrap_or, nat_le, nat_lt, ◌&&◌, ◌^◌, option_and_then, if◌then◌else◌}
 use Rattle.std.proofs.lemmas.Bool.{cases_Bool}
 use Rattle.std.proofs.lemmas.Bool.Decides.{nat_tests}
 use Rattle.std.proofs.lemmas.List.{nil_from_length, take-append-drop, length-take-le}
-use Rattle.std.proofs.lemmas.List.Elements.{All-nil, All-cons, All-head, All-tail, All-append, All-take, All-drop, All-map}
-use Rattle.std.proofs.lemmas.Option.{same_Some, option_and_then_some}
+use Rattle.std.proofs.lemmas.List.Elements.{All-nil, All-cons, All-from_recursion, All-head, All-tail, All-append}
+use Rattle.std.proofs.lemmas.List.Elements.{All-take, All-drop}
+use Rattle.std.proofs.lemmas.List.Elements.{All-map}
 use Rattle.mm_base.specs.declared.limits.TheConstants.{MAX_STORES, MAX_STEPS, MAX_BLOCKS}
 use Rattle.mm_base.specs.Id.{IsIdField}
 use Rattle.mm_base.proofs.IdFields.{Decides-nat_le}
@@ -15,52 +18,58 @@ use Rattle.mm_plan.specs.declared.draft.Stage.{Stage}
 use Rattle.mm_plan.specs.declared.draft.Stage.TheVariants.{ToStores, ToDumps, ToLoss, ToCut, ToEnd, Done}
 use Rattle.mm_plan.specs.declared.form.Form.{Form}
 use Rattle.mm_plan.specs.declared.form.Form.TheVariants.{First, Second, Third}
-use Rattle.mm_plan.specs.Sheet.{SheetRows, CertificateRows, IsSheet, IsCertificate, AreFirsts, Line, title_line, stores_line, dump_line, loss_line, stretch_line, count_line, bound_line, first_line, end_line, dump_lines, certificate_lines, opening, first_lines, has_counts, form_by, form_of, own, certificates_of, lines_of, line_text, Begins, IsLine}
-use Rattle.mm_plan.specs.Reading.{ReadRows, DraftRows, no_rows, start, may_count, fits_form, may_follow, with_part, after, firsts_in, sheet_of, add_line, take_line, run, read_line}
-use Rattle.mm_plan.proofs.Options.{none_is_some, cond_then}
-use Rattle.mm_plan.proofs.Lines.{read_line-line_text, read_line_some}
-use Rattle.mm_plan.proofs.Drafts.{at_stage, IsSound, lines_so_far, IsAdded, blank_part, added}
+use Rattle.mm_plan.specs.Sheet.{SheetRows, CertificateRows, IsSheet, IsCertificate, AreFirsts, Line, title_line}
+use Rattle.mm_plan.specs.Sheet.{stores_line, dump_line, loss_line, stretch_line, count_line, bound_line, first_line}
+use Rattle.mm_plan.specs.Sheet.{end_line, dump_lines, certificate_lines, opening, first_lines, has_counts, form_by}
+use Rattle.mm_plan.specs.Sheet.{form_of, own, certificates_of, lines_of, IsLine}
+use Rattle.mm_plan.specs.Reading.{ReadRows, DraftRows, no_rows, start, may_count, fits_form, may_follow, with_part}
+use Rattle.mm_plan.specs.Reading.{after, firsts_in, sheet_of}
+use Rattle.mm_plan.proofs.Drafts.{at_stage}
 
--- the draft with these lines more
+-- the draft with these lines more, where each may come next
 abbrev pub go : DraftRows → List Line → Option DraftRows
 go d [] = Some d
-go d (x ∷ xs) = option_and_then (λ e. go e xs) (add_line d x)
+go d (x ∷ xs) = if may_follow d.stage d.form d.rows x then go (after d x) xs else None
 
 -- a line that may come next
-go_may : (d : DraftRows) (x : Line) (xs : List Line) → may_follow d.stage d.form d.rows x ≡ true → go d (x ∷ xs) ≡ go (after d x) xs
-unfolding add_line
-go_may d x xs may = ap (λ b. option_and_then (λ e. go e xs) (cond b (Some (after d x)) None)) may
+pub go_may : (d : DraftRows) (x : Line) (xs : List Line) → may_follow d.stage d.form d.rows x ≡ true
+    → go d (x ∷ xs) ≡ go (after d x) xs
+go_may d x xs may = ap (λ b. cond b (go (after d x) xs) None) may
 
--- where there is a draft, its lines go as their texts do
-run_after : (o : Option DraftRows) (xs : List Line) → ((e : DraftRows) → run e (map line_text xs) ≡ go e xs) → option_and_then (λ e. run e (map line_text xs)) o ≡ option_and_then (λ e. go e xs) o
-run_after None xs h = refl
-run_after (Some e) xs h = h e
+-- a line that may not
+pub go_stops : (d : DraftRows) (x : Line) (xs : List Line) → may_follow d.stage d.form d.rows x ≡ false
+    → go d (x ∷ xs) ≡ None
+go_stops d x xs stops = ap (λ b. cond b (go (after d x) xs) None) stops
 
--- lines go as their texts do
-run-line_texts : (d : DraftRows) (xs : List Line) → All IsLine xs → run d (map line_text xs) ≡ go d xs
-unfolding run take_line
-run-line_texts d [] h = refl
-run-line_texts d (x ∷ xs) h =
-    ap (λ o. option_and_then (λ e. run e (map line_text xs)) (option_and_then (add_line d) o)) (read_line-line_text x (All-head IsLine x xs h))
-    ∙ run_after (add_line d x) xs (λ e. run-line_texts e xs (All-tail IsLine x xs h))
+-- lines and then more lines
+pub go-append : (d : DraftRows) (xs ys : List Line) → go d (xs ++ ys) ≡ option_and_then (λ e. go e ys) (go d xs)
+go-append d [] ys = refl
+go-append d (x ∷ xs) ys = elim (cases_Bool (may_follow d.stage d.form d.rows x)) [
+  | inl may ↦ rw may (go-append (after d x) xs ys)
+  | inr stops ↦ rw stops refl
+]
 
 -- ---- the lines of a sheet
 
 -- a draft at its dumps
 abbrev dumping : Form → ReadRows → ℕ → List ℕ → DraftRows
-dumping f s k amounts = record { stage = ToDumps; form = f; rows = record s { plan = record { stores = s.plan.stores; steps = k; amounts = amounts } } }
+dumping f s k amounts = at_stage ToDumps f (record s { plan = record s.plan { steps = k; amounts = amounts } })
 
 -- equal numbers pass the test
 pub eq_of : (m n : ℕ) → m ≡ n → (m == n) ≡ true
 eq_of m n e = grind (arith, nat_tests)
 
 -- the next dump line may come
-dump_may : (k n : ℕ) (xs : List ℕ) (stores : List (List ℕ)) → length xs ≡ n → n ≡ length stores → ((k == k) && (length xs == length stores)) ≡ true
+dump_may : (k n : ℕ) (xs : List ℕ) (stores : List (List ℕ)) → length xs ≡ n → n ≡ length stores
+    → ((k == k) && (length xs == length stores)) ≡ true
 dump_may k n xs stores width same =
     ap (λ b. b && (length xs == length stores)) (eq_of k k refl) ∙ eq_of (length xs) (length stores) (width ∙ same)
 
 -- the dump lines add their amounts
-go-dump_lines : (f : Form) (s : ReadRows) (k m : ℕ) (amounts xs : List ℕ) (more : List Line) → s.plan.stores ≡ length s.stores → length xs ≡ m * s.plan.stores → go (dumping f s k amounts) (dump_lines s.plan.stores (k + 1) m xs ++ more) ≡ go (dumping f s (k + m) (amounts ++ xs)) more
+go-dump_lines : (f : Form) (s : ReadRows) (k m : ℕ) (amounts xs : List ℕ) (more : List Line)
+    → s.plan.stores ≡ length s.stores → length xs ≡ m * s.plan.stores
+    → go (dumping f s k amounts) (dump_lines s.plan.stores (k + 1) m xs ++ more)
+    ≡ go (dumping f s (k + m) (amounts ++ xs)) more
 go-dump_lines f s k zero amounts xs more same size =
     let empty : xs ≡ [] = nil_from_length xs (omega (arith, size)) in
     let steps : k ≡ k + 0 = omega arith in
@@ -75,15 +84,18 @@ go-dump_lines f s k (suc m) amounts xs more same size =
     go_may (dumping f s k amounts) (dump_line (k + 1) (take n xs)) (dump_lines n (k + 1 + 1) m (drop n xs) ++ more)
     (dump_may (k + 1) n (take n xs) s.stores (length-take-le n xs within) same)
     ∙ go-dump_lines f s (k + 1) m (amounts ++ take n xs) (drop n xs) more same left
-    ∙ ap (λ ys. go (dumping f s (k + 1 + m) ys) more) (append_assoc amounts (take n xs) (drop n xs) ∙ ap (λ ys. amounts ++ ys) (take-append-drop n xs))
+    ∙ ap (λ ys. go (dumping f s (k + 1 + m) ys) more) (append_assoc amounts (take n xs) (drop n xs))
+    ∙ ap (λ ys. go (dumping f s (k + 1 + m) (amounts ++ ys)) more) (take-append-drop n xs)
     ∙ ap (λ j. go (dumping f s j (amounts ++ xs)) more) steps
 
 -- a draft at its stretches and counts
 abbrev cutting : Form → ReadRows → List Stretch → List ℕ → DraftRows
-cutting f s ds ts = record { stage = ToCut; form = f; rows = record s { cut = ds; by_channels = ts } }
+cutting f s ds ts = at_stage ToCut f (record s { cut = ds; by_channels = ts })
 
 -- the stretch lines add their stretches
-go-stretch_lines : (f : Form) (s : ReadRows) (earlier ds : List Stretch) (more : List Line) → length earlier + length ds ≤ MAX_STRETCHES → go (cutting f s earlier []) (map stretch_line ds ++ more) ≡ go (cutting f s (earlier ++ ds) []) more
+go-stretch_lines : (f : Form) (s : ReadRows) (earlier ds : List Stretch) (more : List Line)
+    → length earlier + length ds ≤ MAX_STRETCHES
+    → go (cutting f s earlier []) (map stretch_line ds ++ more) ≡ go (cutting f s (earlier ++ ds) []) more
 go-stretch_lines f s earlier [] more few = ap (λ es. go (cutting f s es []) more) (sym (append-nil earlier))
 go-stretch_lines f s earlier (d ∷ ds) more few =
     go_may (cutting f s earlier []) (stretch_line d) (map stretch_line ds ++ more) (grind (arith, nat_tests, few))
@@ -97,27 +109,35 @@ count_may f n may few =
     ap (λ b. b && nat_lt n MAX_COUNTS) may ∙ room
 
 -- the count lines add their steps
-go-count_lines : (f : Form) (s : ReadRows) (ds : List Stretch) (earlier ts : List ℕ) (more : List Line) → may_count f ≡ true → length earlier + length ts ≤ MAX_COUNTS → go (cutting f s ds earlier) (map count_line ts ++ more) ≡ go (cutting f s ds (earlier ++ ts)) more
+go-count_lines : (f : Form) (s : ReadRows) (ds : List Stretch) (earlier ts : List ℕ) (more : List Line)
+    → may_count f ≡ true → length earlier + length ts ≤ MAX_COUNTS
+    → go (cutting f s ds earlier) (map count_line ts ++ more) ≡ go (cutting f s ds (earlier ++ ts)) more
 go-count_lines f s ds earlier [] more may few = ap (λ es. go (cutting f s ds es) more) (sym (append-nil earlier))
 go-count_lines f s ds earlier (t ∷ ts) more may few =
-    go_may (cutting f s ds earlier) (count_line t) (map count_line ts ++ more) (count_may f (length earlier) may (omega (arith, few)))
+    let room = count_may f (length earlier) may (omega (arith, few)) in
+    go_may (cutting f s ds earlier) (count_line t) (map count_line ts ++ more) room
     ∙ go-count_lines f s ds (earlier ++ t ∷ []) ts more may (omega (arith, few, length-append earlier (t ∷ [])))
     ∙ ap (λ es. go (cutting f s ds es) more) (append_assoc earlier (t ∷ []) ts)
 
 -- counts in the form that has that many
-go_counted : (f : Form) (s : ReadRows) (ds : List Stretch) (ts : List ℕ) (more : List Line) → fits_form f (length ts) ≡ true → length ts ≤ MAX_COUNTS → go (cutting f s ds []) (map count_line ts ++ more) ≡ go (cutting f s ds ts) more
+go_counted : (f : Form) (s : ReadRows) (ds : List Stretch) (ts : List ℕ) (more : List Line)
+    → fits_form f (length ts) ≡ true → length ts ≤ MAX_COUNTS
+    → go (cutting f s ds []) (map count_line ts ++ more) ≡ go (cutting f s ds ts) more
 go_counted First s ds [] more fits few = refl
 go_counted First s ds (t ∷ ts) more fits few = absurd (grind (arith, nat_tests, fits))
-go_counted Second s ds ts more fits few = go-count_lines Second s ds [] ts more refl (omega (arith, few))
-go_counted Third s ds ts more fits few = go-count_lines Third s ds [] ts more refl (omega (arith, few))
+go_counted f s ds ts more fits few = go-count_lines f s ds [] ts more refl (omega (arith, few))
 
 -- the lines of a certificate, from the first on
-pub certificate_right : (c : CertificateRows) (more : List Line) → certificate_lines c ++ more ≡ loss_line c.loss ∷ (map stretch_line c.cut ++ (map count_line c.by_channels ++ (bound_line c.bound ∷ more)))
+pub certificate_right : (c : CertificateRows) (more : List Line)
+    → certificate_lines c ++ more
+    ≡ loss_line c.loss ∷ (map stretch_line c.cut ++ (map count_line c.by_channels ++ (bound_line c.bound ∷ more)))
 unfolding certificate_lines
 certificate_right c more = simp append_assoc
 
 -- the lines of a certificate add it
-go-certificate_lines : (stage : Stage) (f : Form) (s : ReadRows) (c : CertificateRows) (more : List Line) → may_follow stage f s (loss_line c.loss) ≡ true → IsCertificate c → fits_form f (length c.by_channels) ≡ true → go (at_stage stage f s) (certificate_lines c ++ more) ≡ go (at_stage ToEnd f (with_part s c)) more
+go-certificate_lines : (stage : Stage) (f : Form) (s : ReadRows) (c : CertificateRows) (more : List Line)
+    → may_follow stage f s (loss_line c.loss) ≡ true → IsCertificate c → fits_form f (length c.by_channels) ≡ true
+    → go (at_stage stage f s) (certificate_lines c ++ more) ≡ go (at_stage ToEnd f (with_part s c)) more
 go-certificate_lines stage f s c more may h fits =
     let counted = map count_line c.by_channels ++ (bound_line c.bound ∷ more) in
     let lossy : ReadRows = record s { loss = c.loss } in
@@ -129,7 +149,7 @@ go-certificate_lines stage f s c more may h fits =
 
 -- a draft with these certificates
 abbrev ending : Stage → Form → ReadRows → List CertificateRows → DraftRows
-ending stage f s cs = record { stage = stage; form = f; rows = record s { certificates = cs; loss = 0; cut = []; by_channels = [] } }
+ending stage f s cs = at_stage stage f (record s { certificates = cs; loss = 0; cut = []; by_channels = [] })
 
 -- the certificate of the first k stores may come
 begin_may : (k m n : ℕ) → k ≡ m → m < n → ((k == m) && nat_lt m n) ≡ true
@@ -138,31 +158,42 @@ begin_may k m n same room =
     ap (λ b. b && nat_lt m n) (eq_of k m same) ∙ few
 
 -- the certificates of the first stores are added, and then the end
-go-first_lines : (s : ReadRows) (j : ℕ) (earlier cs : List CertificateRows) → suc j ≡ length earlier → length earlier + length cs ≡ length s.stores → All IsCertificate cs → go (ending ToEnd Third s earlier) (first_lines (suc j) cs ++ end_line ∷ []) ≡ Some (ending Done Third s (earlier ++ cs))
+go-first_lines : (s : ReadRows) (j : ℕ) (earlier cs : List CertificateRows) → suc j ≡ length earlier
+    → length earlier + length cs ≡ length s.stores → All IsCertificate cs
+    → go (ending ToEnd Third s earlier) (first_lines (suc j) cs ++ end_line ∷ [])
+    ≡ Some (ending Done Third s (earlier ++ cs))
 go-first_lines s j earlier [] next all h =
     go_may (ending ToEnd Third s earlier) end_line [] (eq_of (length earlier) (length s.stores) (omega (arith, all)))
     ∙ ap (λ cs. Some (ending Done Third s cs)) (sym (append-nil earlier))
 go-first_lines s j earlier (c ∷ cs) next all h =
-    let after_part = first_lines (suc (suc j)) cs ++ end_line ∷ [] in
-    ap (λ ls. go (ending ToEnd Third s earlier) (first_line (suc j) ∷ ls)) (append_assoc (certificate_lines c) (first_lines (suc (suc j)) cs) (end_line ∷ []))
-    ∙ go_may (ending ToEnd Third s earlier) (first_line (suc j)) (certificate_lines c ++ after_part) (begin_may (suc j) (length earlier) (length s.stores) next (omega (arith, all)))
-    ∙ go-certificate_lines ToLoss Third (ending ToEnd Third s earlier).rows c after_part refl (All-head IsCertificate c cs h) refl
-    ∙ go-first_lines s (suc j) (earlier ++ c ∷ []) cs (omega (arith, next, length-append earlier (c ∷ []))) (omega (arith, all, length-append earlier (c ∷ []))) (All-tail IsCertificate c cs h)
+    let d = ending ToEnd Third s earlier in
+    let rest = first_lines (suc (suc j)) cs in
+    let may = begin_may (suc j) (length earlier) (length s.stores) next (omega (arith, all)) in
+    let size = length-append earlier (c ∷ []) in
+    ap (λ ls. go d (first_line (suc j) ∷ ls)) (append_assoc (certificate_lines c) rest (end_line ∷ []))
+    ∙ go_may d (first_line (suc j)) (certificate_lines c ++ (rest ++ end_line ∷ [])) may
+    ∙ go-certificate_lines ToLoss Third d.rows c (rest ++ end_line ∷ []) refl (All-head IsCertificate c cs h) refl
+    ∙ go-first_lines s (suc j) (earlier ++ c ∷ []) cs (omega (arith, next, size)) (omega (arith, all, size))
+        (All-tail IsCertificate c cs h)
     ∙ ap (λ es. Some (ending Done Third s es)) (append_assoc earlier (c ∷ []) cs)
 
 -- the certificates after that of all stores, and the end
-go_ending : (s : ReadRows) (c : CertificateRows) (o : Option (List CertificateRows)) (b : Bool) → IfSome o (AreFirsts (length s.stores)) → go (ending ToEnd (form_by o b) s (c ∷ [])) (first_lines 1 (unwrap_or o []) ++ end_line ∷ []) ≡ Some (ending Done (form_by o b) s (c ∷ unwrap_or o []))
-unfolding add_line
+go_ending : (s : ReadRows) (c : CertificateRows) (o : Option (List CertificateRows)) (b : Bool)
+    → IfSome o (AreFirsts (length s.stores))
+    → go (ending ToEnd (form_by o b) s (c ∷ [])) (first_lines 1 (unwrap_or o []) ++ end_line ∷ [])
+    ≡ Some (ending Done (form_by o b) s (c ∷ unwrap_or o []))
 go_ending s c None true h = refl
 go_ending s c None false h = refl
 go_ending s c (Some cs) b h = go-first_lines s 0 (c ∷ []) cs refl (omega (arith, h.count)) h.each
 
 -- the draft of a whole sheet
 abbrev pub whole : SheetRows → DraftRows
-whole s = record { stage = Done; form = form_of s; rows = record { stores = s.stores; plan = s.plan; certificates = certificates_of s; loss = 0; cut = []; by_channels = [] } }
+whole s =
+    at_stage Done (form_of s) (record no_rows { stores = s.stores; plan = s.plan; certificates = certificates_of s })
 
 -- certificates and form come back
-firsts_back : (c : CertificateRows) (o : Option (List CertificateRows)) (b : Bool) → firsts_in (form_by o b) (c ∷ unwrap_or o []) ≡ o
+firsts_back : (c : CertificateRows) (o : Option (List CertificateRows)) (b : Bool)
+    → firsts_in (form_by o b) (c ∷ unwrap_or o []) ≡ o
 firsts_back c None true = refl
 firsts_back c None false = refl
 firsts_back c (Some cs) b = refl
@@ -182,14 +213,17 @@ form_fits None n = elim (cases_Bool (nat_lt 0 n)) [
 form_fits (Some cs) n = refl
 
 -- the lines of a sheet, from the first on
-pub lines_right : (s : SheetRows) → lines_of s ≡ title_line (form_of s) ∷ stores_line s.stores ∷ (dump_lines s.plan.stores 1 s.plan.steps s.plan.amounts ++ (certificate_lines (own s) ++ (first_lines 1 (unwrap_or s.firsts []) ++ end_line ∷ [])))
+pub lines_right : (s : SheetRows) → lines_of s
+    ≡ title_line (form_of s) ∷ stores_line s.stores ∷ (dump_lines s.plan.stores 1 s.plan.steps s.plan.amounts
+    ++ (certificate_lines (own s) ++ (first_lines 1 (unwrap_or s.firsts []) ++ end_line ∷ [])))
 unfolding lines_of
 lines_right s =
     let front = title_line (form_of s) ∷ stores_line s.stores ∷ [] in
     let dumps = dump_lines s.plan.stores 1 s.plan.steps s.plan.amounts in
+    let firsts = first_lines 1 (unwrap_or s.firsts []) in
     append_assoc (front ++ dumps) (first_lines 0 (certificates_of s)) (end_line ∷ [])
     ∙ append_assoc front dumps (first_lines 0 (certificates_of s) ++ end_line ∷ [])
-    ∙ ap (λ ls. front ++ (dumps ++ ls)) (append_assoc (certificate_lines (own s)) (first_lines 1 (unwrap_or s.firsts [])) (end_line ∷ []))
+    ∙ ap (λ ls. front ++ (dumps ++ ls)) (append_assoc (certificate_lines (own s)) firsts (end_line ∷ []))
 
 -- some pass the test
 some_may : (n : ℕ) → 1 ≤ n → nat_lt 0 n ≡ true
@@ -204,35 +238,42 @@ abbrev opened : SheetRows → ReadRows
 opened s = record no_rows { stores = s.stores; plan = record { stores = s.plan.stores; steps = 0; amounts = [] } }
 
 -- title and stores
-go_opening : (s : SheetRows) (f : Form) (more : List Line) → 1 ≤ length s.stores → length s.stores ≤ MAX_STORES → s.plan.stores ≡ length s.stores → go start (title_line f ∷ stores_line s.stores ∷ more) ≡ go (dumping f (opened s) 0 []) more
-unfolding add_line
+go_opening : (s : SheetRows) (f : Form) (more : List Line) → 1 ≤ length s.stores → length s.stores ≤ MAX_STORES
+    → s.plan.stores ≡ length s.stores
+    → go start (title_line f ∷ stores_line s.stores ∷ more) ≡ go (dumping f (opened s) 0 []) more
 go_opening s f more some few same =
-    go_may (record { stage = ToStores; form = f; rows = no_rows }) (stores_line s.stores) more (stores_may (length s.stores) some few)
-    ∙ ap (λ n. go (dumping f (record no_rows { stores = s.stores; plan = record { stores = n; steps = 0; amounts = [] } }) 0 []) more) (sym same)
+    let rows : ℕ → ReadRows = λ n. record (opened s) { plan = record { stores = n; steps = 0; amounts = [] } } in
+    go_may (at_stage ToStores f no_rows) (stores_line s.stores) more (stores_may (length s.stores) some few)
+    ∙ ap (λ n. go (dumping f (rows n) 0 []) more) (sym same)
 
 -- the sheet's own certificate is one
 pub own_is : (s : SheetRows) → IsSheet s → IsCertificate (own s)
-own_is s h = record { cut = h.cut; counts = h.counts; each_stretch = h.each_stretch; each_count = h.each_count; loss = h.loss; bound = h.bound }
+own_is s h = assumption
 
 -- the lines of a sheet run to its end
-go-lines_of : (s : SheetRows) → IsSheet s → go start (lines_of s) ≡ Some (whole s)
+pub go-lines_of : (s : SheetRows) → IsSheet s → go start (lines_of s) ≡ Some (whole s)
 go-lines_of s h =
     let some : 1 ≤ length s.stores = omega (arith, h.plan.has_store, h.same_stores) in
     let steps : 0 + s.plan.steps ≡ s.plan.steps = omega arith in
     let after_own = first_lines 1 (unwrap_or s.firsts []) ++ end_line ∷ [] in
     let after_dumps = certificate_lines (own s) ++ after_own in
     let f = form_of s in
+    let few : length s.stores ≤ MAX_STORES = omega (arith, h.plan.few, h.same_stores) in
+    let dumped = dumping f (opened s) s.plan.steps s.plan.amounts in
+    let fits = form_fits s.firsts (length s.by_channels) in
+    let may = some_may s.plan.steps h.plan.has_step in
     ap (go start) (lines_right s)
-    ∙ go_opening s f (dump_lines s.plan.stores 1 s.plan.steps s.plan.amounts ++ after_dumps) some (omega (arith, h.plan.few, h.same_stores)) h.same_stores
+    ∙ go_opening s f (dump_lines s.plan.stores 1 s.plan.steps s.plan.amounts ++ after_dumps) some few h.same_stores
     ∙ go-dump_lines f (opened s) 0 s.plan.steps [] s.plan.amounts after_dumps h.same_stores h.plan.table
     ∙ ap (λ k. go (dumping f (opened s) k s.plan.amounts) after_dumps) steps
-    ∙ go-certificate_lines ToDumps f (dumping f (opened s) s.plan.steps s.plan.amounts).rows (own s) after_own (some_may s.plan.steps h.plan.has_step) (own_is s h) (form_fits s.firsts (length s.by_channels))
-    ∙ go_ending (dumping f (opened s) s.plan.steps s.plan.amounts).rows (own s) s.firsts (has_counts s) h.firsts
+    ∙ go-certificate_lines ToDumps f dumped.rows (own s) after_own may (own_is s h) fits
+    ∙ go_ending dumped.rows (own s) s.firsts (has_counts s) h.firsts
 
 -- ---- each line of a sheet is within its ranges
 
 -- the dump lines are within their ranges
-dump_lines_are : (n t k : ℕ) (xs : List ℕ) → n ≤ MAX_STORES → t + k ≤ MAX_STEPS + 1 → length xs ≡ k * n → All (λ m. m ≤ MAX_BLOCKS) xs → All IsLine (dump_lines n t k xs)
+dump_lines_are : (n t k : ℕ) (xs : List ℕ) → n ≤ MAX_STORES → t + k ≤ MAX_STEPS + 1 → length xs ≡ k * n
+    → All (λ m. m ≤ MAX_BLOCKS) xs → All IsLine (dump_lines n t k xs)
 dump_lines_are n t zero xs few steps size h = All-nil IsLine
 dump_lines_are n t (suc k) xs few steps size h =
     let within : n ≤ length xs = omega (arith, size) in
@@ -247,8 +288,10 @@ certificate_lines_are c h =
     let ending = bound_line c.bound ∷ [] in
     let counted = map count_line c.by_channels ++ ending in
     let all_end : All IsLine ending = All-cons IsLine (bound_line c.bound) [] h.bound (All-nil IsLine) in
-    let all_counted : All IsLine counted = All-append IsLine (map count_line c.by_channels) ending (All-map IsLine count_line c.by_channels h.each_count) all_end in
-    let all_cut : All IsLine (map stretch_line c.cut ++ counted) = All-append IsLine (map stretch_line c.cut) counted (All-map IsLine stretch_line c.cut h.each_stretch) all_counted in
+    let counts = All-map IsLine count_line c.by_channels h.each_count in
+    let stretches = All-map IsLine stretch_line c.cut h.each_stretch in
+    let all_counted = All-append IsLine (map count_line c.by_channels) ending counts all_end in
+    let all_cut = All-append IsLine (map stretch_line c.cut) counted stretches all_counted in
     subst (All IsLine) (sym (certificate_right c []) ∙ append-nil (certificate_lines c))
     (All-cons IsLine (loss_line c.loss) (map stretch_line c.cut ++ counted) h.loss all_cut)
 
@@ -258,15 +301,18 @@ opening_are zero few = All-nil IsLine
 opening_are (suc k) few = All-cons IsLine (first_line (suc k)) [] few (All-nil IsLine)
 
 -- the lines of few certificates are within their ranges
-first_lines_are : (k : ℕ) (cs : List CertificateRows) → k + length cs ≤ 2 ^ 32 → All IsCertificate cs → All IsLine (first_lines k cs)
+first_lines_are : (k : ℕ) (cs : List CertificateRows) → k + length cs ≤ 2 ^ 32 → All IsCertificate cs
+    → All IsLine (first_lines k cs)
 first_lines_are k [] few h = All-nil IsLine
 first_lines_are k (c ∷ cs) few h =
+    let lines = certificate_lines_are c (All-head IsCertificate c cs h) in
     All-append IsLine (opening k ++ certificate_lines c) (first_lines (suc k) cs)
-    (All-append IsLine (opening k) (certificate_lines c) (opening_are k (omega (arith, few))) (certificate_lines_are c (All-head IsCertificate c cs h)))
+    (All-append IsLine (opening k) (certificate_lines c) (opening_are k (omega (arith, few))) lines)
     (first_lines_are (suc k) cs (omega (arith, few)) (All-tail IsCertificate c cs h))
 
 -- few certificates of the first stores, each within the limits
-firsts_are : (n : ℕ) (o : Option (List CertificateRows)) → IfSome o (AreFirsts n) → 1 ≤ n → (length (unwrap_or o []) < n) × All IsCertificate (unwrap_or o [])
+firsts_are : (n : ℕ) (o : Option (List CertificateRows)) → IfSome o (AreFirsts n) → 1 ≤ n
+    → (length (unwrap_or o []) < n) × All IsCertificate (unwrap_or o [])
 firsts_are n None h some = (omega arith, All-nil IsCertificate)
 firsts_are n (Some cs) h some = (omega (arith, h.count), h.each)
 
@@ -293,108 +339,12 @@ lines_are s h =
     let front = title_line (form_of s) ∷ stores_line s.stores ∷ [] in
     let dumps = dump_lines s.plan.stores 1 s.plan.steps s.plan.amounts in
     let parts = first_lines 0 (certificates_of s) in
-    let all_front : All IsLine front = All-cons IsLine (title_line (form_of s)) (stores_line s.stores ∷ []) tt (All-cons IsLine (stores_line s.stores) [] (omega (arith, few), h.each_store) (All-nil IsLine)) in
-    let all_dumps : All IsLine dumps = dump_lines_are s.plan.stores 1 s.plan.steps s.plan.amounts h.plan.few (omega (arith, h.steps)) h.plan.table h.plan.each in
+    let fewer : length s.stores ≤ 17 = omega (arith, few) in
+    let all_front : All IsLine front = All-from_recursion IsLine front (tt, ((fewer, h.each_store), tt)) in
+    let last : 1 + s.plan.steps ≤ MAX_STEPS + 1 = omega (arith, h.steps) in
+    let p = s.plan in
+    let all_dumps = dump_lines_are p.stores 1 p.steps p.amounts h.plan.few last h.plan.table h.plan.each in
     let all_parts : All IsLine parts = first_lines_are 0 (certificates_of s) (omega (arith, cs.few)) cs.each in
     let all_end : All IsLine (end_line ∷ []) = All-cons IsLine end_line [] tt (All-nil IsLine) in
     All-append IsLine (front ++ dumps ++ parts) (end_line ∷ [])
     (All-append IsLine (front ++ dumps) parts (All-append IsLine front dumps all_front all_dumps) all_parts) all_end
-
--- the texts of a sheet's lines run to its end
-pub run-sheet : (s : SheetRows) → IsSheet s → run start (map line_text (lines_of s)) ≡ Some (whole s)
-run-sheet s h = run-line_texts start (lines_of s) (lines_are s h) ∙ go-lines_of s h
-
--- ---- more lines
-
--- where there is a draft, more lines run on
-run_step : (o : Option DraftRows) (ls ms : List (List ℕ)) → ((e : DraftRows) → run e (ls ++ ms) ≡ option_and_then (λ f. run f ms) (run e ls)) → option_and_then (λ e. run e (ls ++ ms)) o ≡ option_and_then (λ f. run f ms) (option_and_then (λ e. run e ls) o)
-run_step None ls ms h = refl
-run_step (Some e) ls ms h = h e
-
--- lines and then more lines
-pub run-append : (d : DraftRows) (ls ms : List (List ℕ)) → run d (ls ++ ms) ≡ option_and_then (λ e. run e ms) (run d ls)
-unfolding run
-run-append d [] ms = refl
-run-append d (l ∷ ls) ms = run_step (take_line d l) ls ms (λ e. run-append e ls ms)
-
--- lines that stop the reader begin no sheet
-pub stops_begins : (ls : List (List ℕ)) → run start ls ≡ None → ¬ Begins ls
-stops_begins ls stops begins =
-    let through : run start (ls ++ begins.2) ≡ Some (whole begins.0) = ap (run start) (sym begins.3) ∙ run-sheet begins.0 begins.1 in
-    let stopped : run start (ls ++ begins.2) ≡ None = run-append start ls begins.2 ∙ ap (option_and_then (λ e. run e begins.2)) stops in
-    none_is_some (whole begins.0) (sym stopped ∙ through)
-
--- ---- what was taken
-
--- one line was taken
-pub record IsTaken (d e : DraftRows) (text : List ℕ) : Type 0 where
-  pub line : Line
-  pub is : IsLine line
-  pub text_is : text ≡ line_text line
-  pub sound : IsSound e
-  pub lines : lines_so_far e ≡ lines_so_far d ++ line ∷ []
-
--- what was taken is a line that comes next
-pub take_line_some : (d e : DraftRows) (text : List ℕ) → IsSound d → take_line d text ≡ Some e → IsTaken d e text
-unfolding take_line add_line
-take_line_some d e text sound was =
-    option_and_then_some (add_line d) (read_line text) e was (λ x is_read adds.
-    let p = cond_then (may_follow d.stage d.form d.rows x) (Some (after d x)) e adds in
-    let read = read_line_some text x is_read in
-    let more : IsAdded d x = added d.stage d.form d.rows x read.1 sound.rows sound.at p.0 in
-    let same : after d x ≡ e = same_Some (after d x) e p.1 in
-    record {
-      line = x;
-      is = read.1;
-      text_is = read.0;
-      sound = subst IsSound same more.sound;
-      lines = ap lines_so_far (sym same) ∙ more.lines;
-    })
-
--- lines were taken
-pub record AreTaken (d e : DraftRows) (ls : List (List ℕ)) : Type 0 where
-  pub lines : List Line
-  pub texts : ls ≡ map line_text lines
-  pub sound : IsSound e
-  pub all : lines_so_far e ≡ lines_so_far d ++ lines
-
--- what was taken are lines, one after another
-pub run_some : (d e : DraftRows) (ls : List (List ℕ)) → IsSound d → run d ls ≡ Some e → AreTaken d e ls
-unfolding run
-run_some d e [] sound was =
-    let same : d ≡ e = same_Some d e was in
-    record { lines = []; texts = refl; sound = subst IsSound same sound; all = ap lines_so_far (sym same) ∙ sym (append-nil (lines_so_far d)) }
-run_some d e (l ∷ ls) sound was =
-    option_and_then_some (λ f. run f ls) (take_line d l) e was (λ f taken more.
-    let here : IsTaken d f l = take_line_some d f l sound taken in
-    let rest : AreTaken f e ls = run_some f e ls here.sound more in
-    record {
-      lines = here.line ∷ rest.lines;
-      texts = ap (λ m. m ∷ ls) here.text_is ∙ ap (λ ms. line_text here.line ∷ ms) rest.texts;
-      sound = rest.sound;
-      all = rest.all ∙ ap (λ xs. xs ++ rest.lines) here.lines ∙ append_assoc (lines_so_far d) (here.line ∷ []) rest.lines;
-    })
-
--- the first draft is sound
-start_sound : IsSound start
-start_sound = record {
-  rows = record {
-    dumps = record {
-      stores = omega arith;
-      steps = omega arith;
-      same_stores = refl;
-      table = omega arith;
-      each_amount = All-nil (λ n. n ≤ MAX_BLOCKS);
-      each_store = All-nil IsIdField;
-    };
-    part = blank_part 0 (omega arith);
-    certificates = All-nil IsCertificate;
-  };
-  at = refl;
-}
-
--- the texts that a draft was read from
-pub run_start : (e : DraftRows) (ls : List (List ℕ)) → run start ls ≡ Some e → (ls ≡ map line_text (lines_so_far e)) × IsSound e
-run_start e ls was =
-    let taken : AreTaken start e ls = run_some start e ls start_sound was in
-    (taken.texts ∙ ap (map line_text) (sym taken.all), taken.sound)

@@ -13,7 +13,8 @@ unfolding left
 left_suc q x s n = let e : suc n - 1 ≡ n = omega arith in rw e refl
 
 -- what stands in a store when a step has ended
-pub left_step : (q : Dumping) (x : Amounts) (s n t : ℕ) → n + 1 ≡ t → left q x s t ≡ written q x s t - min (x s t) (written q x s t)
+pub left_step : (q : Dumping) (x : Amounts) (s n t : ℕ) → n + 1 ≡ t
+    → left q x s t ≡ written q x s t - min (x s t) (written q x s t)
 left_step q x s n t e = subst (λ k. left q x s k ≡ kept q x s k) (sym (add-one n) ∙ e) (left_suc q x s n)
 
 -- what stands in a store before the first step
@@ -22,7 +23,8 @@ unfolding left
 left_start q x s = refl
 
 -- what is written in the step after step n
-written_next : (q : Dumping) (x : Amounts) (s n : ℕ) → written q x s (suc n) ≡ min (left q x s n + arrivals q s (suc n)) (size q s)
+written_next : (q : Dumping) (x : Amounts) (s n : ℕ)
+    → written q x s (suc n) ≡ min (left q x s n + arrivals q s (suc n)) (size q s)
 written_next q x s n = let e : suc n - 1 ≡ n = omega arith in rw e refl
 
 -- a store holds no more than any store may
@@ -32,12 +34,9 @@ left_most q x s (suc n) is store =
     let row = is.stores.each s no_row store in
     omega (arith, left_suc q x s n, written_next q x s n)
 
--- nor is more written in it
-pub written_most : (q : Dumping) (x : Amounts) (s t : ℕ) → IsDumping q → s < length q.rows → written q x s t ≤ MAX_BLOCKS
-written_most q x s t is store = let row = is.stores.each s no_row store in omega arith
-
 -- what is left depends on the amounts up to that step alone
-pub left_same : (q : Dumping) (x y : Amounts) (s n : ℕ) → ((u : ℕ) → 1 ≤ u → u ≤ n → y s u ≡ x s u) → left q y s n ≡ left q x s n
+pub left_same : (q : Dumping) (x y : Amounts) (s n : ℕ) → ((u : ℕ) → 1 ≤ u → u ≤ n → y s u ≡ x s u)
+    → left q y s n ≡ left q x s n
 left_same q x y s zero same = left_start q y s ∙ sym (left_start q x s)
 left_same q x y s (suc n) same =
     let before = left_same q x y s n (λ u low high. same u low (omega arith)) in
@@ -45,13 +44,15 @@ left_same q x y s (suc n) same =
     omega (arith, before, here, left_suc q x s n, left_suc q y s n, written_next q x s n, written_next q y s n)
 
 -- what is written depends on the amounts before that step alone
-pub written_same : (q : Dumping) (x y : Amounts) (s t : ℕ) → ((u : ℕ) → 1 ≤ u → u < t → y s u ≡ x s u) → written q y s t ≡ written q x s t
+pub written_same : (q : Dumping) (x y : Amounts) (s t : ℕ) → ((u : ℕ) → 1 ≤ u → u < t → y s u ≡ x s u)
+    → written q y s t ≡ written q x s t
 written_same q x y s t same =
     let before = left_same q x y s (t - 1) (λ u low high. same u low (omega arith)) in
     rw before refl
 
 -- where a plan lets as much leave as another, or all that is there, no more is left
-pub left_no_more : (q : Dumping) (x y : Amounts) (s n : ℕ) → ((u : ℕ) → 1 ≤ u → u ≤ n → min (x s u) (written q y s u) ≤ y s u) → left q y s n ≤ left q x s n
+pub left_no_more : (q : Dumping) (x y : Amounts) (s n : ℕ)
+    → ((u : ℕ) → 1 ≤ u → u ≤ n → min (x s u) (written q y s u) ≤ y s u) → left q y s n ≤ left q x s n
 left_no_more q x y s zero each = omega (arith, left_start q y s, left_start q x s)
 left_no_more q x y s (suc n) each =
     let before = left_no_more q x y s n (λ u low high. each u low (omega arith)) in
@@ -59,5 +60,6 @@ left_no_more q x y s (suc n) each =
     omega (arith, before, here, left_suc q x s n, left_suc q y s n, written_next q x s n, written_next q y s n)
 
 -- where no more was left before a step, no more is lost in it
-pub lost_no_more : (q : Dumping) (x y : Amounts) (s t : ℕ) → left q y s (t - 1) ≤ left q x s (t - 1) → lost q y s t ≤ lost q x s t
+pub lost_no_more : (q : Dumping) (x y : Amounts) (s t : ℕ) → left q y s (t - 1) ≤ left q x s (t - 1)
+    → lost q y s t ≤ lost q x s t
 lost_no_more q x y s t before = omega arith

@@ -1,5 +1,6 @@
 -- Filling a plan, one step after the other.
-use Rattle.std.specs.Prelude.{◌≡◌, ◌≢◌, ℕ, ◌+◌, ◌<◌, ◌≤◌, List, length, slice_index, slice_index_or, min, Option, Some, None, option_map, ◌⊎◌}
+use Rattle.std.specs.Prelude.{◌≡◌, ◌≢◌, ℕ, ◌+◌, ◌<◌, ◌≤◌, List, length, slice_index, slice_index_or, min, Option, Some}
+use Rattle.std.specs.Prelude.{None, option_map, ◌⊎◌}
 use Rattle.std.specs.List.{sum_by}
 use Rattle.mm_base.specs.declared.limits.TheConstants.{CHANNELS}
 use Rattle.mm_problem.specs.Dumping.{Dumping, stores, stores_of, window, limit, channel}
@@ -25,21 +26,24 @@ AreSplit q x t blocks = (s : ℕ) → s < length q.rows → x s t + slice_index 
 
 -- of the limit of each channel that has one, what is not used in the step
 abbrev pub AreUnused : Dumping → Amounts → ℕ → List (Option ℕ) → Type 0
-AreUnused q x t rests = (c : ℕ) → c < CHANNELS → limit q c t ≡ option_map (λ rest. sum_by (in_step x t) (stores_of q c) + rest) (slice_index_or rests c None)
+AreUnused q x t rests = (c : ℕ) → c < CHANNELS
+    → limit q c t ≡ option_map (λ rest. sum_by (in_step x t) (stores_of q c) + rest) (slice_index_or rests c None)
 
 -- what is not used in the step: of its window, and of the limits
 pub record IsRest (q : Dumping) (x : Amounts) (t idle : ℕ) (rests : List (Option ℕ)) : Type 0 where
   pub windowed : sum_by (in_step x t) (stores q) + idle ≡ window q t
   pub limited : AreUnused q x t rests
 
--- by the second plan no amount of the step is smaller than by the first, and no window or limit is idle that a store could use; blocks has
+-- by the second plan no amount of the step is smaller than by the first, and no window or limit is idle that a store
+-- could use; blocks has
 -- what stays in each store
 pub record IsStepFilled (q : Dumping) (x y : Amounts) (t : ℕ) (blocks : List ℕ) : Type 0 where
   pub others : SameElsewhere q x y t
   pub raised : (s : ℕ) → s < length q.rows → x s t ≤ y s t
   pub fits : FitsAt q y t
   pub split : AreSplit q y t blocks
-  pub used : (s : ℕ) → s < length q.rows → 0 < slice_index blocks s → IsWindowUsed q y t ⊎ IsLimitUsed q y t (channel q s)
+  pub used : (s : ℕ) → s < length q.rows → 0 < slice_index blocks s
+      → IsWindowUsed q y t ⊎ IsLimitUsed q y t (channel q s)
 
 -- how many blocks more may leave a store, with what is not used of the window and of its channel's limit
 abbrev pub room_in : ℕ → Option ℕ → ℕ

@@ -1,5 +1,8 @@
 -- Reading a plan text line by line.
-use Rattle.std.specs.Prelude.{ℕ, zero, suc, ◌+◌, ℤ, pos, negsuc, Bool, true, false, not, ◌&&◌, ◌||◌, ◌==◌, nat_le, nat_lt, if◌then◌else◌, List, [], ◌∷◌, ◌++◌, length, map, take, drop, slice_index_or, Option, Some, None, option_and_then, codes}
+use Rattle.std.specs.Prelude.{◌≡◌, ◌≢◌, ℕ, zero, suc, ◌+◌, ℤ, pos, negsuc, Bool, true, false, not, ◌&&◌, ◌||◌, ◌==◌}
+use Rattle.std.specs.Prelude.{nat_le, nat_lt, if◌then◌else◌, List, [], ◌∷◌, ◌++◌, length, map, take, drop}
+use Rattle.std.specs.Prelude.{slice_index_or}
+use Rattle.std.specs.Prelude.{Option, Some, None, codes}
 use Rattle.std.specs.List.{slice_split}
 use Rattle.std.specs.Str.{bytes_eq}
 use Rattle.mm_base.specs.declared.limits.TheConstants.{MAX_STORES, MAX_STEPS, MAX_BLOCKS}
@@ -15,7 +18,8 @@ use Rattle.mm_plan.specs.declared.stretch.TheConstants.{MAX_STRETCHES, MAX_COUNT
 use Rattle.mm_plan.specs.declared.draft.Stage.{Stage}
 use Rattle.mm_plan.specs.declared.draft.Stage.TheVariants.{ToTitle, ToStores, ToDumps, ToLoss, ToCut, ToEnd, Done}
 use Rattle.mm_plan.specs.Table.{Table}
-use Rattle.mm_plan.specs.Sheet.{SheetRows, CertificateRows, Line, title_line, stores_line, dump_line, loss_line, stretch_line, count_line, bound_line, first_line, end_line, line_text}
+use Rattle.mm_plan.specs.Sheet.{SheetRows, CertificateRows, Line, title_line, stores_line, dump_line, loss_line}
+use Rattle.mm_plan.specs.Sheet.{stretch_line, count_line, bound_line, first_line, end_line, line_text, IsLine}
 
 -- the greatest number of 32 bits
 abbrev pub MAX_U32 : ℕ
@@ -67,7 +71,8 @@ word ws k = slice_index_or ws k []
 
 -- the stretch that words say: a store, the first and the last step
 abbrev pub stretch_of : List (List ℕ) → Stretch
-stretch_of ws = record { store = id_of (word ws 0); first = number_of MAX_U32 (word ws 1); last = number_of MAX_U32 (word ws 2) }
+stretch_of ws =
+    record { store = id_of (word ws 0); first = number_of MAX_U32 (word ws 1); last = number_of MAX_U32 (word ws 2) }
 
 -- the form that a word says
 abbrev pub form_said : List ℕ → Form
@@ -82,7 +87,8 @@ line_of [] = end_line
 line_of (k ∷ ws) =
     if bytes_eq k (codes "mmplan") then title_line (form_said (word ws 0))
     else if bytes_eq k (codes "stores") then stores_line (map id_of ws)
-    else if bytes_eq k (codes "dump") then dump_line (number_of MAX_STEPS (word ws 0)) (map (number_of MAX_BLOCKS) (drop 1 ws))
+    else if bytes_eq k (codes "dump")
+    then dump_line (number_of MAX_STEPS (word ws 0)) (map (number_of MAX_BLOCKS) (drop 1 ws))
     else if bytes_eq k (codes "loss") then loss_line (number_of MAX_U64 (word ws 0))
     else if bytes_eq k (codes "stretch") then stretch_line (stretch_of ws)
     else if bytes_eq k (codes "count") then count_line (number_of MAX_U32 (word ws 0))
@@ -90,11 +96,10 @@ line_of (k ∷ ws) =
     else if bytes_eq k (codes "first") then first_line (number_of MAX_U32 (word ws 0))
     else end_line
 
--- the line whose text this is
-unfoldable pub read_line : List ℕ → Option Line
-read_line text =
-    let x = line_of (line_words text) in
-    if bytes_eq (line_text x) text then Some x else None
+-- what was read of a text: the line whose text it is, or none where it is no line's
+abbrev pub IsRead : List ℕ → Option Line → Type 0
+IsRead text (Some x) = IsLine x × (text ≡ line_text x)
+IsRead text None = (x : Line) → IsLine x → text ≢ line_text x
 
 -- ---- what has been read so far
 
@@ -117,7 +122,9 @@ pub record DraftRows : Type 0 where
 
 -- nothing is said yet
 abbrev pub no_rows : ReadRows
-no_rows = record { stores = []; plan = record { stores = 0; steps = 0; amounts = [] }; certificates = []; loss = 0; cut = []; by_channels = [] }
+no_rows =
+    let no_plan : Table = record { stores = 0; steps = 0; amounts = [] } in
+    record { stores = []; plan = no_plan; certificates = []; loss = 0; cut = []; by_channels = [] }
 
 -- nothing has been read
 abbrev pub start : DraftRows
@@ -172,8 +179,11 @@ with_part s c = record s { certificates = s.certificates ++ c ∷ []; loss = 0; 
 -- the draft after a line
 abbrev pub after : DraftRows → Line → DraftRows
 after d (title_line f) = record d { stage = ToStores; form = f }
-after d (stores_line ids) = record d { stage = ToDumps; rows = record d.rows { stores = ids; plan = record d.rows.plan { stores = length ids } } }
-after d (dump_line t xs) = record d { rows = record d.rows { plan = record d.rows.plan { steps = t; amounts = d.rows.plan.amounts ++ xs } } }
+after d (stores_line ids) =
+    let plan = record d.rows.plan { stores = length ids } in
+    record d { stage = ToDumps; rows = record d.rows { stores = ids; plan = plan } }
+after d (dump_line t xs) =
+    record d { rows = record d.rows { plan = record d.rows.plan { steps = t; amounts = d.rows.plan.amounts ++ xs } } }
 after d (loss_line n) = record d { stage = ToCut; rows = record d.rows { loss = n; cut = []; by_channels = [] } }
 after d (stretch_line e) = record d { rows = record d.rows { cut = d.rows.cut ++ e ∷ [] } }
 after d (count_line t) = record d { rows = record d.rows { by_channels = d.rows.by_channels ++ t ∷ [] } }
@@ -204,15 +214,14 @@ sheet_of d =
       firsts = firsts_in d.form d.rows.certificates;
     }
 
--- the draft with one line more, where it may come next
-unfoldable pub add_line : DraftRows → Line → Option DraftRows
-add_line d x = if may_follow d.stage d.form d.rows x then Some (after d x) else None
+-- a line with this text may come next, and was added
+pub record IsTaken (d : DraftRows) (text : List ℕ) (e : DraftRows) : Type 0 where
+  pub line : Line
+  pub is : IsLine line
+  pub text_is : text ≡ line_text line
+  pub follows : may_follow d.stage d.form d.rows line ≡ true
+  pub added : e ≡ after d line
 
--- the draft after a text, where it is that of a line that may come next
-unfoldable pub take_line : DraftRows → List ℕ → Option DraftRows
-take_line d text = option_and_then (add_line d) (read_line text)
-
--- the draft with these lines more, where each may come next
-unfoldable pub run : DraftRows → List (List ℕ) → Option DraftRows
-run d [] = Some d
-run d (l ∷ ls) = option_and_then (λ e. run e ls) (take_line d l)
+-- no line with this text may come next
+abbrev pub IsRefused : DraftRows → List ℕ → Type 0
+IsRefused d text = (x : Line) → IsLine x → text ≡ line_text x → may_follow d.stage d.form d.rows x ≡ false

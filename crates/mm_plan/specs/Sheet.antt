@@ -1,5 +1,7 @@
 -- The text of a plan with its certificate: what it says, its lines, and its octets.
-use Rattle.std.specs.Prelude.{◌≡◌, ◌≢◌, ℕ, zero, suc, ◌+◌, ◌-◌, ◌<◌, ◌≤◌, ◌^◌, ℤ, Bool, true, false, nat_lt, Option, Some, None, List, [], ◌∷◌, ◌++◌, length, map, take, drop, All, IfSome, unwrap_or, codes, decimal, FitsSigned}
+use Rattle.std.specs.Prelude.{◌≡◌, ◌≢◌, ℕ, zero, suc, ◌+◌, ◌-◌, ◌<◌, ◌≤◌, ◌^◌, ℤ, Bool, true, false, nat_lt, Option}
+use Rattle.std.specs.Prelude.{Some, None, List, [], ◌∷◌, ◌++◌, length, map, take, drop, All, IfSome, unwrap_or, codes}
+use Rattle.std.specs.Prelude.{decimal, FitsSigned}
 use Rattle.std.specs.Fmt.{signed_decimal}
 use Rattle.std.specs.Int.{w64}
 use Rattle.std.specs.List.{join_with_byte}
@@ -31,7 +33,8 @@ pub record SheetRows : Type 0 where
   -- the inner steps that are counted by channels
   pub by_channels : List ℕ
   pub bound : ℤ
-  -- of the first store, of the first two and so on up to all but one, where the sheet says that the plan serves them in order
+  -- of the first store, of the first two and so on up to all but one, where the sheet says that the plan serves them in
+  -- order
   pub firsts : Option (List CertificateRows)
 
 -- a line of the text

@@ -12,8 +12,8 @@ pub struct Cut {
     pub by_channels: Vec<u32>,
 }
 
-/// A loss in blocks, and a cut with its bound, which shows the loss where both are one number. Contracts see its parts,
-/// with its lists as lists.
+/// A loss in blocks, and a cut with its bound. The cut shows the loss if its bound is that number. Contracts see its
+/// parts, with its lists as lists.
 #[derive(Debug, Drop)]
 pub struct Certificate {
     loss: u64,

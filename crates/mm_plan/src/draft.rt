@@ -1,6 +1,6 @@
 //! What has been read of a plan text so far.
-ghost use Rattle.std.specs.Prelude.{◌≡◌, ◌↔◌, IsTrue, IfOk, OnOk, MatchBool, Some, None};
-ghost use Rattle.mm_plan.specs.Reading.{may_begin, has_all, may_follow, after, take_line, start};
+ghost use Rattle.std.specs.Prelude.{◌≡◌, ◌↔◌, IsTrue, IfOk, OnOk, MatchBool};
+ghost use Rattle.mm_plan.specs.Reading.{may_begin, has_all, may_follow, after, start, IsTaken, IsRefused};
 ghost use Rattle.mm_plan.specs.Sheet.{bound_line};
 ghost use Rattle.mm_plan.specs.Seen.{seen};
 
@@ -168,10 +168,10 @@ impl Draft {
         Ok(())
     }
 
-    // Takes a line where it is that of the next step, or answers that it is not, and nothing is changed then.
+    // Takes the dump line of the next step. Any other text changes nothing, and the answer is false.
     fn take_dump(&mut self, text: &[u8]) -> Result<bool, AllocError>
         ensures { IfOk result (λ taken. MatchBool taken
-            (take_line self.old text.now ≡ Some self.new)
+            (IsTaken self.old text.now self.new)
             (self.new ≡ self.old)) }
     {
         let stores = self.stores.len();
@@ -188,12 +188,11 @@ impl Draft {
         Ok(true)
     }
 
-    // Takes the next line, or answers that this line cannot come next.
-    #[tactic(auto, unfolding(crate::specs::Reading::take_line, crate::specs::Reading::add_line))]
+    // Takes a line that may come next. The answer is false if this line may not.
     pub(crate) fn take(&mut self, alloc: Global, text: &[u8]) -> Result<bool, AllocError>
         ensures { IfOk result (λ taken. MatchBool taken
-            (take_line self.old text.now ≡ Some self.new)
-            (take_line self.old text.now ≡ None)) }
+            (IsTaken self.old text.now self.new)
+            (IsRefused self.old text.now)) }
     {
         if self.take_dump(text)? {
             return Ok(true);

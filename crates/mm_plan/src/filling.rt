@@ -1,12 +1,14 @@
 //! Filling a plan, so that no window stays idle that a store could use.
-ghost use Rattle.std.specs.Prelude.{◌≡◌, ◌≢◌, ℕ, ◌+◌, ◌-◌, ◌<◌, ◌≤◌, length, slice_index, slice_index_or, None, option_map, IfOk, IfSome, ◌⊎◌};
+ghost use Rattle.std.specs.Prelude.{◌≡◌, ◌≢◌, ℕ, ◌+◌, ◌-◌, ◌<◌, ◌≤◌, length, slice_index, slice_index_or, None};
+ghost use Rattle.std.specs.Prelude.{option_map, IfOk, IfSome, ◌⊎◌};
 ghost use Rattle.mm_base.specs.declared.limits.TheConstants.{MAX_STORES, MAX_BLOCKS, CHANNELS};
 ghost use Rattle.std.specs.List.{sum_by};
 ghost use Rattle.mm_problem.specs.Dumping.{start, channel, stores, window};
 ghost use Rattle.mm_plan.specs.Table.{amount, HasShape, ChangesAmount};
 ghost use Rattle.mm_plan.specs.Fit.{in_step, FitsAt, Fits};
 ghost use Rattle.mm_plan.specs.Filled.{IsWindowUsed, IsLimitUsed, IsFilled, IsNowhereWorse};
-ghost use Rattle.mm_plan.specs.Filling.{SameElsewhere, IsLoweredAt, AreLeft, AreSplit, AreUnused, IsRest, IsStepFilled, room_in};
+ghost use Rattle.mm_plan.specs.Filling.{SameElsewhere, IsLoweredAt, AreLeft, AreSplit, AreUnused, IsRest, IsStepFilled};
+ghost use Rattle.mm_plan.specs.Filling.{room_in};
 
 use crate::fit::{channel_amounts, step_amount};
 use crate::plan::Plan;
@@ -26,8 +28,8 @@ fn starts(problem: &Problem) -> [u32; MAX_STORES]
     left
 }
 
-// Lowers the amounts of a step to what is written, where `left` is what stood in the stores before the step; then
-// it is what stands in them after it.
+// Lowers the amounts of a step to what is written. At first `left` has what stood in the stores before the step, and
+// afterwards what stands in them after it.
 fn lower_to_written(problem: &Problem, plan: &mut Plan, left: &mut [u32], step: u32)
     requires shape { HasShape problem.now plan.old }
     requires first { 1 ≤ step }
@@ -95,7 +97,7 @@ fn idle_in(problem: &Problem, plan: &Plan, step: u32) -> u32
 }
 
 impl Rest {
-    // The rest of a step, of whose window as much is not used.
+    // What a step leaves unused: these blocks of its window, and a part of each limit.
     fn of(problem: &Problem, plan: &Plan, step: u32, idle: u32) -> Rest
         requires shape { HasShape problem.now plan.now }
         requires first { 1 ≤ step }
@@ -121,7 +123,7 @@ impl Rest {
         }
     }
 
-    // Uses some of it for a store of a channel.
+    // Takes blocks of it for a store of a channel.
     fn take(&mut self, channel: usize, blocks: u32)
         requires channel { channel < CHANNELS }
         requires room { blocks ≤ room_in self.old.idle (slice_index_or self.old.by_channel channel None) }
@@ -138,8 +140,9 @@ impl Rest {
     }
 }
 
-// Lets as much more leave a store in a step as there is room for, of the blocks that would stay in it. Answers what
-// still stays.
+// Raises the amount of a store in a step by as many of the blocks that stay in it as there is room for. Returns how
+// many
+// still stay.
 fn raise(
     problem: &Problem,
     plan: &mut Plan,
@@ -168,8 +171,8 @@ fn raise(
     left - more
 }
 
-// Gives the rest of a step's window to stores that still hold blocks, as far as their channels allow. Where the window is
-// closed or used up, there is nothing to give.
+// Gives the rest of a step's window to stores that still hold blocks, as far as their channels allow. A window that
+// is closed or used up has no rest.
 fn use_rest(problem: &Problem, plan: &mut Plan, left: &mut [u32], step: u32)
     requires shape { HasShape problem.now plan.old }
     requires first { 1 ≤ step }

@@ -82,7 +82,8 @@ fn fits_at(problem: &Problem, plan: &Plan, step: u32) -> bool
     amount <= u64::from(problem.window(step)) && fits_limits(problem, plan, step)
 }
 
-/// Whether the plan fits the window and the channels' limits of each step; otherwise the first step that it does not fit.
+/// Whether the plan fits the window and the channels' limits of each step; otherwise the first step that it does not
+/// fit.
 pub fn fits(problem: &Problem, plan: &Plan) -> Result<(), u32>
     requires { HasShape problem.now plan.now }
     ensures ok { IsOk result ↔ Fits problem.now (amount plan.now) }

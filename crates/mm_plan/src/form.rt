@@ -6,7 +6,8 @@ ghost use Rattle.mm_plan.specs.Sheet.{form_by};
 
 use crate::certificate::Certificate;
 
-// The first has no counts, the second has some. The third may have some, and says that the plan serves the stores in order.
+// The first has no counts, the second has some. The third may have some, and says that the plan serves the stores in
+// order.
 #[derive(Clone, Copy)]
 pub(crate) enum Form {
     First,

@@ -2,7 +2,7 @@
 ghost use Rattle.std.specs.Prelude.{◌≡◌, bytes_eq, map, drop, IfOk};
 ghost use Rattle.std.specs.Option.{option_map};
 ghost use Rattle.mm_base.specs.declared.limits.TheConstants.{MAX_BLOCKS};
-ghost use Rattle.mm_plan.specs.Reading.{id_of, number_of, stretch_of, form_said, line_of, read_line};
+ghost use Rattle.mm_plan.specs.Reading.{id_of, number_of, stretch_of, form_said, line_of, IsRead};
 ghost use Rattle.mm_plan.specs.Seen.{seen};
 ghost use Rattle.mm_plan.specs.Sheet.{IsLine, line_text};
 
@@ -122,9 +122,8 @@ fn has_text(alloc: Global, line: &Line, text: &[u8]) -> Result<bool, AllocError>
 }
 
 // The line whose text this is, or none: what the words say is printed again and compared with the text.
-#[tactic(auto, unfolding(crate::specs::Reading::read_line))]
 pub(crate) fn read_line(alloc: Global, text: &[u8]) -> Result<Option<Line>, AllocError>
-    ensures { IfOk result (λ line. option_map seen line ≡ read_line text.now) }
+    ensures { IfOk result (λ line. IsRead text.now (option_map seen line)) }
 {
     let words = line_words(alloc, text)?;
     let line = line_of(alloc, words.as_slice())?;

@@ -9,7 +9,7 @@ use crate::plan::Plan;
 use mm_base::MAX_STORES;
 use mm_problem::Problem;
 
-/// How many blocks one store loses over all steps, where the plan is carried out and what arrives is the problem's arrivals.
+/// How many blocks one store loses over all steps, if the plan is carried out and the arrivals are the problem's.
 #[must_use]
 pub fn store_loss(problem: &Problem, plan: &Plan, store: usize) -> u64
     requires shape { HasShape problem.now plan.now }

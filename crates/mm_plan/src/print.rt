@@ -1,14 +1,18 @@
 //! The lines of a plan text, as they are printed.
-ghost use Rattle.std.specs.Prelude.{◌≡◌, ◌-◌, ◌*◌, ◌+◌, ◌<◌, ◌≤◌, ◌++◌, ◌∷◌, [], length, map, drop, decimal, codes, unwrap_or, IfOk, OnOk};
+#![tactic(auto, using(std::proofs::Common::append_assoc), unfolding(crate::specs::Printing::ended, crate::specs::Sheet::line_text))]
+ghost use Rattle.std.specs.Prelude.{◌≡◌, ◌-◌, ◌*◌, ◌+◌, ◌<◌, ◌≤◌, ◌++◌, ◌∷◌, [], length, map, drop, decimal, codes};
+ghost use Rattle.std.specs.Prelude.{unwrap_or, IfOk, OnOk};
 ghost use Rattle.std.specs.Option.{option_map};
 ghost use Rattle.std.specs.Fmt.{signed_decimal};
 ghost use Rattle.mm_base.specs.Characters.{line_feed, space};
 ghost use Rattle.mm_base.specs.declared.limits.TheConstants.{MAX_STORES};
 ghost use Rattle.mm_base.specs.Id.{id_text};
-ghost use Rattle.mm_plan.specs.Sheet.{title_line, stores_line, dump_line, loss_line, stretch_line, count_line, bound_line, end_line, first_line, certificate_lines, first_lines, dump_lines};
+ghost use Rattle.mm_plan.specs.Sheet.{title_line, stores_line, dump_line, loss_line, stretch_line, count_line};
+ghost use Rattle.mm_plan.specs.Sheet.{bound_line, end_line, first_line, certificate_lines, first_lines, dump_lines};
 ghost use Rattle.mm_plan.specs.Seen.{seen};
 ghost use Rattle.mm_plan.specs.Sheet.{IsLine};
-ghost use Rattle.mm_plan.specs.Printing.{place_of, stretch_key, AreOrdered, AreRising, ended, all_ended, spaced, plan_lines};
+ghost use Rattle.mm_plan.specs.Printing.{place_of, stretch_key, AreOrdered, AreRising, ended, all_ended, spaced};
+ghost use Rattle.mm_plan.specs.Printing.{plan_lines};
 
 use crate::certificate::Certificate;
 use crate::form::Form;
@@ -30,7 +34,7 @@ fn push_word(text: &mut Vec<u8>, word: &[u8]) -> Pushed
     Ok(())
 }
 
-// A space and the digits of a number of 32 bits have room in as many octets.
+// The most octets of a space and a number of 32 bits.
 const NUMBER_ROOM: usize = 11;
 
 // A number with the space before it, in one piece.
@@ -42,7 +46,6 @@ fn push_number_word(text: &mut Vec<u8>, number: u32) -> Pushed
     text.extend_from_slice(&word[first..])
 }
 
-#[tactic(auto, using(std::proofs::Common::append_assoc), unfolding(crate::specs::Printing::ended, crate::specs::Sheet::line_text))]
 fn push_title(text: &mut Vec<u8>, form: Form) -> Pushed
     ensures { OnOk result (text.new.items ≡ text.old.items ++ ended (title_line form)) }
 {
@@ -74,7 +77,7 @@ fn push_stores(text: &mut Vec<u8>, ids: &[StoreId]) -> Pushed
     Ok(())
 }
 
-// Writes a space and the digits of a number for each of several so that they end at a place, and answers where they start.
+// Writes amounts, each after a space, so that they end at a place. Returns where they start.
 fn write_amounts(octets: &mut [u8], end: usize, amounts: &[u32]) -> usize
     requires room { 11 * length amounts.now ≤ end }
     requires within { end ≤ length octets.old }
@@ -91,11 +94,10 @@ fn write_amounts(octets: &mut [u8], end: usize, amounts: &[u32]) -> usize
     first
 }
 
-// A step and the amounts of all stores have room in as many octets, with a line feed.
+// The most octets of a step, the amounts of all stores and a line feed.
 const DUMP_ROOM: usize = 11 * (MAX_STORES + 1) + 1;
 
 // The words of a dump line after its keyword, written from the last to the first, and its line feed.
-#[tactic(auto, using(std::proofs::Common::append_assoc))]
 fn push_row(text: &mut Vec<u8>, step: u32, amounts: &[u32]) -> Pushed
     requires { length amounts.now ≤ MAX_STORES }
     ensures { OnOk result (text.new.items ≡ text.old.items
@@ -115,7 +117,7 @@ fn push_dump(text: &mut Vec<u8>, step: u32, amounts: &[u32]) -> Pushed
     push_row(text, step, amounts)
 }
 
-// A line for each step, with the amounts of as many stores.
+// A line for each step, with the amounts of that many stores.
 fn push_dumps(text: &mut Vec<u8>, stores: usize, steps: u32, amounts: &[u32]) -> Pushed
     requires size { length amounts.now ≡ steps * stores }
     requires few { stores ≤ MAX_STORES }
@@ -130,14 +132,6 @@ fn push_dumps(text: &mut Vec<u8>, stores: usize, steps: u32, amounts: &[u32]) ->
     Ok(())
 }
 
-// A line for each step of the plan.
-fn push_plan(text: &mut Vec<u8>, plan: &Plan) -> Pushed
-    ensures { OnOk result (text.new.items ≡ text.old.items ++ all_ended (plan_lines plan.now)) }
-{
-    push_dumps(text, plan.stores, plan.steps, plan.amounts.as_slice())
-}
-
-#[tactic(auto, using(std::proofs::Common::append_assoc), unfolding(crate::specs::Printing::ended, crate::specs::Sheet::line_text))]
 fn push_loss(text: &mut Vec<u8>, loss: u64) -> Pushed
     ensures { OnOk result (text.new.items ≡ text.old.items ++ ended (loss_line loss)) }
 {
@@ -147,7 +141,6 @@ fn push_loss(text: &mut Vec<u8>, loss: u64) -> Pushed
     Ok(())
 }
 
-#[tactic(auto, using(std::proofs::Common::append_assoc), unfolding(crate::specs::Printing::ended, crate::specs::Sheet::line_text))]
 fn push_stretch(text: &mut Vec<u8>, stretch: Stretch) -> Pushed
     ensures { OnOk result (text.new.items ≡ text.old.items ++ ended (stretch_line stretch)) }
 {
@@ -170,7 +163,6 @@ fn push_cut(text: &mut Vec<u8>, cut: &[Stretch]) -> Pushed
     Ok(())
 }
 
-#[tactic(auto, using(std::proofs::Common::append_assoc), unfolding(crate::specs::Printing::ended, crate::specs::Sheet::line_text))]
 fn push_count(text: &mut Vec<u8>, step: u32) -> Pushed
     ensures { OnOk result (text.new.items ≡ text.old.items ++ ended (count_line step)) }
 {
@@ -191,7 +183,6 @@ fn push_counts(text: &mut Vec<u8>, steps: &[u32]) -> Pushed
     Ok(())
 }
 
-#[tactic(auto, using(std::proofs::Common::append_assoc), unfolding(crate::specs::Printing::ended, crate::specs::Sheet::line_text))]
 fn push_bound(text: &mut Vec<u8>, bound: i64) -> Pushed
     ensures { OnOk result (text.new.items ≡ text.old.items ++ ended (bound_line bound)) }
 {
@@ -204,7 +195,6 @@ fn push_bound(text: &mut Vec<u8>, bound: i64) -> Pushed
     Ok(())
 }
 
-#[tactic(auto, using(std::proofs::Common::append_assoc), unfolding(crate::specs::Printing::ended, crate::specs::Sheet::line_text))]
 pub(crate) fn push_end(text: &mut Vec<u8>) -> Pushed
     ensures { OnOk result (text.new.items ≡ text.old.items ++ ended end_line) }
 {
@@ -213,19 +203,17 @@ pub(crate) fn push_end(text: &mut Vec<u8>) -> Pushed
 }
 
 // The lines up to the dumps.
-#[tactic(auto, using(std::proofs::Common::append_assoc))]
 pub(crate) fn push_front(text: &mut Vec<u8>, form: Form, ids: &[StoreId], plan: &Plan) -> Pushed
     ensures { OnOk result (text.new.items ≡ text.old.items
         ++ (ended (title_line form) ++ ended (stores_line ids.now) ++ all_ended (plan_lines plan.now))) }
 {
     push_title(text, form)?;
     push_stores(text, ids)?;
-    push_plan(text, plan)?;
+    push_dumps(text, plan.stores, plan.steps, plan.amounts.as_slice())?;
     Ok(())
 }
 
 // The lines of a certificate.
-#[tactic(auto, using(std::proofs::Common::append_assoc))]
 pub(crate) fn push_certificate(
     text: &mut Vec<u8>,
     loss: u64,
@@ -244,7 +232,6 @@ pub(crate) fn push_certificate(
     Ok(())
 }
 
-#[tactic(auto, using(std::proofs::Common::append_assoc), unfolding(crate::specs::Printing::ended, crate::specs::Sheet::line_text))]
 fn push_first(text: &mut Vec<u8>, number: u64) -> Pushed
     ensures { OnOk result (text.new.items ≡ text.old.items ++ ended (first_line number)) }
 {

@@ -1,5 +1,6 @@
 //! The line of a step's amounts, read where it stands.
-ghost use Rattle.std.specs.Prelude.{◌≡◌, ◌≤◌, ◌*◌, ◌<◌, ◌++◌, ◌∷◌, All, IfSome, IsTrue, codes, decimal, length, map, take};
+ghost use Rattle.std.specs.Prelude.{◌≡◌, ◌≤◌, ◌*◌, ◌<◌, ◌++◌, ◌∷◌, All, IfSome, IsTrue, codes, decimal, length, map};
+ghost use Rattle.std.specs.Prelude.{take};
 ghost use Rattle.mm_base.specs.declared.limits.TheConstants.{MAX_STORES, MAX_BLOCKS};
 ghost use Rattle.mm_base.specs.Characters.{space};
 ghost use Rattle.mm_plan.specs.Printing.{spaced};
@@ -56,7 +57,7 @@ fn spaced_number(text: &[u8]) -> Option<Front<'_>>
     }
 }
 
-// Whether a text is that many amounts, each after a space, which are in the first places then.
+// Whether a text is that many amounts, each after a space. If so, they are written to the first places.
 fn read_row(text: &[u8], stores: usize, amounts: &mut [u32; MAX_STORES]) -> bool
     requires { stores ≤ MAX_STORES }
     ensures text { IsTrue result → text.now ≡ spaced (map decimal (take stores amounts.new)) }
@@ -83,7 +84,7 @@ fn after_keyword(text: &[u8]) -> Option<&[u8]>
     }
 }
 
-// Whether a text is the line of a step with that many amounts, which are in the first places then.
+// Whether a text is the dump line of a step with that many amounts. If so, they are written to the first places.
 pub(crate) fn is_dump(
     text: &[u8],
     step: u32,

@@ -133,8 +133,8 @@ impl Sheet {
         }
     }
 
-    /// Reads a plan text. A text that is no sheet's is `PlanText` with its first line, from 1, that cannot stand there,
-    /// or with the line on which it ends, where it ends too early or without a line feed.
+    /// Reads a plan text. The text of no sheet is `PlanText` with its first line, from 1, that cannot stand there, or
+    /// with the line on which it ends, if it ends too early or without a line feed.
     pub fn parse(alloc: Global, text: &[u8]) -> Result<Sheet, Fault>
         ensures found { IfOk result (λ s. IsSheet s × (text.now ≡ sheet_text s)) }
         ensures read { (s : SheetRows) → IsSheet s → text.now ≡ sheet_text s

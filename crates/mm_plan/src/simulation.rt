@@ -38,9 +38,11 @@ impl Model for Simulated {
 
     ghost Value = { VolumeTables };
 
-    ghost view = { λ a. volume_tables a.stores a.steps a.tables.written.items a.tables.left.items a.tables.lost.items a.total };
+    ghost view = { λ a.
+        volume_tables a.stores a.steps a.tables.written.items a.tables.left.items a.tables.lost.items a.total };
 
-    ghost invariant = { λ a. AreVolumeTables (volume_tables a.stores a.steps a.tables.written.items a.tables.left.items a.tables.lost.items a.total) };
+    ghost invariant = { λ a. AreVolumeTables
+        (volume_tables a.stores a.steps a.tables.written.items a.tables.left.items a.tables.lost.items a.total) };
 }
 
 impl Simulated {
@@ -87,8 +89,10 @@ impl Tables {
         requires store { store < length problem.now.rows }
         requires first { 1 ≤ step }
         requires last { step ≤ length problem.now.windows }
-        requires before { AreTabled problem.now (amount plan.now) (grid_place (length problem.now.rows) step store) self.old }
-        ensures { OnOk result (AreTabled problem.now (amount plan.now) (grid_place (length problem.now.rows) step store + 1) self.new) }
+        requires before { AreTabled problem.now (amount plan.now)
+            (grid_place (length problem.now.rows) step store) self.old }
+        ensures { OnOk result (AreTabled problem.now (amount plan.now)
+            (grid_place (length problem.now.rows) step store + 1) self.new) }
     {
         let before = if step == 1 {
             problem.start(store)
@@ -109,7 +113,8 @@ impl Tables {
         requires shape { HasShape problem.now plan.now }
         requires first { 1 ≤ step }
         requires last { step ≤ length problem.now.windows }
-        requires before { AreTabled problem.now (amount plan.now) (grid_place (length problem.now.rows) step 0) self.old }
+        requires before { AreTabled problem.now (amount plan.now)
+            (grid_place (length problem.now.rows) step 0) self.old }
         ensures { OnOk result (AreTabled problem.now (amount plan.now) (step * length problem.now.rows) self.new) }
     {
         for store in 0..problem.stores() {
@@ -119,8 +124,7 @@ impl Tables {
     }
 }
 
-/// What stands in each store, and what it loses, where the plan is carried out and what arrives is the problem's
-/// arrivals.
+/// What stands in each store, and what it loses, if the plan is carried out and the arrivals are the problem's.
 pub fn simulate(alloc: Global, problem: &Problem, plan: &Plan) -> Result<Simulated, NoMemory>
     requires { HasShape problem.now plan.now }
     ensures shape { IfOk result (CoversProblem problem.now) }

@@ -1,4 +1,4 @@
-//! Stretches, of which cuts are made.
+//! Stretches, the parts of a cut.
 
 use mm_base::StoreId;
 

@@ -1,4 +1,4 @@
-//! The words of a line, and what they say, where they are those of a line.
+//! The words of a line, and what they say.
 ghost use Rattle.std.specs.Prelude.{◌≡◌, ◌≤◌, [], map, IfOk, OnOk};
 ghost use Rattle.mm_plan.specs.Reading.{line_words, word, number_of, id_of, signed_of};
 
@@ -6,10 +6,10 @@ use mm_base::StoreId;
 use mm_base::numbers::Numeral;
 use std::alloc::{AllocError, Global};
 
-// How many words of a line are looked at.
+// The most words of a line that are read.
 const MAX_WORDS: usize = 18;
 
-// The words of a line are separated by one space; a line of more than 18 words stands in no sheet.
+// The words of a line are separated by one space. No line of a sheet has more than 18.
 fn add_words<'a>(words: &mut Vec<&'a [u8]>, text: &'a [u8]) -> Result<(), AllocError>
     requires { words.old.items ≡ [] }
     ensures { OnOk result (map (λ w. w.now) words.new.items ≡ line_words text.now) }
@@ -55,7 +55,7 @@ pub(crate) fn u32_of(most: u32, word: &[u8]) -> u32
     number_of(u64::from(most), word) as u32
 }
 
-// The identifier that a word is, and another where it is none.
+// The identifier that a word is, or else `A`: the line is then printed with `A`, and differs from its text.
 #[tactic(auto, using(crate::proofs::Saying::id_a))]
 pub(crate) fn id_of(word: &[u8]) -> StoreId
     ensures { result ≡ id_of word.now }
