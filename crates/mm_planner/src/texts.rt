@@ -21,7 +21,6 @@ pub struct PrintedPlan {
 }
 
 /// Plans, and prints the sheet.
-#[tactic(auto, using(crate::proofs::PlanTextLemmas::printed_plain))]
 pub fn print_plan(alloc: Global, problem: &Problem) -> Result<PrintedPlan, NoMemory>
     ensures { IfOk result (IsPrintedFor problem.now) }
 {
@@ -42,7 +41,6 @@ pub fn plan_bytes(alloc: Global, setup: &[u8], forecast: &[u8]) -> Result<Vec<u8
 }
 
 /// Plans in the order of the stores, and prints the sheet.
-#[tactic(auto, using(crate::proofs::PlanTextLemmas::printed_in_order))]
 pub fn print_plan_in_order(alloc: Global, problem: &Problem) -> Result<PrintedPlan, NoMemory>
     ensures { IfOk result (IsPrintedInOrder problem.now) }
 {

@@ -1,6 +1,6 @@
 //! The dumping problem of a setup and a forecast.
 ghost use Rattle.std.specs.Prelude.{◌≡◌, ◌==◌, ◌<◌, ◌≤◌, length, slice_index, slice_index_or, position, bytes_eq, IfOk};
-ghost use Rattle.std.specs.Prelude.{IfErr, IfSome, IfNone};
+ghost use Rattle.std.specs.Prelude.{◌*◌, drop, IfErr, IfSome, IfNone};
 ghost use Rattle.mm_base.specs.declared.limits.TheConstants.{MAX_STORES, MAX_STEPS, MAX_BLOCKS, MAX_CHANNEL, CHANNELS};
 ghost use Rattle.mm_base.specs.Id.{IsIdField};
 ghost use Rattle.mm_problem.specs.Dumping.{no_row, row, place, size, start, channel, setup_limit, step_limit};
@@ -102,6 +102,15 @@ fn rows_from(alloc: Global, rows: &[StoreRow], starts: &[u32]) -> Result<Vec<Sto
 {
     let rows = (0..rows.len()).map(|place| started(rows, starts, place));
     Ok(rows.collect(alloc)?)
+}
+
+// The cells of the steps after a step, in a table with this number of cells for each step.
+#[tactic(auto, using(std::proofs::lemmas::List::take_rest))]
+fn later(cells: &[u32], width: usize, step: u32) -> &[u32]
+    requires { step * width ≤ length cells.now }
+    ensures { result.now ≡ drop (step * width) cells.now }
+{
+    &cells[step as usize * width..]
 }
 
 // The limit of a channel, if it has one.
@@ -218,12 +227,10 @@ impl Problem {
         test(fit, Fault::Limit { name: Name::Start })?;
         let rows = rows_from(alloc, stores, starts)?;
         let windows = Vec::from_slice(alloc, &self.windows[step as usize..])?;
-        let first = place(stores.len(), step + 1, 0);
-        let arrived = Vec::from_slice(alloc, &self.arrived[first..])?;
+        let arrived = Vec::from_slice(alloc, later(&self.arrived, stores.len(), step))?;
         let own = self.limited.as_slice();
         let limited = Vec::from_slice(alloc, own)?;
-        let first_limit = place(own.len(), step + 1, 0);
-        let step_limits = Vec::from_slice(alloc, &self.step_limits[first_limit..])?;
+        let step_limits = Vec::from_slice(alloc, later(&self.step_limits, own.len(), step))?;
         Ok(Problem {
             rows,
             limits: self.limits,

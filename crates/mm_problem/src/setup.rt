@@ -28,7 +28,8 @@ impl Model for Setup {
 
     ghost view = { λ a. record { stores = a.stores.items; routes = a.routes.items; limits = a.limits.items } };
 
-    ghost invariant = { λ a. IsSetup (record { stores = a.stores.items; routes = a.routes.items; limits = a.limits.items }) };
+    ghost invariant = { λ a. IsSetup
+        (record { stores = a.stores.items; routes = a.routes.items; limits = a.limits.items }) };
 }
 
 // The setup of these arrays.

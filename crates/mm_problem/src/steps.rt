@@ -159,7 +159,8 @@ fn read_header(
     ensures header { (rows : List Fields) → HasRecords reader.old rows
         → Gives NoMemory (λ v. v.items) result (header_in stores.now rows) }
     ensures few { IfOk result (λ v. vec_len v ≤ CHANNELS) }
-    ensures later { OnOk result ((rows : List Fields) → HasRecords reader.old rows → HasRecords reader.new (drop 1 rows)) }
+    ensures later { OnOk result ((rows : List Fields) → HasRecords reader.old rows
+        → HasRecords reader.new (drop 1 rows)) }
 {
     if !next_record(reader, row)? {
         return Err(Fault::Header);
