@@ -1,4 +1,4 @@
--- A search goes on from node to node, and ends.
+-- A search continues from node to node, and ends.
 use Rattle.std.proofs.Common.{◌≡◌, ℕ, ◌+◌, ◌<◌, ◌≤◌, List, length, slice_index, ap, sym, ◌∙◌, refl, arith, inl, inr}
 use Rattle.std.proofs.lemmas.Bool.{cases_eq, cases_lt}
 use Rattle.std.proofs.lemmas.List.{get_or_past}
@@ -15,7 +15,7 @@ marked_lt marks n has = elim (cases_lt n (length marks)) [
   | inr up ↦ absurd (omega (arith, ap (λ (m : Mark). m.level) (get_or_past marks n no_mark up)))
 ]
 
--- a step that changes nothing goes on
+-- a step that changes nothing continues a search
 pub goes_on_same : (s : Search) → GoesOn s s
 goes_on_same s = record {
   source = refl;
@@ -26,7 +26,7 @@ goes_on_same s = record {
   marked = λ n has. has;
 }
 
--- two steps that go on
+-- two steps that continue a search
 pub goes_on_further : (first then last : Search) → GoesOn first then → GoesOn then last → GoesOn first last
 goes_on_further first then last one two = record {
   source = two.source ∙ one.source;
@@ -39,7 +39,8 @@ goes_on_further first then last one two = record {
 
 -- the first node that waits is closed, and the others wait on
 pub search_next : (g : Graph) (f : Flow) (source least : ℕ) (marks : List Mark) (order : List ℕ) (found done node : ℕ)
-    → IsSearch g f source least marks order found done → done < found → slice_index order done ≡ node → IsClosed g f marks least node
+    → IsSearch g f source least marks order found done → done < found → slice_index order done ≡ node
+        → IsClosed g f marks least node
     → IsSearch g f source least marks order found (done + 1)
 search_next g f source least marks order found done node search ahead here closed = record {
   marking = search.marking;
@@ -60,7 +61,8 @@ search_next g f source least marks order found done node search ahead here close
 }
 
 -- once no node waits, all are closed
-pub search_ended : (g : Graph) (f : Flow) (source least : ℕ) (marks : List Mark) (order : List ℕ) (found done : ℕ) → IsSearch g f source least marks order found done → found ≤ done → IsSearched g f source least marks
+pub search_ended : (g : Graph) (f : Flow) (source least : ℕ) (marks : List Mark) (order : List ℕ) (found done : ℕ)
+    → IsSearch g f source least marks order found done → found ≤ done → IsSearched g f source least marks
 search_ended g f source least marks order found done search over = record {
   marking = search.marking;
   closed = λ n has. elim (search.swept n has) [

@@ -15,11 +15,11 @@ leaves g side k = side (arc g k).from && not (side (arc g k).to)
 abbrev pub enters : Graph → Side → ℕ → Bool
 enters g side k = side (arc g k).to && not (side (arc g k).from)
 
--- what the arcs out of a side carry
+-- the flow on the arcs out of a side
 unfoldable pub flow_out : Graph → Side → Flow → ℕ
 flow_out g side f = sum_by f (filter (leaves g side) (places g))
 
--- what the arcs into a side carry
+-- the flow on the arcs into a side
 unfoldable pub flow_in : Graph → Side → Flow → ℕ
 flow_in g side f = sum_by f (filter (enters g side) (places g))
 
@@ -27,7 +27,7 @@ flow_in g side f = sum_by f (filter (enters g side) (places g))
 abbrev pub limit_of : Graph → ℕ → ℕ
 limit_of g k = unwrap_or (arc g k).capacity 0
 
--- the capacities of the arcs out of a side, added up
+-- the sum of the capacities of the arcs out of a side
 unfoldable pub capacity_of : Graph → Side → ℕ
 capacity_of g side = sum_by (limit_of g) (filter (leaves g side) (places g))
 

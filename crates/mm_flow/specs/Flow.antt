@@ -2,15 +2,15 @@
 use Rattle.std.specs.Prelude.{◌≡◌, ◌≢◌, ℕ, ◌+◌, ◌≤◌, Some, sum_by, filter}
 use Rattle.mm_flow.specs.Graph.{Graph, arc, places, starts_at, ends_at}
 
--- how much each arc carries
+-- the flow on each arc
 abbrev pub Flow : Type 0
 Flow = ℕ → ℕ
 
--- what the arcs that start at a node carry
+-- the flow on the arcs that start at a node
 unfoldable pub leaving : Graph → Flow → ℕ → ℕ
 leaving g f n = sum_by f (filter (starts_at g n) (places g))
 
--- what the arcs that end at a node carry
+-- the flow on the arcs that end at a node
 unfoldable pub entering : Graph → Flow → ℕ → ℕ
 entering g f n = sum_by f (filter (ends_at g n) (places g))
 
@@ -18,8 +18,8 @@ entering g f n = sum_by f (filter (ends_at g n) (places g))
 abbrev pub IsWithin : Graph → Flow → Type 0
 IsWithin g f = (k most : ℕ) → (arc g k).capacity ≡ Some most → f k ≤ most
 
--- a flow from the source to the sink: within every capacity, as much into each other node as out of it, and
--- from the source the value more than into it
+-- a flow from the source to the sink: it is within every capacity, enters and leaves each other node equally, and
+-- leaves the source by the value more than it enters it
 pub record IsFlow (g : Graph) (source sink : ℕ) (f : Flow) (value : ℕ) : Type 0 where
   pub within : IsWithin g f
   pub conserved : (n : ℕ) → n ≢ source → n ≢ sink → entering g f n ≡ leaving g f n

@@ -5,7 +5,7 @@ use Rattle.std.specs.Option.{ForSome}
 use Rattle.mm_flow.specs.declared.arc.Arc.{Arc}
 use Rattle.mm_flow.specs.declared.limits.TheConstants.{MAX_NODES, MAX_ARCS, MAX_CAPACITY}
 
--- how many nodes there are, and the arcs
+-- the number of nodes, and the arcs
 pub record Graph : Type 0 where
   pub nodes : ℕ
   pub arcs : List Arc

@@ -1,6 +1,7 @@
--- What a search by breadth leaves at the nodes: Edmonds and Karp, "Theoretical improvements in algorithmic efficiency
--- for network flow problems", 1972.
-use Rattle.std.specs.Prelude.{◌≡◌, ◌≢◌, ℕ, ◌+◌, ◌<◌, ◌≤◌, ◌==◌, ◌⊎◌, List, length, slice_index, slice_index_or, count_by}
+-- The marks of a breadth-first search: Edmonds and Karp, "Theoretical improvements in algorithmic efficiency for
+-- network flow problems", 1972.
+use Rattle.std.specs.Prelude.{◌≡◌, ◌≢◌, ℕ, ◌+◌, ◌<◌, ◌≤◌, ◌==◌, ◌⊎◌, List, length, slice_index, slice_index_or}
+use Rattle.std.specs.Prelude.{count_by}
 use Rattle.mm_flow.specs.declared.search.Mark.{Mark}
 use Rattle.mm_flow.specs.declared.search.Search.{Search}
 use Rattle.mm_flow.specs.declared.residual.Residual.{Residual}
@@ -16,7 +17,7 @@ no_mark = record { level = 0; via = 0 }
 abbrev pub mark : List Mark → ℕ → Mark
 mark marks n = slice_index_or marks n no_mark
 
--- one more than the entries on the path from the source to a node; 0 where it is not reached
+-- the number of entries on the path from the source to a node, and 1; 0 if the node is not reached
 abbrev pub level : List Mark → ℕ → ℕ
 level marks n = (mark marks n).level
 
@@ -24,11 +25,11 @@ level marks n = (mark marks n).level
 abbrev pub HasMark : List Mark → ℕ → Type 0
 HasMark marks n = 0 < level marks n
 
--- how many nodes are not reached
+-- the number of nodes that are not reached
 abbrev pub unmarked : List Mark → ℕ
 unmarked marks = count_by (λ (m : Mark). m.level == 0) marks
 
--- a node was reached by an entry that can carry an amount, from a node of a lower level
+-- a node was reached from a node of a lower level, by an entry with at least a residual capacity
 pub record IsReachedFrom (g : Graph) (f : Flow) (amount : ℕ) (before own : Mark) (n : ℕ) : Type 0 where
   pub known : own.via < entries g
   pub leads : head g own.via ≡ n
@@ -36,11 +37,11 @@ pub record IsReachedFrom (g : Graph) (f : Flow) (amount : ℕ) (before own : Mar
   pub above : before.level < own.level
   pub fits : amount ≤ residual g f own.via
 
--- the same, where the marks of all nodes are given
+-- the same, for given marks of all nodes
 abbrev pub IsReached : Graph → Flow → List Mark → ℕ → ℕ → Type 0
 IsReached g f marks amount n = IsReachedFrom g f amount (mark marks (tail g (mark marks n).via)) (mark marks n) n
 
--- each marked node is the source or was reached, by an entry of at least this residual capacity
+-- each marked node is the source or was reached by an entry with at least this residual capacity
 pub record IsMarking (g : Graph) (f : Flow) (source least : ℕ) (marks : List Mark) : Type 0 where
   pub size : length marks ≡ g.nodes
   pub start : HasMark marks source
@@ -50,7 +51,7 @@ pub record IsMarking (g : Graph) (f : Flow) (source least : ℕ) (marks : List M
 abbrev pub IsClosed : Graph → Flow → List Mark → ℕ → ℕ → Type 0
 IsClosed g f marks least n = (e : ℕ) → e < entries g → tail g e ≡ n → least ≤ residual g f e → HasMark marks (head g e)
 
--- the marks of a search that has ended: nothing more can be reached
+-- the marks of a search that has ended: no other node can be reached
 pub record IsSearched (g : Graph) (f : Flow) (source least : ℕ) (marks : List Mark) : Type 0 where
   pub marking : IsMarking g f source least marks
   pub closed : (n : ℕ) → HasMark marks n → IsClosed g f marks least n
@@ -59,8 +60,9 @@ pub record IsSearched (g : Graph) (f : Flow) (source least : ℕ) (marks : List 
 abbrev pub Waits : List ℕ → ℕ → ℕ → ℕ → Type 0
 Waits order done found n = (i : ℕ) × (done ≤ i) × (i < found) × (slice_index order i ≡ n)
 
--- a search at work: the nodes found so far are marked, and those before `done` in their order are closed
-pub record IsSearch (g : Graph) (f : Flow) (source least : ℕ) (marks : List Mark) (order : List ℕ) (found done : ℕ) : Type 0 where
+-- a search in progress: the nodes found so far are marked, and those before `done` in their order are closed
+pub record IsSearch (g : Graph) (f : Flow) (source least : ℕ) (marks : List Mark) (order : List ℕ)
+    (found done : ℕ) : Type 0 where
   pub marking : IsMarking g f source least marks
   pub order_size : length order ≡ g.nodes
   pub count : found + unmarked marks ≡ g.nodes
@@ -69,9 +71,10 @@ pub record IsSearch (g : Graph) (f : Flow) (source least : ℕ) (marks : List Ma
   pub queued : (i : ℕ) → i < found → HasMark marks (slice_index order i)
   pub swept : (n : ℕ) → HasMark marks n → IsClosed g f marks least n ⊎ Waits order done found n
 
--- the same of a `Search` of a residual network
+-- the same for a `Search` of a residual network
 abbrev pub IsSearching : Residual → Search → Type 0
-IsSearching r s = IsSearch r.network.now.graph (slice_index r.flow.items) s.source s.least s.marks.items s.order.items s.found s.done
+IsSearching r s = IsSearch r.network.now.graph (slice_index r.flow.items) s.source s.least s.marks.items s.order.items
+    s.found s.done
 
 -- each marked node is the source or was reached by a search, along entries of at least this residual capacity
 abbrev pub HasMarked : Residual → Search → ℕ → Type 0
@@ -81,13 +84,13 @@ HasMarked r s least = IsMarking r.network.now.graph (slice_index r.flow.items) s
 abbrev pub HasSearched : Residual → Search → ℕ → Type 0
 HasSearched r s least = IsSearched r.network.now.graph (slice_index r.flow.items) s.source least s.marks.items
 
--- a search has its source in a network, and room for all of its nodes
+-- the source of a search is in the network, and there is room for all nodes
 pub record Fits (g : Graph) (s : Search) : Type 0 where
   pub source : s.source < g.nodes
   pub marks : length s.marks.items ≡ g.nodes
   pub order : length s.order.items ≡ g.nodes
 
--- a search goes on: what was marked stays so, and the order of reaching has only grown
+-- a later state of a search: marked nodes stay marked, and the order of reaching grows at its end
 pub record GoesOn (old new : Search) : Type 0 where
   pub source : new.source ≡ old.source
   pub least : new.least ≡ old.least

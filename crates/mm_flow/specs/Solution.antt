@@ -15,7 +15,7 @@ pub record IsSolution (g : Graph) (source sink : ℕ) (f : Flow) (side : Side) (
 abbrev pub side_of : List Bool → Side
 side_of table n = slice_index_or table n false
 
--- a solution in tables: what each arc carries, which nodes are on the source's side, and the value
+-- a solution in tables: the flow on each arc, the nodes on the source side, and the value
 pub record IsSolved (g : Graph) (source sink : ℕ) (s : Solved) : Type 0 where
   pub arcs : length s.flow.items ≡ length g.arcs
   pub nodes : length s.side.items ≡ g.nodes
@@ -23,9 +23,10 @@ pub record IsSolved (g : Graph) (source sink : ℕ) (s : Solved) : Type 0 where
 
 -- an unlimited arc leads from one node to another
 abbrev pub HasUnlimited : Graph → ℕ → ℕ → Type 0
-HasUnlimited g from to = (k : ℕ) × (k < length g.arcs) × ((arc g k).from ≡ from) × ((arc g k).to ≡ to) × ((arc g k).capacity ≡ None)
+HasUnlimited g from to = (k : ℕ) × (k < length g.arcs) × ((arc g k).from ≡ from) × ((arc g k).to ≡ to)
+    × ((arc g k).capacity ≡ None)
 
--- so many unlimited arcs lead one after another from one node to another
+-- a path of this number of unlimited arcs leads from one node to another
 abbrev pub IsWalk : Graph → ℕ → ℕ → ℕ → Type 0
 IsWalk g from to zero = from ≡ to
 IsWalk g from to (suc n) = (last : ℕ) × IsWalk g from last n × HasUnlimited g last to

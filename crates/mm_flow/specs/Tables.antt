@@ -6,7 +6,7 @@ use Rattle.mm_flow.specs.Balance.{IsAugmented, IsBounded}
 use Rattle.mm_flow.specs.Marks.{Fits}
 use Rattle.mm_flow.specs.Levels.{IsLevelled}
 
--- augmentations have made a flow of this value
+-- the augmentations so far made a flow of this value
 pub record IsAtWork (g : Graph) (sink : ℕ) (search : Search) (flow : List ℕ) (value : ℕ) : Type 0 where
   pub ends : search.source ≢ sink
   pub sink_known : sink < g.nodes

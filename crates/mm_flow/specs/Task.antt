@@ -1,4 +1,4 @@
--- What tables are of.
+-- The task of tables: a network, a source and a sink.
 use Rattle.std.specs.Prelude.{◌≡◌, ℕ, slice_index}
 use Rattle.mm_flow.specs.declared.tables.Tables.{Tables}
 use Rattle.mm_flow.specs.Graph.{Graph}
@@ -6,26 +6,27 @@ use Rattle.mm_flow.specs.Balance.{KeepsSource}
 use Rattle.mm_flow.specs.Marks.{HasMark, level, HasSearched}
 use Rattle.mm_flow.specs.Levels.{IsUp, Carries}
 
--- the tables are of this network, source and sink
+-- the tables belong to this network, source and sink
 pub record IsTask (g : Graph) (from to : ℕ) (t : Tables) : Type 0 where
   pub graph : t.residual.network.now.graph ≡ g
   pub source : t.search.source ≡ from
   pub sink : t.sink ≡ to
 
--- two tables are of one network, source and sink, and by the new ones no arc that leaves the source carries less
+-- two tables belong to the same network, source and sink, and in the new ones no arc from the source carries less
 pub record SameTask (old new : Tables) : Type 0 where
   pub graph : new.residual.network.now.graph ≡ old.residual.network.now.graph
   pub source : new.search.source ≡ old.search.source
   pub sink : new.sink ≡ old.sink
-  pub kept : KeepsSource old.residual.network.now.graph old.search.source (slice_index old.residual.flow.items) (slice_index new.residual.flow.items)
+  pub kept : KeepsSource old.residual.network.now.graph old.search.source (slice_index old.residual.flow.items)
+      (slice_index new.residual.flow.items)
 
--- two tables have one flow and the same levels
+-- two tables have the same flow and the same levels
 pub record SameLevels (old new : Tables) : Type 0 where
   pub flow : new.residual.flow ≡ old.residual.flow
   pub value : new.value ≡ old.value
   pub levels : (n : ℕ) → level new.search.marks.items n ≡ level old.search.marks.items n
 
--- a path can go on by an entry
+-- a path can be extended by an entry
 abbrev pub IsOpen : Tables → ℕ → Type 0
 IsOpen t e = IsUp t.residual.network.now.graph (slice_index t.residual.flow.items) t.search.marks.items e
 

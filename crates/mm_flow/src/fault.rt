@@ -9,7 +9,7 @@ use std::fmt;
 /// Why a network is not solved. It is shown as its number and its name.
 #[derive(Clone, Copy, Debug, PartialEq, Eq)]
 pub enum Fault {
-    /// A growth of memory was refused.
+    /// An allocation was refused.
     NoMemory,
     /// A path of unlimited arcs leads from the source to the sink.
     Unbounded,

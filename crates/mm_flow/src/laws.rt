@@ -1,10 +1,10 @@
-//! What holds of every network, whatever solves it. The clause of each function is a law; its body is empty.
+//! Laws on every network, by any solver. The clause of each function is a law; its body is empty.
 ghost use Rattle.std.specs.Prelude.{◌≡◌, ◌^◌};
 ghost use Rattle.mm_flow.specs.declared.limits.TheConstants.{MAX_NODES, MAX_ARCS, MAX_CAPACITY};
 ghost use Rattle.mm_flow.specs.Laws.{NetFlowIsTheValue, ValueIsWithinEachCut, SolutionIsBest};
 
-/// Over each side with the source and without the sink, what leaves it is what enters it and the value
-/// (Cormen et al., "Introduction to Algorithms", flow across a cut).
+/// For each side with the source and without the sink, what leaves the side is what enters it plus the value of the
+/// flow (Cormen et al., "Introduction to Algorithms", flow across a cut).
 pub fn net_flow_is_the_value()
     ensures { NetFlowIsTheValue }
 {}

@@ -9,8 +9,8 @@ pub const MAX_ARCS: u32 = 262_144;
 /// The greatest limited capacity, 2^40.
 pub const MAX_CAPACITY: u64 = 1 << 40;
 
-/// What `MAX_ARCS` arcs of `MAX_CAPACITY` carry together, 2^58. No flow has a greater value where one has a bound.
+/// What `MAX_ARCS` arcs of `MAX_CAPACITY` carry together, 2^58. Flow values that have a bound are at most this.
 pub(crate) const MAX_VALUE: u64 = 1 << 58;
 
-/// The residual capacity that an unlimited arc shows, 2^60, which is above every limited one.
+/// The residual capacity that stands for no limit, 2^60, which is above every limited one.
 pub(crate) const UNLIMITED: u64 = 1 << 60;

@@ -10,9 +10,9 @@ use mm_base::NoMemory;
 use std::alloc::Global;
 use std::marker::Model;
 
-/// Nodes numbered from 0, and arcs between them, numbered from 0 in the order in which they were added.
+/// Nodes, and arcs between them. Both are numbered from 0, in the order in which they were added.
 ///
-/// A contract sees the graph and the room: how many more nodes and arcs are sure to find memory.
+/// Contracts see the graph and its room: the numbers of nodes and arcs for which memory is reserved.
 #[derive(Drop)]
 pub struct Network {
     nodes: u32,
@@ -50,7 +50,7 @@ impl Network {
         }
     }
 
-    /// A network with no node and no arc, and room for this many.
+    /// A network with no node and no arc, and room for these numbers of them.
     pub fn with_room(alloc: Global, nodes: u32, arcs: u32) -> Result<Network, NoMemory>
         requires nodes { nodes ≤ MAX_NODES }
         requires arcs { arcs ≤ MAX_ARCS }
@@ -66,7 +66,7 @@ impl Network {
         })
     }
 
-    /// How many more nodes and arcs are sure to find memory.
+    /// The numbers of nodes and arcs for which memory is reserved.
     #[must_use]
     pub fn room(&self) -> (u32, u32)
         ensures nodes { result.0 ≡ self.now.node_room }
@@ -105,7 +105,7 @@ impl Network {
         Ok(number)
     }
 
-    /// How many nodes the network has.
+    /// The number of nodes.
     #[must_use]
     pub fn node_count(&self) -> usize
         ensures count { result ≡ self.now.graph.nodes }
@@ -114,7 +114,7 @@ impl Network {
         self.nodes as usize
     }
 
-    /// How many arcs the network has.
+    /// The number of arcs.
     #[must_use]
     pub fn arc_count(&self) -> usize
         ensures count { result ≡ length self.now.graph.arcs }

@@ -9,8 +9,8 @@ use std::alloc::{AllocError, Global};
 
 /// A solver that moves flow along the paths of one level graph after another.
 ///
-/// In a phase each node has a cursor, the number of its entries that are left to try, and the entry by which a path last
-/// led on from it.
+/// In a phase each node has a cursor, which is the number of its entries that are left to try, and the entry by which a
+/// path last left it.
 #[derive(Drop)]
 pub(crate) struct Phase<'a> {
     pub(crate) tables: Tables<'a>,
@@ -49,8 +49,8 @@ impl<'a> Phase<'a> {
         }
     }
 
-    // Moves flow along the path by which the search reached the sink, and then along further paths of its levels until
-    // the cursors lead to none.
+    // Moves flow along the path by which the search reached the sink, then along further paths through its levels,
+    // until the cursors find none.
     pub(crate) fn block(&mut self)
         requires way { Reaches self.old.tables self.old.tables.sink }
         ensures task { SameTask self.old.tables self.new.tables }
@@ -63,7 +63,7 @@ impl<'a> Phase<'a> {
         }
     }
 
-    // Puts the sink above all levels, and lets each cursor begin with its node's last entry.
+    // Puts the sink above all levels, and each cursor at its node's last entry.
     fn begin(&mut self)
         ensures task { SameTask self.old.tables self.new.tables }
         ensures value { self.new.tables.value ≡ self.old.tables.value }
@@ -105,7 +105,7 @@ impl<'a> Phase<'a> {
         true
     }
 
-    // Takes a path from a node on one step back, if its cursor leads to a way.
+    // Extends a path backwards by one step from a node, if the node's cursor finds an entry.
     fn step_back(&mut self, at: u32) -> Option<u32>
         requires leads { LeadsFrom self.old at }
         ensures tables { self.new.tables ≡ self.old.tables }
@@ -128,7 +128,7 @@ impl<'a> Phase<'a> {
         Some(step.head)
     }
 
-    // Moves a node's cursor on to an entry whose twin leads up to the node.
+    // Advances a node's cursor to an entry whose twin leads up to the node.
     fn way_back(&self, at: u32) -> u32
         requires known { at < self.now.tables.residual.network.now.graph.nodes }
         ensures most { result ≤ slice_index self.now.next.items at }
@@ -156,7 +156,7 @@ impl<'a> Phase<'a> {
         below > 0 && below < height && self.tables.residual.capacity(back) > 0
     }
 
-    // Takes a path one step towards the sink again, and moves the cursor of the node there on.
+    // Shortens the path by one step towards the sink, and advances the cursor of the node there.
     fn retreat(&mut self, at: u32) -> u32
         requires leads { LeadsFrom self.old at }
         requires inner { at ≢ self.old.tables.sink }
@@ -172,7 +172,7 @@ impl<'a> Phase<'a> {
         to
     }
 
-    // Marks the nodes of the path anew, from the source on.
+    // Marks the nodes of the path again, from the source on.
     fn follow(&mut self)
         requires leads { LeadsFrom self.old self.old.tables.search.source }
         ensures task { SameTask self.old.tables self.new.tables }

@@ -9,7 +9,7 @@ use crate::links::{Links, Step};
 use crate::network::Network;
 use crate::search::Search;
 
-/// The residual network of a flow: a network, the entries that leave each node, and what each arc carries.
+/// The residual network of a flow: the network, the entries that leave each node, and the flow on each arc.
 #[derive(Drop)]
 pub(crate) struct Residual<'a> {
     pub(crate) network: &'a Network,
@@ -23,7 +23,7 @@ impl<'a> Residual<'a> {
     ghost use Rattle.mm_flow.specs.Levels.{IsLevelled, Carries};
     ghost use Rattle.mm_flow.specs.Balance.{Augments, KeepsSource};
 
-    // What an entry can still carry.
+    // The residual capacity of an entry.
     #[tactic(auto, unfolding(crate::specs::Residual::residual))]
     pub(crate) fn capacity(&self, entry: usize) -> u64
         requires { entry < entries self.now.network.now.graph }
@@ -41,7 +41,7 @@ impl<'a> Residual<'a> {
         }
     }
 
-    // Where the steps of a node begin, which is where those of the node before it end.
+    // The place where the steps of a node start and those of the previous node end.
     pub(crate) fn start(&self, node: usize) -> u32
         requires { node ≤ self.now.network.now.graph.nodes }
         ensures { result ≡ start self.now.network.now.graph node }
@@ -49,7 +49,7 @@ impl<'a> Residual<'a> {
         self.links.first[node]
     }
 
-    // How many entries leave a node.
+    // The number of entries that leave a node.
     pub(crate) fn degree(&self, node: usize) -> u32
         requires { node < self.now.network.now.graph.nodes }
         ensures { result ≡ degree self.now.network.now.graph node }
@@ -59,7 +59,7 @@ impl<'a> Residual<'a> {
         end - first
     }
 
-    // The step of a node at which this many of its steps are left.
+    // The step of a node at which this number of its steps are left.
     pub(crate) fn step(&self, node: u32, left: u32) -> Step
         requires node { node < self.now.network.now.graph.nodes }
         requires some { 0 < left }
@@ -86,7 +86,7 @@ impl<'a> Residual<'a> {
         search.push_along(self.network, &mut self.flow, sink, amount);
     }
 
-    // What each arc carries.
+    // The flow on each arc.
     pub(crate) fn into_flow(self) -> Vec<u64>
         ensures { result ≡ self.entry.flow }
     {
@@ -94,7 +94,7 @@ impl<'a> Residual<'a> {
     }
 }
 
-// How many entries the network has.
+// The number of entries.
 pub(crate) fn entry_count(network: &Network) -> usize
     ensures { result ≡ entries network.now.graph }
 {
@@ -142,7 +142,7 @@ pub(crate) fn head(network: &Network, entry: usize) -> u32
     tail(network, twin(network, entry))
 }
 
-// Moves this much along an entry: more on the arc forward, less on the arc backward.
+// Moves an amount along an entry: a forward entry adds to the flow of its arc, a backward one subtracts from it.
 pub(crate) fn push(network: &Network, flow: &mut [u64], entry: usize, amount: u64)
     requires entry { entry < entries network.now.graph }
     requires flow { length flow.old ≡ length network.now.graph.arcs }

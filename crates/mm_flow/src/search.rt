@@ -1,4 +1,4 @@
-//! A search by breadth through the residual network (Edmonds and Karp, 1972).
+//! A breadth-first search of the residual network (Edmonds and Karp, 1972).
 ghost use Rattle.std.specs.Prelude.{◌≡◌, ◌+◌, ◌<◌, ◌≤◌, ℕ, length, slice_index, IfOk, replicate, map, nat_lt};
 ghost use Rattle.mm_flow.specs.Flow.{IsWithin};
 ghost use Rattle.mm_flow.specs.Residual.{head, residual as residual_capacity};
@@ -11,8 +11,8 @@ use crate::network::Network;
 use crate::residual::{Residual, push, tail};
 use std::alloc::{AllocError, Global};
 
-/// How a node was reached: its level, one more than the entries on the path to it and 0 where there is none, and the
-/// last entry of the path.
+/// How a node was reached: the last entry of the path to it, and its level, which is the number of entries on the path
+/// and 1, or 0 if the node was not reached.
 #[derive(Clone, Copy)]
 pub(crate) struct Mark {
     pub(crate) level: u32,
@@ -21,8 +21,8 @@ pub(crate) struct Mark {
 
 const UNREACHED: Mark = Mark { level: 0, via: 0 };
 
-/// A search from a source along entries of at least a residual capacity: the nodes' marks, and the nodes in the order
-/// in which they were found, of which the first `done` were visited.
+/// A search from a source along entries with at least a given residual capacity: the marks of the nodes, and the nodes
+/// in the order in which they were found. The first `done` of these were visited.
 #[derive(Drop)]
 pub(crate) struct Search {
     pub(crate) source: u32,
@@ -39,7 +39,7 @@ impl Search {
     ghost use Rattle.mm_flow.specs.Balance.{IsCarried, Augments, KeepsSource};
     ghost use Rattle.mm_flow.specs.Levels.{IsLevelled, HasPath, Carries};
 
-    // A search from this source that has not begun.
+    // A search from this source before it starts.
     pub(crate) fn new(alloc: Global, network: &Network, source: u32) -> Result<Search, AllocError>
         requires { source < network.now.graph.nodes }
         ensures fits { IfOk result (Fits network.now.graph) }
@@ -56,7 +56,7 @@ impl Search {
         })
     }
 
-    // Marks all nodes that the source reaches along entries of at least this residual capacity.
+    // Marks all nodes that the source reaches along entries with at least this residual capacity.
     pub(crate) fn run(&mut self, residual: &Residual, least: u64)
         requires fits { Fits residual.now.network.now.graph self.old }
         ensures searched { HasSearched residual.now self.new least }
@@ -69,7 +69,7 @@ impl Search {
         }
     }
 
-    // Marks nodes as `run` does along entries that carry anything, and visits no further node once the sink is marked.
+    // Marks nodes as `run` does, along entries with any residual capacity, and stops once the sink is marked.
     pub(crate) fn run_to(&mut self, residual: &Residual, sink: u32)
         requires fits { Fits residual.now.network.now.graph self.old }
         requires sink { sink < residual.now.network.now.graph.nodes }
@@ -100,7 +100,7 @@ impl Search {
         self.done = 0;
     }
 
-    // Marks what the next node in the order leads to.
+    // Marks the nodes that the next node in the order leads to.
     fn visit(&mut self, residual: &Residual)
         requires search { IsSearching residual.now self.old }
         requires waits { self.old.done < self.old.found }
@@ -119,7 +119,7 @@ impl Search {
         self.done += 1;
     }
 
-    // Marks the node that a step of a node leads to, if that has no mark and the step's entry the residual capacity.
+    // Marks the node that a step of a node leads to, if it has no mark and the step's entry has the residual capacity.
     fn reach(&mut self, residual: &Residual, node: u32, step: Step)
         requires own { IsStep residual.now.network.now.graph node step }
         requires search { IsSearching residual.now self.old }
@@ -186,7 +186,7 @@ impl Search {
         }
     }
 
-    // Which nodes have a mark.
+    // For each node, whether it has a mark.
     pub(crate) fn side(&self, alloc: Global) -> Result<Vec<bool>, AllocError>
         ensures { IfOk result
             (λ side. side.items ≡ map (λ (m : Mark). nat_lt 0 m.level) self.now.marks.items) }
@@ -195,7 +195,7 @@ impl Search {
     }
 }
 
-// Takes every mark away.
+// Removes all marks.
 fn clear(marks: &mut [Mark])
     ensures { marks.new ≡ replicate (length marks.old) no_mark }
 {

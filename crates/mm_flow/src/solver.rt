@@ -13,8 +13,8 @@ use std::alloc::Global;
 
 /// A maximum flow from the source to the sink, and a minimum cut, by level graphs and blocking flows (Dinitz, 1970).
 ///
-/// `SameEnds` is tested first. Where a path of unlimited arcs leads from the source to the sink the answer is
-/// `Unbounded`. Want of memory aside, these are the only refusals.
+/// `SameEnds` is tested first. If a path of unlimited arcs leads from the source to the sink, the result is
+/// `Unbounded`. The only other refusal is out of memory.
 pub fn solve(alloc: Global, network: &Network, source: u32, sink: u32) -> Result<Solved, Fault>
     requires source { source < network.now.graph.nodes }
     requires sink { sink < network.now.graph.nodes }
@@ -22,7 +22,7 @@ pub fn solve(alloc: Global, network: &Network, source: u32, sink: u32) -> Result
     ensures begun { IfOk result (IsBegun network.now.graph source sink) }
     ensures same_ends { IsErrOf result Fault.SameEnds ↔ (source ≡ sink) }
 
-    // Want of memory aside, these two say exactly when the answer is `Unbounded`.
+    // Unless memory runs out, these two say exactly when the result is `Unbounded`.
     ensures unbounded { IsErrOf result Fault.Unbounded
         → (source ≢ sink) × HasUnlimitedPath network.now.graph source sink }
     ensures bounded { OnOk result (¬ HasUnlimitedPath network.now.graph source sink) }
@@ -32,11 +32,11 @@ pub fn solve(alloc: Global, network: &Network, source: u32, sink: u32) -> Result
     Ok(phase.tables.solved(alloc)?)
 }
 
-/// A maximum flow and a minimum cut, as by `solve`, found by going on from a flow: what an arc that leaves the source carries does not
-/// become less, since an augmenting path never comes back to the source.
+/// A maximum flow and a minimum cut, as by `solve`, found from a given flow. The flow on an arc from the source never
+/// becomes less, since an augmenting path never returns to the source.
 ///
-/// So sources in an order of priority are served best one after another: their arcs are opened in that order (Megiddo, 'Optimal flows in
-/// networks with multiple sources and sinks', 1974).
+/// So sources with an order of priority can be served one after another, by opening their arcs in that order (Megiddo,
+/// 'Optimal flows in networks with multiple sources and sinks', 1974).
 pub fn solve_from(
     alloc: Global,
     network: &Network,

@@ -1,4 +1,4 @@
-//! A solver at work: its tables, all reserved before its first augmentation, and the flow so far.
+//! The tables of a solver, all reserved before its first augmentation, and the flow so far.
 ghost use Rattle.std.specs.Prelude.{◌≡◌, ◌<◌, true, false, IfOk};
 ghost use Rattle.mm_flow.specs.Balance.{IsBegun};
 ghost use Rattle.mm_flow.specs.Refusing.{RefusesFaults};
@@ -14,7 +14,7 @@ use crate::search::{Mark, Search};
 use crate::solved::Solved;
 use std::alloc::{AllocError, Global};
 
-/// The residual network of a flow of this value to the sink, and the last search from the source.
+/// The residual network of a flow to the sink, the value of the flow, and the last search from the source.
 #[derive(Drop)]
 pub(crate) struct Tables<'a> {
     pub(crate) residual: Residual<'a>,
@@ -28,7 +28,7 @@ impl<'a> Tables<'a> {
     ghost use Rattle.mm_flow.specs.Residual.{tail, head};
     ghost use Rattle.mm_flow.specs.Task.{IsTask, SameTask, SameLevels, IsOpen, Reaches, IsOver};
 
-    // Tables with a flow of nothing, unless a path of unlimited arcs leads from the source to the sink.
+    // Tables with the flow of zeros, unless a path of unlimited arcs leads from the source to the sink.
     pub(crate) fn new(
         alloc: Global,
         network: &'a Network,
@@ -63,7 +63,7 @@ impl<'a> Tables<'a> {
         })
     }
 
-    // Takes this flow in place of nothing.
+    // Takes this flow in place of the zeros.
     pub(crate) fn begin_with(&mut self, begun: Solved)
         requires begun { IsBegun self.old.residual.network.now.graph self.old.search.source
             self.old.sink begun }
@@ -75,7 +75,7 @@ impl<'a> Tables<'a> {
         self.value = begun.value;
     }
 
-    // Searches anew, and answers whether the sink was reached.
+    // Searches again, and returns whether the sink was reached.
     pub(crate) fn search_anew(&mut self) -> bool
         ensures task { SameTask self.old self.new }
         ensures value { self.new.value ≡ self.old.value }
@@ -86,7 +86,7 @@ impl<'a> Tables<'a> {
         self.search.marks[self.sink as usize].level > 0
     }
 
-    // Searches anew, no further than to the sink, and answers whether it was reached.
+    // Searches again, up to the sink, and returns whether it was reached.
     pub(crate) fn search_to_sink(&mut self) -> bool
         ensures task { SameTask self.old self.new }
         ensures value { self.new.value ≡ self.old.value }
@@ -119,7 +119,7 @@ impl<'a> Tables<'a> {
         };
     }
 
-    // Lets a path go on by an entry that leads up from its last node, and returns the node that the entry leads to.
+    // Extends a path by an entry that leads up from its last node, and returns the node that the entry leads to.
     pub(crate) fn reach_by(&mut self, entry: u32) -> u32
         requires up { IsOpen self.old entry }
         requires path { Reaches self.old (tail self.old.residual.network.now.graph entry) }
@@ -133,7 +133,7 @@ impl<'a> Tables<'a> {
         to
     }
 
-    // The flow, with the nodes that the search reached as the source's side.
+    // The flow, with the nodes that the search reached as the source side.
     pub(crate) fn solved(self, alloc: Global) -> Result<Solved, AllocError>
         requires over { IsOver self }
         ensures solved { IfOk result (IsSolved self.entry.residual.network.now.graph

@@ -90,7 +90,7 @@ module _ (q : Dumping) (a b : Inflows) (more : (t s : ℕ) → a t s ≤ b t s) 
         arcs_by_kind q b (λ k (arc : Arc). cond (at arc.from arc.to) (f k) 0),
       )
 
-  -- so it is with what enters a node, and with what leaves it
+  -- the same for what enters a node, and for what leaves it
   entering_same : (n : ℕ) → entering (net_by q b) f n ≡ entering (net_by q a) f n
   unfolding entering
   entering_same n = chosen_same (λ _ to. eqb to n)
@@ -99,7 +99,7 @@ module _ (q : Dumping) (a b : Inflows) (more : (t s : ℕ) → a t s ≤ b t s) 
   unfolding leaving
   leaving_same n = chosen_same (λ from _. eqb from n)
 
-  -- a solver may go on from the flow
+  -- a solver can continue from the flow
   augmented_more : (value : ℕ) → IsAugmented (net_by q a) SOURCE SINK f value
       → IsAugmented (net_by q b) SOURCE SINK f value
   augmented_more value augmented = record {
@@ -127,7 +127,7 @@ first_more k n q few t s = elim (cases_lt s k) [
   | inr past ↦ omega (arith, cond-false (ltb s k) (inflow q t s) 0 (le-ltb s k past))
 ]
 
--- a solver may go on from a flow where no more are open
+-- a solver can continue from a flow if no other arcs are open
 pub begun_on : (k : ℕ) (q : Dumping) (s : Solved) → IsBegunBy k q s
     → IsBegun (net_by q (first_inflow k q)) SOURCE SINK s
 begun_on k q s by = begun_more q (first_inflow by.stores q) (first_inflow k q) s (first_more by.stores k q by.few)
@@ -166,7 +166,7 @@ module _ (q : Dumping) (a : Inflows) (old new : Flow) (kept : KeepsSource (net_b
         term-le-grid (λ u r. come q old u r - come q new u r) (length q.windows) (length q.rows) t s first last below,
       )
 
--- a cut of the first stores goes on to cover
+-- a cut of the first stores covers a later flow too
 pub covered_more : (k : ℕ) (q : Dumping) (a : Inflows) (old new : Flow) (c : Cut) → k ≤ length q.rows
     → KeepsSource (net_by q a) SOURCE old new → IsCovered k q old c → IsCovered k q new c
 covered_more k q a old new c few kept covered = record {

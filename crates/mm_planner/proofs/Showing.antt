@@ -54,7 +54,7 @@ shows_least q x c shape fits filled shows =
       bound = sym shows.bound ∙ shows.tight;
     }
 
--- so it is shown with those of the first stores
+-- the same with certificates of the first stores
 pub shown_by : (q : Dumping) (p : Planned) (n : ℕ) → IsTable p.plan → HasShape q p.plan → Fits q (amount p.plan)
     → IsFilled q (amount p.plan) → n ≡ length q.rows → ShowsFirst n q (amount p.plan) p.certificate
     → p.certificate.loss ≤ 2 * MAX_BLOCKS * MAX_STEPS * MAX_STORES → ShowFirsts q (amount p.plan) p.firsts.items

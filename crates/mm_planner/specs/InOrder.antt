@@ -13,22 +13,22 @@ use Rattle.mm_cut.specs.Firsts.{ShowFirsts}
 use Rattle.mm_planner.specs.declared.planner.Planned.{Planned}
 use Rattle.mm_planner.specs.Planned.{IsPlan}
 
--- a cut of the first stores whose bound is what they lose by a plan: so no plan loses less of them
+-- a cut of the first stores whose bound is their loss by a plan, so that no plan loses less of them
 pub record CutShows (k : ℕ) (q : Dumping) (x : Table) (c : Cut) : Type 0 where
   pub cut : IsFirstCut k q c.stretches.items c.by_channels.items
   pub bound : bound q c.stretches.items c.by_channels.items ≡ pos (first_loss k q (amount x))
 
--- the cuts are of the first store, of the first two and so on, and each is such a cut
+-- such a cut for the first store, for the first two and so on
 abbrev pub CutsShow : Dumping → Table → List Cut → Type 0
 CutsShow q x cuts = (k : ℕ) (c : Cut) → k < length cuts → CutShows (k + 1) q x (slice_index_or cuts k c)
 
--- so is a cut of all stores
+-- such a cut of all stores
 pub record AllShow (q : Dumping) (x : Table) (c : Cut) (firsts : List Cut) : Type 0 where
   pub all : CutShows (length q.rows) q x c
   pub each : CutsShow q x firsts
 
--- the plan loses least in the order of the stores, and of the first store, of the first two and so on up to all but one
--- a certificate shows that no plan loses less
+-- the plan loses least in the order of the stores, and certificates show for the first store, the first two and so on,
+-- up to all but one, that no plan loses less
 pub record ShowsInOrder (q : Dumping) (x : Table) (certificates : List CertificateRows) : Type 0 where
   pub least : IsLeastInOrder q (amount x)
   pub count : length certificates + 1 ≡ length q.rows

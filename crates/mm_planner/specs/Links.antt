@@ -1,4 +1,4 @@
--- The arcs of the network as the code has them, between nodes.
+-- The arcs of the network as the code represents them, between nodes.
 use Rattle.std.specs.Prelude.{◌<◌, ◌≤◌}
 use Rattle.std.specs.Option.{ForSome}
 use Rattle.mm_problem.specs.Dumping.{Dumping}
@@ -8,11 +8,11 @@ use Rattle.mm_planner.specs.declared.arcs.Link.{Link}
 use Rattle.mm_planner.specs.Nodes.{number_of}
 use Rattle.mm_planner.specs.Network.{joined, net}
 
--- the arc that a link is
+-- the arc of a link
 abbrev pub arc_of : Link → Arc
 arc_of link = joined link.from link.to link.capacity
 
--- its nodes are the network's, and its capacity is one that an arc may have
+-- a link between nodes of the network, with a capacity within the limit
 pub record IsLink (q : Dumping) (link : Link) : Type 0 where
   pub from : number_of link.from < (net q).nodes
   pub to : number_of link.to < (net q).nodes

@@ -1,5 +1,6 @@
 -- The network of a problem: blocks flow from what arrives, through the stores, to the pass windows.
-use Rattle.std.specs.Prelude.{ℕ, ◌+◌, ◌*◌, ◌==◌, nat_lt, if◌then◌else◌, Option, List, [], ◌∷◌, ◌++◌, length, map, Some, None}
+use Rattle.std.specs.Prelude.{ℕ, ◌+◌, ◌*◌, ◌==◌, nat_lt, if◌then◌else◌, Option, List, [], ◌∷◌, ◌++◌, length, map, Some}
+use Rattle.std.specs.Prelude.{None}
 use Rattle.std.specs.List.{flat_map, range_with_len}
 use Rattle.mm_problem.specs.Dumping.{Dumping, size, start, channel, limit, window, arrivals, stores, channels}
 use Rattle.mm_flow.specs.declared.arc.Arc.{Arc}
@@ -15,49 +16,50 @@ use Rattle.mm_planner.specs.Nodes.{number_of}
 abbrev pub joined : Node → Node → Option ℕ → Arc
 joined a b most = record { from = number_of a; to = number_of b; capacity = most }
 
--- where the blocks go that a store keeps: into its next step, and after the last step to the sink
+-- the node that receives the blocks which a store keeps: its input in the next step, and after the last step the sink
 abbrev pub next_node : Dumping → ℕ → ℕ → Node
 next_node q t s = if t == length q.windows then Sink else In (t + 1) s
 
--- what comes to a store in a step: its arrivals, and in the first step its start volume
+-- the inflow of a store in a step: its arrivals, and in the first step also its start volume
 abbrev pub inflow : Dumping → ℕ → ℕ → ℕ
 inflow q t s = arrivals q s t + (if t == 1 then start q s else 0)
 
--- how many blocks come to each store in each step
+-- the inflow of each store in each step
 abbrev pub Inflows : Type 0
 Inflows = ℕ → ℕ → ℕ
 
--- what comes where the first stores alone get anything
+-- the inflow if blocks arrive in the first stores only
 abbrev pub first_inflow : ℕ → Dumping → Inflows
 first_inflow k q t s = if nat_lt s k then inflow q t s else 0
 
--- the arc for what the blocks of a store do in a step: so many come, the store holds as many as its size, it keeps them for the next
--- step, or they leave it
+-- the arc of a store in a step, by its kind: blocks arrive, the store holds at most its size, keeps them for the next
+-- step, or dumps them
 abbrev pub store_arc : Dumping → Inflows → Way → ℕ → ℕ → Arc
 store_arc q a Come t s = joined Source (In t s) (Some (a t s))
 store_arc q a Hold t s = joined (In t s) (Out t s) (Some (size q s))
 store_arc q a Keep t s = joined (Out t s) (next_node q t s) None
 store_arc q a Take t s = joined (Out t s) (Channel t (channel q s)) None
 
--- a channel lets through as many as its limit in the step
+-- the arc of a channel, with its limit in the step
 abbrev pub limit_arc : Dumping → ℕ → ℕ → Arc
 limit_arc q t c = joined (Channel t c) (Pass t) (limit q c t)
 
--- the pass lets through as many as its window
+-- the arc of the pass, with the step's window
 abbrev pub window_arc : Dumping → ℕ → Arc
 window_arc q t = joined (Pass t) Sink (Some (window q t))
 
 -- the arcs of a step, kind by kind
 abbrev pub step_arcs : Dumping → Inflows → ℕ → List Arc
 step_arcs q a t =
-    map (store_arc q a Come t) (stores q) ++ map (store_arc q a Hold t) (stores q) ++ map (store_arc q a Keep t) (stores q)
+    map (store_arc q a Come t) (stores q) ++ map (store_arc q a Hold t) (stores q)
+    ++ map (store_arc q a Keep t) (stores q)
     ++ map (store_arc q a Take t) (stores q) ++ map (limit_arc q t) (channels q) ++ window_arc q t ∷ []
 
 -- the arcs of the steps from the first on
 abbrev pub arcs_of : Dumping → Inflows → ℕ → List Arc
 arcs_of q a n = flat_map (step_arcs q a) (range_with_len 1 n)
 
--- the network of a problem to which so many blocks come; the nodes that no arc touches are harmless
+-- the network of a problem with these inflows; it may have nodes without arcs
 abbrev pub net_by : Dumping → Inflows → Graph
 net_by q a = record { nodes = STEP_NODES * (length q.windows + 1); arcs = arcs_of q a (length q.windows) }
 

@@ -4,7 +4,7 @@ use Rattle.mm_planner.specs.declared.nodes.Node.{Node}
 use Rattle.mm_planner.specs.declared.nodes.Node.TheVariants.{Source, Sink, In, Out, Channel, Pass}
 use Rattle.mm_planner.specs.declared.nodes.TheConstants.{SOURCE, SINK, STEP_NODES, OUT_NODES, CHANNEL_NODES, PASS_NODE}
 
--- the step that a node is of; 0 for the two ends
+-- the step of a node, 0 for the two ends
 abbrev pub step_of : Node → ℕ
 step_of Source = 0
 step_of Sink = 0
@@ -13,7 +13,7 @@ step_of (Out t s) = t
 step_of (Channel t c) = t
 step_of (Pass t) = t
 
--- the place of a node among those of its step
+-- the place of a node within its step
 abbrev pub place_of : Node → ℕ
 place_of Source = SOURCE
 place_of Sink = SINK

@@ -12,35 +12,37 @@ use Rattle.mm_planner.specs.declared.nodes.TheConstants.{SOURCE, SINK}
 use Rattle.mm_planner.specs.Network.{Inflows, inflow, first_inflow, net_by}
 use Rattle.mm_planner.specs.Taken.{first_arc}
 
--- what a flow brings to each store
+-- the inflow of each store by a flow
 abbrev pub brought : Dumping → Flow → Inflows
 brought q f t s = f (first_arc q t + s)
 
--- what comes to the first stores over all steps
+-- the inflow of the first stores over all steps
 abbrev pub first_sum : ℕ → Dumping → Inflows → ℕ
 first_sum k q a = sum_by (λ t. sum_by (a t) (range_with_len 0 k)) (steps q)
 
--- what comes to the first stores, and a flow does not bring, is at most the bound of a cut of them
+-- the blocks that arrive in the first stores and are not in the flow are at most the bound of a cut of these stores
 pub record IsCovered (k : ℕ) (q : Dumping) (f : Flow) (c : Cut) : Type 0 where
   pub cut : IsFirstCut k q c.stretches.items c.by_channels.items
   pub covers : first_sum k q
       (inflow q) + (held_sum q c.stretches.items + leaving_sum q c.stretches.items c.by_channels.items) ≤ coming_sum q
       c.stretches.items + first_sum k q (brought q f)
 
--- a flow where the arcs of no more than that many of the first stores are open
+-- a flow with the arcs of at most this number of the first stores open
 pub record IsBegunBy (k : ℕ) (q : Dumping) (s : Solved) : Type 0 where
   pub stores : ℕ
   pub few : stores ≤ k
   pub begun : IsBegun (net_by q (first_inflow stores q)) SOURCE SINK s
 
--- the flow goes on from one before, where the arcs of the first stores are open, and a cut covers them
+-- a maximum flow with the arcs of the first stores open, which continues from an earlier one, and a cut that covers
+-- these stores
 pub record IsOpened (k : ℕ) (q : Dumping) (old new : Solved) (c : Cut) : Type 0 where
   pub solved : IsSolved (net_by q (first_inflow k q)) SOURCE SINK new
   pub begun : IsBegun (net_by q (first_inflow k q)) SOURCE SINK new
   pub kept : KeepsSource (net_by q (first_inflow k q)) SOURCE (slice_index old.flow.items) (slice_index new.flow.items)
   pub covered : IsCovered k q (slice_index new.flow.items) c
 
--- of the first store, of the first two and so on to these there is such a cut, and no other store's arcs are open
+-- for the first store, the first two and so on, up to this number, there is such a cut, and no other store's arcs are
+-- open
 pub record AreOpened (k : ℕ) (q : Dumping) (s : Solved) (cuts : List Cut) : Type 0 where
   pub begun : IsBegun (net_by q (first_inflow k q)) SOURCE SINK s
   pub count : length cuts ≡ k

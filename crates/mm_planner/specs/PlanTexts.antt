@@ -24,15 +24,15 @@ pub record IsInOrder (s : SheetRows) : Type 0 where
   pub cut : IsSortedByKey (stretch_key s.stores) key_cmp s.cut
   pub counts : IsNonDecreasing s.by_channels
 
--- the text says this sheet for the problem, in the order in which sheets are printed, and the sheet shows that its plan
--- loses least: loss and bound are as it says, and are one number
+-- the text is that of this sheet of the problem, in printing order, and the sheet shows that its plan loses least: its
+-- loss and its bound are right, and are the same number
 pub record PlansFor (q : Dumping) (text : List ℕ) (sheet : SheetRows) : Type 0 where
   pub says_sheet : SaysSheet q text sheet
   pub shows_least : ShowsLeast q sheet.plan sheet.cut sheet.by_channels sheet.loss
   pub tight : sheet.bound ≡ pos sheet.loss
   pub in_order : IsInOrder sheet
 
--- the sheet says nothing of the first stores
+-- the sheet has no certificates of the first stores
 abbrev pub IsPlain : Dumping → SheetRows → Type 0
 IsPlain q sheet = sheet.firsts ≡ None
 
@@ -42,12 +42,12 @@ pub record SheetShowsInOrder (q : Dumping) (sheet : SheetRows) : Type 0 where
   pub has : sheet.firsts ≡ Some certificates
   pub in_order : ShowsInOrder q sheet.plan certificates
 
--- what a sheet says besides, by what its plan is made for
+-- what else a sheet shows, by the goal of its plan
 abbrev pub Shows : Goal → Dumping → SheetRows → Type 0
 Shows goal.Least = IsPlain
 Shows goal.InOrder = SheetShowsInOrder
 
--- a sheet for the problem that shows that its plan loses least, and besides that
+-- a sheet for the problem that shows that its plan loses least, and a further fact
 pub record IsSheetFor (Besides : Dumping → SheetRows → Type 0) (q : Dumping) (s : SheetRows) : Type 0 where
   pub is_sheet : IsSheet s
   pub shape : IsShapedFor q s
@@ -55,23 +55,23 @@ pub record IsSheetFor (Besides : Dumping → SheetRows → Type 0) (q : Dumping)
   pub tight : s.bound ≡ pos s.loss
   pub besides : Besides q s
 
--- the plan and its text, which says a sheet that shows that the plan loses least, and besides that
+-- a plan and its text, which is that of a sheet that shows that the plan loses least, and a further fact
 pub record IsPrintedAs (Besides : Dumping → SheetRows → Type 0) (q : Dumping) (printed : PrintedPlan) : Type 0 where
   pub sheet : SheetRows
   pub plans : PlansFor q printed.text.items sheet
   pub besides : Besides q sheet
   pub plan_is : printed.sheet.plan ≡ sheet.plan
 
--- the plan and its text, which says the plan, and nothing of the first stores
+-- a plan and its text, which has the plan and no certificates of the first stores
 abbrev pub IsPrintedFor : Dumping → PrintedPlan → Type 0
 IsPrintedFor q printed = IsPrintedAs IsPlain q printed
 
--- the plan and its text, which says the plan, and shows that it loses least in the order of the stores
+-- a plan and its text, which has the plan, and shows that it loses least in the order of the stores
 abbrev pub IsPrintedInOrder : Dumping → PrintedPlan → Type 0
 IsPrintedInOrder q printed = IsPrintedAs SheetShowsInOrder q printed
 
--- the text says a sheet for the problem that the setup and the forecast say, and the sheet shows that its plan loses
--- least, and besides that
+-- the text is that of a sheet for the problem of the setup and the forecast, and the sheet shows that its plan loses
+-- least, and a further fact
 pub record PlansAs (Besides : Dumping → SheetRows → Type 0) (setup forecast text : List ℕ) : Type 0 where
   pub problem : Dumping
   pub sheet : SheetRows
@@ -79,7 +79,7 @@ pub record PlansAs (Besides : Dumping → SheetRows → Type 0) (setup forecast 
   pub plans : PlansFor problem text sheet
   pub besides : Besides problem sheet
 
--- the sheet says nothing of the first stores
+-- the sheet has no certificates of the first stores
 abbrev pub PlansLeast : List ℕ → List ℕ → List ℕ → Type 0
 PlansLeast setup forecast text = PlansAs IsPlain setup forecast text
 
@@ -87,24 +87,24 @@ PlansLeast setup forecast text = PlansAs IsPlain setup forecast text
 abbrev pub PlansLeastInOrder : List ℕ → List ℕ → List ℕ → Type 0
 PlansLeastInOrder setup forecast text = PlansAs SheetShowsInOrder setup forecast text
 
--- the first fault of the setup and the forecast; want of memory is none, whoever lacked it
+-- the first fault of the setup and the forecast; being out of memory is not one
 abbrev pub IsPlanningFault : List ℕ → List ℕ → Fault → Type 0
 IsPlanningFault setup forecast NoMemory = ⊥
 IsPlanningFault setup forecast (Problem problem.NoMemory) = ⊥
 IsPlanningFault setup forecast (Problem e) = problem_in setup forecast ≡ Err e
 IsPlanningFault setup forecast (Plan e) = ⊥
 
--- of a text that plans so only that verdict is said, of the loss of its plan
+-- the only verdict on a text with such a plan is this one, with the loss of the plan
 abbrev CheckAs : (Dumping → SheetRows → Type 0) → (ℕ → Verdict) → Type 0
 CheckAs Besides says =
     (setup forecast text : List ℕ) (planned : PlansAs Besides setup forecast text) (v : Verdict)
     → Checks setup forecast text v
     → v ≡ says (loss planned.problem (amount planned.sheet.plan))
 
--- what is said of a text that plans least is `Least` of the loss of its plan
+-- the verdict on a text of a least plan is `Least`, with the loss of the plan
 abbrev pub PlansCheckLeast : Type 0
 PlansCheckLeast = CheckAs IsPlain Least
 
--- of a text that plans least in the order of the stores it is `LeastInOrder`
+-- the verdict on a text of a plan that is least in the order of the stores is `LeastInOrder`
 abbrev pub PlansCheckLeastInOrder : Type 0
 PlansCheckLeastInOrder = CheckAs SheetShowsInOrder LeastInOrder

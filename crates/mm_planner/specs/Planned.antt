@@ -1,4 +1,4 @@
--- What a planner gives: a plan that loses least, and a cut that shows it.
+-- The result of a planner: a plan that loses least, and a cut that shows it.
 use Rattle.std.specs.Prelude.{◌≡◌, ℕ, ◌*◌, ◌≤◌, List, pos, All}
 use Rattle.mm_base.specs.declared.limits.TheConstants.{MAX_STORES, MAX_STEPS, MAX_BLOCKS}
 use Rattle.mm_problem.specs.Dumping.{Dumping, IsDumping}
@@ -19,8 +19,8 @@ use Rattle.mm_planner.specs.Network.{net}
 use Rattle.mm_planner.specs.Taken.{AreTaken}
 use Rattle.mm_planner.specs.Runs.{stretches, counts}
 
--- the plan has the problem's shape, loses least and leaves no window idle, the cut is well formed, and its bound and
--- the plan's loss are n: so the cut shows that the plan loses least
+-- the plan has the problem's shape, loses least and leaves no window idle, and the cut is well formed and shows it: its
+-- bound and the plan's loss are n
 pub record ShowsLeast (q : Dumping) (x : Table) (ds : List Stretch) (ts : List ℕ) (n : ℕ) : Type 0 where
   pub shape : HasShape q x
   pub least : IsLeast q (amount x)
@@ -40,7 +40,7 @@ pub record IsPlan (q : Dumping) (p : Planned) : Type 0 where
   pub is_table : IsTable p.plan
   pub most : p.certificate.loss ≤ 2 * MAX_BLOCKS * MAX_STEPS * MAX_STORES
 
--- such a plan, with certificates that show what the first store loses by it, the first two and so on
+-- such a plan, with certificates that show the loss of the first store, of the first two and so on
 pub record IsShown (q : Dumping) (p : Planned) : Type 0 where
   pub plan : IsPlan q p
   pub firsts : ShowFirsts q (amount p.plan) p.firsts.items

@@ -1,4 +1,4 @@
--- The cut that a side of the network says: its stretches are the greatest runs of one store's nodes on the side.
+-- The cut of a side of the network: its stretches are the longest runs of one store's nodes on the side.
 use Rattle.std.specs.Prelude.{ℕ, zero, suc, Bool, not, ◌&&◌, if◌then◌else◌, List, length, map, filter}
 use Rattle.std.specs.List.{flat_map, range_with_len}
 use Rattle.mm_problem.specs.Dumping.{Dumping, row, steps}
@@ -13,15 +13,15 @@ use Rattle.mm_planner.specs.Nodes.{number_of}
 abbrev pub is_on : Side → Node → Bool
 is_on side node = side (number_of node)
 
--- whether both nodes of a store in a step are on the side, so that its run goes on into the next step
+-- whether both nodes of a store in a step are on the side, so that its run continues in the next step
 abbrev pub goes_on : Side → ℕ → ℕ → Bool
 goes_on side s t = is_on side (In t s) && is_on side (Out t s)
 
--- whether a run of the store ends with the step: it comes into the step and does not go on
+-- whether a run of the store ends with the step: it enters the step and does not continue
 abbrev pub is_end : Side → ℕ → ℕ → Bool
 is_end side s t = is_on side (In t s) && not (is_on side (Out t s))
 
--- the first step of the run that a step is in; for step 1 it is 1, whatever the side
+-- the first step of the run that a step is in; for step 1 it is always 1
 abbrev pub first_step : Side → ℕ → ℕ → ℕ
 first_step side s zero = 1
 first_step side s (suc t) = if goes_on side s t then first_step side s t else suc t
@@ -46,14 +46,14 @@ stretches q side = first_stretches (length q.rows) q side
 abbrev pub is_by_channels : Side → List Stretch → ℕ → Bool
 is_by_channels side ds t = is_inner ds t && not (is_on side (Pass t))
 
--- the steps that count by channels, of given stretches
+-- the steps that are counted by channels, for given stretches
 abbrev pub counts_of : Dumping → Side → List Stretch → List ℕ
 counts_of q side ds = filter (is_by_channels side ds) (steps q)
 
--- those of the side's own stretches of the first stores
+-- the counted steps for the side's own stretches of the first stores
 abbrev pub first_counts : ℕ → Dumping → Side → List ℕ
 first_counts n q side = counts_of q side (first_stretches n q side)
 
--- those of all its stretches
+-- the counted steps for all of the side's stretches
 abbrev pub counts : Dumping → Side → List ℕ
 counts q side = first_counts (length q.rows) q side

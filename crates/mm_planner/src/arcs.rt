@@ -22,7 +22,8 @@ pub(crate) struct Link {
     pub(crate) capacity: Option<u64>,
 }
 
-// The blocks that come to a store in a step, with those that it holds as the first step begins, if it is one of the first.
+// The blocks that arrive in a store in a step, and in the first step its start volume; 0 if it is not one of the first
+// stores.
 fn inflow(problem: &Problem, first: usize, step: u32, store: usize) -> u64
     requires store { store < length problem.now.rows }
     requires step { IsStep problem.now step }
@@ -40,7 +41,7 @@ fn inflow(problem: &Problem, first: usize, step: u32, store: usize) -> u64
     }
 }
 
-// Where the blocks go that a store keeps.
+// The node that receives the blocks which a store keeps.
 fn next_node(problem: &Problem, step: u32, store: usize) -> Node
     requires step { IsStep problem.now step }
     ensures next { result ≡ next_node problem.now step store }
@@ -65,7 +66,7 @@ fn limit(problem: &Problem, channel: u8, step: u32) -> Option<u64>
     }
 }
 
-// The arc for what the blocks of a store do in a step, where blocks come to the first stores alone.
+// The arc of a store in a step, if blocks arrive in the first stores only.
 fn store_link(problem: &Problem, first: usize, way: Way, step: u32, store: usize) -> Link
     requires step { IsStep problem.now step }
     requires store { store < length problem.now.rows }
@@ -140,7 +141,7 @@ fn add_link(network: &mut Network, problem: &Problem, link: Link) -> Result<(), 
     Ok(())
 }
 
-// Adds what the blocks of each store do in one way.
+// Adds the arcs of one kind, one for each store.
 fn add_store_arcs(
     network: &mut Network,
     problem: &Problem,
@@ -162,7 +163,7 @@ fn add_store_arcs(
     Ok(())
 }
 
-// Each channel lets through as many as its limit in the step.
+// Adds the arcs of the channels, each with its limit in the step.
 fn add_limit_arcs(network: &mut Network, problem: &Problem, step: u32) -> Result<(), NoMemory>
     requires step { IsStep problem.now step }
     requires room { HasRoom problem.now network.old.graph MAX_STORES }
@@ -178,7 +179,7 @@ fn add_limit_arcs(network: &mut Network, problem: &Problem, step: u32) -> Result
     Ok(())
 }
 
-// The pass lets through as many as its window.
+// Adds the arc of the pass, with the step's window.
 fn add_window_arc(network: &mut Network, problem: &Problem, step: u32) -> Result<(), NoMemory>
     requires room { HasRoom problem.now network.old.graph MAX_STORES }
     requires step { IsStep problem.now step }
@@ -189,7 +190,7 @@ fn add_window_arc(network: &mut Network, problem: &Problem, step: u32) -> Result
     add_link(network, problem, link)
 }
 
-// All arcs of a step, where blocks come to the first stores alone.
+// Adds all arcs of a step, if blocks arrive in the first stores only.
 pub(crate) fn add_step(
     network: &mut Network,
     problem: &Problem,

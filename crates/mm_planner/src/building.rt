@@ -1,4 +1,4 @@
-//! The network of a problem, built within room that is reserved before.
+//! The network of a problem, built in memory that is reserved first.
 ghost use Rattle.std.specs.Prelude.{◌≡◌, ◌+◌, ◌*◌, ◌≤◌, length, IfOk, OnOk, []};
 ghost use Rattle.mm_base.specs.declared.limits.TheConstants.{MAX_STORES, MAX_STEPS, CHANNELS};
 ghost use Rattle.mm_problem.specs.Dumping.{IsDumping};
@@ -14,7 +14,7 @@ use mm_flow::Network;
 use mm_problem::Problem;
 use std::alloc::Global;
 
-// How many arcs a step has.
+// The number of arcs for each step.
 pub(crate) fn step_width(problem: &Problem) -> u32
     ensures width { result ≡ step_width problem.now }
     ensures most { result ≤ 4 * MAX_STORES + CHANNELS + 1 }
@@ -23,7 +23,7 @@ pub(crate) fn step_width(problem: &Problem) -> u32
     4 * problem.stores() as u32 + u32::from(problem.channels()) + 1
 }
 
-// Adds this many nodes.
+// Adds this number of nodes.
 fn add_nodes(network: &mut Network, nodes: u32) -> Result<(), NoMemory>
     requires none { network.old.graph ≡ nodes_alone 0 }
     requires most { nodes ≤ MAX_NODES }
@@ -47,7 +47,7 @@ fn add_arcs(network: &mut Network, problem: &Problem, first: usize) -> Result<()
     Ok(())
 }
 
-/// The network of a problem where blocks come to the first stores alone.
+/// The network of a problem, if blocks arrive in the first stores only.
 pub(crate) fn first_network(
     alloc: Global,
     problem: &Problem,
@@ -65,8 +65,8 @@ pub(crate) fn first_network(
     Ok(network)
 }
 
-/// The network of a problem: blocks flow from `SOURCE` through its stores and channels to `SINK`. As many as a greatest flow carries
-/// need not be lost.
+/// The network of a problem: blocks flow from `SOURCE` through its stores and channels to `SINK`. A maximum flow has
+/// the most blocks that need not be lost.
 pub fn network_of(alloc: Global, problem: &Problem) -> Result<Network, NoMemory>
     ensures built { IfOk result (λ network. network.graph ≡ net problem.now) }
     ensures problem { IsDumping problem.now }

@@ -1,5 +1,4 @@
-//! Plans by the network of the problem alone. The arcs by which blocks come to the stores are opened one store after
-//! another.
+//! Plans by the network of the problem alone. The arcs by which blocks arrive are opened store by store.
 ghost use Rattle.std.specs.Prelude.{◌≡◌, ◌+◌, ◌≤◌, length, slice_index, IfOk};
 ghost use Rattle.mm_problem.specs.Dumping.{IsDumping};
 ghost use Rattle.mm_flow.specs.Balance.{IsBegun, KeepsSource};
@@ -23,7 +22,7 @@ use mm_plan::{Cut, fill};
 use mm_problem::Problem;
 use std::alloc::Global;
 
-// A flow of nothing.
+// The flow of zeros.
 fn nothing(alloc: Global, problem: &Problem) -> Result<Solved, NoMemory>
     ensures begun { IfOk result
         (IsBegun (net_by problem.now (first_inflow 0 problem.now)) SOURCE SINK) }
@@ -37,8 +36,8 @@ fn nothing(alloc: Global, problem: &Problem) -> Result<Solved, NoMemory>
     })
 }
 
-// Goes on from a flow once the arcs of that many of the first stores are open. Since no unlimited arc leaves the source
-// there is a solution.
+// Continues from a flow after the arcs of the first stores were opened. There is a solution, since no unlimited arc
+// leaves the source.
 fn next_solved(
     alloc: Global,
     problem: &Problem,
@@ -63,7 +62,7 @@ fn next_solved(
     }
 }
 
-// The cut of the first stores that a side says.
+// The cut of the first stores by a side.
 fn cut_of(alloc: Global, problem: &Problem, first: usize, side: &[bool]) -> Result<Cut, NoMemory>
     requires { first ≤ length problem.now.rows }
     ensures stretches { IfOk result
@@ -79,7 +78,7 @@ fn cut_of(alloc: Global, problem: &Problem, first: usize, side: &[bool]) -> Resu
     })
 }
 
-// The flow once the arcs of that many of the first stores are open, and their cut.
+// A maximum flow with the arcs of the first stores open, and their cut.
 fn opened_to(
     alloc: Global,
     problem: &Problem,
@@ -97,7 +96,7 @@ fn opened_to(
     Ok((solved, cut))
 }
 
-// The flow once the arcs of that many of the first stores are open, one after another, and the cut at each.
+// A maximum flow with the arcs of the first stores opened one after another, and the cut at each.
 fn opened(alloc: Global, problem: &Problem, firsts: usize) -> Result<(Solved, Vec<Cut>), NoMemory>
     requires { firsts ≤ length problem.now.rows }
     ensures opened { IfOk result (λ o. AreOpened firsts problem.now o.0 o.1.items) }
@@ -112,8 +111,8 @@ fn opened(alloc: Global, problem: &Problem, firsts: usize) -> Result<(Solved, Ve
     Ok((solved, cuts))
 }
 
-// A plan by the network, with certificates of all stores and of the first store, of the first two and so on to that
-// many.
+// A plan by the network, with certificates of all stores and of the first store, of the first two and so on, up to this
+// number.
 fn by_flow(alloc: Global, problem: &Problem, firsts: usize) -> Result<Planned, NoMemory>
     requires { firsts ≤ length problem.now.rows }
     ensures shown { IfOk result (IsShown problem.now) }
@@ -130,14 +129,14 @@ fn by_flow(alloc: Global, problem: &Problem, firsts: usize) -> Result<Planned, N
     }
 }
 
-/// What `plan` answers, found by the network of the problem alone. It takes longer.
+/// As `plan`, but by the network alone, which takes longer.
 pub fn plan_by_flow(alloc: Global, problem: &Problem) -> Result<Planned, NoMemory>
     ensures { IfOk result (IsPlan problem.now) }
 {
     by_flow(alloc, problem, 0)
 }
 
-/// What `plan_in_order` answers, found by the network of the problem alone. It takes longer.
+/// As `plan_in_order`, but by the network alone, which takes longer.
 #[tactic(auto, using(crate::proofs::Showing::in_order))]
 pub fn plan_in_order_by_flow(alloc: Global, problem: &Problem) -> Result<Planned, NoMemory>
     ensures { IfOk result (IsPlanInOrder problem.now) }

@@ -15,7 +15,7 @@ use mm_plan::{Certificate, Cut, Plan, first_loss};
 use mm_problem::Problem;
 use std::alloc::Global;
 
-// The certificate of a cut, where it shows what that many of the first stores lose by the plan.
+// The certificate of a cut, if the cut shows the loss of the first stores by the plan.
 fn certificate(problem: &Problem, plan: &Plan, stores: usize, cut: Cut) -> Option<Certificate>
     requires shape { HasShape problem.now plan.now }
     requires stores { stores ≤ length problem.now.rows }
@@ -35,7 +35,7 @@ fn certificate(problem: &Problem, plan: &Plan, stores: usize, cut: Cut) -> Optio
     Some(Certificate::new(loss, cut, loss as i64))
 }
 
-// The certificates of cuts of the first store, of the first two and so on, where each shows what its stores lose by the
+// The certificates of cuts of the first store, of the first two and so on, if each shows the loss of its stores by the
 // plan.
 fn certificates(
     alloc: Global,
@@ -62,8 +62,8 @@ fn certificates(
     Ok(Some(firsts))
 }
 
-// A filled plan with the certificates of these cuts, of all stores and of first ones, where each shows what its stores
-// lose by the plan.
+// A filled plan with the certificates of these cuts, of all stores and of the first ones, if each cut shows the loss of
+// its stores.
 #[tactic(auto, using(crate::proofs::Showing::not_each, crate::proofs::Showing::not_own))]
 pub(crate) fn certified(
     alloc: Global,

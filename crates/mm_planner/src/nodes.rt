@@ -2,43 +2,43 @@
 ghost use Rattle.std.specs.Prelude.{◌≡◌, ◌<◌, ◌^◌};
 ghost use Rattle.mm_planner.specs.Nodes.{step_of, place_of, number_of};
 
-/// The node that all blocks come from.
+/// The node at which all blocks start.
 pub const SOURCE: u32 = 0;
 
-/// The node that all blocks go to.
+/// The node at which all blocks end.
 pub const SINK: u32 = 1;
 
 /// A node of a problem's network.
 #[derive(Clone, Copy)]
 pub(crate) enum Node {
-    /// All blocks come from here.
+    /// All blocks start here.
     Source,
-    /// All blocks go here.
+    /// All blocks end here.
     Sink,
-    /// A store once a step's arrivals have come; some blocks may find no room.
+    /// The input of a store in a step: what it kept, and what arrives.
     In { step: u32, store: usize },
-    /// What the store holds of them, before the step's amount leaves.
+    /// What the store holds of its input, before the step's amount leaves.
     Out { step: u32, store: usize },
-    /// What leaves the stores of a channel in a step.
+    /// What leaves through a channel in a step.
     Channel { step: u32, channel: u8 },
     /// What leaves all stores in a step.
     Pass { step: u32 },
 }
 
-/// How many node numbers a step has.
+/// The number of node numbers for each step.
 pub(crate) const STEP_NODES: u32 = 41;
 
-/// Where the nodes for what stores hold begin among them, after those for what comes to stores.
+/// The place of the first `Out` node within a step, after the `In` nodes.
 pub(crate) const OUT_NODES: u32 = 16;
 
-/// Where the channels' nodes begin among them.
+/// The place of the first node of a channel within a step.
 pub(crate) const CHANNEL_NODES: u32 = 32;
 
-/// Which one is the pass.
+/// The place of the pass within a step.
 pub(crate) const PASS_NODE: u32 = 40;
 
 impl Node {
-    // The step that the node is of; 0 for the two ends.
+    // The step of the node, 0 for the two ends.
     fn step(self) -> u32
         ensures step { result ≡ step_of self }
     {
@@ -52,7 +52,7 @@ impl Node {
         }
     }
 
-    // The place of the node among those of its step.
+    // The place of the node within its step.
     fn place(self) -> u32
         requires { place_of self < 2 ^ 32 }
         ensures place { result ≡ place_of self }

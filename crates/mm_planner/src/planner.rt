@@ -1,4 +1,4 @@
-//! The planner: a proposal where its cuts show that it loses least, and otherwise a plan by the network.
+//! The planner: a proposal if its cuts show that it loses least, and otherwise a plan by the network.
 ghost use Rattle.std.specs.Prelude.{◌≡◌, ◌+◌, ◌≤◌, length, IfOk, IfSome};
 ghost use Rattle.mm_plan.specs.Table.{HasShape};
 ghost use Rattle.mm_planner.specs.InOrder.{IsPlanInOrder};
@@ -16,15 +16,15 @@ use std::alloc::Global;
 #[derive(Debug, Drop)]
 pub struct Planned {
     pub plan: Plan,
-    /// The certificate of all stores: what the plan loses, and a cut whose bound is that.
+    /// The certificate of all stores: the loss of the plan, and a cut whose bound is this loss.
     pub certificate: Certificate,
-    /// Those of the first store, of the first two and so on up to all but one, where the plan serves the stores in
-    /// order.
+    /// If the plan serves the stores in order, the certificates of the first store, of the first two and so on, up to
+    /// all but one.
     pub firsts: Vec<Certificate>,
 }
 
-// The proposal with its idle windows used, where it has that many cuts of first stores, and each of its cuts shows what
-// its stores lose.
+// The proposal with its idle windows filled, if it has this number of cuts of first stores, and each cut shows the loss
+// of its stores.
 fn proposed(
     alloc: Global,
     problem: &Problem,
@@ -43,8 +43,8 @@ fn proposed(
     certified(alloc, problem, filled, proposal.cut, proposal.firsts)
 }
 
-/// A dump plan that loses least and leaves no window idle that a store could use, and a cut that shows that it loses
-/// least. Which of several such plans and cuts it is stays open.
+/// A dump plan that loses least and leaves no window idle that a store could use, with a cut that shows that it loses
+/// least. If there are several such plans or cuts, any of them may be returned.
 pub fn plan(alloc: Global, problem: &Problem) -> Result<Planned, NoMemory>
     ensures { IfOk result (IsPlan problem.now) }
 {
@@ -55,9 +55,9 @@ pub fn plan(alloc: Global, problem: &Problem) -> Result<Planned, NoMemory>
     }
 }
 
-/// A dump plan that serves the stores in the setup's order, and leaves no window idle that a store could use: of the
-/// first store, of the first two and so on no plan that fits loses less, and so it loses least of all. For each of
-/// these a cut shows it. Which of several such plans and cuts it is stays open.
+/// A dump plan that serves the stores in the setup's order, and leaves no window idle that a store could use: no plan
+/// that fits loses less of the first store, of the first two and so on, up to all. A cut shows it for each of these. If
+/// there are several such plans or cuts, any of them may be returned.
 #[tactic(auto, using(crate::proofs::Showing::in_order))]
 pub fn plan_in_order(alloc: Global, problem: &Problem) -> Result<Planned, NoMemory>
     ensures { IfOk result (IsPlanInOrder problem.now) }

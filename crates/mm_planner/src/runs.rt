@@ -1,9 +1,10 @@
-//! The cut that a side of the network says: the greatest runs of each store's nodes on the side.
+//! The cut of a side of the network: the longest runs of each store's nodes on the side.
 ghost use Rattle.std.specs.Prelude.{◌≡◌, ◌+◌, ◌<◌, ◌≤◌, ◌^◌, ◌++◌, ◌∷◌, [], if◌then◌else◌, length, IfOk, OnOk};
 ghost use Rattle.mm_base.specs.declared.limits.TheConstants.{MAX_STORES, MAX_STEPS};
 ghost use Rattle.mm_flow.specs.Solution.{side_of};
 ghost use Rattle.mm_planner.specs.Nodes.{number_of};
-ghost use Rattle.mm_planner.specs.Runs.{is_on, goes_on, is_end, is_by_channels, stretches_of, first_stretches, counts_of};
+ghost use Rattle.mm_planner.specs.Runs.{is_on, goes_on, is_end, is_by_channels, stretches_of, first_stretches};
+ghost use Rattle.mm_planner.specs.Runs.{counts_of};
 
 use crate::nodes::Node;
 use mm_base::{MAX_STORES, NoMemory};
@@ -21,7 +22,7 @@ fn is_on(side: &[bool], node: Node) -> bool
     side.get(number).copied().unwrap_or(false)
 }
 
-// Whether a run of the store goes on after the step.
+// Whether a run of the store continues after the step.
 fn goes_on(side: &[bool], store: usize, step: u32) -> bool
     requires store { store < MAX_STORES }
     requires step { step ≤ MAX_STEPS }
@@ -39,7 +40,7 @@ fn is_end(side: &[bool], store: usize, step: u32) -> bool
     is_on(side, Node::In { step, store }) && !is_on(side, Node::Out { step, store })
 }
 
-// Adds the run where it ends with its last step.
+// Adds the run if it ends with its last step.
 fn add_run(
     stretches: &mut Vec<Stretch>,
     side: &[bool],
@@ -59,7 +60,7 @@ fn add_run(
     Ok(())
 }
 
-// The first step of the run that the next step is in, where a step's run begins with `first`.
+// The first step of the next step's run, if the run of this step starts with `first`.
 fn next_first(side: &[bool], store: usize, step: u32, first: u32) -> u32
     requires store { store < MAX_STORES }
     requires step { step ≤ MAX_STEPS }
@@ -125,7 +126,7 @@ fn is_by_channels(side: &[bool], stretches: &[Stretch], step: u32) -> bool
     is_inner(stretches, step) && !is_on(side, Node::Pass { step })
 }
 
-// Adds the step where it counts by channels.
+// Adds the step if it is counted by channels.
 fn add_count(
     counts: &mut Vec<u32>,
     side: &[bool],
@@ -144,7 +145,7 @@ fn add_count(
     Ok(())
 }
 
-// The steps that count by channels.
+// The steps that are counted by channels.
 pub(crate) fn counts(
     alloc: Global,
     problem: &Problem,

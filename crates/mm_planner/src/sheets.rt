@@ -35,8 +35,8 @@ pub fn sheet(alloc: Global, problem: &Problem) -> Result<Sheet, NoMemory>
     Ok(Sheet::new(stores, planned.plan, planned.certificate, None))
 }
 
-/// The sheet of a dump plan that serves the stores in the problem's order: besides the cut of all stores it has
-/// certificates of the first store, of the first two and so on up to all but one.
+/// The sheet of a dump plan that serves the stores in the problem's order. It also has certificates of the first store,
+/// of the first two and so on, up to all but one.
 pub fn sheet_in_order(alloc: Global, problem: &Problem) -> Result<Sheet, NoMemory>
     ensures { IfOk result (IsSheetFor SheetShowsInOrder problem.now) }
 {

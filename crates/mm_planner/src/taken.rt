@@ -1,4 +1,4 @@
-//! The plan that a solution of the network says: what leaves a store is what flows from it to its channel.
+//! The plan of a solution of the network: what leaves a store is what flows from it to its channel.
 ghost use Rattle.std.specs.Prelude.{◌≡◌, ◌+◌, ◌<◌, ◌≤◌, length, slice_index, IfOk};
 ghost use Rattle.mm_base.specs.declared.limits.TheConstants.{MAX_BLOCKS};
 ghost use Rattle.mm_problem.specs.Dumping.{IsDumping};
@@ -28,14 +28,14 @@ fn take_place(problem: &Problem, step: u32, store: usize) -> usize
     place(width, step, 3 * problem.stores() + store)
 }
 
-// What flows on the arc with this number.
+// The flow on the arc with this number.
 fn flow_at(flow: &[u64], place: usize) -> u64
     ensures { result ≡ slice_index flow.now place }
 {
     flow.get(place).copied().unwrap_or(0)
 }
 
-// What leaves a store in a step.
+// How many blocks leave a store in a step.
 fn taken(problem: &Problem, solved: &Solved, step: u32, store: usize) -> u32
     requires solved { IsSolved (net problem.now) SOURCE SINK solved.now }
     requires step { IsStep problem.now step }
@@ -48,7 +48,7 @@ fn taken(problem: &Problem, solved: &Solved, step: u32, store: usize) -> u32
     flow_at(flow, place) as u32
 }
 
-// Writes what leaves the stores in a step.
+// Writes the amounts of a step.
 fn take_step(plan: &mut Plan, problem: &Problem, solved: &Solved, step: u32)
     requires solved { IsSolved (net problem.now) SOURCE SINK solved.now }
     requires step { IsStep problem.now step }

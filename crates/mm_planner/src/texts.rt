@@ -21,7 +21,6 @@ pub struct PrintedPlan {
 }
 
 /// Plans, and prints the sheet.
-#[tactic(auto, using(crate::proofs::PlanTextLemmas::printed_plain))]
 pub fn print_plan(alloc: Global, problem: &Problem) -> Result<PrintedPlan, NoMemory>
     ensures { IfOk result (IsPrintedFor problem.now) }
 {
@@ -30,8 +29,8 @@ pub fn print_plan(alloc: Global, problem: &Problem) -> Result<PrintedPlan, NoMem
     Ok(PrintedPlan { sheet, text })
 }
 
-/// The text of a dump plan that loses least in the problem that the setup and the forecast say, with the cut that shows
-/// it. Otherwise the first fault, of the setup and then of the forecast.
+/// The text of a dump plan that loses least in the problem of the setup and the forecast, with the cut that shows it.
+/// Otherwise the first fault, of the setup and then of the forecast.
 pub fn plan_bytes(alloc: Global, setup: &[u8], forecast: &[u8]) -> Result<Vec<u8>, Fault>
     ensures text { IfOk result (λ text. PlansLeast setup.now forecast.now text.items) }
     ensures refused { IfRefused fault.NoMemory result (IsPlanningFault setup.now forecast.now) }
@@ -42,7 +41,6 @@ pub fn plan_bytes(alloc: Global, setup: &[u8], forecast: &[u8]) -> Result<Vec<u8
 }
 
 /// Plans in the order of the stores, and prints the sheet.
-#[tactic(auto, using(crate::proofs::PlanTextLemmas::printed_in_order))]
 pub fn print_plan_in_order(alloc: Global, problem: &Problem) -> Result<PrintedPlan, NoMemory>
     ensures { IfOk result (IsPrintedInOrder problem.now) }
 {
@@ -52,7 +50,7 @@ pub fn print_plan_in_order(alloc: Global, problem: &Problem) -> Result<PrintedPl
 }
 
 /// The text of a dump plan that serves the stores in the setup's order, with the cuts that show that it loses least of
-/// the first store, of the first two and so on to all of them. Otherwise the first fault, of the setup and then of the
+/// the first store, of the first two and so on, up to all. Otherwise the first fault, of the setup and then of the
 /// forecast.
 pub fn plan_in_order_bytes(alloc: Global, setup: &[u8], forecast: &[u8]) -> Result<Vec<u8>, Fault>
     ensures text { IfOk result (λ text. PlansLeastInOrder setup.now forecast.now text.items) }

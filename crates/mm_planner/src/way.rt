@@ -1,14 +1,14 @@
-//! What the blocks of a store do in a step.
+//! The kinds of arcs of a store in a step.
 
-/// What an arc of a store in a step stands for.
+/// The kind of an arc of a store in a step.
 #[derive(Clone, Copy)]
 pub(crate) enum Way {
-    /// Blocks come to the store.
+    /// Blocks arrive in the store.
     Come,
     /// The store holds them.
     Hold,
-    /// It keeps them for the next step.
+    /// The store keeps them for the next step.
     Keep,
-    /// They leave it.
+    /// They leave the store.
     Take,
 }

@@ -4,7 +4,7 @@ use Rattle.std.proofs.Common.{length, get_or, drop, refl, ◌∙◌, arith, leng
 use Rattle.std.specs.List.{list_all, range_with_len}
 use Rattle.std.proofs.lemmas.Bool.{and_parts}
 use Rattle.std.proofs.lemmas.List.Elements.{All-drop}
-use Rattle.std.proofs.Math.Nat.{eq-or-lt_of_le, mul_comm, mul-sub}
+use Rattle.std.proofs.Math.Nat.{eq-or-lt_of_le, mul_comm, mul-le-mul, mul-sub}
 use Rattle.std.proofs.lemmas.List.FromFn.{length-map-range_with_len, get_or-map-range_with_len}
 use Rattle.mm_base.specs.declared.limits.TheConstants.{MAX_BLOCKS}
 use Rattle.mm_base.specs.declared.rows.StoreRow.{StoreRow}
@@ -30,6 +30,14 @@ later_table steps n step cells table =
     let fewer : (steps - step) * n ≡ steps * n - step * n =
     mul_comm (steps - step) n ∙ mul-sub n steps step ∙ (omega arith) in
     rw (length-drop (step * n) cells, table, fewer) refl
+
+-- the steps up to a step have no more cells than all steps
+pub rest_within : (steps n step : ℕ) (cells : List ℕ) → length cells ≡ steps * n → step < steps
+    → step * n ≤ length cells
+rest_within steps n step cells table below =
+    let fewer : step ≤ steps = omega arith in
+    let same : n ≤ n = omega arith in
+    omega (arith, table, mul-le-mul fewer same)
 
 -- the limits of the steps after a step
 pub are_step_limits : (windows limited step_limits : List ℕ) (step : ℕ) → AreStepLimits windows limited step_limits

@@ -1,5 +1,6 @@
--- The problem that data are, tested in the order in which the readers test what they read.
-use Rattle.std.specs.Prelude.{ℕ, ◌+◌, ◌*◌, nat_le, nat_lt, ◌&&◌, ◌==◌, List, [], ◌∷◌, ◌++◌, length, take, drop, pos, Result, Ok}
+-- The problem that is made of data, tested in the same order as the readers test what they read.
+use Rattle.std.specs.Prelude.{ℕ, ◌+◌, ◌*◌, nat_le, nat_lt, ◌&&◌, ◌==◌, List, [], ◌∷◌, ◌++◌, length, take, drop, pos}
+use Rattle.std.specs.Prelude.{Result, Ok}
 use Rattle.std.specs.List.{list_all}
 use Rattle.mm_problem.specs.declared.fault.Fault.{Fault}
 use Rattle.mm_problem.specs.declared.fault.Fault.TheVariants.{ForecastText, Header}
@@ -15,7 +16,7 @@ use Rattle.mm_problem.specs.Forecast.{another_step, some_step, limits_of}
 use Rattle.mm_problem.specs.Keys.{within}
 use Rattle.mm_problem.specs.Tables.{new_store, new_limit}
 
--- the tests of a store after these earlier ones
+-- the tests of a store that follows these stores
 unfoldable pub store_fits : List StoreRow → StoreRow → Result (Unit {0}) Fault
 store_fits earlier row = do
   size ← within 1 MAX_BLOCKS name.Size (pos row.size)
@@ -23,15 +24,16 @@ store_fits earlier row = do
   start ← within 0 row.size name.Start (pos row.start)
   new_store earlier row
 
--- the tests of a limit after these earlier ones
+-- the tests of a limit that follows these limits
 unfoldable pub limit_fits : List LimitRow → LimitRow → Result (Unit {0}) Fault
 limit_fits earlier row = do
   channel ← within 0 MAX_CHANNEL name.Channel (pos row.channel)
   blocks ← within 0 MAX_BLOCKS name.Blocks (pos row.blocks)
   new_limit earlier row
 
--- the tests of rows after these earlier ones
-unfoldable pub rows_fit : {R : Type 0} → (List R → R → Result (Unit {0}) Fault) → List R → List R → Result (Unit {0}) Fault
+-- the tests of rows that follow these rows
+unfoldable pub rows_fit : {R : Type 0} → (List R → R → Result (Unit {0}) Fault) → List R → List R
+    → Result (Unit {0}) Fault
 rows_fit fits earlier [] = Ok tt
 rows_fit fits earlier (row ∷ rows) = do
   this ← fits earlier row
@@ -44,14 +46,14 @@ amounts_fit name (amount ∷ amounts) = do
   this ← within 0 MAX_BLOCKS name (pos amount)
   amounts_fit name amounts
 
--- the tests of a step after this many, from its window and what comes to each store
+-- the tests of the step that follows this number of steps, with its window and its arrivals by store
 unfoldable pub step_fits : ℕ → ℕ → List ℕ → Result (Unit {0}) Fault
 step_fits earlier window arrivals = do
   not_too_many ← another_step earlier
   window ← within 0 MAX_BLOCKS name.Window (pos window)
   amounts_fit name.Arrivals arrivals
 
--- the tests of the steps after this many, each of which has an arrival for each store
+-- the tests of the steps that follow this number of steps, each with an arrival for each store
 unfoldable pub steps_fit : ℕ → ℕ → List ℕ → List ℕ → Result (Unit {0}) Fault
 steps_fit stores earlier [] arrived = test (length arrived == 0) ForecastText
 steps_fit stores earlier (window ∷ windows) arrived = do
@@ -59,8 +61,8 @@ steps_fit stores earlier (window ∷ windows) arrived = do
   step ← step_fits earlier window (take stores arrived)
   steps_fit stores (earlier + 1) windows (drop stores arrived)
 
--- the problem of these stores and limits, windows of the steps, and arrivals step by step, in each the stores in order; no step has limits of its
--- own
+-- the problem of these stores, limits, windows, and arrivals (step by step, and within a step in store order), without
+-- limits for single steps
 unfoldable pub problem_from : List StoreRow → List LimitRow → List ℕ → List ℕ → Result Dumping Fault
 problem_from rows limits windows arrived = do
   store_count ← stores_counted (length rows)
@@ -69,13 +71,21 @@ problem_from rows limits windows arrived = do
   by_channel ← rows_fit limit_fits [] limits
   steps ← steps_fit (length rows) 0 windows arrived
   some ← some_step (length windows)
-  Ok (record { rows = rows; limits = limits_of limits; windows = windows; arrived = arrived; limited = []; step_limits = [] })
+  Ok (record {
+    rows = rows;
+    limits = limits_of limits;
+    windows = windows;
+    arrived = arrived;
+    limited = [];
+    step_limits =
+        [];
+  })
 
--- the test of a channel with limits of each step after these earlier ones: it is one, and they rise
+-- the test of a channel with limits for each step that follows these channels: it exists, and is above them
 abbrev pub column_fits : List ℕ → ℕ → Result (Unit {0}) Fault
 column_fits earlier channel = test (nat_le channel MAX_CHANNEL && list_all (λ c. nat_lt c channel) earlier) Header
 
--- the tests of these channels, and of as many limits in each step as there are channels
+-- the tests of these channels, and of one limit for each channel in each step
 unfoldable pub step_limits_fit : ℕ → List ℕ → List ℕ → Result (Unit {0}) Fault
 step_limits_fit steps channels limits = do
   few ← test (nat_le (length channels) CHANNELS) Header
@@ -83,7 +93,7 @@ step_limits_fit steps channels limits = do
   as_long ← test (length limits == steps * length channels) ForecastText
   amounts_fit name.Limit limits
 
--- the problem with these limits of each step for these channels, step by step, in each the channels in order
+-- the problem with these limits for these channels, step by step, and within a step in channel order
 unfoldable pub limited_by : Dumping → List ℕ → List ℕ → Result Dumping Fault
 limited_by q channels limits = do
   fit ← step_limits_fit (length q.windows) channels limits

@@ -1,4 +1,4 @@
--- The setup that octets say, read in the order of the faults.
+-- The setup that bytes spell, read in the order in which faults are found.
 use Rattle.std.specs.Prelude.{ℕ, ◌≤◌, nat_le, ◌&&◌, if◌then◌else◌, List, [], ◌∷◌, length, Result, Ok, Err}
 use Rattle.std.specs.Option.{ok_or}
 use Rattle.std.specs.Str.{is_utf8}
@@ -33,22 +33,22 @@ lists_at document = do
   limits ← array_if_any name.Limit document
   Ok (record { stores = stores; routes = routes; limits = limits })
 
--- no more tables than a setup may have, and a store among them
+-- at least one store, and no more tables than a setup may have
 pub record AreCounted (lists : Lists) : Type 0 where
   pub has_store : 1 ≤ length lists.stores
   pub stores : length lists.stores ≤ MAX_STORES
   pub routes : length lists.routes ≤ MAX_ROUTES
   pub limits : length lists.limits ≤ CHANNELS
 
--- the test of how many stores there are
+-- the test of the number of stores
 abbrev pub stores_counted : ℕ → Result (Unit {0}) Fault
 stores_counted n = test (nat_le 1 n && nat_le n MAX_STORES) (Limit name.Stores)
 
--- the test of how many limits there are
+-- the test of the number of limits
 abbrev pub limits_counted : ℕ → Result (Unit {0}) Fault
 limits_counted n = test (nat_le n CHANNELS) (Limit name.Limits)
 
--- the tests of these counts
+-- the tests of these numbers
 unfoldable pub counts_of : Lists → Result (Unit {0}) Fault
 counts_of lists = do
   stores ← stores_counted (length lists.stores)
@@ -63,24 +63,24 @@ rows_of lists = do
   limits ← limits_in lists.limits
   Ok (record { stores = stores; routes = routes; limits = limits })
 
--- the setup that a document says
+-- the setup of a document
 unfoldable pub setup_in : Members → Result SetupRows Fault
 setup_in document = do
   lists ← lists_at document
   counted ← counts_of lists
   rows_of lists
 
--- octets as a text
+-- bytes as a text
 abbrev pub text_of : List ℕ → Result (List ℕ) Fault
 text_of octets = if is_utf8 octets then Ok octets else Err SetupText
 
--- the document that octets say
+-- the document that bytes spell
 unfoldable pub document_of : List ℕ → Result Members Fault
 document_of octets = do
   text ← text_of octets
   ok_or (parse_document text) SetupText
 
--- the setup that octets say
+-- the setup that bytes spell
 unfoldable pub setup_of : List ℕ → Result SetupRows Fault
 setup_of octets = do
   document ← document_of octets

@@ -1,5 +1,6 @@
--- The memory dumping problem, as numbers: stores counted from 0 in setup order, steps from 1.
-use Rattle.std.specs.Prelude.{◌≡◌, ℕ, ◌-◌, ◌*◌, ◌≤◌, ◌<◌, min, nat_lt, Bool, ◌==◌, if◌then◌else◌, List, [], length, filter, All, AllPairs, Option, Some, None, slice_index, slice_index_or, IfSome}
+-- The memory dumping problem, as numbers. Stores count from 0 in setup order, steps from 1.
+use Rattle.std.specs.Prelude.{◌≡◌, ℕ, ◌-◌, ◌*◌, ◌≤◌, ◌<◌, min, nat_lt, Bool, ◌==◌, if◌then◌else◌, List, [], length}
+use Rattle.std.specs.Prelude.{filter, All, AllPairs, Option, Some, None, slice_index, slice_index_or, IfSome}
 use Rattle.std.specs.List.{position_or_len, range_with_len}
 use Rattle.std.specs.Str.{bytes_eq}
 use Rattle.mm_base.specs.declared.limits.TheConstants.{MAX_STEPS, MAX_BLOCKS, CHANNELS}
@@ -10,15 +11,15 @@ use Rattle.mm_problem.specs.Setup.{AreStores}
 
 pub record Dumping : Type 0 where
   pub rows : List StoreRow
-  -- of each channel, the blocks that may leave its stores in each step, where it has a limit of the setup
+  -- for each channel its limit in the setup, in blocks a step, if it has one
   pub limits : List (Option ℕ)
   -- of each step
   pub windows : List ℕ
-  -- step by step, in each the stores in order
+  -- step by step, and within a step in store order
   pub arrived : List ℕ
-  -- the channels that have a limit of their own in each step, rising
+  -- the channels with a limit for each step, in rising order
   pub limited : List ℕ
-  -- step by step, in each these channels in order
+  -- step by step, and within a step in the order of these channels
   pub step_limits : List ℕ
 
 abbrev pub no_row : StoreRow
@@ -27,7 +28,7 @@ no_row = record { id = []; size = 0; start = 0; kind = Circular; channel = 0 }
 abbrev pub row : Dumping → ℕ → StoreRow
 row q s = slice_index_or q.rows s no_row
 
--- the place of the row with an identifier, and the number of rows where none has it
+-- the place of the row with an identifier, or the number of rows if none has it
 abbrev pub place_in : List StoreRow → List ℕ → ℕ
 place_in rows id = position_or_len (λ r. bytes_eq r.id id) rows
 
@@ -43,37 +44,37 @@ start q s = (row q s).start
 abbrev pub channel : Dumping → ℕ → ℕ
 channel q s = (row q s).channel
 
--- the channel's limit of the setup, which is the same in each step, where it has one
+-- the channel's limit in the setup, if it has one; it is the same in each step
 abbrev pub setup_limit : Dumping → ℕ → Option ℕ
 setup_limit q c = slice_index_or q.limits c None
 
--- what the column at a place, counted from 0, says in the step
+-- the limit in a step in the column at a place; places count from 0
 abbrev pub column_limit : Dumping → ℕ → ℕ → ℕ
 column_limit q column t = cell (length q.limited) q.step_limits column t
 
--- the same, where there is that column
+-- the same, if there is such a column
 abbrev pub in_column : Dumping → ℕ → ℕ → Option ℕ
 in_column q column t = if nat_lt column (length q.limited) then Some (column_limit q column t) else None
 
--- the channel's limit of this step alone, where it has one
+-- the channel's limit of this step alone, if it has one
 abbrev pub step_limit : Dumping → ℕ → ℕ → Option ℕ
 step_limit q c t = in_column q (position_or_len (λ k. k == c) q.limited) t
 
--- the lesser of two limits, of those that there are
+-- the lesser of two limits, either of which may be missing
 abbrev pub lesser : Option ℕ → Option ℕ → Option ℕ
 lesser None b = b
 lesser (Some a) None = Some a
 lesser (Some a) (Some b) = Some (min a b)
 
--- the blocks that may leave the stores of a channel that there is in the step, where it has a limit: the setup's, the step's, or the lesser
+-- the blocks that can leave through a channel in a step: the setup's limit, the step's, the lesser of both, or no limit
 abbrev pub limit : Dumping → ℕ → ℕ → Option ℕ
 limit q c t = if nat_lt c (length q.limits) then lesser (setup_limit q c) (step_limit q c t) else None
 
--- the blocks that may leave all stores in the step
+-- the blocks that can leave all stores in the step
 abbrev pub window : Dumping → ℕ → ℕ
 window q t = slice_index q.windows (t - 1)
 
--- the blocks that come to the store in the step
+-- the blocks that arrive in the store in the step
 abbrev pub arrivals : Dumping → ℕ → ℕ → ℕ
 arrivals q s t = cell (length q.rows) q.arrived s t
 
@@ -86,7 +87,7 @@ steps q = range_with_len 1 (length q.windows)
 abbrev pub channels : Dumping → List ℕ
 channels q = range_with_len 0 (length q.limits)
 
--- whether a store is of a channel
+-- whether a store belongs to a channel
 abbrev pub is_of : Dumping → ℕ → ℕ → Bool
 is_of q c s = channel q s == c
 
@@ -110,7 +111,7 @@ pub record AreChannels (limits : List (Option ℕ)) : Type 0 where
   pub all : length limits ≡ CHANNELS
   pub each : All IsLimit limits
 
--- limits of each step for channels that rise
+-- limits for each step and each of the channels, which rise
 pub record AreStepLimits (windows limited step_limits : List ℕ) : Type 0 where
   pub at_most : length limited ≤ CHANNELS
   pub each_channel : All (λ c. c < CHANNELS) limited

@@ -1,8 +1,10 @@
--- What a table of a setup says at its keys.
-use Rattle.std.specs.Prelude.{ℕ, ℤ, pos, negsuc, Bool, ◌&&◌, nat_le, if◌then◌else◌, List, [], ◌∷◌, Option, Result, Ok, Err, option_map, option_and_then, bytes_eq}
+-- The values at the keys of a setup's tables.
+use Rattle.std.specs.Prelude.{ℕ, ℤ, pos, negsuc, Bool, ◌&&◌, nat_le, if◌then◌else◌, List, [], ◌∷◌, Option, Result, Ok}
+use Rattle.std.specs.Prelude.{Err, option_map, option_and_then, bytes_eq}
 use Rattle.std.specs.List.{list_any, list_all}
 use Rattle.std.specs.Option.{ok_or, option_map_or}
-use Rattle.toml.specs.Data.{Data, Items, no_items, item, Members, no_members, member, get_member, as_str, as_integer, as_array}
+use Rattle.toml.specs.Data.{Data, Items, no_items, item, Members, no_members, member, get_member, as_str, as_integer}
+use Rattle.toml.specs.Data.{as_array}
 use Rattle.mm_problem.specs.declared.fault.Fault.{Fault}
 use Rattle.mm_problem.specs.declared.fault.Fault.TheVariants.{SetupField, Limit}
 use Rattle.mm_problem.specs.declared.fault.Name.{Name}
@@ -23,7 +25,7 @@ keys_of (member key d ms) = key ∷ keys_of ms
 abbrev pub is_named : List Name → List ℕ → Bool
 is_named names key = list_any (λ name. bytes_eq (text_of name) key) names
 
--- whether a table has no other keys than these names
+-- whether a table has no keys but these names
 abbrev pub has_only : List Name → Members → Bool
 has_only names ms = list_all (is_named names) (keys_of ms)
 
@@ -58,6 +60,6 @@ elements_of name d = ok_or (option_map elements (as_array d)) (SetupField 0 name
 abbrev pub array_at : Name → Members → Result (List Data) Fault
 array_at name ms = ok_or (option_map elements (option_and_then as_array (value_at name ms))) (SetupField 0 name)
 
--- the same at a key that may be missing
+-- the same for a key that may be missing
 abbrev pub array_if_any : Name → Members → Result (List Data) Fault
 array_if_any name ms = option_map_or (elements_of name) (value_at name ms) (Ok [])

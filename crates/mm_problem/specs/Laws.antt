@@ -1,4 +1,4 @@
--- What the readings of this crate mean, in the words of their subjects.
+-- The meaning of this crate's readings, in the words of their subjects.
 use Rattle.std.specs.Prelude.{◌≡◌, ◌↔◌, ℕ, List, Ok}
 use Rattle.mm_problem.specs.Document.{setup_of}
 use Rattle.mm_problem.specs.Dumping.{Dumping}
@@ -7,10 +7,11 @@ use Rattle.mm_problem.specs.ReadableForecast.{IsReadableForecast}
 use Rattle.mm_problem.specs.ReadableSetup.{IsReadableSetup}
 use Rattle.mm_problem.specs.Setup.{SetupRows, IsSetup}
 
--- a setup is read exactly where the octets are the text of a readable document, and then as what that says
+-- a setup is read if and only if its bytes are the text of a readable document, and its rows are those of the document
 abbrev pub ReadsSetups : Type 0
 ReadsSetups = (octets : List ℕ) (m : SetupRows) → (setup_of octets ≡ Ok m) ↔ IsReadableSetup octets m
 
--- a forecast is read exactly where its records are those of a problem, spelled out, and then as that problem
+-- a forecast is read if and only if its records are those of a problem, which it is read as
 abbrev pub ReadsForecasts : Type 0
-ReadsForecasts = (setup : SetupRows) → IsSetup setup → (octets : List ℕ) (q : Dumping) → (problem_of setup octets ≡ Ok q) ↔ IsReadableForecast setup octets q
+ReadsForecasts = (setup : SetupRows) → IsSetup setup → (octets : List ℕ) (q : Dumping)
+    → (problem_of setup octets ≡ Ok q) ↔ IsReadableForecast setup octets q

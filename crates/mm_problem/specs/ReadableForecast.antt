@@ -1,4 +1,4 @@
--- What a readable forecast is: the records of a problem, spelled out.
+-- Readable forecasts: the records of a problem, spelled out.
 use Rattle.std.specs.Prelude.{◌≡◌, ℕ, List, ◌∷◌, ◌++◌, length, map, codes}
 use Rattle.std.specs.Fmt.{decimal}
 use Rattle.std.specs.List.{range_with_len}
@@ -16,15 +16,16 @@ limit_text channel = codes "limit:" ++ decimal channel
 abbrev pub columns : Dumping → List ℕ
 columns q = range_with_len 0 (length q.limited)
 
--- the record of a step: its number, its window, what comes to each store, and its limits
+-- the record of a step: its number, its window, its arrivals by store, and its limits
 abbrev pub record_of : Dumping → ℕ → Fields
-record_of q t = decimal t ∷ decimal (window q t) ∷ map (λ s. decimal (arrivals q s t)) (stores q) ++ map (λ k. decimal (cell (length q.limited) q.step_limits k t)) (columns q)
+record_of q t = decimal t ∷ decimal (window q t) ∷ map (λ s. decimal (arrivals q s t)) (stores q)
+    ++ map (λ k. decimal (cell (length q.limited) q.step_limits k t)) (columns q)
 
--- the records of a problem's forecast: the header, and one of each step
+-- the records of a problem's forecast: the header, then one for each step
 abbrev pub forecast_of : Dumping → List Fields
 forecast_of q = (header_of q.rows ++ map limit_text q.limited) ∷ map (record_of q) (steps q)
 
--- the octets are the forecast of this problem, whose stores and limits are the setup's
+-- the bytes are the forecast of this problem, whose stores and limits are the setup's
 pub record IsReadableForecast (setup : SetupRows) (octets : List ℕ) (q : Dumping) : Type 0 where
   pub rows : q.rows ≡ setup.stores
   pub limits : q.limits ≡ limits_of setup.limits

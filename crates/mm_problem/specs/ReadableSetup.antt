@@ -1,4 +1,4 @@
--- What a readable setup is, as facts on its document, and what it says.
+-- Readable setups, as facts on their documents.
 use Rattle.std.specs.Prelude.{◌≡◌, ℕ, ◌≤◌, pos, List, [], map, Option, Some, None, All, Contains, IsUtf8}
 use Rattle.std.specs.List.{AllZip}
 use Rattle.toml.specs.Data.{Data, string, integer, array, table, Items, Members}
@@ -35,12 +35,12 @@ pub record SaysId (ms : Members) (name : Name) (id : List ℕ) : Type 0 where
   pub well_formed : IsIdText text
   pub padded : id ≡ field_of text
 
--- the key has this whole number, or is missing, which says 0
+-- the key has this whole number, or is missing and stands for 0
 abbrev pub SaysNumberIfAny : Option Data → ℕ → Type 0
 SaysNumberIfAny None n = n ≡ 0
 SaysNumberIfAny (Some d) n = d ≡ integer (pos n)
 
--- the table says this store
+-- the table is that of this store
 pub record SaysStore (ms : Members) (r : StoreRow) : Type 0 where
   pub only : HasOnly store_keys ms
   pub id : SaysId ms name.Id r.id
@@ -54,7 +54,7 @@ pub record SaysOctet (ms : Members) (name : Name) (n : ℕ) : Type 0 where
   pub says : SaysNumber ms name n
   pub octet : n ≤ 255
 
--- the table says this route
+-- the table is that of this route
 pub record SaysRoute (ms : Members) (r : RouteRow) : Type 0 where
   pub only : HasOnly route_keys ms
   pub apid : SaysNumber ms name.Apid r.apid
@@ -62,36 +62,37 @@ pub record SaysRoute (ms : Members) (r : RouteRow) : Type 0 where
   pub subtype : SaysOctet ms name.Subtype r.subtype
   pub store : SaysId ms name.Store r.store
 
--- the table says this limit
+-- the table is that of this limit
 pub record SaysLimit (ms : Members) (r : LimitRow) : Type 0 where
   pub only : HasOnly limit_keys ms
   pub channel : SaysNumber ms name.Channel r.channel
   pub blocks : SaysNumber ms name.Blocks r.blocks
 
--- the value is a table that says a row
+-- the value is the table of a row
 pub record IsTableOf {R : Type 0} (Says : Members → R → Type 0) (d : Data) (r : R) : Type 0 where
   pub members : Members
   pub is_table : d ≡ table members
   pub says : Says members r
 
--- the value is an array of tables that say these rows, one each, in order
+-- the value is an array with a table for each of these rows, in order
 pub record IsArrayOf {R : Type 0} (Says : Members → R → Type 0) (d : Data) (rows : List R) : Type 0 where
   pub items : Items
   pub is_array : d ≡ array items
   pub each : AllZip (IsTableOf Says) (elements items) rows
 
--- the key has an array of tables that say these rows
-pub record SaysRows {R : Type 0} (Says : Members → R → Type 0) (document : Members) (name : Name) (rows : List R) : Type 0 where
+-- the key has an array with a table for each of these rows
+pub record SaysRows {R : Type 0} (Says : Members → R → Type 0) (document : Members) (name : Name) (rows : List R) : Type
+    0 where
   pub value : Data
   pub has : value_at name document ≡ Some value
   pub is : IsArrayOf Says value rows
 
--- the same, or the key is missing, which says no rows
+-- the same, or the key is missing and there are no rows
 abbrev pub SaysRowsIfAny : {R : Type 0} → (Members → R → Type 0) → Option Data → List R → Type 0
 SaysRowsIfAny Says None rows = rows ≡ []
 SaysRowsIfAny Says (Some d) rows = IsArrayOf Says d rows
 
--- the document says these rows, and they are those of a setup within all ranges
+-- the document has these rows, and they are those of a setup within all ranges
 pub record IsReadableDocument (document : Members) (m : SetupRows) : Type 0 where
   pub only : HasOnly document_keys document
   pub stores : SaysRows SaysStore document name.Store m.stores
@@ -99,7 +100,7 @@ pub record IsReadableDocument (document : Members) (m : SetupRows) : Type 0 wher
   pub limits : SaysRowsIfAny SaysLimit (value_at name.Limit document) m.limits
   pub within : IsSetup m
 
--- the octets are the text of a document that says these rows
+-- the bytes are the text of a document with these rows
 pub record IsReadableSetup (octets : List ℕ) (m : SetupRows) : Type 0 where
   pub utf8 : IsUtf8 octets
   pub document : Members

@@ -1,8 +1,9 @@
--- The records of a forecast that a reader still has.
+-- The records of a forecast that a reader has not read yet.
 use Rattle.std.specs.Prelude.{◌≡◌, ℕ, ◌+◌, Bool, true, false, List, [], ◌∷◌, length, Some}
 use Rattle.std.specs.Borrow.{Bor}
 use Rattle.csv.specs.Machine.{ends_at_end}
-use Rattle.csv.specs.Reading.{Ready, default_config, strip_bom, source_of, records, records_from, reader_config, reader_trim, reader_state, is_flexible}
+use Rattle.csv.specs.Reading.{Ready, default_config, strip_bom, source_of, records, records_from, reader_config}
+use Rattle.csv.specs.Reading.{reader_trim, reader_state, is_flexible}
 use Rattle.csv.specs.declared.reader.Reader.{Reader}
 use Rattle.csv.specs.declared.reader.Trim.TheVariants as trim
 
@@ -10,11 +11,11 @@ use Rattle.csv.specs.declared.reader.Trim.TheVariants as trim
 abbrev pub Fields : Type 0
 Fields = List (List ℕ)
 
--- the records of a text, a byte order mark left aside
+-- the records of a text, without its byte order mark
 abbrev pub records_of : List ℕ → List Fields
 records_of text = records default_config (strip_bom text)
 
--- a reader that reads records of any length, and these from now on
+-- a reader of records of any length, with these records still to be read
 pub record HasRecords (reader : Reader (Bor (List ℕ))) (rows : List Fields) : Type 0 where
   pub ready : Ready reader
   pub config : reader_config reader ≡ default_config
@@ -29,7 +30,7 @@ pub record HasRecords (reader : Reader (Bor (List ℕ))) (rows : List Fields) : 
 abbrev pub IsReading : Reader (Bor (List ℕ)) → Type 0
 IsReading reader = (rows : List Fields) × HasRecords reader rows
 
--- a read that found one of these records or the end, and the records after it
+-- a read that found the first of these records or the end, and the records after it
 abbrev pub TakesRecord : List Fields → Bool → Fields → Reader (Bor (List ℕ)) → Type 0
 TakesRecord [] found fields reader = found ≡ false
 TakesRecord (row ∷ rows) found fields reader = (found ≡ true) × (fields ≡ row) × HasRecords reader rows

@@ -8,13 +8,14 @@ use Rattle.mm_base.specs.declared.rows.StoreRow.{StoreRow}
 use Rattle.mm_base.specs.Reading.{◌>>=◌, test}
 use Rattle.mm_problem.specs.Dumping.{Dumping, no_row}
 
--- a store that begins with this many blocks
+-- a store with another start volume
 abbrev pub starting_with : StoreRow → ℕ → StoreRow
 starting_with r start = record { id = r.id; size = r.size; start = start; kind = r.kind; channel = r.channel }
 
 -- the stores, with these start volumes
 abbrev pub rows_from : List StoreRow → List ℕ → List StoreRow
-rows_from rows starts = map (λ s. starting_with (slice_index_or rows s no_row) (slice_index starts s)) (range_with_len 0 (length rows))
+rows_from rows starts = map (λ s. starting_with (slice_index_or rows s no_row) (slice_index starts s))
+    (range_with_len 0 (length rows))
 
 -- the problem of the steps after this one, from these start volumes
 abbrev pub rest_of : Dumping → ℕ → List ℕ → Dumping
@@ -27,11 +28,12 @@ rest_of q step starts = record {
   step_limits = drop (step * length q.limited) q.step_limits;
 }
 
--- whether each store has room for its start volume
+-- whether each start volume fits in its store
 abbrev pub starts_fit : List StoreRow → List ℕ → Bool
-starts_fit rows starts = list_all (λ s. nat_le (slice_index starts s) (slice_index_or rows s no_row).size) (range_with_len 0 (length rows))
+starts_fit rows starts = list_all (λ s. nat_le (slice_index starts s) (slice_index_or rows s no_row).size)
+    (range_with_len 0 (length rows))
 
--- the rest of a problem, where each start volume is within its range
+-- the problem of the steps after this one, if each start volume fits
 unfoldable pub rest_from : Dumping → ℕ → List ℕ → Result Dumping Fault
 rest_from q step starts = do
   within ← test (starts_fit q.rows starts) (Limit name.Start)

@@ -1,6 +1,7 @@
--- What a setup says: packet stores, routes and limits of channels.
+-- The rows of a setup: packet stores, routes and limits of channels.
 use Rattle.std.specs.Prelude.{◌≢◌, ◌≤◌, List, length, map, All, AllPairs, Contains}
-use Rattle.mm_base.specs.declared.limits.TheConstants.{MAX_STORES, MAX_BLOCKS, MAX_CHANNEL, MAX_APID, MAX_ROUTES, CHANNELS}
+use Rattle.mm_base.specs.declared.limits.TheConstants.{MAX_STORES, MAX_BLOCKS, MAX_CHANNEL, MAX_APID, MAX_ROUTES}
+use Rattle.mm_base.specs.declared.limits.TheConstants.{CHANNELS}
 use Rattle.mm_base.specs.declared.rows.StoreRow.{StoreRow}
 use Rattle.mm_base.specs.declared.rows.RouteRow.{RouteRow}
 use Rattle.mm_base.specs.declared.rows.LimitRow.{LimitRow}
@@ -18,23 +19,23 @@ pub record IsStoreRow (r : StoreRow) : Type 0 where
   pub start : r.start ≤ r.size
   pub channel : r.channel ≤ MAX_CHANNEL
 
--- two stores with identifiers of their own
+-- two stores with different identifiers
 abbrev pub HaveOtherIds : StoreRow → StoreRow → Type 0
 HaveOtherIds a b = a.id ≢ b.id
 
--- 1 to 16 stores with identifiers of their own
+-- 1 to 16 stores with different identifiers
 pub record AreStores (stores : List StoreRow) : Type 0 where
   pub has_store : 1 ≤ length stores
   pub at_most : length stores ≤ MAX_STORES
   pub each : All IsStoreRow stores
   pub named : AllPairs HaveOtherIds stores
 
--- a route of a store that there is
+-- a route to one of the stores
 pub record IsRouteRow (stores : List StoreRow) (r : RouteRow) : Type 0 where
   pub apid : r.apid ≤ MAX_APID
   pub store : Contains (map (λ s. s.id) stores) r.store
 
--- at most 256 routes, none twice
+-- at most 256 routes, all different
 pub record AreRoutes (stores : List StoreRow) (routes : List RouteRow) : Type 0 where
   pub at_most : length routes ≤ MAX_ROUTES
   pub each : All (IsRouteRow stores) routes

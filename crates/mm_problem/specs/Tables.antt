@@ -1,4 +1,4 @@
--- The rows of a setup, read from its tables in the order of their faults.
+-- The rows of a setup, read from its tables in the order in which faults are found.
 use Rattle.std.specs.Prelude.{ℕ, ◌+◌, Bool, ◌==◌, not, if◌then◌else◌, List, [], ◌∷◌, ◌++◌, length, Option, Some, None}
 use Rattle.std.specs.Prelude.{Result, Ok, Err, bytes_eq}
 use Rattle.std.specs.List.{list_any}
@@ -34,7 +34,7 @@ limit_keys = name.Channel ∷ name.Blocks ∷ []
 abbrev pub table_at : ℕ → Name → Data → Result Members Fault
 table_at row name d = ok_or (as_table d) (SetupField row name)
 
--- the members of an element that is a table with no other keys than these
+-- the members of an element that is a table with no keys but these
 unfoldable pub table_of : ℕ → Name → List Name → Data → Result Members Fault
 table_of row element keys d = do
   ms ← table_at row element d
@@ -64,7 +64,7 @@ kind_at row ms = do
   word ← text_at row name.Type ms
   kind_of row word
 
--- the start volume that a store's table says by this value, 0 where there is none
+-- the start volume of a store by this value, 0 if there is none
 abbrev pub start_from : ℕ → ℕ → Members → Option Data → Result ℕ Fault
 start_from row size ms None = Ok 0
 start_from row size ms (Some d) = number_at row name.Start 0 size ms
@@ -73,7 +73,7 @@ start_from row size ms (Some d) = number_at row name.Start 0 size ms
 abbrev pub start_at : ℕ → ℕ → Members → Result ℕ Fault
 start_at row size ms = start_from row size ms (value_at name.Start ms)
 
--- the row in the table after these earlier rows, where it passes the tests beside them
+-- the row in the table, if it passes the tests against these earlier rows
 unfoldable pub row_after : {R : Type 0} → (ℕ → Data → Result R Fault) → (List R → R → Result (Unit {0}) Fault)
     → List R → Data → Result R Fault
 row_after row_at new_row earlier d = do
@@ -81,7 +81,7 @@ row_after row_at new_row earlier d = do
   new ← new_row earlier row
   Ok row
 
--- these earlier rows, and after them those that the tables say
+-- these rows, then those of the tables
 unfoldable pub rows_in : {R : Type 0} → (List R → Data → Result R Fault) → List R → List Data → Result (List R) Fault
 rows_in next earlier [] = Ok earlier
 rows_in next earlier (d ∷ ds) = do
@@ -103,7 +103,7 @@ store_at row d = do
 abbrev pub has_store : List StoreRow → List ℕ → Bool
 has_store stores id = list_any (λ r. bytes_eq r.id id) stores
 
--- the test that no store so far has the row's identifier
+-- the test that no earlier store has the row's identifier
 abbrev pub new_store : List StoreRow → StoreRow → Result (Unit {0}) Fault
 new_store earlier row = test (not (has_store earlier row.id)) (SetupField (length earlier + 1) name.Repeated)
 
@@ -121,7 +121,7 @@ route_at row d = do
   store ← id_at row name.Store ms
   Ok (record { apid = apid; service = service; subtype = subtype; store = store })
 
--- the tests that a route is to one of the stores, and that it is none of those so far
+-- the tests that a route leads to one of the stores, and differs from all earlier routes
 unfoldable pub new_route : List StoreRow → List RouteRow → RouteRow → Result (Unit {0}) Fault
 new_route stores earlier row = do
   stored ← test (has_store stores row.store) (SetupField (length earlier + 1) name.Store)
@@ -139,7 +139,7 @@ limit_at row d = do
   blocks ← number_at row name.Blocks 0 MAX_BLOCKS ms
   Ok (record { channel = channel; blocks = blocks })
 
--- the test that no limit so far is of the row's channel
+-- the test that no earlier limit has the row's channel
 abbrev pub new_limit : List LimitRow → LimitRow → Result (Unit {0}) Fault
 new_limit earlier row =
     test (not (list_any (λ r. r.channel == row.channel) earlier)) (SetupField (length earlier + 1) name.Repeated)

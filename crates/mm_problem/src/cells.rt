@@ -1,4 +1,4 @@
-//! What the cells of a forecast say.
+//! The values in the cells of a forecast.
 ghost use Rattle.std.specs.Prelude.{◌≤◌, IfOk};
 ghost use Rattle.mm_base.specs.declared.limits.TheConstants.{MAX_BLOCKS};
 ghost use Rattle.mm_problem.specs.Cells.{amount_of, step_of};

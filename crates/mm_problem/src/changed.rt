@@ -9,7 +9,7 @@ use mm_base::{NoMemory, StoreRow};
 use std::alloc::Global;
 
 impl Problem {
-    // The same problem once more.
+    // A copy of the problem.
     fn copy(&self, alloc: Global) -> Result<Problem, NoMemory>
         ensures { IfOk result (λ problem. problem ≡ self.now) }
     {
@@ -28,7 +28,7 @@ impl Problem {
         })
     }
 
-    /// The problem with this window in the step, in blocks.
+    /// The problem with another window in a step, in blocks.
     pub fn with_window(&self, alloc: Global, step: u32, blocks: u32) -> Result<Problem, NoMemory>
         requires first { 1 ≤ step }
         requires last { step ≤ length self.now.windows }
@@ -40,7 +40,7 @@ impl Problem {
         Ok(problem)
     }
 
-    /// The problem with this limit of the channel in the setup, in blocks a step.
+    /// The problem with another limit of a channel in the setup, in blocks a step.
     pub fn with_limit(&self, alloc: Global, channel: u8, blocks: u32) -> Result<Problem, NoMemory>
         requires channel { channel < length self.now.limits }
         requires most { blocks ≤ MAX_BLOCKS }
@@ -51,7 +51,8 @@ impl Problem {
         Ok(problem)
     }
 
-    /// The problem with this limit in the step for a channel, in blocks: for that in this place, from 0, of those of `limited`.
+    /// The problem with another limit of a channel in a step, in blocks. The channel is given by its place in
+    /// `limited`, from 0.
     pub fn with_column_limit(
         &self,
         alloc: Global,
@@ -70,7 +71,7 @@ impl Problem {
         Ok(problem)
     }
 
-    /// The problem where the store has this size, in blocks, and begins with as many blocks as it then has room for.
+    /// The problem with another size of a store, in blocks. A start volume above the size becomes the size.
     pub fn with_size(&self, alloc: Global, store: usize, blocks: u32) -> Result<Problem, NoMemory>
         requires store { store < length self.now.rows }
         requires first { 1 ≤ blocks }

@@ -1,4 +1,4 @@
-//! The columns of a forecast that have limits of channels.
+//! The columns of a forecast with limits of channels.
 ghost use Rattle.std.specs.Prelude.{◌≡◌, ◌+◌, ◌≤◌, nat_lt, [], length, drop, vec_len, IfOk};
 ghost use Rattle.std.specs.List.{list_all};
 ghost use Rattle.csv.specs.Records.{fields_of};
@@ -15,7 +15,7 @@ use mm_base::numbers::Numeral;
 use mm_base::{CHANNELS, MAX_CHANNEL, StoreRow};
 use std::alloc::Global;
 
-// The channel of a column with limits, by its name.
+// The channel of a column of limits, from the column's name.
 #[tactic(auto, unfolding(crate::specs::Forecast::channel_in))]
 fn channel_in(name: &[u8]) -> Result<u8, Fault>
     ensures { Gives NoMemory (λ c. c) result (channel_in name.now) }
@@ -28,14 +28,14 @@ fn channel_in(name: &[u8]) -> Result<u8, Fault>
     }
 }
 
-// Whether all these channels are below this one.
+// Whether all these channels are below a given one.
 pub(crate) fn are_below(channels: &[u8], channel: u8) -> bool
     ensures { result ≡ list_all (λ c. nat_lt c channel) channels.now }
 {
     channels.iter().all(|below| *below < channel)
 }
 
-// The channels of the columns from this place on, which rise.
+// The channels of the columns from a place on, in rising order.
 fn channels_in(alloc: Global, row: &ByteRecord, first: usize) -> Result<Vec<u8>, Fault>
     requires { first ≤ length (fields_of row.now) }
     ensures channels { Gives NoMemory (λ v. v.items) result (channels_in [] (drop first (fields_of row.now))) }
@@ -50,7 +50,7 @@ fn channels_in(alloc: Global, row: &ByteRecord, first: usize) -> Result<Vec<u8>,
     Ok(channels)
 }
 
-// The channels with columns of limits that a header says, where it names these stores.
+// The channels with a column of limits in a header, which names these stores first.
 #[tactic(auto, unfolding(crate::specs::Forecast::limited_in))]
 pub(crate) fn limited_in(
     alloc: Global,

@@ -1,4 +1,4 @@
-//! The tests of a problem from data, which are those of the readers.
+//! The tests of a problem that is made of data. They are the same as those of the readers.
 ghost use Rattle.std.specs.Prelude.{◌≤◌, ◌<◌, List, [], length, pos, Result};
 ghost use Rattle.mm_base.specs.Reading.{Gives};
 ghost use Rattle.mm_base.specs.declared.limits.TheConstants.{MAX_STEPS, MAX_BLOCKS, MAX_CHANNEL};
@@ -17,7 +17,7 @@ use mm_base::{CHANNELS, LimitRow, MAX_BLOCKS, MAX_CHANNEL, StoreRow};
 
 // A row that is tested after the rows before it.
 pub(crate) trait Tested: Sized {
-    // Its tests, in order.
+    // The tests of the row, in order.
     ghost fits: { List Self → Self → Result (Unit {0}) Fault };
 
     fn test(earlier: &[Self], row: &Self) -> Result<(), Fault>
@@ -71,7 +71,7 @@ impl Tested for u8 {
     }
 }
 
-// Tests rows, each after those before it.
+// Tests rows, each against those before it.
 #[tactic(auto, using(crate::proofs::DataLaws::no_row_left))]
 pub(crate) fn test_rows<R: Tested>(rows: &[R]) -> Result<(), Fault>
     requires { length rows.now ≤ 256 }
@@ -101,7 +101,7 @@ fn test_amounts(name: Name, amounts: &[u32]) -> Result<(), Fault>
     Ok(())
 }
 
-// Tests a step after this many.
+// Tests the step that follows this number of steps.
 #[tactic(auto, unfolding(crate::specs::Data::step_fits))]
 fn test_step(earlier: usize, window: u32, arrivals: &[u32]) -> Result<(), Fault>
     ensures { Gives NoMemory (λ x. x) result (step_fits earlier window arrivals.now) }

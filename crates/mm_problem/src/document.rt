@@ -4,7 +4,8 @@ ghost use Rattle.std.specs.Option.{ok_or};
 ghost use Rattle.toml.specs.Parse.{parse_document};
 ghost use Rattle.toml.specs.View.{table_view};
 ghost use Rattle.mm_problem.specs.Arrays.{lists_of};
-ghost use Rattle.mm_problem.specs.Document.{text_of, document_of, lists_at, stores_counted, limits_counted, counts_of, AreCounted};
+ghost use Rattle.mm_problem.specs.Document.{text_of, document_of, lists_at, stores_counted, limits_counted, counts_of};
+ghost use Rattle.mm_problem.specs.Document.{AreCounted};
 ghost use Rattle.mm_problem.specs.declared.fault.Fault.TheVariants.{NoMemory, SetupText};
 ghost use Rattle.mm_base.specs.Reading.{Gives};
 
@@ -23,7 +24,7 @@ pub(crate) struct Arrays<'a> {
     pub(crate) limits: &'a [Value],
 }
 
-// The octets as a text.
+// The bytes as a text.
 #[tactic(auto, using(crate::proofs::TomlViews::is_utf8_decides))]
 fn text_of(octets: &[u8]) -> Result<&str, Fault>
     ensures { Gives NoMemory (λ s. s.now) result (text_of octets.now) }
@@ -47,7 +48,7 @@ fn parsed(alloc: Global, text: &str) -> Result<Table, Fault>
     }
 }
 
-// The document that the octets say.
+// The document that the bytes spell.
 #[tactic(auto, unfolding(crate::specs::Document::document_of))]
 pub(crate) fn document_of(alloc: Global, octets: &[u8]) -> Result<Table, Fault>
     ensures { Gives NoMemory (λ t. table_view t) result (document_of octets.now) }
@@ -79,7 +80,7 @@ pub(crate) fn arrays_at(document: &Table) -> Result<Arrays<'_>, Fault>
     })
 }
 
-// Tests how many stores there are.
+// Tests the number of stores.
 pub(crate) fn test_store_count(stores: usize) -> Result<(), Fault>
     ensures { Gives NoMemory (λ x. x) result (stores_counted stores) }
 {
@@ -89,14 +90,14 @@ pub(crate) fn test_store_count(stores: usize) -> Result<(), Fault>
     )
 }
 
-// Tests how many limits there are.
+// Tests the number of limits.
 pub(crate) fn test_limit_count(limits: usize) -> Result<(), Fault>
     ensures { Gives NoMemory (λ x. x) result (limits_counted limits) }
 {
     test(limits <= CHANNELS, Fault::Limit { name: Name::Limits })
 }
 
-// Tests how many tables there are.
+// Tests the numbers of tables.
 #[tactic(auto, unfolding(crate::specs::Document::counts_of))]
 pub(crate) fn test_counts(arrays: Arrays<'_>) -> Result<(), Fault>
     ensures counts { Gives NoMemory (λ x. x) result (counts_of (lists_of arrays.entry)) }

@@ -1,4 +1,4 @@
-//! Why a setup or a forecast is refused.
+//! The faults for which a setup or a forecast is refused.
 ghost use Rattle.std.specs.Prelude.{◌≡◌};
 
 use mm_base::{Refusal, Refused, refusals};
@@ -6,7 +6,7 @@ use std::alloc::{AllocError, AllocFailed};
 use std::fmt;
 use thiserror::Error;
 
-/// What a refusal names: a key of the setup, a column of the forecast, or a count.
+/// The name in a refusal: a key of the setup, a column of the forecast, or a count.
 #[derive(Clone, Copy, Debug, PartialEq, Eq)]
 pub enum Name {
     Store,
@@ -34,7 +34,7 @@ pub enum Name {
 impl Name {
     ghost use Rattle.mm_problem.specs.Name.{text_of};
 
-    /// The key as a setup writes it, which is also the name that a refusal prints.
+    /// The name as a setup writes it and a refusal prints it.
     #[must_use]
     pub fn text(self) -> &'static str
         ensures text { result.now ≡ text_of self }
@@ -70,7 +70,7 @@ impl fmt::Display for Name {
     }
 }
 
-/// Why a setup or a forecast is refused. It is shown as its number, its name and its fields.
+/// Why a setup or a forecast is refused. A fault is shown as its number, its name and its fields.
 #[derive(Clone, Copy, Debug, PartialEq, Eq, Error)]
 pub enum Fault {
     NoMemory,

@@ -1,4 +1,4 @@
-//! What a table of a setup says at its keys.
+//! The values at the keys of a setup's tables.
 ghost use Rattle.std.specs.Prelude.{◌≡◌, ◌≤◌, IfOk, option_map, map, string_bytes};
 ghost use Rattle.std.specs.BTreeMap.{keys};
 ghost use Rattle.std.specs.List.{list_all};
@@ -24,7 +24,7 @@ fn are_named(names: &[Name], table: &Table) -> bool
     table.keys().all(|key| is_named(names, key.as_str()))
 }
 
-// Whether a table has no other keys than these names.
+// Whether a table has no keys but these names.
 #[tactic(auto, using(crate::proofs::TomlViews::has_only_by_map))]
 pub(crate) fn has_only(names: &[Name], table: &Table) -> bool
     ensures { result ≡ has_only names.now (table_view table.now) }
@@ -99,7 +99,7 @@ pub(crate) fn array_at(name: Name, document: &Table) -> Result<&[Value], Fault>
     }
 }
 
-// The same at a key that may be missing.
+// The same for a key that may be missing.
 pub(crate) fn array_if_any(name: Name, document: &Table) -> Result<&[Value], Fault>
     ensures { Gives NoMemory (λ vs. map view vs.now) result (array_if_any name (table_view document.now)) }
 {

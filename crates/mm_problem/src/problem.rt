@@ -1,6 +1,6 @@
-//! The dumping problem: what the setup and the forecast say together.
+//! The dumping problem of a setup and a forecast.
 ghost use Rattle.std.specs.Prelude.{◌≡◌, ◌==◌, ◌<◌, ◌≤◌, length, slice_index, slice_index_or, position, bytes_eq, IfOk};
-ghost use Rattle.std.specs.Prelude.{IfErr, IfSome, IfNone};
+ghost use Rattle.std.specs.Prelude.{◌*◌, drop, IfErr, IfSome, IfNone};
 ghost use Rattle.mm_base.specs.declared.limits.TheConstants.{MAX_STORES, MAX_STEPS, MAX_BLOCKS, MAX_CHANNEL, CHANNELS};
 ghost use Rattle.mm_base.specs.Id.{IsIdField};
 ghost use Rattle.mm_problem.specs.Dumping.{no_row, row, place, size, start, channel, setup_limit, step_limit};
@@ -31,11 +31,11 @@ pub struct Problem {
     pub(crate) rows: Vec<StoreRow>,
     pub(crate) limits: [Option<u32>; CHANNELS],
     pub(crate) windows: Vec<u32>,
-    // step by step, in each the stores in order
+    // step by step, and within a step in store order
     pub(crate) arrived: Vec<u32>,
-    // the channels that have a limit of their own in each step, rising
+    // the channels with a limit for each step, in rising order
     pub(crate) limited: Vec<u8>,
-    // step by step, in each these channels in order
+    // step by step, and within a step in the order of these channels
     pub(crate) step_limits: Vec<u32>,
 }
 
@@ -83,7 +83,7 @@ fn started(rows: &[StoreRow], starts: &[u32], place: usize) -> StoreRow
     }
 }
 
-// Whether each store has room for its start volume.
+// Whether each start volume fits in its store.
 fn starts_fit(rows: &[StoreRow], starts: &[u32]) -> bool
     requires { length starts.now ≡ length rows.now }
     ensures { result ≡ starts_fit rows.now starts.now }
@@ -104,7 +104,16 @@ fn rows_from(alloc: Global, rows: &[StoreRow], starts: &[u32]) -> Result<Vec<Sto
     Ok(rows.collect(alloc)?)
 }
 
-// The limit of a channel, where there is one.
+// The cells of the steps after a step, in a table with this number of cells for each step.
+#[tactic(auto, using(std::proofs::lemmas::List::take_rest))]
+fn later(cells: &[u32], width: usize, step: u32) -> &[u32]
+    requires { step * width ≤ length cells.now }
+    ensures { result.now ≡ drop (step * width) cells.now }
+{
+    &cells[step as usize * width..]
+}
+
+// The limit of a channel, if it has one.
 fn limit_of(limits: &[LimitRow], channel: u8) -> Option<u32>
     ensures { result ≡ limit_of limits.now channel }
 {
@@ -126,7 +135,7 @@ fn column_of(limited: &[u8], channel: u8) -> Option<usize>
     limited.iter().position(|of| *of == channel)
 }
 
-// The lesser of two limits, of those that there are.
+// The lesser of two limits, either of which may be missing.
 fn lesser(a: Option<u32>, b: Option<u32>) -> Option<u32>
     ensures lesser { result ≡ lesser a b }
 {
@@ -138,9 +147,9 @@ fn lesser(a: Option<u32>, b: Option<u32>) -> Option<u32>
 }
 
 impl Problem {
-    /// The problem of these stores and limits of channels, windows of the steps, and arrivals step by step, in each the
-    /// stores in order. Otherwise the first fault, as the readers test what they read: 28 `SetupField` for a repeated
-    /// store or channel, 29 `ForecastText` where there are not as many arrivals as stores in each step, or 33 `Limit`;
+    /// The problem of these stores, limits of channels, windows, and arrivals (step by step, and within a step in store
+    /// order). Otherwise the first fault, by the same tests as those of the readers: 28 `SetupField` for a repeated
+    /// store or channel, 29 `ForecastText` if the number of arrivals is not that of stores times steps, or 33 `Limit`;
     /// or 0 `NoMemory`.
     #[tactic(auto, unfolding(crate::specs::Data::problem_from))]
     pub fn new(
@@ -173,9 +182,10 @@ impl Problem {
         })
     }
 
-    /// The same problem with limits of their own in each step for these channels, which rise: step by step, in each the
-    /// channels in order. Otherwise the first fault, as the reader tests such columns: 30 `Header`, 29 `ForecastText`
-    /// where there are not as many limits as channels in each step, or 33 `Limit`; or 0 `NoMemory`.
+    /// The same problem with a limit for each step and each of these channels, which rise. The limits come step by
+    /// step, and within a step in channel order. Otherwise the first fault, by the same tests as those of such columns:
+    /// 30 `Header`, 29 `ForecastText` if the number of limits is not that of channels times steps, or 33 `Limit`; or 0
+    /// `NoMemory`.
     #[tactic(auto, unfolding(crate::specs::Data::limited_by))]
     pub fn with_step_limits(
         &self,
@@ -203,8 +213,8 @@ impl Problem {
         })
     }
 
-    /// The problem of the steps after this one, where each store begins with this many blocks, in setup order. A start
-    /// above its store's size is 33 `Limit`; or 0 `NoMemory`.
+    /// The problem of the steps after this one, with these start volumes in setup order. A start volume above its
+    /// store's size is 33 `Limit`; or 0 `NoMemory`.
     #[tactic(auto, unfolding(crate::specs::Rest::rest_from))]
     pub fn rest(&self, alloc: Global, step: u32, starts: &[u32]) -> Result<Problem, Fault>
         requires before_last { step < length self.now.windows }
@@ -217,12 +227,10 @@ impl Problem {
         test(fit, Fault::Limit { name: Name::Start })?;
         let rows = rows_from(alloc, stores, starts)?;
         let windows = Vec::from_slice(alloc, &self.windows[step as usize..])?;
-        let first = place(stores.len(), step + 1, 0);
-        let arrived = Vec::from_slice(alloc, &self.arrived[first..])?;
+        let arrived = Vec::from_slice(alloc, later(&self.arrived, stores.len(), step))?;
         let own = self.limited.as_slice();
         let limited = Vec::from_slice(alloc, own)?;
-        let first_limit = place(own.len(), step + 1, 0);
-        let step_limits = Vec::from_slice(alloc, &self.step_limits[first_limit..])?;
+        let step_limits = Vec::from_slice(alloc, later(&self.step_limits, own.len(), step))?;
         Ok(Problem {
             rows,
             limits: self.limits,
@@ -233,7 +241,7 @@ impl Problem {
         })
     }
 
-    /// The problem that a setup and the CSV text of a forecast say. Otherwise the first fault of the forecast: 29
+    /// The problem of a setup and the CSV text of a forecast. Otherwise the first fault of the forecast: 29
     /// `ForecastText`, 30 `Header`, 31 `Cell`, 32 `StepNumber` or 33 `Limit`; or 0 `NoMemory`.
     #[tactic(auto, unfolding(crate::specs::Forecast::problem_of))]
     pub fn read(alloc: Global, setup: &Setup, text: &[u8]) -> Result<Problem, Fault>
@@ -259,7 +267,7 @@ impl Problem {
         })
     }
 
-    /// How many stores there are, 1 to 16.
+    /// The number of stores, 1 to 16.
     #[must_use]
     pub fn stores(&self) -> usize
         ensures stores { result ≡ length self.now.rows }
@@ -268,7 +276,7 @@ impl Problem {
         self.rows.len()
     }
 
-    /// How many steps there are, 1 to 256.
+    /// The number of steps, 1 to 256.
     #[must_use]
     pub fn steps(&self) -> u32
         ensures steps { result ≡ length self.now.windows }
@@ -277,7 +285,7 @@ impl Problem {
         self.windows.len() as u32
     }
 
-    /// How many virtual channels there are: 8.
+    /// The number of virtual channels, 8.
     #[must_use]
     pub fn channels(&self) -> u8
         ensures channels { result ≡ length self.now.limits }
@@ -287,7 +295,7 @@ impl Problem {
         limits.len() as u8
     }
 
-    /// The place of the store with this identifier, from 0, or none.
+    /// The place of the store with this identifier, from 0, or `None`.
     #[must_use]
     pub fn place(&self, id: &StoreId) -> Option<usize>
         ensures found { IfSome result (λ s. (s ≡ place self.now id.now) × (s < length self.now.rows)) }
@@ -304,12 +312,12 @@ impl Problem {
         ensures is_field { IsIdField result }
     {
         let id = self.rows[store].id;
-        // Its field is that of an identifier, as `field` ensures.
+        // The bytes are those of an identifier, as `field` ensures.
         let _field = id.field();
         id
     }
 
-    /// How many blocks a store holds at the most.
+    /// How many blocks a store can hold.
     #[must_use]
     pub fn size(&self, store: usize) -> u32
         requires store { store < length self.now.rows }
@@ -319,7 +327,7 @@ impl Problem {
         self.rows[store].size
     }
 
-    /// How many blocks a store holds as the first step begins.
+    /// How many blocks a store holds at the start of the first step.
     #[must_use]
     pub fn start(&self, store: usize) -> u32
         requires store { store < length self.now.rows }
@@ -339,7 +347,7 @@ impl Problem {
         self.rows[store].channel
     }
 
-    /// The limit of a channel in the setup, in blocks a step; none where it has none.
+    /// The limit of a channel in the setup, in blocks a step, or `None`.
     #[must_use]
     pub fn setup_limit(&self, channel: u8) -> Option<u32>
         ensures limit { result ≡ setup_limit self.now channel }
@@ -359,8 +367,8 @@ impl Problem {
         Some(self.column_limit(column, step))
     }
 
-    /// How many blocks may leave the stores of a channel together in a step: as many as the setup's limit and the
-    /// forecast's limit of this step let through, of those that there are; none where it has neither.
+    /// How many blocks can leave through a channel in a step: the lesser of the setup's limit and the forecast's limit
+    /// of this step, or the one that there is. `None` if there is neither.
     #[must_use]
     pub fn limit(&self, channel: u8, step: u32) -> Option<u32>
         requires first { 1 ≤ step }
@@ -378,7 +386,7 @@ impl Problem {
         }
     }
 
-    /// The channels that have a limit of their own in each step, rising.
+    /// The channels with a limit for each step, in rising order.
     #[must_use]
     pub fn limited(&self) -> &[u8]
         ensures channels { result.now ≡ self.now.limited }
@@ -386,8 +394,7 @@ impl Problem {
         self.limited.as_slice()
     }
 
-    /// The limit that the forecast has in a step for a channel, in blocks: that in this place, from 0, of those of
-    /// `limited`.
+    /// The forecast's limit of a channel in a step, in blocks. The channel is given by its place in `limited`, from 0.
     #[must_use]
     pub fn column_limit(&self, column: usize, step: u32) -> u32
         requires column { column < length self.now.limited }
@@ -399,7 +406,7 @@ impl Problem {
         self.step_limits[place(self.limited.len(), step, column)]
     }
 
-    /// How many blocks come to a store in a step.
+    /// How many blocks arrive in a store in a step.
     #[must_use]
     pub fn arrivals(&self, store: usize, step: u32) -> u32
         requires store { store < length self.now.rows }
@@ -411,7 +418,7 @@ impl Problem {
         self.arrived[place(self.rows.len(), step, store)]
     }
 
-    /// How many blocks may leave all stores together in a step.
+    /// How many blocks can leave all stores together in a step.
     #[must_use]
     pub fn window(&self, step: u32) -> u32
         requires first { 1 ≤ step }

@@ -8,7 +8,7 @@ use crate::fault::Fault;
 use csv::{ByteRecord, ErrorKind, Reader, ReaderBuilder};
 use std::alloc::Global;
 
-// A reader of the records of a text, which may have any lengths.
+// A reader of the records of a text. Records can have any number of fields.
 pub(crate) fn reader_of(alloc: Global, text: &[u8]) -> Reader<&[u8]>
     ensures { HasRecords result (records_of text.now) }
 {
@@ -18,8 +18,8 @@ pub(crate) fn reader_of(alloc: Global, text: &[u8]) -> Reader<&[u8]>
         .from_reader(alloc, text)
 }
 
-// Reads the next record, if there is one. Of the errors of `csv` only those of memory and of the reader underneath
-// can come, and a reader over bytes in memory has none.
+// Reads the next record, if there is one. `csv` can fail for lack of memory or because its input fails; bytes in memory
+// never fail.
 pub(crate) fn next_record(reader: &mut Reader<&[u8]>, row: &mut ByteRecord) -> Result<bool, Fault>
     requires { IsReading reader.old }
     ensures takes { IfOk result (λ found. (rows : List Fields) → HasRecords reader.old rows

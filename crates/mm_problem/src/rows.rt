@@ -19,17 +19,17 @@ pub(crate) trait Row: Drop {
 
     ghost new_row: { List StoreRow → List Self → Self → Result (Unit {0}) Fault };
 
-    // The row in the table of this number.
+    // Reads the row in the table with this number.
     fn read(number: u32, value: &Value) -> Result<Self, Fault>
         ensures { Gives NoMemory (λ row. row) result (row_at number (view value.now)) };
 
-    // Tests a row beside the setup's stores and the rows before it.
+    // Tests a row against the setup's stores and the rows before it.
     fn test_new(stores: &[StoreRow], earlier: &[Self], row: &Self) -> Result<(), Fault>
         requires { length earlier.now < 256 }
         ensures { Gives NoMemory (λ x. x) result (new_row stores.now earlier.now row.now) };
 }
 
-// The row in the table after these earlier rows.
+// Reads the row in a table, and tests it against the rows before it.
 #[tactic(auto, unfolding(crate::specs::Tables::row_after))]
 fn row_after<R: Row>(stores: &[StoreRow], earlier: &[R], value: &Value) -> Result<R, Fault>
     requires { length earlier.now < 256 }
@@ -41,7 +41,7 @@ fn row_after<R: Row>(stores: &[StoreRow], earlier: &[R], value: &Value) -> Resul
     Ok(row)
 }
 
-// The rows of these tables, in a setup of these stores.
+// The rows of these tables, in a setup with these stores.
 #[tactic(auto, using(crate::proofs::RowsIn::all_rows))]
 pub(crate) fn rows_of<R: Row>(
     alloc: Global,

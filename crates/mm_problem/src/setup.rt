@@ -13,7 +13,7 @@ use mm_base::{LimitRow, RouteRow, StoreRow};
 use std::alloc::Global;
 use std::marker::Model;
 
-/// What a mission's setup says. Contracts see it as its rows.
+/// The setup of a mission. Contracts see its rows.
 #[derive(Debug, Drop)]
 pub struct Setup {
     pub(crate) stores: Vec<StoreRow>,
@@ -28,10 +28,11 @@ impl Model for Setup {
 
     ghost view = { λ a. record { stores = a.stores.items; routes = a.routes.items; limits = a.limits.items } };
 
-    ghost invariant = { λ a. IsSetup (record { stores = a.stores.items; routes = a.routes.items; limits = a.limits.items }) };
+    ghost invariant = { λ a. IsSetup
+        (record { stores = a.stores.items; routes = a.routes.items; limits = a.limits.items }) };
 }
 
-// The setup that these arrays say.
+// The setup of these arrays.
 #[tactic(auto, unfolding(crate::specs::Document::rows_of))]
 fn setup_of(alloc: Global, arrays: Arrays<'_>) -> Result<Setup, Fault>
     requires { AreCounted (lists_of arrays) }
@@ -48,8 +49,8 @@ fn setup_of(alloc: Global, arrays: Arrays<'_>) -> Result<Setup, Fault>
 }
 
 impl Setup {
-    /// The setup that a TOML text says. Otherwise the first fault of the text: 27 `SetupText`, 28 `SetupField` or
-    /// 33 `Limit`; or 0 `NoMemory`.
+    /// The setup of a TOML text. Otherwise the first fault of the text: 27 `SetupText`, 28 `SetupField` or 33 `Limit`;
+    /// or 0 `NoMemory`.
     #[tactic(auto, unfolding(crate::specs::Document::setup_of, crate::specs::Document::setup_in))]
     pub fn read(alloc: Global, text: &[u8]) -> Result<Setup, Fault>
         ensures setup { Gives NoMemory (λ setup. setup) result (setup_of text.now) }

@@ -2,7 +2,8 @@
 ghost use Rattle.std.specs.Prelude.{◌≡◌, ◌+◌, ◌≤◌, List, length, drop, map, vec_len, IfOk, OnOk};
 ghost use Rattle.csv.specs.Records.{fields_of};
 ghost use Rattle.mm_base.specs.declared.limits.TheConstants.{MAX_STORES, MAX_STEPS, CHANNELS};
-ghost use Rattle.mm_problem.specs.Forecast.{cell_of, cells_from, begins_with, header_of, amounts_in, another_step, some_step, next_step, some_steps, later_steps, header_in, forecast_in};
+ghost use Rattle.mm_problem.specs.Forecast.{cell_of, cells_from, begins_with, header_of, amounts_in, another_step};
+ghost use Rattle.mm_problem.specs.Forecast.{some_step, next_step, some_steps, later_steps, header_in, forecast_in};
 ghost use Rattle.mm_base.specs.Id.{id_text};
 ghost use Rattle.mm_problem.specs.declared.fault.Fault.TheVariants.{NoMemory};
 ghost use Rattle.mm_base.specs.Reading.{Gives};
@@ -18,8 +19,8 @@ use csv::{ByteRecord, Reader};
 use mm_base::{MAX_STEPS, StoreRow};
 use std::alloc::Global;
 
-// The channels with a column of limits, the windows of the steps read so far, and step by step what arrives at each store and
-// these limits.
+// The steps read so far: their windows, and step by step the arrivals and the limits of the channels that have a
+// column.
 #[derive(Drop)]
 pub(crate) struct StepTable {
     pub(crate) limited: Vec<u8>,
@@ -28,7 +29,7 @@ pub(crate) struct StepTable {
     pub(crate) step_limits: Vec<u32>,
 }
 
-// A cell of a record, counted from 0.
+// A cell of a record. Cells count from 0.
 #[tactic(auto, using(crate::proofs::ForecastCells::cell_is))]
 pub(crate) fn cell_of(row: &ByteRecord, i: usize) -> &[u8]
     ensures { result.now ≡ cell_of (fields_of row.now) i }
@@ -60,7 +61,7 @@ fn amounts_of(
     Ok(amounts)
 }
 
-// Tests that a step may follow this many.
+// Tests that one more step may follow this number of steps.
 pub(crate) fn test_another_step(earlier: usize) -> Result<(), Fault>
     ensures { Gives NoMemory (λ x. x) result (another_step earlier) }
 {
@@ -70,7 +71,7 @@ pub(crate) fn test_another_step(earlier: usize) -> Result<(), Fault>
     )
 }
 
-// Tests that there is a step.
+// Tests that there is at least one step.
 pub(crate) fn test_some_step(steps: usize) -> Result<(), Fault>
     ensures { Gives NoMemory (λ x. x) result (some_step steps) }
 {
@@ -137,7 +138,7 @@ pub(crate) fn begins_with_stores(stores: &[StoreRow], row: &ByteRecord) -> bool
         && names_stores(stores, row)
 }
 
-// These steps, of which there has to be one.
+// The steps, if there is at least one.
 #[tactic(auto, unfolding(crate::specs::Forecast::some_steps))]
 fn some_steps(steps: StepTable) -> Result<StepTable, Fault>
     ensures { Gives NoMemory steps_of result (some_steps (steps_of steps)) }
@@ -146,7 +147,7 @@ fn some_steps(steps: StepTable) -> Result<StepTable, Fault>
     Ok(steps)
 }
 
-// Reads the header of a forecast of these stores: the channels that have a column of limits.
+// Reads the header of a forecast for these stores, and returns the channels with a column of limits.
 fn read_header(
     alloc: Global,
     stores: &[StoreRow],
@@ -158,7 +159,8 @@ fn read_header(
     ensures header { (rows : List Fields) → HasRecords reader.old rows
         → Gives NoMemory (λ v. v.items) result (header_in stores.now rows) }
     ensures few { IfOk result (λ v. vec_len v ≤ CHANNELS) }
-    ensures later { OnOk result ((rows : List Fields) → HasRecords reader.old rows → HasRecords reader.new (drop 1 rows)) }
+    ensures later { OnOk result ((rows : List Fields) → HasRecords reader.old rows
+        → HasRecords reader.new (drop 1 rows)) }
 {
     if !next_record(reader, row)? {
         return Err(Fault::Header);
@@ -192,7 +194,7 @@ fn read_steps(
     some_steps(steps)
 }
 
-// The steps that a forecast says.
+// The steps of a forecast.
 pub(crate) fn forecast_of(
     alloc: Global,
     stores: &[StoreRow],

@@ -15,7 +15,7 @@ use crate::rows::Row;
 use mm_base::{Kind, LimitRow, MAX_APID, MAX_BLOCKS, MAX_CHANNEL, RouteRow, StoreId, StoreRow};
 use toml::{Table, Value};
 
-// The keys of the table of a store, of a route and of a limit.
+// The keys in the tables of stores, routes and limits.
 static STORE_KEYS: [Name; 5] = [Name::Id, Name::Size, Name::Type, Name::Channel, Name::Start];
 
 static ROUTE_KEYS: [Name; 4] = [Name::Apid, Name::Service, Name::Subtype, Name::Store];
@@ -29,7 +29,7 @@ fn table_at(row: u32, name: Name, value: &Value) -> Result<&Table, Fault>
     value.as_table().ok_or(Fault::SetupField { row, name })
 }
 
-// The members of an element that is a table with no other keys than these.
+// The members of an element that is a table with no keys but these.
 #[tactic(auto, unfolding(crate::specs::Tables::table_of))]
 fn table_of<'a>(
     row: u32,
@@ -120,7 +120,7 @@ fn has_store(stores: &[StoreRow], id: &StoreId) -> bool
     stores.iter().any(|row| row.id == *id)
 }
 
-// Tests that no store so far has the row's identifier.
+// Tests that no earlier store has the row's identifier.
 pub(crate) fn test_new_store(earlier: &[StoreRow], row: &StoreRow) -> Result<(), Fault>
     requires { length earlier.now < 256 }
     ensures { Gives NoMemory (λ x. x) result (new_store earlier.now row.now) }
@@ -172,7 +172,7 @@ fn has_route(routes: &[RouteRow], route: &RouteRow) -> bool
     routes.iter().any(|row| same_route(row, route))
 }
 
-// Tests that a route is to one of the stores, and that it is none of those so far.
+// Tests that a route leads to one of the stores, and differs from all earlier routes.
 #[tactic(auto, unfolding(crate::specs::Tables::new_route))]
 fn test_new_route(stores: &[StoreRow], earlier: &[RouteRow], row: &RouteRow) -> Result<(), Fault>
     requires { length earlier.now < 256 }
@@ -213,7 +213,7 @@ fn has_limit(limits: &[LimitRow], channel: u8) -> bool
     limits.iter().any(|row| row.channel == channel)
 }
 
-// Tests that no limit so far is of the row's channel.
+// Tests that no earlier limit has the row's channel.
 pub(crate) fn test_new_limit(earlier: &[LimitRow], row: &LimitRow) -> Result<(), Fault>
     requires { length earlier.now < 256 }
     ensures { Gives NoMemory (λ x. x) result (new_limit earlier.now row.now) }

@@ -1,4 +1,5 @@
 //! Amounts of blocks by store.
+use crate::sets::STORE_MASK;
 
 /// A number of blocks for each store.
 #[derive(Clone, Copy)]
@@ -8,11 +9,11 @@ impl Amounts {
     pub(crate) const NOTHING: Amounts = Amounts([0; 16]);
 
     pub(crate) fn of(&self, place: usize) -> u32 {
-        self.0[place & 15]
+        self.0[place & STORE_MASK]
     }
 
     pub(crate) fn set(&mut self, place: usize, blocks: u32) {
-        self.0[place & 15] = blocks;
+        self.0[place & STORE_MASK] = blocks;
     }
 
     pub(crate) fn add(&mut self, place: usize, blocks: u32) {

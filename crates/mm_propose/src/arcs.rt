@@ -1,11 +1,11 @@
-//! Which arcs of a span bear blocks. The network itself is never built.
+//! Which arcs of a span have residual capacity. The network itself is never built.
 use crate::node::Node;
 use crate::sets::{NodeSet, StoreSet};
 use crate::slots::{Row, Slot, Table};
 use crate::stores::Stores;
 use mm_problem::{CHANNELS, MAX_STORES};
 
-/// The arcs of a span that can carry more, or give back what they carry: the slots of each row of its table that bear blocks.
+/// The arcs of a span with residual capacity: in each row of its table, the slots whose amount is not zero.
 #[derive(Clone, Copy)]
 pub(crate) struct Arcs([StoreSet; 8]);
 
@@ -29,33 +29,33 @@ impl Arcs {
         arcs
     }
 
-    // Adds a slot if it bears blocks.
+    // Adds a slot if its amount is not zero.
     fn add(&mut self, table: &Table, slot: Slot) {
         let row = &mut self.0[slot.row()];
         *row = row.with_if(table.of(slot) > 0, slot.column());
     }
 
-    // Looks at the amount in a slot.
+    // Updates the arc of a slot after its amount changed.
     pub(crate) fn look_at(&mut self, table: &Table, slot: Slot) {
         let row = &mut self.0[slot.row()];
         *row = row.without(slot.column());
         self.add(table, slot);
     }
 
-    // Whether a slot bears blocks.
-    pub(crate) fn bears(&self, slot: Slot) -> bool {
+    // Whether the amount in a slot is not zero.
+    pub(crate) fn has_capacity(&self, slot: Slot) -> bool {
         self.0[slot.row()].has(slot.column())
     }
 
-    // The stores, or the channels, whose slots of a row bear blocks.
+    // The stores or channels whose amount in a row is not zero.
     pub(crate) fn of_row(&self, row: Row) -> StoreSet {
         self.0[row as usize]
     }
 
-    // The nodes of the span to which an arc leads from one of these.
+    // The nodes of the span that one arc leads to from a given node.
     pub(crate) fn next(&self, stores: &Stores, nodes: NodeSet) -> NodeSet {
         let (coming, held) = (nodes.stores_in(), nodes.stores_out());
-        let spared = stores_on(stores, nodes).both(self.of_row(Row::Dumped));
+        let spared = stores_of_channels(stores, nodes).both(self.of_row(Row::Dumped));
         let roomy = coming.both(self.of_row(Row::Room));
         let mut next = channels_of(stores, held);
         next = next.either(NodeSet::outs(roomy.either(spared)));
@@ -70,7 +70,7 @@ impl Arcs {
     }
 }
 
-// The channels of these stores.
+// The channels to which the stores belong.
 fn channels_of(stores: &Stores, held: StoreSet) -> NodeSet {
     let mut channels = NodeSet::NONE;
     let mut rest = held;
@@ -84,16 +84,16 @@ fn channels_of(stores: &Stores, held: StoreSet) -> NodeSet {
     channels
 }
 
-// The stores of the channels among these nodes.
-fn stores_on(stores: &Stores, nodes: NodeSet) -> StoreSet {
-    let mut on = StoreSet::NONE;
+// The stores of the channels that are among the nodes.
+fn stores_of_channels(stores: &Stores, nodes: NodeSet) -> StoreSet {
+    let mut found = StoreSet::NONE;
     let mut rest = nodes.channels();
     for _ in 0..CHANNELS {
         let Some(channel) = rest.first() else {
             break;
         };
-        on = on.either(stores.on(channel));
+        found = found.either(stores.of_channel(channel));
         rest = rest.rest();
     }
-    on
+    found
 }

@@ -1,4 +1,4 @@
-//! The cut that a search says: runs of a store that the lost blocks could reach.
+//! The cut that a search gives: for each store, the runs of spans that lost blocks could reach.
 ghost use Rattle.std.specs.Prelude.{◌<◌, length};
 
 use crate::node::Node;
@@ -8,7 +8,7 @@ use mm_plan::{Cut, NoMemory, Stretch};
 use mm_problem::Problem;
 use std::alloc::Global;
 
-// Whether a run of the store goes on after the span: its blocks could be held there, and then be kept.
+// Whether a run of the store continues after the span: its blocks could be held there, and then be kept.
 fn goes_on(nodes: NodeSet, store: usize) -> bool {
     nodes.has(Node::into_store(store)) && nodes.has(Node::out_of_store(store))
 }
@@ -18,7 +18,7 @@ fn is_end(nodes: NodeSet, store: usize) -> bool {
     nodes.has(Node::into_store(store)) && !nodes.has(Node::out_of_store(store))
 }
 
-// Adds the runs of one store, with all steps of their spans.
+// Adds the runs of one store. Each has all steps of its spans.
 fn add_runs(
     cut: &mut Vec<Stretch>,
     problem: &Problem,
@@ -45,7 +45,7 @@ fn add_runs(
     Ok(())
 }
 
-// The stores that have a node in some span to which blocks come.
+// The stores whose in-node was found in some span.
 fn stores_reached(spans: &[Span]) -> StoreSet {
     let mut reached = StoreSet::NONE;
     for span in spans.iter() {
@@ -70,7 +70,7 @@ fn stretches_of(
     Ok(cut)
 }
 
-// Whether the span's last step is counted by channels: a store goes on, and the pass is not reached.
+// Whether the span's last step is counted by channels: the run of a store continues, and the pass is not reached.
 fn is_by_channels(nodes: NodeSet) -> bool {
     !nodes.has(Node::PASS) && !nodes.stores_in().both(nodes.stores_out()).is_empty()
 }
@@ -86,7 +86,7 @@ fn counts_of(alloc: Global, spans: &[Span]) -> Result<Vec<u32>, NoMemory> {
     Ok(counts)
 }
 
-/// The cut that the last search says.
+/// The cut that the last search gives.
 pub(crate) fn cut_of(alloc: Global, problem: &Problem, spans: &[Span]) -> Result<Cut, NoMemory> {
     Ok(Cut {
         stretches: stretches_of(alloc, problem, spans)?,

@@ -1,35 +1,32 @@
 //! A first plan, span by span: each window goes first to the store that overflows next.
 use crate::amounts::Amounts;
-use crate::sets::StoreSet;
+use crate::sets::{STORE_MASK, StoreSet};
 use crate::slots::{Slot, Table};
-use crate::span_sets::SpanSet;
+use crate::span_sets::{MAX_SPANS, SPAN_MASK, SpanSet};
 use crate::spans::Span;
 use crate::stores::Stores;
 use mm_problem::MAX_STORES;
 
-// As many as steps.
-const MAX_SPANS: usize = 256;
-
-// When each store overflows next if nothing more leaves it.
+// When each store overflows next if no more blocks leave it.
 #[derive(Clone, Copy)]
 struct Outlook {
-    // what left each store so far, or was lost
-    gone: Amounts,
-    // the span of its next overflow, or that after the last where it has none,
+    // the blocks of each store that have left or were lost so far,
+    removed: Amounts,
+    // the span of its next overflow, or the number of spans if there is none,
     due: [usize; MAX_STORES],
-    // and by how many blocks
+    // the number of blocks by which it overflows,
     blocks: Amounts,
-    // the stores whose next overflow is in each span
+    // the stores whose next overflow is in each span,
     calendar: [StoreSet; MAX_SPANS],
-    // the spans that have such stores
+    // and the spans in which a store overflows next
     busy: SpanSet,
 }
 
 impl Outlook {
-    // The outlook before the first span.
+    // The outlook at the start of the first span.
     fn of(stores: &Stores, spans: &[Span]) -> Outlook {
         let mut outlook = Outlook {
-            gone: Amounts::NOTHING,
+            removed: Amounts::NOTHING,
             due: [0; MAX_STORES],
             blocks: Amounts::NOTHING,
             calendar: [StoreSet::NONE; MAX_SPANS],
@@ -43,34 +40,37 @@ impl Outlook {
 
     // The stores whose next overflow is in a span.
     fn due_in(&self, span: usize) -> StoreSet {
-        self.calendar[span & 255]
+        self.calendar[span & SPAN_MASK]
     }
 
-    // Takes a store out of the calendar.
+    // Removes a store from the calendar.
     fn take_out(&mut self, store: usize) {
-        let due = self.due[store & 15];
+        let due = self.due[store & STORE_MASK];
         let others = self.due_in(due).without(store);
-        self.calendar[due & 255] = others;
+        self.calendar[due & SPAN_MASK] = others;
         if others.is_empty() {
             self.busy.remove(due);
         }
     }
 
-    // Enters the next overflow of a store.
+    // Enters the next overflow of a store in the calendar.
     fn enter(&mut self, store: usize, span: usize, blocks: u32) {
-        self.due[store & 15] = span;
+        self.due[store & STORE_MASK] = span;
         self.blocks.set(store, blocks);
-        self.calendar[span & 255] = self.due_in(span).with(store);
+        self.calendar[span & SPAN_MASK] = self.due_in(span).with(store);
         self.busy.add(span);
     }
 
-    // Seeks the next overflow of a store, which does not come before the span.
+    // Finds the next overflow of a store, which is not before the span.
     fn look_ahead(&mut self, stores: &Stores, spans: &[Span], store: usize, from: usize) {
-        let bears = stores.size(store).saturating_add(self.gone.of(store));
+        let capacity = stores.size(store).saturating_add(self.removed.of(store));
         self.take_out(store);
-        self.due[store & 15] = spans.len();
+        self.due[store & STORE_MASK] = spans.len();
         for k in from..spans.len() {
-            let blocks = spans[k].table.of(Slot::come(store)).saturating_sub(bears);
+            let blocks = spans[k]
+                .table
+                .of(Slot::arrived(store))
+                .saturating_sub(capacity);
             if blocks > 0 {
                 self.enter(store, k, blocks);
                 break;
@@ -78,23 +78,23 @@ impl Outlook {
         }
     }
 
-    // Lets blocks of a store be gone.
+    // Records that blocks leave a store.
     fn leave(&mut self, stores: &Stores, spans: &[Span], store: usize, blocks: u32) {
-        self.gone.add(store, blocks);
-        self.look_ahead(stores, spans, store, self.due[store & 15]);
+        self.removed.add(store, blocks);
+        self.look_ahead(stores, spans, store, self.due[store & STORE_MASK]);
     }
 }
 
-// How many blocks of a store may still leave in a span.
+// How many more blocks of a store can leave in a span.
 fn room(stores: &Stores, table: &Table, store: usize) -> u32 {
     let open = table.of(Slot::open(stores.channel(store)));
     let kept = table.of(Slot::kept(store));
     open.min(table.of(Slot::IDLE)).min(kept)
 }
 
-// Lets a span's arrivals come into a store; what it keeps is all that it holds then. Answers what is lost.
-fn arrive(table: &mut Table, store: usize, size: u32, gone: u32) -> u32 {
-    let coming = table.of(Slot::come(store)).saturating_sub(gone);
+// Adds the arrivals of a span to a store, which keeps all that it can hold. Returns the number of lost blocks.
+fn arrive(table: &mut Table, store: usize, size: u32, removed: u32) -> u32 {
+    let coming = table.of(Slot::arrived(store)).saturating_sub(removed);
     let held = coming.min(size);
     let lost = coming.saturating_sub(held);
     table.set(Slot::lost(store), lost);
@@ -104,42 +104,42 @@ fn arrive(table: &mut Table, store: usize, size: u32, gone: u32) -> u32 {
     lost
 }
 
-// Lets blocks leave a store.
+// Moves blocks out of a store, through its channel.
 fn dump(table: &mut Table, store: usize, channel: usize, blocks: u32) {
     table.shift(Slot::kept(store), Slot::dumped(store), blocks);
     table.shift(Slot::open(channel), Slot::sent(channel), blocks);
     table.take(Slot::IDLE, blocks);
 }
 
-// Lets the arrivals of a span come. Answers the stores that lose some.
-fn arrivals(stores: &Stores, table: &mut Table, gone: &Amounts) -> StoreSet {
+// Adds the arrivals of a span to all stores. Returns the stores that lose blocks.
+fn arrivals(stores: &Stores, table: &mut Table, removed: &Amounts) -> StoreSet {
     let mut losing = StoreSet::NONE;
     for store in 0..stores.count() {
-        let lost = arrive(table, store, stores.size(store), gone.of(store));
+        let lost = arrive(table, store, stores.size(store), removed.of(store));
         losing = losing.with_if(lost > 0, store);
     }
     losing
 }
 
-// Lets the arrivals of a span come. Where some are lost, the overflow has come. Answers whether some are.
+// Adds the arrivals of a span, and finds the next overflow of each store that loses blocks. Returns whether one does.
 fn fill_stores(stores: &Stores, spans: &mut [Span], outlook: &mut Outlook, at: usize) -> bool {
     let Some(span) = spans.get_mut(at) else {
         return false;
     };
-    let losing = arrivals(stores, &mut span.table, &outlook.gone);
+    let losing = arrivals(stores, &mut span.table, &outlook.removed);
     let mut rest = losing;
     for _ in 0..MAX_STORES {
         let (Some(store), Some(span)) = (rest.first(), spans.get(at)) else {
             break;
         };
-        outlook.gone.add(store, span.table.of(Slot::lost(store)));
+        outlook.removed.add(store, span.table.of(Slot::lost(store)));
         outlook.look_ahead(stores, spans, store, at.saturating_add(1));
         rest = rest.rest();
     }
     !losing.is_empty()
 }
 
-// Lets blocks of these stores leave, of each as many as avert its next overflow.
+// Dumps from each of the stores the blocks that avert its next overflow.
 fn avert(stores: &Stores, spans: &mut [Span], outlook: &mut Outlook, at: usize, due: StoreSet) {
     let mut rest = due;
     for _ in 0..MAX_STORES {
@@ -155,7 +155,7 @@ fn avert(stores: &Stores, spans: &mut [Span], outlook: &mut Outlook, at: usize, 
     }
 }
 
-// Whether nothing of the window of a span is left.
+// Whether the window of a span is used up.
 fn is_used_up(spans: &[Span], at: usize) -> bool {
     match spans.get(at) {
         Some(span) => span.table.of(Slot::IDLE) == 0,
@@ -163,8 +163,8 @@ fn is_used_up(spans: &[Span], at: usize) -> bool {
     }
 }
 
-// Gives the window of a span to the stores: to those that overflow in the next span, then to those that overflow in the one
-// after it, and so on. A store whose overflow is averted overflows later, and is met again there.
+// Gives the window of a span to the stores in the order of their next overflows. A store whose overflow is averted
+// overflows later, and gets its turn again there.
 fn empty_stores(stores: &Stores, spans: &mut [Span], outlook: &mut Outlook, at: usize) {
     let mut span = at;
     for _ in 0..spans.len() {
@@ -180,9 +180,9 @@ fn empty_stores(stores: &Stores, spans: &mut [Span], outlook: &mut Outlook, at: 
     }
 }
 
-/// Plans span by span. Without limits of channels the plan loses least: a block that must leave by the next overflow is a
-/// unit job with a due time, and the job that is due first goes first (Horn 1974; Dertouzos 1974). With limits it may not. Answers
-/// whether it loses blocks.
+/// Plans span by span, and returns whether the plan loses blocks. Without limits of channels the plan loses least: a
+/// block that must leave by the next overflow is a unit job with a due time, and the job that is due first goes first
+/// (Horn 1974; Dertouzos 1974). With limits it may lose more.
 pub(crate) fn dump_by_next_overflow(stores: &Stores, spans: &mut [Span]) -> bool {
     let mut outlook = Outlook::of(stores, spans);
     let mut is_losing = false;

@@ -1,9 +1,9 @@
-//! What is proposed where the stores are served in order.
+//! The proposal that serves the stores in order.
 ghost use Rattle.std.specs.Prelude.{IfOk};
 ghost use Rattle.mm_plan.specs.Table.{HasShape};
 
-use crate::lane::Lane;
 use crate::order_cuts::cut_of_first;
+use crate::profile::Profile;
 use crate::proposal::Proposal;
 use crate::serve::Service;
 use crate::spans::{Span, spans_of};
@@ -12,7 +12,7 @@ use mm_plan::{Cut, NoMemory, Plan};
 use mm_problem::{MAX_BLOCKS, Problem};
 use std::alloc::Global;
 
-// The cut of nothing.
+// The cut with no stretch and no count.
 fn no_cut(alloc: Global) -> Cut {
     Cut {
         stretches: Vec::new(alloc),
@@ -20,7 +20,7 @@ fn no_cut(alloc: Global) -> Cut {
     }
 }
 
-// The last of these cuts once more, and where there is none that of nothing.
+// A copy of the last cut, or the cut with no stretch if the list is empty.
 fn last_cut(alloc: Global, cuts: &[Cut]) -> Result<Cut, NoMemory> {
     match cuts.last() {
         Some(cut) => Ok(Cut {
@@ -31,20 +31,26 @@ fn last_cut(alloc: Global, cuts: &[Cut]) -> Result<Cut, NoMemory> {
     }
 }
 
-// Writes what leaves a store in each span into its last step.
-fn write_lane(plan: &mut Plan, problem: &Problem, spans: &[Span], store: usize, lane: &Lane)
+// Writes what leaves a store in each span to the last step of the span.
+fn write_profile(
+    plan: &mut Plan,
+    problem: &Problem,
+    spans: &[Span],
+    store: usize,
+    profile: &Profile,
+)
     requires { HasShape problem.now plan.old }
     ensures { HasShape problem.now plan.new }
 {
     for (at, span) in spans.iter().enumerate() {
         if 0 < span.last && span.last <= problem.steps() && store < problem.stores() {
-            plan.set(store, span.last, lane.dumped(at).min(MAX_BLOCKS));
+            plan.set(store, span.last, profile.dumped(at).min(MAX_BLOCKS));
         }
     }
 }
 
-/// A plan for the problem that is meant to serve the stores in order, and cuts of the first stores, which mm_cut can
-/// look at. Nothing is promised of what the plan loses, nor that it fits.
+/// A plan that is meant to serve the stores in order, and cuts of the first stores for the checker in `mm_cut`. It is
+/// not promised that the plan fits, nor how much it loses.
 pub fn propose_in_order(alloc: Global, problem: &Problem) -> Result<Proposal, NoMemory>
     ensures shape { IfOk result (λ proposal. HasShape problem.now proposal.plan) }
 {
@@ -62,16 +68,16 @@ pub fn propose_in_order(alloc: Global, problem: &Problem) -> Result<Proposal, No
                 alloc,
                 problem,
                 spans,
-                service.lanes.as_slice(),
-                &service.seek.dead,
+                service.profiles.as_slice(),
+                &service.search.exhausted,
             )?
         } else {
             last_cut(alloc, cuts.as_slice())?
         };
         cuts.push(cut)?;
     }
-    for (store, lane) in service.lanes.iter().enumerate() {
-        write_lane(&mut plan, problem, spans, store, lane);
+    for (store, profile) in service.profiles.iter().enumerate() {
+        write_profile(&mut plan, problem, spans, store, profile);
     }
     let cut = cuts.pop().unwrap_or_else(|| no_cut(alloc));
     Ok(Proposal {

@@ -1,27 +1,27 @@
-//! A proposal of a dump plan and of a cut that may show that it loses least. It is a guess that others verify.
+//! Proposes a dump plan, and a cut that may show that the plan loses least. Callers verify the proposal.
 #![tactic(auto)]
 
 mod amounts;
 mod arcs;
 mod cuts;
 mod greedy;
-mod hop;
 mod in_order;
-mod lane;
 mod moves;
 mod node;
 mod order_cuts;
+mod path_search;
 mod paths;
+mod profile;
 mod proposal;
 mod reached;
 mod search;
-mod seek;
 mod serve;
 mod sets;
 mod slots;
 mod span_sets;
 mod spans;
 mod stores;
+mod transfer;
 mod windows;
 
 pub use in_order::propose_in_order;

@@ -1,17 +1,17 @@
-//! Moving lost blocks along the paths that a search found.
+//! Moves lost blocks along the paths that a search found.
 use crate::paths::{Link, link_to, lost_to};
 use crate::spans::Span;
 use crate::stores::Stores;
 use mm_plan::NoMemory;
 use std::alloc::Global;
 
-// More than the arcs that one search lets be walked.
+// More than the arcs that can be walked after one search.
 const WALKS: u32 = 1 << 22;
 
-// How many dead ends are met before a new search is the shorter way.
+// After more dead ends than this a new search is cheaper.
 const DEAD_ENDS: u32 = 1024;
 
-/// The path that is walked, and what came of the walks since the last search.
+/// The current path, and the results of the walks since the last search.
 #[derive(Drop)]
 pub(crate) struct Walks {
     path: Vec<Link>,
@@ -28,15 +28,15 @@ impl Walks {
         }
     }
 
-    // Whether blocks were moved, and a new search is the shorter way to more.
+    // Whether blocks were moved, and a new search is the cheaper way to move more.
     fn are_over(&self) -> bool {
         self.have_moved && self.dead_ends > DEAD_ENDS
     }
 
-    // How many blocks the path bears.
-    fn least(&self) -> u32 {
+    // The bottleneck of the path: how many blocks all its arcs can take.
+    fn bottleneck(&self) -> u32 {
         match self.path.last() {
-            Some(link) => link.least,
+            Some(link) => link.bottleneck,
             None => u32::MAX,
         }
     }
@@ -44,27 +44,28 @@ impl Walks {
     // Adds an arc to the path.
     fn walk(&mut self, spans: &[Span], link: Link) -> Result<(), NoMemory> {
         let mut link = link;
-        link.least = self.least().min(link.most(spans));
+        link.bottleneck = self.bottleneck().min(link.capacity(spans));
         self.path.push(link)?;
         Ok(())
     }
 
-    // Moves as many blocks along the path as it bears, and keeps of it what comes before the first arc that bears no more. The
-    // path comes to no node twice, so that its arcs bear as many blocks fewer, each for itself.
+    // Moves as many blocks along the path as its bottleneck allows, and shortens it to the arcs before the first full
+    // one. The path visits no node twice, so each arc is used once.
     fn move_along(&mut self, spans: &mut [Span]) {
-        let blocks = self.least();
+        let blocks = self.bottleneck();
         let mut least = u32::MAX;
-        let mut bearing = 0;
+        let mut open = 0;
         for link in self.path.as_mut_slice().iter_mut() {
             least = least.min(link.apply(spans, blocks));
-            link.least = least;
-            bearing = usize::saturating_add(bearing, usize::from(least > 0));
+            link.bottleneck = least;
+            open = usize::saturating_add(open, usize::from(least > 0));
         }
-        self.path.truncate(bearing);
+        self.path.truncate(open);
         self.have_moved = true;
     }
 
-    // Forgets the node that the path has come back to, since no blocks come to it, and the arc from it.
+    // Removes the node that the walk has reached from what was found, since no arc leads to it, and the last arc from
+    // the path.
     fn step_forward(&mut self, spans: &mut [Span]) {
         if let Some(link) = self.path.pop() {
             if let Some(span) = spans.get_mut(link.from.span) {
@@ -75,7 +76,7 @@ impl Walks {
     }
 }
 
-// Walks back from an arc to lost blocks, and moves them along the path, until the arc bears no more or nothing comes to it.
+// Walks back from an arc to lost blocks, and moves them along the path, until the arc is full or no path leads to it.
 fn move_to(
     stores: &Stores,
     spans: &mut [Span],
@@ -104,16 +105,16 @@ fn move_to(
     Ok(())
 }
 
-// Whether a search found where an arc comes from, and the arc bears blocks.
+// Whether a search found the node at the start of an arc, and the arc has capacity.
 fn is_reached(spans: &[Span], link: &Link) -> bool {
     match spans.get(link.from.span) {
-        Some(span) => span.found.nodes().has(link.from.node) && link.most(spans) > 0,
+        Some(span) => span.found.nodes().has(link.from.node) && link.capacity(spans) > 0,
         None => false,
     }
 }
 
-/// Moves lost blocks into the rest of the windows, and into what the stores keep as the plan ends. Answers whether any was
-/// moved.
+/// Moves lost blocks to unused parts of windows, and to what the stores keep at the end of the plan. Returns whether
+/// any block was moved.
 pub(crate) fn move_lost(
     stores: &Stores,
     spans: &mut [Span],

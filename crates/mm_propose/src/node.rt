@@ -1,54 +1,56 @@
-//! The nodes of one span: blocks come into a store, are held in it, leave it for its channel, and leave the channel for the
-//! pass.
+//! The nodes of one span: blocks enter a store, are held in it, leave it through its channel, and leave the channel in
+//! the pass.
 ghost use Rattle.std.specs.Prelude.{◌<◌};
 
-/// A node of a span, by its place in a word or a table of 64. Stores and channels count from 0.
+use crate::sets::{CHANNEL_MASK, STORE_MASK};
+
+/// A node of a span, as a place in a word or a table of 64. Stores and channels count from 0.
 #[derive(Clone, Copy)]
 pub(crate) struct Node(u8);
 
-/// What a node stands for.
+/// The kinds of nodes.
 #[derive(Clone, Copy)]
 pub(crate) enum NodeKind {
-    /// What a store gets: what it kept of the span before and what arrives.
+    /// The input of a store: what it kept from the previous span, and what arrives.
     In(usize),
-    /// What it holds of that.
+    /// What a store holds.
     Out(usize),
-    /// What leaves the stores of a channel.
+    /// What leaves through a channel.
     Channel(usize),
-    /// What leaves all stores.
+    /// What leaves in the pass, through all channels.
     Pass,
 }
 
 impl Node {
-    /// What leaves all stores.
+    /// What leaves in the pass, through all channels.
     pub(crate) const PASS: Node = Node(40);
 
-    // What a store gets.
+    // The input of a store.
     pub(crate) fn into_store(store: usize) -> Node {
-        Node((store & 15) as u8)
+        Node((store & STORE_MASK) as u8)
     }
 
-    // What it holds.
+    // What a store holds.
     pub(crate) fn out_of_store(store: usize) -> Node {
-        Node((16 + (store & 15)) as u8)
+        Node((16 + (store & STORE_MASK)) as u8)
     }
 
-    // What leaves the stores of a channel.
+    // What leaves through a channel.
     pub(crate) fn channel(channel: usize) -> Node {
-        Node((32 + (channel & 7)) as u8)
+        Node((32 + (channel & CHANNEL_MASK)) as u8)
     }
 
     pub(crate) fn kind(self) -> NodeKind {
         let place = self.place();
         match place >> 4 {
-            0 => NodeKind::In(place & 15),
-            1 => NodeKind::Out(place & 15),
-            _ if place < 40 => NodeKind::Channel(place & 7),
+            0 => NodeKind::In(place & STORE_MASK),
+            1 => NodeKind::Out(place & STORE_MASK),
+            _ if place < 40 => NodeKind::Channel(place & CHANNEL_MASK),
             _ => NodeKind::Pass,
         }
     }
 
-    // The node's place.
+    // The place of the node.
     pub(crate) fn place(self) -> usize
         ensures { result < 64 }
     {
@@ -56,7 +58,7 @@ impl Node {
     }
 }
 
-/// A node of a span, which counts from 0.
+/// A node and its span. Spans count from 0.
 #[derive(Clone, Copy)]
 pub(crate) struct Place {
     pub(crate) span: usize,

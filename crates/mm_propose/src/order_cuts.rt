@@ -1,7 +1,7 @@
-//! The cuts of the first stores: runs of a store that the lost blocks could reach.
+//! The cuts of the first stores: for each store, the runs of spans that lost blocks could reach.
 ghost use Rattle.std.specs.Prelude.{◌<◌, length};
 
-use crate::lane::Lane;
+use crate::profile::Profile;
 use crate::reached::Reached;
 use crate::span_sets::SpanSet;
 use crate::spans::Span;
@@ -9,7 +9,7 @@ use mm_plan::{Cut, NoMemory, Stretch};
 use mm_problem::Problem;
 use std::alloc::Global;
 
-// The first step of a span.
+// The first step of a span, which follows the last step of the previous one.
 fn first_step(spans: &[Span], at: usize) -> u32 {
     match at.checked_sub(1) {
         Some(before) => last_step(spans, before).saturating_add(1),
@@ -17,7 +17,7 @@ fn first_step(spans: &[Span], at: usize) -> u32 {
     }
 }
 
-// Its last step.
+// The last step of a span.
 fn last_step(spans: &[Span], at: usize) -> u32 {
     match spans.get(at) {
         Some(span) => span.last,
@@ -25,19 +25,19 @@ fn last_step(spans: &[Span], at: usize) -> u32 {
     }
 }
 
-// Adds the runs of one store: those of the spans in which more of it could leave or be kept, each with the span after
-// it, in which the store is full, and the spans in which it loses blocks that could not leave before.
+// Adds the runs of one store. A run is made of spans in which more of its blocks could leave or be kept, and ends with
+// the next span, in which the store is full. A span in which it loses blocks that could not leave earlier is a run too.
 fn add_runs(
     cut: &mut Vec<Stretch>,
     problem: &Problem,
     spans: &[Span],
     store: usize,
-    lane: &Lane,
+    profile: &Profile,
     more: SpanSet,
 ) -> Result<(), NoMemory>
     requires { store < length problem.now.rows }
 {
-    let mut ends = lane.losing.either(more.next()).without(more);
+    let mut ends = profile.losing.either(more.next()).without(more);
     for _ in spans.iter() {
         let Some(end) = ends.take_first() else {
             break;
@@ -55,25 +55,26 @@ fn add_runs(
     Ok(())
 }
 
-/// The cut of the stores that are served. A step counts by channels where more could leave by closed channels alone.
+/// The cut of the stores that are served. A step is counted by channels if more could leave through closed channels
+/// alone.
 pub(crate) fn cut_of_first(
     alloc: Global,
     problem: &Problem,
     spans: &[Span],
-    lanes: &[Lane],
-    dead: &Reached,
+    profiles: &[Profile],
+    exhausted: &Reached,
 ) -> Result<Cut, NoMemory> {
     let mut stretches = Vec::new(alloc);
     let mut by_channels = Vec::new(alloc);
     let mut inner = SpanSet::NONE;
-    for (store, lane) in lanes.iter().enumerate() {
-        let more = dead.of(store);
+    for (store, profile) in profiles.iter().enumerate() {
+        let more = exhausted.of(store);
         inner = inner.either(more);
         if store < problem.stores() {
-            add_runs(&mut stretches, problem, spans, store, lane, more)?;
+            add_runs(&mut stretches, problem, spans, store, profile, more)?;
         }
     }
-    let mut rest = inner.without(dead.passes);
+    let mut rest = inner.without(exhausted.passes);
     for _ in spans.iter() {
         let Some(at) = rest.take_first() else {
             break;

@@ -1,17 +1,17 @@
-//! Paths by which a block that is lost could go instead, walked back from where it would end.
+//! Paths that a lost block could take instead. They are walked backwards, from where the block would end.
 use crate::node::{Node, NodeKind, Place};
 use crate::slots::{Row, Slot};
 use crate::spans::Span;
 use crate::stores::Stores;
 use mm_problem::{CHANNELS, MAX_STORES};
 
-/// An arc of a path: where it comes from, and from which slot of which span it moves blocks to which.
+/// An arc of a path: the node where it starts, and the two slots of a span between which it moves blocks.
 #[derive(Clone, Copy)]
 pub(crate) struct Link {
     pub(crate) from: Place,
     pub(crate) span: usize,
-    /// How many blocks the path bears up to here.
-    pub(crate) least: u32,
+    /// The bottleneck of the path up to this arc.
+    pub(crate) bottleneck: u32,
     takes: Slot,
     gives: Slot,
 }
@@ -22,32 +22,32 @@ impl Link {
         Link {
             from: Place { span, node },
             span,
-            least: u32::MAX,
+            bottleneck: u32::MAX,
             takes,
             gives,
         }
     }
 
-    // More is sent in the rest of the window.
+    // The arc by which more is sent in the window.
     pub(crate) fn into_window(span: usize) -> Link {
         Link::new(span, Node::PASS, Slot::IDLE, Slot::OUTSIDE)
     }
 
-    // A store keeps more.
+    // The arc by which a store keeps more.
     pub(crate) fn keep_more(span: usize, store: usize) -> Link {
         let out = Node::out_of_store(store);
         Link::new(span, out, Slot::ENDLESS, Slot::kept(store))
     }
 
-    // How many blocks it bears.
-    pub(crate) fn most(&self, spans: &[Span]) -> u32 {
+    // How many more blocks can be moved along the arc.
+    pub(crate) fn capacity(&self, spans: &[Span]) -> u32 {
         match spans.get(self.span) {
             Some(span) => span.table.of(self.takes),
             None => 0,
         }
     }
 
-    // Moves blocks along it. Answers how many it bears then.
+    // Moves blocks along the arc. Returns how many more can be moved then.
     pub(crate) fn apply(&self, spans: &mut [Span], blocks: u32) -> u32 {
         let Some(span) = spans.get_mut(self.span) else {
             return 0;
@@ -59,7 +59,7 @@ impl Link {
     }
 }
 
-// The best of the arcs that were looked at: it comes from a node of the lowest batch.
+// The best arc so far: it starts at a node of the lowest batch.
 #[derive(Clone, Copy)]
 struct Choice {
     batch: u16,
@@ -67,7 +67,7 @@ struct Choice {
 }
 
 impl Choice {
-    // Looks at an arc that bears blocks, with the batch in which its node was found.
+    // Considers an arc with capacity, and the batch in which its start was found.
     fn consider(&mut self, batch: Option<u16>, link: Link) {
         if let Some(batch) = batch {
             if batch < self.batch {
@@ -77,39 +77,39 @@ impl Choice {
         }
     }
 
-    // Looks at the arcs to where blocks come into a store: it kept them, or held them and would now not.
+    // Considers the arcs to the input of a store: it kept more blocks before, or holds fewer.
     fn into_store(&mut self, before: Option<&Span>, span: &Span, at: usize, store: usize) {
         let out = Node::out_of_store(store);
         if let Some(before) = before {
             let keep = Link::keep_more(at.saturating_sub(1), store);
             self.consider(before.found.batch(out), keep);
         }
-        if span.arcs.bears(Slot::held(store)) {
+        if span.arcs.has_capacity(Slot::held(store)) {
             let hold = Link::new(at, out, Slot::held(store), Slot::room(store));
             self.consider(span.found.batch(out), hold);
         }
     }
 
-    // Looks at the arcs to what a store holds: blocks come in, or do not leave after all.
+    // Considers the arcs to what a store holds: more blocks come in, or fewer leave.
     fn out_of_store(&mut self, stores: &Stores, span: &Span, at: usize, store: usize) {
-        if span.arcs.bears(Slot::room(store)) {
+        if span.arcs.has_capacity(Slot::room(store)) {
             let node = Node::into_store(store);
             let hold = Link::new(at, node, Slot::room(store), Slot::held(store));
             self.consider(span.found.batch(node), hold);
         }
-        if span.arcs.bears(Slot::dumped(store)) {
+        if span.arcs.has_capacity(Slot::dumped(store)) {
             let node = Node::channel(stores.channel(store));
             let dump = Link::new(at, node, Slot::dumped(store), Slot::OUTSIDE);
             self.consider(span.found.batch(node), dump);
         }
     }
 
-    // Looks at the arc from the span after: blocks are not kept after all.
+    // Considers the arc from the next span: fewer blocks are kept.
     fn not_kept(&mut self, after: Option<&Span>, span: &Span, at: usize, store: usize) {
         let Some(after) = after else {
             return;
         };
-        if span.arcs.bears(Slot::kept(store)) {
+        if span.arcs.has_capacity(Slot::kept(store)) {
             let node = Node::into_store(store);
             let mut keep = Link::new(at, node, Slot::kept(store), Slot::OUTSIDE);
             keep.from.span = at.saturating_add(1);
@@ -117,9 +117,11 @@ impl Choice {
         }
     }
 
-    // Looks at the arcs to a channel: from its stores, and from the pass.
+    // Considers the arcs to a channel: from its stores, and from the pass.
     fn to_channel(&mut self, stores: &Stores, span: &Span, at: usize, channel: usize) {
-        let mut rest = stores.on(channel).both(span.found.nodes().stores_out());
+        let mut rest = stores
+            .of_channel(channel)
+            .both(span.found.nodes().stores_out());
         for _ in 0..MAX_STORES {
             let Some(store) = rest.first() else {
                 break;
@@ -129,13 +131,13 @@ impl Choice {
             self.consider(span.found.batch(out), dump);
             rest = rest.rest();
         }
-        if span.arcs.bears(Slot::sent(channel)) {
+        if span.arcs.has_capacity(Slot::sent(channel)) {
             let send = Link::new(at, Node::PASS, Slot::sent(channel), Slot::open(channel));
             self.consider(span.found.batch(Node::PASS), send);
         }
     }
 
-    // Looks at the arcs to the pass.
+    // Considers the arcs to the pass.
     fn to_pass(&mut self, span: &Span, at: usize) {
         let mut rest = span
             .found
@@ -159,7 +161,7 @@ fn span_before(spans: &[Span], at: usize) -> Option<&Span> {
     spans.get(at.checked_sub(1)?)
 }
 
-/// The arc by which blocks come to a place from one of a lower batch, where there still is one that bears any.
+/// The arc to a place from a node of a lower batch, if one with capacity is left.
 pub(crate) fn link_to(stores: &Stores, spans: &[Span], place: Place) -> Option<Link> {
     let at = place.span;
     let span = spans.get(at)?;
@@ -179,13 +181,13 @@ pub(crate) fn link_to(stores: &Stores, spans: &[Span], place: Place) -> Option<L
     choice.link
 }
 
-/// The arc on which lost blocks begin at a place, where there are any.
+/// The arc on which lost blocks enter at a place, if there are any.
 pub(crate) fn lost_to(spans: &[Span], place: Place) -> Option<Link> {
     let NodeKind::In(store) = place.node.kind() else {
         return None;
     };
     let lost = Slot::lost(store);
-    if !spans.get(place.span)?.arcs.bears(lost) {
+    if !spans.get(place.span)?.arcs.has_capacity(lost) {
         return None;
     }
     Some(Link::new(place.span, place.node, lost, Slot::OUTSIDE))

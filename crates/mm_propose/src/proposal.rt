@@ -1,4 +1,4 @@
-//! What is proposed: a plan, and a cut that may show that it loses least.
+//! The proposal: a plan, and a cut that may show that it loses least.
 ghost use Rattle.std.specs.Prelude.{◌≤◌, length, IfOk};
 ghost use Rattle.mm_plan.specs.Table.{HasShape};
 
@@ -14,21 +14,21 @@ use mm_plan::{Cut, NoMemory, Plan};
 use mm_problem::{MAX_BLOCKS, Problem};
 use std::alloc::Global;
 
-// How many searches are made. Few problems want more than ten.
+// The most searches. Few problems need more than ten.
 const SEARCHES: u32 = 256;
 
-/// A plan, and cuts. Nothing is known of them but that the plan is one for the problem.
+/// A plan with the problem's stores and steps, and cuts. Nothing else is promised of them.
 #[derive(Debug, Drop)]
 pub struct Proposal {
     pub plan: Plan,
     /// The cut of all stores.
     pub cut: Cut,
-    /// Those of the first store, of the first two and so on up to all but one, where the plan is meant to serve the
-    /// stores in order.
+    /// If the plan is meant to serve the stores in order, the cuts of the first store, of the first two and so on, up
+    /// to all but one.
     pub firsts: Vec<Cut>,
 }
 
-// Writes what leaves the stores in a span into its last step.
+// Writes what leaves the stores in a span to the last step of the span.
 fn write_span(plan: &mut Plan, problem: &Problem, span: &Span)
     requires { HasShape problem.now plan.old }
     ensures { HasShape problem.now plan.new }
@@ -45,7 +45,7 @@ fn write_span(plan: &mut Plan, problem: &Problem, span: &Span)
     }
 }
 
-/// The plan that the spans say.
+/// The plan of the spans.
 pub(crate) fn plan_of(alloc: Global, problem: &Problem, spans: &[Span]) -> Result<Plan, NoMemory>
     ensures { IfOk result (HasShape problem.now) }
 {
@@ -56,7 +56,7 @@ pub(crate) fn plan_of(alloc: Global, problem: &Problem, spans: &[Span]) -> Resul
     Ok(plan)
 }
 
-/// Looks at which arcs of each span bear blocks.
+/// Finds the arcs with residual capacity in each span.
 pub(crate) fn look_at_arcs(stores: &Stores, spans: &mut [Span]) {
     for span in spans.iter_mut() {
         let arcs = Arcs::of(stores, &span.table);
@@ -64,8 +64,7 @@ pub(crate) fn look_at_arcs(stores: &Stores, spans: &mut [Span]) {
     }
 }
 
-// Moves lost blocks as long as a search finds where to. The last search finds what the cut is made of. Where nothing is
-// lost, there is nothing to move.
+// Moves lost blocks as long as a search finds a path. The last search gives the cut.
 fn improve(alloc: Global, stores: &Stores, spans: &mut [Span]) -> Result<(), NoMemory> {
     let mut walks = Walks::new(alloc);
     look_at_arcs(stores, spans);
@@ -78,8 +77,8 @@ fn improve(alloc: Global, stores: &Stores, spans: &mut [Span]) -> Result<(), NoM
     Ok(())
 }
 
-/// A plan for the problem and a cut, which `verify` (mm_cut) can look at. Nothing is promised of what the plan loses,
-/// nor that it fits.
+/// A plan for the problem, and a cut for `verify` of `mm_cut`. It is not promised that the plan fits, nor how much it
+/// loses.
 pub fn propose(alloc: Global, problem: &Problem) -> Result<Proposal, NoMemory>
     ensures shape { IfOk result (λ proposal. HasShape problem.now proposal.plan) }
 {

@@ -1,16 +1,17 @@
-//! What a search reached.
+//! The spans that a search reached, by stores and channels.
+use crate::sets::{CHANNEL_MASK, STORE_MASK};
 use crate::span_sets::SpanSet;
 use crate::windows::Windows;
 use mm_problem::{CHANNELS, MAX_STORES};
 
-/// The spans that a search reached.
+/// The spans that a search reached, by stores and channels.
 #[derive(Clone, Copy)]
 pub(crate) struct Reached {
-    // those in which more of each store could leave, or be kept,
+    // the spans in which more of each store could leave or be kept,
     stores: [SpanSet; MAX_STORES],
-    // those in which more could leave by each channel that is closed there,
+    // the spans in which more could leave through each channel that is closed there,
     closed: [SpanSet; CHANNELS],
-    /// and those in which more could leave by a channel that is not.
+    /// The spans in which more could leave through a channel that is open there.
     pub(crate) passes: SpanSet,
 }
 
@@ -21,55 +22,56 @@ impl Reached {
         passes: SpanSet::NONE,
     };
 
-    // The spans in which more of a store could leave, or be kept.
+    // The spans in which more of a store could leave or be kept.
     pub(crate) fn of(&self, store: usize) -> SpanSet {
-        self.stores[store & 15]
+        self.stores[store & STORE_MASK]
     }
 
     // Adds new spans of a store.
-    pub(crate) fn hold(&mut self, store: usize, new: SpanSet) {
-        self.stores[store & 15] = self.stores[store & 15].either(new);
+    pub(crate) fn mark(&mut self, store: usize, new: SpanSet) {
+        self.stores[store & STORE_MASK] = self.stores[store & STORE_MASK].either(new);
     }
 
-    // Adds new spans of a store, and to the doors what could leave there.
+    // Adds new spans of a store, and adds the new exits in these spans.
     pub(crate) fn add(
         &mut self,
         windows: &Windows,
         channel: usize,
         store: usize,
         new: SpanSet,
-        doors: &mut Doors,
+        exits: &mut Exits,
     ) {
-        let channel = channel & 7;
+        let channel = channel & CHANNEL_MASK;
         let shut = new.both(windows.closed(channel));
         let passes = new.without(shut).without(self.passes);
         let closed = shut.without(self.closed[channel]);
-        self.hold(store, new);
+        self.mark(store, new);
         self.closed[channel] = self.closed[channel].either(closed);
         self.passes = self.passes.either(passes);
-        doors.passes = doors.passes.either(passes);
-        doors.closed[channel] = doors.closed[channel].either(closed);
-        doors.are_none &= passes.is_empty() && closed.is_empty();
+        exits.passes = exits.passes.either(passes);
+        exits.closed[channel] = exits.closed[channel].either(closed);
+        exits.are_none &= passes.is_empty() && closed.is_empty();
     }
 }
 
-/// The spans in which more could leave and could not before: by any channel, and by each that is closed there.
+/// The spans in which, since the last layer, more could leave: through any channel, or through one that is closed
+/// there.
 #[derive(Clone, Copy)]
-pub(crate) struct Doors {
+pub(crate) struct Exits {
     pub(crate) are_none: bool,
     passes: SpanSet,
     closed: [SpanSet; CHANNELS],
 }
 
-impl Doors {
-    pub(crate) const NONE: Doors = Doors {
+impl Exits {
+    pub(crate) const NONE: Exits = Exits {
         are_none: true,
         passes: SpanSet::NONE,
         closed: [SpanSet::NONE; CHANNELS],
     };
 
-    // The spans in which the stores of a channel could make way.
+    // The spans in which stores of a channel could give up capacity.
     pub(crate) fn of(&self, channel: usize) -> SpanSet {
-        self.passes.either(self.closed[channel & 7])
+        self.passes.either(self.closed[channel & CHANNEL_MASK])
     }
 }

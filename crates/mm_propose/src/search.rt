@@ -1,4 +1,5 @@
-//! The search for where lost blocks could go instead: over the nodes of all spans, along each arc that bears blocks.
+//! The search for where lost blocks could go instead: over the nodes of all spans, along each arc with residual
+//! capacity.
 use crate::node::Node;
 use crate::sets::NodeSet;
 use crate::slots::Row;
@@ -6,10 +7,10 @@ use crate::span_sets::SpanSet;
 use crate::spans::Span;
 use crate::stores::Stores;
 
-// More than the batches of a span and the sweeps of a search.
+// More than the batches of a span, and than the sweeps of a search.
 const ROUNDS: u32 = 4096;
 
-/// The nodes of a span that a search found, and of each the number of the batch in which it was.
+/// The nodes of a span that a search found, each with the number of its batch.
 #[derive(Clone, Copy)]
 pub(crate) struct Found {
     nodes: NodeSet,
@@ -26,7 +27,7 @@ impl Found {
         self.nodes
     }
 
-    // The batch of a node, where it was found.
+    // The batch of a node, if it was found.
     pub(crate) fn batch(&self, node: Node) -> Option<u16> {
         if self.nodes.has(node) {
             Some(self.batches[node.place()])
@@ -53,32 +54,32 @@ impl Found {
         self.nodes = NodeSet::NONE;
     }
 
-    // Forgets a node from which nothing can be moved on.
+    // Forgets a node to which no path leads.
     pub(crate) fn forget(&mut self, node: Node) {
         self.nodes = self.nodes.without(NodeSet::NONE.with(node));
     }
 }
 
-// How far a search has come: the number of its last batch, and the spans next to which nodes were found since they were looked
-// at, in the one before and in the one after.
+// The progress of a search: the number of its last batch, and the spans to visit again, since new nodes were found in
+// the span before (`forward`) or after (`backward`).
 #[derive(Clone, Copy)]
 struct Progress {
     batch: u16,
-    on: SpanSet,
-    back: SpanSet,
+    forward: SpanSet,
+    backward: SpanSet,
 }
 
 impl Progress {
-    // No node is found yet.
+    // The progress before any node is found.
     fn new() -> Progress {
         Progress {
             batch: 0,
-            on: SpanSet::NONE,
-            back: SpanSet::NONE,
+            forward: SpanSet::NONE,
+            backward: SpanSet::NONE,
         }
     }
 
-    // Adds the nodes and all of the span that can be reached from them, batch by batch. Answers whether one was new.
+    // Adds the nodes and all of the span that can be reached from them, batch by batch. Returns whether one was new.
     fn reach(&mut self, stores: &Stores, spans: &mut [Span], at: usize, nodes: NodeSet) -> bool {
         let last = spans.len().saturating_sub(1);
         let Some(span) = spans.get_mut(at) else {
@@ -97,15 +98,15 @@ impl Progress {
             new = span.arcs.next(stores, new).without(span.found.nodes());
         }
         if at < last {
-            self.on.add(at.saturating_add(1));
+            self.forward.add(at.saturating_add(1));
         }
         if at > 0 {
-            self.back.add(at.saturating_sub(1));
+            self.backward.add(at.saturating_sub(1));
         }
         true
     }
 
-    // Begins at the blocks that are lost in each span.
+    // Starts at the stores that lose blocks in each span.
     fn begin(&mut self, stores: &Stores, spans: &mut [Span]) {
         for at in 0..spans.len() {
             if let Some(span) = spans.get_mut(at) {
@@ -118,15 +119,15 @@ impl Progress {
         }
     }
 
-    // What a store holds it can keep: from each span to the next.
-    fn sweep_on(&mut self, stores: &Stores, spans: &mut [Span]) -> bool {
+    // Reaches from each span to the next: a store can keep what it holds.
+    fn sweep_forward(&mut self, stores: &Stores, spans: &mut [Span]) -> bool {
         let mut is_new = false;
         let mut from = 0;
         for _ in 0..spans.len() {
-            let Some(at) = self.on.first_from(from) else {
+            let Some(at) = self.forward.first_from(from) else {
                 break;
             };
-            self.on.remove(at);
+            self.forward.remove(at);
             let kept = found_in(spans, at.saturating_sub(1)).stores_out();
             is_new |= self.reach(stores, spans, at, NodeSet::ins(kept));
             from = at;
@@ -134,14 +135,14 @@ impl Progress {
         is_new
     }
 
-    // What a store keeps it can let go before: from each span to the one before.
-    fn sweep_back(&mut self, stores: &Stores, spans: &mut [Span]) -> bool {
+    // Reaches from each span to the previous one: a store can dump earlier what it keeps.
+    fn sweep_backward(&mut self, stores: &Stores, spans: &mut [Span]) -> bool {
         let mut is_new = false;
         for _ in 0..spans.len() {
-            let Some(at) = self.back.last() else {
+            let Some(at) = self.backward.last() else {
                 break;
             };
-            self.back.remove(at);
+            self.backward.remove(at);
             let coming = found_in(spans, at.saturating_add(1)).stores_in();
             if let Some(span) = spans.get(at) {
                 let kept = coming.both(span.arcs.of_row(Row::Kept));
@@ -151,12 +152,12 @@ impl Progress {
         is_new
     }
 
-    // Sweeps until no node is new.
+    // Sweeps until no new node is found.
     fn sweep(&mut self, stores: &Stores, spans: &mut [Span]) {
         for _ in 0..ROUNDS {
-            let on = self.sweep_on(stores, spans);
-            let back = self.sweep_back(stores, spans);
-            if !on && !back {
+            let forward = self.sweep_forward(stores, spans);
+            let backward = self.sweep_backward(stores, spans);
+            if !forward && !backward {
                 break;
             }
         }
@@ -171,8 +172,8 @@ fn found_in(spans: &[Span], at: usize) -> NodeSet {
     }
 }
 
-/// Finds all nodes to which lost blocks could go. Each but the first ones has an arc to it from one of a lower batch. A sweep
-/// looks only at the spans next to one in which nodes were found since it looked at them last.
+/// Finds all nodes that lost blocks could reach. Each node except the first ones has an arc from a node of a lower
+/// batch. A sweep visits only spans beside one with new nodes.
 pub(crate) fn search(stores: &Stores, spans: &mut [Span]) {
     let mut progress = Progress::new();
     progress.begin(stores, spans);

@@ -3,7 +3,13 @@ ghost use Rattle.std.specs.Prelude.{◌<◌, IfSome};
 
 use crate::node::Node;
 
-/// Some of the 16 stores, or of the channels, which count as stores do.
+/// Keeps the number of a store below 16.
+pub(crate) const STORE_MASK: usize = 15;
+
+/// Keeps the number of a channel below 8.
+pub(crate) const CHANNEL_MASK: usize = 7;
+
+/// A set of stores or of channels.
 #[derive(Clone, Copy)]
 pub(crate) struct StoreSet(u16);
 
@@ -11,24 +17,24 @@ impl StoreSet {
     pub(crate) const NONE: StoreSet = StoreSet(0);
 
     pub(crate) fn with(self, store: usize) -> StoreSet {
-        StoreSet(self.0 | 1 << (store & 15))
+        StoreSet(self.0 | 1 << (store & STORE_MASK))
     }
 
     pub(crate) fn without(self, store: usize) -> StoreSet {
-        StoreSet(self.0 & !(1 << (store & 15)))
+        StoreSet(self.0 & !(1 << (store & STORE_MASK)))
     }
 
-    // The set, with a store if something holds.
+    // The set, with a store added if `holds`.
     pub(crate) fn with_if(self, holds: bool, store: usize) -> StoreSet {
-        StoreSet(self.0 | u16::from(holds) << (store & 15))
+        StoreSet(self.0 | u16::from(holds) << (store & STORE_MASK))
     }
 
-    // The stores of one set or the other.
+    // The union of two sets.
     pub(crate) fn either(self, other: StoreSet) -> StoreSet {
         StoreSet(self.0 | other.0)
     }
 
-    // The stores of both sets.
+    // The intersection of two sets.
     pub(crate) fn both(self, other: StoreSet) -> StoreSet {
         StoreSet(self.0 & other.0)
     }
@@ -38,10 +44,10 @@ impl StoreSet {
     }
 
     pub(crate) fn has(self, store: usize) -> bool {
-        self.0 >> (store & 15) & 1 == 1
+        self.0 >> (store & STORE_MASK) & 1 == 1
     }
 
-    // The first store, where there is one.
+    // The first store, if there is one.
     pub(crate) fn first(self) -> Option<usize> {
         if self.0 == 0 {
             None
@@ -56,19 +62,19 @@ impl StoreSet {
     }
 }
 
-/// Some of the nodes of a span: two of each store, one of each channel, and the pass.
+/// A set of nodes of a span: two for each store, one for each channel, and the pass.
 #[derive(Clone, Copy)]
 pub(crate) struct NodeSet(u64);
 
 impl NodeSet {
     pub(crate) const NONE: NodeSet = NodeSet(0);
 
-    // The nodes at which blocks come into the stores.
+    // The in-nodes of stores.
     pub(crate) fn ins(stores: StoreSet) -> NodeSet {
         NodeSet(u64::from(stores.0))
     }
 
-    // The nodes of what the stores hold.
+    // The out-nodes of stores.
     pub(crate) fn outs(stores: StoreSet) -> NodeSet {
         NodeSet(u64::from(stores.0) << 16)
     }
@@ -86,12 +92,12 @@ impl NodeSet {
         self.0 >> node.place() & 1 == 1
     }
 
-    // The nodes of one set or the other.
+    // The union of two sets.
     pub(crate) fn either(self, other: NodeSet) -> NodeSet {
         NodeSet(self.0 | other.0)
     }
 
-    // The nodes of both sets.
+    // The intersection of two sets.
     pub(crate) fn both(self, other: NodeSet) -> NodeSet {
         NodeSet(self.0 & other.0)
     }
@@ -104,22 +110,22 @@ impl NodeSet {
         self.0 == 0
     }
 
-    // The stores whose in-node is one of them.
+    // The stores whose in-node is in the set.
     pub(crate) fn stores_in(self) -> StoreSet {
         StoreSet((self.0 & 0xffff) as u16)
     }
 
-    // The stores whose out-node is one of them.
+    // The stores whose out-node is in the set.
     pub(crate) fn stores_out(self) -> StoreSet {
         StoreSet((self.0 >> 16 & 0xffff) as u16)
     }
 
-    // The channels whose node is one of them.
+    // The channels whose node is in the set.
     pub(crate) fn channels(self) -> StoreSet {
         StoreSet((self.0 >> 32 & 0xff) as u16)
     }
 
-    // The place of the first node, where there is one.
+    // The place of the first node, if there is one.
     pub(crate) fn first_place(self) -> Option<usize>
         ensures { IfSome result (λ place. place < 64) }
     {

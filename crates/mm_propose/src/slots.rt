@@ -1,45 +1,47 @@
-//! The amounts of a span: what its stores and channels do, each in its slot.
+//! The amounts of a span, each in a slot of a table with rows for its stores and channels.
 ghost use Rattle.std.specs.Prelude.{◌<◌};
 
-/// The rows of a span's table, each with an amount for each store or channel. The last eight places of `Open` have those that no
-/// store or channel has.
+use crate::sets::STORE_MASK;
+
+/// The rows of the table of a span, each with an amount for each store or channel. The last eight places of `Open` hold
+/// the amounts that belong to no store or channel.
 #[derive(Clone, Copy)]
 pub(crate) enum Row {
-    /// What finds no room in a store.
+    /// What a store loses.
     Lost = 0,
-    /// What it could hold beside what it holds.
+    /// How many more blocks a store could hold.
     Room = 1,
-    /// What it holds before blocks leave it.
+    /// What a store holds before blocks leave it.
     Held = 2,
-    /// What it keeps.
+    /// What a store keeps at the end.
     Kept = 3,
-    /// What leaves it.
+    /// What leaves a store.
     Dumped = 4,
-    /// What a channel would let through beside what it sends.
+    /// How many more blocks could leave through a channel.
     Open = 5,
-    /// What leaves by a channel.
+    /// What leaves through a channel.
     Sent = 6,
-    /// What came to a store since the plan began, with what it held then.
-    Come = 7,
+    /// What arrived in a store since the plan began, with its start volume.
+    Arrived = 7,
 }
 
-/// Where an amount of a span stands in its table. Stores and channels count from 0.
+/// The place of an amount in the table of a span. Stores and channels count from 0.
 #[derive(Clone, Copy)]
 pub(crate) struct Slot(u8);
 
 impl Slot {
-    /// What of the window is not used.
+    /// The unused part of the window.
     pub(crate) const IDLE: Slot = Slot(88);
 
-    /// As many as are wanted.
+    /// An amount without limit.
     pub(crate) const ENDLESS: Slot = Slot(89);
 
-    /// What goes out of the network, or comes into it.
+    /// What enters or leaves the network.
     pub(crate) const OUTSIDE: Slot = Slot(90);
 
     // The slot of a store or a channel in a row.
     fn of(row: Row, column: usize) -> Slot {
-        Slot((row as u8) << 4 | (column & 15) as u8)
+        Slot((row as u8) << 4 | (column & STORE_MASK) as u8)
     }
 
     pub(crate) fn lost(store: usize) -> Slot {
@@ -70,27 +72,27 @@ impl Slot {
         Slot::of(Row::Sent, channel)
     }
 
-    pub(crate) fn come(store: usize) -> Slot {
-        Slot::of(Row::Come, store)
+    pub(crate) fn arrived(store: usize) -> Slot {
+        Slot::of(Row::Arrived, store)
     }
 
-    // Its place in a table of 128.
+    // The place of the slot in a table of 128.
     pub(crate) fn place(self) -> usize
         ensures { result < 128 }
     {
         self.0 as usize & 127
     }
 
-    // The number of its row.
+    // The number of the row.
     pub(crate) fn row(self) -> usize
         ensures { result < 8 }
     {
         self.0 as usize >> 4 & 7
     }
 
-    // Its store or channel.
+    // The store or the channel.
     pub(crate) fn column(self) -> usize {
-        self.0 as usize & 15
+        self.0 as usize & STORE_MASK
     }
 }
 
@@ -99,7 +101,7 @@ impl Slot {
 pub(crate) struct Table([u32; 128]);
 
 impl Table {
-    /// Nothing anywhere.
+    /// The table of zeros.
     pub(crate) const EMPTY: Table = Table([0; 128]);
 
     pub(crate) fn of(&self, slot: Slot) -> u32 {

@@ -1,6 +1,12 @@
 //! Sets of spans.
 
-/// Some of 256 spans.
+/// At most one span for each step.
+pub(crate) const MAX_SPANS: usize = 256;
+
+/// Keeps the number of a span below `MAX_SPANS`.
+pub(crate) const SPAN_MASK: usize = 255;
+
+/// A set of spans, one bit for each.
 #[derive(Clone, Copy)]
 pub(crate) struct SpanSet([u64; 4]);
 
@@ -10,12 +16,12 @@ impl SpanSet {
     /// All spans.
     pub(crate) const ALL: SpanSet = SpanSet([u64::MAX; 4]);
 
-    // The spans from one on to the one before another.
+    // The spans from `first` to before `end`.
     pub(crate) fn between(first: usize, end: usize) -> SpanSet {
         SpanSet::from(first).without(SpanSet::from(end))
     }
 
-    // The spans from one on.
+    // The spans from `first` on.
     fn from(first: usize) -> SpanSet {
         let mut set = SpanSet::NONE;
         for word in 0..4 {
@@ -28,7 +34,7 @@ impl SpanSet {
         set
     }
 
-    // The spans of one set or the other.
+    // The union of two sets.
     pub(crate) fn either(self, other: SpanSet) -> SpanSet {
         let mut set = self;
         for word in 0..4 {
@@ -37,7 +43,7 @@ impl SpanSet {
         set
     }
 
-    // The spans of both sets.
+    // The intersection of two sets.
     pub(crate) fn both(self, other: SpanSet) -> SpanSet {
         let mut set = self;
         for word in 0..4 {
@@ -46,7 +52,7 @@ impl SpanSet {
         set
     }
 
-    // The spans of one set that are not of the other.
+    // The spans that are in the set and not in the other.
     pub(crate) fn without(self, other: SpanSet) -> SpanSet {
         let mut set = self;
         for word in 0..4 {
@@ -63,14 +69,14 @@ impl SpanSet {
         self.0[span >> 6 & 3] >> (span & 63) & 1 == 1
     }
 
-    // Adds or removes a span.
+    // Adds a span if `is_in`, and removes it otherwise.
     pub(crate) fn put(&mut self, span: usize, is_in: bool) {
         let bit = 1 << (span & 63);
         let word = &mut self.0[span >> 6 & 3];
         *word = *word & !bit | u64::from(is_in) << (span & 63);
     }
 
-    // The spans after those.
+    // For each span of the set, the next one.
     pub(crate) fn next(self) -> SpanSet {
         let mut set = SpanSet::NONE;
         let mut carry = 0;
@@ -81,7 +87,7 @@ impl SpanSet {
         set
     }
 
-    // These spans, and those after each of them as far as they go on in a set.
+    // The spans of the set, and those after each of them as long as they are in `way` without a gap.
     pub(crate) fn spread(self, way: SpanSet) -> SpanSet {
         let begin = self.next().both(way);
         let mut set = self.either(begin);
@@ -95,7 +101,7 @@ impl SpanSet {
         set
     }
 
-    // These spans, and those before each of them as far as they go on in a set.
+    // The spans of the set, and those before each of them as long as they are in `way` without a gap.
     pub(crate) fn spread_back(self, way: SpanSet) -> SpanSet {
         let mut set = self;
         let mut carry = 0;
@@ -118,7 +124,7 @@ impl SpanSet {
         set
     }
 
-    // The span of these that is nearest to one, where there is any.
+    // The span of the set that is nearest to a given one, if there is any.
     pub(crate) fn nearest(self, span: usize) -> Option<usize> {
         match (self.last_before(span), self.first_from(span)) {
             (Some(before), Some(after)) => {
@@ -133,12 +139,12 @@ impl SpanSet {
         }
     }
 
-    // All other spans.
+    // All spans that are not in the set.
     pub(crate) fn not(self) -> SpanSet {
         SpanSet::ALL.without(self)
     }
 
-    // The last span before one, where there is any.
+    // The last span before `end`, if there is any.
     pub(crate) fn last_before(self, end: usize) -> Option<usize> {
         self.without(SpanSet::from(end)).last()
     }
@@ -151,7 +157,7 @@ impl SpanSet {
         self.0[span >> 6 & 3] &= !(1 << (span & 63));
     }
 
-    // The first span from this one on, where there is one.
+    // The first span from `from` on, if there is one.
     pub(crate) fn first_from(&self, from: usize) -> Option<usize> {
         let mut before = u64::MAX << (from & 63);
         for word in from >> 6..4 {
@@ -164,14 +170,14 @@ impl SpanSet {
         None
     }
 
-    // Takes the first span out, where there is one.
+    // Removes the first span and returns it, if there is one.
     pub(crate) fn take_first(&mut self) -> Option<usize> {
         let first = self.first_from(0)?;
         self.remove(first);
         Some(first)
     }
 
-    // The last span, where there is one.
+    // The last span, if there is one.
     pub(crate) fn last(&self) -> Option<usize> {
         for at in 0..4 {
             let word = 3 - at;

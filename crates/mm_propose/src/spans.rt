@@ -1,4 +1,4 @@
-//! Spans: steps of which only the last has a window, joined. What arrives in such steps is lost or kept as if it came at once.
+//! Spans: joined steps of which only the last has a window. What arrives in them is lost or kept as if it came at once.
 ghost use Rattle.std.specs.Prelude.{◌≤◌, length};
 
 use crate::amounts::Amounts;
@@ -9,14 +9,14 @@ use mm_plan::NoMemory;
 use mm_problem::{CHANNELS, Problem};
 use std::alloc::Global;
 
-/// A span with what a plan does in it.
+/// A span, and what a plan does in it.
 #[derive(Clone, Copy)]
 pub(crate) struct Span {
     /// The last of its steps, which may have a window.
     pub(crate) last: u32,
-    /// What its stores and channels do.
+    /// The amounts of its stores and channels.
     pub(crate) table: Table,
-    /// Which of its arcs bear blocks.
+    /// The arcs with residual capacity.
     pub(crate) arcs: Arcs,
     /// What the last search found here.
     pub(crate) found: Found,
@@ -31,7 +31,7 @@ impl Span {
     };
 }
 
-// The limit of each channel in a step, `u32::MAX` where it has none.
+// The limit of each channel in a step, `u32::MAX` if it has none.
 fn limits_of(problem: &Problem, step: u32) -> [u32; CHANNELS]
     requires first { 1 ≤ step }
     requires last { step ≤ length problem.now.windows }
@@ -45,7 +45,7 @@ fn limits_of(problem: &Problem, step: u32) -> [u32; CHANNELS]
     limits
 }
 
-// What each store holds as the plan begins.
+// What each store holds at the start of the plan.
 fn starts(problem: &Problem) -> Amounts {
     let mut starts = Amounts::NOTHING;
     for store in 0..problem.stores() {
@@ -54,25 +54,25 @@ fn starts(problem: &Problem) -> Amounts {
     starts
 }
 
-// Adds what arrives in a step.
-fn add_arrivals(come: &mut Amounts, problem: &Problem, step: u32)
+// Adds the arrivals of a step.
+fn add_arrivals(arrived: &mut Amounts, problem: &Problem, step: u32)
     requires first { 1 ≤ step }
     requires last { step ≤ length problem.now.windows }
 {
     for store in 0..problem.stores() {
-        come.add(store, problem.arrivals(store, step));
+        arrived.add(store, problem.arrivals(store, step));
     }
 }
 
-// What a channel lets through in a window, `u32::MAX` where its limit is not below the window.
+// The limit of a channel in a window, `u32::MAX` if it is not below the window.
 fn limit_in(limit: u32, window: u32) -> u32 {
     if limit < window { limit } else { u32::MAX }
 }
 
-// Writes the amounts of a span in which nothing has left yet.
-fn begin(table: &mut Table, come: &Amounts, limits: &[u32; CHANNELS], window: u32) {
+// Writes the amounts of a span in which no block has left yet.
+fn begin(table: &mut Table, arrived: &Amounts, limits: &[u32; CHANNELS], window: u32) {
     for store in 0..16 {
-        table.set(Slot::come(store), come.of(store));
+        table.set(Slot::arrived(store), arrived.of(store));
     }
     for channel in 0..CHANNELS {
         let open = limit_in(limits[channel], window);
@@ -82,15 +82,16 @@ fn begin(table: &mut Table, come: &Amounts, limits: &[u32; CHANNELS], window: u3
     table.set(Slot::ENDLESS, u32::MAX);
 }
 
-/// The spans of a problem: each step without a window is joined to the next that has one, and the last such to the end.
+/// The spans of a problem. Each step without a window is joined to the next step that has one; the last steps without a
+/// window are a span too.
 pub(crate) fn spans_of(alloc: Global, problem: &Problem) -> Result<Vec<Span>, NoMemory> {
     let steps = problem.steps();
     let by_step = !problem.limited().is_empty();
     let mut limits = limits_of(problem, 1);
     let mut spans = Vec::with_capacity(alloc, steps as usize)?;
-    let mut come = starts(problem);
+    let mut arrived = starts(problem);
     for step in 1..steps + 1 {
-        add_arrivals(&mut come, problem, step);
+        add_arrivals(&mut arrived, problem, step);
         let window = problem.window(step);
         if window > 0 || step == steps {
             if by_step {
@@ -100,7 +101,7 @@ pub(crate) fn spans_of(alloc: Global, problem: &Problem) -> Result<Vec<Span>, No
             spans.push(Span::EMPTY)?;
             if let Some(span) = spans.get_mut(at) {
                 span.last = step;
-                begin(&mut span.table, &come, &limits, window);
+                begin(&mut span.table, &arrived, &limits, window);
             }
         }
     }

@@ -1,6 +1,6 @@
-//! What a problem says of its stores, as tables.
+//! The stores of a problem, as tables.
 use crate::amounts::Amounts;
-use crate::sets::StoreSet;
+use crate::sets::{CHANNEL_MASK, STORE_MASK, StoreSet};
 use mm_problem::{CHANNELS, MAX_STORES, Problem};
 
 /// The stores of a problem with their sizes and channels.
@@ -22,9 +22,9 @@ impl Stores {
         for store in 0..count {
             let channel = problem.channel(store);
             sizes.set(store, problem.size(store));
-            channels[store & 15] = channel;
-            let others = by_channel[channel as usize & 7];
-            by_channel[channel as usize & 7] = others.with(store);
+            channels[store & STORE_MASK] = channel;
+            let others = by_channel[channel as usize & CHANNEL_MASK];
+            by_channel[channel as usize & CHANNEL_MASK] = others.with(store);
         }
         Stores {
             count,
@@ -44,11 +44,11 @@ impl Stores {
 
     // The channel of a store.
     pub(crate) fn channel(&self, store: usize) -> usize {
-        self.channels[store & 15] as usize
+        self.channels[store & STORE_MASK] as usize
     }
 
     // The stores of a channel.
-    pub(crate) fn on(&self, channel: usize) -> StoreSet {
-        self.by_channel[channel & 7]
+    pub(crate) fn of_channel(&self, channel: usize) -> StoreSet {
+        self.by_channel[channel & CHANNEL_MASK]
     }
 }

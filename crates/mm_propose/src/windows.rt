@@ -1,34 +1,35 @@
-//! What is left of the windows, and of what the channels let through.
-use crate::hop::{Hop, Move};
+//! The unused parts of the windows and of the limits of channels.
+use crate::sets::CHANNEL_MASK;
 use crate::slots::Slot;
-use crate::span_sets::SpanSet;
+use crate::span_sets::{MAX_SPANS, SPAN_MASK, SpanSet};
 use crate::spans::Span;
+use crate::transfer::{Move, Transfer};
 use mm_problem::CHANNELS;
 
-// A number of blocks for each span, and the spans in which there are none.
+// A number of blocks for each span, and the spans in which it is zero.
 #[derive(Clone, Copy)]
 struct Rest {
-    blocks: [u32; 256],
+    blocks: [u32; MAX_SPANS],
     none: SpanSet,
 }
 
 impl Rest {
     const NOTHING: Rest = Rest {
-        blocks: [0; 256],
+        blocks: [0; MAX_SPANS],
         none: SpanSet::ALL,
     };
 
     fn set(&mut self, at: usize, blocks: u32) {
-        self.blocks[at & 255] = blocks;
+        self.blocks[at & SPAN_MASK] = blocks;
         self.none.put(at, blocks == 0);
     }
 
     fn of(&self, at: usize) -> u32 {
-        self.blocks[at & 255]
+        self.blocks[at & SPAN_MASK]
     }
 }
 
-/// What is left of each window, and of the limit of each channel in it.
+/// The unused part of each window, and of the limit of each channel in it.
 #[derive(Clone, Copy)]
 pub(crate) struct Windows {
     count: usize,
@@ -37,7 +38,7 @@ pub(crate) struct Windows {
 }
 
 impl Windows {
-    // Nothing has left yet.
+    // The windows before any block leaves.
     pub(crate) fn of(spans: &[Span]) -> Windows {
         let mut windows = Windows {
             count: spans.len(),
@@ -53,62 +54,77 @@ impl Windows {
         windows
     }
 
-    // How many spans there are.
+    // The number of spans.
     pub(crate) fn count(&self) -> usize {
         self.count
     }
 
-    // Those of these spans in which more can leave by a channel.
+    // The given spans in which more can leave through a channel.
     pub(crate) fn free(&self, channel: usize, some: SpanSet) -> SpanSet {
         some.without(self.idle.none).without(self.closed(channel))
     }
 
-    // The spans in which no more can leave by a channel.
+    // The spans in which no more can leave through a channel.
     pub(crate) fn closed(&self, channel: usize) -> SpanSet {
-        self.open[channel & 7].none
+        self.open[channel & CHANNEL_MASK].none
     }
 
-    // How many blocks more can leave by a channel.
+    // How many more blocks can leave through a channel.
     fn open(&self, channel: usize, at: usize) -> u32 {
-        self.open[channel & 7].of(at)
+        self.open[channel & CHANNEL_MASK].of(at)
     }
 
-    // How many blocks of a channel can move, for which those of another make way where there are any after them on their path.
-    pub(crate) fn bears(&self, hop: &Hop, channel: usize, after: Option<usize>) -> u32 {
+    // How many blocks of a channel the window takes in a transfer. `after` is the channel of the next store on the
+    // path, which gives up its part of the window; without one the unused part of the window is taken.
+    pub(crate) fn capacity(
+        &self,
+        transfer: &Transfer,
+        channel: usize,
+        after: Option<usize>,
+    ) -> u32 {
         match after {
             Some(after) if after == channel => u32::MAX,
-            Some(_) => self.open(channel, hop.to),
-            None if hop.kind == Move::Kept => u32::MAX,
-            None => self.idle.of(hop.to).min(self.open(channel, hop.to)),
+            Some(_) => self.open(channel, transfer.to),
+            None if transfer.kind == Move::Kept => u32::MAX,
+            None => self
+                .idle
+                .of(transfer.to)
+                .min(self.open(channel, transfer.to)),
         }
     }
 
-    // Moves them.
-    pub(crate) fn apply(&mut self, hop: &Hop, channel: usize, after: Option<usize>, blocks: u32) {
+    // Transfers blocks of a channel, with `after` as for `capacity`.
+    pub(crate) fn apply(
+        &mut self,
+        transfer: &Transfer,
+        channel: usize,
+        after: Option<usize>,
+        blocks: u32,
+    ) {
         match after {
             Some(after) if after == channel => {}
             Some(after) => {
-                self.add(after, hop.to, blocks);
-                self.take(channel, hop.to, blocks);
+                self.add(after, transfer.to, blocks);
+                self.take(channel, transfer.to, blocks);
             }
-            None if hop.kind == Move::Kept => {}
+            None if transfer.kind == Move::Kept => {}
             None => {
-                let idle = self.idle.of(hop.to).saturating_sub(blocks);
-                self.idle.set(hop.to, idle);
-                self.take(channel, hop.to, blocks);
+                let idle = self.idle.of(transfer.to).saturating_sub(blocks);
+                self.idle.set(transfer.to, idle);
+                self.take(channel, transfer.to, blocks);
             }
         }
     }
 
-    // Lets fewer blocks more leave by a channel.
+    // Lowers the unused limit of a channel.
     fn take(&mut self, channel: usize, at: usize, blocks: u32) {
         let open = self.open(channel, at).saturating_sub(blocks);
-        self.open[channel & 7].set(at, open);
+        self.open[channel & CHANNEL_MASK].set(at, open);
     }
 
-    // Lets more leave.
+    // Raises the unused limit of a channel.
     fn add(&mut self, channel: usize, at: usize, blocks: u32) {
         let open = self.open(channel, at).saturating_add(blocks);
-        self.open[channel & 7].set(at, open);
+        self.open[channel & CHANNEL_MASK].set(at, open);
     }
 }

@@ -24,7 +24,7 @@ use Rattle.mm_sensitivity.specs.declared.item.Item.TheVariants.{Window, Size, Li
 use Rattle.mm_sensitivity.specs.Items.{IsItem, number, with_number, fitted, spilled, least_number}
 use Rattle.mm_sensitivity.specs.Worth.{IsLeastLoss, IsPlanFor, IsSaved}
 use Rattle.mm_sensitivity.proofs.Growing.{grows}
-use Rattle.mm_sensitivity.proofs.Losing.{whole_loss, part_fits, whole_fits}
+use Rattle.mm_sensitivity.proofs.Losing.{whole_loss, whole_fits}
 use Rattle.mm_sensitivity.proofs.Spilling.{begins_here, first_step, shows_with, shows_without}
 use Rattle.mm_sensitivity.proofs.Least.{tight, bound-le, bound_counted, bound_uncounted}
 use Rattle.mm_sensitivity.proofs.Windows.{as_many, cut_there, cut_back, wider_window}
@@ -124,13 +124,6 @@ fits_whole q (Size s) b x item fits = whole_fits q s b item x fits
 fits_whole q (Limit c) b x item fits = fits
 fits_whole q (StepLimit k t) b x item fits = fits
 
-fits_part : (q : Dumping) (i : Item) (b : ℕ) (x : Amounts) → IsItem q i → Fits (with_number q i b) x
-    → Fits (fitted q i b) x
-fits_part q (Window t) b x item fits = fits
-fits_part q (Size s) b x item fits = part_fits q s b item x fits
-fits_part q (Limit c) b x item fits = fits
-fits_part q (StepLimit k t) b x item fits = fits
-
 -- the least loss of a problem with a smaller store: that of the problem in which it begins full, and what it has no
 -- room for
 whole_size : CutsBoundLosses → (q : Dumping) (s a k : ℕ) → IsDumping q → s < length q.rows
@@ -171,53 +164,6 @@ whole_least bounds q (Size s) a k is_dumping item is = whole_size bounds q s a k
 whole_least bounds q (Limit c) a k is_dumping item is = subst (IsLeastLoss (with_number q (Limit c) a)) (omega arith) is
 whole_least bounds q (StepLimit c t) a k is_dumping item is = subst (IsLeastLoss (with_number q (StepLimit c t) a))
     (omega arith) is
-
-module _ (helps : OnlyCountedHelps) (q : Dumping) (is_dumping : IsDumping q) (i : Item) (item : IsItem q i) where
-  -- no plan that fits a problem with a smaller number loses less
-  smaller_loses : (a b m : ℕ) → a ≤ b → IsLeastLoss (with_number q i b) m → (x : Amounts) → Fits (with_number q i a) x
-      → m ≤ loss (with_number q i a) x
-  smaller_loses a b m le is x fits =
-      let least = helps (with_number q i b) (with_number q i a) is.cut is.by_channels x is.planned.cut
-      (grows q i a b is_dumping item le is.cut is.by_channels is.planned.cut) fits in
-      omega (arith, ints, least, tight (with_number q i b) m is)
-
-  -- a larger number saves what the least losses differ by
-  pub less_lost : (b n m : ℕ) → number q i ≤ b → IsLeastLoss q n → IsLeastLoss (with_number q i b) m → m ≤ n
-  less_lost b n m larger is_n is_m =
-      let own = with_own q i item in
-      let fits = subst (λ r. Fits r is_n.plan) (sym own) is_n.planned.plan.fits in
-      omega (
-        arith,
-        subst (λ r. m ≤ loss r is_n.plan) own (smaller_loses (number q i) b m larger is_m is_n.plan fits),
-        is_n.loss,
-      )
-
-  pub is_saved : (b n m : ℕ) → number q i ≤ b → IsLeastLoss q n → IsLeastLoss (with_number q i b) m
-      → IsSaved q (with_number q i b) (n - m)
-  is_saved b n m larger is_n is_m =
-      let same : n ≡ m + (n - m) = omega (arith, less_lost b n m larger is_n is_m) in
-      record { after = m; first = subst (IsLeastLoss q) same is_n; second = is_m }
-
-  module _ (a n k : ℕ) (smaller : a ≤ number q i) (is_n : IsLeastLoss q n) (is_k : IsLeastLoss (fitted q i a) k) where
-    -- with a smaller number no less is lost
-    pub more_lost : n ≤ k + spilled q i a
-    more_lost =
-        let fits = fits_whole q i a is_k.plan item is_k.planned.plan.fits in
-        let least = subst (λ r. IsLeastLoss r n) (sym (with_own q i item)) is_n in
-        omega (
-          arith,
-          smaller_loses a (number q i) n smaller least is_k.plan fits,
-          spilled_loss q i a is_k.plan
-              is_dumping item,
-          is_k.loss,
-        )
-
-    -- and that is known of both problems
-    pub costs : CutsBoundLosses → IsSaved (with_number q i a) q (k + spilled q i a - n)
-    costs bounds =
-        let whole = whole_least bounds q i a k is_dumping item is_k in
-        let same : k + spilled q i a ≡ n + (k + spilled q i a - n) = omega (arith, more_lost) in
-        record { after = n; first = subst (IsLeastLoss (with_number q i a)) same whole; second = is_n }
 
 -- ---- where as much is lost
 
@@ -309,23 +255,59 @@ module _ (q : Dumping) (p : Planned) (i : Item) (base : IsPlanFor q p) (item : I
   alike_own b same = subst (λ k. IsLeastLoss (fitted q i k) p.certificate.loss) same
       (own_least q i p.certificate.loss base.problem item least_here)
 
+  -- no plan that fits a problem with a smaller number loses less
+  smaller_loses : OnlyCountedHelps → (a b m : ℕ) → a ≤ b → IsLeastLoss (with_number q i b) m → (x : Amounts)
+      → Fits (with_number q i a) x → m ≤ loss (with_number q i a) x
+  smaller_loses helps a b m le is x fits =
+      let least = helps (with_number q i b) (with_number q i a) is.cut is.by_channels x is.planned.cut
+      (grows q i a b base.problem item le is.cut is.by_channels is.planned.cut) fits in
+      omega (arith, ints, least, tight (with_number q i b) m is)
+
   module _ (helps : OnlyCountedHelps) (b m : ℕ) (least : IsLeastLoss (fitted q i b) m) where
     whole : number q i ≤ b → IsLeastLoss (with_number q i b) m
-    whole larger = subst (λ a. IsLeastLoss a m) (fitted_whole q i b base.problem item larger) least
+    whole larger = subst (λ r. IsLeastLoss r m) (fitted_whole q i b base.problem item larger) least
 
+    -- with a larger number no more is lost
     pub less_there : number q i ≤ b → m ≤ p.certificate.loss
-    less_there larger = less_lost helps q base.problem i item b p.certificate.loss m larger least_here (whole larger)
+    less_there larger =
+        let own = with_own q i item in
+        let fits = subst (λ r. Fits r least_here.plan) (sym own) least_here.planned.plan.fits in
+        omega (
+          arith,
+          subst (λ r. m ≤ loss r least_here.plan) own
+              (smaller_loses helps (number q i) b m larger (whole larger) least_here.plan fits),
+          least_here.loss,
+        )
 
+    -- and it saves the difference
     pub saved_there : number q i ≤ b → IsSaved q (with_number q i b) (p.certificate.loss - m)
-    saved_there larger = is_saved helps q base.problem i item b p.certificate.loss m larger least_here (whole larger)
+    saved_there larger =
+        let same : p.certificate.loss ≡ m + (p.certificate.loss - m) = omega (arith, less_there larger) in
+        record { after = m; first = subst (IsLeastLoss q) same least_here; second = whole larger }
 
+    -- with a smaller number no less is lost
     pub more_there : b ≤ number q i → p.certificate.loss ≤ m + spilled q i b
-    more_there smaller = more_lost helps q base.problem i item b p.certificate.loss m smaller least_here least
+    more_there smaller =
+        let own = subst (λ r. IsLeastLoss r p.certificate.loss) (sym (with_own q i item)) least_here in
+        omega (
+          arith,
+          smaller_loses helps b (number q i) p.certificate.loss smaller own least.plan
+              (fits_whole q i b least.plan item least.planned.plan.fits),
+          spilled_loss q i b least.plan base.problem item,
+          least.loss,
+        )
 
+    -- and the difference is known of both problems
     pub costs_there : CutsBoundLosses → b ≤ number q i
         → IsSaved (with_number q i b) q (m + spilled q i b - p.certificate.loss)
-    costs_there bounds smaller = costs helps q base.problem i item b p.certificate.loss m smaller least_here least
-        bounds
+    costs_there bounds smaller =
+        let n = p.certificate.loss in
+        let same : m + spilled q i b ≡ n + (m + spilled q i b - n) = omega (arith, more_there smaller) in
+        record {
+          after = n;
+          first = subst (IsLeastLoss (with_number q i b)) same (whole_least bounds q i b m base.problem item least);
+          second = least_here;
+        }
 
 -- the least number is no larger than any
 pub least_first : (q : Dumping) (i : Item) → IsDumping q → IsItem q i → least_number i ≤ number q i

@@ -137,15 +137,6 @@ module _ (q : Dumping) (s n : ℕ) (inside : s < length q.rows) (x : Amounts) wh
       ∙ ap (λ k. filter (is_of part c) (range_with_len 0 k)) (sym part_rows)
 
   -- a plan that fits the one fits the other
-  pub part_fits : Fits whole x → Fits part x
-  part_fits fits t from to =
-      let here = fits t from to in
-      record {
-        windowed = subst (λ k. sum_by (in_step x t) (range_with_len 0 k) ≤ window q t) (whole_rows ∙ sym part_rows)
-            here.windowed;
-        limited = λ c b is. subst (λ ss. sum_by (in_step x t) ss ≤ b) (same_stores c) (here.limited c b is);
-      }
-
   pub whole_fits : Fits part x → Fits whole x
   whole_fits fits t from to =
       let here = fits t from to in

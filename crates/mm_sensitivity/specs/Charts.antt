@@ -1,4 +1,4 @@
--- Charts with what windows and limits are worth.
+-- Charts with the worths of windows and limits.
 use Rattle.std.specs.Prelude.{◌≡◌, ◌<◌, ℕ, ◌-◌, ◌≤◌, ◌*◌, List, length, slice_index, slice_index_or, All, Some, None}
 use Rattle.std.specs.Prelude.{IsSome}
 use Rattle.mm_base.specs.declared.limits.TheConstants.{CHANNELS, MAX_BLOCKS, MAX_STEPS, MAX_STORES}
@@ -14,13 +14,13 @@ use Rattle.mm_chart.specs.Picture.{WorthLists, picture_of}
 use Rattle.mm_chart.specs.Series.{step_limit_worth}
 use Rattle.mm_sensitivity.specs.Worth.{IsSaved}
 
--- of each step, how many blocks fewer the least plan loses where its window is the largest
+-- for each step, how many blocks fewer the least plan loses if its window is the largest
 pub record AreWindowWorths (q : Dumping) (worths : List ℕ) : Type 0 where
   pub steps : length worths ≡ length q.windows
   pub each : (t : ℕ) → 1 ≤ t → t ≤ length q.windows → IsSaved q (with_window q t MAX_BLOCKS)
       (slice_index_or worths (t - 1) 0)
 
--- the same of the limit of a channel in the setup; a channel without one has 0
+-- the same for the limit of a channel in the setup, 0 if it has none
 pub record IsLimitWorth (q : Dumping) (c n : ℕ) : Type 0 where
   pub limited : IsSome (setup_limit q c) → IsSaved q (with_limit q c MAX_BLOCKS) n
   pub other : setup_limit q c ≡ None → n ≡ 0
@@ -29,29 +29,28 @@ pub record IsLimitWorth (q : Dumping) (c n : ℕ) : Type 0 where
 abbrev pub AreLosses : List ℕ → Type 0
 AreLosses ns = All (λ n. n ≤ 2 * MAX_BLOCKS * MAX_STEPS * MAX_STORES) ns
 
--- the same of each channel
+-- the same for each channel
 abbrev pub AreLimitWorths : Dumping → List ℕ → Type 0
 AreLimitWorths q worths = (c : ℕ) → c < length q.limits → IsLimitWorth q c (slice_index_or worths c 0)
 
--- the same of the limit of a channel in one step: that of its column, the first
+-- the same for the limit of a channel in one step, which stands in the channel's column; 0 if there is no such column
 pub record IsStepLimitWorth (q : Dumping) (c t n : ℕ) : Type 0 where
   pub column : (k : ℕ) → k < length q.limited → slice_index q.limited k ≡ c
       → IsSaved q (with_column_limit q k t MAX_BLOCKS) n
   pub other : ((k : ℕ) → k < length q.limited → ¬ (slice_index q.limited k ≡ c)) → n ≡ 0
 
--- the same of each channel, step by step, in the first steps
+-- the same for each channel, step by step, in the first steps
 pub record AreStepLimitWorths (q : Dumping) (steps : ℕ) (worths : List ℕ) : Type 0 where
   pub count : length worths ≡ CHANNELS * steps
   pub each : (c t : ℕ) → c < CHANNELS → 1 ≤ t → t ≤ steps → IsStepLimitWorth q c t (step_limit_worth worths c t)
 
--- what the windows and limits of the problem are worth
+-- the worths of the windows and limits of the problem
 pub record AreWorthLists (q : Dumping) (worths : WorthLists) : Type 0 where
   pub windows : AreWindowWorths q worths.windows
   pub limits : AreLimitWorths q worths.limits
   pub step_limits : AreStepLimitWorths q (length q.windows) worths.step_limits
 
--- the chart of what a setup, a forecast and a plan text say, by the verdict on them, with what each window and limit is
--- worth
+-- the chart of a setup, a forecast and a plan text, by the verdict on them, with the worth of each window and limit
 pub record ChartsWorth (setup forecast text octets : List ℕ) : Type 0 where
   pub problem : Dumping
   pub sheet : SheetRows

@@ -1,9 +1,11 @@
--- The numbers of a problem that a mission can change, and the problem with another number in place of one.
-use Rattle.std.specs.Prelude.{ℕ, ◌+◌, ◌-◌, ◌<◌, ◌≤◌, min, Bool, is_some, unwrap_or, List, ◌++◌, length, map, filter, flat_map, slice_set, IsSome}
+-- The numbers of a problem that a mission can change, and the problem with one of them changed.
+use Rattle.std.specs.Prelude.{ℕ, ◌+◌, ◌-◌, ◌<◌, ◌≤◌, min, Bool, is_some, unwrap_or, List, ◌++◌, length, map, filter}
+use Rattle.std.specs.Prelude.{flat_map, slice_set, IsSome}
 use Rattle.std.specs.List.{range_with_len}
 use Rattle.mm_base.specs.declared.limits.TheConstants.{MAX_BLOCKS}
 use Rattle.mm_base.specs.declared.rows.StoreRow.{StoreRow}
-use Rattle.mm_problem.specs.Dumping.{Dumping, row, size, start, setup_limit, column_limit, window, stores, steps, channels}
+use Rattle.mm_problem.specs.Dumping.{Dumping, row, size, start, setup_limit, column_limit, window, stores, steps}
+use Rattle.mm_problem.specs.Dumping.{channels}
 use Rattle.mm_problem.specs.Changed.{with_window, with_limit, with_column_limit, with_size}
 use Rattle.mm_sensitivity.specs.declared.item.Item.{Item}
 use Rattle.mm_sensitivity.specs.declared.item.Item.TheVariants.{Window, Size, Limit, StepLimit}
@@ -15,46 +17,46 @@ IsItem q (Size s) = s < length q.rows
 IsItem q (Limit c) = (c < length q.limits) × IsSome (setup_limit q c)
 IsItem q (StepLimit k t) = (k < length q.limited) × (1 ≤ t) × (t ≤ length q.windows)
 
--- what it is, in blocks
+-- its value, in blocks
 abbrev pub number : Dumping → Item → ℕ
 number q (Window t) = window q t
 number q (Size s) = size q s
 number q (Limit c) = unwrap_or (setup_limit q c) 0
 number q (StepLimit k t) = column_limit q k t
 
--- a store of this size; of the blocks with which it begins those that it has no room for are lost in the first step
+-- a store of another size; the blocks of its start volume that do not fit are lost in the first step
 abbrev pub resized : StoreRow → ℕ → StoreRow
 resized r n = record { id = r.id; size = n; start = r.start; kind = r.kind; channel = r.channel }
 
--- the problem with this number there
+-- the problem with another value of the number
 abbrev pub with_number : Dumping → Item → ℕ → Dumping
 with_number q (Window t) n = with_window q t n
 with_number q (Size s) n = record q { rows = slice_set q.rows s (resized (row q s) n) }
 with_number q (Limit c) n = with_limit q c n
 with_number q (StepLimit k t) n = with_column_limit q k t n
 
--- the same, where a store begins with as many blocks as it has room for
+-- the same, if a start volume above the store's size becomes the size
 abbrev pub fitted : Dumping → Item → ℕ → Dumping
 fitted q (Window t) n = with_window q t n
 fitted q (Size s) n = with_size q s n
 fitted q (Limit c) n = with_limit q c n
 fitted q (StepLimit k t) n = with_column_limit q k t n
 
--- the blocks with which it then does not begin
+-- the blocks by which the start volume becomes less
 abbrev pub spilled : Dumping → Item → ℕ → ℕ
 spilled q (Window t) n = 0
 spilled q (Size s) n = start q s - n
 spilled q (Limit c) n = 0
 spilled q (StepLimit k t) n = 0
 
--- the least number that may stand there
+-- the least value allowed
 abbrev pub least_number : Item → ℕ
 least_number (Window t) = 0
 least_number (Size s) = 1
 least_number (Limit c) = 0
 least_number (StepLimit k t) = 0
 
--- one more, or the largest number itself
+-- one more, or the largest value itself
 abbrev pub next_number : ℕ → ℕ
 next_number n = min (n + 1) MAX_BLOCKS
 
@@ -66,7 +68,8 @@ has_limit q c = is_some (setup_limit q c)
 abbrev pub column_items : Dumping → ℕ → List Item
 column_items q column = map (StepLimit column) (steps q)
 
--- all of them: the windows, the sizes of the stores in order, the limits of the channels that have one, and those of each column
+-- all numbers: the windows, the sizes of the stores in order, the limits of the channels that have one, and those of
+-- each column
 abbrev pub items : Dumping → List Item
 items q =
     map Window (steps q) ++ map Size (stores q) ++ map Limit (filter (has_limit q) (channels q))

@@ -1,4 +1,5 @@
--- The table of what the numbers of a problem are worth: comma separated values (RFC 4180), a header, and then a record for each number.
+-- The table of the worths of a problem's numbers: comma separated values (RFC 4180), with a header and a record for
+-- each number.
 use Rattle.std.specs.Prelude.{◌≡◌, ℕ, List, ◌++◌, map, All, codes, decimal, flat_map, slice_index}
 use Rattle.mm_base.specs.Id.{id_text}
 use Rattle.mm_problem.specs.Dumping.{Dumping, row}
@@ -9,17 +10,18 @@ use Rattle.mm_sensitivity.specs.declared.worth.Worth.{Worth}
 use Rattle.mm_sensitivity.specs.Items.{items}
 use Rattle.mm_sensitivity.specs.Worth.{IsWorth}
 
--- the cells that say which number it is
+-- the cells that name a number
 abbrev pub item_cells : Dumping → Item → List ℕ
 item_cells q (Window t) = codes "window,," ++ decimal t
 item_cells q (Size s) = codes "size," ++ id_text (row q s).id ++ codes ","
 item_cells q (Limit c) = codes "limit," ++ decimal c ++ codes ","
 item_cells q (StepLimit k t) = codes "limit," ++ decimal (slice_index q.limited k) ++ codes "," ++ decimal t
 
--- the cells that say what it is worth, up to the end of the record
+-- the cells with the worth of a number, up to the end of the record
 unfoldable pub worth_cells : Worth → List ℕ
 worth_cells w =
-    codes "," ++ decimal w.now ++ codes "," ++ decimal w.next ++ codes "," ++ decimal w.most ++ codes "," ++ decimal w.without ++ codes "\n"
+    codes "," ++ decimal w.now ++ codes "," ++ decimal w.next ++ codes "," ++ decimal w.most ++ codes ","
+    ++ decimal w.without ++ codes "\n"
 
 -- the record of a number
 abbrev pub record_of : Dumping → Worth → List ℕ
@@ -29,12 +31,12 @@ record_of q w = item_cells q w.item ++ worth_cells w
 unfoldable pub table : Dumping → List Worth → List ℕ
 table q ws = codes "item,name,step,now,next,most,without\n" ++ flat_map (record_of q) ws
 
--- what each number of the problem is worth, in their order
+-- the worths of the numbers of the problem, in order
 pub record AreWorths (q : Dumping) (ws : List Worth) : Type 0 where
   pub items : map (λ w. w.item) ws ≡ items q
   pub each : All (IsWorth q) ws
 
--- the table of the problem that a setup and a forecast say
+-- the table of the problem of a setup and a forecast
 pub record IsWorthTable (setup forecast text : List ℕ) : Type 0 where
   pub problem : Dumping
   pub worths : List Worth

@@ -1,4 +1,4 @@
--- How many blocks fewer the least plan loses where a number of the problem is larger.
+-- How many blocks fewer the least plan loses if a number of the problem is larger.
 use Rattle.std.specs.Prelude.{◌≡◌, ℕ, ◌+◌, ◌*◌, ◌≤◌, min, List, length}
 use Rattle.mm_base.specs.declared.limits.TheConstants.{MAX_STORES, MAX_STEPS, MAX_BLOCKS}
 use Rattle.mm_problem.specs.Dumping.{Dumping, IsDumping, window}
@@ -10,7 +10,7 @@ use Rattle.mm_planner.specs.declared.planner.Planned.{Planned}
 use Rattle.mm_sensitivity.specs.declared.worth.Worth.{Worth}
 use Rattle.mm_sensitivity.specs.Items.{IsItem, number, next_number, least_number, with_number}
 
--- the least loss of a problem: a plan that fits loses as much, and the bound of a cut shows that none loses less
+-- the least loss of a problem: it is that of a plan that fits, and the bound of a cut
 pub record IsLeastLoss (q : Dumping) (n : ℕ) : Type 0 where
   pub plan : Amounts
   pub cut : List Stretch
@@ -33,14 +33,14 @@ pub record IsSaved (q r : Dumping) (k : ℕ) : Type 0 where
   pub first : IsLeastLoss q (after + k)
   pub second : IsLeastLoss r after
 
--- where the largest window saves `most`, a window larger by e, up to the largest, saves the lesser of e and `most`
+-- if the largest window saves `most`, a window larger by e, up to the largest, saves the lesser of e and `most`
 abbrev pub WiderWindows : Type 0
 WiderWindows =
     (q : Dumping) (t e most : ℕ) → 1 ≤ t → t ≤ length q.windows → window q t + e ≤ MAX_BLOCKS
     → IsSaved q (with_window q t MAX_BLOCKS) most
     → Saves q (with_window q t (window q t + e)) (min e most)
 
--- what a number of the problem is worth: all of these least losses are known
+-- the worth of a number of the problem, with all least losses that it rests on
 pub record IsWorth (q : Dumping) (w : Worth) : Type 0 where
   pub item : IsItem q w.item
   pub now : w.now ≡ number q w.item

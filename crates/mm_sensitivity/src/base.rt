@@ -31,7 +31,7 @@ fn counts_window(base: &Planned, step: u32) -> bool
     is_inner(base.certificate.cut(), step) && !is_listed(base.certificate.by_channels(), step)
 }
 
-// The bound of the cut of the base where the window of a step is another.
+// The bound of the base's cut with another window in a step.
 fn window_bound(problem: &Problem, base: &Planned, step: u32, blocks: u32) -> i64
     requires base { IsPlanFor problem.now base.now }
     requires first { 1 ≤ step }
@@ -48,7 +48,7 @@ fn window_bound(problem: &Problem, base: &Planned, step: u32, blocks: u32) -> i6
     }
 }
 
-// The bound of the cut of the base, where it is a cut of the problem.
+// The bound of the base's cut, if it is a cut of the problem.
 fn cut_bound(problem: &Problem, base: &Planned) -> Option<i64>
     ensures cut { IfSome result
         (λ _. IsCut problem.now base.now.certificate.cut base.now.certificate.by_channels) }
@@ -66,7 +66,7 @@ fn cut_bound(problem: &Problem, base: &Planned) -> Option<i64>
     Some(bound(problem, stretches, counts))
 }
 
-// How many blocks can leave in a step whatever its window, or more.
+// An upper bound of the blocks that can leave in a step, for any window.
 fn leaving(problem: &Problem, step: u32) -> u32
     requires first { 1 ≤ step }
     requires last { step ≤ length problem.now.windows }
@@ -84,7 +84,7 @@ fn leaving(problem: &Problem, step: u32) -> u32
     leaving
 }
 
-// The bound of the cut of the base in the changed problem, where it may be the least loss.
+// The bound of the base's cut in the changed problem, if it may be the least loss.
 fn bound_there(
     problem: &Problem,
     changed: &Problem,
@@ -113,8 +113,8 @@ fn bound_there(
     }
 }
 
-// The least loss of the problem, where the plan of the base, cut down to fit it and filled, loses as much as the cut of
-// the base shows.
+// The least loss of the problem, if the base's plan, lowered to fit and then filled, loses as much as the base's cut
+// shows.
 fn shown(
     alloc: Global,
     problem: &Problem,
@@ -145,7 +145,7 @@ fn shown(
     }
 }
 
-// Whether the number is the one that stands there, or a wider window that the cut of the base does not count.
+// Whether the number is unchanged, or is a wider window that the base's cut does not count.
 fn loses_alike(problem: &Problem, base: &Planned, item: Item, blocks: u32) -> bool
     requires base { IsPlanFor problem.now base.now }
     requires item { IsItem problem.now item }
@@ -159,7 +159,7 @@ fn loses_alike(problem: &Problem, base: &Planned, item: Item, blocks: u32) -> bo
     }
 }
 
-// The least loss of the problem with another number, where a store begins with as many blocks as it has room for.
+// The least loss of the problem with another number. A start volume above the store's size becomes the size.
 #[tactic(auto, using(crate::proofs::Found::plan_least, crate::proofs::Found::shape_there))]
 fn least_loss(
     alloc: Global,
@@ -187,7 +187,7 @@ fn least_loss(
     Ok(plan(alloc, &changed)?.certificate.loss())
 }
 
-// How many blocks fewer the least plan loses where the number is this larger one. The base is planned for the problem.
+// How many blocks fewer the least plan loses with this larger number. The base is a plan of the problem.
 pub(crate) fn saved(
     alloc: Global,
     problem: &Problem,
@@ -207,7 +207,7 @@ pub(crate) fn saved(
     Ok(base.certificate.loss() - loss)
 }
 
-// How many blocks more it loses where the number is the least that may stand there.
+// How many blocks more the least plan loses with the least number allowed.
 pub(crate) fn cost(
     alloc: Global,
     problem: &Problem,

@@ -1,4 +1,4 @@
-//! Charts with what windows and limits are worth.
+//! Charts with the worths of windows and limits.
 ghost use Rattle.std.specs.Prelude.{◌≡◌, ◌-◌, ◌*◌, ◌<◌, ◌≤◌, length, IfOk, OnOk};
 ghost use Rattle.mm_base.specs.Reading.{IfRefused};
 ghost use Rattle.mm_base.specs.declared.limits.TheConstants.{MAX_BLOCKS, MAX_STEPS, MAX_STORES, CHANNELS};
@@ -19,8 +19,8 @@ use mm_planner::{Planned, plan};
 use mm_problem::Problem;
 use std::alloc::Global;
 
-// How many blocks fewer the least plan loses where the window of a step is the largest. A wider window saves at most as
-// many as it is wider.
+// How many blocks fewer the least plan loses if the window of a step is the largest. A wider window saves at most the
+// difference.
 fn window_worth(
     alloc: Global,
     problem: &Problem,
@@ -38,7 +38,7 @@ fn window_worth(
     Ok(most.min(u64::from(MAX_BLOCKS - now)) as u32)
 }
 
-// What the window of each step is worth.
+// The worth of the window of each step.
 fn window_worths(alloc: Global, problem: &Problem, base: &Planned) -> Result<Vec<u32>, NoMemory>
     requires { IsPlanFor problem.now base.now }
     ensures { IfOk result (λ worths. AreWindowWorths problem.now worths.items) }
@@ -50,7 +50,7 @@ fn window_worths(alloc: Global, problem: &Problem, base: &Planned) -> Result<Vec
     Ok(worths)
 }
 
-// What the limit of a channel in the setup is worth.
+// The worth of the limit of a channel in the setup.
 fn limit_worth(
     alloc: Global,
     problem: &Problem,
@@ -68,7 +68,7 @@ fn limit_worth(
     saved(alloc, problem, base, Item::Limit(channel), MAX_BLOCKS)
 }
 
-// What each limit of the setup is worth.
+// The worth of each limit of the setup.
 fn limit_worths(alloc: Global, problem: &Problem, base: &Planned) -> Result<Vec<u64>, NoMemory>
     requires { IsPlanFor problem.now base.now }
     ensures worths { IfOk result (λ worths. AreLimitWorths problem.now worths.items) }
@@ -81,7 +81,7 @@ fn limit_worths(alloc: Global, problem: &Problem, base: &Planned) -> Result<Vec<
     Ok(worths)
 }
 
-// What the limit of a channel in a step alone is worth.
+// The worth of the limit of a channel in a step alone.
 fn step_limit_worth(
     alloc: Global,
     problem: &Problem,
@@ -110,7 +110,7 @@ fn step_limit_worth(
     Ok(0)
 }
 
-// Adds what the limits of the channels in a step are worth.
+// Adds the worths of the limits of the channels in a step.
 fn add_step_worths(
     alloc: Global,
     worths: &mut Vec<u64>,
@@ -132,7 +132,7 @@ fn add_step_worths(
     Ok(())
 }
 
-// What each limit of a step is worth.
+// The worth of each limit of each step.
 fn step_limit_worths(alloc: Global, problem: &Problem, base: &Planned) -> Result<Vec<u64>, NoMemory>
     requires { IsPlanFor problem.now base.now }
     ensures worths { IfOk result (λ worths. AreStepLimitWorths problem.now (length problem.now.windows) worths.items) }
@@ -145,7 +145,7 @@ fn step_limit_worths(alloc: Global, problem: &Problem, base: &Planned) -> Result
     Ok(worths)
 }
 
-// What windows and limits are worth.
+// The worths of windows and limits.
 fn worths_of(alloc: Global, problem: &Problem) -> Result<Worths, NoMemory>
     ensures { IfOk result (AreWorthLists problem.now) }
 {
@@ -158,8 +158,8 @@ fn worths_of(alloc: Global, problem: &Problem) -> Result<Worths, NoMemory>
     Ok(Worths::new(windows, limits, step_limits))
 }
 
-/// The chart that `chart_bytes` of `mm_chart` draws, with what each window and limit is worth: how many blocks fewer
-/// the least plan loses if it is as large as it may be. The faults are those of `chart_bytes`.
+/// The chart of `chart_bytes` of `mm_chart`, with the worth of each window and limit: how many blocks fewer the least
+/// plan loses if it is the largest allowed. The faults are those of `chart_bytes`.
 pub fn worth_chart_bytes(
     alloc: Global,
     setup: &[u8],

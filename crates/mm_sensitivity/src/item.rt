@@ -1,9 +1,11 @@
 //! The numbers of a problem that a mission can change.
-ghost use Rattle.std.specs.Prelude.{◌≡◌, ◌≤◌, ◌<◌, ◌++◌, ◌∷◌, [], if◌then◌else◌, length, map, filter, flat_map, All, IfOk, OnOk};
+ghost use Rattle.std.specs.Prelude.{◌≡◌, ◌≤◌, ◌<◌, ◌++◌, ◌∷◌, [], if◌then◌else◌, length, map, filter, flat_map, All};
+ghost use Rattle.std.specs.Prelude.{IfOk, OnOk};
 ghost use Rattle.std.specs.List.{range_with_len};
 ghost use Rattle.mm_base.specs.declared.limits.TheConstants.{MAX_BLOCKS};
 ghost use Rattle.mm_problem.specs.Dumping.{IsDumping, steps, stores, channels};
-ghost use Rattle.mm_sensitivity.specs.Items.{IsItem, number, least_number, fitted, spilled, has_limit, column_items, items};
+ghost use Rattle.mm_sensitivity.specs.Items.{IsItem, number, least_number, fitted, spilled, has_limit, column_items};
+ghost use Rattle.mm_sensitivity.specs.Items.{items};
 ghost use Rattle.mm_sensitivity.specs.declared.item.Item.TheVariants.{Window, Size, Limit, StepLimit};
 
 use mm_base::NoMemory;
@@ -19,11 +21,12 @@ pub enum Item {
     Size(usize),
     /// The limit of this virtual channel in the setup.
     Limit(u8),
-    /// The limit of a virtual channel in a step: of that in this place, from 0, of those that have one in each step; and then the step.
+    /// The limit of a virtual channel in a step. The channel is given by its place, from 0, among those with a limit
+    /// for each step; the step comes second.
     StepLimit(usize, u32),
 }
 
-// What the number is.
+// The value of the number.
 pub(crate) fn number(problem: &Problem, item: Item) -> u32
     requires { IsItem problem.now item }
     ensures number { result ≡ number problem.now item }
@@ -37,7 +40,7 @@ pub(crate) fn number(problem: &Problem, item: Item) -> u32
     }
 }
 
-// The least number that may stand there.
+// The least value allowed.
 pub(crate) fn least_number(item: Item) -> u32
     ensures least { result ≡ least_number item }
     ensures most { result ≤ 1 }
@@ -48,7 +51,7 @@ pub(crate) fn least_number(item: Item) -> u32
     }
 }
 
-// The problem with this number there. A store begins with as many blocks as it then has room for.
+// The problem with another value of the number. A start volume above the store's size becomes the size.
 pub(crate) fn fitted(
     alloc: Global,
     problem: &Problem,
@@ -68,7 +71,7 @@ pub(crate) fn fitted(
     }
 }
 
-// The blocks with which a store of this size would begin and for which it has no room.
+// The blocks of the start volume for which a store of this size has no room.
 pub(crate) fn spilled(problem: &Problem, item: Item, blocks: u32) -> u64
     requires { IsItem problem.now item }
     ensures spilled { result ≡ spilled problem.now item blocks }
@@ -103,7 +106,7 @@ fn add_sizes(items: &mut Vec<Item>, problem: &Problem) -> Result<(), NoMemory>
     Ok(())
 }
 
-// Adds the limit of the channel, where it has one in the setup.
+// Adds the limit of the channel, if it has one in the setup.
 fn add_limit(items: &mut Vec<Item>, problem: &Problem, channel: u8) -> Result<(), NoMemory>
     ensures added { OnOk result (items.new.items
         ≡ (if has_limit problem.now channel
@@ -149,7 +152,8 @@ fn add_columns(items: &mut Vec<Item>, problem: &Problem) -> Result<(), NoMemory>
     Ok(())
 }
 
-// All of them: the windows, the sizes of the stores in order, the limits of the channels that have one, and those of each column.
+// All numbers: the windows, the sizes of the stores in order, the limits of the channels that have one, and those of
+// each column.
 #[tactic(auto, using(std::proofs::Common::append_assoc, crate::proofs::Listing::all_items))]
 pub(crate) fn items(alloc: Global, problem: &Problem) -> Result<Vec<Item>, NoMemory>
     ensures items { IfOk result (λ list. list.items ≡ items problem.now) }

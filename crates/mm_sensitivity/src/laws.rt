@@ -1,7 +1,7 @@
-//! What holds of the least losses of problems, over their definitions alone.
+//! Laws on the least losses of problems, over their definitions alone.
 ghost use Rattle.mm_sensitivity.specs.Worth.{WiderWindows};
 
-/// A window that is e blocks larger, up to the largest window, saves the lesser of e and what the largest window saves.
+/// If a window is e blocks larger, and at most the largest, it saves the lesser of e and what the largest window saves.
 pub fn wider_windows()
     ensures { WiderWindows }
 {

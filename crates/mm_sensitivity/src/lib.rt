@@ -1,4 +1,5 @@
-//! What each window, store size and limit of a problem is worth: how many blocks fewer the least plan loses if it is larger.
+//! The worth of each window, store size and limit of a problem: how many blocks fewer the least plan loses if it is
+//! larger.
 #![tactic(auto)]
 
 mod base;

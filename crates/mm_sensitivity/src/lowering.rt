@@ -1,4 +1,4 @@
-//! A plan that is cut down to fit another problem.
+//! Lowers the amounts of a plan until it fits another problem.
 ghost use Rattle.std.specs.Prelude.{◌≡◌, ℕ, ◌<◌, ◌≤◌, length, All, IfOk};
 ghost use Rattle.mm_base.specs.declared.limits.TheConstants.{MAX_BLOCKS, CHANNELS};
 ghost use Rattle.mm_plan.specs.Table.{HasShape};
@@ -8,7 +8,7 @@ use mm_plan::Plan;
 use mm_problem::Problem;
 use std::alloc::Global;
 
-// The limits of the channels in a step; a channel without one has that of the largest window.
+// The limits of the channels in a step. A channel without one gets the largest window as its limit.
 fn limits_of(problem: &Problem, step: u32) -> [u32; CHANNELS]
     requires first { 1 ≤ step }
     requires last { step ≤ length problem.now.windows }
@@ -21,7 +21,7 @@ fn limits_of(problem: &Problem, step: u32) -> [u32; CHANNELS]
     limits
 }
 
-// Writes the amounts of a step, cut down to its window and the limits, store by store.
+// Writes the amounts of a step, lowered to its window and the limits, store by store.
 fn lower_step(lowered: &mut Plan, problem: &Problem, plan: &Plan, step: u32)
     requires first { 1 ≤ step }
     requires last { step ≤ length problem.now.windows }
@@ -40,7 +40,7 @@ fn lower_step(lowered: &mut Plan, problem: &Problem, plan: &Plan, step: u32)
     }
 }
 
-/// The amounts of a plan, cut down to the windows and limits of the problem, store by store.
+/// The amounts of a plan, lowered to the windows and limits of the problem, store by store.
 pub(crate) fn lowered(alloc: Global, problem: &Problem, plan: &Plan) -> Result<Plan, NoMemory>
     requires { HasShape problem.now plan.now }
     ensures { IfOk result (HasShape problem.now) }

@@ -1,8 +1,8 @@
-//! How far a long answer has come.
+//! Progress of a long computation.
 
-/// Who is told how far an answer has come, and whether to show it or not decides.
+/// A receiver of progress, which decides whether to show it.
 pub trait Progress {
-    /// That many of the records, windows or other parts are done, of that many in all.
+    /// Of `all` records, windows or other parts, `parts` are done.
     fn done(&mut self, parts: usize, all: usize);
 }
 

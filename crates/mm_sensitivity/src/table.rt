@@ -1,4 +1,4 @@
-//! The table of what the numbers of a problem are worth, as comma separated values.
+//! The table of the worths of a problem's numbers, as comma separated values.
 ghost use Rattle.std.specs.Prelude.{◌≡◌, ◌++◌, All, IfOk, OnOk};
 ghost use Rattle.mm_base.specs.Reading.{IfRefused};
 ghost use Rattle.mm_cut.specs.declared.fault.Fault.TheVariants as fault;
@@ -15,7 +15,7 @@ use mm_cut::Fault;
 use mm_problem::{Problem, read_problem};
 use std::alloc::Global;
 
-// The cells that say which number it is.
+// The cells that name a number.
 fn push_item(
     alloc: Global,
     text: &mut Vec<u8>,
@@ -45,7 +45,7 @@ fn push_item(
     Ok(())
 }
 
-// The cells that say what it is worth.
+// The cells with the worth of a number.
 #[tactic(auto, unfolding(crate::specs::Table::worth_cells))]
 fn push_worth(alloc: Global, text: &mut Vec<u8>, worth: Worth) -> Result<(), NoMemory>
     ensures { OnOk result (text.new.items ≡ text.old.items ++ worth_cells worth) }
@@ -77,7 +77,7 @@ fn push_record(
     push_worth(alloc, text, worth)
 }
 
-// The table of these.
+// The table of these worths.
 #[tactic(auto, unfolding(crate::specs::Table::table))]
 fn table_of(alloc: Global, problem: &Problem, worths: &[Worth]) -> Result<Vec<u8>, NoMemory>
     requires { All (IsWorth problem.now) worths.now }
@@ -91,8 +91,8 @@ fn table_of(alloc: Global, problem: &Problem, worths: &[Worth]) -> Result<Vec<u8
     Ok(text)
 }
 
-/// The table of what each window, store size and limit is worth in the problem that the setup and the forecast say. Otherwise the first
-/// fault, of the setup and then of the forecast.
+/// The table of the worths of all windows, store sizes and limits in the problem of the setup and the forecast.
+/// Otherwise the first fault, of the setup and then of the forecast.
 pub fn sensitivity_bytes(alloc: Global, setup: &[u8], forecast: &[u8]) -> Result<Vec<u8>, Fault>
     ensures table { IfOk result (λ text. IsWorthTable setup.now forecast.now text.items) }
     ensures refused { IfRefused fault.NoMemory result (IsPlanningFault setup.now forecast.now) }
@@ -100,7 +100,7 @@ pub fn sensitivity_bytes(alloc: Global, setup: &[u8], forecast: &[u8]) -> Result
     sensitivity_with_progress(alloc, setup, forecast, &mut Silent)
 }
 
-/// What `sensitivity_bytes` answers. The progress is told of each record that is done.
+/// As `sensitivity_bytes`, and reports each finished record to `progress`.
 pub fn sensitivity_with_progress<P: Progress>(
     alloc: Global,
     setup: &[u8],

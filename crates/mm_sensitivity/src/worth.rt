@@ -1,4 +1,4 @@
-//! What each number of a problem is worth.
+//! The worths of the numbers of a problem.
 ghost use Rattle.std.specs.Prelude.{◌≡◌, ◌≤◌, map, All, IfOk};
 ghost use Rattle.mm_sensitivity.specs.Items.{IsItem, number, next_number, with_number, items};
 ghost use Rattle.mm_sensitivity.specs.Table.{AreWorths};
@@ -13,7 +13,7 @@ use mm_planner::{Planned, plan};
 use mm_problem::Problem;
 use std::alloc::Global;
 
-/// What a number of a problem is worth, in blocks.
+/// The worth of a number of a problem, in blocks.
 #[derive(Clone, Copy, Debug, PartialEq, Eq)]
 pub struct Worth {
     pub item: Item,
@@ -21,13 +21,14 @@ pub struct Worth {
     pub now: u32,
     /// How many blocks fewer the least plan loses if the number is one larger.
     pub next: u64,
-    /// How many blocks fewer it loses if the number is the largest that it may be, 1,000,000.
+    /// How many blocks fewer it loses if the number is the largest allowed, 1,000,000.
     pub most: u64,
-    /// How many blocks more it loses if the number is 0, or for the size of a store 1.
+    /// How many blocks more it loses if the number is the least allowed: 0, or 1 for the size of a store.
     pub without: u64,
 }
 
-// How many blocks fewer the least plan loses where a number is one larger: none, where the largest window saves none.
+// How many blocks fewer the least plan loses if a number is one larger. If the largest window saves none, neither does
+// this.
 fn next_saved(
     alloc: Global,
     problem: &Problem,
@@ -48,7 +49,7 @@ fn next_saved(
     }
 }
 
-// What a number is worth.
+// The worth of a number.
 fn worth_of(alloc: Global, problem: &Problem, base: &Planned, item: Item) -> Result<Worth, NoMemory>
     requires base { IsPlanFor problem.now base.now }
     requires item { IsItem problem.now item }
@@ -68,14 +69,14 @@ fn worth_of(alloc: Global, problem: &Problem, base: &Planned, item: Item) -> Res
     })
 }
 
-/// What each window, each size and each limit of the problem is worth, in this order.
+/// The worths of the windows, sizes and limits of the problem, in this order.
 pub fn worths(alloc: Global, problem: &Problem) -> Result<Vec<Worth>, NoMemory>
     ensures { IfOk result (λ worths. AreWorths problem.now worths.items) }
 {
     worths_with_progress(alloc, problem, &mut Silent)
 }
 
-/// What `worths` answers. The progress is told of each number that is done.
+/// As `worths`, and reports each finished number to `progress`.
 pub fn worths_with_progress<P: Progress>(
     alloc: Global,
     problem: &Problem,

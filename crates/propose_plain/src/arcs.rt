@@ -1,11 +1,11 @@
-//! Which arcs of a span bear blocks. The network itself is never built.
+//! Which arcs of a span have residual capacity. The network itself is never built.
 use crate::node::Node;
 use crate::sets::{NodeSet, StoreSet};
 use crate::spans::Span;
 use crate::stores::Stores;
 use mm_problem::{CHANNELS, MAX_STORES};
 
-/// The arcs of a span that can carry more, or give back what they carry, by their stores and channels.
+/// The arcs of a span with residual capacity, by their stores and channels.
 #[derive(Clone, Copy)]
 pub(crate) struct Arcs {
     /// The stores that lose blocks,
@@ -71,13 +71,13 @@ impl Arcs {
         }
     }
 
-    // The nodes of the span to which an arc leads from one of these.
+    // The nodes of the span that one arc leads to from a given node.
     pub(crate) fn next(&self, stores: &Stores, nodes: NodeSet) -> NodeSet {
         let (coming, held) = (nodes.stores_in(), nodes.stores_out());
         let mut next = channels_of(stores, held);
         next = next.either(NodeSet::outs(coming.both(self.roomy)));
         next = next.either(NodeSet::ins(held.both(self.holding)));
-        next = next.either(NodeSet::outs(stores_on(stores, nodes).both(self.dumping)));
+        next = next.either(NodeSet::outs(stores_of_channels(stores, nodes).both(self.dumping)));
         if !nodes.both(self.open).is_empty() {
             next = next.with(Node::Pass);
         }
@@ -88,7 +88,7 @@ impl Arcs {
     }
 }
 
-// The channels of these stores.
+// The channels to which the stores belong.
 fn channels_of(stores: &Stores, held: StoreSet) -> NodeSet {
     let mut channels = NodeSet::NONE;
     let mut rest = held;
@@ -102,16 +102,16 @@ fn channels_of(stores: &Stores, held: StoreSet) -> NodeSet {
     channels
 }
 
-// The stores of the channels among these nodes.
-fn stores_on(stores: &Stores, nodes: NodeSet) -> StoreSet {
-    let mut on = StoreSet::NONE;
+// The stores of the channels that are among the nodes.
+fn stores_of_channels(stores: &Stores, nodes: NodeSet) -> StoreSet {
+    let mut found = StoreSet::NONE;
     let mut rest = nodes.channels();
     for _ in 0..CHANNELS {
         let Some(channel) = rest.first_channel() else {
             break;
         };
-        on = on.either(stores.on(channel));
+        found = found.either(stores.of_channel(channel));
         rest = rest.rest();
     }
-    on
+    found
 }

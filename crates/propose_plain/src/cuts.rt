@@ -1,4 +1,4 @@
-//! The cut that a search says: runs of a store that the lost blocks could reach.
+//! The cut that a search gives: for each store, the runs of spans that lost blocks could reach.
 ghost use Rattle.std.specs.Prelude.{◌<◌, length};
 
 use crate::node::Node;
@@ -8,7 +8,7 @@ use mm_plan::{NoMemory, Stretch};
 use mm_problem::Problem;
 use std::alloc::Global;
 
-// Whether a run of the store goes on after the span: its blocks could be held there, and then be kept.
+// Whether a run of the store continues after the span: its blocks could be held there, and then be kept.
 fn goes_on(nodes: NodeSet, store: usize) -> bool {
     nodes.has(Node::In(store)) && nodes.has(Node::Out(store))
 }
@@ -18,7 +18,7 @@ fn is_end(nodes: NodeSet, store: usize) -> bool {
     nodes.has(Node::In(store)) && !nodes.has(Node::Out(store))
 }
 
-// Adds the runs of one store, with all steps of their spans.
+// Adds the runs of one store. Each has all steps of its spans.
 fn add_runs(
     cut: &mut Vec<Stretch>,
     problem: &Problem,
@@ -58,7 +58,7 @@ pub(crate) fn stretches_of(
     Ok(cut)
 }
 
-// Whether the span's last step is counted by channels: a store goes on, and the pass is not reached.
+// Whether the span's last step is counted by channels: the run of a store continues, and the pass is not reached.
 fn is_by_channels(nodes: NodeSet) -> bool {
     !nodes.has(Node::Pass) && !nodes.stores_in().both(nodes.stores_out()).is_empty()
 }

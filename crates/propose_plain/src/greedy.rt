@@ -5,27 +5,27 @@ use crate::spans::Span;
 use crate::stores::Stores;
 use mm_problem::MAX_STORES;
 
-// As many as steps.
+// At most one span for each step.
 const MAX_SPANS: usize = 256;
 
-// When each store overflows next if nothing more leaves it.
+// When each store overflows next if no more blocks leave it.
 #[derive(Clone, Copy)]
 struct Outlook {
-    // what left each store so far, or was lost
-    gone: Amounts,
-    // the span of its next overflow, or that after the last where it has none,
+    // the blocks of each store that have left or were lost so far,
+    removed: Amounts,
+    // the span of its next overflow, or the number of spans if there is none,
     due: [usize; MAX_STORES],
-    // and by how many blocks
+    // the number of blocks by which it overflows,
     blocks: Amounts,
-    // the stores whose next overflow is in each span
+    // and the stores whose next overflow is in each span
     calendar: [StoreSet; MAX_SPANS],
 }
 
 impl Outlook {
-    // The outlook before the first span.
+    // The outlook at the start of the first span.
     fn of(stores: &Stores, spans: &[Span]) -> Outlook {
         let mut outlook = Outlook {
-            gone: Amounts::NOTHING,
+            removed: Amounts::NOTHING,
             due: [0; MAX_STORES],
             blocks: Amounts::NOTHING,
             calendar: [StoreSet::NONE; MAX_SPANS],
@@ -41,14 +41,14 @@ impl Outlook {
         self.calendar[span & 255]
     }
 
-    // Seeks the next overflow of a store, which does not come before the span.
+    // Finds the next overflow of a store, which is not before the span.
     fn look_ahead(&mut self, stores: &Stores, spans: &[Span], store: usize, from: usize) {
-        let bears = stores.size(store).saturating_add(self.gone.of(store));
+        let capacity = stores.size(store).saturating_add(self.removed.of(store));
         let before = self.due[store & 15];
         self.calendar[before & 255] = self.due_in(before).without(store);
         self.due[store & 15] = spans.len();
         for k in from..spans.len() {
-            let blocks = spans[k].come.of(store).saturating_sub(bears);
+            let blocks = spans[k].arrived.of(store).saturating_sub(capacity);
             if blocks > 0 {
                 self.due[store & 15] = k;
                 self.blocks.set(store, blocks);
@@ -58,14 +58,14 @@ impl Outlook {
         }
     }
 
-    // Lets blocks of a store be gone.
+    // Records that blocks leave a store.
     fn leave(&mut self, stores: &Stores, spans: &[Span], store: usize, blocks: u32) {
-        self.gone.add(store, blocks);
+        self.removed.add(store, blocks);
         self.look_ahead(stores, spans, store, self.due[store & 15]);
     }
 }
 
-// How many blocks of a store may still leave in a span.
+// How many more blocks of a store can leave in a span.
 fn room(stores: &Stores, span: &Span, store: usize) -> u32 {
     let channel = stores.channel(store);
     let rest = span
@@ -75,9 +75,9 @@ fn room(stores: &Stores, span: &Span, store: usize) -> u32 {
     rest.min(span.idle).min(span.kept.of(store))
 }
 
-// Lets a span's arrivals come into a store; what it keeps is all that it holds then.
-fn arrive(span: &mut Span, store: usize, size: u32, gone: u32) -> u32 {
-    let coming = span.come.of(store).saturating_sub(gone);
+// Adds the arrivals of a span to a store, which keeps all that it can hold. Returns the number of lost blocks.
+fn arrive(span: &mut Span, store: usize, size: u32, removed: u32) -> u32 {
+    let coming = span.arrived.of(store).saturating_sub(removed);
     let held = coming.min(size);
     let lost = coming.saturating_sub(held);
     span.lost.set(store, lost);
@@ -86,7 +86,7 @@ fn arrive(span: &mut Span, store: usize, size: u32, gone: u32) -> u32 {
     lost
 }
 
-// Lets blocks leave a store.
+// Moves blocks out of a store, through its channel.
 fn dump(span: &mut Span, store: usize, channel: usize, blocks: u32) {
     span.kept.take(store, blocks);
     span.dumped.add(store, blocks);
@@ -94,21 +94,21 @@ fn dump(span: &mut Span, store: usize, channel: usize, blocks: u32) {
     span.idle = span.idle.saturating_sub(blocks);
 }
 
-// Lets the arrivals of a span come. Where some are lost, the overflow has come.
+// Adds the arrivals of a span, and finds the next overflow of each store that loses blocks.
 fn fill_stores(stores: &Stores, spans: &mut [Span], outlook: &mut Outlook, at: usize) {
     for store in 0..stores.count() {
         let Some(span) = spans.get_mut(at) else {
             break;
         };
-        let lost = arrive(span, store, stores.size(store), outlook.gone.of(store));
+        let lost = arrive(span, store, stores.size(store), outlook.removed.of(store));
         if lost > 0 {
-            outlook.gone.add(store, lost);
+            outlook.removed.add(store, lost);
             outlook.look_ahead(stores, spans, store, at.saturating_add(1));
         }
     }
 }
 
-// Lets blocks of these stores leave, of each as many as avert its next overflow.
+// Dumps from each of the stores the blocks that avert its next overflow.
 fn avert(stores: &Stores, spans: &mut [Span], outlook: &mut Outlook, at: usize, due: StoreSet) {
     let mut rest = due;
     for _ in 0..MAX_STORES {
@@ -124,7 +124,7 @@ fn avert(stores: &Stores, spans: &mut [Span], outlook: &mut Outlook, at: usize, 
     }
 }
 
-// Whether nothing of the window of a span is left.
+// Whether the window of a span is used up.
 fn is_used_up(spans: &[Span], at: usize) -> bool {
     match spans.get(at) {
         Some(span) => span.idle == 0,
@@ -132,8 +132,8 @@ fn is_used_up(spans: &[Span], at: usize) -> bool {
     }
 }
 
-// Gives the window of a span to the stores: to those that overflow in the next span, then to those that overflow in the one
-// after it, and so on. A store whose overflow is averted overflows later, and is met again there.
+// Gives the window of a span to the stores in the order of their next overflows. A store whose overflow is averted
+// overflows later, and gets its turn again there.
 fn empty_stores(stores: &Stores, spans: &mut [Span], outlook: &mut Outlook, at: usize) {
     for span in at.saturating_add(1)..spans.len() {
         if is_used_up(spans, at) {
@@ -144,8 +144,9 @@ fn empty_stores(stores: &Stores, spans: &mut [Span], outlook: &mut Outlook, at: 
     }
 }
 
-/// Plans span by span. Without limits of channels the plan loses least: a block that must leave by the next overflow is a
-/// unit job with a due time, and the job that is due first goes first (Horn 1974; Dertouzos 1974). With limits it may not.
+/// Plans span by span. Without limits of channels the plan loses least: a block that must leave by the next overflow is
+/// a unit job with a due time, and the job that is due first goes first (Horn 1974; Dertouzos 1974). With limits it may
+/// lose more.
 pub(crate) fn dump_by_next_overflow(stores: &Stores, spans: &mut [Span]) {
     let mut outlook = Outlook::of(stores, spans);
     for at in 0..spans.len() {

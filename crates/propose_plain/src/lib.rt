@@ -1,4 +1,4 @@
-//! A proposal of a dump plan and of a cut that may show that it loses least. It is a guess that others verify.
+//! Proposes a dump plan, and a cut that may show that the plan loses least. Callers verify the proposal.
 #![tactic(auto)]
 
 mod amounts;

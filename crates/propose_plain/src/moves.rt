@@ -1,4 +1,4 @@
-//! Moving lost blocks along the paths that a search found.
+//! Moves lost blocks along the paths that a search found.
 use crate::node::Node;
 use crate::paths::{Change, Link, link_to, lost_to};
 use crate::spans::Span;
@@ -6,13 +6,13 @@ use crate::stores::Stores;
 use mm_plan::NoMemory;
 use std::alloc::Global;
 
-// More than the arcs that one search lets be walked.
+// More than the arcs that can be walked after one search.
 const WALKS: u32 = 1 << 22;
 
-// How many dead ends are met before a new search is the shorter way.
+// After more dead ends than this a new search is cheaper.
 const DEAD_ENDS: u32 = 1024;
 
-/// The path that is walked, and what came of the walks since the last search.
+/// The current path, and the results of the walks since the last search.
 #[derive(Drop)]
 pub(crate) struct Walks {
     path: Vec<Link>,
@@ -29,42 +29,43 @@ impl Walks {
         }
     }
 
-    // Whether blocks were moved, and a new search is the shorter way to more.
+    // Whether blocks were moved, and a new search is the cheaper way to move more.
     fn are_over(&self) -> bool {
         self.have_moved && self.dead_ends > DEAD_ENDS
     }
 }
 
-// How many arcs of a path stand before the first that bears no more.
-fn bearing(stores: &Stores, spans: &[Span], path: &[Link]) -> usize {
+// How many arcs of a path stand before the first full one.
+fn open_arcs(stores: &Stores, spans: &[Span], path: &[Link]) -> usize {
     path.iter()
-        .position(|link| link.most(stores, spans) == 0)
+        .position(|link| link.capacity(stores, spans) == 0)
         .unwrap_or(path.len())
 }
 
-// How many blocks a path bears.
-fn most_on(stores: &Stores, spans: &[Span], path: &[Link]) -> u32 {
+// The bottleneck of a path: how many blocks all its arcs can take.
+fn bottleneck_of(stores: &Stores, spans: &[Span], path: &[Link]) -> u32 {
     let mut most = u32::MAX;
     for link in path.iter() {
-        most = most.min(link.most(stores, spans));
+        most = most.min(link.capacity(stores, spans));
     }
     most
 }
 
-// Moves as many blocks along the path as it bears, and keeps of it what comes before the first arc that bears no more.
+// Moves as many blocks along the path as its bottleneck allows, and shortens it to the arcs before the first full one.
 fn move_along(stores: &Stores, spans: &mut [Span], walks: &mut Walks) {
-    let blocks = most_on(stores, spans, walks.path.as_slice());
+    let blocks = bottleneck_of(stores, spans, walks.path.as_slice());
     for link in walks.path.iter() {
         if let Some(span) = spans.get_mut(link.span) {
             link.change.apply(stores, span, blocks);
         }
     }
-    let bearing = bearing(stores, spans, walks.path.as_slice());
-    walks.path.truncate(bearing);
+    let open_arcs = open_arcs(stores, spans, walks.path.as_slice());
+    walks.path.truncate(open_arcs);
     walks.have_moved = true;
 }
 
-// Forgets the node that the path has come back to, since no blocks come to it, and the arc from it.
+// Removes the node that the walk has reached from what was found, since no arc leads to it, and the last arc from the
+// path.
 fn step_forward(spans: &mut [Span], walks: &mut Walks) {
     if let Some(link) = walks.path.pop() {
         if let Some(span) = spans.get_mut(link.from.span) {
@@ -74,7 +75,7 @@ fn step_forward(spans: &mut [Span], walks: &mut Walks) {
     walks.dead_ends = walks.dead_ends.saturating_add(1);
 }
 
-// Walks back from an arc to lost blocks, and moves them along the path, until the arc bears no more or nothing comes to it.
+// Walks back from an arc to lost blocks, and moves them along the path, until the arc is full or no path leads to it.
 fn move_to(
     stores: &Stores,
     spans: &mut [Span],
@@ -103,16 +104,16 @@ fn move_to(
     Ok(())
 }
 
-// Whether a search found where an arc comes from, and the arc bears blocks.
+// Whether a search found the node at the start of an arc, and the arc has capacity.
 fn is_reached(stores: &Stores, spans: &[Span], link: &Link) -> bool {
     match spans.get(link.from.span) {
-        Some(span) => { span.found.nodes().has(link.from.node) && link.most(stores, spans) > 0 }
+        Some(span) => { span.found.nodes().has(link.from.node) && link.capacity(stores, spans) > 0 }
         None => false,
     }
 }
 
-/// Moves lost blocks into the rest of the windows, and into what the stores keep as the plan ends. Answers whether any was
-/// moved.
+/// Moves lost blocks to unused parts of windows, and to what the stores keep at the end of the plan. Returns whether
+/// any block was moved.
 pub(crate) fn move_lost(
     stores: &Stores,
     spans: &mut [Span],

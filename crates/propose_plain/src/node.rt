@@ -1,5 +1,5 @@
-//! The nodes of one span: blocks come into a store, are held in it, leave it for its channel, and leave the channel for the
-//! pass.
+//! The nodes of one span: blocks enter a store, are held in it, leave it through its channel, and leave the channel in
+//! the pass.
 ghost use Rattle.std.specs.Prelude.{◌<◌};
 
 /// A node of a span. Stores and channels count from 0.

@@ -1,4 +1,4 @@
-//! Paths by which a block that is lost could go instead, walked back from where it would end.
+//! Paths that a lost block could take instead. They are walked backwards, from where the block would end.
 use crate::node::{Node, Place};
 use crate::spans::Span;
 use crate::stores::Stores;
@@ -20,8 +20,8 @@ pub(crate) enum Change {
 }
 
 impl Change {
-    // By how many blocks.
-    pub(crate) fn most(self, stores: &Stores, span: &Span) -> u32 {
+    // The greatest number of blocks that the change can take.
+    pub(crate) fn capacity(self, stores: &Stores, span: &Span) -> u32 {
         match self {
             Change::LoseLess(store) => span.lost.of(store),
             Change::HoldMore(store) => stores.size(store).saturating_sub(span.held.of(store)),
@@ -39,7 +39,7 @@ impl Change {
         }
     }
 
-    // Changes the span, and looks at the arcs that this changes.
+    // Changes the span, and updates its arcs.
     pub(crate) fn apply(self, stores: &Stores, span: &mut Span, blocks: u32) {
         match self {
             Change::LoseLess(store) => span.lost.take(store, blocks),
@@ -75,7 +75,7 @@ impl Change {
     }
 }
 
-/// An arc of a path: where it comes from, and what it changes in which span.
+/// An arc of a path: the node where it starts, and what it changes in a span.
 #[derive(Clone, Copy)]
 pub(crate) struct Link {
     pub(crate) from: Place,
@@ -93,16 +93,16 @@ impl Link {
         }
     }
 
-    // How many blocks it bears.
-    pub(crate) fn most(&self, stores: &Stores, spans: &[Span]) -> u32 {
+    // How many more blocks can be moved along the arc.
+    pub(crate) fn capacity(&self, stores: &Stores, spans: &[Span]) -> u32 {
         match spans.get(self.span) {
-            Some(span) => self.change.most(stores, span),
+            Some(span) => self.change.capacity(stores, span),
             None => 0,
         }
     }
 }
 
-// The best of the arcs that were looked at: it comes from a node of the lowest batch.
+// The best arc so far: it starts at a node of the lowest batch.
 #[derive(Clone, Copy)]
 struct Choice {
     batch: u16,
@@ -110,7 +110,7 @@ struct Choice {
 }
 
 impl Choice {
-    // Looks at an arc that bears blocks, with the batch in which its node was found.
+    // Considers an arc with capacity, and the batch in which its start was found.
     fn consider(&mut self, batch: Option<u16>, link: Link) {
         if let Some(batch) = batch {
             if batch < self.batch {
@@ -120,7 +120,7 @@ impl Choice {
         }
     }
 
-    // Looks at the arcs to where blocks come into a store: it kept them, or held them and would now not.
+    // Considers the arcs to the input of a store: it kept more blocks before, or holds fewer.
     fn into_store(&mut self, before: Option<&Span>, span: &Span, at: usize, store: usize) {
         let out = Node::Out(store);
         if let Some(before) = before {
@@ -133,7 +133,7 @@ impl Choice {
         }
     }
 
-    // Looks at the arcs to what a store holds: blocks come in, or do not leave after all.
+    // Considers the arcs to what a store holds: more blocks come in, or fewer leave.
     fn out_of_store(&mut self, stores: &Stores, span: &Span, at: usize, store: usize) {
         if span.arcs.roomy.has(store) {
             let hold = Link::new(at, Node::In(store), Change::HoldMore(store));
@@ -146,7 +146,7 @@ impl Choice {
         }
     }
 
-    // Looks at the arc from the span after: blocks are not kept after all.
+    // Considers the arc from the next span: fewer blocks are kept.
     fn not_kept(&mut self, after: Option<&Span>, span: &Span, at: usize, store: usize) {
         let Some(after) = after else {
             return;
@@ -166,9 +166,11 @@ impl Choice {
         }
     }
 
-    // Looks at the arcs to a channel: from its stores, and from the pass.
+    // Considers the arcs to a channel: from its stores, and from the pass.
     fn to_channel(&mut self, stores: &Stores, span: &Span, at: usize, channel: usize) {
-        let mut rest = stores.on(channel).both(span.found.nodes().stores_out());
+        let mut rest = stores
+            .of_channel(channel)
+            .both(span.found.nodes().stores_out());
         for _ in 0..MAX_STORES {
             let Some(store) = rest.first() else {
                 break;
@@ -183,7 +185,7 @@ impl Choice {
         }
     }
 
-    // Looks at the arcs to the pass.
+    // Considers the arcs to the pass.
     fn to_pass(&mut self, span: &Span, at: usize) {
         let mut rest = span.found.nodes().both(span.arcs.open);
         for _ in 0..CHANNELS {
@@ -203,7 +205,7 @@ fn span_before(spans: &[Span], at: usize) -> Option<&Span> {
     spans.get(at.checked_sub(1)?)
 }
 
-/// The arc by which blocks come to a place from one of a lower batch, where there still is one that bears any.
+/// The arc to a place from a node of a lower batch, if one with capacity is left.
 pub(crate) fn link_to(stores: &Stores, spans: &[Span], place: Place) -> Option<Link> {
     let at = place.span;
     let span = spans.get(at)?;
@@ -223,7 +225,7 @@ pub(crate) fn link_to(stores: &Stores, spans: &[Span], place: Place) -> Option<L
     choice.link
 }
 
-/// The arc on which lost blocks begin at a place, where there are any.
+/// The arc on which lost blocks enter at a place, if there are any.
 pub(crate) fn lost_to(spans: &[Span], place: Place) -> Option<Link> {
     let Node::In(store) = place.node else {
         return None;

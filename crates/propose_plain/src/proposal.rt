@@ -1,4 +1,4 @@
-//! What is proposed: a plan, and a cut that may show that it loses least.
+//! The proposal: a plan, and a cut that may show that it loses least.
 ghost use Rattle.std.specs.Prelude.{◌≤◌, length, IfOk};
 ghost use Rattle.mm_plan.specs.Table.{HasShape};
 
@@ -14,10 +14,10 @@ use mm_problem::{MAX_BLOCKS, Problem};
 use mm_propose::Proposal;
 use std::alloc::Global;
 
-// How many searches are made. Few problems want more than ten.
+// The most searches. Few problems need more than ten.
 const SEARCHES: u32 = 256;
 
-// Writes what leaves the stores in a span into its last step.
+// Writes what leaves the stores in a span to the last step of the span.
 fn write_span(plan: &mut Plan, problem: &Problem, span: &Span)
     requires { HasShape problem.now plan.old }
     ensures { HasShape problem.now plan.new }
@@ -30,7 +30,7 @@ fn write_span(plan: &mut Plan, problem: &Problem, span: &Span)
     }
 }
 
-// The plan that the spans say.
+// The plan of the spans.
 fn plan_of(alloc: Global, problem: &Problem, spans: &[Span]) -> Result<Plan, NoMemory>
     ensures { IfOk result (HasShape problem.now) }
 {
@@ -41,7 +41,7 @@ fn plan_of(alloc: Global, problem: &Problem, spans: &[Span]) -> Result<Plan, NoM
     Ok(plan)
 }
 
-// Looks at which arcs of each span bear blocks.
+// Finds the arcs with residual capacity in each span.
 fn look_at_arcs(stores: &Stores, spans: &mut [Span]) {
     for span in spans.iter_mut() {
         let arcs = Arcs::of(stores, span);
@@ -49,7 +49,7 @@ fn look_at_arcs(stores: &Stores, spans: &mut [Span]) {
     }
 }
 
-// Moves lost blocks as long as a search finds where to. The last search finds what the cut is made of.
+// Moves lost blocks as long as a search finds a path. The last search gives the cut.
 fn improve(alloc: Global, stores: &Stores, spans: &mut [Span]) -> Result<(), NoMemory> {
     let mut walks = Walks::new(alloc);
     look_at_arcs(stores, spans);

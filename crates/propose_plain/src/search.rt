@@ -1,13 +1,14 @@
-//! The search for where lost blocks could go instead: over the nodes of all spans, along each arc that bears blocks.
+//! The search for where lost blocks could go instead: over the nodes of all spans, along each arc with residual
+//! capacity.
 use crate::node::Node;
 use crate::sets::{NodeSet, StoreSet};
 use crate::spans::Span;
 use crate::stores::Stores;
 
-// More than the batches of a span and the sweeps of a search.
+// More than the batches of a span, and than the sweeps of a search.
 const ROUNDS: u32 = 4096;
 
-/// The nodes of a span that a search found, and of each the number of the batch in which it was.
+/// The nodes of a span that a search found, each with the number of its batch.
 #[derive(Clone, Copy)]
 pub(crate) struct Found {
     nodes: NodeSet,
@@ -26,7 +27,7 @@ impl Found {
         self.nodes
     }
 
-    // The batch of a node, where it was found.
+    // The batch of a node, if it was found.
     pub(crate) fn batch(&self, node: Node) -> Option<u16> {
         if self.nodes.has(node) {
             Some(self.batches[node.place()])
@@ -53,13 +54,13 @@ impl Found {
         self.nodes = NodeSet::NONE;
     }
 
-    // Forgets a node from which nothing can be moved on.
+    // Forgets a node to which no path leads.
     pub(crate) fn forget(&mut self, node: Node) {
         self.nodes = self.nodes.without(NodeSet::NONE.with(node));
     }
 }
 
-// Adds the nodes and all of the span that can be reached from them, batch by batch. Answers whether one was new.
+// Adds the nodes and all of the span that can be reached from them, batch by batch. Returns whether one was new.
 fn reach(stores: &Stores, span: &mut Span, nodes: NodeSet, batch: &mut u16) -> bool {
     let mut new = nodes.without(span.found.nodes());
     if new.is_empty() {
@@ -85,8 +86,8 @@ fn begin(stores: &Stores, spans: &mut [Span], batch: &mut u16) {
     }
 }
 
-// What a store holds it can keep: from each span to the next.
-fn sweep_on(stores: &Stores, spans: &mut [Span], batch: &mut u16) -> bool {
+// Reaches from each span to the next: a store can keep what it holds.
+fn sweep_forward(stores: &Stores, spans: &mut [Span], batch: &mut u16) -> bool {
     let mut is_new = false;
     let mut kept = NodeSet::NONE;
     for span in spans.iter_mut() {
@@ -97,7 +98,7 @@ fn sweep_on(stores: &Stores, spans: &mut [Span], batch: &mut u16) -> bool {
 }
 
 // What a store keeps it can let go before: from each span to the one before.
-fn sweep_back(stores: &Stores, spans: &mut [Span], batch: &mut u16) -> bool {
+fn sweep_backward(stores: &Stores, spans: &mut [Span], batch: &mut u16) -> bool {
     let mut is_new = false;
     let mut coming = StoreSet::NONE;
     for span in spans.iter_mut().rev() {
@@ -113,9 +114,9 @@ pub(crate) fn search(stores: &Stores, spans: &mut [Span]) {
     let mut batch = 0;
     begin(stores, spans, &mut batch);
     for _ in 0..ROUNDS {
-        let on = sweep_on(stores, spans, &mut batch);
-        let back = sweep_back(stores, spans, &mut batch);
-        if !on && !back {
+        let forward = sweep_forward(stores, spans, &mut batch);
+        let backward = sweep_backward(stores, spans, &mut batch);
+        if !forward && !backward {
             break;
         }
     }

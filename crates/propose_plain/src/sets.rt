@@ -3,7 +3,7 @@ ghost use Rattle.std.specs.Prelude.{◌<◌, IfSome};
 
 use crate::node::Node;
 
-/// Some of the 16 stores.
+/// A set of stores.
 #[derive(Clone, Copy)]
 pub(crate) struct StoreSet(u16);
 
@@ -18,21 +18,21 @@ impl StoreSet {
         StoreSet(self.0 & !(1 << (store & 15)))
     }
 
-    // The set with the store where it is so, and otherwise without it.
-    pub(crate) fn with_if(self, is_so: bool, store: usize) -> StoreSet {
-        StoreSet(self.without(store).0 | u16::from(is_so) << (store & 15))
+    // The set with the store if `holds`, and without it otherwise.
+    pub(crate) fn with_if(self, holds: bool, store: usize) -> StoreSet {
+        StoreSet(self.without(store).0 | u16::from(holds) << (store & 15))
     }
 
     pub(crate) fn has(self, store: usize) -> bool {
         self.0 >> (store & 15) & 1 == 1
     }
 
-    // The stores of one set or the other.
+    // The union of two sets.
     pub(crate) fn either(self, other: StoreSet) -> StoreSet {
         StoreSet(self.0 | other.0)
     }
 
-    // The stores of both sets.
+    // The intersection of two sets.
     pub(crate) fn both(self, other: StoreSet) -> StoreSet {
         StoreSet(self.0 & other.0)
     }
@@ -41,7 +41,7 @@ impl StoreSet {
         self.0 == 0
     }
 
-    // The first store, where there is one.
+    // The first store, if there is one.
     pub(crate) fn first(self) -> Option<usize> {
         if self.0 == 0 {
             None
@@ -56,19 +56,19 @@ impl StoreSet {
     }
 }
 
-/// Some of the nodes of a span: two of each store, one of each channel, and the pass.
+/// A set of nodes of a span: two for each store, one for each channel, and the pass.
 #[derive(Clone, Copy)]
 pub(crate) struct NodeSet(u64);
 
 impl NodeSet {
     pub(crate) const NONE: NodeSet = NodeSet(0);
 
-    // The nodes at which blocks come into the stores.
+    // The in-nodes of stores.
     pub(crate) fn ins(stores: StoreSet) -> NodeSet {
         NodeSet(u64::from(stores.0))
     }
 
-    // The nodes of what the stores hold.
+    // The out-nodes of stores.
     pub(crate) fn outs(stores: StoreSet) -> NodeSet {
         NodeSet(u64::from(stores.0) << 16)
     }
@@ -81,12 +81,12 @@ impl NodeSet {
         self.0 >> node.place() & 1 == 1
     }
 
-    // The nodes of one set or the other.
+    // The union of two sets.
     pub(crate) fn either(self, other: NodeSet) -> NodeSet {
         NodeSet(self.0 | other.0)
     }
 
-    // The nodes of both sets.
+    // The intersection of two sets.
     pub(crate) fn both(self, other: NodeSet) -> NodeSet {
         NodeSet(self.0 & other.0)
     }
@@ -99,12 +99,12 @@ impl NodeSet {
         self.0 == 0
     }
 
-    // The stores whose in-node is one of them.
+    // The stores whose in-node is in the set.
     pub(crate) fn stores_in(self) -> StoreSet {
         StoreSet((self.0 & 0xffff) as u16)
     }
 
-    // The stores whose out-node is one of them.
+    // The stores whose out-node is in the set.
     pub(crate) fn stores_out(self) -> StoreSet {
         StoreSet((self.0 >> 16 & 0xffff) as u16)
     }
@@ -124,7 +124,7 @@ impl NodeSet {
         }
     }
 
-    // The place of the first node, where there is one.
+    // The place of the first node, if there is one.
     pub(crate) fn first_place(self) -> Option<usize>
         ensures { IfSome result (λ place. place < 64) }
     {

@@ -1,4 +1,4 @@
-//! Spans: steps of which only the last has a window, joined. What arrives in such steps is lost or kept as if it came at once.
+//! Spans: joined steps of which only the last has a window. What arrives in them is lost or kept as if it came at once.
 ghost use Rattle.std.specs.Prelude.{◌≤◌, length};
 
 use crate::amounts::Amounts;
@@ -8,36 +8,36 @@ use mm_plan::NoMemory;
 use mm_problem::{CHANNELS, Problem};
 use std::alloc::Global;
 
-/// A span with what a plan does in it.
+/// A span, and what a plan does in it.
 #[derive(Clone, Copy)]
 pub(crate) struct Span {
-    /// The steps from this one on
+    /// The first of its steps.
     pub(crate) first: u32,
-    /// up to this one, which may have a window.
+    /// The last of its steps, which may have a window.
     pub(crate) last: u32,
-    /// What came to each store since the plan began, with what it held then.
-    pub(crate) come: Amounts,
-    /// What each channel lets through, `u32::MAX` where its limit is not below the window.
+    /// What arrived in each store since the plan began, with its start volume.
+    pub(crate) arrived: Amounts,
+    /// The limit of each channel, `u32::MAX` if it is not below the window.
     pub(crate) limits: Amounts,
-    /// What finds no room in each store.
+    /// What each store loses.
     pub(crate) lost: Amounts,
-    /// What each store holds before blocks leave it,
+    /// What each store holds before blocks leave it.
     pub(crate) held: Amounts,
-    /// what leaves it,
+    /// What leaves each store.
     pub(crate) dumped: Amounts,
-    /// and what it keeps.
+    /// What each store keeps at the end.
     pub(crate) kept: Amounts,
-    /// What leaves by each channel.
+    /// What leaves through each channel.
     pub(crate) sent: Amounts,
-    /// What of the window is not used.
+    /// The unused part of the window.
     pub(crate) idle: u32,
-    /// Which of its arcs bear blocks.
+    /// The arcs with residual capacity.
     pub(crate) arcs: Arcs,
     /// What the last search found here.
     pub(crate) found: Found,
 }
 
-// What each channel lets through in the window of a step.
+// The limit of each channel in the window of a step.
 fn limits_in(problem: &Problem, step: u32, window: u32) -> Amounts
     requires first { 1 ≤ step }
     requires last { step ≤ length problem.now.windows }
@@ -53,7 +53,7 @@ fn limits_in(problem: &Problem, step: u32, window: u32) -> Amounts
     limits
 }
 
-// What each store holds as the plan begins.
+// What each store holds at the start of the plan.
 fn starts(problem: &Problem) -> Amounts {
     let mut starts = Amounts::NOTHING;
     for store in 0..problem.stores() {
@@ -62,25 +62,25 @@ fn starts(problem: &Problem) -> Amounts {
     starts
 }
 
-// Adds what arrives in a step.
-fn add_arrivals(come: &mut Amounts, problem: &Problem, step: u32)
+// Adds the arrivals of a step.
+fn add_arrivals(arrived: &mut Amounts, problem: &Problem, step: u32)
     requires first { 1 ≤ step }
     requires last { step ≤ length problem.now.windows }
 {
     for store in 0..problem.stores() {
-        come.add(store, problem.arrivals(store, step));
+        arrived.add(store, problem.arrivals(store, step));
     }
 }
 
-// A span in which nothing has left yet.
-fn empty_span(problem: &Problem, first: u32, last: u32, come: Amounts, window: u32) -> Span
+// A span in which no block has left yet.
+fn empty_span(problem: &Problem, first: u32, last: u32, arrived: Amounts, window: u32) -> Span
     requires first { 1 ≤ last }
     requires last { last ≤ length problem.now.windows }
 {
     Span {
         first,
         last,
-        come,
+        arrived,
         limits: limits_in(problem, last, window),
         lost: Amounts::NOTHING,
         held: Amounts::NOTHING,
@@ -93,17 +93,18 @@ fn empty_span(problem: &Problem, first: u32, last: u32, come: Amounts, window: u
     }
 }
 
-/// The spans of a problem: each step without a window is joined to the next that has one, and the last such to the end.
+/// The spans of a problem. Each step without a window is joined to the next step that has one; the last steps without a
+/// window are a span too.
 pub(crate) fn spans_of(alloc: Global, problem: &Problem) -> Result<Vec<Span>, NoMemory> {
     let steps = problem.steps();
     let mut spans = Vec::with_capacity(alloc, steps as usize)?;
-    let mut come = starts(problem);
+    let mut arrived = starts(problem);
     let mut first = 1;
     for step in 1..steps + 1 {
-        add_arrivals(&mut come, problem, step);
+        add_arrivals(&mut arrived, problem, step);
         let window = problem.window(step);
         if window > 0 || step == steps {
-            spans.push(empty_span(problem, first, step, come, window))?;
+            spans.push(empty_span(problem, first, step, arrived, window))?;
             first = step + 1;
         }
     }

@@ -1,4 +1,4 @@
-//! What a problem says of its stores, as tables.
+//! The stores of a problem, as tables.
 ghost use Rattle.std.specs.Prelude.{◌<◌};
 
 use crate::amounts::Amounts;
@@ -50,7 +50,7 @@ impl Stores {
     }
 
     // The stores of a channel.
-    pub(crate) fn on(&self, channel: usize) -> StoreSet {
+    pub(crate) fn of_channel(&self, channel: usize) -> StoreSet {
         self.by_channel[channel & 7]
     }
 }

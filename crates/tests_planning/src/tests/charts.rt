@@ -6,7 +6,7 @@ use crate::tests::samples::{
 use mm_chart::chart_bytes;
 use samples::{chart_of, has_lines, has_texts, is_fault};
 
-// Nothing is written of the faulty texts, but their faults.
+// For faulty texts only the fault is written.
 macro_rules! writes_nothing {
     ($rt:expr, $write:ident) => {
         for (setup, forecast, plan, wanted) in &FAULTY {
@@ -49,7 +49,7 @@ pub(crate) static SHOWN: [&str; 15] = [
     "<text class='w' x='16' y='448'>Larger stores, and only these: SCI</text>",
 ];
 
-// 3 and 3 come to a store of 3 whose channel lets 1 leave in a step: 2 are lost.
+// 3 and 3 blocks arrive in a store of 3, and 1 can leave through its channel in a step: 2 are lost.
 static BY_CHANNELS: [&str; 7] = [
     "<path class='c' d='M180 178V152H276V178V178'/>",
     "<path class='v' d='M180 174V156H276V174V174'/>",
@@ -63,8 +63,7 @@ static BY_CHANNELS: [&str; 7] = [
 
 const LIMITED_STEPS_OF_A: &str = "step,window,A,limit:0\n1,5,3,1\n2,0,3,2\n";
 
-// The same where the limit is one of the step, and that of the next step is twice as high: 1 of 2 in a height of 18 is
-// 9.
+// The same with a limit for each step, which is twice as high in the next step: 1 of 2 in a height of 18 is 9.
 static BY_LIMITS_OF_STEPS: [&str; 4] = [
     "<path class='c' d='M180 178V152H276V178V178'/>",
     "<path class='v' d='M180 174V165H276V174V174'/>",
@@ -79,7 +78,7 @@ const THREE_SIZES: &str =
 
 const ONE_COMES: &str = "step,window,A,B,C\n1,3,1,1,3\n2,0,0,0,0\n3,0,0,0,4\n";
 
-// More leave C in step 1 than its channel lets through.
+// In step 1 more blocks leave C than the limit of its channel.
 const OVER_THE_LIMIT: &str =
     "mmplan 1\nstores A B C\ndump 1 0 0 3\ndump 2 0 0 0\ndump 3 0 0 0\nloss 0\nbound 0\nend\n";
 
@@ -128,7 +127,7 @@ fn charts_have_these_lines(rt: HostRuntime) {
     is_charted(&rt, two, &ONE_SCALE);
 }
 
-// Plans that differ from the best one in a line or two, and the headline then.
+// Plans that differ from the best one in a line or two, and their headlines.
 static FORGED: [(&str, &str); 6] = wanted! {
     "mmplan 1\nstores SCI\ndump 1 2\ndump 2 2\ndump 3 0\nloss 1\nstretch SCI 1 3\nbound 2\nend\n"
     => "<text class='a' x='16' y='30'>loss is 2";
@@ -151,7 +150,7 @@ static RED: [&str; 2] = [
     ".a{font-size:20px;font-weight:bold;fill:#c4161c}",
 ];
 
-// The chart of the plan has this headline, and does not say that no plan loses less or what may help.
+// The chart of the plan has this headline. It says neither that no plan loses less nor what may help.
 fn is_told(rt: &impl Runtime, plan: &str, headline: &str) {
     let chart = chart_of(rt, SCI, THREE_STEPS, plan);
     has_lines(rt, chart.as_str(), &[headline]);
@@ -167,7 +166,7 @@ fn a_forged_text_has_the_headline_of_its_verdict(rt: HostRuntime) {
     }
 }
 
-// Texts of a setup, a forecast and a plan, and the fault that is told.
+// Texts of a setup, a forecast and a plan, and the fault that is reported.
 pub(crate) static FAULTY: [(&str, &str, &str, &str); 4] = [
     ("store = 1", "", "", "28 SetupField row 0 name store"),
     (SCI, "step,window,HK\n1,2,3\n", "", "30 Header"),

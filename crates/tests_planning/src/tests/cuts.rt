@@ -7,7 +7,7 @@ use mm_cut::{Verdict, bound, first_bad, first_bad_count, verify};
 use mm_plan::{Fault, Sheet, fits, loss_of};
 use mm_problem::Problem;
 
-// A plan with its cut, and what is found of them by hand.
+// A plan with its cut, and what is expected of them by hand.
 struct Row {
     name: &'static str,
     setup: &'static str,
@@ -19,7 +19,7 @@ struct Row {
     verdict: Verdict,
 }
 
-// Plans by name: the texts of the setup, of the forecast and of the plan, and what is found.
+// Plans by name: the texts of the setup, of the forecast and of the plan, and what is expected.
 macro_rules! rows {
     ($(
         name: $name:literal, $setup:expr, $forecast:expr, $sheet:expr =>
@@ -99,7 +99,7 @@ static ROWS: [Row; 17] = rows! {
         misfit None, loss 3, bound Some(3), Least(3);
 };
 
-// The cut's bound, where it is a cut of the problem.
+// The bound of the cut, if it is a cut of the problem.
 fn bound_of(problem: &Problem, sheet: &Sheet) -> Option<i64> {
     let (cut, by_channels) = (sheet.cut(), sheet.by_channels());
     if first_bad(problem, cut).is_some() || first_bad_count(problem, cut, by_channels).is_some() {
@@ -108,8 +108,8 @@ fn bound_of(problem: &Problem, sheet: &Sheet) -> Option<i64> {
     Some(bound(problem, cut, by_channels))
 }
 
-// The plan fits or not and loses what it is to lose, the sheet has the problem's shape and its cut this bound, and the verdict on them and
-// on the printed loss and bound is this.
+// The plan fits or not, as expected, and has the expected loss. The sheet has the problem's shape, its cut has the
+// expected bound, and the verdict is the expected one.
 fn is_found(rt: &impl Runtime, problem: &Problem, sheet: &Sheet, row: &Row) {
     let (plan, cut, counts) = (sheet.plan(), sheet.cut(), sheet.by_channels());
     assert!(rt; plan.has_shape(problem));

@@ -12,7 +12,7 @@ use mm_planner::{SINK, SOURCE, network_of};
 // An arc: from where, to where, and its capacity.
 pub(crate) type ArcRow = (u32, u32, Option<u64>);
 
-// A network, and the value of its maximum flow from node 0 to the last node; `None` where unlimited arcs lead there.
+// A network, and the value of its maximum flow from node 0 to the last node; `None` if unlimited arcs lead there.
 struct Case {
     name: &'static str,
     nodes: u32,
@@ -20,7 +20,7 @@ struct Case {
     value: Option<u64>,
 }
 
-// The capacity of an arc; `any` where it is unlimited.
+// The capacity of an arc; `any` if it is unlimited.
 macro_rules! capacity {
     (any) => { None };
     ($most:expr) => { Some($most) };
@@ -31,7 +31,7 @@ macro_rules! arcs {
     ($($from:literal $to:literal $most:tt),+) => { [$(($from, $to, capacity!($most))),+] };
 }
 
-// Networks by name: how many nodes each has, the value, and the arcs.
+// Networks by name: the number of nodes, the value, and the arcs.
 macro_rules! networks {
     ($(name: $name:literal, $nodes:literal nodes, $value:expr => $($from:literal $to:literal $most:tt),+;)+) => {
         [$(Case { name: $name, nodes: $nodes, arcs: &arcs!($($from $to $most),+), value: $value }),+]
@@ -62,7 +62,7 @@ static CASES: [Case; 5] = networks! {
         0 1 1_000_000, 0 2 1_000_000, 1 2 1, 1 3 1_000_000, 2 3 1_000_000;
 };
 
-// The network of so many nodes with these arcs.
+// The network with this number of nodes and these arcs.
 pub(crate) fn built(rt: &impl Runtime, nodes: u32, arcs: &[ArcRow]) -> Network {
     let mut network = Network::new(rt.alloc());
     for _ in 0..nodes {
@@ -88,7 +88,7 @@ fn arc(rt: &impl Runtime, network: &mut Network, from: u32, to: u32, capacity: O
     network.add_arc(from, to, capacity).expect(rt, "an arc")
 }
 
-// The value that both solvers answer.
+// The value of both solvers' flows.
 pub(crate) fn same_value(
     rt: &impl Runtime,
     network: &Network,
@@ -103,7 +103,7 @@ pub(crate) fn same_value(
     by_levels
 }
 
-// The value that a solver answered, `None` where it is unbounded.
+// The value of a solver's flow, `None` if it is unbounded.
 fn value_of(rt: &impl Runtime, answer: Result<Solved, Fault>) -> Option<u64> {
     let unbounded = matches!(answer, Err(Fault::Unbounded));
     assert!(rt; answer.is_ok() || unbounded);
@@ -119,7 +119,7 @@ fn values_by_hand(rt: HostRuntime) {
     }
 }
 
-// Both solvers send as many blocks through the planner's network of a problem as do not get lost.
+// The flow of both solvers through the planner's network is the number of blocks that are not lost.
 fn keeps(rt: &impl Runtime, setup: &str, forecast: &str, kept: u64) {
     let problem = problem_of(rt, setup, forecast);
     let network = network_of(rt.alloc(), &problem).expect(rt, "memory");
@@ -127,7 +127,7 @@ fn keeps(rt: &impl Runtime, setup: &str, forecast: &str, kept: u64) {
     assert!(rt; value == Some(kept), "{forecast}");
 }
 
-// Setups and forecasts, and how many of all blocks do not get lost.
+// Setups and forecasts, and how many of all blocks are not lost.
 static KEPT: [(&str, &str, u64); 7] = [
     // first_run: 10 arrive and 2 are lost.
     (SCI, THREE_STEPS, 8),
@@ -173,7 +173,8 @@ fn a_refusal_is_printed_with_number_and_name(rt: HostRuntime) {
 
 const FOUR_NODES: [ArcRow; 5] = arcs!(0 1 3, 0 2 2, 1 2 5, 1 3 2, 2 3 3);
 
-// The network has four nodes, and one flow of 5: the arcs out of node 0 and into node 3 are full, and 1 is left from 1 to 2.
+// The network has four nodes, and one flow of 5: the arcs out of node 0 and into node 3 are full, and 1 is left from 1
+// to 2.
 fn has_flow_of_5(rt: &impl Runtime, network: &Network) {
     assert!(rt; network.node_count() == 4);
     let solved = solve(rt.alloc(), network, 0, 3).expect(rt, "a solution");
@@ -189,7 +190,7 @@ fn network_of_four_nodes(rt: HostRuntime) {
     assert!(rt; same_value(&rt, &network, 0, 3) == Some(5));
 }
 
-// No flow from node 0 to this one: it is refused so.
+// A flow from node 0 to this node is refused with this fault.
 fn is_refused(rt: &impl Runtime, network: &Network, sink: u32, wanted: Fault) {
     assert!(rt; (sink as usize) < network.node_count());
     assert!(rt; solve(rt.alloc(), network, 0, sink).err() == Some(wanted));

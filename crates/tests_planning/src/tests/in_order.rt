@@ -1,4 +1,4 @@
-//! Plans that serve the stores in the setup's order: a problem that is worked by hand, and what the checker says of
+//! Plans that serve the stores in the setup's order: a problem that is worked by hand, and the checker's verdicts on
 //! changed texts.
 ghost use Rattle.mm_plan.specs.Table.{HasShape};
 
@@ -33,7 +33,7 @@ pub(crate) const THREE_IN_ORDER: &str =
 
 static LOSSES: [u64; 3] = [2, 4, 6];
 
-// The first store, the first two and so on lose this.
+// The losses of the first store, the first two and so on are these.
 fn firsts_lose(rt: &impl Runtime, problem: &Problem, plan: &Plan)
     requires { HasShape problem.now plan.now }
 {
@@ -43,7 +43,7 @@ fn firsts_lose(rt: &impl Runtime, problem: &Problem, plan: &Plan)
     }
 }
 
-// The plan in order loses what is counted by hand.
+// The loss of the plan in order is the one counted by hand.
 fn loses_in_order(rt: &impl Runtime, problem: &Problem) {
     let planned = plan_in_order(rt.alloc(), problem).expect(rt, "memory");
     assert!(rt; (planned.certificate.loss(), planned.firsts.len()) == (6, 2));
@@ -57,7 +57,7 @@ fn three_stores_are_served_in_order(rt: HostRuntime) {
     loses_in_order(&rt, &problem);
 }
 
-// The checker says this of a plan text.
+// The checker's verdict on a plan text is this.
 fn is_judged(rt: &impl Runtime, texts: (&str, &str), plan: &[u8], wanted: Verdict, name: &str) {
     let checked = check_bytes(rt.alloc(), texts.0.as_bytes(), texts.1.as_bytes(), plan);
     let (verdict, _line) = checked.expect(rt, name);
@@ -79,7 +79,7 @@ fn the_printed_plan_is_least_in_order(rt: HostRuntime) {
     );
 }
 
-// Its one plan and its one cut are those of the plan without order.
+// With one store, the plan and its cut are those of the plan without order.
 const ONE_STORE_IN_ORDER: &str =
     "mmplan 3\nstores SCI\ndump 1 2\ndump 2 2\ndump 3 0\nloss 2\nstretch SCI 1 3\nbound 2\nend\n";
 
@@ -97,7 +97,7 @@ const TWO_STEPS_OF_BOTH: &str = "step,window,A,B\n1,5,3,3\n2,0,3,3\n";
 pub(crate) const COUNTS_IN_ORDER: &str =
     "mmplan 3\nstores A B\ndump 1 1 3\ndump 2 0 0\nloss 2\nstretch A 1 2\ncount 1 channels\nbound 2\nfirst 1\nloss 2\nstretch A 1 2\ncount 1 channels\nbound 2\nend\n";
 
-// Plan texts by name, with their problems, and what is said of each.
+// Plan texts by name, with their problems and verdicts.
 static JUDGED: [(&str, &str, &str, &str, Verdict); 5] = wanted! {
     "three stores in order", THREE_STORES, EIGHT_STEPS, THREE_IN_ORDER => Verdict::LeastInOrder(6);
     "counts in order", A_LIMITED_AND_B, TWO_STEPS_OF_BOTH, COUNTS_IN_ORDER
@@ -116,7 +116,7 @@ fn texts_by_hand_are_judged(rt: HostRuntime) {
     }
 }
 
-// What is changed in the text of the three stores, each with the text in its place, and what is said then.
+// Changes of the text of the three stores: the old part, the new part, and the verdict.
 struct Changed {
     name: &'static str,
     old: &'static str,
@@ -176,7 +176,7 @@ fn changed_texts_are_judged(rt: HostRuntime) {
     }
 }
 
-// What stands in place of the loss of two stores, and the line that is printed then.
+// What replaces the loss of two stores, and the line that is printed.
 static LINES: [(&str, &str); 2] = wanted! {
     "loss 4\n" => "least 6 in order\n";
     "loss 5\n" => "first 2 not shown\n";

@@ -15,7 +15,7 @@ const SCI_LIMITED_TO_3: &str =
 
 const A_AND_B_IDLE: &str = "step,window,A,B\n1,2,0,0\n2,2,0,0\n3,2,0,0\n";
 
-// What is written to the one store, left in it and lost, step by step.
+// The blocks written to the one store, left in it and lost, step by step.
 static VOLUMES: [(u32, u32, u32); 3] = [(3, 1, 0), (4, 2, 0), (4, 4, 2)];
 
 // The simulation of a problem with one store has these volumes, and loses 2.
@@ -66,7 +66,7 @@ fn loses(rt: &impl Runtime, problem: &Problem, plan: &Plan, loss: u64) {
     assert!(rt; loss_of(problem, plan) == loss);
 }
 
-// The plan of zeros, of which one amount may be set: of a store, in a step.
+// The plan of zeros, with at most one amount set: that of a store in a step.
 fn one_set(rt: &impl Runtime, problem: &Problem, set: Option<(usize, u32, u32)>) -> Plan {
     let mut plan = Plan::zero(rt.alloc(), problem).expect(rt, "memory");
     if let Some((store, step, amount)) = set {
@@ -77,7 +77,7 @@ fn one_set(rt: &impl Runtime, problem: &Problem, set: Option<(usize, u32, u32)>)
     plan
 }
 
-// Problems, the amount that is set, all amounts then, and the loss.
+// Problems, the amount that is set, all amounts after that, and the loss.
 static SET: [(&str, &str, Option<(usize, u32, u32)>, &[u32], u64); 3] = wanted! {
     SCI, THREE_STEPS, None, &[0, 0, 0] => 6;
     // 3, 4, 4 blocks are written, 3, 3, 4 are left, and 0, 2, 3 are lost.

@@ -1,4 +1,4 @@
-//! Texts of setups and forecasts, and what is read of them, and problems from data.
+//! Texts of setups and forecasts with what is read of them, and problems from data.
 use crate::tests::samples::Runtime;
 use mm_problem::Fault;
 
@@ -11,7 +11,7 @@ mod data;
 mod forecasts;
 mod setups;
 
-// How a fault is printed; `read` where there is none.
+// The printed fault, or `read` if there is none.
 fn shown(rt: &impl Runtime, fault: Option<Fault>) -> String {
     match fault {
         None => String::from_str(rt.alloc(), "read").expect(rt, "memory"),
@@ -19,7 +19,7 @@ fn shown(rt: &impl Runtime, fault: Option<Fault>) -> String {
     }
 }
 
-// The fault is printed so; `read` where there is none.
+// The fault is printed like this, or is `read` if there is none.
 fn is_shown(rt: &impl Runtime, fault: Option<Fault>, wanted: &str) {
     let shown = shown(rt, fault);
     assert!(rt; shown.as_str() == wanted, "{wanted}");

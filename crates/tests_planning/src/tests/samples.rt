@@ -1,4 +1,4 @@
-//! Texts of setups and forecasts that several modules share, and what is made of them.
+//! Texts of setups and forecasts that several modules share, and the values made of them.
 ghost use Rattle.std.specs.Prelude.{◌<◌};
 ghost use Rattle.mm_plan.specs.Table.{HasShape};
 
@@ -8,7 +8,7 @@ use mm_problem::{Kind, LimitRow, Problem, Setup, StoreId, StoreRow};
 use std::fmt::Write;
 use std::process::Abort;
 
-// What a test's helpers are given: an assertion that fails ends the test, and what is made takes memory.
+// The bounds of test helpers: a failed assertion ends the test, and values need memory.
 pub(crate) trait Runtime: Abort + AllocGlobal {}
 
 impl<R: Abort + AllocGlobal> Runtime for R {}
@@ -61,7 +61,7 @@ pub(crate) fn joined(rt: &impl Runtime, parts: &[&str]) -> String {
     parts.join(rt.alloc(), "").expect(rt, "memory")
 }
 
-// The plan that a text says.
+// The plan of a text.
 pub(crate) fn sheet_of(rt: &impl Runtime, text: &str) -> Sheet {
     Sheet::parse(rt.alloc(), text.as_bytes()).expect(rt, "a sheet")
 }
@@ -87,7 +87,7 @@ pub(crate) fn numbered(rt: &impl Runtime, before: &str, most: u32, after: &str) 
     text
 }
 
-// The problem that two texts say.
+// The problem of two texts.
 pub(crate) fn problem_of(rt: &impl Runtime, setup: &str, forecast: &str) -> Problem {
     let setup = Setup::read(rt.alloc(), setup.as_bytes()).expect(rt, "a setup");
     Problem::read(rt.alloc(), &setup, forecast.as_bytes()).expect(rt, "a forecast")
@@ -116,7 +116,7 @@ pub(crate) fn made(
     problem.expect(rt, "a problem")
 }
 
-// The problem with limits of each step for these channels.
+// The problem with a limit for each step and each of these channels.
 pub(crate) fn limited(
     rt: &impl Runtime,
     problem: &Problem,
@@ -131,8 +131,8 @@ pub(crate) static NAMES: [&str; 16] = [
     "A", "B", "C", "D", "E", "F", "G", "H", "I", "J", "K", "L", "M", "N", "O", "P",
 ];
 
-// The tables of stores of size 1 whose identifiers begin alike and whose tables end alike: the number of each, and its channel. Then
-// limits of as many blocks for channels.
+// The tables of stores of size 1, with the number and the channel of each, and then limits of this number of blocks for
+// channels.
 macro_rules! stores_of_size_1 {
     (
         $id:literal, $end:literal: $($number:literal $channel:literal),+
@@ -166,11 +166,11 @@ macro_rules! each_limited {
 
 pub(crate) use each_limited;
 
-// What follows the number of a step in which a million blocks come to each of 16 stores, and none may leave.
+// The rest of a record in which a million blocks arrive in each of 16 stores, and none can leave.
 pub(crate) const MILLIONS: &str =
     ",0,1000000,1000000,1000000,1000000,1000000,1000000,1000000,1000000,1000000,1000000,1000000,1000000,1000000,1000000,1000000,1000000\n";
 
-// A forecast of so many steps, each with the same after its number.
+// A forecast of this number of steps, whose records are alike except for their number.
 pub(crate) fn alike_steps(rt: &impl Runtime, header: &str, steps: u32, rest: &str) -> String {
     let records = numbered(rt, "", steps, rest);
     joined(rt, &[header, records.as_str()])
@@ -185,7 +185,7 @@ pub(crate) fn filled(rt: &impl Runtime, problem: &Problem, plan: &Plan) -> Plan
     fill(rt.alloc(), problem, plan).expect(rt, "memory")
 }
 
-// No plan of the problem loses less than this, and one loses as much.
+// The least loss of all plans of the problem is this.
 pub(crate) fn is_least(rt: &impl Runtime, problem: &Problem, loss: u64) {
     let less = plan_below(rt.alloc(), problem, loss).expect(rt, "memory");
     let more = plan_below(rt.alloc(), problem, loss.saturating_add(1)).expect(rt, "memory");

@@ -1,4 +1,4 @@
-//! The planner beside the slow twin that tries every plan, on tiny problems.
+//! The planner compared with the slow reference that tries every plan, on tiny problems.
 use crate::tests::samples::{Runtime, filled, joined, problem_of};
 use mm_cut::{Verdict, verify};
 use mm_exhaustive::plan_below;
@@ -42,7 +42,7 @@ mod paths;
 pub(crate) mod proposals;
 mod sides;
 
-// What a planned dump loses: its plan fits, and its cut shows that no plan loses less.
+// The loss of a plan, which fits and whose cut shows that no plan loses less.
 fn shown_loss(rt: &impl Runtime, problem: &Problem, planned: Result<Planned, NoMemory>) -> u64 {
     let planned = planned.expect(rt, "memory");
     let (plan, shown) = (&planned.plan, &planned.certificate);
@@ -60,7 +60,7 @@ fn shown_loss(rt: &impl Runtime, problem: &Problem, planned: Result<Planned, NoM
     loss
 }
 
-// What is lost by what is proposed, once its idle windows are used: its own cut shows that no plan loses less.
+// The loss of the proposal with its idle windows filled. Its own cut shows that no plan loses less.
 fn proposed_loss(rt: &impl Runtime, problem: &Problem) -> u64 {
     let proposed = propose(rt.alloc(), problem).expect(rt, "memory");
     let plan = filled(rt, problem, &proposed.plan);
@@ -72,7 +72,7 @@ fn proposed_loss(rt: &impl Runtime, problem: &Problem) -> u64 {
     loss
 }
 
-// The loss of a problem by the planner, by the network alone, and by the proposal alone, which is the same.
+// The loss of a problem, which is the same by the planner, by the network alone, and by the proposal alone.
 fn planned_loss(rt: &impl Runtime, problem: &Problem) -> u64 {
     let loss = shown_loss(rt, problem, plan(rt.alloc(), problem));
     let by_flow = shown_loss(rt, problem, plan_by_flow(rt.alloc(), problem));
@@ -81,7 +81,7 @@ fn planned_loss(rt: &impl Runtime, problem: &Problem) -> u64 {
     loss
 }
 
-// The loss that each path of the planner finds: of all plans one that fits loses that, and none loses less.
+// The loss that each path of the planner finds is the least of all plans.
 fn least_loss(rt: &impl Runtime, problem: &Problem) -> u64 {
     let least = planned_loss(rt, problem);
     let less = plan_below(rt.alloc(), problem, least).expect(rt, "memory");
@@ -92,7 +92,7 @@ fn least_loss(rt: &impl Runtime, problem: &Problem) -> u64 {
     least
 }
 
-// The least loss of each of these problems is what is counted.
+// The least loss of each of these problems is the expected one.
 fn lose_least(rt: &impl Runtime, cases: &[Counted]) {
     for case in cases {
         let problem = problem_of(rt, case.setup, case.forecast);
@@ -136,7 +136,7 @@ fn plans_lose_what_is_counted_by_hand(rt: HostRuntime) {
     lose_least(&rt, &COUNTED);
 }
 
-// Stores A with a block at the start beside an empty store B of size 2: the size of A, and the channel of B.
+// A store A with one block at the start, and an empty store B of size 2: the size of A, and the channel of B.
 macro_rules! beside_b {
     ($($size:literal $channel:literal,)+) => {
         [$(concat!(

@@ -1,5 +1,4 @@
-//! What windows, sizes and limits are worth: by hand, beside all plans of tiny problems, and beside plans that are made
-//! anew.
+//! The worths of windows, sizes and limits: by hand, compared with all plans of tiny problems, and with new plans.
 use crate::tests::samples::{NAMES, Runtime, is_least, limited, made, next_below, row};
 use mm_planner::plan;
 use mm_problem::{LimitRow, MAX_BLOCKS, Problem, StoreRow};
@@ -12,9 +11,9 @@ const THREE_STORES: &str =
 const EIGHT_STEPS: &str =
     "step,window,CAM,SPEC,HK\n1,1,2,0,1\n2,1,3,1,0\n3,2,4,1,0\n4,6,0,1,1\n5,3,0,0,0\n6,0,0,2,0\n7,0,0,3,1\n8,5,0,0,0\n";
 
-// The least plan loses 5: of the 2 + 3 + 4 blocks that come to CAM in steps 1 to 3 the windows of steps 1 and 2 take 2,
-// and it holds 4; of the 2 + 3 that come to SPEC in steps 6 and 7 the window of step 6 takes none, and it holds 3. A
-// window of step 2 that is larger by 3 saves the 3 of CAM. Then no cut counts it.
+// The least plan loses 5. Of the 2 + 3 + 4 blocks that arrive in CAM in steps 1 to 3, the windows of steps 1 and 2 take
+// 2, and CAM holds 4. Of the 2 + 3 that arrive in SPEC in steps 6 and 7, the window of step 6 takes none, and SPEC
+// holds 3. If the window of step 2 is larger by 3, the 3 blocks of CAM are saved, and no cut counts this window.
 const WORTH_3_THEN_NOTHING: &str =
     "item,name,step,now,next,most,without\nwindow,,1,1,1,1,1\nwindow,,2,1,1,3,1\nwindow,,3,2,0,0,0\n\
     window,,4,6,0,0,0\nwindow,,5,3,0,0,0\nwindow,,6,0,1,2,0\nwindow,,7,0,0,0,0\nwindow,,8,5,0,0,0\n\
@@ -46,20 +45,20 @@ fn tables_by_hand(rt: HostRuntime) {
     }
 }
 
-/// The numbers that a problem is made of.
+/// The numbers of a problem.
 #[derive(Clone, Drop)]
 pub(crate) struct Numbers {
     rows: Vec<StoreRow>,
     limits: Vec<LimitRow>,
     windows: Vec<u32>,
     arrivals: Vec<u32>,
-    // the channels that have a limit in each step, and these limits, step by step
+    // the channels with a limit for each step, and these limits, step by step
     limited: Vec<u8>,
     step_limits: Vec<u32>,
 }
 
 impl Numbers {
-    // Numbers of so many stores and steps, none larger than a few blocks.
+    // Random numbers for these stores and steps, each at most a few blocks.
     pub(crate) fn made(rt: &impl Runtime, state: &mut u32, stores: u32, steps: u32) -> Numbers {
         let mut rows = Vec::new(rt.alloc());
         for name in NAMES.iter().take(stores as usize) {
@@ -96,7 +95,7 @@ impl Numbers {
         numbers
     }
 
-    // Adds limits in each step, of one channel, of two or of none.
+    // Adds a limit for each step to one channel, to two or to none.
     fn add_columns(&mut self, rt: &impl Runtime, state: &mut u32, steps: u32) {
         for channel in 0..2u8 {
             if next_below(state, 2) == 0 {
@@ -116,8 +115,8 @@ impl Numbers {
         limited(rt, &problem, &self.limited, &self.step_limits)
     }
 
-    // The problem with another number in place of one. What a store begins with comes in the first step where it is
-    // smaller.
+    // The problem with one number changed. If a store becomes smaller than its start volume, this volume arrives in the
+    // first step.
     fn with(&self, rt: &impl Runtime, item: Item, blocks: u32) -> Problem {
         let mut changed = self.clone().expect(rt, "memory");
         match item {
@@ -155,7 +154,7 @@ fn least_number(item: Item) -> u32 {
     }
 }
 
-// What a plan loses that is made anew.
+// The loss of a new plan.
 fn least_loss(rt: &impl Runtime, problem: &Problem) -> u64 {
     plan(rt.alloc(), problem)
         .expect(rt, "memory")
@@ -163,7 +162,7 @@ fn least_loss(rt: &impl Runtime, problem: &Problem) -> u64 {
         .loss()
 }
 
-// Each number is worth what a plan of the changed problem loses fewer or more.
+// The worth of each number is the difference to the loss of a new plan of the changed problem.
 fn is_worth_what_plans_lose(rt: &impl Runtime, numbers: &Numbers) {
     let problem = numbers.problem(rt);
     let least = least_loss(rt, &problem);
@@ -194,8 +193,8 @@ fn numbers_are_worth_what_plans_made_anew_lose(rt: HostRuntime) {
     }
 }
 
-// Each number is worth what the best of all plans loses fewer or more. Two stores hold no more than eight blocks, so a
-// number that is eight larger is as good as the largest.
+// The worth of each number is the difference to the loss of the best of all plans. Two stores hold at most eight
+// blocks, so a number that is eight larger is as good as the largest.
 fn is_worth_what_all_plans_lose(rt: &impl Runtime, numbers: &Numbers) {
     let problem = numbers.problem(rt);
     let least = least_loss(rt, &problem);

@@ -11,7 +11,7 @@ static BAD_TEXTS: [&str; 5] = ["", "sci", "A B", "ABCDEFGHI", "\u{c4}"];
 
 static BAD_FIELDS: [[u8; 8]; 4] = [*b"        ", *b" SCI    ", *b"SC I    ", *b"SCI\0\0\0\0\0"];
 
-// What is read is this identifier, or refused so.
+// This identifier is read, or the text is refused with this fault.
 fn is_read(rt: &impl Host, read: Result<StoreId, Fault>, want: Result<StoreId, Fault>) {
     assert!(rt; read == want, "{read:?}");
 }

@@ -23,7 +23,7 @@ fn adds(rt: &impl Host, table: &mut ControlTable, row: RouteRow) {
     assert!(rt; table.add(row) == Ok(()));
 }
 
-// What it answers where the row is to be deleted.
+// The result of deleting the row.
 fn deletes(rt: &impl Host, table: &mut ControlTable, row: RouteRow, want: Result<(), Fault>) {
     assert!(rt; table.delete(row) == want);
 }
@@ -102,12 +102,12 @@ macro_rules! rows {
     ($($apid:literal $subtype:literal $store:literal),*) => { [$(($apid, $subtype, $store)),*] };
 }
 
-// Rows as they come.
+// Rows in the order in which they are added.
 static ADDED: [(u16, u8, &str); 6] = rows! {
     101 0 "A", 100 25 "B", 100 25 "AB", 99 255 "B", 100 25 "A", 100 25 "B"
 };
 
-// The same as they stand.
+// The same rows in the order of the table.
 static ORDERED: [(u16, u8, &str); 5] = rows! {
     99 255 "B", 100 25 "A", 100 25 "AB", 100 25 "B", 101 0 "A"
 };
@@ -141,7 +141,7 @@ fn the_rows_of_a_store_are_deleted(rt: HostRuntime) {
     assert!(rt; table.delete_store(&a) == 0);
 }
 
-// Report types of this APID go into both stores, and none of those beside it.
+// Report types of this APID go into both stores, and those of neighbouring APIDs into none.
 fn finds_both(rt: &impl Host, table: &ControlTable, apid: u16, both: &[StoreId])
     requires { apid ≤ 1000 }
 {

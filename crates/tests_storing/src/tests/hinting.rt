@@ -1,11 +1,11 @@
-//! What is found in files that are refused, in the words of docs/FORMATS.md.
+//! Findings in refused files, in the words of docs/FORMATS.md.
 
 use crate::tests::samples::{Host, is_shown};
 use mm_base::Refusal;
 use mm_problem::{Fault, Setup, read_problem};
 use mm_told::{Reason, RequestHints, Spot, Texts, column_notes, hint_for, packets_hint};
 
-// The texts of a task of which these are some.
+// The texts of a task, some of which are given.
 fn texts_of<'a>(setup: &'a str, forecast: &'a str, sources: &'a str) -> Texts<'a> {
     Texts {
         setup: setup.as_bytes(),
@@ -16,7 +16,7 @@ fn texts_of<'a>(setup: &'a str, forecast: &'a str, sources: &'a str) -> Texts<'a
     }
 }
 
-// This is found in the texts, which are refused for this reason.
+// This is the finding in the texts, which are refused for this reason.
 fn hints(rt: &impl Host, reason: Reason, texts: Texts<'_>, hint: &str) {
     let found = hint_for(rt.alloc(), reason, texts).expect(rt, hint);
     is_shown(rt, &found, hint);
@@ -119,7 +119,7 @@ fn faults_of_forecasts_are_shown(rt: HostRuntime) {
 
 const PACKET: &str = "0864C000000E200319000000000000000000000000\n";
 
-// So many lines of sources with a packet of this source and step.
+// This number of lines of sources with a packet of this source and step.
 fn lines_of(rt: &impl Host, text: &mut String, front: &str, lines: u32) {
     for _ in 0..lines {
         text.push_str(front).expect(rt, "memory");
@@ -127,8 +127,8 @@ fn lines_of(rt: &impl Host, text: &mut String, front: &str, lines: u32) {
     }
 }
 
-// In a line of sources that is refused, after this many of the same source and step and one of each of two others,
-// this is found.
+// This is the finding in a refused line of sources, which follows this number of lines of the same source and step and
+// one line of each of two others.
 fn sources_hint(rt: &impl Host, lines: u32, line: u64, hint: &str) {
     let mut text = String::new(rt.alloc());
     lines_of(rt, &mut text, "2 3 ", 1);
@@ -276,7 +276,7 @@ static REQUESTS: [(&[u8], u64, &str); 6] = wanted! {
     => "line 3 has spaces between digits; write the digits without them";
 };
 
-// The line is found in the same way first and after later lines, and has no hint on another refusal.
+// The finding in the line is the same if it comes first and after other lines, and there is none for another refusal.
 fn request_hints(rt: &impl Host, requests: &[u8], line: u64, hint: &str) {
     let mut found = RequestHints::new(requests);
     for later in [0, 1, 9] {
@@ -294,7 +294,7 @@ fn faults_of_requests_are_shown(rt: HostRuntime) {
     }
 }
 
-// Whole files that hold something else than packets, and what is found in each.
+// Whole files that hold something other than packets, and the finding in each.
 static NO_PACKETS: [(&[u8], &str); 2] = wanted! {
     b"1 3 0864C0\n2 3 0864C0\n"
     => "the file holds sources in place of packets; leave out the source and the step before each packet";

@@ -41,7 +41,7 @@ fn headers_of(packet: &Packet) -> (Header, PacketType) {
     (header, kind)
 }
 
-// So many octets.
+// This number of octets.
 fn octets_of(rt: &impl Host, len: usize) -> Octets
     ensures { length result ≡ len }
 {
@@ -73,7 +73,7 @@ fn telemetry_is_read_and_written(rt: HostRuntime) {
     read_and_written(&rt, &REPORT, (REPORT_HEADER, kind), &[0xAA, 0xBB, 0xCC]);
 }
 
-// The packet is written into a buffer of 32 octets that was full of the octet 9, which is this then.
+// The packet is written into a buffer of 32 octets of value 9, which holds these octets afterwards.
 fn is_written_into(rt: &impl Host, packet: &Packet, len: usize, wanted: &[u8; 32]) {
     let mut long = [9; 32];
     assert!(rt; packet.write_to(&mut long) == Ok(len));
@@ -87,7 +87,7 @@ fn is_not_written(rt: &impl Host, packet: &Packet, len: usize) {
     assert!(rt; short == [9; 19]);
 }
 
-// The octets of packets, and a buffer of 32 octets with each, whose end is as it was.
+// The octets of packets, and the buffer of 32 octets after each was written, whose end is unchanged.
 static WRITTEN: [(&[u8], [u8; 32]); 2] = wanted! {
     &ENABLE
     => *b"\x18\x64\xC0\0\0\x0D\x20\x0F\x01\0\0\x01SCI     \x09\x09\x09\x09\x09\x09\x09\x09\x09\x09\x09\x09";

@@ -12,8 +12,8 @@ fn is_written(rt: &impl Host, report: &Report, octets: &[u8])
     writes(rt, &packet, octets);
 }
 
-// Reports of APID 100, count 0, counter 0, destination 0, moment 1 by their subtypes, with how many of the entries below they have, spelled
-// by hand.
+// Reports of APID 100, count 0, counter 0, destination 0, moment 1 by their subtypes, with the number of the entries
+// below that they have, spelled by hand.
 static REPORTS: [(u8, usize, &[u8]); 8] = wanted! {
     6, 2 => b"\x08\x64\xC0\0\0\x20\x20\x0F\x06\0\0\0\0\0\0\0\0\0\0\0\x01SCI     \
     \0\x02\0\x64\x03\x19\x07\xFE\xFF\x01";
@@ -40,7 +40,7 @@ const SUMMARIES: [Summary; 2] = table! { Summary;
 
 const STATUSES: [Status; 1] = table! { Status; id SCI, storage 1, retrieval 0; };
 
-// Whether the report of a kind has so many of the entries above.
+// Whether the report of a kind has this number of the entries above.
 fn has_its_fields(report: &Report, count: usize) -> bool {
     match report {
         Report::Control { id, rows, .. } => *id == SCI && rows.as_slice() == &ROWS[..count.min(2)],
@@ -50,7 +50,8 @@ fn has_its_fields(report: &Report, count: usize) -> bool {
     }
 }
 
-// The octets spell a report of this subtype with so many entries, which is written as them again under APID 100.
+// The octets spell a report of this subtype with this number of entries, which is written as the same octets under APID
+// 100.
 fn is_read_and_written(rt: &impl Host, octets: &[u8], subtype: u8, count: usize) {
     let packet = packet_of(rt, octets);
     let report = Report::read(rt.alloc(), &packet).expect(rt, "a report");

@@ -50,7 +50,7 @@ const SIZE: Size = row! { Size; id SCI, size 1_000_000 };
 
 const CHANNEL: Channel = row! { Channel; id SCI, channel 5 };
 
-// Whether the request of a kind has the instructions above. Those of other kinds are seen where they are written.
+// Whether the request of a kind has the instructions above. Those of other kinds are compared as octets.
 fn has_its_fields(request: &Request) -> bool {
     match request {
         Request::DisableStorage(list) => list.as_slice() == TARGETS.as_slice(),
@@ -115,7 +115,8 @@ fn most_instructions(rt: &impl Host) -> Packet {
     packet_with(rt, request, RequestKind::StartRetrieval)
 }
 
-// The packet has the octets of a count of 255 and of that many instructions, which are those of the request that it spells.
+// The packet has the octets of a count of 255 and of that many instructions, which are those of the request that it
+// spells.
 fn has_most_instructions(rt: &impl Host, packet: &Packet) {
     assert!(rt; packet.body().len() == 6121);
     assert!(rt; packet.body()[0] == 255);

@@ -4,12 +4,13 @@ use mm_st15::Configuration;
 use std::fmt::Display;
 use std::process::Abort;
 
-/// What gives memory, and ends a test that fails.
+/// The bounds of test helpers: they give memory, and end a test that fails.
 pub trait Host: Abort + AllocGlobal {}
 
 impl<R: Abort + AllocGlobal> Host for R {}
 
-/// A request of APID 100, count 0 and source 0: service 15, subtype 1, with the data 01 and an identifier of eight octets.
+/// A request of APID 100, count 0 and source 0: service 15, subtype 1, with the data 01 and an identifier of eight
+/// octets.
 pub const ENABLE: [u8; 20] = *b"\x18\x64\xC0\0\0\x0D\x20\x0F\x01\0\0\x01SCI     ";
 
 /// A request that creates two stores.
@@ -47,7 +48,7 @@ pub fn writes(rt: &impl Host, packet: &Packet, octets: &[u8]) {
     assert!(rt; written(rt, packet).as_slice() == octets);
 }
 
-/// A value is printed so.
+/// A value is printed as this text.
 pub fn is_shown(rt: &impl Host, refusal: &impl Display, text: &str) {
     let shown = refusal.to_string(rt.alloc()).expect(rt, "memory");
     assert!(rt; shown.as_str() == text, "{text}");

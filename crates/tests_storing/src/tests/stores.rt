@@ -1,4 +1,4 @@
-//! Packet stores of each type, by calls with the answers to them.
+//! Packet stores of each type, by calls with their results.
 ghost use Rattle.std.specs.Prelude.{◌≤◌};
 ghost use Rattle.mm_base.specs.declared.limits.TheConstants.{MAX_BLOCKS};
 
@@ -10,7 +10,7 @@ use plain::drawn;
 
 mod plain;
 
-// The last storage time there is.
+// The last possible storage time.
 const LAST: u64 = u64::MAX;
 
 // A call on a store. A packet is known by its sequence count.
@@ -24,7 +24,7 @@ enum Call {
     AskState,
 }
 
-// What a store answers.
+// The result of a call.
 #[derive(Clone, Copy, PartialEq)]
 enum Told {
     Kept(u64),
@@ -34,14 +34,14 @@ enum Told {
     First(u64, u16),
     Nothing,
     Deleted(usize),
-    // The size, how many packets are held, the oldest and the newest time, and the last time given.
+    // The size, the number of packets, the oldest and the newest time, and the last time given.
     State(u32, u32, u64, u64, u64),
 }
 
 use Call::{AskState, DeleteUpTo, FirstIn, PutAt};
 use Told::{ClockEnd, Deleted, First, Kept, KeptOver, Lost, Nothing, State};
 
-// A call with the answer to it.
+// A call with its result.
 type Step = (Call, Told);
 
 // Telemetry with this sequence count.
@@ -78,7 +78,7 @@ fn state<S: PacketStore>(store: &S) -> Told {
     )
 }
 
-// The answer to a call.
+// The result of a call.
 fn answer_to<S: PacketStore>(rt: &impl Host, store: &mut S, call: Call) -> Told {
     match call {
         PutAt(now, count) => answer_of(&store.put(now, packet(rt, count))),
@@ -88,7 +88,7 @@ fn answer_to<S: PacketStore>(rt: &impl Host, store: &mut S, call: Call) -> Told 
     }
 }
 
-// Makes the calls, each of which must be answered as its step says.
+// Makes the calls, each of which must give the result of its step.
 fn run<S: PacketStore>(rt: &impl Host, store: &mut S, steps: &[Step]) {
     for (place, (call, wanted)) in steps.iter().enumerate() {
         let told = answer_to(rt, store, *call);
@@ -229,20 +229,21 @@ fn two_held(rt: &impl Host, kind: Kind) -> AnyStore {
     store
 }
 
-// The store becomes one of this kind, and holds the same.
+// The store becomes one of this kind, and holds the same packets.
 fn changes_kind(rt: &impl Host, store: &mut AnyStore, kind: Kind) {
     store.change_kind(kind).expect(rt, "memory");
     is_of_kind(rt, store, kind);
     run(rt, store, &TWO_HELD);
 }
 
-// The store is not made smaller than what it holds, and holds the same.
+// The store refuses a size below what it holds, and holds the same packets.
 fn keeps_its_size(rt: &impl Host, store: &mut AnyStore) {
     assert!(rt; store.resize(1) == Err(Fault::HoldsMore));
     run(rt, store, &TWO_HELD);
 }
 
-// A store that holds two packets becomes one of another kind, and larger: what it answers when it is full, and then when it has room.
+// A store that holds two packets becomes one of another kind, and then larger: its results when it is full, and when it
+// has room.
 fn changes(rt: &impl Host, from: Kind, to: Kind, when_full: &[Step], with_room: &[Step]) {
     let mut store = two_held(rt, from);
     changes_kind(rt, &mut store, to);
@@ -274,7 +275,7 @@ static NEWEST_LOST: [Step; 2] = wanted! {
     AskState => State(1, 1, 1, 1, 1); PutAt(2, 2) => Lost(2);
 };
 
-// A store of two blocks with one packet, which becomes one of one block: what it answers then.
+// A store of two blocks with one packet becomes one of one block: its results after that.
 macro_rules! resized {
     ($rt:expr, $store:ident, $steps:expr) => {{
         let mut store = $store::new($rt.alloc(), 2).expect($rt, "memory");

@@ -101,8 +101,8 @@ fn findings_have_words_of_their_own(rt: HostRuntime) {
     }
 }
 
-// A number of the plan that is another may be one of another setup or forecast: nobody is told to write the number
-// that fits.
+// If a number of the plan differs, the plan may belong to another setup or forecast: the words do not tell the user to
+// write the number that fits.
 static OF_OTHER_TEXTS: [(Verdict, &str); 2] = wanted! {
     Verdict::LossIs(2)
     => "expected the loss that the plan has, which is the number printed; take the setup and the forecast that it \

@@ -1,4 +1,4 @@
-//! How numbers are written.
+//! The forms of numbers in charts.
 use crate::tests::charts::samples::{ONE_STORE, chart_of, has_texts};
 use crate::tests::samples::Runtime;
 
@@ -10,7 +10,8 @@ fn have_texts(rt: &impl Runtime, rows: &[(&str, &str, &str)]) {
     }
 }
 
-// The steps in each of which a million blocks come, the step after them with what comes in it, the loss, which is one block less
+// The steps in each of which a million blocks come, the step after them with what comes in it, the loss, which is one
+// block less
 // than all of them, and what the headline says of it: the texts of the forecast and of a plan by which nothing leaves.
 macro_rules! thousands {
     ($($($million:literal)*, then $last:literal $rest:literal, lost $loss:literal => $wanted:literal;)+) => {
@@ -39,7 +40,8 @@ fn thousands_are_separated(rt: HostRuntime) {
     have_texts(&rt, &THOUSANDS);
 }
 
-// A forecast, a plan that dumps nothing, and what the headline says of the bound. Of the 2,346 blocks that come in step 2
+// A forecast, a plan that dumps nothing, and what the headline says of the bound. Of the 2,346 blocks that come in step
+// 2
 // the store has room for 1; in step 1 of the other forecast none come, and it has room for 1.
 static BOUNDS: [(&str, &str, &str); 2] = wanted! {
     "step,window,A\n1,0,1\n2,0,2346\n",

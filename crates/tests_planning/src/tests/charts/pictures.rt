@@ -1,4 +1,4 @@
-//! The numbers and the verdict of a picture, and how it is shown.
+//! The numbers and the verdict of a picture, and its debug text.
 ghost use Rattle.mm_chart.specs.Series.{IsSeries};
 
 use crate::tests::charts::SHOWN;
@@ -9,7 +9,7 @@ use mm_cut::{Parts, Verdict, read_sheet};
 use mm_plan::simulate;
 use mm_problem::read_problem;
 
-// Of each series the number of the first step and of the last, the sum and the largest number.
+// For each series its number in the first step and in the last, the sum and the largest number.
 static NUMBERS: [(Series, [u64; 4]); 12] = [
     (Series::WindowCounts, [1, 0, 2, 1]),
     (Series::CountedWindow, [2, 0, 4, 2]),
@@ -76,7 +76,7 @@ fn a_picture_is_drawn_with_these_lines(rt: HostRuntime) {
     has_lines(&rt, chart.as_str(), &SHOWN);
 }
 
-// What a derive shows of the picture's problem, sheet, verdict, volumes and shades.
+// The debug text of the picture's problem, sheet, verdict, volumes and shades.
 fn shown_by_fields(rt: &impl Runtime, picture: &Picture) -> String {
     let (problem, verdict) = (picture.problem(), picture.verdict());
     let sheet = read_sheet(rt.alloc(), problem, FIRST_RUN.as_bytes()).expect(rt, "a plan");

@@ -1,10 +1,10 @@
-//! The setup of one store, charts of texts, and what is found in them.
+//! The setup of one store, charts of texts, and assertions on them.
 use crate::tests::samples::Runtime;
 use mm_chart::{Fault, chart_bytes};
 
 pub const ONE_STORE: &str = "[[store]]\nid = \"A\"\nsize = 1\ntype = \"bounded\"\nchannel = 0\n";
 
-/// What is written of a plan.
+/// The text that is written for a plan.
 pub fn text_of(rt: &impl Runtime, written: Result<Vec<u8>, Fault>, plan: &str) -> String {
     String::from_utf8(written.expect(rt, plan)).expect(rt, "UTF-8")
 }
@@ -16,7 +16,7 @@ pub fn chart_of(rt: &impl Runtime, setup: &str, forecast: &str, plan: &str) -> S
     text_of(rt, written, plan)
 }
 
-/// Nothing is written but this fault, as it is printed.
+/// Only this fault is written.
 pub fn is_fault(rt: &impl Runtime, written: Result<Vec<u8>, Fault>, wanted: &str) {
     let fault = written.expect_err(rt, "a fault");
     let text = fault.to_string(rt.alloc()).expect(rt, "memory");

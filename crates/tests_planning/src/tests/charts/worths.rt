@@ -1,4 +1,4 @@
-//! Charts with what windows and limits are worth, with wide limits, and with what many stores lose.
+//! Charts with the worths of windows and limits, with wide limits, and with the losses of many stores.
 use crate::tests::charts::samples::{has_lines, has_texts, text_of};
 use crate::tests::charts::sizes::WIDE;
 use crate::tests::samples::{A_LIMITED, ONE_STORE_OF_A, Runtime, TWO_STEPS_OF_A};
@@ -6,7 +6,7 @@ use crate::tests::worths::{LIMITS_BY_STEP, ONE_STORE};
 use mm_planner::{plan_bytes, plan_in_order_bytes};
 use mm_sensitivity::worth_chart_bytes;
 
-// The chart of the least plan with what its windows and limits are worth.
+// The chart of the least plan with the worths of its windows and limits.
 fn worth_chart_of(rt: &impl Runtime, setup: &str, forecast: &str) -> String {
     let (setup_text, forecast) = (setup.as_bytes(), forecast.as_bytes());
     let plan = plan_bytes(rt.alloc(), setup_text, forecast).expect(rt, "a plan");

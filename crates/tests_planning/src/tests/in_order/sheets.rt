@@ -14,7 +14,7 @@ fn sheets_in_order_are_printed_as_they_are_read(rt: HostRuntime) {
     read_and_printed(&rt, COUNTS_IN_ORDER, COUNTS_IN_ORDER);
 }
 
-// What a certificate says: its loss, its bound, and how many stretches and counts it has.
+// A certificate: its loss, its bound, and its numbers of stretches and counts.
 fn says(rt: &impl Runtime, certificate: &Certificate, wanted: (u64, i64, usize, usize)) {
     let (cut, counts) = (certificate.cut().len(), certificate.by_channels().len());
     assert!(rt; (certificate.loss(), certificate.bound(), cut, counts) == wanted);
@@ -34,7 +34,7 @@ fn three_in_order_are_read(rt: HostRuntime) {
     has_parts(&rt, &sheet_of(&rt, THREE_IN_ORDER));
 }
 
-// Each text with the line of its refusal; 0 where it is a sheet's.
+// Each text with the line of its refusal; 0 if it is that of a sheet.
 static REFUSED: [(&[u8], u32); 19] = wanted! {
     NO_LOSS => 0;
     // one store has no part, and may have a count
@@ -59,7 +59,8 @@ static REFUSED: [(&[u8], u32); 19] = wanted! {
     b"mmplan 1\nstores A B\ndump 1 0 0\nloss 0\nbound 0\nfirst 1\nloss 0\nbound 0\nend\n" => 6;
     b"mmplan 2\nstores A B\ndump 1 0 0\nloss 0\ncount 1 channels\nbound 0\nfirst 1\nloss 0\nbound 0\nend\n" => 7;
     b"mmplan 4\nstores A\ndump 1 0\nloss 0\nbound 0\nend\n" => 1;
-    // a part before the certificate of all stores, without its loss, without its bound, and with a stretch after a count
+    // a part before the certificate of all stores, without its loss, without its bound, and with a stretch after a
+    // count
     b"mmplan 3\nstores A B\ndump 1 0 0\nfirst 1\nloss 0\nbound 0\nloss 0\nbound 0\nend\n" => 4;
     b"mmplan 3\nstores A B\ndump 1 0 0\nloss 0\nbound 0\nfirst 1\nbound 0\nend\n" => 7;
     b"mmplan 3\nstores A B\ndump 1 0 0\nloss 0\nbound 0\nfirst 1\nloss 0\nend\n" => 8;

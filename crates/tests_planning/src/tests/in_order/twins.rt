@@ -1,4 +1,4 @@
-//! Plans in order beside the slow twin that tries every plan, and beside plans of the first stores alone.
+//! Plans in order compared with the slow reference that tries every plan, and with plans of the first stores alone.
 ghost use Rattle.std.specs.Prelude.{◌≤◌, length};
 ghost use Rattle.mm_plan.specs.Table.{HasShape};
 
@@ -11,7 +11,7 @@ use mm_plan::{Plan, Sheet, first_loss};
 use mm_planner::{plan, plan_in_order_by_flow, sheet_in_order};
 use mm_problem::{Kind, MAX_BLOCKS, Problem, StoreRow};
 
-// So many of the problem's stores.
+// The first stores of the problem.
 fn first_rows(rt: &impl Runtime, problem: &Problem, stores: usize) -> Vec<StoreRow>
     requires { stores ≤ length problem.now.rows }
 {
@@ -37,7 +37,7 @@ fn windows(rt: &impl Runtime, problem: &Problem) -> Vec<u32> {
     windows
 }
 
-// What comes to so many of the stores, where it comes only to so many of these.
+// The arrivals of the first stores, which are 0 after a number of them.
 fn first_arrivals(rt: &impl Runtime, problem: &Problem, stores: usize, served: usize) -> Vec<u32>
     requires { stores ≤ length problem.now.rows }
 {
@@ -53,7 +53,7 @@ fn first_arrivals(rt: &impl Runtime, problem: &Problem, stores: usize, served: u
     arrivals
 }
 
-// The problem with the limits of another one in each step.
+// The problem with the limits for each step of another one.
 fn limited_as(rt: &impl Runtime, problem: &Problem, other: &Problem) -> Problem {
     let mut channels = Vec::new(rt.alloc());
     for channel in 0..8u8 {
@@ -71,7 +71,7 @@ fn limited_as(rt: &impl Runtime, problem: &Problem, other: &Problem) -> Problem 
     limited(rt, problem, &channels, &limits)
 }
 
-// The problem with so many of its stores, where blocks come only to so many of these.
+// The problem with its first stores, in which blocks arrive only in a number of these.
 fn narrowed(rt: &impl Runtime, problem: &Problem, stores: usize, served: usize) -> Problem
     requires { stores ≤ length problem.now.rows }
 {
@@ -82,7 +82,7 @@ fn narrowed(rt: &impl Runtime, problem: &Problem, stores: usize, served: usize) 
     limited_as(rt, &narrow, problem)
 }
 
-// What is planned in order: its certificates show that it loses least so.
+// The plan in order, whose certificates show that it loses least in that order.
 fn planned(rt: &impl Runtime, problem: &Problem) -> Sheet
     ensures { HasShape problem.now result.plan }
 {
@@ -94,8 +94,8 @@ fn planned(rt: &impl Runtime, problem: &Problem) -> Sheet
     sheet
 }
 
-// Of all plans none that fits loses less of so many of the first stores, and one loses as much. Where nothing comes to
-// the other stores these lose nothing, and a plan loses what it loses of the first.
+// The least loss of the first stores, of all plans that fit, is this. It is found by plans of a problem in which
+// nothing arrives in the other stores, so that these lose nothing.
 fn is_least_of_all_plans(rt: &impl Runtime, problem: &Problem, plan: &Plan, stores: usize)
     requires shape { HasShape problem.now plan.now }
     requires stores { stores ≤ length problem.now.rows }
@@ -105,7 +105,7 @@ fn is_least_of_all_plans(rt: &impl Runtime, problem: &Problem, plan: &Plan, stor
     is_least(rt, &quiet, loss);
 }
 
-// By the network alone as much is lost, of all stores and of the first ones.
+// The plan by the network alone has the same losses, of all stores and of the first ones.
 fn is_planned_alike_by_flow(rt: &impl Runtime, problem: &Problem, sheet: &Sheet) {
     let by_flow = plan_in_order_by_flow(rt.alloc(), problem).expect(rt, "memory");
     let firsts = sheet.firsts().expect(rt, "certificates");
@@ -116,7 +116,7 @@ fn is_planned_alike_by_flow(rt: &impl Runtime, problem: &Problem, sheet: &Sheet)
     }
 }
 
-// So it is for the first store, the first two and so on.
+// The same for the first store, the first two and so on.
 fn are_least_of_all_plans(rt: &impl Runtime, problem: &Problem) {
     let sheet = planned(rt, problem);
     is_planned_alike_by_flow(rt, problem, &sheet);
@@ -142,7 +142,7 @@ fn the_first_of_three_stores_lose_no_more_than_by_all_plans(rt: HostRuntime) {
     }
 }
 
-// So many of the first stores lose what the best plan of these stores alone loses.
+// The loss of the first stores is that of the best plan of these stores alone.
 fn is_least_alone(rt: &impl Runtime, problem: &Problem, ordered: &Plan, stores: usize)
     requires shape { HasShape problem.now ordered.now }
     requires stores { stores ≤ length problem.now.rows }
@@ -156,7 +156,7 @@ fn is_least_alone(rt: &impl Runtime, problem: &Problem, ordered: &Plan, stores: 
     assert!(rt; loss == least, "{stores} stores lose {loss}");
 }
 
-// So it is for the first store, the first two and so on. Answers whether the plan without order loses more of some of
+// The same for the first store, the first two and so on. Returns whether the plan without order loses more of some of
 // these.
 fn are_least_alone(rt: &impl Runtime, problem: &Problem) -> bool {
     let sheet = planned(rt, problem);
@@ -171,7 +171,7 @@ fn are_least_alone(rt: &impl Runtime, problem: &Problem) -> bool {
     is_other
 }
 
-// So it is in problems of each family, with limits of each step or without.
+// The same in problems of each family, with limits for each step or without.
 fn of_each_family_are_least_alone(rt: &impl Runtime, seed: u64, is_limited: bool) {
     let mut numbers = Numbers::seeded(seed);
     let mut others: u32 = 0;

@@ -3,7 +3,7 @@ use crate::tests::samples::{CHANNEL_LIMIT_CUT, FIRST_RUN, Runtime, numbered, rep
 use mm_plan::{Fault, Sheet};
 use std::alloc::Global;
 
-// The line of the refusal; 0 where the text is a sheet's.
+// The line of the refusal; 0 if the text is that of a sheet.
 fn line_of(alloc: Global, text: &[u8]) -> u32 {
     match Sheet::parse(alloc, text) {
         Ok(_) => 0,
@@ -12,7 +12,7 @@ fn line_of(alloc: Global, text: &[u8]) -> u32 {
     }
 }
 
-// The text is refused with this line; 0 where it is a sheet's.
+// The text is refused with this line; 0 if it is that of a sheet.
 pub(crate) fn is_refused(rt: &impl Runtime, text: &[u8], line: u32) {
     assert!(rt; line_of(rt.alloc(), text) == line, "line {line}");
 }
@@ -38,7 +38,7 @@ fn channel_limit_cut_is_read(rt: HostRuntime) {
     assert!(rt; sheet.by_channels() == [1].as_slice());
 }
 
-// The text is a sheet's, and the sheet is printed as this one.
+// The text is that of a sheet, which is printed as the second text.
 pub(crate) fn read_and_printed(rt: &impl Runtime, text: &str, printed: &str) {
     let text = sheet_of(rt, text).print(rt.alloc()).expect(rt, "memory");
     assert!(rt; text.as_slice() == printed.as_bytes(), "{printed}");

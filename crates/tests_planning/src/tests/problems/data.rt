@@ -1,4 +1,4 @@
-//! Problems from data: each is what the texts of the same data say, or is refused with the fault that it must give.
+//! Problems from data: each is the problem of the texts with the same data, or is refused with the expected fault.
 use super::is_shown;
 use crate::tests::samples::{Runtime, limited, made, problem_of, row};
 use mm_problem::{Fault, LimitRow, Problem, Setup};
@@ -13,12 +13,12 @@ static WINDOWS: [u32; 3] = [7, 0, 1_000_000];
 
 static ARRIVALS: [u32; 6] = [3, 1, 0, 8, 5, 6];
 
-// What a problem is seen as, for a test.
+// A problem as a test sees it.
 fn seen(rt: &impl Runtime, problem: &Problem) -> String {
     format!(in rt.alloc(); "{problem:?}").expect(rt, "memory")
 }
 
-// The problem is the one that these texts say.
+// The problem is that of these texts.
 fn is_said(rt: &impl Runtime, problem: &Problem, setup: &str, forecast: &str) {
     let said = problem_of(rt, setup, forecast);
     let wanted = seen(rt, &said);
@@ -37,7 +37,7 @@ fn data_are_the_problem_of_their_texts(rt: HostRuntime) {
     is_said(&rt, &problem, SETUP, FORECAST);
 }
 
-// A second store, beside one that is as it should be: its identifier, size, start volume and channel, and the fault.
+// A second store after a correct one: its identifier, size, start volume and channel, and the fault.
 static STORES_REFUSED: [(&str, u32, u32, u8, &str); 6] = [
     ("HK", 0, 0, 0, "33 Limit name size"),
     ("HK", 1_000_001, 0, 0, "33 Limit name size"),
@@ -62,7 +62,7 @@ const LIMIT: LimitRow = LimitRow {
     blocks: 1,
 };
 
-// How many stores and how many limits there are, and the fault, where there are no steps.
+// The numbers of stores and of limits, and the fault if there are no steps.
 static COUNTS_REFUSED: [(usize, usize, &str); 4] = [
     (0, 0, "33 Limit name stores"),
     (17, 0, "33 Limit name stores"),
@@ -122,13 +122,13 @@ fn steps_as_data_refused(rt: HostRuntime) {
     }
 }
 
-// The problem of the steps after the first, where the two stores begin with these blocks.
+// The problem of the steps after the first, with these start volumes of the two stores.
 fn rest_of(rt: &impl Runtime, problem: &Problem, starts: [u32; 2]) -> Result<Problem, Fault> {
     assert!(rt; 1 < problem.steps() && problem.stores() == 2);
     problem.rest(rt.alloc(), 1, &starts)
 }
 
-// The setup and the forecast of the later steps, where the stores begin with 4 and 0 blocks.
+// The setup and the forecast of the later steps, with start volumes of 4 and 0 blocks.
 const LATER_SETUP: &str =
     "[[store]]\nid = \"SCI\"\nsize = 4\ntype = \"bounded\"\nchannel = 0\nstart = 4\n\
     [[store]]\nid = \"HK\"\nsize = 9\ntype = \"circular\"\nchannel = 3\nstart = 0\n\
@@ -151,7 +151,7 @@ fn limits_of_steps_are_those_of_the_text(rt: HostRuntime) {
 const LATER_LIMITED: &str =
     "step,window,SCI,HK,limit:3,limit:6\n1,0,0,8,9,1000000\n2,1000000,5,6,2,4\n";
 
-// Forecasts, without limits of the steps and with them, and those of the steps after the first.
+// Forecasts without and with limits for each step, and the forecasts of the steps after the first.
 static RESTS: [(&str, &str); 2] = [(FORECAST, LATER), (LIMITED, LATER_LIMITED)];
 
 #[test]

@@ -1,4 +1,4 @@
-//! Texts of forecasts, each with what it says or the fault that it must give.
+//! Texts of forecasts, each with its contents or its expected fault.
 use super::is_shown;
 use crate::tests::samples::{Runtime, SCI, id, joined, numbered, problem_of, repeated};
 use mm_problem::{Problem, Setup};
@@ -6,20 +6,20 @@ use mm_problem::{Problem, Setup};
 const SECOND: &str =
     "[[store]]\nid = \"HK\"\nsize = 2\ntype = \"circular\"\nchannel = 3\nstart = 1\n";
 
-// The text of a forecast for one store is answered with this fault, or `read`.
+// The text of a forecast for one store has this fault, or is `read`.
 fn answered(rt: &impl Runtime, text: &[u8], wanted: &str) {
     let setup = Setup::read(rt.alloc(), SCI.as_bytes()).expect(rt, "a setup");
     let fault = Problem::read(rt.alloc(), &setup, text).err();
     is_shown(rt, fault, wanted);
 }
 
-// These records after a good header, in two parts, are answered with this fault, or `read`.
+// These records after a correct header, in two parts, have this fault, or are `read`.
 fn rows_answered(rt: &impl Runtime, rows: &str, after: &str, wanted: &str) {
     let text = joined(rt, &["step,window,SCI\n", rows, after]);
     answered(rt, text.as_bytes(), wanted)
 }
 
-// Records after a good header, by their faults.
+// Records after a correct header, by their faults.
 static RECORDS_REFUSED: [(&str, &str); 27] = refused! {
     "29 ForecastText": "1,2", "1,2,3,4\n", "x,2,3,4\n", "1,2,3\n2,2\n";
     "31 Cell row 1 column 1": "x,2,3\n", "01,2,3\n", ",2,3\n";
@@ -77,7 +77,7 @@ fn cells_of_a_thousand_digits(rt: HostRuntime) {
     }
 }
 
-// What follows 256 good records, and the answer.
+// What follows 256 correct records, and the result.
 static AFTER_256_STEPS: [(&str, &str); 4] = [
     ("", "read"),
     ("257,2,3\n", "33 Limit name steps"),
@@ -125,7 +125,7 @@ fn has_extent(rt: &impl Runtime, problem: &Problem) {
     assert!(rt; problem.place(&id(rt, "NONE")) == None, "no such store");
 }
 
-// A step has this window, and so much comes to the two stores.
+// A step has this window and these arrivals of the two stores.
 fn comes(rt: &impl Runtime, problem: &Problem, step: u32, wanted: [u32; 3]) {
     assert!(rt; problem.stores() == 2 && 0 < step && step <= problem.steps());
     let (first, second) = (problem.arrivals(0, step), problem.arrivals(1, step));
@@ -153,7 +153,7 @@ fn a_forecast_is_read(rt: HostRuntime) {
     has_extent(&rt, &problem);
 }
 
-// Records after a header with columns of limits, by their answers.
+// Records after a header with columns of limits, by their results.
 static LIMITED_RECORDS: [(&str, &str); 9] = refused! {
     "read": "1,2,3,0,1000000\n";
     "29 ForecastText": "1,2,3\n", "1,2,3,4\n", "1,2,3,4,5,6\n";
@@ -174,7 +174,7 @@ fn records_with_limits(rt: HostRuntime) {
 
 const LIMITED_STEPS: &str = "step,window,SCI,HK,limit:0,limit:3\n1,2,1,1,5,7\n2,0,5,6,0,12\n";
 
-// The limit is that of the step, the lesser where the setup has a limit of 9, and none.
+// The limits are: that of the step, the lesser of it and the setup's 9, and none.
 #[test]
 fn limits_of_steps_are_read(rt: HostRuntime) {
     let problem = problem_of_two(&rt, LIMITED_STEPS);

@@ -1,4 +1,4 @@
-//! Texts of setups, each with what it says or the fault that it must give.
+//! Texts of setups, each with its contents or its expected fault.
 use super::is_shown;
 use crate::tests::samples::{Runtime, SCI, joined, problem_of, repeated, row};
 use mm_problem::{Kind, LimitRow, RouteRow, Setup};
@@ -36,7 +36,7 @@ fn setup_texts_refused(rt: HostRuntime) {
     }
 }
 
-// Arrays that stand so deep in one another are refused with this fault.
+// Arrays that are nested this deep are refused with this fault.
 fn nested(rt: &impl Runtime, depth: usize, fault: &str) {
     let open = repeated(rt, "title = ", "[", depth, "");
     let text = repeated(rt, open.as_str(), "]", depth, "");

@@ -1,5 +1,5 @@
-//! Both solvers beside what they were before they were made faster: on many made networks each finds the same flow, the same side
-//! and the same value, and refuses the same. Which of several maximum flows is found is fixed by no contract.
+//! Both solvers compared with their earlier forms: on many generated networks each finds the same flow, the same side
+//! and the same value, or refuses the same. No contract fixes which of several maximum flows is found.
 ghost use Rattle.std.specs.Prelude.{◌<◌};
 
 use crate::tests::flows::{ArcRow, built};
@@ -7,21 +7,21 @@ use crate::tests::samples::{Runtime, next_below};
 use mm_flow::paths::solve_paths;
 use mm_flow::{Fault, Network, Solved, solve};
 
-/// What the arcs of a network lead between.
+/// The nodes between which arcs lead.
 #[derive(Clone, Copy)]
 enum Between {
     /// Any two nodes, or a node and itself.
     Any,
-    /// A node and one of so many after it.
+    /// A node and one of this number of nodes after it.
     Near(u32),
-    /// A node and one of the next layer, of so many nodes.
+    /// A node and one of the next layer, in layers of this number of nodes.
     Layers(u32),
-    /// A node and the one beside it or below it, in rows of so many.
+    /// A node and the one beside it or below it, in rows of this number of nodes.
     Rows(u32),
 }
 
 impl Between {
-    // The node to which an arc leads from one, where there is such a node.
+    // The node to which an arc leads from a given one, if there is such a node.
     fn to(self, from: u32, nodes: u32, state: &mut u32) -> u32
         requires { 0 < nodes }
     {
@@ -45,7 +45,7 @@ impl Between {
     }
 }
 
-/// What networks of one form have in common: how many arcs for each node, and how many of eight are turned round.
+/// A form of networks: the number of arcs for each node, and how many in eight are reversed.
 #[derive(Clone, Copy)]
 struct Form {
     name: &'static str,
@@ -55,7 +55,7 @@ struct Form {
 }
 
 impl Form {
-    // The ends of an arc. Where it would lead past the last node it leads to that one, which so has arcs to itself.
+    // The ends of an arc. If it would lead past the last node, it leads to the last node.
     fn ends(&self, nodes: u32, state: &mut u32) -> (u32, u32)
         requires { 0 < nodes }
     {
@@ -69,7 +69,8 @@ impl Form {
     }
 }
 
-// Forms by name: what the arcs lead between, how many they are for each node, and how many of eight are turned round.
+// Forms by name: the nodes between which arcs lead, the number of arcs for each node, and how many in eight are
+// reversed.
 macro_rules! forms {
     ($($name:literal: $between:expr, $arcs:literal $turned:literal;)+) => {
         [$(Form { name: $name, between: $between, arcs: $arcs, turned: $turned }),+]
@@ -110,7 +111,7 @@ impl Limits {
     }
 }
 
-// How many of 32 arcs are unlimited, and the limits of the others.
+// How many in 32 arcs are unlimited, and the limits of the others.
 type Capacities = (u32, Limits);
 
 static CAPACITIES: [Capacities; 8] = [
@@ -124,7 +125,7 @@ static CAPACITIES: [Capacities; 8] = [
     (31, Limits::Below(1)),
 ];
 
-// A network of so many nodes.
+// A network of this number of nodes.
 fn made_network(
     rt: &impl Runtime,
     form: &Form,
@@ -146,10 +147,10 @@ fn made_network(
     built(rt, nodes, &arcs)
 }
 
-/// What a solver answers.
+/// The result of a solver.
 type Answer = Result<Solved, Fault>;
 
-// Whether two answers are the same solution, or the same refusal.
+// Whether two results are the same solution, or the same refusal.
 fn are_alike(first: &Answer, second: &Answer) -> bool {
     match (first, second) {
         (Ok(first), Ok(second)) => {
@@ -161,8 +162,8 @@ fn are_alike(first: &Answer, second: &Answer) -> bool {
     }
 }
 
-/// What came of the networks: how many flows were of more than nothing, how often the solvers found different ones, and how often
-/// they refused.
+/// The results: the flows that are not zero, the cases in which the two solvers found different flows, and the
+/// refusals.
 #[derive(Clone, Copy, Default)]
 struct Tally {
     flows: u32,
@@ -172,7 +173,7 @@ struct Tally {
 }
 
 impl Tally {
-    // Counts what both solvers answered.
+    // Counts the results of both solvers.
     fn count(&mut self, by_levels: &Answer, by_paths: &Answer) {
         match by_levels {
             Ok(solved) => {
@@ -186,7 +187,7 @@ impl Tally {
         }
     }
 
-    // Each solver answers as its earlier form does, on the same network.
+    // Each solver gives the same result as its earlier form.
     fn compare(&mut self, rt: &impl Runtime, name: &str, network: &Network, ends: (u32, u32)) {
         let (source, sink) = ends;
         let nodes = network.node_count();

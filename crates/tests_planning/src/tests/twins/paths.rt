@@ -1,5 +1,6 @@
-//! Each path of the planner on problems at the ends of their sizes, on those where a plan by the next overflow alone loses more,
-//! and beside the slow twin on random tiny ones. Losses that are written are counted by hand.
+//! Each path of the planner on the smallest and largest problems, on problems in which a plan by the next overflow
+//! alone loses more, and compared with the slow reference on random tiny problems. Losses in these tests are counted by
+//! hand.
 use super::{Counted, least_loss, lose_least, planned_loss};
 use crate::tests::samples::{
     Runtime, SIXTEEN_HEADER, SIXTEEN_STORES, alike_steps, each_limited, joined, limited, made,
@@ -19,7 +20,7 @@ static AT_THE_ENDS: [Counted; 11] = counted! {
     store "A" 3 3 0; store "B" 1 1 1; limit 0 9; limit 1 9; "step,window,A,B\n1,1,1,1\n2,1,1,1\n3,1,1,1\n" => 4;
     name: "nothing_arrives",
     store "A" 3 2 0; store "B" 1 1 1; limit 0 1; limit 1 1; "step,window,A,B\n1,1,0,0\n2,2,0,0\n" => 0;
-    // The store that overflows first is not always to be served first, where channels have limits: one block more is lost.
+    // If channels have limits, serving the store that overflows first may lose one block more.
     name: "greed_loses_6",
     store "A" 2 2 0; store "B" 1 1 1; limit 0 1; limit 1 1; "step,window,A,B\n1,1,1,2\n2,2,0,0\n3,1,0,2\n4,2,2,2\n5,1,0,0\n" => 5;
     name: "greed_loses_1",
@@ -50,8 +51,8 @@ fn both_paths_plan_at_the_ends(rt: HostRuntime) {
     }
 }
 
-// The limit of each channel, how many steps, and the loss. In the first step each store gets its block. Before each later one a
-// window of 15 leaves one block of 16, and a limit of 1 eight.
+// The limit of each channel, the number of steps, and the loss. In the first step each store gets its block. Before
+// each later step a window of 15 leaves one block of 16 behind, and a limit of 1 leaves eight.
 static LARGEST: [(&str, u32, u64); 4] = [
     (each_limited!(9), 1, 0),
     (each_limited!(9), 256, 255),
@@ -61,7 +62,7 @@ static LARGEST: [(&str, u32, u64); 4] = [
 
 const ONE_FOR_EACH: &str = ",15,1,1,1,1,1,1,1,1,1,1,1,1,1,1,1,1\n";
 
-// 16 stores with these limits, a window of 15 in each step, and in each a block for each store.
+// 16 stores with these limits, and in each step a window of 15 and a block for each store.
 fn largest(rt: &impl Runtime, limits: &str, steps: u32) -> Problem {
     let setup = joined(rt, &[SIXTEEN_STORES, limits]);
     let forecast = alike_steps(rt, SIXTEEN_HEADER, steps, ONE_FOR_EACH);
@@ -124,7 +125,7 @@ fn both_paths_lose_what_the_slow_twin_loses(rt: HostRuntime) {
     assert!(rt; some > 50);
 }
 
-// The same problem with limits of each step, of up to 2 blocks, for one or both channels.
+// The same problem with a limit for each step, of up to 2 blocks, for one or both channels.
 fn limited_by_step(rt: &impl Runtime, problem: &Problem, state: &mut u32) -> Problem {
     let both = [0, 1];
     let channels = &both[next_below(state, 2) as usize..];

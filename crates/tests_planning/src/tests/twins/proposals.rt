@@ -1,7 +1,7 @@
-//! The proposal beside its plain form: on many made problems both give the same plan, the same cut and the same counts
-//! by channels. The windows take about what comes, and the limits half of it to twice, so that in more than a third of
-//! the problems lost blocks are moved. The stores are on both sides of eight, the steps on both sides of each number of
-//! spans that fills a word.
+//! The proposal compared with its plain form: on many generated problems both give the same plan, the same cut and the
+//! same counts by channels. The windows take about what arrives, and the limits from half of it to twice, so that in
+//! more than a third of the problems lost blocks are moved. The numbers of stores are around eight, and those of steps
+//! around each number of spans that fills a word.
 ghost use Rattle.std.specs.Prelude.{◌<◌, ◌≤◌};
 ghost use Rattle.mm_plan.specs.Table.{HasShape};
 
@@ -37,7 +37,7 @@ impl Numbers {
         (self.bits() % (u64::from(most) + 1)) as u32
     }
 
-    // A number from the least on, up to which there are so many more.
+    // A number from the least one to the least plus a range.
     fn from(&mut self, least: u32, more: u32) -> u32 {
         least.saturating_add(self.upto(more))
     }
@@ -47,7 +47,7 @@ impl Numbers {
         4u32.saturating_sub(self.upto(5).saturating_sub(2))
     }
 
-    // From the least number of stores up to 16 of them, and two steps or so many more.
+    // From the least number of stores up to 16, and from two steps up.
     pub(crate) fn shape(&mut self, least: u32, more: u32, is_limited: bool) -> Shape {
         Shape {
             stores: self.from(least, 16u32.saturating_sub(least)),
@@ -57,32 +57,32 @@ impl Numbers {
         }
     }
 
-    // Whether one of eight chances is below a number of them.
+    // True with this number of chances in eight.
     fn comes(&mut self, chances: u32) -> bool {
         self.upto(7) < chances
     }
 }
 
-/// What problems of one kind have in common. The chances are of eight.
+/// A family of problems. Chances are out of eight.
 #[derive(Clone, Copy)]
 pub(crate) struct Family {
     name: &'static str,
-    /// The least size of a store, and by how much it may be more.
+    /// The least size of a store, and the range above it.
     size: u32,
     more: u32,
-    /// The chances that blocks come to a store in a step, and how many at most.
+    /// The chances that blocks arrive in a store in a step, and the most that arrive.
     coming: u32,
     most: u32,
-    /// In how many steps on end they come, before as many in which none do.
+    /// The number of successive steps with arrivals, and then without.
     turns: u32,
-    /// The chances that a step has a window, and what a window takes of what comes, in eighths: the least, and how much
-    /// more.
+    /// The chances that a step has a window, and the part of the arrivals that a window takes, in eighths: the least,
+    /// and the range above it.
     open: u32,
     least: u32,
     wider: u32,
 }
 
-// Families: the sizes, how much comes in which steps, and the windows.
+// Families: the sizes, the arrivals and the windows.
 macro_rules! families {
     ($(
         $name:literal: $size:literal + $more:literal, $coming:literal $most:literal in $turns:literal,
@@ -107,14 +107,14 @@ pub(crate) static FAMILIES: [Family; 8] = families! {
 };
 
 impl Family {
-    // So many eighths of what comes to so many stores, in the mean, from one window to the next.
+    // This number of eighths of the mean arrivals of the stores, from one window to the next.
     fn flow(&self, stores: u32, eighths: u32) -> u32 {
         let coming = u32::saturating_mul(self.most, self.coming).saturating_mul(stores);
         let flow = coming.saturating_mul(eighths) / 32 / self.open.max(1);
         flow.min(MAX_BLOCKS)
     }
 
-    // Whether blocks may come to a store in a step. Each store begins elsewhere.
+    // Whether blocks can arrive in a store in a step. Each store starts at another step.
     fn may_come(&self, store: u32, step: u32) -> bool {
         let from = store.saturating_mul(self.turns / 2 + 1);
         step.saturating_add(from) / self.turns.max(1) % 2 == 0
@@ -134,7 +134,7 @@ impl Family {
         rows
     }
 
-    // A limit for most channels: half to twice of what comes to its stores.
+    // A limit for most channels: from half of the arrivals of its stores to twice.
     fn limits(&self, rt: &impl Runtime, rows: &[StoreRow], numbers: &mut Numbers) -> Vec<LimitRow> {
         let mut limits = Vec::new(rt.alloc());
         for channel in 0..4u8 {
@@ -194,8 +194,8 @@ impl Family {
     }
 }
 
-/// How many stores and steps a problem has, on how many channels the stores stand, and whether channels have limits of
-/// each step.
+/// The numbers of stores and steps of a problem, the number of its channels, and whether channels have limits for each
+/// step.
 #[derive(Clone, Copy)]
 pub(crate) struct Shape {
     stores: u32,
@@ -204,7 +204,7 @@ pub(crate) struct Shape {
     is_limited: bool,
 }
 
-// How many of the stores are on a channel.
+// The number of stores on a channel.
 fn stores_on(rows: &[StoreRow], channel: u8) -> u32 {
     let mut stores: u32 = 0;
     for row in rows.iter() {
@@ -213,7 +213,7 @@ fn stores_on(rows: &[StoreRow], channel: u8) -> u32 {
     stores
 }
 
-// The same problem with limits of each step for channels 0 and 2: up to twice the window.
+// The same problem with a limit for each step for channels 0 and 2: up to twice the window.
 fn limited_by_step(rt: &impl Runtime, problem: &Problem, numbers: &mut Numbers) -> Problem {
     let mut limits = Vec::new(rt.alloc());
     for step in 1..problem.steps() + 1 {
@@ -240,8 +240,8 @@ fn are_alike(problem: &Problem, first: &Plan, second: &Plan) -> bool
     true
 }
 
-/// What came of the problems: in how many lost blocks were moved, how many lose none, and how many cuts have steps that
-/// count by channels.
+/// The results: the problems in which lost blocks were moved, those that lose none, and the cuts with steps that are
+/// counted by channels.
 #[derive(Clone, Copy, Default)]
 struct Tally {
     moving: u32,
@@ -250,7 +250,7 @@ struct Tally {
 }
 
 impl Tally {
-    // Counts a proposal. Where nothing is lost, no cut is found.
+    // Counts a proposal. If nothing is lost, its cut is empty.
     fn count(&mut self, proposal: &Proposal, is_moved: bool) {
         let spares = proposal.cut.stretches.is_empty();
         let counts = !proposal.cut.by_channels.is_empty();
@@ -260,7 +260,7 @@ impl Tally {
     }
 }
 
-// The proposal for a problem and its plain form are the same.
+// The proposal for a problem is the same as that of the plain form.
 fn is_alike(rt: &impl Runtime, problem: &Problem, name: &str, tally: &mut Tally) {
     let (stores, steps) = (problem.stores(), problem.steps());
     let proposed = propose(rt.alloc(), problem).expect(rt, "memory");
@@ -275,7 +275,7 @@ fn is_alike(rt: &impl Runtime, problem: &Problem, name: &str, tally: &mut Tally)
     tally.count(&proposed, is_moved);
 }
 
-// So they are for so many problems of each family, with limits of each step or without.
+// They are the same for this number of problems of each family, with limits for each step or without.
 fn tally_of(rt: &impl Runtime, seed: u64, rounds: u32, is_limited: bool) -> Tally {
     let mut numbers = Numbers::seeded(seed);
     let mut tally = Tally::default();
@@ -303,7 +303,7 @@ fn proposals_are_those_of_the_plain_form(rt: HostRuntime) {
 
 static STORES: [u32; 4] = [2, 8, 9, 16];
 
-// Each is beside a number of spans that fills a word.
+// Each number is next to a number of spans that fills a word.
 static STEPS: [u32; 10] = [63, 64, 65, 127, 128, 129, 192, 193, 255, 256];
 
 #[test]

@@ -1,12 +1,11 @@
-//! The least cut beside both solvers, on tiny networks.
+//! Both solvers compared with the least cut, on tiny networks.
 ghost use Rattle.std.specs.Prelude.{◌<◌};
 
 use crate::tests::flows::{ArcRow, built, same_value};
 use crate::tests::samples::{Runtime, next_below};
 use mm_exhaustive::{MAX_TRIED, cut_below};
 
-// The least capacity of a cut between node 0 and node 1, which is the value that both solvers answer: of all cuts one has that, and none
-// has less.
+// The least capacity of a cut between node 0 and node 1 is the value of both solvers.
 fn least_capacity(rt: &impl Runtime, nodes: u32, arcs: &[ArcRow]) -> Option<u64> {
     let network = built(rt, nodes, arcs);
     assert!(rt; network.node_count() > 1 && network.node_count() <= MAX_TRIED);
@@ -19,7 +18,7 @@ fn least_capacity(rt: &impl Runtime, nodes: u32, arcs: &[ArcRow]) -> Option<u64>
     least
 }
 
-// Networks of so many nodes with these arcs, and the least capacity of a cut.
+// Networks with a number of nodes and these arcs, and the least capacity of a cut.
 static COUNTED: [(u32, &[ArcRow], Option<u64>); 5] = wanted! {
     // No arc leads out of the source.
     2, &[] => Some(0);
@@ -42,7 +41,7 @@ fn cuts_counted_by_hand(rt: HostRuntime) {
     }
 }
 
-// Three arcs for each node at random, of which one in 20 is unlimited.
+// Three random arcs for each node. One arc in 20 is unlimited.
 fn made_arcs(rt: &impl Runtime, nodes: u32, state: &mut u32) -> Vec<ArcRow>
     requires { 0 < nodes }
 {

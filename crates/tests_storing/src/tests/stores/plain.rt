@@ -1,4 +1,4 @@
-//! A store as a plain list, and calls with its answers to them.
+//! A store as a plain list, and calls with its results.
 use super::Call::{DeleteUpTo, FirstIn, PutAt};
 use super::Told::{Deleted, First, Kept, KeptOver, Lost, Nothing};
 use super::{Call, LAST, Step, Told};
@@ -45,7 +45,7 @@ impl PlainStore {
         Nothing
     }
 
-    // Adds the look-ups by which all that is held is read.
+    // Adds look-ups that read all packets.
     fn list(&self, rt: &impl Host, steps: &mut Vec<Step>) {
         let mut after = 0;
         for held in &self.held {
@@ -60,7 +60,7 @@ fn add(rt: &impl Host, steps: &mut Vec<Step>, call: Call, answer: Told) {
     steps.push((call, answer)).expect(rt, "memory");
 }
 
-// Adds the call that this number draws, and look-ups after it.
+// Adds the call that this random number selects, and look-ups after it.
 fn draw(rt: &impl Host, plain: &mut PlainStore, steps: &mut Vec<Step>, drawn: u64, count: u16) {
     let shift = (drawn >> 40) % 9;
     let now = plain.last.saturating_add(shift);
@@ -76,7 +76,7 @@ fn draw(rt: &impl Host, plain: &mut PlainStore, steps: &mut Vec<Step>, drawn: u6
     plain.list(rt, steps);
 }
 
-// A thousand puts and deletions, by numbers that a linear congruence draws, and look-ups after each.
+// A thousand puts and deletions, selected by pseudo-random numbers, with look-ups after each.
 pub(super) fn drawn(rt: &impl Host, kind: Kind) -> Vec<Step> {
     let mut plain = PlainStore {
         kind,

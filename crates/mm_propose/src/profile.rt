@@ -1,32 +1,29 @@
-//! What one store does in each span, and in which spans its blocks could leave instead.
-use crate::hop::{Hop, Move};
-use crate::span_sets::SpanSet;
+//! The profile of a store over the spans, and the spans in which its blocks could leave instead.
+use crate::span_sets::{MAX_SPANS, SPAN_MASK, SpanSet};
+use crate::transfer::{Move, Transfer};
 
-// As many as steps.
-const MAX_SPANS: usize = 256;
-
-/// What a store does in each span.
+/// What a store keeps, dumps and loses in each span.
 #[derive(Clone, Copy)]
-pub(crate) struct Lane {
+pub(crate) struct Profile {
     pub(crate) channel: usize,
     kept: [u32; MAX_SPANS],
     room: [u32; MAX_SPANS],
     dumped: [u32; MAX_SPANS],
     lost: [u32; MAX_SPANS],
-    // the spans in which it keeps nothing,
+    // the spans at whose end it is empty,
     empty: SpanSet,
-    // those in which it has no room, and those that are still to come
+    // and those in which it is full, with all spans that are not served yet
     full: SpanSet,
     /// The spans in which blocks leave it.
     pub(crate) leaving: SpanSet,
-    /// The spans in which it loses some.
+    /// The spans in which it loses blocks.
     pub(crate) losing: SpanSet,
 }
 
-impl Lane {
-    // Nothing has come yet.
-    pub(crate) fn new(channel: usize) -> Lane {
-        Lane {
+impl Profile {
+    // The profile before the first span is served.
+    pub(crate) fn new(channel: usize) -> Profile {
+        Profile {
             channel,
             kept: [0; MAX_SPANS],
             room: [0; MAX_SPANS],
@@ -39,38 +36,38 @@ impl Lane {
         }
     }
 
-    // Lets blocks come in a span, the first that is still to come. Answers whether some are lost.
-    pub(crate) fn come(&mut self, at: usize, blocks: u32, size: u32) -> bool {
+    // Adds blocks in a span, the first that is not served yet. Returns whether some are lost.
+    pub(crate) fn receive(&mut self, at: usize, blocks: u32, size: u32) -> bool {
         let held = blocks.min(size);
-        self.kept[at & 255] = held;
+        self.kept[at & SPAN_MASK] = held;
         self.empty.put(at, held == 0);
-        self.room[at & 255] = size.saturating_sub(held);
+        self.room[at & SPAN_MASK] = size.saturating_sub(held);
         self.full.put(at, held == size);
         self.set_lost(at, blocks.saturating_sub(held));
         held < blocks
     }
 
-    // What leaves it in a span.
+    // How many blocks leave it in a span.
     pub(crate) fn dumped(&self, at: usize) -> u32 {
-        self.dumped[at & 255]
+        self.dumped[at & SPAN_MASK]
     }
 
-    // What it loses in a span.
+    // How many blocks it loses in a span.
     pub(crate) fn lost(&self, at: usize) -> u32 {
-        self.lost[at & 255]
+        self.lost[at & SPAN_MASK]
     }
 
     fn set_lost(&mut self, at: usize, blocks: u32) {
-        self.lost[at & 255] = blocks;
+        self.lost[at & SPAN_MASK] = blocks;
         self.losing.put(at, blocks > 0);
     }
 
     fn set_dumped(&mut self, at: usize, blocks: u32) {
-        self.dumped[at & 255] = blocks;
+        self.dumped[at & SPAN_MASK] = blocks;
         self.leaving.put(at, blocks > 0);
     }
 
-    // The spans in which a block that is lost in this one could leave before.
+    // The earlier spans in which a block that is lost in this span could leave.
     pub(crate) fn before(&self, at: usize) -> SpanSet {
         let first = match self.empty.last_before(at) {
             Some(empty) => empty.saturating_add(1),
@@ -79,13 +76,14 @@ impl Lane {
         SpanSet::between(first, at)
     }
 
-    // The spans in which blocks that leave in these could leave: before, while it keeps some, or later, while it has room.
+    // The spans in which blocks that leave in the given spans could leave: earlier, as long as the store keeps some, or
+    // later, as long as it has room.
     pub(crate) fn around(&self, asked: SpanSet) -> SpanSet {
         let later = asked.spread(self.full.not());
         later.either(asked.spread_back(self.empty.not()))
     }
 
-    // The span of these, at the nearest, from which blocks could leave in another instead.
+    // The nearest of the given spans whose blocks could leave in another span instead.
     pub(crate) fn origin(&self, asked: SpanSet, to: usize) -> usize {
         let end = to.saturating_add(1);
         let first = self.full.last_before(end).unwrap_or(0);
@@ -94,10 +92,10 @@ impl Lane {
         asked.both(way).nearest(to).unwrap_or(to)
     }
 
-    // Blocks that move from one span to another.
-    pub(crate) fn hop(&self, kind: Move, store: usize, from: usize, to: usize) -> Hop {
+    // The transfer of blocks from one span to another.
+    pub(crate) fn transfer(&self, kind: Move, store: usize, from: usize, to: usize) -> Transfer {
         let most = self.most(from, to);
-        Hop {
+        Transfer {
             kind,
             store,
             from,
@@ -106,15 +104,15 @@ impl Lane {
         }
     }
 
-    // How many blocks can move so.
-    pub(crate) fn bears(&self, hop: &Hop) -> u32 {
-        match hop.kind {
-            Move::Saved => hop.most.min(self.lost(hop.from)),
-            Move::Shifted | Move::Kept => hop.most.min(self.dumped(hop.from)),
+    // How many blocks can be transferred.
+    pub(crate) fn capacity(&self, transfer: &Transfer) -> u32 {
+        match transfer.kind {
+            Move::Saved => transfer.most.min(self.lost(transfer.from)),
+            Move::Shifted | Move::Kept => transfer.most.min(self.dumped(transfer.from)),
         }
     }
 
-    // How many blocks can leave in one span and not in another.
+    // How many blocks can leave in the span `to` in place of `from`.
     fn most(&self, from: usize, to: usize) -> u32 {
         if to < from {
             least_in(&self.kept, to, from)
@@ -123,7 +121,7 @@ impl Lane {
         }
     }
 
-    // Keeps fewer blocks from one span to another, of as many as can be.
+    // Keeps fewer blocks from one span to another. At most `most` can be taken.
     fn keep_less(&mut self, first: usize, end: usize, blocks: u32, most: u32) {
         let (next, after) = (first.saturating_add(1), end.saturating_add(1));
         change(&mut self.room, next, after, blocks);
@@ -134,7 +132,7 @@ impl Lane {
         }
     }
 
-    // Keeps more.
+    // Keeps more blocks from one span to another. At most `most` can be added.
     fn keep_more(&mut self, first: usize, end: usize, blocks: u32, most: u32) {
         let (next, after) = (first.saturating_add(1), end.saturating_add(1));
         change(&mut self.kept, first, end, blocks);
@@ -145,19 +143,19 @@ impl Lane {
         }
     }
 
-    // Moves blocks.
-    pub(crate) fn apply(&mut self, hop: &Hop, blocks: u32) {
-        let Hop { from, to, most, .. } = *hop;
+    // Transfers blocks.
+    pub(crate) fn apply(&mut self, transfer: &Transfer, blocks: u32) {
+        let Transfer { from, to, most, .. } = *transfer;
         if to < from {
             self.keep_less(to, from, blocks, most);
         } else {
             self.keep_more(from, to, blocks, most);
         }
-        match hop.kind {
+        match transfer.kind {
             Move::Saved => {
                 let lost = self.lost(from).saturating_sub(blocks);
                 self.set_lost(from, lost);
-                self.room[from & 255] = 0;
+                self.room[from & SPAN_MASK] = 0;
                 self.full.add(from);
             }
             Move::Shifted | Move::Kept => {
@@ -165,9 +163,9 @@ impl Lane {
                 self.set_dumped(from, dumped);
             }
         }
-        match hop.kind {
+        match transfer.kind {
             Move::Kept => {
-                self.kept[to & 255] = self.kept[to & 255].saturating_add(blocks);
+                self.kept[to & SPAN_MASK] = self.kept[to & SPAN_MASK].saturating_add(blocks);
                 self.empty.remove(to);
             }
             Move::Saved | Move::Shifted => {
@@ -178,7 +176,7 @@ impl Lane {
     }
 }
 
-// The least amount of some spans, and the most there is where there are none.
+// The least amount of some spans, `u32::MAX` if there are none.
 fn least_in(amounts: &[u32; MAX_SPANS], first: usize, end: usize) -> u32 {
     let mut least = u32::MAX;
     if let Some(some) = amounts.get(first..end) {
@@ -189,7 +187,7 @@ fn least_in(amounts: &[u32; MAX_SPANS], first: usize, end: usize) -> u32 {
     least
 }
 
-// Those of some spans whose amount is nothing.
+// The spans from `first` to before `end` whose amount is zero.
 fn none_in(amounts: &[u32; MAX_SPANS], first: usize, end: usize) -> SpanSet {
     let mut none = SpanSet::NONE;
     if let Some(some) = amounts.get(first..end) {
@@ -202,7 +200,7 @@ fn none_in(amounts: &[u32; MAX_SPANS], first: usize, end: usize) -> SpanSet {
     none
 }
 
-// Adds to the amounts of some spans.
+// Adds a number to the amounts of some spans, with wrapping.
 fn change(amounts: &mut [u32; MAX_SPANS], first: usize, end: usize, more: u32) {
     if let Some(some) = amounts.get_mut(first..end) {
         for blocks in some.iter_mut() {

@@ -1,5 +1,5 @@
 use Rattle.mm_plan.specs.Table.{HasShape}
-use Rattle.mm_propose.proofs.in_order.write_lane.Given as goal
+use Rattle.mm_propose.proofs.in_order.write_profile.Given as goal
 
 abbrev pub invariant-loop-at : goal.invariant-loop-at
 invariant-loop-at l = HasShape l.problem l.plan
