@@ -60,17 +60,8 @@ has_own_flags (Ask setup requests) = (false, refl)
 has_own_flags (Read packets) = (false, refl)
 
 -- a task of the words of a command has no flag but that of the command
-pub plan_flags : (task : Task) (names : List Text) → command_words task ≡ codes "plan" ∷ names
-    → (is : Bool) × (flag_of task ≡ flags_if is order_flag)
-plan_flags task names same = subst (HasOwnFlags task) same (has_own_flags task)
-
-pub chart_flags : (task : Task) (names : List Text) → command_words task ≡ codes "chart" ∷ names
-    → (is : Bool) × (flag_of task ≡ flags_if is worth_flag)
-chart_flags task names same = subst (HasOwnFlags task) same (has_own_flags task)
-
-pub fly_flags : (task : Task) (names : List Text) → command_words task ≡ codes "fly" ∷ names
-    → (is : Bool) × (flag_of task ≡ flags_if is order_flag)
-fly_flags task names same = subst (HasOwnFlags task) same (has_own_flags task)
+pub flags_of : (task : Task) (words : List Text) → command_words task ≡ words → HasOwnFlags task words
+flags_of task words same = subst (HasOwnFlags task) same (has_own_flags task)
 
 -- ---- the output that goes with a command
 
@@ -101,8 +92,9 @@ outputs_none task words names (Some name) same none own given =
     absurd (omega (arith, one))
 
 -- a task of the words of a command without a flag has none
-pub flags_none : (task : Task) (words : List Text) → command_words task ≡ words → own_flags words ≡ [] → flag_of task ≡ []
-flags_none task words same none = by (subst (HasOwnFlags task) same (has_own_flags task))
+pub flags_none : (task : Task) (words : List Text) → command_words task ≡ words → own_flags words ≡ []
+    → flag_of task ≡ []
+flags_none task words same none = by (flags_of task words same)
   where
     by : HasOwnFlags task words → flag_of task ≡ []
     by (true, is) = is ∙ none

@@ -1,14 +1,17 @@
 -- Words that spell a command are taken, and are what is found.
-use Rattle.std.proofs.Common.{◌≡◌, ◌∙◌, ◌++◌, ◌&&◌, ℕ, zero, suc, Bool, cond, true, false, true≢false, refl, sym, ap, ap₂, subst, arith, drop, length, map, List, [], ◌∷◌, Option, Some, None, is_some, codes}
+use Rattle.std.proofs.Common.{◌≡◌, ◌∙◌, ◌++◌, ◌&&◌, ℕ, zero, suc, Bool, cond, true, false, true≢false, refl, sym, ap}
+use Rattle.std.proofs.Common.{ap₂, subst, arith, drop, length, map, List, [], ◌∷◌, Option, Some, None, is_some, codes}
 use Rattle.std.specs.Borrow.{Bor}
 use Rattle.std.specs.List.{All, find, fold, list_all}
 use Rattle.std.specs.Option.{option_map, option_map_or, unwrap_or}
 use Rattle.std.specs.Prelude.{slice_get}
 use Rattle.std.specs.Str.{bytes_eq}
 use Rattle.clap.specs.Walk.{Names, Row, Rule, Text, Walk, answers_to, finished, nothing_held, walk, walk_from, walked}
-use Rattle.clap.specs.Simple.{App, HasMatchesOf, Shape, built, built_leaf, entered, inherited, is_simple, label_of, names_of, rows_at, subcommand_of, subcommand_rows_of}
+use Rattle.clap.specs.Simple.{App, HasMatchesOf, Shape, built, built_leaf, entered, inherited, is_simple, label_of}
+use Rattle.clap.specs.Simple.{names_of, rows_at, subcommand_of, subcommand_rows_of}
 use Rattle.clap.specs.declared.parser.matches.ArgMatches.{ArgMatches}
-use Rattle.clap.specs.Takes.{default_passes, entered_passes, is_valid, level_passes, settle_passes, takes, turn_passes, walk_passes}
+use Rattle.clap.specs.Takes.{default_passes, entered_passes, is_valid, level_passes, settle_passes, takes, turn_passes}
+use Rattle.clap.specs.Takes.{walk_passes}
 use Rattle.clap.proofs.OnLiterals.{clap_on_literals}
 use Rattle.clap.proofs.WalkLemmas.{walk_stopped}
 use Rattle.mm_command_line.specs.Commands.{Entry, app_by, commands, line_found, tool}
@@ -69,20 +72,24 @@ takes_each word = record { same = refl }
 abbrev found_for : Entry → List Text → Text × List Row
 found_for e files = ((leaf e).name, finished (leaf e).rules (end_of (leaf e) files))
 
-finds_each : (word : ℕ → Text) → Agree (λ e. line_found (Some (found_for e (words_for word e.1)))) (λ e. Some (e.0 ∷ words_for word e.1))
+finds_each : (word : ℕ → Text)
+    → Agree (λ e. line_found (Some (found_for e (words_for word e.1)))) (λ e. Some (e.0 ∷ words_for word e.1))
 finds_each word = record { same = refl }
 
 -- and so they do for one that is found
-alike : {A : Type 0} (f g : Entry → A) (test : Entry → Bool) (rows : List Entry) (row : Entry) → map f rows ≡ map g rows → find test rows ≡ Some row → f row ≡ g row
+alike : {A : Type 0} (f g : Entry → A) (test : Entry → Bool) (rows : List Entry) (row : Entry) → map f rows ≡ map g rows
+    → find test rows ≡ Some row → f row ≡ g row
 alike f g test [] row same found = absurd (true≢false (sym (ap is_some found)))
 alike f g test (first ∷ rest) row same found = go (test first) refl (alike f g test rest row (ap (drop 1) same))
   where
     go : (b : Bool) → test first ≡ b → (find test rest ≡ Some row → f row ≡ g row) → f row ≡ g row
-    go true is later = subst (λ e. f e ≡ g e) (ap (λ o. unwrap_or o first) (sym (ap (λ b. cond b (Some first) (find test rest)) is) ∙ found))
+    go true is later = subst (λ e. f e ≡ g e)
+        (ap (λ o. unwrap_or o first) (sym (ap (λ b. cond b (Some first) (find test rest)) is) ∙ found))
         (ap (λ l. unwrap_or (slice_get l 0) (f first)) same)
     go false is later = later (sym (ap (λ b. cond b (Some first) (find test rest)) is) ∙ found)
 
-agree : {A : Type 0} (f g : Entry → A) (test : Entry → Bool) (entry : Entry) → Agree f g → find test commands ≡ Some entry → f entry ≡ g entry
+agree : {A : Type 0} (f g : Entry → A) (test : Entry → Bool) (entry : Entry) → Agree f g
+    → find test commands ≡ Some entry → f entry ≡ g entry
 agree f g test entry each found = alike f g test commands entry each.same found
 
 -- ---- a line of a row
@@ -100,7 +107,8 @@ words_are (word ∷ rest) [] same = absurd (omega (arith, same))
 words_are (word ∷ rest) (id ∷ ids) same = ap (λ ws. word ∷ ws) (words_are rest ids (omega (arith, same)))
 
 -- what follows the command passes at the program's level
-stopped_passes : (word : Text) (seen words : List Text) → walk_passes built_tool.top words_known (stopped_at word seen) words ≡ true
+stopped_passes : (word : Text) (seen words : List Text)
+    → walk_passes built_tool.top words_known (stopped_at word seen) words ≡ true
 unfolding walk_passes walked
 stopped_passes word seen [] = refl
 stopped_passes word seen (x ∷ xs) = stopped_passes word (seen ++ x ∷ []) xs
@@ -114,7 +122,8 @@ module _ (test : Entry → Bool) (entry : Entry) (files : List Text) (known : fi
   stops = agree _ _ test entry stops_each known
 
   walk_is : walk rules words_known nothing_held (entry.0 ∷ files) ≡ stopped_at entry.0 files
-  walk_is = ap (λ w. fold (walked rules words_known) w files) stops ∙ sym (walk_stopped rules words_known start entry.0 [] files)
+  walk_is = ap (λ w. fold (walked rules words_known) w files) stops
+      ∙ sym (walk_stopped rules words_known start entry.0 [] files)
 
   top_passes : walk_passes built_tool.top words_known start (entry.0 ∷ files) ≡ true
   unfolding walk_passes
@@ -129,8 +138,10 @@ module _ (test : Entry → Bool) (entry : Entry) (files : List Text) (known : fi
   found = agree _ _ test entry enters_each known
 
   -- the command takes a word for each of its files
-  leaf_takes : All IsFileName files → length files ≡ length entry.1 → level_passes (leaf entry) [] nothing_held files false ≡ true
-  leaf_takes names same = level_passing (leaf entry) files names ∙ ap (level_places (leaf entry)) (sym (words_are files entry.1 same))
+  leaf_takes : All IsFileName files → length files ≡ length entry.1
+      → level_passes (leaf entry) [] nothing_held files false ≡ true
+  leaf_takes names same = level_passing (leaf entry) files names
+      ∙ ap (level_places (leaf entry)) (sym (words_are files entry.1 same))
       ∙ agree _ _ test entry (takes_each (word_at files)) known
 
   enters : entered built_tool (Some (entry.0, files)) ≡ Some (rows_at (leaf entry) files)
@@ -142,13 +153,16 @@ module _ (test : Entry → Bool) (entry : Entry) (files : List Text) (known : fi
       let below : entered_passes built_tool (Some (entry.0, files)) ≡ true =
       ap (λ o. option_map_or (λ s. level_passes s [] nothing_held files false) o true) found ∙ leaf_takes names same in
       let at_stop : Option (Text × List Text) → Bool =
-      λ stop. entered_passes built_tool stop && level_passes built_tool.top words_known nothing_held (entry.0 ∷ files) (is_some (entered built_tool stop)) in
+      λ stop. entered_passes built_tool stop && level_passes built_tool.top words_known nothing_held (entry.0 ∷ files)
+          (is_some (entered built_tool stop)) in
       ap (λ (w : Walk). at_stop w.stopped) walk_is
-      ∙ ap₂ (λ b o. b && level_passes built_tool.top words_known nothing_held (entry.0 ∷ files) (is_some o)) below enters
+      ∙ ap₂ (λ b o. b && level_passes built_tool.top words_known nothing_held (entry.0 ∷ files) (is_some o)) below
+          enters
       ∙ level_top
 
   -- which finds each word of the line, those of the files by what help calls them
-  row_finds : All IsFileName files → length files ≡ length entry.1 → line_found (subcommand_of tool (entry.0 ∷ files)) ≡ Some (entry.0 ∷ files)
+  row_finds : All IsFileName files → length files ≡ length entry.1
+      → line_found (subcommand_of tool (entry.0 ∷ files)) ≡ Some (entry.0 ∷ files)
   row_finds names same =
       let word : ℕ → Text = word_at files in
       ap (λ (w : Walk). line_found (entered built_tool w.stopped)) walk_is ∙ ap line_found enters
@@ -165,35 +179,45 @@ pub record IsRead (words : List Text) : Type 0 where
   pub found : line_found (subcommand_of tool words) ≡ Some words
 
 -- a line of the row of this word
-row_read : (word : Text) (files : List Text) → All IsFileName files → (entry : Entry) → find (by word) commands ≡ Some entry → length files ≡ length entry.1 → IsRead (entry.0 ∷ files)
+row_read : (word : Text) (files : List Text) → All IsFileName files → (entry : Entry)
+    → find (by word) commands ≡ Some entry → length files ≡ length entry.1 → IsRead (entry.0 ∷ files)
 row_read word files names entry known same = record {
   taken = row_takes (by word) entry files known names same;
   found = row_finds (by word) entry files known names same;
 }
 
-read_flight : (setup forecast sources links : Text) (plan : FlightPlan) → All IsFileName (drop 1 (flight_spelling setup forecast sources links plan))
+read_flight : (setup forecast sources links : Text) (plan : FlightPlan)
+    → All IsFileName (drop 1 (flight_spelling setup forecast sources links plan))
     → IsRead (flight_spelling setup forecast sources links plan)
-read_flight setup forecast sources links (Made in_order) names = row_read (codes "fly") (setup ∷ forecast ∷ sources ∷ links ∷ []) names _ refl refl
-read_flight setup forecast sources links (Given plan) names = row_read (codes "run") (setup ∷ forecast ∷ plan.now ∷ sources ∷ links ∷ []) names _ refl refl
+read_flight setup forecast sources links (Made in_order) names =
+    row_read (codes "fly") (setup ∷ forecast ∷ sources ∷ links ∷ []) names _ refl refl
+read_flight setup forecast sources links (Given plan) names =
+    row_read (codes "run") (setup ∷ forecast ∷ plan.now ∷ sources ∷ links ∷ []) names _ refl refl
 
 read_task : (task : Task) → All IsFileName (drop 1 (command_words task)) → IsRead (command_words task)
-read_task (Plan setup forecast in_order output) names = row_read (codes "plan") (setup.now ∷ forecast.now ∷ []) names _ refl refl
+read_task (Plan setup forecast in_order output) names =
+    row_read (codes "plan") (setup.now ∷ forecast.now ∷ []) names _ refl refl
 read_task (Check files) names = row_read (codes "check") (plan_names files) names _ refl refl
 read_task (Chart files worth output) names = row_read (codes "chart") (plan_names files) names _ refl refl
 read_task (Table files output) names = row_read (codes "table") (plan_names files) names _ refl refl
-read_task (Sensitivity setup forecast) names = row_read (codes "sensitivity") (setup.now ∷ forecast.now ∷ []) names _ refl refl
-read_task (Fly files) names = read_flight files.setup.now files.forecast.now files.sources.now files.links.now files.plan names
+read_task (Sensitivity setup forecast) names =
+    row_read (codes "sensitivity") (setup.now ∷ forecast.now ∷ []) names _ refl refl
+read_task (Fly files) names =
+    read_flight files.setup.now files.forecast.now files.sources.now files.links.now files.plan names
 read_task (Ask setup requests) names = row_read (codes "ask") (setup.now ∷ requests.now ∷ []) names _ refl refl
 read_task (Read packets) names = row_read (codes "read") (packets.now ∷ []) names _ refl refl
 
 line_read : (words : List Text) → IsCommandLine words → IsRead words
 line_read words line =
-    subst IsRead line.spelled (read_task line.task (subst (λ ws. All IsFileName (drop 1 ws)) (sym line.spelled) line.names))
+    subst IsRead line.spelled
+        (read_task line.task (subst (λ ws. All IsFileName (drop 1 ws)) (sym line.spelled) line.names))
 
 -- the program takes the words of a command
 pub passes : (app : App) (words : List Text) → app ≡ tool → IsCommandLine words → takes app words ≡ true
 passes app words is line = ap (λ a. takes a words) is ∙ (line_read words line).taken
 
 -- and finds them in the matches
-pub finds : (app : App) (words : List Text) (m : ArgMatches) → app ≡ tool → HasMatchesOf app words m → IsCommandLine words → line_found (subcommand_rows_of m) ≡ Some words
-finds app words m is has line = ap line_found ((has (ap is_simple is)).1 ∙ ap (λ a. subcommand_of a words) is) ∙ (line_read words line).found
+pub finds : (app : App) (words : List Text) (m : ArgMatches) → app ≡ tool → HasMatchesOf app words m
+    → IsCommandLine words → line_found (subcommand_rows_of m) ≡ Some words
+finds app words m is has line = ap line_found ((has (ap is_simple is)).1 ∙ ap (λ a. subcommand_of a words) is)
+    ∙ (line_read words line).found

@@ -1,5 +1,6 @@
 -- The commands of the program, and what clap is told of them.
-use Rattle.std.specs.Prelude.{◌≡◌, List, [], ◌∷◌, Bool, Option, true, false, codes, filter_map, find, fold, map, option_and_then, option_map}
+use Rattle.std.specs.Prelude.{◌≡◌, List, [], ◌∷◌, Bool, Option, true, false, codes, filter_map, find, fold, map}
+use Rattle.std.specs.Prelude.{option_and_then, option_map}
 use Rattle.std.specs.Str.{bytes_eq}
 use Rattle.clap.specs.Words.{App, Row, Rule, Text, app_of, first_of, new_app, new_rule, with_rule, with_subcommand}
 use Rattle.clap.specs.declared.builder.command.Command.{Command}
@@ -65,7 +66,8 @@ tool = fold with_command bare commands
 
 -- the command that was found, and what was found for its files
 abbrev pub row_found : Option (Text × List Row) → Option (Entry × List Row)
-row_found = option_and_then (λ found. option_map (λ entry. (entry, found.1)) (find (λ (entry : Entry). bytes_eq entry.0 found.0) commands))
+row_found = option_and_then
+    (λ found. option_map (λ entry. (entry, found.1)) (find (λ (entry : Entry). bytes_eq entry.0 found.0) commands))
 
 -- the word of a command, and the name that was found for each of its files
 abbrev pub words_found : Entry → List Row → List Text

@@ -161,7 +161,7 @@ fn refusal(command: &mut Command<'_>, kind: ErrorKind, message: &str) -> Error
 
 // What words without options ask for: `clap` reads them. The error has the text for the user.
 fn parse_command<'a>(alloc: Global, words: &[&'a str]) -> Result<Task<'a>, Error>
-    // Only want of memory can keep words that spell a command from giving its task.
+    // Words that spell a command give its task, unless memory runs out.
     ensures memory { IsCommandLine (map (λ word. word.now) words.now)
         → IfErr result (λ e. kind_of e ≡ OutOfMemory) }
     // Whatever the words, a task that is read is spelled by them, without the first `--`. No word before that is a
@@ -198,7 +198,7 @@ fn with_options<'a>(task: Task<'a>, line: &Line<'a>) -> Option<Task<'a>>
 pub fn parse<'a, S: AsStr>(alloc: Global, words: &'a [S]) -> Result<Task<'a>, Error>
     // A task that is read is the one that the words spell, whatever they are.
     ensures spelled { IfOk result (Spells (map S.text words.entry.now)) }
-    // Only want of memory can keep words that spell a task from giving it.
+    // Words that spell a task give it, unless memory runs out.
     ensures memory { IsTaskLine (map S.text words.entry.now)
         → IfErr result (λ e. kind_of e ≡ OutOfMemory) }
 {

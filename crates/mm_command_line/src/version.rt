@@ -4,7 +4,8 @@ ghost use Rattle.mm_command_line.specs.Lines.{is_version_line, is_version_word};
 
 use std::convert::AsStr;
 
-/// What is printed for `--version`: the program with its version, and the kit that it is proved with, as `rt version` has it.
+/// What is printed for `--version`: the program with its version, and the kit that it is proved with, as `rt version`
+/// has it.
 pub const VERSION: &str = "mm_tool 0.4.0\nrattle-kit-13f logic dac8208d650f15bf\n";
 
 fn is_version_word(word: &str) -> bool

@@ -4,11 +4,13 @@ use Rattle.std.proofs.lemmas.List.{drop-drop}
 use Rattle.std.proofs.Math.Seq.{drop-nil}
 
 -- one line more
-pub after_one : {X : Type 0} (i : ℕ) (xs rest others : List X) (x : X) → rest ≡ drop i xs → rest ≡ x ∷ others → others ≡ drop (i + 1) xs
+pub after_one : {X : Type 0} (i : ℕ) (xs rest others : List X) (x : X) → rest ≡ drop i xs → rest ≡ x ∷ others
+    → others ≡ drop (i + 1) xs
 after_one i xs rest others x at is = sym (ap (drop 1) (sym at ∙ is)) ∙ drop-drop 1 i xs
 
--- so many more
-pub after_more : {X : Type 0} (i n : ℕ) (xs rest later : List X) → i ≤ n → rest ≡ drop i xs → later ≡ drop (n - i) rest → later ≡ drop n xs
+-- this many more
+pub after_more : {X : Type 0} (i n : ℕ) (xs rest later : List X) → i ≤ n → rest ≡ drop i xs → later ≡ drop (n - i) rest
+    → later ≡ drop n xs
 after_more i n xs rest later most at is =
     let sum : i + (n - i) ≡ n = omega arith in
     is ∙ ap (drop (n - i)) at ∙ drop-drop (n - i) i xs ∙ ap (λ k. drop k xs) sum

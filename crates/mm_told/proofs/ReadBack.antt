@@ -33,16 +33,23 @@ spot-at number (Number name) = ap (option_map (λ n. Number n)) (name-at name)
 
 -- a refusal with the spot that is told
 with-spot : (r : Refusal) (told : Option Spot) (spot : Spot) → told ≡ Some spot
-    → option_and_then (λ (x : Refusal). option_map (reason_of x) told) (slice_get REFUSALS (number_of r)) ≡ Some (reason_of r spot)
-with-spot r told spot is = ap (option_and_then (λ (x : Refusal). option_map (reason_of x) told)) (refusal-at r) ∙ ap (option_map (reason_of r)) is
+    → option_and_then (λ (x : Refusal). option_map (reason_of x) told) (slice_get REFUSALS (number_of r)) ≡ Some
+        (reason_of r spot)
+with-spot r told spot is = ap (option_and_then (λ (x : Refusal). option_map (reason_of x) told)) (refusal-at r)
+    ∙ ap (option_map (reason_of r)) is
 
 read-back : (r : Refusal) (spot : Spot) → reason_told (told_at (number_of r) spot) ≡ Some (reason_of r spot)
 read-back r Whole = with-spot r (spot_told (told_at (number_of r) Whole)) Whole (spot-at (number_of r) Whole)
-read-back r (Line line) = with-spot r (spot_told (told_at (number_of r) (Line line))) (Line line) (spot-at (number_of r) (Line line))
-read-back r (Row row) = with-spot r (spot_told (told_at (number_of r) (Row row))) (Row row) (spot-at (number_of r) (Row row))
-read-back r (Cell row column) = with-spot r (spot_told (told_at (number_of r) (Cell row column))) (Cell row column) (spot-at (number_of r) (Cell row column))
-read-back r (Key row name) = with-spot r (spot_told (told_at (number_of r) (Key row name))) (Key row name) (spot-at (number_of r) (Key row name))
-read-back r (Number name) = with-spot r (spot_told (told_at (number_of r) (Number name))) (Number name) (spot-at (number_of r) (Number name))
+read-back r (Line line) = with-spot r (spot_told (told_at (number_of r) (Line line))) (Line line)
+    (spot-at (number_of r) (Line line))
+read-back r (Row row) = with-spot r (spot_told (told_at (number_of r) (Row row))) (Row row)
+    (spot-at (number_of r) (Row row))
+read-back r (Cell row column) = with-spot r (spot_told (told_at (number_of r) (Cell row column))) (Cell row column)
+    (spot-at (number_of r) (Cell row column))
+read-back r (Key row name) = with-spot r (spot_told (told_at (number_of r) (Key row name))) (Key row name)
+    (spot-at (number_of r) (Key row name))
+read-back r (Number name) = with-spot r (spot_told (told_at (number_of r) (Number name))) (Number name)
+    (spot-at (number_of r) (Number name))
 
 pub reason_read_back : (reason : Reason) → reason_told (told_of reason) ≡ Some reason
 reason_read_back reason = read-back reason.refusal reason.spot

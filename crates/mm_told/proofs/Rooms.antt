@@ -1,5 +1,7 @@
 -- How long a plan text is at most.
-use Rattle.std.proofs.Common.{◌≡◌, ℕ, zero, suc, ◌+◌, ◌*◌, ◌<◌, ◌≤◌, ◌^◌, ℤ, Bool, true, false, Option, Some, None, unwrap_or, ap, ◌∙◌, List, [], ◌∷◌, ◌++◌, length, map, take, drop, codes, decimal, refl, arith, length-append, length-take}
+use Rattle.std.proofs.Common.{◌≡◌, ℕ, zero, suc, ◌+◌, ◌*◌, ◌<◌, ◌≤◌, ◌^◌, ℤ, Bool, true, false, Option, Some, None}
+use Rattle.std.proofs.Common.{unwrap_or, ap, ◌∙◌, List, [], ◌∷◌, ◌++◌, length, map, take, drop, codes, decimal, refl}
+use Rattle.std.proofs.Common.{arith, length-append, length-take}
 use Rattle.std.specs.Prelude.{All, FitsSigned}
 use Rattle.std.specs.Fmt.{signed_decimal}
 use Rattle.std.specs.Int.{w64}
@@ -11,7 +13,10 @@ use Rattle.std.proofs.lemmas.Fmt.{length-decimal-le, length_signed_le}
 use Rattle.mm_base.specs.Characters.{line_feed, space}
 use Rattle.mm_base.specs.declared.limits.TheConstants.{MAX_STORES, MAX_STEPS, MAX_BLOCKS}
 use Rattle.mm_base.specs.Id.{IsIdField, id_text}
-use Rattle.mm_plan.specs.Sheet.{CertificateRows, SheetRows, Line, title_line, stores_line, dump_line, loss_line, stretch_line, count_line, bound_line, end_line, words, line_text, dump_lines, form_by, form_of, has_counts, own, certificates_of, certificate_lines, first_lines, lines_of, sheet_text, IsWritten, IsSheet}
+use Rattle.mm_plan.specs.Sheet.{CertificateRows, SheetRows, Line, title_line, stores_line, dump_line, loss_line}
+use Rattle.mm_plan.specs.Sheet.{stretch_line, count_line, bound_line, end_line, words, line_text, dump_lines, form_by}
+use Rattle.mm_plan.specs.Sheet.{form_of, has_counts, own, certificates_of, certificate_lines, first_lines, lines_of}
+use Rattle.mm_plan.specs.Sheet.{sheet_text, IsWritten, IsSheet}
 use Rattle.mm_plan.specs.declared.stretch.Stretch.{Stretch}
 use Rattle.mm_told.specs.declared.room.TheConstants.{PLAN_ROOM}
 
@@ -54,11 +59,6 @@ cost-append : (xs ys : List Line) → cost (xs ++ ys) ≡ cost xs + cost ys
 unfolding cost
 cost-append xs ys = simp (map-append, total-append)
 
--- one line more
-cost-more : (x : Line) (xs : List Line) → cost (x ∷ xs) ≡ length (line_text x) + 1 + cost xs
-unfolding cost total
-cost-more x xs = refl
-
 -- a text of a number
 decimal-most : (k n : ℕ) → 0 < k → n < 10 ^ k → n < 2 ^ 64 → length (decimal n) ≤ k
 decimal-most k n some below fits = length-decimal-le k n some below fits
@@ -70,7 +70,8 @@ amounts-most [] each = omega arith
 amounts-most (n ∷ amounts) each =
     let most : n ≤ MAX_BLOCKS = All-head (λ k. k ≤ MAX_BLOCKS) n amounts each in
     let here : length (decimal n) ≤ 7 = decimal-most 7 n (omega arith) (omega arith) (omega arith) in
-    let more : total (map decimal amounts) ≤ length amounts * 8 = amounts-most amounts (All-tail (λ k. k ≤ MAX_BLOCKS) n amounts each) in
+    let more : total (map decimal amounts) ≤ length amounts * 8 =
+        amounts-most amounts (All-tail (λ k. k ≤ MAX_BLOCKS) n amounts each) in
     omega (arith, here, more)
 
 -- the texts of identifiers
@@ -83,11 +84,13 @@ ids-most (id ∷ ids) each =
     omega (arith, here, more)
 
 -- a line of the words x and xs
-line-below : (line : Line) (x : List ℕ) (xs : List (List ℕ)) → words line ≡ x ∷ xs → length (line_text line) + 1 ≤ total (x ∷ xs)
+line-below : (line : Line) (x : List ℕ) (xs : List (List ℕ)) → words line ≡ x ∷ xs
+    → length (line_text line) + 1 ≤ total (x ∷ xs)
 unfolding line_text
 line-below line x xs is = rw is (join-below space x xs)
 
-title-most : (firsts : Option (List CertificateRows)) (b : Bool) → length (line_text (title_line (form_by firsts b))) ≤ 8
+title-most : (firsts : Option (List CertificateRows)) (b : Bool)
+    → length (line_text (title_line (form_by firsts b))) ≤ 8
 unfolding line_text
 title-most None true = omega arith
 title-most None false = omega arith
@@ -97,10 +100,12 @@ end-most : length (line_text end_line) ≤ 3
 unfolding line_text
 end-most = omega arith
 
-stores-most : (ids : List (List ℕ)) → length ids ≤ MAX_STORES → All IsIdField ids → length (line_text (stores_line ids)) ≤ 150
+stores-most : (ids : List (List ℕ)) → length ids ≤ MAX_STORES → All IsIdField ids
+    → length (line_text (stores_line ids)) ≤ 150
 unfolding total
 stores-most ids few each =
-    let whole : length (line_text (stores_line ids)) + 1 ≤ total (codes "stores" ∷ map id_text ids) = line-below (stores_line ids) (codes "stores") (map id_text ids) refl in
+    let whole : length (line_text (stores_line ids)) + 1 ≤ total (codes "stores" ∷ map id_text ids) =
+        line-below (stores_line ids) (codes "stores") (map id_text ids) refl in
     omega (arith, whole, ids-most ids each)
 
 dump-most : (t : ℕ) (amounts : List ℕ) → t ≤ MAX_STEPS → length amounts ≤ MAX_STORES → All (λ n. n ≤ MAX_BLOCKS) amounts
@@ -115,14 +120,16 @@ dump-most t amounts step few each =
 loss-most : (n : ℕ) → n < 2 ^ 64 → length (line_text (loss_line n)) ≤ 25
 unfolding total
 loss-most n fits =
-    let whole : length (line_text (loss_line n)) + 1 ≤ total (codes "loss" ∷ decimal n ∷ []) = line-below (loss_line n) (codes "loss") (decimal n ∷ []) refl in
+    let whole : length (line_text (loss_line n)) + 1 ≤ total (codes "loss" ∷ decimal n ∷ []) =
+        line-below (loss_line n) (codes "loss") (decimal n ∷ []) refl in
     let number : length (decimal n) ≤ 20 = decimal-most 20 n (omega arith) (omega arith) fits in
     omega (arith, whole, number)
 
 stretch-most : (d : Stretch) → IsWritten d → length (line_text (stretch_line d)) ≤ 38
 unfolding total
 stretch-most d written =
-    let whole : length (line_text (stretch_line d)) + 1 ≤ total (codes "stretch" ∷ id_text d.store ∷ decimal d.first ∷ decimal d.last ∷ []) =
+    let whole : length (line_text (stretch_line d)) + 1 ≤ total
+        (codes "stretch" ∷ id_text d.store ∷ decimal d.first ∷ decimal d.last ∷ []) =
     line-below (stretch_line d) (codes "stretch") (id_text d.store ∷ decimal d.first ∷ decimal d.last ∷ []) refl in
     let first-fits : d.first < 2 ^ 32 = written.first in
     let last-fits : d.last < 2 ^ 32 = written.last in
@@ -141,13 +148,15 @@ count-most t fits =
 bound-most : (z : ℤ) → FitsSigned w64 z → length (line_text (bound_line z)) ≤ 26
 unfolding total
 bound-most z fits =
-    let whole : length (line_text (bound_line z)) + 1 ≤ total (codes "bound" ∷ signed_decimal z ∷ []) = line-below (bound_line z) (codes "bound") (signed_decimal z ∷ []) refl in
+    let whole : length (line_text (bound_line z)) + 1 ≤ total (codes "bound" ∷ signed_decimal z ∷ []) =
+        line-below (bound_line z) (codes "bound") (signed_decimal z ∷ []) refl in
     let magnitude : mag z < 2 ^ 63 = fits.sfits in
     let number : length (signed_decimal z) ≤ 20 = length_signed_le 19 z (omega arith) magnitude in
     omega (arith, whole, number)
 
 -- lines of one kind, each of at most m octets with its end
-each-most : {X : Type 0} (line : X → Line) (P : X → Type 0) (m : ℕ) → ((x : X) → P x → length (line_text (line x)) + 1 ≤ m)
+each-most : {X : Type 0} (line : X → Line) (P : X → Type 0) (m : ℕ)
+    → ((x : X) → P x → length (line_text (line x)) + 1 ≤ m)
     → (xs : List X) → All P xs → cost (map line xs) ≤ length xs * m
 unfolding cost total
 each-most line P m most [] each = omega arith
@@ -172,21 +181,25 @@ dumps-most n t (suc k) amounts few steps each =
 sheet-cost : (s : SheetRows) → length (sheet_text s) ≤ cost (lines_of s) + 1
 unfolding sheet_text cost total
 sheet-cost s =
-    omega (arith, join-most line_feed (map line_text (lines_of s) ++ [] ∷ []), total-append (map line_text (lines_of s)) ([] ∷ []))
+    omega (arith, join-most line_feed (map line_text (lines_of s) ++ [] ∷ []), total-append (map line_text (lines_of s))
+        ([] ∷ []))
 
 costs-add : (a b c d : List Line) → cost (a ++ b ++ c ++ d) ≡ cost a + cost b + cost c + cost d
 costs-add a b c d = simp cost-append
 
 -- where a sheet has no certificates of the first stores, only that of all stores takes room
-own-cost : (s : SheetRows) → s.firsts ≡ None → cost (first_lines 0 (certificates_of s)) ≡ cost (certificate_lines (own s))
-own-cost s plain = ap (λ firsts. cost (first_lines 0 (own s ∷ unwrap_or firsts []))) plain ∙ ap cost (append-nil (certificate_lines (own s)))
+own-cost : (s : SheetRows) → s.firsts ≡ None
+    → cost (first_lines 0 (certificates_of s)) ≡ cost (certificate_lines (own s))
+own-cost s plain = ap (λ firsts. cost (first_lines 0 (own s ∷ unwrap_or firsts []))) plain
+    ∙ ap cost (append-nil (certificate_lines (own s)))
 
 -- one line
 one-cost : (x : Line) (m : ℕ) → length (line_text x) ≤ m → cost (x ∷ []) ≤ m + 1
 unfolding cost total
 one-cost x m most = omega (arith, most)
 
-title-cost : (firsts : Option (List CertificateRows)) (b : Bool) (ids : List (List ℕ)) → length ids ≤ MAX_STORES → All IsIdField ids
+title-cost : (firsts : Option (List CertificateRows)) (b : Bool) (ids : List (List ℕ)) → length ids ≤ MAX_STORES
+    → All IsIdField ids
     → cost (title_line (form_by firsts b) ∷ stores_line ids ∷ []) ≤ 160
 unfolding cost total
 title-cost firsts b ids few each = omega (arith, title-most firsts b, stores-most ids few each)
@@ -195,7 +208,8 @@ few-steps : (s : SheetRows) → IsSheet s → 1 + s.plan.steps ≤ MAX_STEPS + 1
 few-steps s sheet = omega (arith, sheet.steps)
 
 -- the certificate of all stores
-certificate-cost : (s : SheetRows) → IsSheet s → cost (certificate_lines (own s)) ≤ length s.cut * 39 + length s.by_channels * 26 + 53
+certificate-cost : (s : SheetRows) → IsSheet s
+    → cost (certificate_lines (own s)) ≤ length s.cut * 39 + length s.by_channels * 26 + 53
 unfolding certificate_lines
 certificate-cost s sheet =
     let loss : List Line = loss_line s.loss ∷ [] in
@@ -206,7 +220,8 @@ certificate-cost s sheet =
     let cuts : cost stretches ≤ length s.cut * 39 =
     each-most stretch_line IsWritten 39 (λ d written. omega (arith, stretch-most d written)) s.cut sheet.each_stretch in
     let counted : cost counts ≤ length s.by_channels * 26 =
-    each-most count_line (λ t. t < 2 ^ 32) 26 (λ t fits. omega (arith, count-most t fits)) s.by_channels sheet.each_count in
+    each-most count_line (λ t. t < 2 ^ 32) 26
+        (λ t fits. omega (arith, count-most t fits)) s.by_channels sheet.each_count in
     let bounds : cost bound ≤ 27 = one-cost (bound_line s.bound) 26 (bound-most s.bound sheet.bound) in
     omega (arith, costs-add loss stretches counts bound, losses, cuts, counted, bounds)
 
@@ -220,8 +235,11 @@ plan_text_fits s sheet plain =
     let whole : length (sheet_text s) ≤ cost (lines_of s) + 1 = sheet-cost s in
     let costs : cost (lines_of s) ≡ cost title + cost dumps + cost (first_lines 0 (certificates_of s)) + cost last =
     costs-add title dumps (first_lines 0 (certificates_of s)) last in
-    let titles : cost title ≤ 160 = title-cost s.firsts (has_counts s) s.stores (omega (arith, sheet.plan.few, sheet.same_stores)) sheet.each_store in
+    let titles : cost title ≤ 160 =
+        title-cost s.firsts (has_counts s) s.stores
+        (omega (arith, sheet.plan.few, sheet.same_stores)) sheet.each_store in
     let rows : cost dumps ≤ s.plan.steps * 137 =
     dumps-most s.plan.stores 1 s.plan.steps s.plan.amounts sheet.plan.few (few-steps s sheet) sheet.plan.each in
     let ends : cost last ≤ 4 = one-cost end_line 3 end-most in
-    omega (arith, whole, costs, titles, rows, own-cost s plain, certificate-cost s sheet, ends, sheet.steps, sheet.cut, sheet.counts)
+    omega (arith, whole, costs, titles, rows, own-cost s plain, certificate-cost s sheet, ends, sheet.steps, sheet.cut,
+        sheet.counts)

@@ -10,7 +10,7 @@ use Rattle.mm_told.specs.Spots.{spot_in_problem, spot_in_texts, fields_text}
 use Rattle.mm_told.specs.declared.reason.Reason.{Reason}
 use Rattle.mm_told.specs.declared.spot.Spot.TheVariants.{Whole}
 
--- want of memory
+-- memory ran out
 abbrev pub no_memory : Reason
 no_memory = record { refusal = refusal.NoMemory; spot = Whole }
 
@@ -24,4 +24,5 @@ of_setup fault = record { refusal = problem_refusal fault; spot = spot_in_proble
 
 -- the number, the name and the fields of a reason
 abbrev pub reason_text : Reason → List ℕ
-reason_text reason = decimal (number_of reason.refusal) ++ codes " " ++ name_of reason.refusal ++ fields_text reason.spot
+reason_text reason = decimal (number_of reason.refusal) ++ codes " " ++ name_of reason.refusal
+    ++ fields_text reason.spot

@@ -1,7 +1,8 @@
 -- A verdict, as codes and numbers.
 use Rattle.std.specs.Prelude.{ℕ, ℤ, pos}
 use Rattle.mm_cut.specs.declared.verdict.Verdict.{Verdict}
-use Rattle.mm_cut.specs.declared.verdict.Verdict.TheVariants.{DoesNotFit, LossIs, BadStretch, BadCount, BoundIs, NotShown, FirstNotShown, Least, LeastInOrder}
+use Rattle.mm_cut.specs.declared.verdict.Verdict.TheVariants.{DoesNotFit, LossIs, BadStretch, BadCount, BoundIs}
+use Rattle.mm_cut.specs.declared.verdict.Verdict.TheVariants.{NotShown, FirstNotShown, Least, LeastInOrder}
 use Rattle.mm_told.specs.declared.verdict.VerdictKind.{VerdictKind}
 use Rattle.mm_told.specs.declared.verdict.VerdictKind.TheVariants as kind
 use Rattle.mm_told.specs.declared.verdict.VerdictTold.{VerdictTold}

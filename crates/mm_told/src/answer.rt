@@ -78,7 +78,7 @@ fn write_text(text: &[u8], out: &mut [u8])
     out[..text.len()].copy_from_slice(text);
 }
 
-/// Writes a text into a buffer, if there is room for all of it, and answers so.
+/// Writes a text into a buffer, if there is room for all of it, and gives the answer to the call.
 #[must_use]
 pub fn tell_text(text: &[u8], out: &mut [u8]) -> Answer
     ensures answered { result ≡ text_answer text.now (length out.old) }

@@ -6,7 +6,7 @@ use crate::words::Words;
 use mm_cut::Verdict;
 
 impl Words {
-    /// The words of a verdict, but of `Least` and `LeastInOrder`, which want nothing.
+    /// The words of a verdict other than `Least` and `LeastInOrder`, which need none.
     #[must_use]
     pub fn of_verdict(verdict: Verdict) -> Option<Words>
         ensures expected { IfSome result (λ words. IsTrue (is_phrase words.expected.now)) }

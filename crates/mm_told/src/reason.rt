@@ -6,7 +6,8 @@ use crate::spot::{Spot, spot_in_problem, spot_in_texts};
 use mm_base::{Refusal, Refused};
 use std::fmt;
 
-/// Why a call is refused: which refusal it is, and where in its text the fault is. It is shown as its number, its name and its fields.
+/// Why a call is refused: which refusal it is, and where in its text the fault is. It is shown as its number, its name
+/// and its fields.
 #[derive(Clone, Copy)]
 pub struct Reason {
     pub refusal: Refusal,
@@ -14,7 +15,7 @@ pub struct Reason {
 }
 
 impl Reason {
-    /// Want of memory.
+    /// Memory ran out.
     #[must_use]
     pub fn no_memory() -> Reason
         ensures { result ≡ no_memory }

@@ -8,8 +8,9 @@ use crate::reason::Reason;
 use crate::spot::Spot;
 use mm_problem::Name;
 
-/// A refusal with its place. `place` is the code of a `Place`, and says which of the further fields say something; the others are 0.
-/// Lines, rows and columns count from 1, row 0 is the top of the setup, and `name` is the place of a name in `NAMES`.
+/// A refusal with its place. `place` is the code of a `Place`, and says which of the further fields say something; the
+/// others are 0. Lines, rows and columns count from 1, row 0 is the top of the setup, and `name` is the place of a name
+/// in `NAMES`.
 #[repr(C)]
 #[derive(Clone, Copy)]
 pub struct RefusedAt {

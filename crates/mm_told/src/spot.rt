@@ -16,7 +16,8 @@ pub enum Spot {
     Row(u32),
     /// A cell of a record, both from 1.
     Cell { row: u32, column: u32 },
-    /// A key of a table of the setup, of which an array may have several; they are counted from 1, and 0 is the top of the setup.
+    /// A key of a table of the setup, of which an array may have several; they are counted from 1, and 0 is the top of
+    /// the setup.
     Key { row: u32, name: Name },
     /// A number, or how many there are of something.
     Number(Name),

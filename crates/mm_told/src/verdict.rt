@@ -30,8 +30,9 @@ impl VerdictKind {
     }
 }
 
-/// A verdict. `kind` is the code of a `VerdictKind`, and says which of the further fields say something; the others are 0. Losses and
-/// bounds are in blocks; `place` is a step, or the place of a stretch or of a counted step, from 1, or a number of first stores.
+/// A verdict. `kind` is the code of a `VerdictKind`, and says which of the further fields say something; the others are
+/// 0. Losses and bounds are in blocks; `place` is a step, or the place of a stretch or of a counted step, from 1, or a
+/// number of first stores.
 #[repr(C)]
 #[derive(Clone, Copy)]
 pub struct VerdictTold {

@@ -25,8 +25,8 @@ fn words_of_reason(alloc: Global, reason: Reason) -> Result<Vec<u8>, NoMemory>
     text_with(alloc, reason, Words::of(reason.refusal))
 }
 
-/// The words of the refusal that is told: its number, its name and its fields, what was expected, and what to do. It is one line without
-/// its end; no octet where the codes are not those of a refusal.
+/// The words of the refusal that is told: its number, its name and its fields, what was expected, and what to do. It is
+/// one line without its end; no octet where the codes are not those of a refusal.
 pub fn words_of(alloc: Global, told: &RefusedAt) -> Result<Vec<u8>, NoMemory>
     ensures { IfOk result (λ text. SaysTold told.now text.items) }
 {

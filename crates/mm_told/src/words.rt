@@ -6,8 +6,8 @@ use crate::codes::refusal_numbered;
 use mm_base::Refusal;
 use std::fmt;
 
-/// The words of a refusal, in plain English, without a full stop. They are shown as `expected ..; ..`. Where the fault is (the file,
-/// the row, the name) is not in them: whoever prints them says it first.
+/// The words of a refusal, in plain English, without a full stop. They are shown as `expected ..; ..`. Where the fault
+/// is (the file, the row, the name) is not in them: whoever prints them says it first.
 #[derive(Clone, Copy, PartialEq, Eq)]
 pub struct Words {
     /// What was expected, to stand after that word.

@@ -34,7 +34,7 @@ pub enum EndsHint {
 }
 
 impl EndsHint {
-    /// What is found where a run has so many sources and links, which it does not take.
+    /// What is found if a run has these numbers of sources and links, and does not take them.
     #[must_use]
     pub fn of_counts(sources: usize, links: usize) -> EndsHint {
         if sources == 0 {
@@ -147,7 +147,7 @@ pub(crate) fn is_reached(routes: &[RouteRow], store: StoreId) -> bool {
     routes.iter().any(|route| route.store == store)
 }
 
-/// Why the store holds so many packets before a run, and not as many as its start in the setup says.
+/// Why the store holds this many packets before a run, and not as many as its start in the setup says.
 #[must_use]
 pub fn opening_hint(alloc: Global, setup: &[u8], store: StoreId, found: u64) -> Option<Hint> {
     let setup = Setup::read(alloc, setup).ok()?;

@@ -1,4 +1,4 @@
-//! Hints on the form of a whole file, and on a line that is no line of its kind.
+//! Hints on the form of a whole file, and on a line that is not of the kind that stands there.
 
 use crate::hints::excerpt::Excerpt;
 use crate::hints::lines::{has_mark, is_utf16, line_at};

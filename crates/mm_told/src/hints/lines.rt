@@ -7,7 +7,7 @@ ghost use Rattle.mm_told.specs.Lines.{numbered};
 
 use mm_base::lines::first_line;
 
-// What follows so many lines of a text.
+// What follows this many lines of a text.
 #[tactic(auto, using(crate::proofs::Numbered::after_one, crate::proofs::Numbered::after_all))]
 fn after_lines(text: &[u8], count: u64) -> &[u8]
     ensures { file_lines result.now ≡ drop count (file_lines text.now) }
@@ -26,7 +26,7 @@ fn after_lines(text: &[u8], count: u64) -> &[u8]
 #[derive(Clone, Copy)]
 pub(crate) struct LineFinder<'a> {
     text: &'a [u8],
-    // What follows so many lines of the text.
+    // What follows this many lines of the text.
     rest: &'a [u8],
     passed: u64,
     ghost place: { file_lines rest.now ≡ drop passed (file_lines text.now) },
@@ -44,7 +44,7 @@ impl<'a> LineFinder<'a> {
         }
     }
 
-    // The same lines, with no more than so many of them passed.
+    // The same lines, after at most this many of them.
     fn before(&self, count: u64) -> LineFinder<'a>
         ensures text { result.text.now ≡ self.now.text.now }
         ensures most { result.passed ≤ count }

@@ -191,7 +191,7 @@ fn store_hint(digits: &[u8], instruction: usize, place: [Shown; 2]) -> Option<Se
     Some(Sentence::new("line {}, instruction {}, names the store {}", &shown))
 }
 
-// What is found in an instruction, from 1, of the request in this line, which is refused so.
+// What is found in an instruction, from 1, of the request in this line, which is refused for this reason.
 fn in_instruction(refusal: Refusal, digits: &[u8], line: u64, number: u64) -> Option<Sentence> {
     let width = width_of(number_in(digits, 8, 1)?);
     let before = usize::try_from(number.checked_sub(1)?).ok()?;
@@ -246,7 +246,7 @@ impl<'a> RequestHints<'a> {
         }
     }
 
-    /// What is found in this line, which is refused so. It is the same whatever lines came before.
+    /// What is found in this line, which is refused for this reason. It does not depend on the lines before.
     pub fn hint(&mut self, refusal: Refusal, line: u64) -> Option<Hint>
         ensures of_digits { IsSome result → (refusal ≡ HexLine) ⊎ (refusal ≡ Short) }
         ensures file { self.new.requests.now ≡ self.old.requests.now }
@@ -264,8 +264,8 @@ impl<'a> RequestHints<'a> {
         }
     }
 
-    /// What is found in this instruction, from 1, of the request in this line, which is refused so: the field that is
-    /// out of range, or the store.
+    /// What is found in this instruction, from 1, of the request in this line, which is refused for this reason: the
+    /// field that is out of range, or the store.
     pub fn instruction_hint(&mut self, refusal: Refusal, line: u64, number: u64) -> Option<Hint>
         ensures of_fields { IsSome result → (refusal ≡ BadEnum) ⊎ (refusal ≡ NoSuchStore) }
         ensures file { self.new.requests.now ≡ self.old.requests.now }
@@ -278,7 +278,7 @@ impl<'a> RequestHints<'a> {
     }
 }
 
-/// What is found in this line of a file of requests, which is refused so.
+/// What is found in this line of a file of requests, which is refused for this reason.
 #[must_use]
 pub fn request_hint(refusal: Refusal, requests: &[u8], line: u64) -> Option<Hint> {
     if !is_of_digits(refusal) {

@@ -7,5 +7,6 @@ use Rattle.mm_command_line.proofs.command.command_of.Given as goal
 -- with the files that are left the command is whole
 abbrev pub invariant-loop-file : goal.invariant-loop-file
 invariant-loop-file l =
-    (fold with_file (app_of l.command) (map (λ (file : File). file.name.now) (drop l.file-index l.form.files.now)) ≡ app_by (entry_of l.form))
+    (fold with_file (app_of l.command) (map (λ (file : File). file.name.now) (drop l.file-index l.form.files.now)) ≡
+        app_by (entry_of l.form))
     × (has_globals l.command ≡ false)

@@ -13,11 +13,13 @@ no_flight c setup forecast sources links (Made in_order) is = grind (arith, coun
 no_flight c setup forecast sources links (Given plan) is = grind (arith, count_is _ _ is, first_is _ _ is)
 
 pub returns-in_default-clause-none : goal.returns-in_default-clause-none
-returns-in_default-clause-none c (Plan setup forecast in_order output) is = grind (arith, count_is _ _ is, first_is _ _ is)
+returns-in_default-clause-none c (Plan setup forecast in_order output) is =
+    grind (arith, count_is _ _ is, first_is _ _ is)
 returns-in_default-clause-none c (Check files) is = grind (arith, count_is _ _ is, first_is _ _ is)
 returns-in_default-clause-none c (Chart files worth output) is = grind (arith, count_is _ _ is, first_is _ _ is)
 returns-in_default-clause-none c (Table files output) is = grind (arith, count_is _ _ is, first_is _ _ is)
 returns-in_default-clause-none c (Sensitivity setup forecast) is = grind (arith, count_is _ _ is, first_is _ _ is)
-returns-in_default-clause-none c (Fly files) is = no_flight c files.setup.now files.forecast.now files.sources.now files.links.now files.plan is
+returns-in_default-clause-none c (Fly files) is =
+    no_flight c files.setup.now files.forecast.now files.sources.now files.links.now files.plan is
 returns-in_default-clause-none c (Ask setup requests) is = grind (arith, count_is _ _ is, first_is _ _ is)
 returns-in_default-clause-none c (Read packets) is = grind (arith, count_is _ _ is, first_is _ _ is)

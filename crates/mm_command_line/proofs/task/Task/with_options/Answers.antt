@@ -1,21 +1,22 @@
 use Rattle.std.proofs.Common.{◌≡◌, ◌∙◌, ap, arith, length, sym, []}
 use Rattle.std.proofs.lemmas.List.{length-map}
 use Rattle.mm_command_line.specs.Lines.{command_words}
-use Rattle.mm_command_line.proofs.Parts.{bare, chart_flags, flags_none, outputs_none, own_flags, plan_flags}
-use Rattle.mm_command_line.proofs.task.Task.with_options.Goals.{in_default-via-in-Table+else-is_empty, in_default-via-in_default}
+use Rattle.mm_command_line.proofs.Parts.{bare, flags_none, flags_of, outputs_none, own_flags}
+use Rattle.mm_command_line.proofs.task.Task.with_options.Goals.{in_default-via-in-Table+else-is_empty}
+use Rattle.mm_command_line.proofs.task.Task.with_options.Goals.{in_default-via-in_default}
 use Rattle.mm_command_line.proofs.task.Task.with_options.Goals.{then-is_empty-2+else-is_none, else-is_empty-2}
 use Rattle.mm_command_line.proofs.task.Task.with_options.Goals as goal
 
 pub returns-in_err-in_order-in-Plan-clause-none : goal.returns-in_err-in_order-in-Plan-clause-none
 returns-in_err-in_order-in-Plan-clause-none c =
     rw c.from_residual-in_err-in_order-in-Plan.ensures (λ task same flags outputs.
-    let own = plan_flags task _ (same ∙ ap command_words c.in-Plan.is) in
+    let own = flags_of task _ (same ∙ ap command_words c.in-Plan.is) in
     c.in_err-in_order-in-Plan.ensures.none own.0 (flags ∙ own.1))
 
 pub returns-in_err-worth-in-Chart-clause-none : goal.returns-in_err-worth-in-Chart-clause-none
 returns-in_err-worth-in-Chart-clause-none c =
     rw c.from_residual-in_err-worth-in-Chart.ensures (λ task same flags outputs.
-    let own = chart_flags task _ (same ∙ ap command_words c.in-Chart.is) in
+    let own = flags_of task _ (same ∙ ap command_words c.in-Chart.is) in
     c.in_err-worth-in-Chart.ensures.none own.0 (flags ∙ own.1))
 
 pub returns-in_default-2-clause-none : goal.returns-in_default-2-clause-none
