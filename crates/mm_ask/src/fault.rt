@@ -7,7 +7,7 @@ use thiserror::Error;
 #[derive(Clone, Copy, Debug, PartialEq, Eq, Error)]
 #[error("{}", self.refusal())]
 pub enum LineFault {
-    /// A growth was refused.
+    /// An allocation was refused.
     NoMemory,
     /// The line has a character that is no hexadecimal digit, an odd number of digits, or octets after its packet.
     HexLine,

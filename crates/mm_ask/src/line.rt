@@ -131,7 +131,7 @@ fn long_packet_of(alloc: Global, digits: &[u8]) -> Result<Packet, LineFault>
 /// packet, octets after it.
 pub fn packet_of(alloc: Global, digits: &[u8]) -> Result<Packet, LineFault>
     ensures packet { Gives NoMemory (λ packet. packet) result (packet_of digits.now) }
-    // A growth is refused only where the digits are good.
+    // An allocation is refused only where the digits are good.
     ensures memory { IfErr result (λ fault. fault ≡ NoMemory → IsTrue (has_digits digits.now)) }
     ensures digits { IfOk result (λ _. IsTrue (has_digits digits.now)) }
 {
@@ -184,7 +184,7 @@ pub fn request_of(alloc: Global, line: &[u8]) -> Result<Asked, LineFault>
         × SpellsRequest asked.packet asked.request) }
     // Which refusal it is: the first test that fails.
     ensures refused { Gives NoMemory (λ asked. asked.packet) result (request_of line.now) }
-    // A growth is refused only where the digits are good, the one test before the first growth.
+    // An allocation is refused only where the digits are good, the one test before the first allocation.
     ensures memory { IfErr result (λ fault. fault ≡ NoMemory → IsTrue (has_digits line.now)) }
     ensures digits { IfOk result (λ _. IsTrue (has_digits line.now)) }
 {

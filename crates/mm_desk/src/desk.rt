@@ -161,7 +161,7 @@ impl<N: Opening> Desk<N> {
         }
     }
 
-    // Makes the event's call through a seat. Every growth and every copy comes first: where there is no memory the
+    // Makes the event's call through a seat. Every allocation and every copy comes first: where there is no memory the
     // event comes back.
     fn call<R: Wait>(
         &self,

@@ -11,7 +11,7 @@ use thiserror::Error;
 #[derive(Clone, Copy, Debug, PartialEq, Eq, Error)]
 #[error("{}", self.refusal())]
 pub enum Fault {
-    /// A growth was refused.
+    /// An allocation was refused.
     NoMemory,
     /// The octets are no identifier.
     BadId,

@@ -9,7 +9,7 @@ use std::fmt;
 /// A refusal of this crate. It is shown as its number, a space and its name.
 #[derive(Clone, Copy, Debug, PartialEq, Eq)]
 pub enum Fault {
-    /// A growth was refused.
+    /// An allocation was refused.
     NoMemory,
     /// A packet of the other type, or of another service.
     NotSt15,

@@ -1,7 +1,9 @@
 //! A call of a store and what it is answered.
 
-use growths::calls::{Ask, Told, told_of, told_of_delete, told_of_given, told_of_offer};
 use mm_desk::Reply;
+use refused_allocations::calls::{
+    Ask, Told, told_of, told_of_delete, told_of_given, told_of_offer,
+};
 
 /// A call, and what it is answered.
 pub type Call = (Ask, Told);

@@ -4,13 +4,13 @@ ghost use Rattle.mm_desk.specs.Runs.{opening_at};
 
 use crate::tests::calls::told_of_reply;
 use crate::tests::samples::{has, is_told, store_with};
-use growths::calls::{Ask, Told};
-use growths::seats::answer;
 use mm_base::Kind;
 use mm_desk::agree::{agrees, is_below, is_part};
 use mm_desk::{
     Desk, Entry, Event, Fault, Opening, PassBook, Passing, Reply, Seat, StoreState, WindowFull,
 };
+use refused_allocations::calls::{Ask, Told};
+use refused_allocations::seats::answer;
 use std::alloc::Global;
 use std::marker::Brand;
 use std::process::Abort;

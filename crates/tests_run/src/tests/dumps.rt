@@ -65,7 +65,7 @@ fn dumped<L: Link + Send, R: Threads + Wait + Sync + Abort>(
     assert!(rt; wanted.len() <= 4, "few stores");
     assert!(rt; stores.len() == wanted.len(), "an amount for each");
     let orders = new_orders(rt, alloc, wanted);
-    match growths::dumps::dumped(rt, alloc, stores, links, &orders) {
+    match refused_allocations::dumps::dumped(rt, alloc, stores, links, &orders) {
         Some(done) => done.expect(rt, "memory"),
         None => panic!(rt; "stores and links that are ready"),
     }

@@ -5,14 +5,14 @@ ghost use Rattle.mm_shared.specs.Views.{new_ports};
 use crate::tests::calls::Call;
 use crate::tests::gates::comes_to;
 use crate::tests::samples::{counts, has, id, is_named, new_state, store_with, stores_with};
-use growths::calls::{Ask, Told};
-use growths::shared::answer;
 use mm_base::Kind;
 use mm_desk::{Fault, StoreState};
 use mm_shared::{
     Port, Ports, SharedStores, StoreCounters, StoreLabel, close_all, counters_at, open_all,
     seat_workers, settle,
 };
+use refused_allocations::calls::{Ask, Told};
+use refused_allocations::shared::answer;
 use std::alloc::Global;
 use std::process::Abort;
 use std::sync::Wait;

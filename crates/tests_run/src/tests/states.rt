@@ -2,10 +2,10 @@
 
 use crate::tests::calls::Call;
 use crate::tests::samples::{has, is_told, new_state, packet};
-use growths::calls::{Ask, Told, told_of, told_of_delete, told_of_offer};
 use mm_base::Kind;
 use mm_desk::{Fault, StoreState};
 use mm_store::PacketStore;
+use refused_allocations::calls::{Ask, Told, told_of, told_of_delete, told_of_offer};
 use std::alloc::Global;
 use std::process::Abort;
 

@@ -1,7 +1,7 @@
 //! What the calls of a part met.
 use std::fmt;
 
-/// What the calls of a part answered, where one growth may be refused.
+/// What the calls of a part answered, where one allocation may be refused.
 #[derive(Clone, Copy)]
 pub enum Met {
     /// Memory lacked for what the calls are made on.
@@ -47,7 +47,7 @@ impl Met {
     }
 }
 
-/// Shown as the line that `bench/growths` reads.
+/// Shown as the line that `bench/refused-allocations` reads.
 impl fmt::Display for Met {
     fn fmt<W: fmt::Write>(&self, f: &mut fmt::Formatter<W>) -> fmt::Result {
         match *self {

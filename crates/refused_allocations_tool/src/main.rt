@@ -1,8 +1,8 @@
-//! The calls of one part of `growths`, which the first argument names: a line says what they answered.
+//! The calls of one part of `refused_allocations`, which the first argument names: a line says what they answered.
 #![tactic(auto)]
 
 use anyhow::Result;
-use growths::{Met, part_named};
+use refused_allocations::{Met, part_named};
 use std::alloc::Global;
 use std::env::Env;
 use std::sync::Wait;

@@ -1,5 +1,5 @@
 use Rattle.std.proofs.Common.{rules}
-use Rattle.growths.proofs.dumps.dumped.Goals as goal
+use Rattle.refused_allocations.proofs.dumps.dumped.Goals as goal
 
 pub dump-requires-clause-may : goal.dump-requires-clause-may
 dump-requires-clause-may g c κs within = record {

@@ -1,5 +1,5 @@
-/* Loaded before the C library: refuses the allocation whose number, from 1, the variable GROWTH has, whichever thread asks for it, and
- * writes how many were asked for into the file that GROWTHS_MET names. Those that the C library makes for a new thread are counted as
+/* Loaded before the C library: refuses the allocation whose number, from 1, the variable REFUSED has, whichever thread asks for it, and
+ * writes how many were asked for into the file that REFUSED_MET names. Those that the C library makes for a new thread are counted as
  * well: where one of them is refused, `pthread_create` makes no thread. */
 #include <errno.h>
 #include <fcntl.h>
@@ -19,7 +19,7 @@ static atomic_long met;
 static long refused;
 
 __attribute__((constructor)) static void begin(void) {
-    const char *number = getenv("GROWTH");
+    const char *number = getenv("REFUSED");
     refused = number ? atol(number) : 0;
     atomic_store(&met, 0);
 }
@@ -49,7 +49,7 @@ int posix_memalign(void **block, size_t alignment, size_t size) {
 }
 
 __attribute__((destructor)) static void end(void) {
-    const char *name = getenv("GROWTHS_MET");
+    const char *name = getenv("REFUSED_MET");
     int file = name ? open(name, O_WRONLY | O_CREAT | O_TRUNC, 0600) : -1;
     if (file >= 0) {
         dprintf(file, "%ld\n", atomic_load(&met));
