@@ -173,7 +173,7 @@ static void try_words(const struct request *request, const uint8_t *octets, size
 }
 
 /* Refuses each allocation of the call in turn: out of memory is told, and the buffer is as it was. */
-static void try_request_growths(const struct request *request) {
+static void try_request_refused(const struct request *request) {
     uint8_t out[ROOM];
     struct rudlayog_answer answer;
     long all;
@@ -196,7 +196,7 @@ static void try_request(const struct request *request) {
     const size_t length = telecommand(request, wanted);
     try_rooms(request, wanted, length);
     try_words(request, wanted, length);
-    try_request_growths(request);
+    try_request_refused(request);
 }
 
 /* A request that is refused: its answer has the number, and the buffer is as it was. */
@@ -368,7 +368,7 @@ static void try_bad_reports(const struct report *report, uint8_t *octets, size_t
     octets[0] &= 0xEF;
 }
 
-static void try_report_growths(const struct report *report, const uint8_t *octets, size_t length) {
+static void try_report_refused(const struct report *report, const uint8_t *octets, size_t length) {
     struct rudlayog_entry entries[4];
     struct rudlayog_report told;
     struct rudlayog_answer answer;
@@ -392,7 +392,7 @@ static void try_report(const struct report *report) {
     const size_t length = telemetry(report, octets);
     try_report_rooms(report, octets, length);
     try_bad_reports(report, octets, length);
-    try_report_growths(report, octets, length);
+    try_report_refused(report, octets, length);
 }
 
 /* A storage control of more rows than any other report has entries. */
