@@ -59,7 +59,7 @@ unfolding lines_of
 lines_of-whole f s at =
     let parts = at.whole.certificates in
     let lines : Form → List CertificateRows → List Line =
-        λ g cs. title_line g ∷ stores_line s.stores ∷ [] ++ dumps_of s ++ first_lines 0 cs ++ end_line ∷ [] in
+    λ g cs. title_line g ∷ stores_line s.stores ∷ [] ++ dumps_of s ++ first_lines 0 cs ++ end_line ∷ [] in
     ap (λ g. lines g (certificates_of (sheet_of (at_stage Done f s)))) parts.form ∙ ap (lines f) parts.all
 
 -- a line more that leads to a sheet

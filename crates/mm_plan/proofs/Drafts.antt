@@ -312,8 +312,8 @@ module _ (f : Form) (s : ReadRows) (rows : IsRows s) where
       let each = All-append (λ n. n ≤ MAX_BLOCKS) old xs rows.dumps.each_amount line.2 in
       let after_dumps = λ (ls : List Line) (cs : List CertificateRows). front ++ ls ++ first_lines 0 cs in
       let more = ap (λ k. dump_lines n 1 k (old ++ xs)) is_next
-          ∙ dump_lines-push n 1 s.plan.steps old xs rows.dumps.table width
-          ∙ ap (λ k. dumps_of s ++ dump_line k xs ∷ []) number in
+      ∙ dump_lines-push n 1 s.plan.steps old xs rows.dumps.table width
+      ∙ ap (λ k. dumps_of s ++ dump_line k xs ∷ []) number in
       record {
         sound = assumption (line.0, table, each);
         lines =

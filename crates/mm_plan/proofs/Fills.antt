@@ -38,9 +38,9 @@ done_along q x y z t first same is =
     let no_less : IsNoLess q y z t = λ s store. omega (arith, here s store) in
     let fits : FitsAt q z t = fits_no_more q y z t (λ s store. omega (arith, here s store)) is.fits in
     let is_written : (s : ℕ) → s < length q.rows → written q z s t ≡ written q y s t =
-        λ s store. written_same q y z s t (λ u from to. same s u store from (omega arith)) in
+    λ s store. written_same q y z s t (λ u from to. same s u store from (omega arith)) in
     let is_left : (s : ℕ) → s < length q.rows → left q z s t ≡ left q y s t =
-        λ s store. left_same q y z s t (λ u from to. same s u store from to) in
+    λ s store. left_same q y z s t (λ u from to. same s u store from to) in
     record {
       fits = fits;
       filled = record {
@@ -68,7 +68,7 @@ pub done_more : (q : Dumping) (x y z w : Amounts) (t : ℕ) (blocks new : List �
     → IsDoneBefore q x w (t + 1) new
 done_more q x y z w t blocks new first last is apart cut filled =
     let others : SameElsewhere q y w t =
-        λ s u store from to other. filled.others s u store from to other ∙ apart s u store from to other in
+    λ s u store from to other. filled.others s u store from to other ∙ apart s u store from to other in
     let is_left = split_left q w t new first filled.split in
     let here : IsDoneAt q x w t = record {
       fits = filled.fits;

@@ -123,7 +123,7 @@ line_of-words (stores_line ids) h = ap stores_line (said_each id_of id_text IsId
 line_of-words (dump_line t xs) h =
     let amount = number_of MAX_BLOCKS in
     let back : (n : ℕ) → n ≤ MAX_BLOCKS → amount (decimal n) ≡ n =
-        λ n le. number_of-decimal MAX_BLOCKS n le (omega arith) in
+    λ n le. number_of-decimal MAX_BLOCKS n le (omega arith) in
     ap (λ k. dump_line k (map amount (map decimal xs))) (number_of-decimal MAX_STEPS t h.0 (omega arith))
     ∙ ap (dump_line t) (said_each amount decimal (λ n. n ≤ MAX_BLOCKS) back xs h.2)
 line_of-words (loss_line n) h = ap loss_line (number_of-decimal MAX_U64 n (omega (arith, h)) (omega arith))

@@ -120,7 +120,7 @@ more_first text next all k [] c some here printed lines = absurd (omega arith)
 more_first text next all k (d ∷ rest) c some here printed lines =
     let place : k + 1 ≡ suc k = omega arith in
     let part : ℕ → CertificateRows → List ℕ =
-        λ j e. text ++ (ended (first_line j) ++ all_ended (certificate_lines e)) in
+    λ j e. text ++ (ended (first_line j) ++ all_ended (certificate_lines e)) in
     ap (λ cs. next ++ all_ended (first_lines (suc (k + 1)) cs)) (take_all (length (d ∷ rest) - 1) rest (omega arith))
     ∙ ap (λ t. t ++ all_ended (first_lines (suc (k + 1)) rest)) (printed ∙ ap (part (k + 1)) here)
     ∙ ap (λ j. part j d ++ all_ended (first_lines (suc j) rest)) place
@@ -145,7 +145,7 @@ sheet_text-printed s =
     ∙ ap all_ended (lines_right s)
     ∙ (simp (all_ended-append, append_assoc, append-nil))
     ∙ ap (λ t. front_text (form_of s) s.stores s.plan ++ t ++ firsts_text s.firsts ++ ended end_line)
-        (certificate_text-is (own s))
+    (certificate_text-is (own s))
 
 -- ---- the order
 

@@ -33,14 +33,14 @@ all_raised : (q : Dumping) (x y : Amounts) (s t d : ℕ) → IsRaised q x y s t 
     → sum_by (in_step y t) (stores q) ≡ sum_by (in_step x t) (stores q) + d
 all_raised q x y s t d raised =
     let changed = sum_by_range_changed (in_step x t) (in_step y t) 0 (length q.rows) s (omega arith)
-        (omega (arith, raised.store)) (λ r _ below other. raised.others r (omega arith) other) in
+    (omega (arith, raised.store)) (λ r _ below other. raised.others r (omega arith) other) in
     omega (arith, changed, raised.here)
 
 channel_raised : (q : Dumping) (x y : Amounts) (s t d c : ℕ) → IsRaised q x y s t d
     → sum_by (in_step y t) (stores_of q c) ≡ sum_by (in_step x t) (stores_of q c) + cond (is_of q c s) d 0
 channel_raised q x y s t d c raised =
     let changed = sum_by_filter_range_changed (is_of q c) (in_step x t) (in_step y t) 0 (length q.rows) s (omega arith)
-        (omega (arith, raised.store)) (λ r _ below other. raised.others r (omega arith) other) in
+    (omega (arith, raised.store)) (λ r _ below other. raised.others r (omega arith) other) in
     elim (cases_Bool (is_of q c s)) [
       | inl own ↦ rw own (omega (arith, rw own at changed, raised.here))
       | inr other ↦ rw other (omega (arith, rw other at changed))
@@ -72,14 +72,14 @@ rest_raised q x y s t d idle less rests after is raised is_less here others = re
     | inl same ↦
         let own = is.limited (channel q s) (omega (arith, below, same.1)) in
         let now : limit q (channel q s) t
-            ≡ option_map (λ r. sum_by (in_step y t) (stores_of q (channel q s)) + r) (get_or after (channel q s) None) =
-            own ∙ ap (option_map (λ r. sum_by (in_step x t) (stores_of q (channel q s)) + r)) here
-            ∙ more_used (get_or after (channel q s) None) _ _ d (own_raised q x y s t d raised) in
+        ≡ option_map (λ r. sum_by (in_step y t) (stores_of q (channel q s)) + r) (get_or after (channel q s) None) =
+        own ∙ ap (option_map (λ r. sum_by (in_step x t) (stores_of q (channel q s)) + r)) here
+        ∙ more_used (get_or after (channel q s) None) _ _ d (own_raised q x y s t d raised) in
         subst (λ k. limit q k t
-            ≡ option_map (λ r. sum_by (in_step y t) (stores_of q k) + r) (get_or after k None)) same.1 now
+        ≡ option_map (λ r. sum_by (in_step y t) (stores_of q k) + r) (get_or after k None)) same.1 now
     | inr other ↦
         let as_many : sum_by (in_step y t) (stores_of q c) ≡ sum_by (in_step x t) (stores_of q c) =
-            omega (arith, rw other.0 at (channel_raised q x y s t d c raised)) in
+        omega (arith, rw other.0 at (channel_raised q x y s t d c raised)) in
         let stays = others c (λ e. other.1 (sym e)) in
         rw (as_many, stays) (is.limited c below)
   ];
@@ -131,9 +131,9 @@ used_kept q x y t c no_less fits used = elim used [
       inl (omega (arith, more, all, fits.windowed))
   | inr own ↦
       let more = sum_by_filter_range-le (is_of q c) (in_step x t) (in_step y t) 0 (length q.rows)
-          (λ s _ below. no_less s (omega arith)) in
+      (λ s _ below. no_less s (omega arith)) in
       let same : sum_by (in_step x t) (stores_of q c) ≡ sum_by (in_step y t) (stores_of q c) =
-          omega (arith, more, fits.limited c (sum_by (in_step x t) (stores_of q c)) own) in
+      omega (arith, more, fits.limited c (sum_by (in_step x t) (stores_of q c)) own) in
       inr (own ∙ ap Some same)
 ]
 
@@ -145,7 +145,7 @@ fits_no_more q x y t no_more fits = record {
       omega (arith, all, fits.windowed);
   limited = λ c b e.
       let own = sum_by_filter_range-le (is_of q c) (in_step y t) (in_step x t) 0 (length q.rows)
-          (λ s _ below. no_more s (omega arith)) in
+      (λ s _ below. no_more s (omega arith)) in
       omega (arith, own, fits.limited c b e);
 }
 

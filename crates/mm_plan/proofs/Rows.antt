@@ -26,8 +26,8 @@ amount_more text rest after n old new so_far here more =
     let words = spaced (map decimal old) in
     let one = ap (λ r. words ++ r) (sym (append-nil (32 ∷ decimal n))) in
     let all = one
-        ∙ sym (spaced-append (map decimal old) (decimal n ∷ []))
-        ∙ ap spaced (sym (map-append decimal old (n ∷ []))) in
+    ∙ sym (spaced-append (map decimal old) (decimal n ∷ []))
+    ∙ ap spaced (sym (map-append decimal old (n ∷ []))) in
     so_far
     ∙ ap (λ r. words ++ r) here
     ∙ sym (append_assoc words (32 ∷ decimal n) after)

@@ -174,7 +174,7 @@ go-first_lines s j earlier (c ∷ cs) next all h =
     ∙ go_may d (first_line (suc j)) (certificate_lines c ++ (rest ++ end_line ∷ [])) may
     ∙ go-certificate_lines ToLoss Third d.rows c (rest ++ end_line ∷ []) refl (All-head IsCertificate c cs h) refl
     ∙ go-first_lines s (suc j) (earlier ++ c ∷ []) cs (omega (arith, next, size)) (omega (arith, all, size))
-        (All-tail IsCertificate c cs h)
+    (All-tail IsCertificate c cs h)
     ∙ ap (λ es. Some (ending Done Third s es)) (append_assoc earlier (c ∷ []) cs)
 
 -- the certificates after that of all stores, and the end

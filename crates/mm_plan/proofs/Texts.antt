@@ -136,18 +136,18 @@ module _ {text rest : List ℕ} {d : DraftRows} {line : ℕ} (h : IsReadTo text 
       let x = said_line front in
       let xs = map said_line more in
       let all : lines_of s ≡ lines_so_far d ++ x ∷ xs =
-          sym (said_lines (lines_of s) (lines_are s is))
-          ∙ ap (map said_line) e
-          ∙ map-append said_line (texts_so_far d) (front ∷ more)
-          ∙ ap (λ ys. ys ++ x ∷ xs) (said_lines (lines_so_far d) h.each) in
+      sym (said_lines (lines_of s) (lines_are s is))
+      ∙ ap (map said_line) e
+      ∙ map-append said_line (texts_so_far d) (front ∷ more)
+      ∙ ap (λ ys. ys ++ x ∷ xs) (said_lines (lines_so_far d) h.each) in
       let texts = append_cancel_left (texts_so_far d) (map line_text (x ∷ xs)) (front ∷ more)
-          (sym (map-append line_text (lines_so_far d) (x ∷ xs)) ∙ ap (map line_text) (sym all) ∙ e) in
+      (sym (map-append line_text (lines_so_far d) (x ∷ xs)) ∙ ap (map line_text) (sym all) ∙ e) in
       let first : front ≡ line_text x = cc in
       let ran = ap (go start) (sym all) ∙ go-lines_of s is in
       none-some (whole s) (
-        sym (go_stops d x xs (refused x (said_is front) first))
-        ∙ sym (go-append start (lines_so_far d) (x ∷ xs) ∙ ap (option_and_then (λ e. go e (x ∷ xs))) h.ran)
-        ∙ ran
+      sym (go_stops d x xs (refused x (said_is front) first))
+      ∙ sym (go-append start (lines_so_far d) (x ∷ xs) ∙ ap (option_and_then (λ e. go e (x ∷ xs))) h.ran)
+      ∙ ran
       )
 
   -- a line that is refused is the first bad one
@@ -160,10 +160,10 @@ module _ {text rest : List ℕ} {d : DraftRows} {line : ℕ} (h : IsReadTo text 
       let all = h.lines ∙ rest_is ∙ sym (append_assoc (texts_so_far d) (front ∷ []) (text_lines after_front)) in
       let size = length-append (texts_so_far d) (front ∷ []) in
       let here : take line ls ≡ upto = first_are line ls upto (text_lines after_front)
-          (omega (arith, h.number, size, length-map (lines_so_far d) line_text)) all in
+      (omega (arith, h.number, size, length-map (lines_so_far d) line_text)) all in
       let none : ¬ Begins (take line ls) = λ b.
-          let lines = b.3 ∙ ap (λ ms. ms ++ b.2) here ∙ append_assoc (texts_so_far d) (front ∷ []) b.2 in
-          not_next front b.2 b.0 refused b.1 lines in
+      let lines = b.3 ∙ ap (λ ms. ms ++ b.2) here ∙ append_assoc (texts_so_far d) (front ∷ []) b.2 in
+      not_next front b.2 b.0 refused b.1 lines in
       let places = count in
       record {
         first = omega (arith, h.number);
@@ -175,7 +175,7 @@ module _ {text rest : List ℕ} {d : DraftRows} {line : ℕ} (h : IsReadTo text 
             let lines : ls ≡ ms ++ [] ∷ [] = ap text_lines e ∙ text_lines-sheet_text s is in
             let size = ap length lines ∙ length-append ms ([] ∷ []) in
             let within : line ≤ length ms =
-                omega (arith, places, h.number, ap length split, some_lines after_front, size) in
+            omega (arith, places, h.number, ap length split, some_lines after_front, size) in
             let fronts = ap (take line) lines ∙ take-append-le line ms ([] ∷ []) within in
             none (subst Begins (sym fronts) (front_begins s is line));
       }
@@ -217,10 +217,10 @@ module _ {text rest : List ℕ} {d : DraftRows} {line : ℕ} (h : IsReadTo text 
     good_end last empty =
         let xs = lines_of (sheet_of d) in
         let lines : lines_so_far d ≡ xs =
-            ap (λ stage. so_far stage d.form d.rows) done ∙ sym (lines_of-whole d.form d.rows ended) in
+        ap (λ stage. so_far stage d.form d.rows) done ∙ sym (lines_of-whole d.form d.rows ended) in
         let all : text_lines text ≡ map line_text xs ++ [] ∷ [] =
-            h.lines
-            ∙ ap (λ ys. map line_text ys ++ text_lines rest) lines
-            ∙ ap (λ ls. map line_text xs ++ ls) (last ∙ ap (λ r. r ∷ []) empty) in
+        h.lines
+        ∙ ap (λ ys. map line_text ys ++ text_lines rest) lines
+        ∙ ap (λ ls. map line_text xs ++ ls) (last ∙ ap (λ r. r ∷ []) empty) in
         let joined = sym (join_with_byte-slice_split 10 text) ∙ ap (join_with_byte 10) all in
         (whole_is_sheet d.form d.rows h.sound.rows ended, joined)

@@ -1,5 +1,6 @@
 //! The lines of a plan text, as they are printed.
 #![tactic(auto, using(std::proofs::Common::append_assoc), unfolding(crate::specs::Printing::ended, crate::specs::Sheet::line_text))]
+
 ghost use Rattle.std.specs.Prelude.{◌≡◌, ◌-◌, ◌*◌, ◌+◌, ◌<◌, ◌≤◌, ◌++◌, ◌∷◌, [], length, map, drop, decimal, codes};
 ghost use Rattle.std.specs.Prelude.{unwrap_or, IfOk, OnOk};
 ghost use Rattle.std.specs.Option.{option_map};
