@@ -1,4 +1,4 @@
--- The marks of a search, each with the width of the path to its node. Without the widths they are as in `mm_flow`.
+-- The marks of a search, each with the width of the path to its node. Otherwise they are as in `mm_flow`.
 use Rattle.std.specs.Prelude.{◌≡◌, ℕ, ◌<◌, ◌≤◌, List, length, map, slice_index, slice_index_or}
 use Rattle.flow_plain.specs.declared.search.Mark.{Mark}
 use Rattle.flow_plain.specs.declared.search.Search.{Search}
@@ -40,17 +40,17 @@ pub record IsCarried (g : Graph) (f : Flow) (marks : List Mark) (source least n 
 abbrev pub IsWide : Graph → Flow → ℕ → ℕ → List Mark → Type 0
 IsWide g f source least marks = (n : ℕ) → HasMark (bare marks) n → IsCarried g f marks source least n
 
--- a search has ended: nothing more can be reached
+-- a search has ended: no other node can be reached
 pub record HasEnded (g : Graph) (f : Flow) (source least : ℕ) (marks : List Mark) : Type 0 where
   pub searched : IsSearched g f source least (bare marks)
   pub wide : IsWide g f source least marks
 
--- a search at work
+-- a search in progress
 pub record IsSearching (g : Graph) (f : Flow) (s : Search) : Type 0 where
   pub search : IsSearch g f s.source s.least (bare s.marks.items) s.order.items s.found s.done
   pub wide : IsWide g f s.source s.least s.marks.items
 
--- a search goes on: what was marked stays so, and the order of reaching has only grown
+-- a later state of a search: marked nodes stay marked, and the order of reaching grows at its end
 pub record GoesOn (old new : Search) : Type 0 where
   pub source : new.source ≡ old.source
   pub least : new.least ≡ old.least
@@ -59,7 +59,7 @@ pub record GoesOn (old new : Search) : Type 0 where
   pub order : (i : ℕ) → i < old.found → slice_index new.order.items i ≡ slice_index old.order.items i
   pub marked : (n : ℕ) → HasMark (bare old.marks.items) n → HasMark (bare new.marks.items) n
 
--- what holds of the marks all through a phase, whatever flow was moved in it
+-- a fact on the marks that holds throughout a phase, for any flow that was moved in it
 pub record IsLevelled (g : Graph) (source : ℕ) (marks : List Mark) : Type 0 where
   pub size : length marks ≡ g.nodes
   pub start : HasMark (bare marks) source

@@ -5,7 +5,7 @@ use Rattle.mm_flow.specs.Graph.{Graph}
 use Rattle.mm_flow.specs.Flow.{Flow}
 use Rattle.mm_flow.specs.Balance.{IsAugmented}
 
--- augmentations have made a flow of this value, and none can make one of a greater value than the bound
+-- the augmentations so far made a flow of this value, and no flow has a value above the bound
 pub record IsAtWork (g : Graph) (source sink : ℕ) (flow : List ℕ) (value : ℕ) : Type 0 where
   pub source_known : source < g.nodes
   pub sink_known : sink < g.nodes

@@ -1,16 +1,16 @@
--- What tables are of.
+-- The task of tables: a network, a sink and a value.
 use Rattle.std.specs.Prelude.{◌≡◌, ℕ, slice_index}
 use Rattle.flow_plain.specs.declared.tables.Tables.{Tables}
 use Rattle.mm_flow.specs.Levels.{IsUp}
 use Rattle.flow_plain.specs.Marks.{bare, IsCarried}
 
--- two tables are of one network, sink and value
+-- two tables belong to the same network, sink and value
 pub record SameTask (old new : Tables) : Type 0 where
   pub graph : new.network.now.graph ≡ old.network.now.graph
   pub sink : new.sink ≡ old.sink
   pub value : new.value ≡ old.value
 
--- a path can go on by an entry
+-- a path can be extended by an entry
 abbrev pub IsOpen : Tables → ℕ → Type 0
 IsOpen t e = IsUp t.network.now.graph (slice_index t.flow.items) (bare t.search.marks.items) e
 

@@ -1,4 +1,4 @@
-//! The networks and the solvers of `mm_flow` as they were before they were made faster, with which tests compare it.
+//! The networks and the solvers of `mm_flow` as they were before they were made faster. Tests compare both.
 #![tactic(auto)]
 
 mod limits;

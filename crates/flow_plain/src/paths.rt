@@ -7,8 +7,8 @@ use std::alloc::Global;
 
 /// A maximum flow from the source to the sink, and a minimum cut, by shortest augmenting paths.
 ///
-/// `SameEnds` is tested first. Where a path of unlimited arcs leads from the source to the sink the answer is
-/// `Unbounded`. Want of memory aside, these are the only refusals.
+/// `SameEnds` is tested first. If a path of unlimited arcs leads from the source to the sink, the result is
+/// `Unbounded`. The only other refusal is out of memory.
 pub fn solve_paths(
     alloc: Global,
     network: &Network,

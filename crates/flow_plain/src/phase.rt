@@ -8,8 +8,8 @@ use std::alloc::{AllocError, Global};
 
 /// A solver that moves flow along the paths of one level graph after another.
 ///
-/// In a phase each node has a cursor, which stands in the chain of its entries and only moves on, and the entry by
-/// which a path last led on from it.
+/// In a phase each node has a cursor, which advances in the chain of its entries, and the entry by which a path last
+/// left it.
 #[derive(Drop)]
 pub(crate) struct Phase<'a> {
     pub(crate) tables: Tables<'a>,
@@ -36,8 +36,8 @@ impl<'a> Phase<'a> {
         })
     }
 
-    // Moves flow along the path by which the search reached the sink, and then along further paths of its levels until
-    // the cursors lead to none.
+    // Moves flow along the path by which the search reached the sink, then along further paths through its levels,
+    // until the cursors find none.
     pub(crate) fn block(&mut self)
         requires way { Reaches self.old.tables self.old.tables.sink }
         ensures more { self.old.tables.value < self.new.tables.value }
@@ -78,7 +78,7 @@ impl<'a> Phase<'a> {
         true
     }
 
-    // Takes a path from a node on one step back, if its cursor leads to a way.
+    // Extends a path backwards by one step from a node, if the node's cursor finds an entry.
     fn step_back(&mut self, at: u32) -> Option<u32>
         requires leads { LeadsFrom self.old at }
         ensures tables { self.new.tables ≡ self.old.tables }
@@ -99,7 +99,7 @@ impl<'a> Phase<'a> {
         Some(from)
     }
 
-    // Moves a node's cursor on to an entry whose twin leads up to the node.
+    // Advances a node's cursor to an entry whose twin leads up to the node.
     fn way_back(&self, at: u32) -> u32
         requires known { at < self.now.tables.network.now.graph.nodes }
         ensures most { result ≤ slice_index self.now.next.items at }
@@ -129,7 +129,7 @@ impl<'a> Phase<'a> {
         below > 0 && below < height && residual(self.tables.network, &self.tables.flow, back) > 0
     }
 
-    // Takes a path one step towards the sink again, and moves the cursor of the node there on.
+    // Shortens the path by one step towards the sink, and advances the cursor of the node there.
     fn retreat(&mut self, at: u32) -> u32
         requires leads { LeadsFrom self.old at }
         requires inner { at ≢ self.old.tables.sink }
@@ -143,7 +143,7 @@ impl<'a> Phase<'a> {
         to
     }
 
-    // Marks the nodes of the path anew, from the source on.
+    // Marks the nodes of the path again, from the source on.
     fn follow(&mut self)
         requires leads { LeadsFrom self.old self.old.tables.search.source }
         ensures value { self.new.tables.value ≡ self.old.tables.value }

@@ -48,7 +48,7 @@ pub(crate) fn head(network: &Network, entry: usize) -> u32
     tail(network, twin(network, entry))
 }
 
-// What an entry can still carry.
+// The residual capacity of an entry.
 #[tactic(auto, unfolding(mm_flow::specs::Residual::residual))]
 pub(crate) fn residual(network: &Network, flow: &[u64], entry: usize) -> u64
     requires entry { entry < entries network.now.graph }
@@ -67,7 +67,7 @@ pub(crate) fn residual(network: &Network, flow: &[u64], entry: usize) -> u64
     }
 }
 
-// Moves this much along an entry: more on the arc forward, less on the arc backward.
+// Moves an amount along an entry: a forward entry adds to the flow of its arc, a backward one subtracts from it.
 pub(crate) fn push(network: &Network, flow: &mut [u64], entry: usize, amount: u64)
     requires entry { entry < entries network.now.graph }
     requires flow { length flow.old ≡ length network.now.graph.arcs }

@@ -1,4 +1,4 @@
-//! A search by breadth through the residual network (Edmonds and Karp, 1972).
+//! A breadth-first search of the residual network (Edmonds and Karp, 1972).
 ghost use Rattle.std.specs.Prelude.{◌≡◌, ◌+◌, ◌<◌, ◌≤◌, ℕ, length, slice_index, IfOk, replicate};
 ghost use Rattle.mm_flow.specs.Flow.{IsWithin};
 ghost use Rattle.mm_flow.specs.Residual.{entries, tail, head, residual};
@@ -11,8 +11,8 @@ use crate::residual::{head, push, residual, tail};
 use mm_flow::Network;
 use std::alloc::{AllocError, Global};
 
-/// How a node was reached: its level, one more than the entries on the path to it and 0 where there is none, the last
-/// entry of the path, and the least residual capacity on it.
+/// How a node was reached: the last entry of the path to it, the least residual capacity on the path, and the node's
+/// level, which is the number of entries on the path and 1, or 0 if the node was not reached.
 #[derive(Clone, Copy)]
 pub(crate) struct Mark {
     pub(crate) level: u32,
@@ -26,8 +26,8 @@ const UNREACHED: Mark = Mark {
     width: 0,
 };
 
-/// A search from a source along entries of at least a residual capacity: the nodes' marks, and the nodes in the order
-/// in which they were found, of which the first `done` were visited.
+/// A search from a source along entries with at least a given residual capacity: the marks of the nodes, and the nodes
+/// in the order in which they were found. The first `done` of these were visited.
 #[derive(Drop)]
 pub(crate) struct Search {
     pub(crate) source: u32,
@@ -43,7 +43,7 @@ impl Search {
     ghost use Rattle.mm_flow.specs.Marks.{HasMark};
     ghost use Rattle.flow_plain.specs.Marks.{bare, IsSearching, HasEnded, IsCarried, IsLevelled, GoesOn};
 
-    // A search from this source that has not begun.
+    // A search from this source before it starts.
     pub(crate) fn new(alloc: Global, network: &Network, source: u32) -> Result<Search, AllocError>
         ensures source { IfOk result (λ s. s.source ≡ source) }
         ensures marks { IfOk result (λ s. length s.marks.items ≡ network.now.graph.nodes) }
@@ -60,7 +60,7 @@ impl Search {
         })
     }
 
-    // Marks all nodes that the source reaches along entries of at least this residual capacity.
+    // Marks all nodes that the source reaches along entries with at least this residual capacity.
     pub(crate) fn run(&mut self, network: &Network, links: &Links, flow: &[u64], least: u64)
         requires linked { IsLinked network.now.graph links.now }
         requires flow { length flow.now ≡ length network.now.graph.arcs }
@@ -96,7 +96,7 @@ impl Search {
         }
     }
 
-    // Marks the node that an entry leads to, if that has no mark and the entry the residual capacity.
+    // Marks the node that an entry leads to, if it has no mark and the entry has the residual capacity.
     fn reach(&mut self, network: &Network, flow: &[u64], entry: usize)
         requires entry { entry < entries network.now.graph }
         requires flow { length flow.now ≡ length network.now.graph.arcs }
@@ -126,7 +126,7 @@ impl Search {
         self.found += 1;
     }
 
-    // Moves as much as fits along the path by which the sink was reached, and returns how much.
+    // Moves as much as fits along the path by which the sink was reached, and returns this amount.
     pub(crate) fn augment(&self, network: &Network, flow: &mut [u64], sink: u32) -> u64
         requires flow { length flow.old ≡ length network.now.graph.arcs }
         requires within { IsWithin network.now.graph (slice_index flow.old) }
@@ -151,13 +151,13 @@ impl Search {
         amount
     }
 
-    // Which nodes have a mark.
+    // For each node, whether it has a mark.
     pub(crate) fn side(&self, alloc: Global) -> Result<Vec<bool>, AllocError> {
         self.marks.iter().map(|mark| mark.level > 0).collect(alloc)
     }
 }
 
-// Takes every mark away.
+// Removes all marks.
 fn clear(marks: &mut [Mark])
     ensures { marks.new ≡ replicate (length marks.old) no_mark }
 {

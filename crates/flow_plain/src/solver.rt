@@ -8,8 +8,8 @@ use std::alloc::Global;
 
 /// A maximum flow from the source to the sink, and a minimum cut, by level graphs and blocking flows (Dinitz, 1970).
 ///
-/// `SameEnds` is tested first. Where a path of unlimited arcs leads from the source to the sink the answer is
-/// `Unbounded`. Want of memory aside, these are the only refusals.
+/// `SameEnds` is tested first. If a path of unlimited arcs leads from the source to the sink, the result is
+/// `Unbounded`. The only other refusal is out of memory.
 pub fn solve(alloc: Global, network: &Network, source: u32, sink: u32) -> Result<Solved, Fault>
     requires source { source < network.now.graph.nodes }
     requires sink { sink < network.now.graph.nodes }

@@ -1,4 +1,4 @@
-//! A solver at work: its tables, all reserved before its first augmentation, and the flow so far.
+//! The tables of a solver, all reserved before its first augmentation, and the flow so far.
 ghost use Rattle.std.specs.Prelude.{◌≡◌, ◌<◌, ℕ, true, length};
 ghost use Rattle.flow_plain.specs.Links.{IsLinked};
 ghost use Rattle.flow_plain.specs.Marks.{IsLevelled};
@@ -11,7 +11,7 @@ use crate::search::{Mark, Search};
 use mm_flow::{Fault, Network, Solved};
 use std::alloc::{AllocError, Global};
 
-/// The entries of each node, the last search from the source, and a flow of this value to the sink.
+/// The entries of each node, the last search from the source, and a flow to the sink with its value.
 #[derive(Drop)]
 pub(crate) struct Tables<'a> {
     pub(crate) network: &'a Network,
@@ -32,7 +32,7 @@ impl<'a> Tables<'a> {
     ghost use Rattle.flow_plain.specs.Marks.{bare};
     ghost use Rattle.flow_plain.specs.Task.{SameTask, IsOpen, Reaches};
 
-    // Tables with a flow of nothing, unless a path of unlimited arcs leads from the source to the sink.
+    // Tables with the flow of zeros, unless a path of unlimited arcs leads from the source to the sink.
     pub(crate) fn new(
         alloc: Global,
         network: &'a Network,
@@ -62,7 +62,7 @@ impl<'a> Tables<'a> {
         })
     }
 
-    // Searches anew, and answers whether the sink was reached.
+    // Searches again, and returns whether the sink was reached.
     pub(crate) fn search_anew(&mut self) -> bool
         ensures kept { SameTask self.old self.new }
         ensures way { result ≡ true → Reaches self.new self.new.sink }
@@ -92,7 +92,7 @@ impl<'a> Tables<'a> {
         };
     }
 
-    // Lets a path go on by an entry that leads up from its last node.
+    // Extends a path by an entry that leads up from its last node.
     pub(crate) fn reach_by(&mut self, entry: usize)
         requires up { IsOpen self.old entry }
         requires path { Reaches self.old (tail self.old.network.now.graph entry) }
@@ -111,7 +111,7 @@ impl<'a> Tables<'a> {
         };
     }
 
-    // The flow, with the nodes that the search reached as the source's side.
+    // The flow, with the nodes that the search reached as the source side.
     pub(crate) fn solved(self, alloc: Global) -> Result<Solved, AllocError> {
         let side = self.search.side(alloc)?;
         Ok(Solved {

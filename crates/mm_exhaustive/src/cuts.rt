@@ -1,4 +1,4 @@
-//! Cuts of little capacity, looked for by trying every side, a plain program to compare the solver with.
+//! Finds cuts of little capacity by trying every side. The solver is compared with it.
 ghost use Rattle.std.specs.Prelude.{◌<◌, ◌≤◌, length};
 ghost use Rattle.std.specs.Option.{ForSome};
 ghost use Rattle.mm_flow.specs.declared.limits.TheConstants.{MAX_CAPACITY};
@@ -8,9 +8,8 @@ use mm_flow::{Arc, Network};
 /// The most nodes of a network whose sides are tried one by one.
 pub const MAX_TRIED: usize = 10;
 
-/// A cut between the source and the sink of less capacity than this, or any cut where no number is given: the nodes on
-/// the source's side. `None` where there is no such cut: an unlimited arc leaves each set of nodes with the source and
-/// without the sink, or the capacities are not less.
+/// A cut between the source and the sink with a capacity below the given one, or any cut if none is given: the nodes on
+/// the source side. `None` if there is no such cut.
 #[must_use]
 pub fn cut_below(
     network: &Network,
@@ -25,7 +24,7 @@ pub fn cut_below(
     below_from(network, source, sink, [false; MAX_TRIED], 0, most)
 }
 
-// The same among the cuts that agree with a side at the nodes below one.
+// The same among the cuts that agree with a side at the nodes below a given one.
 fn below_from(
     network: &Network,
     source: u32,
@@ -57,7 +56,7 @@ fn below_from(
     below_from(network, source, sink, outside, node + 1, most)
 }
 
-// The capacity of a side, or `None` where it is no cut.
+// The capacity of a side, or `None` if it is no cut.
 fn cut_capacity(network: &Network, source: u32, sink: u32, side: &[bool]) -> Option<u64>
     requires nodes { network.now.graph.nodes ≤ length side.now }
     requires source { source < network.now.graph.nodes }
@@ -73,7 +72,7 @@ fn cut_capacity(network: &Network, source: u32, sink: u32, side: &[bool]) -> Opt
     Some(total)
 }
 
-// What an arc adds to the capacity of a side: nothing, where it does not lead out.
+// What an arc adds to the capacity of a side, 0 if it does not lead out of it.
 fn capacity_out(arc: Arc, side: &[bool]) -> Option<u64>
     requires from { arc.from < length side.now }
     requires to { arc.to < length side.now }

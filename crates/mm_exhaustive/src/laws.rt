@@ -1,4 +1,4 @@
-//! What the limits are.
+//! The limits, as numbers.
 ghost use Rattle.std.specs.Prelude.{◌≡◌};
 ghost use Rattle.mm_exhaustive.specs.declared.cuts.TheConstants.{MAX_TRIED};
 

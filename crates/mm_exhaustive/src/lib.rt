@@ -1,4 +1,5 @@
-//! Plain, slow twins: a better dump plan of a tiny problem, or a lesser cut of a tiny network, looked for by trying each one.
+//! Plain, slow references: they try every dump plan of a tiny problem, or every cut of a tiny network, for a better
+//! one.
 #![tactic(auto)]
 
 mod cuts;

@@ -1,4 +1,4 @@
-//! Trying every plan of a problem.
+//! Tries every plan of a problem.
 ghost use Rattle.std.specs.Prelude.{◌+◌, ◌≤◌, length, IfOk, IfSome};
 ghost use Rattle.mm_plan.specs.Table.{HasShape};
 
@@ -6,8 +6,8 @@ use mm_plan::{NoMemory, Plan, fits, loss_of};
 use mm_problem::Problem;
 use std::alloc::Global;
 
-// Looks for a plan below a loss among those that ask for the same as this one in the steps before one, and in it of the
-// stores before one. The plan becomes what is found.
+// Searches a plan with a loss below a given one, among those with the same amounts as `plan` in all earlier steps, and
+// of the earlier stores in this step. `plan` becomes what is found.
 fn try_from(problem: &Problem, plan: &mut Plan, most: u64, step: u32, store: usize) -> bool
     requires shape { HasShape problem.now plan.old }
     requires first { 1 ≤ step }
@@ -30,9 +30,9 @@ fn try_from(problem: &Problem, plan: &mut Plan, most: u64, step: u32, store: usi
     false
 }
 
-/// A plan that fits and loses fewer blocks than this; `None` where no plan does. All plans are tried whose amounts are
-/// at most the windows of their steps; no other fits. With n stores they are as many as the product of (window + 1)^n
-/// over all steps, so this is for tiny problems alone.
+/// A plan that fits and loses fewer blocks than given, or `None` if there is none. All plans are tried whose amounts
+/// are at most the windows; no others fit. For n stores their number is the product of (window + 1)^n over all steps,
+/// so this is for tiny problems only.
 pub fn plan_below(alloc: Global, problem: &Problem, most: u64) -> Result<Option<Plan>, NoMemory>
     ensures shape { IfOk result (λ r. IfSome r (HasShape problem.now)) }
 {

@@ -30,7 +30,7 @@ module _ (g : Graph) (f : Flow) (sink : ℕ) where
   lead_kept : (marks marked : List Mark) (next moved ahead turned : List ℕ) (steps n : ℕ)
       → ((m : ℕ) → level marked m ≡ level marks m)
       → ((m : ℕ) → level marks n < level marks m → slice_index moved m ≡ slice_index next m)
-          → ((m : ℕ) → level marks n ≤ level marks m → slice_index turned m ≡ slice_index ahead m)
+      → ((m : ℕ) → level marks n ≤ level marks m → slice_index turned m ≡ slice_index ahead m)
       → IsLead g f marks next ahead sink steps n → IsLead g f marked moved turned sink steps n
   lead_kept marks marked next moved ahead turned zero n levels same_cursors same_ahead lead = lead
   lead_kept marks marked next moved ahead turned (suc steps) n levels same_cursors same_ahead lead =
@@ -38,9 +38,15 @@ module _ (g : Graph) (f : Flow) (sink : ℕ) where
       let to = head g e in
       let above : level marks n < level marks to = omega (arith, lead.0.up.up, ap (level marks) lead.0.leaves) in
       let rest = lead_kept marks marked next moved ahead turned steps to levels (λ m up. same_cursors m (omega arith))
-          (λ m up. same_ahead m (omega arith)) lead.1 in
-      rw (same_ahead n (omega arith)) (record { leaves = lead.0.leaves; up = up_kept marks marked e levels lead.0.up;
-          cursor = omega (arith, lead.0.cursor, same_cursors to above) }, rest)
+      (λ m up. same_ahead m (omega arith)) lead.1 in
+      rw (same_ahead n (omega arith)) (
+        record {
+          leaves = lead.0.leaves;
+          up = up_kept marks marked e levels lead.0.up;
+          cursor = omega (arith, lead.0.cursor, same_cursors to above);
+        },
+        rest,
+      )
 
   -- from any node but the sink a way up has a first entry, and continues from the node that this leads to
   pub lead_on : (marks : List Mark) (next ahead : List ℕ) (n : ℕ) → n ≢ sink → HasLead g f marks next ahead sink n
@@ -54,8 +60,12 @@ module _ (g : Graph) (f : Flow) (sink : ℕ) where
       → level marks n ≤ level marks sink
   lead-le marks next ahead zero n lead = omega (arith, ap (level marks) lead)
   lead-le marks next ahead (suc steps) n lead =
-      omega (arith, lead.0.up.up, ap (level marks) lead.0.leaves,
-          lead-le marks next ahead steps (head g (slice_index ahead n)) lead.1)
+      omega (
+        arith,
+        lead.0.up.up,
+        ap (level marks) lead.0.leaves,
+        lead-le marks next ahead steps (head g (slice_index ahead n)) lead.1,
+      )
 
   -- a way up depends on the levels alone of the marks
   pub lead_marked : (marks marked : List Mark) (next ahead : List ℕ) (n : ℕ)
@@ -78,21 +88,25 @@ module _ (g : Graph) (f : Flow) (sink : ℕ) where
   pub lead_longer : (marks : List Mark) (next ahead : List ℕ) (n cursor e from : ℕ)
       → HasLead g f marks next ahead sink n → IsUp g f marks e → tail g e ≡ from → head g e ≡ n
       → 0 < cursor → n < length next → from < length ahead
-          → HasLead g f marks (slice_set next n cursor) (slice_set ahead from e) sink from
+      → HasLead g f marks (slice_set next n cursor) (slice_set ahead from e) sink from
   lead_longer marks next ahead n cursor e from (steps, lead) up leaves leads some n_lt from_lt =
       let moved = slice_set next n cursor in
       let turned = slice_set ahead from e in
       let below : level marks from < level marks n = omega
-          (arith, up.up, ap (level marks) leaves, ap (level marks) leads) in
+      (arith, up.up, ap (level marks) leaves, ap (level marks) leads) in
       let here : slice_index turned from ≡ e = get_or-set_same ahead from e 0 from_lt in
       let rest =
       lead_kept marks marks next moved ahead turned steps n (λ m. refl)
       (λ m more. get_or-set_other next n m cursor 0 (λ same. absurd (omega (arith, ap (level marks) same))))
       (λ m more. get_or-set_other ahead from m e 0 (λ same. absurd (omega (arith, ap (level marks) same)))) lead in
       let stands : 0 < slice_index moved (head g e) = omega
-          (arith, ap (slice_index moved) leads, get_or-set_same next n cursor 0 n_lt) in
-      (suc steps, rw here (record { leaves = leaves; up = up; cursor = stands },
-          subst (λ (m : ℕ). IsLead g f marks moved turned sink steps m) (sym leads) rest))
+      (arith, ap (slice_index moved) leads, get_or-set_same next n cursor 0 n_lt) in (
+        suc steps,
+        rw here (
+          record { leaves = leaves; up = up; cursor = stands },
+          subst (λ (m : ℕ). IsLead g f marks moved turned sink steps m) (sym leads) rest,
+        ),
+      )
 
 -- a way up begins at a node of the network
 pub lead_known : (p : Phase) (n : ℕ) → LeadsFrom p n → n < p.tables.residual.network.now.graph.nodes
@@ -106,23 +120,23 @@ lead_known p n (suc steps, lead) =
 -- the entry that was read ahead of a node leads on up from it
 pub lead_read : (p : Phase) (n e : ℕ) → LeadsFrom p n → n ≢ p.tables.sink → e ≡ get_or p.ahead.items n e
     → IsAhead p.tables.residual.network.now.graph (slice_index p.tables.residual.flow.items) p.tables.search.marks.items
-        p.next.items n e × LeadsFrom p (head p.tables.residual.network.now.graph e)
+    p.next.items n e × LeadsFrom p (head p.tables.residual.network.now.graph e)
 lead_read p n e lead ne read =
     let t = p.tables in
     let is = get_or_read p.ahead.items n e (omega (arith, lead_known p n lead, p.places)) read 0 in
     rw is (lead_on t.residual.network.now.graph (slice_index t.residual.flow.items) t.sink t.search.marks.items
-        p.next.items p.ahead.items n ne lead)
+    p.next.items p.ahead.items n ne lead)
 
 -- a way up stands in other tables of the same task, flow and levels
 pub lead_same : (t u : Tables) (next ahead : List ℕ) (n : ℕ) → SameTask t u → u.residual.flow ≡ t.residual.flow
     → ((m : ℕ) → level u.search.marks.items m ≡ level t.search.marks.items m)
     → HasLead t.residual.network.now.graph (slice_index t.residual.flow.items) t.search.marks.items next ahead t.sink n
-        → HasLead u.residual.network.now.graph (slice_index u.residual.flow.items) u.search.marks.items next ahead
-        u.sink n
+    → HasLead u.residual.network.now.graph (slice_index u.residual.flow.items) u.search.marks.items next ahead
+    u.sink n
 lead_same t u next ahead n task flow levels lead =
     let marks = u.search.marks.items in
     rw (task.graph, task.sink, flow) (lead_marked t.residual.network.now.graph (slice_index t.residual.flow.items)
-        t.sink t.search.marks.items marks next ahead n levels lead)
+    t.sink t.search.marks.items marks next ahead n levels lead)
 
 -- a measure with a count and a height falls where the count does
 pub falls_back : (a b w x y : ℕ) → a < b → x < w → a * w + x < b * w + y

@@ -28,8 +28,11 @@ levelled_set g source n marks own levelled known some = record {
     | inl same ↦
         let set = ap (λ (m : Mark). m.level) (get_or-set_same marks n own no_mark (omega (arith, levelled.size))) in
         omega (arith, set, some, ap (level (slice_set marks n own)) same)
-    | inr ne ↦ omega (arith, ap (λ (m : Mark). m.level) (get_or-set_other marks n source own no_mark ne),
-        levelled.start)
+    | inr ne ↦ omega (
+      arith,
+      ap (λ (m : Mark). m.level) (get_or-set_other marks n source own no_mark ne),
+      levelled.start,
+    )
   ];
 }
 
@@ -42,7 +45,7 @@ tree_path g f source least marks marking (suc d) n small has = elim (cases_eq n 
   | inr ne ↦
       let reached = marking.reached n ne has in
       let before = tree_path g f source least marks marking d (tail g (mark marks n).via) (omega (arith, reached.above))
-          reached.reached in
+      reached.reached in
       (suc before.0, (reached, before.1))
 ]
 
@@ -69,9 +72,19 @@ path_back g f marks source amount n ne (suc steps, path) = (path.0, (steps, path
 pub path_on : (g : Graph) (f : Flow) (marks : List Mark) (source least amount n : ℕ) → IsReached g f marks least n
     → amount ≤ residual g f (mark marks n).via → HasPath g f marks source amount (tail g (mark marks n).via)
     → HasPath g f marks source amount n
-path_on g f marks source least amount n reached fits path =
-    (suc path.0, (record { known = reached.known; leads = reached.leads; reached = reached.reached;
-        above = reached.above; fits = fits }, path.1))
+path_on g f marks source least amount n reached fits path = (
+  suc path.0,
+  (
+    record {
+      known = reached.known;
+      leads = reached.leads;
+      reached = reached.reached;
+      above = reached.above;
+      fits = fits;
+    },
+    path.1,
+  ),
+)
 
 -- a path depends on the marks up to its last node's level
 path_kept : (g : Graph) (f : Flow) (marks marked : List Mark) (source amount steps n : ℕ)
@@ -88,10 +101,10 @@ path_kept g f marks marked source amount (suc steps) n same path =
 pub path_taken : (g : Graph) (f : Flow) (marks marked : List Mark) (source amount e to : ℕ)
     → level marks (tail g e) < level marks to → IsReached g f marked amount to → (mark marked to).via ≡ e
     → ((n : ℕ) → n ≢ to → mark marked n ≡ mark marks n) → HasPath g f marks source amount (tail g e)
-        → HasPath g f marked source amount to
+    → HasPath g f marked source amount to
 path_taken g f marks marked source amount e to below reached by others path =
     let kept = path_kept g f marks marked source amount path.0 (tail g e)
-        (λ m up. others m (λ same. absurd (omega (arith, ap (level marks) same)))) path.1 in
+    (λ m up. others m (λ same. absurd (omega (arith, ap (level marks) same)))) path.1 in
     (suc path.0, (reached, subst (λ (n : ℕ). IsPath g f marked source amount path.0 n) (sym (ap (tail g) by)) kept))
 
 -- a cursor is put at some of the entries of its node

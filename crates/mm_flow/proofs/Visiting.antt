@@ -40,7 +40,7 @@ goes_on_further first then last one two = record {
 -- the first node that waits is closed, and the others wait on
 pub search_next : (g : Graph) (f : Flow) (source least : ℕ) (marks : List Mark) (order : List ℕ) (found done node : ℕ)
     → IsSearch g f source least marks order found done → done < found → slice_index order done ≡ node
-        → IsClosed g f marks least node
+    → IsClosed g f marks least node
     → IsSearch g f source least marks order found (done + 1)
 search_next g f source least marks order found done node search ahead here closed = record {
   marking = search.marking;

@@ -47,15 +47,23 @@ module _ (q : Dumping) (a : Inflows) (f : Flow) (within : IsWithin (net_by q a) 
   pub come_within : (t s : ℕ) → 1 ≤ t → t ≤ length q.windows → s < length q.rows → come q f t s ≤ a t s
   unfolding excess
   come_within t s first last below =
-      omega (arith, excess_none, arcs_by_kind q a (λ k (arc : Arc). over arc.capacity (f k)),
-          term-le-grid (λ u k. come q f u k - a u k) (length q.windows) (length q.rows) t s first last below)
+      omega (
+        arith,
+        excess_none,
+        arcs_by_kind q a (λ k (arc : Arc). over arc.capacity (f k)),
+        term-le-grid (λ u k. come q f u k - a u k) (length q.windows) (length q.rows) t s first last below,
+      )
 
   -- a store holds no more than its size
   pub hold_within : (t s : ℕ) → 1 ≤ t → t ≤ length q.windows → s < length q.rows → hold q f t s ≤ size q s
   unfolding excess
   hold_within t s first last below =
-      omega (arith, excess_none, arcs_by_kind q a (λ k (arc : Arc). over arc.capacity (f k)),
-          term-le-grid (λ u k. hold q f u k - size q k) (length q.windows) (length q.rows) t s first last below)
+      omega (
+        arith,
+        excess_none,
+        arcs_by_kind q a (λ k (arc : Arc). over arc.capacity (f k)),
+        term-le-grid (λ u k. hold q f u k - size q k) (length q.windows) (length q.rows) t s first last below,
+      )
 
   -- how much more than a limit
   over_value : (o : Option ℕ) (n most : ℕ) → o ≡ Some most → over o n ≡ n - most
@@ -66,17 +74,25 @@ module _ (q : Dumping) (a : Inflows) (f : Flow) (within : IsWithin (net_by q a) 
       → pass_on q f t c ≤ most
   unfolding excess
   pass_on_within t c most first last below limited =
-      omega (arith, excess_none, arcs_by_kind q a (λ k (arc : Arc). over arc.capacity (f k)),
-          over_value (limit q c t) (pass_on q f t c) most limited,
-          term-le-grid (λ u k. over (limit q k u) (pass_on q f u k)) (length q.windows) (length q.limits) t c first last
-          below)
+      omega (
+        arith,
+        excess_none,
+        arcs_by_kind q a (λ k (arc : Arc). over arc.capacity (f k)),
+        over_value (limit q c t) (pass_on q f t c) most limited,
+        term-le-grid (λ u k. over (limit q k u) (pass_on q f u k)) (length q.windows) (length q.limits) t c first last
+            below,
+      )
 
   -- no more is sent than the window
   pub send_within : (t : ℕ) → 1 ≤ t → t ≤ length q.windows → send q f t ≤ window q t
   unfolding excess
   send_within t first last =
-      omega (arith, excess_none, arcs_by_kind q a (λ k (arc : Arc). over arc.capacity (f k)),
-          term-le-sum_by_range (λ u. send q f u - window q u) 1 (length q.windows) t first (omega arith))
+      omega (
+        arith,
+        excess_none,
+        arcs_by_kind q a (λ k (arc : Arc). over arc.capacity (f k)),
+        term-le-sum_by_range (λ u. send q f u - window q u) 1 (length q.windows) t first (omega arith),
+      )
 
 -- whether an arc leaves a side
 abbrev leads_out : Side → Arc → Bool
@@ -96,14 +112,14 @@ capacity_kinds q a side at_source at_sink =
     let r = length q.rows in
     let all = sum_by-filter (limit_of (net_by q a)) (leaves (net_by q a) side) (places (net_by q a)) in
     let comes = grid-same (kind_sum F (come_place q) (store_arc q a Come)) (λ t s. cond (is_on side (In t s)) 0 (a t s))
-        m r (λ t s _ _ _. from_inside (side SOURCE) (is_on side (In t s)) (a t s) at_source) in
+    m r (λ t s _ _ _. from_inside (side SOURCE) (is_on side (In t s)) (a t s) at_source) in
     let keeps = grid_zeros (kind_sum F (keep_place q) (store_arc q a Keep)) m r
-        (λ t s _ _ _. nothing (leads_out side (store_arc q a Keep t s))) in
+    (λ t s _ _ _. nothing (leads_out side (store_arc q a Keep t s))) in
     let takes = grid_zeros (kind_sum F (take_place q) (store_arc q a Take)) m r
-        (λ t s _ _ _. nothing (leads_out side (store_arc q a Take t s))) in
+    (λ t s _ _ _. nothing (leads_out side (store_arc q a Take t s))) in
     let sends = sum_by_range_same (λ t. F (window_place q t) (window_arc q t))
-        (λ t. cond (is_on side (Pass t)) (window q t) 0) 1 m
-        (λ t _ _. to_outside (is_on side (Pass t)) (side SINK) (window q t) at_sink) in
+    (λ t. cond (is_on side (Pass t)) (window q t) 0) 1 m
+    (λ t _ _. to_outside (is_on side (Pass t)) (side SINK) (window q t) at_sink) in
     omega (arith, all, arcs_by_kind q a F, comes, keeps, takes, sends)
   where
     -- an arc from the side leads out where its end is off the side
@@ -153,9 +169,13 @@ module _ (q : Dumping) (a : Inflows) (side : Side) (cut : IsCut (net_by q a) SOU
   unfolding unlimited_out
   keep_inside t s first last below inside =
       stays (is_on side (Out t s)) (is_on side (next_node q t s))
-      (omega (arith, unlimited_none, arcs_by_kind q a unlimited_out,
-          term-le-grid (λ u k. cond {A = ℕ} (is_on side (Out u k) && not (is_on side (next_node q u k))) 1 0)
-          (length q.windows) (length q.rows) t s first last below))
+      (omega (
+        arith,
+        unlimited_none,
+        arcs_by_kind q a unlimited_out,
+        term-le-grid (λ u k. cond {A = ℕ} (is_on side (Out u k) && not (is_on side (next_node q u k))) 1 0)
+            (length q.windows) (length q.rows) t s first last below,
+      ))
       inside
 
   -- its channel is on the side too
@@ -164,9 +184,13 @@ module _ (q : Dumping) (a : Inflows) (side : Side) (cut : IsCut (net_by q a) SOU
   unfolding unlimited_out
   take_inside t s first last below inside =
       stays (is_on side (Out t s)) (is_on side (Channel t (channel q s)))
-      (omega (arith, unlimited_none, arcs_by_kind q a unlimited_out,
-          term-le-grid (λ u k. cond {A = ℕ} (is_on side (Out u k) && not (is_on side (Channel u (channel q k)))) 1 0)
-          (length q.windows) (length q.rows) t s first last below))
+      (omega (
+        arith,
+        unlimited_none,
+        arcs_by_kind q a unlimited_out,
+        term-le-grid (λ u k. cond {A = ℕ} (is_on side (Out u k) && not (is_on side (Channel u (channel q k)))) 1 0)
+            (length q.windows) (length q.rows) t s first last below,
+      ))
       inside
 
   -- an arc that leads out is limited
@@ -182,7 +206,11 @@ module _ (q : Dumping) (a : Inflows) (side : Side) (cut : IsCut (net_by q a) SOU
   unfolding unlimited_out
   limit_outside t c first last below inside outside =
       has_limit (is_on side (Channel t c)) (is_on side (Pass t)) (is_some (limit q c t))
-      (omega (arith, unlimited_none, arcs_by_kind q a unlimited_out,
-          term-le-grid (λ u k. cond (is_on side (Channel u k) && not (is_on side (Pass u)))
-          (cond {A = ℕ} (is_some (limit q k u)) 0 1) 0) (length q.windows) (length q.limits) t c first last below))
+      (omega (
+        arith,
+        unlimited_none,
+        arcs_by_kind q a unlimited_out,
+        term-le-grid (λ u k. cond (is_on side (Channel u k) && not (is_on side (Pass u)))
+            (cond {A = ℕ} (is_some (limit q k u)) 0 1) 0) (length q.windows) (length q.limits) t c first last below,
+      ))
       inside outside

@@ -99,8 +99,11 @@ module _ (q : Dumping) (s : ℕ) where
   -- a run of one step
   coming_over-one : (j : ℕ) → j < length q.windows → coming_over (suc j) (suc j) ≡ inflow q (suc j) s
   unfolding coming_over
-  coming_over-one j within = omega (arith, arrived_over-suc (suc j) j (omega arith) within,
-      arrived_over-none (suc j) j (omega arith))
+  coming_over-one j within = omega (
+    arith,
+    arrived_over-suc (suc j) j (omega arith) within,
+    arrived_over-none (suc j) j (omega arith),
+  )
 
   -- how a run's coming is written in a cut
   pub coming_over_is : (i j : ℕ) → cond (eqb i 1) (start q s) 0 + sum_by (arrivals q s)
@@ -128,9 +131,12 @@ module _ (q : Dumping) (s : ℕ) where
     unfolding pending
     run_so_far zero within =
         let first : first_step side s (suc zero) ≡ suc zero =
-            elim (cases_Bool (goes_on side s zero)) [ inl on ↦ rw on refl | inr off ↦ rw off refl ] in
-        omega (arith, ap (λ i. cond (is_on side (In (suc zero) s)) (coming_over i (suc zero)) 0) first,
-            ap (λ n. cond (is_on side (In (suc zero) s)) n 0) (coming_over-one zero within))
+        elim (cases_Bool (goes_on side s zero)) [ inl on ↦ rw on refl | inr off ↦ rw off refl ] in
+        omega (
+          arith,
+          ap (λ i. cond (is_on side (In (suc zero) s)) (coming_over i (suc zero)) 0) first,
+          ap (λ n. cond (is_on side (In (suc zero) s)) n 0) (coming_over-one zero within),
+        )
     run_so_far (suc t) within = elim (cases_Bool (goes_on side s (suc t))) [
       | inl on ↦
           let parts = and_parts (is_on side (In (suc t) s)) (is_on side (Out (suc t) s)) on in
@@ -138,8 +144,8 @@ module _ (q : Dumping) (s : ℕ) where
           let first : first_step side s (suc (suc t)) ≡ first_step side s (suc t) = rw on refl in
           let low : first_step side s (suc t) ≤ suc (suc t) = omega (arith, first_step-high side s t) in
           let open_run : cond (goes_on side s (suc t)) (coming_over (first_step side s (suc t)) (suc t)) 0
-              ≡ coming_over (first_step side s (suc t)) (suc t) =
-              cond-true (goes_on side s (suc t)) (coming_over (first_step side s (suc t)) (suc t)) 0 on in
+          ≡ coming_over (first_step side s (suc t)) (suc t) =
+          cond-true (goes_on side s (suc t)) (coming_over (first_step side s (suc t)) (suc t)) 0 on in
           omega (
             arith,
             cond-true (is_on side (In (suc (suc t)) s)) (coming_over (first_step side s (suc (suc t))) (suc (suc t))) 0

@@ -22,15 +22,22 @@ use Rattle.mm_planner.proofs.Conserved.{out_conserved}
 pub leave_within : (q : Dumping) (f : Flow) (value : ℕ) → IsDumping q → IsFlow (net q) SOURCE SINK f value → (t s : ℕ)
     → 1 ≤ t → t ≤ length q.windows → s < length q.rows → leave q f t s ≤ size q s
 leave_within q f value is flow t s first last below =
-    omega (arith, out_conserved q (inflow q) is f value flow t s first last below,
-        hold_within q (inflow q) f flow.within t s first last below)
+    omega (
+      arith,
+      out_conserved q (inflow q) is f value flow t s first last below,
+      hold_within q (inflow q) f flow.within t s first last below,
+    )
 
 -- what is taken is within the range of blocks
 pub taken_within : (q : Dumping) (solved : Solved) → IsDumping q → IsSolved (net q) SOURCE SINK solved → (t s : ℕ)
     → IsStep q t → s < length q.rows → slice_index solved.flow.items (take_place q t s) ≤ MAX_BLOCKS
 taken_within q solved is are t s step below =
-    omega (arith, leave_within q (slice_index solved.flow.items) solved.value is are.solution.flow t s step.first
-        step.last below, (All-get_or IsStoreRow q.rows s no_row below is.stores.each).size)
+    omega (
+      arith,
+      leave_within q (slice_index solved.flow.items) solved.value is are.solution.flow t s step.first
+          step.last below,
+      (All-get_or IsStoreRow q.rows s no_row below is.stores.each).size,
+    )
 
 -- one more amount of a step
 pub taken_more : (q : Dumping) (f : Flow) (old new : Table) (t s n : ℕ) → HasShape q old → IsStep q t
@@ -43,8 +50,11 @@ taken_more q f old new t s n shape step below so_far change is = record {
   here = λ r more. elim (cases_eq r s) [
     | inl same ↦ subst (λ k. amount new k t ≡ f (take_place q t k)) (sym same) (change.here ∙ is)
     | inr other ↦ change.elsewhere r t
-        (record { store = omega (arith, shape.stores); first = step.first;
-            last = omega (arith, shape.steps, step.last) })
+        (record {
+          store = omega (arith, shape.stores);
+          first = step.first;
+          last = omega (arith, shape.steps, step.last);
+        })
         (λ same. absurd (other same)) ∙ so_far.here r (omega (arith, other))
   ];
 }

@@ -11,8 +11,12 @@ sum_more f n zero =
     omega (arith, ap (λ k. sum_by f (range_with_len 0 k)) same)
 sum_more f n (suc d) =
     let same : n + suc d ≡ n + d + 1 = omega arith in
-    omega (arith, sum_more f n d, sum_by_range_more f 0 (n + d) (n + d) (omega arith),
-        ap (λ k. sum_by f (range_with_len 0 k)) same)
+    omega (
+      arith,
+      sum_more f n d,
+      sum_by_range_more f 0 (n + d) (n + d) (omega arith),
+      ap (λ k. sum_by f (range_with_len 0 k)) same,
+    )
 
 -- a sum over more numbers
 sum-wider : (f : ℕ → ℕ) (n m : ℕ) → n ≤ m → sum_by f (range_with_len 0 n) ≤ sum_by f (range_with_len 0 m)
@@ -28,9 +32,13 @@ sum_nothing f n zero none =
     ap (λ k. sum_by f (range_with_len 0 k)) same
 sum_nothing f n (suc d) none =
     let same : n + suc d ≡ n + d + 1 = omega arith in
-    omega (arith, sum_nothing f n d (λ k past below. none k past (omega arith)),
-        sum_by_range_more f 0 (n + d) (n + d) (omega arith), none (n + d) (omega arith) (omega arith),
-        ap (λ k. sum_by f (range_with_len 0 k)) same)
+    omega (
+      arith,
+      sum_nothing f n d (λ k past below. none k past (omega arith)),
+      sum_by_range_more f 0 (n + d) (n + d) (omega arith),
+      none (n + d) (omega arith) (omega arith),
+      ap (λ k. sum_by f (range_with_len 0 k)) same,
+    )
 
 -- a table of more columns
 pub grid-wider : (h : ℕ → ℕ → ℕ) (m n r : ℕ) → n ≤ r → grid h m n ≤ grid h m r
@@ -44,8 +52,11 @@ grid-narrow h m n r few none =
     sum_by_range_same (λ t. sum_by (h t) (range_with_len 0 r)) (λ t. sum_by (h t) (range_with_len 0 n)) 1 m
     (λ t low high.
     let same : n + (r - n) ≡ r = omega (arith, few) in
-    omega (arith, sum_nothing (h t) n (r - n) (λ s past below. none t s low (omega arith) (omega (arith, few)) past),
-        ap (λ k. sum_by (h t) (range_with_len 0 k)) same))
+    omega (
+      arith,
+      sum_nothing (h t) n (r - n) (λ s past below. none t s low (omega arith) (omega (arith, few)) past),
+      ap (λ k. sum_by (h t) (range_with_len 0 k)) same,
+    ))
 
 -- a table whose numbers are no greater
 pub grid-le : (h j : ℕ → ℕ → ℕ) (m n : ℕ) → ((t s : ℕ) → 1 ≤ t → t ≤ m → s < n → h t s ≤ j t s)
