@@ -1,6 +1,5 @@
 -- What the capacities of the arcs of each kind say of a flow and of a side.
-use Rattle.std.proofs.Common.{◌≡◌, ℕ, ◌+◌, ◌-◌, ◌<◌, ◌≤◌, Bool, true, false, cond, not, ◌&&◌, Option, Some, None}
-use Rattle.std.proofs.Common.{length, refl, sym, ap, arith}
+use Rattle.std.proofs.Common.{◌≡◌, ℕ, ◌+◌, ◌-◌, ◌<◌, ◌≤◌, Bool, true, false, cond, not, ◌&&◌, Option, Some, None, length, refl, sym, ap, arith}
 use Rattle.std.specs.Prelude.{is_some, unwrap_or, IsSome}
 use Rattle.std.specs.List.{sum_by, range_with_len}
 use Rattle.std.proofs.lemmas.Bool.{false≢true}
@@ -40,86 +39,52 @@ module _ (q : Dumping) (a : Inflows) (f : Flow) (within : IsWithin (net_by q a) 
   -- a flow within all capacities carries nothing more
   excess_none : sum_by (λ k. excess k (arc (net_by q a) k)) (places (net_by q a)) ≡ 0
   unfolding excess
-  excess_none = sum_by_range_zeros (λ k. over (arc (net_by q a) k).capacity (f k)) 0 (length (net_by q a).arcs)
-      (λ k _ _. over_none (arc (net_by q a) k).capacity (f k) (within k))
+  excess_none = sum_by_range_zeros (λ k. over (arc (net_by q a) k).capacity (f k)) 0 (length (net_by q a).arcs) (λ k _ _. over_none (arc (net_by q a) k).capacity (f k) (within k))
 
   -- no more comes to a store than its inflow
   pub come_within : (t s : ℕ) → 1 ≤ t → t ≤ length q.windows → s < length q.rows → come q f t s ≤ a t s
   unfolding excess
   come_within t s first last below =
-      omega (
-        arith,
-        excess_none,
-        arcs_by_kind q a (λ k (arc : Arc). over arc.capacity (f k)),
-        term-le-grid (λ u k. come q f u k - a u k) (length q.windows) (length q.rows) t s first last below,
-      )
+      omega (arith, excess_none, arcs_by_kind q a (λ k (arc : Arc). over arc.capacity (f k)), term-le-grid (λ u k. come q f u k - a u k) (length q.windows) (length q.rows) t s first last below)
 
   -- a store holds no more than its size
   pub hold_within : (t s : ℕ) → 1 ≤ t → t ≤ length q.windows → s < length q.rows → hold q f t s ≤ size q s
   unfolding excess
   hold_within t s first last below =
-      omega (
-        arith,
-        excess_none,
-        arcs_by_kind q a (λ k (arc : Arc). over arc.capacity (f k)),
-        term-le-grid (λ u k. hold q f u k - size q k) (length q.windows) (length q.rows) t s first last below,
-      )
+      omega (arith, excess_none, arcs_by_kind q a (λ k (arc : Arc). over arc.capacity (f k)), term-le-grid (λ u k. hold q f u k - size q k) (length q.windows) (length q.rows) t s first last below)
 
   -- how much more than a limit
   over_value : (o : Option ℕ) (n most : ℕ) → o ≡ Some most → over o n ≡ n - most
   over_value o n most e = ap (λ p. over p n) e
 
   -- no more passes a channel than its limit
-  pub pass_on_within : (t c most : ℕ) → 1 ≤ t → t ≤ length q.windows → c < length q.limits → limit q c t ≡ Some most
-      → pass_on q f t c ≤ most
+  pub pass_on_within : (t c most : ℕ) → 1 ≤ t → t ≤ length q.windows → c < length q.limits → limit q c t ≡ Some most → pass_on q f t c ≤ most
   unfolding excess
   pass_on_within t c most first last below limited =
-      omega (
-        arith,
-        excess_none,
-        arcs_by_kind q a (λ k (arc : Arc). over arc.capacity (f k)),
-        over_value (limit q c t) (pass_on q f t c) most limited,
-        term-le-grid (λ u k. over (limit q k u) (pass_on q f u k)) (length q.windows) (length q.limits) t c first last
-            below,
-      )
+      omega (arith, excess_none, arcs_by_kind q a (λ k (arc : Arc). over arc.capacity (f k)), over_value (limit q c t) (pass_on q f t c) most limited, term-le-grid (λ u k. over (limit q k u) (pass_on q f u k)) (length q.windows) (length q.limits) t c first last below)
 
   -- no more is sent than the window
   pub send_within : (t : ℕ) → 1 ≤ t → t ≤ length q.windows → send q f t ≤ window q t
   unfolding excess
   send_within t first last =
-      omega (
-        arith,
-        excess_none,
-        arcs_by_kind q a (λ k (arc : Arc). over arc.capacity (f k)),
-        term-le-sum_by_range (λ u. send q f u - window q u) 1 (length q.windows) t first (omega arith),
-      )
+      omega (arith, excess_none, arcs_by_kind q a (λ k (arc : Arc). over arc.capacity (f k)), term-le-sum_by_range (λ u. send q f u - window q u) 1 (length q.windows) t first (omega arith))
 
 -- whether an arc leaves a side
 abbrev leads_out : Side → Arc → Bool
 leads_out side a = side a.from && not (side a.to)
 
 -- the capacity of a side, kind by kind
-pub capacity_kinds : (q : Dumping) (a : Inflows) (side : Side) → side SOURCE ≡ true → side SINK ≡ false
-    → capacity_of (net_by q a) side ≡ grid (λ t s. cond (is_on side (In t s)) 0 (a t s)) (length q.windows)
-    (length q.rows) + grid (λ t s. cond (is_on side (In t s) && not (is_on side (Out t s))) (size q s) 0)
-    (length q.windows) (length q.rows) + grid (λ t c. cond (is_on side (Channel t c) && not (is_on side (Pass t)))
-    (limit_or_0 q t c) 0) (length q.windows) (length q.limits) + sum_by (λ t. cond (is_on side (Pass t)) (window q t) 0)
-    (range_with_len 1 (length q.windows))
+pub capacity_kinds : (q : Dumping) (a : Inflows) (side : Side) → side SOURCE ≡ true → side SINK ≡ false → capacity_of (net_by q a) side ≡ grid (λ t s. cond (is_on side (In t s)) 0 (a t s)) (length q.windows) (length q.rows) + grid (λ t s. cond (is_on side (In t s) && not (is_on side (Out t s))) (size q s) 0) (length q.windows) (length q.rows) + grid (λ t c. cond (is_on side (Channel t c) && not (is_on side (Pass t))) (limit_or_0 q t c) 0) (length q.windows) (length q.limits) + sum_by (λ t. cond (is_on side (Pass t)) (window q t) 0) (range_with_len 1 (length q.windows))
 unfolding capacity_of
 capacity_kinds q a side at_source at_sink =
     let F : ℕ → Arc → ℕ = λ k arc. cond (leads_out side arc) (unwrap_or arc.capacity 0) 0 in
     let m = length q.windows in
     let r = length q.rows in
     let all = sum_by-filter (limit_of (net_by q a)) (leaves (net_by q a) side) (places (net_by q a)) in
-    let comes = grid-same (kind_sum F (come_place q) (store_arc q a Come)) (λ t s. cond (is_on side (In t s)) 0 (a t s))
-    m r (λ t s _ _ _. from_inside (side SOURCE) (is_on side (In t s)) (a t s) at_source) in
-    let keeps = grid_zeros (kind_sum F (keep_place q) (store_arc q a Keep)) m r
-    (λ t s _ _ _. nothing (leads_out side (store_arc q a Keep t s))) in
-    let takes = grid_zeros (kind_sum F (take_place q) (store_arc q a Take)) m r
-    (λ t s _ _ _. nothing (leads_out side (store_arc q a Take t s))) in
-    let sends = sum_by_range_same (λ t. F (window_place q t) (window_arc q t))
-    (λ t. cond (is_on side (Pass t)) (window q t) 0) 1 m
-    (λ t _ _. to_outside (is_on side (Pass t)) (side SINK) (window q t) at_sink) in
+    let comes = grid-same (kind_sum F (come_place q) (store_arc q a Come)) (λ t s. cond (is_on side (In t s)) 0 (a t s)) m r (λ t s _ _ _. from_inside (side SOURCE) (is_on side (In t s)) (a t s) at_source) in
+    let keeps = grid_zeros (kind_sum F (keep_place q) (store_arc q a Keep)) m r (λ t s _ _ _. nothing (leads_out side (store_arc q a Keep t s))) in
+    let takes = grid_zeros (kind_sum F (take_place q) (store_arc q a Take)) m r (λ t s _ _ _. nothing (leads_out side (store_arc q a Take t s))) in
+    let sends = sum_by_range_same (λ t. F (window_place q t) (window_arc q t)) (λ t. cond (is_on side (Pass t)) (window q t) 0) 1 m (λ t _ _. to_outside (is_on side (Pass t)) (side SINK) (window q t) at_sink) in
     omega (arith, all, arcs_by_kind q a F, comes, keeps, takes, sends)
   where
     -- an arc from the side leads out where its end is off the side
@@ -153,9 +118,7 @@ module _ (q : Dumping) (a : Inflows) (side : Side) (cut : IsCut (net_by q a) SOU
   -- no unlimited arc leaves the side of a cut
   unlimited_none : sum_by (λ k. unlimited_out k (arc (net_by q a) k)) (places (net_by q a)) ≡ 0
   unfolding unlimited_out
-  unlimited_none = sum_by_range_zeros (λ k. unlimited_out k (arc (net_by q a) k)) 0 (length (net_by q a).arcs)
-      (λ k _ below. one_out (leaves (net_by q a) side k) (is_some (arc (net_by q a) k).capacity)
-      (cut.limited k (omega arith)))
+  unlimited_none = sum_by_range_zeros (λ k. unlimited_out k (arc (net_by q a) k)) 0 (length (net_by q a).arcs) (λ k _ below. one_out (leaves (net_by q a) side k) (is_some (arc (net_by q a) k).capacity) (cut.limited k (omega arith)))
 
   -- an arc that does not lead out ends where it begins
   stays : (a b : Bool) → cond {A = ℕ} (a && not b) 1 0 ≡ 0 → a ≡ true → b ≡ true
@@ -164,33 +127,19 @@ module _ (q : Dumping) (a : Inflows) (side : Side) (cut : IsCut (net_by q a) SOU
   stays false b none inside = absurd (false≢true inside)
 
   -- where a store's blocks are kept is on the side where what it holds is
-  pub keep_inside : (t s : ℕ) → 1 ≤ t → t ≤ length q.windows → s < length q.rows → is_on side (Out t s) ≡ true
-      → is_on side (next_node q t s) ≡ true
+  pub keep_inside : (t s : ℕ) → 1 ≤ t → t ≤ length q.windows → s < length q.rows → is_on side (Out t s) ≡ true → is_on side (next_node q t s) ≡ true
   unfolding unlimited_out
   keep_inside t s first last below inside =
       stays (is_on side (Out t s)) (is_on side (next_node q t s))
-      (omega (
-        arith,
-        unlimited_none,
-        arcs_by_kind q a unlimited_out,
-        term-le-grid (λ u k. cond {A = ℕ} (is_on side (Out u k) && not (is_on side (next_node q u k))) 1 0)
-            (length q.windows) (length q.rows) t s first last below,
-      ))
+      (omega (arith, unlimited_none, arcs_by_kind q a unlimited_out, term-le-grid (λ u k. cond {A = ℕ} (is_on side (Out u k) && not (is_on side (next_node q u k))) 1 0) (length q.windows) (length q.rows) t s first last below))
       inside
 
-  -- its channel is on the side too
-  pub take_inside : (t s : ℕ) → 1 ≤ t → t ≤ length q.windows → s < length q.rows → is_on side (Out t s) ≡ true
-      → is_on side (Channel t (channel q s)) ≡ true
+  -- so is its channel
+  pub take_inside : (t s : ℕ) → 1 ≤ t → t ≤ length q.windows → s < length q.rows → is_on side (Out t s) ≡ true → is_on side (Channel t (channel q s)) ≡ true
   unfolding unlimited_out
   take_inside t s first last below inside =
       stays (is_on side (Out t s)) (is_on side (Channel t (channel q s)))
-      (omega (
-        arith,
-        unlimited_none,
-        arcs_by_kind q a unlimited_out,
-        term-le-grid (λ u k. cond {A = ℕ} (is_on side (Out u k) && not (is_on side (Channel u (channel q k)))) 1 0)
-            (length q.windows) (length q.rows) t s first last below,
-      ))
+      (omega (arith, unlimited_none, arcs_by_kind q a unlimited_out, term-le-grid (λ u k. cond {A = ℕ} (is_on side (Out u k) && not (is_on side (Channel u (channel q k)))) 1 0) (length q.windows) (length q.rows) t s first last below))
       inside
 
   -- an arc that leads out is limited
@@ -201,16 +150,9 @@ module _ (q : Dumping) (a : Inflows) (side : Side) (cut : IsCut (net_by q a) SOU
   has_limit false b c none inside outside = absurd (false≢true inside)
 
   -- a channel on the side whose pass is not has a limit
-  pub limit_outside : (t c : ℕ) → 1 ≤ t → t ≤ length q.windows → c < length q.limits → is_on side (Channel t c) ≡ true
-      → is_on side (Pass t) ≡ false → IsSome (limit q c t)
+  pub limit_outside : (t c : ℕ) → 1 ≤ t → t ≤ length q.windows → c < length q.limits → is_on side (Channel t c) ≡ true → is_on side (Pass t) ≡ false → IsSome (limit q c t)
   unfolding unlimited_out
   limit_outside t c first last below inside outside =
       has_limit (is_on side (Channel t c)) (is_on side (Pass t)) (is_some (limit q c t))
-      (omega (
-        arith,
-        unlimited_none,
-        arcs_by_kind q a unlimited_out,
-        term-le-grid (λ u k. cond (is_on side (Channel u k) && not (is_on side (Pass u)))
-            (cond {A = ℕ} (is_some (limit q k u)) 0 1) 0) (length q.windows) (length q.limits) t c first last below,
-      ))
+      (omega (arith, unlimited_none, arcs_by_kind q a unlimited_out, term-le-grid (λ u k. cond (is_on side (Channel u k) && not (is_on side (Pass u))) (cond {A = ℕ} (is_some (limit q k u)) 0 1) 0) (length q.windows) (length q.limits) t c first last below))
       inside outside
