@@ -36,11 +36,9 @@ lone_list {X} ([] ∷ lists) few =
     beside (suc other) seat apart none = none other (λ same. apart (ap suc same))
 lone_list {X} ((x ∷ xs) ∷ lists) few =
     let rest : List X = flat_map (λ (ys : List X). ys) lists in
-    let none : rest ≡ [] = nil_from_length rest (omega (arith, few, length-append xs rest)) in (
-      0,
-      ap (λ (ys : List X). x ∷ ys) (sym (append-nil xs)) ∙ ap (λ (ys : List X). (x ∷ xs) ++ ys) (sym none),
-      λ other apart. beside other apart (ap length none),
-    )
+    let none : rest ≡ [] = nil_from_length rest (omega (arith, few, length-append xs rest)) in
+    let all = ap (λ (ys : List X). x ∷ ys) (sym (append-nil xs)) ∙ ap (λ (ys : List X). (x ∷ xs) ++ ys) (sym none) in
+    (0, all, λ other apart. beside other apart (ap length none))
   where
     all_empty : (lists : List (List X)) (other : ℕ) → length (flat_map (λ (ys : List X). ys) lists) ≡ 0
         → get_or lists other [] ≡ []

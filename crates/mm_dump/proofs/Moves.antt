@@ -65,15 +65,11 @@ others_idle : {items : List ℕ} {views : List QueueView} (pass : ℕ) (v : Queu
     → All (λ (u : QueueView). (u.parts ≡ 0) × (u.taken ≡ [])) (set views pass nothing)
 others_idle {items} {views} pass v rule at all i d inside =
     let others : List QueueView = set views pass nothing in
+    let total = total_set parts_of views pass v nothing at in
     let known = All-set (Knows rule.pushed) views pass nothing
     (record { some_part = λ some. absurd (omega arith); no_part = λ none. refl }) rule.known in
-    let none : (get_or others i d).parts ≡ 0 = omega (
-      arith,
-      get_or-le-sum_by parts_of others i d inside,
-      total_set parts_of views pass v nothing at,
-      rule.parts,
-      all,
-    ) in
+    let none : (get_or others i d).parts ≡ 0 =
+    omega (arith, get_or-le-sum_by parts_of others i d inside, total, rule.parts, all) in
     (none, (known i d inside).no_part none)
 
 -- and it has taken all that were
@@ -81,13 +77,9 @@ took_all : {items : List ℕ} {views : List QueueView} (pass : ℕ) (v : QueueVi
     → get_elem? views pass ≡ some v → v.parts ≡ 1024
     → (h : ℕ → ℕ) → sum_by h (range_with_len 0 rule.next) ≡ took h v
 took_all {items} {views} pass v rule at all h =
-    omega (
-      arith,
-      rule.each h,
-      total_set (took h) views pass v nothing at,
-      sum_by_zeros (took h) (set views pass nothing)
-          (λ i d inside. ap (sum_by h) (others_idle pass v rule at all i d inside).1),
-    )
+    let idle = sum_by_zeros (took h) (set views pass nothing)
+    (λ i d inside. ap (sum_by h) (others_idle pass v rule at all i d inside).1) in
+    omega (arith, rule.each h, total_set (took h) views pass v nothing at, idle)
 
 -- how many numbers there are
 counted : (next : ℕ) → sum_by (λ (k : ℕ). 1) (range_with_len 0 next) ≡ next
@@ -119,13 +111,8 @@ takes pass v some_part x items views rule at =
     ∙ ap (range_with_len (rule.next + 1)) less in
     let mine : sum_by (took (λ k. 1)) (set views pass nothing) + took (λ k. 1) v ≡ sum_by (took (λ k. 1)) views + 0 =
     total_set (took (λ k. 1)) views pass v nothing at in
-    let before : length v.taken ≤ rule.next = omega (
-      arith,
-      mine,
-      rule.each (λ k. 1),
-      counted rule.next,
-      sum_by_ones v.taken,
-    ) in (
+    let before : length v.taken ≤ rule.next =
+    omega (arith, mine, rule.each (λ k. 1), counted rule.next, sum_by_ones v.taken) in (
       w,
       record {
         pushed = rule.pushed;
@@ -133,14 +120,10 @@ takes pass v some_part x items views rule at =
         within = omega (arith, first.0);
         queued = rest;
         parts = omega (arith, total_set parts_of views pass v w at, rule.parts);
-        each = λ h. omega (
-          arith,
-          total_set (took h) views pass v w at,
-          rule.each h,
-          sum_by_push h v.taken x,
-          sum_by_range_more h 0 rule.next rule.next (omega arith),
-          ap h number,
-        );
+        each = λ h.
+            let more = sum_by_range_more h 0 rule.next rule.next (omega arith) in
+            let changed = total_set (took h) views pass v w at in
+            omega (arith, changed, rule.each h, sum_by_push h v.taken x, more, ap h number);
         known = All-set (Knows rule.pushed) views pass w (knows_part rule.pushed w count some_part) rule.known;
       },
       record { within = omega (arith, first.0); taken = refl; few = omega (arith, first.0, before) },
@@ -159,18 +142,10 @@ forks pass v parts items views rule at =
       next = rule.next;
       within = rule.within;
       queued = rule.queued;
-      parts = omega (
-        arith,
-        total_set parts_of views pass v l at,
-        rule.parts,
-        sum_by_push parts_of (set views pass l) r,
-      );
-      each = λ h. omega (
-        arith,
-        total_set (took h) views pass v l at,
-        rule.each h,
-        sum_by_push (took h) (set views pass l) r,
-      );
+      parts =
+          omega (arith, total_set parts_of views pass v l at, rule.parts, sum_by_push parts_of (set views pass l) r);
+      each = λ h.
+          omega (arith, total_set (took h) views pass v l at, rule.each h, sum_by_push (took h) (set views pass l) r);
       known = All-push (Knows rule.pushed) (set views pass l) r
           (All-set (Knows rule.pushed) views pass l (knows_part rule.pushed l count (omega arith)) rule.known)
           (knows_part rule.pushed r count (omega arith));
@@ -183,6 +158,9 @@ pub merges : (pass : ℕ) (v : QueueView) (other : ℕ) (w : QueueView) → 0 < 
 merges pass v other w some_part items views rule at apart there =
     let both = queue_view (v.parts + w.parts) v.pushed (v.taken ++ w.taken) in
     let spent = queue_view 0 0 [] in
+    let changed : (f : QueueView → ℕ) → sum_by f (set (set views pass both) other spent) + f w + f v
+    ≡ sum_by f views + f both + f spent = λ f.
+    omega (arith, total_set f views pass v both at, total_set f (set views pass both) other w spent there) in
     let known = known_at (Knows rule.pushed) views pass v rule.known at in
     let count : v.pushed ≡ rule.pushed = known.some_part some_part in
     record {
@@ -190,19 +168,8 @@ merges pass v other w some_part items views rule at apart there =
       next = rule.next;
       within = rule.within;
       queued = rule.queued;
-      parts = omega (
-        arith,
-        total_set parts_of views pass v both at,
-        total_set parts_of (set views pass both) other w spent there,
-        rule.parts,
-      );
-      each = λ h. omega (
-        arith,
-        total_set (took h) views pass v both at,
-        total_set (took h) (set views pass both) other w spent there,
-        rule.each h,
-        sum_by-append h v.taken w.taken,
-      );
+      parts = omega (arith, changed parts_of, rule.parts);
+      each = λ h. omega (arith, changed (took h), rule.each h, sum_by-append h v.taken w.taken);
       known = All-set (Knows rule.pushed) (set views pass both) other spent
           (record { some_part = λ some. absurd (omega arith); no_part = λ none. refl })
           (All-set (Knows rule.pushed) views pass both (knows_part rule.pushed both count (omega arith)) rule.known);
@@ -216,15 +183,9 @@ learns pass v items views rule at =
     ∙ length-range_with_len rule.next (rule.pushed - rule.next) in
     record {
       room = λ has. omega (arith, known.some_part has, queued);
-      counted = λ all. omega (
-        arith,
-        rule.within,
-        known.some_part (omega arith),
-        took_all pass v rule at all (λ (k : ℕ). 1),
-        counted rule.next,
-        sum_by_ones v.taken,
-        queued,
-      );
+      counted = λ all.
+          let taken = took_all pass v rule at all (λ (k : ℕ). 1) ∙ sum_by_ones v.taken in
+          omega (arith, rule.within, known.some_part (omega arith), taken, counted rule.next, queued);
       next = rule.next;
       each = λ all. took_all pass v rule at all;
     }
@@ -257,20 +218,11 @@ pushes room pass v x all number none items views within rule at =
     from_0 count =
         elim (cases_lt 0 x) [
           | inl has ↦
+              let taken = took_all pass v rule at all (λ (k : ℕ). 1) ∙ sum_by_ones v.taken in
               let start : rule.next ≡ 0 =
-              omega (
-                arith,
-                took_all pass v rule at all (λ (k : ℕ). 1),
-                counted rule.next,
-                sum_by_ones v.taken,
-                ap length (none has),
-              ) in
-              let many : rule.pushed - rule.next ≡ x = omega (
-                arith,
-                ap length rule.queued,
-                length-range_with_len rule.next (rule.pushed - rule.next),
-                count,
-              ) in
+              omega (arith, taken, counted rule.next, ap length (none has)) in
+              let many : rule.pushed - rule.next ≡ x =
+              omega (arith, ap length rule.queued, length-range_with_len rule.next (rule.pushed - rule.next), count) in
               rule.queued ∙ (λ i. range_with_len (start i) (many i))
           | inr first ↦
               let start : 0 ≡ x = omega (arith, first) in

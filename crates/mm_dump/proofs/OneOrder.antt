@@ -1,6 +1,6 @@
 -- One order carried out: its begin, its packets, and its end.
 use Rattle.mm_dump.proofs.Words.{◌≡◌, ℕ, List, [], ◌∷◌, ◌++◌, map, refl, sym, ap, ◌∙◌, append_assoc, arith}
-use Rattle.mm_dump.proofs.Words.{length-append, ◌+◌, ◌<◌, ◌≤◌, false, is_some, length, subst, Some, Ok, Option, None}
+use Rattle.mm_dump.proofs.Words.{length-append, ◌+◌, ◌<◌, ◌≤◌, length, subst, Some, Ok, Option, None}
 use Rattle.mm_dump.proofs.Words.{append-nil, map-append, Stored, Entry, Event, Reply, Begin, Next, Abort, Delete, State}
 use Rattle.mm_dump.proofs.Words.{given, last_time, begun, ended, removed, entry, clock_end, PortView, with_call}
 use Rattle.mm_dump.proofs.Words.{OrderStore, Progress, CallsOnce, Deletes, Advances, Ends, Retrieves, with_calls}
@@ -175,12 +175,10 @@ module _ (store : OrderStore) (many : ℕ) (last : Option ℕ) (a b : Progress) 
 deletion : (place seat : ℕ) (gave : List Stored) (last : Option ℕ) (old new : PortView) → old.number ≡ seat
     → last ≡ last_of gave → Deletes place last old new
     → (calls : List Entry) × (new ≡ with_calls place old calls)
-    × ((s : State) → is_some s.retrieval ≡ false → IsLegal s calls → (count : ℕ) × (calls ≡ removed seat gave count))
-deletion place seat [] None old new at is none = (
-  [],
-  none ∙ ap (λ (list : List (ℕ × Entry)). record old { list = list }) (sym (append-nil old.list)),
-  λ s off legal. (0, refl),
-)
+    × ((s : State) → s.retrieval ≡ None → IsLegal s calls → (count : ℕ) × (calls ≡ removed seat gave count))
+deletion place seat [] None old new at is none =
+    let same = ap (λ (list : List (ℕ × Entry)). record old { list = list }) (sym (append-nil old.list)) in
+    ([], none ∙ same, λ s off legal. (0, refl))
 deletion place seat (p ∷ gave) (Some limit) old new at is once =
     let same : limit ≡ last_time p.time gave = cc is in (
       entry old.number (Delete limit) once.reply ∷ [],

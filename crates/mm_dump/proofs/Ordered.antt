@@ -23,24 +23,12 @@ weighs_first f orders (suc next) =
     elim (cases_lt next (length orders)) [
       | inl less ↦
           let one : weight_of orders f next ≡ f (order_at orders next) = ap chosen (lt-ltb next (length orders) less) in
-          omega (
-            arith,
-            here,
-            rest,
-            one,
-            sum_by_more f orders next (record { place = 0; amount = 0 }) less,
-            ap (λ (n : ℕ). sum_by f (take n orders)) more,
-          )
+          let last = sum_by_more f orders next (record { place = 0; amount = 0 }) less in
+          omega (arith, here, rest, one, last, ap (λ (n : ℕ). sum_by f (take n orders)) more)
       | inr past ↦
           let none : weight_of orders f next ≡ 0 = ap chosen (le-ltb next (length orders) past) in
-          omega (
-            arith,
-            here,
-            rest,
-            none,
-            ap (sum_by f) (take_all next orders past),
-            ap (sum_by f) (take_all (suc next) orders (omega arith)),
-          )
+          let all = take_all next orders past ∙ sym (take_all (suc next) orders (omega arith)) in
+          omega (arith, here, rest, none, ap (sum_by f) all)
     ]
 
 -- whether an order names a place

@@ -1,7 +1,7 @@
 -- What a step's dump leaves, from what was carried out over each link and what became of the stores.
 use Rattle.mm_dump.proofs.Words.{◌≡◌, ℕ, ◌+◌, ◌<◌, ◌≤◌, ◌==◌, List, [], ◌∷◌, ◌++◌, length, get_or, map, take, All}
 use Rattle.mm_dump.proofs.Words.{Contains, refl, sym, ap, subst, ◌∙◌, length-append, arith, sum_by, flat_map, Option}
-use Rattle.mm_dump.proofs.Words.{None, is_some, get_or-map, length-map, take_all, length-flat_map, All-nil}
+use Rattle.mm_dump.proofs.Words.{None, get_or-map, length-map, take_all, length-flat_map, All-nil}
 use Rattle.mm_dump.proofs.Words.{All-cons, All-head, All-tail, All-append, All-contains, All-map, sum_by-take-le}
 use Rattle.mm_dump.proofs.Words.{length-filter, map-map, All-front, All-back, sum_by-map, sum_by-same, sum_by-add}
 use Rattle.mm_dump.proofs.Words.{sum_by-le_each, sum_by-flat_map, Stored, Held, State, IsRun, opening_at, id_at}
@@ -177,7 +177,7 @@ module _ {L : Type 0} (sent : L → List Sent) (failed : L → ℕ) (ids : List 
         let within = All-contains (λ (o : Order). o.place < length stores) orders c.order may.places of in
         let idle =
         All-contains (λ (o : Order). (opening_at before o.place).retrieval ≡ None) orders c.order may.idle of in
-        tried.alone (opening_at before p) (opening_at after p) (ap is_some idle)
+        tried.alone (opening_at before p) (opening_at after p) idle
         (subst (λ (e : Course). IsRun (opening_at before p) e.calls (opening_at after p)) (at i d inside)
         (h.runs p (omega (arith, within, same)) (few p)))
 
@@ -261,14 +261,8 @@ module _ {L : Type 0} (sent : L → List Sent) (failed : L → ℕ) (ids : List 
         ∙ sum_by-same (λ l. uses l.new) (λ l. uses l.old + l.spent) lines (λ i d inside.
         let l : Line L = get_or lines i d in
         let is = each i d inside in
-        omega (
-          arith,
-          ap length is.all,
-          length-append (sent l.old) (sent_by ids l.courses),
-          is.failures,
-          spent_is ids l.courses,
-          is.blocks,
-        ))
+        let more = length-append (sent l.old) (sent_by ids l.courses) in
+        omega (arith, ap length is.all, more, is.failures, spent_is ids l.courses, is.blocks))
         ∙ sum_by-add (λ l. uses l.old) (λ l. l.spent) lines
         ∙ ap (λ (n : ℕ). n + sum_by (λ l. l.spent) lines) (sym (sum_by-map uses (λ (l : Line L). l.old) lines))
 
@@ -282,11 +276,8 @@ module _ {L : Type 0} (sent : L → List Sent) (failed : L → ℕ) (ids : List 
               let few : All (λ (c : Course). length c.sent + length c.unsent ≤ c.order.amount) cs =
               λ j e within. course_few (get_or cs j e)
               (all_flat IsCourse (λ l. l.courses) lines known i d inside j e within) in
-              omega (
-                arith,
-                is.blocks,
-                sum_by-le_each (λ (c : Course). length c.sent + length c.unsent) (λ c. c.order.amount) cs few,
-              )),
+              let all = sum_by-le_each (λ (c : Course). length c.sent + length c.unsent) (λ c. c.order.amount) cs few in
+              omega (arith, is.blocks, all)),
           sum_by-flat_map (λ (c : Course). c.order.amount) (λ (l : Line L). l.courses) lines,
           h.weigh (λ (o : Order). o.amount),
           sum_by-take-le (λ (o : Order). o.amount) orders h.next,

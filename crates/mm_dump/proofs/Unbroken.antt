@@ -55,12 +55,8 @@ module _ (course : ℕ → Course) where
       let both = worse-none (worst_in (map course ks)) (worst_at places) none in
       let mine : All (λ (k : ℕ). (course k).order.place ≡ k) ks = λ i d within.
       let k : ℕ = get_or ks i d in
-      own k (omega (
-        arith,
-        sum_by-cons (times k) ks places,
-        cond-eqb_same k k 1 refl,
-        get_or-le-sum_by (λ (y : ℕ). cond {A = ℕ} (eqb y k) 1 0) ks i d within,
-      )) in (
+      let one = get_or-le-sum_by (λ (y : ℕ). cond {A = ℕ} (eqb y k) 1 0) ks i d within in
+      own k (omega (arith, sum_by-cons (times k) ks places, cond-eqb_same k k 1 refl, one)) in (
         tried.0.all ∙ ap (λ (ss : List Sent). sent old ++ ss) (sent_there ids ks mine),
         omega (arith, tried.0.failures, no_failures (map course ks) tried.0.are.each both.0),
         took sent failed ids places olds news both.1

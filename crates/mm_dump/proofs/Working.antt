@@ -52,7 +52,9 @@ module _ (ids : List (List ℕ)) (orders : List Order) (taken all : List ℕ) (n
       → (courses : List Course) × Worked ids orders all 0 why a c courses
   worked_more order why c inside at carried =
       let went = carried.advance in
-      let course : Course = course_of order why carried.sent carried.unsent b.port.number carried.calls in (
+      let course : Course = course_of order why carried.sent carried.unsent b.port.number carried.calls in
+      let unsent = sum_by_push (λ (d : Course). length d.unsent) courses course in
+      let spent = sum_by_push (λ (d : Course). length d.sent + length d.unsent) courses course in (
         courses ++ course ∷ [],
         record {
           of = map-append (λ (d : Course). d.order) courses (course ∷ []) ∙ (λ i. worked.of i ++ at i ∷ [])
@@ -78,18 +80,8 @@ module _ (ids : List (List ℕ)) (orders : List Order) (taken all : List ℕ) (n
             all = went.all
                 ∙ ap (λ (xs : List Sent). xs ++ all_sent (id_at ids order.place) carried.sent) worked.advance.all
                 ∙ flat_map_more (λ (d : Course). all_sent (id_at ids d.order.place) d.sent) a.sent courses course;
-            failures = omega (
-              arith,
-              went.failures,
-              worked.advance.failures,
-              sum_by_push (λ (d : Course). length d.unsent) courses course,
-            );
-            blocks = omega (
-              arith,
-              went.blocks,
-              worked.advance.blocks,
-              sum_by_push (λ (d : Course). length d.sent + length d.unsent) courses course,
-            );
+            failures = omega (arith, went.failures, worked.advance.failures, unsent);
+            blocks = omega (arith, went.blocks, worked.advance.blocks, spent);
           };
         },
       )

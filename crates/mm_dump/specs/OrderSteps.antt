@@ -1,11 +1,12 @@
 -- The parts of an order. No public clause cites this module.
-use Rattle.std.specs.Prelude.{◌≡◌, ℕ, ◌+◌, ◌<◌, ◌≤◌, true, false, is_some, List, [], ◌∷◌, ◌++◌, length, map}
+use Rattle.std.specs.Prelude.{◌≡◌, ℕ, ◌+◌, ◌<◌, ◌≤◌, List, [], ◌∷◌, ◌++◌, length, map}
 use Rattle.std.specs.Prelude.{Option, Some, None, IfNone}
 use Rattle.mm_store.specs.declared.stored.Stored.{Stored}
 use Rattle.mm_desk.specs.declared.entry.Entry.{Entry}
 use Rattle.mm_desk.specs.declared.event.Event.{Event}
 use Rattle.mm_desk.specs.declared.event.Event.TheVariants.{Delete}
 use Rattle.mm_desk.specs.declared.reply.Reply.{Reply}
+use Rattle.mm_desk.specs.declared.state.Retrieval.{Retrieval}
 use Rattle.mm_desk.specs.Machine.{State, step}
 use Rattle.mm_desk.specs.Orders.{ended, given, last_time}
 use Rattle.mm_desk.specs.Runs.{IsRun}
@@ -66,8 +67,8 @@ pub record Advances (store : OrderStore) (calls : List Entry) (sent unsent : Lis
 
 -- a store at which a retrieval is on replies to this call so that it is the expected one, and then no retrieval is on
 pub record Ends (call expected : Entry) : Type 0 where
-  pub is : (s : State) → is_some s.retrieval ≡ true → call.reply ≡ (step s call.event).0
-      → (call ≡ expected) × (is_some (step s call.event).1.retrieval ≡ false)
+  pub is : (s : State) (q : Retrieval) → s.retrieval ≡ Some q → call.reply ≡ (step s call.event).0
+      → (call ≡ expected) × ((step s call.event).1.retrieval ≡ None)
 
 -- a retrieval gave at most this many packets, of which the link took these and did not take those, and was ended by a
 -- last call, the expected one
@@ -98,7 +99,7 @@ pub record SentAll (store : OrderStore) (wanted : ℕ) (last : Option ℕ) (a b 
 
 -- these calls are the course of an order, if they are all that happened to its store, at which no retrieval was on
 pub record IsTried (c : Course) : Type 0 where
-  pub alone : (s t : State) → is_some s.retrieval ≡ false → IsRun s c.calls t → IsCourse c
+  pub alone : (s t : State) → s.retrieval ≡ None → IsRun s c.calls t → IsCourse c
 
 -- the course of an order that this seat carried out
 abbrev pub course_of : Order → Option OrderBroken → List Stored → List Stored → ℕ → List Entry → Course

@@ -7,13 +7,9 @@ returns-in-Err g c =
     let named = get_or-map (λ (s : StoreLabel). s.id) c.args.context.now.labels.now c.args.order.place
     c.index-context-place.result [] c.requires.named in
     let breaks = c.in-Err.ensures.err in
+    let of = breaks.retrieval in
     record {
-      few = omega (
-        arith,
-        breaks.retrieval.most,
-        breaks.retrieval.advance.blocks,
-        length-append breaks.sent breaks.unsent,
-      );
+      few = omega (arith, of.most, of.advance.blocks, length-append breaks.sent breaks.unsent);
       carried = broken _ c.args.order _ named _ _ _ c.begin.ensures.called refl refl refl _ breaks;
     }
 

@@ -57,12 +57,8 @@ same_workers : (g : given.Over) (c : goal.After-dump_all g) (rest : List DumpWor
     → take c.hire.new.workers.len (c.dump_all.new.workers ++ rest) ≡ c.dump_all.new.workers
 same_workers g c rest =
     let held : vec_len c.hire.new.workers ≡ length c.hire.new.workers.items = omega (arith, c.hire.new.workers.ok.0) in
-    lent c.hire.new.workers.len c.dump_all.new.workers rest (omega (
-      arith,
-      held,
-      c.dump_all.auto.workers,
-      ap length c.deref_mut-2.ensures.value,
-    ))
+    lent c.hire.new.workers.len c.dump_all.new.workers rest
+    (omega (arith, held, c.dump_all.auto.workers, ap length c.deref_mut-2.ensures.value))
 
 -- what the workers have
 back : (g : given.Over) (c : goal.After-dump_all g) (rest : List DumpWorker)
@@ -75,10 +71,8 @@ pub settle-requires : goal.settle-requires
 settle-requires g c =
     let a = (goal.at.settle-requires g c).After-dump_all in
     let ends = ends_same g.L.Link.sent g.L.Link.failed c.buffers.inside.queue _ _ _ _ _ _ _ c.dump_all.ensures.worked in
-    record {
-      opened = still_open c.seat_workers.new.opened _ c.seat_workers.ensures.new.are_open refl
-          (ap all_ends (same_ports g a _) ∙ ends ∙ ap all_ends c.deref_mut.ensures.value);
-    }
+    let same = ap all_ends (same_ports g a _) ∙ ends ∙ ap all_ends c.deref_mut.ensures.value in
+    record { opened = still_open c.seat_workers.new.opened _ c.seat_workers.ensures.new.are_open refl same }
 
 pub spent_by-spent-requires-clause-bound : goal.spent_by-spent-requires-clause-bound
 spent_by-spent-requires-clause-bound g c k d inside =
@@ -108,21 +102,12 @@ returns-clause-carried g c =
     ∙ same) in
     let tells = subst (λ v. Tells v c.learn_taken.ensures.taken.0) c.learn_taken.ensures.same
     c.learn_taken.ensures.taken.1 in
-    let whole : (view c.join_passes.new.pass).parts ≡ 1024 = omega (
-      arith,
-      joined.parts,
-      c.hire.ensures.hired.parts,
-      c.dump_all.auto.workers,
-      workers g b,
-    ) in
+    let whole : (view c.join_passes.new.pass).parts ≡ 1024 =
+    omega (arith, joined.parts, c.hire.ensures.hired.parts, c.dump_all.auto.workers, workers g b) in
     let total : (weight : ℕ → ℕ) → sum_by weight (range_with_len 0 tells.next)
     ≡ sum_by (λ (w : DumpWorker). sum_by weight (view w.pass).taken) c.dump_all.new.workers =
-    λ weight. omega (
-      arith,
-      tells.each whole weight,
-      joined.taken weight,
-      ap (sum_by weight) c.hire.ensures.hired.none,
-    ) in
+    λ weight.
+    omega (arith, tells.each whole weight, joined.taken weight, ap (sum_by weight) c.hire.ensures.hired.none) in
     let labels = c.settle.ensures.labels ∙ opened.labels in
     let label : Held → List ℕ × ℕ = λ h. (h.id, h.channel) in
     let count : length (states_of after) ≡ length before = length-map after (λ (h : Held). h.state)
