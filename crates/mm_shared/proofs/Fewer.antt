@@ -28,8 +28,7 @@ fewer lists more log shuffle = record {
           arith,
           inside,
           over,
-          length-append lists
-              (replicate more no_calls),
+          length-append lists (replicate more no_calls),
           length-replicate more no_calls,
         ) in
         shuffle.parts seat inside ∙ (get_or-append_right lists (replicate more []) (length lists) seat [] refl over

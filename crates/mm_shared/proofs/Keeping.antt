@@ -126,16 +126,14 @@ module _ (stores seats : ℕ) (s : Table State Knows) (kept : IsKept stores seat
       (record { run = k.course.run; below = k.course.below; stands = (up, omega (arith, own.within)) })
       (record {
         parts = (k.fits id v me).parts;
-        held = held_here i k.it.now
-            ∙ sym (held_yes kept.owner v.first k.it.now id is);
+        held = held_here i k.it.now ∙ sym (held_yes kept.owner v.first k.it.now id is);
       })
       (λ port u apart at.
       let fit = k.fits port u at in
       let idle = rw home at fit.held in
       record {
         parts = fit.parts;
-        held = idle ∙ sym (held_no kept.owner v.first k.it.now port
-            (λ mine. apart (sym mine ∙ is)));
+        held = idle ∙ sym (held_no kept.owner v.first k.it.now port (λ mine. apart (sym mine ∙ is)));
       })
 
   -- a holder of all seats that holds nothing finds the state in its slot, and a log of the calls leads to it
@@ -182,8 +180,7 @@ module _ (stores seats : ℕ) (s : Table State Knows) (kept : IsKept stores seat
       let fit = k.fits port u at in
       record {
         parts = λ n inside. others port u apart at n inside ∙ fit.parts n inside;
-        held = fit.held
-            ∙ has.1 port apart;
+        held = fit.held ∙ has.1 port apart;
       })
 
   -- the state is given back after a call

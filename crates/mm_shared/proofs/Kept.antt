@@ -64,8 +64,7 @@ module _ (stores seats : ℕ) where
         takes_out stores seats s kept id m.0 me i within k (f word) m.1 (up word) at.none some_seat in_home,
         (
           (λ zero. (k.it.now, ap (λ (c : List (ℕ × State)). (w, (i, k.it.now) ∷ c)) at.empty)),
-          λ other. absurd
-              (other free),
+          λ other. absurd (other free),
         ),
       ))
       (λ busy. (

@@ -16,8 +16,7 @@ still_open it workers are capacity same =
           let inside : i < length it.workers.items = omega (arith, many, within) in
           cc (
             get_or-map end_of workers.items i d (end_of d) within,
-            get_or-map end_of it.workers.items i d (end_of d)
-                inside,
+            get_or-map end_of it.workers.items i d (end_of d) inside,
             are.workers i d inside,
           );
       few = omega (arith, many, are.few);

@@ -6,6 +6,5 @@ pub swap-requires : goal.swap-requires
 swap-requires c = (
   search rules,
   search rules,
-  takes_by_all _ _ _ _ _ _ 1 0 (λ k. 1) c.requires.there.opened
-      (λ k. omega arith) c.requires.all,
+  takes_by_all _ _ _ _ _ _ 1 0 (λ k. 1) c.requires.there.opened (λ k. omega arith) c.requires.all,
 )

@@ -6,6 +6,5 @@ pub split_seat-seat-requires : goal.split_seat-seat-requires
 split_seat-seat-requires c = (
   search rules,
   search rules,
-  splits_kept _ _ _ _ c.ports.invariant.0.none
-      (grind (arith, common_steps)),
+  splits_kept _ _ _ _ c.ports.invariant.0.none (grind (arith, common_steps)),
 )
