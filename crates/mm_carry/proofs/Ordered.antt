@@ -8,7 +8,7 @@ use Rattle.mm_carry.proofs.Words.{sum_by_range_one, sum_by_range_same, All-filte
 use Rattle.mm_carry.proofs.Words.{AllPairs-filter-range_with_len, range_with_len_more, sum_by-filter, sum_by-map}
 use Rattle.mm_carry.proofs.Words.{sum_by-map-filter, MAX_STORES, in_step, Amounts, wanted, times, places_of, Order}
 use Rattle.mm_carry.proofs.Words.{orders_of, AreApart, RunInput, place_in_memory, step_orders, AreOrders}
-use Rattle.mm_carry.proofs.RangeLists.{made_alike}
+use Rattle.mm_shared.proofs.Lists.{map_same}
 
 module _ (x : Amounts) (places : List ℕ) (t : ℕ) where
   -- whether a store has an order, and the order
@@ -128,7 +128,7 @@ pub orders_are : (m : RunInput) (places : List ℕ) (t : ℕ) → ((s : ℕ) →
     → orders_of m.amounts places t (length m.problem.rows) ≡ step_orders m t
 orders_are m places t stands =
     let there : ℕ → Order = λ s. record { place = place_in_memory m s; amount = m.amounts s t } in
-    made_alike (order_of m.amounts places t) there (filter (is_ordered m.amounts places t)
+    map_same (order_of m.amounts places t) there (filter (is_ordered m.amounts places t)
     (range_with_len 0 (length m.problem.rows)))
     (All-filter-range_with_len (λ (s : ℕ). order_of m.amounts places t s ≡ there s) (is_ordered m.amounts places t) 0
     (length m.problem.rows)

@@ -1,19 +1,12 @@
 -- Lists that the numbers of a range make.
-use Rattle.std.proofs.Common.{◌≡◌, ℕ, ◌+◌, ◌<◌, ◌≤◌, List, [], ◌∷◌, map, All, refl, sym, ap, ◌∙◌}
-use Rattle.mm_carry.proofs.Words.{All-head, All-tail, flat_map-map, range_with_len, flat_map, All-range_with_len}
-
--- lists are equal where they are made alike of each element
-pub made_alike : {X Y : Type 0} (f g : X → Y) (xs : List X) → All (λ x. f x ≡ g x) xs → map f xs ≡ map g xs
-made_alike f g [] same = refl
-made_alike f g (x ∷ xs) same =
-    let here = All-head (λ x. f x ≡ g x) x xs same in
-    let rest = made_alike f g xs (All-tail (λ x. f x ≡ g x) x xs same) in
-    λ i. here i ∷ rest i
+use Rattle.std.proofs.Common.{◌≡◌, ℕ, ◌+◌, ◌<◌, ◌≤◌, List, map, sym, ap, ◌∙◌}
+use Rattle.mm_carry.proofs.Words.{flat_map-map, range_with_len, flat_map, All-range_with_len}
+use Rattle.mm_shared.proofs.Lists.{map_same}
 
 -- lists that a range gives are equal where each element is
 pub map_range_same : {X : Type 0} (f g : ℕ → X) (a n : ℕ) → ((s : ℕ) → a ≤ s → s < a + n → f s ≡ g s)
     → map f (range_with_len a n) ≡ map g (range_with_len a n)
-map_range_same f g a n same = made_alike f g (range_with_len a n) (All-range_with_len (λ s. f s ≡ g s) a n same)
+map_range_same f g a n same = map_same f g (range_with_len a n) (All-range_with_len (λ s. f s ≡ g s) a n same)
 
 -- pieces over a range are equal where each is
 pub flat_map_range_same : {X : Type 0} (f g : ℕ → List X) (a n : ℕ) → ((t : ℕ) → a ≤ t → t < a + n → f t ≡ g t)

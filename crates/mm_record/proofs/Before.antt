@@ -22,9 +22,11 @@ none_of_any p xs none i d within = false_from_ne_true (p (get_or xs i d))
 -- if no cause is told, none of the tests failed
 none_failed : (stores : List Held) (base count : ℕ) (found : Option Held) → cause_by stores base count found ≡ None
     → (found ≡ None) × (is_clock_late stores base ≡ false)
-none_failed stores base count None none =
-    (refl, false_from_ne_true (is_clock_late stores base)
-    (λ late. let bad : Some ClockTooLate ≡ None = rw late at none in cc))
+none_failed stores base count None none = (
+  refl,
+  false_from_ne_true (is_clock_late stores base)
+      (λ late. let bad : Some ClockTooLate ≡ None = rw late at none in cc),
+)
 none_failed stores base count (Some h) bad = absurd (cc)
 
 -- a step that is begun within the limits meets no refusal

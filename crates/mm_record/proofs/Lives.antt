@@ -53,7 +53,7 @@ module _ (step : ℕ) (given : Option SpacePacket) (old new last : Supply)
       by_step : (t : ℕ) → (t ≡ step) ⊎ (t ≡ step → ⊥) → last t ≡ old t ++ rest old last t
       by_step t (inl same) =
           subst (λ (u : ℕ). last u ≡ old u ++ rest old last u) (sym same)
-              (grown step _ (whole (follows.more step) (follows.grew step)))
+          (grown step _ (whole (follows.more step) (follows.grew step)))
       by_step t (inr other) =
           grown t (follows.more t) (follows.grew t ∙ ap (λ (ps : List SpacePacket). ps ++ follows.more t)
-              (others t other))
+          (others t other))

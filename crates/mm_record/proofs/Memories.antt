@@ -2,7 +2,7 @@
 use Rattle.mm_record.proofs.Words.{◌≡◌, ℕ, ◌-◌, ◌<◌, bytes_eq, false, List, [], length, get_or, map, All, Option, Some}
 use Rattle.mm_record.proofs.Words.{None, refl, sym, ap, ◌∙◌, arith, AllPairs, get_or-map, length-map, map-map}
 use Rattle.mm_record.proofs.Words.{AllPairs-map, SpacePacket, Fault, Held, IsState, Leaves, blank, AreHeld}
-use Rattle.mm_record.proofs.Words.{HaveOtherIds, Holdings, labels_of, states_of, id_at, AreNamed, cause_in, counters_of}
+use Rattle.mm_record.proofs.Words.{HaveOtherIds, Holdings, labels_of, id_at, AreNamed, cause_in, counters_of}
 use Rattle.mm_record.proofs.Words.{StoreCounters, AreRows, came, store_at, told_of, IsRecorded, WasEnded, Supply}
 use Rattle.mm_record.proofs.Words.{RecordingContext, recording_of, offers, given_in, Records}
 use Rattle.mm_desk.specs.Laws.{OffersLeave}
@@ -10,6 +10,7 @@ use Rattle.mm_desk.proofs.PlaceLemmas.{AreHeld-same_ids}
 use Rattle.mm_desk.proofs.PlaceLemmas.{is_other}
 use Rattle.mm_report.specs.declared.cause.Cause.{Cause}
 use Rattle.mm_record.specs.declared.memory_step.Recorded.{Recorded}
+use Rattle.mm_shared.proofs.Opening.{state_at}
 use Rattle.mm_record.proofs.Steps.{same_many}
 use Rattle.mm_desk.specs.declared.fault.Fault.TheVariants as fault
 
@@ -65,15 +66,10 @@ module _ (step now : ℕ) (old : Holdings) (stores : List Held) (sources left : 
       inside : (k : ℕ) → k < length stores → k < length old.stores
       inside k within = omega (arith, same_many stores old.stores records.labels)
 
-      -- the state of the store at an index
-      state_at : (held : List Held) (k : ℕ) → k < length held
-          → get_or (states_of held) k blank ≡ (get_or held k nobody).state
-      state_at held k within = get_or-map (λ (h : Held). h.state) held k nobody blank within
-
       -- a store that has recorded offers leaves and loses as their number says
       leaves : (k : ℕ) → k < length stores → Leaves (store_at old k) (store_at new k) (came e gave k)
       leaves k within =
-          let is = rw (← state_at old.stores k (inside k within)) at (sound k nobody (inside k within)) in
+          let is = rw (state_at old.stores k nobody (inside k within)) at (sound k nobody (inside k within)) in
           let one = records.recorded k (omega (arith, length-map stores (λ (h : Held). h.state))) in
           let legal = one.legal in
           law _ _ (map (offers e k) gave) legal.log is.store.within is.store.has_room legal.run legal.shuffle one.taken
@@ -85,7 +81,7 @@ module _ (step now : ℕ) (old : Holdings) (stores : List Held) (sources left : 
         where
           before : get_or counters k (counters_of blank) ≡ counters_of (store_at old k)
           before = rw are (get_or-map (λ (h : Held). counters_of h.state) old.stores k nobody (counters_of blank)
-              (inside k within) ∙ ap counters_of (sym (state_at old.stores k (inside k within))))
+              (inside k within) ∙ ap counters_of (state_at old.stores k nobody (inside k within)))
 
           name : (get_or stores k nobody).id ≡ id_at e.ids k
           name = sym (get_or-map (λ (h : Held). h.id) stores k nobody [] within)
@@ -93,8 +89,8 @@ module _ (step now : ℕ) (old : Holdings) (stores : List Held) (sources left : 
 
           came_is : (get_or stores k nobody).state.offered - (get_or counters k (counters_of blank)).offered ≡ came e
               gave k
-          came_is = rw (before, ← state_at stores k within) (omega (arith, (leaves k within).offered))
+          came_is = rw (before, state_at stores k nobody within) (omega (arith, (leaves k within).offered))
 
           lost_is : (get_or stores k nobody).state.lost - (get_or counters k (counters_of blank)).lost
               ≡ (store_at new k).lost - (store_at old k).lost
-          lost_is = rw (before, ← state_at stores k within) refl
+          lost_is = rw (before, state_at stores k nobody within) refl

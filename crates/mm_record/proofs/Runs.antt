@@ -37,7 +37,7 @@ pub worst_has : (P : Fault → Type 0) (fs : List (Option Fault)) → All (λ f.
 worst_has P [] all = tt
 worst_has P (f ∷ fs) all =
     worse_has P f (worst_of fs) (All-head (λ f. IfSome f P) f fs all)
-        (worst_has P fs (All-tail (λ f. IfSome f P) f fs all))
+    (worst_has P fs (All-tail (λ f. IfSome f P) f fs all))
 
 -- if the worst is none, there is none
 pub worst_none : (fs : List (Option Fault)) → worst_of fs ≡ None → All (λ f. f ≡ None) fs

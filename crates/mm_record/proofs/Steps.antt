@@ -43,8 +43,15 @@ first_offers e k given gave left asks rest order few are =
       offers_are = All-front (IsOfferAt e.now) asks rest (subst (All (IsOfferAt e.now)) are
           (All-map (IsOfferAt e.now) offer (filter routed gave)
           (λ i d within. (get_or (filter routed gave) i d, refl))));
-      few = omega (arith, filter_fewer routed gave, mapped, ap length order, ap length are, length-append gave left,
-          length-append asks rest);
+      few = omega (
+        arith,
+        filter_fewer routed gave,
+        mapped,
+        ap length order,
+        ap length are,
+        length-append gave left,
+        length-append asks rest,
+      );
     }
 
 -- what a recorder offered to a store is the first of the offers of what its source gave
@@ -97,7 +104,7 @@ module _ (e : RecordingContext) (runs : List (Run e)) (before after : List Held)
   legal k within all are =
       let log = logs k within in
       let asked_are = map-map asked_in (λ (w : PortView). list_at w k) (map (λ (r : Run e). r.port) runs)
-          ∙ map-map (λ (w : PortView). asked w k) (λ (r : Run e). r.port) runs ∙ are in
+      ∙ map-map (λ (w : PortView). asked w k) (λ (r : Run e). r.port) runs ∙ are in
       record { log = log.log; run = log.run; shuffle = rw asked_are at (asked_shuffled (lists k) log.log log.shuffle) }
 
   -- a legal log of what the recorders offered leads each store to its state now
@@ -110,15 +117,15 @@ module _ (e : RecordingContext) (runs : List (Run e)) (before after : List Held)
   all_recorded whole k within =
       let inside : k < length e.ids = omega (arith, many) in
       let all_asked = map_same (λ (r : Run e). asked r.port k) (λ (r : Run e). offers e k (r.before e.step)) runs
-          (λ i d here.
-          let r = get_or runs i d in
-          let done = MatchOption-at_none _ _ (whole i d here) r.did.run.whole in
-          let order = r.did.run.order ∙ ap (λ (x : List SpacePacket). r.did.gave ++ x) done.0 ∙ append-nil r.did.gave in
-          done.1 k inside ∙ ap (offers e k) (sym order)) in
+      (λ i d here.
+      let r = get_or runs i d in
+      let done = MatchOption-at_none _ _ (whole i d here) r.did.run.whole in
+      let order = r.did.run.order ∙ ap (λ (x : List SpacePacket). r.did.gave ++ x) done.0 ∙ append-nil r.did.gave in
+      done.1 k inside ∙ ap (offers e k) (sym order)) in
       let lists_taken : All AreTaken (lists k) = simp map-map (All-map AreTaken (λ (r : Run e). list_at r.port k) runs
-          (λ i d here. MatchOption-at_none _ _ (whole i d here) (get_or runs i d).did.taken k inside)) in
+      (λ i d here. MatchOption-at_none _ _ (whole i d here) (get_or runs i d).did.taken k inside)) in
       let offers_are = map-map (offers e k) (λ (s : Supply). s e.step) (map (λ (r : Run e). r.before) runs)
-          ∙ map-map (λ (s : Supply). offers e k (s e.step)) (λ (r : Run e). r.before) runs in
+      ∙ map-map (λ (s : Supply). offers e k (s e.step)) (λ (r : Run e). r.before) runs in
       let log = logs k within in
       record {
         legal = legal k within _ (all_asked ∙ sym offers_are);
@@ -157,15 +164,15 @@ module _ (e : RecordingContext) (runs : List (Run e)) (before after : List Held)
   all_taken few takes k within store =
       let asks = map (λ (run : RecorderRun). run.offered k) (map run_of runs) in
       let few_each = All-unmapped (λ (s : Supply). length (s e.step) ≤ 65535) (λ (r : Run e). r.before) runs
-          takes.few in
+      takes.few in
       let are : All (AreOffers e) asks = All-map (AreOffers e) (λ (run : RecorderRun). run.offered k) (map run_of runs)
-          (All-map (λ run. AreOffers e (run.offered k)) run_of runs (λ i d here.
-          let r = get_or runs i d in
-          few_offers e r.before r.after r.did.gave (asked r.port) r.broken r.did.run (few_each i d here) k
-          (omega (arith, within, many)))) in
+      (All-map (λ run. AreOffers e (run.offered k)) run_of runs (λ i d here.
+      let r = get_or runs i d in
+      few_offers e r.before r.after r.did.gave (asked r.port) r.broken r.did.run (few_each i d here) k
+      (omega (arith, within, many)))) in
       let state : IsOpen (opening_at (states_of before) k) = All-map IsOpen (λ (h : Held). h.state) before
-          takes.stores_are k blank
-          (omega (arith, within, many, as_many, length-map before (λ (h : Held). h.state))) in
+      takes.stores_are k blank
+      (omega (arith, within, many, as_many, length-map before (λ (h : Held). h.state))) in
       let total : count_of asks ≤ length asks * 65535 =
       sum_by-le (λ (es : List Event). length es) 65535 asks (λ i d inside. (are i d inside).few) in
       let most : length asks ≤ 16 = simp length-map few in

@@ -89,7 +89,7 @@ All-unfiltered : {X : Type 0} (P : X → Type 0) (p : X → Bool) (xs : List X) 
 All-unfiltered P p [] all = All-nil (λ x. p x ≡ true → P x)
 All-unfiltered P p (x ∷ xs) all =
     elim (p x)
-        as (λ t. p x ≡ t → All P (cond t (x ∷ filter p xs) (filter p xs)) → All (λ x. p x ≡ true → P x) (x ∷ xs)) [
+    as (λ t. p x ≡ t → All P (cond t (x ∷ filter p xs) (filter p xs)) → All (λ x. p x ≡ true → P x) (x ∷ xs)) [
       | true ↦ λ e all. All-cons (λ x. p x ≡ true → P x) x xs (λ passes. All-head P x (filter p xs) all)
           (All-unfiltered P p xs (All-tail P x (filter p xs) all))
       | false ↦ λ e all. All-cons (λ x. p x ≡ true → P x) x xs (λ passes. absurd (both_ways (p x) e passes))
@@ -118,7 +118,7 @@ pub shuffle_is_taken : (now : ℕ) (s t : State) (lists : List (List Event)) (lo
     → IsShuffleOfEvents lists log → All (λ es. All (IsOfferAt now) es) lists → AreTaken log
 shuffle_is_taken now s t lists log time run shuffle offers =
     log_taken now s log (subst (λ (n : ℕ). HasTime now n s) (count_of_shuffle lists log shuffle) time)
-        (offers_alone now lists log shuffle offers) run.legal
+    (offers_alone now lists log shuffle offers) run.legal
 
 -- a refusal with this fault
 abbrev pub IsRefusal : Fault → Entry → Type 0
@@ -143,7 +143,7 @@ pub refusal_in_log : (fault : Fault) (lists : List (List Entry)) (log : List Ent
 refusal_in_log fault lists log shuffle seat within (i, e, inside, at, refused) =
     let part_in_log = All-filter (λ (e : Entry). e.seat == seat) (Contains log) log (All-contains_itself log) in
     let found = subst (Contains log) at (subst (All (Contains log)) (shuffle.parts seat within) part_in_log i e
-        inside) in
+    inside) in
     (found.0, e, found.1, found.2, refused)
 
 -- no more passes a test than there is

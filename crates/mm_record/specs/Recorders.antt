@@ -29,8 +29,7 @@ module _ {S : Type 0} (leads : S → S → Type 0) (until : S → S → Supply) 
   EachHasOffered (s ∷ ss) (t ∷ ts) (w ∷ ws) (f ∷ fs) = HasOfferedUntil s t w f × EachHasOffered ss ts ws fs
   EachHasOffered ss ts ws fs = ⊥
 
-  -- the recorders of sources offered what these gave, through the ports that there were before, and this is why some
-  -- stopped early
+  -- the recorders of sources offered what these gave, through the same ports, and this is why some stopped early
   pub record HaveOffered (before now : List S) (ports workers : List PortView) (why : Option Fault) : Type 0 where
     pub ends : all_ends workers ≡ all_ends ports
     pub faults : List (Option Fault)

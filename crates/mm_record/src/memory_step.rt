@@ -57,11 +57,7 @@ fn all_counters(alloc: Global, stores: &[Held]) -> Result<Vec<StoreCounters>, No
 }
 
 // What a step has recorded into each store.
-fn changes_of(
-    before: Vec<StoreCounters>,
-    room: Vec<Recorded>,
-    stores: &[Held],
-) -> Vec<Recorded>
+fn changes_of(before: Vec<StoreCounters>, room: Vec<Recorded>, stores: &[Held]) -> Vec<Recorded>
     requires before { vec_len before ≡ length stores.now }
     requires room { (room.items ≡ []) × (length stores.now ≤ vec_capacity room) }
     ensures rows { AreRows before.items stores.now (length stores.now) result.items }

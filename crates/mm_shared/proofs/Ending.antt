@@ -41,6 +41,8 @@ pub is_holder : (owner : ℕ → ℕ) (holder : Option ℕ) (now taken : State) 
 is_holder owner None now taken id held = absurd (cc held)
 is_holder owner (Some seat) now taken id held =
     dite (ℕ_discrete (owner seat) id)
-    (λ is. (cc (held, held_yes owner seat now id is), λ port apart. held_no owner seat now port
-    (λ mine. apart (sym mine ∙ is))))
+    (λ is. (
+      cc (held, held_yes owner seat now id is),
+      λ port apart. held_no owner seat now port (λ mine. apart (sym mine ∙ is)),
+    ))
     (λ isnt. absurd (cc (held, held_no owner seat now id isnt)))

@@ -13,7 +13,7 @@ fewer lists more log shuffle = record {
   below = λ i d within.
       let seat = (get_or log i d).seat in
       ⊎_elim (λ under. under) (λ over. absurd (none_of seat log (empty seat over (shuffle.below i d within)) i d within
-          refl)) (cases_lt seat (length lists));
+      refl)) (cases_lt seat (length lists));
   parts = λ seat within. shuffle.parts seat (omega (arith, within, length-append lists (replicate more no_calls)))
       ∙ get_or_append_left lists (replicate more []) [] seat within;
 }
@@ -24,10 +24,15 @@ fewer lists more log shuffle = record {
     -- a seat past the lists made no call
     empty : (seat : ℕ) → length lists ≤ seat → seat < length (lists ++ replicate more no_calls) → part seat log ≡ []
     empty seat over inside =
-        let under : seat - length lists < more = omega (arith, inside, over, length-append lists
-            (replicate more no_calls), length-replicate more no_calls) in
+        let under : seat - length lists < more = omega (
+          arith,
+          inside,
+          over,
+          length-append lists (replicate more no_calls),
+          length-replicate more no_calls,
+        ) in
         shuffle.parts seat inside ∙ (get_or-append_right lists (replicate more []) (length lists) seat [] refl over
-            ∙ get_or-replicate more _ [] [] under)
+        ∙ get_or-replicate more _ [] [] under)
 
 -- the same of the calls of workers on a store
 pub fewer_lists : (k : ℕ) (workers : List PortView) (more : ℕ) (s t : State)

@@ -73,7 +73,7 @@ module _ (stores seats : ℕ) (s : Table State Knows) (kept : IsKept stores seat
             let in_words : i < length s.words = omega (arith, kept.words, within) in
             let in_homes : i < length s.homes = omega (arith, kept.homes, within) in
             subst (λ (n : ℕ). Keeps (opening_at kept.openings n) seats kept.owner n (stepped s i x id c w a)) (sym same)
-                (record {
+            (record {
               it = it;
               course = rw (get_or-set_same s.words i x 0 in_words, homes, get_or-set_same s.homes i home none in_homes)
                   course;
@@ -83,7 +83,7 @@ module _ (stores seats : ℕ) (s : Table State Knows) (kept : IsKept stores seat
             let old = kept.keeps j under in
             let mine = old.fits id v me in
             let parts = λ (n : ℕ) (inside : n < length lists). mine.parts n (omega (arith, inside, count))
-                ∙ sym (calls j n other) in
+            ∙ sym (calls j n other) in
             record {
               it = old.it;
               course = rw (get_or-set_other s.words i j x 0 other, homes, get_or-set_other s.homes i j home none other)
@@ -99,7 +99,7 @@ module _ (stores seats : ℕ) (s : Table State Knows) (kept : IsKept stores seat
   keeps_on x c up =
       let stands = stands_up seats _ _ _ x k.it.holder up k.course.stands in
       goes x c v.lists v.held keeps (get_or s.homes i none) k.it (sym (set-get_or s.homes i none)) refl
-          (λ j n other. refl) (λ j other. refl)
+      (λ j n other. refl) (λ j other. refl)
       (record { run = k.course.run; below = k.course.below; stands = stands }) (k.fits id v me)
       (λ port u apart at. k.fits port u at)
 
@@ -112,7 +112,7 @@ module _ (stores seats : ℕ) (s : Table State Knows) (kept : IsKept stores seat
   may_take home =
       let in_homes : i < length s.homes = omega (arith, kept.homes, within) in
       at_index s.homes i (some k.it.now) in_homes (sym (in_slot home)
-          ∙ get_or_default s.homes i none (some k.it.now) in_homes)
+      ∙ get_or_default s.homes i none (some k.it.now) in_homes)
 
   -- the state is taken out of its slot
   pub takes_out : (x : ℕ) (c : List (ℕ × State)) → 0 < x → v.held ≡ None → 0 < length v.lists → k.it.holder ≡ None
@@ -121,16 +121,20 @@ module _ (stores seats : ℕ) (s : Table State Knows) (kept : IsKept stores seat
       let own = kept.owns id v me in
       let is = own.owned v.first (omega arith) (omega arith) in
       goes x c v.lists (Some (i, k.it.now)) (takes i k.it.now) none (record k.it { holder = Some v.first }) refl refl
-          (λ j n other. refl)
+      (λ j n other. refl)
       (λ j other. held_there i j k.it.now other ∙ sym (ap (held_of j) rest))
       (record { run = k.course.run; below = k.course.below; stands = (up, omega (arith, own.within)) })
-      (record { parts = (k.fits id v me).parts; held = held_here i k.it.now
-      ∙ sym (held_yes kept.owner v.first k.it.now id is) })
+      (record {
+        parts = (k.fits id v me).parts;
+        held = held_here i k.it.now ∙ sym (held_yes kept.owner v.first k.it.now id is);
+      })
       (λ port u apart at.
       let fit = k.fits port u at in
       let idle = rw home at fit.held in
-      record { parts = fit.parts; held = idle ∙ sym (held_no kept.owner v.first k.it.now port
-          (λ mine. apart (sym mine ∙ is))) })
+      record {
+        parts = fit.parts;
+        held = idle ∙ sym (held_no kept.owner v.first k.it.now port (λ mine. apart (sym mine ∙ is)));
+      })
 
   -- a holder of all seats that holds nothing finds the state in its slot, and a log of the calls leads to it
   pub ends : v.held ≡ None → v.first ≡ 0 → length v.lists ≡ seats
@@ -147,7 +151,7 @@ module _ (stores seats : ℕ) (s : Table State Knows) (kept : IsKept stores seat
             parts = λ seat inside.
                 let under : seat < length v.lists = omega (arith, inside, length-map v.lists (calls_on i)) in
                 ap (λ (n : ℕ). part n k.it.log) (omega (arith, first))
-                    ∙ (fit.parts seat under ∙ sym (get_or-map (calls_on i) v.lists seat [] [] under));
+                ∙ (fit.parts seat under ∙ sym (get_or-map (calls_on i) v.lists seat [] [] under));
           };
         },
         none_out seats _ _ k.it.now kept.owner id k.it.holder
@@ -166,16 +170,18 @@ module _ (stores seats : ℕ) (s : Table State Knows) (kept : IsKept stores seat
       → IsKept stores seats (stepped s i 0 id ((i, now) ∷ []) (record v { lists = lists; held = None }) gives)
   gives_back taken now lists log held count calls run below parts others =
       let has = is_holder kept.owner k.it.holder k.it.now taken id
-          (sym (k.fits id v me).held ∙ (ap (held_of i) held ∙ held_here i taken)) in
+      (sym (k.fits id v me).held ∙ (ap (held_of i) held ∙ held_here i taken)) in
       goes 0 ((i, now) ∷ []) lists None gives (some now) (record { log = log; now = now; holder = None }) refl count
-          calls
+      calls
       (λ j other. sym (ap (held_of j) held ∙ held_there i j taken other))
       (record { run = run has.0; below = below; stands = refl })
       (record { parts = parts; held = refl })
       (λ port u apart at.
       let fit = k.fits port u at in
-      record { parts = λ n inside. others port u apart at n inside ∙ fit.parts n inside; held = fit.held
-          ∙ has.1 port apart })
+      record {
+        parts = λ n inside. others port u apart at n inside ∙ fit.parts n inside;
+        held = fit.held ∙ has.1 port apart;
+      })
 
   -- the state is given back after a call
   pub gives_after : (taken now : State) (event : Event) (reply : Reply) → v.held ≡ Some (i, taken) → 0 < length v.lists
@@ -194,12 +200,12 @@ module _ (stores seats : ℕ) (s : Table State Knows) (kept : IsKept stores seat
       (λ port u apart at n inside.
       let theirs = (kept.owns port u at).owned (u.first + n) (omega arith) (omega arith) in
       part-other (u.first + n) k.it.log e (λ same. apart
-          (sym theirs ∙ (ap kept.owner (sym same) ∙ own.owned v.first (omega arith) (omega arith)))))
+      (sym theirs ∙ (ap kept.owner (sym same) ∙ own.owned v.first (omega arith) (omega arith)))))
 
   -- the state is given back as it was
   pub restores : (taken : State) → v.held ≡ Some (i, taken)
       → IsKept stores seats (stepped s i 0 id ((i, taken) ∷ []) (record v { held = None }) gives)
   restores taken held =
       gives_back taken taken v.lists k.it.log held refl (λ j n other. refl)
-          (λ same. subst (IsRun (opening_at kept.openings i) k.it.log) same k.course.run)
+      (λ same. subst (IsRun (opening_at kept.openings i) k.it.log) same k.course.run)
       k.course.below (k.fits id v me).parts (λ port u apart at n inside. refl)

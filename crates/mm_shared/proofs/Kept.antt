@@ -18,8 +18,11 @@ state_of (some now) = now
 -- all seats are those of the view at a place, which has not called
 all_own : (openings : List State) (seats port : ℕ) → Owns openings seats (λ seat. port) port (all_seats openings seats)
 all_own openings seats port =
-    record { within = omega (arith, length-replicate {A = List (ℕ × Entry)} seats []);
-        owned = λ seat from to. refl; agree = λ none. refl }
+    record {
+      within = omega (arith, length-replicate {A = List (ℕ × Entry)} seats []);
+      owned = λ seat from to. refl;
+      agree = λ none. refl;
+    }
 
 -- the course of a store on which no call was made
 abbrev new_course : State → Course
@@ -28,8 +31,11 @@ new_course now = record { log = []; now = now; holder = None }
 -- it begins with the state in its slot
 begins : (now : State) (seats word : ℕ) (home : slot.Option State) → home ≡ some now
     → IsCourse now seats word home (new_course now)
-begins now seats word home there = record { run = record { legal = tt; leaves = refl };
-    below = All-nil (λ (e : Entry). e.seat < seats); stands = there }
+begins now seats word home there = record {
+  run = record { legal = tt; leaves = refl };
+  below = All-nil (λ (e : Entry). e.seat < seats);
+  stands = there;
+}
 
 -- and the lists of all seats are its parts
 none_called : (owner : ℕ → ℕ) (k : ℕ) (now : State) (port : ℕ) (states : List State) (seats : ℕ)
@@ -56,11 +62,18 @@ module _ (stores seats : ℕ) where
         takes i k.it.now,
         may_take stores seats s kept id m.0 me i within k in_home,
         takes_out stores seats s kept id m.0 me i within k (f word) m.1 (up word) at.none some_seat in_home,
-        ((λ zero. (k.it.now, ap (λ (c : List (ℕ × State)). (w, (i, k.it.now) ∷ c)) at.empty)), λ other. absurd
-        (other free)),
+        (
+          (λ zero. (k.it.now, ap (λ (c : List (ℕ × State)). (w, (i, k.it.now) ∷ c)) at.empty)),
+          λ other. absurd (other free),
+        ),
       ))
-      (λ busy. (m.0, keeps, tt, keeps_on stores seats s kept id m.0 me i within k (f word) m.1 (up word),
-      ((λ zero. absurd (busy zero)), λ other. refl)))
+      (λ busy. (
+        m.0,
+        keeps,
+        tt,
+        keeps_on stores seats s kept id m.0 me i within k (f word) m.1 (up word),
+        ((λ zero. absurd (busy zero)), λ other. refl),
+      ))
 
   -- a state is given back, if that keeps the rule
   gives_any : (n id : ℕ) (m : Seated) (i : ℕ) (now : State) (after : Knows) → m.1 ≡ (i, now) ∷ []
@@ -85,7 +98,7 @@ module _ (stores seats : ℕ) where
       → Allows (IsKept stores seats) n id m i (λ k. 0) (λ r it. it ≡ at_rest m)
   restores_kept n id m i within c =
       gives_any n id m i c.taken (at_rest m).0 c.has (λ s kept me. restores stores seats s kept id m.0 me i within
-          (kept.keeps i within) c.taken c.held)
+      (kept.keeps i within) c.taken c.held)
 
   -- the holder of all seats takes the state of a store
   pub takes_by_all : (n id : ℕ) (m : Seated) (i first second : ℕ) (f : ℕ → ℕ) → i < stores → ((k : ℕ) → 0 < f k)
@@ -101,8 +114,11 @@ module _ (stores seats : ℕ) where
         may_take stores seats s kept id m.0 me i within k end.1,
         takes_out stores seats s kept id m.0 me i within k (f (get_or s.words i 0)) m.1 (up (get_or s.words i 0))
             all.rest.none some_list end.1,
-        record { now = k.it.now; holds = ap (λ (c : List (ℕ × State)). (w, (i, k.it.now) ∷ c)) all.rest.empty;
-            legal = end.0 },
+        record {
+          now = k.it.now;
+          holds = ap (λ (c : List (ℕ × State)). (w, (i, k.it.now) ∷ c)) all.rest.empty;
+          legal = end.0;
+        },
       )
 
   -- the holder of all seats learns the states of the stores, and calls count anew
@@ -122,8 +138,11 @@ module _ (stores seats : ℕ) where
           (λ port u apart at. record {
             within = (kept.owns port u at).within;
             owned = λ seat from to. absurd (none_left port u apart at (omega arith));
-            agree = λ no_seat. absurd (omega (arith, no_seat (omega (arith, none_left port u apart at)),
-                all.some_seat));
+            agree = λ no_seat. absurd (omega (
+              arith,
+              no_seat (omega (arith, none_left port u apart at)),
+              all.some_seat,
+            ));
           });
       keeps = λ k under.
           let old = kept.keeps k under in
@@ -136,15 +155,17 @@ module _ (stores seats : ℕ) where
             fits = each_set (Fits (λ seat. id) k (new_course now)) s.views id w
                 (none_called (λ seat. id) k now id states (length m.0.lists))
                 (λ port u apart at.
-                record { parts = λ n inside. absurd (none_left port u apart at (omega arith));
-                    held = rw end.1 at (old.fits port u at).held });
+                record {
+                  parts = λ n inside. absurd (none_left port u apart at (omega arith));
+                  held = rw end.1 at (old.fits port u at).held;
+                });
           };
     },
     record {
       logs = λ k under.
           let inside : k < stores = omega (arith, under, count) in
           subst (HasLegalLog (map (calls_on k) m.0.lists) (opening_at m.0.states k)) (sym (now_is k inside))
-              (ended k inside).0;
+          (ended k inside).0;
       many = count ∙ sym many;
       all = ap (λ (c : List (ℕ × State)). (w, c)) all.rest.empty;
     },
@@ -175,7 +196,7 @@ module _ (stores seats : ℕ) where
           let own = kept.owns port u at in
           let is = own.owned u.first (omega arith) (omega arith) in
           apart (sym is ∙ (kept.owns id m.0 me).owned u.first (omega (arith, all.first))
-              (omega (arith, all.first, all.count, own.within)))
+          (omega (arith, all.first, all.count, own.within)))
 
   -- a legal log of the calls on it leads to each store of a closed table, if all seats came back in one view
   pub closes_kept : (ws : List ℕ) (xs : List State) (id : ℕ) (v : Knows) → Final (Seen (IsKept stores seats) id v) ws xs
@@ -187,9 +208,9 @@ module _ (stores seats : ℕ) where
       let old = kept.keeps k within in
       let end = ends stores seats s kept id v final.1.1 k within old rest first count in
       let there : get_elem? xs k ≡ some old.it.now = final.4 k old.it.now
-          (may_take stores seats s kept id v final.1.1 k within old end.1) in
+      (may_take stores seats s kept id v final.1.1 k within old end.1) in
       subst (HasLegalLog (map (calls_on k) v.lists) (opening_at v.states k)) (sym (at_get xs k old.it.now blank there))
-          end.0
+      end.0
 
 -- new stores keep the rule
 pub begins_kept : (seats : ℕ) (words : List ℕ) (states : List State) → length words ≡ length states + 1

@@ -36,13 +36,13 @@ module _ {A : Type 0} (P : ℕ → A → Type 0) where
       → Each P (set l i a)
   each_set l i a here there j b at =
       ⊎_elim (λ mine. subst (λ (n : ℕ). P n b) (sym mine.0) (subst (P i) mine.1 here))
-          (λ other. there j b other.0 other.1) (at_set l i j a b at)
+      (λ other. there j b other.0 other.1) (at_set l i j a b at)
 
   -- or one more was put at the end
   pub each_push : (l : List A) (a : A) → Each P l → P (length l) a → Each P (l ++ a ∷ [])
   each_push l a all last j b at =
       ⊎_elim (λ early. all j b early) (λ late. subst (λ (n : ℕ). P n b) (sym late.0) (subst (P (length l)) late.1 last))
-          (at_end l a b j at)
+      (at_end l a b j at)
 
 -- two functions that agree on each element of a list give the same list
 pub map_same : {X Y : Type 0} (f g : X → Y) (xs : List X) → All (λ x. f x ≡ g x) xs → map f xs ≡ map g xs

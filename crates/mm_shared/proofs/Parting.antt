@@ -139,8 +139,11 @@ module _ (stores seats : ℕ) where
             (λ same. apart (sym same ∙ is)) ∙ is) (cases_lt seat v.first);
         agree = λ none. yours.agree (λ zero. omega arith);
       })
-      (record { within = omega arith; owned = λ seat from to. absurd (omega arith);
-      agree = λ none. absurd (omega (arith, none refl, yours.within)) })
+      (record {
+        within = omega arith;
+        owned = λ seat from to. absurd (omega arith);
+        agree = λ none. absurd (omega (arith, none refl, yours.within));
+      })
       (λ port u not_me not_you at. others_own stores seats s kept other w theirs w_rest owner stays port u not_you at))
       (λ k old.
       let fit = old.fits id v me in
@@ -149,7 +152,7 @@ module _ (stores seats : ℕ) where
       (record {
         parts = λ n inside.
             ⊎_elim (λ before. their.parts n before ∙ ap (calls_on k)
-                (sym (get_or_append_left w.lists v.lists [] n before)))
+            (sym (get_or_append_left w.lists v.lists [] n before)))
             (λ after.
             let theirs = fit.parts (n - length w.lists) (omega (arith, count)) in
             ap (λ (seat : ℕ). part seat old.it.log) (omega arith)

@@ -29,7 +29,7 @@ module _ (i : ℕ) (e : Entry) where
   parts_with log [] parts n within = absurd (omega arith)
   parts_with log (list ∷ lists) parts zero within =
       part-mine (e.seat + 0) log e (omega arith) ∙ (ap (λ (es : List Entry). es ++ e ∷ []) (parts 0 within)
-          ∙ sym (call_here i list i e refl))
+      ∙ sym (call_here i list i e refl))
   parts_with log (list ∷ lists) parts (suc n) within = part-other (e.seat + suc n) log e (λ same. absurd (omega arith))
       ∙ parts (suc n) within
 

@@ -34,7 +34,7 @@ module _ (id : List ℕ) (stores : List StoreLabel) (named : AreNamed (ids_of st
       let same = (bytes_eq-Decides (id_at (ids_of stores) j) id).0 has in
       let both = (bytes_eq-Decides (id_at (ids_of stores) k) (id_at (ids_of stores) j)).1 (its ∙ sym same) in
       let apart : bytes_eq (id_at (ids_of stores) k) (id_at (ids_of stores) j) ≡ false =
-          named k j [] later (omega (arith, length-map stores (λ (s : StoreLabel). s.id))) in
+      named k j [] later (omega (arith, length-map stores (λ (s : StoreLabel). s.id))) in
       absurd (cc)
 
   -- the first index that passes is the store's, and where none passes no store has the identifier
@@ -43,9 +43,12 @@ module _ (id : List ℕ) (stores : List StoreLabel) (named : AreNamed (ids_of st
       → bytes_eq (id_at (ids_of stores) j) id ≡ (j == k))
       × IfNone r ((j : ℕ) → j < length stores → bytes_eq (id_at (ids_of stores) j) id ≡ false)
   place_is None none =
-      let past = none_passes (λ s. bytes_eq s.id id) stores none in
-      (tt, tt, λ j within. at j false within (fails_before_first (λ (s : StoreLabel). bytes_eq s.id id) stores j
-      no_label (omega arith)))
+      let past = none_passes (λ s. bytes_eq s.id id) stores none in (
+        tt,
+        tt,
+        λ j within. at j false within (fails_before_first (λ (s : StoreLabel). bytes_eq s.id id) stores j
+            no_label (omega arith)),
+      )
   place_is (Some k) found = (is.0, λ j within. by_order j within (cases_order j k), tt)
     where
       is : (k < length stores) × (bytes_eq (get_or stores k no_label).id id ≡ true)

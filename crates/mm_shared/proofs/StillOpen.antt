@@ -9,13 +9,16 @@ pub still_open : (it : OpenStores) (workers : Vec PortView Global) → AreOpen i
     → all_ends workers.items ≡ all_ends it.workers.items → AreOpen (record it { workers = workers })
 still_open it workers are capacity same =
     let many : length workers.items ≡ length it.workers.items = sym (length-map workers.items end_of)
-        ∙ (ap length same ∙ length-map it.workers.items end_of) in
+    ∙ (ap length same ∙ length-map it.workers.items end_of) in
     record {
       kept = grind (arith, common_steps);
       workers = λ i d within.
           let inside : i < length it.workers.items = omega (arith, many, within) in
-          cc (get_or-map end_of workers.items i d (end_of d) within, get_or-map end_of it.workers.items i d (end_of d)
-              inside, are.workers i d inside);
+          cc (
+            get_or-map end_of workers.items i d (end_of d) within,
+            get_or-map end_of it.workers.items i d (end_of d) inside,
+            are.workers i d inside,
+          );
       few = omega (arith, many, are.few);
       rest = rw many are.rest;
     }

@@ -20,8 +20,9 @@ impl Model for Port {
     ghost Value = { PortView };
 
     ghost view = { λ p. record {
-        of = origin p.seat.table_id p.seat.me.0.states; number = p.seat.me.0.first;
-        list = slice_index_or p.seat.me.0.lists 0 []
+      of = origin p.seat.table_id p.seat.me.0.states;
+      number = p.seat.me.0.first;
+      list = slice_index_or p.seat.me.0.lists 0 [];
     } };
 
     ghost invariant = { λ p. IsAtRest p.seat.me × (p.number ≡ p.seat.me.0.first) × (length p.seat.me.0.lists ≡ 1) };
@@ -43,7 +44,9 @@ impl Model for Ports {
     ghost Value = { PortsView };
 
     ghost view = { λ p. record {
-        of = origin p.seat.table_id p.seat.me.0.states; first = p.seat.me.0.first; lists = p.seat.me.0.lists
+      of = origin p.seat.table_id p.seat.me.0.states;
+      first = p.seat.me.0.first;
+      lists = p.seat.me.0.lists;
     } };
 
     ghost invariant = { λ p. IsAtRest p.seat.me × (p.first ≡ p.seat.me.0.first)

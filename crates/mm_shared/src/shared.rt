@@ -34,8 +34,9 @@ impl Model for SharedStores {
     ghost Value = { StoresView };
 
     ghost view = { λ s. record {
-        id = s.table.shared.table_id; many = length s.table.shared.key.states.value.items;
-        seats = s.table.shared.key.seats
+      id = s.table.shared.table_id;
+      many = length s.table.shared.key.states.value.items;
+      seats = s.table.shared.key.seats;
     } };
 
     ghost invariant = { λ s. HasSlots s.table.shared.table_id (length s.table.shared.key.states.value.items) };

@@ -9,7 +9,7 @@ returns-in-Err-clause-none_refused g c =
     let left = c.record_ready.new.sources in
     let none : cause_before memory.stores c.args.base (vec_len c.args.sources) ≡ None = search rules in
     let written = with_items_is c.args.sources left
-        (omega (arith, c.record_ready.auto.sources, c.deref_mut.ensures.len, c.args.sources.ok.0)) in
+    (omega (arith, c.record_ready.auto.sources, c.deref_mut.ensures.len, c.args.sources.ok.0)) in
     rw (written, ← c.deref_mut.ensures.value) (λ lasts lead.
     let one = c.in-Err.ensures.none_refused lasts lead in
     let takes = takes_of c.args.step c.args.base (vec_len c.args.sources) memory _ (omega arith) none in
@@ -18,5 +18,5 @@ returns-in-Err-clause-none_refused g c =
 pub returns-in-Err-clause-err : goal.returns-in-Err-clause-err
 returns-in-Err-clause-err g c = λ none.
     let written = with_items_is c.args.sources c.record_ready.new.sources
-        (omega (arith, c.record_ready.auto.sources, c.deref_mut.ensures.len, c.args.sources.ok.0)) in
+    (omega (arith, c.record_ready.auto.sources, c.deref_mut.ensures.len, c.args.sources.ok.0)) in
     rw (written, ← c.deref_mut.ensures.value) c.in-Err.ensures.err

@@ -7,7 +7,7 @@ returns-in_err-offer_copy g t c =
     let fault = c.in_err-offer_copy.field-0.0 in
     let failed : c.from_residual.result ≡ Err fault = search rules in
     let ends = row_ends (step_of c.args.context.now) c.args.packet c.in-Some.row.now _ fault
-        c.in_err-offer_copy.ensures.offers in
+    c.in_err-offer_copy.ensures.offers in
     record { offers = rw (failed, c.in-Some.ensures.cases.0) ends }
 
 pub returns-then-not-is_empty : goal.returns-then-not-is_empty
@@ -19,6 +19,6 @@ returns-then-not-is_empty g t c = record {
 pub returns-in-None : goal.returns-in-None
 returns-in-None g t c =
     let rows = c.in-Some.ensures.cases.0 ∙ ap (λ rows. c.in-Some.row.now ∷ rows)
-        (nil_from_length c.in-Some.others.now (search rules)) in
+    (nil_from_length c.in-Some.others.now (search rules)) in
     let none = c.in-None.ensures.none in
     rw rows (grind (arith, common_steps))

@@ -19,7 +19,7 @@ record_all-returns-then-sources-eq1 g t c = record {
 pub record_all-returns : goal.record_all-returns
 record_all-returns g t c =
     let offered = both_run g.S.AnySource.leads g.S.AnySource.until _ _ _ _ _ _ _ _ _ _ _
-        c.record_halves-first.ensures.low c.record_halves-first.ensures.high in
+    c.record_halves-first.ensures.low c.record_halves-first.ensures.high in
     let sources = c.split_at_mut-low_sources.ensures.value in
     let workers = c.split_at_mut-low_workers.ensures.value in
     record { offered = rw (c.worse.ensures, sources, workers) offered }

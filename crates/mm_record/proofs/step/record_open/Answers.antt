@@ -25,7 +25,7 @@ settle-requires g c =
     let it = c.seat_workers.new.opened in
     let new = c.seat_workers.ensures.new in
     let written = with_items_is it.workers c.record_all-why.new.workers
-        (omega (arith, c.record_all-why.auto.workers, c.deref_mut.ensures.len, it.workers.ok.0)) in
+    (omega (arith, c.record_all-why.auto.workers, c.deref_mut.ensures.len, it.workers.ok.0)) in
     let ends : all_ends (with_items it.workers c.record_all-why.new.workers).items ≡ all_ends it.workers.items =
     ap all_ends written ∙ c.record_all-why.ensures.offered.ends ∙ ap all_ends c.deref_mut.ensures.value in
     record { opened = still_open it (with_items it.workers c.record_all-why.new.workers) new.are_open refl ends }
@@ -36,7 +36,7 @@ returns-clause-records g c =
     let new = c.seat_workers.ensures.new in
     let before = stores_in c.args.stores.now in
     let written = with_items_is it.workers c.record_all-why.new.workers
-        (omega (arith, c.record_all-why.auto.workers, c.deref_mut.ensures.len, it.workers.ok.0)) in
+    (omega (arith, c.record_all-why.auto.workers, c.deref_mut.ensures.len, it.workers.ok.0)) in
     let ids = ids_open it.labels.items before new.labels in
     rw (← ids) (comes_of g.S.AnySource.leads g.S.AnySource.until _ c.args.sources.now c.record_all-why.new.sources _ _
     c.record_all-why.result before (stores_in c.settle.new.opened)
