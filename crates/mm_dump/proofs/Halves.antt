@@ -92,7 +92,8 @@ one_worked {L} sent failed queue ids orders w links ports workers worked back on
     port port_is = record {
       works = w ∷ [];
       each = All-cons (HasWorked sent failed ids orders) w [] worked (All-nil (HasWorked sent failed ids orders));
-      back = All-cons (λ (v : Work L). IsBack queue v.worker) w [] back (All-nil (λ (v : Work L). IsBack queue v.worker));
+      back = All-cons (λ (v : Work L). IsBack queue v.worker) w [] back
+          (All-nil (λ (v : Work L). IsBack queue v.worker));
       old_links_are = sole links w.old_link one ∙ ap (set links 0) link_is ∙ set-get_or links 0 link;
       new_links_are = sole links w.new_link one;
       old_ports_are = sole ports w.old_port (ports_same ∙ one) ∙ ap (set ports 0) port_is ∙ set-get_or ports 0 port;
