@@ -2,6 +2,7 @@ pub mod Words
 pub mod RangeLists
 pub mod Replays
 pub mod Stepping
+pub mod DumpLemmas
 pub mod Drawing
 pub mod Placing
 pub mod Parts

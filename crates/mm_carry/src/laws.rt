@@ -7,6 +7,7 @@ ghost use Rattle.mm_carry.specs.declared.readiness.TheConstants.{MAX_LINKS};
 
 use mm_desk::laws::{
     any_order_loses_alike, events_conserve_packets, events_keep_a_state, orders_dump_the_oldest,
+    stores_lose_new_or_oldest,
 };
 use mm_dump::Link;
 
@@ -29,7 +30,8 @@ pub fn runs_lose_as_planned()
 
 /// In step runs of whole orders no packet is lost uncounted, none is invented and none is given twice: of each store,
 /// what stood in it and what was offered to it is what its orders were given, what it holds, and the lost, as many as
-/// its counter says. What an order was given has rising times.
+/// its counter says. What its orders were given has rising times over all steps. A bounded store lost packets that
+/// found it full, and a circular store packets that are older than all that it holds at the end.
 pub fn runs_lose_no_packet_uncounted()
     ensures law { RunsLoseNoPacketUncounted }
 {
@@ -37,6 +39,7 @@ pub fn runs_lose_no_packet_uncounted()
     events_conserve_packets();
     events_keep_a_state();
     orders_dump_the_oldest();
+    stores_lose_new_or_oldest();
 }
 
 /// Offers that a store takes, in any order that keeps each recorder's own, and then a dump make a step run.
