@@ -9,6 +9,7 @@ pub mod Parts
 pub mod StoresReady
 pub mod Ordered
 pub mod Counters
+pub mod Sharing
 pub mod StepMore
 pub mod Starting
 pub mod Halts

@@ -28,6 +28,7 @@ use Rattle.mm_carry.proofs.Counters.{by_counters}
 use Rattle.mm_carry.proofs.Halts.{failed_link}
 use Rattle.mm_carry.proofs.Drawing.{taken_fits}
 use Rattle.mm_carry.proofs.Ordered.{named_once, may_order, wanted_in_all, orders_are}
+use Rattle.mm_carry.proofs.Sharing.{shared}
 use Rattle.mm_carry.proofs.StepMore.{Footing, all_same, done_on}
 use Rattle.mm_carry.proofs.Parts.{as_many, as_many_sources, stopped_of, never_refused, whole_step}
 use Rattle.mm_carry.proofs.Placing.{no_held, places_differ}
@@ -144,6 +145,7 @@ done_first sent failed m now report stores is = record {
     no_failure = refl;
   };
   accounted = λ s store. none_asked (offered m s) (store_state m m.memory.stores s);
+  shared = shared m 0;
   report_is = is;
   rows = ap (λ (r : Reported). r.steps) is;
   counted = rw (stores, is) (by_counters m (λ t. m.memory.stores) 0 refl m.problem m.amounts

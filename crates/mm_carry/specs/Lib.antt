@@ -7,6 +7,7 @@ pub mod Laws
 pub mod Readiness
 pub mod Places
 pub mod RunInput
+pub mod Untaken
 pub mod Beyond
 pub mod Numbers
 pub mod RunState
