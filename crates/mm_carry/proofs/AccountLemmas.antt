@@ -1,8 +1,9 @@
 -- What became of the packets of a run: a log of offers, the log's seats, a step run, and then one step after another.
-use Rattle.std.proofs.Common.{◌≡◌, ◌≢◌, inl, inr, ℕ, zero, suc, ◌+◌, ◌-◌, ◌<◌, ◌≤◌, List, [], ◌∷◌, ◌++◌, length, get_or}
-use Rattle.std.proofs.Common.{refl, sym, ap, subst, ◌∙◌, arith, length-append, append_assoc}
-use Rattle.mm_carry.proofs.Words.{cases_lt, cases_eq, eq-eqb, ne_eqb, map-append, get_or_append_left, All-head}
-use Rattle.mm_carry.proofs.Words.{All-tail, flat_map-map, fill_by_all, IsPermutation-refl, IsPermutation-sym}
+use Rattle.std.proofs.Common.{◌≡◌, ◌≢◌, ◌⊎◌, inl, inr, ℕ, zero, suc, ◌+◌, ◌-◌, ◌<◌, ◌≤◌, List, [], ◌∷◌, ◌++◌, length}
+use Rattle.std.proofs.Common.{get_or, refl, sym, ap, subst, ◌∙◌, arith, append_assoc}
+use Rattle.mm_carry.proofs.Words.{cases_lt, cases_eq, eq-eqb, ne_eqb, append-nil, map-append, nil_from_length}
+use Rattle.mm_carry.proofs.Words.{All-head, All-nil, All-tail, flat_map-map, fill_by_all, IsPermutation-refl}
+use Rattle.mm_carry.proofs.Words.{IsPermutation-sym}
 use Rattle.mm_carry.proofs.Words.{IsPermutation-trans, IsPermutation-append_left, IsPermutation-append_right}
 use Rattle.mm_carry.proofs.Words.{IsPermutation-append_comm, range_with_len, Ok, flat_map, IsPermutation, SpacePacket}
 use Rattle.mm_carry.proofs.Words.{Dumping, Amounts, IsRising, Stored, ReplaysKeepStates, OffersLeave}
@@ -12,15 +13,20 @@ use Rattle.mm_carry.proofs.Words.{IsStepRun, AreTimed}
 use Rattle.mm_carry.proofs.RangeLists.{flat_map_range_same}
 use Rattle.mm_desk.specs.declared.reply.Reply.{Reply}
 use Rattle.mm_desk.specs.declared.reply.Reply.TheVariants as reply
-use Rattle.mm_desk.specs.Fates.{packets_of, accepted, taken, given_up, deleted, after, over, ConservePackets}
-use Rattle.mm_desk.proofs.FateLemmas.{joined}
-use Rattle.mm_carry.specs.Accounts.{packet_in, packets_in, packets_offered, IsAccounted}
+use Rattle.mm_desk.specs.Fates.{packets_of, accepted, taken, given, given_up, deleted, after, over, ConservePackets}
+use Rattle.mm_desk.specs.Losses.{BoundedLoseNew, CircularLoseOldest, GiveLater}
+use Rattle.mm_desk.proofs.FateLemmas.{joined, over-append}
+use Rattle.mm_carry.specs.Accounts.{packet_in, packets_in, packets_offered, over_steps, AreAskedIn, HaveLeft}
+use Rattle.mm_carry.specs.Accounts.{IsAccounted}
+use Rattle.mm_carry.proofs.DumpLemmas.{replayed, over_both, dump_does, none_left, after-append, left_more}
+use Rattle.mm_carry.proofs.Replays.{IsLegal-parts, replay-append}
 use Rattle.mm_carry.proofs.Stepping.{halves, stands}
 
--- what an offer that is taken takes and deletes
+-- what an offer that is taken takes, deletes and gives
 record TakesAlone (s : State) (event : Event) : Type 0 where
   takes : taken s event ≡ packet_in event
   deletes : deleted s event ≡ []
+  gives : given s event ≡ []
 
 -- the packet that a reply to its offer takes
 abbrev takes_by : SpacePacket → Reply → List SpacePacket
@@ -30,17 +36,17 @@ takes_by packet other = []
 by_event : (s : State) (event : Event) (answer : Reply) → IsTaken event answer → answer ≡ (step s event).0
     → TakesAlone s event
 by_event s (Offer now packet) (reply.Offered (Ok offered)) taken is =
-    record { takes = sym (ap (takes_by packet) is); deletes = refl }
+    record { takes = sym (ap (takes_by packet) is); deletes = refl; gives = refl }
 by_event s event answer taken is = absurd taken
 
 -- what a legal log of offers that are taken does
 record Takes (s : State) (log : List Entry) : Type 0 where
   takes : over taken s (asked log) ≡ packets_in (asked log)
   deletes : over deleted s (asked log) ≡ []
-  leaves : after s (asked log) ≡ replay s log
+  gives : over given s (asked log) ≡ []
 
 takes_all : (s : State) (log : List Entry) → IsLegal s log → AreTaken log → Takes s log
-takes_all s [] legal all = record { takes = refl; deletes = refl; leaves = refl }
+takes_all s [] legal all = record { takes = refl; deletes = refl; gives = refl }
 takes_all s (e ∷ es) legal all =
     let here = by_event s e.event e.reply (All-head (λ (x : Entry). IsTaken x.event x.reply) e es all) legal.0 in
     let rest = takes_all (step s e.event).1 es legal.1 (All-tail (λ (x : Entry). IsTaken x.event x.reply) e es all) in
@@ -48,7 +54,7 @@ takes_all s (e ∷ es) legal all =
       takes = ap (λ l. l ++ over taken (step s e.event).1 (asked es)) here.takes ∙ ap (λ l. packet_in e.event ++ l)
           rest.takes;
       deletes = ap (λ l. l ++ over deleted (step s e.event).1 (asked es)) here.deletes ∙ rest.deletes;
-      leaves = rest.leaves;
+      gives = ap (λ l. l ++ over given (step s e.event).1 (asked es)) here.gives ∙ rest.gives;
     }
 
 module _ {X : Type 0} (f g : ℕ → List X) (x : List X) (j : ℕ) (here : f j ≡ x ++ g j) (others : (k : ℕ) → k ≢ j → f k
@@ -107,72 +113,196 @@ shuffled_packets offers log shuffle =
     subst (λ l. IsPermutation l (packets_in (asked log))) (alike ∙ all)
     (IsPermutation-sym _ _ (parted (length offers) log shuffle.below))
 
--- what a step run does with packets
-record StepAccounts (s t : State) (came : List SpacePacket) (gave : List Stored) : Type 0 where
-  lost : List SpacePacket
-  packets : IsPermutation (packets_of s.store.content ++ came) (packets_of gave ++ packets_of t.store.content ++ lost)
-  counted : t.lost ≡ s.lost + length lost
-  rising : IsRising gave
+-- what a step run, by these events, does with packets
+record StepAccounts (s t : State) (came : List SpacePacket) (gave : List Stored) (es : List Event) : Type 0 where
+  packets : IsPermutation (packets_of s.store.content ++ came)
+      (packets_of gave ++ packets_of t.store.content ++ over given_up s es)
+  leads : t ≡ after s es
+  gives : over given s es ≡ gave
+  gone : HaveLeft s es gave
+
+-- before the first step nothing was asked
+pub none_asked : (offers : ℕ → List (List Event)) (s : State) → IsAccounted 0 offers (λ t. []) (λ t. s)
+none_asked offers s = record {
+  lost = [];
+  packets = IsPermutation-refl _;
+  counted = omega arith;
+  rising = λ i j d before within. absurd (omega arith);
+  events = λ t. [];
+  history = record {
+    runs = λ t first last. absurd (omega arith);
+    leads = λ t last. no_time t (omega arith);
+    gives = λ t last. no_gift t (omega arith);
+    gone = none_left s [];
+  };
+  loses = record {
+    are = refl;
+    bounded = λ kind. record { full = tt; none = refl };
+    circular = λ kind. record { lost = refl; older = All-nil _ };
+  };
+}
+  where
+    no_time : (t : ℕ) → t ≡ 0 → s ≡ after s (over_steps (λ t. []) t)
+    no_time t none = rw none refl
+
+    no_gift : (t : ℕ) → t ≡ 0 → over_steps {X = Stored} (λ t. []) t ≡ over given s (over_steps (λ t. []) t)
+    no_gift t none = rw none refl
+
+-- a step is one of those from the first on
+from_one : (t : ℕ) → 0 < t → 1 ≤ t
+from_one t some = omega arith
 
 module _ (conserve : ConservePackets) (leave : OffersLeave) (keep : ReplaysKeepStates)
-    (dump : OrdersDumpTheOldest) where
-  -- times rise in the front of a list in which they rise
-  rising_front : (gave rest : List Stored) → IsRising (gave ++ rest) → IsRising gave
-  rising_front gave rest all i j d before within =
-      let first : i < length gave = omega arith in
-      rw (← get_or_append_left gave rest d i first, ← get_or_append_left gave rest d j within)
-      (all i j d before (omega (arith, length-append gave rest)))
-
+    (dump : OrdersDumpTheOldest) (later : GiveLater) where
   step_accounts : (s t : State) (offers : List (List Event)) (wanted : ℕ) (gave : List Stored) → IsState s
       → AreTimed offers
-      → IsStepRun offers wanted gave s t → StepAccounts s t (packets_offered offers) gave
+      → (is : IsStepRun offers wanted gave s t)
+      → StepAccounts s t (packets_offered offers) gave (asked (is.recorded ++ is.dumped))
   step_accounts s t offers wanted gave sound timed is =
       let mid = replay s is.recorded in
       let parts = halves leave keep dump s t offers wanted gave sound timed is in
       let takes = takes_all s is.recorded parts.legal is.taken in
       let log = conserve s (asked is.recorded) in
-      let left = over given_up s (asked is.recorded) in
+      let lost = over given_up s (asked is.recorded) in
       let held : IsPermutation (packets_of s.store.content ++ packets_in (asked is.recorded))
-      (packets_of mid.store.content ++ left) =
-      rw (takes.deletes, takes.leaves, takes.takes) at log.packets in
+      (packets_of mid.store.content ++ lost) =
+      rw (takes.deletes, replayed s is.recorded, takes.takes) at log.packets in
+      let oldest = parts.dumps.oldest in
       let split : packets_of mid.store.content ≡ packets_of gave ++ packets_of t.store.content =
-      ap packets_of parts.dumps.oldest ∙ map-append (λ (p : Stored). p.packet) gave t.store.content in
+      ap packets_of oldest ∙ map-append (λ (p : Stored). p.packet) gave t.store.content in
+      let legal = IsLegal-parts s is.recorded is.dumped is.run.legal in
+      let does = dump_does mid wanted gave t.store.content is.dumped
+      (subst IsRising oldest parts.stood.store.rising) oldest is.dump legal.1 in
+      let leads : t ≡ after mid (asked is.dumped) =
+      is.run.leaves ∙ replay-append s is.recorded is.dumped ∙ sym (replayed mid is.dumped) in
+      -- a dump gives nothing up
+      let few = (conserve mid (asked is.dumped)).lost in
+      let none = nil_from_length (over given_up mid (asked is.dumped))
+      (omega (arith, few, ap (λ (u : State). u.lost) leads, ap (λ (u : State). u.lost) parts.dumps.others)) in
+      let all : lost ≡ over given_up s (asked (is.recorded ++ is.dumped)) =
+      sym (over_both given_up s is.recorded is.dumped ∙ ap (λ ps. lost ++ ps) none ∙ append-nil lost) in
       record {
-        lost = left;
-        packets = subst (λ l. IsPermutation (packets_of s.store.content ++ packets_offered offers) (l ++ left)) split
+        packets = subst (λ (ls : List SpacePacket × List SpacePacket).
+            IsPermutation (packets_of s.store.content ++ packets_offered offers) (ls.0 ++ ls.1))
+            (λ i. (split i, all i))
             (IsPermutation-trans _ _ _ (IsPermutation-append_right (packets_of s.store.content) _ _
             (shuffled_packets offers is.recorded is.shuffle)) held);
-        counted = ap (λ (u : State). u.lost) parts.dumps.others ∙ ap (λ (u : State). u.lost) (sym takes.leaves)
-            ∙ log.lost;
-        rising = rising_front gave t.store.content (subst IsRising parts.dumps.oldest parts.stood.store.rising);
+        leads = is.run.leaves ∙ sym (replayed s (is.recorded ++ is.dumped));
+        gives = over_both given s is.recorded is.dumped ∙ (λ i. takes.gives i ++ does.gives i);
+        gone = subst (λ (es : List Event). HaveLeft s es gave)
+            (sym (map-append (λ (e : Entry). e.event) is.recorded is.dumped))
+            (left_more later s (asked is.recorded) (asked is.dumped) [] gave sound (none_left s (asked is.recorded))
+            (subst (λ (u : State). HaveLeft u (asked is.dumped) gave) (sym (replayed s is.recorded)) does.gone));
       }
 
-  pub accounted : (q : Dumping) (x : Amounts) (steps : ℕ) (offers : ℕ → ℕ → List (List Event))
-      (gave : ℕ → ℕ → List Stored) (states : ℕ → ℕ → State)
-      → IsRunOf q x steps offers gave states → (s n : ℕ) → s < length q.rows → n ≤ steps → IsAccounted n (offers s)
-      (gave s) (states s)
-  accounted q x steps offers gave states is s zero store within =
-      record {
-        lost = [];
-        packets = IsPermutation-refl _;
-        counted = omega arith;
-        rising = λ t first last. absurd (omega arith);
-      }
-  accounted q x steps offers gave states is s (suc n) store within =
-      let before = accounted q x steps offers gave states is s n store (omega arith) in
-      let stood = stands leave keep dump q x steps offers gave states is s n store (omega arith) in
-      let back : suc n - 1 ≡ n = omega arith in
-      let run = subst (λ (m : ℕ). IsStepRun (offers s (suc n)) (x s (suc n)) (gave s (suc n)) (states s m)
-      (states s (suc n))) back (is.runs s (suc n) store (omega arith) within) in
-      let here = step_accounts (states s n) (states s (suc n)) (offers s (suc n)) (x s (suc n)) (gave s (suc n))
-      stood.sound (is.timed s (suc n) store (omega arith) within) run in
-      record {
-        lost = before.lost ++ here.lost;
-        packets = joined (packets_of (states s 0).store.content) _ _ (packets_of (states s n).store.content) _ _ _ _ _
-            before.packets here.packets;
-        counted = omega (arith, before.counted, here.counted, length-append before.lost here.lost);
-        rising = λ t first last. elim (cases_lt t (suc n)) [
-          | inl earlier ↦ before.rising t first (omega arith)
-          | inr at ↦ let same : suc n ≡ t = omega arith in subst (λ (m : ℕ). IsRising (gave s m)) same here.rising
-        ];
-      }
+  -- a step run by these events
+  step_by : (s t : State) (offers : List (List Event)) (gave : List Stored) → IsState s → AreTimed offers
+      → (es : List Event) → AreAskedIn offers gave s t es → StepAccounts s t (packets_offered offers) gave es
+  step_by s t offers gave sound timed es here =
+      subst (StepAccounts s t (packets_offered offers) gave) (sym here.2)
+      (step_accounts s t offers here.0 gave sound timed here.1)
+
+  module _ (new : BoundedLoseNew) (oldest : CircularLoseOldest) (q : Dumping) (x : Amounts) (steps : ℕ)
+      (offers : ℕ → ℕ → List (List Event)) (gave : ℕ → ℕ → List Stored) (states : ℕ → ℕ → State)
+      (is : IsRunOf q x steps offers gave states) (s : ℕ) (store : s < length q.rows) where
+    -- the events of a step of the run; none of another step
+    events_by : (t : ℕ) → (0 < t) ⊎ (t ≤ 0) → (steps < t) ⊎ (t ≤ steps) → List Event
+    events_by t (inl first) (inr last) =
+        let run = is.runs s t store (from_one t first) last in asked (run.recorded ++ run.dumped)
+    events_by t first last = []
+
+    events : ℕ → List Event
+    events t = events_by t (cases_lt 0 t) (cases_lt steps t)
+
+    abbrev MadeBy : ℕ → List Event → Type 0
+    MadeBy t es = AreAskedIn (offers s t) (gave s t) (states s (t - 1)) (states s t) es
+
+    made_by : (t : ℕ) (first : (0 < t) ⊎ (t ≤ 0)) (last : (steps < t) ⊎ (t ≤ steps)) → 1 ≤ t → t ≤ steps
+        → MadeBy t (events_by t first last)
+    unfolding events_by
+    made_by t (inl first) (inr last) some within = (x s t, is.runs s t store (from_one t first) last, refl)
+    made_by t (inl first) (inl beyond) some within = absurd (omega (arith, beyond, within))
+    made_by t (inr none) last some within = absurd (omega (arith, none, some))
+
+    made : (t : ℕ) → 1 ≤ t → t ≤ steps → MadeBy t (events t)
+    unfolding events
+    made t = made_by t (cases_lt 0 t) (cases_lt steps t)
+
+    -- as the run begins
+    abbrev begun : State
+    begun = states s 0
+
+    -- what is known after some of the steps
+    record Told (n : ℕ) : Type 0 where
+      packets : IsPermutation (packets_of begun.store.content ++ over_steps (λ t. packets_offered (offers s t)) n)
+          (over_steps (λ t. packets_of (gave s t)) n ++ packets_of (states s n).store.content
+          ++ over given_up begun (over_steps events n))
+      leads : states s n ≡ after begun (over_steps events n)
+      gives : over_steps (gave s) n ≡ over given begun (over_steps events n)
+      gone : HaveLeft begun (over_steps events n) (over_steps (gave s) n)
+
+    -- what the events of one step more do
+    joins : {X : Type 0} (each : State → Event → List X) (n : ℕ) → Told n
+        → over each begun (over_steps events (suc n))
+        ≡ over each begun (over_steps events n) ++ over each (states s n) (events (suc n))
+    joins each n before =
+        over-append each begun (over_steps events n) (events (suc n))
+        ∙ ap (λ (u : State). over each begun (over_steps events n) ++ over each u (events (suc n))) (sym before.leads)
+
+    told_more : (n : ℕ) → Told n → StepAccounts (states s n) (states s (suc n)) (packets_offered (offers s (suc n)))
+        (gave s (suc n)) (events (suc n)) → Told (suc n)
+    told_more n before here =
+        let es = over_steps events n in
+        let now = events (suc n) in
+        let gives = sym here.gives in
+        record {
+          packets = subst (λ l. IsPermutation (packets_of begun.store.content
+              ++ over_steps (λ t. packets_offered (offers s t)) (suc n))
+              (over_steps (λ t. packets_of (gave s t)) (suc n) ++ packets_of (states s (suc n)).store.content ++ l))
+              (sym (joins given_up n before))
+              (joined (packets_of begun.store.content) _ _ (packets_of (states s n).store.content) _ _ _ _ _
+              before.packets here.packets);
+          leads = here.leads ∙ ap (λ (u : State). after u now) before.leads ∙ sym (after-append begun es now);
+          gives = (λ i. before.gives i ++ gives i) ∙ sym (joins given n before);
+          gone = left_more later begun es now (over_steps (gave s) n) (gave s (suc n)) (is.ready s store).sound
+              before.gone (subst (λ (u : State). HaveLeft u now (gave s (suc n))) before.leads here.gone);
+        }
+
+    told : (n : ℕ) → n ≤ steps → Told n
+    told zero within = record {
+      packets = IsPermutation-refl _;
+      leads = refl;
+      gives = refl;
+      gone = none_left begun [];
+    }
+    told (suc n) within =
+        let before = told n (omega arith) in
+        let stood = stands leave keep dump q x steps offers gave states is s n store (omega arith) in
+        let back : suc n - 1 ≡ n = omega arith in
+        let here = subst (λ (m : ℕ). AreAskedIn (offers s (suc n)) (gave s (suc n)) (states s m) (states s (suc n))
+        (events (suc n))) back (made (suc n) (omega arith) within) in
+        told_more n before (step_by (states s n) (states s (suc n)) (offers s (suc n)) (gave s (suc n)) stood.sound
+        (is.timed s (suc n) store (omega arith) within) (events (suc n)) here)
+
+    pub accounted : IsAccounted steps (offers s) (gave s) (states s)
+    accounted =
+        let all = told steps (omega arith) in
+        let es = over_steps events steps in
+        record {
+          lost = over given_up begun es;
+          packets = all.packets;
+          counted = ap (λ (u : State). u.lost) all.leads ∙ (conserve begun es).lost;
+          rising = all.gone.rising;
+          events = events;
+          history = record {
+            runs = made;
+            leads = λ t last. (told t last).leads;
+            gives = λ t last. (told t last).gives;
+            gone = all.gone;
+          };
+          loses = record {
+            are = refl;
+            bounded = new begun es;
+            circular = oldest begun es (is.ready s store).sound;
+          };
+        }

@@ -3,7 +3,7 @@ use Rattle.std.proofs.Common.{◌≡◌, ◌≢◌, ℕ, zero, suc, ◌+◌, ◌
 use Rattle.std.proofs.Common.{map, get_or, All, refl, sym, subst, ap, ◌∙◌, arith}
 use Rattle.mm_carry.proofs.Words.{eqb-true, eqb-false, ltb-false, or_parts, both_ways, false_from_ne_true, length-map}
 use Rattle.mm_carry.proofs.Words.{get_or-map, append-nil, All-map, find_at, list_any_at, length-map-range_with_len}
-use Rattle.mm_carry.proofs.Words.{IsPermutation-refl, passes_at_first, position_or_len_is, prefix_len-le-length}
+use Rattle.mm_carry.proofs.Words.{passes_at_first, position_or_len_is, prefix_len-le-length}
 use Rattle.mm_carry.proofs.Words.{slice_get-get_or, bytes_eq-Decides, list_any, position_or_len, slice_index}
 use Rattle.mm_carry.proofs.Words.{slice_index_or, bytes_eq, slice_get, Option, Some, None, is_some, not, ◌&&◌, IsTrue}
 use Rattle.mm_carry.proofs.Words.{vec_capacity, MAX_STEPS, MAX_STORES, StoreRow, SpacePacket, Dumping, IsDumping, row}
@@ -13,8 +13,8 @@ use Rattle.mm_carry.proofs.Words.{is_clock_late, is_late, TakesAll, Supply, Brok
 use Rattle.mm_carry.proofs.Words.{IsReady, given_to, recording_at, orders_at, MayReport, IsReportedStep}
 use Rattle.mm_carry.proofs.Words.{AreWithinLimits, HasRun, IsHaltedIn, RunsLoseAsPlanned, RunsLoseNoPacketUncounted}
 use Rattle.mm_carry.proofs.Words.{StepRunsKeepStores, IsPlaceOf, ArePlaces, StandWithin, AllMeet, NoneUnknown, meets}
-use Rattle.mm_carry.proofs.Words.{meets_at, RunInput, recording_in, step_of, place_in_memory, store_state, step_orders}
-use Rattle.mm_carry.proofs.Words.{RunState, with_supplies, AreReady, AreOrders, StepsDone, taken_amounts}
+use Rattle.mm_carry.proofs.Words.{meets_at, RunInput, offered, recording_in, step_of, place_in_memory, store_state}
+use Rattle.mm_carry.proofs.Words.{step_orders, RunState, with_supplies, AreReady, AreOrders, StepsDone, taken_amounts}
 use Rattle.mm_carry.proofs.Words.{RunContext, Stop, AreCounters}
 use Rattle.mm_shared.specs.declared.counters.StoreCounters.{StoreCounters}
 use Rattle.mm_desk.specs.declared.state.Retrieval.{Retrieval}
@@ -23,10 +23,12 @@ use Rattle.mm_carry.specs.declared.requirement.Requirement.{Requirement}
 use Rattle.mm_carry.specs.declared.requirement.Requirement.TheVariants.{Ready, Size, Opening}
 use Rattle.mm_carry.specs.declared.room.RunBuffers.{RunBuffers}
 use Rattle.mm_desk.proofs.PlaceLemmas.{is_other}
+use Rattle.mm_carry.proofs.AccountLemmas.{none_asked}
 use Rattle.mm_carry.proofs.Counters.{by_counters}
 use Rattle.mm_carry.proofs.Halts.{failed_link}
 use Rattle.mm_carry.proofs.Drawing.{taken_fits}
 use Rattle.mm_carry.proofs.Ordered.{named_once, may_order, wanted_in_all, orders_are}
+use Rattle.mm_carry.proofs.Sharing.{shared}
 use Rattle.mm_carry.proofs.StepMore.{Footing, all_same, done_on}
 use Rattle.mm_carry.proofs.Parts.{as_many, as_many_sources, stopped_of, never_refused, whole_step}
 use Rattle.mm_carry.proofs.Placing.{no_held, places_differ}
@@ -142,12 +144,8 @@ done_first sent failed m now report stores is = record {
     lists = λ l within. sym (append-nil (slice_index_or (map sent now.links) l []));
     no_failure = refl;
   };
-  accounted = λ s store. record {
-    lost = [];
-    packets = IsPermutation-refl _;
-    counted = omega arith;
-    rising = λ t first last. absurd (omega arith);
-  };
+  accounted = λ s store. none_asked (offered m s) (store_state m m.memory.stores s);
+  shared = shared m 0;
   report_is = is;
   rows = ap (λ (r : Reported). r.steps) is;
   counted = rw (stores, is) (by_counters m (λ t. m.memory.stores) 0 refl m.problem m.amounts

@@ -15,6 +15,7 @@ use Rattle.mm_dump.specs.Dumped.{times, places_of, AllTook}
 use Rattle.mm_carry.proofs.Counters.{counts_planned, by_counters, came_at, timed_offers}
 use Rattle.mm_carry.proofs.RangeLists.{map_range_same, flat_map_range_same}
 use Rattle.mm_carry.proofs.Ordered.{wanted_is, orders_are}
+use Rattle.mm_carry.proofs.Sharing.{shared}
 use Rattle.mm_carry.proofs.Parts.{as_many, same_ids}
 use Rattle.mm_carry.proofs.Placing.{id_there}
 
@@ -289,6 +290,7 @@ module _ {L : Type 0} (sent : L → List Sent) (failed : L → ℕ) (m : RunInpu
             sources_are = given_on;
             links_are = sent_on;
             accounted = counts (as_came m) m.amounts count (offered m) gave_of states run_of;
+            shared = shared m count;
             report_is = is ∙ (λ i. record {
               ids = ap (λ (r : Reported). r.ids) was i;
               most = ap (λ (r : Reported). r.most) was i;

@@ -7,6 +7,7 @@ pub mod Laws
 pub mod Readiness
 pub mod Places
 pub mod RunInput
+pub mod Untaken
 pub mod Beyond
 pub mod Numbers
 pub mod RunState
@@ -16,3 +17,4 @@ pub mod Course
 pub mod Failure
 pub mod Ending
 pub mod Halts
+pub mod Following

@@ -7,6 +7,7 @@ use Rattle.mm_carry.specs.Words.{all_sent, Reported}
 use Rattle.mm_carry.specs.StepRuns.{IsStepRun}
 use Rattle.mm_carry.specs.Accounts.{IsAccounted}
 use Rattle.mm_carry.specs.AsPlanned.{AtEach}
+use Rattle.mm_carry.specs.Untaken.{AreShared}
 use Rattle.mm_carry.specs.RunInput.{RunInput, offered, as_came, place_in_memory, store_state, step_orders}
 use Rattle.mm_carry.specs.Numbers.{report_of, rows_by_counters, AreByCounters}
 use Rattle.mm_carry.specs.RunState.{RunState}
@@ -67,6 +68,8 @@ pub record StepsDone {L : Type 0} (sent : L → List Sent) (failed : L → ℕ) 
   -- of each store of the problem, what became of its packets: what the links sent is what its orders were given
   pub accounted : (s : ℕ) → s < length m.problem.rows
       → IsAccounted steps (offered m s) (gave (place_in_memory m s)) (λ t. store_state m (stores t) s)
+  -- of all that the sources gave, which store was offered what, and what no route takes
+  pub shared : AreShared m steps
   pub report_is : report ≡ report_of m.problem (as_came m) m.amounts steps
   pub rows : report.steps ≡ rows_by_counters m stores steps
   pub counted : AreByCounters m after.stores report.steps

@@ -3,12 +3,15 @@ ghost use Rattle.std.specs.Prelude.{◌≡◌};
 ghost use Rattle.mm_carry.specs.Laws.{RunsLoseAsPlanned, RunsLoseThePlansLoss, RunsLoseNoPacketUncounted};
 ghost use Rattle.mm_carry.specs.Laws.{HalvesMakeStepRuns, StepRunsKeepStores, WholeStepsFit, DrawsMeetNoRefusal};
 ghost use Rattle.mm_carry.specs.Halts.{BrokenStepsAreLogs, StepsWithoutStopAreWhole};
+ghost use Rattle.mm_carry.specs.Following.{RunsSendOnce, StepsAreStoreRuns, HaltedRunsAreStoreRuns};
 ghost use Rattle.mm_carry.specs.declared.readiness.TheConstants.{MAX_LINKS};
 
 use mm_desk::laws::{
     any_order_loses_alike, events_conserve_packets, events_keep_a_state, orders_dump_the_oldest,
+    stores_lose_new_or_oldest,
 };
 use mm_dump::Link;
+use mm_dump::laws::broken_orders_change_nothing;
 
 /// The most links of a run.
 pub fn constants_are()
@@ -29,7 +32,8 @@ pub fn runs_lose_as_planned()
 
 /// In step runs of whole orders no packet is lost uncounted, none is invented and none is given twice: of each store,
 /// what stood in it and what was offered to it is what its orders were given, what it holds, and the lost, as many as
-/// its counter says. What an order was given has rising times.
+/// its counter says. What its orders were given has rising times over all steps. A bounded store lost packets that
+/// found it full, and a circular store packets that are older than all that it holds at the end.
 pub fn runs_lose_no_packet_uncounted()
     ensures law { RunsLoseNoPacketUncounted }
 {
@@ -37,6 +41,7 @@ pub fn runs_lose_no_packet_uncounted()
     events_conserve_packets();
     events_keep_a_state();
     orders_dump_the_oldest();
+    stores_lose_new_or_oldest();
 }
 
 /// Offers that a store takes, in any order that keeps each recorder's own, and then a dump make a step run.
@@ -76,3 +81,23 @@ pub fn broken_steps_are_logs<L: Link>()
 pub fn steps_without_stop_are_whole<L: Link>()
     ensures whole { StepsWithoutStopAreWhole L.sent L.failed }
 {}
+
+/// Over runs that follow one another over one store, whatever else is asked of it between them, what whole orders sent
+/// has rising times: none of it is sent twice. What a whole order sent and an earlier run had sent already, a broken
+/// order of an earlier run had sent.
+pub fn whole_orders_send_once()
+    ensures law { RunsSendOnce }
+{
+    stores_lose_new_or_oldest();
+}
+
+/// What a run did with a store is such a run: what its whole orders sent has left the store, and what an order that
+/// broke sent stands there as the oldest packets. The second law is of a run that was halted in a step.
+pub fn runs_are_store_runs<L: Link>()
+    ensures steps { StepsAreStoreRuns L.sent L.failed }
+    ensures halted { HaltedRunsAreStoreRuns L.sent L.failed }
+{
+    broken_orders_change_nothing();
+    orders_dump_the_oldest();
+    stores_lose_new_or_oldest();
+}
