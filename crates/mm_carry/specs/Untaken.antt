@@ -1,7 +1,7 @@
 -- What becomes of all that the sources of a run give: what some route takes, and what none does.
 use Rattle.std.specs.Prelude.{◌≡◌, ℕ, ◌<◌, Bool, not, List, ◌++◌, length, filter, flat_map, IsPermutation}
 use Rattle.std.specs.List.{list_any}
-use Rattle.mm_memory.specs.Recording.{is_routed}
+use Rattle.mm_control.specs.Routing.{is_routed}
 use Rattle.mm_carry.specs.Words.{SpacePacket, row, stores}
 use Rattle.mm_carry.specs.Accounts.{over_steps, packets_offered}
 use Rattle.mm_carry.specs.RunInput.{RunInput, offered}
