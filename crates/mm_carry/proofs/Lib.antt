@@ -16,3 +16,4 @@ pub mod Halts
 pub mod Beyond
 pub mod Ended
 pub mod AccountLemmas
+pub mod StoreRuns

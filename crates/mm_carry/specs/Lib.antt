@@ -17,3 +17,4 @@ pub mod Course
 pub mod Failure
 pub mod Ending
 pub mod Halts
+pub mod Following

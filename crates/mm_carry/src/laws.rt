@@ -3,6 +3,7 @@ ghost use Rattle.std.specs.Prelude.{◌≡◌};
 ghost use Rattle.mm_carry.specs.Laws.{RunsLoseAsPlanned, RunsLoseThePlansLoss, RunsLoseNoPacketUncounted};
 ghost use Rattle.mm_carry.specs.Laws.{HalvesMakeStepRuns, StepRunsKeepStores, WholeStepsFit, DrawsMeetNoRefusal};
 ghost use Rattle.mm_carry.specs.Halts.{BrokenStepsAreLogs, StepsWithoutStopAreWhole};
+ghost use Rattle.mm_carry.specs.Following.{RunsSendOnce, StepsAreStoreRuns, HaltedRunsAreStoreRuns};
 ghost use Rattle.mm_carry.specs.declared.readiness.TheConstants.{MAX_LINKS};
 
 use mm_desk::laws::{
@@ -10,6 +11,7 @@ use mm_desk::laws::{
     stores_lose_new_or_oldest,
 };
 use mm_dump::Link;
+use mm_dump::laws::broken_orders_change_nothing;
 
 /// The most links of a run.
 pub fn constants_are()
@@ -79,3 +81,23 @@ pub fn broken_steps_are_logs<L: Link>()
 pub fn steps_without_stop_are_whole<L: Link>()
     ensures whole { StepsWithoutStopAreWhole L.sent L.failed }
 {}
+
+/// Over runs that follow one another over one store, whatever else is asked of it between them, what whole orders sent
+/// has rising times: none of it is sent twice. What a whole order sent and an earlier run had sent already, a broken
+/// order of an earlier run had sent.
+pub fn whole_orders_send_once()
+    ensures law { RunsSendOnce }
+{
+    stores_lose_new_or_oldest();
+}
+
+/// What a run did with a store is such a run: what its whole orders sent has left the store, and what an order that
+/// broke sent stands there as the oldest packets. The second law is of a run that was halted in a step.
+pub fn runs_are_store_runs<L: Link>()
+    ensures steps { StepsAreStoreRuns L.sent L.failed }
+    ensures halted { HaltedRunsAreStoreRuns L.sent L.failed }
+{
+    broken_orders_change_nothing();
+    orders_dump_the_oldest();
+    stores_lose_new_or_oldest();
+}

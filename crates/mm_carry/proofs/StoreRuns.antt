@@ -1,0 +1,260 @@
+-- What a run did with each store, whole or halted, and what runs that follow one another send.
+use Rattle.std.proofs.Common.{◌≡◌, ◌⊎◌, inl, inr, ℕ, ◌+◌, ◌-◌, ◌<◌, List, [], ◌∷◌, ◌++◌, length, map, true, refl, sym}
+use Rattle.std.proofs.Common.{ap, subst, ◌∙◌, arith, append_assoc, length-append, Contains}
+use Rattle.std.specs.Prelude.{sum_by}
+use Rattle.std.proofs.lemmas.Grind.{flat_map-append}
+use Rattle.std.proofs.lemmas.List.{get_or-append-add}
+use Rattle.std.proofs.lemmas.List.Elements.{Contains-append_cases, Contains-append_left, Contains-append_right}
+use Rattle.std.proofs.lemmas.Option.{slice_get_within}
+use Rattle.mm_carry.proofs.Words.{cases_lt, append-nil, get_or_append_left, length-map, find_at, slice_get, Option}
+use Rattle.mm_carry.proofs.Words.{Some, None, IsRising, OrdersDumpTheOldest, BrokenOrdersChangeNothing, given_oldest}
+use Rattle.mm_carry.proofs.Words.{Stored, State, IsState, Held, has_id, labels_of, states_of, opening_at, asked, Event}
+use Rattle.mm_carry.proofs.Words.{Sent, row, IsLegal, Course, EndedAs, OrderBroken, HasTried, times, MayBegin, meets}
+use Rattle.mm_carry.proofs.Words.{RunInput, Table, place_in_memory, store_state, recording_in, step_orders, RunState}
+use Rattle.mm_carry.proofs.Words.{IsStep, IsHaltedIn, Stop, Supply, Reported}
+use Rattle.mm_record.specs.Steps.{HasLegalOffers}
+use Rattle.mm_desk.specs.Fates.{after}
+use Rattle.mm_desk.specs.Losses.{GiveLater}
+use Rattle.mm_dump.specs.Broken.{aborted}
+use Rattle.mm_carry.specs.declared.requirement.Requirement.TheVariants.{Size}
+use Rattle.mm_carry.specs.Accounts.{over_steps, HaveLeft}
+use Rattle.mm_carry.specs.Ending.{run_start_of}
+use Rattle.mm_carry.specs.Following.{StoreRun, IsStoreRun, AreFollowing, all_of, whole_of, broken_of, RunsSendOnce}
+use Rattle.mm_carry.specs.Following.{where_whole, where_broken, store_run, StepsAreStoreRuns}
+use Rattle.mm_carry.proofs.DumpLemmas.{replayed, none_left, order_does, after-append, left_more}
+use Rattle.mm_carry.proofs.Parts.{as_many}
+use Rattle.mm_carry.proofs.StoresReady.{state_holds}
+
+-- what whole orders sent over runs, after what has left the store already
+all_rising : GiveLater → (s : State) → IsState s → (es : List Event) (past : List Stored) → HaveLeft s es past
+    → (runs : List StoreRun) → AreFollowing (after s es) runs → IsRising (past ++ whole_of runs)
+all_rising later s sound es past gone [] follow = subst IsRising (sym (append-nil past)) gone.rising
+all_rising later s sound es past gone (r ∷ rs) follow =
+    let between = follow.0 in
+    let run = follow.2 in
+    let idle = es ++ between in
+    let found : r.before ≡ after s idle = follow.1 ∙ sym (after-append s es between) in
+    let kept = subst (HaveLeft s idle) (append-nil past)
+    (left_more later s es between past [] sound gone (none_left (after s es) between)) in
+    let more = left_more later s idle run.events past r.gave sound kept
+    (subst (λ (u : State). HaveLeft u run.events r.gave) found run.gone) in
+    let on : r.left ≡ after s (idle ++ run.events) =
+    run.leads ∙ ap (λ (u : State). after u run.events) found ∙ sym (after-append s idle run.events) in
+    subst IsRising (append_assoc past r.gave (whole_of rs))
+    (all_rising later s sound (idle ++ run.events) (past ++ r.gave) more rs
+    (subst (λ (u : State). AreFollowing u rs) on follow.3))
+
+-- where times rise, no packet stands in two lists after one another
+apart : (xs ys : List Stored) (p : Stored) → IsRising (xs ++ ys) → Contains xs p → Contains ys p → ⊥
+apart xs ys p rising one two =
+    let first = get_or_append_left xs ys p one.0 one.1 ∙ one.2 in
+    let second = get_or-append-add xs ys two.0 p ∙ two.2 in
+    let less = rising one.0 (length xs + two.0) p (omega (arith, one.1))
+    (omega (arith, two.1, length-append xs ys)) in
+    omega (arith, less, ap (λ (q : Stored). q.time) first, ap (λ (q : Stored). q.time) second)
+
+-- what runs sent, a whole order or a broken one sent
+by_order : (runs : List StoreRun) (p : Stored) → Contains (all_of runs) p
+    → Contains (whole_of runs) p ⊎ Contains (broken_of runs) p
+by_order [] p at = inl at
+by_order (r ∷ rs) p at = elim (Contains-append_cases (r.gave ++ r.broke) (all_of rs) p at) [
+  | inl here ↦ elim (Contains-append_cases r.gave r.broke p here) [
+    | inl whole ↦ inl (Contains-append_left r.gave (whole_of rs) p whole)
+    | inr broken ↦ inr (Contains-append_left r.broke (broken_of rs) p broken)
+  ]
+  | inr more ↦ elim (by_order rs p more) [
+    | inl whole ↦ inl (Contains-append_right r.gave (whole_of rs) p whole)
+    | inr broken ↦ inr (Contains-append_right r.broke (broken_of rs) p broken)
+  ]
+]
+
+-- the law of runs that follow one another
+pub send_once : GiveLater → RunsSendOnce
+send_once later s runs sound follow = record {
+  whole = whole;
+  again = λ early late r are p now before. elim (by_order early p before) [
+    | inl twice ↦
+        let split = ap whole_of are ∙ flat_map-append (λ (r : StoreRun). r.gave) early (r ∷ late) in
+        absurd (apart (whole_of early) (r.gave ++ whole_of late) p (subst IsRising split whole) twice
+        (Contains-append_left r.gave (whole_of late) p now))
+    | inr broken ↦ broken
+  ];
+}
+  where
+    whole : IsRising (whole_of runs)
+    whole = all_rising later s sound [] [] (none_left s []) runs follow
+
+-- the store of a problem is in the memory, where the tests before a run passed
+stands_there : {S L : Type 0} (m : RunInput) (plan : Table) (first : RunState S L)
+    → MayBegin (run_start_of m plan first) → (s : ℕ) → s < length m.problem.rows
+    → place_in_memory m s < length m.memory.stores
+stands_there m plan first began s store =
+    by_store (slice_get stores place) refl (subst (λ (o : Option Held). meets Size (row m.problem s) o ≡ true)
+    (find_at (has_id (row m.problem s).id) stores) (began.sizes (omega arith) s store))
+  where
+    stores : List Held
+    stores = m.memory.stores
+
+    place : ℕ
+    place = place_in_memory m s
+
+    by_store : (found : Option Held) → slice_get stores place ≡ found → meets Size (row m.problem s) found ≡ true
+        → place < length stores
+    by_store (Some h) is shown = slice_get_within stores place h is
+    by_store None is shown = absurd (cc shown)
+
+-- what the order of a step did with its store
+record Ordered (mid t : State) (es : List Event) (whole broken : List Stored) : Type 0 where
+  leads : t ≡ after mid es
+  gone : HaveLeft mid es whole
+  newer : List Stored
+  oldest : t.store.content ≡ broken ++ newer
+
+module _ (dump : OrdersDumpTheOldest) (changes : BrokenOrdersChangeNothing) (k taken : ℕ) (c : Course) (mid t : State)
+    (sound : IsState mid) (tried : HasTried taken k c mid t) where
+  leads_on : t ≡ after mid (asked c.calls)
+  leads_on = tried.run.leaves ∙ sym (replayed mid c.calls)
+
+  -- an order that ended so
+  ended_so : (why : Option OrderBroken) → EndedAs why c
+      → Ordered mid t (asked c.calls) (where_whole why c.sent) (where_broken why c.sent)
+  ended_so None whole =
+      let oldest = (dump mid t c.seat c.order.amount c.sent c.calls sound whole.order tried.run).oldest in
+      record {
+        leads = leads_on;
+        gone = (order_does mid c.seat c.order.amount c.sent t.store.content c.calls
+            (subst IsRising oldest sound.store.rising) oldest whole.order tried.run.legal).gone;
+        newer = t.store.content;
+        oldest = refl;
+      }
+  ended_so (Some why) broken =
+      let gave = c.sent ++ c.unsent in
+      let same = (changes mid t c.seat c.order.amount gave c.calls broken.order tried.run).0 in
+      let held = given_oldest mid c.seat gave (aborted c.seat ∷ []) sound
+      (subst (IsLegal mid) broken.order.are tried.run.legal) in
+      record {
+        leads = leads_on;
+        gone = none_left mid (asked c.calls);
+        newer = c.unsent ++ held.0;
+        oldest = ap (λ (u : State). u.store.content) same ∙ held.1 ∙ append_assoc c.sent c.unsent held.0;
+      }
+
+  -- no order
+  no_order : (why : Option OrderBroken) → c.sent ≡ []
+      → Ordered mid t (asked c.calls) (where_whole why c.sent) (where_broken why c.sent)
+  no_order None none = rw none (record {
+    leads = leads_on;
+    gone = none_left _ _;
+    newer = t.store.content;
+    oldest = refl;
+  })
+  no_order (Some why) none = rw none (record {
+    leads = leads_on;
+    gone = none_left _ _;
+    newer = t.store.content;
+    oldest = refl;
+  })
+
+  ordered : Ordered mid t (asked c.calls) (where_whole c.why c.sent) (where_broken c.why c.sent)
+  ordered = elim (cases_lt 0 taken) [
+    | inl some ↦ ended_so c.why (tried.some some).1
+    | inr none ↦ no_order c.why (tried.none (omega arith)).1
+  ]
+
+module _ {L : Type 0} (sent : L → List Sent) (failed : L → ℕ) where
+  -- the steps that are carried out
+  pub steps_are : StepsAreStoreRuns sent failed
+  steps_are m plan first steps now report ran s store =
+      let done = ran.done in
+      let account = done.accounted s store in
+      let es = over_steps account.events steps in
+      let gave = over_steps (done.gave (place_in_memory m s)) steps in
+      let begun = ap (λ (held : List Held). store_state m held s) done.runs.first in
+      record {
+        events = es;
+        leads = ap (λ (held : List Held). store_state m held s) done.stores_are
+            ∙ account.history.leads steps (omega arith) ∙ ap (λ (u : State). after u es) begun;
+        gone = subst (λ (u : State). HaveLeft u es gave) begun account.history.gone;
+        newer = (store_state m now.stores s).store.content;
+        oldest = refl;
+      }
+
+  -- and the step that was halted
+  module _ (later : GiveLater) (dump : OrdersDumpTheOldest) (changes : BrokenOrdersChangeNothing) (m : RunInput)
+      (plan : Table) (first : RunState Supply L) (step : ℕ) (left : RunState Supply L) (stop : Stop)
+      (report : Reported) (halted : IsHaltedIn sent failed m plan first step left stop report) (s : ℕ)
+      (store : s < length m.problem.rows) (sound : IsState (store_state m m.memory.stores s)) where
+    abbrev k : ℕ
+    k = place_in_memory m s
+
+    abbrev begun : State
+    begun = store_state m m.memory.stores s
+
+    abbrev is : IsStep sent failed (recording_in m step halted.before.stores) (step_orders m step) (Some stop)
+        halted.before left
+    is = halted.how
+
+    abbrev whole : IsStoreRun (store_run m s halted.before.stores (over_steps (halted.ran.done.gave k) (step - 1)) [])
+    whole = steps_are m plan first (step - 1) halted.before report halted.ran s store
+
+    abbrev earlier : List Event
+    earlier = whole.events
+
+    abbrev gave : List Stored
+    gave = over_steps (halted.ran.done.gave k) (step - 1)
+
+    -- the store stands in the memory before the dump of the step, and after it
+    there : k < length is.mid
+    there =
+        let done = halted.ran.done in
+        let before = as_many halted.before.stores m.memory.stores
+        (ap labels_of done.stores_are ∙ done.runs.labels (step - 1) (omega arith)) in
+        omega (
+          arith,
+          stands_there m plan first halted.ran.began s store,
+          before,
+          as_many is.mid halted.before.stores is.records.labels,
+        )
+
+    after_it : k < length left.stores
+    after_it = omega (
+      arith,
+      there,
+      as_many is.mid halted.before.stores is.records.labels,
+      as_many left.stores halted.before.stores is.labels,
+    )
+
+    went : HasLegalOffers (map (λ run. run.offered k) is.records.runs)
+        (opening_at (states_of halted.before.stores) k) (opening_at (states_of is.mid) k)
+    went = is.records.went k (omega (arith, there, length-map is.mid (λ (h : Held). h.state)))
+
+    abbrev offered : List Event
+    offered = asked went.log
+
+    abbrev c : Course
+    c = is.dumps.settled.course k
+
+    mid_is : opening_at (states_of is.mid) k ≡ after begun (earlier ++ offered)
+    mid_is =
+        went.run.leaves ∙ sym (replayed _ went.log) ∙ ap (λ (u : State). after u (asked went.log)) whole.leads
+        ∙ sym (after-append begun earlier (asked went.log))
+
+    order : Ordered (opening_at (states_of is.mid) k) (opening_at (states_of left.stores) k) (asked c.calls)
+        (where_whole c.why c.sent) (where_broken c.why c.sent)
+    order = ordered dump changes k (sum_by (times k) is.dumps.settled.places) c _ _
+        (state_holds IsState is.mid is.records.sound k there)
+        (is.dumps.settled.stores k (omega (arith, after_it, length-map left.stores (λ (h : Held). h.state))))
+
+    pub halted_is : IsStoreRun
+        (store_run m s left.stores (gave ++ where_whole c.why c.sent) (where_broken c.why c.sent))
+    halted_is = record {
+      events = (earlier ++ offered) ++ asked c.calls;
+      leads = order.leads ∙ ap (λ (u : State). after u (asked c.calls)) mid_is
+          ∙ sym (after-append begun (earlier ++ offered) (asked c.calls));
+      gone = left_more later begun (earlier ++ offered) (asked c.calls) gave (where_whole c.why c.sent) sound
+          (subst (HaveLeft begun (earlier ++ offered)) (append-nil gave)
+          (left_more later begun earlier offered gave [] sound whole.gone (none_left (after begun earlier) offered)))
+          (subst (λ (u : State). HaveLeft u (asked c.calls) (where_whole c.why c.sent)) mid_is order.gone);
+      newer = order.newer;
+      oldest = order.oldest;
+    }
