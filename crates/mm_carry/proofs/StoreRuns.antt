@@ -1,6 +1,6 @@
 -- What a run did with each store, whole or halted, and what runs that follow one another send.
-use Rattle.std.proofs.Common.{◌≡◌, ◌⊎◌, inl, inr, ℕ, ◌+◌, ◌-◌, ◌<◌, List, [], ◌∷◌, ◌++◌, length, map, true, refl, sym, ap}
-use Rattle.std.proofs.Common.{subst, ◌∙◌, arith, append_assoc, length-append, Contains}
+use Rattle.std.proofs.Common.{◌≡◌, ◌⊎◌, inl, inr, ℕ, ◌+◌, ◌-◌, ◌<◌, List, [], ◌∷◌, ◌++◌, length, map, true, refl, sym}
+use Rattle.std.proofs.Common.{ap, subst, ◌∙◌, arith, append_assoc, length-append, Contains}
 use Rattle.std.specs.Prelude.{sum_by}
 use Rattle.std.proofs.lemmas.Grind.{flat_map-append}
 use Rattle.std.proofs.lemmas.List.{get_or-append-add}
@@ -86,7 +86,8 @@ send_once later s runs sound follow = record {
 
 -- the store of a problem is in the memory, where the tests before a run passed
 stands_there : {S L : Type 0} (m : RunInput) (plan : Table) (first : RunState S L)
-    → MayBegin (run_start_of m plan first) → (s : ℕ) → s < length m.problem.rows → place_in_memory m s < length m.memory.stores
+    → MayBegin (run_start_of m plan first) → (s : ℕ) → s < length m.problem.rows
+    → place_in_memory m s < length m.memory.stores
 stands_there m plan first began s store =
     by_store (slice_get stores place) refl (subst (λ (o : Option Held). meets Size (row m.problem s) o ≡ true)
     (find_at (has_id (row m.problem s).id) stores) (began.sizes (omega arith) s store))

@@ -34,7 +34,7 @@ spot-at number (Number name) = ap (option_map (λ n. Number n)) (name-at name)
 -- a refusal with the spot that is told
 with-spot : (r : Refusal) (told : Option Spot) (spot : Spot) → told ≡ Some spot
     → option_and_then (λ (x : Refusal). option_map (reason_of x) told) (slice_get REFUSALS (number_of r)) ≡ Some
-        (reason_of r spot)
+    (reason_of r spot)
 with-spot r told spot is = ap (option_and_then (λ (x : Refusal). option_map (reason_of x) told)) (refusal-at r)
     ∙ ap (option_map (reason_of r)) is
 

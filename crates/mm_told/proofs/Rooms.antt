@@ -71,7 +71,7 @@ amounts-most (n ∷ amounts) each =
     let most : n ≤ MAX_BLOCKS = All-head (λ k. k ≤ MAX_BLOCKS) n amounts each in
     let here : length (decimal n) ≤ 7 = decimal-most 7 n (omega arith) (omega arith) (omega arith) in
     let more : total (map decimal amounts) ≤ length amounts * 8 =
-        amounts-most amounts (All-tail (λ k. k ≤ MAX_BLOCKS) n amounts each) in
+    amounts-most amounts (All-tail (λ k. k ≤ MAX_BLOCKS) n amounts each) in
     omega (arith, here, more)
 
 -- the texts of identifiers
@@ -105,7 +105,7 @@ stores-most : (ids : List (List ℕ)) → length ids ≤ MAX_STORES → All IsId
 unfolding total
 stores-most ids few each =
     let whole : length (line_text (stores_line ids)) + 1 ≤ total (codes "stores" ∷ map id_text ids) =
-        line-below (stores_line ids) (codes "stores") (map id_text ids) refl in
+    line-below (stores_line ids) (codes "stores") (map id_text ids) refl in
     omega (arith, whole, ids-most ids each)
 
 dump-most : (t : ℕ) (amounts : List ℕ) → t ≤ MAX_STEPS → length amounts ≤ MAX_STORES → All (λ n. n ≤ MAX_BLOCKS) amounts
@@ -121,7 +121,7 @@ loss-most : (n : ℕ) → n < 2 ^ 64 → length (line_text (loss_line n)) ≤ 25
 unfolding total
 loss-most n fits =
     let whole : length (line_text (loss_line n)) + 1 ≤ total (codes "loss" ∷ decimal n ∷ []) =
-        line-below (loss_line n) (codes "loss") (decimal n ∷ []) refl in
+    line-below (loss_line n) (codes "loss") (decimal n ∷ []) refl in
     let number : length (decimal n) ≤ 20 = decimal-most 20 n (omega arith) (omega arith) fits in
     omega (arith, whole, number)
 
@@ -129,7 +129,7 @@ stretch-most : (d : Stretch) → IsWritten d → length (line_text (stretch_line
 unfolding total
 stretch-most d written =
     let whole : length (line_text (stretch_line d)) + 1 ≤ total
-        (codes "stretch" ∷ id_text d.store ∷ decimal d.first ∷ decimal d.last ∷ []) =
+    (codes "stretch" ∷ id_text d.store ∷ decimal d.first ∷ decimal d.last ∷ []) =
     line-below (stretch_line d) (codes "stretch") (id_text d.store ∷ decimal d.first ∷ decimal d.last ∷ []) refl in
     let first-fits : d.first < 2 ^ 32 = written.first in
     let last-fits : d.last < 2 ^ 32 = written.last in
@@ -149,7 +149,7 @@ bound-most : (z : ℤ) → FitsSigned w64 z → length (line_text (bound_line z)
 unfolding total
 bound-most z fits =
     let whole : length (line_text (bound_line z)) + 1 ≤ total (codes "bound" ∷ signed_decimal z ∷ []) =
-        line-below (bound_line z) (codes "bound") (signed_decimal z ∷ []) refl in
+    line-below (bound_line z) (codes "bound") (signed_decimal z ∷ []) refl in
     let magnitude : mag z < 2 ^ 63 = fits.sfits in
     let number : length (signed_decimal z) ≤ 20 = length_signed_le 19 z (omega arith) magnitude in
     omega (arith, whole, number)
@@ -181,8 +181,12 @@ dumps-most n t (suc k) amounts few steps each =
 sheet-cost : (s : SheetRows) → length (sheet_text s) ≤ cost (lines_of s) + 1
 unfolding sheet_text cost total
 sheet-cost s =
-    omega (arith, join-most line_feed (map line_text (lines_of s) ++ [] ∷ []), total-append (map line_text (lines_of s))
-        ([] ∷ []))
+    omega (
+      arith,
+      join-most line_feed (map line_text (lines_of s) ++ [] ∷ []),
+      total-append (map line_text (lines_of s))
+          ([] ∷ []),
+    )
 
 costs-add : (a b c d : List Line) → cost (a ++ b ++ c ++ d) ≡ cost a + cost b + cost c + cost d
 costs-add a b c d = simp cost-append
@@ -221,7 +225,7 @@ certificate-cost s sheet =
     each-most stretch_line IsWritten 39 (λ d written. omega (arith, stretch-most d written)) s.cut sheet.each_stretch in
     let counted : cost counts ≤ length s.by_channels * 26 =
     each-most count_line (λ t. t < 2 ^ 32) 26
-        (λ t fits. omega (arith, count-most t fits)) s.by_channels sheet.each_count in
+    (λ t fits. omega (arith, count-most t fits)) s.by_channels sheet.each_count in
     let bounds : cost bound ≤ 27 = one-cost (bound_line s.bound) 26 (bound-most s.bound sheet.bound) in
     omega (arith, costs-add loss stretches counts bound, losses, cuts, counted, bounds)
 
@@ -236,10 +240,21 @@ plan_text_fits s sheet plain =
     let costs : cost (lines_of s) ≡ cost title + cost dumps + cost (first_lines 0 (certificates_of s)) + cost last =
     costs-add title dumps (first_lines 0 (certificates_of s)) last in
     let titles : cost title ≤ 160 =
-        title-cost s.firsts (has_counts s) s.stores
-        (omega (arith, sheet.plan.few, sheet.same_stores)) sheet.each_store in
+    title-cost s.firsts (has_counts s) s.stores
+    (omega (arith, sheet.plan.few, sheet.same_stores)) sheet.each_store in
     let rows : cost dumps ≤ s.plan.steps * 137 =
     dumps-most s.plan.stores 1 s.plan.steps s.plan.amounts sheet.plan.few (few-steps s sheet) sheet.plan.each in
     let ends : cost last ≤ 4 = one-cost end_line 3 end-most in
-    omega (arith, whole, costs, titles, rows, own-cost s plain, certificate-cost s sheet, ends, sheet.steps, sheet.cut,
-        sheet.counts)
+    omega (
+      arith,
+      whole,
+      costs,
+      titles,
+      rows,
+      own-cost s plain,
+      certificate-cost s sheet,
+      ends,
+      sheet.steps,
+      sheet.cut,
+      sheet.counts,
+    )
