@@ -110,8 +110,8 @@ record Ordered (mid t : State) (es : List Event) (whole broken : List Stored) : 
   newer : List Stored
   oldest : t.store.content ≡ broken ++ newer
 
-module _ (dump : OrdersDumpTheOldest) (changes : BrokenOrdersChangeNothing) (k taken : ℕ) (c : Course) (mid t : State)
-    (sound : IsState mid) (tried : HasTried taken k c mid t) where
+module _ (dump : OrdersDumpTheOldest) (changes : BrokenOrdersChangeNothing) (taken : ℕ) (c : Course) (mid t : State)
+    (sound : IsState mid) (tried : HasTried taken c mid t) where
   leads_on : t ≡ after mid (asked c.calls)
   leads_on = tried.run.leaves ∙ sym (replayed mid c.calls)
 
@@ -157,7 +157,7 @@ module _ (dump : OrdersDumpTheOldest) (changes : BrokenOrdersChangeNothing) (k t
 
   ordered : Ordered mid t (asked c.calls) (where_whole c.why c.sent) (where_broken c.why c.sent)
   ordered = elim (cases_lt 0 taken) [
-    | inl some ↦ ended_so c.why (tried.some some).1
+    | inl some ↦ ended_so c.why (tried.some some)
     | inr none ↦ no_order c.why (tried.none (omega arith)).1
   ]
 
@@ -226,7 +226,7 @@ module _ {L : Type 0} (sent : L → List Sent) (failed : L → ℕ) where
 
     went : HasLegalOffers (map (λ run. run.offered k) is.records.runs)
         (opening_at (states_of halted.before.stores) k) (opening_at (states_of is.mid) k)
-    went = is.records.went k (omega (arith, there, length-map is.mid (λ (h : Held). h.state)))
+    went = is.records.logs k (omega (arith, there, length-map is.mid (λ (h : Held). h.state)))
 
     abbrev offered : List Event
     offered = asked went.log
@@ -241,7 +241,7 @@ module _ {L : Type 0} (sent : L → List Sent) (failed : L → ℕ) where
 
     order : Ordered (opening_at (states_of is.mid) k) (opening_at (states_of left.stores) k) (asked c.calls)
         (where_whole c.why c.sent) (where_broken c.why c.sent)
-    order = ordered dump changes k (sum_by (times k) is.dumps.settled.places) c _ _
+    order = ordered dump changes _ c _ _
         (state_holds IsState is.mid is.records.sound k there)
         (is.dumps.settled.stores k (omega (arith, after_it, length-map left.stores (λ (h : Held). h.state))))
 
