@@ -1,0 +1,11 @@
+use Rattle.mm_run.proofs.Routes.{untaken_telemetry}
+use Rattle.mm_run.proofs.untaken.is_routed.Goals as goal
+
+pub returns : goal.returns
+returns c = λ telemetry.
+    let rows = c.rows_for-rows.ensures in
+    let table = c.control-control.ensures.rows in
+    rw c.is_empty.ensures (untaken_telemetry c.args.memory.now c.args.packet.now c.rows_for-rows.result.now telemetry
+    c.requires
+    (rw (c.apid.ensures.value, c.service.ensures.value, c.subtype.ensures.value, table) at rows.rows)
+    (rw (c.apid.ensures.value, c.service.ensures.value, c.subtype.ensures.value, table) at rows.once))
