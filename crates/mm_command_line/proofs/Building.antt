@@ -16,11 +16,11 @@ pub command_more : (forms : List Form) (i : ℕ) (d : Form) (old sub new : Comma
     → IsCommand (entry_of (slice_index_or forms i d)) sub
     → AddsSubcommand old sub new
     → fold with_command (app_of new) (map entry_of (drop (i + 1) forms)) ≡ fold with_command (app_of old)
-        (map entry_of (drop i forms))
+    (map entry_of (drop i forms))
 command_more forms i d old sub new within is adds =
     let next : suc i ≡ i + 1 = omega arith in
     let left : drop i forms ≡ slice_index_or forms i d ∷ drop (i + 1) forms = drop-cons forms i d within
-        ∙ ap (λ n. slice_index_or forms i d ∷ drop n forms) next in
+    ∙ ap (λ n. slice_index_or forms i d ∷ drop n forms) next in
     ap (λ app. fold with_command app (map entry_of (drop (i + 1) forms)))
-        (adds_command (entry_of (slice_index_or forms i d)) old sub new is adds)
+    (adds_command (entry_of (slice_index_or forms i d)) old sub new is adds)
     ∙ sym (ap (λ fs. fold with_command (app_of old) (map entry_of fs)) left)

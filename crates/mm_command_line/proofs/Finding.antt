@@ -28,7 +28,7 @@ pub row_is : (word : Text) (form : Option (Bor Form)) (forms : List Form)
     → option_map (λ (f : Bor Form). entry_of f.now) form ≡ find (λ (e : Entry). bytes_eq e.0 word) (map entry_of forms)
 row_is word form forms is =
     option_map-twice entry_of (λ (f : Bor Form). f.now) form ∙ ap (option_map entry_of) is
-        ∙ find-map (λ (e : Entry). bytes_eq e.0 word) entry_of forms
+    ∙ find-map (λ (e : Entry). bytes_eq e.0 word) entry_of forms
 
 -- the command that was found, by the row of its word
 pub found_is : {X : Type 0} (f : X → Text × List Row) (sub : Option X) (name : Text) (rows : List Row)
@@ -60,12 +60,12 @@ names_are found (file ∷ files) = ap₂ cons_option (first_value-rows found (id
 -- where no file is left, the words are those of the command
 pub all_found : (form : Form) (found : Found) (i : ℕ) (words : List (Bor Text)) → length form.files.now ≤ i
     → map (λ (w : Bor Text). w.now) words
-        ++ names_left found (drop i form.files.now) ≡ form.word.now ∷ names_left found form.files.now
+    ++ names_left found (drop i form.files.now) ≡ form.word.now ∷ names_left found form.files.now
     → map (λ (w : Bor Text). w.now) words ≡ words_found (entry_of form) (rows_of found)
 all_found form found i words end is =
     sym (append-nil (map (λ (w : Bor Text). w.now) words))
     ∙ ap (λ fs. map (λ (w : Bor Text). w.now) words ++ names_left found fs)
-        (sym (drop_of_length-le form.files.now {i = i} end))
+    (sym (drop_of_length-le form.files.now {i = i} end))
     ∙ is ∙ ap (λ names. form.word.now ∷ names) (names_are found form.files.now)
 
 -- ---- the words found and those given

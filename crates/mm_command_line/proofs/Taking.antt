@@ -1,7 +1,6 @@
 -- Words that spell a command are taken, and are what is found.
 use Rattle.std.proofs.Common.{◌≡◌, ◌∙◌, ◌++◌, ◌&&◌, ℕ, zero, suc, Bool, cond, true, false, true≢false, refl, sym, ap}
-use Rattle.std.proofs.Common.{ap₂, subst, arith, drop, length, map, List, [], ◌∷◌, Option, Some, None, is_some, codes}
-use Rattle.std.specs.Borrow.{Bor}
+use Rattle.std.proofs.Common.{ap₂, subst, arith, drop, length, map, List, [], ◌∷◌, Option, Some, is_some, codes}
 use Rattle.std.specs.List.{All, find, fold, list_all}
 use Rattle.std.specs.Option.{option_map, option_map_or, unwrap_or}
 use Rattle.std.specs.Prelude.{slice_get}
@@ -154,10 +153,10 @@ module _ (test : Entry → Bool) (entry : Entry) (files : List Text) (known : fi
       ap (λ o. option_map_or (λ s. level_passes s [] nothing_held files false) o true) found ∙ leaf_takes names same in
       let at_stop : Option (Text × List Text) → Bool =
       λ stop. entered_passes built_tool stop && level_passes built_tool.top words_known nothing_held (entry.0 ∷ files)
-          (is_some (entered built_tool stop)) in
+      (is_some (entered built_tool stop)) in
       ap (λ (w : Walk). at_stop w.stopped) walk_is
       ∙ ap₂ (λ b o. b && level_passes built_tool.top words_known nothing_held (entry.0 ∷ files) (is_some o)) below
-          enters
+      enters
       ∙ level_top
 
   -- which finds each word of the line, those of the files by what help calls them
@@ -210,7 +209,7 @@ read_task (Read packets) names = row_read (codes "read") (packets.now ∷ []) na
 line_read : (words : List Text) → IsCommandLine words → IsRead words
 line_read words line =
     subst IsRead line.spelled
-        (read_task line.task (subst (λ ws. All IsFileName (drop 1 ws)) (sym line.spelled) line.names))
+    (read_task line.task (subst (λ ws. All IsFileName (drop 1 ws)) (sym line.spelled) line.names))
 
 -- the program takes the words of a command
 pub passes : (app : App) (words : List Text) → app ≡ tool → IsCommandLine words → takes app words ≡ true

@@ -69,7 +69,7 @@ unfolding walked
 walked_value c w word ready is =
     ap (λ stopped. walked_from c [] stopped w word) ready.on
     ∙ ap (λ (met : Held × Step). after_step c word w met.0 met.1)
-        (met_value c w.is_trailing w.waiting w.position word w.held ready.free is)
+    (met_value c w.is_trailing w.waiting w.position word w.held ready.free is)
 
 -- the walk puts word after word
 pub walk_places : (c : List Rule) (w : Walk) (words : List Text) → IsReady w → All IsFileName words
@@ -100,7 +100,7 @@ turn_value : (s : Shape) (w : Walk) (word : Text) → IsReady w → IsValue word
 turn_value s w word ready is =
     let met : Held × Step = word_met s.rules [] w.is_trailing w.waiting w.position word w.held in
     ap (λ stopped. is_some stopped
-        || (word_passes s [] w.is_trailing w.waiting word w.held && step_passes s w.position met.0 met.1)) ready.on
+    || (word_passes s [] w.is_trailing w.waiting word w.held && step_passes s w.position met.0 met.1)) ready.on
     ∙ ap₂ (λ passes (m : Held × Step). passes && step_passes s w.position m.0 m.1)
     (word_passing s w.is_trailing w.waiting word w.held ready.free is)
     (met_value s.rules w.is_trailing w.waiting w.position word w.held ready.free is)
@@ -114,7 +114,7 @@ walk_passing s w (x ∷ xs) ready names =
     let is : IsValue x = is_value x (All-head IsFileName x xs names) in
     ap₂ (λ b c. b && c) (turn_value s w x ready is)
     (ap (λ v. walk_passes s [] v xs) (walked_value s.rules w x ready is)
-        ∙ walk_passing s (placed s.rules w x) xs (stays_ready s.rules w x ready) (All-tail IsFileName x xs names))
+    ∙ walk_passing s (placed s.rules w x) xs (stays_ready s.rules w x ready) (All-tail IsFileName x xs names))
 
 at_start : IsReady (walk_from nothing_held)
 at_start = record { on = refl; free = refl }
@@ -133,10 +133,10 @@ pub level_passing : (s : Shape) (words : List Text) → All IsFileName words
     → level_passes s [] nothing_held words false ≡ level_places s words
 level_passing s words names =
     ap₂ (λ passes (w : Walk). passes
-        && (settle_passes s.rules s.args_override_self w.held
-        && (list_all default_passes s.rules && is_valid s (finished s.rules w.held) false)))
+    && (settle_passes s.rules s.args_override_self w.held
+    && (list_all default_passes s.rules && is_valid s (finished s.rules w.held) false)))
     (walk_passing s (walk_from nothing_held) words at_start names)
-        (walk_places s.rules (walk_from nothing_held) words at_start names)
+    (walk_places s.rules (walk_from nothing_held) words at_start names)
 
 -- and what is found then
 pub rows_placed : (s : Shape) (words : List Text) → All IsFileName words

@@ -42,15 +42,6 @@ pub telemetry_is : (kind : PacketType) → IsTelemetry kind → is_telecommand k
 telemetry_is (Telecommand source) never = absurd never
 telemetry_is (Telemetry counter destination time) is = refl
 
--- what a test says of a route
-pub untaken_by : (untaken routed : Bool) → routed ≡ not untaken → routed ≡ false → untaken ≡ true
-untaken_by true routed said refused = refl
-untaken_by false routed said refused = cc
-
-pub taken_by : (untaken routed : Bool) → routed ≡ not untaken → routed ≡ true → untaken ≡ false
-taken_by true routed said found = cc
-taken_by false routed said found = refl
-
 -- a line that is added is the last
 pub added_last : (bad : ScriptFault) (earlier lines : List SourceLine) (d : SourceLine)
     → with_source_line bad earlier d ≡ Ok lines → lines ≡ earlier ++ d ∷ []

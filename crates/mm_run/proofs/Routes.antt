@@ -1,9 +1,9 @@
 -- Which packets a route takes into a store.
-use Rattle.std.proofs.Common.{◌≡◌, ℕ, Bool, true, false, not, ◌==◌, ◌||◌, List, [], ◌∷◌, length, map, get_or}
+use Rattle.std.proofs.Common.{◌≡◌, ℕ, Bool, true, false, ◌==◌, ◌||◌, List, [], ◌∷◌, length, map, get_or}
 use Rattle.std.proofs.Common.{refl, ap, ◌∙◌, arith}
-use Rattle.std.specs.Prelude.{if◌then◌else◌, bytes_eq, All, Contains, IsTrue}
+use Rattle.std.specs.Prelude.{if◌then◌else◌, bytes_eq, nat_lt, All, Contains, IsTrue}
 use Rattle.std.specs.List.{filter, fold, list_any}
-use Rattle.std.proofs.lemmas.Bool.{ne_eqb, or_left, or_right}
+use Rattle.std.proofs.lemmas.Bool.{lt-ltb, ne_eqb, or_left, or_right}
 use Rattle.std.proofs.lemmas.List.Elements.{All-append, All-cons, All-filter, All-head, All-tail}
 use Rattle.std.proofs.lemmas.List.Folds.{list_any_at, list_any_none}
 use Rattle.std.proofs.lemmas.Slice.Eq.{bytes_eq-Decides}
@@ -73,14 +73,10 @@ abbrev LeadOnce : List RouteRow → SpacePacket → List RouteRow → Type 0
 LeadOnce routes p rows = (id : List ℕ)
     → filter (bytes_eq id) (map (λ r. r.store) rows) ≡ (if has_row (row_for id p) routes then id ∷ [] else [])
 
--- whether a list has one element or none
-is_none : (id : List ℕ) (b : Bool) → [] ≡ (if b then id ∷ [] else []) → b ≡ false
-is_none id true e = cc
-is_none id false e = refl
-
-is_one : (id : List ℕ) (b : Bool) (ids : List (List ℕ)) → id ∷ ids ≡ (if b then id ∷ [] else []) → b ≡ true
-is_one id true ids e = refl
-is_one id false ids e = cc
+-- whether a list has one element, which is told of any
+is_one : (id : List ℕ) (b : Bool) (ids : List (List ℕ)) → ids ≡ (if b then id ∷ [] else []) → b ≡ nat_lt 0 (length ids)
+is_one id true ids one = rw one refl
+is_one id false ids one = rw one refl
 
 -- a store has the identifier of a store that passes, where this one is found
 passes_found : (f : List ℕ → Bool) (id : List ℕ) (stores : List Held) → list_any (has_id id) stores ≡ true → f id ≡ true
@@ -96,28 +92,29 @@ passes_found f id (h ∷ hs) found passes =
         (ap f ((bytes_eq-Decides h.id id).0 same) ∙ passes)
     by_test false other rest later = or_right (f h.id) (list_any (λ h. f h.id) hs) (later rest)
 
--- a route takes telemetry into a store exactly if there is a row for its report type
+-- no route takes telemetry into a store exactly if there is no row for its report type
 pub untaken_telemetry : (memory : Holdings) (p : SpacePacket) (rows : List RouteRow) → IsTelemetry p.kind
     → HasRoutesToStores memory
     → rows ≡ filter (is_for p.header.apid p.header.service p.header.subtype) memory.routes
-    → LeadOnce memory.routes p rows → not (length rows == 0) ≡ not (is_untaken memory p)
+    → LeadOnce memory.routes p rows → (length rows == 0) ≡ is_untaken memory p
 untaken_telemetry memory p [] telemetry to_stores are once =
     rw (list_any_none (λ h. is_routed memory.routes h.id p) memory.stores (λ k d within.
     let id = (get_or memory.stores k d).id in
-    routed memory.routes id p telemetry ∙ is_none id (has_row (row_for id p) memory.routes) (once id))) refl
+    routed memory.routes id p telemetry ∙ is_one id (has_row (row_for id p) memory.routes) [] (once id))) refl
 untaken_telemetry memory p (r ∷ rest) telemetry to_stores are once =
     let P : RouteRow → Type 0 = λ x. IsTrue (list_any (has_id x.store) memory.stores) in
     let for_type = is_for p.header.apid p.header.service p.header.subtype in
     let led = All-head P r rest (rw (← are) at (All-filter for_type P memory.routes to_stores)) in
-    let ids = map (λ x. x.store) rest in
     let same : bytes_eq r.store r.store ≡ true = (bytes_eq-Decides r.store r.store).1 refl in
-    let found : has_row (row_for r.store p) memory.routes ≡ true = is_one r.store (has_row (row_for r.store p) memory.routes)
-    (filter (bytes_eq r.store) ids) (rw same at (once r.store)) in
-    let taken : list_any (λ h. is_routed memory.routes h.id p) memory.stores ≡ true =
-    passes_found (λ id. is_routed memory.routes id p) r.store memory.stores led
-    (routed memory.routes r.store p telemetry ∙ found) in
+    let ids = r.store ∷ filter (bytes_eq r.store) (map (λ x. x.store) rest) in
+    let found = is_one r.store (has_row (row_for r.store p) memory.routes) ids (rw same at (once r.store)) in
     let some : (length (r ∷ rest) == 0) ≡ false = ne_eqb (length (r ∷ rest)) 0 (λ none. omega (arith, none)) in
-    rw (taken, some) refl
+    let more : nat_lt 0 (length ids) ≡ true = lt-ltb 0 (length ids) (omega arith) in
+    rw (
+      passes_found (λ id. is_routed memory.routes id p) r.store memory.stores led
+          (routed memory.routes r.store p telemetry ∙ found ∙ more),
+      some,
+    ) refl
 
 -- no route takes a telecommand
 pub untaken_telecommand : (memory : Holdings) (p : SpacePacket) → IsTelecommand p.kind → is_untaken memory p ≡ true

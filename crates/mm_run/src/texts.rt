@@ -52,7 +52,7 @@ pub(crate) struct SourcesAndLinks {
 }
 
 /// Reads the setup and the forecast. Otherwise the first fault, of the setup and then of the forecast.
-#[tactic(auto, using(crate::proofs::Offered::none_offered, crate::proofs::Routes::setup_has_routes_to_stores), unfolding(mm_problem::specs::Texts::problem_in))]
+#[tactic(auto, using(crate::proofs::Offered::none_offered), unfolding(mm_problem::specs::Texts::problem_in))]
 pub(crate) fn read_problem_and_memory(
     alloc: Global,
     setup: &[u8],

@@ -1,5 +1,5 @@
 //! Packets of the sources that go to no store.
-ghost use Rattle.std.specs.Prelude.{◌≡◌, ◌<◌, ◌≤◌, ◌∷◌, ◌++◌, [], not, List};
+ghost use Rattle.std.specs.Prelude.{◌≡◌, ◌<◌, ◌≤◌, ◌∷◌, ◌++◌, [], List};
 ghost use Rattle.mm_packet.specs.Packet.{IsTelemetry};
 ghost use Rattle.mm_run.specs.Types.{SourceLine};
 ghost use Rattle.mm_run.specs.Counted.{HasCounted, all_unstored};
@@ -86,19 +86,19 @@ impl<'a> UnstoredCount<'a> {
             counted.late += 1;
         } else if packet.is_telecommand() {
             counted.telecommands += 1;
-        } else if !is_routed(&start.memory, packet) {
+        } else if is_unrouted(&start.memory, packet) {
             counted.unrouted += 1;
             self.untaken = self.untaken.or(Some(Untaken::of(line, packet)));
         }
     }
 }
 
-// Whether a route takes telemetry of the packet's report type.
-fn is_routed(memory: &Memory, packet: &Packet) -> bool
+// Whether no route takes telemetry of the packet's report type.
+fn is_unrouted(memory: &Memory, packet: &Packet) -> bool
     requires { HasRoutesToStores memory.now }
-    ensures { IsTelemetry packet.now.kind → result ≡ not (is_untaken memory.now packet.now) }
+    ensures { IsTelemetry packet.now.kind → result ≡ is_untaken memory.now packet.now }
 {
     let control = memory.control();
     let rows = control.rows_for(packet.apid(), packet.service(), packet.subtype());
-    !rows.is_empty()
+    rows.is_empty()
 }

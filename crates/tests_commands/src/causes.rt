@@ -2,11 +2,10 @@
 ghost use Rattle.std.specs.Prelude.{◌≡◌, ◌++◌, ◌∷◌, [], codes};
 ghost use Rattle.mm_base.specs.Characters.{line_feed};
 ghost use Rattle.mm_run.specs.Ending.{end_line};
-ghost use Rattle.mm_report.specs.declared.cause.Cause.TheVariants.{PlanShape, NotReady, SizeDiffers, ClockTooLate};
-ghost use Rattle.mm_report.specs.declared.cause.Cause.TheVariants.{ChannelDiffers, NoMemory, LogMismatch};
+ghost use Rattle.mm_report.specs.declared.cause.Cause.TheVariants.{PlanShape, NotReady, SizeDiffers, ClockTooLate, ChannelDiffers, NoMemory, LogMismatch};
 
-/// The lines of these causes: a run is proved to print `end_line` of its cause. The store is C, whose identifier is
-/// seen as its field of eight octets.
+/// The lines of these causes: a run is proved to print `end_line` of its cause. The store is C, whose identifier is seen as its field of
+/// eight octets.
 pub fn last_lines_of_runs()
     ensures plan_shape { end_line PlanShape ≡ codes "refused 38 PlanShape" ++ line_feed ∷ [] }
     ensures not_ready { end_line (NotReady (codes "C       ")) ≡ codes "refused 39 NotReady store C" ++ line_feed ∷ [] }

@@ -8,5 +8,5 @@ use Rattle.mm_command_line.proofs.command.command_of.Given as goal
 abbrev pub invariant-loop-file : goal.invariant-loop-file
 invariant-loop-file l =
     (fold with_file (app_of l.command) (map (λ (file : File). file.name.now) (drop l.file-index l.form.files.now)) ≡
-        app_by (entry_of l.form))
+    app_by (entry_of l.form))
     × (has_globals l.command ≡ false)

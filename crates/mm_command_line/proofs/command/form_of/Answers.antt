@@ -9,6 +9,6 @@ use Rattle.mm_command_line.proofs.command.form_of.Goals as goal
 pub returns : goal.returns
 returns c =
     let found = find_from_yields_List (λ (form : Form). bytes_eq form.word.now c.args.word.now) _ _ c.find.result
-        c.find.ensures.ran
+    c.find.ensures.ran
     (YieldsList-from_slice c.args.forms.now c.iter.ensures.rest) (λ x b q k. search (rules, tests)) in
     record { row = row_is c.args.word.now c.find.result c.args.forms.now found }

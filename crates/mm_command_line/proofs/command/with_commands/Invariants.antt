@@ -7,4 +7,4 @@ use Rattle.mm_command_line.proofs.command.with_commands.Given as goal
 abbrev pub invariant-loop-form : goal.invariant-loop-form
 invariant-loop-form l =
     fold with_command (app_of l.tool) (map entry_of (drop l.form-index l.forms)) ≡ fold with_command (app_of l.fn.tool)
-        (map entry_of l.fn.forms)
+    (map entry_of l.fn.forms)

@@ -9,9 +9,9 @@ use Rattle.mm_command_line.proofs.line.command_in.Goals as goal
 pub returns-in_err-form_of : goal.returns-in_err-form_of
 returns-in_err-form_of c =
     let none : None ≡ find (λ (e : Entry). bytes_eq e.0 c.in_ok-word.word.now) commands =
-        c.in_err-form_of.ensures.row in
+    c.in_err-form_of.ensures.row in
     let read = found_is _ (out-ArgMatches c.args.matches.now).subcommand c.in_ok-word.word.now
-        (rows_of (found_of c.in_ok-word.files.now)) None
+    (rows_of (found_of c.in_ok-word.files.now)) None
     c.in_ok-word.ensures.name c.in_ok-word.ensures.rows none in
     record { row = rw c.from_residual-in_err-form_of.ensures read }
 

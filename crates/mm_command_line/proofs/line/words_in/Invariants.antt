@@ -7,4 +7,4 @@ use Rattle.mm_command_line.proofs.line.words_in.Given as goal
 abbrev pub invariant-loop-file : goal.invariant-loop-file
 invariant-loop-file l =
     map (λ word. word.now) l.words.items ++ names_left (found_of l.files)
-        (drop l.file-index l.form.files.now) ≡ l.form.word.now ∷ names_left (found_of l.files) l.form.files.now
+    (drop l.file-index l.form.files.now) ≡ l.form.word.now ∷ names_left (found_of l.files) l.form.files.now
