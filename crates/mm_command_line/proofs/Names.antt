@@ -1,6 +1,6 @@
 -- Words that are names of files.
 use Rattle.std.proofs.Common.{◌≡◌, ◌∙◌, ◌||◌, ℕ, Bool, cond, true, false, true≢false, refl, sym, ap, ap₂, subst, drop}
-use Rattle.std.proofs.Common.{List, [], ◌∷◌, Option, Some, None, codes, Bor, nat_eq}
+use Rattle.std.proofs.Common.{List, [], ◌∷◌, codes, nat_eq}
 use Rattle.std.specs.List.{All, list_any, starts_with}
 use Rattle.std.proofs.lemmas.List.Elements.{All-cons, All-head, All-tail}
 use Rattle.mm_command_line.specs.Lines.{IsCommandLine, IsFileName, IsTaskLine, before_dashes, command_words}

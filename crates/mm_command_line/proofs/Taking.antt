@@ -1,7 +1,6 @@
 -- Words that spell a command are taken, and are what is found.
 use Rattle.std.proofs.Common.{◌≡◌, ◌∙◌, ◌++◌, ◌&&◌, ℕ, zero, suc, Bool, cond, true, false, true≢false, refl, sym, ap}
-use Rattle.std.proofs.Common.{ap₂, subst, arith, drop, length, map, List, [], ◌∷◌, Option, Some, None, is_some, codes}
-use Rattle.std.specs.Borrow.{Bor}
+use Rattle.std.proofs.Common.{ap₂, subst, arith, drop, length, map, List, [], ◌∷◌, Option, Some, is_some, codes}
 use Rattle.std.specs.List.{All, find, fold, list_all}
 use Rattle.std.specs.Option.{option_map, option_map_or, unwrap_or}
 use Rattle.std.specs.Prelude.{slice_get}

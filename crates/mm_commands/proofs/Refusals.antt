@@ -1,5 +1,6 @@
 -- What was read, and what is said of a task that is refused.
-use Rattle.std.proofs.Common.{◌≡◌, ◌⊎◌, ℕ, List, ◌∷◌, ◌++◌, [], map, refl, sym, ap, ◌∙◌, subst, inr, Result, Ok, Err, IsErrAnd, IfErr, IfOk, Option, Some, None, Bor, append_assoc, append-nil}
+use Rattle.std.proofs.Common.{◌≡◌, ◌⊎◌, ℕ, List, ◌∷◌, ◌++◌, [], map, refl, sym, ap, ◌∙◌, subst, inr, Result, Ok, Err}
+use Rattle.std.proofs.Common.{IsErrAnd, IfErr, IfOk, Option, Some, None, Bor, append_assoc, append-nil}
 use Rattle.std.proofs.lemmas.List.{map-append}
 use Rattle.std.proofs.lemmas.List.Elements.{All-nil, All-cons, All-append}
 use Rattle.std.specs.Prelude.{All}
@@ -15,7 +16,8 @@ use Rattle.mm_commands.specs.declared.fault.Fault.TheVariants.{NoMemory, NotRead
 use Rattle.mm_command_line.specs.declared.task.Task.{Task}
 
 -- what holds of the fault that is handed on holds of the one that is told
-pub told : {T : Type 0} (P : Fault → Type 0) (e : Fault) (r : Result T Fault) → IsErrAnd r (λ y. y ≡ e) → P e → IfErr r P
+pub told : {T : Type 0} (P : Fault → Type 0) (e : Fault) (r : Result T Fault) → IsErrAnd r (λ y. y ≡ e) → P e
+    → IfErr r P
 told P e (Ok x) is holds = tt
 told P e (Err y) is holds = subst P (sym is) holds
 
@@ -25,7 +27,8 @@ Notes-nil None = tt
 Notes-nil (Some before) = sym (append-nil before)
 
 -- some readings are noted after others
-Notes-append : (before mid after : Option (List Reading)) (readings more : List Reading) → Notes before mid readings → Notes mid after more
+Notes-append : (before mid after : Option (List Reading)) (readings more : List Reading) → Notes before mid readings
+    → Notes mid after more
     → Notes before after (readings ++ more)
 Notes-append None mid after readings more first second = tt
 Notes-append (Some before) None after readings more first second = absurd first
@@ -42,7 +45,8 @@ pub none_read : (contents : Contents) (before : Option (List Reading)) → WereR
 none_read contents before = record { noted = Notes-nil before; known = All-nil (IsKnown contents) }
 
 -- one file was read
-pub one_read : (contents : Contents) (before after : Option (List Reading)) (name octets : List ℕ) → Notes before after (reading name octets ∷ [])
+pub one_read : (contents : Contents) (before after : Option (List Reading)) (name octets : List ℕ)
+    → Notes before after (reading name octets ∷ [])
     → MayBe (contents name) octets → WereRead contents before after (reading name octets ∷ [])
 one_read contents before after name octets noted known = record {
   noted = noted;
@@ -50,13 +54,22 @@ one_read contents before after name octets noted known = record {
 }
 
 -- the one file was not read
-pub one_unread : (contents : Contents) (before after : Option (List Reading)) (names : List (List ℕ)) (fault : Fault) → Notes before after []
+pub one_unread : (contents : Contents) (before after : Option (List Reading)) (names : List (List ℕ)) (fault : Fault)
+    → Notes before after []
     → StopsAt contents names fault → IsUnread contents before after names fault
 one_unread contents before after names fault noted stopped =
-    record { readings = []; left = names; read = record { noted = noted; known = All-nil (IsKnown contents) }; split = refl; stopped = stopped }
+    record {
+      readings = [];
+      left = names;
+      read = record { noted = noted; known = All-nil (IsKnown contents) };
+      split =
+          refl;
+      stopped = stopped;
+    }
 
 -- the names of what was read
-pub names-reading_of : (name : Option (Bor (List ℕ))) (octets : List ℕ) → map (λ (r : Reading). r.name) (reading_of name octets) ≡ name_of name
+pub names-reading_of : (name : Option (Bor (List ℕ))) (octets : List ℕ)
+    → map (λ (r : Reading). r.name) (reading_of name octets) ≡ name_of name
 names-reading_of (Some name) octets = refl
 names-reading_of None octets = refl
 
@@ -69,7 +82,8 @@ names-two first second x y =
     ∙ ap (λ l. name_of first ++ l) (names-reading_of second y)
 
 -- it stops at the same file where more are left
-StopsAt-append : (contents : Contents) (left more : List (List ℕ)) (fault : Fault) → StopsAt contents left fault → StopsAt contents (left ++ more) fault
+StopsAt-append : (contents : Contents) (left more : List (List ℕ)) (fault : Fault) → StopsAt contents left fault
+    → StopsAt contents (left ++ more) fault
 StopsAt-append contents left more NoMemory stopped = tt
 StopsAt-append contents [] more (NotRead name obstacle) stopped = absurd stopped
 StopsAt-append contents (next ∷ left) more (NotRead name obstacle) stopped = stopped
@@ -81,24 +95,28 @@ StopsAt-append contents [] more (Setup e) stopped = absurd stopped
 StopsAt-append contents (next ∷ left) more (Setup e) stopped = absurd stopped
 
 -- one of the first files was not read, and more come after them
-pub unread_before : (contents : Contents) (before after : Option (List Reading)) (names more : List (List ℕ)) (fault : Fault)
+pub unread_before : (contents : Contents) (before after : Option (List Reading)) (names more : List (List ℕ))
+    (fault : Fault)
     → IsUnread contents before after names fault → IsUnread contents before after (names ++ more) fault
 unread_before contents before after names more fault unread = record {
   readings = unread.readings;
   left = unread.left ++ more;
   read = unread.read;
-  split = ap (λ l. l ++ more) unread.split ∙ append_assoc (map (λ (r : Reading). r.name) unread.readings) unread.left more;
+  split = ap (λ l. l ++ more) unread.split
+      ∙ append_assoc (map (λ (r : Reading). r.name) unread.readings) unread.left more;
   stopped = StopsAt-append contents unread.left more fault unread.stopped;
 }
 
-module _ (contents now : Contents) (same : now ≡ contents) (before mid : Option (List Reading)) (readings : List Reading)
+module _ (contents now : Contents) (same : now ≡ contents) (before mid : Option (List Reading))
+    (readings : List Reading)
     (first : WereRead contents before mid readings) where
   -- more was read after what was read
   pub read_after : (after : Option (List Reading)) (more : List Reading) → WereRead now mid after more
       → WereRead contents before after (readings ++ more)
   read_after after more second = record {
     noted = Notes-append before mid after readings more first.noted second.noted;
-    known = All-append (IsKnown contents) readings more first.known (subst (λ known. All (IsKnown known) more) same second.known);
+    known = All-append (IsKnown contents) readings more first.known
+        (subst (λ known. All (IsKnown known) more) same second.known);
   }
 
   -- a file was not read after those that were
@@ -109,16 +127,21 @@ module _ (contents now : Contents) (same : now ≡ contents) (before mid : Optio
     readings = readings ++ unread.readings;
     left = unread.left;
     read = read_after after unread.readings unread.read;
-    split = ap (λ l. read_names ++ l) unread.split ∙ ap (λ l. l ++ (map (λ (r : Reading). r.name) unread.readings ++ unread.left)) (sym are)
-        ∙ sym (append_assoc (map (λ (r : Reading). r.name) readings) (map (λ (r : Reading). r.name) unread.readings) unread.left)
+    split = ap (λ l. read_names ++ l) unread.split
+        ∙ ap (λ l. l ++ (map (λ (r : Reading). r.name) unread.readings ++ unread.left)) (sym are)
+        ∙ sym (append_assoc (map (λ (r : Reading). r.name) readings)
+        (map (λ (r : Reading). r.name) unread.readings) unread.left)
         ∙ ap (λ l. l ++ unread.left) (sym (map-append (λ (r : Reading). r.name) readings unread.readings));
     stopped = subst (λ known. StopsAt known unread.left fault) same unread.stopped;
   }
 
 -- a task that is refused, where the files are as they were
-pub refuses : {E : Type 0} (P : Status → Type 0) (old new : FilesView) (task : Task) (fault : Fault) (before after : Option (List ℕ)) (result : Result Status E)
-    → new.contents ≡ old.contents → IsUnread old.contents old.readings new.readings (files_of task) fault ⊎ IsFaultRead old new task fault
+pub refuses : {E : Type 0} (P : Status → Type 0) (old new : FilesView) (task : Task) (fault : Fault)
+    (before after : Option (List ℕ)) (result : Result Status E)
+    → new.contents ≡ old.contents → IsUnread old.contents old.readings new.readings (files_of task) fault
+    ⊎ IsFaultRead old new task fault
     → IfOk result (λ status. Appends before after (refused_line fault)) → IfOk result (λ status. status ≡ Refused)
     → IfOk result (λ status. P status ⊎ Refuses old new task status before after)
-refuses P old new task fault before after (Ok status) kept is line refused = inr (record { fault = fault; is = is; printed = line; status_is = refused; kept = kept })
+refuses P old new task fault before after (Ok status) kept is line refused =
+    inr (record { fault = fault; is = is; printed = line; status_is = refused; kept = kept })
 refuses P old new task fault before after (Err e) kept is line refused = tt

@@ -9,7 +9,7 @@ abbrev pub refusal_of : ReadFault → Refusal
 refusal_of NoMemory = refusal.NoMemory
 refusal_of (NotRead obstacle) = refusal.NotRead
 
--- the file was not read; the other reason is want of memory
+-- the file was not read; the other reason is that memory ran out
 abbrev pub is_unread : ReadFault → Bool
 is_unread NoMemory = false
 is_unread (NotRead obstacle) = true

@@ -35,7 +35,8 @@ StopsAt contents (next ∷ left) (NotRead name obstacle) = (next ≡ name.now) �
 StopsAt contents left fault = ⊥
 
 -- the first of these files were read, and the others are left since this fault came
-pub record IsUnread (contents : Contents) (before after : Option (List Reading)) (names : List (List ℕ)) (fault : Fault) : Type 0 where
+pub record IsUnread (contents : Contents) (before after : Option (List Reading)) (names : List (List ℕ))
+    (fault : Fault) : Type 0 where
   pub readings : List Reading
   pub left : List (List ℕ)
   pub read : WereRead contents before after readings

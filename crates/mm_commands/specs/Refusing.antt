@@ -33,14 +33,16 @@ files_of task = listed (names_in task)
 
 -- the first fault of the texts of a run whose plan is given, or made
 abbrev pub IsFlightFault : Option (List ℕ) → TaskTexts → FlightFault → Type 0
-IsFlightFault plan texts e = IsFirstFault plan texts.setup.items texts.forecast.items texts.sources.items texts.links.items e
+IsFlightFault plan texts e =
+    IsFirstFault plan texts.setup.items texts.forecast.items texts.sources.items texts.links.items e
 
 -- the task, whose files have these texts, cannot be done: this is their first fault; out of memory may come at any time
 abbrev pub IsFaultIn : Task → TaskTexts → Fault → Type 0
 IsFaultIn task texts NoMemory = Unit {0}
 IsFaultIn (Plan setup forecast in_order output) texts (Texts e) =
     e ≢ check.NoMemory → IsPlanningFault texts.setup.items texts.forecast.items e
-IsFaultIn (Check names) texts (Texts e) = e ≢ check.NoMemory → IsCheckFault texts.setup.items texts.forecast.items texts.plan.items e
+IsFaultIn (Check names) texts (Texts e) = e ≢ check.NoMemory
+    → IsCheckFault texts.setup.items texts.forecast.items texts.plan.items e
 IsFaultIn (Chart names worth output) texts (Texts e) =
     e ≢ check.NoMemory → IsCheckFault texts.setup.items texts.forecast.items texts.plan.items e
 IsFaultIn (Table names output) texts (Texts e) =
@@ -57,8 +59,8 @@ pub record IsFaultRead (old new : FilesView) (task : Task) (fault : Fault) : Typ
   pub read : WereRead old.contents old.readings new.readings (readings_of (names_in task) texts)
   pub is : IsFaultIn task texts fault
 
--- a writer had the first of these bytes, and then the second: what was written between says why the task is refused, by the files that were
--- read, and the files are as they were
+-- a writer had the first of these bytes, and then the second: what was written between says why the task is refused, by
+-- the files that were read, and the files are as they were
 pub record Refuses (old new : FilesView) (task : Task) (status : Status) (before after : Option (List ℕ)) : Type 0 where
   pub fault : Fault
   pub is : IsUnread old.contents old.readings new.readings (files_of task) fault ⊎ IsFaultRead old new task fault
@@ -68,9 +70,11 @@ pub record Refuses (old new : FilesView) (task : Task) (status : Status) (before
 
 -- the task was done or refused
 abbrev pub Settles : FilesView → FilesView → Task → Status → Option (List ℕ) → Option (List ℕ) → Type 0
-Settles old new task status before after = Prints old new task status before after ⊎ Refuses old new task status before after
+Settles old new task status before after = Prints old new task status before after
+    ⊎ Refuses old new task status before after
 
 -- the line that says why the program's own input was not read
 abbrev pub refused_input : ReadFault → List ℕ
 refused_input read.NoMemory = codes "refused " ++ refusal_text refusal.NoMemory ++ line_feed ∷ []
-refused_input (read.NotRead obstacle) = codes "refused " ++ refusal_text refusal.NotRead ++ codes " name " ++ shown_name (codes "-") ++ line_feed ∷ []
+refused_input (read.NotRead obstacle) = codes "refused " ++ refusal_text refusal.NotRead ++ codes " name "
+    ++ shown_name (codes "-") ++ line_feed ∷ []

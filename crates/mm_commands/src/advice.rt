@@ -26,7 +26,8 @@ impl fmt::Display for Why {
     }
 }
 
-/// What is said of a refusal. It is shown in one line: the file with the place in it, what was expected, and what to do.
+/// What is said of a refusal. It is shown in one line: the file with the place in it, what was expected, and what to
+/// do.
 #[derive(Clone, Copy)]
 pub(crate) struct Advice<'a> {
     file: Option<&'a str>,

@@ -80,7 +80,7 @@ pub enum ReadFault {
 }
 
 impl ReadFault {
-    /// What an open or a read tells that failed.
+    /// What the error of an open or a read means.
     pub(crate) fn of(error: &io::Error) -> ReadFault
         ensures unread { IsTrue (is_unread result) }
     {
@@ -128,7 +128,7 @@ pub enum StoreFault {
 }
 
 impl StoreFault {
-    /// What an error tells that came while a file was written.
+    /// What an error means that came while a file was written.
     pub(crate) fn of(error: &io::Error) -> StoreFault {
         match error.kind() {
             ErrorKind::NotFound | ErrorKind::NotADirectory => StoreFault::Missing,
@@ -218,7 +218,7 @@ fn is_interrupted(error: &io::Error) -> bool
 
 /// Files by name.
 pub trait Files {
-    /// Whether the name `-` is no file's, but that of standard input, and of standard output as an output.
+    /// Whether `-` is not the name of a file, but of standard input, and as an output of standard output.
     ghost has_streams: { Bool };
 
     /// Whether `-` is the name of standard input and standard output.

@@ -27,7 +27,7 @@ use std::io::{self, Write};
 use std::sync::Wait;
 use std::thread::Threads;
 
-// The status of a run that ended so.
+// The status of a run with this outcome.
 fn status_of_run(outcome: Outcome) -> Status
     ensures status { result ≡ status_of_run outcome }
     ensures known { result ≢ BadCommandLine }
@@ -74,7 +74,7 @@ fn prepare<'a>(
     Ok(prepared(alloc, files, texts)?)
 }
 
-// Prints the plan of a run, if it was made, and has it handed on.
+// Prints the plan of a run, if it was made here, and flushes the writer.
 fn print_plan<W: Write>(run: &PreparedRun, out: &mut W) -> io::Result<()>
     ensures text { IfOk result (λ _. Appends (W.contents out.old) (W.contents out.new) (plan_text_of run.now)) }
 {
@@ -91,7 +91,7 @@ fn print_rest<W: Write>(printed: &Printed, out: &mut W) -> io::Result<()>
     out.write_all(&printed.end)
 }
 
-// Prints the plan of a run, carries the run out, prints what became of it, and then says what is to be said of it.
+// Prints the plan of a run, carries the run out, prints the rest, and then writes the messages on it.
 fn carry_out<R: Threads + Wait + Sync, W: Write, E: Write>(
     rt: &R,
     alloc: Global,

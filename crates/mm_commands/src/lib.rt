@@ -8,6 +8,7 @@ mod fault;
 mod file_name;
 mod files;
 mod flight;
+mod halt;
 pub mod laws;
 mod readings;
 mod remark;

@@ -13,8 +13,8 @@ struct Note {
     text: Snapshot<Vec<u8>>,
 }
 
-/// What was read, in order: the names of the files, and for contracts alone the bytes that came. An implementation of `Files` keeps it for its
-/// ghost member `readings`.
+/// What was read, in order: the names of the files, and for contracts alone the bytes that came. An implementation of
+/// `Files` keeps it for its ghost member `readings`.
 #[derive(Drop)]
 pub struct Readings {
     notes: Vec<Note>,

@@ -3,6 +3,7 @@
 use crate::advice::Advice;
 use crate::answers::Answer;
 use crate::file_name::Shown;
+use crate::halt::tell_halt;
 use crate::status::Status;
 use crate::texts::TaskTexts;
 use mm_ask::{MOST_KEPT, Place, Replies};
@@ -164,7 +165,8 @@ fn refusal_of(outcome: &Outcome) -> Option<Refusal> {
     }
 }
 
-// Says why a run did not begin or was halted, or that there is no memory for its report.
+// Says why a run did not begin or was halted and what was sent in the halted step, or that there is no memory for its
+// report.
 fn tell_stop<E: Write>(
     alloc: Global,
     task: Task<'_>,
@@ -177,7 +179,11 @@ fn tell_stop<E: Write>(
     };
     let hint = hint_of_run(alloc, printed, texts);
     writeln!(err, "{}", Advice::of_run(task, refusal, hint.as_ref()))?;
-    tell_hint(hint, err)
+    tell_hint(hint, err)?;
+    match &printed.left {
+        Some(run) => tell_halt(run, err),
+        None => Ok(()),
+    }
 }
 
 // Says what a verdict means that is neither `Least` nor `LeastInOrder`.
@@ -314,7 +320,7 @@ fn tell_place<E: Write>(
     tell_hint(told.hint(hints), err)
 }
 
-// How many places are not kept of the refusals that there are.
+// How many refusals there are whose places are not kept.
 fn untold(counts: &[u64; 256]) -> u64 {
     let mut untold: u64 = 0;
     for number in 0..256u32 {

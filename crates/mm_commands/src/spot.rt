@@ -1,4 +1,4 @@
-//! Where in its file a fault is, for people, and where in the files of a run's ends.
+//! Where in its file a fault is, for people, and where in the sources or the links of a run.
 ghost use Rattle.std.specs.Prelude.{◌≡◌};
 ghost use Rattle.mm_commands.specs.Spots.{spot_in_script};
 
@@ -27,7 +27,8 @@ impl fmt::Display for InFile {
     }
 }
 
-// The array of the setup whose tables have this key; none for a key that tables of several arrays have, or that names no one key.
+// The array of the setup whose tables have this key; none for a key that tables of several arrays have, or that names
+// no one key.
 fn array_of(name: Name) -> Option<Name> {
     match name {
         Name::Id | Name::Size | Name::Type | Name::Start => Some(Name::Store),

@@ -111,8 +111,8 @@ fn write_synced<F: OpenFile + Write>(
     file.sync_all()
 }
 
-/// The files of the system, with standard input under the name `-`. Of none it is known what it holds; what is read of
-/// them is noted.
+/// The files of the system, with standard input under the name `-`. Contracts do not know what a file holds; what is
+/// read is noted.
 #[derive(Drop)]
 pub struct SystemFiles<'a, R, I> {
     runtime: &'a R,

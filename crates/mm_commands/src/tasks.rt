@@ -131,8 +131,8 @@ fn print<W: Write>(answer: &Answer<'_>, out: &mut W) -> io::Result<()>
     }
 }
 
-// Gives the answer to its writer, and then says what is to be said of it. An output that is standard output is that
-// writer. Into a file the answer goes last: where a write fails, no file is changed.
+// Gives the answer to its writer, and then writes the messages on it. An output that is standard output is that writer.
+// Into a file the answer goes last: where a write fails, no file is changed.
 fn give<F: Files, W: Write, E: Write>(
     alloc: Global,
     task: Task<'_>,

@@ -1,2 +1,4 @@
 pub mod Offered
 pub mod Planned
+pub mod Routes
+pub mod Counting

@@ -58,6 +58,6 @@ end_line cause = line (step_of cause)
     line (Some step) = halted_line step cause
     line None = refused_line cause
 
--- what stands for a text for which there is no memory
+-- the line that replaces a text for which there is no memory
 abbrev pub lacking_line : List ℕ
 lacking_line = codes "refused " ++ refusal_text refusal.NoMemory ++ line_feed ∷ []

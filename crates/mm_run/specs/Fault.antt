@@ -1,4 +1,4 @@
--- Whose fault it is that texts are no run.
+-- Why the texts of a run are refused.
 use Rattle.mm_base.specs.declared.refusal.Refusal.{Refusal}
 use Rattle.mm_base.specs.declared.refusal.Refusal.TheVariants as refusal
 use Rattle.mm_problem.specs.Fault.{refusal_of as problem_refusal}
@@ -15,7 +15,10 @@ use Rattle.mm_run.specs.declared.fault.Fault.TheVariants.{NoMemory, Problem, Pla
 
 -- which refusal it is
 abbrev pub refusal_of : Fault → Refusal
-refusal_of = elim [ NoMemory ↦ refusal.NoMemory | Problem fault ↦ problem_refusal fault | Plan fault ↦ plan_refusal fault | Script fault ↦ script_refusal fault ]
+refusal_of NoMemory = refusal.NoMemory
+refusal_of (Problem fault) = problem_refusal fault
+refusal_of (Plan fault) = plan_refusal fault
+refusal_of (Script fault) = script_refusal fault
 
 -- a fault of the plan text
 abbrev pub of_plan : PlanFault → Fault

@@ -8,6 +8,9 @@ pub mod Links
 pub mod Fault
 pub mod Texts
 pub mod Ending
+pub mod StoppedRun
+pub mod Untaken
+pub mod Counted
 pub mod Printed
 pub mod Runs
 pub mod Judging

@@ -1,5 +1,6 @@
 -- What a text of links says.
-use Rattle.std.specs.Prelude.{◌≡◌, ℕ, ◌+◌, ◌-◌, ◌≤◌, ◌==◌, List, [], ◌∷◌, ◌++◌, length, map, filter, codes, slice_index_or, Result, Ok, Err}
+use Rattle.std.specs.Prelude.{◌≡◌, ℕ, ◌+◌, ◌-◌, ◌≤◌, ◌==◌, List, [], ◌∷◌, ◌++◌, length, map, filter, codes}
+use Rattle.std.specs.Prelude.{slice_index_or, Result, Ok, Err}
 use Rattle.std.specs.Option.{ok_or}
 use Rattle.std.specs.Str.{bytes_eq}
 use Rattle.mm_base.specs.Reading.{◌>>=◌, test}
@@ -59,12 +60,14 @@ sends_of n failing = map (λ f. f.send) (filter (λ f. f.link == n) failing)
 -- these are the links of the lines, before the first send
 pub record AreLinked (linked : Linked) (links : List ScriptedLink) : Type 0 where
   pub many : length links ≡ linked.count
-  pub each : (n : ℕ) → 1 ≤ n → n ≤ linked.count → slice_index_or links (n - 1) new_link ≡ record new_link { failing = sends_of n linked.failing }
+  pub each : (n : ℕ) → 1 ≤ n → n ≤ linked.count
+      → slice_index_or links (n - 1) new_link ≡ record new_link { failing = sends_of n linked.failing }
 
 -- these are this many links, which fail as the lines from line 2 on say
 abbrev pub AreFailing : ℕ → List ℕ → List ScriptedLink → Type 0
 AreFailing count text links =
-    (failing : List Failing) × (with_failing count 2 [] (file_lines text) ≡ Ok failing) × AreLinked (record { count = count; failing = failing }) links
+    (failing : List Failing) × (with_failing count 2 [] (file_lines text) ≡ Ok failing)
+    × AreLinked (record { count = count; failing = failing }) links
 
 -- these are the links that the text says
 abbrev pub SaysLinks : List ℕ → List ScriptedLink → Type 0

@@ -1,10 +1,11 @@
 -- A run that is read, judged and planned, and has not begun.
-use Rattle.std.specs.Prelude.{◌≡◌, ℕ, List, [], Option, Some, None}
+use Rattle.std.specs.Prelude.{◌≡◌, ℕ, List, [], length, Option, Some, None}
 use Rattle.mm_run.specs.Types.{Dumping, SpacePacket, SheetRows, Holdings}
 use Rattle.mm_planner.specs.PlanTexts.{IsPrintedAs, Shows}
 use Rattle.mm_planner.specs.declared.goal.Goal.{Goal}
 use Rattle.mm_run.specs.Texts.{SaysStart, SaysSourcesAndLinks}
 use Rattle.mm_run.specs.Runs.{opened_with}
+use Rattle.mm_run.specs.Untaken.{CountsOf}
 use Rattle.mm_run.specs.declared.run_plan.RunPlan.{RunPlan}
 use Rattle.mm_run.specs.declared.run_plan.RunPlan.TheVariants.{Given, Made, Unplanned}
 use Rattle.mm_run.specs.declared.prepared.PreparedRun.{PreparedRun}
@@ -37,3 +38,4 @@ pub record IsPrepared (goal : Goal) (plan : Option (List ℕ)) (setup forecast s
   pub sides_say : SaysSourcesAndLinks sources_text links_text opening run.sources.items run.links.items
   pub opened : run.memory ≡ opened_with memory opening
   pub plan_is : IsPlanBy goal sheet run.problem run.plan
+  pub counts : CountsOf (length run.problem.windows) memory sources_text run.printed.given.unstored

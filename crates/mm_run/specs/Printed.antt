@@ -19,17 +19,19 @@ pub record IsReserved (p : Printed) : Type 0 where
   pub report_room : LINE ≤ vec_capacity p.report
   pub end : p.end.items ≡ []
   pub end_room : LINE ≤ vec_capacity p.end
+  pub left : p.left ≡ None
 
--- the report is printed, or a line stands for a report for whose text there is no memory
+-- the report is printed, or, if there is no memory for its text, the line that replaces it
 abbrev pub TellsReport : Reported → List ℕ → Outcome → Type 0
 TellsReport report text outcome =
     ((text ≡ report_text report) × (outcome ≡ CarriedOut)) ⊎ ((text ≡ lacking_line) × (outcome ≡ Unreported))
 
--- a run that was carried out has its report printed, and nothing after it
+-- a run that was carried out has its report printed, and nothing after it; nothing is handed on
 pub record TellsAll (sheet : List ℕ) (report : Reported) (p : Printed) : Type 0 where
   pub sheet_is : p.sheet.items ≡ sheet
   pub end_is : p.end.items ≡ []
   pub report_is : TellsReport report p.report.items p.outcome
+  pub left_is : p.left ≡ None
 
 -- a run that was halted has its report printed, and one that did not begin has none
 abbrev pub TellsOf : Option ℕ → Reported → List ℕ → Type 0

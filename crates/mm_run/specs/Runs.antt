@@ -1,5 +1,5 @@
 -- What a run from texts prints.
-use Rattle.std.specs.Prelude.{◌≡◌, ◌⊎◌, ℕ, ◌≤◌, List, [], All, fold, map, slice_index_or, Option, Some, None}
+use Rattle.std.specs.Prelude.{◌≡◌, ◌⊎◌, ℕ, ◌≤◌, List, [], All, length, fold, map, slice_index_or, Option, Some, None}
 use Rattle.mm_run.specs.Types.{Dumping, SpacePacket, SheetRows, Holdings, Flown, FlyHalted, ScriptedSource}
 use Rattle.mm_run.specs.Types.{ScriptedLink}
 use Rattle.mm_plan.specs.Table.{Table}
@@ -16,6 +16,7 @@ use Rattle.mm_planner.specs.declared.goal.Goal.TheVariants.{Least}
 use Rattle.mm_run.specs.declared.printed.Printed.{Printed}
 use Rattle.mm_run.specs.Printed.{TellsAll, TellsEnd}
 use Rattle.mm_run.specs.Texts.{SaysStart, SaysSourcesAndLinks}
+use Rattle.mm_run.specs.Untaken.{CountsOf}
 
 -- packets are offered, in order, each to the stores of its report type
 abbrev pub opened_with : Holdings → List SpacePacket → Holdings
@@ -40,9 +41,10 @@ failed link = link.failed
 abbrev pub scripted : Dumping → Table → Holdings → List ScriptedSource → RunInput
 scripted problem plan memory sources = run_input problem plan 0 memory (map gives sources)
 
--- the plan of the sheet was carried out, and no text of it is printed; or without a sheet, a plan was made for this goal,
--- printed and carried out
-unfoldable pub IsFlown : Goal → Option SheetRows → Dumping → Holdings → List ScriptedSource → List ScriptedLink → Holdings
+-- the plan of the sheet was carried out, and no text of it is printed; or without a sheet, a plan was made for this
+-- goal, printed and carried out
+unfoldable pub IsFlown : Goal → Option SheetRows → Dumping → Holdings → List ScriptedSource → List ScriptedLink
+    → Holdings
     → Flown ScriptedSource ScriptedLink → Type 0
 IsFlown goal (Some sheet) problem memory sources links left flown = (flown.sheet.items ≡ [])
     × IsCarriedOut sent failed (scripted problem sheet.plan memory sources) sheet.plan links left
@@ -52,7 +54,8 @@ IsFlown goal None problem memory sources links left flown =
 
 -- the run of the sheet's plan did not begin, or was halted, and no text of the plan is printed; or without a sheet,
 -- this is so of a plan that was made and printed, or there was no memory to plan
-unfoldable pub IsNotFlown : Goal → Option SheetRows → Dumping → Holdings → List ScriptedSource → List ScriptedLink → Holdings
+unfoldable pub IsNotFlown : Goal → Option SheetRows → Dumping → Holdings → List ScriptedSource → List ScriptedLink
+    → Holdings
     → FlyHalted ScriptedSource ScriptedLink → Type 0
 IsNotFlown goal (Some sheet) problem memory sources links left ended = (ended.sheet.items ≡ [])
     × IsHalted sent failed (scripted problem sheet.plan memory sources) sheet.plan sources links left ended.halted
@@ -63,21 +66,25 @@ IsNotFlown goal None problem memory sources links left ended =
     ⊎ HasNoPlan memory sources links left ended
 
 -- the run was carried out, and this is printed
-pub record EndsWhole (goal : Goal) (sheet : Option SheetRows) (problem : Dumping) (memory : Holdings) (sources : List ScriptedSource)
+pub record EndsWhole (goal : Goal) (sheet : Option SheetRows) (problem : Dumping) (memory : Holdings)
+    (sources : List ScriptedSource)
     (links : List ScriptedLink) (p : Printed) : Type 0 where
   pub left : Holdings
   pub flown : Flown ScriptedSource ScriptedLink
   pub is_flown : IsFlown goal sheet problem memory sources links left flown
   pub tells : TellsAll flown.sheet.items flown.report p
 
--- the run did not begin, or was halted, though never since a store refused a packet, and this is printed
-pub record EndsEarly (goal : Goal) (sheet : Option SheetRows) (problem : Dumping) (memory : Holdings) (sources : List ScriptedSource)
+-- the run did not begin or was halted, but never because a store refused a packet; this is
+-- printed, and what the run left is handed on
+pub record EndsEarly (goal : Goal) (sheet : Option SheetRows) (problem : Dumping) (memory : Holdings)
+    (sources : List ScriptedSource)
     (links : List ScriptedLink) (p : Printed) : Type 0 where
   pub left : Holdings
   pub ended : FlyHalted ScriptedSource ScriptedLink
   pub not_flown : IsNotFlown goal sheet problem memory sources links left ended
   pub never_refused : NeverRefused ended.halted.cause
   pub tells : TellsEnd ended.sheet.items ended.halted.cause ended.halted.report p
+  pub left_is : p.left ≡ Some (record { memory = left; halted = ended.halted })
 
 -- how the run ended, and what is printed of it
 abbrev pub RunEnds : Goal → Option SheetRows → Dumping → Holdings → List ScriptedSource → List ScriptedLink → Printed
@@ -97,6 +104,7 @@ pub record PrintsRun (goal : Goal) (plan : Option (List ℕ)) (setup forecast so
   pub links : List ScriptedLink
   pub sides_say : SaysSourcesAndLinks sources_text links_text opening sources links
   pub ended : RunEnds goal sheet problem (opened_with memory opening) sources links p
+  pub counts : CountsOf (length problem.windows) memory sources_text p.given.unstored
 
 -- what is printed of the run that the five texts say
 abbrev pub Runs : List ℕ → List ℕ → List ℕ → List ℕ → List ℕ → Printed → Type 0

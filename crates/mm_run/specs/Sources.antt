@@ -1,5 +1,6 @@
 -- What a text of sources says.
-use Rattle.std.specs.Prelude.{◌≡◌, ℕ, ◌+◌, ◌-◌, ◌≤◌, ◌==◌, ◌&&◌, nat_le, nat_lt, max, All, Bool, List, [], ◌∷◌, ◌++◌, length, map, filter, fold, slice_index_or, Result, Ok, Err}
+use Rattle.std.specs.Prelude.{◌≡◌, ℕ, ◌+◌, ◌-◌, ◌≤◌, ◌==◌, ◌&&◌, nat_le, nat_lt, max, All, Bool, List, [], ◌∷◌, ◌++◌}
+use Rattle.std.specs.Prelude.{length, map, filter, fold, slice_index_or, Result, Ok, Err}
 use Rattle.std.specs.Option.{ok_or}
 use Rattle.mm_base.specs.declared.limits.TheConstants.{MAX_STEPS}
 use Rattle.mm_base.specs.Lines.{cut_word, file_lines}
@@ -53,7 +54,7 @@ packets_of s t source_lines = map (λ d. d.packet) (filter (is_of s t) source_li
 abbrev pub opening_of : List SourceLine → List SpacePacket
 opening_of source_lines = map (λ d. d.packet) (filter (λ d. d.step == 0) source_lines)
 
--- how many sources there are: the greatest number of one
+-- how many sources there are: the greatest number of a source
 abbrev pub sources_of : List SourceLine → ℕ
 sources_of source_lines = fold (λ most d. max most d.source) 0 source_lines
 
@@ -61,7 +62,7 @@ sources_of source_lines = fold (λ most d. max most d.source) 0 source_lines
 abbrev pub has_room : List SourceLine → SourceLine → Bool
 has_room earlier d = nat_lt (length (packets_of d.source d.step earlier)) MAX_PACKETS
 
--- a source_line more, where there is room for it
+-- these lines and one more, if there is room for it
 abbrev pub with_source_line : ScriptFault → List SourceLine → SourceLine → Result (List SourceLine) ScriptFault
 with_source_line bad earlier d = do
   room ← test (has_room earlier d) bad
@@ -89,7 +90,8 @@ abbrev pub given : List ScriptedSource → ℕ → ℕ → List SpacePacket
 given sources s t = slice_index_or (slice_index_or sources (s - 1) []) t []
 
 -- the packets of step 0 and the sources are those of the lines
-pub record AreFrom (source_lines : List SourceLine) (opening : List SpacePacket) (sources : List ScriptedSource) : Type 0 where
+pub record AreFrom (source_lines : List SourceLine) (opening : List SpacePacket)
+    (sources : List ScriptedSource) : Type 0 where
   pub before : opening ≡ opening_of source_lines
   pub count : length sources ≡ sources_of source_lines
   pub each : (s t : ℕ) → 1 ≤ s → 1 ≤ t → given sources s t ≡ packets_of s t source_lines
@@ -101,4 +103,5 @@ AreFew sources = All (λ source. (t : ℕ) → length (slice_index_or source t [
 
 -- the text says this
 abbrev pub Says : List ℕ → List SpacePacket → List ScriptedSource → Type 0
-Says text opening sources = (source_lines : List SourceLine) × (source_lines_of text ≡ Ok source_lines) × AreFrom source_lines opening sources
+Says text opening sources = (source_lines : List SourceLine) × (source_lines_of text ≡ Ok source_lines)
+    × AreFrom source_lines opening sources

@@ -6,8 +6,9 @@ use crate::script_fault::ScriptFault;
 use mm_base::{NoMemory, Refusal, Refused, passed_on, refusals};
 use thiserror::Error;
 
-/// Why the texts of a run are refused: a fault of the setup, the forecast or the plan text, or one of the sources or the
-/// links. It is shown as the fault of the crate that found it. Out of memory is `NoMemory` alone, whichever crate ran out.
+/// Why the texts of a run are refused: a fault of the setup, the forecast or the plan text, or one of the sources or
+/// the links. It is shown as the fault of the crate that found it. Out of memory is `NoMemory` alone, whichever crate
+/// ran out.
 #[derive(Clone, Copy, Debug, PartialEq, Eq, Error)]
 pub enum Fault {
     #[error(transparent)]

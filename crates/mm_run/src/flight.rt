@@ -84,7 +84,7 @@ pub(crate) fn fly_plan<R: Threads + Wait + Sync>(
     }
 }
 
-/// How many packets the store was offered that does not hold its start volume, where that is the cause.
+/// How many packets were offered to the store that does not hold its start volume; 0 if the cause is another.
 pub(crate) fn offered_for(memory: &Memory, cause: &Cause) -> u64 {
     let Cause::OpeningDiffers { store } = cause else {
         return 0;

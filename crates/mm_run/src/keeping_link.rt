@@ -58,7 +58,7 @@ impl Link for KeepingLink {
     fn send(&mut self, store: &StoreId, time: u64, packet: &BlockPacket) -> Result<(), SendFailed> {
         let copy = match packet.copy(self.alloc) {
             Ok(copy) if self.kept.reserve(1).is_ok() => copy,
-            _ => return Err(self.link.refuse()),
+            _ => return Err(self.link.refuse(store)),
         };
         self.link.send(store, time, packet)?;
         self.kept.push_reserved(TakenPacket {

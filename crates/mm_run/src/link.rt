@@ -1,13 +1,13 @@
 //! Links that fail where the lines of a text say so.
-ghost use Rattle.std.specs.Prelude.{◌≡◌, ◌+◌, ◌-◌, ◌^◌, ◌<◌, ◌≤◌, ◌==◌, ◌∷◌, ◌++◌, [], length, is_err, All, IfOk, OnOk};
-ghost use Rattle.std.specs.Prelude.{OnErr};
+ghost use Rattle.std.specs.Prelude.{◌≡◌, ◌+◌, ◌-◌, ◌^◌, ◌<◌, ◌≤◌, ◌==◌, ◌∷◌, ◌++◌, [], length, is_err, is_some, nat_lt};
+ghost use Rattle.std.specs.Prelude.{All, IfOk, IfSome, OnErr, OnOk};
 ghost use Rattle.std.specs.List.{list_any};
 ghost use Rattle.std.proofs.Math.ListN.{replicate};
 ghost use Rattle.mm_base.specs.Lines.{file_lines};
 ghost use Rattle.mm_base.specs.Reading.{IfRefused};
 ghost use Rattle.mm_dump.specs.Sending.{sent_at};
 ghost use Rattle.mm_run.specs.declared.link.TheConstants.{MAX_SENT};
-ghost use Rattle.mm_run.specs.LinkView.{new_link, fails_next};
+ghost use Rattle.mm_run.specs.LinkView.{new_link, fails_next, next_send, after_failure};
 ghost use Rattle.mm_run.specs.Links.{count_at, failing_at, with_failing, linked_of, AreLinked, AreFailing, SaysLinks};
 
 use crate::script_fault::ScriptFault;
@@ -20,7 +20,7 @@ use std::alloc::Global;
 use std::marker::Model;
 use std::snapshot::Snapshot;
 
-/// The most packets that a link takes: so many values without bytes a list can have.
+/// The most packets that a link takes: as many as a list can hold of values without bytes.
 pub const MAX_SENT: usize = 0x7fff_ffff_ffff_ffff;
 
 /// The greatest number of links that a text can say: one of two digits. A run takes fewer.
@@ -37,25 +37,41 @@ struct Note {
     packet: Snapshot<BlockPacket>,
 }
 
+/// A send that failed.
+#[derive(Clone, Copy, Debug, PartialEq, Eq)]
+pub struct FailedSend {
+    /// The number of the send, counted from 1 over all sends of the link. Sends that fail count too.
+    pub send: u128,
+    /// The store of the packet that was not sent.
+    pub store: StoreId,
+}
+
 /// A link that fails at the sends of a text's lines, and keeps nothing of what is sent over it. Contracts see which of
-/// its sends fail by the lines, what was sent, and how many sends have failed.
+/// its sends fail by the lines, what was sent, how many sends have failed, and the last of these.
 #[derive(Drop)]
 pub struct ScriptedLink {
     failing: Vec<u32>,
     notes: Vec<Note>,
     failed: u64,
+    last_failure: Option<FailedSend>,
 }
 
 impl Model for ScriptedLink {
-    ghost use Rattle.std.specs.Prelude.{◌≤◌, map, vec_capacity};
-    ghost use Rattle.mm_run.specs.LinkView.{LinkView, sent_of};
+    ghost use Rattle.std.specs.Prelude.{◌≤◌, length, map, vec_capacity};
+    ghost use Rattle.mm_run.specs.LinkView.{LinkView, NotesLast, sent_of};
     ghost use Rattle.mm_run.specs.declared.link.TheConstants.{MAX_SENT};
 
     ghost Value = { LinkView };
 
-    ghost view = { λ a. record { failing = a.failing.items; sent = map sent_of a.notes.items; failed = a.failed } };
+    ghost view = { λ a. record {
+      failing = a.failing.items;
+      sent = map sent_of a.notes.items;
+      failed = a.failed;
+      last_failure = a.last_failure;
+    } };
 
-    ghost invariant = { λ a. MAX_SENT ≤ vec_capacity a.notes };
+    ghost invariant = { λ a. (MAX_SENT ≤ vec_capacity a.notes)
+        × NotesLast (length a.notes.items) a.failed a.last_failure };
 }
 
 // The number of the next send, after these that succeeded and this many that failed.
@@ -80,10 +96,11 @@ impl ScriptedLink {
             failing: Vec::new(alloc),
             notes: Vec::with_capacity(alloc, MAX_SENT)?,
             failed: 0,
+            last_failure: None,
         })
     }
 
-    /// Lets the send of this number, counted from 1, fail.
+    /// Makes the send with this number, counted from 1, fail.
     pub(crate) fn fail(&mut self, send: u32) -> Result<(), NoMemory>
         ensures { OnOk result (self.new ≡ record self.old { failing = self.old.failing ++ send ∷ [] }) }
     {
@@ -91,21 +108,41 @@ impl ScriptedLink {
         Ok(())
     }
 
-    /// Counts a send that fails.
-    pub(crate) fn refuse(&mut self) -> SendFailed
-        requires room { self.old.failed < 2 ^ 64 - 1 }
-        ensures after { self.new ≡ record self.old { failed = self.old.failed + 1 } }
+    /// The last send that failed, if any did.
+    #[must_use]
+    pub fn last_failure(&self) -> Option<FailedSend>
+        ensures last { result ≡ self.now.last_failure }
+        ensures some { is_some result ≡ nat_lt 0 self.now.failed }
+        ensures made { IfSome result (λ f. (1 ≤ f.send) × (f.send < next_send self.now)) }
     {
+        self.last_failure
+    }
+
+    /// Counts and notes the next send, of a packet of this store, which fails.
+    pub(crate) fn refuse(&mut self, store: &StoreId) -> SendFailed
+        requires room { self.old.failed < 2 ^ 64 - 1 }
+        ensures after { self.new ≡ after_failure store.now self.old }
+    {
+        self.last_failure = Some(FailedSend {
+            send: self.next_send(),
+            store: *store,
+        });
         self.failed += 1;
         SendFailed
+    }
+
+    // The number of the next send.
+    fn next_send(&self) -> u128
+        ensures { result ≡ next_send self.now }
+    {
+        next_number(self.notes.len(), self.failed)
     }
 
     // Whether the next send fails by the lines.
     fn fails_next(&self) -> bool
         ensures { result ≡ fails_next self.now }
     {
-        let number = next_number(self.notes.len(), self.failed);
-        is_among(self.failing.as_slice(), number)
+        is_among(self.failing.as_slice(), self.next_send())
     }
 }
 
@@ -118,7 +155,7 @@ impl Link for ScriptedLink {
         requires room { self.old.failed < 2 ^ 64 - 1 }
         ensures ok { OnOk result (self.new
             ≡ record self.old { sent = self.old.sent ++ sent_at store.now time packet.now ∷ [] }) }
-        ensures err { OnErr result (self.new ≡ record self.old { failed = self.old.failed + 1 }) }
+        ensures err { OnErr result (self.new ≡ after_failure store.now self.old) }
         ensures lines { length self.old.sent < MAX_SENT → is_err result ≡ fails_next self.old }
     {
         let note = Note {
@@ -129,7 +166,7 @@ impl Link for ScriptedLink {
         if !self.fails_next() && self.notes.push(note).is_ok() {
             return Ok(());
         }
-        Err(self.refuse())
+        Err(self.refuse(store))
     }
 
     fn failures(&self) -> u64 {
@@ -142,7 +179,7 @@ impl Link for ScriptedLink {
 pub struct Failing {
     /// The number of the link, counted from 1.
     pub link: u8,
-    /// Which of its sends it is, counted from 1, those that failed too.
+    /// The number of the send, counted from 1. Sends that fail count too.
     pub send: u32,
 }
 
@@ -191,7 +228,7 @@ fn new_links(alloc: Global, count: u8) -> Result<Vec<ScriptedLink>, NoMemory>
     Ok(links)
 }
 
-// Lets the sends fail that the lines say, of which the first is line 2.
+// Makes the sends fail that the lines name. The first of these lines is line 2 of its text.
 fn fail_all(links: &mut Vec<ScriptedLink>, count: u8, text: &[u8]) -> Result<(), ScriptFault>
     requires { AreLinked (record { count = count; failing = [] }) links.old.items }
     ensures failing { OnOk result (AreFailing count text.now links.new.items) }
@@ -210,7 +247,7 @@ fn fail_all(links: &mut Vec<ScriptedLink>, count: u8, text: &[u8]) -> Result<(),
 }
 
 /// The links that a text says: `links N` in its first line, and then lines `fail LINK SEND`. Otherwise `LinksText`
-/// with the first line, from 1, that is of another form, or that names a link that is not there.
+/// with the number, from 1, of the first line that has another form or names a link that does not exist.
 #[tactic(auto, unfolding(crate::specs::Links::linked_of))]
 pub fn read_links(alloc: Global, text: &[u8]) -> Result<Vec<ScriptedLink>, ScriptFault>
     ensures found { IfOk result (λ links. SaysLinks text.now links.items) }

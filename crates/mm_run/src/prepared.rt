@@ -9,6 +9,7 @@ use crate::link::ScriptedLink;
 use crate::printed::Printed;
 use crate::run_plan::RunPlan;
 use crate::source::ScriptedSource;
+use crate::stopped_run::StoppedRun;
 use mm_carry::{Flown, FlyHalted};
 use mm_memory::Memory;
 use mm_problem::Problem;
@@ -68,7 +69,8 @@ impl PreparedRun {
             Ok(Flown { sheet, report, .. }) => printed.whole(alloc, sheet, &report),
             Err(FlyHalted { sheet, halted }) => {
                 printed.given.opening = offered_for(&memory, &halted.cause);
-                printed.stopped(alloc, sheet, &halted.cause, &halted.report)
+                let told = printed.stopped(alloc, sheet, &halted.cause, &halted.report);
+                told.with_left(StoppedRun { memory, halted })
             }
         }
     }

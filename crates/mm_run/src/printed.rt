@@ -1,5 +1,5 @@
 //! What a run prints.
-ghost use Rattle.std.specs.Prelude.{◌≡◌, ◌+◌, ◌≤◌, ◌++◌, [], length, decimal, vec_capacity, IfOk};
+ghost use Rattle.std.specs.Prelude.{◌≡◌, ◌+◌, ◌≤◌, ◌++◌, [], length, decimal, vec_capacity, IfOk, Some};
 ghost use Rattle.mm_base.specs.Id.{id_text};
 ghost use Rattle.mm_base.specs.Refusals.{name_of};
 ghost use Rattle.mm_run.specs.Ending.{ID, NAME, NUMBER, refusal_text, field_text, step_of, halted_line, end_line};
@@ -7,6 +7,7 @@ ghost use Rattle.mm_run.specs.Ending.{lacking_line};
 ghost use Rattle.mm_run.specs.Printed.{TellsReport};
 ghost use Rattle.mm_run.specs.declared.printed.TheConstants.{LINE};
 
+use crate::stopped_run::StoppedRun;
 use crate::untaken::{Unstored, Untaken};
 use itoa::Buffer;
 use mm_base::{NoMemory, Refusal, Refused, StoreId};
@@ -38,7 +39,7 @@ pub struct Given {
     pub untaken: Option<Untaken>,
 }
 
-/// What a run prints: three texts, one after the other. Beside them, how it ended and what it was given.
+/// What a run prints: three texts, one after the other. Beside them, how it ended, what it was given, and what it left.
 #[derive(Debug, Drop)]
 pub struct Printed {
     /// The plan text, where the plan was made here.
@@ -49,9 +50,11 @@ pub struct Printed {
     pub end: Vec<u8>,
     pub outcome: Outcome,
     pub given: Given,
+    /// What the run left, where it did not begin or was halted.
+    pub left: Option<StoppedRun>,
 }
 
-// The longest of the lines that are printed where there is no memory any more have fewer octets.
+// Each line that is printed when no memory is left has fewer bytes than this.
 const LINE: usize = 64;
 
 // The step in which a run was halted, 0 before the first; nothing where it did not begin.
@@ -163,7 +166,7 @@ fn push_end(text: &mut Vec<u8>, cause: &Cause)
     push_halted(text, step, cause)
 }
 
-// Pushes the line that stands for a text for which there is no memory; there is room for the line.
+// Pushes the line that replaces a text for which there is no memory. There is room for the line.
 #[tactic(auto, using(std::proofs::Common::append_assoc))]
 fn push_lacking(text: &mut Vec<u8>)
     requires room { length text.old.items + LINE ≤ vec_capacity text.old }
@@ -174,7 +177,7 @@ fn push_lacking(text: &mut Vec<u8>)
     push(text, b"\n");
 }
 
-// Writes the report's text, or where there is no memory for it the line that stands for it, for which there is room.
+// Writes the report's text, or, if there is no memory for it, the line that replaces it, for which there is room.
 fn write_report(text: &mut Vec<u8>, alloc: Global, report: &Report) -> Outcome
     requires empty { text.old.items ≡ [] }
     requires room { LINE ≤ vec_capacity text.old }
@@ -195,9 +198,10 @@ fn write_report(text: &mut Vec<u8>, alloc: Global, report: &Report) -> Outcome
 impl Printed {
     ghost use Rattle.mm_run.specs.Printed.{IsReserved, TellsAll, TellsEnd};
 
-    /// Nothing, with room for the lines that are printed where there is no memory any more.
+    /// Nothing yet, with room for the lines that are printed when no memory is left.
     pub(crate) fn reserved(alloc: Global, given: Given) -> Result<Printed, NoMemory>
-        ensures { IfOk result IsReserved }
+        ensures reserved { IfOk result IsReserved }
+        ensures given { IfOk result (λ printed. printed.given ≡ given) }
     {
         Ok(Printed {
             sheet: Vec::new(alloc),
@@ -205,20 +209,22 @@ impl Printed {
             end: Vec::with_capacity(alloc, LINE)?,
             outcome: Outcome::CarriedOut,
             given,
+            left: None,
         })
     }
 
-    /// What a run prints that was carried out.
+    /// What is printed of a run that was carried out.
     pub(crate) fn whole(mut self, alloc: Global, sheet: Vec<u8>, report: &Report) -> Printed
         requires { IsReserved self }
-        ensures { TellsAll sheet.items report.now result }
+        ensures tells { TellsAll sheet.items report.now result }
+        ensures given { result.given ≡ self.given }
     {
         self.sheet = sheet;
         self.outcome = write_report(&mut self.report, alloc, report);
         self
     }
 
-    /// What a run prints that did not begin, or was halted.
+    /// What is printed of a run that did not begin or was halted.
     pub(crate) fn stopped(
         mut self,
         alloc: Global,
@@ -227,7 +233,8 @@ impl Printed {
         report: &Report,
     ) -> Printed
         requires { IsReserved self }
-        ensures { TellsEnd sheet.items cause.now report.now result }
+        ensures tells { TellsEnd sheet.items cause.now report.now result }
+        ensures given { result.given ≡ self.given }
     {
         self.sheet = sheet;
         if step_of(cause).is_some() {
@@ -235,6 +242,14 @@ impl Printed {
         }
         push_end(&mut self.end, cause);
         self.outcome = Outcome::Stopped(*cause);
+        self
+    }
+
+    /// The same with what the run left.
+    pub(crate) fn with_left(mut self, run: StoppedRun) -> Printed
+        ensures { result ≡ record self { left = Some run } }
+    {
+        self.left = Some(run);
         self
     }
 }

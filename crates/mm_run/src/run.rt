@@ -50,6 +50,7 @@ fn prepare(
     ensures plan { IfOk result (λ run. IsPlanBy goal sheet start.problem run.plan) }
     ensures memory { IfOk result (λ run. run.memory ≡ opened_with start.memory sides.opening.items) }
     ensures sides { IfOk result (λ run. (run.sources ≡ sides.sources) × (run.links ≡ sides.links)) }
+    ensures given { IfOk result (λ run. run.printed.given ≡ sides.given) }
 {
     let ProblemAndMemory {
         problem,
@@ -75,9 +76,9 @@ fn prepare(
     })
 }
 
-/// Reads and judges what the texts say of a run, and makes a plan for the goal and prints it where there is no plan text. The run has
-/// not begun. Otherwise the first fault of the texts, in the order of the setup, the forecast, the plan text, its
-/// shape, the sources and the links.
+/// Reads and judges what the texts say of a run, and makes a plan for the goal and prints it where there is no plan
+/// text. The run has not begun. Otherwise the first fault of the texts, in the order of the setup, the forecast, the
+/// plan text, its shape, the sources and the links.
 pub fn prepare_run(
     alloc: Global,
     texts: RunTexts<'_>,

@@ -9,10 +9,10 @@ use thiserror::Error;
 pub enum ScriptFault {
     #[error("{}", self.refusal())]
     NoMemory,
-    /// The first line, from 1, of a text of sources that is not what stands there.
+    /// The number, from 1, of the first line of a text of sources that is not as it should be.
     #[error("{} line {line}", self.refusal())]
     SourcesText { line: u64 },
-    /// The first line, from 1, of a text of links that is not what stands there.
+    /// The number, from 1, of the first line of a text of links that is not as it should be.
     #[error("{} line {line}", self.refusal())]
     LinksText { line: u64 },
 }

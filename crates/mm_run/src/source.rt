@@ -1,5 +1,6 @@
 //! Sources that give what the lines say.
-ghost use Rattle.std.specs.Prelude.{◌≡◌, ℕ, ◌<◌, ◌≤◌, ◌∷◌, ◌++◌, [], length, slice_index_or, slice_set, IfOk, IfNone, OnOk};
+ghost use Rattle.std.specs.Prelude.{◌≡◌, ℕ, ◌<◌, ◌≤◌, ◌∷◌, ◌++◌, [], length, slice_index_or, slice_set, IfOk, IfNone};
+ghost use Rattle.std.specs.Prelude.{OnOk};
 ghost use Rattle.std.specs.Option.{option_to_list};
 ghost use Rattle.mm_base.specs.declared.limits.TheConstants.{MAX_STEPS};
 

@@ -1,5 +1,5 @@
 //! Texts of sources.
-ghost use Rattle.std.specs.Prelude.{◌≡◌, ◌+◌, ◌-◌, ◌<◌, ℕ, List, length, max, IfOk, OnOk};
+ghost use Rattle.std.specs.Prelude.{◌≡◌, ◌+◌, ◌-◌, ◌<◌, ℕ, List, [], length, max, IfOk, OnOk};
 ghost use Rattle.mm_base.specs.Reading.{Gives, IfRefused};
 ghost use Rattle.mm_run.specs.declared.sources.SourceLine.{SourceLine};
 ghost use Rattle.mm_run.specs.declared.source.TheConstants.{MAX_PACKETS};
@@ -79,6 +79,7 @@ fn reach(alloc: Global, sources: &mut Vec<ScriptedSource>, count: usize) -> Resu
 impl SourceFile {
     ghost use Rattle.mm_run.specs.Sources.{with_source_line};
     ghost use Rattle.mm_run.specs.Drafts.{IsRead, Adds};
+    ghost use Rattle.mm_run.specs.Counted.{HasCounted, all_unstored};
 
     // Adds what a line says, where there is room for it; `opened` counts the packets of step 0 of each source.
     fn add(
@@ -131,8 +132,13 @@ impl SourceFile {
         text: &[u8],
         count: &mut UnstoredCount<'_>,
     ) -> Result<SourceFile, ScriptFault>
+        requires none { all_unstored count.old.unstored ≡ 0 }
+        requires counts { HasCounted count.old [] }
         ensures found { IfOk result (λ read. Says text.now read.opening.items read.sources.items) }
         ensures few { IfOk result (λ read. AreFew read.sources.items) }
+        ensures start { count.new.start ≡ count.old.start }
+        ensures counts { IfOk result (λ _. (lines : List SourceLine) → source_lines_of text.now ≡ Ok lines
+            → HasCounted count.new lines) }
         ensures refused { IfRefused ScriptFault.NoMemory result (λ e. source_lines_of text.now ≡ Err e) }
     {
         let mut file = SourceFile {

@@ -1,5 +1,5 @@
 //! What the texts of a run say.
-ghost use Rattle.std.specs.Prelude.{◌≡◌, All, IfOk};
+ghost use Rattle.std.specs.Prelude.{◌≡◌, length, All, IfOk};
 ghost use Rattle.std.specs.Option.{option_copied};
 ghost use Rattle.mm_base.specs.Reading.{IfRefused};
 ghost use Rattle.mm_problem.specs.declared.fault.Fault.TheVariants as problem;
@@ -9,6 +9,7 @@ ghost use Rattle.mm_run.specs.declared.script_fault.ScriptFault.TheVariants as s
 ghost use Rattle.mm_run.specs.Runs.{AreOffered};
 ghost use Rattle.mm_run.specs.Texts.{SaysProblemAndMemory, SaysPlan, SaysSourcesAndLinks, IsProblemFault};
 ghost use Rattle.mm_run.specs.Texts.{IsPlanTextFault, IsScriptFault};
+ghost use Rattle.mm_run.specs.Untaken.{CountsOf, HasRoutesToStores};
 
 use crate::link::{ScriptedLink, read_links};
 use crate::printed::Given;
@@ -37,6 +38,7 @@ pub struct RunTexts<'a> {
 pub(crate) struct ProblemAndMemory {
     pub(crate) problem: Problem,
     pub(crate) memory: Memory,
+    ghost routes: { HasRoutesToStores memory },
 }
 
 /// What the sources and the links say.
@@ -95,6 +97,8 @@ pub(crate) fn read_sources_and_links(
         e.opening.items e.sources.items e.links.items) }
     ensures few { IfOk result (λ e. AreFew e.sources.items) }
     ensures unfailed { IfOk result (λ e. All (λ l. l.failed ≡ 0) e.links.items) }
+    ensures counts { IfOk result (λ e. CountsOf (length start.now.problem.windows) start.now.memory sources.now
+        e.given.unstored) }
     ensures refused { IfRefused script.NoMemory result (IsScriptFault sources.now links.now) }
 {
     let mut count = UnstoredCount::new(Some(start));

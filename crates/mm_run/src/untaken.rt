@@ -1,4 +1,9 @@
 //! Packets of the sources that go to no store.
+ghost use Rattle.std.specs.Prelude.{◌≡◌, ◌<◌, ◌≤◌, ◌∷◌, ◌++◌, [], List};
+ghost use Rattle.mm_packet.specs.Packet.{IsTelemetry};
+ghost use Rattle.mm_run.specs.Types.{SourceLine};
+ghost use Rattle.mm_run.specs.Counted.{HasCounted, all_unstored};
+ghost use Rattle.mm_run.specs.Untaken.{HasRoutesToStores, is_untaken};
 
 use crate::sources::SourceLine;
 use crate::texts::ProblemAndMemory;
@@ -48,7 +53,11 @@ pub(crate) struct UnstoredCount<'a> {
 }
 
 impl<'a> UnstoredCount<'a> {
-    pub(crate) fn new(start: Option<&'a ProblemAndMemory>) -> UnstoredCount<'a> {
+    pub(crate) fn new(start: Option<&'a ProblemAndMemory>) -> UnstoredCount<'a>
+        ensures start { result.start ≡ start.entry }
+        ensures none { all_unstored result.unstored ≡ 0 }
+        ensures counts { HasCounted result [] }
+    {
         UnstoredCount {
             start,
             unstored: Unstored {
@@ -61,26 +70,35 @@ impl<'a> UnstoredCount<'a> {
     }
 
     /// Looks at the packet of a line, which has this number.
-    pub(crate) fn note(&mut self, line: u64, source_line: &SourceLine) {
+    pub(crate) fn note(&mut self, line: u64, source_line: &SourceLine)
+        requires fewer { all_unstored self.old.unstored < line }
+        ensures start { self.new.start ≡ self.old.start }
+        ensures within { all_unstored self.new.unstored ≤ line }
+        ensures counts { (lines : List SourceLine) → HasCounted self.old lines
+            → HasCounted self.new (lines ++ source_line.now ∷ []) }
+    {
         let Some(start) = self.start else {
             return;
         };
         let packet = source_line.packet.packet();
         let counted = &mut self.unstored;
         if source_line.step > start.problem.steps() {
-            counted.late = counted.late.saturating_add(1);
+            counted.late += 1;
         } else if packet.is_telecommand() {
-            counted.telecommands = counted.telecommands.saturating_add(1);
-        } else if !is_routed(&start.memory, packet) {
-            counted.unrouted = counted.unrouted.saturating_add(1);
+            counted.telecommands += 1;
+        } else if is_unrouted(&start.memory, packet) {
+            counted.unrouted += 1;
             self.untaken = self.untaken.or(Some(Untaken::of(line, packet)));
         }
     }
 }
 
-// Whether a route takes telemetry of the packet's report type.
-fn is_routed(memory: &Memory, packet: &Packet) -> bool {
+// Whether no route takes telemetry of the packet's report type.
+fn is_unrouted(memory: &Memory, packet: &Packet) -> bool
+    requires { HasRoutesToStores memory.now }
+    ensures { IsTelemetry packet.now.kind → result ≡ is_untaken memory.now packet.now }
+{
     let control = memory.control();
     let rows = control.rows_for(packet.apid(), packet.service(), packet.subtype());
-    !rows.is_empty()
+    rows.is_empty()
 }

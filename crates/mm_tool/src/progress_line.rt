@@ -10,8 +10,8 @@ const SILENCE: u64 = 1000;
 /// How many milliseconds a line stays before the next one takes its place.
 const TURN: u64 = 100;
 
-/// Shows on standard error, where that is a terminal, how far an answer has come that takes longer than a second. The line is cleared at
-/// the end of the answer, so that nothing of it remains.
+/// Shows on standard error, where that is a terminal, how far an answer has come that takes longer than a second. The
+/// line is cleared at the end of the answer, so that nothing of it remains.
 #[derive(Drop)]
 pub(crate) struct ProgressLine<'a, C, E> {
     clock: &'a C,

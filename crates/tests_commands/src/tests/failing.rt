@@ -35,7 +35,7 @@ fn text_of(name: &str) -> &'static str {
     FIRST_PLAN
 }
 
-// These files, of which so many are read.
+// These files, of which this many are read.
 #[derive(Drop)]
 struct FailingFiles {
     left: usize,
@@ -72,7 +72,7 @@ impl Files for FailingFiles {
 // What standard error says where standard output refuses a write.
 pub(crate) const UNWRITTEN: &[u8] = b"mm_tool: standard output could not be written\n";
 
-// A writer that refuses one write, the one after so many, with such an error, and takes all others.
+// A writer that refuses one write, the one after this many, with this error, and takes all others.
 #[derive(Drop)]
 pub(crate) struct FailingWriter {
     left: u32,
@@ -131,7 +131,7 @@ static COMMANDS: [(&[&str], u32, u8); 11] = [
     (&["plan", "S", "-"], 1, 1),
 ];
 
-// The read of this file, after so many, fails, and the file's name is told.
+// The read of this file, after this many reads, fails, and the file's name is told.
 fn read_fails(rt: &impl Host, words: &[&str], reads: usize, name: &str) {
     let answer = answer_to(rt, words, &mut FailingFiles { left: reads });
     let line = joined(rt, &["refused 50 NotRead name ", name, "\n"]);
@@ -156,7 +156,7 @@ fn each_file_that_is_not_read(rt: HostRuntime) {
 // No command writes as often for the first run.
 const MANY_WRITES: u32 = 100;
 
-// Whether a command writes more often than this. The write after so many is refused: the status is 1, and standard
+// Whether a command writes more often than this. The write after this many is refused: the status is 1, and standard
 // error says why. With none refused it is this status.
 fn is_refused_after(rt: &impl Host, words: &[&str], status: u8, writes: u32) -> bool {
     let alloc = rt.alloc();
@@ -190,7 +190,7 @@ fn each_write_that_fails(rt: HostRuntime) {
     }
 }
 
-// Whether a command writes more often than this to a pipe. Where nobody reads the pipe after so many writes, the status
+// Whether a command writes more often than this to a pipe. If nobody reads the pipe after that many writes, the status
 // is that of the command, nothing is said of that, and nothing more is written.
 fn is_closed_after(rt: &impl Host, words: &[&str], status: u8, writes: u32) -> bool {
     let alloc = rt.alloc();
@@ -234,7 +234,7 @@ fn other_errors_of_a_pipe_are_told(rt: HostRuntime) {
     assert!(rt; status == 1 && err.as_slice() == UNWRITTEN);
 }
 
-// Whether more is written to standard error than so often. A write of it that fails is not told as one to standard
+// Whether standard error is written to more often than this. A write of it that fails is not told as one to standard
 // output.
 fn is_unsaid_after(rt: &impl Host, writes: u32) -> bool {
     let alloc = rt.alloc();

@@ -9,7 +9,7 @@ use std::rt;
 #[derive(Clone, Copy)]
 pub(crate) enum Fails {
     Open,
-    // The write after so many bytes.
+    // The write after this many bytes.
     WriteAfter(usize),
     Sync,
     Rename,

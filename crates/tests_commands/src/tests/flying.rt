@@ -5,6 +5,7 @@ use crate::tests::samples::{FIRST_PLAN, Host, SCI, THREE_STEPS, answers, joined,
 use mm_commands::run_script;
 use std::io::{self, Write};
 
+mod halts;
 mod refusals;
 
 // One packet of source 1 before the run, and in each step: telemetry without data, of APID 100, service 3, subtype 25.

@@ -26,7 +26,7 @@ fn next(state: &mut u64) -> usize {
     (*state >> 40) as usize
 }
 
-// A text of so many made lines, the last of which may have no line feed.
+// A text of this many generated lines, the last of which may have no line feed.
 fn made(rt: &impl Host, text: &mut String, lines: usize, state: &mut u64) {
     for line in 0..lines {
         for _ in 0..next(state) % 7 {

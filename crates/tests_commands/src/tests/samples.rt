@@ -125,8 +125,8 @@ pub(crate) fn told(rt: &impl Host, script: &[&str]) -> Answer {
     told_bytes(rt, joined(rt, script).as_bytes())
 }
 
-// The program prints this for a script, and ends with this status. It says something on standard error where the status is not 0, and
-// nothing otherwise.
+// The program prints this for a script, and ends with this status. It says something on standard error where the status
+// is not 0, and nothing otherwise.
 pub(crate) fn prints(rt: &impl Host, example: &str, script: &[&str], out: &str, status: u8) {
     let answer = told(rt, script);
     let is_said = answer.err.is_empty() == (status == 0);

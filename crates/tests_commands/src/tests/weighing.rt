@@ -2,8 +2,8 @@
 
 use crate::tests::samples::{A_WITH_LIMIT_1, SCI, THREE_STEPS, TWO_STEPS_OF_A, prints};
 
-// The store takes 4 of the 10 blocks that come, and the windows of steps 1 and 2 take 4: 2 are lost. A window of step 1 that is larger
-// takes the third block of its step, and no more are there. One of step 2 takes all that stands there.
+// The store takes 4 of the 10 blocks that come, and the windows of steps 1 and 2 take 4: 2 are lost. A window of step 1
+// that is larger takes the third block of its step, and no more are there. One of step 2 takes all that stands there.
 const FIRST_WORTHS: &str = "\
 item,name,step,now,next,most,without
 window,,1,2,1,1,2

@@ -46,7 +46,7 @@ fn has_logged(rt: &impl Abort, log: &[Entry], calls: &[SeatCall]) {
     }
 }
 
-// The seats at place 0 have made so many calls each.
+// The seats at place 0 have made this many calls each.
 fn have_called<N: Opening>(rt: &impl Abort, seats: &[Seat<N>], calls: &[usize]) {
     assert!(rt; seats.len() == calls.len(), "as many seats");
     for (seat, calls) in seats.iter().zip(calls) {
@@ -55,7 +55,8 @@ fn have_called<N: Opening>(rt: &impl Abort, seats: &[Seat<N>], calls: &[usize]) 
     }
 }
 
-// A store with some packets at a desk with one seat or two: the calls, what they leave of the store, and how many each seat has made.
+// A store with some packets at a desk with one seat or two: the calls, what they leave of the store, and how many each
+// seat has made.
 struct Case {
     kind: Kind,
     held: u16,
@@ -98,7 +99,8 @@ fn tried<R: Wait + Abort>(rt: &R, alloc: Global, case: &Case) {
     in_order::<Brand, R>(rt, alloc, state, case);
 }
 
-// The first seat offers, then the second; the first takes a copy of its packet back and aborts. A circular store answers the same.
+// The first seat offers, then the second; the first takes a copy of its packet back and aborts. A circular store
+// answers the same.
 static TWO_OFFERS: Case = Case {
     kind: Kind::Bounded,
     held: 0,
@@ -152,7 +154,8 @@ fn refused_calls_are_logged(rt: HostRuntime) {
     tried(&rt, rt.alloc(), &REFUSED);
 }
 
-// A log agrees with the lists of its two seats, and with no more. The part of each in it is its own list, and not that of the other.
+// A log agrees with the lists of its two seats, and with no more. The part of each in it is its own list, and not that
+// of the other.
 fn agrees_with_two<N: Opening>(rt: &impl Abort, log: &[Entry], seats: &[Seat<N>]) {
     let agree = [agrees(log, 2, seats), agrees(log, 3, seats)];
     assert!(rt; agree == [true, false], "the lists of its seats");

@@ -71,7 +71,8 @@ fn dumped<L: Link + Send, R: Threads + Wait + Sync + Abort>(
     }
 }
 
-// How many packets the stores of these names hold, and how many were deleted. Each has its channel, none is lost, and no retrieval is on.
+// How many packets the stores of these names hold, and how many were deleted. Each has its channel, none is lost, and
+// no retrieval is on.
 fn have(rt: &impl Abort, stores: &[Held], counts: &[(u32, u64)]) {
     assert!(rt; stores.len() == counts.len(), "as many stores");
     for ((store, name), (held, deleted)) in stores.iter().zip(&NAMES).zip(counts) {
@@ -83,8 +84,8 @@ fn have(rt: &impl Abort, stores: &[Held], counts: &[(u32, u64)]) {
     }
 }
 
-// A step: what stores hold, how links fail, and how much is wanted; and then why it ends, how much is spent, what stores hold and
-// deleted, and what each link took and how often it failed.
+// A step: what stores hold, how links fail, and how much is wanted; and then why it ends, how much is spent, what
+// stores hold and deleted, and what each link took and how often it failed.
 struct Case {
     name: &'static str,
     held: &'static [u16],

@@ -77,7 +77,8 @@ fn a_request_is_read_again(rt: HostRuntime) {
     assert!(rt; stores.as_slice() == [Target { id }].as_slice());
 }
 
-// Two blocks leave in each of the first two steps, and two are lost; or one fewer leaves in the second step, and three are lost.
+// Two blocks leave in each of the first two steps, and two are lost; or one fewer leaves in the second step, and three
+// are lost.
 static PLANS: [(&str, Option<u64>); 2] = [
     (TWO_PASSES, Some(2)),
     (

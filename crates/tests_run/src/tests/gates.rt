@@ -90,7 +90,7 @@ pub fn gated_sources(
     list
 }
 
-/// These are so many sources, each of which met the others and has nothing left.
+/// These are this many sources, each of which met the others and has nothing left.
 pub fn all_met(rt: &impl Abort, sources: &[GatedSource<Bursts>], many: usize) {
     assert!(rt; sources.len() == many, "all sources come back");
     for source in sources {

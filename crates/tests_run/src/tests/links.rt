@@ -43,7 +43,7 @@ pub(crate) fn has_sent(rt: &impl Abort, name: &str, link: &MemoryLink, many: usi
     assert!(rt; link.failures() == failures, "how many sends failed");
 }
 
-// These are so many links, each of which took this many packets without a failure.
+// These are this many links, each of which took this many packets without a failure.
 pub(crate) fn all_have_sent(
     rt: &impl Abort,
     name: &str,

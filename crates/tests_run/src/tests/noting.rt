@@ -87,7 +87,7 @@ fn plain_noted(setup: &Setup, sources: &[u8]) -> Noted {
     noted
 }
 
-// A setup with so many routes, four for each APID from 0 on.
+// A setup with this many routes, four for each APID from 0 on.
 fn setup_of<R: Abort + AllocGlobal>(rt: &R, routes: usize) -> String {
     let alloc = rt.alloc();
     let store = "[[store]]\nid = \"A\"\nsize = 4\ntype = \"bounded\"\nchannel = 0\n";
@@ -109,7 +109,7 @@ static FRONTS: [&str; 4] = ["1 2 ", "8 256 ", "3 0 ", "2 1 "];
 // Services of which no route is, with one digit that is another or both.
 static SERVICES: [usize; 4] = [0x13, 0x02, 0xF3, 0x40];
 
-// Makes lines for a setup of so many routes, by numbers that look random.
+// Makes lines for a setup of this many routes, by pseudo-random numbers.
 #[derive(Drop)]
 struct Maker {
     routes: usize,

@@ -70,3 +70,20 @@ fn the_plan_text_is_there_before_the_run(rt: HostRuntime) {
         assert!(rt; printed.end.as_slice() == end.as_bytes(), "the last line");
     }
 }
+
+// In step 2 a packet was sent before the send that failed. The two packets of step 1 are in the report.
+#[test]
+fn a_halted_run_hands_on_what_it_left(rt: HostRuntime) {
+    let run = prepared(&rt, rt.alloc(), "links 1\nfail 1 4\n", None);
+    let Some(left) = run.carry_out(&rt, rt.alloc()).left else {
+        panic!(&rt; "the run is halted");
+    };
+    assert!(rt; left.memory.stores().len() == 1, "the store");
+    assert!(rt; left.halted.spent == 2, "two sends in step 2");
+    assert!(rt; left.dumped(0) == 0, "nothing is dumped in step 2");
+    assert!(rt; left.still_held() == 1, "one packet is sent and held");
+    for link in &left.halted.links {
+        let failed = link.last_failure().map(|failed| failed.send);
+        assert!(rt; failed == Some(4), "the send that failed");
+    }
+}

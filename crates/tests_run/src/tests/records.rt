@@ -58,13 +58,13 @@ fn recorded<S: Source + Send + Drop, R: Threads + Wait + Sync + Abort>(
     }
 }
 
-// So many packets came to a store, and so many were lost.
+// This many packets came to a store, and this many were lost.
 fn has_recorded(rt: &impl Abort, row: &Recorded, came: u64, lost: u64) {
     assert!(rt; row.came == came, "how many came");
     assert!(rt; row.lost == lost, "how many were lost");
 }
 
-// These are so many rows: so many packets came to each store, and none was lost.
+// There are this many rows; this many packets came to each store, and none was lost.
 fn all_recorded(rt: &impl Abort, rows: &[Recorded], many: usize, came: u64) {
     assert!(rt; rows.len() == many, "as many rows");
     for row in rows {
@@ -247,7 +247,7 @@ fn second_was_offered_three(rt: &impl Abort, stores: &[Held]) {
     was_offered(rt, bounded, 3, 1);
 }
 
-// A store was offered so many packets, and lost so many.
+// A store was offered this many packets, and lost this many.
 fn was_offered(rt: &impl Abort, store: &Held, offered: u64, lost: u64) {
     assert!(rt; store.state.offered() == offered, "how many came");
     assert!(rt; store.state.lost() == lost, "how many were lost");

@@ -6,7 +6,8 @@ use mm_report::{Report, StepCounts};
 use std::alloc::Global;
 use std::process::Abort;
 
-// The report of these stores and steps, each with a row of forecast, arrived, lost, dumped and held packets for each store.
+// The report of these stores and steps, each with a row of forecast, arrived, lost, dumped and held packets for each
+// store.
 fn report_of(rt: &impl Abort, alloc: Global, names: &[&str], steps: &[&[[u64; 5]]]) -> Report {
     let mut ids = Vec::new(alloc);
     for name in names {

@@ -4,7 +4,7 @@ use crate::tests::samples::{id, is_told, packet};
 use mm_dump::Link;
 use mm_packet::BlockPacket;
 use mm_record::Source;
-use mm_run::{ScriptFault, ScriptedLink, ScriptedSource, SourceFile, read_links};
+use mm_run::{FailedSend, ScriptFault, ScriptedLink, ScriptedSource, SourceFile, read_links};
 use std::alloc::Global;
 use std::process::Abort;
 use std::slice;
@@ -49,7 +49,8 @@ fn are_left(rt: &impl Abort, sources: &[ScriptedSource], step: u32, left: &[u32]
 
 const IN_TURN: &str = "1 1 P0Q\n2 1 P1Q\n1 3 P2Q\n1 1 P3Q";
 
-// Texts, the sequence counts of the packets of step 0 in the order of the lines, and what is left of each source in some steps.
+// Texts, the sequence counts of the packets of step 0 in the order of the lines, and what is left of each source in
+// some steps.
 static READ: [(&str, &[u16], &[(u32, &[u32])]); 5] = wanted! {
     IN_TURN, &[] => &[(0, &[0, 0]), (1, &[2, 1]), (2, &[0, 0]), (3, &[1, 0]), (256, &[0, 0]), (257, &[0, 0])];
     "3 0 P0Q\n1 1 P1Q\n1 0 P2Q\n", &[0, 2] => &[(0, &[0, 0, 0]), (1, &[1, 0, 0])];
@@ -172,6 +173,16 @@ fn sends(rt: &impl Abort, link: &mut ScriptedLink, packet: &BlockPacket, sent: &
     }
 }
 
+// The last send of a link that failed has this number, and was of a packet of SCI.
+fn failed_last(rt: &impl Abort, link: &ScriptedLink, send: u128) {
+    let store = id(rt, "SCI");
+    let failed = link.last_failure();
+    assert!(rt;
+        failed == Some(FailedSend { send, store }),
+        "send {send} failed last"
+    );
+}
+
 #[test]
 fn links_fail_at_the_sends_of_their_lines(rt: HostRuntime) {
     let packet = packet(&rt, rt.alloc(), 0);
@@ -183,6 +194,8 @@ fn links_fail_at_the_sends_of_their_lines(rt: HostRuntime) {
     sends(&rt, &mut links[1], &packet, &[(1, false), (1, true)]);
     let failures = [links[0].failures(), links[1].failures()];
     assert!(rt; failures == [2, 1], "how many sends failed");
+    failed_last(&rt, &links[0], 3);
+    failed_last(&rt, &links[1], 1);
 }
 
 // Texts, and how many links each says, or the first line of it that is refused.

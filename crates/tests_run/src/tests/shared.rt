@@ -68,7 +68,8 @@ fn asks<R: Wait + Abort>(
     }
 }
 
-// Offers are taken while storage is on; one retrieval comes to its end, another is aborted, and then the packet is deleted.
+// Offers are taken while storage is on; one retrieval comes to its end, another is aborted, and then the packet is
+// deleted.
 static EACH_CALL: [Call; 13] = [
     (Ask::Offer(7, 1), Told::Back(Fault::Disabled, 1)),
     (Ask::Enable, Told::Done),
@@ -125,8 +126,8 @@ fn a_state_comes_out_without_the_ports(rt: HostRuntime) {
     is_left(&rt, &state, [3, 0, 0, 3], true);
 }
 
-// What a thread does at a store that another thread calls too. It begins once so many threads have called, and makes its calls; once both
-// have called, it offers so many packets more.
+// What a thread does at a store that another thread calls too. It begins once this many threads have called, and makes
+// its calls; once both have called, it offers this many packets more.
 #[derive(Clone, Copy)]
 struct Part {
     begins: u64,

@@ -65,7 +65,7 @@ pub(crate) fn has_left(rt: &impl Abort, source: &impl Source, want: [u32; 3]) {
     assert!(rt; left == want, "packets left");
 }
 
-// These are so many sources, each of which still gives this many packets in the steps 1, 2 and 3.
+// These are this many sources, each of which still gives this many packets in the steps 1, 2 and 3.
 pub(crate) fn all_have_left(rt: &impl Abort, sources: &[Bursts], many: usize, want: [u32; 3]) {
     assert!(rt; sources.len() == many, "as many sources");
     for source in sources {

@@ -94,7 +94,8 @@ static FULL: [Call; 8] = [
     (Ask::Resize(1), Told::Refused(Fault::HoldsMore)),
 ];
 
-// A full store of another kind becomes one of this kind, which answers this to an offer, and is then resized to three blocks.
+// A full store of another kind becomes one of this kind, which answers this to an offer, and is then resized to three
+// blocks.
 fn changes(rt: &impl Abort, alloc: Global, from: Kind, to: Kind, told: Told) {
     let changed = [
         (Ask::ChangeKind(to), Told::Done),

@@ -1,4 +1,4 @@
-use Rattle.std.proofs.Common.{◌≡◌, ℕ, List, Bor, Option, Some, None, map, arith}
+use Rattle.std.proofs.Common.{◌≡◌, ℕ, List, map, arith}
 use Rattle.mm_command_line.specs.Lines.{flight_spelling}
 use Rattle.mm_command_line.specs.declared.task.FlightPlan.{FlightPlan}
 use Rattle.mm_command_line.specs.declared.task.FlightPlan.TheVariants.{Given, Made}

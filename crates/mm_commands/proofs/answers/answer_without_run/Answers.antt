@@ -19,8 +19,10 @@ returns-in_ok-verdict-in-Check-clause-answers g c =
       status_is = refl;
     } in
     let of_texts = subst (over setup forecast) c.deref-in-Check-2.ensures.value
-    (subst (λ f. over setup f plan) c.deref-in-Check.ensures.value (subst (λ s. over s c.deref-in-Check.result.now plan) c.deref.ensures.value judges)) in
+    (subst (λ f. over setup f plan) c.deref-in-Check.ensures.value
+    (subst (λ s. over s c.deref-in-Check.result.now plan) c.deref.ensures.value judges)) in
     record {
-      answers = subst (λ (task : Task). AnswersTask task c.args.texts.now (status_of told.verdict) told.line.items) (sym c.in-Check.is) of_texts;
+      answers = subst (λ (task : Task). AnswersTask task c.args.texts.now (status_of told.verdict) told.line.items)
+          (sym c.in-Check.is) of_texts;
       output = rw c.in-Check.is refl;
     }

@@ -5,4 +5,5 @@ use Rattle.mm_commands.proofs.file_name.write_shown.Given as goal
 
 abbrev pub invariant-loop-character : goal.invariant-loop-character
 invariant-loop-character g l =
-    IsPlainFormatter l.initial.f → HasWritten g.W.Write.write_str_gives l.initial.f (encode_utf8_all (map shown_char l.yielded)) l.f
+    IsPlainFormatter l.initial.f
+    → HasWritten g.W.Write.write_str_gives l.initial.f (encode_utf8_all (map shown_char l.yielded)) l.f

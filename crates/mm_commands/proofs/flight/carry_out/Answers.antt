@@ -15,5 +15,6 @@ returns-clause-flies g c plan prepared =
     let one : Appends before mid (plan_text_of c.args.run) = search rules in
     let two : Appends mid after (printed.report.items ++ printed.end.items) = search rules in
     prints-flown plan c.args.texts.now printed _ c.status_of_run.result before mid after
-    (c.carry_out-printed.ensures.runs (goal_of plan) (given_plan plan c.args.texts.now) _ _ _ _ prepared) c.carry_out-printed.ensures.plan_text
+    (c.carry_out-printed.ensures.runs (goal_of plan) (given_plan plan c.args.texts.now) _ _ _ _ prepared)
+    c.carry_out-printed.ensures.plan_text
     c.status_of_run.ensures.status one two

@@ -9,5 +9,6 @@ returns-else-is_empty c =
     let some : 0 < length c.args.line.now = search rules in
     record {
       words = rw (words_between c.args.line.now some) (map_from_collect c.collect.result c.collect.ensures.ran
-          (YieldsList-from_str_split 32 c.args.line.now (lit< tt) c.split.ensures.text c.split.ensures.has_more c.split.ensures.pattern));
+          (YieldsList-from_str_split 32 c.args.line.now
+          (lit< tt) c.split.ensures.text c.split.ensures.has_more c.split.ensures.pattern));
     }

@@ -8,7 +8,8 @@ pub loop-line-preserved : goal.loop-line-preserved
 loop-line-preserved c =
     let passed = c.loop-line.invariant.passed in
     let rest = c.first_line.result.1.now in
-    let next = passes c.loop-line.rest.now c.first_line.result.0.now rest c.first_line.ensures.lines (sym c.is_heading.ensures ∙ c.if-is_heading.false) in
+    let next = passes c.loop-line.rest.now c.first_line.result.0.now rest c.first_line.ensures.lines
+    (sym c.is_heading.ensures ∙ c.if-is_heading.false) in
     record {
       passed = passed ++ next.0;
       cut = c.loop-line.invariant.cut ∙ ap (λ t. passed ++ t) next.1.0 ∙ sym (append_assoc passed next.0 rest);

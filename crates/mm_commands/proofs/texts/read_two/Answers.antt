@@ -20,10 +20,13 @@ returns-in_err-other-clause-unread g c =
     let first = name_of c.args.first in
     let second = name_of c.args.second in
     let e = c.in_err-other.field-0.0 in
-    told (IsUnread contents before _ (first ++ second)) e c.from_residual-in_err-other.result c.from_residual-in_err-other.ensures.1
-    (unread_after contents _ c.in_ok-one.ensures.stays before _ _ c.in_ok-one.ensures.read _ first second e (names-reading_of c.args.first _)
+    told (IsUnread contents before _ (first ++ second)) e c.from_residual-in_err-other.result
+    c.from_residual-in_err-other.ensures.1
+    (unread_after contents _ c.in_ok-one.ensures.stays before _ _ c.in_ok-one.ensures.read _ first second e
+    (names-reading_of c.args.first _)
     c.in_err-other.ensures.unread)
 
 pub returns-clause-read : goal.returns-clause-read
 returns-clause-read g c =
-    read_after (g.F.Files.content c.args.files.now) _ c.in_ok-one.ensures.stays _ _ _ c.in_ok-one.ensures.read _ _ c.in_ok-other.ensures.read
+    read_after (g.F.Files.content c.args.files.now) _ c.in_ok-one.ensures.stays _ _ _ c.in_ok-one.ensures.read _ _
+    c.in_ok-other.ensures.read

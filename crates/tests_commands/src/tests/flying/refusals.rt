@@ -26,7 +26,8 @@ const REFUSED: Run = Run {
     ..FIRST_RUN
 };
 
-// Where several texts are bad the first in the order of the command is told, and of several refusals of the run the first.
+// Where several texts are bad the first in the order of the command is told, and of several refusals of the run the
+// first.
 static RUNS_REFUSED: [Run; 14] = based! { Run;
     REFUSED: example "no plan text, a packet cut short and a hundred links", plan "mmplan 4\n",
         sources &["1 3 08\n"], links "links 100", prints "refused 34 PlanText line 1\n";

@@ -50,7 +50,7 @@ fn one_link(rt: &impl Abort, alloc: Global, most: usize) -> Vec<Downlink>
     vec![in alloc; link].expect(rt, "memory")
 }
 
-// A link took so many packets, and so many sends failed.
+// A link took this many packets, and this many of its sends failed.
 fn has_taken(rt: &impl Abort, link: &Downlink, taken: usize, failed: u64) {
     assert!(rt; link.taken.len() == taken, "how many were taken");
     assert!(rt; link.failed == failed, "how many sends failed");
@@ -106,7 +106,7 @@ fn is_held_again(rt: &impl Abort, state: &StoreState, link: &Downlink) {
     assert!(rt; packet.is(&taken.packet), "the same packet");
 }
 
-// Carries out the first plan over a link that takes so many packets, which halts the run in a step.
+// Carries out the first plan over a link that takes this many packets. The run is halted in this step.
 pub(super) fn halted_run<R: Threads + Wait + Sync + Abort>(
     rt: &R,
     trial: &mut Trial,
@@ -146,7 +146,8 @@ fn used_link(rt: &impl Abort, alloc: Global, failed: u64) -> Vec<Downlink> {
     links
 }
 
-// Whether the first plan is carried out over a link that has failed this often. Then no run is halted, and the link takes all.
+// Whether the first plan is carried out over a link that has failed this often. Then no run is halted, and the link
+// takes all.
 fn is_carried_out<R: Threads + Wait + Sync + Abort>(rt: &R, alloc: Global, failed: u64) -> bool {
     let mut trial = Trial::new(rt, alloc, &FIRST_RUN);
     let (memory, problem) = (&mut trial.memory, &trial.problem);

@@ -17,7 +17,8 @@ use std::process::Abort;
 use std::sync::Wait;
 use std::thread::Threads;
 
-// Two blocks leave in step 2. Of the three that were held and the seven that come, four are lost: there is room for four at the end.
+// Two blocks leave in step 2. Of the three that were held and the seven that come, four are lost: there is room for
+// four at the end.
 const REST: &str =
     "mmplan 1\nstores SCI\ndump 1 2\ndump 2 0\nloss 4\nstretch SCI 1 2\nbound 4\nend\n";
 

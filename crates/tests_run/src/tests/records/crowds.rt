@@ -66,8 +66,8 @@ fn gates_meet(rt: HostRuntime) {
     gates_meet_at(&rt, alloc, &[1, 2, 3, 4], 2);
 }
 
-// Sixteen stores, to which all telemetry of APID 100 is routed: those with an even number are bounded, of five blocks, the
-// others circular, of thirty.
+// Sixteen stores, to which all telemetry of APID 100 is routed: those with an even number are bounded, of five blocks,
+// the others circular, of thirty.
 fn sixteen_stores(rt: &impl Abort, alloc: Global) -> String {
     let mut text = String::new(alloc);
     for number in 0..16 {

@@ -18,9 +18,9 @@ use work_parts::Bursts;
 // What a send waits for.
 #[derive(Clone, Copy)]
 enum Awaits {
-    // Each waits until so many have begun.
+    // Each waits until this many have begun.
     Begun(u64),
-    // The first one waits until so many others have ended.
+    // The first one waits until this many others have ended.
     Ended(u64),
 }
 
@@ -153,7 +153,7 @@ static FOUR_ORDERS: Task = task! {
     "step,window,A,B,C,D\n1,4,1,1,1,1\n" "mmplan 1\nstores A B C D\ndump 1 1 1 1 1\nloss 0\nbound 0\nend\n"
 };
 
-// A source for each of these APIDs, which gives so many packets in step 1.
+// A source for each of these APIDs, which gives this many packets in step 1.
 fn sources_by_apid(rt: &impl Abort, alloc: Global, apids: &[u16], many: u16) -> Vec<Bursts> {
     let mut sources = Vec::new(alloc);
     for apid in apids {

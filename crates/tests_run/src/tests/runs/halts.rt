@@ -60,8 +60,8 @@ static SECOND_FAILS: Run = halted! {
     left!("SCI", [3, 0, 0], [(1, 1), (2, 2), (3, 3)], [1])
 };
 
-// In the one step three packets come, and all are to be dumped. The first packet is sent, the second is not; all three stay in
-// the store.
+// In the one step three packets come, and all are to be dumped. The first packet is sent, the second is not; all three
+// stay in the store.
 #[test]
 fn second_send_fails(rt: HostRuntime) {
     let mut trial = Trial::new(&rt, rt.alloc(), &SECOND_FAILS.task);
@@ -106,8 +106,9 @@ macro_rules! of_the_rest {
     };
 }
 
-// Runs over what a halted run left, at a later moment: the store with what it holds, the source with what it still gives, and the link,
-// which has failed once. The store is on, no retrieval is, and a packet that went out before the send that failed goes out again.
+// Runs over what a halted run left, at a later moment: the store with what it holds, the source with what it still
+// gives, and the link, which has failed once. The store is on, no retrieval is, and a packet that was sent before the
+// send that failed goes out again.
 const AFTER_STEP_1: Run = run! {
     "after a halt in step 1",
     of_the_rest!(start 3, "1,2,0\n2,2,3\n3,0,5\n", "dump 1 2\ndump 2 2\ndump 3 0\nloss 3\n"), [0, 3, 5], failed 1 =>

@@ -16,8 +16,8 @@ use std::process::Abort;
 use std::sync::Wait;
 use std::thread::Threads;
 
-// A plan of the problem of a task, over a memory of another setup, to whose stores HK and SCI something was done; this many sources of the
-// first run, links that do not fail, and the moment before the first step; and why it is refused.
+// A plan of the problem of a task, over a memory of another setup, to whose stores HK and SCI something was done; this
+// many sources of the first run, links that do not fail, and the moment before the first step; and why it is refused.
 #[derive(Clone, Copy)]
 struct Refused {
     name: &'static str,
@@ -39,7 +39,8 @@ macro_rules! refused {
     };
 }
 
-// The run is refused. Nothing was drawn, nothing was taken from the sources, and nothing was sent; the stores are as they were.
+// The run is refused. Nothing was drawn, nothing was taken from the sources, and nothing was sent; the stores are as
+// they were.
 fn refuses<R: Threads + Wait + Sync + Abort>(rt: &R, trial: &mut Trial, run: &Refused) {
     let name = run.name;
     let before = standing(rt, trial);
@@ -109,8 +110,8 @@ const FIRST: Refused = Refused {
     why: Why::Counts,
 };
 
-// Of a store that is missing and one that is none of the problem's, the missing one is told. A store whose last storage time is late
-// refuses a run, also when the packet has been deleted.
+// Of a store that is missing and one that is none of the problem's, the missing one is told. A store whose last storage
+// time is late refuses a run, also when the packet has been deleted.
 static REFUSED: [Refused; 16] = refused! {
     "a late moment", FIRST base TOO_LATE => Why::ClockTooLate;
     "a late moment, on another channel without a limit", FIRST memory ON_CHANNEL_5, base TOO_LATE
@@ -210,8 +211,8 @@ const TWO: Refused = Refused {
     ..FIRST
 };
 
-// Each cause is looked for in all stores, in their order, before the next one: where the first store, HK, has a later cause than the
-// second, the second is told, and where both have one, the first.
+// Each cause is looked for in all stores, in their order, before the next one: where the first store, HK, has a later
+// cause than the second, the second is told, and where both have one, the first.
 static OF_SEVERAL_STORES: [Refused; 13] = refused! {
     "the plan is of two steps, both stores are off", TWO plan STEP_2_TOO, others OFF, changes OFF
     => Why::PlanShape;

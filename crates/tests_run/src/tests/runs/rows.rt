@@ -32,7 +32,7 @@ pub(crate) struct Run {
     pub(crate) failures: u64,
 }
 
-// A run that is carried out over a link, of which so many sends have failed before.
+// A run that is carried out over a link of which this many sends have failed before.
 macro_rules! run {
     ($name:literal, $task:expr, $many:expr, failed $failures:literal => $report:literal; $($left:expr),*) => {
         Run {

@@ -7,8 +7,8 @@ use mm_desk::StoreState;
 use mm_store::PacketStore;
 use std::process::Abort;
 
-// Of a store its identifier and its channel, its counters and how many packets it holds, its last time, its size and its kind, and whether
-// storage and a retrieval are on.
+// Of a store its identifier and its channel, its counters and how many packets it holds, its last time, its size and
+// its kind, and whether storage and a retrieval are on.
 type Stands = (StoreId, u8, [u64; 4], u64, u32, Kind, [bool; 2]);
 
 // The time, the APID and the sequence count of a packet.

@@ -101,12 +101,12 @@ pub(crate) use left;
 pub(crate) enum Change {
     // A packet of this sequence count is offered at a moment.
     Offer(u64, u16),
-    // The packets up to a time are deleted, which are so many.
+    // The packets up to a time are deleted: this many.
     Delete(u64, u32),
     Off,
     On,
     Retrieve,
-    // Its size becomes so many blocks.
+    // Its size becomes this many blocks.
     Resize(u32),
 }
 
@@ -260,8 +260,8 @@ impl Trial {
         outcome_of(carry_out(rt, self.alloc, memory, problem, plan, sources, links, base))
     }
 
-    // Carries out the plan from this moment on, over so many sources that give this many packets in three steps, and
-    // links of which each fails once, after so many sends, or never.
+    // Carries out the plan from this moment on, over this many sources that give this many packets in three steps, and
+    // links of which each fails once, after this many sends, or never.
     pub(crate) fn run_of<R: Threads + Wait + Sync + Abort>(
         &mut self,
         rt: &R,
@@ -324,7 +324,7 @@ pub(crate) fn took_of(
     has_sent(rt, name, link, many, failures);
 }
 
-// These are so many links, each of which took that.
+// These are this many links, each of which took that.
 pub(crate) fn each_took(
     rt: &impl Abort,
     name: &str,

@@ -21,8 +21,10 @@ returns-in_err-plan-clause-unread g c =
     let first = name_of n.setup ++ name_of n.forecast in
     let second = name_of n.plan ++ name_of n.sources in
     let third = name_of n.links ++ name_of n.packets in
-    told (IsUnread contents before _ (listed n)) _ c.from_residual-in_err-plan.result c.from_residual-in_err-plan.ensures.1
-    (unread_after contents _ c.in_ok-setup.ensures.stays before _ _ c.in_ok-setup.ensures.read _ first (second ++ third) _ (names-two n.setup n.forecast _ _)
+    told (IsUnread contents before _ (listed n)) _ c.from_residual-in_err-plan.result
+    c.from_residual-in_err-plan.ensures.1
+    (unread_after contents _ c.in_ok-setup.ensures.stays before _ _ c.in_ok-setup.ensures.read _ first
+    (second ++ third) _ (names-two n.setup n.forecast _ _)
     (unread_before _ _ _ second third _ c.in_err-plan.ensures.unread))
 
 pub returns-in_err-links-clause-unread : goal.returns-in_err-links-clause-unread
@@ -34,9 +36,12 @@ returns-in_err-links-clause-unread g c =
     let second = name_of n.plan ++ name_of n.sources in
     let third = name_of n.links ++ name_of n.packets in
     let e = c.in_err-links.field-0.0 in
-    told (IsUnread contents before _ (listed n)) e c.from_residual-in_err-links.result c.from_residual-in_err-links.ensures.1
-    (unread_after contents _ c.in_ok-setup.ensures.stays before _ _ c.in_ok-setup.ensures.read _ first (second ++ third) e (names-two n.setup n.forecast _ _)
-    (unread_after _ _ c.in_ok-plan.ensures.stays _ _ _ c.in_ok-plan.ensures.read _ second third e (names-two n.plan n.sources _ _)
+    told (IsUnread contents before _ (listed n)) e c.from_residual-in_err-links.result
+    c.from_residual-in_err-links.ensures.1
+    (unread_after contents _ c.in_ok-setup.ensures.stays before _ _ c.in_ok-setup.ensures.read _ first
+    (second ++ third) e (names-two n.setup n.forecast _ _)
+    (unread_after _ _ c.in_ok-plan.ensures.stays _ _ _ c.in_ok-plan.ensures.read _ second third e
+    (names-two n.plan n.sources _ _)
     c.in_err-links.ensures.unread))
 
 pub returns-clause-read : goal.returns-clause-read

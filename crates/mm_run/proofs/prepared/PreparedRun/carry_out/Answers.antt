@@ -1,9 +1,10 @@
-use Rattle.std.proofs.Common.{inl, inr, ℕ, List, length}
+use Rattle.std.proofs.Common.{◌≡◌, ◌∙◌, ap, inl, inr, ℕ, List, length}
 use Rattle.std.specs.Prelude.{Option}
 use Rattle.mm_record.proofs.Supplying.{as_known}
 use Rattle.mm_carry.specs.Course.{AreWithinLimits}
 use Rattle.mm_carry.specs.Step.{NeverRefused}
 use Rattle.mm_run.specs.declared.prepared.PreparedRun.{PreparedRun}
+use Rattle.mm_run.specs.declared.printed.Given.{Given}
 use Rattle.mm_run.specs.declared.printed.Printed.{Printed}
 use Rattle.mm_run.specs.Prepared.{IsPrepared}
 use Rattle.mm_run.specs.Runs.{PrintsRun, RunEnds, gives}
@@ -11,11 +12,13 @@ use Rattle.mm_planner.specs.declared.goal.Goal.{Goal}
 use Rattle.mm_run.proofs.prepared.PreparedRun.carry_out.Goals as goals
 
 -- what is printed of a run that was prepared, by how it ended
-prints : {goal : Goal} {plan : Option (List ℕ)} {setup forecast sources links : List ℕ} (prepared : PreparedRun) (p : Printed)
+prints : {goal : Goal} {plan : Option (List ℕ)} {setup forecast sources links : List ℕ} (prepared : PreparedRun)
+    (p : Printed)
     → (run : IsPrepared goal plan setup forecast sources links prepared)
     → RunEnds goal run.sheet prepared.problem prepared.memory prepared.sources.items prepared.links.items p
+    → p.given.unstored ≡ prepared.printed.given.unstored
     → PrintsRun goal plan setup forecast sources links p
-prints prepared p run ends = record {
+prints prepared p run ends given = record {
   problem = prepared.problem;
   memory = run.memory;
   sheet = run.sheet;
@@ -25,6 +28,7 @@ prints prepared p run ends = record {
   links = prepared.links.items;
   sides_say = run.sides_say;
   ended = rw (← run.opened) ends;
+  counts = rw given run.counts;
 }
 
 pub returns-in-Ok-clause-runs : goals.returns-in-Ok-clause-runs
@@ -33,12 +37,14 @@ returns-in-Ok-clause-runs g c = λ goal plan setup forecast sources links run.
       left = c.fly_plan.new.memory;
       flown = c.in-Ok.field-0;
       is_flown = c.in-Ok.ensures.flown goal run.sheet run.plan_is;
-      tells = c.whole.ensures;
-    }))
+      tells = c.whole.ensures.tells;
+    })) (ap (λ (given : Given). given.unstored) c.whole.ensures.given)
 
 pub returns-clause-runs : goals.returns-clause-runs
 returns-clause-runs g c = λ goal plan setup forecast sources links run.
-    prints c.args.self c.stopped.result run (inr (record {
+    let told = c.stopped-told.ensures in
+    let kept = ap (λ (p : Printed). p.given.unstored) c.with_left.ensures in
+    prints c.args.self c.with_left.result run (inr (record {
       left = c.fly_plan.new.memory;
       ended = c.in-Err.field-0;
       not_flown = c.in-Err.ensures.not_flown goal run.sheet run.plan_is;
@@ -46,5 +52,11 @@ returns-clause-runs g c = λ goal plan setup forecast sources links run.
           (λ given rest. AreWithinLimits (length c.args.self.problem.windows) c.args.self.memory.stores given
           → NeverRefused c.in-Err.field-0.halted.cause)
           c.in-Err.ensures.far c.args.self.within;
-      tells = c.stopped.ensures;
-    }))
+      tells = rw c.with_left.ensures (record {
+        sheet_is = told.tells.sheet_is;
+        end_is = told.tells.end_is;
+        report_is = told.tells.report_is;
+        outcome_is = told.tells.outcome_is;
+      });
+      left_is = ap (λ (p : Printed). p.left) c.with_left.ensures;
+    })) (kept ∙ ap (λ (given : Given). given.unstored) told.given)

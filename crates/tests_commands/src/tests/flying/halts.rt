@@ -1,0 +1,182 @@
+//! What standard error says of a halt.
+
+use super::{FIRST_RUN, FLY, HALTED_IN_1, HALTED_IN_2, IN_1, Run, script_of};
+use crate::tests::samples::{Host, answers, holds, joined, told};
+
+// Two bounded stores of two blocks, each with a report type of its own.
+const A_AND_B_APART: &str = "\
+    [[store]]\nid = \"A\"\nsize = 2\ntype = \"bounded\"\nchannel = 0\n\n\
+    [[store]]\nid = \"B\"\nsize = 2\ntype = \"bounded\"\nchannel = 0\n\n\
+    [[route]]\napid = 100\nservice = 3\nsubtype = 25\nstore = \"A\"\n\n\
+    [[route]]\napid = 101\nservice = 3\nsubtype = 25\nstore = \"B\"\n";
+
+// In each of two steps two packets for each of the stores.
+const TWO_FOR_EACH: &str = "\
+    1 1 0864C000000E200319000000000000000000000000\n\
+    1 1 0864C000000E200319000000000000000000000000\n\
+    1 1 0865C000000E200319000000000000000000000000\n\
+    1 1 0865C000000E200319000000000000000000000000\n\
+    1 2 0864C000000E200319000000000000000000000000\n\
+    1 2 0864C000000E200319000000000000000000000000\n\
+    1 2 0865C000000E200319000000000000000000000000\n\
+    1 2 0865C000000E200319000000000000000000000000\n";
+
+// All that arrives is dumped in its step, first what is in A.
+const BOTH_IN_TURN: Run = Run {
+    setup: A_AND_B_APART,
+    forecast: "step,window,A,B\n1,4,2,2\n2,4,2,2\n",
+    plan: "mmplan 1\nstores A B\ndump 1 2 2\ndump 2 2 2\nloss 0\nbound 0\nend\n",
+    sources: &[TWO_FOR_EACH],
+    ..FIRST_RUN
+};
+
+const BOTH_HALTED_IN_2: &str = "\
+    step 1 A arrived 2 lost 0 dumped 2 held 0\n\
+    step 1 B arrived 2 lost 0 dumped 2 held 0\n\
+    total arrived 4 lost 0 dumped 4 held 0\n\
+    halted step 2 46 LinkFailed\n";
+
+// The first line of each halt by a link.
+const EXPECTED: &str =
+    "L: expected a link that takes the packet; plan the rest with another link; nothing of that \
+    order was deleted\n";
+
+// Runs over one link, the links, the report, and what standard error says after its first line.
+static HALTS: [(&Run, &str, &str, &str); 8] = wanted! {
+    &FIRST_RUN, "links 1\nfail 1 1", HALTED_IN_1 => "\
+        note: link 1 failed at its send 1, a packet of SCI\n\
+        note: no packet was sent in step 1\n\
+        hint: plan again from step 1; the start of each store is that of the setup\n";
+    &FIRST_RUN, "links 1\nfail 1 2", HALTED_IN_1 => "\
+        note: link 1 failed at its send 2, a packet of SCI\n\
+        note: 1 packet of SCI was sent in step 1 and is still stored; it would be sent again\n\
+        hint: plan again from step 1; the start of each store is that of the setup\n";
+    &FIRST_RUN, "links 1\nfail 1 3", HALTED_IN_2 => "\
+        note: link 1 failed at its send 3, a packet of SCI\n\
+        note: no packet was sent in step 2\n\
+        hint: plan again from step 2; the start of each store is its held of step 1\n";
+    &FIRST_RUN, "links 1\nfail 1 4", HALTED_IN_2 => "\
+        note: link 1 failed at its send 4, a packet of SCI\n\
+        note: 1 packet of SCI was sent in step 2 and is still stored; it would be sent again\n\
+        hint: plan again from step 2; the start of each store is its held of step 1\n";
+    &BOTH_IN_TURN, "links 1\nfail 1 3", HALTED_IN_1 => "\
+        note: link 1 failed at its send 3, a packet of B\n\
+        note: 2 packets of A were sent in step 1 and deleted\n\
+        hint: plan again from step 1; the start of each store is that of the setup, less what was deleted in step 1\n";
+    &BOTH_IN_TURN, "links 1\nfail 1 6", BOTH_HALTED_IN_2 => "\
+        note: link 1 failed at its send 6, a packet of A\n\
+        note: 1 packet of A was sent in step 2 and is still stored; it would be sent again\n\
+        hint: plan again from step 2; the start of each store is its held of step 1\n";
+    &BOTH_IN_TURN, "links 1\nfail 1 7", BOTH_HALTED_IN_2 => "\
+        note: link 1 failed at its send 7, a packet of B\n\
+        note: 2 packets of A were sent in step 2 and deleted\n\
+        hint: plan again from step 2; the start of each store is its held of step 1, less what was deleted in step 2\n";
+    &BOTH_IN_TURN, "links 1\nfail 1 8", BOTH_HALTED_IN_2 => "\
+        note: link 1 failed at its send 8, a packet of B\n\
+        note: 1 packet of B was sent in step 2 and is still stored; it would be sent again\n\
+        note: 2 packets of A were sent in step 2 and deleted\n\
+        hint: plan again from step 2; the start of each store is its held of step 1, less what was deleted in step 2\n";
+};
+
+#[test]
+fn a_halted_run_says_what_was_sent(rt: HostRuntime) {
+    for (row, links, report, said) in &HALTS {
+        let script = script_of(&rt, *row, *links);
+        let err = joined(&rt, &[EXPECTED, *said]);
+        answers(&rt, &[script.as_str()], *report, err.as_str(), 1);
+    }
+}
+
+// A flight makes the plan of the first run, and says the same.
+#[test]
+fn a_halted_flight_says_what_was_sent(rt: HostRuntime) {
+    let sources = joined(&rt, FIRST_RUN.sources);
+    let out = joined(&rt, &[FIRST_RUN.plan, HALTED_IN_2]);
+    let err = joined(&rt, &[EXPECTED, HALTS[3].3]);
+    let script = [
+        FLY,
+        FIRST_RUN.setup,
+        "=== F\n",
+        FIRST_RUN.forecast,
+        "=== X\n",
+        sources.as_str(),
+        "=== L\n",
+        HALTS[3].1,
+    ];
+    answers(&rt, &script, out.as_str(), err.as_str(), 1);
+}
+
+// The texts of runs in which one of two links fails, or both, whichever takes the first order: the links, and what
+// standard error may say after its first line.
+static EITHER: [(&Run, &str, &[&str]); 4] = wanted! {
+    // Of two links the first takes the only order.
+    &FIRST_RUN, "links 2\nfail 1 2\nfail 2 1" => &["\
+        note: link 1 failed at its send 2, a packet of SCI\n\
+        note: 1 packet of SCI was sent in step 1 and is still stored; it would be sent again\n\
+        hint: plan again from step 1; the start of each store is that of the setup\n"];
+    &BOTH_IN_TURN, "links 2\nfail 1 1\nfail 2 1" => &[
+        "\
+        note: link 1 failed at its send 1, a packet of A\n\
+        note: link 2 failed at its send 1, a packet of B\n\
+        note: no packet was sent in step 1\n\
+        hint: plan again from step 1; the start of each store is that of the setup\n",
+        "\
+        note: link 1 failed at its send 1, a packet of B\n\
+        note: link 2 failed at its send 1, a packet of A\n\
+        note: no packet was sent in step 1\n\
+        hint: plan again from step 1; the start of each store is that of the setup\n",
+    ];
+    &BOTH_IN_TURN, "links 2\nfail 1 2\nfail 2 2" => &[
+        "\
+        note: link 1 failed at its send 2, a packet of A\n\
+        note: link 2 failed at its send 2, a packet of B\n\
+        note: 2 packets were sent in step 1 and are still stored; they would be sent again\n\
+        hint: plan again from step 1; the start of each store is that of the setup\n",
+        "\
+        note: link 1 failed at its send 2, a packet of B\n\
+        note: link 2 failed at its send 2, a packet of A\n\
+        note: 2 packets were sent in step 1 and are still stored; they would be sent again\n\
+        hint: plan again from step 1; the start of each store is that of the setup\n",
+    ];
+    // The first link fails with its order, or the second one carries out both.
+    &BOTH_IN_TURN, "links 2\nfail 1 1\nfail 2 3" => &[
+        "\
+        note: link 1 failed at its send 1, a packet of A\n\
+        note: 2 packets of B were sent in step 1 and deleted\n\
+        hint: plan again from step 1; the start of each store is that of the setup, less what was deleted in step 1\n",
+        "\
+        note: link 1 failed at its send 1, a packet of B\n\
+        note: 2 packets of A were sent in step 1 and deleted\n\
+        hint: plan again from step 1; the start of each store is that of the setup, less what was deleted in step 1\n",
+        "\
+        note: link 2 failed at its send 3, a packet of B\n\
+        note: 2 packets of A were sent in step 1 and deleted\n\
+        hint: plan again from step 1; the start of each store is that of the setup, less what was deleted in step 1\n",
+    ];
+};
+
+// A run prints this report, and standard error says one of these after its first line.
+fn says_one_of(rt: &impl Host, row: &Run, links: &str, said: &[&str]) {
+    let script = script_of(rt, row, links);
+    let answer = told(rt, &[script.as_str()]);
+    let rest = answer.err.as_str().strip_prefix(EXPECTED);
+    let is_said = said.iter().any(|text| rest == Some(*text));
+    holds(rt, links, &answer, is_said && answer.has(HALTED_IN_1, 1));
+}
+
+#[test]
+fn each_link_that_failed_is_told(rt: HostRuntime) {
+    for (row, links, said) in &EITHER {
+        says_one_of(&rt, *row, *links, *said);
+    }
+}
+
+// Tests before the run fail, and nothing is said of a step.
+#[test]
+fn a_run_that_does_not_begin_has_no_halted_step(rt: HostRuntime) {
+    let script = script_of(&rt, &FIRST_RUN, "links 0");
+    let err =
+        "L: expected 1 to 8 sources and 1 to 4 links; count them; a source needs a line in the file of sources\n\
+        hint: the file of links says links 0\n";
+    answers(&rt, &[script.as_str()], "refused 44 Counts\n", err, 1);
+}
