@@ -109,8 +109,7 @@ fn delete_sent<R: Wait>(context: &OrderContext<'_, R>, port: &mut Port, last: Op
 }
 
 /// Carries out an order at the store of its place, and says why it broke, if it broke: each packet that the store gives
-/// is sent, for which a block of the window is spent, and at the end those sent are deleted. Where memory is refused or
-/// a
+/// is sent, for which a block of the window is spent, and at the end those sent are deleted. If memory is refused or a
 /// send fails, the retrieval is aborted and nothing is deleted.
 pub(crate) fn carry<L: Link, R: Wait>(
     context: &DumpContext<'_, R>,
