@@ -6,14 +6,14 @@ pub(crate) const HELP: &str = "\
 Prints one document, a picture in Scalable Vector Graphics (SVG) 1.1 for any browser. It has a row for the
 windows, for each channel with a limit and for each store, the cut, and in words the sum that shows that no
 plan loses fewer blocks, and which windows, limits, sizes and arrivals alone could change that. Its headline
-is what `check` finds: where the cut does not show that the plan loses least, it says so, in red.
+is what `check` finds: if the cut does not show that the plan loses least, it says so, in red.
 Or one line:
   refused NUMBER NAME ..      a file was not read, or is not what it should be
 
 Options, anywhere after `chart`:
   --worth                     a bar above a window shows how many blocks it saves at most if it alone is
                               wider, and the words tell them
-  --output FILE               the picture goes into FILE, whole or not at all, and is not printed; FILE is
+  --output FILE               writes the picture to FILE, whole or not at all, and does not print it; FILE is
                               none of the files above; - prints it
 
 Examples:

@@ -37,7 +37,7 @@ each file under a line `=== NAME`. With words, a file named - is standard input,
 and --output - is standard output. In a script - is a name like any other.
 
 Options stand anywhere after the command, and --output FILE may be written --output=FILE. After the word --
-each word is the name of a file, also where it begins with -.
+each word is the name of a file, even if it begins with -.
 
 Examples:
   mm_tool plan setup.toml forecast.csv --output plan.txt
@@ -54,9 +54,8 @@ Examples:
   mm_tool read packets.hex
   mm_tool --version           prints the version, and the kit that the program is proved with
 
-Exit status: 0 where the task is done and, for check, the plan is least, for ask and read, nothing is refused; 1
-where something is refused, a run is halted, the verdict is another, or a write failed; 2 where the command
-line is invalid, or help was asked for.
+Exit status: 0 if the task is done (check: the plan is least; ask and read: nothing is refused); 1 if something is
+refused, a run is halted, check finds another verdict, or a write fails; 2 for help or an invalid command line.
 
 Read next: docs/PLANNING.md, a day with two passes; docs/FORMATS.md has every file and printed line.";
 

@@ -129,7 +129,7 @@ or one line:
 Options, anywhere after `plan`:
   --in-order                  of the plans that lose least, one that serves the stores in the setup's order:
                               no plan that fits loses fewer of the first K stores, for each K
-  --output FILE               the plan text goes into FILE, whole or not at all, and is not printed; FILE is
+  --output FILE               writes the plan text to FILE, whole or not at all, and does not print it; FILE is
                               none of the files above; - prints it
 
 A file named - is standard input, for one file at most.
@@ -146,7 +146,7 @@ const CHECK_ABOUT: &str = "Says whether the cut of a dump plan shows that it los
 const CHECK_HELP: &str = "\
 Prints one line:
   least N                     no plan that fits loses fewer than N blocks, and the cut shows it
-  least N in order            besides, no plan that fits loses fewer of the first K stores, for each K
+  least N in order            also, no plan that fits loses fewer of the first K stores, for each K
   first K not shown           the cut of the first K stores does not show what they lose
   does not fit, step T        step T dumps more than its window or a channel's limit
   loss is N                   the plan loses N blocks, and not what its text says
@@ -166,7 +166,7 @@ const ASK_ABOUT: &str = "Answers requests of the storage service in a memory of 
 
 const ASK_HELP: &str = "\
 The memory begins with the stores of the setup, empty and with their storage on. Line n of REQUESTS is
-a telecommand of service 15, applied at the moment n; empty lines are passed over and counted. For each
+a telecommand of service 15, applied at the moment n; empty lines are skipped and counted. For each
 other line, the answers to its instructions and then its reports are printed:
   N.K done                    instruction K of line N is carried out
   N.K refused NUMBER NAME     instruction K is refused, and has changed nothing
@@ -178,4 +178,4 @@ or one line:
 Example:
   mm_tool ask setup.toml requests.hex
 
-The formats are described in docs/FORMATS.md. Exit status: 0 where nothing is refused, 1 otherwise.";
+The formats are described in docs/FORMATS.md. Exit status: 0 if nothing is refused, 1 otherwise.";

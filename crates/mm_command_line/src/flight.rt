@@ -19,13 +19,13 @@ or one line:
 
 Each line of SOURCES is a packet: the number of its source, 1 to 8, its step, and its octets in hexadecimal
 digits. A packet of step 0 is offered to the stores before the run. LINKS begins with `links N`; each line
-`fail L K` after it lets the K-th send of link L fail.
+`fail L K` after it makes the K-th send of link L fail.
 
 Example:
   mm_tool run setup.toml forecast.csv plan.txt sources.hex links.txt
 
-The formats are described in docs/FORMATS.md. Exit status: 0 where the plan is carried out, also where what
-comes is not what the forecast says, 1 otherwise.";
+The formats are described in docs/FORMATS.md. Exit status: 0 if the plan is carried out, even if what comes
+is not what the forecast says, 1 otherwise.";
 
 pub(crate) const FLY_HELP: &str = "\
 Prints the plan text that `plan` prints, and then what `run` prints of it.
@@ -37,5 +37,5 @@ Examples:
   mm_tool fly setup.toml forecast.csv sources.hex links.txt
   mm_tool fly --in-order setup.toml forecast.csv sources.hex links.txt
 
-The formats are described in docs/FORMATS.md. Exit status: 0 where the plan is carried out, also where what
-comes is not what the forecast says, 1 otherwise.";
+The formats are described in docs/FORMATS.md. Exit status: 0 if the plan is carried out, even if what comes
+is not what the forecast says, 1 otherwise.";

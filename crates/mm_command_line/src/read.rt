@@ -17,4 +17,4 @@ Examples:
   mm_tool read packets.hex
   mm_tool ask setup.toml requests.hex > answers.txt; mm_tool read answers.txt
 
-The formats are described in docs/FORMATS.md. Exit status: 0 where each packet is read, 1 otherwise.";
+The formats are described in docs/FORMATS.md. Exit status: 0 if each packet is read, 1 otherwise.";

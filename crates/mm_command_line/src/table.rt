@@ -13,7 +13,7 @@ Or one line:
   refused NUMBER NAME ..      a file was not read, or is not what it should be
 
 Option, anywhere after `table`:
-  --output FILE               the table goes into FILE, whole or not at all, and is not printed; FILE is
+  --output FILE               writes the table to FILE, whole or not at all, and does not print it; FILE is
                               none of the files above; - prints it
 
 Example:

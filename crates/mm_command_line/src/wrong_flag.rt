@@ -79,7 +79,7 @@ impl fmt::Display for FlagFault<'_> {
                 f,
                 "{flag} goes with {commands} alone"
             ),
-            FlagFault::HasValue(flag) => write!(f, "{flag} has no value; give it alone"),
+            FlagFault::HasValue(flag) => write!(f, "{flag} takes no value; give it alone"),
             FlagFault::Nameless => write!(
                 f,
                 "the name of a file is missing: write --output FILE, or --output=FILE; if the name begins with -, \

@@ -34,7 +34,7 @@ static WRONG: [(&str, &str); 25] = wanted! {
     "plan S F --worth" => "--worth goes with chart alone";
     "check S F P --output X" => OF_OTHERS;
     "sensitivity S F --output=-" => OF_OTHERS;
-    "plan --in-order=yes S F" => "--in-order has no value; give it alone";
+    "plan --in-order=yes S F" => "--in-order takes no value; give it alone";
     "plan S F --output" => NAMELESS;
     "plan S F --output --help" => NAMELESS;
     "plan S F --output -- X" => NAMELESS;
