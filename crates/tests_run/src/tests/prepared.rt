@@ -2,7 +2,7 @@
 
 use crate::tests::runs::trials::{FIRST_RUN, TWO_PASSES};
 use mm_exec::Goal;
-use mm_run::{PreparedRun, RunTexts, prepare_run};
+use mm_run::{PreparedRun, Printed, RunTexts, prepare_run};
 use std::alloc::Global;
 use std::process::Abort;
 
@@ -75,7 +75,8 @@ fn the_plan_text_is_there_before_the_run(rt: HostRuntime) {
 #[test]
 fn a_halted_run_hands_on_what_it_left(rt: HostRuntime) {
     let run = prepared(&rt, rt.alloc(), "links 1\nfail 1 4\n", None);
-    let Some(left) = run.carry_out(&rt, rt.alloc()).left else {
+    let Printed { left, .. } = run.carry_out(&rt, rt.alloc());
+    let Some(left) = left else {
         panic!(&rt; "the run is halted");
     };
     assert!(rt; left.memory.stores().len() == 1, "the store");
