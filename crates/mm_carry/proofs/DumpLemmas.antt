@@ -16,6 +16,7 @@ use Rattle.mm_desk.specs.Losses.{IsOlder, taken_out, GiveLater}
 use Rattle.mm_desk.specs.Orders.{begun, ended, last_time, removed, given as giving, IsOrderOf}
 use Rattle.mm_desk.proofs.Cases.{IsQuiet, delete_cases, quiet_leaves}
 use Rattle.mm_desk.proofs.FateLemmas.{over-append}
+use Rattle.mm_dump.specs.Broken.{aborted, IsBrokenOrder}
 use Rattle.mm_carry.specs.Accounts.{HaveLeft}
 use Rattle.mm_carry.proofs.Replays.{IsLegal-parts}
 
@@ -65,6 +66,12 @@ found_at_end seat wanted count gs =
     none : (gs : List Stored) → found (removed seat gs count) ≡ []
     none [] = refl
     none (g ∷ gs) = refl
+
+-- what a broken order gives
+pub broken_gives : (s : State) (seat wanted : ℕ) (gave : List Stored) (calls : List Entry)
+    → IsBrokenOrder seat wanted gave calls → IsLegal s calls → over given s (asked calls) ≡ gave
+broken_gives s seat wanted gave calls order legal =
+    gives_found s calls legal ∙ ap found order.are ∙ found_given seat gave (aborted seat ∷ []) ∙ append-nil gave
 
 -- neither an offer nor a deletion
 abbrev AreQuiet : List Entry → Type 0
@@ -198,26 +205,22 @@ pub after-append : (s : State) (es more : List Event) → after s (es ++ more) �
 after-append s [] more = refl
 after-append s (e ∷ es) more = after-append (step s e).1 es more
 
--- what has left a store, and what leaves it later
-pub left_more : GiveLater → (s : State) (es now : List Event) (past new : List Stored) → IsState s → HaveLeft s es past
-    → HaveLeft (after s es) now new → HaveLeft s (es ++ now) (past ++ new)
-left_more later s es now past new sound before here = record {
-  given_are = both given before.given_are here.given_are;
-  out = both taken_out before.out here.out;
-  rising = AllPairs-append (λ p q. p.time < q.time) past new before.rising here.rising
-      (All-weaker (Contains out) (IsOlder new) older past before.out);
-}
-  where
-    both : (each : State → Event → List Stored) → All (Contains (over each s es)) past
-        → All (Contains (over each (after s es) now)) new → All (Contains (over each s (es ++ now))) (past ++ new)
-    both each first second =
-        let a = over each s es in
-        let b = over each (after s es) now in
-        subst (λ (ps : List Stored). All (Contains ps) (past ++ new)) (sym (over-append each s es now))
-        (All-append (Contains (a ++ b)) past new
-        (All-weaker (Contains a) (Contains (a ++ b)) (λ p at. Contains-append_left a b p at) past first)
-        (All-weaker (Contains b) (Contains (a ++ b)) (λ p at. Contains-append_right a b p at) new second))
+-- what events do they do after others too
+pub done_later : (each : State → Event → List Stored) (s : State) (es now : List Event) (new : List Stored)
+    → All (Contains (over each (after s es) now)) new → All (Contains (over each s (es ++ now))) new
+done_later each s es now new done =
+    let here = over each (after s es) now in
+    subst (λ (ps : List Stored). All (Contains ps) new) (sym (over-append each s es now))
+    (All-weaker (Contains here) (Contains (over each s es ++ here))
+    (λ p at. Contains-append_right (over each s es) here p at) new done)
 
+-- the times of what has left a store, and of what is given later, rise
+pub rising_more : GiveLater → (s : State) (es now : List Event) (past new : List Stored) → IsState s
+    → HaveLeft s es past → All (Contains (over given (after s es) now)) new → IsRising new → IsRising (past ++ new)
+rising_more later s es now past new sound before given_are rising =
+    AllPairs-append (λ p q. p.time < q.time) past new before.rising rising
+    (All-weaker (Contains out) (IsOlder new) older past before.out)
+  where
     out : List Stored
     out = over taken_out s es
 
@@ -227,4 +230,23 @@ left_more later s es now past new sound before here = record {
         let Later : Stored → Type 0 = λ q. p.time < q.time in
         All-weaker (Contains gave) Later
         (λ q in_gave. All-contains Later gave q (All-contains (IsOlder gave) out p (later s es now sound) at) in_gave)
-        new here.given_are
+        new given_are
+
+-- what has left a store, and what leaves it later
+pub left_more : GiveLater → (s : State) (es now : List Event) (past new : List Stored) → IsState s → HaveLeft s es past
+    → HaveLeft (after s es) now new → HaveLeft s (es ++ now) (past ++ new)
+left_more later s es now past new sound before here = record {
+  given_are = both given before.given_are here.given_are;
+  out = both taken_out before.out here.out;
+  rising = rising_more later s es now past new sound before here.given_are here.rising;
+}
+  where
+    both : (each : State → Event → List Stored) → All (Contains (over each s es)) past
+        → All (Contains (over each (after s es) now)) new → All (Contains (over each s (es ++ now))) (past ++ new)
+    both each first second =
+        let a = over each s es in
+        let b = over each (after s es) now in
+        let earlier = All-weaker (Contains a) (Contains (a ++ b)) (λ p at. Contains-append_left a b p at) past first in
+        All-append (Contains (over each s (es ++ now))) past new
+        (subst (λ (ps : List Stored). All (Contains ps) past) (sym (over-append each s es now)) earlier)
+        (done_later each s es now new second)

@@ -1,19 +1,20 @@
 -- What a run did with each store, whole or halted, and what runs that follow one another send.
 use Rattle.std.proofs.Common.{◌≡◌, ◌⊎◌, inl, inr, ℕ, ◌+◌, ◌-◌, ◌<◌, List, [], ◌∷◌, ◌++◌, length, map, true, refl, sym}
-use Rattle.std.proofs.Common.{ap, subst, ◌∙◌, arith, append_assoc, length-append, Contains}
+use Rattle.std.proofs.Common.{ap, subst, ◌∙◌, arith, append_assoc, length-append, All, Contains}
 use Rattle.std.specs.Prelude.{sum_by}
 use Rattle.std.proofs.lemmas.Grind.{flat_map-append}
 use Rattle.std.proofs.lemmas.List.{get_or-append-add}
-use Rattle.std.proofs.lemmas.List.Elements.{Contains-append_cases, Contains-append_left, Contains-append_right}
+use Rattle.std.proofs.lemmas.List.Elements.{All-append, All-contains_itself, Contains-append_cases}
+use Rattle.std.proofs.lemmas.List.Elements.{Contains-append_left, Contains-append_right}
 use Rattle.std.proofs.lemmas.Option.{slice_get_within}
-use Rattle.mm_carry.proofs.Words.{cases_lt, append-nil, get_or_append_left, length-map, find_at, slice_get, Option}
+use Rattle.mm_carry.proofs.Words.{cases_lt, All-nil, All-weaker, append-nil, get_or_append_left, length-map, find_at, slice_get, Option}
 use Rattle.mm_carry.proofs.Words.{Some, None, IsRising, OrdersDumpTheOldest, BrokenOrdersChangeNothing, given_oldest}
 use Rattle.mm_carry.proofs.Words.{Stored, State, IsState, Held, has_id, labels_of, states_of, opening_at, asked, Event}
 use Rattle.mm_carry.proofs.Words.{Sent, row, IsLegal, Course, EndedAs, OrderBroken, HasTried, times, MayBegin, meets}
 use Rattle.mm_carry.proofs.Words.{RunInput, Table, place_in_memory, store_state, recording_in, step_orders, RunState}
 use Rattle.mm_carry.proofs.Words.{IsStep, IsHaltedIn, Stop, Supply, Reported}
 use Rattle.mm_record.specs.Steps.{HasLegalOffers}
-use Rattle.mm_desk.specs.Fates.{after}
+use Rattle.mm_desk.specs.Fates.{given, after, over}
 use Rattle.mm_desk.specs.Losses.{GiveLater}
 use Rattle.mm_dump.specs.Broken.{aborted}
 use Rattle.mm_carry.specs.declared.requirement.Requirement.TheVariants.{Size}
@@ -21,28 +22,59 @@ use Rattle.mm_carry.specs.Accounts.{over_steps, HaveLeft}
 use Rattle.mm_carry.specs.Ending.{run_start_of}
 use Rattle.mm_carry.specs.Following.{StoreRun, IsStoreRun, AreFollowing, all_of, whole_of, broken_of, RunsSendOnce}
 use Rattle.mm_carry.specs.Following.{where_whole, where_broken, store_run, StepsAreStoreRuns}
-use Rattle.mm_carry.proofs.DumpLemmas.{replayed, none_left, order_does, after-append, left_more}
+use Rattle.mm_carry.proofs.DumpLemmas.{replayed, none_left, rising_front, order_does, broken_gives, after-append}
+use Rattle.mm_carry.proofs.DumpLemmas.{done_later, rising_more, left_more}
 use Rattle.mm_carry.proofs.Parts.{as_many}
 use Rattle.mm_carry.proofs.StoresReady.{state_holds}
 
--- what whole orders sent over runs, after what has left the store already
-all_rising : GiveLater → (s : State) → IsState s → (es : List Event) (past : List Stored) → HaveLeft s es past
-    → (runs : List StoreRun) → AreFollowing (after s es) runs → IsRising (past ++ whole_of runs)
-all_rising later s sound es past gone [] follow = subst IsRising (sym (append-nil past)) gone.rising
-all_rising later s sound es past gone (r ∷ rs) follow =
-    let between = follow.0 in
-    let run = follow.2 in
-    let idle = es ++ between in
-    let found : r.before ≡ after s idle = follow.1 ∙ sym (after-append s es between) in
-    let kept = subst (HaveLeft s idle) (append-nil past)
-    (left_more later s es between past [] sound gone (none_left (after s es) between)) in
-    let more = left_more later s idle run.events past r.gave sound kept
-    (subst (λ (u : State). HaveLeft u run.events r.gave) found run.gone) in
-    let on : r.left ≡ after s (idle ++ run.events) =
-    run.leads ∙ ap (λ (u : State). after u run.events) found ∙ sym (after-append s idle run.events) in
-    subst IsRising (append_assoc past r.gave (whole_of rs))
-    (all_rising later s sound (idle ++ run.events) (past ++ r.gave) more rs
-    (subst (λ (u : State). AreFollowing u rs) on follow.3))
+module _ (later : GiveLater) (s : State) (sound : IsState s) where
+  -- what has left the store after one run more, and what was sent up to the end of that run
+  record Onward (past : List Stored) (r : StoreRun) : Type 0 where
+    events : List Event
+    on : r.left ≡ after s events
+    gone : HaveLeft s events (past ++ r.gave)
+    rising : IsRising (past ++ r.gave ++ r.broke)
+
+  onward : (es : List Event) (past : List Stored) → HaveLeft s es past → (between : List Event) (r : StoreRun)
+      → r.before ≡ after (after s es) between → IsStoreRun r → Onward past r
+  onward es past gone between r is run =
+      let idle = es ++ between in
+      let found : r.before ≡ after s idle = is ∙ sym (after-append s es between) in
+      let kept = subst (HaveLeft s idle) (append-nil past)
+      (left_more later s es between past [] sound gone (none_left (after s es) between)) in
+      let sent = All-append (Contains (over given r.before run.events)) r.gave r.broke run.gone.given_are
+      run.given_are in
+      record {
+        events = idle ++ run.events;
+        on = run.leads ∙ ap (λ (u : State). after u run.events) found ∙ sym (after-append s idle run.events);
+        gone = left_more later s idle run.events past r.gave sound kept
+            (subst (λ (u : State). HaveLeft u run.events r.gave) found run.gone);
+        rising = rising_more later s idle run.events past (r.gave ++ r.broke) sound kept
+            (subst (λ (u : State). All (Contains (over given u run.events)) (r.gave ++ r.broke)) found sent) run.rising;
+      }
+
+  -- what whole orders sent over runs, after what has left the store already
+  all_rising : (es : List Event) (past : List Stored) → HaveLeft s es past → (runs : List StoreRun)
+      → AreFollowing (after s es) runs → IsRising (past ++ whole_of runs)
+  all_rising es past gone [] follow = subst IsRising (sym (append-nil past)) gone.rising
+  all_rising es past gone (r ∷ rs) follow =
+      let more = onward es past gone follow.0 r follow.1 follow.2 in
+      subst IsRising (append_assoc past r.gave (whole_of rs))
+      (all_rising more.events (past ++ r.gave) more.gone rs (subst (λ (u : State). AreFollowing u rs) more.on follow.3))
+
+  -- and what one of the runs sent, after what whole orders of earlier runs sent
+  run_rising : (es : List Event) (past : List Stored) → HaveLeft s es past → (early late : List StoreRun)
+      (r : StoreRun) → AreFollowing (after s es) (early ++ r ∷ late)
+      → IsRising (past ++ whole_of early ++ r.gave ++ r.broke)
+  run_rising es past gone [] late r follow = (onward es past gone follow.0 r follow.1 follow.2).rising
+  run_rising es past gone (e ∷ early) late r follow =
+      let more = onward es past gone follow.0 e follow.1 follow.2 in
+      let sent = r.gave ++ r.broke in
+      let joined = append_assoc past e.gave (whole_of early ++ sent)
+      ∙ ap (λ (ps : List Stored). past ++ ps) (sym (append_assoc e.gave (whole_of early) sent)) in
+      subst IsRising joined
+      (run_rising more.events (past ++ e.gave) more.gone early late r
+      (subst (λ (u : State). AreFollowing u (early ++ r ∷ late)) more.on follow.3))
 
 -- where times rise, no packet stands in two lists after one another
 apart : (xs ys : List Stored) (p : Stored) → IsRising (xs ++ ys) → Contains xs p → Contains ys p → ⊥
@@ -71,18 +103,18 @@ by_order (r ∷ rs) p at = elim (Contains-append_cases (r.gave ++ r.broke) (all_
 -- the law of runs that follow one another
 pub send_once : GiveLater → RunsSendOnce
 send_once later s runs sound follow = record {
-  whole = whole;
+  whole = all_rising later s sound [] [] (none_left s []) runs follow;
+  later = rising;
   again = λ early late r are p now before. elim (by_order early p before) [
-    | inl twice ↦
-        let split = ap whole_of are ∙ flat_map-append (λ (r : StoreRun). r.gave) early (r ∷ late) in
-        absurd (apart (whole_of early) (r.gave ++ whole_of late) p (subst IsRising split whole) twice
-        (Contains-append_left r.gave (whole_of late) p now))
+    | inl twice ↦ absurd (apart (whole_of early) (r.gave ++ r.broke) p (rising early late r are) twice now)
     | inr broken ↦ broken
   ];
 }
   where
-    whole : IsRising (whole_of runs)
-    whole = all_rising later s sound [] [] (none_left s []) runs follow
+    rising : (early late : List StoreRun) (r : StoreRun) → runs ≡ early ++ r ∷ late
+        → IsRising (whole_of early ++ r.gave ++ r.broke)
+    rising early late r are =
+        run_rising later s sound [] [] (none_left s []) early late r (subst (AreFollowing s) are follow)
 
 -- the store of a problem is in the memory, where the tests before a run passed
 stands_there : {S L : Type 0} (m : RunInput) (plan : Table) (first : RunState S L)
@@ -107,6 +139,8 @@ stands_there m plan first began s store =
 record Ordered (mid t : State) (es : List Event) (whole broken : List Stored) : Type 0 where
   leads : t ≡ after mid es
   gone : HaveLeft mid es whole
+  given_are : All (Contains (over given mid es)) broken
+  rising : IsRising (whole ++ broken)
   newer : List Stored
   oldest : t.store.content ≡ broken ++ newer
 
@@ -120,10 +154,13 @@ module _ (dump : OrdersDumpTheOldest) (changes : BrokenOrdersChangeNothing) (tak
       → Ordered mid t (asked c.calls) (where_whole why c.sent) (where_broken why c.sent)
   ended_so None whole =
       let oldest = (dump mid t c.seat c.order.amount c.sent c.calls sound whole.order tried.run).oldest in
+      let gone = (order_does mid c.seat c.order.amount c.sent t.store.content c.calls
+      (subst IsRising oldest sound.store.rising) oldest whole.order tried.run.legal).gone in
       record {
         leads = leads_on;
-        gone = (order_does mid c.seat c.order.amount c.sent t.store.content c.calls
-            (subst IsRising oldest sound.store.rising) oldest whole.order tried.run.legal).gone;
+        gone = gone;
+        given_are = All-nil _;
+        rising = subst IsRising (sym (append-nil c.sent)) gone.rising;
         newer = t.store.content;
         oldest = refl;
       }
@@ -132,11 +169,17 @@ module _ (dump : OrdersDumpTheOldest) (changes : BrokenOrdersChangeNothing) (tak
       let same = (changes mid t c.seat c.order.amount gave c.calls broken.order tried.run).0 in
       let held = given_oldest mid c.seat gave (aborted c.seat ∷ []) sound
       (subst (IsLegal mid) broken.order.are tried.run.legal) in
+      let first = held.1 ∙ append_assoc c.sent c.unsent held.0 in
+      let gives = broken_gives mid c.seat c.order.amount gave c.calls broken.order tried.run.legal in
       record {
         leads = leads_on;
         gone = none_left mid (asked c.calls);
+        given_are = subst (λ (ps : List Stored). All (Contains ps) c.sent) (sym gives)
+            (All-weaker (Contains c.sent) (Contains gave) (λ p at. Contains-append_left c.sent c.unsent p at) c.sent
+            (All-contains_itself c.sent));
+        rising = rising_front c.sent (c.unsent ++ held.0) (subst IsRising first sound.store.rising);
         newer = c.unsent ++ held.0;
-        oldest = ap (λ (u : State). u.store.content) same ∙ held.1 ∙ append_assoc c.sent c.unsent held.0;
+        oldest = ap (λ (u : State). u.store.content) same ∙ first;
       }
 
   -- no order
@@ -145,12 +188,16 @@ module _ (dump : OrdersDumpTheOldest) (changes : BrokenOrdersChangeNothing) (tak
   no_order None none = rw none (record {
     leads = leads_on;
     gone = none_left _ _;
+    given_are = All-nil _;
+    rising = (none_left t []).rising;
     newer = t.store.content;
     oldest = refl;
   })
   no_order (Some why) none = rw none (record {
     leads = leads_on;
     gone = none_left _ _;
+    given_are = All-nil _;
+    rising = (none_left t []).rising;
     newer = t.store.content;
     oldest = refl;
   })
@@ -175,6 +222,8 @@ module _ {L : Type 0} (sent : L → List Sent) (failed : L → ℕ) where
         leads = ap (λ (held : List Held). store_state m held s) done.stores_are
             ∙ account.history.leads steps (omega arith) ∙ ap (λ (u : State). after u es) begun;
         gone = subst (λ (u : State). HaveLeft u es gave) begun account.history.gone;
+        given_are = All-nil _;
+        rising = subst IsRising (sym (append-nil gave)) account.history.gone.rising;
         newer = (store_state m now.stores s).store.content;
         oldest = refl;
       }
@@ -245,16 +294,28 @@ module _ {L : Type 0} (sent : L → List Sent) (failed : L → ℕ) where
         (state_holds IsState is.mid is.records.sound k there)
         (is.dumps.settled.stores k (omega (arith, after_it, length-map left.stores (λ (h : Held). h.state))))
 
+    -- what the orders of the steps before were given has left the store before the dump of the step
+    past_left : HaveLeft begun (earlier ++ offered) gave
+    past_left =
+        subst (HaveLeft begun (earlier ++ offered)) (append-nil gave)
+        (left_more later begun earlier offered gave [] sound whole.gone (none_left (after begun earlier) offered))
+
     pub halted_is : IsStoreRun
         (store_run m s left.stores (gave ++ where_whole c.why c.sent) (where_broken c.why c.sent))
-    halted_is = record {
-      events = (earlier ++ offered) ++ asked c.calls;
-      leads = order.leads ∙ ap (λ (u : State). after u (asked c.calls)) mid_is
-          ∙ sym (after-append begun (earlier ++ offered) (asked c.calls));
-      gone = left_more later begun (earlier ++ offered) (asked c.calls) gave (where_whole c.why c.sent) sound
-          (subst (HaveLeft begun (earlier ++ offered)) (append-nil gave)
-          (left_more later begun earlier offered gave [] sound whole.gone (none_left (after begun earlier) offered)))
-          (subst (λ (u : State). HaveLeft u (asked c.calls) (where_whole c.why c.sent)) mid_is order.gone);
-      newer = order.newer;
-      oldest = order.oldest;
-    }
+    halted_is =
+        let more = where_whole c.why c.sent in
+        let broke = where_broken c.why c.sent in
+        let order : Ordered (after begun (earlier ++ offered)) _ (asked c.calls) more broke =
+        subst (λ (u : State). Ordered u _ (asked c.calls) more broke) mid_is order in
+        record {
+          events = (earlier ++ offered) ++ asked c.calls;
+          leads = order.leads ∙ sym (after-append begun (earlier ++ offered) (asked c.calls));
+          gone = left_more later begun (earlier ++ offered) (asked c.calls) gave more sound past_left order.gone;
+          given_are = done_later given begun (earlier ++ offered) (asked c.calls) broke order.given_are;
+          rising = subst IsRising (sym (append_assoc gave more broke))
+              (rising_more later begun (earlier ++ offered) (asked c.calls) gave (more ++ broke) sound past_left
+              (All-append (Contains (over given (after begun (earlier ++ offered)) (asked c.calls))) more broke
+              order.gone.given_are order.given_are) order.rising);
+          newer = order.newer;
+          oldest = order.oldest;
+        }

@@ -1,8 +1,9 @@
--- Runs that follow one another over one store: what whole orders send is sent once, and what is sent again is what
--- broken orders sent.
-use Rattle.std.specs.Prelude.{◌≡◌, ℕ, ◌<◌, ◌-◌, List, [], ◌∷◌, ◌++◌, length, flat_map, Contains, Option, Some, None}
+-- Runs that follow one another over one store: what whole orders send is sent once, and what is sent again only broken
+-- orders had sent.
+use Rattle.std.specs.Prelude.{◌≡◌, ℕ, ◌<◌, ◌-◌, List, [], ◌∷◌, ◌++◌, length, flat_map, All, Contains}
+use Rattle.std.specs.Prelude.{Option, Some, None}
 use Rattle.mm_store.specs.Content.{IsRising}
-use Rattle.mm_desk.specs.Fates.{after}
+use Rattle.mm_desk.specs.Fates.{given, after, over}
 use Rattle.mm_dump.specs.declared.order.OrderBroken.{OrderBroken}
 use Rattle.mm_carry.specs.Words.{Stored, State, IsState, Event, Held, Table, Supply, Sent, Reported}
 use Rattle.mm_carry.specs.declared.step.Stop.{Stop}
@@ -19,12 +20,14 @@ pub record StoreRun : Type 0 where
   pub gave : List Stored
   pub broke : List Stored
 
--- the run did so by these events: what whole orders sent they took out of the store, and what the broken order sent is
--- still there, as the oldest packets
+-- the run did so by these events: what whole orders sent they took out of the store; what the broken order sent they
+-- gave after that, and it is still there, as the oldest packets
 pub record IsStoreRun (r : StoreRun) : Type 0 where
   pub events : List Event
   pub leads : r.left ≡ after r.before events
   pub gone : HaveLeft r.before events r.gave
+  pub given_are : All (Contains (over given r.before events)) r.broke
+  pub rising : IsRising (r.gave ++ r.broke)
   pub newer : List Stored
   pub oldest : r.left.store.content ≡ r.broke ++ newer
 
@@ -44,12 +47,14 @@ whole_of runs = flat_map (λ r. r.gave) runs
 abbrev pub broken_of : List StoreRun → List Stored
 broken_of runs = flat_map (λ r. r.broke) runs
 
--- over all runs what whole orders sent has rising times: no packet of it comes twice. What a whole order sent and an
--- earlier run had sent already, a broken order of an earlier run had sent
+-- over all runs what whole orders sent has rising times: no packet of it comes twice. All that a run sent is later than
+-- what whole orders of earlier runs sent: what it sent again, only broken orders of earlier runs had sent
 pub record SendOnce (runs : List StoreRun) : Type 0 where
   pub whole : IsRising (whole_of runs)
+  pub later : (early late : List StoreRun) (r : StoreRun) → runs ≡ early ++ r ∷ late
+      → IsRising (whole_of early ++ r.gave ++ r.broke)
   pub again : (early late : List StoreRun) (r : StoreRun) → runs ≡ early ++ r ∷ late → (p : Stored)
-      → Contains r.gave p → Contains (all_of early) p → Contains (broken_of early) p
+      → Contains (r.gave ++ r.broke) p → Contains (all_of early) p → Contains (broken_of early) p
 
 -- so it is over any runs that follow one another
 abbrev pub RunsSendOnce : Type 0

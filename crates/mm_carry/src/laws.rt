@@ -83,8 +83,8 @@ pub fn steps_without_stop_are_whole<L: Link>()
 {}
 
 /// Over runs that follow one another over one store, whatever else is asked of it between them, what whole orders sent
-/// has rising times: none of it is sent twice. What a whole order sent and an earlier run had sent already, a broken
-/// order of an earlier run had sent.
+/// has rising times: none of it is sent twice. All that a run sends is later than what whole orders of earlier runs
+/// sent: what it sends again, only broken orders of earlier runs had sent.
 pub fn whole_orders_send_once()
     ensures law { RunsSendOnce }
 {
@@ -92,7 +92,7 @@ pub fn whole_orders_send_once()
 }
 
 /// What a run did with a store is such a run: what its whole orders sent has left the store, and what an order that
-/// broke sent stands there as the oldest packets. The second law is of a run that was halted in a step.
+/// broke sent after that stands there as the oldest packets. The second law is of a run that was halted in a step.
 pub fn runs_are_store_runs<L: Link>()
     ensures steps { StepsAreStoreRuns L.sent L.failed }
     ensures halted { HaltedRunsAreStoreRuns L.sent L.failed }
