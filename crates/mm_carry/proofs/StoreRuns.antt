@@ -27,30 +27,46 @@ use Rattle.mm_carry.proofs.DumpLemmas.{done_later, rising_more, left_more}
 use Rattle.mm_carry.proofs.Parts.{as_many}
 use Rattle.mm_carry.proofs.StoresReady.{state_holds}
 
-module _ (later : GiveLater) (s : State) (sound : IsState s) where
-  -- what has left the store after one run more, and what was sent up to the end of that run
-  record Onward (past : List Stored) (r : StoreRun) : Type 0 where
-    events : List Event
-    on : r.left ≡ after s events
-    gone : HaveLeft s events (past ++ r.gave)
-    rising : IsRising (past ++ r.gave ++ r.broke)
+-- a run of a store from one state to another
+abbrev from_to : State → State → List Stored → List Stored → StoreRun
+from_to s t gave broke = record { before = s; left = t; gave = gave; broke = broke }
 
-  onward : (es : List Event) (past : List Stored) → HaveLeft s es past → (between : List Event) (r : StoreRun)
-      → r.before ≡ after (after s es) between → IsStoreRun r → Onward past r
-  onward es past gone between r is run =
+-- events without a broken order are a run
+whole_run : (s t : State) (es : List Event) (gave : List Stored) → t ≡ after s es → HaveLeft s es gave
+    → IsStoreRun (from_to s t gave [])
+whole_run s t es gave leads gone = record {
+  events = es;
+  leads = leads;
+  gone = gone;
+  given_are = All-nil _;
+  rising = subst IsRising (sym (append-nil gave)) gone.rising;
+  newer = t.store.content;
+  oldest = refl;
+}
+
+module _ (later : GiveLater) (s : State) (sound : IsState s) where
+  -- events and then a run are a run, which sent what had left the store by the events too
+  run_after : (es : List Event) (past : List Stored) → HaveLeft s es past → (between : List Event) (r : StoreRun)
+      → r.before ≡ after (after s es) between → IsStoreRun r
+      → IsStoreRun (from_to s r.left (past ++ r.gave) r.broke)
+  run_after es past gone between r is run =
       let idle = es ++ between in
       let found : r.before ≡ after s idle = is ∙ sym (after-append s es between) in
       let kept = subst (HaveLeft s idle) (append-nil past)
       (left_more later s es between past [] sound gone (none_left (after s es) between)) in
-      let sent = All-append (Contains (over given r.before run.events)) r.gave r.broke run.gone.given_are
-      run.given_are in
+      let left = subst (λ (u : State). HaveLeft u run.events r.gave) found run.gone in
+      let given_are = subst (λ (u : State). All (Contains (over given u run.events)) r.broke) found run.given_are in
       record {
         events = idle ++ run.events;
-        on = run.leads ∙ ap (λ (u : State). after u run.events) found ∙ sym (after-append s idle run.events);
-        gone = left_more later s idle run.events past r.gave sound kept
-            (subst (λ (u : State). HaveLeft u run.events r.gave) found run.gone);
-        rising = rising_more later s idle run.events past (r.gave ++ r.broke) sound kept
-            (subst (λ (u : State). All (Contains (over given u run.events)) (r.gave ++ r.broke)) found sent) run.rising;
+        leads = run.leads ∙ ap (λ (u : State). after u run.events) found ∙ sym (after-append s idle run.events);
+        gone = left_more later s idle run.events past r.gave sound kept left;
+        given_are = done_later given s idle run.events r.broke given_are;
+        rising = subst IsRising (sym (append_assoc past r.gave r.broke))
+            (rising_more later s idle run.events past (r.gave ++ r.broke) sound kept
+            (All-append (Contains (over given (after s idle) run.events)) r.gave r.broke left.given_are given_are)
+            run.rising);
+        newer = run.newer;
+        oldest = run.oldest;
       }
 
   -- what whole orders sent over runs, after what has left the store already
@@ -58,23 +74,22 @@ module _ (later : GiveLater) (s : State) (sound : IsState s) where
       → AreFollowing (after s es) runs → IsRising (past ++ whole_of runs)
   all_rising es past gone [] follow = subst IsRising (sym (append-nil past)) gone.rising
   all_rising es past gone (r ∷ rs) follow =
-      let more = onward es past gone follow.0 r follow.1 follow.2 in
-      subst IsRising (append_assoc past r.gave (whole_of rs))
-      (all_rising more.events (past ++ r.gave) more.gone rs (subst (λ (u : State). AreFollowing u rs) more.on follow.3))
+      let more = run_after es past gone follow.0 r follow.1 follow.2 in
+      subst IsRising (append_assoc past r.gave (whole_of rs)) (all_rising more.events (past ++ r.gave) more.gone rs
+      (subst (λ (u : State). AreFollowing u rs) more.leads follow.3))
 
   -- and what one of the runs sent, after what whole orders of earlier runs sent
   run_rising : (es : List Event) (past : List Stored) → HaveLeft s es past → (early late : List StoreRun)
       (r : StoreRun) → AreFollowing (after s es) (early ++ r ∷ late)
       → IsRising (past ++ whole_of early ++ r.gave ++ r.broke)
-  run_rising es past gone [] late r follow = (onward es past gone follow.0 r follow.1 follow.2).rising
+  run_rising es past gone [] late r follow =
+      subst (λ (ps : List Stored). IsRising (ps ++ r.gave ++ r.broke)) (sym (append-nil past))
+      (run_after es past gone follow.0 r follow.1 follow.2).rising
   run_rising es past gone (e ∷ early) late r follow =
-      let more = onward es past gone follow.0 e follow.1 follow.2 in
-      let sent = r.gave ++ r.broke in
-      let joined = append_assoc past e.gave (whole_of early ++ sent)
-      ∙ ap (λ (ps : List Stored). past ++ ps) (sym (append_assoc e.gave (whole_of early) sent)) in
-      subst IsRising joined
+      let more = run_after es past gone follow.0 e follow.1 follow.2 in
+      subst (λ (ps : List Stored). IsRising (ps ++ r.gave ++ r.broke)) (append_assoc past e.gave (whole_of early))
       (run_rising more.events (past ++ e.gave) more.gone early late r
-      (subst (λ (u : State). AreFollowing u (early ++ r ∷ late)) more.on follow.3))
+      (subst (λ (u : State). AreFollowing u (early ++ r ∷ late)) more.leads follow.3))
 
 -- where times rise, no packet stands in two lists after one another
 apart : (xs ys : List Stored) (p : Stored) → IsRising (xs ++ ys) → Contains xs p → Contains ys p → ⊥
@@ -106,7 +121,8 @@ send_once later s runs sound follow = record {
   whole = all_rising later s sound [] [] (none_left s []) runs follow;
   later = rising;
   again = λ early late r are p now before. elim (by_order early p before) [
-    | inl twice ↦ absurd (apart (whole_of early) (r.gave ++ r.broke) p (rising early late r are) twice now)
+    | inl twice ↦ absurd (apart (whole_of early) (r.gave ++ r.broke) p
+        (subst IsRising (append_assoc (whole_of early) r.gave r.broke) (rising early late r are)) twice now)
     | inr broken ↦ broken
   ];
 }
@@ -136,14 +152,6 @@ stands_there m plan first began s store =
     by_store None is shown = absurd (cc shown)
 
 -- what the order of a step did with its store
-record Ordered (mid t : State) (es : List Event) (whole broken : List Stored) : Type 0 where
-  leads : t ≡ after mid es
-  gone : HaveLeft mid es whole
-  given_are : All (Contains (over given mid es)) broken
-  rising : IsRising (whole ++ broken)
-  newer : List Stored
-  oldest : t.store.content ≡ broken ++ newer
-
 module _ (dump : OrdersDumpTheOldest) (changes : BrokenOrdersChangeNothing) (taken : ℕ) (c : Course) (mid t : State)
     (sound : IsState mid) (tried : HasTried taken c mid t) where
   leads_on : t ≡ after mid (asked c.calls)
@@ -151,19 +159,12 @@ module _ (dump : OrdersDumpTheOldest) (changes : BrokenOrdersChangeNothing) (tak
 
   -- an order that ended so
   ended_so : (why : Option OrderBroken) → EndedAs why c
-      → Ordered mid t (asked c.calls) (where_whole why c.sent) (where_broken why c.sent)
+      → IsStoreRun (from_to mid t (where_whole why c.sent) (where_broken why c.sent))
   ended_so None whole =
       let oldest = (dump mid t c.seat c.order.amount c.sent c.calls sound whole.order tried.run).oldest in
-      let gone = (order_does mid c.seat c.order.amount c.sent t.store.content c.calls
-      (subst IsRising oldest sound.store.rising) oldest whole.order tried.run.legal).gone in
-      record {
-        leads = leads_on;
-        gone = gone;
-        given_are = All-nil _;
-        rising = subst IsRising (sym (append-nil c.sent)) gone.rising;
-        newer = t.store.content;
-        oldest = refl;
-      }
+      whole_run mid t (asked c.calls) c.sent leads_on
+      (order_does mid c.seat c.order.amount c.sent t.store.content c.calls
+      (subst IsRising oldest sound.store.rising) oldest whole.order tried.run.legal).gone
   ended_so (Some why) broken =
       let gave = c.sent ++ c.unsent in
       let same = (changes mid t c.seat c.order.amount gave c.calls broken.order tried.run).0 in
@@ -172,6 +173,7 @@ module _ (dump : OrdersDumpTheOldest) (changes : BrokenOrdersChangeNothing) (tak
       let first = held.1 ∙ append_assoc c.sent c.unsent held.0 in
       let gives = broken_gives mid c.seat c.order.amount gave c.calls broken.order tried.run.legal in
       record {
+        events = asked c.calls;
         leads = leads_on;
         gone = none_left mid (asked c.calls);
         given_are = subst (λ (ps : List Stored). All (Contains ps) c.sent) (sym gives)
@@ -184,25 +186,11 @@ module _ (dump : OrdersDumpTheOldest) (changes : BrokenOrdersChangeNothing) (tak
 
   -- no order
   no_order : (why : Option OrderBroken) → c.sent ≡ []
-      → Ordered mid t (asked c.calls) (where_whole why c.sent) (where_broken why c.sent)
-  no_order None none = rw none (record {
-    leads = leads_on;
-    gone = none_left _ _;
-    given_are = All-nil _;
-    rising = (none_left t []).rising;
-    newer = t.store.content;
-    oldest = refl;
-  })
-  no_order (Some why) none = rw none (record {
-    leads = leads_on;
-    gone = none_left _ _;
-    given_are = All-nil _;
-    rising = (none_left t []).rising;
-    newer = t.store.content;
-    oldest = refl;
-  })
+      → IsStoreRun (from_to mid t (where_whole why c.sent) (where_broken why c.sent))
+  no_order None none = rw none (whole_run mid t (asked c.calls) [] leads_on (none_left _ _))
+  no_order (Some why) none = rw none (whole_run mid t (asked c.calls) [] leads_on (none_left _ _))
 
-  ordered : Ordered mid t (asked c.calls) (where_whole c.why c.sent) (where_broken c.why c.sent)
+  ordered : IsStoreRun (from_to mid t (where_whole c.why c.sent) (where_broken c.why c.sent))
   ordered = elim (cases_lt 0 taken) [
     | inl some ↦ ended_so c.why (tried.some some)
     | inr none ↦ no_order c.why (tried.none (omega arith)).1
@@ -217,16 +205,10 @@ module _ {L : Type 0} (sent : L → List Sent) (failed : L → ℕ) where
       let es = over_steps account.events steps in
       let gave = over_steps (done.gave (place_in_memory m s)) steps in
       let begun = ap (λ (held : List Held). store_state m held s) done.runs.first in
-      record {
-        events = es;
-        leads = ap (λ (held : List Held). store_state m held s) done.stores_are
-            ∙ account.history.leads steps (omega arith) ∙ ap (λ (u : State). after u es) begun;
-        gone = subst (λ (u : State). HaveLeft u es gave) begun account.history.gone;
-        given_are = All-nil _;
-        rising = subst IsRising (sym (append-nil gave)) account.history.gone.rising;
-        newer = (store_state m now.stores s).store.content;
-        oldest = refl;
-      }
+      whole_run _ _ es gave
+      (ap (λ (held : List Held). store_state m held s) done.stores_are ∙ account.history.leads steps (omega arith)
+      ∙ ap (λ (u : State). after u es) begun)
+      (subst (λ (u : State). HaveLeft u es gave) begun account.history.gone)
 
   -- and the step that was halted
   module _ (later : GiveLater) (dump : OrdersDumpTheOldest) (changes : BrokenOrdersChangeNothing) (m : RunInput)
@@ -245,9 +227,6 @@ module _ {L : Type 0} (sent : L → List Sent) (failed : L → ℕ) where
 
     abbrev whole : IsStoreRun (store_run m s halted.before.stores (over_steps (halted.ran.done.gave k) (step - 1)) [])
     whole = steps_are m plan first (step - 1) halted.before report halted.ran s store
-
-    abbrev earlier : List Event
-    earlier = whole.events
 
     abbrev gave : List Stored
     gave = over_steps (halted.ran.done.gave k) (step - 1)
@@ -277,45 +256,16 @@ module _ {L : Type 0} (sent : L → List Sent) (failed : L → ℕ) where
         (opening_at (states_of halted.before.stores) k) (opening_at (states_of is.mid) k)
     went = is.records.logs k (omega (arith, there, length-map is.mid (λ (h : Held). h.state)))
 
-    abbrev offered : List Event
-    offered = asked went.log
-
     abbrev c : Course
     c = is.dumps.settled.course k
 
-    mid_is : opening_at (states_of is.mid) k ≡ after begun (earlier ++ offered)
-    mid_is =
-        went.run.leaves ∙ sym (replayed _ went.log) ∙ ap (λ (u : State). after u (asked went.log)) whole.leads
-        ∙ sym (after-append begun earlier (asked went.log))
-
-    order : Ordered (opening_at (states_of is.mid) k) (opening_at (states_of left.stores) k) (asked c.calls)
-        (where_whole c.why c.sent) (where_broken c.why c.sent)
-    order = ordered dump changes _ c _ _
-        (state_holds IsState is.mid is.records.sound k there)
+    order : IsStoreRun (from_to (opening_at (states_of is.mid) k) (opening_at (states_of left.stores) k)
+        (where_whole c.why c.sent) (where_broken c.why c.sent))
+    order = ordered dump changes _ c _ _ (state_holds IsState is.mid is.records.sound k there)
         (is.dumps.settled.stores k (omega (arith, after_it, length-map left.stores (λ (h : Held). h.state))))
-
-    -- what the orders of the steps before were given has left the store before the dump of the step
-    past_left : HaveLeft begun (earlier ++ offered) gave
-    past_left =
-        subst (HaveLeft begun (earlier ++ offered)) (append-nil gave)
-        (left_more later begun earlier offered gave [] sound whole.gone (none_left (after begun earlier) offered))
 
     pub halted_is : IsStoreRun
         (store_run m s left.stores (gave ++ where_whole c.why c.sent) (where_broken c.why c.sent))
     halted_is =
-        let more = where_whole c.why c.sent in
-        let broke = where_broken c.why c.sent in
-        let order : Ordered (after begun (earlier ++ offered)) _ (asked c.calls) more broke =
-        subst (λ (u : State). Ordered u _ (asked c.calls) more broke) mid_is order in
-        record {
-          events = (earlier ++ offered) ++ asked c.calls;
-          leads = order.leads ∙ sym (after-append begun (earlier ++ offered) (asked c.calls));
-          gone = left_more later begun (earlier ++ offered) (asked c.calls) gave more sound past_left order.gone;
-          given_are = done_later given begun (earlier ++ offered) (asked c.calls) broke order.given_are;
-          rising = subst IsRising (sym (append_assoc gave more broke))
-              (rising_more later begun (earlier ++ offered) (asked c.calls) gave (more ++ broke) sound past_left
-              (All-append (Contains (over given (after begun (earlier ++ offered)) (asked c.calls))) more broke
-              order.gone.given_are order.given_are) order.rising);
-          newer = order.newer;
-          oldest = order.oldest;
-        }
+        run_after later begun sound whole.events gave whole.gone (asked went.log) _
+        (went.run.leaves ∙ sym (replayed _ went.log) ∙ ap (λ (u : State). after u (asked went.log)) whole.leads) order
