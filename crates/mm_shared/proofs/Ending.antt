@@ -15,8 +15,7 @@ untouched lists s t legal empty =
 
 -- the state taken with all seats is the one from which calls count, if no call was made
 pub told_is : (k : ℕ) (m n : Seated) (now : State) (others : List (ℕ × State)) → IsTakenByAll k m n
-    → n.1 ≡ (k, now) ∷ others → All (λ (calls : List (ℕ × Entry)). calls ≡ []) m.0.lists
-    → now ≡ opening_at m.0.states k
+    → n.1 ≡ (k, now) ∷ others → All (λ (calls : List (ℕ × Entry)). calls ≡ []) m.0.lists → now ≡ opening_at m.0.states k
 told_is k m n now others took has fresh =
     let same : (k, now) ∷ others ≡ (k, took.now) ∷ [] = sym has ∙ ap (λ (it : Seated). it.1) took.holds in
     let first : (k, now) ≡ (k, took.now) = cc same in

@@ -2,8 +2,7 @@
 use Rattle.mm_shared.proofs.Words.{◌≡◌, ⊎_elim, ℕ, ◌-◌, ◌<◌, ◌≤◌, List, [], ◌++◌, length, map, replicate, get_or, refl}
 use Rattle.mm_shared.proofs.Words.{◌∙◌, arith, cases_lt, length-append, length-replicate, map-append}
 use Rattle.mm_shared.proofs.Words.{get_or_append_left, get_or-append_right, get_or-replicate, Entry, State, IsShuffle}
-use Rattle.mm_shared.proofs.Words.{part, none_of, calls_on, lists_at, PortView, HasLegalLog}
-use Rattle.std.proofs.lemmas.Simd.{map-map}
+use Rattle.mm_shared.proofs.Words.{part, none_of, calls_on, lists_at, PortView, HasLegalLog, map-map}
 use lib.LanesLaws.{map-replicate}
 
 -- a shuffle of lists and of empty ones is a shuffle of the lists

@@ -33,8 +33,7 @@ module _ (seats word : ℕ) (home : slot.Option State) (now : State) where
 
   -- the state is in its slot if one view has all seats and holds nothing
   none_out : (owner : ℕ → ℕ) (id : ℕ) (holder : Option ℕ) → ((seat : ℕ) → seat < seats → owner seat ≡ id)
-      → Stands seats word home now holder
-      → held_by owner holder now id ≡ None → holder ≡ None
+      → Stands seats word home now holder → held_by owner holder now id ≡ None → holder ≡ None
   none_out owner id None all there idle = refl
   none_out owner id (Some seat) all out idle = absurd (cc (idle, held_yes owner seat now id (all seat out.1)))
 
@@ -67,9 +66,7 @@ module _ (stores seats : ℕ) (s : Table State Knows) (kept : IsKept stores seat
               agree = λ none. own.agree (λ zero. none (count ∙ zero));
             })
             (λ port u apart at. kept.owns port u at);
-        keeps = λ j under.
-            dite (ℕ_discrete j i)
-            (λ same.
+        keeps = λ j under. dite (ℕ_discrete j i) (λ same.
             let in_words : i < length s.words = omega (arith, kept.words, within) in
             let in_homes : i < length s.homes = omega (arith, kept.homes, within) in
             subst (λ (n : ℕ). Keeps (opening_at kept.openings n) seats kept.owner n (stepped s i x id c w a)) (sym same)

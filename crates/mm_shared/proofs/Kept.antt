@@ -54,8 +54,7 @@ module _ (stores seats : ℕ) where
   tries_kept n id m f i first second within up at some_seat s kept wide me fits64 =
       let word = get_or s.words i 0 in
       let k = kept.keeps i within in
-      dite (ℕ_discrete word 0)
-      (λ free.
+      dite (ℕ_discrete word 0) (λ free.
       let in_home = none_free seats word _ _ k.it.holder free k.course.stands in
       let w : Knows = record m.0 { held = Some (i, k.it.now) } in (
         w,
@@ -86,8 +85,7 @@ module _ (stores seats : ℕ) where
 
   -- it is given back after a call
   pub gives_kept : (n id : ℕ) (m : Seated) (i : ℕ) (event : Event) (reply : Reply) → i < stores
-      → HasCalled i event reply m
-      → Allows (IsKept stores seats) n id m i (λ k. 0) (λ r it. it ≡ called i m event reply)
+      → HasCalled i event reply m → Allows (IsKept stores seats) n id m i (λ k. 0) (λ r it. it ≡ called i m event reply)
   gives_kept n id m i event reply within c =
       gives_any n id m i c.now (called i m event reply).0 c.has
       (λ s kept me. gives_after stores seats s kept id m.0 me i within (kept.keeps i within) c.taken c.now event reply
@@ -102,8 +100,7 @@ module _ (stores seats : ℕ) where
 
   -- the holder of all seats takes the state of a store
   pub takes_by_all : (n id : ℕ) (m : Seated) (i first second : ℕ) (f : ℕ → ℕ) → i < stores → ((k : ℕ) → 0 < f k)
-      → AreAll seats m
-      → Allows (IsKept stores seats) n id m i f (λ r it. IsTakenByAll i m it)
+      → AreAll seats m → Allows (IsKept stores seats) n id m i f (λ r it. IsTakenByAll i m it)
   takes_by_all n id m i first second f within up all s kept wide me fits64 =
       let k = kept.keeps i within in
       let end = ends stores seats s kept id m.0 me i within k all.rest.none all.first all.count in

@@ -1,7 +1,7 @@
 -- Stores are parted into labels and states, and put together again.
 use Rattle.mm_shared.proofs.Words.{◌≡◌, ℕ, suc, ◌<◌, List, [], ◌∷◌, ◌++◌, length, get_or, map, refl, sym, ap, ◌∙◌}
 use Rattle.mm_shared.proofs.Words.{arith, get_or-map, length-map, State, held_stores, label_of, labels_of, names_of}
-use Rattle.mm_shared.proofs.Words.{states_of, Held, blank, opening_at, StoreLabel}
+use Rattle.mm_shared.proofs.Words.{states_of, ids_of, Held, blank, opening_at, StoreLabel, map-map}
 
 -- a store under a label
 abbrev pub under : StoreLabel → State → Held
@@ -43,6 +43,15 @@ pub count_is : (labels : List StoreLabel) (states : List State) → length label
     → length (held_stores labels states) ≡ length labels
 count_is labels states same = sym (length-map (held_stores labels states) (λ h. h.state))
     ∙ (ap length (states_are labels states same) ∙ sym same)
+
+-- stores with these labels have these identifiers
+pub ids_open : (labels : List StoreLabel) (stores : List Held) → names_of labels ≡ labels_of stores
+    → ids_of labels ≡ map (λ h. h.id) stores
+ids_open labels stores same = simp map-map at (ap (map (λ (name : List ℕ × ℕ). name.0)) same)
+
+-- stores with the same labels are as many
+pub same_many : (a b : List Held) → labels_of a ≡ labels_of b → length a ≡ length b
+same_many a b same = simp length-map at (ap length same)
 
 -- the state of the store at an index
 pub state_at : (stores : List Held) (k : ℕ) (d : Held) → k < length stores

@@ -78,8 +78,7 @@ module _ (stores seats : ℕ) where
       each_push (Fits kept.owner k old.it) views (first_of v)
       (each_set (Fits kept.owner k old.it) s.views id (others_of v)
       (record {
-        parts = λ n inside.
-            ap (λ (seat : ℕ). part seat old.it.log) (omega arith)
+        parts = λ n inside. ap (λ (seat : ℕ). part seat old.it.log) (omega arith)
             ∙ (fit.parts (1 + n) (omega (arith, fewer)) ∙ ap (calls_on k) (sym (get_or_after_one v.lists n [])));
         held = fit.held;
       })
@@ -118,8 +117,7 @@ module _ (stores seats : ℕ) where
           (λ other. rw (stays seat other) (omega (arith, count, kept.there seat inside))))
 
       none_past : (word : ℕ) (home : slot.Option State) (now : State) (holder : Option ℕ)
-          → Stands seats word home now holder
-          → None ≡ held_by kept.owner holder now (length views)
+          → Stands seats word home now holder → None ≡ held_by kept.owner holder now (length views)
       none_past word home now None there = refl
       none_past word home now (Some seat) out = sym (held_no kept.owner seat now (length views)
           (λ same. omega (arith, count, same, kept.there seat out.1)))
@@ -150,9 +148,8 @@ module _ (stores seats : ℕ) where
       let their = old.fits other w theirs in
       each (Fits kept.owner k old.it)
       (record {
-        parts = λ n inside.
-            ⊎_elim (λ before. their.parts n before ∙ ap (calls_on k)
-            (sym (get_or_append_left w.lists v.lists [] n before)))
+        parts = λ n inside. ⊎_elim
+            (λ before. their.parts n before ∙ ap (calls_on k) (sym (get_or_append_left w.lists v.lists [] n before)))
             (λ after.
             let theirs = fit.parts (n - length w.lists) (omega (arith, count)) in
             ap (λ (seat : ℕ). part seat old.it.log) (omega arith)

@@ -36,3 +36,4 @@ pub use Rattle.std.specs.Slots.{slots_counts, slots_filled, slots_items, slots_l
 pub use mathlib.Core.Logic.{dite}
 pub use mathlib.Core.Option.{some-injective, some-ne-none}
 pub use native.Mathlib.Decide.{ℕ_discrete}
+pub use Rattle.std.proofs.lemmas.Simd.{map-map}

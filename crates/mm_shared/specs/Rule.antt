@@ -6,8 +6,7 @@ use Rattle.mm_shared.specs.declared.rule.Knows.{Knows}
 use mathlib.Core.Option as slot
 
 -- what is known of seats from the first on: the states from which calls count, the list of calls of each seat, each
--- call
--- with the index of its store, and the state that is held, with the index of its store
+-- call with the index of its store, and the state that is held, with the index of its store
 abbrev pub knows : List State → ℕ → List (List (ℕ × Entry)) → Option (ℕ × State) → Knows
 knows states first lists held = record { states = states; first = first; lists = lists; held = held }
 
