@@ -12,8 +12,7 @@ rest_is before after t more is = ap (drop (length (before t))) is ∙ drop_at (b
 
 -- what a live source gave, in a step, between two moments before a third
 module _ (step : ℕ) (given : Option SpacePacket) (old new last : Supply)
-    (here : new step ≡ old step ++ option_to_list given)
-    (others : (t : ℕ) → t ≢ step → new t ≡ old t) where
+    (here : new step ≡ old step ++ option_to_list given) (others : (t : ℕ) → t ≢ step → new t ≡ old t) where
   -- the packet, and what was given before a third moment
   whole : (more : List SpacePacket) → last step ≡ new step ++ more
       → last step ≡ old step ++ (option_to_list given ++ more)

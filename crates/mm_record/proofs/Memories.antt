@@ -4,14 +4,11 @@ use Rattle.mm_record.proofs.Words.{None, refl, sym, ap, ◌∙◌, arith, AllPai
 use Rattle.mm_record.proofs.Words.{AllPairs-map, SpacePacket, Fault, Held, IsState, Leaves, blank, AreHeld}
 use Rattle.mm_record.proofs.Words.{HaveOtherIds, Holdings, labels_of, id_at, AreNamed, cause_in, counters_of}
 use Rattle.mm_record.proofs.Words.{StoreCounters, AreRows, came, store_at, told_of, IsRecorded, WasEnded, Supply}
-use Rattle.mm_record.proofs.Words.{RecordingContext, recording_of, offers, given_in, Records}
+use Rattle.mm_record.proofs.Words.{RecordingContext, recording_of, offers, given_in, Records, same_many, state_at}
 use Rattle.mm_desk.specs.Laws.{OffersLeave}
-use Rattle.mm_desk.proofs.PlaceLemmas.{AreHeld-same_ids}
-use Rattle.mm_desk.proofs.PlaceLemmas.{is_other}
+use Rattle.mm_desk.proofs.PlaceLemmas.{AreHeld-same_ids, is_other}
 use Rattle.mm_report.specs.declared.cause.Cause.{Cause}
 use Rattle.mm_record.specs.declared.memory_step.Recorded.{Recorded}
-use Rattle.mm_shared.proofs.Opening.{state_at}
-use Rattle.mm_record.proofs.Steps.{same_many}
 use Rattle.mm_desk.specs.declared.fault.Fault.TheVariants as fault
 
 -- stores with identifiers of their own are named

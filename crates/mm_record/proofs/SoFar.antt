@@ -42,9 +42,8 @@ module _ {e : RecordingContext} {before mid after : Supply} {port : PortView} (s
     gave = so_far.gave ++ p ∷ [];
     order = order_more;
     others = others_more;
-    asked_are = λ k within. (adds.lists k within).all
-        ∙ ap (λ (x : List Event). x ++ offers_of e p k) (so_far.asked_are k within)
-        ∙ sym (offers_more e k so_far.gave (p ∷ []));
+    asked_are = λ k within. (adds.lists k within).all ∙ ap (λ (x : List Event). x ++ offers_of e p k)
+        (so_far.asked_are k within) ∙ sym (offers_more e k so_far.gave (p ∷ []));
     taken = λ k within. (adds.lists k within).taken (so_far.taken k within);
   }
 

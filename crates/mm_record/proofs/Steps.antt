@@ -1,16 +1,13 @@
 -- From what each recorder and each store says, to the step.
-use Rattle.mm_record.proofs.Words.{◌≡◌, ◌⊎◌, inl, inr, ℕ, ◌*◌, ◌<◌, ◌≤◌, List, [], ◌∷◌, ◌++◌, length, get_or, map}
-use Rattle.mm_record.proofs.Words.{filter, All, Option, Some, None, IfNone, IfSome, refl, sym, subst, ap, ◌∙◌}
-use Rattle.mm_record.proofs.Words.{append_assoc, length-append, arith, append-nil, get_or-map, length-map, All-map}
-use Rattle.mm_record.proofs.Words.{sum_by-le, IfSome_then, MatchOption-at_none, map-map, All-unmapped, All-front}
-use Rattle.mm_record.proofs.Words.{SpacePacket, Entry, Event, Offer, Fault, NoMemory, Held, IsState, AreTaken, IsTaken}
-use Rattle.mm_record.proofs.Words.{IsShuffleOfEvents, count_of, asked_in, opening_at, blank, AreBelow, IsShuffle}
-use Rattle.mm_record.proofs.Words.{list_at, lists_at, states_of, labels_of, names_of, ids_of, id_at, HaveLegalLogs}
-use Rattle.mm_record.proofs.Words.{PortView, asked, IsReason, is_routed, Supply, WhateverComes, RecordingContext}
-use Rattle.mm_record.proofs.Words.{offers, HaveOffered, given_in, AllRecorded, AllHaveLegalOffers, HasLegalOffers}
-use Rattle.mm_record.proofs.Words.{IsOpen, IsRecorderRun, worst_of, RecorderRun, Records, StoreRefused, TakesAll}
-use Rattle.mm_record.proofs.Words.{map_same}
-use Rattle.mm_shared.specs.declared.label.StoreLabel.{StoreLabel}
+use Rattle.mm_record.proofs.Words
+use Words.{◌≡◌, ◌⊎◌, inl, inr, ℕ, ◌*◌, ◌<◌, ◌≤◌, List, [], ◌∷◌, ◌++◌, length, get_or, map, filter, All, Option, Some}
+use Words.{None, IfNone, IfSome, refl, sym, subst, ap, ◌∙◌, append_assoc, length-append, arith, append-nil, get_or-map}
+use Words.{length-map, All-map, sum_by-le, IfSome_then, MatchOption-at_none, map-map, All-unmapped, All-front}
+use Words.{SpacePacket, Entry, Event, Offer, Fault, NoMemory, Held, IsState, AreTaken, IsTaken, IsShuffleOfEvents}
+use Words.{count_of, asked_in, opening_at, blank, AreBelow, IsShuffle, list_at, lists_at, states_of, labels_of, id_at}
+use Words.{HaveLegalLogs, PortView, asked, IsReason, is_routed, Supply, WhateverComes, RecordingContext, offers}
+use Words.{HaveOffered, given_in, AllRecorded, AllHaveLegalOffers, HasLegalOffers, IsOpen, IsRecorderRun, worst_of}
+use Words.{RecorderRun, Records, StoreRefused, TakesAll, map_same, same_many}
 use Rattle.mm_record.specs.Steps.{AreRecorderRuns}
 use Rattle.mm_record.proofs.Offers.{offers_more}
 use Rattle.mm_record.proofs.Runs.{Run, run_of, runs_until, worst_has, worst_none}
@@ -75,16 +72,6 @@ are_runs : {e : RecordingContext} (runs : List (Run e))
 unfolding AreRecorderRuns
 are_runs [] = tt
 are_runs (r ∷ runs) = (r.did.run, are_runs runs)
-
--- the identifiers of stores that are open
-pub ids_open : (labels : List StoreLabel) (before : List Held) → names_of labels ≡ labels_of before
-    → ids_of labels ≡ map (λ h. h.id) before
-ids_open labels before same = simp map-map at (ap (map (λ (name : List ℕ × ℕ). name.0)) same)
-
--- as many stores as labels
-pub same_many : (a b : List Held) → labels_of a ≡ labels_of b → length a ≡ length b
-same_many a b labels = sym (length-map a (λ (h : Held). (h.id, h.channel))) ∙ ap length labels
-    ∙ length-map b (λ (h : Held). (h.id, h.channel))
 
 -- what a step of recorders leaves of stores that were opened
 module _ (e : RecordingContext) (runs : List (Run e)) (before after : List Held)

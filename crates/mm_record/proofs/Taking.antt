@@ -1,12 +1,11 @@
 -- Offers that no store refuses, since storage is on, and clock and count are far from their ends; and offers that a
 -- store refused.
-use Rattle.mm_record.proofs.Words.{◌≡◌, ℕ, suc, ◌+◌, ◌<◌, ◌≤◌, ◌==◌, ◌||◌, Bool, true, false, not, cond, max, ltb, List}
-use Rattle.mm_record.proofs.Words.{[], ◌∷◌, length, get_or, filter, All, Result, Ok, Err, refl, sym, subst, arith, Any}
-use Rattle.mm_record.proofs.Words.{Contains, both_ways, cond_both, eq-eqb, nat_tests, All-cons, All-contains_itself}
-use Rattle.mm_record.proofs.Words.{All-filter, All-head, All-nil, All-tail, All-unmapped, SpacePacket, Entry, Event}
-use Rattle.mm_record.proofs.Words.{Offer, Fault, Returned, State, answer_of, after_put, offer, step, AreTaken, IsTaken}
-use Rattle.mm_record.proofs.Words.{IsShuffleOfEvents, count_of, IsLegal, IsRun, AreBelow, IsShuffle, part}
-use Rattle.mm_record.proofs.Words.{IsRefusedWith}
+use Rattle.mm_record.proofs.Words
+use Words.{◌≡◌, ℕ, suc, ◌+◌, ◌<◌, ◌≤◌, ◌==◌, ◌||◌, Bool, true, false, not, cond, max, ltb, List, [], ◌∷◌, length}
+use Words.{get_or, filter, All, Result, Ok, Err, refl, sym, subst, arith, Any, Contains, both_ways, cond_both, eq-eqb}
+use Words.{nat_tests, All-cons, All-contains_itself, All-filter, All-head, All-nil, All-tail, All-unmapped, SpacePacket}
+use Words.{Entry, Event, Offer, Fault, Returned, State, answer_of, after_put, offer, step, AreTaken, IsTaken}
+use Words.{IsShuffleOfEvents, count_of, IsLegal, IsRun, AreBelow, IsShuffle, part, IsRefusedWith}
 use Rattle.std.proofs.lemmas.List.Filters.{length-filter_both}
 use Rattle.mm_base.specs.declared.kind.Kind.{Kind}
 use Rattle.mm_base.specs.declared.kind.Kind.TheVariants.{Circular}
@@ -30,16 +29,16 @@ pub record HasTime (now n : ℕ) (s : State) : Type 0 where
   pub count : s.offered + n ≤ clock_end
 
 -- a put is taken, and the last time is at most the new one
-record Takes (time : ℕ) (done : Put × Store) : Type 0 where
-  taken : (now : ℕ) (p : SpacePacket) → IsTaken (Offer now p) (reply.Offered (answer_of done.0))
-  last : done.1.last ≤ time
+pub record Takes (time : ℕ) (done : Put × Store) : Type 0 where
+  pub taken : (now : ℕ) (p : SpacePacket) → IsTaken (Offer now p) (reply.Offered (answer_of done.0))
+  pub last : done.1.last ≤ time
 
 full_takes : (kind : Kind) (held : List Stored) (s : Store) (new : Stored) → s.last ≤ new.time
     → Takes new.time (put_full kind held s new)
 full_takes Circular (x ∷ xs) s new later = record { taken = λ now p. tt; last = omega arith }
 full_takes kind held s new later = record { taken = λ now p. tt; last = later }
 
-timed_takes : (s : Store) (new : Stored) → s.last ≤ new.time → Takes new.time (put_timed s new)
+pub timed_takes : (s : Store) (new : Stored) → s.last ≤ new.time → Takes new.time (put_timed s new)
 timed_takes s new later =
     cond_both (ltb (length s.content) s.size) _ _ (Takes new.time)
     (λ free. record { taken = λ now p. tt; last = omega arith })
@@ -103,14 +102,13 @@ parts_all P seats log below parts i d within =
     let seat = (get_or log i d).seat in
     All-unfiltered P (λ e. e.seat == seat) log (parts seat (below i d within)) i d within (eq-eqb seat seat refl)
 
--- a log that is a shuffle of offers has offers alone
-offers_alone : (now : ℕ) (lists : List (List Event)) (log : List Entry) → IsShuffleOfEvents lists log
-    → All (λ es. All (IsOfferAt now) es) lists
-    → All (λ e. IsOfferAt now e.event) log
-offers_alone now lists log shuffle offers =
-    parts_all (λ e. IsOfferAt now e.event) (length lists) log shuffle.below
-    (λ seat within. All-unmapped (IsOfferAt now) (λ (e : Entry). e.event) (part seat log)
-    (subst (All (IsOfferAt now)) (sym (shuffle.parts seat within)) (offers seat [] within)))
+-- what holds of each event of some lists holds of a log that is a shuffle of them
+pub shuffled : (P : Event → Type 0) (lists : List (List Event)) (log : List Entry) → IsShuffleOfEvents lists log
+    → All (λ list. All P list) lists → All (λ e. P e.event) log
+shuffled P lists log shuffle all =
+    parts_all (λ e. P e.event) (length lists) log shuffle.below
+    (λ seat within. All-unmapped P (λ (e : Entry). e.event) (part seat log)
+    (subst (All P) (sym (shuffle.parts seat within)) (all seat [] within)))
 
 -- a log that is a shuffle of few offers is taken
 pub shuffle_is_taken : (now : ℕ) (s t : State) (lists : List (List Event)) (log : List Entry)
@@ -118,7 +116,7 @@ pub shuffle_is_taken : (now : ℕ) (s t : State) (lists : List (List Event)) (lo
     → IsShuffleOfEvents lists log → All (λ es. All (IsOfferAt now) es) lists → AreTaken log
 shuffle_is_taken now s t lists log time run shuffle offers =
     log_taken now s log (subst (λ (n : ℕ). HasTime now n s) (count_of_shuffle lists log shuffle) time)
-    (offers_alone now lists log shuffle offers) run.legal
+    (shuffled (IsOfferAt now) lists log shuffle offers) run.legal
 
 -- a refusal with this fault
 abbrev pub IsRefusal : Fault → Entry → Type 0
@@ -138,8 +136,7 @@ not_taken log fault (i, e, within, at, refused) taken =
 
 -- a refusal in one of the lists is in the log that is a shuffle of them
 pub refusal_in_log : (fault : Fault) (lists : List (List Entry)) (log : List Entry) → IsShuffle lists log → (seat : ℕ)
-    → seat < length lists
-    → Any (IsRefusal fault) (get_or lists seat []) → Any (IsRefusal fault) log
+    → seat < length lists → Any (IsRefusal fault) (get_or lists seat []) → Any (IsRefusal fault) log
 refusal_in_log fault lists log shuffle seat within (i, e, inside, at, refused) =
     let part_in_log = All-filter (λ (e : Entry). e.seat == seat) (Contains log) log (All-contains_itself log) in
     let found = subst (Contains log) at (subst (All (Contains log)) (shuffle.parts seat within) part_in_log i e

@@ -11,6 +11,7 @@ pub use Rattle.mm_desk.specs.Holdings.{HaveOtherIds}
 pub use Rattle.mm_control.specs.Routing.{is_routed}
 pub use Rattle.mm_record.specs.Causes.{cause_before, cause_by, cause_in, is_clock_late, is_late, is_ready}
 pub use Rattle.mm_record.specs.MemorySteps.{AreRows, IsRecorded, WasEnded, came, recording_of, store_at, told_of}
+pub use Rattle.mm_record.specs.MemorySteps.{held_by}
 pub use Rattle.mm_record.specs.Offering.{IsReason, OfferedUpTo, OfferedWhole, Offers, asked, offer_at, offers_by}
 pub use Rattle.mm_record.specs.Offering.{offers_of, step_of}
 pub use Rattle.mm_record.specs.Recorded.{RecordingContext, offers}
@@ -21,10 +22,10 @@ pub use Rattle.mm_record.specs.Steps.{given_in, worse_of, worst_of}
 pub use Rattle.mm_record.specs.Supplies.{Gave, Supply, WhateverComes, supplies}
 pub use Rattle.mm_record.specs.Words.{AllZip, AreHeld, AreNamed, AreTaken, Entry, Event, Fault, Held, Holdings, IsFresh}
 pub use Rattle.mm_record.specs.Words.{IsRun, IsShuffleOfEvents, IsState, Leaves, Offer, Origin, PortView, SpacePacket}
-pub use Rattle.mm_record.specs.Words.{State, all_ends, asked_in, count_of, counters_of, end_of, id_at, ids_of}
-pub use Rattle.mm_record.specs.Words.{labels_of, list_any, list_at, opening_at, states_of}
+pub use Rattle.mm_record.specs.Words.{State, all_ends, asked_in, count_of, counters_of, end_of, id_at, labels_of}
+pub use Rattle.mm_record.specs.Words.{list_any, list_at, opening_at, states_of}
 pub use Rattle.mm_shared.proofs.Lists.{map_same}
-pub use Rattle.mm_shared.specs.Stores.{HaveLegalLogs, lists_at, names_of, stores_in}
+pub use Rattle.mm_shared.specs.Stores.{HaveLegalLogs, lists_at, stores_in}
 pub use Rattle.mm_shared.specs.Views.{with_call}
 pub use Rattle.mm_shared.specs.declared.counters.StoreCounters.{StoreCounters}
 pub use Rattle.std.proofs.Common.{All, Bool, Err, IfNone, IfSome, List, None, Ok, Option, Result, Some, [], ap}
@@ -45,3 +46,4 @@ pub use Rattle.std.proofs.lemmas.Option.{IfSome_then, MatchOption-at_none, slice
 pub use Rattle.std.proofs.lemmas.Simd.{map-map}
 pub use Rattle.std.specs.List.{AllPairs, Contains, find, position_or_len}
 pub use Rattle.std.specs.Prelude.{Any, is_ok}
+pub use Rattle.mm_shared.proofs.Opening.{same_many, state_at, ids_open}

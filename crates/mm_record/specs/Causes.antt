@@ -26,9 +26,7 @@ is_count count most = nat_le 1 count && nat_le count most
 abbrev pub cause_by : List Held → ℕ → ℕ → Option Held → Option Cause
 cause_by stores base sources (Some h) = Some (NotReady h.id)
 cause_by stores base sources None =
-    if is_clock_late stores base then Some ClockTooLate
-    else if is_count sources MAX_SOURCES then None
-    else Some Counts
+    if is_clock_late stores base then Some ClockTooLate else if is_count sources MAX_SOURCES then None else Some Counts
 
 -- why a step of recorders is not begun
 abbrev pub cause_before : List Held → ℕ → ℕ → Option Cause

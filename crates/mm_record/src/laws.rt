@@ -4,6 +4,7 @@ ghost use Rattle.mm_record.specs.Laws.{HeldAreNamed};
 use crate::source::AnySource;
 
 /// No two of the stores that a memory holds have one identifier, so they may be lent to recorders.
+#[tactic(auto, using(crate::proofs::Memories::named_of))]
 pub fn held_stores_are_named()
     ensures law { HeldAreNamed }
 {}

@@ -4,7 +4,7 @@ ghost use Rattle.std.specs.Prelude.{vec_capacity};
 ghost use Rattle.mm_record.specs.Words.{AreHeld, IsState, LogMismatch, MAX_SOURCES, counters_of};
 ghost use Rattle.mm_record.specs.Causes.{cause_before};
 ghost use Rattle.mm_record.specs.MemorySteps.{held_by, AreRows, IsRecorded, IsRefused, Halts};
-ghost use Rattle.mm_record.specs.Recorded.{recording};
+ghost use Rattle.mm_record.specs.Recorded.{recording, recording_by};
 ghost use Rattle.mm_record.specs.Supplies.{WhateverComes};
 ghost use Rattle.mm_record.specs.Steps.{IsWithinLimits, TakesAll};
 
@@ -86,17 +86,15 @@ fn record_ready<S: AnySource + Send, R: Threads + Wait + Sync>(
     requires held { AreHeld stores.old.items }
     requires many { length sources.old ≤ MAX_SOURCES }
     ensures ok { IfOk result (λ told. WhateverComes S.leads S.until sources.old sources.new
-        (IsRecorded (recording context.entry.now.step context.entry.now.now context.entry.now.control.now
-        stores.old.items)
+        (IsRecorded (recording_by context.entry.now stores.old.items)
         (held_by context.entry.now.control.now stores.old.items)
         (held_by context.entry.now.control.now stores.new.items) told.items)) }
-    ensures err { IfErr result (Halts S.leads S.until (recording context.entry.now.step context.entry.now.now
-        context.entry.now.control.now stores.old.items)
+    ensures err { IfErr result (Halts S.leads S.until (recording_by context.entry.now stores.old.items)
         (held_by context.entry.now.control.now stores.old.items)
         (held_by context.entry.now.control.now stores.new.items) sources.old sources.new) }
     ensures none_refused { IfErr result (λ cause. WhateverComes S.leads S.until sources.old sources.new
-        (λ given left. TakesAll (recording context.entry.now.step context.entry.now.now context.entry.now.control.now
-        stores.old.items) stores.old.items given → cause ≢ LogMismatch context.entry.now.step)) }
+        (λ given left. TakesAll (recording_by context.entry.now stores.old.items) stores.old.items given
+        → cause ≢ LogMismatch context.entry.now.step)) }
     ensures held { AreHeld stores.new.items }
 {
     let step = context.step;

@@ -3,7 +3,7 @@ ghost use Rattle.std.specs.Prelude.{◌≡◌, ◌≤◌, length, IfOk, OnErr, v
 ghost use Rattle.mm_base.specs.declared.limits.TheConstants.{MAX_STORES};
 ghost use Rattle.mm_desk.specs.declared.desk.TheConstants.{MAX_SEATS};
 ghost use Rattle.mm_shared.specs.Stores.{labels_of, stores_in, AreNamed, AreAtRest};
-ghost use Rattle.mm_record.specs.Recorded.{recording};
+ghost use Rattle.mm_record.specs.Recorded.{recording_by};
 ghost use Rattle.mm_record.specs.Supplies.{WhateverComes};
 ghost use Rattle.mm_record.specs.Steps.{Records};
 
@@ -38,10 +38,10 @@ pub fn record_open<S: AnySource + Send, R: Threads + Wait + Sync>(
 ) -> Option<Fault>
     requires rest { AreAtRest stores.old }
     requires many { length sources.old ≤ MAX_SEATS }
-    requires named { AreNamed (recording step.now.step step.now.now step.now.control.now (stores_in stores.old)).ids }
+    requires named { AreNamed (recording_by step.now (stores_in stores.old)).ids }
     ensures records { WhateverComes S.leads S.until sources.old sources.new
-        (Records (recording step.entry.now.step step.entry.now.now step.entry.now.control.now (stores_in stores.old))
-        (stores_in stores.old) (stores_in stores.new) result) }
+        (Records (recording_by step.entry.now (stores_in stores.old)) (stores_in stores.old) (stores_in stores.new)
+        result) }
     ensures labels { labels_of (stores_in stores.new) ≡ labels_of (stores_in stores.old) }
     ensures rest { AreAtRest stores.new }
 {
@@ -71,10 +71,9 @@ pub fn record<S: AnySource + Send, R: Threads + Wait + Sync>(
 ) -> Result<Option<Fault>, NoMemory>
     requires few { vec_len stores.old ≤ MAX_STORES }
     requires many { length sources.old ≤ MAX_SEATS }
-    requires named { AreNamed (recording step.now.step step.now.now step.now.control.now stores.old.items).ids }
+    requires named { AreNamed (recording_by step.now stores.old.items).ids }
     ensures records { IfOk result (λ why. WhateverComes S.leads S.until sources.old sources.new
-        (Records (recording step.entry.now.step step.entry.now.now step.entry.now.control.now stores.old.items)
-        stores.old.items stores.new.items why)) }
+        (Records (recording_by step.entry.now stores.old.items) stores.old.items stores.new.items why)) }
     ensures labels { labels_of stores.new.items ≡ labels_of stores.old.items }
     ensures stores { OnErr result (stores.new.items ≡ stores.old.items) }
     ensures sources { OnErr result (sources.new ≡ sources.old) }

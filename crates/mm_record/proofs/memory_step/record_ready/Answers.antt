@@ -1,5 +1,4 @@
-use Rattle.mm_record.proofs.Words.{rules, ◌≡◌, map, inr, All, Some, IsState, cause_in, counters_of}
-use Rattle.mm_record.specs.MemorySteps.{held_by}
+use Rattle.mm_record.proofs.Words.{rules, ◌≡◌, map, inr, All, Some, IsState, cause_in, counters_of, held_by}
 use Rattle.mm_record.proofs.Supplying.{comes_weaker}
 use Rattle.mm_record.proofs.Memories.{named_of, held_as, not_caused, recorded_of, ended_of}
 use Rattle.mm_record.proofs.memory_step.record_ready.Goals as goal

@@ -1,5 +1,4 @@
-use Rattle.mm_record.proofs.Words.{rules, ◌≡◌, None, vec_len, arith, with_items_is, cause_before}
-use Rattle.mm_record.specs.MemorySteps.{held_by}
+use Rattle.mm_record.proofs.Words.{rules, ◌≡◌, None, vec_len, arith, with_items_is, cause_before, held_by}
 use Rattle.mm_record.proofs.Before.{takes_of}
 use Rattle.mm_record.proofs.memory_step.record_stores.Goals as goal
 

@@ -1,8 +1,8 @@
 use Rattle.mm_record.proofs.Words.{rules, ◌≡◌, ℕ, length, refl, sym, ap, ◌∙◌, arith, length-map, with_items_is, Held}
-use Rattle.mm_record.proofs.Words.{all_ends, stores_in, Origin}
+use Rattle.mm_record.proofs.Words.{all_ends, stores_in, Origin, ids_open}
 use Rattle.std.specs.Vec.{with_items}
 use Rattle.mm_shared.proofs.StillOpen.{still_open}
-use Rattle.mm_record.proofs.Steps.{ids_open, comes_of}
+use Rattle.mm_record.proofs.Steps.{comes_of}
 use Rattle.mm_record.proofs.step.record_open.Goals as goal
 
 pub record_all-why-requires-clause-may : goal.record_all-why-requires-clause-may

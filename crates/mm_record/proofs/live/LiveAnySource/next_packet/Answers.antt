@@ -4,10 +4,9 @@ use Rattle.mm_record.proofs.Lives.{live_gave, follows_back}
 use Rattle.mm_record.proofs.live.LiveAnySource.next_packet.Goals as goal
 
 pub returns-then-is_none-clause-gave : goal.returns-then-is_none-clause-gave
-returns-then-is_none-clause-gave g c = λ last follows.
-    live_gave c.args.step c.next-packet.result (g.L.LiveSource.gave c.args.self.now.source)
-    (g.L.LiveSource.gave c.next-packet.new.self) (g.L.LiveSource.gave last.source)
-    c.next-packet.ensures.gave c.next-packet.ensures.others _ last.from follows
+returns-then-is_none-clause-gave g c = λ last follows. live_gave c.args.step c.next-packet.result
+    (g.L.LiveSource.gave c.args.self.now.source) (g.L.LiveSource.gave c.next-packet.new.self)
+    (g.L.LiveSource.gave last.source) c.next-packet.ensures.gave c.next-packet.ensures.others _ last.from follows
     (if_none c.next-packet.result (follows.over c.args.step (omega (arith, c.from-then-is_none.ensures))))
   where
     if_none : {A : Type 0} {P : Type 0} (o : Option A) → P → IfNone o P
