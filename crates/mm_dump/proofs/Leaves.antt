@@ -1,34 +1,24 @@
 -- Workers that are ready, and what a step's dump leaves once they have ended.
-use Rattle.mm_dump.proofs.Words.{◌≡◌, inl, inr, ℕ, ◌+◌, ◌-◌, ◌<◌, ◌≤◌, ◌^◌, ◌==◌, true, List, [], ◌∷◌, ◌++◌, length}
-use Rattle.mm_dump.proofs.Words.{get_or, map, filter, take, All, Contains, refl, sym, ap, subst, ◌∙◌, arith, sum_by}
-use Rattle.mm_dump.proofs.Words.{flat_map, range_with_len, Option, Some, None, cases_lt, ltb-true, length-map}
-use Rattle.mm_dump.proofs.Words.{length-append, length-take, map-append, map-id, append-nil, flat_map-append}
-use Rattle.mm_dump.proofs.Words.{length-flat_map, All-append, All-map, All-nil, All-weaker, Contains-get_or}
-use Rattle.mm_dump.proofs.Words.{filter-append, filter_passes, length-range_with_len, sum_by-append, get_or-le-sum_by}
-use Rattle.mm_dump.proofs.Words.{map-map, Doing, Slotted, view, sum_by-map, sum_by-map-filter, sum_by-same, sum_by-add}
-use Rattle.mm_dump.proofs.Words.{sum_by-le_each, sum_by-flat_map, sum_by_ones, sum_by_zeros, Entry, Held, State, IsRun}
-use Rattle.mm_dump.proofs.Words.{opening_at, StoreLabel, calls_on, list_at, lists_at, all_ends, end_of, ids_of}
-use Rattle.mm_dump.proofs.Words.{names_of, labels_of, AreNew, states_of, HaveLegalLogs, PortView, StoresView}
-use Rattle.mm_dump.proofs.Words.{HasLegalLog, DumpWorker, Order, OrderBroken, QueueView, Course, calls_at, worse}
-use Rattle.mm_dump.proofs.Words.{worst_of, worst_in, CarriesOut, MayDump, Sent, IsHired, IsBack, AllWorked, AreReady}
-use Rattle.mm_dump.proofs.Words.{HasWorked, causes_of, IsNewPort, IsTried, Work, calls_of, has_order, order_at, past_of}
+use Rattle.mm_dump.proofs.Words
+use Words.{◌≡◌, inl, inr, ℕ, ◌+◌, ◌-◌, ◌<◌, ◌≤◌, ◌^◌, ◌==◌, true, List, [], ◌∷◌, ◌++◌, length, get_or, map, filter}
+use Words.{take, All, Contains, refl, sym, ap, subst, ◌∙◌, arith, sum_by, flat_map, range_with_len, Option, Some, None}
+use Words.{cases_lt, ltb-true, length-map, length-append, length-take, map-append, map-id, append-nil, flat_map-append}
+use Words.{length-flat_map, All-append, All-map, All-nil, All-weaker, Contains-get_or, filter-append, filter_passes}
+use Words.{length-range_with_len, sum_by-append, get_or-le-sum_by, map-map, Doing, Slotted, view, sum_by-map}
+use Words.{sum_by-map-filter, sum_by-same, sum_by-add, sum_by-le_each, sum_by-flat_map, sum_by_ones, sum_by_zeros}
+use Words.{Entry, Held, State, IsRun, opening_at, StoreLabel, calls_on, list_at, lists_at, all_ends, end_of, AreNew}
+use Words.{states_of, HaveLegalLogs, PortView, StoresView, HasLegalLog, DumpWorker, Order, OrderBroken, QueueView}
+use Words.{Course, calls_at, worse, worst_of, worst_in, CarriesOut, MayDump, Sent, IsHired, IsBack, AllWorked, AreReady}
+use Words.{HasWorked, causes_of, IsNewPort, IsTried, Work, calls_of, has_order, order_at, past_of, flat_map-map}
 use Rattle.std.proofs.Math.ListN.{get_or-map}
 use Rattle.std.proofs.Math.Seq.{take-append_seam}
-use Rattle.std.proofs.lemmas.List.Folds.{flat_map-map}
 use Rattle.mm_base.proofs.Elements.{All-unmapped}
 use Rattle.mm_desk.proofs.Lone.{lone_log}
 use Rattle.mm_shared.specs.declared.stores.OpenStores.{OpenStores}
 use Rattle.mm_dump.proofs.Finding.{calls_on-calls_of, find, found_calls, here, lone_list}
 use Rattle.mm_dump.proofs.Ordered.{weighs_first, weight_of}
-use Rattle.mm_dump.proofs.Settled.{HaveEnded, IsLine, Line, all_of, carries_out, flat_all, map_same}
-
--- stores with the same labels have the same identifiers
-pub same_ids : (opened : List StoreLabel) (stores : List Held) → names_of opened ≡ labels_of stores
-    → ids_of opened ≡ map (λ (h : Held). h.id) stores
-same_ids opened stores same =
-    let first : List ℕ × ℕ → List ℕ = λ l. l.0 in
-    sym (map-map first (λ (s : StoreLabel). (s.id, s.channel)) opened) ∙ ap (map first) same
-    ∙ map-map first (λ (h : Held). (h.id, h.channel)) stores
+use Rattle.mm_shared.proofs.Lists.{map_same}
+use Rattle.mm_dump.proofs.Settled.{HaveEnded, IsLine, Line, all_of, carries_out, flat_all}
 
 -- a list that was lent whole is back
 pub lent : {X : Type 0} (n : ℕ) (xs rest : List X) → length xs ≡ n → take n (xs ++ rest) ≡ xs
@@ -62,8 +52,7 @@ step_ready {L} sent failed queue opened orders before many links labels ports wo
     })
   where
     as_many : length opened.labels.items ≡ length before
-    as_many = sym (length-map opened.labels.items (λ s. (s.id, s.channel))) ∙ ap length new.labels
-        ∙ length-map before (λ h. (h.id, h.channel))
+    as_many = simp length-map at (ap length new.labels)
 
 -- the link of a worker
 abbrev line_of : {L : Type 0} → Work L → Line L
@@ -159,9 +148,8 @@ module _ {L : Type 0} (sent : L → List Sent) (failed : L → ℕ) (ids : List 
       let calls : List Course → List Entry = flat_map (λ (c : Course). c.calls) in
       let heres : List (List Course) = map (λ w. here p w.courses) works in
       let one = lone_list heres (omega (arith, alone, ap length (here_of p works))) in
-      let lists : map (λ w. list_at w.new_port p) works ≡ map calls heres =
-      map_same (λ w. list_at w.new_port p) (λ w. calls_at p w.courses) works (list_is p)
-      ∙ sym (map-map calls (λ w. here p w.courses) works) in
+      let lists : map (λ w. list_at w.new_port p) works ≡ map calls heres = map_same (λ w. list_at w.new_port p)
+      (λ w. calls_at p w.courses) works (list_is p) ∙ sym (map-map calls (λ w. here p w.courses) works) in
       let at : (seat : ℕ) → get_or (map (λ w. list_at w.new_port p) works) seat [] ≡ calls (get_or heres seat []) =
       λ seat. ap (λ (ls : List (List Entry)). get_or ls seat []) lists ∙ get_or-map calls heres seat [] in
       let log : legal.log ≡ (find p all).calls =
@@ -211,8 +199,7 @@ module _ {L : Type 0} (sent : L → List Sent) (failed : L → ℕ) (ids : List 
   lines_are : All (IsLine sent failed ids (length orders ≤ next)) lines
   lines_are =
       let P = IsLine sent failed ids (length orders ≤ next) in
-      All-append P (map line_of works) (map idle_line idle)
-      (All-map P line_of works (λ i d inside.
+      All-append P (map line_of works) (map idle_line idle) (All-map P line_of works (λ i d inside.
       let is = each i d inside in
       record {
         all = is.advance.all;

@@ -1,10 +1,8 @@
 -- What a store answers to the calls of an order, and what they leave of its state.
 use Rattle.mm_dump.proofs.Words.{◌≡◌, ℕ, List, [], ◌∷◌, ◌++◌, refl, sym, ap, subst, ◌∙◌, zero, suc, All, Option, Some}
-use Rattle.mm_dump.proofs.Words.{None}
-use Rattle.mm_dump.proofs.Words.{Ok, Err, Stored, clock_end, count_up_to, first_in, Entry, Begin, Next, Abort, Delete}
-use Rattle.mm_dump.proofs.Words.{Reply, Fault, State, give, step, begun, given, entry, replay, IsLegal, IsRun}
-use Rattle.mm_dump.proofs.Words.{opening_at}
-use Rattle.mm_dump.proofs.Words.{aborted, IsBrokenOrder, All-head, All-tail, Held, states_of, Order, Ends}
+use Rattle.mm_dump.proofs.Words.{None, Ok, Err, Stored, clock_end, count_up_to, first_in, Entry, Begin, Next, Abort}
+use Rattle.mm_dump.proofs.Words.{Delete, Reply, Fault, State, give, step, begun, given, entry, replay, IsLegal, IsRun}
+use Rattle.mm_dump.proofs.Words.{opening_at, aborted, IsBrokenOrder, All-head, All-tail, Held, states_of, Order, Ends}
 use Rattle.mm_desk.specs.declared.state.Retrieval.{Retrieval}
 use Rattle.mm_desk.specs.declared.reply.Reply.TheVariants as reply
 

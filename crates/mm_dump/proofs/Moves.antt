@@ -1,14 +1,11 @@
 -- Each step of the queue keeps its rule.
-use Rattle.mm_dump.proofs.Words.{◌≡◌, inl, inr, ℕ, zero, suc, ◌+◌, ◌-◌, ◌<◌, ◌≤◌, List, [], ◌∷◌, ◌++◌, length, get_or}
-use Rattle.mm_dump.proofs.Words.{set}
-use Rattle.mm_dump.proofs.Words.{refl, sym, ap, subst, ◌∙◌, arith, sum_by, range_with_len, cases_lt, nil_from_length}
-use Rattle.mm_dump.proofs.Words.{length-range_with_len, sum_by-cons, sum_by-append, sum_by_push, sum_by_range_more}
-use Rattle.mm_dump.proofs.Words.{sum_by_ones, sum_by_zeros, get_or-le-sum_by, All, All-cons, All-nil, All-head}
-use Rattle.mm_dump.proofs.Words.{All-tail}
-use Rattle.mm_dump.proofs.Words.{All-push, QueueView, queue_view, Knows, AreTakenOnce, TakesNext, Tells}
+use Rattle.mm_dump.proofs.Words
+use Words.{◌≡◌, inl, inr, ℕ, zero, suc, ◌+◌, ◌-◌, ◌<◌, ◌≤◌, List, [], ◌∷◌, ◌++◌, length, get_or, set, refl, sym, ap}
+use Words.{subst, ◌∙◌, arith, sum_by, range_with_len, cases_lt, nil_from_length, length-range_with_len, sum_by-cons}
+use Words.{sum_by-append, sum_by_push, sum_by_range_more, sum_by_ones, sum_by_zeros, get_or-le-sum_by, All, All-cons}
+use Words.{All-nil, All-head, All-tail, All-push, QueueView, queue_view, Knows, AreTakenOnce, TakesNext, Tells, All-set}
 use mathlib.Core.Option.{some, some-injective, some-ne-none}
 use lib.ListN.{get_elem?}
-use Rattle.std.proofs.lemmas.List.Elements.{All-set}
 use Rattle.crossbeam_queue.specs.Fifo.{Pushes, Pops, Forks, Merges, Learns}
 use Rattle.mm_base.proofs.Ranges.{range_with_len_more}
 
@@ -74,8 +71,7 @@ others_idle {items} {views} pass v rule at all i d inside =
 
 -- and it has taken all that were
 took_all : {items : List ℕ} {views : List QueueView} (pass : ℕ) (v : QueueView) (rule : AreTakenOnce items views)
-    → get_elem? views pass ≡ some v → v.parts ≡ 1024
-    → (h : ℕ → ℕ) → sum_by h (range_with_len 0 rule.next) ≡ took h v
+    → get_elem? views pass ≡ some v → v.parts ≡ 1024 → (h : ℕ → ℕ) → sum_by h (range_with_len 0 rule.next) ≡ took h v
 took_all {items} {views} pass v rule at all h =
     let idle = sum_by_zeros (took h) (set views pass nothing)
     (λ i d inside. ap (sum_by h) (others_idle pass v rule at all i d inside).1) in
@@ -192,8 +188,7 @@ learns pass v items views rule at =
 
 -- a push of the next number by the pass with all parts, and of 0 where it took all that were pushed
 pub pushes : (room pass : ℕ) (v : QueueView) (x : ℕ) → v.parts ≡ 1024 → length v.taken + x ≡ v.pushed
-    → (0 < x → v.taken ≡ [])
-    → Pushes AreTakenOnce room pass v x (λ w. w ≡ queue_view 1024 (x + 1) [])
+    → (0 < x → v.taken ≡ []) → Pushes AreTakenOnce room pass v x (λ w. w ≡ queue_view 1024 (x + 1) [])
 pushes room pass v x all number none items views within rule at =
     let w = queue_view 1024 (x + 1) [] in
     let count : length items ≡ x = omega (arith, (learns pass v items views rule at).counted all, number) in
@@ -219,8 +214,7 @@ pushes room pass v x all number none items views within rule at =
         elim (cases_lt 0 x) [
           | inl has ↦
               let taken = took_all pass v rule at all (λ (k : ℕ). 1) ∙ sum_by_ones v.taken in
-              let start : rule.next ≡ 0 =
-              omega (arith, taken, counted rule.next, ap length (none has)) in
+              let start : rule.next ≡ 0 = omega (arith, taken, counted rule.next, ap length (none has)) in
               let many : rule.pushed - rule.next ≡ x =
               omega (arith, ap length rule.queued, length-range_with_len rule.next (rule.pushed - rule.next), count) in
               rule.queued ∙ (λ i. range_with_len (start i) (many i))

@@ -1,13 +1,13 @@
 -- One order carried out: its begin, its packets, and its end.
 use Rattle.mm_dump.proofs.Words.{◌≡◌, ℕ, List, [], ◌∷◌, ◌++◌, map, refl, sym, ap, ◌∙◌, append_assoc, arith}
-use Rattle.mm_dump.proofs.Words.{length-append, ◌+◌, ◌<◌, ◌≤◌, length, subst, Some, Ok, Option, None}
-use Rattle.mm_dump.proofs.Words.{append-nil, map-append, Stored, Entry, Event, Reply, Begin, Next, Abort, Delete, State}
-use Rattle.mm_dump.proofs.Words.{given, last_time, begun, ended, removed, entry, clock_end, PortView, with_call}
-use Rattle.mm_dump.proofs.Words.{OrderStore, Progress, CallsOnce, Deletes, Advances, Ends, Retrieves, with_calls}
-use Rattle.mm_dump.proofs.Words.{BreaksOff, SentAll, last_of, OrderCarriedOut, order_store, id_at, Sent, all_sent}
-use Rattle.mm_dump.proofs.Words.{le-ltb, lt-ltb, Order, OrderBroken, aborted, unsent_at, IsLegal}
-use Rattle.mm_desk.specs.declared.reply.Reply.TheVariants as reply
+use Rattle.mm_dump.proofs.Words.{length-append, ◌+◌, ◌<◌, ◌≤◌, length, subst, Some, Ok, Option, None, append-nil}
+use Rattle.mm_dump.proofs.Words.{map-append, Stored, Entry, Event, Reply, Begin, Next, Abort, Delete, State, given}
+use Rattle.mm_dump.proofs.Words.{last_time, ended, removed, entry, clock_end, PortView, with_call, OrderStore, Progress}
+use Rattle.mm_dump.proofs.Words.{CallsOnce, Deletes, Advances, Ends, Retrieves, with_calls, BreaksOff, SentAll, last_of}
+use Rattle.mm_dump.proofs.Words.{OrderCarriedOut, order_store, id_at, Sent, all_sent, le-ltb, lt-ltb, Order}
+use Rattle.mm_dump.proofs.Words.{OrderBroken, aborted, unsent_at, IsLegal}
 use Rattle.mm_dump.proofs.Leaving.{retrieval_calls, deletes, abort_ends, over_ends}
+use Rattle.mm_desk.specs.declared.reply.Reply.TheVariants as reply
 
 -- a call whose reply is known
 pub calls_once : (place : ℕ) (event : Event) (old new : PortView) (r : Reply) → new ≡ with_call old place event r

@@ -1,15 +1,13 @@
 -- What a step's dump leaves, from what was carried out over each link and what became of the stores.
-use Rattle.mm_dump.proofs.Words.{◌≡◌, ℕ, ◌+◌, ◌<◌, ◌≤◌, ◌==◌, List, [], ◌∷◌, ◌++◌, length, get_or, map, take, All}
-use Rattle.mm_dump.proofs.Words.{Contains, refl, sym, ap, subst, ◌∙◌, length-append, arith, sum_by, flat_map, Option}
-use Rattle.mm_dump.proofs.Words.{None, get_or-map, length-map, take_all, length-flat_map, All-nil}
-use Rattle.mm_dump.proofs.Words.{All-cons, All-head, All-tail, All-append, All-contains, All-map, sum_by-take-le}
-use Rattle.mm_dump.proofs.Words.{length-filter, map-map, All-front, All-back, sum_by-map, sum_by-same, sum_by-add}
-use Rattle.mm_dump.proofs.Words.{sum_by-le_each, sum_by-flat_map, Stored, Held, State, IsRun, opening_at, id_at}
-use Rattle.mm_dump.proofs.Words.{states_of, Order, OrderBroken, Course, IsCourse, AreCourses, worst_of, worst_in}
-use Rattle.mm_dump.proofs.Words.{sent_by, failed_by, spent_by, MayDump, AllKept, HasTaken, HasTried, IsOrderFor}
-use Rattle.mm_dump.proofs.Words.{AllSettled, AllTaken, CarriesOut, amount_of, taken_at, times, used_by}
-use Rattle.mm_dump.proofs.Words.{wanted, Sent, all_sent, IsTried}
-use Rattle.std.proofs.lemmas.List.Folds.{map_fixed}
+use Rattle.mm_dump.proofs.Words
+use Words.{◌≡◌, ℕ, ◌+◌, ◌<◌, ◌≤◌, ◌==◌, List, [], ◌∷◌, ◌++◌, length, get_or, map, take, All, Contains, sym, ap, subst}
+use Words.{◌∙◌, length-append, arith, sum_by, flat_map, Option, None, get_or-map, length-map, take_all, length-flat_map}
+use Words.{All-nil, All-cons, All-head, All-tail, All-append, All-contains, All-map, sum_by-take-le, length-filter}
+use Words.{map-map, All-front, All-back, sum_by-map, sum_by-same, sum_by-add, sum_by-le_each, sum_by-flat_map, Stored}
+use Words.{Held, State, IsRun, opening_at, id_at, states_of, Order, OrderBroken, Course, IsCourse, AreCourses, worst_of}
+use Words.{worst_in, sent_by, failed_by, spent_by, MayDump, AllKept, HasTaken, HasTried, IsOrderFor, AllSettled}
+use Words.{AllTaken, CarriesOut, amount_of, taken_at, times, used_by, wanted, Sent, all_sent, IsTried, map_fixed}
+use Rattle.mm_shared.proofs.Lists.{map_same}
 use Rattle.mm_dump.specs.Dumped.{AllTried}
 use Rattle.mm_dump.proofs.Courses.{course_few, none_broke}
 use Rattle.mm_dump.proofs.Finding.{find, found_again, here, is_found, none_found}
@@ -29,14 +27,6 @@ all_flat P make [] all = All-nil (λ y. All P (make y))
 all_flat P make (y ∷ ys) all =
     All-cons (λ z. All P (make z)) y ys (All-front P (make y) (flat_map make ys) all)
     (all_flat P make ys (All-back P (make y) (flat_map make ys) all))
-
--- two functions that are the same at each element
-pub map_same : {X Y : Type 0} (f g : X → Y) (xs : List X) → All (λ x. f x ≡ g x) xs → map f xs ≡ map g xs
-map_same f g [] same = refl
-map_same f g (x ∷ xs) same =
-    let first = All-head (λ y. f y ≡ g y) x xs same in
-    let rest = map_same f g xs (All-tail (λ y. f y ≡ g y) x xs same) in
-    λ i. first i ∷ rest i
 
 -- what orders sent, and what failed, is what they spent
 spent_is : (ids : List (List ℕ)) (cs : List Course) → length (sent_by ids cs) + failed_by cs ≡ spent_by cs
@@ -74,8 +64,7 @@ abbrev pub all_of : {L : Type 0} → List (Line L) → List Course
 all_of lines = flat_map (λ l. l.courses) lines
 
 -- what is known once all workers have ended: the first orders were carried out, up to some number; what happened to
--- each store; and all
--- orders were taken where there is a link for each
+-- each store; and all orders were taken where there is a link for each
 pub record HaveEnded (orders : List Order) (links : ℕ) (all : List Course) (before after : List State) : Type 0 where
   pub ordered : All (λ (c : Course). Contains orders c.order) all
   pub next : ℕ

@@ -19,8 +19,8 @@ pub use Rattle.mm_desk.specs.declared.reply.Reply.{Reply}
 pub use Rattle.mm_dump.specs.Broken.{aborted, unsent_at, IsBrokenOrder}
 pub use Rattle.mm_dump.specs.Courses.{Course, worse, worst_of, worst_in, IsWhole, EndedAs, IsCourse, AreCourses}
 pub use Rattle.mm_dump.specs.Courses.{failed_by, sent_by, spent_by, calls_at}
-pub use Rattle.mm_dump.specs.Dumped.{MayDump, AllKept, AllTaken, HasTaken, HasTried, IsOrderFor}
-pub use Rattle.mm_dump.specs.Dumped.{AllSettled, CarriesOut, amount_of, places_of, taken_at, times, used_by, wanted}
+pub use Rattle.mm_dump.specs.Dumped.{MayDump, AllKept, AllTaken, HasTaken, HasTried, IsOrderFor, AllSettled, CarriesOut}
+pub use Rattle.mm_dump.specs.Dumped.{amount_of, places_of, taken_at, times, used_by, wanted}
 pub use Rattle.mm_dump.specs.OrderSteps.{Progress, OrderCarriedOut, course_of, OrderStore, CallsOnce, Deletes, Advances}
 pub use Rattle.mm_dump.specs.OrderSteps.{Ends, Retrieves, with_calls, BreaksOff, SentAll, last_of, progress}
 pub use Rattle.mm_dump.specs.OrderSteps.{order_store, IsTried}
@@ -40,22 +40,23 @@ pub use Rattle.mm_shared.specs.Views.{PortView, StoresView, with_call, HasLegalL
 pub use Rattle.mm_shared.specs.declared.label.StoreLabel.{StoreLabel}
 pub use Rattle.mm_store.specs.Content.{clock_end, count_up_to, first_in}
 pub use Rattle.mm_store.specs.declared.stored.Stored.{Stored}
-pub use Rattle.std.proofs.Common.{◌≡◌, ◌≢◌, inl, inr, ℕ, zero, suc, ◌+◌, ◌-◌, ◌<◌, ◌≤◌, List, [], ◌∷◌, ◌++◌}
-pub use Rattle.std.proofs.Common.{length, get_or, set, refl, sym, ap, subst, ◌∙◌, arith, Bool, false, cond, map, filter}
+pub use Rattle.std.proofs.Common.{◌≡◌, ◌≢◌, inl, inr, ℕ, zero, suc, ◌+◌, ◌-◌, ◌<◌, ◌≤◌, List, [], ◌∷◌, ◌++◌, length}
+pub use Rattle.std.proofs.Common.{get_or, set, refl, sym, ap, subst, ◌∙◌, arith, Bool, false, cond, map, filter}
 pub use Rattle.std.proofs.Common.{length-append, true, take, All, ◌^◌, append_assoc, ◌==◌, Contains, eqb, AllPairs, ◌*◌}
 pub use Rattle.std.proofs.Common.{rules, vec_len, vec_capacity, drop}
 pub use Rattle.std.proofs.lemmas.Bool.{cases_lt, lt-ltb, le-ltb, eq-eqb, eqb-true, cases_Bool, ltb-true, ne_eqb}
 pub use Rattle.std.proofs.lemmas.Bool.Decides.{eqb_tells}
-pub use Rattle.std.proofs.lemmas.List.{nil_from_length, append-nil, map-append, get_or_append_left}
-pub use Rattle.std.proofs.lemmas.List.{flat_map_more, map_more, set-get_or, get_or-map, length-map, take_all, map-id}
-pub use Rattle.std.proofs.lemmas.List.{length-take, length-take-le, length-drop, take-append-drop}
+pub use Rattle.std.proofs.lemmas.List.{nil_from_length, append-nil, map-append, get_or_append_left, flat_map_more}
+pub use Rattle.std.proofs.lemmas.List.{map_more, set-get_or, get_or-map, length-map, take_all, map-id, length-take}
+pub use Rattle.std.proofs.lemmas.List.{length-take-le, length-drop, take-append-drop}
 pub use Rattle.std.proofs.lemmas.List.Concat.{length-flat_map, flat_map-append}
 pub use Rattle.std.proofs.lemmas.List.Elements.{All-nil, All-push, filter-append, All-cons, All-append, All-head}
 pub use Rattle.std.proofs.lemmas.List.Elements.{All-tail, All-contains, All-map, All-filter, filter_passes, All-weaker}
-pub use Rattle.std.proofs.lemmas.List.Elements.{Contains-get_or, All-more, All-take}
+pub use Rattle.std.proofs.lemmas.List.Elements.{Contains-get_or, All-more, All-take, All-set}
 pub use Rattle.std.proofs.lemmas.List.FromFn.{length-range_with_len}
 pub use Rattle.std.proofs.lemmas.List.Sums.{sum_by-cons, sum_by-append, sum_by_push, sum_by-take-le, length-filter}
 pub use Rattle.std.proofs.lemmas.List.Sums.{get_or-le-sum_by, sum_by_more}
 pub use Rattle.std.proofs.lemmas.Simd.{map-map}
 pub use Rattle.std.specs.List.{sum_by, range_with_len, flat_map}
 pub use Rattle.std.specs.Prelude.{Option, Some, None, is_some, Ok, Err}
+pub use Rattle.std.proofs.lemmas.List.Folds.{flat_map-map, map_fixed}

@@ -26,8 +26,7 @@ abbrev pub aborted : ℕ → Entry
 aborted seat = entry seat Abort (reply.Done (Ok tt))
 
 -- these calls are an order of at most this many packets, through this seat, which was given these and was then aborted,
--- with
--- nothing deleted
+-- with nothing deleted
 pub record IsBrokenOrder (seat wanted : ℕ) (gave : List Stored) (calls : List Entry) : Type 0 where
   pub most : length gave ≤ wanted
   pub are : calls ≡ begun seat ∷ given seat gave ++ aborted seat ∷ []

@@ -13,8 +13,7 @@ pub record Knows (pushed : ℕ) (v : QueueView) : Type 0 where
   pub no_part : v.parts ≡ 0 → v.taken ≡ []
 
 -- the numbers below some number were taken, each by one pass: they are so, however numbers are weighed; those from it
--- to the last
--- one pushed are queued, in order
+-- to the last one pushed are queued, in order
 pub record AreTakenOnce (items : List ℕ) (views : List QueueView) : Type 0 where
   pub pushed : ℕ
   pub next : ℕ
@@ -31,8 +30,7 @@ pub record TakesNext (v : QueueView) (number : ℕ) (w : QueueView) : Type 0 whe
   pub few : length v.taken < v.pushed
 
 -- what a pass with a part knows of the numbers queued: they are no more than were pushed. The pass with all parts knows
--- that it took the
--- others, which are the numbers below some number, each once
+-- that it took the others, which are the numbers below some number, each once
 pub record Tells (v : QueueView) (items : List ℕ) : Type 0 where
   pub room : 0 < v.parts → length items ≤ v.pushed
   pub counted : v.parts ≡ 1024 → length items + length v.taken ≡ v.pushed

@@ -1,6 +1,5 @@
 -- The workers of a step: as they are before they work and after it, with the queue of the orders' numbers, and what
--- each
--- of them does. No public clause cites this module.
+-- each of them does. No public clause cites this module.
 use Rattle.std.specs.Prelude.{◌≡◌, ℕ, ◌+◌, ◌-◌, ◌<◌, ◌≤◌, ◌^◌, Bool, nat_lt, List, [], ◌++◌, length, map, filter}
 use Rattle.std.specs.Prelude.{flat_map, slice_index_or, sum_by, All, Vec, vec_capacity, Option, Some, None}
 use Rattle.crossbeam_queue.specs.declared.array_queue.Doing.{Doing}
@@ -62,8 +61,7 @@ pub record IsBack {Q A : Type 0} (queue : Slotted (Option ℕ) (Doing ℕ QueueV
   pub bound : w.spent ≤ 2 ^ 48
 
 -- the passes of workers were joined to a pass of the queue, with their parts and with the numbers that they took,
--- however
--- numbers are weighed
+-- however numbers are weighed
 pub record AreBack {Q A : Type 0} (queue : Slotted (Option ℕ) (Doing ℕ QueueView) Q A) (workers : List DumpWorker)
     (old new : Pass ℕ QueueView) : Type 0 where
   pub of : IsPassOf queue new
@@ -132,8 +130,7 @@ HasWorked sent failed ids orders w =
 module _ {L Q A : Type 0} (sent : L → List Sent) (failed : L → ℕ)
     (queue : Slotted (Option ℕ) (Doing ℕ QueueView) Q A) where
   -- there are as many workers as links, one at least, each with a port through which no call was made, and each link
-  -- may
-  -- fail once more
+  -- may fail once more
   pub record AreReady (stores : StoresView) (labels : List StoreLabel) (orders : List Order) (links : List L)
       (ports : List PortView) (workers : List DumpWorker) : Type 0 where
     pub some : 0 < length links

@@ -12,8 +12,7 @@ use std::marker::Model;
 use std::sync::Wait;
 
 /// A queue for the numbers of `MAX_STORES` orders and of one more for each of `MAX_SEATS` workers, and room for these
-/// workers. Between dumps
-/// no worker is hired. Contracts see nothing of it: any dump may use it.
+/// workers. Between dumps no worker is hired. Contracts see nothing of it: any dump may use it.
 #[derive(Drop)]
 pub struct DumpBuffers {
     pub(crate) queue: OrderQueue,

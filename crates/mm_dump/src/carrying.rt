@@ -50,8 +50,7 @@ fn abort<R: Wait>(context: &OrderContext<'_, R>, port: &mut Port)
 
 // Sends the packets of a retrieval, this many or as many as there are, and ends it. A block of the window is spent for
 // each. Gives the time of the last one, where one was sent. Where there is no memory for a copy, or the link does not
-// take
-// a packet, the retrieval is aborted. A refused call, which never comes, is told as out of memory.
+// take a packet, the retrieval is aborted. A refused call, which never comes, is told as out of memory.
 fn send_all<L: Link, R: Wait>(
     context: &OrderContext<'_, R>,
     port: &mut Port,
@@ -96,6 +95,7 @@ fn send_all<L: Link, R: Wait>(
 }
 
 // Deletes the packets that were sent, up to the time of the last one.
+#[tactic(auto, using(crate::proofs::OneOrder::calls_once))]
 fn delete_sent<R: Wait>(context: &OrderContext<'_, R>, port: &mut Port, last: Option<u64>)
     requires at { IsPortAt context.now.stores.now context.now.place port.old }
     ensures called { Deletes context.now.place last port.old port.new }

@@ -17,8 +17,7 @@ use std::sync::Wait;
 use std::thread::{Threads, join_mut};
 
 /// What a dump worker has beside its link and its port: its pass of the queue, how many blocks of the window it spent,
-/// and why its
-/// last order broke, where it did.
+/// and why its last order broke, where it did.
 #[derive(Drop)]
 pub(crate) struct DumpWorker {
     pub(crate) pass: OrderPass,
@@ -101,8 +100,7 @@ pub(crate) fn dump_all<L: Link + Send, R: Threads + Wait + Sync>(
 type HalfOfWorkers<'a, L> = (&'a mut [L], &'a mut [Port], &'a mut [DumpWorker]);
 
 // Lets two halves of the workers carry out orders side by side. A function of its own, so that what the closures
-// require is what it
-// is given.
+// require is what it is given.
 #[cycle(halves)]
 fn dump_halves<L: Link + Send, R: Threads + Wait + Sync>(
     context: &DumpContext<'_, R>,

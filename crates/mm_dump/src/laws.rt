@@ -16,6 +16,7 @@ pub fn idle_stores_suit_orders()
 {}
 
 /// Orders of which none broke were all carried out whole: each by one link, once, which sent what its stores gave.
+#[tactic(auto, using(crate::proofs::Unbroken::all_dumped))]
 pub fn settled_orders_without_a_break_are_dumped<L: Link>()
     ensures law { SettledOrdersAreDumped L.sent L.failed }
 {}

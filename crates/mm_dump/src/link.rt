@@ -9,8 +9,7 @@ use thiserror::Error;
 /// A link to the ground, over which a dump sends packets: a mission implements it for its radio.
 ///
 /// Contracts see a link as the list of what was ever sent over it and as the number of sends that failed. A link need
-/// not keep the
-/// packets for that: what its contract speaks of may be a `Snapshot`, which has no bytes.
+/// not keep the packets for that: what its contract speaks of may be a `Snapshot`, which has no bytes.
 ///
 /// # Examples
 ///
@@ -45,8 +44,8 @@ pub trait Link {
     ghost failed: { Self → ℕ };
 
     /// Sends one packet of a store, whole. `time` is its storage time in ticks of the memory's clock. `Ok` says that
-    /// the link took
-    /// the packet, which may then be deleted from its store; `Err` that it sent nothing, and the packet stays stored.
+    /// the link took the packet, which may then be deleted from its store; `Err` that it sent nothing, and the packet
+    /// stays stored.
     fn send(&mut self, store: &StoreId, time: u64, packet: &BlockPacket) -> Result<(), SendFailed>
         requires room { failed self.old < 2 ^ 64 - 1 }
         ensures ok { OnOk result (sent self.new ≡ sent self.old ++ sent_at store.now time packet.now ∷ []) }

@@ -1,8 +1,6 @@
 //! The queue of a step's orders, by their numbers. All numbers are pushed before the workers start, and after those of
-//! the orders
-//! one more for each worker: a number that no order has tells the worker which takes it that no order is left. Each
-//! step uses the
-//! queue again: what the last one left is taken first, and the numbers begin at 0 anew.
+//! the orders one more for each worker: a number that no order has tells the worker which takes it that no order is
+//! left. Each step uses the queue again: what the last one left is taken first, and the numbers begin at 0 anew.
 ghost use Rattle.std.specs.Prelude.{◌≡◌, ℕ, ◌+◌, ◌<◌, ◌≤◌, List, [], ◌∷◌, ◌++◌, length, IfOk};
 ghost use Rattle.crossbeam_queue.specs.Passes.{view, IsPassOf, ruled_capacity};
 ghost use Rattle.mm_dump.specs.Queue.{queue_view, Tells};
@@ -16,8 +14,7 @@ use std::collections::LinkedList;
 use std::sync::Wait;
 
 /// What a pass of the queue knows: its parts of the right to know the whole, how many numbers were pushed, and which of
-/// them it
-/// took. No value of it is made.
+/// them it took. No value of it is made.
 pub struct QueueView {
     pub parts: u64,
     pub pushed: u64,

@@ -19,8 +19,7 @@ use std::sync::Wait;
 use std::thread::Threads;
 
 /// What a step's dump did: the worst cause for which an order broke, if one broke, and how many blocks of the pass
-/// window
-/// it spent: one for each packet sent, and one for each send that failed.
+/// window it spent: one for each packet sent, and one for each send that failed.
 #[derive(Clone, Copy, Debug, PartialEq, Eq)]
 pub struct Dumped {
     pub broken: Option<OrderBroken>,
@@ -47,12 +46,10 @@ fn spent_by(workers: &[DumpWorker]) -> u64
 }
 
 /// Carries out a step's dump orders, of which no two name one store, over stores that are open: each link gets a
-/// worker,
-/// as far as there are orders. It takes orders from one queue until none is left, and sends the packets of each before
-/// it
-/// deletes them. A worker whose order breaks takes no further one, and the others go on. A store is locked during a
-/// call
-/// on it and not during a send. Nothing but a packet's copy takes memory. Without orders no worker is needed.
+/// worker, as far as there are orders. It takes orders from one queue until none is left, and sends the packets of each
+/// before it deletes them. A worker whose order breaks takes no further one, and the others go on. A store is locked
+/// during a call on it and not during a send. Nothing but a packet's copy takes memory. Without orders no worker is
+/// needed.
 pub fn dump_open<L: Link + Send, R: Threads + Wait + Sync>(
     rt: &R,
     alloc: Global,

@@ -1,8 +1,8 @@
 use Rattle.mm_dump.proofs.Words.{rules, ◌≡◌, ◌∙◌, ◌+◌, [], ◌∷◌, arith, refl, ap, Ok, Err, Next, with_call, PortView}
-use Rattle.mm_desk.specs.declared.reply.Reply.TheVariants as reply
 use Rattle.mm_dump.proofs.Leaving.{abort_ends, refused_ends}
 use Rattle.mm_dump.proofs.OneOrder.{called, none_so_far, packet_failed, so_far_broken, so_far_full, so_far_more}
 use Rattle.mm_dump.proofs.OneOrder.{so_far_over}
+use Rattle.mm_desk.specs.declared.reply.Reply.TheVariants as reply
 use Rattle.mm_dump.proofs.carrying.send_all.Goals as goal
 
 pub loop-init : goal.loop-init

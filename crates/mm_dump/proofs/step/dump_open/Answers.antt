@@ -3,8 +3,9 @@ use Rattle.mm_dump.proofs.Words.{refl, sym, ap, subst, ◌∙◌, arith, sum_by,
 use Rattle.mm_dump.proofs.Words.{length-map, take-append-drop, nil_from_length, All-take, view, Held, states_of}
 use Rattle.mm_dump.proofs.Words.{stores_in, all_ends, names_of, HaveLegalLogs, PortView, DumpWorker, worst_of}
 use Rattle.mm_dump.proofs.Words.{CarriesOut, Tells, IsHired, IsBack, AreBack, AreReady, causes_of}
+use Rattle.mm_shared.proofs.Opening.{ids_open, same_many}
 use Rattle.mm_shared.proofs.StillOpen.{still_open}
-use Rattle.mm_dump.proofs.Leaves.{all_back, ends_same, lent, nothing, same_ids, step_leaves, step_ready}
+use Rattle.mm_dump.proofs.Leaves.{all_back, ends_same, lent, nothing, step_leaves, step_ready}
 use Rattle.mm_dump.proofs.step.dump_open.Goals.{After-deref_mut-2, After-dump_all}
 use Rattle.mm_dump.proofs.step.dump_open.Given as given
 use Rattle.mm_dump.proofs.step.dump_open.Goals as goal
@@ -104,17 +105,15 @@ returns-clause-carried g c =
     c.learn_taken.ensures.taken.1 in
     let whole : (view c.join_passes.new.pass).parts ≡ 1024 =
     omega (arith, joined.parts, c.hire.ensures.hired.parts, c.dump_all.auto.workers, workers g b) in
-    let total : (weight : ℕ → ℕ) → sum_by weight (range_with_len 0 tells.next)
-    ≡ sum_by (λ (w : DumpWorker). sum_by weight (view w.pass).taken) c.dump_all.new.workers =
-    λ weight.
-    omega (arith, tells.each whole weight, joined.taken weight, ap (sum_by weight) c.hire.ensures.hired.none) in
+    let total : (weight : ℕ → ℕ) → sum_by weight (range_with_len 0 tells.next) ≡ sum_by
+    (λ (w : DumpWorker). sum_by weight (view w.pass).taken) c.dump_all.new.workers = λ weight. omega
+    (arith, tells.each whole weight, joined.taken weight, ap (sum_by weight) c.hire.ensures.hired.none) in
     let labels = c.settle.ensures.labels ∙ opened.labels in
-    let label : Held → List ℕ × ℕ = λ h. (h.id, h.channel) in
     let count : length (states_of after) ≡ length before = length-map after (λ (h : Held). h.state)
-    ∙ sym (length-map after label) ∙ ap length labels ∙ length-map before label in
+    ∙ same_many after before labels in
     let logs = subst (λ (T : Type 0). T) (λ i. HaveLegalLogs (ports i) (opened.states i) (states_of after))
     c.settle.ensures.logs in
-    let ids = same_ids c.deref.result.now before (ap names_of c.deref.ensures.value ∙ opened.labels) in
+    let ids = ids_open c.deref.result.now before (ap names_of c.deref.ensures.value ∙ opened.labels) in
     let few : 0 < length idle → length c.args.orders.now ≤ length (take many c.args.links.now) =
     λ some. omega (arith, some, length-drop many c.args.links.now, busy g b, c.min-many.ensures) in
     subst (λ (T : Type 0). T)
