@@ -1,26 +1,20 @@
 -- What became of the packets of a run: a log of offers, the log's seats, a step run, and then one step after another.
-use Rattle.std.proofs.Common.{◌≡◌, ◌≢◌, ◌⊎◌, inl, inr, ℕ, zero, suc, ◌+◌, ◌-◌, ◌<◌, ◌≤◌, List, [], ◌∷◌, ◌++◌, length}
-use Rattle.std.proofs.Common.{get_or, refl, sym, ap, subst, ◌∙◌, arith, append_assoc}
-use Rattle.mm_carry.proofs.Words.{cases_lt, cases_eq, eq-eqb, ne_eqb, append-nil, map-append, nil_from_length}
-use Rattle.mm_carry.proofs.Words.{All-head, All-nil, All-tail, flat_map-map, fill_by_all, IsPermutation-refl}
-use Rattle.mm_carry.proofs.Words.{IsPermutation-sym}
-use Rattle.mm_carry.proofs.Words.{IsPermutation-trans, IsPermutation-append_left, IsPermutation-append_right}
-use Rattle.mm_carry.proofs.Words.{IsPermutation-append_comm, range_with_len, Ok, flat_map, IsPermutation, SpacePacket}
-use Rattle.mm_carry.proofs.Words.{Dumping, Amounts, IsRising, Stored, ReplaysKeepStates, OffersLeave}
-use Rattle.mm_carry.proofs.Words.{OrdersDumpTheOldest, State, IsState, step, IsTaken, AreTaken, asked}
-use Rattle.mm_carry.proofs.Words.{IsShuffleOfEvents, replay, IsLegal, AreBelow, part, Entry, Event, Offer, IsRunOf}
-use Rattle.mm_carry.proofs.Words.{IsStepRun, AreTimed}
+use Rattle.mm_carry.proofs.Words
+use Words.{cases_lt, cases_eq, eq-eqb, ne_eqb, append-nil, map-append, nil_from_length, All-head, All-nil, All-tail}
+use Words.{flat_map-map, fill_by_all, IsPermutation-refl, IsPermutation-sym, IsPermutation-trans}
+use Words.{IsPermutation-append_left, IsPermutation-append_right, IsPermutation-append_comm, range_with_len, Ok}
+use Words.{flat_map, IsPermutation, SpacePacket, Dumping, Amounts, IsRising, Stored, ReplaysKeepStates, OffersLeave}
+use Words.{OrdersDumpTheOldest, State, IsState, step, IsTaken, AreTaken, asked, IsShuffleOfEvents, replay, IsLegal}
+use Words.{AreBelow, part, Entry, Event, Offer, IsRunOf, IsStepRun, AreTimed, ◌≡◌, ◌≢◌, ◌⊎◌, inl, inr, ℕ, zero, suc}
+use Words.{◌+◌, ◌-◌, ◌<◌, ◌≤◌, List, [], ◌∷◌, ◌++◌, length, get_or, refl, sym, ap, subst, ◌∙◌, arith, append_assoc}
+use Words.{packet_in, packets_in, packets_offered, over_steps, AreAskedIn, HaveLeft, IsAccounted, BoundedLoseNew}
+use Words.{CircularLoseOldest, GiveLater, Reply, joined}
 use Rattle.mm_carry.proofs.RangeLists.{flat_map_range_same}
-use Rattle.mm_desk.specs.declared.reply.Reply.{Reply}
-use Rattle.mm_desk.specs.declared.reply.Reply.TheVariants as reply
 use Rattle.mm_desk.specs.Fates.{packets_of, accepted, taken, given, given_up, deleted, after, over, ConservePackets}
-use Rattle.mm_desk.specs.Losses.{BoundedLoseNew, CircularLoseOldest, GiveLater}
-use Rattle.mm_desk.proofs.FateLemmas.{joined, over-append}
-use Rattle.mm_carry.specs.Accounts.{packet_in, packets_in, packets_offered, over_steps, AreAskedIn, HaveLeft}
-use Rattle.mm_carry.specs.Accounts.{IsAccounted}
-use Rattle.mm_carry.proofs.DumpLemmas.{replayed, over_both, dump_does, none_left, after-append, left_more}
+use Rattle.mm_carry.proofs.DumpLemmas.{replayed, over_both, dump_does, none_left, after-append, left_more, over_then}
 use Rattle.mm_carry.proofs.Replays.{IsLegal-parts, replay-append}
 use Rattle.mm_carry.proofs.Stepping.{halves, stands}
+use Rattle.mm_desk.specs.declared.reply.Reply.TheVariants as reply
 
 -- what an offer that is taken takes, deletes and gives
 record TakesAlone (s : State) (event : Event) : Type 0 where
@@ -51,10 +45,9 @@ takes_all s (e ∷ es) legal all =
     let here = by_event s e.event e.reply (All-head (λ (x : Entry). IsTaken x.event x.reply) e es all) legal.0 in
     let rest = takes_all (step s e.event).1 es legal.1 (All-tail (λ (x : Entry). IsTaken x.event x.reply) e es all) in
     record {
-      takes = ap (λ l. l ++ over taken (step s e.event).1 (asked es)) here.takes ∙ ap (λ l. packet_in e.event ++ l)
-          rest.takes;
-      deletes = ap (λ l. l ++ over deleted (step s e.event).1 (asked es)) here.deletes ∙ rest.deletes;
-      gives = ap (λ l. l ++ over given (step s e.event).1 (asked es)) here.gives ∙ rest.gives;
+      takes = λ i. here.takes i ++ rest.takes i;
+      deletes = λ i. here.deletes i ++ rest.deletes i;
+      gives = λ i. here.gives i ++ rest.gives i;
     }
 
 module _ {X : Type 0} (f g : ℕ → List X) (x : List X) (j : ℕ) (here : f j ≡ x ++ g j) (others : (k : ℕ) → k ≢ j → f k
@@ -121,6 +114,27 @@ record StepAccounts (s t : State) (came : List SpacePacket) (gave : List Stored)
   gives : over given s es ≡ gave
   gone : HaveLeft s es gave
 
+-- one step run after another
+accounts_then : GiveLater → (s mid t : State) (came more : List SpacePacket) (gave now : List Stored)
+    (es fs : List Event) → IsState s → StepAccounts s mid came gave es → StepAccounts mid t more now fs
+    → StepAccounts s t (came ++ more) (gave ++ now) (es ++ fs)
+accounts_then later s mid t came more gave now es fs sound first second = record {
+  packets = rw (map-append (λ (p : Stored). p.packet) gave now, over_then given_up s mid es fs first.leads)
+      (joined (packets_of s.store.content) _ _ (packets_of mid.store.content) _ _ _ _ _ first.packets second.packets);
+  leads = second.leads ∙ ap (λ (u : State). after u fs) first.leads ∙ sym (after-append s es fs);
+  gives = over_then given s mid es fs first.leads ∙ (λ i. first.gives i ++ second.gives i);
+  gone = left_more later s es fs gave now sound first.gone
+      (subst (λ (u : State). HaveLeft u fs now) first.leads second.gone);
+}
+
+-- the packets of what was given step after step
+packets_over : (gave : ℕ → List Stored) (n : ℕ)
+    → packets_of (over_steps gave n) ≡ over_steps (λ t. packets_of (gave t)) n
+packets_over gave zero = refl
+packets_over gave (suc n) =
+    map-append (λ (p : Stored). p.packet) (over_steps gave n) (gave (suc n))
+    ∙ ap (λ (ps : List SpacePacket). ps ++ packets_of (gave (suc n))) (packets_over gave n)
+
 -- before the first step nothing was asked
 pub none_asked : (offers : ℕ → List (List Event)) (s : State) → IsAccounted 0 offers (λ t. []) (λ t. s)
 none_asked offers s = record {
@@ -131,8 +145,8 @@ none_asked offers s = record {
   events = λ t. [];
   history = record {
     runs = λ t first last. absurd (omega arith);
-    leads = λ t last. no_time t (omega arith);
-    gives = λ t last. no_gift t (omega arith);
+    leads = λ t last. let none : t ≡ 0 = omega arith in rw none refl;
+    gives = λ t last. let none : t ≡ 0 = omega arith in rw none refl;
     gone = none_left s [];
   };
   loses = record {
@@ -141,12 +155,6 @@ none_asked offers s = record {
     circular = λ kind. record { lost = refl; older = All-nil _ };
   };
 }
-  where
-    no_time : (t : ℕ) → t ≡ 0 → s ≡ after s (over_steps (λ t. []) t)
-    no_time t none = rw none refl
-
-    no_gift : (t : ℕ) → t ≡ 0 → over_steps {X = Stored} (λ t. []) t ≡ over given s (over_steps (λ t. []) t)
-    no_gift t none = rw none refl
 
 -- a step is one of those from the first on
 from_one : (t : ℕ) → 0 < t → 1 ≤ t
@@ -155,8 +163,7 @@ from_one t some = omega arith
 module _ (conserve : ConservePackets) (leave : OffersLeave) (keep : ReplaysKeepStates)
     (dump : OrdersDumpTheOldest) (later : GiveLater) where
   step_accounts : (s t : State) (offers : List (List Event)) (wanted : ℕ) (gave : List Stored) → IsState s
-      → AreTimed offers
-      → (is : IsStepRun offers wanted gave s t)
+      → AreTimed offers → (is : IsStepRun offers wanted gave s t)
       → StepAccounts s t (packets_offered offers) gave (asked (is.recorded ++ is.dumped))
   step_accounts s t offers wanted gave sound timed is =
       let mid = replay s is.recorded in
@@ -165,8 +172,7 @@ module _ (conserve : ConservePackets) (leave : OffersLeave) (keep : ReplaysKeepS
       let log = conserve s (asked is.recorded) in
       let lost = over given_up s (asked is.recorded) in
       let held : IsPermutation (packets_of s.store.content ++ packets_in (asked is.recorded))
-      (packets_of mid.store.content ++ lost) =
-      rw (takes.deletes, replayed s is.recorded, takes.takes) at log.packets in
+      (packets_of mid.store.content ++ lost) = rw (takes.deletes, replayed s is.recorded, takes.takes) at log.packets in
       let oldest = parts.dumps.oldest in
       let split : packets_of mid.store.content ≡ packets_of gave ++ packets_of t.store.content =
       ap packets_of oldest ∙ map-append (λ (p : Stored). p.packet) gave t.store.content in
@@ -194,13 +200,6 @@ module _ (conserve : ConservePackets) (leave : OffersLeave) (keep : ReplaysKeepS
             (left_more later s (asked is.recorded) (asked is.dumped) [] gave sound (none_left s (asked is.recorded))
             (subst (λ (u : State). HaveLeft u (asked is.dumped) gave) (sym (replayed s is.recorded)) does.gone));
       }
-
-  -- a step run by these events
-  step_by : (s t : State) (offers : List (List Event)) (gave : List Stored) → IsState s → AreTimed offers
-      → (es : List Event) → AreAskedIn offers gave s t es → StepAccounts s t (packets_offered offers) gave es
-  step_by s t offers gave sound timed es here =
-      subst (StepAccounts s t (packets_offered offers) gave) (sym here.2)
-      (step_accounts s t offers here.0 gave sound timed here.1)
 
   module _ (new : BoundedLoseNew) (oldest : CircularLoseOldest) (q : Dumping) (x : Amounts) (steps : ℕ)
       (offers : ℕ → ℕ → List (List Event)) (gave : ℕ → ℕ → List Stored) (states : ℕ → ℕ → State)
@@ -233,56 +232,19 @@ module _ (conserve : ConservePackets) (leave : OffersLeave) (keep : ReplaysKeepS
     begun = states s 0
 
     -- what is known after some of the steps
-    record Told (n : ℕ) : Type 0 where
-      packets : IsPermutation (packets_of begun.store.content ++ over_steps (λ t. packets_offered (offers s t)) n)
-          (over_steps (λ t. packets_of (gave s t)) n ++ packets_of (states s n).store.content
-          ++ over given_up begun (over_steps events n))
-      leads : states s n ≡ after begun (over_steps events n)
-      gives : over_steps (gave s) n ≡ over given begun (over_steps events n)
-      gone : HaveLeft begun (over_steps events n) (over_steps (gave s) n)
-
-    -- what the events of one step more do
-    joins : {X : Type 0} (each : State → Event → List X) (n : ℕ) → Told n
-        → over each begun (over_steps events (suc n))
-        ≡ over each begun (over_steps events n) ++ over each (states s n) (events (suc n))
-    joins each n before =
-        over-append each begun (over_steps events n) (events (suc n))
-        ∙ ap (λ (u : State). over each begun (over_steps events n) ++ over each u (events (suc n))) (sym before.leads)
-
-    told_more : (n : ℕ) → Told n → StepAccounts (states s n) (states s (suc n)) (packets_offered (offers s (suc n)))
-        (gave s (suc n)) (events (suc n)) → Told (suc n)
-    told_more n before here =
-        let es = over_steps events n in
-        let now = events (suc n) in
-        let gives = sym here.gives in
-        record {
-          packets = subst (λ l. IsPermutation (packets_of begun.store.content
-              ++ over_steps (λ t. packets_offered (offers s t)) (suc n))
-              (over_steps (λ t. packets_of (gave s t)) (suc n) ++ packets_of (states s (suc n)).store.content ++ l))
-              (sym (joins given_up n before))
-              (joined (packets_of begun.store.content) _ _ (packets_of (states s n).store.content) _ _ _ _ _
-              before.packets here.packets);
-          leads = here.leads ∙ ap (λ (u : State). after u now) before.leads ∙ sym (after-append begun es now);
-          gives = (λ i. before.gives i ++ gives i) ∙ sym (joins given n before);
-          gone = left_more later begun es now (over_steps (gave s) n) (gave s (suc n)) (is.ready s store).sound
-              before.gone (subst (λ (u : State). HaveLeft u now (gave s (suc n))) before.leads here.gone);
-        }
-
-    told : (n : ℕ) → n ≤ steps → Told n
-    told zero within = record {
-      packets = IsPermutation-refl _;
-      leads = refl;
-      gives = refl;
-      gone = none_left begun [];
-    }
+    told : (n : ℕ) → n ≤ steps → StepAccounts begun (states s n) (over_steps (λ t. packets_offered (offers s t)) n)
+        (over_steps (gave s) n) (over_steps events n)
+    told zero within =
+        record { packets = IsPermutation-refl _; leads = refl; gives = refl; gone = none_left begun [] }
     told (suc n) within =
-        let before = told n (omega arith) in
         let stood = stands leave keep dump q x steps offers gave states is s n store (omega arith) in
         let back : suc n - 1 ≡ n = omega arith in
-        let here = subst (λ (m : ℕ). AreAskedIn (offers s (suc n)) (gave s (suc n)) (states s m) (states s (suc n))
-        (events (suc n))) back (made (suc n) (omega arith) within) in
-        told_more n before (step_by (states s n) (states s (suc n)) (offers s (suc n)) (gave s (suc n)) stood.sound
-        (is.timed s (suc n) store (omega arith) within) (events (suc n)) here)
+        let here = rw back at (made (suc n) (omega arith) within) in
+        accounts_then later begun (states s n) (states s (suc n)) _ _ _ _ (over_steps events n) (events (suc n))
+        (is.ready s store).sound (told n (omega arith))
+        (subst (StepAccounts (states s n) (states s (suc n)) (packets_offered (offers s (suc n))) (gave s (suc n)))
+        (sym here.2) (step_accounts (states s n) (states s (suc n)) (offers s (suc n)) here.0 (gave s (suc n))
+        stood.sound (is.timed s (suc n) store (omega arith) within) here.1))
 
     pub accounted : IsAccounted steps (offers s) (gave s) (states s)
     accounted =
@@ -290,14 +252,14 @@ module _ (conserve : ConservePackets) (leave : OffersLeave) (keep : ReplaysKeepS
         let es = over_steps events steps in
         record {
           lost = over given_up begun es;
-          packets = all.packets;
+          packets = rw (← packets_over (gave s) steps) all.packets;
           counted = ap (λ (u : State). u.lost) all.leads ∙ (conserve begun es).lost;
           rising = all.gone.rising;
           events = events;
           history = record {
             runs = made;
             leads = λ t last. (told t last).leads;
-            gives = λ t last. (told t last).gives;
+            gives = λ t last. sym (told t last).gives;
             gone = all.gone;
           };
           loses = record {

@@ -1,24 +1,17 @@
 -- What comes beyond the forecast costs no more than itself.
-use Rattle.std.proofs.Common.{◌≡◌, ℕ, zero, suc, ◌+◌, ◌-◌, ◌<◌, ◌≤◌, min, List, length, map, take, refl, ◌∙◌, ap}
-use Rattle.std.proofs.Common.{subst, arith}
-use Rattle.std.proofs.lemmas.List.FromFn.{take-map-range_with_len}
-use Rattle.std.proofs.Common.{add-one}
-use Rattle.mm_base.proofs.RangeSums.{sum_by_range_zeros}
-use Rattle.mm_plan.specs.Volumes.{first_loss}
 use Rattle.mm_carry.specs.Beyond.{AsForecast, LosesAtMost, lost_by_first, more_came}
 use Rattle.mm_carry.specs.Numbers.{planned_counts, report_of, rows_of}
-use Rattle.mm_report.specs.declared.counts.StepCounts.{StepCounts}
 use Rattle.mm_carry.proofs.Words.{sum_by, range_with_len, sum_by_range_more, sum_by_range-le, sum_by_range_same}
-use Rattle.mm_carry.proofs.Words.{sum_by-add, sum_by-map, sum_by-swap, Dumping, arrivals, size, steps, stores, left_start, left_step, Amounts}
-use Rattle.mm_carry.proofs.Words.{left, lost, loss, store_loss, RunInput, as_came}
+use Rattle.mm_carry.proofs.Words.{sum_by-add, sum_by-map, sum_by-swap, Dumping, arrivals, size, steps, stores}
+use Rattle.mm_carry.proofs.Words.{left_start, left_step, Amounts, left, lost, loss, store_loss, RunInput, as_came, ◌≡◌}
+use Rattle.mm_carry.proofs.Words.{ℕ, zero, suc, ◌+◌, ◌-◌, ◌<◌, ◌≤◌, min, List, length, map, take, refl, ◌∙◌, ap, subst}
+use Rattle.mm_carry.proofs.Words.{arith, add-one, take-map-range_with_len, sum_by_range_zeros, first_loss, StepCounts}
 use Rattle.mm_carry.proofs.Counters.{came_at}
 
 -- a sum over one step more
 sum_next : (f : ℕ → ℕ) (n : ℕ) → sum_by f (range_with_len 1 (suc n)) ≡ sum_by f (range_with_len 1 n) + f (suc n)
 sum_next f n =
-    subst
-    (λ k. sum_by f (range_with_len 1 k) ≡ sum_by f (range_with_len 1 n) + f k)
-    (add-one n)
+    subst (λ k. sum_by f (range_with_len 1 k) ≡ sum_by f (range_with_len 1 n) + f k) (add-one n)
     (sum_by_range_more f 1 n (n + 1) (omega arith))
 
 -- of a step, what is lost, and what is left

@@ -1,18 +1,16 @@
 -- What comes in a run in place of the forecast, and what the stores' counters rise by over a step and over a run,
 -- beside the rows of the report.
-use Rattle.std.proofs.Common.{◌≡◌, ℕ, ◌+◌, ◌-◌, ◌<◌, ◌≤◌, List, length, map, refl, sym, ap, ◌∙◌, arith, take, ◌*◌, ◌^◌}
-use Rattle.std.proofs.Common.{[], ◌∷◌, get_or, length-append}
 use Rattle.std.specs.Prelude.{sum_by, slice_index, flat_map}
 use Rattle.mm_carry.proofs.Stepping.{grown, timed_by}
-use Rattle.mm_shared.specs.declared.counters.StoreCounters.{StoreCounters}
 use Rattle.std.proofs.lemmas.List.Concat.{get_or-flat_map}
-use Rattle.mm_carry.proofs.Words.{length-take-le, get_or-take, fill_by_all, get_or-map-range_with_len}
-use Rattle.mm_carry.proofs.Words.{length-map-range_with_len, get_or-range_with_len, length-range_with_len}
-use Rattle.mm_carry.proofs.Words.{range_with_len, sum_by_range_same, sum_by-add, sum_by-map, sum_by-swap, Dumping}
-use Rattle.mm_carry.proofs.Words.{arrivals, stores, steps, Amounts, left, written, lost, State, opening_at, Held}
-use Rattle.mm_carry.proofs.Words.{states_of, counters_of, StepCounts, AtEach, AsPlanned, counts_from, planned_counts}
-use Rattle.mm_carry.proofs.Words.{row_from, rows_by_counters, counted, AreByCounters, AreCounters, AreStepCounts}
-use Rattle.mm_carry.proofs.Words.{RunInput, store_state, step_of, offered, came, as_came, AreTimed}
+use Rattle.mm_carry.proofs.Words
+use Words.{length-take-le, get_or-take, fill_by_all, get_or-map-range_with_len, length-map-range_with_len}
+use Words.{get_or-range_with_len, length-range_with_len, range_with_len, sum_by_range_same, sum_by-add, sum_by-map}
+use Words.{sum_by-swap, Dumping, arrivals, stores, steps, Amounts, left, written, lost, State, opening_at, Held}
+use Words.{states_of, counters_of, StepCounts, AtEach, AsPlanned, counts_from, planned_counts, row_from}
+use Words.{rows_by_counters, counted, AreByCounters, AreCounters, AreStepCounts, RunInput, store_state, step_of}
+use Words.{offered, came, as_came, AreTimed, ◌≡◌, ℕ, ◌+◌, ◌-◌, ◌<◌, ◌≤◌, List, length, map, refl, sym, ap, ◌∙◌, arith}
+use Words.{take, ◌*◌, ◌^◌, [], ◌∷◌, get_or, length-append, StoreCounters}
 use Rattle.mm_carry.proofs.StoresReady.{all_by}
 
 -- counters of nothing
@@ -110,9 +108,8 @@ came_at m s t store first last =
     let found = get_or-flat_map row (steps m.problem) (t - 1) s 0 0 within wide in
     let place : length (flat_map row before) + s ≡ (t - 1) * n + s =
     ap (λ (k : ℕ). k + s) (rows ∙ ap (λ (k : ℕ). k * n) few) in
-    sym (ap (λ (k : ℕ). get_or (flat_map row (steps m.problem)) k 0) place) ∙ found ∙ ap (λ (u : ℕ). get_or (row u) s 0)
-    step
-    ∙ get_or-map-range_with_len (λ r. came m r t) 0 n s s 0 store (omega arith)
+    sym (ap (λ (k : ℕ). get_or (flat_map row (steps m.problem)) k 0) place) ∙ found ∙ ap
+    (λ (u : ℕ). get_or (row u) s 0) step ∙ get_or-map-range_with_len (λ r. came m r t) 0 n s s 0 store (omega arith)
 
 -- what is offered in a run has moments that fit
 pub timed_offers : (m : RunInput) (s t : ℕ) → m.base + t < 2 ^ 64 → AreTimed (offered m s t)

@@ -1,11 +1,10 @@
 -- What is given in a step that a plan fits, and draws from its window, which is not passed.
-use Rattle.std.proofs.Common.{◌≡◌, inl, inr, ℕ, ◌+◌, ◌*◌, ◌<◌, ◌≤◌, cond, eqb, List, [], ◌∷◌, length, get_or, All, refl}
-use Rattle.std.proofs.Common.{sym, ap, ◌∙◌, arith}
 use Rattle.mm_carry.proofs.Words.{cases_lt, sum_by, count_by, range_with_len, sum_by_filter_range-le, sum_by_range_one}
 use Rattle.mm_carry.proofs.Words.{sum_by_range_same, sum_by_range-le, sum_by-swap, sum_by-same, sum_by_ones}
 use Rattle.mm_carry.proofs.Words.{cond-eqb_same, cond-eqb_other, Dumping, is_of, window, FitsAt, in_step, Amounts}
 use Rattle.mm_carry.proofs.Words.{Stored, Entry, Held, times, RunInput, place_in_memory, IsDumpOf, AreStepRuns}
-use Rattle.mm_carry.proofs.Words.{sent_amounts, taken_amounts}
+use Rattle.mm_carry.proofs.Words.{sent_amounts, taken_amounts, ◌≡◌, inl, inr, ℕ, ◌+◌, ◌*◌, ◌<◌, ◌≤◌, cond, eqb, List}
+use Rattle.mm_carry.proofs.Words.{[], ◌∷◌, length, get_or, All, refl, sym, ap, ◌∙◌, arith}
 use Rattle.mm_carry.specs.Draws.{AreDrawsOf, MeetNoRefusal}
 
 -- draws that the window has room for meet no refusal
@@ -25,8 +24,7 @@ by_store n draws known =
     one_store : (d : ℕ) → d < n → sum_by (λ (s : ℕ). cond (eqb d s) 1 0) (range_with_len 0 n) ≡ 1
     one_store d within =
         sum_by_range_one (λ (s : ℕ). cond (eqb d s) 1 0) 0 n d (omega arith) (omega arith)
-        (λ s from to other. cond-eqb_other d s 1 (λ same. other (sym same)))
-        ∙ cond-eqb_same d d 1 refl
+        (λ s from to other. cond-eqb_other d s 1 (λ same. other (sym same))) ∙ cond-eqb_same d d 1 refl
 
 -- an order is given no more than it wants
 given_within : (wanted : ℕ) (gave : List Stored) (calls : List Entry) → IsDumpOf wanted gave calls → length gave
@@ -80,9 +78,8 @@ taken_fits m steps stores gave took are t first last once fits =
 
 -- the draws of a step that a plan fits meet no refusal
 pub no_refusal : (q : Dumping) (x : Amounts) (t : ℕ) (gave : ℕ → List Stored) (calls : ℕ → List Entry) (draws : List ℕ)
-    → FitsAt q x t → ((s : ℕ) → s < length q.rows → IsDumpOf (x s t) (gave s) (calls s)) → AreDrawsOf (length q.rows)
-    gave draws
-    → MeetNoRefusal (window q t) 0 draws
+    → FitsAt q x t → ((s : ℕ) → s < length q.rows → IsDumpOf (x s t) (gave s) (calls s))
+    → AreDrawsOf (length q.rows) gave draws → MeetNoRefusal (window q t) 0 draws
 no_refusal q x t gave calls draws fits orders are =
     let n = length q.rows in
     let many = by_store n draws are.known in

@@ -1,37 +1,36 @@
 -- What a dump gives, and what has left its store.
-use Rattle.std.proofs.Common.{◌≡◌, inl, inr, ℕ, ◌<◌, ◌≤◌, ltb, leb, List, [], ◌∷◌, ◌++◌, length, All, Contains}
-use Rattle.std.proofs.Common.{refl, sym, ap, subst, ◌∙◌, arith, append_assoc, length-append}
-use Rattle.std.proofs.lemmas.Bool.{le-leb}
 use Rattle.std.proofs.lemmas.List.Elements.{All-append, All-contains, All-contains_itself, Contains-append_left}
 use Rattle.std.proofs.lemmas.List.Elements.{Contains-append_right}
-use Rattle.mm_base.proofs.Pairs.{AllPairs-append, AllPairs-head, AllPairs-tail}
-use Rattle.mm_carry.proofs.Words.{cases_lt, cond_both, append-nil, map-append, get_or_append_left, All-nil, All-cons}
-use Rattle.mm_carry.proofs.Words.{All-head, All-tail, All-weaker, Ok, filter, flat_map, IsRising, Stored, State}
-use Rattle.mm_carry.proofs.Words.{IsState, step, asked, IsLegal, replay, Entry, Event, IsDumpOf}
+use Rattle.mm_carry.proofs.Words
+use Words.{cases_lt, cond_both, append-nil, map-append, get_or_append_left, All-nil, All-cons, All-head, All-tail}
+use Words.{All-weaker, Ok, filter, flat_map, IsRising, Stored, State, IsState, step, asked, IsLegal, replay, Entry}
+use Words.{Event, IsDumpOf, ◌≡◌, inl, inr, ℕ, ◌<◌, ◌≤◌, ltb, leb, List, [], ◌∷◌, ◌++◌, length, All, Contains, refl, sym}
+use Words.{ap, subst, ◌∙◌, arith, append_assoc, length-append, le-leb, AllPairs-append, AllPairs-head, AllPairs-tail}
+use Words.{aborted, IsBrokenOrder, HaveLeft, IsOlder, taken_out, GiveLater, Reply, over-append}
 use Rattle.mm_desk.specs.declared.event.Event.TheVariants.{Next, Delete}
-use Rattle.mm_desk.specs.declared.reply.Reply.{Reply}
-use Rattle.mm_desk.specs.declared.reply.Reply.TheVariants as reply
 use Rattle.mm_desk.specs.Fates.{found_in, given, after, over}
-use Rattle.mm_desk.specs.Losses.{IsOlder, taken_out, GiveLater}
 use Rattle.mm_desk.specs.Orders.{begun, ended, last_time, removed, given as giving, IsOrderOf}
 use Rattle.mm_desk.proofs.Cases.{IsQuiet, delete_cases, quiet_leaves}
-use Rattle.mm_desk.proofs.FateLemmas.{over-append}
-use Rattle.mm_dump.specs.Broken.{aborted, IsBrokenOrder}
-use Rattle.mm_carry.specs.Accounts.{HaveLeft}
 use Rattle.mm_carry.proofs.Replays.{IsLegal-parts}
+use Rattle.mm_desk.specs.declared.reply.Reply.TheVariants as reply
 
 -- what was asked in a log leads to its replay
 pub replayed : (s : State) (log : List Entry) → after s (asked log) ≡ replay s log
 replayed s [] = refl
 replayed s (e ∷ es) = replayed (step s e.event).1 es
 
+-- what events do, and what others do from where they lead
+pub over_then : {X : Type 0} (each : State → Event → List X) (s mid : State) (es fs : List Event) → mid ≡ after s es
+    → over each s (es ++ fs) ≡ over each s es ++ over each mid fs
+over_then each s mid es fs leads =
+    over-append each s es fs ∙ ap (λ (u : State). over each s es ++ over each u fs) (sym leads)
+
 -- what the events of two logs after one another do
 pub over_both : {X : Type 0} (each : State → Event → List X) (s : State) (first second : List Entry)
     → over each s (asked (first ++ second)) ≡ over each s (asked first) ++ over each (replay s first) (asked second)
 over_both each s first second =
     ap (over each s) (map-append (λ (e : Entry). e.event) first second)
-    ∙ over-append each s (asked first) (asked second)
-    ∙ ap (λ (u : State). over each s (asked first) ++ over each u (asked second)) (replayed s first)
+    ∙ over_then each s (replay s first) (asked first) (asked second) (sym (replayed s first))
 
 -- what a reply to an event gives of a retrieval
 abbrev found_by : Event → Reply → List Stored
@@ -121,8 +120,7 @@ kept_first limit (g ∷ gs) rest early =
     rw here (ap (λ (ps : List Stored). g ∷ ps) more)
 
 deletes_given : (s : State) (seat count : ℕ) (gs rest : List Stored) → s.store.content ≡ gs ++ rest → IsRising gs
-    → IsLegal s (removed seat gs count)
-    → All (Contains (over taken_out s (asked (removed seat gs count)))) gs
+    → IsLegal s (removed seat gs count) → All (Contains (over taken_out s (asked (removed seat gs count)))) gs
 deletes_given s seat count [] rest held rising legal = All-nil _
 deletes_given s seat count (g ∷ gs) rest held rising legal =
     let all = g ∷ gs in
@@ -130,8 +128,7 @@ deletes_given s seat count (g ∷ gs) rest held rising legal =
     let later = filter (λ (p : Stored). leb p.time limit) rest in
     let bound = up_to_last g.time gs (AllPairs-head (λ p q. p.time < q.time) g gs rising)
     (AllPairs-tail (λ p q. p.time < q.time) g gs rising) in
-    let first = kept_first limit all rest
-    (All-cons (λ (p : Stored). p.time ≤ limit) g gs bound.0 bound.1) in
+    let first = kept_first limit all rest (All-cons (λ (p : Stored). p.time ≤ limit) g gs bound.0 bound.1) in
     let out : taken_out s (Delete limit) ≡ filter (λ p. leb p.time limit) s.store.content =
     delete_cases s (λ r. reply.Deleted (Ok count) ≡ reply.Deleted r.0
     → taken_out s (Delete limit) ≡ filter (λ p. leb p.time limit) s.store.content) limit (λ busy bad. absurd (cc bad))
@@ -165,8 +162,7 @@ order_does s seat wanted gave rest calls all held order legal =
     let front = before_deletion seat wanted gave in
     let last = removed seat gave order.count in
     let tail = ended seat wanted gave ∷ last in
-    let are : calls ≡ front ++ last =
-    order.are ∙ ap (λ (es : List Entry). begun seat ∷ es)
+    let are : calls ≡ front ++ last = order.are ∙ ap (λ (es : List Entry). begun seat ∷ es)
     (sym (append_assoc (giving seat gave) (ended seat wanted gave ∷ []) last)) in
     let parts = IsLegal-parts s front last (subst (IsLegal s) are legal) in
     let quiet = quiet_keeps s front (quiet_order seat wanted gave) in

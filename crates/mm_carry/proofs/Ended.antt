@@ -1,12 +1,10 @@
 -- How a run ends: what is not begun, and the total of what is lost.
-use Rattle.std.proofs.Common.{◌≡◌, inl, inr, refl, ℕ, List, [], length, map, get_or, sym, ap, subst, ◌∙◌}
-use Rattle.std.specs.Prelude.{sum_by}
+use Rattle.std.specs.Prelude.{sum_by, OnOk, IfErr, Result, Ok, Err}
 use Rattle.mm_carry.proofs.Words.{sum_by-same, sum_by-map, sum_by-swap, Dumping, stores, steps, Table, lost, loss, Held}
 use Rattle.mm_carry.proofs.Words.{Supply, Sent, Reported, totals_of, Cause, StepCounts, given_to, IsRefusal, IsStopped}
 use Rattle.mm_carry.proofs.Words.{report_of, planned_counts, RunStart, run_start, RunInput, as_came, RunState, InRun}
-use Rattle.mm_carry.proofs.Words.{RunContext, Stop, Stops, HasEnded, HasRun, AreWithinLimits, NeverRefused}
-use Rattle.mm_carry.specs.Ending.{run_start_of}
-use Rattle.std.specs.Prelude.{OnOk, IfErr, Result, Ok, Err}
+use Rattle.mm_carry.proofs.Words.{RunContext, Stop, Stops, HasEnded, HasRun, AreWithinLimits, NeverRefused, ◌≡◌, inl}
+use Rattle.mm_carry.proofs.Words.{inr, refl, ℕ, List, [], length, map, get_or, sym, ap, subst, ◌∙◌, run_start_of}
 use Rattle.std.specs.Result.{result_err}
 
 -- what holds of what a run begins with holds of the same, by whatever names
@@ -17,43 +15,41 @@ pub start_by : (P : RunStart → Type 0) (q : Dumping) (plan : Table) (base : �
 start_by P q plan base read many_sources many_links holds =
     subst P (λ i. run_start q plan (read i) base (many_sources i) (many_links i)) holds
 
--- how a run ended that did not begin, whatever its sources give
-pub not_begun : {S L : Type 0} (leads : S → S → Type 0) (until : S → S → Supply) (sent : L → List Sent) (failed : L → ℕ)
-    (run : RunContext) (first : RunState S L) (report : Reported) (stop : Stop)
-    {cause : Cause} → stop ≡ record { cause = cause; spent = 0 } → report.steps ≡ []
-    → IsRefusal (run_start run.problem.now run.plan.now first.stores run.base (length first.sources)
-    (length first.links)) cause
-    → InRun leads until first first (λ begun now. IsStopped sent failed (given_to run begun) run.plan.now first first
-    now.sources stop report)
-not_begun leads until sent failed run first report stop is none refusal lasts lead = (
-  lead,
-  inr (
-    record { same = refl; report_is = none; spent_is = ap (λ (s : Stop). s.spent) is },
-    subst (IsRefusal (run_start run.problem.now run.plan.now first.stores run.base (length first.sources)
-        (length first.links))) (sym (ap (λ (s : Stop). s.cause) is)) refusal,
-  ),
-)
+module _ {S L : Type 0} (leads : S → S → Type 0) (until : S → S → Supply) (sent : L → List Sent) (failed : L → ℕ)
+    (run : RunContext) where
+  -- how a run ended that did not begin, whatever its sources give
+  pub not_begun : (first : RunState S L) (report : Reported) (stop : Stop) {cause : Cause}
+      → stop ≡ record { cause = cause; spent = 0 } → report.steps ≡ []
+      → IsRefusal (run_start run.problem.now run.plan.now first.stores run.base (length first.sources)
+      (length first.links)) cause
+      → InRun leads until first first (λ begun now. IsStopped sent failed (given_to run begun) run.plan.now first first
+      now.sources stop report)
+  not_begun first report stop is none refusal lasts lead = (
+    lead,
+    inr (
+      record { same = refl; report_is = none; spent_is = ap (λ (s : Stop). s.spent) is },
+      subst (IsRefusal (run_start run.problem.now run.plan.now first.stores run.base (length first.sources)
+          (length first.links))) (sym (ap (λ (s : Stop). s.cause) is)) refusal,
+    ),
+  )
 
--- how the steps of a run ended is how it ended
-pub ended_whole : {S L : Type 0} (leads : S → S → Type 0) (until : S → S → Supply) (sent : L → List Sent)
-    (failed : L → ℕ) (run : RunContext) (first now : RunState S L) (report : Reported)
-    (result : Result (Unit {0}) Stop) → InRun leads until first now
-    (λ begun left. HasEnded sent failed (given_to run begun) run.plan.now begun (result_err result) left report)
-    → OnOk result (InRun leads until first now
-    (λ begun left. HasRun sent failed (given_to run begun) run.plan.now begun (length run.problem.now.windows) left
-    report))
-ended_whole leads until sent failed run first now report (Ok x) ended = ended
-ended_whole leads until sent failed run first now report (Err stop) ended = tt
+  -- how the steps of the run ended is how it ended
+  pub ended_whole : (first now : RunState S L) (report : Reported) (result : Result (Unit {0}) Stop)
+      → InRun leads until first now
+      (λ begun left. HasEnded sent failed (given_to run begun) run.plan.now begun (result_err result) left report)
+      → OnOk result (InRun leads until first now
+      (λ begun left. HasRun sent failed (given_to run begun) run.plan.now begun (length run.problem.now.windows) left
+      report))
+  ended_whole first now report (Ok x) ended = ended
+  ended_whole first now report (Err stop) ended = tt
 
-pub ended_early : {S L : Type 0} (leads : S → S → Type 0) (until : S → S → Supply) (sent : L → List Sent)
-    (failed : L → ℕ) (run : RunContext) (first now : RunState S L) (report : Reported)
-    (result : Result (Unit {0}) Stop) → InRun leads until first now
-    (λ begun left. HasEnded sent failed (given_to run begun) run.plan.now begun (result_err result) left report)
-    → IfErr result (λ stop. InRun leads until first now
-    (λ begun left. IsStopped sent failed (given_to run begun) run.plan.now first now left.sources stop report))
-ended_early leads until sent failed run first now report (Ok x) ended = tt
-ended_early leads until sent failed run first now report (Err stop) ended =
-    λ lasts lead. let one = ended lasts lead in (one.0, inl one.1)
+  pub ended_early : (first now : RunState S L) (report : Reported) (result : Result (Unit {0}) Stop)
+      → InRun leads until first now
+      (λ begun left. HasEnded sent failed (given_to run begun) run.plan.now begun (result_err result) left report)
+      → IfErr result (λ stop. InRun leads until first now
+      (λ begun left. IsStopped sent failed (given_to run begun) run.plan.now first now left.sources stop report))
+  ended_early first now report (Ok x) ended = tt
+  ended_early first now report (Err stop) ended = λ lasts lead. let one = ended lasts lead in (one.0, inl one.1)
 
 -- where counts are far from their end, no store refused a packet in a run that was stopped
 pub stopped_far : {S L : Type 0} (sent : L → List Sent) (failed : L → ℕ) (m : RunInput) (plan : Table)

@@ -1,9 +1,5 @@
 -- What a step that was broken off leaves at a store, and what each link did where a failed one halted it.
-use Rattle.std.proofs.Common.{◌≡◌, inl, inr, ℕ, ◌<◌, List, [], length, map, All, refl, sym, ap, subst, ◌∙◌, arith, ◌⊎◌}
-use Rattle.std.proofs.Common.{zero, suc, ◌+◌, ◌≤◌, cond, eqb, ◌∷◌, ◌++◌}
 use Rattle.std.specs.Prelude.{Option, Some, None, sum_by, slice_index_or}
-use Rattle.mm_desk.specs.declared.fault.Fault.TheVariants as fault
-use Rattle.mm_dump.specs.declared.order.OrderBroken.TheVariants as worst
 use Rattle.mm_dump.specs.Dumped.{times, AllSettled, places_of, AllTried}
 use Rattle.mm_report.specs.declared.cause.Cause.TheVariants.{LinkFailed}
 use Rattle.mm_carry.proofs.Replays.{IsRun-append}
@@ -12,15 +8,16 @@ use Rattle.mm_carry.specs.Failure.{FailedLink, LastBroke, LinksFailed}
 use Rattle.mm_carry.proofs.Parts.{as_many, first_turns, its_cause}
 use Rattle.mm_carry.proofs.StoresReady.{state_holds}
 use Rattle.std.proofs.lemmas.Bool.Decides.{eqb_tells}
-use Rattle.std.proofs.lemmas.Option.{IfSome_then}
-use Rattle.mm_carry.proofs.Words.{cases_lt, length-map, nil_from_length, All-nil, All-cons, All-head}
-use Rattle.mm_carry.proofs.Words.{All-tail, sum_by-cons, sum_by-append, get_or-le-sum_by, cond-eqb_same, cond-eqb_other}
-use Rattle.mm_carry.proofs.Words.{given_oldest, State, IsState, opening_at, IsLegal, Fault, Held, IfSome}
-use Rattle.mm_carry.proofs.Words.{states_of, RecordingContext, recording, given_in, IsOrderFor}
-use Rattle.mm_carry.proofs.Words.{Supply, Course, EndedAs, IsWhole, IsBroken, IsCourse, worse, worst_of, failed_by}
-use Rattle.mm_carry.proofs.Words.{sent_by, BrokenOrdersChangeNothing, Sent, Order, OrderBroken, Cause, IsByOneLog}
-use Rattle.mm_carry.proofs.Words.{AtEachStore, RunState, IsStep, Stop, cause_of, orders_after}
-use Rattle.mm_dump.specs.Broken.{aborted}
+use Rattle.mm_carry.proofs.Words
+use Words.{cases_lt, length-map, nil_from_length, All-nil, All-cons, All-head, All-tail, sum_by-cons, sum_by-append}
+use Words.{get_or-le-sum_by, cond-eqb_same, cond-eqb_other, given_oldest, State, IsState, opening_at, IsLegal, Fault}
+use Words.{Held, IfSome, states_of, RecordingContext, recording, given_in, IsOrderFor, Supply, Course, EndedAs, IsWhole}
+use Words.{IsBroken, IsCourse, worse, worst_of, failed_by, sent_by, BrokenOrdersChangeNothing, Sent, Order, OrderBroken}
+use Words.{Cause, IsByOneLog, AtEachStore, RunState, IsStep, Stop, cause_of, orders_after, ◌≡◌, inl, inr, ℕ, ◌<◌, List}
+use Words.{[], length, map, All, refl, sym, ap, subst, ◌∙◌, arith, ◌⊎◌, zero, suc, ◌+◌, ◌≤◌, cond, eqb, ◌∷◌, ◌++◌}
+use Words.{IfSome_then, aborted}
+use Rattle.mm_desk.specs.declared.fault.Fault.TheVariants as fault
+use Rattle.mm_dump.specs.declared.order.OrderBroken.TheVariants as worst
 
 -- where the cause is a link, a link was the worst for which orders broke
 link_failed : (step : ℕ) (fault : Option Fault) (broken : Option OrderBroken) (cause : Cause)
@@ -116,8 +113,7 @@ AreEarly courses = (i : ℕ) (d : Course) → suc i < length courses → (slice_
 
 -- one link's orders
 all_courses : (course : ℕ → Course) (places : List ℕ) → All IsCourse (map course places) → AreEarly (map course places)
-    → IsMild (worst_of (whys course places))
-    → AllWhole course places ⊎ LastMild course places
+    → IsMild (worst_of (whys course places)) → AllWhole course places ⊎ LastMild course places
 all_courses course [] are early mild =
     inl (record { whole = All-nil (λ k. IsWhole (course k)); fails = refl; none = refl })
 all_courses course (k ∷ ks) are early mild =
@@ -133,8 +129,7 @@ all_courses course (k ∷ ks) are early mild =
     failed_more = sum_by-cons (λ (c : Course). length c.unsent) (course k) (map course ks)
 
     by_why : (why : Option OrderBroken) → (course k).why ≡ why → EndedAs why (course k) → IsMild why
-        → AllWhole course ks ⊎ LastMild course ks
-        → AllWhole course (k ∷ ks) ⊎ LastMild course (k ∷ ks)
+        → AllWhole course ks ⊎ LastMild course ks → AllWhole course (k ∷ ks) ⊎ LastMild course (k ∷ ks)
     by_why None is went mild_here (inl rest) = inl (record {
       whole = All-cons (λ k. IsWhole (course k)) k ks went rest.whole;
       fails = omega (arith, failed_more, ap length went.all, rest.fails);
@@ -237,6 +232,7 @@ pub links_failed : {L : Type 0} (sent : L → List Sent) (failed : L → ℕ) (i
     → AllSettled sent failed ids orders (Some worst.LinkFailed) before after olds news → LinksFailed sent failed ids
     orders before after olds news
 links_failed sent failed ids orders before after olds news changes there sound settled =
+    let link = one_link sent failed ids settled.course settled.places olds news settled.links mild in
     record {
       settled = settled;
       many = many;
@@ -261,11 +257,6 @@ links_failed sent failed ids orders before after olds news changes there sound s
 
     many : length settled.places ≡ length olds
     many = tried_many sent failed ids settled.course settled.places olds news settled.links
-
-    link : (l : ℕ) → l < length olds → OneLink sent failed ids settled.course (slice_index_or settled.places l [])
-        (slice_index_or (map sent olds) l []) (slice_index_or (map sent news) l [])
-        (slice_index_or (map failed olds) l 0) (slice_index_or (map failed news) l 0)
-    link = one_link sent failed ids settled.course settled.places olds news settled.links mild
 
     last_broke : (l : ℕ) → l < length olds → (was is : ℕ) → is
         ≡ was + failed_by (map settled.course (slice_index_or settled.places l []))

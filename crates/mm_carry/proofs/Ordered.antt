@@ -1,14 +1,12 @@
 -- What the orders of a step want of each store.
-use Rattle.std.proofs.Common.{◌≡◌, ◌≢◌, ℕ, ◌<◌, ◌≤◌, Bool, cond, ltb, eqb, List, [], ◌∷◌, length, map, refl, sym, subst}
-use Rattle.std.proofs.Common.{◌∙◌, arith, ◌+◌, ◌++◌, ap, add-one}
-use Rattle.mm_carry.proofs.Words.{lt-ltb, le-ltb, ltb-true, ltb-false, ne_eqb, eq-eqb, cond_both, length-map}
-use Rattle.mm_carry.proofs.Words.{map-append, append-nil, All-map, filter-append, length-range_with_len, length-filter}
-use Rattle.mm_carry.proofs.Words.{count_by-le-length, sum_by, range_with_len, filter, slice_index, nat_lt, AllPairs-map}
-use Rattle.mm_carry.proofs.Words.{sum_by_range_one, sum_by_range_same, All-filter-range_with_len}
-use Rattle.mm_carry.proofs.Words.{AllPairs-filter-range_with_len, range_with_len_more, sum_by-filter, sum_by-map}
-use Rattle.mm_carry.proofs.Words.{sum_by-map-filter, MAX_STORES, in_step, Amounts, wanted, times, places_of, Order}
-use Rattle.mm_carry.proofs.Words.{orders_of, AreApart, RunInput, place_in_memory, step_orders, AreOrders}
-use Rattle.mm_shared.proofs.Lists.{map_same}
+use Rattle.mm_carry.proofs.Words
+use Words.{lt-ltb, le-ltb, ltb-true, ltb-false, ne_eqb, eq-eqb, cond_both, length-map, map-append, append-nil, All-map}
+use Words.{filter-append, length-range_with_len, filter_fewer, sum_by, range_with_len, filter, slice_index, nat_lt}
+use Words.{AllPairs-map, sum_by_range_one, sum_by_range_same, All-filter-range_with_len, AllPairs-filter-range_with_len}
+use Words.{range_with_len_more, sum_by-filter, sum_by-map, sum_by-map-filter, MAX_STORES, in_step, Amounts, wanted}
+use Words.{times, places_of, Order, orders_of, AreApart, RunInput, place_in_memory, step_orders, AreOrders, ◌≡◌, ◌≢◌, ℕ}
+use Words.{◌<◌, ◌≤◌, Bool, cond, ltb, eqb, List, [], ◌∷◌, length, map, refl, sym, subst, ◌∙◌, arith, ◌+◌, ◌++◌, ap}
+use Words.{add-one, map_same}
 
 module _ (x : Amounts) (places : List ℕ) (t : ℕ) where
   -- whether a store has an order, and the order
@@ -44,13 +42,7 @@ module _ (x : Amounts) (places : List ℕ) (t : ℕ) where
   pub orders_few : (n : ℕ) → length (orders_of x places t n) ≤ n
   orders_few n =
       let all = range_with_len 0 n in
-      omega (
-        arith,
-        length-map (filter is_ordered all) order_of,
-        length-filter is_ordered all,
-        count_by-le-length is_ordered all,
-        length-range_with_len 0 n,
-      )
+      omega (arith, length-map (filter is_ordered all) order_of, filter_fewer is_ordered all, length-range_with_len 0 n)
 
 -- an amount that is counted where there is one
 amount_counted : (amount : ℕ) → cond (ltb 0 amount) amount 0 ≡ amount
@@ -77,8 +69,7 @@ module _ (x : Amounts) (places : List ℕ) (t n : ℕ) where
   wanted_is s apart within =
       sum_by-filter (λ (o : Order). o.amount) (λ o. eqb o.place (slice_index places s)) (orders_of x places t n)
       ∙ sum_by-map-filter (λ (o : Order). cond (eqb o.place (slice_index places s)) o.amount 0) (order_of x places t)
-      (is_ordered x places t) (range_with_len 0 n)
-      ∙ one_term (λ r. x r t) s apart within ∙ amount_counted (x s t)
+      (is_ordered x places t) (range_with_len 0 n) ∙ one_term (λ r. x r t) s apart within ∙ amount_counted (x s t)
 
   -- no store has two orders
   pub named_once : (s : ℕ) → AreApart places n → s < n → times (slice_index places s)

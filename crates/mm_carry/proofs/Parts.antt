@@ -1,31 +1,23 @@
 -- The parts of a step, and the first offers of what sources give.
-use Rattle.std.proofs.Common.{◌≡◌, ℕ, ◌<◌, ◌≤◌, List, [], ◌∷◌, ◌++◌, length, map, refl, sym, ap, subst}
-use Rattle.std.proofs.Common.{◌∙◌, arith, append_assoc}
 use Rattle.std.proofs.lemmas.Simd.{map-map}
-use Rattle.mm_carry.proofs.Words.{length-map, All-nil, same_Some, AllZip, Option, Some, None}
-use Rattle.mm_carry.proofs.Words.{IfNone, IfSome, SpacePacket, Event, Fault, Held, labels_of}
-use Rattle.mm_carry.proofs.Words.{RecordingContext, offers, Supply, Sent, Order, OrderBroken, Cause}
-use Rattle.mm_carry.proofs.Words.{AreFirstOffers, AreOrders, RunState, KeepsRest, IsCauseIn, NeverRefused, cause_of}
-use Rattle.mm_carry.proofs.Words.{orders_after, stop_for, IsStep, IsWholeStep, StepStopped, Stop}
+use Rattle.mm_carry.proofs.Words.{length-map, All-nil, same_Some, AllZip, Option, Some, None, IfNone, IfSome}
+use Rattle.mm_carry.proofs.Words.{SpacePacket, Event, Fault, Held, labels_of, RecordingContext, offers, Supply, Sent}
+use Rattle.mm_carry.proofs.Words.{Order, OrderBroken, Cause, AreFirstOffers, AreOrders, RunState, KeepsRest, IsCauseIn}
+use Rattle.mm_carry.proofs.Words.{NeverRefused, cause_of, orders_after, stop_for, IsStep, IsWholeStep, StepStopped}
+use Rattle.mm_carry.proofs.Words.{Stop, ◌≡◌, ℕ, ◌<◌, ◌≤◌, List, [], ◌∷◌, ◌++◌, length, map, refl, sym, ap, subst, ◌∙◌}
+use Rattle.mm_carry.proofs.Words.{arith, append_assoc, RecorderRun, StoppedEarly, IsRecorderRun, TakesAll}
+pub use Rattle.mm_shared.proofs.Opening.{same_many as as_many}
 use Rattle.mm_carry.proofs.Replays.{IsRun-append}
-use Rattle.mm_desk.specs.declared.fault.Fault.TheVariants as fault
-use Rattle.mm_record.specs.Steps.{given_in, RecorderRun, AreRecorderRuns, StoppedEarly, IsRecorderRun}
-use Rattle.mm_record.specs.Steps.{TakesAll}
+use Rattle.mm_record.specs.Steps.{given_in, AreRecorderRuns}
 use Rattle.mm_dump.proofs.Unbroken.{all_dumped}
-use Rattle.mm_dump.specs.declared.order.OrderBroken.TheVariants as worst
 use Rattle.mm_record.proofs.Offers.{offers_more}
+use Rattle.mm_desk.specs.declared.fault.Fault.TheVariants as fault
+use Rattle.mm_dump.specs.declared.order.OrderBroken.TheVariants as worst
 
 -- stores with the same labels have the same identifiers
 pub same_ids : (xs ys : List Held) → labels_of xs ≡ labels_of ys → map (λ (h : Held). h.id) xs
     ≡ map (λ (h : Held). h.id) ys
-same_ids xs ys same =
-    let ids_in = map-map (λ (l : List ℕ × ℕ). l.0) (λ (h : Held). (h.id, h.channel)) in
-    sym (ids_in xs) ∙ ap (map (λ (l : List ℕ × ℕ). l.0)) same ∙ ids_in ys
-
--- stores with the same labels are as many
-pub as_many : (xs ys : List Held) → labels_of xs ≡ labels_of ys → length xs ≡ length ys
-as_many xs ys same = sym (length-map xs (λ (h : Held). (h.id, h.channel))) ∙ ap length same
-    ∙ length-map ys (λ (h : Held). (h.id, h.channel))
+same_ids xs ys same = simp map-map at (ap (map (λ (l : List ℕ × ℕ). l.0)) same)
 
 -- sources of recorders keep the rest
 pub keep_turns : (e : RecordingContext) (xs ys : List Supply) (turns : List RecorderRun) → AreRecorderRuns e xs ys turns
@@ -37,7 +29,7 @@ keep_turns e xs ys turns had = absurd had
 
 -- sources that give the same in some step are as many
 pub as_many_sources : (t : ℕ) (xs ys : List Supply) → given_in t ys ≡ given_in t xs → length ys ≡ length xs
-as_many_sources t xs ys same = sym (length-map ys (λ s. s t)) ∙ ap length same ∙ length-map xs (λ s. s t)
+as_many_sources t xs ys same = simp length-map at (ap length same)
 
 -- the orders that are carried out in a step may be carried out
 pub orders_left : (n : ℕ) (fault : Option Fault) (orders : List Order) → AreOrders n orders
@@ -93,8 +85,7 @@ not_refused step fault (Some worst.NoMemory) cause lack is = λ at same. absurd 
 
 -- a recorder makes first offers of what its source gives
 first_turn : (e : RecordingContext) (before after : ℕ → List SpacePacket) (turn : RecorderRun) (k : ℕ)
-    → IsRecorderRun e before after turn → k < length e.ids
-    → AreFirstOffers e k (before e.step) (turn.offered k)
+    → IsRecorderRun e before after turn → k < length e.ids → AreFirstOffers e k (before e.step) (turn.offered k)
 first_turn e before after turn k had within = by_broken turn.broken had.whole had.partly
   where
     gave_first : offers e k (before e.step) ≡ offers e k turn.gave ++ offers e k (after e.step)
@@ -177,5 +168,4 @@ module _ {L : Type 0} (sent : L → List Sent) (failed : L → ℕ) (e : Recordi
 
   -- where each store surely takes what comes, no store refused a packet
   pub never_refused : TakesAll e before.stores before.sources → NeverRefused stop.cause
-  never_refused takes =
-      not_refused e.step is.fault is.broken stop.cause (is.records.none_refused takes) its_cause
+  never_refused takes = not_refused e.step is.fault is.broken stop.cause (is.records.none_refused takes) its_cause

@@ -1,9 +1,8 @@
 -- The stores of the problem at their places in the memory.
-use Rattle.std.proofs.Common.{◌≡◌, ◌≢◌, inl, inr, ℕ, ◌<◌, List, [], length, map, take, get_or, sym, subst, ap, ◌∙◌}
-use Rattle.std.proofs.Common.{arith}
 use Rattle.mm_carry.proofs.Words.{cases_order, get_or-map, get_or-take, length-take-le, All-from_get_or}
 use Rattle.mm_carry.proofs.Words.{passes_at_first, bytes_eq-Decides, position_or_len, slice_index, Dumping, row, no_row}
-use Rattle.mm_carry.proofs.Words.{blank, Held, id_at, has_id, IsPlaceOf, ArePlaces, AreAllPlaces, StandWithin}
+use Rattle.mm_carry.proofs.Words.{blank, Held, id_at, has_id, IsPlaceOf, ArePlaces, AreAllPlaces, StandWithin, ◌≡◌, ◌≢◌}
+use Rattle.mm_carry.proofs.Words.{inl, inr, ℕ, ◌<◌, List, [], length, map, take, get_or, sym, subst, ap, ◌∙◌, arith}
 use Rattle.mm_problem.specs.Setup.{AreStores}
 
 -- no store
@@ -14,13 +13,10 @@ no_held = record { id = []; channel = 0; state = blank }
 pub id_there : (id : List ℕ) (stores : List Held) (place : ℕ) → IsPlaceOf id stores place
     → id_at (map (λ h. h.id) stores) place ≡ id
 id_there id stores place is =
-    let within : position_or_len (has_id id) stores < length stores = subst (λ (k : ℕ). k < length stores) is.is
-    is.within in
-    let passes = passes_at_first (has_id id) stores no_held within in
-    let same : (get_or stores (position_or_len (has_id id) stores) no_held).id ≡ id =
-    (bytes_eq-Decides _ id).0 passes in
+    let within : position_or_len (has_id id) stores < length stores = rw (← is.is) is.within in
     get_or-map (λ (h : Held). h.id) stores place no_held [] is.within
-    ∙ ap (λ (k : ℕ). (get_or stores k no_held).id) is.is ∙ same
+    ∙ ap (λ (k : ℕ). (get_or stores k no_held).id) is.is
+    ∙ (bytes_eq-Decides _ id).0 (passes_at_first (has_id id) stores no_held within)
 
 -- stores with identifiers of their own stand at places of their own
 pub places_differ : (q : Dumping) (stores : List Held) (places : List ℕ) → AreStores q.rows

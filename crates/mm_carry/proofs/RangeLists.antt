@@ -1,7 +1,6 @@
 -- Lists that the numbers of a range make.
-use Rattle.std.proofs.Common.{◌≡◌, ℕ, ◌+◌, ◌<◌, ◌≤◌, List, map, sym, ap, ◌∙◌}
-use Rattle.mm_carry.proofs.Words.{flat_map-map, range_with_len, flat_map, All-range_with_len}
-use Rattle.mm_shared.proofs.Lists.{map_same}
+use Rattle.mm_carry.proofs.Words.{flat_map-map, range_with_len, flat_map, All-range_with_len, ◌≡◌, ℕ, ◌+◌, ◌<◌, ◌≤◌}
+use Rattle.mm_carry.proofs.Words.{List, map, sym, ap, ◌∙◌, map_same}
 
 -- lists that a range gives are equal where each element is
 pub map_range_same : {X : Type 0} (f g : ℕ → X) (a n : ℕ) → ((s : ℕ) → a ≤ s → s < a + n → f s ≡ g s)

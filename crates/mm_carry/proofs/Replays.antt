@@ -1,11 +1,8 @@
 -- Logs in two parts, what holds of the entries of a log by its seats, and what a log of offers leaves of a store.
-use Rattle.std.proofs.Common.{◌≡◌, List, [], ◌∷◌, ◌++◌, length, All, refl, sym, subst, ap, ◌∙◌, ℕ, ◌+◌, ◌≤◌, max, arith}
-use Rattle.mm_carry.proofs.Words.{cond_both, All-head, All-tail, nat_lt, ◌==◌, ◌||◌, not, Result, All-unmapped}
-use Rattle.mm_carry.proofs.Words.{SpacePacket, Store, clock_end, put, put_timed, put_full, Stored, State, step, offer}
-use Rattle.mm_carry.proofs.Words.{IsShuffleOfEvents, replay, IsLegal, IsRun, part, Entry, Event, Offer, parts_all, IsBy}
-use Rattle.mm_carry.proofs.Words.{AreBy}
-use Rattle.mm_base.specs.declared.kind.Kind.{Kind}
-use Rattle.mm_base.specs.declared.kind.Kind.TheVariants.{Circular, Bounded}
+use Rattle.mm_carry.proofs.Words.{cond_both, All-head, All-tail, ◌==◌, ◌||◌, not, Result, SpacePacket, Store, clock_end}
+use Rattle.mm_carry.proofs.Words.{put, State, step, offer, IsShuffleOfEvents, replay, IsLegal, IsRun, Entry, Event}
+use Rattle.mm_carry.proofs.Words.{Offer, IsBy, AreBy, ◌≡◌, List, [], ◌∷◌, ◌++◌, length, All, refl, sym, subst, ap, ◌∙◌}
+use Rattle.mm_carry.proofs.Words.{ℕ, ◌+◌, ◌≤◌, max, arith, shuffled, timed_takes}
 use Rattle.mm_store.specs.declared.put.Put.{Put}
 use Rattle.mm_desk.specs.declared.reply.Offered.{Offered}
 use Rattle.mm_desk.specs.declared.reply.Returned.{Returned}
@@ -34,39 +31,19 @@ IsRun-append s mid t es fs first second = record {
   leaves = second.leaves ∙ ap (λ (u : State). replay u fs) first.leaves ∙ sym (replay-append s es fs);
 }
 
--- what holds of each event of some lists holds of a log that is a shuffle of them
-pub shuffled : (P : Event → Type 0) (lists : List (List Event)) (log : List Entry) → IsShuffleOfEvents lists log
-    → All (λ list. All P list) lists → All (λ e. P e.event) log
-shuffled P lists log shuffle all =
-    parts_all (λ (e : Entry). P e.event) (length lists) log shuffle.below
-    (λ seat within. All-unmapped P (λ (e : Entry). e.event) (part seat log)
-    (subst (All P) (sym (shuffle.parts seat within)) (all seat [] within)))
-
 -- what holds of the offers by a moment holds of each such event
 pub by_offer : (P : Event → Type 0) (now : ℕ) → ((at : ℕ) (packet : SpacePacket) → at ≤ now → P (Offer at packet))
     → (event : Event) → IsBy now event → P event
 by_offer P now offers (Offer at packet) by = offers at packet by
 by_offer P now offers event by = absurd by
 
--- a put into a full store
-full_last : (kind : Kind) (held : List Stored) (s : Store) (new : Stored) (m : ℕ) → s.last ≤ m → new.time ≤ m
-    → (put_full kind held s new).1.last ≤ m
-full_last Circular (x ∷ xs) s new m before now = now
-full_last Circular [] s new m before now = before
-full_last Bounded held s new m before now = before
-
--- a put before the end of the clock
-timed_last : (s : Store) (new : Stored) (m : ℕ) → s.last ≤ m → new.time ≤ m → (put_timed s new).1.last ≤ m
-timed_last s new m before now =
-    cond_both (nat_lt (length s.content) s.size) _ _ (λ (done : Put × Store). done.1.last ≤ m) (λ free. now)
-    (λ full. full_last s.kind s.content s new m before now)
-
 -- a put moves the last time to the moment, or by one
 put_last : (s : Store) (now : ℕ) (packet : SpacePacket) (m : ℕ) → s.last ≤ m → now ≤ m → (put s now packet).1.last
     ≤ m + 1
 put_last s now packet m before early =
     cond_both (s.last == clock_end) _ _ (λ (done : Put × Store). done.1.last ≤ m + 1) (λ late. omega arith)
-    (λ free. timed_last s (record { time = max now (s.last + 1); packet = packet }) (m + 1) (omega arith) (omega arith))
+    (λ free. let put = timed_takes s (record { time = max now (s.last + 1); packet = packet }) (omega arith) in
+    omega (arith, put.last))
 
 -- a store whose storage switch and retrieval are as they were
 pub record KeepsSwitches (s t : State) : Type 0 where
@@ -113,8 +90,7 @@ log_moves now s (e ∷ es) m by before early =
 
 -- so do the offers of a log that is a shuffle of them
 pub run_moves : (now : ℕ) (lists : List (List Event)) (log : List Entry) (s t : State) → IsRun s log t
-    → IsShuffleOfEvents lists log → AreBy now lists
-    → MovesTo (max s.store.last now + length log) s t
+    → IsShuffleOfEvents lists log → AreBy now lists → MovesTo (max s.store.last now + length log) s t
 run_moves now lists log s t run shuffle by =
     subst (MovesTo (max s.store.last now + length log) s) (sym run.leaves)
     (log_moves now s log (max s.store.last now) (shuffled (IsBy now) lists log shuffle by) (omega arith) (omega arith))

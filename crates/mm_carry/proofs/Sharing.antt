@@ -1,11 +1,9 @@
 -- What routes take of all that the sources give.
-use Rattle.std.proofs.Common.{◌≡◌, ℕ, zero, suc, ◌<◌, Bool, true, List, [], ◌∷◌, ◌++◌, length, map, get_or, refl, sym}
-use Rattle.std.proofs.Common.{ap, ◌∙◌, arith}
-use Rattle.std.proofs.lemmas.List.Sorted.{IsPermutation-filter_both}
 use Rattle.mm_carry.proofs.Words.{cond_both, get_or-map, get_or-range_with_len, length-range_with_len, filter-append}
 use Rattle.mm_carry.proofs.Words.{list_any_at, filter, flat_map, not, is_routed, SpacePacket, Supply, Offer}
-use Rattle.mm_carry.proofs.Words.{RecordingContext, offers, id_at, RunInput, step_of, stores, no_row}
-use Rattle.mm_carry.specs.Accounts.{over_steps, packet_in, packets_offered}
+use Rattle.mm_carry.proofs.Words.{RecordingContext, offers, id_at, RunInput, step_of, stores, no_row, ◌≡◌, ℕ, zero, suc}
+use Rattle.mm_carry.proofs.Words.{◌<◌, Bool, true, List, [], ◌∷◌, ◌++◌, length, map, get_or, refl, sym, ap, ◌∙◌, arith}
+use Rattle.mm_carry.proofs.Words.{over_steps, packet_in, packets_offered, IsPermutation-filter_both}
 use Rattle.mm_carry.specs.Untaken.{given_at, is_for, is_taken, AreShared}
 
 -- the packets of offers of packets

@@ -1,22 +1,18 @@
 -- How a run begins, and what is known of it on the way.
-use Rattle.std.proofs.Common.{◌≡◌, ◌≢◌, ℕ, zero, suc, ◌+◌, ◌-◌, ◌*◌, ◌<◌, ◌≤◌, ◌^◌, Bool, true, false, List, [], length}
-use Rattle.std.proofs.Common.{map, get_or, All, refl, sym, subst, ap, ◌∙◌, arith}
-use Rattle.mm_carry.proofs.Words.{eqb-true, eqb-false, ltb-false, or_parts, both_ways, false_from_ne_true, length-map}
-use Rattle.mm_carry.proofs.Words.{get_or-map, append-nil, All-map, find_at, list_any_at, length-map-range_with_len}
-use Rattle.mm_carry.proofs.Words.{passes_at_first, position_or_len_is, prefix_len-le-length}
-use Rattle.mm_carry.proofs.Words.{slice_get-get_or, bytes_eq-Decides, list_any, position_or_len, slice_index}
-use Rattle.mm_carry.proofs.Words.{slice_index_or, bytes_eq, slice_get, Option, Some, None, is_some, not, ◌&&◌, IsTrue}
-use Rattle.mm_carry.proofs.Words.{vec_capacity, MAX_STEPS, MAX_STORES, StoreRow, SpacePacket, Dumping, IsDumping, row}
-use Rattle.mm_carry.proofs.Words.{no_row, place, FitsAt, amount, OrdersDumpTheOldest, State, IsState, opening_at, blank}
-use Rattle.mm_carry.proofs.Words.{Held, labels_of, states_of, AreHeld, has_id, store_of, named_of, held_as}
-use Rattle.mm_carry.proofs.Words.{is_clock_late, is_late, TakesAll, Supply, BrokenOrdersChangeNothing, Sent, Reported}
-use Rattle.mm_carry.proofs.Words.{IsReady, given_to, recording_at, orders_at, MayReport, IsReportedStep}
-use Rattle.mm_carry.proofs.Words.{AreWithinLimits, HasRun, IsHaltedIn, RunsLoseAsPlanned, RunsLoseNoPacketUncounted}
-use Rattle.mm_carry.proofs.Words.{StepRunsKeepStores, IsPlaceOf, ArePlaces, StandWithin, AllMeet, NoneUnknown, meets}
-use Rattle.mm_carry.proofs.Words.{meets_at, RunInput, offered, recording_in, step_of, place_in_memory, store_state}
-use Rattle.mm_carry.proofs.Words.{step_orders, RunState, with_supplies, AreReady, AreOrders, StepsDone, taken_amounts}
-use Rattle.mm_carry.proofs.Words.{RunContext, Stop, AreCounters}
-use Rattle.mm_shared.specs.declared.counters.StoreCounters.{StoreCounters}
+use Rattle.mm_carry.proofs.Words
+use Words.{eqb-true, eqb-false, ltb-false, or_parts, both_ways, false_from_ne_true, length-map, get_or-map, append-nil}
+use Words.{All-map, find_at, list_any_at, length-map-range_with_len, passes_at_first, position_or_len_is}
+use Words.{prefix_len-le-length, slice_get-get_or, bytes_eq-Decides, list_any, position_or_len, slice_index}
+use Words.{slice_index_or, bytes_eq, slice_get, Option, Some, None, is_some, not, ◌&&◌, IsTrue, vec_capacity, MAX_STEPS}
+use Words.{MAX_STORES, StoreRow, SpacePacket, Dumping, IsDumping, row, no_row, place, FitsAt, amount}
+use Words.{OrdersDumpTheOldest, State, IsState, opening_at, blank, Held, labels_of, states_of, AreHeld, has_id}
+use Words.{store_of, named_of, held_as, is_clock_late, is_late, TakesAll, Supply, BrokenOrdersChangeNothing, Sent}
+use Words.{Reported, IsReady, given_to, recording_at, orders_at, MayReport, IsReportedStep, AreWithinLimits, HasRun}
+use Words.{IsHaltedIn, RunsLoseAsPlanned, RunsLoseNoPacketUncounted, StepRunsKeepStores, IsPlaceOf, ArePlaces}
+use Words.{StandWithin, AllMeet, NoneUnknown, meets, meets_at, RunInput, offered, recording_in, step_of}
+use Words.{place_in_memory, store_state, step_orders, RunState, with_supplies, AreReady, AreOrders, StepsDone}
+use Words.{taken_amounts, RunContext, Stop, AreCounters, ◌≡◌, ◌≢◌, ℕ, zero, suc, ◌+◌, ◌-◌, ◌*◌, ◌<◌, ◌≤◌, ◌^◌, Bool}
+use Words.{true, false, List, [], length, map, get_or, All, refl, sym, subst, ap, ◌∙◌, arith, StoreCounters}
 use Rattle.mm_desk.specs.declared.state.Retrieval.{Retrieval}
 use Rattle.mm_report.specs.declared.cause.TheConstants.{LATEST_START}
 use Rattle.mm_carry.specs.declared.requirement.Requirement.{Requirement}
@@ -32,7 +28,8 @@ use Rattle.mm_carry.proofs.Sharing.{shared}
 use Rattle.mm_carry.proofs.StepMore.{Footing, all_same, done_on}
 use Rattle.mm_carry.proofs.Parts.{as_many, as_many_sources, stopped_of, never_refused, whole_step}
 use Rattle.mm_carry.proofs.Placing.{no_held, places_differ}
-use Rattle.mm_carry.proofs.StoresReady.{IsFar, state_there, state_holds, all_by, ready_after, offers_few}
+use Rattle.mm_shared.proofs.Opening.{state_at}
+use Rattle.mm_carry.proofs.StoresReady.{IsFar, state_holds, all_by, ready_after, offers_few}
 
 -- the moment before the first step is early, and so is the last storage time of each store
 pub record IsEarly (stores : List Held) (base : ℕ) : Type 0 where
@@ -58,9 +55,8 @@ meets_there : (requirement : Requirement) (q : Dumping) (stores : List Held) (s 
     → meets requirement (row q s) (Some (get_or stores place no_held)) ≡ true
 meets_there requirement q stores s place is shown =
     let within : place < length stores = is.within in
-    let found : store_of (row q s).id stores ≡ Some (get_or stores place no_held) =
-    find_at (has_id (row q s).id) stores ∙ ap (λ (k : ℕ). slice_get stores k) (sym is.is) ∙ slice_get-get_or stores
-    place no_held within in
+    let found : store_of (row q s).id stores ≡ Some (get_or stores place no_held) = find_at (has_id (row q s).id) stores
+    ∙ ap (λ (k : ℕ). slice_get stores k) (sym is.is) ∙ slice_get-get_or stores place no_held within in
     rw (← found) shown
 
 -- a store is ready
@@ -85,8 +81,7 @@ standing_gives false r is = absurd (cc is)
 
 -- each store of the memory is that of a row of the problem, and the first with its identifier
 stands_at : (q : Dumping) (stores : List Held) → AreHeld stores → NoneUnknown q stores → (k : ℕ) (d : Held)
-    → k < length stores
-    → (s : ℕ) × (s < length q.rows) × (position_or_len (has_id (row q s).id) stores ≡ k)
+    → k < length stores → (s : ℕ) × (s < length q.rows) × (position_or_len (has_id (row q s).id) stores ≡ k)
 stands_at q stores held known k d inside =
     let h = get_or stores k d in
     let s = place q h.id in
@@ -282,8 +277,7 @@ module _ {L : Type 0} (sent : L → List Sent) (failed : L → ℕ) (run : RunCo
         -- what the links took in each of the steps fits
         all_fit : (u : ℕ) → 1 ≤ u → u ≤ t + 1 - 1 → FitsAt q (taken_amounts input done.gave done.links_are.took) u
         all_fit u from_one last =
-            taken_fits input (t + 1 - 1) done.stores done.gave done.links_are.took done.runs u from_one last
-            (λ s store.
+            taken_fits input (t + 1 - 1) done.stores done.gave done.links_are.took done.runs u from_one last (λ s store.
             let once = rw ((here.footing.stand_at s store).is, orders_here u)
             at (named_once input.amounts places u (length q.rows) s here.footing.apart store) in
             omega (arith, once, done.links_are.once (place_in_memory input s) u from_one last))
@@ -349,7 +343,7 @@ module _ {L : Type 0} (sent : L → List Sent) (failed : L → ℕ) (run : RunCo
             let within : k < length first.stores = omega (arith, inside, as_many now.stores first.stores here.labels) in
             let found = stands_at q first.stores held (here.ran.began.known (omega arith)) k no_held within in
             let is = ap (λ (held : List Held). store_state input held found.0) (sym here.ran.done.stores_are)
-            ∙ ap (opening_at (states_of now.stores)) found.2 ∙ state_there now.stores k d inside in
+            ∙ ap (opening_at (states_of now.stores)) found.2 ∙ sym (state_at now.stores k d inside) in
             let far = subst (IsFar (bound_at (t - 1))) is (far_along found.0 (t - 1) found.1 (omega arith)).1 in
             record {
               storage = here.ran.ready.storage k d inside;
@@ -382,9 +376,7 @@ module _ {L : Type 0} (sent : L → List Sent) (failed : L → ℕ) (run : RunCo
           stopped_is = stopped;
           within = stepped.within;
           how = how;
-          failed_link = λ is_link.
-              failed_link sent failed e orders stop now after changes (rw (orders_here t) at here.orders.places) is_link
-              how;
-          never_refused = λ limits.
-              never_refused sent failed e orders stop now after how (takes_here law limits held);
+          failed_link = λ is_link. failed_link sent failed e orders stop now after changes
+              (rw (orders_here t) at here.orders.places) is_link how;
+          never_refused = λ limits. never_refused sent failed e orders stop now after how (takes_here law limits held);
         }

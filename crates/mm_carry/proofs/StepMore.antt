@@ -1,16 +1,14 @@
 -- One step more of a run.
-use Rattle.std.proofs.Common.{◌≡◌, ◌≢◌, inl, inr, ℕ, zero, suc, ◌+◌, ◌-◌, ◌<◌, ◌≤◌, ◌^◌, cond, eqb, List, [], ◌∷◌, ◌++◌}
-use Rattle.std.proofs.Common.{length, map, All, refl, sym, subst, ap, ◌∙◌, arith, append_assoc}
-use Rattle.mm_carry.proofs.Words.{cases_eq, eq-eqb, ne_eqb, map_push, flat_map_more, length-map, get_or-map, All-map}
-use Rattle.mm_carry.proofs.Words.{range_with_len, flat_map, slice_index, slice_index_or, filter, All-unmapped}
-use Rattle.mm_carry.proofs.Words.{range_with_len_next, StoreRow, SpacePacket, row, no_row, stores, Stored, State}
-use Rattle.mm_carry.proofs.Words.{opening_at, Offer, Held, labels_of, states_of, id_at, is_routed, counters_of}
-use Rattle.mm_carry.proofs.Words.{RecordingContext, offers, recording, given_in, Supply, Sent, all_sent, Order}
-use Rattle.mm_carry.proofs.Words.{Reported, AtEach, IsReady, AsPlanned, IsRunOf, RunsLoseAsPlanned}
-use Rattle.mm_carry.proofs.Words.{RunsLoseNoPacketUncounted, counts_from, rows_of, row_from, rows_by_counters}
-use Rattle.mm_carry.proofs.Words.{orders_of, ArePlaces, AreApart, RunInput, step_of, offered, as_came, place_in_memory}
-use Rattle.mm_carry.proofs.Words.{store_state, RunState, IsWholeStep, IsStepRun, AreStepRuns, SourcesGave, LinksSent}
-use Rattle.mm_carry.proofs.Words.{StepsDone, sent_in}
+use Rattle.mm_carry.proofs.Words
+use Words.{cases_eq, eq-eqb, ne_eqb, map_push, flat_map_more, length-map, get_or-map, All-map, range_with_len, flat_map}
+use Words.{slice_index, slice_index_or, filter, All-unmapped, range_with_len_next, StoreRow, SpacePacket, row, no_row}
+use Words.{stores, Stored, State, opening_at, Offer, Held, labels_of, states_of, id_at, is_routed, counters_of}
+use Words.{RecordingContext, offers, recording, given_in, Supply, Sent, all_sent, Order, Reported, AtEach, IsReady}
+use Words.{AsPlanned, IsRunOf, RunsLoseAsPlanned, RunsLoseNoPacketUncounted, counts_from, rows_of, row_from}
+use Words.{rows_by_counters, orders_of, ArePlaces, AreApart, RunInput, step_of, offered, as_came, place_in_memory}
+use Words.{store_state, RunState, IsWholeStep, IsStepRun, AreStepRuns, SourcesGave, LinksSent, StepsDone, sent_in, ◌≡◌}
+use Words.{◌≢◌, inl, inr, ℕ, zero, suc, ◌+◌, ◌-◌, ◌<◌, ◌≤◌, ◌^◌, cond, eqb, List, [], ◌∷◌, ◌++◌, length, map, All, refl}
+use Words.{sym, subst, ap, ◌∙◌, arith, append_assoc}
 use Rattle.mm_dump.specs.Dumped.{times, places_of, AllTook}
 use Rattle.mm_carry.proofs.Counters.{counts_planned, by_counters, came_at, timed_offers}
 use Rattle.mm_carry.proofs.RangeLists.{map_range_same, flat_map_range_same}
@@ -121,9 +119,8 @@ module _ {L : Type 0} (sent : L → List Sent) (failed : L → ℕ) (m : RunInpu
     -- what was offered in the step
     offered_here : (s : ℕ) → s < n → map (offers e (slice_index places s)) (given_in t before.sources) ≡ offered m s t
     offered_here s store =
-        let alike : map (offers e (slice_index places s)) (given_in t m.gives) ≡ offered m s t =
-        λ i. map (λ ps. map (λ p. Offer e.now p) (filter (is_routed e.routes (id_here s store i)) ps))
-        (given_in t m.gives) in
+        let alike : map (offers e (slice_index places s)) (given_in t m.gives) ≡ offered m s t = λ i. map
+        (λ ps. map (λ p. Offer e.now p) (filter (is_routed e.routes (id_here s store i)) ps)) (given_in t m.gives) in
         ap (map (offers e (slice_index places s))) (done.sources_are.others t (λ first last. omega arith)) ∙ alike
 
     -- a store went by a step run in a step, this one or an earlier one
@@ -175,9 +172,8 @@ module _ {L : Type 0} (sent : L → List Sent) (failed : L → ℕ) (m : RunInpu
             all_same (λ (ps : List SpacePacket). ps ≡ []) (λ s. s u) before.sources after.sources
             (stepped.others u other) (done.sources_are.nothing_left u first (omega arith))
       ];
-      others = λ u outside.
-          stepped.others u (λ same. outside (omega (arith, same)) (omega (arith, same))) ∙ done.sources_are.others u
-          (λ first last. outside first (omega arith));
+      others = λ u outside. stepped.others u (λ same. outside (omega (arith, same)) (omega (arith, same)))
+          ∙ done.sources_are.others u (λ first last. outside first (omega arith));
     }
 
     -- the links took what the orders of the step were given
@@ -213,15 +209,13 @@ module _ {L : Type 0} (sent : L → List Sent) (failed : L → ℕ) (m : RunInpu
               let here : piece t ≡ new = rw (eq-eqb t t refl) refl in
               let same = flat_map_range_same piece old 1 (t - 1) (λ u from to. let other : u ≢ t = λ equal. omega
               (arith, equal) in rw (ne_eqb u t other) refl) in
-              let next : flat_map piece (range_with_len 1 count) ≡ flat_map piece (range_with_len 1 (t - 1))
-              ++ piece t =
-              ap (flat_map piece) (range_with_len_next t from_one)
-              ∙ sym (flat_map_more piece [] (range_with_len 1 (t - 1)) t) in
+              let next : flat_map piece (range_with_len 1 count) ≡ flat_map piece
+              (range_with_len 1 (t - 1)) ++ piece t = ap (flat_map piece) (range_with_len_next t from_one) ∙ sym
+              (flat_map_more piece [] (range_with_len 1 (t - 1)) t) in
               took_lists sent failed ids stepped.gave stepped.places before.links after.links took_now l
-              (omega (arith, links_many))
-              ∙ ap (λ xs. xs ++ new) (done.links_are.lists l within)
-              ∙ append_assoc (slice_index_or (map sent links) l []) (flat_map old (range_with_len 1 (t - 1))) new
-              ∙ ap (λ xs. slice_index_or (map sent links) l [] ++ xs) (sym (next ∙ (λ i. same i ++ here i)));
+              (omega (arith, links_many)) ∙ ap (λ xs. xs ++ new) (done.links_are.lists l within) ∙ append_assoc
+              (slice_index_or (map sent links) l []) (flat_map old (range_with_len 1 (t - 1))) new ∙ ap
+              (λ xs. slice_index_or (map sent links) l [] ++ xs) (sym (next ∙ (λ i. same i ++ here i)));
           no_failure = all.1 ∙ done.links_are.no_failure;
         }
 

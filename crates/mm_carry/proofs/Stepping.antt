@@ -1,15 +1,15 @@
 -- What step runs do to the stores, step by step, and what the stores lose over all steps.
-use Rattle.std.proofs.Common.{◌≡◌, inl, inr, ℕ, zero, suc, ◌+◌, ◌-◌, ◌<◌, ◌≤◌, ◌^◌, min, List, [], ◌∷◌, ◌++◌, length}
-use Rattle.std.proofs.Common.{All, refl, sym, ap, subst, ◌∙◌, arith, length-append, add-one}
 use Rattle.mm_carry.proofs.Words.{cases_lt, All-weaker, sum_by, range_with_len, All-back, sum_by_range_more}
 use Rattle.mm_carry.proofs.Words.{sum_by_range_same, sum_by-add, Dumping, size, arrivals, stores, left_step, left_start}
 use Rattle.mm_carry.proofs.Words.{Amounts, left, written, lost, store_loss, loss, IsRising, Stored, count_of_shuffle}
 use Rattle.mm_carry.proofs.Words.{HasTimes, ReplaysKeepStates, OffersLeave, OrdersDumpTheOldest, State, IsState, Leaves}
 use Rattle.mm_carry.proofs.Words.{count_of, IsLegal, IsRun, replay, Entry, Event, AtEach, AsPlanned, IsRunOf}
-use Rattle.mm_carry.proofs.Words.{StepRunsKeepStores, IsDumpOf, IsStepRun, AreTimed, IsBy, AreBy}
+use Rattle.mm_carry.proofs.Words.{StepRunsKeepStores, IsDumpOf, IsStepRun, AreTimed, IsBy, AreBy, ◌≡◌, inl, inr, ℕ}
+use Rattle.mm_carry.proofs.Words.{zero, suc, ◌+◌, ◌-◌, ◌<◌, ◌≤◌, ◌^◌, min, List, [], ◌∷◌, ◌++◌, length, All, refl, sym}
+use Rattle.mm_carry.proofs.Words.{ap, subst, ◌∙◌, arith, length-append, add-one, shuffled}
 use Rattle.mm_store.proofs.ContentLemmas.{IsRising-rest}
 use Rattle.mm_desk.specs.Orders.{Dumps}
-use Rattle.mm_carry.proofs.Replays.{IsLegal-parts, replay-append, shuffled, by_offer, run_moves}
+use Rattle.mm_carry.proofs.Replays.{IsLegal-parts, replay-append, by_offer, run_moves}
 
 -- times rise in the back of a list in which they rise
 rising_back : (gave rest : List Stored) → IsRising (gave ++ rest) → IsRising rest
@@ -88,8 +88,7 @@ module _ (leave : OffersLeave) (keep : ReplaysKeepStates) (dump : OrdersDumpTheO
     pub dumps : Dumps (replay s recorded) t wanted gave
 
   pub halves : (s t : State) (offers : List (List Event)) (wanted : ℕ) (gave : List Stored) → IsState s
-      → AreTimed offers
-      → (is : IsStepRun offers wanted gave s t) → Halves offers wanted gave s t is.recorded
+      → AreTimed offers → (is : IsStepRun offers wanted gave s t) → Halves offers wanted gave s t is.recorded
   halves s t offers wanted gave sound timed is =
       let mid = replay s is.recorded in
       let legal = IsLegal-parts s is.recorded is.dumped is.run.legal in
@@ -105,8 +104,7 @@ module _ (leave : OffersLeave) (keep : ReplaysKeepStates) (dump : OrdersDumpTheO
 
   -- a step run
   run_leaves : (s t : State) (offers : List (List Event)) (wanted : ℕ) (gave : List Stored) → IsState s
-      → AreTimed offers
-      → IsStepRun offers wanted gave s t → StepLeaves s t (count_of offers) wanted
+      → AreTimed offers → IsStepRun offers wanted gave s t → StepLeaves s t (count_of offers) wanted
   run_leaves s t offers wanted gave sound timed is =
       let parts = halves s t offers wanted gave sound timed is in
       let came = parts.came in
@@ -166,8 +164,7 @@ module _ (leave : OffersLeave) (keep : ReplaysKeepStates) (dump : OrdersDumpTheO
       )
 
   module _ (q : Dumping) (x : Amounts) (steps : ℕ) (offers : ℕ → ℕ → List (List Event)) (gave : ℕ → ℕ → List Stored)
-      (states : ℕ → ℕ → State)
-      (is : IsRunOf q x steps offers gave states) where
+      (states : ℕ → ℕ → State) (is : IsRunOf q x steps offers gave states) where
     -- one step of a run
     step_of : (s t : ℕ) → s < length q.rows → 1 ≤ t → t ≤ steps → Stands q x s (t - 1) (states s (t - 1))
         → Stands q x s t (states s t) × AsPlanned q x s t (states s (t - 1)) (states s t)

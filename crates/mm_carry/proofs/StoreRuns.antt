@@ -1,25 +1,17 @@
 -- What a run did with each store, whole or halted, and what runs that follow one another send.
-use Rattle.std.proofs.Common.{◌≡◌, ◌⊎◌, inl, inr, ℕ, ◌+◌, ◌-◌, ◌<◌, List, [], ◌∷◌, ◌++◌, length, map, true, refl, sym}
-use Rattle.std.proofs.Common.{ap, subst, ◌∙◌, arith, append_assoc, length-append, All, Contains}
-use Rattle.std.specs.Prelude.{sum_by}
-use Rattle.std.proofs.lemmas.Grind.{flat_map-append}
 use Rattle.std.proofs.lemmas.List.{get_or-append-add}
 use Rattle.std.proofs.lemmas.List.Elements.{All-append, All-contains_itself, Contains-append_cases}
 use Rattle.std.proofs.lemmas.List.Elements.{Contains-append_left, Contains-append_right}
-use Rattle.std.proofs.lemmas.Option.{slice_get_within}
-use Rattle.mm_carry.proofs.Words.{cases_lt, All-nil, All-weaker, append-nil, get_or_append_left, length-map, find_at, slice_get, Option}
-use Rattle.mm_carry.proofs.Words.{Some, None, IsRising, OrdersDumpTheOldest, BrokenOrdersChangeNothing, given_oldest}
-use Rattle.mm_carry.proofs.Words.{Stored, State, IsState, Held, has_id, labels_of, states_of, opening_at, asked, Event}
-use Rattle.mm_carry.proofs.Words.{Sent, row, IsLegal, Course, EndedAs, OrderBroken, HasTried, times, MayBegin, meets}
-use Rattle.mm_carry.proofs.Words.{RunInput, Table, place_in_memory, store_state, recording_in, step_orders, RunState}
-use Rattle.mm_carry.proofs.Words.{IsStep, IsHaltedIn, Stop, Supply, Reported}
-use Rattle.mm_record.specs.Steps.{HasLegalOffers}
+use Rattle.mm_carry.proofs.Words
+use Words.{cases_lt, All-nil, All-weaker, append-nil, get_or_append_left, length-map, find_at, slice_get, Option, Some}
+use Words.{None, IsRising, OrdersDumpTheOldest, BrokenOrdersChangeNothing, given_oldest, Stored, State, IsState, Held}
+use Words.{has_id, labels_of, states_of, opening_at, asked, Event, Sent, row, IsLegal, Course, EndedAs, OrderBroken}
+use Words.{HasTried, MayBegin, meets, RunInput, Table, place_in_memory, store_state, recording_in, step_orders}
+use Words.{RunState, IsStep, IsHaltedIn, Stop, Supply, Reported, ◌≡◌, ◌⊎◌, inl, inr, ℕ, ◌+◌, ◌-◌, ◌<◌, List, [], ◌∷◌}
+use Words.{◌++◌, length, map, true, refl, sym, ap, subst, ◌∙◌, arith, append_assoc, length-append, All, Contains}
+use Words.{HasLegalOffers, run_start_of, slice_get_within, aborted, over_steps, HaveLeft, GiveLater}
 use Rattle.mm_desk.specs.Fates.{given, after, over}
-use Rattle.mm_desk.specs.Losses.{GiveLater}
-use Rattle.mm_dump.specs.Broken.{aborted}
 use Rattle.mm_carry.specs.declared.requirement.Requirement.TheVariants.{Size}
-use Rattle.mm_carry.specs.Accounts.{over_steps, HaveLeft}
-use Rattle.mm_carry.specs.Ending.{run_start_of}
 use Rattle.mm_carry.specs.Following.{StoreRun, IsStoreRun, AreFollowing, all_of, whole_of, broken_of, RunsSendOnce}
 use Rattle.mm_carry.specs.Following.{where_whole, where_broken, store_run, StepsAreStoreRuns}
 use Rattle.mm_carry.proofs.DumpLemmas.{replayed, none_left, rising_front, order_does, broken_gives, after-append}
@@ -47,8 +39,7 @@ whole_run s t es gave leads gone = record {
 module _ (later : GiveLater) (s : State) (sound : IsState s) where
   -- events and then a run are a run, which sent what had left the store by the events too
   run_after : (es : List Event) (past : List Stored) → HaveLeft s es past → (between : List Event) (r : StoreRun)
-      → r.before ≡ after (after s es) between → IsStoreRun r
-      → IsStoreRun (from_to s r.left (past ++ r.gave) r.broke)
+      → r.before ≡ after (after s es) between → IsStoreRun r → IsStoreRun (from_to s r.left (past ++ r.gave) r.broke)
   run_after es past gone between r is run =
       let idle = es ++ between in
       let found : r.before ≡ after s idle = is ∙ sym (after-append s es between) in
@@ -79,9 +70,8 @@ module _ (later : GiveLater) (s : State) (sound : IsState s) where
       (subst (λ (u : State). AreFollowing u rs) more.leads follow.3))
 
   -- and what one of the runs sent, after what whole orders of earlier runs sent
-  run_rising : (es : List Event) (past : List Stored) → HaveLeft s es past → (early late : List StoreRun)
-      (r : StoreRun) → AreFollowing (after s es) (early ++ r ∷ late)
-      → IsRising (past ++ whole_of early ++ r.gave ++ r.broke)
+  run_rising : (es : List Event) (past : List Stored) → HaveLeft s es past → (early late : List StoreRun) (r : StoreRun)
+      → AreFollowing (after s es) (early ++ r ∷ late) → IsRising (past ++ whole_of early ++ r.gave ++ r.broke)
   run_rising es past gone [] late r follow =
       subst (λ (ps : List Stored). IsRising (ps ++ r.gave ++ r.broke)) (sym (append-nil past))
       (run_after es past gone follow.0 r follow.1 follow.2).rising
@@ -96,8 +86,7 @@ apart : (xs ys : List Stored) (p : Stored) → IsRising (xs ++ ys) → Contains 
 apart xs ys p rising one two =
     let first = get_or_append_left xs ys p one.0 one.1 ∙ one.2 in
     let second = get_or-append-add xs ys two.0 p ∙ two.2 in
-    let less = rising one.0 (length xs + two.0) p (omega (arith, one.1))
-    (omega (arith, two.1, length-append xs ys)) in
+    let less = rising one.0 (length xs + two.0) p (omega (arith, one.1)) (omega (arith, two.1, length-append xs ys)) in
     omega (arith, less, ap (λ (q : Stored). q.time) first, ap (λ (q : Stored). q.time) second)
 
 -- what runs sent, a whole order or a broken one sent

@@ -1,32 +1,24 @@
 -- Stores that are ready, and counts that are far from their end, from step to step.
-use Rattle.std.proofs.Common.{◌≡◌, inl, inr, ℕ, ◌*◌, ◌<◌, ◌≤◌, List, [], ◌∷◌, ◌++◌, length, map, get_or, All, refl}
-use Rattle.std.proofs.Common.{sym, ap, subst, ◌∙◌, arith}
-use Rattle.mm_carry.proofs.Words.{cases_lt, length-map, get_or-map, All-nil, All-cons, All-map, sum_by-le, AllZip}
-use Rattle.mm_carry.proofs.Words.{IsTrue, Option, Some, None, filter, All-front, sum_by-map, SpacePacket}
-use Rattle.mm_carry.proofs.Words.{OrdersDumpTheOldest, State, IsState, count_of, blank, opening_at, replay, Event}
-use Rattle.mm_carry.proofs.Words.{Offer, Held, labels_of, states_of, id_at, is_routed, filter_fewer}
-use Rattle.mm_carry.proofs.Words.{RecordingContext, offers, given_in, Supply, Course, EndedAs, HasTried, MayDump}
-use Rattle.mm_carry.proofs.Words.{BrokenOrdersChangeNothing, Sent, Order, OrderBroken, AreFirstOffers, Fault}
-use Rattle.mm_carry.proofs.Words.{RunState, AreReady, MayCarry, IsStep, orders_after, Stop}
-use Rattle.mm_carry.proofs.Words.{IsBy, AreBy}
-use Rattle.mm_record.specs.Steps.{Records}
+use Rattle.mm_carry.proofs.Words
+use Words.{cases_lt, length-map, All-nil, All-cons, All-map, sum_by-le, AllZip, IsTrue, Option, Some, None, filter}
+use Words.{All-front, sum_by-map, SpacePacket, OrdersDumpTheOldest, State, IsState, count_of, opening_at, replay, Event}
+use Words.{Offer, Held, labels_of, states_of, id_at, is_routed, filter_fewer, RecordingContext, offers, given_in}
+use Words.{Supply, Course, EndedAs, HasTried, MayDump, BrokenOrdersChangeNothing, Sent, Order, OrderBroken}
+use Words.{AreFirstOffers, Fault, RunState, AreReady, MayCarry, IsStep, orders_after, Stop, IsBy, AreBy, ◌≡◌, inl, inr}
+use Words.{ℕ, ◌*◌, ◌<◌, ◌≤◌, List, [], ◌∷◌, ◌++◌, length, map, get_or, All, refl, sym, ap, subst, ◌∙◌, arith, Records}
+use Rattle.mm_shared.proofs.Opening.{state_at}
 use Rattle.mm_carry.proofs.Replays.{KeepsSwitches, run_moves}
 use Rattle.mm_carry.proofs.Placing.{no_held}
 use Rattle.mm_carry.proofs.Parts.{as_many, first_turns, orders_left}
 
--- the state at a place is that of the store there
-pub state_there : (held : List Held) (k : ℕ) (d : Held) → k < length held → opening_at (states_of held) k
-    ≡ (get_or held k d).state
-state_there held k d within = get_or-map (λ (h : Held). h.state) held k d blank within
-
 -- what holds of each state holds of each store
 pub all_states : (P : State → Type 0) (held : List Held)
     → ((k : ℕ) → k < length held → P (opening_at (states_of held) k)) → All (λ h. P h.state) held
-all_states P held each k d within = subst P (state_there held k d within) (each k within)
+all_states P held each k d within = subst P (sym (state_at held k d within)) (each k within)
 
 pub state_holds : (P : State → Type 0) (held : List Held) → All (λ h. P h.state) held → (k : ℕ) → k < length held
     → P (opening_at (states_of held) k)
-state_holds P held all k within = subst P (sym (state_there held k no_held within)) (all k no_held within)
+state_holds P held all k within = subst P (state_at held k no_held within) (all k no_held within)
 
 -- offers of a step are made at its moment
 offers_by : (e : RecordingContext) (k : ℕ) (g : List SpacePacket) → All (IsBy e.now) (offers e k g)
@@ -81,13 +73,11 @@ tried_keeps dump changes s t taken c sound tried = elim (cases_lt 0 taken) [
         tried.run).0
 
 -- stores that recorders have left are ready
-pub ready_recorded : (e : RecordingContext) (before mid : List Held) (fault : Option Fault)
-    (given left : List Supply) → length e.ids ≡ length before → AreReady before → Records e before mid fault given left
-    → AreReady mid
+pub ready_recorded : (e : RecordingContext) (before mid : List Held) (fault : Option Fault) (given left : List Supply)
+    → length e.ids ≡ length before → AreReady before → Records e before mid fault given left → AreReady mid
 ready_recorded e before mid fault given left ids ready records =
     let many = as_many mid before records.labels in
-    ready_on before mid records.labels records.sound
-    (λ k within.
+    ready_on before mid records.labels records.sound (λ k within.
     let went = records.logs k within in
     let asked : List (List Event) = map (λ run. run.offered k) records.runs in
     let turns = first_turns e given left records.runs k records.are_runs

@@ -25,8 +25,7 @@ run_start_of m plan first = run_start m.problem plan m.memory.stores m.base (len
 -- theirs, in each of them the links took no more than the window, and of each channel no more than its limit, and the
 -- stores are sound and ready for more
 pub record HasRun {L : Type 0} (sent : L → List Sent) (failed : L → ℕ) (m : RunInput) (plan : Table)
-    (first : RunState Supply L)
-    (steps : ℕ) (now : RunState Supply L) (report : Reported) : Type 0 where
+    (first : RunState Supply L) (steps : ℕ) (now : RunState Supply L) (report : Reported) : Type 0 where
   pub began : MayBegin (run_start_of m plan first)
   pub done : StepsDone sent failed m first.sources first.links steps now report
   pub fit : (t : ℕ) → 1 ≤ t → t ≤ steps → FitsAt m.problem (taken_amounts m done.gave done.links_are.took) t
@@ -36,8 +35,7 @@ pub record HasRun {L : Type 0} (sent : L → List Sent) (failed : L → ℕ) (m 
 -- for more. The lost packets of the report are as many as the plan loses of what came, and what came beyond the
 -- forecast cost no more than itself
 pub record IsCarriedOut {L : Type 0} (sent : L → List Sent) (failed : L → ℕ) (m : RunInput) (plan : Table)
-    (links : List L) (memory : Holdings)
-    (left : List Supply) (links_left : List L) (report : Reported) : Type 0 where
+    (links : List L) (memory : Holdings) (left : List Supply) (links_left : List L) (report : Reported) : Type 0 where
   pub routes : memory.routes ≡ m.memory.routes
   pub ran : HasRun sent failed m plan (over_memory m.memory m.gives links) (length m.problem.windows)
       (over_memory memory left links_left) report
@@ -49,8 +47,7 @@ pub record IsCarriedOut {L : Type 0} (sent : L → List Sent) (failed : L → �
 -- in the step, and no more was spent in it than its window. Where counts are far from their end, no store refused a
 -- packet
 pub record IsHaltedIn {L : Type 0} (sent : L → List Sent) (failed : L → ℕ) (m : RunInput) (plan : Table)
-    (first : RunState Supply L)
-    (step : ℕ) (left : RunState Supply L) (stop : Stop) (report : Reported) : Type 0 where
+    (first : RunState Supply L) (step : ℕ) (left : RunState Supply L) (stop : Stop) (report : Reported) : Type 0 where
   pub from_one : 1 ≤ step
   pub last : step ≤ length m.problem.windows
   -- what the step began with
@@ -104,6 +101,5 @@ stop_of halted = record { cause = halted.cause; spent = halted.spent }
 abbrev pub IsHalted : {S L : Type 0} → (L → List Sent) → (L → ℕ) → RunInput → Table → List S → List L → Holdings
     → Halted S L → List Supply → Type 0
 IsHalted sent failed m plan sources links memory halted left =
-    (memory.routes ≡ m.memory.routes)
-    × IsStopped sent failed m plan (over_memory m.memory sources links)
+    (memory.routes ≡ m.memory.routes) × IsStopped sent failed m plan (over_memory m.memory sources links)
     (over_memory memory halted.sources.items halted.links.items) left (stop_of halted) halted.report

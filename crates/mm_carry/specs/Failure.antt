@@ -29,8 +29,7 @@ pub record LastBroke (course : ℕ → Course) (places : List ℕ) (stores_befor
 -- a link carried out the orders of the stores at these places: its list grew by what they sent, one after another, and
 -- one more of its sends failed exactly where the last order broke
 pub record LinkCarried (ids : List (List ℕ)) (course : ℕ → Course) (places : List ℕ)
-    (stores_before stores_after : List State)
-    (old new : List Sent) (before after : ℕ) : Type 0 where
+    (stores_before stores_after : List State) (old new : List Sent) (before after : ℕ) : Type 0 where
   pub grew : new ≡ old ++ sent_by ids (map course places)
   pub how : NoneBroke course places before after ⊎ LastBroke course places stores_before stores_after before after
 

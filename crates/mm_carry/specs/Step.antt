@@ -3,12 +3,11 @@ use Rattle.std.specs.Prelude.{◌≡◌, ◌≢◌, ℕ, ◌-◌, ◌<◌, ◌�
 use Rattle.std.specs.Prelude.{All, AllPairs, Option, Some, None, IfSome}
 use Rattle.std.specs.List.{AllZip}
 use Rattle.mm_carry.specs.Words.{MAX_STORES, SpacePacket, Stored, IsState, opening_at, Held, labels_of, states_of}
-use Rattle.mm_carry.specs.Words.{AreNamed, cause_in, RecordingContext, recording, offers, given_in}
+use Rattle.mm_carry.specs.Words.{AreNamed, cause_in, RecordingContext, offers, given_in}
 use Rattle.mm_carry.specs.Words.{Records, Supply, Sent, Order, Cause, NoMemory, LinkFailed, LogMismatch}
 use Rattle.mm_desk.specs.declared.desk.TheConstants.{MAX_SEATS}
 use Rattle.mm_desk.specs.declared.fault.Fault.{Fault}
 use Rattle.mm_desk.specs.Holdings.{ids_of}
-use Rattle.mm_record.specs.declared.step.RecordingStep.{RecordingStep}
 use Rattle.mm_dump.specs.declared.order.OrderBroken.{OrderBroken}
 use Rattle.mm_dump.specs.declared.order.OrderBroken.TheVariants as broken
 use Rattle.mm_dump.specs.Dumped.{wanted, times, places_of, AllTook, CarriesOut}
@@ -42,10 +41,6 @@ pub record MayCarry {S L : Type 0} (failed : L → ℕ) (moment : ℕ) (orders :
   pub links : All (λ l. failed l < 2 ^ 64 - 1) now.links
   pub orders_may : AreOrders (length now.stores) orders
   pub early : moment < 2 ^ 64
-
--- what the recorders of a step share, over these stores
-abbrev pub recording_by : RecordingStep → List Held → RecordingContext
-recording_by step stores = recording step.step step.now step.control.now stores
 
 -- the orders that are carried out in a step: none where a recorder stopped early
 abbrev pub orders_after : Option Fault → List Order → List Order

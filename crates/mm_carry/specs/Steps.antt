@@ -56,8 +56,7 @@ sent_amounts m gave s t = length (gave (place_in_memory m s) t)
 -- report has the numbers of the plan, with what came in place of the forecast, which are those of the stores' counters,
 -- row by row and in all
 pub record StepsDone {L : Type 0} (sent : L → List Sent) (failed : L → ℕ) (m : RunInput) (sources : List Supply)
-    (links : List L)
-    (steps : ℕ) (after : RunState Supply L) (report : Reported) : Type 0 where
+    (links : List L) (steps : ℕ) (after : RunState Supply L) (report : Reported) : Type 0 where
   -- the stores after each step, and what each order was given
   pub stores : ℕ → List Held
   pub gave : ℕ → ℕ → List Stored

@@ -17,7 +17,7 @@ pub use Rattle.mm_desk.specs.declared.held.Held.{Held}
 pub use Rattle.mm_shared.specs.Stores.{AreNamed, id_at, labels_of, states_of}
 pub use Rattle.mm_desk.specs.Holdings.{AreHeld, Holdings, has_id, store_of}
 pub use Rattle.mm_record.specs.Causes.{cause_in, is_clock_late, is_ready}
-pub use Rattle.mm_record.specs.Recorded.{RecordingContext, offers, recording}
+pub use Rattle.mm_record.specs.Recorded.{RecordingContext, offers, recording, recording_by}
 pub use Rattle.mm_record.specs.Steps.{AllRecorded, AreFew, Records, given_in}
 pub use Rattle.mm_record.specs.Supplies.{Supply, WhateverComes}
 pub use Rattle.mm_dump.specs.Courses.{Course, IsBroken, IsCourse, IsWhole, sent_by}

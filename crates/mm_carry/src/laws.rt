@@ -78,6 +78,7 @@ pub fn broken_steps_are_logs<L: Link>()
 
 /// A step without a stop is whole: each store went by a step run of all that the sources gave and of its whole order,
 /// and the links sent what the orders were given.
+#[tactic(auto, using(crate::proofs::Parts::whole_step))]
 pub fn steps_without_stop_are_whole<L: Link>()
     ensures whole { StepsWithoutStopAreWhole L.sent L.failed }
 {}
@@ -85,6 +86,7 @@ pub fn steps_without_stop_are_whole<L: Link>()
 /// Over runs that follow one another over one store, whatever else is asked of it between them, what whole orders sent
 /// has rising times: none of it is sent twice. All that a run sends is later than what whole orders of earlier runs
 /// sent: what it sends again, only broken orders of earlier runs had sent.
+#[tactic(auto, using(crate::proofs::StoreRuns::send_once))]
 pub fn whole_orders_send_once()
     ensures law { RunsSendOnce }
 {

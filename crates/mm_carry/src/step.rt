@@ -3,7 +3,8 @@ ghost use Rattle.std.specs.Prelude.{◌≡◌};
 ghost use Rattle.std.specs.Result.{result_err};
 ghost use Rattle.mm_shared.specs.Stores.{labels_of};
 ghost use Rattle.mm_carry.specs.RunState.{InRun};
-ghost use Rattle.mm_carry.specs.Step.{MayCarry, recording_by, orders_after, cause_of, stop_for, IsStep};
+ghost use Rattle.mm_record.specs.Recorded.{recording_by};
+ghost use Rattle.mm_carry.specs.Step.{MayCarry, orders_after, cause_of, stop_for, IsStep};
 
 use crate::open_run::OpenRun;
 use mm_desk::Fault;

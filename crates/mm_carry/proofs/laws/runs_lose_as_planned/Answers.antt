@@ -1,6 +1,6 @@
 use Rattle.mm_carry.proofs.Stepping.{as_planned, all_lost}
+use Rattle.mm_carry.proofs.Words.{length}
 use Rattle.mm_carry.proofs.laws.runs_lose_as_planned.Goals as goal
-use Rattle.std.proofs.Common.{length}
 
 pub returns-clause-each : goal.returns-clause-each
 returns-clause-each c = as_planned c.any_order_loses_alike.ensures.leaves c.events_keep_a_state.ensures.log

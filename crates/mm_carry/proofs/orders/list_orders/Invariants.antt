@@ -1,5 +1,5 @@
-use Rattle.std.proofs.Common.{◌≡◌, ◌≤◌, vec_len, vec_capacity}
-use Rattle.mm_carry.proofs.Words.{amount, orders_of}
+use Rattle.std.proofs.Common.{vec_capacity}
+use Rattle.mm_carry.proofs.Words.{amount, orders_of, ◌≡◌, ◌≤◌, vec_len}
 use Rattle.mm_carry.proofs.orders.list_orders.Given as goal
 
 abbrev pub invariant-loop-store : goal.invariant-loop-store

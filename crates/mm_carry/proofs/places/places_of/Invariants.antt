@@ -1,5 +1,4 @@
-use Rattle.std.proofs.Common.{◌≡◌, length}
-use Rattle.mm_carry.specs.Places.{ArePlaces}
+use Rattle.mm_carry.proofs.Words.{◌≡◌, length, ArePlaces}
 use Rattle.mm_carry.proofs.places.places_of.Given as goal
 
 abbrev pub invariant-loop-store : goal.invariant-loop-store

@@ -1,5 +1,4 @@
-use Rattle.std.proofs.Common.{◌≡◌, ◌<◌, ℕ, false}
-use Rattle.mm_carry.proofs.Words.{is_some, limit}
+use Rattle.mm_carry.proofs.Words.{is_some, limit, ◌≡◌, ◌<◌, ℕ, false}
 use Rattle.mm_carry.proofs.readiness.has_limit.Given as goal
 
 abbrev pub invariant-loop-channel : goal.invariant-loop-channel

@@ -1,5 +1,4 @@
-use Rattle.std.proofs.Common.{◌≡◌, ◌<◌, ℕ, true}
-use Rattle.mm_carry.specs.Readiness.{meets_at}
+use Rattle.mm_carry.proofs.Words.{◌≡◌, ◌<◌, ℕ, true, meets_at}
 use Rattle.mm_carry.proofs.requirement.first_mismatch.Given as goal
 
 abbrev pub invariant-loop-store : goal.invariant-loop-store

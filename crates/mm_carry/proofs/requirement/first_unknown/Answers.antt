@@ -1,5 +1,4 @@
-use Rattle.std.proofs.Common.{◌≡◌, false, sym, subst, ◌∙◌, arith}
-use Rattle.mm_carry.proofs.Words.{All-more, Held, is_unknown}
+use Rattle.mm_carry.proofs.Words.{All-more, Held, is_unknown, ◌≡◌, false, sym, subst, ◌∙◌, arith}
 use Rattle.mm_carry.proofs.requirement.first_unknown.Goals as goal
 
 pub loop-held-preserved : goal.loop-held-preserved

@@ -1,5 +1,4 @@
-use Rattle.std.proofs.Common.{take}
-use Rattle.mm_carry.specs.Readiness.{NoneUnknown}
+use Rattle.mm_carry.proofs.Words.{take, NoneUnknown}
 use Rattle.mm_carry.proofs.requirement.first_unknown.Given as goal
 
 abbrev pub invariant-loop-held : goal.invariant-loop-held

@@ -1,5 +1,4 @@
-use Rattle.std.proofs.Common.{◌≡◌, map, take}
-use Rattle.mm_carry.proofs.Words.{StoreRow}
+use Rattle.mm_carry.proofs.Words.{StoreRow, ◌≡◌, map, take}
 use Rattle.mm_carry.proofs.room.store_ids.Given as goal
 
 abbrev pub invariant-loop-store : goal.invariant-loop-store

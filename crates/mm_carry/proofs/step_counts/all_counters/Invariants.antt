@@ -1,5 +1,4 @@
-use Rattle.std.proofs.Common.{◌≡◌, length}
-use Rattle.mm_carry.proofs.Words.{stores_in, AreCounters}
+use Rattle.mm_carry.proofs.Words.{stores_in, AreCounters, ◌≡◌, length}
 use Rattle.mm_carry.proofs.step_counts.all_counters.Given as goal
 
 abbrev pub invariant-loop-store : goal.invariant-loop-store

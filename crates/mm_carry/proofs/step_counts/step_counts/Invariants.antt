@@ -1,5 +1,4 @@
-use Rattle.std.proofs.Common.{◌≡◌, length}
-use Rattle.mm_carry.proofs.Words.{AreStepCounts}
+use Rattle.mm_carry.proofs.Words.{AreStepCounts, ◌≡◌, length}
 use Rattle.mm_carry.proofs.step_counts.step_counts.Given as goal
 
 abbrev pub invariant-loop-store : goal.invariant-loop-store

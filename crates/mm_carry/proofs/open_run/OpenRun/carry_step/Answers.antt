@@ -1,6 +1,5 @@
-use Rattle.std.proofs.Common.{◌∙◌, ap, arith}
 use Rattle.mm_carry.proofs.Words.{all_stay, recording_by, length-map, stores_in, Held, with_items_is, RunState}
-use Rattle.mm_carry.proofs.Words.{stop_for}
+use Rattle.mm_carry.proofs.Words.{stop_for, ◌∙◌, ap, arith}
 use Rattle.mm_carry.proofs.Parts.{as_many, at_early, same_ids}
 use Rattle.mm_carry.proofs.StoresReady.{may_dump, ready_recorded}
 use Rattle.mm_carry.proofs.open_run.OpenRun.carry_step.Goals as goal

@@ -1,12 +1,11 @@
-use Rattle.std.proofs.Common.{◌≡◌, ◌∙◌, ◌+◌, ◌-◌, ◌≤◌, List, length, take, refl, arith}
 use Rattle.mm_carry.proofs.Words.{AllZip, all_stay, length-supplies, zip_long, Supply, supplies, given_to, RunState}
-use Rattle.mm_carry.proofs.Words.{with_supplies, stores_in}
+use Rattle.mm_carry.proofs.Words.{with_supplies, stores_in, ◌≡◌, ◌∙◌, ◌+◌, ◌-◌, ◌≤◌, List, length, take, refl, arith}
 use Rattle.mm_carry.proofs.Parts.{as_many}
 use Rattle.mm_carry.proofs.Placing.{places_cut, stand_cut}
 use Rattle.mm_carry.proofs.Starting.{Underway, underway, may_report, all_ready, done_first, ran_on, halted_in}
+use Rattle.mm_carry.proofs.open_run.OpenRun.carry_steps.Goals.{In-loop-step}
 use Rattle.mm_carry.proofs.open_run.OpenRun.carry_steps.Given as given
 use Rattle.mm_carry.proofs.open_run.OpenRun.carry_steps.Goals as goal
-use Rattle.mm_carry.proofs.open_run.OpenRun.carry_steps.Goals.{In-loop-step}
 
 -- the run as it began and as it is before the step, with what its sources give until they are as these
 abbrev first_in : (g : given.Over) (c : goal.In-loop-step g) → List g.row.S.Denot → RunState Supply g.row.L.Denot

@@ -1,5 +1,5 @@
-use Rattle.std.proofs.Common.{◌≡◌, ◌-◌, ◌≤◌, length, vec_capacity}
-use Rattle.mm_carry.proofs.Words.{MAX_STORES, labels_of, given_to, AreCounters, HasRun, InRun}
+use Rattle.std.proofs.Common.{vec_capacity}
+use Rattle.mm_carry.proofs.Words.{MAX_STORES, labels_of, given_to, AreCounters, HasRun, InRun, ◌≡◌, ◌-◌, ◌≤◌, length}
 use Rattle.mm_carry.proofs.open_run.OpenRun.carry_steps.Given as goal
 
 abbrev pub invariant-loop-step : goal.invariant-loop-step

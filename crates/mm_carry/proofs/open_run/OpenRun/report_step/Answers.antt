@@ -1,5 +1,5 @@
-use Rattle.std.proofs.Common.{◌∙◌, ℕ, List, [], ◌∷◌, ◌++◌, length, take, ap, arith}
-use Rattle.mm_carry.proofs.Words.{amount, stores_in, StepCounts, orders_of}
+use Rattle.mm_carry.proofs.Words.{amount, stores_in, StepCounts, orders_of, ◌∙◌, ℕ, List, [], ◌∷◌, ◌++◌, length, take}
+use Rattle.mm_carry.proofs.Words.{ap, arith}
 use Rattle.mm_carry.proofs.Counters.{row_taken}
 use Rattle.mm_carry.proofs.open_run.OpenRun.report_step.Goals as goal
 
@@ -17,8 +17,7 @@ returns-clause-step g c =
     let listed = c.deref.ensures.value ∙ c.list_orders.ensures.orders
     ∙ ap (λ (m : ℕ). orders_of (amount run.plan.now) places t m) may.stand.all in
     let whole = rw (← c.self.view_is, c.from.ensures, listed) at c.in_ok-carry_step.ensures.step in
-    let row =
-    ap (λ (m : ℕ). take m c.step_counts-counts.result) may.stand.all
+    let row = ap (λ (m : ℕ). take m c.step_counts-counts.result) may.stand.all
     ∙ row_taken run.problem.now t places before after _ _ _ n may.counters_are
     (rw may.stand.all at c.all_counters-after.ensures.counters) c.step_counts-counts.ensures.counts
     (omega (arith, may.stand.all, may.stand.few, c.step_counts-counts.ensures.len)) in
@@ -29,7 +28,6 @@ returns-clause-step g c =
         step = one.1;
         within = tt;
         unreported = tt;
-        row = c.add.ensures.added ∙ ap (λ (r : List StepCounts). record report { steps = report.steps ++ r ∷ [] })
-            row;
+        row = c.add.ensures.added ∙ ap (λ (r : List StepCounts). record report { steps = report.steps ++ r ∷ [] }) row;
       },
     ))

@@ -1,10 +1,9 @@
-use Rattle.std.proofs.Common.{◌∙◌, length, refl, inl, inr, All, arith, ap, subst}
-use Rattle.mm_carry.proofs.Words.{IsState, Held, stores_in, RunStart, run_start, Stops, MayBegin}
-use Rattle.mm_carry.proofs.Words.{state_of}
+use Rattle.mm_carry.proofs.Words.{IsState, Held, stores_in, RunStart, run_start, Stops, MayBegin, state_of, ◌∙◌, length}
+use Rattle.mm_carry.proofs.Words.{refl, inl, inr, All, arith, ap, subst}
 use Rattle.mm_carry.proofs.Ended.{start_by, not_begun, ended_whole, ended_early}
+use Rattle.mm_carry.proofs.run_parts.RunParts.carry_plan.Goals.{After-ready}
 use Rattle.mm_carry.proofs.run_parts.RunParts.carry_plan.Given as given
 use Rattle.mm_carry.proofs.run_parts.RunParts.carry_plan.Goals as goal
-use Rattle.mm_carry.proofs.run_parts.RunParts.carry_plan.Goals.{After-ready}
 
 -- what the tests say of what they read holds of the run
 tested : (g : given.Over) (c : goal.After-ready g) (P : RunStart → Type 0) → let run = c.args.run.now in
