@@ -37,7 +37,5 @@ firsts_of Least sheet amounts plain done = rw plain tt
 firsts_of {m = m} InOrder sheet amounts shows done =
     rw shows.has (λ met k c below.
     let few : k + 1 ≤ length m.problem.rows = omega (arith, shows.in_order.count, below) in
-    ap (λ (r : Reported). lost_by_first (k + 1) r.steps) done.ran.done.report_is
-    ∙ first_lost_as_planned m met (k + 1) few
-    ∙ ap (first_loss (k + 1) m.problem) amounts
-    ∙ sym (shows.in_order.show k c below).loss)
+    ap (λ (r : Reported). lost_by_first (k + 1) r.steps) done.ran.done.report_is ∙ first_lost_as_planned m met
+    (k + 1) few ∙ ap (first_loss (k + 1) m.problem) amounts ∙ sym (shows.in_order.show k c below).loss)

@@ -57,8 +57,8 @@ pub fn fly_printed<S: AnySource + Send + Drop, L: Link + Send + Drop, R: Threads
         left)) }
     ensures not_flown { (goal : Goal) → IsPrintedAs (Shows goal) problem.now printed
         → IfErr result (λ ended. WhateverComes S.leads S.until sources.items ended.halted.sources.items
-        (λ given left. FliesNotFor goal L.sent L.failed problem.now base memory.old sources.items given links.items memory.new
-        ended left)) }
+        (λ given left. FliesNotFor goal L.sent L.failed problem.now base memory.old sources.items given links.items
+        memory.new ended left)) }
     // The text is handed back.
     ensures flown_text { IfOk result (λ flown. flown.sheet ≡ printed.text) }
     ensures not_flown_text { IfErr result (λ ended. ended.sheet ≡ printed.text) }
@@ -68,16 +68,8 @@ pub fn fly_printed<S: AnySource + Send + Drop, L: Link + Send + Drop, R: Threads
         → NeverRefused ended.halted.cause)) }
 {
     let PrintedPlan { sheet, text } = printed;
-    match carry_out(
-        rt,
-        alloc,
-        memory,
-        problem,
-        sheet.plan(),
-        sources,
-        links,
-        base,
-    ) {
+    let plan = sheet.plan();
+    match carry_out(rt, alloc, memory, problem, plan, sources, links, base) {
         Ok(ended) => Ok(ended.with_sheet(text)),
         Err(halted) => Err(FlyHalted {
             sheet: text,
@@ -101,10 +93,11 @@ pub fn fly_for<S: AnySource + Send + Drop, L: Link + Send + Drop, R: Threads + W
 ) -> FlyResult<S, L>
     requires links { All (λ l. L.failed l < 2 ^ 64 - 1) links.items }
     ensures flown { IfOk result (λ flown. WhateverComes S.leads S.until sources.items flown.sources.items
-        (λ given left. FliesFor goal L.sent L.failed problem.now base memory.old given links.items memory.new flown left)) }
+        (λ given left. FliesFor goal L.sent L.failed problem.now base memory.old given links.items memory.new flown
+        left)) }
     ensures not_flown { IfErr result (λ ended. WhateverComes S.leads S.until sources.items ended.halted.sources.items
-        (λ given left. FliesNotFor goal L.sent L.failed problem.now base memory.old sources.items given links.items memory.new
-        ended left)
+        (λ given left. FliesNotFor goal L.sent L.failed problem.now base memory.old sources.items given links.items
+        memory.new ended left)
         ⊎ HasNoPlan memory.old sources.items links.items memory.new ended) }
     // Where counts are far from their end, no store refuses a packet.
     ensures far { IfErr result (λ ended. WhateverComes S.leads S.until sources.items ended.halted.sources.items
@@ -137,22 +130,14 @@ pub fn fly<S: AnySource + Send + Drop, L: Link + Send + Drop, R: Threads + Wait 
     ensures flown { IfOk result (λ flown. WhateverComes S.leads S.until sources.items flown.sources.items
         (λ given left. Flies L.sent L.failed problem.now base memory.old given links.items memory.new flown left)) }
     ensures not_flown { IfErr result (λ ended. WhateverComes S.leads S.until sources.items ended.halted.sources.items
-        (λ given left. FliesNot L.sent L.failed problem.now base memory.old sources.items given links.items memory.new
-        ended left)
+        (λ given left. FliesNot L.sent L.failed problem.now base memory.old sources.items given links.items
+        memory.new ended left)
         ⊎ HasNoPlan memory.old sources.items links.items memory.new ended) }
     // Where counts are far from their end, no store refuses a packet.
     ensures far { IfErr result (λ ended. WhateverComes S.leads S.until sources.items ended.halted.sources.items
         (λ given left. AreWithinLimits (length problem.now.windows) memory.old.stores given
         → NeverRefused ended.halted.cause)) }
 {
-    fly_for(
-        rt,
-        alloc,
-        memory,
-        problem,
-        Goal::Least,
-        sources,
-        links,
-        base,
-    )
+    let goal = Goal::Least;
+    fly_for(rt, alloc, memory, problem, goal, sources, links, base)
 }

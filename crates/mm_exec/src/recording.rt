@@ -14,9 +14,9 @@ use std::sync::Wait;
 use std::thread::Threads;
 
 /// Records a step over all stores of a memory, as `record_stores` of `mm_record` does over the stores that it is lent:
-/// each source's packets of the step are taken by a recorder of its own, in a thread where one can be made, which offers
-/// a copy of each at `base + step` to the stores that its report type is routed to. Where each source gives at most
-/// 65,535 packets in the step and no store was offered more than 2^63 packets before, the cause of a halt is never
+/// each source's packets of the step are taken by a recorder of its own, in a thread where one can be made, which
+/// offers a copy of each at `base + step` to the stores that its report type is routed to. Where each source gives at
+/// most 65,535 packets in the step and no store was offered more than 2^63 packets before, the cause of a halt is never
 /// `LogMismatch`.
 pub fn record_step<S: AnySource + Send + Drop, R: Threads + Wait + Sync>(
     rt: &R,
@@ -37,15 +37,8 @@ pub fn record_step<S: AnySource + Send + Drop, R: Threads + Wait + Sync>(
         (λ given left. IsWithinLimits step memory.old.stores given → halted.cause ≢ LogMismatch step)) }
 {
     let mut stores = memory.lift();
-    let done = record_stores(
-        rt,
-        alloc,
-        &mut stores,
-        memory.control(),
-        step,
-        base,
-        sources,
-    );
+    let control = memory.control();
+    let done = record_stores(rt, alloc, &mut stores, control, step, base, sources);
     memory.restore(stores);
     done
 }

@@ -4,7 +4,7 @@ use Rattle.mm_exec.proofs.flying.fly_printed.Goals as goal
 
 pub returns-in-Ok-clause-flown : goal.returns-in-Ok-clause-flown
 returns-in-Ok-clause-flown g c = rw c.with_sheet.ensures (λ aim p lasts lead.
-    let carried = rw (c.plan.ensures ∙ p.plan_is) at c.in-Ok.ensures.carried_out in
+    let carried = rw (c.plan-plan.ensures ∙ p.plan_is) at c.in-Ok.ensures.carried_out in
     let done = carried lasts lead in (
       done.0,
       record {
@@ -19,7 +19,7 @@ returns-in-Ok-clause-flown g c = rw c.with_sheet.ensures (λ aim p lasts lead.
 
 pub returns-clause-not_flown : goal.returns-clause-not_flown
 returns-clause-not_flown g c = λ aim p lasts lead.
-    let halted = rw (c.plan.ensures ∙ p.plan_is) at c.in-Err.ensures.halted in
+    let halted = rw (c.plan-plan.ensures ∙ p.plan_is) at c.in-Err.ensures.halted in
     let one = halted lasts lead in (
       one.0,
       record { sheet = p.sheet; plans = p.plans; shows = p.besides; halted = one.1 },

@@ -5,8 +5,8 @@ use Rattle.mm_exec.proofs.recording.record_step.Goals as goal
 use Rattle.mm_exec.proofs.recording.record_step.Goals.{After-restore}
 
 -- the step went by the routes of the memory
-routes_are : (g : given.Over) (c : goal.After-restore g) → c.control.result.now ≡ c.args.memory.now.routes
-routes_are g c = c.control.ensures.rows ∙ ap (λ (h : Holdings). h.routes) c.lift-stores.ensures.left
+routes_are : (g : given.Over) (c : goal.After-restore g) → c.control-control.result.now ≡ c.args.memory.now.routes
+routes_are g c = c.control-control.ensures.rows ∙ ap (λ (h : Holdings). h.routes) c.lift-stores.ensures.left
 
 pub returns-clause-refused : goal.returns-clause-refused
 returns-clause-refused g c =
