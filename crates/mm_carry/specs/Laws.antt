@@ -37,14 +37,15 @@ StepRunsKeepStores = (now : ℕ) (s t : State) (offers : List (List Event)) (wan
 -- in each store and step a run has the volumes, the losses and the dumps of its plan
 abbrev pub RunsLoseAsPlanned : Type 0
 RunsLoseAsPlanned = (q : Dumping) (x : Amounts) (steps : ℕ) (offers : ℕ → ℕ → List (List Event))
-    (gave : ℕ → ℕ → List Stored) (states : ℕ → ℕ → State) → IsRunOf q x steps offers gave states → AtEach
-    (length q.rows) steps (λ s t. AsPlanned q x s t (states s (t - 1)) (states s t))
+    (gave : ℕ → ℕ → List Stored) (states : ℕ → ℕ → State) → IsRunOf q x steps offers gave states
+    → AtEach (length q.rows) steps (λ s t. AsPlanned q x s t (states s (t - 1)) (states s t))
 
 -- over all steps the stores lose what the plan loses
 abbrev pub RunsLoseThePlansLoss : Type 0
 RunsLoseThePlansLoss = (q : Dumping) (x : Amounts) (offers : ℕ → ℕ → List (List Event)) (gave : ℕ → ℕ → List Stored)
-    (states : ℕ → ℕ → State) → IsRunOf q x (length q.windows) offers gave states → sum_by
-    (λ s. (states s (length q.windows)).lost) (stores q) ≡ sum_by (λ s. (states s 0).lost) (stores q) + loss q x
+    (states : ℕ → ℕ → State) → IsRunOf q x (length q.windows) offers gave states
+    → sum_by (λ s. (states s (length q.windows)).lost) (stores q)
+    ≡ sum_by (λ s. (states s 0).lost) (stores q) + loss q x
 
 -- where the plan fits a step of a run that was carried out whole, what was sent in it fits too: no more than the
 -- window, and of each channel no more than its limit
@@ -57,11 +58,11 @@ WholeStepsFit = (m : RunInput) (steps : ℕ) (stores : ℕ → List Held) (gave 
 -- whatever order they come
 abbrev pub DrawsMeetNoRefusal : Type 0
 DrawsMeetNoRefusal = (q : Dumping) (x : Amounts) (t : ℕ) (gave : ℕ → List Stored) (calls : ℕ → List Entry)
-    (draws : List ℕ) → FitsAt q x t → ((s : ℕ) → s < length q.rows → IsDumpOf (x s t) (gave s) (calls s)) → AreDrawsOf
-    (length q.rows) gave draws → MeetNoRefusal (window q t) 0 draws
+    (draws : List ℕ) → FitsAt q x t → ((s : ℕ) → s < length q.rows → IsDumpOf (x s t) (gave s) (calls s))
+    → AreDrawsOf (length q.rows) gave draws → MeetNoRefusal (window q t) 0 draws
 
 -- each store of a run is accounted for, packet by packet
 abbrev pub RunsLoseNoPacketUncounted : Type 0
 RunsLoseNoPacketUncounted = (q : Dumping) (x : Amounts) (steps : ℕ) (offers : ℕ → ℕ → List (List Event))
-    (gave : ℕ → ℕ → List Stored) (states : ℕ → ℕ → State) → IsRunOf q x steps offers gave states →
-    (s : ℕ) → s < length q.rows → IsAccounted steps (offers s) (gave s) (states s)
+    (gave : ℕ → ℕ → List Stored) (states : ℕ → ℕ → State) → IsRunOf q x steps offers gave states
+    → (s : ℕ) → s < length q.rows → IsAccounted steps (offers s) (gave s) (states s)
