@@ -314,7 +314,12 @@ impl Picture {
         ensures places { length result ≡ STEP_PLACES }
         ensures marks { AreMarks self.now series result }
     {
-        marks_of(self.shades.as_slice(), series)
+        match series {
+            Series::Inner(_) | Series::Last(_) | Series::ChannelCounts(_) => {
+                marks_of(self.shades.as_slice(), series)
+            }
+            _ => [false; STEP_PLACES],
+        }
     }
 
     // The number of a step, by the marks of the series.

@@ -2,7 +2,7 @@
 use Rattle.std.proofs.Common.{◌≡◌, ℕ, ◌+◌, ◌-◌, ◌<◌, ◌≤◌, Bool, true, false, cond, List, [], ◌∷◌, ◌++◌, map, take}
 use Rattle.std.proofs.Common.{get_or, length, ◌∙◌, refl, sym, ap, subst, arith, add-one, append_assoc, append-nil}
 use Rattle.std.specs.Prelude.{filter, All}
-use Rattle.std.specs.List.{range_with_len, flat_map}
+use Rattle.std.specs.List.{range_with_len}
 use Rattle.std.proofs.lemmas.List.{map-append, take_more}
 use Rattle.std.proofs.lemmas.List.Elements.{filter-append, All-append, All-map, All-push}
 use Rattle.std.proofs.lemmas.List.FromFn.{map-range_with_len_more}

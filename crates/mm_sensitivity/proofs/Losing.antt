@@ -46,19 +46,22 @@ module _ (q r : Dumping) (x : Amounts) (k : ℕ) (sizes : size q k ≡ size r k)
   lost_first = omega (arith, left_start q x k, left_start r x k, first, arrive 1, sizes)
 
 module _ (q : Dumping) (s n : ℕ) (inside : s < length q.rows) where
-  -- the problem with a smaller store, which keeps its start volume, and that in which it begins full
+  -- the problem with a smaller store that keeps its start volume
   abbrev pub whole : Dumping
   whole = with_number q (Size s) n
 
+  -- the problem in which that store begins full
   abbrev pub part : Dumping
   part = fitted q (Size s) n
 
+  -- the rows of the store in both
   abbrev pub whole_row : StoreRow
   whole_row = resized (row q s) n
 
   abbrev pub part_row : StoreRow
   part_row = sized (row q s) n
 
+  -- both have as many stores, and each has the same size, channel and arrivals
   pub same_rows : length whole.rows ≡ length part.rows
   same_rows = rows_alike q s whole_row part_row
 
@@ -71,6 +74,7 @@ module _ (q : Dumping) (s n : ℕ) (inside : s < length q.rows) where
   pub same_arrivals : (k t : ℕ) → arrivals whole k t ≡ arrivals part k t
   same_arrivals k t = ap (λ m. cell m q.arrived k t) same_rows
 
+  -- the start volumes of the store, and those of another store
   pub whole_start : start whole s ≡ start q s
   whole_start = ap (λ (w : StoreRow). w.start) (row_here q s whole_row inside)
 

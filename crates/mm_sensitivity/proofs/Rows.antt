@@ -14,6 +14,7 @@ use Rattle.mm_cut.specs.Stretches.{store_of}
 abbrev pub with_row : Dumping → ℕ → StoreRow → Dumping
 with_row q s w = record q { rows = slice_set q.rows s w }
 
+-- that row stands there
 pub row_here : (q : Dumping) (s : ℕ) (w : StoreRow) → s < length q.rows → row (with_row q s w) s ≡ w
 row_here q s w inside = get_or-set_same q.rows s w no_row inside
 
@@ -28,9 +29,11 @@ same_store q s w same d =
     position_or_len-set (λ r. bytes_eq r.id d.store) q.rows s w no_row (ap (λ id. bytes_eq id d.store) same)
 
 module _ (q : Dumping) (s : ℕ) (w v : StoreRow) where
+  -- both have as many stores
   pub rows_alike : length (with_row q s w).rows ≡ length (with_row q s v).rows
   rows_alike = as_many_rows q s w ∙ sym (as_many_rows q s v)
 
+  -- another store has the same row in both
   pub row_alike : (k : ℕ) → k ≢ s → row (with_row q s w) k ≡ row (with_row q s v) k
   row_alike k other = get_or-set_other q.rows s k w no_row other ∙ sym (get_or-set_other q.rows s k v no_row other)
 
@@ -43,6 +46,7 @@ module _ (q : Dumping) (s : ℕ) (w v : StoreRow) where
     | inr other ↦ ap f (row_alike k other)
   ]
 
+  -- a stretch has the same store in both
   pub stores_alike : w.id ≡ (row q s).id → v.id ≡ (row q s).id → (d : Stretch)
       → store_of (with_row q s w) d ≡ store_of (with_row q s v) d
   stores_alike of_w of_v d = same_store q s w of_w d ∙ sym (same_store q s v of_v d)

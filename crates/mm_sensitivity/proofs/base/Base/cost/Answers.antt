@@ -1,5 +1,5 @@
-use Rattle.std.proofs.Common.{◌≡◌, ℕ, ◌+◌, ◌-◌, ◌≤◌, subst, arith}
-use Rattle.mm_sensitivity.specs.Items.{number, spilled, with_number}
+use Rattle.std.proofs.Common.{◌≡◌, ℕ, ◌+◌, ◌-◌, subst, arith}
+use Rattle.mm_sensitivity.specs.Items.{spilled, with_number}
 use Rattle.mm_sensitivity.specs.Worth.{IsSaved}
 use Rattle.mm_sensitivity.proofs.Found.{more_there, costs_there, least_first}
 use Rattle.mm_sensitivity.proofs.base.Base.cost.Goals as goal
