@@ -62,9 +62,9 @@ pub record IsDrawn (p : Drawn) : Type 0 where
   pub verdict : IsSheetVerdict p.problem p.sheet p.verdict
   pub is_cut : IsCut p.problem (cut p) (counts p)
 
--- the tables are what the plan does to the stores
-pub record AreVolumesOf (p : Drawn) (v : VolumeTables) : Type 0 where
-  pub shape : CoversProblem p.problem v
-  pub written : AgreeEach p.problem (written_in v) (written p.problem (amounts p))
-  pub left : AgreeEach p.problem (left_in v) (left p.problem (amounts p))
-  pub lost : AgreeEach p.problem (lost_in v) (lost p.problem (amounts p))
+-- the tables are what a plan does to the stores
+pub record IsSimulation (q : Dumping) (x : Amounts) (v : VolumeTables) : Type 0 where
+  pub shape : CoversProblem q v
+  pub written : AgreeEach q (written_in v) (written q x)
+  pub left : AgreeEach q (left_in v) (left q x)
+  pub lost : AgreeEach q (lost_in v) (lost q x)

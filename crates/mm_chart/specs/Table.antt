@@ -6,7 +6,6 @@ use Rattle.mm_problem.specs.Texts.{SaysProblem}
 use Rattle.mm_cut.specs.Checking.{SaysSheet}
 use Rattle.mm_plan.specs.Table.{amount}
 use Rattle.mm_plan.specs.Volumes.{Amounts, left, written, lost}
-use Rattle.mm_plan.specs.Simulated.{VolumeTables, written_in, left_in, lost_in, CoversProblem, AgreeEach}
 use Rattle.mm_plan.specs.Sheet.{SheetRows}
 use Rattle.mm_problem.specs.Dumping.{Dumping, row, window, arrivals, stores, steps}
 use Rattle.mm_chart.specs.Svg.{comma}
@@ -20,7 +19,7 @@ abbrev pub next_cell : List ℕ → List ℕ
 next_cell cell = comma ∷ cell
 
 -- the cells that say which step and which store it is
-unfoldable pub place_cells : Dumping → ℕ → ℕ → List ℕ
+abbrev pub place_cells : Dumping → ℕ → ℕ → List ℕ
 place_cells q t s = decimal t ++ next_cell (decimal (window q t)) ++ next_cell (id_text (row q s).id)
 
 -- the cells of a step and its window, with a comma after each
@@ -30,7 +29,8 @@ step_cells t blocks = decimal t ++ next_cell (decimal blocks) ++ comma ∷ []
 -- the cells that say what happens in the step, up to the end of the record
 unfoldable pub volume_cells : ℕ → ℕ → ℕ → ℕ → List ℕ
 volume_cells arrived lost dumped held =
-    next_cell (decimal arrived) ++ next_cell (decimal lost) ++ next_cell (decimal dumped) ++ next_cell (decimal held) ++ line_feed ∷ []
+    next_cell (decimal arrived) ++ next_cell (decimal lost) ++ next_cell (decimal dumped) ++ next_cell (decimal held)
+    ++ line_feed ∷ []
 
 -- what a step does to a store
 unfoldable pub record_of : Dumping → Amounts → ℕ → ℕ → List ℕ
@@ -52,14 +52,8 @@ pub record IsTableOf (setup forecast text octets : List ℕ) : Type 0 where
   pub says_sheet : SaysSheet problem text sheet
   pub table : octets ≡ table problem (amount sheet.plan)
 
--- the tables are what a plan does to the stores
-pub record IsSimulation (q : Dumping) (x : Amounts) (v : VolumeTables) : Type 0 where
-  pub shape : CoversProblem q v
-  pub written : AgreeEach q (written_in v) (written q x)
-  pub left : AgreeEach q (left_in v) (left q x)
-  pub lost : AgreeEach q (lost_in v) (lost q x)
-
--- in each record what stood in the store before the step and what arrives is what is lost, what is dumped and what is held
+-- in each record what stood in the store before the step and what arrives is what is lost, what is dumped and what is
+-- held
 abbrev pub RecordsBalance : Type 0
 RecordsBalance = (q : Dumping) (x : Amounts) (s t : ℕ) → 1 ≤ t →
     left q x s (t - 1) + arrivals q s t ≡ lost q x s t + dumped q x s t + left q x s t

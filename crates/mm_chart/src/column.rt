@@ -1,7 +1,7 @@
 //! The numbers of a series over all steps, which are looked up once.
 ghost use Rattle.std.specs.Prelude.{◌≡◌, ◌^◌, ◌+◌, ◌*◌, ◌<◌, ◌≤◌, ℕ, length, slice_index_or};
 ghost use Rattle.mm_base.specs.declared.limits.TheConstants.{MAX_STORES, MAX_STEPS};
-ghost use Rattle.mm_chart.specs.Series.{IsSeries, amount_of, amount_at, total_of, most_of};
+ghost use Rattle.mm_chart.specs.Series.{IsSeries, amount_at, total_of, most_of};
 ghost use Rattle.mm_chart.specs.Columns.{AreAmounts};
 ghost use Rattle.mm_chart.specs.declared.series.TheConstants.{AMOUNT_PLACES};
 
@@ -44,20 +44,8 @@ impl<'a> Column<'a> {
         self.amounts[step as usize]
     }
 
-    // The number of a step.
-    #[tactic(auto, using(crate::proofs::Amounts::amount_at_step))]
-    fn amount(&self, step: u32) -> u64
-        requires first { 1 ≤ step }
-        requires last { step ≤ length self.now.picture.now.problem.windows }
-        requires place { step < AMOUNT_PLACES }
-        ensures amount { result ≡ amount_of self.now.picture.now self.now.series step }
-        ensures most { result ≤ MAX_STORES * 2 ^ 32 }
-    {
-        self.amount_at(step)
-    }
-
     /// The sum over all steps.
-    #[tactic(auto, using(crate::proofs::Ranges::sum_by_next))]
+    #[tactic(auto, using(crate::proofs::Amounts::amount_at_step, crate::proofs::Ranges::sum_by_next))]
     #[must_use]
     pub fn total(&self) -> u64
         ensures total { result ≡ total_of self.now.picture.now self.now.series }
@@ -65,13 +53,13 @@ impl<'a> Column<'a> {
     {
         let mut total: u64 = 0;
         for step in 1..self.picture.problem().steps() + 1 {
-            total += self.amount(step);
+            total += self.amount_at(step);
         }
         total
     }
 
     /// The largest number of a step.
-    #[tactic(auto, using(crate::proofs::Ranges::largest_next))]
+    #[tactic(auto, using(crate::proofs::Amounts::amount_at_step, crate::proofs::Ranges::largest_next))]
     #[must_use]
     pub fn most(&self) -> u64
         ensures largest { result ≡ most_of self.now.picture.now self.now.series }
@@ -79,7 +67,7 @@ impl<'a> Column<'a> {
     {
         let mut most: u64 = 0;
         for step in 1..self.picture.problem().steps() + 1 {
-            most = most.max(self.amount(step));
+            most = most.max(self.amount_at(step));
         }
         most
     }

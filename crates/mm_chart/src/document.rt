@@ -1,7 +1,7 @@
 //! Charts of texts.
-ghost use Rattle.std.specs.Prelude.{◌≡◌, IfOk};
+ghost use Rattle.std.specs.Prelude.{◌≡◌, ◌++◌, IfOk, OnOk};
 ghost use Rattle.mm_base.specs.Reading.{IfRefused};
-ghost use Rattle.mm_cut.specs.declared.fault.Fault.TheVariants.{NoMemory};
+ghost use Rattle.mm_cut.specs.declared.fault.Fault.TheVariants as fault;
 ghost use Rattle.mm_cut.specs.Checking.{IsFaultOf};
 ghost use Rattle.mm_chart.specs.Charts.{chart, Charts};
 
@@ -12,6 +12,7 @@ use crate::pen::{parts, push_parts, push_said};
 use crate::picture::Picture;
 use crate::rows::push_rows;
 use crate::words::{push_words, word_lines};
+use mm_base::NoMemory;
 use mm_cut::{Fault, read_texts};
 use std::alloc::Global;
 
@@ -59,27 +60,34 @@ pub fn chart_bytes(
     plan: &[u8],
 ) -> Result<Vec<u8>, Fault>
     ensures chart { IfOk result (λ text. Charts setup.now forecast.now plan.now text.items) }
-    ensures refused { IfRefused NoMemory result (IsFaultOf setup.now forecast.now plan.now) }
+    ensures refused { IfRefused fault.NoMemory result (IsFaultOf setup.now forecast.now plan.now) }
 {
     let (problem, sheet) = read_texts(alloc, setup, forecast, plan)?;
     let picture = Picture::new(alloc, problem, sheet)?;
-    let text = draw(alloc, &picture)?;
-    Ok(text)
+    Ok(draw(alloc, &picture)?)
 }
 
 /// The document of a picture: Scalable Vector Graphics (SVG) 1.1, by itself.
-#[tactic(auto, using(crate::proofs::Ranges::drawing), unfolding(crate::specs::Charts::chart))]
-pub fn draw(alloc: Global, picture: &Picture) -> Result<Vec<u8>, mm_base::NoMemory>
+pub fn draw(alloc: Global, picture: &Picture) -> Result<Vec<u8>, NoMemory>
     ensures { IfOk result (λ text. text.items ≡ chart picture.now) }
 {
-    let height = word_line(picture.problem(), word_lines(picture));
     let mut text = Vec::new(alloc);
-    parts!(&mut text; Said(OPENING), Number(height), Said(FONT))?;
-    push_said(&mut text, STYLES)?;
-    push_headline(alloc, &mut text, picture)?;
-    push_said(&mut text, LEGEND)?;
-    push_rows(&mut text, picture)?;
-    push_words(&mut text, picture)?;
-    push_said(&mut text, b"</svg>\n")?;
+    push_document(alloc, &mut text, picture)?;
     Ok(text)
+}
+
+// Writes the document of a picture.
+#[tactic(auto, using(crate::proofs::Ranges::drawing), unfolding(crate::specs::Charts::chart))]
+fn push_document(alloc: Global, text: &mut Vec<u8>, picture: &Picture) -> Result<(), NoMemory>
+    ensures { OnOk result (text.new.items ≡ text.old.items ++ chart picture.now) }
+{
+    let height = word_line(picture.problem(), word_lines(picture));
+    parts!(text; Said(OPENING), Number(height), Said(FONT))?;
+    push_said(text, STYLES)?;
+    push_headline(alloc, text, picture)?;
+    push_said(text, LEGEND)?;
+    push_rows(text, picture)?;
+    push_words(text, picture)?;
+    push_said(text, b"</svg>\n")?;
+    Ok(())
 }

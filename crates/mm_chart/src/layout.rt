@@ -12,61 +12,42 @@ use mm_problem::Problem;
 
 /// Where steps begin, from the left.
 pub const LEFT: u32 = 180;
-
 /// The width of all steps together, at most.
 pub const ROOM: u32 = 768;
-
 /// The greatest width of a step.
 pub const MAX_WIDTH: u32 = 96;
-
 /// The line on which the windows stand.
 pub const WINDOW_BASE: u32 = 144;
-
 /// From one channel's line to the next.
 pub const CHANNEL_PITCH: u32 = 30;
-
 /// From one store's line to the next.
 pub const STORE_PITCH: u32 = 48;
-
 /// The height of a row of windows or of a store.
 pub const TALL: u32 = 32;
-
 /// The height of a row of a channel.
 pub const THIN: u32 = 18;
-
 /// The height of the greatest loss of any store.
 pub const LOSS: u32 = 10;
-
 /// The height of the most that a larger window saves.
 pub const SAVED: u32 = 12;
-
-/// The line of the words on it.
+/// The line of the words about it.
 pub const SAVED_AT: u32 = 111;
-
 /// The height of the most that a higher limit of a channel saves.
 pub const RAISED: u32 = 8;
-
-/// How far the words on it stand above a channel's line.
+/// How far the words about it stand above a channel's line.
 pub const RAISED_AT: u32 = 19;
-
 /// How far the marks of a cut reach over a row, above and below.
 pub const OVER: u32 = 4;
-
 /// Where the names of rows end.
 pub const NAME_AT: u32 = 172;
-
 /// The line of the ticks.
 pub const TICK_AT: u32 = 96;
-
 /// The line of the headline.
 pub const HEADLINE_AT: u32 = 30;
-
 /// How far the words stand below the last row.
 pub const WORDS_BELOW: u32 = 36;
-
 /// From one line of words to the next.
 pub const LINE_PITCH: u32 = 20;
-
 /// Where lines of words begin.
 pub const MARGIN: u32 = 16;
 

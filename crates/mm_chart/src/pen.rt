@@ -105,7 +105,7 @@ pub fn push_signed_grouped(text: &mut Vec<u8>, number: i64) -> Pushed
     push_grouped(text, number.unsigned_abs())
 }
 
-// Writes an identifier: it has no character that wants to be escaped.
+// Writes an identifier. None of its characters needs to be escaped.
 #[tactic(auto, using(crate::proofs::Names::escaped_id))]
 pub(crate) fn push_id(text: &mut Vec<u8>, id: &StoreId) -> Pushed
     ensures { OnOk result (text.new.items ≡ text.old.items ++ escaped (id_text id.now)) }
@@ -124,7 +124,7 @@ pub enum Part<'a> {
     Number(u32),
     /// A number with its thousands separated.
     Grouped(u64),
-    /// The same of a number that may be below 0.
+    /// A number that may be below 0, with its thousands separated.
     Signed(i64),
 }
 
@@ -180,7 +180,7 @@ pub(crate) fn push_opened(text: &mut Vec<u8>, style: Style, x: u32, y: u32) -> P
     parts!(text; Said(b"' x='"), Number(x), Said(b"' y='"), Number(y), Said(b"'>"))
 }
 
-// Ends them.
+// Ends these words.
 #[tactic(auto, unfolding(crate::specs::Svg::closed))]
 pub(crate) fn push_closed(text: &mut Vec<u8>) -> Pushed
     ensures { OnOk result (text.new.items ≡ text.old.items ++ closed) }

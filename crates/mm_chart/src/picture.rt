@@ -6,14 +6,13 @@ ghost use Rattle.std.specs.List.{sum_by};
 ghost use Rattle.mm_problem.specs.Dumping.{IsDumping, stores, stores_of};
 ghost use Rattle.mm_plan.specs.Sheet.{IsSheet};
 ghost use Rattle.mm_plan.specs.Table.{amount, HasShape};
-ghost use Rattle.mm_plan.specs.Volumes.{first_loss, written, left, lost};
-ghost use Rattle.mm_plan.specs.Simulated.{written_in, left_in, lost_in, CoversProblem, AgreeEach};
+ghost use Rattle.mm_plan.specs.Volumes.{first_loss};
 ghost use Rattle.mm_cut.specs.Stretches.{IsStretch, AreStretches};
 ghost use Rattle.mm_cut.specs.Cuts.{IsCut, coming_sum, held_sum, counts_window, counts_limits, windows_sum, limits_sum};
 ghost use Rattle.mm_cut.specs.declared.marks.TheConstants.{STEP_PLACES};
 ghost use Rattle.mm_chart.specs.declared.series.TheConstants.{AMOUNT_PLACES};
 ghost use Rattle.mm_chart.specs.Columns.{AreMarks, AreAmounts};
-ghost use Rattle.mm_chart.specs.Picture.{amounts, has_cut, has_worth, cut, counts, IsDrawn};
+ghost use Rattle.mm_chart.specs.Picture.{amounts, has_cut, has_worth, cut, counts, IsDrawn, IsSimulation};
 ghost use Rattle.mm_chart.specs.declared.series.Series.TheVariants.{CountedWindow};
 ghost use Rattle.mm_chart.specs.Series.{one_if, sent, has_stretch, IsSeries, amount_of, scaled, worth_of};
 ghost use Rattle.mm_chart.specs.Series.{limit_worth_of};
@@ -62,7 +61,7 @@ impl fmt::Debug for Picture {
 
 impl Model for Picture {
     ghost use Rattle.std.specs.Prelude.{◌≡◌, map};
-    ghost use Rattle.mm_chart.specs.Picture.{Drawn, picture_of, cut, IsDrawn, AreVolumesOf};
+    ghost use Rattle.mm_chart.specs.Picture.{Drawn, picture_of, amounts, cut, IsDrawn, IsSimulation};
     ghost use Rattle.mm_chart.specs.Shading.{shade_of};
     ghost use Rattle.mm_chart.specs.Columns.{AreStepMarks};
 
@@ -71,7 +70,7 @@ impl Model for Picture {
     ghost view = { λ a. picture_of a.problem a.sheet a.verdict a.worth };
 
     ghost invariant = { λ a. IsDrawn (picture_of a.problem a.sheet a.verdict a.worth)
-        × AreVolumesOf (picture_of a.problem a.sheet a.verdict a.worth) a.volumes
+        × IsSimulation a.problem (amounts (picture_of a.problem a.sheet a.verdict a.worth)) a.volumes
         × (a.shades.items ≡ map (shade_of a.problem) (cut (picture_of a.problem a.sheet a.verdict a.worth)))
         × AreStepMarks (picture_of a.problem a.sheet a.verdict a.worth) a.inner a.listed };
 }
@@ -101,11 +100,7 @@ fn cut_of(sheet: &Sheet, verdict: Verdict) -> (&[Stretch], &[u32])
 // What its plan does to the stores.
 fn volumes_of(alloc: Global, problem: &Problem, sheet: &Sheet) -> Result<Simulated, NoMemory>
     requires { HasShape problem.now sheet.now.plan }
-    ensures shape { IfOk result (CoversProblem problem.now) }
-    ensures written { IfOk result (λ v. AgreeEach problem.now (written_in v)
-        (written problem.now (amount sheet.now.plan))) }
-    ensures left { IfOk result (λ v. AgreeEach problem.now (left_in v) (left problem.now (amount sheet.now.plan))) }
-    ensures lost { IfOk result (λ v. AgreeEach problem.now (lost_in v) (lost problem.now (amount sheet.now.plan))) }
+    ensures { IfOk result (IsSimulation problem.now (amount sheet.now.plan)) }
 {
     simulate(alloc, problem, sheet.plan())
 }
@@ -137,7 +132,7 @@ impl Picture {
         })
     }
 
-    /// The same, with what windows and limits are worth.
+    /// The same picture, with what windows and limits are worth.
     #[must_use]
     pub fn with_worth(self, worth: Worths) -> Picture
         ensures { result ≡ record self { worth = Some worth } }

@@ -5,7 +5,8 @@ ghost use Rattle.mm_cut.specs.declared.fault.Fault.TheVariants.{NoMemory};
 ghost use Rattle.mm_cut.specs.Checking.{IsFaultOf};
 ghost use Rattle.mm_problem.specs.Dumping.{steps, window};
 ghost use Rattle.mm_plan.specs.Table.{amount, HasShape};
-ghost use Rattle.mm_chart.specs.Table.{dumped, step_cells, volume_cells, record_of, step_records, table, IsTableOf, IsSimulation};
+ghost use Rattle.mm_chart.specs.Picture.{IsSimulation};
+ghost use Rattle.mm_chart.specs.Table.{dumped, step_cells, volume_cells, record_of, step_records, table, IsTableOf};
 
 use crate::pen::Pushed;
 use itoa::write_digits;
@@ -67,7 +68,7 @@ fn push_volumes(text: &mut Vec<u8>, arrived: u32, lost: u32, dumped: u32, held: 
 }
 
 // What a step does to a store.
-#[tactic(auto, using(std::proofs::Common::append_assoc), unfolding(crate::specs::Table::record_of, crate::specs::Table::place_cells))]
+#[tactic(auto, using(std::proofs::Common::append_assoc), unfolding(crate::specs::Table::record_of))]
 fn push_record(
     text: &mut Vec<u8>,
     course: &Course<'_>,
@@ -93,7 +94,7 @@ fn push_record(
 }
 
 // The records of a step.
-#[tactic(auto, using(std::proofs::Common::append_assoc, crate::proofs::Ranges::flat_map_range_more), unfolding(crate::specs::Table::step_records))]
+#[tactic(auto, using(crate::proofs::Ranges::drawing), unfolding(crate::specs::Table::step_records))]
 fn push_step(text: &mut Vec<u8>, course: &Course<'_>, step: u32) -> Pushed
     requires first { 1 ≤ step }
     requires last { step ≤ length course.now.problem.now.windows }
@@ -109,7 +110,7 @@ fn push_step(text: &mut Vec<u8>, course: &Course<'_>, step: u32) -> Pushed
 }
 
 // The records of all steps.
-#[tactic(auto, using(std::proofs::Common::append_assoc, crate::proofs::Ranges::flat_map_next))]
+#[tactic(auto, using(crate::proofs::Ranges::drawing))]
 fn push_steps(text: &mut Vec<u8>, course: &Course<'_>) -> Pushed
     ensures { OnOk result (text.new.items ≡ text.old.items
         ++ flat_map (step_records course.now.problem.now (amount course.now.plan.now)) (steps course.now.problem.now)) }
@@ -150,6 +151,5 @@ pub fn table_bytes(
     ensures refused { IfRefused NoMemory result (IsFaultOf setup.now forecast.now plan.now) }
 {
     let (problem, sheet) = read_texts(alloc, setup, forecast, plan)?;
-    let text = table_of(alloc, &problem, sheet.plan())?;
-    Ok(text)
+    Ok(table_of(alloc, &problem, sheet.plan())?)
 }

@@ -26,7 +26,7 @@ use Rattle.mm_sensitivity.specs.Worth.{IsLeastLoss, IsPlanFor, IsSaved}
 use Rattle.mm_sensitivity.proofs.Growing.{grows}
 use Rattle.mm_sensitivity.proofs.Losing.{whole_loss, whole_fits}
 use Rattle.mm_sensitivity.proofs.Spilling.{begins_here, first_step, shows_with, shows_without}
-use Rattle.mm_sensitivity.proofs.Least.{tight, bound-le, bound_counted, bound_uncounted}
+use Rattle.mm_sensitivity.proofs.Least.{tight, bound-le, bound_changed, bound_uncounted, bound_falls}
 use Rattle.mm_sensitivity.proofs.Windows.{as_many, cut_there, cut_back, wider_window}
 
 -- a plan that fits and loses as much as the bound of a cut
@@ -195,7 +195,7 @@ pub wider_least : CutsBoundLosses → (q : Dumping) (t b : ℕ) (x : Table) (ds 
 wider_least bounds q t b x ds ts n first last wider other shows =
     matched_least bounds (with_window q t b) (amount x) ds ts n
     (fits_wider q t b (amount x) first last wider shows.least.fits) (cut_there q t b ds ts shows.cut)
-    (same_loss q t b (amount x) ∙ shows.loss) (bound_uncounted q t b first last ds ts other ∙ shows.bound)
+    (same_loss q t b (amount x) ∙ shows.loss) (bound_uncounted q t first last ds ts b other ∙ shows.bound)
 
 -- where the largest window saves nothing, no wider window does
 pub nothing_wider : CutsBoundLosses → (q : Dumping) (t b : ℕ) → IsItem q (Window t) → window q t ≤ b → b ≤ MAX_BLOCKS
@@ -208,29 +208,10 @@ nothing_wider bounds q t b item wider most saved =
     let own = cut_back q t MAX_BLOCKS ds ts widest.planned.cut in
     let below = bound-le bounds q (n + 0) saved.first ds ts own in
     let here = tight (with_window q t MAX_BLOCKS) n widest in
-    let there : bound (with_window q t b) ds ts ≡ pos n =
-    elim (cases_Bool (counts_window ds ts t)) [
-      | inl counts ↦
-          omega (
-            arith,
-            ints,
-            below,
-            here,
-            wider,
-            most,
-            bound_counted q t MAX_BLOCKS item.0 item.1 ds ts counts,
-            bound_counted q t b item.0 item.1 ds ts counts,
-          )
-      | inr other ↦
-          omega (
-            arith,
-            ints,
-            here,
-            bound_uncounted q t MAX_BLOCKS item.0 item.1 ds ts other,
-            bound_uncounted q t b
-                item.0 item.1 ds ts other,
-          )
-    ] in
+    let no_higher = bound_falls q t item.0 item.1 ds ts b MAX_BLOCKS most in
+    let falls = bound_falls q t item.0 item.1 ds ts (window q t) b wider in
+    let unchanged = bound_changed q t item.0 item.1 ds ts (window q t) in
+    let there : bound (with_window q t b) ds ts ≡ pos n = omega (arith, ints) in
     let x = saved.first.plan in
     let lost : loss q x ≡ n = omega (arith, saved.first.loss) in
     record {

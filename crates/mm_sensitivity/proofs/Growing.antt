@@ -1,15 +1,15 @@
 -- A problem with a larger number helps at least as much as one with a smaller.
-use Rattle.std.proofs.Common.{◌≡◌, ℕ, ◌-◌, ◌<◌, ◌≤◌, Bool, true, false, cond, eqb, nat_lt, List, length, get_or, set, refl, sym, ap, ◌∙◌, subst, inl, inr, true≢false, arith}
+use Rattle.std.proofs.Common.{◌≡◌, ℕ, ◌-◌, ◌<◌, ◌≤◌, Bool, true, false, cond, eqb, nat_lt, List, length, get_or, set}
+use Rattle.std.proofs.Common.{refl, sym, ap, ◌∙◌, subst, inl, inr, arith}
 use Rattle.std.specs.Prelude.{◌≢◌, Option, Some, None, unwrap_or, All, IsSome}
 use Rattle.std.proofs.lemmas.Bool.{cases_eq, and_parts, eqb-true}
 use Rattle.std.proofs.lemmas.List.{length-set, get_or-set_same, get_or-set_other}
 use Rattle.std.proofs.lemmas.List.Elements.{All-contains}
-use Rattle.std.proofs.lemmas.List.Folds.{Any-from_list_any, position_or_len-set}
+use Rattle.std.proofs.lemmas.List.Folds.{Any-from_list_any}
 use Rattle.std.specs.List.{position_or_len}
-use Rattle.std.specs.Str.{bytes_eq}
 use Rattle.mm_base.specs.declared.rows.StoreRow.{StoreRow}
 use Rattle.mm_base.specs.Grid.{cell, grid_place}
-use Rattle.mm_problem.specs.Dumping.{Dumping, no_row, row, size, start, channel, IsDumping, limit, lesser, setup_limit, step_limit}
+use Rattle.mm_problem.specs.Dumping.{Dumping, row, size, IsDumping, limit, lesser, setup_limit, step_limit}
 use Rattle.mm_plan.specs.declared.stretch.Stretch.{Stretch}
 use Rattle.mm_plan.proofs.Places.{grid_place-lt}
 use Rattle.mm_cut.specs.Stretches.{AreStretches, store_of, channel_of, goes_past, goes_past_on, is_inner_on}
@@ -19,9 +19,11 @@ use Rattle.mm_cut.specs.Changes.{ChangesStretch, HelpsNowhere}
 use Rattle.mm_sensitivity.specs.declared.item.Item.{Item}
 use Rattle.mm_sensitivity.specs.declared.item.Item.TheVariants.{Window, Size, Limit, StepLimit}
 use Rattle.mm_sensitivity.specs.Items.{IsItem, resized, with_number}
+use Rattle.mm_sensitivity.proofs.Rows.{row_here, row_alike, rows_alike, alike, stores_alike}
 
 -- the channel of a store that is inner in a step which counts by channels has a limit
-has_limit_there : (q : Dumping) (ds : List Stretch) (ts : List ℕ) → IsCut q ds ts → (t c : ℕ) → is_listed ts t ≡ true → is_inner_on q ds t c ≡ true → IsSome (limit q c t)
+has_limit_there : (q : Dumping) (ds : List Stretch) (ts : List ℕ) → IsCut q ds ts → (t c : ℕ) → is_listed ts t ≡ true
+    → is_inner_on q ds t c ≡ true → IsSome (limit q c t)
 has_limit_there q ds ts cut t c listed inner =
     let found = Any-from_list_any (λ k. eqb k t) ts listed in
     let counted = All-contains (IsCounted q ds) ts found.1 cut.counted.each (found.0, found.2, found.3) in
@@ -29,12 +31,16 @@ has_limit_there q ds ts cut t c listed inner =
     let on = and_parts (goes_past t at.1) (eqb (channel_of q at.1) c) at.4 in
     let limited = All-contains (IsLimited q found.1) ds at.1 counted.limited (at.0, at.2, at.3) in
     let same = eqb-true found.1 t found.4 in
-    subst (λ e. IsSome (limit q e t)) (eqb-true (channel_of q at.1) c on.1) (subst (λ u. IsSome (limit q (channel_of q at.1) u)) same (limited (rw same on.0)))
+    subst (λ e. IsSome (limit q e t)) (eqb-true (channel_of q at.1) c on.1)
+    (subst (λ u. IsSome (limit q (channel_of q at.1) u)) same (limited (rw same on.0)))
 
 -- an element of two lists that differ at one place
 set-le : (xs : List ℕ) (i j a b : ℕ) → i < length xs → a ≤ b → get_or (set xs i a) j 0 ≤ get_or (set xs i b) j 0
 set-le xs i j a b inside le = elim (cases_eq j i) [
-  | inl here ↦ omega (arith, ap (λ k. get_or (set xs i a) k 0) here, ap (λ k. get_or (set xs i b) k 0) here, get_or-set_same xs i a 0 inside, get_or-set_same xs i b 0 inside)
+  | inl here ↦
+      let small = ap (λ k. get_or (set xs i a) k 0) here ∙ get_or-set_same xs i a 0 inside in
+      let large = ap (λ k. get_or (set xs i b) k 0) here ∙ get_or-set_same xs i b 0 inside in
+      omega arith
   | inr other ↦ omega (arith, get_or-set_other xs i j a 0 other, get_or-set_other xs i j b 0 other)
 ]
 
@@ -43,7 +49,9 @@ abbrev limited_as : Dumping → List ℕ → List (Option ℕ) → List ℕ → 
 limited_as q ws ls ns = record q { windows = ws; limits = ls; step_limits = ns }
 
 -- where two problems differ in windows and limits alone, a cut counts the same of its stretches
-same_stretches : (q : Dumping) (ws vs : List ℕ) (ls ms : List (Option ℕ)) (ns os : List ℕ) (ds : List Stretch) (ts : List ℕ) → AreStretches (limited_as q ws ls ns) ds → All (ChangesStretch ◌≤◌ (limited_as q ws ls ns) (limited_as q vs ms os) ts) ds
+same_stretches : (q : Dumping) (ws vs : List ℕ) (ls ms : List (Option ℕ)) (ns os : List ℕ) (ds : List Stretch)
+    (ts : List ℕ) → AreStretches (limited_as q ws ls ns) ds
+    → All (ChangesStretch ◌≤◌ (limited_as q ws ls ns) (limited_as q vs ms os) ts) ds
 same_stretches q ws vs ls ms ns os ds ts are k d inside = record {
   store = (are.each k d inside).store;
   start = λ _. omega arith;
@@ -52,13 +60,19 @@ same_stretches q ws vs ls ms ns os ds ts are k d inside = record {
   channel = λ _ _ _. refl;
 }
 
+-- a cut of the problem with the larger number loses nothing in the one with the smaller
+abbrev Grows : Dumping → Item → ℕ → ℕ → Type 0
+Grows q i a b = (ds : List Stretch) (ts : List ℕ) → IsCut (with_number q i b) ds ts
+    → HelpsNowhere (with_number q i b) (with_number q i a) ds ts
+
 -- ---- a window
 
-grows_window : (q : Dumping) (t a b : ℕ) → 1 ≤ t → t ≤ length q.windows → a ≤ b → (ds : List Stretch) (ts : List ℕ) → IsCut (with_number q (Window t) b) ds ts → HelpsNowhere (with_number q (Window t) b) (with_number q (Window t) a) ds ts
+grows_window : (q : Dumping) (t a b : ℕ) → 1 ≤ t → t ≤ length q.windows → a ≤ b → Grows q (Window t) a b
 grows_window q t a b first last le ds ts cut = record {
   steps = length-set q.windows (t - 1) a ∙ sym (length-set q.windows (t - 1) b);
   channels = refl;
-  stretches = same_stretches q (set q.windows (t - 1) b) (set q.windows (t - 1) a) q.limits q.limits q.step_limits q.step_limits ds ts cut.stretches;
+  stretches = same_stretches q (set q.windows (t - 1) b) (set q.windows (t - 1) a) q.limits q.limits q.step_limits
+      q.step_limits ds ts cut.stretches;
   windows = λ u _. set-le q.windows (t - 1) (u - 1) a b (omega arith) le;
   limited = λ u c listed inner. has_limit_there (with_number q (Window t) b) ds ts cut u c listed inner;
   limits = λ _ _ _ _. omega arith;
@@ -76,17 +90,15 @@ lesser_some a None = refl
 lesser_some a (Some n) = refl
 
 -- a limit that counts where the same test passes
-counted-le : (s t : Bool) (p r : Option ℕ) → s ≡ t → unwrap_or p 0 ≤ unwrap_or r 0 → unwrap_or (cond s p None) 0 ≤ unwrap_or (cond t r None) 0
-counted-le true true p r same le = le
-counted-le false false p r same le = omega arith
-counted-le true false p r same le = absurd (true≢false same)
-counted-le false true p r same le = absurd (true≢false (sym same))
+counted-le : (s t : Bool) (p r : Option ℕ) → s ≡ t → unwrap_or p 0 ≤ unwrap_or r 0
+    → unwrap_or (cond s p None) 0 ≤ unwrap_or (cond t r None) 0
+counted-le true t p r same le = rw (← same) le
+counted-le false t p r same le = rw (← same) (omega arith)
 
-counted_too : (s t : Bool) (p r : Option ℕ) → s ≡ t → (IsSome p → IsSome r) → IsSome (cond s p None) → IsSome (cond t r None)
-counted_too true true p r same too some = too some
-counted_too false false p r same too some = some
-counted_too true false p r same too some = absurd (true≢false same)
-counted_too false true p r same too some = absurd (true≢false (sym same))
+counted_too : (s t : Bool) (p r : Option ℕ) → s ≡ t → (IsSome p → IsSome r) → IsSome (cond s p None)
+    → IsSome (cond t r None)
+counted_too true t p r same too some = rw (← same) (too some)
+counted_too false t p r same too some = rw (← same) some
 
 module _ (xs : List (Option ℕ)) (i j a b : ℕ) (inside : i < length xs) where
   -- the limits of two lists that differ at one place
@@ -97,123 +109,101 @@ module _ (xs : List (Option ℕ)) (i j a b : ℕ) (inside : i < length xs) where
   limit_off n m other = get_or-set_other xs i j (Some n) None other ∙ sym (get_or-set_other xs i j (Some m) None other)
 
   -- beside another limit the larger is no smaller
-  lesser_of-le : (o : Option ℕ) → a ≤ b → unwrap_or (lesser (get_or (set xs i (Some a)) j None) o) 0 ≤ unwrap_or (lesser (get_or (set xs i (Some b)) j None) o) 0
+  lesser_of-le : (o : Option ℕ) → a ≤ b → unwrap_or (lesser (get_or (set xs i (Some a)) j None) o) 0
+      ≤ unwrap_or (lesser (get_or (set xs i (Some b)) j None) o) 0
   lesser_of-le o le = elim (cases_eq j i) [
-    | inl here ↦ omega (arith, ap (λ p. unwrap_or (lesser p o) 0) (limit_at a here), ap (λ p. unwrap_or (lesser p o) 0) (limit_at b here), lesser-le a b o le)
+    | inl here ↦ rw (limit_at a here, limit_at b here) (lesser-le a b o le)
     | inr other ↦ omega (arith, ap (λ p. unwrap_or (lesser p o) 0) (limit_off a b other))
   ]
 
   -- the one has a limit where the other has
-  lesser_too : (o : Option ℕ) → IsSome (lesser (get_or (set xs i (Some b)) j None) o) → IsSome (lesser (get_or (set xs i (Some a)) j None) o)
+  lesser_too : (o : Option ℕ) → IsSome (lesser (get_or (set xs i (Some b)) j None) o)
+      → IsSome (lesser (get_or (set xs i (Some a)) j None) o)
   lesser_too o some = elim (cases_eq j i) [
     | inl here ↦ subst (λ p. IsSome (lesser p o)) (sym (limit_at a here)) (lesser_some a o)
     | inr other ↦ subst (λ p. IsSome (lesser p o)) (limit_off b a other) some
   ]
 
--- both problems have the same channels
-same_count : (q : Dumping) (e c a b : ℕ) → nat_lt c (length (set q.limits e (Some a))) ≡ nat_lt c (length (set q.limits e (Some b)))
-same_count q e c a b = ap (nat_lt c) (length-set q.limits e (Some a) ∙ sym (length-set q.limits e (Some b)))
-
-grows_limit : (q : Dumping) (e a b : ℕ) → e < length q.limits → a ≤ b → (ds : List Stretch) (ts : List ℕ) → IsCut (with_number q (Limit e) b) ds ts → HelpsNowhere (with_number q (Limit e) b) (with_number q (Limit e) a) ds ts
-grows_limit q e a b inside le ds ts cut = record {
-  steps = refl;
-  channels = length-set q.limits e (Some a) ∙ sym (length-set q.limits e (Some b));
-  stretches = same_stretches q q.windows q.windows (set q.limits e (Some b)) (set q.limits e (Some a)) q.step_limits q.step_limits ds ts cut.stretches;
-  windows = λ _ _. omega arith;
-  limited = λ u c listed inner.
-      counted_too (nat_lt c (length (set q.limits e (Some b)))) (nat_lt c (length (set q.limits e (Some a)))) _ _ (same_count q e c b a)
-      (lesser_too q.limits e c a b inside (step_limit q c u)) (has_limit_there (with_number q (Limit e) b) ds ts cut u c listed inner);
-  limits = λ u c _ _.
-      counted-le (nat_lt c (length (set q.limits e (Some a)))) (nat_lt c (length (set q.limits e (Some b)))) _ _ (same_count q e c a b)
-      (lesser_of-le q.limits e c a b inside (step_limit q c u) le);
-}
+grows_limit : (q : Dumping) (e a b : ℕ) → e < length q.limits → a ≤ b → Grows q (Limit e) a b
+grows_limit q e a b inside le ds ts cut =
+    let small = set q.limits e (Some a) in
+    let large = set q.limits e (Some b) in
+    let count : length small ≡ length large = length-set q.limits e (Some a) ∙ sym (length-set q.limits e (Some b)) in
+    record {
+      steps = refl;
+      channels = count;
+      stretches = same_stretches q q.windows q.windows large small q.step_limits q.step_limits ds ts cut.stretches;
+      windows = λ _ _. omega arith;
+      limited = λ u c listed inner.
+          counted_too (nat_lt c (length large)) (nat_lt c (length small)) _ _ (ap (nat_lt c) (sym count))
+          (lesser_too q.limits e c a b inside (step_limit q c u))
+          (has_limit_there (with_number q (Limit e) b) ds ts cut u c listed inner);
+      limits = λ u c _ _.
+          counted-le (nat_lt c (length small)) (nat_lt c (length large)) _ _ (ap (nat_lt c) count)
+          (lesser_of-le q.limits e c a b inside (step_limit q c u) le);
+    }
 
 -- ---- a limit of a column
 
 -- the lesser of a limit and another that grows, where there is that other
-lesser_second-le : (o : Option ℕ) (there : Bool) (a b : ℕ) → a ≤ b → unwrap_or (lesser o (cond there (Some a) None)) 0 ≤ unwrap_or (lesser o (cond there (Some b) None)) 0
+lesser_second-le : (o : Option ℕ) (there : Bool) (a b : ℕ) → a ≤ b
+    → unwrap_or (lesser o (cond there (Some a) None)) 0 ≤ unwrap_or (lesser o (cond there (Some b) None)) 0
 lesser_second-le None true a b le = le
 lesser_second-le None false a b le = omega arith
 lesser_second-le (Some n) true a b le = omega (arith, le)
 lesser_second-le (Some n) false a b le = omega arith
 
-lesser_second_too : (o : Option ℕ) (there : Bool) (a b : ℕ) → IsSome (lesser o (cond there (Some b) None)) → IsSome (lesser o (cond there (Some a) None))
+lesser_second_too : (o : Option ℕ) (there : Bool) (a b : ℕ) → IsSome (lesser o (cond there (Some b) None))
+    → IsSome (lesser o (cond there (Some a) None))
 lesser_second_too None true a b some = refl
 lesser_second_too None false a b some = some
 lesser_second_too (Some n) true a b some = refl
 lesser_second_too (Some n) false a b some = some
 
-grows_column : (q : Dumping) (k t a b : ℕ) → IsDumping q → k < length q.limited → 1 ≤ t → t ≤ length q.windows → a ≤ b → (ds : List Stretch) (ts : List ℕ) → IsCut (with_number q (StepLimit k t) b) ds ts → HelpsNowhere (with_number q (StepLimit k t) b) (with_number q (StepLimit k t) a) ds ts
+grows_column : (q : Dumping) (k t a b : ℕ) → IsDumping q → k < length q.limited → 1 ≤ t → t ≤ length q.windows
+    → a ≤ b → Grows q (StepLimit k t) a b
 grows_column q k t a b is column first last le ds ts cut =
     let n = length q.limited in
+    let place = grid_place n t k in
     let at : ℕ → ℕ = λ c. position_or_len (λ e. eqb e c) q.limited in
-    let there : ℕ → Bool = λ c. nat_lt (at c) n in
-    let inside : grid_place n t k < length q.step_limits = omega (arith, grid_place-lt n (length q.windows) t k column first last, is.by_step.table) in
-    let cell_of : ℕ → ℕ → ℕ → ℕ = λ m c u. cell n (set q.step_limits (grid_place n t k) m) (at c) u in
+    let inside : place < length q.step_limits = omega
+    (arith, grid_place-lt n (length q.windows) t k column first last, is.by_step.table) in
+    let cell_of : ℕ → ℕ → ℕ → ℕ = λ m c u. cell n (set q.step_limits place m) (at c) u in
     record {
       steps = refl;
       channels = refl;
-      stretches = same_stretches q q.windows q.windows q.limits q.limits (set q.step_limits (grid_place n t k) b) (set q.step_limits (grid_place n t k) a) ds ts cut.stretches;
+      stretches = same_stretches q q.windows q.windows q.limits q.limits (set q.step_limits place b)
+          (set q.step_limits place a) ds ts cut.stretches;
       windows = λ _ _. omega arith;
       limited = λ u c listed inner.
           let passes = nat_lt c (length q.limits) in
-          counted_too passes passes _ _ refl (lesser_second_too (setup_limit q c) (there c) (cell_of a c u) (cell_of b c u)) (has_limit_there (with_number q (StepLimit k t) b) ds ts cut u c listed inner);
+          counted_too passes passes _ _ refl
+          (lesser_second_too (setup_limit q c) (nat_lt (at c) n) (cell_of a c u) (cell_of b c u))
+          (has_limit_there (with_number q (StepLimit k t) b) ds ts cut u c listed inner);
       limits = λ u c _ _.
           let passes = nat_lt c (length q.limits) in
-          counted-le passes passes _ _ refl (lesser_second-le (setup_limit q c) (there c) (cell_of a c u) (cell_of b c u) (set-le q.step_limits (grid_place n t k) (grid_place n u (at c)) a b inside le));
+          counted-le passes passes _ _ refl
+          (lesser_second-le (setup_limit q c) (nat_lt (at c) n) (cell_of a c u) (cell_of b c u)
+          (set-le q.step_limits place (grid_place n u (at c)) a b inside le));
     }
 
 -- ---- a size
 
--- a store that is resized keeps all but its size
-module _ (q : Dumping) (s n : ℕ) (inside : s < length q.rows) where
-  abbrev r : Dumping
-  r = with_number q (Size s) n
-
-  -- the rows are as they were, but for one
-  row_other : (k : ℕ) → k ≢ s → row r k ≡ row q k
-  row_other k other = get_or-set_other q.rows s k (resized (row q s) n) no_row other
-
-  row_here : row r s ≡ resized (row q s) n
-  row_here = get_or-set_same q.rows s (resized (row q s) n) no_row inside
-
-  pub as_many_rows : length r.rows ≡ length q.rows
-  as_many_rows = length-set q.rows s (resized (row q s) n)
-
-  pub same_store : (d : Stretch) → store_of r d ≡ store_of q d
-  same_store d = position_or_len-set (λ w. bytes_eq w.id d.store) q.rows s (resized (row q s) n) no_row refl
-
-  pub same_start : (k : ℕ) → start r k ≡ start q k
-  same_start k = elim (cases_eq k s) [
-    | inl here ↦ subst (λ j. start r j ≡ start q j) (sym here) (ap (λ (w : StoreRow). w.start) row_here)
-    | inr other ↦ ap (λ (w : StoreRow). w.start) (row_other k other)
-  ]
-
-  pub same_channel : (k : ℕ) → channel r k ≡ channel q k
-  same_channel k = elim (cases_eq k s) [
-    | inl here ↦ subst (λ j. channel r j ≡ channel q j) (sym here) (ap (λ (w : StoreRow). w.channel) row_here)
-    | inr other ↦ ap (λ (w : StoreRow). w.channel) (row_other k other)
-  ]
-
-  pub size_here : size r s ≡ n
-  size_here = ap (λ (w : StoreRow). w.size) row_here
-
-  pub size_other : (k : ℕ) → k ≢ s → size r k ≡ size q k
-  size_other k other = ap (λ (w : StoreRow). w.size) (row_other k other)
-
-size-le : (q : Dumping) (s k a b : ℕ) → s < length q.rows → a ≤ b → size (with_number q (Size s) a) k ≤ size (with_number q (Size s) b) k
-size-le q s k a b inside le = elim (cases_eq k s) [
-  | inl here ↦
-      omega (arith, ap (size (with_number q (Size s) a)) here, ap (size (with_number q (Size s) b)) here, size_here q s a inside, size_here q s b inside, le)
-  | inr other ↦ omega (arith, size_other q s a inside k other, size_other q s b inside k other)
-]
-
-grows_size : (q : Dumping) (s a b : ℕ) → s < length q.rows → a ≤ b → (ds : List Stretch) (ts : List ℕ) → IsCut (with_number q (Size s) b) ds ts → HelpsNowhere (with_number q (Size s) b) (with_number q (Size s) a) ds ts
+grows_size : (q : Dumping) (s a b : ℕ) → s < length q.rows → a ≤ b → Grows q (Size s) a b
 grows_size q s a b inside le ds ts cut =
+    let w = resized (row q s) a in
+    let v = resized (row q s) b in
     let small = with_number q (Size s) a in
     let large = with_number q (Size s) b in
-    let store : (d : Stretch) → store_of small d ≡ store_of large d = λ d. same_store q s a inside d ∙ sym (same_store q s b inside d) in
-    let rows : length small.rows ≡ length large.rows = as_many_rows q s a inside ∙ sym (as_many_rows q s b inside) in
+    let rows = rows_alike q s w v in
+    let store = stores_alike q s w v refl refl in
+    let sizes : (k : ℕ) → size small k ≤ size large k = λ k. elim (cases_eq k s) [
+      | inl here ↦
+          let of_small = ap (size small) here ∙ ap (λ (r : StoreRow). r.size) (row_here q s w inside) in
+          let of_large = ap (size large) here ∙ ap (λ (r : StoreRow). r.size) (row_here q s v inside) in
+          omega (arith, le)
+      | inr other ↦ omega (arith, ap (λ (r : StoreRow). r.size) (row_alike q s w v k other))
+    ] in
     record {
       steps = refl;
       channels = refl;
@@ -222,13 +212,17 @@ grows_size q s a b inside le ds ts cut =
           let is = cut.stretches.each k d within in
           let i = store_of small e in
           let j = store_of large e in
-          let starts = same_start q s a inside i ∙ ap (start q) (store e) ∙ sym (same_start q s b inside j) in
           record {
-            store = subst (λ m. i < m) (sym rows) (subst (λ m. m < length large.rows) (sym (store e)) is.store);
-            start = λ _. omega (arith, starts);
-            arrivals = λ u _. omega (arith, ap (λ m. cell m q.arrived i u) rows ∙ ap (λ m. cell (length large.rows) q.arrived m u) (store e));
-            size = omega (arith, ap (size small) (store e), size-le q s j a b inside le);
-            channel = λ _ _ _. same_channel q s a inside i ∙ ap (channel q) (store e) ∙ sym (same_channel q s b inside j);
+            store = omega (arith, is.store, rows, store e);
+            start = λ _.
+                omega (arith, alike q s w v (λ r. r.start) inside refl i, ap (λ m. (row large m).start) (store e));
+            arrivals = λ u _. omega (
+              arith,
+              ap (λ m. cell m q.arrived i u) rows
+                  ∙ ap (λ m. cell (length large.rows) q.arrived m u) (store e),
+            );
+            size = omega (arith, ap (size small) (store e), sizes j);
+            channel = λ _ _ _. alike q s w v (λ r. r.channel) inside refl i ∙ ap (λ m. (row large m).channel) (store e);
           };
       windows = λ _ _. omega arith;
       limited = λ u c listed inner. has_limit_there large ds ts cut u c listed inner;
@@ -237,8 +231,8 @@ grows_size q s a b inside le ds ts cut =
 
 -- ---- any of them
 
-pub grows : (q : Dumping) (i : Item) (a b : ℕ) → IsDumping q → IsItem q i → a ≤ b → (ds : List Stretch) (ts : List ℕ) → IsCut (with_number q i b) ds ts → HelpsNowhere (with_number q i b) (with_number q i a) ds ts
-grows q (Window t) a b is item le ds ts cut = grows_window q t a b item.0 item.1 le ds ts cut
-grows q (Size s) a b is item le ds ts cut = grows_size q s a b item le ds ts cut
-grows q (Limit c) a b is item le ds ts cut = grows_limit q c a b item.0 le ds ts cut
-grows q (StepLimit k t) a b is item le ds ts cut = grows_column q k t a b is item.0 item.1 item.2 le ds ts cut
+pub grows : (q : Dumping) (i : Item) (a b : ℕ) → IsDumping q → IsItem q i → a ≤ b → Grows q i a b
+grows q (Window t) a b is item le = grows_window q t a b item.0 item.1 le
+grows q (Size s) a b is item le = grows_size q s a b item le
+grows q (Limit c) a b is item le = grows_limit q c a b item.0 le
+grows q (StepLimit k t) a b is item le = grows_column q k t a b is item.0 item.1 item.2 le

@@ -1,6 +1,6 @@
 -- Least losses, and how a window changes them.
-use Rattle.std.specs.Prelude.{◌+ℤ◌, ◌≤ℤ◌}
-use Rattle.std.proofs.Common.{◌≡◌, ℕ, ◌+◌, ◌≤◌, true, false, List, length, pos, ap, ◌∙◌, inl, inr, arith}
+use Rattle.std.specs.Prelude.{ℤ, ◌+ℤ◌, ◌≤ℤ◌}
+use Rattle.std.proofs.Common.{◌≡◌, ℕ, ◌+◌, ◌≤◌, Bool, true, false, cond, List, length, pos, ap, ◌∙◌, inl, inr, arith}
 use Rattle.std.proofs.lemmas.Bool.{cases_Bool}
 use Rattle.std.proofs.lemmas.Int.{ints}
 use Rattle.mm_base.specs.declared.limits.TheConstants.{MAX_BLOCKS}
@@ -12,14 +12,11 @@ use Rattle.mm_sensitivity.specs.Worth.{IsLeastLoss, WiderWindows}
 use Rattle.mm_sensitivity.proofs.Windows.{same_coming, cut_there, cut_back, leaving_changed}
 
 -- there is one least loss
-pub one_least : (q : Dumping) (n m : ℕ) → IsLeastLoss q n → IsLeastLoss q m → n ≡ m
-one_least q n m a b = omega (
-  arith,
-  a.planned.plan.least b.plan b.planned.plan.fits,
-  b.planned.plan.least a.plan a.planned.plan.fits,
-  a.loss,
-  b.loss,
-)
+one_least : (q : Dumping) (n m : ℕ) → IsLeastLoss q n → IsLeastLoss q m → n ≡ m
+one_least q n m a b =
+    let no_more = a.planned.plan.least b.plan b.planned.plan.fits in
+    let no_less = b.planned.plan.least a.plan a.planned.plan.fits in
+    omega (arith, a.loss, b.loss)
 
 -- the bound of its cut is the least loss
 pub tight : (q : Dumping) (n : ℕ) (is : IsLeastLoss q n) → bound q is.cut is.by_channels ≡ pos n
@@ -32,34 +29,37 @@ bound-le bounds q n is ds ts cut = omega (arith, ints, bounds q is.plan ds ts is
 
 -- ---- one window
 
-module _ (q : Dumping) (t n : ℕ) (first : 1 ≤ t) (last : t ≤ length q.windows) (ds : List Stretch) (ts : List ℕ) where
-  abbrev r : Dumping
-  r = with_window q t n
+-- a larger number counts for no less, and for no more than it is larger
+counted_more : (b : Bool) (i j : ℕ) → i ≤ j → (cond b i 0 ≤ cond b j 0) × (cond b j 0 + i ≤ cond b i 0 + j)
+counted_more true i j le = (le, omega arith)
+counted_more false i j le = (omega arith, omega arith)
 
-  -- a cut that counts the window has a bound that differs as the windows do
-  pub bound_counted : counts_window ds ts t ≡ true → (bound r ds ts +ℤ pos n) ≡ (bound q ds ts +ℤ pos (window q t))
-  bound_counted counts = omega (
+module _ (q : Dumping) (t : ℕ) (first : 1 ≤ t) (last : t ≤ length q.windows) (ds : List Stretch) (ts : List ℕ) where
+  -- the bound of the cut where the step has this window
+  abbrev bound_at : ℕ → ℤ
+  bound_at n = bound (with_window q t n) ds ts
+
+  -- what counts of a window of the step
+  abbrev counted : ℕ → ℕ
+  counted n = cond (counts_window ds ts t) n 0
+
+  -- the bound differs as what counts of the windows does
+  pub bound_changed : (n : ℕ) → (bound_at n +ℤ pos (counted n)) ≡ (bound q ds ts +ℤ pos (counted (window q t)))
+  bound_changed n = omega (arith, ints, same_coming q t n ds, leaving_changed q t n ds ts first last)
+
+  -- a cut that does not count the window has the same bound
+  pub bound_uncounted : (n : ℕ) → counts_window ds ts t ≡ false → bound_at n ≡ bound q ds ts
+  bound_uncounted n other = omega (arith, ints, rw other at (bound_changed n))
+
+  -- the bound is no greater with a wider window
+  pub bound_falls : (i j : ℕ) → i ≤ j → bound_at j ≤ℤ bound_at i
+  bound_falls i j le = omega (
     arith,
     ints,
-    same_coming q t n ds,
-    rw counts at (leaving_changed q t n ds ts first last),
+    bound_changed i,
+    bound_changed j,
+    (counted_more (counts_window ds ts t) i j le).0,
   )
-
-  -- any other has the same bound
-  pub bound_uncounted : counts_window ds ts t ≡ false → bound r ds ts ≡ bound q ds ts
-  bound_uncounted other = omega (
-    arith,
-    ints,
-    same_coming q t n ds,
-    rw other at (leaving_changed q t n ds ts first last),
-  )
-
-  -- so the bound falls by at most as many blocks as the window is larger
-  pub bound_falls : window q t ≤ n → (bound q ds ts +ℤ pos (window q t)) ≤ℤ (bound r ds ts +ℤ pos n)
-  bound_falls wider = elim (cases_Bool (counts_window ds ts t)) [
-    | inl counts ↦ omega (arith, ints, bound_counted counts)
-    | inr other ↦ omega (arith, ints, bound_uncounted other)
-  ]
 
 -- the law, from the law that no plan that fits loses less than the bound of a cut
 pub wider_windows : CutsBoundLosses → WiderWindows
@@ -71,65 +71,31 @@ wider_windows bounds q t e most first last within saved n k is_n is_k =
     let r = with_window q t (w + e) in
     let wide = with_window q t MAX_BLOCKS in
     let same = one_least q n (m + most) is_n least in
+    let tight_q = tight q (m + most) least in
+    let tight_wide = tight wide m widest in
+    let tight_r = tight r k is_k in
     -- the cut of q bounds what the wider window can save by e
     let of_q = bound-le bounds r k is_k least.cut least.by_channels
     (cut_there q t (w + e) least.cut least.by_channels least.planned.cut) in
-    let falls = bound_falls q t (w + e) first last least.cut least.by_channels (omega arith) in
+    let changed = bound_changed q t first last least.cut least.by_channels (w + e) in
+    let falls = (counted_more (counts_window least.cut least.by_channels t) w (w + e) (omega arith)).1 in
     -- the cut of the widest window bounds it by most
     let cut_of_widest = cut_back q t MAX_BLOCKS widest.cut widest.by_channels widest.planned.cut in
     let of_widest = bound-le bounds r k is_k widest.cut widest.by_channels
     (cut_there q t (w + e) widest.cut widest.by_channels cut_of_widest) in
-    let no_higher : bound wide widest.cut widest.by_channels ≤ℤ bound r widest.cut widest.by_channels =
-    elim (cases_Bool (counts_window widest.cut widest.by_channels t)) [
-      | inl counts ↦ omega (
-        arith,
-        ints,
-        bound_counted q t MAX_BLOCKS first last widest.cut widest.by_channels counts,
-        bound_counted q t (w + e) first last widest.cut widest.by_channels counts,
-        within,
-      )
-      | inr other ↦ omega (
-        arith,
-        ints,
-        bound_uncounted q t MAX_BLOCKS first last widest.cut widest.by_channels other,
-        bound_uncounted q t (w + e) first last widest.cut widest.by_channels other,
-      )
-    ] in
+    let no_higher = bound_falls q t first last widest.cut widest.by_channels (w + e) MAX_BLOCKS within in
     -- its own cut counts the window, and then so much is saved, or it bounds the widest window too
     let own = cut_back q t (w + e) is_k.cut is_k.by_channels is_k.planned.cut in
+    let here = bound_changed q t first last is_k.cut is_k.by_channels (w + e) in
     elim (cases_Bool (counts_window is_k.cut is_k.by_channels t)) [
       | inl counts ↦
           let below = bound-le bounds q (m + most) least is_k.cut is_k.by_channels own in
-          omega (
-            arith,
-            ints,
-            same,
-            of_q,
-            falls,
-            of_widest,
-            no_higher,
-            tight q (m + most) least,
-            tight wide m widest,
-            tight r k is_k,
-            below,
-            bound_counted q t (w + e) first last is_k.cut is_k.by_channels counts,
-          )
+          let counted = rw counts at here in
+          omega (arith, ints)
       | inr other ↦
           let below = bound-le bounds wide m widest is_k.cut is_k.by_channels
           (cut_there q t MAX_BLOCKS is_k.cut is_k.by_channels own) in
-          omega (
-            arith,
-            ints,
-            same,
-            of_q,
-            falls,
-            of_widest,
-            no_higher,
-            tight q (m + most) least,
-            tight wide m widest,
-            tight r k is_k,
-            below,
-            bound_uncounted q t (w + e) first last is_k.cut is_k.by_channels other,
-            bound_uncounted q t MAX_BLOCKS first last is_k.cut is_k.by_channels other,
-          )
+          let alike = bound_uncounted q t first last is_k.cut is_k.by_channels (w + e) other in
+          let there = bound_uncounted q t first last is_k.cut is_k.by_channels MAX_BLOCKS other in
+          omega (arith, ints)
     ]

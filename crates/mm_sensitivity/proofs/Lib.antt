@@ -1,3 +1,4 @@
+pub mod Rows
 pub mod Listing
 pub mod Windows
 pub mod Growing

@@ -44,6 +44,11 @@ pub record AreStepLimitWorths (q : Dumping) (steps : ℕ) (worths : List ℕ) : 
   pub count : length worths ≡ CHANNELS * steps
   pub each : (c t : ℕ) → c < CHANNELS → 1 ≤ t → t ≤ steps → IsStepLimitWorth q c t (step_limit_worth worths c t)
 
+-- these worths, none of them greater than the most that a plan loses
+pub record AreStepWorths (q : Dumping) (steps : ℕ) (worths : List ℕ) : Type 0 where
+  pub are_worths : AreStepLimitWorths q steps worths
+  pub most : AreLosses worths
+
 -- the worths of the windows and limits of the problem
 pub record AreWorthLists (q : Dumping) (worths : WorthLists) : Type 0 where
   pub windows : AreWindowWorths q worths.windows

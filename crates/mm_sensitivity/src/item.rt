@@ -1,9 +1,9 @@
 //! The numbers of a problem that a mission can change.
-ghost use Rattle.std.specs.Prelude.{◌≡◌, ◌≤◌, ◌<◌, ◌++◌, ◌∷◌, [], if◌then◌else◌, length, map, filter, flat_map, All};
+ghost use Rattle.std.specs.Prelude.{◌≡◌, ◌≤◌, ◌<◌, ◌++◌, length, map, filter, flat_map, All};
 ghost use Rattle.std.specs.Prelude.{IfOk, OnOk};
 ghost use Rattle.std.specs.List.{range_with_len};
 ghost use Rattle.mm_base.specs.declared.limits.TheConstants.{MAX_BLOCKS};
-ghost use Rattle.mm_problem.specs.Dumping.{IsDumping, steps, stores, channels};
+ghost use Rattle.mm_problem.specs.Dumping.{steps, stores, channels};
 ghost use Rattle.mm_sensitivity.specs.Items.{IsItem, number, least_number, fitted, spilled, has_limit, column_items};
 ghost use Rattle.mm_sensitivity.specs.Items.{items};
 ghost use Rattle.mm_sensitivity.specs.declared.item.Item.TheVariants.{Window, Size, Limit, StepLimit};
@@ -13,7 +13,7 @@ use mm_problem::Problem;
 use std::alloc::Global;
 
 /// A number of a problem that a mission can change, in blocks.
-#[derive(Clone, Copy, Debug, PartialEq, Eq)]
+#[derive(Clone, Copy, Debug)]
 pub enum Item {
     /// The window of this step.
     Window(u32),
@@ -86,8 +86,7 @@ pub(crate) fn spilled(problem: &Problem, item: Item, blocks: u32) -> u64
 // Adds the windows of the steps.
 #[tactic(auto, using(std::proofs::Common::append_assoc, crate::proofs::Listing::map_next))]
 fn add_windows(items: &mut Vec<Item>, problem: &Problem) -> Result<(), NoMemory>
-    ensures added { OnOk result (items.new.items ≡ items.old.items ++ map Window (steps problem.now)) }
-    ensures problem { IsDumping problem.now }
+    ensures { OnOk result (items.new.items ≡ items.old.items ++ map Window (steps problem.now)) }
 {
     for step in 1..problem.steps() + 1 {
         items.push(Item::Window(step))?;
@@ -98,7 +97,7 @@ fn add_windows(items: &mut Vec<Item>, problem: &Problem) -> Result<(), NoMemory>
 // Adds the sizes of the stores.
 #[tactic(auto, using(std::proofs::Common::append_assoc, crate::proofs::Listing::map_more))]
 fn add_sizes(items: &mut Vec<Item>, problem: &Problem) -> Result<(), NoMemory>
-    ensures added { OnOk result (items.new.items ≡ items.old.items ++ map Size (stores problem.now)) }
+    ensures { OnOk result (items.new.items ≡ items.old.items ++ map Size (stores problem.now)) }
 {
     for store in 0..problem.stores() {
         items.push(Item::Size(store))?;
@@ -106,26 +105,16 @@ fn add_sizes(items: &mut Vec<Item>, problem: &Problem) -> Result<(), NoMemory>
     Ok(())
 }
 
-// Adds the limit of the channel, if it has one in the setup.
-fn add_limit(items: &mut Vec<Item>, problem: &Problem, channel: u8) -> Result<(), NoMemory>
-    ensures added { OnOk result (items.new.items
-        ≡ (if has_limit problem.now channel
-        then items.old.items ++ Limit channel ∷ []
-        else items.old.items)) }
-{
-    if problem.setup_limit(channel).is_some() {
-        items.push(Item::Limit(channel))?;
-    }
-    Ok(())
-}
-
-// Adds the limits of the channels that have one.
+// Adds the limits of the channels that have one in the setup.
+#[tactic(auto, using(crate::proofs::Listing::passing))]
 fn add_limits(items: &mut Vec<Item>, problem: &Problem) -> Result<(), NoMemory>
-    ensures added { OnOk result (items.new.items
+    ensures { OnOk result (items.new.items
         ≡ items.old.items ++ map Limit (filter (has_limit problem.now) (channels problem.now))) }
 {
     for channel in 0..problem.channels() {
-        add_limit(items, problem, channel)?;
+        if problem.setup_limit(channel).is_some() {
+            items.push(Item::Limit(channel))?;
+        }
     }
     Ok(())
 }
@@ -142,6 +131,7 @@ fn add_column(items: &mut Vec<Item>, problem: &Problem, column: usize) -> Result
 }
 
 // Adds the limits of each column.
+#[tactic(auto, using(std::proofs::Common::append_assoc, mm_chart::proofs::Ranges::flat_map_first))]
 fn add_columns(items: &mut Vec<Item>, problem: &Problem) -> Result<(), NoMemory>
     ensures { OnOk result (items.new.items ≡ items.old.items
         ++ flat_map (column_items problem.now) (range_with_len 0 (length problem.now.limited))) }
@@ -158,7 +148,6 @@ fn add_columns(items: &mut Vec<Item>, problem: &Problem) -> Result<(), NoMemory>
 pub(crate) fn items(alloc: Global, problem: &Problem) -> Result<Vec<Item>, NoMemory>
     ensures items { IfOk result (λ list. list.items ≡ items problem.now) }
     ensures each { IfOk result (λ list. All (IsItem problem.now) list.items) }
-    ensures problem { IsDumping problem.now }
 {
     let mut items = Vec::new(alloc);
     add_windows(&mut items, problem)?;

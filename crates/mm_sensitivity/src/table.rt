@@ -1,5 +1,5 @@
 //! The table of the worths of a problem's numbers, as comma separated values.
-ghost use Rattle.std.specs.Prelude.{◌≡◌, ◌++◌, All, IfOk, OnOk};
+ghost use Rattle.std.specs.Prelude.{◌≡◌, ◌++◌, All, IfOk, OnOk, codes, decimal};
 ghost use Rattle.mm_base.specs.Reading.{IfRefused};
 ghost use Rattle.mm_cut.specs.declared.fault.Fault.TheVariants as fault;
 ghost use Rattle.mm_planner.specs.PlanTexts.{IsPlanningFault};
@@ -11,70 +11,74 @@ use crate::item::Item;
 use crate::progress::{Progress, Silent};
 use crate::worth::{Worth, worths_with_progress};
 use mm_base::NoMemory;
+use mm_base::numbers::push_number;
 use mm_cut::Fault;
 use mm_problem::{Problem, read_problem};
-use std::alloc::Global;
+use std::alloc::{AllocError, Global};
 
 // The cells that name a number.
-fn push_item(
-    alloc: Global,
-    text: &mut Vec<u8>,
-    problem: &Problem,
-    item: Item,
-) -> Result<(), NoMemory>
+#[tactic(auto, using(std::proofs::Common::append_assoc))]
+fn push_item(text: &mut Vec<u8>, problem: &Problem, item: Item) -> Result<(), AllocError>
     requires { IsItem problem.now item }
     ensures { OnOk result (text.new.items ≡ text.old.items ++ item_cells problem.now item) }
 {
     match item {
         Item::Window(step) => {
-            text.extend_from_slice(format!(in alloc; "window,,{step}")?.as_bytes())?;
+            text.extend_from_slice(b"window,,")?;
+            push_number(text, u64::from(step))
         }
         Item::Size(store) => {
             text.extend_from_slice(b"size,")?;
             text.extend_from_slice(problem.id(store).text())?;
-            text.extend_from_slice(b",")?;
+            text.extend_from_slice(b",")
         }
-        Item::Limit(channel) => {
-            text.extend_from_slice(format!(in alloc; "limit,{channel},")?.as_bytes())?;
-        }
+        Item::Limit(channel) => push_limit(text, channel),
         Item::StepLimit(column, step) => {
-            let channel = problem.limited()[column];
-            text.extend_from_slice(format!(in alloc; "limit,{channel},{step}")?.as_bytes())?;
+            push_limit(text, problem.limited()[column])?;
+            push_number(text, u64::from(step))
         }
     }
-    Ok(())
+}
+
+// The cells that name a channel.
+#[tactic(auto, using(std::proofs::Common::append_assoc))]
+fn push_limit(text: &mut Vec<u8>, channel: u8) -> Result<(), AllocError>
+    ensures { OnOk result (text.new.items ≡ text.old.items ++ codes "limit," ++ decimal channel ++ codes ",") }
+{
+    text.extend_from_slice(b"limit,")?;
+    push_number(text, u64::from(channel))?;
+    text.extend_from_slice(b",")
+}
+
+// A number after a comma.
+#[tactic(auto, using(std::proofs::Common::append_assoc))]
+fn push_cell(text: &mut Vec<u8>, number: u64) -> Result<(), AllocError>
+    ensures { OnOk result (text.new.items ≡ text.old.items ++ codes "," ++ decimal number) }
+{
+    text.extend_from_slice(b",")?;
+    push_number(text, number)
 }
 
 // The cells with the worth of a number.
-#[tactic(auto, unfolding(crate::specs::Table::worth_cells))]
-fn push_worth(alloc: Global, text: &mut Vec<u8>, worth: Worth) -> Result<(), NoMemory>
+#[tactic(auto, using(std::proofs::Common::append_assoc), unfolding(crate::specs::Table::worth_cells))]
+fn push_worth(text: &mut Vec<u8>, worth: Worth) -> Result<(), AllocError>
     ensures { OnOk result (text.new.items ≡ text.old.items ++ worth_cells worth) }
 {
-    let Worth {
-        now,
-        next,
-        most,
-        without,
-        ..
-    } = worth;
-    let cells = format!(in alloc; ",{now},{next},{most},{without}\n")?;
-    text.extend_from_slice(cells.as_bytes())?;
-    Ok(())
+    push_cell(text, u64::from(worth.now))?;
+    push_cell(text, worth.next)?;
+    push_cell(text, worth.most)?;
+    push_cell(text, worth.without)?;
+    text.extend_from_slice(b"\n")
 }
 
 // The record of a number.
 #[tactic(auto, using(std::proofs::Common::append_assoc))]
-fn push_record(
-    alloc: Global,
-    text: &mut Vec<u8>,
-    problem: &Problem,
-    worth: Worth,
-) -> Result<(), NoMemory>
+fn push_record(text: &mut Vec<u8>, problem: &Problem, worth: Worth) -> Result<(), AllocError>
     requires { IsItem problem.now worth.item }
     ensures { OnOk result (text.new.items ≡ text.old.items ++ record_of problem.now worth) }
 {
-    push_item(alloc, text, problem, worth.item)?;
-    push_worth(alloc, text, worth)
+    push_item(text, problem, worth.item)?;
+    push_worth(text, worth)
 }
 
 // The table of these worths.
@@ -86,7 +90,7 @@ fn table_of(alloc: Global, problem: &Problem, worths: &[Worth]) -> Result<Vec<u8
     let mut text = Vec::new(alloc);
     text.extend_from_slice(b"item,name,step,now,next,most,without\n")?;
     for worth in worths {
-        push_record(alloc, &mut text, problem, *worth)?;
+        push_record(&mut text, problem, *worth)?;
     }
     Ok(text)
 }
@@ -112,6 +116,5 @@ pub fn sensitivity_with_progress<P: Progress>(
 {
     let problem = read_problem(alloc, setup, forecast)?;
     let worths = worths_with_progress(alloc, &problem, progress)?;
-    let text = table_of(alloc, &problem, worths.as_slice())?;
-    Ok(text)
+    Ok(table_of(alloc, &problem, worths.as_slice())?)
 }

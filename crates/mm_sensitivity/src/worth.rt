@@ -4,17 +4,16 @@ ghost use Rattle.mm_sensitivity.specs.Items.{IsItem, number, next_number, with_n
 ghost use Rattle.mm_sensitivity.specs.Table.{AreWorths};
 ghost use Rattle.mm_sensitivity.specs.Worth.{IsPlanFor, IsSaved, IsWorth};
 
-use crate::base::{cost, saved};
+use crate::base::Base;
 use crate::item::{Item, items, number};
 use crate::progress::{Progress, Silent};
 use mm_base::{MAX_BLOCKS, NoMemory};
 use mm_cut::cuts_bound_losses;
-use mm_planner::{Planned, plan};
 use mm_problem::Problem;
 use std::alloc::Global;
 
 /// The worth of a number of a problem, in blocks.
-#[derive(Clone, Copy, Debug, PartialEq, Eq)]
+#[derive(Clone, Copy, Debug)]
 pub struct Worth {
     pub item: Item,
     /// The number itself.
@@ -29,37 +28,32 @@ pub struct Worth {
 
 // How many blocks fewer the least plan loses if a number is one larger. If the largest window saves none, neither does
 // this.
-fn next_saved(
-    alloc: Global,
-    problem: &Problem,
-    base: &Planned,
-    item: Item,
-    most: u64,
-) -> Result<u64, NoMemory>
-    requires base { IsPlanFor problem.now base.now }
-    requires item { IsItem problem.now item }
-    requires most { IsSaved problem.now (with_number problem.now item MAX_BLOCKS) most }
-    ensures { IfOk result (IsSaved problem.now (with_number problem.now item (next_number (number problem.now item)))) }
+fn next_saved(base: &Base<'_>, item: Item, most: u64) -> Result<u64, NoMemory>
+    requires base { IsPlanFor base.now.problem.now base.now.planned }
+    requires item { IsItem base.now.problem.now item }
+    requires most { IsSaved base.now.problem.now (with_number base.now.problem.now item MAX_BLOCKS) most }
+    ensures { IfOk result (IsSaved base.now.problem.now
+        (with_number base.now.problem.now item (next_number (number base.now.problem.now item)))) }
 {
     cuts_bound_losses();
-    let now = number(problem, item);
+    let now = number(base.problem, item);
     match item {
         Item::Window(_) if most == 0 => Ok(0),
-        _ => saved(alloc, problem, base, item, (now + 1).min(MAX_BLOCKS)),
+        _ => base.saved(item, (now + 1).min(MAX_BLOCKS)),
     }
 }
 
 // The worth of a number.
-fn worth_of(alloc: Global, problem: &Problem, base: &Planned, item: Item) -> Result<Worth, NoMemory>
-    requires base { IsPlanFor problem.now base.now }
-    requires item { IsItem problem.now item }
+fn worth_of(base: &Base<'_>, item: Item) -> Result<Worth, NoMemory>
+    requires base { IsPlanFor base.now.problem.now base.now.planned }
+    requires item { IsItem base.now.problem.now item }
     ensures item { IfOk result (λ worth. worth.item ≡ item) }
-    ensures worth { IfOk result (IsWorth problem.now) }
+    ensures worth { IfOk result (IsWorth base.now.problem.now) }
 {
-    let now = number(problem, item);
-    let most = saved(alloc, problem, base, item, MAX_BLOCKS)?;
-    let next = next_saved(alloc, problem, base, item, most)?;
-    let without = cost(alloc, problem, base, item)?;
+    let now = number(base.problem, item);
+    let most = base.saved(item, MAX_BLOCKS)?;
+    let next = next_saved(base, item, most)?;
+    let without = base.cost(item)?;
     Ok(Worth {
         item,
         now,
@@ -84,11 +78,11 @@ pub fn worths_with_progress<P: Progress>(
 ) -> Result<Vec<Worth>, NoMemory>
     ensures { IfOk result (λ worths. AreWorths problem.now worths.items) }
 {
-    let base = plan(alloc, problem)?;
+    let base = Base::new(alloc, problem)?;
     let items = items(alloc, problem)?;
     let mut worths = Vec::new(alloc);
     for item in &items {
-        let worth = worth_of(alloc, problem, &base, *item)?;
+        let worth = worth_of(&base, *item)?;
         worths.push(worth)?;
         progress.done(worths.len(), items.len());
     }

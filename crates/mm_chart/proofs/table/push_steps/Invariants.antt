@@ -7,4 +7,5 @@ use Rattle.mm_chart.proofs.table.push_steps.Given as goal
 
 abbrev pub invariant-loop-step : goal.invariant-loop-step
 invariant-loop-step l =
-    l.text.items ≡ l.initial.text.items ++ flat_map (step_records l.course.problem.now (amount l.course.plan.now)) (range_with_len 1 (l.step - 1))
+    l.text.items ≡ l.initial.text.items
+    ++ flat_map (step_records l.course.problem.now (amount l.course.plan.now)) (range_with_len 1 (l.step - 1))

@@ -24,7 +24,7 @@ module _ (q : Dumping) (worths : List ℕ) (worth : ℕ) where
 
 pub loop-channel-preserved : goal.loop-channel-preserved
 loop-channel-preserved c =
-    let q = c.args.problem.now in
+    let q = c.args.base.now.problem.now in
     let step = c.args.step in
     let channel = c.loop-channel.channel in
     let worths = c.loop-channel.worths.items in

@@ -7,7 +7,7 @@ use Rattle.mm_sensitivity.proofs.charts.window_worth.Goals as goal
 
 pub returns : goal.returns
 returns c =
-    let q = c.args.problem.now in
+    let q = c.args.base.now.problem.now in
     let t = c.args.step in
     let known = c.in_ok-most.ensures.saved in
     let wider : ℕ = MAX_BLOCKS - window q t in

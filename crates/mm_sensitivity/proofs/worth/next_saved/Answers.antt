@@ -11,7 +11,7 @@ use Rattle.mm_sensitivity.proofs.worth.next_saved.Goals as goal
 
 pub returns-in-Window : goal.returns-in-Window
 returns-in-Window c =
-    let q = c.args.problem.now in
+    let q = c.args.base.now.problem.now in
     let t = c.in-Window.field-0 in
     let here : c.args.item ≡ Window t = c.in-Window.is in
     let value : number q c.args.item ≡ window q t = ap (number q) here in

@@ -5,7 +5,7 @@ use Rattle.mm_sensitivity.proofs.worth.worth_of.Goals as goal
 
 pub returns-clause-worth : goal.returns-clause-worth
 returns-clause-worth c =
-    let q = c.args.problem.now in
+    let q = c.args.base.now.problem.now in
     let i = c.args.item in
     record {
       item = c.requires.item;

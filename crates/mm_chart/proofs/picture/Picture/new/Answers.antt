@@ -6,7 +6,7 @@ invariant_of-result c =
     let s = c.args.sheet in
     let drawn = drawn_cut c.args.problem s s.firsts c.verdict_of-verdict.result c.verdict_of-verdict.ensures in (
       record { shape = c.requires.shape; verdict = c.verdict_of-verdict.ensures; is_cut = drawn },
-      assumption (c.in_ok-volumes.ensures),
+      c.in_ok-volumes.ensures,
       rw c.cut_of.ensures.cut at c.in_ok-shades.ensures,
       record {
         inner_places = c.inner_steps-inner.ensures.places;

@@ -7,18 +7,18 @@ use Rattle.mm_sensitivity.specs.declared.item.Item.TheVariants.{Window}
 use Rattle.mm_sensitivity.specs.Items.{IsItem, number, fitted}
 use Rattle.mm_sensitivity.specs.Worth.{IsLeastLoss}
 use Rattle.mm_sensitivity.proofs.Found.{alike_own, wider_least}
-use Rattle.mm_sensitivity.proofs.base.loses_alike.Goals as goal
+use Rattle.mm_sensitivity.proofs.base.Base.loses_alike.Goals as goal
 
 pub returns-then-now-blocks-2 : goal.returns-then-now-blocks-2
 returns-then-now-blocks-2 c is =
-    let q = c.args.problem.now in
-    let p = c.args.base.now in
+    let q = c.args.self.now.problem.now in
+    let p = c.args.self.now.planned in
     let t = c.in-Window.step in
     let b = c.args.blocks in
     let here : c.args.item ≡ Window t = c.in-Window.is in
     let item : IsItem q (Window t) = subst (IsItem q) here c.requires.item in
     let value : number q c.args.item ≡ window q t = ap (number q) here in
-    let wider : window q t ≤ b = omega (arith, value, c.number-now.ensures.number, c.if-now-blocks-2.true) in
+    let wider : window q t ≤ b = omega (arith, c.number-now.ensures.number, c.if-now-blocks-2.true) in
     let other : counts_window p.certificate.cut p.certificate.by_channels t ≡ false = sym c.counts_window.ensures
     ∙ not-true c.counts_window.result is in
     subst (λ (i : Item). IsLeastLoss (fitted q i b) p.certificate.loss) (sym here)
@@ -27,6 +27,6 @@ returns-then-now-blocks-2 c is =
 
 pub returns-in_default : goal.returns-in_default
 returns-in_default c is =
-    let same : number c.args.problem.now c.args.item ≡ c.args.blocks = sym c.number-now.ensures.number
-    ∙ eqb-true c.number-now.result c.args.blocks is in
-    alike_own c.args.problem.now c.args.base.now c.args.item c.requires.base c.requires.item c.args.blocks same
+    let q = c.args.self.now.problem.now in
+    let same = sym c.number-now.ensures.number ∙ eqb-true c.number-now.result c.args.blocks is in
+    alike_own q c.args.self.now.planned c.args.item c.requires.base c.requires.item c.args.blocks same
