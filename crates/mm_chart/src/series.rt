@@ -6,7 +6,7 @@ use mm_base::MAX_STEPS;
 pub const AMOUNT_PLACES: usize = MAX_STEPS as usize + 2;
 
 /// A number for each step. Stores count from 0 in setup order.
-#[derive(Clone, Copy, Debug)]
+#[derive(Clone, Copy, Debug, PartialEq, Eq)]
 pub enum Series {
     /// 1 where the step counts by its window.
     WindowCounts,

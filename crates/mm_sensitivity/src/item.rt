@@ -13,7 +13,7 @@ use mm_problem::Problem;
 use std::alloc::Global;
 
 /// A number of a problem that a mission can change, in blocks.
-#[derive(Clone, Copy, Debug)]
+#[derive(Clone, Copy, Debug, PartialEq, Eq)]
 pub enum Item {
     /// The window of this step.
     Window(u32),

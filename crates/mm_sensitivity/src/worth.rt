@@ -13,7 +13,7 @@ use mm_problem::Problem;
 use std::alloc::Global;
 
 /// The worth of a number of a problem, in blocks.
-#[derive(Clone, Copy, Debug)]
+#[derive(Clone, Copy, Debug, PartialEq, Eq)]
 pub struct Worth {
     pub item: Item,
     /// The number itself.
