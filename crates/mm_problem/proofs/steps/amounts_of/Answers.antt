@@ -9,7 +9,7 @@ use Rattle.mm_problem.proofs.steps.amounts_of.Goals as goal
 pub loop-i-init : goal.loop-i-init
 loop-i-init c =
     let all : c.args.first + c.args.count - c.args.first ≡ c.args.count = omega arith in
-    ap (λ k. amounts_in c.args.name c.args.number c.args.amounts.items (c.args.first + 1) (cells_from (fields_of c.args.row.now) c.args.first k)) all
+    ap (λ k. amounts_in c.args.name c.args.number c.args.amounts.now.items (c.args.first + 1) (cells_from (fields_of c.args.row.now) c.args.first k)) all
 
 pub returns-in_err-amount : goal.returns-in_err-amount
 returns-in_err-amount c =
