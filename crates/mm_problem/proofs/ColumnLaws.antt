@@ -38,8 +38,7 @@ channel_from_said (Number n) c h = cc
 channel_said : (name : List ℕ) (c : ℕ) → channel_in name ≡ Ok c → (name ≡ limit_text c) × (c < CHANNELS)
 unfolding channel_in
 channel_said name c h =
-    let (u, word, number) = bind_ok (test (bytes_eq (take 6 name) (codes "limit:")) Header)
-    (λ _. channel_from (numeral_of MAX_CHANNEL (drop 6 name))) c h in
+    let (u, word, number) = bind_ok _ _ _ h in
     let front : take 6 name ≡ codes "limit:" =
     (bytes_eq-Decides (take 6 name) (codes "limit:")).0 (test_ok _ _ _ word) in
     let back = numeral_printed MAX_CHANNEL (drop 6 name) c (omega arith)
@@ -134,11 +133,8 @@ pub limited_said : (stores : List StoreRow) (header : Fields) (limited : List �
 unfolding limited_in
 limited_said stores header limited h =
     let n = length stores in
-    let (u, named, h1) = bind_ok (test (begins_with header (header_of stores)) Header)
-    (λ _. test (nat_le (length header) (2 + n + CHANNELS)) Header >>= (λ _. channels_in [] (drop (2 + n) header)))
-    limited h in
-    let (v, few, channels) = bind_ok (test (nat_le (length header) (2 + n + CHANNELS)) Header)
-    (λ _. channels_in [] (drop (2 + n) header)) limited h1 in
+    let (u, named, h1) = bind_ok _ _ _ h in
+    let (v, few, channels) = bind_ok _ _ _ h1 in
     let are = rows_said Says IsChannel ◌<◌ next_channel next_said (drop (2 + n) header) [] limited (All-nil IsChannel)
     (none_apart ◌<◌) channels in
     let begins = begins_said header (header_of stores) (test_ok _ _ _ named) in

@@ -114,7 +114,7 @@ module _ {R : Type 0} (P : R → Type 0) (D : R → R → Type 0) (fits : List R
     unfolding rows_fit
     rows_fit_said [] earlier u each apart h = rw (append-nil earlier) (each, apart)
     rows_fit_said (row ∷ rows) earlier u each apart h =
-        let (v, given, rest) = bind_ok (fits earlier row) (λ _. rows_fit fits (earlier ++ row ∷ []) rows) u h in
+        let (v, given, rest) = bind_ok _ _ _ h in
         let this = said earlier row v given in
         let all = rows_fit_said rows (earlier ++ row ∷ []) u (All-push P earlier row each this.0)
         (all_pairs_push D earlier row apart this.1) rest in
@@ -127,8 +127,7 @@ unfolding store_fits
 store_fits_said earlier row u h =
     let (size, size_fits, h1) = bind_ok _ _ _ h in
     let (channel, channel_fits, h2) = bind_ok _ _ _ h1 in
-    let (start, start_fits, new) =
-    bind_ok (within 0 row.size name.Start (pos row.start)) (λ _. new_store earlier row) u h2 in
+    let (start, start_fits, new) = bind_ok _ _ _ h2 in
     let size_is = within_said 1 MAX_BLOCKS name.Size row.size size size_fits in
     let channel_is = within_said 0 MAX_CHANNEL name.Channel row.channel channel channel_fits in
     let start_is = within_said 0 row.size name.Start row.start start start_fits in (
@@ -142,8 +141,7 @@ limit_fits_said : (earlier : List LimitRow) (row : LimitRow) (u : Unit {0}) → 
 unfolding limit_fits
 limit_fits_said earlier row u h =
     let (channel, channel_fits, h1) = bind_ok _ _ _ h in
-    let (blocks, blocks_fit, new) =
-    bind_ok (within 0 MAX_BLOCKS name.Blocks (pos row.blocks)) (λ _. new_limit earlier row) u h1 in
+    let (blocks, blocks_fit, new) = bind_ok _ _ _ h1 in
     let channel_is = within_said 0 MAX_CHANNEL name.Channel row.channel channel channel_fits in
     let blocks_are = within_said 0 MAX_BLOCKS name.Blocks row.blocks blocks blocks_fit in
     (record { channel = channel_is.1; blocks = blocks_are.1 }, new_limit_said earlier row u new)
@@ -174,7 +172,7 @@ amounts_said : (name : Name) (amounts : List ℕ) (u : Unit {0}) → amounts_fit
 unfolding amounts_fit
 amounts_said name [] u h = All-nil (λ n. n ≤ MAX_BLOCKS)
 amounts_said name (amount ∷ amounts) u h =
-    let (n, this, rest) = bind_ok (within 0 MAX_BLOCKS name (pos amount)) (λ _. amounts_fit name amounts) u h in
+    let (n, this, rest) = bind_ok _ _ _ h in
     All-cons (λ n. n ≤ MAX_BLOCKS) amount amounts (within_said 0 MAX_BLOCKS name amount n this).1
     (amounts_said name amounts u rest)
 
@@ -202,16 +200,10 @@ steps_fit_said stores [] earlier arrived u few h =
       each_arrival = All-nil (λ n. n ≤ MAX_BLOCKS);
     })
 steps_fit_said stores (window ∷ windows) earlier arrived u few h =
-    let (a, as_long, h1) = bind_ok (test (nat_le stores (length arrived)) ForecastText)
-    (λ _. step_fits earlier window (take stores arrived) >>= (λ _.
-    steps_fit stores (earlier + 1) windows (drop stores arrived))) u h in
-    let (b, step, rest) = bind_ok (step_fits earlier window (take stores arrived))
-    (λ _. steps_fit stores (earlier + 1) windows (drop stores arrived)) u h1 in
-    let (c, another, h2) = bind_ok (another_step earlier)
-    (λ _. within 0 MAX_BLOCKS name.Window (pos window) >>= (λ _. amounts_fit name.Arrivals (take stores arrived))) b
-    step in
-    let (n, window_fits, arrivals) = bind_ok (within 0 MAX_BLOCKS name.Window (pos window))
-    (λ _. amounts_fit name.Arrivals (take stores arrived)) b h2 in
+    let (a, as_long, h1) = bind_ok _ _ _ h in
+    let (b, step, rest) = bind_ok _ _ _ h1 in
+    let (c, another, h2) = bind_ok _ _ _ step in
+    let (n, window_fits, arrivals) = bind_ok _ _ _ h2 in
     let fewer : nat_lt earlier MAX_STEPS ≡ true = test_ok _ _ _ another in
     let below : earlier < MAX_STEPS = grind (arith, nat_tests) in
     let enough : stores ≤ length arrived = (Decides-nat_le stores (length arrived)).0 (test_ok _ _ _ as_long) in
@@ -264,13 +256,9 @@ pub step_limits_said : (windows channels limits : List ℕ) (u : Unit {0})
 unfolding step_limits_fit
 step_limits_said windows channels limits u h =
     let n = length windows * length channels in
-    let (a, few, h1) = bind_ok (test (nat_le (length channels) CHANNELS) Header)
-    (λ _. rows_fit column_fits [] channels >>= (λ _. test (length limits == n) ForecastText
-    >>= (λ _. amounts_fit name.Limit limits))) u h in
-    let (b, columns, h2) = bind_ok (rows_fit column_fits [] channels)
-    (λ _. test (length limits == n) ForecastText >>= (λ _. amounts_fit name.Limit limits)) u h1 in
-    let (c, as_long, each) =
-    bind_ok (test (length limits == n) ForecastText) (λ _. amounts_fit name.Limit limits) u h2 in
+    let (a, few, h1) = bind_ok _ _ _ h in
+    let (b, columns, h2) = bind_ok _ _ _ h1 in
+    let (c, as_long, each) = bind_ok _ _ _ h2 in
     let all = rows_fit_said (λ c. c < CHANNELS) ◌<◌ column_fits column_fits_said channels [] b
     (All-nil (λ c. c < CHANNELS)) (none_apart ◌<◌) columns in
     record {

@@ -59,7 +59,7 @@ module _ {R X : Type 0} (Says : X → R → Type 0) (P : R → Type 0) (D : R �
           apart = subst (AllPairs D) same apart;
         }
     rows_said (d ∷ ds) earlier rows fit apart h =
-        let (row, given, rest) = bind_ok (next earlier d) (λ row. rows_in next (earlier ++ row ∷ []) ds) rows h in
+        let (row, given, rest) = bind_ok _ _ _ h in
         let this = said earlier d row given in
         let others = rows_said ds (earlier ++ row ∷ []) rows (All-push P earlier row fit this.fits)
         (all_pairs_push D earlier row apart this.new) rest in

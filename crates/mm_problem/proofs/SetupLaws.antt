@@ -102,12 +102,8 @@ rows_of_read lists m h =
 pub counts_said : (lists : Lists) (u : Unit {0}) → counts_of lists ≡ Ok u → AreCounted lists
 unfolding counts_of
 counts_said lists u h =
-    let (a, stores, h1) =
-    bind_ok (test (nat_le 1 (length lists.stores) && nat_le (length lists.stores) MAX_STORES) (Limit name.Stores))
-    (λ _. test (nat_le (length lists.routes) MAX_ROUTES) (Limit name.Routes)
-    >>= (λ _. test (nat_le (length lists.limits) CHANNELS) (Limit name.Limits))) u h in
-    let (b, routes, limits) = bind_ok (test (nat_le (length lists.routes) MAX_ROUTES) (Limit name.Routes))
-    (λ _. test (nat_le (length lists.limits) CHANNELS) (Limit name.Limits)) u h1 in
+    let (a, stores, h1) = bind_ok _ _ _ h in
+    let (b, routes, limits) = bind_ok _ _ _ h1 in
     let (some, few) = and_parts (nat_le 1 (length lists.stores)) (nat_le (length lists.stores) MAX_STORES)
     (test_ok _ _ _ stores) in
     record {
@@ -178,8 +174,8 @@ if_any_read Says name rows (Some d) is = (elements is.items, rw is.is_array refl
 document_said : (document : Members) (m : SetupRows) → setup_in document ≡ Ok m → IsReadableDocument document m
 unfolding setup_in lists_at
 document_said document m h =
-    let (lists, lists_are, h1) = bind_ok (lists_at document) (λ lists. counts_of lists >>= (λ _. rows_of lists)) m h in
-    let (u, counted, last) = bind_ok (counts_of lists) (λ _. rows_of lists) m h1 in
+    let (lists, lists_are, h1) = bind_ok _ _ _ h in
+    let (u, counted, last) = bind_ok _ _ _ h1 in
     let (v, known, g1) = bind_ok _ _ _ lists_are in
     let (stores, stores_at, g2) = bind_ok _ _ _ g1 in
     let (routes, routes_at, g3) = bind_ok _ _ _ g2 in
@@ -228,9 +224,8 @@ document_read document m h =
 pub setup_said : (octets : List ℕ) (m : SetupRows) → setup_of octets ≡ Ok m → IsReadableSetup octets m
 unfolding setup_of document_of
 setup_said octets m h =
-    let (document, is, says) = bind_ok (document_of octets) setup_in m h in
-    let (text, decoded, parsed) =
-    bind_ok (text_of octets) (λ text. ok_or (parse_document text) SetupText) document is in
+    let (document, is, says) = bind_ok _ _ _ h in
+    let (text, decoded, parsed) = bind_ok _ _ _ is in
     let (utf8, same) = cond_ok (is_utf8 octets) octets SetupText text decoded in
     record {
       utf8 = IsUtf8-from_is_utf8 octets utf8;
