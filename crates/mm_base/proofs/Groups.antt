@@ -1,4 +1,5 @@
--- Sums by groups: a list's sum against the sums of its groups, and against the sum over the places of its elements.
+-- Sums by groups: the sum over a list is at most the sum over its groups, and at most the sum over the places of its
+-- elements.
 use Rattle.std.proofs.Common.{◌≡◌, ℕ, ◌<◌, ◌≤◌, Bool, true, false, cond, eqb, List, get_or, All, refl, inl, inr, arith}
 use Rattle.std.specs.Prelude.{◌≢◌, AllPairs}
 use Rattle.std.specs.List.{sum_by, range_with_len}
@@ -8,16 +9,20 @@ use Rattle.mm_base.proofs.Tests.{cond-eqb_same, true-from_cond}
 use Rattle.mm_base.proofs.Sums.{sum_by-le_each, sum_by-swap, sum_by-le_one}
 use Rattle.mm_base.proofs.RangeSums.{sum_by_range-le, term-le-sum_by_range}
 
--- one element is counted in its own group
+-- the value of an element of group c is at most its share over all groups
 in_its_group : (m c n : ℕ) → (0 < m → c < n) → m ≤ sum_by (λ k. cond (eqb c k) m 0) (range_with_len 0 n)
 in_its_group m c n within = elim (cases_lt 0 m) [
   | inl some ↦
       let below : c < n = within some in
-      omega (arith, term-le-sum_by_range (λ k. cond (eqb c k) m 0) 0 n c (omega arith) (omega arith), cond-eqb_same c c m refl)
+      omega (
+        arith,
+        term-le-sum_by_range (λ k. cond (eqb c k) m 0) 0 n c (omega arith) (omega arith),
+        cond-eqb_same c c m refl,
+      )
   | inr none ↦ omega arith
 ]
 
--- a sum is at most the sum over groups of what each group's elements add up to
+-- a sum is at most the sum of the sums of the groups, if each element that is not 0 has a group below n
 pub sum_by-le_groups : {X : Type 0} (f group : X → ℕ) (n : ℕ) (xs : List X)
     → All (λ x. 0 < f x → group x < n) xs
     → sum_by f xs ≤ sum_by (λ c. sum_by (λ x. cond (eqb (group x) c) (f x) 0) xs) (range_with_len 0 n)
@@ -28,7 +33,7 @@ sum_by-le_groups {X} f group n xs within =
     let in_all = sum_by-le_each f (λ x. sum_by (in_group x) (range_with_len 0 n)) xs each in
     omega (arith, in_all, sum_by-swap in_group xs (range_with_len 0 n))
 
--- what an element counts for at place c, where b says whether it passes and k is its own place
+-- the share at place c of an element whose place is k, where b says whether it passes the test
 abbrev counted_at : (ℕ → ℕ) → Bool → ℕ → ℕ → ℕ
 counted_at f b k c = cond (eqb k c) (cond b (f k) 0) 0
 
@@ -38,7 +43,8 @@ most_at f b k c = elim (eqb_tells k c) [
   | inr other ↦ rw other.0 (omega arith)
 ]
 
-one_at : (f : ℕ → ℕ) (a b : Bool) (j k c : ℕ) → (a ≡ true → b ≡ true → j ≢ k) → 0 < counted_at f a j c → counted_at f b k c ≡ 0
+one_at : (f : ℕ → ℕ) (a b : Bool) (j k c : ℕ) → (a ≡ true → b ≡ true → j ≢ k) → 0 < counted_at f a j c
+    → counted_at f b k c ≡ 0
 one_at f true true j k c apart some = let other = apart refl refl in grind (arith, nat_tests)
 one_at f true false j k c apart some = grind (arith, nat_tests)
 one_at f false b j k c apart some = grind (arith, nat_tests)

@@ -10,7 +10,7 @@ abbrev pub code_of : Kind → ℕ
 code_of Circular = 0
 code_of Bounded = 1
 
--- the kind with this code, or `BadEnum` where no kind has it
+-- the result is the kind with this code, or `BadEnum` if no kind has the code
 abbrev pub DecodesKind : ℕ → Result Kind Fault → Type 0
 DecodesKind code r = MatchResult r (λ kind. code_of kind ≡ code) (λ e. (e ≡ BadEnum) × (1 < code))
 

@@ -1,4 +1,4 @@
--- Reading in steps of what may be missing.
+-- Reading in steps, each of which may find nothing.
 use Rattle.std.specs.Prelude.{Option, Some, None}
 
 -- the next step, unless this one found nothing

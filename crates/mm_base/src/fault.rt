@@ -1,15 +1,15 @@
-//! Why a text or a code means no identifier or no kind.
+//! Why a text, a field or a code is refused as an identifier or as a kind.
 use crate::refusal::Refusal;
 use crate::refused::Refused;
 use thiserror::Error;
 
-/// Why there is no identifier or no kind. It is shown as its number and its name.
+/// Why an identifier or a kind is not read. It is shown as its number and its name.
 #[derive(Clone, Copy, Debug, PartialEq, Eq, Error)]
 #[error("{}", self.refusal())]
 pub enum Fault {
-    /// The text or the field is no identifier.
+    /// The text or the field is not an identifier.
     BadId,
-    /// The code means nothing.
+    /// No kind has the code.
     BadEnum,
 }
 

@@ -1,8 +1,9 @@
-//! Tables that are kept as one list: step by step, in each the stores in order.
+//! Tables kept as one list: the steps in order, and in each step the stores in order.
 ghost use Rattle.std.specs.Prelude.{◌≡◌, ◌<◌, ◌≤◌, ◌^◌};
 ghost use Rattle.mm_base.specs.Grid.{grid_place};
 
-/// The place of a store, counted from 0, in a step, counted from 1, where each step has this many stores.
+/// The place in the list of the number for a store in a step, where each step has numbers for `stores` stores. Stores
+/// and places count from 0, steps from 1.
 pub fn place(stores: usize, step: u32, store: usize) -> usize
     requires first { 1 ≤ step }
     requires fits { grid_place stores step store < 2 ^ 64 }

@@ -7,8 +7,8 @@ use crate::fault::Fault;
 use std::marker::Model;
 use std::str::FromStr;
 
-/// The identifier of a packet store: 1 to 8 of the characters `A-Z 0-9 _ -`. Contracts see it as its field of a
-/// telecommand, which has 8 octets, the text padded on the right with spaces.
+/// The identifier of a packet store: 1 to 8 of the characters `A-Z 0-9 _ -`. Contracts see it as its field in a
+/// telecommand: 8 octets, the text padded on the right with spaces.
 #[derive(Clone, Copy, Debug, PartialEq, Eq, PartialOrd, Ord)]
 pub struct StoreId([u8; 8]);
 
@@ -47,7 +47,7 @@ fn padded(text: &[u8]) -> [u8; 8]
     field
 }
 
-// How many octets stand before the padding.
+// The number of octets before the padding.
 fn text_len(field: &[u8]) -> usize
     ensures text { take result field.now ≡ id_text field.now }
     ensures within { result ≤ length field.now }
@@ -68,7 +68,7 @@ fn is_id_field(field: &[u8; 8]) -> bool
 }
 
 impl StoreId {
-    /// The identifier with this text; any other text is `BadId`.
+    /// The identifier with this text. A text that is not an identifier is `BadId`.
     pub fn of_text(text: &[u8]) -> Result<StoreId, Fault>
         ensures found { IsOk result ↔ IsIdText text.now }
         ensures id { IfOk result (λ id. id ≡ field_of text.now) }
@@ -81,7 +81,7 @@ impl StoreId {
         }
     }
 
-    /// The identifier in this field of a telecommand; any other field is `BadId`.
+    /// The identifier in this field of a telecommand. A field without an identifier is `BadId`.
     pub fn of_field(field: [u8; 8]) -> Result<StoreId, Fault>
         ensures found { IsOk result ↔ IsIdField field }
         ensures id { IfOk result (λ id. id ≡ field) }
@@ -101,7 +101,7 @@ impl StoreId {
         &self.0[..text_len(&self.0)]
     }
 
-    /// The identifier's field of a telecommand or a report, 8 octets.
+    /// The identifier's field in a telecommand or a report: 8 octets.
     pub fn field(&self) -> [u8; 8]
         ensures field { result ≡ self.now }
         ensures is_field { IsIdField self.now }
@@ -113,7 +113,8 @@ impl StoreId {
 impl FromStr for StoreId {
     type Err = Fault;
 
-    ghost from_str_gives = { λ text r. (IsOk r ↔ IsIdText text) × IfOk r (λ id. id ≡ field_of text) × IfErr r (λ e. e ≡ BadId) };
+    ghost from_str_gives = { λ text r. (IsOk r ↔ IsIdText text) × IfOk r (λ id. id ≡ field_of text)
+        × IfErr r (λ e. e ≡ BadId) };
 
     fn from_str(text: &str) -> Result<StoreId, Fault> {
         StoreId::of_text(text.as_bytes())
@@ -123,7 +124,8 @@ impl FromStr for StoreId {
 impl TryFrom<[u8; 8]> for StoreId {
     type Error = Fault;
 
-    ghost try_from_gives = { λ field r. (IsOk r ↔ IsIdField field) × IfOk r (λ id. id ≡ field) × IfErr r (λ e. e ≡ BadId) };
+    ghost try_from_gives = { λ field r. (IsOk r ↔ IsIdField field) × IfOk r (λ id. id ≡ field)
+        × IfErr r (λ e. e ≡ BadId) };
 
     fn try_from(field: [u8; 8]) -> Result<StoreId, Fault> {
         StoreId::of_field(field)

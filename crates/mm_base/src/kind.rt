@@ -14,7 +14,7 @@ pub enum Kind {
 }
 
 impl Kind {
-    /// The kind of a telecommand's type field: 0 circular, 1 bounded; any other code is `BadEnum`.
+    /// The kind with this code in the type field of a telecommand: 0 circular, 1 bounded. Any other code is `BadEnum`.
     pub fn of_code(code: u8) -> Result<Kind, Fault>
         ensures kind { DecodesKind code result }
     {
@@ -25,7 +25,7 @@ impl Kind {
         }
     }
 
-    /// The code of the kind in a telecommand or a report.
+    /// The code of the kind in telecommands and reports.
     pub fn code(self) -> u8
         ensures code { result ≡ code_of self }
     {

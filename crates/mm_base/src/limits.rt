@@ -9,7 +9,7 @@ pub const MAX_STEPS: u32 = 256;
 /// The most blocks of a store, an arrival, a pass window or a channel's limit.
 pub const MAX_BLOCKS: u32 = 1_000_000;
 
-/// The greatest virtual channel.
+/// The greatest number of a virtual channel.
 pub const MAX_CHANNEL: u8 = 7;
 
 /// The number of virtual channels.

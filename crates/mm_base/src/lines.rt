@@ -13,7 +13,7 @@ fn first_feed(text: &[u8]) -> Option<usize>
     memchr(b'\n', text)
 }
 
-/// The text up to the first line feed, and the text after it; nothing where the text is a single line.
+/// The text before the first line feed and the text after it, or `None` if the text has no line feed.
 pub fn split_line(text: &[u8]) -> Option<(&[u8], &[u8])>
     ensures lines { MatchOption result
         (text_lines text.now ≡ text.now ∷ [])
@@ -26,8 +26,7 @@ pub fn split_line(text: &[u8]) -> Option<(&[u8], &[u8])>
     }
 }
 
-/// The first line of a file and what follows it, or nothing where the file has no line. The line feed of the last
-/// line may be missing.
+/// The first line of a file and the text after it, or `None` if the file is empty. The last line may have no line feed.
 pub fn first_line(text: &[u8]) -> Option<(&[u8], &[u8])>
     ensures lines { MatchOption result
         (file_lines text.now ≡ [])
@@ -49,7 +48,7 @@ fn first_space(text: &[u8]) -> Option<usize>
     memchr(b' ', text)
 }
 
-/// The text up to the first space, and what follows the space.
+/// The text before the first space and the text after it, or `None` if the text has no space.
 pub fn cut_word(text: &[u8]) -> Option<(&[u8], &[u8])>
     ensures { option_map (λ parts. (parts.0.now, parts.1.now)) result ≡ cut_word text.now }
 {

@@ -1,10 +1,11 @@
-//! Want of memory: an allocation was refused.
+//! Out of memory: an allocation was refused.
 use crate::refusal::Refusal;
 use crate::refused::Refused;
 use std::alloc::{AllocError, AllocFailed};
 use thiserror::Error;
 
-/// An allocation was refused, where no other refusal is possible. It is shown as its number and its name.
+/// An allocation was refused: the fault of a call that can fail for no other reason. It is shown as its number and its
+/// name.
 #[derive(Clone, Copy, Debug, PartialEq, Eq, Error)]
 #[error("{}", Refusal::NoMemory)]
 pub struct NoMemory;

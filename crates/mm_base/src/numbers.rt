@@ -1,24 +1,27 @@
-//! Numbers in texts: decimal, without sign and without leading zeros.
-ghost use Rattle.std.specs.Prelude.{◌≡◌, ◌+◌, ◌-◌, ◌*◌, ◌++◌, ◌∷◌, nat_le, decimal, ◌≤◌, ◌&&◌, not, length, drop, Some, None, OnOk, if◌then◌else◌};
+//! Numbers in texts: in decimal, without sign and without leading zeros.
+ghost use Rattle.std.specs.Prelude.{◌≡◌, ◌+◌, ◌-◌, ◌*◌, ◌++◌, ◌∷◌, nat_le, decimal, ◌≤◌, ◌&&◌, not, length, drop, Some};
+ghost use Rattle.std.specs.Prelude.{None, OnOk, if◌then◌else◌};
 ghost use Rattle.std.specs.Char.{is_ascii_digit};
 ghost use Rattle.std.specs.List.{list_all};
-ghost use Rattle.mm_base.specs.Numbers.{is_number, value_after, digits_number, digits_numeral, numeral_within, numeral_of, IsWithin};
+ghost use Rattle.mm_base.specs.Numbers.{is_number, value_after, digits_number, digits_numeral, numeral_within};
+ghost use Rattle.mm_base.specs.Numbers.{numeral_of, IsWithin};
 
 use itoa::{Buffer, write_digits};
 use std::alloc::AllocError;
 
-/// What a text is as a number up to a bound.
+/// The result of reading a text as a number up to a bound.
 #[derive(Clone, Copy, Debug, PartialEq, Eq)]
 pub enum Numeral {
-    /// The text is no number: it is empty, has another character than a digit, or a 0 before another digit.
+    /// The text is not a number: it is empty, has a character that is not a digit, or begins with a 0 before another
+    /// digit.
     NotNumber,
-    /// The number is above the bound, however long its text is.
+    /// The text is a number above the bound, of any length.
     TooLarge,
     Number(u64),
 }
 
 impl Numeral {
-    /// What the text is as a number up to `most`.
+    /// Reads the text as a number up to `most`.
     pub fn read(text: &[u8], most: u64) -> Numeral
         ensures numeral { result ≡ numeral_of most text.now }
         ensures within { IsWithin most result }
@@ -33,10 +36,10 @@ impl Numeral {
     }
 }
 
-// A number of at most this many digits is below 2^64, whichever they are.
+// Every number of at most this many digits is below 2^64.
 const SHORT: usize = 19;
 
-// Whether the text is empty, or a 0 stands before something else.
+// Whether the text is empty, or begins with a 0 before another character.
 fn begins_as_no_number(text: &[u8]) -> bool
     ensures { is_number text.now ≡ (not result && list_all is_ascii_digit text.now) }
 {
@@ -47,7 +50,7 @@ fn begins_as_no_number(text: &[u8]) -> bool
     }
 }
 
-// The number with these digits, where each is a digit.
+// The number with these digits, or `None` if a character is not a digit.
 fn short_value(digits: &[u8]) -> Option<u64>
     requires { length digits.now ≤ SHORT }
     ensures { result ≡ digits_number 0 digits.now }
@@ -91,7 +94,7 @@ fn long_numeral(text: &[u8], most: u64) -> Numeral
     }
 }
 
-// The number with one more digit, unless it is above the bound.
+// The number with one more digit at its end, or `None` if that is above the bound.
 fn with_digit(number: u64, digit: u8, most: u64) -> Option<u64>
     ensures { result ≡ (if nat_le (number * 10 + (digit - 48)) most then Some (number * 10 + (digit - 48)) else None) }
 {
@@ -103,7 +106,7 @@ fn with_digit(number: u64, digit: u8, most: u64) -> Option<u64>
     }
 }
 
-// The number with these digits.
+// The number with these digits, up to the bound.
 #[tactic(auto, using(crate::proofs::NumberLaws::value_after_more, crate::proofs::NumberLaws::value_after_all, crate::proofs::NumberLaws::too_large))]
 fn value_of(digits: &[u8], most: u64) -> Numeral
     ensures numeral { result ≡ numeral_within most (value_after 0 digits.now) }
@@ -119,7 +122,7 @@ fn value_of(digits: &[u8], most: u64) -> Numeral
     Numeral::Number(number)
 }
 
-/// Writes a number after a text.
+/// Writes a number in decimal at the end of a text.
 pub fn push_number(text: &mut Vec<u8>, number: u64) -> Result<(), AllocError>
     ensures { OnOk result (text.new.items ≡ text.old.items ++ decimal number) }
 {
@@ -127,8 +130,9 @@ pub fn push_number(text: &mut Vec<u8>, number: u64) -> Result<(), AllocError>
     text.extend_from_slice(buffer.format(number).as_bytes())
 }
 
-/// Writes an octet and the digits of a number after it so that they end at a place, and answers where they start. They
-/// take at most 11 octets. A line with several numbers is written so from its last to its first.
+/// Writes an octet and after it the digits of a number, so that the last digit stands before the place `end`, and
+/// returns the place of the octet. They take at most 11 octets. A line with several numbers is written from its last
+/// number to its first.
 pub fn write_number(octets: &mut [u8], end: usize, octet: u8, number: u32) -> usize
     requires room { 11 ≤ end }
     requires within { end ≤ length octets.old }

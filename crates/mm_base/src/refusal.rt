@@ -31,13 +31,13 @@ pub enum Refusal {
     NoSuchRoute,
     /// The storage control has no room for another row.
     TableFull,
-    /// The packet is not one of the storage service.
+    /// The packet does not belong to the storage service.
     NotSt15,
     /// The storage service has no such subtype.
     UnknownSubtype,
-    /// The count and the data that follows do not agree.
+    /// The data do not have the length that the count before them says.
     CountMismatch,
-    /// The text or the field is no identifier.
+    /// The text or the field is not an identifier.
     BadId,
     /// A type, a virtual channel or an APID is not allowed.
     BadEnum,
@@ -49,51 +49,52 @@ pub enum Refusal {
     NoRetrieval,
     /// A range of times begins after its end.
     BadRange,
-    /// No later storage time, or no further offer, can be counted.
+    /// There is no later storage time, or no further offer can be counted.
     ClockEnd,
-    /// A draw passes what is left of the pass window.
+    /// A draw is larger than the rest of the pass window.
     WindowFull,
     /// No store has the identifier.
     NoSuchStore,
     /// A store has the identifier already.
     Exists,
-    /// There are as many stores as there may be.
+    /// The memory already has the greatest number of stores.
     TooManyStores,
     /// Storage into the store is on.
     StorageOn,
-    /// The setup is no TOML document.
+    /// The setup is not a TOML document.
     SetupText,
-    /// A key of the setup is strange, missing, or of a wrong kind, or its value is repeated.
+    /// A key of the setup is unknown or missing, or its value has the wrong type, is not allowed, or is repeated.
     SetupField,
-    /// The forecast is no list of records of one length.
+    /// The records of the forecast do not all have the length of its header.
     ForecastText,
-    /// The forecast's header is another than the setup asks for.
+    /// The header of the forecast does not name the stores of the setup in their order, or has a wrong column of
+    /// limits.
     Header,
-    /// A cell of the forecast is no number.
+    /// A cell of the forecast is not a number.
     Cell,
-    /// A record of the forecast has another step number than the next.
+    /// A record of the forecast does not have the number of the next step.
     StepNumber,
-    /// A number, or how many there are of something, is out of its range.
+    /// A value is out of its range, or a text has too few or too many of something.
     Limit,
-    /// A line of the plan text is not what stands there.
+    /// A line of the plan text is not the one that the format has at this place.
     PlanText,
-    /// The plan is for other stores or another number of steps.
+    /// The plan is for other stores or for another number of steps.
     Shape,
     /// A path of unlimited arcs leads from the source to the sink.
     Unbounded,
-    /// The source and the sink are one node.
+    /// The source and the sink are the same node.
     SameEnds,
-    /// The plan to be carried out is for other stores or another number of steps.
+    /// The plan to be carried out is for other stores or for another number of steps.
     PlanShape,
     /// A store is missing, is not of the problem, has its storage off, or has a retrieval on.
     NotReady,
-    /// A store has another size than the setup says.
+    /// The size of a store is not the one in the setup.
     SizeDiffers,
-    /// A store holds another number of packets than the setup's start.
+    /// A store does not hold as many packets as its start volume in the setup.
     OpeningDiffers,
-    /// The first moment or a store's last storage time is too late for a run.
+    /// The first moment of a run, or a store's last storage time, leaves too little time for the run.
     ClockTooLate,
-    /// A step of the plan passes its window or a channel's limit.
+    /// A step of the plan dumps more than its pass window or than a channel's limit.
     PlanDoesNotFit,
     /// There are too few or too many sources or links.
     Counts,
@@ -101,7 +102,8 @@ pub enum Refusal {
     NoMemoryInStep,
     /// A link failed to send a packet.
     LinkFailed,
-    /// A store refused a packet in a step of a run: its storage is off, or no further offer or storage time can be counted.
+    /// A store refused a packet in a step of a run: its storage is off, or no further offer or storage time can be
+    /// counted.
     LogMismatch,
     /// A store's size is out of its range.
     BadSize,
@@ -109,18 +111,18 @@ pub enum Refusal {
     HexLine,
     /// A file could not be read.
     NotRead,
-    /// A line of the sources is not what stands there.
+    /// A line of the sources is not one that the format allows.
     SourcesText,
-    /// A line of the links is not what stands there.
+    /// A line of the links is not one that the format allows.
     LinksText,
-    /// A store has another virtual channel than the setup says.
+    /// The virtual channel of a store is not the one in the setup.
     ChannelDiffers,
-    /// More reports of the storage service would wait to be given than the bound that was set.
+    /// More reports of the storage service would wait than the bound that was set.
     TooManyReports,
 }
 
 impl Refusal {
-    // The table of refusals: the number and the name of each.
+    // The number and the name of the refusal.
     fn entry(self) -> (u8, &'static str)
         ensures number { result.0 ≡ (entry_of self).0 }
         ensures name { result.1.now ≡ (entry_of self).1 }

@@ -1,4 +1,4 @@
-//! What the faults of all crates have in common: each is one of the refusals.
+//! The trait that the faults of all crates meet: each fault is one of the refusals.
 ghost use Rattle.std.specs.Prelude.{◌≡◌};
 ghost use Rattle.mm_base.specs.Refusals.{number_of, name_of};
 ghost use Rattle.mm_base.specs.declared.refusal.Refusal.{Refusal};
@@ -7,7 +7,7 @@ use crate::refusal::Refusal;
 
 /// A fault that is one of the refusals, with its number and its name.
 pub trait Refused {
-    /// Which refusal it is.
+    /// Which refusal the fault is.
     ghost refusal_of: { Self → Refusal };
 
     fn refusal(self) -> Refusal
@@ -32,11 +32,13 @@ pub trait Refused {
     }
 }
 
-/// Which refusal each case of a fault is: the one of the same name, where a case may have fields; another where it says `as`; and for a
-/// case that has a fault of a crate below, that fault's.
+/// The refusal of each case of a fault. A case listed first, or after `with` if it has fields, is the refusal of the
+/// same name. After `but`, `A as B` says that the case `A` is the refusal `B`. A case after `below` holds a fault of a
+/// lower crate, and is that fault's refusal.
 #[macro_export]
 macro_rules! refusals {
-    ($fault:expr; $($same:ident),* $(; with $($field:ident),*)? $(; but $($case:ident as $other:ident),*)? $(; below $($lower:ident),*)?) => {
+    ($fault:expr; $($same:ident),* $(; with $($field:ident),*)? $(; but $($case:ident as $other:ident),*)? $(;
+        below $($lower:ident),*)?) => {
         match $fault {
             $(Self::$same => Refusal::$same,)*
             $($(Self::$field { .. } => Refusal::$field,)*)?
@@ -46,7 +48,8 @@ macro_rules! refusals {
     };
 }
 
-/// A fault of a crate below as a fault of this crate: want of memory stays `NoMemory`, and any other fault is one of the named case.
+/// Turns a fault of a lower crate into a fault of this crate: `NoMemory` stays `NoMemory`, and the named case holds any
+/// other fault.
 #[macro_export]
 macro_rules! passed_on {
     ($fault:expr; $lower:ident as $case:ident) => {

@@ -1,4 +1,4 @@
--- The stores that a report type names, in rows in order.
+-- The stores of a report type, from rows in order.
 use Rattle.std.proofs.Common.{◌≡◌, ℕ, true, false, List, [], ◌∷◌, refl, sym, ap, ◌∙◌, inl, inr, arith}
 use Rattle.std.specs.List.{filter, All}
 use Rattle.std.specs.Prelude.{bytes_eq, if◌then◌else◌}
@@ -16,12 +16,14 @@ use Rattle.mm_base.specs.declared.rows.RouteRow.{RouteRow}
 use Rattle.mm_base.specs.SameRoutes.{same_route}
 use Rattle.mm_control.specs.Routes.{row_cmp, IsInOrder, AreInOrder, has_row, is_for, stores_for}
 use Rattle.mm_control.proofs.OrderLemmas.{row_cmp_total, beside, same_route-true}
-use Rattle.mm_control.proofs.RouteLemmas.{AllPairs-head, AllPairs-tail}
+use Rattle.mm_base.proofs.Pairs.{AllPairs-head, AllPairs-tail}
 
--- where a row stands before all of these, none of them is it
-not_later : (r row : RouteRow) (rows : List RouteRow) → same_route r row ≡ true → All (λ x. row_cmp r x ≡ Less) rows → has_row row rows ≡ false
+-- a row that is before all of these rows is not among them
+not_later : (r row : RouteRow) (rows : List RouteRow) → same_route r row ≡ true → All (λ x. row_cmp r x ≡ Less) rows
+    → has_row row rows ≡ false
 not_later r row rows same later =
-    list_any_none (λ x. same_route x row) rows (All-weaker (λ x. row_cmp r x ≡ Less) (λ x. same_route x row ≡ false) other rows later)
+    list_any_none (λ x. same_route x row) rows
+    (All-weaker (λ x. row_cmp r x ≡ Less) (λ x. same_route x row ≡ false) other rows later)
   where
     other : (x : RouteRow) → row_cmp r x ≡ Less → same_route x row ≡ false
     other x before =
@@ -29,48 +31,66 @@ not_later r row rows same later =
         rw (same_route-true r row same) at (beside x r Greater after).same
 
 module _ (apid service subtype : ℕ) where
-  -- the fields of a row for this report type
-  fields : (r : RouteRow) → is_for apid service subtype r ≡ true → (r.apid ≡ apid) × (r.service ≡ service) × (r.subtype ≡ subtype)
+  -- the fields of a row that is for this report type
+  fields : (r : RouteRow) → is_for apid service subtype r ≡ true
+      → (r.apid ≡ apid) × (r.service ≡ service) × (r.subtype ≡ subtype)
   fields r is =
       let (both, third) = and_parts _ _ is in
-      let (first, second) = and_parts _ _ both in
-      ((Decides-eqb r.apid apid).0 first, (Decides-eqb r.service service).0 second, (Decides-eqb r.subtype subtype).0 third)
+      let (first, second) = and_parts _ _ both in (
+        (Decides-eqb r.apid apid).0 first,
+        (Decides-eqb r.service service).0 second,
+        (Decides-eqb r.subtype subtype).0 third,
+      )
 
-  -- rows for one report type stand in the order of their stores
-  by_store : (a b : RouteRow) → is_for apid service subtype a ≡ true → is_for apid service subtype b ≡ true → row_cmp a b ≡ Less → slice_cmp nat_cmp a.store b.store ≡ Less
+  -- rows of one report type are in the order of their stores
+  by_store : (a b : RouteRow) → is_for apid service subtype a ≡ true → is_for apid service subtype b ≡ true
+      → row_cmp a b ≡ Less → slice_cmp nat_cmp a.store b.store ≡ Less
   by_store a b a_is b_is before =
       let (a_apid, a_service, a_subtype) = fields a a_is in
       let (b_apid, b_service, b_subtype) = fields b b_is in
-      rw (a_apid, a_service, a_subtype, b_apid, b_service, b_subtype, tied_itself nat_cmp_total apid, tied_itself nat_cmp_total service, tied_itself nat_cmp_total subtype) at before
+      rw (
+        a_apid,
+        a_service,
+        a_subtype,
+        b_apid,
+        b_service,
+        b_subtype,
+        tied_itself nat_cmp_total apid,
+        tied_itself nat_cmp_total service,
+        tied_itself nat_cmp_total subtype,
+      ) at before
 
   -- the stores of later rows have later identifiers
-  later_stores : (r : RouteRow) (rows : List RouteRow) → is_for apid service subtype r ≡ true → All (λ x. row_cmp r x ≡ Less) rows
+  later_stores : (r : RouteRow) (rows : List RouteRow) → is_for apid service subtype r ≡ true
+      → All (λ x. row_cmp r x ≡ Less) rows
       → All (λ id. slice_cmp nat_cmp r.store id ≡ Less) (stores_for apid service subtype rows)
   later_stores r [] is later = λ k d within. absurd (omega arith)
   later_stores r (x ∷ xs) is later =
       let rest = later_stores r xs is (All-tail (λ y. row_cmp r y ≡ Less) x xs later) in
       let here = All-head (λ y. row_cmp r y ≡ Less) x xs later in
       elim (cases_Bool (is_for apid service subtype x)) [
-        | inl named ↦ rw named (All-cons (λ id. slice_cmp nat_cmp r.store id ≡ Less) x.store (stores_for apid service subtype xs) (by_store r x is named here) rest)
+        | inl named ↦ rw named (All-cons (λ id. slice_cmp nat_cmp r.store id ≡ Less) x.store
+            (stores_for apid service subtype xs) (by_store r x is named here) rest)
         | inr other ↦ rw other rest
       ]
 
-  -- the stores stand in the order of their identifiers
+  -- the stores of the report type are in the order of their identifiers
   pub named_in_order : (rows : List RouteRow) → IsInOrder rows → AreInOrder (stores_for apid service subtype rows)
   named_in_order [] in_order = λ i j d less within. absurd (omega arith)
   named_in_order (r ∷ rs) in_order =
       let rest = named_in_order rs (AllPairs-tail (λ a b. row_cmp a b ≡ Less) r rs in_order) in
       elim (cases_Bool (is_for apid service subtype r)) [
-        | inl named ↦ rw named (AllPairs-cons (λ a b. slice_cmp nat_cmp a b ≡ Less) r.store (stores_for apid service subtype rs)
+        | inl named ↦ rw named
+            (AllPairs-cons (λ a b. slice_cmp nat_cmp a b ≡ Less) r.store (stores_for apid service subtype rs)
             (later_stores r rs named (AllPairs-head (λ a b. row_cmp a b ≡ Less) r rs in_order)) rest)
         | inr other ↦ rw other rest
       ]
 
-  -- the row that leads to this store
+  -- the row of this report type for a store
   abbrev row_to : List ℕ → RouteRow
   row_to id = record { apid = apid; service = service; subtype = subtype; store = id }
 
-  -- the test of identifiers does not ask which comes first
+  -- the test of equal identifiers is symmetric
   bytes_eq-sym : (a b : List ℕ) → bytes_eq a b ≡ bytes_eq b a
   bytes_eq-sym a b = elim (cases_Bool (bytes_eq a b)) [
     | inl same ↦ same ∙ sym ((bytes_eq-Decides b a).1 (sym ((bytes_eq-Decides a b).0 same)))
@@ -80,7 +100,7 @@ module _ (apid service subtype : ℕ) where
     ]
   ]
 
-  -- a store is named once where its row is there, and not otherwise
+  -- a store is among them once if the rows have its row, and not if they do not
   pub named_once : (id : List ℕ) (rows : List RouteRow) → IsInOrder rows
       → filter (bytes_eq id) (stores_for apid service subtype rows) ≡ (if has_row (row_to id) rows then id ∷ [] else [])
   named_once id [] in_order = refl

@@ -1,4 +1,4 @@
--- The order of rows is total, and only a row itself ties with it.
+-- The order of rows is total, and rows that tie are equal.
 use Rattle.std.proofs.Common.{◌≡◌, Bool, true, false, ◌&&◌, refl, sym, ap, ◌∙◌}
 use Rattle.std.specs.Prelude.{◌==◌, bytes_eq}
 use Rattle.std.specs.Cmp.{IsTotalOrder, unsigned_tied, Equal-is}
@@ -13,7 +13,7 @@ use Rattle.mm_base.specs.declared.rows.RouteRow.{RouteRow}
 use Rattle.mm_base.specs.SameRoutes.{same_route}
 use Rattle.mm_control.specs.Routes.{row_cmp, is_before}
 
--- the laws of an order hold of the order of rows
+-- the order of rows is total
 pub row_cmp_total : IsTotalOrder row_cmp
 row_cmp_total =
     then_total (on_total (λ (r : RouteRow). r.apid) nat_cmp_total)
@@ -21,18 +21,19 @@ row_cmp_total =
     (then_total (on_total (λ (r : RouteRow). r.subtype) nat_cmp_total)
     (on_total (λ (r : RouteRow). r.store) nat_list_cmp_total)))
 
--- both parts of a tie are ties
+-- if two orders combined say Equal, both do
 then_ties : (o p : Ordering) → ordering_then o p ≡ Equal → (o ≡ Equal) × (p ≡ Equal)
 then_ties Less p tie = absurd (cc)
 then_ties Equal p tie = (refl, tie)
 then_ties Greater p tie = absurd (cc)
 
--- rows with the same fields are one row
-same_fields : (a b : RouteRow) → a.apid ≡ b.apid → a.service ≡ b.service → a.subtype ≡ b.subtype → a.store ≡ b.store → a ≡ b
+-- rows with equal fields are equal
+same_fields : (a b : RouteRow) → a.apid ≡ b.apid → a.service ≡ b.service → a.subtype ≡ b.subtype → a.store ≡ b.store
+    → a ≡ b
 same_fields a b apid service subtype store =
     λ i. record { apid = apid i; service = service i; subtype = subtype i; store = store i }
 
--- rows that tie are one row
+-- rows that tie are equal
 pub row_cmp_same : (a b : RouteRow) → row_cmp a b ≡ Equal → a ≡ b
 row_cmp_same a b tie =
     let first = then_ties _ _ tie in
@@ -44,13 +45,13 @@ row_cmp_same a b tie =
     (nat_cmp-IsAntisymmetric a.subtype b.subtype third.0)
     (slice_cmp-IsAntisymmetric nat_cmp-IsAntisymmetric a.store b.store third.1)
 
--- a tie by two keys is a tie by both
+-- two orders combined say Equal if and only if both do
 pub is_eq-then : (o p : Ordering) → is_eq (ordering_then o p) ≡ (is_eq o && is_eq p)
 is_eq-then Less p = refl
 is_eq-then Equal p = refl
 is_eq-then Greater p = refl
 
--- tests in a row, grouped from the last
+-- three tests, grouped from the left and from the right
 pub regroup_three : (b c d : Bool) → (b && c && d) ≡ (b && (c && d))
 regroup_three true c d = refl
 regroup_three false c d = refl
@@ -59,7 +60,7 @@ regroup : (a b c d : Bool) → (a && b && c && d) ≡ (a && (b && (c && d)))
 regroup true b c d = regroup_three b c d
 regroup false b c d = refl
 
--- the test for one row is the tie of the order
+-- the test of equal rows is the test for a tie
 pub same_route-cmp : (a b : RouteRow) → same_route a b ≡ is_eq (row_cmp a b)
 same_route-cmp a b =
     let by_store = slice_cmp nat_cmp a.store b.store in
@@ -74,7 +75,7 @@ same_route-cmp a b =
     let subtype = unsigned_tied a.subtype b.subtype in
     regroup (a.apid == b.apid) (a.service == b.service) (a.subtype == b.subtype) (bytes_eq a.store b.store) ∙ cc
 
--- the tests for a row beside another, by their order
+-- the tests of two rows, by the order of the rows
 pub record IsBeside (r row : RouteRow) (order : Ordering) : Type 0 where
   pub before : is_before r row ≡ is_lt order
   pub after : is_before row r ≡ is_gt order
@@ -92,7 +93,7 @@ beside r row o e = record {
   same = same_route-cmp r row ∙ ap is_eq e;
 }
 
--- the test for one row does not ask which comes first
+-- the test of equal rows is symmetric
 pub same_route-sym : (a b : RouteRow) → same_route a b ≡ same_route b a
 same_route-sym a b =
     same_route-cmp a b ∙ ap is_eq (row_cmp_total.antisymm a b) ∙ is_eq-reverse (row_cmp b a) ∙ sym (same_route-cmp b a)
@@ -102,6 +103,6 @@ same_route-sym a b =
     is_eq-reverse Equal = refl
     is_eq-reverse Greater = refl
 
--- the test for one row finds that row
+-- rows that pass the test of equal rows are equal
 pub same_route-true : (a b : RouteRow) → same_route a b ≡ true → a ≡ b
 same_route-true a b same = row_cmp_same a b ((Equal-is (row_cmp a b)).0 (sym (same_route-cmp a b) ∙ same))

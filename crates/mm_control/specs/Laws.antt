@@ -14,16 +14,17 @@ pub record DeletesOne (row : RouteRow) (rows : List RouteRow) : Type 0 where
   pub has : (r : RouteRow) → has_row r (without_row row rows) ≡ (not (same_route row r) && has_row r rows)
   pub in_order : IsInOrder (without_row row rows)
 
--- rows in order are a set
+-- a list of rows in order is a set of rows
 abbrev pub AreSets : Type 0
 AreSets = (row : RouteRow) (rows : List RouteRow) → IsInOrder rows → AddsOne row rows × DeletesOne row rows
 
--- a report type names a store once where the table has the row, and not otherwise
+-- a store is once among those of a report type if the table has its row, and is not among them if not
 abbrev pub NamesOnce : Type 0
 NamesOnce = (apid service subtype : ℕ) (id : List ℕ) (rows : List RouteRow) → IsInOrder rows
     → filter (bytes_eq id) (stores_for apid service subtype rows)
     ≡ (if has_row (record { apid = apid; service = service; subtype = subtype; store = id }) rows then id ∷ [] else [])
 
--- a report type names stores in the order of their identifiers
+-- the stores of a report type are in the order of their identifiers
 abbrev pub NamesInOrder : Type 0
-NamesInOrder = (apid service subtype : ℕ) (rows : List RouteRow) → IsInOrder rows → AreInOrder (stores_for apid service subtype rows)
+NamesInOrder = (apid service subtype : ℕ) (rows : List RouteRow) → IsInOrder rows
+    → AreInOrder (stores_for apid service subtype rows)

@@ -1,4 +1,4 @@
-//! Why a row is not added to the storage control, or not deleted from it.
+//! Why a row is not added to the storage control or not deleted from it.
 
 use mm_base::{Refusal, Refused, refusals};
 use thiserror::Error;
@@ -9,7 +9,7 @@ use thiserror::Error;
 pub enum Fault {
     /// The table does not have the row.
     NoSuchRoute,
-    /// The table has as many rows as it has room for, and the new one is not among them.
+    /// The table is full, and does not have the row that is to be added.
     TableFull,
 }
 

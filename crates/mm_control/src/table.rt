@@ -1,7 +1,9 @@
 //! The storage control.
-ghost use Rattle.std.specs.Prelude.{◌≡◌, ◌+◌, ◌≤◌, ℕ, if◌then◌else◌, List, [], ◌∷◌, length, map, filter, bytes_eq, is_ok, IfOk, IfErr, OnOk, OnErr};
+ghost use Rattle.std.specs.Prelude.{◌≡◌, ◌+◌, ◌≤◌, ℕ, if◌then◌else◌, List, [], ◌∷◌, length, map, filter, bytes_eq};
+ghost use Rattle.std.specs.Prelude.{is_ok, IfOk, IfErr, OnOk, OnErr};
 ghost use Rattle.std.specs.List.{prefix_len};
-ghost use Rattle.mm_control.specs.Routes.{IsInOrder, AreInOrder, IsTable, Stands, WouldStand, has_row, takes, with_row, without_row, without_store, count_of_store, is_for, type_cmp, stores_for};
+ghost use Rattle.mm_control.specs.Routes.{IsInOrder, AreInOrder, IsTable, Stands, WouldStand, has_row, takes, with_row};
+ghost use Rattle.mm_control.specs.Routes.{without_row, without_store, count_of_store, is_for, type_cmp, stores_for};
 ghost use Rattle.mm_control.specs.declared.fault.Fault.TheVariants.{NoSuchRoute, TableFull};
 
 use crate::fault::Fault;
@@ -10,8 +12,8 @@ use std::alloc::{AllocError, Global};
 use std::cmp::Ordering;
 use std::marker::Model;
 
-/// The storage control (ECSS-E-ST-70-41C, 6.15): which report types go into which packet stores. Contracts see the
-/// rows in the order of APID, service, subtype and store, none twice.
+/// The storage control (ECSS-E-ST-70-41C, 6.15): which report types go into which packet stores. Contracts see the list
+/// of its rows in the order of APID, service, subtype and store. No row is in the list twice.
 #[derive(Drop)]
 pub struct ControlTable {
     rows: Vec<RouteRow>,
@@ -30,7 +32,7 @@ impl Model for ControlTable {
     ghost invariant = { λ a. IsTable a.rows.items × (MAX_ROUTES ≤ vec_capacity a.rows) };
 }
 
-// How a row's report type stands to this one.
+// The order of a row's report type and this one.
 fn type_cmp(row: &RouteRow, apid: u16, service: u8, subtype: u8) -> Ordering
     ensures { result ≡ type_cmp apid service subtype row.now }
 {
@@ -50,7 +52,7 @@ fn is_for(row: &RouteRow, apid: u16, service: u8, subtype: u8) -> bool
     row.apid == apid && row.service == service && row.subtype == subtype
 }
 
-// How many rows from the first on are for this report type.
+// The number of rows at the front of the list that are for this report type.
 fn count_for(rows: &[RouteRow], apid: u16, service: u8, subtype: u8) -> usize
     ensures { result ≡ prefix_len (is_for apid service subtype) rows.now }
 {
@@ -59,7 +61,7 @@ fn count_for(rows: &[RouteRow], apid: u16, service: u8, subtype: u8) -> usize
         .unwrap_or(rows.len())
 }
 
-// The rows of a report type, which stand together.
+// The rows of a report type, which are next to one another in the table.
 fn rows_for(rows: &[RouteRow], apid: u16, service: u8, subtype: u8) -> &[RouteRow]
     requires { IsInOrder rows.now }
     ensures { result.now ≡ filter (is_for apid service subtype) rows.now }
@@ -69,14 +71,14 @@ fn rows_for(rows: &[RouteRow], apid: u16, service: u8, subtype: u8) -> &[RouteRo
     &rest[..count_for(rest, apid, service, subtype)]
 }
 
-// The stores that rows lead to.
+// The stores of these rows, in order.
 fn stores_of(alloc: Global, rows: &[RouteRow]) -> Result<Vec<StoreId>, AllocError>
     ensures { IfOk result (λ stores. stores.items ≡ map (λ r. r.store) rows.now) }
 {
     rows.iter().map(|row| row.store).collect(alloc)
 }
 
-// The place where a row stands, or the place where it would.
+// The place of a row in the table, or as the error the place where it would be inserted.
 fn place_of(rows: &[RouteRow], row: &RouteRow) -> Result<usize, usize>
     requires { IsInOrder rows.now }
     ensures found { is_ok result ≡ has_row row.now rows.now }
@@ -95,9 +97,10 @@ impl ControlTable {
         Ok(ControlTable { rows })
     }
 
-    /// Adds a row. A row that is there stays as it is; otherwise 11 `TableFull` where there are 256.
+    /// Adds a row. If the table already has the row, nothing changes; if not, a table of 256 rows refuses it as 11
+    /// `TableFull`.
     pub fn add(&mut self, row: RouteRow) -> Result<(), Fault>
-        // Which rows are taken, and the table with them.
+        // The rows that are taken, and the table after them.
         ensures taken { is_ok result ≡ takes row self.old }
         ensures ok { OnOk result (self.new ≡ with_row row self.old) }
         ensures grows { length self.new ≤ length self.old + 1 }
@@ -115,7 +118,7 @@ impl ControlTable {
         }
     }
 
-    /// Deletes a row; 10 `NoSuchRoute` where it is not there.
+    /// Deletes a row. If the table does not have the row, the refusal is 10 `NoSuchRoute`.
     pub fn delete(&mut self, row: RouteRow) -> Result<(), Fault>
         ensures found { is_ok result ≡ has_row row self.old }
         ensures ok { OnOk result (self.new ≡ without_row row self.old) }
@@ -141,14 +144,15 @@ impl ControlTable {
         (before - self.rows.len()) as u32
     }
 
-    /// The rows of a report type, in the order of their stores. They are read in place.
+    /// The rows of a report type, in the order of their stores, read in place.
     pub fn rows_for(&self, apid: u16, service: u8, subtype: u8) -> &[RouteRow]
         ensures rows { result.now ≡ filter (is_for apid service subtype) self.now }
         // Their stores stand in order, and a store is among them once where the table has the row, and else not.
         ensures in_order { AreInOrder (map (λ r. r.store) result.now) }
         ensures once { (id : List ℕ)
             → filter (bytes_eq id) (map (λ r. r.store) result.now)
-            ≡ (if has_row (record { apid = apid; service = service; subtype = subtype; store = id }) self.now then id ∷ [] else []) }
+            ≡ (if has_row (record { apid = apid; service = service; subtype = subtype; store = id }) self.now then id
+            ∷ [] else []) }
     {
         rows_for(&self.rows, apid, service, subtype)
     }
@@ -167,7 +171,8 @@ impl ControlTable {
         ensures in_order { IfOk result (λ stores. AreInOrder stores.items) }
         ensures once { IfOk result (λ stores. (id : List ℕ)
             → filter (bytes_eq id) stores.items
-            ≡ (if has_row (record { apid = apid; service = service; subtype = subtype; store = id }) self.now then id ∷ [] else [])) }
+            ≡ (if has_row (record { apid = apid; service = service; subtype = subtype; store = id }) self.now then id
+            ∷ [] else [])) }
     {
         let stores = stores_of(alloc, self.rows_for(apid, service, subtype))?;
         Ok(stores)

@@ -3,11 +3,11 @@ ghost use Rattle.std.specs.Prelude.{◌≡◌};
 
 use mm_base::{Refusal, Refused, refusals};
 use std::alloc::AllocError;
-use std::error::Error;
-use std::fmt;
+use thiserror::Error;
 
 /// A refusal of this crate, in the order of the tests. It is shown as its number, a space and its name.
-#[derive(Clone, Copy, Debug, PartialEq, Eq)]
+#[derive(Clone, Copy, Debug, PartialEq, Eq, Error)]
+#[error("{}", self.refusal())]
 pub enum Fault {
     /// An allocation was refused.
     NoMemory,
@@ -26,14 +26,6 @@ pub enum Fault {
     /// The PUS version number is not 2.
     PusVersion,
 }
-
-impl fmt::Display for Fault {
-    fn fmt<W: fmt::Write>(&self, f: &mut fmt::Formatter<W>) -> fmt::Result {
-        write!(f, "{}", self.refusal())
-    }
-}
-
-impl Error for Fault {}
 
 impl Refused for Fault {
     fn refusal(self) -> Refusal {

@@ -1,13 +1,14 @@
 -- The columns of a forecast that have limits of channels.
-use Rattle.std.proofs.Common.{◌≡◌, ℕ, ◌+◌, ◌<◌, ◌≤◌, nat_le, nat_lt, true, List, [], ◌∷◌, ◌++◌, length, get_or, map, take, drop, Ok, refl, sym, ap, ◌∙◌, arith, append_assoc, length-append}
+use Rattle.std.proofs.Common.{◌≡◌, ℕ, ◌+◌, ◌<◌, ◌≤◌, nat_le, nat_lt, true, List, [], ◌∷◌, ◌++◌, length, map, take}
+use Rattle.std.proofs.Common.{drop, Ok, refl, sym, ap, subst, ◌∙◌, arith, length-append}
 use Rattle.std.specs.Prelude.{All, AllPairs, codes, bytes_eq}
-use Rattle.std.specs.List.{list_all}
+use Rattle.std.specs.Bool.{Decides}
+use Rattle.std.specs.List.{list_all, AllZip}
 use Rattle.std.proofs.lemmas.Bool.{and_parts, false≢true}
-use Rattle.std.proofs.lemmas.Bool.Decides.{nat_tests}
+use Rattle.std.proofs.lemmas.Bool.Decides.{Decides-by_and, Decides-ltb}
 use Rattle.std.proofs.lemmas.Slice.Eq.{bytes_eq-Decides}
-use Rattle.std.proofs.lemmas.List.{append-nil, length-map, drop_at, take-append-drop, get_or_append_left, get_or-append-add}
-use Rattle.std.proofs.lemmas.List.Elements.{All-nil, All-cons, All-head, All-tail, All-push}
-use Rattle.std.proofs.lemmas.List.Quantifiers.{all_pairs_push}
+use Rattle.std.proofs.lemmas.List.{length-map, drop_at, take-append-drop}
+use Rattle.std.proofs.lemmas.List.Elements.{All-nil}
 use Rattle.mm_base.specs.declared.limits.TheConstants.{MAX_CHANNEL, CHANNELS}
 use Rattle.mm_base.specs.declared.numbers.Numeral.{Numeral}
 use Rattle.mm_base.specs.declared.numbers.Numeral.TheVariants.{NotNumber, TooLarge, Number}
@@ -17,11 +18,13 @@ use Rattle.mm_base.specs.Numbers.{numeral_of}
 use Rattle.mm_base.specs.Reading.{◌>>=◌, test}
 use Rattle.mm_base.proofs.IdFields.{Decides-nat_le}
 use Rattle.mm_base.proofs.NumberTexts.{numeral_printed, printed_numeral}
-use Rattle.mm_base.proofs.ReadingSteps.{bind_ok, test_ok}
+use Rattle.mm_base.proofs.ReadingSteps.{bind_ok, test_ok, ok_same}
 use Rattle.mm_problem.specs.declared.fault.Fault.TheVariants.{Header}
-use Rattle.mm_problem.specs.Forecast.{header_of, begins_with, channel_from, channel_in, channels_in, limited_in}
+use Rattle.mm_problem.specs.Forecast.{header_of, begins_with, channel_from, channel_in, next_channel, channels_in}
+use Rattle.mm_problem.specs.Forecast.{limited_in}
 use Rattle.mm_problem.specs.ReadableForecast.{limit_text}
 use Rattle.mm_problem.specs.Records.{Fields}
+use Rattle.mm_problem.proofs.RowLaws.{IsNext, none_apart, rows_said, rows_read}
 
 -- ---- the names of columns
 
@@ -35,78 +38,66 @@ channel_from_said (Number n) c h = cc
 channel_said : (name : List ℕ) (c : ℕ) → channel_in name ≡ Ok c → (name ≡ limit_text c) × (c < CHANNELS)
 unfolding channel_in
 channel_said name c h =
-    let (u, word, number) = bind_ok (test (bytes_eq (take 6 name) (codes "limit:")) Header) (λ _. channel_from (numeral_of MAX_CHANNEL (drop 6 name))) c h in
-    let front : take 6 name ≡ codes "limit:" = (bytes_eq-Decides (take 6 name) (codes "limit:")).0 (test_ok _ _ _ word) in
-    let back = numeral_printed MAX_CHANNEL (drop 6 name) c (omega arith) (channel_from_said (numeral_of MAX_CHANNEL (drop 6 name)) c number) in
-    (sym (take-append-drop 6 name) ∙ ap (λ w. w ++ drop 6 name) front ∙ ap (λ d. codes "limit:" ++ d) back.0, omega (arith, back.1))
+    let (u, word, number) = bind_ok _ _ _ h in
+    let front : take 6 name ≡ codes "limit:" =
+    (bytes_eq-Decides (take 6 name) (codes "limit:")).0 (test_ok _ _ _ word) in
+    let back = numeral_printed MAX_CHANNEL (drop 6 name) c (omega arith)
+    (channel_from_said (numeral_of MAX_CHANNEL (drop 6 name)) c number) in (
+      sym (take-append-drop 6 name) ∙ ap (λ w. w ++ drop 6 name) front
+          ∙ ap (λ d. codes "limit:" ++ d) back.0,
+      omega (arith, back.1),
+    )
 
 -- the name of a channel's column is read as the channel
 channel_read : (c : ℕ) → c < CHANNELS → channel_in (limit_text c) ≡ Ok c
 unfolding channel_in
 channel_read c below = rw (printed_numeral MAX_CHANNEL c (omega arith) (omega arith)) refl
 
--- channels that pass the test are below the channel
-pub below_said : (channel : ℕ) (cs : List ℕ) → list_all (λ c. nat_lt c channel) cs ≡ true → All (λ c. c < channel) cs
-below_said channel [] h = All-nil (λ c. c < channel)
-below_said channel (c ∷ cs) h =
-    let (here, others) = and_parts (nat_lt c channel) (list_all (λ c. nat_lt c channel) cs) h in
-    let less : c < channel = grind (arith, nat_tests) in
-    All-cons (λ c. c < channel) c cs less (below_said channel cs others)
-
--- channels below the channel pass the test
-below_read : (channel : ℕ) (cs : List ℕ) → All (λ c. c < channel) cs → list_all (λ c. nat_lt c channel) cs ≡ true
-below_read channel [] h = refl
-below_read channel (c ∷ cs) h =
-    let less : c < channel = All-head (λ c. c < channel) c cs h in
-    let here : nat_lt c channel ≡ true = grind (arith, nat_tests) in
-    rw (here, below_read channel cs (All-tail (λ c. c < channel) c cs h)) refl
+-- the test that channels are below a channel
+pub below_decides : (channel : ℕ) (cs : List ℕ)
+    → Decides (list_all (λ c. nat_lt c channel) cs) (All (λ c. c < channel) cs)
+below_decides channel = Decides-by_and (λ c. nat_lt c channel) (λ c. c < channel) (list_all (λ c. nat_lt c channel))
+    (λ c. Decides-ltb c channel) refl (λ _ _. refl)
 
 -- ---- several columns
 
--- channels that were read in columns, after earlier ones
-pub record AreColumns (names : Fields) (earlier all : List ℕ) : Type 0 where
-  pub more : List ℕ
-  pub behind : all ≡ earlier ++ more
-  pub spelled : names ≡ map limit_text more
-  pub each : All (λ c. c < CHANNELS) all
-  pub rising : AllPairs ◌<◌ all
+-- the name is that of the channel's column
+abbrev Says : List ℕ → ℕ → Type 0
+Says name c = name ≡ limit_text c
 
-channels_said : (names : Fields) (earlier all : List ℕ) → All (λ c. c < CHANNELS) earlier → AllPairs ◌<◌ earlier → channels_in earlier names ≡ Ok all → AreColumns names earlier all
-unfolding channels_in
-channels_said [] earlier all each rising h =
-    let same : earlier ≡ all = cc in
-    rw (← same) (record { more = []; behind = sym (append-nil earlier); spelled = refl; each = each; rising = rising })
-channels_said (name ∷ names) earlier all each rising h =
-    let (c, is, h1) = bind_ok (channel_in name) (λ c. test (list_all (λ k. nat_lt k c) earlier) Header >>= (λ _. channels_in (earlier ++ c ∷ []) names)) all h in
-    let (u, above, rest) = bind_ok (test (list_all (λ k. nat_lt k c) earlier) Header) (λ _. channels_in (earlier ++ c ∷ []) names) all h1 in
-    let (named, below) = channel_said name c is in
-    let lower = below_said c earlier (test_ok _ _ _ above) in
-    let others = channels_said names (earlier ++ c ∷ []) all (All-push (λ k. k < CHANNELS) earlier c each below) (all_pairs_push ◌<◌ earlier c rising lower) rest in
-    record {
-      more = c ∷ others.more;
-      behind = others.behind ∙ append_assoc earlier (c ∷ []) others.more;
-      spelled = ap (λ n. n ∷ names) named ∙ ap (λ ns. limit_text c ∷ ns) others.spelled;
-      each = others.each;
-      rising = others.rising;
-    }
+-- one of the channels
+abbrev IsChannel : ℕ → Type 0
+IsChannel c = c < CHANNELS
 
--- the elements before one of a list that rises are below it
-before_below : (earlier : List ℕ) (c : ℕ) (more : List ℕ) → AllPairs ◌<◌ (earlier ++ c ∷ more) → All (λ k. k < c) earlier
-before_below earlier c more rising = λ i d within.
-    let pair = rising i (length earlier) d within (omega (arith, length-append earlier (c ∷ more))) in
-    let last : length earlier ≡ length earlier + 0 = omega arith in
-    let here : get_or (earlier ++ c ∷ more) (length earlier) d ≡ c = ap (λ k. get_or (earlier ++ c ∷ more) k d) last ∙ get_or-append-add earlier (c ∷ more) 0 d in
-    omega (arith, pair, here, get_or_append_left earlier (c ∷ more) d i within)
+-- a channel that is read next is above those before it
+next_said : (earlier : List ℕ) (name : List ℕ) (c : ℕ) → next_channel earlier name ≡ Ok c
+    → IsNext Says IsChannel ◌<◌ earlier name c
+unfolding next_channel
+next_said earlier name c h =
+    let (k, is, h1) = bind_ok _ _ _ h in
+    let (u, above, last) = bind_ok _ _ _ h1 in
+    let named = channel_said name k is in
+    subst (IsNext Says IsChannel ◌<◌ earlier name) (ok_same k c last)
+    (record { says = named.0; fits = named.1; new = (below_decides k earlier).0 (test_ok _ _ _ above) })
 
--- the names of the columns of channels that rise are read as the channels
-channels_read : (more earlier : List ℕ) → All (λ c. c < CHANNELS) more → AllPairs ◌<◌ (earlier ++ more) → channels_in earlier (map limit_text more) ≡ Ok (earlier ++ more)
-unfolding channels_in
-channels_read [] earlier each rising = ap Ok (sym (append-nil earlier))
-channels_read (c ∷ more) earlier each rising =
-    let below = All-head (λ k. k < CHANNELS) c more each in
-    let lower = below_read c earlier (before_below earlier c more rising) in
-    let together = append_assoc earlier (c ∷ []) more in
-    rw (channel_read c below, lower) (channels_read more (earlier ++ c ∷ []) (All-tail (λ k. k < CHANNELS) c more each) (rw (← together) at rising) ∙ ap Ok together)
+-- the name of a channel above those before it is read as the channel
+next_read : (earlier : List ℕ) (name : List ℕ) (c : ℕ) → IsNext Says IsChannel ◌<◌ earlier name c
+    → next_channel earlier name ≡ Ok c
+unfolding next_channel
+next_read earlier name c h = rw (h.says, channel_read c h.fits, (below_decides c earlier).1 h.new) refl
+
+-- names that are those of the channels
+names_said : (names : Fields) (cs : List ℕ) → AllZip Says names cs → names ≡ map limit_text cs
+names_said [] [] h = refl
+names_said [] (c ∷ cs) h = absurd h
+names_said (name ∷ names) [] h = absurd h
+names_said (name ∷ names) (c ∷ cs) h =
+    ap (λ n. n ∷ names) h.0 ∙ ap (λ ns. limit_text c ∷ ns) (names_said names cs h.1)
+
+-- the names of channels are theirs
+names_are : (cs : List ℕ) → AllZip Says (map limit_text cs) cs
+names_are [] = tt
+names_are (c ∷ cs) = (refl, names_are cs)
 
 -- ---- the header
 
@@ -137,32 +128,52 @@ pub record IsHeader (stores : List StoreRow) (header : Fields) (limited : List �
   pub rising : AllPairs ◌<◌ limited
 
 -- a header that was read names the stores and the columns
-pub limited_said : (stores : List StoreRow) (header : Fields) (limited : List ℕ) → limited_in stores header ≡ Ok limited → IsHeader stores header limited
+pub limited_said : (stores : List StoreRow) (header : Fields) (limited : List ℕ) → limited_in stores header ≡ Ok limited
+    → IsHeader stores header limited
 unfolding limited_in
 limited_said stores header limited h =
     let n = length stores in
-    let (u, named, h1) = bind_ok (test (begins_with header (header_of stores)) Header) (λ _. test (nat_le (length header) (2 + n + CHANNELS)) Header >>= (λ _. channels_in [] (drop (2 + n) header))) limited h in
-    let (v, few, channels) = bind_ok (test (nat_le (length header) (2 + n + CHANNELS)) Header) (λ _. channels_in [] (drop (2 + n) header)) limited h1 in
-    let are = channels_said (drop (2 + n) header) [] limited (All-nil (λ c. c < CHANNELS)) (λ i j d low high. absurd (omega arith)) channels in
+    let (u, named, h1) = bind_ok _ _ _ h in
+    let (v, few, channels) = bind_ok _ _ _ h1 in
+    let are = rows_said Says IsChannel ◌<◌ next_channel next_said (drop (2 + n) header) [] limited (All-nil IsChannel)
+    (none_apart ◌<◌) channels in
     let begins = begins_said header (header_of stores) (test_ok _ _ _ named) in
-    let rest : drop (length (header_of stores)) header ≡ map limit_text limited = ap (λ k. drop k header) (header_length stores) ∙ are.spelled ∙ ap (map limit_text) (sym are.behind) in
+    let rest : drop (length (header_of stores)) header ≡ map limit_text limited = ap (λ k. drop k header)
+    (header_length stores) ∙ names_said _ are.more are.each ∙ ap (map limit_text) (sym are.behind) in
     let spelled : header ≡ header_of stores ++ map limit_text limited = begins ∙ ap (λ r. header_of stores ++ r) rest in
     let most = (Decides-nat_le (length header) (2 + n + CHANNELS)).0 (test_ok _ _ _ few) in
     record {
       spelled = spelled;
-      at_most = omega (arith, most, ap length spelled, length-append (header_of stores) (map limit_text limited), header_length stores, length-map limited limit_text);
-      each = are.each;
-      rising = are.rising;
+      at_most = omega (
+        arith,
+        most,
+        ap length spelled,
+        length-append (header_of stores) (map limit_text limited),
+        header_length stores,
+        length-map limited limit_text,
+      );
+      each = are.fit;
+      rising = are.apart;
     }
 
 -- a header with these columns is read as the channels
-pub limited_read : (stores : List StoreRow) (limited : List ℕ) → length limited ≤ CHANNELS → All (λ c. c < CHANNELS) limited → AllPairs ◌<◌ limited
+pub limited_read : (stores : List StoreRow) (limited : List ℕ) → length limited ≤ CHANNELS
+    → All (λ c. c < CHANNELS) limited → AllPairs ◌<◌ limited
     → limited_in stores (header_of stores ++ map limit_text limited) ≡ Ok limited
 unfolding limited_in
 limited_read stores limited few each rising =
     let n = length stores in
     let header = header_of stores ++ map limit_text limited in
     let long : nat_le (length header) (2 + n + CHANNELS) ≡ true =
-    (Decides-nat_le (length header) (2 + n + CHANNELS)).1 (omega (arith, length-append (header_of stores) (map limit_text limited), header_length stores, length-map limited limit_text)) in
-    let rest : drop (2 + n) header ≡ map limit_text limited = drop_at (header_of stores) (map limit_text limited) (2 + n) (header_length stores) in
-    rw (begins_read (header_of stores) (map limit_text limited), long, rest) (channels_read limited [] each rising)
+    (Decides-nat_le (length header) (2 + n + CHANNELS)).1
+    (omega (
+      arith,
+      length-append (header_of stores) (map limit_text limited),
+      header_length stores,
+      length-map limited limit_text,
+    )) in
+    let rest : drop (2 + n) header ≡ map limit_text limited =
+    drop_at (header_of stores) (map limit_text limited) (2 + n) (header_length stores) in
+    rw (begins_read (header_of stores) (map limit_text limited), long, rest)
+    (rows_read Says IsChannel ◌<◌ next_channel next_read (map limit_text limited) [] limited
+    (names_are limited) each rising)

@@ -1,5 +1,6 @@
 -- Data that are tested, one row, amount or step after the other.
-use Rattle.std.proofs.Common.{◌≡◌, ℕ, ◌+◌, ◌*◌, ◌<◌, ◌≤◌, true, nat_le, nat_lt, ◌==◌, ◌&&◌, List, [], ◌∷◌, ◌++◌, length, get_or, take, drop, pos, refl, subst, arith, append_assoc, length-drop, Result, Ok, Err}
+use Rattle.std.proofs.Common.{◌≡◌, ℕ, ◌+◌, ◌*◌, ◌<◌, ◌≤◌, true, nat_le, nat_lt, ◌==◌, ◌&&◌, List, [], ◌∷◌, ◌++◌, length}
+use Rattle.std.proofs.Common.{get_or, take, drop, pos, refl, subst, arith, append_assoc, length-drop, Result, Ok, Err}
 use Rattle.std.specs.Prelude.{All, AllPairs}
 use Rattle.std.proofs.lemmas.Bool.{and_parts}
 use Rattle.std.proofs.lemmas.Bool.Decides.{nat_tests, Decides-eqb}
@@ -15,7 +16,8 @@ use Rattle.mm_base.specs.declared.rows.LimitRow.{LimitRow}
 use Rattle.mm_base.specs.declared.rows.StoreRow.{StoreRow}
 use Rattle.mm_base.specs.Reading.{◌>>=◌, test}
 use Rattle.mm_base.proofs.IdFields.{Decides-nat_le}
-use Rattle.mm_problem.specs.Data.{store_fits, limit_fits, rows_fit, amounts_fit, step_fits, steps_fit, column_fits, step_limits_fit}
+use Rattle.mm_problem.specs.Data.{store_fits, limit_fits, rows_fit, amounts_fit, step_fits, steps_fit, column_fits}
+use Rattle.mm_problem.specs.Data.{step_limits_fit}
 use Rattle.mm_problem.specs.Document.{stores_counted}
 use Rattle.mm_problem.specs.Dumping.{AreSteps, AreStepLimits}
 use Rattle.mm_problem.specs.Forecast.{another_step, some_step}
@@ -24,7 +26,8 @@ use Rattle.mm_problem.specs.Setup.{IsStoreRow, HaveOtherIds, AreStores, IsLimitR
 use Rattle.mm_problem.specs.Tables.{new_store, new_limit}
 use Rattle.mm_base.proofs.ReadingSteps.{bind_ok, test_ok, cond_ok}
 use Rattle.std.specs.List.{list_all}
-use Rattle.mm_problem.proofs.ColumnLaws.{below_said}
+use Rattle.mm_problem.proofs.ColumnLaws.{below_decides}
+use Rattle.mm_problem.proofs.RowLaws.{none_apart}
 use Rattle.mm_problem.proofs.TableLaws.{new_store_said, new_limit_said}
 
 -- ---- one after the other
@@ -37,7 +40,8 @@ module _ {R : Type 0} (fits : List R → R → Result (Unit {0}) Fault) (rows : 
 
   module _ (row : R) (below : i < length rows) (is : row ≡ get_or rows i row) where
     -- where the row at a place passes, what is left are the tests of those after it
-    pub row_passed : fits (take i rows) row ≡ Ok tt → rows_fit fits (take i rows) (drop i rows) ≡ rows_fit fits (take (i + 1) rows) (drop (i + 1) rows)
+    pub row_passed : fits (take i rows) row ≡ Ok tt
+        → rows_fit fits (take i rows) (drop i rows) ≡ rows_fit fits (take (i + 1) rows) (drop (i + 1) rows)
     unfolding rows_fit
     row_passed given = rw (drop_more rows i row below, take_more rows i row below, ← is, given) refl
 
@@ -54,35 +58,41 @@ module _ (name : Name) (amounts : List ℕ) (i : ℕ) where
 
   module _ (below : i < length amounts) where
     -- where the amount at a place passes, what is left are the tests of those after it
-    pub amount_passed : (n : ℕ) → within 0 MAX_BLOCKS name (pos (get_or amounts i 0)) ≡ Ok n → amounts_fit name (drop i amounts) ≡ amounts_fit name (drop (i + 1) amounts)
+    pub amount_passed : (n : ℕ) → within 0 MAX_BLOCKS name (pos (get_or amounts i 0)) ≡ Ok n
+        → amounts_fit name (drop i amounts) ≡ amounts_fit name (drop (i + 1) amounts)
     unfolding amounts_fit
     amount_passed n given = rw (drop_more amounts i 0 below, given) refl
 
     -- a fault of it is the fault of all
-    pub amount_fault : (e : Fault) → within 0 MAX_BLOCKS name (pos (get_or amounts i 0)) ≡ Err e → amounts_fit name (drop i amounts) ≡ Err e
+    pub amount_fault : (e : Fault) → within 0 MAX_BLOCKS name (pos (get_or amounts i 0)) ≡ Err e
+        → amounts_fit name (drop i amounts) ≡ Err e
     unfolding amounts_fit
     amount_fault e given = rw (drop_more amounts i 0 below, given) refl
 
 module _ (stores i : ℕ) (windows left : List ℕ) where
   -- after the last window no arrival may be left
-  pub no_step_left : length windows ≤ i → steps_fit stores i (drop i windows) left ≡ test (length left == 0) ForecastText
+  pub no_step_left : length windows ≤ i
+      → steps_fit stores i (drop i windows) left ≡ test (length left == 0) ForecastText
   unfolding steps_fit
   no_step_left past = rw (drop_all i windows past) refl
 
   module _ (below : i < length windows) where
     -- where there are too few arrivals for the step, that is the fault of all
-    pub step_short : (e : Fault) → test (nat_le stores (length left)) ForecastText ≡ Err e → steps_fit stores i (drop i windows) left ≡ Err e
+    pub step_short : (e : Fault) → test (nat_le stores (length left)) ForecastText ≡ Err e
+        → steps_fit stores i (drop i windows) left ≡ Err e
     unfolding steps_fit
     step_short e given = rw (drop_more windows i 0 below, given) refl
 
     module _ (as_long : test (nat_le stores (length left)) ForecastText ≡ Ok tt) where
       -- where the step passes, what is left are the tests of those after it
-      pub step_passed : step_fits i (get_or windows i 0) (take stores left) ≡ Ok tt → steps_fit stores i (drop i windows) left ≡ steps_fit stores (i + 1) (drop (i + 1) windows) (drop stores left)
+      pub step_passed : step_fits i (get_or windows i 0) (take stores left) ≡ Ok tt → steps_fit stores i
+          (drop i windows) left ≡ steps_fit stores (i + 1) (drop (i + 1) windows) (drop stores left)
       unfolding steps_fit
       step_passed given = rw (drop_more windows i 0 below, as_long, given) refl
 
       -- a fault of it is the fault of all
-      pub step_fault : (e : Fault) → step_fits i (get_or windows i 0) (take stores left) ≡ Err e → steps_fit stores i (drop i windows) left ≡ Err e
+      pub step_fault : (e : Fault) → step_fits i (get_or windows i 0) (take stores left) ≡ Err e
+          → steps_fit stores i (drop i windows) left ≡ Err e
       unfolding steps_fit
       step_fault e given = rw (drop_more windows i 0 below, as_long, given) refl
 
@@ -97,47 +107,52 @@ within_said low high name m n h =
 
 -- rows that passed are each in its range, and differ from one another
 module _ {R : Type 0} (P : R → Type 0) (D : R → R → Type 0) (fits : List R → R → Result (Unit {0}) Fault)
-    (said : (earlier : List R) (row : R) (u : Unit {0}) → fits earlier row ≡ Ok u → P row × All (λ e. D e row) earlier) where
-  rows_fit_said : (rows earlier : List R) (u : Unit {0}) → All P earlier → AllPairs D earlier → rows_fit fits earlier rows ≡ Ok u → All P (earlier ++ rows) × AllPairs D (earlier ++ rows)
-  unfolding rows_fit
-  rows_fit_said [] earlier u each apart h = rw (append-nil earlier) (each, apart)
-  rows_fit_said (row ∷ rows) earlier u each apart h =
-      let (v, given, rest) = bind_ok (fits earlier row) (λ _. rows_fit fits (earlier ++ row ∷ []) rows) u h in
-      let this = said earlier row v given in
-      let all = rows_fit_said rows (earlier ++ row ∷ []) u (All-push P earlier row each this.0) (all_pairs_push D earlier row apart this.1) rest in
-      rw (append_assoc earlier (row ∷ []) rows) at all
+    (said : (earlier : List R) (row : R) (u : Unit {0}) → fits earlier row ≡ Ok u → P row × All (λ e. D e row) earlier)
+  where
+    rows_fit_said : (rows earlier : List R) (u : Unit {0}) → All P earlier → AllPairs D earlier
+        → rows_fit fits earlier rows ≡ Ok u → All P (earlier ++ rows) × AllPairs D (earlier ++ rows)
+    unfolding rows_fit
+    rows_fit_said [] earlier u each apart h = rw (append-nil earlier) (each, apart)
+    rows_fit_said (row ∷ rows) earlier u each apart h =
+        let (v, given, rest) = bind_ok _ _ _ h in
+        let this = said earlier row v given in
+        let all = rows_fit_said rows (earlier ++ row ∷ []) u (All-push P earlier row each this.0)
+        (all_pairs_push D earlier row apart this.1) rest in
+        rw (append_assoc earlier (row ∷ []) rows) at all
 
 -- a store that passed
-store_fits_said : (earlier : List StoreRow) (row : StoreRow) (u : Unit {0}) → store_fits earlier row ≡ Ok u → IsStoreRow row × All (λ e. HaveOtherIds e row) earlier
+store_fits_said : (earlier : List StoreRow) (row : StoreRow) (u : Unit {0}) → store_fits earlier row ≡ Ok u
+    → IsStoreRow row × All (λ e. HaveOtherIds e row) earlier
 unfolding store_fits
 store_fits_said earlier row u h =
     let (size, size_fits, h1) = bind_ok _ _ _ h in
     let (channel, channel_fits, h2) = bind_ok _ _ _ h1 in
-    let (start, start_fits, new) = bind_ok (within 0 row.size name.Start (pos row.start)) (λ _. new_store earlier row) u h2 in
+    let (start, start_fits, new) = bind_ok _ _ _ h2 in
     let size_is = within_said 1 MAX_BLOCKS name.Size row.size size size_fits in
     let channel_is = within_said 0 MAX_CHANNEL name.Channel row.channel channel channel_fits in
-    let start_is = within_said 0 row.size name.Start row.start start start_fits in
-    (record { has_room = size_is.0; size = size_is.1; start = start_is.1; channel = channel_is.1 }, new_store_said earlier row u new)
+    let start_is = within_said 0 row.size name.Start row.start start start_fits in (
+      record { has_room = size_is.0; size = size_is.1; start = start_is.1; channel = channel_is.1 },
+      new_store_said earlier row u new,
+    )
 
 -- a limit that passed
-limit_fits_said : (earlier : List LimitRow) (row : LimitRow) (u : Unit {0}) → limit_fits earlier row ≡ Ok u → IsLimitRow row × All (λ e. HaveOtherChannels e row) earlier
+limit_fits_said : (earlier : List LimitRow) (row : LimitRow) (u : Unit {0}) → limit_fits earlier row ≡ Ok u
+    → IsLimitRow row × All (λ e. HaveOtherChannels e row) earlier
 unfolding limit_fits
 limit_fits_said earlier row u h =
     let (channel, channel_fits, h1) = bind_ok _ _ _ h in
-    let (blocks, blocks_fit, new) = bind_ok (within 0 MAX_BLOCKS name.Blocks (pos row.blocks)) (λ _. new_limit earlier row) u h1 in
+    let (blocks, blocks_fit, new) = bind_ok _ _ _ h1 in
     let channel_is = within_said 0 MAX_CHANNEL name.Channel row.channel channel channel_fits in
     let blocks_are = within_said 0 MAX_BLOCKS name.Blocks row.blocks blocks blocks_fit in
     (record { channel = channel_is.1; blocks = blocks_are.1 }, new_limit_said earlier row u new)
 
--- no two of none differ
-none_apart : {R : Type 0} (D : R → R → Type 0) → AllPairs D []
-none_apart D i j d below within = absurd (omega arith)
-
 -- stores that passed are those of a problem
-pub stores_said : (rows : List StoreRow) (u v : Unit {0}) → stores_counted (length rows) ≡ Ok u → rows_fit store_fits [] rows ≡ Ok v → AreStores rows
+pub stores_said : (rows : List StoreRow) (u v : Unit {0}) → stores_counted (length rows) ≡ Ok u
+    → rows_fit store_fits [] rows ≡ Ok v → AreStores rows
 stores_said rows u v counted passed =
     let (some, few) = and_parts (nat_le 1 (length rows)) (nat_le (length rows) MAX_STORES) (test_ok _ _ _ counted) in
-    let all = rows_fit_said IsStoreRow HaveOtherIds store_fits store_fits_said rows [] v (All-nil IsStoreRow) (none_apart HaveOtherIds) passed in
+    let all = rows_fit_said IsStoreRow HaveOtherIds store_fits store_fits_said rows [] v (All-nil IsStoreRow)
+    (none_apart HaveOtherIds) passed in
     record {
       has_store = (Decides-nat_le 1 (length rows)).0 some;
       at_most = (Decides-nat_le (length rows) MAX_STORES).0 few;
@@ -147,15 +162,19 @@ stores_said rows u v counted passed =
 
 -- limits that passed are within their ranges
 pub limits_said : (rows : List LimitRow) (u : Unit {0}) → rows_fit limit_fits [] rows ≡ Ok u → All IsLimitRow rows
-limits_said rows u passed = (rows_fit_said IsLimitRow HaveOtherChannels limit_fits limit_fits_said rows [] u (All-nil IsLimitRow) (none_apart HaveOtherChannels) passed).0
+limits_said rows u passed =
+    (rows_fit_said IsLimitRow HaveOtherChannels limit_fits limit_fits_said rows [] u (All-nil IsLimitRow)
+    (none_apart HaveOtherChannels) passed).0
 
 -- amounts that passed are within their range
-amounts_said : (name : Name) (amounts : List ℕ) (u : Unit {0}) → amounts_fit name amounts ≡ Ok u → All (λ n. n ≤ MAX_BLOCKS) amounts
+amounts_said : (name : Name) (amounts : List ℕ) (u : Unit {0}) → amounts_fit name amounts ≡ Ok u
+    → All (λ n. n ≤ MAX_BLOCKS) amounts
 unfolding amounts_fit
 amounts_said name [] u h = All-nil (λ n. n ≤ MAX_BLOCKS)
 amounts_said name (amount ∷ amounts) u h =
-    let (n, this, rest) = bind_ok (within 0 MAX_BLOCKS name (pos amount)) (λ _. amounts_fit name amounts) u h in
-    All-cons (λ n. n ≤ MAX_BLOCKS) amount amounts (within_said 0 MAX_BLOCKS name amount n this).1 (amounts_said name amounts u rest)
+    let (n, this, rest) = bind_ok _ _ _ h in
+    All-cons (λ n. n ≤ MAX_BLOCKS) amount amounts (within_said 0 MAX_BLOCKS name amount n this).1
+    (amounts_said name amounts u rest)
 
 -- what is known of steps that passed, after earlier ones
 record AreStepsAfter (stores earlier : ℕ) (windows arrived : List ℕ) : Type 0 where
@@ -169,16 +188,22 @@ none_left : (arrived : List ℕ) → (length arrived == 0) ≡ true → arrived 
 none_left [] h = refl
 none_left (n ∷ more) h = absurd (omega (arith, (Decides-eqb (length (n ∷ more)) 0).0 h))
 
-steps_fit_said : (stores : ℕ) (windows : List ℕ) (earlier : ℕ) (arrived : List ℕ) (u : Unit {0}) → earlier ≤ MAX_STEPS → steps_fit stores earlier windows arrived ≡ Ok u → AreStepsAfter stores earlier windows arrived
+steps_fit_said : (stores : ℕ) (windows : List ℕ) (earlier : ℕ) (arrived : List ℕ) (u : Unit {0}) → earlier ≤ MAX_STEPS
+    → steps_fit stores earlier windows arrived ≡ Ok u → AreStepsAfter stores earlier windows arrived
 unfolding steps_fit step_fits
 steps_fit_said stores [] earlier arrived u few h =
     let none = none_left arrived (test_ok _ _ _ h) in
-    rw none (record { at_most = omega arith; table = omega arith; each_window = All-nil (λ n. n ≤ MAX_BLOCKS); each_arrival = All-nil (λ n. n ≤ MAX_BLOCKS) })
+    rw none (record {
+      at_most = omega arith;
+      table = omega arith;
+      each_window = All-nil (λ n. n ≤ MAX_BLOCKS);
+      each_arrival = All-nil (λ n. n ≤ MAX_BLOCKS);
+    })
 steps_fit_said stores (window ∷ windows) earlier arrived u few h =
-    let (a, as_long, h1) = bind_ok (test (nat_le stores (length arrived)) ForecastText) (λ _. step_fits earlier window (take stores arrived) >>= (λ _. steps_fit stores (earlier + 1) windows (drop stores arrived))) u h in
-    let (b, step, rest) = bind_ok (step_fits earlier window (take stores arrived)) (λ _. steps_fit stores (earlier + 1) windows (drop stores arrived)) u h1 in
-    let (c, another, h2) = bind_ok (another_step earlier) (λ _. within 0 MAX_BLOCKS name.Window (pos window) >>= (λ _. amounts_fit name.Arrivals (take stores arrived))) b step in
-    let (n, window_fits, arrivals) = bind_ok (within 0 MAX_BLOCKS name.Window (pos window)) (λ _. amounts_fit name.Arrivals (take stores arrived)) b h2 in
+    let (a, as_long, h1) = bind_ok _ _ _ h in
+    let (b, step, rest) = bind_ok _ _ _ h1 in
+    let (c, another, h2) = bind_ok _ _ _ step in
+    let (n, window_fits, arrivals) = bind_ok _ _ _ h2 in
     let fewer : nat_lt earlier MAX_STEPS ≡ true = test_ok _ _ _ another in
     let below : earlier < MAX_STEPS = grind (arith, nat_tests) in
     let enough : stores ≤ length arrived = (Decides-nat_le stores (length arrived)).0 (test_ok _ _ _ as_long) in
@@ -187,12 +212,15 @@ steps_fit_said stores (window ∷ windows) earlier arrived u few h =
     record {
       at_most = omega (arith, others.at_most);
       table = omega (arith, others.table, length-drop stores arrived);
-      each_window = All-cons (λ n. n ≤ MAX_BLOCKS) window windows (within_said 0 MAX_BLOCKS name.Window window n window_fits).1 others.each_window;
-      each_arrival = subst (All (λ n. n ≤ MAX_BLOCKS)) (take-append-drop stores arrived) (All-append (λ n. n ≤ MAX_BLOCKS) (take stores arrived) (drop stores arrived) here others.each_arrival);
+      each_window = All-cons (λ n. n ≤ MAX_BLOCKS) window windows
+          (within_said 0 MAX_BLOCKS name.Window window n window_fits).1 others.each_window;
+      each_arrival = subst (All (λ n. n ≤ MAX_BLOCKS)) (take-append-drop stores arrived)
+          (All-append (λ n. n ≤ MAX_BLOCKS) (take stores arrived) (drop stores arrived) here others.each_arrival);
     }
 
 -- steps that passed are those of a problem
-pub steps_said : (rows : List StoreRow) (windows arrived : List ℕ) (u v : Unit {0}) → steps_fit (length rows) 0 windows arrived ≡ Ok u → some_step (length windows) ≡ Ok v → AreSteps rows windows arrived
+pub steps_said : (rows : List StoreRow) (windows arrived : List ℕ) (u v : Unit {0}) → steps_fit
+    (length rows) 0 windows arrived ≡ Ok u → some_step (length windows) ≡ Ok v → AreSteps rows windows arrived
 steps_said rows windows arrived u v passed some =
     let all = steps_fit_said (length rows) windows 0 arrived u (omega arith) passed in
     record {
@@ -214,21 +242,25 @@ no_step_limits windows = record {
 }
 
 -- a channel with limits of each step that passed
-column_fits_said : (earlier : List ℕ) (channel : ℕ) (u : Unit {0}) → column_fits earlier channel ≡ Ok u → (channel < CHANNELS) × All (λ e. e < channel) earlier
+column_fits_said : (earlier : List ℕ) (channel : ℕ) (u : Unit {0}) → column_fits earlier channel ≡ Ok u
+    → (channel < CHANNELS) × All (λ e. e < channel) earlier
 column_fits_said earlier channel u h =
-    let (there, above) = and_parts (nat_le channel MAX_CHANNEL) (list_all (λ c. nat_lt c channel) earlier) (test_ok _ _ _ h) in
+    let (there, above) =
+    and_parts (nat_le channel MAX_CHANNEL) (list_all (λ c. nat_lt c channel) earlier) (test_ok _ _ _ h) in
     let most = (Decides-nat_le channel MAX_CHANNEL).0 there in
-    (omega arith, below_said channel earlier above)
+    (omega arith, (below_decides channel earlier).0 above)
 
 -- limits of each step that passed are those of a problem
-pub step_limits_said : (windows channels limits : List ℕ) (u : Unit {0}) → step_limits_fit (length windows) channels limits ≡ Ok u → AreStepLimits windows channels limits
+pub step_limits_said : (windows channels limits : List ℕ) (u : Unit {0})
+    → step_limits_fit (length windows) channels limits ≡ Ok u → AreStepLimits windows channels limits
 unfolding step_limits_fit
 step_limits_said windows channels limits u h =
     let n = length windows * length channels in
-    let (a, few, h1) = bind_ok (test (nat_le (length channels) CHANNELS) Header) (λ _. rows_fit column_fits [] channels >>= (λ _. test (length limits == n) ForecastText >>= (λ _. amounts_fit name.Limit limits))) u h in
-    let (b, columns, h2) = bind_ok (rows_fit column_fits [] channels) (λ _. test (length limits == n) ForecastText >>= (λ _. amounts_fit name.Limit limits)) u h1 in
-    let (c, as_long, each) = bind_ok (test (length limits == n) ForecastText) (λ _. amounts_fit name.Limit limits) u h2 in
-    let all = rows_fit_said (λ c. c < CHANNELS) ◌<◌ column_fits column_fits_said channels [] b (All-nil (λ c. c < CHANNELS)) (none_apart ◌<◌) columns in
+    let (a, few, h1) = bind_ok _ _ _ h in
+    let (b, columns, h2) = bind_ok _ _ _ h1 in
+    let (c, as_long, each) = bind_ok _ _ _ h2 in
+    let all = rows_fit_said (λ c. c < CHANNELS) ◌<◌ column_fits column_fits_said channels [] b
+    (All-nil (λ c. c < CHANNELS)) (none_apart ◌<◌) columns in
     record {
       at_most = (Decides-nat_le (length channels) CHANNELS).0 (test_ok _ _ _ few);
       each_channel = all.0;

@@ -1,12 +1,14 @@
 -- What is read at a key, and what the key says.
-use Rattle.std.proofs.Common.{◌≡◌, ℕ, ℤ, pos, negsuc, ◌≤◌, ◌<◌, zero, suc, length, get_or, nat_le, Bool, true, false}
-use Rattle.std.proofs.Common.{◌||◌, List, [], ◌∷◌, map, Option, Some, Ok, refl, sym, ap, ◌∙◌, arith, inl, inr}
+use Rattle.std.proofs.Common.{◌≡◌, ℕ, ℤ, pos, negsuc, ◌≤◌, nat_le, true, ◌||◌, List, [], ◌∷◌, map, Option, Some, Ok}
+use Rattle.std.proofs.Common.{refl}
+use Rattle.std.proofs.Common.{sym, ap, ◌∙◌, arith}
 use Rattle.std.specs.Prelude.{Contains, bytes_eq, option_and_then}
 use Rattle.std.specs.Bool.{Decides}
 use Rattle.std.specs.List.{list_any, list_all}
-use Rattle.std.proofs.lemmas.Bool.{and_parts, cases_Bool, false≢true}
+use Rattle.std.proofs.lemmas.Bool.{and_parts}
 use Rattle.std.proofs.lemmas.Bool.Decides.{nat_tests, Decides-by_and}
-use Rattle.std.proofs.lemmas.List.Elements.{Contains-append_right}
+use Rattle.std.proofs.lemmas.List.Folds.{list_any_at}
+use Rattle.std.proofs.lemmas.Map.Views.{Contains-from_any}
 use Rattle.std.proofs.lemmas.Slice.Eq.{bytes_eq-Decides}
 use Rattle.toml.specs.Data.{Data, string, integer, array, table, Items, Members, as_str, as_integer, as_array, as_table}
 use Rattle.mm_problem.specs.declared.fault.Name.{Name}
@@ -41,31 +43,20 @@ table_said other ms h = absurd (cc)
 
 -- ---- keys
 
--- any test, or true
-or_true : (b : Bool) → (b || true) ≡ true
-or_true true = refl
-or_true false = refl
-
-module _ {X : Type 0} (f : X → List ℕ) where
-  -- a test that passed found the value
-  found_said : (xs : List X) (key : List ℕ) → list_any (λ x. bytes_eq (f x) key) xs ≡ true → Contains (map f xs) key
-  found_said [] key h = absurd (false≢true h)
-  found_said (x ∷ xs) key h = elim (cases_Bool (bytes_eq (f x) key)) [
-    | inl here ↦ (0, omega arith, (bytes_eq-Decides (f x) key).0 here)
-    | inr other ↦ Contains-append_right (f x ∷ []) (map f xs) key (found_said xs key (rw other at h))
-  ]
-
-  -- a value that is there is found
-  found_read : (xs : List X) (key : List ℕ) (k : ℕ)
-      → k < length (map f xs) → get_or (map f xs) k key ≡ key → list_any (λ x. bytes_eq (f x) key) xs ≡ true
-  found_read [] key k within is = absurd (omega arith)
-  found_read (x ∷ xs) key zero within is = rw ((bytes_eq-Decides (f x) key).1 is) refl
-  found_read (x ∷ xs) key (suc k) within is = rw (found_read xs key k (omega arith) is) (or_true (bytes_eq (f x) key))
-
-  -- an element at which f has a value
-  pub found_decides : (xs : List X) (key : List ℕ)
-      → Decides (list_any (λ x. bytes_eq (f x) key) xs) (Contains (map f xs) key)
-  found_decides xs key = (found_said xs key, λ h. found_read xs key h.0 h.1 h.2)
+-- the test that an element has a value at f
+pub found_decides : {X : Type 0} (f : X → List ℕ) (xs : List X) (key : List ℕ)
+    → Decides (list_any (λ x. bytes_eq (f x) key) xs) (Contains (map f xs) key)
+found_decides f xs key =
+    let mapped = any-map f key xs in (
+      λ h. Contains-from_any {eq = λ q k. bytes_eq k q} (λ q k is. sym ((bytes_eq-Decides k q).0 is)) key (map f xs)
+          (mapped ∙ h),
+      λ h. sym mapped ∙ list_any_at (λ k. bytes_eq k key) (map f xs) h.0 key h.1 ((bytes_eq-Decides _ key).1 h.2),
+    )
+  where
+    any-map : {X : Type 0} (f : X → List ℕ) (key : List ℕ) (xs : List X)
+        → list_any (λ k. bytes_eq k key) (map f xs) ≡ list_any (λ x. bytes_eq (f x) key) xs
+    any-map f key [] = refl
+    any-map f key (x ∷ xs) = ap (λ b. bytes_eq (f x) key || b) (any-map f key xs)
 
 -- the test of the keys of a table
 pub has_only_decides : (names : List Name) (ms : Members) → Decides (has_only names ms) (HasOnly names ms)

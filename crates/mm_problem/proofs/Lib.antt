@@ -12,4 +12,5 @@ pub mod ForecastLaws
 pub mod ForecastTexts
 pub mod DataLaws
 pub mod RestLaws
+pub mod StepTables
 pub mod Limits

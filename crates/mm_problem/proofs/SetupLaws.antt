@@ -1,9 +1,10 @@
 -- What is read in a document, and what the document says.
-use Rattle.std.proofs.Common.{◌≡◌, ◌≢◌, ℕ, nat_le, ◌&&◌, List, [], ◌∷◌, length, Option, Some, None, Ok, refl, sym, ap, subst, ◌∙◌, arith}
-use Rattle.std.specs.Prelude.{AllPairs}
+use Rattle.std.proofs.Common.{◌≡◌, ◌≢◌, ℕ, nat_le, ◌&&◌, List, [], ◌∷◌, length, Option, Some, None, Ok, refl, sym, ap}
+use Rattle.std.proofs.Common.{subst, ◌∙◌, arith}
 use Rattle.std.specs.List.{AllZip}
 use Rattle.std.proofs.lemmas.Bool.{and_parts}
 use Rattle.std.proofs.lemmas.List.Elements.{All-nil}
+use Rattle.std.proofs.lemmas.Slice.Zip.{AllZip-long}
 use Rattle.std.proofs.lemmas.Str.{IsUtf8-from_is_utf8, is_utf8-from_IsUtf8}
 use Rattle.std.specs.Str.{is_utf8}
 use Rattle.std.specs.Option.{ok_or, option_map, option_map_or, option_and_then}
@@ -13,17 +14,21 @@ use Rattle.mm_problem.specs.declared.fault.Fault.TheVariants.{SetupText, SetupFi
 use Rattle.mm_problem.specs.declared.fault.Name.{Name}
 use Rattle.mm_problem.specs.declared.fault.Name.TheVariants as name
 use Rattle.mm_base.specs.declared.limits.TheConstants.{MAX_STORES, MAX_ROUTES, CHANNELS}
-use Rattle.mm_problem.specs.Document.{Lists, AreCounted, counts_of, rows_of, lists_at, setup_in, document_keys, text_of, document_of, setup_of}
+use Rattle.mm_problem.specs.Document.{Lists, AreCounted, counts_of, rows_of, lists_at, setup_in, document_keys, text_of}
+use Rattle.mm_problem.specs.Document.{document_of, setup_of}
 use Rattle.mm_problem.specs.Keys.{elements, elements_of, value_at, array_at}
 use Rattle.mm_base.specs.Reading.{◌>>=◌, test}
-use Rattle.mm_problem.specs.ReadableSetup.{SaysStore, SaysRoute, SaysLimit, IsTableOf, IsArrayOf, SaysRows, SaysRowsIfAny, IsReadableDocument, IsReadableSetup}
-use Rattle.mm_problem.specs.Setup.{SetupRows, IsStoreRow, HaveOtherIds, IsRouteRow, IsLimitRow, HaveOtherChannels, IsSetup}
+use Rattle.mm_problem.specs.ReadableSetup.{SaysStore, SaysRoute, SaysLimit, IsTableOf, IsArrayOf, SaysRows}
+use Rattle.mm_problem.specs.ReadableSetup.{SaysRowsIfAny, IsReadableDocument, IsReadableSetup}
+use Rattle.mm_problem.specs.Setup.{SetupRows, IsStoreRow, HaveOtherIds, IsRouteRow, IsLimitRow, HaveOtherChannels}
+use Rattle.mm_problem.specs.Setup.{IsSetup}
 use Rattle.mm_problem.specs.Tables.{row_after, store_at, new_store, route_at, new_route, limit_at, new_limit}
 use Rattle.mm_problem.proofs.FieldLaws.{array_said as array_is, has_only_decides}
 use Rattle.mm_base.proofs.IdFields.{Decides-nat_le}
 use Rattle.mm_base.proofs.ReadingSteps.{bind_ok, test_ok, ok_or_ok, cond_ok}
-use Rattle.mm_problem.proofs.RowLaws.{AreRows, rows_said, rows_read}
-use Rattle.mm_problem.proofs.TableLaws.{next_store_said, next_store_read, next_route_said, next_route_read, next_limit_said, next_limit_read}
+use Rattle.mm_problem.proofs.RowLaws.{AreRows, none_apart, rows_said, rows_read}
+use Rattle.mm_problem.proofs.TableLaws.{next_store_said, next_store_read, next_route_said, next_route_read}
+use Rattle.mm_problem.proofs.TableLaws.{next_limit_said, next_limit_read}
 
 -- ---- the rows of counted tables
 
@@ -34,22 +39,12 @@ pub record AreRowsOf (lists : Lists) (m : SetupRows) : Type 0 where
   pub limits : AllZip (IsTableOf SaysLimit) lists.limits m.limits
   pub within : IsSetup m
 
--- as many rows as tables
-same_length : {X Y : Type 0} (Says : X → Y → Type 0) (xs : List X) (ys : List Y) → AllZip Says xs ys → length xs ≡ length ys
-same_length Says [] [] h = refl
-same_length Says [] (y ∷ ys) h = absurd h
-same_length Says (x ∷ xs) [] h = absurd h
-same_length Says (x ∷ xs) (y ∷ ys) h = let more = same_length Says xs ys h.1 in omega arith
-
--- no two rows of none
-none_apart : {X : Type 0} (D : X → X → Type 0) → AllPairs D []
-none_apart D i j d below within = absurd (omega arith)
-
 -- what rows are, where there are none before
-first_rows : {R : Type 0} (Says : Data → R → Type 0) (P : R → Type 0) (D : R → R → Type 0) (ds : List Data) (rows : List R) → AreRows Says P D ds [] rows → AllZip Says ds rows × (length ds ≡ length rows)
+first_rows : {R : Type 0} (Says : Data → R → Type 0) (P : R → Type 0) (D : R → R → Type 0) (ds : List Data)
+    (rows : List R) → AreRows Says P D ds [] rows → AllZip Says ds rows × (length ds ≡ length rows)
 first_rows Says P D ds rows h =
     let each : AllZip Says ds rows = subst (AllZip Says ds) (sym h.behind) h.each in
-    (each, same_length Says ds rows each)
+    (each, sym (AllZip-long Says ds rows each))
 
 -- rows that are read are what the tables say
 pub rows_of_said : (lists : Lists) (m : SetupRows) → AreCounted lists → rows_of lists ≡ Ok m → AreRowsOf lists m
@@ -58,12 +53,16 @@ rows_of_said lists m counted h =
     let (stores, stores_are, h1) = bind_ok _ _ _ h in
     let (routes, routes_are, h2) = bind_ok _ _ _ h1 in
     let (limits, limits_are, last) = bind_ok _ _ _ h2 in
-    let s = rows_said (IsTableOf SaysStore) IsStoreRow HaveOtherIds (row_after store_at new_store) next_store_said lists.stores [] stores (All-nil IsStoreRow) (none_apart HaveOtherIds) stores_are in
-    let r = rows_said (IsTableOf SaysRoute) (IsRouteRow stores) ◌≢◌ (row_after route_at (new_route stores)) (next_route_said stores) lists.routes [] routes (All-nil (IsRouteRow stores)) (none_apart ◌≢◌) routes_are in
-    let l = rows_said (IsTableOf SaysLimit) IsLimitRow HaveOtherChannels (row_after limit_at new_limit) next_limit_said lists.limits [] limits (All-nil IsLimitRow) (none_apart HaveOtherChannels) limits_are in
+    let s = rows_said (IsTableOf SaysStore) IsStoreRow HaveOtherIds (row_after store_at new_store) next_store_said
+    lists.stores [] stores (All-nil IsStoreRow) (none_apart HaveOtherIds) stores_are in
+    let r = rows_said (IsTableOf SaysRoute) (IsRouteRow stores) ◌≢◌ (row_after route_at (new_route stores))
+    (next_route_said stores) lists.routes [] routes (All-nil (IsRouteRow stores)) (none_apart ◌≢◌) routes_are in
+    let l = rows_said (IsTableOf SaysLimit) IsLimitRow HaveOtherChannels (row_after limit_at new_limit) next_limit_said
+    lists.limits [] limits (All-nil IsLimitRow) (none_apart HaveOtherChannels) limits_are in
     let (store_tables, store_count) = first_rows (IsTableOf SaysStore) IsStoreRow HaveOtherIds lists.stores stores s in
     let (route_tables, route_count) = first_rows (IsTableOf SaysRoute) (IsRouteRow stores) ◌≢◌ lists.routes routes r in
-    let (limit_tables, limit_count) = first_rows (IsTableOf SaysLimit) IsLimitRow HaveOtherChannels lists.limits limits l in
+    let (limit_tables, limit_count) =
+    first_rows (IsTableOf SaysLimit) IsLimitRow HaveOtherChannels lists.limits limits l in
     let rows : SetupRows = record { stores = stores; routes = routes; limits = limits } in
     let same : rows ≡ m = cc in
     subst (AreRowsOf lists) same (record {
@@ -71,7 +70,13 @@ rows_of_said lists m counted h =
       routes = route_tables;
       limits = limit_tables;
       within = record {
-        stores = record { has_store = omega (arith, counted.has_store); at_most = omega (arith, counted.stores); each = s.fit; named = s.apart };
+        stores = record {
+          has_store = omega (arith, counted.has_store);
+          at_most = omega (arith, counted.stores);
+          each =
+              s.fit;
+          named = s.apart;
+        };
         routes = record { at_most = omega (arith, counted.routes); each = r.fit; once = r.apart };
         limits = record { at_most = omega (arith, counted.limits); each = l.fit; once = l.apart };
       };
@@ -83,9 +88,12 @@ unfolding rows_of
 rows_of_read lists m h =
     let w = h.within in
     rw (
-      rows_read (IsTableOf SaysStore) IsStoreRow HaveOtherIds (row_after store_at new_store) next_store_read lists.stores [] m.stores h.stores w.stores.each w.stores.named,
-      rows_read (IsTableOf SaysRoute) (IsRouteRow m.stores) ◌≢◌ (row_after route_at (new_route m.stores)) (next_route_read m.stores) lists.routes [] m.routes h.routes w.routes.each w.routes.once,
-      rows_read (IsTableOf SaysLimit) IsLimitRow HaveOtherChannels (row_after limit_at new_limit) next_limit_read lists.limits [] m.limits h.limits w.limits.each w.limits.once,
+      rows_read (IsTableOf SaysStore) IsStoreRow HaveOtherIds
+          (row_after store_at new_store) next_store_read lists.stores [] m.stores h.stores w.stores.each w.stores.named,
+      rows_read (IsTableOf SaysRoute) (IsRouteRow m.stores) ◌≢◌ (row_after route_at (new_route m.stores))
+          (next_route_read m.stores) lists.routes [] m.routes h.routes w.routes.each w.routes.once,
+      rows_read (IsTableOf SaysLimit) IsLimitRow HaveOtherChannels
+          (row_after limit_at new_limit) next_limit_read lists.limits [] m.limits h.limits w.limits.each w.limits.once,
     ) refl
 
 -- ---- counts
@@ -94,9 +102,10 @@ rows_of_read lists m h =
 pub counts_said : (lists : Lists) (u : Unit {0}) → counts_of lists ≡ Ok u → AreCounted lists
 unfolding counts_of
 counts_said lists u h =
-    let (a, stores, h1) = bind_ok (test (nat_le 1 (length lists.stores) && nat_le (length lists.stores) MAX_STORES) (Limit name.Stores)) (λ _. test (nat_le (length lists.routes) MAX_ROUTES) (Limit name.Routes) >>= (λ _. test (nat_le (length lists.limits) CHANNELS) (Limit name.Limits))) u h in
-    let (b, routes, limits) = bind_ok (test (nat_le (length lists.routes) MAX_ROUTES) (Limit name.Routes)) (λ _. test (nat_le (length lists.limits) CHANNELS) (Limit name.Limits)) u h1 in
-    let (some, few) = and_parts (nat_le 1 (length lists.stores)) (nat_le (length lists.stores) MAX_STORES) (test_ok _ _ _ stores) in
+    let (a, stores, h1) = bind_ok _ _ _ h in
+    let (b, routes, limits) = bind_ok _ _ _ h1 in
+    let (some, few) = and_parts (nat_le 1 (length lists.stores)) (nat_le (length lists.stores) MAX_STORES)
+    (test_ok _ _ _ stores) in
     record {
       has_store = (Decides-nat_le 1 (length lists.stores)).0 some;
       stores = (Decides-nat_le (length lists.stores) MAX_STORES).0 few;
@@ -117,7 +126,8 @@ counts_read lists h = rw (
 -- ---- arrays
 
 -- elements that are there are those of an array
-elements_said : (o : Option Items) (ds : List Data) → option_map elements o ≡ Some ds → (items : Items) × (o ≡ Some items) × (elements items ≡ ds)
+elements_said : (o : Option Items) (ds : List Data) → option_map elements o ≡ Some ds
+    → (items : Items) × (o ≡ Some items) × (elements items ≡ ds)
 elements_said None ds h = absurd (cc)
 elements_said (Some items) ds h = (items, refl, cc)
 
@@ -129,12 +139,15 @@ module _ {R : Type 0} (Says : Members → R → Type 0) (name : Name) (ds : List
       record { items = items; is_array = array_is d items is; each = rw are each }
 
   -- the rows at a key, by the value that it has
-  rows_at_value : (document : Members) (o : Option Data) → value_at name document ≡ o → ok_or (option_map elements (option_and_then as_array o)) (SetupField 0 name) ≡ Ok ds → AllZip (IsTableOf Says) ds rows → SaysRows Says document name rows
+  rows_at_value : (document : Members) (o : Option Data) → value_at name document ≡ o
+      → ok_or (option_map elements (option_and_then as_array o)) (SetupField 0 name) ≡ Ok ds
+      → AllZip (IsTableOf Says) ds rows → SaysRows Says document name rows
   rows_at_value document None is h each = absurd (cc)
   rows_at_value document (Some d) is h each = record { value = d; has = is; is = array_said d h each }
 
   -- the rows at a key that is read
-  rows_at_said : (document : Members) → array_at name document ≡ Ok ds → AllZip (IsTableOf Says) ds rows → SaysRows Says document name rows
+  rows_at_said : (document : Members) → array_at name document ≡ Ok ds → AllZip (IsTableOf Says) ds rows
+      → SaysRows Says document name rows
   rows_at_said document h each = rows_at_value document (value_at name document) refl h each
 
   -- no tables say no rows
@@ -143,12 +156,14 @@ module _ {R : Type 0} (Says : Members → R → Type 0) (name : Name) (ds : List
   no_rows (r ∷ more) each = absurd each
 
   -- the rows at a key that may be missing
-  if_any_said : (o : Option Data) → option_map_or (elements_of name) o (Ok []) ≡ Ok ds → AllZip (IsTableOf Says) ds rows → SaysRowsIfAny Says o rows
+  if_any_said : (o : Option Data) → option_map_or (elements_of name) o (Ok []) ≡ Ok ds → AllZip (IsTableOf Says) ds rows
+      → SaysRowsIfAny Says o rows
   if_any_said None h each = let none : [] ≡ ds = cc in no_rows rows (rw none each)
   if_any_said (Some d) h each = array_said d h each
 
 -- the elements of the array at a key that may be missing
-if_any_read : {R : Type 0} (Says : Members → R → Type 0) (name : Name) (rows : List R) (o : Option Data) → SaysRowsIfAny Says o rows
+if_any_read : {R : Type 0} (Says : Members → R → Type 0) (name : Name) (rows : List R) (o : Option Data)
+    → SaysRowsIfAny Says o rows
     → (ds : List Data) × (option_map_or (elements_of name) o (Ok []) ≡ Ok ds) × AllZip (IsTableOf Says) ds rows
 if_any_read Says name rows None none = ([], refl, subst (AllZip (IsTableOf Says) []) (sym none) tt)
 if_any_read Says name rows (Some d) is = (elements is.items, rw is.is_array refl, is.each)
@@ -159,15 +174,16 @@ if_any_read Says name rows (Some d) is = (elements is.items, rw is.is_array refl
 document_said : (document : Members) (m : SetupRows) → setup_in document ≡ Ok m → IsReadableDocument document m
 unfolding setup_in lists_at
 document_said document m h =
-    let (lists, lists_are, h1) = bind_ok (lists_at document) (λ lists. counts_of lists >>= (λ _. rows_of lists)) m h in
-    let (u, counted, last) = bind_ok (counts_of lists) (λ _. rows_of lists) m h1 in
+    let (lists, lists_are, h1) = bind_ok _ _ _ h in
+    let (u, counted, last) = bind_ok _ _ _ h1 in
     let (v, known, g1) = bind_ok _ _ _ lists_are in
     let (stores, stores_at, g2) = bind_ok _ _ _ g1 in
     let (routes, routes_at, g3) = bind_ok _ _ _ g2 in
     let (limits, limits_at, g4) = bind_ok _ _ _ g3 in
     let found : Lists = record { stores = stores; routes = routes; limits = limits } in
     let same : found ≡ lists = cc in
-    let rows : AreRowsOf found m = subst (λ l. AreRowsOf l m) (sym same) (rows_of_said lists m (counts_said lists u counted) last) in
+    let rows : AreRowsOf found m =
+    subst (λ l. AreRowsOf l m) (sym same) (rows_of_said lists m (counts_said lists u counted) last) in
     record {
       only = (has_only_decides document_keys document).0 (test_ok _ _ _ known);
       stores = rows_at_said SaysStore name.Store stores m.stores document stores_at rows.stores;
@@ -181,12 +197,14 @@ document_read : (document : Members) (m : SetupRows) → IsReadableDocument docu
 unfolding setup_in lists_at
 document_read document m h =
     let s = h.stores.is in
-    let (routes, routes_at, route_tables) = if_any_read SaysRoute name.Route m.routes (value_at name.Route document) h.routes in
-    let (limits, limits_at, limit_tables) = if_any_read SaysLimit name.Limit m.limits (value_at name.Limit document) h.limits in
+    let (routes, routes_at, route_tables) =
+    if_any_read SaysRoute name.Route m.routes (value_at name.Route document) h.routes in
+    let (limits, limits_at, limit_tables) =
+    if_any_read SaysLimit name.Limit m.limits (value_at name.Limit document) h.limits in
     let lists : Lists = record { stores = elements s.items; routes = routes; limits = limits } in
-    let store_count = same_length (IsTableOf SaysStore) (elements s.items) m.stores s.each in
-    let route_count = same_length (IsTableOf SaysRoute) routes m.routes route_tables in
-    let limit_count = same_length (IsTableOf SaysLimit) limits m.limits limit_tables in
+    let store_count = AllZip-long (IsTableOf SaysStore) (elements s.items) m.stores s.each in
+    let route_count = AllZip-long (IsTableOf SaysRoute) routes m.routes route_tables in
+    let limit_count = AllZip-long (IsTableOf SaysLimit) limits m.limits limit_tables in
     let w = h.within in
     let counted : AreCounted lists = record {
       has_store = omega (arith, store_count, w.stores.has_store);
@@ -194,8 +212,10 @@ document_read document m h =
       routes = omega (arith, route_count, w.routes.at_most);
       limits = omega (arith, limit_count, w.limits.at_most);
     } in
-    let rows : AreRowsOf lists m = record { stores = s.each; routes = route_tables; limits = limit_tables; within = w } in
-    let lists_are : lists_at document ≡ Ok lists = rw ((has_only_decides document_keys document).1 h.only, h.stores.has, s.is_array, routes_at, limits_at) refl in
+    let rows : AreRowsOf lists m =
+    record { stores = s.each; routes = route_tables; limits = limit_tables; within = w } in
+    let lists_are : lists_at document ≡ Ok lists =
+    rw ((has_only_decides document_keys document).1 h.only, h.stores.has, s.is_array, routes_at, limits_at) refl in
     rw (lists_are, counts_read lists counted) (rows_of_read lists m rows)
 
 -- ---- texts
@@ -204,8 +224,8 @@ document_read document m h =
 pub setup_said : (octets : List ℕ) (m : SetupRows) → setup_of octets ≡ Ok m → IsReadableSetup octets m
 unfolding setup_of document_of
 setup_said octets m h =
-    let (document, is, says) = bind_ok (document_of octets) setup_in m h in
-    let (text, decoded, parsed) = bind_ok (text_of octets) (λ text. ok_or (parse_document text) SetupText) document is in
+    let (document, is, says) = bind_ok _ _ _ h in
+    let (text, decoded, parsed) = bind_ok _ _ _ is in
     let (utf8, same) = cond_ok (is_utf8 octets) octets SetupText text decoded in
     record {
       utf8 = IsUtf8-from_is_utf8 octets utf8;

@@ -1,12 +1,11 @@
 -- What is read in a table, and what the table says.
-use Rattle.std.proofs.Common.{◌≡◌, ◌≢◌, ℕ, ◌+◌, ◌≤◌, ◌==◌, Bool, true, false, not, ◌&&◌, List, [], ◌∷◌, length, Option, Some, None, Result, Ok, refl, sym, ap, subst, ◌∙◌, arith, inl, inr}
+use Rattle.std.proofs.Common.{◌≡◌, ◌≢◌, ℕ, ◌+◌, ◌≤◌, Bool, true, false, not, ◌&&◌, ◌||◌, ◌==◌, List, length}
+use Rattle.std.proofs.Common.{Option, Some, None, Result, Ok, refl, sym, ap, subst, ◌∙◌, arith, inl, inr}
 use Rattle.std.specs.Prelude.{All, bytes_eq}
 use Rattle.std.specs.Bool.{Decides}
 use Rattle.std.specs.List.{list_any}
-use Rattle.std.proofs.lemmas.Bool.{and_parts, or_parts, cases_Bool, false≢true}
-use Rattle.std.proofs.lemmas.Bool.Decides.{Decides-eqb, not_from_Decides}
-use Rattle.std.proofs.lemmas.List.Elements.{All-nil, All-cons, All-weaker}
-use Rattle.std.proofs.lemmas.List.Folds.{list_any_none}
+use Rattle.std.proofs.lemmas.Bool.{cases_Bool}
+use Rattle.std.proofs.lemmas.Bool.Decides.{Decides-eqb, Decides-not, Decides-and, Decides-like, Decides-by_and}
 use Rattle.std.proofs.lemmas.Slice.Eq.{bytes_eq-Decides}
 use Rattle.toml.specs.Data.{Data, string, Members, as_table}
 use Rattle.mm_problem.specs.declared.fault.Name.{Name}
@@ -23,15 +22,18 @@ use Rattle.mm_problem.specs.ReadableSetup.{SaysText, SaysNumberIfAny, SaysStore,
 use Rattle.mm_problem.specs.Setup.{IsStoreRow, HaveOtherIds, IsRouteRow, IsLimitRow, HaveOtherChannels}
 use Rattle.mm_base.specs.SameRoutes.{same_route}
 use Rattle.mm_problem.specs.declared.fault.Fault.{Fault}
-use Rattle.mm_problem.specs.Tables.{store_keys, route_keys, limit_keys, table_of, kind_of, kind_at, start_from, row_after, store_at, new_store, route_at, new_route, limit_at, new_limit}
-use Rattle.mm_problem.proofs.FieldLaws.{table_said, has_only_decides, found_decides, text_said, id_said, id_read, number_said, number_read}
+use Rattle.mm_problem.specs.Tables.{store_keys, route_keys, limit_keys, table_of, kind_of, kind_at, start_from}
+use Rattle.mm_problem.specs.Tables.{row_after, store_at, new_store, route_at, new_route, limit_at, new_limit}
+use Rattle.mm_problem.proofs.FieldLaws.{table_said, has_only_decides, found_decides, text_said, id_said, id_read}
+use Rattle.mm_problem.proofs.FieldLaws.{number_said, number_read}
 use Rattle.mm_base.proofs.ReadingSteps.{bind_ok, test_ok, ok_or_ok, ok_same}
 use Rattle.mm_problem.proofs.RowLaws.{IsNext}
 
 -- ---- the keys of a table
 
 -- a table that is read has no other keys than these
-table_of_said : (row : ℕ) (element : Name) (keys : List Name) (d : Data) (ms : Members) → table_of row element keys d ≡ Ok ms → (as_table d ≡ Some ms) × (has_only keys ms ≡ true)
+table_of_said : (row : ℕ) (element : Name) (keys : List Name) (d : Data) (ms : Members)
+    → table_of row element keys d ≡ Ok ms → (as_table d ≡ Some ms) × (has_only keys ms ≡ true)
 unfolding table_of
 table_of_said row element keys d ms h =
     let (found, is, h1) = bind_ok _ _ _ h in
@@ -41,57 +43,32 @@ table_of_said row element keys d ms h =
 
 -- ---- rows that differ from a row
 
--- a test that no element passes
-none_said : {X : Type 0} (p : X → Bool) (xs : List X) → list_any p xs ≡ false → All (λ x. p x ≡ false) xs
-none_said p [] h = All-nil (λ x. p x ≡ false)
-none_said p (x ∷ xs) h =
-    let (here, others) = or_parts (p x) (list_any p xs) h in
-    All-cons (λ x. p x ≡ false) x xs here (none_said p xs others)
+-- the negation of a choice
+not_or : (a b : Bool) → not (a || b) ≡ (not a && not b)
+not_or true b = refl
+not_or false b = refl
 
--- a test that is not passed
-not_true : (b : Bool) → not b ≡ true → b ≡ false
-not_true true h = absurd (false≢true h)
-not_true false h = refl
-
-module _ {X : Type 0} (p : X → Bool) (P : X → Type 0) (each : (x : X) → Decides (p x) (P x)) where
-  -- a test of what does not hold
-  fails : (x : X) → ¬ (P x) → p x ≡ false
-  fails x refuted = elim (cases_Bool (p x)) [ inl t ↦ absurd (refuted ((each x).0 t)) | inr f ↦ f ]
-
-  -- the test that no element has a property
-  none_decides : (xs : List X) → Decides (not (list_any p xs)) (All (λ x. ¬ (P x)) xs)
-  none_decides xs = (
-    λ h. All-weaker (λ x. p x ≡ false) (λ x. ¬ (P x)) (λ x f. not_from_Decides (p x) (each x) f) xs (none_said p xs (not_true (list_any p xs) h)),
-    λ h. rw (list_any_none p xs (All-weaker (λ x. ¬ (P x)) (λ x. p x ≡ false) fails xs h)) refl,
-  )
+-- the test that no element has a property
+none_decides : {X : Type 0} (p : X → Bool) (P : X → Type 0) → ((x : X) → Decides (p x) (P x)) → (xs : List X)
+    → Decides (not (list_any p xs)) (All (λ x. ¬ (P x)) xs)
+none_decides p P each = Decides-by_and (λ x. not (p x)) (λ x. ¬ (P x)) (λ xs. not (list_any p xs))
+    (λ x. Decides-not (p x) (each x)) refl (λ x xs. not_or (p x) (list_any p xs))
 
 -- the test of two routes
 same_route_decides : (a b : RouteRow) → Decides (same_route a b) (a ≡ b)
-same_route_decides a b = (
-  λ h.
-      let (front, store) = and_parts ((a.apid == b.apid) && (a.service == b.service) && (a.subtype == b.subtype)) (bytes_eq a.store b.store) h in
-      let (ids, subtype) = and_parts ((a.apid == b.apid) && (a.service == b.service)) (a.subtype == b.subtype) front in
-      let (apid, service) = and_parts (a.apid == b.apid) (a.service == b.service) ids in
-      let apid_is = (Decides-eqb a.apid b.apid).0 apid in
-      let service_is = (Decides-eqb a.service b.service).0 service in
-      let subtype_is = (Decides-eqb a.subtype b.subtype).0 subtype in
-      let store_is = (bytes_eq-Decides a.store b.store).0 store in
-      let joined : ◌≡◌ {A = RouteRow} (record { apid = a.apid; service = a.service; subtype = a.subtype; store = a.store }) (record { apid = b.apid; service = b.service; subtype = b.subtype; store = b.store }) = cc in
-      joined,
-  λ same. subst (λ r. same_route a r ≡ true) same (rw (
-    (Decides-eqb a.apid a.apid).1 refl,
-    (Decides-eqb a.service a.service).1 refl,
-    (Decides-eqb a.subtype a.subtype).1 refl,
-    (bytes_eq-Decides a.store a.store).1 refl,
-  ) refl),
-)
+same_route_decides a b = Decides-like (same_route a b)
+    (λ h. λ i. record { apid = h.0.0.0 i; service = h.0.0.1 i; subtype = h.0.1 i; store = h.1 i })
+    (λ h. (((λ i. (h i).apid, λ i. (h i).service), λ i. (h i).subtype), λ i. (h i).store))
+    (Decides-and _ _ (Decides-and _ _ (Decides-and _ _ (Decides-eqb a.apid b.apid) (Decides-eqb a.service b.service))
+    (Decides-eqb a.subtype b.subtype)) (bytes_eq-Decides a.store b.store))
 
 -- ---- one row after another
 
 module _ {R : Type 0} (row_at : ℕ → Data → Result R Fault) (new_row : List R → R → Result (Unit {0}) Fault) where
   -- a row that is read is what its table says
   row_after_said : (Says : Data → R → Type 0) (P : R → Type 0) (D : R → R → Type 0)
-      → ((number : ℕ) (earlier : List R) (d : Data) (row : R) (u : Unit {0}) → row_at number d ≡ Ok row → new_row earlier row ≡ Ok u → IsNext Says P D earlier d row)
+      → ((number : ℕ) (earlier : List R) (d : Data) (row : R) (u : Unit {0}) → row_at number d ≡ Ok row
+      → new_row earlier row ≡ Ok u → IsNext Says P D earlier d row)
       → (earlier : List R) (d : Data) (r : R) → row_after row_at new_row earlier d ≡ Ok r → IsNext Says P D earlier d r
   unfolding row_after
   row_after_said Says P D said earlier d r h =
@@ -100,7 +77,8 @@ module _ {R : Type 0} (row_at : ℕ → Data → Result R Fault) (new_row : List
       subst (IsNext Says P D earlier d) (ok_same row r last) (said (length earlier + 1) earlier d row u at new)
 
   -- a new row that its table says is read
-  row_after_read : (earlier : List R) (d : Data) (r : R) → row_at (length earlier + 1) d ≡ Ok r → new_row earlier r ≡ Ok tt → row_after row_at new_row earlier d ≡ Ok r
+  row_after_read : (earlier : List R) (d : Data) (r : R) → row_at (length earlier + 1) d ≡ Ok r
+      → new_row earlier r ≡ Ok tt → row_after row_at new_row earlier d ≡ Ok r
   unfolding row_after
   row_after_read earlier d r at new = rw (at, new) refl
 
@@ -109,9 +87,11 @@ module _ {R : Type 0} (row_at : ℕ → Data → Result R Fault) (new_row : List
 -- a kind that is read has this word
 kind_of_said : (row : ℕ) (word : List ℕ) (kind : Kind) → kind_of row word ≡ Ok kind → word ≡ word_of kind
 kind_of_said row word kind h = elim (cases_Bool (bytes_eq word (word_of Circular))) [
-  | inl circular ↦ let is : Circular ≡ kind = (let found = rw circular at h in cc) in (bytes_eq-Decides word (word_of Circular)).0 circular ∙ ap word_of is
+  | inl circular ↦ let is : Circular ≡ kind =
+      (let found = rw circular at h in cc) in (bytes_eq-Decides word (word_of Circular)).0 circular ∙ ap word_of is
   | inr other ↦ (let later = rw other at h in elim (cases_Bool (bytes_eq word (word_of Bounded))) [
-    | inl bounded ↦ let is : Bounded ≡ kind = (let found = rw bounded at later in cc) in (bytes_eq-Decides word (word_of Bounded)).0 bounded ∙ ap word_of is
+    | inl bounded ↦ let is : Bounded ≡ kind =
+        (let found = rw bounded at later in cc) in (bytes_eq-Decides word (word_of Bounded)).0 bounded ∙ ap word_of is
     | inr neither ↦ absurd (let none = rw neither at later in cc)
   ])
 ]
@@ -134,14 +114,18 @@ unfolding kind_at
 kind_read row ms kind says = rw says (kind_of_read row kind)
 
 -- a start volume that is read is what the key has, or 0
-start_from_said : (row size : ℕ) (ms : Members) (n : ℕ) (o : Option Data) → o ≡ value_at name.Start ms → start_from row size ms o ≡ Ok n → SaysNumberIfAny o n × (n ≤ size)
+start_from_said : (row size : ℕ) (ms : Members) (n : ℕ) (o : Option Data) → o ≡ value_at name.Start ms
+    → start_from row size ms o ≡ Ok n → SaysNumberIfAny o n × (n ≤ size)
 start_from_said row size ms n None is h = let zero_is : n ≡ 0 = cc in (zero_is, omega arith)
-start_from_said row size ms n (Some d) is h = let (says, above, below) = number_said row name.Start ms 0 size n h in (cc, below)
+start_from_said row size ms n (Some d) is h = let (says, above, below) =
+    number_said row name.Start ms 0 size n h in (cc, below)
 
 -- the start volume that the key has, or 0, is read
-start_from_read : (row size : ℕ) (ms : Members) (n : ℕ) (o : Option Data) → o ≡ value_at name.Start ms → SaysNumberIfAny o n → n ≤ size → start_from row size ms o ≡ Ok n
+start_from_read : (row size : ℕ) (ms : Members) (n : ℕ) (o : Option Data) → o ≡ value_at name.Start ms
+    → SaysNumberIfAny o n → n ≤ size → start_from row size ms o ≡ Ok n
 start_from_read row size ms n None is says below = ap Ok (sym says)
-start_from_read row size ms n (Some d) is says below = number_read row name.Start ms 0 size n (sym is ∙ ap Some says) (omega arith) below
+start_from_read row size ms n (Some d) is says below =
+    number_read row name.Start ms 0 size n (sym is ∙ ap Some says) (omega arith) below
 
 -- a store that is read is what the table says
 store_said : (row : ℕ) (d : Data) (r : StoreRow) → store_at row d ≡ Ok r → IsTableOf SaysStore d r × IsStoreRow r
@@ -191,20 +175,27 @@ store_read row d r h fits =
     ) refl
 
 -- a store that passes the test has an identifier of its own
-pub new_store_said : (earlier : List StoreRow) (row : StoreRow) (u : Unit {0}) → new_store earlier row ≡ Ok u → All (λ e. HaveOtherIds e row) earlier
-new_store_said earlier row u new = (none_decides (λ e. bytes_eq e.id row.id) (λ e. e.id ≡ row.id) (λ e. bytes_eq-Decides e.id row.id) earlier).0 (test_ok _ _ _ new)
+pub new_store_said : (earlier : List StoreRow) (row : StoreRow) (u : Unit {0}) → new_store earlier row ≡ Ok u
+    → All (λ e. HaveOtherIds e row) earlier
+new_store_said earlier row u new =
+    (none_decides (λ e. bytes_eq e.id row.id) (λ e. e.id ≡ row.id) (λ e. bytes_eq-Decides e.id row.id) earlier).0
+    (test_ok _ _ _ new)
 
 -- a store that is read next is new
-pub next_store_said : (earlier : List StoreRow) (d : Data) (r : StoreRow) → row_after store_at new_store earlier d ≡ Ok r → IsNext (IsTableOf SaysStore) IsStoreRow HaveOtherIds earlier d r
-next_store_said = row_after_said store_at new_store (IsTableOf SaysStore) IsStoreRow HaveOtherIds (λ number earlier d row u at new.
+pub next_store_said : (earlier : List StoreRow) (d : Data) (r : StoreRow)
+    → row_after store_at new_store earlier d ≡ Ok r → IsNext (IsTableOf SaysStore) IsStoreRow HaveOtherIds earlier d r
+next_store_said = row_after_said store_at new_store (IsTableOf SaysStore) IsStoreRow HaveOtherIds
+    (λ number earlier d row u at new.
     let facts = store_said number d row at in
     record { says = facts.0; fits = facts.1; new = new_store_said earlier row u new })
 
 -- a new store is read next
-pub next_store_read : (earlier : List StoreRow) (d : Data) (r : StoreRow) → IsNext (IsTableOf SaysStore) IsStoreRow HaveOtherIds earlier d r → row_after store_at new_store earlier d ≡ Ok r
+pub next_store_read : (earlier : List StoreRow) (d : Data) (r : StoreRow)
+    → IsNext (IsTableOf SaysStore) IsStoreRow HaveOtherIds earlier d r → row_after store_at new_store earlier d ≡ Ok r
 next_store_read earlier d r h = row_after_read store_at new_store earlier d r
     (store_read (length earlier + 1) d r h.says h.fits)
-    (rw ((none_decides (λ e. bytes_eq e.id r.id) (λ e. e.id ≡ r.id) (λ e. bytes_eq-Decides e.id r.id) earlier).1 h.new) refl)
+    (rw ((none_decides (λ e. bytes_eq e.id r.id) (λ e. e.id ≡ r.id) (λ e. bytes_eq-Decides e.id r.id) earlier).1 h.new)
+    refl)
 
 -- ---- routes
 
@@ -251,19 +242,23 @@ route_read row d r h apid = rw (
 ) refl
 
 -- a route that is read next is new and of a store that there is
-pub next_route_said : (stores : List StoreRow) (earlier : List RouteRow) (d : Data) (r : RouteRow) → row_after route_at (new_route stores) earlier d ≡ Ok r → IsNext (IsTableOf SaysRoute) (IsRouteRow stores) ◌≢◌ earlier d r
+pub next_route_said : (stores : List StoreRow) (earlier : List RouteRow) (d : Data) (r : RouteRow) → row_after route_at
+    (new_route stores) earlier d ≡ Ok r → IsNext (IsTableOf SaysRoute) (IsRouteRow stores) ◌≢◌ earlier d r
 unfolding new_route
-next_route_said stores = row_after_said route_at (new_route stores) (IsTableOf SaysRoute) (IsRouteRow stores) ◌≢◌ (λ number earlier d row u at tests.
+next_route_said stores = row_after_said route_at (new_route stores) (IsTableOf SaysRoute) (IsRouteRow stores) ◌≢◌
+    (λ number earlier d row u at tests.
     let facts = route_said number d row at in
     let (v, stored, new) = bind_ok _ _ _ tests in
     record {
       says = facts.0;
       fits = record { apid = facts.1; store = (found_decides (λ s. s.id) stores row.store).0 (test_ok _ _ _ stored) };
-      new = (none_decides (λ e. same_route e row) (λ e. e ≡ row) (λ e. same_route_decides e row) earlier).0 (test_ok _ _ _ new);
+      new = (none_decides (λ e. same_route e row) (λ e. e ≡ row) (λ e. same_route_decides e row) earlier).0
+          (test_ok _ _ _ new);
     })
 
 -- a new route of a store that there is is read next
-pub next_route_read : (stores : List StoreRow) (earlier : List RouteRow) (d : Data) (r : RouteRow) → IsNext (IsTableOf SaysRoute) (IsRouteRow stores) ◌≢◌ earlier d r → row_after route_at (new_route stores) earlier d ≡ Ok r
+pub next_route_read : (stores : List StoreRow) (earlier : List RouteRow) (d : Data) (r : RouteRow) → IsNext
+    (IsTableOf SaysRoute) (IsRouteRow stores) ◌≢◌ earlier d r → row_after route_at (new_route stores) earlier d ≡ Ok r
 unfolding new_route
 next_route_read stores earlier d r h = row_after_read route_at (new_route stores) earlier d r
     (route_read (length earlier + 1) d r h.says h.fits.apid)
@@ -290,7 +285,12 @@ limit_said row d r h =
       record {
         members = ms;
         is_table = table_said d ms is;
-        says = record { only = (has_only_decides limit_keys ms).0 known; channel = channel_says.0; blocks = blocks_says.0 };
+        says = record {
+          only = (has_only_decides limit_keys ms).0 known;
+          channel = channel_says.0;
+          blocks =
+              blocks_says.0;
+        };
       },
       record { channel = channel_says.2; blocks = blocks_says.2 },
     )
@@ -306,17 +306,24 @@ limit_read row d r h fits = rw (
 ) refl
 
 -- a limit that passes the test is of a channel of its own
-pub new_limit_said : (earlier : List LimitRow) (row : LimitRow) (u : Unit {0}) → new_limit earlier row ≡ Ok u → All (λ e. HaveOtherChannels e row) earlier
-new_limit_said earlier row u new = (none_decides (λ e. e.channel == row.channel) (λ e. e.channel ≡ row.channel) (λ e. Decides-eqb e.channel row.channel) earlier).0 (test_ok _ _ _ new)
+pub new_limit_said : (earlier : List LimitRow) (row : LimitRow) (u : Unit {0}) → new_limit earlier row ≡ Ok u
+    → All (λ e. HaveOtherChannels e row) earlier
+new_limit_said earlier row u new =
+    (none_decides (λ e. e.channel == row.channel) (λ e. e.channel ≡ row.channel)
+    (λ e. Decides-eqb e.channel row.channel) earlier).0 (test_ok _ _ _ new)
 
 -- a limit that is read next is of a new channel
-pub next_limit_said : (earlier : List LimitRow) (d : Data) (r : LimitRow) → row_after limit_at new_limit earlier d ≡ Ok r → IsNext (IsTableOf SaysLimit) IsLimitRow HaveOtherChannels earlier d r
-next_limit_said = row_after_said limit_at new_limit (IsTableOf SaysLimit) IsLimitRow HaveOtherChannels (λ number earlier d row u at new.
+pub next_limit_said : (earlier : List LimitRow) (d : Data) (r : LimitRow) → row_after limit_at new_limit earlier d
+    ≡ Ok r → IsNext (IsTableOf SaysLimit) IsLimitRow HaveOtherChannels earlier d r
+next_limit_said = row_after_said limit_at new_limit (IsTableOf SaysLimit) IsLimitRow HaveOtherChannels
+    (λ number earlier d row u at new.
     let facts = limit_said number d row at in
     record { says = facts.0; fits = facts.1; new = new_limit_said earlier row u new })
 
 -- a limit of a new channel is read next
-pub next_limit_read : (earlier : List LimitRow) (d : Data) (r : LimitRow) → IsNext (IsTableOf SaysLimit) IsLimitRow HaveOtherChannels earlier d r → row_after limit_at new_limit earlier d ≡ Ok r
+pub next_limit_read : (earlier : List LimitRow) (d : Data) (r : LimitRow) → IsNext
+    (IsTableOf SaysLimit) IsLimitRow HaveOtherChannels earlier d r → row_after limit_at new_limit earlier d ≡ Ok r
 next_limit_read earlier d r h = row_after_read limit_at new_limit earlier d r
     (limit_read (length earlier + 1) d r h.says h.fits)
-    (rw ((none_decides (λ e. e.channel == r.channel) (λ e. e.channel ≡ r.channel) (λ e. Decides-eqb e.channel r.channel) earlier).1 h.new) refl)
+    (rw ((none_decides (λ e. e.channel == r.channel) (λ e. e.channel ≡ r.channel)
+    (λ e. Decides-eqb e.channel r.channel) earlier).1 h.new) refl)

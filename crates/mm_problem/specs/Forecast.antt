@@ -18,6 +18,7 @@ use Rattle.mm_base.specs.Numbers.{numeral_of}
 use Rattle.mm_base.specs.Reading.{◌>>=◌, test}
 use Rattle.mm_problem.specs.Records.{Fields, records_of}
 use Rattle.mm_problem.specs.Setup.{SetupRows}
+use Rattle.mm_problem.specs.Tables.{rows_in}
 
 -- the windows of some steps, and step by step the arrivals of each store and the limit of each channel that has a
 -- column
@@ -53,13 +54,16 @@ channel_in name = do
   limits ← test (bytes_eq (take 6 name) (codes "limit:")) Header
   channel_from (numeral_of MAX_CHANNEL (drop 6 name))
 
--- these channels, then those of further columns, in rising order
-unfoldable pub channels_in : List ℕ → Fields → Result (List ℕ) Fault
-channels_in earlier [] = Ok earlier
-channels_in earlier (name ∷ names) = do
+-- the channel of the next column of limits, which is above these channels
+unfoldable pub next_channel : List ℕ → List ℕ → Result ℕ Fault
+next_channel earlier name = do
   channel ← channel_in name
   rising ← test (list_all (λ c. nat_lt c channel) earlier) Header
-  channels_in (earlier ++ channel ∷ []) names
+  Ok channel
+
+-- these channels, then those of further columns, in rising order
+abbrev pub channels_in : List ℕ → Fields → Result (List ℕ) Fault
+channels_in = rows_in next_channel
 
 -- a cell of a record; cells count from 0
 abbrev pub cell_of : Fields → ℕ → List ℕ

@@ -81,12 +81,12 @@ row_after row_at new_row earlier d = do
   new ← new_row earlier row
   Ok row
 
--- these rows, then those of the tables
-unfoldable pub rows_in : {R : Type 0} → (List R → Data → Result R Fault) → List R → List Data → Result (List R) Fault
+-- these rows, then those of these tables or cells, each read after the rows before it
+unfoldable pub rows_in : {R X : Type 0} → (List R → X → Result R Fault) → List R → List X → Result (List R) Fault
 rows_in next earlier [] = Ok earlier
-rows_in next earlier (d ∷ ds) = do
-  row ← next earlier d
-  rows_in next (earlier ++ row ∷ []) ds
+rows_in next earlier (x ∷ xs) = do
+  row ← next earlier x
+  rows_in next (earlier ++ row ∷ []) xs
 
 -- the store in a row
 unfoldable pub store_at : ℕ → Data → Result StoreRow Fault

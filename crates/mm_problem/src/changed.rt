@@ -14,17 +14,11 @@ impl Problem {
         ensures { IfOk result (λ problem. problem ≡ self.now) }
     {
         let rows = Vec::from_slice(alloc, self.rows.as_slice())?;
-        let windows = Vec::from_slice(alloc, self.windows.as_slice())?;
-        let arrived = Vec::from_slice(alloc, self.arrived.as_slice())?;
-        let limited = Vec::from_slice(alloc, self.limited.as_slice())?;
-        let step_limits = Vec::from_slice(alloc, self.step_limits.as_slice())?;
+        let steps = self.steps.copy(alloc)?;
         Ok(Problem {
             rows,
             limits: self.limits,
-            windows,
-            arrived,
-            limited,
-            step_limits,
+            steps,
         })
     }
 
@@ -36,7 +30,7 @@ impl Problem {
         ensures problem { IfOk result (λ problem. problem ≡ with_window self.now step blocks) }
     {
         let mut problem = self.copy(alloc)?;
-        problem.windows[step as usize - 1] = blocks;
+        problem.steps.windows[step as usize - 1] = blocks;
         Ok(problem)
     }
 
@@ -67,7 +61,7 @@ impl Problem {
         ensures problem { IfOk result (λ problem. problem ≡ with_column_limit self.now column step blocks) }
     {
         let mut problem = self.copy(alloc)?;
-        problem.step_limits[place(self.limited.len(), step, column)] = blocks;
+        problem.steps.step_limits[place(self.steps.limited.len(), step, column)] = blocks;
         Ok(problem)
     }
 

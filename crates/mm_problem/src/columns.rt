@@ -4,7 +4,7 @@ ghost use Rattle.std.specs.List.{list_all};
 ghost use Rattle.csv.specs.Records.{fields_of};
 ghost use Rattle.mm_base.specs.Reading.{Gives};
 ghost use Rattle.mm_base.specs.declared.limits.TheConstants.{MAX_STORES, CHANNELS};
-ghost use Rattle.mm_problem.specs.Forecast.{channel_in, channels_in, limited_in};
+ghost use Rattle.mm_problem.specs.Forecast.{channel_in, next_channel, channels_in, limited_in};
 ghost use Rattle.mm_problem.specs.declared.fault.Fault.TheVariants.{NoMemory};
 
 use crate::fault::Fault;
@@ -35,6 +35,16 @@ pub(crate) fn are_below(channels: &[u8], channel: u8) -> bool
     channels.iter().all(|below| *below < channel)
 }
 
+// The channel of the next column of limits, which is above these channels.
+#[tactic(auto, unfolding(crate::specs::Forecast::next_channel))]
+fn next_channel(earlier: &[u8], name: &[u8]) -> Result<u8, Fault>
+    ensures { Gives NoMemory (λ c. c) result (next_channel earlier.now name.now) }
+{
+    let channel = channel_in(name)?;
+    test(are_below(earlier, channel), Fault::Header)?;
+    Ok(channel)
+}
+
 // The channels of the columns from a place on, in rising order.
 fn channels_in(alloc: Global, row: &ByteRecord, first: usize) -> Result<Vec<u8>, Fault>
     requires { first ≤ length (fields_of row.now) }
@@ -43,8 +53,7 @@ fn channels_in(alloc: Global, row: &ByteRecord, first: usize) -> Result<Vec<u8>,
 {
     let mut channels = Vec::new(alloc);
     for i in first..row.len() {
-        let channel = channel_in(cell_of(row, i))?;
-        test(are_below(channels.as_slice(), channel), Fault::Header)?;
+        let channel = next_channel(channels.as_slice(), cell_of(row, i))?;
         channels.push(channel)?;
     }
     Ok(channels)

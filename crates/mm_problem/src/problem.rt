@@ -30,38 +30,18 @@ use std::marker::Model;
 pub struct Problem {
     pub(crate) rows: Vec<StoreRow>,
     pub(crate) limits: [Option<u32>; CHANNELS],
-    pub(crate) windows: Vec<u32>,
-    // step by step, and within a step in store order
-    pub(crate) arrived: Vec<u32>,
-    // the channels with a limit for each step, in rising order
-    pub(crate) limited: Vec<u8>,
-    // step by step, and within a step in the order of these channels
-    pub(crate) step_limits: Vec<u32>,
+    pub(crate) steps: StepTable,
 }
 
 impl Model for Problem {
-    ghost use Rattle.mm_base.specs.Id.{IsIdField};
     ghost use Rattle.mm_problem.specs.Dumping.{Dumping, IsDumping};
+    ghost use Rattle.mm_problem.specs.StepLists.{numbers_of};
 
     ghost Value = { Dumping };
 
-    ghost view = { λ a. record {
-      rows = a.rows.items;
-      limits = a.limits;
-      windows = a.windows.items;
-      arrived = a.arrived.items;
-      limited = a.limited.items;
-      step_limits = a.step_limits.items;
-    } };
+    ghost view = { λ a. numbers_of a.rows.items a.limits a.steps };
 
-    ghost invariant = { λ a. IsDumping (record {
-      rows = a.rows.items;
-      limits = a.limits;
-      windows = a.windows.items;
-      arrived = a.arrived.items;
-      limited = a.limited.items;
-      step_limits = a.step_limits.items;
-    }) };
+    ghost invariant = { λ a. IsDumping (numbers_of a.rows.items a.limits a.steps) };
 }
 
 // The place of the store with this identifier.
@@ -170,15 +150,11 @@ impl Problem {
         test_some_step(windows.len())?;
         let rows = Vec::from_slice(alloc, rows)?;
         let limits = limits_of(limits);
-        let windows = Vec::from_slice(alloc, windows)?;
-        let arrived = Vec::from_slice(alloc, arrivals)?;
+        let steps = StepTable::of(alloc, windows, arrivals, &[], &[])?;
         Ok(Problem {
             rows,
             limits,
-            windows,
-            arrived,
-            limited: Vec::new(alloc),
-            step_limits: Vec::new(alloc),
+            steps,
         })
     }
 
@@ -196,20 +172,15 @@ impl Problem {
         ensures problem { Gives NoMemory (λ problem. problem) result
             (limited_by self.now channels.now limits.now) }
     {
-        let steps = self.windows.as_slice();
-        test_step_limits(steps.len(), channels, limits)?;
+        let windows = self.steps.windows.as_slice();
+        test_step_limits(windows.len(), channels, limits)?;
         let rows = Vec::from_slice(alloc, self.rows.as_slice())?;
-        let windows = Vec::from_slice(alloc, steps)?;
-        let arrived = Vec::from_slice(alloc, self.arrived.as_slice())?;
-        let limited = Vec::from_slice(alloc, channels)?;
-        let step_limits = Vec::from_slice(alloc, limits)?;
+        let arrived = self.steps.arrived.as_slice();
+        let steps = StepTable::of(alloc, windows, arrived, channels, limits)?;
         Ok(Problem {
             rows,
             limits: self.limits,
-            windows,
-            arrived,
-            limited,
-            step_limits,
+            steps,
         })
     }
 
@@ -226,18 +197,15 @@ impl Problem {
         let fit = starts_fit(stores, starts);
         test(fit, Fault::Limit { name: Name::Start })?;
         let rows = rows_from(alloc, stores, starts)?;
-        let windows = Vec::from_slice(alloc, &self.windows[step as usize..])?;
-        let arrived = Vec::from_slice(alloc, later(&self.arrived, stores.len(), step))?;
-        let own = self.limited.as_slice();
-        let limited = Vec::from_slice(alloc, own)?;
-        let step_limits = Vec::from_slice(alloc, later(&self.step_limits, own.len(), step))?;
+        let own = self.steps.limited.as_slice();
+        let windows = &self.steps.windows[step as usize..];
+        let arrived = later(&self.steps.arrived, stores.len(), step);
+        let step_limits = later(&self.steps.step_limits, own.len(), step);
+        let steps = StepTable::of(alloc, windows, arrived, own, step_limits)?;
         Ok(Problem {
             rows,
             limits: self.limits,
-            windows,
-            arrived,
-            limited,
-            step_limits,
+            steps,
         })
     }
 
@@ -251,19 +219,10 @@ impl Problem {
         let steps = forecast_of(alloc, stores, text)?;
         let rows = Vec::from_slice(alloc, stores)?;
         let limits = limits_of(setup.limits());
-        let StepTable {
-            limited,
-            windows,
-            arrived,
-            step_limits,
-        } = steps;
         Ok(Problem {
             rows,
             limits,
-            windows,
-            arrived,
-            limited,
-            step_limits,
+            steps,
         })
     }
 
@@ -282,7 +241,7 @@ impl Problem {
         ensures steps { result ≡ length self.now.windows }
         ensures is_dumping { IsDumping self.now }
     {
-        self.windows.len() as u32
+        self.steps.windows.len() as u32
     }
 
     /// The number of virtual channels, 8.
@@ -363,7 +322,7 @@ impl Problem {
         ensures limit { result ≡ step_limit self.now channel step }
         ensures most { IfSome result (λ blocks. blocks ≤ MAX_BLOCKS) }
     {
-        let column = column_of(self.limited.as_slice(), channel)?;
+        let column = column_of(self.steps.limited.as_slice(), channel)?;
         Some(self.column_limit(column, step))
     }
 
@@ -391,7 +350,7 @@ impl Problem {
     pub fn limited(&self) -> &[u8]
         ensures channels { result.now ≡ self.now.limited }
     {
-        self.limited.as_slice()
+        self.steps.limited.as_slice()
     }
 
     /// The forecast's limit of a channel in a step, in blocks. The channel is given by its place in `limited`, from 0.
@@ -403,7 +362,7 @@ impl Problem {
         ensures limit { result ≡ column_limit self.now column step }
         ensures most { result ≤ MAX_BLOCKS }
     {
-        self.step_limits[place(self.limited.len(), step, column)]
+        self.steps.step_limits[place(self.steps.limited.len(), step, column)]
     }
 
     /// How many blocks arrive in a store in a step.
@@ -415,7 +374,7 @@ impl Problem {
         ensures arrivals { result ≡ arrivals self.now store step }
         ensures most { result ≤ MAX_BLOCKS }
     {
-        self.arrived[place(self.rows.len(), step, store)]
+        self.steps.arrived[place(self.rows.len(), step, store)]
     }
 
     /// How many blocks can leave all stores together in a step.
@@ -426,6 +385,6 @@ impl Problem {
         ensures window { result ≡ window self.now step }
         ensures most { result ≤ MAX_BLOCKS }
     {
-        self.windows[step as usize - 1]
+        self.steps.windows[step as usize - 1]
     }
 }

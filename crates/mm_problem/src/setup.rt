@@ -1,7 +1,8 @@
 //! The setup: packet stores, routes of the storage control, and limits of channels.
 ghost use Rattle.std.specs.Prelude.{◌≡◌};
 ghost use Rattle.mm_problem.specs.Arrays.{lists_of};
-ghost use Rattle.mm_problem.specs.Document.{AreCounted, rows_of, setup_of};
+ghost use Rattle.mm_problem.specs.Document.{AreCounted, rows_of, setup_in, setup_of};
+ghost use Rattle.toml.specs.View.{table_view};
 ghost use Rattle.mm_problem.specs.declared.fault.Fault.TheVariants.{NoMemory};
 ghost use Rattle.mm_base.specs.Reading.{Gives};
 ghost use Rattle.mm_problem.specs.Setup.{IsSetup};
@@ -12,6 +13,7 @@ use crate::rows::rows_of;
 use mm_base::{LimitRow, RouteRow, StoreRow};
 use std::alloc::Global;
 use std::marker::Model;
+use toml::Table;
 
 /// The setup of a mission. Contracts see its rows.
 #[derive(Debug, Drop)]
@@ -48,17 +50,25 @@ fn setup_of(alloc: Global, arrays: Arrays<'_>) -> Result<Setup, Fault>
     })
 }
 
+// The setup of a document.
+#[tactic(auto, unfolding(crate::specs::Document::setup_in))]
+fn setup_in(alloc: Global, document: &Table) -> Result<Setup, Fault>
+    ensures { Gives NoMemory (λ setup. setup) result (setup_in (table_view document.now)) }
+{
+    let arrays = arrays_at(document)?;
+    test_counts(arrays)?;
+    setup_of(alloc, arrays)
+}
+
 impl Setup {
     /// The setup of a TOML text. Otherwise the first fault of the text: 27 `SetupText`, 28 `SetupField` or 33 `Limit`;
     /// or 0 `NoMemory`.
-    #[tactic(auto, unfolding(crate::specs::Document::setup_of, crate::specs::Document::setup_in))]
+    #[tactic(auto, unfolding(crate::specs::Document::setup_of))]
     pub fn read(alloc: Global, text: &[u8]) -> Result<Setup, Fault>
         ensures setup { Gives NoMemory (λ setup. setup) result (setup_of text.now) }
     {
         let document = document_of(alloc, text)?;
-        let arrays = arrays_at(&document)?;
-        test_counts(arrays)?;
-        setup_of(alloc, arrays)
+        setup_in(alloc, &document)
     }
 
     /// The packet stores, in setup order.

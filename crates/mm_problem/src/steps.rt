@@ -17,16 +17,60 @@ use crate::reading::test;
 use crate::records::{next_record, reader_of};
 use csv::{ByteRecord, Reader};
 use mm_base::{MAX_STEPS, StoreRow};
-use std::alloc::Global;
+use std::alloc::{AllocError, Global};
 
-// The steps read so far: their windows, and step by step the arrivals and the limits of the channels that have a
-// column.
-#[derive(Drop)]
+// The windows of some steps, and step by step the arrivals and the limits of the channels that have a column.
+#[derive(Debug, Drop)]
 pub(crate) struct StepTable {
+    // the channels with a limit for each step, in rising order
     pub(crate) limited: Vec<u8>,
     pub(crate) windows: Vec<u32>,
+    // step by step, and within a step in store order
     pub(crate) arrived: Vec<u32>,
+    // step by step, and within a step in the order of the channels
     pub(crate) step_limits: Vec<u32>,
+}
+
+impl StepTable {
+    // The table of these numbers.
+    pub(crate) fn of(
+        alloc: Global,
+        windows: &[u32],
+        arrived: &[u32],
+        limited: &[u8],
+        step_limits: &[u32],
+    ) -> Result<StepTable, AllocError>
+        ensures steps { IfOk result (λ s. steps_of s ≡ (record {
+          limited = limited.now;
+          windows = windows.now;
+          arrived = arrived.now;
+          step_limits = step_limits.now;
+        })) }
+    {
+        let limited = Vec::from_slice(alloc, limited)?;
+        let windows = Vec::from_slice(alloc, windows)?;
+        let arrived = Vec::from_slice(alloc, arrived)?;
+        let step_limits = Vec::from_slice(alloc, step_limits)?;
+        Ok(StepTable {
+            limited,
+            windows,
+            arrived,
+            step_limits,
+        })
+    }
+
+    // A copy of the table.
+    pub(crate) fn copy(&self, alloc: Global) -> Result<StepTable, AllocError>
+        ensures { IfOk result (λ s. steps_of s ≡ steps_of self.now) }
+    {
+        StepTable::of(
+            alloc,
+            &self.windows,
+            &self.arrived,
+            &self.limited,
+            &self.step_limits,
+        )
+    }
 }
 
 // A cell of a record. Cells count from 0.
@@ -44,21 +88,21 @@ pub(crate) fn cell_of(row: &ByteRecord, i: usize) -> &[u8]
 fn amounts_of(
     number: u32,
     name: Name,
-    mut amounts: Vec<u32>,
+    amounts: &mut Vec<u32>,
     row: &ByteRecord,
     first: usize,
     count: usize,
-) -> Result<Vec<u32>, Fault>
+) -> Result<(), Fault>
     requires few { length (fields_of row.now) ≤ 2 + MAX_STORES + CHANNELS }
     requires cells { first + count ≤ length (fields_of row.now) }
-    ensures { Gives NoMemory (λ v. v.items) result
-        (amounts_in name number amounts.items (first + 1) (cells_from (fields_of row.now) first count)) }
+    ensures { Gives NoMemory (λ x. amounts.new.items) result
+        (amounts_in name number amounts.old.items (first + 1) (cells_from (fields_of row.now) first count)) }
 {
     for i in first..first + count {
         let amount = amount_of(number, i as u32 + 1, name, cell_of(row, i))?;
         amounts.push(amount)?;
     }
-    Ok(amounts)
+    Ok(())
 }
 
 // Tests that one more step may follow this number of steps.
@@ -80,35 +124,32 @@ pub(crate) fn test_some_step(steps: usize) -> Result<(), Fault>
 
 // Adds the step of the next record.
 #[tactic(auto, unfolding(crate::specs::Forecast::next_step))]
-fn next_step(stores: usize, steps: StepTable, row: &ByteRecord) -> Result<StepTable, Fault>
+fn next_step(stores: usize, steps: &mut StepTable, row: &ByteRecord) -> Result<(), Fault>
     requires stores { stores ≤ MAX_STORES }
-    requires limited { vec_len steps.limited ≤ CHANNELS }
-    ensures step { Gives NoMemory steps_of result (next_step stores (steps_of steps) (fields_of row.now)) }
-    ensures longer { IfOk result (λ s. vec_len s.windows ≡ vec_len steps.windows + 1) }
-    ensures most { IfOk result (λ s. vec_len s.windows ≤ MAX_STEPS) }
-    ensures limited { IfOk result (λ s. vec_len s.limited ≤ CHANNELS) }
+    requires limited { vec_len steps.old.limited ≤ CHANNELS }
+    ensures step { Gives NoMemory (λ x. steps_of steps.new) result
+        (next_step stores (steps_of steps.old) (fields_of row.now)) }
+    ensures longer { OnOk result (vec_len steps.new.windows ≡ vec_len steps.old.windows + 1) }
+    ensures most { OnOk result (vec_len steps.new.windows ≤ MAX_STEPS) }
+    ensures limited { OnOk result (vec_len steps.new.limited ≤ CHANNELS) }
 {
-    let StepTable {
-        limited,
-        mut windows,
-        arrived,
-        step_limits,
-    } = steps;
-    let columns = limited.len();
+    let columns = steps.limited.len();
     test(row.len() == 2 + stores + columns, Fault::ForecastText)?;
-    test_another_step(windows.len())?;
-    let number = windows.len() as u32 + 1;
+    test_another_step(steps.windows.len())?;
+    let number = steps.windows.len() as u32 + 1;
     test_step(number, cell_of(row, 0))?;
     let window = amount_of(number, 2, Name::Window, cell_of(row, 1))?;
-    let arrived = amounts_of(number, Name::Arrivals, arrived, row, 2, stores)?;
-    let step_limits = amounts_of(number, Name::Limit, step_limits, row, 2 + stores, columns)?;
-    windows.push(window)?;
-    Ok(StepTable {
-        limited,
-        windows,
-        arrived,
-        step_limits,
-    })
+    amounts_of(number, Name::Arrivals, &mut steps.arrived, row, 2, stores)?;
+    amounts_of(
+        number,
+        Name::Limit,
+        &mut steps.step_limits,
+        row,
+        2 + stores,
+        columns,
+    )?;
+    steps.windows.push(window)?;
+    Ok(())
 }
 
 // Whether the cells after the window name these stores.
@@ -189,7 +230,7 @@ fn read_steps(
         step_limits: Vec::new(alloc),
     };
     'rows: while next_record(reader, row)? {
-        steps = next_step(stores, steps, row)?;
+        next_step(stores, &mut steps, row)?;
     }
     some_steps(steps)
 }

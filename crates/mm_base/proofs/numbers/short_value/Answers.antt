@@ -4,16 +4,20 @@ use Rattle.mm_base.proofs.numbers.short_value.Goals as goal
 
 pub returns-then-not-is_ascii_digit : goal.returns-then-not-is_ascii_digit
 returns-then-not-is_ascii_digit c =
-    sym (no_digit c.loop-digit.number c.loop-digit.digit-index (get_or c.args.digits.now c.loop-digit.digit-index 0) c.args.digits.now c.loop-digit-test.true refl (sym c.is_ascii_digit.ensures.value ∙ c.if-not-is_ascii_digit.true)) ∙ c.loop-digit.invariant.left
+    sym (no_digit c.loop-digit.number c.loop-digit.digit-index
+    (get_or c.args.digits.now c.loop-digit.digit-index 0) c.args.digits.now c.loop-digit-test.true refl
+    (sym c.is_ascii_digit.ensures.value ∙ c.if-not-is_ascii_digit.true)) ∙ c.loop-digit.invariant.left
 
 pub overflow_mul-number : goal.overflow_mul-number
 overflow_mul-number c =
-    let room : c.loop-digit.number < 10 ^ 18 = has_room _ _ _ c.loop-digit.invariant.below c.loop-digit-test.true c.requires in
+    let room : c.loop-digit.number < 10 ^ 18 =
+    has_room _ _ _ c.loop-digit.invariant.below c.loop-digit-test.true c.requires in
     omega (arith, room)
 
 pub overflow_add-number : goal.overflow_add-number
 overflow_add-number c =
-    let room : c.loop-digit.number < 10 ^ 18 = has_room _ _ _ c.loop-digit.invariant.below c.loop-digit-test.true c.requires in
+    let room : c.loop-digit.number < 10 ^ 18 =
+    has_room _ _ _ c.loop-digit.invariant.below c.loop-digit-test.true c.requires in
     let small : c.from.result < 10 = grind arith in
     omega (arith, room, small)
 
@@ -21,11 +25,13 @@ pub loop-digit-preserved : goal.loop-digit-preserved
 loop-digit-preserved c =
     let small : c.from.result < 10 = grind arith in
     let is_digit = sym c.is_ascii_digit.ensures.value ∙ c.if-not-is_ascii_digit.false in
-    let more = digits_more c.loop-digit.number c.loop-digit.digit-index (get_or c.args.digits.now c.loop-digit.digit-index 0) c.args.digits.now c.loop-digit-test.true refl is_digit in
+    let more = digits_more c.loop-digit.number c.loop-digit.digit-index
+    (get_or c.args.digits.now c.loop-digit.digit-index 0) c.args.digits.now c.loop-digit-test.true refl is_digit in
     record {
       below = more_digits _ _ _ c.loop-digit.invariant.below small;
       left = rw c.from.ensures (sym more ∙ c.loop-digit.invariant.left);
     }
 
 pub returns : goal.returns
-returns c = sym (digits_all c.loop-digit.number c.loop-digit.digit-index c.args.digits.now (omega arith)) ∙ c.loop-digit.invariant.left
+returns c = sym (digits_all c.loop-digit.number c.loop-digit.digit-index c.args.digits.now (omega arith))
+    ∙ c.loop-digit.invariant.left

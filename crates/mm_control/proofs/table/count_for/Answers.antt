@@ -10,6 +10,7 @@ pub returns : goal.returns
 returns c =
     let rows = c.args.rows.now in
     let test = is_for c.args.apid c.args.service c.args.subtype in
-    let found = position_from_yields_List (λ (r : RouteRow). not (test r)) _ _ c.position.result c.position.ensures.ran (YieldsList-from_slice rows cc) (λ x b q k. search (rules, tests, of_calls)) in
+    let found = position_from_yields_List (λ (r : RouteRow). not (test r)) _ _ c.position.result c.position.ensures.ran
+    (YieldsList-from_slice rows cc) (λ x b q k. search (rules, tests, of_calls)) in
     let place = place_or_length test rows c.position.result found in
     search rules

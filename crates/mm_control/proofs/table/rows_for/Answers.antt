@@ -15,7 +15,9 @@ returns c =
     let subtype = c.args.subtype in
     let start = c.partition_point-start.result in
     let rest = take (length rows - start) (drop start rows) in
-    let rest_is : rest ≡ drop start rows = take_all (length rows - start) (drop start rows) (omega (arith, length-drop start rows)) in
-    let first = IsPartitionPoint-from_clause (λ (r : RouteRow). is_lt (type_cmp apid service subtype r)) rows start c.partition_point-start.ensures.partitioned
+    let rest_is : rest ≡ drop start rows =
+    take_all (length rows - start) (drop start rows) (omega (arith, length-drop start rows)) in
+    let first = IsPartitionPoint-from_clause (λ (r : RouteRow). is_lt (type_cmp apid service subtype r)) rows start
+    c.partition_point-start.ensures.partitioned
     (parted_before apid service subtype rows c.requires) (λ a r f' called. search (rules, of_calls)) in
     rw c.count_for.ensures (run_is apid service subtype rows rest start c.requires rest_is first)

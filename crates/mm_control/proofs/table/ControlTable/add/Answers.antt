@@ -15,8 +15,13 @@ invariant_of-self c =
     let grown = length-insert rows.items place c.args.row would.within in
     let room : length rows.items < MAX_ROUTES = omega (arith, table.at_most, rows.ok.0, c.len.ensures) in
     let larger : IsTable (insert rows.items place c.args.row) =
-    record { in_order = rw would.with at (IsInOrder-with_row c.args.row rows.items table.in_order); at_most = omega (arith, grown, room) } in
-    let items : c.insert.new.self.items ≡ insert rows.items place c.args.row = rw c.unwrap.ensures at c.insert.ensures.items in
+    record {
+      in_order = rw would.with at (IsInOrder-with_row c.args.row rows.items table.in_order);
+      at_most =
+          omega (arith, grown, room);
+    } in
+    let items : c.insert.new.self.items ≡ insert rows.items place c.args.row =
+    rw c.unwrap.ensures at c.insert.ensures.items in
     (rw items larger, omega (arith, c.self.invariant.1, c.insert.ensures.capacity))
 
 pub returns-in-Err-2-clause-grows : goal.returns-in-Err-2-clause-grows
@@ -24,5 +29,6 @@ returns-in-Err-2-clause-grows c =
     let rows = c.self.inside.rows in
     let place = c.in-Err.field-0 in
     let would = rw c.as_slice.ensures.value at c.in-Err.ensures.would_stand in
-    let items : c.insert.new.self.items ≡ insert rows.items place c.args.row = rw c.unwrap.ensures at c.insert.ensures.items in
+    let items : c.insert.new.self.items ≡ insert rows.items place c.args.row =
+    rw c.unwrap.ensures at c.insert.ensures.items in
     rw (← c.self.view_is) (rw items (omega (arith, length-insert rows.items place c.args.row would.within)))
