@@ -1,20 +1,8 @@
 -- The machine value of an open handle.
-use Rattle.std.proofs.Common.{List, [], ◌∷◌, refl}
-use seplogic.Ra.Ura.{Ura}
-use mir.Val.{Val, vptr, vstruct, vcons, vnil}
-use types.Logic.{Logic}
-use types.Kit.{Item, Goal, Step, step, ‵, ◌$◌, fjoin, fpack, feq_i}
-use denote.RattleType.{RattleType, Valss}
-use denote.Builtin.{RawPtr}
-use denote.RawPtr.{block_ptr, null_ptr, ptr_val}
-use denote.Steps.{nothing}
-use denote.Struct.Struct.{within}
-use denote.Struct.Owning.{shape}
-use Rattle.std.specs.Box.Ownership.{box_owns}
+use Rattle.mm_c.proofs.Words.{List, [], ◌∷◌, refl, Some, None, Ura, Val, vptr, vstruct, vcons, vnil, Logic, Item, Goal}
+use Rattle.mm_c.proofs.Words.{Step, step, ‵, ◌$◌, fjoin, fpack, feq_i, RattleType, Valss, RawPtr, block_ptr, null_ptr}
+use Rattle.mm_c.proofs.Words.{ptr_val, nothing, within, shape, box_owns, ghosts, Inner}
 use Rattle.std.specs.contracts.alloc.Global as global
-use Rattle.std.specs.contracts.impls.GlobalAllocator.TheImpl.{ghosts}
-use Rattle.std.specs.Prelude.{Some, None}
-use Rattle.mm_service.specs.contracts.service.Service.{the_row as Inner}
 use Rattle.mm_c.specs.contracts.handle.Loose as loose
 
 abbrev R : RattleType

@@ -1,20 +1,17 @@
 -- The list of what the stores lose in a plan: its places, and its sum.
-use Rattle.std.proofs.Common.{◌≡◌, ℕ, ◌-◌, ◌<◌, ◌≤◌, List, ◌++◌, length, get_or, sym, ap, ◌∙◌, inl, inr, arith}
 use Rattle.std.specs.Prelude.{map, sum, replicate}
+use Rattle.mm_c.proofs.Words.{◌≡◌, ℕ, ◌-◌, ◌<◌, ◌≤◌, List, ◌++◌, length, get_or, sym, ap, ◌∙◌, inl, inr, arith}
+use Rattle.mm_c.proofs.Words.{MAX_STORES, Table, amount, Amounts, store_loss, loss, losses_in, PlansWithLosses}
 use Rattle.std.proofs.lemmas.Bool.{cases_lt}
 use Rattle.std.proofs.lemmas.List.{ext_get_or, get_or_append_left, get_or-append_right, get_or-replicate, length-append}
 use Rattle.std.proofs.lemmas.List.{length-replicate, length-map}
 use Rattle.std.proofs.lemmas.List.Folds.{sum_by-replicate}
 use Rattle.std.proofs.lemmas.List.FromFn.{get_or-map-range_with_len, length-range_with_len}
 use Rattle.std.proofs.lemmas.List.Sums.{sum-map, sum_by-append}
-use Rattle.mm_base.specs.declared.limits.TheConstants.{MAX_STORES}
 use Rattle.mm_problem.specs.Dumping.{Dumping, stores}
 use Rattle.mm_problem.specs.Texts.{SaysProblem}
-use Rattle.mm_plan.specs.Table.{Table, amount}
-use Rattle.mm_plan.specs.Volumes.{Amounts, store_loss, loss}
 use Rattle.mm_planner.specs.PlanTexts.{IsPrintedFor}
 use Rattle.mm_planner.specs.declared.texts.PrintedPlan.{PrintedPlan}
-use Rattle.mm_c.specs.Losses.{losses_in, PlansWithLosses}
 
 -- a table is this list where its places have the losses of the stores, and then 0
 pub are_losses : (q : Dumping) (x : Amounts) (told : List ℕ) → length q.rows ≤ MAX_STORES → length told ≡ MAX_STORES

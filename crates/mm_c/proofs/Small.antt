@@ -1,10 +1,9 @@
 -- A call on an open handle whose buffer is too small.
-use Rattle.std.proofs.Common.{◌≡◌, ℕ, ◌<◌, List, length, refl, sym, inl, inr}
-use Rattle.std.specs.Prelude.{Option, Some, None, IsTrue, is_some}
+use Rattle.std.specs.Prelude.{IsTrue, is_some}
+use Rattle.mm_c.proofs.Words.{◌≡◌, ℕ, ◌<◌, List, length, refl, sym, inl, inr, Option, Some, None, Serving}
 use Rattle.std.proofs.lemmas.Bool.{false≢true}
 use Rattle.mm_service.specs.Applying.{Applies, RefusesRequest}
 use Rattle.mm_service.specs.declared.fault.Fault.{Fault}
-use Rattle.mm_service.specs.Serving.{Serving}
 use Rattle.mm_service.specs.declared.answers.TheConstants.{INSTRUCTIONS}
 use Rattle.mm_told.specs.Telling.{length_answer, refused_answer}
 use Rattle.mm_told.specs.declared.answer.Answer.{Answer}

@@ -1,11 +1,10 @@
 -- What is told of the fields of requests and of reports, by the definitions of `mm_service`.
-use Rattle.std.specs.Prelude.{◌≡◌, ◌≢◌, ◌⊎◌, ℕ, nat_le, if◌then◌else◌, List, length, Ok, Err}
+use Rattle.mm_c.specs.Words.{◌≡◌, ◌≢◌, ◌⊎◌, ℕ, nat_le, if◌then◌else◌, List, length, Ok, Err, Fault, NoMemory}
+use Rattle.mm_c.specs.Words.{length_answer, refused_answer, Answer, Written, TooSmall, Reason, Whole}
 use Rattle.mm_packet.specs.Packet.{SpacePacket}
 use Rattle.mm_st15.specs.declared.report.Report.{Report}
 use Rattle.mm_st15.specs.Report.{IsReport, SpellsReport}
 use Rattle.mm_service.specs.declared.entry_fields.EntryFields.{EntryFields}
-use Rattle.mm_service.specs.declared.fault.Fault.{Fault}
-use Rattle.mm_service.specs.declared.fault.Fault.TheVariants.{NoMemory}
 use Rattle.mm_service.specs.declared.instruction_fields.InstructionFields.{InstructionFields}
 use Rattle.mm_service.specs.declared.received.ReportFields.{ReportFields}
 use Rattle.mm_service.specs.declared.requesting.FieldsFault.{FieldsFault}
@@ -15,11 +14,6 @@ use Rattle.mm_service.specs.FieldsFault.{refusal_of}
 use Rattle.mm_service.specs.Reading.{said}
 use Rattle.mm_service.specs.Received.{report_alone, no_report, entries_told, Tells}
 use Rattle.mm_service.specs.Requesting.{MakesNone}
-use Rattle.mm_told.specs.Telling.{length_answer, refused_answer}
-use Rattle.mm_told.specs.declared.answer.Answer.{Answer}
-use Rattle.mm_told.specs.declared.answer.Status.TheVariants.{Written, TooSmall}
-use Rattle.mm_told.specs.declared.reason.Reason.{Reason}
-use Rattle.mm_told.specs.declared.spot.Spot.TheVariants.{Whole}
 use Rattle.mm_c.specs.Serving.{of_call}
 
 -- a fault of the fields of a request
@@ -32,7 +26,8 @@ IsWhyUnwritten f fields reason = (fault : FieldsFault) × MakesNone f fields fau
 
 -- the answer with these entries, for this many of them in the buffer
 abbrev pub entries_answer : List EntryFields → ℕ → Answer
-entries_answer entries room = length_answer (if nat_le (length entries) room then Written else TooSmall) (length entries)
+entries_answer entries room =
+    length_answer (if nat_le (length entries) room then Written else TooSmall) (length entries)
 
 -- the buffer with these entries at its head, or as it was where there is no room for all of them
 abbrev pub put_entries : List EntryFields → List EntryFields → List EntryFields
@@ -50,7 +45,8 @@ pub record ReadsAs (octets : List ℕ) (told : ReportFields) (old new : List Ent
   pub answered : answer ≡ entries_answer (entries_told report) (length old)
 
 -- no report is told: the octets fail a test, out of memory aside
-pub record IsUnread (octets : List ℕ) (told : ReportFields) (old new : List EntryFields) (answer : Answer) : Type 0 where
+pub record IsUnread (octets : List ℕ) (told : ReportFields) (old new : List EntryFields) (answer : Answer)
+    : Type 0 where
   pub fault : Fault
   pub why : fault ≢ NoMemory → said (report_alone octets) ≡ Err fault
   pub told_is : told ≡ no_report

@@ -1,10 +1,9 @@
 -- What the pointer of a handle owns.
-use Rattle.std.specs.Prelude.{Option, Some, None}
+use Rattle.mm_c.specs.Words.{Option, Some, None, Serving}
 use base.Fml.{Fml, ftrue}
 use denote.RawPtr.{Ptr}
 use mir.Syntax.{Ty}
 use Rattle.std.specs.Box.Ownership.{box_owns}
-use Rattle.mm_service.specs.Serving.{Serving}
 use Rattle.mm_service.specs.contracts.service.Service.{the_row}
 
 -- that of an open handle owns the box of a service, that of a closed one nothing

@@ -1,33 +1,25 @@
 -- What the calls on a memory tell, by the definitions of `mm_service`.
-use Rattle.std.specs.Prelude.{◌≡◌, ◌≢◌, ◌⊎◌, ◌<◌, ℕ, List, length, Option, Some, None, Result, Ok, Err}
+use Rattle.mm_c.specs.Words.{◌≡◌, ◌≢◌, ◌⊎◌, ◌<◌, ℕ, List, length, Option, Some, None, Result, Ok, Err, SetupFault}
+use Rattle.mm_c.specs.Words.{Fault, NoMemory, Serving, opened_of, after_refusal, of_setup, no_memory, length_answer}
+use Rattle.mm_c.specs.Words.{refused_answer, Answer, Written, TooSmall, Closed, Open, End, Reason, Whole}
 use Rattle.mm_packet.specs.declared.block.TheConstants.{BLOCK}
-use Rattle.mm_problem.specs.declared.fault.Fault.{Fault as SetupFault}
 use Rattle.mm_problem.specs.declared.fault.Fault.TheVariants.{NoMemory as NoSetupMemory}
 use Rattle.mm_service.specs.declared.answers.TheConstants.{INSTRUCTIONS}
-use Rattle.mm_service.specs.declared.fault.Fault.{Fault}
-use Rattle.mm_service.specs.declared.fault.Fault.TheVariants.{NoMemory}
 use Rattle.mm_service.specs.declared.offering.Fate.{Fate}
 use Rattle.mm_service.specs.declared.offering.Fate.TheVariants.{Kept, KeptOver, Lost}
 use Rattle.mm_memory.specs.declared.tally.Tally.{Tally}
 use Rattle.mm_service.specs.declared.giving.Given.{Given}
 use Rattle.mm_service.specs.declared.reporting.Reported.{Reported}
-use Rattle.mm_service.specs.declared.reporting.Reported.TheVariants as reported
 use Rattle.mm_service.specs.Applying.{Applies, RefusesRequest}
 use Rattle.mm_service.specs.Fault.{refusal_of}
 use Rattle.mm_service.specs.Giving.{GivesNext}
 use Rattle.mm_service.specs.Offering.{offered}
 use Rattle.mm_service.specs.Recording.{recorded}
 use Rattle.mm_service.specs.Reporting.{Reports}
-use Rattle.mm_service.specs.Serving.{Serving, opened_of, after_refusal}
-use Rattle.mm_told.specs.Reasons.{of_setup, no_memory}
-use Rattle.mm_told.specs.Telling.{length_answer, refused_answer}
-use Rattle.mm_told.specs.declared.answer.Answer.{Answer}
 use Rattle.mm_told.specs.declared.answer.Status.{Status}
-use Rattle.mm_told.specs.declared.answer.Status.TheVariants.{Written, TooSmall, Closed, Open, End}
-use Rattle.mm_told.specs.declared.reason.Reason.{Reason}
-use Rattle.mm_told.specs.declared.spot.Spot.TheVariants.{Whole}
 use Rattle.mm_c.specs.declared.memory.FateTold.{FateTold}
 use Rattle.mm_c.specs.declared.memory.TallyTold.{TallyTold}
+use Rattle.mm_service.specs.declared.reporting.Reported.TheVariants as reported
 
 -- the answer that a call ended so, with no text
 abbrev pub ended : Status → Answer
@@ -125,3 +117,7 @@ abbrev pub IsGiven : (id : List ℕ) → ℕ → List ℕ → List ℕ → Answe
 IsGiven id time old new answer s t =
     ((told : Result (Option Given) Fault) × GivesNext id told s t old new × IsGivenAs told time answer)
     ⊎ (LacksRoom BLOCK old new s t answer × (time ≡ 0))
+
+-- at most this many reports may wait from now on, and nothing else has changed
+abbrev pub Bounds : ℕ → Answer → Serving → Serving → Type 0
+Bounds reports answer s t = (t ≡ record s { bound = Some reports }) × (answer ≡ ended Written)

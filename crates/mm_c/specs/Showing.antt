@@ -1,25 +1,14 @@
 -- What is told of a store of a memory, and of the reports that wait, by the definitions of `mm_service`.
-use Rattle.std.specs.Prelude.{◌≡◌, ◌⊎◌, ℕ, List, length, Bool, if◌then◌else◌, Option, Some, None, Ok, Err}
-use Rattle.mm_base.specs.declared.kind.Kind.{Kind}
-use Rattle.mm_base.specs.declared.kind.Kind.TheVariants.{Circular, Bounded}
+use Rattle.mm_c.specs.Words.{◌≡◌, ◌⊎◌, ℕ, List, length, Bool, if◌then◌else◌, Option, Some, None, Ok, Err, Serving}
+use Rattle.mm_c.specs.Words.{Answer, Written}
+use Rattle.mm_base.specs.Kind.{code_of}
 use Rattle.mm_desk.specs.declared.state.Retrieval.{Retrieval}
 use Rattle.mm_service.specs.declared.showing.Shown.{Shown}
-use Rattle.mm_service.specs.Serving.{Serving}
+use Rattle.mm_memory.specs.Reports.{status_of}
 use Rattle.mm_service.specs.Showing.{shown_of}
-use Rattle.mm_told.specs.declared.answer.Answer.{Answer}
-use Rattle.mm_told.specs.declared.answer.Status.TheVariants.{Written}
 use Rattle.mm_c.specs.Serving.{ended, IsRefused}
 use Rattle.mm_c.specs.declared.showing.StoreTold.{StoreTold}
 use Rattle.mm_c.specs.declared.showing.TheConstants.{NO_KIND}
-
--- the code of a kind, as packets have it
-abbrev pub code_of_kind : Kind → ℕ
-code_of_kind Circular = 0
-code_of_kind Bounded = 1
-
--- the code of a switch
-abbrev pub code_of_switch : Bool → ℕ
-code_of_switch on = if on then 1 else 0
 
 -- what is told where there is no store
 abbrev pub no_store : StoreTold
@@ -47,10 +36,10 @@ with_retrieval told None = told
 -- what is told of a store
 abbrev pub store_told : Shown → StoreTold
 store_told s = with_retrieval (record no_store {
-  kind = code_of_kind s.kind;
+  kind = code_of s.kind;
   size = s.size;
   held = s.held;
-  storage = code_of_switch s.storage;
+  storage = status_of s.storage;
   offered = s.offered;
   lost = s.lost;
   deleted = s.deleted;

@@ -1,23 +1,18 @@
 -- What the calls tell, by the definitions of the crates that answer.
-use Rattle.std.specs.Prelude.{◌≡◌, ◌≢◌, ℕ, ⊤, List}
+use Rattle.mm_c.specs.Words.{◌≡◌, ◌≢◌, ℕ, ⊤, List, SetupFault, of_texts, of_setup, no_memory, Answer, TooSmall, Reason}
 use Rattle.mm_cut.specs.declared.verdict.Verdict.{Verdict}
 use Rattle.mm_cut.specs.declared.verdict.Verdict.TheVariants.{Least, LeastInOrder}
 use Rattle.mm_cut.specs.Checking.{Checks, LosesLeast, LosesLeastInOrder, IsFaultOf}
 use Rattle.mm_cut.specs.Lines.{line_of}
 use Rattle.mm_cut.specs.declared.fault.Fault.{Fault}
 use Rattle.mm_cut.specs.declared.fault.Fault.TheVariants.{NoMemory}
-use Rattle.mm_problem.specs.declared.fault.Fault.{Fault as SetupFault}
 use Rattle.mm_planner.specs.PlanTexts.{IsPlanningFault}
 use Rattle.mm_ask.specs.declared.answering.Outcome.{Outcome}
 use Rattle.mm_ask.specs.declared.answering.Outcome.TheVariants.{AllDone, SomeRefused}
 use Rattle.mm_ask.specs.Asking.{Answers, IsSetupFault}
 use Rattle.mm_ask.specs.Reads.{Reads}
-use Rattle.mm_told.specs.Reasons.{of_texts, of_setup, no_memory}
 use Rattle.mm_told.specs.Verdicts.{told_of, nothing_told}
 use Rattle.mm_told.specs.Telling.{code_of_status}
-use Rattle.mm_told.specs.declared.answer.Answer.{Answer}
-use Rattle.mm_told.specs.declared.answer.Status.TheVariants.{TooSmall}
-use Rattle.mm_told.specs.declared.reason.Reason.{Reason}
 use Rattle.mm_told.specs.declared.verdict.VerdictTold.{VerdictTold}
 
 -- it is the reason of a fault for which P holds, or out of memory, which may come at any time

@@ -1,8 +1,8 @@
-//! What C and Python call: texts in, and a text out, in a buffer of the caller's; and a memory with its storage service, behind a handle.
+//! What C and Python call: texts in, and a text out, in a buffer of the caller's; and a memory with its storage
+//! service, behind a handle.
 #![tactic(auto)]
 
 pub mod asking;
-pub mod bounding;
 pub mod fields;
 pub mod handle;
 pub mod hinting;

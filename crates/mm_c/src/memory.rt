@@ -1,12 +1,12 @@
 //! A memory with its storage service, behind a handle.
-ghost use Rattle.std.specs.Prelude.{◌≡◌, IsTrue, None};
+ghost use Rattle.std.specs.Prelude.{◌≡◌, ⊤, IsTrue, None};
 ghost use denote.RawPtr.{null_ptr};
 ghost use Rattle.mm_base.specs.Reading.{Gives};
 ghost use Rattle.mm_problem.specs.declared.fault.Fault.TheVariants.{NoMemory};
 ghost use Rattle.mm_service.specs.Serving.{opened_of};
 ghost use Rattle.mm_told.specs.Telling.{refused_answer};
 ghost use Rattle.mm_c.specs.Serving.{no_fate, fate_told, no_tally, tally_told, ended, of_call, Opens, OnOpen, Offers};
-ghost use Rattle.mm_c.specs.Serving.{Records, IsApplied, IsReported, IsGiven};
+ghost use Rattle.mm_c.specs.Serving.{Records, IsApplied, IsReported, IsGiven, Bounds};
 
 use crate::handle::MemoryHandle;
 use mm_base::Refused;
@@ -76,6 +76,19 @@ impl TallyTold {
     }
 }
 
+// What an open handle holds. A call on a closed one ends here, and is answered so.
+macro_rules! taken {
+    ($memory:ident, $alloc:ident, $answer:ident) => {{
+        if !$memory.is_open {
+            *$answer = ended(Status::Closed);
+            return;
+        }
+        $memory.take($alloc)
+    }};
+}
+
+pub(crate) use taken;
+
 // The answer that a call ended so, with no text.
 pub(crate) fn ended(status: Status) -> Answer
     ensures { result ≡ ended status }
@@ -142,11 +155,7 @@ pub extern "C" fn rudlayog_memory_offer(
         memory.old.loose.service memory.new.loose.service answer.new }
 {
     *fate = FateTold::nothing();
-    if !memory.is_open {
-        *answer = ended(Status::Closed);
-        return;
-    }
-    let mut service = memory.take(alloc);
+    let mut service = taken!(memory, alloc, answer);
     match service.offer(alloc, id, now, packet) {
         Ok(became) => {
             *fate = FateTold::of(became);
@@ -172,11 +181,7 @@ pub extern "C" fn rudlayog_memory_record(
         memory.old.loose.service memory.new.loose.service answer.new }
 {
     *tally = TallyTold::nothing();
-    if !memory.is_open {
-        *answer = ended(Status::Closed);
-        return;
-    }
-    let mut service = memory.take(alloc);
+    let mut service = taken!(memory, alloc, answer);
     match service.record(alloc, now, packet) {
         Ok(became) => {
             *tally = TallyTold::of(became);
@@ -228,11 +233,7 @@ pub extern "C" fn rudlayog_memory_report(
     ensures reported { OnOpen (IsReported out.old out.new answer.new) (out.new ≡ out.old)
         memory.old.loose.service memory.new.loose.service answer.new }
 {
-    if !memory.is_open {
-        *answer = ended(Status::Closed);
-        return;
-    }
-    let mut service = memory.take(alloc);
+    let mut service = taken!(memory, alloc, answer);
     *answer = match service.report(alloc, out) {
         Ok(Reported::Written(len)) => Answer::with_length(Status::Written, len),
         Ok(Reported::TooSmall(len)) => Answer::with_length(Status::TooSmall, len),
@@ -274,6 +275,23 @@ pub extern "C" fn rudlayog_memory_next(
         Ok(None) => *answer = ended(Status::End),
         Err(fault) => *answer = refused(fault),
     }
+    memory.put(service);
+}
+
+/// Sets how many reports may wait from now on, as `Service::bound_waiting` of `mm_service` does.
+#[unsafe(no_mangle)]
+pub extern "C" fn rudlayog_memory_bound(
+    alloc: Global,
+    memory: &mut MemoryHandle,
+    reports: u64,
+    answer: &mut Answer,
+)
+    ensures bounded { OnOpen (Bounds reports answer.new) ⊤
+        memory.old.loose.service memory.new.loose.service answer.new }
+{
+    let mut service = taken!(memory, alloc, answer);
+    service.bound_waiting(Some(reports as usize));
+    *answer = ended(Status::Written);
     memory.put(service);
 }
 

@@ -15,21 +15,9 @@ use mm_sensitivity::{sensitivity_bytes, worth_chart_bytes};
 use mm_told::{Answer, PLAN_ROOM, Reason, VerdictTold, plan_texts_fit, tell_text};
 use std::alloc::Global;
 
-// What is told of the plan for a setup and a forecast.
-fn plan_told(alloc: Global, setup: &[u8], forecast: &[u8], out: &mut [u8]) -> Answer
-    ensures told { Tells (PlansLeast setup.now forecast.now) (IsWhyUnplanned setup.now forecast.now) out.old out.new result }
-    ensures room { PLAN_ROOM ≤ length out.old → IsNotTooSmall result }
-{
-    plan_texts_fit();
-    match plan_bytes(alloc, setup, forecast) {
-        Ok(text) => tell_text(&text, out),
-        Err(fault) => Answer::refused(Reason::of_texts(fault)),
-    }
-}
-
-/// The text of a dump plan that loses least for a setup and a forecast, as `plan_bytes` of `mm_planner` gives it. It is written into
-/// `out`, if there is room for all of it; otherwise `out` stays as it was, and so it does where the call is refused. `PLAN_ROOM` octets
-/// are never too few.
+/// The text of a dump plan that loses least for a setup and a forecast, as `plan_bytes` of `mm_planner` gives it. It is
+/// written into `out`, if there is room for all of it; otherwise `out` stays as it was, and so it does where the call
+/// is refused. `PLAN_ROOM` octets are never too few.
 #[unsafe(no_mangle)]
 pub extern "C" fn rudlayog_plan(
     alloc: Global,
@@ -38,13 +26,19 @@ pub extern "C" fn rudlayog_plan(
     out: &mut [u8],
     answer: &mut Answer,
 )
-    ensures told { Tells (PlansLeast setup.now forecast.now) (IsWhyUnplanned setup.now forecast.now) out.old out.new answer.new }
+    ensures told { Tells (PlansLeast setup.now forecast.now) (IsWhyUnplanned setup.now forecast.now) out.old out.new
+        answer.new }
     ensures room { PLAN_ROOM ≤ length out.old → IsNotTooSmall answer.new }
 {
-    *answer = plan_told(alloc, setup, forecast, out);
+    plan_texts_fit();
+    *answer = match plan_bytes(alloc, setup, forecast) {
+        Ok(text) => tell_text(&text, out),
+        Err(fault) => Answer::refused(Reason::of_texts(fault)),
+    };
 }
 
-/// The text of a dump plan that serves the stores in the setup's order, as `plan_in_order_bytes` of `mm_planner` gives it.
+/// The text of a dump plan that serves the stores in the setup's order, as `plan_in_order_bytes` of `mm_planner` gives
+/// it.
 #[unsafe(no_mangle)]
 pub extern "C" fn rudlayog_plan_in_order(
     alloc: Global,
@@ -62,8 +56,8 @@ pub extern "C" fn rudlayog_plan_in_order(
     };
 }
 
-/// The verdict on a plan text for a setup and a forecast, as `check_bytes` of `mm_cut` gives it: in `verdict`, and as its line in
-/// `out`. Where the call is refused each field of `verdict` is 0.
+/// The verdict on a plan text for a setup and a forecast, as `check_bytes` of `mm_cut` gives it: in `verdict`, and as
+/// its line in `out`. Where the call is refused each field of `verdict` is 0.
 #[unsafe(no_mangle)]
 pub extern "C" fn rudlayog_check(
     alloc: Global,
@@ -89,8 +83,8 @@ pub extern "C" fn rudlayog_check(
     }
 }
 
-/// The chart of a plan text for a setup and a forecast, as `chart_bytes` of `mm_chart` draws it: a document of Scalable Vector Graphics
-/// (SVG) 1.1 by itself.
+/// The chart of a plan text for a setup and a forecast, as `chart_bytes` of `mm_chart` draws it: a document of Scalable
+/// Vector Graphics (SVG) 1.1 by itself.
 #[unsafe(no_mangle)]
 pub extern "C" fn rudlayog_chart(
     alloc: Global,
@@ -128,8 +122,8 @@ pub extern "C" fn rudlayog_chart_worth(
     };
 }
 
-/// The table of a plan text for a setup and a forecast, as `table_bytes` of `mm_chart` makes it: comma separated values, which say what each
-/// step does to each store.
+/// The table of a plan text for a setup and a forecast, as `table_bytes` of `mm_chart` makes it: comma separated
+/// values, which say what each step does to each store.
 #[unsafe(no_mangle)]
 pub extern "C" fn rudlayog_table(
     alloc: Global,
@@ -148,8 +142,8 @@ pub extern "C" fn rudlayog_table(
     };
 }
 
-/// What each window, store size and limit is worth for a setup and a forecast, as `sensitivity_bytes` of `mm_sensitivity` says it: comma
-/// separated values.
+/// What each window, store size and limit is worth for a setup and a forecast, as `sensitivity_bytes` of
+/// `mm_sensitivity` says it: comma separated values.
 #[unsafe(no_mangle)]
 pub extern "C" fn rudlayog_sensitivity(
     alloc: Global,
@@ -158,7 +152,8 @@ pub extern "C" fn rudlayog_sensitivity(
     out: &mut [u8],
     answer: &mut Answer,
 )
-    ensures told { Tells (IsWorthTable setup.now forecast.now) (IsWhyUnplanned setup.now forecast.now) out.old out.new answer.new }
+    ensures told { Tells (IsWorthTable setup.now forecast.now) (IsWhyUnplanned setup.now forecast.now) out.old out.new
+        answer.new }
 {
     *answer = match sensitivity_bytes(alloc, setup, forecast) {
         Ok(text) => tell_text(&text, out),

@@ -1,11 +1,13 @@
 //! What a store of a memory holds and has lost, how many reports wait, and how many packets were refused out of memory.
 ghost use Rattle.std.specs.Prelude.{◌≡◌};
+ghost use Rattle.mm_base.specs.Kind.{code_of};
+ghost use Rattle.mm_memory.specs.Reports.{status_of};
 ghost use Rattle.mm_c.specs.Serving.{OnOpen};
-ghost use Rattle.mm_c.specs.Showing.{code_of_kind, code_of_switch, no_store, with_retrieval, store_told, ShowsStore};
+ghost use Rattle.mm_c.specs.Showing.{no_store, with_retrieval, store_told, ShowsStore};
 ghost use Rattle.mm_c.specs.Showing.{ShowsWaiting, ShowsRefused};
 
 use crate::handle::MemoryHandle;
-use crate::memory::{ended, refused};
+use crate::memory::{ended, refused, taken};
 use mm_base::Kind;
 use mm_desk::Retrieval;
 use mm_service::Shown;
@@ -37,7 +39,7 @@ pub const NO_KIND: u32 = 255;
 
 // The code of a kind, as packets have it.
 fn code_of_kind(kind: Kind) -> u32
-    ensures { result ≡ code_of_kind kind }
+    ensures { result ≡ code_of kind }
 {
     match kind {
         Kind::Circular => 0,
@@ -47,7 +49,7 @@ fn code_of_kind(kind: Kind) -> u32
 
 // The code of a switch.
 fn code_of_switch(on: bool) -> u32
-    ensures { result ≡ code_of_switch on }
+    ensures { result ≡ status_of on }
 {
     if on { 1 } else { 0 }
 }
@@ -123,11 +125,7 @@ pub extern "C" fn rudlayog_memory_state(
         memory.old.loose.service memory.new.loose.service answer.new }
 {
     *state = StoreTold::nothing();
-    if !memory.is_open {
-        *answer = ended(Status::Closed);
-        return;
-    }
-    let service = memory.take(alloc);
+    let service = taken!(memory, alloc, answer);
     match service.show(id) {
         Ok(shown) => {
             *state = StoreTold::of(shown);
@@ -150,11 +148,7 @@ pub extern "C" fn rudlayog_memory_waiting(
         memory.old.loose.service memory.new.loose.service answer.new }
 {
     *reports = 0;
-    if !memory.is_open {
-        *answer = ended(Status::Closed);
-        return;
-    }
-    let service = memory.take(alloc);
+    let service = taken!(memory, alloc, answer);
     *reports = service.waiting() as u64;
     *answer = ended(Status::Written);
     memory.put(service);
@@ -172,11 +166,7 @@ pub extern "C" fn rudlayog_memory_refused(
         memory.old.loose.service memory.new.loose.service answer.new }
 {
     *packets = 0;
-    if !memory.is_open {
-        *answer = ended(Status::Closed);
-        return;
-    }
-    let service = memory.take(alloc);
+    let service = taken!(memory, alloc, answer);
     *packets = service.refused();
     *answer = ended(Status::Written);
     memory.put(service);

@@ -1,11 +1,8 @@
 -- The machine's reply to an event is of its sort.
-use Rattle.std.proofs.Common.{◌≢◌, refl}
-use Rattle.std.specs.Prelude.{Err}
-use Rattle.mm_desk.specs.Types.{Event, Offer, Begin, Next, Abort, Delete, NoMemory}
-use Rattle.mm_desk.specs.Answers.{Answers}
-use Rattle.mm_desk.specs.declared.reply.Reply.TheVariants as reply
-use Rattle.mm_desk.specs.Machine.{State, step}
+use Rattle.mm_desk.proofs.Words.{◌≢◌, refl, Err, Event, Offer, Begin, Next, Abort, Delete, NoMemory, Answers, State}
+use Rattle.mm_desk.proofs.Words.{step}
 use Rattle.mm_desk.proofs.Cases.{put_cases, begin_cases, next_cases, abort_cases, delete_cases}
+use Rattle.mm_desk.specs.declared.reply.Reply.TheVariants as reply
 
 -- the reply is of the event's sort
 pub step_answers : (s : State) (e : Event) → Answers e (step s e).0

@@ -1,14 +1,13 @@
 -- The ways that each call of the machine may go.
-use Rattle.std.proofs.Common.{◌≡◌, ◌≢◌, ℕ, ◌+◌, ◌<◌, ◌≤◌, List, [], ◌∷◌, length, Bool, true, false, ltb, max, refl, sym}
-use Rattle.std.proofs.Common.{subst, arith}
-use Rattle.std.specs.Prelude.{Option, Some, None, Result, Ok, Err, ◌==◌, ◌||◌, not, is_some}
-use Rattle.std.proofs.lemmas.Bool.{cond_both, or_parts, eqb-false, ne_eqb, ltb-true, ltb-false}
-use Rattle.mm_desk.specs.Types.{SpacePacket, Stored, Event, Offer, Begin, Next, Abort, Delete, Enable, Disable, Fault}
-use Rattle.mm_desk.specs.Types.{Disabled, Busy, Idle, BadRange, ClockEnd}
-use Rattle.mm_desk.specs.Types.{NoMemory, Offered, Kept, KeptOver, Lost, Returned, Retrieval, Kind, Bounded, Circular}
+use Rattle.mm_desk.proofs.Words.{◌≡◌, ◌≢◌, ℕ, ◌+◌, ◌<◌, ◌≤◌, List, [], ◌∷◌, length, Bool, true, false, ltb, max, refl}
+use Rattle.mm_desk.proofs.Words.{sym, subst, arith, Option, Some, None, Result, Ok, Err, ◌==◌, ◌||◌, not, is_some}
+use Rattle.mm_desk.proofs.Words.{cond_both, or_parts, eqb-false, ne_eqb, ltb-true, ltb-false, SpacePacket, Stored}
+use Rattle.mm_desk.proofs.Words.{Event, Offer, Begin, Next, Abort, Delete, NoMemory, Offered, KeptOver, Lost, Returned}
+use Rattle.mm_desk.proofs.Words.{Retrieval, Kind, Bounded, Circular, clock_end, put, put_full, with_newest, first_in}
+use Rattle.mm_desk.proofs.Words.{delete_up_to, count_up_to, State, answer_of, give, next_of, step}
+use Rattle.mm_desk.specs.Types.{Enable, Disable, Fault, Disabled, Busy, Idle, BadRange, ClockEnd, Kept}
+use Rattle.mm_desk.specs.Machine.{after_put, offer, begin, next, abort, delete}
 use Rattle.mm_store.specs.declared.put.Put.TheVariants as put
-use Rattle.mm_store.specs.Content.{clock_end, put, put_full, with_newest, first_in, delete_up_to, count_up_to}
-use Rattle.mm_desk.specs.Machine.{State, answer_of, after_put, offer, begin, give, next_of, next, abort, delete, step}
 
 -- an event is neither an offer nor a deletion
 abbrev pub IsQuiet : Event → Type 0

@@ -1,28 +1,18 @@
 -- What becomes of packets: one event first, then any list of them.
-use Rattle.std.proofs.Common.{◌≡◌, ℕ, ◌+◌, ◌<◌, ◌≤◌, Bool, true, ltb, leb, List, [], ◌∷◌, ◌++◌, length, filter, All}
-use Rattle.std.proofs.Common.{Contains, refl, arith, length-append, append_assoc, sym, ap, ◌∙◌, subst}
-use Rattle.std.specs.Prelude.{Option, Some, None, Result, IsPermutation, is_some}
-use Rattle.std.specs.List.{find}
-use Rattle.std.proofs.lemmas.Bool.{cond_both}
-use Rattle.std.proofs.lemmas.Bool.Decides.{nat_tests}
-use Rattle.std.proofs.lemmas.List.Sums.{length-filter}
-use Rattle.std.proofs.lemmas.List.{append-nil, map-append, length-map}
+use Rattle.mm_desk.proofs.Words.{◌≡◌, ℕ, ◌+◌, ◌<◌, ◌≤◌, Bool, true, ltb, leb, List, [], ◌∷◌, ◌++◌, length, filter, All}
+use Rattle.mm_desk.proofs.Words.{Contains, refl, arith, length-append, append_assoc, sym, ap, ◌∙◌, subst, Option, Some}
+use Rattle.mm_desk.proofs.Words.{None, Result, IsPermutation, is_some, find, cond_both, nat_tests, length-filter}
+use Rattle.mm_desk.proofs.Words.{append-nil, map-append, length-map, All-nil, All-cons, All-head, All-tail, All-append}
+use Rattle.mm_desk.proofs.Words.{All-weaker, All-contains, All-contains_itself, All-front, All-back, AllPairs-cons}
+use Rattle.mm_desk.proofs.Words.{SpacePacket, Stored, Event, Offer, Begin, Next, Abort, Delete, Offered, Returned}
+use Rattle.mm_desk.proofs.Words.{Retrieval, IsRising, is_in, kept_after, count_up_to, packets_of, left_out, found_in}
+use Rattle.mm_desk.proofs.Words.{given_up, deleted, given, over, after, State, step, AtEach, IsWithin}
 use Rattle.std.proofs.lemmas.List.Sorted.{IsPermutation-refl, IsPermutation-sym, IsPermutation-trans}
 use Rattle.std.proofs.lemmas.List.Sorted.{IsPermutation-to_front, IsPermutation-append_left, IsPermutation-append_right}
 use Rattle.std.proofs.lemmas.List.Sorted.{IsPermutation-append_comm, IsPermutation-filter_both, IsPermutation-map}
 use Rattle.std.proofs.lemmas.List.Sorted.{All-permutation}
-use Rattle.std.proofs.lemmas.List.Elements.{All-nil, All-cons, All-head, All-tail, All-append, All-weaker}
-use Rattle.std.proofs.lemmas.List.Elements.{All-contains, All-contains_itself}
 use Rattle.mm_base.proofs.Elements.{All-unmapped}
-use Rattle.mm_base.proofs.Pairs.{All-front, All-back}
-use Rattle.std.proofs.lemmas.List.Kept.{AllPairs-cons}
-use Rattle.mm_desk.specs.Types.{SpacePacket, Stored, Event, Offer, Begin, Next, Abort, Delete, Offered, Returned}
-use Rattle.mm_desk.specs.Types.{Retrieval}
-use Rattle.mm_store.specs.Content.{IsRising, is_in, kept_after, count_up_to}
-use Rattle.mm_desk.specs.Fates.{packets_of, accepted, left_out, found_in, taken, given_up, deleted, given, over, known}
-use Rattle.mm_desk.specs.Fates.{IsConserved, BeginsNone, after}
-use Rattle.mm_desk.specs.Machine.{State, step}
-use Rattle.mm_desk.specs.Retrievals.{AtEach, IsWithin}
+use Rattle.mm_desk.specs.Fates.{accepted, taken, known, IsConserved, BeginsNone}
 use Rattle.mm_desk.proofs.Cases.{offer_cases, put_cases, begin_cases, next_cases, abort_cases, delete_cases}
 use Rattle.mm_desk.proofs.Cases.{quiet_leaves}
 

@@ -1,13 +1,10 @@
 -- What offers leave and lose.
-use Rattle.std.proofs.Common.{ℕ, suc, ◌≤◌, List, [], ◌∷◌, length, subst, ap, arith, length-append, rules}
-use Rattle.std.proofs.lemmas.List.Elements.{All-head, All-tail}
-use Rattle.mm_desk.specs.Types.{Entry, Event, Offer}
-use Rattle.mm_desk.specs.declared.reply.Reply.TheVariants as reply
-use Rattle.mm_desk.specs.Machine.{State, step}
-use Rattle.mm_desk.specs.Offers.{IsTaken, AreTaken, IsShuffleOfEvents, Leaves, count_of}
-use Rattle.mm_desk.specs.Runs.{replay, IsLegal, IsRun}
+use Rattle.mm_desk.proofs.Words.{ℕ, suc, ◌≤◌, List, [], ◌∷◌, length, subst, ap, arith, length-append, rules, All-head}
+use Rattle.mm_desk.proofs.Words.{All-tail, Entry, Event, Offer, State, step, IsTaken, AreTaken, IsShuffleOfEvents}
+use Rattle.mm_desk.proofs.Words.{Leaves, count_of, replay, IsLegal, IsRun}
 use Rattle.mm_desk.proofs.Cases.{put_cases}
 use Rattle.mm_desk.proofs.Logs.{count_of_shuffle}
+use Rattle.mm_desk.specs.declared.reply.Reply.TheVariants as reply
 
 -- an event that is an offer taken leaves one packet more, or a full store
 event_leaves : (s : State) (event : Event) → length s.store.content ≤ s.store.size → 1 ≤ s.store.size

@@ -1,3 +1,4 @@
+pub mod Words
 pub mod Logs
 pub mod Shuffles
 pub mod Leaving

@@ -1,19 +1,11 @@
 -- What a store loses for room.
-use Rattle.std.proofs.Common.{◌≡◌, ◌≢◌, ℕ, ◌<◌, ◌≤◌, ltb, leb, List, [], ◌∷◌, ◌++◌, length, filter, All, Contains, refl}
-use Rattle.std.proofs.Common.{sym, ap, subst, ◌∙◌, arith}
-use Rattle.std.proofs.lemmas.List.{map-append}
-use Rattle.std.proofs.lemmas.List.Elements.{All-nil, All-cons, All-tail, All-append, All-contains, All-filter}
-use Rattle.std.proofs.lemmas.List.Elements.{All-weaker}
-use Rattle.std.proofs.lemmas.List.Elements.{filter_passes}
-use Rattle.std.proofs.lemmas.Bool.Decides.{nat_tests}
-use Rattle.mm_base.proofs.Pairs.{AllPairs-head, AllPairs-append}
-use Rattle.mm_store.specs.Content.{IsRising}
-use Rattle.std.specs.List.{flat_map}
-use Rattle.mm_desk.specs.Types.{Stored, Event, Offer, Delete, Bounded, Circular}
-use Rattle.mm_desk.specs.Fates.{packets_of, left_out, given, given_up, after, over}
+use Rattle.mm_desk.proofs.Words.{◌≡◌, ◌≢◌, ℕ, ◌<◌, ◌≤◌, ltb, leb, List, [], ◌∷◌, ◌++◌, length, filter, All, Contains}
+use Rattle.mm_desk.proofs.Words.{refl, sym, ap, subst, ◌∙◌, arith, map-append, All-nil, All-cons, All-tail, All-append}
+use Rattle.mm_desk.proofs.Words.{All-contains, All-filter, All-weaker, filter_passes, nat_tests, AllPairs-head}
+use Rattle.mm_desk.proofs.Words.{AllPairs-append, IsRising, flat_map, Stored, Event, Offer, Delete, Bounded, Circular}
+use Rattle.mm_desk.proofs.Words.{packets_of, left_out, given, given_up, after, over, State, IsState, step, oldest_over}
+use Rattle.mm_desk.proofs.Words.{overwritten}
 use Rattle.mm_desk.specs.Losses.{LosesNone, IsOlder, LosesNew, LosesOldest, taken_out, AreSettled}
-use Rattle.mm_desk.specs.Machine.{State, IsState, step}
-use Rattle.mm_desk.specs.Retrievals.{oldest_over, overwritten}
 use Rattle.mm_desk.proofs.Cases.{put_cases, delete_cases, quiet_leaves}
 use Rattle.mm_desk.proofs.FateLemmas.{gives_held, over-append}
 use Rattle.mm_desk.proofs.RetrievalLemmas.{IsOrdered, stays_ordered}

@@ -1,12 +1,10 @@
 -- The place of the one store with an identifier, and stores with the same identifiers.
-use Rattle.std.proofs.Common.{◌≡◌, ◌≢◌, ◌⊎◌, inl, inr, ℕ, ◌<◌, ◌≤◌, Bool, true, false, cond, ltb, List, [], ◌∷◌, length}
-use Rattle.std.proofs.Common.{get_or, refl, sym, subst, ap, ◌∙◌, length-set, get_or-set_same, get_or-set_other, arith}
-use Rattle.std.specs.Prelude.{bytes_eq, if◌then◌else◌, slice_get, Option, Some, None, MatchOption, IfSome, AllPairs}
-use Rattle.std.specs.List.{position_or_len, find}
+use Rattle.mm_desk.proofs.Words.{◌≡◌, ◌≢◌, ◌⊎◌, inl, inr, ℕ, ◌<◌, ◌≤◌, Bool, true, false, cond, ltb, List, [], ◌∷◌}
+use Rattle.mm_desk.proofs.Words.{length, get_or, refl, sym, subst, ap, ◌∙◌, length-set, get_or-set_same}
+use Rattle.mm_desk.proofs.Words.{get_or-set_other, arith, bytes_eq, if◌then◌else◌, slice_get, Option, Some, None}
+use Rattle.mm_desk.proofs.Words.{MatchOption, IfSome, AllPairs, position_or_len, find, cases_order, nat_tests}
+use Rattle.mm_desk.proofs.Words.{get_or-map, length-map, same_lists}
 use Rattle.std.proofs.Math.ListN.{set}
-use Rattle.std.proofs.lemmas.Bool.{cases_order}
-use Rattle.std.proofs.lemmas.Bool.Decides.{nat_tests}
-use Rattle.std.proofs.lemmas.List.{get_or-map, length-map, same_lists}
 use Rattle.std.proofs.lemmas.List.Folds.{find_at}
 use Rattle.std.proofs.lemmas.Option.{slice_get_past, get_or_from_slice_get, same_Some}
 use Rattle.std.proofs.lemmas.Slice.Eq.{bytes_eq-Decides}
@@ -130,6 +128,7 @@ AreHeld-same_ids a b same held =
           let i_in : i < length a = omega arith in
           let i_out : i < length b = omega arith in
           let first = sym (id_at a i d i_in) ∙ ap (λ (ids : List (List ℕ)). get_or ids i []) same ∙ id_at b i d i_out in
-          let second = sym (id_at a j d j_in) ∙ ap (λ (ids : List (List ℕ)). get_or ids j []) same ∙ id_at b j d within in
+          let second = sym (id_at a j d j_in) ∙ ap (λ (ids : List (List ℕ)). get_or ids j []) same
+          ∙ id_at b j d within in
           λ alike. held.named i j d less j_in (first ∙ alike ∙ sym second);
     }

@@ -1,20 +1,13 @@
 -- What a retrieval gives from its begin to its end.
-use Rattle.std.proofs.Common.{◌≡◌, ◌⊎◌, inl, inr, ℕ, ◌<◌, ◌≤◌, Bool, true, false, List, [], ◌∷◌, ◌++◌, All, Contains}
-use Rattle.std.proofs.Common.{refl, sym, subst, arith}
-use Rattle.std.specs.Prelude.{Option, Some, None, Ok, is_some}
-use Rattle.std.specs.List.{find}
-use Rattle.std.proofs.lemmas.Bool.{cond_both}
-use Rattle.std.proofs.lemmas.Bool.Decides.{nat_tests}
-use Rattle.std.proofs.lemmas.List.Elements.{All-nil, All-cons, All-head, All-tail, All-append, All-filter, All-weaker}
-use Rattle.std.proofs.lemmas.List.Elements.{All-contains_itself}
-use Rattle.std.proofs.lemmas.List.Kept.{AllPairs-filter}
+use Rattle.mm_desk.proofs.Words.{◌≡◌, ◌⊎◌, inl, inr, ℕ, ◌<◌, ◌≤◌, Bool, true, false, List, [], ◌∷◌, ◌++◌, All, Contains}
+use Rattle.mm_desk.proofs.Words.{refl, sym, subst, arith, Option, Some, None, Ok, is_some, find, cond_both, nat_tests}
+use Rattle.mm_desk.proofs.Words.{All-nil, All-cons, All-head, All-tail, All-append, All-filter, All-weaker}
+use Rattle.mm_desk.proofs.Words.{All-contains_itself, AllPairs-filter, All-front, All-back, AllPairs-head}
+use Rattle.mm_desk.proofs.Words.{AllPairs-tail, Store, IsRising, is_in, with_newest, Stored, Event, Offer, Begin, Next}
+use Rattle.mm_desk.proofs.Words.{Abort, Delete, KeptOver, Retrieval, found_in, given, deleted, after, over, State}
+use Rattle.mm_desk.proofs.Words.{IsState, give, next_of, step, oldest_over, overwritten, AtEach, IsWithin}
 use Rattle.std.proofs.lemmas.List.Quantifiers.{all_pairs_push}
-use Rattle.mm_base.proofs.Pairs.{All-front, All-back, AllPairs-head, AllPairs-tail}
-use Rattle.mm_store.specs.Content.{Store, IsRising, is_in, with_newest}
-use Rattle.mm_desk.specs.Types.{Stored, Event, Offer, Begin, Next, Abort, Delete, KeptOver, Retrieval}
-use Rattle.mm_desk.specs.Fates.{found_in, given, deleted, after, over}
-use Rattle.mm_desk.specs.Machine.{State, IsState, give, next_of, step}
-use Rattle.mm_desk.specs.Retrievals.{oldest_over, overwritten, AtEach, IsOn, IsBegun, AbortsNone, IsWithin, GivesRange}
+use Rattle.mm_desk.specs.Retrievals.{IsOn, IsBegun, AbortsNone, GivesRange}
 use Rattle.mm_desk.proofs.Cases.{put_cases, begin_cases, delete_cases, quiet_leaves}
 use Rattle.mm_desk.proofs.FateLemmas.{gives_held, Above, Continues, rises}
 

@@ -1,9 +1,7 @@
 -- The part of a seat in what is left of a log.
-use Rattle.std.proofs.Common.{◌≡◌, ◌↔◌, ℕ, ◌≤◌, true, eqb, List, length, drop, sym, ap, ◌∙◌, arith}
-use Rattle.std.proofs.lemmas.Bool.{eq-eqb, eqb-true}
-use Rattle.std.proofs.lemmas.List.{drop_all, length-drop}
+use Rattle.mm_desk.proofs.Words.{◌≡◌, ◌↔◌, ℕ, ◌≤◌, true, eqb, List, length, drop, sym, ap, ◌∙◌, arith, eq-eqb, eqb-true}
+use Rattle.mm_desk.proofs.Words.{drop_all, length-drop, part}
 use Rattle.mm_desk.specs.declared.entry.Entry.{Entry}
-use Rattle.mm_desk.specs.Shuffles.{part}
 
 -- at the end of a log no entry is left, so a list is the seat's part exactly if all its entries were met
 pub all_met : (seat : ℕ) (log list : List Entry) (i met : ℕ) → length log ≤ i → met ≤ length list

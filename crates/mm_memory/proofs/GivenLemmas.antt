@@ -1,30 +1,21 @@
 -- What retrievals give was held or kept, and comes in order.
-use Rattle.std.proofs.Common.{◌≡◌, inl, inr, ℕ, Bool, List, [], ◌∷◌, ◌++◌, All, Contains, refl, sym}
-use Rattle.std.proofs.Common.{ap, subst, ◌∙◌, arith, append_assoc}
-use Rattle.std.specs.Prelude.{map, bytes_eq, Option, Some, None, Ok, Err}
-use Rattle.std.proofs.lemmas.Bool.{cond_both}
-use Rattle.std.proofs.lemmas.List.Elements.{All-nil, All-cons, All-head, All-tail, All-append, All-filter, All-weaker}
-use Rattle.std.proofs.lemmas.List.Elements.{All-contains, All-contains_itself}
+use Rattle.mm_memory.proofs.Words.{◌≡◌, inl, inr, ℕ, Bool, List, [], ◌∷◌, ◌++◌, All, Contains, refl, sym, ap, subst}
+use Rattle.mm_memory.proofs.Words.{◌∙◌, arith, append_assoc, map, bytes_eq, Option, Some, None, Ok, Err, cond_both}
+use Rattle.mm_memory.proofs.Words.{All-nil, All-cons, All-head, All-tail, All-append, All-filter, All-weaker}
+use Rattle.mm_memory.proofs.Words.{All-contains, All-contains_itself, SpacePacket, Event, Retrieval, given, after, over}
+use Rattle.mm_memory.proofs.Words.{BeginsNone, State, step, gives_held, Above, MayGive, at_end, by_calls, continues}
+use Rattle.mm_memory.proofs.Words.{Holdings, state_of, Parsed, is_routed}
 use Rattle.std.proofs.lemmas.Slice.Eq.{bytes_eq-Decides}
 use Rattle.mm_base.proofs.Pairs.{All-front, All-back}
-use Rattle.mm_packet.specs.Packet.{SpacePacket}
 use Rattle.mm_store.specs.declared.stored.Stored.{Stored}
 use Rattle.mm_store.specs.Content.{IsRising}
-use Rattle.mm_desk.specs.declared.event.Event.{Event}
-use Rattle.mm_desk.specs.declared.event.Event.TheVariants as event
-use Rattle.mm_desk.specs.declared.state.Retrieval.{Retrieval}
-use Rattle.mm_desk.specs.Fates.{given, after, over, BeginsNone}
-use Rattle.mm_desk.specs.Machine.{State, step}
 use Rattle.mm_desk.proofs.Cases.{put_cases, delete_cases, quiet_leaves}
-use Rattle.mm_desk.proofs.FateLemmas.{gives_held, Above, MayGive, at_end, by_calls, continues}
 use Rattle.mm_memory.specs.Accounts.{Call, records, asks, applies, Turn, AreTurns, after_turns, calls_of, kept_by, kept}
 use Rattle.mm_memory.specs.Accounts.{in_store, in_turns, held_in, events_of, events_in, removes_in, kept_in, given_by}
 use Rattle.mm_memory.specs.Accounts.{BeginsNoneIn}
-use Rattle.mm_memory.specs.Holdings.{Holdings, state_of}
-use Rattle.mm_memory.specs.Instruction.{Parsed}
-use Rattle.mm_memory.specs.Recording.{is_routed}
 use Rattle.mm_memory.proofs.RetrievalLemmas.{IsCommand, by_action}
 use Rattle.mm_memory.proofs.TurnLemmas.{Becomes, becomes}
+use Rattle.mm_desk.specs.declared.event.Event.TheVariants as event
 
 module _ (P : Stored → Type 0) where
   -- what an event gives, and what it leaves

@@ -1,12 +1,8 @@
 -- The stores of a setup, opened, are those of a memory.
-use Rattle.std.proofs.Common.{ℕ, ◌<◌, List, length, arith}
-use Rattle.std.specs.Prelude.{map}
-use Rattle.std.specs.List.{AllPairs}
-use Rattle.std.proofs.lemmas.List.{get_or-map, length-map}
+use Rattle.mm_memory.proofs.Words.{ℕ, ◌<◌, List, length, arith, map, AllPairs, get_or-map, length-map, Held, AreHeld}
+use Rattle.mm_memory.proofs.Words.{HaveOtherIds, opened}
 use Rattle.mm_base.specs.declared.rows.StoreRow.{StoreRow}
 use Rattle.mm_problem.specs.Setup.{AreStores}
-use Rattle.mm_desk.specs.declared.held.Held.{Held}
-use Rattle.mm_memory.specs.Holdings.{AreHeld, HaveOtherIds, opened}
 
 pub AreHeld-opened : (rows : List StoreRow) → AreStores rows → AreHeld (map opened rows)
 AreHeld-opened rows sound = record {
@@ -21,4 +17,5 @@ AreHeld-opened rows sound = record {
     named = λ i j d less within.
         let inside : j < length rows = omega (arith, length-map rows opened) in
         let before : i < length rows = omega arith in
-        rw (get_or-map opened rows i (row_at i d) d before, get_or-map opened rows j (row_at i d) d inside) (sound.named i j (row_at i d) less inside)
+        rw (get_or-map opened rows i (row_at i d) d before, get_or-map opened rows j (row_at i d) d inside)
+        (sound.named i j (row_at i d) less inside)

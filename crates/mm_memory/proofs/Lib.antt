@@ -1,3 +1,4 @@
+pub mod Words
 pub mod HoldingLemmas
 pub mod ApplyLemmas
 pub mod ReportLemmas

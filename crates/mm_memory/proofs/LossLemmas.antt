@@ -1,18 +1,11 @@
 -- What a store of a memory loses for room in a turn.
-use Rattle.std.proofs.Common.{◌≡◌, ◌≢◌, inl, inr, ℕ, ◌≤◌, Bool, List, [], ◌∷◌, ◌++◌, length, All, refl, ap, subst, ◌∙◌}
-use Rattle.std.specs.Prelude.{Option, Some, None}
-use Rattle.std.proofs.lemmas.List.{append-nil}
-use Rattle.std.proofs.lemmas.List.Elements.{All-nil}
+use Rattle.mm_memory.proofs.Words.{◌≡◌, ◌≢◌, inl, inr, ℕ, ◌≤◌, Bool, List, [], ◌∷◌, ◌++◌, length, All, refl, ap, subst}
+use Rattle.mm_memory.proofs.Words.{◌∙◌, Option, Some, None, append-nil, All-nil, Event, given_up, after, over, State}
+use Rattle.mm_memory.proofs.Words.{IsState, step, AtEach, overwritten, Holdings, state_of, AtEachTurn, HasState}
 use Rattle.mm_base.specs.declared.kind.Kind.TheVariants.{Circular, Bounded}
-use Rattle.mm_desk.specs.declared.event.Event.{Event}
-use Rattle.mm_desk.specs.Fates.{given_up, after, over}
 use Rattle.mm_desk.specs.Losses.{LosesNone, IsOlder, BoundedLoseNew, CircularLoseOldest}
-use Rattle.mm_desk.specs.Machine.{State, IsState, step}
-use Rattle.mm_desk.specs.Retrievals.{AtEach, overwritten}
 use Rattle.mm_memory.specs.Accounts.{Turn, AreTurns, MayLeave, in_store, events_in, removes_in}
-use Rattle.mm_memory.specs.Holdings.{Holdings, state_of}
 use Rattle.mm_memory.specs.Losses.{LosesNewIn, LosesOldestIn, LosesInTurn}
-use Rattle.mm_memory.specs.Retrievals.{AtEachTurn, HasState}
 use Rattle.mm_memory.proofs.RetrievalLemmas.{IsOne, call_asks}
 use Rattle.mm_memory.proofs.TurnLemmas.{Becomes, becomes}
 

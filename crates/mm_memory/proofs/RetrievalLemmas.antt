@@ -1,28 +1,16 @@
 -- What a retrieval from a store of a memory gives: over turns while it is on, the store goes on by events alone.
-use Rattle.std.proofs.Common.{◌≡◌, inl, inr, ℕ, Bool, true, false, not, List, [], ◌∷◌, ◌++◌, All, Contains}
-use Rattle.std.proofs.Common.{refl, sym, ap, subst, ◌∙◌}
-use Rattle.std.specs.Prelude.{bytes_eq, Option, Some, None, Ok, Err, is_some}
-use Rattle.std.proofs.lemmas.Bool.{cond_both, and_right}
-use Rattle.std.proofs.lemmas.List.{append-nil}
-use Rattle.std.proofs.lemmas.List.Elements.{All-nil, All-append}
-use Rattle.mm_desk.specs.declared.event.Event.{Event}
-use Rattle.mm_desk.specs.declared.event.Event.TheVariants as event
-use Rattle.mm_desk.specs.declared.fault.Fault.{Fault as StateFault}
-use Rattle.mm_desk.specs.Fates.{deleted, given, after, over}
-use Rattle.mm_desk.specs.Machine.{State, IsState, step}
-use Rattle.mm_desk.specs.Rest.{rest_fault}
-use Rattle.mm_desk.specs.Retrievals.{overwritten, AtEach, IsOn, IsBegun, AbortsNone, AreGiven, RetrievalsGiveRanges}
-use Rattle.mm_desk.proofs.FateLemmas.{gives_held, over-append}
-use Rattle.mm_memory.specs.declared.instruction.Action.{Action}
-use Rattle.mm_memory.specs.declared.instruction.Action.TheVariants.{Delete, Change as Changes}
+use Rattle.mm_memory.proofs.Words.{◌≡◌, inl, inr, ℕ, Bool, true, false, not, List, [], ◌∷◌, ◌++◌, All, Contains, refl}
+use Rattle.mm_memory.proofs.Words.{sym, ap, subst, ◌∙◌, bytes_eq, Option, Some, None, Ok, Err, is_some, cond_both}
+use Rattle.mm_memory.proofs.Words.{and_right, append-nil, All-nil, All-append, Event, StateFault, deleted, given, after}
+use Rattle.mm_memory.proofs.Words.{over, State, IsState, step, rest_fault, overwritten, AtEach, gives_held, over-append}
+use Rattle.mm_memory.proofs.Words.{Action, Delete, Changes, Holdings, state_of, is_routed, AtEachTurn, HasState}
+use Rattle.mm_desk.specs.Retrievals.{IsOn, IsBegun, AbortsNone, AreGiven, RetrievalsGiveRanges}
 use Rattle.mm_memory.specs.declared.instruction.StoreChange.TheVariants.{Enable, Disable, Begin, Abort, DeleteContent}
 use Rattle.mm_memory.specs.Accounts.{Call, records, asks, applies, Turn, AreTurns, after_turns, events_of, events_in}
 use Rattle.mm_memory.specs.Accounts.{removes, removes_in, deleted_by, given_by, in_store, in_turns, held_in}
-use Rattle.mm_memory.specs.Holdings.{Holdings, state_of}
-use Rattle.mm_memory.specs.Recording.{is_routed}
-use Rattle.mm_memory.specs.Retrievals.{AtEachTurn, HasState, IsOnIn, AbortsNoneIn, GivesHeldIn, overwritten_by}
-use Rattle.mm_memory.specs.Retrievals.{GivesRangeIn}
+use Rattle.mm_memory.specs.Retrievals.{IsOnIn, AbortsNoneIn, GivesHeldIn, overwritten_by, GivesRangeIn}
 use Rattle.mm_memory.proofs.TurnLemmas.{Becomes, becomes}
+use Rattle.mm_desk.specs.declared.event.Event.TheVariants as event
 
 -- a call asks at most one event of a store
 abbrev pub IsOne : List Event → Type 0

@@ -1,25 +1,16 @@
 -- The stores that a packet is routed to are those to which a row of its report type leads.
-use Rattle.std.proofs.Common.{◌≡◌, suc, ℕ, ◌+◌, add-zero, Bool, true, false, not, cond, nat_lt, ◌&&◌, ◌||◌, List, []}
-use Rattle.std.proofs.Common.{◌∷◌, ◌++◌, take, drop, Some, None, refl, sym, ap, ◌∙◌, arith}
-use Rattle.std.specs.Prelude.{if◌then◌else◌, ◌==◌, length}
-use Rattle.std.proofs.lemmas.Bool.{eqb-true}
-use Rattle.std.proofs.lemmas.List.{nil_from_length}
+use Rattle.mm_memory.proofs.Words.{◌≡◌, suc, ℕ, ◌+◌, add-zero, Bool, true, false, not, cond, nat_lt, ◌&&◌, ◌||◌, List}
+use Rattle.mm_memory.proofs.Words.{[], ◌∷◌, ◌++◌, take, drop, refl, sym, ap, ◌∙◌, arith, length, if◌then◌else◌, ◌==◌}
+use Rattle.mm_memory.proofs.Words.{Some, None, eqb-true, nil_from_length, prefix_len-le-length, filter, list_any}
+use Rattle.mm_memory.proofs.Words.{position, position_or_len, unwrap_or, RouteRow, SpacePacket, is_for, is_to, Held}
+use Rattle.mm_memory.proofs.Words.{Holdings, is_routed, packet_for, after_offers, after_offer, tally_over, after_record}
+use Rattle.mm_memory.proofs.Words.{rows_for, leads_to, packet_along, passed}
 use Rattle.std.proofs.lemmas.Bool.Decides.{nat_tests}
-use Rattle.std.proofs.lemmas.List.Sums.{prefix_len-le-length}
-use Rattle.std.specs.List.{filter, list_any, position, position_or_len}
-use Rattle.std.specs.Option.{unwrap_or}
-use Rattle.mm_base.specs.declared.rows.RouteRow.{RouteRow}
 use Rattle.mm_packet.specs.declared.header.PacketType.{PacketType}
 use Rattle.mm_packet.specs.declared.header.PacketType.TheVariants.{Telecommand, Telemetry}
-use Rattle.mm_packet.specs.Packet.{SpacePacket}
-use Rattle.mm_control.specs.Routes.{is_for, is_to}
-use Rattle.mm_desk.specs.declared.held.Held.{Held}
 use Rattle.mm_memory.specs.declared.tally.Tally.{Tally}
 use Rattle.mm_memory.specs.Tallies.{nothing, plus}
-use Rattle.mm_memory.specs.Holdings.{Holdings}
-use Rattle.mm_memory.specs.Recording.{is_routed, packet_for, after_offers, after_offer, tally_over, tally_in}
-use Rattle.mm_memory.specs.Recording.{after_record, tally_after}
-use Rattle.mm_memory.specs.Routing.{rows_for, leads_to, packet_along, passed}
+use Rattle.mm_memory.specs.Recording.{tally_in, tally_after}
 
 -- an element passes two tests where one that passes the first passes the second
 any-both : {X : Type 0} (p q : X → Bool) (xs : List X) → list_any (λ x. p x && q x) xs ≡ list_any q (filter p xs)

@@ -1,102 +1,82 @@
 -- What a turn leaves of the store with an identifier.
-use Rattle.std.proofs.Common.{◌≡◌, ◌⊎◌, inl, inr, ℕ, Bool, true, false, cond, not, ◌&&◌, List, [], ◌∷◌, ◌++◌, refl, sym}
-use Rattle.std.proofs.Common.{ap, subst, ◌∙◌}
-use Rattle.std.specs.Prelude.{if◌then◌else◌, bytes_eq, Option, Some, None, Ok, Err, is_some}
-use Rattle.std.specs.Option.{option_map}
-use Rattle.std.proofs.lemmas.Bool.{false≢true}
-use Rattle.std.proofs.lemmas.Option.{none-some}
-use Rattle.mm_base.specs.declared.rows.RouteRow.{RouteRow}
-use Rattle.mm_packet.specs.Packet.{SpacePacket}
-use Rattle.mm_control.specs.Routes.{without_store}
-use Rattle.mm_desk.specs.declared.event.Event.{Event}
-use Rattle.mm_desk.specs.declared.event.Event.TheVariants as event
-use Rattle.mm_desk.specs.declared.fault.Fault.{Fault as StateFault}
+use Rattle.mm_memory.proofs.Words.{◌≡◌, ◌⊎◌, inl, inr, ℕ, Bool, true, false, cond, not, ◌&&◌, List, [], ◌∷◌, ◌++◌, refl}
+use Rattle.mm_memory.proofs.Words.{sym, ap, subst, ◌∙◌, if◌then◌else◌, bytes_eq, Option, Some, None, Ok, Err, is_some}
+use Rattle.mm_memory.proofs.Words.{option_map, none-some, RouteRow, SpacePacket, without_store, Event, StateFault, Held}
+use Rattle.mm_memory.proofs.Words.{Retrieval, after, State, offer, step, rest_fault, resize_fault, Action, Delete}
+use Rattle.mm_memory.proofs.Words.{Changes, Outcome, refusal_of, done_or, act, without, MayLack, Applies, Holdings}
+use Rattle.mm_memory.proofs.Words.{has_id, store_of, state_of, with_changed, Parsed, with_state, is_routed, packet_for}
+use Rattle.mm_memory.proofs.Words.{after_offer, after_offers, same_id, is_itself, found_id, cond_both}
 use Rattle.mm_desk.specs.declared.fault.Fault.TheVariants.{Busy, StorageOn}
-use Rattle.mm_desk.specs.declared.held.Held.{Held}
-use Rattle.mm_desk.specs.declared.state.Retrieval.{Retrieval}
-use Rattle.mm_desk.specs.Fates.{after}
-use Rattle.mm_desk.specs.Machine.{State, offer, step}
-use Rattle.mm_desk.specs.Rest.{rest_fault, resize_fault}
-use Rattle.mm_memory.specs.declared.instruction.Action.{Action}
-use Rattle.mm_memory.specs.declared.instruction.Action.TheVariants.{Create, Delete, Route, Report, Change as Changes}
+use Rattle.mm_memory.specs.declared.instruction.Action.TheVariants.{Create, Route}
 use Rattle.mm_memory.specs.declared.instruction.Instruction.{Instruction}
 use Rattle.mm_memory.specs.declared.instruction.RouteChange.{RouteChange}
 use Rattle.mm_memory.specs.declared.instruction.RouteChange.TheVariants.{Add, Delete as DeleteRow}
 use Rattle.mm_memory.specs.declared.instruction.StoreChange.{StoreChange}
 use Rattle.mm_memory.specs.declared.instruction.StoreChange.TheVariants.{Enable, Disable, Begin, Abort, DeleteContent}
 use Rattle.mm_memory.specs.declared.instruction.StoreChange.TheVariants.{Resize, SetKind, SetChannel}
-use Rattle.mm_memory.specs.declared.instruction.StoreConfig.{StoreConfig}
 use Rattle.mm_memory.specs.Accounts.{Call, records, asks, applies, MayLeave, events_of, events_in, removes, removes_in}
-use Rattle.mm_memory.specs.Acting.{Outcome, refusal_of, done_or, act}
-use Rattle.mm_memory.specs.Applying.{new_store, without, created, for_store, on_store, on_no_store, routed, route_to}
-use Rattle.mm_memory.specs.Applying.{apply, MayLack, Applies}
-use Rattle.mm_memory.specs.Holdings.{Holdings, has_id, store_of, state_of, with_changed}
-use Rattle.mm_memory.specs.Instruction.{Parsed}
-use Rattle.mm_memory.specs.Lending.{with_state}
-use Rattle.mm_memory.specs.Recording.{is_routed, packet_for, after_offer, after_offers}
-use Rattle.mm_desk.proofs.PlaceLemmas.{same_id, is_itself, found_id}
+use Rattle.mm_memory.specs.Applying.{new_store, for_store, on_store, on_no_store, routed, route_to, apply}
+use Rattle.mm_memory.proofs.Words.{false≢true}
+use Rattle.mm_memory.proofs.ApplyLemmas.{neither}
+use Rattle.mm_memory.proofs.RecordLemmas.{id_kept}
+use Rattle.mm_desk.specs.declared.event.Event.TheVariants as event
 
 -- one store more before those that are searched
 abbrev searched : List ℕ → Held → Option Held → Option Held
 searched id h rest = cond (has_id id h) (Some h) rest
 
+-- a store with this identifier has not another one
+differs : (k id : List ℕ) → bytes_eq k id ≡ false → (h : Held) → h.id ≡ k → has_id id h ≡ false
+differs k id other h same = rw same other
+
 module _ (k : List ℕ) (change : Held → Held) (keeps : (h : Held) → has_id k h ≡ true → (change h).id ≡ k) where
   -- the store that is changed
   changed_own : (stores : List Held) → store_of k (with_changed k change stores) ≡ option_map change (store_of k stores)
   changed_own [] = refl
-  changed_own (h ∷ hs) = by_test (has_id k h) refl (changed_own hs)
-    where
-      by_test : (b : Bool) → has_id k h ≡ b → store_of k (with_changed k change hs) ≡ option_map change (store_of k hs)
-          → store_of k (with_changed k change (h ∷ hs)) ≡ option_map change (store_of k (h ∷ hs))
-      by_test true e rest = rw (e, is_itself (change h).id k (keeps h e)) refl
-      by_test false e rest = rw (e, e) rest
+  changed_own (h ∷ hs) =
+      cond_both (has_id k h) (change h) h
+      (λ x. searched k x (store_of k (with_changed k change hs)) ≡ option_map change (searched k h (store_of k hs)))
+      (λ same. rw (is_itself (change h).id k (keeps h same), same) refl) (λ other. rw other (changed_own hs))
 
   -- a store with another identifier
   changed_other : (id : List ℕ) → bytes_eq k id ≡ false → (stores : List Held)
       → store_of id (with_changed k change stores) ≡ store_of id stores
   changed_other id other [] = refl
-  changed_other id other (h ∷ hs) = by_test (has_id k h) refl (changed_other id other hs)
-    where
-      by_test : (b : Bool) → has_id k h ≡ b → store_of id (with_changed k change hs) ≡ store_of id hs
-          → store_of id (with_changed k change (h ∷ hs)) ≡ store_of id (h ∷ hs)
-      by_test true e rest =
-          let here : bytes_eq h.id id ≡ false = subst (λ x. bytes_eq x id ≡ false) (sym (same_id h.id k e)) other in
-          let there : bytes_eq (change h).id id ≡ false = subst (λ x. bytes_eq x id ≡ false) (sym (keeps h e)) other in
-          rw (e, there, here) rest
-      by_test false e rest = rw e (ap (searched id h) rest)
+  changed_other id other (h ∷ hs) =
+      let rest = changed_other id other hs in
+      cond_both (has_id k h) (change h) h
+      (λ x. searched id x (store_of id (with_changed k change hs)) ≡ searched id h (store_of id hs))
+      (λ e. rw (differs k id other (change h) (keeps h e), differs k id other h (same_id h.id k e)) rest)
+      (λ e. ap (searched id h) rest)
 
 -- a store that is taken out
 without_own : (k : List ℕ) (stores : List Held) → store_of k (without k stores) ≡ None
 without_own k [] = refl
-without_own k (h ∷ hs) = by_test (has_id k h) refl (without_own k hs)
-  where
-    by_test : (b : Bool) → has_id k h ≡ b → store_of k (without k hs) ≡ None → store_of k (without k (h ∷ hs)) ≡ None
-    by_test true e rest = rw e rest
-    by_test false e rest = rw (e, e) rest
+without_own k (h ∷ hs) =
+    let rest = without_own k hs in
+    elim (has_id k h) as (λ b. has_id k h ≡ b → store_of k (if not b then h ∷ without k hs else without k hs) ≡ None) [
+      | true ↦ λ e. rest
+      | false ↦ λ e. rw e rest
+    ] refl
 
 without_other : (k id : List ℕ) → bytes_eq k id ≡ false → (stores : List Held)
     → store_of id (without k stores) ≡ store_of id stores
 without_other k id other [] = refl
-without_other k id other (h ∷ hs) = by_test (has_id k h) refl (without_other k id other hs)
-  where
-    by_test : (b : Bool) → has_id k h ≡ b → store_of id (without k hs) ≡ store_of id hs
-        → store_of id (without k (h ∷ hs)) ≡ store_of id (h ∷ hs)
-    by_test true e rest =
-        let here : bytes_eq h.id id ≡ false = subst (λ x. bytes_eq x id ≡ false) (sym (same_id h.id k e)) other in
-        rw (e, here) rest
-    by_test false e rest = rw e (ap (searched id h) rest)
+without_other k id other (h ∷ hs) =
+    let rest = without_other k id other hs in
+    elim (has_id k h) as (λ b. has_id k h ≡ b → store_of id (if not b then h ∷ without k hs else without k hs)
+    ≡ store_of id (h ∷ hs)) [
+      | true ↦ λ e. rw (differs k id other h (same_id h.id k e)) rest
+      | false ↦ λ e. ap (searched id h) rest
+    ] refl
 
 -- a store that is created
 pushed_own : (k : List ℕ) (new : Held) → new.id ≡ k → (stores : List Held) → store_of k stores ≡ None
     → store_of k (stores ++ new ∷ []) ≡ Some new
 pushed_own k new same [] absent = rw (is_itself new.id k same) refl
-pushed_own k new same (h ∷ hs) absent = by_test (has_id k h) refl absent (pushed_own k new same hs)
-  where
-    by_test : (b : Bool) → has_id k h ≡ b → cond b (Some h) (store_of k hs) ≡ None
-        → (store_of k hs ≡ None → store_of k (hs ++ new ∷ []) ≡ Some new)
-        → searched k h (store_of k (hs ++ new ∷ [])) ≡ Some new
-    by_test true e none rest = absurd (none-some h (sym none))
-    by_test false e none rest = rw e (rest none)
+pushed_own k new same (h ∷ hs) absent =
+    let none = neither h (has_id k h) (store_of k hs) absent in
+    rw none.0 (pushed_own k new same hs none.1)
 
 pushed_other : (id : List ℕ) (new : Held) → bytes_eq new.id id ≡ false → (stores : List Held)
     → store_of id (stores ++ new ∷ []) ≡ store_of id stores
@@ -111,10 +91,6 @@ abbrev state_in : Option Held → Option State
 state_in found = option_map (λ h. h.state) found
 
 module _ (now : ℕ) (routes : List RouteRow) (p : SpacePacket) (id : List ℕ) where
-  kept_id : (h : Held) (b : Bool) → (after_offer now h (if b then Some p else None)).id ≡ h.id
-  kept_id h true = refl
-  kept_id h false = refl
-
   one_state : (h : Held) (b : Bool)
       → (after_offer now h (if b then Some p else None)).state ≡ offered_if b now p h.state
   one_state h true = refl
@@ -125,28 +101,17 @@ module _ (now : ℕ) (routes : List RouteRow) (p : SpacePacket) (id : List ℕ) 
       → state_in (store_of id (after_offers now (packet_for routes p) stores))
       ≡ option_map (offered_if (is_routed routes id p) now p) (state_in (store_of id stores))
   recorded_state [] = refl
-  recorded_state (h ∷ hs) = by_test (has_id id h) refl (recorded_state hs)
-    where
-      left : Held
-      left = after_offer now h (packet_for routes p h)
-
-      by_test : (b : Bool) → has_id id h ≡ b
-          → state_in (store_of id (after_offers now (packet_for routes p) hs))
-          ≡ option_map (offered_if (is_routed routes id p) now p) (state_in (store_of id hs))
-          → state_in (store_of id (after_offers now (packet_for routes p) (h ∷ hs)))
-          ≡ option_map (offered_if (is_routed routes id p) now p) (state_in (store_of id (h ∷ hs)))
-      by_test true e rest =
-          let found : has_id id (after_offer now h (packet_for routes p h)) ≡ true =
-          ap (λ (x : List ℕ). bytes_eq x id) (kept_id h (is_routed routes h.id p)) ∙ e in
-          let same : (after_offer now h (packet_for routes p h)).state
-          ≡ offered_if (is_routed routes id p) now p h.state =
-          one_state h (is_routed routes h.id p)
-          ∙ ap (λ (x : List ℕ). offered_if (is_routed routes x p) now p h.state) (same_id h.id id e) in
-          rw (found, e) (ap Some same)
-      by_test false e rest =
-          let found : has_id id (after_offer now h (packet_for routes p h)) ≡ false =
-          ap (λ (x : List ℕ). bytes_eq x id) (kept_id h (is_routed routes h.id p)) ∙ e in
-          rw (found, e) rest
+  recorded_state (h ∷ hs) =
+      let left = after_offer now h (packet_for routes p h) in
+      let rest = recorded_state hs in
+      let state_after = λ (x : List ℕ). offered_if (is_routed routes x p) now p in
+      rw (id_kept now h (packet_for routes p h)) (elim (has_id id h) as (λ b. has_id id h ≡ b
+      → state_in (cond b (Some left) (store_of id (after_offers now (packet_for routes p) hs)))
+      ≡ option_map (state_after id) (state_in (cond b (Some h) (store_of id hs)))) [
+        | true ↦ λ e. ap Some (one_state h (is_routed routes h.id p)
+            ∙ ap (λ (x : List ℕ). state_after x h.state) (same_id h.id id e))
+        | false ↦ λ e. rest
+      ] refl)
 
 -- a store at rest gets another size, kind or channel
 pub record Reshaped (s t : State) (es : List Event) : Type 0 where
@@ -174,20 +139,19 @@ Becomes es gone None (Some t) = IsNew t
 Becomes es gone None None = Unit {0}
 
 -- nothing is asked, and the store stays
-stays : (es : List Event) (gone : State → Bool) (before : Option State) → es ≡ []
-    → ((s : State) → before ≡ Some s → gone s ≡ false) → Becomes es gone before before
-stays es gone (Some s) none kept = (kept s refl, inl (ap (after s) (sym none)))
+stays : (es : List Event) (gone : State → Bool) (before : Option State) → es ≡ [] → ((s : State) → gone s ≡ false)
+    → Becomes es gone before before
+stays es gone (Some s) none kept = (kept s, inl (ap (after s) (sym none)))
 stays es gone None none kept = tt
 
 -- a store at rest has no retrieval
+no_retrieval : (r : Option Retrieval) → is_some r ≡ false → r ≡ None
+no_retrieval (Some r) e = absurd cc
+no_retrieval None e = refl
+
 idle : (s : State) → rest_fault s ≡ None → s.retrieval ≡ None
-idle s rests = by_storage s.storage s.retrieval rests
-  where
-    by_storage : (b : Bool) (r : Option Retrieval) → cond b (Some StorageOn) (cond (is_some r) (Some Busy) None) ≡ None
-        → r ≡ None
-    by_storage true r e = absurd (none-some StorageOn (sym e))
-    by_storage false (Some r) e = absurd (none-some Busy (sym e))
-    by_storage false None e = refl
+idle s rests =
+    no_retrieval s.retrieval (neither Busy (is_some s.retrieval) None (neither StorageOn s.storage _ rests).1).0
 
 resizes_idle : (s : State) (size : ℕ) → resize_fault s size ≡ None → s.retrieval ≡ None
 resizes_idle s size fits = by_rest (rest_fault s) refl fits
@@ -196,37 +160,21 @@ resizes_idle s size fits = by_rest (rest_fault s) refl fits
     by_rest None rests fits = idle s rests
     by_rest (Some fault) busy fits = absurd (none-some fault (sym (rw busy at fits)))
 
+-- what a change of a store at rest leaves, or its refusal
+reshapes : (f : Option StateFault) (h left : Held) → (f ≡ None → h.state.retrieval ≡ None)
+    → left.state.store.content ≡ h.state.store.content → left.state.lost ≡ h.state.lost
+    → left.state.retrieval ≡ h.state.retrieval → Follows h.state [] (done_or (refusal_of f) left h).1.state
+reshapes None h left rests content lost same =
+    let still = rests refl in
+    inr (record { asked = refl; content = content; lost = lost; at_rest = still; still = same ∙ still })
+reshapes (Some fault) h left rests content lost same = inl refl
+
 -- what a change leaves of a store
 act_follows : (change : StoreChange) (h : Held) → Follows h.state (events_of (Changes change)) (act change h).1.state
-act_follows Enable h = inl refl
-act_follows Disable h = inl refl
-act_follows (Begin from to) h = inl refl
-act_follows Abort h = inl refl
-act_follows (DeleteContent limit) h = inl refl
-act_follows (Resize size) h = by_fault (resize_fault h.state size) (resizes_idle h.state size)
-  where
-    by_fault : (f : Option StateFault) → (f ≡ None → h.state.retrieval ≡ None)
-        → Follows h.state []
-        (done_or (refusal_of f)
-        (record h { state = record h.state { store = record h.state.store { size = size } } }) h).1.state
-    by_fault None rests =
-        inr (record { asked = refl; content = refl; lost = refl; at_rest = rests refl; still = rests refl })
-    by_fault (Some fault) rests = inl refl
-act_follows (SetKind kind) h = by_fault (rest_fault h.state) (idle h.state)
-  where
-    by_fault : (f : Option StateFault) → (f ≡ None → h.state.retrieval ≡ None)
-        → Follows h.state []
-        (done_or (refusal_of f)
-        (record h { state = record h.state { store = record h.state.store { kind = kind } } }) h).1.state
-    by_fault None rests =
-        inr (record { asked = refl; content = refl; lost = refl; at_rest = rests refl; still = rests refl })
-    by_fault (Some fault) rests = inl refl
-act_follows (SetChannel channel) h = by_fault (rest_fault h.state)
-  where
-    by_fault : (f : Option StateFault)
-        → Follows h.state [] (done_or (refusal_of f) (record h { channel = channel }) h).1.state
-    by_fault None = inl refl
-    by_fault (Some fault) = inl refl
+act_follows (Resize size) h = reshapes (resize_fault h.state size) h _ (resizes_idle h.state size) refl refl refl
+act_follows (SetKind kind) h = reshapes (rest_fault h.state) h _ (idle h.state) refl refl refl
+act_follows (SetChannel channel) h = reshapes (rest_fault h.state) h _ (idle h.state) refl refl refl
+act_follows other h = inl refl
 
 -- a changed store keeps its identifier
 done_id : (outcome : Outcome) (h changed : Held) → changed.id ≡ h.id → (done_or outcome changed h).1.id ≡ h.id
@@ -234,14 +182,10 @@ done_id (Ok done) h changed same = same
 done_id (Err reason) h changed same = refl
 
 act_id : (change : StoreChange) (h : Held) → (act change h).1.id ≡ h.id
-act_id Enable h = refl
-act_id Disable h = refl
-act_id (Begin from to) h = refl
-act_id Abort h = refl
-act_id (DeleteContent limit) h = refl
 act_id (Resize size) h = done_id (refusal_of (resize_fault h.state size)) h _ refl
 act_id (SetKind kind) h = done_id (refusal_of (rest_fault h.state)) h _ refl
 act_id (SetChannel channel) h = done_id (refusal_of (rest_fault h.state)) h _ refl
+act_id other h = refl
 
 module _ (k : List ℕ) (m : Holdings) where
   -- what is left of the store with the identifier, and of one with another
@@ -260,58 +204,49 @@ module _ (k : List ℕ) (m : Holdings) where
   route_same P same Add row = by_done P _ _ (same _) (same m.routes)
   route_same P same DeleteRow row = by_done P _ _ (same _) (same m.routes)
 
-  create_own : (config : StoreConfig) → store_of k m.stores ≡ None → Own (Create config) None (created k config m).1
-  create_own config absent =
-      by_done (Own (Create config) None) _ _
-      (subst (λ (o : Option Held). Becomes [] (removes (Create config)) None (state_in o))
-      (sym (pushed_own k (new_store k config) refl m.stores absent))
-      (record { content = refl; lost = refl; still = refl }))
-      (subst (λ (o : Option Held). Becomes [] (removes (Create config)) None (state_in o)) (sym absent) tt)
-
   none_own : (action : Action) → store_of k m.stores ≡ None → Own action None m
-  none_own action absent =
-      subst (λ (o : Option Held). Becomes (events_of action) (removes action) None (state_in o)) (sym absent) tt
+  none_own action absent = rw absent tt
 
   absent_own : (action : Action) → store_of k m.stores ≡ None → Own action None (on_no_store k action m).1
-  absent_own (Create config) absent = create_own config absent
-  absent_own Delete absent = none_own Delete absent
-  absent_own (Route change row) absent = none_own (Route change row) absent
-  absent_own Report absent = none_own Report absent
-  absent_own (Changes change) absent = none_own (Changes change) absent
+  absent_own (Create config) absent =
+      by_done (Own (Create config) None) _ (record m { stores = m.stores ++ new_store k config ∷ [] })
+      (rw (pushed_own k (new_store k config) refl m.stores absent) (record {
+        content = refl;
+        lost = refl;
+        still = refl;
+      })) (none_own (Create config) absent)
+  absent_own action absent = none_own action absent
 
   -- the store is as it was
   still_own : (action : Action) (h : Held) → events_of action ≡ [] → removes action h.state ≡ false
       → store_of k m.stores ≡ Some h → Own action (Some h) m
-  still_own action h none kept found =
-      subst (λ (o : Option Held). Becomes (events_of action) (removes action) (Some h.state) (state_in o)) (sym found)
-      (kept, inl (ap (after h.state) (sym none)))
+  still_own action h none kept found = rw found (kept, inl (ap (after h.state) (sym none)))
 
   delete_own : (h : Held) → store_of k m.stores ≡ Some h → (f : Option StateFault) → rest_fault h.state ≡ f
       → Own Delete (Some h)
       (done_or (refusal_of f) (record { stores = without k m.stores; routes = without_store k m.routes }) m).1
   delete_own h found None rests =
-      subst (λ (o : Option Held). Becomes [] (removes Delete) (Some h.state) (state_in o))
-      (sym (without_own k m.stores)) (ap (λ (f : Option StateFault). not (is_some f)) rests, refl)
+      rw (without_own k m.stores) (ap (λ (f : Option StateFault). not (is_some f)) rests, refl)
   delete_own h found (Some fault) busy =
       still_own Delete h refl (ap (λ (f : Option StateFault). not (is_some f)) busy) found
 
+  -- what each change leaves keeps the identifier
+  keeps_id : (change : StoreChange) (h x : Held) → store_of k m.stores ≡ Some h → has_id k x ≡ true
+      → (act change h).1.id ≡ k
+  keeps_id change h x found e = act_id change h ∙ found_id k m.stores h found
+
   store_own : (action : Action) (h : Held) → store_of k m.stores ≡ Some h
       → Own action (Some h) (on_store k action h m).1
-  store_own (Create config) h found = still_own (Create config) h refl refl found
   store_own Delete h found = delete_own h found (rest_fault h.state) refl
   store_own (Route change row) h found =
       route_same (Own (Route change row) (Some h)) (λ rows. still_own (Route change row) h refl refl found) change
       (route_to k row)
-  store_own Report h found = still_own Report h refl refl found
   store_own (Changes change) h found =
-      let keeps = λ (x : Held) (e : has_id k x ≡ true). act_id change h ∙ found_id k m.stores h found in
       let left : store_of k (with_changed k (λ _. (act change h).1) m.stores) ≡ Some (act change h).1 =
-      changed_own k (λ _. (act change h).1) keeps m.stores ∙ ap (option_map (λ (x : Held). (act change h).1)) found in
-      subst (λ (o : Option Held).
-      Becomes (events_of (Changes change)) (removes (Changes change)) (Some h.state) (state_in o)) (sym left) (
-        refl,
-        act_follows change h,
-      )
+      changed_own k (λ _. (act change h).1) (λ x e. keeps_id change h x found e) m.stores
+      ∙ ap (option_map (λ (x : Held). (act change h).1)) found in
+      rw left (refl, act_follows change h)
+  store_own action h found = still_own action h refl refl found
 
   own : (action : Action) (found : Option Held) → store_of k m.stores ≡ found
       → Own action found (for_store k action found m).1
@@ -322,21 +257,16 @@ module _ (k : List ℕ) (m : Holdings) where
   other_absent : (id : List ℕ) → bytes_eq k id ≡ false → (action : Action) → Same id (on_no_store k action m).1
   other_absent id other (Create config) =
       by_done (Same id) _ _ (ap state_in (pushed_other id (new_store k config) other m.stores)) refl
-  other_absent id other Delete = refl
-  other_absent id other (Route change row) = refl
-  other_absent id other Report = refl
-  other_absent id other (Changes change) = refl
+  other_absent id other action = refl
 
   other_store : (id : List ℕ) → bytes_eq k id ≡ false → (action : Action) (h : Held) → store_of k m.stores ≡ Some h
       → Same id (on_store k action h m).1
-  other_store id other (Create config) h found = refl
   other_store id other Delete h found =
       by_done (Same id) (refusal_of (rest_fault h.state)) _ (ap state_in (without_other k id other m.stores)) refl
   other_store id other (Route change row) h found = route_same (Same id) (λ rows. refl) change (route_to k row)
-  other_store id other Report h found = refl
   other_store id other (Changes change) h found =
-      ap state_in (changed_other k (λ _. (act change h).1)
-      (λ x e. act_id change h ∙ found_id k m.stores h found) id other m.stores)
+      ap state_in (changed_other k (λ _. (act change h).1) (λ x e. keeps_id change h x found e) id other m.stores)
+  other_store id other action h found = refl
 
   other_same : (id : List ℕ) → bytes_eq k id ≡ false → (action : Action) (found : Option Held)
       → store_of k m.stores ≡ found → Same id (for_store k action found m).1
@@ -349,10 +279,10 @@ at_own : (b : Bool) (es : List Event) (gone : State → Bool) (before left : Opt
 at_own true es gone before left same is = is
 at_own false es gone before left same is = absurd (false≢true same)
 
-at_other : (b : Bool) (es : List Event) (gone : State → Bool) (before : Option State) → b ≡ false
-    → Becomes (if b then es else []) (λ s. b && gone s) before before
-at_other true es gone before other = absurd (false≢true (sym other))
-at_other false es gone before other = stays [] (λ s. false) before refl (λ s at. refl)
+at_other : (b : Bool) (es : List Event) (gone : State → Bool) (before left : Option State) → b ≡ false
+    → Becomes [] (λ s. false) before left → Becomes (if b then es else []) (λ s. b && gone s) before left
+at_other true es gone before left other is = absurd (false≢true (sym other))
+at_other false es gone before left other is = is
 
 -- what lacks memory asks nothing
 lacks_nothing : (action : Action) (found : Option Held) → MayLack action found
@@ -367,14 +297,12 @@ lacks_nothing (Changes (Begin from to)) (Some h) lacks = absurd lacks
 lacks_nothing (Changes Abort) (Some h) lacks = absurd lacks
 lacks_nothing (Changes (DeleteContent limit)) (Some h) lacks = absurd lacks
 lacks_nothing (Changes change) None lacks = absurd lacks
-lacks_nothing Delete found lacks = absurd lacks
-lacks_nothing (Route change row) found lacks = absurd lacks
-lacks_nothing Report found lacks = absurd lacks
+lacks_nothing action found lacks = absurd lacks
 
 lacking : (b : Bool) (es : List Event) (gone : State → Bool) (before : Option State) → es ≡ []
     → ((s : State) → gone s ≡ false) → Becomes (if b then es else []) (λ s. b && gone s) before before
-lacking true es gone before none kept = stays es gone before none (λ s at. kept s)
-lacking false es gone before none kept = stays [] (λ s. false) before refl (λ s at. refl)
+lacking true es gone before none kept = stays es gone before none kept
+lacking false es gone before none kept = stays [] (λ s. false) before refl (λ s. refl)
 
 abbrev with_put : State → Held → Held
 with_put t h = record h { state = t }
@@ -387,13 +315,16 @@ module _ (id : List ℕ) (m n : Holdings) where
   abbrev Left : List ℕ → Call → Type 0
   Left at c = Becomes (events_in at m c) (removes_in at c) (state_of at m) (state_of at n)
 
+  -- nothing is asked of the store, which is as it was
+  left_alone : state_of id n ≡ state_of id m → Becomes [] (λ s. false) (state_of id m) (state_of id n)
+  left_alone left = rw left (stays [] (λ s. false) (state_of id m) refl (λ s. refl))
+
   record_before : (now : ℕ) (p : SpacePacket) (b : Bool) (before : Option State)
       → Becomes (if b then event.Offer now p ∷ [] else []) (removes_in id (records now p)) before
       (option_map (offered_if b now p) before)
   record_before now p true (Some s) = (refl, inl refl)
-  record_before now p true None = tt
   record_before now p false (Some s) = (refl, inl refl)
-  record_before now p false None = tt
+  record_before now p b None = tt
 
   ask : (k : List ℕ) (event : Event) (s : State) → state_of k m ≡ Some s → n ≡ with_state k m (step s event).1
       → (b : Bool) → bytes_eq k id ≡ b → Left id (asks k event)
@@ -402,57 +333,37 @@ module _ (id : List ℕ) (m n : Holdings) where
       let left : state_of k n ≡ Some t =
       ap (state_of k) is ∙ ap state_in (changed_own k (λ h. record h { state = t }) (λ h e. same_id h.id k e) m.stores)
       ∙ state_put t (store_of k m.stores) ∙ ap (option_map (λ _. t)) found in
-      let there : Becomes (event ∷ []) (λ s. false) (state_of k m) (state_of k n) =
-      subst (λ (o : Option State). Becomes (event ∷ []) (λ s. false) o (state_of k n)) (sym found)
-      (subst (λ (o : Option State). Becomes (event ∷ []) (λ s. false) (Some s) o) (sym left) (refl, inl refl)) in
-      let here : Becomes (event ∷ []) (λ s. false) (state_of id m) (state_of id n) =
-      subst (λ (i : List ℕ). Becomes (event ∷ []) (λ s. false) (state_of i m) (state_of i n))
-      (same_id k id same) there in
-      rw same here
+      let there : Becomes (event ∷ []) (λ s. false) (state_of k m) (state_of k n) = rw (found, left) (refl, inl refl) in
+      rw same (subst (λ (i : List ℕ). Becomes (event ∷ []) (λ s. false) (state_of i m) (state_of i n))
+      (same_id k id same) there)
   ask k event s found is false other =
-      let left : state_of id n ≡ state_of id m =
-      ap (state_of id) is ∙ ap state_in
-      (changed_other k (λ h. record h { state = (step s event).1 }) (λ h e. same_id h.id k e) id other m.stores) in
-      subst (λ (o : Option State).
-      Becomes (events_in id m (asks k event)) (removes_in id (asks k event)) (state_of id m) o) (sym left)
-      (stays _ (λ s. false) (state_of id m) (rw other refl) (λ s at. refl))
+      rw other (left_alone (ap (state_of id) is ∙ ap state_in
+      (changed_other k (λ h. record h { state = (step s event).1 }) (λ h e. same_id h.id k e) id other m.stores)))
 
   apply_own : (i : Instruction) → n ≡ (apply (Ok i) m).1 → (b : Bool) → bytes_eq i.id id ≡ b → Left id (applies (Ok i))
   apply_own i is true same =
       let there : Becomes (events_of i.action) (removes i.action) (state_of i.id m) (state_of i.id n) =
-      subst (λ (x : Holdings). Becomes (events_of i.action) (removes i.action) (state_of i.id m) (state_of i.id x))
-      (sym is) (own i.id m i.action (store_of i.id m.stores) refl) in
+      rw is (own i.id m i.action (store_of i.id m.stores) refl) in
       at_own (bytes_eq i.id id) (events_of i.action) (removes i.action) (state_of id m) (state_of id n) same
       (subst (λ (k : List ℕ). Becomes (events_of i.action) (removes i.action) (state_of k m) (state_of k n))
       (same_id i.id id same) there)
   apply_own i is false other =
-      let left : state_of id n ≡ state_of id m = ap (state_of id) is
-      ∙ other_same i.id m id other i.action (store_of i.id m.stores) refl in
-      subst (λ (o : Option State).
-      Becomes (events_in id m (applies (Ok i))) (removes_in id (applies (Ok i))) (state_of id m) o) (sym left)
-      (at_other (bytes_eq i.id id) (events_of i.action) (removes i.action) (state_of id m) other)
+      at_other (bytes_eq i.id id) (events_of i.action) (removes i.action) (state_of id m) (state_of id n) other
+      (left_alone (ap (state_of id) is ∙ other_same i.id m id other i.action (store_of i.id m.stores) refl))
 
   apply_left : (i : Parsed) (outcome : Outcome) → Applies i m (outcome, n) → Left id (applies i)
   apply_left (Ok i) outcome (inl is) = apply_own i (ap (λ (x : Outcome × Holdings). x.1) is) (bytes_eq i.id id) refl
   apply_left (Ok i) outcome (inr lacks) =
       let left : state_of id n ≡ state_of id m = ap (λ (x : Outcome × Holdings). state_of id x.1) lacks.2 in
       let nothing = lacks_nothing i.action (store_of i.id m.stores) lacks.0 in
-      subst (λ (o : Option State).
-      Becomes (events_in id m (applies (Ok i))) (removes_in id (applies (Ok i))) (state_of id m) o) (sym left)
-      (lacking (bytes_eq i.id id) (events_of i.action) (removes i.action) (state_of id m) nothing.0 nothing.1)
-  apply_left (Err reason) outcome (inl is) =
-      let left : state_of id n ≡ state_of id m = ap (λ (x : Outcome × Holdings). state_of id x.1) is in
-      subst (λ (o : Option State). Becomes [] (removes_in id (applies (Err reason))) (state_of id m) o) (sym left)
-      (stays [] (λ s. false) (state_of id m) refl (λ s at. refl))
+      rw left (lacking (bytes_eq i.id id) (events_of i.action) (removes i.action) (state_of id m) nothing.0 nothing.1)
+  apply_left (Err reason) outcome (inl is) = left_alone (ap (λ (x : Outcome × Holdings). state_of id x.1) is)
   apply_left (Err reason) outcome (inr lacks) = absurd lacks.0
 
   -- what becomes of the store in a turn
   pub becomes : (c : Call) → MayLeave c m n → Left id c
   becomes (records now p) is =
-      let left : state_of id n ≡ option_map (offered_if (is_routed m.routes id p) now p) (state_of id m) =
-      ap (state_of id) is ∙ recorded_state now m.routes p id m.stores in
-      subst (λ (o : Option State).
-      Becomes (events_in id m (records now p)) (removes_in id (records now p)) (state_of id m) o) (sym left)
+      rw (ap (state_of id) is ∙ recorded_state now m.routes p id m.stores)
       (record_before now p (is_routed m.routes id p) (state_of id m))
   becomes (asks k event) is = ask k event is.0 is.1 is.2 (bytes_eq k id) refl
   becomes (applies i) is = apply_left i is.0 is.1

@@ -1,28 +1,18 @@
 -- What becomes of the packets of a memory, store by store, over any calls: what was recorded is held, deleted by a
 -- request, or given up and counted as lost; what a retrieval gives was recorded, and comes in order.
-use Rattle.std.specs.Prelude.{◌≡◌, ℕ, ◌+◌, Bool, false, not, ◌&&◌, is_some, if◌then◌else◌, List, [], ◌∷◌, ◌++◌, length}
-use Rattle.std.specs.Prelude.{map, sum, bytes_eq, All, Contains, IsPermutation, Option, Some, None, Result, Ok, Err}
-use Rattle.mm_packet.specs.Packet.{SpacePacket}
-use Rattle.mm_store.specs.declared.stored.Stored.{Stored}
-use Rattle.mm_store.specs.Content.{IsRising}
+use Rattle.mm_memory.specs.Words.{◌≡◌, ℕ, ◌+◌, Bool, false, not, ◌&&◌, is_some, if◌then◌else◌, List, [], ◌∷◌, ◌++◌}
+use Rattle.mm_memory.specs.Words.{length, map, sum, bytes_eq, All, Contains, IsPermutation, Option, Some, None, Result}
+use Rattle.mm_memory.specs.Words.{Ok, Err, SpacePacket, Stored, IsRising, Offered, Kept, KeptOver, Returned, packets_of}
+use Rattle.mm_memory.specs.Words.{taken, given_up, deleted, given, over, BeginsNone, State, offer, step, rest_fault}
+use Rattle.mm_memory.specs.Words.{Answer, Action, Delete, Changes, Enable, Disable, Begin, Abort, DeleteContent}
 use Rattle.mm_desk.specs.declared.event.Event.{Event}
-use Rattle.mm_desk.specs.declared.event.Event.TheVariants as event
-use Rattle.mm_desk.specs.declared.reply.Offered.{Offered}
-use Rattle.mm_desk.specs.declared.reply.Offered.TheVariants.{Kept, KeptOver}
-use Rattle.mm_desk.specs.declared.reply.Returned.{Returned}
-use Rattle.mm_desk.specs.Fates.{packets_of, taken, given_up, deleted, given, over, BeginsNone}
-use Rattle.mm_desk.specs.Machine.{State, offer, step}
-use Rattle.mm_desk.specs.Rest.{rest_fault}
-use Rattle.mm_memory.specs.declared.answer.Answer.{Answer}
-use Rattle.mm_memory.specs.declared.instruction.Action.{Action}
-use Rattle.mm_memory.specs.declared.instruction.Action.TheVariants.{Delete, Change as Changes}
-use Rattle.mm_memory.specs.declared.instruction.StoreChange.TheVariants.{Enable, Disable, Begin, Abort, DeleteContent}
 use Rattle.mm_memory.specs.Acting.{Outcome}
 use Rattle.mm_memory.specs.Applying.{Applies, AppliesEach}
 use Rattle.mm_memory.specs.Holdings.{Holdings, state_of}
 use Rattle.mm_memory.specs.Instruction.{Parsed}
 use Rattle.mm_memory.specs.Lending.{with_state}
 use Rattle.mm_memory.specs.Recording.{is_routed, after_record}
+use Rattle.mm_desk.specs.declared.event.Event.TheVariants as event
 
 -- a call on a memory: a packet is recorded at a moment; the store with an identifier is asked an event of the store
 -- machine; an instruction of a request is applied

@@ -1,14 +1,11 @@
 -- What one store answers to a change, and the store that it leaves.
-use Rattle.std.specs.Prelude.{◌≢◌, Option, Some, None, Result, Ok, Err}
-use Rattle.mm_desk.specs.declared.event.Event.TheVariants as event
-use Rattle.mm_desk.specs.declared.fault.Fault.{Fault as StateFault}
-use Rattle.mm_desk.specs.Machine.{State, begin, abort, delete, step}
-use Rattle.mm_desk.specs.Rest.{rest_fault, resize_fault}
-use Rattle.mm_memory.specs.declared.fault.Fault.{Fault}
-use Rattle.mm_desk.specs.declared.held.Held.{Held}
+use Rattle.mm_memory.specs.Words.{◌≢◌, Option, Some, None, Result, Ok, Err, StateFault, State, step, rest_fault, Fault}
+use Rattle.mm_memory.specs.Words.{Held, Enable, Disable, Begin, Abort, DeleteContent, Resize, SetKind, SetChannel}
+use Rattle.mm_desk.specs.Machine.{begin, abort, delete}
+use Rattle.mm_desk.specs.Rest.{resize_fault}
 use Rattle.mm_memory.specs.declared.instruction.StoreChange.{StoreChange}
-use Rattle.mm_memory.specs.declared.instruction.StoreChange.TheVariants.{Enable, Disable, Begin, Abort, DeleteContent, Resize, SetKind, SetChannel}
 use Rattle.mm_memory.specs.Fault.{of_state}
+use Rattle.mm_desk.specs.declared.event.Event.TheVariants as event
 
 -- done, or a refusal
 abbrev pub Outcome : Type 0
@@ -40,8 +37,12 @@ act Disable h = (Ok tt, record h { state = (step h.state event.Disable).1 })
 act (Begin from to) h = answered h (begin h.state from to)
 act Abort h = answered h (abort h.state)
 act (DeleteContent limit) h = answered h (delete h.state limit)
-act (Resize size) h = done_or (refusal_of (resize_fault h.state size)) (record h { state = record h.state { store = record h.state.store { size = size } } }) h
-act (SetKind kind) h = done_or (refusal_of (rest_fault h.state)) (record h { state = record h.state { store = record h.state.store { kind = kind } } }) h
+act (Resize size) h =
+    done_or (refusal_of (resize_fault h.state size))
+    (record h { state = record h.state { store = record h.state.store { size = size } } }) h
+act (SetKind kind) h =
+    done_or (refusal_of (rest_fault h.state))
+    (record h { state = record h.state { store = record h.state.store { kind = kind } } }) h
 act (SetChannel channel) h = done_or (refusal_of (rest_fault h.state)) (record h { channel = channel }) h
 
 -- a change that may find no memory; the kind that a store has takes none

@@ -1,23 +1,12 @@
 -- Applying an instruction, and a request, which is its instructions in order.
-use Rattle.std.specs.Prelude.{◌≡◌, ◌⊎◌, ℕ, Bool, not, nat_lt, if◌then◌else◌, List, [], ◌∷◌, ◌++◌, length, filter}
-use Rattle.std.specs.Prelude.{Option, Some, None, Ok, Err}
-use Rattle.mm_base.specs.declared.limits.TheConstants.{MAX_STORES}
-use Rattle.mm_base.specs.declared.rows.RouteRow.{RouteRow}
-use Rattle.mm_store.specs.Content.{empty_store}
+use Rattle.mm_memory.specs.Words.{◌≡◌, ◌⊎◌, ℕ, Bool, not, nat_lt, if◌then◌else◌, List, [], ◌∷◌, ◌++◌, length, filter}
+use Rattle.mm_memory.specs.Words.{Option, Some, None, Ok, Err, MAX_STORES, RouteRow, empty_store, has_row, takes}
+use Rattle.mm_memory.specs.Words.{with_row, without_row, without_store, opening, rest_fault, Row, Answer, Fault, Held}
+use Rattle.mm_memory.specs.Words.{Action, Create, Delete, Route, Report, Changes, RouteChange}
 use Rattle.mm_control.specs.declared.fault.Fault.TheVariants.{NoSuchRoute, TableFull}
-use Rattle.mm_control.specs.Routes.{has_row, takes, with_row, without_row, without_store}
-use Rattle.mm_desk.specs.Machine.{opening}
-use Rattle.mm_desk.specs.Rest.{rest_fault}
-use Rattle.mm_st15.specs.declared.report_entry.Row.{Row}
-use Rattle.mm_memory.specs.declared.answer.Answer.{Answer}
 use Rattle.mm_memory.specs.declared.answer.Answer.TheVariants.{Done, Refused}
-use Rattle.mm_memory.specs.declared.fault.Fault.{Fault}
 use Rattle.mm_memory.specs.declared.fault.Fault.TheVariants.{NoMemory, NoSuchStore, Exists, TooManyStores, Control}
-use Rattle.mm_desk.specs.declared.held.Held.{Held}
 use Rattle.mm_memory.specs.declared.instruction.StoreConfig.{StoreConfig}
-use Rattle.mm_memory.specs.declared.instruction.Action.{Action}
-use Rattle.mm_memory.specs.declared.instruction.Action.TheVariants.{Create, Delete, Route, Report, Change as Changes}
-use Rattle.mm_memory.specs.declared.instruction.RouteChange.{RouteChange}
 use Rattle.mm_memory.specs.declared.instruction.RouteChange.TheVariants.{Add, Delete as DeleteRow}
 use Rattle.mm_memory.specs.Acting.{Outcome, refusal_of, done_or, act, TakesMemory}
 use Rattle.mm_memory.specs.Holdings.{Holdings, has_id, store_of, with_changed}

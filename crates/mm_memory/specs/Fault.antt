@@ -1,12 +1,12 @@
 -- The refusals of this crate, with those of the crates below.
+use Rattle.mm_memory.specs.Words.{StateFault, Fault}
 use Rattle.mm_base.specs.declared.refusal.Refusal.{Refusal}
-use Rattle.mm_base.specs.declared.refusal.Refusal.TheVariants as refusal
 use Rattle.mm_control.specs.Fault.{refusal_of as control_refusal}
-use Rattle.mm_desk.specs.declared.fault.Fault.{Fault as StateFault}
-use Rattle.mm_desk.specs.declared.fault.Fault.TheVariants as state
 use Rattle.mm_desk.specs.Fault.{refusal_of as state_refusal}
-use Rattle.mm_memory.specs.declared.fault.Fault.{Fault}
-use Rattle.mm_memory.specs.declared.fault.Fault.TheVariants.{NoMemory, BadId, BadEnum, NoSuchStore, Exists, TooManyStores, BadSize, State, Control}
+use Rattle.mm_memory.specs.declared.fault.Fault.TheVariants.{NoMemory, BadId, BadEnum, NoSuchStore, Exists}
+use Rattle.mm_memory.specs.declared.fault.Fault.TheVariants.{TooManyStores, BadSize, State, Control}
+use Rattle.mm_base.specs.declared.refusal.Refusal.TheVariants as refusal
+use Rattle.mm_desk.specs.declared.fault.Fault.TheVariants as state
 
 -- which refusal it is
 abbrev pub refusal_of : Fault → Refusal

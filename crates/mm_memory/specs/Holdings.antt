@@ -1,14 +1,10 @@
 -- The memory of a setup.
-use Rattle.std.specs.Prelude.{List, [], map, fold}
-use Rattle.mm_base.specs.declared.rows.RouteRow.{RouteRow}
+use Rattle.mm_memory.specs.Words.{List, [], map, fold, RouteRow, empty_store, with_row, opening, step, Held}
 use Rattle.mm_base.specs.declared.rows.StoreRow.{StoreRow}
 use Rattle.mm_problem.specs.Setup.{SetupRows}
-use Rattle.mm_store.specs.Content.{empty_store}
-use Rattle.mm_control.specs.Routes.{with_row}
 use Rattle.mm_desk.specs.declared.event.Event.TheVariants.{Enable}
-use Rattle.mm_desk.specs.Machine.{opening, step}
-use Rattle.mm_desk.specs.declared.held.Held.{Held}
-pub use Rattle.mm_desk.specs.Holdings.{Holdings, HaveOtherIds, AreHeld, has_id, store_of, state_of, StandsAt, with_changed}
+pub use Rattle.mm_desk.specs.Holdings.{Holdings, HaveOtherIds, AreHeld, has_id, store_of, state_of, StandsAt}
+pub use Rattle.mm_desk.specs.Holdings.{with_changed}
 
 -- a store of the setup, empty, with its storage on
 abbrev pub opened : StoreRow → Held

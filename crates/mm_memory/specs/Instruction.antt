@@ -1,26 +1,18 @@
 -- The instructions of a request, one by one, and the tests of their fields.
-use Rattle.std.specs.Prelude.{ℕ, nat_lt, ◌==◌, ◌||◌, if◌then◌else◌, List, [], map, Result, Ok, Err}
+use Rattle.mm_memory.specs.Words.{ℕ, nat_lt, ◌==◌, ◌||◌, if◌then◌else◌, List, [], map, Result, Ok, Err, Circular}
+use Rattle.mm_memory.specs.Words.{Bounded, MAX_APID, MAX_BLOCKS, MAX_CHANNEL, is_id, Target, Configuration, Request}
+use Rattle.mm_memory.specs.Words.{Fault, Action, Create, Delete, Route, Report, Changes, Enable, Disable, Begin, Abort}
+use Rattle.mm_memory.specs.Words.{DeleteContent, Resize, SetKind, SetChannel, RouteChange}
 use Rattle.mm_base.specs.declared.kind.Kind.{Kind}
-use Rattle.mm_base.specs.declared.kind.Kind.TheVariants.{Circular, Bounded}
-use Rattle.mm_base.specs.declared.limits.TheConstants.{MAX_APID, MAX_BLOCKS, MAX_CHANNEL}
-use Rattle.mm_base.specs.Id.{is_id}
 use Rattle.mm_base.specs.Reading.{◌>>=◌}
-use Rattle.mm_st15.specs.declared.instruction.Target.{Target}
 use Rattle.mm_st15.specs.declared.instruction.ReportType.{ReportType}
 use Rattle.mm_st15.specs.declared.instruction.TimeRange.{TimeRange}
 use Rattle.mm_st15.specs.declared.instruction.TimeLimit.{TimeLimit}
-use Rattle.mm_st15.specs.declared.instruction.Configuration.{Configuration}
 use Rattle.mm_st15.specs.declared.instruction.Size.{Size}
 use Rattle.mm_st15.specs.declared.instruction.Channel.{Channel}
-use Rattle.mm_st15.specs.declared.request.Request.{Request}
-use Rattle.mm_st15.specs.declared.request.Request.TheVariants as request
-use Rattle.mm_memory.specs.declared.fault.Fault.{Fault}
 use Rattle.mm_memory.specs.declared.fault.Fault.TheVariants.{BadId, BadEnum, BadSize}
 use Rattle.mm_memory.specs.declared.instruction.Instruction.{Instruction}
-use Rattle.mm_memory.specs.declared.instruction.Action.{Action}
-use Rattle.mm_memory.specs.declared.instruction.Action.TheVariants.{Create, Delete, Route, Report, Change as Changes}
-use Rattle.mm_memory.specs.declared.instruction.StoreChange.TheVariants.{Enable, Disable, Begin, Abort, DeleteContent, Resize, SetKind, SetChannel}
-use Rattle.mm_memory.specs.declared.instruction.RouteChange.{RouteChange}
+use Rattle.mm_st15.specs.declared.request.Request.TheVariants as request
 use Rattle.mm_memory.specs.declared.instruction.RouteChange.TheVariants as route
 
 -- the identifier that octets are

@@ -1,10 +1,7 @@
 -- Laws over memories.
-use Rattle.std.specs.Prelude.{◌≡◌, List}
-use Rattle.mm_base.specs.declared.rows.RouteRow.{RouteRow}
-use Rattle.mm_control.specs.Routes.{has_row}
-use Rattle.mm_desk.specs.declared.held.Held.{Held}
-pub use Rattle.mm_desk.specs.Holdings.{ids_of}
+use Rattle.mm_memory.specs.Words.{◌≡◌, List, RouteRow, has_row, Held}
 use Rattle.mm_memory.specs.Holdings.{AreHeld, table_of}
+pub use Rattle.mm_desk.specs.Holdings.{ids_of}
 
 -- whether a memory may hold some stores depends on their identifiers alone
 abbrev pub IdsDecide : Type 0

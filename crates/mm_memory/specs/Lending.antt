@@ -1,7 +1,6 @@
 -- A store's state that is lent, and the memory once it is given back.
-use Rattle.std.specs.Prelude.{ℕ, List, Option}
+use Rattle.mm_memory.specs.Words.{ℕ, List, Option, State}
 use Rattle.std.specs.Borrow.{MutBor, Fml, LendsIf}
-use Rattle.mm_desk.specs.Machine.{State}
 use Rattle.mm_desk.specs.contracts.state.StoreState.{the_row as state_row}
 use Rattle.mm_memory.specs.contracts.memory.Memory.{the_row as memory_row}
 use Rattle.mm_memory.specs.Holdings.{Holdings, with_changed}

@@ -1,5 +1,6 @@
 pub use Rattle.mm_control.specs.Routes
 pub use Rattle.mm_desk.specs.Machine
+pub mod Words
 pub mod Holdings
 pub mod Naming
 pub mod Lending

@@ -1,9 +1,6 @@
 -- The store whose identifier has a text.
-use Rattle.std.specs.Prelude.{◌≡◌, ℕ, if◌then◌else◌, List, Option, None}
-use Rattle.std.specs.Option.{option_map}
+use Rattle.mm_memory.specs.Words.{◌≡◌, ℕ, if◌then◌else◌, List, Option, None, option_map, Held, State}
 use Rattle.mm_base.specs.Id.{is_id_text, field_of, IsIdText, IsIdField}
-use Rattle.mm_desk.specs.declared.held.Held.{Held}
-use Rattle.mm_desk.specs.Machine.{State}
 use Rattle.mm_memory.specs.Holdings.{Holdings, StandsAt, store_of}
 
 -- the store whose identifier has this text; none where the text is no identifier's

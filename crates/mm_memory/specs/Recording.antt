@@ -1,13 +1,9 @@
 -- A packet that is recorded: each store that its report type is routed to is offered it.
-use Rattle.std.specs.Prelude.{ℕ, if◌then◌else◌, List, [], ◌∷◌, map, Option, Some, None}
-use Rattle.mm_base.specs.declared.rows.RouteRow.{RouteRow}
-use Rattle.mm_packet.specs.Packet.{SpacePacket}
-pub use Rattle.mm_control.specs.Routing.{row_for, is_routed}
-use Rattle.mm_desk.specs.declared.held.Held.{Held}
-use Rattle.mm_desk.specs.Machine.{offer}
-use Rattle.mm_memory.specs.declared.tally.Tally.{Tally}
+use Rattle.mm_memory.specs.Words.{ℕ, if◌then◌else◌, List, [], ◌∷◌, map, Option, Some, None, RouteRow, SpacePacket, Held}
+use Rattle.mm_memory.specs.Words.{offer, Tally}
 use Rattle.mm_memory.specs.Holdings.{Holdings}
 use Rattle.mm_memory.specs.Tallies.{nothing, tally_of, plus}
+pub use Rattle.mm_control.specs.Routing.{row_for, is_routed}
 
 -- the packet, for a store that it is routed to
 abbrev pub packet_for : List RouteRow → SpacePacket → Held → Option SpacePacket

@@ -1,21 +1,15 @@
--- The reports that answer a request, by the memory that it finds. A request that is answered by reports changes nothing.
-use Rattle.std.specs.Prelude.{ℕ, Bool, if◌then◌else◌, List, [], ◌∷◌, length, map, filter, filter_map, Option, None, is_some, option_map}
-use Rattle.mm_base.specs.declared.rows.RouteRow.{RouteRow}
+-- The reports that answer a request, by the memory that it finds. A request that is answered by reports changes
+-- nothing.
+use Rattle.mm_memory.specs.Words.{ℕ, Bool, if◌then◌else◌, List, [], ◌∷◌, length, map, filter, filter_map, Option, None}
+use Rattle.mm_memory.specs.Words.{is_some, RouteRow, oldest, newest, is_to, Configuration, Target, Row, Request, Held}
+use Rattle.mm_memory.specs.Words.{is_id, option_map}
 use Rattle.mm_base.specs.Kind.{code_of}
-use Rattle.mm_store.specs.Content.{oldest, newest}
-use Rattle.mm_control.specs.Routes.{is_to}
-use Rattle.mm_st15.specs.declared.instruction.Configuration.{Configuration}
-use Rattle.mm_st15.specs.declared.instruction.Target.{Target}
 use Rattle.mm_st15.specs.declared.report.Report.{Report}
-use Rattle.mm_st15.specs.declared.report.Report.TheVariants as report
-use Rattle.mm_st15.specs.declared.report_entry.Row.{Row}
 use Rattle.mm_st15.specs.declared.report_entry.Status.{Status}
 use Rattle.mm_st15.specs.declared.report_entry.Summary.{Summary}
-use Rattle.mm_st15.specs.declared.request.Request.{Request}
-use Rattle.mm_st15.specs.declared.request.Request.TheVariants as request
-use Rattle.mm_desk.specs.declared.held.Held.{Held}
 use Rattle.mm_memory.specs.Holdings.{Holdings, store_of}
-use Rattle.mm_base.specs.Id.{is_id}
+use Rattle.mm_st15.specs.declared.report.Report.TheVariants as report
+use Rattle.mm_st15.specs.declared.request.Request.TheVariants as request
 
 -- a switch as a status: 0 off, 1 on
 abbrev pub status_of : Bool → ℕ
@@ -31,15 +25,24 @@ types_to id routes = map type_of (filter (is_to id) routes)
 
 -- what a store holds, in short
 abbrev pub summary_of : Held → Summary
-summary_of h = record { id = h.id; oldest = oldest h.state.store.content; newest = newest h.state.store.content; held = length h.state.store.content }
+summary_of h =
+    record {
+      id = h.id;
+      oldest = oldest h.state.store.content;
+      newest = newest h.state.store.content;
+      held = length
+          h.state.store.content;
+    }
 
 -- a store's two statuses
 abbrev pub statuses_of : Held → Status
-statuses_of h = record { id = h.id; storage = status_of h.state.storage; retrieval = status_of (is_some h.state.retrieval) }
+statuses_of h =
+    record { id = h.id; storage = status_of h.state.storage; retrieval = status_of (is_some h.state.retrieval) }
 
 -- a store's configuration
 abbrev pub configuration_of : Held → Configuration
-configuration_of h = record { id = h.id; size = h.state.store.size; kind = code_of h.state.store.kind; channel = h.channel }
+configuration_of h =
+    record { id = h.id; size = h.state.store.size; kind = code_of h.state.store.kind; channel = h.channel }
 
 -- the store that an instruction asks about, where it is accepted: the octets are an identifier, and a store has it
 abbrev pub asked_about : List ℕ → Holdings → Option Held

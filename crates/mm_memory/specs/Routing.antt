@@ -1,12 +1,9 @@
 -- The rows of the storage control that a packet follows. No public clause cites this module.
-use Rattle.std.specs.Prelude.{ℕ, Bool, if◌then◌else◌, List, [], filter, Option, Some, None}
+use Rattle.mm_memory.specs.Words.{ℕ, Bool, if◌then◌else◌, List, [], filter, Option, Some, None, RouteRow, SpacePacket}
+use Rattle.mm_memory.specs.Words.{is_for, is_to, Held}
 use Rattle.std.specs.List.{list_any, position_or_len}
-use Rattle.mm_base.specs.declared.rows.RouteRow.{RouteRow}
 use Rattle.mm_packet.specs.declared.header.PacketType.{PacketType}
 use Rattle.mm_packet.specs.declared.header.PacketType.TheVariants.{Telecommand, Telemetry}
-use Rattle.mm_packet.specs.Packet.{SpacePacket}
-use Rattle.mm_control.specs.Routes.{is_for, is_to}
-use Rattle.mm_desk.specs.declared.held.Held.{Held}
 
 -- the rows of a packet's report type; none for a telecommand
 abbrev pub rows_for : List RouteRow → SpacePacket → List RouteRow

@@ -1,9 +1,5 @@
 -- What became of a packet in several stores.
-use Rattle.std.specs.Prelude.{ℕ, ◌+◌, Result, Ok, Err}
-use Rattle.mm_desk.specs.declared.reply.Offered.{Offered}
-use Rattle.mm_desk.specs.declared.reply.Offered.TheVariants.{Kept, KeptOver, Lost}
-use Rattle.mm_desk.specs.declared.reply.Returned.{Returned}
-use Rattle.mm_memory.specs.declared.tally.Tally.{Tally}
+use Rattle.mm_memory.specs.Words.{ℕ, ◌+◌, Result, Ok, Err, Offered, Kept, KeptOver, Lost, Returned, Tally}
 
 -- how many stores keep the packet, how many packets are lost, and how many stores refuse it
 abbrev pub counted : ℕ → ℕ → ℕ → Tally

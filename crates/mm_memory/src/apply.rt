@@ -1,6 +1,8 @@
 //! Applying requests to a memory.
-ghost use Rattle.std.specs.Prelude.{◌≡◌, ◌<◌, ◌≤◌, [], length, vec_capacity, Some, None, Ok, All, IfOk, OnErr, MatchOption};
-ghost use Rattle.mm_memory.specs.Applying.{new_store, without, created, deleted, changed, routed, on_store, on_no_store, ComesUnlessNoMemory, Applies, AppliesEach, MayLack, route_to};
+ghost use Rattle.std.specs.Prelude.{◌≡◌, ◌<◌, ◌≤◌, [], length, vec_capacity, Some, None, Ok, All, IfOk, OnErr};
+ghost use Rattle.std.specs.Prelude.{MatchOption};
+ghost use Rattle.mm_memory.specs.Applying.{new_store, without, created, deleted, changed, routed, on_store};
+ghost use Rattle.mm_memory.specs.Applying.{on_no_store, ComesUnlessNoMemory, Applies, AppliesEach, MayLack, route_to};
 ghost use Rattle.mm_memory.specs.Acting.{act, TakesMemory};
 ghost use Rattle.mm_control.specs.Routes.{without_store};
 ghost use Rattle.mm_memory.specs.Holdings.{StandsAt, store_of};
@@ -46,14 +48,6 @@ fn route_to(id: StoreId, row: &Row) -> RouteRow
 }
 
 impl Memory {
-    // The place of the store with this identifier.
-    fn place(&self, id: &StoreId) -> Option<usize>
-        ensures { MatchOption result (store_of id.now self.now.stores ≡ None)
-            (λ place. StandsAt id.now self.now.stores place) }
-    {
-        place_of(&self.stores, id)
-    }
-
     // Creates a store that is not there.
     fn create(&mut self, alloc: Global, id: StoreId, config: &StoreConfig) -> Result<(), Fault>
         requires { store_of id self.old.stores ≡ None }
@@ -139,17 +133,7 @@ impl Memory {
         }
     }
 
-    // Carries out an instruction.
-    fn carry_out(&mut self, alloc: Global, instruction: &Instruction) -> Result<(), Fault>
-        ensures { Applies (Ok instruction.now) self.old (result, self.new) }
-    {
-        match self.place(&instruction.id) {
-            Some(place) => self.on_store(place, &instruction.id, &instruction.action),
-            None => self.on_no_store(alloc, instruction.id, &instruction.action),
-        }
-    }
-
-    // Applies an instruction, or answers the test that it fails.
+    // Carries out an instruction, or answers the test that it fails.
     fn apply_one(
         &mut self,
         alloc: Global,
@@ -158,7 +142,10 @@ impl Memory {
         ensures { Applies instruction.now self.old (result, self.new) }
     {
         match instruction {
-            Ok(instruction) => self.carry_out(alloc, instruction),
+            Ok(instruction) => match place_of(&self.stores, &instruction.id) {
+                Some(place) => self.on_store(place, &instruction.id, &instruction.action),
+                None => self.on_no_store(alloc, instruction.id, &instruction.action),
+            },
             Err(fault) => Err(*fault),
         }
     }

@@ -67,12 +67,14 @@ impl Memory {
         Some(&mut held.state)
     }
 
-    /// The state of the store whose identifier has this text, to be changed; none where no identifier or no store has it.
+    /// The state of the store whose identifier has this text, to be changed; none where no identifier or no store has
+    /// it.
     pub fn named_mut(&mut self, text: &[u8]) -> Option<&mut StoreState>
         ensures* lends { sem 𝓛 (LendsState self.entry (field_of text.now) result) }
         ensures state { option_copied_mut result ≡ state_of_text text.now self.old }
         // The memory is as it was where the state is left as it was.
-        ensures same { (s : State) → state_of_text text.now self.old ≡ Some s → with_state (field_of text.now) self.old s ≡ self.old }
+        ensures same { (s : State) → state_of_text text.now self.old ≡ Some s → with_state (field_of text.now) self.old
+            s ≡ self.old }
     {
         let place = place_named(&self.stores, text)?;
         let held = self.stores.get_mut(place)?;

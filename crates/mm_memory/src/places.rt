@@ -20,7 +20,8 @@ fn padded(text: &[u8]) -> Option<[u8; 8]>
     Some(field)
 }
 
-// The place of the store whose identifier has this field, from 0. It is a call, so that each field is compared in one piece.
+// The place of the store whose identifier has this field, from 0. It is a call, so that each field is compared in one
+// piece.
 #[inline(never)]
 fn place_of_field(stores: &[Held], field: &[u8; 8]) -> Option<usize>
     ensures place { result ≡ position (has_id field.now) stores.now }

@@ -4,7 +4,7 @@ ghost use Rattle.std.specs.Option.{option_copied};
 ghost use Rattle.mm_st15.specs.Report.{HasCount};
 ghost use Rattle.mm_st15.specs.Request.{count_of};
 ghost use Rattle.mm_st15.specs.declared.report.TheConstants.{MOST_ROWS};
-ghost use Rattle.mm_memory.specs.Reports.{status_of, types_to, summary_of, asked_about, summary_at, control_at, reports_on};
+ghost use Rattle.mm_memory.specs.Reports.{types_to, summary_of, asked_about, summary_at, control_at, reports_on};
 
 use crate::memory::Memory;
 use crate::places::store_of;
@@ -14,13 +14,6 @@ use mm_desk::Held;
 use mm_st15::{Configuration, Entries, Report, Request, Row, Status, Summary, Target};
 use mm_store::PacketStore;
 use std::alloc::Global;
-
-// A switch as a status.
-fn status_of(on: bool) -> u8
-    ensures { result ≡ status_of on }
-{
-    if on { 1 } else { 0 }
-}
 
 fn summary_of(held: &Held) -> Summary
     ensures { result ≡ summary_of held.now }
@@ -53,8 +46,8 @@ impl OfStore for Status {
     fn of(held: &Held) -> Status {
         Status {
             id: held.id.field(),
-            storage: status_of(held.state.storage()),
-            retrieval: status_of(held.state.retrieval().is_some()),
+            storage: u8::from(held.state.storage()),
+            retrieval: u8::from(held.state.retrieval().is_some()),
         }
     }
 }

@@ -2,9 +2,9 @@
 ghost use Rattle.std.specs.Prelude.{◌≡◌, map, IfOk};
 ghost use Rattle.mm_memory.specs.Instruction.{for_targets, instructions_of};
 ghost use Rattle.mm_memory.specs.declared.instruction.Action.TheVariants.{Change as Changes};
-ghost use Rattle.mm_memory.specs.declared.instruction.StoreChange.TheVariants.{SetKind};
 
 use crate::fault::Fault;
+use crate::instruction::StoreChange::SetKind;
 use crate::instruction::{Action, Instruction, RouteChange, StoreChange};
 use crate::validation::Validate;
 use mm_base::{Kind, NoMemory};
@@ -33,13 +33,6 @@ fn change_each(alloc: Global, targets: &Entries<Target>, change: StoreChange) ->
     each(alloc, targets, Action::Change(change))
 }
 
-// This kind for each store that is named.
-fn set_kind_each(alloc: Global, targets: &Entries<Target>, kind: Kind) -> Instructions
-    ensures { IfOk result (λ all. all.items ≡ for_targets (Changes (SetKind kind)) targets.now) }
-{
-    change_each(alloc, targets, StoreChange::SetKind(kind))
-}
-
 // The instructions of a request, in order.
 pub(crate) fn instructions_of(alloc: Global, request: &Request) -> Instructions
     ensures { IfOk result (λ all. all.items ≡ instructions_of request.now) }
@@ -59,8 +52,8 @@ pub(crate) fn instructions_of(alloc: Global, request: &Request) -> Instructions
         Request::DeleteStores(targets) => each(alloc, targets, Action::Delete),
         Request::ReportConfiguration => Ok(Vec::new(alloc)),
         Request::ResizeStores(sizes) => each(alloc, sizes, ()),
-        Request::ChangeToCircular(targets) => set_kind_each(alloc, targets, Kind::Circular),
-        Request::ChangeToBounded(targets) => set_kind_each(alloc, targets, Kind::Bounded),
+        Request::ChangeToCircular(targets) => change_each(alloc, targets, SetKind(Kind::Circular)),
+        Request::ChangeToBounded(targets) => change_each(alloc, targets, SetKind(Kind::Bounded)),
         Request::ChangeChannel(channels) => each(alloc, channels, ()),
     }
 }

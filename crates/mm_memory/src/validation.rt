@@ -1,10 +1,12 @@
 //! The tests of an instruction's fields.
 ghost use Rattle.std.specs.Prelude.{◌≡◌, is_ok, IfOk, IfErr};
 ghost use Rattle.mm_base.specs.Id.{is_id};
-ghost use Rattle.mm_memory.specs.Instruction.{kind_tested, code_tested, type_asked, store_asked, size_asked, channel_asked, parsed};
+ghost use Rattle.mm_memory.specs.Instruction.{kind_tested, code_tested, type_asked, store_asked, size_asked};
+ghost use Rattle.mm_memory.specs.Instruction.{channel_asked, parsed};
 ghost use Rattle.mm_memory.specs.declared.fault.Fault.TheVariants.{BadId};
 
 use crate::fault::Fault;
+use crate::instruction::StoreChange::{Begin, DeleteContent};
 use crate::instruction::{Action, Blocks, Instruction, RouteChange, StoreChange, StoreConfig};
 use mm_base::{Kind, MAX_APID, MAX_CHANNEL, StoreId};
 use mm_st15::{Channel, Configuration, ReportType, Row, Size, Target, TimeLimit, TimeRange};
@@ -147,10 +149,7 @@ impl Validate for TimeRange {
     ghost validated = { λ _ range. parsed range.id (range_asked range) };
 
     fn validate(&self, _context: ()) -> Result<Instruction, Fault> {
-        parsed(
-            self.id,
-            Ok(Action::Change(StoreChange::Begin(self.from, self.to))),
-        )
+        parsed(self.id, Ok(Action::Change(Begin(self.from, self.to))))
     }
 }
 
@@ -162,10 +161,7 @@ impl Validate for TimeLimit {
     ghost validated = { λ _ fields. parsed fields.id (limit_asked fields) };
 
     fn validate(&self, _context: ()) -> Result<Instruction, Fault> {
-        parsed(
-            self.id,
-            Ok(Action::Change(StoreChange::DeleteContent(self.limit))),
-        )
+        parsed(self.id, Ok(Action::Change(DeleteContent(self.limit))))
     }
 }
 

@@ -1,23 +1,13 @@
 -- How many reports wait once a request is applied.
-use Rattle.std.proofs.Common.{◌≡◌, inl, inr, ℕ, ◌+◌, ◌≤◌, List, [], ◌∷◌, length, refl, sym, ap, subst, ◌∙◌, arith}
-use Rattle.std.proofs.Common.{length-append}
-use Rattle.std.specs.Prelude.{Option, Some, None, Ok}
-use Rattle.mm_base.proofs.ReadingSteps.{ok_same}
-use Rattle.mm_packet.specs.Packet.{SpacePacket}
-use Rattle.mm_st15.specs.declared.report.Report.{Report}
-use Rattle.mm_st15.specs.declared.request.Request.{Request}
-use Rattle.mm_st15.specs.declared.request.Request.TheVariants as request
-use Rattle.mm_st15.specs.Request.{IsRequest, SpellsRequest}
+use Rattle.mm_service.proofs.Words.{◌≡◌, inl, inr, ℕ, ◌+◌, ◌≤◌, List, [], ◌∷◌, length, refl, sym, ap, subst, ◌∙◌, arith}
+use Rattle.mm_service.proofs.Words.{length-append, Option, Some, None, Ok, ok_same, SpacePacket, Report, Request}
+use Rattle.mm_service.proofs.Words.{IsRequest, SpellsRequest, Holdings, control_at, reports_on, PassesBound, request_of}
+use Rattle.mm_service.proofs.Words.{Queue, queue_of, with_report, with_reports, Serving}
 use Rattle.mm_st15.proofs.RequestLemmas.{one_request}
-use Rattle.mm_memory.specs.Holdings.{Holdings}
-use Rattle.mm_memory.specs.Reports.{control_at, reports_on}
-use Rattle.mm_ask.specs.declared.fault.LineFault.TheVariants as octets
-use Rattle.mm_service.specs.Applying.{PassesBound}
-use Rattle.mm_service.specs.Reading.{request_of}
 use Rattle.mm_service.specs.Bounding.{IsWithin, most_reports, MayWait, KeepsBound}
-use Rattle.mm_service.specs.Queue.{Queue, queue_of, with_report, with_reports}
-use Rattle.mm_service.specs.Serving.{Serving}
 use Rattle.mm_memory.proofs.ReportLemmas.{length-filter_map}
+use Rattle.mm_st15.specs.declared.request.Request.TheVariants as request
+use Rattle.mm_ask.specs.declared.fault.LineFault.TheVariants as octets
 
 -- each report waits
 waits_each : (asked : SpacePacket) (reports : List Report) (q : Queue)

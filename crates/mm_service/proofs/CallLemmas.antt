@@ -1,38 +1,27 @@
 -- The calls of a service are calls on its memory, and what they give was brought.
-use Rattle.std.proofs.Common.{◌≡◌, ℕ, Bool, true, false, List, [], ◌∷◌, ◌++◌, length, take, drop, All, Contains, refl}
-use Rattle.std.proofs.Common.{sym, ap, subst, ◌∙◌, append_assoc}
-use Rattle.std.specs.Prelude.{if◌then◌else◌, map, bytes_eq, Option, Some, None, Result, Ok, Err}
-use Rattle.std.proofs.lemmas.List.{append-nil, map-append, take_at}
-use Rattle.std.proofs.lemmas.List.Elements.{All-nil, All-cons, All-head, All-tail, All-append, All-map}
-use Rattle.std.proofs.lemmas.List.Elements.{All-contains_itself}
+use Rattle.mm_service.proofs.Words.{◌≡◌, ℕ, Bool, true, false, List, [], ◌∷◌, ◌++◌, length, take, drop, All, Contains}
+use Rattle.mm_service.proofs.Words.{refl, sym, ap, subst, ◌∙◌, append_assoc, if◌then◌else◌, map, bytes_eq, Option, Some}
+use Rattle.mm_service.proofs.Words.{None, Result, Ok, Err, append-nil, map-append, take_at, All-tail, is_id_text}
+use Rattle.mm_service.proofs.Words.{field_of, bind_ok, cond_ok, ok_same, SpacePacket, spelling, Stored, State, offer}
+use Rattle.mm_service.proofs.Words.{next, step, Holdings, state_of, instructions_of, with_state, Fault, BadId}
+use Rattle.mm_service.proofs.Words.{NoSuchStore, id_tested, block_of, Serving, state_named, with_store}
+use Rattle.std.proofs.lemmas.List.Elements.{All-nil, All-cons, All-head, All-append, All-map, All-contains_itself}
 use Rattle.std.proofs.lemmas.Slice.Eq.{bytes_eq-Decides}
-use Rattle.mm_base.specs.Id.{is_id_text, field_of}
 use Rattle.mm_base.proofs.Pairs.{All-front, All-back}
-use Rattle.mm_base.proofs.ReadingSteps.{bind_ok, cond_ok, ok_same}
-use Rattle.mm_packet.specs.Packet.{SpacePacket}
-use Rattle.mm_packet.specs.Spelling.{spelling}
-use Rattle.mm_store.specs.declared.stored.Stored.{Stored}
 use Rattle.mm_desk.specs.declared.event.Event.TheVariants.{Offer, Next}
 use Rattle.mm_desk.specs.declared.fault.Fault.{Fault as StateFault}
 use Rattle.mm_desk.specs.declared.reply.Offered.{Offered}
 use Rattle.mm_desk.specs.declared.reply.Offered.TheVariants.{Kept, KeptOver, Lost}
 use Rattle.mm_desk.specs.declared.reply.Returned.{Returned}
 use Rattle.mm_desk.specs.Fates.{found_in, given, over}
-use Rattle.mm_desk.specs.Machine.{State, offer, next, step}
 use Rattle.mm_memory.specs.declared.tally.Tally.{Tally}
 use Rattle.mm_memory.specs.Accounts.{records, asks, Call as MemoryCall, Turn as MemoryTurn, AreTurns as AreMemoryTurns}
 use Rattle.mm_memory.specs.Accounts.{after_turns, calls_of, kept_by, kept, kept_in, given_by, in_store, in_turns}
-use Rattle.mm_memory.specs.Accounts.{held_in}
-use Rattle.mm_memory.specs.Accounts.{AccountForPackets}
-use Rattle.mm_memory.specs.Holdings.{Holdings, state_of}
-use Rattle.mm_memory.specs.Instruction.{instructions_of}
-use Rattle.mm_memory.specs.Lending.{with_state}
+use Rattle.mm_memory.specs.Accounts.{held_in, AccountForPackets}
 use Rattle.mm_memory.specs.Recording.{is_routed, after_record, tally_after}
 use Rattle.mm_memory.proofs.ApplyLemmas.{requested}
 use Rattle.mm_memory.proofs.GivenLemmas.{keeps_none, gives_none, instructions_do, turns_have}
 use Rattle.mm_memory.specs.Retrievals.{RetrievalsGiveRangesIn}
-use Rattle.mm_service.specs.declared.fault.Fault.{Fault}
-use Rattle.mm_service.specs.declared.fault.Fault.TheVariants.{BadId, NoSuchStore}
 use Rattle.mm_service.specs.declared.giving.Given.{Given}
 use Rattle.mm_service.specs.declared.offering.Fate.{Fate}
 use Rattle.mm_service.specs.declared.reporting.Reported.{Reported}
@@ -42,9 +31,7 @@ use Rattle.mm_service.specs.Accounts.{refused_call, Turn, MayLeave, AreTurns, Ar
 use Rattle.mm_service.specs.Accounts.{in_calls, octets_of, octets_held}
 use Rattle.mm_service.specs.Giving.{Tells, TellsPacket, next_of, first_of, given_of, Leaves as LeavesNext}
 use Rattle.mm_service.specs.Offering.{fate_of}
-use Rattle.mm_service.specs.Reading.{id_tested, block_of}
 use Rattle.mm_service.specs.Reporting.{after, Reports}
-use Rattle.mm_service.specs.Serving.{Serving, state_named, with_store}
 use Rattle.mm_service.proofs.SpellingLemmas.{no_value, block_is, request_is}
 
 -- the store that is named

@@ -1,21 +1,11 @@
 -- What a call for the next packet of a retrieval gives and leaves.
-use Rattle.std.proofs.Common.{◌≡◌, ℕ, Bool, true, false, List, refl, sym, subst, ap, ◌∙◌}
-use Rattle.std.specs.Prelude.{Option, Some, None, Result, Ok, Err, OnErr, if◌then◌else◌}
-use Rattle.std.specs.Option.{option_map}
-use Rattle.std.proofs.lemmas.Option.{none-some}
-use Rattle.mm_base.specs.Id.{is_id_text, field_of}
-use Rattle.mm_base.specs.Reading.{◌>>=◌}
-use Rattle.mm_store.specs.declared.stored.Stored.{Stored}
-use Rattle.mm_desk.specs.Machine.{State, next}
+use Rattle.mm_service.proofs.Words.{◌≡◌, ℕ, Bool, true, false, List, refl, sym, subst, ap, ◌∙◌, Option, Some, None}
+use Rattle.mm_service.proofs.Words.{Result, Ok, Err, OnErr, if◌then◌else◌, option_map, none-some, is_id_text, field_of}
+use Rattle.mm_service.proofs.Words.{◌>>=◌, Stored, State, next, Holdings, state_of, store_of, state_of_text, Fault}
+use Rattle.mm_service.proofs.Words.{BadId, NoSuchStore, id_tested, missing, Serving, state_named, with_store}
 use Rattle.mm_desk.specs.declared.held.Held.{Held}
-use Rattle.mm_memory.specs.Holdings.{Holdings, state_of, store_of}
-use Rattle.mm_memory.specs.Naming.{state_of_text}
-use Rattle.mm_service.specs.declared.fault.Fault.{Fault}
-use Rattle.mm_service.specs.declared.fault.Fault.TheVariants.{BadId, NoSuchStore}
 use Rattle.mm_service.specs.declared.giving.Given.{Given}
 use Rattle.mm_service.specs.Giving.{Tells, next_of, first_of, Leaves, GivesNext, given_of}
-use Rattle.mm_service.specs.Reading.{id_tested, missing}
-use Rattle.mm_service.specs.Serving.{Serving, state_named, with_store}
 
 -- what is given, and the service that is left
 abbrev Both : Type 0
@@ -28,7 +18,8 @@ first_of-then_left : (t : Serving) (r : Result (Option Stored) Fault) → first_
 first_of-then_left t (Ok given) = refl
 first_of-then_left t (Err fault) = refl
 
-leaves : (s t : Serving) (r : Result (Option Stored) Fault) (told : Result (Option Given) Fault) (old new : List ℕ) → Tells r told old new → OnErr told (t ≡ s) → Leaves (then_left t r) s t
+leaves : (s t : Serving) (r : Result (Option Stored) Fault) (told : Result (Option Given) Fault) (old new : List ℕ)
+    → Tells r told old new → OnErr told (t ≡ s) → Leaves (then_left t r) s t
 leaves s t (Ok given) told old new tells same = refl
 leaves s t (Err reason) (Err fault) old new tells same = same
 leaves s t (Err reason) (Ok None) old new tells same = absurd tells
@@ -42,48 +33,58 @@ abbrev from_field : Serving → List ℕ → Both
 from_field s field = state_named field s >>= from_state field s
 
 -- a store has the identifier
-pub gives_named : (id field : List ℕ) (s t : Serving) (state : State) (told : Result (Option Given) Fault) (old new : List ℕ) → id_tested id ≡ Ok field → state_of field s.memory ≡ Some state → Tells (given_of (next state).0) told old new → t ≡ with_store field s (next state).1 → OnErr told (t ≡ s) → GivesNext id told s t old new
+pub gives_named : (id field : List ℕ) (s t : Serving) (state : State) (told : Result (Option Given) Fault)
+    (old new : List ℕ) → id_tested id ≡ Ok field → state_of field s.memory ≡ Some state
+    → Tells (given_of (next state).0) told old new → t ≡ with_store field s (next state).1 → OnErr told (t ≡ s)
+    → GivesNext id told s t old new
 gives_named id field s t state told old new is_field is_state tells left same =
     let r = given_of (next state).0 in
     let found : state_named field s ≡ Ok state = rw is_state refl in
     let whole : next_of id s ≡ then_left t r =
-    ap (λ (x : Result (List ℕ) Fault). x >>= from_field s) is_field ∙ ap (λ (x : Result State Fault). x >>= from_state field s) found ∙ ap (λ (x : Serving). then_left x r) (sym left) in
+    ap (λ (x : Result (List ℕ) Fault). x >>= from_field s) is_field ∙ ap
+    (λ (x : Result State Fault). x >>= from_state field s) found ∙ ap (λ (x : Serving). then_left x r) (sym left) in
     record {
-      tells = subst (λ (x : Result (Option Stored) Fault). Tells x told old new) (sym (ap first_of whole ∙ first_of-then_left t r)) tells;
+      tells = subst (λ (x : Result (Option Stored) Fault). Tells x told old new)
+          (sym (ap first_of whole ∙ first_of-then_left t r)) tells;
       leaves = subst (λ (x : Both). Leaves x s t) (sym whole) (leaves s t r told old new tells same);
     }
 
+-- the first test that fails is told
+refusal_is : (id : List ℕ) (s : Serving) (old : List ℕ) (fault : Fault) → next_of id s ≡ Err fault
+    → GivesNext id (Err fault) s s old old
+refusal_is id s old fault whole = record {
+  tells = subst (λ (x : Both). Tells (first_of x) (Err fault) old old) (sym whole) (refl, refl);
+  leaves = subst (λ (x : Both). Leaves x s s) (sym whole) refl;
+}
+
 -- no store has it
-pub gives_unnamed : (id field : List ℕ) (s : Serving) (old : List ℕ) → id_tested id ≡ Ok field → state_of field s.memory ≡ None → GivesNext id (Err NoSuchStore) s s old old
+pub gives_unnamed : (id field : List ℕ) (s : Serving) (old : List ℕ) → id_tested id ≡ Ok field
+    → state_of field s.memory ≡ None → GivesNext id (Err NoSuchStore) s s old old
 gives_unnamed id field s old is_field is_none =
     let lacks : state_named field s ≡ Err NoSuchStore = rw is_none refl in
-    let whole : next_of id s ≡ Err NoSuchStore =
-    ap (λ (x : Result (List ℕ) Fault). x >>= from_field s) is_field ∙ ap (λ (x : Result State Fault). x >>= from_state field s) lacks in
-    record {
-      tells = subst (λ (x : Both). Tells (first_of x) (Err NoSuchStore) old old) (sym whole) (refl, refl);
-      leaves = subst (λ (x : Both). Leaves x s s) (sym whole) refl;
-    }
+    refusal_is id s old NoSuchStore (ap (λ (x : Result (List ℕ) Fault). x >>= from_field s) is_field
+    ∙ ap (λ (x : Result State Fault). x >>= from_state field s) lacks)
 
 -- the state of the store that a text names, where the text passes this test
 abbrev by_test : List ℕ → Holdings → Bool → Option State
 by_test text memory t = option_map (λ (h : Held). h.state) (if t then store_of (field_of text) memory.stores else None)
 
 -- a text that names a store is an identifier's, and the store is the one with its field
-pub named_state : (text : List ℕ) (memory : Holdings) (state : State) → state_of_text text memory ≡ Some state → (id_tested text ≡ Ok (field_of text)) × (state_of (field_of text) memory ≡ Some state)
+pub named_state : (text : List ℕ) (memory : Holdings) (state : State) → state_of_text text memory ≡ Some state
+    → (id_tested text ≡ Ok (field_of text)) × (state_of (field_of text) memory ≡ Some state)
 named_state text memory state = tested (is_id_text text) refl where
-  tested : (t : Bool) → is_id_text text ≡ t → by_test text memory t ≡ Some state → (id_tested text ≡ Ok (field_of text)) × (state_of (field_of text) memory ≡ Some state)
+  tested : (t : Bool) → is_id_text text ≡ t → by_test text memory t ≡ Some state
+      → (id_tested text ≡ Ok (field_of text)) × (state_of (field_of text) memory ≡ Some state)
   tested true e found = (rw e refl, found)
   tested false e found = absurd (none-some state found)
 
 -- no store is named by the text
-pub gives_missing : (id : List ℕ) (s : Serving) (old : List ℕ) → state_of_text id s.memory ≡ None → GivesNext id (Err (missing id)) s s old old
+pub gives_missing : (id : List ℕ) (s : Serving) (old : List ℕ) → state_of_text id s.memory ≡ None
+    → GivesNext id (Err (missing id)) s s old old
 gives_missing id s old = tested (is_id_text id) refl where
-  tested : (t : Bool) → is_id_text id ≡ t → by_test id s.memory t ≡ None → GivesNext id (Err (if t then NoSuchStore else BadId)) s s old old
+  tested : (t : Bool) → is_id_text id ≡ t → by_test id s.memory t ≡ None
+      → GivesNext id (Err (if t then NoSuchStore else BadId)) s s old old
   tested true e none = gives_unnamed id (field_of id) s old (rw e refl) none
   tested false e none =
       let refused : id_tested id ≡ Err BadId = rw e refl in
-      let whole : next_of id s ≡ Err BadId = ap (λ (x : Result (List ℕ) Fault). x >>= from_field s) refused in
-      record {
-        tells = subst (λ (x : Both). Tells (first_of x) (Err BadId) old old) (sym whole) (refl, refl);
-        leaves = subst (λ (x : Both). Leaves x s s) (sym whole) refl;
-      }
+      refusal_is id s old BadId (ap (λ (x : Result (List ℕ) Fault). x >>= from_field s) refused)

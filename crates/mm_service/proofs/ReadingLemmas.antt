@@ -1,12 +1,8 @@
 -- The test of an identifier's text decides whether it is one.
-use Rattle.std.proofs.Common.{◌≡◌, ℕ, Bool, true, false, List, refl, sym, ap}
-use Rattle.std.specs.Prelude.{if◌then◌else◌, Result, Ok, Err, is_ok}
-use Rattle.std.proofs.lemmas.Bool.{false≢true}
-use Rattle.mm_base.specs.Id.{is_id_text, IsIdText, field_of}
+use Rattle.mm_service.proofs.Words.{◌≡◌, ℕ, Bool, true, false, List, refl, sym, ap, if◌then◌else◌, Result, Ok, Err}
+use Rattle.mm_service.proofs.Words.{is_ok, false≢true, is_id_text, IsIdText, field_of, Fault, BadId, NoSuchStore}
+use Rattle.mm_service.proofs.Words.{id_tested, missing}
 use Rattle.mm_base.proofs.IdFields.{is_id_text_decides}
-use Rattle.mm_service.specs.declared.fault.Fault.{Fault}
-use Rattle.mm_service.specs.declared.fault.Fault.TheVariants.{BadId, NoSuchStore}
-use Rattle.mm_service.specs.Reading.{id_tested, missing}
 
 -- what the test gives
 tested : List ℕ → Bool → Result (List ℕ) Fault

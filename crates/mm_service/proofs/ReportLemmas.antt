@@ -1,14 +1,9 @@
 -- How many reports and how many instructions a request has.
-use Rattle.std.proofs.Common.{◌≡◌, suc, ◌<◌, ◌≤◌, List, [], ◌∷◌, length, refl, ap, arith}
-use Rattle.std.specs.Prelude.{map}
-use Rattle.std.proofs.lemmas.List.{length-map}
-use Rattle.mm_st15.specs.declared.request.Request.{Request}
-use Rattle.mm_st15.specs.declared.request.Request.TheVariants as request
-use Rattle.mm_st15.specs.Request.{IsRequest}
+use Rattle.mm_service.proofs.Words.{◌≡◌, suc, ◌<◌, ◌≤◌, List, [], ◌∷◌, length, refl, ap, arith, map, length-map}
+use Rattle.mm_service.proofs.Words.{Request, IsRequest, Holdings, Parsed, instructions_of}
 use Rattle.mm_memory.specs.declared.answer.Answer.{Answer}
 use Rattle.mm_memory.specs.Applying.{AppliesEach}
-use Rattle.mm_memory.specs.Holdings.{Holdings}
-use Rattle.mm_memory.specs.Instruction.{Parsed, instructions_of}
+use Rattle.mm_st15.specs.declared.request.Request.TheVariants as request
 
 -- there are as many answers as instructions
 pub as_many_answers : (parsed : List Parsed) (m : Holdings) (answers : List Answer) (left : Holdings)

@@ -1,9 +1,6 @@
 -- A store's state that is put back as it was leaves the service as it was.
-use Rattle.std.proofs.Common.{◌≡◌, ℕ, List, ap}
-use Rattle.mm_desk.specs.Machine.{State}
-use Rattle.mm_memory.specs.Holdings.{Holdings}
-use Rattle.mm_memory.specs.Lending.{with_state}
-use Rattle.mm_service.specs.Serving.{Serving, with_store}
+use Rattle.mm_service.proofs.Words.{◌≡◌, ℕ, List, ap, State, Holdings, with_state, Serving, with_store}
 
-pub put_back : (id : List ℕ) (s : Serving) (state : State) → with_state id s.memory state ≡ s.memory → with_store id s state ≡ s
+pub put_back : (id : List ℕ) (s : Serving) (state : State) → with_state id s.memory state ≡ s.memory
+    → with_store id s state ≡ s
 put_back id s state same = ap (λ (m : Holdings). let t : Serving = record s { memory = m } in t) same

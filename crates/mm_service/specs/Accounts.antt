@@ -1,25 +1,14 @@
 -- What becomes of packets in the calls of a service, octet for octet.
-use Rattle.std.specs.Prelude.{◌≡◌, ℕ, ◌<◌, if◌then◌else◌, List, [], ◌∷◌, ◌++◌, take, map, flat_map, bytes_eq, All}
-use Rattle.std.specs.Prelude.{Contains, Option, Some, Ok}
-use Rattle.mm_base.specs.Id.{field_of}
-use Rattle.mm_packet.specs.Packet.{SpacePacket}
-use Rattle.mm_packet.specs.Spelling.{spelling}
-use Rattle.mm_st15.specs.declared.request.Request.{Request}
-use Rattle.mm_st15.specs.Request.{SpellsRequest}
-use Rattle.mm_store.specs.declared.stored.Stored.{Stored}
+use Rattle.mm_service.specs.Words.{◌≡◌, ℕ, ◌<◌, if◌then◌else◌, List, [], ◌∷◌, ◌++◌, take, map, flat_map, bytes_eq, All}
+use Rattle.mm_service.specs.Words.{Contains, Option, Some, Ok, field_of, SpacePacket, spelling, Request, SpellsRequest}
+use Rattle.mm_service.specs.Words.{Stored, IsState, Tally, state_of, instructions_of, Fate, Reported}
 use Rattle.mm_desk.specs.declared.event.Event.TheVariants.{Offer, Next}
-use Rattle.mm_desk.specs.Machine.{IsState}
 use Rattle.mm_desk.specs.Retrievals.{IsBegun}
-use Rattle.mm_memory.specs.declared.tally.Tally.{Tally}
 use Rattle.mm_memory.specs.Accounts.{Call as MemoryCall, records, asks, applies, Turn as MemoryTurn}
 use Rattle.mm_memory.specs.Accounts.{AreTurns as AreMemoryTurns, after_turns, calls_of, held_in, in_turns, given_by}
 use Rattle.mm_memory.specs.Accounts.{IsAccounted}
-use Rattle.mm_memory.specs.Holdings.{state_of}
-use Rattle.mm_memory.specs.Instruction.{instructions_of}
 use Rattle.mm_memory.specs.Retrievals.{AtEachTurn, HasState, IsOnIn, GivesRangeIn}
 use Rattle.mm_service.specs.declared.giving.Given.{Given}
-use Rattle.mm_service.specs.declared.offering.Fate.{Fate}
-use Rattle.mm_service.specs.declared.reporting.Reported.{Reported}
 use Rattle.mm_service.specs.Applying.{Applies}
 use Rattle.mm_service.specs.Giving.{GivesNext}
 use Rattle.mm_service.specs.Offering.{offered}

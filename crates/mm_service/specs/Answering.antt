@@ -1,7 +1,6 @@
 -- The answers to instructions, as octets.
-use Rattle.std.specs.Prelude.{ℕ}
+use Rattle.mm_service.specs.Words.{ℕ, Answer}
 use Rattle.mm_base.specs.Refusals.{number_of}
-use Rattle.mm_memory.specs.declared.answer.Answer.{Answer}
 use Rattle.mm_memory.specs.declared.answer.Answer.TheVariants.{Done, Refused}
 use Rattle.mm_memory.specs.Fault.{refusal_of}
 use Rattle.mm_service.specs.declared.answers.TheConstants.{DONE}

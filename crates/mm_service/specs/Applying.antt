@@ -1,20 +1,13 @@
 -- A request that is applied.
-use Rattle.std.specs.Prelude.{◌≡◌, ◌≢◌, ◌⊎◌, ℕ, List, map, length, Ok, Err}
-use Rattle.mm_packet.specs.Packet.{SpacePacket}
-use Rattle.mm_st15.specs.declared.request.Request.{Request}
-use Rattle.mm_st15.specs.Request.{IsRequest, SpellsRequest}
-use Rattle.mm_memory.specs.declared.answer.Answer.{Answer}
+use Rattle.mm_service.specs.Words.{◌≡◌, ◌≢◌, ◌⊎◌, ℕ, List, map, length, Ok, Err, SpacePacket, Request, IsRequest}
+use Rattle.mm_service.specs.Words.{SpellsRequest, Answer, instructions_of, Fault, NoMemory, TooManyReports, over}
 use Rattle.mm_memory.specs.Applying.{AppliesEach}
-use Rattle.mm_memory.specs.Instruction.{instructions_of}
 use Rattle.mm_memory.specs.Reports.{reports_on}
-use Rattle.mm_service.specs.declared.fault.Fault.{Fault}
-use Rattle.mm_service.specs.declared.fault.Fault.TheVariants.{NoMemory, TooManyReports}
 use Rattle.mm_service.specs.Answering.{code_of_answer}
 use Rattle.mm_service.specs.Bounding.{MayWait, KeepsBound}
 use Rattle.mm_service.specs.Queue.{queue_of, with_reports}
 use Rattle.mm_service.specs.Reading.{request_of}
 use Rattle.mm_service.specs.Serving.{Serving}
-use Rattle.mm_packet.specs.Buffer.{over}
 
 -- the request of the packet that the octets are is applied at a moment: each instruction is answered, in order, and the
 -- codes of the answers are at the head of the buffer; the reports on the request might wait, wait after those that

@@ -1,8 +1,7 @@
 -- How many reports may wait.
-use Rattle.std.specs.Prelude.{◌≡◌, ◌⊎◌, ◌+◌, ◌≤◌, ⊤, ℕ, length, Option, Some, None}
-use Rattle.mm_st15.specs.declared.request.Request.{Request}
-use Rattle.mm_st15.specs.declared.request.Request.TheVariants as request
+use Rattle.mm_service.specs.Words.{◌≡◌, ◌⊎◌, ◌+◌, ◌≤◌, ⊤, ℕ, length, Option, Some, None, Request}
 use Rattle.mm_service.specs.Serving.{Serving}
+use Rattle.mm_st15.specs.declared.request.Request.TheVariants as request
 
 -- this number is within the bound, if there is one
 abbrev pub IsWithin : Option ℕ → ℕ → Type 0

@@ -1,10 +1,8 @@
 -- The fields of the entries of reports.
-use Rattle.std.specs.Prelude.{ℕ, List, [], ◌∷◌, ◌++◌, length, drop}
-use Rattle.mm_st15.specs.declared.instruction.Configuration.{Configuration}
+use Rattle.mm_service.specs.Words.{ℕ, List, [], ◌∷◌, ◌++◌, length, drop, Configuration, EntryFields}
 use Rattle.mm_st15.specs.declared.report_entry.Row.{Row}
 use Rattle.mm_st15.specs.declared.report_entry.Summary.{Summary}
 use Rattle.mm_st15.specs.declared.report_entry.Status.{Status}
-use Rattle.mm_service.specs.declared.entry_fields.EntryFields.{EntryFields}
 
 -- the octets where there is no identifier
 abbrev pub no_id : List ℕ

@@ -1,13 +1,9 @@
 -- The refusals of calls, with those of the crates below.
-use Rattle.mm_base.specs.declared.refusal.Refusal.{Refusal}
-use Rattle.mm_base.specs.declared.refusal.Refusal.TheVariants as refusal
+use Rattle.mm_service.specs.Words.{Refusal, LineFault, octets_refusal, Fault, NoMemory, BadId, TooLong, NoSuchStore}
+use Rattle.mm_service.specs.Words.{TooManyReports, Octets, Refuses as State}
 use Rattle.mm_desk.specs.Fault.{refusal_of as state_refusal}
-use Rattle.mm_ask.specs.declared.fault.LineFault.{LineFault}
+use Rattle.mm_base.specs.declared.refusal.Refusal.TheVariants as refusal
 use Rattle.mm_ask.specs.declared.fault.LineFault.TheVariants as octets
-use Rattle.mm_ask.specs.Fault.{refusal_of as octets_refusal}
-use Rattle.mm_service.specs.declared.fault.Fault.{Fault}
-use Rattle.mm_service.specs.declared.fault.Fault.TheVariants.{NoMemory, BadId, TooLong, NoSuchStore, TooManyReports}
-use Rattle.mm_service.specs.declared.fault.Fault.TheVariants.{Octets, State}
 
 -- which refusal it is
 abbrev pub refusal_of : Fault → Refusal

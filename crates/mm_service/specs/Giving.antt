@@ -1,16 +1,10 @@
 -- The packets of retrievals, given one by one into a buffer.
-use Rattle.std.specs.Prelude.{◌≡◌, ℕ, List, length, Option, Some, None, Result, Ok, Err}
-use Rattle.mm_base.specs.Reading.{◌>>=◌}
-use Rattle.mm_packet.specs.Spelling.{spelling}
-use Rattle.mm_store.specs.declared.stored.Stored.{Stored}
+use Rattle.mm_service.specs.Words.{◌≡◌, ℕ, List, length, Option, Some, None, Result, Ok, Err, ◌>>=◌, spelling, Stored}
+use Rattle.mm_service.specs.Words.{next, Fault, Refuses, over}
 use Rattle.mm_desk.specs.declared.fault.Fault.{Fault as StateFault}
-use Rattle.mm_desk.specs.Machine.{next}
-use Rattle.mm_service.specs.declared.fault.Fault.{Fault}
-use Rattle.mm_service.specs.declared.fault.Fault.TheVariants.{State as Refuses}
 use Rattle.mm_service.specs.declared.giving.Given.{Given}
 use Rattle.mm_service.specs.Reading.{id_tested}
 use Rattle.mm_service.specs.Serving.{Serving, state_named, with_store}
-use Rattle.mm_packet.specs.Buffer.{over}
 
 -- what the store machine gives, or its refusal as one of a call
 abbrev pub given_of : Result (Option Stored) StateFault → Result (Option Stored) Fault

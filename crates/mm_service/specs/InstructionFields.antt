@@ -1,13 +1,11 @@
 -- Instructions out of their fields.
-use Rattle.std.specs.Prelude.{ℕ, ◌==◌, List, map, if◌then◌else◌}
+use Rattle.mm_service.specs.Words.{ℕ, ◌==◌, List, map, if◌then◌else◌, Configuration, InstructionFields}
 use Rattle.mm_st15.specs.declared.instruction.Target.{Target}
 use Rattle.mm_st15.specs.declared.instruction.ReportType.{ReportType}
 use Rattle.mm_st15.specs.declared.instruction.TimeRange.{TimeRange}
 use Rattle.mm_st15.specs.declared.instruction.TimeLimit.{TimeLimit}
-use Rattle.mm_st15.specs.declared.instruction.Configuration.{Configuration}
 use Rattle.mm_st15.specs.declared.instruction.Size.{Size}
 use Rattle.mm_st15.specs.declared.instruction.Channel.{Channel}
-use Rattle.mm_service.specs.declared.instruction_fields.InstructionFields.{InstructionFields}
 
 -- an octet of an identifier, where 0 stands for a space
 abbrev pub spaced : ℕ → ℕ

@@ -1,16 +1,11 @@
 -- A packet that is offered to one store.
-use Rattle.std.specs.Prelude.{ℕ, List, Result, Ok, Err}
-use Rattle.mm_base.specs.Reading.{◌>>=◌}
+use Rattle.mm_service.specs.Words.{ℕ, List, Result, Ok, Err, ◌>>=◌, offer, Fault, Refuses, Fate}
 use Rattle.mm_desk.specs.declared.reply.Offered.{Offered}
-use Rattle.mm_desk.specs.declared.reply.Offered.TheVariants as answer
 use Rattle.mm_desk.specs.declared.reply.Returned.{Returned}
-use Rattle.mm_desk.specs.Machine.{offer}
-use Rattle.mm_service.specs.declared.fault.Fault.{Fault}
-use Rattle.mm_service.specs.declared.fault.Fault.TheVariants.{State as Refuses}
-use Rattle.mm_service.specs.declared.offering.Fate.{Fate}
 use Rattle.mm_service.specs.declared.offering.Fate.TheVariants.{Kept, KeptOver, Lost}
 use Rattle.mm_service.specs.Reading.{id_tested, block_of}
 use Rattle.mm_service.specs.Serving.{Serving, state_named, with_store}
+use Rattle.mm_desk.specs.declared.reply.Offered.TheVariants as answer
 
 -- what became of a packet, by the store machine's answer to its offer
 abbrev pub fate_of : Result Offered Returned → Result Fate Fault

@@ -1,9 +1,5 @@
 -- Reports that wait, one after another.
-use Rattle.std.specs.Prelude.{List, [], ◌∷◌, ◌++◌, fold}
-use Rattle.mm_packet.specs.Packet.{SpacePacket}
-use Rattle.mm_st15.specs.declared.report.Report.{Report}
-use Rattle.mm_st15.specs.Report.{kind_of}
-use Rattle.mm_ask.specs.Counting.{Counts, counted, numbers_of}
+use Rattle.mm_service.specs.Words.{List, [], ◌∷◌, ◌++◌, fold, SpacePacket, Report, kind_of, Counts, counted, numbers_of}
 use Rattle.mm_ask.specs.Telemetry.{telemetry_of}
 
 -- how many reports there were, and the packets of those that wait

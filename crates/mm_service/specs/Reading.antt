@@ -1,14 +1,8 @@
 -- What octets say: an identifier, a packet with nothing after it, a request.
-use Rattle.std.specs.Prelude.{ℕ, nat_le, if◌then◌else◌, List, length, Result, Ok, Err}
-use Rattle.mm_base.specs.Id.{is_id_text, field_of}
-use Rattle.mm_base.specs.Reading.{◌>>=◌}
-use Rattle.mm_packet.specs.Packet.{SpacePacket}
-use Rattle.mm_packet.specs.Spelling.{spelling}
+use Rattle.mm_service.specs.Words.{ℕ, nat_le, if◌then◌else◌, List, length, Result, Ok, Err, is_id_text, field_of, ◌>>=◌}
+use Rattle.mm_service.specs.Words.{SpacePacket, spelling, packet_alone, request_alone, LineFault, Fault, BadId}
+use Rattle.mm_service.specs.Words.{NoSuchStore, TooLong}
 use Rattle.mm_packet.specs.declared.block.TheConstants.{BLOCK}
-use Rattle.mm_ask.specs.Line.{packet_alone, request_alone}
-use Rattle.mm_ask.specs.declared.fault.LineFault.{LineFault}
-use Rattle.mm_service.specs.declared.fault.Fault.{Fault}
-use Rattle.mm_service.specs.declared.fault.Fault.TheVariants.{BadId, NoSuchStore, TooLong}
 use Rattle.mm_service.specs.Fault.{of_octets}
 
 -- the identifier that a text is, padded to eight octets

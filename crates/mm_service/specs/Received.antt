@@ -1,18 +1,12 @@
 -- What is told of a report that was received.
-use Rattle.std.specs.Prelude.{◌≡◌, ℕ, List, map, Option, Some, None, Result, Ok, Err}
-use Rattle.mm_base.specs.Reading.{◌>>=◌}
-use Rattle.mm_packet.specs.Packet.{SpacePacket, counter_of, destination_of}
+use Rattle.mm_service.specs.Words.{◌≡◌, ℕ, List, map, Option, Some, None, Result, Ok, Err, ◌>>=◌, SpacePacket, Report}
+use Rattle.mm_service.specs.Words.{code_of, kind_of, moment_of, LineFault, of_request, packet_alone, EntryFields}
+use Rattle.mm_packet.specs.Packet.{counter_of, destination_of}
 use Rattle.mm_st15.specs.declared.fault.Fault.{Fault as ReportFault}
-use Rattle.mm_st15.specs.declared.report.Report.{Report}
-use Rattle.mm_st15.specs.declared.report.Report.TheVariants as report
-use Rattle.mm_st15.specs.ReportKind.{code_of}
-use Rattle.mm_st15.specs.Report.{kind_of, moment_of, report_fault}
-use Rattle.mm_ask.specs.declared.fault.LineFault.{LineFault}
-use Rattle.mm_ask.specs.Fault.{of_request}
-use Rattle.mm_ask.specs.Line.{packet_alone}
-use Rattle.mm_service.specs.declared.entry_fields.EntryFields.{EntryFields}
+use Rattle.mm_st15.specs.Report.{report_fault}
 use Rattle.mm_service.specs.declared.received.ReportFields.{ReportFields}
 use Rattle.mm_service.specs.EntryFields.{no_id, row_told, summary_told, status_told, configuration_told}
+use Rattle.mm_st15.specs.declared.report.Report.TheVariants as report
 
 -- a packet that passes the tests of a report
 abbrev pub report_tested : SpacePacket → Option ReportFault → Result SpacePacket LineFault
@@ -27,7 +21,8 @@ report_alone octets = do
 
 -- what is told where there is no report
 abbrev pub no_report : ReportFields
-no_report = record { moment = 0; id = no_id; apid = 0; count = 0; counter = 0; destination = 0; reference = 0; subtype = 0 }
+no_report =
+    record { moment = 0; id = no_id; apid = 0; count = 0; counter = 0; destination = 0; reference = 0; subtype = 0 }
 
 -- the identifier that a report has once: that of the store whose storage control is told
 abbrev pub id_told : Report → List ℕ

@@ -1,9 +1,6 @@
 -- A packet that is offered to each store that its report type is routed to.
-use Rattle.std.specs.Prelude.{ℕ, List, Result, Ok}
-use Rattle.mm_base.specs.Reading.{◌>>=◌}
-use Rattle.mm_memory.specs.declared.tally.Tally.{Tally}
+use Rattle.mm_service.specs.Words.{ℕ, List, Result, Ok, ◌>>=◌, Tally, Fault}
 use Rattle.mm_memory.specs.Recording.{after_record, tally_after}
-use Rattle.mm_service.specs.declared.fault.Fault.{Fault}
 use Rattle.mm_service.specs.Reading.{block_of}
 use Rattle.mm_service.specs.Serving.{Serving}
 

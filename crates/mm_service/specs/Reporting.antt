@@ -1,11 +1,8 @@
 -- The reports that wait, given one by one.
-use Rattle.std.specs.Prelude.{◌≡◌, ℕ, nat_le, if◌then◌else◌, List, [], ◌∷◌, length}
-use Rattle.mm_packet.specs.Packet.{SpacePacket}
-use Rattle.mm_packet.specs.Spelling.{spelling}
-use Rattle.mm_service.specs.declared.reporting.Reported.{Reported}
+use Rattle.mm_service.specs.Words.{◌≡◌, ℕ, nat_le, if◌then◌else◌, List, [], ◌∷◌, length, SpacePacket, spelling}
+use Rattle.mm_service.specs.Words.{Reported, over}
 use Rattle.mm_service.specs.declared.reporting.Reported.TheVariants.{Written, TooSmall, End}
 use Rattle.mm_service.specs.Serving.{Serving}
-use Rattle.mm_packet.specs.Buffer.{over}
 
 -- the buffer with these octets at its head, or unchanged if there is no room for all of them
 abbrev pub put : List ℕ → List ℕ → List ℕ

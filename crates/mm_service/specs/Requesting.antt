@@ -1,27 +1,19 @@
 -- Telecommands out of the fields of their requests.
-use Rattle.std.specs.Prelude.{◌≡◌, ◌≢◌, ℕ, ◌==◌, ◌&&◌, Bool, nat_lt, nat_le, List, length, map, Option, Some, None}
-use Rattle.std.specs.Prelude.{Result, Ok, Err, if◌then◌else◌}
-use Rattle.mm_base.specs.Reading.{◌>>=◌, test}
-use Rattle.mm_packet.specs.Packet.{SpacePacket}
-use Rattle.mm_packet.specs.Spelling.{spelling}
-use Rattle.mm_packet.specs.declared.header.PacketType.TheVariants.{Telecommand}
+use Rattle.mm_service.specs.Words.{◌≡◌, ◌≢◌, ℕ, ◌==◌, ◌&&◌, Bool, nat_lt, nat_le, List, length, map, Option, Some, None}
+use Rattle.mm_service.specs.Words.{Result, Ok, Err, if◌then◌else◌, ◌>>=◌, test, SpacePacket, spelling, Telecommand}
+use Rattle.mm_service.specs.Words.{Request, SERVICE, IsRequest, SpellsRequest, request_alone, InstructionFields}
+use Rattle.mm_service.specs.Words.{FieldsFault, Idle, Limit, UnknownSubtype, CountMismatch}
 use Rattle.mm_packet.specs.declared.header.TheConstants.{IDLE_APID, SEQUENCE_COUNTS}
-use Rattle.mm_st15.specs.declared.request.Request.{Request}
-use Rattle.mm_st15.specs.declared.request.Request.TheVariants as request
 use Rattle.mm_st15.specs.declared.request_kind.RequestKind.{RequestKind}
-use Rattle.mm_st15.specs.declared.request_kind.RequestKind.TheVariants as kind
-use Rattle.mm_st15.specs.declared.service.TheConstants.{SERVICE}
 use Rattle.mm_st15.specs.RequestKind.{code_of, kind_at, width_of}
-use Rattle.mm_st15.specs.Request.{kind_of, count_of, data_of, HasCount, IsRequest, SpellsRequest}
-use Rattle.mm_ask.specs.Line.{request_alone}
-use Rattle.mm_service.specs.declared.instruction_fields.InstructionFields.{InstructionFields}
-use Rattle.mm_service.specs.declared.requesting.FieldsFault.{FieldsFault}
-use Rattle.mm_service.specs.declared.requesting.FieldsFault.TheVariants.{NoMemory, Idle, Limit, UnknownSubtype}
-use Rattle.mm_service.specs.declared.requesting.FieldsFault.TheVariants.{CountMismatch}
+use Rattle.mm_st15.specs.Request.{kind_of, count_of, data_of, HasCount}
+use Rattle.mm_service.specs.declared.requesting.FieldsFault.TheVariants.{NoMemory}
 use Rattle.mm_service.specs.declared.requesting.RequestFields.{RequestFields}
 use Rattle.mm_service.specs.declared.requesting.TheConstants.{ACKNOWLEDGEMENTS}
 use Rattle.mm_service.specs.InstructionFields.{target_of, report_type_of, time_range_of, time_limit_of}
 use Rattle.mm_service.specs.InstructionFields.{configuration_of, size_of, channel_of}
+use Rattle.mm_st15.specs.declared.request.Request.TheVariants as request
+use Rattle.mm_st15.specs.declared.request_kind.RequestKind.TheVariants as kind
 
 -- the request of a kind whose instructions have these fields; one without data has none
 abbrev pub request_made : RequestKind → List InstructionFields → Request

@@ -1,15 +1,10 @@
 -- Where a service stands.
-use Rattle.std.specs.Prelude.{ℕ, ◌+◌, ◌-◌, ◌^◌, min, List, [], Option, Some, None, Result, Ok, Err}
-use Rattle.mm_base.specs.Reading.{◌>>=◌}
-use Rattle.mm_packet.specs.Packet.{SpacePacket}
+use Rattle.mm_service.specs.Words.{ℕ, ◌+◌, ◌-◌, ◌^◌, min, List, [], Option, Some, None, Result, Ok, Err, ◌>>=◌}
+use Rattle.mm_service.specs.Words.{SpacePacket, State, Holdings, memory_of, state_of, Counts, no_counts, Fault}
+use Rattle.mm_service.specs.Words.{NoMemory, NoSuchStore}
 use Rattle.mm_problem.specs.Document.{setup_of}
 use Rattle.mm_problem.specs.declared.fault.Fault.{Fault as SetupFault}
-use Rattle.mm_desk.specs.Machine.{State}
-use Rattle.mm_memory.specs.Holdings.{Holdings, memory_of, state_of}
 use Rattle.mm_memory.specs.Lending.{with_state}
-use Rattle.mm_ask.specs.Counting.{Counts, no_counts}
-use Rattle.mm_service.specs.declared.fault.Fault.{Fault}
-use Rattle.mm_service.specs.declared.fault.Fault.TheVariants.{NoMemory, NoSuchStore}
 
 -- the memory, how many reports there were, the packets of those that wait, the oldest first, how many may wait, where
 -- that is bounded, and how many packets were refused out of memory

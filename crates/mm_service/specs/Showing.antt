@@ -1,9 +1,6 @@
 -- What a store of the memory is shown to hold and to have lost.
-use Rattle.std.specs.Prelude.{ℕ, List, length, Result, Ok}
-use Rattle.mm_base.specs.Reading.{◌>>=◌}
+use Rattle.mm_service.specs.Words.{ℕ, List, length, Result, Ok, ◌>>=◌, State, Fault}
 use Rattle.mm_store.specs.Content.{oldest, newest}
-use Rattle.mm_desk.specs.Machine.{State}
-use Rattle.mm_service.specs.declared.fault.Fault.{Fault}
 use Rattle.mm_service.specs.declared.showing.Shown.{Shown}
 use Rattle.mm_service.specs.Reading.{id_tested}
 use Rattle.mm_service.specs.Serving.{Serving, state_named}

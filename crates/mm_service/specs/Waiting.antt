@@ -1,14 +1,9 @@
 -- The packets of reports that wait.
-use Rattle.std.specs.Prelude.{ℕ, length}
-use Rattle.mm_packet.specs.declared.header.PacketType.TheVariants.{Telemetry}
-use Rattle.mm_packet.specs.Packet.{SpacePacket}
-use Rattle.mm_st15.specs.declared.report.Report.{Report}
-use Rattle.mm_st15.specs.declared.report.Report.TheVariants as report
+use Rattle.mm_service.specs.Words.{ℕ, length, Telemetry, SpacePacket, Report, SERVICE, code_of, kind_of, moment_of}
 use Rattle.mm_st15.specs.declared.report.TheConstants.{MOST_ROWS}
-use Rattle.mm_st15.specs.declared.service.TheConstants.{SERVICE}
-use Rattle.mm_st15.specs.ReportKind.{code_of}
-use Rattle.mm_st15.specs.Report.{kind_of, moment_of, data_of}
+use Rattle.mm_st15.specs.Report.{data_of}
 use Rattle.mm_ask.specs.declared.counters.Numbers.{Numbers}
+use Rattle.mm_st15.specs.declared.report.Report.TheVariants as report
 
 -- how many entries a report has, and how many it may have
 abbrev pub entries_of : Report → ℕ

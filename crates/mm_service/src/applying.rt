@@ -17,7 +17,7 @@ use crate::waiting::Waiting;
 use mm_ask::{Counters, lent_alone};
 use mm_packet::Packet;
 use mm_st15::{Report, RequestKind};
-use std::alloc::{AllocError, Global};
+use std::alloc::Global;
 use std::collections::VecDeque;
 
 // Lets a report on the request of this packet wait.
@@ -60,7 +60,7 @@ fn wait_for_all(
 
 // Makes room for this number of further reports. If there is not enough, the room at least doubles, so that few calls
 // ask for memory.
-fn make_room(waiting: &mut VecDeque<Waiting>, most: usize) -> Result<(), AllocError>
+fn make_room(waiting: &mut VecDeque<Waiting>, most: usize) -> Result<(), mm_base::NoMemory>
     ensures same { waiting.new.items ≡ waiting.old.items }
     ensures room { OnOk result (deque_len waiting.new + most ≤ deque_capacity waiting.new) }
     ensures doubled { deque_capacity waiting.new ≢ deque_capacity waiting.old

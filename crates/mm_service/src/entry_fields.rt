@@ -4,8 +4,8 @@ ghost use Rattle.mm_service.specs.EntryFields.{no_entry, row_told, summary_told,
 
 use mm_st15::{Configuration, Row, Status, Summary};
 
-/// The fields of an entry of a report. Those that the entries of its report do not have are 0. The octets of an identifier are those of the
-/// packet, which end in spaces.
+/// The fields of an entry of a report. Those that the entries of its report do not have are 0. The octets of an
+/// identifier are those of the packet, which end in spaces.
 #[repr(C)]
 #[derive(Clone, Copy, Debug, PartialEq, Eq)]
 pub struct EntryFields {
@@ -57,6 +57,13 @@ impl EntryFields {
     }
 }
 
+// The entry with these fields of a value, and no others.
+macro_rules! entry {
+    ($told:expr; $($field:ident),*) => {
+        EntryFields { $($field: $told.$field,)* ..EntryFields::nothing() }
+    };
+}
+
 // What is told of an entry.
 pub(crate) trait ToFields {
     ghost use Rattle.mm_service.specs.declared.entry_fields.EntryFields.{EntryFields};
@@ -71,12 +78,7 @@ impl ToFields for Row {
     ghost told = { row_told };
 
     fn fields(&self) -> EntryFields {
-        EntryFields {
-            apid: self.apid,
-            service: self.service,
-            subtype: self.subtype,
-            ..EntryFields::nothing()
-        }
+        entry!(self; apid, service, subtype)
     }
 }
 
@@ -84,13 +86,7 @@ impl ToFields for Summary {
     ghost told = { summary_told };
 
     fn fields(&self) -> EntryFields {
-        EntryFields {
-            id: self.id,
-            oldest: self.oldest,
-            newest: self.newest,
-            held: self.held,
-            ..EntryFields::nothing()
-        }
+        entry!(self; id, oldest, newest, held)
     }
 }
 
@@ -98,12 +94,7 @@ impl ToFields for Status {
     ghost told = { status_told };
 
     fn fields(&self) -> EntryFields {
-        EntryFields {
-            id: self.id,
-            storage: self.storage,
-            retrieval: self.retrieval,
-            ..EntryFields::nothing()
-        }
+        entry!(self; id, storage, retrieval)
     }
 }
 
@@ -111,13 +102,7 @@ impl ToFields for Configuration {
     ghost told = { configuration_told };
 
     fn fields(&self) -> EntryFields {
-        EntryFields {
-            id: self.id,
-            size: self.size,
-            kind: self.kind,
-            channel: self.channel,
-            ..EntryFields::nothing()
-        }
+        entry!(self; id, size, kind, channel)
     }
 }
 

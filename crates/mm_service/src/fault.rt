@@ -3,12 +3,11 @@ ghost use Rattle.std.specs.Prelude.{◌≡◌};
 
 use mm_ask::LineFault;
 use mm_base::{NoMemory, Refusal, Refused, refusals};
-use std::alloc::AllocError;
-use thiserror::Error;
+use std::error::Error;
+use std::fmt;
 
 /// Why a call is refused. It is shown as its number, a space and its name.
-#[derive(Clone, Copy, Debug, PartialEq, Eq, Error)]
-#[error("{}", self.refusal())]
+#[derive(Clone, Copy, Debug, PartialEq, Eq)]
 pub enum Fault {
     /// An allocation was refused.
     NoMemory,
@@ -25,6 +24,14 @@ pub enum Fault {
     /// A refusal of the store's state.
     State(mm_desk::Fault),
 }
+
+impl fmt::Display for Fault {
+    fn fmt<W: fmt::Write>(&self, f: &mut fmt::Formatter<W>) -> fmt::Result {
+        write!(f, "{}", self.refusal())
+    }
+}
+
+impl Error for Fault {}
 
 impl Refused for Fault {
     fn refusal(self) -> Refusal {
@@ -55,16 +62,6 @@ impl From<NoMemory> for Fault {
     ghost from_gives = { λ _ e. e ≡ NoMemory };
 
     fn from(_error: NoMemory) -> Fault {
-        Fault::NoMemory
-    }
-}
-
-impl From<AllocError> for Fault {
-    ghost use Rattle.mm_service.specs.declared.fault.Fault.TheVariants.{NoMemory};
-
-    ghost from_gives = { λ _ e. e ≡ NoMemory };
-
-    fn from(_error: AllocError) -> Fault {
         Fault::NoMemory
     }
 }

@@ -1,12 +1,14 @@
 //! Instructions in one flat form, as C has them.
 ghost use Rattle.std.specs.Prelude.{◌≡◌, map, IfOk};
-ghost use Rattle.mm_service.specs.InstructionFields.{spaced, padded, target_of, report_type_of, time_range_of, time_limit_of, configuration_of, size_of, channel_of};
+ghost use Rattle.mm_service.specs.InstructionFields.{spaced, padded, target_of, report_type_of, time_range_of};
+ghost use Rattle.mm_service.specs.InstructionFields.{time_limit_of, configuration_of, size_of, channel_of};
 
+use mm_base::NoMemory;
 use mm_st15::{Channel, Configuration, Entries, ReportType, Size, Target, TimeLimit, TimeRange};
-use std::alloc::{AllocError, Global};
+use std::alloc::Global;
 
-/// The fields of an instruction. A request reads those that its instructions have, and no others. The octets of the identifier may end in
-/// octets 0, which stand for the spaces of a packet.
+/// The fields of an instruction. A request reads those that its instructions have, and no others. The octets of the
+/// identifier may end in octets 0, which stand for the spaces of a packet.
 #[repr(C)]
 #[derive(Clone, Copy, Debug, PartialEq, Eq)]
 pub struct InstructionFields {
@@ -48,6 +50,13 @@ fn padded(id: [u8; 8]) -> [u8; 8]
     field
 }
 
+// An instruction of this type: its identifier, and the fields of the same names.
+macro_rules! instruction {
+    ($made:ident, $fields:expr; $($field:ident),*) => {
+        $made { id: padded($fields.id), $($field: $fields.$field),* }
+    };
+}
+
 // What the fields of an instruction make.
 pub(crate) trait OfFields: Copy {
     ghost use Rattle.mm_service.specs.declared.instruction_fields.InstructionFields.{InstructionFields};
@@ -62,9 +71,7 @@ impl OfFields for Target {
     ghost made_of = { target_of };
 
     fn of_fields(fields: &InstructionFields) -> Target {
-        Target {
-            id: padded(fields.id),
-        }
+        instruction!(Target, fields;)
     }
 }
 
@@ -72,12 +79,7 @@ impl OfFields for ReportType {
     ghost made_of = { report_type_of };
 
     fn of_fields(fields: &InstructionFields) -> ReportType {
-        ReportType {
-            id: padded(fields.id),
-            apid: fields.apid,
-            service: fields.service,
-            subtype: fields.subtype,
-        }
+        instruction!(ReportType, fields; apid, service, subtype)
     }
 }
 
@@ -108,12 +110,7 @@ impl OfFields for Configuration {
     ghost made_of = { configuration_of };
 
     fn of_fields(fields: &InstructionFields) -> Configuration {
-        Configuration {
-            id: padded(fields.id),
-            size: fields.size,
-            kind: fields.kind,
-            channel: fields.channel,
-        }
+        instruction!(Configuration, fields; size, kind, channel)
     }
 }
 
@@ -121,10 +118,7 @@ impl OfFields for Size {
     ghost made_of = { size_of };
 
     fn of_fields(fields: &InstructionFields) -> Size {
-        Size {
-            id: padded(fields.id),
-            size: fields.size,
-        }
+        instruction!(Size, fields; size)
     }
 }
 
@@ -132,10 +126,7 @@ impl OfFields for Channel {
     ghost made_of = { channel_of };
 
     fn of_fields(fields: &InstructionFields) -> Channel {
-        Channel {
-            id: padded(fields.id),
-            channel: fields.channel,
-        }
+        instruction!(Channel, fields; channel)
     }
 }
 
@@ -143,7 +134,7 @@ impl OfFields for Channel {
 pub(crate) fn instructions_of<I: OfFields>(
     alloc: Global,
     fields: &[InstructionFields],
-) -> Result<Entries<I>, AllocError>
+) -> Result<Entries<I>, NoMemory>
     ensures { IfOk result (λ entries. entries ≡ map I.made_of fields.now) }
 {
     let mut entries = Vec::with_capacity(alloc, fields.len())?;

@@ -58,7 +58,7 @@ impl ReportFields {
 }
 
 /// A report that was received, with the telemetry that spells it.
-#[derive(Debug, Drop)]
+#[derive(Drop)]
 pub struct Received {
     pub packet: Packet,
     pub report: Report,
@@ -66,7 +66,8 @@ pub struct Received {
 
 // The report that a packet spells.
 fn received_in(alloc: Global, packet: Packet) -> Result<Received, LineFault>
-    ensures read { Gives line.NoMemory (λ received. received.packet) result (report_tested packet (report_fault packet)) }
+    ensures read { Gives line.NoMemory (λ received. received.packet) result
+        (report_tested packet (report_fault packet)) }
     ensures spelled { IfOk result (λ received. IsReport received.report
         × SpellsReport received.packet received.report) }
 {
@@ -95,8 +96,8 @@ fn id_told(report: &Report) -> [u8; 8]
 }
 
 impl Received {
-    /// The report of the packet that the octets are, with nothing after it, as `Report::read` of `mm_st15` reads it. The tests come in this
-    /// order: the packet, octets after it, the report.
+    /// The report of the packet that the octets are, with nothing after it, as `Report::read` of `mm_st15` reads it.
+    /// The tests come in this order: the packet, octets after it, the report.
     #[tactic(auto, using(crate::proofs::ReceivedLemmas::spelled_by_telemetry))]
     pub fn read(alloc: Global, octets: &[u8]) -> Result<Received, Fault>
         ensures read { Gives NoMemory (λ received. received.packet) result (said (report_alone octets.now)) }

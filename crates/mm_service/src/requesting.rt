@@ -2,7 +2,8 @@
 ghost use Rattle.std.specs.Prelude.{◌≡◌, IfOk, IfErr};
 ghost use Rattle.mm_base.specs.Reading.{Gives};
 ghost use Rattle.mm_st15.specs.RequestKind.{width_of};
-ghost use Rattle.mm_service.specs.Requesting.{request_made, is_count, counted, header_tested, requested, AsksFor, Requests, MakesNone, IsCounted};
+ghost use Rattle.mm_service.specs.Requesting.{request_made, is_count, counted, header_tested, requested, AsksFor};
+ghost use Rattle.mm_service.specs.Requesting.{Requests, MakesNone, IsCounted};
 
 use crate::instruction_fields::{InstructionFields, instructions_of};
 use mm_base::{NoMemory, Refusal, Refused, refusals};
@@ -10,8 +11,9 @@ use mm_packet::laws::written_is_read;
 use mm_packet::{IDLE_APID, Packet, SEQUENCE_COUNTS};
 use mm_st15::laws::request_is_not_refused;
 use mm_st15::{Request, RequestKind};
-use std::alloc::{AllocError, Global};
-use thiserror::Error;
+use std::alloc::Global;
+use std::error::Error;
+use std::fmt;
 
 /// How many values the acknowledgement flags have (ECSS-E-ST-70-41C, 7.4.4.1). Every value is below it.
 pub const ACKNOWLEDGEMENTS: u8 = 16;
@@ -33,8 +35,7 @@ pub struct RequestFields {
 }
 
 /// Why fields make no request. It is shown as its number, a space and its name.
-#[derive(Clone, Copy, Debug, PartialEq, Eq, Error)]
-#[error("{}", self.refusal())]
+#[derive(Clone, Copy, Debug, PartialEq, Eq)]
 pub enum FieldsFault {
     /// An allocation was refused.
     NoMemory,
@@ -48,6 +49,14 @@ pub enum FieldsFault {
     CountMismatch,
 }
 
+impl fmt::Display for FieldsFault {
+    fn fmt<W: fmt::Write>(&self, f: &mut fmt::Formatter<W>) -> fmt::Result {
+        write!(f, "{}", self.refusal())
+    }
+}
+
+impl Error for FieldsFault {}
+
 impl Refused for FieldsFault {
     fn refusal(self) -> Refusal {
         refusals!(self; NoMemory, Limit, UnknownSubtype, CountMismatch; but Idle as IdlePacket)
@@ -56,16 +65,6 @@ impl Refused for FieldsFault {
     ghost use Rattle.mm_service.specs.FieldsFault.{refusal_of};
 
     ghost refusal_of = { refusal_of };
-}
-
-impl From<AllocError> for FieldsFault {
-    ghost use Rattle.mm_service.specs.declared.requesting.FieldsFault.TheVariants.{NoMemory};
-
-    ghost from_gives = { λ _ e. e ≡ NoMemory };
-
-    fn from(_error: AllocError) -> FieldsFault {
-        FieldsFault::NoMemory
-    }
 }
 
 impl From<NoMemory> for FieldsFault {
@@ -83,7 +82,7 @@ fn request_made(
     alloc: Global,
     kind: RequestKind,
     fields: &[InstructionFields],
-) -> Result<Request, AllocError>
+) -> Result<Request, NoMemory>
     ensures { IfOk result (λ request. request ≡ request_made kind fields.now) }
 {
     Ok(match kind {
@@ -171,9 +170,10 @@ impl RequestFields {
         Ok(packet)
     }
 
-    /// The octets of the telecommand of the request that these fields and the instructions make, as `Request::write` of `mm_st15` writes it:
-    /// `Request::read` gives the request again. The tests come in this order: the application process identifier, the sequence count and the acknowledgement flags, the subtype, the number of
-    /// instructions. No value of an instruction is tested: the service refuses the instruction where it is carried out.
+    /// The octets of the telecommand of the request that these fields and the instructions make, as `Request::write` of
+    /// `mm_st15` writes it: `Request::read` gives the request again. The tests come in this order: the application
+    /// process identifier, the sequence count and the acknowledgement flags, the subtype, the number of instructions.
+    /// No value of an instruction is tested: the service refuses the instruction where it is carried out.
     #[tactic(auto, using(crate::proofs::RequestingLemmas::requests))]
     pub fn write(
         &self,

@@ -1,6 +1,4 @@
-use Rattle.std.proofs.Common.{rules, ◌≡◌, ap, ◌∙◌}
-use Rattle.std.specs.Prelude.{Some}
-use Rattle.mm_service.specs.Serving.{Serving}
+use Rattle.mm_c.proofs.Words.{rules, ◌≡◌, ap, ◌∙◌, Some, Serving}
 use Rattle.mm_c.proofs.Small.{not_applied, told_applied, told_refused}
 use Rattle.mm_c.proofs.memory.rudlayog_memory_apply.Goals.{in-Ok, in-Err}
 use Rattle.mm_c.proofs.memory.rudlayog_memory_apply.Goals as goal

@@ -1,6 +1,5 @@
-use Rattle.std.proofs.Common.{ℕ, ◌<◌, slice_index_or}
+use Rattle.mm_desk.proofs.Words.{ℕ, ◌<◌, slice_index_or, new_seat}
 use Rattle.mm_desk.specs.Agreeing.{HasItsPart}
-use Rattle.mm_desk.specs.Seats.{new_seat}
 use Rattle.mm_desk.proofs.agree.are_parts.Given as goal
 
 abbrev pub invariant-loop-i : goal.invariant-loop-i

@@ -1,5 +1,4 @@
-use Rattle.std.proofs.Common.{◌≡◌, ◌↔◌, ◌≤◌, length, drop}
-use Rattle.mm_desk.specs.Shuffles.{part}
+use Rattle.mm_desk.proofs.Words.{◌≡◌, ◌↔◌, ◌≤◌, length, drop, part}
 use Rattle.mm_desk.proofs.agree.is_part.Given as goal
 
 abbrev pub invariant-loop-entry : goal.invariant-loop-entry

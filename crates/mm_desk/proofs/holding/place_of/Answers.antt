@@ -4,7 +4,9 @@ use Rattle.mm_desk.proofs.holding.place_of.Goals as goal
 
 pub returns : goal.returns
 returns c =
-    let id = c.args.id.now in
     let stores = c.args.stores.now in
     let found = c.place_of.ensures.place in
-    record { stands = stands_at_first id stores c.place_of.result found; first = is_first (has_id id) stores c.place_of.result found }
+    record {
+      stands = stands_at_first c.args.id.now stores c.place_of.result found;
+      first = is_first (has_id c.args.id.now) stores c.place_of.result found;
+    }

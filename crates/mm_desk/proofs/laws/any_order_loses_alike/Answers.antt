@@ -1,4 +1,4 @@
-use Rattle.std.proofs.Common.{sym, ◌∙◌}
+use Rattle.mm_desk.proofs.Words.{sym, ◌∙◌}
 use Rattle.mm_desk.proofs.Leaving.{offers_leave}
 use Rattle.mm_desk.proofs.laws.any_order_loses_alike.Goals as goal
 

@@ -1,4 +1,4 @@
-use Rattle.std.proofs.Common.{◌≡◌, ◌+◌, vec_len, sum}
+use Rattle.mm_desk.proofs.Words.{◌≡◌, ◌+◌, vec_len, sum}
 use Rattle.mm_desk.proofs.pass_book.whole.Given as goal
 
 abbrev pub invariant-loop-share : goal.invariant-loop-share

@@ -1,4 +1,4 @@
-use Rattle.mm_desk.specs.Seats.{AreNew}
+use Rattle.mm_desk.proofs.Words.{AreNew}
 use Rattle.mm_desk.proofs.seat.new_seats.Given as goal
 
 abbrev pub invariant-loop-number : goal.invariant-loop-number

@@ -1,4 +1,4 @@
-use Rattle.mm_desk.proofs.PlaceLemmas.{AreHeld-same_ids}
+use Rattle.mm_memory.proofs.Words.{AreHeld-same_ids}
 use Rattle.mm_memory.proofs.laws.identifiers_decide_what_is_restored.Goals as goal
 
 pub returns : goal.returns

@@ -1,7 +1,4 @@
-use Rattle.std.proofs.Common.{◌≡◌, Some, None, rules, arith}
-use Rattle.std.proofs.lemmas.Option.{slice_get-get_or}
-use Rattle.mm_memory.specs.Holdings.{store_of, StandsAt}
-use Rattle.mm_desk.proofs.PlaceLemmas.{stands_at_first}
+use Rattle.mm_memory.proofs.Words.{◌≡◌, rules, arith, slice_get-get_or, store_of, StandsAt, stands_at_first, Some, None}
 use Rattle.mm_memory.proofs.TextLemmas.{none_has, none_stands, names}
 use Rattle.mm_memory.proofs.places.place_named.Goals as goal
 
@@ -31,4 +28,7 @@ returns c =
     let stands : StandsAt c.in_ok-field.field stores place =
     stands_at_first c.in_ok-field.field stores (Some place) c.in_ok-place.ensures.place in
     let at = slice_get-get_or stores place _ stands.within in
-    record { named = names c.args.text.now c.in_ok-field.field stores place _ c.in_ok-field.ensures.padded stands at c.field-field.ensures.is_field }
+    record {
+      named = names c.args.text.now c.in_ok-field.field stores place _ c.in_ok-field.ensures.padded stands at
+          c.field-field.ensures.is_field;
+    }

@@ -1,6 +1,5 @@
-use Rattle.std.proofs.Common.{rules, tests}
+use Rattle.mm_memory.proofs.Words.{rules, tests, is_to}
 use Rattle.std.proofs.lemmas.List.Folds.{list_any_at}
-use Rattle.mm_control.specs.Routes.{is_to}
 use Rattle.mm_memory.proofs.recording.leads_at.Goals as goal
 
 pub returns-then-place-rows : goal.returns-then-place-rows

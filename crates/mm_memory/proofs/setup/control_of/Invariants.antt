@@ -1,5 +1,4 @@
-use Rattle.std.proofs.Common.{◌≡◌, ◌≤◌, length, take}
-use Rattle.mm_memory.specs.Holdings.{table_of}
+use Rattle.mm_memory.proofs.Words.{◌≡◌, ◌≤◌, length, take, table_of}
 use Rattle.mm_memory.proofs.setup.control_of.Given as goal
 
 abbrev pub invariant-loop-route : goal.invariant-loop-route

@@ -1,5 +1,4 @@
-use Rattle.std.proofs.Common.{◌≡◌, map, take}
-use Rattle.mm_memory.specs.Holdings.{opened}
+use Rattle.mm_memory.proofs.Words.{◌≡◌, take, opened, map}
 use Rattle.mm_memory.proofs.setup.stores_of.Given as goal
 
 abbrev pub invariant-loop-row : goal.invariant-loop-row

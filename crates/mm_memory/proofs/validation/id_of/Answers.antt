@@ -1,6 +1,4 @@
-use Rattle.std.proofs.Common.{refl}
-use Rattle.std.proofs.lemmas.Bool.{false≢true}
-use Rattle.mm_base.proofs.IdFields.{is_id-field, is_id-other}
+use Rattle.mm_memory.proofs.Words.{refl, false≢true, is_id-field, is_id-other}
 use Rattle.mm_memory.proofs.validation.id_of.Goals as goal
 
 pub returns-in-Ok-clause-found : goal.returns-in-Ok-clause-found

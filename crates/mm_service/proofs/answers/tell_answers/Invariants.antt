@@ -1,6 +1,4 @@
-use Rattle.std.proofs.Common.{◌≡◌, ◌++◌, take, drop}
-use Rattle.std.specs.Prelude.{map}
-use Rattle.mm_service.specs.Answering.{code_of_answer}
+use Rattle.mm_service.proofs.Words.{◌≡◌, ◌++◌, take, drop, map, code_of_answer}
 use Rattle.mm_service.proofs.answers.tell_answers.Given as goal
 
 -- the codes of the answers so far are at the head

@@ -1,9 +1,5 @@
-use Rattle.std.proofs.Common.{length, ap, ◌∙◌, arith}
-use Rattle.std.specs.Prelude.{fold}
+use Rattle.mm_service.proofs.Words.{length, ap, ◌∙◌, arith, fold, All-tail, HasCount, Queue, with_report}
 use Rattle.std.specs.Vec.Iter.{into_iter_items}
-use Rattle.std.proofs.lemmas.List.Elements.{All-tail}
-use Rattle.mm_st15.specs.Report.{HasCount}
-use Rattle.mm_service.specs.Queue.{Queue, with_report}
 use Rattle.mm_service.proofs.applying.wait_for_all.Goals as goal
 
 pub loop-report-preserved : goal.loop-report-preserved

@@ -1,5 +1,4 @@
-use Rattle.std.proofs.Common.{◌≡◌, ◌++◌, take, drop}
-use Rattle.std.specs.Prelude.{map}
+use Rattle.mm_service.proofs.Words.{◌≡◌, ◌++◌, take, drop, map}
 use Rattle.mm_service.proofs.entry_fields.tell_entries.Given as goal
 
 -- the fields of the entries so far are at the head

@@ -1,5 +1,4 @@
-use Rattle.std.proofs.Common.{◌≡◌, take}
-use Rattle.std.specs.Prelude.{map}
+use Rattle.mm_service.proofs.Words.{◌≡◌, take, map}
 use Rattle.mm_service.proofs.instruction_fields.instructions_of.Given as goal
 
 -- the instructions of the fields so far

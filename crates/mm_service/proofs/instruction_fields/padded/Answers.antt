@@ -1,6 +1,4 @@
-use Rattle.std.proofs.Common.{ap, ◌∙◌, arith}
-use Rattle.std.proofs.Math.ListN.{set}
-use Rattle.mm_service.specs.InstructionFields.{spaced}
+use Rattle.mm_service.proofs.Words.{ap, ◌∙◌, arith, set, spaced}
 use Rattle.mm_service.proofs.AnswerLemmas.{one_more}
 use Rattle.mm_service.proofs.instruction_fields.padded.Goals as goal
 

@@ -1,6 +1,4 @@
-use Rattle.std.proofs.Common.{◌≡◌, ◌++◌, take, drop}
-use Rattle.std.specs.Prelude.{map}
-use Rattle.mm_service.specs.InstructionFields.{spaced}
+use Rattle.mm_service.proofs.Words.{◌≡◌, ◌++◌, take, drop, map, spaced}
 use Rattle.mm_service.proofs.instruction_fields.padded.Given as goal
 
 -- the octets so far are padded

@@ -1,6 +1,4 @@
-use Rattle.std.proofs.Common.{refl, sym, ap, ◌∙◌}
-use Rattle.std.specs.Prelude.{Ok}
-use Rattle.std.proofs.lemmas.Bool.{false≢true}
+use Rattle.mm_service.proofs.Words.{refl, sym, ap, ◌∙◌, Ok, false≢true}
 use Rattle.mm_service.proofs.ReadingLemmas.{is_tested, is_refused}
 use Rattle.mm_service.proofs.reading.id_of.Goals as goal
 

@@ -1,4 +1,4 @@
-use Rattle.std.proofs.Common.{sym}
+use Rattle.mm_service.proofs.Words.{sym}
 use Rattle.mm_service.proofs.ReadingLemmas.{missing-known, missing-refused}
 use Rattle.mm_service.proofs.reading.missing.Goals as goal
 

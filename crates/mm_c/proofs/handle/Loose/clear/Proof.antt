@@ -1,33 +1,17 @@
 -- `clear` leaves a null pointer, which owns nothing.
-use Rattle.std.proofs.Common.{◌≡◌, List, [], ◌∷◌, ◌++◌, refl, lit<, Option, Some, None}
-use Rattle.std.proofs.raw_atomic.Walks.{proved_at}
-use base.Logic.{SProp}
-use base.Fraction.{full_share}
-use base.Fml.{ftrue, flft}
-use mir.Val.{Val, vptr, vunit, vstruct, vcons, vnil}
-use prog.Wp.{WpFn}
-use contract.Monad.{fact}
-use contract.Running.{tables}
-use types.Kit.{‵, raw, ◌⊛◌, prop, ◌$◌, ◌∵◌, !, qed, done, move, keep, split, join, fsplit, fsplit3, rewrite, regoal}
-use types.Kit.{suffices, frame, group, feq_i}
-use types.Run.{enter, of_opd, unit_lit, lit, stop, fld, returns, assigns}
-use types.ByLocal.{alloc_all, pass_all, free_all, look_at, get, through, sets}
-use types.Part.{whole, sub, store_in}
-use denote.Laws.{shows}
-use denote.Memory.{cell_at}
-use denote.RattleType.{RattleType, owns}
-use denote.RawPtr.{null_ptr, ptr_val}
-use denote.Signature.{plain, types_at}
-use denote.Steps.{opens, closes, peeks, heard, nothing}
-use denote.Triple.Walked.{Stays, walk_of, says, stay_ref, Goes-ref, ends_at}
-use Rattle.std.specs.contracts.impls.GlobalAllocator.TheImpl.{ghosts}
-use Rattle.mm_c.specs.Owning.{loose_owns}
-use Rattle.mm_service.specs.Serving.{Serving}
+use Rattle.mm_c.proofs.Words.{◌≡◌, List, [], ◌∷◌, ◌++◌, refl, lit<, Option, Some, None, proved_at, SProp, full_share}
+use Rattle.mm_c.proofs.Words.{ftrue, flft, Val, vptr, vunit, vstruct, vcons, vnil, WpFn, fact, tables, ‵, raw, ◌⊛◌}
+use Rattle.mm_c.proofs.Words.{prop, ◌$◌, ◌∵◌, !, qed, done, move, keep, split, join, fsplit, fsplit3, rewrite, regoal}
+use Rattle.mm_c.proofs.Words.{suffices, frame, group, feq_i, enter, of_opd, unit_lit, lit, stop, fld, returns, assigns}
+use Rattle.mm_c.proofs.Words.{alloc_all, pass_all, free_all, look_at, get, through, sets, whole, sub, store_in, shows}
+use Rattle.mm_c.proofs.Words.{cell_at, RattleType, owns, null_ptr, ptr_val, plain, types_at, opens, closes, peeks}
+use Rattle.mm_c.proofs.Words.{heard, nothing, Stays, walk_of, says, stay_ref, Goes-ref, ends_at, ghosts, loose_owns}
+use Rattle.mm_c.proofs.Words.{Serving}
 use Rattle.mm_c.proofs.Held.{null_in}
-use Rattle.mm_c.specs.contracts.handle.Loose as loose
 use Rattle.mm_c.proofs.handle.Loose.TheLaws.{lowers}
-use Rattle.mm_c.specs.contracts.handle.Loose.clear as f
 use Rattle.mm_c.proofs.handle.Loose.clear.Statement.{statement}
+use Rattle.mm_c.specs.contracts.handle.Loose as loose
+use Rattle.mm_c.specs.contracts.handle.Loose.clear as f
 use Rattle.mm_c.proofs.handle.Loose.clear.Code as code
 
 abbrev R : RattleType

@@ -1,6 +1,4 @@
-use Rattle.std.proofs.Common.{◌≡◌, ◌≤◌, length, arith}
-use Rattle.mm_base.specs.declared.limits.TheConstants.{MAX_STORES}
-use Rattle.mm_plan.specs.Table.{amount}
+use Rattle.mm_c.proofs.Words.{◌≡◌, ◌≤◌, length, arith, MAX_STORES, amount}
 use Rattle.mm_c.proofs.LossLists.{are_losses}
 use Rattle.mm_c.proofs.losses.LossesTold.of.Goals as goal
 
@@ -9,4 +7,5 @@ returns c =
     let told = c.loop-store.invariant in
     let few : length c.args.problem.now.rows ≤ MAX_STORES = c.stores-store-end.ensures.is_dumping.stores.at_most in
     let all : c.loop-store.store ≡ length c.args.problem.now.rows = omega arith in
-    are_losses c.args.problem.now (amount c.args.plan.now) c.loop-store.by_store few told.places (λ s below. told.lost s (omega arith)) (λ s past within. told.rest s (omega arith) within)
+    are_losses c.args.problem.now (amount c.args.plan.now) c.loop-store.by_store few told.places
+    (λ s below. told.lost s (omega arith)) (λ s past within. told.rest s (omega arith) within)

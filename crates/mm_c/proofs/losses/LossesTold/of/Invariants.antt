@@ -1,7 +1,4 @@
-use Rattle.std.proofs.Common.{◌≡◌, ℕ, ◌<◌, ◌≤◌, length, get_or}
-use Rattle.mm_base.specs.declared.limits.TheConstants.{MAX_STORES}
-use Rattle.mm_plan.specs.Table.{amount}
-use Rattle.mm_plan.specs.Volumes.{store_loss}
+use Rattle.mm_c.proofs.Words.{◌≡◌, ℕ, ◌<◌, ◌≤◌, length, get_or, MAX_STORES, amount, store_loss}
 use Rattle.mm_c.proofs.losses.LossesTold.of.Given as goal
 
 abbrev pub invariant-loop-store : goal.invariant-loop-store

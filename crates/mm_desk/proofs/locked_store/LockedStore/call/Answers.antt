@@ -1,7 +1,4 @@
-use Rattle.std.proofs.Common.{subst}
-use Rattle.mm_desk.specs.Answers.{Answers}
-use Rattle.mm_desk.specs.Types.{Reply}
-use Rattle.mm_desk.specs.Machine.{State}
+use Rattle.mm_desk.proofs.Words.{subst, Answers, Reply, State}
 use Rattle.mm_desk.proofs.Answering.{step_answers}
 use Rattle.mm_desk.proofs.Logs.{run_more}
 use Rattle.mm_desk.proofs.locked_store.LockedStore.call.Goals as goal

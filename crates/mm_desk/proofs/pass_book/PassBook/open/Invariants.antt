@@ -1,4 +1,4 @@
-use Rattle.std.proofs.Common.{◌≡◌, ◌+◌, ◌≤◌, vec_capacity}
+use Rattle.mm_desk.proofs.Words.{◌≡◌, ◌+◌, ◌≤◌, vec_capacity}
 use Rattle.mm_desk.specs.Passes.{AreUndrawn}
 use Rattle.mm_desk.proofs.pass_book.PassBook.open.Given as goal
 

@@ -1,6 +1,4 @@
-use Rattle.std.proofs.Common.{length, ap, arith, rules}
-use Rattle.mm_store.specs.Content.{Store}
-use Rattle.mm_store.proofs.ContentLemmas.{count_up_to-kept}
+use Rattle.mm_desk.proofs.Words.{length, ap, arith, rules, Store, count_up_to-kept}
 use Rattle.mm_desk.proofs.state.StoreState.delete.Goals as goal
 
 pub invariant_of-self : goal.invariant_of-self

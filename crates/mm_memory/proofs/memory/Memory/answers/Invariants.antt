@@ -1,6 +1,4 @@
-use Rattle.std.proofs.Common.{◌≡◌, ◌≤◌, length, take}
-use Rattle.std.specs.Prelude.{vec_capacity}
-use Rattle.mm_memory.specs.Applying.{AppliesEach}
+use Rattle.mm_memory.proofs.Words.{◌≡◌, ◌≤◌, length, take, vec_capacity, AppliesEach}
 use Rattle.mm_memory.proofs.memory.Memory.answers.Given as goal
 
 abbrev pub invariant-loop-instruction : goal.invariant-loop-instruction

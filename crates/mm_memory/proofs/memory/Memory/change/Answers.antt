@@ -1,8 +1,4 @@
-use Rattle.std.proofs.Common.{subst, ◌∙◌}
-use Rattle.std.proofs.lemmas.Option.{get_or_from_slice_get}
-use Rattle.mm_desk.specs.declared.held.Held.{Held}
-use Rattle.mm_memory.specs.Acting.{act, TakesMemory}
-use Rattle.mm_memory.specs.Applying.{ComesUnlessNoMemory}
+use Rattle.mm_memory.proofs.Words.{subst, ◌∙◌, get_or_from_slice_get, Held, act, TakesMemory, ComesUnlessNoMemory}
 use Rattle.mm_memory.proofs.ApplyLemmas.{stood, changed_comes}
 use Rattle.mm_memory.proofs.memory.Memory.change.Goals as goal
 
@@ -14,6 +10,9 @@ returns c = λ h found.
     let stands = rw (← c.self.view_is) at c.requires in
     let found_here = rw (← c.self.view_is) at found in
     let at = stood id m.stores.items c.args.place h stands found_here in
-    let was = c.index_mut.ensures.value ∙ get_or_from_slice_get m.stores.items c.args.place h c.index_mut.result.now at in
-    let done = subst (λ (x : Held). ComesUnlessNoMemory (TakesMemory change x) (act change x) x (c.change_store.result, c.change_store.new.held)) was c.change_store.ensures.done in
-    rw (← c.self.view_is) (changed_comes id m.stores.items m.control c.args.place h c.change_store.new.held (TakesMemory change h) (act change h) c.change_store.result c.self.invariant.named stands at done)
+    let was = c.index_mut.ensures.value ∙ get_or_from_slice_get m.stores.items c.args.place h c.index_mut.result.now at
+    in
+    let done = subst (λ (x : Held). ComesUnlessNoMemory (TakesMemory change x) (act change x) x
+    (c.change_store.result, c.change_store.new.held)) was c.change_store.ensures.done in
+    rw (← c.self.view_is) (changed_comes id m.stores.items m.control c.args.place h c.change_store.new.held
+    (TakesMemory change h) (act change h) c.change_store.result c.self.invariant.named stands at done)

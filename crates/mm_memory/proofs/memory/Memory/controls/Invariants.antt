@@ -1,7 +1,4 @@
-use Rattle.std.proofs.Common.{◌≡◌, take}
-use Rattle.std.specs.Prelude.{filter_map, All}
-use Rattle.mm_st15.specs.Report.{HasCount}
-use Rattle.mm_memory.specs.Reports.{control_at}
+use Rattle.mm_memory.proofs.Words.{◌≡◌, take, All, filter_map, HasCount, control_at}
 use Rattle.mm_memory.proofs.memory.Memory.controls.Given as goal
 
 abbrev pub invariant-loop-target : goal.invariant-loop-target

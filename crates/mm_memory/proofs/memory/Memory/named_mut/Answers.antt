@@ -1,13 +1,6 @@
-use Rattle.std.proofs.Common.{List, refl, sym, subst, ap, ◌∙◌}
-use Rattle.std.specs.Option.{option_map}
-use Rattle.std.proofs.lemmas.Option.{slice_get_read}
-use Rattle.mm_base.specs.Id.{field_of}
-use Rattle.mm_desk.specs.Machine.{State}
-use Rattle.mm_desk.specs.declared.held.Held.{Held}
-use Rattle.mm_memory.specs.Holdings.{Holdings}
-use Rattle.mm_memory.specs.Naming.{NamesAt}
+use Rattle.mm_memory.proofs.Words.{List, refl, sym, subst, ap, ◌∙◌, option_map, slice_get_read, field_of, State, Held}
+use Rattle.mm_memory.proofs.Words.{Holdings, NamesAt, lent_alike, with_changed-stands}
 use Rattle.mm_memory.proofs.LendingLemmas.{with_state-same}
-use Rattle.mm_desk.proofs.PlaceLemmas.{lent_alike, with_changed-stands}
 use Rattle.mm_memory.proofs.TextLemmas.{store_is}
 use Rattle.mm_memory.proofs.memory.Memory.named_mut.Goals as goal
 
@@ -17,16 +10,22 @@ returns c =
     let field = field_of text in
     let m = c.self.inside in
     let h = c.in_ok-held.held.now in
-    let named = subst (λ (l : List Held). NamesAt text l c.in_ok-place.place) c.deref.ensures.value c.in_ok-place.ensures.named in
+    let named = subst (λ (l : List Held). NamesAt text l c.in_ok-place.place) c.deref.ensures.value
+    c.in_ok-place.ensures.named in
     let stands = named.stands in
     let at = slice_get_read m.stores.items _ c.in_ok-place.place h refl stands.within c.in_ok-held.ensures.value in
-    let written = λ (w : State). sym (with_changed-stands field (λ h. record h { state = w }) m.stores.items c.in_ok-place.place h c.self.invariant.named stands at) in
+    let written = λ (w : State). sym
+    (with_changed-stands field (λ h. record h { state = w }) m.stores.items c.in_ok-place.place h c.self.invariant.named
+    stands at) in
     let is_store = store_is text m.stores.items named.is_text in
     rw (← c.self.view_is) (
-      lent_alike _ _ _ (λ (w : State). ap (λ (stores : List Held). let left : Holdings = record { stores = stores; routes = m.control } in left) (written w)),
+      lent_alike _ _ _ (λ (w : State). ap
+          (λ (stores : List Held). let left : Holdings = record { stores = stores; routes = m.control } in left)
+          (written w)),
       record {
         lends = tt;
         state = ap (option_map (λ (x : Held). x.state)) (sym at ∙ sym stands.store ∙ sym is_store);
-        same = λ s found. with_state-same field m.stores.items m.control c.self.invariant.named s (ap (option_map (λ (x : Held). x.state)) (sym is_store) ∙ found);
+        same = λ s found. with_state-same field m.stores.items m.control c.self.invariant.named s
+            (ap (option_map (λ (x : Held). x.state)) (sym is_store) ∙ found);
       },
     )

@@ -1,12 +1,5 @@
-use Rattle.std.proofs.Common.{rules, ◌≡◌, length, sym, ap, arith}
-use Rattle.std.specs.Prelude.{Ok}
-use Rattle.mm_memory.specs.Instruction.{instructions_of}
-use Rattle.mm_memory.specs.Reports.{reports_on}
-use Rattle.mm_service.specs.declared.fault.Fault.TheVariants.{TooManyReports}
-use Rattle.mm_service.specs.Applying.{Applies}
-use Rattle.mm_service.specs.Reading.{request_of}
-use Rattle.mm_service.specs.Queue.{queue_of, with_reports}
-use Rattle.mm_service.specs.Serving.{Serving}
+use Rattle.mm_service.proofs.Words.{rules, ◌≡◌, length, sym, ap, arith, Ok, instructions_of, reports_on, TooManyReports}
+use Rattle.mm_service.proofs.Words.{Applies, request_of, queue_of, with_reports, Serving}
 use Rattle.mm_service.specs.contracts.service.Service.{the_view}
 use Rattle.mm_service.proofs.BoundLemmas.{few, keeps_bound, not_beyond}
 use Rattle.mm_service.proofs.SpellingLemmas.{no_value}
@@ -24,7 +17,13 @@ tell_answers-requires c =
 pub wait_for_all-requires-clause-room : goal.wait_for_all-requires-clause-room
 wait_for_all-requires-clause-room c =
     let many = few c.in_ok-asked.asked.request c.args.now c.self.inside.memory in
-    omega (arith, ap length c.in_ok-answers.ensures.reports, many, c.most_reports.ensures, c.in_ok-make_room.ensures.room)
+    omega (
+      arith,
+      ap length c.in_ok-answers.ensures.reports,
+      many,
+      c.most_reports.ensures,
+      c.in_ok-make_room.ensures.room,
+    )
 
 pub returns-clause-applied : goal.returns-clause-applied
 returns-clause-applied c =
