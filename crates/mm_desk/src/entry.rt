@@ -5,7 +5,7 @@ use crate::event::Event;
 use crate::reply::Reply;
 
 /// One call on a desk: the number of the seat that made it, what it asked, and what it was answered.
-#[derive(Drop)]
+#[derive(Debug, Drop)]
 pub struct Entry {
     pub seat: u32,
     pub event: Event,

@@ -6,7 +6,7 @@ use mm_packet::BlockPacket;
 use std::alloc::Global;
 
 /// One event of the store machine. Times are in ticks.
-#[derive(Drop)]
+#[derive(Debug, Drop)]
 pub enum Event {
     /// Store this packet at this moment.
     Offer(u64, BlockPacket),

@@ -2,11 +2,11 @@
 ghost use Rattle.std.specs.Prelude.{◌≡◌};
 
 use mm_base::{NoMemory, Refusal, Refused, refusals};
-use std::error::Error;
-use std::fmt;
+use thiserror::Error;
 
 /// A refusal of this crate. It is shown as its number and its name.
-#[derive(Clone, Copy, Debug, PartialEq, Eq)]
+#[derive(Clone, Copy, Debug, PartialEq, Eq, Error)]
+#[error("{}", self.refusal())]
 pub enum Fault {
     /// An allocation was refused.
     NoMemory,
@@ -25,14 +25,6 @@ pub enum Fault {
     /// The store holds more packets than the new size has blocks.
     HoldsMore,
 }
-
-impl fmt::Display for Fault {
-    fn fmt<W: fmt::Write>(&self, f: &mut fmt::Formatter<W>) -> fmt::Result {
-        write!(f, "{}", self.refusal())
-    }
-}
-
-impl Error for Fault {}
 
 impl From<mm_store::Fault> for Fault {
     ghost use Rattle.mm_desk.specs.Fault.{fault_of_store};

@@ -8,7 +8,7 @@ use mm_packet::BlockPacket;
 use mm_store::{Put, Stored};
 
 /// What became of a packet that was offered and not refused.
-#[derive(Drop)]
+#[derive(Debug, Drop)]
 pub enum Offered {
     /// It is kept, with this storage time in ticks.
     Kept(u64),
@@ -26,7 +26,7 @@ pub struct Returned {
 }
 
 /// One reply of the store machine, by the event that it answers.
-#[derive(Drop)]
+#[derive(Debug, Drop)]
 pub enum Reply {
     /// To an offer.
     Offered(Result<Offered, Returned>),

@@ -15,7 +15,7 @@ pub enum Answer {
 }
 
 /// The answers to a request: one for each instruction, in order, and the reports on what was asked.
-#[derive(Drop)]
+#[derive(Debug, Drop)]
 pub struct Answers {
     pub each: Vec<Answer>,
     pub reports: Vec<Report>,

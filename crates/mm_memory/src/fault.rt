@@ -4,12 +4,12 @@ ghost use Rattle.mm_memory.specs.Fault.{of_state};
 ghost use Rattle.mm_memory.specs.declared.fault.Fault.TheVariants.{Control};
 
 use mm_base::{NoMemory, Refusal, Refused, passed_on, refusals};
-use std::error::Error;
-use std::fmt;
+use thiserror::Error;
 
 /// A refusal of this crate, or of a store's state or the storage control. It is shown as its
 /// number, a space and its name.
-#[derive(Clone, Copy, Debug, PartialEq, Eq)]
+#[derive(Clone, Copy, Debug, PartialEq, Eq, Error)]
+#[error("{}", self.refusal())]
 pub enum Fault {
     /// An allocation was refused.
     NoMemory,
@@ -30,14 +30,6 @@ pub enum Fault {
     /// A refusal of the storage control.
     Control(mm_control::Fault),
 }
-
-impl fmt::Display for Fault {
-    fn fmt<W: fmt::Write>(&self, f: &mut fmt::Formatter<W>) -> fmt::Result {
-        write!(f, "{}", self.refusal())
-    }
-}
-
-impl Error for Fault {}
 
 impl From<mm_control::Fault> for Fault {
     ghost from_gives = { λ fault e. e ≡ Control fault };

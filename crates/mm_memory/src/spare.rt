@@ -11,7 +11,7 @@ use std::alloc::Global;
 
 /// The memory of one packet that no store holds, or none: for a packet that comes when there is no other memory. What
 /// a store hands back for it takes its place.
-#[derive(Drop)]
+#[derive(Debug, Drop)]
 pub struct Spare {
     packet: Option<BlockPacket>,
 }

@@ -3,11 +3,11 @@ ghost use Rattle.std.specs.Prelude.{◌≡◌};
 
 use mm_ask::LineFault;
 use mm_base::{NoMemory, Refusal, Refused, refusals};
-use std::error::Error;
-use std::fmt;
+use thiserror::Error;
 
 /// Why a call is refused. It is shown as its number, a space and its name.
-#[derive(Clone, Copy, Debug, PartialEq, Eq)]
+#[derive(Clone, Copy, Debug, PartialEq, Eq, Error)]
+#[error("{}", self.refusal())]
 pub enum Fault {
     /// An allocation was refused.
     NoMemory,
@@ -24,14 +24,6 @@ pub enum Fault {
     /// A refusal of the store's state.
     State(mm_desk::Fault),
 }
-
-impl fmt::Display for Fault {
-    fn fmt<W: fmt::Write>(&self, f: &mut fmt::Formatter<W>) -> fmt::Result {
-        write!(f, "{}", self.refusal())
-    }
-}
-
-impl Error for Fault {}
 
 impl Refused for Fault {
     fn refusal(self) -> Refusal {

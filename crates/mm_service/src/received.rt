@@ -58,7 +58,7 @@ impl ReportFields {
 }
 
 /// A report that was received, with the telemetry that spells it.
-#[derive(Drop)]
+#[derive(Debug, Drop)]
 pub struct Received {
     pub packet: Packet,
     pub report: Report,

@@ -12,8 +12,7 @@ use mm_packet::{IDLE_APID, Packet, SEQUENCE_COUNTS};
 use mm_st15::laws::request_is_not_refused;
 use mm_st15::{Request, RequestKind};
 use std::alloc::Global;
-use std::error::Error;
-use std::fmt;
+use thiserror::Error;
 
 /// How many values the acknowledgement flags have (ECSS-E-ST-70-41C, 7.4.4.1). Every value is below it.
 pub const ACKNOWLEDGEMENTS: u8 = 16;
@@ -35,7 +34,8 @@ pub struct RequestFields {
 }
 
 /// Why fields make no request. It is shown as its number, a space and its name.
-#[derive(Clone, Copy, Debug, PartialEq, Eq)]
+#[derive(Clone, Copy, Debug, PartialEq, Eq, Error)]
+#[error("{}", self.refusal())]
 pub enum FieldsFault {
     /// An allocation was refused.
     NoMemory,
@@ -48,14 +48,6 @@ pub enum FieldsFault {
     /// The number of instructions is not from 1 to 255, or there are some where the request has no data.
     CountMismatch,
 }
-
-impl fmt::Display for FieldsFault {
-    fn fmt<W: fmt::Write>(&self, f: &mut fmt::Formatter<W>) -> fmt::Result {
-        write!(f, "{}", self.refusal())
-    }
-}
-
-impl Error for FieldsFault {}
 
 impl Refused for FieldsFault {
     fn refusal(self) -> Refusal {
