@@ -1,3 +1,0 @@
-pub mod Leading
-pub mod Linking
-pub mod Marking

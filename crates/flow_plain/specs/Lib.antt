@@ -1,5 +1,0 @@
-pub mod Links
-pub mod Marks
-pub mod Phase
-pub mod Tables
-pub mod Task

@@ -8,6 +8,7 @@ mod phase;
 mod residual;
 mod search;
 mod solver;
+mod table;
 mod tables;
 
 pub use solver::solve;

@@ -1,7 +1,7 @@
-//! The limits of a network that `mm_flow` keeps to itself.
-
-/// What the most arcs of the greatest capacity carry together, 2^58. Flow values that have a bound are at most this.
-pub(crate) const MAX_VALUE: u64 = 1 << 58;
+//! Numbers that no network reaches.
 
 /// The residual capacity that stands for no limit, 2^60, which is above every limited one.
 pub(crate) const UNLIMITED: u64 = 1 << 60;
+
+/// More turns than any loop of the solvers takes.
+pub(crate) const TURNS: u64 = u64::MAX;

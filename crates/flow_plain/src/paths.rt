@@ -1,6 +1,7 @@
 //! A maximum flow by shortest augmenting paths (Ford and Fulkerson, 1956; Edmonds and Karp, 1972).
 ghost use Rattle.std.specs.Prelude.{◌<◌};
 
+use crate::limits::TURNS;
 use crate::tables::Tables;
 use mm_flow::{Fault, Network, Solved};
 use std::alloc::Global;
@@ -19,7 +20,10 @@ pub fn solve_paths(
     requires sink { sink < network.now.graph.nodes }
 {
     let mut tables = Tables::new(alloc, network, source, sink)?;
-    while tables.search_anew() {
+    for _ in 0..TURNS {
+        if !tables.search_anew() {
+            break;
+        }
         tables.augment();
     }
     Ok(tables.solved(alloc)?)

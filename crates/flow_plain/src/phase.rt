@@ -1,8 +1,9 @@
 //! Phases of level graphs and blocking flows (Dinitz, 1970).
-ghost use Rattle.std.specs.Prelude.{◌≡◌, ◌≢◌, ◌<◌, ◌≤◌, ◌-◌, true, length, slice_index, IfSome, IfNone};
-ghost use Rattle.flow_plain.specs.Links.{StandsAt, IsCursors};
 
+use crate::limits::TURNS;
+use crate::links::entry_at;
 use crate::residual::{head, residual, twin};
+use crate::table::{get, set};
 use crate::tables::Tables;
 use std::alloc::{AllocError, Global};
 
@@ -14,18 +15,10 @@ use std::alloc::{AllocError, Global};
 pub(crate) struct Phase<'a> {
     pub(crate) tables: Tables<'a>,
     next: Vec<u32>,
-    ahead: Vec<u32>,
-    ghost cursors: { IsCursors tables.network.now.graph next.items },
-    ghost places: { length ahead.items ≡ tables.network.now.graph.nodes },
+    ahead: Vec<usize>,
 }
 
 impl<'a> Phase<'a> {
-    ghost use Rattle.mm_flow.specs.Residual.{entries, tail, twin};
-    ghost use Rattle.mm_flow.specs.Marks.{level};
-    ghost use Rattle.flow_plain.specs.Marks.{bare};
-    ghost use Rattle.flow_plain.specs.Task.{IsOpen, Reaches};
-    ghost use Rattle.flow_plain.specs.Phase.{LeadsFrom, cursors_of};
-
     // A solver before its first phase.
     pub(crate) fn new(alloc: Global, tables: Tables<'a>) -> Result<Phase<'a>, AllocError> {
         let nodes = tables.network.node_count();
@@ -38,36 +31,33 @@ impl<'a> Phase<'a> {
 
     // Moves flow along the path by which the search reached the sink, then along further paths through its levels,
     // until the cursors find none.
-    pub(crate) fn block(&mut self)
-        requires way { Reaches self.old.tables self.old.tables.sink }
-        ensures more { self.old.tables.value < self.new.tables.value }
-    {
+    pub(crate) fn block(&mut self) {
         self.tables.augment();
         self.begin();
-        while self.lead_back() {
+        for _ in 0..TURNS {
+            if !self.lead_back() {
+                break;
+            }
             self.follow();
             self.tables.augment();
         }
     }
 
     // Puts the sink above all levels, and each cursor at its node's last entry.
-    fn begin(&mut self)
-        ensures value { self.new.tables.value ≡ self.old.tables.value }
-    {
+    fn begin(&mut self) {
         self.tables.raise_sink();
         for node in 0..self.next.len() {
-            self.next[node] = self.tables.links.last[node];
+            self.next[node] = self.tables.links.last(node);
         }
     }
 
     // Looks for a path on which each arc leads to a higher level, from the sink back to the source.
-    fn lead_back(&mut self) -> bool
-        ensures tables { self.new.tables ≡ self.old.tables }
-        ensures leads { result ≡ true → LeadsFrom self.new self.new.tables.search.source }
-    {
+    fn lead_back(&mut self) -> bool {
         let mut at = self.tables.sink;
-        while at != self.tables.search.source {
-            if let Some(from) = self.step_back(at) {
+        for _ in 0..TURNS {
+            if at == self.tables.search.source {
+                return true;
+            } else if let Some(from) = self.step_back(at) {
                 at = from;
             } else if at == self.tables.sink {
                 return false;
@@ -75,83 +65,66 @@ impl<'a> Phase<'a> {
                 at = self.retreat(at);
             }
         }
-        true
+        false
     }
 
     // Extends a path backwards by one step from a node, if the node's cursor finds an entry.
-    fn step_back(&mut self, at: u32) -> Option<u32>
-        requires leads { LeadsFrom self.old at }
-        ensures tables { self.new.tables ≡ self.old.tables }
-        ensures cursors { cursors_of self.new ≤ cursors_of self.old }
-        ensures leads { IfSome result (LeadsFrom self.new) }
-        ensures lower { IfSome result (λ from. level (bare self.new.tables.search.marks.items) from
-            < level (bare self.new.tables.search.marks.items) at) }
-        ensures stays { IfNone result (LeadsFrom self.new at) }
-    {
+    fn step_back(&mut self, at: u32) -> Option<u32> {
         let cursor = self.way_back(at);
-        self.next[at as usize] = cursor;
-        if cursor == 0 {
-            return None;
-        }
-        let entry = cursor as usize - 1;
+        set(&mut self.next, at as usize, cursor);
+        let entry = entry_at(cursor)?;
         let from = head(self.tables.network, entry);
-        self.ahead[from as usize] = twin(self.tables.network, entry) as u32;
+        let back = twin(self.tables.network, entry);
+        set(&mut self.ahead, from as usize, back);
         Some(from)
     }
 
     // Advances a node's cursor to an entry whose twin leads up to the node.
-    fn way_back(&self, at: u32) -> u32
-        requires known { at < self.now.tables.network.now.graph.nodes }
-        ensures most { result ≤ slice_index self.now.next.items at }
-        ensures own { StandsAt self.now.tables.network.now.graph at result }
-        ensures back { 0 < result → IsOpen self.now.tables
-            (twin self.now.tables.network.now.graph (result - 1)) }
-    {
-        let height = self.tables.search.marks[at as usize].level;
-        let mut cursor = self.next[at as usize];
-        while cursor > 0 && !self.leads_up(cursor as usize - 1, height) {
-            cursor = self.tables.links.before[cursor as usize - 1];
+    fn way_back(&self, at: u32) -> u32 {
+        let height = self.tables.search.mark(at).level;
+        let mut cursor = get(&self.next, at as usize, 0);
+        for _ in 0..TURNS {
+            match entry_at(cursor) {
+                Some(entry) if !self.leads_up(entry, height) => {
+                    cursor = self.tables.links.before(entry);
+                }
+                _ => break,
+            }
         }
         cursor
     }
 
     // Whether an entry's twin can be taken to a node at this level.
-    fn leads_up(&self, entry: usize, height: u32) -> bool
-        requires known { entry < entries self.now.tables.network.now.graph }
-        requires height { height ≡ level (bare self.now.tables.search.marks.items)
-            (tail self.now.tables.network.now.graph entry) }
-        ensures { result ≡ true → IsOpen self.now.tables
-            (twin self.now.tables.network.now.graph entry) }
-    {
+    fn leads_up(&self, entry: usize, height: u32) -> bool {
         let from = head(self.tables.network, entry);
-        let below = self.tables.search.marks[from as usize].level;
+        let below = self.tables.search.mark(from).level;
         let back = twin(self.tables.network, entry);
         below > 0 && below < height && residual(self.tables.network, &self.tables.flow, back) > 0
     }
 
+    // The entry by which a path last left a node.
+    fn ahead(&self, node: u32) -> usize {
+        get(&self.ahead, node as usize, 0)
+    }
+
     // Shortens the path by one step towards the sink, and advances the cursor of the node there.
-    fn retreat(&mut self, at: u32) -> u32
-        requires leads { LeadsFrom self.old at }
-        requires inner { at ≢ self.old.tables.sink }
-        ensures tables { self.new.tables ≡ self.old.tables }
-        ensures cursors { cursors_of self.new < cursors_of self.old }
-        ensures leads { LeadsFrom self.new result }
-    {
-        let to = head(self.tables.network, self.ahead[at as usize] as usize);
-        let cursor = self.next[to as usize];
-        self.next[to as usize] = self.tables.links.before[cursor as usize - 1];
+    fn retreat(&mut self, at: u32) -> u32 {
+        let to = head(self.tables.network, self.ahead(at));
+        if let Some(entry) = entry_at(get(&self.next, to as usize, 0)) {
+            let cursor = self.tables.links.before(entry);
+            set(&mut self.next, to as usize, cursor);
+        }
         to
     }
 
     // Marks the nodes of the path again, from the source on.
-    fn follow(&mut self)
-        requires leads { LeadsFrom self.old self.old.tables.search.source }
-        ensures value { self.new.tables.value ≡ self.old.tables.value }
-        ensures way { Reaches self.new.tables self.new.tables.sink }
-    {
+    fn follow(&mut self) {
         let mut at = self.tables.search.source;
-        while at != self.tables.sink {
-            let entry = self.ahead[at as usize] as usize;
+        for _ in 0..self.ahead.len() {
+            if at == self.tables.sink {
+                break;
+            }
+            let entry = self.ahead(at);
             self.tables.reach_by(entry);
             at = head(self.tables.network, entry);
         }

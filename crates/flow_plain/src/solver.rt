@@ -1,6 +1,7 @@
 //! The solver that callers use.
 ghost use Rattle.std.specs.Prelude.{◌<◌};
 
+use crate::limits::TURNS;
 use crate::phase::Phase;
 use crate::tables::Tables;
 use mm_flow::{Fault, Network, Solved};
@@ -15,7 +16,10 @@ pub fn solve(alloc: Global, network: &Network, source: u32, sink: u32) -> Result
     requires sink { sink < network.now.graph.nodes }
 {
     let mut phase = Phase::new(alloc, Tables::new(alloc, network, source, sink)?)?;
-    while phase.tables.search_anew() {
+    for _ in 0..TURNS {
+        if !phase.tables.search_anew() {
+            break;
+        }
         phase.block();
     }
     Ok(phase.tables.solved(alloc)?)

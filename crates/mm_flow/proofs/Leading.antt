@@ -48,13 +48,6 @@ module _ (g : Graph) (f : Flow) (sink : ℕ) where
         rest,
       )
 
-  -- from any node but the sink a way up has a first entry, and continues from the node that this leads to
-  pub lead_on : (marks : List Mark) (next ahead : List ℕ) (n : ℕ) → n ≢ sink → HasLead g f marks next ahead sink n
-      → IsAhead g f marks next n (slice_index ahead n) × HasLead g f marks next ahead sink
-      (head g (slice_index ahead n))
-  lead_on marks next ahead n ne (zero, lead) = absurd (ne lead)
-  lead_on marks next ahead n ne (suc steps, lead) = (lead.0, (steps, lead.1))
-
   -- no node on a way up is above the sink
   pub lead-le : (marks : List Mark) (next ahead : List ℕ) (steps n : ℕ) → IsLead g f marks next ahead sink steps n
       → level marks n ≤ level marks sink
@@ -121,11 +114,10 @@ lead_known p n (suc steps, lead) =
 pub lead_read : (p : Phase) (n e : ℕ) → LeadsFrom p n → n ≢ p.tables.sink → e ≡ get_or p.ahead.items n e
     → IsAhead p.tables.residual.network.now.graph (slice_index p.tables.residual.flow.items) p.tables.search.marks.items
     p.next.items n e × LeadsFrom p (head p.tables.residual.network.now.graph e)
-lead_read p n e lead ne read =
-    let t = p.tables in
-    let is = get_or_read p.ahead.items n e (omega (arith, lead_known p n lead, p.places)) read 0 in
-    rw is (lead_on t.residual.network.now.graph (slice_index t.residual.flow.items) t.sink t.search.marks.items
-    p.next.items p.ahead.items n ne lead)
+lead_read p n e (zero, lead) ne read = absurd (ne lead)
+lead_read p n e (suc steps, lead) ne read =
+    let is = get_or_read p.ahead.items n e (omega (arith, lead_known p n (suc steps, lead), p.places)) read 0 in
+    rw is (lead.0, (steps, lead.1))
 
 -- a way up stands in other tables of the same task, flow and levels
 pub lead_same : (t u : Tables) (next ahead : List ℕ) (n : ℕ) → SameTask t u → u.residual.flow ≡ t.residual.flow

@@ -14,15 +14,14 @@ use Rattle.mm_flow.specs.Marks.{no_mark, mark, level, HasMark, IsReached, IsMark
 use Rattle.mm_flow.specs.Levels.{IsPath, HasPath, IsLevelled, IsCursors}
 
 -- the marks of a search hold all through the phase that follows
-pub marking_levelled : (g : Graph) (f : Flow) (source least : ℕ) (marks : List Mark) → IsMarking g f source least marks
+pub marking_levelled : {g : Graph} {f : Flow} {source least : ℕ} {marks : List Mark} → IsMarking g f source least marks
     → IsLevelled g source marks
-marking_levelled g f source least marks marking = record { size = marking.size; start = marking.start }
+marking_levelled marking = record { size = marking.size; start = marking.start }
 
 -- a node is marked anew
-pub levelled_set : (g : Graph) (source n : ℕ) (marks : List Mark) (own : Mark) → IsLevelled g source marks → n < g.nodes
-    → 0 < own.level
-    → IsLevelled g source (slice_set marks n own)
-levelled_set g source n marks own levelled known some = record {
+pub levelled_set : {g : Graph} {source : ℕ} {marks : List Mark} (n : ℕ) (own : Mark) → IsLevelled g source marks
+    → n < g.nodes → 0 < own.level → IsLevelled g source (slice_set marks n own)
+levelled_set {g} {source} {marks} n own levelled known some = record {
   size = omega (arith, length-set marks n own, levelled.size);
   start = elim (cases_eq source n) [
     | inl same ↦
@@ -36,24 +35,22 @@ levelled_set g source n marks own levelled known some = record {
   ];
 }
 
--- a path leads to each node that a search marked
-tree_path : (g : Graph) (f : Flow) (source least : ℕ) (marks : List Mark) → IsMarking g f source least marks → (d n : ℕ)
-    → level marks n ≤ d → HasMark marks n → HasPath g f marks source least n
-tree_path g f source least marks marking zero n small has = absurd (omega arith)
-tree_path g f source least marks marking (suc d) n small has = elim (cases_eq n source) [
-  | inl same ↦ (0, same)
-  | inr ne ↦
-      let reached = marking.reached n ne has in
-      let before = tree_path g f source least marks marking d (tail g (mark marks n).via) (omega (arith, reached.above))
-      reached.reached in
-      (suc before.0, (reached, before.1))
-]
+module _ {g : Graph} {f : Flow} {source least : ℕ} {marks : List Mark}
+    (marking : IsMarking g f source least marks) where
+  -- a path leads to each node that a search marked up to a level
+  tree_path : (d n : ℕ) → level marks n ≤ d → HasMark marks n → HasPath g f marks source least n
+  tree_path zero n small has = absurd (omega arith)
+  tree_path (suc d) n small has = elim (cases_eq n source) [
+    | inl same ↦ (0, same)
+    | inr ne ↦
+        let reached = marking.reached n ne has in
+        let before = tree_path d (tail g (mark marks n).via) (omega (arith, reached.above)) reached.reached in
+        (suc before.0, (reached, before.1))
+  ]
 
--- a path leads to each node that a search marked
-pub marked_path : (g : Graph) (f : Flow) (source least : ℕ) (marks : List Mark) (n : ℕ)
-    → IsMarking g f source least marks → HasMark marks n → HasPath g f marks source least n
-marked_path g f source least marks n marking has = tree_path g f source least marks marking (level marks n) n
-    (omega arith) has
+  -- a path leads to each node that a search marked
+  pub marked_path : (n : ℕ) → HasMark marks n → HasPath g f marks source least n
+  marked_path n has = tree_path (level marks n) n (omega arith) has
 
 -- the last node of a path is marked
 pub path_marked : (g : Graph) (f : Flow) (marks : List Mark) (source amount n : ℕ) → HasMark marks source

@@ -11,7 +11,8 @@ use Rattle.mm_flow.specs.Tables.{IsAtWork}
 use Rattle.mm_flow.specs.Task.{SameTask}
 use Rattle.mm_flow.proofs.Augmenting.{augmented_small, arcs_small}
 
-module _ (g : Graph) (sink : ℕ) (search : Search) (flow : List ℕ) (value : ℕ) (work : IsAtWork g sink search flow value) where
+module _ {g : Graph} {sink : ℕ} {search : Search} {flow : List ℕ} {value : ℕ}
+    (work : IsAtWork g sink search flow value) where
   -- the value is bounded
   pub value_small : value ≤ MAX_VALUE
   value_small = augmented_small g search.source sink (slice_index flow) value work.ends work.bounded work.augmented
@@ -21,8 +22,8 @@ module _ (g : Graph) (sink : ℕ) (search : Search) (flow : List ℕ) (value : �
   flow_small = arcs_small g search.source sink (slice_index flow) value work.ends work.bounded work.augmented
 
   -- the marks change
-  pub work_marked : (next : Search) → next.source ≡ search.source → Fits g next → IsLevelled g next.source next.marks.items
-      → IsAtWork g sink next flow value
+  pub work_marked : (next : Search) → next.source ≡ search.source → Fits g next
+      → IsLevelled g next.source next.marks.items → IsAtWork g sink next flow value
   work_marked next same fits levelled = record {
     ends = omega (arith, same, work.ends);
     sink_known = work.sink_known;
@@ -33,7 +34,8 @@ module _ (g : Graph) (sink : ℕ) (search : Search) (flow : List ℕ) (value : �
   }
 
   -- more flows
-  pub work_more : (new : List ℕ) (more : ℕ) → IsAugmented g search.source sink (slice_index new) more → IsAtWork g sink search new more
+  pub work_more : (new : List ℕ) (more : ℕ) → IsAugmented g search.source sink (slice_index new) more
+      → IsAtWork g sink search new more
   work_more new more augmented = record {
     ends = work.ends;
     sink_known = work.sink_known;
@@ -45,7 +47,7 @@ module _ (g : Graph) (sink : ℕ) (search : Search) (flow : List ℕ) (value : �
 
 -- the value that tables have is bounded
 pub value_bound : (t : Tables) → t.value ≤ MAX_VALUE
-value_bound t = value_small t.residual.network.now.graph t.sink t.search t.residual.flow.items t.value t.at_work
+value_bound t = value_small t.at_work
 
 -- a task that stays the same twice stays the same
 pub same_further : (first then last : Tables) → SameTask first then → SameTask then last → SameTask first last

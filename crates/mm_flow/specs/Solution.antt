@@ -3,6 +3,7 @@ use Rattle.std.specs.Prelude.{◌≡◌, ℕ, ◌<◌, zero, suc, List, length, 
 use Rattle.mm_flow.specs.declared.solved.Solved.{Solved}
 use Rattle.mm_flow.specs.Graph.{Graph, arc}
 use Rattle.mm_flow.specs.Flow.{Flow, IsFlow}
+use Rattle.mm_flow.specs.Balance.{IsBegun, KeepsSource}
 use Rattle.mm_flow.specs.Cut.{Side, IsCut, capacity_of}
 
 -- a flow of this value, and a cut whose capacity is the value
@@ -20,6 +21,12 @@ pub record IsSolved (g : Graph) (source sink : ℕ) (s : Solved) : Type 0 where
   pub arcs : length s.flow.items ≡ length g.arcs
   pub nodes : length s.side.items ≡ g.nodes
   pub solution : IsSolution g source sink (slice_index s.flow.items) (side_of s.side.items) s.value
+
+-- a solution that continues from an earlier flow, and from which a solver can continue
+pub record Continues (g : Graph) (source sink : ℕ) (old new : Solved) : Type 0 where
+  pub solved : IsSolved g source sink new
+  pub begun : IsBegun g source sink new
+  pub kept : KeepsSource g source (slice_index old.flow.items) (slice_index new.flow.items)
 
 -- an unlimited arc leads from one node to another
 abbrev pub HasUnlimited : Graph → ℕ → ℕ → Type 0

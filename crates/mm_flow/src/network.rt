@@ -1,11 +1,10 @@
 //! A network as it is built: its nodes, its arcs, and the room that is reserved for more.
 ghost use Rattle.std.specs.Prelude.{◌≡◌, ◌+◌, ◌-◌, ◌<◌, ◌≤◌, length, IfOk, OnOk, OnErr, IsOk, [], ◌++◌, ◌∷◌};
-ghost use Rattle.std.specs.Option.{ForSome};
 ghost use Rattle.mm_flow.specs.Graph.{arc, IsNetwork, IsArcWithin};
 ghost use Rattle.mm_flow.specs.Built.{empty, with_node, with_arc};
 
 use crate::arc::Arc;
-use crate::limits::{MAX_ARCS, MAX_CAPACITY, MAX_NODES};
+use crate::limits::{MAX_ARCS, MAX_NODES};
 use mm_base::NoMemory;
 use std::alloc::Global;
 use std::marker::Model;
@@ -90,9 +89,8 @@ impl Network {
     /// Adds an arc, and returns its number. `None` is no limit.
     pub fn add_arc(&mut self, from: u32, to: u32, capacity: Option<u64>) -> Result<u32, NoMemory>
         requires arcs { length self.old.graph.arcs < MAX_ARCS }
-        requires from { from < self.old.graph.nodes }
-        requires to { to < self.old.graph.nodes }
-        requires capacity { ForSome capacity (λ most. most ≤ MAX_CAPACITY) }
+        requires within { IsArcWithin self.old.graph.nodes
+            (record { from = from; to = to; capacity = capacity }) }
         ensures number { IfOk result (λ number. number ≡ length self.old.graph.arcs) }
         ensures added { OnOk result
             (self.new ≡ with_arc self.old (record { from = from; to = to; capacity = capacity })) }

@@ -1,5 +1,6 @@
 //! A breadth-first search of the residual network (Edmonds and Karp, 1972).
-ghost use Rattle.std.specs.Prelude.{◌≡◌, ◌+◌, ◌<◌, ◌≤◌, ℕ, length, slice_index, IfOk, replicate, map, nat_lt};
+ghost use Rattle.std.specs.Prelude.{◌≡◌, ◌+◌, ◌<◌, ◌≤◌, ℕ, true, false, length, slice_index, IfOk, replicate, map};
+ghost use Rattle.std.specs.Prelude.{nat_lt};
 ghost use Rattle.mm_flow.specs.Flow.{IsWithin};
 ghost use Rattle.mm_flow.specs.Residual.{head, residual as residual_capacity};
 ghost use Rattle.mm_flow.specs.Links.{IsStep};
@@ -82,6 +83,15 @@ impl Search {
         while self.done < self.found && self.marks[sink as usize].level == 0 {
             self.visit(residual);
         }
+    }
+
+    // Whether a node has a mark.
+    pub(crate) fn has_marked(&self, node: u32) -> bool
+        requires { node < length self.now.marks.items }
+        ensures marked { result ≡ true → HasMark self.now.marks.items node }
+        ensures missed { result ≡ false → ¬ HasMark self.now.marks.items node }
+    {
+        self.marks[node as usize].level > 0
     }
 
     // Marks the source alone.

@@ -1,8 +1,8 @@
 //! The solver that callers use.
-ghost use Rattle.std.specs.Prelude.{◌≡◌, ◌≢◌, ◌<◌, ◌↔◌, IfOk, OnOk, IsErrOf, slice_index};
-ghost use Rattle.mm_flow.specs.Balance.{IsBegun, KeepsSource};
+ghost use Rattle.std.specs.Prelude.{◌<◌, IfOk};
+ghost use Rattle.mm_flow.specs.Balance.{IsBegun};
 ghost use Rattle.mm_flow.specs.Refusing.{RefusesFaults};
-ghost use Rattle.mm_flow.specs.Solution.{IsSolved, HasUnlimitedPath};
+ghost use Rattle.mm_flow.specs.Solution.{IsSolved, Continues};
 
 use crate::fault::Fault;
 use crate::network::Network;
@@ -20,12 +20,7 @@ pub fn solve(alloc: Global, network: &Network, source: u32, sink: u32) -> Result
     requires sink { sink < network.now.graph.nodes }
     ensures solved { IfOk result (IsSolved network.now.graph source sink) }
     ensures begun { IfOk result (IsBegun network.now.graph source sink) }
-    ensures same_ends { IsErrOf result Fault.SameEnds ↔ (source ≡ sink) }
-
-    // Unless memory runs out, these two say exactly when the result is `Unbounded`.
-    ensures unbounded { IsErrOf result Fault.Unbounded
-        → (source ≢ sink) × HasUnlimitedPath network.now.graph source sink }
-    ensures bounded { OnOk result (¬ HasUnlimitedPath network.now.graph source sink) }
+    ensures refused { RefusesFaults network.now.graph source sink result }
 {
     let mut phase = Phase::new(alloc, Tables::new(alloc, network, source, sink)?)?;
     phase.run();
@@ -47,10 +42,7 @@ pub fn solve_from(
     requires source { source < network.now.graph.nodes }
     requires sink { sink < network.now.graph.nodes }
     requires begun { IsBegun network.now.graph source sink begun }
-    ensures solved { IfOk result (IsSolved network.now.graph source sink) }
-    ensures begun { IfOk result (IsBegun network.now.graph source sink) }
-    ensures kept { IfOk result (λ s. KeepsSource network.now.graph source
-        (slice_index begun.flow.items) (slice_index s.flow.items)) }
+    ensures continued { IfOk result (Continues network.now.graph source sink begun) }
     ensures refused { RefusesFaults network.now.graph source sink result }
 {
     let mut tables = Tables::new(alloc, network, source, sink)?;

@@ -52,7 +52,7 @@ impl<'a> Tables<'a> {
             flow,
         };
         search.run(&residual, UNLIMITED);
-        if search.marks[sink as usize].level > 0 {
+        if search.has_marked(sink) {
             return Err(Fault::Unbounded);
         }
         Ok(Tables {
@@ -83,7 +83,7 @@ impl<'a> Tables<'a> {
         ensures over { result ≡ false → IsOver self.new }
     {
         self.search.run(&self.residual, 1);
-        self.search.marks[self.sink as usize].level > 0
+        self.search.has_marked(self.sink)
     }
 
     // Searches again, up to the sink, and returns whether it was reached.
@@ -94,7 +94,7 @@ impl<'a> Tables<'a> {
         ensures over { result ≡ false → IsOver self.new }
     {
         self.search.run_to(&self.residual, self.sink);
-        self.search.marks[self.sink as usize].level > 0
+        self.search.has_marked(self.sink)
     }
 
     // Moves as much as fits along the path by which the sink was reached.

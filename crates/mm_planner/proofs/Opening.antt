@@ -1,7 +1,7 @@
 -- The arcs of the stores are opened one store after another, and what a flow brings to those whose arcs are open does
 -- not become less.
-use Rattle.std.proofs.Common.{◌≡◌, ℕ, zero, suc, ◌+◌, ◌-◌, ◌<◌, ◌≤◌, Bool, cond, eqb, ltb, Option, Some, None, List, []}
-use Rattle.std.proofs.Common.{◌∷◌, ◌++◌, length, slice_index, pos, sym, ap, ◌∙◌, subst, inl, inr, arith, add-one}
+use Rattle.std.proofs.Common.{◌≡◌, ℕ, ◌+◌, ◌-◌, ◌<◌, ◌≤◌, Bool, cond, eqb, ltb, Option, Some, None, List, []}
+use Rattle.std.proofs.Common.{◌∷◌, ◌++◌, length, slice_index, sym, ap, ◌∙◌, subst, inl, inr, arith}
 use Rattle.std.proofs.Common.{length-append}
 use Rattle.std.specs.Prelude.{filter, is_some, slice_index_or}
 use Rattle.std.specs.List.{sum_by}
@@ -12,7 +12,7 @@ use Rattle.mm_base.proofs.Grids.{term-le-grid}
 use Rattle.mm_base.proofs.RangeSums.{sum_by_range-le, sum_by_range_zeros, term-le-sum_by_range}
 use Rattle.mm_base.proofs.Sums.{sum_by-filter}
 use Rattle.mm_problem.specs.Dumping.{Dumping, IsDumping}
-use Rattle.mm_plan.specs.Volumes.{Amounts, lost, store_loss, first_loss}
+use Rattle.mm_plan.specs.Volumes.{Amounts, lost, store_loss}
 use Rattle.mm_plan.specs.Fit.{Fits}
 use Rattle.mm_plan.specs.Table.{Table, amount}
 use Rattle.mm_plan.specs.declared.certificate.Cut.{Cut}
@@ -253,7 +253,7 @@ module _ (q : Dumping) (is : IsDumping q) (f : Flow) (value : ℕ) (x : Amounts)
         let within : j < k = omega (arith, opened.count, below) in
         let cut = slice_index_or cuts j d in
         let now = covered_more (j + 1) q (first_inflow (length q.rows) q) (slice_index old.flow.items)
-        (slice_index new.flow.items) cut (omega (arith, few)) last.kept (opened.each j d within) in
+        (slice_index new.flow.items) cut (omega (arith, few)) last.continued.kept (opened.each j d within) in
         cut_shows (j + 1) cut (omega (arith, few)) (subst (λ (g : Flow). IsCovered (j + 1) q g cut) (sym same) now);
   }
 
@@ -263,14 +263,15 @@ module _ (q : Dumping) (is : IsDumping q) (f : Flow) (value : ℕ) (x : Amounts)
 pub opened_more : (k : ℕ) (q : Dumping) (s next : Solved) (cuts more : List Cut) (c : Cut) → k + 1 ≤ length q.rows
     → AreOpened k q s cuts → IsOpened (k + 1) q s next c → more ≡ cuts ++ c ∷ [] → AreOpened (k + 1) q next more
 opened_more k q s next cuts more c few opened last added = record {
-  begun = last.begun;
+  begun = last.continued.begun;
   count = omega (arith, ap length added, length-append cuts (c ∷ []), opened.count);
   each = λ j d below. elim (cases_lt j k) [
     | inl earlier ↦
         let same : slice_index_or more j d ≡ slice_index_or cuts j d = ap (λ (xs : List Cut). slice_index_or xs j d)
         added ∙ get_or_append_left cuts (c ∷ []) d j (omega (arith, opened.count)) in
         rw same (covered_more (j + 1) q (first_inflow (k + 1) q) (slice_index s.flow.items)
-        (slice_index next.flow.items) (slice_index_or cuts j d) (omega arith) last.kept (opened.each j d earlier))
+        (slice_index next.flow.items) (slice_index_or cuts j d) (omega arith) last.continued.kept
+        (opened.each j d earlier))
     | inr past ↦
         let at : j ≡ k = omega arith in
         let same : slice_index_or more j d ≡ c = ap (λ (xs : List Cut). slice_index_or xs j d) added
@@ -280,8 +281,8 @@ opened_more k q s next cuts more c few opened last added = record {
 }
 
 -- once all are open the flow is one of the problem's network
-pub all_solved : (q : Dumping) (s : Solved) (n : ℕ) → n ≡ length q.rows
+pub all_solved : (q : Dumping) {s : Solved} (n : ℕ) → n ≡ length q.rows
     → IsSolved (net_by q (first_inflow n q)) SOURCE SINK s → IsSolved (net q) SOURCE SINK s
-all_solved q s n all solved =
+all_solved q {s} n all solved =
     subst (λ (g : Graph). IsSolved g SOURCE SINK s) (net_all q)
     (subst (λ k. IsSolved (net_by q (first_inflow k q)) SOURCE SINK s) all solved)

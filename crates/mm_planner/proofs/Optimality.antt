@@ -1,12 +1,11 @@
 -- Every solution of a problem's network gives a plan that loses least, and the cut that shows it.
 use Rattle.std.proofs.Common.{◌≡◌, ℕ, ◌<◌, ◌≤◌, length, pos, refl, arith}
 use Rattle.std.proofs.lemmas.Int.{ints}
-use Rattle.mm_problem.specs.Dumping.{Dumping}
-use Rattle.mm_plan.specs.Volumes.{Amounts, loss}
+use Rattle.mm_plan.specs.Volumes.{loss}
 use Rattle.mm_cut.specs.Cuts as Cuts
 use Rattle.mm_planner.specs.Network.{inflow}
 use Rattle.mm_planner.specs.Runs.{stretches, counts}
-use Rattle.mm_planner.specs.Planned.{IsPlanned, SolutionsPlan}
+use Rattle.mm_planner.specs.Planned.{SolutionsPlan}
 use Rattle.mm_planner.proofs.FromFlow.{fits, loss_within}
 use Rattle.mm_planner.proofs.FromSide.{are_stretches, are_counted, inflow_within}
 

@@ -5,18 +5,16 @@ use Rattle.std.proofs.lemmas.Bool.{cases_lt}
 use Rattle.mm_base.specs.declared.limits.TheConstants.{MAX_STORES, MAX_STEPS, MAX_BLOCKS}
 use Rattle.std.proofs.lemmas.List.{get_or_append_left, get_or_push}
 use Rattle.mm_problem.specs.Dumping.{Dumping, IsDumping}
-use Rattle.mm_plan.specs.Table.{Table, amount, HasShape, IsTable}
+use Rattle.mm_plan.specs.Table.{Table, amount, IsTable}
 use Rattle.mm_plan.specs.declared.certificate.Cut.{Cut}
 use Rattle.mm_plan.specs.Volumes.{Amounts, loss}
-use Rattle.mm_plan.specs.Fit.{Fits}
-use Rattle.mm_plan.specs.Filled.{IsFilled}
 use Rattle.mm_plan.specs.Sheet.{CertificateRows}
 use Rattle.mm_cut.specs.Cuts.{bound}
 use Rattle.mm_cut.specs.Firsts.{ShowsFirst, ShowFirsts}
 use Rattle.mm_cut.proofs.Duality.{IsLeast-from_cut}
 use Rattle.mm_cut.proofs.ShownFirsts.{IsLeastInOrder-from_firsts}
 use Rattle.mm_planner.specs.declared.planner.Planned.{Planned}
-use Rattle.mm_planner.specs.Planned.{ShowsLeast, IsShown}
+use Rattle.mm_planner.specs.Planned.{FitsAndFills, ShowsLeast, IsShown}
 use Rattle.mm_planner.specs.InOrder.{CutShows, CutsShow, AllShow, IsPlanInOrder}
 
 -- the first element of a rest, and what is left after it
@@ -40,31 +38,31 @@ ShowFirsts-push q x cs c show shows k d below = elim (cases_lt k (length cs)) [
 ]
 
 -- a filled plan that fits, where a certificate shows what all stores lose by it, loses least
-shows_least : (q : Dumping) (x : Table) (c : CertificateRows) → HasShape q x → Fits q (amount x) → IsFilled q (amount x)
+shows_least : (q : Dumping) (x : Table) (c : CertificateRows) → FitsAndFills q x
     → ShowsFirst (length q.rows) q (amount x) c → ShowsLeast q x c.cut c.by_channels c.loss
-shows_least q x c shape fits filled shows =
+shows_least q x c whole shows =
     let tight : pos (loss q (amount x)) ≡ bound q c.cut c.by_channels = ap pos (sym shows.loss) ∙ sym shows.tight
     ∙ shows.bound in
     record {
-      shape = shape;
-      least = IsLeast-from_cut q (amount x) c.cut c.by_channels fits shows.cut.cut tight;
-      filled = filled;
+      shape = whole.shape;
+      least = IsLeast-from_cut q (amount x) c.cut c.by_channels whole.fits shows.cut.cut tight;
+      filled = whole.filled;
       cut = shows.cut.cut;
       loss = sym shows.loss;
       bound = sym shows.bound ∙ shows.tight;
     }
 
 -- the same with certificates of the first stores
-pub shown_by : (q : Dumping) (p : Planned) (n : ℕ) → IsTable p.plan → HasShape q p.plan → Fits q (amount p.plan)
-    → IsFilled q (amount p.plan) → n ≡ length q.rows → ShowsFirst n q (amount p.plan) p.certificate
+pub shown_by : (q : Dumping) (p : Planned) (n : ℕ) → IsTable p.plan → FitsAndFills q p.plan → n ≡ length q.rows
+    → ShowsFirst n q (amount p.plan) p.certificate
     → p.certificate.loss ≤ 2 * MAX_BLOCKS * MAX_STEPS * MAX_STORES → ShowFirsts q (amount p.plan) p.firsts.items
     → All (λ c. c.loss ≤ 2 * MAX_BLOCKS * MAX_STEPS * MAX_STORES) p.firsts.items → IsShown q p
-shown_by q p n table shape fits filled is shows most firsts most_each =
+shown_by q p n table whole is shows most firsts most_each =
     let all : ShowsFirst (length q.rows) q (amount p.plan) p.certificate = subst
     (λ k. ShowsFirst k q (amount p.plan) p.certificate) is shows in
     record {
       plan = record {
-        shows_least = shows_least q p.plan p.certificate shape fits filled all;
+        shows_least = shows_least q p.plan p.certificate whole all;
         tight = all.tight;
         is_table = table;
         most = most;

@@ -3,8 +3,8 @@ use Rattle.std.specs.Prelude.{◌≡◌, ℕ, ◌+◌, ◌<◌, ◌≤◌, List,
 use Rattle.std.specs.List.{sum_by, range_with_len}
 use Rattle.mm_problem.specs.Dumping.{Dumping, steps}
 use Rattle.mm_flow.specs.Flow.{Flow}
-use Rattle.mm_flow.specs.Balance.{IsBegun, KeepsSource}
-use Rattle.mm_flow.specs.Solution.{IsSolved}
+use Rattle.mm_flow.specs.Balance.{IsBegun}
+use Rattle.mm_flow.specs.Solution.{Continues}
 use Rattle.mm_flow.specs.declared.solved.Solved.{Solved}
 use Rattle.mm_plan.specs.declared.certificate.Cut.{Cut}
 use Rattle.mm_cut.specs.Cuts.{IsFirstCut, coming_sum, held_sum, leaving_sum}
@@ -36,9 +36,7 @@ pub record IsBegunBy (k : ℕ) (q : Dumping) (s : Solved) : Type 0 where
 -- a maximum flow with the arcs of the first stores open, which continues from an earlier one, and a cut that covers
 -- these stores
 pub record IsOpened (k : ℕ) (q : Dumping) (old new : Solved) (c : Cut) : Type 0 where
-  pub solved : IsSolved (net_by q (first_inflow k q)) SOURCE SINK new
-  pub begun : IsBegun (net_by q (first_inflow k q)) SOURCE SINK new
-  pub kept : KeepsSource (net_by q (first_inflow k q)) SOURCE (slice_index old.flow.items) (slice_index new.flow.items)
+  pub continued : Continues (net_by q (first_inflow k q)) SOURCE SINK old new
   pub covered : IsCovered k q (slice_index new.flow.items) c
 
 -- for the first store, the first two and so on, up to this number, there is such a cut, and no other store's arcs are

@@ -4,6 +4,7 @@ use Rattle.mm_base.specs.declared.limits.TheConstants.{MAX_STORES, MAX_STEPS, MA
 use Rattle.mm_problem.specs.Dumping.{Dumping, IsDumping}
 use Rattle.mm_plan.specs.Table.{Table, amount, HasShape, IsTable}
 use Rattle.mm_plan.specs.Volumes.{Amounts, loss}
+use Rattle.mm_plan.specs.Fit.{Fits}
 use Rattle.mm_plan.specs.Least.{IsLeast}
 use Rattle.mm_plan.specs.Sheet.{SheetRows}
 use Rattle.mm_plan.specs.Filled.{IsFilled}
@@ -18,6 +19,12 @@ use Rattle.mm_planner.specs.declared.planner.Planned.{Planned}
 use Rattle.mm_planner.specs.Network.{net}
 use Rattle.mm_planner.specs.Taken.{AreTaken}
 use Rattle.mm_planner.specs.Runs.{stretches, counts}
+
+-- the plan has the problem's shape, fits, and leaves no window idle that a store could use
+pub record FitsAndFills (q : Dumping) (x : Table) : Type 0 where
+  pub shape : HasShape q x
+  pub fits : Fits q (amount x)
+  pub filled : IsFilled q (amount x)
 
 -- the plan has the problem's shape, loses least and leaves no window idle, and the cut is well formed and shows it: its
 -- bound and the plan's loss are n

@@ -1,8 +1,8 @@
 //! Plans by the network of the problem alone. The arcs by which blocks arrive are opened store by store.
-ghost use Rattle.std.specs.Prelude.{◌≡◌, ◌+◌, ◌≤◌, length, slice_index, IfOk};
+ghost use Rattle.std.specs.Prelude.{◌≡◌, ◌+◌, ◌≤◌, length, IfOk};
 ghost use Rattle.mm_problem.specs.Dumping.{IsDumping};
-ghost use Rattle.mm_flow.specs.Balance.{IsBegun, KeepsSource};
-ghost use Rattle.mm_flow.specs.Solution.{IsSolved, side_of};
+ghost use Rattle.mm_flow.specs.Balance.{IsBegun};
+ghost use Rattle.mm_flow.specs.Solution.{Continues, side_of};
 ghost use Rattle.mm_planner.specs.declared.nodes.TheConstants.{SOURCE, SINK};
 ghost use Rattle.mm_planner.specs.Network.{first_inflow, net_by};
 ghost use Rattle.mm_planner.specs.Runs.{first_stretches, first_counts};
@@ -45,13 +45,8 @@ fn next_solved(
     first: usize,
 ) -> Result<Solved, NoMemory>
     requires begun { IsBegunBy first problem.now begun }
-    ensures solved { IfOk result
-        (IsSolved (net_by problem.now (first_inflow first problem.now)) SOURCE SINK) }
-    ensures begun { IfOk result
-        (IsBegun (net_by problem.now (first_inflow first problem.now)) SOURCE SINK) }
-    ensures kept { IfOk result
-        (λ s. KeepsSource (net_by problem.now (first_inflow first problem.now)) SOURCE
-        (slice_index begun.flow.items) (slice_index s.flow.items)) }
+    ensures { IfOk result
+        (Continues (net_by problem.now (first_inflow first problem.now)) SOURCE SINK begun) }
 {
     let network = first_network(alloc, problem, first)?;
     match solve_from(alloc, &network, begun, SOURCE, SINK) {

@@ -2,11 +2,9 @@
 ghost use Rattle.std.specs.Prelude.{◌≡◌, ◌*◌, ◌≤◌, length, All, IfNone, IfOk, IfSome};
 ghost use Rattle.mm_base.specs.declared.limits.TheConstants.{MAX_STORES, MAX_STEPS, MAX_BLOCKS};
 ghost use Rattle.mm_plan.specs.Table.{amount, HasShape};
-ghost use Rattle.mm_plan.specs.Filled.{IsFilled};
-ghost use Rattle.mm_plan.specs.Fit.{Fits};
 ghost use Rattle.mm_cut.specs.Firsts.{ShowsFirst, ShowFirsts};
 ghost use Rattle.mm_planner.specs.InOrder.{CutShows, CutsShow, AllShow};
-ghost use Rattle.mm_planner.specs.Planned.{IsShown};
+ghost use Rattle.mm_planner.specs.Planned.{FitsAndFills, IsShown};
 
 use crate::planner::Planned;
 use mm_base::NoMemory;
@@ -72,9 +70,7 @@ pub(crate) fn certified(
     cut: Cut,
     firsts: Vec<Cut>,
 ) -> Result<Option<Planned>, NoMemory>
-    requires shape { HasShape problem.now plan }
-    requires fits { Fits problem.now (amount plan) }
-    requires filled { IsFilled problem.now (amount plan) }
+    requires whole { FitsAndFills problem.now plan }
     requires few { length firsts.items ≤ length problem.now.rows }
     ensures shown { IfOk result (λ found. IfSome found (IsShown problem.now)) }
     ensures count { IfOk result

@@ -3,19 +3,8 @@ use crate::tests::samples::{
     A_LIMITED, CHANNEL_LIMIT_CUT, FIRST_RUN, ONE_STORE_OF_A, Runtime, SCI, THREE_STEPS,
     TWO_STEPS_OF_A,
 };
-use mm_chart::chart_bytes;
+use mm_chart::{chart_bytes, table_bytes};
 use samples::{chart_of, has_lines, has_texts, is_fault};
-
-// For faulty texts only the fault is written.
-macro_rules! writes_nothing {
-    ($rt:expr, $write:ident) => {
-        for (setup, forecast, plan, wanted) in &FAULTY {
-            let (setup, forecast) = (setup.as_bytes(), forecast.as_bytes());
-            let written = $write($rt.alloc(), setup, forecast, plan.as_bytes());
-            is_fault($rt, written, wanted);
-        }
-    };
-}
 
 mod numbers;
 mod pictures;
@@ -167,14 +156,19 @@ fn a_forged_text_has_the_headline_of_its_verdict(rt: HostRuntime) {
 }
 
 // Texts of a setup, a forecast and a plan, and the fault that is reported.
-pub(crate) static FAULTY: [(&str, &str, &str, &str); 4] = [
+static FAULTY: [(&str, &str, &str, &str); 4] = [
     ("store = 1", "", "", "28 SetupField row 0 name store"),
     (SCI, "step,window,HK\n1,2,3\n", "", "30 Header"),
     (SCI, THREE_STEPS, "mmplan 4\n", "34 PlanText line 1"),
     (A_LIMITED, TWO_STEPS_OF_A, FIRST_RUN, "35 Shape"),
 ];
 
+// A table has the first fault of a chart.
 #[test]
 fn the_first_fault_is_told_and_nothing_is_drawn(rt: HostRuntime) {
-    writes_nothing!(&rt, chart_bytes)
+    for (setup, forecast, plan, wanted) in &FAULTY {
+        let (setup, forecast, plan) = (setup.as_bytes(), forecast.as_bytes(), plan.as_bytes());
+        is_fault(&rt, chart_bytes(rt.alloc(), setup, forecast, plan), wanted);
+        is_fault(&rt, table_bytes(rt.alloc(), setup, forecast, plan), wanted);
+    }
 }

@@ -14,14 +14,14 @@ opened_to-requires-clause-begun c = record {
 
 pub taken_plan-requires : goal.taken_plan-requires
 taken_plan-requires c =
-    all_solved c.args.problem.now c.in_ok-solved.solved c.stores.result c.stores.ensures.stores
-    c.in_ok-solved.ensures.opened.solved
+    all_solved c.args.problem.now c.stores.result c.stores.ensures.stores
+    c.in_ok-solved.ensures.opened.continued.solved
 
 pub fill-requires-clause-fits : goal.fill-requires-clause-fits
 fill-requires-clause-fits c =
     let q = c.args.problem.now in
     let s = c.in_ok-solved.solved in
-    let solved = all_solved q s c.stores.result c.stores.ensures.stores c.in_ok-solved.ensures.opened.solved in
+    let solved = all_solved q c.stores.result c.stores.ensures.stores c.in_ok-solved.ensures.opened.continued.solved in
     fits q c.opened_to.ensures.problem (slice_index s.flow.items) s.value solved.solution.flow
     (amount c.in_ok-taken.taken) c.in_ok-taken.ensures.taken
 
@@ -35,7 +35,7 @@ unreachable-requires c =
     let filled = c.in_ok-plan in
     let opened = subst (λ (k : ℕ). IsOpened k q first.begun s cut) c.stores.ensures.stores
     c.in_ok-solved.ensures.opened in
-    let solved = all_solved q s c.stores.result c.stores.ensures.stores c.in_ok-solved.ensures.opened.solved in
+    let solved = all_solved q c.stores.result c.stores.ensures.stores c.in_ok-solved.ensures.opened.continued.solved in
     let none = rw c.in-None.is at c.in_ok-found.ensures.none in
     none (all_show q c.opened_to.ensures.problem (slice_index s.flow.items) s.value (amount taken.taken) filled.plan
     solved.solution.flow taken.ensures.taken filled.ensures.fits filled.ensures.no_worse.losses

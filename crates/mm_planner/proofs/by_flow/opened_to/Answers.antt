@@ -11,9 +11,7 @@ returns-clause-opened c =
     let next = c.in_ok-solved.ensures in
     let cut = c.in_ok-cut.ensures in
     record {
-      solved = next.solved;
-      begun = next.begun;
-      kept = next.kept;
+      continued = next;
       covered = covered q c.stores.ensures.is_dumping k c.requires.few c.in_ok-solved.solved next.solved c.in_ok-cut.cut
           (cut.stretches ∙ ap (λ (side : List Bool). first_stretches k q (side_of side)) c.as_slice.ensures.value)
           (cut.by_channels ∙ ap (λ (side : List Bool). first_counts k q (side_of side)) c.as_slice.ensures.value);

@@ -10,6 +10,6 @@ returns-clause-shown c =
     let firsts = c.in_ok-firsts.ensures in
     let p : Planned = record { plan = c.args.plan; certificate = all.certificate; firsts = c.in-Some.firsts } in
     let table : IsTable c.args.plan = search rules in
-    shown_by c.args.problem.now p c.stores.result table c.requires.shape c.requires.fits c.requires.filled
+    shown_by c.args.problem.now p c.stores.result table c.requires.whole
     c.stores.ensures.stores all.ensures.shows all.ensures.most (rw c.in-Some.is at firsts.show)
     (rw c.in-Some.is at firsts.most)

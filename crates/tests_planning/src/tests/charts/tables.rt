@@ -1,6 +1,5 @@
-//! Tables of plans whose records are worked out by hand, and the refusals.
-use crate::tests::charts::FAULTY;
-use crate::tests::charts::samples::{is_fault, text_of};
+//! Tables of plans whose records are worked out by hand.
+use crate::tests::charts::samples::text_of;
 use crate::tests::charts::sizes::{WIDE, most_lost, most_steps};
 use crate::tests::samples::{FIRST_RUN, Runtime, SCI, THREE_STEPS};
 use mm_chart::table_bytes;
@@ -13,7 +12,8 @@ fn table_of(rt: &impl Runtime, setup: &str, forecast: &str, plan: &str) -> Strin
 }
 
 const TWO_STORES: &str =
-    "[[store]]\nid = \"CAM\"\nsize = 5\ntype = \"circular\"\nchannel = 0\nstart = 4\n[[store]]\nid = \"HK\"\nsize = 3\ntype = \"bounded\"\nchannel = 1\n";
+    "[[store]]\nid = \"CAM\"\nsize = 5\ntype = \"circular\"\nchannel = 0\nstart = 4\n\
+    [[store]]\nid = \"HK\"\nsize = 3\ntype = \"bounded\"\nchannel = 1\n";
 
 const FULL: &str =
     "[[store]]\nid = \"-_9LONG_\"\nsize = 1000000\ntype = \"circular\"\nchannel = 7\nstart = 1000000\n";
@@ -41,8 +41,8 @@ static TABLES: [(&str, &str, &str, &str); 4] = tables! {
         "2,2,SCI,3,0,0,3"
         "3,0,SCI,4,3,0,4";
 
-    // Step 1: of 4 + 3 the circular store has room for 5, and 3 leave; of 2 in the other 1 leaves. Step 2: 2 stay; of 1 + 5
-    // there is room for 3. Step 3: of 2 + 6 there is room for 5, and 2 leave; 4 are to leave of 3, and 3 do.
+    // Step 1: of 4 + 3 the circular store has room for 5, and 3 leave; of 2 in the other 1 leaves. Step 2: 2 stay; of
+    // 1 + 5 there is room for 3. Step 3: of 2 + 6 there is room for 5, and 2 leave; 4 are to leave of 3, and 3 do.
     TWO_STORES, "step,window,CAM,HK\n1,4,3,2\n2,0,0,5\n3,6,6,0\n",
     "mmplan 1\nstores CAM HK\ndump 1 3 1\ndump 2 0 0\ndump 3 2 4\nloss 8\nbound 0\nend\n" =>
         "step,window,store,arrived,lost,dumped,held"
@@ -90,9 +90,4 @@ fn sixteen_stores_and_256_steps_have_4096_records(rt: HostRuntime) {
     let (forecast, plan) = (most_steps(&rt), most_lost(&rt));
     let table = table_of(&rt, WIDE, forecast.as_str(), plan.as_str());
     has_places(&rt, table.as_str());
-}
-
-#[test]
-fn a_table_has_the_first_fault_of_a_chart(rt: HostRuntime) {
-    writes_nothing!(&rt, table_bytes)
 }

@@ -1,7 +1,7 @@
 //! Plan texts of the third form: how they are read, printed and refused.
 use crate::tests::in_order::{COUNTS_IN_ORDER, THREE_IN_ORDER};
-use crate::tests::plans::sheets::{are_refused, is_refused, prefixes_refused, read_and_printed};
-use crate::tests::samples::{Runtime, repeated, sheet_of};
+use crate::tests::plans::sheets::{are_refused, prefixes_refused, read_and_printed};
+use crate::tests::samples::{Runtime, sheet_of};
 use mm_plan::{Certificate, Sheet};
 
 // Three stores that lose nothing.
@@ -48,8 +48,8 @@ static REFUSED: [(&[u8], u32); 19] = wanted! {
     b"mmplan 3\nstores A B C\ndump 1 0 0 0\nloss 0\nbound 0\nend\n" => 6;
     b"mmplan 3\nstores A B C\ndump 1 0 0 0\nloss 0\nbound 0\nfirst 1\nloss 0\nbound 0\nend\n" => 9;
     // one part too many
-    b"mmplan 3\nstores A B C\ndump 1 0 0 0\nloss 0\nbound 0\nfirst 1\nloss 0\nbound 0\nfirst 2\nloss 0\nbound 0\nfirst 3\nloss 0\nbound 0\nend\n"
-    => 12;
+    b"mmplan 3\nstores A B C\ndump 1 0 0 0\nloss 0\nbound 0\nfirst 1\nloss 0\nbound 0\n\
+    first 2\nloss 0\nbound 0\nfirst 3\nloss 0\nbound 0\nend\n" => 12;
     // a part twice
     b"mmplan 3\nstores A B C\ndump 1 0 0 0\nloss 0\nbound 0\nfirst 1\nloss 0\nbound 0\nfirst 1\nloss 0\nbound 0\nend\n"
     => 9;
@@ -64,32 +64,13 @@ static REFUSED: [(&[u8], u32); 19] = wanted! {
     b"mmplan 3\nstores A B\ndump 1 0 0\nfirst 1\nloss 0\nbound 0\nloss 0\nbound 0\nend\n" => 4;
     b"mmplan 3\nstores A B\ndump 1 0 0\nloss 0\nbound 0\nfirst 1\nbound 0\nend\n" => 7;
     b"mmplan 3\nstores A B\ndump 1 0 0\nloss 0\nbound 0\nfirst 1\nloss 0\nend\n" => 8;
-    b"mmplan 3\nstores A B\ndump 1 0 0\nloss 0\nbound 0\nfirst 1\nloss 0\ncount 1 channels\nstretch A 1 1\nbound 0\nend\n"
-    => 9;
+    b"mmplan 3\nstores A B\ndump 1 0 0\nloss 0\nbound 0\nfirst 1\nloss 0\ncount 1 channels\n\
+    stretch A 1 1\nbound 0\nend\n" => 9;
     b"mmplan 3\nstores A B\ndump 1 0 0\nloss 0\nbound 0\nfirst 1\nloss 0\nbound 0\nend\nend\n" => 10;
 };
 
 #[test]
 fn texts_in_order_refused(rt: HostRuntime) {
     are_refused(&rt, &REFUSED);
-}
-
-#[test]
-fn prefixes_of_a_text_in_order_are_refused(rt: HostRuntime) {
     prefixes_refused(&rt, NO_LOSS);
-}
-
-// The certificate of all stores has a count, and that of the first none yet.
-const TO_COUNTS: &str =
-    "mmplan 3\nstores A B\ndump 1 0 0\nloss 0\ncount 1 channels\nbound 0\nfirst 1\nloss 0\n";
-
-// How often a count is repeated, what follows, and the line of the refusal.
-static REPEATED: [(usize, &str, u32); 2] = [(256, "bound 0\nend\n", 0), (257, "", 265)];
-
-#[test]
-fn each_certificate_may_have_256_counts(rt: HostRuntime) {
-    for (count, end, wanted) in &REPEATED {
-        let text = repeated(&rt, TO_COUNTS, "count 1 channels\n", *count, end);
-        is_refused(&rt, text.as_bytes(), *wanted);
-    }
 }

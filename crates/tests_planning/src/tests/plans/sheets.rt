@@ -13,7 +13,7 @@ fn line_of(alloc: Global, text: &[u8]) -> u32 {
 }
 
 // The text is refused with this line; 0 if it is that of a sheet.
-pub(crate) fn is_refused(rt: &impl Runtime, text: &[u8], line: u32) {
+fn is_refused(rt: &impl Runtime, text: &[u8], line: u32) {
     assert!(rt; line_of(rt.alloc(), text) == line, "line {line}");
 }
 
@@ -45,10 +45,12 @@ pub(crate) fn read_and_printed(rt: &impl Runtime, text: &str, printed: &str) {
 }
 
 const IN_ANY_ORDER: &str =
-    "mmplan 2\nstores B A\ndump 1 0 0\nloss 0\nstretch A 1 1\nstretch B 3 4\nstretch B 1 9\nstretch B 1 2\ncount 7 channels\ncount 2 channels\nbound -5\nend\n";
+    "mmplan 2\nstores B A\ndump 1 0 0\nloss 0\nstretch A 1 1\nstretch B 3 4\nstretch B 1 9\nstretch B 1 2\n\
+    count 7 channels\ncount 2 channels\nbound -5\nend\n";
 
 const IN_ORDER: &str =
-    "mmplan 2\nstores B A\ndump 1 0 0\nloss 0\nstretch B 1 2\nstretch B 1 9\nstretch B 3 4\nstretch A 1 1\ncount 2 channels\ncount 7 channels\nbound -5\nend\n";
+    "mmplan 2\nstores B A\ndump 1 0 0\nloss 0\nstretch B 1 2\nstretch B 1 9\nstretch B 3 4\nstretch A 1 1\n\
+    count 2 channels\ncount 7 channels\nbound -5\nend\n";
 
 #[test]
 fn sheets_are_printed_in_order(rt: HostRuntime) {
@@ -170,14 +172,20 @@ const FIRST_FORM: &str = "mmplan 1\nstores A\ndump 1 0\nloss 0\n";
 
 const SECOND_FORM: &str = "mmplan 2\nstores A\ndump 1 0\nloss 0\n";
 
+// The certificate of all stores has a count, and that of the first none yet.
+const THIRD_FORM: &str =
+    "mmplan 3\nstores A B\ndump 1 0 0\nloss 0\ncount 1 channels\nbound 0\nfirst 1\nloss 0\n";
+
 const END: &str = "bound 0\nend\n";
 
 // A text up to some lines, the line that is repeated and how often, what follows, and the line of the refusal.
-static REPEATED: [(&str, &str, usize, &str, u32); 4] = [
+static REPEATED: [(&str, &str, usize, &str, u32); 6] = [
     (FIRST_FORM, "stretch A 1 1\n", 4096, END, 0),
     (FIRST_FORM, "stretch A 1 1\n", 4097, "", 4101),
     (SECOND_FORM, "count 1 channels\n", 256, END, 0),
     (SECOND_FORM, "count 1 channels\n", 257, "", 261),
+    (THIRD_FORM, "count 1 channels\n", 256, END, 0),
+    (THIRD_FORM, "count 1 channels\n", 257, "", 265),
 ];
 
 #[test]

@@ -1,55 +1,11 @@
-//! Each path of the planner on the smallest and largest problems, on problems in which a plan by the next overflow
-//! alone loses more, and compared with the slow reference on random tiny problems. Losses in these tests are counted by
-//! hand.
-use super::{Counted, least_loss, lose_least, planned_loss};
+//! Each path of the planner on the largest problems, whose losses are counted by hand, and compared with the slow
+//! reference on random tiny problems.
+use super::{least_loss, planned_loss};
 use crate::tests::samples::{
     Runtime, SIXTEEN_HEADER, SIXTEEN_STORES, alike_steps, each_limited, joined, limited, made,
     next_below, problem_of, row,
 };
-use mm_planner::plan_bytes;
 use mm_problem::{LimitRow, Problem, StoreRow};
-
-static AT_THE_ENDS: [Counted; 11] = counted! {
-    name: "one_step",
-    store "A" 4 0 0; store "B" 1 0 1; limit 0 9; limit 1 9; "step,window,A,B\n1,2,9,1\n" => 5;
-    name: "windows_all_0",
-    store "A" 3 0 0; store "B" 1 0 1; limit 0 9; limit 1 9; "step,window,A,B\n1,0,1,1\n2,0,1,1\n3,0,1,1\n" => 2;
-    name: "limits_all_0",
-    store "A" 3 0 0; store "B" 1 0 1; limit 0 0; limit 1 0; "step,window,A,B\n1,2,1,1\n2,2,1,1\n3,2,1,1\n" => 2;
-    name: "full_at_the_start",
-    store "A" 3 3 0; store "B" 1 1 1; limit 0 9; limit 1 9; "step,window,A,B\n1,1,1,1\n2,1,1,1\n3,1,1,1\n" => 4;
-    name: "nothing_arrives",
-    store "A" 3 2 0; store "B" 1 1 1; limit 0 1; limit 1 1; "step,window,A,B\n1,1,0,0\n2,2,0,0\n" => 0;
-    // If channels have limits, serving the store that overflows first may lose one block more.
-    name: "greed_loses_6",
-    store "A" 2 2 0; store "B" 1 1 1; limit 0 1; limit 1 1; "step,window,A,B\n1,1,1,2\n2,2,0,0\n3,1,0,2\n4,2,2,2\n5,1,0,0\n" => 5;
-    name: "greed_loses_1",
-    store "A" 2 1 0; store "B" 2 1 1; limit 0 2; limit 1 1; "step,window,A,B\n1,1,0,0\n2,2,1,1\n3,0,1,2\n" => 0;
-    name: "a step in which the store gets full",
-    store "A" 4 2 0; "step,window,A\n1,0,2\n" => 0;
-    name: "a step with a window",
-    store "A" 4 2 0; "step,window,A\n1,3,2\n" => 0;
-    name: "a step in which more comes than the store holds",
-    store "A" 4 2 0; "step,window,A\n1,9,9\n" => 7;
-    name: "a step in which nothing comes",
-    store "A" 4 2 0; "step,window,A\n1,0,0\n" => 0;
-};
-
-// The same input planned twice gives the same bytes.
-fn is_planned_alike(rt: &impl Runtime, case: &Counted) {
-    let (setup, forecast) = (case.setup.as_bytes(), case.forecast.as_bytes());
-    let first = plan_bytes(rt.alloc(), setup, forecast).expect(rt, "memory");
-    let second = plan_bytes(rt.alloc(), setup, forecast).expect(rt, "memory");
-    assert!(rt; first == second, "{}", case.name);
-}
-
-#[test]
-fn both_paths_plan_at_the_ends(rt: HostRuntime) {
-    lose_least(&rt, &AT_THE_ENDS);
-    for case in &AT_THE_ENDS {
-        is_planned_alike(&rt, case);
-    }
-}
 
 // The limit of each channel, the number of steps, and the loss. In the first step each store gets its block. Before
 // each later step a window of 15 leaves one block of 16 behind, and a limit of 1 leaves eight.

@@ -3,14 +3,10 @@ use Rattle.mm_flow.proofs.Working.{value_small, flow_small, work_more}
 use Rattle.mm_flow.proofs.tables.Tables.augment.Goals as goal
 
 pub push_along-requires-clause-small : goal.push_along-requires-clause-small
-push_along-requires-clause-small c =
-    let t = c.args.self.now in
-    flow_small t.residual.network.now.graph t.sink t.search t.residual.flow.items t.value t.at_work
+push_along-requires-clause-small c = flow_small c.args.self.now.at_work
 
 pub overflow_add-self : goal.overflow_add-self
-overflow_add-self c =
-    let t = c.args.self.now in
-    omega (arith, c.bottleneck-amount.ensures.within, value_small t.residual.network.now.graph t.sink t.search t.residual.flow.items t.value t.at_work)
+overflow_add-self c = omega (arith, c.bottleneck-amount.ensures.within, value_small c.args.self.now.at_work)
 
 pub returns-clause-more : goal.returns-clause-more
 returns-clause-more c = omega (arith, c.bottleneck-amount.ensures.greatest 1 (omega arith) c.requires.way)
@@ -18,8 +14,7 @@ returns-clause-more c = omega (arith, c.bottleneck-amount.ensures.greatest 1 (om
 pub invariant_of-self : goal.invariant_of-self
 invariant_of-self c =
     let t = c.args.self.now in
-    let g = t.residual.network.now.graph in
     let more = t.value + c.bottleneck-amount.result in
-    rw c.push_along.ensures.network (record {
-      at_work = work_more g t.sink t.search t.residual.flow.items t.value t.at_work c.push_along.new.self.flow.items more (c.push_along.ensures.augmented t.value t.at_work.augmented);
-    })
+    let augmented = c.push_along.ensures.augmented t.value t.at_work.augmented in
+    rw c.push_along.ensures.network
+    (record { at_work = work_more t.at_work c.push_along.new.self.flow.items more augmented })

@@ -6,11 +6,10 @@ use Rattle.mm_flow.proofs.tables.Tables.raise_sink.Goals as goal
 
 pub invariant_of-self : goal.invariant_of-self
 invariant_of-self c =
-    let t = c.args.self.now in
-    let g = t.residual.network.now.graph in
+    let work = c.args.self.now.at_work in
     let own : Mark = record { level = 4294967295; via = 0 } in
-    let levelled = levelled_set g t.search.source t.sink t.search.marks.items own t.at_work.levelled t.at_work.sink_known (omega arith) in
+    let levelled = levelled_set c.args.self.now.sink own work.levelled work.sink_known (omega arith) in
     record {
-      at_work = work_marked g t.sink t.search t.residual.flow.items t.value t.at_work _ refl
-          (record { source = t.at_work.fits.source; marks = levelled.size; order = t.at_work.fits.order }) levelled;
+      at_work = work_marked work _ refl
+          (record { source = work.fits.source; marks = levelled.size; order = work.fits.order }) levelled;
     }

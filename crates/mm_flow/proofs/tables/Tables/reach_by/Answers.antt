@@ -1,4 +1,5 @@
-use Rattle.std.proofs.Common.{◌≡◌, ◌≢◌, ◌<◌, ℕ, length, slice_index, slice_set, ap, sym, ◌∙◌, refl, subst, arith, inl, inr}
+use Rattle.std.proofs.Common.{◌≡◌, ◌≢◌, ◌<◌, ℕ, length, slice_index, slice_set, ap, sym, ◌∙◌, refl, subst, arith}
+use Rattle.std.proofs.Common.{inl, inr}
 use Rattle.std.proofs.lemmas.Bool.{cases_eq}
 use Rattle.std.proofs.lemmas.List.{get_or_read, get_or-set_same, get_or-set_other}
 use Rattle.mm_flow.specs.declared.search.Mark.{Mark}
@@ -17,22 +18,25 @@ to_lt c = omega (arith, c.args.self.now.at_work.levelled.size, c.head-to.ensures
 
 -- the mark that was read is that node's
 read_is : (c : After-index_mut) → c.index_mut.result.now ≡ mark c.args.self.now.search.marks.items c.head-to.result
-read_is c = get_or_read c.args.self.now.search.marks.items c.head-to.result c.index_mut.result.now (to_lt c) c.index_mut.ensures.value no_mark
+read_is c = get_or_read c.args.self.now.search.marks.items c.head-to.result c.index_mut.result.now (to_lt c)
+    c.index_mut.ensures.value no_mark
 
 -- so it has a level
-read_level : (c : After-index_mut) → c.index_mut.result.now.level ≡ level c.args.self.now.search.marks.items (head c.args.self.now.residual.network.now.graph c.args.entry)
-read_level c = ap (λ (m : Mark). m.level) (read_is c ∙ ap (mark c.args.self.now.search.marks.items) c.head-to.ensures.node)
+read_level : (c : After-index_mut) → c.index_mut.result.now.level
+    ≡ level c.args.self.now.search.marks.items (head c.args.self.now.residual.network.now.graph c.args.entry)
+read_level c = ap (λ (m : Mark). m.level)
+    (read_is c ∙ ap (mark c.args.self.now.search.marks.items) c.head-to.ensures.node)
 
 pub invariant_of-self : goal.invariant_of-self
 invariant_of-self c =
-    let t = c.args.self.now in
-    let g = t.residual.network.now.graph in
+    let work = c.args.self.now.at_work in
     let own : Mark = record { level = c.index_mut.result.now.level; via = c.args.entry } in
-    let some : 0 < own.level = omega (arith, read_level (goal.at.invariant_of-self c).After-index_mut, c.requires.up.up) in
-    let levelled = levelled_set g t.search.source c.head-to.result t.search.marks.items own t.at_work.levelled c.head-to.ensures.known some in
+    let some : 0 < own.level = omega
+    (arith, read_level (goal.at.invariant_of-self c).After-index_mut, c.requires.up.up) in
+    let levelled = levelled_set c.head-to.result own work.levelled c.head-to.ensures.known some in
     record {
-      at_work = work_marked g t.sink t.search t.residual.flow.items t.value t.at_work _ refl
-          (record { source = t.at_work.fits.source; marks = levelled.size; order = t.at_work.fits.order }) levelled;
+      at_work = work_marked work _ refl
+          (record { source = work.fits.source; marks = levelled.size; order = work.fits.order }) levelled;
     }
 
 pub returns-clause-kept : goal.returns-clause-kept
@@ -45,7 +49,10 @@ returns-clause-kept c =
       flow = refl;
       value = refl;
       levels = λ n. elim (cases_eq n to) [
-        | inl same ↦ ap (level (slice_set marks to own)) same ∙ ap (λ (m : Mark). m.level) (get_or-set_same marks to own no_mark (to_lt here)) ∙ ap (λ (m : Mark). m.level) (read_is here) ∙ ap (level marks) (sym same)
+        | inl same ↦
+            let set = ap (λ (m : Mark). m.level) (get_or-set_same marks to own no_mark (to_lt here)) in
+            let read = ap (λ (m : Mark). m.level) (read_is here) in
+            ap (level (slice_set marks to own)) same ∙ set ∙ read ∙ ap (level marks) (sym same)
         | inr ne ↦ ap (λ (m : Mark). m.level) (get_or-set_other marks to n own no_mark ne)
       ];
     }
@@ -65,10 +72,12 @@ returns-clause-path c =
     let up = c.requires.up in
     let to_is = c.head-to.ensures.node in
     let here = (goal.at.returns-clause-path c).After-index_mut in
-    let own_is : mark marked to ≡ own = sym (ap (mark marked) to_is) ∙ get_or-set_same marks c.head-to.result own no_mark (to_lt here) in
+    let own_is : mark marked to ≡ own = sym (ap (mark marked) to_is)
+    ∙ get_or-set_same marks c.head-to.result own no_mark (to_lt here) in
     let others : (n : ℕ) → n ≢ to → mark marked n ≡ mark marks n = λ n ne.
     get_or-set_other marks c.head-to.result n own no_mark (λ same. ne (same ∙ to_is)) in
-    let before_is : mark marked at ≡ mark marks at = others at (λ same. absurd (omega (arith, up.up, ap (level marks) same))) in
+    let before_is : mark marked at ≡ mark marks at = others at
+    (λ same. absurd (omega (arith, up.up, ap (level marks) same))) in
     let reached =
     IsReached-from g f marked 1 to (mark marks at) own own_is before_is (record {
       known = up.known;

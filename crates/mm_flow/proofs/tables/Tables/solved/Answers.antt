@@ -18,15 +18,17 @@ returns-clause-solved c =
     let source = t.search.source in
     let side = c.in_ok-side.side.items in
     let marks = t.search.marks.items in
-    let flow = slice_index t.residual.flow.items in
-    let over = c.requires.over in
+    let carried = t.residual.flow.items in
     let same_side : side_of side ≡ reached_side marks = fun_ext λ n.
-    ap (λ (table : List Bool). slice_index_or table n false) c.in_ok-side.ensures ∙ get_or-map (λ (m : Mark). nat_lt 0 m.level) marks n no_mark in
-    let items : c.into_flow.result.items ≡ t.residual.flow.items = rw c.into_flow.ensures refl in
-    let IsShown = λ (carried : List ℕ) (shown : Side). IsSolution g source t.sink (slice_index carried) shown t.value in
-    let best = solved_by g source t.sink flow t.value marks (augmented_flow g source t.sink flow t.value t.at_work.ends t.at_work.augmented) over.searched over.missed in
+    ap (λ (table : List Bool). slice_index_or table n false) c.in_ok-side.ensures
+    ∙ get_or-map (λ (m : Mark). nat_lt 0 m.level) marks n no_mark in
+    let items : c.into_flow.result.items ≡ carried = rw c.into_flow.ensures refl in
+    let flow = augmented_flow g source t.sink (slice_index carried) t.value t.at_work.ends t.at_work.augmented in
+    let best = solved_by flow c.requires.over.searched c.requires.over.missed in
+    let sides = length-map marks (λ (m : Mark). nat_lt 0 m.level) in
     record {
       arcs = omega (arith, ap length items, t.residual.sound.arcs);
-      nodes = omega (arith, ap length c.in_ok-side.ensures, length-map marks (λ (m : Mark). nat_lt 0 m.level), t.at_work.levelled.size);
-      solution = subst (λ (carried : List ℕ). IsShown carried (side_of side)) (sym items) (subst (λ (shown : Side). IsShown t.residual.flow.items shown) (sym same_side) best);
+      nodes = omega (arith, ap length c.in_ok-side.ensures, sides, t.at_work.levelled.size);
+      solution = subst (λ (xs : List ℕ). IsSolution g source t.sink (slice_index xs) (side_of side) t.value) (sym items)
+          (subst (λ (s : Side). IsSolution g source t.sink (slice_index carried) s t.value) (sym same_side) best);
     }
