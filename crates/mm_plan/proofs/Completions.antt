@@ -2,13 +2,14 @@
 use Rattle.std.proofs.Common.{◌≡◌, ℕ, zero, suc, ◌+◌, ◌-◌, ◌*◌, ◌<◌, ◌≤◌, true, ◌==◌, List, [], ◌∷◌, ◌++◌, length, map}
 use Rattle.std.proofs.Common.{drop, pos, refl, sym, ap, ◌∙◌, inl, inr, arith, append_assoc, append-nil, length-append}
 use Rattle.std.proofs.Common.{length-drop, subst}
-use Rattle.std.specs.Prelude.{All, IfSome, unwrap_or, nat_lt, ◌&&◌, ◌^◌, replicate}
+use Rattle.std.specs.Prelude.{All, IfSome, unwrap_or, codes, nat_lt, ◌&&◌, ◌^◌, replicate}
 use Rattle.std.proofs.lemmas.Bool.{cases_Bool}
 use Rattle.std.proofs.lemmas.Bool.Decides.{nat_tests}
 use Rattle.std.proofs.lemmas.List.{length-replicate, length-map}
 use Rattle.std.proofs.lemmas.List.Elements.{All-nil, All-cons, All-head, All-tail, All-drop, All-replicate}
 use Rattle.mm_base.specs.declared.limits.TheConstants.{MAX_STORES, MAX_BLOCKS}
-use Rattle.mm_base.specs.Id.{IsIdField}
+use Rattle.mm_base.specs.Id.{IsIdField, field_of}
+use Rattle.mm_base.proofs.IdFields.{field_of-IsIdField, is_id_text_decides}
 use Rattle.mm_plan.specs.declared.form.Form.{Form}
 use Rattle.mm_plan.specs.declared.form.Form.TheVariants.{First, Second, Third}
 use Rattle.mm_plan.specs.declared.draft.Stage.{Stage}
@@ -17,12 +18,11 @@ use Rattle.mm_plan.specs.Sheet.{SheetRows, CertificateRows, IsSheet, IsCertifica
 use Rattle.mm_plan.specs.Sheet.{stores_line, dump_line, loss_line, stretch_line, count_line, bound_line, first_line}
 use Rattle.mm_plan.specs.Sheet.{end_line, dump_lines, certificate_lines, opening, first_lines, form_of, own}
 use Rattle.mm_plan.specs.Sheet.{certificates_of, lines_of, IsLine}
-use Rattle.mm_plan.specs.Reading.{id_of, ReadRows, DraftRows, fits_form, may_begin, has_all, may_follow, part_of}
+use Rattle.mm_plan.specs.Reading.{ReadRows, DraftRows, fits_form, may_begin, has_all, may_follow, part_of}
 use Rattle.mm_plan.specs.Reading.{with_part, after, firsts_in, sheet_of}
 use Rattle.mm_plan.proofs.Drafts.{dumps_of, so_far, IsRows, IsEnded, at_stage, IsSound, lines_so_far, IsAdded}
 use Rattle.mm_plan.proofs.Drafts.{zero_fits, added}
 use Rattle.mm_plan.proofs.Runs.{eq_of, certificate_right, certificates_are}
-use Rattle.mm_plan.proofs.Saying.{id_of-is}
 
 -- a sheet that begins with the lines so far
 pub record Leads (d : DraftRows) : Type 0 where
@@ -172,9 +172,10 @@ leads_dumps f s sound = elim (cases_Bool (nat_lt 0 s.plan.steps)) [
 -- by one store
 leads_stores : (f : Form) (s : ReadRows) → LeadsAt ToStores f s
 leads_stores f s sound =
-    let id = id_of [] in
+    let id = field_of (codes "A") in
+    let is : IsIdField id = field_of-IsIdField (codes "A") ((is_id_text_decides (codes "A")).0 refl) in
     leads_more (at_stage ToStores f s) (stores_line (id ∷ []))
-    (omega arith, All-cons IsIdField id [] (id_of-is []) (All-nil IsIdField)) sound refl
+    (omega arith, All-cons IsIdField id [] is (All-nil IsIdField)) sound refl
     (leads_dumps f (record s { stores = id ∷ []; plan = record s.plan { stores = 1 } }))
 
 -- by the title of the first form

@@ -1,5 +1,5 @@
 -- What a draft of a sheet says so far, and that each line that may come next adds just itself.
-use Rattle.std.proofs.Common.{◌≡◌, ℕ, zero, suc, ◌+◌, ◌*◌, ◌<◌, ◌≤◌, Bool, true, false, ◌==◌, None, List, [], ◌∷◌, ◌++◌}
+use Rattle.std.proofs.Common.{◌≡◌, ℕ, zero, suc, ◌+◌, ◌*◌, ◌<◌, ◌≤◌, true, false, ◌==◌, None, List, [], ◌∷◌, ◌++◌}
 use Rattle.std.proofs.Common.{length, map, take, drop, ℤ, pos, refl, sym, ap, ◌∙◌, subst, arith, append_assoc}
 use Rattle.std.proofs.Common.{append-nil, length-append, length-drop}
 use Rattle.std.specs.Prelude.{All, unwrap_or, nat_le, nat_lt, ◌&&◌, ◌^◌, FitsSigned}

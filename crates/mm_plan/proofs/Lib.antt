@@ -1,6 +1,6 @@
 pub mod Steps
-pub mod Saying
 pub mod Spelled
+pub mod Saying
 pub mod Lines
 pub mod Drafts
 pub mod Runs

@@ -1,80 +1,119 @@
 -- Each line of a sheet is read from its text, and what is read is the text of a line.
-use Rattle.std.proofs.Common.{◌≡◌, ℕ, ◌<◌, ◌≤◌, Bool, true, false, cond, ◌==◌, List, [], ◌∷◌, length, map, take, drop}
-use Rattle.std.proofs.Common.{Some, None, refl, sym, ap, ◌∙◌, subst, arith, length-append, length-take, length-drop}
-use Rattle.std.proofs.Common.{◌-◌}
-use Rattle.std.specs.Prelude.{All, codes, decimal, nat_lt, ◌^◌}
-use Rattle.std.specs.Fmt.{signed_decimal}
-use Rattle.std.specs.List.{slice_split, list_all}
+use Rattle.std.proofs.Common.{◌≡◌, ℕ, ◌<◌, ◌≤◌, true, cond, ◌==◌, List, [], ◌∷◌, length, map, take, Option}
+use Rattle.std.proofs.Common.{Some, None, refl, sym, ap, ◌∙◌, subst, inl, inr, arith, length-take}
+use Rattle.std.specs.Prelude.{All, codes, decimal, nat_lt, option_map}
+use Rattle.std.specs.List.{slice_split, list_all, join_with_byte}
 use Rattle.std.specs.Str.{bytes_eq}
+use Rattle.std.proofs.NetLemmas.Options.{map_some}
+use Rattle.std.proofs.lemmas.Bool.{cases_Bool, le-ltb, lt-ltb, ltb-false}
 use Rattle.std.proofs.lemmas.List.{length-map, take_all}
-use Rattle.std.proofs.lemmas.List.Elements.{All-from_recursion, All-nil, All-cons, All-head, All-tail, All-map}
-use Rattle.std.proofs.lemmas.List.Elements.{All-weaker}
-use Rattle.std.proofs.Math.Seq.{take-append_seam}
-use Rattle.std.proofs.lemmas.Bool.{false≢true}
+use Rattle.std.proofs.lemmas.List.Elements.{All-cons, All-weaker}
+use Rattle.std.proofs.lemmas.List.Splits.{join_with_byte-slice_split}
+use Rattle.std.proofs.lemmas.Option.{none-some}
 use Rattle.std.proofs.lemmas.Slice.Eq.{bytes_eq-Decides}
 use Rattle.mm_base.specs.declared.limits.TheConstants.{MAX_STEPS, MAX_BLOCKS}
 use Rattle.mm_base.specs.Id.{IsIdField, id_text}
-use Rattle.mm_plan.specs.declared.form.Form.{Form}
-use Rattle.mm_plan.specs.declared.form.Form.TheVariants.{First, Second, Third}
 use Rattle.mm_plan.specs.Sheet.{Line, title_line, stores_line, dump_line, loss_line, stretch_line, count_line}
-use Rattle.mm_plan.specs.Sheet.{bound_line, first_line, end_line, IsLine, form_word, words, line_text}
-use Rattle.mm_plan.specs.Reading.{MAX_U32, MAX_U64, line_words, number_of, id_of, word, line_of, IsRead}
-use Rattle.mm_plan.specs.Printing.{ended}
-use Rattle.mm_plan.proofs.Spelled.{Lacks, IsBare, bare_lacks, bare_tested, bare_decimal, bare_signed, bare_id}
-use Rattle.mm_plan.proofs.Spelled.{slice_split-join, join_lacks}
-use Rattle.mm_plan.proofs.Saying.{number_of-decimal, number_of-most, id_of-id_text, id_of-is, signed_of-signed_decimal}
-use Rattle.mm_plan.proofs.Saying.{signed_of-fits}
+use Rattle.mm_plan.specs.Sheet.{bound_line, first_line, end_line, IsLine, words, line_text}
+use Rattle.mm_plan.specs.Reading.{MAX_U32, MAX_U64, line_words, number_of, next, each, word, stretch_by}
+use Rattle.mm_plan.specs.Reading.{id_of, only, stores_of, dump_of, stretch_of, count_of, end_of, word_line}
+use Rattle.mm_plan.specs.Reading.{line_of, IsRead}
+use Rattle.mm_plan.proofs.Spelled.{Lacks, IsBare, bare_lacks, bare_tested, slice_split-join, join_lacks}
+use Rattle.mm_plan.proofs.Saying.{Reads, one_value, numbers, ids, forms, given, signed, none}
+use Rattle.mm_plan.proofs.Saying.{only_read, all_read, next_read}
 
--- ---- the words of a line
+-- ---- the words of a line are read as the line
 
--- amounts are bare
-bare_decimals : (xs : List ℕ) → All (λ n. n ≤ MAX_BLOCKS) xs → All IsBare (map decimal xs)
-bare_decimals xs h =
-    let P : ℕ → Type 0 = λ n. IsBare (decimal n) in
-    All-map IsBare decimal xs (All-weaker (λ n. n ≤ MAX_BLOCKS) P (λ n le. bare_decimal n (omega arith)) xs h)
+-- numbers of 32 bits are read
+u32s : Reads IsBare (λ n. n ≤ MAX_U32) decimal (number_of MAX_U32)
+u32s = numbers MAX_U32 (omega arith)
 
--- identifiers are bare
-bare_ids : (ids : List (List ℕ)) → All IsIdField ids → All IsBare (map id_text ids)
-bare_ids ids h = All-map IsBare id_text ids (All-weaker IsIdField (λ f. IsBare (id_text f)) bare_id ids h)
+-- numbers of 64 bits are read
+u64s : Reads IsBare (λ n. n ≤ MAX_U64) decimal (number_of MAX_U64)
+u64s = numbers MAX_U64 (omega arith)
 
--- the word of a form is bare
-bare_form : (f : Form) → IsBare (form_word f)
-bare_form First = bare_tested (codes "1") refl
-bare_form Second = bare_tested (codes "2") refl
-bare_form Third = bare_tested (codes "3") refl
+-- the words of a stretch are read
+stretches : Reads (All IsBare) (λ p. IsIdField p.0 × ((p.1.0 ≤ MAX_U32) × (p.1.1 ≤ MAX_U32)))
+    (λ p. id_text p.0 ∷ decimal p.1.0 ∷ decimal p.1.1 ∷ [])
+    (next id_of (next (number_of MAX_U32) (only (number_of MAX_U32))))
+stretches = next_read ids (next_read u32s (only_read u32s))
 
--- a keyword is bare
-bare_line : (key : List ℕ) (ws : List (List ℕ)) → list_all (λ b. nat_lt 32 b) key ≡ true → All IsBare ws
-    → All IsBare (key ∷ ws)
-bare_line key ws e more = All-cons IsBare key ws (bare_tested key e) more
+-- those of a counted step are read
+counts : Reads (All IsBare) (λ p. (p.0 ≤ MAX_U32) × Unit {0}) (λ p. decimal p.0 ∷ codes "channels" ∷ [])
+    (next (number_of MAX_U32) (only (word (codes "channels"))))
+counts = next_read u32s (only_read (given (codes "channels") (bare_tested (codes "channels") refl)))
 
--- the only word after it
-bare_one : (w : List ℕ) → IsBare w → All IsBare (w ∷ [])
-bare_one w h = All-cons IsBare w [] h (All-nil IsBare)
+-- steps and amounts are read
+dumps : Reads (All IsBare) (λ p. (p.0 ≤ MAX_STEPS) × All (λ n. n ≤ MAX_BLOCKS) p.1)
+    (λ p. decimal p.0 ∷ map decimal p.1) (next (number_of MAX_STEPS) (each (number_of MAX_BLOCKS) []))
+dumps = next_read (numbers MAX_STEPS (omega arith)) (all_read (numbers MAX_BLOCKS (omega arith)))
 
--- the words of a line are bare
-bare_words : (x : Line) → IsLine x → All IsBare (words x)
-bare_words (title_line f) h = bare_line (codes "mmplan") (form_word f ∷ []) refl (bare_one (form_word f) (bare_form f))
-bare_words (stores_line ids) h = bare_line (codes "stores") (map id_text ids) refl (bare_ids ids h.1)
-bare_words (dump_line t xs) h =
-    let step : t ≤ MAX_STEPS = h.0 in
-    bare_line (codes "dump") (decimal t ∷ map decimal xs) refl
-    (All-cons IsBare (decimal t) (map decimal xs) (bare_decimal t (omega arith)) (bare_decimals xs h.2))
-bare_words (loss_line n) h = bare_line (codes "loss") (decimal n ∷ []) refl (bare_one (decimal n) (bare_decimal n h))
-bare_words (stretch_line d) h =
-    let first = bare_decimal d.first (omega (arith, h.first)) in
-    let last = bare_decimal d.last (omega (arith, h.last)) in
-    All-from_recursion IsBare (words (stretch_line d))
-    (bare_tested (codes "stretch") refl, (bare_id d.store h.store, (first, (last, tt))))
-bare_words (count_line t) h =
-    bare_line (codes "count") (decimal t ∷ codes "channels" ∷ []) refl
-    (All-cons IsBare (decimal t) (codes "channels" ∷ []) (bare_decimal t (omega (arith, h)))
-    (bare_line (codes "channels") [] refl (All-nil IsBare)))
-bare_words (bound_line z) h =
-    bare_line (codes "bound") (signed_decimal z ∷ []) refl (bare_one (signed_decimal z) (bare_signed z h))
-bare_words (first_line k) h =
-    bare_line (codes "first") (decimal k ∷ []) refl (bare_one (decimal k) (bare_decimal k (omega (arith, h))))
-bare_words end_line h = bare_line (codes "end") [] refl (All-nil IsBare)
+-- the words that a line was printed of are read again, and are bare
+shown : {A : Type 0} {P : A → Type 0} {print : A → List (List ℕ)} {read : List (List ℕ) → Option A} (key : List ℕ)
+    → list_all (λ b. nat_lt 32 b) key ≡ true → (line : A → Line) → Reads (All IsBare) P print read → (a : A) → P a
+    → (option_map line (read (print a)) ≡ Some (line a)) × All IsBare (key ∷ print a)
+shown key bare line r a h =
+    (ap (option_map line) (r.again a h), All-cons IsBare key _ (bare_tested key bare) (r.good a h))
+
+-- those of each line
+line_shown : (x : Line) → IsLine x → (line_of (words x) ≡ Some x) × All IsBare (words x)
+unfolding line_of stores_of dump_of stretch_of count_of end_of word_line
+line_shown (title_line f) h = shown (codes "mmplan") refl title_line (only_read forms) f tt
+line_shown (stores_line fs) h = shown (codes "stores") refl stores_line (all_read ids) fs h.1
+line_shown (dump_line t xs) h = shown (codes "dump") refl (λ p. dump_line p.0 p.1) dumps (t, xs) (h.0, h.2)
+line_shown (loss_line n) h = shown (codes "loss") refl loss_line (only_read u64s) n (omega (arith, h))
+line_shown (stretch_line d) h =
+    shown (codes "stretch") refl stretch_by stretches
+    (d.store, (d.first, d.last)) (h.store, (omega (arith, h.first), omega (arith, h.last)))
+line_shown (count_line t) h =
+    shown (codes "count") refl (λ p. count_line p.0) counts (t, tt) (omega (arith, h), tt)
+line_shown (bound_line z) h = shown (codes "bound") refl bound_line (only_read signed) z h
+line_shown (first_line k) h = shown (codes "first") refl first_line (only_read u32s) k (omega (arith, h))
+line_shown end_line h = shown (codes "end") refl (λ u. end_line) none tt tt
+
+-- a line that is read is that of the words
+abbrev IsOf : List (List ℕ) → Option Line → Type 0
+IsOf ws o = (x : Line) → o ≡ Some x → IsLine x × (ws ≡ words x)
+
+-- where the keyword is this one, the line of the words after it, and else another
+keyed : {A : Type 0} {P : A → Type 0} {print : A → List (List ℕ)} {read : List (List ℕ) → Option A}
+    (key k : List ℕ) (ws : List (List ℕ)) (line : A → Line) (other : Option Line) → Reads (All IsBare) P print read
+    → ((a : A) → words (line a) ≡ key ∷ print a) → ((a : A) → P a → ws ≡ print a → IsLine (line a))
+    → IsOf (k ∷ ws) other → IsOf (k ∷ ws) (cond (bytes_eq k key) (option_map line (read ws)) other)
+keyed {read = read} key k ws line other r shown is rest = λ x e. elim (cases_Bool (bytes_eq k key)) [
+  | inl same ↦ map_some line (read ws) x (rw same at e) (λ a here made.
+      let p = r.is ws a here in
+      let all : k ∷ ws ≡ words (line a) = cc ((bytes_eq-Decides k key).0 same, p.1, shown a) in
+      subst (λ y. IsLine y × (k ∷ ws ≡ words y)) made (is a p.0 p.1, all))
+  | inr differs ↦ rest x (rw differs at e)
+]
+
+-- what is read of a keyword and a word is theirs
+word_line-is : (k : List ℕ) (ws : List (List ℕ)) → IsOf (k ∷ ws) (only (word_line k) ws)
+unfolding word_line
+word_line-is k (w ∷ []) =
+    keyed (codes "mmplan") k (w ∷ []) title_line _ (only_read forms) (λ a. refl) (λ a h is. tt)
+    (keyed (codes "loss") k (w ∷ []) loss_line _ (only_read u64s) (λ a. refl) (λ a h is. omega (arith, h))
+    (keyed (codes "bound") k (w ∷ []) bound_line _ (only_read signed) (λ a. refl) (λ a h is. h)
+    (keyed (codes "first") k (w ∷ []) first_line _ (only_read u32s) (λ a. refl) (λ a h is. omega (arith, h))
+    (λ x e. absurd (none-some x e)))))
+word_line-is k other = λ x e. absurd (none-some x e)
+
+-- what is read of at most 18 words is theirs
+line_of-is : (ws : List (List ℕ)) → length ws ≤ 18 → IsOf ws (line_of ws)
+unfolding line_of stores_of dump_of stretch_of count_of end_of
+line_of-is [] few = λ x e. absurd (none-some x e)
+line_of-is (k ∷ ws) few =
+    keyed (codes "stores") k ws stores_line _ (all_read ids) (λ a. refl)
+    (λ a h is. (omega (arith, few, ap length is, length-map a id_text), h))
+    (keyed (codes "dump") k ws (λ p. dump_line p.0 p.1) _ dumps (λ a. refl)
+    (λ a h is. (h.0, omega (arith, few, ap length is, length-map a.1 decimal), h.1))
+    (keyed (codes "stretch") k ws stretch_by _ stretches (λ a. refl)
+    (λ a h is. record { store = h.0; first = omega (arith, h.1.0); last = omega (arith, h.1.1) })
+    (keyed (codes "count") k ws (λ p. count_line p.0) _ counts (λ a. refl) (λ a h is. omega (arith, h.0))
+    (keyed (codes "end") k ws (λ u. end_line) _ none (λ a. refl) (λ a h is. tt) (word_line-is k ws)))))
+
+-- ---- the line of a text
 
 -- there are 1 to 18 of them
 abbrev IsShort : List (List ℕ) → Type 0
@@ -86,131 +125,57 @@ short_words (stores_line ids) h = (omega arith, omega (arith, h.0, length-map id
 short_words (dump_line t xs) h = (omega arith, omega (arith, h.1, length-map xs decimal))
 short_words _ h = (omega arith, omega arith)
 
--- bare words lack white space
-bare_lack : (c : ℕ) → c ≤ 32 → (ws : List (List ℕ)) → All IsBare ws → All (Lacks c) ws
-bare_lack c low ws h = All-weaker IsBare (Lacks c) (bare_lacks c low) ws h
-
--- a line has no line feed
-pub line_text_lacks : (x : Line) → IsLine x → Lacks 10 (line_text x)
-unfolding line_text
-line_text_lacks x h = join_lacks 10 32 refl (words x) (bare_lack 10 (omega arith) (words x) (bare_words x h))
-
 -- the words of a line come back from its text
 line_words-line_text : (x : Line) → IsLine x → line_words (line_text x) ≡ words x
 unfolding line_text
 line_words-line_text x h =
     let short = short_words x h in
-    ap (take 18) (slice_split-join 32 (words x) short.0 (bare_lack 32 (omega arith) (words x) (bare_words x h)))
-    ∙ take_all 18 (words x) (omega (arith, short.1))
+    let lacking = All-weaker IsBare (Lacks 32) (bare_lacks 32 (omega arith)) (words x) (line_shown x h).1 in
+    ap (take 19) (slice_split-join 32 (words x) short.0 lacking) ∙ take_all 19 (words x) (omega (arith, short.1))
 
--- ---- the words of a line say the line
+-- the line with a text, of which no more than 18 words are read
+abbrev line_in : List ℕ → Option Line
+line_in text = cond (nat_lt 18 (length (line_words text))) None (line_of (line_words text))
 
--- printed elements say what they were printed of
-said_each : {A : Type 0} (said : List ℕ → A) (text : A → List ℕ) (P : A → Type 0) → ((x : A) → P x → said (text x) ≡ x)
-    → (xs : List A) → All P xs → map said (map text xs) ≡ xs
-said_each said text P back [] h = refl
-said_each said text P back (x ∷ xs) h =
-    ap (λ y. y ∷ map said (map text xs)) (back x (All-head P x xs h))
-    ∙ ap (λ ys. x ∷ ys) (said_each said text P back xs (All-tail P x xs h))
+-- lines are read
+pub lines : Reads (Lacks 10) IsLine line_text line_in
+unfolding line_text
+lines = record {
+  again = λ x h.
+      let few : length (words x) ≤ 18 = (short_words x h).1 in
+      rw (line_words-line_text x h, le-ltb 18 (length (words x)) few) ((line_shown x h).0);
+  is = λ text x e. elim (cases_Bool (nat_lt 18 (length (line_words text)))) [
+    | inl long ↦ absurd (none-some x (rw long at e))
+    | inr short ↦
+        let ws = slice_split (λ c. c == 32) text in
+        let few : length (line_words text) ≤ 18 = ltb-false 18 _ short in
+        let all : take 19 ws ≡ ws = take_all 19 ws (omega (arith, few, length-take 19 ws)) in
+        let p = line_of-is (line_words text) few x (rw short at e) in
+        (p.0, sym (join_with_byte-slice_split 32 text) ∙ ap (join_with_byte 32) (sym all ∙ p.1))
+  ];
+  good = λ x h.
+      let lacking = All-weaker IsBare (Lacks 10) (bare_lacks 10 (omega arith)) (words x) (line_shown x h).1 in
+      join_lacks 10 32 refl (words x) lacking;
+}
 
--- the words of a line say the line
-line_of-words : (x : Line) → IsLine x → line_of (words x) ≡ x
-unfolding line_of
-line_of-words (title_line First) h = refl
-line_of-words (title_line Second) h = refl
-line_of-words (title_line Third) h = refl
-line_of-words (stores_line ids) h = ap stores_line (said_each id_of id_text IsIdField id_of-id_text ids h.1)
-line_of-words (dump_line t xs) h =
-    let amount = number_of MAX_BLOCKS in
-    let back : (n : ℕ) → n ≤ MAX_BLOCKS → amount (decimal n) ≡ n =
-    λ n le. number_of-decimal MAX_BLOCKS n le (omega arith) in
-    ap (λ k. dump_line k (map amount (map decimal xs))) (number_of-decimal MAX_STEPS t h.0 (omega arith))
-    ∙ ap (dump_line t) (said_each amount decimal (λ n. n ≤ MAX_BLOCKS) back xs h.2)
-line_of-words (loss_line n) h = ap loss_line (number_of-decimal MAX_U64 n (omega (arith, h)) (omega arith))
-line_of-words (stretch_line d) h =
-    let first = number_of-decimal MAX_U32 d.first (omega (arith, h.first)) (omega arith) in
-    let last = number_of-decimal MAX_U32 d.last (omega (arith, h.last)) (omega arith) in
-    let made : List ℕ → ℕ → ℕ → Line = λ id a b. stretch_line (record { store = id; first = a; last = b }) in
-    let number = λ (n : ℕ). number_of MAX_U32 (decimal n) in
-    ap (λ id. made id (number d.first) (number d.last)) (id_of-id_text d.store h.store)
-    ∙ ap (λ a. made d.store a (number d.last)) first
-    ∙ ap (made d.store d.first) last
-line_of-words (count_line t) h = ap count_line (number_of-decimal MAX_U32 t (omega (arith, h)) (omega arith))
-line_of-words (bound_line z) h = ap bound_line (signed_of-signed_decimal z h)
-line_of-words (first_line k) h = ap first_line (number_of-decimal MAX_U32 k (omega (arith, h)) (omega arith))
-line_of-words end_line h = refl
+-- the answer is what the text is read as
+is_read : (text : List ℕ) (o : Option Line) → o ≡ line_in text → IsRead text o
+is_read text (Some x) e = lines.is text x (sym e)
+is_read text None e = λ x h is. none-some x (e ∙ ap line_in is ∙ lines.again x h)
 
--- either way
-cond_is : (P : Line → Type 0) (b : Bool) (x y : Line) → P x → P y → P (cond b x y)
-cond_is P true x y here there = here
-cond_is P false x y here there = there
+module _ (text : List ℕ) (ws : List (List ℕ)) (same : ws ≡ line_words text) where
+  -- at most 18 words
+  pub line_read : (o : Option Line) → length ws ≤ 18 → o ≡ line_of ws → IsRead text o
+  line_read o few e =
+      let here : line_in text ≡ line_of (line_words text) =
+      rw (le-ltb 18 (length (line_words text)) (omega (arith, few, ap length same))) refl in
+      is_read text o (e ∙ ap line_of same ∙ sym here)
 
--- what any words say
-each_is : {A : Type 0} (said : List ℕ → A) (P : A → Type 0) → ((w : List ℕ) → P (said w)) → (ws : List (List ℕ))
-    → All P (map said ws)
-each_is said P is [] = All-nil P
-each_is said P is (w ∷ ws) = All-cons P (said w) (map said ws) (is w) (each_is said P is ws)
-
--- what at most 18 words say is a line
-pub line_of-is : (ws : List (List ℕ)) → length ws ≤ 18 → IsLine (line_of ws)
-unfolding line_of
-line_of-is [] few = tt
-line_of-is (k ∷ ws) few =
-    let w : ℕ → List ℕ = λ i. word ws i in
-    let u32 : (i : ℕ) → number_of MAX_U32 (w i) < 2 ^ 32 = λ i. omega (arith, number_of-most MAX_U32 (w i)) in
-    cond_is IsLine (bytes_eq k (codes "mmplan")) _ _ tt
-    (cond_is IsLine (bytes_eq k (codes "stores")) _ _
-    (omega (arith, few, length-map ws id_of), each_is id_of IsIdField id_of-is ws)
-    (cond_is IsLine (bytes_eq k (codes "dump")) _ _ (
-      number_of-most MAX_STEPS (w 0),
-      omega (arith, few, length-map (drop 1 ws) (number_of MAX_BLOCKS), length-drop 1 ws),
-      each_is (number_of MAX_BLOCKS) (λ n. n ≤ MAX_BLOCKS) (number_of-most MAX_BLOCKS) (drop 1 ws),
-    )
-    (cond_is IsLine (bytes_eq k (codes "loss")) _ _ (omega (arith, number_of-most MAX_U64 (w 0)))
-    (cond_is IsLine (bytes_eq k (codes "stretch")) _ _ (record { store = id_of-is (w 0); first = u32 1; last = u32 2 })
-    (cond_is IsLine (bytes_eq k (codes "count")) _ _ (u32 0)
-    (cond_is IsLine (bytes_eq k (codes "bound")) _ _ (signed_of-fits (w 0))
-    (cond_is IsLine (bytes_eq k (codes "first")) _ _ (u32 0) tt)))))))
-
--- ---- the line of a text
-
--- the line that a text's words say
-abbrev pub said_line : List ℕ → Line
-said_line text = line_of (line_words text)
-
--- the text of a line says the line
-said_line-line_text : (x : Line) → IsLine x → said_line (line_text x) ≡ x
-said_line-line_text x h = ap line_of (line_words-line_text x h) ∙ line_of-words x h
-
--- the texts of lines say the lines
-pub said_lines : (xs : List Line) → All IsLine xs → map said_line (map line_text xs) ≡ xs
-said_lines = said_each said_line line_text IsLine said_line-line_text
+  -- more words
+  pub none_read : 18 < length ws → IsRead text None
+  none_read more =
+      is_read text None (sym (rw (lt-ltb 18 (length (line_words text)) (omega (arith, more, ap length same))) refl))
 
 -- lines of one text are one line
 pub same_line : (x y : Line) → IsLine x → IsLine y → line_text x ≡ line_text y → x ≡ y
-same_line x y h i e = sym (said_line-line_text x h) ∙ ap said_line e ∙ said_line-line_text y i
-
--- which is within the ranges of a line
-pub said_is : (text : List ℕ) → IsLine (said_line text)
-said_is text = line_of-is (line_words text) (omega (arith, length-take 18 (slice_split (λ c. c == 32) text)))
-
--- a text that is printed again is that of the line which it says
-pub said_read : (text : List ℕ) (x : Line) → x ≡ said_line text → bytes_eq (line_text x) text ≡ true
-    → IsRead text (Some x)
-said_read text x said same =
-    (subst IsLine (sym said) (said_is text), sym ((bytes_eq-Decides (line_text x) text).0 same))
-
--- a text that is not is no line's
-pub said_unread : (text : List ℕ) (x : Line) → x ≡ said_line text → bytes_eq (line_text x) text ≡ false
-    → IsRead text None
-said_unread text x said other = λ y h is.
-    let same : line_text x ≡ text = ap line_text (said ∙ ap said_line is ∙ said_line-line_text y h) ∙ sym is in
-    false≢true (sym other ∙ (bytes_eq-Decides (line_text x) text).1 same)
-
--- a line that is printed, without its line feed
-pub line_printed : (x : Line) (printed rest : List ℕ) (n : ℕ) → printed ≡ ended x → n ≡ length printed
-    → rest ≡ take (n - 1) printed → rest ≡ line_text x
-unfolding ended
-line_printed x printed rest n is size cut =
-    let len : n - 1 ≡ length (line_text x) = omega (arith, size, ap length is, length-append (line_text x) (10 ∷ [])) in
-    cut ∙ ap (λ k. take k printed) len ∙ ap (take (length (line_text x))) is ∙ take-append_seam (line_text x) (10 ∷ [])
+same_line = one_value lines

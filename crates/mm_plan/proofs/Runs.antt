@@ -10,14 +10,13 @@ use Rattle.std.proofs.lemmas.List.Elements.{All-nil, All-cons, All-from_recursio
 use Rattle.std.proofs.lemmas.List.Elements.{All-take, All-drop}
 use Rattle.std.proofs.lemmas.List.Elements.{All-map}
 use Rattle.mm_base.specs.declared.limits.TheConstants.{MAX_STORES, MAX_STEPS, MAX_BLOCKS}
-use Rattle.mm_base.specs.Id.{IsIdField}
 use Rattle.mm_base.proofs.IdFields.{Decides-nat_le}
 use Rattle.mm_plan.specs.declared.stretch.Stretch.{Stretch}
 use Rattle.mm_plan.specs.declared.stretch.TheConstants.{MAX_STRETCHES, MAX_COUNTS}
 use Rattle.mm_plan.specs.declared.draft.Stage.{Stage}
 use Rattle.mm_plan.specs.declared.draft.Stage.TheVariants.{ToStores, ToDumps, ToLoss, ToCut, ToEnd, Done}
 use Rattle.mm_plan.specs.declared.form.Form.{Form}
-use Rattle.mm_plan.specs.declared.form.Form.TheVariants.{First, Second, Third}
+use Rattle.mm_plan.specs.declared.form.Form.TheVariants.{First, Third}
 use Rattle.mm_plan.specs.Sheet.{SheetRows, CertificateRows, IsSheet, IsCertificate, AreFirsts, Line, title_line}
 use Rattle.mm_plan.specs.Sheet.{stores_line, dump_line, loss_line, stretch_line, count_line, bound_line, first_line}
 use Rattle.mm_plan.specs.Sheet.{end_line, dump_lines, certificate_lines, opening, first_lines, has_counts, form_by}

@@ -1,11 +1,11 @@
 -- From lines to octets: how far a text has been read, and where it ends.
-use Rattle.std.proofs.Common.{◌≡◌, ℕ, suc, ◌+◌, ◌-◌, ◌≤◌, false, ◌==◌, List, [], ◌∷◌, ◌++◌, length, map, take, drop}
-use Rattle.std.proofs.Common.{Some, None}
+use Rattle.std.proofs.Common.{◌≡◌, ℕ, ◌+◌, ◌-◌, ◌≤◌, false, ◌==◌, List, [], ◌∷◌, ◌++◌, length, map, take, drop}
+use Rattle.std.proofs.Common.{Some}
 use Rattle.std.proofs.Common.{refl, sym, ap, ◌∙◌, subst, arith, append_assoc, length-append}
 use Rattle.std.specs.Prelude.{All, option_and_then}
 use Rattle.std.specs.List.{join_with_byte}
 use Rattle.std.proofs.Math.Seq.{take-append_seam}
-use Rattle.std.proofs.lemmas.List.{append_cancel_right, append_cancel_left, length-map, map_push, map-append}
+use Rattle.std.proofs.lemmas.List.{append_cancel_right, length-map, map_push, map-append}
 use Rattle.std.proofs.lemmas.List.{same_from_push}
 use Rattle.std.proofs.lemmas.List.{take-append-drop, take-append-le}
 use Rattle.std.proofs.lemmas.List.Elements.{All-nil, All-cons, All-head, All-tail, All-append, All-map, All-push}
@@ -13,14 +13,14 @@ use Rattle.std.proofs.lemmas.List.Elements.{All-weaker}
 use Rattle.std.proofs.lemmas.List.Splits.{join_with_byte-slice_split, length-slice_split}
 use Rattle.std.proofs.lemmas.Option.{same_Some, none-some}
 use Rattle.mm_base.specs.Lines.{text_lines}
-use Rattle.mm_plan.specs.declared.form.Form.{Form}
 use Rattle.mm_plan.specs.declared.draft.Stage.{Stage}
 use Rattle.mm_plan.specs.declared.draft.Stage.TheVariants.{Done}
 use Rattle.mm_plan.specs.Sheet.{SheetRows, IsSheet, Line, lines_of, line_text, sheet_text, Begins, IsFirstBadLine}
 use Rattle.mm_plan.specs.Sheet.{IsLine}
-use Rattle.mm_plan.specs.Reading.{ReadRows, DraftRows, start, sheet_of, IsTaken, IsRefused}
+use Rattle.mm_plan.specs.Reading.{DraftRows, start, sheet_of, IsTaken, IsRefused}
 use Rattle.mm_plan.proofs.Spelled.{Lacks, slice_split-join}
-use Rattle.mm_plan.proofs.Lines.{line_text_lacks, said_line, said_lines, said_is}
+use Rattle.mm_plan.proofs.Saying.{one_value, all_read}
+use Rattle.mm_plan.proofs.Lines.{lines, same_line}
 use Rattle.mm_plan.proofs.Drafts.{so_far, IsAt, IsEnded, IsSound, IsAdded, lines_so_far, start_sound, added}
 use Rattle.mm_plan.proofs.Runs.{go, go_may, go_stops, go-append, go-lines_of, whole, sheet_of-whole, lines_are}
 use Rattle.mm_plan.proofs.Completions.{Leads, leads, whole_is_sheet, lines_of-whole, few_so_far}
@@ -76,7 +76,7 @@ unfolding sheet_text
 text_lines-sheet_text s h =
     let ls = map line_text (lines_of s) in
     let P : Line → Type 0 = λ x. Lacks 10 (line_text x) in
-    let each = All-weaker IsLine P line_text_lacks (lines_of s) (lines_are s h) in
+    let each = All-weaker IsLine P lines.good (lines_of s) (lines_are s h) in
     let lacking = All-map (Lacks 10) line_text (lines_of s) each in
     let last = All-cons (Lacks 10) [] [] (All-nil (λ b. (b == 10) ≡ false)) (All-nil (Lacks 10)) in
     let all = All-append (Lacks 10) ls ([] ∷ []) lacking last in
@@ -84,7 +84,26 @@ text_lines-sheet_text s h =
 
 -- lines of the same texts are the same
 same_lines : (xs ys : List Line) → All IsLine xs → All IsLine ys → map line_text xs ≡ map line_text ys → xs ≡ ys
-same_lines xs ys h i e = sym (said_lines xs h) ∙ ap (map said_line) e ∙ said_lines ys i
+same_lines = one_value (all_read lines)
+
+-- where the texts of lines go on after those of the first, so do the lines
+record GoesOn (xs ys : List Line) (text : List ℕ) : Type 0 where
+  next : Line
+  rest : List Line
+  is : IsLine next
+  shows : text ≡ line_text next
+  lines : ys ≡ xs ++ next ∷ rest
+
+-- the first of two lists of lines are the same where their texts are
+goes_on : (xs ys : List Line) (text : List ℕ) (texts : List (List ℕ)) → All IsLine xs → All IsLine ys
+    → map line_text ys ≡ map line_text xs ++ text ∷ texts → GoesOn xs ys text
+goes_on xs [] text texts h i e = absurd (omega (arith, ap length e, length-append (map line_text xs) (text ∷ texts)))
+goes_on [] (y ∷ ys) text texts h i e =
+    record { next = y; rest = ys; is = All-head IsLine y ys i; shows = cc; lines = refl }
+goes_on (x ∷ xs) (y ∷ ys) text texts h i e =
+    let p = goes_on xs ys text texts (All-tail IsLine x xs h) (All-tail IsLine y ys i) (cc) in
+    let same : x ≡ y = same_line x y (All-head IsLine x xs h) (All-head IsLine y ys i) (cc) in
+    record { next = p.next; rest = p.rest; is = p.is; shows = p.shows; lines = cc (same, p.lines) }
 
 -- sheets of one text are one sheet
 pub one_sheet : (s r : SheetRows) → IsSheet s → IsSheet r → sheet_text s ≡ sheet_text r → s ≡ r
@@ -133,21 +152,13 @@ module _ {text rest : List ℕ} {d : DraftRows} {line : ℕ} (h : IsReadTo text 
   not_next : (front : List ℕ) (more : List (List ℕ)) (s : SheetRows) → IsRefused d front → IsSheet s
       → map line_text (lines_of s) ≡ texts_so_far d ++ front ∷ more → ⊥
   not_next front more s refused is e =
-      let x = said_line front in
-      let xs = map said_line more in
-      let all : lines_of s ≡ lines_so_far d ++ x ∷ xs =
-      sym (said_lines (lines_of s) (lines_are s is))
-      ∙ ap (map said_line) e
-      ∙ map-append said_line (texts_so_far d) (front ∷ more)
-      ∙ ap (λ ys. ys ++ x ∷ xs) (said_lines (lines_so_far d) h.each) in
-      let texts = append_cancel_left (texts_so_far d) (map line_text (x ∷ xs)) (front ∷ more)
-      (sym (map-append line_text (lines_so_far d) (x ∷ xs)) ∙ ap (map line_text) (sym all) ∙ e) in
-      let first : front ≡ line_text x = cc in
-      let ran = ap (go start) (sym all) ∙ go-lines_of s is in
+      let p = goes_on (lines_so_far d) (lines_of s) front more h.each (lines_are s is) e in
       none-some (whole s) (
-      sym (go_stops d x xs (refused x (said_is front) first))
-      ∙ sym (go-append start (lines_so_far d) (x ∷ xs) ∙ ap (option_and_then (λ e. go e (x ∷ xs))) h.ran)
-      ∙ ran
+      sym (go_stops d p.next p.rest (refused p.next p.is p.shows))
+      ∙ sym (go-append start (lines_so_far d) (p.next ∷ p.rest)
+      ∙ ap (option_and_then (λ e. go e (p.next ∷ p.rest))) h.ran)
+      ∙ ap (go start) (sym p.lines)
+      ∙ go-lines_of s is
       )
 
   -- a line that is refused is the first bad one

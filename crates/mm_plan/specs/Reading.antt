@@ -1,16 +1,16 @@
 -- Reading a plan text line by line.
 use Rattle.std.specs.Prelude.{◌≡◌, ◌≢◌, ℕ, zero, suc, ◌+◌, ℤ, pos, negsuc, Bool, true, false, not, ◌&&◌, ◌||◌, ◌==◌}
-use Rattle.std.specs.Prelude.{nat_le, nat_lt, if◌then◌else◌, List, [], ◌∷◌, ◌++◌, length, map, take, drop}
+use Rattle.std.specs.Prelude.{nat_le, nat_lt, if◌then◌else◌, List, [], ◌∷◌, ◌++◌, length, take, drop}
 use Rattle.std.specs.Prelude.{slice_index_or}
-use Rattle.std.specs.Prelude.{Option, Some, None, codes}
-use Rattle.std.specs.List.{slice_split}
+use Rattle.std.specs.Prelude.{Option, Some, None, codes, option_map, option_and_then}
+use Rattle.std.specs.List.{find, slice_split}
 use Rattle.std.specs.Str.{bytes_eq}
 use Rattle.mm_base.specs.declared.limits.TheConstants.{MAX_STORES, MAX_STEPS, MAX_BLOCKS}
 use Rattle.mm_base.specs.Characters.{space}
 use Rattle.mm_base.specs.Id.{is_id_text, field_of}
 use Rattle.mm_base.specs.Numbers.{numeral_of}
 use Rattle.mm_base.specs.declared.numbers.Numeral.{Numeral}
-use Rattle.mm_base.specs.declared.numbers.Numeral.TheVariants.{NotNumber, TooLarge, Number}
+use Rattle.mm_base.specs.declared.numbers.Numeral.TheVariants.{Number}
 use Rattle.mm_plan.specs.declared.form.Form.{Form}
 use Rattle.mm_plan.specs.declared.form.Form.TheVariants.{First, Second, Third}
 use Rattle.mm_plan.specs.declared.stretch.Stretch.{Stretch}
@@ -19,6 +19,7 @@ use Rattle.mm_plan.specs.declared.draft.Stage.{Stage}
 use Rattle.mm_plan.specs.declared.draft.Stage.TheVariants.{ToTitle, ToStores, ToDumps, ToLoss, ToCut, ToEnd, Done}
 use Rattle.mm_plan.specs.Table.{Table}
 use Rattle.mm_plan.specs.Sheet.{SheetRows, CertificateRows, Line, title_line, stores_line, dump_line, loss_line}
+use Rattle.mm_plan.specs.Sheet.{form_word}
 use Rattle.mm_plan.specs.Sheet.{stretch_line, count_line, bound_line, first_line, end_line, line_text, IsLine}
 
 -- the greatest number of 32 bits
@@ -29,72 +30,111 @@ MAX_U32 = 4294967295
 abbrev pub MAX_U64 : ℕ
 MAX_U64 = 18446744073709551615
 
--- ---- what words say, where they are those of a line
+-- ---- what words are read as
 
--- the words of a line, of which no more than 18 are looked at
+-- the words of a line, of which no more than 19 are looked at
 abbrev pub line_words : List ℕ → List (List ℕ)
-line_words text = take 18 (slice_split (λ c. c == space) text)
+line_words text = take 19 (slice_split (λ c. c == space) text)
 
--- the number, or 0
-abbrev pub number_in : Numeral → ℕ
-number_in NotNumber = 0
-number_in TooLarge = 0
-number_in (Number n) = n
+-- the number, where there is one
+abbrev pub number_in : Numeral → Option ℕ
+number_in (Number n) = Some n
+number_in other = None
 
--- the number that a word writes, where it is at most this
-unfoldable pub number_of : ℕ → List ℕ → ℕ
+-- the number up to a bound that a word is
+unfoldable pub number_of : ℕ → List ℕ → Option ℕ
 number_of most word = number_in (numeral_of most word)
 
 -- the identifier that a word is, as its field
-unfoldable pub id_of : List ℕ → List ℕ
-id_of word = field_of (if is_id_text word then word else codes "A")
+unfoldable pub id_of : List ℕ → Option (List ℕ)
+id_of word = if is_id_text word then Some (field_of word) else None
 
 -- the sign of a number below 0
 abbrev minus : ℕ
 minus = 45
 
 -- the number below 0 with these digits
-abbrev pub negative : ℕ → ℤ
-negative zero = pos 0
-negative (suc n) = negsuc n
+abbrev pub negative : ℕ → Option ℤ
+negative zero = None
+negative (suc n) = Some (negsuc n)
 
--- the signed number of 64 bits that a word writes
-unfoldable pub signed_of : List ℕ → ℤ
-signed_of [] = pos 0
-signed_of (c ∷ cs) =
-    if c == minus then negative (number_of 9223372036854775808 cs)
-    else pos (number_of 9223372036854775807 (c ∷ cs))
+-- the signed number of 64 bits that a word is
+unfoldable pub signed_of : List ℕ → Option ℤ
+signed_of w =
+    if slice_index_or w 0 0 == minus then option_and_then negative (number_of 9223372036854775808 (drop 1 w))
+    else option_map pos (number_of 9223372036854775807 w)
 
--- the word at a place
-abbrev pub word : List (List ℕ) → ℕ → List ℕ
-word ws k = slice_index_or ws k []
+-- the form that a word is
+abbrev pub form_said : List ℕ → Option Form
+form_said w = find (λ f. bytes_eq w (form_word f)) (First ∷ Second ∷ Third ∷ [])
 
--- the stretch that words say: a store, the first and the last step
-abbrev pub stretch_of : List (List ℕ) → Stretch
-stretch_of ws =
-    record { store = id_of (word ws 0); first = number_of MAX_U32 (word ws 1); last = number_of MAX_U32 (word ws 2) }
+-- what words are, where each is something, after what was read before
+abbrev pub each : {A : Type 0} → (List ℕ → Option A) → List A → List (List ℕ) → Option (List A)
+each read before [] = Some before
+each read before (w ∷ ws) = option_and_then (λ x. each read (before ++ x ∷ []) ws) (read w)
 
--- the form that a word says
-abbrev pub form_said : List ℕ → Form
-form_said w =
-    if bytes_eq w (codes "2") then Second
-    else if bytes_eq w (codes "3") then Third
-    else First
+-- what the first word is, and what those after it are
+abbrev pub next : {A B : Type 0} → (List ℕ → Option A) → (List (List ℕ) → Option B) → List (List ℕ) → Option (A × B)
+next read more [] = None
+next read more (w ∷ ws) = option_and_then (λ x. option_map (λ xs. (x, xs)) (more ws)) (read w)
 
--- the line that words say: a keyword, and its words
-unfoldable pub line_of : List (List ℕ) → Line
-line_of [] = end_line
+-- this word
+abbrev pub word : List ℕ → List ℕ → Option (Unit {0})
+word this w = if bytes_eq w this then Some tt else None
+
+-- what the only word is
+abbrev pub only : {A : Type 0} → (List ℕ → Option A) → List (List ℕ) → Option A
+only read (w ∷ []) = read w
+only read other = None
+
+-- no word
+abbrev pub no_more : List (List ℕ) → Option (Unit {0})
+no_more [] = Some tt
+no_more other = None
+
+-- the line of stores
+unfoldable pub stores_of : List (List ℕ) → Option Line
+stores_of ws = option_map stores_line (each id_of [] ws)
+
+-- the line of a step, and of amounts
+unfoldable pub dump_of : List (List ℕ) → Option Line
+dump_of ws = option_map (λ p. dump_line p.0 p.1) (next (number_of MAX_STEPS) (each (number_of MAX_BLOCKS) []) ws)
+
+-- the line of a store, and of a first and a last step
+abbrev pub stretch_by : List ℕ × (ℕ × ℕ) → Line
+stretch_by p = stretch_line (record { store = p.0; first = p.1.0; last = p.1.1 })
+
+-- the line of a stretch
+unfoldable pub stretch_of : List (List ℕ) → Option Line
+stretch_of ws = option_map stretch_by (next id_of (next (number_of MAX_U32) (only (number_of MAX_U32))) ws)
+
+-- the line of a counted step
+unfoldable pub count_of : List (List ℕ) → Option Line
+count_of ws = option_map (λ p. count_line p.0) (next (number_of MAX_U32) (only (word (codes "channels"))) ws)
+
+-- the last line
+unfoldable pub end_of : List (List ℕ) → Option Line
+end_of ws = option_map (λ u. end_line) (no_more ws)
+
+-- the line of a keyword and a word
+unfoldable pub word_line : List ℕ → List ℕ → Option Line
+word_line k w =
+    if bytes_eq k (codes "mmplan") then option_map title_line (form_said w)
+    else if bytes_eq k (codes "loss") then option_map loss_line (number_of MAX_U64 w)
+    else if bytes_eq k (codes "bound") then option_map bound_line (signed_of w)
+    else if bytes_eq k (codes "first") then option_map first_line (number_of MAX_U32 w)
+    else None
+
+-- the line with these words
+unfoldable pub line_of : List (List ℕ) → Option Line
+line_of [] = None
 line_of (k ∷ ws) =
-    if bytes_eq k (codes "mmplan") then title_line (form_said (word ws 0))
-    else if bytes_eq k (codes "stores") then stores_line (map id_of ws)
-    else if bytes_eq k (codes "dump")
-    then dump_line (number_of MAX_STEPS (word ws 0)) (map (number_of MAX_BLOCKS) (drop 1 ws))
-    else if bytes_eq k (codes "loss") then loss_line (number_of MAX_U64 (word ws 0))
-    else if bytes_eq k (codes "stretch") then stretch_line (stretch_of ws)
-    else if bytes_eq k (codes "count") then count_line (number_of MAX_U32 (word ws 0))
-    else if bytes_eq k (codes "bound") then bound_line (signed_of (word ws 0))
-    else if bytes_eq k (codes "first") then first_line (number_of MAX_U32 (word ws 0))
-    else end_line
+    if bytes_eq k (codes "stores") then stores_of ws
+    else if bytes_eq k (codes "dump") then dump_of ws
+    else if bytes_eq k (codes "stretch") then stretch_of ws
+    else if bytes_eq k (codes "count") then count_of ws
+    else if bytes_eq k (codes "end") then end_of ws
+    else only (word_line k) ws
 
 -- what was read of a text: the line whose text it is, or none where it is no line's
 abbrev pub IsRead : List ℕ → Option Line → Type 0

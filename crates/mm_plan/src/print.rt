@@ -10,14 +10,11 @@ ghost use Rattle.mm_base.specs.declared.limits.TheConstants.{MAX_STORES};
 ghost use Rattle.mm_base.specs.Id.{id_text};
 ghost use Rattle.mm_plan.specs.Sheet.{title_line, stores_line, dump_line, loss_line, stretch_line, count_line};
 ghost use Rattle.mm_plan.specs.Sheet.{bound_line, end_line, first_line, certificate_lines, first_lines, dump_lines};
-ghost use Rattle.mm_plan.specs.Seen.{seen};
-ghost use Rattle.mm_plan.specs.Sheet.{IsLine};
 ghost use Rattle.mm_plan.specs.Printing.{place_of, stretch_key, AreOrdered, AreRising, ended, all_ended, spaced};
 ghost use Rattle.mm_plan.specs.Printing.{plan_lines};
 
 use crate::certificate::Certificate;
 use crate::form::Form;
-use crate::line::Line;
 use crate::plan::Plan;
 use crate::stretch::Stretch;
 use mm_base::numbers::{push_number, write_number};
@@ -281,24 +278,6 @@ pub(crate) fn push_firsts(text: &mut Vec<u8>, firsts: Option<&[Certificate]>) ->
         push_each(text, firsts)?;
     }
     Ok(())
-}
-
-// A line.
-pub(crate) fn push_line(text: &mut Vec<u8>, line: &Line) -> Pushed
-    requires { IsLine (seen line.now) }
-    ensures { OnOk result (text.new.items ≡ text.old.items ++ ended (seen line.now)) }
-{
-    match line {
-        Line::Title(form) => push_title(text, *form),
-        Line::Stores(ids) => push_stores(text, ids.as_slice()),
-        Line::Dump { step, amounts } => push_dump(text, *step, amounts.as_slice()),
-        Line::Loss(loss) => push_loss(text, *loss),
-        Line::Cut(stretch) => push_stretch(text, *stretch),
-        Line::Count(step) => push_count(text, *step),
-        Line::Bound(bound) => push_bound(text, *bound),
-        Line::First(number) => push_first(text, u64::from(*number)),
-        Line::End => push_end(text),
-    }
 }
 
 fn place_of(ids: &[StoreId], id: StoreId) -> usize

@@ -16,5 +16,5 @@ extended v r ran road says = fact_from_extend v r ran (λ it b. YieldsList-at b 
 pub returns : goal.returns
 returns c =
     extended (λ w. w.now) c.extend.result c.extend.ensures.ran
-    (YieldsList-from_take 18 (YieldsList-from_slice_split _ (λ x. x == 32) c.args.text.now (cc) (cc) (cc) (λ x b q k. search rules)) c.take.ensures.count)
+    (YieldsList-from_take 19 (YieldsList-from_slice_split _ (λ x. x == 32) c.args.text.now (cc) (cc) (cc) (λ x b q k. search rules)) c.take.ensures.count)
     (λ xs e h. ap (map (λ w. w.now)) (h.0 ∙ ap (λ words. words ++ xs) c.requires) ∙ e)

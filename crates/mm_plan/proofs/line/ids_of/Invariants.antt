@@ -1,9 +1,0 @@
-use Rattle.std.proofs.Common.{◌≡◌, ◌++◌, map, length}
-use Rattle.mm_plan.specs.Reading.{id_of}
-use Rattle.mm_plan.proofs.line.ids_of.Given as goal
-
-abbrev pub invariant-loop-rest : goal.invariant-loop-rest
-invariant-loop-rest l = l.ids.items ++ map id_of (map (λ w. w.now) l.rest) ≡ map id_of (map (λ w. w.now) l.words)
-
-abbrev pub decreases-loop-rest : goal.decreases-loop-rest
-decreases-loop-rest l = length l.rest
