@@ -253,7 +253,14 @@ const FLY_IN_ORDER: &str = "fly S F --in-order X L\n=== S\n";
 
 // `fly`, by these words, for the files of a row but its plan, and these links, makes the plan: it is printed before the
 // report.
-fn flies_over(rt: &impl Host, words: &str, row: &Run, links: &str, report: &str, status: u8) {
+fn flies_over(
+    rt: &impl Host,
+    words: &'static str,
+    row: &Run,
+    links: &'static str,
+    report: &'static str,
+    status: u8,
+) {
     let script = flight_of(rt, words, row, links);
     let out = joined(rt, &[row.plan, report]);
     prints(rt, row.example, &[script.as_str()], out.as_str(), status)
