@@ -25,8 +25,7 @@ task-does old new words task before after (Err e) asked once told = tt
 
 -- a task that has standard input for more than one file is a bad command line
 pub twice-does : {E : Type 0} (old : FilesView) (words : List (List ℕ)) (task : Task) (before : Option (List ℕ))
-    (r : Result Status E)
-    → Spells words task → reads_twice old.streams task ≡ true → is_version_line words ≡ false
+    (r : Result Status E) → Spells words task → reads_twice old.streams task ≡ true → is_version_line words ≡ false
     → IfOk r (λ status. status ≡ BadCommandLine) → IfOk r (λ status. Does old old words status before before)
 twice-does old words task before (Ok status) asked twice other bad = inr (
   refl,
@@ -39,10 +38,9 @@ twice-does old words task before (Ok status) asked twice other bad = inr (
 )
 twice-does old words task before (Err e) asked twice other bad = tt
 
--- and no other task is
+-- words that do not have standard input for two files spell no task that has
 pub twice-taken : {E : Type 0} (streams : Bool) (words : List (List ℕ)) (task : Task) (r : Result Status E)
-    → (ReadsTwice streams words → ⊥)
-    → Spells words task → reads_twice streams task ≡ true
+    → (ReadsTwice streams words → ⊥) → Spells words task → reads_twice streams task ≡ true
     → IfOk r (λ status. status ≢ BadCommandLine)
 twice-taken streams words task r once asked twice = absurd (once (record { task = task; asked = asked; twice = twice }))
 
@@ -50,7 +48,7 @@ twice-taken streams words task r once asked twice = absurd (once (record { task 
 pub no_streams : (words : List (List ℕ)) → ReadsTwice false words → ⊥
 no_streams words twice = absurd (let is = twice.twice in cc)
 
--- a task that was done is no refused one
+-- a task with the status `Done` was done, and not refused
 task-done : (old new : FilesView) (words : List (List ℕ)) (before after : Option (List ℕ))
     → DoesTask old new words Done before after → IsDone old new words before after
 task-done old new words before after task = elim task.told [
@@ -58,10 +56,9 @@ task-done old new words before after task = elim task.told [
   | inr refuses ↦ absurd (let is = refuses.status_is in cc)
 ]
 
--- and no bad line
+-- words with the status `Done` had their task done, or the version told
 does-done : (old new : FilesView) (words : List (List ℕ)) (before after : Option (List ℕ))
-    → Does old new words Done before after
-    → IsDone old new words before after ⊎ TellsVersion words before after
+    → Does old new words Done before after → IsDone old new words before after ⊎ TellsVersion words before after
 does-done old new words before after (inl task) = inl (task-done old new words before after task)
 does-done old new words before after (inr (kept, inl wants)) = absurd (let is = wants.status_is in cc)
 does-done old new words before after (inr (kept, inr (inl bad))) = absurd (let is = bad.status_is in cc)
@@ -69,8 +66,7 @@ does-done old new words before after (inr (kept, inr (inr tells))) = inr tells.0
 
 -- a run that ends with 0 has done the task
 pub code-done : {E : Type 0} (old new : FilesView) (words : List (List ℕ)) (before after : Option (List ℕ))
-    (r : Result Status E) (code : ℕ)
-    → IfOk r (λ status. code ≡ exit_code status) → IfErr r (λ e. code ≡ 1)
+    (r : Result Status E) (code : ℕ) → IfOk r (λ status. code ≡ exit_code status) → IfErr r (λ e. code ≡ 1)
     → IfOk r (λ status. Does old new words status before after)
     → code ≡ 0 → IsDone old new words before after ⊎ TellsVersion words before after
 code-done old new words before after (Ok Done) code is failed does zero = does-done old new words before after does
@@ -98,8 +94,7 @@ refused-kept streams old new (Read packets) texts status text before after other
 
 -- a task that is not done leaves the files as they were
 does-kept : (old new : FilesView) (words : List (List ℕ)) (status : Status) (before after : Option (List ℕ))
-    → status ≢ Done → Does old new words status before after
-    → new.contents ≡ old.contents
+    → status ≢ Done → Does old new words status before after → new.contents ≡ old.contents
 does-kept old new words status before after other (inr rest) = ap (λ (view : FilesView). view.contents) rest.0
 does-kept old new words status before after other (inl task) = elim task.told [
   | inl prints ↦ refused-kept old.streams old.contents new.contents task.task prints.texts status prints.text before
@@ -107,12 +102,11 @@ does-kept old new words status before after other (inl task) = elim task.told [
   | inr refuses ↦ refuses.kept
 ]
 
--- and so does a run that does not end with 0
+-- a run of the program that does not end with 0 leaves the files as they were
 pub code-kept : {E : Type 0} (old new : FilesView) (words : List (List ℕ)) (before after : Option (List ℕ))
     (r : Result Status E) (code : ℕ)
     → IfOk r (λ status. code ≡ exit_code status) → IfErr r (λ e. new.contents ≡ old.contents)
-    → IfOk r (λ status. Does old new words status before after)
-    → code ≢ 0 → new.contents ≡ old.contents
+    → IfOk r (λ status. Does old new words status before after) → code ≢ 0 → new.contents ≡ old.contents
 code-kept old new words before after (Ok Done) code is failed does other = absurd (other is)
 code-kept old new words before after (Ok Refused) code is failed does other = does-kept old new words Refused before
     after (λ same. absurd cc) does

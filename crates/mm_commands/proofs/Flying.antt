@@ -17,8 +17,7 @@ use Rattle.mm_commands.specs.declared.texts.TaskTexts.{TaskTexts}
 
 -- bytes that are written after others
 Appends-append : (before mid after : Option (List ℕ)) (first second : List ℕ) → Appends before mid first
-    → Appends mid after second
-    → Appends before after (first ++ second)
+    → Appends mid after second → Appends before after (first ++ second)
 Appends-append None mid after first second one two = tt
 Appends-append (Some before) None after first second one two = absurd one
 Appends-append (Some before) (Some mid) None first second one two = absurd two

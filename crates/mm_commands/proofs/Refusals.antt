@@ -28,8 +28,7 @@ Notes-nil (Some before) = sym (append-nil before)
 
 -- some readings are noted after others
 Notes-append : (before mid after : Option (List Reading)) (readings more : List Reading) → Notes before mid readings
-    → Notes mid after more
-    → Notes before after (readings ++ more)
+    → Notes mid after more → Notes before after (readings ++ more)
 Notes-append None mid after readings more first second = tt
 Notes-append (Some before) None after readings more first second = absurd first
 Notes-append (Some before) (Some mid) None readings more first second = absurd second
@@ -55,15 +54,13 @@ one_read contents before after name octets noted known = record {
 
 -- the one file was not read
 pub one_unread : (contents : Contents) (before after : Option (List Reading)) (names : List (List ℕ)) (fault : Fault)
-    → Notes before after []
-    → StopsAt contents names fault → IsUnread contents before after names fault
+    → Notes before after [] → StopsAt contents names fault → IsUnread contents before after names fault
 one_unread contents before after names fault noted stopped =
     record {
       readings = [];
       left = names;
       read = record { noted = noted; known = All-nil (IsKnown contents) };
-      split =
-          refl;
+      split = refl;
       stopped = stopped;
     }
 
@@ -73,7 +70,7 @@ pub names-reading_of : (name : Option (Bor (List ℕ))) (octets : List ℕ)
 names-reading_of (Some name) octets = refl
 names-reading_of None octets = refl
 
--- of two files
+-- the names of two files that were read
 pub names-two : (first second : Option (Bor (List ℕ))) (x y : List ℕ)
     → map (λ (r : Reading). r.name) (reading_of first x ++ reading_of second y) ≡ name_of first ++ name_of second
 names-two first second x y =
@@ -81,7 +78,7 @@ names-two first second x y =
     ∙ ap (λ l. l ++ map (λ (r : Reading). r.name) (reading_of second y)) (names-reading_of first x)
     ∙ ap (λ l. name_of first ++ l) (names-reading_of second y)
 
--- it stops at the same file where more are left
+-- reading stops at the same file where more files are left
 StopsAt-append : (contents : Contents) (left more : List (List ℕ)) (fault : Fault) → StopsAt contents left fault
     → StopsAt contents (left ++ more) fault
 StopsAt-append contents left more NoMemory stopped = tt

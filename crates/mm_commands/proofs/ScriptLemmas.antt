@@ -53,7 +53,7 @@ pub found : (name text line rest : List ℕ) → IsFirstLine text line rest → 
 found name text line rest (inl lines) is = rw lines (rw is refl)
 found name text line rest (inr last) is = rw (last.0, last.1) (rw is refl)
 
--- any other line is passed over
+-- a line that is not the heading of the name is passed over
 pub not_found : (name text line rest : List ℕ) → IsFirstLine text line rest → bytes_eq line (heading_of name) ≡ false
     → file_in name (text_lines text) ≡ file_in name (text_lines rest)
 not_found name text line rest (inl lines) other = rw lines (rw other refl)
@@ -64,6 +64,6 @@ pub is_file : (file : Option (List ℕ)) (octets text : List ℕ) → Some octet
     → MayBe (content_of file) text
 is_file file octets text is same = rw (← is) same
 
--- and where there is none, it may be unread
+-- where there is no file of the name, it may be unread
 pub is_no_file : (file : Option (List ℕ)) → None ≡ file → MayBeUnread (content_of file)
 is_no_file file is = rw (← is) tt

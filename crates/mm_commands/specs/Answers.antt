@@ -56,6 +56,7 @@ DrawsPlan false = Charts
 
 -- ---- `check`
 
+-- the status of a task that is answered by a verdict
 abbrev pub status_of : Verdict → Status
 status_of (Least n) = Done
 status_of (LeastInOrder n) = Done
@@ -73,6 +74,7 @@ pub record Judges (status : Status) (line setup forecast plan : List ℕ) : Type
 
 -- ---- `ask`
 
+-- the status of a task that is answered by lines with this outcome
 abbrev pub status_of_replies : Replied → Status
 status_of_replies replied.AllDone = Done
 status_of_replies replied.SomeRefused = Refused
@@ -93,6 +95,7 @@ pub record Says (status : Status) (text packets : List ℕ) : Type 0 where
 
 -- ---- `run` and `fly`
 
+-- the status of a run that ended so
 abbrev pub status_of_run : Ended → Status
 status_of_run ended.CarriedOut = Done
 status_of_run ended.Unreported = Refused
@@ -150,18 +153,19 @@ AnswersTask (Fly names) texts status text = Flown names.plan texts status text
 AnswersTask (Ask setup requests) texts status text = Replies status text texts.setup.items texts.packets.items
 AnswersTask (Read packets) texts status text = Says status text texts.packets.items
 
--- the text of an answer, and the status
+-- the text of an answer
 abbrev pub text_in : Answer → List ℕ
 text_in (Text text output) = text.items
 text_in (Lines replies) = replies.text.items
 text_in (Line verdict line) = line.items
 
+-- the status of a task with this answer
 abbrev pub status_in : Answer → Status
 status_in (Text text output) = Done
 status_in (Lines replies) = status_of_replies replies.outcome
 status_in (Line verdict line) = status_of verdict
 
--- the file that it goes into, where one is named
+-- the file that an answer goes into, where one is named
 abbrev pub output_in : Answer → Option (Bor (List ℕ))
 output_in (Text text output) = output
 output_in answer = None

@@ -49,17 +49,17 @@ pub record FilesView : Type 0 where
   pub contents : Contents
   pub readings : Option (List Reading)
 
--- these together
+-- what is seen of the files at one moment
 abbrev pub seen : Bool → Contents → Option (List Reading) → FilesView
 seen streams contents readings = record { streams = streams; contents = contents; readings = readings }
 
--- these are noted after those before
+-- these readings are noted after those before
 abbrev pub Notes : Option (List Reading) → Option (List Reading) → List Reading → Type 0
 Notes None after readings = Unit {0}
 Notes (Some before) None readings = ⊥
 Notes (Some before) (Some after) readings = after ≡ before ++ readings
 
--- these were read: each is noted after those before, and has the bytes of its file where they are known
+-- these files were read: each is noted after those before, and has the bytes of its file where they are known
 pub record WereRead (contents : Contents) (before after : Option (List Reading)) (readings : List Reading) : Type 0
   where
     pub noted : Notes before after readings

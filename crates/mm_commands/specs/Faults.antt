@@ -17,7 +17,7 @@ use Rattle.mm_commands.specs.Spots.{spot_in_script}
 use Rattle.mm_commands.specs.declared.fault.Fault.{Fault}
 use Rattle.mm_commands.specs.declared.fault.Fault.TheVariants.{NoMemory, NotRead, Texts, Run, Setup}
 
--- which refusal it is
+-- which refusal a fault is
 abbrev pub refusal_of : Fault → Refusal
 refusal_of NoMemory = refusal.NoMemory
 refusal_of (NotRead name obstacle) = refusal.NotRead
@@ -32,7 +32,7 @@ spot_in_run (flight.Problem fault) = spot_in_problem fault
 spot_in_run (flight.Plan fault) = spot_in_plan fault
 spot_in_run (flight.Script fault) = spot_in_script fault
 
--- where in its file it is
+-- where in its file a fault is
 abbrev pub spot_of : Fault → Spot
 spot_of NoMemory = Whole
 spot_of (NotRead name obstacle) = Whole
@@ -40,12 +40,12 @@ spot_of (Texts fault) = spot_in_texts fault
 spot_of (Run fault) = spot_in_run fault
 spot_of (Setup fault) = spot_in_problem fault
 
--- its fields: the name of the file, or the place in it
+-- the fields of a fault: the name of the file, or the place in it
 abbrev pub fields_of : Fault → List ℕ
 fields_of (NotRead name obstacle) = codes " name " ++ shown_name name.now
 fields_of fault = fields_text (spot_of fault)
 
--- its number, its name and its fields
+-- the text of a fault: its number, its name and its fields
 abbrev pub fault_text : Fault → List ℕ
 fault_text fault = refusal_text (refusal_of fault) ++ fields_of fault
 

@@ -12,7 +12,7 @@ abbrev pub name_of : Option (Bor (List ℕ)) → List (List ℕ)
 name_of (Some name) = name.now ∷ []
 name_of None = []
 
--- these names, in the order of the words of a task
+-- the names of a task's files, in the order of its words
 abbrev pub listed : FileNames → List (List ℕ)
 listed names = (name_of names.setup ++ name_of names.forecast) ++ ((name_of names.plan ++ name_of names.sources)
     ++ (name_of names.links ++ name_of names.packets))

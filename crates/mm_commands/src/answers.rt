@@ -1,5 +1,5 @@
 //! What answers a task, by the texts of its files.
-ghost use Rattle.std.specs.Prelude.{◌≡◌, false, IfOk, IfErr};
+ghost use Rattle.std.specs.Prelude.{◌≡◌, ◌≢◌, false, IfOk, IfErr};
 ghost use Rattle.std.specs.Option.{option_copied};
 ghost use Rattle.mm_base.specs.Reading.{IfRefused};
 ghost use Rattle.mm_cut.specs.Checking.{IsFaultOf as IsCheckFault};
@@ -9,6 +9,7 @@ ghost use Rattle.mm_sensitivity.specs.Table.{IsWorthTable};
 ghost use Rattle.mm_commands.specs.Answers.{DrawsPlan, IsAnswerTo, PlansText, given_plan, goal_of, is_run};
 ghost use Rattle.mm_commands.specs.Answers.{status_in, status_of, status_of_replies};
 ghost use Rattle.mm_commands.specs.Refusing.{IsFaultIn};
+ghost use Rattle.mm_commands.specs.declared.status.Status.TheVariants.{BadCommandLine};
 
 use crate::fault::Fault;
 use crate::status::Status;
@@ -40,7 +41,8 @@ pub(crate) enum Answer<'a> {
 
 // The status of a task that is answered by the verdict.
 fn status_of(verdict: Verdict) -> Status
-    ensures { result ≡ status_of verdict }
+    ensures status { result ≡ status_of verdict }
+    ensures known { result ≢ BadCommandLine }
 {
     match verdict {
         Verdict::Least(_) | Verdict::LeastInOrder(_) => Status::Done,
@@ -50,7 +52,8 @@ fn status_of(verdict: Verdict) -> Status
 
 // The status of a task that is answered by such lines.
 fn status_of_replies(outcome: Outcome) -> Status
-    ensures { result ≡ status_of_replies outcome }
+    ensures status { result ≡ status_of_replies outcome }
+    ensures known { result ≢ BadCommandLine }
 {
     match outcome {
         Outcome::AllDone => Status::Done,
@@ -61,7 +64,8 @@ fn status_of_replies(outcome: Outcome) -> Status
 impl Answer<'_> {
     /// The status of the task.
     pub(crate) fn status(&self) -> Status
-        ensures { result ≡ status_in self.now }
+        ensures status { result ≡ status_in self.now }
+        ensures known { result ≢ BadCommandLine }
     {
         match self {
             Answer::Text { .. } => Status::Done,

@@ -1,7 +1,7 @@
 //! Why a task is refused.
 ghost use Rattle.std.specs.Prelude.{◌≡◌, Some};
 ghost use Rattle.mm_commands.specs.Faults.{refusal_of, spot_in_run, spot_of, fault_text};
-ghost use Rattle.mm_commands.specs.declared.fault.Fault.TheVariants.{NoMemory, Texts, Run, Setup};
+ghost use Rattle.mm_commands.specs.declared.fault.Fault.TheVariants.{NoMemory, Texts, Setup};
 
 use crate::file_name::Shown;
 use crate::files::Obstacle;
@@ -41,14 +41,6 @@ impl From<mm_cut::Fault> for Fault<'_> {
 
     fn from(fault: mm_cut::Fault) -> Self {
         Fault::Texts(fault)
-    }
-}
-
-impl From<mm_run::Fault> for Fault<'_> {
-    ghost from_gives = { λ fault e. e ≡ Run fault };
-
-    fn from(fault: mm_run::Fault) -> Self {
-        Fault::Run(fault)
     }
 }
 

@@ -6,11 +6,10 @@ ghost use Rattle.std.specs.Io.KnownBytes.{ReadConsumes};
 ghost use Rattle.std.specs.IoError.{error_kind};
 ghost use Rattle.mm_commands.specs.Contents.{Content, IsStored, MayBe, MayBeUnread, Notes, Reading, reading};
 ghost use Rattle.mm_commands.specs.Inputs.{failed_after, is_interrupted};
-ghost use Rattle.mm_commands.specs.ReadFaults.{is_unread, refusal_of};
+ghost use Rattle.mm_commands.specs.ReadFaults.{is_unread};
 ghost use Rattle.mm_commands.specs.declared.files.ReadFault.TheVariants.{NoMemory};
 ghost use Rattle.mm_commands.specs.declared.files.TheConstants.{MAX_READS};
 
-use mm_base::{Refusal, Refused, refusals};
 use std::alloc::Global;
 use std::fmt;
 use std::io::{self, ErrorKind, Read};
@@ -37,45 +36,31 @@ pub enum Obstacle {
     Failed,
 }
 
-impl Obstacle {
-    // What was expected, and what to do.
-    fn words(self) -> (&'static str, &'static str) {
-        match self {
-            Obstacle::Missing => (
-                "a file of this name",
-                "check the name and its folder, or in a script the line === NAME above the file; outside a script - is \
-                    standard input",
-            ),
-            Obstacle::Forbidden => (
-                "a file that may be read",
-                "let this user read it, as chmod does, or take a copy of it",
-            ),
-            Obstacle::Folder => ("a file, and this is a folder", "name a file in it"),
-            Obstacle::TooLong => (
-                "a file of at most 2^30 bytes",
-                "check that it is the file that was meant",
-            ),
-            Obstacle::Failed => (
-                "a file that can be read to its end",
-                "try again, or take a copy of it; a read of it failed",
-            ),
-        }
-    }
-}
-
 impl fmt::Display for Obstacle {
     fn fmt<W: fmt::Write>(&self, f: &mut fmt::Formatter<W>) -> fmt::Result {
-        let (expected, advice) = self.words();
-        write!(f, "expected {expected}; {advice}")
+        f.write_str(match self {
+            Obstacle::Missing => {
+                "expected a file of this name; check the name and its folder, or in a script the line === NAME above \
+                    the file; outside a script - is standard input"
+            }
+            Obstacle::Forbidden => {
+                "expected a file that may be read; let this user read it, as chmod does, or take a copy of it"
+            }
+            Obstacle::Folder => "expected a file, and this is a folder; name a file in it",
+            Obstacle::TooLong => {
+                "expected a file of at most 2^30 bytes; check that it is the file that was meant"
+            }
+            Obstacle::Failed => {
+                "expected a file that can be read to its end; try again, or take a copy of it; a read of it failed"
+            }
+        })
     }
 }
 
 /// Why the text of a file is not there.
-#[derive(Clone, Copy, Debug, PartialEq, Eq, Error)]
+#[derive(Clone, Copy, Debug)]
 pub enum ReadFault {
-    #[error("{}", Refusal::NoMemory)]
     NoMemory,
-    #[error("{}", Refusal::NotRead)]
     NotRead { obstacle: Obstacle },
 }
 
@@ -94,20 +79,12 @@ impl ReadFault {
     }
 }
 
-impl Refused for ReadFault {
-    fn refusal(self) -> Refusal {
-        refusals!(self; NoMemory; with NotRead)
-    }
-
-    ghost refusal_of = { refusal_of };
-}
-
 const TOO_LONG: ReadFault = ReadFault::NotRead {
     obstacle: Obstacle::TooLong,
 };
 
 /// Why a text was not stored in a file.
-#[derive(Clone, Copy, Debug, PartialEq, Eq, Error)]
+#[derive(Clone, Copy, Debug, Error)]
 pub enum StoreFault {
     #[error("there is no memory for it")]
     NoMemory,

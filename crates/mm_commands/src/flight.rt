@@ -1,5 +1,5 @@
 //! A run is carried out: its plan is printed before it begins, and what became of it after it has ended.
-ghost use Rattle.std.specs.Prelude.{◌≡◌, ◌≢◌, ◌++◌, ℕ, List, Option, IfOk, IfErr};
+ghost use Rattle.std.specs.Prelude.{◌≡◌, ◌≢◌, ◌++◌, IfOk, IfErr};
 ghost use Rattle.std.specs.Io.KnownBytes.{Appends};
 ghost use Rattle.mm_base.specs.Reading.{IfRefused};
 ghost use Rattle.mm_command_line.specs.Names.{names_in};
@@ -10,7 +10,7 @@ ghost use Rattle.mm_run.specs.declared.fault.Fault.TheVariants as flight_fault;
 ghost use Rattle.mm_commands.specs.Answers.{PreparesTexts, PrintsFlown, given_plan, status_of_run};
 ghost use Rattle.mm_commands.specs.Contents.{FilesView, WereRead, seen};
 ghost use Rattle.mm_commands.specs.Reading.{readings_of};
-ghost use Rattle.mm_commands.specs.Refusing.{IsFaultIn, IsFlightFault, Settles};
+ghost use Rattle.mm_commands.specs.Refusing.{IsFlightFault, Settles};
 ghost use Rattle.mm_commands.specs.declared.status.Status.TheVariants.{BadCommandLine};
 
 use crate::answers::{given_plan, goal_of};
@@ -60,18 +60,6 @@ fn prepared(
         given_plan(files.plan, texts),
         goal_of(files.plan),
     )
-}
-
-// The run that a task asks for, whose files have these texts.
-fn prepare<'a>(
-    alloc: Global,
-    files: FlightFiles<'a>,
-    texts: &TaskTexts,
-) -> Result<PreparedRun, Fault<'a>>
-    ensures prepared { IfOk result (PreparesTexts files.entry.plan texts.now) }
-    ensures refused { IfErr result (IsFaultIn (Fly files.entry) texts.now) }
-{
-    Ok(prepared(alloc, files, texts)?)
 }
 
 // Prints the plan of a run, if it was made here, and flushes the writer.
@@ -127,9 +115,10 @@ fn fly<R: Threads + Wait + Sync, W: Write, E: Write>(
     ensures status { IfOk result (λ status. status ≢ BadCommandLine) }
 {
     let task = Task::Fly(flight);
-    match prepare(alloc, flight, texts) {
+    match prepared(alloc, flight, texts) {
         Ok(run) => carry_out(rt, alloc, task, run, texts, out, err),
         Err(fault) => {
+            let fault = Fault::Run(fault);
             let found = fault.found(alloc, task, texts);
             refuse(Some(task), fault, found, out, err)
         }

@@ -19,58 +19,37 @@ impl fmt::Display for Id {
     }
 }
 
-// Packets that were sent in a step, of one store where it is known.
-#[derive(Clone, Copy)]
-struct Sent {
+// Says how many packets were sent in a step, of one store where it is known. The line does not end.
+fn tell_sent<E: Write>(
     count: u64,
     store: Option<StoreId>,
     step: u32,
-}
-
-impl fmt::Display for Sent {
-    fn fmt<W: fmt::Write>(&self, f: &mut fmt::Formatter<W>) -> fmt::Result {
-        let (packets, were) = match self.count {
-            1 => ("packet", "was"),
-            _ => ("packets", "were"),
-        };
-        write!(f, "{} {packets}", self.count)?;
-        if let Some(store) = self.store {
-            write!(f, " of {}", Id(store))?;
-        }
-        write!(f, " {were} sent in step {}", self.step)
+    err: &mut E,
+) -> io::Result<()> {
+    let (packets, were) = match count {
+        1 => ("packet", "was"),
+        _ => ("packets", "were"),
+    };
+    write!(err, "note: {count} {packets}")?;
+    if let Some(store) = store {
+        write!(err, " of {}", Id(store))?;
     }
+    write!(err, " {were} sent in step {step}")
 }
 
-// The step in which a run was halted, if it was halted in one.
-fn halted_step(cause: &Cause) -> Option<u32> {
+// The step in which a run was halted, if it was halted in one, and whether a link halted it.
+fn halted_step(cause: &Cause) -> Option<(u32, bool)> {
     match *cause {
-        Cause::NoMemory { step } | Cause::LinkFailed { step } | Cause::LogMismatch { step } => {
-            if step == 0 { None } else { Some(step) }
-        }
+        Cause::NoMemory { step } | Cause::LogMismatch { step } if step > 0 => Some((step, false)),
+        Cause::LinkFailed { step } if step > 0 => Some((step, true)),
         _ => None,
     }
 }
 
-// The store whose order broke off, if it is known to be the only one: that of the link that failed, if one alone did.
-fn broken_store(run: &StoppedRun) -> Option<StoreId> {
-    let Cause::LinkFailed { .. } = run.halted.cause else {
-        return None;
-    };
-    let mut store = None;
-    for link in &run.halted.links {
-        if let Some(failed) = link.last_failure() {
-            if store.is_some() {
-                return None;
-            }
-            store = Some(failed.store);
-        }
-    }
-    store
-}
-
-// Says which links failed, each at which of its sends.
-fn tell_failures<E: Write>(run: &StoppedRun, err: &mut E) -> io::Result<()> {
-    let mut number: u64 = 0;
+// Says which links failed, each at which of its sends. The store whose order broke off, where one link alone failed.
+fn tell_failures<E: Write>(run: &StoppedRun, err: &mut E) -> io::Result<Option<StoreId>> {
+    let (mut number, mut failures): (u64, u64) = (0, 0);
+    let mut broken = None;
     for link in &run.halted.links {
         number = number.saturating_add(1);
         if let Some(failed) = link.last_failure() {
@@ -79,42 +58,40 @@ fn tell_failures<E: Write>(run: &StoppedRun, err: &mut E) -> io::Result<()> {
                 err,
                 "note: link {number} failed at its send {send}, a packet of {store}"
             )?;
+            failures = failures.saturating_add(1);
+            broken = Some(failed.store);
         }
     }
-    Ok(())
+    Ok(if failures == 1 { broken } else { None })
 }
 
-// Says how many packets were sent of orders that broke off.
-fn tell_held<E: Write>(run: &StoppedRun, step: u32, err: &mut E) -> io::Result<()> {
-    let sent = Sent {
-        count: run.still_held(),
-        store: broken_store(run),
-        step,
-    };
-    match sent.count {
-        0 => Ok(()),
-        1 => writeln!(
-            err,
-            "note: {sent} and is still stored; it would be sent again"
-        ),
-        _ => writeln!(
-            err,
-            "note: {sent} and are still stored; they would be sent again"
-        ),
+// Says how many packets were sent of orders that broke off, of one store where it is known; and how many there were.
+fn tell_held<E: Write>(
+    run: &StoppedRun,
+    store: Option<StoreId>,
+    step: u32,
+    err: &mut E,
+) -> io::Result<u64> {
+    let held = run.still_held();
+    if held > 0 {
+        tell_sent(held, store, step, err)?;
+        let again = match held {
+            1 => "is still stored; it",
+            _ => "are still stored; they",
+        };
+        writeln!(err, " and {again} would be sent again")?;
     }
+    Ok(held)
 }
 
 // Says how many packets were sent of whole orders, store by store, and whether there were any.
 fn tell_dumped<E: Write>(run: &StoppedRun, step: u32, err: &mut E) -> io::Result<bool> {
     let mut is_any = false;
     for (place, held) in run.memory.stores().iter().enumerate() {
-        let sent = Sent {
-            count: run.dumped(place),
-            store: Some(held.id),
-            step,
-        };
-        if sent.count > 0 {
-            writeln!(err, "note: {sent} and deleted")?;
+        let count = run.dumped(place);
+        if count > 0 {
+            tell_sent(count, Some(held.id), step, err)?;
+            writeln!(err, " and deleted")?;
             is_any = true;
         }
     }
@@ -140,13 +117,13 @@ fn tell_again<E: Write>(step: u32, is_dumped: bool, err: &mut E) -> io::Result<(
 /// Says of a run that was halted in a step which links failed, what was sent in that step, and from where to plan
 /// again.
 pub(crate) fn tell_halt<E: Write>(run: &StoppedRun, err: &mut E) -> io::Result<()> {
-    let Some(step) = halted_step(&run.halted.cause) else {
+    let Some((step, is_broken)) = halted_step(&run.halted.cause) else {
         return Ok(());
     };
-    tell_failures(run, err)?;
-    tell_held(run, step, err)?;
+    let store = tell_failures(run, err)?;
+    let held = tell_held(run, if is_broken { store } else { None }, step, err)?;
     let is_dumped = tell_dumped(run, step, err)?;
-    if !is_dumped && run.still_held() == 0 {
+    if !is_dumped && held == 0 {
         writeln!(err, "note: no packet was sent in step {step}")?;
     }
     tell_again(step, is_dumped, err)

@@ -10,13 +10,13 @@ ghost use Rattle.mm_commands.specs.Reading.{readings_of};
 ghost use Rattle.mm_commands.specs.Refusing.{IsFaultIn, Settles, refused_input};
 ghost use Rattle.mm_commands.specs.Streams.{file_of};
 
-use crate::advice::Advice;
+use crate::advice::tell_fault;
 use crate::answers::{Answer, answer_without_run};
 use crate::fault::Fault;
 use crate::file_name::Shown;
 use crate::files::{Files, ReadFault, StoreFault};
 use crate::flight::do_run;
-use crate::remark::{Found, tell_found, tell_more};
+use crate::remark::{Found, tell_more};
 use crate::status::{Status, Unwritten};
 use crate::streams::{STREAM, is_stream};
 use crate::texts::TaskTexts;
@@ -40,8 +40,7 @@ pub(crate) fn refuse<'a, W: Write, E: Write>(
     ensures status { IfOk result (λ status. status ≡ Refused) }
 {
     writeln!(out, "refused {fault}").map_err(|_| Unwritten::Output)?;
-    writeln!(err, "{}", Advice::of_fault(task, fault)).map_err(|_| Unwritten::Messages)?;
-    tell_found(found, err).map_err(|_| Unwritten::Messages)?;
+    tell_fault(task, fault, found, err).map_err(|_| Unwritten::Messages)?;
     Ok(Status::Refused)
 }
 
@@ -148,6 +147,7 @@ fn give<F: Files, W: Write, E: Write>(
     ensures others { IfOk result (λ status. IfSome (file_of F.has_streams (output_in answer.now))
         (λ name. AreOthers (names_in task.entry) name.now)) }
     ensures status { IfOk result (λ status. status ≡ status_in answer.now) }
+    ensures known { IfOk result (λ status. status ≢ BadCommandLine) }
     ensures kept { IfErr result (λ _. F.content files.new ≡ F.content files.old) }
     ensures unread { F.readings files.new ≡ F.readings files.old }
 {

@@ -33,11 +33,12 @@ counted_more steps memory lines d n m late command untaken counted l c u late_is
       untaken = omega (arith, untaken_are, counted.untaken, rw (l, u) at untakens);
     }
 
--- the type of a packet, as a test
+-- a telecommand passes the test for telecommands
 pub telecommand_is : (kind : PacketType) → IsTelecommand kind → is_telecommand kind ≡ true
 telecommand_is (Telecommand source) is = refl
 telecommand_is (Telemetry counter destination time) never = absurd never
 
+-- telemetry does not pass that test
 pub telemetry_is : (kind : PacketType) → IsTelemetry kind → is_telecommand kind ≡ false
 telemetry_is (Telecommand source) never = absurd never
 telemetry_is (Telemetry counter destination time) is = refl

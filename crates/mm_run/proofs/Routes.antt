@@ -60,6 +60,7 @@ routed routes id p = elim p.kind as (λ (kind : PacketType). IsTelemetry kind
       | Telemetry counter destination time ↦ λ telemetry. refl
     ]
 
+-- a telecommand is routed to no store
 unrouted : (routes : List RouteRow) (id : List ℕ) (p : SpacePacket) → IsTelecommand p.kind
     → is_routed routes id p ≡ false
 unrouted routes id p = elim p.kind as (λ (kind : PacketType). IsTelecommand kind

@@ -13,7 +13,7 @@ use Rattle.mm_run.specs.declared.script_fault.ScriptFault.TheVariants as script
 use Rattle.mm_run.specs.declared.fault.Fault.{Fault}
 use Rattle.mm_run.specs.declared.fault.Fault.TheVariants.{NoMemory, Problem, Plan, Script}
 
--- which refusal it is
+-- which refusal a fault is
 abbrev pub refusal_of : Fault → Refusal
 refusal_of NoMemory = refusal.NoMemory
 refusal_of (Problem fault) = problem_refusal fault

@@ -38,7 +38,7 @@ struct Note {
 }
 
 /// A send that failed.
-#[derive(Clone, Copy, Debug, PartialEq, Eq)]
+#[derive(Clone, Copy, PartialEq, Eq)]
 pub struct FailedSend {
     /// The number of the send, counted from 1 over all sends of the link. Sends that fail count too.
     pub send: u128,
@@ -79,12 +79,6 @@ fn next_number(sent: usize, failed: u64) -> u128
     ensures { result ≡ sent + failed + 1 }
 {
     sent as u128 + u128::from(failed) + 1
-}
-
-fn is_among(failing: &[u32], number: u128) -> bool
-    ensures { result ≡ list_any (λ send. send == number) failing.now }
-{
-    failing.iter().any(|send| u128::from(*send) == number)
 }
 
 impl ScriptedLink {
@@ -142,7 +136,8 @@ impl ScriptedLink {
     fn fails_next(&self) -> bool
         ensures { result ≡ fails_next self.now }
     {
-        is_among(self.failing.as_slice(), self.next_send())
+        let number = self.next_send();
+        self.failing.iter().any(|send| u128::from(*send) == number)
     }
 }
 
@@ -175,7 +170,7 @@ impl Link for ScriptedLink {
 }
 
 /// A send that fails: what a line says.
-#[derive(Clone, Copy, Debug, PartialEq, Eq)]
+#[derive(Clone, Copy)]
 pub struct Failing {
     /// The number of the link, counted from 1.
     pub link: u8,

@@ -15,7 +15,7 @@ use mm_report::{Cause, Report};
 use std::alloc::Global;
 
 /// Whether a run was carried out whole and its report printed.
-#[derive(Clone, Copy, Debug, PartialEq, Eq)]
+#[derive(Clone, Copy)]
 pub enum Outcome {
     CarriedOut,
     /// The run was carried out whole, and there is no memory for its report.
@@ -25,7 +25,7 @@ pub enum Outcome {
 }
 
 /// What a run was given: what people are told of it.
-#[derive(Clone, Copy, Debug, PartialEq, Eq)]
+#[derive(Clone, Copy)]
 pub struct Given {
     /// How many sources there are.
     pub sources: usize,
@@ -40,7 +40,7 @@ pub struct Given {
 }
 
 /// What a run prints: three texts, one after the other. Beside them, how it ended, what it was given, and what it left.
-#[derive(Debug, Drop)]
+#[derive(Drop)]
 pub struct Printed {
     /// The plan text, where the plan was made here.
     pub sheet: Vec<u8>,
@@ -198,7 +198,7 @@ fn write_report(text: &mut Vec<u8>, alloc: Global, report: &Report) -> Outcome
 impl Printed {
     ghost use Rattle.mm_run.specs.Printed.{IsReserved, TellsAll, TellsEnd};
 
-    /// Nothing yet, with room for the lines that are printed when no memory is left.
+    /// Nothing is printed yet. There is room for the lines that are printed when no memory is left.
     pub(crate) fn reserved(alloc: Global, given: Given) -> Result<Printed, NoMemory>
         ensures reserved { IfOk result IsReserved }
         ensures given { IfOk result (λ printed. printed.given ≡ given) }
@@ -245,7 +245,7 @@ impl Printed {
         self
     }
 
-    /// The same with what the run left.
+    /// What is printed, with what the run left.
     pub(crate) fn with_left(mut self, run: StoppedRun) -> Printed
         ensures { result ≡ record self { left = Some run } }
     {

@@ -116,7 +116,7 @@ pub fn run_texts<R: Threads + Wait + Sync>(
     Ok(run.carry_out(rt, alloc))
 }
 
-/// `run_texts` with a plan text.
+/// Does what `run_texts` does, with a plan text.
 pub fn run_bytes<R: Threads + Wait + Sync>(
     rt: &R,
     alloc: Global,
@@ -131,7 +131,7 @@ pub fn run_bytes<R: Threads + Wait + Sync>(
     run_texts(rt, alloc, texts, Some(plan), Goal::Least)
 }
 
-/// `run_texts` without a plan text.
+/// Does what `run_texts` does, without a plan text.
 pub fn fly_bytes<R: Threads + Wait + Sync>(
     rt: &R,
     alloc: Global,

@@ -18,7 +18,7 @@ use mm_report::MAX_SOURCES;
 use std::alloc::Global;
 
 /// A packet that a source gives in a step: what a line says. Step 0 is before the run.
-#[derive(Debug, Drop)]
+#[derive(Drop)]
 pub struct SourceLine {
     /// The number of the source, counted from 1.
     pub source: u8,
@@ -126,7 +126,7 @@ impl SourceFile {
         SourceFile::read_noting(alloc, text, &mut UnstoredCount::new(None))
     }
 
-    /// `read`, which counts the packets that go to no store.
+    /// Does what `read` does, and counts the packets that go to no store.
     pub(crate) fn read_noting(
         alloc: Global,
         text: &[u8],

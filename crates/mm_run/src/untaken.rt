@@ -48,7 +48,7 @@ pub struct Unstored {
 pub(crate) struct UnstoredCount<'a> {
     start: Option<&'a ProblemAndMemory>,
     pub(crate) unstored: Unstored,
-    /// The first that no route takes.
+    /// The first packet that no route takes.
     pub(crate) untaken: Option<Untaken>,
 }
 

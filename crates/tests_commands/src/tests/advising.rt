@@ -115,10 +115,8 @@ static FOUND: [(&str, &str); 7] = wanted! {
 
 // Standard error has this remark on a plan and nothing else.
 fn remarks(rt: &impl Host, plan: &str, remark: &str) {
-    let answer = told(
-        rt,
-        &of_plan("check", [A_WITH_LIMIT_1, TWO_STEPS_OF_A, plan]),
-    );
+    let script = of_plan("check", [A_WITH_LIMIT_1, TWO_STEPS_OF_A, plan]);
+    let answer = told(rt, &script);
     holds(rt, plan, &answer, answer.err.as_str() == remark);
 }
 

@@ -16,26 +16,27 @@ static CHARTS: [(&str, &str, bool); 2] = wanted! {
 };
 
 // Whether a text is one document of this format.
-pub(crate) fn is_document(text: &str) -> bool {
+fn is_document(text: &str) -> bool {
     text.starts_with("<svg xmlns='http://www.w3.org/2000/svg' version='1.1'")
         && text.ends_with("</svg>\n")
 }
 
-// The chart of a plan for first_run has the headline.
-fn draws(rt: &impl Host, plan: &str, headline: &str, is_least: bool) {
-    let answer = told(rt, &of_plan("chart", [SCI, THREE_STEPS, plan]));
+// The chart of a plan for first_run, by this command, is one document with the headline; it has the other text or not.
+pub(crate) fn draws(rt: &impl Host, [command, plan, headline, other]: [&str; 4], has_other: bool) {
+    let answer = told(rt, &of_plan(command, [SCI, THREE_STEPS, plan]));
     let chart = answer.out.as_str();
     let is_drawn = is_document(chart) && chart.contains(headline);
     let is_quiet = answer.status == 0 && answer.err.is_empty();
-    let says_it = chart.contains("no plan loses fewer") == is_least;
-    holds(rt, headline, &answer, is_drawn && is_quiet && says_it);
+    let is_as_wanted = chart.contains(other) == has_other;
+    holds(rt, headline, &answer, is_drawn && is_quiet && is_as_wanted);
 }
 
 // A plan whose printed loss is wrong is drawn, under the verdict's line.
 #[test]
 fn a_chart_is_one_document(rt: HostRuntime) {
     for (plan, headline, is_least) in &CHARTS {
-        draws(&rt, plan, headline, *is_least);
+        let least = "no plan loses fewer";
+        draws(&rt, ["chart", *plan, *headline, least], *is_least);
     }
 }
 

@@ -169,27 +169,6 @@ fn is_refused_after(rt: &impl Host, words: &[&str], status: u8, writes: u32) -> 
     out.has_refused
 }
 
-// How many writes of a command's output can be refused, each in turn.
-fn refused_writes(rt: &impl Host, words: &[&str], status: u8) -> u32 {
-    for writes in 0..MANY_WRITES {
-        if !is_refused_after(rt, words, status, writes) {
-            return writes;
-        }
-    }
-    MANY_WRITES
-}
-
-#[test]
-fn each_write_that_fails(rt: HostRuntime) {
-    for (words, fewest, status) in &COMMANDS {
-        let writes = refused_writes(&rt, words, *status);
-        assert!(rt;
-            *fewest <= writes && writes < MANY_WRITES,
-            "{writes} writes, not {fewest}"
-        );
-    }
-}
-
 // Whether a command writes more often than this to a pipe. If nobody reads the pipe after that many writes, the status
 // is that of the command, nothing is said of that, and nothing more is written.
 fn is_closed_after(rt: &impl Host, words: &[&str], status: u8, writes: u32) -> bool {
@@ -203,20 +182,24 @@ fn is_closed_after(rt: &impl Host, words: &[&str], status: u8, writes: u32) -> b
     pipe.has_refused
 }
 
-// How many writes of a command's output find the pipe closed, each in turn.
-fn closed_writes(rt: &impl Host, words: &[&str], status: u8) -> u32 {
+// How many writes of a command's output can be refused, each in turn. As many find the pipe closed.
+fn refused_writes(rt: &impl Host, words: &[&str], status: u8) -> u32 {
     for writes in 0..MANY_WRITES {
-        if !is_closed_after(rt, words, status, writes) {
+        let is_closed = is_closed_after(rt, words, status, writes);
+        let is_refused = is_refused_after(rt, words, status, writes);
+        assert!(rt; is_closed == is_refused, "after {writes} writes");
+        if !is_refused {
             return writes;
         }
     }
     MANY_WRITES
 }
 
+// A write that fails is told, and a closed pipe is not.
 #[test]
-fn a_closed_pipe_is_not_told(rt: HostRuntime) {
+fn each_write_that_fails(rt: HostRuntime) {
     for (words, fewest, status) in &COMMANDS {
-        let writes = closed_writes(&rt, words, *status);
+        let writes = refused_writes(&rt, words, *status);
         assert!(rt;
             *fewest <= writes && writes < MANY_WRITES,
             "{writes} writes, not {fewest}"

@@ -57,10 +57,8 @@ static WRONG: [(&str, &str); 25] = wanted! {
 #[test]
 fn flags_that_are_not_read(rt: HostRuntime) {
     for (line, said) in &WRONG {
-        let err = joined(
-            &rt,
-            &["error: ", said, "\n\nFor more information, try '--help'.\n"],
-        );
+        let more = "\n\nFor more information, try '--help'.\n";
+        let err = joined(&rt, &["error: ", *said, more]);
         answers(&rt, &[*line, "\n"], "", err.as_str(), 2);
     }
 }
@@ -78,9 +76,10 @@ static USAGES: [(&str, &str); 9] = wanted! {
     "read" => "read <PACKETS>";
 };
 
-fn has_usage(rt: &impl Host, line: &str, usage: &str) {
+// A bad line, or a call for help, of which standard error has this text.
+fn has_said(rt: &impl Host, line: &str, text: &[&str]) {
     let answer = told(rt, &[line, "\n"]);
-    let wanted = joined(rt, &["Usage: mm_tool ", usage, "\n"]);
+    let wanted = joined(rt, text);
     let is_told = answer.err.as_str().contains(wanted.as_str());
     holds(rt, line, &answer, answer.has("", 2) && is_told);
 }
@@ -88,7 +87,7 @@ fn has_usage(rt: &impl Host, line: &str, usage: &str) {
 #[test]
 fn usages_have_each_flag(rt: HostRuntime) {
     for (line, usage) in &USAGES {
-        has_usage(&rt, line, usage);
+        has_said(&rt, line, &["Usage: mm_tool ", *usage, "\n"]);
     }
 }
 
@@ -100,16 +99,10 @@ static MISSPELLED: [(&str, &str); 4] = wanted! {
     "flyy" => "fly";
 };
 
-fn is_told_as(rt: &impl Host, line: &str, command: &str) {
-    let answer = told(rt, &[line, "\n"]);
-    let tip = joined(rt, &["tip: a similar subcommand exists: '", command, "'\n"]);
-    let is_told = answer.err.as_str().contains(tip.as_str());
-    holds(rt, line, &answer, answer.has("", 2) && is_told);
-}
-
 #[test]
 fn commands_that_are_misspelled(rt: HostRuntime) {
     for (line, command) in &MISSPELLED {
-        is_told_as(&rt, line, command);
+        let tip = "tip: a similar subcommand exists: '";
+        has_said(&rt, line, &[tip, *command, "'\n"]);
     }
 }

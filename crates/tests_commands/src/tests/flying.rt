@@ -180,6 +180,16 @@ fn script_of(rt: &impl Host, row: &Run, links: &str) -> String {
     script.expect(rt, "memory")
 }
 
+// The script of a flight, by these words, with the files of a row but its plan, and these links.
+fn flight_of(rt: &impl Host, words: &str, row: &Run, links: &str) -> String {
+    let sources = joined(rt, row.sources);
+    let script = format!(in rt.alloc();
+        "{words}{}=== F\n{}=== X\n{sources}=== L\n{links}",
+        row.setup, row.forecast
+    );
+    script.expect(rt, "memory")
+}
+
 // `run` with the files of a row and these links prints this report.
 fn runs_over(rt: &impl Host, row: &Run, links: &str, report: &str, status: u8) {
     let script = script_of(rt, row, links);
@@ -225,17 +235,7 @@ impl Write for Flushed {
 // The plan of a flight is handed on whole, and nothing else, before the report is there.
 #[test]
 fn the_plan_is_handed_on_first(rt: HostRuntime) {
-    let sources = joined(&rt, FIRST_RUN.sources);
-    let front = [
-        "fly S F X L\n=== S\n",
-        SCI,
-        "=== F\n",
-        THREE_STEPS,
-        "=== X\n",
-    ];
-    let back = [sources.as_str(), "=== L\n", FIRST_RUN.links];
-    let (front, back) = (joined(&rt, &front), joined(&rt, &back));
-    let script = joined(&rt, &[front.as_str(), back.as_str()]);
+    let script = flight_of(&rt, FLY, &FIRST_RUN, FIRST_RUN.links);
     let (written, mut err) = (Vec::new(rt.alloc()), Vec::new(rt.alloc()));
     let mut out = Flushed {
         written,
@@ -261,19 +261,9 @@ fn flies_over(
     report: &'static str,
     status: u8,
 ) {
-    let sources = joined(rt, row.sources);
-    let script = [
-        words,
-        row.setup,
-        "=== F\n",
-        row.forecast,
-        "=== X\n",
-        sources.as_str(),
-        "=== L\n",
-        links,
-    ];
+    let script = flight_of(rt, words, row, links);
     let out = joined(rt, &[row.plan, report]);
-    prints(rt, row.example, &script, out.as_str(), status)
+    prints(rt, row.example, &[script.as_str()], out.as_str(), status)
 }
 
 const FIRST_FLIGHT: Run = Run {

@@ -2,48 +2,44 @@
 
 use crate::tests::samples::{Answer, Host, holds, joined, replaced, told, told_bytes};
 
+// The table of a store.
+const STORE_A: &str = "[[store]]\nid = \"A\"\nsize = 4\ntype = \"bounded\"\nchannel = 0\n";
+
 // Setups that are refused, and what is found in each.
-static SETUP_HINTS: [(&str, &str); 18] = wanted! {
-    "[[store]]\nid = \"A\"\nsize = 2,000\n"
-    => "line 3 is \"size = 2,000\"; numbers have no commas";
-    "[[store]]\nid = \"A\"\nsize 2000\n"
-    => "line 3 is \"size 2000\"; write = between a key and its value";
+static SETUP_HINTS: [(&str, &str); 10] = wanted! {
+    "[[store]]\nid = \"A\"\nsize = 2,000\n" => "line 3 is \"size = 2,000\"; numbers have no commas";
+    "[[store]]\nid = \"A\"\nsize 2000\n" => "line 3 is \"size 2000\"; write = between a key and its value";
     "store = 1\n" => "store is no array of tables; write [[store]] above each table";
     "stores = 1\n" => "the key \"stores\" is none of store, route and limit";
-    "[[store]]\nid = \"A\"\nsize = 4\ntype = \"bounded\"\nchannel = 0\n[[store]]\nid = \"B\"\nsize = 4\ntype = \
-        \"bounded\"\nchannel = 0\nsise = 4\n"
-    => "table 2 of store, \"B\", has the key \"sise\", which is none of size, id, type, channel and start";
-    "[[store]]\nid = \"A\"\nsize = 4\ntype = \"bounded\"\n"
-    => "table 1 of store, \"A\", has no key channel";
-    "[[store]]\nid = \"A\"\nsize = 4\ntype = \"bounded\"\nchannel = 0\n[[limit]]\nblocks = 4\n"
-    => "table 1 of limit has no key channel";
+    "[[store]]\nid = \"A\"\nsize = 4\ntype = \"bounded\"\n" => "table 1 of store, \"A\", has no key channel";
     "[[store]]\nid = \"A\"\nsize = \"4\"\ntype = \"bounded\"\nchannel = 0\n"
     => "table 1 of store, \"A\", has no whole number as size; write it without quotes";
     "[[store]]\nid = 5\nsize = 4\ntype = \"bounded\"\nchannel = 0\n"
     => "table 1 of store has no text as id; write it in quotes";
-    "[[store]]\nid = \"A\"\nsize = 4\ntype = \"bounded\"\nchannel = 0\n[[store]]\nid = \"cam\"\nsize = 4\ntype = \
-        \"bounded\"\nchannel = 0\n"
-    => "table 2 of store, \"cam\", has small letters in its id; write capital letters";
     "[[store]]\nid = \"CAM 1\"\nsize = 4\ntype = \"bounded\"\nchannel = 0\n"
     => "table 1 of store, \"CAM 1\", has \"CAM 1\" as id; 1 to 8 of the characters A-Z, 0-9, _ and - can be";
     "[[store]]\nid = \"A\"\nsize = 4\ntype = \"ring\"\nchannel = 0\n"
     => "table 1 of store, \"A\", has the type \"ring\"; \"circular\" and \"bounded\" can be";
-    "[[store]]\nid = \"A\"\nsize = 4\ntype = \"bounded\"\nchannel = 0\n[[route]]\napid = 100\nservice = 3\nsubtype = \
-        25\nstore = \"B\"\n"
-    => "table 1 of route names the store \"B\", which no table of store has";
-    "[[store]]\nid = \"A\"\nsize = 4\ntype = \"bounded\"\nchannel = 0\n[[store]]\nid = \"A\"\nsize = 4\ntype = \
-        \"bounded\"\nchannel = 0\n"
-    => "table 2 of store, \"A\", has the id of an earlier one; rename one of them";
-    "[[store]]\nid = \"A\"\nsize = 4\ntype = \"bounded\"\nchannel = 0\n[[route]]\napid = 100\nservice = 3\nsubtype = \
-        25\nstore = \"A\"\n[[route]]\napid = 100\nservice = 3\nsubtype = 25\nstore = \"A\"\n"
-    => "table 2 of route is the same as an earlier one; leave one of them out";
-    "[[store]]\nid = \"A\"\nsize = 4\ntype = \"bounded\"\nchannel = 0\nstart = 5\n"
-    => "table 1 of store, \"A\", has start = 5; 0 to 4 can be";
     "[[store]]\nid = \"A\"\nsize = 2000000\ntype = \"bounded\"\nchannel = 0\n"
     => "table 1 of store, \"A\", has size = 2000000; 1 to 1000000 can be; a block is room for one packet; plan more in \
         coarser units: docs/PLANNING.md, 'Limits of scale'";
-    "[[store]]\nid = \"A\"\nsize = 4\ntype = \"bounded\"\nchannel = 0\n[[limit]]\nchannel = 8\nblocks = 4\n"
-    => "table 1 of limit has channel = 8; 0 to 7 can be";
+};
+
+// Tables that are refused after the store A, and what is found in each.
+static TABLE_HINTS: [(&str, &str); 8] = wanted! {
+    "[[store]]\nid = \"B\"\nsize = 4\ntype = \"bounded\"\nchannel = 0\nsise = 4\n"
+    => "table 2 of store, \"B\", has the key \"sise\", which is none of size, id, type, channel and start";
+    "[[limit]]\nblocks = 4\n" => "table 1 of limit has no key channel";
+    "[[store]]\nid = \"cam\"\nsize = 4\ntype = \"bounded\"\nchannel = 0\n"
+    => "table 2 of store, \"cam\", has small letters in its id; write capital letters";
+    "[[route]]\napid = 100\nservice = 3\nsubtype = 25\nstore = \"B\"\n"
+    => "table 1 of route names the store \"B\", which no table of store has";
+    STORE_A => "table 2 of store, \"A\", has the id of an earlier one; rename one of them";
+    "[[route]]\napid = 100\nservice = 3\nsubtype = 25\nstore = \"A\"\n[[route]]\napid = 100\nservice = 3\nsubtype = \
+        25\nstore = \"A\"\n"
+    => "table 2 of route is the same as an earlier one; leave one of them out";
+    "start = 5\n" => "table 1 of store, \"A\", has start = 5; 0 to 4 can be";
+    "[[limit]]\nchannel = 8\nblocks = 4\n" => "table 1 of limit has channel = 8; 0 to 7 can be";
 };
 
 // Forecasts that are refused, and what is found in each.
@@ -151,24 +147,21 @@ static OTHER_HINTS: [(&str, &str); 7] = wanted! {
     => "no route of the setup leads to \"A\", so no packet can come to it";
 };
 
-// The part of a script that stands before each of these texts, and after each setup.
-const BEFORE_SETUP: &str = "plan S F\n=== S\n";
+// The parts of a script that stand before the store A, and between it and each of these texts, and after each setup.
+const PLAN: &str = "plan S F\n=== S\n";
+
+const CHECK: &str = "check S F P\n=== S\n";
+
+const FLY: &str = "fly S F X L\n=== S\n";
+
+const ASK: &str = "ask S R\n=== S\n";
 
 const AFTER_SETUP: &str = "=== F\nstep,window,A\n1,2,3\n2,2,3\n";
 
-const BEFORE_FORECAST: &str =
-    "plan S F\n=== S\n[[store]]\nid = \"A\"\nsize = 4\ntype = \"bounded\"\nchannel = 0\n=== F\n";
-
-const BEFORE_PLAN: &str =
-    "check S F P\n=== S\n[[store]]\nid = \"A\"\nsize = 4\ntype = \"bounded\"\nchannel = 0\n=== \
-        F\nstep,window,A\n1,2,3\n2,2,3\n=== P\n";
+const BEFORE_PLAN: &str = "=== F\nstep,window,A\n1,2,3\n2,2,3\n=== P\n";
 
 const BEFORE_PACKETS: &str =
-    "fly S F X L\n=== S\n[[store]]\nid = \"A\"\nsize = 4\ntype = \"bounded\"\nchannel = 0\n[[route]]\napid = \
-        100\nservice = 3\nsubtype = 25\nstore = \"A\"\n=== F\nstep,window,A\n1,2,3\n2,2,3\n=== X\n";
-
-const BEFORE_REQUESTS: &str =
-    "ask S R\n=== S\n[[store]]\nid = \"A\"\nsize = 4\ntype = \"bounded\"\nchannel = 0\n=== R\n";
+    "[[route]]\napid = 100\nservice = 3\nsubtype = 25\nstore = \"A\"\n=== F\nstep,window,A\n1,2,3\n2,2,3\n=== X\n";
 
 // The last line on standard error is this hint.
 pub(crate) fn hints(rt: &impl Host, answer: &Answer, hint: &str) {
@@ -177,21 +170,23 @@ pub(crate) fn hints(rt: &impl Host, answer: &Answer, hint: &str) {
     holds(rt, hint, answer, is_told);
 }
 
-// The script with each of these texts, between two others, is answered with its hint.
-fn each_hints(rt: &impl Host, before: &str, cases: &[(&str, &str)], after: &str) {
+// The script with each of these texts, between others, is answered with its hint.
+fn each_hints(rt: &impl Host, before: [&str; 3], cases: &[(&str, &str)], after: &str) {
+    let [front, store, back] = before;
     for (text, hint) in cases {
-        hints(rt, &told(rt, &[before, *text, after]), hint);
+        hints(rt, &told(rt, &[front, store, back, *text, after]), hint);
     }
 }
 
 #[test]
 fn faults_of_files_are_shown(rt: HostRuntime) {
-    each_hints(&rt, BEFORE_SETUP, &SETUP_HINTS, AFTER_SETUP);
-    each_hints(&rt, BEFORE_FORECAST, &FORECAST_HINTS, "");
-    each_hints(&rt, BEFORE_PLAN, &PLAN_HINTS, "");
-    each_hints(&rt, BEFORE_PACKETS, &FLIGHT_HINTS, "");
-    each_hints(&rt, BEFORE_REQUESTS, &REQUEST_HINTS, "");
-    each_hints(&rt, "", &OTHER_HINTS, "");
+    each_hints(&rt, [PLAN, "", ""], &SETUP_HINTS, AFTER_SETUP);
+    each_hints(&rt, [PLAN, STORE_A, ""], &TABLE_HINTS, AFTER_SETUP);
+    each_hints(&rt, [PLAN, STORE_A, "=== F\n"], &FORECAST_HINTS, "");
+    each_hints(&rt, [CHECK, STORE_A, BEFORE_PLAN], &PLAN_HINTS, "");
+    each_hints(&rt, [FLY, STORE_A, BEFORE_PACKETS], &FLIGHT_HINTS, "");
+    each_hints(&rt, [ASK, STORE_A, "=== R\n"], &REQUEST_HINTS, "");
+    each_hints(&rt, ["", "", ""], &OTHER_HINTS, "");
 }
 
 // A setup, a forecast and requests in UTF-16.

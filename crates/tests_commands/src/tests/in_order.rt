@@ -1,10 +1,9 @@
 //! Plans that serve the stores in the setup's order: what `plan` prints of them, and what the other commands say of
 //! their texts.
 
-use crate::tests::charting::is_document;
+use crate::tests::charting::draws;
 use crate::tests::samples::{
-    A_AND_B, Host, SCI, SHARED_WINDOW, THREE_STEPS, checks, holds, joined, of_plan, prints,
-    replaced, told,
+    A_AND_B, SCI, SHARED_WINDOW, THREE_STEPS, checks, holds, joined, prints, replaced, told,
 };
 
 // Of the 3 + 2 blocks that come to A it holds 3, and the window of step 1 takes the other two. So it loses none, and B
@@ -89,21 +88,9 @@ const LEAST: &str = ">2 of 10 blocks are lost, and no plan loses fewer";
 
 const KEY: &str = ">saved by a wider window</text>";
 
-// The chart of the plan of first_run in order, which has the key or not.
-fn draws(rt: &impl Host, command: &str, has_key: bool) {
-    let answer = told(
-        rt,
-        &of_plan(command, [SCI, THREE_STEPS, FIRST_PLAN_IN_ORDER]),
-    );
-    let chart = answer.out.as_str();
-    let is_drawn = is_document(chart) && chart.contains(LEAST);
-    let is_quiet = answer.status == 0 && answer.err.is_empty();
-    let is_keyed = chart.contains(KEY) == has_key;
-    holds(rt, command, &answer, is_drawn && is_quiet && is_keyed);
-}
-
 #[test]
 fn a_plan_in_order_is_drawn(rt: HostRuntime) {
-    draws(&rt, "chart", false);
-    draws(&rt, "chart --worth", true);
+    for (command, has_key) in [("chart", false), ("chart --worth", true)] {
+        draws(&rt, [command, FIRST_PLAN_IN_ORDER, LEAST, KEY], has_key);
+    }
 }

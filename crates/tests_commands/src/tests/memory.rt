@@ -114,12 +114,8 @@ fn is_stored(rt: &impl Host, row: &Stored) {
     let mut files = made(rt);
     let answer: Answer = answer_to(rt, row.words, &mut files);
     let is_alone = has_alone(&files, row.file, row.text);
-    holds(
-        rt,
-        row.file,
-        &answer,
-        answer.has(row.prints, row.status) && is_alone,
-    );
+    let is_answered = answer.has(row.prints, row.status);
+    holds(rt, row.file, &answer, is_answered && is_alone);
 }
 
 #[test]

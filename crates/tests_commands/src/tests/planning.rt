@@ -71,12 +71,8 @@ fn plans(rt: &impl Host, row: &Planned) {
     let plan = answer.out.as_str();
     let is_done = answer.status == 0 && answer.err.is_empty();
     holds(rt, row.example, &answer, is_done && is_planned(plan, row));
-    checks(
-        rt,
-        row.example,
-        [row.setup, row.forecast, plan],
-        row.verdict,
-    )
+    let files = [row.setup, row.forecast, plan];
+    checks(rt, row.example, files, row.verdict)
 }
 
 #[test]
@@ -162,8 +158,8 @@ fn fullest_setup(rt: &impl Host) -> String {
 // The most steps for them, without any window, when as much arrives as may.
 fn fullest_forecast(rt: &impl Host) -> String {
     let columns = numbered(rt, 0, 16, ",S", "");
-    let full =
-        ",0,1000000,1000000,1000000,1000000,1000000,1000000,1000000,1000000,1000000,1000000,1000000,1000000,1000000,1000000,1000000,1000000\n";
+    let full = ",0,1000000,1000000,1000000,1000000,1000000,1000000,1000000,1000000,\
+        1000000,1000000,1000000,1000000,1000000,1000000,1000000,1000000\n";
     let rows = numbered(rt, 1, 257, "", full);
     joined(rt, &["step,window", columns.as_str(), "\n", rows.as_str()])
 }

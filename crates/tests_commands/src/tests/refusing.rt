@@ -66,15 +66,11 @@ fn push_said(
 ) {
     let words = Words::of(refusal);
     let told = match place.split_once('.') {
-        Some((line, number)) => {
-            writeln!(
-                said,
-                "{name}, {counted} {line}, instruction {number}: {words}"
-            )
-        }
-        None => writeln!(said, "{name}, {counted} {place}: {words}"),
+        Some((line, number)) => write!(said, "{name}, {counted} {line}, instruction {number}"),
+        None => write!(said, "{name}, {counted} {place}"),
     };
     told.expect(rt, "memory");
+    writeln!(said, ": {words}").expect(rt, "memory");
     if let Some(hint) = hint_of(requests.as_bytes(), (place, refusal)) {
         writeln!(said, "hint: {hint}").expect(rt, "memory");
     }

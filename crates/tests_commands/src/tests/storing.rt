@@ -28,7 +28,7 @@ fn whole(rt: &impl Host, folder: &str, name: &str) -> String {
 }
 
 // A new folder with these files.
-fn make_folder(rt: &impl System, name: &str) -> String {
+pub(crate) fn make_folder(rt: &impl System, name: &str) -> String {
     let temporary = env::temp_dir(rt).expect(rt, "a folder");
     let folder = joined(rt, &[temporary.as_str(), "/mm_tool-", name]);
     let _left_over = fs::remove_dir_all(rt, folder.as_str());
@@ -40,7 +40,7 @@ fn make_folder(rt: &impl System, name: &str) -> String {
     folder
 }
 
-fn remove(rt: &impl System, folder: &str) {
+pub(crate) fn remove(rt: &impl System, folder: &str) {
     fs::remove_dir_all(rt, folder).expect(rt, "a folder");
 }
 
@@ -56,18 +56,26 @@ fn is_there(rt: &impl System, folder: &str, name: &str) -> bool {
     fs::symlink_metadata(rt, name.as_str()).is_ok()
 }
 
-// What the program answers to a line of words, in which @ stands for the folder.
-fn run(rt: &impl Host, system: &impl rt::Files, folder: &str, line: &str) -> Answer {
+// What the program answers to a line of words, in which @ stands for the folder, where standard input has this text.
+pub(crate) fn run_with(
+    rt: &impl Host,
+    system: &impl rt::Files,
+    folder: &str,
+    line: &str,
+    input: &str,
+) -> Answer {
     let mut words: Vec<String> = Vec::new(rt.alloc());
     for word in line.split(' ') {
         let word = replaced(rt, word, "@", folder);
         words.push(word).expect(rt, "memory");
     }
-    answer_to(
-        rt,
-        &words,
-        &mut SystemFiles::new(rt.alloc(), system, b"".as_slice()),
-    )
+    let mut files = SystemFiles::new(rt.alloc(), system, input.as_bytes());
+    answer_to(rt, &words, &mut files)
+}
+
+// The same, where standard input is empty.
+fn run(rt: &impl Host, system: &impl rt::Files, folder: &str, line: &str) -> Answer {
+    run_with(rt, system, folder, line, "")
 }
 
 // Tasks whose text is stored, each with the file and with one that is not left over. A file that is not there yet is

@@ -1,27 +1,9 @@
 //! The name `-`: standard input as a file of a task, and standard output as its output.
 
-use crate::tests::samples::{
-    Answer, FIRST_PLAN, Host, SCI, System, THREE_STEPS, answer_to, answers, holds, joined,
-    replaced, told,
-};
+use crate::tests::samples::{FIRST_PLAN, Host, SCI, System, THREE_STEPS, answers, holds, told};
+use crate::tests::storing::{make_folder, remove, run_with};
 use mm_commands::{Files, SystemFiles};
-use std::{env, fs};
-
-// The name of a setup and that of a forecast, as the system has them.
-const SETUP: &str = "S";
-
-const FORECAST: &str = "F";
-
-// What the program answers to a line of words, in which @ stands for the folder, where standard input has this text.
-fn answer_with(rt: &impl System, folder: &str, line: &str, input: &str) -> Answer {
-    let mut words: Vec<String> = Vec::new(rt.alloc());
-    for word in line.split(' ') {
-        let word = replaced(rt, word, "@", folder);
-        words.push(word).expect(rt, "memory");
-    }
-    let mut files = SystemFiles::new(rt.alloc(), rt, input.as_bytes());
-    answer_to(rt, &words, &mut files)
-}
+use std::fs;
 
 // Lines, standard input, and what is printed. Standard input stands for any one file, and `--output -` prints.
 static PIPED: [(&str, &str, &str); 7] = wanted! {
@@ -43,44 +25,19 @@ For more information, try '--help'.
 // Lines that have standard input for more than one file.
 static TWICE_READ: [&str; 3] = ["plan - -", "check - @/F -", "fly @/S - - @/L --"];
 
-// A new folder with the setup and the forecast.
-fn make_folder(rt: &impl System, name: &str) -> String {
-    let temporary = env::temp_dir(rt).expect(rt, "a folder");
-    let folder = joined(rt, &[temporary.as_str(), "/mm_tool-", name]);
-    let _left_over = fs::remove_dir_all(rt, folder.as_str());
-    fs::create_dir(rt, folder.as_str()).expect(rt, "a folder");
-    write_into(rt, folder.as_str(), SETUP, SCI);
-    write_into(rt, folder.as_str(), FORECAST, THREE_STEPS);
-    folder
-}
-
-// Writes a file of a folder.
-fn write_into(rt: &impl System, folder: &str, file: &str, text: &str) {
-    let path = joined(rt, &[folder, "/", file]);
-    fs::write(rt, path.as_str(), text).expect(rt, "a file");
-}
-
 fn streams_are_used(rt: &impl System) {
     let folder = make_folder(rt, "streams");
     for (line, input, out) in &PIPED {
-        let answer = answer_with(rt, folder.as_str(), line, input);
-        holds(
-            rt,
-            line,
-            &answer,
-            answer.has(out, 0) && answer.err.is_empty(),
-        );
+        let answer = run_with(rt, rt, folder.as_str(), line, input);
+        let is_quiet = answer.err.is_empty();
+        holds(rt, line, &answer, answer.has(out, 0) && is_quiet);
     }
     for line in &TWICE_READ {
-        let answer = answer_with(rt, folder.as_str(), line, SCI);
-        holds(
-            rt,
-            line,
-            &answer,
-            answer.has("", 2) && answer.err.as_str() == TWICE,
-        );
+        let answer = run_with(rt, rt, folder.as_str(), line, SCI);
+        let is_told = answer.err.as_str() == TWICE;
+        holds(rt, line, &answer, answer.has("", 2) && is_told);
     }
-    fs::remove_dir_all(rt, folder.as_str()).expect(rt, "a folder");
+    remove(rt, folder.as_str());
 }
 
 #[test]

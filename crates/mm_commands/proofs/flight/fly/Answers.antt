@@ -1,6 +1,7 @@
 use Rattle.std.proofs.Common.{inr}
 use Rattle.mm_command_line.specs.declared.task.Task.TheVariants.{Fly}
 use Rattle.mm_commands.specs.Answers.{Prints}
+use Rattle.mm_commands.specs.declared.fault.Fault.TheVariants.{Run}
 use Rattle.mm_commands.proofs.Flying.{flown-settles}
 use Rattle.mm_commands.proofs.Refusals.{refuses}
 use Rattle.mm_commands.proofs.flight.fly.Goals as goal
@@ -15,6 +16,6 @@ returns-in-Err-clause-settles g c old new same read =
     let before = g.W.Write.contents c.args.out.now in
     let after = g.W.Write.contents c.refuse.new.out in
     refuses (λ status. Prints old new (Fly c.args.flight) status before after) old new (Fly c.args.flight)
-    c.in-Err.fault before after c.refuse.result same
+    (Run c.in-Err.fault) before after c.refuse.result same
     (inr (record { texts = c.args.texts.now; read = read; is = c.in-Err.ensures.refused })) c.refuse.ensures.line
     c.refuse.ensures.status

@@ -2,7 +2,7 @@ use Rattle.std.proofs.Common.{IfOk, IfErr, inr, subst}
 use Rattle.mm_commands.specs.Answers.{IsAnswerTo, Prints}
 use Rattle.mm_commands.specs.Contents.{seen}
 use Rattle.mm_commands.specs.Refusing.{IsFaultIn, Refuses}
-use Rattle.mm_commands.proofs.Printing.{answer-prints, answers-well}
+use Rattle.mm_commands.proofs.Printing.{answer-prints}
 use Rattle.mm_commands.proofs.Refusals.{refuses}
 use Rattle.mm_commands.proofs.tasks.conclude.Goals as goal
 
@@ -16,11 +16,6 @@ returns-in-Ok-clause-prints g c contents readings same read =
     answer-prints (λ status. Refuses start new c.args.task status before after) start mid new c.args.task
     c.args.texts.now c.in-Ok.answer before after c.give.result
     same read c.give.ensures.unread c.give.ensures.given c.give.ensures.others c.give.ensures.status
-    (subst (λ answer. IfOk answer (IsAnswerTo c.args.task c.args.texts.now)) c.in-Ok.is c.requires.answers)
-
-pub returns-in-Ok-clause-status : goal.returns-in-Ok-clause-status
-returns-in-Ok-clause-status g c =
-    answers-well c.args.task c.args.texts.now c.in-Ok.answer c.give.result c.give.ensures.status
     (subst (λ answer. IfOk answer (IsAnswerTo c.args.task c.args.texts.now)) c.in-Ok.is c.requires.answers)
 
 pub returns-in-Err-clause-prints : goal.returns-in-Err-clause-prints

@@ -1,6 +1,6 @@
 //! What standard error says of a halt.
 
-use super::{FIRST_RUN, FLY, HALTED_IN_1, HALTED_IN_2, IN_1, Run, script_of};
+use super::{FIRST_RUN, FLY, HALTED_IN_1, HALTED_IN_2, Run, flight_of, script_of};
 use crate::tests::samples::{Host, answers, holds, joined, told};
 
 // Two bounded stores of two blocks, each with a report type of its own.
@@ -41,133 +41,122 @@ const EXPECTED: &str =
     "L: expected a link that takes the packet; plan the rest with another link; nothing of that \
     order was deleted\n";
 
-// Runs over one link, the links, the report, and what standard error says after its first line.
-static HALTS: [(&Run, &str, &str, &str); 8] = wanted! {
-    &FIRST_RUN, "links 1\nfail 1 1", HALTED_IN_1 => "\
-        note: link 1 failed at its send 1, a packet of SCI\n\
-        note: no packet was sent in step 1\n\
-        hint: plan again from step 1; the start of each store is that of the setup\n";
-    &FIRST_RUN, "links 1\nfail 1 2", HALTED_IN_1 => "\
-        note: link 1 failed at its send 2, a packet of SCI\n\
-        note: 1 packet of SCI was sent in step 1 and is still stored; it would be sent again\n\
-        hint: plan again from step 1; the start of each store is that of the setup\n";
-    &FIRST_RUN, "links 1\nfail 1 3", HALTED_IN_2 => "\
-        note: link 1 failed at its send 3, a packet of SCI\n\
-        note: no packet was sent in step 2\n\
-        hint: plan again from step 2; the start of each store is its held of step 1\n";
-    &FIRST_RUN, "links 1\nfail 1 4", HALTED_IN_2 => "\
-        note: link 1 failed at its send 4, a packet of SCI\n\
-        note: 1 packet of SCI was sent in step 2 and is still stored; it would be sent again\n\
-        hint: plan again from step 2; the start of each store is its held of step 1\n";
-    &BOTH_IN_TURN, "links 1\nfail 1 3", HALTED_IN_1 => "\
-        note: link 1 failed at its send 3, a packet of B\n\
-        note: 2 packets of A were sent in step 1 and deleted\n\
-        hint: plan again from step 1; the start of each store is that of the setup, less what was deleted in step 1\n";
-    &BOTH_IN_TURN, "links 1\nfail 1 6", BOTH_HALTED_IN_2 => "\
-        note: link 1 failed at its send 6, a packet of A\n\
-        note: 1 packet of A was sent in step 2 and is still stored; it would be sent again\n\
-        hint: plan again from step 2; the start of each store is its held of step 1\n";
-    &BOTH_IN_TURN, "links 1\nfail 1 7", BOTH_HALTED_IN_2 => "\
-        note: link 1 failed at its send 7, a packet of B\n\
-        note: 2 packets of A were sent in step 2 and deleted\n\
-        hint: plan again from step 2; the start of each store is its held of step 1, less what was deleted in step 2\n";
-    &BOTH_IN_TURN, "links 1\nfail 1 8", BOTH_HALTED_IN_2 => "\
-        note: link 1 failed at its send 8, a packet of B\n\
-        note: 1 packet of B was sent in step 2 and is still stored; it would be sent again\n\
-        note: 2 packets of A were sent in step 2 and deleted\n\
-        hint: plan again from step 2; the start of each store is its held of step 1, less what was deleted in step 2\n";
+const NONE_IN_1: &str = "note: no packet was sent in step 1\n";
+
+// From where to plan again.
+const FROM_1: &str = "hint: plan again from step 1; the start of each store is that of the setup\n";
+
+const LESS_IN_1: &str =
+    "hint: plan again from step 1; the start of each store is that of the setup, less what was deleted in step 1\n";
+
+const FROM_2: &str =
+    "hint: plan again from step 2; the start of each store is its held of step 1\n";
+
+const LESS_IN_2: &str =
+    "hint: plan again from step 2; the start of each store is its held of step 1, less what was deleted in step 2\n";
+
+// Runs over one link: the send that fails and the store of its packet, the report, and what standard error says after
+// that: what was sent, and from where to plan again.
+static HALTS: [(&Run, (u32, &str), &str, &str, &str); 8] = wanted! {
+    &FIRST_RUN, (1, "SCI"), HALTED_IN_1, NONE_IN_1 => FROM_1;
+    &FIRST_RUN, (2, "SCI"), HALTED_IN_1,
+    "note: 1 packet of SCI was sent in step 1 and is still stored; it would be sent again\n" => FROM_1;
+    &FIRST_RUN, (3, "SCI"), HALTED_IN_2, "note: no packet was sent in step 2\n" => FROM_2;
+    &FIRST_RUN, (4, "SCI"), HALTED_IN_2,
+    "note: 1 packet of SCI was sent in step 2 and is still stored; it would be sent again\n" => FROM_2;
+    &BOTH_IN_TURN, (3, "B"), HALTED_IN_1, "note: 2 packets of A were sent in step 1 and deleted\n" => LESS_IN_1;
+    &BOTH_IN_TURN, (6, "A"), BOTH_HALTED_IN_2,
+    "note: 1 packet of A was sent in step 2 and is still stored; it would be sent again\n" => FROM_2;
+    &BOTH_IN_TURN, (7, "B"), BOTH_HALTED_IN_2, "note: 2 packets of A were sent in step 2 and deleted\n" => LESS_IN_2;
+    &BOTH_IN_TURN, (8, "B"), BOTH_HALTED_IN_2,
+    "note: 1 packet of B was sent in step 2 and is still stored; it would be sent again\n\
+        note: 2 packets of A were sent in step 2 and deleted\n" => LESS_IN_2;
 };
+
+// The links of which this send fails, and what standard error says where it was to send a packet of this store.
+fn links_and_words(
+    rt: &impl Host,
+    (send, store): (u32, &str),
+    sent: &str,
+    again: &str,
+) -> (String, String) {
+    let links = format!(in rt.alloc(); "links 1\nfail 1 {send}");
+    let words = format!(in rt.alloc();
+        "{EXPECTED}note: link 1 failed at its send {send}, a packet of {store}\n{sent}{again}"
+    );
+    (links.expect(rt, "memory"), words.expect(rt, "memory"))
+}
 
 #[test]
 fn a_halted_run_says_what_was_sent(rt: HostRuntime) {
-    for (row, links, report, said) in &HALTS {
-        let script = script_of(&rt, *row, *links);
-        let err = joined(&rt, &[EXPECTED, *said]);
-        answers(&rt, &[script.as_str()], *report, err.as_str(), 1);
+    for (row, failed, report, sent, again) in &HALTS {
+        let (links, words) = links_and_words(&rt, *failed, *sent, *again);
+        let script = script_of(&rt, *row, links.as_str());
+        answers(&rt, &[script.as_str()], *report, words.as_str(), 1);
     }
 }
 
 // A flight makes the plan of the first run, and says the same.
 #[test]
 fn a_halted_flight_says_what_was_sent(rt: HostRuntime) {
-    let sources = joined(&rt, FIRST_RUN.sources);
-    let out = joined(&rt, &[FIRST_RUN.plan, HALTED_IN_2]);
-    let err = joined(&rt, &[EXPECTED, HALTS[3].3]);
-    let script = [
-        FLY,
-        FIRST_RUN.setup,
-        "=== F\n",
-        FIRST_RUN.forecast,
-        "=== X\n",
-        sources.as_str(),
-        "=== L\n",
-        HALTS[3].1,
-    ];
-    answers(&rt, &script, out.as_str(), err.as_str(), 1);
+    let (row, failed, report, sent, again) = &HALTS[3];
+    let (links, words) = links_and_words(&rt, *failed, *sent, *again);
+    let script = flight_of(&rt, FLY, *row, links.as_str());
+    let out = joined(&rt, &[row.plan, *report]);
+    answers(&rt, &[script.as_str()], out.as_str(), words.as_str(), 1);
 }
 
-// The texts of runs in which one of two links fails, or both, whichever takes the first order: the links, and what
-// standard error may say after its first line.
-static EITHER: [(&Run, &str, &[&str]); 4] = wanted! {
+// Runs in which one of two links fails, or both, whichever takes the first order: the links, and what standard error
+// may say between its first and its last line.
+static EITHER: [(&Run, &str, &[&str], &str); 4] = wanted! {
     // Of two links the first takes the only order.
-    &FIRST_RUN, "links 2\nfail 1 2\nfail 2 1" => &["\
+    &FIRST_RUN, "links 2\nfail 1 2\nfail 2 1", &["\
         note: link 1 failed at its send 2, a packet of SCI\n\
-        note: 1 packet of SCI was sent in step 1 and is still stored; it would be sent again\n\
-        hint: plan again from step 1; the start of each store is that of the setup\n"];
-    &BOTH_IN_TURN, "links 2\nfail 1 1\nfail 2 1" => &[
+        note: 1 packet of SCI was sent in step 1 and is still stored; it would be sent again\n"] => FROM_1;
+    &BOTH_IN_TURN, "links 2\nfail 1 1\nfail 2 1", &[
         "\
         note: link 1 failed at its send 1, a packet of A\n\
         note: link 2 failed at its send 1, a packet of B\n\
-        note: no packet was sent in step 1\n\
-        hint: plan again from step 1; the start of each store is that of the setup\n",
+        note: no packet was sent in step 1\n",
         "\
         note: link 1 failed at its send 1, a packet of B\n\
         note: link 2 failed at its send 1, a packet of A\n\
-        note: no packet was sent in step 1\n\
-        hint: plan again from step 1; the start of each store is that of the setup\n",
-    ];
-    &BOTH_IN_TURN, "links 2\nfail 1 2\nfail 2 2" => &[
+        note: no packet was sent in step 1\n",
+    ] => FROM_1;
+    &BOTH_IN_TURN, "links 2\nfail 1 2\nfail 2 2", &[
         "\
         note: link 1 failed at its send 2, a packet of A\n\
         note: link 2 failed at its send 2, a packet of B\n\
-        note: 2 packets were sent in step 1 and are still stored; they would be sent again\n\
-        hint: plan again from step 1; the start of each store is that of the setup\n",
+        note: 2 packets were sent in step 1 and are still stored; they would be sent again\n",
         "\
         note: link 1 failed at its send 2, a packet of B\n\
         note: link 2 failed at its send 2, a packet of A\n\
-        note: 2 packets were sent in step 1 and are still stored; they would be sent again\n\
-        hint: plan again from step 1; the start of each store is that of the setup\n",
-    ];
+        note: 2 packets were sent in step 1 and are still stored; they would be sent again\n",
+    ] => FROM_1;
     // The first link fails with its order, or the second one carries out both.
-    &BOTH_IN_TURN, "links 2\nfail 1 1\nfail 2 3" => &[
-        "\
-        note: link 1 failed at its send 1, a packet of A\n\
-        note: 2 packets of B were sent in step 1 and deleted\n\
-        hint: plan again from step 1; the start of each store is that of the setup, less what was deleted in step 1\n",
-        "\
-        note: link 1 failed at its send 1, a packet of B\n\
-        note: 2 packets of A were sent in step 1 and deleted\n\
-        hint: plan again from step 1; the start of each store is that of the setup, less what was deleted in step 1\n",
-        "\
-        note: link 2 failed at its send 3, a packet of B\n\
-        note: 2 packets of A were sent in step 1 and deleted\n\
-        hint: plan again from step 1; the start of each store is that of the setup, less what was deleted in step 1\n",
-    ];
+    &BOTH_IN_TURN, "links 2\nfail 1 1\nfail 2 3", &[
+        "note: link 1 failed at its send 1, a packet of A\nnote: 2 packets of B were sent in step 1 and deleted\n",
+        "note: link 1 failed at its send 1, a packet of B\nnote: 2 packets of A were sent in step 1 and deleted\n",
+        "note: link 2 failed at its send 3, a packet of B\nnote: 2 packets of A were sent in step 1 and deleted\n",
+    ] => LESS_IN_1;
 };
 
-// A run prints this report, and standard error says one of these after its first line.
-fn says_one_of(rt: &impl Host, row: &Run, links: &str, said: &[&str]) {
+// A run prints this report, and standard error says one of these between its first line and this last one.
+fn says_one_of(rt: &impl Host, row: &Run, links: &str, said: &[&str], last: &str) {
     let script = script_of(rt, row, links);
     let answer = told(rt, &[script.as_str()]);
-    let rest = answer.err.as_str().strip_prefix(EXPECTED);
-    let is_said = said.iter().any(|text| rest == Some(*text));
+    let mut is_said = false;
+    for text in said {
+        let words = joined(rt, &[EXPECTED, *text, last]);
+        is_said |= answer.err.as_str() == words.as_str();
+    }
     holds(rt, links, &answer, is_said && answer.has(HALTED_IN_1, 1));
 }
 
 #[test]
 fn each_link_that_failed_is_told(rt: HostRuntime) {
-    for (row, links, said) in &EITHER {
-        says_one_of(&rt, *row, *links, *said);
+    for (row, links, said, last) in &EITHER {
+        says_one_of(&rt, *row, *links, *said, *last);
     }
 }
 
