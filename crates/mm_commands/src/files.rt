@@ -6,10 +6,11 @@ ghost use Rattle.std.specs.Io.KnownBytes.{ReadConsumes};
 ghost use Rattle.std.specs.IoError.{error_kind};
 ghost use Rattle.mm_commands.specs.Contents.{Content, IsStored, MayBe, MayBeUnread, Notes, Reading, reading};
 ghost use Rattle.mm_commands.specs.Inputs.{failed_after, is_interrupted};
-ghost use Rattle.mm_commands.specs.ReadFaults.{is_unread};
+ghost use Rattle.mm_commands.specs.ReadFaults.{is_unread, refusal_of};
 ghost use Rattle.mm_commands.specs.declared.files.ReadFault.TheVariants.{NoMemory};
 ghost use Rattle.mm_commands.specs.declared.files.TheConstants.{MAX_READS};
 
+use mm_base::{Refusal, Refused, refusals};
 use std::alloc::Global;
 use std::fmt;
 use std::io::{self, ErrorKind, Read};
@@ -58,9 +59,11 @@ impl fmt::Display for Obstacle {
 }
 
 /// Why the text of a file is not there.
-#[derive(Clone, Copy, Debug)]
+#[derive(Clone, Copy, Debug, PartialEq, Eq, Error)]
 pub enum ReadFault {
+    #[error("{}", Refusal::NoMemory)]
     NoMemory,
+    #[error("{}", Refusal::NotRead)]
     NotRead { obstacle: Obstacle },
 }
 
@@ -79,12 +82,20 @@ impl ReadFault {
     }
 }
 
+impl Refused for ReadFault {
+    fn refusal(self) -> Refusal {
+        refusals!(self; NoMemory; with NotRead)
+    }
+
+    ghost refusal_of = { refusal_of };
+}
+
 const TOO_LONG: ReadFault = ReadFault::NotRead {
     obstacle: Obstacle::TooLong,
 };
 
 /// Why a text was not stored in a file.
-#[derive(Clone, Copy, Debug, Error)]
+#[derive(Clone, Copy, Debug, PartialEq, Eq, Error)]
 pub enum StoreFault {
     #[error("there is no memory for it")]
     NoMemory,

@@ -13,7 +13,7 @@ pub enum Status {
 }
 
 /// Where a write failed.
-#[derive(Clone, Copy)]
+#[derive(Clone, Copy, Debug, PartialEq, Eq)]
 pub enum Unwritten {
     /// The one for what answers a task, and for why it is refused: standard output.
     Output,

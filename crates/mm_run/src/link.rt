@@ -38,7 +38,7 @@ struct Note {
 }
 
 /// A send that failed.
-#[derive(Clone, Copy, PartialEq, Eq)]
+#[derive(Clone, Copy, Debug, PartialEq, Eq)]
 pub struct FailedSend {
     /// The number of the send, counted from 1 over all sends of the link. Sends that fail count too.
     pub send: u128,
@@ -170,7 +170,7 @@ impl Link for ScriptedLink {
 }
 
 /// A send that fails: what a line says.
-#[derive(Clone, Copy)]
+#[derive(Clone, Copy, Debug, PartialEq, Eq)]
 pub struct Failing {
     /// The number of the link, counted from 1.
     pub link: u8,

@@ -15,7 +15,7 @@ use mm_report::{Cause, Report};
 use std::alloc::Global;
 
 /// Whether a run was carried out whole and its report printed.
-#[derive(Clone, Copy)]
+#[derive(Clone, Copy, Debug, PartialEq, Eq)]
 pub enum Outcome {
     CarriedOut,
     /// The run was carried out whole, and there is no memory for its report.
@@ -25,7 +25,7 @@ pub enum Outcome {
 }
 
 /// What a run was given: what people are told of it.
-#[derive(Clone, Copy)]
+#[derive(Clone, Copy, Debug, PartialEq, Eq)]
 pub struct Given {
     /// How many sources there are.
     pub sources: usize,
@@ -40,7 +40,7 @@ pub struct Given {
 }
 
 /// What a run prints: three texts, one after the other. Beside them, how it ended, what it was given, and what it left.
-#[derive(Drop)]
+#[derive(Debug, Drop)]
 pub struct Printed {
     /// The plan text, where the plan was made here.
     pub sheet: Vec<u8>,

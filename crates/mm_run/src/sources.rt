@@ -18,7 +18,7 @@ use mm_report::MAX_SOURCES;
 use std::alloc::Global;
 
 /// A packet that a source gives in a step: what a line says. Step 0 is before the run.
-#[derive(Drop)]
+#[derive(Debug, Drop)]
 pub struct SourceLine {
     /// The number of the source, counted from 1.
     pub source: u8,

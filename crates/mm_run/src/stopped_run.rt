@@ -8,6 +8,7 @@ use mm_carry::Halted;
 use mm_dump::Link;
 use mm_memory::Memory;
 use mm_report::Report;
+use std::fmt;
 
 /// What a run leaves that did not begin or was halted: its memory, the cause, the report of the completed steps, what
 /// was spent of the window of the step in which it was halted, its sources and its links.
@@ -15,6 +16,13 @@ use mm_report::Report;
 pub struct StoppedRun {
     pub memory: Memory,
     pub halted: Halted<ScriptedSource, ScriptedLink>,
+}
+
+impl fmt::Debug for StoppedRun {
+    fn fmt<W: fmt::Write>(&self, f: &mut fmt::Formatter<W>) -> fmt::Result {
+        let (cause, spent) = (self.halted.cause, self.halted.spent);
+        write!(f, "StoppedRun {{ cause: {cause:?}, spent: {spent} }}")
+    }
 }
 
 // How many packets of the store at this place were dumped in a completed step.
