@@ -1,6 +1,6 @@
 //! The table of refusals: the words of each, in the order of their numbers.
 
-// For each refusal what was expected, and what to do. The macro `$write` makes code of the rows and of what it is given.
+// For each refusal what was expected, and what to do. The macro `$write` makes code of the rows and what it is given.
 macro_rules! refusals {
     ($write:ident($($given:expr),*)) => {
         $write! {
