@@ -1,9 +1,11 @@
 -- Words that are names of files.
 use Rattle.std.proofs.Common.{◌≡◌, ◌∙◌, ◌||◌, ℕ, Bool, cond, true, false, true≢false, refl, sym, ap, ap₂, subst, drop}
-use Rattle.std.proofs.Common.{List, [], ◌∷◌, codes, nat_eq}
-use Rattle.std.specs.List.{All, list_any, starts_with}
+use Rattle.std.proofs.Common.{List, [], ◌∷◌, Some, codes, length, nat_eq}
+use Rattle.std.specs.List.{All, find, list_any, starts_with}
+use Rattle.std.specs.Str.{bytes_eq}
 use Rattle.std.proofs.lemmas.List.Elements.{All-cons, All-head, All-tail}
 use Rattle.mm_command_line.specs.Lines.{IsCommandLine, IsFileName, IsTaskLine, before_dashes, command_words}
+use Rattle.mm_command_line.specs.Commands.{Entry, commands}
 use Rattle.mm_command_line.specs.Lines.{flight_spelling, is_dashes, parts_of, plan_names, without_dashes}
 use Rattle.mm_command_line.specs.declared.task.FlightPlan.{FlightPlan}
 use Rattle.mm_command_line.specs.declared.task.FlightPlan.TheVariants.{Given, Made}
@@ -38,37 +40,66 @@ names_undashed (word ∷ rest) all =
     ap₂ (λ b c. b || c) (is_value word (All-head IsFileName word rest all)).dashes
     (names_undashed rest (All-tail IsFileName word rest all))
 
--- ---- the words of a task
+-- ---- the row of a task's command
 
+-- the row of a word
+abbrev pub by : Text → Entry → Bool
+by word entry = bytes_eq entry.0 word
+
+-- the words are those of a row: its command, which is no flag, and a name for each of its files
+pub record IsOfRow (words : List Text) : Type 0 where
+  pub word : Text
+  pub entry : Entry
+  pub files : List Text
+  pub is : entry.0 ∷ files ≡ words
+  pub known : find (by word) commands ≡ Some entry
+  pub same : length files ≡ length entry.1
+  pub plain : starts_with nat_eq entry.0 (codes "-") ≡ false
+
+-- a line of the row of this word
+of_row : (word : Text) (files : List Text) (entry : Entry) → find (by word) commands ≡ Some entry
+    → length files ≡ length entry.1 → starts_with nat_eq entry.0 (codes "-") ≡ false → IsOfRow (entry.0 ∷ files)
+of_row word files entry known same plain =
+    record { word = word; entry = entry; files = files; is = refl; known = known; same = same; plain = plain }
+
+-- the line of a run
+flight_row : (setup forecast sources links : Text) (plan : FlightPlan)
+    → IsOfRow (flight_spelling setup forecast sources links plan)
+flight_row setup forecast sources links (Made in_order) =
+    of_row (codes "fly") (setup ∷ forecast ∷ sources ∷ links ∷ []) _ refl refl refl
+flight_row setup forecast sources links (Given plan) =
+    of_row (codes "run") (setup ∷ forecast ∷ plan.now ∷ sources ∷ links ∷ []) _ refl refl refl
+
+-- the line of a task
+row_of : (task : Task) → IsOfRow (command_words task)
+row_of (Plan setup forecast in_order output) = of_row (codes "plan") (setup.now ∷ forecast.now ∷ []) _ refl refl refl
+row_of (Check files) = of_row (codes "check") (plan_names files) _ refl refl refl
+row_of (Chart files worth output) = of_row (codes "chart") (plan_names files) _ refl refl refl
+row_of (Table files output) = of_row (codes "table") (plan_names files) _ refl refl refl
+row_of (Sensitivity setup forecast) = of_row (codes "sensitivity") (setup.now ∷ forecast.now ∷ []) _ refl refl refl
+row_of (Fly f) = flight_row f.setup.now f.forecast.now f.sources.now f.links.now f.plan
+row_of (Ask setup requests) = of_row (codes "ask") (setup.now ∷ requests.now ∷ []) _ refl refl refl
+row_of (Read packets) = of_row (codes "read") (packets.now ∷ []) _ refl refl refl
+
+-- the row of the line of a command
+pub line_row : (words : List Text) → IsCommandLine words → IsOfRow words
+line_row words line = subst IsOfRow line.spelled (row_of line.task)
+
+-- no file of it is spelled like a flag
+pub row_names : (words : List Text) → IsCommandLine words → (row : IsOfRow words) → All IsFileName row.files
+row_names words line row = subst (λ ws. All IsFileName (drop 1 ws)) (sym row.is) line.names
+
+-- where no name is spelled like a flag, no word of the line is
 named : (command : Text) (names : List Text) → starts_with nat_eq command (codes "-") ≡ false
     → All IsFileName names → All IsFileName (command ∷ names)
 named command names plain all =
     All-cons IsFileName command names (λ dashed. absurd (true≢false (sym dashed ∙ plain))) all
 
-named_flight : (setup forecast sources links : Text) (plan : FlightPlan)
-    → All IsFileName (drop 1 (flight_spelling setup forecast sources links plan))
-    → All IsFileName (flight_spelling setup forecast sources links plan)
-named_flight setup forecast sources links (Made in_order) names =
-    named (codes "fly") (setup ∷ forecast ∷ sources ∷ links ∷ []) refl names
-named_flight setup forecast sources links (Given plan) names =
-    named (codes "run") (setup ∷ forecast ∷ plan.now ∷ sources ∷ links ∷ []) refl names
-
--- where no file is spelled like a flag, no word of a command is
-no_flags : (task : Task) → All IsFileName (drop 1 (command_words task)) → All IsFileName (command_words task)
-no_flags (Plan setup forecast in_order output) names =
-    named (codes "plan") (setup.now ∷ forecast.now ∷ []) refl names
-no_flags (Check files) names = named (codes "check") (plan_names files) refl names
-no_flags (Chart files worth output) names = named (codes "chart") (plan_names files) refl names
-no_flags (Table files output) names = named (codes "table") (plan_names files) refl names
-no_flags (Sensitivity setup forecast) names = named (codes "sensitivity") (setup.now ∷ forecast.now ∷ []) refl names
-no_flags (Fly f) names = named_flight f.setup.now f.forecast.now f.sources.now f.links.now f.plan names
-no_flags (Ask setup requests) names = named (codes "ask") (setup.now ∷ requests.now ∷ []) refl names
-no_flags (Read packets) names = named (codes "read") (packets.now ∷ []) refl names
-
+-- no word of the line of a command is spelled like a flag
 pub line_names : (words : List Text) → IsCommandLine words → All IsFileName words
 line_names words line =
-    subst (All IsFileName) line.spelled
-    (no_flags line.task (subst (λ ws. All IsFileName (drop 1 ws)) (sym line.spelled) line.names))
+    let row = line_row words line in
+    subst (All IsFileName) row.is (named row.entry.0 row.files row.plain (row_names words line row))
 
 -- and none is `--`
 pub line_whole : (words : List Text) → IsCommandLine words → without_dashes words ≡ words

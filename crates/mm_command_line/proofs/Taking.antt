@@ -1,10 +1,9 @@
 -- Words that spell a command are taken, and are what is found.
 use Rattle.std.proofs.Common.{◌≡◌, ◌∙◌, ◌++◌, ◌&&◌, ℕ, zero, suc, Bool, cond, true, false, true≢false, refl, sym, ap}
-use Rattle.std.proofs.Common.{ap₂, subst, arith, drop, length, map, List, [], ◌∷◌, Option, Some, is_some, codes}
+use Rattle.std.proofs.Common.{ap₂, subst, arith, drop, length, map, List, [], ◌∷◌, Option, Some, is_some}
 use Rattle.std.specs.List.{All, find, fold, list_all}
 use Rattle.std.specs.Option.{option_map, option_map_or, unwrap_or}
 use Rattle.std.specs.Prelude.{slice_get}
-use Rattle.std.specs.Str.{bytes_eq}
 use Rattle.clap.specs.Walk.{Names, Row, Rule, Text, Walk, answers_to, finished, nothing_held, walk, walk_from, walked}
 use Rattle.clap.specs.Simple.{App, HasMatchesOf, Shape, built, built_leaf, entered, inherited, is_simple, label_of}
 use Rattle.clap.specs.Simple.{names_of, rows_at, subcommand_of, subcommand_rows_of}
@@ -14,11 +13,8 @@ use Rattle.clap.specs.Takes.{walk_passes}
 use Rattle.clap.proofs.OnLiterals.{clap_on_literals}
 use Rattle.clap.proofs.WalkLemmas.{walk_stopped}
 use Rattle.mm_command_line.specs.Commands.{Entry, app_by, commands, line_found, tool}
-use Rattle.mm_command_line.specs.Lines.{IsCommandLine, IsFileName, command_words, flight_spelling, plan_names}
-use Rattle.mm_command_line.specs.declared.task.FlightPlan.{FlightPlan}
-use Rattle.mm_command_line.specs.declared.task.FlightPlan.TheVariants.{Given, Made}
-use Rattle.mm_command_line.specs.declared.task.Task.{Task}
-use Rattle.mm_command_line.specs.declared.task.Task.TheVariants.{Plan, Check, Chart, Table, Sensitivity, Fly, Ask, Read}
+use Rattle.mm_command_line.specs.Lines.{IsCommandLine, IsFileName}
+use Rattle.mm_command_line.proofs.Names.{by, line_row, row_names}
 use Rattle.mm_command_line.proofs.Walking.{end_of, level_passing, level_places, rows_placed}
 
 -- the program as the parser builds it
@@ -112,10 +108,6 @@ unfolding walk_passes walked
 stopped_passes word seen [] = refl
 stopped_passes word seen (x ∷ xs) = stopped_passes word (seen ++ x ∷ []) xs
 
--- the row of a word
-abbrev by : Text → Entry → Bool
-by word entry = bytes_eq entry.0 word
-
 module _ (test : Entry → Bool) (entry : Entry) (files : List Text) (known : find test commands ≡ Some entry) where
   stops : walked rules words_known start entry.0 ≡ stopped_at entry.0 []
   stops = agree _ _ test entry stops_each known
@@ -177,39 +169,15 @@ pub record IsRead (words : List Text) : Type 0 where
   pub taken : takes tool words ≡ true
   pub found : line_found (subcommand_of tool words) ≡ Some words
 
--- a line of the row of this word
-row_read : (word : Text) (files : List Text) → All IsFileName files → (entry : Entry)
-    → find (by word) commands ≡ Some entry → length files ≡ length entry.1 → IsRead (entry.0 ∷ files)
-row_read word files names entry known same = record {
-  taken = row_takes (by word) entry files known names same;
-  found = row_finds (by word) entry files known names same;
-}
-
-read_flight : (setup forecast sources links : Text) (plan : FlightPlan)
-    → All IsFileName (drop 1 (flight_spelling setup forecast sources links plan))
-    → IsRead (flight_spelling setup forecast sources links plan)
-read_flight setup forecast sources links (Made in_order) names =
-    row_read (codes "fly") (setup ∷ forecast ∷ sources ∷ links ∷ []) names _ refl refl
-read_flight setup forecast sources links (Given plan) names =
-    row_read (codes "run") (setup ∷ forecast ∷ plan.now ∷ sources ∷ links ∷ []) names _ refl refl
-
-read_task : (task : Task) → All IsFileName (drop 1 (command_words task)) → IsRead (command_words task)
-read_task (Plan setup forecast in_order output) names =
-    row_read (codes "plan") (setup.now ∷ forecast.now ∷ []) names _ refl refl
-read_task (Check files) names = row_read (codes "check") (plan_names files) names _ refl refl
-read_task (Chart files worth output) names = row_read (codes "chart") (plan_names files) names _ refl refl
-read_task (Table files output) names = row_read (codes "table") (plan_names files) names _ refl refl
-read_task (Sensitivity setup forecast) names =
-    row_read (codes "sensitivity") (setup.now ∷ forecast.now ∷ []) names _ refl refl
-read_task (Fly files) names =
-    read_flight files.setup.now files.forecast.now files.sources.now files.links.now files.plan names
-read_task (Ask setup requests) names = row_read (codes "ask") (setup.now ∷ requests.now ∷ []) names _ refl refl
-read_task (Read packets) names = row_read (codes "read") (packets.now ∷ []) names _ refl refl
-
+-- the line of a command is of a row
 line_read : (words : List Text) → IsCommandLine words → IsRead words
 line_read words line =
-    subst IsRead line.spelled
-    (read_task line.task (subst (λ ws. All IsFileName (drop 1 ws)) (sym line.spelled) line.names))
+    let row = line_row words line in
+    let names = row_names words line row in
+    subst IsRead row.is (record {
+      taken = row_takes (by row.word) row.entry row.files row.known names row.same;
+      found = row_finds (by row.word) row.entry row.files row.known names row.same;
+    })
 
 -- the program takes the words of a command
 pub passes : (app : App) (words : List Text) → app ≡ tool → IsCommandLine words → takes app words ≡ true

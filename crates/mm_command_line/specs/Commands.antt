@@ -52,6 +52,7 @@ bare = record {
     no_binary_name = true;
     subcommand_required = true;
     arg_required_else_help = true;
+    has_version = true;
   };
   subs = [];
 }

@@ -5,6 +5,7 @@ ghost use Rattle.clap.specs.Words.{app_of, rule_of};
 ghost use Rattle.mm_command_line.specs.Commands.{IsCommand, bare, file_rule, entry_of, tool, with_command};
 
 use crate::commands::COMMANDS;
+use crate::version::VERSION;
 use clap::{Arg, Command};
 use std::alloc::{AllocError, Global};
 
@@ -102,6 +103,7 @@ fn bare_command<'a>(alloc: Global) -> Result<Command<'a>, AllocError>
     let command = Command::new(alloc, "mm_tool")
         .bin_name("mm_tool")?
         .about(ABOUT)
+        .version(VERSION)
         .after_help(TOOL_HELP)
         .no_binary_name(true)
         .subcommand_required(true)

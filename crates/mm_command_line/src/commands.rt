@@ -3,111 +3,49 @@
 use crate::command::{File, Form};
 use crate::{chart, flight, read, sensitivity, table};
 
-const SETUP: File = File {
-    name: "SETUP",
-    help: "The packet stores, routes and limits of channels, in TOML",
-};
+// A file, and what help says that it holds.
+macro_rules! file {
+    ($name:literal, $help:literal) => { File { name: $name, help: $help } };
+}
 
-const FORECAST: File = File {
-    name: "FORECAST",
-    help: "The windows and arrivals of each step, in CSV",
-};
+const SETUP: File = file! { "SETUP", "The packet stores, routes and limits of channels, in TOML" };
 
-const PLAN: File = File {
-    name: "PLAN",
-    help: "The dump plan with its loss and its cut",
-};
+const FORECAST: File = file! { "FORECAST", "The windows and arrivals of each step, in CSV" };
 
-const FLOWN_PLAN: File = File {
-    name: "PLAN",
-    help: "The dump plan; its loss and its cut are not judged",
-};
+const PLAN: File = file! { "PLAN", "The dump plan with its loss and its cut" };
 
-const SOURCES: File = File {
-    name: "SOURCES",
-    help: "The packets: lines `source step HEX`",
-};
+const FLOWN_PLAN: File = file! { "PLAN", "The dump plan; its loss and its cut are not judged" };
 
-const LINKS: File = File {
-    name: "LINKS",
-    help: "The links: `links N`, then lines `fail LINK SEND`",
-};
+const SOURCES: File = file! { "SOURCES", "The packets: lines `source step HEX`" };
 
-const REQUESTS: File = File {
-    name: "REQUESTS",
-    help: "The requests: a telecommand per line, in hexadecimal digits",
-};
+const LINKS: File = file! { "LINKS", "The links: `links N`, then lines `fail LINK SEND`" };
 
-const PACKETS: File = File {
-    name: "PACKETS",
-    help: "The packets: one per line, in hexadecimal digits",
-};
+const REQUESTS: File =
+    file! { "REQUESTS", "The requests: a telecommand per line, in hexadecimal digits" };
 
-pub(crate) static COMMANDS: [Form; 9] = [
-    Form {
-        word: "plan",
-        usage: "mm_tool plan [--in-order] <SETUP> <FORECAST> [--output <FILE>]",
-        about: PLAN_ABOUT,
-        help: PLAN_HELP,
-        files: &[SETUP, FORECAST],
-    },
-    Form {
-        word: "check",
-        usage: "mm_tool check <SETUP> <FORECAST> <PLAN>",
-        about: CHECK_ABOUT,
-        help: CHECK_HELP,
-        files: &[SETUP, FORECAST, PLAN],
-    },
-    Form {
-        word: "chart",
-        usage: "mm_tool chart [--worth] <SETUP> <FORECAST> <PLAN> [--output <FILE>]",
-        about: chart::ABOUT,
-        help: chart::HELP,
-        files: &[SETUP, FORECAST, PLAN],
-    },
-    Form {
-        word: "table",
-        usage: "mm_tool table <SETUP> <FORECAST> <PLAN> [--output <FILE>]",
-        about: table::ABOUT,
-        help: table::HELP,
-        files: &[SETUP, FORECAST, PLAN],
-    },
-    Form {
-        word: "sensitivity",
-        usage: "mm_tool sensitivity <SETUP> <FORECAST>",
-        about: sensitivity::ABOUT,
-        help: sensitivity::HELP,
-        files: &[SETUP, FORECAST],
-    },
-    Form {
-        word: "run",
-        usage: "mm_tool run <SETUP> <FORECAST> <PLAN> <SOURCES> <LINKS>",
-        about: flight::RUN_ABOUT,
-        help: flight::RUN_HELP,
-        files: &[SETUP, FORECAST, FLOWN_PLAN, SOURCES, LINKS],
-    },
-    Form {
-        word: "fly",
-        usage: "mm_tool fly [--in-order] <SETUP> <FORECAST> <SOURCES> <LINKS>",
-        about: flight::FLY_ABOUT,
-        help: flight::FLY_HELP,
-        files: &[SETUP, FORECAST, SOURCES, LINKS],
-    },
-    Form {
-        word: "ask",
-        usage: "mm_tool ask <SETUP> <REQUESTS>",
-        about: ASK_ABOUT,
-        help: ASK_HELP,
-        files: &[SETUP, REQUESTS],
-    },
-    Form {
-        word: "read",
-        usage: "mm_tool read <PACKETS>",
-        about: read::ABOUT,
-        help: read::HELP,
-        files: &[PACKETS],
-    },
-];
+const PACKETS: File = file! { "PACKETS", "The packets: one per line, in hexadecimal digits" };
+
+// The commands: the word of each, its files, the words of a whole line after the program's name, and its help.
+macro_rules! commands {
+    ($($word:literal $files:tt: $usage:literal, $about:path, $help:path;)+) => {
+        [$(Form { word: $word, usage: concat!("mm_tool ", $usage), about: $about, help: $help, files: &$files }),+]
+    };
+}
+
+pub(crate) static COMMANDS: [Form; 9] = commands! {
+    "plan" [SETUP, FORECAST]: "plan [--in-order] <SETUP> <FORECAST> [--output <FILE>]", PLAN_ABOUT, PLAN_HELP;
+    "check" [SETUP, FORECAST, PLAN]: "check <SETUP> <FORECAST> <PLAN>", CHECK_ABOUT, CHECK_HELP;
+    "chart" [SETUP, FORECAST, PLAN]: "chart [--worth] <SETUP> <FORECAST> <PLAN> [--output <FILE>]",
+        chart::ABOUT, chart::HELP;
+    "table" [SETUP, FORECAST, PLAN]: "table <SETUP> <FORECAST> <PLAN> [--output <FILE>]", table::ABOUT, table::HELP;
+    "sensitivity" [SETUP, FORECAST]: "sensitivity <SETUP> <FORECAST>", sensitivity::ABOUT, sensitivity::HELP;
+    "run" [SETUP, FORECAST, FLOWN_PLAN, SOURCES, LINKS]: "run <SETUP> <FORECAST> <PLAN> <SOURCES> <LINKS>",
+        flight::RUN_ABOUT, flight::RUN_HELP;
+    "fly" [SETUP, FORECAST, SOURCES, LINKS]: "fly [--in-order] <SETUP> <FORECAST> <SOURCES> <LINKS>",
+        flight::FLY_ABOUT, flight::FLY_HELP;
+    "ask" [SETUP, REQUESTS]: "ask <SETUP> <REQUESTS>", ASK_ABOUT, ASK_HELP;
+    "read" [PACKETS]: "read <PACKETS>", read::ABOUT, read::HELP;
+};
 
 const PLAN_ABOUT: &str = "Plans the dumps so that the fewest blocks are lost";
 

@@ -9,32 +9,17 @@ use std::fmt;
 const NEAR: usize = 3;
 
 // A flag, and what is said of it where it is meant.
-struct Flag {
-    word: &'static str,
-    place: &'static str,
-}
+type Flag = (&'static str, &'static str);
 
 static FLAGS: [Flag; 5] = [
-    Flag {
-        word: IN_ORDER,
-        place: "goes with plan and fly",
-    },
-    Flag {
-        word: WORTH,
-        place: "goes with chart",
-    },
-    Flag {
-        word: OUTPUT,
-        place: "goes with plan, chart and table, and has the name of a file after it",
-    },
-    Flag {
-        word: "--help",
-        place: "stands alone or after a command",
-    },
-    Flag {
-        word: "--version",
-        place: "stands alone",
-    },
+    (IN_ORDER, "goes with plan and fly"),
+    (WORTH, "goes with chart"),
+    (
+        OUTPUT,
+        "goes with plan, chart and table, and has the name of a file after it",
+    ),
+    ("--help", "stands alone or after a command"),
+    ("--version", "stands alone"),
 ];
 
 /// What is wrong with a flag. It is shown in one line.
@@ -71,31 +56,23 @@ impl fmt::Display for FlagFault<'_> {
     fn fmt<W: fmt::Write>(&self, f: &mut fmt::Formatter<W>) -> fmt::Result {
         match *self {
             FlagFault::Early(flag) => write!(f, "{flag} stands after the command"),
-            FlagFault::Late(flag) => write!(
-                f,
-                "{flag} stands before --, after which each word is the name of a file"
-            ),
-            FlagFault::OfOthers { flag, commands } => write!(
-                f,
-                "{flag} goes with {commands} alone"
-            ),
+            FlagFault::Late(flag) =>
+                write! { f, "{flag} stands before --, after which each word is the name of a file" },
+            FlagFault::OfOthers { flag, commands } =>
+                write! { f, "{flag} goes with {commands} alone" },
             FlagFault::HasValue(flag) => write!(f, "{flag} takes no value; give it alone"),
-            FlagFault::Nameless => write!(
-                f,
-                "the name of a file is missing: write --output FILE, or --output=FILE; if the name begins with -, \
+            FlagFault::Nameless => write! {
+                f, "the name of a file is missing: write --output FILE, or --output=FILE; if the name begins with -, \
                     write ./ before it"
-            ),
+            },
             FlagFault::Twice(flag) => write!(f, "{flag} is given twice; give it once"),
             FlagFault::NotAlone(flag) => write!(f, "{flag} stands alone"),
-            FlagFault::Unknown { word, near, place } => write!(
-                f,
-                "there is no flag '{word}'; did you mean {near}, which {place}?"
-            ),
-            FlagFault::NoSuchFlag(word) => write!(
-                f,
-                "there is no flag '{word}', and none is spelled alike; there are --in-order of plan and fly, --worth of chart, \
-                    --output FILE of plan, chart and table, and --help"
-            ),
+            FlagFault::Unknown { word, near, place } =>
+                write! { f, "there is no flag '{word}'; did you mean {near}, which {place}?" },
+            FlagFault::NoSuchFlag(word) => write! {
+                f, "there is no flag '{word}', and none is spelled alike; there are --in-order of plan and fly, \
+                    --worth of chart, --output FILE of plan, chart and table, and --help"
+            },
         }
     }
 }
@@ -171,8 +148,7 @@ fn name_in(word: &str) -> &str {
 fn unknown(word: &str) -> FlagFault<'_> {
     let name = name_in(word).as_bytes();
     let is_short = word.starts_with("-o");
-    for flag in &FLAGS {
-        let (near, place) = (flag.word, flag.place);
+    for (near, place) in FLAGS {
         if (is_short && near == OUTPUT) || is_near(name, near.as_bytes()) {
             return FlagFault::Unknown { word, near, place };
         }

@@ -2,6 +2,7 @@
 ghost use Rattle.std.specs.Prelude.{◌≡◌, slice_get};
 ghost use Rattle.mm_told.specs.Codes.{code_of_name, code_of_place};
 
+use crate::table::refusals;
 use mm_base::Refusal;
 use mm_problem::Name;
 
@@ -22,98 +23,27 @@ pub enum Place {
     Number,
 }
 
+// The variants of these names.
+macro_rules! variants {
+    ($of:ident: $($variant:ident),+) => { [$($of::$variant),+] };
+}
+
 /// The places by their codes.
-pub static PLACES: [Place; 6] = [
-    Place::Whole,
-    Place::Line,
-    Place::Row,
-    Place::Cell,
-    Place::Key,
-    Place::Number,
-];
+pub static PLACES: [Place; 6] = variants! { Place: Whole, Line, Row, Cell, Key, Number };
 
 /// The names by their codes.
-pub static NAMES: [Name; 20] = [
-    Name::Store,
-    Name::Route,
-    Name::Limit,
-    Name::Stores,
-    Name::Routes,
-    Name::Limits,
-    Name::Unknown,
-    Name::Repeated,
-    Name::Id,
-    Name::Size,
-    Name::Type,
-    Name::Channel,
-    Name::Start,
-    Name::Apid,
-    Name::Service,
-    Name::Subtype,
-    Name::Blocks,
-    Name::Steps,
-    Name::Window,
-    Name::Arrivals,
-];
+pub static NAMES: [Name; 20] = variants! {
+    Name: Store, Route, Limit, Stores, Routes, Limits, Unknown, Repeated, Id, Size, Type, Channel, Start, Apid, Service,
+    Subtype, Blocks, Steps, Window, Arrivals
+};
+
+// The refusals of the table, without their words.
+macro_rules! listed {
+    (() $($case:ident: $expected:literal, $advice:literal;)+) => { [$(Refusal::$case),+] };
+}
 
 /// The refusals by their numbers.
-pub static REFUSALS: [Refusal; 55] = [
-    Refusal::NoMemory,
-    Refusal::Short,
-    Refusal::Version,
-    Refusal::NoSecondaryHeader,
-    Refusal::PusVersion,
-    Refusal::Segmented,
-    Refusal::IdlePacket,
-    Refusal::HeaderCut,
-    Refusal::TooLong,
-    Refusal::HoldsMore,
-    Refusal::NoSuchRoute,
-    Refusal::TableFull,
-    Refusal::NotSt15,
-    Refusal::UnknownSubtype,
-    Refusal::CountMismatch,
-    Refusal::BadId,
-    Refusal::BadEnum,
-    Refusal::Disabled,
-    Refusal::Busy,
-    Refusal::NoRetrieval,
-    Refusal::BadRange,
-    Refusal::ClockEnd,
-    Refusal::WindowFull,
-    Refusal::NoSuchStore,
-    Refusal::Exists,
-    Refusal::TooManyStores,
-    Refusal::StorageOn,
-    Refusal::SetupText,
-    Refusal::SetupField,
-    Refusal::ForecastText,
-    Refusal::Header,
-    Refusal::Cell,
-    Refusal::StepNumber,
-    Refusal::Limit,
-    Refusal::PlanText,
-    Refusal::Shape,
-    Refusal::Unbounded,
-    Refusal::SameEnds,
-    Refusal::PlanShape,
-    Refusal::NotReady,
-    Refusal::SizeDiffers,
-    Refusal::OpeningDiffers,
-    Refusal::ClockTooLate,
-    Refusal::PlanDoesNotFit,
-    Refusal::Counts,
-    Refusal::NoMemoryInStep,
-    Refusal::LinkFailed,
-    Refusal::LogMismatch,
-    Refusal::BadSize,
-    Refusal::HexLine,
-    Refusal::NotRead,
-    Refusal::SourcesText,
-    Refusal::LinksText,
-    Refusal::ChannelDiffers,
-    Refusal::TooManyReports,
-];
+pub static REFUSALS: [Refusal; 55] = refusals!(listed());
 
 impl Place {
     /// The code of the place.

@@ -5,6 +5,27 @@ macro_rules! table {
     ($($($column:expr),+;)+) => { [$(($($column),+)),+] };
 }
 
+// These words, and others after them, with what is shown at the places of both.
+macro_rules! said {
+    ($words:expr $(, $others:expr)? $(; $($kind:ident($shown:expr)),+)?) => {
+        Sentence::new(&[$words $(, $others)?], &[$($(Shown::$kind($shown)),+)?])
+    };
+}
+
+// What is found, in these words.
+macro_rules! found {
+    ($($said:tt)+) => { Some(said!($($said)+)) };
+}
+
+// What is found there ends the function, if anything is.
+macro_rules! tell {
+    ($hint:expr) => {
+        if let Some(hint) = $hint {
+            return Some(hint);
+        }
+    };
+}
+
 mod cells;
 mod ends;
 mod excerpt;
@@ -98,7 +119,10 @@ pub fn found_for(
     reason: Reason,
     texts: Texts<'_>,
 ) -> Result<Option<Hint>, NoMemory> {
-    Ok(said_of(alloc, reason, texts)?.map(|sentence| Hint::Said(sentence)))
+    match said_of(alloc, reason, texts)? {
+        Some(sentence) => Ok(Some(Hint::Said(sentence))),
+        None => Ok(None),
+    }
 }
 
 /// The same, with no hint where memory runs out.

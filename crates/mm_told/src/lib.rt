@@ -10,6 +10,7 @@ mod reason;
 mod refused_at;
 mod room;
 mod spot;
+mod table;
 mod verdict;
 mod wording;
 mod words;

@@ -3,7 +3,7 @@ ghost use Rattle.std.specs.Prelude.{◌<◌, ◌+◌, length, IfSome};
 ghost use Rattle.std.specs.Iterator.{at_most};
 ghost use Rattle.std.specs.Option.{option_map_or};
 
-use crate::hints::lines::{Lines, after_mark};
+use crate::hints::lines::{Lines, after_mark, without_return};
 use mm_base::MAX_BLOCKS;
 use mm_base::numbers::Numeral;
 
@@ -26,14 +26,6 @@ pub(crate) enum Wanted {
     TooLarge,
     /// The first in whose line a quoted cell is left open.
     Open,
-}
-
-// The line without the CR at its end.
-fn without_return(line: &[u8]) -> &[u8] {
-    match line {
-        [front @ .., b'\r'] => front,
-        _ => line,
-    }
 }
 
 // Whether a quoted cell goes on in the next line.

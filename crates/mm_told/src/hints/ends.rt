@@ -48,28 +48,19 @@ impl EndsHint {
 
     pub(crate) fn sentence(self) -> Sentence {
         match self {
-            EndsHint::Sources { found } => {
-                Sentence::new("the file of sources has {} sources", &[Shown::Count(found)])
-            }
-            EndsHint::Links { found } => {
-                Sentence::new("the file of links says links {}", &[Shown::Count(found)])
-            }
-            EndsHint::NoRoute { store } => Sentence::new(
-                "no route of the setup leads to {}, so no packet can come to it",
-                &[Shown::Text(Excerpt::of_id(&store))],
-            ),
+            EndsHint::Sources { found } =>
+                said!("the file of sources has {} sources"; Count(found)),
+            EndsHint::Links { found } => said!("the file of links says links {}"; Count(found)),
+            EndsHint::NoRoute { store } =>
+                said!("no route of the setup leads to {}, so no packet can come to it"; Text(Excerpt::of_id(&store))),
             EndsHint::Opening {
                 store,
                 found,
                 start,
-            } => Sentence::new(
-                "{} packets of step 0 go to {}, and its start is {}",
-                &[
-                    Shown::Count(found),
-                    Shown::Text(Excerpt::of_id(&store)),
-                    Shown::Count(u64::from(start)),
-                ],
-            ),
+            } => said! {
+                "{} packets of step 0 go to {}, and its start is {}";
+                Count(found), Text(Excerpt::of_id(&store)), Count(u64::from(start))
+            },
         }
     }
 }
@@ -90,18 +81,15 @@ fn packets_before(text: &[u8], line: u64, source: u64, step: u64) -> u64 {
 
 /// What is found in this line of the sources.
 pub(crate) fn sources_hint(text: &[u8], line: u64) -> Option<Sentence> {
-    if let Some(hint) = form_hint(text, line).or(misplaced(text, TextKind::Sources)) {
-        return Some(hint);
-    }
+    tell!(form_hint(text, line));
+    tell!(misplaced(text, TextKind::Sources));
     if let Some((source, step, digits)) = parts_of(line_at(text, line)?) {
-        if let Some(hint) = source_hint(digits, line) {
-            return Some(hint);
-        }
+        tell!(source_hint(digits, line));
         if packets_before(text, line, source, step) >= MAX_PACKETS {
-            return Some(Sentence::new(
-                "before line {} are 65,535 packets of source {} in step {}, the most; another source can give the rest",
-                &[Shown::Count(line), Shown::Count(source), Shown::Count(step)],
-            ));
+            return found! {
+                "before line {} are 65,535 packets of source {} in step {}, the most; another source can give the rest";
+                Count(line), Count(source), Count(step)
+            };
         }
     }
     quoted(text, line)
@@ -124,22 +112,23 @@ fn no_link_hint(text: &[u8], line: u64) -> Option<Sentence> {
     if 1 <= link && link <= links {
         return None;
     }
-    Some(Sentence::new(
-        "line {} names link {}, and line 1 says links {}; links are numbered from 1 to that number",
-        &[Shown::Count(line), Shown::Count(link), Shown::Count(links)],
-    ))
+    found! {
+        "line {} names link {}, and line 1 says links {}; links are numbered from 1 to that number";
+        Count(line), Count(link), Count(links)
+    }
 }
 
 /// What is found in this line of the links.
 pub(crate) fn links_hint(text: &[u8], line: u64) -> Option<Sentence> {
     if text.is_empty() {
-        let words = "the file is empty; its first line says how many links there are, as links 1";
-        return Some(Sentence::new(words, &[]));
+        return found!(
+            "the file is empty; its first line says how many links there are, as links 1"
+        );
     }
-    form_hint(text, line)
-        .or(misplaced(text, TextKind::Links))
-        .or(no_link_hint(text, line))
-        .or(quoted(text, line))
+    tell!(form_hint(text, line));
+    tell!(misplaced(text, TextKind::Links));
+    tell!(no_link_hint(text, line));
+    quoted(text, line)
 }
 
 /// Whether a route leads to a store.

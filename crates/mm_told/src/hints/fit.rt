@@ -40,15 +40,10 @@ fn in_channel(problem: &Problem, line: &str, step: u32, channel: u8) -> Option<S
     if dumped <= limit {
         return None;
     }
-    Some(Sentence::new(
-        "step {} dumps {} blocks on channel {}, whose limit is {}",
-        &[
-            Shown::Count(u64::from(step)),
-            Shown::Count(dumped),
-            Shown::Count(u64::from(channel)),
-            Shown::Count(limit),
-        ],
-    ))
+    found! {
+        "step {} dumps {} blocks on channel {}, whose limit is {}";
+        Count(u64::from(step)), Count(dumped), Count(u64::from(channel)), Count(limit)
+    }
 }
 
 // By how much the line of a step passes the window, or else the limit of a channel.
@@ -59,18 +54,12 @@ fn in_step(problem: &Problem, line: &str, step: u32) -> Option<Sentence> {
     let window = u64::from(problem.window(step));
     let dumped = dumped(problem, line, None);
     if dumped > window {
-        let shown = [
-            Shown::Count(u64::from(step)),
-            Shown::Count(dumped),
-            Shown::Count(window),
-        ];
-        let words = "step {} dumps {} blocks, and its window is {}";
-        return Some(Sentence::new(words, &shown));
+        return found! {
+            "step {} dumps {} blocks, and its window is {}"; Count(u64::from(step)), Count(dumped), Count(window)
+        };
     }
     for channel in 0..problem.channels() {
-        if let Some(hint) = in_channel(problem, line, step, channel) {
-            return Some(hint);
-        }
+        tell!(in_channel(problem, line, step, channel));
     }
     None
 }

@@ -1,6 +1,6 @@
 //! What kind of file a text looks like, and what is said where another kind is wanted.
 
-use crate::hints::lines::{after_mark, lines_with};
+use crate::hints::lines::{after_mark, lines_with, without_return};
 use crate::hints::sentence::{Sentence, Shown};
 use mm_base::lines::{cut_word, first_line};
 use mm_base::numbers::Numeral;
@@ -38,14 +38,15 @@ impl TextKind {
     #[must_use]
     pub fn of(text: &[u8]) -> Option<TextKind> {
         let text = after_mark(text);
-        if let Some((_, kind)) = FRONTS.iter().find(|(front, _)| text.starts_with(front)) {
-            return Some(*kind);
+        for (front, kind) in &FRONTS {
+            if text.starts_with(front) {
+                return Some(*kind);
+            }
         }
         if lines_with(text, b"[[store]]") > 0 {
             return Some(TextKind::Setup);
         }
-        let (line, _) = first_line(text)?;
-        let line = line.strip_suffix(b"\r").unwrap_or(line);
+        let line = without_return(first_line(text)?.0);
         if is_source_line(line) {
             Some(TextKind::Sources)
         } else if line.len() >= FEWEST_DIGITS && are_digits(line) {
@@ -124,5 +125,5 @@ pub(crate) fn misplaced(text: &[u8], wanted: TextKind) -> Option<Sentence> {
         }
         _ => "the file holds {} in place of {}",
     };
-    Some(Sentence::new(words, &[Shown::Kind(found), Shown::Kind(wanted)]))
+    found!(words; Kind(found), Kind(wanted))
 }

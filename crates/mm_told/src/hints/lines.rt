@@ -127,3 +127,8 @@ pub(crate) fn after_mark(text: &[u8]) -> &[u8] {
 pub(crate) fn lines_with(text: &[u8], front: &[u8]) -> u64 {
     Lines(text).filter(|line| line.starts_with(front)).count() as u64
 }
+
+/// The line without the CR at its end.
+pub(crate) fn without_return(line: &[u8]) -> &[u8] {
+    line.strip_suffix(b"\r").unwrap_or(line)
+}

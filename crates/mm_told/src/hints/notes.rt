@@ -22,23 +22,12 @@ pub enum Note {
 impl fmt::Display for Note {
     fn fmt<W: fmt::Write>(&self, f: &mut fmt::Formatter<W>) -> fmt::Result {
         match self {
-            Note::LimitOfNone { channel } => {
-                write!(
-                    f,
-                    "the setup has a limit for channel {channel}, on which no store is"
-                )
-            }
-            Note::ColumnOfNone { channel } => {
-                write!(
-                    f,
-                    "the forecast has a column limit:{channel}, and no store is on that channel"
-                )
-            }
-            Note::Unreached { store } => write!(
-                f,
-                "no route of the setup leads to {}, so nothing arrives there",
-                Excerpt::of_id(store)
-            ),
+            Note::LimitOfNone { channel } =>
+                write! { f, "the setup has a limit for channel {channel}, on which no store is" },
+            Note::ColumnOfNone { channel } =>
+                write! { f, "the forecast has a column limit:{channel}, and no store is on that channel" },
+            Note::Unreached { store } =>
+                write! { f, "no route of the setup leads to {}, so nothing arrives there", Excerpt::of_id(store) },
         }
     }
 }

@@ -4,7 +4,7 @@ ghost use Rattle.mm_base.specs.declared.refusal.Refusal.TheVariants.{HexLine, Sh
 
 use crate::hints::Hint;
 use crate::hints::excerpt::Excerpt;
-use crate::hints::form::{end_hint, file_hint, form_hint};
+use crate::hints::form::{end_hint, file_hint};
 use crate::hints::kind::{TextKind, is_source_line, misplaced, no_digit};
 use crate::hints::lines::{LineFinder, line_at};
 use crate::hints::sentence::{Sentence, Shown};
@@ -47,29 +47,22 @@ fn octets_hint(digits: &[u8], line: u64) -> Option<Sentence> {
     if says == found {
         return None;
     }
-    Some(Sentence::new(
-        "line {} has {} octets, and its packet data length says {} in all",
-        &[Shown::Count(line), Shown::Count(found), Shown::Count(says)],
-    ))
+    found! {
+        "line {} has {} octets, and its packet data length says {} in all"; Count(line), Count(found), Count(says)
+    }
 }
 
 // What is found in this line where the digits of a packet are to stand.
 fn digits_hint(digits: &[u8], line: u64) -> Option<Sentence> {
-    let shown = Shown::Count(line);
     if digits.contains(&b' ') {
-        let words = "line {} has spaces between digits; write the digits without them";
-        return Some(Sentence::new(words, &[shown]));
+        found!("line {} has spaces between digits; write the digits without them"; Count(line))
+    } else if let Some(byte) = no_digit(digits) {
+        found!("line {} has {}, which is no hexadecimal digit"; Count(line), Text(Excerpt::of(&[byte])))
+    } else if digits.len() % 2 == 1 {
+        found!("line {} has an odd number of digits; write two for each octet"; Count(line))
+    } else {
+        None
     }
-    if let Some(byte) = no_digit(digits) {
-        let byte = Shown::Text(Excerpt::of(&[byte]));
-        let words = "line {} has {}, which is no hexadecimal digit";
-        return Some(Sentence::new(words, &[shown, byte]));
-    }
-    if digits.len() % 2 == 1 {
-        let words = "line {} has an odd number of digits; write two for each octet";
-        return Some(Sentence::new(words, &[shown]));
-    }
-    None
 }
 
 // A test of a packet's headers: the refusal, the first of the two octets that are tested, from 0, their bits, and the
@@ -92,10 +85,10 @@ fn header_hint(tests: &[HeaderTest], digits: &[u8], line: u64) -> Option<Sentenc
         if (found & *bits == *number) != *is_wanted {
             let place = first.saturating_mul(2);
             let octets = Excerpt::of(digits.get(place..place.saturating_add(4))?);
-            let first = Shown::Count(first.saturating_add(1) as u64);
-            let words = "line {} has {} from octet {} of the packet on; expected ";
-            let shown = [Shown::Count(line), Shown::Text(octets), first];
-            return Some(Sentence::joined(words, Words::of(*refusal).expected, &shown));
+            return found! {
+                "line {} has {} from octet {} of the packet on; expected ", Words::of(*refusal).expected;
+                Count(line), Text(octets), Count(first.saturating_add(1) as u64)
+            };
         }
     }
     None
@@ -103,9 +96,8 @@ fn header_hint(tests: &[HeaderTest], digits: &[u8], line: u64) -> Option<Sentenc
 
 // What is found where the number of octets is why the packet is refused.
 fn length_hint(refusal: Refusal, octets: usize, line: u64) -> Sentence {
-    let shown = [Shown::Count(line), Shown::Count(octets as u64)];
-    let words = "line {} has a packet of {} octets; expected ";
-    Sentence::joined(words, Words::of(refusal).expected, &shown)
+    let expected = Words::of(refusal).expected;
+    said!("line {} has a packet of {} octets; expected ", expected; Count(line), Count(octets as u64))
 }
 
 /// What is found in the digits of a packet in this line of the sources: the first test that it fails.
@@ -113,15 +105,12 @@ pub(crate) fn source_hint(digits: &[u8], line: u64) -> Option<Sentence> {
     let octets = digits.len() / 2;
     // A telecommand has a secondary header of 5 octets, and telemetry one of 15.
     let headers = if digits.starts_with(b"1") { 11 } else { 21 };
-    if let Some(hint) = digits_hint(digits, line) {
-        return Some(hint);
-    }
+    tell!(digits_hint(digits, line));
     if octets < 6 {
         return Some(length_hint(Refusal::Short, octets, line));
     }
-    if let Some(hint) = header_hint(&PRIMARY_TESTS, digits, line).or(octets_hint(digits, line)) {
-        return Some(hint);
-    }
+    tell!(header_hint(&PRIMARY_TESTS, digits, line));
+    tell!(octets_hint(digits, line));
     if octets < headers {
         return Some(length_hint(Refusal::HeaderCut, octets, line));
     }
@@ -131,14 +120,16 @@ pub(crate) fn source_hint(digits: &[u8], line: u64) -> Option<Sentence> {
     }
 }
 
-// What is found in this line, where a packet is to stand alone.
-fn packet_hint(line: &[u8], number: u64) -> Option<Sentence> {
+// What is found in this line, of this number, where a packet is to stand alone.
+fn line_hint(line: &[u8], number: u64) -> Option<Sentence> {
+    tell!(end_hint(line, number));
     if is_source_line(line) {
-        let words =
-            "line {} has a source and a step before the packet, as sources have; write the packet alone";
-        return Some(Sentence::new(words, &[Shown::Count(number)]));
+        return found! {
+            "line {} has a source and a step before the packet, as sources have; write the packet alone"; Count(number)
+        };
     }
-    digits_hint(line, number).or(octets_hint(line, number))
+    tell!(digits_hint(line, number));
+    octets_hint(line, number)
 }
 
 /// The octets of a request before its first instruction: the headers and the count.
@@ -167,28 +158,25 @@ static CODES: [(u64, usize, usize, u64, &str); 5] = table! {
 };
 
 // The first field of an instruction, from this octet on, whose number is out of range.
-fn code_hint(digits: &[u8], instruction: usize, place: [Shown; 2]) -> Option<Sentence> {
+fn code_hint(digits: &[u8], instruction: usize, line: u64, at: u64) -> Option<Sentence> {
     let subtype = number_in(digits, 8, 1)?;
     for (of_subtype, first, octets, most, said) in &CODES {
         let number = number_in(digits, instruction.saturating_add(*first), *octets)?;
         if *of_subtype == subtype && number > *most {
-            let [line, at] = place;
-            let shown = [line, at, Shown::Count(number), Shown::Count(*most)];
-            return Some(Sentence::joined("line {}, instruction {}, ", said, &shown));
+            return found!("line {}, instruction {}, ", said; Count(line), Count(at), Count(number), Count(*most));
         }
     }
     None
 }
 
 // The store that an instruction, from this octet on, names.
-fn store_hint(digits: &[u8], instruction: usize, place: [Shown; 2]) -> Option<Sentence> {
+fn store_hint(digits: &[u8], instruction: usize, line: u64, at: u64) -> Option<Sentence> {
     let mut id = [b' '; 8];
     for (i, byte) in id.iter_mut().enumerate() {
         *byte = u8::try_from(number_in(digits, instruction.saturating_add(i), 1)?).ok()?;
     }
-    let [line, at] = place;
-    let shown = [line, at, Shown::Text(Excerpt::of(id.trim_ascii_end()))];
-    Some(Sentence::new("line {}, instruction {}, names the store {}", &shown))
+    let store = Excerpt::of(id.trim_ascii_end());
+    found!("line {}, instruction {}, names the store {}"; Count(line), Count(at), Text(store))
 }
 
 // What is found in an instruction, from 1, of the request in this line, which is refused for this reason.
@@ -196,10 +184,9 @@ fn in_instruction(refusal: Refusal, digits: &[u8], line: u64, number: u64) -> Op
     let width = width_of(number_in(digits, 8, 1)?);
     let before = usize::try_from(number.checked_sub(1)?).ok()?;
     let instruction = before.checked_mul(width)?.checked_add(BEFORE_INSTRUCTIONS)?;
-    let place = [Shown::Count(line), Shown::Count(number)];
     match refusal {
-        Refusal::BadEnum => code_hint(digits, instruction, place),
-        Refusal::NoSuchStore => store_hint(digits, instruction, place),
+        Refusal::BadEnum => code_hint(digits, instruction, line, number),
+        Refusal::NoSuchStore => store_hint(digits, instruction, line, number),
         _ => None,
     }
 }
@@ -258,10 +245,7 @@ impl<'a> RequestHints<'a> {
             return Some(Hint::Said(hint));
         }
         let digits = self.lines.find(line)?;
-        match end_hint(digits, line) {
-            Some(hint) => Some(Hint::Said(hint)),
-            None => Some(Hint::Said(packet_hint(digits, line)?)),
-        }
+        Some(Hint::Said(line_hint(digits, line)?))
     }
 
     /// What is found in this instruction, from 1, of the request in this line, which is refused for this reason: the
@@ -284,8 +268,8 @@ pub fn request_hint(refusal: Refusal, requests: &[u8], line: u64) -> Option<Hint
     if !is_of_digits(refusal) {
         return None;
     }
-    match form_hint(requests, line) {
-        Some(hint) => Some(Hint::Said(hint)),
-        None => Some(Hint::Said(packet_hint(line_at(requests, line)?, line)?)),
+    if let Some(hint) = file_hint(requests) {
+        return Some(Hint::Said(hint));
     }
+    Some(Hint::Said(line_hint(line_at(requests, line)?, line)?))
 }

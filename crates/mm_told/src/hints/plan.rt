@@ -16,17 +16,13 @@ pub(crate) fn plan_hint(text: &[u8], line: u64) -> Sentence {
         return hint;
     }
     if text.starts_with(b"refused ") {
-        let words = "the file holds the line of a refusal, and no plan; plan again";
-        return Sentence::new(words, &[]);
+        return said!("the file holds the line of a refusal, and no plan; plan again");
     }
     match quoted(text, line) {
         Some(hint) if text.ends_with(b"\n") || line_at(text, line.saturating_add(1)).is_some() => {
             hint
         }
-        _ => Sentence::new(
-            "the text ends in line {}; its last line is end, with a line feed",
-            &[Shown::Count(line)],
-        ),
+        _ => said!("the text ends in line {}; its last line is end, with a line feed"; Count(line)),
     }
 }
 
@@ -45,13 +41,9 @@ fn shapes(problem: &Problem, plan: &[u8]) -> Option<Sentence> {
         wanted.push(b" ");
         wanted.push(problem.id(store).text());
     }
-    Some(Sentence::new(
-        "the plan has {} and {} steps; {} and {} steps are wanted",
-        &[
-            Shown::Text(Excerpt::of(line_at(plan, 2)?)),
-            Shown::Count(lines_with(plan, b"dump ")),
-            Shown::Text(wanted),
-            Shown::Count(u64::from(problem.steps())),
-        ],
-    ))
+    let found = Excerpt::of(line_at(plan, 2)?);
+    found! {
+        "the plan has {} and {} steps; {} and {} steps are wanted";
+        Text(found), Count(lines_with(plan, b"dump ")), Text(wanted), Count(u64::from(problem.steps()))
+    }
 }

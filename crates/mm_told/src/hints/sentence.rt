@@ -45,15 +45,12 @@ pub struct Sentence {
 }
 
 impl Sentence {
-    /// These words, with this at their places.
-    pub(crate) fn new(words: &str, shown: &[Shown]) -> Sentence {
-        Sentence::joined(words, "", shown)
-    }
-
-    /// These words and what is said after them, with this at the places of both.
-    pub(crate) fn joined(words: &str, said: &str, shown: &[Shown]) -> Sentence {
-        let mut all = Excerpt::of(words.as_bytes());
-        all.push(said.as_bytes());
+    /// These words, one after another, with this at their places.
+    pub(crate) fn new(words: &[&str], shown: &[Shown]) -> Sentence {
+        let mut all = Excerpt::new();
+        for part in words {
+            all.push(part.as_bytes());
+        }
         let mut places = [Shown::Nothing; PLACES];
         for (place, one) in places.iter_mut().zip(shown) {
             *place = *one;
@@ -63,13 +60,6 @@ impl Sentence {
             words: all,
             shown: places,
         }
-    }
-
-    /// What is said of a line, of this number: the line as it is, and these words with this at their place.
-    pub(crate) fn of_line(number: u64, line: &[u8], said: &str, shown: Shown) -> Sentence {
-        let line = Excerpt::of(line.strip_suffix(b"\r").unwrap_or(line));
-        let shown = [Shown::Count(number), Shown::Text(line), shown];
-        Sentence::joined("line {} is {}; ", said, &shown)
     }
 
     /// The same of this table.

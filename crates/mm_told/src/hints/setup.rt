@@ -3,7 +3,7 @@
 use crate::hints::excerpt::Excerpt;
 use crate::hints::form::utf16_hint;
 use crate::hints::kind::{TextKind, misplaced};
-use crate::hints::lines::{Lines, after_mark, line_at, line_of};
+use crate::hints::lines::{Lines, after_mark, line_at, line_of, without_return};
 use crate::hints::sentence::{Sentence, Shown};
 use crate::hints::tables::{
     ARRAYS, elements, keys_of, named, number_at, table_in, text_at, unknown_key,
@@ -14,7 +14,7 @@ use mm_base::{
 };
 use mm_problem::Name;
 use std::alloc::Global;
-use toml::Table;
+use toml::{Table, Value};
 
 // The array whose name a line has in single brackets.
 fn single_table(line: &[u8]) -> Option<Name> {
@@ -29,9 +29,11 @@ fn single_table(line: &[u8]) -> Option<Name> {
 fn single_hint(text: &[u8]) -> Option<Sentence> {
     for (place, line) in Lines(after_mark(text)).enumerate() {
         if let Some(array) = single_table(line) {
-            let words = "write [[{}]] above each table";
             let number = (place as u64).saturating_add(1);
-            return Some(Sentence::of_line(number, line, words, Shown::Name(array)));
+            return found! {
+                "line {} is {}; write [[{}]] above each table";
+                Count(number), Text(Excerpt::of(without_return(line))), Name(array)
+            };
         }
     }
     None
@@ -87,47 +89,23 @@ fn said_of(fault: &str, text: &[u8]) -> &'static str {
 fn fault_hint(text: &[u8], place: usize, fault: &str) -> Option<Sentence> {
     let rest = text.get(place..)?;
     if fault == "duplicate key" && rest.starts_with(b"[") {
-        if let Some(hint) = single_hint(text) {
-            return Some(hint);
-        }
+        tell!(single_hint(text));
     }
     let number = line_of(text, place);
-    let line = line_at(text, number)?;
-    Some(Sentence::of_line(number, line, said_of(fault, rest), Shown::Nothing))
-}
-
-// The line in which the text is not TOML.
-fn toml_hint(alloc: Global, octets: &[u8]) -> Result<Option<Sentence>, NoMemory> {
-    let text = match std::str::from_utf8(octets) {
-        Ok(text) => text,
-        Err(error) => {
-            let line = Shown::Count(line_of(octets, error.valid_up_to()));
-            return Ok(Some(Sentence::new("line {} is not in UTF-8", &[line])));
-        }
-    };
-    match toml::table_from_str(alloc, text) {
-        Ok(_) => Ok(None),
-        Err(error) if error.is_memory() => Err(NoMemory),
-        Err(error) => Ok(match error.span() {
-            Some(span) => fault_hint(octets, span.start, error.message()),
-            None => None,
-        }),
-    }
+    let line = Excerpt::of(without_return(line_at(text, number)?));
+    found!("line {} is {}; ", said_of(fault, rest); Count(number), Text(line))
 }
 
 // What is wrong at the top of a setup.
 fn top_hint(document: &Table, name: Name) -> Option<Sentence> {
-    let array = Shown::Name(name);
     if name == Name::Unknown {
         let (key, keys) = unknown_key(document, name)?;
-        let words = "the key {} is none of {}";
-        return Some(Sentence::new(words, &[Shown::Text(key), Shown::Keys(keys)]));
+        found!("the key {} is none of {}"; Text(key), Keys(keys))
+    } else if document.get(name.text()).is_none() {
+        found!("there is no table [[{}]]"; Name(name))
+    } else {
+        found!("{} is no array of tables; write [[{}]] above each table"; Name(name), Name(name))
     }
-    if document.get(name.text()).is_none() {
-        return Some(Sentence::new("there is no table [[{}]]", &[array]));
-    }
-    let words = "{} is no array of tables; write [[{}]] above each table";
-    Some(Sentence::new(words, &[array, array]))
 }
 
 // The keys by which no two tables of an array are the same.
@@ -147,17 +125,26 @@ fn are_same(one: &Table, other: &Table, keys: &[Name]) -> bool {
 
 // Whether a table of an array before this row is the same as this one.
 fn is_repeated(document: &Table, array: Name, row: u32, table: &Table) -> bool {
-    (1..row)
-        .filter_map(|earlier| table_in(document, array, earlier))
-        .any(|other| are_same(table, other, identity_of(array)))
+    for earlier in 1..row {
+        if let Some(other) = table_in(document, array, earlier) {
+            if are_same(table, other, identity_of(array)) {
+                return true;
+            }
+        }
+    }
+    false
 }
 
 // Whether a store of the setup has this identifier.
 fn has_store(document: &Table, id: &str) -> bool {
-    let mut tables = elements(document, Name::Store)
-        .iter()
-        .filter_map(|value| value.as_table());
-    tables.any(|table| text_at(table, Name::Id) == Some(id))
+    for store in elements(document, Name::Store) {
+        if let Value::Table(table) = store {
+            if text_at(table, Name::Id) == Some(id) {
+                return true;
+            }
+        }
+    }
+    false
 }
 
 // Whether it would be an identifier if its letters were capital letters.
@@ -170,19 +157,16 @@ fn has_small_letters(id: &str) -> bool {
 
 // What is wrong with an identifier.
 fn id_hint(document: &Table, key: Name, id: &str) -> Option<Sentence> {
-    let shown = Shown::Text(Excerpt::of(id.as_bytes()));
+    let shown = Excerpt::of(id.as_bytes());
     let is_id = StoreId::of_text(id.as_bytes()).is_ok();
     if is_id && key == Name::Store && !has_store(document, id) {
-        let words = "names the store {}, which no table of store has";
-        Some(Sentence::new(words, &[shown]))
+        found!("names the store {}, which no table of store has"; Text(shown))
     } else if is_id {
         None
     } else if has_small_letters(id) {
-        let words = "has small letters in its {}; write capital letters";
-        Some(Sentence::new(words, &[Shown::Name(key)]))
+        found!("has small letters in its {}; write capital letters"; Name(key))
     } else {
-        let words = "has {} as {}; 1 to 8 of the characters A-Z, 0-9, _ and - can be";
-        Some(Sentence::new(words, &[shown, Shown::Name(key)]))
+        found!("has {} as {}; 1 to 8 of the characters A-Z, 0-9, _ and - can be"; Text(shown), Name(key))
     }
 }
 
@@ -191,9 +175,7 @@ fn type_hint(word: &str) -> Option<Sentence> {
     if word == Kind::Circular.word() || word == Kind::Bounded.word() {
         return None;
     }
-    let shown = Shown::Text(Excerpt::of(word.as_bytes()));
-    let words = "has the type {}; \"circular\" and \"bounded\" can be";
-    Some(Sentence::new(words, &[shown]))
+    found!("has the type {}; \"circular\" and \"bounded\" can be"; Text(Excerpt::of(word.as_bytes())))
 }
 
 // What is wrong at a key of a table of an array.
@@ -201,9 +183,8 @@ fn key_hint(document: &Table, array: Name, key: Name, table: &Table) -> Option<S
     if !keys_of(array).contains(&key) {
         return None;
     }
-    let shown = [Shown::Name(key)];
     let Some(value) = table.get(key.text()) else {
-        return Some(Sentence::new("has no key {}", &shown));
+        return found!("has no key {}"; Name(key));
     };
     let words = match (key, value.as_str()) {
         (Name::Type, Some(word)) => return type_hint(word),
@@ -212,7 +193,7 @@ fn key_hint(document: &Table, array: Name, key: Name, table: &Table) -> Option<S
         _ if value.as_integer().is_none() => "has no whole number as {}; write it without quotes",
         _ => return None,
     };
-    Some(Sentence::new(words, &shown))
+    found!(words; Name(key))
 }
 
 // What is said of a table of an array that an earlier one repeats.
@@ -233,14 +214,11 @@ fn in_table(
     table: &Table,
 ) -> Option<Sentence> {
     match name {
-        Name::Repeated if is_repeated(document, array, row, table) => {
-            Some(Sentence::new(repeated(array), &[]))
-        }
+        Name::Repeated if is_repeated(document, array, row, table) => found!(repeated(array)),
         Name::Repeated => None,
         Name::Unknown => {
             let (key, keys) = unknown_key(table, array)?;
-            let words = "has the key {}, which is none of {}";
-            Some(Sentence::new(words, &[Shown::Text(key), Shown::Keys(keys)]))
+            found!("has the key {}, which is none of {}"; Text(key), Keys(keys))
         }
         key => key_hint(document, array, key, table),
     }
@@ -258,9 +236,10 @@ fn field_hint(document: &Table, row: u32, name: Name) -> Option<Sentence> {
     if row == 0 {
         return top_hint(document, name);
     }
-    ARRAYS
-        .iter()
-        .find_map(|array| table_hint(document, *array, row, name))
+    for array in ARRAYS {
+        tell!(table_hint(document, array, row, name));
+    }
+    None
 }
 
 // The least and the greatest number at a key.
@@ -283,38 +262,35 @@ fn out_of_range(document: &Table, array: Name, row: u32, key: Name) -> Option<Se
     if i64::from(low) <= number && number <= i64::from(high) {
         return None;
     }
-    let shown = [
-        Shown::Name(key),
-        Shown::Number(number),
-        Shown::Count(u64::from(low)),
-        Shown::Count(u64::from(high)),
-    ];
     // More blocks than there can be of anything.
     let said = if high == MAX_BLOCKS && number > i64::from(high) {
         "; a block is room for one packet; plan more in coarser units: docs/PLANNING.md, 'Limits of scale'"
     } else {
         ""
     };
-    let hint = Sentence::joined("has {} = {}; {} to {} can be", said, &shown);
+    let hint = said! {
+        "has {} = {}; {} to {} can be", said;
+        Name(key), Number(number), Count(u64::from(low)), Count(u64::from(high))
+    };
     Some(hint.of_table(named(array, row, table)))
 }
 
 // The first number at this key of a table that is out of its range.
 fn range_hint(document: &Table, key: Name) -> Option<Sentence> {
-    let in_array = |array: &Name| (1..=MAX_ROUTES as u32).find_map(|row| out_of_range(
-        document, *array, row, key,
-    ));
-    ARRAYS.iter().find_map(in_array)
+    for array in ARRAYS {
+        for row in 1..=MAX_ROUTES as u32 {
+            tell!(out_of_range(document, array, row, key));
+        }
+    }
+    None
 }
 
 fn count_hint(document: &Table, array: Name, low: usize, high: usize) -> Sentence {
-    let shown = [
-        Shown::Count(elements(document, array).len() as u64),
-        Shown::Name(array),
-        Shown::Count(low as u64),
-        Shown::Count(high as u64),
-    ];
-    Sentence::new("there are {} tables of {}; {} to {} can be", &shown)
+    let found = elements(document, array).len();
+    said! {
+        "there are {} tables of {}; {} to {} can be";
+        Count(found as u64), Name(array), Count(low as u64), Count(high as u64)
+    }
 }
 
 fn limit_hint(document: &Table, name: Name) -> Option<Sentence> {
@@ -335,24 +311,25 @@ fn document_hint(document: &Table, spot: Spot) -> Option<Sentence> {
     }
 }
 
-fn in_setup(alloc: Global, spot: Spot, text: &[u8]) -> Result<Option<Sentence>, NoMemory> {
-    if !matches!(spot, Spot::Key { .. } | Spot::Number(_)) {
-        return toml_hint(alloc, text);
-    }
-    match document_of(alloc, text)? {
-        Some(document) => Ok(document_hint(&document, spot)),
-        None => Ok(None),
-    }
-}
-
-fn document_of(alloc: Global, octets: &[u8]) -> Result<Option<Table>, NoMemory> {
-    let Ok(text) = std::str::from_utf8(octets) else {
-        return Ok(None);
+// What is found in a setup with its fault there: a setup whose fault is at a key or a number is TOML.
+fn in_setup(alloc: Global, spot: Spot, octets: &[u8]) -> Result<Option<Sentence>, NoMemory> {
+    let is_toml = matches!(spot, Spot::Key { .. } | Spot::Number(_));
+    let text = match std::str::from_utf8(octets) {
+        Ok(text) => text,
+        Err(_) if is_toml => return Ok(None),
+        Err(error) => {
+            let line = line_of(octets, error.valid_up_to());
+            return Ok(found!("line {} is not in UTF-8"; Count(line)));
+        }
     };
     match toml::table_from_str(alloc, text) {
-        Ok(document) => Ok(Some(document)),
+        Ok(document) => Ok(document_hint(&document, spot)),
         Err(error) if error.is_memory() => Err(NoMemory),
-        Err(_) => Ok(None),
+        Err(_) if is_toml => Ok(None),
+        Err(error) => Ok(match error.span() {
+            Some(span) => fault_hint(octets, span.start, error.message()),
+            None => None,
+        }),
     }
 }
 

@@ -38,12 +38,9 @@ pub(crate) fn keys_of(array: Name) -> &'static [Name] {
 
 /// The elements of an array of the setup.
 pub(crate) fn elements(document: &Table, array: Name) -> &[Value] {
-    match document
-        .get(array.text())
-        .and_then(|value| value.as_array())
-    {
-        Some(values) => values.as_slice(),
-        None => &[],
+    match document.get(array.text()) {
+        Some(Value::Array(values)) => values.as_slice(),
+        _ => &[],
     }
 }
 
@@ -122,6 +119,9 @@ fn is_among(key: &str, keys: &[Name]) -> bool {
 
 /// What names a table: its array and row, and its identifier if it has one.
 pub(crate) fn named(array: Name, row: u32, table: &Table) -> TableAt {
-    let id = text_at(table, Name::Id).map(|id| Excerpt::of(id.as_bytes()));
+    let id = match text_at(table, Name::Id) {
+        Some(id) => Some(Excerpt::of(id.as_bytes())),
+        None => None,
+    };
     TableAt { array, row, id }
 }
