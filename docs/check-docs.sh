@@ -351,15 +351,10 @@ refusals() {
     "$top/crates/mm_base/src/refusal.rt"
 }
 
-# The tables of mm_told: the function, the case and its words, separated by tabs.
+# The table of mm_told: the case, what was expected and what to do, separated by tabs.
 words() {
-  awk '
-    /^fn / { table = $2; sub(/\(.*/, "", table); name = "" }
-    /^ *Refusal::[A-Za-z0-9]+ =>/ { name = $1; sub(/.*::/, "", name) }
-    name != "" && match($0, /".*"/) {
-      printf "%s\t%s\t%s\n", table, name, substr($0, RSTART + 1, RLENGTH - 2)
-      name = ""
-    }' "$top/crates/mm_told/src/words.rt"
+  tr '\n' ' ' <"$top/crates/mm_told/src/table.rt" | sed -E 's/ \\ +/ /g' |
+    grep -oE '[A-Za-z0-9]+: "[^"]*", +"[^"]*";' | sed -E 's/^(.*): "(.*)", +"(.*)";$/\1\t\2\t\3/'
 }
 
 # The words of mm_told for each verdict but the least: the verdict, what was expected and what to do, separated by tabs.
@@ -371,9 +366,9 @@ findings() {
   ' "$top/crates/mm_told/src/findings.rt"
 }
 
-# The words that a table of mm_told has for a refusal.
+# The words that the table of mm_told has for a refusal, as a row has them.
 words_of() {
-  awk -F '\t' -v table="$1" -v name="$2" '$1 == table && $2 == name { print $3 }' "$work/words"
+  awk -F '\t' -v name="$1" '$1 == name { print $2 " | " $3 }' "$work/words"
 }
 
 # The tables of refusals in docs/FORMATS.md: one row for each refusal, with its number, its name and its words.
@@ -384,7 +379,7 @@ check_refusals() {
   [ "$(wc -l <"$work/rows")" = "$(refusals | wc -l)" ] || fail "docs/FORMATS.md: not one row for each refusal"
   while read -r number name case; do
     row=$(grep -E "^\`$number ${name}[ \`]" "$work/rows")
-    [ "${row#*\` }" = "| $(words_of expected "$case") | $(words_of advice "$case")" ] ||
+    [ "${row#*\` }" = "| $(words_of "$case")" ] ||
       fail "docs/FORMATS.md: the row of $number $name has other words than mm_told"
   done < <(refusals)
 }

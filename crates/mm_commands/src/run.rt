@@ -82,6 +82,7 @@ fn bad_line(said: io::Result<()>) -> Result<Status, Unwritten>
 fn wrong_flag<S: AsStr>(kind: ErrorKind, words: &[S]) -> Option<FlagFault<'_>> {
     match kind {
         ErrorKind::UnknownArgument => flag_fault(words),
+        ErrorKind::DisplayVersion => Some(FlagFault::NotAlone("--version")),
         _ => None,
     }
 }
