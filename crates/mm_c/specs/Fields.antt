@@ -1,5 +1,6 @@
 -- What is told of the fields of requests and of reports, by the definitions of `mm_service`.
-use Rattle.mm_c.specs.Words.{◌≡◌, ◌≢◌, ◌⊎◌, ℕ, nat_le, if◌then◌else◌, List, length, Ok, Err, Fault, NoMemory}
+use Rattle.std.specs.Prelude.{◌≡◌}
+use Rattle.mm_c.specs.Words.{◌≢◌, ◌⊎◌, ℕ, nat_le, if◌then◌else◌, List, length, Ok, Err, Fault, NoMemory}
 use Rattle.mm_c.specs.Words.{length_answer, refused_answer, Answer, Written, TooSmall, Reason, Whole}
 use Rattle.mm_packet.specs.Packet.{SpacePacket}
 use Rattle.mm_st15.specs.declared.report.Report.{Report}

@@ -1,5 +1,6 @@
 -- What the calls on a memory tell, by the definitions of `mm_service`.
-use Rattle.mm_c.specs.Words.{◌≡◌, ◌≢◌, ◌⊎◌, ◌<◌, ℕ, List, length, Option, Some, None, Result, Ok, Err, SetupFault}
+use Rattle.std.specs.Prelude.{◌≡◌}
+use Rattle.mm_c.specs.Words.{◌≢◌, ◌⊎◌, ◌<◌, ℕ, List, length, Option, Some, None, Result, Ok, Err, SetupFault}
 use Rattle.mm_c.specs.Words.{Fault, NoMemory, Serving, opened_of, after_refusal, of_setup, no_memory, length_answer}
 use Rattle.mm_c.specs.Words.{refused_answer, Answer, Written, TooSmall, Closed, Open, End, Reason, Whole}
 use Rattle.mm_packet.specs.declared.block.TheConstants.{BLOCK}

@@ -1,6 +1,7 @@
 -- What becomes of the packets of a memory, store by store, over any calls: what was recorded is held, deleted by a
 -- request, or given up and counted as lost; what a retrieval gives was recorded, and comes in order.
-use Rattle.mm_memory.specs.Words.{◌≡◌, ℕ, ◌+◌, Bool, false, not, ◌&&◌, is_some, if◌then◌else◌, List, [], ◌∷◌, ◌++◌}
+use Rattle.std.specs.Prelude.{◌≡◌}
+use Rattle.mm_memory.specs.Words.{ℕ, ◌+◌, Bool, false, not, ◌&&◌, is_some, if◌then◌else◌, List, [], ◌∷◌, ◌++◌}
 use Rattle.mm_memory.specs.Words.{length, map, sum, bytes_eq, All, Contains, IsPermutation, Option, Some, None, Result}
 use Rattle.mm_memory.specs.Words.{Ok, Err, SpacePacket, Stored, IsRising, Offered, Kept, KeptOver, Returned, packets_of}
 use Rattle.mm_memory.specs.Words.{taken, given_up, deleted, given, over, BeginsNone, State, offer, step, rest_fault}

@@ -1,5 +1,6 @@
 -- Applying an instruction, and a request, which is its instructions in order.
-use Rattle.mm_memory.specs.Words.{◌≡◌, ◌⊎◌, ℕ, Bool, not, nat_lt, if◌then◌else◌, List, [], ◌∷◌, ◌++◌, length, filter}
+use Rattle.std.specs.Prelude.{◌≡◌}
+use Rattle.mm_memory.specs.Words.{◌⊎◌, ℕ, Bool, not, nat_lt, if◌then◌else◌, List, [], ◌∷◌, ◌++◌, length, filter}
 use Rattle.mm_memory.specs.Words.{Option, Some, None, Ok, Err, MAX_STORES, RouteRow, empty_store, has_row, takes}
 use Rattle.mm_memory.specs.Words.{with_row, without_row, without_store, opening, rest_fault, Row, Answer, Fault, Held}
 use Rattle.mm_memory.specs.Words.{Action, Create, Delete, Route, Report, Changes, RouteChange}

@@ -1,5 +1,6 @@
 -- Laws over memories.
-use Rattle.mm_memory.specs.Words.{◌≡◌, List, RouteRow, has_row, Held}
+use Rattle.std.specs.Prelude.{◌≡◌}
+use Rattle.mm_memory.specs.Words.{List, RouteRow, has_row, Held}
 use Rattle.mm_memory.specs.Holdings.{AreHeld, table_of}
 pub use Rattle.mm_desk.specs.Holdings.{ids_of}
 

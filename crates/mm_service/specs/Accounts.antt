@@ -1,5 +1,6 @@
 -- What becomes of packets in the calls of a service, octet for octet.
-use Rattle.mm_service.specs.Words.{◌≡◌, ℕ, ◌<◌, if◌then◌else◌, List, [], ◌∷◌, ◌++◌, take, map, flat_map, bytes_eq, All}
+use Rattle.std.specs.Prelude.{◌≡◌}
+use Rattle.mm_service.specs.Words.{ℕ, ◌<◌, if◌then◌else◌, List, [], ◌∷◌, ◌++◌, take, map, flat_map, bytes_eq, All}
 use Rattle.mm_service.specs.Words.{Contains, Option, Some, Ok, field_of, SpacePacket, spelling, Request, SpellsRequest}
 use Rattle.mm_service.specs.Words.{Stored, IsState, Tally, state_of, instructions_of, Fate, Reported}
 use Rattle.mm_desk.specs.declared.event.Event.TheVariants.{Offer, Next}

@@ -1,5 +1,6 @@
 -- What is told of a report that was received.
-use Rattle.mm_service.specs.Words.{◌≡◌, ℕ, List, map, Option, Some, None, Result, Ok, Err, ◌>>=◌, SpacePacket, Report}
+use Rattle.std.specs.Prelude.{◌≡◌}
+use Rattle.mm_service.specs.Words.{ℕ, List, map, Option, Some, None, Result, Ok, Err, ◌>>=◌, SpacePacket, Report}
 use Rattle.mm_service.specs.Words.{code_of, kind_of, moment_of, LineFault, of_request, packet_alone, EntryFields}
 use Rattle.mm_packet.specs.Packet.{counter_of, destination_of}
 use Rattle.mm_st15.specs.declared.fault.Fault.{Fault as ReportFault}

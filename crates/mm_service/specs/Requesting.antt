@@ -1,5 +1,6 @@
 -- Telecommands out of the fields of their requests.
-use Rattle.mm_service.specs.Words.{◌≡◌, ◌≢◌, ℕ, ◌==◌, ◌&&◌, Bool, nat_lt, nat_le, List, length, map, Option, Some, None}
+use Rattle.std.specs.Prelude.{◌≡◌}
+use Rattle.mm_service.specs.Words.{◌≢◌, ℕ, ◌==◌, ◌&&◌, Bool, nat_lt, nat_le, List, length, map, Option, Some, None}
 use Rattle.mm_service.specs.Words.{Result, Ok, Err, if◌then◌else◌, ◌>>=◌, test, SpacePacket, spelling, Telecommand}
 use Rattle.mm_service.specs.Words.{Request, SERVICE, IsRequest, SpellsRequest, request_alone, InstructionFields}
 use Rattle.mm_service.specs.Words.{FieldsFault, Idle, Limit, UnknownSubtype, CountMismatch}

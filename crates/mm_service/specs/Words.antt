@@ -2,7 +2,7 @@
 -- place.
 pub use Rattle.std.specs.Prelude.{All, Bool, Contains, Err, List, None, Ok, Option, Result, Some, [], bytes_eq, drop}
 pub use Rattle.std.specs.Prelude.{flat_map, fold, if◌then◌else◌, length, map, min, nat_le, nat_lt, take, ℕ, ⊤, ◌&&◌}
-pub use Rattle.std.specs.Prelude.{◌++◌, ◌+◌, ◌-◌, ◌<◌, ◌==◌, ◌^◌, ◌∷◌, ◌≡◌, ◌≢◌, ◌≤◌, ◌⊎◌}
+pub use Rattle.std.specs.Prelude.{◌++◌, ◌+◌, ◌-◌, ◌<◌, ◌==◌, ◌^◌, ◌∷◌, ◌≢◌, ◌≤◌, ◌⊎◌}
 pub use Rattle.mm_ask.specs.Counting.{Counts, counted, no_counts, numbers_of}
 pub use Rattle.mm_ask.specs.Fault.{of_request, refusal_of as octets_refusal}
 pub use Rattle.mm_ask.specs.Line.{packet_alone, request_alone}
