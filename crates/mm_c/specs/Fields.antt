@@ -1,7 +1,7 @@
 -- What is told of the fields of requests and of reports, by the definitions of `mm_service`.
-use Rattle.std.specs.Prelude.{◌≡◌}
-use Rattle.mm_c.specs.Words.{◌≢◌, ◌⊎◌, ℕ, nat_le, if◌then◌else◌, List, length, Ok, Err, Fault, NoMemory}
-use Rattle.mm_c.specs.Words.{length_answer, refused_answer, Answer, Written, TooSmall, Reason, Whole}
+use Rattle.std.specs.Prelude.{◌≡◌, ◌≢◌, ◌⊎◌, if◌then◌else◌}
+use Rattle.mm_c.specs.Words.{ℕ, nat_le, List, length, Ok, Err, Fault, NoMemory, length_answer, refused_answer, Answer}
+use Rattle.mm_c.specs.Words.{Written, TooSmall, Reason, Whole}
 use Rattle.mm_packet.specs.Packet.{SpacePacket}
 use Rattle.mm_st15.specs.declared.report.Report.{Report}
 use Rattle.mm_st15.specs.Report.{IsReport, SpellsReport}

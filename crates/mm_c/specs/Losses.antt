@@ -1,6 +1,6 @@
 -- What is told of the losses of the stores in a plan.
-use Rattle.std.specs.Prelude.{◌≡◌}
-use Rattle.mm_c.specs.Words.{◌-◌, ℕ, List, ◌++◌, length, map, sum, replicate, Reason}
+use Rattle.std.specs.Prelude.{◌≡◌, ◌-◌, ◌++◌}
+use Rattle.mm_c.specs.Words.{ℕ, List, length, map, sum, replicate, Reason}
 use Rattle.mm_base.specs.declared.limits.TheConstants.{MAX_STORES}
 use Rattle.mm_problem.specs.Dumping.{Dumping, stores}
 use Rattle.mm_plan.specs.Table.{amount}

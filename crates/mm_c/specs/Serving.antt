@@ -1,8 +1,8 @@
 -- What the calls on a memory tell, by the definitions of `mm_service`.
-use Rattle.std.specs.Prelude.{◌≡◌}
-use Rattle.mm_c.specs.Words.{◌≢◌, ◌⊎◌, ◌<◌, ℕ, List, length, Option, Some, None, Result, Ok, Err, SetupFault}
-use Rattle.mm_c.specs.Words.{Fault, NoMemory, Serving, opened_of, after_refusal, of_setup, no_memory, length_answer}
-use Rattle.mm_c.specs.Words.{refused_answer, Answer, Written, TooSmall, Closed, Open, End, Reason, Whole}
+use Rattle.std.specs.Prelude.{◌≡◌, ◌≢◌, ◌⊎◌, ◌<◌}
+use Rattle.mm_c.specs.Words.{ℕ, List, length, Option, Some, None, Result, Ok, Err, SetupFault, Fault, NoMemory, Serving}
+use Rattle.mm_c.specs.Words.{opened_of, after_refusal, of_setup, no_memory, length_answer, refused_answer, Answer}
+use Rattle.mm_c.specs.Words.{Written, TooSmall, Closed, Open, End, Reason, Whole}
 use Rattle.mm_packet.specs.declared.block.TheConstants.{BLOCK}
 use Rattle.mm_problem.specs.declared.fault.Fault.TheVariants.{NoMemory as NoSetupMemory}
 use Rattle.mm_service.specs.declared.answers.TheConstants.{INSTRUCTIONS}

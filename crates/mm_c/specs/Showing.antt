@@ -1,7 +1,6 @@
 -- What is told of a store of a memory, and of the reports that wait, by the definitions of `mm_service`.
-use Rattle.std.specs.Prelude.{◌≡◌}
-use Rattle.mm_c.specs.Words.{◌⊎◌, ℕ, List, length, Bool, if◌then◌else◌, Option, Some, None, Ok, Err, Serving}
-use Rattle.mm_c.specs.Words.{Answer, Written}
+use Rattle.std.specs.Prelude.{◌≡◌, ◌⊎◌, if◌then◌else◌}
+use Rattle.mm_c.specs.Words.{ℕ, List, length, Bool, Option, Some, None, Ok, Err, Serving, Answer, Written}
 use Rattle.mm_base.specs.Kind.{code_of}
 use Rattle.mm_desk.specs.declared.state.Retrieval.{Retrieval}
 use Rattle.mm_service.specs.declared.showing.Shown.{Shown}

@@ -1,6 +1,6 @@
 -- What the calls tell, by the definitions of the crates that answer.
-use Rattle.std.specs.Prelude.{◌≡◌}
-use Rattle.mm_c.specs.Words.{◌≢◌, ℕ, ⊤, List, SetupFault, of_texts, of_setup, no_memory, Answer, TooSmall, Reason}
+use Rattle.std.specs.Prelude.{◌≡◌, ◌≢◌}
+use Rattle.mm_c.specs.Words.{ℕ, ⊤, List, SetupFault, of_texts, of_setup, no_memory, Answer, TooSmall, Reason}
 use Rattle.mm_cut.specs.declared.verdict.Verdict.{Verdict}
 use Rattle.mm_cut.specs.declared.verdict.Verdict.TheVariants.{Least, LeastInOrder}
 use Rattle.mm_cut.specs.Checking.{Checks, LosesLeast, LosesLeastInOrder, IsFaultOf}

@@ -1,7 +1,7 @@
 -- The words of the crates below, and the types of this one, in which its definitions are written, passed on from one
 -- place.
-pub use Rattle.std.specs.Prelude.{Bool, Err, List, None, Ok, Option, Result, Some, if◌then◌else◌, length, map, nat_le}
-pub use Rattle.std.specs.Prelude.{replicate, sum, ℕ, ⊤, ◌++◌, ◌-◌, ◌<◌, ◌≢◌, ◌⊎◌}
+pub use Rattle.std.specs.Prelude.{Bool, Err, List, None, Ok, Option, Result, Some, length, map, nat_le, replicate, sum}
+pub use Rattle.std.specs.Prelude.{ℕ, ⊤}
 pub use Rattle.mm_problem.specs.declared.fault.Fault.{Fault as SetupFault}
 pub use Rattle.mm_service.specs.Serving.{Serving, after_refusal, opened_of}
 pub use Rattle.mm_service.specs.declared.fault.Fault.{Fault}

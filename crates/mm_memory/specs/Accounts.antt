@@ -1,11 +1,11 @@
 -- What becomes of the packets of a memory, store by store, over any calls: what was recorded is held, deleted by a
 -- request, or given up and counted as lost; what a retrieval gives was recorded, and comes in order.
-use Rattle.std.specs.Prelude.{◌≡◌}
-use Rattle.mm_memory.specs.Words.{ℕ, ◌+◌, Bool, false, not, ◌&&◌, is_some, if◌then◌else◌, List, [], ◌∷◌, ◌++◌}
-use Rattle.mm_memory.specs.Words.{length, map, sum, bytes_eq, All, Contains, IsPermutation, Option, Some, None, Result}
-use Rattle.mm_memory.specs.Words.{Ok, Err, SpacePacket, Stored, IsRising, Offered, Kept, KeptOver, Returned, packets_of}
-use Rattle.mm_memory.specs.Words.{taken, given_up, deleted, given, over, BeginsNone, State, offer, step, rest_fault}
-use Rattle.mm_memory.specs.Words.{Answer, Action, Delete, Changes, Enable, Disable, Begin, Abort, DeleteContent}
+use Rattle.std.specs.Prelude.{◌≡◌, ◌+◌, ◌&&◌, if◌then◌else◌, ◌∷◌, ◌++◌}
+use Rattle.mm_memory.specs.Words.{ℕ, Bool, false, not, is_some, List, [], length, map, sum, bytes_eq, All, Contains}
+use Rattle.mm_memory.specs.Words.{IsPermutation, Option, Some, None, Result, Ok, Err, SpacePacket, Stored, IsRising}
+use Rattle.mm_memory.specs.Words.{Offered, Kept, KeptOver, Returned, packets_of, taken, given_up, deleted, given, over}
+use Rattle.mm_memory.specs.Words.{BeginsNone, State, offer, step, rest_fault, Answer, Action, Delete, Changes, Enable}
+use Rattle.mm_memory.specs.Words.{Disable, Begin, Abort, DeleteContent}
 use Rattle.mm_desk.specs.declared.event.Event.{Event}
 use Rattle.mm_memory.specs.Acting.{Outcome}
 use Rattle.mm_memory.specs.Applying.{Applies, AppliesEach}

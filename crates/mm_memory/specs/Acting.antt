@@ -1,6 +1,7 @@
 -- What one store answers to a change, and the store that it leaves.
-use Rattle.mm_memory.specs.Words.{◌≢◌, Option, Some, None, Result, Ok, Err, StateFault, State, step, rest_fault, Fault}
-use Rattle.mm_memory.specs.Words.{Held, Enable, Disable, Begin, Abort, DeleteContent, Resize, SetKind, SetChannel}
+use Rattle.std.specs.Prelude.{◌≢◌}
+use Rattle.mm_memory.specs.Words.{Option, Some, None, Result, Ok, Err, StateFault, State, step, rest_fault, Fault, Held}
+use Rattle.mm_memory.specs.Words.{Enable, Disable, Begin, Abort, DeleteContent, Resize, SetKind, SetChannel}
 use Rattle.mm_desk.specs.Machine.{begin, abort, delete}
 use Rattle.mm_desk.specs.Rest.{resize_fault}
 use Rattle.mm_memory.specs.declared.instruction.StoreChange.{StoreChange}

@@ -1,9 +1,9 @@
 -- Applying an instruction, and a request, which is its instructions in order.
-use Rattle.std.specs.Prelude.{◌≡◌}
-use Rattle.mm_memory.specs.Words.{◌⊎◌, ℕ, Bool, not, nat_lt, if◌then◌else◌, List, [], ◌∷◌, ◌++◌, length, filter}
-use Rattle.mm_memory.specs.Words.{Option, Some, None, Ok, Err, MAX_STORES, RouteRow, empty_store, has_row, takes}
-use Rattle.mm_memory.specs.Words.{with_row, without_row, without_store, opening, rest_fault, Row, Answer, Fault, Held}
-use Rattle.mm_memory.specs.Words.{Action, Create, Delete, Route, Report, Changes, RouteChange}
+use Rattle.std.specs.Prelude.{◌≡◌, ◌⊎◌, if◌then◌else◌, ◌∷◌, ◌++◌}
+use Rattle.mm_memory.specs.Words.{ℕ, Bool, not, nat_lt, List, [], length, filter, Option, Some, None, Ok, Err}
+use Rattle.mm_memory.specs.Words.{MAX_STORES, RouteRow, empty_store, has_row, takes, with_row, without_row}
+use Rattle.mm_memory.specs.Words.{without_store, opening, rest_fault, Row, Answer, Fault, Held, Action, Create, Delete}
+use Rattle.mm_memory.specs.Words.{Route, Report, Changes, RouteChange}
 use Rattle.mm_control.specs.declared.fault.Fault.TheVariants.{NoSuchRoute, TableFull}
 use Rattle.mm_memory.specs.declared.answer.Answer.TheVariants.{Done, Refused}
 use Rattle.mm_memory.specs.declared.fault.Fault.TheVariants.{NoMemory, NoSuchStore, Exists, TooManyStores, Control}

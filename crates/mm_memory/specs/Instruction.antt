@@ -1,8 +1,9 @@
 -- The instructions of a request, one by one, and the tests of their fields.
-use Rattle.mm_memory.specs.Words.{ℕ, nat_lt, ◌==◌, ◌||◌, if◌then◌else◌, List, [], map, Result, Ok, Err, Circular}
-use Rattle.mm_memory.specs.Words.{Bounded, MAX_APID, MAX_BLOCKS, MAX_CHANNEL, is_id, Target, Configuration, Request}
-use Rattle.mm_memory.specs.Words.{Fault, Action, Create, Delete, Route, Report, Changes, Enable, Disable, Begin, Abort}
-use Rattle.mm_memory.specs.Words.{DeleteContent, Resize, SetKind, SetChannel, RouteChange}
+use Rattle.std.specs.Prelude.{◌==◌, ◌||◌, if◌then◌else◌}
+use Rattle.mm_memory.specs.Words.{ℕ, nat_lt, List, [], map, Result, Ok, Err, Circular, Bounded, MAX_APID, MAX_BLOCKS}
+use Rattle.mm_memory.specs.Words.{MAX_CHANNEL, is_id, Target, Configuration, Request, Fault, Action, Create, Delete}
+use Rattle.mm_memory.specs.Words.{Route, Report, Changes, Enable, Disable, Begin, Abort, DeleteContent, Resize, SetKind}
+use Rattle.mm_memory.specs.Words.{SetChannel, RouteChange}
 use Rattle.mm_base.specs.declared.kind.Kind.{Kind}
 use Rattle.mm_base.specs.Reading.{◌>>=◌}
 use Rattle.mm_st15.specs.declared.instruction.ReportType.{ReportType}

@@ -1,7 +1,6 @@
 -- What a store of a memory loses for room (ECSS-E-ST-70-41C, 6.15: bounded and circular packet stores), in any call.
-use Rattle.std.specs.Prelude.{◌≡◌}
-use Rattle.mm_memory.specs.Words.{◌≢◌, ℕ, ◌≤◌, List, [], length, All, Some, Circular, Bounded, packets_of, State}
-use Rattle.mm_memory.specs.Words.{IsState}
+use Rattle.std.specs.Prelude.{◌≡◌, ◌≢◌, ◌≤◌}
+use Rattle.mm_memory.specs.Words.{ℕ, List, [], length, All, Some, Circular, Bounded, packets_of, State, IsState}
 use Rattle.mm_desk.specs.Losses.{IsOlder}
 use Rattle.mm_memory.specs.Accounts.{Turn, AreTurns, lost_by, held_in}
 use Rattle.mm_memory.specs.Holdings.{Holdings, state_of}

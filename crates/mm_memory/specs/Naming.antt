@@ -1,6 +1,6 @@
 -- The store whose identifier has a text.
-use Rattle.std.specs.Prelude.{◌≡◌}
-use Rattle.mm_memory.specs.Words.{ℕ, if◌then◌else◌, List, Option, None, option_map, Held, State}
+use Rattle.std.specs.Prelude.{◌≡◌, if◌then◌else◌}
+use Rattle.mm_memory.specs.Words.{ℕ, List, Option, None, option_map, Held, State}
 use Rattle.mm_base.specs.Id.{is_id_text, field_of, IsIdText, IsIdField}
 use Rattle.mm_memory.specs.Holdings.{Holdings, StandsAt, store_of}
 

@@ -1,6 +1,6 @@
 -- A packet that is recorded: each store that its report type is routed to is offered it.
-use Rattle.mm_memory.specs.Words.{ℕ, if◌then◌else◌, List, [], ◌∷◌, map, Option, Some, None, RouteRow, SpacePacket, Held}
-use Rattle.mm_memory.specs.Words.{offer, Tally}
+use Rattle.std.specs.Prelude.{if◌then◌else◌, ◌∷◌}
+use Rattle.mm_memory.specs.Words.{ℕ, List, [], map, Option, Some, None, RouteRow, SpacePacket, Held, offer, Tally}
 use Rattle.mm_memory.specs.Holdings.{Holdings}
 use Rattle.mm_memory.specs.Tallies.{nothing, tally_of, plus}
 pub use Rattle.mm_control.specs.Routing.{row_for, is_routed}

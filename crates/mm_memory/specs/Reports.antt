@@ -1,8 +1,8 @@
 -- The reports that answer a request, by the memory that it finds. A request that is answered by reports changes
 -- nothing.
-use Rattle.mm_memory.specs.Words.{ℕ, Bool, if◌then◌else◌, List, [], ◌∷◌, length, map, filter, filter_map, Option, None}
-use Rattle.mm_memory.specs.Words.{is_some, RouteRow, oldest, newest, is_to, Configuration, Target, Row, Request, Held}
-use Rattle.mm_memory.specs.Words.{is_id, option_map}
+use Rattle.std.specs.Prelude.{if◌then◌else◌, ◌∷◌}
+use Rattle.mm_memory.specs.Words.{ℕ, Bool, List, [], length, map, filter, filter_map, Option, None, is_some, RouteRow}
+use Rattle.mm_memory.specs.Words.{oldest, newest, is_to, Configuration, Target, Row, Request, Held, is_id, option_map}
 use Rattle.mm_base.specs.Kind.{code_of}
 use Rattle.mm_st15.specs.declared.report.Report.{Report}
 use Rattle.mm_st15.specs.declared.report_entry.Status.{Status}

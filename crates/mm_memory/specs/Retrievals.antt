@@ -1,8 +1,8 @@
 -- What a by-time-range retrieval from a store of a memory gives (ECSS-E-ST-70-41C, 6.15), over any calls on the memory
 -- from its begin on.
-use Rattle.std.specs.Prelude.{◌≡◌}
-use Rattle.mm_memory.specs.Words.{ℕ, List, [], ◌∷◌, All, Contains, Option, Some, None, Stored, IsRising, over}
-use Rattle.mm_memory.specs.Words.{State, IsState}
+use Rattle.std.specs.Prelude.{◌≡◌, ◌∷◌}
+use Rattle.mm_memory.specs.Words.{ℕ, List, [], All, Contains, Option, Some, None, Stored, IsRising, over, State}
+use Rattle.mm_memory.specs.Words.{IsState}
 use Rattle.mm_desk.specs.Retrievals.{overwritten, IsOn, IsBegun, AbortsNone, IsWithin, AreGiven}
 use Rattle.mm_memory.specs.Accounts.{Call, Turn, AreTurns, after_turns, events_in, deleted_by, given_by, in_store}
 use Rattle.mm_memory.specs.Accounts.{in_turns, held_in}

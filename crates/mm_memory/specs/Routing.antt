@@ -1,6 +1,7 @@
 -- The rows of the storage control that a packet follows. No public clause cites this module.
-use Rattle.mm_memory.specs.Words.{ℕ, Bool, if◌then◌else◌, List, [], filter, Option, Some, None, RouteRow, SpacePacket}
-use Rattle.mm_memory.specs.Words.{is_for, is_to, Held}
+use Rattle.std.specs.Prelude.{if◌then◌else◌}
+use Rattle.mm_memory.specs.Words.{ℕ, Bool, List, [], filter, Option, Some, None, RouteRow, SpacePacket, is_for, is_to}
+use Rattle.mm_memory.specs.Words.{Held}
 use Rattle.std.specs.List.{list_any, position_or_len}
 use Rattle.mm_packet.specs.declared.header.PacketType.{PacketType}
 use Rattle.mm_packet.specs.declared.header.PacketType.TheVariants.{Telecommand, Telemetry}

@@ -1,5 +1,6 @@
 -- What became of a packet in several stores.
-use Rattle.mm_memory.specs.Words.{ℕ, ◌+◌, Result, Ok, Err, Offered, Kept, KeptOver, Lost, Returned, Tally}
+use Rattle.std.specs.Prelude.{◌+◌}
+use Rattle.mm_memory.specs.Words.{ℕ, Result, Ok, Err, Offered, Kept, KeptOver, Lost, Returned, Tally}
 
 -- how many stores keep the packet, how many packets are lost, and how many stores refuse it
 abbrev pub counted : ℕ → ℕ → ℕ → Tally

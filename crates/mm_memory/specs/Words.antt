@@ -2,8 +2,7 @@
 -- place.
 pub use Rattle.std.specs.Option.{option_map}
 pub use Rattle.std.specs.Prelude.{All, Bool, Contains, Err, IsPermutation, List, None, Ok, Option, Result, Some, []}
-pub use Rattle.std.specs.Prelude.{bytes_eq, false, filter, filter_map, fold, if◌then◌else◌, is_some, length, map}
-pub use Rattle.std.specs.Prelude.{nat_lt, not, sum, ℕ, ◌&&◌, ◌++◌, ◌+◌, ◌==◌, ◌||◌, ◌∷◌, ◌≢◌, ◌≤◌, ◌⊎◌}
+pub use Rattle.std.specs.Prelude.{bytes_eq, false, filter, filter_map, fold, is_some, length, map, nat_lt, not, sum, ℕ}
 pub use Rattle.mm_base.specs.Id.{is_id}
 pub use Rattle.mm_base.specs.declared.kind.Kind.TheVariants.{Bounded, Circular}
 pub use Rattle.mm_base.specs.declared.limits.TheConstants.{MAX_APID, MAX_BLOCKS, MAX_CHANNEL, MAX_STORES}

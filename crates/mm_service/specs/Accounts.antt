@@ -1,8 +1,8 @@
 -- What becomes of packets in the calls of a service, octet for octet.
-use Rattle.std.specs.Prelude.{◌≡◌}
-use Rattle.mm_service.specs.Words.{ℕ, ◌<◌, if◌then◌else◌, List, [], ◌∷◌, ◌++◌, take, map, flat_map, bytes_eq, All}
-use Rattle.mm_service.specs.Words.{Contains, Option, Some, Ok, field_of, SpacePacket, spelling, Request, SpellsRequest}
-use Rattle.mm_service.specs.Words.{Stored, IsState, Tally, state_of, instructions_of, Fate, Reported}
+use Rattle.std.specs.Prelude.{◌≡◌, ◌<◌, if◌then◌else◌, ◌∷◌, ◌++◌}
+use Rattle.mm_service.specs.Words.{ℕ, List, [], take, map, flat_map, bytes_eq, All, Contains, Option, Some, Ok}
+use Rattle.mm_service.specs.Words.{field_of, SpacePacket, spelling, Request, SpellsRequest, Stored, IsState, Tally}
+use Rattle.mm_service.specs.Words.{state_of, instructions_of, Fate, Reported}
 use Rattle.mm_desk.specs.declared.event.Event.TheVariants.{Offer, Next}
 use Rattle.mm_desk.specs.Retrievals.{IsBegun}
 use Rattle.mm_memory.specs.Accounts.{Call as MemoryCall, records, asks, applies, Turn as MemoryTurn}

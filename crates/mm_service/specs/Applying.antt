@@ -1,7 +1,7 @@
 -- A request that is applied.
-use Rattle.std.specs.Prelude.{◌≡◌}
-use Rattle.mm_service.specs.Words.{◌≢◌, ◌⊎◌, ℕ, List, map, length, Ok, Err, SpacePacket, Request, IsRequest}
-use Rattle.mm_service.specs.Words.{SpellsRequest, Answer, instructions_of, Fault, NoMemory, TooManyReports, over}
+use Rattle.std.specs.Prelude.{◌≡◌, ◌≢◌, ◌⊎◌}
+use Rattle.mm_service.specs.Words.{ℕ, List, map, length, Ok, Err, SpacePacket, Request, IsRequest, SpellsRequest}
+use Rattle.mm_service.specs.Words.{Answer, instructions_of, Fault, NoMemory, TooManyReports, over}
 use Rattle.mm_memory.specs.Applying.{AppliesEach}
 use Rattle.mm_memory.specs.Reports.{reports_on}
 use Rattle.mm_service.specs.Answering.{code_of_answer}

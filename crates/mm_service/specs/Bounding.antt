@@ -1,6 +1,6 @@
 -- How many reports may wait.
-use Rattle.std.specs.Prelude.{◌≡◌}
-use Rattle.mm_service.specs.Words.{◌⊎◌, ◌+◌, ◌≤◌, ⊤, ℕ, length, Option, Some, None, Request}
+use Rattle.std.specs.Prelude.{◌≡◌, ◌⊎◌, ◌+◌, ◌≤◌}
+use Rattle.mm_service.specs.Words.{⊤, ℕ, length, Option, Some, None, Request}
 use Rattle.mm_service.specs.Serving.{Serving}
 use Rattle.mm_st15.specs.declared.request.Request.TheVariants as request
 

@@ -1,5 +1,6 @@
 -- The fields of the entries of reports.
-use Rattle.mm_service.specs.Words.{ℕ, List, [], ◌∷◌, ◌++◌, length, drop, Configuration, EntryFields}
+use Rattle.std.specs.Prelude.{◌∷◌, ◌++◌}
+use Rattle.mm_service.specs.Words.{ℕ, List, [], length, drop, Configuration, EntryFields}
 use Rattle.mm_st15.specs.declared.report_entry.Row.{Row}
 use Rattle.mm_st15.specs.declared.report_entry.Summary.{Summary}
 use Rattle.mm_st15.specs.declared.report_entry.Status.{Status}

@@ -1,7 +1,8 @@
 -- The packets of retrievals, given one by one into a buffer.
 use Rattle.std.specs.Prelude.{◌≡◌}
-use Rattle.mm_service.specs.Words.{ℕ, List, length, Option, Some, None, Result, Ok, Err, ◌>>=◌, spelling, Stored}
-use Rattle.mm_service.specs.Words.{next, Fault, Refuses, over}
+use Rattle.mm_base.specs.Reading.{◌>>=◌}
+use Rattle.mm_service.specs.Words.{ℕ, List, length, Option, Some, None, Result, Ok, Err, spelling, Stored, next, Fault}
+use Rattle.mm_service.specs.Words.{Refuses, over}
 use Rattle.mm_desk.specs.declared.fault.Fault.{Fault as StateFault}
 use Rattle.mm_service.specs.declared.giving.Given.{Given}
 use Rattle.mm_service.specs.Reading.{id_tested}

@@ -1,5 +1,6 @@
 -- Instructions out of their fields.
-use Rattle.mm_service.specs.Words.{ℕ, ◌==◌, List, map, if◌then◌else◌, Configuration, InstructionFields}
+use Rattle.std.specs.Prelude.{◌==◌, if◌then◌else◌}
+use Rattle.mm_service.specs.Words.{ℕ, List, map, Configuration, InstructionFields}
 use Rattle.mm_st15.specs.declared.instruction.Target.{Target}
 use Rattle.mm_st15.specs.declared.instruction.ReportType.{ReportType}
 use Rattle.mm_st15.specs.declared.instruction.TimeRange.{TimeRange}

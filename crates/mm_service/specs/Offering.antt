@@ -1,5 +1,6 @@
 -- A packet that is offered to one store.
-use Rattle.mm_service.specs.Words.{ℕ, List, Result, Ok, Err, ◌>>=◌, offer, Fault, Refuses, Fate}
+use Rattle.mm_base.specs.Reading.{◌>>=◌}
+use Rattle.mm_service.specs.Words.{ℕ, List, Result, Ok, Err, offer, Fault, Refuses, Fate}
 use Rattle.mm_desk.specs.declared.reply.Offered.{Offered}
 use Rattle.mm_desk.specs.declared.reply.Returned.{Returned}
 use Rattle.mm_service.specs.declared.offering.Fate.TheVariants.{Kept, KeptOver, Lost}

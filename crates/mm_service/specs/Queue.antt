@@ -1,5 +1,6 @@
 -- Reports that wait, one after another.
-use Rattle.mm_service.specs.Words.{List, [], ◌∷◌, ◌++◌, fold, SpacePacket, Report, kind_of, Counts, counted, numbers_of}
+use Rattle.std.specs.Prelude.{◌∷◌, ◌++◌}
+use Rattle.mm_service.specs.Words.{List, [], fold, SpacePacket, Report, kind_of, Counts, counted, numbers_of}
 use Rattle.mm_ask.specs.Telemetry.{telemetry_of}
 
 -- how many reports there were, and the packets of those that wait

@@ -1,7 +1,8 @@
 -- What octets say: an identifier, a packet with nothing after it, a request.
-use Rattle.mm_service.specs.Words.{ℕ, nat_le, if◌then◌else◌, List, length, Result, Ok, Err, is_id_text, field_of, ◌>>=◌}
-use Rattle.mm_service.specs.Words.{SpacePacket, spelling, packet_alone, request_alone, LineFault, Fault, BadId}
-use Rattle.mm_service.specs.Words.{NoSuchStore, TooLong}
+use Rattle.std.specs.Prelude.{if◌then◌else◌}
+use Rattle.mm_base.specs.Reading.{◌>>=◌}
+use Rattle.mm_service.specs.Words.{ℕ, nat_le, List, length, Result, Ok, Err, is_id_text, field_of, SpacePacket}
+use Rattle.mm_service.specs.Words.{spelling, packet_alone, request_alone, LineFault, Fault, BadId, NoSuchStore, TooLong}
 use Rattle.mm_packet.specs.declared.block.TheConstants.{BLOCK}
 use Rattle.mm_service.specs.Fault.{of_octets}
 

@@ -1,7 +1,8 @@
 -- What is told of a report that was received.
 use Rattle.std.specs.Prelude.{◌≡◌}
-use Rattle.mm_service.specs.Words.{ℕ, List, map, Option, Some, None, Result, Ok, Err, ◌>>=◌, SpacePacket, Report}
-use Rattle.mm_service.specs.Words.{code_of, kind_of, moment_of, LineFault, of_request, packet_alone, EntryFields}
+use Rattle.mm_base.specs.Reading.{◌>>=◌}
+use Rattle.mm_service.specs.Words.{ℕ, List, map, Option, Some, None, Result, Ok, Err, SpacePacket, Report, code_of}
+use Rattle.mm_service.specs.Words.{kind_of, moment_of, LineFault, of_request, packet_alone, EntryFields}
 use Rattle.mm_packet.specs.Packet.{counter_of, destination_of}
 use Rattle.mm_st15.specs.declared.fault.Fault.{Fault as ReportFault}
 use Rattle.mm_st15.specs.Report.{report_fault}

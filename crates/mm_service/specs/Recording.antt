@@ -1,5 +1,6 @@
 -- A packet that is offered to each store that its report type is routed to.
-use Rattle.mm_service.specs.Words.{ℕ, List, Result, Ok, ◌>>=◌, Tally, Fault}
+use Rattle.mm_base.specs.Reading.{◌>>=◌}
+use Rattle.mm_service.specs.Words.{ℕ, List, Result, Ok, Tally, Fault}
 use Rattle.mm_memory.specs.Recording.{after_record, tally_after}
 use Rattle.mm_service.specs.Reading.{block_of}
 use Rattle.mm_service.specs.Serving.{Serving}

@@ -1,7 +1,6 @@
 -- The reports that wait, given one by one.
-use Rattle.std.specs.Prelude.{◌≡◌}
-use Rattle.mm_service.specs.Words.{ℕ, nat_le, if◌then◌else◌, List, [], ◌∷◌, length, SpacePacket, spelling}
-use Rattle.mm_service.specs.Words.{Reported, over}
+use Rattle.std.specs.Prelude.{◌≡◌, if◌then◌else◌, ◌∷◌}
+use Rattle.mm_service.specs.Words.{ℕ, nat_le, List, [], length, SpacePacket, spelling, Reported, over}
 use Rattle.mm_service.specs.declared.reporting.Reported.TheVariants.{Written, TooSmall, End}
 use Rattle.mm_service.specs.Serving.{Serving}
 

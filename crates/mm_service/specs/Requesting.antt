@@ -1,9 +1,10 @@
 -- Telecommands out of the fields of their requests.
-use Rattle.std.specs.Prelude.{◌≡◌}
-use Rattle.mm_service.specs.Words.{◌≢◌, ℕ, ◌==◌, ◌&&◌, Bool, nat_lt, nat_le, List, length, map, Option, Some, None}
-use Rattle.mm_service.specs.Words.{Result, Ok, Err, if◌then◌else◌, ◌>>=◌, test, SpacePacket, spelling, Telecommand}
-use Rattle.mm_service.specs.Words.{Request, SERVICE, IsRequest, SpellsRequest, request_alone, InstructionFields}
-use Rattle.mm_service.specs.Words.{FieldsFault, Idle, Limit, UnknownSubtype, CountMismatch}
+use Rattle.std.specs.Prelude.{◌≡◌, ◌≢◌, ◌==◌, ◌&&◌, if◌then◌else◌}
+use Rattle.mm_base.specs.Reading.{◌>>=◌}
+use Rattle.mm_service.specs.Words.{ℕ, Bool, nat_lt, nat_le, List, length, map, Option, Some, None, Result, Ok, Err}
+use Rattle.mm_service.specs.Words.{test, SpacePacket, spelling, Telecommand, Request, SERVICE, IsRequest, SpellsRequest}
+use Rattle.mm_service.specs.Words.{request_alone, InstructionFields, FieldsFault, Idle, Limit, UnknownSubtype}
+use Rattle.mm_service.specs.Words.{CountMismatch}
 use Rattle.mm_packet.specs.declared.header.TheConstants.{IDLE_APID, SEQUENCE_COUNTS}
 use Rattle.mm_st15.specs.declared.request_kind.RequestKind.{RequestKind}
 use Rattle.mm_st15.specs.RequestKind.{code_of, kind_at, width_of}

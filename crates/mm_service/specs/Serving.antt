@@ -1,7 +1,8 @@
 -- Where a service stands.
-use Rattle.mm_service.specs.Words.{ℕ, ◌+◌, ◌-◌, ◌^◌, min, List, [], Option, Some, None, Result, Ok, Err, ◌>>=◌}
-use Rattle.mm_service.specs.Words.{SpacePacket, State, Holdings, memory_of, state_of, Counts, no_counts, Fault}
-use Rattle.mm_service.specs.Words.{NoMemory, NoSuchStore}
+use Rattle.std.specs.Prelude.{◌+◌, ◌-◌, ◌^◌}
+use Rattle.mm_base.specs.Reading.{◌>>=◌}
+use Rattle.mm_service.specs.Words.{ℕ, min, List, [], Option, Some, None, Result, Ok, Err, SpacePacket, State, Holdings}
+use Rattle.mm_service.specs.Words.{memory_of, state_of, Counts, no_counts, Fault, NoMemory, NoSuchStore}
 use Rattle.mm_problem.specs.Document.{setup_of}
 use Rattle.mm_problem.specs.declared.fault.Fault.{Fault as SetupFault}
 use Rattle.mm_memory.specs.Lending.{with_state}

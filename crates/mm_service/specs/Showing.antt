@@ -1,5 +1,6 @@
 -- What a store of the memory is shown to hold and to have lost.
-use Rattle.mm_service.specs.Words.{ℕ, List, length, Result, Ok, ◌>>=◌, State, Fault}
+use Rattle.mm_base.specs.Reading.{◌>>=◌}
+use Rattle.mm_service.specs.Words.{ℕ, List, length, Result, Ok, State, Fault}
 use Rattle.mm_store.specs.Content.{oldest, newest}
 use Rattle.mm_service.specs.declared.showing.Shown.{Shown}
 use Rattle.mm_service.specs.Reading.{id_tested}

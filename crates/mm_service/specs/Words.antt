@@ -1,14 +1,13 @@
 -- The words of the crates below, and the types of this one, in which its definitions are written, passed on from one
 -- place.
 pub use Rattle.std.specs.Prelude.{All, Bool, Contains, Err, List, None, Ok, Option, Result, Some, [], bytes_eq, drop}
-pub use Rattle.std.specs.Prelude.{flat_map, fold, if◌then◌else◌, length, map, min, nat_le, nat_lt, take, ℕ, ⊤, ◌&&◌}
-pub use Rattle.std.specs.Prelude.{◌++◌, ◌+◌, ◌-◌, ◌<◌, ◌==◌, ◌^◌, ◌∷◌, ◌≢◌, ◌≤◌, ◌⊎◌}
+pub use Rattle.std.specs.Prelude.{flat_map, fold, length, map, min, nat_le, nat_lt, take, ℕ, ⊤}
 pub use Rattle.mm_ask.specs.Counting.{Counts, counted, no_counts, numbers_of}
 pub use Rattle.mm_ask.specs.Fault.{of_request, refusal_of as octets_refusal}
 pub use Rattle.mm_ask.specs.Line.{packet_alone, request_alone}
 pub use Rattle.mm_ask.specs.declared.fault.LineFault.{LineFault}
 pub use Rattle.mm_base.specs.Id.{field_of, is_id_text}
-pub use Rattle.mm_base.specs.Reading.{test, ◌>>=◌}
+pub use Rattle.mm_base.specs.Reading.{test}
 pub use Rattle.mm_base.specs.declared.refusal.Refusal.{Refusal}
 pub use Rattle.mm_desk.specs.Machine.{IsState, State, next, offer}
 pub use Rattle.mm_memory.specs.Holdings.{Holdings, memory_of, state_of}
