@@ -1,6 +1,6 @@
-/* Makes each call once for each allocation that it asks for, with that one refused. The call must then tell want of memory, and leave the
+/* Makes each call once for each allocation that it asks for, with that one refused. The call must then tell `no memory`, and leave the
  * buffer as it was, or give the same text as with ample memory; and no block may stay allocated. The life of a memory is lived in the same
- * way: a call that tells want of memory is made again, and the life must go on as with ample memory. A store that changes its kind asks for
+ * way: a call that tells `no memory` is made again, and the life must go on as with ample memory. A store that changes its kind asks for
  * what the other kind is kept in. Where reports gather, the room for them is asked for a few times, each time twice as much. Linked with
  * `-Wl,--wrap=malloc,--wrap=realloc,--wrap=free`. */
 #include <rudlayog.h>
@@ -204,7 +204,7 @@ static int sweep(const struct part *part) {
         }
     }
     refused = 0;
-    printf("%s: %ld allocations, each refused once; want of memory told %ld times\n", part->name, all, told);
+    printf("%s: %ld allocations, each refused once; no memory told %ld times\n", part->name, all, told);
     return told == 0;
 }
 
@@ -402,7 +402,7 @@ static int sweep_life(void) {
         }
     }
     refused = 0;
-    printf("a memory: %ld allocations, each refused once; want of memory told %ld times\n", all, told);
+    printf("a memory: %ld allocations, each refused once; no memory told %ld times\n", all, told);
     return told == 0;
 }
 

@@ -116,7 +116,7 @@ def _ages_of(task: Task, problem: Problem) -> tuple[float, ...]:
 
 
 def _planned(task: Task, setup: bytes, forecast: bytes, count: int, packets: Sequence[int]) -> Found:
-    """What is found of a plan of the kind that is asked for, of which a unit of each store has so many packets."""
+    """What is found of a plan of the kind that is asked for, of which a unit of each store has this many packets."""
     by_store, loss, shown, bound = (_in_order if task.in_order else _least)(setup, forecast, count)
     if any(each != 1 for each in packets):
         shown += f"bound {bound}\n"

@@ -207,7 +207,7 @@ class Quick:
         return rooms_of(contacts_of(remade(self.mission, passes=passes), self.unit), self.edges, limited)
 
     def _rows_of(self, factors: tuple[Factor, ...]) -> str | None:
-        """The middles of the rows, in lines: what arrives in the stores, so many times as much. None where it is out of
+        """The middles of the rows, in lines: what arrives in the stores, this many times as much. None where it is out of
         range."""
         values: list[int] = []
         for store, factor in zip(self.coming, factors):

@@ -62,7 +62,7 @@ class Came(NamedTuple):
     below: int
 
     def column(self, packets: int = 1, times: int = 1, parts: int = 1) -> list[int]:
-        """What comes in each step, in units of so many packets, `times` as much in so many `parts`. A unit that has
+        """What comes in each step, in units of this many packets, `times` as much in this many `parts`. A unit that has
         begun is whole."""
         # the whole numbers of units that have come, as negative numbers
         counts = list(map(floordiv, map(mul, self.above, repeat(times)), repeat(-self.below * packets * parts)))
@@ -92,7 +92,7 @@ def came(flows: Sequence[Flow], times: Sequence[int]) -> Came:
 
 @dataclass(frozen=True)
 class Unit:
-    """What a plan counts: for each store so many `packets` that have about the same octets. `count` is how many of the
+    """What a plan counts: for each store this many `packets` that have about the same octets. `count` is how many of the
     longest packets they are, and `whole` their octets; `octets` is what a unit of each store has, and `link` what it
     takes on a link: as much as the largest one. """
 
@@ -112,7 +112,7 @@ class Unit:
         return cls(count, whole, packets, octets, max(octets.values()))
 
     def packets_in(self, length: int, room: int) -> int:
-        """The packets of this length in a unit of a store that has room for so many."""
+        """The packets of this length in a unit of a store that has room for this many."""
         return _packets_in(self.whole, length, room)
 
     def on_channel(self, mission: Mission, channel: int) -> int:

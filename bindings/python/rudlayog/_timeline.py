@@ -191,7 +191,7 @@ def unit_of(mission: Mission, edges: Sequence[int]) -> Unit:
 
 
 def _in_range(mission: Mission, edges: Sequence[int], arrivals: Mapping[str, Came]) -> Callable[[int], bool]:
-    """Whether sizes, arrivals and windows are in range in units of so many of the longest packets."""
+    """Whether sizes, arrivals and windows are in range in units of this many of the longest packets."""
     sizes = {store.id: mission.size_of(store) for store in mission.stores}
 
     def is_in_range(count: int) -> bool:

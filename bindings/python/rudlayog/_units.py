@@ -91,7 +91,7 @@ def fault(place: str, found: object, meant: str) -> MissionError:
 
 @dataclass(frozen=True)
 class Volume:
-    """A volume: so many octets, or so many blocks where `in_blocks`. `unit` is the one that it was written in."""
+    """A volume: a number of octets, or of blocks where `in_blocks`. `unit` is the one that it was written in."""
 
     amount: Fraction
     in_blocks: bool = False
@@ -117,7 +117,7 @@ class Volume:
 
 @dataclass(frozen=True)
 class Rate:
-    """A rate: so many bits a second, or so many blocks a second where `in_blocks`. Bits are those of packets, without
+    """A rate: a number of bits a second, or of blocks a second where `in_blocks`. Bits are those of packets, without
     frames and codes."""
 
     amount: Fraction

@@ -84,7 +84,7 @@ def _take(queue: deque[Packets], count: int, oldest: bool) -> None:
 
 
 def _median(found: list[tuple[Fraction, int]]) -> Fraction:
-    """The middle age, where each age counts so many times."""
+    """The middle age, where each age counts as often as it is given."""
     half = sum(count for _, count in found) / 2
     so_far = 0
     for age, count in sorted(found):

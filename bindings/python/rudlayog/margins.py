@@ -185,7 +185,7 @@ def _room(point_at: Callable[[int], Point], loss: int, most: int) -> Room:
 
 
 def _grown(problem: Problem, stores: tuple[str, ...], tenths: int) -> Point:
-    """The mission with so many tenths of a percent more that arrives."""
+    """The mission with this many tenths of a percent more that arrives."""
     if not tenths:
         return Point(0.0, problem.setup, problem.forecast, problem.least(), problem.unit.count)
     made = scaled(1 + Fraction(tenths, 1000), *stores).of(problem.mission, problem.mission)
@@ -194,7 +194,7 @@ def _grown(problem: Problem, stores: tuple[str, ...], tenths: int) -> Point:
 
 
 def _shrunk(problem: Problem, tenths: int) -> Point:
-    """The mission with stores that are so many tenths of a percent smaller, by whole blocks of the problem. What they
+    """The mission with stores that are this many tenths of a percent smaller, by whole blocks of the problem. What they
     hold as the mission begins and has no room there arrives in the first step, and is lost."""
     sizes = [max(store.size * (1000 - tenths) // 1000, 1) for store in problem.setup.stores]
     stores = [

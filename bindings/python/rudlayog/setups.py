@@ -40,7 +40,7 @@ class Route:
 
 @dataclass(frozen=True)
 class Limit:
-    """At most so many `blocks` leave the stores of the `channel` together in one step."""
+    """At most this many `blocks` leave the stores of the `channel` together in one step."""
 
     channel: int
     blocks: int

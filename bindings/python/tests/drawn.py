@@ -20,7 +20,7 @@ def moment_of(dice, minutes):
 
 
 def volume_of(dice, octets, blocks, units):
-    """About so many octets, in some unit: of 1000 octets or of 1024, or blocks."""
+    """About this many octets, in some unit: of 1000 octets or of 1024, or blocks."""
     unit = dice.choice([*units, "blocks", ""])
     amount = {
         "blocks": octets / blocks,

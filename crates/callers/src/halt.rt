@@ -1,4 +1,5 @@
-//! A plan that is carried out, also over links that were used before, and which packets go out again where a link failed.
+//! A plan that is carried out, also over links that were used before, and which packets are sent again where a link
+//! failed.
 ghost use Rattle.std.specs.Prelude.{◌≡◌, ◌<◌, ◌-◌, ◌^◌, ◌↔◌, ℕ, All, IfNone, IfSome, IfErr, IsSome};
 ghost use Rattle.mm_report.specs.declared.cause.Cause.TheVariants.{LinkFailed};
 ghost use Rattle.callers.specs.Again.{GoesOutAgain};
@@ -24,13 +25,15 @@ pub fn carry_out_or_tell<R: Threads + Wait + Sync>(
     links: Vec<Downlink>,
 ) -> Result<RunEnd<Burst, Downlink>, Halted<Burst, Downlink>>
     requires links { All (λ l. l.failed < 2 ^ 64 - 1) links.items }
-    // The packets that some link took last went out, and go out again.
-    ensures again { IfErr result (λ halted. (step : ℕ) → halted.cause ≡ LinkFailed step → GoesOutAgain links.items halted.links.items memory.new) }
+    // The packets that some link took last were sent, and are sent again.
+    ensures again { IfErr result (λ halted. (step : ℕ) → halted.cause ≡ LinkFailed step
+        → GoesOutAgain links.items halted.links.items memory.new) }
 {
     carry_out(rt, alloc, memory, problem, plan, sources, links, 0)
 }
 
-/// Carries a plan out, the first step at the moment 1, where one more failure of each link can be counted. Otherwise nothing is done.
+/// Carries a plan out, the first step at the moment 1, where one more failure of each link can be counted. Otherwise
+/// nothing is done.
 pub fn carry_out_over_used<R: Threads + Wait + Sync>(
     rt: &R,
     alloc: Global,

@@ -123,7 +123,7 @@ module _ {L : Type 0} (sent : L → List Sent) (failed : L → ℕ) (m : RunInpu
         (λ ps. map (λ p. Offer e.now p) (filter (is_routed e.routes (id_here s store i)) ps)) (given_in t m.gives) in
         ap (map (offers e (slice_index places s))) (done.sources_are.others t (λ first last. omega arith)) ∙ alike
 
-    -- a store went by a step run in a step, this one or an earlier one
+    -- a store had a step run in a step, this one or an earlier one
     abbrev RunAt : ℕ → ℕ → Type 0
     RunAt s u = IsStepRun (offered m s u) (m.amounts s u) (gave_after (place_in_memory m s) u)
         (store_state m (stores_after (u - 1)) s) (store_state m (stores_after u) s)
@@ -152,7 +152,7 @@ module _ {L : Type 0} (sent : L → List Sent) (failed : L → ℕ) (m : RunInpu
           (done.runs.runs s u store first (omega arith))
     ]
 
-    -- the stores went by one step more
+    -- the stores had one step run more
     ran_on : AreStepRuns m count stores_after gave_after
     ran_on = record {
       first = at_old 0 (λ same. omega (arith, same)) ∙ done.runs.first;

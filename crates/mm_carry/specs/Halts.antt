@@ -17,7 +17,7 @@ AreOneOrder orders k calls = (calls ≡ []) ⊎ ((c : Course) × (calls ≡ c.ca
 abbrev pub AreFirstOffers : RecordingContext → ℕ → List SpacePacket → List Event → Type 0
 AreFirstOffers e k packets first = (rest : List Event) × (offers e k packets ≡ first ++ rest)
 
--- a store went from one state to another by one legal log: replies left aside, a shuffle of the first offers of what
+-- one legal log leads a store from one state to another: replies left aside, a shuffle of the first offers of what
 -- each source gives, and then the calls of at most one order, the one for this store
 pub record IsByOneLog (e : RecordingContext) (given : List (List SpacePacket)) (orders : List Order) (k : ℕ)
     (s t : State) : Type 0 where
@@ -34,7 +34,7 @@ abbrev pub AtEachStore : (ℕ → State → State → Type 0) → List Held → 
 AtEachStore went before after = (k : ℕ) → k < length before → went k (opening_at (states_of before) k)
     (opening_at (states_of after) k)
 
--- in each step, whole or broken off, each store went by one log
+-- in each step, whole or broken off, one log leads each store on
 abbrev pub BrokenStepsAreLogs : {L : Type 0} → (L → List Sent) → (L → ℕ) → Type 0
 BrokenStepsAreLogs {L} sent failed = (step now : ℕ) (routes : List RouteRow) (orders : List Order)
     (before after : RunState Supply L) (stop : Option Stop)

@@ -78,7 +78,7 @@ pub record IsStep {L : Type 0} (sent : L → List Sent) (failed : L → ℕ) (e 
   pub early : IfSome fault (λ _. (broken ≡ None) × (spent ≡ 0) × (after.stores ≡ mid) × (after.links ≡ before.links))
   pub stop_is : stop ≡ stop_for (cause_of e.step fault broken) spent
 
--- in a whole step each store went by a step run: the offers of what the sources gave, and then its order, where it has
+-- in a whole step each store had a step run: the offers of what the sources gave, and then its order, where it has
 -- one. Each order was one link's, once, and the links sent what the orders were given; nothing is left in the sources
 -- for the step
 pub record IsWholeStep {L : Type 0} (sent : L → List Sent) (failed : L → ℕ) (e : RecordingContext) (orders : List Order)

@@ -76,7 +76,7 @@ pub fn broken_steps_are_logs<L: Link>()
     ensures logs { BrokenStepsAreLogs L.sent L.failed }
 {}
 
-/// A step without a stop is whole: each store went by a step run of all that the sources gave and of its whole order,
+/// A step without a stop is whole: each store had a step run of all that the sources gave and of its whole order,
 /// and the links sent what the orders were given.
 #[tactic(auto, using(crate::proofs::Parts::whole_step))]
 pub fn steps_without_stop_are_whole<L: Link>()

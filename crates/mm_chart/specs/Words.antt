@@ -119,7 +119,7 @@ line_words p style n parts = Label style MARGIN (word_line p.problem n) parts
 unfoldable pub steps_line : Drawn → Series → ℕ → List (List ℕ) → List ℕ → Shape
 steps_line p x n words none = line_words p style.Plain n (if total_of p x == 0 then none ∷ [] else in_steps p x ∷ words)
 
--- a new line after each so many stores, where more follow
+-- a new line after each group of this many stores, where more follow
 unfoldable pub broken : ℕ → ℕ → ℕ → List ℕ
 broken few y s =
     if s == 0 then [] else if s % few == 0 then closed ++ opened style.Plain INDENT (y + LINE_PITCH * (s / few)) else []

@@ -69,7 +69,7 @@ fn push_why(text: &mut Vec<u8>, picture: &Picture, bound: &Part<'_>) -> Pushed
         Said(AT_LEAST))
 }
 
-// A new line after each so many stores, where more follow.
+// A new line after each group of this many stores, where more follow.
 #[tactic(auto, using(std::proofs::Common::append_assoc), unfolding(crate::specs::Words::broken))]
 fn push_broken(text: &mut Vec<u8>, few: usize, y: u32, store: usize) -> Pushed
     requires few { 1 ≤ few }

@@ -139,7 +139,7 @@ fn tell_packets<E: Write>(count: u64, of_one: &str, of_more: &str, err: &mut E) 
     }
 }
 
-// Says how many packets of a run that was carried out went to no store, and why.
+// Says how many packets of a run that was carried out are in no store, and why.
 fn tell_unstored<E: Write>(given: &Given, err: &mut E) -> io::Result<()> {
     let Unstored {
         late,

@@ -1,5 +1,6 @@
 -- The losses, bounds and bad stretches of small problems, as worked out by hand.
-use Rattle.std.proofs.Common.{◌≡◌, ℕ, List, [], ◌∷◌, Option, Some, None, length, codes, pos, negsuc, refl, inl, inr, arith}
+use Rattle.std.proofs.Common.{◌≡◌, ℕ, List, [], ◌∷◌, Option, Some, None, length, codes, pos, negsuc, refl, inl}
+use Rattle.std.proofs.Common.{inr, arith}
 use Rattle.std.proofs.Math.ListN.{replicate}
 use Rattle.std.proofs.lemmas.Bool.{false≢true}
 use Rattle.std.proofs.lemmas.List.Elements.{All-nil, All-cons}
@@ -34,7 +35,8 @@ abbrev limited : ℕ → List (Option ℕ)
 limited blocks = Some blocks ∷ replicate 7 None
 
 abbrev problem : List StoreRow → List (Option ℕ) → List ℕ → List ℕ → Dumping
-problem rows limits windows arrived = record { rows = rows; limits = limits; windows = windows; arrived = arrived; limited = []; step_limits = [] }
+problem rows limits windows arrived =
+    record { rows = rows; limits = limits; windows = windows; arrived = arrived; limited = []; step_limits = [] }
 
 -- a plan for as many stores, step by step
 abbrev plan : ℕ → List ℕ → Amounts
@@ -43,7 +45,7 @@ plan stores amounts = amount (record { stores = stores; steps = length amounts; 
 abbrev stretch : List ℕ → ℕ → ℕ → Stretch
 stretch id first last = record { store = id; first = first; last = last }
 
--- one store of size 4, which begins with so many blocks
+-- one store of size 4, which begins with this number of blocks
 abbrev one_store : ℕ → Dumping
 one_store start = problem (store sci 4 start 0 ∷ []) unlimited (2 ∷ 2 ∷ 0 ∷ []) (3 ∷ 3 ∷ 4 ∷ [])
 
@@ -124,7 +126,9 @@ overlap = record {
   first = omega arith;
   last = omega arith;
   before = record {
-    each = All-cons (IsStretch (one_store 0)) (stretch sci 1 2) [] record { store = omega arith; first = omega arith; order = omega arith; last = omega arith } (All-nil (IsStretch (one_store 0)));
+    each = All-cons (IsStretch (one_store 0)) (stretch sci 1 2) []
+        record { store = omega arith; first = omega arith; order = omega arith; last = omega arith }
+        (All-nil (IsStretch (one_store 0)));
     apart = λ i j d before inside. absurd (omega arith);
   };
   here = λ are. elim (are.apart 0 1 (stretch sci 1 2) (omega arith) (omega arith) refl) [
@@ -138,7 +142,10 @@ outer_step_counted : IsFirstBad (AreCounted slow_channel (stretch a 1 2 ∷ []))
 outer_step_counted = record {
   first = omega arith;
   last = omega arith;
-  before = record { each = All-nil (IsCounted slow_channel (stretch a 1 2 ∷ [])); once = λ i j d before inside. absurd (omega arith) };
+  before = record {
+    each = All-nil (IsCounted slow_channel (stretch a 1 2 ∷ []));
+    once = λ i j d before inside. absurd (omega arith);
+  };
   here = λ are. false≢true (are.each 0 2 (omega arith)).inner;
 }
 

@@ -38,7 +38,8 @@ pub record LosesLeast (setup forecast text : List ℕ) (n : ℕ) : Type 0 where
   pub least : IsLeast problem (amount sheet.plan)
   pub loss : n ≡ loss problem (amount sheet.plan)
 
--- the plan that the texts say loses n blocks, and no plan that fits loses fewer of the first store, of the first two and so on to all of them
+-- the plan that the texts say loses n blocks, and no plan that fits loses fewer of the first store, of the first two
+-- and so on to all of them
 pub record LosesLeastInOrder (setup forecast text : List ℕ) (n : ℕ) : Type 0 where
   pub problem : Dumping
   pub sheet : SheetRows
@@ -54,7 +55,7 @@ pub record IsForAnother (q : Dumping) (octets : List ℕ) : Type 0 where
   pub text : octets ≡ sheet_text sheet
   pub shape : ¬ IsShapedFor q sheet
 
--- the plan text has this fault; want of memory is no fault of a text
+-- the plan text has this fault; a refused allocation is no fault of a text
 abbrev pub IsPlanFault : Dumping → List ℕ → PlanFault → Type 0
 IsPlanFault q text plan.NoMemory = ⊥
 IsPlanFault q text (plan.PlanText k) = IsFirstBadLine text k
@@ -66,7 +67,7 @@ pub record IsLaterFault (setup forecast text : List ℕ) (e : PlanFault) : Type 
   pub says_problem : SaysProblem setup forecast problem
   pub fault : IsPlanFault problem text e
 
--- the first fault of the three texts, in the order setup, forecast, plan text, shape; want of memory is none, whoever lacked it
+-- the first fault of the three texts, in the order setup, forecast, plan text, shape; a refused allocation is none
 abbrev pub IsFaultOf : List ℕ → List ℕ → List ℕ → Fault → Type 0
 IsFaultOf setup forecast text NoMemory = ⊥
 IsFaultOf setup forecast text (Problem problem.NoMemory) = ⊥

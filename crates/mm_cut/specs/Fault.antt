@@ -10,9 +10,13 @@ use Rattle.mm_plan.specs.declared.fault.Fault.TheVariants as plan
 use Rattle.mm_cut.specs.declared.fault.Fault.{Fault}
 use Rattle.mm_cut.specs.declared.fault.Fault.TheVariants.{NoMemory, Problem, Plan}
 
--- which refusal it is
+-- which refusal a fault is
 abbrev pub refusal_of : Fault → Refusal
-refusal_of = elim [ NoMemory ↦ refusal.NoMemory | Problem fault ↦ problem_refusal fault | Plan fault ↦ plan_refusal fault ]
+refusal_of = elim [
+  | NoMemory ↦ refusal.NoMemory
+  | Problem fault ↦ problem_refusal fault
+  | Plan fault ↦ plan_refusal fault
+]
 
 -- a fault of the setup or the forecast
 abbrev pub of_problem : ProblemFault → Fault

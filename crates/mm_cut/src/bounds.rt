@@ -3,7 +3,8 @@ ghost use Rattle.std.specs.Prelude.{◌≡◌, ℕ, ◌+◌, ◌*◌, ◌<◌, �
 ghost use Rattle.mm_base.specs.declared.limits.TheConstants.{MAX_STORES, MAX_STEPS, MAX_BLOCKS, CHANNELS};
 ghost use Rattle.mm_problem.specs.Dumping.{IsDumping};
 ghost use Rattle.mm_cut.specs.Stretches.{is_inner_on, IsStretch};
-ghost use Rattle.mm_cut.specs.Cuts.{opening, coming, coming_sum, held_sum, limit_sum, windows_sum, limits_sum, IsCut, bound};
+ghost use Rattle.mm_cut.specs.Cuts.{opening, coming, coming_sum, held_sum, limit_sum, windows_sum, limits_sum, IsCut};
+ghost use Rattle.mm_cut.specs.Cuts.{bound};
 
 use crate::marks::Marks;
 use crate::stretches::{channel_of, goes_past, store_of};
@@ -24,7 +25,7 @@ fn opening(problem: &Problem, stretch: &Stretch) -> u32
     }
 }
 
-// What it holds before and what arrives in the stretch's steps.
+// What the store of a stretch holds before the stretch, and what arrives in the stretch's steps.
 #[tactic(auto, using(crate::proofs::Covered::sum_before_first, crate::proofs::Covered::sum_within_next, crate::proofs::Covered::sum_after_last))]
 fn coming(problem: &Problem, stretch: &Stretch) -> u64
     requires { IsStretch problem.now stretch.now }

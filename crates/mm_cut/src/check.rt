@@ -17,7 +17,7 @@ use mm_plan::Sheet;
 use mm_problem::{Problem, read_problem};
 use std::alloc::Global;
 
-/// The sheet that a plan text says, which is one for the problem. Otherwise its first fault, want of memory aside.
+/// The sheet that a plan text says, which is one for the problem. Otherwise its first fault, or `NoMemory`.
 pub fn read_sheet(alloc: Global, problem: &Problem, plan: &[u8]) -> Result<Sheet, mm_plan::Fault>
     ensures sheet { IfOk result (SaysSheet problem.now plan.now) }
     ensures shape { IfOk result (λ s. HasShape problem.now s.plan) }

@@ -48,7 +48,7 @@ fn is_counted(problem: &Problem, stretches: &[Stretch], step: u32) -> bool
     is_inner(stretches, step) && are_limited(problem, step, stretches)
 }
 
-// Whether, besides, it is none of the earlier ones.
+// Whether the step can be counted by channels and is none of the earlier ones.
 fn is_counted_after(problem: &Problem, stretches: &[Stretch], earlier: &[u32], step: u32) -> bool
     requires { All (IsStretch problem.now) stretches.now }
     ensures { IsTrue result ↔ IsCountedAfter problem.now stretches.now earlier.now step }

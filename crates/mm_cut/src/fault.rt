@@ -5,7 +5,7 @@ use mm_base::{NoMemory, Refusal, Refused, passed_on, refusals};
 use thiserror::Error;
 
 /// Why texts have no plan or no verdict: a fault of the setup or the forecast, or one of the plan text. It is shown as
-/// the fault of the crate that found it. Want of memory is `NoMemory` alone, whoever lacked it.
+/// the fault of the crate that found it. A refused allocation is always `NoMemory`, whichever crate asked.
 #[derive(Clone, Copy, Debug, PartialEq, Eq, Error)]
 pub enum Fault {
     #[error("{}", self.refusal())]

@@ -1,7 +1,8 @@
 //! The stretches of a cut.
 ghost use Rattle.std.specs.Prelude.{◌≡◌, ◌<◌, ◌≤◌, ◌↔◌, length, All, IsTrue, IsNone, IfSome};
 ghost use Rattle.mm_base.specs.declared.limits.TheConstants.{MAX_CHANNEL};
-ghost use Rattle.mm_cut.specs.Stretches.{store_of, channel_of, goes_past, IsStretch, AreApart, IsStretchAfter, AreStretches};
+ghost use Rattle.mm_cut.specs.Stretches.{store_of, channel_of, goes_past, IsStretch, AreApart, IsStretchAfter};
+ghost use Rattle.mm_cut.specs.Stretches.{AreStretches};
 ghost use Rattle.mm_cut.specs.FirstBad.{IsFirstBad};
 
 use mm_base::{MAX_STEPS, MAX_STORES};
@@ -18,7 +19,7 @@ pub fn store_of(problem: &Problem, stretch: &Stretch) -> usize
     problem.place(&stretch.store).unwrap()
 }
 
-// The channel of its store.
+// The channel of a stretch's store.
 pub(crate) fn channel_of(problem: &Problem, stretch: &Stretch) -> u8
     requires { IsStretch problem.now stretch.now }
     ensures channel { result ≡ channel_of problem.now stretch.now }

@@ -57,7 +57,7 @@ pub record IsDumpOf (amount : ℕ) (gave : List Stored) (calls : List Entry) : T
   pub none : amount ≡ 0 → (gave ≡ []) × (calls ≡ [])
   pub whole : 1 ≤ amount → (seat : ℕ) × IsOrderOf seat amount gave calls
 
--- a store went from one state to another by a legal log, the dump of at most this many packets, which gave these
+-- a legal log leads a store from one state to another: the dump of at most this many packets, which gave these
 pub record HasDumped (amount : ℕ) (gave : List Stored) (s t : State) : Type 0 where
   pub calls : List Entry
   pub run : IsRun s calls t
@@ -89,7 +89,7 @@ pub record IsOrderFor (orders : List Order) (k : ℕ) (c : Course) : Type 0 wher
   pub amount : c.order.amount ≡ wanted orders k
   pub some : 1 ≤ c.order.amount
 
--- a store went from one state to another by a legal log: the calls of its order, whole or broken, if its order was
+-- a legal log leads a store from one state to another: the calls of its order, whole or broken, if its order was
 -- taken, and otherwise no call
 pub record HasTried (taken : ℕ) (c : Course) (s t : State) : Type 0 where
   pub run : IsRun s c.calls t

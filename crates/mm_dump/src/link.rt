@@ -13,7 +13,7 @@ use thiserror::Error;
 ///
 /// # Examples
 ///
-/// A link that takes so many packets and keeps each with its store; every later send fails:
+/// A link that takes this many packets and keeps each with its store; every later send fails:
 ///
 /// ```text
 /// impl Link for Downlink {

@@ -284,7 +284,7 @@ at_other : (b : Bool) (es : List Event) (gone : State → Bool) (before left : O
 at_other true es gone before left other is = absurd (false≢true (sym other))
 at_other false es gone before left other is = is
 
--- what lacks memory asks nothing
+-- an action that is refused for memory asks nothing of a store
 lacks_nothing : (action : Action) (found : Option Held) → MayLack action found
     → (events_of action ≡ []) × ((s : State) → removes action s ≡ false)
 lacks_nothing (Create config) found lacks = (refl, λ s. refl)

@@ -219,7 +219,7 @@ length-opening : (k : ℕ) → length (opening k) ≤ 1
 length-opening zero = omega arith
 length-opening (suc k) = omega arith
 
--- each certificate has so many lines at the most
+-- each certificate has at most this number of lines
 length-first_lines : (k : ℕ) (cs : List CertificateRows) → All IsCertificate cs
     → length (first_lines k cs) ≤ 4355 * length cs
 length-first_lines k [] h = omega arith

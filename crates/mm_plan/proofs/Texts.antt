@@ -125,7 +125,7 @@ first_are : (k : ℕ) (ls ms more : List (List ℕ)) → k ≡ length ms → ls 
 first_are k ls ms more size is = ap (λ n. take n ls) size ∙ ap (take (length ms)) is ∙ take-append_seam ms more
 
 module _ {text rest : List ℕ} {d : DraftRows} {line : ℕ} (h : IsReadTo text d rest line) where
-  -- only so many lines are taken
+  -- no more lines are taken
   pub few_read : line ≤ 69940
   few_read = omega (arith, h.number, few_so_far d h.sound)
 

@@ -31,7 +31,7 @@ pub struct Given {
     pub sources: usize,
     /// How many links there are.
     pub links: usize,
-    /// How many packets of step 0 went to the store that does not hold its start volume, where that is the cause.
+    /// How many packets of step 0 are routed to the store that does not hold its start volume, where that is the cause.
     pub opening: u64,
     /// How many packets of the sources go to no store.
     pub unstored: Unstored,

@@ -150,7 +150,7 @@ fn dumped_or_again<R: Threads + Wait + Sync>(
     let again = both_dumped(rt, alloc, stores, links);
     met.and(again).provided(
         matches!(again, Met::Whole),
-        "another answer after want of memory",
+        "another answer after a refused allocation",
     )
 }
 

@@ -1,5 +1,5 @@
-//! Calls that may lack memory, in parts: each says what its calls answered, which is wrong where none of them may
-//! answer it.
+//! Calls of which an allocation may be refused, in parts: each part says what its calls answered, and whether they may
+//! answer so.
 #![tactic(auto)]
 
 // Telemetry with three octets of data: the source of each packet, its step, and its sequence count as two hexadecimal

@@ -8,11 +8,11 @@ pub enum Met {
     Unready,
     /// A call answered that memory was wanted.
     Wanted,
-    /// An instruction was refused by itself for want of memory.
+    /// An instruction was refused by itself, out of memory.
     Refused,
-    /// No plan was made, for want of memory, and nothing was done.
+    /// No plan was made, out of memory, and nothing was done.
     Unplanned,
-    /// A run was halted for want of memory before its first step.
+    /// A run was halted, out of memory, before its first step.
     Halted,
     /// All is as with ample memory.
     Whole,

@@ -50,7 +50,7 @@ const OF_FOUR: Shape = Shape { size: 4, ..OF_TWO };
 
 const OF_EIGHT: Shape = Shape { size: 8, ..OF_TWO };
 
-// An instruction as a request of its own, the identifier of its store, its answer, whether that may be want of memory,
+// An instruction as a request of its own, the identifier of its store, its answer, whether that may be `NoMemory`,
 // and what it leaves of the store.
 #[derive(Clone, Copy)]
 struct Instruction {
@@ -189,7 +189,7 @@ fn carried_out_or_unchanged(
     let again = asked(alloc, memory, step, request);
     met.provided(
         matches!(again, Met::Whole),
-        "another answer after want of memory",
+        "another answer after a refused allocation",
     )
 }
 
@@ -217,7 +217,7 @@ fn carried_out_on(alloc: Global, setup: &[u8], steps: &[Step]) -> Option<Met> {
     Some(met)
 }
 
-// A step of one instruction: its request, the store, its answer, whether that may be want of memory, what the store is
+// A step of one instruction: its request, the store, its answer, whether that may be `NoMemory`, what the store is
 // after it, and how many stores and routes are left.
 macro_rules! single {
     ($packet:literal, $id:literal, $answer:expr, $may_lack:literal => $after:expr, left $left:expr) => {

@@ -141,7 +141,7 @@ fn has_text(alloc: Global, report: &Report, want: &str) -> Option<bool> {
     Some(text.as_slice() == want.as_bytes())
 }
 
-// Whether a report has this text; want of memory for the text aside.
+// Whether a report has this text, unless there is no memory for the text.
 fn told(alloc: Global, report: &Report, want: &str) -> Met {
     if let Some(same) = has_text(alloc, report, want) {
         return Met::Whole.provided(same, "another report");
@@ -182,7 +182,7 @@ fn carried(
     )
 }
 
-// What came of a run that was halted for want of memory, or not planned: that is before its first step, and all is as
+// What came of a run that was halted, out of memory, or not planned: that is before its first step, and all is as
 // before.
 fn halted_for_want_of_memory(
     met: Met,

@@ -69,7 +69,7 @@ fn called<N: Opening, R: Wait>(
         return met;
     }
     let second = answer(rt, alloc, desk, seat, ask);
-    met.provided(second == want, "another answer after want of memory")
+    met.provided(second == want, "another answer after a refused allocation")
 }
 
 // What came of the calls through their seats.

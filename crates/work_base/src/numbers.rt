@@ -38,7 +38,7 @@ impl Numbers {
         least + self.upto(most - least)
     }
 
-    /// Whether one of so many chances came.
+    /// Whether one chance in this many came.
     pub fn is_one_in(&mut self, chances: u32) -> bool {
         self.upto(chances.saturating_sub(1)) == 0
     }

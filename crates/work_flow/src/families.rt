@@ -91,8 +91,8 @@ pub fn projects(alloc: Global, numbers: &mut Numbers, count: u16) -> Result<Netw
     Ok(network)
 }
 
-/// A picture of so many rows and columns to be parted into front and back: each dot is pulled to both, and holds to its
-/// neighbours.
+/// A picture of this many rows and columns to be parted into front and back: each dot is pulled to both, and holds to
+/// its neighbours.
 pub fn picture(alloc: Global, numbers: &mut Numbers, side: u8) -> Result<Network, NoMemory> {
     let side = u32::from(side);
     let mut network = roomy(alloc, 2 + side * side, 6 * side * side)?;

@@ -31,7 +31,7 @@ fn head(line: &str) -> Option<(u32, u32)> {
     ((2..=MAX_NODES).contains(&nodes) && arcs <= MAX_ARCS).then_some((nodes, arcs))
 }
 
-// An arc between so many nodes: where it begins and ends, and its capacity.
+// An arc of a network of this many nodes: where it begins and ends, and its capacity.
 fn arc(line: &str, nodes: u32) -> Option<(u32, u32, Option<u64>)> {
     let (from, rest) = line.split_once(' ')?;
     let (to, most) = rest.split_once(' ')?;

@@ -39,7 +39,7 @@ fn raise(counter: &mut u64, by: u32) {
 /// The first octets of a packet that is given: its headers.
 const HEADERS: usize = 21;
 
-/// One packet in so many is taken in whole.
+/// One packet in this many is taken in whole.
 const WHOLE: u64 = 16;
 
 impl Answers {

@@ -9,7 +9,7 @@ use mm_service::{Reported, Service};
 use std::alloc::Global;
 use work_base::Numbers;
 
-/// One packet in so many is also offered to one store.
+/// One packet in this many is also offered to one store.
 const OFFERS: u32 = 16;
 
 /// A memory in its rounds.

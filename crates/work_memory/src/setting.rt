@@ -22,7 +22,7 @@ pub struct Setting {
     pub packets: u32,
     /// How many ticks, at most, are passed over between two packets.
     pub pace: u32,
-    /// One packet in so many goes to no store or is none; 0 if each is routed.
+    /// One packet in this many goes to no store or is none; 0 if each is routed.
     pub strays: u32,
 }
 

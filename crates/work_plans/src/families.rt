@@ -97,7 +97,7 @@ fn in_hours(instrument: Instrument, first: u32, last: u32) -> Instrument {
     }
 }
 
-// About so many blocks: up to a tenth more or less.
+// About this many blocks: up to a tenth more or less.
 fn varied(numbers: &mut Numbers, blocks: u32) -> u32 {
     let least = blocks.saturating_sub(blocks / 10);
     least.saturating_add(numbers.upto(blocks / 5)).min(MOST)
@@ -123,7 +123,7 @@ fn pass(numbers: &mut Numbers, step: u32) -> u32 {
     }
 }
 
-// Any number of blocks in one step of so many, and otherwise none.
+// Any number of blocks in one step of this many, and otherwise none.
 fn one_in(numbers: &mut Numbers, chances: u32, most: u32) -> u32 {
     if numbers.is_one_in(chances) {
         numbers.upto(most)

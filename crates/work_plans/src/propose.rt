@@ -35,7 +35,7 @@ fn is_shown(alloc: Global, problem: &Problem) -> Result<bool> {
     Ok(matches!(verdict, Verdict::Least(_)))
 }
 
-// How many of so many problems are not shown to lose least.
+// How many of this many problems are not shown to lose least.
 fn fallbacks(alloc: Global, count: u32, seed: u64) -> Result<u32> {
     let mut numbers = Numbers::new(seed);
     let mut fallbacks: u32 = 0;
@@ -48,7 +48,7 @@ fn fallbacks(alloc: Global, count: u32, seed: u64) -> Result<u32> {
     Ok(fallbacks)
 }
 
-/// How many of so many problems of a study fall back.
+/// How many of this many problems of a study fall back.
 pub fn counted(alloc: Global, count: u32, seed: u64) -> Result<String> {
     let fallbacks = fallbacks(alloc, count, seed)?;
     Ok(format!(in alloc; "{count} problems, {fallbacks} fall back")?)

@@ -124,7 +124,7 @@ impl Answers {
     }
 }
 
-/// The answers to so many problems.
+/// The answers to this many problems.
 pub fn study(alloc: Global, seed: u64, problems: u32) -> Result<Answers> {
     let mut numbers = Numbers::new(seed);
     let mut answers = Answers {

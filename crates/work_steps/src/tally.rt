@@ -1,4 +1,4 @@
-//! What is counted, as far as it is the same whatever the order in which the threads went.
+//! What is counted, as far as it is the same in whatever order the threads reach the stores.
 
 use mm_desk::StoreState;
 use mm_memory::Memory;

@@ -9,7 +9,7 @@ pub(crate) fn digit(number: u64) -> u8 {
     DIGITS[(number % 16) as usize]
 }
 
-/// Pushes the last so many hexadecimal digits of a number.
+/// Pushes the last hexadecimal digits of a number, this many.
 pub(crate) fn push_hex(text: &mut Vec<u8>, number: u64, digits: u32) -> Result<(), AllocError> {
     for place in (0..digits).rev() {
         text.push(digit(number >> (place % 16 * 4)))?;

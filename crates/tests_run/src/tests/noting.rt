@@ -126,7 +126,7 @@ impl Maker {
         (self.state >> 40) as usize % below.max(1)
     }
 
-    // Pushes a line with a packet of a report type, or with a telecommand. Four in so many lines are of a type beyond
+    // Pushes a line with a packet of a report type, or with a telecommand. Four in this many lines are of a type beyond
     // those of the routes.
     fn push_line<R: Abort + AllocGlobal>(&mut self, rt: &R, text: &mut String, among: usize) {
         let route = self.next(self.routes);

@@ -39,7 +39,7 @@ fn sources_of(rt: &impl Abort, alloc: Global, text: &[u8], opening: &[u16]) -> V
     file.sources
 }
 
-// So many packets are left of each source in a step.
+// Each source has this many packets left in a step.
 fn are_left(rt: &impl Abort, sources: &[ScriptedSource], step: u32, left: &[u32]) {
     assert!(rt; sources.len() == left.len(), "as many sources");
     for (source, left) in sources.iter().zip(left) {

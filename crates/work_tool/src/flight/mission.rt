@@ -124,7 +124,7 @@ fn digits(alloc: Global, numbers: &mut Numbers) -> Result<Vec<u8>> {
     Ok(digits)
 }
 
-// So many of the digits, from one of them on.
+// This many of the digits, from one of them on.
 fn piece(digits: &[u8], from: usize, count: usize) -> &[u8] {
     let rest = &digits[from.min(digits.len())..];
     &rest[..count.min(rest.len())]

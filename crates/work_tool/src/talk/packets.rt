@@ -7,10 +7,10 @@ use std::alloc::Global;
 use std::io::Write;
 use work_base::Numbers;
 
-/// One line in so many has digits that are none, too many or too few.
+/// One line in this many has digits that are none, too many or too few.
 const GARBLED: u32 = 600;
 
-/// One packet in so many is wrong as a whole.
+/// One packet in this many is wrong as a whole.
 const WRONG: u32 = 12;
 
 // What is wrong with a line.

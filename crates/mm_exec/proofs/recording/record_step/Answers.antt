@@ -4,7 +4,7 @@ use Rattle.mm_exec.proofs.recording.record_step.Given as given
 use Rattle.mm_exec.proofs.recording.record_step.Goals as goal
 use Rattle.mm_exec.proofs.recording.record_step.Goals.{After-restore}
 
--- the step went by the routes of the memory
+-- the step used the routes of the memory
 routes_are : (g : given.Over) (c : goal.After-restore g) → c.control-control.result.now ≡ c.args.memory.now.routes
 routes_are g c = c.control-control.ensures.rows ∙ ap (λ (h : Holdings). h.routes) c.lift-stores.ensures.left
 

@@ -87,7 +87,7 @@ fn gated_links(
     list
 }
 
-// A task of one step for stores with an APID each: sources of one packet, so many for each store, and links, each of
+// A task of one step for stores with an APID each: sources of one packet, this many for each store, and links, each of
 // which is to send as many packets.
 struct Meeting {
     task: Task,
@@ -99,7 +99,8 @@ struct Meeting {
 static MEETINGS: [Meeting; 2] = [
     Meeting {
         task: task! {
-            { store "A", apid 1, size 1, type "bounded", channel 0; store "B", apid 2, size 1, type "bounded", channel 0; }
+            { store "A", apid 1, size 1, type "bounded", channel 0;
+              store "B", apid 2, size 1, type "bounded", channel 0; }
             "step,window,A,B\n1,2,1,1\n" "mmplan 1\nstores A B\ndump 1 1 1\nloss 0\nbound 0\nend\n"
         },
         apids: &[1, 2],
@@ -109,8 +110,10 @@ static MEETINGS: [Meeting; 2] = [
     Meeting {
         task: task! {
             {
-                store "A", apid 1, size 2, type "bounded", channel 0; store "B", apid 2, size 2, type "bounded", channel 0;
-                store "C", apid 3, size 2, type "bounded", channel 0; store "D", apid 4, size 2, type "bounded", channel 0;
+                store "A", apid 1, size 2, type "bounded", channel 0;
+                store "B", apid 2, size 2, type "bounded", channel 0;
+                store "C", apid 3, size 2, type "bounded", channel 0;
+                store "D", apid 4, size 2, type "bounded", channel 0;
             }
             "step,window,A,B,C,D\n1,8,2,2,2,2\n" "mmplan 1\nstores A B C D\ndump 1 2 2 2 2\nloss 0\nbound 0\nend\n"
         },

@@ -110,7 +110,7 @@ pub(crate) enum Change {
     Resize(u32),
 }
 
-// Does it to the state of the store; whether it went as it should.
+// Makes the change to the state of the store, and says whether the answer is the wanted one.
 fn goes(rt: &impl Abort, alloc: Global, state: &mut StoreState, change: &Change) -> bool {
     match change {
         Change::Offer(now, count) => state.offer(*now, packet(rt, alloc, *count)).is_ok(),

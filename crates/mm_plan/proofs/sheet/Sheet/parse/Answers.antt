@@ -5,7 +5,7 @@ use Rattle.mm_plan.proofs.Runs.{sheet_of-whole}
 use Rattle.mm_plan.proofs.Texts.{read_to_start, read_on, few_read, bad_line, bad_end, good_end, done_some, whole_at_end}
 use Rattle.mm_plan.proofs.sheet.Sheet.parse.Goals as goal
 
--- a line that is refused is no want of memory
+-- a line that is refused is another fault than `NoMemory`
 no_want : (line : ℕ) → PlanText line ≢ NoMemory
 no_want line e = cc
 
