@@ -2,7 +2,7 @@
 use Rattle.std.proofs.Common.{◌≡◌, ℕ, ◌<◌, ◌≤◌, Bool, true, false, eqb, leb, ltb, not, cond, ◌&&◌, ◌||◌, List, [], length, get_or, ◌⊎◌, inl, inr, refl, sym, ap, ◌∙◌, subst, arith}
 use Rattle.std.specs.Prelude.{pos}
 use Rattle.std.proofs.lemmas.Int.{ints}
-use Rattle.std.proofs.lemmas.Bool.{cases_lt, and_parts}
+use Rattle.std.proofs.lemmas.Bool.{cases_lt, and_parts, eq-eqb, or_left, or_right}
 use Rattle.std.proofs.lemmas.Bool.Decides.{nat_tests}
 use Rattle.std.proofs.lemmas.List.Folds.{Any-from_list_any, list_any_at}
 use Rattle.std.proofs.lemmas.List.Elements.{All-contains}
@@ -61,21 +61,8 @@ sum_least p n is here = elim here [
 
 -- ---- marks
 
-either_first : (a b : Bool) → a ≡ true → (a || b) ≡ true
-either_first a b holds = rw holds refl
-
-either_second : (a b : Bool) → b ≡ true → (a || b) ≡ true
-either_second true b holds = refl
-either_second false b holds = holds
-
-same_one : (a : ℕ) → eqb a a ≡ true
-same_one a = grind (arith, nat_tests)
-
-same_two : (a b : ℕ) → (eqb a a && eqb b b) ≡ true
-same_two a b = grind (arith, nat_tests)
-
 same_and : (a : ℕ) (b : Bool) → b ≡ true → (eqb a a && b) ≡ true
-same_and a b holds = rw holds (grind (arith, nat_tests))
+same_and a b holds = rw (eq-eqb a a refl) holds
 
 -- a step of the problem with an amount is marked
 in_range : (t m n : ℕ) → 1 ≤ t → t ≤ m → 1 ≤ n → ltb 0 (cond (leb 1 t && leb t m) n 0) ≡ true
@@ -164,19 +151,20 @@ module _ (p : Drawn) (is : IsDrawn p) where
         marked_at p (Inner s) t first last (one_of (is_inner_of p s t) of)
 
     last_of : is_last_of p s e.last ≡ true
-    last_of = list_any_at (λ f. eqb (store_of p.problem f) s && eqb f.last e.last) ds k d inside (same_two s e.last)
+    last_of = list_any_at (λ f. eqb (store_of p.problem f) s && eqb f.last e.last) ds k d inside
+        (same_and s (eqb e.last e.last) (eq-eqb e.last e.last refl))
 
     last_marked : is_marked p (Last s) e.last ≡ true
     last_marked = marked_at p (Last s) e.last (omega (arith, here.first, here.order)) here.last (one_of (is_last_of p s e.last) last_of)
 
     -- its store is named
     is_named : has_stretch p s ≡ true
-    is_named = list_any_at (λ f. eqb (store_of p.problem f) s) ds k d inside (same_one s)
+    is_named = list_any_at (λ f. eqb (store_of p.problem f) s) ds k d inside (eq-eqb s s refl)
 
     shaded : (t : ℕ) → covers e t ≡ true → is_shaded p s t ≡ true
     shaded t at = elim (inner_or_last e.first e.last t at) [
-      | inl inner ↦ either_first (is_marked p (Inner s) t) (is_marked p (Last s) t) (inner_marked t inner)
-      | inr last ↦ either_second (is_marked p (Inner s) t) (is_marked p (Last s) t) (rw last last_marked)
+      | inl inner ↦ or_left (is_marked p (Inner s) t) (is_marked p (Last s) t) (inner_marked t inner)
+      | inr last ↦ or_right (is_marked p (Inner s) t) (is_marked p (Last s) t) (rw last last_marked)
     ]
 
     same_id : (row p.problem s).id ≡ e.store

@@ -1,6 +1,5 @@
 use Rattle.std.proofs.Common.{◌≡◌, ◌++◌}
-use Rattle.std.specs.Prelude.{flat_map}
-use Rattle.std.specs.List.{range_with_len}
+use Rattle.std.specs.List.{flat_map, range_with_len}
 use Rattle.mm_plan.specs.Table.{amount}
 use Rattle.mm_chart.specs.Table.{record_of}
 use Rattle.mm_chart.proofs.table.push_step.Given as goal
