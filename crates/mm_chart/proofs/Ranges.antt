@@ -17,7 +17,8 @@ largest-push : (f : ℕ → ℕ) (ts : List ℕ) (j : ℕ) → largest f (ts ++ 
 largest-push f [] j = omega arith
 largest-push f (t ∷ ts) j = omega (arith, largest-push f ts j)
 
-pub largest_first : (f : ℕ → ℕ) (n : ℕ) → largest f (range_with_len 0 (n + 1)) ≡ max (largest f (range_with_len 0 n)) (f n)
+pub largest_first : (f : ℕ → ℕ) (n : ℕ)
+    → largest f (range_with_len 0 (n + 1)) ≡ max (largest f (range_with_len 0 n)) (f n)
 largest_first f n = ap (largest f) (range_first n) ∙ largest-push f (range_with_len 0 n) n
 
 pub flat_map_first : {X : Type 0} (f : ℕ → List X) (n : ℕ)

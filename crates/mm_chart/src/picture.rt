@@ -313,7 +313,9 @@ impl Picture {
         match series {
             Series::WindowCounts => one_if(self.counts_window(step)),
             Series::Window => u64::from(self.problem.window(step)),
-            Series::CountedWindow if self.counts_window(step) => u64::from(self.problem.window(step)),
+            Series::CountedWindow if self.counts_window(step) => {
+                u64::from(self.problem.window(step))
+            }
             Series::CountedWindow => 0,
             Series::Used => self.used(step),
             Series::ChannelCounts(_) => one_if(self.counts_limits(step) && marks[step as usize]),

@@ -5,6 +5,7 @@ use Rattle.mm_chart.proofs.pen.push_steps.Given as goal
 
 abbrev pub invariant-loop-step : goal.invariant-loop-step
 invariant-loop-step l = record {
-  text : l.text.items ≡ l.initial.text.items ++ flat_map (step_outline l.column.picture.now l.column.series l.whole) (range_with_len 1 (l.step - 1));
+  text : l.text.items ≡ l.initial.text.items
+      ++ flat_map (step_outline l.column.picture.now l.column.series l.whole) (range_with_len 1 (l.step - 1));
   before : l.before ≡ height_of l.column.picture.now l.column.series l.whole (l.step - 1);
 }

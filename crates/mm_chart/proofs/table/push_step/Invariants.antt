@@ -6,4 +6,5 @@ use Rattle.mm_chart.proofs.table.push_step.Given as goal
 
 abbrev pub invariant-loop-store : goal.invariant-loop-store
 invariant-loop-store l =
-    l.text.items ≡ l.initial.text.items ++ flat_map (record_of l.course.problem.now (amount l.course.plan.now) l.step) (range_with_len 0 l.store)
+    l.text.items ≡ l.initial.text.items
+    ++ flat_map (record_of l.course.problem.now (amount l.course.plan.now) l.step) (range_with_len 0 l.store)

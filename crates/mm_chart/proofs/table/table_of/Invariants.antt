@@ -6,4 +6,5 @@ use Rattle.mm_chart.proofs.table.table_of.Given as goal
 
 abbrev pub invariant-loop-step : goal.invariant-loop-step
 invariant-loop-step l =
-    l.text.items ≡ l.initial.text.items ++ flat_map (step_records l.problem (amount l.plan)) (range_with_len 1 (l.step - 1))
+    l.text.items ≡ l.initial.text.items
+    ++ flat_map (step_records l.problem (amount l.plan)) (range_with_len 1 (l.step - 1))
