@@ -2,18 +2,16 @@
 use Rattle.std.proofs.Common.{◌≡◌, ℕ, ◌-◌, ◌<◌, ◌≤◌, Bool, true, false, cond, eqb, nat_lt, List, length, get_or, set}
 use Rattle.std.proofs.Common.{refl, sym, ap, ◌∙◌, subst, inl, inr, arith}
 use Rattle.std.specs.Prelude.{◌≢◌, Option, Some, None, unwrap_or, All, IsSome}
-use Rattle.std.proofs.lemmas.Bool.{cases_eq, and_parts, eqb-true}
+use Rattle.std.proofs.lemmas.Bool.{cases_eq}
 use Rattle.std.proofs.lemmas.List.{length-set, get_or-set_same, get_or-set_other}
-use Rattle.std.proofs.lemmas.List.Elements.{All-contains}
-use Rattle.std.proofs.lemmas.List.Folds.{Any-from_list_any}
 use Rattle.std.specs.List.{position_or_len}
 use Rattle.mm_base.specs.declared.rows.StoreRow.{StoreRow}
 use Rattle.mm_base.specs.Grid.{cell, grid_place}
-use Rattle.mm_problem.specs.Dumping.{Dumping, row, size, IsDumping, limit, lesser, setup_limit, step_limit}
+use Rattle.mm_problem.specs.Dumping.{Dumping, row, IsDumping, limit, lesser, setup_limit, step_limit}
 use Rattle.mm_plan.specs.declared.stretch.Stretch.{Stretch}
 use Rattle.mm_plan.proofs.Places.{grid_place-lt}
-use Rattle.mm_cut.specs.Stretches.{AreStretches, store_of, channel_of, goes_past, goes_past_on, is_inner_on}
-use Rattle.mm_cut.specs.Counts.{is_listed, IsLimited, IsCounted}
+use Rattle.mm_cut.specs.Stretches.{AreStretches, store_of, is_inner_on}
+use Rattle.mm_cut.specs.Counts.{is_listed}
 use Rattle.mm_cut.specs.Cuts.{IsCut}
 use Rattle.mm_cut.specs.Changes.{ChangesStretch, HelpsNowhere}
 use Rattle.mm_cut.proofs.Exchange.{inner_has_limit, listed_is_counted}

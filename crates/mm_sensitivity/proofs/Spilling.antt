@@ -1,7 +1,7 @@
 -- A cut that shows what is lost where a store begins with more blocks than it has room for.
 use Rattle.std.proofs.Common.{◌≡◌, ℕ, zero, suc, ◌+◌, ◌-◌, ◌<◌, ◌≤◌, Bool, true, false, cond, ◌&&◌, ◌||◌, eqb, List, []}
 use Rattle.std.proofs.Common.{◌∷◌, length, get_or, pos, refl, sym, ap, ◌∙◌, subst, inl, inr, true≢false, arith}
-use Rattle.std.specs.Prelude.{filter, All, IsSome, ◌+ℤ◌, ◌≤ℤ◌}
+use Rattle.std.specs.Prelude.{filter, All, ◌+ℤ◌, ◌≤ℤ◌}
 use Rattle.std.specs.List.{sum_by, list_any}
 use Rattle.std.specs.Str.{bytes_eq}
 use Rattle.std.proofs.lemmas.Bool.{cases_eq, and_parts, eqb-true, false_from_ne_true}
@@ -13,21 +13,21 @@ use Rattle.std.proofs.lemmas.List.Kept.{AllPairs-cons}
 use Rattle.std.proofs.lemmas.List.Sums.{position_or_len_is, sum_by-cons, sum_by-le-sum_by}
 use Rattle.std.proofs.lemmas.Slice.Eq.{bytes_eq-Decides}
 use Rattle.mm_base.specs.declared.rows.StoreRow.{StoreRow}
-use Rattle.mm_problem.specs.Dumping.{Dumping, IsDumping, no_row, row, size, start, channel, limit, window}
+use Rattle.mm_problem.specs.Dumping.{Dumping, IsDumping, no_row, row, size, start, channel, window}
 use Rattle.mm_problem.specs.Dumping.{arrivals, steps, channels, place}
 use Rattle.mm_plan.specs.declared.stretch.Stretch.{Stretch}
 use Rattle.mm_cut.specs.Stretches.{store_of, channel_of, covers, goes_past, goes_past_on, is_inner, is_inner_on}
 use Rattle.mm_cut.specs.Stretches.{IsStretch, AreApart}
 use Rattle.mm_cut.specs.Counts.{is_listed, IsLimited}
-use Rattle.mm_cut.specs.Cuts.{IsCut, opening, coming, coming_sum, held, held_sum, limit_or_0, leaving, leaving_sum}
+use Rattle.mm_cut.specs.Cuts.{IsCut, opening, coming, held, held_sum, limit_or_0, leaving, leaving_sum}
 use Rattle.mm_cut.specs.Cuts.{bound}
 use Rattle.mm_cut.specs.Changes.{HelpsNowhere}
 use Rattle.mm_cut.proofs.Helping.{bound-more, same_cut}
 use Rattle.mm_sensitivity.proofs.Growing.{grows_row}
 use Rattle.mm_sensitivity.proofs.Least.{counted_more}
 use Rattle.mm_sensitivity.proofs.Rows.{row_here, as_many_rows, same_store, stores_alike, related}
-use Rattle.mm_sensitivity.proofs.Losing.{whole, part, whole_row, part_row, same_rows, same_size, same_channel}
-use Rattle.mm_sensitivity.proofs.Losing.{same_arrivals, whole_start, part_start, other_start}
+use Rattle.mm_sensitivity.proofs.Losing.{whole, part, whole_row, part_row, same_size, same_channel}
+use Rattle.mm_sensitivity.proofs.Losing.{same_arrivals, whole_start, part_start}
 
 -- a test that passes the same elements
 list_any_agree : {X : Type 0} (f g : X → Bool) (xs : List X) → ((x : X) → f x ≡ g x) → list_any f xs ≡ list_any g xs
