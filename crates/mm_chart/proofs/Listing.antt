@@ -1,8 +1,9 @@
 -- The sum of a chart is its cut's bound, and what its words list is all that its cut counts.
-use Rattle.std.proofs.Common.{◌≡◌, ℕ, ◌<◌, ◌≤◌, Bool, true, false, eqb, leb, ltb, not, cond, ◌&&◌, ◌||◌, List, [], length, get_or, ◌⊎◌, inl, inr, refl, sym, ap, ◌∙◌, subst, arith}
+use Rattle.std.proofs.Common.{◌≡◌, ℕ, ◌<◌, ◌≤◌, Bool, true, eqb, leb, ltb, not, cond, ◌&&◌, List, [], length, get_or}
+use Rattle.std.proofs.Common.{◌⊎◌, inl, inr, refl, sym, ap, ◌∙◌, subst, arith}
 use Rattle.std.specs.Prelude.{pos}
 use Rattle.std.proofs.lemmas.Int.{ints}
-use Rattle.std.proofs.lemmas.Bool.{cases_lt, and_parts}
+use Rattle.std.proofs.lemmas.Bool.{cases_lt, and_parts, eq-eqb, or_left, or_right}
 use Rattle.std.proofs.lemmas.Bool.Decides.{nat_tests}
 use Rattle.std.proofs.lemmas.List.Folds.{Any-from_list_any, list_any_at}
 use Rattle.std.proofs.lemmas.List.Elements.{All-contains}
@@ -12,7 +13,8 @@ use Rattle.std.specs.Str.{bytes_eq}
 use Rattle.mm_base.proofs.Sums.{sum_by-filter_parts}
 use Rattle.mm_problem.specs.Dumping.{Dumping, no_row, row, place, size, start, channel, window, arrivals, steps}
 use Rattle.mm_plan.specs.declared.stretch.Stretch.{Stretch}
-use Rattle.mm_cut.specs.Stretches.{store_of, channel_of, covers, goes_past, goes_past_on, is_inner, is_inner_on, IsStretch}
+use Rattle.mm_cut.specs.Stretches.{store_of, channel_of, covers, goes_past, goes_past_on, is_inner, is_inner_on}
+use Rattle.mm_cut.specs.Stretches.{IsStretch}
 use Rattle.mm_cut.specs.Counts.{is_listed}
 use Rattle.mm_cut.specs.Cuts.{bound, limit_sum, counts_window, counts_limits}
 use Rattle.mm_cut.specs.Changes.{ChangesStretch, HelpsNowhere, OnlyCountedHelps}
@@ -31,10 +33,15 @@ use Rattle.mm_chart.specs.Listed.{sum_of, SumsAddUp, SaysLeast, is_shaded, place
 sum_is_bound : (p : Drawn) → sum_of p ≡ bound p.problem (cut p) (counts p)
 sum_is_bound p =
     let q = p.problem in
-    omega (arith, ints, sum_by-filter_parts (is_inner (cut p)) (is_listed (counts p)) (limit_sum q (cut p)) (window q) (steps q))
+    omega (
+      arith,
+      ints,
+      sum_by-filter_parts (is_inner (cut p)) (is_listed (counts p)) (limit_sum q (cut p)) (window q) (steps q),
+    )
 
 -- where there is a cut, it is the sheet's
-shown_bound : (p : Drawn) (v : Verdict) → p.verdict ≡ v → has_cut v ≡ true → bound p.problem (cut p) (counts p) ≡ bound p.problem p.sheet.cut p.sheet.by_channels
+shown_bound : (p : Drawn) (v : Verdict) → p.verdict ≡ v → has_cut v ≡ true
+    → bound p.problem (cut p) (counts p) ≡ bound p.problem p.sheet.cut p.sheet.by_channels
 shown_bound p v here has =
     let shown : has_cut p.verdict ≡ true = ap has_cut here ∙ has in
     ap (λ b. bound p.problem (cond b p.sheet.cut []) (cond b p.sheet.by_channels [])) shown
@@ -42,13 +49,16 @@ shown_bound p v here has =
 pub sums_add_up : SumsAddUp
 sums_add_up p is = record {
   least = λ n here.
-      let said = own_least p.problem p.sheet p.sheet.firsts n (subst (IsSheetVerdict p.problem p.sheet) here is.verdict) in
+      let said = own_least p.problem p.sheet p.sheet.firsts n
+      (subst (IsSheetVerdict p.problem p.sheet) here is.verdict) in
       sum_is_bound p ∙ shown_bound p (Least n) here refl ∙ sym said.0.bound ∙ sym said.2;
   in_order = λ n here.
-      let said = own_in_order p.problem p.sheet p.sheet.firsts n (subst (IsSheetVerdict p.problem p.sheet) here is.verdict) in
+      let said = own_in_order p.problem p.sheet p.sheet.firsts n
+      (subst (IsSheetVerdict p.problem p.sheet) here is.verdict) in
       sum_is_bound p ∙ shown_bound p (LeastInOrder n) here refl ∙ sym said.0.bound ∙ sym said.2;
   not_shown = λ n m here.
-      let said = own_not_shown p.problem p.sheet p.sheet.firsts n m (subst (IsSheetVerdict p.problem p.sheet) here is.verdict) in
+      let said = own_not_shown p.problem p.sheet p.sheet.firsts n m
+      (subst (IsSheetVerdict p.problem p.sheet) here is.verdict) in
       sum_is_bound p ∙ shown_bound p (NotShown n m) here refl ∙ sym said.0.bound ∙ sym said.2;
 }
 
@@ -61,27 +71,15 @@ sum_least p n is here = elim here [
 
 -- ---- marks
 
-either_first : (a b : Bool) → a ≡ true → (a || b) ≡ true
-either_first a b holds = rw holds refl
-
-either_second : (a b : Bool) → b ≡ true → (a || b) ≡ true
-either_second true b holds = refl
-either_second false b holds = holds
-
-same_one : (a : ℕ) → eqb a a ≡ true
-same_one a = grind (arith, nat_tests)
-
-same_two : (a b : ℕ) → (eqb a a && eqb b b) ≡ true
-same_two a b = grind (arith, nat_tests)
-
 same_and : (a : ℕ) (b : Bool) → b ≡ true → (eqb a a && b) ≡ true
-same_and a b holds = rw holds (grind (arith, nat_tests))
+same_and a b holds = rw (eq-eqb a a refl) holds
 
 -- a step of the problem with an amount is marked
 in_range : (t m n : ℕ) → 1 ≤ t → t ≤ m → 1 ≤ n → ltb 0 (cond (leb 1 t && leb t m) n 0) ≡ true
 in_range t m n first last some = grind (arith, nat_tests)
 
-marked_at : (p : Drawn) (x : Series) (t : ℕ) → 1 ≤ t → t ≤ length p.problem.windows → 1 ≤ amount_of p x t → is_marked p x t ≡ true
+marked_at : (p : Drawn) (x : Series) (t : ℕ) → 1 ≤ t → t ≤ length p.problem.windows → 1 ≤ amount_of p x t
+    → is_marked p x t ≡ true
 marked_at p x t first last some = in_range t (length p.problem.windows) (amount_of p x t) first last some
 
 one_of : (b : Bool) → b ≡ true → 1 ≤ one_if b
@@ -138,7 +136,8 @@ module _ (p : Drawn) (is : IsDrawn p) where
       let counted : counts_limits ds ts t ≡ true = rw (inner, listed) refl in
       marked_at p LimitsCount t step.0 step.1 (one_of (counts_limits ds ts t) counted)
 
-  channel_marked : (t c : ℕ) → is_listed ts t ≡ true → is_inner_on p.problem ds t c ≡ true → is_marked p (ChannelCounts c) t ≡ true
+  channel_marked : (t c : ℕ) → is_listed ts t ≡ true → is_inner_on p.problem ds t c ≡ true
+      → is_marked p (ChannelCounts c) t ≡ true
   channel_marked t c listed on =
       let inner = inner_from_on t c on in
       let step = inner_step t inner in
@@ -160,28 +159,32 @@ module _ (p : Drawn) (is : IsDrawn p) where
     inner_marked t inner =
         let first = inner_first e.first e.last t (length p.problem.windows) inner here.first here.last in
         let last = inner_last e.first e.last t (length p.problem.windows) inner here.first here.last in
-        let of : is_inner_of p s t ≡ true = list_any_at (λ f. eqb (store_of p.problem f) s && goes_past t f) ds k d inside (same_and s (goes_past t e) inner) in
+        let of : is_inner_of p s t ≡ true = list_any_at (λ f. eqb (store_of p.problem f) s && goes_past t f) ds k d
+        inside (same_and s (goes_past t e) inner) in
         marked_at p (Inner s) t first last (one_of (is_inner_of p s t) of)
 
     last_of : is_last_of p s e.last ≡ true
-    last_of = list_any_at (λ f. eqb (store_of p.problem f) s && eqb f.last e.last) ds k d inside (same_two s e.last)
+    last_of = list_any_at (λ f. eqb (store_of p.problem f) s && eqb f.last e.last) ds k d inside
+        (same_and s (eqb e.last e.last) (eq-eqb e.last e.last refl))
 
     last_marked : is_marked p (Last s) e.last ≡ true
-    last_marked = marked_at p (Last s) e.last (omega (arith, here.first, here.order)) here.last (one_of (is_last_of p s e.last) last_of)
+    last_marked = marked_at p (Last s) e.last (omega (arith, here.first, here.order)) here.last
+        (one_of (is_last_of p s e.last) last_of)
 
     -- its store is named
     is_named : has_stretch p s ≡ true
-    is_named = list_any_at (λ f. eqb (store_of p.problem f) s) ds k d inside (same_one s)
+    is_named = list_any_at (λ f. eqb (store_of p.problem f) s) ds k d inside (eq-eqb s s refl)
 
     shaded : (t : ℕ) → covers e t ≡ true → is_shaded p s t ≡ true
     shaded t at = elim (inner_or_last e.first e.last t at) [
-      | inl inner ↦ either_first (is_marked p (Inner s) t) (is_marked p (Last s) t) (inner_marked t inner)
-      | inr last ↦ either_second (is_marked p (Inner s) t) (is_marked p (Last s) t) (rw last last_marked)
+      | inl inner ↦ or_left (is_marked p (Inner s) t) (is_marked p (Last s) t) (inner_marked t inner)
+      | inr last ↦ or_right (is_marked p (Inner s) t) (is_marked p (Last s) t) (rw last last_marked)
     ]
 
     same_id : (row p.problem s).id ≡ e.store
     same_id =
-        (bytes_eq-Decides (get_or p.problem.rows s no_row).id e.store).0 (passes_at_first (λ r. bytes_eq r.id e.store) p.problem.rows no_row here.store)
+        (bytes_eq-Decides (get_or p.problem.rows s no_row).id e.store).0
+        (passes_at_first (λ r. bytes_eq r.id e.store) p.problem.rows no_row here.store)
 
     stretch_kept : (r : Dumping) → KeepsListed p r → ChangesStretch ◌≤◌ p.problem r ts e
     stretch_kept r h =
@@ -192,7 +195,8 @@ module _ (p : Drawn) (is : IsDrawn p) where
           start = λ first.
               let at : covers e 1 ≡ true = rw first (covers_one e.last (omega (arith, here.first, here.order))) in
               subst (λ i. start p.problem s ≤ start r i) there (keeps.start (shaded 1 at));
-          arrivals = λ t at. subst (λ i. arrivals p.problem s t ≤ arrivals r i t) there (keeps.arrivals t (shaded t at));
+          arrivals = λ t at.
+              subst (λ i. arrivals p.problem s t ≤ arrivals r i t) there (keeps.arrivals t (shaded t at));
           size = subst (λ i. size r i ≤ size p.problem s) there keeps.size;
           channel = λ t listed inner.
               let marked = limits_marked t listed (list_any_at (goes_past t) ds k d inside inner) in
@@ -205,8 +209,10 @@ module _ (p : Drawn) (is : IsDrawn p) where
     channels = h.channels;
     stretches = λ k d inside. stretch_kept k d inside r h;
     windows = λ t at. h.windows t (window_marked t at);
-    limited = λ t c listed on. h.limited t c (limits_marked t listed (inner_from_on t c on)) (channel_marked t c listed on);
-    limits = λ t c listed on. h.limits t c (limits_marked t listed (inner_from_on t c on)) (channel_marked t c listed on);
+    limited = λ t c listed on.
+        h.limited t c (limits_marked t listed (inner_from_on t c on)) (channel_marked t c listed on);
+    limits = λ t c listed on.
+        h.limits t c (limits_marked t listed (inner_from_on t c on)) (channel_marked t c listed on);
   }
 
 -- from the law that only what a cut counts can lower its bound

@@ -1,5 +1,5 @@
 //! Charts of texts.
-ghost use Rattle.std.specs.Prelude.{◌≡◌, ◌++◌, IfOk, OnOk};
+ghost use Rattle.std.specs.Prelude.{◌≡◌, IfOk};
 ghost use Rattle.mm_base.specs.Reading.{IfRefused};
 ghost use Rattle.mm_cut.specs.declared.fault.Fault.TheVariants as fault;
 ghost use Rattle.mm_cut.specs.Checking.{IsFaultOf};
@@ -68,26 +68,18 @@ pub fn chart_bytes(
 }
 
 /// The document of a picture: Scalable Vector Graphics (SVG) 1.1, by itself.
+#[tactic(auto, using(crate::proofs::Ranges::drawing), unfolding(crate::specs::Charts::chart))]
 pub fn draw(alloc: Global, picture: &Picture) -> Result<Vec<u8>, NoMemory>
     ensures { IfOk result (λ text. text.items ≡ chart picture.now) }
 {
-    let mut text = Vec::new(alloc);
-    push_document(alloc, &mut text, picture)?;
-    Ok(text)
-}
-
-// Writes the document of a picture.
-#[tactic(auto, using(crate::proofs::Ranges::drawing), unfolding(crate::specs::Charts::chart))]
-fn push_document(alloc: Global, text: &mut Vec<u8>, picture: &Picture) -> Result<(), NoMemory>
-    ensures { OnOk result (text.new.items ≡ text.old.items ++ chart picture.now) }
-{
     let height = word_line(picture.problem(), word_lines(picture));
-    parts!(text; Said(OPENING), Number(height), Said(FONT))?;
-    push_said(text, STYLES)?;
-    push_headline(alloc, text, picture)?;
-    push_said(text, LEGEND)?;
-    push_rows(text, picture)?;
-    push_words(text, picture)?;
-    push_said(text, b"</svg>\n")?;
-    Ok(())
+    let mut text = Vec::new(alloc);
+    parts!(&mut text; Said(OPENING), Number(height), Said(FONT))?;
+    push_said(&mut text, STYLES)?;
+    push_headline(alloc, &mut text, picture)?;
+    push_said(&mut text, LEGEND)?;
+    push_rows(&mut text, picture)?;
+    push_words(&mut text, picture)?;
+    push_said(&mut text, b"</svg>\n")?;
+    Ok(text)
 }

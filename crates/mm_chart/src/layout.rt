@@ -2,9 +2,8 @@
 ghost use Rattle.std.specs.Prelude.{◌≡◌, ◌+◌, ◌-◌, ◌*◌, ◌/◌, ◌<◌, ◌≤◌, ◌^◌, length};
 ghost use Rattle.mm_base.specs.declared.limits.TheConstants.{MAX_STORES, MAX_STEPS};
 ghost use Rattle.mm_problem.specs.Dumping.{IsDumping};
-ghost use Rattle.mm_chart.specs.Layout.{step_width, steps_width, edge, limits_below, has_limit, channel_base};
-ghost use Rattle.mm_chart.specs.Layout.{store_base, bottom};
-ghost use Rattle.mm_chart.specs.Layout.{word_line, room_of, base_of, IsPlaced, tick_every};
+ghost use Rattle.mm_chart.specs.Layout.{step_width, steps_width, limits_below, has_limit, channel_base, store_base};
+ghost use Rattle.mm_chart.specs.Layout.{bottom, word_line, room_of, base_of, IsPlaced, tick_every};
 
 use crate::picture::Picture;
 use crate::series::Series;
@@ -79,16 +78,6 @@ pub(crate) fn edge_at(width: u32, step: u32) -> u32
     LEFT + width * step
 }
 
-// The right edge of a step of a problem.
-pub(crate) fn edge(problem: &Problem, step: u32) -> u32
-    requires { step ≤ MAX_STEPS }
-    ensures edge { result ≡ edge problem.now step }
-    ensures least { LEFT ≤ result }
-    ensures most { result ≤ LEFT + MAX_WIDTH * MAX_STEPS }
-{
-    edge_at(step_width(problem), step)
-}
-
 // 1 where the channel has a limit: in each step or in none.
 pub(crate) fn has_limit(problem: &Problem, channel: u8) -> u32
     ensures limit { result ≡ has_limit problem.now channel }
@@ -96,11 +85,7 @@ pub(crate) fn has_limit(problem: &Problem, channel: u8) -> u32
 {
     // there is a first step
     prove!(1 <= problem.steps());
-    if problem.limit(channel, 1).is_some() {
-        1
-    } else {
-        0
-    }
+    u32::from(problem.limit(channel, 1).is_some())
 }
 
 // How many of the channels below this one have a limit.

@@ -5,7 +5,7 @@ ghost use Rattle.mm_problem.specs.Dumping.{steps};
 ghost use Rattle.mm_chart.specs.declared.series.TheConstants.{AMOUNT_PLACES};
 ghost use Rattle.mm_chart.specs.Series.{IsSeries, amount_at};
 ghost use Rattle.mm_chart.specs.Svg.{part_text, joined, printed};
-ghost use Rattle.mm_chart.specs.Words.{is_marked, goes_on, begins, ranges_of, before_step, after_range, range_part};
+ghost use Rattle.mm_chart.specs.Words.{goes_on, ranges_of, before_step, after_range, range_part};
 ghost use Rattle.mm_chart.specs.Words.{marks, marked_where, step_word, most_amount, in_steps, steps_line};
 
 use crate::column::Column;
@@ -17,14 +17,6 @@ use crate::phrases::{
 };
 use crate::picture::{Picture, one_if};
 use crate::series::Series;
-
-// Whether a step has a number of the series.
-fn is_marked(column: &Column<'_>, step: u32) -> bool
-    requires { step < AMOUNT_PLACES }
-    ensures { result ≡ is_marked column.now.picture.now column.now.series step }
-{
-    column.amount_at(step) > 0
-}
 
 // Whether a step is in the range of the step before.
 fn goes_on(column: &Column<'_>, step: u32) -> bool
@@ -40,28 +32,21 @@ fn goes_on(column: &Column<'_>, step: u32) -> bool
     }
 }
 
-// How many such steps there are, and how many ranges they make.
-#[derive(Clone, Copy)]
-struct Marks {
-    steps: u64,
-    ranges: u64,
-}
-
-// The marks of a series.
+// How many steps a series marks, and how many ranges they make.
 #[tactic(auto, using(crate::proofs::Ranges::sum_by_next))]
-fn marks_of(column: &Column<'_>) -> Marks
-    ensures steps { result.steps ≡ marks column.now.picture.now column.now.series }
-    ensures ranges { result.ranges ≡ ranges_of column.now.picture.now column.now.series }
+fn marks_of(column: &Column<'_>) -> (u64, u64)
+    ensures steps { result.0 ≡ marks column.now.picture.now column.now.series }
+    ensures ranges { result.1 ≡ ranges_of column.now.picture.now column.now.series }
 {
     let mut steps: u64 = 0;
     let mut ranges: u64 = 0;
     for step in 1..column.picture.problem().steps() + 1 {
-        let here = is_marked(column, step);
+        let here = column.amount_at(step) > 0;
         let before = goes_on(column, step);
         steps += one_if(here);
         ranges += one_if(here && !before);
     }
-    Marks { steps, ranges }
+    (steps, ranges)
 }
 
 // What stands before the first step of a range, or the last.
@@ -95,7 +80,7 @@ fn push_range_part(text: &mut Vec<u8>, column: &Column<'_>, step: u32) -> Pushed
     ensures { OnOk result (text.new.items ≡ text.old.items
         ++ range_part column.now.picture.now column.now.series step) }
 {
-    if !is_marked(column, step) {
+    if column.amount_at(step) == 0 {
         return Ok(());
     }
     let before = goes_on(column, step);
@@ -106,17 +91,6 @@ fn push_range_part(text: &mut Vec<u8>, column: &Column<'_>, step: u32) -> Pushed
         return Ok(());
     }
     parts!(text; Said(b" "), Number(step))
-}
-
-#[tactic(auto, using(std::proofs::Common::append_assoc, crate::proofs::Ranges::flat_map_next))]
-fn push_ranges(text: &mut Vec<u8>, column: &Column<'_>) -> Pushed
-    ensures { OnOk result (text.new.items ≡ text.old.items
-        ++ flat_map (range_part column.now.picture.now column.now.series) (steps column.now.picture.now.problem)) }
-{
-    for step in 1..column.picture.problem().steps() + 1 {
-        push_range_part(text, column, step)?;
-    }
-    Ok(())
 }
 
 // Where such steps are marked.
@@ -151,17 +125,20 @@ fn push_most_amount(text: &mut Vec<u8>, column: &Column<'_>) -> Pushed
 }
 
 // The steps as ranges, or their number where they are many ranges.
-#[tactic(auto, using(std::proofs::Common::append_assoc), unfolding(crate::specs::Words::in_steps))]
+#[tactic(auto, using(crate::proofs::Ranges::drawing), unfolding(crate::specs::Words::in_steps))]
 fn push_in_steps(text: &mut Vec<u8>, column: &Column<'_>) -> Pushed
     ensures { OnOk result (text.new.items ≡ text.old.items ++ in_steps column.now.picture.now column.now.series) }
 {
-    let marks = marks_of(column);
-    if marks.ranges <= MANY_RANGES {
-        parts!(text; Said(step_word(marks.steps)))?;
-        return push_ranges(text, column);
+    let (steps, ranges) = marks_of(column);
+    if ranges > MANY_RANGES {
+        parts!(text; Said(b"In the "), Grouped(steps), Said(marked_where(column.series)))?;
+        return push_most_amount(text, column);
     }
-    parts!(text; Said(b"In the "), Grouped(marks.steps), Said(marked_where(column.series)))?;
-    push_most_amount(text, column)
+    parts!(text; Said(step_word(steps)))?;
+    for step in 1..column.picture.problem().steps() + 1 {
+        push_range_part(text, column, step)?;
+    }
+    Ok(())
 }
 
 // A line on the steps of a series, or on that there are none.

@@ -13,7 +13,6 @@ ghost use Rattle.mm_cut.specs.declared.marks.TheConstants.{STEP_PLACES};
 ghost use Rattle.mm_chart.specs.declared.series.TheConstants.{AMOUNT_PLACES};
 ghost use Rattle.mm_chart.specs.Columns.{AreMarks, AreAmounts};
 ghost use Rattle.mm_chart.specs.Picture.{amounts, has_cut, has_worth, cut, counts, IsDrawn, IsSimulation};
-ghost use Rattle.mm_chart.specs.declared.series.Series.TheVariants.{CountedWindow};
 ghost use Rattle.mm_chart.specs.Series.{one_if, sent, has_stretch, IsSeries, amount_of, scaled, worth_of};
 ghost use Rattle.mm_chart.specs.Series.{limit_worth_of};
 
@@ -97,14 +96,6 @@ fn cut_of(sheet: &Sheet, verdict: Verdict) -> (&[Stretch], &[u32])
     }
 }
 
-// What its plan does to the stores.
-fn volumes_of(alloc: Global, problem: &Problem, sheet: &Sheet) -> Result<Simulated, NoMemory>
-    requires { HasShape problem.now sheet.now.plan }
-    ensures { IfOk result (IsSimulation problem.now (amount sheet.now.plan)) }
-{
-    simulate(alloc, problem, sheet.plan())
-}
-
 impl Picture {
     /// The picture of a sheet that has the problem's shape.
     pub fn new(alloc: Global, problem: Problem, sheet: Sheet) -> Result<Picture, NoMemory>
@@ -115,7 +106,7 @@ impl Picture {
         ensures worth { IfOk result (λ p. p.worth ≡ None) }
     {
         let verdict = verdict_of(&problem, &sheet);
-        let volumes = volumes_of(alloc, &problem, &sheet)?;
+        let volumes = simulate(alloc, &problem, sheet.plan())?;
         let (cut, counts) = cut_of(&sheet, verdict);
         let shades = shades_of(alloc, &problem, cut)?;
         let inner = inner_steps(&problem, cut);
@@ -170,7 +161,7 @@ impl Picture {
         ensures most { result ≤ MAX_STORES * 2 ^ 32 }
     {
         match &self.worth {
-            Some(worth) => worth.limit(channel).max(worth.step_limit(channel, step)),
+            Some(worth) => worth.limit(channel, step),
             None => 0,
         }
     }
@@ -248,21 +239,6 @@ impl Picture {
         has_stretch(self.shades.as_slice(), store)
     }
 
-    // The step's window, where the step counts by it.
-    fn counted_window(&self, step: u32) -> u64
-        requires place { step < STEP_PLACES }
-        requires first { 1 ≤ step }
-        requires last { step ≤ length self.now.problem.windows }
-        ensures window { result ≡ amount_of self.now CountedWindow step }
-        ensures most { result ≤ MAX_BLOCKS }
-    {
-        if self.counts_window(step) {
-            u64::from(self.problem.window(step))
-        } else {
-            0
-        }
-    }
-
     // What leaves a store in a step.
     fn sent(&self, store: usize, step: u32) -> u64
         requires store { store < length self.now.problem.rows }
@@ -337,7 +313,10 @@ impl Picture {
         match series {
             Series::WindowCounts => one_if(self.counts_window(step)),
             Series::Window => u64::from(self.problem.window(step)),
-            Series::CountedWindow => self.counted_window(step),
+            Series::CountedWindow if self.counts_window(step) => {
+                u64::from(self.problem.window(step))
+            }
+            Series::CountedWindow => 0,
             Series::Used => self.used(step),
             Series::ChannelCounts(_) => one_if(self.counts_limits(step) && marks[step as usize]),
             Series::Sent(channel) => self.sent_on(channel, step),

@@ -14,7 +14,7 @@ ghost use Rattle.mm_chart.specs.Rows.{store_words, store_bars, store_row, tick, 
 use crate::column::Column;
 use crate::layout::{
     LEFT, NAME_AT, RAISED_AT, SAVED_AT, TALL, THIN, TICK_AT, WINDOW_BASE, bottom, channel_base,
-    edge, has_limit, step_width, steps_width, store_base, tick_every,
+    edge_at, has_limit, step_width, steps_width, store_base, tick_every,
 };
 use crate::pen::Part::{Grouped, Name, Number, Said};
 use crate::pen::{
@@ -174,17 +174,6 @@ fn push_channel_row(text: &mut Vec<u8>, picture: &Picture, channel: u8) -> Pushe
     push_raised(text, picture, channel)
 }
 
-#[tactic(auto, using(crate::proofs::Ranges::drawing))]
-fn push_channels(text: &mut Vec<u8>, picture: &Picture) -> Pushed
-    ensures { OnOk result (text.new.items ≡ text.old.items
-        ++ drawn (flat_map (channel_row picture.now) (channels picture.now.problem))) }
-{
-    for channel in 0..picture.problem().channels() {
-        push_channel_row(text, picture, channel)?;
-    }
-    Ok(())
-}
-
 // What a store holds at the beginning and what comes to it.
 #[tactic(auto, using(crate::proofs::Ranges::sum_by_next), unfolding(crate::specs::Rows::coming_to))]
 fn coming_to(picture: &Picture, store: usize) -> u64
@@ -304,18 +293,6 @@ fn push_store_row(text: &mut Vec<u8>, picture: &Picture, store: usize, whole: u6
     push_store_words(text, picture, store, base, lost.total())
 }
 
-#[tactic(auto, using(crate::proofs::Ranges::drawing))]
-fn push_stores(text: &mut Vec<u8>, picture: &Picture) -> Pushed
-    ensures { OnOk result (text.new.items ≡ text.old.items
-        ++ drawn (flat_map (store_row picture.now) (stores picture.now.problem))) }
-{
-    let whole = most_lost(picture);
-    for store in 0..picture.problem().stores() {
-        push_store_row(text, picture, store, whole)?;
-    }
-    Ok(())
-}
-
 // The number of a step and a line from it through all rows, where a tick is due.
 #[tactic(auto, using(crate::proofs::Ranges::drawing), unfolding(crate::specs::Rows::tick))]
 fn push_tick(text: &mut Vec<u8>, picture: &Picture, step: u32) -> Pushed
@@ -327,20 +304,10 @@ fn push_tick(text: &mut Vec<u8>, picture: &Picture, step: u32) -> Pushed
     if step != 1 && step % tick_every(problem.steps()) != 0 {
         return Ok(());
     }
-    let x = edge(problem, step - 1) + step_width(problem) / 2;
+    let width = step_width(problem);
+    let x = edge_at(width, step - 1) + width / 2;
     label!(text; Tick x, TICK_AT; Number(step))?;
     push_guide(text, x, TICK_AT + 4, bottom(problem))
-}
-
-#[tactic(auto, using(crate::proofs::Ranges::drawing))]
-fn push_ticks(text: &mut Vec<u8>, picture: &Picture) -> Pushed
-    ensures { OnOk result (text.new.items ≡ text.old.items
-        ++ drawn (flat_map (tick picture.now) (steps picture.now.problem))) }
-{
-    for step in 1..picture.problem().steps() + 1 {
-        push_tick(text, picture, step)?;
-    }
-    Ok(())
 }
 
 /// Writes the ticks, and the rows of the windows, the channels with a limit, and the stores.
@@ -348,10 +315,19 @@ fn push_ticks(text: &mut Vec<u8>, picture: &Picture) -> Pushed
 pub fn push_rows(text: &mut Vec<u8>, picture: &Picture) -> Pushed
     ensures { OnOk result (text.new.items ≡ text.old.items ++ drawn (rows picture.now)) }
 {
+    let problem = picture.problem();
     label!(text; Side NAME_AT, TICK_AT; Said(b"step"))?;
-    push_ticks(text, picture)?;
+    for step in 1..problem.steps() + 1 {
+        push_tick(text, picture, step)?;
+    }
     push_windows_row(text, picture)?;
     push_worth_row(text, picture)?;
-    push_channels(text, picture)?;
-    push_stores(text, picture)
+    for channel in 0..problem.channels() {
+        push_channel_row(text, picture, channel)?;
+    }
+    let whole = most_lost(picture);
+    for store in 0..problem.stores() {
+        push_store_row(text, picture, store, whole)?;
+    }
+    Ok(())
 }

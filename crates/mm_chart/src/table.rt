@@ -109,20 +109,8 @@ fn push_step(text: &mut Vec<u8>, course: &Course<'_>, step: u32) -> Pushed
     Ok(())
 }
 
-// The records of all steps.
-#[tactic(auto, using(crate::proofs::Ranges::drawing))]
-fn push_steps(text: &mut Vec<u8>, course: &Course<'_>) -> Pushed
-    ensures { OnOk result (text.new.items ≡ text.old.items
-        ++ flat_map (step_records course.now.problem.now (amount course.now.plan.now)) (steps course.now.problem.now)) }
-{
-    for step in 1..course.problem.steps() + 1 {
-        push_step(text, course, step)?;
-    }
-    Ok(())
-}
-
 // The table of a plan.
-#[tactic(auto, unfolding(crate::specs::Table::table))]
+#[tactic(auto, using(crate::proofs::Ranges::drawing), unfolding(crate::specs::Table::table))]
 fn table_of(alloc: Global, problem: &Problem, plan: &Plan) -> Result<Vec<u8>, mm_base::NoMemory>
     requires { HasShape problem.now plan.now }
     ensures { IfOk result (λ text. text.items ≡ table problem.now (amount plan.now)) }
@@ -135,7 +123,9 @@ fn table_of(alloc: Global, problem: &Problem, plan: &Plan) -> Result<Vec<u8>, mm
     };
     let mut text = Vec::new(alloc);
     text.extend_from_slice(b"step,window,store,arrived,lost,dumped,held\n")?;
-    push_steps(&mut text, &course)?;
+    for step in 1..course.problem.steps() + 1 {
+        push_step(&mut text, &course, step)?;
+    }
     Ok(text)
 }
 

@@ -1,7 +1,7 @@
 //! What larger windows and limits are worth.
-ghost use Rattle.std.specs.Prelude.{◌≡◌, ◌≤◌, ◌<◌, ◌*◌, ◌-◌, ◌^◌, All, slice_index_or};
+ghost use Rattle.std.specs.Prelude.{◌≡◌, ◌≤◌, ◌<◌, ◌*◌, ◌-◌, ◌^◌, All, Some, slice_index_or};
 ghost use Rattle.mm_base.specs.declared.limits.TheConstants.{MAX_STORES};
-ghost use Rattle.mm_chart.specs.Series.{step_limit_worth};
+ghost use Rattle.mm_chart.specs.Series.{limit_worth_of};
 
 use mm_base::CHANNELS;
 use mm_base::grid::place;
@@ -56,21 +56,14 @@ impl Worths {
         self.windows.get(step as usize - 1).copied().unwrap_or(0)
     }
 
-    // What the limit of a channel in the setup is worth.
-    pub(crate) fn limit(&self, channel: u8) -> u64
-        ensures worth { result ≡ slice_index_or self.now.limits channel 0 }
-        ensures most { result ≤ MAX_STORES * 2 ^ 32 }
-    {
-        self.limits.get(channel as usize).copied().unwrap_or(0)
-    }
-
-    // What the limit of a channel in this step alone is worth.
-    pub(crate) fn step_limit(&self, channel: u8, step: u32) -> u64
+    // What one higher limit of a channel is worth in a step.
+    pub(crate) fn limit(&self, channel: u8, step: u32) -> u64
         requires { 1 ≤ step }
-        ensures worth { result ≡ step_limit_worth self.now.step_limits channel step }
+        ensures worth { result ≡ limit_worth_of (Some self.now) channel step }
         ensures most { result ≤ MAX_STORES * 2 ^ 32 }
     {
+        let in_setup = self.limits.get(channel as usize).copied().unwrap_or(0);
         let place = place(CHANNELS, step, channel as usize);
-        self.step_limits.get(place).copied().unwrap_or(0)
+        in_setup.max(self.step_limits.get(place).copied().unwrap_or(0))
     }
 }

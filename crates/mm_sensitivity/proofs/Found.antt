@@ -26,7 +26,7 @@ use Rattle.mm_sensitivity.specs.Worth.{IsLeastLoss, IsPlanFor, IsSaved}
 use Rattle.mm_sensitivity.proofs.Growing.{grows}
 use Rattle.mm_sensitivity.proofs.Losing.{whole_loss, whole_fits}
 use Rattle.mm_sensitivity.proofs.Spilling.{begins_here, first_step, shows_with, shows_without}
-use Rattle.mm_sensitivity.proofs.Least.{tight, bound-le, bound_changed, bound_uncounted, bound_falls}
+use Rattle.mm_sensitivity.proofs.Least.{tight, bound-le, bound_changed, bound_known, bound_falls, with_own_window}
 use Rattle.mm_sensitivity.proofs.Windows.{as_many, cut_there, cut_back, wider_window}
 
 -- a plan that fits and loses as much as the bound of a cut
@@ -64,7 +64,7 @@ some_limit (Some n) is = refl
 some_limit None is = absurd (true≢false (sym is))
 
 pub with_own : (q : Dumping) (i : Item) → IsItem q i → with_number q i (number q i) ≡ q
-with_own q (Window t) is = ap (λ ws. record q { windows = ws }) (set-get_or q.windows (t - 1) 0)
+with_own q (Window t) is = with_own_window q t
 with_own q (Size s) is = ap (λ rs. record q { rows = rs }) (set-get_or q.rows s no_row)
 with_own q (Limit c) is =
     ap (λ ls. record q { limits = ls }) (ap (λ o. set q.limits c o) (some_limit _ is.1) ∙ set-get_or q.limits c None)
@@ -88,41 +88,32 @@ whole_part q s b fits =
 -- where the number is no smaller, a store has room for all with which it begins
 pub fitted_whole : (q : Dumping) (i : Item) (b : ℕ) → IsDumping q → IsItem q i → number q i ≤ b → fitted q i b
     ≡ with_number q i b
-fitted_whole q (Window t) b is item larger = refl
 fitted_whole q (Size s) b is item larger = let fits = (is.stores.each s no_row item).start in whole_part q s b
     (omega (arith, fits, larger))
-fitted_whole q (Limit c) b is item larger = refl
-fitted_whole q (StepLimit k t) b is item larger = refl
+fitted_whole q i b is item larger = refl
 
 -- a plan for the problem has the shape of the other
 pub fitted_shape : (q : Dumping) (i : Item) (b : ℕ) (x : Table) → HasShape q x → HasShape (fitted q i b) x
 fitted_shape q (Window t) b x shape = record {
   stores = shape.stores;
-  steps = shape.steps
-      ∙ sym (length-set q.windows (t - 1) b);
+  steps = shape.steps ∙ sym (length-set q.windows (t - 1) b);
 }
 fitted_shape q (Size s) b x shape = record {
-  stores = shape.stores
-      ∙ sym (length-set q.rows s (sized (row q s) b));
+  stores = shape.stores ∙ sym (length-set q.rows s (sized (row q s) b));
   steps = shape.steps;
 }
-fitted_shape q (Limit c) b x shape = record { stores = shape.stores; steps = shape.steps }
-fitted_shape q (StepLimit k t) b x shape = record { stores = shape.stores; steps = shape.steps }
+fitted_shape q i b x shape = record { stores = shape.stores; steps = shape.steps }
 
 -- what a plan loses there, with what a store has no room for as it begins
 pub spilled_loss : (q : Dumping) (i : Item) (b : ℕ) (x : Amounts) → IsDumping q → IsItem q i
     → loss (with_number q i b) x ≡ loss (fitted q i b) x + spilled q i b
-spilled_loss q (Window t) b x is item = omega arith
 spilled_loss q (Size s) b x is item = whole_loss q s b item x is.steps.has_step
-spilled_loss q (Limit c) b x is item = omega arith
-spilled_loss q (StepLimit k t) b x is item = omega arith
+spilled_loss q i b x is item = omega arith
 
 fits_whole : (q : Dumping) (i : Item) (b : ℕ) (x : Amounts) → IsItem q i → Fits (fitted q i b) x
     → Fits (with_number q i b) x
-fits_whole q (Window t) b x item fits = fits
 fits_whole q (Size s) b x item fits = whole_fits q s b item x fits
-fits_whole q (Limit c) b x item fits = fits
-fits_whole q (StepLimit k t) b x item fits = fits
+fits_whole q i b x item fits = fits
 
 -- the least loss of a problem with a smaller store: that of the problem in which it begins full, and what it has no
 -- room for
@@ -159,11 +150,8 @@ whole_size bounds q s a k is_dumping item is =
 
 whole_least : CutsBoundLosses → (q : Dumping) (i : Item) (a k : ℕ) → IsDumping q → IsItem q i
     → IsLeastLoss (fitted q i a) k → IsLeastLoss (with_number q i a) (k + spilled q i a)
-whole_least bounds q (Window t) a k is_dumping item is = subst (IsLeastLoss (with_window q t a)) (omega arith) is
 whole_least bounds q (Size s) a k is_dumping item is = whole_size bounds q s a k is_dumping item is
-whole_least bounds q (Limit c) a k is_dumping item is = subst (IsLeastLoss (with_number q (Limit c) a)) (omega arith) is
-whole_least bounds q (StepLimit c t) a k is_dumping item is = subst (IsLeastLoss (with_number q (StepLimit c t) a))
-    (omega arith) is
+whole_least bounds q i a k is_dumping item is = subst (IsLeastLoss (with_number q i a)) (omega arith) is
 
 -- ---- where as much is lost
 
@@ -195,7 +183,8 @@ pub wider_least : CutsBoundLosses → (q : Dumping) (t b : ℕ) (x : Table) (ds 
 wider_least bounds q t b x ds ts n first last wider other shows =
     matched_least bounds (with_window q t b) (amount x) ds ts n
     (fits_wider q t b (amount x) first last wider shows.least.fits) (cut_there q t b ds ts shows.cut)
-    (same_loss q t b (amount x) ∙ shows.loss) (bound_uncounted q t first last ds ts b other ∙ shows.bound)
+    (same_loss q t b (amount x) ∙ shows.loss)
+    (omega (arith, ints, bound_known q t first last ds ts b false other, shows.bound))
 
 -- where the largest window saves nothing, no wider window does
 pub nothing_wider : CutsBoundLosses → (q : Dumping) (t b : ℕ) → IsItem q (Window t) → window q t ≤ b → b ≤ MAX_BLOCKS
@@ -292,7 +281,5 @@ module _ (q : Dumping) (p : Planned) (i : Item) (base : IsPlanFor q p) (item : I
 
 -- the least number is no larger than any
 pub least_first : (q : Dumping) (i : Item) → IsDumping q → IsItem q i → least_number i ≤ number q i
-least_first q (Window t) is item = omega arith
 least_first q (Size s) is item = let row = is.stores.each s no_row item in omega (arith, row.has_room)
-least_first q (Limit c) is item = omega arith
-least_first q (StepLimit k t) is item = omega arith
+least_first q i is item = omega arith

@@ -2,37 +2,30 @@
 use Rattle.std.proofs.Common.{◌≡◌, ℕ, ◌-◌, ◌<◌, ◌≤◌, Bool, true, false, cond, eqb, nat_lt, List, length, get_or, set}
 use Rattle.std.proofs.Common.{refl, sym, ap, ◌∙◌, subst, inl, inr, arith}
 use Rattle.std.specs.Prelude.{◌≢◌, Option, Some, None, unwrap_or, All, IsSome}
-use Rattle.std.proofs.lemmas.Bool.{cases_eq, and_parts, eqb-true}
+use Rattle.std.proofs.lemmas.Bool.{cases_eq}
 use Rattle.std.proofs.lemmas.List.{length-set, get_or-set_same, get_or-set_other}
-use Rattle.std.proofs.lemmas.List.Elements.{All-contains}
-use Rattle.std.proofs.lemmas.List.Folds.{Any-from_list_any}
 use Rattle.std.specs.List.{position_or_len}
 use Rattle.mm_base.specs.declared.rows.StoreRow.{StoreRow}
 use Rattle.mm_base.specs.Grid.{cell, grid_place}
-use Rattle.mm_problem.specs.Dumping.{Dumping, row, size, IsDumping, limit, lesser, setup_limit, step_limit}
+use Rattle.mm_problem.specs.Dumping.{Dumping, row, IsDumping, limit, lesser, setup_limit, step_limit}
 use Rattle.mm_plan.specs.declared.stretch.Stretch.{Stretch}
 use Rattle.mm_plan.proofs.Places.{grid_place-lt}
-use Rattle.mm_cut.specs.Stretches.{AreStretches, store_of, channel_of, goes_past, goes_past_on, is_inner_on}
-use Rattle.mm_cut.specs.Counts.{is_listed, IsLimited, IsCounted}
+use Rattle.mm_cut.specs.Stretches.{AreStretches, store_of, is_inner_on}
+use Rattle.mm_cut.specs.Counts.{is_listed}
 use Rattle.mm_cut.specs.Cuts.{IsCut}
 use Rattle.mm_cut.specs.Changes.{ChangesStretch, HelpsNowhere}
+use Rattle.mm_cut.proofs.Exchange.{inner_has_limit, listed_is_counted}
 use Rattle.mm_sensitivity.specs.declared.item.Item.{Item}
 use Rattle.mm_sensitivity.specs.declared.item.Item.TheVariants.{Window, Size, Limit, StepLimit}
 use Rattle.mm_sensitivity.specs.Items.{IsItem, resized, with_number}
-use Rattle.mm_sensitivity.proofs.Rows.{row_here, row_alike, rows_alike, alike, stores_alike}
+use Rattle.mm_sensitivity.proofs.Rows.{with_row, rows_alike, related, alike, stores_alike}
 
 -- the channel of a store that is inner in a step which counts by channels has a limit
 has_limit_there : (q : Dumping) (ds : List Stretch) (ts : List ℕ) → IsCut q ds ts → (t c : ℕ) → is_listed ts t ≡ true
     → is_inner_on q ds t c ≡ true → IsSome (limit q c t)
 has_limit_there q ds ts cut t c listed inner =
-    let found = Any-from_list_any (λ k. eqb k t) ts listed in
-    let counted = All-contains (IsCounted q ds) ts found.1 cut.counted.each (found.0, found.2, found.3) in
-    let at = Any-from_list_any (goes_past_on q t c) ds inner in
-    let on = and_parts (goes_past t at.1) (eqb (channel_of q at.1) c) at.4 in
-    let limited = All-contains (IsLimited q found.1) ds at.1 counted.limited (at.0, at.2, at.3) in
-    let same = eqb-true found.1 t found.4 in
-    subst (λ e. IsSome (limit q e t)) (eqb-true (channel_of q at.1) c on.1)
-    (subst (λ u. IsSome (limit q (channel_of q at.1) u)) same (limited (rw same on.0)))
+    let counted = listed_is_counted q (λ _ _. 0) ds cut.stretches ts t cut.counted listed in
+    inner_has_limit q (λ _ _. 0) ds cut.stretches t c counted.limited inner
 
 -- an element of two lists that differ at one place
 set-le : (xs : List ℕ) (i j a b : ℕ) → i < length xs → a ≤ b → get_or (set xs i a) j 0 ≤ get_or (set xs i b) j 0
@@ -189,45 +182,35 @@ grows_column q k t a b is column first last le ds ts cut =
 
 -- ---- a size
 
-grows_size : (q : Dumping) (s a b : ℕ) → s < length q.rows → a ≤ b → Grows q (Size s) a b
-grows_size q s a b inside le ds ts cut =
-    let w = resized (row q s) a in
-    let v = resized (row q s) b in
-    let small = with_number q (Size s) a in
-    let large = with_number q (Size s) b in
+-- a problem with another row of a store, which begins with no less and has no more room, on the same channel
+pub grows_row : (q : Dumping) (s : ℕ) (w v : StoreRow) → s < length q.rows → w.id ≡ (row q s).id → v.id ≡ (row q s).id
+    → w.channel ≡ v.channel → v.start ≤ w.start → w.size ≤ v.size → (ds : List Stretch) (ts : List ℕ)
+    → IsCut (with_row q s v) ds ts → HelpsNowhere (with_row q s v) (with_row q s w) ds ts
+grows_row q s w v inside of_w of_v channels starts sizes ds ts cut =
     let rows = rows_alike q s w v in
-    let store = stores_alike q s w v refl refl in
-    let sizes : (k : ℕ) → size small k ≤ size large k = λ k. elim (cases_eq k s) [
-      | inl here ↦
-          let of_small = ap (size small) here ∙ ap (λ (r : StoreRow). r.size) (row_here q s w inside) in
-          let of_large = ap (size large) here ∙ ap (λ (r : StoreRow). r.size) (row_here q s v inside) in
-          omega (arith, le)
-      | inr other ↦ omega (arith, ap (λ (r : StoreRow). r.size) (row_alike q s w v k other))
-    ] in
+    let store = stores_alike q s w v of_w of_v in
     record {
       steps = refl;
       channels = refl;
       stretches = λ k d within.
           let e : Stretch = get_or ds k d in
-          let is = cut.stretches.each k d within in
-          let i = store_of small e in
-          let j = store_of large e in
+          let i = store_of (with_row q s v) e in
           record {
-            store = omega (arith, is.store, rows, store e);
+            store = rw (store e, rows) (cut.stretches.each k d within).store;
             start = λ _.
-                omega (arith, alike q s w v (λ r. r.start) inside refl i, ap (λ m. (row large m).start) (store e));
-            arrivals = λ u _. omega (
-              arith,
-              ap (λ m. cell m q.arrived i u) rows
-                  ∙ ap (λ m. cell (length large.rows) q.arrived m u) (store e),
-            );
-            size = omega (arith, ap (size small) (store e), sizes j);
-            channel = λ _ _ _. alike q s w v (λ r. r.channel) inside refl i ∙ ap (λ m. (row large m).channel) (store e);
+                rw (store e) (related q s w v (λ (m n : ℕ). n ≤ m) (λ r. r.start) inside (λ _. omega arith) starts i);
+            arrivals = λ u _. rw (store e, rows) (omega arith);
+            size = rw (store e) (related q s w v ◌≤◌ (λ r. r.size) inside (λ _. omega arith) sizes i);
+            channel = λ _ _ _. rw (store e) (alike q s w v (λ r. r.channel) inside channels i);
           };
       windows = λ _ _. omega arith;
-      limited = λ u c listed inner. has_limit_there large ds ts cut u c listed inner;
+      limited = λ u c listed inner. has_limit_there (with_row q s v) ds ts cut u c listed inner;
       limits = λ _ _ _ _. omega arith;
     }
+
+grows_size : (q : Dumping) (s a b : ℕ) → s < length q.rows → a ≤ b → Grows q (Size s) a b
+grows_size q s a b inside le =
+    grows_row q s (resized (row q s) a) (resized (row q s) b) inside refl refl refl (omega arith) le
 
 -- ---- any of them
 

@@ -6,8 +6,9 @@ use Rattle.std.specs.List.{range_with_len}
 use Rattle.std.proofs.lemmas.List.{map-append, take_more}
 use Rattle.std.proofs.lemmas.List.Elements.{filter-append, All-append, All-map, All-push}
 use Rattle.std.proofs.lemmas.List.FromFn.{map-range_with_len_more}
-use Rattle.mm_base.proofs.Ranges.{range_with_len_more, All-range_with_len, All-filter-range_with_len}
-use Rattle.mm_base.proofs.Ranges.{All-flat_map-range_with_len}
+use Rattle.mm_base.proofs.Ranges.{range_with_len_more, range_with_len_next, All-range_with_len}
+use Rattle.mm_base.proofs.Ranges.{All-filter-range_with_len, All-flat_map-range_with_len}
+use Rattle.mm_chart.proofs.Ranges.{flat_map_first}
 use Rattle.mm_problem.specs.Dumping.{Dumping, steps, stores, channels}
 use Rattle.mm_sensitivity.specs.declared.item.Item.{Item}
 use Rattle.mm_sensitivity.specs.declared.item.Item.TheVariants.{Window, Size, Limit, StepLimit}
@@ -23,9 +24,8 @@ map_more make n = map-range_with_len_more make 0 n n (omega arith)
 -- the same for steps, which count from 1
 pub map_next : {X : Type 0} (make : ℕ → X) (t : ℕ) → 1 ≤ t
     → map make (range_with_len 1 (t + 1 - 1)) ≡ map make (range_with_len 1 (t - 1)) ++ make t ∷ []
-map_next make t first =
-    let here : t - 1 + 1 ≡ t + 1 - 1 = omega arith in
-    rw here at (map-range_with_len_more make 1 (t - 1) t (omega arith))
+map_next make t first = ap (map make) (range_with_len_next t first)
+    ∙ map-append make (range_with_len 1 (t - 1)) (t ∷ [])
 
 -- what is made of one number more, if it passes
 made_one : {X : Type 0} (make : ℕ → X) (b : Bool) (n : ℕ) → map make (cond b (n ∷ []) []) ≡ cond b (make n ∷ []) []
@@ -42,7 +42,8 @@ passed_more make p n =
     ∙ map-append make (filter p (range_with_len 0 n)) (filter p (n ∷ []))
     ∙ ap (λ xs. map make (filter p (range_with_len 0 n)) ++ xs) (made_one make (p n) n)
 
-pub ruleset passing = (append_assoc, append-nil, passed_more)
+-- one number more, in each of the loops
+pub ruleset listing = (append_assoc, append-nil, map_next, map_more, passed_more, flat_map_first)
 
 -- each of them is one
 items_are : (q : Dumping) → All (IsItem q) (items q)

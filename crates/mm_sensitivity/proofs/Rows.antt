@@ -1,5 +1,5 @@
 -- Two problems that differ in the row of one store.
-use Rattle.std.proofs.Common.{◌≡◌, ℕ, ◌<◌, length, sym, ap, ◌∙◌, subst, inl, inr}
+use Rattle.std.proofs.Common.{◌≡◌, ℕ, ◌<◌, length, refl, sym, ap, ◌∙◌, inl, inr}
 use Rattle.std.specs.Prelude.{◌≢◌, slice_set}
 use Rattle.std.specs.Str.{bytes_eq}
 use Rattle.std.proofs.lemmas.Bool.{cases_eq}
@@ -37,14 +37,18 @@ module _ (q : Dumping) (s : ℕ) (w v : StoreRow) where
   pub row_alike : (k : ℕ) → k ≢ s → row (with_row q s w) k ≡ row (with_row q s v) k
   row_alike k other = get_or-set_other q.rows s k w no_row other ∙ sym (get_or-set_other q.rows s k v no_row other)
 
+  -- what stands in a relation in the two rows does so in the rows of each store
+  pub related : {X : Type 0} (R : X → X → Type 0) (f : StoreRow → X) → s < length q.rows → ((x : X) → R x x)
+      → R (f w) (f v) → (k : ℕ) → R (f (row (with_row q s w) k)) (f (row (with_row q s v) k))
+  related R f inside same here k = elim (cases_eq k s) [
+    | inl at ↦ rw (at, row_here q s w inside, row_here q s v inside) here
+    | inr other ↦ rw (row_alike k other) (same (f (row (with_row q s v) k)))
+  ]
+
   -- what is the same of both rows is the same of all
   pub alike : {X : Type 0} (f : StoreRow → X) → s < length q.rows → f w ≡ f v → (k : ℕ)
       → f (row (with_row q s w) k) ≡ f (row (with_row q s v) k)
-  alike f inside same k = elim (cases_eq k s) [
-    | inl here ↦ subst (λ j. f (row (with_row q s w) j) ≡ f (row (with_row q s v) j)) (sym here)
-        (ap f (row_here q s w inside) ∙ same ∙ sym (ap f (row_here q s v inside)))
-    | inr other ↦ ap f (row_alike k other)
-  ]
+  alike f inside same = related ◌≡◌ f inside (λ _. refl) same
 
   -- a stretch has the same store in both
   pub stores_alike : w.id ≡ (row q s).id → v.id ≡ (row q s).id → (d : Stretch)

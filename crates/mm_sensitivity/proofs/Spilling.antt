@@ -1,7 +1,7 @@
 -- A cut that shows what is lost where a store begins with more blocks than it has room for.
 use Rattle.std.proofs.Common.{◌≡◌, ℕ, zero, suc, ◌+◌, ◌-◌, ◌<◌, ◌≤◌, Bool, true, false, cond, ◌&&◌, ◌||◌, eqb, List, []}
 use Rattle.std.proofs.Common.{◌∷◌, length, get_or, pos, refl, sym, ap, ◌∙◌, subst, inl, inr, true≢false, arith}
-use Rattle.std.specs.Prelude.{filter, All, IsSome, ◌+ℤ◌, ◌≤ℤ◌}
+use Rattle.std.specs.Prelude.{filter, All, ◌+ℤ◌, ◌≤ℤ◌}
 use Rattle.std.specs.List.{sum_by, list_any}
 use Rattle.std.specs.Str.{bytes_eq}
 use Rattle.std.proofs.lemmas.Bool.{cases_eq, and_parts, eqb-true, false_from_ne_true}
@@ -13,17 +13,21 @@ use Rattle.std.proofs.lemmas.List.Kept.{AllPairs-cons}
 use Rattle.std.proofs.lemmas.List.Sums.{position_or_len_is, sum_by-cons, sum_by-le-sum_by}
 use Rattle.std.proofs.lemmas.Slice.Eq.{bytes_eq-Decides}
 use Rattle.mm_base.specs.declared.rows.StoreRow.{StoreRow}
-use Rattle.mm_problem.specs.Dumping.{Dumping, IsDumping, no_row, row, size, start, channel, limit, window}
+use Rattle.mm_problem.specs.Dumping.{Dumping, IsDumping, no_row, row, size, start, channel, window}
 use Rattle.mm_problem.specs.Dumping.{arrivals, steps, channels, place}
 use Rattle.mm_plan.specs.declared.stretch.Stretch.{Stretch}
 use Rattle.mm_cut.specs.Stretches.{store_of, channel_of, covers, goes_past, goes_past_on, is_inner, is_inner_on}
 use Rattle.mm_cut.specs.Stretches.{IsStretch, AreApart}
 use Rattle.mm_cut.specs.Counts.{is_listed, IsLimited}
-use Rattle.mm_cut.specs.Cuts.{IsCut, opening, coming, coming_sum, held, held_sum, limit_or_0, leaving, leaving_sum}
+use Rattle.mm_cut.specs.Cuts.{IsCut, opening, coming, held, held_sum, limit_or_0, leaving, leaving_sum}
 use Rattle.mm_cut.specs.Cuts.{bound}
-use Rattle.mm_sensitivity.proofs.Rows.{row_here, as_many_rows, same_store, stores_alike}
-use Rattle.mm_sensitivity.proofs.Losing.{whole, part, whole_row, part_row, same_rows, same_size, same_channel}
-use Rattle.mm_sensitivity.proofs.Losing.{same_arrivals, whole_start, part_start, other_start}
+use Rattle.mm_cut.specs.Changes.{HelpsNowhere}
+use Rattle.mm_cut.proofs.Helping.{bound-more, same_cut}
+use Rattle.mm_sensitivity.proofs.Growing.{grows_row}
+use Rattle.mm_sensitivity.proofs.Least.{counted_more}
+use Rattle.mm_sensitivity.proofs.Rows.{row_here, as_many_rows, same_store, stores_alike, related}
+use Rattle.mm_sensitivity.proofs.Losing.{whole, part, whole_row, part_row, same_size, same_channel}
+use Rattle.mm_sensitivity.proofs.Losing.{same_arrivals, whole_start, part_start}
 
 -- a test that passes the same elements
 list_any_agree : {X : Type 0} (f g : X → Bool) (xs : List X) → ((x : X) → f x ≡ g x) → list_any f xs ≡ list_any g xs
@@ -40,11 +44,6 @@ sum_by_at f g c (x ∷ xs) zero d each within more =
 sum_by_at f g c (x ∷ xs) (suc i) d each within more =
     let rest = sum_by_at f g c xs i d each (omega (arith, within)) more in
     omega (arith, each x, sum_by-cons f x xs, sum_by-cons g x xs)
-
--- terms that pass
-cond_le : (b : Bool) (i j : ℕ) → i ≤ j → cond b i 0 ≤ cond b j 0
-cond_le true i j le = le
-cond_le false i j le = omega arith
 
 -- the store with the identifier of a row
 store_named : (q : Dumping) → IsDumping q → (s : ℕ) → s < length q.rows → place q (row q s).id ≡ s
@@ -75,37 +74,16 @@ module _ (q : Dumping) (s n : ℕ) (inside : s < length q.rows) where
   channel_alike d = same_channel q s n inside (store_of w d) ∙ ap (channel p) (store_alike d)
 
   start_more : (k : ℕ) → start p k ≤ start w k
-  start_more k = elim (cases_eq k s) [
-    | inl here ↦ subst (λ j. start p j ≤ start w j) (sym here)
-        (omega (arith, whole_start q s n inside, part_start q s n inside))
-    | inr other ↦ omega (arith, other_start q s n inside k other)
-  ]
+  start_more = related q s (part_row q s n inside) (whole_row q s n inside) ◌≤◌ (λ r. r.start) inside (λ _. omega arith)
+      (omega arith)
 
-  -- a cut of the one is a cut of the other
+  -- the second helps no more, and a cut of the first is one of it
+  helps : (ds : List Stretch) (ts : List ℕ) → IsCut p ds ts → HelpsNowhere p w ds ts
+  helps = grows_row q s (whole_row q s n inside) (part_row q s n inside) inside refl refl refl (omega arith)
+      (omega arith)
+
   cut_whole : (ds : List Stretch) (ts : List ℕ) → IsCut p ds ts → IsCut w ds ts
-  cut_whole ds ts cut = record {
-    stretches = record {
-      each = λ k d within.
-          let is = cut.stretches.each k d within in
-          record {
-            store = omega (arith, is.store, store_alike (get_or ds k d), same_rows q s n inside);
-            first = is.first;
-            order = is.order;
-            last = is.last;
-          };
-      apart = cut.stretches.apart;
-    };
-    counted = record {
-      each = λ k d within.
-          let is = cut.counted.each k d within in
-          record {
-            inner = is.inner;
-            limited = λ j e place inner. subst (λ c. IsSome (limit q c (get_or ts k d)))
-                (sym (channel_alike (get_or ds j e))) (is.limited j e place inner);
-          };
-      once = cut.counted.once;
-    };
-  }
+  cut_whole ds ts cut = same_cut p w ds ts cut (helps ds ts cut)
 
   inner_alike : (ds : List Stretch) (t c : ℕ) → is_inner_on w ds t c ≡ is_inner_on p ds t c
   inner_alike ds t c = list_any_agree (goes_past_on w t c) (goes_past_on p t c) ds
@@ -133,12 +111,9 @@ module _ (q : Dumping) (s n : ℕ) (inside : s < length q.rows) where
 
   coming_more : (d : Stretch) → coming p d ≤ coming w d
   coming_more d =
-      let opens = cond_le (eqb d.first 1) (start p (store_of p d)) (start w (store_of w d))
-      (omega (arith, ap (start w) (store_alike d), start_more (store_of p d))) in
+      let opens = (counted_more (eqb d.first 1) (start p (store_of p d)) (start w (store_of w d))
+      (omega (arith, ap (start w) (store_alike d), start_more (store_of p d)))).0 in
       omega (arith, arrives d)
-
-  coming_sum_more : (ds : List Stretch) → coming_sum p ds ≤ coming_sum w ds
-  coming_sum_more ds = sum_by-le-sum_by (coming p) (coming w) ds coming_more
 
   -- a stretch of the store that begins in the first step has all with which the store begins
   coming_here : n ≤ start q s → (d : Stretch) → store_of p d ≡ s → d.first ≡ 1
@@ -244,4 +219,4 @@ module _ (q : Dumping) (s n : ℕ) (inside : s < length q.rows) where
         ∙ ap (λ (r : StoreRow). r.size) (row_here q s (whole_row q s n inside) inside) in
         let comes = sum_by-cons (coming w) first_step ds in
         let holds = sum_by-cons (held w) first_step ds in
-        (cut_all, omega (arith, ints, coming_sum_more ds, held_most ds, leaving_most ds ts, leaves))
+        (cut_all, omega (arith, ints, bound-more p w ds ts cut (helps ds ts cut), leaves))

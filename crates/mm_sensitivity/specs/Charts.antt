@@ -39,21 +39,17 @@ pub record IsStepLimitWorth (q : Dumping) (c t n : ℕ) : Type 0 where
       → IsSaved q (with_column_limit q k t MAX_BLOCKS) n
   pub other : ((k : ℕ) → k < length q.limited → ¬ (slice_index q.limited k ≡ c)) → n ≡ 0
 
--- the same for each channel, step by step, in the first steps
-pub record AreStepLimitWorths (q : Dumping) (steps : ℕ) (worths : List ℕ) : Type 0 where
-  pub count : length worths ≡ CHANNELS * steps
-  pub each : (c t : ℕ) → c < CHANNELS → 1 ≤ t → t ≤ steps → IsStepLimitWorth q c t (step_limit_worth worths c t)
-
--- these worths, none of them greater than the most that a plan loses
-pub record AreStepWorths (q : Dumping) (steps : ℕ) (worths : List ℕ) : Type 0 where
-  pub are_worths : AreStepLimitWorths q steps worths
-  pub most : AreLosses worths
+-- the same for each channel, step by step
+pub record AreStepLimitWorths (q : Dumping) (worths : List ℕ) : Type 0 where
+  pub count : length worths ≡ CHANNELS * length q.windows
+  pub each : (c t : ℕ) → c < CHANNELS → 1 ≤ t → t ≤ length q.windows
+      → IsStepLimitWorth q c t (step_limit_worth worths c t)
 
 -- the worths of the windows and limits of the problem
 pub record AreWorthLists (q : Dumping) (worths : WorthLists) : Type 0 where
   pub windows : AreWindowWorths q worths.windows
   pub limits : AreLimitWorths q worths.limits
-  pub step_limits : AreStepLimitWorths q (length q.windows) worths.step_limits
+  pub step_limits : AreStepLimitWorths q worths.step_limits
 
 -- the chart of a setup, a forecast and a plan text, by the verdict on them, with the worth of each window and limit
 pub record ChartsWorth (setup forecast text octets : List ℕ) : Type 0 where

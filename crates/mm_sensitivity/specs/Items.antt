@@ -37,24 +37,18 @@ with_number q (StepLimit k t) n = with_column_limit q k t n
 
 -- the same, if a start volume above the store's size becomes the size
 abbrev pub fitted : Dumping → Item → ℕ → Dumping
-fitted q (Window t) n = with_window q t n
 fitted q (Size s) n = with_size q s n
-fitted q (Limit c) n = with_limit q c n
-fitted q (StepLimit k t) n = with_column_limit q k t n
+fitted q i n = with_number q i n
 
 -- the blocks by which the start volume becomes less
 abbrev pub spilled : Dumping → Item → ℕ → ℕ
-spilled q (Window t) n = 0
 spilled q (Size s) n = start q s - n
-spilled q (Limit c) n = 0
-spilled q (StepLimit k t) n = 0
+spilled q _ n = 0
 
 -- the least value allowed
 abbrev pub least_number : Item → ℕ
-least_number (Window t) = 0
 least_number (Size s) = 1
-least_number (Limit c) = 0
-least_number (StepLimit k t) = 0
+least_number _ = 0
 
 -- one more, or the largest value itself
 abbrev pub next_number : ℕ → ℕ

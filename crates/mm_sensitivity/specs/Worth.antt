@@ -1,6 +1,6 @@
 -- How many blocks fewer the least plan loses if a number of the problem is larger.
-use Rattle.std.specs.Prelude.{◌≡◌, ℕ, ◌+◌, ◌*◌, ◌≤◌, min, List, length}
-use Rattle.mm_base.specs.declared.limits.TheConstants.{MAX_STORES, MAX_STEPS, MAX_BLOCKS}
+use Rattle.std.specs.Prelude.{◌≡◌, ℕ, ◌+◌, ◌≤◌, min, List, length}
+use Rattle.mm_base.specs.declared.limits.TheConstants.{MAX_BLOCKS}
 use Rattle.mm_problem.specs.Dumping.{Dumping, IsDumping, window}
 use Rattle.mm_problem.specs.Changed.{with_window}
 use Rattle.mm_plan.specs.Volumes.{Amounts, loss}

@@ -1,12 +1,12 @@
 //! Charts with the worths of windows and limits.
-ghost use Rattle.std.specs.Prelude.{◌≡◌, ◌-◌, ◌*◌, ◌<◌, ◌≤◌, length, IfOk, OnOk};
+ghost use Rattle.std.specs.Prelude.{◌≡◌, ◌-◌, ◌*◌, ◌<◌, ◌≤◌, length, IfOk};
 ghost use Rattle.mm_base.specs.Reading.{IfRefused};
 ghost use Rattle.mm_base.specs.declared.limits.TheConstants.{MAX_BLOCKS, MAX_STEPS, MAX_STORES, CHANNELS};
 ghost use Rattle.mm_cut.specs.Checking.{IsFaultOf};
 ghost use Rattle.mm_cut.specs.declared.fault.Fault.TheVariants.{NoMemory as no_memory};
 ghost use Rattle.mm_problem.specs.Changed.{with_window};
-ghost use Rattle.mm_sensitivity.specs.Charts.{AreWindowWorths, AreLimitWorths, AreLosses, AreStepWorths};
-ghost use Rattle.mm_sensitivity.specs.Charts.{AreWorthLists, ChartsWorth, IsLimitWorth, IsStepLimitWorth};
+ghost use Rattle.mm_sensitivity.specs.Charts.{AreWindowWorths, AreLimitWorths, AreLosses, IsLimitWorth};
+ghost use Rattle.mm_sensitivity.specs.Charts.{AreStepLimitWorths, IsStepLimitWorth, AreWorthLists, ChartsWorth};
 ghost use Rattle.mm_sensitivity.specs.Worth.{IsPlanFor, IsSaved};
 
 use crate::base::Base;
@@ -38,8 +38,8 @@ fn window_worths(base: &Base<'_>) -> Result<Vec<u32>, NoMemory>
     ensures { IfOk result (λ worths. AreWindowWorths base.now.problem.now worths.items) }
 {
     let mut worths = Vec::new(base.alloc);
-    for step in 0..base.problem.steps() {
-        worths.push(window_worth(base, step + 1)?)?;
+    for step in 1..base.problem.steps() + 1 {
+        worths.push(window_worth(base, step)?)?;
     }
     Ok(worths)
 }
@@ -87,29 +87,18 @@ fn step_limit_worth(base: &Base<'_>, channel: u8, step: u32) -> Result<u64, NoMe
     Ok(0)
 }
 
-// Adds the worths of the limits of the channels in a step.
-fn add_step_worths(base: &Base<'_>, worths: &mut Vec<u64>, step: u32) -> Result<(), NoMemory>
-    requires base { IsPlanFor base.now.problem.now base.now.planned }
-    requires first { 1 ≤ step }
-    requires last { step ≤ length base.now.problem.now.windows }
-    requires before { AreStepWorths base.now.problem.now (step - 1) worths.old.items }
-    ensures { OnOk result (AreStepWorths base.now.problem.now step worths.new.items) }
-{
-    for channel in 0..CHANNELS as u8 {
-        worths.push(step_limit_worth(base, channel, step)?)?;
-    }
-    Ok(())
-}
-
-// The worth of each limit of each step.
+// The worth of each limit of each step: step by step, in each all channels.
 fn step_limit_worths(base: &Base<'_>) -> Result<Vec<u64>, NoMemory>
     requires { IsPlanFor base.now.problem.now base.now.planned }
-    ensures { IfOk result
-        (λ worths. AreStepWorths base.now.problem.now (length base.now.problem.now.windows) worths.items) }
+    ensures worths { IfOk result (λ worths. AreStepLimitWorths base.now.problem.now worths.items) }
+    ensures most { IfOk result (λ worths. AreLosses worths.items) }
 {
     let mut worths = Vec::new(base.alloc);
-    for step in 1..base.problem.steps() + 1 {
-        add_step_worths(base, &mut worths, step)?;
+    let steps = base.problem.steps();
+    for place in 0..CHANNELS * steps as usize {
+        let channel = (place % CHANNELS) as u8;
+        let step = (place / CHANNELS) as u32 + 1;
+        worths.push(step_limit_worth(base, channel, step)?)?;
     }
     Ok(worths)
 }

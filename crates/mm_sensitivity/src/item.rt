@@ -1,12 +1,7 @@
 //! The numbers of a problem that a mission can change.
-ghost use Rattle.std.specs.Prelude.{◌≡◌, ◌≤◌, ◌<◌, ◌++◌, length, map, filter, flat_map, All};
-ghost use Rattle.std.specs.Prelude.{IfOk, OnOk};
-ghost use Rattle.std.specs.List.{range_with_len};
+ghost use Rattle.std.specs.Prelude.{◌≡◌, ◌≤◌, ◌++◌, All, IfOk, OnOk};
 ghost use Rattle.mm_base.specs.declared.limits.TheConstants.{MAX_BLOCKS};
-ghost use Rattle.mm_problem.specs.Dumping.{steps, stores, channels};
-ghost use Rattle.mm_sensitivity.specs.Items.{IsItem, number, least_number, fitted, spilled, has_limit, column_items};
-ghost use Rattle.mm_sensitivity.specs.Items.{items};
-ghost use Rattle.mm_sensitivity.specs.declared.item.Item.TheVariants.{Window, Size, Limit, StepLimit};
+ghost use Rattle.mm_sensitivity.specs.Items.{IsItem, number, least_number, fitted, spilled, column_items, items};
 
 use mm_base::NoMemory;
 use mm_problem::Problem;
@@ -83,42 +78,6 @@ pub(crate) fn spilled(problem: &Problem, item: Item, blocks: u32) -> u64
     }
 }
 
-// Adds the windows of the steps.
-#[tactic(auto, using(std::proofs::Common::append_assoc, crate::proofs::Listing::map_next))]
-fn add_windows(items: &mut Vec<Item>, problem: &Problem) -> Result<(), NoMemory>
-    ensures { OnOk result (items.new.items ≡ items.old.items ++ map Window (steps problem.now)) }
-{
-    for step in 1..problem.steps() + 1 {
-        items.push(Item::Window(step))?;
-    }
-    Ok(())
-}
-
-// Adds the sizes of the stores.
-#[tactic(auto, using(std::proofs::Common::append_assoc, crate::proofs::Listing::map_more))]
-fn add_sizes(items: &mut Vec<Item>, problem: &Problem) -> Result<(), NoMemory>
-    ensures { OnOk result (items.new.items ≡ items.old.items ++ map Size (stores problem.now)) }
-{
-    for store in 0..problem.stores() {
-        items.push(Item::Size(store))?;
-    }
-    Ok(())
-}
-
-// Adds the limits of the channels that have one in the setup.
-#[tactic(auto, using(crate::proofs::Listing::passing))]
-fn add_limits(items: &mut Vec<Item>, problem: &Problem) -> Result<(), NoMemory>
-    ensures { OnOk result (items.new.items
-        ≡ items.old.items ++ map Limit (filter (has_limit problem.now) (channels problem.now))) }
-{
-    for channel in 0..problem.channels() {
-        if problem.setup_limit(channel).is_some() {
-            items.push(Item::Limit(channel))?;
-        }
-    }
-    Ok(())
-}
-
 // Adds the limits of a column.
 #[tactic(auto, using(std::proofs::Common::append_assoc, crate::proofs::Listing::map_next))]
 fn add_column(items: &mut Vec<Item>, problem: &Problem, column: usize) -> Result<(), NoMemory>
@@ -130,29 +89,27 @@ fn add_column(items: &mut Vec<Item>, problem: &Problem, column: usize) -> Result
     Ok(())
 }
 
-// Adds the limits of each column.
-#[tactic(auto, using(std::proofs::Common::append_assoc, mm_chart::proofs::Ranges::flat_map_first))]
-fn add_columns(items: &mut Vec<Item>, problem: &Problem) -> Result<(), NoMemory>
-    ensures { OnOk result (items.new.items ≡ items.old.items
-        ++ flat_map (column_items problem.now) (range_with_len 0 (length problem.now.limited))) }
-{
-    for column in 0..problem.limited().len() {
-        add_column(items, problem, column)?;
-    }
-    Ok(())
-}
-
 // All numbers: the windows, the sizes of the stores in order, the limits of the channels that have one, and those of
 // each column.
-#[tactic(auto, using(std::proofs::Common::append_assoc, crate::proofs::Listing::all_items))]
+#[tactic(auto, using(crate::proofs::Listing::listing, crate::proofs::Listing::all_items))]
 pub(crate) fn items(alloc: Global, problem: &Problem) -> Result<Vec<Item>, NoMemory>
     ensures items { IfOk result (λ list. list.items ≡ items problem.now) }
     ensures each { IfOk result (λ list. All (IsItem problem.now) list.items) }
 {
     let mut items = Vec::new(alloc);
-    add_windows(&mut items, problem)?;
-    add_sizes(&mut items, problem)?;
-    add_limits(&mut items, problem)?;
-    add_columns(&mut items, problem)?;
+    for step in 1..problem.steps() + 1 {
+        items.push(Item::Window(step))?;
+    }
+    for store in 0..problem.stores() {
+        items.push(Item::Size(store))?;
+    }
+    for channel in 0..problem.channels() {
+        if problem.setup_limit(channel).is_some() {
+            items.push(Item::Limit(channel))?;
+        }
+    }
+    for column in 0..problem.limited().len() {
+        add_column(&mut items, problem, column)?;
+    }
     Ok(items)
 }

@@ -6,7 +6,12 @@ invariant_of-result c =
     let s = c.args.sheet in
     let drawn = drawn_cut c.args.problem s s.firsts c.verdict_of-verdict.result c.verdict_of-verdict.ensures in (
       record { shape = c.requires.shape; verdict = c.verdict_of-verdict.ensures; is_cut = drawn },
-      c.in_ok-volumes.ensures,
+      record {
+        shape = c.in_ok-volumes.ensures.shape;
+        written = rw c.plan.ensures at c.in_ok-volumes.ensures.written;
+        left = rw c.plan.ensures at c.in_ok-volumes.ensures.left;
+        lost = rw c.plan.ensures at c.in_ok-volumes.ensures.lost;
+      },
       rw c.cut_of.ensures.cut at c.in_ok-shades.ensures,
       record {
         inner_places = c.inner_steps-inner.ensures.places;

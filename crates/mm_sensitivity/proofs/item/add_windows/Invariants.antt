@@ -1,7 +1,0 @@
-use Rattle.std.proofs.Common.{◌≡◌, ◌-◌, ◌++◌, map}
-use Rattle.std.specs.List.{range_with_len}
-use Rattle.mm_sensitivity.specs.declared.item.Item.TheVariants.{Window}
-use Rattle.mm_sensitivity.proofs.item.add_windows.Given as goal
-
-abbrev pub invariant-loop-step : goal.invariant-loop-step
-invariant-loop-step l = l.items.items ≡ l.initial.items.items ++ map Window (range_with_len 1 (l.step - 1))
