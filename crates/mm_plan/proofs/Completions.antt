@@ -1,5 +1,5 @@
 -- What has been taken can be completed to a sheet.
-use Rattle.std.proofs.Common.{◌≡◌, ℕ, zero, suc, ◌+◌, ◌-◌, ◌*◌, ◌<◌, ◌≤◌, true, ◌==◌, List, [], ◌∷◌, ◌++◌, length, map}
+use Rattle.std.proofs.Common.{◌≡◌, ℕ, zero, suc, ◌+◌, ◌-◌, ◌*◌, ◌<◌, ◌≤◌, true, ◌==◌, List, [], ◌∷◌, ◌++◌, length}
 use Rattle.std.proofs.Common.{drop, pos, refl, sym, ap, ◌∙◌, inl, inr, arith, append_assoc, append-nil, length-append}
 use Rattle.std.proofs.Common.{length-drop, subst}
 use Rattle.std.specs.Prelude.{All, IfSome, unwrap_or, codes, nat_lt, ◌&&◌, ◌^◌, replicate}
@@ -15,14 +15,14 @@ use Rattle.mm_plan.specs.declared.form.Form.TheVariants.{First, Second, Third}
 use Rattle.mm_plan.specs.declared.draft.Stage.{Stage}
 use Rattle.mm_plan.specs.declared.draft.Stage.TheVariants.{ToTitle, ToStores, ToDumps, ToLoss, ToCut, ToEnd, Done}
 use Rattle.mm_plan.specs.Sheet.{SheetRows, CertificateRows, IsSheet, IsCertificate, AreFirsts, Line, title_line}
-use Rattle.mm_plan.specs.Sheet.{stores_line, dump_line, loss_line, stretch_line, count_line, bound_line, first_line}
-use Rattle.mm_plan.specs.Sheet.{end_line, dump_lines, certificate_lines, opening, first_lines, form_of, own}
+use Rattle.mm_plan.specs.Sheet.{stores_line, dump_line, loss_line, count_line, bound_line, first_line}
+use Rattle.mm_plan.specs.Sheet.{end_line, dump_lines, certificate_lines, opening, first_lines, own}
 use Rattle.mm_plan.specs.Sheet.{certificates_of, lines_of, IsLine}
 use Rattle.mm_plan.specs.Reading.{ReadRows, DraftRows, fits_form, may_begin, has_all, may_follow, part_of}
 use Rattle.mm_plan.specs.Reading.{with_part, after, firsts_in, sheet_of}
 use Rattle.mm_plan.proofs.Drafts.{dumps_of, so_far, IsRows, IsEnded, at_stage, IsSound, lines_so_far, IsAdded}
 use Rattle.mm_plan.proofs.Drafts.{zero_fits, added}
-use Rattle.mm_plan.proofs.Runs.{eq_of, certificate_right, certificates_are}
+use Rattle.mm_plan.proofs.Runs.{eq_of, certificates_are}
 
 -- a sheet that begins with the lines so far
 pub record Leads (d : DraftRows) : Type 0 where

@@ -10,7 +10,6 @@ use Rattle.std.proofs.lemmas.List.Elements.{All-nil, All-cons, All-from_recursio
 use Rattle.std.proofs.lemmas.List.Elements.{All-take, All-drop}
 use Rattle.std.proofs.lemmas.List.Elements.{All-map}
 use Rattle.mm_base.specs.declared.limits.TheConstants.{MAX_STORES, MAX_STEPS, MAX_BLOCKS}
-use Rattle.mm_base.proofs.IdFields.{Decides-nat_le}
 use Rattle.mm_plan.specs.declared.stretch.Stretch.{Stretch}
 use Rattle.mm_plan.specs.declared.stretch.TheConstants.{MAX_STRETCHES, MAX_COUNTS}
 use Rattle.mm_plan.specs.declared.draft.Stage.{Stage}
@@ -121,7 +120,7 @@ go_counted First s ds (t ∷ ts) more fits few = absurd (grind (arith, nat_tests
 go_counted f s ds ts more fits few = go-count_lines f s ds [] ts more refl (omega (arith, few))
 
 -- the lines of a certificate, from the first on
-pub certificate_right : (c : CertificateRows) (more : List Line)
+certificate_right : (c : CertificateRows) (more : List Line)
     → certificate_lines c ++ more
     ≡ loss_line c.loss ∷ (map stretch_line c.cut ++ (map count_line c.by_channels ++ (bound_line c.bound ∷ more)))
 unfolding certificate_lines

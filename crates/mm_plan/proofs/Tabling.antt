@@ -7,7 +7,7 @@ use Rattle.mm_base.specs.Grid.{grid_place}
 use Rattle.mm_plan.proofs.Places.{grid_place-lt, same_from_grid_place}
 use Rattle.mm_problem.specs.Dumping.{Dumping}
 use Rattle.mm_plan.specs.Volumes.{Amounts, left}
-use Rattle.mm_plan.specs.Simulated.{no_volumes, volumes_at}
+use Rattle.mm_plan.specs.Simulated.{no_volumes}
 use Rattle.mm_plan.specs.Tabled.{volumes, AreTabled}
 use Rattle.mm_plan.specs.declared.simulation.StepVolumes.{StepVolumes}
 
