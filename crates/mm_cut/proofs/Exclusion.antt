@@ -1,6 +1,5 @@
 -- The verdicts exclude one another: each says how many of the tests are passed, and that the next one is not.
-use Rattle.std.proofs.Common.{◌≡◌, ℕ, ◌<◌, Option, Some, None, List, ℤ, pos, sym, ap, ◌∙◌, inl, inr, arith}
-use Rattle.std.proofs.lemmas.Bool.{cases_order}
+use Rattle.std.proofs.Common.{◌≡◌, ℕ, ◌<◌, Option, Some, None, List, ℤ, pos, sym, ap, ◌∙◌, arith}
 use Rattle.mm_problem.specs.Dumping.{Dumping}
 use Rattle.mm_plan.specs.Volumes.{Amounts}
 use Rattle.mm_plan.specs.Fit.{Fits, IsFirstMisfit}
@@ -9,25 +8,21 @@ use Rattle.mm_cut.specs.Stretches.{AreStretches}
 use Rattle.mm_cut.specs.Counts.{AreCounted}
 use Rattle.mm_plan.specs.Table.{amount}
 use Rattle.mm_plan.specs.Sheet.{SheetRows, CertificateRows}
-use Rattle.mm_cut.specs.Verdicts.{LossIsRight, BoundIsRight, IsVerdict, VerdictsExclude, IsOwnVerdict, IsVerdictWith, SheetVerdictsExclude}
-use Rattle.mm_cut.specs.Firsts.{ShowFirsts}
-use Rattle.mm_cut.proofs.ShownFirsts.{ShowFirsts-take}
+use Rattle.mm_cut.specs.Verdicts.{LossIsRight, BoundIsRight, IsVerdict, VerdictsExclude, IsOwnVerdict, IsVerdictWith}
+use Rattle.mm_cut.specs.Verdicts.{SheetVerdictsExclude}
+use Rattle.mm_cut.proofs.ShownFirsts.{firsts_grow}
 use Rattle.mm_cut.specs.declared.verdict.Verdict.{Verdict}
-use Rattle.mm_cut.specs.declared.verdict.Verdict.TheVariants.{DoesNotFit, LossIs, BadStretch, BadCount, BoundIs, NotShown, FirstNotShown, Least, LeastInOrder}
-use Rattle.mm_cut.proofs.Prefixes.{IsFirstBad-not_good, IsFirstBad-same, AreStretches-take, AreCounted-take}
+use Rattle.mm_cut.specs.declared.verdict.Verdict.TheVariants.{DoesNotFit, LossIs, BadStretch, BadCount, BoundIs}
+use Rattle.mm_cut.specs.declared.verdict.Verdict.TheVariants.{NotShown, FirstNotShown, Least, LeastInOrder}
+use Rattle.mm_cut.proofs.Prefixes.{neither_first, IsFirstBad-not_good, IsFirstBad-same, stretches_grow, counts_grow}
 
 -- there is one first misfit at the most, and none where the plan fits
 IsFirstMisfit-not_before : (q : Dumping) (x : Amounts) (t u : ℕ) → IsFirstMisfit q x t → IsFirstMisfit q x u → t < u → ⊥
 IsFirstMisfit-not_before q x t u at_t at_u before = at_t.here (at_u.before t at_t.first before)
 
 IsFirstMisfit-same : (q : Dumping) (x : Amounts) (t u : ℕ) → IsFirstMisfit q x t → IsFirstMisfit q x u → t ≡ u
-IsFirstMisfit-same q x t u at_t at_u = elim (cases_order t u) [
-  | inl same ↦ same
-  | inr other ↦ elim other [
-    | inl before ↦ absurd (IsFirstMisfit-not_before q x t u at_t at_u before)
-    | inr after ↦ absurd (IsFirstMisfit-not_before q x u t at_u at_t after)
-  ]
-]
+IsFirstMisfit-same q x t u at_t at_u =
+    neither_first t u (IsFirstMisfit-not_before q x t u at_t at_u) (IsFirstMisfit-not_before q x u t at_u at_t)
 
 IsFirstMisfit-not_fits : (q : Dumping) (x : Amounts) (t : ℕ) → IsFirstMisfit q x t → ¬ Fits q x
 IsFirstMisfit-not_fits q x t misfit fits = misfit.here (fits t misfit.first (omega (arith, misfit.last)))
@@ -54,10 +49,10 @@ module _ (q : Dumping) (x : Amounts) (ds : List Stretch) (ts : List ℕ) (l : �
   other_bound m wrong right = wrong.3 (wrong.2 ∙ sym right.bound)
 
   not_stretches : (k : ℕ) → IsVerdict q x ds ts l b (BadStretch k) → ¬ AreStretches q ds
-  not_stretches k bad = IsFirstBad-not_good (AreStretches q) (AreStretches-take q) ds k bad.1
+  not_stretches k bad = IsFirstBad-not_good (stretches_grow q) ds k bad.1
 
   not_counted : (k : ℕ) → IsVerdict q x ds ts l b (BadCount k) → ¬ AreCounted q ds ts
-  not_counted k bad = IsFirstBad-not_good (AreCounted q ds) (AreCounted-take q ds) ts k bad.2
+  not_counted k bad = IsFirstBad-not_good (counts_grow q ds) ts k bad.2
 
   -- a verdict that stops at an earlier test does not hold beside one that stops at a later test
   not_both : (v w : Verdict) → stage v < stage w → IsVerdict q x ds ts l b v → IsVerdict q x ds ts l b w → ⊥
@@ -91,23 +86,20 @@ module _ (q : Dumping) (x : Amounts) (ds : List Stretch) (ts : List ℕ) (l : �
   same_stage : (v w : Verdict) → stage v ≡ stage w → IsVerdict q x ds ts l b v → IsVerdict q x ds ts l b w → v ≡ w
   same_stage (DoesNotFit t) (DoesNotFit u) _ a c = ap DoesNotFit (IsFirstMisfit-same q x t u a c)
   same_stage (LossIs n) (LossIs m) _ a c = ap LossIs (a.1 ∙ sym c.1)
-  same_stage (BadStretch k) (BadStretch j) _ a c = ap BadStretch (IsFirstBad-same (AreStretches q) (AreStretches-take q) ds k j a.1 c.1)
-  same_stage (BadCount k) (BadCount j) _ a c = ap BadCount (IsFirstBad-same (AreCounted q ds) (AreCounted-take q ds) ts k j a.2 c.2)
+  same_stage (BadStretch k) (BadStretch j) _ a c = ap BadStretch (IsFirstBad-same (stretches_grow q) ds k j a.1 c.1)
+  same_stage (BadCount k) (BadCount j) _ a c = ap BadCount (IsFirstBad-same (counts_grow q ds) ts k j a.2 c.2)
   same_stage (BoundIs m) (BoundIs j) _ a c = ap BoundIs (a.2 ∙ sym c.2)
-  same_stage (NotShown n m) (NotShown k j) _ a c = ap (λ i. NotShown i m) (a.1 ∙ sym c.1) ∙ ap (λ i. NotShown k i) (a.2 ∙ sym c.2)
+  same_stage (NotShown n m) (NotShown k j) _ a c = cc (a.1, c.1, a.2, c.2)
   same_stage (Least n) (Least k) _ a c = ap Least (a.1 ∙ sym c.1)
   same_stage (FirstNotShown k) w _ a c = absurd a
   same_stage (LeastInOrder n) w _ a c = absurd a
   same_stage v w same a c = absurd (omega arith)
 
 pub verdicts_exclude : VerdictsExclude
-verdicts_exclude q x ds ts l b v w a c = elim (cases_order (stage v) (stage w)) [
-  | inl same ↦ same_stage q x ds ts l b v w same a c
-  | inr other ↦ elim other [
-    | inl before ↦ absurd (not_both q x ds ts l b v w before a c)
-    | inr after ↦ absurd (not_both q x ds ts l b w v after c a)
-  ]
-]
+verdicts_exclude q x ds ts l b v w a c =
+    let no_earlier = λ (before : stage v < stage w). not_both q x ds ts l b v w before a c in
+    let no_later = λ (after : stage w < stage v). not_both q x ds ts l b w v after c a in
+    same_stage q x ds ts l b v w (neither_first (stage v) (stage w) no_earlier no_later) a c
 
 -- ---- sheets
 
@@ -117,24 +109,27 @@ own_exclude q s v w a c = verdicts_exclude q (amount s.plan) s.cut s.by_channels
 
 module _ (q : Dumping) (s : SheetRows) (cs : List CertificateRows) where
   -- where a certificate does not show its loss, not each of them does
-  not_shown : (k n : ℕ) → IsVerdictWith q s (Some cs) (FirstNotShown k) → IsVerdictWith q s (Some cs) (LeastInOrder n) → ⊥
-  not_shown k n a c = IsFirstBad-not_good (ShowFirsts q (amount s.plan)) (ShowFirsts-take q (amount s.plan)) cs k a.1 c.1
+  not_shown : (k n : ℕ) → IsVerdictWith q s (Some cs) (FirstNotShown k)
+      → IsVerdictWith q s (Some cs) (LeastInOrder n) → ⊥
+  not_shown k n a c = IsFirstBad-not_good (firsts_grow q (amount s.plan)) cs k a.1 c.1
 
   -- with certificates of the first stores
   with_exclude : (v w : Verdict) → IsVerdictWith q s (Some cs) v → IsVerdictWith q s (Some cs) w → v ≡ w
   with_exclude (Least n) w a c = absurd a
   with_exclude v (Least n) a c = absurd c
-  with_exclude (FirstNotShown k) (FirstNotShown j) a c = ap FirstNotShown (IsFirstBad-same (ShowFirsts q (amount s.plan)) (ShowFirsts-take q (amount s.plan)) cs k j a.1 c.1)
+  with_exclude (FirstNotShown k) (FirstNotShown j) a c =
+      ap FirstNotShown (IsFirstBad-same (firsts_grow q (amount s.plan)) cs k j a.1 c.1)
   with_exclude (FirstNotShown k) (LeastInOrder n) a c = absurd (not_shown k n a c)
-  with_exclude (FirstNotShown k) w a c = let same : Least s.loss ≡ w = own_exclude q s (Least s.loss) w a.0 c in cc
+  with_exclude (FirstNotShown k) w a c = cc (own_exclude q s (Least s.loss) w a.0 c)
   with_exclude (LeastInOrder n) (FirstNotShown k) a c = absurd (not_shown k n c a)
-  with_exclude (LeastInOrder n) (LeastInOrder m) a c = let same = own_exclude q s (Least n) (Least m) a.0 c.0 in ap LeastInOrder (cc)
-  with_exclude (LeastInOrder n) w a c = let same : Least n ≡ w = own_exclude q s (Least n) w a.0 c in cc
-  with_exclude v (FirstNotShown k) a c = let same : v ≡ Least s.loss = own_exclude q s v (Least s.loss) a c.0 in cc
-  with_exclude v (LeastInOrder n) a c = let same : v ≡ Least n = own_exclude q s v (Least n) a c.0 in cc
+  with_exclude (LeastInOrder n) (LeastInOrder m) a c = cc
+  with_exclude (LeastInOrder n) w a c = cc (own_exclude q s (Least n) w a.0 c)
+  with_exclude v (FirstNotShown k) a c = cc (own_exclude q s v (Least s.loss) a c.0)
+  with_exclude v (LeastInOrder n) a c = cc (own_exclude q s v (Least n) a c.0)
   with_exclude v w a c = own_exclude q s v w a c
 
-either_exclude : (q : Dumping) (s : SheetRows) (firsts : Option (List CertificateRows)) (v w : Verdict) → IsVerdictWith q s firsts v → IsVerdictWith q s firsts w → v ≡ w
+either_exclude : (q : Dumping) (s : SheetRows) (firsts : Option (List CertificateRows)) (v w : Verdict)
+    → IsVerdictWith q s firsts v → IsVerdictWith q s firsts w → v ≡ w
 either_exclude q s None v w a c = own_exclude q s v w a c
 either_exclude q s (Some cs) v w a c = with_exclude q s cs v w a c
 

@@ -6,10 +6,9 @@ use Rattle.mm_problem.specs.Texts.{problem_in, SaysProblem}
 use Rattle.mm_plan.specs.declared.fault.Fault.{Fault as PlanFault}
 use Rattle.mm_plan.specs.declared.fault.Fault.TheVariants as plan
 use Rattle.mm_plan.specs.Table.{amount}
-use Rattle.mm_plan.specs.Volumes.{loss}
+use Rattle.mm_plan.specs.Volumes.{Amounts, loss}
 use Rattle.mm_plan.specs.Least.{IsLeast, IsLeastInOrder}
-use Rattle.mm_plan.specs.Sheet.{SheetRows, IsSheet, sheet_text, IsFirstBadLine}
-use Rattle.mm_plan.specs.Sheet.{IsShapedFor}
+use Rattle.mm_plan.specs.Sheet.{SheetRows, IsSheet, IsShapedFor, sheet_text, IsFirstBadLine}
 use Rattle.mm_cut.specs.Verdicts.{IsSheetVerdict}
 use Rattle.mm_cut.specs.declared.verdict.Verdict.{Verdict}
 use Rattle.mm_cut.specs.declared.fault.Fault.{Fault}
@@ -29,24 +28,22 @@ pub record Checks (setup forecast text : List ℕ) (v : Verdict) : Type 0 where
   pub says_sheet : SaysSheet problem text sheet
   pub verdict : IsSheetVerdict problem sheet v
 
--- the plan that the texts say loses n blocks, and no plan that fits loses fewer
-pub record LosesLeast (setup forecast text : List ℕ) (n : ℕ) : Type 0 where
+-- the plan that the texts say loses n blocks, which are few as P says
+pub record LosesAs (P : Dumping → Amounts → Type 0) (setup forecast text : List ℕ) (n : ℕ) : Type 0 where
   pub problem : Dumping
   pub sheet : SheetRows
   pub says_problem : SaysProblem setup forecast problem
   pub says_sheet : SaysSheet problem text sheet
-  pub least : IsLeast problem (amount sheet.plan)
+  pub least : P problem (amount sheet.plan)
   pub loss : n ≡ loss problem (amount sheet.plan)
 
--- the plan that the texts say loses n blocks, and no plan that fits loses fewer of the first store, of the first two
--- and so on to all of them
-pub record LosesLeastInOrder (setup forecast text : List ℕ) (n : ℕ) : Type 0 where
-  pub problem : Dumping
-  pub sheet : SheetRows
-  pub says_problem : SaysProblem setup forecast problem
-  pub says_sheet : SaysSheet problem text sheet
-  pub least : IsLeastInOrder problem (amount sheet.plan)
-  pub loss : n ≡ loss problem (amount sheet.plan)
+-- no plan that fits loses fewer
+abbrev pub LosesLeast : List ℕ → List ℕ → List ℕ → ℕ → Type 0
+LosesLeast = LosesAs IsLeast
+
+-- no plan that fits loses fewer of the first store, of the first two and so on to all of them
+abbrev pub LosesLeastInOrder : List ℕ → List ℕ → List ℕ → ℕ → Type 0
+LosesLeastInOrder = LosesAs IsLeastInOrder
 
 -- the sheet that a plan text says is not for the problem
 pub record IsForAnother (q : Dumping) (octets : List ℕ) : Type 0 where

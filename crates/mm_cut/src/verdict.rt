@@ -1,8 +1,5 @@
 //! Verdicts on a plan and the cut that is printed with it.
-ghost use Rattle.std.specs.Prelude.{◌≡◌, ◌≢◌, ◌<◌, ◌^◌, IfNone, IfSome};
 ghost use Rattle.mm_plan.specs.Table.{amount, HasShape};
-ghost use Rattle.mm_plan.specs.Volumes.{loss};
-ghost use Rattle.mm_cut.specs.Cuts.{IsCut, bound};
 ghost use Rattle.mm_cut.specs.Verdicts.{IsVerdict};
 
 use crate::bounds::bound;
@@ -11,8 +8,8 @@ use crate::stretches::first_bad;
 use mm_plan::{Plan, Stretch, fits, loss_of};
 use mm_problem::Problem;
 
-/// What is said of a plan and a cut, with the loss and the bound that are printed beside them, and of a sheet. Losses and
-/// bounds are in blocks, stretches and counted steps by their place from 1.
+/// What is said of a plan and a cut, with the loss and the bound that are printed beside them, and of a sheet. Losses
+/// and bounds are in blocks, stretches and counted steps by their place from 1.
 #[derive(Clone, Copy, Debug, PartialEq, Eq)]
 pub enum Verdict {
     /// The plan does not fit; the first step at which it does not.
@@ -27,49 +24,13 @@ pub enum Verdict {
     BoundIs(i64),
     /// The bound is not the loss, so that the cut does not show that the plan loses least.
     NotShown { loss: u64, bound: i64 },
-    /// No plan that fits loses less in all, but the sheet's certificate of that many of the first stores does not show what
-    /// they lose. Those of fewer stores do.
+    /// No plan that fits loses less in all, but the sheet's certificate of that many of the first stores does not show
+    /// what they lose. Those of fewer stores do.
     FirstNotShown(u32),
     /// No plan that fits loses less; the plan's loss.
     Least(u64),
     /// No plan that fits loses less of the first store, of the first two and so on to all of them; the plan's loss.
     LeastInOrder(u64),
-}
-
-// The plan's loss, where the printed one is another.
-fn wrong_loss(problem: &Problem, plan: &Plan, printed_loss: u64) -> Option<u64>
-    requires { HasShape problem.now plan.now }
-    ensures right { IfNone result (printed_loss ≡ loss problem.now (amount plan.now)) }
-    ensures wrong { IfSome result
-        (λ n. (n ≡ loss problem.now (amount plan.now)) × (n ≢ printed_loss)) }
-    ensures most { IfNone result (printed_loss < 2 ^ 63) }
-{
-    let loss = loss_of(problem, plan);
-    if loss == printed_loss {
-        None
-    } else {
-        Some(loss)
-    }
-}
-
-// The cut's bound, where the printed one is another.
-fn wrong_bound(
-    problem: &Problem,
-    stretches: &[Stretch],
-    counts: &[u32],
-    printed_bound: i64,
-) -> Option<i64>
-    requires { IsCut problem.now stretches.now counts.now }
-    ensures right { IfNone result (printed_bound ≡ bound problem.now stretches.now counts.now) }
-    ensures wrong { IfSome result
-        (λ n. (n ≡ bound problem.now stretches.now counts.now) × (n ≢ printed_bound)) }
-{
-    let bound = bound(problem, stretches, counts);
-    if bound == printed_bound {
-        None
-    } else {
-        Some(bound)
-    }
 }
 
 /// The first verdict that holds, in the order of `Verdict`, of a plan and a cut, with the loss and the bound that
@@ -90,7 +51,8 @@ pub fn verify(
     if let Err(step) = fits(problem, plan) {
         return Verdict::DoesNotFit(step);
     }
-    if let Some(loss) = wrong_loss(problem, plan, printed_loss) {
+    let loss = loss_of(problem, plan);
+    if loss != printed_loss {
         return Verdict::LossIs(loss);
     }
     if let Some(place) = first_bad(problem, stretches) {
@@ -99,14 +61,12 @@ pub fn verify(
     if let Some(place) = first_bad_count(problem, stretches, counts) {
         return Verdict::BadCount(place);
     }
-    if let Some(bound) = wrong_bound(problem, stretches, counts, printed_bound) {
+    let bound = bound(problem, stretches, counts);
+    if bound != printed_bound {
         return Verdict::BoundIs(bound);
     }
-    if printed_loss as i64 != printed_bound {
-        return Verdict::NotShown {
-            loss: printed_loss,
-            bound: printed_bound,
-        };
+    if loss as i64 != bound {
+        return Verdict::NotShown { loss, bound };
     }
-    Verdict::Least(printed_loss)
+    Verdict::Least(loss)
 }

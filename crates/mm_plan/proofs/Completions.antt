@@ -1,5 +1,5 @@
 -- What has been taken can be completed to a sheet.
-use Rattle.std.proofs.Common.{◌≡◌, ℕ, zero, suc, ◌+◌, ◌-◌, ◌*◌, ◌<◌, ◌≤◌, true, ◌==◌, List, [], ◌∷◌, ◌++◌, length, map}
+use Rattle.std.proofs.Common.{◌≡◌, ℕ, zero, suc, ◌+◌, ◌-◌, ◌*◌, ◌<◌, ◌≤◌, true, ◌==◌, List, [], ◌∷◌, ◌++◌, length}
 use Rattle.std.proofs.Common.{drop, pos, refl, sym, ap, ◌∙◌, inl, inr, arith, append_assoc, append-nil, length-append}
 use Rattle.std.proofs.Common.{length-drop, subst}
 use Rattle.std.specs.Prelude.{All, IfSome, unwrap_or, codes, nat_lt, ◌&&◌, ◌^◌, replicate}
@@ -15,14 +15,14 @@ use Rattle.mm_plan.specs.declared.form.Form.TheVariants.{First, Second, Third}
 use Rattle.mm_plan.specs.declared.draft.Stage.{Stage}
 use Rattle.mm_plan.specs.declared.draft.Stage.TheVariants.{ToTitle, ToStores, ToDumps, ToLoss, ToCut, ToEnd, Done}
 use Rattle.mm_plan.specs.Sheet.{SheetRows, CertificateRows, IsSheet, IsCertificate, AreFirsts, Line, title_line}
-use Rattle.mm_plan.specs.Sheet.{stores_line, dump_line, loss_line, stretch_line, count_line, bound_line, first_line}
-use Rattle.mm_plan.specs.Sheet.{end_line, dump_lines, certificate_lines, opening, first_lines, form_of, own}
+use Rattle.mm_plan.specs.Sheet.{stores_line, dump_line, loss_line, count_line, bound_line, first_line}
+use Rattle.mm_plan.specs.Sheet.{end_line, dump_lines, certificate_lines, opening, first_lines, own}
 use Rattle.mm_plan.specs.Sheet.{certificates_of, lines_of, IsLine}
 use Rattle.mm_plan.specs.Reading.{ReadRows, DraftRows, fits_form, may_begin, has_all, may_follow, part_of}
 use Rattle.mm_plan.specs.Reading.{with_part, after, firsts_in, sheet_of}
 use Rattle.mm_plan.proofs.Drafts.{dumps_of, so_far, IsRows, IsEnded, at_stage, IsSound, lines_so_far, IsAdded}
 use Rattle.mm_plan.proofs.Drafts.{zero_fits, added}
-use Rattle.mm_plan.proofs.Runs.{eq_of, certificate_right, certificates_are}
+use Rattle.mm_plan.proofs.Runs.{eq_of, certificates_are}
 
 -- a sheet that begins with the lines so far
 pub record Leads (d : DraftRows) : Type 0 where
@@ -95,10 +95,7 @@ leads_all f s all sound = leads_more (at_stage ToEnd f s) end_line tt sound all 
 -- the certificate of the next first stores may come
 more_may : (s : ReadRows) (n : ℕ) → length s.certificates + suc n ≡ length s.stores
     → may_begin Third (length s.certificates) s ≡ true
-more_may s n left =
-    let k = length s.certificates in
-    let room : nat_lt k (length s.stores) ≡ true = grind (arith, nat_tests, left) in
-    ap (λ b. b && nat_lt k (length s.stores)) (eq_of k k refl) ∙ room
+more_may s n left = grind (arith, nat_tests, left)
 
 -- by certificates of loss and bound 0, where n are to come
 leads_parts : (n : ℕ) (s : ReadRows) → length s.certificates + n ≡ length s.stores → LeadsAt ToEnd Third s
@@ -205,14 +202,8 @@ length-dump_lines n t (suc k) xs = omega (arith, length-dump_lines n (t + 1) k (
 
 -- at most a loss, 4,096 stretches, 256 counts and a bound
 length-certificate_lines : (c : CertificateRows) → IsCertificate c → length (certificate_lines c) ≤ 4354
-length-certificate_lines c h =
-    let cut = map stretch_line c.cut in
-    let counts = map count_line c.by_channels in
-    let bound = bound_line c.bound ∷ [] in
-    let lines = ap length (sym (append-nil (certificate_lines c)) ∙ certificate_right c []) in
-    let sizes = length-append cut (counts ++ bound) in
-    let steps = length-map c.by_channels count_line in
-    omega (arith, h.cut, h.counts, lines, sizes, steps, length-map c.cut stretch_line, length-append counts bound)
+unfolding certificate_lines
+length-certificate_lines c h = simp (length-append, length-map) (omega (arith, h.cut, h.counts))
 
 -- at most one line
 length-opening : (k : ℕ) → length (opening k) ≤ 1
@@ -226,22 +217,16 @@ length-first_lines k [] h = omega arith
 length-first_lines k (c ∷ cs) h =
     let here = length-certificate_lines c (All-head IsCertificate c cs h) in
     let others = length-first_lines (suc k) cs (All-tail IsCertificate c cs h) in
-    let all = length-append (opening k ++ certificate_lines c) (first_lines (suc k) cs) in
-    omega (arith, all, length-append (opening k) (certificate_lines c), length-opening k, here, others)
+    simp length-append (omega (arith, length-opening k, here, others))
 
 -- at most a title, stores, 256 dumps, 16 certificates and an end
 few_lines : (s : SheetRows) → IsSheet s → length (lines_of s) ≤ 69939
 unfolding lines_of
 few_lines s h =
     let cs = certificates_are s h in
-    let front = title_line (form_of s) ∷ stores_line s.stores ∷ [] in
-    let dumps = dump_lines s.plan.stores 1 s.plan.steps s.plan.amounts in
-    let parts = first_lines 0 (certificates_of s) in
-    let steps = length-dump_lines s.plan.stores 1 s.plan.steps s.plan.amounts in
-    let all = length-append (front ++ dumps ++ parts) (end_line ∷ []) in
-    let certificates = length-first_lines 0 (certificates_of s) cs.each in
-    let most = length-append (front ++ dumps) parts in
-    omega (arith, h.steps, cs.few, certificates, steps, all, most, length-append front dumps)
+    let dumps = length-dump_lines s.plan.stores 1 s.plan.steps s.plan.amounts in
+    let parts = simp length-append at (length-first_lines 0 (certificates_of s) cs.each) in
+    simp length-append (omega (arith, h.steps, cs.few, dumps, parts))
 
 -- no sound draft has more lines than a sheet has at the most
 pub few_so_far : (d : DraftRows) → IsSound d → length (lines_so_far d) ≤ 69939

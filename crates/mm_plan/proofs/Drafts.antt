@@ -135,17 +135,13 @@ pub dump_lines-push : (n t k : ℕ) (xs row : List ℕ) → length xs ≡ k * n 
 dump_lines-push n t zero xs row size width =
     let empty : xs ≡ [] = nil_from_length xs (omega arith) in
     let here : t ≡ t + 0 = omega arith in
-    ap (λ ys. dump_line t (take n (ys ++ row)) ∷ []) empty
-    ∙ ap (λ ys. dump_line t ys ∷ []) (take_all n row (omega arith))
-    ∙ ap (λ k. dump_line k row ∷ []) here
+    rw (empty, take_all n row (omega arith)) (ap (λ k. dump_line k row ∷ []) here)
 dump_lines-push n t (suc k) xs row size width =
     let within : n ≤ length xs = omega arith in
     let left : length (drop n xs) ≡ k * n = omega (arith, length-drop n xs) in
     let step : t + 1 + k ≡ t + suc k = omega arith in
-    ap (λ ys. dump_line t ys ∷ dump_lines n (t + 1) (suc k) (drop n (xs ++ row))) (take-append-le n xs row within)
-    ∙ ap (λ ys. dump_line t (take n xs) ∷ dump_lines n (t + 1) (suc k) ys) (drop-append-le n xs row within)
-    ∙ ap (λ ls. dump_line t (take n xs) ∷ ls) (dump_lines-push n (t + 1) k (drop n xs) row left width)
-    ∙ ap (λ j. dump_line t (take n xs) ∷ (dump_lines n (t + 1) k (drop n xs) ++ dump_line j row ∷ [])) step
+    rw (take-append-le n xs row within, drop-append-le n xs row within)
+    (ap (λ ls. dump_line t (take n xs) ∷ ls) (rw step at (dump_lines-push n (t + 1) k (drop n xs) row left width)))
 
 -- one certificate more
 pub first_lines-push : (k : ℕ) (cs : List CertificateRows) (c : CertificateRows)
@@ -164,20 +160,12 @@ first_lines-push k (d ∷ cs) c =
 more_cut : (front : List Line) (ds : List Stretch) (ts : List ℕ) (d : Stretch) → ts ≡ []
     → front ++ map stretch_line (ds ++ d ∷ []) ++ map count_line ts
     ≡ front ++ map stretch_line ds ++ map count_line ts ++ stretch_line d ∷ []
-more_cut front ds ts d no_ts =
-    ap (λ ts. front ++ map stretch_line (ds ++ d ∷ []) ++ map count_line ts) no_ts
-    ∙ append-nil (front ++ map stretch_line (ds ++ d ∷ []))
-    ∙ ap (λ ls. front ++ ls) (map-append stretch_line ds (d ∷ []))
-    ∙ sym (append_assoc front (map stretch_line ds) (stretch_line d ∷ []))
-    ∙ ap (λ ls. ls ++ stretch_line d ∷ []) (sym (append-nil (front ++ map stretch_line ds)))
-    ∙ ap (λ ts. front ++ map stretch_line ds ++ map count_line ts ++ stretch_line d ∷ []) (sym no_ts)
+more_cut front ds ts d no_ts = rw no_ts (simp (map-append, append_assoc, append-nil))
 
 -- one more count
 more_counts : (front : List Line) (ts : List ℕ) (t : ℕ)
     → front ++ map count_line (ts ++ t ∷ []) ≡ front ++ map count_line ts ++ count_line t ∷ []
-more_counts front ts t =
-    ap (λ ls. front ++ ls) (map-append count_line ts (t ∷ []))
-    ∙ sym (append_assoc front (map count_line ts) (count_line t ∷ []))
+more_counts front ts t = simp (map-append, append_assoc)
 
 -- the bound closes the certificate
 more_parts : (front : List Line) (s : ReadRows) (z : ℤ) → front ++ first_lines 0 (s.certificates ++ part_of s z ∷ [])

@@ -24,27 +24,22 @@ pub join-spaced : (k : List ℕ) (ws : List (List ℕ)) → join_with_byte 32 (k
 join-spaced k [] = sym (append-nil k)
 join-spaced k (w ∷ ws) = ap (λ rest. k ++ 32 ∷ rest) (join-spaced w ws)
 
--- words printed one after another make a line
-ended_words : (old k : List ℕ) (ws : List (List ℕ))
-    → old ++ k ++ spaced ws ++ 10 ∷ [] ≡ old ++ (join_with_byte 32 (k ∷ ws) ++ 10 ∷ [])
-ended_words old k ws =
-    ap (λ text. text ++ 10 ∷ []) (append_assoc old k (spaced ws))
-    ∙ append_assoc old (k ++ spaced ws) (10 ∷ [])
-    ∙ ap (λ line. old ++ (line ++ 10 ∷ [])) (sym (join-spaced k ws))
-
 -- the pieces of the stores line
 pub ended_stores : (old : List ℕ) (ids : List (List ℕ))
     → old ++ codes "stores" ++ spaced (map id_text ids) ++ 10 ∷ [] ≡ old ++ ended (stores_line ids)
 unfolding ended line_text
-ended_stores old ids = ended_words old (codes "stores") (map id_text ids)
+ended_stores old ids = rw (join-spaced (codes "stores") (map id_text ids)) (simp append_assoc)
 
 -- the pieces of a dump line
 pub ended_dump : (old : List ℕ) (t : ℕ) (xs : List ℕ)
     → old ++ codes "dump" ++ 32 ∷ decimal t ++ spaced (map decimal xs) ++ 10 ∷ [] ≡ old ++ ended (dump_line t xs)
 unfolding ended line_text
-ended_dump old t xs =
-    ap (λ text. text ++ 10 ∷ []) (append_assoc (old ++ codes "dump") (32 ∷ decimal t) (spaced (map decimal xs)))
-    ∙ ended_words old (codes "dump") (decimal t ∷ map decimal xs)
+ended_dump old t xs = rw (join-spaced (decimal t) (map decimal xs)) (simp append_assoc)
+
+-- the pieces of the line before a certificate
+pub ended_first : (old : List ℕ) (k : ℕ) → old ++ codes "first " ++ decimal k ++ 10 ∷ [] ≡ old ++ ended (first_line k)
+unfolding ended line_text
+ended_first old k = simp append_assoc
 
 -- one step's line more
 pub record AreDumped (n t k : ℕ) (text rest all : List ℕ) : Type 0 where
@@ -57,12 +52,7 @@ pub more_dumped : {n t k : ℕ} {text rest all : List ℕ} (j : ℕ) (next after
     → AreDumped n (t + 1) j next after all
 more_dumped {n} {t} {k} {text} {rest} {all} j next after h is printed left = record {
   size = ap length left ∙ omega (arith, h.size ∙ ap (λ i. i * n) is, length-drop n rest);
-  lines =
-      ap (λ front. front ++ all_ended (dump_lines n (t + 1) j after)) printed
-      ∙ append_assoc text (ended (dump_line t (take n rest))) (all_ended (dump_lines n (t + 1) j after))
-      ∙ ap (λ xs. text ++ (ended (dump_line t (take n rest)) ++ all_ended (dump_lines n (t + 1) j xs))) left
-      ∙ ap (λ i. text ++ all_ended (dump_lines n t i rest)) (sym is)
-      ∙ h.lines;
+  lines = rw (printed, left) (append_assoc text (ended (dump_line t (take n rest))) _ ∙ rw is at h.lines);
 }
 
 -- ---- the whole text
@@ -99,10 +89,7 @@ pub printed_part : (old front text : List ℕ) (k : ℕ) (c : CertificateRows) �
     → text ≡ front ++ certificate_text c.loss c.cut c.by_channels c.bound
     → text ≡ old ++ (ended (first_line k) ++ all_ended (certificate_lines c))
 printed_part old front text k c front_is text_is =
-    text_is
-    ∙ ap (λ t. t ++ certificate_text c.loss c.cut c.by_channels c.bound) front_is
-    ∙ append_assoc old (ended (first_line k)) (certificate_text c.loss c.cut c.by_channels c.bound)
-    ∙ ap (λ t. old ++ (ended (first_line k) ++ t)) (sym (certificate_text-is c))
+    rw (text_is, front_is, certificate_text-is c) (append_assoc old (ended (first_line k)) _)
 
 -- the first of certificates, and the others
 split_first : (text : List ℕ) (k : ℕ) (c : CertificateRows) (cs : List CertificateRows)
@@ -181,8 +168,6 @@ pub is_printed : (s : SheetRows) (ds : List Stretch) (ts : List ℕ) (none front
     → text ≡ firsts ++ ended end_line → IsPrinted s text
 is_printed s ds ts none front certificate firsts text ordered rising no_text front_is certificate_is firsts_is text_is =
     let r : SheetRows = record s { cut = ds; by_channels = ts } in
-    let begun = front_is ∙ ap (λ t. t ++ front_text (form_of r) s.stores s.plan) no_text in
-    let own_shown = certificate_is ∙ ap (λ t. t ++ certificate_text s.loss ds ts s.bound) begun in
-    let all_shown = firsts_is ∙ ap (λ t. t ++ firsts_text s.firsts) own_shown in
-    let printed = text_is ∙ ap (λ t. t ++ ended end_line) all_shown ∙ sym (sheet_text-printed r) in
+    let printed : text ≡ sheet_text r =
+    rw (text_is, firsts_is, certificate_is, front_is, no_text) (sym (sheet_text-printed r)) in
     (r, assumption (ordered, rising), ordered_is_sheet s ds ts ordered rising, printed)

@@ -10,7 +10,6 @@ use Rattle.std.proofs.lemmas.List.Elements.{All-nil, All-cons, All-from_recursio
 use Rattle.std.proofs.lemmas.List.Elements.{All-take, All-drop}
 use Rattle.std.proofs.lemmas.List.Elements.{All-map}
 use Rattle.mm_base.specs.declared.limits.TheConstants.{MAX_STORES, MAX_STEPS, MAX_BLOCKS}
-use Rattle.mm_base.proofs.IdFields.{Decides-nat_le}
 use Rattle.mm_plan.specs.declared.stretch.Stretch.{Stretch}
 use Rattle.mm_plan.specs.declared.stretch.TheConstants.{MAX_STRETCHES, MAX_COUNTS}
 use Rattle.mm_plan.specs.declared.draft.Stage.{Stage}
@@ -61,8 +60,7 @@ eq_of m n e = grind (arith, nat_tests)
 -- the next dump line may come
 dump_may : (k n : ℕ) (xs : List ℕ) (stores : List (List ℕ)) → length xs ≡ n → n ≡ length stores
     → ((k == k) && (length xs == length stores)) ≡ true
-dump_may k n xs stores width same =
-    ap (λ b. b && (length xs == length stores)) (eq_of k k refl) ∙ eq_of (length xs) (length stores) (width ∙ same)
+dump_may k n xs stores width same = grind (arith, nat_tests)
 
 -- the dump lines add their amounts
 go-dump_lines : (f : Form) (s : ReadRows) (k m : ℕ) (amounts xs : List ℕ) (more : List Line)
@@ -72,9 +70,7 @@ go-dump_lines : (f : Form) (s : ReadRows) (k m : ℕ) (amounts xs : List ℕ) (m
 go-dump_lines f s k zero amounts xs more same size =
     let empty : xs ≡ [] = nil_from_length xs (omega (arith, size)) in
     let steps : k ≡ k + 0 = omega arith in
-    ap (λ j. go (dumping f s j amounts) more) steps
-    ∙ ap (λ ys. go (dumping f s (k + 0) ys) more) (sym (append-nil amounts))
-    ∙ ap (λ ys. go (dumping f s (k + 0) (amounts ++ ys)) more) (sym empty)
+    rw (empty, append-nil) (ap (λ j. go (dumping f s j amounts) more) steps)
 go-dump_lines f s k (suc m) amounts xs more same size =
     let n = s.plan.stores in
     let within : n ≤ length xs = omega (arith, size) in
@@ -83,9 +79,8 @@ go-dump_lines f s k (suc m) amounts xs more same size =
     go_may (dumping f s k amounts) (dump_line (k + 1) (take n xs)) (dump_lines n (k + 1 + 1) m (drop n xs) ++ more)
     (dump_may (k + 1) n (take n xs) s.stores (length-take-le n xs within) same)
     ∙ go-dump_lines f s (k + 1) m (amounts ++ take n xs) (drop n xs) more same left
-    ∙ ap (λ ys. go (dumping f s (k + 1 + m) ys) more) (append_assoc amounts (take n xs) (drop n xs))
-    ∙ ap (λ ys. go (dumping f s (k + 1 + m) (amounts ++ ys)) more) (take-append-drop n xs)
-    ∙ ap (λ j. go (dumping f s j (amounts ++ xs)) more) steps
+    ∙ rw (append_assoc amounts (take n xs) (drop n xs), take-append-drop n xs)
+    (ap (λ j. go (dumping f s j (amounts ++ xs)) more) steps)
 
 -- a draft at its stretches and counts
 abbrev cutting : Form → ReadRows → List Stretch → List ℕ → DraftRows
@@ -103,9 +98,7 @@ go-stretch_lines f s earlier (d ∷ ds) more few =
 
 -- a count line may come
 count_may : (f : Form) (n : ℕ) → may_count f ≡ true → n < MAX_COUNTS → (may_count f && nat_lt n MAX_COUNTS) ≡ true
-count_may f n may few =
-    let room : nat_lt n MAX_COUNTS ≡ true = grind (arith, nat_tests) in
-    ap (λ b. b && nat_lt n MAX_COUNTS) may ∙ room
+count_may f n may few = rw may (grind (arith, nat_tests))
 
 -- the count lines add their steps
 go-count_lines : (f : Form) (s : ReadRows) (ds : List Stretch) (earlier ts : List ℕ) (more : List Line)
@@ -127,7 +120,7 @@ go_counted First s ds (t ∷ ts) more fits few = absurd (grind (arith, nat_tests
 go_counted f s ds ts more fits few = go-count_lines f s ds [] ts more refl (omega (arith, few))
 
 -- the lines of a certificate, from the first on
-pub certificate_right : (c : CertificateRows) (more : List Line)
+certificate_right : (c : CertificateRows) (more : List Line)
     → certificate_lines c ++ more
     ≡ loss_line c.loss ∷ (map stretch_line c.cut ++ (map count_line c.by_channels ++ (bound_line c.bound ∷ more)))
 unfolding certificate_lines
@@ -152,9 +145,7 @@ ending stage f s cs = at_stage stage f (record s { certificates = cs; loss = 0; 
 
 -- the certificate of the first k stores may come
 begin_may : (k m n : ℕ) → k ≡ m → m < n → ((k == m) && nat_lt m n) ≡ true
-begin_may k m n same room =
-    let few : nat_lt m n ≡ true = grind (arith, nat_tests) in
-    ap (λ b. b && nat_lt m n) (eq_of k m same) ∙ few
+begin_may k m n same room = grind (arith, nat_tests)
 
 -- the certificates of the first stores are added, and then the end
 go-first_lines : (s : ReadRows) (j : ℕ) (earlier cs : List CertificateRows) → suc j ≡ length earlier
@@ -230,7 +221,7 @@ some_may n h = grind (arith, nat_tests)
 
 -- stores may come, where there are neither none nor too many
 stores_may : (n : ℕ) → 1 ≤ n → n ≤ MAX_STORES → (nat_lt 0 n && nat_le n MAX_STORES) ≡ true
-stores_may n some few = ap (λ b. b && nat_le n MAX_STORES) (some_may n some) ∙ (Decides-nat_le n MAX_STORES).1 few
+stores_may n some few = grind (arith, nat_tests)
 
 -- a sheet's stores alone
 abbrev opened : SheetRows → ReadRows

@@ -1,8 +1,7 @@
 -- The order in which a sheet is printed.
-use Rattle.std.specs.Prelude.{◌≡◌, ℕ, List, [], ◌∷◌, ◌++◌}
+use Rattle.std.specs.Prelude.{◌≡◌, ℕ, List, [], ◌∷◌, ◌++◌, length, position, unwrap_or}
 use Rattle.std.specs.Ordering.{nat_cmp, ordering_then}
 use Rattle.std.specs.declared.cmp.Ordering.{Ordering}
-use Rattle.std.specs.List.{position_or_len}
 use Rattle.std.specs.List.Sorted.{IsPermutation, IsSortedByKey, IsNonDecreasing}
 use Rattle.std.specs.Str.{bytes_eq}
 use Rattle.mm_base.specs.Characters.{line_feed, space}
@@ -12,7 +11,7 @@ use Rattle.mm_plan.specs.Sheet.{SheetRows, IsSheet, Line, line_text, dump_lines,
 
 -- the place of an identifier, and the number of identifiers where it is none of them
 abbrev pub place_of : List (List ℕ) → List ℕ → ℕ
-place_of ids id = position_or_len (λ i. bytes_eq i id) ids
+place_of ids id = unwrap_or (position (λ i. bytes_eq i id) ids) (length ids)
 
 -- the store's place, then the first and the last step
 abbrev pub stretch_key : List (List ℕ) → Stretch → ℕ × ℕ × ℕ

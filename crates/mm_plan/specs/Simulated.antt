@@ -1,37 +1,33 @@
 -- The tables of a simulated plan.
-use Rattle.std.specs.Prelude.{◌≡◌, ℕ, ◌*◌, ◌<◌, ◌≤◌, List, length}
-use Rattle.mm_base.specs.Grid.{cell}
+use Rattle.std.specs.Prelude.{◌≡◌, ℕ, ◌<◌, ◌≤◌, List, length, slice_index_or}
+use Rattle.mm_base.specs.Grid.{grid_place}
 use Rattle.mm_problem.specs.Dumping.{Dumping}
+use Rattle.mm_plan.specs.declared.simulation.StepVolumes.{StepVolumes}
 
--- each list step by step, in each the stores in order
+-- step by step, in each the stores in order
 pub record VolumeTables : Type 0 where
   pub stores : ℕ
   pub steps : ℕ
-  pub written_blocks : List ℕ
-  pub left_blocks : List ℕ
-  pub lost_blocks : List ℕ
+  pub volumes : List StepVolumes
   -- what all stores lose over all steps
   pub total : ℕ
 
--- the tables with these numbers of stores and steps, these lists and this sum
-abbrev pub volume_tables : ℕ → ℕ → List ℕ → List ℕ → List ℕ → ℕ → VolumeTables
-volume_tables stores steps written left lost total =
-    record { stores = stores; steps = steps; written_blocks = written; left_blocks = left; lost_blocks = lost; total = total }
+-- no blocks
+abbrev pub no_volumes : StepVolumes
+no_volumes = record { written = 0; left = 0; lost = 0 }
+
+-- the volumes of a store in a step, where n stores are a step
+abbrev pub volumes_at : ℕ → List StepVolumes → ℕ → ℕ → StepVolumes
+volumes_at n volumes s t = slice_index_or volumes (grid_place n t s) no_volumes
 
 abbrev pub written_in : VolumeTables → ℕ → ℕ → ℕ
-written_in v s t = cell v.stores v.written_blocks s t
+written_in v s t = (volumes_at v.stores v.volumes s t).written
 
 abbrev pub left_in : VolumeTables → ℕ → ℕ → ℕ
-left_in v s t = cell v.stores v.left_blocks s t
+left_in v s t = (volumes_at v.stores v.volumes s t).left
 
 abbrev pub lost_in : VolumeTables → ℕ → ℕ → ℕ
-lost_in v s t = cell v.stores v.lost_blocks s t
-
--- each list has a number for each store and step
-pub record AreVolumeTables (v : VolumeTables) : Type 0 where
-  pub written : length v.written_blocks ≡ v.steps * v.stores
-  pub left : length v.left_blocks ≡ v.steps * v.stores
-  pub lost : length v.lost_blocks ≡ v.steps * v.stores
+lost_in v s t = (volumes_at v.stores v.volumes s t).lost
 
 -- a store and a step of the tables
 pub record IsVolumePlace (v : VolumeTables) (s t : ℕ) : Type 0 where

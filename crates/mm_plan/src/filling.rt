@@ -97,21 +97,6 @@ fn idle_in(problem: &Problem, plan: &Plan, step: u32) -> u32
 }
 
 impl Rest {
-    // What a step leaves unused: these blocks of its window, and a part of each limit.
-    fn of(problem: &Problem, plan: &Plan, step: u32, idle: u32) -> Rest
-        requires shape { HasShape problem.now plan.now }
-        requires first { 1 ≤ step }
-        requires last { step ≤ length problem.now.windows }
-        requires fits { FitsAt problem.now (amount plan.now) step }
-        requires idle { sum_by (in_step (amount plan.now) step) (stores problem.now) + idle ≡ window problem.now step }
-        ensures { IsRest problem.now (amount plan.now) step result.idle result.by_channel }
-    {
-        Rest {
-            idle,
-            by_channel: unused_limits(problem, plan, step),
-        }
-    }
-
     // How many blocks more may leave a store of a channel.
     fn room(&self, channel: usize) -> u32
         requires { channel < CHANNELS }
@@ -141,8 +126,7 @@ impl Rest {
 }
 
 // Raises the amount of a store in a step by as many of the blocks that stay in it as there is room for. Returns how
-// many
-// still stay.
+// many still stay.
 fn raise(
     problem: &Problem,
     plan: &mut Plan,
@@ -187,7 +171,10 @@ fn use_rest(problem: &Problem, plan: &mut Plan, left: &mut [u32], step: u32)
     if idle == 0 {
         return;
     }
-    let mut rest = Rest::of(problem, plan, step, idle);
+    let mut rest = Rest {
+        idle,
+        by_channel: unused_limits(problem, plan, step),
+    };
     for store in 0..problem.stores() {
         left[store] = raise(problem, plan, &mut rest, store, step, left[store]);
     }

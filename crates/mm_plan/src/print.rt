@@ -2,7 +2,7 @@
 #![tactic(auto, using(std::proofs::Common::append_assoc), unfolding(crate::specs::Printing::ended, crate::specs::Sheet::line_text))]
 
 ghost use Rattle.std.specs.Prelude.{◌≡◌, ◌-◌, ◌*◌, ◌+◌, ◌<◌, ◌≤◌, ◌++◌, ◌∷◌, [], length, map, drop, decimal, codes};
-ghost use Rattle.std.specs.Prelude.{unwrap_or, IfOk, OnOk};
+ghost use Rattle.std.specs.Prelude.{unwrap_or, position, bytes_eq, IfOk, OnOk};
 ghost use Rattle.std.specs.Option.{option_map};
 ghost use Rattle.std.specs.Fmt.{signed_decimal};
 ghost use Rattle.mm_base.specs.Characters.{line_feed, space};
@@ -10,7 +10,7 @@ ghost use Rattle.mm_base.specs.declared.limits.TheConstants.{MAX_STORES};
 ghost use Rattle.mm_base.specs.Id.{id_text};
 ghost use Rattle.mm_plan.specs.Sheet.{title_line, stores_line, dump_line, loss_line, stretch_line, count_line};
 ghost use Rattle.mm_plan.specs.Sheet.{bound_line, end_line, first_line, certificate_lines, first_lines, dump_lines};
-ghost use Rattle.mm_plan.specs.Printing.{place_of, stretch_key, AreOrdered, AreRising, ended, all_ended, spaced};
+ghost use Rattle.mm_plan.specs.Printing.{stretch_key, AreOrdered, AreRising, ended, all_ended, spaced};
 ghost use Rattle.mm_plan.specs.Printing.{plan_lines};
 
 use crate::certificate::Certificate;
@@ -130,11 +130,12 @@ fn push_dumps(text: &mut Vec<u8>, stores: usize, steps: u32, amounts: &[u32]) ->
     Ok(())
 }
 
-fn push_loss(text: &mut Vec<u8>, loss: u64) -> Pushed
-    ensures { OnOk result (text.new.items ≡ text.old.items ++ ended (loss_line loss)) }
+// The line of a keyword, which ends in a space, and a number.
+fn push_numbered(text: &mut Vec<u8>, keyword: &[u8], number: u64) -> Pushed
+    ensures { OnOk result (text.new.items ≡ text.old.items ++ keyword.now ++ decimal number ++ line_feed ∷ []) }
 {
-    text.extend_from_slice(b"loss ")?;
-    push_number(text, loss)?;
+    text.extend_from_slice(keyword)?;
+    push_number(text, number)?;
     text.push(b'\n')?;
     Ok(())
 }
@@ -223,19 +224,10 @@ pub(crate) fn push_certificate(
         ++ (ended (loss_line loss) ++ all_ended (map stretch_line cut.now)
         ++ all_ended (map count_line by_channels.now) ++ ended (bound_line bound))) }
 {
-    push_loss(text, loss)?;
+    push_numbered(text, b"loss ", loss)?;
     push_cut(text, cut)?;
     push_counts(text, by_channels)?;
     push_bound(text, bound)?;
-    Ok(())
-}
-
-fn push_first(text: &mut Vec<u8>, number: u64) -> Pushed
-    ensures { OnOk result (text.new.items ≡ text.old.items ++ ended (first_line number)) }
-{
-    text.extend_from_slice(b"first ")?;
-    push_number(text, number)?;
-    text.push(b'\n')?;
     Ok(())
 }
 
@@ -244,7 +236,7 @@ fn push_part(text: &mut Vec<u8>, number: u64, part: &Certificate) -> Pushed
     ensures { OnOk result (text.new.items ≡ text.old.items
         ++ (ended (first_line number) ++ all_ended (certificate_lines part.now))) }
 {
-    push_first(text, number)?;
+    push_numbered(text, b"first ", number)?;
     push_certificate(
         text,
         part.loss(),
@@ -280,21 +272,17 @@ pub(crate) fn push_firsts(text: &mut Vec<u8>, firsts: Option<&[Certificate]>) ->
     Ok(())
 }
 
-fn place_of(ids: &[StoreId], id: StoreId) -> usize
-    ensures { result ≡ place_of ids.now id }
+fn place_in(ids: &[StoreId], id: StoreId) -> Option<usize>
+    ensures { result ≡ position (λ i. bytes_eq i id) ids.now }
 {
-    for (place, other) in ids.iter().enumerate() {
-        if *other == id {
-            return place;
-        }
-    }
-    ids.len()
+    ids.iter().position(|other| *other == id)
 }
 
 fn stretch_key(ids: &[StoreId], stretch: &Stretch) -> (usize, u32, u32)
     ensures { result ≡ stretch_key ids.now stretch.now }
 {
-    (place_of(ids, stretch.store), stretch.first, stretch.last)
+    let place = place_in(ids, stretch.store).unwrap_or(ids.len());
+    (place, stretch.first, stretch.last)
 }
 
 // The stretches in store order, then by first and by last step.

@@ -5,7 +5,7 @@ ghost use Rattle.mm_base.specs.Grid.{grid_place};
 ghost use Rattle.mm_plan.specs.Table.{amount, HasShape};
 ghost use Rattle.mm_plan.specs.Volumes.{written, left, lost, loss};
 ghost use Rattle.mm_plan.specs.Simulated.{written_in, left_in, lost_in, IsVolumePlace, CoversProblem, AgreeEach};
-ghost use Rattle.mm_plan.specs.Tabled.{AreTabled};
+ghost use Rattle.mm_plan.specs.Tabled.{AreTabled, volumes};
 
 use crate::loss::loss_of;
 use crate::plan::Plan;
@@ -16,12 +16,14 @@ use mm_problem::Problem;
 use std::alloc::Global;
 use std::marker::Model;
 
-// Blocks for each store and step, step by step, in each the stores in order.
-#[derive(Debug, Drop)]
-pub(crate) struct Tables {
-    written: Vec<u32>,
-    left: Vec<u32>,
-    lost: Vec<u32>,
+// What stands in a store in a step, and what the store loses in it, in blocks.
+#[derive(Clone, Copy, Debug)]
+pub(crate) struct StepVolumes {
+    // once the step's arrivals have come
+    written: u32,
+    // when the step has ended
+    left: u32,
+    lost: u32,
 }
 
 /// What a plan does to each store in each step, in blocks. Stores count from 0, steps from 1.
@@ -29,20 +31,20 @@ pub(crate) struct Tables {
 pub struct Simulated {
     pub(crate) stores: usize,
     pub(crate) steps: u32,
-    pub(crate) tables: Tables,
+    // step by step, in each the stores in order
+    pub(crate) volumes: Vec<StepVolumes>,
     pub(crate) total: u64,
 }
 
 impl Model for Simulated {
-    ghost use Rattle.mm_plan.specs.Simulated.{VolumeTables, AreVolumeTables, volume_tables};
+    ghost use Rattle.std.specs.Prelude.{◌≡◌, ◌*◌, length};
+    ghost use Rattle.mm_plan.specs.Simulated.{VolumeTables};
 
     ghost Value = { VolumeTables };
 
-    ghost view = { λ a.
-        volume_tables a.stores a.steps a.tables.written.items a.tables.left.items a.tables.lost.items a.total };
+    ghost view = { λ a. record { stores = a.stores; steps = a.steps; volumes = a.volumes.items; total = a.total } };
 
-    ghost invariant = { λ a. AreVolumeTables
-        (volume_tables a.stores a.steps a.tables.written.items a.tables.left.items a.tables.lost.items a.total) };
+    ghost invariant = { λ a. length a.volumes.items ≡ a.steps * a.stores };
 }
 
 impl Simulated {
@@ -52,7 +54,7 @@ impl Simulated {
         requires { IsVolumePlace self.now store step }
         ensures { result ≡ written_in self.now store step }
     {
-        self.tables.written[place(self.stores, step, store)]
+        self.volumes[place(self.stores, step, store)].written
     }
 
     /// How many blocks stand in a store when a step has ended.
@@ -61,7 +63,7 @@ impl Simulated {
         requires { IsVolumePlace self.now store step }
         ensures { result ≡ left_in self.now store step }
     {
-        self.tables.left[place(self.stores, step, store)]
+        self.volumes[place(self.stores, step, store)].left
     }
 
     /// How many of a step's arrivals a store has no room for.
@@ -70,7 +72,7 @@ impl Simulated {
         requires { IsVolumePlace self.now store step }
         ensures { result ≡ lost_in self.now store step }
     {
-        self.tables.lost[place(self.stores, step, store)]
+        self.volumes[place(self.stores, step, store)].lost
     }
 
     /// How many blocks all stores lose over all steps.
@@ -82,46 +84,59 @@ impl Simulated {
     }
 }
 
-impl Tables {
-    // Adds what the plan does to one store in one step.
-    fn push(&mut self, problem: &Problem, plan: &Plan, store: usize, step: u32) -> Pushed
-        requires shape { HasShape problem.now plan.now }
-        requires store { store < length problem.now.rows }
-        requires first { 1 ≤ step }
-        requires last { step ≤ length problem.now.windows }
-        requires before { AreTabled problem.now (amount plan.now)
-            (grid_place (length problem.now.rows) step store) self.old }
-        ensures { OnOk result (AreTabled problem.now (amount plan.now)
-            (grid_place (length problem.now.rows) step store + 1) self.new) }
-    {
-        let before = if step == 1 {
-            problem.start(store)
-        } else {
-            self.left[place(problem.stores(), step - 1, store)]
-        };
-        let coming = before + problem.arrivals(store, step);
-        let written = coming.min(problem.size(store));
-        self.written.push(written)?;
-        self.left
-            .push(written - plan.amount(store, step).min(written))?;
-        self.lost.push(coming - written)?;
-        Ok(())
+// What the plan does to a store in a step, where this stands in the store before it.
+fn volumes_in(problem: &Problem, plan: &Plan, store: usize, step: u32, before: u32) -> StepVolumes
+    requires shape { HasShape problem.now plan.now }
+    requires store { store < length problem.now.rows }
+    requires first { 1 ≤ step }
+    requires last { step ≤ length problem.now.windows }
+    requires before { before ≡ left problem.now (amount plan.now) store (step - 1) }
+    requires most { before ≤ MAX_BLOCKS }
+    ensures { result ≡ volumes problem.now (amount plan.now) store step }
+{
+    let coming = before + problem.arrivals(store, step);
+    let written = coming.min(problem.size(store));
+    StepVolumes {
+        written,
+        left: written - plan.amount(store, step).min(written),
+        lost: coming - written,
     }
+}
 
-    // Adds what the plan does in one step.
-    fn push_step(&mut self, problem: &Problem, plan: &Plan, step: u32) -> Pushed
-        requires shape { HasShape problem.now plan.now }
-        requires first { 1 ≤ step }
-        requires last { step ≤ length problem.now.windows }
-        requires before { AreTabled problem.now (amount plan.now)
-            (grid_place (length problem.now.rows) step 0) self.old }
-        ensures { OnOk result (AreTabled problem.now (amount plan.now) (step * length problem.now.rows) self.new) }
-    {
-        for store in 0..problem.stores() {
-            self.push(problem, plan, store, step)?;
-        }
-        Ok(())
+// Adds what the plan does to one store in one step.
+fn push(volumes: &mut Vec<StepVolumes>, problem: &Problem, plan: &Plan, store: usize, step: u32) -> Pushed
+    requires shape { HasShape problem.now plan.now }
+    requires store { store < length problem.now.rows }
+    requires first { 1 ≤ step }
+    requires last { step ≤ length problem.now.windows }
+    requires before { AreTabled problem.now (amount plan.now)
+        (grid_place (length problem.now.rows) step store) volumes.old.items }
+    ensures { OnOk result (AreTabled problem.now (amount plan.now)
+        (grid_place (length problem.now.rows) step store + 1) volumes.new.items) }
+{
+    let before = if step == 1 {
+        problem.start(store)
+    } else {
+        volumes[place(problem.stores(), step - 1, store)].left
+    };
+    volumes.push(volumes_in(problem, plan, store, step, before))?;
+    Ok(())
+}
+
+// Adds what the plan does in one step.
+fn push_step(volumes: &mut Vec<StepVolumes>, problem: &Problem, plan: &Plan, step: u32) -> Pushed
+    requires shape { HasShape problem.now plan.now }
+    requires first { 1 ≤ step }
+    requires last { step ≤ length problem.now.windows }
+    requires before { AreTabled problem.now (amount plan.now)
+        (grid_place (length problem.now.rows) step 0) volumes.old.items }
+    ensures { OnOk result (AreTabled problem.now (amount plan.now)
+        (step * length problem.now.rows) volumes.new.items) }
+{
+    for store in 0..problem.stores() {
+        push(volumes, problem, plan, store, step)?;
     }
+    Ok(())
 }
 
 /// What stands in each store, and what it loses, if the plan is carried out and the arrivals are the problem's.
@@ -133,18 +148,14 @@ pub fn simulate(alloc: Global, problem: &Problem, plan: &Plan) -> Result<Simulat
     ensures lost { IfOk result (λ v. AgreeEach problem.now (lost_in v) (lost problem.now (amount plan.now))) }
     ensures total { IfOk result (λ v. v.total ≡ loss problem.now (amount plan.now)) }
 {
-    let mut tables = Tables {
-        written: Vec::new(alloc),
-        left: Vec::new(alloc),
-        lost: Vec::new(alloc),
-    };
+    let mut volumes = Vec::new(alloc);
     for step in 1..problem.steps() + 1 {
-        tables.push_step(problem, plan, step)?;
+        push_step(&mut volumes, problem, plan, step)?;
     }
     Ok(Simulated {
         stores: problem.stores(),
         steps: problem.steps(),
-        tables,
+        volumes,
         total: loss_of(problem, plan),
     })
 }

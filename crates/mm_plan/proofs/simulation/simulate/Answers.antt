@@ -1,37 +1,36 @@
-use Rattle.std.proofs.Common.{◌+◌, ◌*◌, length, refl, sym, subst, arith}
+use Rattle.std.proofs.Common.{◌+◌, ◌*◌, length, refl, ap, arith}
 use Rattle.mm_plan.specs.Table.{amount}
 use Rattle.mm_plan.specs.Tabled.{AreTabled}
-use Rattle.mm_plan.specs.Volumes.{written, left, lost}
-use Rattle.mm_plan.proofs.Tabling.{agree_each, last_place}
+use Rattle.mm_plan.specs.declared.simulation.StepVolumes.{StepVolumes}
+use Rattle.mm_plan.proofs.Tabling.{last_place, table_place}
 use Rattle.mm_plan.proofs.simulation.simulate.Goals as goal
 
 pub loop-step-preserved : goal.loop-step-preserved
 loop-step-preserved c =
-    subst (λ k. AreTabled c.args.problem.now (amount c.args.plan.now) k c.push_step.new.self)
-    (sym (last_place (length c.args.problem.now.rows) (c.loop-step.step + 1) c.loop-step.step refl)) c.in_ok-push_step.ensures
+    rw (last_place (length c.args.problem.now.rows) (c.loop-step.step + 1) c.loop-step.step refl)
+    c.in_ok-push_step.ensures
 
--- the tables have a place for each store and step
-ends : (c : goal.After-loss_of) → AreTabled c.args.problem.now (amount c.args.plan.now) (length c.args.problem.now.windows * length c.args.problem.now.rows) c.loop-step.tables
+-- the table has a place for each store and step
+ends : (c : goal.After-loss_of) → AreTabled c.args.problem.now (amount c.args.plan.now)
+    (length c.args.problem.now.windows * length c.args.problem.now.rows) c.loop-step.volumes.items
 ends c =
-    subst (λ k. AreTabled c.args.problem.now (amount c.args.plan.now) k c.loop-step.tables)
-    (last_place (length c.args.problem.now.rows) c.loop-step.step (length c.args.problem.now.windows) (omega (arith, c.loop-step.auto.step, c.loop-step.auto.step-end))) c.loop-step.invariant
+    rw (last_place (length c.args.problem.now.rows) c.loop-step.step (length c.args.problem.now.windows)
+    (omega (arith, c.loop-step.auto.step, c.loop-step.auto.step-end))) at c.loop-step.invariant
 
 pub invariant_of-result : goal.invariant_of-result
-invariant_of-result c =
-    let all = ends c in
-    rw (c.stores.ensures.stores, c.steps.ensures.steps) (record { written = all.written_places; left = all.left_places; lost = all.lost_places })
+invariant_of-result c = rw (c.stores.ensures.stores, c.steps.ensures.steps) (ends c).places
 
 pub returns-clause-written : goal.returns-clause-written
-returns-clause-written c =
-    let all = ends c in
-    rw c.stores.ensures.stores (agree_each c.args.problem.now (written c.args.problem.now (amount c.args.plan.now)) c.loop-step.tables.written.items all.written_places all.each_written)
+returns-clause-written c = λ s t store first last.
+    let each = (ends c).each s t store first (table_place c.args.problem.now s t store first last) in
+    rw c.stores.ensures.stores (ap (λ (v : StepVolumes). v.written) each)
 
 pub returns-clause-left : goal.returns-clause-left
-returns-clause-left c =
-    let all = ends c in
-    rw c.stores.ensures.stores (agree_each c.args.problem.now (left c.args.problem.now (amount c.args.plan.now)) c.loop-step.tables.left.items all.left_places all.each_left)
+returns-clause-left c = λ s t store first last.
+    let each = (ends c).each s t store first (table_place c.args.problem.now s t store first last) in
+    rw c.stores.ensures.stores (ap (λ (v : StepVolumes). v.left) each)
 
 pub returns-clause-lost : goal.returns-clause-lost
-returns-clause-lost c =
-    let all = ends c in
-    rw c.stores.ensures.stores (agree_each c.args.problem.now (lost c.args.problem.now (amount c.args.plan.now)) c.loop-step.tables.lost.items all.lost_places all.each_lost)
+returns-clause-lost c = λ s t store first last.
+    let each = (ends c).each s t store first (table_place c.args.problem.now s t store first last) in
+    rw c.stores.ensures.stores (ap (λ (v : StepVolumes). v.lost) each)

@@ -6,4 +6,5 @@ use Rattle.mm_plan.proofs.simulation.simulate.Given as goal
 
 -- the steps before this one are there
 abbrev pub invariant-loop-step : goal.invariant-loop-step
-invariant-loop-step l = AreTabled l.problem (amount l.plan) (grid_place (length l.problem.rows) l.step 0) l.tables
+invariant-loop-step l =
+    AreTabled l.problem (amount l.plan) (grid_place (length l.problem.rows) l.step 0) l.volumes.items
