@@ -7,7 +7,6 @@ use Rattle.std.proofs.lemmas.List.{length-replicate}
 use Rattle.std.proofs.lemmas.List.Sums.{sum_by-set, get_or-le-sum_by}
 use Rattle.std.proofs.lemmas.List.Folds.{sum_by-replicate}
 use Rattle.mm_flow.specs.declared.search.Mark.{Mark}
-use Rattle.mm_flow.specs.declared.limits.TheConstants.{MAX_NODES}
 use Rattle.mm_flow.specs.Graph.{Graph}
 use Rattle.mm_flow.specs.Flow.{Flow}
 use Rattle.mm_flow.specs.Residual.{entries, tail, head, residual}
@@ -105,11 +104,6 @@ search_more g f source least marks order found done e node from own search known
       ];
     }
 
--- a node of a search has a level that a number of 32 bits holds
-pub level_fits : (g : Graph) (f : Flow) (source least : ℕ) (marks : List Mark) (order : List ℕ) (found done n : ℕ)
-    → IsSearch g f source least marks order found done → g.nodes ≤ MAX_NODES → level marks n ≤ MAX_NODES
-level_fits g f source least marks order found done n search few = omega (arith, search.levels n, search.count)
-
 -- no node is marked
 mark-replicate : (nodes n : ℕ) → mark (replicate nodes no_mark) n ≡ no_mark
 mark-replicate nodes n = elim (cases_lt n nodes) [
@@ -131,8 +125,11 @@ search_begun g f source least order start known size first =
     λ n ne. get_or-set_other none source n start no_mark ne ∙ mark-replicate g.nodes n in
     let own_level = ap (λ (m : Mark). m.level) own_at in
     let is_source : (n : ℕ) → HasMark marks n → n ≡ source =
-    λ n has. elim (cases_eq n source) [ inl same ↦ same | inr ne ↦ absurd
-    (omega (arith, ap (λ (m : Mark). m.level) (other_at n ne))) ] in
+    λ n has. elim (cases_eq n source) [
+      | inl same ↦ same
+      | inr ne ↦ absurd
+          (omega (arith, ap (λ (m : Mark). m.level) (other_at n ne)))
+    ] in
     let some_there : none_at start ≡ 0 = cond-false {A = ℕ} (eqb start.level 0) 1 0
     (ne_eqb start.level 0 (λ zero_level. absurd (omega arith))) in
     let here : slice_index (slice_set order 0 source) 0 ≡ source = get_or-set_same order 0 source 0 (omega arith) in
@@ -143,8 +140,13 @@ search_begun g f source least order start known size first =
         reached = λ n ne has. absurd (ne (is_source n has));
       };
       order_size = omega (arith, length-set order 0 source);
-      count = omega (arith, sum_by-set none_at none source start no_mark source_lt,
-      sum_by-replicate none_at g.nodes no_mark, ap none_at (mark-replicate g.nodes source), some_there);
+      count = omega (
+        arith,
+        sum_by-set none_at none source start no_mark source_lt,
+        sum_by-replicate none_at g.nodes no_mark,
+        ap none_at (mark-replicate g.nodes source),
+        some_there,
+      );
       ahead = omega arith;
       levels = λ n. elim (cases_eq n source) [
         | inl same ↦ omega (arith, ap (level marks) same, own_level)
@@ -152,8 +154,12 @@ search_begun g f source least order start known size first =
       ];
       queued = λ i lt.
           let at : i ≡ 0 = omega arith in
-          omega (arith, ap (λ (j : ℕ). level marks (slice_index (slice_set order 0 source) j)) at,
-          ap (level marks) here, own_level);
+          omega (
+            arith,
+            ap (λ (j : ℕ). level marks (slice_index (slice_set order 0 source) j)) at,
+            ap (level marks) here,
+            own_level,
+          );
       swept = λ n has. inr (0, omega arith, omega arith, here ∙ sym (is_source n has));
     }
 

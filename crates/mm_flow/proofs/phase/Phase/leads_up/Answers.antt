@@ -19,6 +19,10 @@ returns-then-below-height c = λ some.
       known = omega (arith, c.twin-back.ensures.known, twin_is);
       marked = omega (arith, c.if-below-height.true.0, c.level-below.ensures, below);
       up = omega (arith, c.if-below-height.true.1, c.level-below.ensures, c.level-height.ensures, below, above);
-      open_still = omega (arith, ltb-true 0 c.capacity.result some, c.capacity.ensures.residual,
-      ap (residual g (slice_index t.residual.flow.items)) twin_is);
+      open_still = omega (
+        arith,
+        ltb-true 0 c.capacity.result some,
+        c.capacity.ensures.residual,
+        ap (residual g (slice_index t.residual.flow.items)) twin_is,
+      );
     }

@@ -67,9 +67,10 @@ loop-at-preserved c =
           (subst (λ (n : ℕ). HasPath g f marks source amount n) leaves path));
       greatest = λ amount within path.
           let before = invariant.greatest amount within path in
-          let back = path_back g f marks source amount at (omega arith) before.1 in
-          (omega (arith, c.min-least.ensures, carries, before.0, back.0.fits),
-          subst (λ (n : ℕ). HasPath g f marks source amount n) (sym leaves) back.1);
+          let back = path_back g f marks source amount at (omega arith) before.1 in (
+            omega (arith, c.min-least.ensures, carries, before.0, back.0.fits),
+            subst (λ (n : ℕ). HasPath g f marks source amount n) (sym leaves) back.1,
+          );
     }
 
 pub returns-clause-greatest : goal.returns-clause-greatest

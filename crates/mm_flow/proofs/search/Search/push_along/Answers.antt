@@ -29,7 +29,7 @@ loop-at-init c =
     record {
       followed = record {
         marked = path_marked g f s.marks.items s.source c.args.amount c.args.sink c.requires.levelled.start
-        c.requires.path;
+            c.requires.path;
         path = c.requires.path;
         within = c.requires.carried.within;
         most = λ k. omega arith;
@@ -75,11 +75,14 @@ loop-at-preserved c =
     let inner : at ≢ source = omega arith in
     record {
       followed = followed_next g marks old now new source at entry c.tail-at.result amount invariant.followed ready
-      c.push.ensures.pushed leaves;
+          c.push.ensures.pushed leaves;
       balanced = λ value balanced. rw leaves (balanced_next g source c.args.sink now new value at entry amount
-      c.push.ensures.pushed ready.leads (invariant.balanced value balanced));
-      source = λ k leaves. omega (arith, invariant.source k leaves,
-      c.push.ensures.pushed.kept k (λ same. inner (sym ready.leads ∙ sym same ∙ leaves)));
+          c.push.ensures.pushed ready.leads (invariant.balanced value balanced));
+      source = λ k leaves. omega (
+        arith,
+        invariant.source k leaves,
+        c.push.ensures.pushed.kept k (λ same. inner (sym ready.leads ∙ sym same ∙ leaves)),
+      );
     }
 
 pub returns-clause-augmented : goal.returns-clause-augmented
@@ -93,7 +96,7 @@ returns-clause-augmented c =
     λ value augmented. record {
       within = invariant.followed.within;
       balanced = balanced_end g source c.args.sink now value amount
-      (subst (λ (n : ℕ). IsBalancedAt g source c.args.sink now value n amount) over
-      (invariant.balanced value augmented.balanced));
+          (subst (λ (n : ℕ). IsBalancedAt g source c.args.sink now value n amount) over
+          (invariant.balanced value augmented.balanced));
       most = λ k. omega (arith, invariant.followed.most k, augmented.most k);
     }

@@ -1,6 +1,5 @@
 use Rattle.std.proofs.Common.{sym, refl, arith, slice_index}
-use Rattle.mm_flow.proofs.Visiting.{marked_lt}
-use Rattle.mm_flow.proofs.Marking.{search_more, level_fits}
+use Rattle.mm_flow.proofs.Marking.{search_more}
 use Rattle.mm_flow.proofs.search.Search.reach.Goals as goal
 
 pub returns-clause-search : goal.returns-clause-search
