@@ -1,12 +1,12 @@
 -- A search continues from node to node, and ends.
-use Rattle.std.proofs.Common.{◌≡◌, ℕ, ◌+◌, ◌<◌, ◌≤◌, List, length, slice_index, ap, sym, ◌∙◌, refl, arith, inl, inr}
+use Rattle.std.proofs.Common.{◌≡◌, ℕ, ◌+◌, ◌<◌, List, length, slice_index, ap, sym, ◌∙◌, refl, arith, inl, inr}
 use Rattle.std.proofs.lemmas.Bool.{cases_eq, cases_lt}
 use Rattle.std.proofs.lemmas.List.{get_or_past}
 use Rattle.mm_flow.specs.declared.search.Mark.{Mark}
 use Rattle.mm_flow.specs.declared.search.Search.{Search}
 use Rattle.mm_flow.specs.Graph.{Graph}
 use Rattle.mm_flow.specs.Flow.{Flow}
-use Rattle.mm_flow.specs.Marks.{no_mark, HasMark, IsClosed, IsSearch, IsSearched, GoesOn}
+use Rattle.mm_flow.specs.Marks.{no_mark, HasMark, IsClosed, IsSearch, GoesOn}
 
 -- a node with a mark is in the table
 pub marked_lt : (marks : List Mark) (n : ℕ) → HasMark marks n → n < length marks
@@ -57,16 +57,5 @@ search_next g f source least marks order found done node search ahead here close
           inl (λ e lt at. closed e lt (at ∙ same))
       | inr other ↦ inr (waits.0, omega (arith, waits.1), waits.2, waits.3)
     ]
-  ];
-}
-
--- once no node waits, all are closed
-pub search_ended : (g : Graph) (f : Flow) (source least : ℕ) (marks : List Mark) (order : List ℕ) (found done : ℕ)
-    → IsSearch g f source least marks order found done → found ≤ done → IsSearched g f source least marks
-search_ended g f source least marks order found done search over = record {
-  marking = search.marking;
-  closed = λ n has. elim (search.swept n has) [
-    | inl all ↦ all
-    | inr waits ↦ absurd (omega (arith, waits.1, waits.2))
   ];
 }

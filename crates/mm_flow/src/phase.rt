@@ -150,8 +150,8 @@ impl<'a> Phase<'a> {
         ensures { result ≡ true → IsOpen self.now.tables
             (twin self.now.tables.residual.network.now.graph step.entry) }
     {
-        let height = self.tables.search.marks[at as usize].level;
-        let below = self.tables.search.marks[step.head as usize].level;
+        let height = self.tables.search.level(at);
+        let below = self.tables.search.level(step.head);
         let back = twin(self.tables.residual.network, step.entry as usize);
         below > 0 && below < height && self.tables.residual.capacity(back) > 0
     }

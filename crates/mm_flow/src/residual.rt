@@ -19,7 +19,7 @@ pub(crate) struct Residual<'a> {
 }
 
 impl<'a> Residual<'a> {
-    ghost use Rattle.mm_flow.specs.Links.{start, degree, step_left, IsStep};
+    ghost use Rattle.mm_flow.specs.Links.{start, end, degree, step, step_left, IsStep};
     ghost use Rattle.mm_flow.specs.Levels.{IsLevelled, Carries};
     ghost use Rattle.mm_flow.specs.Balance.{Augments, KeepsSource};
 
@@ -49,14 +49,31 @@ impl<'a> Residual<'a> {
         self.links.first[node]
     }
 
+    // The place where the steps of a node end.
+    pub(crate) fn end(&self, node: usize) -> u32
+        requires { node < self.now.network.now.graph.nodes }
+        ensures { result ≡ end self.now.network.now.graph node }
+    {
+        self.start(node + 1)
+    }
+
     // The number of entries that leave a node.
     pub(crate) fn degree(&self, node: usize) -> u32
         requires { node < self.now.network.now.graph.nodes }
         ensures { result ≡ degree self.now.network.now.graph node }
     {
-        let first = self.start(node);
-        let end = self.start(node + 1);
-        end - first
+        self.end(node) - self.start(node)
+    }
+
+    // The step at a place of a node's steps.
+    pub(crate) fn step_at(&self, node: u32, at: u32) -> Step
+        requires node { node < self.now.network.now.graph.nodes }
+        requires from { start self.now.network.now.graph node ≤ at }
+        requires below { at < end self.now.network.now.graph node }
+        ensures step { result ≡ step self.now.links.steps.items at }
+        ensures own { IsStep self.now.network.now.graph node result }
+    {
+        self.links.steps[at as usize]
     }
 
     // The step of a node at which this number of its steps are left.
@@ -67,8 +84,8 @@ impl<'a> Residual<'a> {
         ensures step { result ≡ step_left self.now.network.now.graph self.now.links node left }
         ensures own { IsStep self.now.network.now.graph node result }
     {
-        let end = self.start(node as usize + 1);
-        self.links.steps[(end - left) as usize]
+        let end = self.end(node as usize);
+        self.step_at(node, end - left)
     }
 
     // Moves an amount that fits along the path by which a search reached the sink.

@@ -36,7 +36,7 @@ pub(crate) struct Search {
 
 impl Search {
     ghost use Rattle.mm_flow.specs.declared.search.Mark.{Mark};
-    ghost use Rattle.mm_flow.specs.Marks.{Fits, HasMarked, IsSearching, HasSearched, GoesOn, HasMark, level};
+    ghost use Rattle.mm_flow.specs.Marks.{Fits, HasMarked, IsSearching, HasSearched, GoesOn, HasMark, mark, level};
     ghost use Rattle.mm_flow.specs.Balance.{IsCarried, Augments, KeepsSource};
     ghost use Rattle.mm_flow.specs.Levels.{IsLevelled, HasPath, Carries};
 
@@ -80,7 +80,7 @@ impl Search {
         ensures source { self.new.source ≡ self.old.source }
     {
         self.start(residual, 1);
-        while self.done < self.found && self.marks[sink as usize].level == 0 {
+        while self.done < self.found && self.level(sink) == 0 {
             self.visit(residual);
         }
     }
@@ -91,7 +91,23 @@ impl Search {
         ensures marked { result ≡ true → HasMark self.now.marks.items node }
         ensures missed { result ≡ false → ¬ HasMark self.now.marks.items node }
     {
-        self.marks[node as usize].level > 0
+        self.level(node) > 0
+    }
+
+    // The level of a node.
+    pub(crate) fn level(&self, node: u32) -> u32
+        requires { node < length self.now.marks.items }
+        ensures { result ≡ level self.now.marks.items node }
+    {
+        self.marks[node as usize].level
+    }
+
+    // The entry by which a node was reached.
+    fn via(&self, node: u32) -> usize
+        requires { node < length self.now.marks.items }
+        ensures { result ≡ (mark self.now.marks.items node).via }
+    {
+        self.marks[node as usize].via as usize
     }
 
     // Marks the source alone.
@@ -121,9 +137,9 @@ impl Search {
     {
         let node = self.order[self.done];
         let first = residual.start(node as usize);
-        let end = residual.start(node as usize + 1);
+        let end = residual.end(node as usize);
         for at in first..end {
-            let step = residual.links.steps[at as usize];
+            let step = residual.step_at(node, at);
             self.reach(residual, node, step);
         }
         self.done += 1;
@@ -140,16 +156,16 @@ impl Search {
             (slice_index residual.now.flow.items) step.entry
             → HasMark self.new.marks.items (head residual.now.network.now.graph step.entry) }
     {
-        if self.marks[step.head as usize].level > 0 {
+        if self.level(step.head) > 0 {
             return;
         }
         let capacity = residual.capacity(step.entry as usize);
         if capacity < self.least {
             return;
         }
-        let from = self.marks[node as usize];
+        let level = self.level(node) + 1;
         self.marks[step.head as usize] = Mark {
-            level: from.level + 1,
+            level,
             via: step.entry,
         };
         self.order[self.found] = step.head;
@@ -169,7 +185,7 @@ impl Search {
         let mut least = UNLIMITED;
         let mut at = sink;
         while at != self.source {
-            let entry = self.marks[at as usize].via as usize;
+            let entry = self.via(at);
             least = least.min(residual.capacity(entry));
             at = tail(residual.network, entry);
         }
@@ -190,7 +206,7 @@ impl Search {
     {
         let mut at = sink;
         while at != self.source {
-            let entry = self.marks[at as usize].via as usize;
+            let entry = self.via(at);
             push(network, flow, entry, amount);
             at = tail(network, entry);
         }

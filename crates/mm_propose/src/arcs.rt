@@ -3,7 +3,7 @@ use crate::node::Node;
 use crate::sets::{NodeSet, StoreSet};
 use crate::slots::{Row, Slot, Table};
 use crate::stores::Stores;
-use mm_problem::{CHANNELS, MAX_STORES};
+use mm_problem::CHANNELS;
 
 /// The arcs of a span with residual capacity: in each row of its table, the slots whose amount is not zero.
 #[derive(Clone, Copy)]
@@ -73,13 +73,8 @@ impl Arcs {
 // The channels to which the stores belong.
 fn channels_of(stores: &Stores, held: StoreSet) -> NodeSet {
     let mut channels = NodeSet::NONE;
-    let mut rest = held;
-    for _ in 0..MAX_STORES {
-        let Some(store) = rest.first() else {
-            break;
-        };
+    for store in held.iter() {
         channels = channels.with(Node::channel(stores.channel(store)));
-        rest = rest.rest();
     }
     channels
 }
@@ -87,13 +82,8 @@ fn channels_of(stores: &Stores, held: StoreSet) -> NodeSet {
 // The stores of the channels that are among the nodes.
 fn stores_of_channels(stores: &Stores, nodes: NodeSet) -> StoreSet {
     let mut found = StoreSet::NONE;
-    let mut rest = nodes.channels();
-    for _ in 0..CHANNELS {
-        let Some(channel) = rest.first() else {
-            break;
-        };
+    for channel in nodes.channels().iter() {
         found = found.either(stores.of_channel(channel));
-        rest = rest.rest();
     }
     found
 }

@@ -127,23 +127,20 @@ fn fill_stores(stores: &Stores, spans: &mut [Span], outlook: &mut Outlook, at: u
         return false;
     };
     let losing = arrivals(stores, &mut span.table, &outlook.removed);
-    let mut rest = losing;
-    for _ in 0..MAX_STORES {
-        let (Some(store), Some(span)) = (rest.first(), spans.get(at)) else {
+    for store in losing.iter() {
+        let Some(span) = spans.get(at) else {
             break;
         };
         outlook.removed.add(store, span.table.of(Slot::lost(store)));
         outlook.look_ahead(stores, spans, store, at.saturating_add(1));
-        rest = rest.rest();
     }
     !losing.is_empty()
 }
 
 // Dumps from each of the stores the blocks that avert its next overflow.
 fn avert(stores: &Stores, spans: &mut [Span], outlook: &mut Outlook, at: usize, due: StoreSet) {
-    let mut rest = due;
-    for _ in 0..MAX_STORES {
-        let (Some(store), Some(span)) = (rest.first(), spans.get_mut(at)) else {
+    for store in due.iter() {
+        let Some(span) = spans.get_mut(at) else {
             break;
         };
         let blocks = room(stores, &span.table, store).min(outlook.blocks.of(store));
@@ -151,7 +148,6 @@ fn avert(stores: &Stores, spans: &mut [Span], outlook: &mut Outlook, at: usize, 
             dump(&mut span.table, store, stores.channel(store), blocks);
             outlook.leave(stores, spans, store, blocks);
         }
-        rest = rest.rest();
     }
 }
 

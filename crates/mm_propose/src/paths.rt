@@ -3,7 +3,6 @@ use crate::node::{Node, NodeKind, Place};
 use crate::slots::{Row, Slot};
 use crate::spans::Span;
 use crate::stores::Stores;
-use mm_problem::{CHANNELS, MAX_STORES};
 
 /// An arc of a path: the node where it starts, and the two slots of a span between which it moves blocks.
 #[derive(Clone, Copy)]
@@ -119,17 +118,11 @@ impl Choice {
 
     // Considers the arcs to a channel: from its stores, and from the pass.
     fn to_channel(&mut self, stores: &Stores, span: &Span, at: usize, channel: usize) {
-        let mut rest = stores
-            .of_channel(channel)
-            .both(span.found.nodes().stores_out());
-        for _ in 0..MAX_STORES {
-            let Some(store) = rest.first() else {
-                break;
-            };
+        let holding = span.found.nodes().stores_out();
+        for store in stores.of_channel(channel).both(holding).iter() {
             let out = Node::out_of_store(store);
             let dump = Link::new(at, out, Slot::ENDLESS, Slot::dumped(store));
             self.consider(span.found.batch(out), dump);
-            rest = rest.rest();
         }
         if span.arcs.has_capacity(Slot::sent(channel)) {
             let send = Link::new(at, Node::PASS, Slot::sent(channel), Slot::open(channel));
@@ -139,19 +132,11 @@ impl Choice {
 
     // Considers the arcs to the pass.
     fn to_pass(&mut self, span: &Span, at: usize) {
-        let mut rest = span
-            .found
-            .nodes()
-            .channels()
-            .both(span.arcs.of_row(Row::Open));
-        for _ in 0..CHANNELS {
-            let Some(channel) = rest.first() else {
-                break;
-            };
+        let open = span.arcs.of_row(Row::Open);
+        for channel in span.found.nodes().channels().both(open).iter() {
             let node = Node::channel(channel);
             let send = Link::new(at, node, Slot::open(channel), Slot::sent(channel));
             self.consider(span.found.batch(node), send);
-            rest = rest.rest();
         }
     }
 }

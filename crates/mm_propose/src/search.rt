@@ -38,13 +38,8 @@ impl Found {
 
     // Adds the nodes of one batch.
     fn add(&mut self, nodes: NodeSet, batch: u16) {
-        let mut rest = nodes;
-        for _ in 0..64 {
-            let Some(place) = rest.first_place() else {
-                break;
-            };
-            self.batches[place] = batch;
-            rest = rest.rest();
+        for place in nodes.places() {
+            self.batches[place & 63] = batch;
         }
         self.nodes = self.nodes.either(nodes);
     }

@@ -1,5 +1,5 @@
 //! Sets of stores and of nodes, each in one word.
-ghost use Rattle.std.specs.Prelude.{◌<◌, IfSome};
+ghost use Rattle.std.specs.Iterator.{at_most};
 
 use crate::node::Node;
 
@@ -8,6 +8,25 @@ pub(crate) const STORE_MASK: usize = 15;
 
 /// Keeps the number of a channel below 8.
 pub(crate) const CHANNEL_MASK: usize = 7;
+
+/// The places of a set's elements, from the first on: each bit of the word that is 1.
+#[derive(Drop)]
+pub(crate) struct Places(u64);
+
+impl Iterator for Places {
+    type Item = usize;
+
+    ghost remaining = { λ s. at_most s.0 };
+
+    fn next(&mut self) -> Option<usize> {
+        if self.0 == 0 {
+            return None;
+        }
+        let place = self.0.trailing_zeros() as usize;
+        self.0 &= self.0 - 1;
+        Some(place)
+    }
+}
 
 /// A set of stores or of channels.
 #[derive(Clone, Copy)]
@@ -47,18 +66,9 @@ impl StoreSet {
         self.0 >> (store & STORE_MASK) & 1 == 1
     }
 
-    // The first store, if there is one.
-    pub(crate) fn first(self) -> Option<usize> {
-        if self.0 == 0 {
-            None
-        } else {
-            Some(self.0.trailing_zeros() as usize)
-        }
-    }
-
-    // The set without its first store.
-    pub(crate) fn rest(self) -> StoreSet {
-        StoreSet(self.0 & self.0.wrapping_sub(1))
+    // Its stores, from the first on.
+    pub(crate) fn iter(self) -> Places {
+        Places(u64::from(self.0))
     }
 }
 
@@ -125,19 +135,8 @@ impl NodeSet {
         StoreSet((self.0 >> 32 & 0xff) as u16)
     }
 
-    // The place of the first node, if there is one.
-    pub(crate) fn first_place(self) -> Option<usize>
-        ensures { IfSome result (λ place. place < 64) }
-    {
-        if self.0 == 0 {
-            None
-        } else {
-            Some((self.0.trailing_zeros() & 63) as usize)
-        }
-    }
-
-    // The set without its first node.
-    pub(crate) fn rest(self) -> NodeSet {
-        NodeSet(self.0 & self.0.wrapping_sub(1))
+    // The places of its nodes, from the first on.
+    pub(crate) fn places(self) -> Places {
+        Places(self.0)
     }
 }

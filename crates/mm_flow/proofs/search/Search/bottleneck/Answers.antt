@@ -1,13 +1,11 @@
 use Rattle.std.proofs.Common.{◌≡◌, ◌≢◌, ℕ, slice_index, ap, sym, ◌∙◌, subst, arith}
-use Rattle.std.proofs.lemmas.List.{get_or_read}
-use Rattle.mm_flow.specs.declared.search.Mark.{Mark}
 use Rattle.mm_flow.specs.Residual.{tail, residual}
-use Rattle.mm_flow.specs.Marks.{no_mark, mark, level, HasMark, IsReached}
+use Rattle.mm_flow.specs.Marks.{mark, level, HasMark, IsReached}
 use Rattle.mm_flow.specs.Levels.{HasPath, Carries}
 use Rattle.mm_flow.proofs.Visiting.{marked_lt}
 use Rattle.mm_flow.proofs.LevelPaths.{path_marked, path_back, path_on}
 use Rattle.mm_flow.proofs.search.Search.bottleneck.Goals as goal
-use Rattle.mm_flow.proofs.search.Search.bottleneck.Goals.{In-loop-at, After-index}
+use Rattle.mm_flow.proofs.search.Search.bottleneck.Goals.{In-loop-at}
 
 -- the path to the node that was come to can carry something
 at_path : (c : In-loop-at) → Carries c.args.residual.now c.args.self.now 1 c.loop-at.at
@@ -18,40 +16,35 @@ at_marked : (c : In-loop-at) → HasMark c.args.self.now.marks.items c.loop-at.a
 at_marked c =
     let r = c.args.residual.now in
     let s = c.args.self.now in
-    path_marked r.network.now.graph (slice_index r.flow.items) s.marks.items s.source 1 c.loop-at.at c.requires.levelled.start (at_path c)
+    path_marked r.network.now.graph (slice_index r.flow.items) s.marks.items s.source 1 c.loop-at.at
+    c.requires.levelled.start (at_path c)
 
 -- it was reached by an entry
 at_reached : (c : In-loop-at) → c.loop-at.at ≢ c.args.self.now.source
-    → IsReached c.args.residual.now.network.now.graph (slice_index c.args.residual.now.flow.items) c.args.self.now.marks.items 1 c.loop-at.at
+    → IsReached c.args.residual.now.network.now.graph
+    (slice_index c.args.residual.now.flow.items) c.args.self.now.marks.items 1 c.loop-at.at
 at_reached c inner =
     let r = c.args.residual.now in
     let s = c.args.self.now in
     (path_back r.network.now.graph (slice_index r.flow.items) s.marks.items s.source 1 c.loop-at.at inner (at_path c)).0
 
--- that is the entry that was read
-via_is : (c : After-index) → HasMark c.args.self.now.marks.items c.loop-at.at → c.index.result.now.via ≡ (mark c.args.self.now.marks.items c.loop-at.at).via
-via_is c marked =
-    let marks = c.args.self.now.marks.items in
-    ap (λ (m : Mark). m.via) (get_or_read marks c.loop-at.at c.index.result.now (marked_lt marks c.loop-at.at marked) c.index.ensures no_mark)
-
-pub index-requires : goal.index-requires
-index-requires c = omega (arith, marked_lt c.args.self.now.marks.items c.loop-at.at (at_marked (goal.at.index-requires c).In-loop-at), c.args.self.now.marks.ok.0)
+pub via-entry-requires : goal.via-entry-requires
+via-entry-requires c = marked_lt c.args.self.now.marks.items c.loop-at.at
+    (at_marked (goal.at.via-entry-requires c).In-loop-at)
 
 pub capacity-requires : goal.capacity-requires
-capacity-requires c =
-    let here = (goal.at.capacity-requires c).In-loop-at in
-    omega (arith, via_is (goal.at.capacity-requires c).After-index (at_marked here), (at_reached here (omega arith)).known)
+capacity-requires c = omega
+    (arith, c.via-entry.ensures, (at_reached (goal.at.capacity-requires c).In-loop-at (omega arith)).known)
 
 pub tail-at-requires : goal.tail-at-requires
-tail-at-requires c =
-    let here = (goal.at.tail-at-requires c).In-loop-at in
-    omega (arith, via_is (goal.at.tail-at-requires c).After-index (at_marked here), (at_reached here (omega arith)).known)
+tail-at-requires c = omega
+    (arith, c.via-entry.ensures, (at_reached (goal.at.tail-at-requires c).In-loop-at (omega arith)).known)
 
 pub loop-at-smaller : goal.loop-at-smaller
 loop-at-smaller c =
     let here = (goal.at.loop-at-smaller c).In-loop-at in
     let marks = c.args.self.now.marks.items in
-    let leaves = c.tail-at.ensures.node ∙ ap (tail c.args.residual.now.network.now.graph) (via_is (goal.at.loop-at-smaller c).After-index (at_marked here)) in
+    let leaves = c.tail-at.ensures.node ∙ ap (tail c.args.residual.now.network.now.graph) c.via-entry.ensures in
     omega (arith, (at_reached here (omega arith)).above, ap (level marks) leaves)
 
 pub loop-at-preserved : goal.loop-at-preserved
@@ -63,17 +56,21 @@ loop-at-preserved c =
     let source = c.args.self.now.source in
     let at = c.loop-at.at in
     let invariant = c.loop-at.invariant in
-    let via = via_is (goal.at.loop-at-preserved c).After-index (at_marked here) in
-    let leaves = c.tail-at.ensures.node ∙ ap (tail g) via in
-    let carries : c.capacity.result ≡ residual g f (mark marks at).via = c.capacity.ensures.residual ∙ ap (residual g f) via in
+    let leaves = c.tail-at.ensures.node ∙ ap (tail g) c.via-entry.ensures in
+    let carries : c.capacity.result ≡ residual g f (mark marks at).via =
+    c.capacity.ensures.residual ∙ ap (residual g f) c.via-entry.ensures in
     record {
       within = omega (arith, c.min-least.ensures, invariant.within);
       fits = λ amount fits path. invariant.fits amount (omega (arith, c.min-least.ensures))
-          (path_on g f marks source 1 amount at (at_reached here (omega arith)) (omega (arith, c.min-least.ensures, carries)) (subst (λ (n : ℕ). HasPath g f marks source amount n) leaves path));
+          (path_on g f marks source 1 amount at (at_reached here (omega arith))
+          (omega (arith, c.min-least.ensures, carries))
+          (subst (λ (n : ℕ). HasPath g f marks source amount n) leaves path));
       greatest = λ amount within path.
           let before = invariant.greatest amount within path in
-          let back = path_back g f marks source amount at (omega arith) before.1 in
-          (omega (arith, c.min-least.ensures, carries, before.0, back.0.fits), subst (λ (n : ℕ). HasPath g f marks source amount n) (sym leaves) back.1);
+          let back = path_back g f marks source amount at (omega arith) before.1 in (
+            omega (arith, c.min-least.ensures, carries, before.0, back.0.fits),
+            subst (λ (n : ℕ). HasPath g f marks source amount n) (sym leaves) back.1,
+          );
     }
 
 pub returns-clause-greatest : goal.returns-clause-greatest
