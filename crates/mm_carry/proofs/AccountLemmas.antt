@@ -3,16 +3,14 @@ use Rattle.mm_carry.proofs.Words
 use Words.{cases_lt, cases_eq, eq-eqb, ne_eqb, append-nil, map-append, nil_from_length, All-head, All-nil, All-tail}
 use Words.{flat_map-map, fill_by_all, IsPermutation-refl, IsPermutation-sym, IsPermutation-trans}
 use Words.{IsPermutation-append_left, IsPermutation-append_right, IsPermutation-append_comm, range_with_len, Ok}
-use Words.{flat_map, IsPermutation, SpacePacket, Dumping, Amounts, IsRising, Stored, ReplaysKeepStates, OffersLeave}
-use Words.{OrdersDumpTheOldest, State, IsState, step, IsTaken, AreTaken, asked, IsShuffleOfEvents, replay, IsLegal}
-use Words.{AreBelow, part, Entry, Event, Offer, IsRunOf, IsStepRun, AreTimed, ◌≡◌, ◌≢◌, ◌⊎◌, inl, inr, ℕ, zero, suc}
-use Words.{◌+◌, ◌-◌, ◌<◌, ◌≤◌, List, [], ◌∷◌, ◌++◌, length, get_or, refl, sym, ap, subst, ◌∙◌, arith, append_assoc}
-use Words.{packet_in, packets_in, packets_offered, over_steps, AreAskedIn, HaveLeft, IsAccounted, BoundedLoseNew}
-use Words.{CircularLoseOldest, GiveLater, Reply, joined}
+use Words.{flat_map, IsPermutation, SpacePacket, Dumping, Amounts, Stored, ReplaysKeepStates, State, IsState, step}
+use Words.{IsTaken, AreTaken, asked, IsShuffleOfEvents, replay, IsLegal, AreBelow, part, Entry, Event, Offer, IsRunOf}
+use Words.{IsStepRun, AreTimed, ◌≡◌, ◌≢◌, ◌⊎◌, inl, inr, ℕ, zero, suc, ◌+◌, ◌-◌, ◌<◌, ◌≤◌, List, [], ◌∷◌, ◌++◌, length}
+use Words.{get_or, refl, sym, ap, subst, ◌∙◌, arith, append_assoc, packet_in, packets_in, packets_offered, over_steps}
+use Words.{AreAskedIn, HaveLeft, IsAccounted, Reply, joined, conserved, loses_new, loses_oldest}
 use Rattle.mm_carry.proofs.RangeLists.{flat_map_range_same}
-use Rattle.mm_desk.specs.Fates.{packets_of, accepted, taken, given, given_up, deleted, after, over, ConservePackets}
+use Rattle.mm_desk.specs.Fates.{packets_of, accepted, taken, given, given_up, deleted, after, over}
 use Rattle.mm_carry.proofs.DumpLemmas.{replayed, over_both, dump_does, none_left, after-append, left_more, over_then}
-use Rattle.mm_carry.proofs.Replays.{IsLegal-parts, replay-append}
 use Rattle.mm_carry.proofs.Stepping.{halves, stands}
 use Rattle.mm_desk.specs.declared.reply.Reply.TheVariants as reply
 
@@ -115,15 +113,15 @@ record StepAccounts (s t : State) (came : List SpacePacket) (gave : List Stored)
   gone : HaveLeft s es gave
 
 -- one step run after another
-accounts_then : GiveLater → (s mid t : State) (came more : List SpacePacket) (gave now : List Stored)
+accounts_then : (s mid t : State) (came more : List SpacePacket) (gave now : List Stored)
     (es fs : List Event) → IsState s → StepAccounts s mid came gave es → StepAccounts mid t more now fs
     → StepAccounts s t (came ++ more) (gave ++ now) (es ++ fs)
-accounts_then later s mid t came more gave now es fs sound first second = record {
+accounts_then s mid t came more gave now es fs sound first second = record {
   packets = rw (map-append (λ (p : Stored). p.packet) gave now, over_then given_up s mid es fs first.leads)
       (joined (packets_of s.store.content) _ _ (packets_of mid.store.content) _ _ _ _ _ first.packets second.packets);
   leads = second.leads ∙ ap (λ (u : State). after u fs) first.leads ∙ sym (after-append s es fs);
   gives = over_then given s mid es fs first.leads ∙ (λ i. first.gives i ++ second.gives i);
-  gone = left_more later s es fs gave now sound first.gone
+  gone = left_more s es fs gave now sound first.gone
       (subst (λ (u : State). HaveLeft u fs now) first.leads second.gone);
 }
 
@@ -160,29 +158,25 @@ none_asked offers s = record {
 from_one : (t : ℕ) → 0 < t → 1 ≤ t
 from_one t some = omega arith
 
-module _ (conserve : ConservePackets) (leave : OffersLeave) (keep : ReplaysKeepStates)
-    (dump : OrdersDumpTheOldest) (later : GiveLater) where
+module _ (keep : ReplaysKeepStates) where
   step_accounts : (s t : State) (offers : List (List Event)) (wanted : ℕ) (gave : List Stored) → IsState s
       → AreTimed offers → (is : IsStepRun offers wanted gave s t)
       → StepAccounts s t (packets_offered offers) gave (asked (is.recorded ++ is.dumped))
   step_accounts s t offers wanted gave sound timed is =
       let mid = replay s is.recorded in
-      let parts = halves leave keep dump s t offers wanted gave sound timed is in
-      let takes = takes_all s is.recorded parts.legal is.taken in
-      let log = conserve s (asked is.recorded) in
+      let parts = halves keep s t offers wanted gave sound timed is in
+      let takes = takes_all s is.recorded parts.recording.legal is.taken in
+      let log = conserved s (asked is.recorded) in
       let lost = over given_up s (asked is.recorded) in
       let held : IsPermutation (packets_of s.store.content ++ packets_in (asked is.recorded))
       (packets_of mid.store.content ++ lost) = rw (takes.deletes, replayed s is.recorded, takes.takes) at log.packets in
       let oldest = parts.dumps.oldest in
       let split : packets_of mid.store.content ≡ packets_of gave ++ packets_of t.store.content =
       ap packets_of oldest ∙ map-append (λ (p : Stored). p.packet) gave t.store.content in
-      let legal = IsLegal-parts s is.recorded is.dumped is.run.legal in
-      let does = dump_does mid wanted gave t.store.content is.dumped
-      (subst IsRising oldest parts.stood.store.rising) oldest is.dump legal.1 in
-      let leads : t ≡ after mid (asked is.dumped) =
-      is.run.leaves ∙ replay-append s is.recorded is.dumped ∙ sym (replayed mid is.dumped) in
+      let does = dump_does mid t wanted gave is.dumped parts.stood is.dump parts.dumping in
+      let leads : t ≡ after mid (asked is.dumped) = parts.dumping.leaves ∙ sym (replayed mid is.dumped) in
       -- a dump gives nothing up
-      let few = (conserve mid (asked is.dumped)).lost in
+      let few = (conserved mid (asked is.dumped)).lost in
       let none = nil_from_length (over given_up mid (asked is.dumped))
       (omega (arith, few, ap (λ (u : State). u.lost) leads, ap (λ (u : State). u.lost) parts.dumps.others)) in
       let all : lost ≡ over given_up s (asked (is.recorded ++ is.dumped)) =
@@ -197,13 +191,12 @@ module _ (conserve : ConservePackets) (leave : OffersLeave) (keep : ReplaysKeepS
         gives = over_both given s is.recorded is.dumped ∙ (λ i. takes.gives i ++ does.gives i);
         gone = subst (λ (es : List Event). HaveLeft s es gave)
             (sym (map-append (λ (e : Entry). e.event) is.recorded is.dumped))
-            (left_more later s (asked is.recorded) (asked is.dumped) [] gave sound (none_left s (asked is.recorded))
+            (left_more s (asked is.recorded) (asked is.dumped) [] gave sound (none_left s (asked is.recorded))
             (subst (λ (u : State). HaveLeft u (asked is.dumped) gave) (sym (replayed s is.recorded)) does.gone));
       }
 
-  module _ (new : BoundedLoseNew) (oldest : CircularLoseOldest) (q : Dumping) (x : Amounts) (steps : ℕ)
-      (offers : ℕ → ℕ → List (List Event)) (gave : ℕ → ℕ → List Stored) (states : ℕ → ℕ → State)
-      (is : IsRunOf q x steps offers gave states) (s : ℕ) (store : s < length q.rows) where
+  module _ (q : Dumping) (x : Amounts) (steps : ℕ) (offers : ℕ → ℕ → List (List Event)) (gave : ℕ → ℕ → List Stored)
+      (states : ℕ → ℕ → State) (is : IsRunOf q x steps offers gave states) (s : ℕ) (store : s < length q.rows) where
     -- the events of a step of the run; none of another step
     events_by : (t : ℕ) → (0 < t) ⊎ (t ≤ 0) → (steps < t) ⊎ (t ≤ steps) → List Event
     events_by t (inl first) (inr last) =
@@ -237,10 +230,10 @@ module _ (conserve : ConservePackets) (leave : OffersLeave) (keep : ReplaysKeepS
     told zero within =
         record { packets = IsPermutation-refl _; leads = refl; gives = refl; gone = none_left begun [] }
     told (suc n) within =
-        let stood = stands leave keep dump q x steps offers gave states is s n store (omega arith) in
+        let stood = stands keep q x steps offers gave states is s n store (omega arith) in
         let back : suc n - 1 ≡ n = omega arith in
         let here = rw back at (made (suc n) (omega arith) within) in
-        accounts_then later begun (states s n) (states s (suc n)) _ _ _ _ (over_steps events n) (events (suc n))
+        accounts_then begun (states s n) (states s (suc n)) _ _ _ _ (over_steps events n) (events (suc n))
         (is.ready s store).sound (told n (omega arith))
         (subst (StepAccounts (states s n) (states s (suc n)) (packets_offered (offers s (suc n))) (gave s (suc n)))
         (sym here.2) (step_accounts (states s n) (states s (suc n)) (offers s (suc n)) here.0 (gave s (suc n))
@@ -253,7 +246,7 @@ module _ (conserve : ConservePackets) (leave : OffersLeave) (keep : ReplaysKeepS
         record {
           lost = over given_up begun es;
           packets = rw (← packets_over (gave s) steps) all.packets;
-          counted = ap (λ (u : State). u.lost) all.leads ∙ (conserve begun es).lost;
+          counted = ap (λ (u : State). u.lost) all.leads ∙ (conserved begun es).lost;
           rising = all.gone.rising;
           events = events;
           history = record {
@@ -264,7 +257,7 @@ module _ (conserve : ConservePackets) (leave : OffersLeave) (keep : ReplaysKeepS
           };
           loses = record {
             are = refl;
-            bounded = new begun es;
-            circular = oldest begun es (is.ready s store).sound;
+            bounded = loses_new begun es;
+            circular = loses_oldest begun es (is.ready s store).sound;
           };
         }

@@ -1,16 +1,16 @@
 -- What comes in a run in place of the forecast, and what the stores' counters rise by over a step and over a run,
 -- beside the rows of the report.
-use Rattle.std.specs.Prelude.{sum_by, slice_index, flat_map}
+use Rattle.std.specs.Prelude.{sum_by, flat_map}
 use Rattle.mm_carry.proofs.Stepping.{grown, timed_by}
 use Rattle.std.proofs.lemmas.List.Concat.{get_or-flat_map}
 use Rattle.mm_carry.proofs.Words
 use Words.{length-take-le, get_or-take, fill_by_all, get_or-map-range_with_len, length-map-range_with_len}
 use Words.{get_or-range_with_len, length-range_with_len, range_with_len, sum_by_range_same, sum_by-add, sum_by-map}
-use Words.{sum_by-swap, Dumping, arrivals, stores, steps, Amounts, left, written, lost, State, opening_at, Held}
-use Words.{states_of, counters_of, StepCounts, AtEach, AsPlanned, counts_from, planned_counts, row_from}
-use Words.{rows_by_counters, counted, AreByCounters, AreCounters, AreStepCounts, RunInput, store_state, step_of}
-use Words.{offered, came, as_came, AreTimed, ◌≡◌, ℕ, ◌+◌, ◌-◌, ◌<◌, ◌≤◌, List, length, map, refl, sym, ap, ◌∙◌, arith}
-use Words.{take, ◌*◌, ◌^◌, [], ◌∷◌, get_or, length-append, StoreCounters}
+use Words.{sum_by-swap, Dumping, arrivals, stores, steps, Amounts, left, written, lost, State, Held, counters_of}
+use Words.{StepCounts, AtEach, AsPlanned, counts_from, planned_counts, row_from, state_by, rows_by_counters, counted}
+use Words.{AreByCounters, AreCounters, AreStepCounts, RunInput, store_state, step_of, offered, came, as_came, AreTimed}
+use Words.{◌≡◌, ℕ, ◌+◌, ◌-◌, ◌<◌, ◌≤◌, List, length, map, refl, sym, ap, ◌∙◌, arith, take, ◌*◌, ◌^◌, [], ◌∷◌, get_or}
+use Words.{length-append, StoreCounters}
 use Rattle.mm_carry.proofs.StoresReady.{all_by}
 
 -- counters of nothing
@@ -19,13 +19,14 @@ no_counters = record { offered = 0; lost = 0; deleted = 0; held = 0 }
 
 -- the first counts are the row
 pub row_taken : (q : Dumping) (t : ℕ) (places : List ℕ) (before after : List Held) (old new : List StoreCounters)
-    (counts : List StepCounts) (n : ℕ) → AreCounters before places n old → AreCounters after places n new
-    → AreStepCounts q t old new n counts → n ≤ length counts
-    → take n counts ≡ row_from q t places before after n
-row_taken q t places before after old new counts n was is told fits =
-    let one : ℕ → StepCounts = λ s. counts_from q s t
-    (counters_of (opening_at (states_of before) (slice_index places s)))
-    (counters_of (opening_at (states_of after) (slice_index places s))) in
+    (counts : List StepCounts) → AreCounters before places (length q.rows) old
+    → AreCounters after places (length q.rows) new → AreStepCounts q t old new (length q.rows) counts
+    → length q.rows ≤ length counts
+    → take (length q.rows) counts ≡ row_from q t (state_by places before) (state_by places after)
+row_taken q t places before after old new counts was is told fits =
+    let n = length q.rows in
+    let one : ℕ → StepCounts = λ s. counts_from q s t (counters_of (state_by places before s))
+    (counters_of (state_by places after s)) in
     fill_by_all one (take n counts) n (one 0) (length-take-le n counts fits)
     (λ k inside. get_or-take n counts k (one 0) inside ∙ told k (one 0) no_counters no_counters inside
     ∙ (λ i. counts_from q k t (was k no_counters inside i) (is k no_counters inside i)))

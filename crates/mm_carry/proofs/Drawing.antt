@@ -1,10 +1,10 @@
 -- What is given in a step that a plan fits, and draws from its window, which is not passed.
-use Rattle.mm_carry.proofs.Words.{cases_lt, sum_by, count_by, range_with_len, sum_by_filter_range-le, sum_by_range_one}
-use Rattle.mm_carry.proofs.Words.{sum_by_range_same, sum_by_range-le, sum_by-swap, sum_by-same, sum_by_ones}
-use Rattle.mm_carry.proofs.Words.{cond-eqb_same, cond-eqb_other, Dumping, is_of, window, FitsAt, in_step, Amounts}
-use Rattle.mm_carry.proofs.Words.{Stored, Entry, Held, times, RunInput, place_in_memory, IsDumpOf, AreStepRuns}
-use Rattle.mm_carry.proofs.Words.{sent_amounts, taken_amounts, ◌≡◌, inl, inr, ℕ, ◌+◌, ◌*◌, ◌<◌, ◌≤◌, cond, eqb, List}
-use Rattle.mm_carry.proofs.Words.{[], ◌∷◌, length, get_or, All, refl, sym, ap, ◌∙◌, arith}
+use Rattle.mm_carry.proofs.Words.{cases_lt, sum_by, count_by, range_with_len, sum_by_range_one, sum_by_range_same}
+use Rattle.mm_carry.proofs.Words.{sum_by-swap, sum_by-same, sum_by_ones, cond-eqb_same, cond-eqb_other, Dumping, window}
+use Rattle.mm_carry.proofs.Words.{FitsAt, Amounts, Stored, Entry, Held, times, RunInput, place_in_memory, IsDumpOf}
+use Rattle.mm_carry.proofs.Words.{AreStepRuns, sent_amounts, taken_amounts, ◌≡◌, inl, inr, ℕ, ◌+◌, ◌*◌, ◌<◌, ◌≤◌, cond}
+use Rattle.mm_carry.proofs.Words.{eqb, List, [], ◌∷◌, length, get_or, All, refl, sym, ap, ◌∙◌, arith}
+use Rattle.mm_plan.proofs.Raises.{fits_no_more}
 use Rattle.mm_carry.specs.Draws.{AreDrawsOf, MeetNoRefusal}
 
 -- draws that the window has room for meet no refusal
@@ -34,31 +34,14 @@ given_within wanted gave calls is = elim (cases_lt 0 wanted) [
   | inr none ↦ let nothing = ap length (is.none (omega arith)).0 in omega (arith, nothing)
 ]
 
--- amounts that are no larger fit where a plan does
-fits_less : (q : Dumping) (x y : Amounts) (t : ℕ) → FitsAt q x t → ((s : ℕ) → s < length q.rows → y s t ≤ x s t)
-    → FitsAt q y t
-fits_less q x y t fits less = record {
-  windowed = omega (
-    arith,
-    sum_by_range-le (in_step y t) (in_step x t) 0 (length q.rows) (λ s from to. less s (omega arith)),
-    fits.windowed,
-  );
-  limited = λ c b is. omega (
-    arith,
-    sum_by_filter_range-le (is_of q c) (in_step y t) (in_step x t) 0 (length q.rows)
-        (λ s from to. less s (omega arith)),
-    fits.limited c b is,
-  );
-}
-
 -- what was sent in a whole step fits
 pub whole_fits : (m : RunInput) (steps : ℕ) (stores : ℕ → List Held) (gave : ℕ → ℕ → List Stored)
     → AreStepRuns m steps stores gave
     → (t : ℕ) → 1 ≤ t → t ≤ steps → FitsAt m.problem m.amounts t → FitsAt m.problem (sent_amounts m gave) t
 whole_fits m steps stores gave are t first last fits =
-    fits_less m.problem m.amounts (sent_amounts m gave) t fits
+    fits_no_more m.problem m.amounts (sent_amounts m gave) t
     (λ s store. let run = are.runs s t store first last in given_within (m.amounts s t) (gave (place_in_memory m s) t)
-    run.dumped run.dump)
+    run.dumped run.dump) fits
 
 -- at most once as much is at most as much
 once_most : (n l : ℕ) → n ≤ 1 → n * l ≤ l
@@ -71,10 +54,9 @@ pub taken_fits : (m : RunInput) (steps : ℕ) (stores : ℕ → List Held) (gave
     ≤ 1)
     → FitsAt m.problem m.amounts t → FitsAt m.problem (taken_amounts m gave took) t
 taken_fits m steps stores gave took are t first last once fits =
-    fits_less m.problem (sent_amounts m gave) (taken_amounts m gave took) t (whole_fits m steps stores gave are t first
-    last fits)
+    fits_no_more m.problem (sent_amounts m gave) (taken_amounts m gave took) t
     (λ s store. once_most (sum_by (times (place_in_memory m s)) (took t)) (length (gave (place_in_memory m s) t))
-    (once s store))
+    (once s store)) (whole_fits m steps stores gave are t first last fits)
 
 -- the draws of a step that a plan fits meet no refusal
 pub no_refusal : (q : Dumping) (x : Amounts) (t : ℕ) (gave : ℕ → List Stored) (calls : ℕ → List Entry) (draws : List ℕ)
@@ -86,6 +68,6 @@ no_refusal q x t gave calls draws fits orders are =
     let one_each = sum_by_range_same (λ s. count_by (λ d. eqb d s) draws) (λ s. length (gave s)) 0 n
     (λ s from to. are.one_each s (omega arith)) in
     let given : sum_by (λ s. length (gave s)) (range_with_len 0 n) ≤ window q t =
-    (fits_less q x (λ s u. length (gave s)) t fits (λ s store. given_within (x s t) (gave s) (calls s)
-    (orders s store))).windowed in
+    (fits_no_more q x (λ s u. length (gave s)) t (λ s store. given_within (x s t) (gave s) (calls s) (orders s store))
+    fits).windowed in
     with_room (window q t) 0 draws (omega (arith, many, one_each, given))

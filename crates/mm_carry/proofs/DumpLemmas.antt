@@ -1,17 +1,20 @@
 -- What a dump gives, and what has left its store.
 use Rattle.std.proofs.lemmas.List.Elements.{All-append, All-contains, All-contains_itself, Contains-append_left}
-use Rattle.std.proofs.lemmas.List.Elements.{Contains-append_right}
+use Rattle.std.proofs.lemmas.List.Elements.{Contains-append_cases, Contains-append_right}
+use Rattle.std.proofs.lemmas.List.{get_or-append-add}
+use Rattle.std.proofs.lemmas.List.Sorted.{Contains-permutation}
+use Rattle.std.proofs.lemmas.Bool.{le-leb, le-ltb, lt-leb, lt-ltb}
 use Rattle.mm_carry.proofs.Words
-use Words.{cases_lt, cond_both, append-nil, map-append, get_or_append_left, All-nil, All-cons, All-head, All-tail}
-use Words.{All-weaker, Ok, filter, flat_map, IsRising, Stored, State, IsState, step, asked, IsLegal, replay, Entry}
-use Words.{Event, IsDumpOf, ◌≡◌, inl, inr, ℕ, ◌<◌, ◌≤◌, ltb, leb, List, [], ◌∷◌, ◌++◌, length, All, Contains, refl, sym}
-use Words.{ap, subst, ◌∙◌, arith, append_assoc, length-append, le-leb, AllPairs-append, AllPairs-head, AllPairs-tail}
-use Words.{aborted, IsBrokenOrder, HaveLeft, IsOlder, taken_out, GiveLater, Reply, over-append}
+use Words.{cases_lt, cond_both, append-nil, map-append, get_or_append_left, All-nil, All-weaker, flat_map, IsRising}
+use Words.{not, Stored, State, IsState, step, asked, IsLegal, IsRun, replay, Entry, Event, Offer, IsDumpOf, ◌≡◌, ◌⊎◌}
+use Words.{inl, inr, ℕ, ◌+◌, ◌<◌, ltb, leb, List, [], ◌∷◌, ◌++◌, length, All, Contains, refl, sym, ap, subst, ◌∙◌}
+use Words.{arith, length-append, AllPairs-append, IsPermutation-filter_both, order_dumps, aborted, IsBrokenOrder}
+use Words.{HaveLeft, IsOlder, taken_out, Reply, over-append, is_ordered, give_later}
 use Rattle.mm_desk.specs.declared.event.Event.TheVariants.{Next, Delete}
 use Rattle.mm_desk.specs.Fates.{found_in, given, after, over}
-use Rattle.mm_desk.specs.Orders.{begun, ended, last_time, removed, given as giving, IsOrderOf}
-use Rattle.mm_desk.proofs.Cases.{IsQuiet, delete_cases, quiet_leaves}
-use Rattle.mm_carry.proofs.Replays.{IsLegal-parts}
+use Rattle.mm_desk.specs.Orders.{ended, removed, given as giving, IsOrderOf}
+use Rattle.mm_desk.specs.Retrievals.{oldest_over}
+use Rattle.mm_desk.proofs.Cases.{put_cases, delete_cases, quiet_leaves}
 use Rattle.mm_desk.specs.declared.reply.Reply.TheVariants as reply
 
 -- what was asked in a log leads to its replay
@@ -72,72 +75,52 @@ pub broken_gives : (s : State) (seat wanted : ℕ) (gave : List Stored) (calls :
 broken_gives s seat wanted gave calls order legal =
     gives_found s calls legal ∙ ap found order.are ∙ found_given seat gave (aborted seat ∷ []) ∙ append-nil gave
 
--- neither an offer nor a deletion
-abbrev AreQuiet : List Entry → Type 0
-AreQuiet log = All (λ e. IsQuiet e.event) log
+-- of a time and a limit one is the later
+later_not_early : (limit time : ℕ) → ltb limit time ≡ not (leb time limit)
+later_not_early limit time = elim (cases_lt limit time) [
+  | inl later ↦ rw (lt-ltb limit time later, lt-leb time limit later) refl
+  | inr early ↦ rw (le-ltb limit time early, le-leb time limit early) refl
+]
 
--- such calls leave what the store holds
-quiet_keeps : (s : State) (log : List Entry) → AreQuiet log → (replay s log).store ≡ s.store
-quiet_keeps s [] quiet = refl
-quiet_keeps s (e ∷ es) quiet =
-    quiet_keeps (step s e.event).1 es (All-tail (λ (x : Entry). IsQuiet x.event) e es quiet)
-    ∙ quiet_leaves s e.event (All-head (λ (x : Entry). IsQuiet x.event) e es quiet)
-    (λ (t : State). t.store ≡ s.store) (λ storage retrieval. refl)
+-- what a store held, an event takes out of it, or the store still holds
+out_or_held : (s : State) (e : Event) (p : Stored) → Contains s.store.content p
+    → Contains (taken_out s e) p ⊎ Contains (step s e).1.store.content p
+out_or_held s (Offer now packet) p held =
+    put_cases s (λ r. Contains (oldest_over r.0 s.store.content) p ⊎ Contains r.1.store.content p) now packet
+    (λ fault other. inr held) (λ new is free. inr (Contains-append_left s.store.content (new ∷ []) p held))
+    (λ new is oldest later o. elim (Contains-append_cases (oldest ∷ []) later p (rw o.held at held)) [
+      | inl first ↦ inl (rw o.held first)
+      | inr more ↦ inr (Contains-append_left later (new ∷ []) p more)
+    ])
+    (λ stuck. inr held)
+out_or_held s (Delete limit) p held =
+    delete_cases s (λ r. Contains (taken_out s (Delete limit)) p ⊎ Contains r.1.store.content p) limit
+    (λ busy. inr held)
+    (λ idle. rw idle (Contains-append_cases _ _ p (Contains-permutation _ _ p (IsPermutation-filter_both
+    (λ (q : Stored). leb q.time limit) (λ q. ltb limit q.time) (λ q. later_not_early limit q.time) s.store.content)
+    held)))
+out_or_held s e p held = inr (quiet_leaves s e tt (λ t. Contains t.store.content p) (λ storage retrieval. held))
 
--- the calls of an order but for its deletion
-abbrev before_deletion : ℕ → ℕ → List Stored → List Entry
-before_deletion seat wanted gs = begun seat ∷ giving seat gs ++ ended seat wanted gs ∷ []
+all_out_or_held : (s : State) (es : List Event) (p : Stored) → Contains s.store.content p
+    → Contains (over taken_out s es) p ⊎ Contains (after s es).store.content p
+all_out_or_held s [] p held = inr held
+all_out_or_held s (e ∷ es) p held =
+    let rest = over taken_out (step s e).1 es in
+    elim (out_or_held s e p held) [
+      | inl out ↦ inl (Contains-append_left (taken_out s e) rest p out)
+      | inr kept ↦ elim (all_out_or_held (step s e).1 es p kept) [
+        | inl later ↦ inl (Contains-append_right (taken_out s e) rest p later)
+        | inr still ↦ inr still
+      ]
+    ]
 
-quiet_order : (seat wanted : ℕ) (gs : List Stored) → AreQuiet (before_deletion seat wanted gs)
-quiet_order seat wanted gs = All-cons Q (begun seat) _ tt (by_given gs)
-  where
-    Q : Entry → Type 0
-    Q e = IsQuiet e.event
-
-    by_given : (given : List Stored) → AreQuiet (giving seat given ++ ended seat wanted gs ∷ [])
-    by_given [] =
-        cond_both (ltb (length gs) wanted) _ _ (λ (e : Entry). AreQuiet (e ∷ []))
-        (λ fewer. All-cons Q _ [] tt (All-nil Q)) (λ enough. All-cons Q _ [] tt (All-nil Q))
-    by_given (g ∷ more) = All-cons Q _ _ tt (by_given more)
-
--- times rise up to that of the packet given last
-up_to_last : (time : ℕ) (gs : List Stored) → All (λ p. time < p.time) gs → IsRising gs
-    → (time ≤ last_time time gs) × All (λ p. p.time ≤ last_time time gs) gs
-up_to_last time [] later rising = (omega arith, All-nil _)
-up_to_last time (g ∷ gs) later rising =
-    let here = All-head (λ (p : Stored). time < p.time) g gs later in
-    let rest = up_to_last g.time gs (AllPairs-head (λ p q. p.time < q.time) g gs rising)
-    (AllPairs-tail (λ p q. p.time < q.time) g gs rising) in
-    (omega (arith, here, rest.0), All-cons (λ (p : Stored). p.time ≤ last_time g.time gs) g gs rest.0 rest.1)
-
--- a deletion up to a time takes out all that stands first and is not later
-kept_first : (limit : ℕ) (gs rest : List Stored) → All (λ p. p.time ≤ limit) gs
-    → filter (λ p. leb p.time limit) (gs ++ rest) ≡ gs ++ filter (λ p. leb p.time limit) rest
-kept_first limit [] rest early = refl
-kept_first limit (g ∷ gs) rest early =
-    let here = le-leb g.time limit (All-head (λ (p : Stored). p.time ≤ limit) g gs early) in
-    let more = kept_first limit gs rest (All-tail (λ (p : Stored). p.time ≤ limit) g gs early) in
-    rw here (ap (λ (ps : List Stored). g ∷ ps) more)
-
-deletes_given : (s : State) (seat count : ℕ) (gs rest : List Stored) → s.store.content ≡ gs ++ rest → IsRising gs
-    → IsLegal s (removed seat gs count) → All (Contains (over taken_out s (asked (removed seat gs count)))) gs
-deletes_given s seat count [] rest held rising legal = All-nil _
-deletes_given s seat count (g ∷ gs) rest held rising legal =
-    let all = g ∷ gs in
-    let limit = last_time g.time gs in
-    let later = filter (λ (p : Stored). leb p.time limit) rest in
-    let bound = up_to_last g.time gs (AllPairs-head (λ p q. p.time < q.time) g gs rising)
-    (AllPairs-tail (λ p q. p.time < q.time) g gs rising) in
-    let first = kept_first limit all rest (All-cons (λ (p : Stored). p.time ≤ limit) g gs bound.0 bound.1) in
-    let out : taken_out s (Delete limit) ≡ filter (λ p. leb p.time limit) s.store.content =
-    delete_cases s (λ r. reply.Deleted (Ok count) ≡ reply.Deleted r.0
-    → taken_out s (Delete limit) ≡ filter (λ p. leb p.time limit) s.store.content) limit (λ busy bad. absurd (cc bad))
-    (λ idle fine. rw idle refl) legal.0 in
-    let is : taken_out s (Delete limit) ≡ all ++ later =
-    out ∙ ap (filter (λ (p : Stored). leb p.time limit)) held ∙ first in
-    subst (λ (ps : List Stored). All (Contains (ps ++ [])) all) (sym is)
-    (All-weaker (Contains all) (Contains ((all ++ later) ++ [])) (λ p at.
-    Contains-append_left (all ++ later) [] p (Contains-append_left all later p at)) all (All-contains_itself all))
+-- where times rise, no packet stands in two lists after one another
+pub apart : (xs ys : List Stored) (p : Stored) → IsRising (xs ++ ys) → Contains xs p → Contains ys p → ⊥
+apart xs ys p rising one two =
+    let first = get_or_append_left xs ys p one.0 one.1 ∙ one.2 in
+    let second = get_or-append-add xs ys two.0 p ∙ two.2 in
+    let less = rising one.0 (length xs + two.0) p (omega (arith, one.1)) (omega (arith, two.1, length-append xs ys)) in
+    omega (arith, less, ap (λ (q : Stored). q.time) first, ap (λ (q : Stored). q.time) second)
 
 -- nothing has left a store
 pub none_left : (s : State) (es : List Event) → HaveLeft s es []
@@ -156,41 +139,33 @@ pub record DumpDoes (s : State) (gave : List Stored) (calls : List Entry) : Type
   pub gives : over given s (asked calls) ≡ gave
   pub gone : HaveLeft s (asked calls) gave
 
-pub order_does : (s : State) (seat wanted : ℕ) (gave rest : List Stored) (calls : List Entry) → IsRising (gave ++ rest)
-    → s.store.content ≡ gave ++ rest → IsOrderOf seat wanted gave calls → IsLegal s calls → DumpDoes s gave calls
-order_does s seat wanted gave rest calls all held order legal =
-    let front = before_deletion seat wanted gave in
-    let last = removed seat gave order.count in
-    let tail = ended seat wanted gave ∷ last in
-    let are : calls ≡ front ++ last = order.are ∙ ap (λ (es : List Entry). begun seat ∷ es)
-    (sym (append_assoc (giving seat gave) (ended seat wanted gave ∷ []) last)) in
-    let parts = IsLegal-parts s front last (subst (IsLegal s) are legal) in
-    let quiet = quiet_keeps s front (quiet_order seat wanted gave) in
-    let rising = rising_front gave rest all in
-    let deleted = deletes_given (replay s front) seat order.count gave rest
-    (ap (λ store. store.content) quiet ∙ held) rising parts.1 in
+pub order_does : (s t : State) (seat wanted : ℕ) (gave : List Stored) (calls : List Entry) → IsState s
+    → IsOrderOf seat wanted gave calls → IsRun s calls t → DumpDoes s gave calls
+order_does s t seat wanted gave calls sound order run =
+    let held = (order_dumps s t seat wanted gave calls sound order run).oldest in
+    let rising = subst IsRising held sound.store.rising in
+    let leads : after s (asked calls) ≡ t = replayed s calls ∙ sym run.leaves in
     let gives : over given s (asked calls) ≡ gave =
-    gives_found s calls legal ∙ ap found order.are ∙ found_given seat gave tail
+    gives_found s calls run.legal ∙ ap found order.are
+    ∙ found_given seat gave (ended seat wanted gave ∷ removed seat gave order.count)
     ∙ ap (λ (ps : List Stored). gave ++ ps) (found_at_end seat wanted order.count gave) ∙ append-nil gave in
     record {
       gives = gives;
       gone = record {
         given_are = subst (λ (ps : List Stored). All (Contains ps) gave) (sym gives) (All-contains_itself gave);
-        out = subst (λ (ps : List Stored). All (Contains ps) gave)
-            (sym (ap (λ (es : List Entry). over taken_out s (asked es)) are ∙ over_both taken_out s front last))
-            (All-weaker (Contains (over taken_out (replay s front) (asked last)))
-            (Contains (over taken_out s (asked front) ++ over taken_out (replay s front) (asked last)))
-            (λ p at. Contains-append_right (over taken_out s (asked front)) _ p at) gave deleted);
-        rising = rising;
+        out = All-weaker (Contains gave) (Contains (over taken_out s (asked calls))) (λ p at.
+            elim (all_out_or_held s (asked calls) p (rw held (Contains-append_left gave t.store.content p at))) [
+              | inl out ↦ out
+              | inr still ↦ absurd (apart gave t.store.content p rising at (rw leads at still))
+            ]) gave (All-contains_itself gave);
+        rising = rising_front gave t.store.content rising;
       };
     }
 
-pub dump_does : (s : State) (wanted : ℕ) (gave rest : List Stored) (calls : List Entry) → IsRising (gave ++ rest)
-    → s.store.content ≡ gave ++ rest → IsDumpOf wanted gave calls → IsLegal s calls → DumpDoes s gave calls
-dump_does s wanted gave rest calls all held is legal = elim (cases_lt 0 wanted) [
-  | inl some ↦
-      let order = is.whole (omega arith) in
-      order_does s order.0 wanted gave rest calls all held order.1 legal
+pub dump_does : (s t : State) (wanted : ℕ) (gave : List Stored) (calls : List Entry) → IsState s
+    → IsDumpOf wanted gave calls → IsRun s calls t → DumpDoes s gave calls
+dump_does s t wanted gave calls sound is run = elim (cases_lt 0 wanted) [
+  | inl some ↦ let order = is.whole (omega arith) in order_does s t order.0 wanted gave calls sound order.1 run
   | inr none ↦
       let nothing = is.none (omega arith) in
       rw (nothing.0, nothing.1) (record { gives = refl; gone = none_left s [] })
@@ -211,9 +186,9 @@ done_later each s es now new done =
     (λ p at. Contains-append_right (over each s es) here p at) new done)
 
 -- the times of what has left a store, and of what is given later, rise
-pub rising_more : GiveLater → (s : State) (es now : List Event) (past new : List Stored) → IsState s
-    → HaveLeft s es past → All (Contains (over given (after s es) now)) new → IsRising new → IsRising (past ++ new)
-rising_more later s es now past new sound before given_are rising =
+pub rising_more : (s : State) (es now : List Event) (past new : List Stored) → IsState s → HaveLeft s es past
+    → All (Contains (over given (after s es) now)) new → IsRising new → IsRising (past ++ new)
+rising_more s es now past new sound before given_are rising =
     AllPairs-append (λ p q. p.time < q.time) past new before.rising rising
     (All-weaker (Contains out) (IsOlder new) older past before.out)
   where
@@ -225,16 +200,16 @@ rising_more later s es now past new sound before given_are rising =
         let gave = over given (after s es) now in
         let Later : Stored → Type 0 = λ q. p.time < q.time in
         All-weaker (Contains gave) Later
-        (λ q in_gave. All-contains Later gave q (All-contains (IsOlder gave) out p (later s es now sound) at) in_gave)
-        new given_are
+        (λ q in_gave. All-contains Later gave q
+        (All-contains (IsOlder gave) out p (give_later s es now (is_ordered s sound)) at) in_gave) new given_are
 
 -- what has left a store, and what leaves it later
-pub left_more : GiveLater → (s : State) (es now : List Event) (past new : List Stored) → IsState s → HaveLeft s es past
+pub left_more : (s : State) (es now : List Event) (past new : List Stored) → IsState s → HaveLeft s es past
     → HaveLeft (after s es) now new → HaveLeft s (es ++ now) (past ++ new)
-left_more later s es now past new sound before here = record {
+left_more s es now past new sound before here = record {
   given_are = both given before.given_are here.given_are;
   out = both taken_out before.out here.out;
-  rising = rising_more later s es now past new sound before here.given_are here.rising;
+  rising = rising_more s es now past new sound before here.given_are here.rising;
 }
   where
     both : (each : State → Event → List Stored) → All (Contains (over each s es)) past

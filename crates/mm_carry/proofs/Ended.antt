@@ -4,7 +4,7 @@ use Rattle.mm_carry.proofs.Words.{sum_by-same, sum_by-map, sum_by-swap, Dumping,
 use Rattle.mm_carry.proofs.Words.{Supply, Sent, Reported, totals_of, Cause, StepCounts, given_to, IsRefusal, IsStopped}
 use Rattle.mm_carry.proofs.Words.{report_of, planned_counts, RunStart, run_start, RunInput, as_came, RunState, InRun}
 use Rattle.mm_carry.proofs.Words.{RunContext, Stop, Stops, HasEnded, HasRun, AreWithinLimits, NeverRefused, ◌≡◌, inl}
-use Rattle.mm_carry.proofs.Words.{inr, refl, ℕ, List, [], length, map, get_or, sym, ap, subst, ◌∙◌, run_start_of}
+use Rattle.mm_carry.proofs.Words.{inr, refl, ℕ, List, [], length, map, get_or, ap, subst, ◌∙◌, run_start_of}
 use Rattle.std.specs.Result.{result_err}
 
 -- what holds of what a run begins with holds of the same, by whatever names
@@ -24,32 +24,19 @@ module _ {S L : Type 0} (leads : S → S → Type 0) (until : S → S → Supply
       (length first.links)) cause
       → InRun leads until first first (λ begun now. IsStopped sent failed (given_to run begun) run.plan.now first first
       now.sources stop report)
-  not_begun first report stop is none refusal lasts lead = (
-    lead,
-    inr (
-      record { same = refl; report_is = none; spent_is = ap (λ (s : Stop). s.spent) is },
-      subst (IsRefusal (run_start run.problem.now run.plan.now first.stores run.base (length first.sources)
-          (length first.links))) (sym (ap (λ (s : Stop). s.cause) is)) refusal,
-    ),
-  )
+  not_begun first report stop is none refusal lasts lead =
+      rw is (lead, inr (record { same = refl; report_is = none; spent_is = refl }, refusal))
 
   -- how the steps of the run ended is how it ended
-  pub ended_whole : (first now : RunState S L) (report : Reported) (result : Result (Unit {0}) Stop)
+  pub ended_as : (first now : RunState S L) (report : Reported) (result : Result (Unit {0}) Stop)
       → InRun leads until first now
       (λ begun left. HasEnded sent failed (given_to run begun) run.plan.now begun (result_err result) left report)
       → OnOk result (InRun leads until first now
       (λ begun left. HasRun sent failed (given_to run begun) run.plan.now begun (length run.problem.now.windows) left
-      report))
-  ended_whole first now report (Ok x) ended = ended
-  ended_whole first now report (Err stop) ended = tt
-
-  pub ended_early : (first now : RunState S L) (report : Reported) (result : Result (Unit {0}) Stop)
-      → InRun leads until first now
-      (λ begun left. HasEnded sent failed (given_to run begun) run.plan.now begun (result_err result) left report)
-      → IfErr result (λ stop. InRun leads until first now
+      report)) × IfErr result (λ stop. InRun leads until first now
       (λ begun left. IsStopped sent failed (given_to run begun) run.plan.now first now left.sources stop report))
-  ended_early first now report (Ok x) ended = tt
-  ended_early first now report (Err stop) ended = λ lasts lead. let one = ended lasts lead in (one.0, inl one.1)
+  ended_as first now report (Ok x) ended = (ended, tt)
+  ended_as first now report (Err stop) ended = (tt, λ lasts lead. let one = ended lasts lead in (one.0, inl one.1))
 
 -- where counts are far from their end, no store refused a packet in a run that was stopped
 pub stopped_far : {S L : Type 0} (sent : L → List Sent) (failed : L → ℕ) (m : RunInput) (plan : Table)

@@ -1,11 +1,10 @@
 -- What a step that was broken off leaves at a store, and what each link did where a failed one halted it.
 use Rattle.std.specs.Prelude.{Option, Some, None, sum_by, slice_index_or}
 use Rattle.mm_dump.specs.Dumped.{times, AllSettled, places_of, AllTried}
-use Rattle.mm_report.specs.declared.cause.Cause.TheVariants.{LinkFailed}
 use Rattle.mm_carry.proofs.Replays.{IsRun-append}
 use Rattle.mm_base.specs.declared.rows.RouteRow.{RouteRow}
 use Rattle.mm_carry.specs.Failure.{FailedLink, LastBroke, LinksFailed}
-use Rattle.mm_carry.proofs.Parts.{as_many, first_turns, its_cause}
+use Rattle.mm_carry.proofs.Parts.{as_many, first_turns, told}
 use Rattle.mm_carry.proofs.StoresReady.{state_holds}
 use Rattle.std.proofs.lemmas.Bool.Decides.{eqb_tells}
 use Rattle.mm_carry.proofs.Words
@@ -13,22 +12,13 @@ use Words.{cases_lt, length-map, nil_from_length, All-nil, All-cons, All-head, A
 use Words.{get_or-le-sum_by, cond-eqb_same, cond-eqb_other, given_oldest, State, IsState, opening_at, IsLegal, Fault}
 use Words.{Held, IfSome, states_of, RecordingContext, recording, given_in, IsOrderFor, Supply, Course, EndedAs, IsWhole}
 use Words.{IsBroken, IsCourse, worse, worst_of, failed_by, sent_by, BrokenOrdersChangeNothing, Sent, Order, OrderBroken}
-use Words.{Cause, IsByOneLog, AtEachStore, RunState, IsStep, Stop, cause_of, orders_after, ◌≡◌, inl, inr, ℕ, ◌<◌, List}
-use Words.{[], length, map, All, refl, sym, ap, subst, ◌∙◌, arith, ◌⊎◌, zero, suc, ◌+◌, ◌≤◌, cond, eqb, ◌∷◌, ◌++◌}
+use Words.{LinkFailed, IsByOneLog, AtEachStore, RunState, IsStep, Stop, orders_after, ◌≡◌, inl, inr, ℕ, ◌<◌, List, []}
+use Words.{length, map, All, refl, sym, ap, subst, ◌∙◌, arith, ◌⊎◌, zero, suc, ◌+◌, ◌≤◌, cond, eqb, ◌∷◌, ◌++◌}
 use Words.{IfSome_then, aborted}
 use Rattle.mm_desk.specs.declared.fault.Fault.TheVariants as fault
 use Rattle.mm_dump.specs.declared.order.OrderBroken.TheVariants as worst
 
--- where the cause is a link, a link was the worst for which orders broke
-link_failed : (step : ℕ) (fault : Option Fault) (broken : Option OrderBroken) (cause : Cause)
-    → cause_of step fault broken ≡ Some cause → cause ≡ LinkFailed step → broken ≡ Some worst.LinkFailed
-link_failed step None None cause is is_link = absurd (cc is)
-link_failed step (Some fault.NoMemory) None cause is is_link = absurd (cc (is, is_link))
-link_failed step (Some other) None cause is is_link = absurd (cc (is, is_link))
-link_failed step fault (Some worst.LinkFailed) cause is is_link = refl
-link_failed step fault (Some worst.NoMemory) cause is is_link = absurd (cc (is, is_link))
-
--- and no recorder stopped early
+-- where orders broke no recorder stopped early
 none_early : (fault : Option Fault) (broken : Option OrderBroken) → IfSome fault (λ _. broken ≡ None)
     → broken ≡ Some worst.LinkFailed → fault ≡ None
 none_early None broken early linked = refl
@@ -297,8 +287,7 @@ pub failed_link : {L : Type 0} (sent : L → List Sent) (failed : L → ℕ) (e 
     → All (λ o. o.place < length before.stores) orders → stop.cause ≡ LinkFailed e.step
     → IsStep sent failed e orders (Some stop) before after → FailedLink sent failed e orders before after
 failed_link sent failed e orders stop before after changes there is_link is =
-    let cause = its_cause sent failed e orders stop before after is in
-    let linked = link_failed e.step is.fault is.broken stop.cause cause is_link in
+    let linked = (told sent failed e orders stop before after is).linked is_link in
     let none = none_early is.fault is.broken (IfSome_then is.fault is.early (λ _ nothing. nothing.0)) linked in
     let many : length is.mid ≡ length before.stores = as_many is.mid before.stores is.records.labels in
     let all : length after.stores ≡ length before.stores = as_many after.stores before.stores is.labels in

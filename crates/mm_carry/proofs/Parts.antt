@@ -3,9 +3,9 @@ use Rattle.std.proofs.lemmas.Simd.{map-map}
 use Rattle.mm_carry.proofs.Words.{length-map, All-nil, same_Some, AllZip, Option, Some, None, IfNone, IfSome}
 use Rattle.mm_carry.proofs.Words.{SpacePacket, Event, Fault, Held, labels_of, RecordingContext, offers, Supply, Sent}
 use Rattle.mm_carry.proofs.Words.{Order, OrderBroken, Cause, AreFirstOffers, AreOrders, RunState, KeepsRest, IsCauseIn}
-use Rattle.mm_carry.proofs.Words.{NeverRefused, cause_of, orders_after, stop_for, IsStep, IsWholeStep, StepStopped}
-use Rattle.mm_carry.proofs.Words.{Stop, ◌≡◌, ℕ, ◌<◌, ◌≤◌, List, [], ◌∷◌, ◌++◌, length, map, refl, sym, ap, subst, ◌∙◌}
-use Rattle.mm_carry.proofs.Words.{arith, append_assoc, RecorderRun, StoppedEarly, IsRecorderRun, TakesAll}
+use Rattle.mm_carry.proofs.Words.{NeverRefused, cause_of, orders_after, stop_for, LinkFailed, IsStep, IsWholeStep}
+use Rattle.mm_carry.proofs.Words.{StepStopped, Stop, ◌≡◌, ℕ, ◌<◌, ◌≤◌, List, [], ◌∷◌, ◌++◌, length, map, refl, sym, ap}
+use Rattle.mm_carry.proofs.Words.{subst, ◌∙◌, arith, append_assoc, RecorderRun, StoppedEarly, IsRecorderRun, TakesAll}
 pub use Rattle.mm_shared.proofs.Opening.{same_many as as_many}
 use Rattle.mm_carry.proofs.Replays.{IsRun-append}
 use Rattle.mm_record.specs.Steps.{given_in, AreRecorderRuns}
@@ -48,13 +48,11 @@ pub at_early : {P : Type 0} (fault : Option Fault) (orders : List Order) → (or
 at_early None orders holds = tt
 at_early (Some fault) orders holds = holds refl
 
--- the cause of a stop is that of the step, and so is what was spent
-pub stop_is_for : (cause : Option Cause) (spent : ℕ) (stop : Stop) → Some stop ≡ stop_for cause spent
-    → (cause ≡ Some stop.cause) × (stop.spent ≡ spent)
-stop_is_for None spent stop is = absurd (cc is)
-stop_is_for (Some cause) spent stop is =
-    let same = same_Some stop _ is in
-    (sym (ap (λ (s : Stop). Some s.cause) same), ap (λ (s : Stop). s.spent) same)
+-- the cause of a stop is that of the step
+stopped_for : (cause : Option Cause) (spent : ℕ) (stop : Stop) → Some stop ≡ stop_for cause spent
+    → cause ≡ Some stop.cause
+stopped_for None spent stop is = absurd (cc is)
+stopped_for (Some cause) spent stop is = sym (ap (λ (s : Stop). Some s.cause) (same_Some stop _ is))
 
 -- without a stop no recorder stopped early, and no order broke
 no_stop : (step spent : ℕ) (fault : Option Fault) (broken : Option OrderBroken) → None ≡ stop_for
@@ -65,23 +63,24 @@ no_stop step spent (Some other) None is = absurd (cc is)
 no_stop step spent fault (Some worst.LinkFailed) is = absurd (cc is)
 no_stop step spent fault (Some worst.NoMemory) is = absurd (cc is)
 
--- the cause is one of the step
-caused_in : (step : ℕ) (fault : Option Fault) (broken : Option OrderBroken) (cause : Cause)
-    → cause_of step fault broken ≡ Some cause → IsCauseIn step cause
-caused_in step None None cause is = absurd (cc is)
-caused_in step (Some fault.NoMemory) None cause is = subst (IsCauseIn step) (same_Some _ cause is) refl
-caused_in step (Some other) None cause is = subst (IsCauseIn step) (same_Some _ cause is) refl
-caused_in step fault (Some worst.LinkFailed) cause is = subst (IsCauseIn step) (same_Some _ cause is) refl
-caused_in step fault (Some worst.NoMemory) cause is = subst (IsCauseIn step) (same_Some _ cause is) refl
+-- what the cause of a stop tells: it is one of the step; no store refused a packet, where a recorder stopped early out
+-- of memory alone; and where it is a link that failed, one was the worst for which orders broke
+pub record Tells (step : ℕ) (why : Option Fault) (broken : Option OrderBroken) (cause : Cause) : Type 0 where
+  pub in_step : IsCauseIn step cause
+  pub unrefused : IfSome why (λ f. f ≡ fault.NoMemory) → NeverRefused cause
+  pub linked : cause ≡ LinkFailed step → broken ≡ Some worst.LinkFailed
 
--- where a recorder stopped early out of memory alone, no store refused a packet
-not_refused : (step : ℕ) (why : Option Fault) (broken : Option OrderBroken) (cause : Cause)
-    → IfSome why (λ f. f ≡ fault.NoMemory) → cause_of step why broken ≡ Some cause → NeverRefused cause
-not_refused step None None cause lack is = absurd (cc is)
-not_refused step (Some fault.NoMemory) None cause lack is = λ at same. absurd (cc (is, same))
-not_refused step (Some other) None cause lack is = absurd (cc lack)
-not_refused step fault (Some worst.LinkFailed) cause lack is = λ at same. absurd (cc (is, same))
-not_refused step fault (Some worst.NoMemory) cause lack is = λ at same. absurd (cc (is, same))
+tells : (step : ℕ) (why : Option Fault) (broken : Option OrderBroken) (cause : Cause)
+    → cause_of step why broken ≡ Some cause → Tells step why broken cause
+tells step None None cause is = absurd (cc is)
+tells step (Some fault.NoMemory) None cause is = subst (Tells step (Some fault.NoMemory) None) (same_Some _ cause is)
+    (record { in_step = refl; unrefused = λ lack at same. absurd (cc same); linked = λ same. absurd (cc same) })
+tells step (Some other) None cause is = subst (Tells step (Some other) None) (same_Some _ cause is)
+    (record { in_step = refl; unrefused = λ lack. absurd (cc lack); linked = λ same. absurd (cc same) })
+tells step why (Some worst.LinkFailed) cause is = subst (Tells step why (Some worst.LinkFailed)) (same_Some _ cause is)
+    (record { in_step = refl; unrefused = λ lack at same. absurd (cc same); linked = λ same. refl })
+tells step why (Some worst.NoMemory) cause is = subst (Tells step why (Some worst.NoMemory)) (same_Some _ cause is)
+    (record { in_step = refl; unrefused = λ lack at same. absurd (cc same); linked = λ same. absurd (cc same) })
 
 -- a recorder makes first offers of what its source gives
 first_turn : (e : RecordingContext) (before after : ℕ → List SpacePacket) (turn : RecorderRun) (k : ℕ)
@@ -154,13 +153,14 @@ whole_step sent failed e orders before after is =
 -- a step that was broken off
 module _ {L : Type 0} (sent : L → List Sent) (failed : L → ℕ) (e : RecordingContext) (orders : List Order) (stop : Stop)
     (before after : RunState Supply L) (is : IsStep sent failed e orders (Some stop) before after) where
-  pub its_cause : cause_of e.step is.fault is.broken ≡ Some stop.cause
-  its_cause = (stop_is_for (cause_of e.step is.fault is.broken) is.spent stop is.stop_is).0
+  pub told : Tells e.step is.fault is.broken stop.cause
+  told = tells e.step is.fault is.broken stop.cause
+      (stopped_for (cause_of e.step is.fault is.broken) is.spent stop is.stop_is)
 
   -- what it leaves
   pub stopped_of : StepStopped e.step before after stop.cause
   stopped_of = record {
-    cause_is = caused_in e.step is.fault is.broken stop.cause its_cause;
+    cause_is = told.in_step;
     labels = is.labels;
     keep = keep_turns e before.sources after.sources is.records.runs is.records.are_runs;
     others = is.records.others;
@@ -168,4 +168,4 @@ module _ {L : Type 0} (sent : L → List Sent) (failed : L → ℕ) (e : Recordi
 
   -- where each store surely takes what comes, no store refused a packet
   pub never_refused : TakesAll e before.stores before.sources → NeverRefused stop.cause
-  never_refused takes = not_refused e.step is.fault is.broken stop.cause (is.records.none_refused takes) its_cause
+  never_refused takes = told.unrefused (is.records.none_refused takes)

@@ -8,7 +8,7 @@ use Rattle.mm_desk.specs.declared.reply.Offered.{Offered}
 use Rattle.mm_desk.specs.declared.reply.Returned.{Returned}
 
 -- a legal list is legal in its first part, and from there in its second
-pub IsLegal-parts : (s : State) (es fs : List Entry) → IsLegal s (es ++ fs) → IsLegal s es × IsLegal (replay s es) fs
+IsLegal-parts : (s : State) (es fs : List Entry) → IsLegal s (es ++ fs) → IsLegal s es × IsLegal (replay s es) fs
 IsLegal-parts s [] fs legal = (tt, legal)
 IsLegal-parts s (e ∷ es) fs legal =
     let rest = IsLegal-parts (step s e.event).1 es fs legal.1 in
@@ -20,7 +20,7 @@ IsLegal-append s [] fs first second = second
 IsLegal-append s (e ∷ es) fs first second = (first.0, IsLegal-append (step s e.event).1 es fs first.1 second)
 
 -- the first part leads to the state from which the second goes on
-pub replay-append : (s : State) (es fs : List Entry) → replay s (es ++ fs) ≡ replay (replay s es) fs
+replay-append : (s : State) (es fs : List Entry) → replay s (es ++ fs) ≡ replay (replay s es) fs
 replay-append s [] fs = refl
 replay-append s (e ∷ es) fs = replay-append (step s e.event).1 es fs
 
@@ -30,6 +30,13 @@ IsRun-append s mid t es fs first second = record {
   legal = IsLegal-append s es fs first.legal (subst (λ (u : State). IsLegal u fs) first.leaves second.legal);
   leaves = second.leaves ∙ ap (λ (u : State). replay u fs) first.leaves ∙ sym (replay-append s es fs);
 }
+
+-- a run is one of its first part, and from there one of its second
+pub IsRun-parts : (s t : State) (es fs : List Entry) → IsRun s (es ++ fs) t → IsRun s es (replay s es)
+    × IsRun (replay s es) fs t
+IsRun-parts s t es fs run =
+    let legal = IsLegal-parts s es fs run.legal in
+    (record { legal = legal.0; leaves = refl }, record { legal = legal.1; leaves = run.leaves ∙ replay-append s es fs })
 
 -- what holds of the offers by a moment holds of each such event
 pub by_offer : (P : Event → Type 0) (now : ℕ) → ((at : ℕ) (packet : SpacePacket) → at ≤ now → P (Offer at packet))

@@ -1,14 +1,13 @@
 -- How a run begins, and what is known of it on the way.
 use Rattle.mm_carry.proofs.Words
-use Words.{eqb-true, eqb-false, ltb-false, or_parts, both_ways, false_from_ne_true, length-map, get_or-map, append-nil}
-use Words.{All-map, find_at, list_any_at, length-map-range_with_len, passes_at_first, position_or_len_is}
-use Words.{prefix_len-le-length, slice_get-get_or, bytes_eq-Decides, list_any, position_or_len, slice_index}
-use Words.{slice_index_or, bytes_eq, slice_get, Option, Some, None, is_some, not, ◌&&◌, IsTrue, vec_capacity, MAX_STEPS}
-use Words.{MAX_STORES, StoreRow, SpacePacket, Dumping, IsDumping, row, no_row, place, FitsAt, amount}
-use Words.{OrdersDumpTheOldest, State, IsState, opening_at, blank, Held, labels_of, states_of, AreHeld, has_id}
-use Words.{store_of, named_of, held_as, is_clock_late, is_late, TakesAll, Supply, BrokenOrdersChangeNothing, Sent}
-use Words.{Reported, IsReady, given_to, recording_at, orders_at, MayReport, IsReportedStep, AreWithinLimits, HasRun}
-use Words.{IsHaltedIn, RunsLoseAsPlanned, RunsLoseNoPacketUncounted, StepRunsKeepStores, IsPlaceOf, ArePlaces}
+use Words.{BrokenOrdersChangeNothing, eqb-true, eqb-false, ltb-false, or_parts, both_ways, false_from_ne_true}
+use Words.{length-map, get_or-map, append-nil, All-map, find_at, list_any_at, length-map-range_with_len}
+use Words.{passes_at_first, position_or_len_is, prefix_len-le-length, slice_get-get_or, bytes_eq-Decides, list_any}
+use Words.{position_or_len, slice_index, slice_index_or, bytes_eq, slice_get, Option, Some, None, is_some, not, ◌&&◌}
+use Words.{IsTrue, vec_capacity, MAX_STEPS, MAX_STORES, StoreRow, SpacePacket, Dumping, IsDumping, row, no_row, place}
+use Words.{FitsAt, amount, ReplaysKeepStates, State, IsState, opening_at, blank, Held, labels_of, states_of, AreHeld}
+use Words.{has_id, store_of, named_of, held_as, is_clock_late, is_late, TakesAll, Supply, Sent, Reported, IsReady}
+use Words.{given_to, orders_at, MayReport, IsReportedStep, AreWithinLimits, HasRun, IsHaltedIn, IsPlaceOf, ArePlaces}
 use Words.{StandWithin, AllMeet, NoneUnknown, meets, meets_at, RunInput, offered, recording_in, step_of}
 use Words.{place_in_memory, store_state, step_orders, RunState, with_supplies, AreReady, AreOrders, StepsDone}
 use Words.{taken_amounts, RunContext, Stop, AreCounters, ◌≡◌, ◌≢◌, ℕ, zero, suc, ◌+◌, ◌-◌, ◌*◌, ◌<◌, ◌≤◌, ◌^◌, Bool}
@@ -25,6 +24,7 @@ use Rattle.mm_carry.proofs.Halts.{failed_link}
 use Rattle.mm_carry.proofs.Drawing.{taken_fits}
 use Rattle.mm_carry.proofs.Ordered.{named_once, may_order, wanted_in_all, orders_are}
 use Rattle.mm_carry.proofs.Sharing.{shared}
+use Rattle.mm_carry.proofs.Stepping.{keeps_store}
 use Rattle.mm_carry.proofs.StepMore.{Footing, all_same, done_on}
 use Rattle.mm_carry.proofs.Parts.{as_many, as_many_sources, stopped_of, never_refused, whole_step}
 use Rattle.mm_carry.proofs.Placing.{no_held, places_differ}
@@ -252,27 +252,26 @@ module _ {L : Type 0} (sent : L → List Sent) (failed : L → ℕ) (run : RunCo
     orders_here u = orders_are input places u (λ s store. (here.footing.stand_at s store).is)
 
     -- the recorders of the step know the identifiers of its stores
-    ids_many : length (recording_at run t now.stores).ids ≡ length now.stores
+    ids_many : length (recording_in input t now.stores).ids ≡ length now.stores
     ids_many = length-map now.stores (λ (h : Held). h.id)
 
     -- one step more
-    pub ran_on : RunsLoseAsPlanned → RunsLoseNoPacketUncounted → OrdersDumpTheOldest → BrokenOrdersChangeNothing
-        → (after : RunState Supply L) (new : Reported)
+    pub ran_on : ReplaysKeepStates → BrokenOrdersChangeNothing → (after : RunState Supply L) (new : Reported)
         → IsReportedStep sent failed run places t None report new now after
         → HasRun sent failed input run.plan.now first (t + 1 - 1) after new
-    ran_on law counts dump changes after new stepped = record {
+    ran_on keep changes after new stepped = record {
       began = here.ran.began;
       done = done;
       fit = all_fit;
-      ready = ready_after sent failed (recording_at run t now.stores) (orders_at run places t) None now after dump
+      ready = ready_after sent failed (recording_in input t now.stores) (orders_at run places t) None now after
           changes ids_many here.ran.ready stepped.step;
     }
       where
         done : StepsDone sent failed input first.sources first.links (t + 1 - 1) after new
         done =
             done_on sent failed input first.links places here.footing t here.from_one now after report here.ran.done
-            (whole_step sent failed (recording_at run t now.stores) (orders_at run places t) now after stepped.step)
-            law counts (omega (arith, here.last)) new stepped.row
+            (whole_step sent failed (recording_in input t now.stores) (orders_at run places t) now after stepped.step)
+            keep (omega (arith, here.last)) new stepped.row
 
         -- what the links took in each of the steps fits
         all_fit : (u : ℕ) → 1 ≤ u → u ≤ t + 1 - 1 → FitsAt q (taken_amounts input done.gave done.links_are.took) u
@@ -284,7 +283,7 @@ module _ {L : Type 0} (sent : L → List Sent) (failed : L → ℕ) (run : RunCo
             (here.ran.began.fits (omega arith) u from_one (omega (arith, last, here.last)))
 
     -- where counts are far from their end as the run begins, each store takes what comes
-    module _ (law : StepRunsKeepStores) (limits : AreWithinLimits (length q.windows) first.stores first.sources)
+    module _ (keep : ReplaysKeepStates) (limits : AreWithinLimits (length q.windows) first.stores first.sources)
         (held : AreHeld first.stores) where
       begun_early : IsEarly first.stores run.base
       begun_early = early_by first.stores run.base (here.ran.began.in_time (omega arith))
@@ -312,7 +311,7 @@ module _ {L : Type 0} (sent : L → List Sent) (failed : L → ℕ) (run : RunCo
           let came = map (λ gives. gives (suc n)) first.sources in
           let back : suc n - 1 ≡ n = omega arith in
           let went = rw back at (here.ran.done.runs.runs s (suc n) store (omega arith) within) in
-          let kept = law (run.base + suc n) _ _ _ _ _ (omega (arith, here.early)) was.0
+          let kept = keeps_store keep (run.base + suc n) _ _ _ _ _ (omega (arith, here.early)) was.0
           (all_by (step_of input (suc n)) s came) went in
           let each = All-map (λ (ps : List SpacePacket). length ps ≤ 65535) (λ gives. gives (suc n)) first.sources
           (limits.few (suc n) (omega arith) (omega (arith, here.last))) in
@@ -336,7 +335,7 @@ module _ {L : Type 0} (sent : L → List Sent) (failed : L → ℕ) (run : RunCo
             },
           )
 
-      takes_here : TakesAll (recording_at run t now.stores) now.stores now.sources
+      takes_here : TakesAll (recording_in input t now.stores) now.stores now.sources
       takes_here = record {
         moment = omega (arith, begun_early.first, here.is.steps.at_most, here.last);
         stores_are = λ k d inside.
@@ -357,11 +356,11 @@ module _ {L : Type 0} (sent : L → List Sent) (failed : L → ℕ) (run : RunCo
       }
 
     -- the step was broken off
-    pub halted_in : OrdersDumpTheOldest → BrokenOrdersChangeNothing → StepRunsKeepStores → AreHeld first.stores
+    pub halted_in : ReplaysKeepStates → BrokenOrdersChangeNothing → AreHeld first.stores
         → (after : RunState Supply L) (new : Reported) (stop : Stop)
         → IsReportedStep sent failed run places t (Some stop) report new now after
         → IsHaltedIn sent failed input run.plan.now first t after stop new
-    halted_in dump changes law held after new stop stepped =
+    halted_in keep changes held after new stop stepped =
         let e = recording_in input t now.stores in
         let orders = step_orders input t in
         let how = rw (orders_here t) at stepped.step in
@@ -372,11 +371,11 @@ module _ {L : Type 0} (sent : L → List Sent) (failed : L → ℕ) (run : RunCo
           before = now;
           ran = rw stepped.unreported here.ran;
           labels = stopped.labels ∙ here.labels;
-          ready = ready_after sent failed e orders (Some stop) now after dump changes ids_many here.ran.ready how;
+          ready = ready_after sent failed e orders (Some stop) now after changes ids_many here.ran.ready how;
           stopped_is = stopped;
           within = stepped.within;
           how = how;
           failed_link = λ is_link. failed_link sent failed e orders stop now after changes
               (rw (orders_here t) at here.orders.places) is_link how;
-          never_refused = λ limits. never_refused sent failed e orders stop now after how (takes_here law limits held);
+          never_refused = λ limits. never_refused sent failed e orders stop now after how (takes_here keep limits held);
         }

@@ -4,12 +4,14 @@ use Words.{cases_eq, eq-eqb, ne_eqb, map_push, flat_map_more, length-map, get_or
 use Words.{slice_index, slice_index_or, filter, All-unmapped, range_with_len_next, StoreRow, SpacePacket, row, no_row}
 use Words.{stores, Stored, State, opening_at, Offer, Held, labels_of, states_of, id_at, is_routed, counters_of}
 use Words.{RecordingContext, offers, recording, given_in, Supply, Sent, all_sent, Order, Reported, AtEach, IsReady}
-use Words.{AsPlanned, IsRunOf, RunsLoseAsPlanned, RunsLoseNoPacketUncounted, counts_from, rows_of, row_from}
+use Words.{AsPlanned, IsRunOf, ReplaysKeepStates, counts_from, rows_of, row_from, state_by}
 use Words.{rows_by_counters, orders_of, ArePlaces, AreApart, RunInput, step_of, offered, as_came, place_in_memory}
 use Words.{store_state, RunState, IsWholeStep, IsStepRun, AreStepRuns, SourcesGave, LinksSent, StepsDone, sent_in, ◌≡◌}
 use Words.{◌≢◌, inl, inr, ℕ, zero, suc, ◌+◌, ◌-◌, ◌<◌, ◌≤◌, ◌^◌, cond, eqb, List, [], ◌∷◌, ◌++◌, length, map, All, refl}
 use Words.{sym, subst, ap, ◌∙◌, arith, append_assoc}
 use Rattle.mm_dump.specs.Dumped.{times, places_of, AllTook}
+use Rattle.mm_carry.proofs.Stepping.{as_planned}
+use Rattle.mm_carry.proofs.AccountLemmas.{accounted}
 use Rattle.mm_carry.proofs.Counters.{counts_planned, by_counters, came_at, timed_offers}
 use Rattle.mm_carry.proofs.RangeLists.{map_range_same, flat_map_range_same}
 use Rattle.mm_carry.proofs.Ordered.{wanted_is, orders_are}
@@ -94,14 +96,12 @@ module _ {L : Type 0} (sent : L → List Sent) (failed : L → ℕ) (m : RunInpu
     labels_before = ap labels_of done.stores_are ∙ done.runs.labels (t - 1) (omega arith)
 
     -- the state of a store before the step and after it
-    state_before : (s : ℕ) → s < n → opening_at (states_of before.stores) (slice_index places s)
-        ≡ store_state m (stores_after (t - 1)) s
+    state_before : (s : ℕ) → s < n → state_by places before.stores s ≡ store_state m (stores_after (t - 1)) s
     state_before s store =
         ap (λ (j : ℕ). opening_at (states_of before.stores) j) (footing.stand_at s store).is
         ∙ ap (λ (held : List Held). store_state m held s) (sym at_last)
 
-    state_after : (s : ℕ) → s < n → opening_at (states_of after.stores) (slice_index places s)
-        ≡ store_state m (stores_after t) s
+    state_after : (s : ℕ) → s < n → state_by places after.stores s ≡ store_state m (stores_after t) s
     state_after s store =
         ap (λ (j : ℕ). opening_at (states_of after.stores) j) (footing.stand_at s store).is
         ∙ ap (λ (held : List Held). store_state m held s) (sym at_new)
@@ -219,8 +219,7 @@ module _ {L : Type 0} (sent : L → List Sent) (failed : L → ℕ) (m : RunInpu
           no_failure = all.1 ∙ done.links_are.no_failure;
         }
 
-    module _ (law : RunsLoseAsPlanned) (counts : RunsLoseNoPacketUncounted)
-        (within : count ≤ length m.problem.windows) where
+    module _ (keep : ReplaysKeepStates) (within : count ≤ length m.problem.windows) where
       -- what the orders of each store were given, and its states
       abbrev gave_of : ℕ → ℕ → List Stored
       gave_of s u = gave_after (place_in_memory m s) u
@@ -241,7 +240,7 @@ module _ {L : Type 0} (sent : L → List Sent) (failed : L → ℕ) (m : RunInpu
 
       -- the counters of each store rise as the plan says
       planned_at : AtEach n count (λ s u. AsPlanned (as_came m) m.amounts s u (states s (u - 1)) (states s u))
-      planned_at = law (as_came m) m.amounts count (offered m) gave_of states run_of
+      planned_at = as_planned keep (as_came m) m.amounts count (offered m) gave_of states run_of
 
       -- the rows by the counters are those of the plan
       rows_planned : rows_by_counters m stores_after count ≡ rows_of m.problem (as_came m) m.amounts count
@@ -250,18 +249,18 @@ module _ {L : Type 0} (sent : L → List Sent) (failed : L → ℕ) (m : RunInpu
           (planned_at s u (omega arith) first (omega arith))))
 
       -- the rows so far and that of the step are those of the counters
-      rows_counted : report.steps ++ row_from m.problem t places before.stores after.stores n ∷ []
+      rows_counted : report.steps
+          ++ row_from m.problem t (state_by places before.stores) (state_by places after.stores) ∷ []
           ≡ rows_by_counters m stores_after count
       rows_counted =
           let row = λ (before after : List Held) (u : ℕ).
-          map (λ s. counts_from m.problem s u (counters_of (store_state m before s))
-          (counters_of (store_state m after s))) (stores m.problem) in
+          row_from m.problem u (store_state m before) (store_state m after) in
           let now = λ (u : ℕ). row (stores_after (u - 1)) (stores_after u) u in
           let earlier : map now (range_with_len 1 (t - 1)) ≡ rows_by_counters m done.stores (t - 1) =
           map_range_same now (λ u. row (done.stores (u - 1)) (done.stores u) u) 1 (t - 1)
           (λ u from to. let was = at_old (u - 1) (λ same. omega (arith, same)) in let is = at_old u
           (λ same. omega (arith, same)) in λ i. row (was i) (is i) u) in
-          let last : row_from m.problem t places before.stores after.stores n ≡ now t =
+          let last : row_from m.problem t (state_by places before.stores) (state_by places after.stores) ≡ now t =
           map_range_same _ _ 0 n
           (λ s from to. let was = state_before s (omega arith) in let is = state_after s (omega arith) in λ i.
           counts_from m.problem s t (counters_of (was i)) (counters_of (is i))) in
@@ -270,8 +269,10 @@ module _ {L : Type 0} (sent : L → List Sent) (failed : L → ℕ) (m : RunInpu
           ∙ map_push now (range_with_len 1 (t - 1)) t)
 
       -- one step more of a run
-      pub done_on : (new : Reported) → new ≡ record report
-          { steps = report.steps ++ row_from m.problem t places before.stores after.stores n ∷ [] }
+      pub done_on : (new : Reported) → new ≡ record report {
+            steps = report.steps
+                ++ row_from m.problem t (state_by places before.stores) (state_by places after.stores) ∷ [];
+          }
           → StepsDone sent failed m m.gives links count after new
       done_on new is =
           let rows = ap (λ (r : Reported). r.steps) is ∙ rows_counted in
@@ -283,7 +284,7 @@ module _ {L : Type 0} (sent : L → List Sent) (failed : L → ℕ) (m : RunInpu
             stores_are = sym at_count;
             sources_are = given_on;
             links_are = sent_on;
-            accounted = counts (as_came m) m.amounts count (offered m) gave_of states run_of;
+            accounted = accounted keep (as_came m) m.amounts count (offered m) gave_of states run_of;
             shared = shared m count;
             report_is = is ∙ (λ i. record {
               ids = ap (λ (r : Reported). r.ids) was i;

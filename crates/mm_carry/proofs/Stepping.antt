@@ -1,15 +1,15 @@
 -- What step runs do to the stores, step by step, and what the stores lose over all steps.
 use Rattle.mm_carry.proofs.Words.{cases_lt, All-weaker, sum_by, range_with_len, All-back, sum_by_range_more}
-use Rattle.mm_carry.proofs.Words.{sum_by_range_same, sum_by-add, Dumping, size, arrivals, stores, left_step, left_start}
-use Rattle.mm_carry.proofs.Words.{Amounts, left, written, lost, store_loss, loss, IsRising, Stored, count_of_shuffle}
-use Rattle.mm_carry.proofs.Words.{HasTimes, ReplaysKeepStates, OffersLeave, OrdersDumpTheOldest, State, IsState, Leaves}
-use Rattle.mm_carry.proofs.Words.{count_of, IsLegal, IsRun, replay, Entry, Event, AtEach, AsPlanned, IsRunOf}
-use Rattle.mm_carry.proofs.Words.{StepRunsKeepStores, IsDumpOf, IsStepRun, AreTimed, IsBy, AreBy, ◌≡◌, inl, inr, ℕ}
-use Rattle.mm_carry.proofs.Words.{zero, suc, ◌+◌, ◌-◌, ◌<◌, ◌≤◌, ◌^◌, min, List, [], ◌∷◌, ◌++◌, length, All, refl, sym}
-use Rattle.mm_carry.proofs.Words.{ap, subst, ◌∙◌, arith, length-append, add-one, shuffled}
+use Rattle.mm_carry.proofs.Words.{sum_by_range_same, sum_by-add, Dumping, size, stores, left_step, left_start, Amounts}
+use Rattle.mm_carry.proofs.Words.{left, written, lost, store_loss, loss, IsRising, Stored, count_of_shuffle, HasTimes}
+use Rattle.mm_carry.proofs.Words.{ReplaysKeepStates, State, IsState, Leaves, offers_leave, order_dumps, count_of, IsRun}
+use Rattle.mm_carry.proofs.Words.{replay, Entry, Event, AtEach, AsPlanned, IsRunOf, StepRunsKeepStores, IsDumpOf}
+use Rattle.mm_carry.proofs.Words.{IsStepRun, AreTimed, IsBy, AreBy, ◌≡◌, inl, inr, ℕ, zero, suc, ◌+◌, ◌-◌, ◌<◌, ◌≤◌}
+use Rattle.mm_carry.proofs.Words.{◌^◌, min, List, [], ◌∷◌, ◌++◌, length, All, refl, sym, ap, subst, ◌∙◌, arith}
+use Rattle.mm_carry.proofs.Words.{length-append, add-one, shuffled}
 use Rattle.mm_store.proofs.ContentLemmas.{IsRising-rest}
 use Rattle.mm_desk.specs.Orders.{Dumps}
-use Rattle.mm_carry.proofs.Replays.{IsLegal-parts, replay-append, by_offer, run_moves}
+use Rattle.mm_carry.proofs.Replays.{IsRun-parts, by_offer, run_moves}
 
 -- times rise in the back of a list in which they rise
 rising_back : (gave rest : List Stored) → IsRising (gave ++ rest) → IsRising rest
@@ -68,38 +68,40 @@ record StepLeaves (s t : State) (n wanted : ℕ) : Type 0 where
   retrieval : t.retrieval ≡ s.retrieval
   storage : t.storage ≡ s.storage
 
-module _ (leave : OffersLeave) (keep : ReplaysKeepStates) (dump : OrdersDumpTheOldest) where
-  -- what a dump does
-  dumped : (mid t : State) (wanted : ℕ) (gave : List Stored) (calls : List Entry) → IsState mid → IsDumpOf wanted gave
-      calls → IsRun mid calls t → Dumps mid t wanted gave
-  dumped mid t wanted gave calls sound is run = elim (cases_lt 0 wanted) [
-    | inl some ↦ let order = is.whole (omega arith) in dump mid t order.0 wanted gave calls sound order.1 run
-    | inr none ↦
-        let nothing = is.none (omega arith) in
-        none_dumped mid t wanted gave (omega arith) nothing.0 (run.leaves ∙ ap (replay mid) nothing.1)
-  ]
+-- what a dump does
+dumped : (mid t : State) (wanted : ℕ) (gave : List Stored) (calls : List Entry) → IsState mid
+    → IsDumpOf wanted gave calls → IsRun mid calls t → Dumps mid t wanted gave
+dumped mid t wanted gave calls sound is run = elim (cases_lt 0 wanted) [
+  | inl some ↦ let order = is.whole (omega arith) in order_dumps mid t order.0 wanted gave calls sound order.1 run
+  | inr none ↦
+      let nothing = is.none (omega arith) in
+      none_dumped mid t wanted gave (omega arith) nothing.0 (run.leaves ∙ ap (replay mid) nothing.1)
+]
 
+-- where a log of events whose times fit leaves a state
+module _ (keep : ReplaysKeepStates) where
   -- the two halves of a step run: what its offers leave, and what its dump does
   pub record Halves (offers : List (List Event)) (wanted : ℕ) (gave : List Stored) (s t : State)
-      (recorded : List Entry) : Type 0 where
-    pub legal : IsLegal s recorded
-    pub stood : IsState (replay s recorded)
-    pub came : Leaves s (replay s recorded) (count_of offers)
-    pub dumps : Dumps (replay s recorded) t wanted gave
+      (is : IsStepRun offers wanted gave s t) : Type 0 where
+    pub recording : IsRun s is.recorded (replay s is.recorded)
+    pub stood : IsState (replay s is.recorded)
+    pub came : Leaves s (replay s is.recorded) (count_of offers)
+    pub dumping : IsRun (replay s is.recorded) is.dumped t
+    pub dumps : Dumps (replay s is.recorded) t wanted gave
 
   pub halves : (s t : State) (offers : List (List Event)) (wanted : ℕ) (gave : List Stored) → IsState s
-      → AreTimed offers → (is : IsStepRun offers wanted gave s t) → Halves offers wanted gave s t is.recorded
+      → AreTimed offers → (is : IsStepRun offers wanted gave s t) → Halves offers wanted gave s t is
   halves s t offers wanted gave sound timed is =
       let mid = replay s is.recorded in
-      let legal = IsLegal-parts s is.recorded is.dumped is.run.legal in
+      let parts = IsRun-parts s t is.recorded is.dumped is.run in
       let stood : IsState mid = keep s is.recorded sound (shuffled HasTimes offers is.recorded is.shuffle timed) in
       record {
-        legal = legal.0;
+        recording = parts.0;
         stood = stood;
-        came = leave s mid offers is.recorded sound.store.within sound.store.has_room
-            (record { legal = legal.0; leaves = refl }) is.shuffle is.taken;
-        dumps = dumped mid t wanted gave is.dumped stood is.dump
-            (record { legal = legal.1; leaves = is.run.leaves ∙ replay-append s is.recorded is.dumped });
+        came = offers_leave s mid offers is.recorded sound.store.within sound.store.has_room parts.0 is.shuffle
+            is.taken;
+        dumping = parts.1;
+        dumps = dumped mid t wanted gave is.dumped stood is.dump parts.1;
       }
 
   -- a step run
@@ -126,10 +128,9 @@ module _ (leave : OffersLeave) (keep : ReplaysKeepStates) (dump : OrdersDumpTheO
   keeps_store now s t offers wanted gave fits sound by is =
       let timed = timed_by now offers fits by in
       let leaves = run_leaves s t offers wanted gave sound timed is in
-      let same = ap (λ (u : State). u.store.last) (halves s t offers wanted gave sound timed is).dumps.others in
-      let legal = (halves s t offers wanted gave sound timed is).legal in
-      let moved = (run_moves now offers is.recorded s (replay s is.recorded) (record { legal = legal; leaves = refl })
-      is.shuffle by).last in
+      let parts = halves s t offers wanted gave sound timed is in
+      let same = ap (λ (u : State). u.store.last) parts.dumps.others in
+      let moved = (run_moves now offers is.recorded s (replay s is.recorded) parts.recording is.shuffle by).last in
       let many = count_of_shuffle offers is.recorded is.shuffle in
       record {
         sound = leaves.sound;
@@ -145,34 +146,27 @@ module _ (leave : OffersLeave) (keep : ReplaysKeepStates) (dump : OrdersDumpTheO
     pub sized : state.store.size ≡ size q s
     pub holds : length state.store.content ≡ left q x s t
 
-  -- one step more
-  stands_more : (q : Dumping) (x : Amounts) (s t : ℕ) (before after : State) (n : ℕ) → 1 ≤ t → Stands q x s (t - 1)
-      before → arrivals q s t ≡ n
-      → StepLeaves before after n (x s t) → Stands q x s t after × AsPlanned q x s t before after
-  stands_more q x s t before after n first stood came leaves =
-      let next : left q x s t ≡ written q x s t - min (x s t) (written q x s t) =
-      left_step q x s (t - 1) t (omega arith) in
-      let holds : length after.store.content ≡ left q x s t =
-      omega (arith, next, stood.holds, stood.sized, came, leaves.holds) in (
-        record { sound = leaves.sound; sized = leaves.sized ∙ stood.sized; holds = holds },
-        record {
-          takes = leaves.takes ∙ ap (λ (m : ℕ). before.offered + m) (sym came);
-          holds = holds;
-          loses = omega (arith, stood.holds, stood.sized, came, leaves.loses);
-          dumps = omega (arith, next, stood.holds, stood.sized, came, leaves.dumps);
-        },
-      )
-
   module _ (q : Dumping) (x : Amounts) (steps : ℕ) (offers : ℕ → ℕ → List (List Event)) (gave : ℕ → ℕ → List Stored)
       (states : ℕ → ℕ → State) (is : IsRunOf q x steps offers gave states) where
     -- one step of a run
     step_of : (s t : ℕ) → s < length q.rows → 1 ≤ t → t ≤ steps → Stands q x s (t - 1) (states s (t - 1))
         → Stands q x s t (states s t) × AsPlanned q x s t (states s (t - 1)) (states s t)
     step_of s t store first last stood =
-        stands_more q x s t (states s (t - 1)) (states s t) (count_of (offers s t)) first stood
-        (is.came s t store first last)
-        (run_leaves (states s (t - 1)) (states s t) (offers s t) (x s t) (gave s t) stood.sound
-        (is.timed s t store first last) (is.runs s t store first last))
+        let leaves = run_leaves _ _ (offers s t) (x s t) (gave s t) stood.sound (is.timed s t store first last)
+        (is.runs s t store first last) in
+        let came = is.came s t store first last in
+        let next : left q x s t ≡ written q x s t - min (x s t) (written q x s t) =
+        left_step q x s (t - 1) t (omega arith) in
+        let holds : length (states s t).store.content ≡ left q x s t =
+        omega (arith, next, stood.holds, stood.sized, came, leaves.holds) in (
+          record { sound = leaves.sound; sized = leaves.sized ∙ stood.sized; holds = holds },
+          record {
+            takes = leaves.takes ∙ ap (λ (m : ℕ). (states s (t - 1)).offered + m) (sym came);
+            holds = holds;
+            loses = omega (arith, stood.holds, stood.sized, came, leaves.loses);
+            dumps = omega (arith, next, stood.holds, stood.sized, came, leaves.dumps);
+          },
+        )
 
     -- all steps
     pub stands : (s n : ℕ) → s < length q.rows → n ≤ steps → Stands q x s n (states s n)

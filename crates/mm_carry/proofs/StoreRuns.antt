@@ -1,20 +1,19 @@
 -- What a run did with each store, whole or halted, and what runs that follow one another send.
-use Rattle.std.proofs.lemmas.List.{get_or-append-add}
 use Rattle.std.proofs.lemmas.List.Elements.{All-append, All-contains_itself, Contains-append_cases}
 use Rattle.std.proofs.lemmas.List.Elements.{Contains-append_left, Contains-append_right}
 use Rattle.mm_carry.proofs.Words
-use Words.{cases_lt, All-nil, All-weaker, append-nil, get_or_append_left, length-map, find_at, slice_get, Option, Some}
-use Words.{None, IsRising, OrdersDumpTheOldest, BrokenOrdersChangeNothing, given_oldest, Stored, State, IsState, Held}
-use Words.{has_id, labels_of, states_of, opening_at, asked, Event, Sent, row, IsLegal, Course, EndedAs, OrderBroken}
-use Words.{HasTried, MayBegin, meets, RunInput, Table, place_in_memory, store_state, recording_in, step_orders}
-use Words.{RunState, IsStep, IsHaltedIn, Stop, Supply, Reported, ◌≡◌, ◌⊎◌, inl, inr, ℕ, ◌+◌, ◌-◌, ◌<◌, List, [], ◌∷◌}
-use Words.{◌++◌, length, map, true, refl, sym, ap, subst, ◌∙◌, arith, append_assoc, length-append, All, Contains}
-use Words.{HasLegalOffers, run_start_of, slice_get_within, aborted, over_steps, HaveLeft, GiveLater}
+use Words.{cases_lt, All-nil, All-weaker, append-nil, length-map, find_at, slice_get, Option, Some, None, IsRising}
+use Words.{BrokenOrdersChangeNothing, given_oldest, Stored, State, IsState, Held, has_id, labels_of, states_of}
+use Words.{opening_at, asked, Event, Sent, row, IsLegal, Course, EndedAs, OrderBroken, HasTried, MayBegin, meets}
+use Words.{RunInput, Table, place_in_memory, store_state, recording_in, step_orders, RunState, IsStep, IsHaltedIn, Stop}
+use Words.{Supply, Reported, ◌≡◌, ◌⊎◌, inl, inr, ℕ, ◌+◌, ◌-◌, ◌<◌, List, [], ◌∷◌, ◌++◌, length, map, true, refl, sym}
+use Words.{ap, subst, ◌∙◌, arith, append_assoc, All, Contains, HasLegalOffers, run_start_of, slice_get_within, aborted}
+use Words.{over_steps, HaveLeft}
 use Rattle.mm_desk.specs.Fates.{given, after, over}
 use Rattle.mm_carry.specs.declared.requirement.Requirement.TheVariants.{Size}
 use Rattle.mm_carry.specs.Following.{StoreRun, IsStoreRun, AreFollowing, all_of, whole_of, broken_of, RunsSendOnce}
 use Rattle.mm_carry.specs.Following.{where_whole, where_broken, store_run, StepsAreStoreRuns}
-use Rattle.mm_carry.proofs.DumpLemmas.{replayed, none_left, rising_front, order_does, broken_gives, after-append}
+use Rattle.mm_carry.proofs.DumpLemmas.{replayed, none_left, rising_front, order_does, broken_gives, apart, after-append}
 use Rattle.mm_carry.proofs.DumpLemmas.{done_later, rising_more, left_more}
 use Rattle.mm_carry.proofs.Parts.{as_many}
 use Rattle.mm_carry.proofs.StoresReady.{state_holds}
@@ -36,7 +35,7 @@ whole_run s t es gave leads gone = record {
   oldest = refl;
 }
 
-module _ (later : GiveLater) (s : State) (sound : IsState s) where
+module _ (s : State) (sound : IsState s) where
   -- events and then a run are a run, which sent what had left the store by the events too
   run_after : (es : List Event) (past : List Stored) → HaveLeft s es past → (between : List Event) (r : StoreRun)
       → r.before ≡ after (after s es) between → IsStoreRun r → IsStoreRun (from_to s r.left (past ++ r.gave) r.broke)
@@ -44,16 +43,16 @@ module _ (later : GiveLater) (s : State) (sound : IsState s) where
       let idle = es ++ between in
       let found : r.before ≡ after s idle = is ∙ sym (after-append s es between) in
       let kept = subst (HaveLeft s idle) (append-nil past)
-      (left_more later s es between past [] sound gone (none_left (after s es) between)) in
+      (left_more s es between past [] sound gone (none_left (after s es) between)) in
       let left = subst (λ (u : State). HaveLeft u run.events r.gave) found run.gone in
       let given_are = subst (λ (u : State). All (Contains (over given u run.events)) r.broke) found run.given_are in
       record {
         events = idle ++ run.events;
         leads = run.leads ∙ ap (λ (u : State). after u run.events) found ∙ sym (after-append s idle run.events);
-        gone = left_more later s idle run.events past r.gave sound kept left;
+        gone = left_more s idle run.events past r.gave sound kept left;
         given_are = done_later given s idle run.events r.broke given_are;
         rising = subst IsRising (sym (append_assoc past r.gave r.broke))
-            (rising_more later s idle run.events past (r.gave ++ r.broke) sound kept
+            (rising_more s idle run.events past (r.gave ++ r.broke) sound kept
             (All-append (Contains (over given (after s idle) run.events)) r.gave r.broke left.given_are given_are)
             run.rising);
         newer = run.newer;
@@ -81,14 +80,6 @@ module _ (later : GiveLater) (s : State) (sound : IsState s) where
       (run_rising more.events (past ++ e.gave) more.gone early late r
       (subst (λ (u : State). AreFollowing u (early ++ r ∷ late)) more.leads follow.3))
 
--- where times rise, no packet stands in two lists after one another
-apart : (xs ys : List Stored) (p : Stored) → IsRising (xs ++ ys) → Contains xs p → Contains ys p → ⊥
-apart xs ys p rising one two =
-    let first = get_or_append_left xs ys p one.0 one.1 ∙ one.2 in
-    let second = get_or-append-add xs ys two.0 p ∙ two.2 in
-    let less = rising one.0 (length xs + two.0) p (omega (arith, one.1)) (omega (arith, two.1, length-append xs ys)) in
-    omega (arith, less, ap (λ (q : Stored). q.time) first, ap (λ (q : Stored). q.time) second)
-
 -- what runs sent, a whole order or a broken one sent
 by_order : (runs : List StoreRun) (p : Stored) → Contains (all_of runs) p
     → Contains (whole_of runs) p ⊎ Contains (broken_of runs) p
@@ -105,9 +96,9 @@ by_order (r ∷ rs) p at = elim (Contains-append_cases (r.gave ++ r.broke) (all_
 ]
 
 -- the law of runs that follow one another
-pub send_once : GiveLater → RunsSendOnce
-send_once later s runs sound follow = record {
-  whole = all_rising later s sound [] [] (none_left s []) runs follow;
+pub send_once : RunsSendOnce
+send_once s runs sound follow = record {
+  whole = all_rising s sound [] [] (none_left s []) runs follow;
   later = rising;
   again = λ early late r are p now before. elim (by_order early p before) [
     | inl twice ↦ absurd (apart (whole_of early) (r.gave ++ r.broke) p
@@ -119,7 +110,7 @@ send_once later s runs sound follow = record {
     rising : (early late : List StoreRun) (r : StoreRun) → runs ≡ early ++ r ∷ late
         → IsRising (whole_of early ++ r.gave ++ r.broke)
     rising early late r are =
-        run_rising later s sound [] [] (none_left s []) early late r (subst (AreFollowing s) are follow)
+        run_rising s sound [] [] (none_left s []) early late r (subst (AreFollowing s) are follow)
 
 -- the store of a problem is in the memory, where the tests before a run passed
 stands_there : {S L : Type 0} (m : RunInput) (plan : Table) (first : RunState S L)
@@ -141,8 +132,8 @@ stands_there m plan first began s store =
     by_store None is shown = absurd (cc shown)
 
 -- what the order of a step did with its store
-module _ (dump : OrdersDumpTheOldest) (changes : BrokenOrdersChangeNothing) (taken : ℕ) (c : Course) (mid t : State)
-    (sound : IsState mid) (tried : HasTried taken c mid t) where
+module _ (changes : BrokenOrdersChangeNothing) (taken : ℕ) (c : Course) (mid t : State) (sound : IsState mid)
+    (tried : HasTried taken c mid t) where
   leads_on : t ≡ after mid (asked c.calls)
   leads_on = tried.run.leaves ∙ sym (replayed mid c.calls)
 
@@ -150,10 +141,8 @@ module _ (dump : OrdersDumpTheOldest) (changes : BrokenOrdersChangeNothing) (tak
   ended_so : (why : Option OrderBroken) → EndedAs why c
       → IsStoreRun (from_to mid t (where_whole why c.sent) (where_broken why c.sent))
   ended_so None whole =
-      let oldest = (dump mid t c.seat c.order.amount c.sent c.calls sound whole.order tried.run).oldest in
       whole_run mid t (asked c.calls) c.sent leads_on
-      (order_does mid c.seat c.order.amount c.sent t.store.content c.calls
-      (subst IsRising oldest sound.store.rising) oldest whole.order tried.run.legal).gone
+      (order_does mid t c.seat c.order.amount c.sent c.calls sound whole.order tried.run).gone
   ended_so (Some why) broken =
       let gave = c.sent ++ c.unsent in
       let same = (changes mid t c.seat c.order.amount gave c.calls broken.order tried.run).0 in
@@ -200,9 +189,9 @@ module _ {L : Type 0} (sent : L → List Sent) (failed : L → ℕ) where
       (subst (λ (u : State). HaveLeft u es gave) begun account.history.gone)
 
   -- and the step that was halted
-  module _ (later : GiveLater) (dump : OrdersDumpTheOldest) (changes : BrokenOrdersChangeNothing) (m : RunInput)
-      (plan : Table) (first : RunState Supply L) (step : ℕ) (left : RunState Supply L) (stop : Stop)
-      (report : Reported) (halted : IsHaltedIn sent failed m plan first step left stop report) (s : ℕ)
+  module _ (changes : BrokenOrdersChangeNothing) (m : RunInput) (plan : Table) (first : RunState Supply L) (step : ℕ)
+      (left : RunState Supply L) (stop : Stop) (report : Reported)
+      (halted : IsHaltedIn sent failed m plan first step left stop report) (s : ℕ)
       (store : s < length m.problem.rows) (sound : IsState (store_state m m.memory.stores s)) where
     abbrev k : ℕ
     k = place_in_memory m s
@@ -250,11 +239,11 @@ module _ {L : Type 0} (sent : L → List Sent) (failed : L → ℕ) where
 
     order : IsStoreRun (from_to (opening_at (states_of is.mid) k) (opening_at (states_of left.stores) k)
         (where_whole c.why c.sent) (where_broken c.why c.sent))
-    order = ordered dump changes _ c _ _ (state_holds IsState is.mid is.records.sound k there)
+    order = ordered changes _ c _ _ (state_holds IsState is.mid is.records.sound k there)
         (is.dumps.settled.stores k (omega (arith, after_it, length-map left.stores (λ (h : Held). h.state))))
 
     pub halted_is : IsStoreRun
         (store_run m s left.stores (gave ++ where_whole c.why c.sent) (where_broken c.why c.sent))
     halted_is =
-        run_after later begun sound whole.events gave whole.gone (asked went.log) _
+        run_after begun sound whole.events gave whole.gone (asked went.log) _
         (went.run.leaves ∙ sym (replayed _ went.log) ∙ ap (λ (u : State). after u (asked went.log)) whole.leads) order

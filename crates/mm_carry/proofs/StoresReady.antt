@@ -1,9 +1,9 @@
 -- Stores that are ready, and counts that are far from their end, from step to step.
 use Rattle.mm_carry.proofs.Words
 use Words.{cases_lt, length-map, All-nil, All-cons, All-map, sum_by-le, AllZip, IsTrue, Option, Some, None, filter}
-use Words.{All-front, sum_by-map, SpacePacket, OrdersDumpTheOldest, State, IsState, count_of, opening_at, replay, Event}
-use Words.{Offer, Held, labels_of, states_of, id_at, is_routed, filter_fewer, RecordingContext, offers, given_in}
-use Words.{Supply, Course, EndedAs, HasTried, MayDump, BrokenOrdersChangeNothing, Sent, Order, OrderBroken}
+use Words.{All-front, sum_by-map, SpacePacket, order_dumps, BrokenOrdersChangeNothing, State, IsState, count_of}
+use Words.{opening_at, replay, Event, Offer, Held, labels_of, states_of, id_at, is_routed, filter_fewer}
+use Words.{RecordingContext, offers, given_in, Supply, Course, EndedAs, HasTried, MayDump, Sent, Order, OrderBroken}
 use Words.{AreFirstOffers, Fault, RunState, AreReady, MayCarry, IsStep, orders_after, Stop, IsBy, AreBy, ◌≡◌, inl, inr}
 use Words.{ℕ, ◌*◌, ◌<◌, ◌≤◌, List, [], ◌∷◌, ◌++◌, length, map, get_or, All, refl, sym, ap, subst, ◌∙◌, arith, Records}
 use Rattle.mm_shared.proofs.Opening.{state_at}
@@ -56,9 +56,9 @@ firsts_by e k (g ∷ gs) (f ∷ fs) are =
 firsts_by e k given firsts are = absurd are
 
 -- an order leaves the switches
-tried_keeps : OrdersDumpTheOldest → BrokenOrdersChangeNothing → (s t : State) (taken : ℕ) (c : Course)
-    → IsState s → HasTried taken c s t → KeepsSwitches s t
-tried_keeps dump changes s t taken c sound tried = elim (cases_lt 0 taken) [
+tried_keeps : BrokenOrdersChangeNothing → (s t : State) (taken : ℕ) (c : Course) → IsState s → HasTried taken c s t
+    → KeepsSwitches s t
+tried_keeps changes s t taken c sound tried = elim (cases_lt 0 taken) [
   | inl some ↦ by_why c.why (tried.some some)
   | inr none ↦ alike (tried.run.leaves ∙ ap (replay s) (tried.none (omega arith)).0)
 ]
@@ -67,7 +67,7 @@ tried_keeps dump changes s t taken c sound tried = elim (cases_lt 0 taken) [
     alike same = rw same (record { storage = refl; retrieval = refl })
 
     by_why : (why : Option OrderBroken) → EndedAs why c → KeepsSwitches s t
-    by_why None whole = rw (dump s t c.seat c.order.amount c.sent c.calls sound whole.order tried.run).others
+    by_why None whole = rw (order_dumps s t c.seat c.order.amount c.sent c.calls sound whole.order tried.run).others
         (record { storage = refl; retrieval = refl })
     by_why (Some why) broke = alike (changes s t c.seat c.order.amount (c.sent ++ c.unsent) c.calls broke.order
         tried.run).0
@@ -87,17 +87,17 @@ ready_recorded e before mid fault given left ids ready records =
 
 -- stores of a step are ready for more, whether it is whole or was broken off
 pub ready_after : {L : Type 0} (sent : L → List Sent) (failed : L → ℕ) (e : RecordingContext) (orders : List Order)
-    (stop : Option Stop) (before after : RunState Supply L) → OrdersDumpTheOldest → BrokenOrdersChangeNothing
+    (stop : Option Stop) (before after : RunState Supply L) → BrokenOrdersChangeNothing
     → length e.ids ≡ length before.stores → AreReady before.stores
     → IsStep sent failed e orders stop before after → AreReady after.stores
-ready_after sent failed e orders stop before after dump changes ids ready is =
+ready_after sent failed e orders stop before after changes ids ready is =
     let ready_mid = ready_recorded e before.stores is.mid is.fault before.sources after.sources ids ready is.records in
     let labels = is.labels ∙ sym is.records.labels in
     let many = as_many after.stores is.mid labels in
     let counted = length-map after.stores (λ (h : Held). h.state) in
     ready_on is.mid after.stores labels is.sound
     (λ k within.
-    tried_keeps dump changes _ _ _ (is.dumps.settled.course k) (state_holds IsState is.mid ready_mid.sound k
+    tried_keeps changes _ _ _ (is.dumps.settled.course k) (state_holds IsState is.mid ready_mid.sound k
     (omega (arith, within, counted, many)))
     (is.dumps.settled.stores k within)) ready_mid
 

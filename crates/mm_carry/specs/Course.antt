@@ -1,7 +1,7 @@
 -- The steps of a run, one after another.
 use Rattle.std.specs.Prelude.{◌≡◌, ℕ, ◌+◌, ◌-◌, ◌<◌, ◌≤◌, ◌^◌, List, [], ◌∷◌, ◌++◌, length, map, All, vec_capacity}
 use Rattle.std.specs.Prelude.{Option, IfNone, IfSome}
-use Rattle.mm_carry.specs.Words.{MAX_STORES, window, amount, HasShape, IsState, Held, AreHeld, RecordingContext}
+use Rattle.mm_carry.specs.Words.{MAX_STORES, window, amount, HasShape, IsState, Held, AreHeld}
 use Rattle.mm_carry.specs.Words.{recording, AreFew, Supply, amount_of, Sent, Order, Reported}
 use Rattle.mm_shared.specs.declared.counters.StoreCounters.{StoreCounters}
 use Rattle.mm_carry.specs.Readiness.{run_start, MayBegin}
@@ -11,7 +11,7 @@ use Rattle.mm_carry.specs.declared.room.RunBuffers.{RunBuffers}
 use Rattle.mm_carry.specs.declared.step.Stop.{Stop}
 use Rattle.mm_carry.specs.RunInput.{RunInput, run_input}
 use Rattle.mm_carry.specs.RunState.{RunState}
-use Rattle.mm_carry.specs.Numbers.{row_from, orders_of, AreCounters}
+use Rattle.mm_carry.specs.Numbers.{row_from, state_by, orders_of, AreCounters}
 use Rattle.mm_carry.specs.Step.{MayCarry, IsStep}
 
 -- what a run is given that begins with these stores, sources and links
@@ -19,10 +19,6 @@ abbrev pub given_to : {L : Type 0} → RunContext → RunState Supply L → RunI
 given_to run first =
     run_input run.problem.now run.plan.now run.base (record { stores = first.stores; routes = run.control.now })
     first.sources
-
--- what the recorders of a step share, over these stores
-abbrev pub recording_at : RunContext → ℕ → List Held → RecordingContext
-recording_at run step stores = recording step (run.base + step) run.control.now stores
 
 -- the orders of a step, for stores of the problem that stand at these places
 abbrev pub orders_at : RunContext → List ℕ → ℕ → List Order
@@ -48,12 +44,13 @@ pub record MayReport {S L : Type 0} (failed : L → ℕ) (run : RunContext) (pla
 -- the report is as it was
 pub record IsReportedStep {L : Type 0} (sent : L → List Sent) (failed : L → ℕ) (run : RunContext) (places : List ℕ)
     (t : ℕ) (stop : Option Stop) (report new : Reported) (before after : RunState Supply L) : Type 0 where
-  pub step : IsStep sent failed (recording_at run t before.stores) (orders_at run places t) stop before after
+  pub step : IsStep sent failed (recording t (run.base + t) run.control.now before.stores) (orders_at run places t) stop
+      before after
   pub within : IfSome stop (λ s. s.spent ≤ window run.problem.now t)
   pub unreported : IfSome stop (λ _. new ≡ report)
   pub row : IfNone stop (new ≡ record report {
     steps = report.steps
-        ++ row_from run.problem.now t places before.stores after.stores (length run.problem.now.rows) ∷ [];
+        ++ row_from run.problem.now t (state_by places before.stores) (state_by places after.stores) ∷ [];
   })
 
 -- all steps of a run may be carried out: its tests have passed, its stores are those of a memory and sound, each link

@@ -43,29 +43,28 @@ counts_from q s t before after = record {
   held = after.held;
 }
 
+-- the state of a store of the problem, where the stores of the problem stand at these places
+abbrev pub state_by : List ℕ → List Held → ℕ → State
+state_by places stores s = opening_at (states_of stores) (slice_index places s)
+
 -- the counters of the stores at these places
 abbrev pub AreCounters : List Held → List ℕ → ℕ → List StoreCounters → Type 0
-AreCounters stores places n counters = (s : ℕ) (d : StoreCounters) → s < n → slice_index_or counters s d
-    ≡ counters_of (opening_at (states_of stores) (slice_index places s))
+AreCounters stores places n counters =
+    (s : ℕ) (d : StoreCounters) → s < n → slice_index_or counters s d ≡ counters_of (state_by places stores s)
 
 -- what a step brings to the first stores of the problem, which have these counters before it and after it
 abbrev pub AreStepCounts : Dumping → ℕ → List StoreCounters → List StoreCounters → ℕ → List StepCounts → Type 0
 AreStepCounts q t before after n counts = (s : ℕ) (d : StepCounts) (b a : StoreCounters) → s < n
     → slice_index_or counts s d ≡ counts_from q s t (slice_index_or before s b) (slice_index_or after s a)
 
--- what a step brings to the first stores of the problem, which stand at these places, from these stores to those
-abbrev pub row_from : Dumping → ℕ → List ℕ → List Held → List Held → ℕ → List StepCounts
-row_from q t places before after n =
-    map (λ s. counts_from q s t (counters_of (opening_at (states_of before) (slice_index places s)))
-    (counters_of (opening_at (states_of after) (slice_index places s))))
-    (range_with_len 0 n)
+-- what a step brings to each store of the problem, from these states to those
+abbrev pub row_from : Dumping → ℕ → (ℕ → State) → (ℕ → State) → List StepCounts
+row_from q t before after = map (λ s. counts_from q s t (counters_of (before s)) (counters_of (after s))) (stores q)
 
 -- the rows of the first steps, each by its stores' counters before the step and after it
 abbrev pub rows_by_counters : RunInput → (ℕ → List Held) → ℕ → List (List StepCounts)
 rows_by_counters m held steps =
-    map (λ t. map (λ s. counts_from m.problem s t (counters_of (store_state m (held (t - 1)) s))
-    (counters_of (store_state m (held t) s))) (stores m.problem))
-    (range_with_len 1 steps)
+    map (λ t. row_from m.problem t (store_state m (held (t - 1))) (store_state m (held t))) (range_with_len 1 steps)
 
 -- the orders of a step, for stores at these places: one where packets are to leave, in the problem's order
 abbrev pub orders_of : Amounts → List ℕ → ℕ → ℕ → List Order

@@ -8,7 +8,6 @@ ghost use Rattle.mm_carry.specs.Places.{AreAllPlaces};
 ghost use Rattle.mm_carry.specs.Course.{given_to, MayReport, IsReportedStep, MayRun};
 ghost use Rattle.mm_carry.specs.Ending.{HasEnded};
 
-use crate::laws::{runs_lose_as_planned, runs_lose_no_packet_uncounted, step_runs_keep_stores};
 use crate::open_run::OpenRun;
 use crate::orders::list_orders;
 use crate::room::RunBuffers;
@@ -16,7 +15,7 @@ use crate::step::Stop;
 use crate::step_counts::{all_counters, step_counts};
 use mm_base::MAX_STORES;
 use mm_control::ControlTable;
-use mm_desk::laws::orders_dump_the_oldest;
+use mm_desk::laws::events_keep_a_state;
 use mm_dump::Link;
 use mm_dump::laws::broken_orders_change_nothing;
 use mm_plan::Plan;
@@ -90,10 +89,7 @@ impl<S: AnySource + Send + Drop, L: Link + Send + Drop> OpenRun<S, L> {
         ensures labels { labels_of self.new.stores ≡ labels_of self.old.stores }
     {
         broken_orders_change_nothing();
-        orders_dump_the_oldest();
-        runs_lose_as_planned();
-        runs_lose_no_packet_uncounted();
-        step_runs_keep_stores();
+        events_keep_a_state();
         sources_may_stay::<S>();
         let places = &all[..run.problem.stores()];
         let mut counters = all_counters(places, &mut self.stores);

@@ -6,10 +6,7 @@ ghost use Rattle.mm_carry.specs.Halts.{BrokenStepsAreLogs, StepsWithoutStopAreWh
 ghost use Rattle.mm_carry.specs.Following.{RunsSendOnce, StepsAreStoreRuns, HaltedRunsAreStoreRuns};
 ghost use Rattle.mm_carry.specs.declared.readiness.TheConstants.{MAX_LINKS};
 
-use mm_desk::laws::{
-    any_order_loses_alike, events_conserve_packets, events_keep_a_state, orders_dump_the_oldest,
-    stores_lose_new_or_oldest,
-};
+use mm_desk::laws::events_keep_a_state;
 use mm_dump::Link;
 use mm_dump::laws::broken_orders_change_nothing;
 
@@ -25,9 +22,7 @@ pub fn runs_lose_as_planned()
     ensures each { RunsLoseAsPlanned }
     ensures total { RunsLoseThePlansLoss }
 {
-    any_order_loses_alike();
     events_keep_a_state();
-    orders_dump_the_oldest();
 }
 
 /// In step runs of whole orders no packet is lost uncounted, none is invented and none is given twice: of each store,
@@ -37,11 +32,7 @@ pub fn runs_lose_as_planned()
 pub fn runs_lose_no_packet_uncounted()
     ensures law { RunsLoseNoPacketUncounted }
 {
-    any_order_loses_alike();
-    events_conserve_packets();
     events_keep_a_state();
-    orders_dump_the_oldest();
-    stores_lose_new_or_oldest();
 }
 
 /// Offers that a store takes, in any order that keeps each recorder's own, and then a dump make a step run.
@@ -54,9 +45,7 @@ pub fn halves_make_step_runs()
 pub fn step_runs_keep_stores()
     ensures law { StepRunsKeepStores }
 {
-    any_order_loses_alike();
     events_keep_a_state();
-    orders_dump_the_oldest();
 }
 
 /// In each whole step of a run no more was sent than the window, and of each channel no more than its limit.
@@ -89,9 +78,7 @@ pub fn steps_without_stop_are_whole<L: Link>()
 #[tactic(auto, using(crate::proofs::StoreRuns::send_once))]
 pub fn whole_orders_send_once()
     ensures law { RunsSendOnce }
-{
-    stores_lose_new_or_oldest();
-}
+{}
 
 /// What a run did with a store is such a run: what its whole orders sent has left the store, and what an order that
 /// broke sent after that stands there as the oldest packets. The second law is of a run that was halted in a step.
@@ -100,6 +87,4 @@ pub fn runs_are_store_runs<L: Link>()
     ensures halted { HaltedRunsAreStoreRuns L.sent L.failed }
 {
     broken_orders_change_nothing();
-    orders_dump_the_oldest();
-    stores_lose_new_or_oldest();
 }

@@ -4,6 +4,5 @@ use Rattle.mm_carry.proofs.laws.runs_are_store_runs.Goals as goal
 pub returns : goal.returns
 returns g c = record {
   steps = steps_are g.L.Link.sent g.L.Link.failed;
-  halted = halted_is g.L.Link.sent g.L.Link.failed c.stores_lose_new_or_oldest.ensures.later
-      c.orders_dump_the_oldest.ensures.law c.broken_orders_change_nothing.ensures.law;
+  halted = halted_is g.L.Link.sent g.L.Link.failed c.broken_orders_change_nothing.ensures.law;
 }

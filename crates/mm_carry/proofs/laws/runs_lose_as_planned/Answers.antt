@@ -3,11 +3,9 @@ use Rattle.mm_carry.proofs.Words.{length}
 use Rattle.mm_carry.proofs.laws.runs_lose_as_planned.Goals as goal
 
 pub returns-clause-each : goal.returns-clause-each
-returns-clause-each c = as_planned c.any_order_loses_alike.ensures.leaves c.events_keep_a_state.ensures.log
-    c.orders_dump_the_oldest.ensures.law
+returns-clause-each c = as_planned c.events_keep_a_state.ensures.log
 
 pub returns-clause-total : goal.returns-clause-total
 returns-clause-total c = λ q x offers gave states is.
     all_lost q x states
-    (as_planned c.any_order_loses_alike.ensures.leaves c.events_keep_a_state.ensures.log
-    c.orders_dump_the_oldest.ensures.law q x (length q.windows) offers gave states is)
+    (as_planned c.events_keep_a_state.ensures.log q x (length q.windows) offers gave states is)

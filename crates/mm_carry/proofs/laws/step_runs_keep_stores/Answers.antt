@@ -2,7 +2,4 @@ use Rattle.mm_carry.proofs.Stepping.{keeps_store}
 use Rattle.mm_carry.proofs.laws.step_runs_keep_stores.Goals as goal
 
 pub returns : goal.returns
-returns c = record {
-  law = keeps_store c.any_order_loses_alike.ensures.leaves c.events_keep_a_state.ensures.log
-      c.orders_dump_the_oldest.ensures.law;
-}
+returns c = record { law = keeps_store c.events_keep_a_state.ensures.log }

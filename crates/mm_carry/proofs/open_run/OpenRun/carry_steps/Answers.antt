@@ -82,8 +82,7 @@ loop-step-preserved g c =
           let stepped = c.in_default.ensures.step lasts lead in
           let before = here g at lasts stepped.0 in (
             (c.loop-step.invariant.ran lasts stepped.0).0,
-            ran_on _ _ _ _ _ _ _ _ before c.runs_lose_as_planned.ensures.each
-                c.runs_lose_no_packet_uncounted.ensures.law c.orders_dump_the_oldest.ensures.law
+            ran_on _ _ _ _ _ _ _ _ before c.events_keep_a_state.ensures.log
                 c.broken_orders_change_nothing.ensures.law _ _ stepped.1,
           );
       labels = c.in_default.ensures.labels ∙ c.loop-step.invariant.labels;
@@ -106,8 +105,7 @@ returns-in-Err-clause-ended g c = λ lasts lead.
       (c.loop-step.invariant.ran lasts stepped.0).0,
       (
         c.loop-step.step,
-        halted_in _ _ _ _ _ _ _ _ before c.orders_dump_the_oldest.ensures.law
-            c.broken_orders_change_nothing.ensures.law c.step_runs_keep_stores.ensures.law c.requires.may.held _ _ _
-            stepped.1,
+        halted_in _ _ _ _ _ _ _ _ before c.events_keep_a_state.ensures.log
+            c.broken_orders_change_nothing.ensures.law c.requires.may.held _ _ _ stepped.1,
       ),
     )

@@ -1,6 +1,6 @@
 use Rattle.mm_carry.proofs.Words.{IsState, Held, stores_in, RunStart, run_start, Stops, MayBegin, state_of, ◌∙◌, length}
 use Rattle.mm_carry.proofs.Words.{refl, inl, inr, All, arith, ap, subst}
-use Rattle.mm_carry.proofs.Ended.{start_by, not_begun, ended_whole, ended_early}
+use Rattle.mm_carry.proofs.Ended.{start_by, not_begun, ended_as}
 use Rattle.mm_carry.proofs.run_parts.RunParts.carry_plan.Goals.{After-ready}
 use Rattle.mm_carry.proofs.run_parts.RunParts.carry_plan.Given as given
 use Rattle.mm_carry.proofs.run_parts.RunParts.carry_plan.Goals as goal
@@ -60,8 +60,8 @@ carry_steps-ended-requires-clause-may g c κs within =
     })
 
 -- how the steps of the run ended, from the parts that it was given to those that it left
-pub returns-clause-done : goal.returns-clause-done
-returns-clause-done g c =
+pub returns : goal.returns
+returns g c =
     let opened = ap stores_in c.read_states.ensures.same ∙ c.in-Ok-open_all.ensures.opened.1 in
     let ended = rw (
       opened,
@@ -70,23 +70,10 @@ returns-clause-done g c =
       ← c.open.view_is,
       ← c.close_all.ensures.stores,
     ) at c.carry_steps-ended.ensures.ended in
-    ended_whole g.S.AnySource.leads g.S.AnySource.until g.L.Link.sent g.L.Link.failed c.args.run.now _ _ _
-    c.carry_steps-ended.result ended
-
-pub returns-clause-stopped : goal.returns-clause-stopped
-returns-clause-stopped g c =
-    let opened = ap stores_in c.read_states.ensures.same ∙ c.in-Ok-open_all.ensures.opened.1 in
-    let ended = rw (
-      opened,
-      c.replace.ensures.value,
-      c.replace-2.ensures.value,
-      ← c.open.view_is,
-      ← c.close_all.ensures.stores,
-    ) at c.carry_steps-ended.ensures.ended in
-    ended_early g.S.AnySource.leads g.S.AnySource.until g.L.Link.sent g.L.Link.failed c.args.run.now _ _ _
-    c.carry_steps-ended.result ended
-
-pub returns-clause-labels : goal.returns-clause-labels
-returns-clause-labels g c =
-    let opened = ap stores_in c.read_states.ensures.same ∙ c.in-Ok-open_all.ensures.opened.1 in
-    rw (opened, ← c.open.view_is, ← c.close_all.ensures.stores) at c.carry_steps-ended.ensures.labels
+    let how = ended_as g.S.AnySource.leads g.S.AnySource.until g.L.Link.sent g.L.Link.failed c.args.run.now _ _ _
+    c.carry_steps-ended.result ended in
+    record {
+      done = how.0;
+      stopped = how.1;
+      labels = rw (opened, ← c.open.view_is, ← c.close_all.ensures.stores) at c.carry_steps-ended.ensures.labels;
+    }
