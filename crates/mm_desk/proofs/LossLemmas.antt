@@ -1,10 +1,10 @@
 -- What a store loses for room.
 use Rattle.mm_desk.proofs.Words.{◌≡◌, ◌≢◌, ℕ, ◌<◌, ◌≤◌, ltb, leb, List, [], ◌∷◌, ◌++◌, length, filter, All, Contains}
-use Rattle.mm_desk.proofs.Words.{refl, sym, ap, subst, ◌∙◌, arith, map-append, All-nil, All-cons, All-tail, All-append, All-push}
-use Rattle.mm_desk.proofs.Words.{All-contains, All-filter, All-weaker, filter_passes, nat_tests, AllPairs-head}
+use Rattle.mm_desk.proofs.Words.{refl, sym, ap, subst, ◌∙◌, arith, map-append, All-nil, All-cons, All-tail, All-append}
+use Rattle.mm_desk.proofs.Words.{All-push, All-contains, All-filter, All-weaker, filter_passes, nat_tests}
 use Rattle.mm_desk.proofs.Words.{AllPairs-append, IsRising, flat_map, Stored, Event, Offer, Delete, Bounded, Circular}
 use Rattle.mm_desk.proofs.Words.{packets_of, left_out, given, given_up, after, over, State, IsState, step, oldest_over}
-use Rattle.mm_desk.proofs.Words.{overwritten}
+use Rattle.mm_desk.proofs.Words.{overwritten, AllPairs-head}
 use Rattle.mm_desk.specs.Losses.{LosesNone, IsOlder, LosesNew, LosesOldest, taken_out, AreSettled}
 use Rattle.mm_desk.proofs.Cases.{put_cases, delete_cases, quiet_leaves}
 use Rattle.mm_desk.proofs.FateLemmas.{gives_held, over-append}

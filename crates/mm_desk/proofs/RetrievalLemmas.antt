@@ -160,7 +160,8 @@ gives_range from to s es sound begun on =
       rising = goes.0;
       kept = deletes_none s es on;
       complete = λ none ended k d inside within.
-          let awaited = all_given D s es (is_ordered s sound) none (All-front D gave lost all) (All-back D gave lost all) ended in
+          let awaited = all_given D s es (is_ordered s sound) none (All-front D gave lost all)
+          (All-back D gave lost all) ended in
           (subst (λ (r : Option Retrieval). All (Awaited D r) s.store.content) begun awaited) k d inside
           (grind (arith, nat_tests, within.0, within.1, sound.store.from_one k d inside));
     }

@@ -10,8 +10,8 @@ use std::sync::ledger::{Blank, Book, Ledger, Share};
 use std::sync::{Mutex, Wait};
 use thiserror::Error;
 
-/// A name of a pass book: its ledger, and its window. A call with `Brand` picks them; a function generic in the name opens and
-/// closes the book.
+/// A name of a pass book: its ledger, and its window. A call with `Brand` picks them; a function generic in the name
+/// opens and closes the book.
 pub trait Passing: Ledger {
     ghost window: { ℕ };
 }
