@@ -1,7 +1,7 @@
 -- What becomes of packets: one event first, then any list of them.
 use Rattle.mm_desk.proofs.Words.{◌≡◌, ℕ, ◌+◌, ◌<◌, ◌≤◌, Bool, true, ltb, leb, List, [], ◌∷◌, ◌++◌, length, filter, All}
-use Rattle.mm_desk.proofs.Words.{Contains, refl, arith, length-append, append_assoc, sym, ap, ◌∙◌, subst, Option, Some}
-use Rattle.mm_desk.proofs.Words.{None, Result, IsPermutation, is_some, find, cond_both, nat_tests, length-filter}
+use Rattle.mm_desk.proofs.Words.{Contains, refl, arith, length-append, append_assoc, sym, ap, ◌∙◌, Option, Some}
+use Rattle.mm_desk.proofs.Words.{None, Result, IsPermutation, is_some, nat_tests, length-filter}
 use Rattle.mm_desk.proofs.Words.{append-nil, map-append, length-map, All-nil, All-cons, All-head, All-tail, All-append}
 use Rattle.mm_desk.proofs.Words.{All-weaker, All-contains, All-contains_itself, All-front, All-back, AllPairs-cons}
 use Rattle.mm_desk.proofs.Words.{SpacePacket, Stored, Event, Offer, Begin, Next, Abort, Delete, Offered, Returned}
@@ -15,6 +15,7 @@ use Rattle.mm_base.proofs.Elements.{All-unmapped}
 use Rattle.mm_desk.specs.Fates.{accepted, taken, known, IsConserved, BeginsNone}
 use Rattle.mm_desk.proofs.Cases.{offer_cases, put_cases, begin_cases, next_cases, abort_cases, delete_cases}
 use Rattle.mm_desk.proofs.Cases.{quiet_leaves}
+use Rattle.mm_desk.proofs.PlaceLemmas.{find-some}
 
 -- what one event does: what was held and what it takes is what it deletes, what is held then, and what it gives up
 record Moves (s t : State) (took gone left : List SpacePacket) : Type 0 where
@@ -97,16 +98,6 @@ conserved s (e ∷ es) =
       lost = omega (arith, here.lost, rest.lost, length-append (given_up s e) (over given_up (step s e).1 es));
       deleted = omega (arith, here.deleted, rest.deleted, length-append (deleted s e) (over deleted (step s e).1 es));
     }
-
--- what is found passes the test, and has what all have
-find-some : (P : Stored → Type 0) (test : Stored → Bool) (xs : List Stored) (p : Stored) → All P xs
-    → find test xs ≡ Some p → (test p ≡ true) × P p
-find-some P test [] p all found = absurd (cc found)
-find-some P test (x ∷ xs) p all found =
-    cond_both (test x) _ _ (λ first. first ≡ Some p → (test p ≡ true) × P p)
-    (λ yes same. let is : x ≡ p = cc same in subst (λ (q : Stored). (test q ≡ true) × P q) is
-    (yes, All-head P x xs all))
-    (λ no later. find-some P test xs p (All-tail P x xs all) later) found
 
 -- a packet that a search finds is in the range, and later than the one given last
 is_in-parts : (from to after : ℕ) (p : Stored) → is_in from to after p ≡ true

@@ -7,7 +7,7 @@ pub mod Cases
 pub mod Keeping
 pub mod Answering
 pub mod Foreseeing
+pub mod PlaceLemmas
 pub mod FateLemmas
 pub mod RetrievalLemmas
 pub mod LossLemmas
-pub mod PlaceLemmas

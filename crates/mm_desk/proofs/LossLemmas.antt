@@ -1,14 +1,15 @@
 -- What a store loses for room.
 use Rattle.mm_desk.proofs.Words.{◌≡◌, ◌≢◌, ℕ, ◌<◌, ◌≤◌, ltb, leb, List, [], ◌∷◌, ◌++◌, length, filter, All, Contains}
 use Rattle.mm_desk.proofs.Words.{refl, sym, ap, subst, ◌∙◌, arith, map-append, All-nil, All-cons, All-tail, All-append}
-use Rattle.mm_desk.proofs.Words.{All-contains, All-filter, All-weaker, filter_passes, nat_tests, AllPairs-head}
+use Rattle.mm_desk.proofs.Words.{All-push, All-contains, All-filter, All-weaker, filter_passes, nat_tests}
 use Rattle.mm_desk.proofs.Words.{AllPairs-append, IsRising, flat_map, Stored, Event, Offer, Delete, Bounded, Circular}
 use Rattle.mm_desk.proofs.Words.{packets_of, left_out, given, given_up, after, over, State, IsState, step, oldest_over}
-use Rattle.mm_desk.proofs.Words.{overwritten}
+use Rattle.mm_desk.proofs.Words.{overwritten, AllPairs-head}
 use Rattle.mm_desk.specs.Losses.{LosesNone, IsOlder, LosesNew, LosesOldest, taken_out, AreSettled}
 use Rattle.mm_desk.proofs.Cases.{put_cases, delete_cases, quiet_leaves}
 use Rattle.mm_desk.proofs.FateLemmas.{gives_held, over-append}
-use Rattle.mm_desk.proofs.RetrievalLemmas.{IsOrdered, stays_ordered}
+use Rattle.mm_store.proofs.PutLemmas.{IsOrdered}
+use Rattle.mm_desk.proofs.RetrievalLemmas.{is_ordered, stays_ordered}
 
 -- a store keeps its kind and its size
 abbrev IsAlike : State → State → Type 0
@@ -73,8 +74,7 @@ module _ (lost : Stored) where
   newer_kept : (held : List Stored) (new : Stored) (last : ℕ) → last < new.time → IsOlder held lost → lost.time ≤ last
       → IsOlder (held ++ new ∷ []) lost × (lost.time ≤ new.time)
   newer_kept held new last later older past = (
-    All-append (λ p. lost.time < p.time) held (new ∷ []) older
-        (All-cons (λ p. lost.time < p.time) new [] (omega arith) (All-nil _)),
+    All-push (λ p. lost.time < p.time) held new older (omega arith),
     omega arith,
   )
 
@@ -134,9 +134,6 @@ all_past each past s (e ∷ es) ordered =
     (All-weaker (IsPast t) (IsPast (after t es)) (λ lost gone. always_past lost t es gone) (each s e)
     (past s e ordered))
     (all_past each past t es (stays_ordered s e ordered))
-
-pub is_ordered : (s : State) → IsState s → IsOrdered s.store
-is_ordered s sound = record { rising = sound.store.rising; up_to_last = sound.store.up_to_last }
 
 pub loses_oldest : (s : State) (es : List Event) → IsState s → s.store.kind ≡ Circular → LosesOldest s es
 loses_oldest s es sound circular =

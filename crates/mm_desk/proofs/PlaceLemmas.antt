@@ -1,12 +1,13 @@
--- The place of the one store with an identifier, and stores with the same identifiers.
-use Rattle.mm_desk.proofs.Words.{◌≡◌, ◌≢◌, ◌⊎◌, inl, inr, ℕ, ◌<◌, ◌≤◌, Bool, true, false, cond, ltb, List, [], ◌∷◌}
-use Rattle.mm_desk.proofs.Words.{length, get_or, refl, sym, subst, ap, ◌∙◌, length-set, get_or-set_same}
+-- The place of the one store with an identifier, what a search finds, and stores with the same identifiers.
+use Rattle.mm_desk.proofs.Words.{◌≡◌, ◌≢◌, ◌⊎◌, inl, inr, ℕ, ◌<◌, ◌≤◌, Bool, true, false, cond, ltb, List, []}
+use Rattle.mm_desk.proofs.Words.{length, get_or, All, refl, sym, subst, ap, ◌∙◌, length-set, get_or-set_same}
 use Rattle.mm_desk.proofs.Words.{get_or-set_other, arith, bytes_eq, if◌then◌else◌, slice_get, Option, Some, None}
 use Rattle.mm_desk.proofs.Words.{MatchOption, IfSome, AllPairs, position_or_len, find, cases_order, nat_tests}
 use Rattle.mm_desk.proofs.Words.{get_or-map, length-map, same_lists}
 use Rattle.std.proofs.Math.ListN.{set}
 use Rattle.std.proofs.lemmas.List.Folds.{find_at}
-use Rattle.std.proofs.lemmas.Option.{slice_get_past, get_or_from_slice_get, same_Some}
+use Rattle.std.proofs.lemmas.List.Sums.{passes_at_first}
+use Rattle.std.proofs.lemmas.Option.{slice_get_past, slice_get_within, get_or_from_slice_get}
 use Rattle.std.proofs.lemmas.Slice.Eq.{bytes_eq-Decides}
 use Rattle.mm_desk.specs.declared.held.Held.{Held}
 use Rattle.mm_desk.specs.Holdings.{HaveOtherIds, AreHeld, StandsAt, has_id, ids_of, store_of, with_changed}
@@ -16,8 +17,7 @@ pub stands_at_first : (id : List ℕ) (stores : List Held) (r : Option ℕ)
     → r ≡ cond (ltb (position_or_len (has_id id) stores) (length stores))
     (Some (position_or_len (has_id id) stores)) None → MatchOption r (store_of id stores ≡ None) (StandsAt id stores)
 stands_at_first id stores r e =
-    let P : Option ℕ → Type 0 = λ o. MatchOption o (store_of id stores ≡ None) (StandsAt id stores) in
-    subst P (sym e) (by_test (ltb (position_or_len (has_id id) stores) (length stores)) refl)
+    rw e (by_test (ltb (position_or_len (has_id id) stores) (length stores)) refl)
   where
     by_test : (t : Bool) → ltb (position_or_len (has_id id) stores) (length stores) ≡ t
         → MatchOption (cond t (Some (position_or_len (has_id id) stores)) None) (store_of id stores ≡ None)
@@ -27,14 +27,11 @@ stands_at_first id stores r e =
         let past : length stores ≤ position_or_len (has_id id) stores = grind (arith, nat_tests) in
         find_at (has_id id) stores ∙ slice_get_past stores (position_or_len (has_id id) stores) past
 
--- the first place that passes is no other
-pub is_first : (p : Held → Bool) (stores : List Held) (r : Option ℕ)
-    → r ≡ cond (ltb (position_or_len p stores) (length stores)) (Some (position_or_len p stores)) None
-    → IfSome r (λ place. place ≡ position_or_len p stores)
-is_first p stores r e =
-    let P : Option ℕ → Type 0 = λ o. IfSome o (λ place. place ≡ position_or_len p stores) in
-    subst P (sym e) (elim (ltb (position_or_len p stores) (length stores)) as
-    (λ t. P (cond t (Some (position_or_len p stores)) None)) [ true ↦ refl | false ↦ tt ])
+-- the place that is told is the first that passes
+pub is_first : (told : Bool) (first : ℕ) (r : Option ℕ) → r ≡ cond told (Some first) None
+    → IfSome r (λ place. place ≡ first)
+is_first true first r e = rw e refl
+is_first false first r e = rw e tt
 
 -- an identifier is itself, and no other
 pub same_id : (a b : List ℕ) → bytes_eq a b ≡ true → a ≡ b
@@ -50,18 +47,20 @@ is_other a b other =
       | false ↦ λ e. refl
     ] refl
 
--- what is found passes
-found_passes : (p : Held → Bool) (xs : List Held) (x : Held) → find p xs ≡ Some x → p x ≡ true
-found_passes p [] x e = cc
-found_passes p (y ∷ ys) x e =
-    elim (p y) as (λ t. p y ≡ t → cond t (Some y) (find p ys) ≡ Some x → p x ≡ true) [
-      | true ↦ λ h s. subst (λ (z : Held). p z ≡ true) (same_Some y x s) h
-      | false ↦ λ h s. found_passes p ys x s
-    ] refl e
+-- what is found passes the test, and has what all have
+pub find-some : {X : Type 0} (P : X → Type 0) (test : X → Bool) (xs : List X) (x : X) → All P xs
+    → find test xs ≡ Some x → (test x ≡ true) × P x
+find-some {X} P test xs x all found =
+    let i : ℕ = position_or_len test xs in
+    let there : slice_get xs i ≡ Some x = sym (find_at test xs) ∙ found in
+    let within : i < length xs = slice_get_within xs i x there in
+    let passes = passes_at_first test xs x within in
+    subst (λ (y : X). (test y ≡ true) × P y) (get_or_from_slice_get xs i x x there) (passes, all i x within)
 
 -- the store that is found has the identifier
 pub found_id : (id : List ℕ) (stores : List Held) (h : Held) → store_of id stores ≡ Some h → h.id ≡ id
-found_id id stores h found = same_id h.id id (found_passes (has_id id) stores h found)
+found_id id stores h found =
+    same_id h.id id (find-some (λ s. Unit {0}) (has_id id) stores h (λ k d within. tt) found).0
 
 module _ (id : List ℕ) (change : Held → Held) (stores : List Held) (place : ℕ) (h : Held)
     (named : AllPairs HaveOtherIds stores) (within : place < length stores) (at : slice_get stores place ≡ Some h)

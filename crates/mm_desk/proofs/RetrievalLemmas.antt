@@ -1,32 +1,21 @@
 -- What a retrieval gives from its begin to its end.
 use Rattle.mm_desk.proofs.Words.{◌≡◌, ◌⊎◌, inl, inr, ℕ, ◌<◌, ◌≤◌, Bool, true, false, List, [], ◌∷◌, ◌++◌, All, Contains}
 use Rattle.mm_desk.proofs.Words.{refl, sym, subst, arith, Option, Some, None, Ok, is_some, find, cond_both, nat_tests}
-use Rattle.mm_desk.proofs.Words.{All-nil, All-cons, All-head, All-tail, All-append, All-filter, All-weaker}
-use Rattle.mm_desk.proofs.Words.{All-contains_itself, AllPairs-filter, All-front, All-back, AllPairs-head}
-use Rattle.mm_desk.proofs.Words.{AllPairs-tail, Store, IsRising, is_in, with_newest, Stored, Event, Offer, Begin, Next}
+use Rattle.mm_desk.proofs.Words.{All-nil, All-cons, All-head, All-tail, All-filter, All-weaker, All-contains_itself}
+use Rattle.mm_desk.proofs.Words.{AllPairs-filter, All-front, All-back, AllPairs-head, AllPairs-tail, IsRising, is_in}
+use Rattle.mm_desk.proofs.Words.{Stored, Event, Offer, Begin, Next}
 use Rattle.mm_desk.proofs.Words.{Abort, Delete, KeptOver, Retrieval, found_in, given, deleted, after, over, State}
 use Rattle.mm_desk.proofs.Words.{IsState, give, next_of, step, oldest_over, overwritten, AtEach, IsWithin}
-use Rattle.std.proofs.lemmas.List.Quantifiers.{all_pairs_push}
+use Rattle.mm_store.proofs.PutLemmas.{IsOrdered, newest_ordered}
 use Rattle.mm_desk.specs.Retrievals.{IsOn, IsBegun, AbortsNone, GivesRange}
 use Rattle.mm_desk.proofs.Cases.{put_cases, begin_cases, delete_cases, quiet_leaves}
 use Rattle.mm_desk.proofs.FateLemmas.{gives_held, Above, Continues, rises}
 
--- times rise, up to the last one that was given
-pub record IsOrdered (s : Store) : Type 0 where
-  pub rising : IsRising s.content
-  pub up_to_last : All (λ p. p.time ≤ s.last) s.content
+-- the times of a state rise, up to the last one that was given
+pub is_ordered : (s : State) → IsState s → IsOrdered s.store
+is_ordered s sound = record { rising = sound.store.rising; up_to_last = sound.store.up_to_last }
 
--- so it is with a newest packet
-newest_ordered : (s : Store) (older : List Stored) (new : Stored) → s.last < new.time → IsRising older
-    → All (λ p. p.time ≤ s.last) older → IsOrdered (with_newest s older new)
-newest_ordered s older new later rising early = record {
-  rising = all_pairs_push (λ p q. p.time < q.time) older new rising (λ k d within. omega (arith, early k d within));
-  up_to_last = All-append (λ p. p.time ≤ new.time) older (new ∷ [])
-      (All-weaker (λ p. p.time ≤ s.last) (λ p. p.time ≤ new.time) (λ p upto. omega arith) older early)
-      (All-cons (λ p. p.time ≤ new.time) new [] (omega arith) (All-nil _));
-}
-
--- and after each event
+-- so it is after each event
 pub stays_ordered : (s : State) (e : Event) → IsOrdered s.store → IsOrdered (step s e).1.store
 stays_ordered s (Offer now packet) ordered =
     put_cases s (λ r. IsOrdered r.1.store) now packet (λ fault other. ordered)
@@ -165,14 +154,14 @@ gives_range from to s es sound begun on =
     let above = subst (λ (r : Option Retrieval). All (Above r) gave) begun goes.1 in
     let D : Stored → Type 0 = Contains (gave ++ lost) in
     let all = All-contains_itself (gave ++ lost) in
-    let ordered : IsOrdered s.store = record { rising = sound.store.rising; up_to_last = sound.store.up_to_last } in
     record {
       held = during (λ t e. All (Contains t.store.content) (given t e)) (λ t e on. gives_held t e) s es on;
       within = All-weaker (λ p. IsWithin from to p × (0 < p.time)) (IsWithin from to) (λ p above. above.0) gave above;
       rising = goes.0;
       kept = deletes_none s es on;
       complete = λ none ended k d inside within.
-          let awaited = all_given D s es ordered none (All-front D gave lost all) (All-back D gave lost all) ended in
+          let awaited = all_given D s es (is_ordered s sound) none (All-front D gave lost all)
+          (All-back D gave lost all) ended in
           (subst (λ (r : Option Retrieval). All (Awaited D r) s.store.content) begun awaited) k d inside
           (grind (arith, nat_tests, within.0, within.1, sound.store.from_one k d inside));
     }

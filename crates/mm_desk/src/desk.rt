@@ -71,15 +71,6 @@ macro_rules! answered {
     };
 }
 
-// Two events equal to this one.
-fn two_copies(alloc: Global, event: &Event) -> Result<(Event, Event), NoMemory>
-    ensures same { IfOk result (λ copies. copies ≡ (event.now, event.now)) }
-{
-    let first = event.copy(alloc)?;
-    let second = event.copy(alloc)?;
-    Ok((first, second))
-}
-
 impl<N: Opening> Desk<N> {
     /// A desk with an empty log, at this place and with this many seats. It takes no memory.
     pub fn new(alloc: Global, state: StoreState, place: u32, seats: u32) -> Desk<N>
@@ -178,17 +169,17 @@ impl<N: Opening> Desk<N> {
         if seat.list.reserve(1).is_err() {
             return Err(event);
         }
-        let Ok((logged, listed)) = two_copies(alloc, &event) else {
+        let (Ok(logged), Ok(listed)) = (event.copy(alloc), event.copy(alloc)) else {
             return Err(event);
         };
         let number = seat.number();
-        let answered = self.locked.lock(rt).call(alloc, number, event, logged)?;
+        let (reply, told) = self.locked.lock(rt).call(alloc, number, event, logged)?;
         seat.list.push_reserved(Entry {
             seat: number,
             event: listed,
-            reply: answered.listed,
+            reply: told,
         });
-        Ok(answered.reply)
+        Ok(reply)
     }
 
     // Makes a call that is answered only whether it is done.

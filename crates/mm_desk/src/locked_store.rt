@@ -31,26 +31,20 @@ impl<N: Opening> Model for LockedStore<N> {
     ghost invariant = { λ s. IsRun (opening_at N.states s.place) s.log.items s.state };
 }
 
-// The reply to a call, and another one for the seat's list.
-#[derive(Drop)]
-pub(crate) struct Answered {
-    pub(crate) reply: Reply,
-    pub(crate) listed: Reply,
-    ghost same: { listed ≡ reply },
-}
-
 impl<N: Opening> LockedStore<N> {
-    // Makes the event's call for a seat and logs it. Where there is no memory the event comes back.
+    // Makes the event's call for a seat and logs it. Gives the reply twice: once for the seat's list. Where there is no
+    // memory the event comes back.
     pub(crate) fn call(
         &mut self,
         alloc: Global,
         seat: u32,
         event: Event,
         logged: Event,
-    ) -> Result<Answered, Event>
+    ) -> Result<(Reply, Reply), Event>
         requires logged { logged ≡ event }
-        ensures log { IfOk result (λ r. self.new.log ≡ self.old.log ++ entry seat event r.reply ∷ []) }
-        ensures answers { IfOk result (λ r. Answers event r.reply) }
+        ensures same { IfOk result (λ r. r.1 ≡ r.0) }
+        ensures log { IfOk result (λ r. self.new.log ≡ self.old.log ++ entry seat event r.0 ∷ []) }
+        ensures answers { IfOk result (λ r. Answers event r.0) }
         ensures back { IfErr result (λ back. back ≡ event) }
         ensures err { OnErr result (self.new ≡ self.old) }
     {
@@ -63,9 +57,6 @@ impl<N: Opening> LockedStore<N> {
             event: logged,
             reply: copies.logged,
         });
-        Ok(Answered {
-            reply: copies.answer,
-            listed: copies.listed,
-        })
+        Ok((copies.answer, copies.listed))
     }
 }

@@ -1,6 +1,6 @@
 //! A pass window that several seats draw from.
 ghost use Rattle.std.specs.Prelude.{◌≡◌, ℕ, ◌+◌, ◌<◌, ◌≤◌, sum, vec_len, IfOk, IfErr, OnOk, OnErr};
-ghost use Rattle.mm_desk.specs.Passes.{AreUndrawn};
+ghost use Rattle.mm_desk.specs.Passes.{IsPassBook, AreUndrawn};
 
 use crate::desk::MAX_SEATS;
 use mm_base::{NoMemory, Refusal, Refused};
@@ -10,8 +10,8 @@ use std::sync::ledger::{Blank, Book, Ledger, Share};
 use std::sync::{Mutex, Wait};
 use thiserror::Error;
 
-/// A name of a pass book: its ledger, and its window. A call with `Brand` picks them; a function generic in the name opens and
-/// closes the book.
+/// A name of a pass book: its ledger, and its window. A call with `Brand` picks them; a function generic in the name
+/// opens and closes the book.
 pub trait Passing: Ledger {
     ghost window: { ℕ };
 }
@@ -88,10 +88,7 @@ impl<W: Passing> PassBook<W> {
     ) -> Result<(PassBook<W>, Vec<PassSeat<W>>), NoMemory>
         requires lowest { 1 ≤ seats }
         requires highest { seats ≤ MAX_SEATS }
-        requires name { blank.name ≡ W.name }
-        requires parts { blank.parts ≡ W.parts }
-        requires all { W.parts ≡ seats }
-        requires window { window ≡ W.window }
+        requires book { IsPassBook blank window seats W.name W.parts W.window }
         ensures seats { IfOk result (λ opened. AreUndrawn seats opened.1.items) }
     {
         let mut list = Vec::new(alloc);

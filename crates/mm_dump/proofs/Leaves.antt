@@ -11,18 +11,16 @@ use Words.{states_of, HaveLegalLogs, PortView, StoresView, HasLegalLog, DumpWork
 use Words.{Course, calls_at, worse, worst_of, worst_in, CarriesOut, MayDump, Sent, IsHired, IsBack, AllWorked, AreReady}
 use Words.{HasWorked, causes_of, IsNewPort, IsTried, Work, calls_of, has_order, order_at, past_of, flat_map-map}
 use Rattle.std.proofs.Math.ListN.{get_or-map}
-use Rattle.std.proofs.Math.Seq.{take-append_seam}
+use Rattle.std.proofs.lemmas.List.Folds.{fold-map, fold_stays}
+use Rattle.std.proofs.lemmas.List.Sums.{fold-append}
 use Rattle.mm_base.proofs.Elements.{All-unmapped}
 use Rattle.mm_desk.proofs.Lone.{lone_log}
 use Rattle.mm_shared.specs.declared.stores.OpenStores.{OpenStores}
+use Rattle.mm_dump.proofs.Courses.{worse-alone}
 use Rattle.mm_dump.proofs.Finding.{calls_on-calls_of, find, found_calls, here, lone_list}
 use Rattle.mm_dump.proofs.Ordered.{weighs_first, weight_of}
 use Rattle.mm_shared.proofs.Lists.{map_same}
 use Rattle.mm_dump.proofs.Settled.{HaveEnded, IsLine, Line, all_of, carries_out, flat_all}
-
--- a list that was lent whole is back
-pub lent : {X : Type 0} (n : ℕ) (xs rest : List X) → length xs ≡ n → take n (xs ++ rest) ≡ xs
-lent n xs rest same = subst (λ (k : ℕ). take k (xs ++ rest) ≡ xs) same (take-append_seam xs rest)
 
 -- the workers of a step are ready
 pub step_ready : {L Q A : Type 0} (sent : L → List Sent) (failed : L → ℕ)
@@ -66,9 +64,11 @@ idle_line link = record { old = link; new = link; courses = []; why = None; spen
 -- links without a worker have no cause
 worst-idle : {L : Type 0} (whys : List (Option OrderBroken)) (idle : List L)
     → worst_of (whys ++ map (λ (x : L). (idle_line x).why) idle) ≡ worst_of whys
-worst-idle [] [] = refl
-worst-idle [] (x ∷ idle) = worst-idle [] idle
-worst-idle (why ∷ whys) idle = ap (worse why) (worst-idle whys idle)
+worst-idle {L} whys idle =
+    fold-append worse None whys (map (λ (x : L). (idle_line x).why) idle)
+    ∙ fold-map worse (λ (x : L). (idle_line x).why) (worst_of whys) idle
+    ∙ fold_stays (λ (worst : Option OrderBroken) (x : L). worse worst None) (worst_of whys)
+    (λ x. worse-alone (worst_of whys)) idle
 
 -- the orders at a place among those of workers
 here_of : {L : Type 0} (p : ℕ) (works : List (Work L))

@@ -1,22 +1,22 @@
 -- Each step of the queue keeps its rule.
 use Rattle.mm_dump.proofs.Words
 use Words.{◌≡◌, inl, inr, ℕ, zero, suc, ◌+◌, ◌-◌, ◌<◌, ◌≤◌, List, [], ◌∷◌, ◌++◌, length, get_or, set, refl, sym, ap}
-use Words.{subst, ◌∙◌, arith, sum_by, range_with_len, cases_lt, nil_from_length, length-range_with_len, sum_by-cons}
-use Words.{sum_by-append, sum_by_push, sum_by_range_more, sum_by_ones, sum_by_zeros, get_or-le-sum_by, All, All-cons}
-use Words.{All-nil, All-head, All-tail, All-push, QueueView, queue_view, Knows, AreTakenOnce, TakesNext, Tells, All-set}
-use mathlib.Core.Option.{some, some-injective, some-ne-none}
+use Words.{subst, ◌∙◌, arith, sum_by, range_with_len, cases_lt, nil_from_length, length-range_with_len, sum_by-append}
+use Words.{sum_by_push, sum_by_range_more, sum_by_ones, sum_by_zeros, get_or-le-sum_by, All, All-cons, All-nil}
+use Words.{All-push, QueueView, queue_view, Knows, AreTakenOnce, TakesNext, Tells, All-set}
+use mathlib.Core.Option.{some}
 use lib.ListN.{get_elem?}
+use Rattle.std.proofs.lemmas.List.{set-set}
+use Rattle.std.proofs.lemmas.List.Sums.{sum_by-set}
 use Rattle.crossbeam_queue.specs.Fifo.{Pushes, Pops, Forks, Merges, Learns}
 use Rattle.mm_base.proofs.Ranges.{range_with_len_more}
+use Rattle.mm_shared.proofs.Lists.{at_below, at_get}
 
 -- a sum over passes after a change of one
 total_set : (f : QueueView → ℕ) (views : List QueueView) (pass : ℕ) (v w : QueueView) → get_elem? views pass ≡ some v
     → sum_by f (set views pass w) + f v ≡ sum_by f views + f w
-total_set f [] pass v w at = absurd (some-ne-none v (sym at))
-total_set f (u ∷ us) zero v w at =
-    omega (arith, sum_by-cons f u us, sum_by-cons f w us, ap f (some-injective u v at))
-total_set f (u ∷ us) (suc pass) v w at =
-    omega (arith, sum_by-cons f u us, sum_by-cons f u (set us pass w), total_set f us pass v w at)
+total_set f views pass v w at =
+    omega (arith, sum_by-set f views pass w v (at_below views pass v at), ap f (at_get views pass v v at))
 
 -- how many parts a pass has, and what the numbers that it took weigh
 abbrev parts_of : QueueView → ℕ
@@ -32,17 +32,12 @@ nothing = queue_view 0 0 []
 -- what holds of each pass holds of this one, and after a change of one
 known_at : (P : QueueView → Type 0) (views : List QueueView) (pass : ℕ) (v : QueueView) → All P views
     → get_elem? views pass ≡ some v → P v
-known_at P [] pass v all at = absurd (some-ne-none v (sym at))
-known_at P (u ∷ us) zero v all at = subst P (some-injective u v at) (All-head P u us all)
-known_at P (u ∷ us) (suc pass) v all at = known_at P us pass v (All-tail P u us all) at
+known_at P views pass v all at = subst P (at_get views pass v v at) (all pass v (at_below views pass v at))
 
 set_over : (P : QueueView → Type 0) (views : List QueueView) (pass : ℕ) (u w : QueueView) → P w
     → All P (set views pass u) → All P (set views pass w)
-set_over P [] pass u w mine all = all
-set_over P (v ∷ vs) zero u w mine all = All-cons P w vs mine (All-tail P u vs all)
-set_over P (v ∷ vs) (suc pass) u w mine all =
-    All-cons P v (set vs pass w) (All-head P v (set vs pass u) all)
-    (set_over P vs pass u w mine (All-tail P v (set vs pass u) all))
+set_over P views pass u w mine all =
+    subst (All P) (set-set views pass u w) (All-set P (set views pass u) pass w mine all)
 
 -- what a pass with a part knows
 knows_part : (pushed : ℕ) (v : QueueView) → v.pushed ≡ pushed → 0 < v.parts → Knows pushed v

@@ -5,19 +5,19 @@ use Rattle.mm_dump.proofs.Words.{All-tail, get_or-le-sum_by, IsOrderOf, id_at, C
 use Rattle.mm_dump.proofs.Words.{taken_at, times, Sent, all_sent, cond-eqb_same, cond-eqb_other}
 use Rattle.mm_dump.specs.Dumped.{AllTook, AllTried}
 use Rattle.mm_dump.specs.Laws.{SettledOrdersAreDumped}
-use Rattle.mm_dump.proofs.Courses.{no_failures, whole_course, worse-none}
+use Rattle.mm_dump.proofs.Courses.{no_failures, whole_course, worst-none}
 use Rattle.mm_dump.proofs.Ordered.{wanted_named}
 
 module _ (course : ℕ → Course) where
-  -- the worst cause of the orders that links took
-  abbrev worst_at : List (List ℕ) → Option OrderBroken
-  worst_at places = worst_of (map (λ (ks : List ℕ). worst_in (map course ks)) places)
+  -- the worst causes of the orders that links took
+  abbrev causes_at : List (List ℕ) → List (Option OrderBroken)
+  causes_at places = map (λ (ks : List ℕ). worst_in (map course ks)) places
 
   -- where no order broke, none did that some link took
   unbroken_of : (ks : List ℕ) (k : ℕ) → worst_in (map course ks) ≡ None → 0 < times k ks → (course k).why ≡ None
   unbroken_of [] k none some = absurd (omega (arith, some))
   unbroken_of (j ∷ ks) k none some =
-      let both = worse-none (course j).why (worst_in (map course ks)) none in
+      let both = worst-none (course j).why (map (λ (c : Course). c.why) (map course ks)) none in
       elim (eqb_tells j k) [
         | inl same ↦ subst (λ (n : ℕ). (course n).why ≡ None) same.1 both.0
         | inr other ↦
@@ -25,10 +25,11 @@ module _ (course : ℕ → Course) where
             unbroken_of ks k both.1 (omega (arith, some, count, cond-eqb_other j k 1 other.1))
       ]
 
-  unbroken : (places : List (List ℕ)) (k : ℕ) → worst_at places ≡ None → 0 < taken_at places k → (course k).why ≡ None
+  unbroken : (places : List (List ℕ)) (k : ℕ) → worst_of (causes_at places) ≡ None → 0 < taken_at places k
+      → (course k).why ≡ None
   unbroken [] k none some = absurd (omega (arith, some))
   unbroken (ks ∷ places) k none some =
-      let both = worse-none (worst_in (map course ks)) (worst_at places) none in
+      let both = worst-none (worst_in (map course ks)) (causes_at places) none in
       elim (cases_lt 0 (times k ks)) [
         | inl here ↦ unbroken_of ks k both.0 here
         | inr away ↦ unbroken places k both.1 (omega (arith, some, away, sum_by-cons (times k) ks places))
@@ -46,13 +47,14 @@ module _ (course : ℕ → Course) where
 
   -- so each link took what the stores at its places gave
   took : {L : Type 0} (sent : L → List Sent) (failed : L → ℕ) (ids : List (List ℕ)) (places : List (List ℕ))
-      (olds news : List L) → worst_at places ≡ None → ((k : ℕ) → 0 < taken_at places k → (course k).order.place ≡ k)
+      (olds news : List L) → worst_of (causes_at places) ≡ None
+      → ((k : ℕ) → 0 < taken_at places k → (course k).order.place ≡ k)
       → AllTried sent failed ids course places olds news
       → AllTook sent failed ids (λ k. (course k).sent) places olds news
   unfolding AllTried AllTook
   took sent failed ids [] [] [] none own tried = tt
   took sent failed ids (ks ∷ places) (old ∷ olds) (new ∷ news) none own tried =
-      let both = worse-none (worst_in (map course ks)) (worst_at places) none in
+      let both = worst-none (worst_in (map course ks)) (causes_at places) none in
       let mine : All (λ (k : ℕ). (course k).order.place ≡ k) ks = λ i d within.
       let k : ℕ = get_or ks i d in
       let one = get_or-le-sum_by (λ (y : ℕ). cond {A = ℕ} (eqb y k) 1 0) ks i d within in

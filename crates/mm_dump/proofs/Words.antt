@@ -35,7 +35,7 @@ pub use Rattle.mm_dump.specs.declared.order.OrderBroken.TheVariants.{LinkFailed,
 pub use Rattle.mm_dump.specs.declared.queue.QueueView.{QueueView}
 pub use Rattle.mm_shared.specs.Rule.{calls_on}
 pub use Rattle.mm_shared.specs.Stores.{id_at, states_of, list_at, lists_at, all_ends, end_of, ids_of, names_of}
-pub use Rattle.mm_shared.specs.Stores.{labels_of, AreNew, HaveLegalLogs, stores_in}
+pub use Rattle.mm_shared.specs.Stores.{AreNew, HaveLegalLogs, stores_in}
 pub use Rattle.mm_shared.specs.Views.{PortView, StoresView, with_call, HasLegalLog}
 pub use Rattle.mm_shared.specs.declared.label.StoreLabel.{StoreLabel}
 pub use Rattle.mm_store.specs.Content.{clock_end, count_up_to, first_in}
@@ -47,7 +47,7 @@ pub use Rattle.std.proofs.Common.{rules, vec_len, vec_capacity, drop}
 pub use Rattle.std.proofs.lemmas.Bool.{cases_lt, lt-ltb, le-ltb, eq-eqb, eqb-true, cases_Bool, ltb-true, ne_eqb}
 pub use Rattle.std.proofs.lemmas.Bool.Decides.{eqb_tells}
 pub use Rattle.std.proofs.lemmas.List.{nil_from_length, append-nil, map-append, get_or_append_left, flat_map_more}
-pub use Rattle.std.proofs.lemmas.List.{map_more, set-get_or, get_or-map, length-map, take_all, map-id, length-take}
+pub use Rattle.std.proofs.lemmas.List.{set-get_or, get_or-map, length-map, take_all, map-id, length-take}
 pub use Rattle.std.proofs.lemmas.List.{length-take-le, length-drop, take-append-drop}
 pub use Rattle.std.proofs.lemmas.List.Concat.{length-flat_map, flat_map-append}
 pub use Rattle.std.proofs.lemmas.List.Elements.{All-nil, All-push, filter-append, All-cons, All-append, All-head}

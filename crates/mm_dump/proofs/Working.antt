@@ -5,7 +5,8 @@ use Rattle.mm_dump.proofs.Words.{le-ltb, append-nil, map-append, get_or_append_l
 use Rattle.mm_dump.proofs.Words.{All-nil, All-push, filter-append, Entry, id_at, Order, OrderBroken, Course, worse}
 use Rattle.mm_dump.proofs.Words.{worst_of, Progress, OrderCarriedOut, course_of, PortView, with_calls, Sent, all_sent}
 use Rattle.mm_dump.proofs.Words.{IsTried, order_at, has_order, past_of, Worked}
-use Rattle.mm_dump.proofs.Courses.{worst-push, none_broke}
+use Rattle.std.proofs.lemmas.List.Sums.{fold_push}
+use Rattle.mm_dump.proofs.Courses.{none_broke}
 
 -- at the start no order was taken
 pub worked_start : (ids : List (List ℕ)) (orders : List Order) (taken : List ℕ) (a b : Progress) → taken ≡ []
@@ -68,7 +69,7 @@ module _ (ids : List (List ℕ)) (orders : List Order) (taken all : List ℕ) (n
                 ap (λ (d : Course). d.why) (get_or_append_left courses (course ∷ []) d i before)
                 ∙ none_broke (λ (d : Course). d.why) courses worked.are.cause i d before;
             cause = ap worst_of (map-append (λ (d : Course). d.why) courses (course ∷ []))
-                ∙ worst-push (map (λ (d : Course). d.why) courses) why
+                ∙ fold_push worse None (map (λ (d : Course). d.why) courses) why
                 ∙ ap (λ (worst : Option OrderBroken). worse worst why) worked.are.cause;
           };
           advance = record {

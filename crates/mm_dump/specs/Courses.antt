@@ -1,5 +1,5 @@
 -- The courses of dump orders.
-use Rattle.std.specs.Prelude.{◌≡◌, ℕ, ◌+◌, ◌<◌, ◌==◌, List, [], ◌∷◌, ◌++◌, length, map, filter, flat_map, sum_by}
+use Rattle.std.specs.Prelude.{◌≡◌, ℕ, ◌+◌, ◌<◌, ◌==◌, List, [], ◌++◌, length, map, filter, flat_map, fold, sum_by}
 use Rattle.std.specs.Prelude.{slice_index_or, All, Option, Some, None, suc}
 use Rattle.mm_store.specs.declared.stored.Stored.{Stored}
 use Rattle.mm_desk.specs.declared.entry.Entry.{Entry}
@@ -50,8 +50,7 @@ worse (Some LinkFailed) (Some why) = Some why
 
 -- the worst of causes; none if there is none
 abbrev pub worst_of : List (Option OrderBroken) → Option OrderBroken
-worst_of [] = None
-worst_of (why ∷ whys) = worse why (worst_of whys)
+worst_of whys = fold worse None whys
 
 -- the worst cause for which one of these orders broke; none if none broke
 abbrev pub worst_in : List Course → Option OrderBroken

@@ -1,5 +1,6 @@
 //! Desks and pass books: each call with memory, two seats at one desk, and a log beside lists that differ from it.
 ghost use Rattle.std.specs.Prelude.{◌≡◌};
+ghost use Rattle.mm_desk.specs.Passes.{IsPassBook};
 ghost use Rattle.mm_desk.specs.Runs.{opening_at};
 
 use crate::tests::calls::told_of_reply;
@@ -205,10 +206,7 @@ fn a_log_beside_other_lists_does_not_agree(rt: HostRuntime) {
 
 // Two seats draw from a window of three blocks.
 fn draw_three<W: Passing, R: Wait + Abort>(rt: &R, alloc: Global, blank: Blank) -> u64
-    requires name { blank.name ≡ W.name }
-    requires parts { blank.parts ≡ W.parts }
-    requires all { W.parts ≡ 2 }
-    requires window { W.window ≡ 3 }
+    requires book { IsPassBook blank 3 2 W.name W.parts W.window }
 {
     let (book, mut seats) = PassBook::<W>::open(alloc, blank, 3, 2).expect(rt, "memory");
     let drawn = [

@@ -1,4 +1,3 @@
-use Rattle.mm_desk.specs.Holdings.{has_id}
 use Rattle.mm_desk.proofs.PlaceLemmas.{stands_at_first, is_first}
 use Rattle.mm_desk.proofs.holding.place_of.Goals as goal
 
@@ -8,5 +7,5 @@ returns c =
     let found = c.place_of.ensures.place in
     record {
       stands = stands_at_first c.args.id.now stores c.place_of.result found;
-      first = is_first (has_id c.args.id.now) stores c.place_of.result found;
+      first = is_first _ _ c.place_of.result found;
     }

@@ -1,4 +1,5 @@
-use Rattle.mm_desk.proofs.LossLemmas.{loses_new, loses_oldest, is_ordered, give_later, gives_rising}
+use Rattle.mm_desk.proofs.LossLemmas.{loses_new, loses_oldest, give_later, gives_rising}
+use Rattle.mm_desk.proofs.RetrievalLemmas.{is_ordered}
 use Rattle.mm_desk.proofs.laws.stores_lose_new_or_oldest.Goals as goal
 
 pub returns : goal.returns

@@ -3,9 +3,10 @@ use Rattle.mm_dump.proofs.Words.{refl, sym, ap, subst, ◌∙◌, arith, sum_by,
 use Rattle.mm_dump.proofs.Words.{length-map, take-append-drop, nil_from_length, All-take, view, Held, states_of}
 use Rattle.mm_dump.proofs.Words.{stores_in, all_ends, names_of, HaveLegalLogs, PortView, DumpWorker, worst_of}
 use Rattle.mm_dump.proofs.Words.{CarriesOut, Tells, IsHired, IsBack, AreBack, AreReady, causes_of}
+use Rattle.std.proofs.lemmas.List.{take_at}
 use Rattle.mm_shared.proofs.Opening.{ids_open, same_many}
 use Rattle.mm_shared.proofs.StillOpen.{still_open}
-use Rattle.mm_dump.proofs.Leaves.{all_back, ends_same, lent, nothing, step_leaves, step_ready}
+use Rattle.mm_dump.proofs.Leaves.{all_back, ends_same, nothing, step_leaves, step_ready}
 use Rattle.mm_dump.proofs.step.dump_open.Goals.{After-deref_mut-2, After-dump_all}
 use Rattle.mm_dump.proofs.step.dump_open.Given as given
 use Rattle.mm_dump.proofs.step.dump_open.Goals as goal
@@ -51,14 +52,14 @@ same_ports : (g : given.Over) (c : goal.After-dump_all g) (rest : List PortView)
 same_ports g c rest =
     let held : vec_len c.seat_workers.new.opened.workers ≡ length c.seat_workers.new.opened.workers.items =
     omega (arith, c.seat_workers.new.opened.workers.ok.0) in
-    lent c.seat_workers.new.opened.workers.len c.dump_all.new.ports rest
+    take_at c.dump_all.new.ports rest c.seat_workers.new.opened.workers.len
     (omega (arith, held, c.dump_all.auto.ports, ap length c.deref_mut.ensures.value))
 
 same_workers : (g : given.Over) (c : goal.After-dump_all g) (rest : List DumpWorker)
     → take c.hire.new.workers.len (c.dump_all.new.workers ++ rest) ≡ c.dump_all.new.workers
 same_workers g c rest =
     let held : vec_len c.hire.new.workers ≡ length c.hire.new.workers.items = omega (arith, c.hire.new.workers.ok.0) in
-    lent c.hire.new.workers.len c.dump_all.new.workers rest
+    take_at c.dump_all.new.workers rest c.hire.new.workers.len
     (omega (arith, held, c.dump_all.auto.workers, ap length c.deref_mut-2.ensures.value))
 
 -- what the workers have

@@ -1,9 +1,7 @@
-use Rattle.mm_dump.proofs.Words.{DumpWorker}
-use Rattle.mm_dump.proofs.Courses.{worst_next}
+use Rattle.std.proofs.Common.{arith}
+use Rattle.std.proofs.lemmas.Grind.{common_steps}
+use Rattle.std.proofs.lemmas.List.Sums.{fold_more}
 use Rattle.mm_dump.proofs.worst.worst_broken.Goals as goal
 
 pub loop-worker-preserved : goal.loop-worker-preserved
-loop-worker-preserved c =
-    worst_next (λ (w : DumpWorker). w.why) c.args.workers.now c.loop-worker.worker-index c.worker-item.result
-    c.loop-worker.worst c.worse-worst.result
-    c.loop-worker-test.true c.worker-item.is c.loop-worker.invariant c.worse-worst.ensures.worse
+loop-worker-preserved c = grind (arith, common_steps, fold_more)
