@@ -28,7 +28,7 @@ pub record Checks (setup forecast text : List ℕ) (v : Verdict) : Type 0 where
   pub says_sheet : SaysSheet problem text sheet
   pub verdict : IsSheetVerdict problem sheet v
 
--- the plan that the texts say loses n blocks, which are few as P says
+-- the plan that the texts say has this property, and loses n blocks
 pub record LosesAs (P : Dumping → Amounts → Type 0) (setup forecast text : List ℕ) (n : ℕ) : Type 0 where
   pub problem : Dumping
   pub sheet : SheetRows
@@ -37,11 +37,11 @@ pub record LosesAs (P : Dumping → Amounts → Type 0) (setup forecast text : L
   pub least : P problem (amount sheet.plan)
   pub loss : n ≡ loss problem (amount sheet.plan)
 
--- no plan that fits loses fewer
+-- the plan that the texts say loses n blocks, and no plan that fits loses fewer
 abbrev pub LosesLeast : List ℕ → List ℕ → List ℕ → ℕ → Type 0
 LosesLeast = LosesAs IsLeast
 
--- no plan that fits loses fewer of the first store, of the first two and so on to all of them
+-- the same, and no plan that fits loses fewer of the first store, of the first two and so on to all of them
 abbrev pub LosesLeastInOrder : List ℕ → List ℕ → List ℕ → ℕ → Type 0
 LosesLeastInOrder = LosesAs IsLeastInOrder
 
