@@ -270,9 +270,9 @@ module _ {L : Type 0} (sent : L → List Sent) (failed : L → ℕ) (m : RunInpu
 
       -- one step more of a run
       pub done_on : (new : Reported) → new ≡ record report {
-            steps = report.steps
-                ++ row_from m.problem t (state_by places before.stores) (state_by places after.stores) ∷ [];
-          }
+        steps = report.steps
+            ++ row_from m.problem t (state_by places before.stores) (state_by places after.stores) ∷ [];
+      }
           → StepsDone sent failed m m.gives links count after new
       done_on new is =
           let rows = ap (λ (r : Reported). r.steps) is ∙ rows_counted in
