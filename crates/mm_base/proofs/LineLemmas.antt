@@ -9,9 +9,6 @@ use Rattle.std.proofs.lemmas.List.Sums.{prefix_len_passes}
 use Rattle.std.proofs.lemmas.List.Splits.{slice_split_none, slice_split_first}
 use Rattle.mm_base.specs.Lines.{text_lines}
 
-is_feed : ℕ → Bool
-is_feed c = c == 10
-
 -- a place that was found passed the test
 found_at : (test : Bool) (k i : ℕ) → cond test (Some k) None ≡ Some i → (test ≡ true) × (k ≡ i)
 found_at true k i e = (refl, cc)
