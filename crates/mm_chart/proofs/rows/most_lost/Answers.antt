@@ -8,7 +8,7 @@ loop-store-preserved c =
     let p = c.args.picture.now in
     let s = c.loop-store.store in
     let here : c.most.result ≡ most_lost_by p s =
-        rw (c.new.ensures.picture, c.new.ensures.series) at c.most.ensures.largest in
+    rw (c.new.ensures.picture, c.new.ensures.series) at c.most.ensures.largest in
     let more = largest_first (most_lost_by p) s in
     record {
       lost = omega (arith, here, more, c.max-most.ensures, c.loop-store.invariant.lost);
