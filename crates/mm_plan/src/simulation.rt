@@ -104,7 +104,13 @@ fn volumes_in(problem: &Problem, plan: &Plan, store: usize, step: u32, before: u
 }
 
 // Adds what the plan does to one store in one step.
-fn push(volumes: &mut Vec<StepVolumes>, problem: &Problem, plan: &Plan, store: usize, step: u32) -> Pushed
+fn push(
+    volumes: &mut Vec<StepVolumes>,
+    problem: &Problem,
+    plan: &Plan,
+    store: usize,
+    step: u32,
+) -> Pushed
     requires shape { HasShape problem.now plan.now }
     requires store { store < length problem.now.rows }
     requires first { 1 ≤ step }
