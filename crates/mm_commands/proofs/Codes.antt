@@ -9,7 +9,7 @@ use Rattle.mm_commands.specs.declared.texts.TaskTexts.{TaskTexts}
 use Rattle.mm_commands.specs.Answers.{AnswersTask, Gives, Prints}
 use Rattle.mm_commands.specs.Refusing.{Refuses}
 use Rattle.mm_commands.specs.Streams.{ReadsTwice, file_of, reads_twice}
-use Rattle.mm_commands.specs.Doing.{Does, DoesTask, IsDone, TellsVersion}
+use Rattle.mm_commands.specs.Doing.{AreDone, Does, DoesTask, IsDone}
 use Rattle.mm_command_line.specs.Lines.{Spells, is_version_line, output_of}
 use Rattle.mm_command_line.specs.declared.task.Task.{Task}
 use Rattle.mm_command_line.specs.declared.task.Task.TheVariants.{Plan, Check, Chart, Table, Sensitivity, Fly, Ask, Read}
@@ -58,7 +58,7 @@ task-done old new words before after task = elim task.told [
 
 -- words with the status `Done` had their task done, or the version told
 does-done : (old new : FilesView) (words : List (List ℕ)) (before after : Option (List ℕ))
-    → Does old new words Done before after → IsDone old new words before after ⊎ TellsVersion words before after
+    → Does old new words Done before after → AreDone old new words before after
 does-done old new words before after (inl task) = inl (task-done old new words before after task)
 does-done old new words before after (inr (kept, inl wants)) = absurd (let is = wants.status_is in cc)
 does-done old new words before after (inr (kept, inr (inl bad))) = absurd (let is = bad.status_is in cc)
@@ -68,7 +68,7 @@ does-done old new words before after (inr (kept, inr (inr tells))) = inr tells.0
 pub code-done : {E : Type 0} (old new : FilesView) (words : List (List ℕ)) (before after : Option (List ℕ))
     (r : Result Status E) (code : ℕ) → IfOk r (λ status. code ≡ exit_code status) → IfErr r (λ e. code ≡ 1)
     → IfOk r (λ status. Does old new words status before after)
-    → code ≡ 0 → IsDone old new words before after ⊎ TellsVersion words before after
+    → code ≡ 0 → AreDone old new words before after
 code-done old new words before after (Ok Done) code is failed does zero = does-done old new words before after does
 code-done old new words before after (Ok Refused) code is failed does zero = absurd (omega (arith, is, zero))
 code-done old new words before after (Ok BadCommandLine) code is failed does zero = absurd (omega (arith, is, zero))

@@ -84,12 +84,9 @@ StopsAt-append : (contents : Contents) (left more : List (List ℕ)) (fault : Fa
 StopsAt-append contents left more NoMemory stopped = tt
 StopsAt-append contents [] more (NotRead name obstacle) stopped = absurd stopped
 StopsAt-append contents (next ∷ left) more (NotRead name obstacle) stopped = stopped
-StopsAt-append contents [] more (Texts e) stopped = absurd stopped
-StopsAt-append contents (next ∷ left) more (Texts e) stopped = absurd stopped
-StopsAt-append contents [] more (Run e) stopped = absurd stopped
-StopsAt-append contents (next ∷ left) more (Run e) stopped = absurd stopped
-StopsAt-append contents [] more (Setup e) stopped = absurd stopped
-StopsAt-append contents (next ∷ left) more (Setup e) stopped = absurd stopped
+StopsAt-append contents left more (Texts e) stopped = absurd stopped
+StopsAt-append contents left more (Run e) stopped = absurd stopped
+StopsAt-append contents left more (Setup e) stopped = absurd stopped
 
 -- one of the first files was not read, and more come after them
 pub unread_before : (contents : Contents) (before after : Option (List Reading)) (names more : List (List ℕ))

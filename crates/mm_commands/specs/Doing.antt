@@ -60,14 +60,17 @@ pub record IsDone (old new : FilesView) (words : List (List ℕ)) (before after 
   pub asked : Spells words task
   pub prints : Prints old new task Done before after
 
--- the task that the first line of a script asks for was done over the files that follow, or the line asks for the
--- version
+-- what the words ask for was done: their task, or the version was told
+abbrev pub AreDone : FilesView → FilesView → List (List ℕ) → Option (List ℕ) → Option (List ℕ) → Type 0
+AreDone old new words before after = IsDone old new words before after ⊎ TellsVersion words before after
+
+-- what the first line of a script asks for was done over the files that follow
 pub record DoesScript (script : List ℕ) (before after : Option (List ℕ)) : Type 0 where
   pub line : List ℕ
   pub files : List ℕ
   pub split : IsFirstLine script line files
   pub left : FilesView
-  pub done : IsDone (script_view files) left (words_in line) before after ⊎ TellsVersion (words_in line) before after
+  pub done : AreDone (script_view files) left (words_in line) before after
 
 -- the first line of a script spells a task
 pub record IsTaskScript (script : List ℕ) : Type 0 where

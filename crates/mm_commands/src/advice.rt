@@ -2,7 +2,7 @@
 
 use crate::fault::Fault;
 use crate::file_name::Shown;
-use crate::remark::{Found, tell_found};
+use crate::remark::{Found, tell_hint};
 use crate::spot::InFile;
 use mm_base::{Refusal, Refused};
 use mm_command_line::{Role, Task};
@@ -37,7 +37,7 @@ pub(crate) fn tell_fault<E: Write>(
         let (refusal, spot) = (fault.refusal(), fault.spot());
         tell_refusal(file_of(task, refusal, spot), spot, refusal, err)?;
     }
-    tell_found(found, err)
+    tell_hint(found, err)
 }
 
 /// The file of the task that a refusal is about, where it is about one.

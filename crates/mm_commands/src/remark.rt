@@ -22,7 +22,7 @@ use std::io::{self, Write};
 const PLAN_MISPLACED: &str =
     "the files are in another order; name the setup first, then the forecast, then the plan";
 
-/// What is found in the files of a task. It is shown in one line.
+/// What is found in the files of a task, as it is shown after `hint: `.
 #[derive(Clone, Copy)]
 pub(crate) enum Found {
     /// A plan text stands where the setup or the forecast is to stand.
@@ -33,8 +33,8 @@ pub(crate) enum Found {
 impl fmt::Display for Found {
     fn fmt<W: fmt::Write>(&self, f: &mut fmt::Formatter<W>) -> fmt::Result {
         match self {
-            Found::PlanMisplaced => write!(f, "hint: {PLAN_MISPLACED}"),
-            Found::Hint(hint) => write!(f, "hint: {hint}"),
+            Found::PlanMisplaced => f.write_str(PLAN_MISPLACED),
+            Found::Hint(hint) => write!(f, "{hint}"),
         }
     }
 }
@@ -51,16 +51,12 @@ pub(crate) fn is_plan_misplaced(task: Task<'_>, refusal: Refusal, texts: &TaskTe
 }
 
 /// Says what is found, if anything is.
-pub(crate) fn tell_found<E: Write>(found: Option<Found>, err: &mut E) -> io::Result<()> {
-    match found {
-        Some(found) => writeln!(err, "{found}"),
-        None => Ok(()),
-    }
-}
-
-fn tell_hint<E: Write>(hint: Option<Hint>, err: &mut E) -> io::Result<()> {
+pub(crate) fn tell_hint<T: fmt::Display + Drop, E: Write>(
+    hint: Option<T>,
+    err: &mut E,
+) -> io::Result<()> {
     match hint {
-        Some(hint) => tell_found(Some(Found::Hint(hint)), err),
+        Some(hint) => writeln!(err, "hint: {hint}"),
         None => Ok(()),
     }
 }

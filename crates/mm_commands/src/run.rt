@@ -1,10 +1,10 @@
 //! The program, over any files and any writers.
-ghost use Rattle.std.specs.Prelude.{◌≡◌, ◌≢◌, ◌≤◌, ◌⊎◌, IfOk, IfErr, map};
+ghost use Rattle.std.specs.Prelude.{◌≡◌, ◌≢◌, ◌≤◌, IfOk, IfErr, map};
 ghost use Rattle.mm_commands.specs.Contents.{seen};
 ghost use Rattle.mm_commands.specs.Statuses.{exit_code};
 ghost use Rattle.mm_commands.specs.declared.status.Status.TheVariants.{BadCommandLine};
 ghost use Rattle.mm_command_line.specs.Lines.{IsTaskLine};
-ghost use Rattle.mm_commands.specs.Doing.{Does, DoesScript, IsDone, IsTaskScript, TellsVersion, words_in};
+ghost use Rattle.mm_commands.specs.Doing.{AreDone, Does, DoesScript, IsTaskScript, words_in};
 ghost use Rattle.mm_commands.specs.Streams.{ReadsTwice};
 
 use crate::files::{Files, ReadFault};
@@ -135,10 +135,9 @@ pub fn run_tool_with_progress<
     ensures status { result ≤ 2 }
     // Where the exit status is 0, the task that the words ask for was done: what was written answers it. Or they ask
     // for the version.
-    ensures does { result ≡ 0 → IsDone (seen F.has_streams (F.content files.old) (F.readings files.old))
+    ensures does { result ≡ 0 → AreDone (seen F.has_streams (F.content files.old) (F.readings files.old))
         (seen F.has_streams (F.content files.new) (F.readings files.new))
-        (map S.text words.now) (W.contents out.old) (W.contents out.new)
-        ⊎ TellsVersion (map S.text words.now) (W.contents out.old) (W.contents out.new) }
+        (map S.text words.now) (W.contents out.old) (W.contents out.new) }
     // Words that spell a task, and have standard input for one file at most, are no bad command line.
     ensures taken { IsTaskLine (map S.text words.now) → (ReadsTwice F.has_streams (map S.text words.now) → ⊥)
         → result ≤ 1 }
@@ -159,10 +158,9 @@ pub fn run_tool<R: Threads + Wait + Sync, S: AsStr, F: Files, W: Write, E: Write
     err: &mut E,
 ) -> u8
     ensures status { result ≤ 2 }
-    ensures does { result ≡ 0 → IsDone (seen F.has_streams (F.content files.old) (F.readings files.old))
+    ensures does { result ≡ 0 → AreDone (seen F.has_streams (F.content files.old) (F.readings files.old))
         (seen F.has_streams (F.content files.new) (F.readings files.new))
-        (map S.text words.now) (W.contents out.old) (W.contents out.new)
-        ⊎ TellsVersion (map S.text words.now) (W.contents out.old) (W.contents out.new) }
+        (map S.text words.now) (W.contents out.old) (W.contents out.new) }
     ensures taken { IsTaskLine (map S.text words.now) → (ReadsTwice F.has_streams (map S.text words.now) → ⊥)
         → result ≤ 1 }
     ensures kept { result ≢ 0 → F.content files.new ≡ F.content files.old }

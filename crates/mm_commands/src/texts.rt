@@ -1,6 +1,6 @@
 //! The texts of a task's files.
-ghost use Rattle.std.specs.Prelude.{◌≡◌, ◌++◌, IfOk, IfErr, [], ◌∷◌};
-ghost use Rattle.mm_commands.specs.Contents.{WereRead, reading};
+ghost use Rattle.std.specs.Prelude.{◌≡◌, ◌++◌, IfOk, IfErr};
+ghost use Rattle.mm_commands.specs.Contents.{WereRead};
 ghost use Rattle.mm_commands.specs.Reading.{IsUnread, listed, name_of, reading_of, readings_of};
 
 use crate::fault::Fault;
@@ -21,38 +21,26 @@ pub(crate) struct TaskTexts {
     pub(crate) packets: Vec<u8>,
 }
 
-// The bytes of a file.
-#[tactic(auto, using(crate::proofs::Refusals::one_read, crate::proofs::Refusals::one_unread))]
-fn read_file<'a, F: Files>(
-    alloc: Global,
-    files: &mut F,
-    name: &'a str,
-) -> Result<Vec<u8>, Fault<'a>>
-    ensures read { IfOk result (λ text. WereRead (F.content files.old) (F.readings files.old) (F.readings files.new) (reading name.entry.now text.items ∷ [])) }
-    ensures unread { IfErr result (IsUnread (F.content files.old) (F.readings files.old) (F.readings files.new) (name.entry.now ∷ [])) }
-    ensures stays { F.content files.new ≡ F.content files.old }
-{
-    match files.read(alloc, name) {
-        Ok(text) => Ok(text),
-        Err(ReadFault::NoMemory) => Err(Fault::NoMemory),
-        Err(ReadFault::NotRead { obstacle }) => Err(Fault::NotRead { name, obstacle }),
-    }
-}
-
 // The bytes of a file, where one is named.
-#[tactic(auto, using(crate::proofs::Refusals::none_read))]
+#[tactic(auto, using(crate::proofs::Refusals::none_read, crate::proofs::Refusals::one_read, crate::proofs::Refusals::one_unread))]
 fn read_named<'a, F: Files>(
     alloc: Global,
     files: &mut F,
     name: Option<&'a str>,
 ) -> Result<Vec<u8>, Fault<'a>>
-    ensures read { IfOk result (λ text. WereRead (F.content files.old) (F.readings files.old) (F.readings files.new) (reading_of name.entry text.items)) }
-    ensures unread { IfErr result (IsUnread (F.content files.old) (F.readings files.old) (F.readings files.new) (name_of name.entry)) }
+    ensures read { IfOk result (λ text. WereRead (F.content files.old) (F.readings files.old) (F.readings files.new)
+        (reading_of name.entry text.items)) }
+    ensures unread { IfErr result (IsUnread (F.content files.old) (F.readings files.old) (F.readings files.new)
+        (name_of name.entry)) }
     ensures stays { F.content files.new ≡ F.content files.old }
 {
-    match name {
-        Some(name) => read_file(alloc, files, name),
-        None => Ok(Vec::new(alloc)),
+    let Some(name) = name else {
+        return Ok(Vec::new(alloc));
+    };
+    match files.read(alloc, name) {
+        Ok(text) => Ok(text),
+        Err(ReadFault::NoMemory) => Err(Fault::NoMemory),
+        Err(ReadFault::NotRead { obstacle }) => Err(Fault::NotRead { name, obstacle }),
     }
 }
 
@@ -65,7 +53,8 @@ fn read_two<'a, F: Files>(
 ) -> Result<(Vec<u8>, Vec<u8>), Fault<'a>>
     ensures read { IfOk result (λ texts. WereRead (F.content files.old) (F.readings files.old) (F.readings files.new)
         (reading_of first.entry texts.0.items ++ reading_of second.entry texts.1.items)) }
-    ensures unread { IfErr result (IsUnread (F.content files.old) (F.readings files.old) (F.readings files.new) (name_of first.entry ++ name_of second.entry)) }
+    ensures unread { IfErr result (IsUnread (F.content files.old) (F.readings files.old) (F.readings files.new)
+        (name_of first.entry ++ name_of second.entry)) }
     ensures stays { F.content files.new ≡ F.content files.old }
 {
     let one = read_named(alloc, files, first)?;
@@ -80,8 +69,10 @@ impl TaskTexts {
         files: &mut F,
         names: FileNames<'a>,
     ) -> Result<TaskTexts, Fault<'a>>
-        ensures read { IfOk result (λ texts. WereRead (F.content files.old) (F.readings files.old) (F.readings files.new) (readings_of names.entry texts)) }
-        ensures unread { IfErr result (IsUnread (F.content files.old) (F.readings files.old) (F.readings files.new) (listed names.entry)) }
+        ensures read { IfOk result (λ texts. WereRead (F.content files.old) (F.readings files.old)
+            (F.readings files.new) (readings_of names.entry texts)) }
+        ensures unread { IfErr result (IsUnread (F.content files.old) (F.readings files.old) (F.readings files.new)
+            (listed names.entry)) }
         ensures stays { F.content files.new ≡ F.content files.old }
     {
         let (setup, forecast) = read_two(alloc, files, names.setup, names.forecast)?;

@@ -1,6 +1,7 @@
 -- The packets of the lines that go to no store, counted line by line.
-use Rattle.std.proofs.Common.{◌≡◌, ℕ, ◌+◌, ◌&&◌, Bool, true, false, not, cond, List, [], ◌∷◌, ◌++◌, refl, arith}
+use Rattle.std.proofs.Common.{◌≡◌, ℕ, ◌+◌, ◌≤◌, ◌&&◌, Bool, true, false, not, cond, List, [], ◌∷◌, ◌++◌, refl, arith}
 use Rattle.std.specs.Prelude.{Ok}
+use Rattle.std.proofs.lemmas.Bool.Decides.{nat_tests}
 use Rattle.std.proofs.lemmas.List.Sums.{sum_by_push}
 use Rattle.mm_base.specs.Reading.{◌>>=◌, test}
 use Rattle.mm_packet.specs.Packet.{IsTelecommand, IsTelemetry}
@@ -42,6 +43,15 @@ telecommand_is (Telemetry counter destination time) never = absurd never
 pub telemetry_is : (kind : PacketType) → IsTelemetry kind → is_telecommand kind ≡ false
 telemetry_is (Telecommand source) never = absurd never
 telemetry_is (Telemetry counter destination time) is = refl
+
+-- one line more of telemetry that is not late, by whether no route takes it
+pub telemetry_more : (steps : ℕ) (memory : Holdings) (lines : List SourceLine) (d : SourceLine) (n m : Unstored)
+    (untaken : Bool) → Counts steps memory lines n → d.step ≤ steps → IsTelemetry d.packet.kind
+    → is_untaken memory d.packet ≡ untaken → m.late ≡ n.late → m.telecommands ≡ n.telecommands
+    → m.unrouted ≡ n.unrouted + cond untaken 1 0 → Counts steps memory (lines ++ d ∷ []) m
+telemetry_more steps memory lines d n m untaken counted within is u late commands unrouted =
+    counted_more steps memory lines d n m false false untaken counted (grind (arith, nat_tests))
+    (telemetry_is d.packet.kind is) u (omega arith) (omega arith) (omega arith)
 
 -- a line that is added is the last
 pub added_last : (bad : ScriptFault) (earlier lines : List SourceLine) (d : SourceLine)

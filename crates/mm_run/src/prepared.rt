@@ -69,8 +69,7 @@ impl PreparedRun {
             Ok(Flown { sheet, report, .. }) => printed.whole(alloc, sheet, &report),
             Err(FlyHalted { sheet, halted }) => {
                 printed.given.opening = offered_for(&memory, &halted.cause);
-                let told = printed.stopped(alloc, sheet, &halted.cause, &halted.report);
-                told.with_left(StoppedRun { memory, halted })
+                printed.stopped(alloc, sheet, StoppedRun { memory, halted })
             }
         }
     }

@@ -224,31 +224,21 @@ impl Printed {
         self
     }
 
-    /// What is printed of a run that did not begin or was halted.
-    pub(crate) fn stopped(
-        mut self,
-        alloc: Global,
-        sheet: Vec<u8>,
-        cause: &Cause,
-        report: &Report,
-    ) -> Printed
+    /// What is printed of a run that did not begin or was halted, with what it left.
+    pub(crate) fn stopped(mut self, alloc: Global, sheet: Vec<u8>, run: StoppedRun) -> Printed
         requires { IsReserved self }
-        ensures tells { TellsEnd sheet.items cause.now report.now result }
+        ensures tells { TellsEnd sheet.items run.halted.cause run.halted.report result }
         ensures given { result.given ≡ self.given }
+        ensures left { result.left ≡ Some run }
     {
+        let cause = &run.halted.cause;
+        let report = &run.halted.report;
         self.sheet = sheet;
         if step_of(cause).is_some() {
             write_report(&mut self.report, alloc, report);
         }
         push_end(&mut self.end, cause);
         self.outcome = Outcome::Stopped(*cause);
-        self
-    }
-
-    /// What is printed, with what the run left.
-    pub(crate) fn with_left(mut self, run: StoppedRun) -> Printed
-        ensures { result ≡ record self { left = Some run } }
-    {
         self.left = Some(run);
         self
     }

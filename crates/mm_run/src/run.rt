@@ -1,11 +1,10 @@
 //! A run from texts to what is printed: of the plan of a text, or of one that is made.
-ghost use Rattle.std.specs.Prelude.{◌≡◌, ◌<◌, ◌-◌, ◌^◌, All, IfOk, OnOk};
+ghost use Rattle.std.specs.Prelude.{◌≡◌, IfOk, OnOk};
 ghost use Rattle.std.specs.Option.{option_copied};
 ghost use Rattle.mm_base.specs.Reading.{IfRefused};
 ghost use Rattle.mm_run.specs.Judging.{IsFirstFault, IsRunFault, IsFlyFault};
-ghost use Rattle.mm_run.specs.Prepared.{IsPlanBy, IsPrepared};
-ghost use Rattle.mm_run.specs.Sources.{AreFew};
-ghost use Rattle.mm_run.specs.Runs.{opened_with, AreOffered, PrintsRun, Runs, FliesBy};
+ghost use Rattle.mm_run.specs.Prepared.{IsPrepared};
+ghost use Rattle.mm_run.specs.Runs.{opened_with, PrintsRun, Runs, FliesBy};
 
 use crate::fault::Fault;
 use crate::laws::constants_are;
@@ -19,7 +18,6 @@ use crate::texts::{
 use mm_base::NoMemory;
 use mm_memory::Memory;
 use mm_packet::BlockPacket;
-use mm_plan::Sheet;
 use mm_planner::Goal;
 use std::alloc::Global;
 use std::sync::Wait;
@@ -33,47 +31,6 @@ fn offer_all(alloc: Global, memory: &mut Memory, packets: &[BlockPacket]) -> Res
         memory.record(alloc, 0, packet)?;
     }
     Ok(())
-}
-
-// Offers the packets of step 0, and plans where there is no sheet.
-fn prepare(
-    alloc: Global,
-    start: ProblemAndMemory,
-    sheet: Option<Sheet>,
-    goal: Goal,
-    sides: SourcesAndLinks,
-) -> Result<PreparedRun, NoMemory>
-    requires opened { AreOffered 0 start.memory.stores }
-    requires few { AreFew sides.sources.items }
-    requires unfailed { All (λ l. l.failed < 2 ^ 64 - 1) sides.links.items }
-    ensures problem { IfOk result (λ run. run.problem ≡ start.problem) }
-    ensures plan { IfOk result (λ run. IsPlanBy goal sheet start.problem run.plan) }
-    ensures memory { IfOk result (λ run. run.memory ≡ opened_with start.memory sides.opening.items) }
-    ensures sides { IfOk result (λ run. (run.sources ≡ sides.sources) × (run.links ≡ sides.links)) }
-    ensures given { IfOk result (λ run. run.printed.given ≡ sides.given) }
-{
-    let ProblemAndMemory {
-        problem,
-        mut memory,
-    } = start;
-    let SourcesAndLinks {
-        opening,
-        sources,
-        links,
-        given,
-    } = sides;
-    constants_are();
-    offer_all(alloc, &mut memory, opening.as_slice())?;
-    let printed = Printed::reserved(alloc, given)?;
-    let plan = plan_by(alloc, &problem, sheet, goal);
-    Ok(PreparedRun {
-        problem,
-        memory,
-        plan,
-        sources,
-        links,
-        printed,
-    })
 }
 
 /// Reads and judges what the texts say of a run, and makes a plan for the goal and prints it where there is no plan
@@ -92,9 +49,28 @@ pub fn prepare_run(
 {
     let start = read_problem_and_memory(alloc, texts.setup, texts.forecast)?;
     let sheet = read_plan(alloc, &start.problem, plan)?;
-    let sides = read_sources_and_links(alloc, &start, texts.sources, texts.links)?;
-    let run = prepare(alloc, start, sheet, goal, sides)?;
-    Ok(run)
+    let SourcesAndLinks {
+        opening,
+        sources,
+        links,
+        given,
+    } = read_sources_and_links(alloc, &start, texts.sources, texts.links)?;
+    let ProblemAndMemory {
+        problem,
+        mut memory,
+    } = start;
+    constants_are();
+    offer_all(alloc, &mut memory, opening.as_slice())?;
+    let printed = Printed::reserved(alloc, given)?;
+    let plan = plan_by(alloc, &problem, sheet, goal);
+    Ok(PreparedRun {
+        problem,
+        memory,
+        plan,
+        sources,
+        links,
+        printed,
+    })
 }
 
 /// What is printed of the run that the texts say: the packets of step 0 are offered at the moment 0, and then the plan

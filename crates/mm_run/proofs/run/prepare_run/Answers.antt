@@ -1,18 +1,28 @@
+use Rattle.std.proofs.Common.{◌≡◌, length, arith}
+use Rattle.mm_run.specs.Runs.{opened_with}
+use Rattle.mm_run.proofs.Offered.{within_limits}
 use Rattle.mm_run.proofs.run.prepare_run.Goals as goal
 
+pub invariant_of-result-clause-within : goal.invariant_of-result-clause-within
+invariant_of-result-clause-within c =
+    let start = c.in_ok-start.start in
+    let sides = c.in_ok-opening.field-0 in
+    let memory : c.offer_all.new.memory ≡ opened_with start.memory sides.opening.items = cc c.in_ok-offer_all.ensures in
+    rw memory (within_limits (length start.problem.windows) start.memory sides.opening.items sides.sources.items
+    (omega (arith, sides.opening.ok.0)) c.constants_are.ensures.packets c.in_ok-start.ensures.opened
+    c.in_ok-opening.ensures.few)
+
 pub returns-clause-prepared : goal.returns-clause-prepared
-returns-clause-prepared c =
-    let run = c.in_ok-run.ensures in
-    record {
-      memory = c.in_ok-start.start.memory;
-      sheet = c.in_ok-sheet.sheet;
-      start_says = rw run.problem (record {
-        problem_says = c.in_ok-start.ensures.found;
-        plan_says = c.in_ok-sheet.ensures.found;
-      });
-      opening = c.in_ok-sides.sides.opening.items;
-      sides_say = rw (run.sides.0, run.sides.1) c.in_ok-sides.ensures.found;
-      opened = run.memory;
-      plan_is = rw run.problem run.plan;
-      counts = rw (run.problem, run.given) c.in_ok-sides.ensures.counts;
-    }
+returns-clause-prepared c = record {
+  memory = c.in_ok-start.start.memory;
+  sheet = c.in_ok-sheet.sheet;
+  start_says = record {
+    problem_says = c.in_ok-start.ensures.found;
+    plan_says = c.in_ok-sheet.ensures.found;
+  };
+  opening = c.in_ok-opening.field-0.opening.items;
+  sides_say = c.in_ok-opening.ensures.found;
+  opened = cc c.in_ok-offer_all.ensures;
+  plan_is = c.plan_by-plan.ensures;
+  counts = rw c.in_ok-printed.ensures.given c.in_ok-opening.ensures.counts;
+}

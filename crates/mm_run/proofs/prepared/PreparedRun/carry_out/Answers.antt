@@ -1,4 +1,4 @@
-use Rattle.std.proofs.Common.{◌≡◌, ◌∙◌, ap, inl, inr, ℕ, List, length}
+use Rattle.std.proofs.Common.{◌≡◌, ap, inl, inr, ℕ, List, length}
 use Rattle.std.specs.Prelude.{Option}
 use Rattle.mm_record.proofs.Supplying.{as_known}
 use Rattle.mm_carry.specs.Course.{AreWithinLimits}
@@ -42,9 +42,7 @@ returns-in-Ok-clause-runs g c = λ goal plan setup forecast sources links run.
 
 pub returns-clause-runs : goals.returns-clause-runs
 returns-clause-runs g c = λ goal plan setup forecast sources links run.
-    let told = c.stopped-told.ensures in
-    let kept = ap (λ (p : Printed). p.given.unstored) c.with_left.ensures in
-    prints c.args.self c.with_left.result run (inr (record {
+    prints c.args.self c.stopped.result run (inr (record {
       left = c.fly_plan.new.memory;
       ended = c.in-Err.field-0;
       not_flown = c.in-Err.ensures.not_flown goal run.sheet run.plan_is;
@@ -52,11 +50,6 @@ returns-clause-runs g c = λ goal plan setup forecast sources links run.
           (λ given rest. AreWithinLimits (length c.args.self.problem.windows) c.args.self.memory.stores given
           → NeverRefused c.in-Err.field-0.halted.cause)
           c.in-Err.ensures.far c.args.self.within;
-      tells = rw c.with_left.ensures (record {
-        sheet_is = told.tells.sheet_is;
-        end_is = told.tells.end_is;
-        report_is = told.tells.report_is;
-        outcome_is = told.tells.outcome_is;
-      });
-      left_is = ap (λ (p : Printed). p.left) c.with_left.ensures;
-    })) (kept ∙ ap (λ (given : Given). given.unstored) told.given)
+      tells = c.stopped.ensures.tells;
+      left_is = c.stopped.ensures.left;
+    })) (ap (λ (given : Given). given.unstored) c.stopped.ensures.given)
