@@ -9,7 +9,7 @@ use Rattle.mm_command_line.specs.declared.task.FlightPlan.{FlightPlan}
 use Rattle.mm_command_line.specs.declared.task.FlightPlan.TheVariants.{Given, Made}
 use Rattle.mm_command_line.specs.declared.task.PlanFiles.{PlanFiles}
 use Rattle.mm_command_line.specs.declared.task.Task.{Task}
-use Rattle.mm_command_line.specs.declared.task.Task.TheVariants.{Plan, Check, Chart, Table, Sensitivity, Fly, Ask, Read}
+use Rattle.mm_command_line.specs.declared.task.Task.TheVariants.{Plan, Chart, Table, Fly}
 
 abbrev Text : Type 0
 Text = List ℕ
@@ -51,13 +51,9 @@ own_flight setup forecast sources links (Made in_order) = (in_order, refl)
 
 has_own_flags : (task : Task) → HasOwnFlags task (command_words task)
 has_own_flags (Plan setup forecast in_order output) = (in_order, refl)
-has_own_flags (Check files) = (false, refl)
 has_own_flags (Chart files worth output) = (worth, refl)
-has_own_flags (Table files output) = (false, refl)
-has_own_flags (Sensitivity setup forecast) = (false, refl)
 has_own_flags (Fly f) = own_flight f.setup.now f.forecast.now f.sources.now f.links.now f.plan
-has_own_flags (Ask setup requests) = (false, refl)
-has_own_flags (Read packets) = (false, refl)
+has_own_flags other = (false, refl)
 
 -- a task of the words of a command has no flag but that of the command
 pub flags_of : (task : Task) (words : List Text) → command_words task ≡ words → HasOwnFlags task words
@@ -72,13 +68,9 @@ has_output (command ∷ names) =
 
 no_output : (task : Task) → has_output (command_words task) ≡ false → output_of task ≡ None
 no_output (Plan setup forecast in_order output) none = absurd (true≢false none)
-no_output (Check files) none = refl
 no_output (Chart files worth output) none = absurd (true≢false none)
 no_output (Table files output) none = absurd (true≢false none)
-no_output (Sensitivity setup forecast) none = refl
-no_output (Fly files) none = refl
-no_output (Ask setup requests) none = refl
-no_output (Read packets) none = refl
+no_output other none = refl
 
 -- a task of the words of a command without an output has none
 pub outputs_none : (task : Task) (words : List Text) (names : List Text) (output : Option (Bor Text))
@@ -114,10 +106,7 @@ pub bare : (task : Task)
     → ((files : PlanFiles) (output : Option (Bor Text)) → task ≡ Table files output → ⊥)
     → ((files : FlightFiles) → task ≡ Fly files → ⊥) → AreBare (command_words task)
 bare (Plan setup forecast in_order output) plan chart table fly = absurd (plan setup forecast in_order output refl)
-bare (Check files) plan chart table fly = record { flags = refl; output = refl }
 bare (Chart files worth output) plan chart table fly = absurd (chart files worth output refl)
 bare (Table files output) plan chart table fly = absurd (table files output refl)
-bare (Sensitivity setup forecast) plan chart table fly = record { flags = refl; output = refl }
 bare (Fly files) plan chart table fly = absurd (fly files refl)
-bare (Ask setup requests) plan chart table fly = record { flags = refl; output = refl }
-bare (Read packets) plan chart table fly = record { flags = refl; output = refl }
+bare other plan chart table fly = record { flags = refl; output = refl }

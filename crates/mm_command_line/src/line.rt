@@ -17,58 +17,35 @@ use clap::{ArgMatches, Command, Error};
 use std::alloc::{AllocError, Global};
 use std::convert::AsStr;
 
+// The task of these words: for each command the words of a line, and what they ask for.
+macro_rules! task_by {
+    ($words:expr; $($line:pat => $task:expr;)+) => {
+        match $words {
+            $($line => Some($task),)+
+            _ => None,
+        }
+    };
+}
+
 // The task that the words of a command ask for, without its flag and its output.
 fn task_of<'a>(words: &[&'a str]) -> Option<Task<'a>>
     ensures spelled { IfSome result (λ task. command_words task ≡ map (λ word. word.now) words.now) }
     ensures none { IfNone result ((task : Task) → command_words task ≡ map (λ word. word.now) words.now → ⊥) }
 {
-    match *words {
-        ["plan", setup, forecast] => Some(Task::Plan {
-            setup,
-            forecast,
-            in_order: false,
-            output: None,
-        }),
-        ["check", setup, forecast, plan] => Some(Task::Check(PlanFiles {
-            setup,
-            forecast,
-            plan,
-        })),
-        ["chart", setup, forecast, plan] => Some(Task::Chart {
-            files: PlanFiles {
-                setup,
-                forecast,
-                plan,
-            },
-            worth: false,
-            output: None,
-        }),
-        ["table", setup, forecast, plan] => Some(Task::Table {
-            files: PlanFiles {
-                setup,
-                forecast,
-                plan,
-            },
-            output: None,
-        }),
-        ["sensitivity", setup, forecast] => Some(Task::Sensitivity { setup, forecast }),
-        ["run", setup, forecast, plan, sources, links] => Some(Task::Fly(FlightFiles {
-            setup,
-            forecast,
-            plan: FlightPlan::Given(plan),
-            sources,
-            links,
-        })),
-        ["fly", setup, forecast, sources, links] => Some(Task::Fly(FlightFiles {
-            setup,
-            forecast,
-            plan: FlightPlan::Made { in_order: false },
-            sources,
-            links,
-        })),
-        ["ask", setup, requests] => Some(Task::Ask { setup, requests }),
-        ["read", packets] => Some(Task::Read { packets }),
-        _ => None,
+    task_by! {
+        *words;
+        ["plan", setup, forecast] => Task::Plan { setup, forecast, in_order: false, output: None };
+        ["check", setup, forecast, plan] => Task::Check(PlanFiles { setup, forecast, plan });
+        ["chart", setup, forecast, plan] =>
+            Task::Chart { files: PlanFiles { setup, forecast, plan }, worth: false, output: None };
+        ["table", setup, forecast, plan] => Task::Table { files: PlanFiles { setup, forecast, plan }, output: None };
+        ["sensitivity", setup, forecast] => Task::Sensitivity { setup, forecast };
+        ["run", setup, forecast, plan, sources, links] =>
+            Task::Fly(FlightFiles { setup, forecast, plan: FlightPlan::Given(plan), sources, links });
+        ["fly", setup, forecast, sources, links] =>
+            Task::Fly(FlightFiles { setup, forecast, plan: FlightPlan::Made { in_order: false }, sources, links });
+        ["ask", setup, requests] => Task::Ask { setup, requests };
+        ["read", packets] => Task::Read { packets };
     }
 }
 

@@ -2,8 +2,7 @@
 ghost use Rattle.std.specs.Prelude.{◌≡◌, ◌↔◌, ℕ, Bool, List, Option, IfOk, IfSome, IfNone, IsTrue, map, option_map};
 ghost use Rattle.std.specs.Borrow.{Bor};
 ghost use Rattle.mm_command_line.specs.Lines.{IsFileName, IsOutput, flags_if, is_task_flag, joined_name, no_parts};
-ghost use Rattle.mm_command_line.specs.Lines.{parts_in, parts_of, read_word, with_flag, with_option};
-ghost use Rattle.mm_command_line.specs.Lines.{with_output, with_word};
+ghost use Rattle.mm_command_line.specs.Lines.{parts_in, parts_of, read_word, with_option};
 
 use std::alloc::{AllocError, Global};
 use std::convert::AsStr;
@@ -78,43 +77,20 @@ impl<'a> Line<'a> {
         }
     }
 
-    // Adds a word of the command.
-    fn add_word(&mut self, word: &'a str) -> Result<(), AllocError>
-        ensures added { IfOk result (λ _. parts_in self.new ≡ with_word (parts_in self.old) word.entry.now) }
-    {
-        self.command.push(word)?;
-        Ok(())
-    }
-
-    fn add_flag(&mut self, flag: &'a str) -> Result<(), AllocError>
-        ensures added { IfOk result (λ _. parts_in self.new ≡ with_flag (parts_in self.old) flag.entry.now) }
-    {
-        self.flags.push(flag)?;
-        Ok(())
-    }
-
-    fn add_output(&mut self, name: &'a str) -> Result<(), AllocError>
-        ensures added { IfOk result (λ _. parts_in self.new ≡ with_output (parts_in self.old) name.entry.now) }
-    {
-        self.outputs.push(name)?;
-        Ok(())
-    }
-
     // Reads a word that may be an option.
     fn read_option(&mut self, word: &'a str) -> Result<(), AllocError>
         ensures read { IfOk result (λ _. parts_in self.new ≡ with_option (parts_in self.old) word.entry.now) }
     {
         if is_task_flag(word) {
-            return self.add_flag(word);
-        }
-        if word == OUTPUT {
+            self.flags.push(word)?;
+        } else if word == OUTPUT {
             self.next = Next::Output;
-            return Ok(());
+        } else if let Some(name) = joined_name(word) {
+            self.outputs.push(name)?;
+        } else {
+            self.command.push(word)?;
         }
-        match joined_name(word) {
-            Some(name) => self.add_output(name),
-            None => self.add_word(word),
-        }
+        Ok(())
     }
 
     // Reads the next word.
@@ -124,19 +100,20 @@ impl<'a> Line<'a> {
         match self.next {
             Next::Output => {
                 self.next = Next::Any;
-                self.add_output(word)
+                self.outputs.push(word)?;
             }
-            Next::File => self.add_word(word),
+            Next::File => self.command.push(word)?,
             _ if word == "--" => {
                 self.next = Next::File;
-                self.add_word(word)
+                self.command.push(word)?;
             }
             Next::Command => {
                 self.next = Next::Any;
-                self.add_word(word)
+                self.command.push(word)?;
             }
-            Next::Any => self.read_option(word),
+            Next::Any => self.read_option(word)?,
         }
+        Ok(())
     }
 }
 

@@ -1,7 +1,7 @@
 //! The tasks of the program, and their files.
 ghost use Rattle.std.specs.Prelude.{◌≡◌, IfSome, IfNone, map};
 ghost use Rattle.mm_command_line.specs.Lines.{IsOutput, command_words, flag_of, output_of};
-ghost use Rattle.mm_command_line.specs.Names.{names_in, names_of_plan, no_names};
+ghost use Rattle.mm_command_line.specs.Names.{names_in};
 ghost use Rattle.mm_command_line.specs.declared.task.Task.TheVariants.{Fly};
 
 use crate::options::{IN_ORDER, WORTH, is_given, output_in};
@@ -17,7 +17,7 @@ pub enum Role {
 }
 
 /// The names of a task's files; none for a file that the task does not have.
-#[derive(Clone, Copy)]
+#[derive(Clone, Copy, Default)]
 pub struct FileNames<'a> {
     pub setup: Option<&'a str>,
     pub forecast: Option<&'a str>,
@@ -28,17 +28,9 @@ pub struct FileNames<'a> {
     pub packets: Option<&'a str>,
 }
 
-fn no_names<'a>() -> FileNames<'a>
-    ensures { result ≡ no_names }
-{
-    FileNames {
-        setup: None,
-        forecast: None,
-        plan: None,
-        sources: None,
-        links: None,
-        packets: None,
-    }
+// The names of these files, and of no others.
+macro_rules! names {
+    ($($file:ident: $name:expr),+) => { FileNames { $($file: Some($name),)+ ..FileNames::default() } };
 }
 
 /// The files of a problem and of a plan for it, by their names.
@@ -47,19 +39,6 @@ pub struct PlanFiles<'a> {
     pub setup: &'a str,
     pub forecast: &'a str,
     pub plan: &'a str,
-}
-
-impl<'a> PlanFiles<'a> {
-    fn names(self) -> FileNames<'a>
-        ensures { result ≡ names_of_plan self.entry }
-    {
-        FileNames {
-            setup: Some(self.setup),
-            forecast: Some(self.forecast),
-            plan: Some(self.plan),
-            ..no_names()
-        }
-    }
 }
 
 /// The plan of a run.
@@ -173,24 +152,12 @@ impl<'a> Task<'a> {
                 forecast,
                 ..
             }
-            | Task::Sensitivity { setup, forecast } => FileNames {
-                setup: Some(setup),
-                forecast: Some(forecast),
-                ..no_names()
-            },
-            Task::Check(files) | Task::Chart { files, .. } | Task::Table { files, .. } => {
-                files.names()
-            }
+            | Task::Sensitivity { setup, forecast } => names! { setup: setup, forecast: forecast },
+            Task::Check(files) | Task::Chart { files, .. } | Task::Table { files, .. } =>
+                names! { setup: files.setup, forecast: files.forecast, plan: files.plan },
             Task::Fly(files) => files.names(),
-            Task::Ask { setup, requests } => FileNames {
-                setup: Some(setup),
-                packets: Some(requests),
-                ..no_names()
-            },
-            Task::Read { packets } => FileNames {
-                packets: Some(packets),
-                ..no_names()
-            },
+            Task::Ask { setup, requests } => names! { setup: setup, packets: requests },
+            Task::Read { packets } => names! { packets: packets },
         }
     }
 

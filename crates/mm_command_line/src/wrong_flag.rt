@@ -2,7 +2,7 @@
 
 use crate::options::{IN_ORDER, Next, OUTPUT, WORTH, is_file_name};
 use std::convert::AsStr;
-use std::fmt;
+use std::{fmt, mem};
 
 /// The most characters in which a word may differ from a flag that is told as near, after what both begin with and what
 /// both end with.
@@ -102,54 +102,36 @@ fn is_near(word: &[u8], flag: &[u8]) -> bool {
     longer.saturating_sub(front).saturating_sub(end) <= NEAR
 }
 
-// The option that a word is, and its value after `=`.
-fn option_in(word: &str) -> Option<(&'static str, Option<&str>)> {
-    for flag in [IN_ORDER, WORTH, OUTPUT] {
-        if let Some(rest) = word.strip_prefix(flag) {
-            if rest.is_empty() {
-                return Some((flag, None));
-            }
-            if let Some(value) = rest.strip_prefix('=') {
-                return Some((flag, Some(value)));
-            }
-        }
-    }
-    None
-}
-
-// The commands that an option goes with.
-fn commands_of(flag: &str) -> &'static str {
-    match flag {
-        IN_ORDER => "plan and fly",
-        WORTH => "chart",
-        _ => "plan, chart and table",
-    }
-}
-
-fn goes_with(flag: &str, command: &str) -> bool {
-    match command {
-        "plan" => flag == IN_ORDER || flag == OUTPUT,
-        "chart" => flag == WORTH || flag == OUTPUT,
-        "table" => flag == OUTPUT,
-        "fly" => flag == IN_ORDER,
-        _ => false,
-    }
-}
-
-// A word without its value.
-fn name_in(word: &str) -> &str {
+// A word up to the first `=`, and the value after it.
+fn parts_of(word: &str) -> (&str, Option<&str>) {
     match word.split_once('=') {
-        Some((name, _)) => name,
-        None => word,
+        Some((name, value)) => (name, Some(value)),
+        None => (word, None),
     }
+}
+
+// An option of tasks: its flag, the commands that it goes with, and how these are told.
+type TaskOption = (&'static str, &'static [&'static str], &'static str);
+
+static OPTIONS: [TaskOption; 3] = [
+    (IN_ORDER, &["plan", "fly"], "plan and fly"),
+    (WORTH, &["chart"], "chart"),
+    (OUTPUT, &["plan", "chart", "table"], "plan, chart and table"),
+];
+
+// The option that a word is, and its value.
+fn option_in(word: &str) -> Option<(TaskOption, Option<&str>)> {
+    let (name, value) = parts_of(word);
+    let option = OPTIONS.iter().find(|option| option.0 == name)?;
+    Some((*option, value))
 }
 
 // What is wrong with a word that is spelled like a flag, and is none.
 fn unknown(word: &str) -> FlagFault<'_> {
-    let name = name_in(word).as_bytes();
+    let (name, _) = parts_of(word);
     let is_short = word.starts_with("-o");
     for (near, place) in FLAGS {
-        if (is_short && near == OUTPUT) || is_near(name, near.as_bytes()) {
+        if (is_short && near == OUTPUT) || is_near(name.as_bytes(), near.as_bytes()) {
             return FlagFault::Unknown { word, near, place };
         }
     }
@@ -180,24 +162,20 @@ impl Read<'_> {
     // Notes an option of the command, and says whether it was there already.
     fn note(&mut self, flag: &'static str) -> bool {
         if flag == OUTPUT {
-            let was = self.has_output;
-            self.has_output = true;
-            was
+            mem::replace(&mut self.has_output, true)
         } else {
-            let was = self.has_flag;
-            self.has_flag = true;
-            was
+            mem::replace(&mut self.has_flag, true)
         }
     }
 
     // What is wrong with an option.
     fn option_fault(
         &mut self,
-        flag: &'static str,
+        (flag, commands, told): TaskOption,
         value: Option<&str>,
     ) -> Option<FlagFault<'static>> {
-        if !goes_with(flag, self.command) {
-            let commands = commands_of(flag);
+        if !commands.contains(&self.command) {
+            let commands = told;
             return Some(FlagFault::OfOthers { flag, commands });
         }
         if self.note(flag) {
@@ -218,7 +196,7 @@ impl Read<'_> {
     fn fault<'w>(&mut self, word: &'w str) -> Option<FlagFault<'w>> {
         match self.next {
             Next::File => {
-                let (flag, _) = option_in(word)?;
+                let ((flag, ..), _) = option_in(word)?;
                 Some(FlagFault::Late(flag))
             }
             Next::Output => {
@@ -234,7 +212,7 @@ impl Read<'_> {
                 None
             }
             _ => match option_in(word) {
-                Some((flag, value)) => self.option_fault(flag, value),
+                Some((option, value)) => self.option_fault(option, value),
                 None => no_option(word),
             },
         }
@@ -244,9 +222,8 @@ impl Read<'_> {
 /// What is wrong with the first flag among these words that is not read: it stands where none is read, is another
 /// command's, is given twice, lacks its value or has one that it cannot have, or there is none that is spelled like it.
 pub fn flag_fault<S: AsStr>(words: &[S]) -> Option<FlagFault<'_>> {
-    let (command, rest) = words.split_first()?;
-    let command = command.as_str();
-    if let Some((flag, _)) = option_in(command) {
+    let command = words.first()?.as_str();
+    if let Some(((flag, ..), _)) = option_in(command) {
         return Some(FlagFault::Early(flag));
     }
     let mut read = Read {
@@ -255,10 +232,7 @@ pub fn flag_fault<S: AsStr>(words: &[S]) -> Option<FlagFault<'_>> {
         has_output: false,
         next: Next::Any,
     };
-    if let Some(fault) = read.fault(command) {
-        return Some(fault);
-    }
-    for word in rest {
+    for word in words {
         if let Some(fault) = read.fault(word.as_str()) {
             return Some(fault);
         }

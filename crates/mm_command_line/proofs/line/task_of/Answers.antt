@@ -2,7 +2,7 @@ use Rattle.std.proofs.Common.{◌≡◌, ℕ, List, map, arith}
 use Rattle.mm_command_line.specs.Lines.{flight_spelling}
 use Rattle.mm_command_line.specs.declared.task.FlightPlan.{FlightPlan}
 use Rattle.mm_command_line.specs.declared.task.FlightPlan.TheVariants.{Given, Made}
-use Rattle.mm_command_line.specs.declared.task.Task.TheVariants.{Plan, Check, Chart, Table, Sensitivity, Fly, Ask, Read}
+use Rattle.mm_command_line.specs.declared.task.Task.TheVariants.{Fly}
 use Rattle.mm_command_line.proofs.Plain.{count_is, first_is}
 use Rattle.mm_command_line.proofs.line.task_of.Goals.{In_default}
 use Rattle.mm_command_line.proofs.line.task_of.Goals as goal
@@ -13,13 +13,6 @@ no_flight c setup forecast sources links (Made in_order) is = grind (arith, coun
 no_flight c setup forecast sources links (Given plan) is = grind (arith, count_is _ _ is, first_is _ _ is)
 
 pub returns-in_default-clause-none : goal.returns-in_default-clause-none
-returns-in_default-clause-none c (Plan setup forecast in_order output) is =
-    grind (arith, count_is _ _ is, first_is _ _ is)
-returns-in_default-clause-none c (Check files) is = grind (arith, count_is _ _ is, first_is _ _ is)
-returns-in_default-clause-none c (Chart files worth output) is = grind (arith, count_is _ _ is, first_is _ _ is)
-returns-in_default-clause-none c (Table files output) is = grind (arith, count_is _ _ is, first_is _ _ is)
-returns-in_default-clause-none c (Sensitivity setup forecast) is = grind (arith, count_is _ _ is, first_is _ _ is)
 returns-in_default-clause-none c (Fly files) is =
     no_flight c files.setup.now files.forecast.now files.sources.now files.links.now files.plan is
-returns-in_default-clause-none c (Ask setup requests) is = grind (arith, count_is _ _ is, first_is _ _ is)
-returns-in_default-clause-none c (Read packets) is = grind (arith, count_is _ _ is, first_is _ _ is)
+returns-in_default-clause-none c other is = grind (arith, count_is _ _ is, first_is _ _ is)
