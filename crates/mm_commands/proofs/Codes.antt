@@ -4,7 +4,7 @@ use Rattle.std.proofs.Common.{inr, refl, ap, arith}
 use Rattle.mm_commands.specs.Statuses.{exit_code}
 use Rattle.mm_commands.specs.declared.status.Status.{Status}
 use Rattle.mm_commands.specs.declared.status.Status.TheVariants.{Done, Refused, BadCommandLine}
-use Rattle.mm_commands.specs.Contents.{Contents, FilesView}
+use Rattle.mm_files.specs.Contents.{Contents, FilesView}
 use Rattle.mm_commands.specs.declared.texts.TaskTexts.{TaskTexts}
 use Rattle.mm_commands.specs.Answers.{AnswersTask, Gives, Prints}
 use Rattle.mm_commands.specs.Refusing.{Refuses}

@@ -9,7 +9,7 @@ use Rattle.mm_command_line.specs.declared.task.Task.TheVariants.{Fly}
 use Rattle.mm_run.specs.Printed.{text_of}
 use Rattle.mm_run.specs.declared.printed.Printed.{Printed}
 use Rattle.mm_commands.specs.Answers.{FliesTexts, PrintsFlown, status_of_run}
-use Rattle.mm_commands.specs.Contents.{FilesView, WereRead}
+use Rattle.mm_files.specs.Contents.{FilesView, WereRead}
 use Rattle.mm_commands.specs.Reading.{readings_of}
 use Rattle.mm_commands.specs.Refusing.{Settles}
 use Rattle.mm_commands.specs.declared.status.Status.{Status}

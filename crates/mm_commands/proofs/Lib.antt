@@ -1,4 +1,3 @@
-pub mod ScriptLemmas
 mod Printing
 mod Refusals
 mod Codes

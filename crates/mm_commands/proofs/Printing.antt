@@ -5,7 +5,7 @@ use Rattle.mm_commands.specs.declared.answers.Answer.{Answer}
 use Rattle.mm_command_line.specs.Lines.{output_of}
 use Rattle.mm_command_line.specs.Names.{names_in}
 use Rattle.mm_command_line.specs.declared.task.Task.{Task}
-use Rattle.mm_commands.specs.Contents.{FilesView, WereRead}
+use Rattle.mm_files.specs.Contents.{FilesView, WereRead}
 use Rattle.mm_commands.specs.Reading.{readings_of}
 use Rattle.mm_commands.specs.Streams.{file_of}
 use Rattle.mm_commands.specs.declared.texts.TaskTexts.{TaskTexts}

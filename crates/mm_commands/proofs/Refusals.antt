@@ -5,7 +5,7 @@ use Rattle.std.proofs.lemmas.List.{map-append}
 use Rattle.std.proofs.lemmas.List.Elements.{All-nil, All-cons, All-append}
 use Rattle.std.specs.Prelude.{All}
 use Rattle.std.specs.Io.KnownBytes.{Appends}
-use Rattle.mm_commands.specs.Contents.{Contents, FilesView, MayBe, Notes, Reading, WereRead, reading}
+use Rattle.mm_files.specs.Contents.{Contents, FilesView, MayBe, Notes, Reading, WereRead, reading}
 use Rattle.mm_commands.specs.Faults.{refused_line}
 use Rattle.mm_commands.specs.Reading.{IsUnread, StopsAt, name_of, reading_of}
 use Rattle.mm_commands.specs.Refusing.{IsFaultRead, Refuses, files_of}

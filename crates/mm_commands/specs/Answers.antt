@@ -24,7 +24,7 @@ use Rattle.mm_run.specs.Printed.{text_of}
 use Rattle.mm_run.specs.Runs.{PrintsRun}
 use Rattle.mm_sensitivity.specs.Charts.{ChartsWorth}
 use Rattle.mm_sensitivity.specs.Table.{IsWorthTable}
-use Rattle.mm_commands.specs.Contents.{Contents, FilesView, IsStored, WereRead}
+use Rattle.mm_files.specs.Contents.{Contents, FilesView, IsStored, WereRead}
 use Rattle.mm_commands.specs.Reading.{readings_of}
 use Rattle.mm_commands.specs.Streams.{file_of}
 use Rattle.mm_commands.specs.declared.status.Status.{Status}

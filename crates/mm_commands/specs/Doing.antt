@@ -4,9 +4,9 @@ use Rattle.std.specs.List.{slice_split}
 use Rattle.std.specs.Str.{IsUtf8}
 use Rattle.std.specs.Io.KnownBytes.{Appends}
 use Rattle.mm_base.specs.Characters.{space}
-use Rattle.mm_commands.specs.Contents.{FilesView}
-use Rattle.mm_commands.specs.Scripts.{IsFirstLine, script_view}
-use Rattle.mm_commands.specs.declared.files.ReadFault.TheVariants.{NoMemory}
+use Rattle.mm_files.specs.Contents.{FilesView}
+use Rattle.mm_files.specs.Scripts.{IsFirstLine, script_view}
+use Rattle.mm_files.specs.declared.files.ReadFault.TheVariants.{NoMemory}
 use Rattle.mm_commands.specs.declared.status.Status.{Status}
 use Rattle.mm_commands.specs.declared.status.Status.TheVariants.{Done, Refused, BadCommandLine}
 use Rattle.mm_command_line.specs.Lines.{IsTaskLine, Spells, is_version_line}

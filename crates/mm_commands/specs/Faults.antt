@@ -12,7 +12,7 @@ use Rattle.mm_run.specs.declared.fault.Fault.TheVariants as flight
 use Rattle.mm_told.specs.Spots.{spot_in_problem, spot_in_plan, spot_in_texts, fields_text}
 use Rattle.mm_told.specs.declared.spot.Spot.{Spot}
 use Rattle.mm_told.specs.declared.spot.Spot.TheVariants.{Whole}
-use Rattle.mm_commands.specs.FileNames.{shown_name}
+use Rattle.mm_files.specs.FileNames.{shown_name}
 use Rattle.mm_commands.specs.Spots.{spot_in_script}
 use Rattle.mm_commands.specs.declared.fault.Fault.{Fault}
 use Rattle.mm_commands.specs.declared.fault.Fault.TheVariants.{NoMemory, NotRead, Texts, Run, Setup}

@@ -1,14 +1,8 @@
-pub mod Contents
-pub mod Notes
 pub mod Reading
-pub mod Inputs
-pub mod ReadFaults
-pub mod Scripts
 pub mod Statuses
 pub mod Streams
 pub mod Answers
 pub mod Spots
-pub mod FileNames
 pub mod Faults
 pub mod Refusing
 pub mod Doing

@@ -1,7 +1,7 @@
 -- Which files of a task were read, and where reading stopped.
 use Rattle.std.specs.Prelude.{◌≡◌, ℕ, List, [], ◌∷◌, ◌++◌, map, Option, Some, None}
 use Rattle.std.specs.Borrow.{Bor}
-use Rattle.mm_commands.specs.Contents.{Contents, MayBeUnread, Reading, WereRead, reading}
+use Rattle.mm_files.specs.Contents.{Contents, MayBeUnread, Reading, WereRead, reading}
 use Rattle.mm_commands.specs.declared.fault.Fault.{Fault}
 use Rattle.mm_commands.specs.declared.fault.Fault.TheVariants.{NoMemory, NotRead}
 use Rattle.mm_commands.specs.declared.texts.TaskTexts.{TaskTexts}

@@ -11,15 +11,15 @@ use Rattle.mm_run.specs.Ending.{refusal_text}
 use Rattle.mm_run.specs.Judging.{IsFirstFault}
 use Rattle.mm_run.specs.declared.fault.Fault.{Fault as FlightFault}
 use Rattle.mm_run.specs.declared.fault.Fault.TheVariants as flight
-use Rattle.mm_commands.specs.Contents.{FilesView, WereRead}
+use Rattle.mm_files.specs.Contents.{FilesView, WereRead}
 use Rattle.mm_commands.specs.Reading.{IsUnread, listed, readings_of}
-use Rattle.mm_commands.specs.declared.files.ReadFault.{ReadFault}
-use Rattle.mm_commands.specs.declared.files.ReadFault.TheVariants as read
+use Rattle.mm_files.specs.declared.files.ReadFault.{ReadFault}
+use Rattle.mm_files.specs.declared.files.ReadFault.TheVariants as read
 use Rattle.mm_commands.specs.declared.status.Status.{Status}
 use Rattle.mm_commands.specs.declared.status.Status.TheVariants.{Refused}
 use Rattle.mm_commands.specs.Answers.{Prints, given_plan}
 use Rattle.mm_commands.specs.Faults.{refused_line}
-use Rattle.mm_commands.specs.FileNames.{shown_name}
+use Rattle.mm_files.specs.FileNames.{shown_name}
 use Rattle.mm_commands.specs.declared.fault.Fault.{Fault}
 use Rattle.mm_commands.specs.declared.fault.Fault.TheVariants.{NoMemory, Texts, Run, Setup}
 use Rattle.mm_commands.specs.declared.texts.TaskTexts.{TaskTexts}

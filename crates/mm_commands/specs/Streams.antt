@@ -1,19 +1,12 @@
--- When the name `-` is that of a standard stream, and no file's.
-use Rattle.std.specs.Prelude.{◌≡◌, ◌+◌, ◌&&◌, ℕ, Bool, true, List, Option, Some, None, codes, bytes_eq, nat_lt}
+-- Which output goes into a file, and when a task reads standard input twice.
+use Rattle.std.specs.Prelude.{◌≡◌, ◌+◌, ◌&&◌, ℕ, Bool, true, List, Option, Some, None, bytes_eq, nat_lt}
 use Rattle.std.specs.Prelude.{if◌then◌else◌}
 use Rattle.std.specs.Borrow.{Bor}
+use Rattle.mm_files.specs.Streams.{stream_name, is_stream}
 use Rattle.mm_command_line.specs.Lines.{Spells}
 use Rattle.mm_command_line.specs.Names.{names_in}
 use Rattle.mm_command_line.specs.declared.task.FileNames.{FileNames}
 use Rattle.mm_command_line.specs.declared.task.Task.{Task}
-
--- the name of standard input, and of standard output
-abbrev pub stream_name : List ℕ
-stream_name = codes "-"
-
--- the name is that of a stream, where there are streams
-abbrev pub is_stream : Bool → List ℕ → Bool
-is_stream streams name = streams && bytes_eq name stream_name
 
 -- the file that a text goes into, where an output is named that is not standard output
 abbrev pub file_of : Bool → Option (Bor (List ℕ)) → Option (Bor (List ℕ))

@@ -1,11 +1,11 @@
 //! What the program says of a refusal on standard error: which file, where in it, what was expected, and what to do.
 
 use crate::fault::Fault;
-use crate::file_name::Shown;
 use crate::remark::{Found, tell_hint};
 use crate::spot::InFile;
 use mm_base::{Refusal, Refused};
 use mm_command_line::{Role, Task};
+use mm_files::Shown;
 use mm_problem::Name;
 use mm_told::{Spot, Words};
 use std::io::{self, Write};

@@ -3,13 +3,12 @@ ghost use Rattle.std.specs.Prelude.{◌≡◌, Some};
 ghost use Rattle.mm_commands.specs.Faults.{refusal_of, spot_in_run, spot_of, fault_text};
 ghost use Rattle.mm_commands.specs.declared.fault.Fault.TheVariants.{NoMemory, Texts, Setup};
 
-use crate::file_name::Shown;
-use crate::files::Obstacle;
 use crate::remark::{Found, is_plan_misplaced};
 use crate::spot::spot_in_script;
 use crate::texts::TaskTexts;
 use mm_base::{Refusal, Refused, refusals};
 use mm_command_line::Task;
+use mm_files::{Obstacle, Shown};
 use mm_told::{Reason, Spot, hint_for, spot_in_plan, spot_in_problem, spot_in_texts};
 use std::alloc::Global;
 use std::fmt;

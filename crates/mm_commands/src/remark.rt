@@ -2,13 +2,13 @@
 
 use crate::advice::{file_of, tell_refusal};
 use crate::answers::Answer;
-use crate::file_name::Shown;
 use crate::halt::tell_halt;
 use crate::texts::TaskTexts;
 use mm_ask::{MOST_KEPT, Place, Replies};
 use mm_base::{NoMemory, Refusal, Refused};
 use mm_command_line::{Role, Task};
 use mm_cut::Verdict;
+use mm_files::Shown;
 use mm_run::{Cause, Given, Outcome, Printed, Unstored, Untaken};
 use mm_told::{
     EndsHint, Hint, Note, RequestHints, Spot, Texts, Words, column_notes, fit_hint, notes_on,

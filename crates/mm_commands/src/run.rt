@@ -1,19 +1,18 @@
 //! The program, over any files and any writers.
 ghost use Rattle.std.specs.Prelude.{◌≡◌, ◌≢◌, ◌≤◌, IfOk, IfErr, map};
-ghost use Rattle.mm_commands.specs.Contents.{seen};
+ghost use Rattle.mm_files.specs.Contents.{seen};
 ghost use Rattle.mm_commands.specs.Statuses.{exit_code};
 ghost use Rattle.mm_commands.specs.declared.status.Status.TheVariants.{BadCommandLine};
 ghost use Rattle.mm_command_line.specs.Lines.{IsTaskLine};
 ghost use Rattle.mm_commands.specs.Doing.{AreDone, Does, DoesScript, IsTaskScript, words_in};
 ghost use Rattle.mm_commands.specs.Streams.{ReadsTwice};
 
-use crate::files::{Files, ReadFault};
-use crate::script::{ScriptFiles, first_line};
 use crate::status::{Status, Unwritten};
 use crate::streams::reads_twice;
 use crate::tasks::{self, do_task};
 use clap::error::ErrorKind;
 use mm_command_line::{FlagFault, VERSION, asks_version, flag_fault, parse};
+use mm_files::{Files, ReadFault, ScriptFiles, first_line};
 use mm_sensitivity::{Progress, Silent};
 use std::alloc::{AllocError, Global};
 use std::convert::AsStr;

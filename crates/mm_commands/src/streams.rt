@@ -1,18 +1,9 @@
-//! When the name `-` is that of a standard stream, and no file's.
+//! When a task reads standard input twice.
 ghost use Rattle.std.specs.Prelude.{◌≡◌, ◌≤◌};
-ghost use Rattle.mm_commands.specs.Streams.{input_in, is_stream, reads_twice};
+ghost use Rattle.mm_commands.specs.Streams.{input_in, reads_twice};
 
 use mm_command_line::Task;
-
-/// The name of standard input, and of standard output.
-pub(crate) const STREAM: &str = "-";
-
-/// Whether the name is that of a stream, where there are streams.
-pub(crate) fn is_stream(streams: bool, name: &str) -> bool
-    ensures { result ≡ is_stream streams name.now }
-{
-    streams && name == STREAM
-}
+use mm_files::STREAM;
 
 // 1 where this is the name of standard input, and else 0.
 fn input_in(name: Option<&str>) -> u8

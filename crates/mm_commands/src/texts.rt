@@ -1,11 +1,11 @@
 //! The texts of a task's files.
 ghost use Rattle.std.specs.Prelude.{◌≡◌, ◌++◌, IfOk, IfErr};
-ghost use Rattle.mm_commands.specs.Contents.{WereRead};
+ghost use Rattle.mm_files.specs.Contents.{WereRead};
 ghost use Rattle.mm_commands.specs.Reading.{IsUnread, listed, name_of, reading_of, readings_of};
 
 use crate::fault::Fault;
-use crate::files::{Files, ReadFault};
 use mm_command_line::FileNames;
+use mm_files::{Files, ReadFault};
 use mm_told::Texts;
 use std::alloc::Global;
 

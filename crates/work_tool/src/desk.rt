@@ -1,6 +1,6 @@
 //! Where the program is called: its files are texts in memory, and what it prints is kept and digested.
 ghost use Rattle.std.specs.Prelude.{false};
-ghost use Rattle.mm_commands.specs.Contents.{unknown};
+ghost use Rattle.mm_files.specs.Contents.{unknown};
 
 use mm_commands::{Device, Files, Obstacle, ReadFault, StoreFault, read_to_end, run_tool};
 use std::alloc::Global;

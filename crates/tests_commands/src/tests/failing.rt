@@ -1,6 +1,6 @@
 //! Files and writers that fail.
 ghost use Rattle.std.specs.Prelude.{false};
-ghost use Rattle.mm_commands.specs.Contents.{unknown};
+ghost use Rattle.mm_files.specs.Contents.{unknown};
 
 use crate::tests::samples::{FIRST_PLAN, Host, SCI, THREE_STEPS, answer_to, holds, joined};
 use mm_commands::{Files, Obstacle, ReadFault, StoreFault, UntilClosed, run_tool};

@@ -1,6 +1,6 @@
 //! The program over files in memory that store: which file is stored, and that each other one is as it was.
 ghost use Rattle.std.specs.Prelude.{true};
-ghost use Rattle.mm_commands.specs.Contents.{unknown};
+ghost use Rattle.mm_files.specs.Contents.{unknown};
 
 use crate::tests::samples::{Answer, FIRST_PLAN, Host, SCI, THREE_STEPS, answer_to, holds};
 use mm_commands::{Files, Obstacle, ReadFault, StoreFault};

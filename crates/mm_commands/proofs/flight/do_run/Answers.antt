@@ -1,5 +1,5 @@
 use Rattle.std.proofs.Common.{subst}
-use Rattle.mm_commands.specs.Contents.{WereRead, seen}
+use Rattle.mm_files.specs.Contents.{WereRead, seen}
 use Rattle.mm_commands.specs.Reading.{readings_of}
 use Rattle.mm_commands.proofs.flight.do_run.Goals as goal
 

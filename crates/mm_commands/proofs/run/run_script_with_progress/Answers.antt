@@ -1,5 +1,5 @@
 use Rattle.std.proofs.Common.{◌≡◌, ℕ, List, map, rules, subst}
-use Rattle.mm_commands.specs.Scripts.{script_view}
+use Rattle.mm_files.specs.Scripts.{script_view}
 use Rattle.mm_commands.specs.Doing.{AreDone, words_in}
 use Rattle.mm_commands.proofs.run.run_script_with_progress.Goals as goal
 

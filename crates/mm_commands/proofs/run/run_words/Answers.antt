@@ -1,5 +1,5 @@
 use Rattle.std.proofs.Common.{map, sym, ap, ◌∙◌}
-use Rattle.mm_commands.specs.Contents.{seen}
+use Rattle.mm_files.specs.Contents.{seen}
 use Rattle.mm_commands.specs.Streams.{reads_twice}
 use Rattle.mm_commands.proofs.Codes.{task-does, twice-does, twice-taken}
 use Rattle.mm_commands.proofs.run.run_words.Goals as goal

@@ -1,6 +1,6 @@
 use Rattle.std.proofs.Common.{IfOk, IfErr, inr, subst}
 use Rattle.mm_commands.specs.Answers.{IsAnswerTo, Prints}
-use Rattle.mm_commands.specs.Contents.{seen}
+use Rattle.mm_files.specs.Contents.{seen}
 use Rattle.mm_commands.specs.Refusing.{IsFaultIn, Refuses}
 use Rattle.mm_commands.proofs.Printing.{answer-prints}
 use Rattle.mm_commands.proofs.Refusals.{refuses}

@@ -1,5 +1,5 @@
 use Rattle.std.proofs.Common.{subst}
-use Rattle.mm_commands.specs.Contents.{WereRead}
+use Rattle.mm_files.specs.Contents.{WereRead}
 use Rattle.mm_commands.specs.Reading.{readings_of}
 use Rattle.mm_commands.proofs.tasks.do_without_run.Goals as goal
 

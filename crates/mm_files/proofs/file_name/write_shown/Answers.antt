@@ -6,8 +6,8 @@ use Rattle.std.proofs.lemmas.Iterator.{YieldsList-from_chars}
 use Rattle.std.proofs.lemmas.Iterator.Consumers.{YieldsList-end}
 use Rattle.std.proofs.lemmas.List.{map-append, append-nil}
 use Rattle.std.proofs.lemmas.Str.{encodes-append}
-use Rattle.mm_commands.specs.FileNames.{shown_char}
-use Rattle.mm_commands.proofs.file_name.write_shown.Goals as goal
+use Rattle.mm_files.specs.FileNames.{shown_char}
+use Rattle.mm_files.proofs.file_name.write_shown.Goals as goal
 
 -- one character more
 longer : (cs : List ℕ) (c : ℕ) → encode_utf8_all (map shown_char cs) ++ encode_utf8 (shown_char c) ≡ encode_utf8_all

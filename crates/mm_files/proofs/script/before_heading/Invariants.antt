@@ -1,7 +1,7 @@
 use Rattle.std.proofs.Common.{◌≡◌, List, ℕ, ◌++◌, length}
 use Rattle.mm_base.specs.Lines.{text_lines}
-use Rattle.mm_commands.specs.Scripts.{before_heading}
-use Rattle.mm_commands.proofs.script.before_heading.Given as goal
+use Rattle.mm_files.specs.Scripts.{before_heading}
+use Rattle.mm_files.proofs.script.before_heading.Given as goal
 
 -- the lines that were passed over stand before the next heading
 abbrev pub invariant-loop-line : goal.invariant-loop-line

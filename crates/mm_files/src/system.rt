@@ -1,8 +1,8 @@
 //! The files of the system: how one is read, and how a text takes the place of one.
 ghost use Rattle.std.specs.Prelude.{◌≡◌, ◌++◌, ◌∷◌, [], Some, true, IsTrue, IfOk, IfErr, IfSome, IsErrAnd};
-ghost use Rattle.mm_commands.specs.Contents.{MayBe, MayBeUnread, Notes, reading, unknown};
-ghost use Rattle.mm_commands.specs.ReadFaults.{is_unread};
-ghost use Rattle.mm_commands.specs.Streams.{is_stream};
+ghost use Rattle.mm_files.specs.Contents.{MayBe, MayBeUnread, Notes, reading, unknown};
+ghost use Rattle.mm_files.specs.ReadFaults.{is_unread};
+ghost use Rattle.mm_files.specs.Streams.{is_stream};
 
 use crate::files::{Device, Files, Input, ReadFault, StoreFault, read_to_end};
 use crate::readings::Readings;

@@ -1,8 +1,8 @@
 use Rattle.std.proofs.Common.{sym, ap, ◌∙◌, ◌++◌, append_assoc}
 use Rattle.mm_base.specs.Lines.{text_lines}
-use Rattle.mm_commands.specs.Scripts.{before_heading}
-use Rattle.mm_commands.proofs.ScriptLemmas.{passes}
-use Rattle.mm_commands.proofs.script.before_heading.Goals as goal
+use Rattle.mm_files.specs.Scripts.{before_heading}
+use Rattle.mm_files.proofs.ScriptLemmas.{passes}
+use Rattle.mm_files.proofs.script.before_heading.Goals as goal
 
 pub loop-line-preserved : goal.loop-line-preserved
 loop-line-preserved c =

@@ -1,7 +1,7 @@
 use Rattle.std.proofs.Common.{map, encode_utf8_all}
 use Rattle.std.specs.Fmt.{HasWritten, IsPlainFormatter}
-use Rattle.mm_commands.specs.FileNames.{shown_char}
-use Rattle.mm_commands.proofs.file_name.write_shown.Given as goal
+use Rattle.mm_files.specs.FileNames.{shown_char}
+use Rattle.mm_files.proofs.file_name.write_shown.Given as goal
 
 abbrev pub invariant-loop-character : goal.invariant-loop-character
 invariant-loop-character g l =

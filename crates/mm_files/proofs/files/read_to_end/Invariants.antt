@@ -1,8 +1,8 @@
 use Rattle.std.proofs.Common.{◌≡◌, ◌≤◌, length}
 use Rattle.std.specs.Prelude.{IsTrue}
 use Rattle.std.specs.Io.KnownBytes.{Consumes}
-use Rattle.mm_commands.specs.declared.files.TheConstants.{MAX_READS}
-use Rattle.mm_commands.proofs.files.read_to_end.Given as goal
+use Rattle.mm_files.specs.declared.files.TheConstants.{MAX_READS}
+use Rattle.mm_files.proofs.files.read_to_end.Given as goal
 
 -- what was read so far stood at the front of what the input had; an input that does not fail gave an octet each time
 abbrev pub invariant-loop-turn : goal.invariant-loop-turn

@@ -6,8 +6,8 @@ use Rattle.std.specs.Prelude.{bytes_eq}
 use Rattle.std.specs.List.{join_with_byte}
 use Rattle.std.proofs.lemmas.List.Splits.{length-slice_split, join_with_byte-slice_split}
 use Rattle.mm_base.specs.Lines.{text_lines}
-use Rattle.mm_commands.specs.Contents.{MayBe, MayBeUnread, content_of}
-use Rattle.mm_commands.specs.Scripts.{is_heading, heading_of, before_heading, file_in, IsFirstLine}
+use Rattle.mm_files.specs.Contents.{MayBe, MayBeUnread, content_of}
+use Rattle.mm_files.specs.Scripts.{is_heading, heading_of, before_heading, file_in, IsFirstLine}
 
 -- a line before others ends with a line feed
 joined-cons : (line : List ℕ) (lines : List (List ℕ)) (n : ℕ) → length lines ≡ n + 1

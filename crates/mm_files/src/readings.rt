@@ -1,6 +1,6 @@
 //! What was read, as contracts see it.
 ghost use Rattle.std.specs.Prelude.{◌≡◌, ◌++◌, ◌∷◌, [], OnOk, OnErr};
-ghost use Rattle.mm_commands.specs.Contents.{reading};
+ghost use Rattle.mm_files.specs.Contents.{reading};
 
 use std::alloc::{AllocError, Global};
 use std::marker::Model;
@@ -22,8 +22,8 @@ pub struct Readings {
 
 impl Model for Readings {
     ghost use Rattle.std.specs.Prelude.{List, map};
-    ghost use Rattle.mm_commands.specs.Contents.{Reading};
-    ghost use Rattle.mm_commands.specs.Notes.{reading_of};
+    ghost use Rattle.mm_files.specs.Contents.{Reading};
+    ghost use Rattle.mm_files.specs.Notes.{reading_of};
 
     ghost Value = { List Reading };
 

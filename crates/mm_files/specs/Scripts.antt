@@ -4,7 +4,7 @@ use Rattle.std.specs.Prelude.{bytes_eq, codes, ◌⊎◌}
 use Rattle.std.specs.List.{starts_with}
 use Rattle.mm_base.specs.Characters.{line_feed}
 use Rattle.mm_base.specs.Lines.{text_lines}
-use Rattle.mm_commands.specs.Contents.{Contents, FilesView, content_of, seen}
+use Rattle.mm_files.specs.Contents.{Contents, FilesView, content_of, seen}
 
 -- what each heading starts with
 abbrev pub heading : List ℕ

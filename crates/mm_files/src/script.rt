@@ -3,11 +3,11 @@ ghost use Rattle.std.specs.Prelude.{◌≡◌, ◌<◌, ◌≤◌, [], ◌∷◌
 ghost use Rattle.std.specs.Prelude.{IsErrAnd, IsTrue};
 ghost use Rattle.std.specs.Option.{option_map};
 ghost use Rattle.mm_base.specs.Lines.{text_lines};
-ghost use Rattle.mm_commands.specs.Contents.{MayBe, MayBeUnread, Notes, content_of, reading};
-ghost use Rattle.mm_commands.specs.Scripts.{IsFirstLine, is_heading, heading_of, before_heading, script_contents};
-ghost use Rattle.mm_commands.specs.Scripts.{script_file};
-ghost use Rattle.mm_commands.specs.ReadFaults.{is_unread};
-ghost use Rattle.mm_commands.specs.declared.files.ReadFault.TheVariants.{NoMemory};
+ghost use Rattle.mm_files.specs.Contents.{MayBe, MayBeUnread, Notes, content_of, reading};
+ghost use Rattle.mm_files.specs.Scripts.{IsFirstLine, is_heading, heading_of, before_heading, script_contents};
+ghost use Rattle.mm_files.specs.Scripts.{script_file};
+ghost use Rattle.mm_files.specs.ReadFaults.{is_unread};
+ghost use Rattle.mm_files.specs.declared.files.ReadFault.TheVariants.{NoMemory};
 
 use crate::files::{Files, Obstacle, ReadFault, StoreFault};
 use mm_base::lines::split_line;

@@ -1,13 +1,13 @@
 //! Names of files, as they are shown.
 ghost use Rattle.std.specs.Prelude.{◌≡◌};
 ghost use Rattle.std.specs.Fmt.{WritesOnOk};
-ghost use Rattle.mm_commands.specs.FileNames.{shown_name, shown_char};
+ghost use Rattle.mm_files.specs.FileNames.{shown_name, shown_char};
 
 use std::fmt;
 
 /// The name of a file, shown in one line: with `?` for each control character of ASCII, as a line feed is.
 #[derive(Clone, Copy)]
-pub(crate) struct Shown<'a>(pub(crate) &'a str);
+pub struct Shown<'a>(pub &'a str);
 
 fn shown_char(character: char) -> char
     ensures { result ≡ shown_char character }

@@ -4,11 +4,11 @@ ghost use Rattle.std.specs.Prelude.{IsOk, IsErrAnd, IfOk, IfErr, IfSome, IsTrue,
 ghost use Rattle.std.specs.Io.{ReadsAtMost};
 ghost use Rattle.std.specs.Io.KnownBytes.{ReadConsumes};
 ghost use Rattle.std.specs.IoError.{error_kind};
-ghost use Rattle.mm_commands.specs.Contents.{Content, IsStored, MayBe, MayBeUnread, Notes, Reading, reading};
-ghost use Rattle.mm_commands.specs.Inputs.{failed_after, is_interrupted};
-ghost use Rattle.mm_commands.specs.ReadFaults.{is_unread, refusal_of};
-ghost use Rattle.mm_commands.specs.declared.files.ReadFault.TheVariants.{NoMemory};
-ghost use Rattle.mm_commands.specs.declared.files.TheConstants.{MAX_READS};
+ghost use Rattle.mm_files.specs.Contents.{Content, IsStored, MayBe, MayBeUnread, Notes, Reading, reading};
+ghost use Rattle.mm_files.specs.Inputs.{failed_after, is_interrupted};
+ghost use Rattle.mm_files.specs.ReadFaults.{is_unread, refusal_of};
+ghost use Rattle.mm_files.specs.declared.files.ReadFault.TheVariants.{NoMemory};
+ghost use Rattle.mm_files.specs.declared.files.TheConstants.{MAX_READS};
 
 use mm_base::{Refusal, Refused, refusals};
 use std::alloc::Global;

@@ -1,7 +1,7 @@
 use Rattle.std.proofs.Common.{◌≡◌, length}
 use Rattle.mm_base.specs.Lines.{text_lines}
-use Rattle.mm_commands.specs.Scripts.{file_in, script_file}
-use Rattle.mm_commands.proofs.script.ScriptFiles.find.Given as goal
+use Rattle.mm_files.specs.Scripts.{file_in, script_file}
+use Rattle.mm_files.proofs.script.ScriptFiles.find.Given as goal
 
 -- no line that was passed over is the heading of the name
 abbrev pub invariant-loop-rest : goal.invariant-loop-rest

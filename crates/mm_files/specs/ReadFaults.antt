@@ -2,8 +2,8 @@
 use Rattle.std.specs.Prelude.{Bool, true, false}
 use Rattle.mm_base.specs.declared.refusal.Refusal.{Refusal}
 use Rattle.mm_base.specs.declared.refusal.Refusal.TheVariants as refusal
-use Rattle.mm_commands.specs.declared.files.ReadFault.{ReadFault}
-use Rattle.mm_commands.specs.declared.files.ReadFault.TheVariants.{NoMemory, NotRead}
+use Rattle.mm_files.specs.declared.files.ReadFault.{ReadFault}
+use Rattle.mm_files.specs.declared.files.ReadFault.TheVariants.{NoMemory, NotRead}
 
 -- which refusal a reason is
 abbrev pub refusal_of : ReadFault → Refusal
