@@ -53,14 +53,8 @@ impl<S: AnySource + Send + Drop, L: Link + Send + Drop> RunParts<S, L> {
         let stores = self.stores.as_slice();
         let many_sources = self.sources.len();
         let many_links = self.links.len();
-        if let Err(cause) = ready(
-            run.problem,
-            run.plan,
-            stores,
-            run.base,
-            many_sources,
-            many_links,
-        ) {
+        let (problem, plan, base) = (run.problem, run.plan, run.base);
+        if let Err(cause) = ready(problem, plan, stores, base, many_sources, many_links) {
             return Err(never_began(cause));
         }
         let all = places_of(run.problem, stores);
