@@ -5,8 +5,8 @@ use Rattle.std.specs.Prelude.{bytes_eq, if◌then◌else◌}
 use Rattle.std.specs.Cmp.Lexicographic.{slice_cmp}
 use Rattle.std.specs.Ordering.{nat_cmp, ordering_reverse}
 use Rattle.std.specs.declared.cmp.Ordering.TheVariants.{Less, Greater}
-use Rattle.std.proofs.lemmas.Bool.{and_parts, cases_Bool, false≢true}
-use Rattle.std.proofs.lemmas.Bool.Decides.{Decides-eqb}
+use Rattle.std.proofs.lemmas.Bool.{and_parts, cases_Bool}
+use Rattle.std.proofs.lemmas.Bool.Decides.{Decides-eqb, same_from_decides}
 use Rattle.std.proofs.lemmas.Cmp.{tied_itself, nat_cmp_total}
 use Rattle.std.proofs.lemmas.List.Elements.{All-cons, All-head, All-tail, All-weaker}
 use Rattle.std.proofs.lemmas.List.Folds.{list_any_none}
@@ -92,13 +92,10 @@ module _ (apid service subtype : ℕ) where
 
   -- the test of equal identifiers is symmetric
   bytes_eq-sym : (a b : List ℕ) → bytes_eq a b ≡ bytes_eq b a
-  bytes_eq-sym a b = elim (cases_Bool (bytes_eq a b)) [
-    | inl same ↦ same ∙ sym ((bytes_eq-Decides b a).1 (sym ((bytes_eq-Decides a b).0 same)))
-    | inr other ↦ elim (cases_Bool (bytes_eq b a)) [
-      | inl same ↦ absurd (false≢true (sym other ∙ (bytes_eq-Decides a b).1 (sym ((bytes_eq-Decides b a).0 same))))
-      | inr neither ↦ other ∙ sym neither
-    ]
-  ]
+  bytes_eq-sym a b =
+      let back = bytes_eq-Decides b a in
+      same_from_decides (bytes_eq a b) (bytes_eq b a) (bytes_eq-Decides a b)
+      (λ same. sym (back.0 same), λ same. back.1 (sym same))
 
   -- a store is among them once if the rows have its row, and not if they do not
   pub named_once : (id : List ℕ) (rows : List RouteRow) → IsInOrder rows

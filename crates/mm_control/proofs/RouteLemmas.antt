@@ -1,6 +1,6 @@
 -- Additions to rows in order, and deletions from them.
 use Rattle.std.proofs.Common.{◌≡◌, ℕ, suc, ◌+◌, ◌<◌, ◌≤◌, Bool, true, false, not, ◌&&◌, ◌||◌, List, [], ◌∷◌, ◌++◌}
-use Rattle.std.proofs.Common.{length, get_or, take, drop, refl, sym, ap, ◌∙◌, add-one, arith}
+use Rattle.std.proofs.Common.{length, get_or, take, drop, cond, refl, sym, ap, ◌∙◌, inl, inr, add-one, arith}
 use Rattle.std.specs.List.{filter, All, HoldsAt}
 use Rattle.std.specs.Prelude.{Result, Ok, Err, is_ok, IfOk, IfErr}
 use Rattle.std.specs.List.Sorted.{IsPartitionPoint, IsNonDecreasingBy, IsSearchInRange, IsBinarySearchResult}
@@ -12,9 +12,10 @@ use Rattle.std.proofs.Math.Bool.{or-false}
 use Rattle.std.proofs.lemmas.List.{append-nil, take-append-drop, get_or-take, get_or-drop, length-take, length-drop}
 use Rattle.std.proofs.lemmas.List.{drop_more}
 use Rattle.std.proofs.lemmas.Cmp.{tied_itself}
-use Rattle.std.proofs.lemmas.List.Elements.{All-append, All-cons, All-head, All-tail, All-weaker, filter-append}
+use Rattle.std.proofs.lemmas.Bool.{cases_lt, cond_both}
+use Rattle.std.proofs.lemmas.List.Elements.{All-cons, All-head, All-nil, All-tail, All-weaker, filter-append}
 use Rattle.std.proofs.lemmas.List.Elements.{filter_passes}
-use Rattle.std.proofs.lemmas.List.Folds.{list_any-append, list_any_none}
+use Rattle.std.proofs.lemmas.List.Folds.{list_any-append, list_any_at, list_any_none}
 use Rattle.std.proofs.lemmas.List.Kept.{AllPairs-cons, AllPairs-filter}
 use Rattle.std.proofs.lemmas.Map.Views.{any-filter_same}
 use Rattle.mm_base.proofs.Pairs.{AllPairs-append}
@@ -22,8 +23,7 @@ use Rattle.mm_base.specs.declared.rows.RouteRow.{RouteRow}
 use Rattle.mm_base.specs.SameRoutes.{same_route}
 use Rattle.mm_control.specs.Routes.{row_cmp, is_before, IsInOrder, has_row, with_row, without_row, Stands, WouldStand}
 use Rattle.mm_control.specs.Laws.{AddsOne, DeletesOne}
-use Rattle.mm_control.proofs.OrderLemmas.{row_cmp_total, row_cmp_same, IsBeside, beside, same_route-sym}
-use Rattle.mm_control.proofs.OrderLemmas.{same_route-true}
+use Rattle.mm_control.proofs.OrderLemmas.{row_cmp_total, row_cmp_same, beside, same_route-sym, same_route-true}
 
 -- filtered rows have a row if and only if the row passes and the rows have it
 has_row-filter : (p : RouteRow → Bool) (r : RouteRow) (rows : List RouteRow)
@@ -98,121 +98,87 @@ deletes_one row rows in_order =
           AllPairs-filter (λ a b. row_cmp a b ≡ Less) (λ r. not (same_route r row)) rows in_order;
     }
 
-module _ {X : Type 0} (p : X → Bool) where
-  pub filter_all : (xs : List X) → All (λ x. p x ≡ true) xs → filter p xs ≡ xs
-  filter_all [] all = refl
-  filter_all (x ∷ xs) all =
-      rw (All-head (λ x. p x ≡ true) x xs all) (ap (λ ys. x ∷ ys) (filter_all xs (All-tail (λ x. p x ≡ true) x xs all)))
+module _ {X : Type 0} (P : X → Type 0) (n : ℕ) (xs : List X) where
+  -- what holds of each element before a place, or from it on, holds of that part of the list
+  pub All-before : ((k : ℕ) (d : X) → k < n → k < length xs → P (get_or xs k d)) → All P (take n xs)
+  All-before each k d inside =
+      let below : k < n = omega (arith, length-take n xs) in
+      rw (get_or-take n xs k d below) (each k d below (omega (arith, length-take n xs)))
 
-  pub filter_none : (xs : List X) → All (λ x. p x ≡ false) xs → filter p xs ≡ []
-  filter_none [] none = refl
-  filter_none (x ∷ xs) none =
-      rw (All-head (λ x. p x ≡ false) x xs none) (filter_none xs (All-tail (λ x. p x ≡ false) x xs none))
+  pub All-from : ((k : ℕ) (d : X) → n ≤ k → k < length xs → P (get_or xs k d)) → All P (drop n xs)
+  All-from each k d inside =
+      rw (get_or-drop n xs k d) (each (n + k) d (omega arith) (omega (arith, length-drop n xs)))
 
-  -- a filter that passes all of the first list and none of the second gives the first list
-  filter_front : (xs ys : List X) → All (λ x. p x ≡ true) xs → All (λ x. p x ≡ false) ys → filter p (xs ++ ys) ≡ xs
-  filter_front xs ys all none = filter-append p xs ys ∙ rw (filter_all xs all, filter_none ys none) (append-nil xs)
+-- a filter whose test is one of an order
+module _ {X : Type 0} (order : X → Ordering) (p : X → Bool) (test : Ordering → Bool)
+    (by_order : (x : X) → p x ≡ test (order x)) where
+  -- of elements of one order all pass, or none
+  filter_alike : (o : Ordering) (xs : List X) → All (λ x. order x ≡ o) xs → filter p xs ≡ cond (test o) xs []
+  filter_alike o [] all = cond_both (test o) [] [] (λ ys. [] ≡ ys) (λ yes. refl) (λ no. refl)
+  filter_alike o (x ∷ xs) all =
+      let here = by_order x ∙ ap test (All-head (λ x. order x ≡ o) x xs all) in
+      let rest = filter_alike o xs (All-tail (λ x. order x ≡ o) x xs all) in
+      rw (here, rest) (cond_both (test o) (x ∷ cond (test o) xs []) (cond (test o) xs [])
+      (λ ys. ys ≡ cond (test o) (x ∷ xs) []) (λ yes. rw yes refl) (λ no. rw no refl))
 
-  filter_back : (xs ys : List X) → All (λ x. p x ≡ false) xs → All (λ x. p x ≡ true) ys → filter p (xs ++ ys) ≡ ys
-  filter_back xs ys none all = filter-append p xs ys ∙ rw (filter_none xs none) (filter_all ys all)
+  -- of a list whose elements are first Less, then Equal, and then Greater, each part is kept or left out
+  pub filter_parts : (front tied back : List X) → All (λ x. order x ≡ Less) front → All (λ x. order x ≡ Equal) tied
+      → All (λ x. order x ≡ Greater) back → filter p (front ++ (tied ++ back))
+      ≡ cond (test Less) front [] ++ (cond (test Equal) tied [] ++ cond (test Greater) back [])
+  filter_parts front tied back early ties late =
+      filter-append p front (tied ++ back) ∙ ap (λ ys. filter p front ++ ys) (filter-append p tied back)
+      ∙ (λ i. filter_alike Less front early i ++ (filter_alike Equal tied ties i ++ filter_alike Greater back late i))
 
--- rows with the same order to one row pass the same tests against it
-module _ (row : RouteRow) (o : Ordering) (rows : List RouteRow) (all : All (λ r. row_cmp r row ≡ o) rows) where
-  all_before : All (λ r. is_before r row ≡ is_lt o) rows
-  all_before = All-weaker (λ r. row_cmp r row ≡ o) (λ r. is_before r row ≡ is_lt o)
-      (λ r e. (beside r row o e).before) rows all
+-- the table in three parts: the rows before a row, those that tie with it, and those after it
+module _ (row : RouteRow) (front tied back : List RouteRow) (early : All (λ r. row_cmp r row ≡ Less) front)
+    (ties : All (λ r. row_cmp r row ≡ Equal) tied) (late : All (λ r. row_cmp r row ≡ Greater) back) where
+  -- the row stands between the first part and the last
+  with_row-parts : with_row row (front ++ (tied ++ back)) ≡ front ++ row ∷ back
+  with_row-parts =
+      let order = λ (r : RouteRow). row_cmp r row in
+      let before = filter_parts order (λ r. is_before r row) is_lt (λ r. refl) front tied back early ties late
+      ∙ append-nil front in
+      let after = filter_parts order (λ r. is_before row r) is_gt (λ r. (beside r row (row_cmp r row) refl).after) front
+      tied back early ties late in
+      λ i. before i ++ row ∷ after i
 
-  all_after : All (λ r. is_before row r ≡ is_gt o) rows
-  all_after = All-weaker (λ r. row_cmp r row ≡ o) (λ r. is_before row r ≡ is_gt o)
-      (λ r e. (beside r row o e).after) rows all
-
-  all_same : All (λ r. same_route r row ≡ is_eq o) rows
-  all_same = All-weaker (λ r. row_cmp r row ≡ o) (λ r. same_route r row ≡ is_eq o)
-      (λ r e. (beside r row o e).same) rows all
-
-module _ (row : RouteRow) (front back : List RouteRow) (early : All (λ r. row_cmp r row ≡ Less) front)
-    (late : All (λ r. row_cmp r row ≡ Greater) back) where
-  itself : IsBeside row row Equal
-  itself = beside row row Equal (tied_itself row_cmp_total row)
-
-  -- a row that the table does not have is inserted between the two parts
-  pub with_row-gap : with_row row (front ++ back) ≡ front ++ row ∷ back
-  with_row-gap =
-      rw (
-        filter_front (λ r. is_before r row) front back (all_before row Less front early)
-            (all_before row Greater back late),
-        filter_back (λ r. is_before row r) front back
-            (all_after row Less front early) (all_after row Greater back late),
-      )
-
-  -- a row that the table has stays where it is
-  pub with_row-hit : with_row row (front ++ row ∷ back) ≡ front ++ row ∷ back
-  with_row-hit =
-      rw (
-        filter_front (λ r. is_before r row) front (row ∷ back) (all_before row Less front early)
-            (All-cons (λ r. is_before r row ≡ false) row back itself.before (all_before row Greater back late)),
-        filter-append (λ r. is_before row r) front (row ∷ back),
-        filter_none (λ r. is_before row r) front (all_after row Less front early),
-        itself.after,
-        filter_all (λ r. is_before row r) back (all_after row Greater back late),
-      )
-
-  -- a deletion removes the row
-  pub without_row-hit : without_row row (front ++ row ∷ back) ≡ front ++ back
-  without_row-hit =
-      filter-append (λ r. not (same_route r row)) front (row ∷ back)
-      ∙ rw (
-        itself.same,
-        filter_all (λ r. not (same_route r row)) front
-            (All-weaker (λ r. same_route r row ≡ false) (λ r. not (same_route r row) ≡ true) (λ r e. ap not e) front
-            (all_same row Less front early)),
-        filter_all (λ r. not (same_route r row)) back
-            (All-weaker (λ r. same_route r row ≡ false) (λ r. not (same_route r row) ≡ true) (λ r e. ap not e) back
-            (all_same row Greater back late)),
-      )
-
-  pub has_row-gap : has_row row (front ++ back) ≡ false
-  has_row-gap = list_any_none (λ r. same_route r row) (front ++ back)
-      (All-append (λ r. same_route r row ≡ false) front back (all_same row Less front early)
-      (all_same row Greater back late))
-
-  pub has_row-hit : has_row row (front ++ row ∷ back) ≡ true
-  has_row-hit =
-      list_any-append (λ r. same_route r row) front (row ∷ back)
-      ∙ rw (list_any_none (λ r. same_route r row) front (all_same row Less front early), itself.same)
+  -- a deletion leaves those two parts
+  without_row-parts : without_row row (front ++ (tied ++ back)) ≡ front ++ back
+  without_row-parts =
+      filter_parts (λ r. row_cmp r row) (λ r. not (same_route r row)) (λ o. not (is_eq o))
+      (λ r. ap not (beside r row (row_cmp r row) refl).same) front tied back early ties late
 
 module _ (row : RouteRow) (rows : List RouteRow) (place : ℕ) where
+  -- a row that the table does not have is inserted at the place
   pub gap : place ≤ length rows → IsPartitionPoint (λ r. row_cmp r row ≡ Less) (λ r. row_cmp r row ≡ Greater) rows place
       → WouldStand row rows place × (has_row row rows ≡ false)
-  gap within parts =
-      let whole = take-append-drop place rows in (
-        record {
-          within = within;
-          with = ap (with_row row) (sym whole)
-              ∙ with_row-gap row (take place rows) (drop place rows) early late;
-        },
-        ap (has_row row) (sym whole) ∙ has_row-gap row (take place rows) (drop place rows) early late,
-      )
-    where
-      early : All (λ r. row_cmp r row ≡ Less) (take place rows)
-      early = λ k d inside.
-          let below : k < place = omega (arith, length-take place rows) in
-          rw (get_or-take place rows k d below) (parts.0 k d (omega arith) below)
+  gap within parts = (
+    record {
+      within = within;
+      with = ap (with_row row) (sym (take-append-drop place rows))
+          ∙ with_row-parts row (take place rows) [] (drop place rows)
+          (All-before (λ r. row_cmp r row ≡ Less) place rows (λ k d below inside. parts.0 k d (omega arith) below))
+          (All-nil _) (All-from (λ r. row_cmp r row ≡ Greater) place rows parts.1);
+    },
+    list_any_none (λ r. same_route r row) rows (λ k d inside. elim (cases_lt k place) [
+      | inl below ↦ (beside (get_or rows k d) row Less (parts.0 k d (omega arith) below)).same
+      | inr from ↦ (beside (get_or rows k d) row Greater (parts.1 k d from inside)).same
+    ]),
+  )
 
-      late : All (λ r. row_cmp r row ≡ Greater) (drop place rows)
-      late = λ k d inside.
-          rw (get_or-drop place rows k d) (parts.1 (place + k) d (omega arith) (omega (arith, length-drop place rows)))
-
+  -- a row that the table has stays where it is, and a deletion removes it
   pub hit : IsInOrder rows → place < length rows → HoldsAt (λ r. row_cmp r row ≡ Equal) rows place
       → Stands row rows place × (has_row row rows ≡ true)
   hit in_order within ties = (
     record {
       within = within;
-      with = ap (with_row row) whole ∙ with_row-hit row (take place rows) (drop (suc place) rows) early late
-          ∙ sym whole;
-      without = ap (without_row row) whole ∙ without_row-hit row (take place rows) (drop (suc place) rows) early late;
+      with = ap (with_row row) whole ∙ with_row-parts row (take place rows) (row ∷ []) (drop (suc place) rows) early
+          itself late ∙ sym whole;
+      without = ap (without_row row) whole
+          ∙ without_row-parts row (take place rows) (row ∷ []) (drop (suc place) rows) early itself late;
     },
-    ap (has_row row) whole ∙ has_row-hit row (take place rows) (drop (suc place) rows) early late,
+    list_any_at (λ r. same_route r row) rows place row within
+        (rw (at row) (beside row row Equal (tied_itself row_cmp_total row)).same),
   )
     where
       at : (d : RouteRow) → get_or rows place d ≡ row
@@ -223,17 +189,16 @@ module _ (row : RouteRow) (rows : List RouteRow) (place : ℕ) where
           sym (take-append-drop place rows)
           ∙ ap (λ rest. take place rows ++ rest) (drop_more rows place row within ∙ rw (at row, add-one place))
 
+      itself : All (λ r. row_cmp r row ≡ Equal) (row ∷ [])
+      itself =
+          All-cons (λ r. row_cmp r row ≡ Equal) row [] (tied_itself row_cmp_total row) (All-nil (λ r. row_cmp r row ≡ Equal))
+
       early : All (λ r. row_cmp r row ≡ Less) (take place rows)
-      early = λ k d inside.
-          let below : k < place = omega (arith, length-take place rows) in
-          rw (get_or-take place rows k d below) (rw (at d) at (in_order k place d below within))
+      early = All-before (λ r. row_cmp r row ≡ Less) place rows (λ k d below inside. rw (at d) at (in_order k place d below within))
 
       late : All (λ r. row_cmp r row ≡ Greater) (drop (suc place) rows)
-      late = λ k d inside.
-          let later = rw (at d)
-          at (in_order place (suc place + k) d (omega arith) (omega (arith, length-drop (suc place) rows))) in
-          rw (get_or-drop (suc place) rows k d)
-          (row_cmp_total.antisymm (get_or rows (suc place + k) d) row ∙ ap ordering_reverse later)
+      late = All-from (λ r. row_cmp r row ≡ Greater) (suc place) rows (λ k d from inside. row_cmp_total.antisymm (get_or rows k d) row
+          ∙ ap ordering_reverse (rw (at d) at (in_order place k d (omega arith) inside)))
 
 -- rows in order can be searched for a row
 searchable : (row : RouteRow) (rows : List RouteRow) → IsInOrder rows
