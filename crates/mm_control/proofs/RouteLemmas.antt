@@ -191,13 +191,16 @@ module _ (row : RouteRow) (rows : List RouteRow) (place : ℕ) where
 
       itself : All (λ r. row_cmp r row ≡ Equal) (row ∷ [])
       itself =
-          All-cons (λ r. row_cmp r row ≡ Equal) row [] (tied_itself row_cmp_total row) (All-nil (λ r. row_cmp r row ≡ Equal))
+          let ties_with = λ (r : RouteRow). row_cmp r row ≡ Equal in
+          All-cons ties_with row [] (tied_itself row_cmp_total row) (All-nil ties_with)
 
       early : All (λ r. row_cmp r row ≡ Less) (take place rows)
-      early = All-before (λ r. row_cmp r row ≡ Less) place rows (λ k d below inside. rw (at d) at (in_order k place d below within))
+      early = All-before (λ r. row_cmp r row ≡ Less) place rows
+          (λ k d below inside. rw (at d) at (in_order k place d below within))
 
       late : All (λ r. row_cmp r row ≡ Greater) (drop (suc place) rows)
-      late = All-from (λ r. row_cmp r row ≡ Greater) (suc place) rows (λ k d from inside. row_cmp_total.antisymm (get_or rows k d) row
+      late = All-from (λ r. row_cmp r row ≡ Greater) (suc place) rows
+          (λ k d from inside. row_cmp_total.antisymm (get_or rows k d) row
           ∙ ap ordering_reverse (rw (at d) at (in_order place k d (omega arith) inside)))
 
 -- rows in order can be searched for a row
