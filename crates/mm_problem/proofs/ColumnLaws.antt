@@ -15,13 +15,10 @@ use Rattle.mm_base.specs.declared.numbers.Numeral.TheVariants.{NotNumber, TooLar
 use Rattle.mm_base.specs.declared.rows.StoreRow.{StoreRow}
 use Rattle.mm_base.specs.Id.{id_text}
 use Rattle.mm_base.specs.Numbers.{numeral_of}
-use Rattle.mm_base.specs.Reading.{◌>>=◌, test}
 use Rattle.mm_base.proofs.IdFields.{Decides-nat_le}
 use Rattle.mm_base.proofs.NumberTexts.{numeral_printed, printed_numeral}
 use Rattle.mm_base.proofs.ReadingSteps.{bind_ok, test_ok, ok_same}
-use Rattle.mm_problem.specs.declared.fault.Fault.TheVariants.{Header}
-use Rattle.mm_problem.specs.Forecast.{header_of, begins_with, channel_from, channel_in, next_channel, channels_in}
-use Rattle.mm_problem.specs.Forecast.{limited_in}
+use Rattle.mm_problem.specs.Forecast.{header_of, begins_with, channel_from, channel_in, next_channel, limited_in}
 use Rattle.mm_problem.specs.ReadableForecast.{limit_text}
 use Rattle.mm_problem.specs.Records.{Fields}
 use Rattle.mm_problem.proofs.RowLaws.{IsNext, none_apart, rows_said, rows_read}

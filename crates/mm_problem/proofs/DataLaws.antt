@@ -2,31 +2,31 @@
 use Rattle.std.proofs.Common.{◌≡◌, ℕ, ◌+◌, ◌*◌, ◌<◌, ◌≤◌, true, nat_le, nat_lt, ◌==◌, ◌&&◌, List, [], ◌∷◌, ◌++◌, length}
 use Rattle.std.proofs.Common.{get_or, take, drop, pos, refl, subst, arith, append_assoc, length-drop, Result, Ok, Err}
 use Rattle.std.specs.Prelude.{All, AllPairs}
+use Rattle.std.specs.List.{list_all}
 use Rattle.std.proofs.lemmas.Bool.{and_parts}
-use Rattle.std.proofs.lemmas.Bool.Decides.{nat_tests, Decides-eqb}
+use Rattle.std.proofs.lemmas.Bool.Decides.{nat_tests, Decides-eqb, Decides-by_and}
 use Rattle.std.proofs.lemmas.List.{drop_more, drop_all, take_more, append-nil, take-append-drop}
 use Rattle.std.proofs.lemmas.List.Elements.{All-nil, All-cons, All-push, All-append}
 use Rattle.std.proofs.lemmas.List.Quantifiers.{all_pairs_push}
 use Rattle.mm_problem.specs.declared.fault.Fault.{Fault}
-use Rattle.mm_problem.specs.declared.fault.Fault.TheVariants.{ForecastText, Header, Limit}
+use Rattle.mm_problem.specs.declared.fault.Fault.TheVariants.{ForecastText}
 use Rattle.mm_problem.specs.declared.fault.Name.{Name}
 use Rattle.mm_problem.specs.declared.fault.Name.TheVariants as name
 use Rattle.mm_base.specs.declared.limits.TheConstants.{MAX_STORES, MAX_STEPS, MAX_BLOCKS, MAX_CHANNEL, CHANNELS}
 use Rattle.mm_base.specs.declared.rows.LimitRow.{LimitRow}
 use Rattle.mm_base.specs.declared.rows.StoreRow.{StoreRow}
-use Rattle.mm_base.specs.Reading.{◌>>=◌, test}
+use Rattle.mm_base.specs.Reading.{test}
 use Rattle.mm_base.proofs.IdFields.{Decides-nat_le}
 use Rattle.mm_problem.specs.Data.{store_fits, limit_fits, rows_fit, amounts_fit, step_fits, steps_fit, column_fits}
 use Rattle.mm_problem.specs.Data.{step_limits_fit}
 use Rattle.mm_problem.specs.Document.{stores_counted}
 use Rattle.mm_problem.specs.Dumping.{AreSteps, AreStepLimits}
-use Rattle.mm_problem.specs.Forecast.{another_step, some_step}
+use Rattle.mm_problem.specs.Forecast.{some_step}
 use Rattle.mm_problem.specs.Keys.{within}
 use Rattle.mm_problem.specs.Setup.{IsStoreRow, HaveOtherIds, AreStores, IsLimitRow, HaveOtherChannels}
-use Rattle.mm_problem.specs.Tables.{new_store, new_limit}
-use Rattle.mm_base.proofs.ReadingSteps.{bind_ok, test_ok, cond_ok}
-use Rattle.std.specs.List.{list_all}
+use Rattle.mm_base.proofs.ReadingSteps.{bind_ok, test_ok}
 use Rattle.mm_problem.proofs.ColumnLaws.{below_decides}
+use Rattle.mm_problem.proofs.FieldLaws.{within_said}
 use Rattle.mm_problem.proofs.RowLaws.{none_apart}
 use Rattle.mm_problem.proofs.TableLaws.{new_store_said, new_limit_said}
 
@@ -49,25 +49,6 @@ module _ {R : Type 0} (fits : List R → R → Result (Unit {0}) Fault) (rows : 
     pub row_fault : (e : Fault) → fits (take i rows) row ≡ Err e → rows_fit fits (take i rows) (drop i rows) ≡ Err e
     unfolding rows_fit
     row_fault e given = rw (drop_more rows i row below, ← is, given) refl
-
-module _ (name : Name) (amounts : List ℕ) (i : ℕ) where
-  -- after the last amount nothing is left to test
-  pub no_amount_left : length amounts ≤ i → amounts_fit name (drop i amounts) ≡ Ok tt
-  unfolding amounts_fit
-  no_amount_left past = rw (drop_all i amounts past) refl
-
-  module _ (below : i < length amounts) where
-    -- where the amount at a place passes, what is left are the tests of those after it
-    pub amount_passed : (n : ℕ) → within 0 MAX_BLOCKS name (pos (get_or amounts i 0)) ≡ Ok n
-        → amounts_fit name (drop i amounts) ≡ amounts_fit name (drop (i + 1) amounts)
-    unfolding amounts_fit
-    amount_passed n given = rw (drop_more amounts i 0 below, given) refl
-
-    -- a fault of it is the fault of all
-    pub amount_fault : (e : Fault) → within 0 MAX_BLOCKS name (pos (get_or amounts i 0)) ≡ Err e
-        → amounts_fit name (drop i amounts) ≡ Err e
-    unfolding amounts_fit
-    amount_fault e given = rw (drop_more amounts i 0 below, given) refl
 
 module _ (stores i : ℕ) (windows left : List ℕ) where
   -- after the last window no arrival may be left
@@ -98,13 +79,6 @@ module _ (stores i : ℕ) (windows left : List ℕ) where
 
 -- ---- what passed
 
--- a number that passed is within its range
-within_said : (low high : ℕ) (name : Name) (m n : ℕ) → within low high name (pos m) ≡ Ok n → (low ≤ m) × (m ≤ high)
-within_said low high name m n h =
-    let (passed, same) = cond_ok (nat_le low m && nat_le m high) m (Limit name) n h in
-    let (above, below) = and_parts (nat_le low m) (nat_le m high) passed in
-    ((Decides-nat_le low m).0 above, (Decides-nat_le m high).0 below)
-
 -- rows that passed are each in its range, and differ from one another
 module _ {R : Type 0} (P : R → Type 0) (D : R → R → Type 0) (fits : List R → R → Result (Unit {0}) Fault)
     (said : (earlier : List R) (row : R) (u : Unit {0}) → fits earlier row ≡ Ok u → P row × All (λ e. D e row) earlier)
@@ -128,10 +102,10 @@ store_fits_said earlier row u h =
     let (size, size_fits, h1) = bind_ok _ _ _ h in
     let (channel, channel_fits, h2) = bind_ok _ _ _ h1 in
     let (start, start_fits, new) = bind_ok _ _ _ h2 in
-    let size_is = within_said 1 MAX_BLOCKS name.Size row.size size size_fits in
-    let channel_is = within_said 0 MAX_CHANNEL name.Channel row.channel channel channel_fits in
-    let start_is = within_said 0 row.size name.Start row.start start start_fits in (
-      record { has_room = size_is.0; size = size_is.1; start = start_is.1; channel = channel_is.1 },
+    let size_is = within_said _ _ _ _ row.size size_fits in
+    let channel_is = within_said _ _ _ _ row.channel channel_fits in
+    let start_is = within_said _ _ _ _ row.start start_fits in (
+      record { has_room = size_is.1; size = size_is.2; start = start_is.2; channel = channel_is.2 },
       new_store_said earlier row u new,
     )
 
@@ -142,9 +116,9 @@ unfolding limit_fits
 limit_fits_said earlier row u h =
     let (channel, channel_fits, h1) = bind_ok _ _ _ h in
     let (blocks, blocks_fit, new) = bind_ok _ _ _ h1 in
-    let channel_is = within_said 0 MAX_CHANNEL name.Channel row.channel channel channel_fits in
-    let blocks_are = within_said 0 MAX_BLOCKS name.Blocks row.blocks blocks blocks_fit in
-    (record { channel = channel_is.1; blocks = blocks_are.1 }, new_limit_said earlier row u new)
+    let channel_is = within_said _ _ _ _ row.channel channel_fits in
+    let blocks_are = within_said _ _ _ _ row.blocks blocks_fit in
+    (record { channel = channel_is.2; blocks = blocks_are.2 }, new_limit_said earlier row u new)
 
 -- stores that passed are those of a problem
 pub stores_said : (rows : List StoreRow) (u v : Unit {0}) → stores_counted (length rows) ≡ Ok u
@@ -169,12 +143,9 @@ limits_said rows u passed =
 -- amounts that passed are within their range
 amounts_said : (name : Name) (amounts : List ℕ) (u : Unit {0}) → amounts_fit name amounts ≡ Ok u
     → All (λ n. n ≤ MAX_BLOCKS) amounts
-unfolding amounts_fit
-amounts_said name [] u h = All-nil (λ n. n ≤ MAX_BLOCKS)
-amounts_said name (amount ∷ amounts) u h =
-    let (n, this, rest) = bind_ok _ _ _ h in
-    All-cons (λ n. n ≤ MAX_BLOCKS) amount amounts (within_said 0 MAX_BLOCKS name amount n this).1
-    (amounts_said name amounts u rest)
+amounts_said name amounts u h =
+    (Decides-by_and (λ n. nat_le n MAX_BLOCKS) (λ n. n ≤ MAX_BLOCKS) (list_all (λ n. nat_le n MAX_BLOCKS))
+    (λ n. Decides-nat_le n MAX_BLOCKS) refl (λ _ _. refl) amounts).0 (test_ok _ _ _ h)
 
 -- what is known of steps that passed, after earlier ones
 record AreStepsAfter (stores earlier : ℕ) (windows arrived : List ℕ) : Type 0 where
@@ -212,8 +183,8 @@ steps_fit_said stores (window ∷ windows) earlier arrived u few h =
     record {
       at_most = omega (arith, others.at_most);
       table = omega (arith, others.table, length-drop stores arrived);
-      each_window = All-cons (λ n. n ≤ MAX_BLOCKS) window windows
-          (within_said 0 MAX_BLOCKS name.Window window n window_fits).1 others.each_window;
+      each_window = All-cons (λ n. n ≤ MAX_BLOCKS) window windows (within_said _ _ _ _ window window_fits).2
+          others.each_window;
       each_arrival = subst (All (λ n. n ≤ MAX_BLOCKS)) (take-append-drop stores arrived)
           (All-append (λ n. n ≤ MAX_BLOCKS) (take stores arrived) (drop stores arrived) here others.each_arrival);
     }

@@ -1,12 +1,11 @@
 -- What is read at a key, and what the key says.
 use Rattle.std.proofs.Common.{◌≡◌, ℕ, ℤ, pos, negsuc, ◌≤◌, nat_le, true, ◌||◌, List, [], ◌∷◌, map, Option, Some, Ok}
-use Rattle.std.proofs.Common.{refl}
-use Rattle.std.proofs.Common.{sym, ap, ◌∙◌, arith}
+use Rattle.std.proofs.Common.{refl, sym, ap, ◌∙◌, arith}
 use Rattle.std.specs.Prelude.{Contains, bytes_eq, option_and_then}
 use Rattle.std.specs.Bool.{Decides}
 use Rattle.std.specs.List.{list_any, list_all}
 use Rattle.std.proofs.lemmas.Bool.{and_parts}
-use Rattle.std.proofs.lemmas.Bool.Decides.{nat_tests, Decides-by_and}
+use Rattle.std.proofs.lemmas.Bool.Decides.{Decides-by_and}
 use Rattle.std.proofs.lemmas.List.Folds.{list_any_at}
 use Rattle.std.proofs.lemmas.Map.Views.{Contains-from_any}
 use Rattle.std.proofs.lemmas.Slice.Eq.{bytes_eq-Decides}
@@ -16,7 +15,7 @@ use Rattle.mm_problem.specs.Keys.{keys_of, is_named, has_only, value_at, text_at
 use Rattle.mm_problem.specs.Name.{text_of}
 use Rattle.mm_problem.specs.ReadableSetup.{HasOnly, SaysText, SaysNumber, SaysId}
 use Rattle.mm_problem.specs.Tables.{id_at}
-use Rattle.mm_base.proofs.IdFields.{is_id_text_decides}
+use Rattle.mm_base.proofs.IdFields.{is_id_text_decides, Decides-nat_le}
 use Rattle.mm_base.proofs.ReadingSteps.{bind_ok, ok_or_ok, cond_ok}
 
 -- ---- the kinds of values
@@ -66,6 +65,25 @@ has_only_decides names ms =
 
 -- ---- texts and numbers
 
+module _ (low high : ℕ) (name : Name) (n : ℕ) where
+  -- a number that passed is within its range
+  pub within_said : (m : ℕ) → within low high name (pos m) ≡ Ok n → (m ≡ n) × (low ≤ m) × (m ≤ high)
+  within_said m h =
+      let (passed, same) = cond_ok _ _ _ _ h in
+      let (above, below) = and_parts (nat_le low m) (nat_le m high) passed in
+      (same, (Decides-nat_le low m).0 above, (Decides-nat_le m high).0 below)
+
+  -- the same of a whole number
+  whole_said : (z : ℤ) → within low high name z ≡ Ok n → (z ≡ pos n) × (low ≤ n) × (n ≤ high)
+  whole_said (pos m) h =
+      let (same, above, below) = within_said m h in
+      (ap pos same, omega arith, omega arith)
+  whole_said (negsuc m) h = absurd (cc)
+
+  -- a number within the range is read
+  within_read : low ≤ n → n ≤ high → within low high name (pos n) ≡ Ok n
+  within_read above below = rw ((Decides-nat_le low n).1 above, (Decides-nat_le n high).1 below) refl
+
 module _ (row : ℕ) (name : Name) (ms : Members) where
   -- a text that is read is what the key has
   pub text_said : (text : List ℕ) → text_at row name ms ≡ Ok text → SaysText ms name text
@@ -94,29 +112,15 @@ module _ (row : ℕ) (name : Name) (ms : Members) where
   id_read id h = rw (h.says, (is_id_text_decides h.text).1 h.well_formed) (ap Ok (sym h.padded))
 
   module _ (low high n : ℕ) where
-    within_said : (z : ℤ) → within low high name z ≡ Ok n → (z ≡ pos n) × (low ≤ n) × (n ≤ high)
-    within_said (pos m) h =
-        let (passed, same) = cond_ok _ _ _ _ h in
-        let (above, below) = and_parts (nat_le low m) (nat_le m high) passed in
-        (ap pos same, rw (← same) (grind (arith, nat_tests)), rw (← same) (grind (arith, nat_tests)))
-    within_said (negsuc m) h = absurd (cc)
-
-    -- a number within the range is read
-    within_read : low ≤ n → n ≤ high → within low high name (pos n) ≡ Ok n
-    within_read above below =
-        let a : nat_le low n ≡ true = grind (arith, nat_tests) in
-        let b : nat_le n high ≡ true = grind (arith, nat_tests) in
-        rw (a, b) refl
-
     -- a number that is read is what the key has, and within the range
     pub number_said : number_at row name low high ms ≡ Ok n → SaysNumber ms name n × (low ≤ n) × (n ≤ high)
     unfolding number_at
     number_said h =
         let (z, at, in_range) = bind_ok _ _ _ h in
-        let (is, above, below) = within_said z in_range in
+        let (is, above, below) = whole_said low high name n z in_range in
         (integer_at_said z at ∙ ap (λ y. Some (integer y)) is, above, below)
 
     -- the number that the key has is read, where it is within the range
     pub number_read : SaysNumber ms name n → low ≤ n → n ≤ high → number_at row name low high ms ≡ Ok n
     unfolding number_at
-    number_read says above below = rw says (within_read above below)
+    number_read says above below = rw says (within_read low high name n above below)

@@ -1,5 +1,5 @@
 -- What is read in a document, and what the document says.
-use Rattle.std.proofs.Common.{◌≡◌, ◌≢◌, ℕ, nat_le, ◌&&◌, List, [], ◌∷◌, length, Option, Some, None, Ok, refl, sym, ap}
+use Rattle.std.proofs.Common.{◌≡◌, ◌≢◌, ℕ, nat_le, List, [], ◌∷◌, length, Option, Some, None, Ok, refl, sym, ap}
 use Rattle.std.proofs.Common.{subst, ◌∙◌, arith}
 use Rattle.std.specs.List.{AllZip}
 use Rattle.std.proofs.lemmas.Bool.{and_parts}
@@ -14,10 +14,9 @@ use Rattle.mm_problem.specs.declared.fault.Fault.TheVariants.{SetupText, SetupFi
 use Rattle.mm_problem.specs.declared.fault.Name.{Name}
 use Rattle.mm_problem.specs.declared.fault.Name.TheVariants as name
 use Rattle.mm_base.specs.declared.limits.TheConstants.{MAX_STORES, MAX_ROUTES, CHANNELS}
-use Rattle.mm_problem.specs.Document.{Lists, AreCounted, counts_of, rows_of, lists_at, setup_in, document_keys, text_of}
+use Rattle.mm_problem.specs.Document.{Lists, AreCounted, counts_of, rows_of, lists_at, setup_in, document_keys}
 use Rattle.mm_problem.specs.Document.{document_of, setup_of}
 use Rattle.mm_problem.specs.Keys.{elements, elements_of, value_at, array_at}
-use Rattle.mm_base.specs.Reading.{◌>>=◌, test}
 use Rattle.mm_problem.specs.ReadableSetup.{SaysStore, SaysRoute, SaysLimit, IsTableOf, IsArrayOf, SaysRows}
 use Rattle.mm_problem.specs.ReadableSetup.{SaysRowsIfAny, IsReadableDocument, IsReadableSetup}
 use Rattle.mm_problem.specs.Setup.{SetupRows, IsStoreRow, HaveOtherIds, IsRouteRow, IsLimitRow, HaveOtherChannels}

@@ -3,7 +3,7 @@ use Rattle.std.specs.Prelude.{ℕ, ◌+◌, ◌*◌, nat_le, nat_lt, ◌&&◌, �
 use Rattle.std.specs.Prelude.{Result, Ok}
 use Rattle.std.specs.List.{list_all}
 use Rattle.mm_problem.specs.declared.fault.Fault.{Fault}
-use Rattle.mm_problem.specs.declared.fault.Fault.TheVariants.{ForecastText, Header}
+use Rattle.mm_problem.specs.declared.fault.Fault.TheVariants.{ForecastText, Header, Limit}
 use Rattle.mm_problem.specs.declared.fault.Name.{Name}
 use Rattle.mm_problem.specs.declared.fault.Name.TheVariants as name
 use Rattle.mm_base.specs.declared.limits.TheConstants.{MAX_BLOCKS, MAX_CHANNEL, CHANNELS}
@@ -39,12 +39,9 @@ rows_fit fits earlier (row ∷ rows) = do
   this ← fits earlier row
   rows_fit fits (earlier ++ row ∷ []) rows
 
--- the tests of amounts of blocks
-unfoldable pub amounts_fit : Name → List ℕ → Result (Unit {0}) Fault
-amounts_fit name [] = Ok tt
-amounts_fit name (amount ∷ amounts) = do
-  this ← within 0 MAX_BLOCKS name (pos amount)
-  amounts_fit name amounts
+-- the test of amounts of blocks
+abbrev pub amounts_fit : Name → List ℕ → Result (Unit {0}) Fault
+amounts_fit name amounts = test (list_all (λ n. nat_le n MAX_BLOCKS) amounts) (Limit name)
 
 -- the tests of the step that follows this number of steps, with its window and its arrivals by store
 unfoldable pub step_fits : ℕ → ℕ → List ℕ → Result (Unit {0}) Fault

@@ -4,6 +4,7 @@ ghost use Rattle.mm_base.specs.declared.limits.TheConstants.{MAX_BLOCKS};
 ghost use Rattle.mm_problem.specs.Changed.{with_window, with_limit, with_column_limit, with_size};
 
 use crate::problem::Problem;
+use crate::steps::StepTable;
 use mm_base::grid::place;
 use mm_base::{NoMemory, StoreRow};
 use std::alloc::Global;
@@ -14,7 +15,14 @@ impl Problem {
         ensures { IfOk result (λ problem. problem ≡ self.now) }
     {
         let rows = Vec::from_slice(alloc, self.rows.as_slice())?;
-        let steps = self.steps.copy(alloc)?;
+        let own = &self.steps;
+        let steps = StepTable::of(
+            alloc,
+            &own.windows,
+            &own.arrived,
+            &own.limited,
+            &own.step_limits,
+        )?;
         Ok(Problem {
             rows,
             limits: self.limits,

@@ -1,5 +1,6 @@
 //! The tests of a problem that is made of data. They are the same as those of the readers.
-ghost use Rattle.std.specs.Prelude.{◌≤◌, ◌<◌, List, [], length, pos, Result};
+ghost use Rattle.std.specs.Prelude.{◌≡◌, ◌≤◌, ◌<◌, nat_le, List, [], length, pos, Result};
+ghost use Rattle.std.specs.List.{list_all};
 ghost use Rattle.mm_base.specs.Reading.{Gives};
 ghost use Rattle.mm_base.specs.declared.limits.TheConstants.{MAX_STEPS, MAX_BLOCKS, MAX_CHANNEL};
 ghost use Rattle.mm_problem.specs.Data.{rows_fit, amounts_fit, step_fits, steps_fit, step_limits_fit};
@@ -11,8 +12,8 @@ use crate::columns::are_below;
 use crate::fault::{Fault, Name};
 use crate::keys::within;
 use crate::reading::test;
+use crate::rows::Row;
 use crate::steps::test_another_step;
-use crate::tables::{test_new_limit, test_new_store};
 use mm_base::{CHANNELS, LimitRow, MAX_BLOCKS, MAX_CHANNEL, StoreRow};
 
 // A row that is tested after the rows before it.
@@ -42,7 +43,7 @@ impl Tested for StoreRow {
         within(1, MAX_BLOCKS, Name::Size, i64::from(row.size))?;
         test_channel(row.channel)?;
         within(0, row.size, Name::Start, i64::from(row.start))?;
-        test_new_store(earlier, row)
+        StoreRow::test_new(&[], earlier, row)
     }
 }
 
@@ -55,7 +56,7 @@ impl Tested for LimitRow {
     fn test(earlier: &[LimitRow], row: &LimitRow) -> Result<(), Fault> {
         test_channel(row.channel)?;
         test_amount(Name::Blocks, row.blocks)?;
-        test_new_limit(earlier, row)
+        LimitRow::test_new(&[], earlier, row)
     }
 }
 
@@ -90,15 +91,18 @@ fn test_amount(name: Name, amount: u32) -> Result<u32, Fault>
     within(0, MAX_BLOCKS, name, i64::from(amount))
 }
 
+// Whether all these amounts of blocks are within their range.
+fn are_amounts(amounts: &[u32]) -> bool
+    ensures { result ≡ list_all (λ n. nat_le n MAX_BLOCKS) amounts.now }
+{
+    amounts.iter().all(|amount| *amount <= MAX_BLOCKS)
+}
+
 // Tests amounts of blocks.
-#[tactic(auto, using(crate::proofs::DataLaws::no_amount_left))]
 fn test_amounts(name: Name, amounts: &[u32]) -> Result<(), Fault>
     ensures { Gives NoMemory (λ x. x) result (amounts_fit name amounts.now) }
 {
-    for amount in amounts {
-        test_amount(name, *amount)?;
-    }
-    Ok(())
+    test(are_amounts(amounts), Fault::Limit { name })
 }
 
 // Tests the step that follows this number of steps.

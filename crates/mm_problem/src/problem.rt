@@ -1,11 +1,10 @@
 //! The dumping problem of a setup and a forecast.
 ghost use Rattle.std.specs.Prelude.{◌≡◌, ◌==◌, ◌<◌, ◌≤◌, length, slice_index, slice_index_or, position, bytes_eq, IfOk};
 ghost use Rattle.std.specs.Prelude.{◌*◌, drop, IfErr, IfSome, IfNone};
-ghost use Rattle.mm_base.specs.declared.limits.TheConstants.{MAX_STORES, MAX_STEPS, MAX_BLOCKS, MAX_CHANNEL, CHANNELS};
+ghost use Rattle.mm_base.specs.declared.limits.TheConstants.{MAX_BLOCKS, MAX_CHANNEL};
 ghost use Rattle.mm_base.specs.Id.{IsIdField};
 ghost use Rattle.mm_problem.specs.Dumping.{no_row, row, place, size, start, channel, setup_limit, step_limit};
-ghost use Rattle.mm_problem.specs.Dumping.{column_limit};
-ghost use Rattle.mm_problem.specs.Dumping.{lesser, limit, window, arrivals, IsDumping};
+ghost use Rattle.mm_problem.specs.Dumping.{column_limit, lesser, limit, window, arrivals, IsDumping};
 ghost use Rattle.mm_problem.specs.Forecast.{limit_of, limits_of, problem_of};
 ghost use Rattle.mm_problem.specs.Data.{problem_from, limited_by};
 ghost use Rattle.mm_problem.specs.Rest.{starting_with, rows_from, starts_fit, rest_from};

@@ -20,8 +20,8 @@ pub(crate) trait Row: Drop {
     ghost new_row: { List StoreRow → List Self → Self → Result (Unit {0}) Fault };
 
     // Reads the row in the table with this number.
-    fn read(number: u32, value: &Value) -> Result<Self, Fault>
-        ensures { Gives NoMemory (λ row. row) result (row_at number (view value.now)) };
+    fn read(row: u32, value: &Value) -> Result<Self, Fault>
+        ensures { Gives NoMemory (λ r. r) result (row_at row (view value.now)) };
 
     // Tests a row against the setup's stores and the rows before it.
     fn test_new(stores: &[StoreRow], earlier: &[Self], row: &Self) -> Result<(), Fault>

@@ -58,19 +58,6 @@ impl StepTable {
             step_limits,
         })
     }
-
-    // A copy of the table.
-    pub(crate) fn copy(&self, alloc: Global) -> Result<StepTable, AllocError>
-        ensures { IfOk result (λ s. steps_of s ≡ steps_of self.now) }
-    {
-        StepTable::of(
-            alloc,
-            &self.windows,
-            &self.arrived,
-            &self.limited,
-            &self.step_limits,
-        )
-    }
 }
 
 // A cell of a record. Cells count from 0.

@@ -1,5 +1,5 @@
 //! The rows of a setup, read from its tables.
-ghost use Rattle.std.specs.Prelude.{◌≡◌, ◌<◌, ◌==◌, length};
+ghost use Rattle.std.specs.Prelude.{◌≡◌, ◌==◌};
 ghost use Rattle.std.specs.List.{list_any};
 ghost use Rattle.toml.specs.View.{view, table_view};
 ghost use Rattle.mm_problem.specs.declared.fault.Fault.TheVariants.{NoMemory};
@@ -95,38 +95,10 @@ fn start_at(row: u32, size: u32, table: &Table) -> Result<u32, Fault>
     }
 }
 
-#[tactic(auto, unfolding(crate::specs::Tables::store_at))]
-fn store_at(row: u32, value: &Value) -> Result<StoreRow, Fault>
-    ensures { Gives NoMemory (λ r. r) result (store_at row (view value.now)) }
-{
-    let table = table_of(row, Name::Store, &STORE_KEYS, value)?;
-    let id = id_at(row, Name::Id, table)?;
-    let size = number_at(row, Name::Size, 1, MAX_BLOCKS, table)?;
-    let kind = kind_at(row, table)?;
-    let channel = number_at(row, Name::Channel, 0, u32::from(MAX_CHANNEL), table)? as u8;
-    let start = start_at(row, size, table)?;
-    Ok(StoreRow {
-        id,
-        size,
-        start,
-        kind,
-        channel,
-    })
-}
-
 fn has_store(stores: &[StoreRow], id: &StoreId) -> bool
     ensures { result ≡ has_store stores.now id.now }
 {
     stores.iter().any(|row| row.id == *id)
-}
-
-// Tests that no earlier store has the row's identifier.
-pub(crate) fn test_new_store(earlier: &[StoreRow], row: &StoreRow) -> Result<(), Fault>
-    requires { length earlier.now < 256 }
-    ensures { Gives NoMemory (λ x. x) result (new_store earlier.now row.now) }
-{
-    let number = earlier.len() as u32 + 1;
-    test_field(!has_store(earlier, &row.id), number, Name::Repeated)
 }
 
 impl Row for StoreRow {
@@ -134,30 +106,28 @@ impl Row for StoreRow {
 
     ghost new_row = { λ stores. new_store };
 
-    fn read(number: u32, value: &Value) -> Result<StoreRow, Fault> {
-        store_at(number, value)
+    #[tactic(auto, unfolding(crate::specs::Tables::store_at))]
+    fn read(row: u32, value: &Value) -> Result<StoreRow, Fault> {
+        let table = table_of(row, Name::Store, &STORE_KEYS, value)?;
+        let id = id_at(row, Name::Id, table)?;
+        let size = number_at(row, Name::Size, 1, MAX_BLOCKS, table)?;
+        let kind = kind_at(row, table)?;
+        let channel = number_at(row, Name::Channel, 0, u32::from(MAX_CHANNEL), table)? as u8;
+        let start = start_at(row, size, table)?;
+        Ok(StoreRow {
+            id,
+            size,
+            start,
+            kind,
+            channel,
+        })
     }
 
+    // No earlier store has the row's identifier.
     fn test_new(_stores: &[StoreRow], earlier: &[StoreRow], row: &StoreRow) -> Result<(), Fault> {
-        test_new_store(earlier, row)
+        let number = earlier.len() as u32 + 1;
+        test_field(!has_store(earlier, &row.id), number, Name::Repeated)
     }
-}
-
-#[tactic(auto, unfolding(crate::specs::Tables::route_at))]
-fn route_at(row: u32, value: &Value) -> Result<RouteRow, Fault>
-    ensures { Gives NoMemory (λ r. r) result (route_at row (view value.now)) }
-{
-    let table = table_of(row, Name::Route, &ROUTE_KEYS, value)?;
-    let apid = number_at(row, Name::Apid, 0, u32::from(MAX_APID), table)? as u16;
-    let service = number_at(row, Name::Service, 0, 255, table)? as u8;
-    let subtype = number_at(row, Name::Subtype, 0, 255, table)? as u8;
-    let store = id_at(row, Name::Store, table)?;
-    Ok(RouteRow {
-        apid,
-        service,
-        subtype,
-        store,
-    })
 }
 
 fn same_route(a: &RouteRow, b: &RouteRow) -> bool
@@ -172,39 +142,33 @@ fn has_route(routes: &[RouteRow], route: &RouteRow) -> bool
     routes.iter().any(|row| same_route(row, route))
 }
 
-// Tests that a route leads to one of the stores, and differs from all earlier routes.
-#[tactic(auto, unfolding(crate::specs::Tables::new_route))]
-fn test_new_route(stores: &[StoreRow], earlier: &[RouteRow], row: &RouteRow) -> Result<(), Fault>
-    requires { length earlier.now < 256 }
-    ensures { Gives NoMemory (λ x. x) result (new_route stores.now earlier.now row.now) }
-{
-    let number = earlier.len() as u32 + 1;
-    test_field(has_store(stores, &row.store), number, Name::Store)?;
-    test_field(!has_route(earlier, row), number, Name::Repeated)
-}
-
 impl Row for RouteRow {
     ghost row_at = { route_at };
 
     ghost new_row = { new_route };
 
-    fn read(number: u32, value: &Value) -> Result<RouteRow, Fault> {
-        route_at(number, value)
+    #[tactic(auto, unfolding(crate::specs::Tables::route_at))]
+    fn read(row: u32, value: &Value) -> Result<RouteRow, Fault> {
+        let table = table_of(row, Name::Route, &ROUTE_KEYS, value)?;
+        let apid = number_at(row, Name::Apid, 0, u32::from(MAX_APID), table)? as u16;
+        let service = number_at(row, Name::Service, 0, 255, table)? as u8;
+        let subtype = number_at(row, Name::Subtype, 0, 255, table)? as u8;
+        let store = id_at(row, Name::Store, table)?;
+        Ok(RouteRow {
+            apid,
+            service,
+            subtype,
+            store,
+        })
     }
 
+    // The route leads to one of the stores, and differs from all earlier routes.
+    #[tactic(auto, unfolding(crate::specs::Tables::new_route))]
     fn test_new(stores: &[StoreRow], earlier: &[RouteRow], row: &RouteRow) -> Result<(), Fault> {
-        test_new_route(stores, earlier, row)
+        let number = earlier.len() as u32 + 1;
+        test_field(has_store(stores, &row.store), number, Name::Store)?;
+        test_field(!has_route(earlier, row), number, Name::Repeated)
     }
-}
-
-#[tactic(auto, unfolding(crate::specs::Tables::limit_at))]
-fn limit_at(row: u32, value: &Value) -> Result<LimitRow, Fault>
-    ensures { Gives NoMemory (λ r. r) result (limit_at row (view value.now)) }
-{
-    let table = table_of(row, Name::Limit, &LIMIT_KEYS, value)?;
-    let channel = number_at(row, Name::Channel, 0, u32::from(MAX_CHANNEL), table)? as u8;
-    let blocks = number_at(row, Name::Blocks, 0, MAX_BLOCKS, table)?;
-    Ok(LimitRow { channel, blocks })
 }
 
 fn has_limit(limits: &[LimitRow], channel: u8) -> bool
@@ -213,25 +177,22 @@ fn has_limit(limits: &[LimitRow], channel: u8) -> bool
     limits.iter().any(|row| row.channel == channel)
 }
 
-// Tests that no earlier limit has the row's channel.
-pub(crate) fn test_new_limit(earlier: &[LimitRow], row: &LimitRow) -> Result<(), Fault>
-    requires { length earlier.now < 256 }
-    ensures { Gives NoMemory (λ x. x) result (new_limit earlier.now row.now) }
-{
-    let number = earlier.len() as u32 + 1;
-    test_field(!has_limit(earlier, row.channel), number, Name::Repeated)
-}
-
 impl Row for LimitRow {
     ghost row_at = { limit_at };
 
     ghost new_row = { λ stores. new_limit };
 
-    fn read(number: u32, value: &Value) -> Result<LimitRow, Fault> {
-        limit_at(number, value)
+    #[tactic(auto, unfolding(crate::specs::Tables::limit_at))]
+    fn read(row: u32, value: &Value) -> Result<LimitRow, Fault> {
+        let table = table_of(row, Name::Limit, &LIMIT_KEYS, value)?;
+        let channel = number_at(row, Name::Channel, 0, u32::from(MAX_CHANNEL), table)? as u8;
+        let blocks = number_at(row, Name::Blocks, 0, MAX_BLOCKS, table)?;
+        Ok(LimitRow { channel, blocks })
     }
 
+    // No earlier limit has the row's channel.
     fn test_new(_stores: &[StoreRow], earlier: &[LimitRow], row: &LimitRow) -> Result<(), Fault> {
-        test_new_limit(earlier, row)
+        let number = earlier.len() as u32 + 1;
+        test_field(!has_limit(earlier, row.channel), number, Name::Repeated)
     }
 }

@@ -1,8 +1,7 @@
-use Rattle.std.proofs.Common.{◌≡◌, ℕ, ◌<◌, ◌≤◌, nat_lt, Bool, not, List, length, Option, Some, None, inl, inr, arith}
+use Rattle.std.proofs.Common.{◌≡◌, ℕ, ◌<◌, ◌≤◌, Bool, not, List, length, Option, Some, None, sym, arith}
 use Rattle.std.specs.Prelude.{position, bytes_eq, IfSome, IfNone}
 use Rattle.std.specs.List.{position_or_len}
-use Rattle.std.proofs.lemmas.Bool.{cases_Bool}
-use Rattle.std.proofs.lemmas.Bool.Decides.{nat_tests}
+use Rattle.std.proofs.lemmas.Grind.{common_steps}
 use Rattle.std.proofs.lemmas.List.Sums.{prefix_len-le-length}
 use Rattle.mm_base.specs.declared.rows.StoreRow.{StoreRow}
 use Rattle.mm_problem.proofs.problem.Problem.place.Goals as goal
@@ -11,21 +10,17 @@ module _ {X : Type 0} (p : X → Bool) (xs : List X) where
   -- what is found is the place of the first that passes
   found : (o : Option ℕ) → o ≡ position p xs → IfSome o (λ s. (s ≡ position_or_len p xs) × (s < length xs))
   found None is = tt
-  found (Some i) is = elim (cases_Bool (nat_lt (position_or_len p xs) (length xs))) [
-    | inl below ↦ let at = rw below at is in let same : i ≡ position_or_len p xs = cc in
-        (same, grind (arith, nat_tests))
-    | inr past ↦ absurd (let at = rw past at is in cc)
-  ]
+  found (Some i) is =
+      let at : position_or_len p xs ≡ i = grind (arith, common_steps) in
+      let below : i < length xs = grind (arith, common_steps) in
+      (sym at, below)
 
   -- where nothing is found, none passes
   none : (o : Option ℕ) → o ≡ position p xs → IfNone o (position_or_len p xs ≡ length xs)
   none (Some i) is = tt
-  none None is = elim (cases_Bool (nat_lt (position_or_len p xs) (length xs))) [
-    | inl below ↦ absurd (let at = rw below at is in cc)
-    | inr past ↦ (
-        let above : length xs ≤ position_or_len p xs = grind (arith, nat_tests) in
-        omega (arith, above, prefix_len-le-length (λ x. not (p x)) xs))
-  ]
+  none None is =
+      let past : length xs ≤ position_or_len p xs = grind (arith, common_steps) in
+      omega (arith, past, prefix_len-le-length (λ x. not (p x)) xs)
 
 pub returns-clause-found : goal.returns-clause-found
 returns-clause-found c =
