@@ -47,7 +47,8 @@ pub use Rattle.mm_plan.specs.Volumes.{store_loss, first_loss}
 pub use Rattle.mm_store.specs.Content.{IsRising, Store, clock_end, put}
 pub use Rattle.mm_desk.proofs.Leaving.{offers_leave}
 pub use Rattle.mm_desk.proofs.Logs.{count_of_shuffle, given_oldest, order_dumps}
-pub use Rattle.mm_desk.proofs.LossLemmas.{give_later, is_ordered, loses_new, loses_oldest}
+pub use Rattle.mm_desk.proofs.LossLemmas.{give_later, loses_new, loses_oldest}
+pub use Rattle.mm_desk.proofs.RetrievalLemmas.{is_ordered}
 pub use Rattle.mm_desk.specs.Laws.{HasTimes, ReplaysKeepStates}
 pub use Rattle.mm_desk.specs.Machine.{offer, step}
 pub use Rattle.mm_desk.specs.Offers.{IsTaken, Leaves, asked}
