@@ -1,5 +1,5 @@
 -- What a step that was broken off leaves at a store, and what each link did where a failed one halted it.
-use Rattle.std.specs.Prelude.{Option, Some, None, sum_by, slice_index_or}
+use Rattle.std.specs.Prelude.{Option, Some, None, fold, sum_by, slice_index_or}
 use Rattle.mm_dump.specs.Dumped.{times, AllSettled, places_of, AllTried}
 use Rattle.mm_carry.proofs.Replays.{IsRun-append}
 use Rattle.mm_base.specs.declared.rows.RouteRow.{RouteRow}
@@ -78,6 +78,31 @@ mild_both (Some worst.NoMemory) b mild = absurd mild
 mild_both (Some worst.LinkFailed) None mild = (tt, tt)
 mild_both (Some worst.LinkFailed) (Some why) mild = (tt, mild)
 
+-- the worse of three causes is found in either order
+worse-assoc : (a b c : Option OrderBroken) → worse (worse a b) c ≡ worse a (worse b c)
+worse-assoc None b c = refl
+worse-assoc (Some worst.NoMemory) b c = refl
+worse-assoc (Some worst.LinkFailed) None c = refl
+worse-assoc (Some worst.LinkFailed) (Some worst.NoMemory) c = refl
+worse-assoc (Some worst.LinkFailed) (Some worst.LinkFailed) None = refl
+worse-assoc (Some worst.LinkFailed) (Some worst.LinkFailed) (Some why) = refl
+
+-- of a cause and others the worst is the worse of it and of the worst of those
+worst-more : (why : Option OrderBroken) (others : List (Option OrderBroken))
+    → fold worse why others ≡ worse why (worst_of others)
+worst-more None [] = refl
+worst-more (Some worst.NoMemory) [] = refl
+worst-more (Some worst.LinkFailed) [] = refl
+worst-more why (next ∷ rest) =
+    worst-more (worse why next) rest
+    ∙ worse-assoc why next (worst_of rest)
+    ∙ ap (worse why) (sym (worst-more next rest))
+
+-- where that is no worse than a link, neither is
+mild_more : (why : Option OrderBroken) (others : List (Option OrderBroken)) → IsMild (fold worse why others)
+    → IsMild why × IsMild (worst_of others)
+mild_more why others mild = mild_both why (worst_of others) (subst IsMild (worst-more why others) mild)
+
 -- the causes for which orders of some stores broke
 abbrev whys : (ℕ → Course) → List ℕ → List (Option OrderBroken)
 whys course places = map (λ c. c.why) (map course places)
@@ -112,7 +137,7 @@ all_courses course (k ∷ ks) are early mild =
     (λ i d within. early (suc i) d (omega arith)) both.1)
   where
     both : IsMild (course k).why × IsMild (worst_of (whys course ks))
-    both = mild_both (course k).why (worst_of (whys course ks)) mild
+    both = mild_more (course k).why (whys course ks) mild
 
     -- the sends of this order that failed, and those of the others
     failed_more : failed_by (map course (k ∷ ks)) ≡ length (course k).unsent + failed_by (map course ks)
@@ -123,7 +148,7 @@ all_courses course (k ∷ ks) are early mild =
     by_why None is went mild_here (inl rest) = inl (record {
       whole = All-cons (λ k. IsWhole (course k)) k ks went rest.whole;
       fails = omega (arith, failed_more, ap length went.all, rest.fails);
-      none = ap (λ (w : Option OrderBroken). worse w (worst_of (whys course ks))) is ∙ rest.none;
+      none = ap (λ (w : Option OrderBroken). fold worse w (whys course ks)) is ∙ rest.none;
     })
     by_why None is went mild_here (inr rest) = inr (record {
       early = k ∷ rest.early;
@@ -149,9 +174,12 @@ all_courses course (k ∷ ks) are early mild =
         })
     by_why (Some worst.NoMemory) is went mild_here rest = absurd mild_here
 
--- the worst cause of orders of links
+-- the worst cause of each link's orders, and that of all of them
+abbrev worsts : (ℕ → Course) → List (List ℕ) → List (Option OrderBroken)
+worsts course places = map (λ ks. worst_of (map (λ c. c.why) (map course ks))) places
+
 abbrev worst_at : (ℕ → Course) → List (List ℕ) → Option OrderBroken
-worst_at course places = worst_of (map (λ ks. worst_of (map (λ c. c.why) (map course ks))) places)
+worst_at course places = worst_of (worsts course places)
 
 -- a number at the end of a list is in it
 times_last : (early : List ℕ) (k : ℕ) → 0 < times k (early ++ k ∷ [])
@@ -194,10 +222,10 @@ module _ {L : Type 0} (sent : L → List Sent) (failed : L → ℕ) (ids : List 
     grew = tried.0.all;
     failures = tried.0.failures;
     how = all_courses course p tried.0.are.each tried.0.are.early
-        (mild_both (worst_of (whys course p)) (worst_at course ps) mild).0;
+        (mild_more (worst_of (whys course p)) (worsts course ps) mild).0;
   }
   one_link (p ∷ ps) (o ∷ os) (n ∷ ns) tried mild (suc l) within =
-      one_link ps os ns tried.1 (mild_both (worst_of (whys course p)) (worst_at course ps) mild).1 l (omega arith)
+      one_link ps os ns tried.1 (mild_more (worst_of (whys course p)) (worsts course ps) mild).1 l (omega arith)
   one_link places olds news tried mild l within = absurd tried
 
   -- the last order of some link broke
@@ -208,7 +236,7 @@ module _ {L : Type 0} (sent : L → List Sent) (failed : L → ℕ) (ids : List 
   some_broke [] is how = absurd (cc is)
   some_broke (p ∷ ps) is how = elim (how 0 (omega arith)) [
     | inl all ↦
-        let found = some_broke ps (sym (ap (λ (w : Option OrderBroken). worse w (worst_at course ps)) all.none) ∙ is)
+        let found = some_broke ps (sym (ap (λ (w : Option OrderBroken). fold worse w (worsts course ps)) all.none) ∙ is)
         (λ l within. how (suc l) (omega arith)) in
         (suc found.0, omega (arith, found.1), found.2)
     | inr last ↦ (0, omega arith, last)
