@@ -1,6 +1,7 @@
 """The library for C as the gate has it, and the module of LLVM that the kit's rattle gave clang for it. dist/module
 and dist/targets begin with that module. One run of rattle keeps it, for as long as the archive, the kit and the
-module itself are the same."""
+module itself are the same; a run beside it waits for what it keeps."""
+import fcntl
 import filecmp
 import hashlib
 import json
@@ -72,8 +73,11 @@ def proved(rt, work):
     if not os.path.isfile(ARCHIVE):
         kit.refuse(f"{ARCHIVE} is not built: make -C bindings/c builds it")
     os.mkdir(work)
-    if not is_kept():
-        return build(rt, work)
+    os.makedirs(os.path.dirname(KEPT), exist_ok=True)
+    with open(f"{KEPT}.lock", "w", encoding="utf-8") as lock:
+        fcntl.flock(lock, fcntl.LOCK_EX)
+        if not is_kept():
+            return build(rt, work)
     for name in reversed(PARTS):
         shutil.copy(f"{KEPT}/{name}", f"{work}/part")
         os.rename(f"{work}/part", f"{work}/{name}")
