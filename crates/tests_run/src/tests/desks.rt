@@ -8,7 +8,8 @@ use crate::tests::samples::{has, is_told, store_with};
 use mm_base::Kind;
 use mm_desk::agree::{agrees, is_below, is_part};
 use mm_desk::{
-    Desk, Entry, Event, Fault, Opening, PassBook, Passing, Reply, Seat, StoreState, WindowFull,
+    Closed, Desk, Entry, Event, Fault, Opening, PassBook, PassSeat, Passing, Reply, Seat,
+    StoreState, WindowFull,
 };
 use refused_allocations::calls::{Ask, Told};
 use refused_allocations::seats::answer;
@@ -83,16 +84,20 @@ fn used_desk<N: Opening, R: Wait + Abort>(
     (desk, seats)
 }
 
-// The log of a desk whose seats are handed back in order has each call, and agrees with their lists.
-fn in_order<N: Opening, R: Wait + Abort>(rt: &R, alloc: Global, state: StoreState, case: &Case)
-    requires state { state ≡ opening_at N.states 0 }
-{
-    let (desk, seats) = used_desk::<N, R>(rt, alloc, state, case);
-    let closed = desk.close(seats);
+// The log of a closed desk has each call, and agrees with the lists of the seats.
+fn is_closed<N: Opening>(rt: &impl Abort, closed: &Closed<N>, case: &Case) {
     assert!(rt; closed.agree, "the log is a shuffle of the lists");
     has_logged(rt, &closed.log, case.calls);
     has(rt, &closed.state, case.counts);
     have_called(rt, &closed.seats, case.lists);
+}
+
+// The seats are handed back in order.
+fn in_order<N: Opening, R: Wait + Abort>(rt: &R, alloc: Global, state: StoreState, case: &Case)
+    requires state { state ≡ opening_at N.states 0 }
+{
+    let (desk, seats) = used_desk::<N, R>(rt, alloc, state, case);
+    is_closed(rt, &desk.close(seats), case);
 }
 
 fn tried<R: Wait + Abort>(rt: &R, alloc: Global, case: &Case) {
@@ -173,29 +178,33 @@ fn agrees_with_two<N: Opening>(rt: &impl Abort, log: &[Entry], seats: &[Seat<N>]
 }
 
 // A log without its last entry, or with another reply in it, does not agree with the lists.
-fn other_logs_differ<N: Opening>(rt: &impl Abort, mut log: Vec<Entry>, seats: &[Seat<N>]) {
+fn other_logs_differ<N: Opening>(rt: &impl Abort, log: &mut Vec<Entry>, seats: &[Seat<N>]) {
     log.pop();
-    assert!(rt; !agrees(&log, 2, seats), "a log without its last entry");
+    assert!(rt; !agrees(log, 2, seats), "a log without its last entry");
     let other = Entry {
         seat: 0,
         event: Event::Abort,
         reply: Reply::Done(Err(Fault::Idle)),
     };
     log.push(other).expect(rt, "memory");
-    assert!(rt; !agrees(&log, 2, seats), "another reply, as many entries");
+    assert!(rt; !agrees(log, 2, seats), "another reply, as many entries");
 }
 
-// The seats are handed back in another order, and then their lists are compared with logs.
+// The seats of a closed desk were in another order; in order, their lists are compared with logs.
+fn is_out_of_order<N: Opening>(rt: &impl Abort, closed: &mut Closed<N>) {
+    assert!(rt; !closed.agree, "the seats are in another order");
+    closed.seats.reverse();
+    agrees_with_two(rt, &closed.log, &closed.seats);
+    other_logs_differ(rt, &mut closed.log, &closed.seats);
+}
+
+// The seats are handed back in another order.
 fn exchanged<N: Opening, R: Wait + Abort>(rt: &R, alloc: Global, state: StoreState)
     requires state { state ≡ opening_at N.states 0 }
 {
     let (desk, mut seats) = used_desk::<N, R>(rt, alloc, state, &TWO_OFFERS);
     seats.reverse();
-    let mut closed = desk.close(seats);
-    assert!(rt; !closed.agree, "the seats are in another order");
-    closed.seats.reverse();
-    agrees_with_two(rt, &closed.log, &closed.seats);
-    other_logs_differ(rt, closed.log, &closed.seats);
+    is_out_of_order(rt, &mut desk.close(seats));
 }
 
 #[test]
@@ -205,19 +214,26 @@ fn a_log_beside_other_lists_does_not_agree(rt: HostRuntime) {
 }
 
 // Two seats draw from a window of three blocks.
+fn draws<W: Passing, R: Wait + Abort>(rt: &R, book: &PassBook<W>, seats: &mut [PassSeat<W>]) {
+    let [one, other] = seats else {
+        panic!(rt; "two seats");
+    };
+    let full = WindowFull { left: 1 };
+    assert!(rt; book.draw(rt, one, 2).is_ok(), "two of three blocks");
+    assert!(rt; book.draw(rt, other, 2) == Err(full), "more than is left");
+    assert!(rt; book.draw(rt, other, 1).is_ok(), "what is left");
+    assert!(rt;
+        (one.drawn(), other.drawn()) == (2, 1),
+        "the totals of the seats"
+    );
+}
+
+// A pass book of three blocks and two seats, opened, drawn from and closed: how much was drawn.
 fn draw_three<W: Passing, R: Wait + Abort>(rt: &R, alloc: Global, blank: Blank) -> u64
     requires book { IsPassBook blank 3 2 W.name W.parts W.window }
 {
     let (book, mut seats) = PassBook::<W>::open(alloc, blank, 3, 2).expect(rt, "memory");
-    let drawn = [
-        book.draw(rt, &mut seats[0], 2),
-        book.draw(rt, &mut seats[1], 2),
-        book.draw(rt, &mut seats[1], 1),
-    ];
-    let full = Err(WindowFull { left: 1 });
-    assert!(rt; drawn == [Ok(()), full, Ok(())], "what is drawn");
-    let totals = [seats[0].drawn(), seats[1].drawn()];
-    assert!(rt; totals == [2, 1], "the totals of the seats");
+    draws(rt, &book, &mut seats);
     book.close(seats)
 }
 

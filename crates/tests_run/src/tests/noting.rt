@@ -150,6 +150,18 @@ impl Maker {
         text.push_str(&line.expect(rt, "memory"))
             .expect(rt, "memory");
     }
+
+    // This many lines, four in so many of which are strange, and a twentieth as many that are stranger.
+    fn text<R: Abort + AllocGlobal>(&mut self, rt: &R, lines: usize, among: usize) -> String {
+        let mut text = String::new(rt.alloc());
+        for _ in 0..lines {
+            self.push_line(rt, &mut text, among);
+        }
+        for _ in 0..lines / 20 {
+            self.push_line(rt, &mut text, 5);
+        }
+        text
+    }
 }
 
 // A forecast of two steps, and links that no run takes.
@@ -207,6 +219,15 @@ static SIZES: [(usize, usize); 11] = [
     (700, NONE),
 ];
 
+// Sources of each size are noted as by the plain form, for a setup of the maker's routes.
+fn are_as_plain<R: Abort + AllocGlobal + Threads + Wait + Sync>(rt: &R, maker: &mut Maker) {
+    let setup = setup_of(rt, maker.routes);
+    for (lines, among) in &SIZES {
+        let text = maker.text(rt, *lines, *among);
+        is_as_plain(rt, setup.as_str(), text.as_bytes());
+    }
+}
+
 #[test]
 fn packets_that_no_route_takes_are_noted_as_by_a_plain_form(rt: HostRuntime) {
     let mut maker = Maker {
@@ -214,18 +235,8 @@ fn packets_that_no_route_takes_are_noted_as_by_a_plain_form(rt: HostRuntime) {
         state: 1,
     };
     for routes in [1, 2, 4, 60, 64, 65, 200, 256] {
-        let setup = setup_of(&rt, routes);
         maker.routes = routes;
-        for (lines, among) in &SIZES {
-            let mut text = String::new(rt.alloc());
-            for _ in 0..*lines {
-                maker.push_line(&rt, &mut text, *among);
-            }
-            for _ in 0..*lines / 20 {
-                maker.push_line(&rt, &mut text, 5);
-            }
-            is_as_plain(&rt, setup.as_str(), text.as_bytes());
-        }
+        are_as_plain(&rt, &mut maker);
     }
 }
 
