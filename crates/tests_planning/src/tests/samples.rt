@@ -185,11 +185,16 @@ pub(crate) fn filled(rt: &impl Runtime, problem: &Problem, plan: &Plan) -> Plan
     fill(rt.alloc(), problem, plan).expect(rt, "memory")
 }
 
+// Whether some plan of the problem loses less than this.
+fn may_lose_less(rt: &impl Runtime, problem: &Problem, loss: u64) -> bool {
+    let found = plan_below(rt.alloc(), problem, loss).expect(rt, "memory");
+    found.is_some()
+}
+
 // The least loss of all plans of the problem is this.
 pub(crate) fn is_least(rt: &impl Runtime, problem: &Problem, loss: u64) {
-    let less = plan_below(rt.alloc(), problem, loss).expect(rt, "memory");
-    let more = plan_below(rt.alloc(), problem, loss.saturating_add(1)).expect(rt, "memory");
-    let is_least = less.is_none() && more.is_some();
+    let more = loss.saturating_add(1);
+    let is_least = !may_lose_less(rt, problem, loss) && may_lose_less(rt, problem, more);
     assert!(rt; is_least, "{loss} is not the least loss");
 }
 

@@ -7,7 +7,7 @@ use crate::tests::twins::proposals::{FAMILIES, Numbers};
 use crate::tests::twins::small_problems;
 use crate::tests::worths;
 use mm_cut::{Verdict, verdict_of};
-use mm_plan::{Plan, Sheet, first_loss};
+use mm_plan::{Certificate, Plan, Sheet, first_loss};
 use mm_planner::{plan, plan_in_order_by_flow, sheet_in_order};
 use mm_problem::{Kind, MAX_BLOCKS, Problem, StoreRow};
 
@@ -105,24 +105,39 @@ fn is_least_of_all_plans(rt: &impl Runtime, problem: &Problem, plan: &Plan, stor
     is_least(rt, &quiet, loss);
 }
 
-// The plan by the network alone has the same losses, of all stores and of the first ones.
-fn is_planned_alike_by_flow(rt: &impl Runtime, problem: &Problem, sheet: &Sheet) {
-    let by_flow = plan_in_order_by_flow(rt.alloc(), problem).expect(rt, "memory");
-    let firsts = sheet.firsts().expect(rt, "certificates");
-    let found = (by_flow.certificate.loss(), by_flow.firsts.len());
-    assert!(rt; found == (sheet.loss(), firsts.len()));
-    for (found, wanted) in by_flow.firsts.iter().zip(firsts.iter()) {
+// These certificates show the same losses.
+fn show_alike(rt: &impl Runtime, found: &[Certificate], wanted: &[Certificate]) {
+    assert!(rt; found.len() == wanted.len());
+    for (found, wanted) in found.iter().zip(wanted.iter()) {
         assert!(rt; found.loss() == wanted.loss());
     }
 }
 
+// The plan by the network alone has the same losses, of all stores and of the first ones.
+fn is_planned_alike_by_flow(rt: &impl Runtime, problem: &Problem, sheet: &Sheet) {
+    let by_flow = plan_in_order_by_flow(rt.alloc(), problem).expect(rt, "memory");
+    assert!(rt; by_flow.certificate.loss() == sheet.loss());
+    show_alike(
+        rt,
+        &by_flow.firsts,
+        sheet.firsts().expect(rt, "certificates"),
+    );
+}
+
 // The same for the first store, the first two and so on.
+fn each_is_least_of_all_plans(rt: &impl Runtime, problem: &Problem, plan: &Plan)
+    requires { HasShape problem.now plan.now }
+{
+    for last in 0..problem.stores() {
+        is_least_of_all_plans(rt, problem, plan, last + 1);
+    }
+}
+
+// The same by the plan in order, which is that of the network too.
 fn are_least_of_all_plans(rt: &impl Runtime, problem: &Problem) {
     let sheet = planned(rt, problem);
     is_planned_alike_by_flow(rt, problem, &sheet);
-    for last in 0..problem.stores() {
-        is_least_of_all_plans(rt, problem, sheet.plan(), last + 1);
-    }
+    each_is_least_of_all_plans(rt, problem, sheet.plan());
 }
 
 #[test]
@@ -156,19 +171,31 @@ fn is_least_alone(rt: &impl Runtime, problem: &Problem, ordered: &Plan, stores: 
     assert!(rt; loss == least, "{stores} stores lose {loss}");
 }
 
-// The same for the first store, the first two and so on. Returns whether the plan without order loses more of some of
-// these.
+// The same for the first store, the first two and so on. Returns whether the plan without order loses another number
+// of some of these.
+fn each_is_least_alone(
+    rt: &impl Runtime,
+    problem: &Problem,
+    ordered: &Plan,
+    unordered: &Plan,
+) -> bool
+    requires ordered { HasShape problem.now ordered.now }
+    requires unordered { HasShape problem.now unordered.now }
+{
+    let mut is_other = false;
+    for last in 0..problem.stores() {
+        is_least_alone(rt, problem, ordered, last + 1);
+        let loss = first_loss(problem, ordered, last + 1);
+        is_other = is_other || first_loss(problem, unordered, last + 1) != loss;
+    }
+    is_other
+}
+
 fn are_least_alone(rt: &impl Runtime, problem: &Problem) -> bool {
     let sheet = planned(rt, problem);
     let unordered = plan(rt.alloc(), problem).expect(rt, "memory").plan;
     assert!(rt; unordered.has_shape(problem));
-    let mut is_other = false;
-    for last in 0..problem.stores() {
-        is_least_alone(rt, problem, sheet.plan(), last + 1);
-        let loss = first_loss(problem, sheet.plan(), last + 1);
-        is_other = is_other || first_loss(problem, &unordered, last + 1) != loss;
-    }
-    is_other
+    each_is_least_alone(rt, problem, sheet.plan(), &unordered)
 }
 
 // The same in problems of each family, with limits for each step or without.
