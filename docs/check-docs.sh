@@ -18,8 +18,10 @@
 #   of its crates;
 # - each must-fail edit is named in docs/PROMISES.md in a sentence that begins with 'Refused:', each edit named there is
 #   there, each promise names one, and there are at most as many as the gate has time for; docs/TRUST.md tells how many
-#   there are;
-# - each must-fail edit changes a function that the program or the library for C runs: docs/reached;
+#   there are, and how many lines: docs/sizes;
+# - THIRD-PARTY-NOTICES.txt has the notices of the kit's crates, where the kit is installed: dist/notices;
+# - each must-fail edit changes a function that the program or the library for C runs: docs/reached; each edit of
+#   both tiers can be applied: bench/wrong-bodies --applied;
 # - each name in code style in docs/ARCHITECTURE.md, docs/READING.md and docs/PROMISES.md stands in some source;
 # - each definition that a clause of a public function or docs/PROMISES.md names has words: docs/definitions;
 # - each function of a picture of docs/ARCHITECTURE.md stands in the file that stands beside it;
@@ -298,7 +300,7 @@ edits_in_promises() {
 
 # Each promise of docs/PROMISES.md, and the edits of the gate.
 check_edits() {
-  local most=110 edits second heading edit
+  local most=70 edits heading edit
   refused_in_promises >"$work/refused"
   edits_in_promises | sort -u >"$work/named"
   (cd "$top/crates" && find . -path '*/must-fail/*.edit') | sed 's|^\./||; s|/must-fail/|/|; s|\.edit$||' |
@@ -315,10 +317,14 @@ check_edits() {
       fail "docs/PROMISES.md: '${heading#\#\# }' names no wrong body after 'Refused:'"
   done < <(grep -E '^## (.*`mm_|The .* promise)' "$top/docs/PROMISES.md")
   edits=$(wc -l <"$work/edits")
-  second=$(find "$top"/crates/*/wrong-bodies -name '*.edit' | wc -l)
-  tr '\n' ' ' <"$top/docs/TRUST.md" | grep -qE "\b$edits must-fail edits .*\b$second more stand in a second tier" ||
-    fail "docs/TRUST.md, 'How large is it?': there are $edits must-fail edits, and $second more in the second tier"
   [ "$edits" -le "$most" ] || fail "$edits must-fail edits, and the gate has time for $most: move some to wrong-bodies"
+}
+
+# Each edit of both tiers can be applied.
+check_applied() {
+  local line
+  "$top/bench/wrong-bodies" --applied >"$work/unapplied" 2>&1 && return
+  while IFS= read -r line; do fail "$line"; done <"$work/unapplied"
 }
 
 # What each must-fail edit changes is run by the program or by the library for C.
@@ -326,6 +332,17 @@ check_reached() {
   local line
   "$top/docs/reached" >"$work/unreached" 2>&1 && return
   while IFS= read -r line; do fail "$line"; done <"$work/unreached"
+}
+
+# docs/TRUST.md tells how large the repository is, and THIRD-PARTY-NOTICES.txt what it is made of.
+check_told() {
+  local line
+  line=$("$top/docs/sizes" --check 2>&1) || fail "$line"
+  if command -v rt >/dev/null; then
+    line=$("$top/dist/notices" --check 2>&1) || fail "$line"
+  else
+    echo 'docs: the notices of the kit are passed over: the command rt is not installed'
+  fi
 }
 
 # The words of the contracts have their meanings.
@@ -428,7 +445,9 @@ check_crate_rows
 check_page_names
 check_promises
 check_edits
+check_applied
 check_reached
+check_told
 check_definitions
 check_pictures
 check_refusals

@@ -13,10 +13,11 @@
  * - `malloc`, `realloc` and `free` are of one allocator, and `malloc` aligns to each power of two up to 16 that divides the size.
  * - No call is made from a signal handler, nor in the forked child of a process with threads.
  * - The handle of a memory is `RUDLAYOG_MEMORY_CLOSED`, or all its octets are 0, before its first call. It is changed by calls alone, it is
- *   not copied, and no two calls on it are made at once.
+ *   not copied, and no two calls on it are made at once, nor two that only read it and have it as `const`: they leave it as it was, and
+ *   change it while they run.
  * - The stack has room for the call (`RUDLAYOG_PLAN_STACK` and the like; those of calls with a setup are large, and much smaller where it is
  *   known to be flat).
- * - Pointers have 64 bits.
+ * - Pointers have 64 bits, but in a library that is compiled of portable/rudlayog.c.
  *
  * The archive librudlayog.a also has the names `rattle_alloc`, `rattle_realloc` and `rattle_dealloc`, by which it calls `malloc`, `realloc`
  * and `free`; the shared library has only the calls below.
@@ -29,7 +30,7 @@
  * lists it.
  *
  * Whatever it answers, a call writes its `answer` whole, and each value beside it (`losses`, `verdict`, `outcome`, `fate`, `tally`, `time`,
- * `state`, `reports`, `packets`, `report`), which is all 0 but where the call says another. It writes into its buffer only where it tells
+ * `state`, `store`, `reports`, `packets`, `report`), which is all 0 but where the call says another. It writes into its buffer only where it tells
  * `RUDLAYOG_WRITTEN`, and then only the `answer.length` octets of the text, or the first `answer.length` entries. A call on a handle that
  * tells another status has changed nothing, but that the retrieval is over where rudlayog_memory_next tells `RUDLAYOG_END`, and that a
  * packet that is refused out of memory is counted. */
@@ -45,11 +46,21 @@
 #define RUDLAYOG_VERSION "0.4.0"
 #define RUDLAYOG_VERSION_NUMBER 400
 
-#ifdef __cplusplus
+/* The shared library is librudlayog.so.1: with a change after which a program that was linked before may not run, the number is one more.
+ * A call that is new changes no number. bindings/c/interface has what the number stands for. */
+#define RUDLAYOG_LIBRARY_NUMBER 1
+
+/* The layouts below are those of the archives, whose processors have 64-bit pointers. portable/rudlayog.c takes any layout. */
+#if defined(RUDLAYOG_PORTABLE) || UINTPTR_MAX != UINT64_MAX || defined(_WIN32)
+#define RUDLAYOG_SAME(fact) struct rudlayog_same
+#elif defined(__cplusplus)
 #define RUDLAYOG_SAME(fact) static_assert(fact, "the library has this layout")
-extern "C" {
 #else
 #define RUDLAYOG_SAME(fact) _Static_assert(fact, "the library has this layout")
+#endif
+
+#ifdef __cplusplus
+extern "C" {
 #endif
 
 /* How a call ended. */
@@ -101,15 +112,16 @@ enum {
     RUDLAYOG_SENSITIVITY_STACK = 2621440,
     RUDLAYOG_ASK_STACK = 2621440,
     RUDLAYOG_READ_STACK = 8192,
-    RUDLAYOG_WORDS_STACK = 4096,
+    RUDLAYOG_WORDS_STACK = 8192,
     RUDLAYOG_HINT_STACK = 2621440,
-    RUDLAYOG_VERSION_STACK = 1024,
-    RUDLAYOG_FIELDS_STACK = 4096,     /* for rudlayog_request_write and rudlayog_report_read */
+    RUDLAYOG_VERSION_STACK = 4096,
+    RUDLAYOG_FIELDS_STACK = 8192,     /* for rudlayog_request_write and rudlayog_report_read */
     RUDLAYOG_OPEN_STACK = 2621440,    /* for rudlayog_memory_open */
     RUDLAYOG_MEMORY_STACK = 12288,    /* for each other call on a memory */
     RUDLAYOG_FLAT_STACK = 114688,     /* for each call, where the setup is flat */
     RUDLAYOG_FLAT_OPEN_STACK = 16384, /* for rudlayog_memory_open and rudlayog_ask, where it is */
-    /* On 64-bit Arm and RISC-V those of flat setups and of memories hold too; what nested setups take there is not measured. */
+    /* On 64-bit Arm and RISC-V those of flat setups and of memories hold too. A setup that is nested may take more than three times as much
+     * there: 8,500,000 on Arm. */
 };
 
 /* Bytes of memory that do for a report that waits, and the most that stay allocated for reports where none waits; measured by
@@ -279,10 +291,11 @@ enum rudlayog_store_kind {
     RUDLAYOG_NO_STORE = 255 /* of a state: the call is refused. In an instruction it is refused, as any other type is */
 };
 
-/* What a store holds and has lost: its kind, of `enum rudlayog_store_kind`, its size in blocks, and how many packets it holds; 1 where storage is on, and 1 where a
- * retrieval is; how many packets were offered and not refused, were lost, and were deleted, so that `offered` is the sum of `lost`,
- * `deleted` and `held`; the storage times of its oldest and its newest packet, 0 where it is empty; and of the retrieval that is on the
- * first and the last time, and the time of the packet that it gave last, 0 where it gave none. Times are in ticks. */
+/* What a store holds and has lost: its kind, of `enum rudlayog_store_kind`, its size in blocks, and how many packets it holds; 1 where
+ * storage is on, and 1 where a retrieval is; how many packets were offered and not refused, were lost, and were deleted, so that `offered`
+ * is the sum of `lost`, `deleted` and `held`; the storage times of its oldest and its newest packet, 0 where it is empty; and of the
+ * retrieval that is on the first and the last time, and the time of the packet that it gave last, 0 where it gave none. Times are in
+ * ticks. */
 struct rudlayog_state {
     uint32_t kind;
     uint32_t size;
@@ -297,6 +310,15 @@ struct rudlayog_state {
     uint64_t from;
     uint64_t to;
     uint64_t after;
+};
+
+/* A store in the list of a memory: its identifier, with spaces after it; how many octets that has without them, which are its text; its
+ * virtual channel; and its state. */
+struct rudlayog_store {
+    uint8_t id[8];
+    uint32_t id_length;
+    uint32_t channel;
+    struct rudlayog_state state;
 };
 
 /* What became of a packet in the stores that it is routed to: how many keep it, how many packets are lost by it (itself in a full bounded
@@ -412,6 +434,9 @@ RUDLAYOG_SAME(offsetof(struct rudlayog_fate, kind) == 0 && offsetof(struct rudla
 RUDLAYOG_SAME(sizeof(struct rudlayog_state) == 88);
 RUDLAYOG_SAME(offsetof(struct rudlayog_state, retrieval) == 16 && offsetof(struct rudlayog_state, offered) == 24 &&
               offsetof(struct rudlayog_state, after) == 80);
+RUDLAYOG_SAME(sizeof(struct rudlayog_store) == 104);
+RUDLAYOG_SAME(offsetof(struct rudlayog_store, id_length) == 8 && offsetof(struct rudlayog_store, channel) == 12 &&
+              offsetof(struct rudlayog_store, state) == 16);
 RUDLAYOG_SAME(sizeof(struct rudlayog_tally) == 12);
 RUDLAYOG_SAME(offsetof(struct rudlayog_tally, kept) == 0 && offsetof(struct rudlayog_tally, lost) == 4 &&
               offsetof(struct rudlayog_tally, refused) == 8);
@@ -495,9 +520,9 @@ void rudlayog_read(const uint8_t *packets, size_t packets_length, uint8_t *out, 
                    struct rudlayog_answer *answer);
 
 /* The words of a refusal for people, in one line without its end, as `28 SetupField row 1 name size: expected ..; ..`. The text is empty
- * where no refusal has these codes. Stack: `RUDLAYOG_WORDS_STACK`.
+ * where no refusal has these codes. It takes no memory. Stack: `RUDLAYOG_WORDS_STACK`.
  *
- * `RUDLAYOG_WRITTEN`, `RUDLAYOG_TOO_SMALL` (not where `room` is `RUDLAYOG_WORDS_ROOM` or more), `RUDLAYOG_REFUSED` out of memory. */
+ * `RUDLAYOG_WRITTEN`, `RUDLAYOG_TOO_SMALL` (not where `room` is `RUDLAYOG_WORDS_ROOM` or more). */
 void rudlayog_words(const struct rudlayog_refused *refused, uint8_t *out, size_t room, struct rudlayog_answer *answer);
 
 /* The hint on texts of which rudlayog_plan, rudlayog_plan_losses, rudlayog_plan_in_order, rudlayog_check, rudlayog_chart, rudlayog_table,
@@ -539,7 +564,10 @@ void rudlayog_report_read(const uint8_t *packet, size_t packet_length, struct ru
                           size_t entries_room, struct rudlayog_answer *answer);
 
 /* A memory with its storage service. Moments and storage times are in ticks; an identifier is its text, as `SCI`; a packet is its octets,
- * with nothing after them: octets after it are refused, `RUDLAYOG_REFUSAL_HEX_LINE`. Each call but rudlayog_memory_open tells
+ * with nothing after them: octets after it are refused, `RUDLAYOG_REFUSAL_HEX_LINE`. No packet of the service has a packet error control
+ * (the cyclic redundancy check, CRC, in the last two octets of its data): who takes a telecommand from a link that adds one checks it,
+ * takes it away, and makes the packet data length 2 less, or a request is refused, `RUDLAYOG_REFUSAL_COUNT_MISMATCH`. The octets of packets
+ * that are recorded or offered are kept as they are, with the check that they may have. Each call but rudlayog_memory_open tells
  * `RUDLAYOG_CLOSED` where the handle is closed. Stack: `RUDLAYOG_MEMORY_STACK`, but for rudlayog_memory_open.
  *
  * Out of memory. An open memory keeps what one packet and one request take. So, tested by bindings/c/tests/full.c and not
@@ -550,8 +578,8 @@ void rudlayog_report_read(const uint8_t *packet, size_t packet_length, struct ru
  *   packet that each of its stores loses or refuses, or that has none, need memory;
  * - rudlayog_memory_apply, of a request that switches storage on or off, starts or aborts retrievals, deletes content, stores
  *   or report types, or changes channels: what is kept is freed, and allocated again after it;
- * - rudlayog_memory_next, rudlayog_memory_state, rudlayog_memory_waiting, rudlayog_memory_refused, rudlayog_memory_bound and
- *   rudlayog_memory_close, which allocate nothing.
+ * - rudlayog_memory_next, rudlayog_memory_state, rudlayog_memory_store, rudlayog_memory_waiting, rudlayog_memory_refused,
+ *   rudlayog_memory_bound and rudlayog_memory_close, which allocate nothing.
  *
  * Each other packet is refused, and counted: rudlayog_memory_refused. Deleting content makes room for it.
  *
@@ -570,7 +598,8 @@ void rudlayog_memory_open(struct rudlayog_memory *memory, const uint8_t *setup, 
  *
  * `RUDLAYOG_WRITTEN`, with no text: `fate` is what became of it. `RUDLAYOG_REFUSED`: `fate` is all 0. The tests: `RUDLAYOG_REFUSAL_BAD_ID`;
  * the packet; `RUDLAYOG_REFUSAL_TOO_LONG`, it has more than `RUDLAYOG_BLOCK` octets; `RUDLAYOG_REFUSAL_NO_SUCH_STORE`;
- * `RUDLAYOG_REFUSAL_DISABLED`, storage into the store is off; `RUDLAYOG_REFUSAL_CLOCK_END`. Or out of memory. */
+ * `RUDLAYOG_REFUSAL_DISABLED`, storage into the store is off; `RUDLAYOG_REFUSAL_CLOCK_END`. Or out of memory, in place of
+ * `RUDLAYOG_WRITTEN` alone: what is refused needs no memory. */
 void rudlayog_memory_offer(struct rudlayog_memory *memory, const uint8_t *id, size_t id_length, uint64_t now, const uint8_t *packet,
                            size_t packet_length, struct rudlayog_fate *fate, struct rudlayog_answer *answer);
 
@@ -612,19 +641,27 @@ void rudlayog_memory_next(struct rudlayog_memory *memory, const uint8_t *id, siz
  *
  * `RUDLAYOG_WRITTEN`, with no text: `state` is that of the store. `RUDLAYOG_REFUSED`, the identifier, and `RUDLAYOG_CLOSED`: `state` is all 0
  * but for its kind, `RUDLAYOG_NO_STORE`. */
-void rudlayog_memory_state(struct rudlayog_memory *memory, const uint8_t *id, size_t id_length, struct rudlayog_state *state,
+void rudlayog_memory_state(const struct rudlayog_memory *memory, const uint8_t *id, size_t id_length, struct rudlayog_state *state,
+                           struct rudlayog_answer *answer);
+
+/* Tells the store at a place, from 0 on: those of the setup in its order, and then those that were created, in theirs. A call for each place
+ * until `RUDLAYOG_END` lists all stores, of which there are at most `RUDLAYOG_STORES`. It takes no memory.
+ *
+ * `RUDLAYOG_WRITTEN`, with no text: `store` is the store. `RUDLAYOG_END`: there is no store at this place nor after it. `store` is then, and
+ * with `RUDLAYOG_CLOSED`, all 0 but for the kind of its state, `RUDLAYOG_NO_STORE`. */
+void rudlayog_memory_store(const struct rudlayog_memory *memory, uint64_t place, struct rudlayog_store *store,
                            struct rudlayog_answer *answer);
 
 /* Tells how many reports wait. It takes no memory.
  *
  * `RUDLAYOG_WRITTEN`, with no text: `reports` is their number. */
-void rudlayog_memory_waiting(struct rudlayog_memory *memory, uint64_t *reports, struct rudlayog_answer *answer);
+void rudlayog_memory_waiting(const struct rudlayog_memory *memory, uint64_t *reports, struct rudlayog_answer *answer);
 
 /* Tells how many packets were refused out of memory since the handle was opened, by rudlayog_memory_offer and
  * rudlayog_memory_record; `UINT64_MAX` where there were more. They are in no counter of a store. It takes no memory.
  *
  * `RUDLAYOG_WRITTEN`, with no text: `packets` is their number. */
-void rudlayog_memory_refused(struct rudlayog_memory *memory, uint64_t *packets, struct rudlayog_answer *answer);
+void rudlayog_memory_refused(const struct rudlayog_memory *memory, uint64_t *packets, struct rudlayog_answer *answer);
 
 /* Lets at most this number of reports wait from now on. Before the first call as many wait as memory holds, and with `UINT64_MAX` again;
  * those that wait already go on waiting. It takes no memory. A request is then refused whole, `RUDLAYOG_REFUSAL_TOO_MANY_REPORTS`, where the

@@ -43,6 +43,7 @@ struct rudlayog_pool_use {
     size_t cut;     /* in blocks that are or were in use: of the array no more was ever used */
     size_t blocks;  /* how many blocks are in use */
     size_t refused; /* how many times there was no block */
+    size_t wrong;   /* how many times a block was given back that was not in use: nothing else was done */
 };
 
 struct rudlayog_pool_use rudlayog_pool_use(void);

@@ -14,6 +14,7 @@ from pathlib import Path
 
 HERE = Path(__file__).resolve().parent
 TOP = HERE.parents[1]
+NOTICES = TOP / "THIRD-PARTY-NOTICES.txt"
 EXAMPLES = ("mission", "two_passes", "in_order", "tight", "channel_limit", "first_run")
 IMPORT = re.compile(r'^import \{[^}]*\} from "\./(\w+)\.js";\n', re.M)
 
@@ -70,6 +71,7 @@ def main(module: str, out: str, hook: str = "") -> None:
         "OPTIONS": "".join(f'<option value="{name}">{name}</option>' for name in EXAMPLES),
         "BUILD": f"Made with <code>{html.escape(kit)}</code>; SHA-256 of the module "
         f"<code>{hashlib.sha256(octets).hexdigest()}</code>.",
+        "NOTICES": html.escape(NOTICES.read_text(encoding="utf-8")),
         "STYLE": style,
         # No text ends the element that it stands in.
         "EXAMPLES": json.dumps(examples()).replace("<", "\\u003c"),

@@ -8,7 +8,7 @@
 #define DISTRIBUTOR 0x08000000u
 #define INTERFACE 0x08010000u
 
-enum { FLAGS = 0x18, IS_FULL = 0x20, TIMER = 30, INTERVAL = 6250 };
+enum { FLAGS = 0x18, IS_FULL = 0x20, TIMER = 30, NONE = 1023, INTERVAL = 6250 };
 
 static void (*on_timer)(void);
 
@@ -18,15 +18,21 @@ void machine_write(char octet) {
     WORD(SERIAL) = (uint8_t)octet;
 }
 
-static void set_timer(void) { __asm__ volatile("msr cntp_tval_el0, %0" : : "r"((uint64_t)INTERVAL)); }
+/* The timer's interrupt is over before what comes next. */
+static void set_timer(void) { __asm__ volatile("msr cntp_tval_el0, %0\n isb" : : "r"((uint64_t)INTERVAL) : "memory"); }
 
 /* Called by aarch64.S. */
 void machine_interrupt(void);
 void machine_interrupt(void) {
-    const uint32_t number = WORD(INTERFACE + 0xC);
-    set_timer();
-    on_timer();
-    WORD(INTERFACE + 0x10) = number;
+    const uint32_t taken = WORD(INTERFACE + 0xC), number = taken & 1023;
+    if (number == NONE) {
+        return;
+    }
+    if (number == TIMER) {
+        set_timer();
+        on_timer();
+    }
+    WORD(INTERFACE + 0x10) = taken;
 }
 
 void machine_start_timer(void (*handler)(void)) {

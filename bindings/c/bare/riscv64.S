@@ -1,4 +1,5 @@
-/* Begins with the first processor at 0x80000000, and takes the interrupts of its timer. */
+/* Begins with the first processor at 0x80000000, and takes the interrupts of its timer. What is no such interrupt is a
+ * fault, which is told, and ends the machine. */
         .section .text.start
         .globl start
 start:  csrr    t0, mhartid
@@ -8,6 +9,21 @@ start:  csrr    t0, mhartid
         csrs    mstatus, t0
         la      t0, interrupt
         csrw    mtvec, t0
+        /* Devices below the memory are no code, code and constants cannot be written, and what is after them is no
+         * code; above it there is nothing. Each row of a table says up to where it holds (the address by 4), and what
+         * may be done: 1 to read, 2 to write, 4 to run code; 8 and 0x80 have it hold here too. */
+        li      t0, 0x80000000 >> 2
+        csrw    pmpaddr0, t0
+        la      t0, code_end
+        srli    t0, t0, 2
+        csrw    pmpaddr1, t0
+        la      t0, data_end
+        srli    t0, t0, 2
+        csrw    pmpaddr2, t0
+        li      t0, -1
+        csrw    pmpaddr3, t0
+        li      t0, 0x888B8D8B
+        csrw    pmpcfg0, t0
         la      sp, stack_end
         la      t0, stack
         li      t1, 0xA5A5A5A5A5A5A5A5
@@ -21,7 +37,7 @@ start:  csrr    t0, mhartid
         addi    t0, t0, 8
         j       2b
 3:      call    main
-        /* The machine ends: status 0, or 1 where main gives another number than 0. */
+        /* The machine ends: status 0, 1 where main gives another number than 0, 2 after a fault. */
         li      t0, 0x100000
         li      t1, 0x5555
         beqz    a0, 4f
@@ -29,6 +45,15 @@ start:  csrr    t0, mhartid
 4:      sw      t1, 0(t0)
 rest:   wfi
         j       rest
+
+fault:  la      sp, fault_stack_end
+        csrr    a0, mcause
+        csrr    a1, mepc
+        csrr    a2, mtval
+        call    machine_fault
+        li      t0, 0x100000
+        li      t1, 0x23333
+        j       4b
 
         /* An interrupt: the registers that a call may change are kept, those of numbers with a point too. */
         .macro  keep op, fop
@@ -59,6 +84,14 @@ rest:   wfi
         .text
         .balign 4
 interrupt:
+        /* The timer's is 7 with the highest bit. */
+        csrw    mscratch, t0
+        csrr    t0, mcause
+        bgez    t0, fault
+        slli    t0, t0, 1
+        addi    t0, t0, -14
+        bnez    t0, fault
+        csrr    t0, mscratch
         addi    sp, sp, -304
         keep    sd, fsd
         frcsr   t0

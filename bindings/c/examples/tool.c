@@ -10,7 +10,7 @@
  *
  * The status is 0 where all is done, 1 where something is refused or a plan is not told to lose least, and 2 where the command line or a file is
  * not well. */
-#include <rudlayog.h>
+#include "../rudlayog.h"
 #include <stdio.h>
 #include <stdlib.h>
 #include <string.h>

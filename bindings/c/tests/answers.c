@@ -44,7 +44,7 @@ void __wrap_free(void *block) {
 static const char setup[] = "[[store]]\nid = \"SCI\"\nsize = 4\ntype = \"bounded\"\nchannel = 0\n";
 static const char forecast[] = "step,window,SCI\n1,2,5\n2,3,3\n";
 static const char bad_forecast[] = "step,window,SCI\n1,2,x\n";
-static const char hint[] = "the cell is \"x\" in line 2 of the file, whose header is line 1";
+static const char hint[] = "row 1 has \"x\" in the column \"SCI\", where a whole number is expected; it is line 2 of the file, whose header is line 1";
 static const char requests[] = "1864C0000004200F120007\n";
 static const struct rudlayog_refused cell = {RUDLAYOG_REFUSAL_CELL, RUDLAYOG_CELL, 2, 3, 0, 0};
 static const uint8_t packet[] = {0x08, 1, 0xC0, 0, 0, 14, 0x20, 3, 25, 0, 0, 0, 0, 0, 0, 0, 0, 0, 0, 0, 0};
@@ -228,13 +228,19 @@ static int is_no_state(const struct rudlayog_state *state) {
     return state->kind == RUDLAYOG_NO_STORE && is_all((const uint8_t *)state + after, sizeof *state - after, 0);
 }
 
+/* Whether no store is listed: all is 0 but the kind of its state. */
+static int is_none_listed(const struct rudlayog_store *store) {
+    return is_all(store, offsetof(struct rudlayog_store, state), 0) && is_no_state(&store->state);
+}
+
 /* The calls on a closed handle: each tells so, and writes nothing else. */
 static void try_closed(struct rudlayog_memory *memory, const char *name) {
     uint8_t out[RUDLAYOG_BLOCK];
-    struct rudlayog_answer answers[9];
+    struct rudlayog_answer answers[10];
     struct rudlayog_fate fate;
     struct rudlayog_tally tally;
     struct rudlayog_state state;
+    struct rudlayog_store store;
     uint64_t time = 7, reports = 7, packets = 7;
     memset(out, 0xA5, sizeof out);
     memset(&fate, 0xA5, sizeof fate);
@@ -249,11 +255,14 @@ static void try_closed(struct rudlayog_memory *memory, const char *name) {
     rudlayog_memory_waiting(memory, &reports, &answers[6]);
     rudlayog_memory_bound(memory, 0, &answers[7]);
     rudlayog_memory_refused(memory, &packets, &answers[8]);
-    for (size_t k = 0; k < 9; k++) {
+    memset(&store, 0xA5, sizeof store);
+    rudlayog_memory_store(memory, 0, &store, &answers[9]);
+    for (size_t k = 0; k < 10; k++) {
         expect(answers[k].status == RUDLAYOG_CLOSED && answers[k].length == 0, name, "a closed handle is not told");
     }
     expect(fate.kind == RUDLAYOG_NO_FATE && fate.time == 0 && is_all(&tally, sizeof tally, 0) && time == 0, name, "another value");
     expect(is_no_state(&state) && reports == 0 && packets == 0, name, "another state");
+    expect(is_none_listed(&store), name, "another store");
     expect(is_all(out, sizeof out, 0xA5), name, "octets are written");
     rudlayog_memory_close(memory);
 }
@@ -268,7 +277,7 @@ static void open_memory(struct rudlayog_memory *memory, const char *text) {
 
 /* The calls on an open handle that are refused or too small. */
 static void try_open(struct rudlayog_memory *memory) {
-    uint8_t out[RUDLAYOG_BLOCK];
+    uint8_t out[RUDLAYOG_BLOCK], checked[sizeof status_request + 2];
     struct rudlayog_answer answer;
     struct rudlayog_fate fate;
     struct rudlayog_tally tally;
@@ -296,6 +305,13 @@ static void try_open(struct rudlayog_memory *memory) {
            "another answer with a null buffer");
     rudlayog_memory_report(memory, NULL, 0, &answer);
     expect(answer.status == RUDLAYOG_END && answer.length == 0, "rudlayog_memory_report", "another answer where none waits");
+    /* A telecommand with two octets more, as a cyclic redundancy check is. */
+    memcpy(checked, status_request, sizeof status_request);
+    memset(checked + sizeof status_request, 0x5A, 2);
+    checked[5] = (uint8_t)(checked[5] + 2);
+    rudlayog_memory_apply(memory, 1, checked, sizeof checked, out, sizeof out, &answer);
+    expect(answer.status == RUDLAYOG_REFUSED && answer.refused.number == RUDLAYOG_REFUSAL_COUNT_MISMATCH, "rudlayog_memory_apply",
+           "another answer to a telecommand with a check");
     rudlayog_memory_apply(memory, 1, status_request, sizeof status_request, out, sizeof out, &answer);
     expect(answer.status == RUDLAYOG_WRITTEN && answer.length == 0, "rudlayog_memory_apply", "another answer");
     rudlayog_memory_report(memory, NULL, 0, &answer);
@@ -306,7 +322,7 @@ static void try_open(struct rudlayog_memory *memory) {
            "another text");
 }
 
-static struct rudlayog_state state_of(struct rudlayog_memory *memory, const char *id, uint32_t status) {
+static struct rudlayog_state state_of(const struct rudlayog_memory *memory, const char *id, uint32_t status) {
     struct rudlayog_state state;
     struct rudlayog_answer answer;
     memset(&state, 0xA5, sizeof state);
@@ -315,7 +331,56 @@ static struct rudlayog_state state_of(struct rudlayog_memory *memory, const char
     return state;
 }
 
-static uint64_t waiting(struct rudlayog_memory *memory) {
+/* The store at a place is this one, with the state that is told of its identifier. */
+static void is_listed(const struct rudlayog_memory *memory, uint64_t place, const char *id, uint32_t channel) {
+    struct rudlayog_store store;
+    struct rudlayog_state state;
+    struct rudlayog_answer answer;
+    uint8_t padded[8] = "        ";
+    memcpy(padded, id, strlen(id));
+    memset(&store, 0xA5, sizeof store);
+    rudlayog_memory_store(memory, place, &store, &answer);
+    expect(answer.status == RUDLAYOG_WRITTEN && answer.length == 0, "rudlayog_memory_store", "another status");
+    expect(memcmp(store.id, padded, 8) == 0 && store.id_length == strlen(id) && store.channel == channel, "rudlayog_memory_store",
+           "another store");
+    rudlayog_memory_state(memory, store.id, store.id_length, &state, &answer);
+    expect(answer.status == RUDLAYOG_WRITTEN && memcmp(&store.state, &state, sizeof state) == 0, "rudlayog_memory_store", "another state");
+}
+
+/* No store is at a place. */
+static void is_end(const struct rudlayog_memory *memory, uint64_t place) {
+    struct rudlayog_store store;
+    struct rudlayog_answer answer;
+    memset(&store, 0xA5, sizeof store);
+    rudlayog_memory_store(memory, place, &store, &answer);
+    expect(answer.status == RUDLAYOG_END && answer.length == 0 && is_none_listed(&store), "rudlayog_memory_store", "a store at the end");
+}
+
+/* The stores of a setup stand in its order, and one that is created after them; a handle that is only read is `const`. */
+static void try_list(void) {
+    static const char text[] = "[[store]]\nid = \"LONGNAME\"\nsize = 7\ntype = \"circular\"\nchannel = 5\n"
+                               "[[store]]\nid = \"A\"\nsize = 3\ntype = \"bounded\"\nchannel = 0\n";
+    struct rudlayog_memory memory = RUDLAYOG_MEMORY_CLOSED;
+    const struct rudlayog_request create = {.apid = 1, .subtype = RUDLAYOG_CREATE_STORES};
+    const struct rudlayog_instruction store = {.id = "B2", .size = 9, .type = RUDLAYOG_TYPE_CIRCULAR, .channel = 7};
+    uint8_t request[RUDLAYOG_BLOCK], each[RUDLAYOG_INSTRUCTIONS];
+    struct rudlayog_answer answer;
+    struct rudlayog_fate fate;
+    rudlayog_memory_open(&memory, TEXT(text), &answer);
+    rudlayog_memory_offer(&memory, TEXT("A"), 4, packet, sizeof packet, &fate, &answer);
+    is_listed(&memory, 0, "LONGNAME", 5);
+    is_listed(&memory, 1, "A", 0);
+    is_end(&memory, 2);
+    is_end(&memory, UINT64_MAX);
+    rudlayog_request_write(&create, &store, 1, request, sizeof request, &answer);
+    rudlayog_memory_apply(&memory, 5, request, answer.length, each, sizeof each, &answer);
+    expect(answer.status == RUDLAYOG_WRITTEN && each[0] == RUDLAYOG_DONE, "rudlayog_memory_store", "no store is created");
+    is_listed(&memory, 2, "B2", 7);
+    is_end(&memory, 3);
+    rudlayog_memory_close(&memory);
+}
+
+static uint64_t waiting(const struct rudlayog_memory *memory) {
     uint64_t reports = 99;
     struct rudlayog_answer answer;
     rudlayog_memory_waiting(memory, &reports, &answer);
@@ -555,6 +620,7 @@ int main(void) {
     open_memory(&memory, setup);
     try_open(&memory);
     try_state(&memory);
+    try_list();
     rudlayog_memory_close(&memory);
     expect(memory.at == NULL && !memory.is_open, "rudlayog_memory_close", "another handle");
     try_closed(&memory, "a handle that was closed");

@@ -1,6 +1,7 @@
 /* Measures each call on a memory: how many instructions it takes, and how deep its stack is. Memories of 1 and of 16
- * stores have 10, 1,000 and 1,000,000 blocks in all; they are empty, and full. bindings/c/measure_bounds builds this
- * for each processor, runs it, and prints a table.
+ * stores have 10, 1,000 and 1,000,000 blocks in all; they are empty, and full. Packets have as many octets as a block,
+ * but where the name of the call says another number. One memory more has as many routes as there may be.
+ * bindings/c/measure_bounds builds this for each processor, runs it, and prints a table.
  *
  * A machine of bindings/c/bare counts instructions itself. With `-DHOSTED` callgrind counts them, for whom each call
  * is marked. */
@@ -9,7 +10,7 @@
 
 #define TEXT(text) (const uint8_t *)(text), sizeof(text) - 1
 
-enum { MOST_STORES = 16, PACKET = 64, DEEPEST = 131072 };
+enum { MOST_STORES = 16, MOST_ROUTES = 256, SHORT = 64, LAST = 4 };
 
 static struct rudlayog_memory memory = RUDLAYOG_MEMORY_CLOSED;
 static struct rudlayog_answer answer;
@@ -20,9 +21,18 @@ static uint32_t stores, blocks;
 static bool is_full;
 static const char *name;
 
-/* Telemetry that is routed to the last store, and telemetry that is routed to all. */
-static const uint8_t to_one[PACKET] = {0x08, 1, 0xC0, 0, 0, PACKET - 7, 0x20, 3, 25};
-static const uint8_t to_all[PACKET] = {0x08, 2, 0xC0, 0, 0, PACKET - 7, 0x20, 3, 25};
+/* Telemetry of APID 1, which is routed to the last store, or of APID 2, which is routed to all. */
+static uint8_t packet[RUDLAYOG_BLOCK];
+static size_t packet_length;
+
+static void make_packet(uint8_t apid, size_t length) {
+    const size_t last = length - 7;
+    const uint8_t fields[] = {0x08, apid, 0xC0, 0, (uint8_t)(last >> 8), (uint8_t)last, 0x20, 3, 25};
+    for (size_t octet = 0; octet < sizeof fields; octet++) {
+        packet[octet] = fields[octet];
+    }
+    packet_length = length;
+}
 
 static void write_text(const char *text) {
     while (*text != 0) {
@@ -60,8 +70,8 @@ static void measure(void (*call)(void)) {
     machine_write('\n');
 }
 
-/* Room for the rows of 16 stores and 32 routes. */
-static char setup[4096];
+/* Room for the rows of 16 stores and 256 routes. */
+static char setup[20480];
 static size_t setup_length;
 
 static void put(const char *text) {
@@ -106,27 +116,36 @@ static void make_setup(void) {
     put_route(1, stores - 1);
 }
 
+/* As many report types as there may be go into the one store. */
+static void make_routes(void) {
+    for (uint32_t apid = 3; apid <= MOST_ROUTES; apid++) {
+        put_route(apid, 0);
+    }
+}
+
 static uint8_t last_id(void) { return (uint8_t)('A' + stores - 1); }
 
 static void call_open(void) { rudlayog_memory_open(&memory, (const uint8_t *)setup, setup_length, &answer); }
 
 static void call_close(void) { rudlayog_memory_close(&memory); }
 
+/* Not each tick has a packet, so that the place of a time has to be searched for. */
+enum { TICKS = 3 };
+
 static void call_record(void) {
     struct rudlayog_tally tally;
-    rudlayog_memory_record(&memory, ++now, to_one, sizeof to_one, &tally, &answer);
+    rudlayog_memory_record(&memory, now += TICKS, packet, packet_length, &tally, &answer);
 }
 
-static void call_record_all(void) {
-    struct rudlayog_tally tally;
-    rudlayog_memory_record(&memory, ++now, to_all, sizeof to_all, &tally, &answer);
-}
-
-static void call_offer(void) {
+static void offer_to(uint8_t id) {
     struct rudlayog_fate fate;
-    const uint8_t id = last_id();
-    rudlayog_memory_offer(&memory, &id, 1, ++now, to_one, sizeof to_one, &fate, &answer);
+    rudlayog_memory_offer(&memory, &id, 1, now += TICKS, packet, packet_length, &fate, &answer);
 }
+
+static void call_offer(void) { offer_to(last_id()); }
+
+/* The store before the last is bounded. */
+static void call_offer_to_bounded(void) { offer_to((uint8_t)(last_id() - 1)); }
 
 static void call_next(void) {
     uint64_t time;
@@ -138,6 +157,11 @@ static void call_state(void) {
     struct rudlayog_state state;
     const uint8_t id = last_id();
     rudlayog_memory_state(&memory, &id, 1, &state, &answer);
+}
+
+static void call_store(void) {
+    struct rudlayog_store store;
+    rudlayog_memory_store(&memory, stores - 1, &store, &answer);
 }
 
 static void call_waiting(void) {
@@ -175,14 +199,14 @@ static void measure_one(const char *called, void (*call)(void)) {
     measure(call);
 }
 
-/* With short packets, which take less time to be made. */
+/* With short packets, which take less time to be made; the last ones are as long as may be. */
 static void fill(void) {
     const uint32_t each = blocks / stores != 0 ? blocks / stores : 1;
     for (uint32_t k = 0; is_full && k < each; k++) {
-        struct rudlayog_tally tally;
-        static const uint8_t packet[21] = {0x08, 2, 0xC0, 0, 0, 14, 0x20, 3, 25};
-        rudlayog_memory_record(&memory, ++now, packet, sizeof packet, &tally, &answer);
+        make_packet(2, k + LAST < each ? SHORT : sizeof packet);
+        call_record();
     }
+    make_packet(1, sizeof packet);
 }
 
 static void open_again(void) {
@@ -194,7 +218,9 @@ static void open_again(void) {
 static void measure_requests(void) {
     struct rudlayog_instruction of_last = {.id = {last_id()}, .to = UINT64_MAX, .apid = 9, .service = 3, .subtype = 25};
     of_last.size = blocks / stores != 0 ? blocks / stores : 1;
+    of_last.from = now - 2 * TICKS;
     measure_request("start-retrieval", RUDLAYOG_START_RETRIEVAL, 1, of_last);
+    measure_one("next,-the-first-of-a-retrieval", call_next);
     measure_one("next", call_next);
     measure_request("abort-retrieval", RUDLAYOG_ABORT_RETRIEVAL, 1, of_last);
     measure_request("add-report-type", RUDLAYOG_ADD_REPORT_TYPES, 1, of_last);
@@ -232,10 +258,18 @@ static void measure_memory(void) {
     make_setup();
     measure_one("open", call_open);
     fill();
+    make_packet(1, SHORT);
+    measure_one("record-of-64-octets", call_record);
+    make_packet(2, sizeof packet);
+    measure_one("record-to-all", call_record);
+    make_packet(1, sizeof packet);
     measure_one("record", call_record);
-    measure_one("record-to-all", call_record_all);
     measure_one("offer", call_offer);
+    if (stores > 1) {
+        measure_one("offer-to-a-bounded-store", call_offer_to_bounded);
+    }
     measure_one("state", call_state);
+    measure_one("store", call_store);
     measure_one("waiting", call_waiting);
     measure_one("refused", call_refused);
     measure_one("bound", call_bound);
@@ -244,6 +278,19 @@ static void measure_memory(void) {
     measure_stores();
     open_again();
     measure_one("close", call_close);
+}
+
+/* Requests that tell the storage control of a store with all routes, and a report that does. */
+static void measure_routes(void) {
+    const struct rudlayog_instruction of_last = {.id = {last_id()}, .apid = 9, .service = 3, .subtype = 25};
+    is_full = false;
+    make_setup();
+    make_routes();
+    call_open();
+    measure_request("255-report-controls-of-256-routes", RUDLAYOG_REPORT_CONTROL, RUDLAYOG_INSTRUCTIONS, of_last);
+    measure_one("report-of-256-routes", call_report);
+    measure_request("255-delete-report-types-of-256", RUDLAYOG_DELETE_REPORT_TYPES, RUDLAYOG_INSTRUCTIONS, of_last);
+    call_close();
 }
 
 int main(void) {
@@ -255,6 +302,9 @@ int main(void) {
             measure_memory();
             is_full = true;
             measure_memory();
+            if (stores == 1) {
+                measure_routes();
+            }
         }
     }
     return 0;

@@ -189,8 +189,15 @@ static void make_report(void) {
 
 static void make_state(void) {
     struct rudlayog_state state;
+    struct rudlayog_store store;
     uint8_t id[8] = {0};
     const size_t id_length = draw_id(id);
+    rudlayog_memory_store(&memory, below(RUDLAYOG_STORES + 1), &store, &answer);
+    digest_octets(store.id, 8);
+    digest_number(store.id_length);
+    digest_number(store.channel);
+    digest_number(store.state.kind);
+    digest_number(store.state.held);
     rudlayog_memory_state(&memory, id, id_length, &state, &answer);
     digest_number(state.kind);
     digest_number(state.size);

@@ -1,7 +1,7 @@
 /* A memory whose allocator has nothing left: what the header says, 'Out of memory'. Packets of each length go into a full
  * circular store without a block of the allocator's, and are given again; others are refused and counted; storage is
- * switched off, content deleted and a retrieval aborted, in what the memory kept for that. Linked with
- * `-Wl,--wrap=malloc,--wrap=realloc,--wrap=free`. */
+ * switched off, content deleted and a retrieval aborted, in what the memory kept for that; and stores whose clock is at
+ * its end use up nothing. Linked with `-Wl,--wrap=malloc,--wrap=realloc,--wrap=free`. */
 #include <rudlayog.h>
 #include <stdio.h>
 #include <stdlib.h>
@@ -231,6 +231,104 @@ static void try_given(void) {
     expect(answer.status == RUDLAYOG_END, "a packet too many is given", 0);
 }
 
+/* Stores whose clock is at its end, where the allocator has nothing left: END and ENDED are circular and full, the
+ * first alone and the second sharing its packets; LAST is bounded and has room. They refuse each packet, and say why.
+ * BIG has room and its clock goes; CIR is circular and full. A packet that is routed to END and to BIG is refused out of
+ * memory, since BIG would keep it, and END gives none up: what is kept is left for CIR, and for what has no route. */
+static void try_clock_end(void) {
+    static const char stores[] = "[[store]]\nid = \"END\"\nsize = 2\ntype = \"circular\"\nchannel = 0\n"
+                                 "[[store]]\nid = \"ENDED\"\nsize = 2\ntype = \"circular\"\nchannel = 0\n"
+                                 "[[store]]\nid = \"OTHER\"\nsize = 9\ntype = \"circular\"\nchannel = 0\n"
+                                 "[[store]]\nid = \"LAST\"\nsize = 4\ntype = \"bounded\"\nchannel = 0\n"
+                                 "[[store]]\nid = \"BIG\"\nsize = 1000\ntype = \"bounded\"\nchannel = 0\n"
+                                 "[[store]]\nid = \"CIR\"\nsize = 4\ntype = \"circular\"\nchannel = 0\n"
+                                 "[[route]]\napid = 1\nservice = 3\nsubtype = 25\nstore = \"CIR\"\n"
+                                 "[[route]]\napid = 2\nservice = 3\nsubtype = 25\nstore = \"END\"\n"
+                                 "[[route]]\napid = 2\nservice = 3\nsubtype = 25\nstore = \"BIG\"\n"
+                                 "[[route]]\napid = 3\nservice = 3\nsubtype = 25\nstore = \"ENDED\"\n"
+                                 "[[route]]\napid = 3\nservice = 3\nsubtype = 25\nstore = \"OTHER\"\n"
+                                 "[[route]]\napid = 4\nservice = 3\nsubtype = 25\nstore = \"END\"\n"
+                                 "[[route]]\napid = 4\nservice = 3\nsubtype = 25\nstore = \"LAST\"\n";
+    static const char *const ended[] = {"END", "ENDED", "LAST"};
+    struct rudlayog_tally tally;
+    most = SIZE_MAX;
+    rudlayog_memory_open(&memory, (const uint8_t *)stores, sizeof stores - 1, &answer);
+    for (size_t k = 0; k < 4; k++) {
+        record(CIR, LEAST + 1);
+        record(3, LEAST + 1);
+        offer("END", LEAST + 1);
+    }
+    now = UINT64_MAX;
+    for (size_t k = 0; k < 3; k++) {
+        expect(offer(ended[k], LEAST + 1) != RUDLAYOG_NO_FATE && state_of(ended[k]).newest == UINT64_MAX, "no clock is at its end", k);
+        now = UINT64_MAX;
+    }
+    most = 0;
+    now = 100;
+    for (size_t k = 0; k < 3; k++) {
+        for (int again = 0; again < 2; again++) {
+            offer(ended[k], 700);
+            expect(answer.status == RUDLAYOG_REFUSED && answer.refused.number == RUDLAYOG_REFUSAL_CLOCK_END,
+                   "the end of a clock is not told", k);
+        }
+    }
+    tally = record(4, 700);
+    expect(answer.status == RUDLAYOG_WRITTEN && tally.refused == 2 && tally.kept == 0, "two clocks at their end", 0);
+    for (int again = 0; again < 2; again++) {
+        record(2, 700);
+        expect(is_out_of_memory(), "a packet is kept without memory", 2);
+        expect(record(CIR, 700).kept == 1 && answer.status == RUDLAYOG_WRITTEN, "a refusal uses up what is kept", 2);
+        record(9, 700);
+        expect(answer.status == RUDLAYOG_WRITTEN, "a packet without a route is refused", 2);
+    }
+    expect(refused() == 2, "refusals are not counted", 2);
+    rudlayog_memory_close(&memory);
+}
+
+/* Adds or deletes the route of an APID to a store. */
+static void change_route(enum rudlayog_request_subtype subtype, const char *id, uint16_t apid) {
+    static uint8_t request[RUDLAYOG_REQUEST_ROOM];
+    const struct rudlayog_request fields = {.apid = 1, .subtype = subtype};
+    struct rudlayog_instruction row = {.apid = apid, .service = 3, .subtype = 25};
+    memcpy(row.id, id, strlen(id));
+    rudlayog_request_write(&fields, &row, 1, request, sizeof request, &answer);
+    rudlayog_memory_apply(&memory, now++, request, answer.length, each, sizeof each, &answer);
+    expect(answer.status == RUDLAYOG_WRITTEN && each[0] == RUDLAYOG_DONE, "a route is not changed", apid);
+}
+
+/* Four full circular stores, where the allocator has nothing left: A and B share a packet, and C and D another one that is
+ * equal to it. A packet for A and C is refused, since B and D keep what it would take the place of; what is kept is left for
+ * CIR. */
+static void try_equal(void) {
+    static const char stores[] = "[[store]]\nid = \"A\"\nsize = 1\ntype = \"circular\"\nchannel = 0\n"
+                                 "[[store]]\nid = \"B\"\nsize = 1\ntype = \"circular\"\nchannel = 0\n"
+                                 "[[store]]\nid = \"C\"\nsize = 1\ntype = \"circular\"\nchannel = 0\n"
+                                 "[[store]]\nid = \"D\"\nsize = 1\ntype = \"circular\"\nchannel = 0\n"
+                                 "[[store]]\nid = \"CIR\"\nsize = 1\ntype = \"circular\"\nchannel = 0\n"
+                                 "[[route]]\napid = 1\nservice = 3\nsubtype = 25\nstore = \"CIR\"\n"
+                                 "[[route]]\napid = 2\nservice = 3\nsubtype = 25\nstore = \"A\"\n"
+                                 "[[route]]\napid = 2\nservice = 3\nsubtype = 25\nstore = \"B\"\n";
+    most = SIZE_MAX;
+    rudlayog_memory_open(&memory, (const uint8_t *)stores, sizeof stores - 1, &answer);
+    record(CIR, 30);
+    expect(record(2, 30).kept == 2, "a packet for two stores is not kept", 0);
+    change_route(RUDLAYOG_DELETE_REPORT_TYPES, "A", 2);
+    change_route(RUDLAYOG_DELETE_REPORT_TYPES, "B", 2);
+    change_route(RUDLAYOG_ADD_REPORT_TYPES, "C", 2);
+    change_route(RUDLAYOG_ADD_REPORT_TYPES, "D", 2);
+    expect(record(2, 30).kept == 2, "a packet for two stores is not kept", 1);
+    change_route(RUDLAYOG_DELETE_REPORT_TYPES, "D", 2);
+    change_route(RUDLAYOG_ADD_REPORT_TYPES, "A", 2);
+    most = 0;
+    for (size_t again = 0; again < 2; again++) {
+        record(2, 30);
+        expect(is_out_of_memory(), "equal packets are taken for one", again);
+        expect(record(CIR, 30).kept == 1, "a refusal uses up what is kept", again);
+    }
+    expect(refused() == 2, "refusals are not counted", 3);
+    rudlayog_memory_close(&memory);
+}
+
 int main(void) {
     rudlayog_memory_open(&memory, (const uint8_t *)setup, sizeof setup - 1, &answer);
     for (size_t k = 0; k < 4; k++) {
@@ -251,6 +349,8 @@ int main(void) {
     }
     try_given();
     rudlayog_memory_close(&memory);
+    try_clock_end();
+    try_equal();
     expect(in_use == 0, "a block stays in use", in_use);
     printf("full: %zu allocations refused, %d faults\n", refusals, failures);
     return failures != 0;

@@ -2,7 +2,8 @@
  * to their end with packets of each length, emptied, filled again, resized, changed, deleted and created; reports
  * wait up to their bound. No call may be refused for memory. Then each life once more in pools that are too small,
  * where calls are refused for memory: nothing else may change, no block may stay in use, and a memory can be opened
- * again. Linked without the C library's heap. */
+ * again. At last 300 wrong setups are refused before the right one is opened, in an empty pool and beside a memory, and
+ * the pool is tried by itself. Linked without the C library's heap. */
 #include <rudlayog.h>
 #include <rudlayog_heap.h>
 #include <stdio.h>
@@ -40,8 +41,7 @@ static uint64_t below(uint64_t bound) {
 
 static void reset_pool(size_t end) {
     pool_end = end;
-    cut = ALIGNED - sizeof(head);
-    memset(waiting, 0, sizeof waiting);
+    make_whole();
     memset(&use, 0, sizeof use);
 }
 
@@ -278,6 +278,109 @@ static int live_poorly(int k) {
     return 0;
 }
 
+enum { WRONG = 300, LONG = 17280, HELD = 400, ROUNDS = 200000 };
+
+/* A text of this length that is no setup, since its last line is none: tables with keys and texts of each length. */
+static size_t make_wrong(uint8_t *text, size_t length) {
+    size_t at = 0;
+    while (at + 64 < length) {
+        const size_t wide = 1 + (size_t)below(24);
+        at += (size_t)sprintf((char *)text + at, below(3) == 0 ? "[[store]]\nid = \"%.*s\"\n" : "k%.*s = [1, {a = 2}]\n",
+                              (int)wide, "ABCDEFGHIJKLMNOPQRSTUVWXYZ");
+    }
+    memset(text + at, '=', length - at);
+    return length;
+}
+
+static uint32_t refused_setup(struct rudlayog_memory *handle, size_t length) {
+    static uint8_t text[LONG];
+    rudlayog_memory_open(handle, text, make_wrong(text, length), &answer);
+    return answer.status == RUDLAYOG_REFUSED ? answer.refused.number : UINT32_MAX;
+}
+
+/* Setups that are wrong leave the pool as it was, and then the right one is opened: where nothing else is in the pool,
+ * and beside a memory, which is opened first and goes on. */
+static int open_after_wrong(int is_beside) {
+    static const char small[] = "[[store]]\nid = \"A\"\nsize = 5\ntype = \"bounded\"\nchannel = 0\n";
+    struct rudlayog_memory beside = RUDLAYOG_MEMORY_CLOSED;
+    size_t before, blocks;
+    drawn = 5;
+    make_memory();
+    reset_pool(RUDLAYOG_POOL_FOR(made.stores, made.blocks, made.reports) + (is_beside ? RUDLAYOG_POOL_FOR(1, 5, 0) : 0));
+    if (is_beside) {
+        rudlayog_memory_open(&beside, (const uint8_t *)small, sizeof small - 1, &answer);
+    }
+    before = cut;
+    blocks = use.blocks;
+    for (int k = 0; k < WRONG; k++) {
+        const uint32_t number = refused_setup(&memory, k % 2 == 0 ? LONG : 64 + (size_t)below(LONG - 64));
+        if (number != RUDLAYOG_REFUSAL_SETUP_TEXT || use.blocks != blocks || cut > before) {
+            return fail(k, "a wrong setup does not leave the pool as it was");
+        }
+    }
+    if (!live() || use.refused != 0 || refusals != 0) {
+        return fail(WRONG, "the right setup is not opened after wrong ones");
+    }
+    rudlayog_memory_close(&beside);
+    return use.blocks != 0 || cut != FIRST ? fail(WRONG, "the pool is not whole at the end") : 0;
+}
+
+/* Blocks are taken, moved and given back at random: each keeps its octets, stands at a multiple of 16, and is out of
+ * the way of others; what is given back twice is found; and where all are given back the pool is whole. */
+static int try_pool(void) {
+    static uint8_t *blocks[HELD];
+    static size_t sizes[HELD];
+    size_t wrong = 0;
+    reset_pool((size_t)1 << 20);
+    drawn = 9;
+    for (int k = 0; k < ROUNDS; k++) {
+        const size_t at = (size_t)below(HELD), size = (size_t)below(below(8) == 0 ? 9000 : 200);
+        const int is_last = k % 20000 == 19999;
+        if (blocks[at] == NULL) {
+            const struct rudlayog_block taken = rattle_alloc(size, ALIGNED);
+            blocks[at] = taken.is_there ? taken.at : NULL;
+        } else if (below(2) == 0 && size > sizes[at]) {
+            const struct rudlayog_block taken = rattle_realloc(blocks[at], sizes[at], size, ALIGNED);
+            for (size_t n = 0; n < sizes[at] && taken.is_there; n++) {
+                if (((uint8_t *)taken.at)[n] != (uint8_t)at) {
+                    return fail(k, "a block loses its octets");
+                }
+            }
+            if (!taken.is_there) {
+                continue;
+            }
+            blocks[at] = taken.at;
+        } else {
+            rattle_dealloc(blocks[at]);
+            rattle_dealloc(blocks[at]);
+            wrong++;
+            blocks[at] = NULL;
+        }
+        if (blocks[at] != NULL) {
+            sizes[at] = size;
+            memset(blocks[at], (int)at, size);
+        }
+        for (size_t n = 0; is_last && n < HELD; n++) {
+            for (size_t octet = 0; blocks[n] != NULL && octet < sizes[n]; octet++) {
+                if (blocks[n][octet] != (uint8_t)n) {
+                    return fail(k, "two blocks overlap");
+                }
+            }
+            if (blocks[n] != NULL) {
+                rattle_dealloc(blocks[n]);
+                blocks[n] = NULL;
+            }
+        }
+        if ((uintptr_t)blocks[at] % ALIGNED != 0 || use.wrong != wrong || cut > pool_end) {
+            return fail(k, "a block stands elsewhere, or one that is given back twice is not found");
+        }
+        if (is_last && (use.blocks != 0 || use.octets != 0 || cut != FIRST || last != 0)) {
+            return fail(k, "the pool is not whole");
+        }
+    }
+    return use.most == 0 ? fail(0, "nothing was taken") : 0;
+}
+
 int main(int count, char **words) {
     const int memories = count > 1 ? atoi(words[1]) : 200;
     double share, worst = 0;
@@ -295,6 +398,9 @@ int main(int count, char **words) {
         share = (double)use.cut / (double)pool_end;
         worst = share > worst ? share : worst;
     }
+    if (try_pool() || open_after_wrong(0) || open_after_wrong(1)) {
+        return 1;
+    }
     enough_calls = calls;
     for (int k = 0; k < memories; k += 20) {
         drawn = (uint64_t)k;
@@ -308,5 +414,6 @@ int main(int count, char **words) {
            (unsigned long long)enough_calls, 100 * worst);
     printf("pools: in pools that are too small memory was refused %llu times, and no block stayed in use\n",
            (unsigned long long)poor);
+    printf("pools: %d wrong setups are refused, and then the right one is opened, twice\n", WRONG);
     return poor == 0;
 }

@@ -18,6 +18,9 @@ void __wrap_free(void *block);
 /* How many allocations were asked for, which of them is refused (0: none), and how many blocks are allocated. */
 static long asked, refused, held;
 
+/* The names of keys and columns that a refusal may have. */
+enum { NAMES = 20 };
+
 /* The same of those of more than LARGE bytes, with the bytes of the first ones. */
 enum { LARGE = 4096, GROWTHS = 3 };
 static long large_asked, large_refused;
@@ -125,8 +128,6 @@ static void make_ask(uint8_t *out, struct rudlayog_answer *answer) {
     }
 }
 
-static void make_words(uint8_t *out, struct rudlayog_answer *answer) { rudlayog_words(&cell, out, ROOM, answer); }
-
 /* A setup whose key is misspelt, which is read again for the hint, and a forecast whose header is looked for in the setup. */
 static const char bad_setup[] = "[[store]]\nid = \"SCI\"\nsizes = 4\ntype = \"bounded\"\nchannel = 0\n";
 static const char bad_header[] = "step,window,SCI\n1,2,5\n";
@@ -159,8 +160,7 @@ static const struct part parts[] = {
     {"rudlayog_sensitivity", make_sensitivity, RUDLAYOG_WRITTEN},
     {"rudlayog_plan_in_order", make_in_order, RUDLAYOG_WRITTEN},
     {"rudlayog_chart_worth", make_chart_worth, RUDLAYOG_WRITTEN},
-    {"rudlayog_ask", make_ask, RUDLAYOG_WRITTEN},     {"rudlayog_words", make_words, RUDLAYOG_WRITTEN},
-    {"rudlayog_hint", make_hint, RUDLAYOG_WRITTEN},
+    {"rudlayog_ask", make_ask, RUDLAYOG_WRITTEN},     {"rudlayog_hint", make_hint, RUDLAYOG_WRITTEN},
     {"rudlayog_hint on a setup", make_setup_hint, RUDLAYOG_WRITTEN},
     {"rudlayog_hint on a header", make_header_hint, RUDLAYOG_WRITTEN},
 };
@@ -206,6 +206,31 @@ static int sweep(const struct part *part) {
     refused = 0;
     printf("%s: %ld allocations, each refused once; no memory told %ld times\n", part->name, all, told);
     return told == 0;
+}
+
+/* The words of each refusal at each place, with the largest numbers, ask for no allocation, and have room in RUDLAYOG_WORDS_ROOM. */
+static int words_take_nothing(void) {
+    static uint8_t out[RUDLAYOG_WORDS_ROOM];
+    struct rudlayog_refused refusal = {0, 0, UINT32_MAX, UINT32_MAX, UINT64_MAX, 0};
+    struct rudlayog_answer answer;
+    size_t longest = 0;
+    asked = 0;
+    refused = 1;
+    for (refusal.number = 0; refusal.number <= RUDLAYOG_REFUSAL_TOO_MANY_REPORTS; refusal.number++) {
+        for (refusal.place = RUDLAYOG_WHOLE; refusal.place <= RUDLAYOG_NUMBER; refusal.place++) {
+            for (refusal.name = 0; refusal.name < NAMES; refusal.name++) {
+                rudlayog_words(&refusal, out, sizeof out, &answer);
+                if (asked != 0 || answer.status != RUDLAYOG_WRITTEN || answer.length == 0) {
+                    printf("rudlayog_words of %u at %u, name %u: not told, or memory asked for\n", refusal.number, refusal.place, refusal.name);
+                    return 1;
+                }
+                longest = answer.length > longest ? answer.length : longest;
+            }
+        }
+    }
+    refused = 0;
+    printf("rudlayog_words: no allocation; %zu octets at most\n", longest);
+    return 0;
 }
 
 /* A memory, and what its last call left. */
@@ -494,6 +519,7 @@ int main(void) {
     for (size_t k = 0; k < sizeof parts / sizeof parts[0]; k++) {
         status |= sweep(&parts[k]);
     }
+    status |= words_take_nothing();
     status |= sweep_life();
     status |= sweep_kinds();
     status |= sweep_rounds();

@@ -1,6 +1,6 @@
 /* Measures the stack that each call takes, on a stack of its own that is filled first: `stack FOLDER ..`. Each folder has a setup, a
- * forecast and a plan. A packet is recorded in one store, and in each of 16. To these come setups whose tables are nested, by headers, dotted keys, inline tables and arrays, and made ones: a search
- * with random numbers of a fixed seed. Prints the most that each call took, in bytes, and fails where that is more than the header says.
+ * forecast and a plan. A packet is recorded in one store, and in each of 16. To these come setups whose tables are nested, by headers,
+ * dotted keys, inline tables and arrays, and made ones: a search with random numbers of a fixed seed. Prints the most that each call took, in bytes, and fails where that is more than the header says.
  * `stack --flat FOLDER ..` measures those of the folders alone: what nested setups take is told for x86-64. */
 #include <rudlayog.h>
 #include <stdio.h>
@@ -160,6 +160,11 @@ static void call_state(void) {
     rudlayog_memory_state(&memory, TEXT("HK"), &state, &answer);
 }
 
+static void call_store(void) {
+    struct rudlayog_store store;
+    rudlayog_memory_store(&memory, 0, &store, &answer);
+}
+
 static void call_waiting(void) {
     uint64_t reports;
     rudlayog_memory_waiting(&memory, &reports, &answer);
@@ -226,6 +231,7 @@ static struct {
     {"rudlayog_memory_offer", call_offer, RUDLAYOG_MEMORY_STACK, RUDLAYOG_MEMORY_STACK, 0},
     {"rudlayog_memory_next", call_next, RUDLAYOG_MEMORY_STACK, RUDLAYOG_MEMORY_STACK, 0},
     {"rudlayog_memory_state", call_state, RUDLAYOG_MEMORY_STACK, RUDLAYOG_MEMORY_STACK, 0},
+    {"rudlayog_memory_store", call_store, RUDLAYOG_MEMORY_STACK, RUDLAYOG_MEMORY_STACK, 0},
     {"rudlayog_memory_waiting", call_waiting, RUDLAYOG_MEMORY_STACK, RUDLAYOG_MEMORY_STACK, 0},
     {"rudlayog_memory_refused", call_refused, RUDLAYOG_MEMORY_STACK, RUDLAYOG_MEMORY_STACK, 0},
     {"rudlayog_memory_bound", call_bound, RUDLAYOG_MEMORY_STACK, RUDLAYOG_MEMORY_STACK, 0},

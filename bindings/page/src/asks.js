@@ -29,8 +29,10 @@ function safely(answers) {
   try {
     return answers();
   } catch (fault) {
-    const words =
-      `the planner stopped (${fault.message}): expected an answer; save the texts, and tell whoever gave you this page`;
+    // The browser's own stack ended: only a setup whose tables are nested some hundred times takes so much.
+    const words = fault instanceof RangeError
+      ? "the stack of this browser ended: expected a setup whose tables are not nested so deeply; write them flat"
+      : `the planner stopped (${fault.message}): expected an answer; save the texts, and tell whoever gave you this page`;
     return { refused: { number: null, words, hint: "" } };
   }
 }

@@ -54,22 +54,38 @@ function spanText(micros) {
   return `${before}${clock}${part ? `.${String(part).padStart(6, "0")}` : ""}`;
 }
 
-// Refuses too many steps: says which events are nearest to one another.
-function refuseSteps(mission, edges) {
-  const steps = edges.length - 1, names = new Map();
-  const nearest = edges.slice(1).map((end, nth) => [edges[nth], end])
-    .sort((a, b) => a[1] - a[0] - (b[1] - b[0])).slice(0, steps - MOST_STEPS);
-  for (const it of [...mission.passes, ...mission.observations.map(one => ({ ...one, name: one.name || one.store }))])
-    for (const [moment, does] of [[it.begin, "begins"], [it.end, "ends"]]) {
-      const time = moment - mission.begin;
-      names.set(time, [...names.get(time) ?? [], `${it.name} ${does}`]);
+// The nearest neighbours of edges, at most so many, that can be at one moment: so that no pass and no observation begins
+// as it ends.
+function joinable(edges, names, ends, most) {
+  const runs = new Map(edges.map(it => [it, [it]])), found = [], pairs = edges.slice(1)
+    .map((end, nth) => [edges[nth], end]).sort((a, b) => a[1] - a[0] - (b[1] - b[0]));
+  for (const [first, last] of pairs) {
+    const joined = [...runs.get(first), ...runs.get(last)], end = joined.at(-1);
+    if (found.length === most) break;
+    if (names.has(first) && names.has(last) && joined.every(it => (ends.get(it) ?? end + 1) > end)) {
+      found.push([first, last]);
+      for (const it of joined) runs.set(it, joined);
     }
-  const said = time => `(${(names.get(time) ?? []).join(", ")})`;
-  const joined = nearest.slice(0, MOST_TOLD).sort((a, b) => a[0] - b[0] || a[1] - b[1]).map(([from, to]) =>
+  }
+  return found.sort((a, b) => a[0] - b[0] || a[1] - b[1]);
+}
+
+// Refuses too many steps: says which events are nearest to one another, if enough of them can be at one moment.
+function refuseSteps(mission, edges) {
+  const steps = edges.length - 1, names = new Map(), ends = new Map();
+  for (const it of [...mission.passes, ...mission.observations.map(one => ({ ...one, name: one.name || one.store }))]) {
+    const begin = it.begin - mission.begin, end = it.end - mission.begin;
+    for (const [time, does] of [[begin, "begins"], [end, "ends"]])
+      names.set(time, [...names.get(time) ?? [], `${it.name} ${does}`]);
+    ends.set(begin, Math.min(end, ends.get(begin) ?? end));
+  }
+  const nearest = joinable(edges, names, ends, steps - MOST_STEPS), said = time => `(${names.get(time).join(", ")})`;
+  const joined = nearest.slice(0, MOST_TOLD).map(([from, to]) =>
     `${written(mission.begin + from)} ${said(from)} and ${spanText(to - from)} later ${said(to)}`);
   const more = nearest.length > MOST_TOLD ? `, and ${nearest.length - MOST_TOLD} more` : "";
-  refuse("", `${steps} steps from event to event`, `at most ${MOST_STEPS}: plan in parts (horizon=), or let events `
-    + `that are near be at one moment (${joined.join("; ")}${more})`);
+  refuse("", `${steps} steps from event to event`, `at most ${MOST_STEPS}: plan in parts (horizon=)${
+    nearest.length === steps - MOST_STEPS
+      ? `, or let events that are near be at one moment (${joined.join("; ")}${more})` : ""}`);
 }
 
 // How much less may be lost where a step is split: the cut of a least plan counts what arrives in the last step of a

@@ -240,6 +240,12 @@ function windowsOf(contacts, edges, limited) {
   return { windows, limits };
 }
 
+// The links that are there between two times. Rounding may count a unit more of a channel there than of its link, which
+// sends no more than its window.
+const linksIn = (group, begin, end, linkAt) => group.map((_, nth) => nth)
+  .filter(nth => group[nth].sends.begin < end && begin < group[nth].sends.end).map(linkAt)
+  .map(([sends, each]) => [sends, each.map(units => Math.min(units, sends))]);
+
 // Adds what passes that overlap can send in their steps.
 function addRooms(group, edges, limited, windows, limits) {
   const first = Math.max(countUntil(edges, Math.min(...group.map(it => it.sends.begin))) - 1, 0),
@@ -249,11 +255,12 @@ function addRooms(group, edges, limited, windows, limits) {
     rows = limited.map(channel => group.map(it => falls(it.channels.get(channel) ?? it.sends, own)));
   const sumIn = (columns, step) => columns.reduce((sum, column) => sum + column[step], 0);
   for (let step = 0; step < last - first; step++) {
-    const sums = rows.map(columns => sumIn(columns, step)), used = sends.map((_, nth) => nth)
-      .filter(nth => sends[nth][step]);
-    const links = used.map(nth => [sends[nth][step], rows.map(columns => columns[nth][step])]);
-    const window = sumIn(sends, step);
-    windows[first + step] += links.length > 1 ? sentByAll(links, window, sums) : window;
+    const window = sumIn(sends, step),
+      links = linksIn(group, own[step], own[step + 1], nth => [sends[nth][step], rows.map(columns => columns[nth][step])]);
+    const isShared = limited.length > 0 && links.length > 1, sums = isShared
+      ? rows.map((_, nth) => links.reduce((all, [, each]) => all + each[nth], 0))
+      : rows.map(columns => sumIn(columns, step));
+    windows[first + step] += isShared ? sentByAll(links, window, sums) : window;
     limited.forEach((channel, nth) => { limits.get(channel)[first + step] += sums[nth]; });
   }
 }

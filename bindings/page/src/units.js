@@ -1,6 +1,6 @@
 // Volumes, rates and moments as planners write them, each exact, by the rules of the Python package; and the faults of
 // what cannot be one.
-import { fraction, fractionOf, over, times } from "./fraction.js";
+import { fraction, fractionOf, isLess, over, times } from "./fraction.js";
 import { isShowable, momentIn, written } from "./moments.js";
 
 const whole = it => fraction(BigInt(it));
@@ -97,6 +97,16 @@ function unitMeant(unit, known) {
 
 const decimal = ({ n, d }) => (d === 1n ? String(n) : String(Number(n) / Number(d)));
 
+// What is meant by a rate in bytes: 8 times as many bits.
+function bytesMeant(amount, unit) {
+  const name = unit.replace(unit.endsWith("/s") ? /\/s$/ : /ps$/, ""), octets = OCTETS.get(name === "KB" ? "kB" : name);
+  if (name === unit || !octets || name.includes("bit")) return null;
+  const bits = times(times(amount, octets), whole(8)),
+    power = [3, 2, 1].find(it => !isLess(bits, whole(1000 ** it))) ?? 0, { n, d } = over(bits, whole(1000 ** power)),
+    shown = d === 1n ? String(n) : String(Number((Number(n) / Number(d)).toPrecision(10)));
+  return `bits a second: ${shown} ${["", "k", "M", "G"][power]}bit/s, where a byte has 8`;
+}
+
 // A volume: its amount in octets, or in blocks, and the unit that it was written in.
 export function volumeOf(given, place) {
   const [amount, unit] = partsOf(given, place, VOLUME);
@@ -110,7 +120,8 @@ export function rateOf(given, place) {
   const [amount, unit] = partsOf(given, place, RATE), [name, second] = unit.split("/");
   if (BLOCKS.includes(name) && second in SECONDS && unit === `${name}/${second}`) return {
     amount: over(amount, fraction(SECONDS[second])), isBlocks: true };
-  if (unit && !BITS.has(unit)) return refuse(place, shownGiven(given), unitMeant(unit, BITS) ?? RATE);
+  if (unit && !BITS.has(unit)) return refuse(place, shownGiven(given),
+    bytesMeant(amount, unit) ?? unitMeant(unit, BITS) ?? RATE);
   return { amount: times(amount, BITS.get(unit) ?? whole(1)), isBlocks: false };
 }
 

@@ -43,7 +43,8 @@ const INSTEAD = [
     "take the plan out, so that the page plans again",
   ],
 ];
-const standingAlone = words => INSTEAD.reduce((text, [named, said]) => text.replaceAll(named, said), words);
+const standingAlone = words => INSTEAD.reduce((text, [named, said]) => text.replaceAll(named, said), words)
+  .replace(/: docs\/\w+\.md, '[^']*'/g, "");
 
 // A refusal in the library's words: what to do, what was expected, what was found, and its short form.
 export function refusalOf({ words, hint, ...at }, session) {
@@ -52,7 +53,7 @@ export function refusalOf({ words, hint, ...at }, session) {
   const whose = at.number >= 34 && at.number <= 35 ? "plan" : at.number >= 29 && at.number <= 32 ? "forecast"
     : at.number === 27 || at.number === 28 ? "setup" : "";
   // What is typed as a number and is none is quoted in the text, which whoever typed it did not do.
-  const found = hint.replace("; write it without quotes", "");
+  const found = standingAlone(hint).replace("; write it without quotes", "");
   const place = placeOf({ ...at, words, hint }, session.setup, session.forecast);
   const placed = place?.row ? "forecast" : place?.array ? "setup" : "";
   return { short, expected, advice, hint: found, place, whose: whose || placed };

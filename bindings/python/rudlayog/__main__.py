@@ -10,12 +10,16 @@ from argparse import SUPPRESS, ArgumentParser, Namespace
 from collections.abc import Callable, Iterator
 from itertools import chain
 from pathlib import Path
-from typing import NoReturn
+from typing import Any, NoReturn
 
 from . import __version__, version
+from ._files import Forms, made_for, page_of, workbook_of
+from ._tables import csv_of, html_of
 from ._units import MissionError, fault, number_of
 from .mission import Mission, MissionWarning
+from .pictures import above_one_another
 from .refusals import Refusal
+from .sheets import MissionPlan
 from .study import Variant, each_pass_lost, each_store_sized, rated, scaled, study
 
 # The options of each command, beside those of all.
@@ -27,20 +31,34 @@ OPTIONS = {
     "sensitivity": ("step",),
     "margin": ("stores",),
 }
-COMMANDS = tuple(OPTIONS)
+# The endings of the names of files that each command writes.
+TABLES = (".csv", ".html", ".xlsx")
+ENDINGS = {
+    "plan": (".txt", ".svg", *TABLES),
+    "passes": (".md", *TABLES),
+    "timeline": TABLES,
+    "study": (".svg", ".png", ".pdf", *TABLES),
+    "sensitivity": (".svg", *TABLES),
+    "margin": (".svg", *TABLES),
+}
 USAGE = """\
 usage: rudlayog MISSION.toml [plan|passes|timeline|study|sensitivity|margin] [options]
 
-  plan         the plan text of each part, with its cut; as .svg the chart
-  passes       the sheet for operations; as .csv, .md or .html by the name of the output (done if nothing is said)
-  timeline     each dump with its begin, end, store, station, packets and MB, as .csv
-  study        the loss of each variant, as .csv; as .svg, or with matplotlib .png or .pdf, a picture
-  sensitivity  what each window, size and limit is worth, as .csv
-  margin       by how much arrivals may grow and stores may shrink before more is lost, as .csv; as .svg the loss
-               over the growth
+  plan         the plan text of each part, with its cut
+  passes       the sheet for operations (done if nothing is said)
+  timeline     each dump with its begin, end, store, station, packets, MB and rate
+  study        the loss of each variant
+  sensitivity  what each window, size and limit is worth
+  margin       by how much arrivals may grow and stores may shrink before more is lost
 
 options:
-  --output FILE     write into FILE, and print nothing
+  --output FILE     write into FILE, and print nothing; the ending of its name says the form, and others are refused:
+                      .csv .html .xlsx  each command: its table
+                      .txt .svg         plan: the plan text, the chart
+                      .md               passes: the table, as printed
+                      .svg .png .pdf    study: its picture (without matplotlib .svg alone)
+                      .svg              sensitivity, margin: the picture
+                    a name without an ending gets what is printed
   --step MINUTES    steps of at most this length; without it they go from event to event (plan, passes, timeline,
                     sensitivity)
   --horizon MINUTES plan in parts of this length (plan, passes, timeline, study)
@@ -51,14 +69,15 @@ options:
   --sizes FACTOR    study: each store this many times as large
   --arrivals FACTOR study: all that arrives this many times as much; may be said again
   --rates FACTOR    study: the rates of all passes this many times as high; may be said again
-  --ages            study: how old the oldest octet is when it goes down
-  --mb              study: losses in MB
+  --ages            study: how old data are when they go down
+  --mb              study: losses in MB, also in its picture
   --quiet           study: no progress bar
   --stores A,B      margin: growth of what arrives in these stores
   --help, --version
 
-What is odd with a mission goes to standard error. The status is 0 where it is done, 1 where something is refused or
-cannot be read or written, and 2 for a bad command line and for --help.
+What is odd with a mission goes to standard error. The status is 0 where it is done, and for --help and --version; 1
+where something is refused or cannot be read or written, or no variant of a study can be planned; and 2 for a bad
+command line.
 """
 
 
@@ -80,10 +99,7 @@ def _read_words(given: list[str]) -> Namespace:
     for name in ("--in-order", "--lost", "--ages", "--mb", "--quiet", "--help", "-h", "--version", "-V"):
         words.add_argument(name, action="store_true", default=False)
     found = words.parse_intermixed_args(given)
-    if found.help or found.h:
-        sys.stderr.write(USAGE)
-        sys.exit(2)
-    if found.version or found.V:
+    if found.help or found.h or found.version or found.V:
         return found
     named = [word for word in found.words if word in OPTIONS]
     files = [word for word in found.words if word not in OPTIONS]
@@ -105,6 +121,10 @@ def main(given: list[str] | None = None) -> int:
     """The command. Its answer is the status."""
     words = _read_words(sys.argv[1:] if given is None else given)
     try:
+        if words.help or words.h:
+            sys.stdout.write(USAGE)
+            sys.stdout.flush()
+            return 0
         if words.version or words.V:
             print(f"rudlayog {__version__}, library {version()}")
             return 0
@@ -130,38 +150,53 @@ def main(given: list[str] | None = None) -> int:
 def _done(words: Namespace) -> None:
     """Does what the words say."""
     mission = _read(words.mission)
-    kind = Path(words.output).suffix if words.output else ""
     step, horizon, look = (_minutes(f"--{name}", getattr(words, name)) for name in ("step", "horizon", "look"))
     if words.command == "study":
-        _study(words, mission, kind, horizon, look)
+        _study(words, mission, horizon, look)
         return
+    _look_at(words)
     if words.command == "sensitivity":
-        _put(words, mission.sensitivity(step).text())
-        return
-    if words.command == "margin":
-        margin = mission.margin(*(words.stores.split(",") if words.stores else ()))
-        _put(words, margin.plot().svg if kind == ".svg" else margin.text())
-        return
-    made = mission.plan(step, horizon, look=look, in_order=words.in_order)
-    if words.command == "timeline":
-        _put(words, made.timeline().text())
-        return
-    if words.command == "plan":
-        if kind == ".svg":
-            _put(words, made.charts()[0])
-        else:
-            _put(words, "".join(plan.text for _, plan in made.parts))
-        return
+        forms = mission.sensitivity(step).forms()
+    elif words.command == "margin":
+        forms = mission.margin(*(words.stores.split(",") if words.stores else ())).forms()
+    else:
+        made = mission.plan(step, horizon, look=look, in_order=words.in_order)
+        forms = {"plan": _plan_forms, "passes": _sheet_forms, "timeline": _timeline_forms}[words.command](made)
+    _put(words, made_for(words.output, forms, "--output")())
+
+
+def _look_at(words: Namespace) -> None:
+    """Raises `MissionError` where the name of the output has another ending than the command writes, before anything is
+    planned."""
+    made_for(words.output, dict.fromkeys(("", *ENDINGS[words.command]), str), "--output")
+
+
+def _sheet_forms(made: MissionPlan) -> Forms:
     sheet = made.passes()
-    forms: dict[str, Callable[[], str]] = {
-        "": sheet.markdown,
-        ".md": sheet.markdown,
-        ".csv": sheet.text,
-        ".html": sheet.html,
+    return {"": sheet.markdown, **sheet.forms()}
+
+
+def _timeline_forms(made: MissionPlan) -> Forms:
+    return made.timeline().forms()
+
+
+def _plan_forms(made: MissionPlan) -> Forms:
+    """The forms of a file of a plan: its text, the table of its dumps, and its chart; of parts one after the other."""
+    charts = made.charts
+    return {
+        "": lambda: "".join(plan.text for _, plan in made.parts),
+        ".txt": lambda: "".join(plan.text for _, plan in made.parts),
+        ".csv": lambda: csv_of(dumps := _dumps(made), zip(*dumps.values())),
+        ".html": lambda: page_of("Plan", *charts(), html_of(_dumps(made), most=None)),
+        ".svg": lambda: charts()[0] if len(made.parts) == 1 else above_one_another(charts()),
+        ".xlsx": lambda: workbook_of(_dumps(made)),
     }
-    if kind not in forms:
-        raise fault("--output", words.output, "a name that ends in .csv, .md or .html")
-    _put(words, forms[kind]())
+
+
+def _dumps(made: MissionPlan) -> dict[str, list[Any]]:
+    """What leaves each store in each step, in packets, with the step's begin and end."""
+    times = {"begin": [step.begin for step in made.steps], "end": [step.end for step in made.steps]}
+    return {**times, **{store.id: [step.dumped[store.id] for step in made.steps] for store in made.mission.stores}}
 
 
 def _read(path: str) -> Mission:
@@ -178,8 +213,9 @@ def _minutes(name: str, given: str | None) -> float | None:
     return None if given is None else float(number_of(given, name, "minutes"))
 
 
-def _study(words: Namespace, mission: Mission, kind: str, horizon: float | None, look: float | None) -> None:
+def _study(words: Namespace, mission: Mission, horizon: float | None, look: float | None) -> None:
     """Prints or draws a study, also of what is done where it is interrupted."""
+    _look_at(words)
     variants = list(_variants(words, mission))
     found = study(
         mission,
@@ -190,19 +226,19 @@ def _study(words: Namespace, mission: Mission, kind: str, horizon: float | None,
         look=look,
         progress=False if words.quiet else None,
     )
-    if kind in (".svg", ".png", ".pdf"):
-        picture = found.plot()
-        _put(words, picture.svg) if kind == ".svg" else picture.save(words.output)
-    else:
-        _put(words, found.text("MB" if words.mb else "blocks"))
+    _put(words, made_for(words.output, found.forms("MB" if words.mb else "blocks"), "--output")())
     if not found.is_whole:
         raise fault("", f"an interrupt after {len(found)} variants", "to go on until the last one")
+    if len(found) and all(answer.loss is None for answer in found):
+        raise ValueError(f"no variant can be planned; the first: {found[0].refused}")
 
 
 def _variants(words: Namespace, mission: Mission) -> Iterator[Variant]:
     parts = []
-    for name in ("sizes", "arrivals", "rates"):
-        for factor in [words.sizes] if name == "sizes" and words.sizes is not None else getattr(words, name) or []:
+    if words.sizes is not None and not number_of(words.sizes, "--sizes", "a factor above 0"):
+        raise fault("--sizes", words.sizes, "a factor above 0")
+    for name in ("arrivals", "rates"):
+        for factor in getattr(words, name):
             number_of(factor, f"--{name}", "a factor of 0 or more")
     if words.sizes is not None:
         parts.append(each_store_sized(mission, words.sizes))
@@ -213,19 +249,20 @@ def _variants(words: Namespace, mission: Mission) -> Iterator[Variant]:
     return chain.from_iterable(parts)
 
 
-def _put(words: Namespace, text: str) -> None:
-    """Prints a text, or writes it into a new file that takes the name of the output; that is as it was where this
+def _put(words: Namespace, made: str | bytes) -> None:
+    """Prints what is made, or writes it into a new file that takes the name of the output; that is as it was where this
     fails."""
+    octets = made.encode() if isinstance(made, str) else made
     if words.output is None:
-        sys.stdout.write(text)
+        sys.stdout.write(octets.decode())
         return
     output = Path(words.output)
     if output.exists() and (not output.is_file() or output.is_symlink() or output.samefile(words.mission)):
         raise fault("--output", words.output, "a new file, or one that is not the mission, no link, and no folder")
     handle, name = tempfile.mkstemp(prefix=f"{output.name}.", dir=output.parent)
     try:
-        with os.fdopen(handle, "w", encoding="utf-8", newline="") as file:
-            file.write(text)
+        with os.fdopen(handle, "wb") as file:
+            file.write(octets)
         mask = os.umask(0)
         os.umask(mask)
         os.chmod(name, 0o666 & ~mask)

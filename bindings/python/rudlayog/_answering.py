@@ -3,7 +3,7 @@
 from __future__ import annotations
 
 import re
-from collections.abc import Iterator, Sequence
+from collections.abc import Callable, Iterator, Mapping, Sequence
 from datetime import timedelta
 from itertools import accumulate
 from operator import sub
@@ -11,7 +11,10 @@ from typing import Any, NamedTuple
 
 from . import _library
 from ._base import Base
+from ._any_steps import in_any_steps
 from ._data import LIMIT
+from ._edges import may_gain
+from ._flown import InPackets, in_packets
 from ._found import Found
 from ._timeline import Problem, problem_of
 from .forecasts import Forecast
@@ -22,8 +25,12 @@ from .setups import Setup
 from .variants import Variant, changed, split, texts_changed
 
 _LOSS = re.compile(rb"\nloss (\d+)\n")
+_STRETCH = re.compile(r"stretch (\S+) \d+ (\d+)\n")
+_DUMP = re.compile(rb"\ndump \d+ (.*)")
 _CERTIFICATE = re.compile(rb"\nloss (\d+)\n((?:[sc].*\n)*)bound (.*)\n")
 Dumps = tuple[tuple[int, ...], ...]
+# What a plan text shows: the loss, the lines of the cut, and its bound.
+Shown = tuple[int, str, int]
 
 
 class Task(NamedTuple):
@@ -70,13 +77,17 @@ def _found(task: Task, variant: Variant) -> Found:
     if base.mission is None:
         return _found_of_texts(task, *texts_changed(base.setup, base.forecast, variant.changes))
     if task.dumps is None and task.horizon is None and not task.ages and base.quick is not None:
-        texts = base.quick.texts(variant.changes)
-        if texts is not None:
-            return _planned(task, *texts, len(base.setup.stores), base.quick.packets)
+        quick = base.quick.texts(variant.changes)
+        if quick is not None:
+            texts = _Texts(quick.setup, quick.forecast, quick.row, base.quick.places)
+            found = _planned(task, texts, quick.stores, base.quick.edges)
+            if found is not None:
+                return found
     changes, functions = split(variant.changes)
     mission = changed(base.mission, changes)
     if task.horizon is not None:
         return _found_in_parts(task, mission, bool(functions))
+    # a plan that stays, and a function of texts, have the steps of the mission
     problem = problem_of(mission)
     setup, forecast = texts_changed(*problem, functions)
     packets = tuple(problem.unit.packets.values())
@@ -84,8 +95,21 @@ def _found(task: Task, variant: Variant) -> Found:
         lost = _flown(setup, forecast, task.dumps, _steps_in(base.problem, problem))
         by_store = tuple(units * each for units, each in zip(lost, packets))
         return Found(sum(by_store), by_store)
-    found = _planned(task, bytes(setup), bytes(forecast), len(setup.stores), packets)
-    return found._replace(ages=_ages_of(task, problem)) if task.ages and not functions else found
+    if functions:
+        return _least_found(task, _Texts.of(setup, forecast), packets)
+    found = _planned(task, _Texts.of(setup, forecast), _stores_of(problem), problem.edges)
+    if found is None:
+        problem = problem_of(mission, split=True)
+        found = _least_found(task, _Texts.of(*problem), _stores_of(problem))
+    return found._replace(ages=_ages_of(task, problem)) if task.ages else found
+
+
+def _stores_of(problem: Problem) -> Sequence[int | InPackets]:
+    """The stores of a problem: in packets, where a unit has several."""
+    packets = tuple(problem.unit.packets.values())
+    if set(packets) == {1}:
+        return packets
+    return in_packets(problem)
 
 
 def _found_of_texts(task: Task, setup: Setup, forecast: Forecast) -> Found:
@@ -93,7 +117,7 @@ def _found_of_texts(task: Task, setup: Setup, forecast: Forecast) -> Found:
     if task.dumps is not None:
         by_store = _flown(setup, forecast, task.dumps, range(len(task.dumps)))
         return Found(sum(by_store), by_store)
-    return _planned(task, bytes(setup), bytes(forecast), len(setup.stores), ())
+    return _least_found(task, _Texts.of(setup, forecast), ())
 
 
 def _found_in_parts(task: Task, mission: Mission, has_functions: bool) -> Found:
@@ -115,36 +139,121 @@ def _ages_of(task: Task, problem: Problem) -> tuple[float, ...]:
     return tuple(MissionPlan.of_problem(problem, task.in_order).ages_in_line())
 
 
-def _planned(task: Task, setup: bytes, forecast: bytes, count: int, packets: Sequence[int]) -> Found:
-    """What is found of a plan of the kind that is asked for, of which a unit of each store has this many packets."""
-    by_store, loss, shown, bound = (_in_order if task.in_order else _least)(setup, forecast, count)
-    if any(each != 1 for each in packets):
+class _Texts(NamedTuple):
+    """A setup and a forecast: their texts, the cells of a row, by its step, and the places of stores in them."""
+
+    setup: bytes
+    forecast: bytes
+    row: Callable[[int], Sequence[str]]
+    places: Mapping[str, int]
+
+    @classmethod
+    def of(cls, setup: Setup, forecast: Forecast) -> _Texts:
+        """Those of a setup and a forecast."""
+        columns = [forecast.windows, *forecast.arrivals.values()]
+        places = {store: place for place, store in enumerate(forecast.arrivals, 2)}
+        return cls(
+            bytes(setup), bytes(forecast), lambda step: ["", *(str(column[step - 1]) for column in columns)], places
+        )
+
+
+def _planned(
+    task: Task, texts: _Texts, stores: Sequence[int | InPackets], edges: Sequence[int]
+) -> Found | None:
+    """What is found of a plan of the kind that is asked for. None where much may be gained if the steps with these
+    edges are split."""
+    by_store, text = _plan_of(task, texts)
+    # steps are split by the cut of a plan that `problem_of` makes
+    shown = _shown(text)
+    ends = _Ends.of(_shown(_least(texts)[1]) if task.in_order else shown, texts)
+    if may_gain(edges, ends.stretches, ends.windows, ends.arrivals, ends.loss):
+        return None
+    return _told(task, by_store, text, shown, ends, stores)
+
+
+def _least_found(task: Task, texts: _Texts, stores: Sequence[int | InPackets]) -> Found:
+    """What is found of a plan of the kind that is asked for."""
+    by_store, text = _plan_of(task, texts)
+    shown = _shown(text)
+    return _told(task, by_store, text, shown, _Ends.of(shown, texts), stores)
+
+
+def _plan_of(task: Task, texts: _Texts) -> tuple[tuple[int, ...], bytes]:
+    """What each store loses in a plan of the kind that is asked for, and its text."""
+    return (_in_order if task.in_order else _least)(texts)
+
+
+class _Ends(NamedTuple):
+    """Where the stretches of a cut end: the stores and their steps, from 1, and the windows and the arrivals of these
+    steps, from 0; with the loss and the bound of the plan."""
+
+    stretches: list[tuple[str, int]]
+    windows: dict[int, int]
+    arrivals: dict[str, dict[int, int]]
+    loss: int
+    bound: int
+
+    @classmethod
+    def of(cls, told: Shown, texts: _Texts) -> _Ends:
+        """Those of a cut that a plan text has."""
+        loss, shown, bound = told
+        stretches = [(store, int(step)) for store, step in _STRETCH.findall(shown)]
+        windows: dict[int, int] = {}
+        arrivals: dict[str, dict[int, int]] = {}
+        for store, step in stretches:
+            cells = texts.row(step)
+            windows[step - 1] = int(cells[1])
+            arrivals.setdefault(store, {})[step - 1] = int(cells[texts.places[store]])
+        return cls(stretches, windows, arrivals, loss, bound)
+
+    def in_any_steps(self) -> int:
+        """The bound that holds for any steps."""
+        coming = [(step - 1, self.arrivals[store][step - 1]) for store, step in self.stretches]
+        return in_any_steps(self.bound, self.windows, coming)
+
+
+def _told(
+    task: Task, by_store: tuple[int, ...], text: bytes, told: Shown, ends: _Ends, stores: Sequence[int | InPackets]
+) -> Found:
+    """What is found of a plan. What it loses is counted in packets: of stores that are given as such, or of which a
+    unit has so many. Where these are so many of each store, there is a bound for any steps."""
+    loss, shown, bound = told
+    units = {each.packets if isinstance(each, InPackets) else each for each in stores}
+    least = ends.in_any_steps() * units.pop() if len(units) == 1 else None
+    if any(each != 1 for each in stores):
         shown += f"bound {bound}\n"
-        by_store = tuple(units * each for units, each in zip(by_store, packets))
+        dumps = _dumps_in(text) if any(isinstance(each, InPackets) for each in stores) else []
+        by_store = tuple(
+            sum(lost for _, lost, _, _ in each.steps(dumps[place])) if isinstance(each, InPackets) else lost_units * each
+            for place, (lost_units, each) in enumerate(zip(by_store, stores))
+        )
         bound, loss = sum(by_store) - (loss - bound), sum(by_store)
-    return Found(loss, by_store if task.by_store else (), bound, shown)
+    return Found(loss, by_store if task.by_store else (), bound, shown, in_any_steps=least)
 
 
-def _least(setup: bytes, forecast: bytes, count: int) -> tuple[tuple[int, ...], int, str, int]:
-    """What each store loses in a least plan, the loss, the lines of the cut, and its bound."""
+def _least(texts: _Texts) -> tuple[tuple[int, ...], bytes]:
+    """What each store loses in a least plan, and its text."""
     losses = _library.LossesTold()
-    text = _library.told(_library.rudlayog_plan_losses, texts=(setup, forecast), more=(losses,))
-    return (tuple(losses.by_store[:count]), *_shown(text, text.rindex(b"\nloss ")))
+    text = _library.told(_library.rudlayog_plan_losses, texts=texts[:2], more=(losses,))
+    return tuple(losses.by_store[: len(texts.places)]), text
 
 
-def _in_order(setup: bytes, forecast: bytes, count: int) -> tuple[tuple[int, ...], int, str, int]:
+def _in_order(texts: _Texts) -> tuple[tuple[int, ...], bytes]:
     """The same of a plan that serves the stores in order. What the first ones lose up to a store, less what they lose
     before it, is what it loses."""
-    text = _library.told(_library.rudlayog_plan_in_order, texts=(setup, forecast))
-    at = text.index(b"\nloss ")
-    loss, shown, bound = _shown(text, at)
-    _, *firsts = map(int, _LOSS.findall(text, at))
-    return tuple(map(sub, [*firsts, loss], [0, *firsts])), loss, shown, bound
+    text = _library.told(_library.rudlayog_plan_in_order, texts=texts[:2])
+    loss, *firsts = map(int, _LOSS.findall(text, text.index(b"\nloss ")))
+    return tuple(map(sub, [*firsts, loss], [0, *firsts])), text
 
 
-def _shown(text: bytes, at: int) -> tuple[int, str, int]:
+def _dumps_in(text: bytes) -> list[tuple[int, ...]]:
+    """For each store what leaves it in each step of a plan text."""
+    return list(zip(*(map(int, amounts.split()) for amounts in _DUMP.findall(text))))
+
+
+def _shown(text: bytes) -> Shown:
     """The loss, the lines of the cut, and the bound, which come after the dumps."""
-    loss, cut, bound = _CERTIFICATE.match(text, at).groups()  # type: ignore[union-attr]
+    loss, cut, bound = _CERTIFICATE.search(text, text.index(b"\nloss ")).groups()  # type: ignore[union-attr]
     return int(loss), cut.decode("ascii"), int(bound)
 
 

@@ -15,7 +15,9 @@ from itertools import chain
 from operator import itemgetter
 from typing import TYPE_CHECKING, Any, NamedTuple
 
+from ._brief import brief
 from ._data import LIMIT, STEP, WINDOW
+from ._flown import InPackets
 from ._flows import arrivals_of, came, contacts_of, micro
 from ._parts import remade
 from ._timeline import MOST_BLOCKS, Problem
@@ -39,6 +41,7 @@ def _product(one: Factor, other: Factor) -> Factor:
     return one[0] * other[0], one[1] * other[1]
 
 
+@brief
 @dataclass(frozen=True)
 class Base:
     """The setup and the forecast of a study, and the mission that they are of, with its steps, if there is one."""
@@ -82,6 +85,21 @@ class Group(NamedTuple):
     last: int
 
 
+class QuickTexts(NamedTuple):
+    """The setup and the forecast of a variant, the begins of the rows of the forecast up to what arrives, and its
+    stores: in packets, or how many packets a unit of each has."""
+
+    setup: bytes
+    forecast: bytes
+    begins: tuple[list[str], list[str]]
+    stores: Sequence[int | InPackets]
+
+    def row(self, step: int) -> list[str]:
+        """The cells of a step up to what arrives, from 1."""
+        heads, rows = self.begins
+        return f"{heads[step - 1]}{rows[step - 1]}".split(",")
+
+
 class Quick:
     """The texts of variants of a problem."""
 
@@ -105,23 +123,28 @@ class Quick:
             for channel in limited_in(mission)
         }
         self.packets = tuple(self.unit.packets.values())
+        # the places of the stores in a row
+        self.places = {store: place for place, store in enumerate(self.stores, 2)}
+        self.is_plain = set(self.packets) == {1}
         self.form = _SIZE.sub(b"\nsize = %d\n", bytes(problem.setup).replace(b"%", b"%%"))
         self.sizes = [store.size for store in problem.setup.stores]
         self.starts = [store.start for store in problem.setup.stores]
+        self.rooms = list(map(mission.size_of, mission.stores))
         self._rooms = lru_cache(ROOMS)(self._rooms_of)
         self._whole = lru_cache(ROOMS)(self._whole_of)
         self._rows = lru_cache(ROWS)(self._rows_of)
         self._column = lru_cache(COLUMNS)(self._column_of)
 
-    def texts(self, changes: Sequence[Change]) -> tuple[bytes, bytes] | None:
-        """The setup and the forecast of the mission with these changes. None where others than lost passes, arrivals
-        and sizes change, or where something is refused or out of range: the changed mission says what that is."""
+    def texts(self, changes: Sequence[Change]) -> QuickTexts | None:
+        """The setup and the forecast of the mission with these changes, and its stores. None where others than lost
+        passes, arrivals and sizes change, or where something is refused or out of range: the changed mission says what
+        that is."""
         try:
             return self._texts(changes)
         except MissionError:
             return None
 
-    def _texts(self, changes: Sequence[Change]) -> tuple[bytes, bytes] | None:
+    def _texts(self, changes: Sequence[Change]) -> QuickTexts | None:
         gone: set[str] = set()
         common: Factor = (1, 1)
         own: dict[str, Factor] = {}
@@ -135,14 +158,38 @@ class Quick:
                 common = common if change.stores else _product(common, factor)
             elif not isinstance(change, Sized):
                 return None
-        sizes = list(self.sizes)
-        if not gone <= self.group_of.keys() or not own.keys() <= self.stores.keys() or not self._sized(sizes, changes):
+        sizes, rooms = list(self.sizes), list(self.rooms)
+        if (
+            not gone <= self.group_of.keys()
+            or not own.keys() <= self.stores.keys()
+            or not self._sized(sizes, rooms, changes)
+        ):
             return None
-        rows = self._rows(tuple([_product(common, own[store]) if store in own else common for store in self.stores]))
-        return None if rows is None else (self.form % tuple(sizes), self._forecast(gone, rows.split("\n")))
+        factors = tuple([_product(common, own[store]) if store in own else common for store in self.stores])
+        rows = self._rows(factors)
+        if rows is None:
+            return None
+        stores: Sequence[int | InPackets] = self.packets
+        if not self.is_plain:
+            stores = self._in_packets(rooms, factors)
+        middles = rows.split("\n")
+        header, heads, tails = self._parts(gone)
+        forecast = "".join([header, *chain.from_iterable(zip(heads, middles, tails))]).encode()
+        return QuickTexts(self.form % tuple(sizes), forecast, (heads, middles), stores)
 
-    def _sized(self, sizes: list[int], changes: Iterable[Change]) -> bool:
-        """Puts in the sizes that are changed, and says whether they are in range."""
+    def _in_packets(self, rooms: Sequence[int], factors: Sequence[Factor]) -> tuple[InPackets, ...]:
+        """The stores in packets, with these sizes, and what arrives this many times as much."""
+        found = []
+        for place, (name, store) in enumerate(self.stores.items()):
+            arrivals = [0] * (len(self.edges) - 1)
+            steps, each = self.coming[name]
+            for step, count in zip(steps, each.column(1, *factors[place])):
+                arrivals[step] = count
+            found.append(InPackets(self.packets[place], rooms[place], self.mission.held_in(store), arrivals))
+        return tuple(found)
+
+    def _sized(self, sizes: list[int], rooms: list[int], changes: Iterable[Change]) -> bool:
+        """Puts in the sizes that are changed, in units and in packets, and says whether they are in range."""
         volumes = {store: each.size for store, each in self.stores.items()}
         for change in changes:
             if not isinstance(change, Sized):
@@ -152,7 +199,7 @@ class Quick:
             volumes[change.store] = change.sized(volumes[change.store])
             place = list(volumes).index(change.store)
             room = int(volumes[change.store].blocks(self.mission.block))
-            sizes[place] = room // self.packets[place]
+            sizes[place], rooms[place] = room // self.packets[place], room
             held = self.mission.held_in(self.stores[change.store])
             # what is held is not cut off at the size, in the problem or here
             is_room = held <= room and self.starts[place] == -(-held // self.packets[place]) <= sizes[place]
@@ -163,8 +210,8 @@ class Quick:
                 return False
         return True
 
-    def _forecast(self, gone: set[str], rows: list[str]) -> bytes:
-        """The text of a forecast without these passes, of rows with what arrives."""
+    def _parts(self, gone: set[str]) -> tuple[str, list[str], list[str]]:
+        """The header of a forecast without these passes, and the begins and the ends of its rows."""
         limited = tuple([channel for channel, names in self.with_rate.items() if not names <= gone])
         header, heads, tails = self._whole(limited)
         if gone:
@@ -173,7 +220,7 @@ class Quick:
                 group = self.groups[place]
                 left = tuple([one.name not in gone for one in group.passes])
                 heads[group.first : group.last], tails[group.first : group.last] = self._rooms(place, left, limited)
-        return "".join([header, *chain.from_iterable(zip(heads, rows, tails))]).encode()
+        return header, heads, tails
 
     def _whole_of(self, limited: tuple[int, ...]) -> tuple[str, list[str], list[str]]:
         """The header, and the begins and the ends of the rows, where no pass is lost and these channels have limits."""

@@ -13,6 +13,8 @@ from pathlib import Path
 from types import MappingProxyType
 from typing import Any, Protocol, SupportsFloat, SupportsIndex
 
+from ._brief import cut
+
 # A text: its octets, its characters, or the file that has it. A str with a line end in it is the text itself; one
 # without names a file.
 Text = bytes | bytearray | memoryview | str | os.PathLike[str]
@@ -88,7 +90,7 @@ class Columns(Mapping[str, Column]):
         return hash(frozenset(self._named.items()))
 
     def __repr__(self) -> str:
-        return repr(dict(self._named))
+        return cut(repr(dict(self._named)))
 
     def __reduce__(self) -> tuple[object, ...]:
         return Columns, (dict(self._named),)
@@ -114,12 +116,22 @@ def is_text(given: object) -> bool:
     return isinstance(given, (bytes, bytearray, memoryview, str, os.PathLike))
 
 
+class NoFile(FileNotFoundError, ValueError):
+    """A text that is the name of a file which is not there."""
+
+
 def octets(given: Text) -> bytes:
     """The octets of a text."""
     if isinstance(given, os.PathLike) or (isinstance(given, str) and given and "\n" not in given):
-        return Path(given).read_bytes()
+        try:
+            return Path(given).read_bytes()
+        except FileNotFoundError as error:
+            words = f"{os.fspath(given)!r}: there is no such file; a str without a line end is the name of one"
+            raise NoFile(words[:400]) from error
     if isinstance(given, str):
         return given.encode()
+    if not is_text(given):
+        raise ValueError(f"{given!r} is no text: octets, a str, or a path")
     return bytes(given)
 
 

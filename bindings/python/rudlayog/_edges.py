@@ -4,11 +4,11 @@ allow where most is lost."""
 from __future__ import annotations
 
 from bisect import bisect_left
-from collections.abc import Callable, Iterable, Sequence
+from collections.abc import Callable, Iterable, Mapping, Sequence
 from datetime import timedelta
 from heapq import heapify, heappop, heappush
 from itertools import pairwise
-from typing import TYPE_CHECKING
+from typing import TYPE_CHECKING, Union
 
 from ._flows import arrivals_of, came, micro
 from ._units import MICROSECOND, fault, written
@@ -18,11 +18,15 @@ if TYPE_CHECKING:
     from ._timeline import Problem
     from .mission import Mission
 
+# Some numbers by their steps, from 0.
+Numbers = Union[Sequence[int], Mapping[int, int]]
+
 # Steps in which something is lost are not split into shorter ones than this, and others not into shorter ones than
 # that, in microseconds.
 FINEST, EVEN = 10_000_000, 60_000_000
-# How often steps in which something is lost are split in two; and how small a part of the loss is not worth it.
-ROUNDS, LEAST_GAIN = 24, 2000
+# How often steps in which something is lost are split in two; how small a part of the loss is not worth it; and how
+# small a part is not worth to begin with it, where the steps are those of another mission.
+ROUNDS, LEAST_GAIN, ENOUGH = 24, 2000, 200
 
 
 def events(mission: Mission) -> tuple[set[int], set[int]]:
@@ -98,27 +102,47 @@ def _with_most(needed: set[int], others: Sequence[int]) -> list[int]:
 
 
 def _too_many(mission: Mission, edges: list[int]) -> Exception:
-    """The refusal of too many steps: which events are nearest to one another."""
+    """The refusal of too many steps: which events are nearest to one another, if enough of them can be at one
+    moment."""
     steps = len(edges) - 1
-    nearest = sorted(pairwise(edges), key=lambda span: span[1] - span[0])[: steps - MOST_STEPS]
     names: dict[int, list[str]] = {}
+    ends: dict[int, int] = {}
     spans = [(one.name, one.begin, one.end) for one in mission.passes]
     spans += [(one.name or one.store, one.begin, one.end) for one in mission.observations]
-    for name, begin, end in spans:
-        names.setdefault(micro(mission, begin), []).append(f"{name} begins")
-        names.setdefault(micro(mission, end), []).append(f"{name} ends")
-    joined = [
-        f"{written(mission.begin + first * MICROSECOND)} ({', '.join(names.get(first, []))}) and "
-        f"{timedelta(microseconds=last - first)} later "
-        f"({', '.join(names.get(last, []))})"
-        for first, last in sorted(nearest[:10])
-    ]
-    more = f", and {len(nearest) - 10} more" if len(nearest) > 10 else ""
-    meant = (
-        f"at most {MOST_STEPS}: plan in parts (horizon=), or let events that are near be at one moment "
-        f"({'; '.join(joined)}{more})"
-    )
+    for name, first, last in spans:
+        begin, end = micro(mission, first), micro(mission, last)
+        names.setdefault(begin, []).append(f"{name} begins")
+        names.setdefault(end, []).append(f"{name} ends")
+        ends[begin] = min(end, ends.get(begin, end))
+    nearest = sorted(_joinable(edges, names, ends, steps - MOST_STEPS))
+    meant = f"at most {MOST_STEPS}: plan in parts (horizon=)"
+    if len(nearest) == steps - MOST_STEPS:
+        joined = [
+            f"{written(mission.begin + first * MICROSECOND)} ({', '.join(names[first])}) and "
+            f"{timedelta(microseconds=last - first)} later "
+            f"({', '.join(names[last])})"
+            for first, last in nearest[:10]
+        ]
+        more = f", and {len(nearest) - 10} more" if len(nearest) > 10 else ""
+        meant += f", or let events that are near be at one moment ({'; '.join(joined)}{more})"
     return fault("", f"{steps} steps from event to event", meant)
+
+
+def _joinable(
+    edges: list[int], names: Mapping[int, list[str]], ends: Mapping[int, int], most: int
+) -> list[tuple[int, int]]:
+    """The nearest neighbours of edges, at most so many, that can be at one moment: so that no pass and no observation
+    begins as it ends."""
+    run = {edge: [edge] for edge in edges}
+    found: list[tuple[int, int]] = []
+    for first, last in sorted(pairwise(edges), key=lambda span: span[1] - span[0]):
+        joined = [*run[first], *run[last]]
+        if len(found) == most:
+            break
+        if first in names and last in names and all(ends.get(edge, joined[-1] + 1) > joined[-1] for edge in joined):
+            found.append((first, last))
+            run.update(dict.fromkeys(joined, joined))
+    return found
 
 
 def refined(mission: Mission, edges: list[int], problem_of: Callable[[list[int]], Problem]) -> list[int]:
@@ -129,21 +153,59 @@ def refined(mission: Mission, edges: list[int], problem_of: Callable[[list[int]]
     return _evenly(mission, edges)
 
 
+def settled(edges: list[int], problem_of: Callable[[list[int]], Problem]) -> list[int]:
+    """The edges, with more of them where a least plan in their steps may lose much more than one in finer steps, as
+    long as there are some left."""
+    while True:
+        problem = problem_of(edges)
+        made = problem.least()
+        ends = ((each.store, each.last) for each in made.cut.stretches)
+        if not may_gain(edges, ends, problem.forecast.windows, problem.forecast.arrivals, made.loss):
+            return edges
+        before, edges = edges, _where_lost(edges, problem_of)
+        if edges == before:
+            return edges
+
+
+def may_gain(
+    edges: Sequence[int],
+    ends: Iterable[tuple[str, int]],
+    windows: Numbers,
+    arrivals: Mapping[str, Numbers],
+    loss: int,
+) -> bool:
+    """Whether more than a small part of a loss may come from the steps, from 1, at which the stretches of a cut end, in
+    their stores; and there are edges left to split them."""
+    return len(edges) <= MOST_STEPS and sum(_worth(edges, ends, windows, arrivals).values()) * ENOUGH > loss
+
+
+def _worth(
+    edges: Sequence[int],
+    ends: Iterable[tuple[str, int]],
+    windows: Numbers,
+    arrivals: Mapping[str, Numbers],
+) -> dict[int, int]:
+    """What may be gained in each step, from 0, at which stretches of a cut end, if it is split: a cut counts what
+    arrives in the last step of a stretch, but not what leaves in it."""
+    worth: dict[int, int] = {}
+    for store, last in ends:
+        step = last - 1
+        gain = min(windows[step], arrivals[store][step])
+        if gain and edges[step + 1] - edges[step] >= 2 * FINEST:
+            worth[step] = worth.get(step, 0) + gain
+    return worth
+
+
 def _where_lost(edges: list[int], problem_of: Callable[[list[int]], Problem]) -> list[int]:
-    """The edges with more of them where a least plan loses by its steps: its cut counts what arrives in the last step
-    of a stretch, but not what leaves in it."""
+    """The edges with more of them where a least plan loses by its steps."""
     for _ in range(ROUNDS):
         room = MOST_STEPS + 1 - len(edges)
         if room <= 0:
             break
         problem = problem_of(edges)
         made = problem.least()
-        worth: dict[int, int] = {}
-        for stretch in made.cut.stretches:
-            step = stretch.last - 1
-            gain = min(problem.forecast.windows[step], problem.forecast.arrivals[stretch.store][step])
-            if gain and edges[step + 1] - edges[step] >= 2 * FINEST:
-                worth[step] = worth.get(step, 0) + gain
+        ends = ((each.store, each.last) for each in made.cut.stretches)
+        worth = _worth(edges, ends, problem.forecast.windows, problem.forecast.arrivals)
         if sum(worth.values()) * LEAST_GAIN <= made.loss:
             break
         split = sorted(worth, key=lambda step: -worth[step])[:room]

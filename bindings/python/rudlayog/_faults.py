@@ -212,10 +212,17 @@ def oddities_of(mission: Mission, passes: Sequence[Pass], observations: Sequence
             elif one.begin < mission.begin or one.end > mission.end:
                 yield f"{named} reaches beyond the mission, and that part of it is left out"
     used = {store.channel for store in mission.stores}
+    lengths = {channel: longest_on(mission, channel) for channel in range(8)}
     links: list[tuple[Any, Any]] = [(station, station.rate) for station in mission.stations]
     for part, link in [*links, *((one, mission.rates(one)[0]) for one in mission.passes)]:
         for channel, rate in part.channels.items():
             if channel not in used:
                 yield f"{part.place}: channel {channel} has a rate, and no store has this channel"
-            elif link is not None and rate.in_blocks == link.in_blocks and rate.amount > link.amount:
+            elif link is not None and rate.octets(lengths[channel]) > link.octets(longest_on(mission, None)):
                 yield f"{part.place}: channel {channel} has {rate}, and the link {link}"
+
+
+def longest_on(mission: Mission, channel: int | None) -> int:
+    """The octets of the longest packet of the stores of a channel, or of all where it has none or none is named."""
+    lengths = [(store.channel, mission.packet_of(store)) for store in mission.stores]
+    return max([length for own, length in lengths if own == channel] or [length for _, length in lengths])

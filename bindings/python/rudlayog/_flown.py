@@ -2,10 +2,13 @@
 
 from __future__ import annotations
 
-from collections.abc import Mapping
+from collections.abc import Iterable, Iterator, Mapping, Sequence
 from dataclasses import dataclass
 from datetime import datetime
+from typing import NamedTuple
 
+from ._brief import brief
+from ._flows import arrivals_of, came
 from ._sharing import Link, shared
 from ._timeline import Problem
 from .calls import table
@@ -13,6 +16,7 @@ from .forecasts import Forecast
 from .plans import Plan
 
 
+@brief
 @dataclass(frozen=True)
 class Flown:
     """What a step does, by store: what is lost and dumped, and what is held as it ends, in packets. `shares` is what
@@ -44,29 +48,68 @@ def first_steps(problem: Problem, made: Plan, count: int) -> tuple[Problem, Plan
     )
 
 
+class InPackets(NamedTuple):
+    """A store in packets: how many a unit has, how many it has room for and holds as the mission begins, and how many
+    come in each step. One that has begun to come is there."""
+
+    packets: int
+    size: int
+    start: int
+    arrivals: Sequence[int]
+
+    def steps(self, units: Iterable[int]) -> Iterator[tuple[int, int, int, int]]:
+        """What arrives, is lost, leaves and is held in each step, where the plan has so many units leave: of a unit
+        whose last packets have not come, those that have."""
+        held = self.start
+        for arrived, count in zip(self.arrivals, units):
+            there = held + arrived
+            lost = max(there - self.size, 0)
+            dumped = min(count * self.packets, there - lost)
+            held = there - lost - dumped
+            yield arrived, lost, dumped, held
+
+
+def in_packets(problem: Problem) -> tuple[InPackets, ...]:
+    """The stores of a problem in packets."""
+    mission = problem.mission
+    arrivals = {store: came(flows, problem.edges).column() for store, flows in arrivals_of(mission).items()}
+    return tuple(
+        InPackets(problem.unit.packets[store.id], mission.size_of(store), mission.held_in(store), arrivals[store.id])
+        for store in mission.stores
+    )
+
+
 def flown_of(problem: Problem, made: Plan) -> list[Flown]:
-    """What each step of a problem does, from the table of its plan."""
-    columns = table(problem.setup, problem.forecast, made).to_dict()
-    stores = [store.id for store in problem.setup.stores]
+    """What each step of a problem does."""
     channels = {store.id: store.channel for store in problem.setup.stores}
     links = _links_of(problem)
     found = []
-    for step in range(len(problem)):
-        rows = slice(step * len(stores), (step + 1) * len(stores))
-        units = {name: dict(zip(stores, columns[name][rows])) for name in ("arrived", "lost", "dumped", "held")}
+    for step, values in enumerate(_values_of(problem, made)):
+        left = dict(values["dumped"])
         shares: dict[str, dict[str, int]] = {}
-        for place, share in shared(units["dumped"], channels, links[step]).items():
+        units = {store: column[step] for store, column in made.by_store.items()}
+        for place, share in shared(units, channels, links[step]).items():
             mine = shares.setdefault(problem.contacts[place].one.name, {})
-            for store, packets in in_packets(problem, share).items():
+            for store, count in share.items():
+                packets = min(count * problem.unit.packets[store], left[store])
+                left[store] -= packets
                 mine[store] = mine.get(store, 0) + packets
-        values = {name: in_packets(problem, column) for name, column in units.items()}
         found.append(Flown(problem.times[step], problem.times[step + 1], **values, shares=shares))
     return found
 
 
-def in_packets(problem: Problem, units: Mapping[str, int]) -> dict[str, int]:
-    """The packets of units of each store."""
-    return {store: count * problem.unit.packets[store] for store, count in units.items()}
+def _values_of(problem: Problem, made: Plan) -> Iterator[dict[str, dict[str, int]]]:
+    """What each step does to each store, in packets: the library's table, where a unit is a packet."""
+    stores = [store.id for store in problem.setup.stores]
+    names = ("arrived", "lost", "dumped", "held")
+    if set(problem.unit.packets.values()) == {1}:
+        columns = table(problem.setup, problem.forecast, made).to_dict()
+        for first in range(0, len(problem) * len(stores), len(stores)):
+            yield {name: dict(zip(stores, columns[name][first : first + len(stores)])) for name in names}
+        return
+    steps = [each.steps(made.by_store[store]) for store, each in zip(stores, in_packets(problem))]
+    for values in zip(*steps):
+        yield {name: dict(zip(stores, column)) for name, column in zip(names, zip(*values))}
 
 
 def _links_of(problem: Problem) -> list[list[Link]]:

@@ -13,7 +13,9 @@ from math import gcd, lcm
 from operator import floordiv, mul, sub
 from typing import TYPE_CHECKING, NamedTuple
 
-from ._units import MICROSECOND, Rate
+from ._brief import brief
+from ._faults import longest_on
+from ._units import MICROSECOND
 
 if TYPE_CHECKING:
     from .mission import Mission, Observation, Pass
@@ -24,6 +26,7 @@ def micro(mission: Mission, moment: datetime) -> int:
     return (moment - mission.begin) // MICROSECOND
 
 
+@brief
 @dataclass(frozen=True)
 class Flow:
     """What comes or goes evenly from `begin` to `end`, in microseconds of the mission: `above` by `below` in each of
@@ -90,6 +93,7 @@ def came(flows: Sequence[Flow], times: Sequence[int]) -> Came:
     return Came([number // common for number in steps], below // common)
 
 
+@brief
 @dataclass(frozen=True)
 class Unit:
     """What a plan counts: for each store this many `packets` that have about the same octets. `count` is how many of the
@@ -136,6 +140,7 @@ class Use(NamedTuple):
     channels: Mapping[int, Fraction]
 
 
+@brief
 @dataclass(frozen=True)
 class Contact:
     """A pass while it is used, in microseconds of the mission: `sends`, the units that it can send, and what it can
@@ -146,21 +151,12 @@ class Contact:
     channels: Mapping[int, Flow]
 
 
-def _octets_of(rate: Rate, longest: int) -> Fraction:
-    """The octets of a second, where a block is one of the longest packets."""
-    return rate.blocks(longest) * longest
-
-
 def use_of(mission: Mission, one: Pass) -> Use:
     """A pass while the mission lasts."""
     rate, rates = mission.rates(one)
-    longest = max(map(mission.packet_of, mission.stores))
-    channels = {}
-    for channel, own in rates.items():
-        lengths = [mission.packet_of(store) for store in mission.stores if store.channel == channel]
-        channels[channel] = _octets_of(own, max(lengths, default=longest))
+    channels = {channel: own.octets(longest_on(mission, channel)) for channel, own in rates.items()}
     begin, end = max(micro(mission, one.begin), 0), min(micro(mission, one.end), micro(mission, mission.end))
-    return Use(one, begin, end, _octets_of(rate, longest), channels)
+    return Use(one, begin, end, rate.octets(longest_on(mission, None)), channels)
 
 
 def uses_of(mission: Mission) -> list[Use]:

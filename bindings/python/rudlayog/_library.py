@@ -4,6 +4,7 @@ from __future__ import annotations
 
 import ctypes
 import os
+import sys
 from collections.abc import Callable
 from pathlib import Path
 from typing import SupportsIndex
@@ -22,6 +23,9 @@ BLOCK = 1024  # RUDLAYOG_BLOCK
 PACKET = 65542  # RUDLAYOG_PACKET
 DONE = 255  # RUDLAYOG_DONE
 LEAST = (1, 8)  # RUDLAYOG_LEAST and RUDLAYOG_LEAST_IN_ORDER: the kinds of a verdict for which rudlayog_is_least is true
+
+# The end of the library's name, as the platform has it.
+_SUFFIX = {"win32": ".dll", "darwin": ".dylib"}.get(sys.platform, ".so")
 
 _octets = ctypes.c_char_p
 _size = ctypes.c_size_t
@@ -86,12 +90,18 @@ class TallyTold(ctypes.Structure):
     _fields_ = [("kept", ctypes.c_uint32), ("lost", ctypes.c_uint32), ("refused", ctypes.c_uint32)]
 
 
+def _enum_of_8(name: str) -> tuple[str, type[ctypes.c_uint8]] | tuple[str, type[ctypes.c_uint32], int]:
+    """An enum in a bit field of 8 bits: an octet, but on Windows, whose compilers lay it out in a field of its own."""
+    return (name, ctypes.c_uint32, 8) if sys.platform == "win32" else (name, ctypes.c_uint8)
+
+
 class RequestFields(ctypes.Structure):
     """struct rudlayog_request"""
 
     _fields_ = [
         *((name, ctypes.c_uint16) for name in ("apid", "count", "source")),
-        *((name, ctypes.c_uint8) for name in ("acknowledgement", "subtype")),
+        ("acknowledgement", ctypes.c_uint8),
+        _enum_of_8("subtype"),
     ]
 
 
@@ -104,7 +114,9 @@ class InstructionFields(ctypes.Structure):
         ("last", ctypes.c_uint64),
         ("size", ctypes.c_uint32),
         ("apid", ctypes.c_uint16),
-        *((name, ctypes.c_uint8) for name in ("service", "subtype", "type", "channel")),
+        *((name, ctypes.c_uint8) for name in ("service", "subtype")),
+        _enum_of_8("type"),
+        ("channel", ctypes.c_uint8),
     ]
 
 
@@ -137,7 +149,7 @@ def _found() -> Path:
     if named:
         return Path(named)
     here = Path(__file__).resolve().parent
-    inside = here / "librudlayog.so"
+    inside = here / f"librudlayog{_SUFFIX}"
     return inside if inside.exists() else here.parents[1] / "c" / "out" / "librudlayog.so"
 
 

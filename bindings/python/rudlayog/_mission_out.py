@@ -60,7 +60,7 @@ def toml_of(mission: Mission) -> str:
 
 def csv_table_of(mission: Mission, table: str) -> str:
     """A table of a mission."""
-    if table not in TABLES:
+    if not isinstance(table, str) or table not in TABLES:
         raise fault("", f"the table {table!r}", f"one of {', '.join(TABLES)}")
     parts = getattr(mission, table)
     names = [name for name in TABLES[table][1] if name != "channels"]

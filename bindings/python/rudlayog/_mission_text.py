@@ -45,7 +45,10 @@ CHANNEL = re.compile(r"channel:([0-7])\Z")
 
 def mission_in(path: str | os.PathLike[str]) -> Mission:
     """The mission that a TOML file says."""
-    file = Path(path)
+    try:
+        file = Path(os.fsdecode(path))
+    except TypeError as error:
+        raise fault("", path, "the path of a TOML file") from error
     try:
         text = file.read_bytes().decode("utf-8-sig")
         given = tomllib.loads(text)
@@ -90,15 +93,11 @@ def mission_of(**given: Any) -> Mission:
     made = dict(given)
     for plural, kind in TABLES.values():
         table = given.get(plural, ())
-        if is_text(table):
-            made[plural] = _csv_parts(kind, Path(os.fspath(table)), faults)
+        if isinstance(table, (str, os.PathLike)):
+            made[plural] = _csv_parts(kind, Path(os.fsdecode(table)), faults)
         else:
             try:
-                listed = (
-                    [*table]
-                    if isinstance(table, Iterable) and not isinstance(table, Mapping) and not hasattr(table, "columns")
-                    else rows(table)
-                )
+                listed = [*table] if _is_list(table) else rows(table)
             except ValueError as error:
                 faults.append(
                     Fault(
@@ -111,6 +110,12 @@ def mission_of(**given: Any) -> Mission:
             placed = [(f"row {number} of {plural}", row) for number, row in enumerate(listed, 1)]
             made[plural] = list(_parts(kind, placed, faults, lambda place, name: f"{place}, {name}"))
     return _made(made, faults, "the mission")
+
+
+def _is_list(table: Any) -> bool:
+    """Whether a table is a list of its rows, and no text, columns or data frame."""
+    is_other = is_text(table) or isinstance(table, Mapping) or hasattr(table, "columns")
+    return isinstance(table, Iterable) and not is_other
 
 
 def _made(fields: dict[str, Any], faults: list[Fault], place: str, found: Callable[[str], str] = str) -> Mission:

@@ -8,7 +8,11 @@ from html import escape
 from itertools import groupby
 from typing import TYPE_CHECKING
 
+from ._any_steps import least_in_any_steps
+
 if TYPE_CHECKING:
+    from ._timeline import Problem
+    from .plans import Plan
     from .sheets import Row, Sheet
 
 STYLE = """
@@ -45,9 +49,9 @@ def page(sheet: Sheet) -> str:
         ),
         "<p class='note'>Times are in UTC. A block has room for one packet; 1 MB is 1,000,000 octets of packets. "
         "What is lost counts from the "
-        "begin of a pass to that of the next one. In the timeline the stores of a step follow one another at the "
-        "rate of the link. The age is that "
-        "of the oldest octet of a dump as it goes down; what is held as the mission begins counts as new then.</p>",
+        "begin of a pass to that of the next one. In the timeline each store sends its packets evenly from begin to "
+        "end, all stores side by side. Ages are those of packets as the timeline sends them; what is held as the "
+        "mission begins counts as new then.</p>",
     ]
     head = f"<meta charset='utf-8'><title>{escape(title)}</title><style>{STYLE}</style>"
     return f"<!doctype html>\n<html lang='en'><head>{head}</head>\n<body>\n" + "\n".join(parts) + "\n</body></html>\n"
@@ -71,19 +75,25 @@ def summary(sheet: Sheet) -> list[str]:
             f"before leaves."
         )
         words.append("No plan in these steps loses fewer: the checker says least." if len(verdicts) == 1 else parts)
+        words += [_in_any_steps(*made.parts[0])] if len(verdicts) == 1 else []
         if all(verdict.kind == "least in order" for verdict in verdicts):
             words.append("So does the first store, and so do the first two together, and so on.")
     else:
         words += [f"The checker says: {verdict.line}." for verdict in verdicts if not verdict]
-    units = {problem.unit.link for problem, _ in made.parts if len(set(problem.unit.packets.values())) > 1}
+    units = {problem.unit.link for problem, _ in made.parts if set(problem.unit.packets.values()) != {1}}
     if units:
-        words.append(
-            f"Packets differ in length: what is least counts in units of about {max(units):,} octets, and not in "
-            f"packets."
-        )
+        words.append(f"What is least counts in units of about {max(units):,} octets, and not in packets.")
     if len(verdicts) == 1 and made.problem.edges == made.mission.problem().edges:
         words.append(made.mission.margin().words())
     return [*words, _rounding(sheet)]
+
+
+def _in_any_steps(problem: Problem, made: Plan) -> str:
+    """How many fewer could be lost in other steps."""
+    if len(set(problem.unit.packets.values())) > 1:
+        return "In finer steps fewer may be lost."
+    least = least_in_any_steps(made.cut, problem.forecast) * problem.unit.count
+    return f"In whatever steps, no timeline loses fewer than {least:,}, but for rounding."
 
 
 def _rounding(sheet: Sheet) -> str:
@@ -152,14 +162,15 @@ def _windows(sheet: Sheet) -> dict[str, int]:
 
 
 def _timeline(sheet: Sheet) -> str:
-    """The dumps one after the other."""
+    """The dumps."""
     lines = [
         f"<tr><td class='w'>{_utc_second(dump.begin)}</td><td class='w'>{_utc_second(dump.end)}</td><td "
         f"class='w'>{escape(dump.name)}</td>"
-        f"<td class='w'>{escape(dump.store)}</td><td>{dump.packets:,}</td><td>{dump.mb:,.3f}</td></tr>"
+        f"<td class='w'>{escape(dump.store)}</td><td>{dump.packets:,}</td><td>{dump.mb:,.3f}</td>"
+        f"<td>{dump.kbits:,.3f}</td></tr>"
         for dump in sheet.made.timeline()
     ]
-    return _table(["<begin (UTC)", "<end (UTC)", "<pass", "<store", "packets", "MB"], lines)
+    return _table(["<begin (UTC)", "<end (UTC)", "<pass", "<store", "packets", "MB", "kbit/s"], lines)
 
 
 def _utc_second(moment: datetime) -> str:

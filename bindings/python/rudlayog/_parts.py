@@ -8,6 +8,7 @@ from datetime import datetime, timedelta
 from fractions import Fraction
 from typing import Any, TypeVar
 
+from ._brief import brief
 from ._units import Faults, MissionError, Moment, Rate, RateLike, Volume, VolumeLike
 from ._units import fault, moment_of, rate_of, volume_of, whole_of, written
 
@@ -47,6 +48,7 @@ def _packet(given: Any, place: str) -> int | None:
     return None if given is None else whole_of(given, place)
 
 
+@brief
 @dataclass(frozen=True, init=False)
 class PacketStore:
     """A packet store: its `id`, its `size` as a volume of memory, its `type`, `bounded` or `circular`, its virtual
@@ -87,6 +89,7 @@ class PacketStore:
         faults.end()
 
 
+@brief
 @dataclass(frozen=True, init=False)
 class Station:
     """A ground station: its `name`, and the `rate` of its passes and of their `channels`, where a pass has none of its
@@ -107,6 +110,7 @@ class Station:
         faults.end()
 
 
+@brief
 @dataclass(frozen=True, init=False)
 class Pass:
     """A pass over a `station`, from `begin` to `end` in UTC, with its `rate` and those of its `channels`, if they are
@@ -145,6 +149,7 @@ class Pass:
         faults.end()
 
 
+@brief
 @dataclass(frozen=True, init=False)
 class Observation:
     """What arrives in a `store` from `begin` to `end` in UTC, evenly: a `rate`, or the `volume` of all of it."""

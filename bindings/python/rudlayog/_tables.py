@@ -32,14 +32,14 @@ def csv_of(names: Iterable[str], rows: Iterable[Iterable[Any]]) -> str:
     return lines.getvalue()
 
 
-def html_of(columns: Mapping[str, Iterable[Any]], most: int = MOST_ROWS) -> str:
-    """The first rows of a table in HTML."""
-    rows = list(islice(zip(*columns.values()), most + 1))
+def html_of(columns: Mapping[str, Iterable[Any]], most: int | None = MOST_ROWS) -> str:
+    """The first rows of a table in HTML, or all."""
+    rows = list(islice(zip(*columns.values()), None if most is None else most + 1))
     head = "".join(f"<th>{escape(str(name))}</th>" for name in columns)
     shown = "".join(
         "<tr>" + "".join(f"<td>{escape(str(cell_of(cell)))}</td>" for cell in row) + "</tr>" for row in rows[:most]
     )
-    more = f"<tr><td colspan='{len(columns)}'>&#8230;</td></tr>" if len(rows) > most else ""
+    more = f"<tr><td colspan='{len(columns)}'>&#8230;</td></tr>" if most is not None and len(rows) > most else ""
     return f"<table><thead><tr>{head}</tr></thead><tbody>{shown}{more}</tbody></table>"
 
 

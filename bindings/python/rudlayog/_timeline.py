@@ -6,13 +6,13 @@ from __future__ import annotations
 from bisect import bisect_right
 from collections.abc import Callable, Iterable, Mapping, Sequence
 from datetime import datetime, timedelta
-from functools import cached_property
+from functools import cached_property, lru_cache
 from typing import TYPE_CHECKING, Any
 
 from ._data import LIMIT
-from ._edges import edges_of, refined, shown_edges
+from ._edges import edges_of, refined, settled, shown_edges
 from ._flows import Came, Contact, Flow, Unit, arrivals_of, came, contacts_of, uses_of
-from ._units import MICROSECOND, fault, moment_of, written
+from ._units import MICROSECOND, fault, moment_of, whole_of, written
 from ._windows import limited_in, windows_of
 from .calls import plan
 from .forecasts import Forecast
@@ -87,7 +87,7 @@ class Problem(tuple[Setup, Forecast]):
 
     def when(self, step: int) -> tuple[datetime, datetime]:
         """When a step begins and ends. Steps count from 1."""
-        if not 1 <= step <= len(self):
+        if not 1 <= whole_of(step, "step") <= len(self):
             raise fault("", f"the step {step}", f"a step from 1 to {len(self)}")
         return self.times[step - 1], self.times[step]
 
@@ -100,6 +100,10 @@ class Problem(tuple[Setup, Forecast]):
 
     def least(self) -> Plan:
         """A plan that loses least."""
+        return self._least
+
+    @cached_property
+    def _least(self) -> Plan:
         return plan(self.setup, self.forecast)
 
     def shown(self) -> Problem:
@@ -130,13 +134,21 @@ class Problem(tuple[Setup, Forecast]):
         return cost_of(self)
 
 
-def problem_of(mission: Mission, step: timedelta | None = None, kept: Iterable[int] = ()) -> Problem:
+def problem_of(
+    mission: Mission, step: timedelta | None = None, kept: Iterable[int] = (), split: bool = False
+) -> Problem:
     """The problem of a mission: with steps from event to event, or of at most one length; `kept` are moments, in
-    microseconds from its begin, at which one begins in any case."""
+    microseconds from its begin, at which one begins in any case. Steps from event to event are split where most is
+    lost; those that a mission has of another one, only with `split`, where much may be gained."""
     edges = edges_of(mission, step, kept)
     unit = unit_of(mission, edges)
-    if step is None and not mission.moments:
-        edges = refined(mission, edges, lambda tried: problem_with(mission, tried, unit))
+    if step is None and (split or not mission.moments):
+        made = lru_cache(1)(lambda tried: problem_with(mission, tried, unit))
+
+        def tried(edges: Sequence[int]) -> Problem:
+            return made(tuple(edges))
+
+        return tried(settled(edges, tried) if mission.moments else refined(mission, edges, tried))
     return problem_with(mission, edges, unit)
 
 

@@ -11,6 +11,8 @@ from fractions import Fraction
 from functools import lru_cache
 from typing import Any, SupportsIndex, TypeVar, Union
 
+from ._brief import brief
+
 Made = TypeVar("Made")
 
 # Octets that each unit of a volume has, and bits a second that each unit of a rate has.
@@ -36,6 +38,7 @@ _DAY_OF_YEAR = re.compile(r"(\d{4})-(\d{3})(T.*)\Z")
 _ZONE = "a moment in UTC with its zone, as 2027-03-01T12:00:00Z"
 
 
+@brief
 @dataclass(frozen=True)
 class Fault:
     """A fault of a mission: the `place` where it is (a file with its line, or a row), what was `found` there, and what
@@ -89,6 +92,7 @@ def fault(place: str, found: object, meant: str) -> MissionError:
     return MissionError([Fault(place, found if isinstance(found, str) else repr(found)[:200], meant)])
 
 
+@brief
 @dataclass(frozen=True)
 class Volume:
     """A volume: a number of octets, or of blocks where `in_blocks`. `unit` is the one that it was written in."""
@@ -115,6 +119,7 @@ class Volume:
         return f"{_decimal(self.amount)} {'blocks' if self.in_blocks else 'octets'}"
 
 
+@brief
 @dataclass(frozen=True)
 class Rate:
     """A rate: a number of bits a second, or of blocks a second where `in_blocks`. Bits are those of packets, without
@@ -126,6 +131,10 @@ class Rate:
     def blocks(self, octets: int) -> Fraction:
         """The blocks a second, where each is a packet of this many octets."""
         return self.amount if self.in_blocks else self.amount / (8 * octets)
+
+    def octets(self, longest: int) -> Fraction:
+        """The octets a second, where a block is a packet of this many octets."""
+        return self.blocks(longest) * longest
 
     def times(self, factor: Fraction) -> Rate:
         """The rate that is this many times as high."""
@@ -227,7 +236,7 @@ def rate_of(given: Any, place: str) -> Rate:
     if name in BLOCKS and second in BLOCK_SECONDS:
         return Rate(amount / BLOCK_SECONDS[second], True)
     if unit and unit not in BITS:
-        raise fault(place, given, _unit_meant(unit, BITS) or meant)
+        raise fault(place, given, _bytes_meant(amount, unit) or _unit_meant(unit, BITS) or meant)
     return Rate(amount * BITS.get(unit, Fraction(1)))
 
 
@@ -252,6 +261,17 @@ def _unit_meant(unit: str, known: dict[str, Fraction]) -> str | None:
     if not near:
         return None
     return " or ".join(f"{name} ({_in_full(name, known[name])})" for name in near)
+
+
+def _bytes_meant(amount: Fraction, unit: str) -> str | None:
+    """What is meant by a rate in bytes: 8 times as many bits."""
+    name = unit.removesuffix("/s") if unit.endswith("/s") else unit.removesuffix("ps")
+    octets = OCTETS.get("kB" if name == "KB" else name)
+    if name == unit or octets is None or "bit" in name:
+        return None
+    bits = 8 * amount * octets
+    power = next((power for power in (3, 2, 1) if bits >= 1000**power), 0)
+    return f"bits a second: {_decimal(bits / 1000**power)} {('', 'k', 'M', 'G')[power]}bit/s, where a byte has 8"
 
 
 def _in_full(name: str, amount: Fraction) -> str:

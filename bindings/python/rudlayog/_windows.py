@@ -4,7 +4,7 @@ from __future__ import annotations
 
 from bisect import bisect_left, bisect_right
 from collections.abc import Iterator, Sequence
-from itertools import combinations
+from itertools import combinations, pairwise
 from typing import TYPE_CHECKING, NamedTuple
 
 from ._flows import Contact
@@ -56,14 +56,22 @@ def rooms_of(group: Sequence[Contact], edges: Sequence[int], limited: Sequence[i
     windows = [sum(column) for column in zip(*sends)]
     limits = {channel: [sum(column) for column in zip(*columns)] for channel, columns in rows.items()}
     if len(group) > 1 and limited:
-        for step, window in enumerate(windows):
-            used = [place for place, column in enumerate(sends) if column[step]]
-            if len(used) > 1:
+        for step, (begin, end) in enumerate(pairwise(times)):
+            there = [place for place, it in enumerate(group) if it.sends.begin < end and begin < it.sends.end]
+            if len(there) > 1:
                 links = [
-                    (sends[place][step], {channel: rows[channel][place][step] for channel in limited}) for place in used
+                    _link(sends[place][step], {each: rows[each][place][step] for each in limited}) for place in there
                 ]
-                windows[step] = _sent_by_all(links, window, {channel: limits[channel][step] for channel in limited})
+                for channel in limited:
+                    limits[channel][step] = sum(own[channel] for _, own in links)
+                windows[step] = _sent_by_all(links, windows[step], {each: limits[each][step] for each in limited})
     return Rooms(first, windows, limits)
+
+
+def _link(window: int, limits: dict[int, int]) -> Link:
+    """A link in a step. Rounding may count a unit more of a channel there than of its link, which sends no more than
+    its window."""
+    return window, {channel: min(units, window) for channel, units in limits.items()}
 
 
 def windows_of(

@@ -12,6 +12,7 @@ from pathlib import Path
 from typing import Any, TypeVar
 
 from . import _library
+from ._brief import brief
 from ._data import Packet, Text
 from .forecasts import Forecast, ForecastLike, forecast_octets
 from .plans import Plan, PlanLike, plan_octets, request_octets
@@ -23,6 +24,7 @@ PLACED = ("bad stretch", "bad count")
 LEAST = tuple(KINDS[kind] for kind in _library.LEAST)
 
 
+@brief
 @dataclass(frozen=True)
 class Verdict:
     """A verdict on a plan: its `kind`, and its `line`. It is true where the plan loses least, and also where of its first stores it loses least
@@ -42,6 +44,7 @@ class Verdict:
         return self.kind in LEAST
 
 
+@brief
 @dataclass(frozen=True)
 class Chart:
     """A chart, which a notebook shows: `svg` is a document of Scalable Vector Graphics (SVG) 1.1."""
@@ -56,6 +59,7 @@ class Chart:
         Path(path).write_text(self.svg, encoding="utf-8", newline="")
 
 
+@brief
 @dataclass(frozen=True)
 class PlanTable:
     """What each step of a plan does to each store: `text`, comma separated values."""
@@ -76,6 +80,7 @@ class PlanTable:
         Path(path).write_text(self.text, encoding="utf-8", newline="")
 
 
+@brief
 @dataclass(frozen=True)
 class Worth:
     """What a number of a problem is worth, in blocks: the window of the `step`, the size of the store `name`, or the limit of the channel
@@ -92,6 +97,7 @@ class Worth:
     without: int
 
 
+@brief
 @dataclass(frozen=True)
 class Replies:
     """What answers requests, or says packets in words: `text`, and `all_done`, whether nothing was refused."""

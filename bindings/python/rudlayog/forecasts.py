@@ -11,6 +11,7 @@ from itertools import chain
 from typing import Any, SupportsIndex, TypeVar, Union
 
 from . import _library
+from ._brief import brief
 from ._data import LIMIT, STEP, WINDOW, Column, Columns, Table, Text, is_text, numbers, octets, whole
 from ._steps import by_step
 from .setups import setup_with
@@ -18,6 +19,7 @@ from .setups import setup_with
 Made = TypeVar("Made")
 
 
+@brief
 @dataclass(frozen=True, eq=False)
 class Forecast:
     """A forecast: `windows`, how many blocks may leave all stores together in each step, `arrivals`, what arrives in

@@ -17,9 +17,12 @@ from __future__ import annotations
 from collections.abc import Callable
 from dataclasses import dataclass
 from fractions import Fraction
-from functools import cached_property
+from functools import cache, cached_property
 from typing import TYPE_CHECKING, Any
 
+from ._any_steps import least_in_any_steps
+from ._brief import brief
+from ._files import Forms, table_forms
 from ._timeline import Problem, problem_of
 from ._units import fault
 from .calls import Verdict, check, plan
@@ -39,6 +42,7 @@ MOST_GROWTH, MOST_SHRINK = 1_000_000, 1000
 POINTS = 40
 
 
+@brief
 @dataclass(frozen=True)
 class Point:
     """A mission with more that arrives, or with smaller stores, by some `percent`: its texts, and a least plan, which
@@ -55,20 +59,29 @@ class Point:
         """The packets that the plan loses, as many of the longest ones."""
         return self.plan.loss * self.unit
 
+    @property
+    def in_any_steps(self) -> int:
+        """The packets that are lost in whatever steps, but for rounding, as many of the longest ones."""
+        return least_in_any_steps(self.plan.cut, self.forecast) * self.unit
+
     def check(self) -> Verdict:
         """The verdict on the plan."""
         return check(self.setup, self.forecast, self.plan)
 
 
+@brief
 @dataclass(frozen=True)
 class Room:
-    """The greatest percentage, with one decimal, at which no more is lost than today, with its point; and the point
-    `beyond` it, a tenth further, whose cut shows that more is lost. There is none where even the most that is looked at
-    loses no more."""
+    """The greatest percentage, with one decimal, at which no more is lost than today in the mission's steps, with its
+    point; and the point `beyond` it, a tenth further, whose cut shows that more is lost in these steps. In finer steps
+    there may be more room: `at_most` is the greatest percentage at which the cut does not show that more is lost in
+    whatever steps. There is no such point and no such percentage where even the most that is looked at loses no
+    more."""
 
     percent: float
     point: Point
     beyond: Point | None
+    at_most: float | None = None
 
     def check(self) -> Verdict:
         """The verdict on the plan at the greatest percentage."""
@@ -76,7 +89,12 @@ class Room:
 
     def words(self) -> str:
         """The percentage, as it is printed."""
-        return f"{self.percent:.1f} %" if self.beyond is not None else f"{self.percent:.1f} % and more"
+        if self.beyond is None:
+            return f"{self.percent:.1f} % and more"
+        if self.at_most is None:
+            return f"{self.percent:.1f} %, in finer steps perhaps more"
+        more = f", in finer steps perhaps {self.at_most:.1f} %" if self.at_most > self.percent else ""
+        return f"{self.percent:.1f} %{more}"
 
 
 @dataclass(frozen=True, repr=False)
@@ -122,14 +140,15 @@ class Margin:
         return MissionPlan(self.mission, ((self.problem, made),))
 
     def to_dict(self) -> dict[str, list[Any]]:
-        """The table: of growth and of shrinking the percentage, what is lost there, and what is lost a tenth
-        further."""
+        """The table: of growth and of shrinking the percentage, what is lost there, what is lost a tenth further, and
+        up to which percentage finer steps may give room."""
         rooms = {"arrivals grow": self.growth, "stores shrink": self.shrink}
         return {
             "what": list(rooms),
             "percent": [room.percent for room in rooms.values()],
             "loss": [room.point.loss for room in rooms.values()],
             "beyond": [None if room.beyond is None else room.beyond.loss for room in rooms.values()],
+            "at most": [room.at_most for room in rooms.values()],
         }
 
     def text(self) -> str:
@@ -138,6 +157,10 @@ class Margin:
 
         columns = self.to_dict()
         return csv_of(columns, zip(*columns.values()))
+
+    def forms(self) -> Forms:
+        """The forms of a file of the table, by the ending of its name; `.svg` is the picture."""
+        return {**table_forms(self.text, self.to_dict, "Room to spare"), ".svg": lambda: self.plot().svg}
 
     def words(self) -> str:
         """The margin in words."""
@@ -164,24 +187,30 @@ class Margin:
 
 def _room(point_at: Callable[[int], Point], loss: int, most: int) -> Room:
     """The greatest number of tenths of a percent at which no more is lost than this, up to the most."""
-    least, point, above = 0, point_at(0), 8
-    beyond: Point | None = None
-    while beyond is None and least < most:
-        tried = point_at(min(above, most))
-        if tried.loss > loss:
-            beyond = tried
+    looked = cache(point_at)
+    least = _greatest(lambda tenths: looked(tenths).loss <= loss, 0, most)
+    if least == most:
+        return Room(least / 10, looked(least), None)
+    anyhow = _greatest(lambda tenths: looked(tenths).in_any_steps <= loss, least, most)
+    return Room(least / 10, looked(least), looked(least + 1), anyhow / 10 if anyhow < most else None)
+
+
+def _greatest(holds: Callable[[int], bool], least: int, most: int) -> int:
+    """The greatest number from one on, up to another, for which this holds; it holds for the first."""
+    step, above = 8, most + 1
+    while above > most and least < most:
+        tried = min(least + step, most)
+        if holds(tried):
+            least, step = tried, 2 * step
         else:
-            least, point = min(above, most), tried
-            above *= 2
-    above = min(above, most)
-    while beyond is not None and above - least > 1:
+            above = tried
+    while least < most and above - least > 1:
         middle = (least + above) // 2
-        tried = point_at(middle)
-        if tried.loss > loss:
-            above, beyond = middle, tried
+        if holds(middle):
+            least = middle
         else:
-            least, point = middle, tried
-    return Room(least / 10, point, beyond)
+            above = middle
+    return least
 
 
 def _grown(problem: Problem, stores: tuple[str, ...], tenths: int) -> Point:

@@ -10,6 +10,7 @@ from types import TracebackType
 from typing import SupportsIndex
 
 from . import _library
+from ._brief import brief
 from ._data import Packet, packet_octets
 from .calls import texts
 from .refusals import Refusal
@@ -21,6 +22,7 @@ FATES = ("", "kept", "kept over", "lost")
 STORE_KINDS = ("circular", "bounded")
 
 
+@brief
 @dataclass(frozen=True)
 class Fate:
     """What became of a packet that a store did not refuse. Its `kind` is `kept`, `kept over` the oldest packet of a full circular store,
@@ -30,6 +32,7 @@ class Fate:
     time: int | None
 
 
+@brief
 @dataclass(frozen=True)
 class Tally:
     """What became of a packet in the stores that it is routed to: `kept`, how many keep it; `lost`, how many packets are lost by it (itself
@@ -40,6 +43,7 @@ class Tally:
     refused: int
 
 
+@brief
 @dataclass(frozen=True)
 class Retrieval:
     """A retrieval that is on: its `first` and its `last` time, and `after`, the time of the packet that it gave last, 0 where it gave none."""
@@ -49,6 +53,7 @@ class Retrieval:
     after: int
 
 
+@brief
 @dataclass(frozen=True)
 class StoreState:
     """What a store holds and has lost: its `kind`, `circular` or `bounded`, and its `size` in blocks; how many packets were `offered` and not

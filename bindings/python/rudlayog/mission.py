@@ -243,14 +243,15 @@ class Mission:
             return self
         return remade(self, moments=problem.times, unit=problem.unit.count)
 
-    def changed(self, changes: ChangesLike) -> Mission:
+    def changed(self, changes: ChangesLike, *, split: bool = False) -> Mission:
         """The mission with one of the changes of `rudlayog.study` or several, one after the other, in any order. It
         keeps the steps and the unit in which this one is planned, so that losses can be compared; where a pass begins
-        or ends at another time, a step does too. A study answers what this mission loses when it is planned anew.
+        or ends at another time, a step does too. With `split` its steps are split again, where more than half a percent
+        of what it loses may come from them: a study answers what this mission loses when it is planned anew.
         Raises `MissionError` where changes do not go together."""
         from .variants import changed
 
-        return changed(self, changes)
+        return changed(self, changes, split)
 
     def the_pass(self, name: str) -> Pass:
         """The pass of this name."""
@@ -268,8 +269,10 @@ class Mission:
         if not self.begin <= begin < end <= self.end:
             meant = f"a part of the mission, which goes from {written(self.begin)} to {written(self.end)}"
             raise fault("", f"the time from {written(begin)} to {written(end)}", meant)
+        if not isinstance(holds or {}, Mapping):
+            raise fault("holds", holds, 'what stores hold, as {"CAM": "231 MB"}')
         held = dict(holds or {})
-        strange = set(held) - {store.id for store in self.stores}
+        strange = {str(name) for name in held} - {store.id for store in self.stores}
         if strange:
             raise fault(
                 "",

@@ -10,7 +10,7 @@ from collections.abc import Mapping, Sequence
 from datetime import datetime, timedelta
 from html import escape
 from pathlib import Path
-from typing import TYPE_CHECKING, Any
+from typing import TYPE_CHECKING, Any, NamedTuple
 
 from .calls import chart
 from .plans import Certificate, Cut, Plan, Stretch
@@ -28,6 +28,10 @@ TICKS = (5, 10, 15, 30, *(60 * hours for hours in (1, 2, 3, 6, 12, 24, 48, 96, 1
 LEFT, NUMBERS = 180, 96
 # The most ranges of time that fit into a line.
 MOST_RANGES = 5
+# What a headline says: that so many blocks are lost, and what that is worth; and what a chart says of a cut.
+_HEADLINE = re.compile(r"(?<=<text class='h' x='16' y='30'>)([^<]* blocks are lost)(?:, and no plan|; this cut)[^<]*")
+_WHY = re.compile(r"<text class='h' x='\d+' y='\d+'>Why no plan loses fewer than .*?(?=</svg>)", re.DOTALL)
+_VIEW = re.compile(r"<svg[^>]* viewBox='0 0 ([\d.]+) ([\d.]+)'")
 _AXIS = re.compile(r"<text class='k' x='[\d.]+' y='96'>\d+</text>\n<path class='i' d='M[\d.]+ (\d+)V(\d+)'/>\n")
 _WIDTH = re.compile(r"<rect class='o' x='180' y='\d+' width='(\d+)'")
 _PATH = re.compile(r"(?<= d=')[^']*(?=')")
@@ -35,11 +39,14 @@ _ACROSS = re.compile(r"([MH])(-?[\d.]+)")
 _RANGES = re.compile(r"(?<=>)In steps? ((?:\d+(?:&#8211;\d+)?, )+)")
 
 
-def chart_of(problem: Problem, made: Plan) -> str:
+def chart_of(problem: Problem, made: Plan, part: int | None = None, of: int | None = None) -> str:
     """The program's chart of a plan, whose axis is the time: steps are as wide as they are long, and UTC stands above
-    them."""
+    them. Where it is of one `part` of a plan, of so many steps `of` those that the part was planned with, its headline
+    says no more than that."""
     problem, made = _shown(problem, made)
     drawn = chart(problem.setup, problem.forecast, made).svg
+    if part is not None:
+        drawn = _of_part(drawn, is_whole=part == of)
     first, found = _AXIS.search(drawn), _WIDTH.search(drawn)
     if first is None or found is None:
         return drawn
@@ -64,6 +71,27 @@ def chart_of(problem: Problem, made: Plan) -> str:
         + _utc_axis(problem.times, width, first[1], first[2])
         + _RANGES.sub(lambda ranges: _times_of(ranges, problem), moved)
     )
+
+
+def _of_part(drawn: str, is_whole: bool) -> str:
+    """The chart of a part of a plan. What is lost in it is least from what the part before leaves, where the part looks
+    no further ahead; else nothing is said of other plans."""
+    if is_whole:
+        return _HEADLINE.sub(r"In this part \1, and from what the part before leaves no plan loses fewer", drawn)
+    return _WHY.sub("", _HEADLINE.sub(r"In this part, which looks further ahead, \1", drawn))
+
+
+def above_one_another(charts: Sequence[str]) -> str:
+    """Some documents of SVG as one."""
+    top, parts, wide = 0.0, [], 0.0
+    for chart_text in charts:
+        found = _VIEW.search(chart_text)
+        width, height = (float(found[1]), float(found[2])) if found else (960.0, 480.0)
+        begin = chart_text.index("<svg") + len("<svg")
+        parts.append(f"<svg x='0' y='{top:g}' width='{width:g}' height='{height:g}'{chart_text[begin:]}")
+        top, wide = top + height, max(wide, width)
+    head = f"<svg xmlns='http://www.w3.org/2000/svg' version='1.1' viewBox='0 0 {wide:g} {top:g}'>"
+    return "\n".join([head, *parts, "</svg>", ""])
 
 
 def _shown(problem: Problem, made: Plan) -> tuple[Problem, Plan]:
@@ -145,6 +173,16 @@ class Picture:
     def _repr_svg_(self) -> str:
         return self.svg
 
+    def octets(self, kind: str) -> bytes:
+        """The picture as a file: of this ending with matplotlib, else as .svg alone."""
+        if kind == ".svg":
+            return self.svg.encode()
+        if self.figure is None:
+            raise ValueError(f"{kind}: without matplotlib there is SVG alone")
+        octets = io.BytesIO()
+        self.figure.savefig(octets, format=kind.removeprefix("."))
+        return octets.getvalue()
+
     def save(self, path: str | os.PathLike[str]) -> None:
         """Writes the picture into a file: as SVG, or with matplotlib as its name says."""
         if self.figure is not None:
@@ -207,8 +245,43 @@ def line_picture(points: Sequence[tuple[float, int]], mark: float, title: str, b
     return Picture(_svg(left + width + 40, top + height + 52, title, lines))
 
 
-def picture_of(study: Study, parameters: Sequence[str] = (), matplotlib: bool | None = None) -> Picture:
+class _Losses(NamedTuple):
+    """What a picture shows: some variants of a study with what they lose, in `blocks` or `MB`, beside the `base`."""
+
+    answers: list[Answer]
+    losses: dict[int, float]
+    base: float | None
+    unit: str
+
+    @classmethod
+    def of(cls, study: Study, answers: Sequence[Answer], unit: str) -> _Losses:
+        """Those of a study."""
+        value = study.mb if unit == "MB" else lambda answer: answer.loss
+        found = [(answer, value(answer)) for answer in answers]
+        losses = {id(answer): loss for answer, loss in found if loss is not None}
+        return cls([answer for answer, _ in found if id(answer) in losses], losses, value(study.base), unit)
+
+    def loss(self, answer: Answer) -> float:
+        """What a variant loses."""
+        return self.losses[id(answer)]
+
+    def words(self, loss: float) -> str:
+        """A loss as it is printed."""
+        return f"{loss:,.3f}" if self.unit == "MB" else f"{loss:,}"
+
+    def sorted(self, parameters: Sequence[str]) -> _Losses:
+        """The same by the parameter, or the greatest loss first."""
+        return self._replace(answers=_sorted(self, parameters))
+
+
+def picture_of(
+    study: Study, parameters: Sequence[str] = (), matplotlib: bool | None = None, unit: str = "blocks"
+) -> Picture:
     """The picture of a study: by matplotlib where it is installed, unless `matplotlib` says otherwise."""
+    if unit not in ("blocks", "MB"):
+        raise ValueError(f"the unit is {unit!r}, and can be blocks or MB")
+    if unit == "MB" and not study.octets:
+        raise ValueError("a study of a setup and a forecast does not know the octets of packets, and counts in blocks")
     answers = [answer for answer in study if answer.loss is not None]
     for name in parameters:
         if not any(name in answer.parameters for answer in answers):
@@ -219,6 +292,7 @@ def picture_of(study: Study, parameters: Sequence[str] = (), matplotlib: bool | 
     answers = [answer for answer in answers if all(name in answer.parameters for name in parameters)]
     if len(parameters) > 2:
         raise ValueError("a picture has one or two parameters")
+    losses = _Losses.of(study, answers, unit)
     if matplotlib is not False:
         try:
             from matplotlib.figure import Figure  # type: ignore[import]
@@ -227,16 +301,17 @@ def picture_of(study: Study, parameters: Sequence[str] = (), matplotlib: bool | 
                 raise
         else:
             height = 4 if parameters else 3 + 0.2 * min(len(answers), MOST_BARS)
-            return _by_matplotlib(Figure(figsize=(10, height), layout="constrained"), study, answers, parameters)
+            return _by_matplotlib(Figure(figsize=(10, height), layout="constrained"), losses, parameters)
     if len(parameters) == 2:
-        return Picture(_map_svg(answers, parameters))
-    return Picture(_bars_svg(study, _sorted(answers, parameters), parameters))
+        return Picture(_map_svg(losses, parameters))
+    return Picture(_bars_svg(losses.sorted(parameters), parameters))
 
 
-def _sorted(answers: list[Answer], parameters: Sequence[str]) -> list[Answer]:
+def _sorted(losses: _Losses, parameters: Sequence[str]) -> list[Answer]:
     """The answers by the parameter, or the greatest loss first."""
+    answers = losses.answers
     if not parameters:
-        return sorted(answers, key=lambda answer: -(answer.loss or 0))
+        return sorted(answers, key=lambda answer: -losses.loss(answer))
     values = [answer.parameters[parameters[0]] for answer in answers]
     try:
         return [
@@ -247,76 +322,85 @@ def _sorted(answers: list[Answer], parameters: Sequence[str]) -> list[Answer]:
 
 
 def _axes_of(
-    answers: list[Answer], parameters: Sequence[str]
-) -> tuple[list[Any], list[Any], dict[tuple[Any, Any], int]]:
+    losses: _Losses, parameters: Sequence[str]
+) -> tuple[list[Any], list[Any], dict[tuple[Any, Any], float]]:
     """The values of two parameters, and the loss at each pair of them."""
-    first, second = ([*dict.fromkeys(answer.parameters[name] for answer in answers)] for name in parameters)
+    first, second = ([*dict.fromkeys(answer.parameters[name] for answer in losses.answers)] for name in parameters)
     return (
         first,
         second,
-        {(answer.parameters[parameters[0]], answer.parameters[parameters[1]]): answer.loss or 0 for answer in answers},
+        {
+            (answer.parameters[parameters[0]], answer.parameters[parameters[1]]): losses.loss(answer)
+            for answer in losses.answers
+        },
     )
 
 
-def _by_matplotlib(figure: Any, study: Study, answers: list[Answer], parameters: Sequence[str]) -> Picture:
+def _by_matplotlib(figure: Any, given: _Losses, parameters: Sequence[str]) -> Picture:
     axes = figure.add_subplot()
     if len(parameters) == 2:
-        first, second, losses = _axes_of(answers, parameters)
+        first, second, losses = _axes_of(given, parameters)
         fields = [[losses.get((x, y), float("nan")) for x in first] for y in second]
         image = axes.imshow(fields, origin="lower", aspect="auto", cmap="OrRd")
         axes.set_xticks(range(len(first)), [str(value) for value in first])
         axes.set_yticks(range(len(second)), [str(value) for value in second])
         axes.set_xlabel(parameters[0])
         axes.set_ylabel(parameters[1])
-        figure.colorbar(image, label="blocks lost")
+        figure.colorbar(image, label=f"{given.unit} lost")
     elif parameters:
-        shown = _sorted(answers, parameters)
+        shown = given.sorted(parameters).answers
         values = [answer.parameters[parameters[0]] for answer in shown]
         # several answers for one value are points, and no line
         style = "-" if len(values) == len(set(map(str, values))) else ""
-        axes.plot(values, [answer.loss for answer in shown], marker="o", linestyle=style, color="#c4161c")
+        axes.plot(values, list(map(given.loss, shown)), marker="o", linestyle=style, color="#c4161c")
         axes.set_xlabel(parameters[0])
-        axes.set_ylabel("blocks lost")
+        axes.set_ylabel(f"{given.unit} lost")
         axes.set_ylim(bottom=0)
     else:
-        shown = _sorted(answers, ())[:MOST_BARS][::-1]
-        axes.barh([answer.name for answer in shown], [answer.loss for answer in shown], color="#2f6fb0")
-        axes.set_xlabel("blocks lost")
-    if len(parameters) < 2 and study.base.loss is not None:
+        shown = given.sorted(()).answers[:MOST_BARS][::-1]
+        axes.barh([answer.name for answer in shown], list(map(given.loss, shown)), color="#2f6fb0")
+        axes.set_xlabel(f"{given.unit} lost")
+    if len(parameters) < 2 and given.base is not None:
         line = axes.axhline if parameters else axes.axvline
-        line(study.base.loss, color="#444", linestyle="--", label=f"as it is: {study.base.loss:,}")
+        line(given.base, color="#444", linestyle="--", label=f"as it is: {given.words(given.base)}")
         axes.legend()
     text = io.StringIO()
     figure.savefig(text, format="svg")
     return Picture(text.getvalue(), figure)
 
 
-def _bars_svg(study: Study, answers: list[Answer], parameters: Sequence[str]) -> str:
+def _bars_svg(given: _Losses, parameters: Sequence[str]) -> str:
     """Bars with the loss of each variant, as SVG, in the colours of the program's chart."""
-    shown = answers[:MOST_BARS]
-    most = max([answer.loss or 0 for answer in shown] + [study.base.loss or 0, 1])
+    shown = given.answers[:MOST_BARS]
+    lost = given.base or 0
+    most = max([*map(given.loss, shown), lost, 1 if given.unit == "blocks" else 1e-3])
     left = 24 + 7 * max([len(_named(answer, parameters)) for answer in shown] + [9])
     height = 64 + 18 * len(shown)
     lines = []
     for place, answer in enumerate(shown):
         y = 48 + 18 * place
-        width = 640 * (answer.loss or 0) / most
+        loss = given.loss(answer)
+        width = 640 * loss / most
         lines.append(f"<text x='{left - 8}' y='{y + 11}' text-anchor='end'>{escape(_named(answer, parameters))}</text>")
         lines.append(f"<rect x='{left}' y='{y}' width='{width:.1f}' height='14' fill='#2f6fb0'/>")
-        lines.append(f"<text x='{left + width + 6:.1f}' y='{y + 11}'>{answer.loss:,}</text>")
-    base = left + 640 * (study.base.loss or 0) / most
+        lines.append(f"<text x='{left + width + 6:.1f}' y='{y + 11}'>{given.words(loss)}</text>")
+    base = left + 640 * lost / most
     lines.append(f"<path d='M{base:.1f} 40V{height - 12}' stroke='#c4161c' stroke-dasharray='4 3' fill='none'/>")
     lines.append(
-        f"<text x='{base:.1f}' y='34' fill='#c4161c' text-anchor='middle'>as it is: {study.base.loss or 0:,}</text>"
+        f"<text x='{base:.1f}' y='34' fill='#c4161c' text-anchor='middle'>as it is: {given.words(lost)}</text>"
     )
-    more = f", the {len(shown)} greatest of {len(answers)}" if len(shown) < len(answers) else ""
-    return _svg(left + 740, height, f"Blocks lost{more}", lines)
+    more = f", the {len(shown)} greatest of {len(given.answers)}" if len(shown) < len(given.answers) else ""
+    return _svg(left + 740, height, f"{_lost_in(given.unit)}{more}", lines)
 
 
-def _map_svg(answers: list[Answer], parameters: Sequence[str]) -> str:
+def _lost_in(unit: str) -> str:
+    return "Blocks lost" if unit == "blocks" else f"{unit} lost"
+
+
+def _map_svg(given: _Losses, parameters: Sequence[str]) -> str:
     """A field for each pair of values, with the loss in it, as SVG."""
-    first, second, losses = _axes_of(answers, parameters)
-    most = max([*losses.values(), 1])
+    first, second, losses = _axes_of(given, parameters)
+    most = max([*losses.values(), 1 if given.unit == "blocks" else 1e-3])
     lines = []
     for column, x in enumerate(first):
         lines.append(
@@ -335,14 +419,14 @@ def _map_svg(answers: list[Answer], parameters: Sequence[str]) -> str:
                 ink = "#fff" if shade > 0.6 else "#111"
                 lines.append(
                     f"<text x='{130 + 70 * column}' y='{67 + 30 * row}' text-anchor='middle' "
-                    f"fill='{ink}'>{losses[x, y]:,}</text>"
+                    f"fill='{ink}'>{given.words(losses[x, y])}</text>"
                 )
     lines.append(
         f"<text x='{96 + 35 * len(first)}' y='{92 + 30 * len(second)}' text-anchor='middle' "
         f"font-weight='bold'>{escape(parameters[0])}</text>"
     )
     lines.append(f"<text x='16' y='40' font-weight='bold'>{escape(parameters[1])}</text>")
-    return _svg(120 + 70 * len(first), 104 + 30 * len(second), "Blocks lost", lines)
+    return _svg(120 + 70 * len(first), 104 + 30 * len(second), _lost_in(given.unit), lines)
 
 
 def _named(answer: Answer, parameters: Sequence[str]) -> str:

@@ -10,6 +10,7 @@ from functools import cached_property
 from typing import TYPE_CHECKING, Any, SupportsIndex, TypeVar, Union
 
 from . import _library
+from ._brief import brief
 from ._data import STEP, Columns, Table, Text, is_text, octets, packet_octets, whole
 from ._steps import by_step
 from .forecasts import Forecast
@@ -26,6 +27,7 @@ Made = TypeVar("Made")
 MOST_STEPS = 256
 
 
+@brief
 @dataclass(frozen=True)
 class Stretch:
     """A run of steps of a `store` in a cut, from the step `first` to the step `last`, both included."""
@@ -35,6 +37,7 @@ class Stretch:
     last: int
 
 
+@brief
 @dataclass(frozen=True)
 class Cut:
     """A cut: its `stretches`, the inner steps `by_channels`, in which the limits of the channels count and not the
@@ -45,6 +48,7 @@ class Cut:
     bound: int
 
 
+@brief
 @dataclass(frozen=True)
 class Certificate:
     """What shows that no plan that fits loses less of the first stores of a setup: how many `stores` they are, their

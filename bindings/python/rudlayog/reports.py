@@ -18,6 +18,7 @@ from dataclasses import dataclass
 from typing import Union
 
 from . import _library
+from ._brief import brief
 from ._data import Packet, packet_octets
 from .requests import TYPES, Configuration
 
@@ -25,6 +26,7 @@ from .requests import TYPES, Configuration
 _ROOM = 255
 
 
+@brief
 @dataclass(frozen=True)
 class ReportType:
     """A report type that a store keeps: telemetry of this `apid`, `service` and `subtype`."""
@@ -34,6 +36,7 @@ class ReportType:
     subtype: int
 
 
+@brief
 @dataclass(frozen=True)
 class Summary:
     """What a `store` holds: the storage times of its `oldest` and its `newest` packet, in ticks, both 0 where it is empty, and how many
@@ -45,6 +48,7 @@ class Summary:
     held: int
 
 
+@brief
 @dataclass(frozen=True)
 class Status:
     """Whether the `storage` of a `store` is on, and whether a `retrieval` from it is: 0 off, 1 on."""
@@ -54,6 +58,7 @@ class Status:
     retrieval: int
 
 
+@brief
 @dataclass(frozen=True, kw_only=True)
 class Report:
     """What each report has: its `moment`, that of the request which it answers, in ticks; and of its packet the `apid`, the sequence `count`,
@@ -75,6 +80,7 @@ class Report:
         return _MADE[told.subtype](told, entries)
 
 
+@brief
 @dataclass(frozen=True, kw_only=True)
 class Control(Report):
     """Subtype 6: the storage control of a `store`: the report types that it keeps, as `rows`."""
@@ -83,6 +89,7 @@ class Control(Report):
     rows: tuple[ReportType, ...]
 
 
+@brief
 @dataclass(frozen=True, kw_only=True)
 class Summaries(Report):
     """Subtype 13: summaries of the content of stores, as `entries`."""
@@ -90,6 +97,7 @@ class Summaries(Report):
     entries: tuple[Summary, ...]
 
 
+@brief
 @dataclass(frozen=True, kw_only=True)
 class Statuses(Report):
     """Subtype 19: the status of each store, as `entries`."""
@@ -97,6 +105,7 @@ class Statuses(Report):
     entries: tuple[Status, ...]
 
 
+@brief
 @dataclass(frozen=True, kw_only=True)
 class Configurations(Report):
     """Subtype 23: the configuration of each store, as `entries`."""

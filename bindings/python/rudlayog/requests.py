@@ -18,6 +18,7 @@ from dataclasses import KW_ONLY, dataclass
 from typing import Any, ClassVar
 
 from . import _library
+from ._brief import brief
 from ._data import is_text
 from .setups import Route
 
@@ -25,6 +26,7 @@ from .setups import Route
 TYPES = ("circular", "bounded")
 
 
+@brief
 @dataclass(frozen=True)
 class TimeRange:
     """Storage times of a `store`, in ticks: from the `first` to the `last`, both included."""
@@ -34,6 +36,7 @@ class TimeRange:
     last: int
 
 
+@brief
 @dataclass(frozen=True)
 class TimeLimit:
     """Storage times of a `store`, in ticks: those up to the `last`."""
@@ -42,6 +45,7 @@ class TimeLimit:
     last: int
 
 
+@brief
 @dataclass(frozen=True)
 class Configuration:
     """A `store` with its `size` in blocks, its `type`, `circular` or `bounded`, and its virtual `channel`. A type that is neither has its
@@ -53,6 +57,7 @@ class Configuration:
     channel: int = 0
 
 
+@brief
 @dataclass(frozen=True)
 class Size:
     """A `size` in blocks for a `store`."""
@@ -61,6 +66,7 @@ class Size:
     size: int
 
 
+@brief
 @dataclass(frozen=True)
 class Channel:
     """A virtual `channel` for a `store`."""
@@ -73,6 +79,7 @@ class Channel:
 Instruction = str | Route | TimeRange | TimeLimit | Configuration | Size | Channel
 
 
+@brief
 @dataclass(frozen=True)
 class Request:
     """What each request has: the `apid` of the storage service, the packet sequence `count`, the `source` identifier, and the
@@ -112,6 +119,7 @@ class Request:
         return self.write()
 
 
+@brief
 @dataclass(frozen=True)
 class _OfStores(Request):
     """A request on `stores`, of which each is named by its identifier."""
@@ -121,6 +129,7 @@ class _OfStores(Request):
     _LISTED: ClassVar[tuple[str, type] | None] = ("stores", str)
 
 
+@brief
 @dataclass(frozen=True)
 class _OfRoutes(Request):
     """A request on `routes` of the storage control."""
@@ -130,6 +139,7 @@ class _OfRoutes(Request):
     _LISTED: ClassVar[tuple[str, type] | None] = ("routes", Route)
 
 
+@brief
 @dataclass(frozen=True)
 class EnableStorage(_OfStores):
     """Subtype 1: switches the storage of `stores` on."""
@@ -137,6 +147,7 @@ class EnableStorage(_OfStores):
     SUBTYPE: ClassVar[int] = 1
 
 
+@brief
 @dataclass(frozen=True)
 class DisableStorage(_OfStores):
     """Subtype 2: switches the storage of `stores` off."""
@@ -144,6 +155,7 @@ class DisableStorage(_OfStores):
     SUBTYPE: ClassVar[int] = 2
 
 
+@brief
 @dataclass(frozen=True)
 class AddReportTypes(_OfRoutes):
     """Subtype 3: adds report types to the storage control. Each of the `routes` has its report type and its store."""
@@ -151,6 +163,7 @@ class AddReportTypes(_OfRoutes):
     SUBTYPE: ClassVar[int] = 3
 
 
+@brief
 @dataclass(frozen=True)
 class DeleteReportTypes(_OfRoutes):
     """Subtype 4: deletes report types from the storage control. Each of the `routes` has its report type and its store."""
@@ -158,6 +171,7 @@ class DeleteReportTypes(_OfRoutes):
     SUBTYPE: ClassVar[int] = 4
 
 
+@brief
 @dataclass(frozen=True)
 class ReportControl(_OfStores):
     """Subtype 5: asks for a report of the storage control of each of the `stores`, a `reports.Control`."""
@@ -165,6 +179,7 @@ class ReportControl(_OfStores):
     SUBTYPE: ClassVar[int] = 5
 
 
+@brief
 @dataclass(frozen=True)
 class StartRetrieval(Request):
     """Subtype 9: starts a retrieval of each of the `ranges` of storage times."""
@@ -175,6 +190,7 @@ class StartRetrieval(Request):
     _LISTED: ClassVar[tuple[str, type] | None] = ("ranges", TimeRange)
 
 
+@brief
 @dataclass(frozen=True)
 class DeleteContent(Request):
     """Subtype 11: deletes content up to each of the `limits` of storage times."""
@@ -185,6 +201,7 @@ class DeleteContent(Request):
     _LISTED: ClassVar[tuple[str, type] | None] = ("limits", TimeLimit)
 
 
+@brief
 @dataclass(frozen=True)
 class SummariseContent(_OfStores):
     """Subtype 12: asks for a summary of the content of `stores`, a `reports.Summaries`."""
@@ -192,6 +209,7 @@ class SummariseContent(_OfStores):
     SUBTYPE: ClassVar[int] = 12
 
 
+@brief
 @dataclass(frozen=True)
 class AbortRetrieval(_OfStores):
     """Subtype 17: aborts the retrievals from `stores`."""
@@ -199,6 +217,7 @@ class AbortRetrieval(_OfStores):
     SUBTYPE: ClassVar[int] = 17
 
 
+@brief
 @dataclass(frozen=True)
 class ReportStatus(Request):
     """Subtype 18: asks for the status of each store, a `reports.Statuses`."""
@@ -206,6 +225,7 @@ class ReportStatus(Request):
     SUBTYPE: ClassVar[int] = 18
 
 
+@brief
 @dataclass(frozen=True)
 class CreateStores(Request):
     """Subtype 20: creates stores of these `configurations`. Their storage is off."""
@@ -216,6 +236,7 @@ class CreateStores(Request):
     _LISTED: ClassVar[tuple[str, type] | None] = ("configurations", Configuration)
 
 
+@brief
 @dataclass(frozen=True)
 class DeleteStores(_OfStores):
     """Subtype 21: deletes `stores`, with what they hold."""
@@ -223,6 +244,7 @@ class DeleteStores(_OfStores):
     SUBTYPE: ClassVar[int] = 21
 
 
+@brief
 @dataclass(frozen=True)
 class ReportConfiguration(Request):
     """Subtype 22: asks for the configuration of each store, a `reports.Configurations`."""
@@ -230,6 +252,7 @@ class ReportConfiguration(Request):
     SUBTYPE: ClassVar[int] = 22
 
 
+@brief
 @dataclass(frozen=True)
 class ResizeStores(Request):
     """Subtype 25: gives stores these `sizes`."""
@@ -240,6 +263,7 @@ class ResizeStores(Request):
     _LISTED: ClassVar[tuple[str, type] | None] = ("sizes", Size)
 
 
+@brief
 @dataclass(frozen=True)
 class ChangeToCircular(_OfStores):
     """Subtype 26: changes the type of `stores` to circular."""
@@ -247,6 +271,7 @@ class ChangeToCircular(_OfStores):
     SUBTYPE: ClassVar[int] = 26
 
 
+@brief
 @dataclass(frozen=True)
 class ChangeToBounded(_OfStores):
     """Subtype 27: changes the type of `stores` to bounded."""
@@ -254,6 +279,7 @@ class ChangeToBounded(_OfStores):
     SUBTYPE: ClassVar[int] = 27
 
 
+@brief
 @dataclass(frozen=True)
 class ChangeChannel(Request):
     """Subtype 28: gives stores these virtual `channels`."""

@@ -10,12 +10,14 @@ from functools import cached_property
 from typing import Any, SupportsIndex, TypeVar, Union
 
 from . import _library
+from ._brief import brief
 from ._data import Records, Text, is_text, listed, named_values, octets, rows, whole
 from .refusals import Refusal
 
 Row = TypeVar("Row", "Store", "Route", "Limit")
 
 
+@brief
 @dataclass(frozen=True)
 class Store:
     """A packet store: its identifier `id`, its `size` in blocks, its `type`, `bounded` or `circular`, its virtual `channel`, and at its
@@ -28,6 +30,7 @@ class Store:
     start: int = 0
 
 
+@brief
 @dataclass(frozen=True)
 class Route:
     """Telemetry of this `apid`, `service` and `subtype` goes into the `store`."""
@@ -38,6 +41,7 @@ class Route:
     store: str
 
 
+@brief
 @dataclass(frozen=True)
 class Limit:
     """At most this many `blocks` leave the stores of the `channel` together in one step."""
@@ -52,6 +56,7 @@ Routes = Union[Records, Iterable[Route]]
 Limits = Union[Records, Iterable[Limit]]
 
 
+@brief
 @dataclass(frozen=True)
 class Setup:
     """A setup: its `stores`, its `routes` and its `limits`. The library judges it when it is used: a setup that is not allowed can be

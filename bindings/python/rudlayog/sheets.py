@@ -9,9 +9,10 @@ from dataclasses import dataclass
 from datetime import datetime, timedelta
 from fractions import Fraction
 from functools import cached_property
-from pathlib import Path
 from typing import TYPE_CHECKING, Any, TypeVar, overload
 
+from ._brief import brief
+from ._files import Forms, save_as, workbook_of
 from ._flown import Flown, first_steps, flown_of
 from ._flows import arrivals_of, came, micro, use_of
 from ._sharing import shared as shared
@@ -28,9 +29,12 @@ if TYPE_CHECKING:
 
 Made = TypeVar("Made")
 BEFORE = "before the first pass"
+# How many parts a plan has at most.
+MOST_PARTS = 10_000
 COLUMNS = ("pass", "station", "begin", "end", "store", "blocks", "MB", "minutes", "before", "after", "lost", "lost MB")
 
 
+@brief
 @dataclass(frozen=True)
 class Row:
     """What a pass does to a store: the `blocks` that leave it, their megabytes `mb`, the `minutes` that the link needs
@@ -112,16 +116,30 @@ class Sheet(Sequence[Row]):
 
         return page(self)
 
+    def forms(self) -> Forms:
+        """The forms of a file of the sheet, by the ending of its name."""
+        return {
+            ".csv": self.text,
+            ".md": self.markdown,
+            ".html": self.html,
+            ".xlsx": lambda: workbook_of(self.to_dict()),
+        }
+
     def save(self, path: str | os.PathLike[str]) -> None:
-        """Writes the sheet into a file: as .csv, .md or .html, by its name."""
-        forms = {".csv": self.text, ".md": self.markdown, ".html": self.html}
-        kind = Path(path).suffix
-        if kind not in forms:
-            raise fault("", f"the file {os.fspath(path)}", f"a name that ends in {', '.join(forms)}")
-        Path(path).write_text(forms[kind](), encoding="utf-8", newline="")
+        """Writes the sheet into a file: as .csv, .md, .html or .xlsx, by its name."""
+        save_as(path, self.forms())
 
     def _repr_html_(self) -> str:
         return html_of(dict(zip(COLUMNS, zip(*map(_printed, self.rows)))), most=len(self.rows))
+
+
+def look_at_horizon(mission: Mission, horizon: timedelta) -> None:
+    """Raises `MissionError` where the parts of this length are too many."""
+    span = mission.end - mission.begin
+    if span > MOST_PARTS * horizon:
+        least = timedelta(seconds=-(-span // (MOST_PARTS * timedelta(seconds=1))))
+        meant = f"at least {least}, which makes {MOST_PARTS:,} parts"
+        raise fault("horizon", f"{horizon}, for a mission of {span}", meant)
 
 
 def _markdown(names: Sequence[str], words: int, rows: Iterable[Iterable[object]]) -> str:
@@ -162,6 +180,7 @@ class MissionPlan:
         stores in order or not."""
         if horizon is None:
             return cls.of_problem(mission.problem(step), in_order)
+        look_at_horizon(mission, horizon)
         ahead = horizon if look is None else look
         parts: list[tuple[Problem, Plan]] = []
         kept: list[int] = []
@@ -292,8 +311,7 @@ class MissionPlan:
         """What a store holds after that many steps."""
         if steps:
             return self.steps[steps - 1].held[store]
-        problem = self.parts[0][0]
-        return next(each.start for each in problem.setup.stores if each.id == store) * problem.unit.packets[store]
+        return next(self.mission.held_in(each) for each in self.mission.stores if each.id == store)
 
     def _minutes(self, one: Pass, octets: int) -> float:
         """How long the link sends these octets."""
@@ -329,13 +347,20 @@ class MissionPlan:
         planned: dict[str, VolumeLike] = {
             store: Volume(Fraction(held), True) for store, held in self.holds(utc).items()
         }
+        if not isinstance(holds or {}, Mapping):
+            raise fault("holds", holds, 'what stores hold, as {"CAM": "231 MB"}')
         return self.mission.between(utc, holds={**planned, **(holds or {})})
 
     def charts(self) -> tuple[str, ...]:
-        """The chart of each part, with UTC on its axis, as SVG."""
+        """The chart of each part, with UTC on its axis, as SVG. One of several says what is lost in its part."""
         from .pictures import chart_of
 
-        return tuple(chart_of(problem, made) for problem, made in self.flown)
+        if len(self.parts) == 1:
+            return (chart_of(*self.parts[0]),)
+        return tuple(
+            chart_of(*flown, part=len(flown[0]), of=len(problem))
+            for flown, (problem, _) in zip(self.flown, self.parts)
+        )
 
     def _repr_html_(self) -> str:
         return "".join(self.charts())

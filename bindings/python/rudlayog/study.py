@@ -30,12 +30,16 @@ from typing import TYPE_CHECKING, Any, TextIO, TypeVar, Union, overload
 
 from ._answering import Task, found_of, found_of_all
 from ._base import Base
+from ._brief import brief
+from ._files import Forms, save_as, table_forms
 from ._found import Found, FoundTable
 from ._running import Progress, results
+from ._units import fault, span_of
 from .forecasts import Forecast, ForecastLike, forecast_octets
 from .mission import Mission
 from .plans import Cut, Plan, Stretch
 from .setups import Setup, SetupLike, setup_octets
+from .sheets import look_at_horizon
 from .variants import (
     Changed,
     Replaced,
@@ -68,12 +72,14 @@ UNITS = {"blocks": 0, "MB": 1_000_000}
 Given = Union[Mission, tuple[SetupLike, ForecastLike]]
 
 
+@brief
 @dataclass(frozen=True, slots=True)
 class Answer:
     """What a variant loses, in blocks: all together, and by store. `bound` is that of its cut: no plan in these steps
-    loses fewer, and `is_least` says whether this one loses as few. `shown` are the lines of the cut. `ages` are for
-    each store the greatest and the median age of the oldest octet that goes down, in hours, where they are asked for.
-    Where the variant is refused there are no numbers, and `refused` says why. """
+    loses fewer, and `is_least` says whether this one loses as few. In finer steps fewer may be lost, but not fewer than
+    `in_any_steps`, but for rounding; it is known of missions whose packets have one length. `shown` are the lines of
+    the cut. `ages` are for each store the greatest and the median age of what goes down, in hours, where they are asked
+    for. Where the variant is refused there are no numbers, and `refused` says why. """
 
     name: str
     loss: int | None
@@ -83,6 +89,7 @@ class Answer:
     refused: str
     parameters: Mapping[str, Any]
     ages: tuple[float, ...] = ()
+    in_any_steps: int | None = None
 
     @property
     def is_least(self) -> bool:
@@ -210,9 +217,18 @@ class Study(Sequence[Answer]):
             **{name: map(partial(table.parameter, name), rows) for name in table.parameter_names()},
             **losses,
             "least": (table.loss(row) is not None and table.loss(row) == table.bound(row) for row in rows),
+            **({f"in any steps{' MB' * (unit == 'MB')}": self._any_steps(unit)} if table.has_any_steps else {}),
             **({name: map(partial(self._age, place), rows) for name, place in ages.items()} if table.has_ages else {}),
             "refused": map(table.refused, rows),
         }
+
+    def _any_steps(self, unit: str) -> Iterator[Any]:
+        """The bounds that hold for any steps."""
+        bounds = map(self._table.in_any_steps, self._rows)
+        if unit == "blocks":
+            return bounds
+        octets = self.octets[0] if len(set(self.octets)) == 1 else None
+        return (None if bound is None or octets is None else bound * octets / 1e6 for bound in bounds)
 
     def _store_mb(self, place: int, row: int) -> float | None:
         loss = self._table.loss_of(place, row)
@@ -244,10 +260,20 @@ class Study(Sequence[Answer]):
         self._write(lines, unit)
         return lines.getvalue()
 
+    def forms(self, unit: str = "blocks") -> Forms:
+        """The forms of a file of the study, by the ending of its name, with losses in `blocks` or in `MB`: the table,
+        or as .svg, and with matplotlib as .png or .pdf, the picture."""
+        table = table_forms(lambda: self.text(unit), lambda: self._columns(unit), "Study")
+        pictures = {
+            kind: partial(lambda kind: self.plot(unit=unit, matplotlib=kind != ".svg" or None).octets(kind), kind)
+            for kind in (".svg", ".png", ".pdf")
+        }
+        return {**table, **pictures}
+
     def save(self, path: str | os.PathLike[str], unit: str = "blocks") -> None:
-        """Writes the table into a file, with losses in `blocks` or in `MB`."""
-        with open(path, "w", encoding="utf-8", newline="") as file:
-            self._write(file, unit)
+        """Writes the study into a file, with losses in `blocks` or in `MB`: the table as .csv, .html or .xlsx, or the
+        picture as .svg, .png or .pdf, by the name."""
+        save_as(path, self.forms(unit))
 
     def worst(self, count: int = 10) -> list[Answer]:
         """The variants that lose most."""
@@ -255,16 +281,16 @@ class Study(Sequence[Answer]):
         lost = ((loss, row) for row, loss in losses if loss is not None)
         return [self._answer(row) for _, row in nsmallest(count, lost, key=lambda each: -each[0])]
 
-    def plot(self, *parameters: str, matplotlib: bool | None = None) -> Picture:
-        """A picture: the loss of each variant, sorted; or over one or two parameters. It is drawn by matplotlib where
-        that is installed, unless `matplotlib` is false."""
+    def plot(self, *parameters: str, matplotlib: bool | None = None, unit: str = "blocks") -> Picture:
+        """A picture: the loss of each variant, in `blocks` or in `MB`, sorted; or over one or two parameters. It is
+        drawn by matplotlib where that is installed, unless `matplotlib` is false."""
         from .pictures import picture_of
 
-        return picture_of(self, parameters, matplotlib)
+        return picture_of(self, parameters, matplotlib, unit)
 
 
 def _answered(name: str, found: Found, parameters: Mapping[str, Any]) -> Answer:
-    return Answer(name, *found[:5], parameters, found.ages)
+    return Answer(name, *found[:5], parameters, found.ages, found.in_any_steps)
 
 
 def study(
@@ -284,7 +310,9 @@ def study(
     """The answers for variants of a mission, or of a setup and a forecast.
 
     Each variant is planned anew, with the least loss in its steps: the answer is that of
-    `mission.changed(variant.changes).plan()`. Or, with a `plan`, that one is flown, and where less can be sent than it
+    `mission.changed(variant.changes, split=True).plan()`. Its steps are those of the mission, begin also where its
+    changes begin, and are split again where more than half a percent of what it loses may come from them. How many it
+    loses at least in any steps is said by `in_any_steps`. Or, with a `plan`, that one is flown, and where less can be sent than it
     says, the stores give way in the reverse of their order. `by_store=False` leaves the losses by store out, but those
     of a plan that is given. With `in_order` the stores are served in their order, and with `ages` it is told how old
     data are that go down. With `horizon` and `look` the plans are made in parts, as `mission.plan` makes them.
@@ -333,6 +361,10 @@ def _task(given: Given, plan: Any, by_store: bool, in_order: bool, ages: bool, h
     if look is not None and horizon is None:
         raise ValueError("look goes with a horizon")
     base = Base.in_parts(given) if horizon is not None and isinstance(given, Mission) else _base(given)
+    if horizon is not None and base.mission is not None:
+        look_at_horizon(base.mission, span_of(horizon, "horizon"))
+    if look not in (None, 0, timedelta(0)):
+        span_of(look, "look")
     if (ages or horizon is not None) and base.mission is None:
         raise ValueError("ages and a horizon are of a mission, and not of a setup and a forecast")
     if plan is not None and (ages or horizon is not None or in_order):
@@ -360,7 +392,10 @@ def answer_of(task: Task, variant: Variant) -> Answer:
 def _base(given: Given) -> Base:
     if isinstance(given, Mission):
         return Base.of_mission(given)
-    setup, forecast = given
+    try:
+        setup, forecast = given
+    except (TypeError, ValueError) as error:
+        raise fault("", given, "a Mission, or a setup and a forecast") from error
     return Base(
         setup if isinstance(setup, Setup) else Setup.read(setup_octets(setup)),
         forecast if isinstance(forecast, Forecast) else Forecast.read(forecast_octets(forecast)),

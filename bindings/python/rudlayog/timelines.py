@@ -1,32 +1,29 @@
-"""The timeline of a plan: its dumps one after the other, with their times in UTC."""
+"""The timeline of a plan: its dumps, with their times in UTC."""
 
 from __future__ import annotations
 
 import os
-from collections.abc import Callable, Iterator, Mapping, Sequence
+from collections.abc import Callable, Iterator, Sequence
 from dataclasses import dataclass, replace
 from datetime import datetime
-from fractions import Fraction
-from pathlib import Path
 from typing import TYPE_CHECKING, Any, TypeVar, overload
 
-from ._flows import use_of
+from ._brief import brief
+from ._files import Forms, save_as, table_forms
 from ._tables import csv_of, html_of
-from ._units import MICROSECOND
 
 if TYPE_CHECKING:
-    from ._flown import Flown
-    from .mission import Pass
     from .sheets import MissionPlan
 
 Made = TypeVar("Made")
-COLUMNS = ("pass", "station", "begin", "end", "store", "packets", "MB")
+COLUMNS = ("pass", "station", "begin", "end", "store", "packets", "MB", "kbit/s")
 
 
+@brief
 @dataclass(frozen=True)
 class Dump:
-    """What a store sends in a pass from `begin` to `end`, at the rate of the link: some `packets`, and their megabytes
-    `mb`. `name` is that of the pass."""
+    """What a store sends in a pass from `begin` to `end`, evenly: some `packets`, their megabytes `mb`, and the rate
+    `kbits`, in kbit/s, at which it sends them. `name` is that of the pass."""
 
     name: str
     station: str
@@ -35,6 +32,7 @@ class Dump:
     store: str
     packets: int
     mb: float
+    kbits: float
 
     def cells(self) -> tuple[Any, ...]:
         """The values, in the order of the columns."""
@@ -43,10 +41,10 @@ class Dump:
 
 @dataclass(frozen=True, repr=False)
 class Timeline(Sequence[Dump]):
-    """The dumps of a plan in the order of their time. In a step of the plan the stores follow one another at the rate
-    of the link: first those that hold what they send as the step begins, from its begin on; and those in which it still
-    arrives as late as can be. So the times of a pass add up to no more than the pass. A limit of a channel holds over
-    the step."""
+    """The dumps of a plan in the order of their time. In a step of the plan each store sends its packets evenly over
+    the step, all stores side by side; dumps that follow one another at the same rate are one. So nothing is sent before
+    it has come, but for the packet that is being received, and a pass has sent at no time more than its link, and its
+    channels, have been able to send since it began."""
 
     rows: tuple[Dump, ...]
 
@@ -57,7 +55,7 @@ class Timeline(Sequence[Dump]):
         last: dict[tuple[str, str], int] = {}
         for dump in _dumps(made):
             place = last.get((dump.name, dump.store))
-            if place is not None and rows[place].end == dump.begin:
+            if place is not None and _follows(dump, rows[place]):
                 before = rows[place]
                 rows[place] = replace(
                     before, end=dump.end, packets=before.packets + dump.packets, mb=before.mb + dump.mb
@@ -95,46 +93,43 @@ class Timeline(Sequence[Dump]):
 
     def text(self) -> str:
         """The timeline as comma separated values."""
-        return csv_of(COLUMNS, ((*row.cells()[:-1], f"{row.mb:.6f}") for row in self.rows))
+        return csv_of(COLUMNS, ((*row.cells()[:-2], f"{row.mb:.6f}", f"{row.kbits:.3f}") for row in self.rows))
+
+    def forms(self) -> Forms:
+        """The forms of a file of the timeline, by the ending of its name."""
+        return table_forms(self.text, self.to_dict, "Timeline")
 
     def save(self, path: str | os.PathLike[str]) -> None:
-        """Writes the timeline into a file, as comma separated values."""
-        Path(path).write_text(self.text(), encoding="utf-8", newline="")
+        """Writes the timeline into a file: as .csv, .html or .xlsx, by its name."""
+        save_as(path, self.forms())
 
     def _repr_html_(self) -> str:
         return html_of(self.to_dict(), most=len(self.rows))
 
 
+def _follows(dump: Dump, before: Dump) -> bool:
+    """Whether a dump begins where another one of its store ends, and has the same rate."""
+    packets = before.packets * (dump.end - dump.begin), dump.packets * (before.end - before.begin)
+    return before.end == dump.begin and packets[0] == packets[1]
+
+
 def _dumps(made: MissionPlan) -> Iterator[Dump]:
-    """The dumps of the steps."""
-    passes = {one.name: one for one in made.mission.passes}
-    held = {store.id: made.mission.held_in(store) for store in made.mission.stores}
-    for step in made.steps:
-        for name, share in step.shares.items():
-            yield from _of_pass(made, step, passes[name], share, held)
-        held = dict(step.held)
-
-
-def _of_pass(
-    made: MissionPlan, step: Flown, one: Pass, share: Mapping[str, int], held: Mapping[str, int]
-) -> Iterator[Dump]:
-    """The dumps of a pass in a step: those of what is held as it begins from its begin on, and the others up to its
-    end."""
+    """The dumps of the steps: each pass that is used in a step is used in all of it."""
+    stations = {one.name: one.station for one in made.mission.passes}
     octets = {store.id: made.mission.packet_of(store) for store in made.mission.stores}
-    begin, end = max(step.begin, one.begin), min(step.end, one.end)
-    micros = {
-        store: packets * octets[store] * 1_000_000 / use_of(made.mission, one).octets
-        for store, packets in share.items()
-        if packets
-    }
-    early = [store for store in micros if share[store] <= held[store]]
-    late = [store for store in micros if store not in early]
-    whole = Fraction((end - begin) // MICROSECOND)
-    at = Fraction(0)
-    for store in (*early, *late):
-        if store in late and store == late[0]:
-            at = max(at, whole - sum(micros[each] for each in late))
-        until = min(at + micros[store], whole)
-        times = [begin + int(moment) * MICROSECOND for moment in (at, until)]
-        yield Dump(one.name, one.station, times[0], times[1], store, share[store], share[store] * octets[store] / 1e6)
-        at = until
+    for step in made.steps:
+        seconds = (step.end - step.begin).total_seconds()
+        for name, share in step.shares.items():
+            for store, packets in share.items():
+                if packets:
+                    sent = packets * octets[store]
+                    yield Dump(
+                        name,
+                        stations[name],
+                        step.begin,
+                        step.end,
+                        store,
+                        packets,
+                        sent / 1e6,
+                        sent * 8 / seconds / 1e3,
+                    )

@@ -12,10 +12,13 @@ from fractions import Fraction
 from itertools import product
 from typing import TYPE_CHECKING, Any, Union
 
+from ._brief import brief
+from ._faults import listed_of
 from ._flows import use_of
 from ._units import Number, RateLike, Volume, VolumeLike, fault, number_of, rate_of, span_of, volume_of
 from .forecasts import Forecast
 from ._parts import Pass, remade
+from ._timeline import problem_of
 from .mission import Mission, tested
 from .setups import Setup, Store
 
@@ -42,6 +45,7 @@ def _store_named(name: str, stores: Iterable[str]) -> None:
         raise fault("", f"the store {name!r}", f"one of the stores {', '.join(names)}")
 
 
+@brief
 @dataclass(frozen=True)
 class Lost:
     """Nothing is sent in the passes with these names."""
@@ -53,6 +57,7 @@ class Lost:
         return mission.without(*[name for name in dict.fromkeys(self.passes) if _known(name, mission, first)])
 
 
+@brief
 @dataclass(frozen=True)
 class Shortened:
     """The pass begins `late` and ends `early`, each a `timedelta` or minutes."""
@@ -75,6 +80,7 @@ class Shortened:
         return _with_passes(mission, {self.one: remade(one, begin=begin, end=end)})
 
 
+@brief
 @dataclass(frozen=True)
 class Rated:
     """The passes of these names, or of these stations, or all, have another rate, or one that is this many times
@@ -126,6 +132,7 @@ class Rated:
         return made, {channel: each.times(factor) for channel, each in channels.items()}
 
 
+@brief
 @dataclass(frozen=True)
 class Scaled:
     """What arrives is this many times as much, in the stores that are named or in all."""
@@ -163,6 +170,7 @@ class Scaled:
         return setup, forecast.having(arrivals=columns)
 
 
+@brief
 @dataclass(frozen=True)
 class Sized:
     """A store has another size, or one that is this many times its own; it falls to whole blocks."""
@@ -210,6 +218,7 @@ class Sized:
         return replace(store, size=int(self.sized(Volume(Fraction(store.size), True)).blocks(1024)))
 
 
+@brief
 @dataclass(frozen=True)
 class Changed:
     """Any function of the mission, which gives another one."""
@@ -224,6 +233,7 @@ class Changed:
         return made
 
 
+@brief
 @dataclass(frozen=True)
 class Replaced:
     """Any function of a setup and a forecast, which gives others. It comes after all changes of a mission."""
@@ -241,6 +251,7 @@ KINDS = (Lost, Shortened, Rated, Scaled, Sized, Changed, Replaced)
 ChangesLike = Union[Change, Callable[[Mission], Mission], Iterable[Any]]
 
 
+@brief
 @dataclass(frozen=True)
 class Variant:
     """A variant: its `name`, its `changes`, one after the other, and the `parameters` by which a picture orders it."""
@@ -277,7 +288,7 @@ def sized(store: str, size: VolumeLike | None = None, factor: Number | None = No
 def rated(rate: RateLike | None = None, factor: Number | None = None, of: Iterable[str] = ()) -> Rated:
     """These passes, or all of a station, or all, have this rate, or one this many times as high; those of their
     channels go with it."""
-    return Rated(rate, factor, (of,) if isinstance(of, str) else tuple(of))
+    return Rated(rate, factor, (of,) if isinstance(of, str) else listed_of(of, "rated, of", "names"))
 
 
 def each_pass_lost(mission: Mission) -> Iterator[Variant]:
@@ -298,6 +309,10 @@ def grid(**axes: Mapping[Any, Any] | tuple[Callable[[Any], Any], Iterable[Any]])
     that makes a change of a value, and the values: `grid(arrivals=(scaled, [1, 1.1, 1.2]), size=(lambda mb:
     sized("CAM", f"{mb} MB"), range(100, 400, 50)))`. """
     names = list(axes)
+    for name, axis in axes.items():
+        pair = not isinstance(axis, Mapping) and isinstance(axis, (tuple, list)) and len(axis) == 2
+        if not isinstance(axis, Mapping) and not (pair and callable(axis[0]) and hasattr(axis[1], "__iter__")):
+            raise fault(name, axis, "values with their changes in a dict, or a function and values")
     values = [
         list(axis.items()) if isinstance(axis, Mapping) else [(value, axis[0](value)) for value in axis[1]]
         for axis in axes.values()
@@ -313,10 +328,18 @@ def variants_of(given: Any) -> Iterator[Variant]:
     they are."""
     if isinstance(given, Mapping):
         return (Variant(str(name), changes_of(change)) for name, change in given.items())
-    return (
-        variant if isinstance(variant, Variant) else Variant(str(variant[0]), changes_of(variant[1]))
-        for variant in given
-    )
+    if isinstance(given, (str, bytes)) or not hasattr(given, "__iter__"):
+        raise fault("", given, "variants, by their names in a dict, or a list of Variant")
+    return map(_variant, given)
+
+
+def _variant(given: Any) -> Variant:
+    """A variant, or a pair of a name and changes."""
+    if isinstance(given, Variant):
+        return given
+    if isinstance(given, (tuple, list)) and len(given) == 2:
+        return Variant(str(given[0]), changes_of(given[1]))
+    raise fault("", given, "a Variant, or a name and changes")
 
 
 def changes_of(given: Any) -> tuple[Change, ...]:
@@ -330,8 +353,8 @@ def changes_of(given: Any) -> tuple[Change, ...]:
     return tuple(each for change in given for each in changes_of(change))
 
 
-def changed(mission: Mission, given: ChangesLike) -> Mission:
-    """The mission with these changes, one after the other."""
+def changed(mission: Mission, given: ChangesLike, split: bool = False) -> Mission:
+    """The mission with these changes, one after the other, and with steps that are split again or not."""
     first = made = mission.kept
     for change in changes_of(given):
         if isinstance(change, Replaced):
@@ -341,7 +364,7 @@ def changed(mission: Mission, given: ChangesLike) -> Mission:
                 "changes of the mission; such a function comes after all of them, in a study",
             )
         made = change.of(made, first)
-    return made
+    return remade(made, moments=problem_of(made, split=True).times) if split and made.moments else made
 
 
 def texts_changed(setup: Setup, forecast: Forecast, changes: Iterable[Change]) -> Texts:

@@ -7,11 +7,11 @@ import os
 from collections.abc import Callable
 from dataclasses import asdict, dataclass
 from datetime import timedelta
-from pathlib import Path
 from typing import TYPE_CHECKING, Any, TypeVar
 
 import rudlayog
 
+from ._files import Forms, save_as, table_forms
 from ._tables import csv_of, html_of
 from ._units import fault
 
@@ -62,9 +62,13 @@ class Sensitivity:
         """The table as comma separated values."""
         return csv_of(COLUMNS, (row.values() for row in self.rows))
 
+    def forms(self) -> Forms:
+        """The forms of a file of the table, by the ending of its name; `.svg` is the picture."""
+        return {**table_forms(self.text, self.to_dict, "Sensitivity"), ".svg": lambda: self.plot().svg}
+
     def save(self, path: str | os.PathLike[str]) -> None:
-        """Writes the table into a file."""
-        Path(path).write_text(self.text(), encoding="utf-8", newline="")
+        """Writes the table into a file: as .csv, .html or .xlsx, or its picture as .svg, by the name."""
+        save_as(path, self.forms())
 
     def plot(self) -> Picture:
         """A picture of the windows: how many blocks fewer are lost where one is as wide as can be, over the time."""

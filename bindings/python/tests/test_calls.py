@@ -181,11 +181,11 @@ class Refusing(unittest.TestCase):
     def test_what_was_found(self):
         # docs/FORMATS.md, 'Hints'.
         for call, given, found in (
-            (plan, (SETUP.replace("size = 4", 'size = "4"'), FORECAST), 'table 1 of store, "SCI", has no whole number as size; write it without quotes'),
-            (plan, (SETUP, FORECAST.replace("1,2,3", "1,2,03")), 'the cell is "03" in line 2 of the file, whose header is line 1'),
+            (plan, (SETUP.replace("size = 4", 'size = "4"'), FORECAST), 'table 1 of store, "SCI", has size = "4"; a whole number is expected; write it without quotes'),
+            (plan, (SETUP, FORECAST.replace("1,2,3", "1,2,03")), 'row 1 has "03" in the column "SCI", where a whole number is expected; it is line 2 of the file, whose header is line 1'),
             (plan, (FORECAST, SETUP), "the files are in another order; name the setup first, then the forecast"),
-            (plan, (SETUP, {"window": [2], "SCI": [-1]}), 'the cell is "-1" in line 2 of the file, whose header is line 1'),
-            (check, (SETUP, {"window": [2], "HK": [1]}, ""), 'the header is "step,window,HK", and "step,window,SCI" is expected'),
+            (plan, (SETUP, {"window": [2], "SCI": [-1]}), 'row 1 has "-1" in the column "SCI", where a whole number is expected; it is line 2 of the file, whose header is line 1'),
+            (check, (SETUP, {"window": [2], "HK": [1]}, ""), 'column 3 of the header is "HK", and "SCI" is expected'),
             (chart, (SETUP, FORECAST, "refused 28 SetupField\n"), "the file holds the line of a refusal, and no plan; plan again"),
             (ask, (SETUP.replace("= 4", "= 0"), ""), 'table 1 of store, "SCI", has size = 0; 1 to 1000000 can be'),
             (rudlayog.Memory, (SETUP.replace("= 4", "= 0"),), 'table 1 of store, "SCI", has size = 0; 1 to 1000000 can be'),

@@ -189,8 +189,12 @@ class Missions(unittest.TestCase):
             self.assertEqual([answer.cut.bound for answer in in_order], [answer.cut.bound for answer in free])
             self.assertTrue(all(answer.is_least and sum(answer.by_store) == answer.loss for answer in in_order))
             problem = mission.problem()
-            units = lost_by(problem.setup, problem.forecast, mission.plan(in_order=True).plan)
-            self.assertEqual(dict(zip(in_order.stores, in_order.base.by_store)), {store: count * problem.unit.packets[store] for store, count in units.items()})
+            made = mission.plan(in_order=True)
+            units = lost_by(problem.setup, problem.forecast, made.plan)
+            self.assertEqual(dict(zip(in_order.stores, in_order.base.by_store)), made.losses)
+            # of packets that are lost, each is there: no more than the units that are lost, and a part of one
+            for store, count in units.items():
+                self.assertLess(made.losses[store], (count + 1) * problem.unit.packets[store])
 
     def test_the_command(self):
         with tempfile.TemporaryDirectory() as room:

@@ -259,7 +259,8 @@ class Command(unittest.TestCase):
             self.run_words(copy, "--output", Path(room, "no folder", "a.md"), status=1)
 
     def test_statuses(self):
-        self.assertIn("usage:", self.run_words("--help", status=2)[1])
+        self.assertIn("usage:", self.run_words("--help")[0])
+        self.assertEqual(self.run_words("-h")[1], "")
         self.assertIn("usage:", self.run_words(status=2)[1])
         self.assertIn("usage:", self.run_words(WEEK, "fly", status=2)[1])
         self.assertIn(rudlayog.__version__, self.run_words("--version")[0])

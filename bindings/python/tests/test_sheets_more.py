@@ -29,15 +29,26 @@ PACKAGE = Path(rudlayog.__file__).resolve().parents[1]
 
 class Timelines(unittest.TestCase):
     def test_by_hand(self):
-        # 36 MB in each of the hours, and then what is left of 50 MB: 14 MB, which take 1,400 s of the second one
+        # 50 MB in two passes of an hour, each of which can send 36 MB: in each of them evenly, over all of the hour
         rows = day().plan().timeline().rows
         self.assertEqual(
-            [(row.name, row.begin.isoformat()[11:19], row.store, row.station) for row in rows],
-            [("S 1", "06:00:00", "A", "S"), ("S 2", "12:00:00", "A", "S")],
+            [(row.name, row.begin, row.end, row.store, row.station) for row in rows],
+            [(one.name, one.begin, one.end, "A", "S") for one in day().passes],
         )
         self.assertEqual(sum(row.packets for row in rows), 50_000)
         for row in rows:
-            self.assertAlmostEqual((row.end - row.begin).total_seconds(), row.packets * 8000 / 80_000, delta=1e-5)
+            self.assertTrue(14_000 <= row.packets <= 36_000)
+            self.assertAlmostEqual(row.kbits, row.packets * 8 / 3600)
+
+    def test_equal_rates_are_one_dump(self):
+        # what comes in the pass begins two more steps; 80 kbit/s are 10 packets a second in each of the three
+        mission = day(
+            passes=[Pass("S", at(6), at(7), "80 kbit/s")],
+            observations=[Observation("A", at(6, 20), at(6, 40), volume="6 MB"), day().observations[0]],
+        )
+        self.assertGreater(len(mission.problem()), 4)
+        (row,) = mission.plan().timeline().rows
+        self.assertEqual((row.begin, row.end, row.packets, row.kbits), (*span_of(mission.passes[0]), 36_000, 80))
 
     def test_of_many(self):
         for mission in [Mission.read(WEEK), *map(made_mission, range(40))]:
@@ -46,11 +57,7 @@ class Timelines(unittest.TestCase):
             sheet = made.passes()
             for one in mission.passes:
                 own = [row for row in timeline if row.name == one.name]
-                spans = sorted((row.begin, row.end) for row in own)
-                self.assertTrue(all(one.begin <= begin <= end <= one.end for begin, end in spans))
-                # one after the other
-                self.assertTrue(all(before[1] <= after[0] for before, after in zip(spans, spans[1:])))
-                self.assertLessEqual(sum((end - begin for begin, end in spans), timedelta(0)), one.end - one.begin)
+                self.assertTrue(all(one.begin <= row.begin < row.end <= one.end for row in own))
                 for store in mission.stores:
                     self.assertEqual(
                         sum(row.packets for row in own if row.store == store.id),
@@ -59,11 +66,33 @@ class Timelines(unittest.TestCase):
         records = list(csv.DictReader(io.StringIO(timeline.text())))
         self.assertEqual(
             (len(records), list(timeline.to_dict())),
-            (len(timeline), ["pass", "station", "begin", "end", "store", "packets", "MB"]),
+            (len(timeline), ["pass", "station", "begin", "end", "store", "packets", "MB", "kbit/s"]),
         )
+
+    def test_what_is_held_follows_the_timeline(self):
+        # 50 MB are there, and nothing comes before 14 h: what is held is what the timeline has not sent
+        made = day().plan()
+        for hour, minute in ((5, 0), (6, 0), (6, 7), (6, 30), (7, 0), (9, 0), (12, 41), (13, 0)):
+            utc = made.at(at(hour, minute)).begin
+            sent = sum(
+                row.packets * min(max((utc - row.begin) / (row.end - row.begin), 0), 1) for row in made.timeline()
+            )
+            self.assertAlmostEqual(made.holds(utc)["A"], 50_000 - sent, delta=1)
+
+
+def span_of(one):
+    return one.begin, one.end
 
 
 class Ages(unittest.TestCase):
+    def test_they_follow_the_timeline(self):
+        # 36 MB come in a minute, and go down evenly in an hour, 6 h later: the part f of them is 6 h and f * 59 min old
+        seen = [Observation("A", at(0), at(0, 1), volume="36 MB"), Observation("A", at(20), at(21), volume="36 MB")]
+        one = Pass("S", at(6), at(7), "80 kbit/s")
+        age = day(stores=[PacketStore("A", "36 MB")], passes=[one], observations=seen).plan().ages()["A"]
+        self.assertAlmostEqual(age.greatest, 6 + 59 / 60)
+        self.assertAlmostEqual(age.median, 6 + 59 / 120)
+
     def test_by_hand(self):
         # 36 MB arrive from 0 to 2 h, evenly, and go down from 6 h and from 12 h on, 18 MB each
         mission = day(
@@ -467,7 +496,7 @@ class Options(unittest.TestCase):
         for name in ("--sizes", "--arrivals", "--rates"):
             out, said = self.run_words(WEEK, "study", name, "abc", status=1)
             self.assertEqual(out, "")
-            self.assertIn("a factor of 0 or more", said)
+            self.assertIn("a factor above 0" if name == "--sizes" else "a factor of 0 or more", said)
         in_order = list(
             csv.DictReader(io.StringIO(self.run_words(WEEK, "study", "--in-order", "--quiet", "--ages", "--mb")[0]))
         )

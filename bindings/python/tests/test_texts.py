@@ -368,7 +368,7 @@ class Plans(unittest.TestCase):
         self.assertEqual(wrong(self, Plan.of, {"SCI": [1]}, 1, Cut((), (), None)), "bound: None is no whole number")
 
     def test_read_as_the_library_reads(self):
-        # docs/FORMATS.md, 'Plan text': the first line that cannot stand where it is.
+        # docs/FORMATS.md, 'Plan text': the first line that breaks the format.
         for text, words in (
             ("refused 28 SetupField\n", "34 PlanText line 1"),
             ("\u00e9\n", "34 PlanText line 1"),

@@ -3,3 +3,5 @@ pub mod Values
 pub mod Held
 pub mod Small
 pub mod LossLists
+pub mod OneText
+pub mod OneWorth

@@ -5,3 +5,4 @@ pub mod Serving
 pub mod Showing
 pub mod Fields
 pub mod Losses
+pub mod Laws

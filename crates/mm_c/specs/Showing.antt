@@ -1,12 +1,16 @@
 -- What is told of a store of a memory, and of the reports that wait, by the definitions of `mm_service`.
 use Rattle.std.specs.Prelude.{◌≡◌, ◌⊎◌, if◌then◌else◌}
-use Rattle.mm_c.specs.Words.{ℕ, List, length, Bool, Option, Some, None, Ok, Err, Serving, Answer, Written}
+use Rattle.mm_c.specs.Words.{ℕ, List, length, replicate, Bool, Option, Some, None, Ok, Err, Serving, Answer, Written}
+use Rattle.mm_c.specs.Words.{End}
+use Rattle.mm_base.specs.Id.{id_text}
 use Rattle.mm_base.specs.Kind.{code_of}
 use Rattle.mm_desk.specs.declared.state.Retrieval.{Retrieval}
+use Rattle.mm_service.specs.declared.showing.Listed.{Listed}
 use Rattle.mm_service.specs.declared.showing.Shown.{Shown}
 use Rattle.mm_memory.specs.Reports.{status_of}
-use Rattle.mm_service.specs.Showing.{shown_of}
+use Rattle.mm_service.specs.Showing.{shown_of, store_at}
 use Rattle.mm_c.specs.Serving.{ended, IsRefused}
+use Rattle.mm_c.specs.declared.showing.ListedTold.{ListedTold}
 use Rattle.mm_c.specs.declared.showing.StoreTold.{StoreTold}
 use Rattle.mm_c.specs.declared.showing.TheConstants.{NO_KIND}
 
@@ -60,3 +64,20 @@ ShowsWaiting told answer s t = (t ≡ s) × (told ≡ length s.waiting) × (answ
 -- how many packets were refused out of memory is told, and nothing has changed
 abbrev pub ShowsRefused : ℕ → Answer → Serving → Serving → Type 0
 ShowsRefused told answer s t = (t ≡ s) × (told ≡ s.refused) × (answer ≡ ended Written)
+
+-- what is told where the list has no store
+abbrev pub none_listed : ListedTold
+none_listed = record { id = replicate 8 0; id_length = 0; channel = 0; state = no_store }
+
+-- what is told of a store in the list
+abbrev pub listed_told : Listed → ListedTold
+listed_told l = record { id = l.id; id_length = length (id_text l.id); channel = l.channel; state = store_told l.shown }
+
+-- the store is told, or that there is none
+abbrev pub TellsListed : Option Listed → ListedTold → Answer → Type 0
+TellsListed (Some l) told answer = (told ≡ listed_told l) × (answer ≡ ended Written)
+TellsListed None told answer = (told ≡ none_listed) × (answer ≡ ended End)
+
+-- the store at a place is told, and nothing has changed
+abbrev pub ListsStore : ℕ → ListedTold → Answer → Serving → Serving → Type 0
+ListsStore place told answer s t = (t ≡ s) × TellsListed (store_at place s) told answer

@@ -6,6 +6,7 @@ pub mod asking;
 pub mod fields;
 pub mod handle;
 pub mod hinting;
+pub mod laws;
 pub mod losses;
 pub mod memory;
 mod parts;

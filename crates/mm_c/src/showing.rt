@@ -4,13 +4,13 @@ ghost use Rattle.mm_base.specs.Kind.{code_of};
 ghost use Rattle.mm_memory.specs.Reports.{status_of};
 ghost use Rattle.mm_c.specs.Serving.{OnOpen};
 ghost use Rattle.mm_c.specs.Showing.{no_store, with_retrieval, store_told, ShowsStore};
-ghost use Rattle.mm_c.specs.Showing.{ShowsWaiting, ShowsRefused};
+ghost use Rattle.mm_c.specs.Showing.{ShowsWaiting, ShowsRefused, none_listed, listed_told, ListsStore};
 
 use crate::handle::MemoryHandle;
 use crate::memory::{ended, refused, taken};
 use mm_base::Kind;
 use mm_desk::Retrieval;
-use mm_service::Shown;
+use mm_service::{Listed, Shown};
 use mm_told::{Answer, Status};
 use std::alloc::Global;
 
@@ -133,6 +133,68 @@ pub extern "C" fn rudlayog_memory_state(
         }
         Err(fault) => *answer = refused(fault),
     }
+    memory.put(service);
+}
+
+/// A store of a memory: its identifier, with spaces after it, how many octets that has without them, its virtual
+/// channel, and what it holds and has lost.
+#[repr(C)]
+#[derive(Clone, Copy)]
+pub struct ListedTold {
+    pub id: [u8; 8],
+    pub id_length: u32,
+    pub channel: u32,
+    pub state: StoreTold,
+}
+
+impl ListedTold {
+    // What is told where there is no store.
+    fn nothing() -> ListedTold
+        ensures { result ≡ none_listed }
+    {
+        ListedTold {
+            id: [0; 8],
+            id_length: 0,
+            channel: 0,
+            state: StoreTold::nothing(),
+        }
+    }
+
+    // What is told of a store.
+    fn of(listed: Listed) -> ListedTold
+        ensures { result ≡ listed_told listed }
+    {
+        ListedTold {
+            id: listed.id.field(),
+            id_length: listed.id.text().len() as u32,
+            channel: u32::from(listed.channel),
+            state: StoreTold::of(listed.shown),
+        }
+    }
+}
+
+/// Tells the store at a place, counted from 0, as `Service::store_at` of `mm_service` does; where there is none, the
+/// list is at its end.
+#[unsafe(no_mangle)]
+pub extern "C" fn rudlayog_memory_store(
+    alloc: Global,
+    memory: &mut MemoryHandle,
+    place: u64,
+    store: &mut ListedTold,
+    answer: &mut Answer,
+)
+    ensures listed { OnOpen (ListsStore place store.new answer.new) (store.new ≡ none_listed)
+        memory.old.loose.service memory.new.loose.service answer.new }
+{
+    *store = ListedTold::nothing();
+    let service = taken!(memory, alloc, answer);
+    *answer = match service.store_at(place as usize) {
+        Some(listed) => {
+            *store = ListedTold::of(listed);
+            ended(Status::Written)
+        }
+        None => ended(Status::End),
+    };
     memory.put(service);
 }
 

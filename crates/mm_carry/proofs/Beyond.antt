@@ -1,9 +1,12 @@
 -- What comes beyond the forecast costs no more than itself.
-use Rattle.mm_carry.specs.Beyond.{AsForecast, LosesAtMost, lost_by_first, more_came}
+use Rattle.mm_carry.specs.Beyond.{AsForecast, IsIsolated, LosesAsInHindsight, LosesAtMost, beyond_at, lost_by_first}
+use Rattle.mm_carry.specs.Beyond.{more_came}
 use Rattle.mm_carry.specs.Numbers.{planned_counts, report_of, rows_of}
 use Rattle.mm_carry.proofs.Words.{sum_by, range_with_len, sum_by_range_more, sum_by_range-le, sum_by_range_same}
 use Rattle.mm_carry.proofs.Words.{sum_by-add, sum_by-map, sum_by-swap, Dumping, arrivals, size, steps, stores}
 use Rattle.mm_carry.proofs.Words.{left_start, left_step, Amounts, left, lost, loss, store_loss, RunInput, as_came, ◌≡◌}
+use Rattle.mm_carry.proofs.Words.{came, store_state, Held}
+use Rattle.mm_carry.specs.Words.{Fits}
 use Rattle.mm_carry.proofs.Words.{ℕ, zero, suc, ◌+◌, ◌-◌, ◌<◌, ◌≤◌, min, List, length, map, take, refl, ◌∙◌, ap, subst}
 use Rattle.mm_carry.proofs.Words.{arith, add-one, take-map-range_with_len, sum_by_range_zeros, first_loss, StepCounts}
 use Rattle.mm_carry.proofs.Counters.{came_at}
@@ -128,19 +131,69 @@ pub first_lost_as_planned : (m : RunInput) → AsForecast m → (k : ℕ) → k 
 first_lost_as_planned m met k within =
     lost_by_rows m.problem (as_came m) m.amounts k (length m.problem.windows) within ∙ same_first_loss m met k within
 
+-- how much more comes to a store than was forecast, by the problem with what comes in place of the forecast
+more_at : (m : RunInput) (s : ℕ) → s < length m.problem.rows
+    → sum_by (more m.problem (as_came m).arrived m.amounts s) (steps m.problem) ≡ beyond_at m s
+more_at m s store =
+    sum_by_range_same (more m.problem (as_came m).arrived m.amounts s) (more_came m s) 1 (length m.problem.windows)
+    (λ t first last. ap (λ k. k - arrivals m.problem s t) (came_at m s t store first (omega arith)))
+
+-- and how much less
+less_at : (m : RunInput) (s : ℕ) → s < length m.problem.rows
+    → sum_by (more (as_came m) m.problem.arrived m.amounts s) (steps m.problem)
+    ≡ sum_by (λ t. arrivals m.problem s t - came m s t) (steps m.problem)
+less_at m s store =
+    sum_by_range_same (more (as_came m) m.problem.arrived m.amounts s) (λ t. arrivals m.problem s t - came m s t) 1
+    (length m.problem.windows)
+    (λ t first last. ap (λ k. arrivals m.problem s t - k) (came_at m s t store first (omega arith)))
+
 -- the lost packets of a run, beside the loss of its plan
 pub loses_at_most : (m : RunInput) (planned lost_in_run : ℕ) → loss m.problem m.amounts ≡ planned
     → lost_in_run ≡ loss (as_came m) m.amounts → LosesAtMost m planned lost_in_run
 loses_at_most m planned lost_in_run planned_is total =
     let q = m.problem in
-    let same = sum_by_range_same (λ s. sum_by (more q (as_came m).arrived m.amounts s) (steps q))
-    (λ s. sum_by (more_came m s) (steps q)) 0 (length q.rows)
-    (λ s _ store. sum_by_range_same (more q (as_came m).arrived m.amounts s) (more_came m s) 1 (length q.windows)
-    (λ t first last. ap (λ k. k - arrivals q s t) (came_at m s t (omega arith) first (omega arith)))) in
+    let same = sum_by_range_same (λ s. sum_by (more q (as_came m).arrived m.amounts s) (steps q)) (beyond_at m) 0
+    (length q.rows) (λ s _ store. more_at m s (omega arith)) in
     record {
       beyond = omega (arith, planned_is, total, same, loss_costs q (as_came m).arrived m.amounts);
       within = λ met.
           let no_more = loss_no_more q (as_came m).arrived m.amounts
           (λ s t store first last. omega (arith, came_at m s t store first last, met s t store first last)) in
           omega (arith, planned_is, total, no_more);
+    }
+
+-- in hindsight no plan loses fewer by more than came otherwise
+pub loses_as_in_hindsight : (m : RunInput) (lost_in_run : ℕ) → LosesAtMost m (loss m.problem m.amounts) lost_in_run
+    → ((other : Amounts) → Fits m.problem other → loss m.problem m.amounts ≤ loss m.problem other)
+    → LosesAsInHindsight m lost_in_run
+loses_as_in_hindsight m lost_in_run at_most least other fits =
+    let q = m.problem in
+    let same = sum_by_range_same (λ s. sum_by (more (as_came m) q.arrived other s) (steps q))
+    (λ s. sum_by (λ t. arrivals q s t - came m s t) (steps q)) 0 (length q.rows)
+    (λ s _ store. less_at m s (omega arith)) in
+    omega (arith, at_most.beyond, least other fits, same, loss_costs (as_came m) q.arrived other)
+
+-- each store loses at most what the plan loses in it, and its own surplus; and likewise the first stores
+pub isolated : (m : RunInput) (left : List Held) (rows : List (List StepCounts))
+    → ((s : ℕ) → s < length m.problem.rows → (store_state m left s).lost
+    ≡ (store_state m m.memory.stores s).lost + store_loss (as_came m) m.amounts s)
+    → rows ≡ rows_of m.problem (as_came m) m.amounts (length m.problem.windows) → IsIsolated m left rows
+isolated m left rows losses are =
+    let q = m.problem in
+    let at : (s : ℕ) → s < length q.rows
+    → store_loss (as_came m) m.amounts s ≤ store_loss q m.amounts s + beyond_at m s =
+    λ s store. omega (arith, store_costs q (as_came m).arrived m.amounts s (length q.windows), more_at m s store) in
+    record {
+      each = λ s store. omega (arith, losses s store, at s store);
+      firsts = λ k within.
+          let sums = sum_by_range-le (store_loss (as_came m) m.amounts)
+          (λ s. store_loss q m.amounts s + beyond_at m s) 0 k
+          (λ s _ below. at s (omega arith)) in
+          omega (
+            arith,
+            ap (lost_by_first k) are,
+            lost_by_rows q (as_came m) m.amounts k (length q.windows) within,
+            sums,
+            sum_by-add (store_loss q m.amounts) (beyond_at m) (range_with_len 0 k),
+          );
     }

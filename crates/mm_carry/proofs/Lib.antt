@@ -17,3 +17,4 @@ pub mod Beyond
 pub mod Ended
 pub mod AccountLemmas
 pub mod StoreRuns
+pub mod GoingOn

@@ -140,7 +140,10 @@ done_first sent failed m now report stores is = record {
     no_failure = refl;
   };
   accounted = λ s store. none_asked (offered m s) (store_state m m.memory.stores s);
-  shared = shared m 0;
+  shared = rw stores (shared m 0 (λ t. m.memory.stores) (λ k t. []) refl
+      (λ s store. none_asked (offered m s) (store_state m m.memory.stores s))
+      (λ s t store first last. absurd (omega (arith, first, last))));
+  losses = λ s store. rw stores (omega arith);
   report_is = is;
   rows = ap (λ (r : Reported). r.steps) is;
   counted = rw (stores, is) (by_counters m (λ t. m.memory.stores) 0 refl m.problem m.amounts

@@ -4,18 +4,20 @@ use Words.{cases_eq, eq-eqb, ne_eqb, map_push, flat_map_more, length-map, get_or
 use Words.{slice_index, slice_index_or, filter, All-unmapped, range_with_len_next, StoreRow, SpacePacket, row, no_row}
 use Words.{stores, Stored, State, opening_at, Offer, Held, labels_of, states_of, id_at, is_routed, counters_of}
 use Words.{RecordingContext, offers, recording, given_in, Supply, Sent, all_sent, Order, Reported, AtEach, IsReady}
-use Words.{AsPlanned, IsRunOf, ReplaysKeepStates, counts_from, rows_of, row_from, state_by}
+use Words.{AsPlanned, IsRunOf, lost, ReplaysKeepStates, counts_from, rows_of, row_from, state_by}
 use Words.{rows_by_counters, orders_of, ArePlaces, AreApart, RunInput, step_of, offered, as_came, place_in_memory}
 use Words.{store_state, RunState, IsWholeStep, IsStepRun, AreStepRuns, SourcesGave, LinksSent, StepsDone, sent_in, ◌≡◌}
 use Words.{◌≢◌, inl, inr, ℕ, zero, suc, ◌+◌, ◌-◌, ◌<◌, ◌≤◌, ◌^◌, cond, eqb, List, [], ◌∷◌, ◌++◌, length, map, All, refl}
 use Words.{sym, subst, ap, ◌∙◌, arith, append_assoc}
 use Rattle.mm_dump.specs.Dumped.{times, places_of, AllTook}
-use Rattle.mm_carry.proofs.Stepping.{as_planned}
+use Rattle.mm_carry.proofs.Stepping.{as_planned, grown}
 use Rattle.mm_carry.proofs.AccountLemmas.{accounted}
 use Rattle.mm_carry.proofs.Counters.{counts_planned, by_counters, came_at, timed_offers}
 use Rattle.mm_carry.proofs.RangeLists.{map_range_same, flat_map_range_same}
 use Rattle.mm_carry.proofs.Ordered.{wanted_is, orders_are}
 use Rattle.mm_carry.proofs.Sharing.{shared}
+use Rattle.mm_carry.proofs.Words.{sum_by}
+use Rattle.mm_carry.specs.Untaken.{AreShared}
 use Rattle.mm_carry.proofs.Parts.{as_many, same_ids}
 use Rattle.mm_carry.proofs.Placing.{id_there}
 
@@ -268,6 +270,10 @@ module _ {L : Type 0} (sent : L → List Sent) (failed : L → ℕ) (m : RunInpu
           (λ i. rows i ++ last i ∷ []) ∙ sym (ap (map now) (range_with_len_next t from_one)
           ∙ map_push now (range_with_len 1 (t - 1)) t)
 
+      -- what the plan loses so far in a store, of what came
+      abbrev lost_so_far : ℕ → ℕ
+      lost_so_far s = sum_by (lost (as_came m) m.amounts s) (range_with_len 1 count)
+
       -- one step more of a run
       pub done_on : (new : Reported) → new ≡ record report {
         steps = report.steps
@@ -277,6 +283,7 @@ module _ {L : Type 0} (sent : L → List Sent) (failed : L → ℕ) (m : RunInpu
       done_on new is =
           let rows = ap (λ (r : Reported). r.steps) is ∙ rows_counted in
           let was = done.report_is in
+          let accounts = accounted keep (as_came m) m.amounts count (offered m) gave_of states run_of in
           record {
             stores = stores_after;
             gave = gave_after;
@@ -284,8 +291,19 @@ module _ {L : Type 0} (sent : L → List Sent) (failed : L → ℕ) (m : RunInpu
             stores_are = sym at_count;
             sources_are = given_on;
             links_are = sent_on;
-            accounted = accounted keep (as_came m) m.amounts count (offered m) gave_of states run_of;
-            shared = shared m count;
+            accounted = accounts;
+            shared =
+                subst (λ (held : List Held). AreShared m count gave_after held) at_count (shared m count stores_after
+                gave_after ran_on.first accounts
+                (λ s u store first last. let takes = (planned_at s u store first last).takes in
+                let came_here = came_at m s u store first (omega arith) in
+                omega (arith, takes, came_here)));
+            losses = λ s store. subst (λ (held : List Held). (store_state m held s).lost
+                ≡ (store_state m m.memory.stores s).lost + lost_so_far s) at_count
+                (subst (λ (held : List Held). (store_state m (stores_after count) s).lost
+                ≡ (store_state m held s).lost + lost_so_far s) ran_on.first
+                (grown (λ u. (states s u).lost) (lost (as_came m) m.amounts s) count
+                (λ u first last. (planned_at s u store first last).loses)));
             report_is = is ∙ (λ i. record {
               ids = ap (λ (r : Reported). r.ids) was i;
               most = ap (λ (r : Reported). r.most) was i;

@@ -113,7 +113,7 @@ send_once s runs sound follow = record {
         run_rising s sound [] [] (none_left s []) early late r (subst (AreFollowing s) are follow)
 
 -- the store of a problem is in the memory, where the tests before a run passed
-stands_there : {S L : Type 0} (m : RunInput) (plan : Table) (first : RunState S L)
+pub stands_there : {S L : Type 0} (m : RunInput) (plan : Table) (first : RunState S L)
     → MayBegin (run_start_of m plan first) → (s : ℕ) → s < length m.problem.rows
     → place_in_memory m s < length m.memory.stores
 stands_there m plan first began s store =

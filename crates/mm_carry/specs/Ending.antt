@@ -6,7 +6,7 @@ use Rattle.mm_carry.specs.Readiness.{RunStart, run_start, MayBegin, Stops}
 use Rattle.mm_carry.specs.declared.step.Stop.{Stop}
 use Rattle.mm_carry.specs.declared.run_end.Halted.{Halted}
 use Rattle.mm_carry.specs.RunInput.{RunInput, recording_in, as_came, step_orders}
-use Rattle.mm_carry.specs.Beyond.{LosesAtMost}
+use Rattle.mm_carry.specs.Beyond.{IsIsolated, LosesAtMost}
 use Rattle.mm_carry.specs.RunState.{RunState, with_supplies}
 use Rattle.mm_carry.specs.Step.{AreReady, NeverRefused, StepStopped, IsStep}
 use Rattle.mm_carry.specs.Course.{AreWithinLimits}
@@ -33,7 +33,7 @@ pub record HasRun {L : Type 0} (sent : L → List Sent) (failed : L → ℕ) (m 
 
 -- the tests before a run passed, and the plan was carried out, and left this memory, whose stores are sound and ready
 -- for more. The lost packets of the report are as many as the plan loses of what came, and what came beyond the
--- forecast cost no more than itself
+-- forecast cost no more than itself, in each store
 pub record IsCarriedOut {L : Type 0} (sent : L → List Sent) (failed : L → ℕ) (m : RunInput) (plan : Table)
     (links : List L) (memory : Holdings) (left : List Supply) (links_left : List L) (report : Reported) : Type 0 where
   pub routes : memory.routes ≡ m.memory.routes
@@ -41,6 +41,7 @@ pub record IsCarriedOut {L : Type 0} (sent : L → List Sent) (failed : L → �
       (over_memory memory left links_left) report
   pub total_lost : (totals_of report.steps).lost ≡ loss (as_came m) m.amounts
   pub at_most : LosesAtMost m (loss m.problem m.amounts) (totals_of report.steps).lost
+  pub isolated : IsIsolated m memory.stores report.steps
 
 -- the tests before a run passed, and it was halted in a step: those before it are carried out, and the report is
 -- theirs. The stores are left in their order, each sound and ready for more; each source keeps the rest of what it gave

@@ -18,3 +18,4 @@ pub mod Failure
 pub mod Ending
 pub mod Halts
 pub mod Following
+pub mod GoingOn

@@ -17,8 +17,8 @@ state_of parts = record { stores = parts.stores.items; sources = parts.sources.i
 abbrev pub with_supplies : {S L : Type 0} → RunState S L → List Supply → RunState Supply L
 with_supplies now given = record { stores = now.stores; sources = given; links = now.links }
 
--- whatever the sources of a run become later, they could become it before too, and this holds of the run before and
--- after, with what the sources give until then in their place
+-- for any later states of a run's sources: they led there before the run too, and this holds of the run before and
+-- after, with what each source gives until its later state in place of the source
 abbrev pub InRun : {S L : Type 0} → (S → S → Type 0) → (S → S → Supply) → RunState S L → RunState S L
     → (RunState Supply L → RunState Supply L → Type 0) → Type 0
 InRun leads until before after P =

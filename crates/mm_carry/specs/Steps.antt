@@ -1,9 +1,9 @@
 -- The first steps of a run, carried out whole.
-use Rattle.std.specs.Prelude.{◌≡◌, ℕ, ◌-◌, ◌*◌, ◌<◌, ◌≤◌, List, [], ◌++◌, length, map, flat_map, sum_by, slice_index_or}
-use Rattle.std.specs.Prelude.{All}
+use Rattle.std.specs.Prelude.{◌≡◌, ℕ, ◌+◌, ◌-◌, ◌*◌, ◌<◌, ◌≤◌, List, [], ◌++◌, length, map, flat_map, sum_by, All}
+use Rattle.std.specs.Prelude.{slice_index_or}
 use Rattle.std.specs.List.{range_with_len}
 use Rattle.mm_carry.specs.Words.{Amounts, Stored, Held, labels_of, id_at, given_in, Supply, times, places_of, Sent}
-use Rattle.mm_carry.specs.Words.{all_sent, Reported}
+use Rattle.mm_carry.specs.Words.{all_sent, lost, Reported}
 use Rattle.mm_carry.specs.StepRuns.{IsStepRun}
 use Rattle.mm_carry.specs.Accounts.{IsAccounted}
 use Rattle.mm_carry.specs.AsPlanned.{AtEach}
@@ -67,8 +67,11 @@ pub record StepsDone {L : Type 0} (sent : L → List Sent) (failed : L → ℕ) 
   -- of each store of the problem, what became of its packets: what the links sent is what its orders were given
   pub accounted : (s : ℕ) → s < length m.problem.rows
       → IsAccounted steps (offered m s) (gave (place_in_memory m s)) (λ t. store_state m (stores t) s)
-  -- of all that the sources gave, which store was offered what, and what no route takes
-  pub shared : AreShared m steps
+  -- of all that the sources gave, what each store took, and what no route takes
+  pub shared : AreShared m steps gave after.stores
+  -- each store lost what the plan loses in it of what came
+  pub losses : (s : ℕ) → s < length m.problem.rows → (store_state m after.stores s).lost
+      ≡ (store_state m m.memory.stores s).lost + sum_by (lost (as_came m) m.amounts s) (range_with_len 1 steps)
   pub report_is : report ≡ report_of m.problem (as_came m) m.amounts steps
   pub rows : report.steps ≡ rows_by_counters m stores steps
   pub counted : AreByCounters m after.stores report.steps

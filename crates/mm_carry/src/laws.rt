@@ -4,6 +4,7 @@ ghost use Rattle.mm_carry.specs.Laws.{RunsLoseAsPlanned, RunsLoseThePlansLoss, R
 ghost use Rattle.mm_carry.specs.Laws.{HalvesMakeStepRuns, StepRunsKeepStores, WholeStepsFit, DrawsMeetNoRefusal};
 ghost use Rattle.mm_carry.specs.Halts.{BrokenStepsAreLogs, StepsWithoutStopAreWhole};
 ghost use Rattle.mm_carry.specs.Following.{RunsSendOnce, StepsAreStoreRuns, HaltedRunsAreStoreRuns};
+ghost use Rattle.mm_carry.specs.GoingOn.{HaltedRunsGoOn, HaltedRunsHaveRests, RunsFollow};
 ghost use Rattle.mm_carry.specs.declared.readiness.TheConstants.{MAX_LINKS};
 
 use mm_desk::laws::events_keep_a_state;
@@ -85,6 +86,17 @@ pub fn whole_orders_send_once()
 pub fn runs_are_store_runs<L: Link>()
     ensures steps { StepsAreStoreRuns L.sent L.failed }
     ensures halted { HaltedRunsAreStoreRuns L.sent L.failed }
+{
+    broken_orders_change_nothing();
+}
+
+/// After a halt the memory passes all tests before a run of the rest, whose start volumes are what its stores hold: the
+/// halted step with what is left of it and the steps after it, or the later steps alone (`rest` of a `Problem`). A run
+/// over the stores that another run left follows it.
+pub fn halted_runs_go_on<L: Link>()
+    ensures on { HaltedRunsGoOn L.sent L.failed }
+    ensures rests { HaltedRunsHaveRests L.sent L.failed }
+    ensures follow { RunsFollow }
 {
     broken_orders_change_nothing();
 }

@@ -17,7 +17,7 @@ mod step;
 mod step_counts;
 
 pub use course::RunContext;
-pub use readiness::{MAX_LINKS, ready};
+pub use readiness::{MAX_LINKS, has_limit, ready};
 pub use requirement::Requirement;
 pub use run_end::{Flown, FlyHalted, FlyResult, Halted, RunEnd};
 pub use run_parts::RunParts;

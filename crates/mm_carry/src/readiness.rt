@@ -15,8 +15,9 @@ use mm_report::{Cause, MAX_SOURCES};
 /// The most links of a run.
 pub const MAX_LINKS: usize = 4;
 
-// Whether a channel of the problem has a limit: in each step or in none.
-fn has_limit(problem: &Problem) -> bool
+/// Whether a channel of the problem has a limit: in each step or in none.
+#[must_use]
+pub fn has_limit(problem: &Problem) -> bool
     ensures { IsTrue result ↔ HasLimit problem.now }
 {
     for channel in 0..problem.channels() {

@@ -1,8 +1,10 @@
 -- Ranges of numbers, as a loop goes through them.
-use Rattle.std.proofs.Common.{◌≡◌, ℕ, ◌+◌, ◌-◌, ◌≤◌, List, [], ◌∷◌, ◌++◌, ◌∙◌, ap, sym, max, arith}
+use Rattle.std.proofs.Common.{◌≡◌, ℕ, ◌+◌, ◌-◌, ◌≤◌, Bool, ◌||◌, List, [], ◌∷◌, ◌++◌, ◌∙◌, ap, sym, max, arith}
 use Rattle.std.proofs.Common.{add-one, append-nil, append_assoc}
-use Rattle.std.specs.List.{flat_map, range_with_len, sum_by}
+use Rattle.std.specs.List.{flat_map, list_any, range_with_len, sum_by}
 use Rattle.std.proofs.lemmas.Grind.{flat_map-append}
+use Rattle.std.proofs.Math.Bool.{or-false}
+use Rattle.std.proofs.lemmas.List.Folds.{list_any-append}
 use Rattle.std.proofs.lemmas.List.{flat_map_more}
 use Rattle.std.proofs.lemmas.List.Sums.{sum_by_push}
 use Rattle.mm_base.proofs.Ranges.{range_with_len_more, range_with_len_next}
@@ -24,6 +26,12 @@ largest_first f n = ap (largest f) (range_first n) ∙ largest-push f (range_wit
 pub flat_map_first : {X : Type 0} (f : ℕ → List X) (n : ℕ)
     → flat_map f (range_with_len 0 (n + 1)) ≡ flat_map f (range_with_len 0 n) ++ f n
 flat_map_first f n = ap (flat_map f) (range_first n) ∙ sym (flat_map_more f [] (range_with_len 0 n) n)
+
+pub list_any_first : (f : ℕ → Bool) (n : ℕ)
+    → list_any f (range_with_len 0 (n + 1)) ≡ (list_any f (range_with_len 0 n) || f n)
+list_any_first f n =
+    ap (list_any f) (range_first n) ∙ list_any-append f (range_with_len 0 n) (n ∷ [])
+    ∙ ap (λ b. list_any f (range_with_len 0 n) || b) (or-false (f n))
 
 -- the same for steps, which count from 1
 pub sum_by_next : (f : ℕ → ℕ) (t : ℕ) → 1 ≤ t

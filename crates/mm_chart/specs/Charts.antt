@@ -6,7 +6,7 @@ use Rattle.mm_plan.specs.Sheet.{SheetRows}
 use Rattle.mm_problem.specs.Dumping.{Dumping}
 use Rattle.mm_cut.specs.Verdicts.{IsSheetVerdict}
 use Rattle.mm_cut.specs.declared.verdict.Verdict.{Verdict}
-use Rattle.mm_chart.specs.declared.document.TheConstants.{OPENING, FONT, STYLES, LEGEND}
+use Rattle.mm_chart.specs.declared.document.TheConstants.{OPENING, FONT, STYLES}
 use Rattle.mm_chart.specs.Picture.{Drawn, picture_of}
 use Rattle.mm_chart.specs.Layout.{word_line}
 use Rattle.mm_chart.specs.Rows.{rows}
@@ -19,7 +19,7 @@ head p = joined (OPENING.now ∷ decimal (word_line p.problem (word_lines p p.ve
 
 -- what a chart is made of, in order
 abbrev pub shapes : Drawn → List Shape
-shapes p = Fixed STYLES.now ∷ headline p ∷ Fixed LEGEND.now ∷ rows p ++ words p
+shapes p = Fixed STYLES.now ∷ headline p ∷ rows p ++ words p
 
 -- the document of a picture
 unfoldable pub chart : Drawn → List ℕ

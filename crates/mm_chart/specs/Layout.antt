@@ -1,10 +1,11 @@
 -- Where things stand in a chart. Down is greater.
-use Rattle.std.specs.Prelude.{ℕ, ◌+◌, ◌-◌, ◌*◌, ◌/◌, ◌<◌, nat_le, min, length, Option, Some, None, if◌then◌else◌}
+use Rattle.std.specs.Prelude.{ℕ, ◌+◌, ◌-◌, ◌*◌, ◌/◌, ◌<◌, nat_le, nat_lt, min, length, Option, Some, None, Bool}
+use Rattle.std.specs.Prelude.{if◌then◌else◌}
 use Rattle.std.specs.List.{sum_by, range_with_len}
 use Rattle.mm_base.specs.declared.limits.TheConstants.{MAX_STORES}
 use Rattle.mm_problem.specs.Dumping.{Dumping, limit}
 use Rattle.mm_chart.specs.declared.layout.TheConstants.{LEFT, ROOM, MAX_WIDTH, WINDOW_BASE, CHANNEL_PITCH, STORE_PITCH}
-use Rattle.mm_chart.specs.declared.layout.TheConstants.{TALL, THIN, LOSS, SAVED, RAISED, OVER, WORDS_BELOW, LINE_PITCH}
+use Rattle.mm_chart.specs.declared.layout.TheConstants.{TALL, THIN, LOSS, SAVED, OVER, WORDS_BELOW, LINE_PITCH}
 use Rattle.mm_chart.specs.declared.series.Series.{Series}
 use Rattle.mm_chart.specs.declared.series.Series.TheVariants.{WindowCounts, ChannelCounts, Sent, Inner, Last, Written}
 use Rattle.mm_chart.specs.declared.series.Series.TheVariants.{Left, Lost, Worth, Raised}
@@ -33,6 +34,10 @@ has_limit q c = one_if_some (limit q c 1)
 abbrev pub limits_below : Dumping → ℕ → ℕ
 limits_below q c = sum_by (has_limit q) (range_with_len 0 c)
 
+-- whether a channel has a limit
+abbrev pub is_limited : Dumping → Bool
+is_limited q = nat_lt 0 (limits_below q (length q.limits))
+
 -- the line on which a channel's row stands
 abbrev pub channel_base : Dumping → ℕ → ℕ
 channel_base q c = WINDOW_BASE + CHANNEL_PITCH * (limits_below q c + 1)
@@ -58,7 +63,7 @@ room_of (ChannelCounts c) = THIN + 2 * OVER
 room_of (Sent c) = THIN
 room_of (Lost s) = LOSS
 room_of Worth = SAVED
-room_of (Raised c) = RAISED
+room_of (Raised c) = SAVED
 room_of _ = TALL
 
 -- the line on which it stands

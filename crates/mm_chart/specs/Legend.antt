@@ -1,38 +1,50 @@
--- What the colours of a chart mean.
-use Rattle.std.specs.Prelude.{ℕ, List, ◌∷◌, [], ◌++◌, codes}
-use Rattle.mm_base.specs.Characters.{line_feed}
+-- What the colours of a chart mean: a key for each that is there.
+use Rattle.std.specs.Prelude.{ℕ, ◌&&◌, nat_lt, Bool, if◌then◌else◌, List, ◌∷◌, [], ◌++◌, length, codes}
+use Rattle.std.specs.List.{list_any}
+use Rattle.mm_problem.specs.Dumping.{stores}
+use Rattle.mm_chart.specs.declared.legend.TheConstants.{STAYS_KEY, LEAVES_KEY, WINDOW_KEY, USED_KEY, LOST_KEY}
+use Rattle.mm_chart.specs.declared.legend.TheConstants.{COUNTS_KEY, LAST_KEY, SENT_KEY, SAVED_KEY}
 use Rattle.mm_chart.specs.declared.series.Series.{Series}
-use Rattle.mm_chart.specs.declared.series.Series.TheVariants.{Last, Left, Lost, Sent, Used, Window, WindowCounts, Worth}
-use Rattle.mm_chart.specs.declared.series.Series.TheVariants.{Written, Raised}
-use Rattle.mm_chart.specs.Svg.{series_name}
+use Rattle.mm_chart.specs.declared.series.Series.TheVariants.{Left, Used, Window}
+use Rattle.mm_chart.specs.Picture.{Drawn, has_worth, cut}
+use Rattle.mm_chart.specs.Series.{total_of, most_lost, most_saved}
+use Rattle.mm_chart.specs.Layout.{is_limited}
+use Rattle.mm_chart.specs.Svg.{Shape, Fixed, series_name}
 
 -- at the first place a small box that looks like the series, and at the second what it means
 abbrev pub key : Series → List ℕ → List ℕ → List ℕ → List ℕ
 key series box at words =
-    codes "<rect class='" ++ series_name series ++ codes "' " ++ box ++ codes " width='12' height='12'/><text " ++ at ++
-    codes ">"
-    ++ words ++ codes "</text>"
+    codes "<rect class='" ++ series_name series ++ codes "' " ++ box
+    ++ codes " width='12' height='12'/><text class='t' " ++ at ++ codes ">" ++ words ++ codes "</text>\n"
 
--- the keys of the colours
-abbrev pub legend : List ℕ
-legend =
-    codes "<g class='t'>"
-    ++ key (Left 0) (codes "x='16' y='44'") (codes "x='32' y='54'") (codes "stays in the store")
-    ++ key (Written 0) (codes "x='170' y='44'") (codes "x='186' y='54'") (codes "leaves in this step")
-    ++ key (Lost 0) (codes "x='330' y='44'") (codes "x='346' y='54'")
-    (codes "lost in this step (one scale for all stores)")
-    ++ key Window (codes "x='710' y='44'") (codes "x='726' y='54'") (codes "window")
-    ++ key Used (codes "x='800' y='44'") (codes "x='816' y='54'") (codes "used")
-    ++ key WindowCounts (codes "x='16' y='62'") (codes "x='32' y='72'") (codes "counts in the cut")
-    ++ key (Last 0) (codes "x='170' y='62'") (codes "x='186' y='72'")
-    (codes "last step of a stretch: the size of the store counts")
-    ++ key (Sent 0) (codes "x='710' y='62'") (codes "x='726' y='72'") (codes "sent on a channel with a limit")
-    ++ codes "</g>" ++ line_feed ∷ []
+-- the colour of what is saved
+abbrev pub saved_style : List ℕ
+saved_style = codes "<style>.q{fill:#1e8a4c;stroke:#000;stroke-width:.5}</style>\n"
 
--- the keys of what windows and limits are worth, with the colour
-abbrev pub worth_key : List ℕ
-worth_key =
-    codes "<style>.q{fill:#1e8a4c;stroke:#000;stroke-width:.5}</style>\n<g class='t'>"
-    ++ key Worth (codes "x='870' y='44'") (codes "x='886' y='54'") (codes "saved by a wider window")
-    ++ key (Raised 0) (codes "x='946' y='62'") (codes "x='962' y='72'") (codes "by a higher limit")
-    ++ codes "</g>" ++ line_feed ∷ []
+-- a key where what it names is there
+unfoldable pub key_if : Bool → List ℕ → List Shape
+key_if there key = if there then Fixed key ∷ [] else []
+
+-- whether a series has a number above 0
+abbrev pub has : Drawn → Series → Bool
+has p x = nat_lt 0 (total_of p x)
+
+-- whether something stays in a store
+abbrev pub stays : Drawn → Bool
+stays p = list_any (λ s. has p (Left s)) (stores p.problem)
+
+-- whether a stretch has an inner step
+abbrev pub has_inner : Drawn → Bool
+has_inner p = list_any (λ d. nat_lt d.first d.last) (cut p)
+
+-- the keys of what is in the row of the windows, and of what leaves by them
+unfoldable pub windows_keys : Drawn → List Shape
+windows_keys p =
+    key_if (has p Used) LEAVES_KEY.now ++ key_if (has p Window) WINDOW_KEY.now ++ key_if (has p Used) USED_KEY.now
+
+-- the other keys
+unfoldable pub legend : Drawn → List Shape
+legend p =
+    key_if (stays p) STAYS_KEY.now ++ key_if (nat_lt 0 (most_lost p)) LOST_KEY.now
+    ++ key_if (has_inner p) COUNTS_KEY.now ++ key_if (nat_lt 0 (length (cut p))) LAST_KEY.now
+    ++ key_if (is_limited p.problem) SENT_KEY.now ++ key_if (has_worth p && nat_lt 0 (most_saved p)) SAVED_KEY.now

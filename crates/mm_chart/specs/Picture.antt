@@ -1,5 +1,5 @@
--- What a chart is drawn of: a problem, a sheet for it, the verdict on the sheet, and what windows and limits are worth
--- where that is known.
+-- What a chart is drawn of: a problem, a sheet for it, the verdict on the sheet, and what windows, limits and sizes are
+-- worth where that is known.
 use Rattle.std.specs.Prelude.{Bool, true, false, Option, is_some, List, [], if◌then◌else◌, ℕ}
 use Rattle.mm_problem.specs.Dumping.{Dumping}
 use Rattle.mm_plan.specs.declared.stretch.Stretch.{Stretch}
@@ -12,7 +12,7 @@ use Rattle.mm_cut.specs.Verdicts.{IsSheetVerdict}
 use Rattle.mm_cut.specs.declared.verdict.Verdict.{Verdict}
 use Rattle.mm_cut.specs.declared.verdict.Verdict.TheVariants.{BoundIs, NotShown, FirstNotShown, Least, LeastInOrder}
 
--- how many blocks a larger window or limit saves at most; what is after the end of a list saves 0
+-- how many blocks a larger window, limit or store saves at most; what is after the end of a list saves 0
 pub record WorthLists : Type 0 where
   -- the window of each step
   pub windows : List ℕ
@@ -20,6 +20,8 @@ pub record WorthLists : Type 0 where
   pub limits : List ℕ
   -- the limits of steps: step by step, in each all channels
   pub step_limits : List ℕ
+  -- the size of each store
+  pub sizes : List ℕ
 
 pub record Drawn : Type 0 where
   pub problem : Dumping
@@ -31,7 +33,7 @@ pub record Drawn : Type 0 where
 abbrev pub picture_of : Dumping → SheetRows → Verdict → Option WorthLists → Drawn
 picture_of q s v worth = record { problem = q; sheet = s; verdict = v; worth = worth }
 
--- whether it is known what windows and limits are worth
+-- whether it is known what windows, limits and sizes are worth
 abbrev pub has_worth : Drawn → Bool
 has_worth p = is_some p.worth
 

@@ -1,21 +1,22 @@
 -- The rows of a chart: each is a list of shapes.
-use Rattle.std.specs.Prelude.{ℕ, ◌+◌, ◌-◌, ◌/◌, ◌%◌, ◌==◌, ◌||◌, Bool, if◌then◌else◌, List, [], ◌∷◌, ◌++◌, length}
-use Rattle.std.specs.Prelude.{codes, decimal, flat_map}
+use Rattle.std.specs.Prelude.{ℕ, ◌+◌, ◌-◌, ◌/◌, ◌%◌, ◌==◌, ◌||◌, Bool, not, if◌then◌else◌, List, [], ◌∷◌, ◌++◌}
+use Rattle.std.specs.Prelude.{length, codes, decimal, flat_map}
 use Rattle.std.specs.List.{sum_by, list_any}
 use Rattle.mm_base.specs.Id.{id_text}
 use Rattle.mm_problem.specs.Dumping.{Dumping, row, size, start, channel, arrivals, steps, stores, channels}
 use Rattle.mm_chart.specs.declared.layout.TheConstants.{LEFT, WINDOW_BASE, TALL, THIN, NAME_AT, TICK_AT, SAVED_AT}
-use Rattle.mm_chart.specs.declared.layout.TheConstants.{RAISED_AT}
+use Rattle.mm_chart.specs.declared.layout.TheConstants.{RAISED_AT, LARGER_AT}
 use Rattle.mm_chart.specs.declared.phrases.TheConstants.{SAVES}
-use Rattle.mm_chart.specs.declared.rows.TheConstants.{WORTH_KEY}
 use Rattle.mm_chart.specs.declared.pen.Style.TheVariants as style
+use Rattle.mm_chart.specs.declared.series.Series.{Series}
 use Rattle.mm_chart.specs.declared.series.Series.TheVariants.{WindowCounts, Window, Used, ChannelCounts, Sent, Inner}
 use Rattle.mm_chart.specs.declared.series.Series.TheVariants.{Last, Written, Left, Lost, Worth, Raised}
 use Rattle.mm_chart.specs.Picture.{Drawn, has_worth}
-use Rattle.mm_chart.specs.Series.{total_of, most_of, most_limit}
+use Rattle.mm_chart.specs.Series.{total_of, most_of, most_limit, size_worth_of}
 use Rattle.mm_chart.specs.Layout.{edge, step_width, steps_width, has_limit, channel_base, store_base, bottom}
 use Rattle.mm_chart.specs.Layout.{tick_every}
-use Rattle.mm_chart.specs.Svg.{Shape, Fixed, Label, Frame, Guide, Outline, escaped, grouped}
+use Rattle.mm_chart.specs.Legend.{windows_keys, legend}
+use Rattle.mm_chart.specs.Svg.{Shape, Label, Frame, Guide, Outline, escaped, grouped}
 
 -- where the words at the right of a row begin
 abbrev pub right : Dumping → ℕ
@@ -33,6 +34,12 @@ total q y parts = Label style.Total (right q) y parts
 abbrev pub frame : Dumping → ℕ → ℕ → Shape
 frame q base height = Frame LEFT (base - height) (steps_width q) height
 
+-- bars of what is saved, and the most of them in words; nothing where none is, or where that is not known
+unfoldable pub saves : Drawn → Series → ℕ → List Shape
+saves p x y =
+    if not (has_worth p) || (most_of p x == 0) then []
+    else Outline p x ∷ side y (SAVES.now ∷ grouped (most_of p x) ∷ []) ∷ []
+
 -- ---- the row of the windows
 
 unfoldable pub windows_words : Drawn → List Shape
@@ -46,14 +53,7 @@ windows_words p =
 unfoldable pub windows_row : Drawn → List Shape
 windows_row p =
     Outline p WindowCounts ∷ Outline p Window ∷ Outline p Used ∷ frame p.problem WINDOW_BASE TALL
-    ∷ windows_words p
-
--- what the windows are worth, above them, and what its colour means; nothing where that is not known
-unfoldable pub worth_row : Drawn → List Shape
-worth_row p =
-    if has_worth p
-    then Fixed WORTH_KEY.now ∷ Outline p Worth ∷ side SAVED_AT (SAVES.now ∷ grouped (most_of p Worth) ∷ []) ∷ []
-    else []
+    ∷ windows_words p ++ windows_keys p
 
 -- ---- the rows of the channels with a limit
 
@@ -69,14 +69,6 @@ limit_front q c = if is_by_step q c then codes ": up to " else codes ": "
 unfoldable pub limit_back : Dumping → ℕ → List ℕ
 limit_back q c = if is_by_step q c then [] else codes " a step"
 
--- what its limits are worth, above its row; nothing where that is not known
-unfoldable pub raised : Drawn → ℕ → List Shape
-raised p c =
-    if has_worth p
-    then Outline p (Raised c)
-    ∷ side (channel_base p.problem c - RAISED_AT) (SAVES.now ∷ grouped (most_of p (Raised c)) ∷ []) ∷ []
-    else []
-
 -- a channel with its limit, the greatest of all steps, and what leaves on it
 unfoldable pub channel_words : Drawn → ℕ → List Shape
 channel_words p c =
@@ -85,12 +77,12 @@ channel_words p c =
     ∷ total p.problem (channel_base p.problem c - 5) (grouped (total_of p (Sent c)) ∷ codes " sent" ∷ [])
     ∷ []
 
--- nothing for a channel without a limit
+-- the row of a channel, with what its limits are worth above it; nothing for a channel without a limit
 unfoldable pub channel_row : Drawn → ℕ → List Shape
 channel_row p c =
     if has_limit p.problem c == 0 then []
     else Outline p (ChannelCounts c) ∷ Outline p (Sent c) ∷ frame p.problem (channel_base p.problem c) THIN
-    ∷ channel_words p c ++ raised p c
+    ∷ channel_words p c ++ saves p (Raised c) (channel_base p.problem c - RAISED_AT)
 
 -- ---- the rows of the stores
 
@@ -130,10 +122,16 @@ store_words p s base =
     ∷ total p.problem (base - 4) (codes "of " ∷ grouped (coming_to p s) ∷ [])
     ∷ []
 
+-- what a larger store saves at most, above its name; nothing where that is none, or is not known
+unfoldable pub larger : Drawn → ℕ → ℕ → List Shape
+larger p s y =
+    let saved = size_worth_of p.worth s in
+    if saved == 0 then [] else side y (SAVES.now ∷ grouped saved ∷ []) ∷ []
+
 unfoldable pub store_row : Drawn → ℕ → List Shape
 store_row p s =
     store_bars p s ++ Outline p (Lost s) ∷ frame p.problem (store_base p.problem s) TALL
-    ∷ store_words p s (store_base p.problem s)
+    ∷ store_words p s (store_base p.problem s) ++ larger p s (store_base p.problem s - LARGER_AT)
 
 -- ---- ticks
 
@@ -149,7 +147,9 @@ tick p t =
     ∷ Guide (middle p.problem t) (TICK_AT + 4) (bottom p.problem) ∷ []
     else []
 
+-- the keys, the ticks, and the rows: the windows, with what they are worth above them, the channels and the stores
 unfoldable pub rows : Drawn → List Shape
 rows p =
-    side TICK_AT (codes "step" ∷ []) ∷ flat_map (tick p) (steps p.problem) ++ windows_row p ++ worth_row p
-    ++ flat_map (channel_row p) (channels p.problem) ++ flat_map (store_row p) (stores p.problem)
+    legend p ++ side TICK_AT (codes "step" ∷ []) ∷ flat_map (tick p) (steps p.problem) ++ windows_row p
+    ++ saves p Worth SAVED_AT ++ flat_map (channel_row p) (channels p.problem)
+    ++ flat_map (store_row p) (stores p.problem)

@@ -4,7 +4,7 @@ use Rattle.std.specs.Prelude.{◌==◌, ◌&&◌, if◌then◌else◌, List, [],
 use Rattle.std.specs.List.{sum_by, list_any}
 use Rattle.mm_base.specs.declared.limits.TheConstants.{CHANNELS}
 use Rattle.mm_base.specs.Grid.{grid_place}
-use Rattle.mm_problem.specs.Dumping.{Dumping, size, window, stores, stores_of, steps}
+use Rattle.mm_problem.specs.Dumping.{Dumping, size, window, stores, stores_of, steps, channels}
 use Rattle.mm_plan.specs.Volumes.{written, left, lost}
 use Rattle.mm_cut.specs.Stretches.{store_of, goes_past, is_inner_on}
 use Rattle.mm_cut.specs.Cuts.{limit_or_0, counts_window, counts_limits}
@@ -51,6 +51,11 @@ step_limit_worth ns c t = slice_index_or ns (grid_place CHANNELS t c) 0
 abbrev pub limit_worth_of : Option WorthLists → ℕ → ℕ → ℕ
 limit_worth_of (Some w) c t = max (slice_index_or w.limits c 0) (step_limit_worth w.step_limits c t)
 limit_worth_of None c t = 0
+
+-- what the size of a store is worth, and 0 where that is not known
+abbrev pub size_worth_of : Option WorthLists → ℕ → ℕ
+size_worth_of (Some w) s = slice_index_or w.sizes s 0
+size_worth_of None s = 0
 
 -- the store or the channel is there
 abbrev pub IsSeries : Drawn → Series → Type 0
@@ -103,11 +108,19 @@ most_lost_by p s = most_of p (Lost s)
 abbrev pub most_lost : Drawn → ℕ
 most_lost p = largest (most_lost_by p) (stores p.problem)
 
+-- the most that one higher limit of a channel saves
+abbrev pub most_raised_by : Drawn → ℕ → ℕ
+most_raised_by p c = most_of p (Raised c)
+
+-- the most that one larger window or limit saves
+abbrev pub most_saved : Drawn → ℕ
+most_saved p = max (largest (most_raised_by p) (channels p.problem)) (most_of p Worth)
+
 -- the greatest limit of a channel in a step
 abbrev pub most_limit : Dumping → ℕ → ℕ
 most_limit q c = largest (λ t. limit_or_0 q t c) (steps q)
 
--- the amount that is drawn in full height: the losses of all stores have one scale
+-- the amount that is drawn in full height: the losses of all stores have one scale, and so has all that is saved
 abbrev pub whole_of : Drawn → Series → ℕ
 whole_of p Window = most_of p Window
 whole_of p Used = most_of p Window
@@ -115,8 +128,8 @@ whole_of p (Sent c) = most_limit p.problem c
 whole_of p (Written s) = size p.problem s
 whole_of p (Left s) = size p.problem s
 whole_of p (Lost s) = most_lost p
-whole_of p Worth = most_of p Worth
-whole_of p (Raised c) = most_of p (Raised c)
+whole_of p Worth = most_saved p
+whole_of p (Raised c) = most_saved p
 whole_of p _ = 1
 
 -- an amount in a scale in which the whole has this height: amount * height / whole, rounded up, and at most the height

@@ -2,10 +2,10 @@
 use Rattle.std.specs.Prelude.{ℕ, ◌+◌, ◌-◌, ◌*◌, ◌/◌, ◌%◌, ◌==◌, length, nat_le, nat_lt, Bool, ◌&&◌, not, if◌then◌else◌}
 use Rattle.std.specs.Prelude.{List, [], ◌∷◌, ◌++◌, codes, decimal, flat_map}
 use Rattle.std.specs.List.{sum_by}
-use Rattle.mm_problem.specs.Dumping.{Dumping, steps, stores}
+use Rattle.mm_problem.specs.Dumping.{steps, stores}
 use Rattle.mm_plan.specs.Volumes.{first_loss}
 use Rattle.mm_cut.specs.declared.verdict.Verdict.{Verdict}
-use Rattle.mm_cut.specs.declared.verdict.Verdict.TheVariants.{NotShown, Least, LeastInOrder}
+use Rattle.mm_cut.specs.declared.verdict.Verdict.TheVariants.{LossIs, NotShown, Least, LeastInOrder}
 use Rattle.mm_cut.specs.Cuts.{coming_sum, held_sum, windows_sum, limits_sum}
 use Rattle.mm_cut.specs.Lines.{line_of}
 use Rattle.mm_chart.specs.declared.layout.TheConstants.{MARGIN, HEADLINE_AT, LINE_PITCH}
@@ -15,13 +15,14 @@ use Rattle.mm_chart.specs.declared.phrases.TheConstants.{IN_STRETCHES, COME, AS_
 use Rattle.mm_chart.specs.declared.phrases.TheConstants.{BY_LIMITS, NO_LIMITS, HELP, WIDER, NO_WIDER, HIGHER, NO_HIGHER}
 use Rattle.mm_chart.specs.declared.phrases.TheConstants.{LARGER, FEWER, MARKED_WORTH, ONE_WIDER, ONE_HIGHER, FEW_NAMES}
 use Rattle.mm_chart.specs.declared.phrases.TheConstants.{FEW_LOSSES, NO_OTHER, NONE_WIDER, IN_ORDER, FIRSTS, LOSE}
+use Rattle.mm_chart.specs.declared.phrases.TheConstants.{PLAN_LOSES, TEXT_SAYS, ONE_LARGER}
 use Rattle.mm_chart.specs.declared.pen.Style.{Style}
 use Rattle.mm_chart.specs.declared.pen.Style.TheVariants as style
 use Rattle.mm_chart.specs.declared.series.Series.{Series}
 use Rattle.mm_chart.specs.declared.series.Series.TheVariants.{WindowCounts, CountedWindow, LimitsCount, Worth}
 use Rattle.mm_chart.specs.Picture.{Drawn, amounts, has_worth, cut, counts}
 use Rattle.mm_chart.specs.Series.{one_if, amount_at, total_of, most_of, has_stretch}
-use Rattle.mm_chart.specs.Layout.{word_line, limits_below}
+use Rattle.mm_chart.specs.Layout.{word_line, is_limited}
 use Rattle.mm_chart.specs.Svg.{Shape, Label, grouped, signed_grouped, joined, opened, closed}
 use Rattle.mm_chart.specs.Rows.{all_coming, name}
 
@@ -36,6 +37,9 @@ headline_of p (LeastInOrder n) =
 headline_of p (NotShown n m) =
     Label style.Doubtful MARGIN HEADLINE_AT
     (grouped n ∷ codes " of " ∷ grouped (all_coming p) ∷ ONLY_SHOWN.now ∷ signed_grouped m ∷ [])
+headline_of p (LossIs n) =
+    Label style.Alarm MARGIN HEADLINE_AT
+    (PLAN_LOSES.now ∷ grouped n ∷ codes " of " ∷ grouped (all_coming p) ∷ TEXT_SAYS.now ∷ grouped p.sheet.loss ∷ [])
 headline_of p v = Label style.Alarm MARGIN HEADLINE_AT (line_of v ∷ [])
 
 abbrev pub headline : Drawn → Shape
@@ -154,6 +158,10 @@ unfoldable pub stores_line : Drawn → ℕ → Shape
 stores_line p n =
     line_words p style.Plain n (LARGER.now ∷ flat_map (stretched_at p (word_line p.problem n)) (stores p.problem) ∷ [])
 
+-- the first line after what may help, with an empty one before it: the names have a line for each group of few stores
+abbrev pub after_help : Drawn → ℕ
+after_help p = 12 + (length p.problem.rows + (FEW_NAMES - 1)) / FEW_NAMES
+
 -- what the cut counts: nothing else can lower the loss
 unfoldable pub help : Drawn → List Shape
 help p =
@@ -163,20 +171,17 @@ help p =
     ∷ line_words p style.Plain 10 (FEWER.now ∷ [])
     ∷ stores_line p 11 ∷ []
 
--- ---- what one window is worth
-
--- whether a channel has a limit
-abbrev pub is_limited : Dumping → Bool
-is_limited q = nat_lt 0 (limits_below q (length q.limits))
+-- ---- what one change is worth
 
 -- exactly the steps in which a wider window saves blocks by itself, how many at most, and where the rows say what a
--- limit is worth; nothing where that is not known
+-- store and a limit are worth; nothing where that is not known
 unfoldable pub worth_words : Drawn → ℕ → List Shape
 worth_words p n =
     if has_worth p
     then line_words p style.Heading n (ONE_WIDER.now ∷ [])
     ∷ steps_line p Worth (n + 1) (NO_OTHER.now ∷ []) NONE_WIDER.now
-    ∷ (if is_limited p.problem then line_words p style.Plain (n + 2) (ONE_HIGHER.now ∷ []) ∷ [] else [])
+    ∷ line_words p style.Plain (n + 2) (ONE_LARGER.now ∷ [])
+    ∷ (if is_limited p.problem then line_words p style.Plain (n + 3) (ONE_HIGHER.now ∷ []) ∷ [] else [])
     else []
 
 -- ---- what the first stores lose
@@ -199,13 +204,13 @@ firsts_lines p n = line_words p style.Heading n (FIRSTS.now ∷ []) ∷ firsts_l
 
 -- ---- all of the words
 
--- how many lines say what one window is worth, with an empty one after them
+-- how many lines say what one change is worth, with an empty one after them
 abbrev pub worth_room : Drawn → ℕ
-worth_room p = if has_worth p then (if is_limited p.problem then 4 else 3) else 0
+worth_room p = if has_worth p then (if is_limited p.problem then 5 else 4) else 0
 
 -- the first line after them
 abbrev pub firsts_line : Drawn → ℕ
-firsts_line p = 13 + worth_room p
+firsts_line p = after_help p + worth_room p
 
 -- how many lines say what the first stores lose, with the one before them
 abbrev pub firsts_room : Drawn → ℕ
@@ -213,7 +218,7 @@ firsts_room p = 2 + (length p.problem.rows + (FEW_LOSSES - 1)) / FEW_LOSSES
 
 -- the sum where the cut's bound is the loss, and the help
 unfoldable pub least_words : Drawn → ℕ → List Shape
-least_words p n = why p (grouped n) ++ help p ++ worth_words p 13
+least_words p n = why p (grouped n) ++ help p ++ worth_words p (after_help p)
 
 -- the sum where there is a cut to its bound, and the help where it is the loss and there is one
 unfoldable pub words_of : Drawn → Verdict → List Shape
@@ -227,7 +232,7 @@ words p = words_of p p.verdict
 
 -- how many lines they have room for
 abbrev pub word_lines : Drawn → Verdict → ℕ
-word_lines p (Least n) = if n == 0 then 0 else if has_worth p then 12 + worth_room p else 13
+word_lines p (Least n) = if n == 0 then 0 else after_help p + worth_room p
 word_lines p (LeastInOrder n) = if n == 0 then 0 else firsts_line p + firsts_room p
 word_lines p (NotShown n m) = 6 + worth_room p
 word_lines p v = 0

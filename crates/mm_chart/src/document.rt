@@ -37,20 +37,6 @@ pub const STYLES: &[u8] =
     <rect width='5' height='5' fill='#fbe29b'/><path d='M0 5L5 0' stroke='#b88a1a' stroke-width='.8'/>\
     </pattern></defs>\n<rect width='100%' height='100%' fill='#fff'/>\n";
 
-/// What the colours mean.
-pub const LEGEND: &[u8] = b"<g class='t'>\
-    <rect class='f' x='16' y='44' width='12' height='12'/><text x='32' y='54'>stays in the store</text>\
-    <rect class='g' x='170' y='44' width='12' height='12'/><text x='186' y='54'>leaves in this step</text>\
-    <rect class='l' x='330' y='44' width='12' height='12'/>\
-    <text x='346' y='54'>lost in this step (one scale for all stores)</text>\
-    <rect class='p' x='710' y='44' width='12' height='12'/><text x='726' y='54'>window</text>\
-    <rect class='u' x='800' y='44' width='12' height='12'/><text x='816' y='54'>used</text>\
-    <rect class='c' x='16' y='62' width='12' height='12'/><text x='32' y='72'>counts in the cut</text>\
-    <rect class='e' x='170' y='62' width='12' height='12'/>\
-    <text x='186' y='72'>last step of a stretch: the size of the store counts</text>\
-    <rect class='v' x='710' y='62' width='12' height='12'/>\
-    <text x='726' y='72'>sent on a channel with a limit</text></g>\n";
-
 /// The chart of the plan that the plan text says, for the problem that the setup and the forecast say. The faults come
 /// in this order: of the setup, of the forecast, of the plan text, of its shape.
 pub fn chart_bytes(
@@ -77,7 +63,6 @@ pub fn draw(alloc: Global, picture: &Picture) -> Result<Vec<u8>, NoMemory>
     parts!(&mut text; Said(OPENING), Number(height), Said(FONT))?;
     push_said(&mut text, STYLES)?;
     push_headline(alloc, &mut text, picture)?;
-    push_said(&mut text, LEGEND)?;
     push_rows(&mut text, picture)?;
     push_words(&mut text, picture)?;
     push_said(&mut text, b"</svg>\n")?;

@@ -6,7 +6,7 @@ ghost use Rattle.mm_chart.specs.Words.{headline};
 use crate::layout::{HEADLINE_AT, MARGIN};
 use crate::pen::Part::{Grouped, Said, Signed};
 use crate::pen::{Style, label, push_label};
-use crate::phrases::{IN_ORDER, NO_FEWER, ONLY_SHOWN};
+use crate::phrases::{IN_ORDER, NO_FEWER, ONLY_SHOWN, PLAN_LOSES, TEXT_SAYS};
 use crate::picture::Picture;
 use crate::rows::all_coming;
 use mm_base::NoMemory;
@@ -31,6 +31,10 @@ pub(crate) fn push_headline(
             label!(text; Headline x, y; Grouped(loss), of, all, Said(IN_ORDER))?,
         Verdict::NotShown { loss, bound } => {
             label!(text; Doubtful x, y; Grouped(loss), of, all, Said(ONLY_SHOWN), Signed(bound))?;
+        }
+        Verdict::LossIs(loss) => {
+            let said = Grouped(picture.said_loss());
+            label!(text; Alarm x, y; Said(PLAN_LOSES), Grouped(loss), of, all, Said(TEXT_SAYS), said)?;
         }
         other => {
             let line = verdict_line(alloc, other)?;

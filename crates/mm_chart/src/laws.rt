@@ -1,17 +1,18 @@
 //! What the words of a chart and the records of a table show, over their definitions alone.
-ghost use Rattle.std.specs.Prelude.{◌≡◌, codes};
+ghost use Rattle.std.specs.Prelude.{◌≡◌, ◌++◌, codes};
 ghost use Rattle.mm_chart.specs.Listed.{SumsAddUp, OnlyListedHelps};
-ghost use Rattle.mm_chart.specs.Legend.{legend, worth_key};
+ghost use Rattle.mm_chart.specs.Legend.{key, saved_style};
 ghost use Rattle.mm_chart.specs.Table.{RecordsBalance};
-ghost use Rattle.mm_chart.specs.declared.document.TheConstants.{LEGEND};
+ghost use Rattle.mm_chart.specs.declared.legend.TheConstants.{STAYS_KEY, LEAVES_KEY, WINDOW_KEY, USED_KEY, LOST_KEY};
+ghost use Rattle.mm_chart.specs.declared.legend.TheConstants.{COUNTS_KEY, LAST_KEY, SENT_KEY, SAVED_KEY};
 ghost use Rattle.mm_chart.specs.declared.phrases.TheConstants.{AS_ENDS, AT_LEAST, BY_LIMITS, BY_WINDOWS, COME, FEWER};
 ghost use Rattle.mm_chart.specs.declared.phrases.TheConstants.{FIRSTS, HELP, HIGHER, IN_ORDER, IN_STRETCHES, LARGER};
 ghost use Rattle.mm_chart.specs.declared.phrases.TheConstants.{LOSE, MARKED, MARKED_LIMITS, MARKED_PASSES};
 ghost use Rattle.mm_chart.specs.declared.phrases.TheConstants.{MARKED_WINDOWS, MARKED_WORTH, NONE_WIDER, NO_FEWER};
 ghost use Rattle.mm_chart.specs.declared.phrases.TheConstants.{NO_HIGHER, NO_LIMITS, NO_OTHER, NO_WIDER, NO_WINDOWS};
-ghost use Rattle.mm_chart.specs.declared.phrases.TheConstants.{ONE_HIGHER, ONE_WIDER, ONLY_SHOWN, SAVES, STAND, WHY};
-ghost use Rattle.mm_chart.specs.declared.phrases.TheConstants.{WIDER};
-ghost use Rattle.mm_chart.specs.declared.rows.TheConstants.{WORTH_KEY};
+ghost use Rattle.mm_chart.specs.declared.phrases.TheConstants.{ONE_HIGHER, ONE_WIDER, ONLY_SHOWN, PLAN_LOSES};
+ghost use Rattle.mm_chart.specs.declared.phrases.TheConstants.{ONE_LARGER, SAVES, STAND, TEXT_SAYS, WHY, WIDER};
+ghost use Rattle.mm_chart.specs.declared.series.Series.TheVariants as series;
 
 /// The four numbers of the sum give the number that follows it: the loss that no plan goes below, or the cut's bound.
 pub fn sums_add_up()
@@ -32,12 +33,35 @@ pub fn records_balance()
     ensures { RecordsBalance }
 {}
 
-/// What the headline says of a cut, and what the colours mean.
+/// What the headline says of a cut, and of a loss that the text says wrongly.
 pub fn headline_words_are()
     ensures least { NO_FEWER.now ≡ codes " blocks are lost, and no plan loses fewer" }
     ensures in_order { IN_ORDER.now ≡ codes " blocks are lost, and no plan loses fewer in the setup's order" }
     ensures shown { ONLY_SHOWN.now ≡ codes " blocks are lost; this cut shows only that no plan loses fewer than " }
-    ensures legend { LEGEND.now ≡ legend }
+    ensures loses { PLAN_LOSES.now ≡ codes "The plan loses " }
+    ensures says { TEXT_SAYS.now ≡ codes " blocks; its text says " }
+{}
+
+/// What the colours mean.
+pub fn legend_words_are()
+    ensures stays { STAYS_KEY.now
+        ≡ key (series.Left 0) (codes "x='16' y='44'") (codes "x='32' y='54'") (codes "stays in the store") }
+    ensures leaves { LEAVES_KEY.now
+        ≡ key (series.Written 0) (codes "x='170' y='44'") (codes "x='186' y='54'") (codes "leaves in this step") }
+    ensures window { WINDOW_KEY.now
+        ≡ key series.Window (codes "x='330' y='44'") (codes "x='346' y='54'") (codes "window") }
+    ensures used { USED_KEY.now ≡ key series.Used (codes "x='420' y='44'") (codes "x='436' y='54'") (codes "used") }
+    ensures lost { LOST_KEY.now ≡ key (series.Lost 0) (codes "x='510' y='44'") (codes "x='526' y='54'")
+        (codes "lost in this step (one scale for all stores)") }
+    ensures counts { COUNTS_KEY.now
+        ≡ key series.WindowCounts (codes "x='16' y='62'") (codes "x='32' y='72'") (codes "counts in the cut") }
+    ensures last { LAST_KEY.now ≡ key (series.Last 0) (codes "x='170' y='62'") (codes "x='186' y='72'")
+        (codes "last step of a stretch: the size of the store counts") }
+    ensures sent { SENT_KEY.now ≡ key (series.Sent 0) (codes "x='510' y='62'") (codes "x='526' y='72'")
+        (codes "sent on a channel with a limit") }
+    ensures saved { SAVED_KEY.now ≡ saved_style
+        ++ key series.Worth (codes "x='730' y='62'") (codes "x='746' y='72'")
+        (codes "saved by a wider window or a higher limit (one scale)") }
 {}
 
 /// The words of the sum, around its numbers.
@@ -77,14 +101,16 @@ pub fn marked_words_are()
     ensures others { MARKED.now ≡ codes " steps," }
 {}
 
-/// The words of what one window or limit is worth, and what their colour means.
+/// The words of what one window, store or limit is worth.
 pub fn worth_words_are()
-    ensures key { WORTH_KEY.now ≡ worth_key }
     ensures most { SAVES.now ≡ codes "saves up to " }
     ensures heading { ONE_WIDER.now
         ≡ codes "What one wider window saves: a block for each block that it is wider, up to the number in brackets" }
+    ensures stores { ONE_LARGER.now
+        ≡ codes "What one larger store saves at most stands above its name: nothing where it saves none." }
     ensures limits { ONE_HIGHER.now
-        ≡ codes "What one higher limit saves at most, for all steps or for one, stands above its channel's row." }
+        ≡ codes "What one higher limit saves at most, for all steps or for one, stands above its channel's row: "
+        ++ codes "nothing where it saves none." }
     ensures others { NO_OTHER.now ≡ codes " and in no other." }
     ensures none { NONE_WIDER.now ≡ codes "In no step: no wider window saves a block by itself." }
 {}

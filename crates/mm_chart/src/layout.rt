@@ -2,8 +2,8 @@
 ghost use Rattle.std.specs.Prelude.{◌≡◌, ◌+◌, ◌-◌, ◌*◌, ◌/◌, ◌<◌, ◌≤◌, ◌^◌, length};
 ghost use Rattle.mm_base.specs.declared.limits.TheConstants.{MAX_STORES, MAX_STEPS};
 ghost use Rattle.mm_problem.specs.Dumping.{IsDumping};
-ghost use Rattle.mm_chart.specs.Layout.{step_width, steps_width, limits_below, has_limit, channel_base, store_base};
-ghost use Rattle.mm_chart.specs.Layout.{bottom, word_line, room_of, base_of, IsPlaced, tick_every};
+ghost use Rattle.mm_chart.specs.Layout.{step_width, steps_width, limits_below, is_limited, has_limit, channel_base};
+ghost use Rattle.mm_chart.specs.Layout.{store_base, bottom, word_line, room_of, base_of, IsPlaced, tick_every};
 
 use crate::picture::Picture;
 use crate::series::Series;
@@ -27,14 +27,14 @@ pub const TALL: u32 = 32;
 pub const THIN: u32 = 18;
 /// The height of the greatest loss of any store.
 pub const LOSS: u32 = 10;
-/// The height of the most that a larger window saves.
-pub const SAVED: u32 = 12;
-/// The line of the words about it.
+/// The height of the most that a larger window or limit saves.
+pub const SAVED: u32 = 8;
+/// The line of the words about windows.
 pub const SAVED_AT: u32 = 111;
-/// The height of the most that a higher limit of a channel saves.
-pub const RAISED: u32 = 8;
-/// How far the words about it stand above a channel's line.
+/// How far the words about a channel's limit stand above its line.
 pub const RAISED_AT: u32 = 19;
+/// How far the words about a store's size stand above its line.
+pub const LARGER_AT: u32 = 33;
 /// How far the marks of a cut reach over a row, above and below.
 pub const OVER: u32 = 4;
 /// Where the names of rows end.
@@ -101,6 +101,13 @@ pub(crate) fn limits_below(problem: &Problem, channel: u8) -> u32
     count
 }
 
+// Whether a channel has a limit.
+pub(crate) fn is_limited(problem: &Problem) -> bool
+    ensures { result ≡ is_limited problem.now }
+{
+    limits_below(problem, problem.channels()) > 0
+}
+
 // The line on which a channel's row stands.
 pub(crate) fn channel_base(problem: &Problem, channel: u8) -> u32
     ensures base { result ≡ channel_base problem.now channel }
@@ -133,7 +140,7 @@ pub(crate) fn bottom(problem: &Problem) -> u32
 
 // A line of words below the rows.
 pub(crate) fn word_line(problem: &Problem, line: u32) -> u32
-    requires { line ≤ 23 }
+    requires { line ≤ 25 }
     ensures line { result ≡ word_line problem.now line }
     ensures most { result < 2 ^ 20 }
 {
@@ -150,8 +157,7 @@ pub(crate) fn room_of(series: Series) -> u32
         Series::ChannelCounts(_) => THIN + 2 * OVER,
         Series::Sent(_) => THIN,
         Series::Lost(_) => LOSS,
-        Series::Worth => SAVED,
-        Series::Raised(_) => RAISED,
+        Series::Worth | Series::Raised(_) => SAVED,
         _ => TALL,
     }
 }

@@ -21,6 +21,11 @@ pub const IN_ORDER: &[u8] = b" blocks are lost, and no plan loses fewer in the s
 pub const ONLY_SHOWN: &[u8] =
     b" blocks are lost; this cut shows only that no plan loses fewer than ";
 
+// The headline of a plan whose text says another loss, before the loss and after it.
+pub const PLAN_LOSES: &[u8] = b"The plan loses ";
+
+pub const TEXT_SAYS: &[u8] = b" blocks; its text says ";
+
 // What follows the number of steps that are too many to list.
 pub const MARKED_WINDOWS: &[u8] = b" steps marked in the row of the windows,";
 
@@ -71,7 +76,7 @@ pub const LARGER: &[u8] = b"Larger stores, and only these:";
 pub const FEWER: &[u8] =
     b"In the shaded stretches, and only there, fewer blocks that come, or stand there as step 1 begins.";
 
-// What one wider window or one higher limit is worth.
+// What one wider window, one larger store or one higher limit is worth.
 pub const SAVES: &[u8] = b"saves up to ";
 
 pub const ONE_WIDER: &[u8] =
@@ -81,8 +86,12 @@ pub const NO_OTHER: &[u8] = b" and in no other.";
 
 pub const NONE_WIDER: &[u8] = b"In no step: no wider window saves a block by itself.";
 
+pub const ONE_LARGER: &[u8] =
+    b"What one larger store saves at most stands above its name: nothing where it saves none.";
+
 pub const ONE_HIGHER: &[u8] =
-    b"What one higher limit saves at most, for all steps or for one, stands above its channel's row.";
+    b"What one higher limit saves at most, for all steps or for one, stands above its channel's row: nothing where it \
+    saves none.";
 
 // What the first stores lose.
 pub const FIRSTS: &[u8] =

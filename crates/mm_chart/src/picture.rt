@@ -14,7 +14,7 @@ ghost use Rattle.mm_chart.specs.declared.series.TheConstants.{AMOUNT_PLACES};
 ghost use Rattle.mm_chart.specs.Columns.{AreMarks, AreAmounts};
 ghost use Rattle.mm_chart.specs.Picture.{amounts, has_cut, has_worth, cut, counts, IsDrawn, IsSimulation};
 ghost use Rattle.mm_chart.specs.Series.{one_if, sent, has_stretch, IsSeries, amount_of, scaled, worth_of};
-ghost use Rattle.mm_chart.specs.Series.{limit_worth_of};
+ghost use Rattle.mm_chart.specs.Series.{limit_worth_of, size_worth_of};
 
 use crate::series::{AMOUNT_PLACES, Series};
 use crate::shades::{Shade, has_stretch, marks_of, shades_of};
@@ -27,8 +27,8 @@ use std::alloc::Global;
 use std::fmt;
 use std::marker::Model;
 
-/// A problem, a sheet for it, the verdict on the sheet, what its plan does to the stores, and what windows and limits
-/// are worth where that is known.
+/// A problem, a sheet for it, the verdict on the sheet, what its plan does to the stores, and what windows, limits and
+/// sizes are worth where that is known.
 #[derive(Drop)]
 pub struct Picture {
     problem: Problem,
@@ -123,7 +123,7 @@ impl Picture {
         })
     }
 
-    /// The same picture, with what windows and limits are worth.
+    /// The same picture, with what windows, limits and sizes are worth.
     #[must_use]
     pub fn with_worth(self, worth: Worths) -> Picture
         ensures { result ≡ record self { worth = Some worth } }
@@ -134,7 +134,7 @@ impl Picture {
         }
     }
 
-    /// Whether it is known what windows and limits are worth.
+    /// Whether it is known what windows, limits and sizes are worth.
     #[must_use]
     pub fn has_worth(&self) -> bool
         ensures { result ≡ has_worth self.now }
@@ -166,6 +166,16 @@ impl Picture {
         }
     }
 
+    // What the size of a store is worth.
+    pub(crate) fn size_worth(&self, store: usize) -> u64
+        ensures { result ≡ size_worth_of self.now.worth store }
+    {
+        match &self.worth {
+            Some(worth) => worth.size(store),
+            None => 0,
+        }
+    }
+
     /// The verdict on the sheet.
     #[must_use]
     pub fn verdict(&self) -> Verdict
@@ -180,6 +190,13 @@ impl Picture {
         ensures { result.now ≡ self.now.problem }
     {
         &self.problem
+    }
+
+    // The loss that the sheet says.
+    pub(crate) fn said_loss(&self) -> u64
+        ensures { result ≡ self.now.sheet.loss }
+    {
+        self.sheet.loss()
     }
 
     // What that many of the first stores lose.

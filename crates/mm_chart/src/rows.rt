@@ -1,24 +1,26 @@
 //! The rows of a chart.
-ghost use Rattle.std.specs.Prelude.{◌≡◌, ◌+◌, ◌-◌, ◌*◌, ◌^◌, ◌<◌, ◌≤◌, ◌++◌, OnOk, length, flat_map};
+ghost use Rattle.std.specs.Prelude.{◌≡◌, ◌+◌, ◌-◌, ◌*◌, ◌^◌, ◌<◌, ◌≤◌, ◌++◌, OnOk, IsTrue, length, flat_map};
 ghost use Rattle.mm_base.specs.declared.limits.TheConstants.{MAX_STORES, MAX_STEPS, MAX_BLOCKS};
 ghost use Rattle.mm_problem.specs.Dumping.{IsDumping, row, stores, steps, channels};
 ghost use Rattle.mm_chart.specs.declared.series.Series.TheVariants.{Window, Used, Sent, Lost};
-ghost use Rattle.mm_chart.specs.Series.{total_of, most_of, most_limit, most_lost};
-ghost use Rattle.mm_chart.specs.Layout.{edge};
+ghost use Rattle.mm_chart.specs.Picture.{has_worth};
+ghost use Rattle.mm_chart.specs.Series.{IsSeries, total_of, most_of, most_limit, most_lost, most_saved, whole_of};
+ghost use Rattle.mm_chart.specs.Layout.{edge, IsPlaced};
 ghost use Rattle.mm_chart.specs.Svg.{printed, drawn};
-ghost use Rattle.mm_chart.specs.Rows.{right, frame, windows_words, windows_row, worth_row, limit_front, limit_back};
-ghost use Rattle.mm_chart.specs.Rows.{raised, channel_words, channel_row, coming_to, all_coming, store_side};
+ghost use Rattle.mm_chart.specs.Rows.{right, frame, saves, windows_words, windows_row, limit_front, limit_back};
+ghost use Rattle.mm_chart.specs.Rows.{channel_words, channel_row, coming_to, all_coming, store_side};
 ghost use Rattle.mm_chart.specs.Rows.{store_loss};
-ghost use Rattle.mm_chart.specs.Rows.{store_words, store_bars, store_row, tick, rows};
+ghost use Rattle.mm_chart.specs.Rows.{store_words, store_bars, larger, store_row, tick, rows};
 
 use crate::column::Column;
 use crate::layout::{
-    LEFT, NAME_AT, RAISED_AT, SAVED_AT, TALL, THIN, TICK_AT, WINDOW_BASE, bottom, channel_base,
-    edge_at, has_limit, step_width, steps_width, store_base, tick_every,
+    LARGER_AT, LEFT, NAME_AT, RAISED_AT, SAVED_AT, TALL, THIN, TICK_AT, WINDOW_BASE, bottom,
+    channel_base, edge_at, has_limit, step_width, steps_width, store_base, tick_every,
 };
+use crate::legend::{push_legend, push_windows_keys};
 use crate::pen::Part::{Grouped, Name, Number, Said};
 use crate::pen::{
-    Pushed, Style, label, push_column, push_frame, push_guide, push_label, push_profile, push_said,
+    Pushed, Style, label, push_column, push_frame, push_guide, push_label, push_profile,
 };
 use crate::phrases::SAVES;
 use crate::picture::Picture;
@@ -61,7 +63,7 @@ fn push_windows_words(
     label!(text; Total right, lower; Said(b"of "), Grouped(windows))
 }
 
-#[tactic(auto, using(crate::proofs::Ranges::placing), unfolding(crate::specs::Rows::windows_row))]
+#[tactic(auto, using(crate::proofs::Ranges::drawing), unfolding(crate::specs::Rows::windows_row))]
 fn push_windows_row(text: &mut Vec<u8>, picture: &Picture) -> Pushed
     ensures { OnOk result (text.new.items ≡ text.old.items ++ drawn (windows_row picture.now)) }
 {
@@ -72,28 +74,45 @@ fn push_windows_row(text: &mut Vec<u8>, picture: &Picture) -> Pushed
     push_column(text, &windows, most)?;
     push_column(text, &used, most)?;
     push_row_frame(text, picture.problem(), WINDOW_BASE, TALL)?;
-    push_windows_words(text, picture, most, used.total(), windows.total())
+    let (used, windows) = (used.total(), windows.total());
+    push_windows_words(text, picture, most, used, windows)?;
+    push_windows_keys(text, picture, used, windows)
 }
 
-/// The keys of what windows and limits are worth, with their colour.
-pub const WORTH_KEY: &[u8] =
-    b"<style>.q{fill:#1e8a4c;stroke:#000;stroke-width:.5}</style>\n<g class='t'><rect class='q' x='870' y='44' \
-    width='12' height='12'/><text x='886' y='54'>saved by a wider window</text><rect class='q' x='946' y='62' \
-    width='12' height='12'/><text x='962' y='72'>by a higher limit</text></g>\n";
+// The most that one larger window or limit saves, where that is known.
+fn most_saved(picture: &Picture) -> u64
+    ensures saved { IsTrue (has_worth picture.now) → result ≡ most_saved picture.now }
+    ensures most { result ≤ MAX_STORES * 2 ^ 32 }
+{
+    let mut most: u64 = 0;
+    if !picture.has_worth() {
+        return most;
+    }
+    for channel in 0..picture.problem().channels() {
+        most = most.max(Column::new(picture, Series::Raised(channel)).most());
+    }
+    most.max(Column::new(picture, Series::Worth).most())
+}
 
-// What the windows are worth, where that is known.
-#[tactic(auto, using(crate::proofs::Ranges::drawing), unfolding(crate::specs::Rows::worth_row))]
-fn push_worth_row(text: &mut Vec<u8>, picture: &Picture) -> Pushed
-    ensures { OnOk result (text.new.items ≡ text.old.items ++ drawn (worth_row picture.now)) }
+// What a series saves, where that is known and is some: bars, and the most of them. The whole is drawn in full height.
+#[tactic(auto, using(crate::proofs::Ranges::placing), unfolding(crate::specs::Rows::saves))]
+fn push_saves(text: &mut Vec<u8>, picture: &Picture, series: Series, y: u32, whole: u64) -> Pushed
+    requires series { IsSeries picture.now series }
+    requires placed { IsPlaced series }
+    requires whole { IsTrue (has_worth picture.now) → whole ≡ whole_of picture.now series }
+    requires most { whole ≤ 2 ^ 40 }
+    ensures { OnOk result (text.new.items ≡ text.old.items ++ drawn (saves picture.now series y)) }
 {
     if !picture.has_worth() {
         return Ok(());
     }
-    let worth = Column::new(picture, Series::Worth);
-    let most = worth.most();
-    push_said(text, WORTH_KEY)?;
-    push_column(text, &worth, most)?;
-    label!(text; Side NAME_AT, SAVED_AT; Said(SAVES), Grouped(most))
+    let column = Column::new(picture, series);
+    let most = column.most();
+    if most == 0 {
+        return Ok(());
+    }
+    push_column(text, &column, whole)?;
+    label!(text; Side NAME_AT, y; Said(SAVES), Grouped(most))
 }
 
 // The greatest limit of a channel in a step.
@@ -121,21 +140,6 @@ fn limit_words(problem: &Problem, channel: u8) -> (&'static [u8], &'static [u8])
     }
 }
 
-// What the limits of a channel are worth, above its row, where that is known.
-#[tactic(auto, using(crate::proofs::Ranges::drawing), unfolding(crate::specs::Rows::raised))]
-fn push_raised(text: &mut Vec<u8>, picture: &Picture, channel: u8) -> Pushed
-    ensures { OnOk result (text.new.items ≡ text.old.items ++ drawn (raised picture.now channel)) }
-{
-    if !picture.has_worth() {
-        return Ok(());
-    }
-    let raised = Column::new(picture, Series::Raised(channel));
-    let most = raised.most();
-    let y = channel_base(picture.problem(), channel) - RAISED_AT;
-    push_column(text, &raised, most)?;
-    label!(text; Side NAME_AT, y; Said(SAVES), Grouped(most))
-}
-
 #[tactic(auto, using(crate::proofs::Ranges::placing), unfolding(crate::specs::Rows::channel_words))]
 fn push_channel_words(
     text: &mut Vec<u8>,
@@ -158,7 +162,9 @@ fn push_channel_words(
 
 // The row of a channel, and nothing for one without a limit.
 #[tactic(auto, using(crate::proofs::Ranges::drawing), unfolding(crate::specs::Rows::channel_row))]
-fn push_channel_row(text: &mut Vec<u8>, picture: &Picture, channel: u8) -> Pushed
+fn push_channel_row(text: &mut Vec<u8>, picture: &Picture, channel: u8, saved: u64) -> Pushed
+    requires saved { IsTrue (has_worth picture.now) → saved ≡ most_saved picture.now }
+    requires most { saved ≤ 2 ^ 40 }
     ensures { OnOk result (text.new.items ≡ text.old.items ++ drawn (channel_row picture.now channel)) }
 {
     let problem = picture.problem();
@@ -167,11 +173,18 @@ fn push_channel_row(text: &mut Vec<u8>, picture: &Picture, channel: u8) -> Pushe
     }
     let sent = Column::new(picture, Series::Sent(channel));
     let limit = most_limit(problem, channel);
+    let base = channel_base(problem, channel);
     push_profile(text, picture, Series::ChannelCounts(channel), 1)?;
     push_column(text, &sent, u64::from(limit))?;
-    push_row_frame(text, problem, channel_base(problem, channel), THIN)?;
+    push_row_frame(text, problem, base, THIN)?;
     push_channel_words(text, picture, channel, limit, sent.total())?;
-    push_raised(text, picture, channel)
+    push_saves(
+        text,
+        picture,
+        Series::Raised(channel),
+        base - RAISED_AT,
+        saved,
+    )
 }
 
 // What a store holds at the beginning and what comes to it.
@@ -277,6 +290,18 @@ fn push_store_words(
     label!(text; Total right, base - 4; Said(b"of "), Grouped(coming))
 }
 
+// What a larger store saves at most, where that is known and is some.
+#[tactic(auto, using(crate::proofs::Ranges::placing), unfolding(crate::specs::Rows::larger))]
+fn push_larger(text: &mut Vec<u8>, picture: &Picture, store: usize, y: u32) -> Pushed
+    ensures { OnOk result (text.new.items ≡ text.old.items ++ drawn (larger picture.now store y)) }
+{
+    let saved = picture.size_worth(store);
+    if saved == 0 {
+        return Ok(());
+    }
+    label!(text; Side NAME_AT, y; Said(SAVES), Grouped(saved))
+}
+
 #[tactic(auto, using(crate::proofs::Ranges::drawing), unfolding(crate::specs::Rows::store_row))]
 fn push_store_row(text: &mut Vec<u8>, picture: &Picture, store: usize, whole: u64) -> Pushed
     requires store { store < length picture.now.problem.rows }
@@ -290,7 +315,8 @@ fn push_store_row(text: &mut Vec<u8>, picture: &Picture, store: usize, whole: u6
     push_store_bars(text, picture, store)?;
     push_column(text, &lost, whole)?;
     push_row_frame(text, picture.problem(), base, TALL)?;
-    push_store_words(text, picture, store, base, lost.total())
+    push_store_words(text, picture, store, base, lost.total())?;
+    push_larger(text, picture, store, base - LARGER_AT)
 }
 
 // The number of a step and a line from it through all rows, where a tick is due.
@@ -310,24 +336,25 @@ fn push_tick(text: &mut Vec<u8>, picture: &Picture, step: u32) -> Pushed
     push_guide(text, x, TICK_AT + 4, bottom(problem))
 }
 
-/// Writes the ticks, and the rows of the windows, the channels with a limit, and the stores.
+/// Writes the keys, the ticks, and the rows of the windows, the channels with a limit, and the stores.
 #[tactic(auto, using(crate::proofs::Ranges::drawing), unfolding(crate::specs::Rows::rows))]
 pub fn push_rows(text: &mut Vec<u8>, picture: &Picture) -> Pushed
     ensures { OnOk result (text.new.items ≡ text.old.items ++ drawn (rows picture.now)) }
 {
     let problem = picture.problem();
+    let (lost, saved) = (most_lost(picture), most_saved(picture));
+    push_legend(text, picture, lost, saved)?;
     label!(text; Side NAME_AT, TICK_AT; Said(b"step"))?;
     for step in 1..problem.steps() + 1 {
         push_tick(text, picture, step)?;
     }
     push_windows_row(text, picture)?;
-    push_worth_row(text, picture)?;
+    push_saves(text, picture, Series::Worth, SAVED_AT, saved)?;
     for channel in 0..problem.channels() {
-        push_channel_row(text, picture, channel)?;
+        push_channel_row(text, picture, channel, saved)?;
     }
-    let whole = most_lost(picture);
     for store in 0..problem.stores() {
-        push_store_row(text, picture, store, whole)?;
+        push_store_row(text, picture, store, lost)?;
     }
     Ok(())
 }

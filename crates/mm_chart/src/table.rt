@@ -109,9 +109,9 @@ fn push_step(text: &mut Vec<u8>, course: &Course<'_>, step: u32) -> Pushed
     Ok(())
 }
 
-// The table of a plan.
+/// The table of a plan for a problem.
 #[tactic(auto, using(crate::proofs::Ranges::drawing), unfolding(crate::specs::Table::table))]
-fn table_of(alloc: Global, problem: &Problem, plan: &Plan) -> Result<Vec<u8>, mm_base::NoMemory>
+pub fn table_of(alloc: Global, problem: &Problem, plan: &Plan) -> Result<Vec<u8>, mm_base::NoMemory>
     requires { HasShape problem.now plan.now }
     ensures { IfOk result (λ text. text.items ≡ table problem.now (amount plan.now)) }
 {

@@ -1,20 +1,19 @@
 //! What a chart says in words: why no plan loses fewer, and what may help.
 ghost use Rattle.std.specs.Prelude.{◌≡◌, ◌<◌, ◌≤◌, ◌^◌, ◌++◌, OnOk, length, map};
 ghost use Rattle.mm_base.specs.declared.limits.TheConstants.{MAX_STORES};
-ghost use Rattle.mm_chart.specs.Layout.{limits_below};
 ghost use Rattle.mm_chart.specs.Svg.{grouped, part_text, drawn, printed};
 ghost use Rattle.mm_chart.specs.Words.{line_words, broken, why, stretched_at, stores_line, help, worth_words};
-ghost use Rattle.mm_chart.specs.Words.{worth_room, firsts_room, first_at, firsts_list, firsts_line};
+ghost use Rattle.mm_chart.specs.Words.{after_help, worth_room, firsts_room, first_at, firsts_list, firsts_line};
 ghost use Rattle.mm_chart.specs.Words.{least_words, words, word_lines};
 
-use crate::layout::{LINE_PITCH, MARGIN, limits_below, word_line};
+use crate::layout::{LINE_PITCH, MARGIN, is_limited, word_line};
 use crate::marked::push_steps_line;
 use crate::pen::Part::{self, Grouped, Name, Said, Signed};
 use crate::pen::{Pushed, Style, parts, push_closed, push_label, push_opened, push_parts};
 use crate::phrases::{
     AS_ENDS, AT_LEAST, BY_LIMITS, BY_WINDOWS, COME, FEW_LOSSES, FEW_NAMES, FEWER, FIRSTS, HELP,
     HIGHER, IN_STRETCHES, INDENT, LARGER, LOSE, NO_HIGHER, NO_LIMITS, NO_OTHER, NO_WIDER,
-    NO_WINDOWS, NONE_WIDER, ONE_HIGHER, ONE_WIDER, STAND, WHY, WIDER,
+    NO_WINDOWS, NONE_WIDER, ONE_HIGHER, ONE_LARGER, ONE_WIDER, STAND, WHY, WIDER,
 };
 use crate::picture::Picture;
 use crate::series::Series;
@@ -28,7 +27,7 @@ fn push_line(
     line: u32,
     parts: &[Part<'_>],
 ) -> Pushed
-    requires { line ≤ 23 }
+    requires { line ≤ 25 }
     ensures { OnOk result (text.new.items ≡ text.old.items
         ++ printed (line_words picture.now style line (map part_text parts.now))) }
 {
@@ -104,7 +103,7 @@ fn push_stretched_at(text: &mut Vec<u8>, picture: &Picture, y: u32, store: usize
 // The stores that have a stretch.
 #[tactic(auto, using(crate::proofs::Ranges::drawing), unfolding(crate::specs::Words::stores_line, crate::specs::Svg::label, crate::specs::Svg::joined))]
 fn push_stores_line(text: &mut Vec<u8>, picture: &Picture, line: u32) -> Pushed
-    requires { line ≤ 23 }
+    requires { line ≤ 25 }
     ensures { OnOk result (text.new.items ≡ text.old.items ++ printed (stores_line picture.now line)) }
 {
     let y = word_line(picture.problem(), line);
@@ -128,12 +127,12 @@ fn push_help(text: &mut Vec<u8>, picture: &Picture) -> Pushed
     push_stores_line(text, picture, 11)
 }
 
-// How many channels have a limit.
-fn limited(picture: &Picture) -> u32
-    ensures { result ≡ limits_below picture.now.problem (length picture.now.problem.limits) }
+// The first line after what may help, with an empty one before it.
+fn after_help(picture: &Picture) -> u32
+    ensures line { result ≡ after_help picture.now }
+    ensures most { result ≤ 14 }
 {
-    let problem = picture.problem();
-    limits_below(problem, problem.channels())
+    12 + ((picture.problem().stores() + (FEW_NAMES - 1)) / FEW_NAMES) as u32
 }
 
 // Exactly the steps in which a wider window saves blocks by itself, where that is known.
@@ -147,10 +146,11 @@ fn push_worth_words(text: &mut Vec<u8>, picture: &Picture, line: u32) -> Pushed
     }
     words!(text, picture; Heading line; Said(ONE_WIDER))?;
     steps!(text, picture; Worth line + 1; NONE_WIDER; Said(NO_OTHER))?;
-    if limited(picture) == 0 {
+    words!(text, picture; Plain line + 2; Said(ONE_LARGER))?;
+    if !is_limited(picture.problem()) {
         return Ok(());
     }
-    words!(text, picture; Plain line + 2; Said(ONE_HIGHER))
+    words!(text, picture; Plain line + 3; Said(ONE_HIGHER))
 }
 
 // A store and what it and those before it lose, on a line of few stores.
@@ -170,7 +170,7 @@ fn push_first_at(text: &mut Vec<u8>, picture: &Picture, y: u32, store: usize) ->
 // What the first stores lose.
 #[tactic(auto, using(crate::proofs::Ranges::drawing), unfolding(crate::specs::Words::firsts_list, crate::specs::Svg::label, crate::specs::Svg::joined))]
 fn push_firsts_list(text: &mut Vec<u8>, picture: &Picture, line: u32) -> Pushed
-    requires { line ≤ 23 }
+    requires { line ≤ 25 }
     ensures { OnOk result (text.new.items ≡ text.old.items ++ printed (firsts_list picture.now line)) }
 {
     let y = word_line(picture.problem(), line);
@@ -182,23 +182,23 @@ fn push_firsts_list(text: &mut Vec<u8>, picture: &Picture, line: u32) -> Pushed
     push_closed(text)
 }
 
-// How many lines say what one window is worth, with an empty one after them.
+// How many lines say what one change is worth, with an empty one after them.
 fn worth_room(picture: &Picture) -> u32
     ensures room { result ≡ worth_room picture.now }
-    ensures most { result ≤ 4 }
+    ensures most { result ≤ 5 }
 {
     if !picture.has_worth() {
         return 0;
     }
-    if limited(picture) > 0 { 4 } else { 3 }
+    if is_limited(picture.problem()) { 5 } else { 4 }
 }
 
 // The first line after them.
 fn firsts_line(picture: &Picture) -> u32
     ensures line { result ≡ firsts_line picture.now }
-    ensures most { result ≤ 17 }
+    ensures most { result ≤ 19 }
 {
-    13 + worth_room(picture)
+    after_help(picture) + worth_room(picture)
 }
 
 // How many lines say what the first stores lose, with the one before them.
@@ -216,7 +216,7 @@ fn push_least_words(text: &mut Vec<u8>, picture: &Picture, loss: u64) -> Pushed
 {
     push_why(text, picture, &Grouped(loss))?;
     push_help(text, picture)?;
-    push_worth_words(text, picture, 13)
+    push_worth_words(text, picture, after_help(picture))
 }
 
 /// Writes why no plan loses fewer than the cut's bound, and what may help.
@@ -244,13 +244,12 @@ pub(crate) fn push_words(text: &mut Vec<u8>, picture: &Picture) -> Pushed
 /// How many lines the words have room for.
 pub(crate) fn word_lines(picture: &Picture) -> u32
     ensures lines { result ≡ word_lines picture.now picture.now.verdict }
-    ensures most { result ≤ 23 }
+    ensures most { result ≤ 25 }
 {
     match picture.verdict() {
         Verdict::Least(0) | Verdict::LeastInOrder(0) => 0,
         Verdict::LeastInOrder(_) => firsts_line(picture) + firsts_room(picture),
-        Verdict::Least(_) if picture.has_worth() => 12 + worth_room(picture),
-        Verdict::Least(_) => 13,
+        Verdict::Least(_) => after_help(picture) + worth_room(picture),
         Verdict::NotShown { .. } => 6 + worth_room(picture),
         _ => 0,
     }

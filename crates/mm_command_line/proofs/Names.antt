@@ -76,7 +76,8 @@ row_of (Plan setup forecast in_order output) = of_row (codes "plan") (setup.now 
 row_of (Check files) = of_row (codes "check") (plan_names files) _ refl refl refl
 row_of (Chart files worth output) = of_row (codes "chart") (plan_names files) _ refl refl refl
 row_of (Table files output) = of_row (codes "table") (plan_names files) _ refl refl refl
-row_of (Sensitivity setup forecast) = of_row (codes "sensitivity") (setup.now ∷ forecast.now ∷ []) _ refl refl refl
+row_of (Sensitivity setup forecast output) =
+    of_row (codes "sensitivity") (setup.now ∷ forecast.now ∷ []) _ refl refl refl
 row_of (Fly f) = flight_row f.setup.now f.forecast.now f.sources.now f.links.now f.plan
 row_of (Ask setup requests) = of_row (codes "ask") (setup.now ∷ requests.now ∷ []) _ refl refl refl
 row_of (Read packets) = of_row (codes "read") (packets.now ∷ []) _ refl refl refl

@@ -29,7 +29,7 @@ command_words (Plan setup forecast in_order output) = codes "plan" ∷ setup.now
 command_words (Check files) = codes "check" ∷ plan_names files
 command_words (Chart files worth output) = codes "chart" ∷ plan_names files
 command_words (Table files output) = codes "table" ∷ plan_names files
-command_words (Sensitivity setup forecast) = codes "sensitivity" ∷ setup.now ∷ forecast.now ∷ []
+command_words (Sensitivity setup forecast output) = codes "sensitivity" ∷ setup.now ∷ forecast.now ∷ []
 command_words (Fly f) = flight_spelling f.setup.now f.forecast.now f.sources.now f.links.now f.plan
 command_words (Ask setup requests) = codes "ask" ∷ setup.now ∷ requests.now ∷ []
 command_words (Read packets) = codes "read" ∷ packets.now ∷ []
@@ -39,6 +39,7 @@ abbrev pub output_of : Task → Option (Bor (List ℕ))
 output_of (Plan setup forecast in_order output) = output
 output_of (Chart files worth output) = output
 output_of (Table files output) = output
+output_of (Sensitivity setup forecast output) = output
 output_of task = None
 
 -- the flag of `plan` and `fly`: the stores are served in the setup's order

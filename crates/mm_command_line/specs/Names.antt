@@ -27,7 +27,7 @@ names_in (Plan setup forecast in_order output) = record no_names { setup = Some 
 names_in (Check files) = names_of_plan files
 names_in (Chart files worth output) = names_of_plan files
 names_in (Table files output) = names_of_plan files
-names_in (Sensitivity setup forecast) = record no_names { setup = Some setup; forecast = Some forecast }
+names_in (Sensitivity setup forecast output) = record no_names { setup = Some setup; forecast = Some forecast }
 names_in (Fly f) = record no_names {
   setup = Some f.setup;
   forecast = Some f.forecast;

@@ -11,8 +11,8 @@ Or one line:
   refused NUMBER NAME ..      a file was not read, or is not what it should be
 
 Options, anywhere after `chart`:
-  --worth                     a bar above a window shows how many blocks it saves at most if it alone is
-                              wider, and the words tell them
+  --worth                     a bar above a window, or above the row of a channel with a limit, shows how many
+                              blocks it saves at most if it alone is larger; words tell the windows' savings
   --output FILE               writes the picture to FILE, whole or not at all, and does not print it; FILE is
                               none of the files above; - prints it
 

@@ -32,6 +32,10 @@ const ABOUT: &str =
     "Plans when a spacecraft's packet stores are dumped, checks, draws and carries out such plans, and answers and \
         reads requests of the storage service";
 
+// It stands in the first line of the help.
+const BEFORE_HELP: &str =
+    "All help goes to standard error; to read it by pages: mm_tool --help 2>&1 | less";
+
 const TOOL_HELP: &str = "\
 Without words the program reads a script from standard input: a first line with the words, and then
 each file under a line `=== NAME`. With words, a file named - is standard input, for one file at most,
@@ -102,6 +106,7 @@ fn bare_command<'a>(alloc: Global) -> Result<Command<'a>, AllocError>
 {
     let command = Command::new(alloc, "mm_tool")
         .bin_name("mm_tool")?
+        .before_help(BEFORE_HELP)
         .about(ABOUT)
         .version(VERSION)
         .after_help(TOOL_HELP)

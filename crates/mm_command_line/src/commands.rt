@@ -38,7 +38,8 @@ pub(crate) static COMMANDS: [Form; 9] = commands! {
     "chart" [SETUP, FORECAST, PLAN]: "chart [--worth] <SETUP> <FORECAST> <PLAN> [--output <FILE>]",
         chart::ABOUT, chart::HELP;
     "table" [SETUP, FORECAST, PLAN]: "table <SETUP> <FORECAST> <PLAN> [--output <FILE>]", table::ABOUT, table::HELP;
-    "sensitivity" [SETUP, FORECAST]: "sensitivity <SETUP> <FORECAST>", sensitivity::ABOUT, sensitivity::HELP;
+    "sensitivity" [SETUP, FORECAST]: "sensitivity <SETUP> <FORECAST> [--output <FILE>]",
+        sensitivity::ABOUT, sensitivity::HELP;
     "run" [SETUP, FORECAST, FLOWN_PLAN, SOURCES, LINKS]: "run <SETUP> <FORECAST> <PLAN> <SOURCES> <LINKS>",
         flight::RUN_ABOUT, flight::RUN_HELP;
     "fly" [SETUP, FORECAST, SOURCES, LINKS]: "fly [--in-order] <SETUP> <FORECAST> <SOURCES> <LINKS>",

@@ -39,7 +39,7 @@ fn task_of<'a>(words: &[&'a str]) -> Option<Task<'a>>
         ["chart", setup, forecast, plan] =>
             Task::Chart { files: PlanFiles { setup, forecast, plan }, worth: false, output: None };
         ["table", setup, forecast, plan] => Task::Table { files: PlanFiles { setup, forecast, plan }, output: None };
-        ["sensitivity", setup, forecast] => Task::Sensitivity { setup, forecast };
+        ["sensitivity", setup, forecast] => Task::Sensitivity { setup, forecast, output: None };
         ["run", setup, forecast, plan, sources, links] =>
             Task::Fly(FlightFiles { setup, forecast, plan: FlightPlan::Given(plan), sources, links });
         ["fly", setup, forecast, sources, links] =>

@@ -127,6 +127,7 @@ pub enum Task<'a> {
     Sensitivity {
         setup: &'a str,
         forecast: &'a str,
+        output: Option<&'a str>,
     },
     /// Carry out the plan, which is made first where there is no file of it.
     Fly(FlightFiles<'a>),
@@ -152,7 +153,11 @@ impl<'a> Task<'a> {
                 forecast,
                 ..
             }
-            | Task::Sensitivity { setup, forecast } => names! { setup: setup, forecast: forecast },
+            | Task::Sensitivity {
+                setup,
+                forecast,
+                ..
+            } => names! { setup: setup, forecast: forecast },
             Task::Check(files) | Task::Chart { files, .. } | Task::Table { files, .. } =>
                 names! { setup: files.setup, forecast: files.forecast, plan: files.plan },
             Task::Fly(files) => files.names(),
@@ -206,6 +211,15 @@ impl<'a> Task<'a> {
                 })
             }
             Task::Table { files, .. } if flags.is_empty() => Some(Task::Table { files, output }),
+            Task::Sensitivity {
+                setup,
+                forecast,
+                ..
+            } if flags.is_empty() => Some(Task::Sensitivity {
+                setup,
+                forecast,
+                output,
+            }),
             Task::Fly(files) => match output {
                 None => Some(Task::Fly(files.with_flags(flags)?)),
                 Some(_) => None,

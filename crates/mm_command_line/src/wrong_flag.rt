@@ -16,7 +16,7 @@ static FLAGS: [Flag; 5] = [
     (WORTH, "goes with chart"),
     (
         OUTPUT,
-        "goes with plan, chart and table, and has the name of a file after it",
+        "goes with plan, chart, table and sensitivity, and has the name of a file after it",
     ),
     ("--help", "stands alone or after a command"),
     ("--version", "stands alone"),
@@ -71,7 +71,7 @@ impl fmt::Display for FlagFault<'_> {
                 write! { f, "there is no flag '{word}'; did you mean {near}, which {place}?" },
             FlagFault::NoSuchFlag(word) => write! {
                 f, "there is no flag '{word}', and none is spelled alike; there are --in-order of plan and fly, \
-                    --worth of chart, --output FILE of plan, chart and table, and --help"
+                    --worth of chart, --output FILE of plan, chart, table and sensitivity, and --help"
             },
         }
     }
@@ -94,8 +94,8 @@ fn same_end(one: &[u8], other: &[u8]) -> usize {
         .count()
 }
 
-// Whether a word is spelled nearly as a flag: but for what both begin with and end with, few characters of each are
-// left.
+// Whether a word is spelled nearly as a flag: without the beginning and the end that both share, each has few
+// characters.
 fn is_near(word: &[u8], flag: &[u8]) -> bool {
     let (front, end) = (same_front(word, flag), same_end(word, flag));
     let longer = word.len().max(flag.len());
@@ -116,7 +116,11 @@ type TaskOption = (&'static str, &'static [&'static str], &'static str);
 static OPTIONS: [TaskOption; 3] = [
     (IN_ORDER, &["plan", "fly"], "plan and fly"),
     (WORTH, &["chart"], "chart"),
-    (OUTPUT, &["plan", "chart", "table"], "plan, chart and table"),
+    (
+        OUTPUT,
+        &["plan", "chart", "table", "sensitivity"],
+        "plan, chart, table and sensitivity",
+    ),
 ];
 
 // The option that a word is, and its value.
@@ -126,25 +130,35 @@ fn option_in(word: &str) -> Option<(TaskOption, Option<&str>)> {
     Some((*option, value))
 }
 
-// What is wrong with a word that is spelled like a flag, and is none.
-fn unknown(word: &str) -> FlagFault<'_> {
-    let (name, _) = parts_of(word);
-    let is_short = word.starts_with("-o");
-    for (near, place) in FLAGS {
-        if (is_short && near == OUTPUT) || is_near(name.as_bytes(), near.as_bytes()) {
-            return FlagFault::Unknown { word, near, place };
-        }
+// Whether a word is a dash and the first letters of a flag.
+fn is_short(word: &str, flag: &str) -> bool {
+    match (word.strip_prefix('-'), flag.strip_prefix("--")) {
+        (Some(letters), Some(name)) => !letters.is_empty() && name.starts_with(letters),
+        _ => false,
     }
-    FlagFault::NoSuchFlag(word)
 }
 
-// What is wrong with a word that is no option of a task. Of one with a single dash `clap` says it.
+// What is said of a word that is spelled nearly as a flag, or is short for one.
+fn nearest(word: &str) -> Option<FlagFault<'_>> {
+    let (name, _) = parts_of(word);
+    let is_output = word.starts_with("-o");
+    for (near, place) in FLAGS {
+        let is_meant = is_short(name, near) || is_near(name.as_bytes(), near.as_bytes());
+        if is_meant || (is_output && near == OUTPUT) {
+            return Some(FlagFault::Unknown { word, near, place });
+        }
+    }
+    None
+}
+
+// What is wrong with a word that is no option of a task. Of one with a single dash that is near no flag `clap` says it.
 fn no_option(word: &str) -> Option<FlagFault<'_>> {
     match word {
-        "--help" => None,
-        "--version" => Some(FlagFault::NotAlone("--version")),
-        _ if word.starts_with("--") || word.starts_with("-o") => Some(unknown(word)),
-        _ => None,
+        "--help" | "-h" => None,
+        "--version" | "-V" => Some(FlagFault::NotAlone("--version")),
+        _ if is_file_name(word) => None,
+        _ if word.starts_with("--") => nearest(word).or(Some(FlagFault::NoSuchFlag(word))),
+        _ => nearest(word),
     }
 }
 

@@ -86,8 +86,8 @@ refused-kept streams old new (Chart names worth output) texts status text before
     (other answers.0)
 refused-kept streams old new (Table names output) texts status text before after other answers given = absurd
     (other answers.0)
-refused-kept streams old new (Sensitivity setup forecast) texts status text before after other answers given = absurd
-    (other answers.0)
+refused-kept streams old new (Sensitivity setup forecast output) texts status text before after other answers given =
+    absurd (other answers.0)
 refused-kept streams old new (Fly names) texts status text before after other answers given = given.0
 refused-kept streams old new (Ask setup requests) texts status text before after other answers given = given.0
 refused-kept streams old new (Read packets) texts status text before after other answers given = given.0

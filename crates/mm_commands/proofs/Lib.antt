@@ -3,3 +3,4 @@ mod Refusals
 mod Codes
 mod Flying
 mod Words
+mod Answering

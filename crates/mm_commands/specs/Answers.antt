@@ -147,7 +147,7 @@ AnswersTask (Chart names worth output) texts status text =
     (status ≡ Done) × DrawsPlan worth texts.setup.items texts.forecast.items texts.plan.items text
 AnswersTask (Table names output) texts status text =
     (status ≡ Done) × IsTableOf texts.setup.items texts.forecast.items texts.plan.items text
-AnswersTask (Sensitivity setup forecast) texts status text =
+AnswersTask (Sensitivity setup forecast output) texts status text =
     (status ≡ Done) × IsWorthTable texts.setup.items texts.forecast.items text
 AnswersTask (Fly names) texts status text = Flown names.plan texts status text
 AnswersTask (Ask setup requests) texts status text = Replies status text texts.setup.items texts.packets.items
@@ -155,19 +155,19 @@ AnswersTask (Read packets) texts status text = Says status text texts.packets.it
 
 -- the text of an answer
 abbrev pub text_in : Answer → List ℕ
-text_in (Text text output) = text.items
+text_in (Text text output notes) = text.items
 text_in (Lines replies) = replies.text.items
-text_in (Line verdict line) = line.items
+text_in (Line verdict line notes) = line.items
 
 -- the status of a task with this answer
 abbrev pub status_in : Answer → Status
-status_in (Text text output) = Done
+status_in (Text text output notes) = Done
 status_in (Lines replies) = status_of_replies replies.outcome
-status_in (Line verdict line) = status_of verdict
+status_in (Line verdict line notes) = status_of verdict
 
 -- the file that an answer goes into, where one is named
 abbrev pub output_in : Answer → Option (Bor (List ℕ))
-output_in (Text text output) = output
+output_in (Text text output notes) = output
 output_in answer = None
 
 -- the answer is one to the task, whose files have these texts, and goes into its output

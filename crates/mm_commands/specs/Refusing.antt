@@ -47,7 +47,7 @@ IsFaultIn (Chart names worth output) texts (Texts e) =
     e ≢ check.NoMemory → IsCheckFault texts.setup.items texts.forecast.items texts.plan.items e
 IsFaultIn (Table names output) texts (Texts e) =
     e ≢ check.NoMemory → IsCheckFault texts.setup.items texts.forecast.items texts.plan.items e
-IsFaultIn (Sensitivity setup forecast) texts (Texts e) =
+IsFaultIn (Sensitivity setup forecast output) texts (Texts e) =
     e ≢ check.NoMemory → IsPlanningFault texts.setup.items texts.forecast.items e
 IsFaultIn (Fly names) texts (Run e) = e ≢ flight.NoMemory → IsFlightFault (given_plan names.plan texts) texts e
 IsFaultIn (Ask setup requests) texts (Setup e) = IsSetupFault texts.setup.items e

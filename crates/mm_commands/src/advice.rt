@@ -48,7 +48,7 @@ pub(crate) fn file_of<'a>(task: Option<Task<'a>>, refusal: Refusal, spot: Spot) 
 fn role_of(refusal: Refusal, spot: Spot) -> Option<Role> {
     let is_column = matches!(
         spot,
-        Spot::Number(Name::Steps | Name::Window | Name::Arrivals)
+        Spot::Number(Name::Steps | Name::Window | Name::Arrivals | Name::Limit)
     );
     match refusal {
         Refusal::Limit if is_column => Some(Role::Forecast),

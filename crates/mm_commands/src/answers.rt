@@ -5,21 +5,27 @@ ghost use Rattle.mm_base.specs.Reading.{IfRefused};
 ghost use Rattle.mm_cut.specs.Checking.{IsFaultOf as IsCheckFault};
 ghost use Rattle.mm_cut.specs.declared.fault.Fault.TheVariants as cut_fault;
 ghost use Rattle.mm_planner.specs.PlanTexts.{IsPlanningFault};
-ghost use Rattle.mm_sensitivity.specs.Table.{IsWorthTable};
-ghost use Rattle.mm_commands.specs.Answers.{DrawsPlan, IsAnswerTo, PlansText, given_plan, goal_of, is_run};
+ghost use Rattle.mm_sensitivity.specs.Charts.{ChartsWorth};
+ghost use Rattle.mm_sensitivity.specs.Table.{AreWorths, IsWorthTable};
+ghost use Rattle.mm_chart.specs.Charts.{Charts};
+ghost use Rattle.mm_chart.specs.Table.{IsTableOf};
+ghost use Rattle.mm_commands.specs.Answers.{DrawsPlan, IsAnswerTo, Judges, PlansText, given_plan, goal_of, is_run};
 ghost use Rattle.mm_commands.specs.Answers.{status_in, status_of, status_of_replies};
 ghost use Rattle.mm_commands.specs.Refusing.{IsFaultIn};
 ghost use Rattle.mm_commands.specs.declared.status.Status.TheVariants.{BadCommandLine};
 
 use crate::fault::Fault;
+use crate::given::{Given, GivenPlan, Notes, read_given, read_given_plan};
 use crate::status::Status;
 use crate::texts::TaskTexts;
 use mm_ask::{Outcome, Replies, ask_bytes, read_bytes};
-use mm_chart::{chart_bytes, table_bytes};
+use mm_base::NoMemory;
+use mm_chart::{Picture, draw};
 use mm_command_line::{FlightPlan, Task};
-use mm_cut::{Verdict, check_bytes};
-use mm_planner::{Goal, plan_bytes, plan_in_order_bytes};
-use mm_sensitivity::{Progress, sensitivity_with_progress, worth_chart_bytes};
+use mm_cut::{Verdict, verdict_line, verdict_of};
+use mm_planner::{Goal, print_plan_for};
+use mm_problem::Problem;
+use mm_sensitivity::{Progress, Worth, chart_worths, worths_with_progress};
 use std::alloc::Global;
 
 /// What answers a task other than a run.
@@ -29,6 +35,7 @@ pub(crate) enum Answer<'a> {
     Text {
         text: Vec<u8>,
         output: Option<&'a str>,
+        notes: Notes,
     },
     /// The lines that answer requests, or say what packets are.
     Lines(Replies),
@@ -36,7 +43,23 @@ pub(crate) enum Answer<'a> {
     Line {
         verdict: Verdict,
         line: Vec<u8>,
+        notes: Notes,
     },
+}
+
+// A text that answers a task, and what in the task's files has no effect.
+#[derive(Drop)]
+struct Noted {
+    text: Vec<u8>,
+    notes: Notes,
+}
+
+// A verdict, its line, and what in the files of its task has no effect.
+#[derive(Drop)]
+struct Judged {
+    verdict: Verdict,
+    line: Vec<u8>,
+    notes: Notes,
 }
 
 // The status of a task that is answered by the verdict.
@@ -76,48 +99,138 @@ impl Answer<'_> {
 }
 
 // The text of a plan, which serves the stores in order where that is asked.
-fn plan_text(alloc: Global, in_order: bool, texts: &TaskTexts) -> Result<Vec<u8>, mm_cut::Fault>
-    ensures plans { IfOk result (λ text. PlansText in_order texts.now.setup.items texts.now.forecast.items text.items) }
+fn plan_text(alloc: Global, in_order: bool, texts: &TaskTexts) -> Result<Noted, mm_cut::Fault>
+    ensures plans { IfOk result (λ noted. PlansText in_order
+        texts.now.setup.items texts.now.forecast.items noted.text.items) }
     ensures refused { IfRefused cut_fault.NoMemory result (IsPlanningFault texts.now.setup.items
         texts.now.forecast.items) }
 {
-    if in_order {
-        plan_in_order_bytes(alloc, &texts.setup, &texts.forecast)
-    } else {
-        plan_bytes(alloc, &texts.setup, &texts.forecast)
-    }
+    let Given { problem, notes } = read_given(alloc, texts)?;
+    let goal = goal_of(FlightPlan::Made { in_order });
+    let printed = print_plan_for(alloc, &problem, goal)?;
+    Ok(Noted {
+        text: printed.text,
+        notes,
+    })
+}
+
+// The verdict on a plan.
+fn judge(alloc: Global, texts: &TaskTexts) -> Result<Judged, mm_cut::Fault>
+    ensures judges { IfOk result (λ judged. Judges (status_of judged.verdict) judged.line.items
+        texts.now.setup.items texts.now.forecast.items texts.now.plan.items) }
+    ensures refused { IfRefused cut_fault.NoMemory result (IsCheckFault
+        texts.now.setup.items texts.now.forecast.items texts.now.plan.items) }
+{
+    let GivenPlan {
+        problem,
+        sheet,
+        notes,
+    } = read_given_plan(alloc, texts)?;
+    let verdict = verdict_of(&problem, &sheet);
+    let line = verdict_line(alloc, verdict)?;
+    Ok(Judged {
+        verdict,
+        line,
+        notes,
+    })
+}
+
+// The chart of a plan.
+fn plain_chart(alloc: Global, texts: &TaskTexts) -> Result<Noted, mm_cut::Fault>
+    ensures chart { IfOk result (λ noted. Charts
+        texts.now.setup.items texts.now.forecast.items texts.now.plan.items noted.text.items) }
+    ensures refused { IfRefused cut_fault.NoMemory result (IsCheckFault
+        texts.now.setup.items texts.now.forecast.items texts.now.plan.items) }
+{
+    let GivenPlan {
+        problem,
+        sheet,
+        notes,
+    } = read_given_plan(alloc, texts)?;
+    let picture = Picture::new(alloc, problem, sheet)?;
+    let text = draw(alloc, &picture)?;
+    Ok(Noted { text, notes })
+}
+
+// The chart of a plan, with what each window is worth.
+fn worth_chart(alloc: Global, texts: &TaskTexts) -> Result<Noted, mm_cut::Fault>
+    ensures chart { IfOk result (λ noted. ChartsWorth
+        texts.now.setup.items texts.now.forecast.items texts.now.plan.items noted.text.items) }
+    ensures refused { IfRefused cut_fault.NoMemory result (IsCheckFault
+        texts.now.setup.items texts.now.forecast.items texts.now.plan.items) }
+{
+    let GivenPlan {
+        problem,
+        sheet,
+        notes,
+    } = read_given_plan(alloc, texts)?;
+    let worths = chart_worths(alloc, &problem)?;
+    let picture = Picture::new(alloc, problem, sheet)?;
+    let text = draw(alloc, &picture.with_worth(worths))?;
+    Ok(Noted { text, notes })
 }
 
 // The chart of a plan, with what each window is worth where that is asked.
-fn chart_text(alloc: Global, worth: bool, texts: &TaskTexts) -> Result<Vec<u8>, mm_cut::Fault>
-    ensures charts { IfOk result (λ text. DrawsPlan worth
-        texts.now.setup.items texts.now.forecast.items texts.now.plan.items text.items) }
+fn chart_text(alloc: Global, worth: bool, texts: &TaskTexts) -> Result<Noted, mm_cut::Fault>
+    ensures charts { IfOk result (λ noted. DrawsPlan worth
+        texts.now.setup.items texts.now.forecast.items texts.now.plan.items noted.text.items) }
     ensures refused { IfRefused cut_fault.NoMemory result (IsCheckFault
         texts.now.setup.items texts.now.forecast.items texts.now.plan.items) }
 {
     if worth {
-        worth_chart_bytes(alloc, &texts.setup, &texts.forecast, &texts.plan)
+        worth_chart(alloc, texts)
     } else {
-        chart_bytes(alloc, &texts.setup, &texts.forecast, &texts.plan)
+        plain_chart(alloc, texts)
     }
 }
 
-// The table of what each window, store size and limit is worth. The progress is told of each record, and that nothing
-// is left to do where the table breaks off.
+// The table of a plan.
+fn table_text(alloc: Global, texts: &TaskTexts) -> Result<Noted, mm_cut::Fault>
+    ensures table { IfOk result (λ noted. IsTableOf
+        texts.now.setup.items texts.now.forecast.items texts.now.plan.items noted.text.items) }
+    ensures refused { IfRefused cut_fault.NoMemory result (IsCheckFault
+        texts.now.setup.items texts.now.forecast.items texts.now.plan.items) }
+{
+    let GivenPlan {
+        problem,
+        sheet,
+        notes,
+    } = read_given_plan(alloc, texts)?;
+    let text = mm_chart::table_of(alloc, &problem, sheet.plan())?;
+    Ok(Noted { text, notes })
+}
+
+// What each window, store size and limit of a problem is worth. The progress is told of each, and that nothing is left
+// to do where memory runs out.
+fn worths_told<P: Progress>(
+    alloc: Global,
+    problem: &Problem,
+    progress: &mut P,
+) -> Result<Vec<Worth>, NoMemory>
+    ensures { IfOk result (λ worths. AreWorths problem.now worths.items) }
+{
+    let worths = worths_with_progress(alloc, problem, progress);
+    if worths.is_err() {
+        progress.done(0, 0);
+    }
+    worths
+}
+
+// The table of what each window, store size and limit is worth.
 fn worth_table<P: Progress>(
     alloc: Global,
     texts: &TaskTexts,
     progress: &mut P,
-) -> Result<Vec<u8>, mm_cut::Fault>
-    ensures table { IfOk result (λ text. IsWorthTable texts.now.setup.items texts.now.forecast.items text.items) }
+) -> Result<Noted, mm_cut::Fault>
+    ensures table { IfOk result (λ noted. IsWorthTable
+        texts.now.setup.items texts.now.forecast.items noted.text.items) }
     ensures refused { IfRefused cut_fault.NoMemory result (IsPlanningFault texts.now.setup.items
         texts.now.forecast.items) }
 {
-    let table = sensitivity_with_progress(alloc, &texts.setup, &texts.forecast, progress);
-    if table.is_err() {
-        progress.done(0, 0);
-    }
-    table
+    let Given { problem, notes } = read_given(alloc, texts)?;
+    let worths = worths_told(alloc, &problem, progress)?;
+    let text = mm_sensitivity::table_of(alloc, &problem, worths.as_slice())?;
+    Ok(Noted { text, notes })
 }
 
 /// The text of the plan of a run, where it is given.
@@ -157,24 +270,48 @@ pub(crate) fn answer_without_run<'a, P: Progress>(
             output,
             ..
         } => {
-            let text = plan_text(alloc, in_order, texts)?;
-            Ok(Answer::Text { text, output })
+            let Noted { text, notes } = plan_text(alloc, in_order, texts)?;
+            Ok(Answer::Text {
+                text,
+                output,
+                notes,
+            })
         }
         Task::Check(_) => {
-            let (verdict, line) = check_bytes(alloc, &texts.setup, &texts.forecast, &texts.plan)?;
-            Ok(Answer::Line { verdict, line })
+            let Judged {
+                verdict,
+                line,
+                notes,
+            } = judge(alloc, texts)?;
+            Ok(Answer::Line {
+                verdict,
+                line,
+                notes,
+            })
         }
         Task::Chart { worth, output, .. } => {
-            let text = chart_text(alloc, worth, texts)?;
-            Ok(Answer::Text { text, output })
+            let Noted { text, notes } = chart_text(alloc, worth, texts)?;
+            Ok(Answer::Text {
+                text,
+                output,
+                notes,
+            })
         }
         Task::Table { output, .. } => {
-            let text = table_bytes(alloc, &texts.setup, &texts.forecast, &texts.plan)?;
-            Ok(Answer::Text { text, output })
+            let Noted { text, notes } = table_text(alloc, texts)?;
+            Ok(Answer::Text {
+                text,
+                output,
+                notes,
+            })
         }
-        Task::Sensitivity { .. } => {
-            let text = worth_table(alloc, texts, progress)?;
-            Ok(Answer::Text { text, output: None })
+        Task::Sensitivity { output, .. } => {
+            let Noted { text, notes } = worth_table(alloc, texts, progress)?;
+            Ok(Answer::Text {
+                text,
+                output,
+                notes,
+            })
         }
         Task::Ask { .. } => {
             let replies = ask_bytes(alloc, &texts.setup, &texts.packets)?;

@@ -79,6 +79,19 @@ fn print_rest<W: Write>(printed: &Printed, out: &mut W) -> io::Result<()>
     out.write_all(&printed.end)
 }
 
+// Says how many packets of step 0 were lost before the run, if any.
+fn tell_lost_before<E: Write>(lost: u64, err: &mut E) -> io::Result<()> {
+    let (packets, were) = match lost {
+        0 => return Ok(()),
+        1 => ("packet", "was"),
+        _ => ("packets", "were"),
+    };
+    writeln!(
+        err,
+        "note: {lost} {packets} of step 0 {were} lost before the run, by full stores; the report counts from step 1"
+    )
+}
+
 // Prints the plan of a run, carries the run out, prints the rest, and then writes the messages on it.
 fn carry_out<R: Threads + Wait + Sync, W: Write, E: Write>(
     rt: &R,
@@ -97,6 +110,7 @@ fn carry_out<R: Threads + Wait + Sync, W: Write, E: Write>(
     let printed = run.carry_out(rt, alloc);
     print_rest(&printed, out).map_err(|_| Unwritten::Output)?;
     tell_run(alloc, task, &printed, texts, err).map_err(|_| Unwritten::Messages)?;
+    tell_lost_before(printed.given.lost_before, err).map_err(|_| Unwritten::Messages)?;
     Ok(status_of_run(printed.outcome))
 }
 

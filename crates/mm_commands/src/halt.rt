@@ -6,9 +6,9 @@ use mm_run::{Cause, StoppedRun};
 use std::fmt;
 use std::io::{self, Write};
 
-// The identifier of a store, shown without padding.
+/// The identifier of a store, shown without padding.
 #[derive(Clone, Copy)]
-struct Id(StoreId);
+pub(crate) struct Id(pub(crate) StoreId);
 
 impl fmt::Display for Id {
     fn fmt<W: fmt::Write>(&self, f: &mut fmt::Formatter<W>) -> fmt::Result {
@@ -98,18 +98,38 @@ fn tell_dumped<E: Write>(run: &StoppedRun, step: u32, err: &mut E) -> io::Result
     Ok(is_any)
 }
 
-// Says from where to plan again.
-fn tell_again<E: Write>(step: u32, is_dumped: bool, err: &mut E) -> io::Result<()> {
+// Says what each store holds, one after another.
+fn tell_volumes<E: Write>(run: &StoppedRun, err: &mut E) -> io::Result<()> {
+    let mut before = "";
+    for place in 0..run.memory.stores().len() {
+        if let Some(volume) = run.volume(place) {
+            write!(err, "{before} {} {}", Id(volume.store), volume.blocks)?;
+            before = ",";
+        }
+    }
+    Ok(())
+}
+
+// Says from where to plan again: the halted step goes on with what is left of its window, without the arrivals that are
+// stored, and each store begins with what it holds.
+fn tell_again<E: Write>(
+    run: &StoppedRun,
+    step: u32,
+    is_recorded: bool,
+    err: &mut E,
+) -> io::Result<()> {
+    let window = run.window_left(step);
+    let arrivals = match is_recorded {
+        true => "none of its arrivals",
+        false => "those of its arrivals that are not stored yet",
+    };
     write!(
         err,
-        "hint: plan again from step {step}; the start of each store is "
+        "hint: plan again from step {step}, with a window of {window} in that step and {arrivals}; start volumes:"
     )?;
-    match step {
-        1 => write!(err, "that of the setup")?,
-        _ => write!(err, "its held of step {}", step.saturating_sub(1))?,
-    }
-    if is_dumped {
-        write!(err, ", less what was deleted in step {step}")?;
+    tell_volumes(run, err)?;
+    if run.is_limited() {
+        write!(err, "; each limit in that step: less what its channel sent")?;
     }
     writeln!(err)
 }
@@ -126,5 +146,13 @@ pub(crate) fn tell_halt<E: Write>(run: &StoppedRun, err: &mut E) -> io::Result<(
     if !is_dumped && held == 0 {
         writeln!(err, "note: no packet was sent in step {step}")?;
     }
-    tell_again(step, is_dumped, err)
+    // Nothing is spent before all that arrives is recorded.
+    let is_recorded = is_broken || run.halted.spent > 0;
+    if !is_recorded {
+        writeln!(
+            err,
+            "note: perhaps not every packet of step {step} is stored"
+        )?;
+    }
+    tell_again(run, step, is_recorded, err)
 }

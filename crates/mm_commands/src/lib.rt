@@ -4,8 +4,10 @@
 
 mod advice;
 mod answers;
+mod compare;
 mod fault;
 mod flight;
+mod given;
 mod halt;
 mod remark;
 mod run;

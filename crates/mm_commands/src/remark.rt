@@ -2,17 +2,20 @@
 
 use crate::advice::{file_of, tell_refusal};
 use crate::answers::Answer;
+use crate::compare::tell_losses;
+use crate::given::Notes;
 use crate::halt::tell_halt;
 use crate::texts::TaskTexts;
 use mm_ask::{MOST_KEPT, Place, Replies};
-use mm_base::{NoMemory, Refusal, Refused};
+use mm_base::{Refusal, Refused};
 use mm_command_line::{Role, Task};
 use mm_cut::Verdict;
 use mm_files::Shown;
+use mm_problem::{Problem, Setup};
 use mm_run::{Cause, Given, Outcome, Printed, Unstored, Untaken};
 use mm_told::{
-    EndsHint, Hint, Note, RequestHints, Spot, Texts, Words, column_notes, fit_hint, notes_on,
-    opening_hint, packets_hint, refusal_numbered,
+    EndsHint, Hint, RequestHints, Spot, Texts, Words, fit_hint, notes_on, opening_hint,
+    packets_hint, refusal_numbered, verdict_hint,
 };
 use std::alloc::Global;
 use std::fmt;
@@ -61,27 +64,14 @@ pub(crate) fn tell_hint<T: fmt::Display + Drop, E: Write>(
     }
 }
 
-// Says what is noted.
-fn tell_each<E: Write>(notes: Result<Vec<Note>, NoMemory>, err: &mut E) -> io::Result<()> {
-    let Ok(notes) = notes else {
-        return Ok(());
-    };
-    for note in &notes {
-        writeln!(err, "note: {note}")?;
+// Says what in the setup and the forecast of a task has no effect.
+fn tell_notes<E: Write>(notes: &Notes, err: &mut E) -> io::Result<()> {
+    if let Ok(notes) = notes {
+        for note in notes {
+            writeln!(err, "note: {note}")?;
+        }
     }
     Ok(())
-}
-
-// Says what in the setup and the forecast of a task has no effect.
-fn tell_notes<E: Write>(
-    alloc: Global,
-    task: Task<'_>,
-    texts: Texts<'_>,
-    err: &mut E,
-) -> io::Result<()> {
-    let is_run = task.file(Role::Links).is_some();
-    tell_each(notes_on(alloc, is_run, texts.setup), err)?;
-    tell_each(column_notes(alloc, texts), err)
 }
 
 // Says what a verdict means: the file of the plan, the place in it, and the words. `Least` and `LeastInOrder` have no
@@ -90,11 +80,12 @@ fn tell_verdict<E: Write>(
     alloc: Global,
     task: Task<'_>,
     verdict: Verdict,
+    notes: &Notes,
     texts: Texts<'_>,
     err: &mut E,
 ) -> io::Result<()> {
     let (Some(plan), Some(words)) = (task.file(Role::Plan), Words::of_verdict(verdict)) else {
-        return tell_notes(alloc, task, texts, err);
+        return tell_notes(notes, err);
     };
     let place = match verdict {
         Verdict::DoesNotFit(step) => Some(("step", step)),
@@ -108,10 +99,7 @@ fn tell_verdict<E: Write>(
         write!(err, ", {kind} {number}")?;
     }
     writeln!(err, ": {words}")?;
-    match verdict {
-        Verdict::DoesNotFit(step) => tell_hint(fit_hint(alloc, texts, step), err),
-        _ => Ok(()),
-    }
+    tell_hint(verdict_hint(alloc, texts, verdict), err)
 }
 
 // What is found where a run did not begin.
@@ -266,16 +254,16 @@ fn tell_replies<E: Write>(
         _ => return Ok(()),
     };
     tell_refused((file, "packet"), &[], replies, err)?;
-    let counts = &replies.refused.counts;
-    let [digits, short] = [Refusal::HexLine.number(), Refusal::Short.number()];
-    match counts[usize::from(digits)].max(counts[usize::from(short)]) {
-        0 => Ok(()),
-        _ => tell_hint(packets_hint(packets), err),
+    let mut first = replies.refused.first.iter();
+    if first.any(|refused| refusal_numbered(u32::from(refused.number)).is_some()) {
+        tell_hint(packets_hint(packets), err)
+    } else {
+        Ok(())
     }
 }
 
 /// Says more of an answer: what it means where something is refused, or a verdict is neither `Least` nor
-/// `LeastInOrder`; and of a task that is done, what in its files has no effect.
+/// `LeastInOrder`, and then what a least plan loses; and of a task that is done, what in its files has no effect.
 pub(crate) fn tell_more<E: Write>(
     alloc: Global,
     task: Task<'_>,
@@ -284,9 +272,23 @@ pub(crate) fn tell_more<E: Write>(
     err: &mut E,
 ) -> io::Result<()> {
     match answer {
-        Answer::Text { .. } => tell_notes(alloc, task, texts.hinted(), err),
+        Answer::Text { notes, .. } => tell_notes(notes, err),
         Answer::Lines(replies) => tell_replies(task, replies, &texts.packets, err),
-        Answer::Line { verdict, .. } => { tell_verdict(alloc, task, *verdict, texts.hinted(), err) }
+        Answer::Line { verdict, notes, .. } => {
+            tell_verdict(alloc, task, *verdict, notes, texts.hinted(), err)?;
+            tell_losses(alloc, *verdict, texts, err)
+        }
+    }
+}
+
+// What in the setup and the forecast of a run has no effect.
+fn notes_of_run(alloc: Global, texts: Texts<'_>) -> Notes {
+    let Ok(setup) = Setup::read(alloc, texts.setup) else {
+        return Ok(Vec::new(alloc));
+    };
+    match Problem::read(alloc, &setup, texts.forecast) {
+        Ok(problem) => notes_on(alloc, true, &setup, &problem),
+        Err(_) => Ok(Vec::new(alloc)),
     }
 }
 
@@ -302,7 +304,7 @@ pub(crate) fn tell_run<E: Write>(
     let texts = texts.hinted();
     let (refusal, hint) = match &printed.outcome {
         Outcome::CarriedOut => {
-            tell_notes(alloc, task, texts, err)?;
+            tell_notes(&notes_of_run(alloc, texts), err)?;
             return tell_unstored(&printed.given, err);
         }
         Outcome::Unreported => (Refusal::NoMemory, None),

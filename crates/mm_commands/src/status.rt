@@ -19,7 +19,7 @@ pub enum Unwritten {
     Output,
     /// The one for what a refusal means, and for help: standard error.
     Messages,
-    /// None of them, but the file of the task's output, of which standard error tells why.
+    /// Neither stream: the task's output file. Standard error says why it was not written.
     File,
 }
 

@@ -83,6 +83,21 @@ fn is_among<F: Files>(files: &F, inputs: FileNames<'_>, name: &str) -> bool
         || is_that(files, inputs.packets, name)
 }
 
+// Says why a text was not stored in the file of this name.
+fn tell_unstored<E: Write>(name: &str, fault: StoreFault, err: &mut E) -> io::Result<()> {
+    if name.is_empty() {
+        return writeln!(
+            err,
+            "mm_tool: the name of the output is empty; write --output FILE"
+        );
+    }
+    writeln!(
+        err,
+        "mm_tool: {} could not be written, and is as it was: {fault}",
+        Shown(name)
+    )
+}
+
 // Stores the text in the file of this name, which must be none of the inputs; standard error has its name where that
 // fails.
 fn store<F: Files, E: Write>(
@@ -106,12 +121,7 @@ fn store<F: Files, E: Write>(
     match stored {
         Ok(()) => Ok(()),
         Err(fault) => {
-            writeln!(
-                err,
-                "mm_tool: {} could not be written, and is as it was: {fault}",
-                Shown(name)
-            )
-            .map_err(|_| Unwritten::Messages)?;
+            tell_unstored(name, fault, err).map_err(|_| Unwritten::Messages)?;
             Err(Unwritten::File)
         }
     }
@@ -153,6 +163,7 @@ fn give<F: Files, W: Write, E: Write>(
         Answer::Text {
             text,
             output: Some(name),
+            ..
         } if !is_stream(F::has_streams(), *name) => {
             tell_more(alloc, task, answer, texts, err).map_err(|_| Unwritten::Messages)?;
             store(alloc, files, task.names(), *name, text, err)?;

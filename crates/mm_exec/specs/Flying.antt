@@ -1,5 +1,6 @@
 -- A run that begins with its plan: what is printed, and what is lost.
 use Rattle.std.specs.Prelude.{◌≡◌, ℕ, ◌+◌, ◌<◌, ◌≤◌, List, [], length, slice_index_or, pos, Option, IfSome}
+use Rattle.std.specs.List.{range_with_len, sum_by}
 use Rattle.mm_carry.specs.Words.{Dumping, Fits, amount, Amounts, loss, Holdings, Supply, Sent, Reported, totals_of}
 use Rattle.mm_carry.specs.Words.{NoMemory}
 use Rattle.mm_plan.specs.Sheet.{SheetRows, CertificateRows}
@@ -10,13 +11,13 @@ use Rattle.mm_planner.specs.declared.goal.Goal.TheVariants.{Least}
 use Rattle.mm_carry.specs.declared.run_end.Flown.{Flown}
 use Rattle.mm_carry.specs.declared.run_end.FlyHalted.{FlyHalted}
 use Rattle.mm_carry.specs.RunInput.{RunInput, run_input}
-pub use Rattle.mm_carry.specs.Beyond.{AsForecast, LosesAtMost, lost_by_first}
+pub use Rattle.mm_carry.specs.Beyond.{AsForecast, LosesAsInHindsight, LosesAtMost, beyond_at, lost_by_first}
 use Rattle.mm_carry.specs.Ending.{over_memory, IsCarriedOut, IsUntouched, stop_of, IsHalted}
 
 -- THE HEADLINE: what was printed is what is lost. The printed plan fits every window and every channel's limit, no plan
 -- that fits loses fewer blocks than the printed number, and the printed cut shows this; where what came is what was
--- forecast, the packets lost in the run are the printed number; and what came beyond the forecast cost no more than
--- itself
+-- forecast, the packets lost in the run are the printed number; what came beyond the forecast cost no more than itself;
+-- and no plan made with knowledge of what came loses fewer of it by more than came otherwise
 pub record LosesWhatIsPrinted (m : RunInput) (sheet : SheetRows) (report : Reported) : Type 0 where
   pub fits : Fits m.problem (amount sheet.plan)
   pub least : (other : Amounts) → Fits m.problem other → sheet.loss ≤ loss m.problem other
@@ -24,12 +25,20 @@ pub record LosesWhatIsPrinted (m : RunInput) (sheet : SheetRows) (report : Repor
   pub shown : bound m.problem sheet.cut sheet.by_channels ≡ pos sheet.loss
   pub lost : AsForecast m → (totals_of report.steps).lost ≡ sheet.loss
   pub at_most : LosesAtMost m sheet.loss (totals_of report.steps).lost
+  pub hindsight : LosesAsInHindsight m (totals_of report.steps).lost
 
 -- where what came is what was forecast, the first store, the first two and so on lose in the run the number that is
 -- printed of them, as far as certificates of them are printed
 abbrev pub FirstsLoseWhatIsPrinted : RunInput → Option (List CertificateRows) → Reported → Type 0
 FirstsLoseWhatIsPrinted m firsts report = IfSome firsts (λ cs. AsForecast m → (k : ℕ) (c : CertificateRows)
     → k < length cs → lost_by_first (k + 1) report.steps ≡ (slice_index_or cs k c).loss)
+
+-- whatever came, the first store, the first two and so on lose in the run at most the number that is printed of them,
+-- and one packet more for each that came to them beyond the forecast, as far as certificates of them are printed
+abbrev pub FirstsLoseAtMost : RunInput → Option (List CertificateRows) → Reported → Type 0
+FirstsLoseAtMost m firsts report = IfSome firsts (λ cs. (k : ℕ) (c : CertificateRows) → k < length cs
+    → lost_by_first (k + 1) report.steps
+    ≤ (slice_index_or cs k c).loss + sum_by (beyond_at m) (range_with_len 0 (k + 1)))
 
 -- a plan was made for this goal, printed, and carried out, with sources that give this and have that left
 pub record FliesFor {S L : Type 0} (goal : Goal) (sent : L → List Sent) (failed : L → ℕ) (q : Dumping) (base : ℕ)
@@ -42,6 +51,7 @@ pub record FliesFor {S L : Type 0} (goal : Goal) (sent : L → List Sent) (faile
       flown.links.items flown.report
   pub headline : LosesWhatIsPrinted (run_input q sheet.plan base before given) sheet flown.report
   pub firsts : FirstsLoseWhatIsPrinted (run_input q sheet.plan base before given) sheet.firsts flown.report
+  pub firsts_at_most : FirstsLoseAtMost (run_input q sheet.plan base before given) sheet.firsts flown.report
 
 -- a plan was made for this goal, and printed, and its run was halted, with sources that give this and have that left
 pub record FliesNotFor {S L : Type 0} (goal : Goal) (sent : L → List Sent) (failed : L → ℕ) (q : Dumping) (base : ℕ)

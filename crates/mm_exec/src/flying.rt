@@ -20,7 +20,7 @@ use std::alloc::Global;
 use std::sync::Wait;
 use std::thread::Threads;
 
-/// What is left of a run for which there was no memory to plan.
+/// The sources and links, given back because memory ran out before there was a plan.
 pub fn unplanned<S: Drop, L: Drop>(alloc: Global, sources: Vec<S>, links: Vec<L>) -> FlyHalted<S, L>
     ensures sources { result.halted.sources ≡ sources }
     ensures links { result.halted.links ≡ links }

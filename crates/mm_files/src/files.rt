@@ -27,6 +27,10 @@ const PIECE: usize = 4096;
 pub enum Obstacle {
     /// There is no file of this name.
     Missing,
+    /// A script has this name with a carriage return beside it.
+    CarriageReturn,
+    /// A script has this name with spaces beside it.
+    Spaces,
     /// The user may not read it.
     Forbidden,
     /// It is a folder.
@@ -43,6 +47,13 @@ impl fmt::Display for Obstacle {
             Obstacle::Missing => {
                 "expected a file of this name; check the name and its folder, or in a script the line === NAME above \
                     the file; outside a script - is standard input"
+            }
+            Obstacle::CarriageReturn => {
+                "expected a line === NAME; in this script a carriage return stands beside the name; save the script \
+                    with LF at the end of each line, not CR LF"
+            }
+            Obstacle::Spaces => {
+                "expected a line === NAME; in this script spaces stand beside the name; remove them"
             }
             Obstacle::Forbidden => {
                 "expected a file that may be read; let this user read it, as chmod does, or take a copy of it"

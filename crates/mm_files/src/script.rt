@@ -17,10 +17,6 @@ use std::marker::Model;
 /// What the line that begins a file starts with; the rest of the line is the file's name.
 const HEADING: &[u8] = b"=== ";
 
-const MISSING: ReadFault = ReadFault::NotRead {
-    obstacle: Obstacle::Missing,
-};
-
 /// The first line of a text without its LF, and what follows it.
 pub fn first_line(text: &[u8]) -> (&[u8], &[u8])
     ensures lines { IsFirstLine text.now result.0.now result.1.now }
@@ -57,6 +53,30 @@ fn before_heading(text: &[u8]) -> &[u8]
         rest = after;
     }
     &text[..text.len() - rest.len()]
+}
+
+// What stands beside the name in a heading: a carriage return, or spaces.
+fn obstacle_beside(name: &[u8], heading: &[u8]) -> Obstacle {
+    if name.contains(&b'\r') || heading.contains(&b'\r') {
+        Obstacle::CarriageReturn
+    } else {
+        Obstacle::Spaces
+    }
+}
+
+// Why none of the headings in the text is that of the file of this name.
+fn obstacle_in(text: &[u8], name: &[u8]) -> Obstacle {
+    let mut rest = text;
+    while !rest.is_empty() {
+        let (line, after) = first_line(rest);
+        match line.strip_prefix(HEADING) {
+            Some(found) if found.trim_ascii() == name.trim_ascii() => {
+                return obstacle_beside(name, found);
+            }
+            _ => rest = after,
+        }
+    }
+    Obstacle::Missing
 }
 
 /// The files of a script, in which `-` is a name like any other. Contracts see the text that they stand in.
@@ -120,7 +140,10 @@ impl Files for ScriptFiles<'_> {
         ensures noted { IfOk result (λ text. Notes None None (reading name.now text.items ∷ [])) }
         ensures unnoted { IfErr result (λ _. Notes None None []) }
     {
-        let text = self.find(name.as_bytes()).ok_or(MISSING)?;
+        let Some(text) = self.find(name.as_bytes()) else {
+            let obstacle = obstacle_in(self.text, name.as_bytes());
+            return Err(ReadFault::NotRead { obstacle });
+        };
         Vec::from_slice(alloc, text).map_err(|_| ReadFault::NoMemory)
     }
 

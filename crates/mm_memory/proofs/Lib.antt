@@ -12,3 +12,4 @@ pub mod GivenLemmas
 pub mod TextLemmas
 pub mod RetrievalLemmas
 pub mod LossLemmas
+pub mod SpareLemmas

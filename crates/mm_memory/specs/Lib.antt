@@ -13,6 +13,7 @@ pub mod Laws
 pub mod Tallies
 pub mod Recording
 pub mod Routing
+pub mod Spares
 pub mod Accounts
 pub mod Retrievals
 pub mod Losses

@@ -23,5 +23,5 @@ pub use memory::Memory;
 pub use mm_base::NoMemory;
 pub use mm_desk::Held;
 pub use places::{place_of, store_of};
-pub use spare::{Spare, hands_back};
+pub use spare::{Spare, hands_back, refuses};
 pub use tally::Tally;

@@ -1,8 +1,10 @@
 //! A packet that is recorded: each store that its report type is routed to is offered it.
-ghost use Rattle.std.specs.Prelude.{◌≡◌, ◌≤◌, ◌<◌, length, Some, IsTrue, IfOk, OnOk, OnErr};
+ghost use Rattle.std.specs.Prelude.{◌≡◌, ◌≤◌, ◌<◌, length, All, Any, Some, IsTrue, IfOk, OnOk, OnErr};
+ghost use Rattle.std.specs.Bool.{MatchBool};
 ghost use Rattle.mm_base.specs.declared.limits.TheConstants.{MAX_STORES};
 ghost use Rattle.mm_memory.specs.Recording.{after_offer, tally_in, after_offers, tally_over, after_record, tally_after};
 ghost use Rattle.mm_memory.specs.Routing.{rows_for, leads_to, packet_along, passed};
+ghost use Rattle.mm_memory.specs.Spares.{LosesOne, LosesAsManyAsItKeeps, KeepsIt, IsKeptForAnother, IsKept};
 
 use crate::memory::Memory;
 use crate::spare::{Spare, given_up, hands_back};
@@ -21,6 +23,18 @@ fn rows_for<'a>(control: &'a ControlTable, packet: &Packet) -> &'a [RouteRow]
         return &[];
     }
     control.rows_for(packet.apid(), packet.service(), packet.subtype())
+}
+
+// That of a packet whose data are lent.
+fn rows_for_lent<'a>(control: &'a ControlTable, packet: &LentPacket<'_>) -> &'a [RouteRow]
+    ensures { result.now ≡ rows_for control.now packet.now }
+{
+    if packet.is_telecommand() {
+        &[]
+    } else {
+        let header = packet.header();
+        control.rows_for(header.apid, header.service, header.subtype)
+    }
 }
 
 // Whether the row at this place, if there is one, leads to the store with an identifier.
@@ -128,6 +142,26 @@ fn offer_each(
     Ok(tally)
 }
 
+// Whether a store gives all memory back that it takes for a packet that follows the rows.
+fn hands_back_along(rows: &[RouteRow], held: &Held) -> bool
+    ensures { MatchBool result (LosesAsManyAsItKeeps rows.now held.now) (KeepsIt rows.now held.now) }
+{
+    !leads_to(rows, 0, &held.id) || hands_back(&held.state)
+}
+
+// Whether each store does.
+fn hand_back_along(rows: &[RouteRow], stores: &[Held]) -> bool
+    ensures { MatchBool result (All (LosesAsManyAsItKeeps rows.now) stores.now) (Any (KeepsIt rows.now) stores.now) }
+{
+    stores.iter().all(|held| hands_back_along(rows, held))
+}
+
+// Whether two packets share their memory: a copy of the one then makes one owner more of the other's.
+fn share_memory(alloc: Global, one: &BlockPacket, other: &BlockPacket) -> bool {
+    let owners = other.owners();
+    one.copy(alloc).is_ok_and(|_copy| other.owners() > owners)
+}
+
 impl Memory {
     /// Offers a packet at a moment, in ticks, to each store that its report type is routed to, as the recorders of a
     /// run do; a telecommand goes to no store. A store whose storage is off, or whose clock is at its end, refuses it,
@@ -172,39 +206,44 @@ impl Memory {
         Ok(tally)
     }
 
-    // How many stores to which one of the rows leads would give this packet up, or one that is equal.
+    // How many stores to which one of the rows leads would give up a packet in the memory of this one.
     fn givers(&self, rows: &[RouteRow], packet: &BlockPacket) -> usize {
-        self.stores
-            .iter()
-            .filter(|held| leads_to(rows, 0, &held.id))
-            .filter(|held| given_up(&held.state).is_some_and(|other| other.is(packet)))
-            .count()
-    }
-
-    // Whether one of the stores to which the rows lead gives up a packet that no other store shares.
-    fn gives_memory(&self, rows: &[RouteRow]) -> bool {
+        let alloc = *self.stores.allocator();
         self.stores
             .iter()
             .filter(|held| leads_to(rows, 0, &held.id))
             .filter_map(|held| given_up(&held.state))
-            .any(|oldest| oldest.owners() <= self.givers(rows, oldest))
+            .filter(|other| share_memory(alloc, packet, other))
+            .count()
+    }
+
+    // Whether one of the rows leads to the store, and the store gives up a packet whose memory no store keeps then.
+    fn frees_memory(&self, rows: &[RouteRow], held: &Held) -> bool
+        ensures loses { IsTrue result → LosesOne rows.now held.now }
+    {
+        match given_up(&held.state) {
+            Some(oldest) => {
+                leads_to(rows, 0, &held.id) && oldest.owners() <= self.givers(rows, oldest)
+            }
+            None => false,
+        }
+    }
+
+    // Whether one of the stores does.
+    fn some_free_memory(&self, rows: &[RouteRow]) -> bool
+        ensures lost { IsTrue result → Any (LosesOne rows.now) self.now.stores }
+    {
+        self.stores.iter().any(|held| self.frees_memory(rows, held))
     }
 
     /// Whether the stores that a packet is routed to give all memory back that they take for it: none keeps it, or they
-    /// give up a packet that no other store shares.
+    /// give up a packet that no other store shares. A contract sees no memory: if they do, a packet is lost wherever
+    /// this one is kept; if not, it is kept.
     #[must_use]
-    pub fn hands_back(&self, packet: &LentPacket<'_>) -> bool {
-        if packet.is_telecommand() {
-            return true;
-        }
-        let header = packet.header();
-        let rows = self
-            .control
-            .rows_for(header.apid, header.service, header.subtype);
-        let mut routed = self
-            .stores
-            .iter()
-            .filter(|held| leads_to(rows, 0, &held.id));
-        self.gives_memory(rows) || routed.all(|held| hands_back(&held.state))
+    pub fn hands_back(&self, packet: &LentPacket<'_>) -> bool
+        ensures { MatchBool result (IsKeptForAnother packet.now self.now) (IsKept packet.now self.now) }
+    {
+        let rows = rows_for_lent(&self.control, packet);
+        self.some_free_memory(rows) || hand_back_along(rows, &self.stores)
     }
 }

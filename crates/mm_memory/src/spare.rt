@@ -1,10 +1,12 @@
 //! The memory of a packet that no store holds.
-ghost use Rattle.std.specs.Prelude.{◌≡◌, ◌≤◌, length, IfSome};
+ghost use Rattle.std.specs.Prelude.{◌≡◌, ◌≤◌, length, IfSome, MatchOption};
+ghost use Rattle.std.specs.Bool.{MatchBool};
 ghost use Rattle.mm_packet.specs.declared.block.TheConstants.{BLOCK};
 ghost use Rattle.mm_packet.specs.Spelling.{spelling};
+ghost use Rattle.mm_memory.specs.Spares.{RefusesEach, TakesEach, GivesUp, GivesOneUp, KeepsEach};
 
 use mm_base::{Kind, NoMemory};
-use mm_desk::{Offered, Returned, StoreState};
+use mm_desk::{Fault, Offered, Returned, StoreState};
 use mm_packet::{BlockPacket, LentPacket};
 use mm_store::PacketStore;
 use std::alloc::Global;
@@ -25,10 +27,31 @@ fn handed_back(answer: Result<Offered, Returned>) -> Option<BlockPacket> {
     }
 }
 
-// The packet that an offer to a store gives up: its oldest, where storage is on, and the store is circular and full.
-pub(crate) fn given_up(state: &StoreState) -> Option<&BlockPacket> {
+/// Why a store refuses each packet, if it does: its storage is off, or no later storage time or no further offer can be
+/// counted.
+#[must_use]
+pub fn refuses(state: &StoreState) -> Option<Fault>
+    ensures { MatchOption result (TakesEach state.now) (RefusesEach state.now) }
+{
+    if !state.storage() {
+        return Some(Fault::Disabled);
+    }
+    if state.store().last_time() == u64::MAX || state.offered() == u64::MAX {
+        return Some(Fault::ClockEnd);
+    }
+    None
+}
+
+// The packet that an offer to a store gives up: its oldest, where the store is circular and full, and does not refuse
+// the new one.
+pub(crate) fn given_up(state: &StoreState) -> Option<&BlockPacket>
+    ensures { IfSome result (λ oldest. GivesUp state.now oldest.now) }
+{
+    if refuses(state).is_some() {
+        return None;
+    }
     let store = state.store();
-    if !state.storage() || store.kind() != Kind::Circular || store.len() < store.size() {
+    if store.kind() == Kind::Bounded || store.len() < store.size() {
         return None;
     }
     let (_time, oldest) = store.first_in(0, u64::MAX, 0)?;
@@ -38,12 +61,17 @@ pub(crate) fn given_up(state: &StoreState) -> Option<&BlockPacket> {
 /// Whether an offer to a store gives all memory back that it takes: the packet is lost or refused, or the store gives
 /// up one that no other shares.
 #[must_use]
-pub fn hands_back(state: &StoreState) -> bool {
-    let store = state.store();
-    match given_up(state) {
-        Some(oldest) => oldest.owners() == 1,
-        None => !state.storage() || store.len() == store.size(),
+pub fn hands_back(state: &StoreState) -> bool
+    ensures { MatchBool result (GivesOneUp state.now) (KeepsEach state.now) }
+{
+    if let Some(oldest) = given_up(state) {
+        return oldest.owners() == 1;
     }
+    if refuses(state).is_some() {
+        return true;
+    }
+    let store = state.store();
+    store.len() == store.size()
 }
 
 impl Spare {

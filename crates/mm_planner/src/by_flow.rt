@@ -126,7 +126,8 @@ fn by_flow(alloc: Global, problem: &Problem, firsts: usize) -> Result<Planned, N
 
 /// As `plan`, but by the network alone, which takes longer.
 pub fn plan_by_flow(alloc: Global, problem: &Problem) -> Result<Planned, NoMemory>
-    ensures { IfOk result (IsPlan problem.now) }
+    ensures least { IfOk result (IsPlan problem.now) }
+    ensures firsts { IfOk result (λ planned. length planned.firsts.items ≡ 0) }
 {
     by_flow(alloc, problem, 0)
 }

@@ -46,7 +46,8 @@ fn proposed(
 /// A dump plan that loses least and leaves no window idle that a store could use, with a cut that shows that it loses
 /// least. If there are several such plans or cuts, any of them may be returned.
 pub fn plan(alloc: Global, problem: &Problem) -> Result<Planned, NoMemory>
-    ensures { IfOk result (IsPlan problem.now) }
+    ensures least { IfOk result (IsPlan problem.now) }
+    ensures firsts { IfOk result (λ planned. length planned.firsts.items ≡ 0) }
 {
     let proposal = propose(alloc, problem)?;
     match proposed(alloc, problem, proposal, 0)? {

@@ -18,7 +18,7 @@ pub record HasOffered (e : RecordingContext) (before after : Supply) (broken : O
 
 -- what sources become, and what they give until then, for the sources of recorders in a step
 module _ {S : Type 0} (leads : S → S → Type 0) (until : S → S → Supply) (e : RecordingContext) where
-  -- whatever a source becomes later, it could become it before too, and its recorder offered what it gave until then
+  -- for any later state of a source: it led there before too, and its recorder offered what the source gave until then
   abbrev pub HasOfferedUntil : S → S → PortView → Option Fault → Type 0
   HasOfferedUntil before now port broken =
       (last : S) → leads now last → leads before last × HasOffered e (until before last) (until now last) broken port

@@ -42,7 +42,8 @@ pub record OfferedInPart (all more asks : List Event) : Type 0 where
   pub are : more ≡ made ++ rest
   pub asks_are : asks ≡ all ++ made
 
--- of the last packet the first offers were made to each store, and of the packets before it all offers
+-- each store was made all its offers of the packets before the last one, and the first of its offers of the last one,
+-- perhaps none and perhaps all
 pub record StoppedEarly (e : RecordingContext) (gave : List SpacePacket) (offered : ℕ → List Event) : Type 0 where
   pub before : List SpacePacket
   pub last : SpacePacket

@@ -18,8 +18,8 @@ supplies until [] lasts = []
 supplies until (s ∷ ss) [] = []
 supplies until (s ∷ ss) (last ∷ lasts) = until s last ∷ supplies until ss lasts
 
--- whatever these sources become later, they could become it before too, and this holds of what they give until then,
--- from before on and from now on
+-- for any later states of these sources: they led there before too, and this holds of what each source gives until its
+-- later state, counted from before and counted from now
 abbrev pub WhateverComes : {S : Type 0} → (S → S → Type 0) → (S → S → Supply) → List S → List S
     → (List Supply → List Supply → Type 0) → Type 0
 WhateverComes leads until before after P =

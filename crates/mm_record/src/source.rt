@@ -9,12 +9,12 @@ use mm_packet::BlockPacket;
 ///
 /// A source gives its packets step by step; steps are counted from 1, and 0 is before the first. A recorder asks it for
 /// the packets of one step, one after another, until there is none, in a thread of its own. It never asks for those of
-/// an earlier step again. Contracts see a source as what it gives until it is as it will be later.
+/// an earlier step again. Contracts describe a source by what it gives between two of its states.
 ///
 /// A mission implements [`Source`] for one whose packets are known before, as those of a file, and
 /// [`LiveSource`](crate::LiveSource) for an instrument.
 pub trait AnySource {
-    // What it gives in each step, from the first state until it is as the second.
+    // What it gives in each step between the first state and the second.
     ghost until: { Self → Self → Supply };
 
     // The first may become the second.

@@ -2,3 +2,5 @@ pub mod Offered
 pub mod Planned
 pub mod Routes
 pub mod Counting
+pub mod Dealt
+pub mod NotTaken

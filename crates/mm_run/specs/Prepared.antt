@@ -1,10 +1,11 @@
 -- A run that is read, judged and planned, and has not begun.
 use Rattle.std.specs.Prelude.{◌≡◌, ℕ, List, [], length, Option, Some, None}
 use Rattle.mm_run.specs.Types.{Dumping, SpacePacket, SheetRows, Holdings}
+use Rattle.mm_plan.specs.Table.{Table}
 use Rattle.mm_planner.specs.PlanTexts.{IsPrintedAs, Shows}
 use Rattle.mm_planner.specs.declared.goal.Goal.{Goal}
 use Rattle.mm_run.specs.Texts.{SaysStart, SaysSourcesAndLinks}
-use Rattle.mm_run.specs.Runs.{opened_with}
+use Rattle.mm_run.specs.Runs.{TellsUntaken, lost_in, opened_with, scripted}
 use Rattle.mm_run.specs.Untaken.{CountsOf}
 use Rattle.mm_run.specs.declared.run_plan.RunPlan.{RunPlan}
 use Rattle.mm_run.specs.declared.run_plan.RunPlan.TheVariants.{Given, Made, Unplanned}
@@ -39,3 +40,6 @@ pub record IsPrepared (goal : Goal) (plan : Option (List ℕ)) (setup forecast s
   pub opened : run.memory ≡ opened_with memory opening
   pub plan_is : IsPlanBy goal sheet run.problem run.plan
   pub counts : CountsOf (length run.problem.windows) memory sources_text run.printed.given.unstored
+  pub untaken_told : (table : Table)
+      → TellsUntaken (scripted run.problem table run.memory run.sources.items) opening run.printed.given.unstored
+  pub lost_before : run.printed.given.lost_before ≡ lost_in run.memory

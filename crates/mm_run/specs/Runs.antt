@@ -1,5 +1,6 @@
 -- What a run from texts prints.
-use Rattle.std.specs.Prelude.{◌≡◌, ◌⊎◌, ℕ, ◌≤◌, List, [], All, length, fold, map, slice_index_or, Option, Some, None}
+use Rattle.std.specs.Prelude.{◌≡◌, ◌⊎◌, ℕ, ◌-◌, ◌≤◌, ◌^◌, min, List, [], All, length, fold, map, sum_by}
+use Rattle.std.specs.Prelude.{slice_index_or, count_by, flat_map, not, Option, Some, None, ◌+◌}
 use Rattle.mm_run.specs.Types.{Dumping, SpacePacket, SheetRows, Holdings, Flown, FlyHalted, ScriptedSource}
 use Rattle.mm_run.specs.Types.{ScriptedLink}
 use Rattle.mm_plan.specs.Table.{Table}
@@ -7,7 +8,9 @@ use Rattle.mm_desk.specs.declared.held.Held.{Held}
 use Rattle.mm_memory.specs.Recording.{after_record}
 use Rattle.mm_record.specs.Supplies.{Supply}
 use Rattle.mm_dump.specs.Sending.{Sent}
+use Rattle.mm_carry.specs.Accounts.{over_steps}
 use Rattle.mm_carry.specs.RunInput.{RunInput, run_input}
+use Rattle.mm_carry.specs.Untaken.{is_taken, untaken}
 use Rattle.mm_carry.specs.Step.{NeverRefused}
 use Rattle.mm_carry.specs.Ending.{IsCarriedOut, IsHalted}
 use Rattle.mm_exec.specs.Flying.{FliesFor, FliesNotFor, HasNoPlan}
@@ -16,11 +19,16 @@ use Rattle.mm_planner.specs.declared.goal.Goal.TheVariants.{Least}
 use Rattle.mm_run.specs.declared.printed.Printed.{Printed}
 use Rattle.mm_run.specs.Printed.{TellsAll, TellsEnd}
 use Rattle.mm_run.specs.Texts.{SaysStart, SaysSourcesAndLinks}
-use Rattle.mm_run.specs.Untaken.{CountsOf}
+use Rattle.mm_run.specs.Untaken.{CountsOf, is_untaken}
+use Rattle.mm_run.specs.declared.untaken.Unstored.{Unstored}
 
 -- packets are offered, in order, each to the stores of its report type
 abbrev pub opened_with : Holdings → List SpacePacket → Holdings
 opened_with memory packets = fold (λ m p. after_record 0 p m) memory packets
+
+-- how many packets the stores have lost, as far as 64 bits count
+abbrev pub lost_in : Holdings → ℕ
+lost_in memory = min (sum_by (λ h. h.state.lost) memory.stores) (2 ^ 64 - 1)
 
 -- each store was offered at most this many packets
 abbrev pub AreOffered : ℕ → List Held → Type 0
@@ -40,6 +48,18 @@ failed link = link.failed
 -- before the first step
 abbrev pub scripted : Dumping → Table → Holdings → List ScriptedSource → RunInput
 scripted problem plan memory sources = run_input problem plan 0 memory (map gives sources)
+
+-- of the packets of step 0, and of all that the sources give in the steps, as many as are told are taken by no route,
+-- by this memory
+abbrev pub CountsUntaken : ℕ → Holdings → List SpacePacket → List ScriptedSource → Unstored → Type 0
+CountsUntaken steps memory opening sources n = n.telecommands + n.unrouted ≡ count_by (is_untaken memory) opening
+    + count_by (is_untaken memory) (over_steps (λ t. flat_map (λ give. give t) (map gives sources)) steps)
+
+-- what is told not to be taken is what no route takes: of the packets of step 0, and of all that the sources give in
+-- the steps of the run
+abbrev pub TellsUntaken : RunInput → List SpacePacket → Unstored → Type 0
+TellsUntaken m opening n = n.telecommands + n.unrouted
+    ≡ count_by (λ p. not (is_taken m p)) opening + length (untaken m (length m.problem.windows))
 
 -- the plan of the sheet was carried out, and no text of it is printed; or without a sheet, a plan was made for this
 -- goal, printed and carried out
@@ -84,7 +104,7 @@ pub record EndsEarly (goal : Goal) (sheet : Option SheetRows) (problem : Dumping
   pub not_flown : IsNotFlown goal sheet problem memory sources links left ended
   pub never_refused : NeverRefused ended.halted.cause
   pub tells : TellsEnd ended.sheet.items ended.halted.cause ended.halted.report p
-  pub left_is : p.left ≡ Some (record { memory = left; halted = ended.halted })
+  pub left_is : p.left ≡ Some (record { problem = problem; memory = left; halted = ended.halted })
 
 -- how the run ended, and what is printed of it
 abbrev pub RunEnds : Goal → Option SheetRows → Dumping → Holdings → List ScriptedSource → List ScriptedLink → Printed
@@ -105,6 +125,9 @@ pub record PrintsRun (goal : Goal) (plan : Option (List ℕ)) (setup forecast so
   pub sides_say : SaysSourcesAndLinks sources_text links_text opening sources links
   pub ended : RunEnds goal sheet problem (opened_with memory opening) sources links p
   pub counts : CountsOf (length problem.windows) memory sources_text p.given.unstored
+  pub untaken_told : (table : Table)
+      → TellsUntaken (scripted problem table (opened_with memory opening) sources) opening p.given.unstored
+  pub lost_before : p.given.lost_before ≡ lost_in (opened_with memory opening)
 
 -- what is printed of the run that the five texts say
 abbrev pub Runs : List ℕ → List ℕ → List ℕ → List ℕ → List ℕ → Printed → Type 0

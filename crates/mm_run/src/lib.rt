@@ -30,6 +30,6 @@ pub use run::{fly_bytes, prepare_run, run_bytes, run_texts};
 pub use script_fault::ScriptFault;
 pub use source::{MAX_PACKETS, ScriptedSource};
 pub use sources::{SourceFile, SourceLine};
-pub use stopped_run::StoppedRun;
+pub use stopped_run::{StoppedRun, Volume};
 pub use texts::RunTexts;
 pub use untaken::{Unstored, Untaken};

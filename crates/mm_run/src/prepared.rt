@@ -69,7 +69,15 @@ impl PreparedRun {
             Ok(Flown { sheet, report, .. }) => printed.whole(alloc, sheet, &report),
             Err(FlyHalted { sheet, halted }) => {
                 printed.given.opening = offered_for(&memory, &halted.cause);
-                printed.stopped(alloc, sheet, StoppedRun { memory, halted })
+                printed.stopped(
+                    alloc,
+                    sheet,
+                    StoppedRun {
+                        problem,
+                        memory,
+                        halted,
+                    },
+                )
             }
         }
     }

@@ -33,6 +33,8 @@ pub struct Given {
     pub links: usize,
     /// How many packets of step 0 are routed to the store that does not hold its start volume, where that is the cause.
     pub opening: u64,
+    /// How many packets of step 0 were lost before the run, by stores that were full.
+    pub lost_before: u64,
     /// How many packets of the sources go to no store.
     pub unstored: Unstored,
     /// The first of those that no route takes.

@@ -4,12 +4,12 @@ ghost use Rattle.std.specs.Option.{option_copied};
 ghost use Rattle.mm_base.specs.Reading.{IfRefused};
 ghost use Rattle.mm_run.specs.Judging.{IsFirstFault, IsRunFault, IsFlyFault};
 ghost use Rattle.mm_run.specs.Prepared.{IsPrepared};
-ghost use Rattle.mm_run.specs.Runs.{opened_with, PrintsRun, Runs, FliesBy};
+ghost use Rattle.mm_run.specs.Runs.{lost_in, opened_with, PrintsRun, Runs, FliesBy};
 
 use crate::fault::Fault;
 use crate::laws::constants_are;
 use crate::prepared::PreparedRun;
-use crate::printed::Printed;
+use crate::printed::{Given, Printed};
 use crate::run_plan::plan_by;
 use crate::texts::{
     ProblemAndMemory, RunTexts, SourcesAndLinks, read_plan, read_problem_and_memory,
@@ -31,6 +31,17 @@ fn offer_all(alloc: Global, memory: &mut Memory, packets: &[BlockPacket]) -> Res
         memory.record(alloc, 0, packet)?;
     }
     Ok(())
+}
+
+// How many packets the stores of a memory have lost.
+fn lost_in(memory: &Memory) -> u64
+    ensures { result ≡ lost_in memory.now }
+{
+    let mut lost: u64 = 0;
+    for held in memory.stores() {
+        lost = lost.saturating_add(held.state.lost());
+    }
+    lost
 }
 
 /// Reads and judges what the texts say of a run, and makes a plan for the goal and prints it where there is no plan
@@ -61,6 +72,10 @@ pub fn prepare_run(
     } = start;
     constants_are();
     offer_all(alloc, &mut memory, opening.as_slice())?;
+    let given = Given {
+        lost_before: lost_in(&memory),
+        ..given
+    };
     let printed = Printed::reserved(alloc, given)?;
     let plan = plan_by(alloc, &problem, sheet, goal);
     Ok(PreparedRun {

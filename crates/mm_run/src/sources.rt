@@ -1,5 +1,5 @@
 //! Texts of sources.
-ghost use Rattle.std.specs.Prelude.{◌≡◌, ◌+◌, ◌-◌, ◌<◌, ℕ, List, [], length, max, IfOk, OnOk};
+ghost use Rattle.std.specs.Prelude.{◌≡◌, ◌+◌, ◌-◌, ◌<◌, ℕ, List, [], length, max, All, IfOk, OnOk};
 ghost use Rattle.mm_base.specs.Reading.{Gives, IfRefused};
 ghost use Rattle.mm_run.specs.declared.sources.SourceLine.{SourceLine};
 ghost use Rattle.mm_run.specs.declared.source.TheConstants.{MAX_PACKETS};
@@ -139,6 +139,8 @@ impl SourceFile {
         ensures start { count.new.start ≡ count.old.start }
         ensures counts { IfOk result (λ _. (lines : List SourceLine) → source_lines_of text.now ≡ Ok lines
             → HasCounted count.new lines) }
+        ensures ranged { IfOk result (λ _. (lines : List SourceLine) → source_lines_of text.now ≡ Ok lines
+            → All IsSourceLine lines) }
         ensures refused { IfRefused ScriptFault.NoMemory result (λ e. source_lines_of text.now ≡ Err e) }
     {
         let mut file = SourceFile {

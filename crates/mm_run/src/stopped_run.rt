@@ -1,19 +1,33 @@
 //! What a run leaves that did not begin or was halted.
-ghost use Rattle.std.specs.Prelude.{◌≡◌, ◌-◌, ◌≤◌, [], length, slice_index_or};
-ghost use Rattle.mm_run.specs.StoppedRun.{dumped_at, dumped_in, still_held};
+ghost use Rattle.std.specs.Prelude.{◌≡◌, ◌-◌, ◌≤◌, ◌↔◌, [], length, slice_get, slice_index_or, IsTrue};
+ghost use Rattle.std.specs.Option.{option_map};
+ghost use Rattle.mm_problem.specs.Dumping.{window};
+ghost use Rattle.mm_carry.specs.Readiness.{HasLimit};
+ghost use Rattle.mm_run.specs.StoppedRun.{dumped_at, dumped_in, still_held, volume_of};
 
 use crate::link::ScriptedLink;
 use crate::source::ScriptedSource;
-use mm_carry::Halted;
+use mm_base::StoreId;
+use mm_carry::{Halted, has_limit};
 use mm_dump::Link;
 use mm_memory::Memory;
+use mm_problem::Problem;
 use mm_report::Report;
+use mm_store::PacketStore;
 use std::fmt;
 
-/// What a run leaves that did not begin or was halted: its memory, the cause, the report of the completed steps, what
-/// was spent of the window of the step in which it was halted, its sources and its links.
+/// How many packets a store holds.
+#[derive(Clone, Copy, Debug, PartialEq, Eq)]
+pub struct Volume {
+    pub store: StoreId,
+    pub blocks: u32,
+}
+
+/// What a run leaves that did not begin or was halted: its problem, its memory, the cause, the report of the completed
+/// steps, what was spent of the window of the step in which it was halted, its sources and its links.
 #[derive(Drop)]
 pub struct StoppedRun {
+    pub problem: Problem,
     pub memory: Memory,
     pub halted: Halted<ScriptedSource, ScriptedLink>,
 }
@@ -38,6 +52,40 @@ fn dumped_in(report: &Report, step: u32, place: usize) -> u64
 }
 
 impl StoppedRun {
+    /// The store at this place of the memory that the run left, and how many packets it holds: the start volume of a
+    /// plan that goes on from there.
+    #[must_use]
+    pub fn volume(&self, place: usize) -> Option<Volume>
+        ensures volume { result ≡ option_map volume_of (slice_get self.now.memory.stores place) }
+    {
+        let held = self.memory.stores().get(place)?;
+        Some(Volume {
+            store: held.id,
+            blocks: held.state.store().len(),
+        })
+    }
+
+    /// How much is left of the window of the step in which the run was halted: 0 for a step that the problem does not
+    /// have.
+    #[must_use]
+    pub fn window_left(&self, step: u32) -> u64
+        ensures left { 1 ≤ step → step ≤ length self.now.problem.windows
+            → result ≡ window self.now.problem step - self.now.halted.spent }
+    {
+        if step == 0 || step > self.problem.steps() {
+            return 0;
+        }
+        u64::from(self.problem.window(step)).saturating_sub(self.halted.spent)
+    }
+
+    /// Whether some channel of the problem has a limit.
+    #[must_use]
+    pub fn is_limited(&self) -> bool
+        ensures limited { IsTrue result ↔ HasLimit self.now.problem }
+    {
+        has_limit(&self.problem)
+    }
+
     /// How many packets of the store at this place of the memory were dumped in the step in which the run was halted:
     /// those that the store has deleted, less those that the report says were dumped in the completed steps.
     #[must_use]

@@ -6,7 +6,7 @@ ghost use Rattle.mm_problem.specs.declared.fault.Fault.TheVariants as problem;
 ghost use Rattle.mm_plan.specs.declared.fault.Fault.TheVariants as plan_fault;
 ghost use Rattle.mm_run.specs.Sources.{AreFew};
 ghost use Rattle.mm_run.specs.declared.script_fault.ScriptFault.TheVariants as script;
-ghost use Rattle.mm_run.specs.Runs.{AreOffered};
+ghost use Rattle.mm_run.specs.Runs.{AreOffered, CountsUntaken};
 ghost use Rattle.mm_run.specs.Texts.{SaysProblemAndMemory, SaysPlan, SaysSourcesAndLinks, IsProblemFault};
 ghost use Rattle.mm_run.specs.Texts.{IsPlanTextFault, IsScriptFault};
 ghost use Rattle.mm_run.specs.Untaken.{CountsOf, HasRoutesToStores};
@@ -99,6 +99,8 @@ pub(crate) fn read_sources_and_links(
     ensures unfailed { IfOk result (λ e. All (λ l. l.failed ≡ 0) e.links.items) }
     ensures counts { IfOk result (λ e. CountsOf (length start.now.problem.windows) start.now.memory sources.now
         e.given.unstored) }
+    ensures untaken { IfOk result (λ e. CountsUntaken (length start.now.problem.windows) start.now.memory
+        e.opening.items e.sources.items e.given.unstored) }
     ensures refused { IfRefused script.NoMemory result (IsScriptFault sources.now links.now) }
 {
     let mut count = UnstoredCount::new(Some(start));
@@ -108,6 +110,7 @@ pub(crate) fn read_sources_and_links(
         sources: sources.len(),
         links: links.len(),
         opening: 0,
+        lost_before: 0,
         unstored: count.unstored,
         untaken: count.untaken,
     };

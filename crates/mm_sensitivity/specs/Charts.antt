@@ -1,4 +1,4 @@
--- Charts with the worths of windows and limits.
+-- Charts with the worths of windows, limits and sizes.
 use Rattle.std.specs.Prelude.{◌≡◌, ◌<◌, ℕ, ◌-◌, ◌≤◌, ◌*◌, List, length, slice_index, slice_index_or, All, Some, None}
 use Rattle.std.specs.Prelude.{IsSome}
 use Rattle.mm_base.specs.declared.limits.TheConstants.{CHANNELS, MAX_BLOCKS, MAX_STEPS, MAX_STORES}
@@ -12,6 +12,8 @@ use Rattle.mm_cut.specs.declared.verdict.Verdict.{Verdict}
 use Rattle.mm_chart.specs.Charts.{chart}
 use Rattle.mm_chart.specs.Picture.{WorthLists, picture_of}
 use Rattle.mm_chart.specs.Series.{step_limit_worth}
+use Rattle.mm_sensitivity.specs.declared.item.Item.TheVariants.{Size}
+use Rattle.mm_sensitivity.specs.Items.{with_number}
 use Rattle.mm_sensitivity.specs.Worth.{IsSaved}
 
 -- for each step, how many blocks fewer the least plan loses if its window is the largest
@@ -45,13 +47,20 @@ pub record AreStepLimitWorths (q : Dumping) (worths : List ℕ) : Type 0 where
   pub each : (c t : ℕ) → c < CHANNELS → 1 ≤ t → t ≤ length q.windows
       → IsStepLimitWorth q c t (step_limit_worth worths c t)
 
--- the worths of the windows and limits of the problem
+-- the same for the size of each store
+pub record AreSizeWorths (q : Dumping) (worths : List ℕ) : Type 0 where
+  pub stores : length worths ≡ length q.rows
+  pub each : (s : ℕ) → s < length q.rows → IsSaved q (with_number q (Size s) MAX_BLOCKS) (slice_index_or worths s 0)
+
+-- the worths of the windows, limits and sizes of the problem
 pub record AreWorthLists (q : Dumping) (worths : WorthLists) : Type 0 where
   pub windows : AreWindowWorths q worths.windows
   pub limits : AreLimitWorths q worths.limits
   pub step_limits : AreStepLimitWorths q worths.step_limits
+  pub sizes : AreSizeWorths q worths.sizes
 
--- the chart of a setup, a forecast and a plan text, by the verdict on them, with the worth of each window and limit
+-- the chart of a setup, a forecast and a plan text, by the verdict on them, with the worth of each window, limit and
+-- size
 pub record ChartsWorth (setup forecast text octets : List ℕ) : Type 0 where
   pub problem : Dumping
   pub sheet : SheetRows

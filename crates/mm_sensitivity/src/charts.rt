@@ -1,4 +1,4 @@
-//! Charts with the worths of windows and limits.
+//! Charts with the worths of windows, limits and sizes.
 ghost use Rattle.std.specs.Prelude.{◌≡◌, ◌-◌, ◌*◌, ◌<◌, ◌≤◌, length, IfOk};
 ghost use Rattle.mm_base.specs.Reading.{IfRefused};
 ghost use Rattle.mm_base.specs.declared.limits.TheConstants.{MAX_BLOCKS, MAX_STEPS, MAX_STORES, CHANNELS};
@@ -6,7 +6,8 @@ ghost use Rattle.mm_cut.specs.Checking.{IsFaultOf};
 ghost use Rattle.mm_cut.specs.declared.fault.Fault.TheVariants.{NoMemory as no_memory};
 ghost use Rattle.mm_problem.specs.Changed.{with_window};
 ghost use Rattle.mm_sensitivity.specs.Charts.{AreWindowWorths, AreLimitWorths, AreLosses, IsLimitWorth};
-ghost use Rattle.mm_sensitivity.specs.Charts.{AreStepLimitWorths, IsStepLimitWorth, AreWorthLists, ChartsWorth};
+ghost use Rattle.mm_sensitivity.specs.Charts.{AreStepLimitWorths, IsStepLimitWorth, AreSizeWorths, AreWorthLists};
+ghost use Rattle.mm_sensitivity.specs.Charts.{ChartsWorth};
 ghost use Rattle.mm_sensitivity.specs.Worth.{IsPlanFor, IsSaved};
 
 use crate::base::Base;
@@ -103,19 +104,32 @@ fn step_limit_worths(base: &Base<'_>) -> Result<Vec<u64>, NoMemory>
     Ok(worths)
 }
 
-// The worths of windows and limits.
-fn worths_of(alloc: Global, problem: &Problem) -> Result<Worths, NoMemory>
+// The worth of the size of each store.
+fn size_worths(base: &Base<'_>) -> Result<Vec<u64>, NoMemory>
+    requires { IsPlanFor base.now.problem.now base.now.planned }
+    ensures { IfOk result (λ worths. AreSizeWorths base.now.problem.now worths.items) }
+{
+    let mut worths = Vec::new(base.alloc);
+    for store in 0..base.problem.stores() {
+        worths.push(base.saved(Item::Size(store), MAX_BLOCKS)?)?;
+    }
+    Ok(worths)
+}
+
+/// The worth of each window, limit and store size, as a chart shows them.
+pub fn chart_worths(alloc: Global, problem: &Problem) -> Result<Worths, NoMemory>
     ensures { IfOk result (AreWorthLists problem.now) }
 {
     let base = Base::new(alloc, problem)?;
     let windows = window_worths(&base)?;
     let limits = limit_worths(&base)?;
     let step_limits = step_limit_worths(&base)?;
-    Ok(Worths::new(windows, limits, step_limits))
+    let sizes = size_worths(&base)?;
+    Ok(Worths::new(windows, limits, step_limits, sizes))
 }
 
-/// The chart of `chart_bytes` of `mm_chart`, with the worth of each window and limit: how many blocks fewer the least
-/// plan loses if it is the largest allowed. The faults are those of `chart_bytes`.
+/// The chart of `chart_bytes` of `mm_chart`, with the worth of each window, limit and store size: how many blocks fewer
+/// the least plan loses if it is the largest allowed. The faults are those of `chart_bytes`.
 pub fn worth_chart_bytes(
     alloc: Global,
     setup: &[u8],
@@ -126,7 +140,7 @@ pub fn worth_chart_bytes(
     ensures refused { IfRefused no_memory result (IsFaultOf setup.now forecast.now plan.now) }
 {
     let (problem, sheet) = read_texts(alloc, setup, forecast, plan)?;
-    let worths = worths_of(alloc, &problem)?;
+    let worths = chart_worths(alloc, &problem)?;
     let picture = Picture::new(alloc, problem, sheet)?;
     Ok(draw(alloc, &picture.with_worth(worths))?)
 }

@@ -11,10 +11,10 @@ mod progress;
 mod table;
 mod worth;
 
-pub use charts::worth_chart_bytes;
+pub use charts::{chart_worths, worth_chart_bytes};
 pub use item::Item;
 pub use laws::wider_windows;
 pub use mm_cut::Fault;
 pub use progress::{Progress, Silent};
-pub use table::{sensitivity_bytes, sensitivity_with_progress};
+pub use table::{sensitivity_bytes, table_of};
 pub use worth::{Worth, worths, worths_with_progress};

@@ -8,8 +8,7 @@ ghost use Rattle.mm_sensitivity.specs.Table.{item_cells, worth_cells, record_of,
 ghost use Rattle.mm_sensitivity.specs.Worth.{IsWorth};
 
 use crate::item::Item;
-use crate::progress::{Progress, Silent};
-use crate::worth::{Worth, worths_with_progress};
+use crate::worth::{Worth, worths};
 use mm_base::NoMemory;
 use mm_base::numbers::push_number;
 use mm_cut::Fault;
@@ -81,9 +80,9 @@ fn push_record(text: &mut Vec<u8>, problem: &Problem, worth: Worth) -> Result<()
     push_worth(text, worth)
 }
 
-// The table of these worths.
+/// The table of these worths of a problem's numbers.
 #[tactic(auto, unfolding(crate::specs::Table::table))]
-fn table_of(alloc: Global, problem: &Problem, worths: &[Worth]) -> Result<Vec<u8>, NoMemory>
+pub fn table_of(alloc: Global, problem: &Problem, worths: &[Worth]) -> Result<Vec<u8>, NoMemory>
     requires { All (IsWorth problem.now) worths.now }
     ensures { IfOk result (λ text. text.items ≡ table problem.now worths.now) }
 {
@@ -101,20 +100,7 @@ pub fn sensitivity_bytes(alloc: Global, setup: &[u8], forecast: &[u8]) -> Result
     ensures table { IfOk result (λ text. IsWorthTable setup.now forecast.now text.items) }
     ensures refused { IfRefused fault.NoMemory result (IsPlanningFault setup.now forecast.now) }
 {
-    sensitivity_with_progress(alloc, setup, forecast, &mut Silent)
-}
-
-/// As `sensitivity_bytes`, and reports each finished record to `progress`.
-pub fn sensitivity_with_progress<P: Progress>(
-    alloc: Global,
-    setup: &[u8],
-    forecast: &[u8],
-    progress: &mut P,
-) -> Result<Vec<u8>, Fault>
-    ensures table { IfOk result (λ text. IsWorthTable setup.now forecast.now text.items) }
-    ensures refused { IfRefused fault.NoMemory result (IsPlanningFault setup.now forecast.now) }
-{
     let problem = read_problem(alloc, setup, forecast)?;
-    let worths = worths_with_progress(alloc, &problem, progress)?;
+    let worths = worths(alloc, &problem)?;
     Ok(table_of(alloc, &problem, worths.as_slice())?)
 }

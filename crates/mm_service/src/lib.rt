@@ -32,4 +32,4 @@ pub use received::{Received, ReportFields};
 pub use reporting::Reported;
 pub use requesting::{ACKNOWLEDGEMENTS, FieldsFault, RequestFields};
 pub use service::Service;
-pub use showing::Shown;
+pub use showing::{Listed, Shown};

@@ -1,5 +1,5 @@
 //! A packet that is offered to one store.
-ghost use Rattle.std.specs.Prelude.{◌≡◌, ◌≤◌, length, IfOk, IfErr, OnOk, OnErr};
+ghost use Rattle.std.specs.Prelude.{◌≡◌, ◌≤◌, length, Err, IsOk, IfOk, IfErr, OnOk, OnErr};
 ghost use Rattle.mm_base.specs.Reading.{Gives};
 ghost use Rattle.mm_desk.specs.Machine.{offer};
 ghost use Rattle.mm_service.specs.declared.fault.Fault.TheVariants.{NoMemory};
@@ -12,7 +12,7 @@ use crate::fault::Fault;
 use crate::reading::{id_of, packet_of};
 use crate::service::Service;
 use mm_desk::{Offered, Returned, StoreState};
-use mm_memory::{Spare, hands_back};
+use mm_memory::{Spare, hands_back, refuses};
 use mm_packet::{BlockPacket, LentPacket};
 use std::alloc::Global;
 
@@ -50,8 +50,12 @@ fn offer_to(
     requires fits { length (spelling packet.now) ≤ BLOCK }
     ensures fate { Gives NoMemory (λ fate. fate) result (fate_of (offer state.old now packet.now).0) }
     ensures state { OnOk result (state.new ≡ (offer state.old now packet.now).1) }
+    ensures memory { result ≡ Err NoMemory → IsOk (fate_of (offer state.old now packet.now).0) }
     ensures err { OnErr result (state.new ≡ state.old) }
 {
+    if let Some(fault) = refuses(state) {
+        return Err(Fault::State(fault));
+    }
     let block = match BlockPacket::lent(alloc, packet) {
         Ok(block) => block,
         Err(_) if hands_back(state) => spare.take(packet).ok_or(Fault::NoMemory)?,
@@ -73,6 +77,7 @@ impl Service {
         packet: &[u8],
     ) -> Result<Fate, Fault>
         ensures offered { Gives NoMemory (λ fate. (fate, self.new)) result (offered id.now packet.now now self.old) }
+        ensures memory { result ≡ Err NoMemory → IsOk (offered id.now packet.now now self.old) }
         ensures err { OnErr result (self.new ≡ self.old) }
     {
         let id = id_of(id)?;
@@ -105,6 +110,8 @@ impl Service {
         packet: &[u8],
     ) -> Result<Fate, Fault>
         ensures offered { Gives NoMemory (λ fate. (fate, self.new)) result (offered id.now packet.now now self.old) }
+        // Out of memory comes in the place of no other refusal.
+        ensures memory { result ≡ Err NoMemory → IsOk (offered id.now packet.now now self.old) }
         ensures err { IfErr result (λ fault. self.new ≡ after_refusal fault self.old) }
     {
         let result = self.offer_uncounted(alloc, id, now, packet);

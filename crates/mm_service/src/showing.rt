@@ -6,7 +6,7 @@ ghost use Rattle.mm_service.specs.Showing.{shown};
 use crate::fault::Fault;
 use crate::reading::id_of;
 use crate::service::Service;
-use mm_base::Kind;
+use mm_base::{Kind, StoreId};
 use mm_desk::{Retrieval, StoreState};
 use mm_store::PacketStore;
 
@@ -25,6 +25,14 @@ pub struct Shown {
     pub retrieval: Option<Retrieval>,
     pub oldest: u64,
     pub newest: u64,
+}
+
+/// A store of the memory: its identifier, the virtual channel that it is sent on, and what it shows.
+#[derive(Clone, Copy)]
+pub struct Listed {
+    pub id: StoreId,
+    pub channel: u8,
+    pub shown: Shown,
 }
 
 impl Shown {
@@ -49,7 +57,7 @@ impl Shown {
 }
 
 impl Service {
-    ghost use Rattle.mm_service.specs.Showing.{shown_of};
+    ghost use Rattle.mm_service.specs.Showing.{shown_of, store_at};
 
     /// What the store with this identifier holds and has lost.
     pub fn show(&self, id: &[u8]) -> Result<Shown, Fault>
@@ -60,6 +68,19 @@ impl Service {
             Some(state) => Ok(Shown::of(state)),
             None => Err(Fault::NoSuchStore),
         }
+    }
+
+    /// The store at this place, counted from 0, where there is one: those of the setup stand in its order, and those
+    /// that were created after them.
+    pub fn store_at(&self, place: usize) -> Option<Listed>
+        ensures listed { result ≡ store_at place self.now }
+    {
+        let held = self.memory.stores().get(place)?;
+        Some(Listed {
+            id: held.id,
+            channel: held.channel,
+            shown: Shown::of(&held.state),
+        })
     }
 
     /// How many reports wait.

@@ -2,3 +2,4 @@ pub mod ReadBack
 pub mod Rooms
 pub mod Tables
 pub mod Numbered
+pub mod WordLengths

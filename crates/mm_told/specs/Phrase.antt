@@ -6,6 +6,6 @@ use Rattle.std.specs.List.{list_all}
 abbrev pub is_printable : ℕ → Bool
 is_printable c = nat_le 32 c && nat_le c 126
 
--- something that can stand inside a line: printable characters, one at least
+-- something that can stand inside a line: printable characters, one at least and 160 at most
 abbrev pub is_phrase : List ℕ → Bool
-is_phrase text = not (length text == 0) && list_all is_printable text
+is_phrase text = not (length text == 0) && nat_le (length text) 160 && list_all is_printable text

@@ -46,6 +46,10 @@ pub record TellsRefusal (reason : Reason) (old new : List ℕ) (answer : Answer)
   pub answered : answer ≡ refused_answer reason
   pub left : new ≡ old
 
+-- a text for which P holds is told
+abbrev pub TellsSome : (List ℕ → Type 0) → List ℕ → List ℕ → Answer → Type 0
+TellsSome P old new answer = (text : List ℕ) × P text × TellsText text old new answer
+
 -- a text for which P holds is told, or a refusal for which Q holds
 abbrev pub Tells : (List ℕ → Type 0) → (Reason → Type 0) → List ℕ → List ℕ → Answer → Type 0
 Tells P Q old new answer =

@@ -26,6 +26,7 @@ macro_rules! tell {
     };
 }
 
+mod assigned;
 mod cells;
 mod ends;
 mod excerpt;
@@ -40,6 +41,7 @@ mod plan;
 mod sentence;
 mod setup;
 mod tables;
+mod verdicts;
 
 use crate::reason::Reason;
 use crate::spot::Spot;
@@ -50,13 +52,14 @@ use forecast::forecast_hint;
 pub use kind::TextKind;
 use mm_base::{NoMemory, Refusal};
 use mm_problem::Name;
-pub use notes::{Note, column_notes, notes_on};
+pub use notes::{Note, notes_on};
 pub use packets::{RequestHints, packets_hint, request_hint};
 use plan::{plan_hint, shape_hint};
 pub use sentence::Sentence;
 use setup::setup_hint;
 use std::alloc::Global;
 use std::fmt;
+pub use verdicts::verdict_hint;
 
 /// The bytes of a task's files; none for a file that the task does not have.
 #[derive(Clone, Copy)]

@@ -18,13 +18,13 @@ mod words;
 pub use answer::{Answer, Status, tell_text};
 pub use codes::{NAMES, PLACES, Place, REFUSALS, refusal_numbered};
 pub use hints::{
-    EndsHint, Hint, Note, RequestHints, TextKind, Texts, column_notes, fit_hint, found_for,
-    hint_for, notes_on, opening_hint, packets_hint, request_hint,
+    EndsHint, Hint, Note, RequestHints, TextKind, Texts, fit_hint, found_for, hint_for, notes_on,
+    opening_hint, packets_hint, request_hint, verdict_hint,
 };
 pub use reason::Reason;
 pub use refused_at::RefusedAt;
 pub use room::{PLAN_ROOM, plan_texts_fit};
 pub use spot::{Spot, spot_in_plan, spot_in_problem, spot_in_texts};
 pub use verdict::{VerdictKind, VerdictTold};
-pub use wording::words_of;
+pub use wording::{WORDS_ROOM, words_of};
 pub use words::Words;

@@ -1,9 +1,16 @@
 //! Where in its text a fault is.
-ghost use Rattle.std.specs.Prelude.{◌≡◌, Some};
+ghost use Rattle.std.specs.Prelude.{◌≡◌, ◌+◌, ◌++◌, ◌≤◌, Some, codes, decimal, length};
+ghost use Rattle.arrayvec.specs.ArrayString.{array_string_len};
+ghost use Rattle.mm_problem.specs.Name.{text_of};
 ghost use Rattle.mm_told.specs.Spots.{spot_in_problem, spot_in_plan, spot_in_texts, fields_text};
 
+use arrayvec::ArrayString;
+use itoa::Buffer;
 use mm_problem::Name;
 use std::fmt;
+
+/// As many bytes as the fields of a spot have at most.
+pub(crate) const FIELDS_ROOM: usize = 64;
 
 /// Where in its text a fault is. It is shown as the fields of a refusal's line, after its number and its name.
 #[derive(Clone, Copy)]
@@ -23,18 +30,59 @@ pub enum Spot {
     Number(Name),
 }
 
+// Appends a word and a number.
+#[tactic(auto, using(std::proofs::Common::append_assoc))]
+fn push_number(text: &mut ArrayString<FIELDS_ROOM>, word: &str, number: u64)
+    requires room { array_string_len text.old + length word.now + 20 ≤ FIELDS_ROOM }
+    ensures number { text.new.bytes ≡ text.old.bytes ++ word.now ++ decimal number }
+    ensures long { array_string_len text.new ≤ array_string_len text.old + length word.now + 20 }
+{
+    let mut buffer = Buffer::new();
+    text.push_str(word);
+    text.push_str(buffer.format(number));
+}
+
+// Appends a name.
+#[tactic(auto, using(crate::proofs::WordLengths::key_fits, std::proofs::Common::append_assoc))]
+fn push_name(text: &mut ArrayString<FIELDS_ROOM>, name: Name)
+    requires room { array_string_len text.old + 16 ≤ FIELDS_ROOM }
+    ensures name { text.new.bytes ≡ text.old.bytes ++ codes " name " ++ text_of name }
+{
+    text.push_str(" name ");
+    text.push_str(name.text());
+}
+
+impl Spot {
+    /// The fields of a refusal's line. They take no memory.
+    #[tactic(auto, using(std::proofs::Common::append_assoc))]
+    pub(crate) fn fields(self) -> ArrayString<FIELDS_ROOM>
+        ensures fields { result.bytes ≡ fields_text self }
+        ensures fit { array_string_len result ≤ FIELDS_ROOM }
+    {
+        let mut text = ArrayString::new();
+        match self {
+            Spot::Whole => {}
+            Spot::Line(line) => push_number(&mut text, " line ", line),
+            Spot::Row(row) => push_number(&mut text, " row ", u64::from(row)),
+            Spot::Cell { row, column } => {
+                push_number(&mut text, " row ", u64::from(row));
+                push_number(&mut text, " column ", u64::from(column));
+            }
+            Spot::Key { row, name } => {
+                push_number(&mut text, " row ", u64::from(row));
+                push_name(&mut text, name);
+            }
+            Spot::Number(name) => push_name(&mut text, name),
+        }
+        text
+    }
+}
+
 impl fmt::Display for Spot {
     ghost output = { λ spot. Some (fields_text spot) };
 
     fn fmt<W: fmt::Write>(&self, f: &mut fmt::Formatter<W>) -> fmt::Result {
-        match *self {
-            Spot::Whole => Ok(()),
-            Spot::Line(line) => write!(f, " line {line}"),
-            Spot::Row(row) => write!(f, " row {row}"),
-            Spot::Cell { row, column } => write!(f, " row {row} column {column}"),
-            Spot::Key { row, name } => write!(f, " row {row} name {}", name.text()),
-            Spot::Number(name) => write!(f, " name {}", name.text()),
-        }
+        f.write_str(self.fields().as_str())
     }
 }
 

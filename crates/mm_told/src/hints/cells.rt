@@ -48,16 +48,24 @@ fn cut_cell(text: &[u8]) -> Option<(&[u8], &[u8])>
     None
 }
 
+/// A cell without the quotes around it.
+pub(crate) fn unquoted(cell: &[u8]) -> &[u8] {
+    match cell {
+        [b'"', inner @ .., b'"'] => inner,
+        _ => cell,
+    }
+}
+
 fn is_too_large(cell: &[u8]) -> bool {
     matches!(
-        Numeral::read(cell, u64::from(MAX_BLOCKS)),
+        Numeral::read(unquoted(cell), u64::from(MAX_BLOCKS)),
         Numeral::TooLarge
     )
 }
 
 // The cells of a record, in order: those of the text that is left, if any is.
 #[derive(Drop)]
-struct Cells<'a>(Option<&'a [u8]>);
+pub(crate) struct Cells<'a>(Option<&'a [u8]>);
 
 impl<'a> Iterator for Cells<'a> {
     type Item = &'a [u8];
@@ -77,7 +85,8 @@ impl<'a> Iterator for Cells<'a> {
 }
 
 impl<'a> Record<'a> {
-    fn each(&self) -> Cells<'a> {
+    /// The cells, in order.
+    pub(crate) fn each(&self) -> Cells<'a> {
         Cells(Some(self.text))
     }
 
@@ -91,9 +100,10 @@ impl<'a> Record<'a> {
         self.each().nth((column as usize).saturating_sub(1))
     }
 
-    /// The first cell with a number above 1,000,000.
-    pub(crate) fn too_large(&self) -> Option<&'a [u8]> {
-        self.each().find(|cell| is_too_large(cell))
+    /// The column, from 1, of the first cell with a number above 1,000,000.
+    pub(crate) fn too_large(&self) -> Option<u32> {
+        let place = self.each().position(|cell| is_too_large(cell))?;
+        u32::try_from(place.saturating_add(1)).ok()
     }
 
     // Whether this is a record that is looked for.

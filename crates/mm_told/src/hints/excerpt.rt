@@ -36,6 +36,11 @@ impl Excerpt {
         Excerpt::of(id.text())
     }
 
+    /// Whether this is the whole of a text, and shown as it is.
+    pub(crate) fn is(&self, text: &[u8]) -> bool {
+        matches!(self.bytes.as_slice().get(..self.len), Some(front) if front == text)
+    }
+
     /// Adds a text, as far as there is room.
     pub(crate) fn push(&mut self, text: &[u8]) {
         for byte in text {
@@ -60,12 +65,20 @@ impl Excerpt {
     }
 }
 
-impl fmt::Display for Excerpt {
-    fn fmt<W: fmt::Write>(&self, f: &mut fmt::Formatter<W>) -> fmt::Result {
-        f.write_char('"')?;
+impl Excerpt {
+    /// Writes the text without quotes around it.
+    pub(crate) fn write_bare<W: fmt::Write>(&self, f: &mut fmt::Formatter<W>) -> fmt::Result {
         for byte in self.bytes.iter().take(self.len) {
             f.write_char(char::from(*byte))?;
         }
-        f.write_str(if self.is_cut { "..\"" } else { "\"" })
+        f.write_str(if self.is_cut { ".." } else { "" })
+    }
+}
+
+impl fmt::Display for Excerpt {
+    fn fmt<W: fmt::Write>(&self, f: &mut fmt::Formatter<W>) -> fmt::Result {
+        f.write_char('"')?;
+        self.write_bare(f)?;
+        f.write_char('"')
     }
 }

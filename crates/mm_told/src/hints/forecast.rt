@@ -1,18 +1,30 @@
 //! Hints on a forecast. Lines are counted as an editor does, so the header is line 1.
 
 use crate::hints::Texts;
-use crate::hints::cells::{Wanted, record_in, rows_in};
+use crate::hints::cells::{Record, Wanted, record_in, rows_in, unquoted};
 use crate::hints::excerpt::Excerpt;
 use crate::hints::form::utf16_hint;
 use crate::hints::kind::{TextKind, misplaced};
-use crate::hints::lines::{after_mark, without_return};
+use crate::hints::lines::after_mark;
 use crate::hints::sentence::{Sentence, Shown};
 use crate::reason::Reason;
 use crate::spot::Spot;
-use mm_base::lines::first_line;
-use mm_base::{NoMemory, Refusal};
+use mm_base::numbers::Numeral;
+use mm_base::{MAX_CHANNEL, NoMemory, Refusal};
 use mm_problem::{Fault, Name, Setup};
 use std::alloc::Global;
+
+// The name that a column of the header is to have, up to the last store.
+fn wanted_name(setup: &Setup, column: usize) -> Option<&[u8]> {
+    match column {
+        1 => Some(b"step"),
+        2 => Some(b"window"),
+        _ => {
+            let place = column.checked_sub(3)?;
+            Some(setup.stores().get(place)?.id.text())
+        }
+    }
+}
 
 // The header that the stores of a setup want.
 fn wanted_header(setup: &Setup) -> Excerpt {
@@ -24,26 +36,93 @@ fn wanted_header(setup: &Setup) -> Excerpt {
     wanted
 }
 
+// The channel of a column of limits.
+fn channel_of(name: &[u8]) -> Option<u64> {
+    match Numeral::read(name.strip_prefix(b"limit:")?, u64::from(MAX_CHANNEL)) {
+        Numeral::Number(channel) => Some(channel),
+        _ => None,
+    }
+}
+
+// What is found in a column after those of the stores, where columns of channels below this one can be before it.
+fn limit_hint(column: u64, name: &[u8], low: u64) -> Option<Sentence> {
+    if matches!(channel_of(name), Some(channel) if low <= channel) {
+        return None;
+    }
+    found! {
+        "column {} of the header is {}; after the stores can be limit:0 to limit:7 alone, rising";
+        Count(column), Text(Excerpt::of(name))
+    }
+}
+
+// What is found in a column of the header.
+fn column_hint(setup: &Setup, column: usize, name: &[u8], low: u64) -> Option<Sentence> {
+    match wanted_name(setup, column) {
+        Some(wanted) if wanted == name => None,
+        Some(wanted) => found! {
+            "column {} of the header is {}, and {} is expected";
+            Count(column as u64), Text(Excerpt::of(name)), Text(Excerpt::of(wanted))
+        },
+        None => limit_hint(column as u64, name, low),
+    }
+}
+
+// What is found in the first column of the header that is another than is wanted.
+fn columns_hint(setup: &Setup, header: &Record<'_>) -> Option<Sentence> {
+    let mut low: u64 = 0;
+    let mut column: usize = 0;
+    for cell in header.each() {
+        let name = unquoted(cell);
+        column = column.saturating_add(1);
+        tell!(column_hint(setup, column, name, low));
+        if let Some(channel) = channel_of(name) {
+            low = channel.saturating_add(1);
+        }
+    }
+    let column = column.saturating_add(1);
+    found! {
+        "the header has no column {}; {} is expected there";
+        Count(column as u64), Text(Excerpt::of(wanted_name(setup, column)?))
+    }
+}
+
+// What is found in the header of a forecast whose cells are separated by something other than commas.
+fn separator_hint(header: &Record<'_>) -> Option<Sentence> {
+    let line = header.text;
+    if line.starts_with(b"sep=") {
+        return found! {
+            "line {} is {}, which a spreadsheet wrote; delete it, so that the header is line 1";
+            Count(header.line), Text(Excerpt::of(line))
+        };
+    }
+    if line.contains(&b',') {
+        None
+    } else if line.contains(&b';') {
+        found!("semicolons separate the cells; save the file with commas")
+    } else if line.contains(&b'\t') {
+        found!("tabs separate the cells; save the file with commas")
+    } else {
+        None
+    }
+}
+
 fn header_hint(alloc: Global, texts: Texts<'_>) -> Result<Option<Sentence>, NoMemory> {
-    let header = match first_line(after_mark(texts.forecast)) {
-        Some((line, _)) => without_return(line),
-        None => &[],
-    };
-    if header.contains(&b';') && !header.contains(&b',') {
-        return Ok(found!("semicolons separate the cells; save the file with commas"));
+    let header = record_in(texts.forecast, Wanted::Row(0));
+    if let Some(hint) = header.and_then(|header| separator_hint(&header)) {
+        return Ok(Some(hint));
     }
     let setup = match Setup::read(alloc, texts.setup) {
         Ok(setup) => setup,
         Err(Fault::NoMemory) => return Err(NoMemory),
         Err(_) => return Ok(None),
     };
-    // No other column has a colon in its name.
-    let words = if header.contains(&b':') {
-        "the header is {}, and {} is expected, then limit:0 to limit:7 for limits, rising"
-    } else {
-        "the header is {}, and {} is expected"
-    };
-    Ok(found!(words; Text(Excerpt::of(header)), Text(wanted_header(&setup))))
+    if after_mark(texts.forecast).is_empty() {
+        return Ok(found! {
+            "the file is empty; its first line is {}; a file to which the output is sent is emptied before it is read";
+            Text(wanted_header(&setup))
+        });
+    }
+    Ok(header.and_then(|header| columns_hint(&setup, &header)))
 }
 
 fn cells_hint(text: &[u8]) -> Option<Sentence> {
@@ -55,26 +134,52 @@ fn cells_hint(text: &[u8]) -> Option<Sentence> {
     }
 }
 
-// What is said of a cell, and of one that is to be the number of its record.
-const CELL: &str = "the cell is {} in line {} of the file, whose header is line 1";
+// The name of a column, from 1.
+fn name_of(text: &[u8], column: u32) -> Option<Excerpt> {
+    let header = record_in(text, Wanted::Row(0))?;
+    Some(Excerpt::of(unquoted(header.cell(column)?)))
+}
 
-const STEP: &str = "the step is {} in line {} of the file, whose header is line 1; it is to be {}";
-
-// These words of the cell in this row and column, its line and its row.
-fn cell_hint(text: &[u8], row: u32, column: u32, words: &str) -> Option<Sentence> {
+// What is found in a cell that is no number.
+fn cell_hint(text: &[u8], row: u32, column: u32) -> Option<Sentence> {
     let record = record_in(text, Wanted::Row(row))?;
-    let cell = Excerpt::of(record.cell(column)?);
-    found!(words; Text(cell), Count(record.line), Count(u64::from(row)))
+    found! {
+        "row {} has {} in the column {}, where a whole number is expected; it is line {} of the file, whose header \
+            is line 1";
+        Count(u64::from(row)), Text(Excerpt::of(record.cell(column)?)), Text(name_of(text, column)?), Count(record.line)
+    }
+}
+
+// What is found where a record has another number than its own.
+fn step_hint(text: &[u8], row: u32) -> Option<Sentence> {
+    let record = record_in(text, Wanted::Row(row))?;
+    let cell = Excerpt::of(record.cell(1)?);
+    found! {
+        "the step is {} in line {} of the file, whose header is line 1; it is to be {}";
+        Text(cell), Count(record.line), Count(u64::from(row))
+    }
 }
 
 fn steps_hint(text: &[u8]) -> Sentence {
-    said!("there are {} records after the header; 1 to 256 can be"; Count(rows_in(text)))
+    let rows = rows_in(text);
+    let advice = if rows == 0 {
+        "; write one for each step"
+    } else {
+        "; join steps, such as those between two passes: docs/PLANNING.md, 'Steps from event to event'"
+    };
+    said!("there are {} records after the header; 1 to 256 can be", advice; Count(rows))
 }
 
+// What is found where a number is above 1,000,000.
 fn large_hint(text: &[u8]) -> Option<Sentence> {
     let record = record_in(text, Wanted::TooLarge)?;
-    let cell = Excerpt::of(record.too_large()?);
-    found!("line {} of the file has {}; 1,000,000 is the most"; Count(record.line), Text(cell))
+    let column = record.too_large()?;
+    found! {
+        "row {} has {} in the column {}, line {} of the file; 0 to 1000000 can be; plan more in coarser units: \
+            docs/PLANNING.md, 'Limits of scale'";
+        Count(u64::from(record.row)), Text(Excerpt::of(record.cell(column)?)), Text(name_of(text, column)?),
+        Count(record.line)
+    }
 }
 
 fn open_hint(text: &[u8]) -> Option<Sentence> {
@@ -85,8 +190,8 @@ fn open_hint(text: &[u8]) -> Option<Sentence> {
 fn in_records(reason: Reason, text: &[u8]) -> Option<Sentence> {
     match (reason.refusal, reason.spot) {
         (Refusal::ForecastText, _) => cells_hint(text),
-        (Refusal::Cell, Spot::Cell { row, column }) => cell_hint(text, row, column, CELL),
-        (Refusal::StepNumber, Spot::Row(row)) => cell_hint(text, row, 1, STEP),
+        (Refusal::Cell, Spot::Cell { row, column }) => cell_hint(text, row, column),
+        (Refusal::StepNumber, Spot::Row(row)) => step_hint(text, row),
         (Refusal::Limit, Spot::Number(Name::Steps)) => Some(steps_hint(text)),
         _ => large_hint(text),
     }

@@ -12,6 +12,8 @@ pub enum TextKind {
     Setup,
     Forecast,
     Plan,
+    /// The table of a plan.
+    Table,
     Sources,
     Links,
     /// Requests or reports: a packet in each line.
@@ -21,9 +23,10 @@ pub enum TextKind {
 }
 
 // How files of some kinds begin.
-static FRONTS: [(&[u8], TextKind); 6] = table! {
+static FRONTS: [(&[u8], TextKind); 7] = table! {
     b"PK\x03\x04", TextKind::Workbook;
     b"\xD0\xCF\x11\xE0", TextKind::Workbook;
+    b"step,window,store,arrived,", TextKind::Table;
     b"step,", TextKind::Forecast;
     b"step;", TextKind::Forecast;
     b"mmplan ", TextKind::Plan;
@@ -63,6 +66,7 @@ impl fmt::Display for TextKind {
             TextKind::Setup => "a setup",
             TextKind::Forecast => "a forecast",
             TextKind::Plan => "a plan text",
+            TextKind::Table => "the table of a plan",
             TextKind::Sources => "sources",
             TextKind::Links => "links",
             TextKind::Packets => "packets",
@@ -118,7 +122,7 @@ pub(crate) fn misplaced(text: &[u8], wanted: TextKind) -> Option<Sentence> {
             "the file is a workbook; a setup is a text file in TOML, and a sheet is saved as CSV to be a forecast"
         }
         (TextKind::Sources, TextKind::Packets) => {
-            "the file holds {} in place of {}; leave out the source and the step before each packet"
+            "the file holds {} of a run in place of {}; leave out the source and the step before each packet"
         }
         (TextKind::Packets, TextKind::Sources) => {
             "the file holds {} in place of {}; write a source and a step before each packet"

@@ -132,3 +132,13 @@ pub(crate) fn lines_with(text: &[u8], front: &[u8]) -> u64 {
 pub(crate) fn without_return(line: &[u8]) -> &[u8] {
     line.strip_suffix(b"\r").unwrap_or(line)
 }
+
+/// The text before the first byte of this kind and the text after it.
+pub(crate) fn cut_at(text: &[u8], wanted: u8) -> Option<(&[u8], &[u8])> {
+    for (i, byte) in text.iter().enumerate() {
+        if *byte == wanted {
+            return Some((&text[..i], &text[i + 1..]));
+        }
+    }
+    None
+}

@@ -1,6 +1,5 @@
-//! Notes on the setup of a task that is done: what in it has no effect.
+//! Notes on the setup and the forecast of a task that is done: what in them has no effect.
 
-use crate::hints::Texts;
 use crate::hints::ends::is_reached;
 use crate::hints::excerpt::Excerpt;
 use mm_base::{NoMemory, StoreId};
@@ -8,7 +7,7 @@ use mm_problem::{Problem, Setup};
 use std::alloc::Global;
 use std::fmt;
 
-/// What in a setup has no effect. It is shown in one line without its end.
+/// What in a setup or a forecast has no effect. It is shown in one line without its end.
 #[derive(Clone, Copy)]
 pub enum Note {
     /// A limit is of a channel that no store has.
@@ -56,30 +55,28 @@ fn push_stores(notes: &mut Vec<Note>, setup: &Setup) -> Result<(), NoMemory> {
     Ok(())
 }
 
-/// What in the setup of a task that is done has no effect: limits, and in a run also routes.
-pub fn notes_on(alloc: Global, is_run: bool, setup: &[u8]) -> Result<Vec<Note>, NoMemory> {
-    let mut notes = Vec::new(alloc);
-    if let Ok(setup) = Setup::read(alloc, setup) {
-        push_limits(&mut notes, &setup)?;
-        if is_run {
-            push_stores(&mut notes, &setup)?;
+fn push_columns(notes: &mut Vec<Note>, setup: &Setup, problem: &Problem) -> Result<(), NoMemory> {
+    for channel in problem.limited() {
+        if !is_used(setup, *channel) {
+            notes.push(Note::ColumnOfNone { channel: *channel })?;
         }
     }
-    Ok(notes)
+    Ok(())
 }
 
-/// What in the forecast of a task that is done has no effect: columns with limits.
-pub fn column_notes(alloc: Global, texts: Texts<'_>) -> Result<Vec<Note>, NoMemory> {
+/// What has no effect in the setup and the forecast of a task that is done, which say this problem: limits, in a run
+/// also stores, and columns with limits.
+pub fn notes_on(
+    alloc: Global,
+    is_run: bool,
+    setup: &Setup,
+    problem: &Problem,
+) -> Result<Vec<Note>, NoMemory> {
     let mut notes = Vec::new(alloc);
-    let Ok(setup) = Setup::read(alloc, texts.setup) else {
-        return Ok(notes);
-    };
-    if let Ok(problem) = Problem::read(alloc, &setup, texts.forecast) {
-        for channel in problem.limited() {
-            if !is_used(&setup, *channel) {
-                notes.push(Note::ColumnOfNone { channel: *channel })?;
-            }
-        }
+    push_limits(&mut notes, setup)?;
+    if is_run {
+        push_stores(&mut notes, setup)?;
     }
+    push_columns(&mut notes, setup, problem)?;
     Ok(notes)
 }

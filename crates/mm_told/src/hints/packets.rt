@@ -6,7 +6,7 @@ use crate::hints::Hint;
 use crate::hints::excerpt::Excerpt;
 use crate::hints::form::{end_hint, file_hint};
 use crate::hints::kind::{TextKind, is_source_line, misplaced, no_digit};
-use crate::hints::lines::{LineFinder, line_at};
+use crate::hints::lines::{LineFinder, Lines, line_at};
 use crate::hints::sentence::{Sentence, Shown};
 use crate::words::Words;
 use mm_base::{MAX_APID, MAX_CHANNEL, Refusal};
@@ -191,10 +191,24 @@ fn in_instruction(refusal: Refusal, digits: &[u8], line: u64, number: u64) -> Op
     }
 }
 
+// What is found in the form of a file of packets, or where it looks like a file of another kind.
+fn kind_hint(packets: &[u8]) -> Option<Sentence> {
+    tell!(file_hint(packets));
+    misplaced(packets, TextKind::Packets)
+}
+
+// The first line that ends with CR LF.
+fn return_hint(packets: &[u8]) -> Option<Sentence> {
+    for (place, line) in Lines(packets).enumerate() {
+        tell!(end_hint(line, (place as u64).saturating_add(1)));
+    }
+    None
+}
+
 /// What is found in a whole file of packets, of which lines are refused.
 #[must_use]
 pub fn packets_hint(packets: &[u8]) -> Option<Hint> {
-    Some(Hint::Said(file_hint(packets).or(misplaced(packets, TextKind::Packets))?))
+    Some(Hint::Said(kind_hint(packets).or(return_hint(packets))?))
 }
 
 // Whether a hint on the digits of a request can say more of its refusal.
@@ -218,6 +232,8 @@ pub struct RequestHints<'a> {
     /// The file.
     pub requests: &'a [u8],
     lines: LineFinder<'a>,
+    // What is found in the file as a whole, once it was looked at.
+    whole: Option<Option<Sentence>>,
     ghost of_file: { lines.text.now ≡ requests.now },
 }
 
@@ -230,7 +246,20 @@ impl<'a> RequestHints<'a> {
         RequestHints {
             requests,
             lines: LineFinder::new(requests),
+            whole: None,
         }
+    }
+
+    // What is found in the file as a whole. It is looked at once.
+    fn whole_hint(&mut self) -> Option<Sentence>
+        ensures file { self.new.requests.now ≡ self.old.requests.now }
+    {
+        let hint = match self.whole {
+            Some(hint) => hint,
+            None => kind_hint(self.requests),
+        };
+        self.whole = Some(hint);
+        hint
     }
 
     /// What is found in this line, which is refused for this reason. It does not depend on the lines before.
@@ -241,7 +270,7 @@ impl<'a> RequestHints<'a> {
         if !is_of_digits(refusal) {
             return None;
         }
-        if let Some(hint) = file_hint(self.requests) {
+        if let Some(hint) = self.whole_hint() {
             return Some(Hint::Said(hint));
         }
         let digits = self.lines.find(line)?;
@@ -268,7 +297,7 @@ pub fn request_hint(refusal: Refusal, requests: &[u8], line: u64) -> Option<Hint
     if !is_of_digits(refusal) {
         return None;
     }
-    if let Some(hint) = file_hint(requests) {
+    if let Some(hint) = kind_hint(requests) {
         return Some(Hint::Said(hint));
     }
     Some(Hint::Said(line_hint(line_at(requests, line)?, line)?))

@@ -19,6 +19,8 @@ pub(crate) enum Shown {
     Keys(KeyList),
     Kind(TextKind),
     Text(Excerpt),
+    /// A text as it is written, without quotes around it.
+    Bare(Excerpt),
 }
 
 impl fmt::Display for Shown {
@@ -31,6 +33,7 @@ impl fmt::Display for Shown {
             Shown::Keys(keys) => write!(f, "{keys}"),
             Shown::Kind(kind) => write!(f, "{kind}"),
             Shown::Text(text) => write!(f, "{text}"),
+            Shown::Bare(text) => text.write_bare(f),
         }
     }
 }

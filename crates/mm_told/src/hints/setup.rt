@@ -1,9 +1,10 @@
 //! Hints on a setup.
 
+use crate::hints::assigned::{Assigned, has_text, written_at};
 use crate::hints::excerpt::Excerpt;
 use crate::hints::form::utf16_hint;
 use crate::hints::kind::{TextKind, misplaced};
-use crate::hints::lines::{Lines, after_mark, line_at, line_of, without_return};
+use crate::hints::lines::{Lines, after_mark, cut_at, line_at, line_of, without_return};
 use crate::hints::sentence::{Sentence, Shown};
 use crate::hints::tables::{
     ARRAYS, elements, keys_of, named, number_at, table_in, text_at, unknown_key,
@@ -16,9 +17,13 @@ use mm_problem::Name;
 use std::alloc::Global;
 use toml::{Table, Value};
 
-// The array whose name a line has in single brackets.
+// The array whose name a line has in single brackets, perhaps before a full stop and another name.
 fn single_table(line: &[u8]) -> Option<Name> {
     let name = line.trim_ascii().strip_prefix(b"[")?.strip_suffix(b"]")?;
+    let name = match cut_at(name, b'.') {
+        Some((name, _)) => name,
+        None => name,
+    };
     ARRAYS
         .iter()
         .copied()
@@ -85,6 +90,66 @@ fn said_of(fault: &str, text: &[u8]) -> &'static str {
     ""
 }
 
+// The last line, up to one of this number, that begins a list, a table or a long text which does not end up to there.
+fn open_line(text: &[u8], number: u64) -> Option<(u64, &[u8])> {
+    let mut open: Option<(u64, &[u8], &[u8])> = None;
+    for (place, line) in Lines(after_mark(text)).take(number as usize).enumerate() {
+        let here = (place as u64).saturating_add(1);
+        if let Some((_, _, end)) = open {
+            if here < number && has_text(line, end) {
+                open = None;
+            }
+        }
+        if let Some(end) = Assigned::of(line).and_then(|line| line.open_end()) {
+            open = Some((here, line, end));
+        }
+    }
+    let (number, line, _) = open?;
+    Some((number, line))
+}
+
+// What is found where a value goes on after its line.
+fn open_hint(text: &[u8], number: u64) -> Option<Sentence> {
+    let (number, line) = open_line(text, number)?;
+    found! {
+        "line {} is {}, which does not end what it begins; a value is a number in digits, or a text in quotes";
+        Count(number), Text(Excerpt::of(without_return(line)))
+    }
+}
+
+// Whether what follows a whole number is told apart: commas, further keys, comments and leading zeros.
+fn is_told_apart(line: &Assigned<'_>, rest: &[u8]) -> bool {
+    let has_zero = line.value.starts_with(b"0") && line.value.len() > rest.len().saturating_add(1);
+    has_zero
+        || matches!(rest, [] | [b',' | b'_', ..])
+        || rest.contains(&b'=')
+        || rest.trim_ascii().starts_with(b"//")
+}
+
+// What is found in a line KEY = VALUE, whose key is no word, or whose number has more than digits, or whose text has a
+// backslash.
+fn assigned_hint(number: u64, line: &[u8]) -> Option<Sentence> {
+    let shown = Excerpt::of(without_return(line));
+    let line = Assigned::of(line)?;
+    if line.key.starts_with(b"//") || !line.value.iter().all(|byte| byte.is_ascii()) {
+        return None;
+    }
+    if !line.has_one_word() {
+        return found!("line {} is {}; a key is one word, as size"; Count(number), Text(shown));
+    }
+    if line.value.starts_with(b"\"") && line.value.contains(&b'\\') {
+        return found!("line {} is {}; a text has no backslash"; Count(number), Text(shown));
+    }
+    let rest = line.after_digits()?;
+    if is_told_apart(&line, rest) {
+        return None;
+    }
+    found! {
+        "line {} is {}; a whole number has digits alone, and {} follows them";
+        Count(number), Text(shown), Text(Excerpt::of(rest))
+    }
+}
+
 // What is found at the place where a text is not TOML.
 fn fault_hint(text: &[u8], place: usize, fault: &str) -> Option<Sentence> {
     let rest = text.get(place..)?;
@@ -92,14 +157,33 @@ fn fault_hint(text: &[u8], place: usize, fault: &str) -> Option<Sentence> {
         tell!(single_hint(text));
     }
     let number = line_of(text, place);
-    let line = Excerpt::of(without_return(line_at(text, number)?));
+    tell!(open_hint(text, number));
+    let line = line_at(text, number)?;
+    tell!(assigned_hint(number, line));
+    let line = Excerpt::of(without_return(line));
     found!("line {} is {}; ", said_of(fault, rest); Count(number), Text(line))
+}
+
+// The array whose tables can have this key.
+fn array_with(key: Excerpt) -> Option<Name> {
+    for array in ARRAYS {
+        if keys_of(array)
+            .iter()
+            .any(|name| key.is(name.text().as_bytes()))
+        {
+            return Some(array);
+        }
+    }
+    None
 }
 
 // What is wrong at the top of a setup.
 fn top_hint(document: &Table, name: Name) -> Option<Sentence> {
     if name == Name::Unknown {
         let (key, keys) = unknown_key(document, name)?;
+        if let Some(array) = array_with(key) {
+            return found!("the key {} stands above every table; write [[{}]] above it"; Text(key), Name(array));
+        }
         found!("the key {} is none of {}"; Text(key), Keys(keys))
     } else if document.get(name.text()).is_none() {
         found!("there is no table [[{}]]"; Name(name))
@@ -178,22 +262,43 @@ fn type_hint(word: &str) -> Option<Sentence> {
     found!("has the type {}; \"circular\" and \"bounded\" can be"; Text(Excerpt::of(word.as_bytes())))
 }
 
-// What is wrong at a key of a table of an array.
-fn key_hint(document: &Table, array: Name, key: Name, table: &Table) -> Option<Sentence> {
+// What is said of a value of another kind than is expected.
+fn kind_said(key: Name, value: &Value) -> Option<&'static str> {
+    if matches!(key, Name::Type | Name::Id | Name::Store) {
+        Some("a text is expected; write it in quotes")
+    } else if value.as_str().is_some() {
+        Some("a whole number is expected; write it without quotes")
+    } else if value.as_integer().is_none() {
+        Some("a whole number is expected; write it in digits alone")
+    } else {
+        None
+    }
+}
+
+// What is wrong at a key of a table of an array, whose value is written so in the setup, if it was found there.
+fn key_hint(
+    document: &Table,
+    array: Name,
+    key: Name,
+    table: &Table,
+    written: Option<&[u8]>,
+) -> Option<Sentence> {
     if !keys_of(array).contains(&key) {
         return None;
     }
     let Some(value) = table.get(key.text()) else {
         return found!("has no key {}"; Name(key));
     };
-    let words = match (key, value.as_str()) {
+    match (key, value.as_str()) {
         (Name::Type, Some(word)) => return type_hint(word),
         (Name::Id | Name::Store, Some(id)) => return id_hint(document, key, id),
-        (Name::Type | Name::Id | Name::Store, None) => "has no text as {}; write it in quotes",
-        _ if value.as_integer().is_none() => "has no whole number as {}; write it without quotes",
-        _ => return None,
-    };
-    found!(words; Name(key))
+        _ => {}
+    }
+    let said = kind_said(key, value)?;
+    match written {
+        Some(written) => found!("has {} = {}; ", said; Name(key), Bare(Excerpt::of(written))),
+        None => found!("has another value as {}; ", said; Name(key)),
+    }
 }
 
 // What is said of a table of an array that an earlier one repeats.
@@ -212,6 +317,7 @@ fn in_table(
     row: u32,
     name: Name,
     table: &Table,
+    text: &[u8],
 ) -> Option<Sentence> {
     match name {
         Name::Repeated if is_repeated(document, array, row, table) => found!(repeated(array)),
@@ -220,24 +326,49 @@ fn in_table(
             let (key, keys) = unknown_key(table, array)?;
             found!("has the key {}, which is none of {}"; Text(key), Keys(keys))
         }
-        key => key_hint(document, array, key, table),
+        key => key_hint(
+            document,
+            array,
+            key,
+            table,
+            written_at(text, array, row, key),
+        ),
     }
 }
 
 // What is wrong by this name with the table in this row of an array, with its name.
-fn table_hint(document: &Table, array: Name, row: u32, name: Name) -> Option<Sentence> {
+fn table_hint(
+    document: &Table,
+    array: Name,
+    row: u32,
+    name: Name,
+    text: &[u8],
+) -> Option<Sentence> {
     let table = table_in(document, array, row)?;
-    let hint = in_table(document, array, row, name, table)?;
+    let hint = in_table(document, array, row, name, table, text)?;
     Some(hint.of_table(named(array, row, table)))
 }
 
+// What is found where an array with this name has an element in this row that is no table.
+fn element_hint(document: &Table, array: Name, row: u32) -> Option<Sentence> {
+    let place = (row as usize).checked_sub(1)?;
+    if elements(document, array).get(place)?.as_table().is_some() {
+        return None;
+    }
+    found! {
+        "element {} of the list {} is no table; write [[{}]] above each table, and its keys below";
+        Count(u64::from(row)), Name(array), Name(array)
+    }
+}
+
 // What is wrong at a key of a table in this row; 0 is the top.
-fn field_hint(document: &Table, row: u32, name: Name) -> Option<Sentence> {
+fn field_hint(document: &Table, row: u32, name: Name, text: &[u8]) -> Option<Sentence> {
     if row == 0 {
         return top_hint(document, name);
     }
+    tell!(element_hint(document, name, row));
     for array in ARRAYS {
-        tell!(table_hint(document, array, row, name));
+        tell!(table_hint(document, array, row, name, text));
     }
     None
 }
@@ -303,9 +434,9 @@ fn limit_hint(document: &Table, name: Name) -> Option<Sentence> {
 }
 
 // What is found in the document of a setup.
-fn document_hint(document: &Table, spot: Spot) -> Option<Sentence> {
+fn document_hint(document: &Table, spot: Spot, text: &[u8]) -> Option<Sentence> {
     match spot {
-        Spot::Key { row, name } => field_hint(document, row, name),
+        Spot::Key { row, name } => field_hint(document, row, name, text),
         Spot::Number(name) => limit_hint(document, name),
         _ => None,
     }
@@ -319,11 +450,11 @@ fn in_setup(alloc: Global, spot: Spot, octets: &[u8]) -> Result<Option<Sentence>
         Err(_) if is_toml => return Ok(None),
         Err(error) => {
             let line = line_of(octets, error.valid_up_to());
-            return Ok(found!("line {} is not in UTF-8"; Count(line)));
+            return Ok(found!("line {} is not in UTF-8; save the file as UTF-8"; Count(line)));
         }
     };
     match toml::table_from_str(alloc, text) {
-        Ok(document) => Ok(document_hint(&document, spot)),
+        Ok(document) => Ok(document_hint(&document, spot, octets)),
         Err(error) if error.is_memory() => Err(NoMemory),
         Err(_) if is_toml => Ok(None),
         Err(error) => Ok(match error.span() {

@@ -5,13 +5,23 @@ use crate::tests::samples::{
 };
 
 // A script whose task is refused, and the line on standard error, or how it begins where a long list of ranges follows.
-static ADVICE: [(&str, &str); 21] = wanted! {
+static ADVICE: [(&str, &str); 26] = wanted! {
     "plan S F\n=== S\n"
     => "F: expected a file of this name; check the name and its folder, or in a script the line === NAME above the \
         file; outside a script - is standard input\n";
     "check S F -\n=== S\n=== F\n"
     => "-: expected a file of this name; check the name and its folder, or in a script the line === NAME above the \
         file; outside a script - is standard input\n";
+    "plan S F\r\n=== S\r\n=== F\r\n"
+    => "S: expected a line === NAME; in this script a carriage return stands beside the name; save the script with LF \
+        at the end of each line, not CR LF\n";
+    "plan S F\r\n=== S\n=== F\n"
+    => "F?: expected a line === NAME; in this script a carriage return stands beside the name; save the script with LF \
+        at the end of each line, not CR LF\n";
+    "plan S F\n=== S \n=== F\n"
+    => "S: expected a line === NAME; in this script spaces stand beside the name; remove them\n";
+    "plan S F\n=== S\n===  F\n"
+    => "F: expected a line === NAME; in this script spaces stand beside the name; remove them\n";
     "plan S F\n=== S\n[[store\n=== F\n"
     => "S: expected a TOML document in UTF-8; look for a bracket or a quote that is missing, a name that comes twice, \
         or a number that is too large\n";
@@ -72,6 +82,9 @@ static ADVICE: [(&str, &str); 21] = wanted! {
     "plan S F\n=== S\n[[store]]\nid = \"A\"\nsize = 1\ntype = \"bounded\"\nchannel = 0\n=== \
         F\nstep,window,A\n1,1000001,0\n"
     => "F, window: expected a number in its range";
+    "plan S F\n=== S\n[[store]]\nid = \"A\"\nsize = 1\ntype = \"bounded\"\nchannel = 0\n=== \
+        F\nstep,window,A,limit:1\n1,1,0,1000001\n"
+    => "F, limit: expected a number in its range";
 };
 
 // The task is refused, and standard error begins with the advice.
@@ -88,8 +101,8 @@ fn refusals_are_explained(rt: HostRuntime) {
     }
 }
 
-// A plan for a store of 3 blocks, whose channel takes 1 block a step, and the line on standard error. The first plan is
-// least, and nothing is said of it.
+// A plan for a store of 3 blocks, whose channel takes 1 block a step, and the lines on standard error. The first plan
+// is least, and nothing is said of it. Each plan that fits loses 2 blocks, as few as any.
 static FOUND: [(&str, &str); 7] = wanted! {
     "mmplan 2\nstores A\ndump 1 1\ndump 2 0\nloss 2\nstretch A 1 2\ncount 1 channels\nbound 2\nend\n"
     => "";
@@ -98,19 +111,24 @@ static FOUND: [(&str, &str); 7] = wanted! {
         again\nhint: step 1 dumps 2 blocks on channel 0, whose limit is 1\n";
     "mmplan 2\nstores A\ndump 1 1\ndump 2 0\nloss 3\nstretch A 1 2\ncount 1 channels\nbound 2\nend\n"
     => "P: expected the loss that the plan has, which is the number printed; take the setup and the forecast that it \
-        was planned for; if dumps were changed, plan again\n";
+        was planned for; if dumps were changed, plan again\nhint: line 5 says loss 3; the plan loses 2, which is 1 \
+        less\nnote: blocks lost: 2 by this plan, and no plan that fits loses fewer\n";
     "mmplan 2\nstores A\ndump 1 1\ndump 2 0\nloss 2\nstretch A 2 1\ncount 1 channels\nbound 2\nend\n"
     => "P, stretch 1: expected stretches of stores of the setup, with steps in order and in range, that share no step; \
-        correct that stretch, counted from 1, or plan again\n";
+        correct that stretch, counted from 1, or plan again\nhint: line 6 is \"stretch A 2 1\"; its first step is \
+        after its last\nnote: blocks lost: 2 by this plan, and no plan that fits loses fewer\n";
     "mmplan 2\nstores A\ndump 1 1\ndump 2 0\nloss 2\nstretch A 1 2\ncount 2 channels\nbound 2\nend\n"
     => "P, count 1: expected counts of inner steps, each once, at which each inner store has a channel with a limit; \
-        take that count out, counted from 1, or plan again\n";
+        take that count out, counted from 1, or plan again\nhint: line 7 is \"count 2 channels\"; the step is inner to \
+        no stretch, as each of its steps but the last is\nnote: blocks lost: 2 by this plan, and no plan that \
+        fits loses fewer\n";
     "mmplan 2\nstores A\ndump 1 1\ndump 2 0\nloss 2\nstretch A 1 2\ncount 1 channels\nbound 1\nend\n"
     => "P: expected the bound that the cut has, which is the number printed; take the setup and the forecast that it \
-        was planned for, or plan again\n";
+        was planned for, or plan again\nhint: line 8 says bound 1; the bound of the stretches and counts above it is \
+        2\nnote: blocks lost: 2 by this plan, and no plan that fits loses fewer\n";
     "mmplan 1\nstores A\ndump 1 1\ndump 2 0\nloss 2\nstretch A 1 2\nbound -2\nend\n"
     => "P: expected a cut whose bound is the loss of the plan; plan again; this plan fits, and loses at most the \
-        difference more than the best\n";
+        difference more than the best\nnote: blocks lost: 2 by this plan, and no plan that fits loses fewer\n";
 };
 
 // Standard error has this remark on a plan and nothing else.

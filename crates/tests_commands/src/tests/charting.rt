@@ -12,7 +12,7 @@ const PLAN_FOR_HK: &str = "mmplan 1\nstores HK\ndump 1 2\nloss 1\nbound 1\nend\n
 // Plans for first_run, the headline of each chart, and whether it says that no plan loses fewer.
 static CHARTS: [(&str, &str, bool); 2] = wanted! {
     FIRST_PLAN, ">2 of 10 blocks are lost, and no plan loses fewer</text>" => true;
-    FORGED, ">loss is 2\n</text>" => false;
+    FORGED, ">The plan loses 2 of 10 blocks; its text says 1</text>" => false;
 };
 
 // Whether a text is one document of this format.
@@ -31,7 +31,7 @@ pub(crate) fn draws(rt: &impl Host, [command, plan, headline, other]: [&str; 4],
     holds(rt, headline, &answer, is_drawn && is_quiet && is_as_wanted);
 }
 
-// A plan whose printed loss is wrong is drawn, under the verdict's line.
+// A plan whose printed loss is wrong is drawn, under a headline with both losses.
 #[test]
 fn a_chart_is_one_document(rt: HostRuntime) {
     for (plan, headline, is_least) in &CHARTS {

@@ -1,8 +1,8 @@
 //! What `check` says of given plans.
 
 use crate::tests::samples::{
-    A_WITH_LIMIT_1, APART, FIRST_PLAN, SCI, SCI_OF_SIZE_2, SCI_STARTS_WITH_2, THREE_STEPS,
-    TWO_STEPS_OF_A, checks, refuses, replaced,
+    A_AND_B, A_WITH_LIMIT_1, APART, FIRST_PLAN, SCI, SCI_OF_SIZE_2, SCI_STARTS_WITH_2, THREE_STEPS,
+    TWO_STEPS_OF_A, checks, holds, of_plan, refuses, replaced, told,
 };
 
 const A: &str = "[[store]]\nid = \"A\"\nsize = 3\ntype = \"bounded\"\nchannel = 0\n";
@@ -88,4 +88,34 @@ fn sheet_text_refused(rt: HostRuntime) {
     }
     let unread = ("check S F P\n=== S\n", "refused 50 NotRead name F\n");
     refuses(&rt, &[unread]);
+}
+
+// A setup, a forecast, a plan that fits and loses more than it has to, and the notes on what a least plan loses.
+struct Compared {
+    files: [&'static str; 3],
+    notes: &'static str,
+}
+
+// In the first, one block of step 2 is not dumped, which is then lost in step 3. In the second, the window of step 1
+// goes to B, to which nothing more comes, while A loses the two blocks that come in step 2.
+static COMPARED: [Compared; 2] = table! { Compared;
+    files [SCI, THREE_STEPS, "mmplan 1\nstores SCI\ndump 1 2\ndump 2 1\ndump 3 0\nloss 3\nbound 0\nend\n"],
+        notes "\nnote: blocks lost: 3 by this plan, 2 by a least plan, which is 1 fewer\n";
+    files [A_AND_B, "step,window,A,B\n1,2,3,3\n2,0,2,0\n",
+        "mmplan 1\nstores A B\ndump 1 0 2\ndump 2 0 0\nloss 2\nbound 0\nend\n"],
+        notes "\nnote: blocks lost: 2 by this plan, 0 by a least plan, which is 2 fewer\n\
+            note: by store, and after it by a least plan: A 2 0, B 0 0\n";
+};
+
+#[test]
+fn a_plan_that_is_not_least_is_compared(rt: HostRuntime) {
+    for row in &COMPARED {
+        let answer = told(&rt, &of_plan("check", row.files));
+        holds(
+            &rt,
+            row.notes,
+            &answer,
+            answer.err.as_str().ends_with(row.notes),
+        );
+    }
 }

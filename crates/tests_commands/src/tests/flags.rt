@@ -4,7 +4,7 @@ use crate::tests::samples::{Host, answers, holds, joined, told};
 
 const TWICE: &str = "--output is given twice; give it once";
 
-const OF_OTHERS: &str = "--output goes with plan, chart and table alone";
+const OF_OTHERS: &str = "--output goes with plan, chart, table and sensitivity alone";
 
 const LATE: &str = "--output stands before --, after which each word is the name of a file";
 
@@ -13,15 +13,15 @@ const NAMELESS: &str =
         it";
 
 const SHORT: &str =
-    "there is no flag '-o'; did you mean --output, which goes with plan, chart and table, and has the name of a file \
-        after it?";
+    "there is no flag '-o'; did you mean --output, which goes with plan, chart, table and sensitivity, and has the \
+        name of a file after it?";
 
 const NONE_ALIKE: &str =
     "there is no flag '--json', and none is spelled alike; there are --in-order of plan and fly, --worth of chart, \
-        --output FILE of plan, chart and table, and --help";
+        --output FILE of plan, chart, table and sensitivity, and --help";
 
 // Bad lines, and what is said of their flags.
-static WRONG: [(&str, &str); 25] = wanted! {
+static WRONG: [(&str, &str); 31] = wanted! {
     "plan --in-order --in-order S F" => "--in-order is given twice; give it once";
     "chart --worth S --worth F P" => "--worth is given twice; give it once";
     "plan S F --output X --output Y" => TWICE;
@@ -33,23 +33,31 @@ static WRONG: [(&str, &str); 25] = wanted! {
     "check --in-order S F P" => "--in-order goes with plan and fly alone";
     "plan S F --worth" => "--worth goes with chart alone";
     "check S F P --output X" => OF_OTHERS;
-    "sensitivity S F --output=-" => OF_OTHERS;
+    "read P --output=-" => OF_OTHERS;
     "plan --in-order=yes S F" => "--in-order takes no value; give it alone";
     "plan S F --output" => NAMELESS;
     "plan S F --output --help" => NAMELESS;
     "plan S F --output -- X" => NAMELESS;
     "plan S F --output=-X" => NAMELESS;
     "plan --version" => "--version stands alone";
+    "plan -V" => "--version stands alone";
     "plan S F -o X" => SHORT;
     "plan --inorder S F"
     => "there is no flag '--inorder'; did you mean --in-order, which goes with plan and fly?";
     "chart --worht S F P --output X"
     => "there is no flag '--worht'; did you mean --worth, which goes with chart?";
     "table S F P --outptu=X"
-    => "there is no flag '--outptu=X'; did you mean --output, which goes with plan, chart and table, and has the name \
-        of a file after it?";
+    => "there is no flag '--outptu=X'; did you mean --output, which goes with plan, chart, table and sensitivity, and \
+        has the name of a file after it?";
     "check --hlep"
     => "there is no flag '--hlep'; did you mean --help, which stands alone or after a command?";
+    "plan -in-order S F"
+    => "there is no flag '-in-order'; did you mean --in-order, which goes with plan and fly?";
+    "plan S F -i"
+    => "there is no flag '-i'; did you mean --in-order, which goes with plan and fly?";
+    "chart -worth S F P" => "there is no flag '-worth'; did you mean --worth, which goes with chart?";
+    "chart -w S F P" => "there is no flag '-w'; did you mean --worth, which goes with chart?";
+    "plan -v" => "there is no flag '-v'; did you mean --version, which stands alone?";
     "check --json S F P" => NONE_ALIKE;
     "plan --json --output X S F" => NONE_ALIKE;
 };
@@ -69,7 +77,7 @@ static USAGES: [(&str, &str); 9] = wanted! {
     "check --help" => "check <SETUP> <FORECAST> <PLAN>";
     "chart --help" => "chart [--worth] <SETUP> <FORECAST> <PLAN> [--output <FILE>]";
     "table --help" => "table <SETUP> <FORECAST> <PLAN> [--output <FILE>]";
-    "sensitivity --help" => "sensitivity <SETUP> <FORECAST>";
+    "sensitivity --help" => "sensitivity <SETUP> <FORECAST> [--output <FILE>]";
     "run --help" => "run <SETUP> <FORECAST> <PLAN> <SOURCES> <LINKS>";
     "fly --help" => "fly [--in-order] <SETUP> <FORECAST> <SOURCES> <LINKS>";
     "ask S" => "ask <SETUP> <REQUESTS>";
@@ -89,6 +97,41 @@ fn usages_have_each_flag(rt: HostRuntime) {
     for (line, usage) in &USAGES {
         has_said(&rt, line, &["Usage: mm_tool ", *usage, "\n"]);
     }
+}
+
+// What else stands in the help of a command.
+static HELPS: [(&str, &str); 3] = wanted! {
+    "sensitivity --help"
+    => "  limit,CHANNEL,STEP,..       the limit of the channel in the step, from a column of the forecast\n";
+    "sensitivity --help" => "  --output FILE               writes the table to FILE,";
+    "chart --help"
+    => "  --worth                     a bar above a window, or above the row of a channel with a limit,";
+};
+
+#[test]
+fn helps_have_each_record_and_option(rt: HostRuntime) {
+    for (line, text) in &HELPS {
+        has_said(&rt, line, &[*text]);
+    }
+}
+
+#[test]
+fn help_begins_with_how_it_is_read_by_pages(rt: HostRuntime) {
+    let answer = told(&rt, &["--help\n"]);
+    let first =
+        "All help goes to standard error; to read it by pages: mm_tool --help 2>&1 | less\n\nPlans when";
+    let is_first = answer.err.as_str().starts_with(first);
+    holds(&rt, "--help", &answer, answer.has("", 2) && is_first);
+}
+
+// Of a word with one dash that is near no flag, it is told how a file of this name is given.
+#[test]
+fn files_that_are_spelled_like_flags(rt: HostRuntime) {
+    has_said(
+        &rt,
+        "plan -1.toml F",
+        &["tip: to pass '-1' as a value, use '-- -1'\n"],
+    );
 }
 
 // Commands that are misspelled, and those that are told.

@@ -73,14 +73,14 @@ const A_AND_B: &str = "\
 
 const THREE_OF_TWO: &str = "mmplan 1\nstores A C\ndump 1 2 1\nloss 2\nbound 0\nend\n";
 
-// Lines of two sources: before the run three packets for each store, in turn, and in step 1 one for each.
-const THREE_FOR_EACH: &str = "\
+// Lines of two sources: before the run two packets for the bounded store and three for the circular one, in turn, and
+// in step 1 one for each.
+const TWO_AND_THREE: &str = "\
     2 0 0865C000000E200319000000000000000000000000\n\
     1 0 0864C000000E200319000000000000000000000000\n\
     1 0 0865C000000E200319000000000000000000000000\n\
     2 1 0864C000000E200319000000000000000000000000\n\
     2 0 0864C000000E200319000000000000000000000000\n\
-    1 0 0864C000000E200319000000000000000000000000\n\
     1 0 0865C000000E200319000000000000000000000000\n\
     1 1 0865C000000E200319000000000000000000000000\n";
 
@@ -114,7 +114,7 @@ const OTHER_ARRIVALS: Run = Run {
     ..FIRST_RUN
 };
 
-static RUNS: [Run; 9] = based! { Run;
+static RUNS: [Run; 8] = based! { Run;
     FIRST_FLIGHT: example "a_plan_in_order_is_run", plan FIRST_PLAN_IN_ORDER;
     OTHER_ARRIVALS: status 0;
     FIRST_RUN: example "fewer_arrivals_than_forecast",
@@ -146,13 +146,6 @@ static RUNS: [Run; 9] = based! { Run;
             step 2 SCI arrived 3 lost 1 dumped 2 held 2\n\
             step 3 SCI arrived 4 lost 2 dumped 0 held 4\n\
             total arrived 10 lost 4 dumped 4 held 4\n";
-    // The third packet for each store is lost before the run, of which the report says nothing.
-    FIRST_RUN: example "more_opening_packets_than_blocks", setup TWO_ARE_FULL,
-        forecast "step,window,A,C\n1,3,1,1\n", plan THREE_OF_TWO, sources &[THREE_FOR_EACH],
-        prints "\
-            step 1 A arrived 1 lost 1 dumped 2 held 0\n\
-            step 1 C arrived 1 lost 1 dumped 1 held 1\n\
-            total arrived 2 lost 2 dumped 3 held 1\n";
 };
 
 const TELECOMMANDS: Run = Run {
@@ -188,6 +181,46 @@ fn flight_of(rt: &impl Host, words: &str, row: &Run, links: &str) -> String {
         row.setup, row.forecast
     );
     script.expect(rt, "memory")
+}
+
+// Stores that are full as the run begins.
+const FULL: Run = Run {
+    setup: TWO_ARE_FULL,
+    forecast: "step,window,A,C\n1,3,1,1\n",
+    plan: THREE_OF_TWO,
+    prints: "\
+        step 1 A arrived 1 lost 1 dumped 2 held 0\n\
+        step 1 C arrived 1 lost 1 dumped 1 held 1\n\
+        total arrived 2 lost 2 dumped 3 held 1\n",
+    ..FIRST_RUN
+};
+
+// Before the run two packets for each store and one more for C, or three for each: the third packet for a store is
+// lost, of which the report says nothing.
+static TOO_MANY: [(&[&str], &str); 2] = [
+    (
+        &[TWO_AND_THREE],
+        "note: 1 packet of step 0 was lost before the run, by full stores; the report counts from step 1\n",
+    ),
+    (
+        &[
+            TWO_AND_THREE,
+            "1 0 0864C000000E200319000000000000000000000000\n",
+        ],
+        "note: 2 packets of step 0 were lost before the run, by full stores; the report counts from step 1\n",
+    ),
+];
+
+#[test]
+fn packets_that_are_lost_before_the_run_are_told(rt: HostRuntime) {
+    for (sources, noted) in &TOO_MANY {
+        let row = Run {
+            sources: *sources,
+            ..FULL
+        };
+        let script = script_of(&rt, &row, row.links);
+        answers(&rt, &[script.as_str()], row.prints, *noted, 0);
+    }
 }
 
 // `run` with the files of a row and these links prints this report.

@@ -13,9 +13,9 @@ static SETUP_HINTS: [(&str, &str); 10] = wanted! {
     "stores = 1\n" => "the key \"stores\" is none of store, route and limit";
     "[[store]]\nid = \"A\"\nsize = 4\ntype = \"bounded\"\n" => "table 1 of store, \"A\", has no key channel";
     "[[store]]\nid = \"A\"\nsize = \"4\"\ntype = \"bounded\"\nchannel = 0\n"
-    => "table 1 of store, \"A\", has no whole number as size; write it without quotes";
+    => "table 1 of store, \"A\", has size = \"4\"; a whole number is expected; write it without quotes";
     "[[store]]\nid = 5\nsize = 4\ntype = \"bounded\"\nchannel = 0\n"
-    => "table 1 of store has no text as id; write it in quotes";
+    => "table 1 of store has id = 5; a text is expected; write it in quotes";
     "[[store]]\nid = \"CAM 1\"\nsize = 4\ntype = \"bounded\"\nchannel = 0\n"
     => "table 1 of store, \"CAM 1\", has \"CAM 1\" as id; 1 to 8 of the characters A-Z, 0-9, _ and - can be";
     "[[store]]\nid = \"A\"\nsize = 4\ntype = \"ring\"\nchannel = 0\n"
@@ -46,21 +46,22 @@ static TABLE_HINTS: [(&str, &str); 8] = wanted! {
 static FORECAST_HINTS: [(&str, &str); 17] = wanted! {
     "step;window;A\n1;2;3\n" => "semicolons separate the cells; save the file with commas";
     "Step,window,A\n1,2,3\n"
-    => "the header is \"Step,window,A\", and \"step,window,A\" is expected";
+    => "column 1 of the header is \"Step\", and \"step\" is expected";
     "step, window,A\n1,2,3\n"
-    => "the header is \"step, window,A\", and \"step,window,A\" is expected";
+    => "column 2 of the header is \" window\", and \"window\" is expected";
     "window,step,A,,\n2,1,3,,\n"
-    => "the header is \"window,step,A,,\", and \"step,window,A\" is expected";
+    => "column 1 of the header is \"window\", and \"step\" is expected";
     "step,window,a\r\n1,2,3\r\n"
-    => "the header is \"step,window,a\", and \"step,window,A\" is expected";
-    "" => "the header is \"\", and \"step,window,A\" is expected";
+    => "column 3 of the header is \"a\", and \"A\" is expected";
+    "" => "the file is empty; its first line is \"step,window,A\"; a file to which the output is sent is emptied \
+        before it is read";
     "step,window,A,limit:8\n1,2,3,4\n"
-    => "the header is \"step,window,A,limit:8\", and \"step,window,A\" is expected, then limit:0 to limit:7 for \
-        limits, rising";
+    => "column 4 of the header is \"limit:8\"; after the stores can be limit:0 to limit:7 alone, rising";
     "step,window,A,limit:0\n1,2,3,4,5\n"
     => "row 1 is line 2 of the file, whose header is line 1; cells: 5 there, 4 in the header";
     "step,window,A,limit:0\n1,2,3,1000001\n"
-    => "line 2 of the file has \"1000001\"; 1,000,000 is the most";
+    => "row 1 has \"1000001\" in the column \"limit:0\", line 2 of the file; 0 to 1000000 can be; plan more in \
+        coarser units: docs/PLANNING.md, 'Limits of scale'";
     "[[store]]\nid = \"A\"\nsize = 4\ntype = \"bounded\"\nchannel = 0\n"
     => "the files are in another order; name the setup first, then the forecast";
     "step,window,A\n1,2,3\n\n2,1,900,3\n"
@@ -68,14 +69,17 @@ static FORECAST_HINTS: [(&str, &str); 17] = wanted! {
     "step,window,A\n1,2\n"
     => "row 1 is line 2 of the file, whose header is line 1; cells: 2 there, 3 in the header";
     "step,window,A\n1,2,\"1,900\"\n"
-    => "the cell is \"\"1,900\"\" in line 2 of the file, whose header is line 1";
+    => "row 1 has \"\"1,900\"\" in the column \"A\", where a whole number is expected; it is line 2 of the file, whose \
+        header is line 1";
     "step,window,A\n1,2,3\n,,\n"
-    => "the cell is \"\" in line 3 of the file, whose header is line 1";
+    => "row 2 has \"\" in the column \"step\", where a whole number is expected; it is line 3 of the file, whose \
+        header is line 1";
     "step,window,A\n1,2,3\n3,2,3\n"
     => "the step is \"3\" in line 3 of the file, whose header is line 1; it is to be 2";
     "step,window,A\n1,2,3\n2,1000001,3\n"
-    => "line 3 of the file has \"1000001\"; 1,000,000 is the most";
-    "step,window,A\n" => "there are 0 records after the header; 1 to 256 can be";
+    => "row 2 has \"1000001\" in the column \"window\", line 3 of the file; 0 to 1000000 can be; plan more in \
+        coarser units: docs/PLANNING.md, 'Limits of scale'";
+    "step,window,A\n" => "there are 0 records after the header; 1 to 256 can be; write one for each step";
 };
 
 // Plan texts that are refused, and what is found in each.
@@ -84,7 +88,7 @@ static PLAN_HINTS: [(&str, &str); 8] = wanted! {
     "\u{FEFF}mmplan 1\nstores A\n"
     => "the file begins with a byte order mark; save it in UTF-8 without one";
     "refused 30 Header\n" => "the file holds the line of a refusal, and no plan; plan again";
-    "mmplan 1\nstores A\ndump 2 2\n" => "line 3 is \"dump 2 2\"";
+    "mmplan 1\nstores A\ndump 2 2\n" => "line 3 is \"dump 2 2\"; dump 1 is expected";
     "mmplan 1\nstores A\ndump 1 2\n"
     => "the text ends in line 4; its last line is end, with a line feed";
     "mmplan 1\nstores A\ndump 1 2\nloss 0\nbound 0\nend"
@@ -115,9 +119,10 @@ static FLIGHT_HINTS: [(&str, &str); 9] = wanted! {
 };
 
 // Requests that are refused, and what is found in each.
-static REQUEST_HINTS: [(&str, &str); 4] = wanted! {
+static REQUEST_HINTS: [(&str, &str); 5] = wanted! {
     "\u{FEFF}1864C000000D200F01000001484B202020202020\n"
     => "the file begins with a byte order mark; save it in UTF-8 without one";
+    "mmplan 1\nstores A\n" => "the file holds a plan text in place of packets";
     "1864 C000\n" => "line 1 has spaces between digits; write the digits without them";
     "\n1864C000000D200F01000001484B202020202020\r\n"
     => "line 2 ends with CR LF; save the file with LF alone";
@@ -126,7 +131,10 @@ static REQUEST_HINTS: [(&str, &str); 4] = wanted! {
 };
 
 // Other scripts with a file that is refused, and what is found in them.
-static OTHER_HINTS: [(&str, &str); 7] = wanted! {
+static OTHER_HINTS: [(&str, &str); 9] = wanted! {
+    "read X\n=== X\n1 3 0864C000000E200319000000000000000000000000\n"
+    => "the file holds sources of a run in place of packets; leave out the source and the step before each packet";
+    "read X\n=== X\n1864C0000004200F160000\r\n" => "line 1 ends with CR LF; save the file with LF alone";
     "check P S F\n=== S\n=== F\n=== P\nmmplan 1\nstores A\n"
     => "the files are in another order; name the setup first, then the forecast, then the plan";
     "run S P F X L\n=== S\n[[store]]\nid = \"A\"\nsize = 4\ntype = \"bounded\"\nchannel = 0\n=== F\n=== P\nmmplan \

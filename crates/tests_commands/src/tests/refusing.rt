@@ -110,10 +110,10 @@ fn push_more(rt: &impl Host, said: &mut String, name: &str, more: u32) {
     }
 }
 
-// What is said of a whole file of packets, where a line of it is no packet.
+// What is said of a whole file of packets, where a line of it is refused.
 fn push_whole(rt: &impl Host, said: &mut String, packets: &str, answer: &str) {
     for line in answer.lines() {
-        if let Some((_, Refusal::HexLine | Refusal::Short)) = refused(line) {
+        if refused(line).is_some() {
             if let Some(hint) = packets_hint(packets.as_bytes()) {
                 writeln!(said, "hint: {hint}").expect(rt, "memory");
             }

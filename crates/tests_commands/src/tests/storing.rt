@@ -80,12 +80,13 @@ fn run(rt: &impl Host, system: &impl rt::Files, folder: &str, line: &str) -> Ans
 
 // Tasks whose text is stored, each with the file and with one that is not left over. A file that is not there yet is
 // made.
-static STORED: [(&str, &str, &str); 7] = [
+static STORED: [(&str, &str, &str); 8] = [
     ("chart @/S @/F @/P", "OLD", "OLD.new1"),
     ("chart --worth @/S @/F @/P", "OLD", "OLD.new1"),
     ("chart @/S @/F @/P --worth", "OLD", "OLD.new1"),
     ("plan --in-order @/S @/F", "OLD", "OLD.new1"),
     ("table @/S @/F @/P", "OLD", "OLD.new1"),
+    ("sensitivity @/S @/F", "OLD", "OLD.new1"),
     ("plan @/S @/F", "NEW", "NEW.new2"),
     ("plan @/S @/F", "OLD", "OLD.new1"),
 ];
@@ -146,7 +147,7 @@ fn leaves(rt: &impl System, system: &impl rt::Files, name: &str, row: &Unstored)
 }
 
 // A task that is refused. A folder is not replaced, and a file in a folder that is not there is not made.
-static UNSTORED: [Unstored; 3] = table! { Unstored;
+static UNSTORED: [Unstored; 4] = table! { Unstored;
     line "plan @/S @/BAD --output @/OLD", prints "refused 32 StepNumber row 1\n",
         says "\
 @/BAD, row 1: expected the number of the next step, where the first is 1; number the records 1, 2, 3 and so on
@@ -157,6 +158,8 @@ hint: the step is \"2\" in line 2 of the file, whose header is line 1; it is to 
             or a link\n";
     line "plan @/S @/F --output @/NONE/P", prints "",
         says "mm_tool: @/NONE/P could not be written, and is as it was: its folder is not there\n";
+    line "plan @/S @/F --output=", prints "",
+        says "mm_tool: the name of the output is empty; write --output FILE\n";
 };
 
 #[test]

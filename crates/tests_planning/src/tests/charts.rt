@@ -6,6 +6,7 @@ use crate::tests::samples::{
 use mm_chart::{chart_bytes, table_bytes};
 use samples::{chart_of, has_lines, has_texts, is_fault};
 
+mod keys;
 mod numbers;
 mod pictures;
 mod samples;
@@ -60,15 +61,15 @@ static BY_LIMITS_OF_STEPS: [&str; 4] = [
     "<text class='w' x='16' y='338'>In step 1, at most 1 leave by the limits of the channels.</text>",
 ];
 
-const THREE_SIZES: &str =
+pub(crate) const THREE_SIZES: &str =
     "[[store]]\nid = \"A\"\nsize = 3\ntype = \"bounded\"\nchannel = 0\n[[store]]\nid = \"B\"\nsize = 1000000\ntype = \
     \"bounded\"\nchannel = 0\n[[store]]\nid = \"C\"\nsize = 4\ntype = \"bounded\"\nchannel = 1\n[[limit]]\nchannel = \
     1\nblocks = 2\n";
 
-const ONE_COMES: &str = "step,window,A,B,C\n1,3,1,1,3\n2,0,0,0,0\n3,0,0,0,4\n";
+pub(crate) const ONE_COMES: &str = "step,window,A,B,C\n1,3,1,1,3\n2,0,0,0,0\n3,0,0,0,4\n";
 
 // In step 1 more blocks leave C than the limit of its channel.
-const OVER_THE_LIMIT: &str =
+pub(crate) const OVER_THE_LIMIT: &str =
     "mmplan 1\nstores A B C\ndump 1 0 0 3\ndump 2 0 0 0\ndump 3 0 0 0\nloss 0\nbound 0\nend\n";
 
 // Amounts in a height of 32 and one in a height of 18: 3 of a limit of 2 are 18; 1 of 3 is 11, since 32 / 3 is rounded
@@ -80,13 +81,13 @@ static SCALED: [&str; 4] = [
     "<path class='g' d='M180 318V294H276V318M372 318V286H468V318'/>",
 ];
 
-const TWO_OF_SIZE_1: &str =
+pub(crate) const TWO_OF_SIZE_1: &str =
     "[[store]]\nid = \"A\"\nsize = 1\ntype = \"bounded\"\nchannel = 0\n[[store]]\nid = \"B\"\nsize = 1\ntype = \
     \"bounded\"\nchannel = 0\n";
 
-const MORE_IN_A: &str = "step,window,A,B\n1,0,11,6\n2,0,1,0\n";
+pub(crate) const MORE_IN_A: &str = "step,window,A,B\n1,0,11,6\n2,0,1,0\n";
 
-const NOTHING_LEAVES: &str =
+pub(crate) const NOTHING_LEAVES: &str =
     "mmplan 1\nstores A B\ndump 1 0 0\ndump 2 0 0\nloss 16\nbound 0\nend\n";
 
 // A loses 10 and then 1, B loses 5. In one scale of 10 for 10 blocks that is 10, 1 and 5.
@@ -119,7 +120,7 @@ fn charts_have_these_lines(rt: HostRuntime) {
 // Plans that differ from the best one in a line or two, and their headlines.
 static FORGED: [(&str, &str); 6] = wanted! {
     "mmplan 1\nstores SCI\ndump 1 2\ndump 2 2\ndump 3 0\nloss 1\nstretch SCI 1 3\nbound 2\nend\n"
-    => "<text class='a' x='16' y='30'>loss is 2";
+    => "<text class='a' x='16' y='30'>The plan loses 2 of 10 blocks; its text says 1</text>";
     "mmplan 1\nstores SCI\ndump 1 2\ndump 2 2\ndump 3 0\nloss 2\nstretch SCI 1 3\nbound 1\nend\n"
     => "<text class='a' x='16' y='30'>bound is 2";
     "mmplan 1\nstores SCI\ndump 1 2\ndump 2 2\ndump 3 0\nloss 2\nstretch SCI 1 4\nbound 2\nend\n"

@@ -4,11 +4,11 @@ use mm_planner::plan;
 use mm_problem::{LimitRow, MAX_BLOCKS, Problem, StoreRow};
 use mm_sensitivity::{Item, sensitivity_bytes, worths};
 
-const THREE_STORES: &str =
+pub(crate) const THREE_STORES: &str =
     "[[store]]\nid = \"CAM\"\nsize = 4\ntype = \"bounded\"\nchannel = 0\n[[store]]\nid = \"SPEC\"\nsize = 3\ntype = \
     \"bounded\"\nchannel = 1\n[[store]]\nid = \"HK\"\nsize = 2\ntype = \"bounded\"\nchannel = 0\n";
 
-const EIGHT_STEPS: &str =
+pub(crate) const EIGHT_STEPS: &str =
     "step,window,CAM,SPEC,HK\n1,1,2,0,1\n2,1,3,1,0\n3,2,4,1,0\n4,6,0,1,1\n5,3,0,0,0\n6,0,0,2,0\n7,0,0,3,1\n8,5,0,0,0\n";
 
 // The least plan loses 5. Of the 2 + 3 + 4 blocks that arrive in CAM in steps 1 to 3, the windows of steps 1 and 2 take

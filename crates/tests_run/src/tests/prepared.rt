@@ -83,6 +83,17 @@ fn a_halted_run_hands_on_what_it_left(rt: HostRuntime) {
     assert!(rt; left.halted.spent == 2, "two sends in step 2");
     assert!(rt; left.dumped(0) == 0, "nothing is dumped in step 2");
     assert!(rt; left.still_held() == 1, "one packet is sent and held");
+    let volume = left.volume(0).map(|volume| volume.blocks);
+    assert!(rt;
+        volume == Some(4),
+        "one packet of step 1 and three of step 2"
+    );
+    assert!(rt; left.volume(1).is_none(), "there is one store");
+    assert!(rt;
+        left.window_left(2) == 0,
+        "both blocks of the window are spent"
+    );
+    assert!(rt; !left.is_limited(), "no channel has a limit");
     for link in &left.halted.links {
         let failed = link.last_failure().map(|failed| failed.send);
         assert!(rt; failed == Some(4), "the send that failed");

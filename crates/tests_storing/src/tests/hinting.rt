@@ -2,8 +2,10 @@
 
 use crate::tests::samples::{Host, is_shown};
 use mm_base::Refusal;
-use mm_problem::{Fault, Setup, read_problem};
-use mm_told::{Reason, RequestHints, Spot, Texts, column_notes, hint_for, packets_hint};
+use mm_cut::{Verdict, check_bytes};
+use mm_problem::{Fault, Name, Problem, Setup, read_problem};
+use mm_told::{Reason, RequestHints, Spot, Texts, hint_for, notes_on, packets_hint, verdict_hint};
+use std::fmt::Write;
 
 // The texts of a task, some of which are given.
 fn texts_of<'a>(setup: &'a str, forecast: &'a str, sources: &'a str) -> Texts<'a> {
@@ -23,7 +25,7 @@ fn hints(rt: &impl Host, reason: Reason, texts: Texts<'_>, hint: &str) {
 }
 
 // Setups that are refused, and what is found in each.
-static SETUPS: [(&str, &str); 24] = wanted! {
+static SETUPS: [(&str, &str); 45] = wanted! {
     "[store]\nid = \"A\"\n\n[store]\nid = \"B\"\n"
     => "line 1 is \"[store]\"; write [[store]] above each table";
     "[[store]]\nid = \"A\"\n[limit]\nchannel = 0\n [limit]\r\nchannel = 1\n"
@@ -36,7 +38,49 @@ static SETUPS: [(&str, &str); 24] = wanted! {
     => "line 3 is \"size = 2,000\"; numbers have no commas";
     "[[store]]\nid = \"A\"\nsize = 2000,\n" => "line 3 is \"size = 2000,\"; no comma ends a line";
     "[[store]]\nid = \"A\"\nsize = 03000\n" => "line 3 is \"size = 03000\"; numbers have no leading zero";
-    "[[store]]\nid = \"A\"\nsize = 3 000\n" => "line 3 is \"size = 3 000\"; a whole number has digits alone";
+    "[[store]]\nid = \"A\"\nsize = 3 000\n"
+    => "line 3 is \"size = 3 000\"; a whole number has digits alone, and \" 000\" follows them";
+    "[[store]]\nsize = 3000 blocks\n"
+    => "line 2 is \"size = 3000 blocks\"; a whole number has digits alone, and \" blocks\" follows them";
+    "[[store]]\nsize = 2 GB # = 3000 blocks\n"
+    => "line 2 is \"size = 2 GB # = 3000 blocks\"; a whole number has digits alone, and \" GB\" follows them";
+    "[[store]]\nsize = 50%\n"
+    => "line 2 is \"size = 50%\"; a whole number has digits alone, and \"%\" follows them";
+    "[[store]]\nsize = 3000/2\r\n"
+    => "line 2 is \"size = 3000/2\"; a whole number has digits alone, and \"/2\" follows them";
+    "[[store]]\nsize = 3'000\n"
+    => "line 2 is \"size = 3'000\"; a whole number has digits alone, and \"'000\" follows them";
+    "[[store]]\nsize = 3000;\n"
+    => "line 2 is \"size = 3000;\"; a whole number has digits alone, and \";\" follows them";
+    "[[store]]\nsize = 3000 -- x\n"
+    => "line 2 is \"size = 3000 -- x\"; a whole number has digits alone, and \" -- x\" follows them";
+    "[[store]]\nsize = 3000-4000\n"
+    => "line 2 is \"size = 3000-4000\"; a whole number has digits alone, and \"-4000\" follows them";
+    "[[store]]\nsize = 2024-13-01\n"
+    => "line 2 is \"size = 2024-13-01\"; a whole number has digits alone, and \"-13-01\" follows them";
+    "[[store]]\nstore size = 3000\n" => "line 2 is \"store size = 3000\"; a key is one word, as size";
+    "[[store]]\nsize (blocks) = 3000\n" => "line 2 is \"size (blocks) = 3000\"; a key is one word, as size";
+    "[[store]]\nsize[MB] = 3000\n" => "line 2 is \"size[MB] = 3000\"; a key is one word, as size";
+    "[[store]]\nid = \"C:\\data\"\n" => "line 2 is \"id = \"C:\\data\"\"; a text has no backslash";
+    "[[store]]\nid = \"A\"\nsize = [3000\nchannel = 0\n"
+    => "line 3 is \"size = [3000\", which does not end what it begins; a value is a number in digits, or a text in \
+        quotes";
+    "[[store]]\nsize = {a = 1\nchannel = 0\n"
+    => "line 2 is \"size = {a = 1\", which does not end what it begins; a value is a number in digits, or a text in \
+        quotes";
+    "[[store]]\nid = \"\"\"A\nsize = 3000\n"
+    => "line 2 is \"id = \"\"\"A\", which does not end what it begins; a value is a number in digits, or a text in \
+        quotes";
+    "[store.HK]\nsize = 4\n[[store]]\nsize = 5\n" => "line 1 is \"[store.HK]\"; write [[store]] above each table";
+    "id = \"A\"\nsize = 4\ntype = \"bounded\"\nchannel = 0\n[[store]]\nid = \"B\"\n"
+    => "the key \"channel\" stands above every table; write [[store]] above it";
+    "store = [\"HK\"]\n"
+    => "element 1 of the list store is no table; write [[store]] above each table, and its keys below";
+    "[[store]]\nid = \"A\"\nsize = 3e3 # blocks\n"
+    => "table 1 of store, \"A\", has size = 3e3; a whole number is expected; write it in digits alone";
+    "store = [{ id = \"A\", size = true }]\n"
+    => "table 1 of store, \"A\", has another value as size; a whole number is expected; write it in digits \
+        alone";
     "[[store]]\nsize = 4\nsize = 5\n" => "line 3 is \"size = 5\"; the name comes twice in its table; leave one out, \
         or begin another table above it";
     "[[store]]\nsize = 4 // blocks\n" => "line 2 is \"size = 4 // blocks\"; a comment begins with #";
@@ -84,7 +128,7 @@ fn faults_of_setups_are_shown(rt: HostRuntime) {
 const SETUP: &str = "[[store]]\nid = \"A\"\nsize = 4\ntype = \"bounded\"\nchannel = 0\n";
 
 // Forecasts that are refused, the fault of each, and what is found in it.
-static FORECASTS: [(&str, Fault, &str); 6] = wanted! {
+static FORECASTS: [(&str, Fault, &str); 14] = wanted! {
     "PK\u{3}\u{4}\u{14}\0\u{6}\0;", Fault::Header
     => "the file is a workbook; save its sheet as a text file: CSV in UTF-8, with commas between the cells";
     "step,window,A\n1,2,\"3\n2,2,3\n", Fault::Cell { row: 1, column: 3 }
@@ -94,9 +138,29 @@ static FORECASTS: [(&str, Fault, &str); 6] = wanted! {
     "step,window,A\r\n1,2,3\r\n\"2\r\n\",2,3\r\n", Fault::Cell { row: 2, column: 1 }
     => "line 3 of the file has a quote that is not closed; numbers need no quotes";
     "step,window,A\n1,2, 3\n2,2,\"3\n", Fault::Cell { row: 1, column: 3 }
-    => "the cell is \" 3\" in line 2 of the file, whose header is line 1";
+    => "row 1 has \" 3\" in the column \"A\", where a whole number is expected; it is line 2 of the file, whose header \
+        is line 1";
+    "\"step\",\"window\",\"A\",limit:3\n1,2,3,4\n\n2,2,3,x\n", Fault::Cell { row: 2, column: 4 }
+    => "row 2 has \"x\" in the column \"limit:3\", where a whole number is expected; it is line 4 of the file, whose \
+        header is line 1";
     "step\twindow\tA\n1\t2\t3\n", Fault::Header
-    => "the header is \"step<tab>window<tab>A\", and \"step,window,A\" is expected";
+    => "tabs separate the cells; save the file with commas";
+    "sep=,\nstep,window,A\n1,2,3\n", Fault::Header
+    => "line 1 is \"sep=,\", which a spreadsheet wrote; delete it, so that the header is line 1";
+    "", Fault::Header
+    => "the file is empty; its first line is \"step,window,A\"; a file to which the output is sent is emptied before \
+        it is read";
+    "step,window\n1,2\n", Fault::Header => "the header has no column 3; \"A\" is expected there";
+    "step,window,A,limit:1,limit:1\n1,2,3,4,5\n", Fault::Header
+    => "column 5 of the header is \"limit:1\"; after the stores can be limit:0 to limit:7 alone, rising";
+    "step,window,store,arrived,lost,dumped,held\n1,2,A,3,0,2,1\n", Fault::Header
+    => "the file holds the table of a plan in place of a forecast";
+    "step,window,A,limit:1\n1,2,3,4\n\n2,2,3,1000001\n", Fault::Limit { name: Name::Limit }
+    => "row 2 has \"1000001\" in the column \"limit:1\", line 4 of the file; 0 to 1000000 can be; plan more in \
+        coarser units: docs/PLANNING.md, 'Limits of scale'";
+    "step,window,A\n1,2,2000000\n", Fault::Limit { name: Name::Arrivals }
+    => "row 1 has \"2000000\" in the column \"A\", line 2 of the file; 0 to 1000000 can be; plan more in coarser \
+        units: docs/PLANNING.md, 'Limits of scale'";
 };
 
 fn forecast_hints(rt: &impl Host, forecast: &str, fault: Fault, hint: &str) {
@@ -114,6 +178,212 @@ fn forecast_hints(rt: &impl Host, forecast: &str, fault: Fault, hint: &str) {
 fn faults_of_forecasts_are_shown(rt: HostRuntime) {
     for (forecast, fault, hint) in &FORECASTS {
         forecast_hints(&rt, forecast, *fault, hint);
+    }
+}
+
+// A header of 16 stores and then a column of limits of no channel, of which the column is named.
+#[test]
+fn the_first_wrong_column_of_a_long_header_is_shown(rt: HostRuntime) {
+    let (mut setup, mut forecast) = (String::new(rt.alloc()), String::new(rt.alloc()));
+    forecast.push_str("step,window").expect(&rt, "memory");
+    for store in 1..17 {
+        let table = "type = \"bounded\"\nchannel = 0\nsize = 4\n";
+        writeln!(&mut setup, "[[store]]\nid = \"RECORD{store}\"\n{table}").expect(&rt, "memory");
+        write!(&mut forecast, ",RECORD{store}").expect(&rt, "memory");
+    }
+    forecast.push_str(",limit:9\n").expect(&rt, "memory");
+    let read = read_problem(rt.alloc(), setup.as_bytes(), forecast.as_bytes());
+    hints(
+        &rt,
+        Reason::of_setup(read.expect_err(&rt, "a fault")),
+        texts_of(setup.as_str(), forecast.as_str(), ""),
+        "column 19 of the header is \"limit:9\"; after the stores can be limit:0 to limit:7 alone, rising",
+    );
+}
+
+#[test]
+fn steps_beyond_the_last_are_shown(rt: HostRuntime) {
+    let mut forecast = String::new(rt.alloc());
+    forecast.push_str("step,window,A\n").expect(&rt, "memory");
+    for step in 1..258 {
+        writeln!(&mut forecast, "{step},2,3").expect(&rt, "memory");
+    }
+    let fault = Fault::Limit { name: Name::Steps };
+    let hint =
+        "there are 257 records after the header; 1 to 256 can be; join steps, such as those between two passes: \
+        docs/PLANNING.md, 'Steps from event to event'";
+    forecast_hints(&rt, forecast.as_str(), fault, hint);
+}
+
+// A setup in which a byte of line 2 is an e with an accent in ISO 8859-1.
+#[test]
+fn a_setup_that_is_not_in_utf8_is_shown(rt: HostRuntime) {
+    let setup = b"[[store]]\nid = \"M\xE9MO\"\n";
+    let fault = Setup::read(rt.alloc(), setup).expect_err(&rt, "a fault");
+    let texts = Texts {
+        setup,
+        ..texts_of("", "", "")
+    };
+    hints(
+        &rt,
+        Reason::of_setup(fault),
+        texts,
+        "line 2 is not in UTF-8; save the file as UTF-8",
+    );
+}
+
+// Plan texts that are refused, the line of each, and what is found in it.
+static PLANS: [(&str, u64, &str); 33] = wanted! {
+    "", 1 => "the file is empty; a plan text begins with mmplan 1, mmplan 2 or mmplan 3";
+    "mmplan 4\n", 1 => "line 1 is \"mmplan 4\"; a plan text begins with mmplan 1, mmplan 2 or mmplan 3";
+    "mmplan 1\nstores\n", 2 => "line 2 has 0 stores; 1 to 16 can be";
+    "mmplan 1\nstores A B C D E F G H I J K L M N O P Q\n", 2 => "line 2 has 17 stores; 1 to 16 can be";
+    "mmplan 1\nstores A b\n", 2
+    => "line 2 has \"b\" as a store; 1 to 8 of the characters A-Z, 0-9, _ and - can be";
+    "mmplan 1\nstore A\n", 2 => "line 2 is \"store A\"; stores and their identifiers are expected";
+    "mmplan 1\nstores A\nloss 0\n", 3 => "line 3 is \"loss 0\"; dump 1 is expected";
+    "mmplan 1\nstores A\ndump 1 2\ndump 3 2\n", 4 => "line 4 is \"dump 3 2\"; dump 2 is expected";
+    "mmplan 1\nstores A\ndump 1 2\n\n", 4 => "line 4 is \"\"; dump 2 or loss is expected";
+    "mmplan 1\nstores A B\ndump 1 2\n", 3 => "line 3 has 1 amounts for 2 stores";
+    "mmplan 1\nstores A B C D E F G H I J K L\ndump 1 0 0 0 0 0 0 0 0 0 0 0 0 0\n", 3
+    => "line 3 has 13 amounts for 12 stores";
+    "mmplan 1\nstores A\ndump 1 1000001\n", 3
+    => "line 3 has \"1000001\" as an amount; 0 to 1000000 can be, without sign or leading zeros";
+    "mmplan 1\nstores A B\ndump 1 2 03\n", 3
+    => "line 3 has \"03\" as an amount; 0 to 1000000 can be, without sign or leading zeros";
+    "mmplan 1\nstores A\ndump 1 2\nloss x\n", 4 => "line 4 is \"loss x\"; loss and a number below 2^64 are expected";
+    "mmplan 1\nstores A\ndump 1 2\nloss 0\nend\n", 5 => "line 5 is \"end\"; stretch or bound is expected";
+    "mmplan 2\nstores A\ndump 1 2\nloss 0\nend\n", 5 => "line 5 is \"end\"; stretch, count or bound is expected";
+    "mmplan 1\nstores A\ndump 1 2\nloss 0\nstretch A 1\n", 5
+    => "line 5 is \"stretch A 1\"; a stretch has a store, its first step and its last step";
+    "mmplan 1\nstores A\ndump 1 2\nloss 0\ncount 1 channels\n", 5
+    => "line 5 is \"count 1 channels\"; only the forms mmplan 2 and mmplan 3 have counts";
+    "mmplan 2\nstores A\ndump 1 2\nloss 0\ncount 1\n", 5
+    => "line 5 is \"count 1\"; a count has a step and the word channels";
+    "mmplan 2\nstores A\ndump 1 2\nloss 0\ncount 1 channels\nstretch A 1 1\n", 6
+    => "line 6 is \"stretch A 1 1\"; stretches stand before counts";
+    "mmplan 2\nstores A\ndump 1 2\nloss 0\nbound 0\nend\n", 5
+    => "line 5 is \"bound 0\"; the form mmplan 2 has a count before its bound; without counts the form is mmplan 1";
+    "mmplan 1\nstores A\ndump 1 2\nloss 0\nbound -0\n", 5
+    => "line 5 is \"bound -0\"; bound and a whole number are expected";
+    "mmplan 1\nstores A\ndump 1 2\nloss 0\nbound 0\nbound 0\n", 6 => "line 6 is \"bound 0\"; end is expected";
+    "mmplan 3\nstores A B\ndump 1 2 2\nloss 0\nbound 0\nend\n", 6 => "line 6 is \"end\"; first 1 is expected";
+    "mmplan 3\nstores A B C\ndump 1 2 2 2\nloss 0\nbound 0\nfirst 1\nloss 0\nbound 0\nfirst 3\n", 9
+    => "line 9 is \"first 3\"; first 2 is expected";
+    "mmplan 3\nstores A B\ndump 1 2 2\nloss 0\nbound 0\nfirst 1\nbound 0\n", 7
+    => "line 7 is \"bound 0\"; loss and a number below 2^64 are expected";
+    "mmplan 3\nstores A B\ndump 1 2 2\nloss 0\nbound 0\nfirst 1\nloss 0\nbound 0\nfirst 2\n", 9
+    => "line 9 is \"first 2\"; end is expected";
+    "mmplan 1\nstores A\ndump 1 2\nloss 0\nbound 0\nend\n\n", 7 => "line 7 is \"\"; nothing comes after end";
+    "mmplan 1\nstores A\ndump 1 2\nloss 0\nbound 0\nend\nnote", 7 => "line 7 is \"note\"; nothing comes after end";
+    "mmplan 1\nstores A\ndump 1 2\nloss 0", 4
+    => "the text ends in line 4; its last line is end, with a line feed";
+    "step,window,store,arrived,lost,dumped,held\n1,2,A,3,0,2,1\n", 1
+    => "the file holds the table of a plan in place of a plan text";
+    "step,window,A\n1,2,3\n", 1 => "the file holds a forecast in place of a plan text";
+    "mmplan 1\nstores A\r\n", 2 => "line 2 ends with CR LF; save the file with LF alone";
+};
+
+// This line of a plan text is refused, with this finding.
+fn plan_hints(rt: &impl Host, plan: &str, line: u64, hint: &str) {
+    let texts = Texts {
+        plan: plan.as_bytes(),
+        ..texts_of(SETUP, "step,window,A\n1,2,3\n", "")
+    };
+    let judged = check_bytes(rt.alloc(), texts.setup, texts.forecast, texts.plan);
+    let reason = Reason::of_texts(judged.expect_err(rt, hint));
+    let is_there = matches!(reason.spot, Spot::Line(refused) if refused == line);
+    assert!(rt; is_there && reason.refusal == Refusal::PlanText, "{hint}");
+    hints(rt, reason, texts, hint);
+}
+
+#[test]
+fn faults_of_plans_are_shown(rt: HostRuntime) {
+    for (plan, line, hint) in &PLANS {
+        plan_hints(&rt, plan, *line, hint);
+    }
+}
+
+// A plan of 257 steps, and one with 257 counts.
+#[test]
+fn lines_beyond_the_most_of_a_plan_are_shown(rt: HostRuntime) {
+    let mut plan = String::new(rt.alloc());
+    plan.push_str("mmplan 2\nstores A\n").expect(&rt, "memory");
+    for step in 1..257 {
+        writeln!(&mut plan, "dump {step} 0").expect(&rt, "memory");
+    }
+    let steps = plan.as_str();
+    let longer = format!(in rt.alloc(); "{steps}dump 257 0\n").expect(&rt, "memory");
+    let hint = "line 259 is \"dump 257 0\"; 256 steps are the most, and loss is expected";
+    plan_hints(&rt, longer.as_str(), 259, hint);
+    plan.push_str("loss 0\n").expect(&rt, "memory");
+    for step in 1..258 {
+        writeln!(&mut plan, "count {step} channels").expect(&rt, "memory");
+    }
+    let hint = "line 516 is \"count 257 channels\"; 256 counts are the most";
+    plan_hints(&rt, plan.as_str(), 516, hint);
+}
+
+// Two stores of 4 blocks; the channel of A has a limit of 1 block a step. Of A arrive 4 blocks in each of two steps.
+const TWO_STORES: &str = "\
+    [[store]]\nid = \"A\"\nsize = 4\ntype = \"bounded\"\nchannel = 0\n\
+    [[store]]\nid = \"B\"\nsize = 4\ntype = \"bounded\"\nchannel = 1\n\
+    [[limit]]\nchannel = 0\nblocks = 1\n";
+
+const TWO_STEPS: &str = "step,window,A,B\n1,2,4,0\n2,2,4,0\n";
+
+// Lines after the steps of a plan that sends 1 block of A in each step, so that 3 blocks are lost: after step 1 A holds
+// 3 blocks, and 4 more come. What `check` finds of them, and the hint.
+static VERDICTS: [(&str, &str, Verdict, &str); 13] = wanted! {
+    "mmplan 1", "loss 1\nbound 3\n", Verdict::LossIs(3)
+    => "line 5 says loss 1; the plan loses 3, which is 2 more";
+    "mmplan 1", "loss 10\nbound 3\n", Verdict::LossIs(3)
+    => "line 5 says loss 10; the plan loses 3, which is 7 less";
+    "mmplan 1", "loss 3\nstretch A 1 1\nstretch C 1 2\nbound 3\n", Verdict::BadStretch(2)
+    => "line 7 is \"stretch C 1 2\"; the setup has no such store";
+    "mmplan 1", "loss 3\nstretch A 0 2\nbound 3\n", Verdict::BadStretch(1)
+    => "line 6 is \"stretch A 0 2\"; the first step is 1";
+    "mmplan 1", "loss 3\nstretch A 2 1\nbound 3\n", Verdict::BadStretch(1)
+    => "line 6 is \"stretch A 2 1\"; its first step is after its last";
+    "mmplan 1", "loss 3\nstretch A 1 3\nbound 3\n", Verdict::BadStretch(1)
+    => "line 6 is \"stretch A 1 3\"; the forecast has 2 steps";
+    "mmplan 1", "loss 3\nstretch A 2 2\nstretch B 1 2\nstretch A 1 2\nbound 3\n", Verdict::BadStretch(3)
+    => "line 8 is \"stretch A 1 2\"; line 6 has a step of it already";
+    "mmplan 2", "loss 3\nstretch A 1 2\ncount 2 channels\nbound 3\n", Verdict::BadCount(1)
+    => "line 7 is \"count 2 channels\"; the step is inner to no stretch, as each of its steps but the last is";
+    "mmplan 2", "loss 3\nstretch A 1 2\ncount 1 channels\ncount 1 channels\nbound 3\n", Verdict::BadCount(2)
+    => "line 8 is \"count 1 channels\"; an earlier count has this step";
+    "mmplan 2", "loss 3\nstretch A 1 2\nstretch B 1 2\ncount 1 channels\nbound 3\n", Verdict::BadCount(1)
+    => "line 8 is \"count 1 channels\"; \"B\" is inner there, and its channel has no limit";
+    "mmplan 1", "loss 3\nstretch A 1 2\nbound 3\n", Verdict::BoundIs(2)
+    => "line 7 says bound 3; the bound of the stretches and counts above it is 2";
+    "mmplan 2", "loss 3\nstretch A 1 2\ncount 1 channels\nbound 4\n", Verdict::BoundIs(3)
+    => "line 8 says bound 4; the bound of the stretches and counts above it is 3";
+    "mmplan 1", "loss 3\nbound 5\n", Verdict::BoundIs(0)
+    => "line 6 says bound 5; the bound of the stretches and counts above it is 0";
+};
+
+fn verdict_hints(rt: &impl Host, [form, after]: [&str; 2], verdict: Verdict, hint: &str) {
+    let alloc = rt.alloc();
+    let front = format!(in alloc; "{form}\nstores A B\ndump 1 1 0\ndump 2 1 0\n").expect(
+        rt, "memory",
+    );
+    let plan = format!(in alloc; "{front}{after}end\n").expect(rt, "memory");
+    let texts = Texts {
+        plan: plan.as_bytes(),
+        ..texts_of(TWO_STORES, TWO_STEPS, "")
+    };
+    let judged = check_bytes(alloc, texts.setup, texts.forecast, texts.plan);
+    let (judged, _line) = judged.expect(rt, hint);
+    assert!(rt; judged == verdict, "{hint}");
+    let found = verdict_hint(alloc, texts, verdict).expect(rt, hint);
+    is_shown(rt, &found, hint);
+}
+
+#[test]
+fn plans_that_are_not_shown_to_lose_least_are_told(rt: HostRuntime) {
+    for (form, after, verdict, hint) in &VERDICTS {
+        verdict_hints(&rt, [form, after], *verdict, hint);
     }
 }
 
@@ -250,8 +520,11 @@ fn an_old_workbook_is_shown(rt: HostRuntime) {
 
 #[test]
 fn a_column_of_a_channel_without_stores_is_noted(rt: HostRuntime) {
-    let texts = texts_of(SETUP, "step,window,A,limit:0,limit:3\n1,2,3,4,5\n", "");
-    let notes = column_notes(rt.alloc(), texts).expect(&rt, "memory");
+    let alloc = rt.alloc();
+    let setup = Setup::read(alloc, SETUP.as_bytes()).expect(&rt, "a setup");
+    let forecast = b"step,window,A,limit:0,limit:3\n1,2,3,4,5\n";
+    let problem = Problem::read(alloc, &setup, forecast).expect(&rt, "a problem");
+    let notes = notes_on(alloc, false, &setup, &problem).expect(&rt, "memory");
     assert!(&rt; notes.len() == 1, "a note on one of two columns");
     for note in &notes {
         is_shown(
@@ -263,9 +536,15 @@ fn a_column_of_a_channel_without_stores_is_noted(rt: HostRuntime) {
 }
 
 // Files of requests, a line of each that is refused, and what is found in it.
-static REQUESTS: [(&[u8], u64, &str); 6] = wanted! {
+static REQUESTS: [(&[u8], u64, &str); 11] = wanted! {
     b"1864\n1 3 0864C000000E200319000000000000000000000000\n", 2
     => "line 2 has a source and a step before the packet, as sources have; write the packet alone";
+    b"1 3 0864C000000E200319000000000000000000000000\n", 1
+    => "the file holds sources of a run in place of packets; leave out the source and the step before each packet";
+    b"# stores\n[[store]]\nid = \"A\"\n", 1 => "the file holds a setup in place of packets";
+    b"mmplan 1\nstores A\n", 1 => "the file holds a plan text in place of packets";
+    b"links 1\nfail 1 3\n", 2 => "the file holds links in place of packets";
+    b"step,window,A\n", 1 => "the file holds a forecast in place of packets";
     b"\xEF\xBB\xBF1864\n", 1
     => "the file begins with a byte order mark; save it in UTF-8 without one";
     b"\xFF\xFE1\08\0\n\0", 2 => "the file is in UTF-16; save it in UTF-8";
@@ -295,10 +574,14 @@ fn faults_of_requests_are_shown(rt: HostRuntime) {
 }
 
 // Whole files that hold something other than packets, and the finding in each.
-static NO_PACKETS: [(&[u8], &str); 2] = wanted! {
+static NO_PACKETS: [(&[u8], &str); 4] = wanted! {
     b"1 3 0864C0\n2 3 0864C0\n"
-    => "the file holds sources in place of packets; leave out the source and the step before each packet";
+    => "the file holds sources of a run in place of packets; leave out the source and the step before each packet";
     b"links 1\n" => "the file holds links in place of packets";
+    b"1864C0000004200F160000\n\n1864C0000004200F160000\r\n"
+    => "line 3 ends with CR LF; save the file with LF alone";
+    b"\xEF\xBB\xBF1864C0000004200F160000\n"
+    => "the file begins with a byte order mark; save it in UTF-8 without one";
 };
 
 fn packets_hints(rt: &impl Host, packets: &[u8], hint: &str) {

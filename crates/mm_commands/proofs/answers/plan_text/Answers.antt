@@ -1,11 +1,11 @@
+use Rattle.std.proofs.Common.{subst}
+use Rattle.mm_planner.specs.PlanTexts.{IsPrintedAs, Shows}
+use Rattle.mm_commands.proofs.Answering.{plans_text}
 use Rattle.mm_commands.proofs.answers.plan_text.Goals as goal
 
-pub returns-then-in_order-clause-plans : goal.returns-then-in_order-clause-plans
-returns-then-in_order-clause-plans c =
-    rw c.if-in_order.true (rw c.deref.ensures.value at rw c.deref-then-in_order.ensures.value at
-    c.plan_in_order_bytes.ensures.text)
-
-pub returns-else-in_order-clause-plans : goal.returns-else-in_order-clause-plans
-returns-else-in_order-clause-plans c =
-    rw c.if-in_order.false (rw c.deref-else-in_order.ensures.value at rw c.deref-else-in_order-2.ensures.value at
-    c.plan_bytes.ensures.text)
+pub returns-clause-plans : goal.returns-clause-plans
+returns-clause-plans c =
+    let q = c.in_ok-problem.field-0.problem in
+    let printed = c.in_ok-printed.printed in
+    plans_text c.args.in_order _ _ q printed c.in_ok-problem.ensures.gives
+    (subst (λ aim. IsPrintedAs (Shows aim) q printed) c.goal_of-goal.ensures.goal c.in_ok-printed.ensures)

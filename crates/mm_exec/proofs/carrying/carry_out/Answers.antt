@@ -1,6 +1,6 @@
 use Rattle.std.proofs.Common.{◌≡◌, ◌∙◌, refl, ap}
-use Rattle.mm_carry.proofs.Words.{labels_of, Holdings, held_as, supplies, run_input}
-use Rattle.mm_carry.proofs.Beyond.{loses_at_most}
+use Rattle.mm_carry.proofs.Words.{labels_of, Holdings, held_as, supplies, run_input, Reported}
+use Rattle.mm_carry.proofs.Beyond.{isolated, loses_at_most}
 use Rattle.mm_carry.proofs.Ended.{total_is, stopped_far}
 use Rattle.mm_exec.proofs.carrying.carry_out.Given as given
 use Rattle.mm_exec.proofs.carrying.carry_out.Goals as goal
@@ -24,7 +24,16 @@ returns-in-Ok-clause-carried_out g c =
     let ran = done lasts lead in
     let m = input (supplies g.S.AnySource.until c.args.sources.items lasts) in
     let total = total_is m c.carry_plan-ended.new.self.report ran.1.done.report_is in
-    (ran.0, record { routes = refl; ran = ran.1; total_lost = total; at_most = loses_at_most m _ _ refl total }))
+    let rows = ap (λ (r : Reported). r.steps) ran.1.done.report_is in (
+      ran.0,
+      record {
+        routes = refl;
+        ran = ran.1;
+        total_lost = total;
+        at_most = loses_at_most m _ _ refl total;
+        isolated = isolated m _ _ ran.1.done.losses rows;
+      },
+    ))
 
 pub returns-in-Err-clause-halted : goal.returns-in-Err-clause-halted
 returns-in-Err-clause-halted g c =

@@ -1,5 +1,5 @@
 use Rattle.std.proofs.Common.{◌∙◌, refl}
-use Rattle.mm_exec.proofs.Headline.{firsts_of, headline_of}
+use Rattle.mm_exec.proofs.Headline.{firsts_at_most_of, firsts_of, headline_of}
 use Rattle.mm_exec.proofs.flying.fly_printed.Goals as goal
 
 pub returns-in-Ok-clause-flown : goal.returns-in-Ok-clause-flown
@@ -14,6 +14,7 @@ returns-in-Ok-clause-flown g c = rw c.with_sheet.ensures (λ aim p lasts lead.
         carried_out = done.1;
         headline = headline_of _ _ p.sheet c.in-Ok.ended.report refl p.plans done.1.total_lost;
         firsts = firsts_of aim p.sheet refl p.besides done.1;
+        firsts_at_most = firsts_at_most_of aim p.sheet refl p.besides done.1;
       },
     ))
 

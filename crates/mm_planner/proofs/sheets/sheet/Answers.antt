@@ -9,4 +9,4 @@ returns c =
     let stores = c.in_ok-stores.ensures in
     subst (IsSheetFor IsPlain q) (sym c.new.ensures)
     (plain_sheet c.cuts_are_few.ensures q c.in_ok-stores.stores.items c.in_ok-planned.planned
-    c.store_ids.ensures.problem stores.ids stores.each c.in_ok-planned.ensures)
+    c.store_ids.ensures.problem stores.ids stores.each c.in_ok-planned.ensures.least)

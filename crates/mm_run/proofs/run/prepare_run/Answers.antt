@@ -1,5 +1,6 @@
 use Rattle.std.proofs.Common.{◌≡◌, length, arith}
 use Rattle.mm_run.specs.Runs.{opened_with}
+use Rattle.mm_run.proofs.NotTaken.{tells_untaken}
 use Rattle.mm_run.proofs.Offered.{within_limits}
 use Rattle.mm_run.proofs.run.prepare_run.Goals as goal
 
@@ -25,4 +26,13 @@ returns-clause-prepared c = record {
   opened = cc c.in_ok-offer_all.ensures;
   plan_is = c.plan_by-plan.ensures;
   counts = rw c.in_ok-printed.ensures.given c.in_ok-opening.ensures.counts;
+  untaken_told = λ table.
+      let start = c.in_ok-start.start in
+      let sides = c.in_ok-opening.field-0 in
+      let memory : c.offer_all.new.memory ≡ opened_with start.memory sides.opening.items =
+      cc c.in_ok-offer_all.ensures in
+      rw (memory, c.in_ok-printed.ensures.given) (tells_untaken _ _ start.problem start.memory
+      c.in_ok-start.ensures.found sides.opening.items sides.sources.items sides.given.unstored
+      c.in_ok-opening.ensures.untaken table);
+  lost_before = rw c.in_ok-printed.ensures.given c.lost_in.ensures;
 }

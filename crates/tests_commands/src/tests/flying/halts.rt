@@ -43,34 +43,96 @@ const EXPECTED: &str =
 
 const NONE_IN_1: &str = "note: no packet was sent in step 1\n";
 
-// From where to plan again.
-const FROM_1: &str = "hint: plan again from step 1; the start of each store is that of the setup\n";
+// Two bounded stores of ten blocks on one channel, each with a report type of its own.
+const TEN_EACH: &str = "\
+    [[store]]\nid = \"X\"\nsize = 10\ntype = \"bounded\"\nchannel = 0\n\n\
+    [[store]]\nid = \"Y\"\nsize = 10\ntype = \"bounded\"\nchannel = 0\n\n\
+    [[route]]\napid = 100\nservice = 3\nsubtype = 25\nstore = \"X\"\n\n\
+    [[route]]\napid = 101\nservice = 3\nsubtype = 25\nstore = \"Y\"\n";
 
-const LESS_IN_1: &str =
-    "hint: plan again from step 1; the start of each store is that of the setup, less what was deleted in step 1\n";
+// Five packets for each of them in a step, of source 1.
+const FIVE_IN_1: &str = "\
+    1 1 0864C000000E200319000000000000000000000000\n1 1 0864C000000E200319000000000000000000000000\n\
+    1 1 0864C000000E200319000000000000000000000000\n1 1 0864C000000E200319000000000000000000000000\n\
+    1 1 0864C000000E200319000000000000000000000000\n1 1 0865C000000E200319000000000000000000000000\n\
+    1 1 0865C000000E200319000000000000000000000000\n1 1 0865C000000E200319000000000000000000000000\n\
+    1 1 0865C000000E200319000000000000000000000000\n1 1 0865C000000E200319000000000000000000000000\n";
 
-const FROM_2: &str =
-    "hint: plan again from step 2; the start of each store is its held of step 1\n";
+const FIVE_IN_2: &str = "\
+    1 2 0864C000000E200319000000000000000000000000\n1 2 0864C000000E200319000000000000000000000000\n\
+    1 2 0864C000000E200319000000000000000000000000\n1 2 0864C000000E200319000000000000000000000000\n\
+    1 2 0864C000000E200319000000000000000000000000\n1 2 0865C000000E200319000000000000000000000000\n\
+    1 2 0865C000000E200319000000000000000000000000\n1 2 0865C000000E200319000000000000000000000000\n\
+    1 2 0865C000000E200319000000000000000000000000\n1 2 0865C000000E200319000000000000000000000000\n";
 
-const LESS_IN_2: &str =
-    "hint: plan again from step 2; the start of each store is its held of step 1, less what was deleted in step 2\n";
+// What is deleted in the halted step also arrived in it.
+const EMPTIED: Run = Run {
+    setup: TEN_EACH,
+    forecast: "step,window,X,Y\n1,10,5,5\n2,10,5,5\n3,0,5,5\n",
+    plan: "mmplan 1\nstores X Y\ndump 1 5 5\ndump 2 5 5\ndump 3 0 0\nloss 0\nbound 0\nend\n",
+    sources: &[FIVE_IN_1],
+    ..FIRST_RUN
+};
+
+// Both stores are full as the halted step begins, and lose all that arrives in it.
+const FILLED: Run = Run {
+    forecast: "step,window,X,Y\n1,0,10,10\n2,10,5,5\n3,0,5,5\n",
+    plan: "mmplan 1\nstores X Y\ndump 1 0 0\ndump 2 5 5\ndump 3 0 0\nloss 10\nbound 0\nend\n",
+    sources: &[FIVE_IN_1, FIVE_IN_1, FIVE_IN_2],
+    ..EMPTIED
+};
+
+const FILLED_HALTED_IN_2: &str = "\
+    step 1 X arrived 10 lost 0 dumped 0 held 10\n\
+    step 1 Y arrived 10 lost 0 dumped 0 held 10\n\
+    total arrived 20 lost 0 dumped 0 held 20\n\
+    halted step 2 46 LinkFailed\n";
+
+// The first run, where the channel of its store has a limit.
+const LIMITED: Run = Run {
+    setup: "\
+        [[store]]\nid = \"SCI\"\nsize = 4\ntype = \"bounded\"\nchannel = 0\n\n\
+        [[limit]]\nchannel = 0\nblocks = 2\n\n\
+        [[route]]\napid = 100\nservice = 3\nsubtype = 25\nstore = \"SCI\"\n",
+    ..FIRST_RUN
+};
 
 // Runs over one link: the send that fails and the store of its packet, the report, and what standard error says after
-// that: what was sent, and from where to plan again.
-static HALTS: [(&Run, (u32, &str), &str, &str, &str); 8] = wanted! {
-    &FIRST_RUN, (1, "SCI"), HALTED_IN_1, NONE_IN_1 => FROM_1;
+// that: what was sent, and after `plan again from step` the step, the window that is left in it, and what the stores
+// hold.
+static HALTS: [(&Run, (u32, &str), &str, &str, &str); 11] = wanted! {
+    &FIRST_RUN, (1, "SCI"), HALTED_IN_1, NONE_IN_1
+    => "1, with a window of 1 in that step and none of its arrivals; start volumes: SCI 3";
     &FIRST_RUN, (2, "SCI"), HALTED_IN_1,
-    "note: 1 packet of SCI was sent in step 1 and is still stored; it would be sent again\n" => FROM_1;
-    &FIRST_RUN, (3, "SCI"), HALTED_IN_2, "note: no packet was sent in step 2\n" => FROM_2;
+    "note: 1 packet of SCI was sent in step 1 and is still stored; it would be sent again\n"
+    => "1, with a window of 0 in that step and none of its arrivals; start volumes: SCI 3";
+    &FIRST_RUN, (3, "SCI"), HALTED_IN_2, "note: no packet was sent in step 2\n"
+    => "2, with a window of 1 in that step and none of its arrivals; start volumes: SCI 4";
     &FIRST_RUN, (4, "SCI"), HALTED_IN_2,
-    "note: 1 packet of SCI was sent in step 2 and is still stored; it would be sent again\n" => FROM_2;
-    &BOTH_IN_TURN, (3, "B"), HALTED_IN_1, "note: 2 packets of A were sent in step 1 and deleted\n" => LESS_IN_1;
+    "note: 1 packet of SCI was sent in step 2 and is still stored; it would be sent again\n"
+    => "2, with a window of 0 in that step and none of its arrivals; start volumes: SCI 4";
+    &LIMITED, (1, "SCI"), HALTED_IN_1, NONE_IN_1
+    => "1, with a window of 1 in that step and none of its arrivals; start volumes: SCI 3; \
+        each limit in that step: less what its channel sent";
+    &BOTH_IN_TURN, (3, "B"), HALTED_IN_1, "note: 2 packets of A were sent in step 1 and deleted\n"
+    => "1, with a window of 1 in that step and none of its arrivals; start volumes: A 0, B 2";
     &BOTH_IN_TURN, (6, "A"), BOTH_HALTED_IN_2,
-    "note: 1 packet of A was sent in step 2 and is still stored; it would be sent again\n" => FROM_2;
-    &BOTH_IN_TURN, (7, "B"), BOTH_HALTED_IN_2, "note: 2 packets of A were sent in step 2 and deleted\n" => LESS_IN_2;
+    "note: 1 packet of A was sent in step 2 and is still stored; it would be sent again\n"
+    => "2, with a window of 2 in that step and none of its arrivals; start volumes: A 2, B 2";
+    &BOTH_IN_TURN, (7, "B"), BOTH_HALTED_IN_2, "note: 2 packets of A were sent in step 2 and deleted\n"
+    => "2, with a window of 1 in that step and none of its arrivals; start volumes: A 0, B 2";
     &BOTH_IN_TURN, (8, "B"), BOTH_HALTED_IN_2,
     "note: 1 packet of B was sent in step 2 and is still stored; it would be sent again\n\
-        note: 2 packets of A were sent in step 2 and deleted\n" => LESS_IN_2;
+        note: 2 packets of A were sent in step 2 and deleted\n"
+    => "2, with a window of 0 in that step and none of its arrivals; start volumes: A 0, B 2";
+    &EMPTIED, (7, "Y"), HALTED_IN_1,
+    "note: 1 packet of Y was sent in step 1 and is still stored; it would be sent again\n\
+        note: 5 packets of X were sent in step 1 and deleted\n"
+    => "1, with a window of 3 in that step and none of its arrivals; start volumes: X 0, Y 5";
+    &FILLED, (7, "Y"), FILLED_HALTED_IN_2,
+    "note: 1 packet of Y was sent in step 2 and is still stored; it would be sent again\n\
+        note: 5 packets of X were sent in step 2 and deleted\n"
+    => "2, with a window of 3 in that step and none of its arrivals; start volumes: X 5, Y 10";
 };
 
 // The links of which this send fails, and what standard error says where it was to send a packet of this store.
@@ -82,7 +144,8 @@ fn links_and_words(
 ) -> (String, String) {
     let links = format!(in rt.alloc(); "links 1\nfail 1 {send}");
     let words = format!(in rt.alloc();
-        "{EXPECTED}note: link 1 failed at its send {send}, a packet of {store}\n{sent}{again}"
+        "{EXPECTED}note: link 1 failed at its send {send}, a packet of {store}\n{sent}\
+        hint: plan again from step {again}\n"
     );
     (links.expect(rt, "memory"), words.expect(rt, "memory"))
 }
@@ -107,47 +170,96 @@ fn a_halted_flight_says_what_was_sent(rt: HostRuntime) {
 }
 
 // Runs in which one of two links fails, or both, whichever takes the first order: the links, and what standard error
-// may say between its first and its last line.
-static EITHER: [(&Run, &str, &[&str], &str); 4] = wanted! {
+// may say after its first line, but for the words before the step of the hint.
+static EITHER: [(&Run, &str, &[(&str, &str)]); 4] = [
     // Of two links the first takes the only order.
-    &FIRST_RUN, "links 2\nfail 1 2\nfail 2 1", &["\
-        note: link 1 failed at its send 2, a packet of SCI\n\
-        note: 1 packet of SCI was sent in step 1 and is still stored; it would be sent again\n"] => FROM_1;
-    &BOTH_IN_TURN, "links 2\nfail 1 1\nfail 2 1", &[
-        "\
-        note: link 1 failed at its send 1, a packet of A\n\
-        note: link 2 failed at its send 1, a packet of B\n\
-        note: no packet was sent in step 1\n",
-        "\
-        note: link 1 failed at its send 1, a packet of B\n\
-        note: link 2 failed at its send 1, a packet of A\n\
-        note: no packet was sent in step 1\n",
-    ] => FROM_1;
-    &BOTH_IN_TURN, "links 2\nfail 1 2\nfail 2 2", &[
-        "\
-        note: link 1 failed at its send 2, a packet of A\n\
-        note: link 2 failed at its send 2, a packet of B\n\
-        note: 2 packets were sent in step 1 and are still stored; they would be sent again\n",
-        "\
-        note: link 1 failed at its send 2, a packet of B\n\
-        note: link 2 failed at its send 2, a packet of A\n\
-        note: 2 packets were sent in step 1 and are still stored; they would be sent again\n",
-    ] => FROM_1;
+    (
+        &FIRST_RUN,
+        "links 2\nfail 1 2\nfail 2 1",
+        &[(
+            "\
+            note: link 1 failed at its send 2, a packet of SCI\n\
+            note: 1 packet of SCI was sent in step 1 and is still stored; it would be sent again\n",
+            "1, with a window of 0 in that step and none of its arrivals; start volumes: SCI 3\n",
+        )],
+    ),
+    (
+        &BOTH_IN_TURN,
+        "links 2\nfail 1 1\nfail 2 1",
+        &[
+            (
+                "\
+                note: link 1 failed at its send 1, a packet of A\n\
+                note: link 2 failed at its send 1, a packet of B\n\
+                note: no packet was sent in step 1\n",
+                "1, with a window of 2 in that step and none of its arrivals; start volumes: A 2, B 2\n",
+            ),
+            (
+                "\
+                note: link 1 failed at its send 1, a packet of B\n\
+                note: link 2 failed at its send 1, a packet of A\n\
+                note: no packet was sent in step 1\n",
+                "1, with a window of 2 in that step and none of its arrivals; start volumes: A 2, B 2\n",
+            ),
+        ],
+    ),
+    (
+        &BOTH_IN_TURN,
+        "links 2\nfail 1 2\nfail 2 2",
+        &[
+            (
+                "\
+                note: link 1 failed at its send 2, a packet of A\n\
+                note: link 2 failed at its send 2, a packet of B\n\
+                note: 2 packets were sent in step 1 and are still stored; they would be sent again\n",
+                "1, with a window of 0 in that step and none of its arrivals; start volumes: A 2, B 2\n",
+            ),
+            (
+                "\
+                note: link 1 failed at its send 2, a packet of B\n\
+                note: link 2 failed at its send 2, a packet of A\n\
+                note: 2 packets were sent in step 1 and are still stored; they would be sent again\n",
+                "1, with a window of 0 in that step and none of its arrivals; start volumes: A 2, B 2\n",
+            ),
+        ],
+    ),
     // The first link fails with its order, or the second one carries out both.
-    &BOTH_IN_TURN, "links 2\nfail 1 1\nfail 2 3", &[
-        "note: link 1 failed at its send 1, a packet of A\nnote: 2 packets of B were sent in step 1 and deleted\n",
-        "note: link 1 failed at its send 1, a packet of B\nnote: 2 packets of A were sent in step 1 and deleted\n",
-        "note: link 2 failed at its send 3, a packet of B\nnote: 2 packets of A were sent in step 1 and deleted\n",
-    ] => LESS_IN_1;
-};
+    (
+        &BOTH_IN_TURN,
+        "links 2\nfail 1 1\nfail 2 3",
+        &[
+            (
+                "\
+                note: link 1 failed at its send 1, a packet of A\n\
+                note: 2 packets of B were sent in step 1 and deleted\n",
+                "1, with a window of 1 in that step and none of its arrivals; start volumes: A 2, B 0\n",
+            ),
+            (
+                "\
+                note: link 1 failed at its send 1, a packet of B\n\
+                note: 2 packets of A were sent in step 1 and deleted\n",
+                "1, with a window of 1 in that step and none of its arrivals; start volumes: A 0, B 2\n",
+            ),
+            (
+                "\
+                note: link 2 failed at its send 3, a packet of B\n\
+                note: 2 packets of A were sent in step 1 and deleted\n",
+                "1, with a window of 1 in that step and none of its arrivals; start volumes: A 0, B 2\n",
+            ),
+        ],
+    ),
+];
 
-// A run prints this report, and standard error says one of these between its first line and this last one.
-fn says_one_of(rt: &impl Host, row: &Run, links: &str, said: &[&str], last: &str) {
+// A run prints this report, and standard error says one of these after its first line.
+fn says_one_of(rt: &impl Host, row: &Run, links: &str, said: &[(&str, &str)]) {
     let script = script_of(rt, row, links);
     let answer = told(rt, &[script.as_str()]);
     let mut is_said = false;
-    for text in said {
-        let words = joined(rt, &[EXPECTED, *text, last]);
+    for (text, again) in said {
+        let words = joined(
+            rt,
+            &[EXPECTED, *text, "hint: plan again from step ", *again],
+        );
         is_said |= answer.err.as_str() == words.as_str();
     }
     holds(rt, links, &answer, is_said && answer.has(HALTED_IN_1, 1));
@@ -155,9 +267,27 @@ fn says_one_of(rt: &impl Host, row: &Run, links: &str, said: &[&str], last: &str
 
 #[test]
 fn each_link_that_failed_is_told(rt: HostRuntime) {
-    for (row, links, said, last) in &EITHER {
-        says_one_of(&rt, *row, *links, *said, *last);
+    for (row, links, said) in &EITHER {
+        says_one_of(&rt, *row, *links, *said);
     }
+}
+
+// The rest of a halted run is planned as its hint says: the store that still holds ten blocks sends three, and has no
+// room for two of the five that come.
+#[test]
+fn the_rest_of_a_halted_run_is_planned(rt: HostRuntime) {
+    let script = "\
+        plan S F\n=== S\n\
+        [[store]]\nid = \"X\"\nsize = 10\ntype = \"bounded\"\nchannel = 0\nstart = 5\n\n\
+        [[store]]\nid = \"Y\"\nsize = 10\ntype = \"bounded\"\nchannel = 0\nstart = 10\n\n\
+        [[route]]\napid = 100\nservice = 3\nsubtype = 25\nstore = \"X\"\n\n\
+        === F\nstep,window,X,Y\n1,3,0,0\n2,0,5,5\n";
+    let answer = told(&rt, &[script]);
+    let is_planned = answer
+        .out
+        .as_str()
+        .contains("\ndump 1 0 3\ndump 2 0 0\nloss 2\n");
+    holds(&rt, script, &answer, is_planned);
 }
 
 // Tests before the run fail, and nothing is said of a step.

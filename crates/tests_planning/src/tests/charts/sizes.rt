@@ -30,7 +30,8 @@ pub(crate) fn most_lost(rt: &impl Runtime) -> String {
     text.expect(rt, "memory")
 }
 
-static LARGE: [&str; 9] = [
+static LARGE: [&str; 10] = [
+    "<svg xmlns='http://www.w3.org/2000/svg' version='1.1' viewBox='0 0 1100 1468'",
     "<text class='h' x='16' y='30'>4,096,000,000 of 4,096,000,016 blocks are lost, and no plan loses fewer</text>",
     "<text class='s' x='172' y='379'>channel 7: 1,000,000 a step</text>",
     "<text class='n' x='172' y='1134'>WIDE-_16</text>",
@@ -51,9 +52,10 @@ fn sixteen_stores_and_256_steps_are_drawn(rt: HostRuntime) {
     has_texts(&rt, chart.as_str(), &LARGE);
 }
 
-const ONE_STEP: &str = "step,window,A\n1,1,3\n";
+pub(crate) const ONE_STEP: &str = "step,window,A\n1,1,3\n";
 
-const TOO_LATE: &str = "mmplan 1\nstores A\ndump 1 1\nloss 2\nstretch A 1 1\nbound 2\nend\n";
+pub(crate) const TOO_LATE: &str =
+    "mmplan 1\nstores A\ndump 1 1\nloss 2\nstretch A 1 1\nbound 2\nend\n";
 
 static SMALL: [&str; 7] = [
     "<text class='h' x='16' y='30'>2 of 3 blocks are lost, and no plan loses fewer</text>",

@@ -1,12 +1,12 @@
-//! Charts with the worths of windows and limits, with wide limits, and with the losses of many stores.
+//! Charts with the worths of windows, limits and sizes, with wide limits, and with the losses of many stores.
 use crate::tests::charts::samples::{has_lines, has_texts, text_of};
 use crate::tests::charts::sizes::WIDE;
 use crate::tests::samples::{A_LIMITED, ONE_STORE_OF_A, Runtime, TWO_STEPS_OF_A};
-use crate::tests::worths::{LIMITS_BY_STEP, ONE_STORE};
+use crate::tests::worths::{EIGHT_STEPS, LIMITS_BY_STEP, ONE_STORE, THREE_STORES};
 use mm_planner::{plan_bytes, plan_in_order_bytes};
 use mm_sensitivity::worth_chart_bytes;
 
-// The chart of the least plan with the worths of its windows and limits.
+// The chart of the least plan with the worths of its windows, limits and sizes.
 fn worth_chart_of(rt: &impl Runtime, setup: &str, forecast: &str) -> String {
     let (setup_text, forecast) = (setup.as_bytes(), forecast.as_bytes());
     let plan = plan_bytes(rt.alloc(), setup_text, forecast).expect(rt, "a plan");
@@ -15,12 +15,16 @@ fn worth_chart_of(rt: &impl Runtime, setup: &str, forecast: &str) -> String {
 }
 
 // Of the table of `worths`: one block more in step 1 saves one, a higher limit of the setup none. No window saves one.
-// The bar stands on the row of the channel, which begins at 174 - 18, and is 8 high.
-static ONE_STEP_WORTH: [&str; 4] = [
+// A larger store saves 4. The bar stands on the row of the channel, which begins at 174 - 18, and is 8 high; the row of
+// the store begins at 222 - 32.
+static ONE_STEP_WORTH: [&str; 6] = [
     "<path class='q' d='M180 156V148H276V156V156'/>",
     "<text class='s' x='172' y='155'>saves up to 1</text>",
     "<text class='w' x='16' y='538'>In no step: no wider window saves a block by itself.</text>",
-    " y='558'>What one higher limit saves at most, for all steps or for one, stands above its channel's row.<",
+    "<text class='s' x='172' y='189'>saves up to 4</text>",
+    " y='558'>What one larger store saves at most stands above its name: nothing where it saves none.<",
+    " y='578'>What one higher limit saves at most, for all steps or for one, stands above its channel's row: nothing \
+    where it saves none.<",
 ];
 
 // The limit of 1 lets 1 of 3 blocks leave before 3 more come to a store of 3. A higher one lets all of them leave: 2
@@ -60,6 +64,73 @@ fn the_most_is_told_of_many_ranges(rt: HostRuntime) {
     has_lines(&rt, chart.as_str(), &SEVEN_RANGES);
 }
 
+const LIMIT_AND_WINDOW: &str =
+    "[[store]]\nid = \"A\"\nsize = 3\ntype = \"bounded\"\nchannel = 0\n[[store]]\nid = \"B\"\nsize = 4\ntype = \
+    \"bounded\"\nchannel = 1\n[[limit]]\nchannel = 0\nblocks = 1\n";
+
+const THREE_AND_FOUR: &str = "step,window,A,B\n1,5,3,0\n2,0,3,0\n3,0,0,4\n4,0,0,4\n";
+
+// The limit of 1 lets 1 of the first 3 blocks leave A, so that 2 of the next 3 are lost; a higher one saves both. No
+// block leaves B before the second 4 come; a window of step 3 saves up to 4. In one scale of 8 for 4 blocks these are 4
+// and 8. The bar of the windows stands on 144 - 32, that of the channel on 174 - 18. Larger stores save the same: 2 and
+// 4, above rows that begin at 222 - 32 and 270 - 32.
+static ONE_SCALE: [&str; 8] = [
+    "<text class='h' x='16' y='30'>6 of 14 blocks are lost, and no plan loses fewer</text>",
+    "<path class='q' d='M372 112V104H468V112V112'/>",
+    "<text class='s' x='172' y='111'>saves up to 4</text>",
+    "<path class='q' d='M180 156V152H276H372H468H564V156'/>",
+    "<text class='s' x='172' y='155'>saves up to 2</text>",
+    "<text class='s' x='172' y='189'>saves up to 2</text>",
+    "<text class='s' x='172' y='237'>saves up to 4</text>",
+    "<rect class='q' x='730' y='62' width='12' height='12'/><text class='t' x='746' y='72'>saved by a wider window or \
+    a higher limit (one scale)</text>",
+];
+
+#[test]
+fn windows_and_limits_have_one_scale(rt: HostRuntime) {
+    let chart = worth_chart_of(&rt, LIMIT_AND_WINDOW, THREE_AND_FOUR);
+    has_lines(&rt, chart.as_str(), &ONE_SCALE);
+}
+
+// Where no larger window, limit or store saves a block by itself, no row says that one saves up to 0, and no key says
+// what its colour means. A store of the largest size is full from the start, and loses the block of step 1 whatever can
+// leave after that.
+#[test]
+fn what_saves_nothing_has_no_words_in_the_rows(rt: HostRuntime) {
+    let setup =
+        "[[store]]\nid = \"A\"\nsize = 1000000\nstart = 1000000\ntype = \"bounded\"\nchannel = 0\n[[limit]]\nchannel = \
+        0\nblocks = 1\n";
+    let chart = worth_chart_of(&rt, setup, "step,window,A\n1,1,1\n");
+    let headline =
+        "<text class='h' x='16' y='30'>1 of 1,000,001 blocks are lost, and no plan loses fewer</text>";
+    has_lines(&rt, chart.as_str(), &[headline]);
+    has_texts(
+        &rt,
+        chart.as_str(),
+        &["no wider window saves a block by itself"],
+    );
+    let says = chart.contains("saves up to")
+        || chart.contains("saved by")
+        || chart.contains("class='q'");
+    assert!(rt; !says);
+}
+
+// The sizes of the table of `worths`: a larger CAM saves 3, a larger SPEC 2, a larger HK none. Their rows begin at
+// 160, 208 and 256.
+static SIZE_WORTHS: [&str; 3] = [
+    "<text class='s' x='172' y='159'>saves up to 3</text>",
+    "<text class='s' x='172' y='207'>saves up to 2</text>",
+    "<text class='w' x='16' y='624'>What one larger store saves at most stands above its name: nothing where it saves \
+    none.</text>",
+];
+
+#[test]
+fn sizes_are_worth_what_the_table_says(rt: HostRuntime) {
+    let chart = worth_chart_of(&rt, THREE_STORES, EIGHT_STEPS);
+    has_lines(&rt, chart.as_str(), &SIZE_WORTHS);
+    assert!(rt; !chart.contains("y='255'>saves"), "a larger HK saves none");
+}
+
 const WIDE_LIMITS: &str = "step,window,A,limit:0\n1,5,3,1000000\n2,0,3,12345\n";
 
 // At most 27 characters of 12 units stand left of the row, for which there are 172 units.
@@ -75,15 +146,16 @@ const TWO_COME: &str =
     WIDE-_9,WIDE-_10,WIDE-_11,WIDE-_12,WIDE-_13,WIDE-_14,WIDE-_15,WIDE-_16\n\
     1,0,2,2,2,2,2,2,2,2,2,2,2,2,2,2,2,2\n";
 
-// Each store is full, and loses the 2 blocks that come. Below 16 stores and 8 limits the words begin at 1,188.
+// Each store is full, and loses the 2 blocks that come. Below 16 stores and 8 limits the words begin at 1,188. The
+// names take lines 11 and 12, and line 13 is empty.
 static FOUR_LINES: [&str; 6] = [
-    "<text class='b' x='16' y='1448'>In the setup's order: what each store and those before it lose. No plan loses \
+    "<text class='b' x='16' y='1468'>In the setup's order: what each store and those before it lose. No plan loses \
     fewer of them.</text>",
-    "<text class='w' x='16' y='1468'>Up to each store: WIDE-_1 (2) WIDE-_2 (4) WIDE-_3 (6) WIDE-_4 (8)</text>",
-    "<text class='w' x='32' y='1488'> WIDE-_5 (10) WIDE-_6 (12) WIDE-_7 (14) WIDE-_8 (16)</text>",
-    "<text class='w' x='32' y='1508'> WIDE-_9 (18) WIDE-_10 (20) WIDE-_11 (22) WIDE-_12 (24)</text>",
-    "<text class='w' x='32' y='1528'> WIDE-_13 (26) WIDE-_14 (28) WIDE-_15 (30) WIDE-_16 (32)</text>",
-    "viewBox='0 0 1100 1568'",
+    "<text class='w' x='16' y='1488'>Up to each store: WIDE-_1 (2) WIDE-_2 (4) WIDE-_3 (6) WIDE-_4 (8)</text>",
+    "<text class='w' x='32' y='1508'> WIDE-_5 (10) WIDE-_6 (12) WIDE-_7 (14) WIDE-_8 (16)</text>",
+    "<text class='w' x='32' y='1528'> WIDE-_9 (18) WIDE-_10 (20) WIDE-_11 (22) WIDE-_12 (24)</text>",
+    "<text class='w' x='32' y='1548'> WIDE-_13 (26) WIDE-_14 (28) WIDE-_15 (30) WIDE-_16 (32)</text>",
+    "viewBox='0 0 1100 1588'",
 ];
 
 #[test]

@@ -1,7 +1,7 @@
 use Rattle.std.proofs.Common.{◌≡◌, ℕ, ◌+◌, ◌-◌, ◌≤◌, [], length, get_or, arith, refl, rules}
-use Rattle.std.proofs.lemmas.List.Elements.{All-from_get_or}
+use Rattle.std.proofs.lemmas.List.Elements.{All-from_get_or, All-push}
 use Rattle.mm_run.specs.declared.source.TheConstants.{MAX_PACKETS}
-use Rattle.mm_run.specs.Sources.{source_lines_of}
+use Rattle.mm_run.specs.Sources.{IsSourceLine, source_lines_of}
 use Rattle.mm_run.proofs.Counting.{added_last}
 use Rattle.mm_run.proofs.sources.SourceFile.read_noting.Goals as goal
 
@@ -15,6 +15,7 @@ loop-front-init c = record {
   start = refl;
   fewer = omega arith;
   counts = c.requires.counts;
+  ranged = λ k d within. absurd (omega (arith, within));
 }
 
 pub loop-front-preserved : goal.loop-front-preserved
@@ -30,6 +31,8 @@ loop-front-preserved c =
       start = search rules;
       fewer = omega (arith, c.note.ensures.within);
       counts = rw (added_last _ now.earlier added.0 d added.1) (c.note.ensures.counts now.earlier now.counts);
+      ranged = rw (added_last _ now.earlier added.0 d added.1) (All-push IsSourceLine now.earlier d now.ranged
+          c.in_ok-source_line.ensures.in_range);
     }
 
 pub returns-clause-few : goal.returns-clause-few

@@ -1,7 +1,7 @@
-use Rattle.std.proofs.Common.{◌≡◌, ◌+◌, ◌<◌, ◌≤◌, List, length}
+use Rattle.std.proofs.Common.{◌≡◌, ◌+◌, ◌<◌, ◌≤◌, All, List, length}
 use Rattle.mm_run.specs.declared.sources.SourceLine.{SourceLine}
 use Rattle.mm_base.specs.Lines.{file_lines}
-use Rattle.mm_run.specs.Sources.{with_lines, source_lines_of}
+use Rattle.mm_run.specs.Sources.{IsSourceLine, with_lines, source_lines_of}
 use Rattle.mm_run.specs.Drafts.{IsRead}
 use Rattle.mm_run.specs.Counted.{HasCounted, all_unstored}
 use Rattle.mm_run.proofs.sources.SourceFile.read_noting.Given as goal
@@ -15,6 +15,7 @@ invariant-loop-front l = record {
   start : l.count.start ≡ l.fn.count.start;
   fewer : all_unstored l.count.unstored < l.line;
   counts : HasCounted l.count earlier;
+  ranged : All IsSourceLine earlier;
 }
 
 abbrev pub decreases-loop-front : goal.decreases-loop-front

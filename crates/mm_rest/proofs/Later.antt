@@ -1,0 +1,230 @@
+-- The rest of a problem after a step of a plan, step by step.
+use Rattle.std.proofs.Common.{◌≡◌, ◌∙◌, ◌+◌, ◌-◌, ◌*◌, ◌<◌, ◌≤◌, ◌==◌, ℕ, zero, suc, nat_le, nat_lt, Bool, true}
+use Rattle.std.proofs.Common.{false, cond, List, ◌∷◌, Some, None}
+use Rattle.std.proofs.Common.{refl, sym, ap, ap₂, arith, drop, filter, get_or, length, length-drop, map, min}
+use Rattle.std.specs.List.{position_or_len, sum_by, range_with_len}
+use Rattle.std.proofs.lemmas.Bool.Decides.{nat_tests}
+use Rattle.std.proofs.lemmas.List.{get_or-drop}
+use Rattle.std.proofs.lemmas.List.FromFn.{get_or-map-range_with_len, length-map-range_with_len}
+use Rattle.mm_base.specs.Grid.{cell}
+use Rattle.mm_base.specs.declared.rows.StoreRow.{StoreRow}
+use Rattle.mm_base.proofs.RangeSums.{sum_by_range_more, sum_by_range_same}
+use Rattle.mm_base.proofs.Sums.{sum_by-add}
+use Rattle.mm_problem.specs.Dumping.{Dumping, arrivals, is_of, lesser, limit, no_row}
+use Rattle.mm_problem.specs.Dumping.{row, setup_limit, size, stores, stores_of, window}
+use Rattle.mm_problem.specs.Rest.{rest_of, starting_with}
+use Rattle.mm_plan.specs.Fit.{Fits, in_step}
+use Rattle.mm_plan.specs.Least.{IsLeast}
+use Rattle.mm_plan.specs.Volumes.{Amounts, left, loss, lost, written}
+use Rattle.mm_plan.proofs.Steps.{left_same, left_start, left_step, written_same}
+use Rattle.mm_rest.specs.Laws.{SameUntil, joined, later, loss_until}
+use Rattle.mm_rest.specs.Rests.{held_after, rest_after}
+
+-- ---- tables
+
+-- a cell of the steps after a step
+later_cell : (L n s t : ℕ) (cells : List ℕ) → 1 ≤ t → cell L (drop (n * L) cells) s t ≡ cell L cells s (n + t)
+later_cell L n s t cells first =
+    let place : n * L + ((t - 1) * L + s) ≡ (n + t - 1) * L + s =
+    let past : n + t - 1 ≡ n + (t - 1) = omega arith in rw past (omega arith) in
+    get_or-drop (n * L) cells ((t - 1) * L + s) 0 ∙ ap (λ i. get_or cells i 0) place
+
+-- ---- sums
+
+-- what is summed up to a step, and after it
+sums_add_up : (f : ℕ → ℕ) (n m : ℕ)
+    → sum_by f (range_with_len 1 (n + m)) ≡ sum_by f (range_with_len 1 n) + sum_by (λ t. f (n + t)) (range_with_len 1 m)
+sums_add_up f n zero = let same : n + 0 ≡ n = omega arith in rw same (omega arith)
+sums_add_up f n (suc m) =
+    let more : n + suc m ≡ n + m + 1 = omega arith in
+    let one : suc m ≡ m + 1 = omega arith in
+    let all : sum_by f (range_with_len 1 (n + suc m)) ≡ sum_by f (range_with_len 1 (n + m)) + f (n + (m + 1)) =
+    ap (λ k. sum_by f (range_with_len 1 k)) more ∙ sum_by_range_more f 1 (n + m) (n + (m + 1)) (omega arith) in
+    let after : sum_by (λ t. f (n + t)) (range_with_len 1 (suc m))
+    ≡ sum_by (λ t. f (n + t)) (range_with_len 1 m) + f (n + (m + 1)) =
+    ap (λ k. sum_by (λ t. f (n + t)) (range_with_len 1 k)) one
+    ∙ sum_by_range_more (λ t. f (n + t)) 1 m (m + 1) (omega arith) in
+    omega (arith, all, after, sums_add_up f n m)
+
+-- ---- ranges
+
+map_range_same : {A : Type 0} (f g : ℕ → A) (a m : ℕ) → ((s : ℕ) → a ≤ s → s < a + m → f s ≡ g s)
+    → map f (range_with_len a m) ≡ map g (range_with_len a m)
+map_range_same f g a zero same = refl
+map_range_same f g a (suc m) same = ap₂ (λ x xs. x ∷ xs) (same a (omega arith) (omega arith))
+    (map_range_same f g (a + 1) m (λ s low high. same s (omega arith) (omega arith)))
+
+filter_range_same : (p r : ℕ → Bool) (a m : ℕ) → ((s : ℕ) → a ≤ s → s < a + m → p s ≡ r s)
+    → filter p (range_with_len a m) ≡ filter r (range_with_len a m)
+filter_range_same p r a zero same = refl
+filter_range_same p r a (suc m) same = ap₂ (λ b xs. cond b (a ∷ xs) xs) (same a (omega arith) (omega arith))
+    (filter_range_same p r (a + 1) m (λ s low high. same s (omega arith) (omega arith)))
+
+module _ (q : Dumping) (x : Amounts) (n : ℕ) where
+  -- ---- the stores
+
+  as_many : length (rest_after q x n).rows ≡ length q.rows
+  as_many = length-map-range_with_len
+      (λ s. starting_with (get_or q.rows s no_row) (get_or (held_after q x n) s 0)) 0 (length q.rows)
+
+  row_at : (s : ℕ) → s < length q.rows → row (rest_after q x n) s ≡ starting_with (row q s) (left q x s n)
+  row_at s store =
+      get_or-map-range_with_len (λ s. starting_with (get_or q.rows s no_row) (get_or (held_after q x n) s 0)) 0
+      (length q.rows) s s no_row store (omega arith)
+      ∙ ap (starting_with (get_or q.rows s no_row))
+      (get_or-map-range_with_len (λ s. left q x s n) 0 (length q.rows) s s 0 store (omega arith))
+
+  arrivals_at : (s t : ℕ) → 1 ≤ t → arrivals (rest_after q x n) s t ≡ arrivals q s (n + t)
+  arrivals_at s t first = ap (λ L. cell L (drop (n * length q.rows) q.arrived) s t) as_many
+      ∙ later_cell (length q.rows) n s t q.arrived first
+
+  -- ---- volumes
+
+  module _ (s : ℕ) (store : s < length q.rows) where
+    size_at : size (rest_after q x n) s ≡ size q s
+    size_at = ap (λ (r : StoreRow). r.size) (row_at s store)
+
+    written_from : (k : ℕ) → left (rest_after q x n) (later n x) s k ≡ left q x s (n + k)
+        → written (rest_after q x n) (later n x) s (suc k) ≡ written q x s (n + suc k)
+    written_from k before =
+        let here : suc k - 1 ≡ k = omega arith in
+        let past : n + suc k - 1 ≡ n + k = omega arith in
+        ap₂ min (ap₂ (λ a b. a + b)
+        (ap (left (rest_after q x n) (later n x) s) here ∙ before ∙ sym (ap (left q x s) past))
+        (arrivals_at s (suc k) (omega arith))) size_at
+
+    -- what is left is what is left in the rest
+    left_at : (k : ℕ) → left (rest_after q x n) (later n x) s k ≡ left q x s (n + k)
+    left_at zero =
+        let same : n + 0 ≡ n = omega arith in
+        left_start (rest_after q x n) (later n x) s ∙ ap (λ (r : StoreRow). r.start) (row_at s store)
+        ∙ sym (ap (left q x s) same)
+    left_at (suc k) =
+        let stands = written_from k (left_at k) in
+        left_step (rest_after q x n) (later n x) s k (suc k) (omega arith)
+        ∙ ap (λ w. w - min (x s (n + suc k)) w) stands
+        ∙ sym (left_step q x s (n + k) (n + suc k) (omega arith))
+
+    -- and so is what is lost
+    lost_at : (t : ℕ) → 1 ≤ t → lost (rest_after q x n) (later n x) s t ≡ lost q x s (n + t)
+    lost_at zero first = absurd (omega arith)
+    lost_at (suc k) first =
+        let here : suc k - 1 ≡ k = omega arith in
+        let past : n + suc k - 1 ≡ n + k = omega arith in
+        ap₂ (λ a b. a - b) (ap₂ (λ a b. a + b)
+        (ap (left (rest_after q x n) (later n x) s) here ∙ left_at k ∙ sym (ap (left q x s) past))
+        (arrivals_at s (suc k) first)) (written_from k (left_at k))
+
+  -- ---- losses
+
+  fewer_steps : n ≤ length q.windows → n + length (rest_after q x n).windows ≡ length q.windows
+  fewer_steps before = omega (arith, length-drop n q.windows)
+
+  -- what a plan loses up to a step, and in the rest
+  pub losses : n ≤ length q.windows → loss q x ≡ loss_until n q x + loss (rest_after q x n) (later n x)
+  losses before =
+      let m = length (rest_after q x n).windows in
+      let until = λ (s : ℕ). sum_by (lost q x s) (range_with_len 1 n) in
+      let after = λ (s : ℕ). sum_by (lost (rest_after q x n) (later n x) s) (range_with_len 1 m) in
+      let each : (s : ℕ) → 0 ≤ s → s < 0 + length q.rows → sum_by (lost q x s) (range_with_len 1 (length q.windows))
+      ≡ until s + after s = λ s low high.
+      let store : s < length q.rows = omega arith in
+      ap (λ k. sum_by (lost q x s) (range_with_len 1 k)) (sym (fewer_steps before))
+      ∙ sums_add_up (lost q x s) n m
+      ∙ ap (λ k. until s + k) (sym (sum_by_range_same (lost (rest_after q x n) (later n x) s) (λ t. lost q x s (n + t))
+      1 m
+      (λ t first last. lost_at s store t first))) in
+      sum_by_range_same _ (λ s. until s + after s) 0 (length q.rows) each
+      ∙ sum_by-add until after (stores q)
+      ∙ ap (λ k. loss_until n q x + sum_by after (range_with_len 0 k)) (sym as_many)
+
+  -- ---- windows and limits
+
+  window_at : (t : ℕ) → 1 ≤ t → window (rest_after q x n) t ≡ window q (n + t)
+  window_at t first =
+      let place : n + (t - 1) ≡ n + t - 1 = omega arith in
+      get_or-drop n q.windows (t - 1) 0 ∙ ap (λ i. get_or q.windows i 0) place
+
+  limit_at : (c t : ℕ) → 1 ≤ t → limit (rest_after q x n) c t ≡ limit q c (n + t)
+  limit_at c t first =
+      let column = position_or_len (λ k. k == c) q.limited in
+      ap (λ v. cond (nat_lt c (length q.limits)) (lesser (setup_limit q c)
+      (cond (nat_lt column (length q.limited)) (Some v) None)) None)
+      (later_cell (length q.limited) n column t q.step_limits first)
+
+  stores_of_at : (c : ℕ) → stores_of (rest_after q x n) c ≡ stores_of q c
+  stores_of_at c = ap (λ L. filter (is_of (rest_after q x n) c) (range_with_len 0 L)) as_many
+      ∙ filter_range_same (is_of (rest_after q x n) c) (is_of q c) 0 (length q.rows) (λ s low high.
+      let store : s < length q.rows = omega arith in
+      ap (λ (r : StoreRow). r.channel == c) (row_at s store))
+
+  -- the later amounts of a plan that fits do
+  fits_rest : n ≤ length q.windows → (y : Amounts) → Fits q y → Fits (rest_after q x n) (later n y)
+  fits_rest before y fits t first last =
+      let whole = fits (n + t) (omega arith) (omega (arith, fewer_steps before)) in
+      let sums = ap (λ L. sum_by (in_step y (n + t)) (range_with_len 0 L)) as_many in
+      record {
+        windowed = omega (arith, sums, window_at t first, whole.windowed);
+        limited = λ c b is.
+            let all = ap (sum_by (in_step y (n + t))) (stores_of_at c) in
+            omega (arith, all, whole.limited c b (sym (limit_at c t first) ∙ is));
+      }
+
+-- ---- plans that are the same up to a step
+
+left_alike : (q : Dumping) (x y : Amounts) (n : ℕ) → SameUntil q n x y → (s : ℕ) → s < length q.rows
+    → (t : ℕ) → t ≤ n → left q y s t ≡ left q x s t
+left_alike q x y n same s store t within =
+    left_same q x y s t (λ u low high. same s u store low (omega arith))
+
+lost_alike : (q : Dumping) (x y : Amounts) (n : ℕ) → SameUntil q n x y → (s : ℕ) → s < length q.rows
+    → (t : ℕ) → t ≤ n → lost q y s t ≡ lost q x s t
+lost_alike q x y n same s store t within =
+    let stands = written_same q x y s t (λ u low high. same s u store low (omega arith)) in
+    ap₂ (λ a b. a + arrivals q s t - b) (left_alike q x y n same s store (t - 1) (omega arith)) stands
+
+-- they lose the same up to it
+until_alike : (q : Dumping) (x y : Amounts) (n : ℕ) → SameUntil q n x y → loss_until n q y ≡ loss_until n q x
+until_alike q x y n same = sum_by_range_same _ _ 0 (length q.rows) (λ s low high.
+    let store : s < length q.rows = omega arith in
+    sum_by_range_same (lost q y s) (lost q x s) 1 n (λ t first last. lost_alike q x y n same s store t (omega arith)))
+
+-- and leave the same
+rest_alike : (q : Dumping) (x y : Amounts) (n : ℕ) → SameUntil q n x y → rest_after q y n ≡ rest_after q x n
+rest_alike q x y n same = ap (rest_of q n) (map_range_same (λ s. left q y s n) (λ s. left q x s n) 0 (length q.rows)
+    (λ s low high.
+    let store : s < length q.rows = omega arith in
+    let last : n ≤ n = omega arith in
+    left_alike q x y n same s store n last))
+
+-- all that they lose is the same where they are the same in all steps
+loss_alike : (q : Dumping) (x y : Amounts) → SameUntil q (length q.windows) x y → loss q y ≡ loss q x
+loss_alike q x y same = until_alike q x y (length q.windows) same
+
+-- ---- a plan that is made anew
+
+joined_until : (n : ℕ) (x z : Amounts) (s t : ℕ) → t ≤ n → joined n x z s t ≡ x s t
+joined_until n x z s t within =
+    let test : nat_le t n ≡ true = grind (arith, nat_tests) in
+    ap (λ b. cond b (x s t) (z s (t - n))) test
+
+joined_after : (n : ℕ) (x z : Amounts) (s t : ℕ) → 1 ≤ t → later n (joined n x z) s t ≡ z s t
+joined_after n x z s t first =
+    let test : nat_le (n + t) n ≡ false = grind (arith, nat_tests) in
+    let place : n + t - n ≡ t = omega arith in
+    ap (λ b. cond b (x s (n + t)) (z s (n + t - n))) test ∙ ap (z s) place
+
+-- a least plan for the rest, after the first steps, loses no more than any plan with these
+pub least_after : (q : Dumping) (x z : Amounts) (n : ℕ) → n ≤ length q.windows → IsLeast (rest_after q x n) z
+    → (y : Amounts) → Fits q y → SameUntil q n (joined n x z) y → loss q (joined n x z) ≤ loss q y
+least_after q x z n before least y fits same =
+    let whole = joined n x z in
+    let begun : rest_after q whole n ≡ rest_after q x n =
+    rest_alike q x whole n (λ s t store first last. joined_until n x z s t last) in
+    let own : loss (rest_after q whole n) (later n whole) ≡ loss (rest_after q x n) z =
+    ap (λ r. loss r (later n whole)) begun
+    ∙ loss_alike (rest_after q x n) z (later n whole) (λ s t store first last. joined_after n x z s t first) in
+    let other : loss (rest_after q y n) (later n y) ≡ loss (rest_after q x n) (later n y) =
+    ap (λ r. loss r (later n y)) (rest_alike q whole y n same ∙ begun) in
+    let fewest = least.least (later n y) (fits_rest q x n before y fits) in
+    omega (arith, losses q whole n before, losses q y n before, until_alike q whole y n same, own, other, fewest)

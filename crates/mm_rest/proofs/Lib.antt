@@ -1,0 +1,7 @@
+pub mod Ranges
+pub mod Csv
+pub mod ForecastReads
+pub mod Fronts
+pub mod SetupReads
+pub mod RestReads
+pub mod Later

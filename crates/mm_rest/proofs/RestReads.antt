@@ -1,0 +1,100 @@
+-- The rest of a problem after a step of a plan, and what its texts say.
+use Rattle.std.proofs.Common.{◌≡◌, ◌∙◌, ◌+◌, ◌<◌, ◌≤◌, ◌&&◌, ℕ, zero, suc, Bool, true, List, [], ◌∷◌, Ok, refl, sym}
+use Rattle.std.proofs.Common.{ap, ap₂, subst}
+use Rattle.std.proofs.Common.{arith, get_or, length, map}
+use Rattle.std.specs.Prelude.{Contains}
+use Rattle.std.specs.List.{list_all, range_with_len}
+use Rattle.std.proofs.lemmas.Bool.Decides.{nat_tests}
+use Rattle.std.proofs.lemmas.List.FromFn.{get_or-map-range_with_len, length-map-range_with_len}
+use Rattle.mm_base.specs.declared.rows.StoreRow.{StoreRow}
+use Rattle.mm_problem.specs.Document.{setup_of}
+use Rattle.mm_problem.specs.Dumping.{Dumping, IsDumping, no_row, size, stores}
+use Rattle.mm_problem.specs.Forecast.{limits_of}
+use Rattle.mm_problem.specs.Laws.{ReadsForecasts}
+use Rattle.mm_problem.specs.ReadableForecast.{forecast_of}
+use Rattle.mm_problem.specs.Records.{records_of}
+use Rattle.mm_problem.specs.Rest.{rest_from, rows_from, starting_with, starts_fit}
+use Rattle.mm_problem.specs.Setup.{AreStores, IsSetup, SetupRows}
+use Rattle.mm_problem.specs.Texts.{SaysProblem, problem_in}
+use Rattle.mm_plan.specs.Volumes.{Amounts, left}
+use Rattle.mm_rest.specs.Rests.{held_after, rest_after, setup_from}
+use Rattle.mm_rest.proofs.ForecastReads.{by_place}
+
+-- ---- the start volumes fit
+
+-- a store holds at most its size
+pub left_fits : (q : Dumping) (x : Amounts) (s n : ℕ) → IsDumping q → s < length q.rows → left q x s n ≤ size q s
+unfolding left
+left_fits q x s zero is store = (is.stores.each s no_row store).start
+left_fits q x s (suc n) is store = omega arith
+
+all_of_range : (p : ℕ → Bool) (a n : ℕ) → ((s : ℕ) → a ≤ s → s < a + n → p s ≡ true)
+    → list_all p (range_with_len a n) ≡ true
+all_of_range p a zero each = refl
+all_of_range p a (suc n) each = ap₂ (λ b c. b && c) (each a (omega arith) (omega arith))
+    (all_of_range p (a + 1) n (λ s low high. each s (omega arith) (omega arith)))
+
+pub held_fits : (q : Dumping) (x : Amounts) (n : ℕ) → IsDumping q → starts_fit q.rows (held_after q x n) ≡ true
+held_fits q x n is = all_of_range _ 0 (length q.rows) (λ s low high.
+    let store : s < length q.rows = omega arith in
+    let held : get_or (held_after q x n) s 0 ≡ left q x s n =
+    get_or-map-range_with_len (λ s. left q x s n) 0 (length q.rows) s s 0 store (omega arith) in
+    let fits = left_fits q x s n is store in
+    rw held (grind (arith, nat_tests)))
+
+pub as_many_held : (q : Dumping) (x : Amounts) (n : ℕ) → length (held_after q x n) ≡ length q.rows
+as_many_held q x n = length-map-range_with_len (λ s. left q x s n) 0 (length q.rows)
+
+-- and so the rest is there
+pub rest_is : (q : Dumping) (x : Amounts) (n : ℕ) (held : List ℕ) → IsDumping q → held ≡ held_after q x n
+    → rest_from q n held ≡ Ok (rest_after q x n)
+unfolding rest_from
+rest_is q x n held is same = rw (same, held_fits q x n is) refl
+
+-- ---- the setup
+
+map-map : {A B C : Type 0} (f : B → C) (g : A → B) (xs : List A) → map f (map g xs) ≡ map (λ x. f (g x)) xs
+map-map f g [] = refl
+map-map f g (x ∷ xs) = ap (λ ys. f (g x) ∷ ys) (map-map f g xs)
+
+-- the stores keep their identifiers
+ids_kept : (rows : List StoreRow) (starts : List ℕ)
+    → map (λ (r : StoreRow). r.id) (rows_from rows starts) ≡ map (λ (r : StoreRow). r.id) rows
+ids_kept rows starts =
+    map-map (λ (r : StoreRow). r.id) (λ s. starting_with (get_or rows s no_row) (get_or starts s 0))
+    (range_with_len 0 (length rows))
+    ∙ sym (map-map (λ (r : StoreRow). r.id) (λ s. get_or rows s no_row) (range_with_len 0 (length rows)))
+    ∙ sym (ap (map (λ (r : StoreRow). r.id)) (by_place no_row rows))
+
+-- the rows of the setup are within all ranges
+pub is_setup : (m : SetupRows) (starts : List ℕ) → IsSetup m → AreStores (rows_from m.stores starts)
+    → IsSetup (setup_from m starts)
+is_setup m starts is stores = record {
+  stores = stores;
+  routes = record {
+    at_most = is.routes.at_most;
+    each = λ k d within. record {
+      apid = (is.routes.each k d within).apid;
+      store = subst (λ ids. Contains ids (get_or m.routes k d).store) (sym (ids_kept m.stores starts))
+          (is.routes.each k d within).store;
+    };
+    once = is.routes.once;
+  };
+  limits = is.limits;
+}
+
+-- ---- the texts
+
+-- the texts of the rest say it
+pub rest_said : (m : SetupRows) (q : Dumping) (x : Amounts) (n : ℕ) (setup forecast : List ℕ) → ReadsForecasts
+    → q.rows ≡ m.stores → q.limits ≡ limits_of m.limits → IsSetup (setup_from m (held_after q x n))
+    → IsDumping (rest_after q x n) → setup_of setup ≡ Ok (setup_from m (held_after q x n))
+    → records_of forecast ≡ forecast_of (rest_after q x n) → SaysProblem setup forecast (rest_after q x n)
+unfolding problem_in
+rest_said m q x n setup forecast law rows limits is within said records =
+    rw said ((law (setup_from m (held_after q x n)) is forecast (rest_after q x n)).1 (record {
+      rows = ap (λ rs. rows_from rs (held_after q x n)) rows;
+      limits = limits;
+      records = records;
+      within = within;
+    }))

@@ -1,0 +1,4 @@
+pub mod Forecasts
+pub mod Documents
+pub mod Rests
+pub mod Laws

@@ -1,0 +1,11 @@
+//! What is left of a dumping problem after a step of a plan, and its texts.
+#![tactic(auto)]
+
+mod document;
+mod forecast;
+pub mod laws;
+mod rest;
+
+pub use document::print_setup;
+pub use forecast::print_forecast;
+pub use rest::{RestTexts, held_after, rest_after, rest_texts};
