@@ -1,7 +1,7 @@
 /* Rudlayog: the memory with its storage service in C. dist/portable made this file of the proved library; do not change it by hand.
  * portable/README.md says how to compile it, and docs/TRUST.md what stands unproved between the proof and it.
  *
- * Sources: 5a7ce416b574c400c6c0c27f06063654b7adf5ff8cbc131b56cac6a0c3cbe91b
+ * Sources: 77c5a6a7ab8b5d64048e100a842ac7df626be3e41ba950e3e67c7425db179025
  * Toolchain: rattle-kit-13b logic dac8208d650f15bf
  *
  * SPDX-License-Identifier: MIT OR Apache-2.0
@@ -731,7 +731,9 @@ RUD_EACH void rud_store32(u8 *to, u32 it) {
 #endif
 
 #if RUD_TYPED
-#define rud_load64(from) (*(const rud_u64 *)(from))
+/* No macro: gcc passes an argument by the type that it was read with, and on Arm one of 64 bits without alignment goes
+ * elsewhere than where the function expects it. */
+RUD_INLINE u64 rud_load64(const u8 *from) { return *(const rud_u64 *)from; }
 #else
 RUD_EACH u64 rud_load64(const u8 *from) {
 #if RUDLAYOG_SWAPPED

@@ -269,7 +269,9 @@ RUD_EACH void rud_store32(u8 *to, u32 it) {
 
 @rud_load64
 #if RUD_TYPED
-#define rud_load64(from) (*(const rud_u64 *)(from))
+/* No macro: gcc passes an argument by the type that it was read with, and on Arm one of 64 bits without alignment goes
+ * elsewhere than where the function expects it. */
+RUD_INLINE u64 rud_load64(const u8 *from) { return *(const rud_u64 *)from; }
 #else
 RUD_EACH u64 rud_load64(const u8 *from) {
 #if RUDLAYOG_SWAPPED
