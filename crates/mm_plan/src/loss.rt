@@ -6,6 +6,7 @@ ghost use Rattle.mm_plan.specs.Table.{amount, HasShape};
 ghost use Rattle.mm_plan.specs.Volumes.{store_loss, loss, first_loss};
 
 use crate::plan::Plan;
+use crate::turn::turn;
 use mm_base::MAX_STORES;
 use mm_problem::Problem;
 
@@ -17,14 +18,15 @@ pub fn store_loss(problem: &Problem, plan: &Plan, store: usize) -> u64
     ensures loss { result ≡ store_loss problem.now (amount plan.now) store }
     ensures most { result ≤ 2 * MAX_BLOCKS * MAX_STEPS }
 {
-    let size = problem.size(store);
+    let come = problem.come();
     let mut left = problem.start(store);
     let mut lost: u64 = 0;
     for step in 1..problem.steps() + 1 {
-        let coming = left + problem.arrivals(store, step);
-        let written = coming.min(size);
-        lost += u64::from(coming - written);
-        left = written - plan.amount(store, step).min(written);
+        let there = left + problem.arrivals(store, step);
+        let size = problem.size(store, step);
+        let volumes = turn(come, size, there, plan.amount(store, step));
+        lost += u64::from(volumes.lost);
+        left = volumes.left;
     }
     lost
 }

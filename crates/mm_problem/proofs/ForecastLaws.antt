@@ -16,7 +16,7 @@ use Rattle.mm_base.specs.declared.numbers.Numeral.TheVariants.{NotNumber, TooLar
 use Rattle.mm_base.specs.declared.rows.LimitRow.{LimitRow}
 use Rattle.mm_base.specs.declared.rows.StoreRow.{StoreRow}
 use Rattle.mm_problem.specs.Cells.{amount_from, amount_of, step_from}
-use Rattle.mm_problem.specs.Dumping.{AreSteps, AreStepLimits, IsLimit, AreChannels}
+use Rattle.mm_problem.specs.Dumping.{AreSteps, AreColumns, IsLimit, AreChannels}
 use Rattle.mm_problem.specs.Forecast.{Steps, cell_of, cells_from, amounts_in, next_step, steps_in, no_steps, some_steps, later_steps, limited_in, forecast_in, limit_of, limits_of}
 use Rattle.mm_base.specs.Numbers.{numeral_of}
 use Rattle.mm_base.specs.Reading.{test}
@@ -191,7 +191,7 @@ forecast_parts stores header rows steps h =
     })
 
 -- the steps of a forecast that is read are those of a problem
-pub forecast_fits : (stores : List StoreRow) (rows : List Fields) (steps : Steps) → forecast_in stores rows ≡ Ok steps → AreSteps stores steps.windows steps.arrived × AreStepLimits steps.windows steps.limited steps.step_limits
+pub forecast_fits : (stores : List StoreRow) (rows : List Fields) (steps : Steps) → forecast_in stores rows ≡ Ok steps → AreSteps stores steps.windows steps.arrived × AreColumns CHANNELS steps.windows steps.limited steps.step_limits
 unfolding forecast_in
 forecast_fits stores [] steps h = absurd (cc)
 forecast_fits stores (header ∷ rows) steps h =
@@ -208,10 +208,10 @@ forecast_fits stores (header ∷ rows) steps h =
       },
       record {
         at_most = columns.at_most;
-        each_channel = columns.each;
+        each_column = columns.each;
         rising = columns.rising;
         table = fit.limit_table;
-        each_limit = fit.each_limit;
+        each_cell = fit.each_limit;
       },
     )
 

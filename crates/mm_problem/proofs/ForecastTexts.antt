@@ -5,13 +5,16 @@ use Rattle.std.specs.Prelude.{All}
 use Rattle.std.specs.Fmt.{decimal}
 use Rattle.std.specs.List.{AllZip, AllByRecursion, range_with_len}
 use Rattle.std.proofs.lemmas.Bool.Decides.{Decides-eqb, nat_tests}
-use Rattle.std.proofs.lemmas.List.{append-nil, length-map, drop_at, drop_more, drop_all, take_all, length-take-le, take-append-drop, drop-drop, get_or-take, get_or-drop}
+use Rattle.std.proofs.lemmas.List.{nil_from_length, append-nil, length-map, drop_at, drop_more, drop_all, take_all, length-take-le, take-append-drop, drop-drop, get_or-take, get_or-drop}
 use Rattle.std.proofs.lemmas.Simd.{map-map}
 use Rattle.std.proofs.lemmas.List.Elements.{recursion_from_All, All-head, All-tail, All-take, All-drop}
 use Rattle.std.proofs.lemmas.List.FromFn.{fill_by_all}
 use Rattle.std.proofs.Math.Seq.{take-append_seam}
 use Rattle.mm_base.specs.declared.limits.TheConstants.{MAX_STEPS, MAX_BLOCKS}
 use Rattle.mm_base.specs.Grid.{cell}
+use Rattle.mm_problem.specs.declared.come.Arrivals.{Arrivals}
+use Rattle.mm_problem.specs.declared.come.Arrivals.TheVariants.{Before}
+use Rattle.mm_problem.specs.declared.fault.Fault.{Fault}
 use Rattle.mm_problem.specs.Dumping.{Dumping, window, steps, IsDumping}
 use Rattle.mm_problem.specs.ReadableForecast.{limit_text, record_of, IsReadableForecast}
 use Rattle.mm_problem.specs.Forecast.{Steps, header_of, cell_of, cells_from, amounts_in, next_step, steps_in, no_steps, some_steps, forecast_in, limits_of, problem_of}
@@ -20,6 +23,7 @@ use Rattle.mm_problem.specs.declared.fault.Name.TheVariants as name
 use Rattle.mm_problem.specs.Records.{Fields, records_of}
 use Rattle.mm_problem.specs.Setup.{SetupRows, IsSetup}
 use Rattle.mm_problem.proofs.ColumnLaws.{limited_said, limited_read}
+use Rattle.mm_problem.proofs.DataLaws.{no_columns}
 use Rattle.mm_problem.proofs.ForecastLaws.{IsNextStep, next_step_said, amounts_fit, cells_count, forecast_parts, forecast_fits, channels_fit}
 use Rattle.mm_base.proofs.IdFields.{Decides-nat_le}
 use Rattle.mm_base.proofs.NumberTexts.{IsNumeral, numeral_printed, printed_numeral}
@@ -272,7 +276,17 @@ module _ (q : Dumping) (arrived : length q.arrived ≡ length q.windows * length
 
 -- the problem of a setup with these steps
 abbrev problem_with : SetupRows → Steps → Dumping
-problem_with setup s = record { rows = setup.stores; limits = limits_of setup.limits; windows = s.windows; arrived = s.arrived; limited = s.limited; step_limits = s.step_limits }
+problem_with setup s = record {
+  rows = setup.stores;
+  limits = limits_of setup.limits;
+  windows = s.windows;
+  arrived = s.arrived;
+  limited = s.limited;
+  step_limits = s.step_limits;
+  sized = [];
+  step_sizes = [];
+  come = Before;
+}
 
 -- the records of a forecast: the header, and one of each step
 abbrev all_rows : Dumping → List Fields
@@ -305,7 +319,14 @@ forecast_said setup is octets q h =
       rows = refl;
       limits = refl;
       records = forecast_printed setup (records_of octets) read are ∙ ap (λ r. (header_of setup.stores ++ map limit_text read.limited) ∷ r) spelled;
-      within = record { stores = is.stores; steps = fit.0; channels = channels_fit setup.limits is.limits.each; by_step = fit.1 };
+      within = record {
+        stores = is.stores;
+        steps = fit.0;
+        channels = channels_fit setup.limits is.limits.each;
+        by_step = fit.1;
+        sizes = no_columns (length setup.stores) read.windows;
+      };
+      flyable = record { before = refl; one_size = refl };
     })
 
 -- the records of a problem are read as its steps
@@ -315,11 +336,16 @@ forecast_in_read q is =
     let steps = is.steps in
     let own = is.by_step in
     rw (
-      limited_read q.rows q.limited own.at_most own.each_channel own.rising,
+      limited_read q.rows q.limited own.at_most own.each_column own.rising,
       steps_read (length q.rows) q.windows q.arrived q.step_limits (no_steps q.limited) (omega (arith, steps.at_most)) steps.each_window
-          (record { long = steps.table; each = steps.each_arrival }) (record { long = own.table; each = own.each_limit }),
+          (record { long = steps.table; each = steps.each_arrival }) (record { long = own.table; each = own.each_cell }),
       (Decides-nat_le 1 (length q.windows)).1 steps.has_step,
     ) refl
+
+-- the problem with its own sizes and arrivals
+plain_is : (q : Dumping) (sized step_sizes : List ℕ) (come : Arrivals) → q.sized ≡ sized → q.step_sizes ≡ step_sizes
+    → q.come ≡ come → record q { sized = sized; step_sizes = step_sizes; come = come } ≡ q
+plain_is q sized step_sizes come stores sizes when = rw (← stores, ← sizes, ← when) refl
 
 -- the forecast of a problem, spelled out, is read as the problem
 pub forecast_read : (setup : SetupRows) (octets : List ℕ) (q : Dumping) → IsReadableForecast setup octets q → problem_of setup octets ≡ Ok q
@@ -328,4 +354,6 @@ forecast_read setup octets q h =
     let spelled : records_of octets ≡ all_rows q =
     h.records ∙ ap (λ r. (header_of q.rows ++ map limit_text q.limited) ∷ r) (sym (all_spelled q h.within.steps.table h.within.by_step.table)) in
     let read = ap (λ s. forecast_in s (records_of octets)) (sym h.rows) ∙ ap (forecast_in q.rows) spelled ∙ forecast_in_read q h.within in
-    rw (read, ← h.rows, ← h.limits) refl
+    let none : q.step_sizes ≡ [] = nil_from_length q.step_sizes (
+        h.within.sizes.table ∙ ap (λ sized. length q.windows * length sized) h.flyable.one_size ∙ omega arith) in
+    rw (read, ← h.rows, ← h.limits) (ap (λ p. Ok p) (plain_is q [] [] Before h.flyable.one_size none h.flyable.before))

@@ -14,3 +14,4 @@ pub mod DataLaws
 pub mod RestLaws
 pub mod StepTables
 pub mod Limits
+pub mod StepSizes

@@ -2,6 +2,7 @@
 use Rattle.std.specs.Prelude.{ℕ, ◌+◌, Bool, true, false, ◌==◌, nat_le, nat_lt, ◌&&◌, List, [], ◌∷◌, ◌++◌, length, map}
 use Rattle.std.specs.Prelude.{take, drop, Option, option_map, find, Result, Ok, Err, codes, slice_index_or, bytes_eq}
 use Rattle.std.specs.List.{list_all, range_with_len}
+use Rattle.mm_problem.specs.declared.come.Arrivals.TheVariants.{Before}
 use Rattle.mm_problem.specs.declared.fault.Fault.{Fault}
 use Rattle.mm_problem.specs.declared.fault.Fault.TheVariants.{ForecastText, Header, Limit}
 use Rattle.mm_problem.specs.declared.fault.Name.{Name}
@@ -159,4 +160,7 @@ problem_of setup octets = do
     arrived = steps.arrived;
     limited = steps.limited;
     step_limits = steps.step_limits;
+    sized = [];
+    step_sizes = [];
+    come = Before;
   })

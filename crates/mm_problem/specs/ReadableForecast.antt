@@ -3,7 +3,7 @@ use Rattle.std.specs.Prelude.{◌≡◌, ℕ, List, ◌∷◌, ◌++◌, length,
 use Rattle.std.specs.Fmt.{decimal}
 use Rattle.std.specs.List.{range_with_len}
 use Rattle.mm_base.specs.Grid.{cell}
-use Rattle.mm_problem.specs.Dumping.{Dumping, window, arrivals, stores, steps, IsDumping}
+use Rattle.mm_problem.specs.Dumping.{Dumping, window, arrivals, stores, steps, IsDumping, IsFlyable}
 use Rattle.mm_problem.specs.Forecast.{header_of, limits_of}
 use Rattle.mm_problem.specs.Records.{Fields, records_of}
 use Rattle.mm_problem.specs.Setup.{SetupRows}
@@ -31,3 +31,4 @@ pub record IsReadableForecast (setup : SetupRows) (octets : List ℕ) (q : Dumpi
   pub limits : q.limits ≡ limits_of setup.limits
   pub records : records_of octets ≡ forecast_of q
   pub within : IsDumping q
+  pub flyable : IsFlyable q

@@ -58,6 +58,19 @@ impl StepTable {
             step_limits,
         })
     }
+
+    // The same table once more.
+    pub(crate) fn copy(&self, alloc: Global) -> Result<StepTable, AllocError>
+        ensures steps { IfOk result (λ s. steps_of s ≡ steps_of self.now) }
+    {
+        StepTable::of(
+            alloc,
+            &self.windows,
+            &self.arrived,
+            &self.limited,
+            &self.step_limits,
+        )
+    }
 }
 
 // A cell of a record. Cells count from 0.

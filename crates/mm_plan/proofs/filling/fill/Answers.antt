@@ -20,7 +20,7 @@ pub loop-step-preserved : goal.loop-step-preserved
 loop-step-preserved c = record {
   shape = c.use_rest.ensures.shape;
   places = omega arith;
-  done = done_more c.args.problem.now (amount c.args.plan.now) (amount c.loop-step.filled) (amount c.lower_to_written.new.plan) (amount c.use_rest.new.plan) c.loop-step.step c.loop-step.left c.use_rest.new.left (omega arith) (omega arith) c.loop-step.invariant.done c.lower_to_written.ensures.others c.lower_to_written.ensures.lowered c.use_rest.ensures.filled;
+  done = done_more c.args.problem.now (amount c.args.plan.now) (amount c.loop-step.filled) (amount c.lower_to_written.new.plan) (amount c.use_rest.new.plan) c.loop-step.step c.loop-step.left c.use_rest.new.left c.hold.new.left (omega arith) (omega arith) c.loop-step.invariant.done c.lower_to_written.ensures.others c.lower_to_written.ensures.lowered c.use_rest.ensures.filled c.hold.ensures;
 }
 
 pub returns-clause-fits : goal.returns-clause-fits

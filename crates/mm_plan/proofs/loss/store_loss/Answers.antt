@@ -1,8 +1,10 @@
-use Rattle.std.proofs.Common.{◌≡◌, ◌+◌, ◌-◌, refl, sym, ◌∙◌, arith}
+use Rattle.std.proofs.Common.{◌≡◌, ◌+◌, ◌-◌, refl, sym, ap, ◌∙◌, arith}
 use Rattle.mm_plan.specs.Table.{amount}
-use Rattle.mm_plan.specs.Volumes.{Amounts, lost}
+use Rattle.mm_plan.specs.Volumes.{Amounts, left, lost}
+use Rattle.mm_plan.specs.Tabled.{volumes}
+use Rattle.mm_plan.specs.declared.turn.StepVolumes.{StepVolumes}
 use Rattle.mm_base.proofs.RangeSums.{sum_by_range_more}
-use Rattle.mm_plan.proofs.Steps.{left_step, left_start}
+use Rattle.mm_plan.proofs.Steps.{left_step, left_start, left_size, step_balance}
 use Rattle.mm_plan.proofs.loss.store_loss.Goals as goal
 
 pub loop-step-init : goal.loop-step-init
@@ -19,11 +21,26 @@ loop-step-preserved c =
     let before : c.loop-step.step - 1 + 1 ≡ c.loop-step.step = omega arith in
     let from_one : 1 + (c.loop-step.step - 1) ≡ c.loop-step.step = omega arith in
     let x : Amounts = amount c.args.plan.now in
-    let step = left_step c.args.problem.now x c.args.store (c.loop-step.step - 1) c.loop-step.step before in
+    let q = c.args.problem.now in
+    let s = c.args.store in
+    let t = c.loop-step.step in
+    let kept = left_step q x s (t - 1) t before in
+    let now : c.turn-volumes.result ≡ volumes q x s t = c.turn-volumes.ensures ∙ rw (
+      kept,
+      c.come-come.ensures,
+      c.size-size.ensures.size,
+      c.loop-step.invariant.left,
+      c.arrivals.ensures.arrivals,
+      c.amount.ensures.amount,
+    ) refl in
+    let is_left : c.turn-volumes.result.left ≡ left q x s t = ap (λ (v : StepVolumes). v.left) now in
+    let is_lost : c.turn-volumes.result.lost ≡ lost q x s t = ap (λ (v : StepVolumes). v.lost) now in
+    let fits = left_size q x s (t - 1) t before in
+    let balance = step_balance q x s (t - 1) t before in
     let more = rw before at (sum_by_range_more (lost c.args.problem.now x c.args.store) 1 (c.loop-step.step - 1) c.loop-step.step from_one) in
     record {
-      left = rw here (cc);
-      held = omega arith;
-      lost = rw here (cc);
-      most = omega arith;
+      left = rw here is_left;
+      held = omega (arith, is_left, fits, c.size-size.ensures.most, c.size-size.ensures.size);
+      lost = rw here (omega (arith, more, is_lost, c.loop-step.invariant.lost));
+      most = omega (arith, is_lost, balance, c.loop-step.invariant.left, c.arrivals.ensures.arrivals);
     }

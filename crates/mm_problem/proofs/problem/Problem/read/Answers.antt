@@ -1,5 +1,7 @@
+use Rattle.std.proofs.Common.{length}
 use Rattle.mm_problem.specs.Records.{records_of}
 use Rattle.mm_problem.specs.StepLists.{steps_of}
+use Rattle.mm_problem.proofs.DataLaws.{no_columns}
 use Rattle.mm_problem.proofs.ForecastLaws.{forecast_fits, channels_fit}
 use Rattle.mm_problem.proofs.problem.Problem.read.Goals as goal
 
@@ -12,4 +14,6 @@ invariant_of-result c =
       steps = rw c.in_ok-rows.ensures.items fit.0;
       channels = rw (c.limits_of-limits.ensures, c.limits.ensures.rows) (channels_fit c.args.setup.now.limits setup.limits.each);
       by_step = fit.1;
+      sizes = rw (c.none.ensures.sized, c.none.ensures.step_sizes, c.in_ok-rows.ensures.items)
+          (no_columns (length c.stores-stores.result.now) c.in_ok-steps.steps.windows.items);
     }

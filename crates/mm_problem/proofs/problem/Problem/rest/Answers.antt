@@ -1,8 +1,9 @@
 use Rattle.std.proofs.Common.{◌≡◌, length, true, ap, sym, ◌∙◌}
 use Rattle.std.proofs.lemmas.List.{take_rest}
+use Rattle.mm_base.specs.declared.limits.TheConstants.{CHANNELS}
 use Rattle.mm_base.proofs.ReadingSteps.{test_ok}
 use Rattle.mm_problem.specs.Rest.{starts_fit}
-use Rattle.mm_problem.proofs.RestLaws.{rest_within, are_stores, are_steps, are_step_limits}
+use Rattle.mm_problem.proofs.RestLaws.{rest_within, as_many_rows, are_stores, are_steps, are_columns}
 use Rattle.mm_problem.proofs.StepTables.{are_numbers}
 use Rattle.mm_problem.proofs.problem.Problem.rest.Goals as goal
 
@@ -20,6 +21,13 @@ later-step_limits-requires c =
     (rest_within (length own.steps.windows.items) (length own.steps.limited.items) c.args.step
     own.steps.step_limits.items
     c.self.invariant.by_step.table (rw (← c.self.view_is) at c.requires.before_last))
+
+pub later-step_sizes-requires : goal.later-step_sizes-requires
+later-step_sizes-requires c =
+    let own = c.self.inside in
+    rw (c.as_slice-sized.ensures.value, c.deref-4.ensures.value)
+    (rest_within (length own.steps.windows.items) (length own.sizes.sized.items) c.args.step own.sizes.step_sizes.items
+    c.self.invariant.sizes.table (rw (← c.self.view_is) at c.requires.before_last))
 
 pub invariant_of-result : goal.invariant_of-result
 invariant_of-result c =
@@ -42,9 +50,15 @@ invariant_of-result c =
       c.deref-3.ensures.value,
       take_rest steps.windows.items step,
     ) at c.in_ok-steps.ensures.steps in
+    let of_stores = c.in_ok-sizes.ensures.sized ∙ c.as_slice-sized.ensures.value in
+    let numbers = rw (c.later-step_sizes.ensures, c.as_slice-sized.ensures.value, c.deref-4.ensures.value)
+    at c.in_ok-sizes.ensures.step_sizes in
+    let by_store = are_columns (length rows) steps.windows.items own.sizes.sized.items own.sizes.step_sizes.items step
+    is.sizes in
     rw (c.in_ok-rows.ensures.rows, c.as_slice-stores.ensures.value)
-    (are_numbers _ own.limits c.in_ok-steps.steps _ table
+    (are_numbers _ own.limits c.in_ok-steps.steps _ c.in_ok-sizes.sizes _ _ own.come table of_stores numbers
     (are_stores rows starts is.stores fit)
     (are_steps rows starts steps.windows.items steps.arrived.items step is.steps before_last)
     is.channels
-    (are_step_limits steps.windows.items steps.limited.items steps.step_limits.items step is.by_step))
+    (are_columns CHANNELS steps.windows.items steps.limited.items steps.step_limits.items step is.by_step)
+    (rw (as_many_rows rows starts) by_store))
