@@ -115,7 +115,7 @@ module _ (q : Dumping) where
           (All-map IsPlain (λ (r : StoreRow). id_text r.id) q.rows
           (All-from_get_or (λ (r : StoreRow). IsPlain (id_text r.id)) q.rows no_row
           (λ s within. id_plain (id_text (row q s).id) (fields s within).text)))
-          (All-map IsPlain limit_text q.limited (λ k d within. limit_plain _ (is.by_step.each_channel k d within))),
+          (All-map IsPlain limit_text q.limited (λ k d within. limit_plain _ (is.by_step.each_column k d within))),
     )
 
     step_row : (t : ℕ) → t < 2 ^ 64 → IsRow (record_of q t)
@@ -126,7 +126,7 @@ module _ (q : Dumping) where
           (All-map IsPlain (λ s. decimal (arrivals q s t)) (stores q)
           (λ k d below. small q.arrived (grid_place (length q.rows) t _) is.steps.each_arrival))
           (All-map IsPlain (λ k. decimal (column_limit q k t)) (columns q)
-          (λ k d below. small q.step_limits (grid_place (length q.limited) t _) is.by_step.each_limit)),
+          (λ k d below. small q.step_limits (grid_place (length q.limited) t _) is.by_step.each_cell)),
     )
 
     -- each record is one

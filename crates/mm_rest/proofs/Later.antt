@@ -11,12 +11,12 @@ use Rattle.mm_base.specs.declared.rows.StoreRow.{StoreRow}
 use Rattle.mm_base.proofs.RangeSums.{sum_by_range_more, sum_by_range_same}
 use Rattle.mm_base.proofs.Sums.{sum_by-add}
 use Rattle.mm_problem.specs.Dumping.{Dumping, arrivals, is_of, lesser, limit, no_row}
-use Rattle.mm_problem.specs.Dumping.{row, setup_limit, size, stores, stores_of, window}
+use Rattle.mm_problem.specs.Dumping.{row, setup_limit, size, size_column, stores, stores_of, window}
 use Rattle.mm_problem.specs.Rest.{rest_of, starting_with}
 use Rattle.mm_plan.specs.Fit.{Fits, in_step}
 use Rattle.mm_plan.specs.Least.{IsLeast}
-use Rattle.mm_plan.specs.Volumes.{Amounts, left, loss, lost, written}
-use Rattle.mm_plan.proofs.Steps.{left_same, left_start, left_step, written_same}
+use Rattle.mm_plan.specs.Volumes.{Amounts, left, left_by, loss, lost, lost_by, there}
+use Rattle.mm_plan.proofs.Steps.{left_same, left_start, left_step}
 use Rattle.mm_rest.specs.Laws.{SameUntil, joined, later, loss_until}
 use Rattle.mm_rest.specs.Rests.{held_after, rest_after}
 
@@ -81,17 +81,20 @@ module _ (q : Dumping) (x : Amounts) (n : ℕ) where
   -- ---- volumes
 
   module _ (s : ℕ) (store : s < length q.rows) where
-    size_at : size (rest_after q x n) s ≡ size q s
-    size_at = ap (λ (r : StoreRow). r.size) (row_at s store)
+    size_at : (t : ℕ) → 1 ≤ t → size (rest_after q x n) s t ≡ size q s (n + t)
+    unfolding size
+    size_at t first = ap₂ (λ a b. cond (nat_lt (size_column q s) (length q.sized)) (min a b) a)
+        (ap (λ (r : StoreRow). r.size) (row_at s store))
+        (later_cell (length q.sized) n (size_column q s) t q.step_sizes first)
 
-    written_from : (k : ℕ) → left (rest_after q x n) (later n x) s k ≡ left q x s (n + k)
-        → written (rest_after q x n) (later n x) s (suc k) ≡ written q x s (n + suc k)
-    written_from k before =
+    there_from : (k : ℕ) → left (rest_after q x n) (later n x) s k ≡ left q x s (n + k)
+        → there (rest_after q x n) (later n x) s (suc k) ≡ there q x s (n + suc k)
+    there_from k before =
         let here : suc k - 1 ≡ k = omega arith in
         let past : n + suc k - 1 ≡ n + k = omega arith in
-        ap₂ min (ap₂ (λ a b. a + b)
+        ap₂ (λ a b. a + b)
         (ap (left (rest_after q x n) (later n x) s) here ∙ before ∙ sym (ap (left q x s) past))
-        (arrivals_at s (suc k) (omega arith))) size_at
+        (arrivals_at s (suc k) (omega arith))
 
     -- what is left is what is left in the rest
     left_at : (k : ℕ) → left (rest_after q x n) (later n x) s k ≡ left q x s (n + k)
@@ -100,20 +103,15 @@ module _ (q : Dumping) (x : Amounts) (n : ℕ) where
         left_start (rest_after q x n) (later n x) s ∙ ap (λ (r : StoreRow). r.start) (row_at s store)
         ∙ sym (ap (left q x s) same)
     left_at (suc k) =
-        let stands = written_from k (left_at k) in
         left_step (rest_after q x n) (later n x) s k (suc k) (omega arith)
-        ∙ ap (λ w. w - min (x s (n + suc k)) w) stands
+        ∙ ap₂ (λ z w. left_by q.come z w (x s (n + suc k))) (size_at (suc k) (omega arith)) (there_from k (left_at k))
         ∙ sym (left_step q x s (n + k) (n + suc k) (omega arith))
 
     -- and so is what is lost
     lost_at : (t : ℕ) → 1 ≤ t → lost (rest_after q x n) (later n x) s t ≡ lost q x s (n + t)
     lost_at zero first = absurd (omega arith)
     lost_at (suc k) first =
-        let here : suc k - 1 ≡ k = omega arith in
-        let past : n + suc k - 1 ≡ n + k = omega arith in
-        ap₂ (λ a b. a - b) (ap₂ (λ a b. a + b)
-        (ap (left (rest_after q x n) (later n x) s) here ∙ left_at k ∙ sym (ap (left q x s) past))
-        (arrivals_at s (suc k) first)) (written_from k (left_at k))
+        ap₂ (λ z w. lost_by q.come z w (x s (n + suc k))) (size_at (suc k) first) (there_from k (left_at k))
 
   -- ---- losses
 
@@ -178,16 +176,16 @@ left_alike q x y n same s store t within =
     left_same q x y s t (λ u low high. same s u store low (omega arith))
 
 lost_alike : (q : Dumping) (x y : Amounts) (n : ℕ) → SameUntil q n x y → (s : ℕ) → s < length q.rows
-    → (t : ℕ) → t ≤ n → lost q y s t ≡ lost q x s t
-lost_alike q x y n same s store t within =
-    let stands = written_same q x y s t (λ u low high. same s u store low (omega arith)) in
-    ap₂ (λ a b. a + arrivals q s t - b) (left_alike q x y n same s store (t - 1) (omega arith)) stands
+    → (t : ℕ) → 1 ≤ t → t ≤ n → lost q y s t ≡ lost q x s t
+lost_alike q x y n same s store t first within =
+    ap₂ (λ a b. lost_by q.come (size q s t) (a + arrivals q s t) b)
+    (left_alike q x y n same s store (t - 1) (omega arith)) (same s t store first within)
 
 -- they lose the same up to it
 until_alike : (q : Dumping) (x y : Amounts) (n : ℕ) → SameUntil q n x y → loss_until n q y ≡ loss_until n q x
 until_alike q x y n same = sum_by_range_same _ _ 0 (length q.rows) (λ s low high.
     let store : s < length q.rows = omega arith in
-    sum_by_range_same (lost q y s) (lost q x s) 1 n (λ t first last. lost_alike q x y n same s store t (omega arith)))
+    sum_by_range_same (lost q y s) (lost q x s) 1 n (λ t first last. lost_alike q x y n same s store t first (omega arith)))
 
 -- and leave the same
 rest_alike : (q : Dumping) (x y : Amounts) (n : ℕ) → SameUntil q n x y → rest_after q y n ≡ rest_after q x n

@@ -8,7 +8,9 @@ use Rattle.std.proofs.lemmas.Bool.Decides.{nat_tests}
 use Rattle.std.proofs.lemmas.List.FromFn.{get_or-map-range_with_len, length-map-range_with_len}
 use Rattle.mm_base.specs.declared.rows.StoreRow.{StoreRow}
 use Rattle.mm_problem.specs.Document.{setup_of}
-use Rattle.mm_problem.specs.Dumping.{Dumping, IsDumping, no_row, size, stores}
+use Rattle.mm_problem.specs.Dumping.{Dumping, IsDumping, IsFlyable, no_row, setup_size, stores}
+use Rattle.mm_problem.proofs.StepSizes.{size_within}
+use Rattle.mm_plan.proofs.Steps.{left_size, left_start}
 use Rattle.mm_problem.specs.Forecast.{limits_of}
 use Rattle.mm_problem.specs.Laws.{ReadsForecasts}
 use Rattle.mm_problem.specs.ReadableForecast.{forecast_of}
@@ -23,10 +25,11 @@ use Rattle.mm_rest.proofs.ForecastReads.{by_place}
 -- ---- the start volumes fit
 
 -- a store holds at most its size
-pub left_fits : (q : Dumping) (x : Amounts) (s n : ℕ) → IsDumping q → s < length q.rows → left q x s n ≤ size q s
-unfolding left
-left_fits q x s zero is store = (is.stores.each s no_row store).start
-left_fits q x s (suc n) is store = omega arith
+pub left_fits : (q : Dumping) (x : Amounts) (s n : ℕ) → IsDumping q → s < length q.rows → left q x s n ≤ setup_size q s
+left_fits q x s zero is store = rw (left_start q x s) (is.stores.each s no_row store).start
+left_fits q x s (suc n) is store =
+    let next : n + 1 ≡ suc n = omega arith in
+    omega (arith, left_size q x s n (suc n) next, size_within q s (suc n))
 
 all_of_range : (p : ℕ → Bool) (a n : ℕ) → ((s : ℕ) → a ≤ s → s < a + n → p s ≡ true)
     → list_all p (range_with_len a n) ≡ true
@@ -88,13 +91,14 @@ is_setup m starts is stores = record {
 -- the texts of the rest say it
 pub rest_said : (m : SetupRows) (q : Dumping) (x : Amounts) (n : ℕ) (setup forecast : List ℕ) → ReadsForecasts
     → q.rows ≡ m.stores → q.limits ≡ limits_of m.limits → IsSetup (setup_from m (held_after q x n))
-    → IsDumping (rest_after q x n) → setup_of setup ≡ Ok (setup_from m (held_after q x n))
+    → IsDumping (rest_after q x n) → IsFlyable (rest_after q x n) → setup_of setup ≡ Ok (setup_from m (held_after q x n))
     → records_of forecast ≡ forecast_of (rest_after q x n) → SaysProblem setup forecast (rest_after q x n)
 unfolding problem_in
-rest_said m q x n setup forecast law rows limits is within said records =
+rest_said m q x n setup forecast law rows limits is within flyable said records =
     rw said ((law (setup_from m (held_after q x n)) is forecast (rest_after q x n)).1 (record {
       rows = ap (λ rs. rows_from rs (held_after q x n)) rows;
       limits = limits;
       records = records;
       within = within;
+      flyable = flyable;
     }))

@@ -1,7 +1,7 @@
 //! What is left of a problem after a step of a plan.
 ghost use Rattle.std.specs.Prelude.{◌≡◌, ◌<◌, ◌≤◌, IfOk, Ok, OnOk, length, slice_index, slice_index_or};
 ghost use Rattle.mm_problem.specs.Document.{setup_of};
-ghost use Rattle.mm_problem.specs.Dumping.{IsDumping, no_row};
+ghost use Rattle.mm_problem.specs.Dumping.{IsDumping, IsFlyable, no_row};
 ghost use Rattle.mm_problem.specs.Forecast.{limits_of};
 ghost use Rattle.mm_problem.specs.Rest.{rest_of, rows_from, starting_with};
 ghost use Rattle.mm_problem.specs.Texts.{SaysProblem};
@@ -118,6 +118,8 @@ pub fn rest_texts(
     plan: &Plan,
     step: u32,
 ) -> Result<RestTexts, NoMemory>
+    // A setup and a forecast do not say yet when arrivals come, nor sizes by step.
+    requires flyable { IsFlyable problem.now }
     requires stores { problem.now.rows ≡ setup.now.stores }
     requires limits { problem.now.limits ≡ limits_of setup.now.limits }
     requires shape { HasShape problem.now plan.now }

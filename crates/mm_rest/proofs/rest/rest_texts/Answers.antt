@@ -44,5 +44,6 @@ returns-clause-problem c =
     ) at c.in_ok-setup.ensures in
     rest_said c.args.setup.now c.args.problem.now x c.args.step c.in_ok-setup.setup.items
     c.in_ok-forecast.forecast.items c.forecasts.ensures c.requires.stores c.requires.limits
-    (is_setup c.args.setup.now held c.stores.ensures.is_setup stores) within said
+    (is_setup c.args.setup.now held c.stores.ensures.is_setup stores) within
+    (record { before = c.requires.flyable.before; one_size = c.requires.flyable.one_size }) said
     (c.in_ok-forecast.ensures ∙ ap forecast_of c.in_ok-rest.ensures.rest)
