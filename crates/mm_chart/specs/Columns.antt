@@ -13,7 +13,7 @@ use Rattle.mm_chart.specs.Series.{is_inner_of, is_last_of, amount_at}
 pub record AreStepMarks (p : Drawn) (passed by_channels : List Bool) : Type 0 where
   pub inner_places : length passed ≡ STEP_PLACES
   pub listed_places : length by_channels ≡ STEP_PLACES
-  pub inner : (t : ℕ) → slice_index_or passed t false ≡ is_inner (cut p) t
+  pub inner : (t : ℕ) → slice_index_or passed t false ≡ is_inner p.problem (cut p) t
   pub listed : (t : ℕ) → t < STEP_PLACES → slice_index_or by_channels t false ≡ is_listed (counts p) t
 
 -- marks of the steps in which a series asks for a stretch

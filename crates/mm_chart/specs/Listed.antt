@@ -33,17 +33,18 @@ is_shaded p s t = is_marked p (Inner s) t || is_marked p (Last s) t
 abbrev pub place_of : Drawn → Dumping → ℕ → ℕ
 place_of p r s = place r (row p.problem s).id
 
--- another problem helps a store with a stretch nowhere: it has no fewer blocks where it is shaded, no larger size, and no other channel
--- where it is shaded in a step that counts by channels
+-- another problem helps a store with a stretch nowhere: it has no fewer blocks where it is shaded, no larger size in the
+-- last step of a stretch, and no other channel where it is shaded in a step that counts by channels
 pub record KeepsStore (p : Drawn) (r : Dumping) (s : ℕ) : Type 0 where
   pub there : place_of p r s < length r.rows
   pub start : IsTrue (is_shaded p s 1) → start p.problem s ≤ start r (place_of p r s)
   pub arrivals : (t : ℕ) → IsTrue (is_shaded p s t) → arrivals p.problem s t ≤ arrivals r (place_of p r s) t
-  pub size : size r (place_of p r s) ≤ size p.problem s
+  pub size : (t : ℕ) → IsTrue (is_marked p (Last s) t) → size r (place_of p r s) t ≤ size p.problem s t
   pub channel : (t : ℕ) → IsTrue (is_marked p LimitsCount t) → IsTrue (is_marked p (Inner s) t) → channel r (place_of p r s) ≡ channel p.problem s
 
 -- another problem helps nowhere that the words list, whatever else it has
 pub record KeepsListed (p : Drawn) (r : Dumping) : Type 0 where
+  pub come : r.come ≡ p.problem.come
   pub steps : length r.windows ≡ length p.problem.windows
   pub channels : length r.limits ≡ length p.problem.limits
   -- the stores that the words name, as they have a stretch

@@ -3,7 +3,7 @@ use Rattle.std.specs.Prelude.{ℕ, ◌+◌, ◌-◌, ◌/◌, ◌%◌, ◌==◌,
 use Rattle.std.specs.Prelude.{length, codes, decimal, flat_map}
 use Rattle.std.specs.List.{sum_by, list_any}
 use Rattle.mm_base.specs.Id.{id_text}
-use Rattle.mm_problem.specs.Dumping.{Dumping, row, size, start, channel, arrivals, steps, stores, channels}
+use Rattle.mm_problem.specs.Dumping.{Dumping, row, setup_size, start, channel, arrivals, steps, stores, channels}
 use Rattle.mm_chart.specs.declared.layout.TheConstants.{LEFT, WINDOW_BASE, TALL, THIN, NAME_AT, TICK_AT, SAVED_AT}
 use Rattle.mm_chart.specs.declared.layout.TheConstants.{RAISED_AT, LARGER_AT}
 use Rattle.mm_chart.specs.declared.phrases.TheConstants.{SAVES}
@@ -117,7 +117,7 @@ store_side y size channel = side y (grouped size ∷ codes ", channel " ∷ deci
 unfoldable pub store_words : Drawn → ℕ → ℕ → List Shape
 store_words p s base =
     Label style.Name NAME_AT (base - 18) (name p.problem s ∷ [])
-    ∷ store_side (base - 4) (size p.problem s) (channel p.problem s)
+    ∷ store_side (base - 4) (setup_size p.problem s) (channel p.problem s)
     ∷ store_loss p s base
     ∷ total p.problem (base - 4) (codes "of " ∷ grouped (coming_to p s) ∷ [])
     ∷ []

@@ -4,7 +4,7 @@ use Rattle.std.specs.Prelude.{◌==◌, ◌&&◌, if◌then◌else◌, List, [],
 use Rattle.std.specs.List.{sum_by, list_any}
 use Rattle.mm_base.specs.declared.limits.TheConstants.{CHANNELS}
 use Rattle.mm_base.specs.Grid.{grid_place}
-use Rattle.mm_problem.specs.Dumping.{Dumping, size, window, stores, stores_of, steps, channels}
+use Rattle.mm_problem.specs.Dumping.{Dumping, setup_size, window, stores, stores_of, steps, channels}
 use Rattle.mm_plan.specs.Volumes.{written, left, lost}
 use Rattle.mm_cut.specs.Stretches.{store_of, goes_past, is_inner_on}
 use Rattle.mm_cut.specs.Cuts.{limit_or_0, counts_window, counts_limits}
@@ -19,15 +19,15 @@ one_if b = if b then 1 else 0
 
 -- what leaves a store in a step
 abbrev pub sent : Drawn → ℕ → ℕ → ℕ
-sent p t s = written p.problem (amounts p) s t - left p.problem (amounts p) s t
+sent p t s = min (amounts p s t) (written p.problem (amounts p) s t)
 
 -- whether a step counts by the limit of this channel
 abbrev pub counts_channel : Drawn → ℕ → ℕ → Bool
-counts_channel p c t = counts_limits (cut p) (counts p) t && is_inner_on p.problem (cut p) t c
+counts_channel p c t = counts_limits p.problem (cut p) (counts p) t && is_inner_on p.problem (cut p) t c
 
 -- whether it is an inner step of a stretch of the store
 abbrev pub is_inner_of : Drawn → ℕ → ℕ → Bool
-is_inner_of p s t = list_any (λ d. (store_of p.problem d == s) && goes_past t d) (cut p)
+is_inner_of p s t = list_any (λ d. (store_of p.problem d == s) && goes_past p.problem t d) (cut p)
 
 -- whether it is the last step of a stretch of the store
 abbrev pub is_last_of : Drawn → ℕ → ℕ → Bool
@@ -68,13 +68,13 @@ IsSeries p _ = Unit {0}
 
 -- the number of a step
 abbrev pub amount_of : Drawn → Series → ℕ → ℕ
-amount_of p WindowCounts t = one_if (counts_window (cut p) (counts p) t)
+amount_of p WindowCounts t = one_if (counts_window p.problem (cut p) (counts p) t)
 amount_of p Window t = window p.problem t
 amount_of p Used t = sum_by (sent p t) (stores p.problem)
-amount_of p CountedWindow t = if counts_window (cut p) (counts p) t then window p.problem t else 0
+amount_of p CountedWindow t = if counts_window p.problem (cut p) (counts p) t then window p.problem t else 0
 amount_of p (ChannelCounts c) t = one_if (counts_channel p c t)
 amount_of p (Sent c) t = sum_by (sent p t) (stores_of p.problem c)
-amount_of p LimitsCount t = one_if (counts_limits (cut p) (counts p) t)
+amount_of p LimitsCount t = one_if (counts_limits p.problem (cut p) (counts p) t)
 amount_of p (Inner s) t = one_if (is_inner_of p s t)
 amount_of p (Last s) t = one_if (is_last_of p s t)
 amount_of p (Written s) t = written p.problem (amounts p) s t
@@ -125,8 +125,8 @@ abbrev pub whole_of : Drawn → Series → ℕ
 whole_of p Window = most_of p Window
 whole_of p Used = most_of p Window
 whole_of p (Sent c) = most_limit p.problem c
-whole_of p (Written s) = size p.problem s
-whole_of p (Left s) = size p.problem s
+whole_of p (Written s) = setup_size p.problem s
+whole_of p (Left s) = setup_size p.problem s
 whole_of p (Lost s) = most_lost p
 whole_of p Worth = most_saved p
 whole_of p (Raised c) = most_saved p

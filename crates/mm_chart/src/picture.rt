@@ -236,14 +236,14 @@ impl Picture {
 
     fn counts_window(&self, step: u32) -> bool
         requires { step < STEP_PLACES }
-        ensures { result ≡ counts_window (cut self.now) (counts self.now) step }
+        ensures { result ≡ counts_window self.now.problem (cut self.now) (counts self.now) step }
     {
         self.inner[step as usize] && !self.listed[step as usize]
     }
 
     fn counts_limits(&self, step: u32) -> bool
         requires { step < STEP_PLACES }
-        ensures { result ≡ counts_limits (cut self.now) (counts self.now) step }
+        ensures { result ≡ counts_limits self.now.problem (cut self.now) (counts self.now) step }
     {
         self.inner[step as usize] && self.listed[step as usize]
     }
@@ -265,8 +265,8 @@ impl Picture {
         ensures most { result < 2 ^ 32 }
     {
         let written = self.volumes.written(store, step);
-        let left = self.volumes.left(store, step);
-        u64::from(written.saturating_sub(left))
+        let amount = self.sheet.plan().amount(store, step);
+        u64::from(amount.min(written))
     }
 
     // What leaves all stores in a step.

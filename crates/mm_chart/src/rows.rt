@@ -261,7 +261,7 @@ fn push_store_bars(text: &mut Vec<u8>, picture: &Picture, store: usize) -> Pushe
     requires few { store < MAX_STORES }
     ensures { OnOk result (text.new.items ≡ text.old.items ++ drawn (store_bars picture.now store)) }
 {
-    let size = u64::from(picture.problem().size(store));
+    let size = u64::from(picture.problem().setup_size(store));
     push_profile(text, picture, Series::Inner(store), 1)?;
     push_profile(text, picture, Series::Last(store), 1)?;
     push_profile(text, picture, Series::Written(store), size)?;
@@ -285,7 +285,7 @@ fn push_store_words(
     let (right, id) = (right(problem), problem.id(store));
     let coming = coming_to(picture, store);
     label!(text; Name NAME_AT, base - 18; Name(&id))?;
-    push_store_side(text, base - 4, problem.size(store), problem.channel(store))?;
+    push_store_side(text, base - 4, problem.setup_size(store), problem.channel(store))?;
     push_store_loss(text, picture, store, base, lost)?;
     label!(text; Total right, base - 4; Said(b"of "), Grouped(coming))
 }

@@ -28,8 +28,9 @@ pub(crate) fn channel_of(problem: &Problem, stretch: &Stretch) -> u8
     problem.channel(store_of(problem, stretch))
 }
 
-// The step after the inner steps of a stretch.
-pub(crate) fn inner_end(problem: &Problem, stretch: &Stretch) -> u64
+/// The step after the inner steps of a stretch: its last step if arrivals come before dumps, else the one after it.
+#[must_use]
+pub fn inner_end(problem: &Problem, stretch: &Stretch) -> u64
     ensures end { result ≡ inner_end problem.now.come stretch.now }
     ensures first { stretch.now.last ≤ result }
     ensures last { result ≤ stretch.now.last + 1 }

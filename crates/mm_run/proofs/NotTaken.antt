@@ -19,6 +19,7 @@ use Rattle.mm_carry.specs.Untaken.{given_at, is_taken}
 use Rattle.mm_carry.specs.Accounts.{over_steps}
 use Rattle.mm_run.specs.Runs.{CountsUntaken, TellsUntaken, opened_with, scripted}
 use Rattle.mm_run.specs.Texts.{SaysProblemAndMemory}
+use Rattle.mm_problem.specs.declared.come.Arrivals.TheVariants.{Before}
 use Rattle.mm_run.specs.Types.{Dumping, Holdings, ScriptedSource, SpacePacket}
 use Rattle.mm_run.specs.Untaken.{is_untaken}
 use Rattle.mm_run.specs.declared.untaken.Unstored.{Unstored}
@@ -38,6 +39,9 @@ problem_with rows steps = record {
   arrived = steps.arrived;
   limited = steps.limited;
   step_limits = steps.step_limits;
+  sized = [];
+  step_sizes = [];
+  come = Before;
 }
 
 -- the problem has the stores of the setup
