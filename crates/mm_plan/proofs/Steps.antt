@@ -1,9 +1,9 @@
 -- One step more of a plan's volumes, and what they depend on.
-use Rattle.std.proofs.Common.{◌≡◌, ℕ, zero, suc, ◌+◌, ◌-◌, ◌<◌, ◌≤◌, min, length, refl, sym, ◌∙◌, subst, arith, add-one}
+use Rattle.std.proofs.Common.{◌≡◌, ℕ, zero, suc, ◌+◌, ◌-◌, ◌<◌, ◌≤◌, min, length, refl, sym, ap, ◌∙◌, subst, arith, add-one}
 use Rattle.mm_base.specs.declared.limits.TheConstants.{MAX_BLOCKS}
 use Rattle.mm_problem.specs.Dumping.{Dumping, IsDumping, no_row, size, start, arrivals}
 use Rattle.mm_problem.proofs.StepSizes.{size_most}
-use Rattle.mm_plan.specs.Volumes.{Amounts, left_by, left, there, written, stays, lost}
+use Rattle.mm_plan.specs.Volumes.{Amounts, can_leave, left_by, left, there, written, stays, lost}
 use Rattle.mm_plan.proofs.Turns.{left_by-le, left_by-less, lost_by-less, all_there}
 
 -- what is left of what is there in the step
@@ -17,7 +17,10 @@ unfolding left
 left_next q x s n = refl
 
 left_suc : (q : Dumping) (x : Amounts) (s n : ℕ) → left q x s (suc n) ≡ kept q x s (suc n)
-left_suc q x s n = let e : suc n - 1 ≡ n = omega arith in rw e (left_next q x s n)
+left_suc q x s n =
+    let back : n ≡ suc n - 1 = omega arith in
+    left_next q x s n
+    ∙ ap (λ v. left_by q.come (size q s (suc n)) (left q x s v + arrivals q s (suc n)) (x s (suc n))) back
 
 -- what stands in a store when a step has ended
 pub left_step : (q : Dumping) (x : Amounts) (s n t : ℕ) → n + 1 ≡ t
@@ -70,7 +73,8 @@ left_no_more q x y s zero each = omega (arith, left_start q y s, left_start q x 
 left_no_more q x y s (suc n) each =
     let before = left_no_more q x y s n (λ u low high. each u low (omega arith)) in
     let same : suc n - 1 ≡ n = omega arith in
-    let here = rw same at (each (suc n) (omega arith) (omega arith)) in
+    let here = subst (λ v. min (x s (suc n)) (can_leave q.come (size q s (suc n)) (left q y s v + arrivals q s (suc n)))
+    ≤ y s (suc n)) same (each (suc n) (omega arith) (omega arith)) in
     let fewer : left q y s n + arrivals q s (suc n) ≤ left q x s n + arrivals q s (suc n) = omega (arith, before) in
     rw (left_next q y s n, left_next q x s n)
     (left_by-less q.come (size q s (suc n)) _ _ (y s (suc n)) (x s (suc n)) fewer here)

@@ -17,7 +17,7 @@ loop-store-preserved c =
     let below : c.loop-store.store < length c.args.problem.now.rows = omega arith in
     let before = c.loop-store.invariant.lowered.before c.loop-store.store below (omega arith) in
     let given = c.loop-store.invariant.lowered.rest c.loop-store.store below (omega arith) in
-    let is_written : c.can_leave-written.result ≡ written c.args.problem.now (amount c.args.plan.now) c.loop-store.store c.args.step = rw (c.can_leave-written.ensures.blocks, c.come-come.ensures, c.size.ensures.size, c.arrivals.ensures.arrivals, before) refl in
+    let is_written : c.can_leave-written.result ≡ written c.args.problem.now (amount c.args.plan.now) c.loop-store.store c.args.step = rw (c.can_leave-written.ensures.blocks, c.come-come.ensures.come, c.size.ensures.size, c.arrivals.ensures.arrivals, before) refl in
     let cut : c.min-blocks.result ≡ min (amount c.args.plan.now c.loop-store.store c.args.step) (written c.args.problem.now (amount c.args.plan.now) c.loop-store.store c.args.step) = omega (arith, given, is_written) in
     record {
       shape = shape_kept c.args.problem.now c.loop-store.plan c.set.new.self c.loop-store.store c.args.step c.min-blocks.result c.loop-store.invariant.shape c.set.ensures.changed;

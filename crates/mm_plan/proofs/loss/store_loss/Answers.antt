@@ -25,9 +25,9 @@ loop-step-preserved c =
     let s = c.args.store in
     let t = c.loop-step.step in
     let kept = left_step q x s (t - 1) t before in
-    let now : c.turn-volumes.result ≡ volumes q x s t = c.turn-volumes.ensures ∙ rw (
+    let now : c.turn-volumes.result ≡ volumes q x s t = c.turn-volumes.ensures.volumes ∙ rw (
       kept,
-      c.come-come.ensures,
+      c.come-come.ensures.come,
       c.size-size.ensures.size,
       c.loop-step.invariant.left,
       c.arrivals.ensures.arrivals,

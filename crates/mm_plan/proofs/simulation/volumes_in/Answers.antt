@@ -11,9 +11,9 @@ returns c =
     let s = c.args.store in
     let t = c.args.step in
     let kept = left_step q x s (t - 1) t (omega arith) in
-    c.turn.ensures ∙ rw (
+    c.turn.ensures.volumes ∙ rw (
       kept,
-      c.come.ensures,
+      c.come.ensures.come,
       c.size-size.ensures.size,
       c.requires.before,
       c.arrivals.ensures.arrivals,
