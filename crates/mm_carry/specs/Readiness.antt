@@ -1,7 +1,7 @@
 -- What is tested before a run, in which order.
 use Rattle.std.specs.Prelude.{◌≡◌, ℕ, ◌<◌, ◌≤◌, Bool, true, false, ◌==◌, ◌⊎◌, List, length, slice_index_or, take, All}
 use Rattle.std.specs.Prelude.{Option, Some, None, is_some}
-use Rattle.mm_carry.specs.Words.{Dumping, row, place, limit, Fits, IsFirstMisfit, Table, amount, HasShape, Held}
+use Rattle.mm_carry.specs.Words.{Dumping, IsFlyable, row, place, limit, Fits, IsFirstMisfit, Table, amount, HasShape, Held}
 use Rattle.mm_carry.specs.Words.{store_of, is_ready, is_clock_late, Cause, PlanShape, NotReady, SizeDiffers}
 use Rattle.mm_carry.specs.Words.{OpeningDiffers, ChannelDiffers, ClockTooLate, PlanDoesNotFit, Counts}
 use Rattle.mm_base.specs.declared.rows.StoreRow.{StoreRow}
@@ -64,6 +64,11 @@ pub record AreCounts (sources links : ℕ) : Type 0 where
   pub some_link : 1 ≤ links
   pub few_links : links ≤ MAX_LINKS
 
+-- the plan is for the problem, and the problem's steps can be carried out
+pub record IsFor (q : Dumping) (x : Table) : Type 0 where
+  pub shape : HasShape q x
+  pub flyable : IsFlyable q
+
 -- what a run would begin with: the problem and the plan, the stores, the moment before the first step, and how many
 -- sources and links there are
 pub record RunStart : Type 0 where
@@ -81,6 +86,7 @@ run_start problem plan stores base sources links =
 -- of the tests before a run, in their order, the first this many pass
 pub record Passed (many : ℕ) (o : RunStart) : Type 0 where
   pub shape : 1 ≤ many → HasShape o.problem o.plan
+  pub flyable : 1 ≤ many → IsFlyable o.problem
   pub ready : 2 ≤ many → AllMeet Ready o.problem o.stores
   pub known : 2 ≤ many → NoneUnknown o.problem o.stores
   pub sizes : 3 ≤ many → AllMeet Size o.problem o.stores
@@ -96,7 +102,7 @@ MayBegin o = Passed 8 o
 
 -- the test of a cause is the first that fails
 abbrev pub Stops : RunStart → Cause → Type 0
-Stops o PlanShape = ¬ HasShape o.problem o.plan
+Stops o PlanShape = ¬ IsFor o.problem o.plan
 Stops o (NotReady id) = Passed 1 o × (IsFirstMismatch Ready o.problem o.stores id
     ⊎ (AllMeet Ready o.problem o.stores × IsFirstUnknown o.problem o.stores id))
 Stops o (SizeDiffers id) = Passed 2 o × IsFirstMismatch Size o.problem o.stores id

@@ -1,7 +1,7 @@
 -- What the definitions of a run are written in: the words of the crates below, passed on from one place.
 pub use Rattle.mm_base.specs.declared.limits.TheConstants.{MAX_STORES}
 pub use Rattle.mm_packet.specs.Packet.{SpacePacket}
-pub use Rattle.mm_problem.specs.Dumping.{Dumping, IsDumping, arrivals, limit, place, row, size, start, steps, stores}
+pub use Rattle.mm_problem.specs.Dumping.{Dumping, IsDumping, IsFlyable, arrivals, limit, place, row, setup_size, size, start, steps, stores}
 pub use Rattle.mm_problem.specs.Dumping.{window}
 pub use Rattle.mm_plan.specs.Fit.{Fits, FitsAt, IsFirstMisfit}
 pub use Rattle.mm_plan.specs.Table.{HasShape, Table, amount}

@@ -2,7 +2,7 @@
 ghost use Rattle.std.specs.Prelude.{◌↔◌, ◌⊎◌, IsTrue, OnOk, IfErr, IfSome, IfNone};
 ghost use Rattle.mm_carry.specs.declared.requirement.Requirement.TheVariants.{Ready, Channel};
 ghost use Rattle.mm_carry.specs.Readiness.{AllMeet, IsFirstMismatch, NoneUnknown, IsFirstUnknown, HasLimit, run_start};
-ghost use Rattle.mm_carry.specs.Readiness.{MayBegin, Stops};
+ghost use Rattle.mm_carry.specs.Readiness.{IsFor, MayBegin, Stops};
 
 use crate::requirement::{Requirement, first_mismatch, first_unknown};
 use mm_base::StoreId;
@@ -52,6 +52,13 @@ fn first_not_ready(problem: &Problem, stores: &[Held]) -> Option<StoreId>
     }
 }
 
+// Whether the plan is for the problem, and the problem's steps can be carried out.
+fn is_for(problem: &Problem, plan: &Plan) -> bool
+    ensures { IsTrue result ↔ IsFor problem.now plan.now }
+{
+    plan.has_shape(problem) && problem.is_flyable()
+}
+
 /// Whether a run may begin: over these stores, from the moment before its first step, with this many sources and links.
 /// Otherwise the cause whose test is the first to fail, in the order 38 `PlanShape`, 39 `NotReady`, 40 `SizeDiffers`,
 /// 41 `OpeningDiffers`, 53 `ChannelDiffers`, 42 `ClockTooLate`, 43 `PlanDoesNotFit`, 44 `Counts`.
@@ -66,7 +73,7 @@ pub fn ready(
     ensures ok { OnOk result (MayBegin (run_start problem.now plan.now stores.now base sources links)) }
     ensures err { IfErr result (Stops (run_start problem.now plan.now stores.now base sources links)) }
 {
-    if !plan.has_shape(problem) {
+    if !is_for(problem, plan) {
         return Err(Cause::PlanShape);
     }
     if let Some(store) = first_not_ready(problem, stores) {
