@@ -1,5 +1,5 @@
 -- What comes into a store over a stretch is lost, leaves in an inner step, or is held as the stretch ends.
-use Rattle.std.proofs.Common.{◌≡◌, ℕ, zero, suc, ◌+◌, ◌-◌, ◌<◌, ◌≤◌, min, cond, leb, ltb, ◌&&◌, List, length, sym, subst, arith}
+use Rattle.std.proofs.Common.{◌≡◌, ℕ, zero, suc, ◌+◌, ◌-◌, ◌<◌, ◌≤◌, min, cond, leb, ltb, ◌&&◌, List, length, ap, arith}
 use Rattle.std.specs.List.{sum_by, range_with_len}
 use Rattle.std.proofs.lemmas.Bool.Decides.{nat_tests}
 use Rattle.std.proofs.lemmas.List.Sums.{sum_by-cons}
@@ -84,7 +84,7 @@ module _ (q : Dumping) (x : Amounts) (d : Stretch) where
       let most : u ≤ x s a = omega arith in
       let fits = rw (← left_step q x s (a - 1) a back) at (ends_by q.come d (size q s a) (there q x s a) (x s a)) in
       let last : a ≡ d.last → u + left q x s a ≤ size q s d.last + cond (ltb a (inner_end q.come d)) (x s a) 0 =
-      λ is. subst (λ k. u + left q x s a ≤ size q s k + cond (ltb k (inner_end q.come d)) (x s a) 0) (sym is) fits in
+      λ is. omega (arith, fits, ap (size q s) is, ap (λ k. cond (ltb k (inner_end q.come d)) (x s a) 0) is) in
       let step =
       one_step d.first d.last (inner_end q.come d) a (left q x s (a - 1)) (arrivals q s a) u (lost q x s a) (x s a)
       (left q x s a) (size q s d.last) (come rest) (lose rest) (leave rest) balance most last (inner_end-ge q.come d)
