@@ -7,7 +7,7 @@ use crate::arcs::Arcs;
 use crate::search::Found;
 use crate::slots::{Slot, Table};
 use mm_plan::NoMemory;
-use mm_problem::{Arrivals, CHANNELS, Problem};
+use mm_problem::{Arrivals, CHANNELS, MAX_STEPS, Problem};
 use std::alloc::Global;
 
 /// A span, and what a plan does in it.
@@ -95,6 +95,8 @@ fn ends_early(problem: &Problem, step: u32) -> bool
     requires first { 1 ≤ step }
     requires last { step < length problem.now.windows }
 {
+    // the number of the next step fits
+    prove!(problem.steps() <= MAX_STEPS);
     let opens = problem.come() == Arrivals::During && problem.window(step + 1) > 0;
     opens || rises(problem, step)
 }

@@ -14,6 +14,7 @@ mod charts;
 mod cuts;
 mod flows;
 mod in_order;
+mod kinds;
 mod planners;
 mod plans;
 mod problems;

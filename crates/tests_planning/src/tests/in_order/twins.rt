@@ -19,7 +19,7 @@ fn first_rows(rt: &impl Runtime, problem: &Problem, stores: usize) -> Vec<StoreR
     for store in 0..stores {
         let row = StoreRow {
             id: problem.id(store),
-            size: problem.size(store),
+            size: problem.setup_size(store),
             start: problem.start(store),
             kind: Kind::Bounded,
             channel: problem.channel(store),
