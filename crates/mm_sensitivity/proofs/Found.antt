@@ -20,7 +20,7 @@ use Rattle.mm_cut.specs.Cuts.{IsCut, bound, counts_window, CutsBoundLosses}
 use Rattle.mm_planner.specs.Planned.{ShowsLeast, IsPlan}
 use Rattle.mm_planner.specs.declared.planner.Planned.{Planned}
 use Rattle.mm_sensitivity.specs.declared.item.Item.{Item}
-use Rattle.mm_sensitivity.specs.declared.item.Item.TheVariants.{Window, Size, Limit, StepLimit}
+use Rattle.mm_sensitivity.specs.declared.item.Item.TheVariants.{Window, Size, Limit, StepLimit, StepSize}
 use Rattle.mm_sensitivity.specs.Items.{IsItem, number, with_number, fitted, spilled, least_number}
 use Rattle.mm_sensitivity.specs.Worth.{IsLeastLoss, IsPlanFor, IsSaved}
 use Rattle.mm_sensitivity.proofs.Growing.{grows}
@@ -70,6 +70,8 @@ with_own q (Limit c) is =
     ap (λ ls. record q { limits = ls }) (ap (λ o. set q.limits c o) (some_limit _ is.1) ∙ set-get_or q.limits c None)
 with_own q (StepLimit k t) is = ap (λ ls. record q { step_limits = ls })
     (set-get_or q.step_limits (grid_place (length q.limited) t k) 0)
+with_own q (StepSize k t) is = ap (λ ns. record q { step_sizes = ns })
+    (set-get_or q.step_sizes (grid_place (length q.sized) t k) 0)
 
 -- where a store begins with no more than it has room for, all of it stands there
 whole_part : (q : Dumping) (s b : ℕ) → start q s ≤ b → fitted q (Size s) b ≡ with_number q (Size s) b
@@ -178,7 +180,7 @@ fits_wider q t b x first last wider fits u from to =
 
 -- a window that the cut does not count may be wider
 pub wider_least : CutsBoundLosses → (q : Dumping) (t b : ℕ) (x : Table) (ds : List Stretch) (ts : List ℕ) (n : ℕ) → 1
-    ≤ t → t ≤ length q.windows → window q t ≤ b → counts_window ds ts t ≡ false → ShowsLeast q x ds ts n
+    ≤ t → t ≤ length q.windows → window q t ≤ b → counts_window q ds ts t ≡ false → ShowsLeast q x ds ts n
     → IsLeastLoss (with_window q t b) n
 wider_least bounds q t b x ds ts n first last wider other shows =
     matched_least bounds (with_window q t b) (amount x) ds ts n

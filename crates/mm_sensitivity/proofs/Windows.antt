@@ -70,13 +70,13 @@ module _ (q : Dumping) (t n : ℕ) where
 
   -- what may leave differs by the windows of the step, where it counts
   pub leaving_changed : (ds : List Stretch) (ts : List ℕ) → 1 ≤ t → t ≤ length q.windows
-      → leaving_sum r ds ts + cond (counts_window ds ts t) (window q t) 0
-      ≡ leaving_sum q ds ts + cond (counts_window ds ts t) n 0
+      → leaving_sum r ds ts + cond (counts_window q ds ts t) (window q t) 0
+      ≡ leaving_sum q ds ts + cond (counts_window q ds ts t) n 0
   leaving_changed ds ts first last =
-      let changed = sum_by_filter_range_changed (is_inner ds) (leaving q ds ts) (leaving r ds ts) 1 (length q.windows) t
+      let changed = sum_by_filter_range_changed (is_inner q ds) (leaving q ds ts) (leaving r ds ts) 1 (length q.windows) t
       first (omega arith)
       (λ u from to other. ap (λ w. cond (is_listed ts u) (limit_sum q ds u) w) (window_other u first from other)) in
-      let here = picked (is_inner ds t) (is_listed ts t) (limit_sum q ds t) (window q t) n in
-      let there = ap (λ w. cond (is_inner ds t) (cond (is_listed ts t) (limit_sum q ds t) w) 0)
+      let here = picked (is_inner q ds t) (is_listed ts t) (limit_sum q ds t) (window q t) n in
+      let there = ap (λ w. cond (is_inner q ds t) (cond (is_listed ts t) (limit_sum q ds t) w) 0)
       (window_here first last) in
       rw as_many (omega arith)

@@ -34,7 +34,7 @@ fn leaving(problem: &Problem, step: u32) -> u32
         let mut held: u32 = 0;
         for store in 0..problem.stores() {
             if problem.channel(store) == channel {
-                held = held.saturating_add(problem.size(store));
+                held = held.saturating_add(problem.setup_size(store));
             }
         }
         leaving = leaving.saturating_add(held.min(problem.limit(channel, step).unwrap_or(held)));
@@ -61,10 +61,10 @@ impl<'a> Base<'a> {
     // Whether the cut counts the window of a step.
     fn counts_window(&self, step: u32) -> bool
         ensures { result
-            ≡ counts_window self.now.planned.certificate.cut self.now.planned.certificate.by_channels step }
+            ≡ counts_window self.now.problem.now self.now.planned.certificate.cut self.now.planned.certificate.by_channels step }
     {
         let certificate = &self.planned.certificate;
-        is_inner(certificate.cut(), step) && !certificate.by_channels().contains(&step)
+        is_inner(self.problem, certificate.cut(), step) && !certificate.by_channels().contains(&step)
     }
 
     // The bound of the cut with another window in a step.

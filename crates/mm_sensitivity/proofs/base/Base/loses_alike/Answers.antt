@@ -19,7 +19,7 @@ returns-then-now-blocks-2 c is =
     let item : IsItem q (Window t) = subst (IsItem q) here c.requires.item in
     let value : number q c.args.item ≡ window q t = ap (number q) here in
     let wider : window q t ≤ b = omega (arith, c.number-now.ensures.number, c.if-now-blocks-2.true) in
-    let other : counts_window p.certificate.cut p.certificate.by_channels t ≡ false = sym c.counts_window.ensures
+    let other : counts_window q p.certificate.cut p.certificate.by_channels t ≡ false = sym c.counts_window.ensures
     ∙ not-true c.counts_window.result is in
     subst (λ (i : Item). IsLeastLoss (fitted q i b) p.certificate.loss) (sym here)
     (wider_least c.cuts_bound_losses.ensures q t b p.plan p.certificate.cut p.certificate.by_channels p.certificate.loss
