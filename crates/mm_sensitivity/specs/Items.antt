@@ -4,8 +4,8 @@ use Rattle.std.specs.Prelude.{flat_map, slice_set, IsSome}
 use Rattle.std.specs.List.{range_with_len}
 use Rattle.mm_base.specs.declared.limits.TheConstants.{MAX_BLOCKS}
 use Rattle.mm_base.specs.declared.rows.StoreRow.{StoreRow}
-use Rattle.mm_problem.specs.Dumping.{Dumping, row, setup_size, start, setup_limit, column_limit, window, stores, steps}
-use Rattle.mm_problem.specs.Dumping.{channels}
+use Rattle.mm_problem.specs.Dumping.{Dumping, row, setup_size, start, setup_limit, column_limit, column_size, window, stores}
+use Rattle.mm_problem.specs.Dumping.{steps, channels}
 use Rattle.mm_problem.specs.Changed.{with_window, with_limit, with_column_limit, with_column_size, with_size}
 use Rattle.mm_sensitivity.specs.declared.item.Item.{Item}
 use Rattle.mm_sensitivity.specs.declared.item.Item.TheVariants.{Window, Size, Limit, StepLimit, StepSize}
