@@ -7,7 +7,7 @@ Prints for each the wall time of the whole process, the least of some rounds, an
 
 FOLDER is bench/out and ROUNDS is 20 where they are not said. It wants crates/mm_tool/out/mm_tool (`./mm_tool --help` proves and
 builds it) and compiles the two others by `rustc -O` and `g++ -O2`. Without g++ and libmaxflow (Debian's libmaxflow-dev)
-the column of libmaxflow is left out, without valgrind the instructions, without crates/work_plans/out/work_plans
+the column of libmaxflow is left out, without valgrind the instructions, without crates/work/out/work
 (`rt run` there) the count of fallbacks, without GNU time the peak memory, each with a line that says so.
 
 The exit status is 0 where each plan was shown to lose least, and libmaxflow found the same loss.
@@ -25,7 +25,7 @@ from pathlib import Path
 HERE = Path(__file__).resolve().parent
 CRATES = HERE.parent / "crates"
 TOOL = CRATES / "mm_tool" / "out" / "mm_tool"
-STUDY = CRATES / "work_plans" / "out" / "work_plans"
+WORK = CRATES / "work" / "out" / "work"
 MAXFLOW = "/usr/include/maxflow-3.0"
 GNU_TIME = "/usr/bin/time"
 INSTRUCTIONS = re.compile(rb"Collected : (\d+)")
@@ -150,10 +150,11 @@ def main(top, rounds):
             if not measure.is_least():
                 failed.append(problem.name)
         tell_most(measures)
-    if STUDY.exists():
-        print(subprocess.run([STUDY, "propose", "10000", "1"], check=True, capture_output=True, text=True).stdout, end="")
+    if WORK.exists():
+        words = [WORK, "plans", "propose", "10000", "1"]
+        print(subprocess.run(words, check=True, capture_output=True, text=True).stdout, end="")
     else:
-        print("Fallbacks are not counted: crates/work_plans is not built.")
+        print("Fallbacks are not counted: crates/work is not built.")
     if failed:
         sys.exit(f"no least plan: {', '.join(failed)}")
 

@@ -1,4 +1,4 @@
-//! The twin of `work_exec`: the same steps by the same threads in plain Rust, over one `Mutex` round a `VecDeque` for each store.
+//! The twin of `work exec`: the same steps by the same threads in plain Rust, over one `Mutex` round a `VecDeque` for each store.
 //!
 //! It does the same work for each packet: rows of a sorted table say which stores a report type goes to, a store is found by its
 //! identifier, the last store takes the packet itself and each other one a copy that shares the octets, and a packet that is dumped

@@ -1,10 +1,10 @@
 #!/usr/bin/env python3
-"""Times recording and dumping by threads (`work_exec`), and a run from texts (`mm_tool run`), beside a plain Rust program with the same
+"""Times recording and dumping by threads (`work exec`), and a run from texts (`mm_tool run`), beside a plain Rust program with the same
 threads (plain.rs, texts.rs), in one run.
 
     python3 bench/exec/run.py [ROUNDS [PACKETS]]        5 rounds and 1,000,000 packets where nothing is said
 
-It needs the Rattle kit's `rt` (or what RT names), by which it proves and builds crates/work_exec, `rustc` and GNU time. The run from texts
+It needs the Rattle kit's `rt` (or what RT names), by which it proves and builds crates/work, `rustc` and GNU time. The run from texts
 is left out where `mm_tool` is not built. Each cell is the least of the rounds. Wall time is what a program takes between two looks at the
 clock, round the recording and round the dumping of each step. Processor time, user and system, is that of whole processes, less that of a
 process that only makes the same packets: it counts what the threads did and not what they waited for a processor. That of dumping is of
@@ -21,8 +21,8 @@ from functools import cached_property
 from pathlib import Path
 
 HERE = Path(__file__).resolve().parent
-CRATE = HERE.parent.parent / "crates" / "work_exec"
-PROGRAM = (CRATE / "out" / "work_exec",)
+CRATE = HERE.parent.parent / "crates" / "work"
+PROGRAM = (CRATE / "out" / "work", "exec")
 TOOL = HERE.parent.parent / "mm_tool"
 GNU_TIME = "/usr/bin/time"
 SOURCES, STORES, LINKS = (1, 2, 4, 8), (1, 4, 16), (1, 2, 4)

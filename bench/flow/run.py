@@ -3,7 +3,7 @@
 
     python3 bench/flow/run.py [ROUNDS]        ROUNDS is 3 where it is not said
 
-It wants crates/work_flow/out/work_flow, which `rt run` there proves and builds, and compiles the twin with `rustc -O`.
+It wants crates/work/out/work, which `rt run` there proves and builds, and compiles the twin with `rustc -O`.
 The networks of the planner's problems are written into bench/out (networks.py). A cell of the table is the least of the
 rounds, in milliseconds that the solver alone took by the clock of its process. Where two values differ, the run ends.
 """
@@ -16,7 +16,7 @@ from pathlib import Path
 from networks import BENCH, write
 
 HERE = Path(__file__).resolve().parent
-PROGRAM = BENCH.parent / "crates" / "work_flow" / "out" / "work_flow"
+PROGRAM = [BENCH.parent / "crates" / "work" / "out" / "work", "flow"]
 OWN = [("tight", 64), ("tight", 256), ("spare", 256), ("random", 2000), ("random", 60000)]
 
 
@@ -36,7 +36,7 @@ def solved(command, file):
 
 def line(name, words, file, twin, rounds):
     """The row of a network."""
-    commands = [[PROGRAM, "solve", "levels", *words], [twin, *words], [PROGRAM, "solve", "paths", *words]]
+    commands = [[*PROGRAM, "solve", "levels", *words], [twin, *words], [*PROGRAM, "solve", "paths", *words]]
     values, least = set(), [float("inf")] * len(commands)
     for _ in range(rounds):
         for place, command in enumerate(commands):

@@ -1,4 +1,4 @@
-//! The twin of `work_memory stores`: the same rounds over a `VecDeque` of the standard library.
+//! The twin of `work memory stores`: the same rounds over a `VecDeque` of the standard library.
 //!
 //! A packet has the same fields and its data on the heap, and a look-up is the same binary search.
 

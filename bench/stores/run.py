@@ -12,8 +12,8 @@ import sys
 import tempfile
 
 HERE = os.path.dirname(os.path.realpath(__file__))
-CRATE = os.path.normpath(f"{HERE}/../../crates/work_memory")
-PROGRAM = [f"{CRATE}/out/work_memory", "stores"]
+CRATE = os.path.normpath(f"{HERE}/../../crates/work")
+PROGRAM = [f"{CRATE}/out/work", "memory", "stores"]
 PARTS = ("put", "read", "delete")
 PACKETS = 10_000
 

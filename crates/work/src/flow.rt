@@ -21,9 +21,9 @@ pub const UNKNOWN: UnknownWords = UnknownWords(
     "the words are: networks SEED, or solve SOLVER FAMILY SIZE, or solve SOLVER text",
 );
 
-/// What the words ask for: `networks SEED` solves networks that are made from the seed, and gives a digest of the answers.
-/// `solve` solves one network, and gives the value of a maximum flow and the milliseconds that the solver took. With no
-/// words a few tiny networks are solved, and their flows are given.
+/// What the words ask for: `networks SEED` solves networks that are made from the seed, and gives a digest of the
+/// answers. `solve` solves one network, and gives the value of a maximum flow and the milliseconds that the solver took.
+/// With no words a few tiny networks are solved, and their flows are given.
 pub fn said<R: Clock + Input + AllocGlobal>(
     rt: &R,
     alloc: Global,

@@ -83,8 +83,8 @@ pub(crate) fn run<R: Threads + Wait + Sync, E: Write>(
     Ok(())
 }
 
-// How many lines of the file what was printed speaks of: the number at the front of a line is that of a line of the file, and a line that
-// begins with a space goes on with the same one.
+// How many lines of the file what was printed speaks of: the number at the front of a line is that of a line of the
+// file, and a line that begins with a space goes on with the same one.
 fn told(out: &[u8]) -> u32 {
     let mut told: u32 = 0;
     let mut last: &[u8] = &[];

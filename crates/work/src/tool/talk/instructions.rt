@@ -12,7 +12,8 @@ pub(crate) fn subtype(numbers: &mut Numbers) -> u8 {
     SUBTYPES[numbers.upto(16) as usize]
 }
 
-/// The identifier of one of fourteen stores, of which eight are there as a conversation begins; seldom one with a small letter.
+/// The identifier of one of fourteen stores, of which eight are there as a conversation begins; seldom one with a small
+/// letter.
 pub(crate) fn write_id(text: &mut Vec<u8>, numbers: &mut Numbers) -> Result<()> {
     let number = numbers.upto(13).saturating_add(10);
     let letter = if numbers.is_one_in(40) { b"73" } else { b"53" };
