@@ -1,13 +1,14 @@
 #!/usr/bin/env python3
-"""Plans each problem of a folder with the built program, checks the plan that it prints, and runs beside it, in the same run,
-a program that reads and writes the same files without planning (floor.rs) and one that plans by libmaxflow (maxflow.cpp).
-Prints for each the wall time of the whole process, the least of some rounds, and the instructions that it takes.
+"""Plans each problem of a folder with the built program, checks the plan that it prints, and runs beside it, in the
+same run, a program that reads and writes the same files without planning (floor.rs) and one that plans by libmaxflow
+(maxflow.cpp). Prints for each the wall time of the whole process, the least of some rounds, and the instructions that
+it takes.
 
     python3 bench/run.py [FOLDER [ROUNDS]]
 
-FOLDER is bench/out and ROUNDS is 20 where they are not said. It wants crates/mm_tool/out/mm_tool (`./mm_tool --help` proves and
-builds it) and compiles the two others by `rustc -O` and `g++ -O2`. Without g++ and libmaxflow (Debian's libmaxflow-dev)
-the column of libmaxflow is left out, without valgrind the instructions, without crates/work/out/work
+FOLDER is bench/out and ROUNDS is 20 where they are not said. It wants crates/mm_tool/out/mm_tool (`./mm_tool --help`
+proves and builds it) and compiles the two others by `rustc -O` and `g++ -O2`. Without g++ and libmaxflow (Debian's
+libmaxflow-dev) the column of libmaxflow is left out, without valgrind the instructions, without crates/work/out/work
 (`rt run` there) the count of fallbacks, without GNU time the peak memory, each with a line that says so.
 
 The exit status is 0 where each plan was shown to lose least, and libmaxflow found the same loss.
@@ -53,8 +54,8 @@ def instructions(words):
 
 
 def peak(words, note):
-    """The most memory that a program has at once, in megabytes, by GNU time, which begins it from a small process of its own. This
-    script would count with a child of its own."""
+    """The most memory that a program has at once, in megabytes, by GNU time, which begins it from a small process of
+    its own. This script would count with a child of its own."""
     if not Path(GNU_TIME).exists():
         return None
     subprocess.run([GNU_TIME, "-f", "%M", "-o", note, *words], stdout=subprocess.DEVNULL, check=True)
@@ -81,7 +82,8 @@ class Measure:
 
     def __init__(self, programs, problem, scratch):
         files = [str(problem / "setup.toml"), str(problem / "forecast.csv")]
-        self.plan, self.verdict, self.other, self.note = (Path(scratch) / name for name in ("plan", "verdict", "other", "note"))
+        names = ("plan", "verdict", "other", "note")
+        self.plan, self.verdict, self.other, self.note = (Path(scratch) / name for name in names)
         self.commands = {"plan": [str(TOOL), "plan", *files], "check": [str(TOOL), "check", *files, str(self.plan)]}
         self.commands |= {name: [program, *files] for name, program in programs.items()}
         self.outs = {"plan": self.plan, "check": self.verdict}
@@ -128,7 +130,8 @@ def tell_most(measures):
     """The greatest of each ratio, and of the peaks."""
     print()
     for other in measures[0].ratios():
-        print(f"`plan` takes at most {max(measure.ratios()[other] for measure in measures):.2f} times the time of {other}.")
+        most = max(measure.ratios()[other] for measure in measures)
+        print(f"`plan` takes at most {most:.2f} times the time of {other}.")
     peaks = [measure.peak() for measure in measures]
     if None in peaks:
         print("Peak memory is left out: GNU time is not there.")

@@ -1,8 +1,9 @@
-//! The twin of `work exec`: the same steps by the same threads in plain Rust, over one `Mutex` round a `VecDeque` for each store.
+//! The twin of `work exec`: the same steps by the same threads in plain Rust, over one `Mutex` round a `VecDeque` for
+//! each store.
 //!
-//! It does the same work for each packet: rows of a sorted table say which stores a report type goes to, a store is found by its
-//! identifier, the last store takes the packet itself and each other one a copy that shares the octets, and a packet that is dumped
-//! stays in its store until its order is at its end.
+//! It does the same work for each packet: rows of a sorted table say which stores a report type goes to, a store is
+//! found by its identifier, the last store takes the packet itself and each other one a copy that shares the octets,
+//! and a packet that is dumped stays in its store until its order is at its end.
 //!
 //! With the word `run` and five files it is the twin of `mm_tool run` (`texts`).
 
@@ -212,8 +213,9 @@ fn record(stores: &[Store], rows: &[Row], moment: u64, sources: &mut [VecDeque<P
     });
 }
 
-/// Carries out an order: each packet is copied under the lock and sent without it, and at the end those sent are deleted. A link that
-/// does not take a packet ends the order, and nothing is deleted. Gives how many blocks of the window were spent.
+/// Carries out an order: each packet is copied under the lock and sent without it, and at the end those sent are
+/// deleted. A link that does not take a packet ends the order, and nothing is deleted. Gives how many blocks of the
+/// window were spent.
 fn carry(store: &Store, amount: u64, link: &mut Link) -> u64 {
     store.state.lock().unwrap().begin(1, u64::MAX);
     let (mut spent, mut last) = (0, 0);
@@ -241,8 +243,8 @@ fn work(stores: &[Store], orders: &[Order], next: &AtomicUsize, link: &mut Link)
     spent
 }
 
-/// Each link takes orders in a thread of its own, until none is left; one thread is this one. Gives how many blocks of the window were
-/// spent.
+/// Each link takes orders in a thread of its own, until none is left; one thread is this one. Gives how many blocks of
+/// the window were spent.
 fn dump(stores: &[Store], orders: &[Order], links: &mut [Link]) -> u64 {
     let next = AtomicUsize::new(0);
     thread::scope(|scope| {

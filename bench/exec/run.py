@@ -1,15 +1,16 @@
 #!/usr/bin/env python3
-"""Times recording and dumping by threads (`work exec`), and a run from texts (`mm_tool run`), beside a plain Rust program with the same
-threads (plain.rs, texts.rs), in one run.
+"""Times recording and dumping by threads (`work exec`), and a run from texts (`mm_tool run`), beside a plain Rust
+program with the same threads (plain.rs, texts.rs), in one run.
 
     python3 bench/exec/run.py [ROUNDS [PACKETS]]        5 rounds and 1,000,000 packets where nothing is said
 
-It needs the Rattle kit's `rt` (or what RT names), by which it proves and builds crates/work, `rustc` and GNU time. The run from texts
-is left out where `mm_tool` is not built. Each cell is the least of the rounds. Wall time is what a program takes between two looks at the
-clock, round the recording and round the dumping of each step. Processor time, user and system, is that of whole processes, less that of a
-process that only makes the same packets: it counts what the threads did and not what they waited for a processor. That of dumping is of
-recording and dumping together. Peak memory is that of the whole process, and `beside` is by how much it is above that of a process that
-only makes the packets. A run ends where the two programs count other packets.
+It needs the Rattle kit's `rt` (or what RT names), by which it proves and builds crates/work, `rustc` and GNU time. The
+run from texts is left out where `mm_tool` is not built. Each cell is the least of the rounds. Wall time is what a
+program takes between two looks at the clock, round the recording and round the dumping of each step. Processor time,
+user and system, is that of whole processes, less that of a process that only makes the same packets: it counts what the
+threads did and not what they waited for a processor. That of dumping is of recording and dumping together. Peak memory
+is that of the whole process, and `beside` is by how much it is above that of a process that only makes the packets. A
+run ends where the two programs count other packets.
 """
 
 import os
@@ -106,8 +107,10 @@ def setting(sources, stores, links, packets, octets, blocks):
 
 def recording(twin, rounds, packets, octets, full):
     """The table of recording, into stores with room for all packets of a step or into full ones."""
-    print(f"\nRecording {packets:,} packets of {octets} octets, stores {'full' if full else 'with room'}; milliseconds and MB\n")
-    print("| Sources | Stores | wall | plain | ratio | processor | plain | ratio | peak | plain | ratio | beside | plain | beside / offered |")
+    stands = "full" if full else "with room"
+    print(f"\nRecording {packets:,} packets of {octets} octets, stores {stands}; milliseconds and MB\n")
+    print("| Sources | Stores | wall | plain | ratio | processor | plain | ratio | peak | plain | ratio ", end="")
+    print("| beside | plain | beside / offered |")
     print("|" + "---|" * 14)
     for sources in SOURCES:
         for stores in STORES:
@@ -118,7 +121,8 @@ def recording(twin, rounds, packets, octets, full):
             peak = pair.cells(lambda program: program["record"].peak)
             ours, plain = (beside(program) for program in pair.programs)
             times = ours * 1024**2 / (sources * words[4] * octets)
-            print(f"| {sources} | {stores} | {wall} | {spent} | {peak} | {ours:.0f} | {plain:.0f} | {times:.1f} |", flush=True)
+            both = f"{ours:.0f} | {plain:.0f} | {times:.1f}"
+            print(f"| {sources} | {stores} | {wall} | {spent} | {peak} | {both} |", flush=True)
 
 
 def counted(twin):
@@ -150,7 +154,8 @@ def telemetry(apid, count, octets):
 
 
 def write_texts(folder, sources, stores, links, steps, each):
-    """The five files of a run: in each step each source gives that many packets to the stores in turn, and all are dumped."""
+    """The five files of a run: in each step each source gives that many packets to the stores in turn, and all are
+    dumped."""
     names = [f"S{store}" for store in range(stores)]
     arrive = [sources * len(range(store, each, stores)) for store in range(stores)]
     store = '[[store]]\nid = "{}"\nsize = {}\ntype = "circular"\nchannel = 0\n\n'
@@ -161,7 +166,9 @@ def write_texts(folder, sources, stores, links, steps, each):
         "setup.toml": "".join(store.format(name, max(arrive)) for name in names)
         + "".join(route.format(apid, name) for apid, name in enumerate(names)),
         "forecast.csv": "".join(
-            f"{line}\n" for line in ["step,window," + ",".join(names)] + [f"{step},{sum(arrive)},{cells}" for step, cells, _ in rows]
+            f"{line}\n"
+            for line in ["step,window," + ",".join(names)]
+            + [f"{step},{sum(arrive)},{cells}" for step, cells, _ in rows]
         ),
         "plan.txt": "".join(
             f"{line}\n"
@@ -203,7 +210,8 @@ def from_texts(twin, folder):
 
 def dumping(twin, rounds, packets):
     print(f"\nDumping {packets:,} packets of 64 octets, recorded by four sources; milliseconds and MB\n")
-    print("| Links | Stores | wall | plain | ratio | processor, with recording | plain | ratio | peak | plain | ratio |")
+    print("| Links | Stores | wall | plain | ratio | processor, with recording | plain | ratio ", end="")
+    print("| peak | plain | ratio |")
     print("|" + "---|" * 11)
     for links in LINKS:
         for stores in STORES:
@@ -221,9 +229,11 @@ def crowd(twin, each):
         offered = 8 * each * octets / 1024**2
         pair = Pair(twin, ("make", "record"), 8, 1, 1, 1, each, octets, 16).run(1)
         ours, plain = (beside(program) for program in pair.programs)
-        print(f"8 x {each} packets of {octets} octets ({offered:.0f} MB) in one step into one full store: beside the packets {ours:.0f} MB,")
+        print(f"8 x {each} packets of {octets} octets ({offered:.0f} MB) in one step into one full store:", end=" ")
+        print(f"beside the packets {ours:.0f} MB,")
         print(f"{ours / offered:.1f} times the octets offered (plain {plain:.0f} MB); the recording takes", end=" ")
-        print(f"{pair.programs[0]['record'].record:.0f} ms (plain {pair.programs[1]['record'].record:.0f} ms).", flush=True)
+        took = [program["record"].record for program in pair.programs]
+        print(f"{took[0]:.0f} ms (plain {took[1]:.0f} ms).", flush=True)
 
 
 def main(rounds, packets):

@@ -1,10 +1,12 @@
 #!/usr/bin/env python3
 """Times the packet stores beside a plain VecDeque that does the same work, and prints packets per second.
 
-usage: bench/stores/run.py [ROUNDS [RUNS]]    (from anywhere; a round has 10,000 packets; 1000 rounds and 3 runs where nothing is said)
+usage: bench/stores/run.py [ROUNDS [RUNS]]    (from anywhere; a round has 10,000 packets; 1000 rounds and 3 runs where
+nothing is said)
 
-It needs the Rattle kit's `rt` (or what RT names) and `rustc` on the path. Each line is the fastest of the runs of one form of store, for each
-part by itself: putting packets, looking each one up from the oldest to the newest, deleting them.
+It needs the Rattle kit's `rt` (or what RT names) and `rustc` on the path. Each line is the fastest of the runs of one
+form of store, for each part by itself: putting packets, looking each one up from the oldest to the newest, deleting
+them.
 """
 import os
 import subprocess
@@ -53,7 +55,12 @@ def main():
         plain = {kind: measured([twin], kind, rounds, runs) for kind in ("circular", "bounded")}
         for kind, (seconds, _) in plain.items():
             print(line(f"VecDeque, {kind}", seconds, packets))
-        forms = {"ring": "RingStore", "blocks": "BlockStore", "circular": "AnyStore, circular", "bounded": "AnyStore, bounded"}
+        forms = {
+            "ring": "RingStore",
+            "blocks": "BlockStore",
+            "circular": "AnyStore, circular",
+            "bounded": "AnyStore, bounded",
+        }
         for form, name in forms.items():
             kind = "circular" if form in ("ring", "circular") else "bounded"
             seconds, total = measured(PROGRAM, form, rounds, runs)
