@@ -62,24 +62,32 @@ fn push(lines: &mut Vec<u8>, answer: Result<Solved, Fault>) -> Result<()> {
     Ok(writeln!(lines)?)
 }
 
-/// What both solvers answer on each, and why each of some texts is none.
-pub fn small(alloc: Global) -> Result<String> {
-    let mut lines = Vec::new(alloc);
-    for network in [
-        text::read(alloc, TWO_WAYS)?,
-        narrow(alloc)?,
-        unbounded(alloc)?,
-    ] {
-        for (_, solver) in &SOLVERS {
-            push(&mut lines, solver.answer(alloc, &network))?;
-        }
+// Adds what both solvers answer on a network.
+fn push_answers(alloc: Global, lines: &mut Vec<u8>, network: &Network) -> Result<()> {
+    for (_, solver) in &SOLVERS {
+        push(lines, solver.answer(alloc, network))?;
     }
+    Ok(())
+}
+
+// Adds why each of some texts is no network.
+fn push_refused(alloc: Global, lines: &mut Vec<u8>) -> Result<()> {
     for text in &REFUSED {
         match text::read(alloc, text) {
             Ok(_) => writeln!(lines, "a network")?,
             Err(fault) => writeln!(lines, "{fault}")?,
         }
     }
+    Ok(())
+}
+
+/// What both solvers answer on each, and why each of some texts is none.
+pub fn small(alloc: Global) -> Result<String> {
+    let mut lines = Vec::new(alloc);
+    push_answers(alloc, &mut lines, &text::read(alloc, TWO_WAYS)?)?;
+    push_answers(alloc, &mut lines, &narrow(alloc)?)?;
+    push_answers(alloc, &mut lines, &unbounded(alloc)?)?;
+    push_refused(alloc, &mut lines)?;
     let said = std::str::from_utf8(&lines)?.trim_end();
     Ok(format!(in alloc; "{said}")?)
 }
