@@ -7,9 +7,10 @@ use Rattle.mm_command_line.specs.Lines.{order_flag, output_names, output_of, wor
 use Rattle.mm_command_line.specs.declared.task.FlightFiles.{FlightFiles}
 use Rattle.mm_command_line.specs.declared.task.FlightPlan.{FlightPlan}
 use Rattle.mm_command_line.specs.declared.task.FlightPlan.TheVariants.{Given, Made}
+use Rattle.mm_command_line.specs.declared.task.KeptSteps.{KeptSteps}
 use Rattle.mm_command_line.specs.declared.task.PlanFiles.{PlanFiles}
 use Rattle.mm_command_line.specs.declared.task.Task.{Task}
-use Rattle.mm_command_line.specs.declared.task.Task.TheVariants.{Plan, Chart, Table, Sensitivity, Fly}
+use Rattle.mm_command_line.specs.declared.task.Task.TheVariants.{Plan, Chart, Table, Rest, Sensitivity, Fly}
 
 abbrev Text : Type 0
 Text = List ℕ
@@ -65,12 +66,13 @@ abbrev pub has_output : List Text → Bool
 has_output [] = false
 has_output (command ∷ names) =
     bytes_eq command (codes "plan") || bytes_eq command (codes "chart") || bytes_eq command (codes "table")
-    || bytes_eq command (codes "sensitivity")
+    || bytes_eq command (codes "rest") || bytes_eq command (codes "sensitivity")
 
 no_output : (task : Task) → has_output (command_words task) ≡ false → output_of task ≡ None
 no_output (Plan setup forecast in_order output) none = absurd (true≢false none)
 no_output (Chart files worth output) none = absurd (true≢false none)
 no_output (Table files output) none = absurd (true≢false none)
+no_output (Rest kept output) none = absurd (true≢false none)
 no_output (Sensitivity setup forecast output) none = absurd (true≢false none)
 no_output other none = refl
 
@@ -106,12 +108,15 @@ pub bare : (task : Task)
     → task ≡ Plan setup forecast in_order output → ⊥)
     → ((files : PlanFiles) (worth : Bool) (output : Option (Bor Text)) → task ≡ Chart files worth output → ⊥)
     → ((files : PlanFiles) (output : Option (Bor Text)) → task ≡ Table files output → ⊥)
+    → ((kept : KeptSteps) (output : Option (Bor Text)) → task ≡ Rest kept output → ⊥)
     → ((setup forecast : Bor Text) (output : Option (Bor Text)) → task ≡ Sensitivity setup forecast output → ⊥)
     → ((files : FlightFiles) → task ≡ Fly files → ⊥) → AreBare (command_words task)
-bare (Plan setup forecast in_order output) plan chart table worths fly =
+bare (Plan setup forecast in_order output) plan chart table rest worths fly =
     absurd (plan setup forecast in_order output refl)
-bare (Chart files worth output) plan chart table worths fly = absurd (chart files worth output refl)
-bare (Table files output) plan chart table worths fly = absurd (table files output refl)
-bare (Sensitivity setup forecast output) plan chart table worths fly = absurd (worths setup forecast output refl)
-bare (Fly files) plan chart table worths fly = absurd (fly files refl)
-bare other plan chart table worths fly = record { flags = refl; output = refl }
+bare (Chart files worth output) plan chart table rest worths fly = absurd (chart files worth output refl)
+bare (Table files output) plan chart table rest worths fly = absurd (table files output refl)
+bare (Rest kept output) plan chart table rest worths fly = absurd (rest kept output refl)
+bare (Sensitivity setup forecast output) plan chart table rest worths fly =
+    absurd (worths setup forecast output refl)
+bare (Fly files) plan chart table rest worths fly = absurd (fly files refl)
+bare other plan chart table rest worths fly = record { flags = refl; output = refl }

@@ -8,13 +8,20 @@ use Rattle.mm_command_line.specs.declared.options.Next.{Next}
 use Rattle.mm_command_line.specs.declared.options.Next.TheVariants.{Command, Any, Output, File}
 use Rattle.mm_command_line.specs.declared.task.FlightPlan.{FlightPlan}
 use Rattle.mm_command_line.specs.declared.task.FlightPlan.TheVariants.{Given, Made}
+use Rattle.mm_command_line.specs.declared.task.KeptSteps.{KeptSteps}
 use Rattle.mm_command_line.specs.declared.task.PlanFiles.{PlanFiles}
 use Rattle.mm_command_line.specs.declared.task.Task.{Task}
-use Rattle.mm_command_line.specs.declared.task.Task.TheVariants.{Plan, Check, Chart, Table, Sensitivity, Fly, Ask, Read}
+use Rattle.mm_command_line.specs.declared.task.Task.TheVariants.{Plan, Check, Chart, Table, Rest, Sensitivity, Fly}
+use Rattle.mm_command_line.specs.declared.task.Task.TheVariants.{Ask, Read}
 
 -- the names of the files of a judged plan
 abbrev pub plan_names : PlanFiles → List (List ℕ)
 plan_names files = files.setup.now ∷ files.forecast.now ∷ files.plan.now ∷ []
+
+-- the words for the first steps of a plan
+abbrev pub kept_names : KeptSteps → List (List ℕ)
+kept_names kept =
+    kept.files.setup.now ∷ kept.files.forecast.now ∷ kept.files.plan.now ∷ kept.last.now ∷ []
 
 -- the words of a run: with the file of a plan, or with none
 abbrev pub flight_spelling : List ℕ → List ℕ → List ℕ → List ℕ → FlightPlan → List (List ℕ)
@@ -29,6 +36,7 @@ command_words (Plan setup forecast in_order output) = codes "plan" ∷ setup.now
 command_words (Check files) = codes "check" ∷ plan_names files
 command_words (Chart files worth output) = codes "chart" ∷ plan_names files
 command_words (Table files output) = codes "table" ∷ plan_names files
+command_words (Rest kept output) = codes "rest" ∷ kept_names kept
 command_words (Sensitivity setup forecast output) = codes "sensitivity" ∷ setup.now ∷ forecast.now ∷ []
 command_words (Fly f) = flight_spelling f.setup.now f.forecast.now f.sources.now f.links.now f.plan
 command_words (Ask setup requests) = codes "ask" ∷ setup.now ∷ requests.now ∷ []
@@ -39,6 +47,7 @@ abbrev pub output_of : Task → Option (Bor (List ℕ))
 output_of (Plan setup forecast in_order output) = output
 output_of (Chart files worth output) = output
 output_of (Table files output) = output
+output_of (Rest kept output) = output
 output_of (Sensitivity setup forecast output) = output
 output_of task = None
 

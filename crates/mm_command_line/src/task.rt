@@ -41,6 +41,14 @@ pub struct PlanFiles<'a> {
     pub plan: &'a str,
 }
 
+/// The first steps of a plan.
+#[derive(Clone, Copy)]
+pub struct KeptSteps<'a> {
+    pub files: PlanFiles<'a>,
+    /// The word for the last of these steps.
+    pub last: &'a str,
+}
+
 /// The plan of a run.
 #[derive(Clone, Copy)]
 pub enum FlightPlan<'a> {
@@ -123,6 +131,11 @@ pub enum Task<'a> {
         files: PlanFiles<'a>,
         output: Option<&'a str>,
     },
+    /// Say what is left of the problem after the first steps of a plan.
+    Rest {
+        kept: KeptSteps<'a>,
+        output: Option<&'a str>,
+    },
     /// Say what each window, size and limit is worth.
     Sensitivity {
         setup: &'a str,
@@ -160,6 +173,8 @@ impl<'a> Task<'a> {
             } => names! { setup: setup, forecast: forecast },
             Task::Check(files) | Task::Chart { files, .. } | Task::Table { files, .. } =>
                 names! { setup: files.setup, forecast: files.forecast, plan: files.plan },
+            Task::Rest { kept, .. } =>
+                names! { setup: kept.files.setup, forecast: kept.files.forecast, plan: kept.files.plan },
             Task::Fly(files) => files.names(),
             Task::Ask { setup, requests } => names! { setup: setup, packets: requests },
             Task::Read { packets } => names! { packets: packets },
@@ -211,6 +226,7 @@ impl<'a> Task<'a> {
                 })
             }
             Task::Table { files, .. } if flags.is_empty() => Some(Task::Table { files, output }),
+            Task::Rest { kept, .. } if flags.is_empty() => Some(Task::Rest { kept, output }),
             Task::Sensitivity {
                 setup,
                 forecast,

@@ -16,7 +16,7 @@ static FLAGS: [Flag; 5] = [
     (WORTH, "goes with chart"),
     (
         OUTPUT,
-        "goes with plan, chart, table and sensitivity, and has the name of a file after it",
+        "goes with plan, chart, table, rest and sensitivity, and has the name of a file after it",
     ),
     ("--help", "stands alone or after a command"),
     ("--version", "stands alone"),
@@ -71,7 +71,8 @@ impl fmt::Display for FlagFault<'_> {
                 write! { f, "there is no flag '{word}'; did you mean {near}, which {place}?" },
             FlagFault::NoSuchFlag(word) => write! {
                 f, "there is no flag '{word}', and none is spelled alike; there are --in-order of plan and fly, \
-                    --worth of chart, --output FILE of plan, chart, table and sensitivity, and --help"
+                    --worth of chart, --output FILE of plan, chart, table, rest and \
+                    sensitivity, and --help"
             },
         }
     }
@@ -118,8 +119,8 @@ static OPTIONS: [TaskOption; 3] = [
     (WORTH, &["chart"], "chart"),
     (
         OUTPUT,
-        &["plan", "chart", "table", "sensitivity"],
-        "plan, chart, table and sensitivity",
+        &["plan", "chart", "table", "rest", "sensitivity"],
+        "plan, chart, table, rest and sensitivity",
     ),
 ];
 

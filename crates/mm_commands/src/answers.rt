@@ -1,5 +1,6 @@
 //! What answers a task, by the texts of its files.
-ghost use Rattle.std.specs.Prelude.{◌≡◌, ◌≢◌, false, IfOk, IfErr};
+ghost use Rattle.std.specs.Prelude.{◌≡◌, ◌≢◌, ℕ, List, Option, false, IfOk, IfErr};
+ghost use Rattle.std.specs.Borrow.{Bor};
 ghost use Rattle.std.specs.Option.{option_copied};
 ghost use Rattle.mm_base.specs.Reading.{IfRefused};
 ghost use Rattle.mm_cut.specs.Checking.{IsFaultOf as IsCheckFault};
@@ -9,7 +10,9 @@ ghost use Rattle.mm_sensitivity.specs.Charts.{ChartsWorth};
 ghost use Rattle.mm_sensitivity.specs.Table.{AreWorths, IsWorthTable};
 ghost use Rattle.mm_chart.specs.Charts.{Charts};
 ghost use Rattle.mm_chart.specs.Table.{IsTableOf};
-ghost use Rattle.mm_commands.specs.Answers.{DrawsPlan, IsAnswerTo, Judges, PlansText, given_plan, goal_of, is_run};
+ghost use Rattle.mm_command_line.specs.declared.task.Task.TheVariants.{Rest};
+ghost use Rattle.mm_commands.specs.Answers.{DrawsPlan, IsAnswerTo, Judges, PlansText, TellsRest, given_plan, goal_of};
+ghost use Rattle.mm_commands.specs.Answers.{is_run};
 ghost use Rattle.mm_commands.specs.Answers.{status_in, status_of, status_of_replies};
 ghost use Rattle.mm_commands.specs.Refusing.{IsFaultIn};
 ghost use Rattle.mm_commands.specs.declared.status.Status.TheVariants.{BadCommandLine};
@@ -21,10 +24,11 @@ use crate::texts::TaskTexts;
 use mm_ask::{Outcome, Replies, ask_bytes, read_bytes};
 use mm_base::NoMemory;
 use mm_chart::{Picture, draw};
-use mm_command_line::{FlightPlan, Task};
+use mm_command_line::{FlightPlan, KeptSteps, Task};
 use mm_cut::{Verdict, verdict_line, verdict_of};
 use mm_planner::{Goal, print_plan_for};
 use mm_problem::Problem;
+use mm_rest::{kept_step, rest_script};
 use mm_sensitivity::{Progress, Worth, chart_worths, worths_with_progress};
 use std::alloc::Global;
 
@@ -105,7 +109,7 @@ fn plan_text(alloc: Global, in_order: bool, texts: &TaskTexts) -> Result<Noted, 
     ensures refused { IfRefused cut_fault.NoMemory result (IsPlanningFault texts.now.setup.items
         texts.now.forecast.items) }
 {
-    let Given { problem, notes } = read_given(alloc, texts)?;
+    let Given { problem, notes, .. } = read_given(alloc, texts)?;
     let goal = goal_of(FlightPlan::Made { in_order });
     let printed = print_plan_for(alloc, &problem, goal)?;
     Ok(Noted {
@@ -125,6 +129,7 @@ fn judge(alloc: Global, texts: &TaskTexts) -> Result<Judged, mm_cut::Fault>
         problem,
         sheet,
         notes,
+        ..
     } = read_given_plan(alloc, texts)?;
     let verdict = verdict_of(&problem, &sheet);
     let line = verdict_line(alloc, verdict)?;
@@ -146,6 +151,7 @@ fn plain_chart(alloc: Global, texts: &TaskTexts) -> Result<Noted, mm_cut::Fault>
         problem,
         sheet,
         notes,
+        ..
     } = read_given_plan(alloc, texts)?;
     let picture = Picture::new(alloc, problem, sheet)?;
     let text = draw(alloc, &picture)?;
@@ -163,6 +169,7 @@ fn worth_chart(alloc: Global, texts: &TaskTexts) -> Result<Noted, mm_cut::Fault>
         problem,
         sheet,
         notes,
+        ..
     } = read_given_plan(alloc, texts)?;
     let worths = chart_worths(alloc, &problem)?;
     let picture = Picture::new(alloc, problem, sheet)?;
@@ -195,6 +202,7 @@ fn table_text(alloc: Global, texts: &TaskTexts) -> Result<Noted, mm_cut::Fault>
         problem,
         sheet,
         notes,
+        ..
     } = read_given_plan(alloc, texts)?;
     let text = mm_chart::table_of(alloc, &problem, sheet.plan())?;
     Ok(Noted { text, notes })
@@ -227,9 +235,32 @@ fn worth_table<P: Progress>(
     ensures refused { IfRefused cut_fault.NoMemory result (IsPlanningFault texts.now.setup.items
         texts.now.forecast.items) }
 {
-    let Given { problem, notes } = read_given(alloc, texts)?;
+    let Given { problem, notes, .. } = read_given(alloc, texts)?;
     let worths = worths_told(alloc, &problem, progress)?;
     let text = mm_sensitivity::table_of(alloc, &problem, worths.as_slice())?;
+    Ok(Noted { text, notes })
+}
+
+// The script of what is left after the first steps of a plan.
+fn rest_text<'a>(alloc: Global, kept: KeptSteps<'a>, texts: &TaskTexts) -> Result<Noted, Fault<'a>>
+    ensures rest { IfOk result (λ noted. TellsRest texts.now.setup.items texts.now.forecast.items texts.now.plan.items
+        kept.entry.last.now noted.text.items) }
+    ensures refused { IfErr result (λ e. (output : Option (Bor (List ℕ)))
+        → IsFaultIn (Rest kept.entry output) texts.now e) }
+{
+    let GivenPlan {
+        setup,
+        problem,
+        sheet,
+        notes,
+    } = read_given_plan(alloc, texts)?;
+    let Some(step) = kept_step(&problem, kept.last) else {
+        return Err(Fault::NoStepAfter {
+            word: kept.last,
+            steps: problem.steps(),
+        });
+    };
+    let text = rest_script(alloc, &setup, &problem, sheet.plan(), step)?;
     Ok(Noted { text, notes })
 }
 
@@ -299,6 +330,14 @@ pub(crate) fn answer_without_run<'a, P: Progress>(
         }
         Task::Table { output, .. } => {
             let Noted { text, notes } = table_text(alloc, texts)?;
+            Ok(Answer::Text {
+                text,
+                output,
+                notes,
+            })
+        }
+        Task::Rest { kept, output } => {
+            let Noted { text, notes } = rest_text(alloc, kept, texts)?;
             Ok(Answer::Text {
                 text,
                 output,

@@ -38,6 +38,7 @@ mod planning;
 mod progressing;
 mod reading;
 mod refusing;
+mod resting;
 mod samples;
 mod storing;
 mod streams;

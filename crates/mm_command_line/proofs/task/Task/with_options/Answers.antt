@@ -3,9 +3,10 @@ use Rattle.std.proofs.lemmas.List.{length-map}
 use Rattle.mm_command_line.specs.Lines.{command_words}
 use Rattle.mm_command_line.proofs.Parts.{bare, flags_none, flags_of, outputs_none, own_flags}
 use Rattle.mm_command_line.proofs.task.Task.with_options.Goals.{in_default-via-in-Table+else-is_empty}
-use Rattle.mm_command_line.proofs.task.Task.with_options.Goals.{in_default-via-in-Sensitivity+else-is_empty-2}
+use Rattle.mm_command_line.proofs.task.Task.with_options.Goals.{in_default-via-in-Rest+else-is_empty-2}
+use Rattle.mm_command_line.proofs.task.Task.with_options.Goals.{in_default-via-in-Sensitivity+else-is_empty-3}
 use Rattle.mm_command_line.proofs.task.Task.with_options.Goals.{in_default-via-in_default}
-use Rattle.mm_command_line.proofs.task.Task.with_options.Goals.{then-is_empty-3+else-is_none, else-is_empty-3}
+use Rattle.mm_command_line.proofs.task.Task.with_options.Goals.{then-is_empty-4+else-is_none, else-is_empty-4}
 use Rattle.mm_command_line.proofs.task.Task.with_options.Goals as goal
 
 pub returns-in_err-in_order-in-Plan-clause-none : goal.returns-in_err-in_order-in-Plan-clause-none
@@ -29,17 +30,20 @@ returns-in_default-2-clause-none c = λ task same flags outputs.
       | in_default-via-in-Table+else-is_empty w ↦
           let none = no_flag (ap (λ t. own_flags (command_words t)) w.in-Table.is) in
           grind (arith, none, w.if-is_empty.ensures)
-      | in_default-via-in-Sensitivity+else-is_empty-2 w ↦
-          let none = no_flag (ap (λ t. own_flags (command_words t)) w.in-Sensitivity.is) in
+      | in_default-via-in-Rest+else-is_empty-2 w ↦
+          let none = no_flag (ap (λ t. own_flags (command_words t)) w.in-Rest.is) in
           grind (arith, none, w.if-is_empty-2.ensures)
+      | in_default-via-in-Sensitivity+else-is_empty-3 w ↦
+          let none = no_flag (ap (λ t. own_flags (command_words t)) w.in-Sensitivity.is) in
+          grind (arith, none, w.if-is_empty-3.ensures)
       | in_default-via-in_default w ↦
           let rest = bare c.args.self w.in_default.not-Plan w.in_default.not-Chart w.in_default.not-Table
-          w.in_default.not-Sensitivity w.in_default.not-Fly in
-          elim c.if-is_empty-3.branch [
-            | then-is_empty-3+else-is_none v ↦
+          w.in_default.not-Rest w.in_default.not-Sensitivity w.in_default.not-Fly in
+          elim c.if-is_empty-4.branch [
+            | then-is_empty-4+else-is_none v ↦
                 let none = outputs_none task words _ c.in_ok-output.output same rest.output outputs
                 c.in_ok-output.ensures.given in
                 grind (arith, none, v.is_none.ensures, v.if-is_none.false)
-            | else-is_empty-3 v ↦ let none = no_flag rest.flags in grind (arith, none, v.if-is_empty-3.ensures)
+            | else-is_empty-4 v ↦ let none = no_flag rest.flags in grind (arith, none, v.if-is_empty-4.ensures)
           ]
     ]
