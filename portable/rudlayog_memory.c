@@ -1,8 +1,8 @@
 /* Rudlayog: the memory with its storage service in C. dist/portable made this file of the proved library; do not change it by hand.
  * portable/README.md says how to compile it, and docs/TRUST.md what stands unproved between the proof and it.
  *
- * Sources: 77c5a6a7ab8b5d64048e100a842ac7df626be3e41ba950e3e67c7425db179025
- * Toolchain: rattle-kit-13b logic dac8208d650f15bf
+ * Sources: 70cffc9b8ac81f5ea6526681c7d58ae59c05b94353174c7096f63b875ffd4409
+ * Toolchain: rattle-kit-13f logic dac8208d650f15bf
  *
  * SPDX-License-Identifier: MIT OR Apache-2.0
  *
@@ -730,10 +730,12 @@ RUD_EACH void rud_store32(u8 *to, u32 it) {
 }
 #endif
 
-#if RUD_TYPED
-/* No macro: gcc passes an argument by the type that it was read with, and on Arm one of 64 bits without alignment goes
- * elsewhere than where the function expects it. */
-RUD_INLINE u64 rud_load64(const u8 *from) { return *(const rud_u64 *)from; }
+#if RUD_TYPED && UINTPTR_MAX > 0xFFFFFFFFu
+#define rud_load64(from) (*(const rud_u64 *)(from))
+#elif RUD_TYPED
+/* gcc passes an argument by the type that it was read with, also past sums and inline functions, and on Arm one of 64
+ * bits without alignment goes elsewhere than where the function expects it. */
+RUD_INLINE u64 rud_load64(const u8 *from) { return (u64)rud_load32(from + 4) << 32 | rud_load32(from); }
 #else
 RUD_EACH u64 rud_load64(const u8 *from) {
 #if RUDLAYOG_SWAPPED
@@ -10114,8 +10116,8 @@ RUD_HERE
 if ((s64)RUD_G0 >= (s64)16u) {
 v2 = ((u64)a1 & 255u) << 3;
 TEST(a0);
-SET64(a0, 8, GET_FAR64(v2, 4205544));
-SET64(a0, 0, GET_FAR64(v2, 4205704));
+SET64(a0, 8, GET_FAR64(v2, 4205552));
+SET64(a0, 0, GET_FAR64(v2, 4205712));
 return;
 }
 rud_trap();
@@ -12080,12 +12082,12 @@ TEST(a0);
 v1 = AT64(a0, 8);
 if (v1 == 0) {
 v4 = 5u;
-j0 = 4205496u;
+j0 = 4205504u;
 goto L3;
 }
 if ((u32)(v1 == 5u) | (u32)((v1 - 6u) < 0xfffffffffffffffbull)) goto L2;
 v4 = 5ull - v1;
-j0 = (v1 << 3) + 4205496u;
+j0 = (v1 << 3) + 4205504u;
 L3:;
 v5 = j0;
 TEST(v5);
@@ -12480,36 +12482,36 @@ rud_trap();
 
 static void in_rudlayog_memory_open(RUD_IT u64 a0, u64 a1, u64 a2, u64 a3) {
 u32 v29 = 0, v30 = 0, v31 = 0, v32 = 0, v33 = 0, v34 = 0, v35 = 0, v36 = 0, v37 = 0, v38 = 0, v39 = 0, i0 = 0;
-u32 i1 = 0;
+u32 i1 = 0, i2 = 0;
 u64 v4 = 0, v5 = 0, v6 = 0, v7 = 0, v8 = 0, v9 = 0, v10 = 0, v11 = 0, v12 = 0, v13 = 0, v14 = 0, v15 = 0;
 u64 v16 = 0, v17 = 0, v18 = 0, v19 = 0, v20 = 0, v21 = 0, v22 = 0, v23 = 0, v24 = 0, v25 = 0, v26 = 0, v27 = 0;
 u64 v28 = 0, j0 = 0, j1 = 0;
 RUD_HERE
-(void)v21;
+(void)v25;
 (void)v27;
 i0 = in_rattle_enter(RUD_AS0);
 if (i0) {
 rud_trap();
 }
-v25 = a0;
-v6 = a2;
-v15 = a3;
+v22 = a0;
+v7 = a2;
+v16 = a3;
 v4 = RUD_G0 - 1920u;
 RUD_G0 = v4;
 if ((s64)v4 < (s64)16u) goto L8;
-TEST(v25);
-if (AT8(v25, 8) == 1u) {
-TEST(v15);
-SET64(v15, 4, 0u);
-SET32(v15, 0, 4u);
-SET64(v15, 12, 0u);
-SET64(v15, 20, 0u);
-SET64(v15, 28, 0u);
-SET64(v15, 36, 0u);
-SET32(v15, 44, 0u);
+TEST(v22);
+if (AT8(v22, 8) == 1u) {
+TEST(v16);
+SET64(v16, 4, 0u);
+SET32(v16, 0, 4u);
+SET64(v16, 12, 0u);
+SET64(v16, 20, 0u);
+SET64(v16, 28, 0u);
+SET64(v16, 36, 0u);
+SET32(v16, 44, 0u);
 goto L2;
 }
-v7 = a1 + (a1 == 0 ? 4096ull : 0ull);
+v11 = a1 + (a1 == 0 ? 4096ull : 0ull);
 a0 = 0u;
 TEST_FAR(v4, 896);
 SET64(v4, 536, 0u);
@@ -12615,71 +12617,71 @@ SET64(v4, 552, 0u);
 SET64(v4, 936, 0u);
 SET64(v4, 928, 0u);
 SET64(v4, 920, 0u);
-v33 = v6 == 0;
-if (v33) goto L12;
-v10 = v6 - 8u;
-a3 = v7 + v10;
+v30 = v7 == 0;
+if (v30) goto L12;
+v9 = v7 - 8u;
+v6 = v11 + v9;
 L13:;
 a1 = a0;
-v5 = v7 + a1;
-TEST(v5);
-v30 = AT8(v5, 0);
-a0 = v6 - a0;
-if (((u32)((s32)(u32)(s32)(s8)v30 < (s32)0u) | (u32)(a0 < 2u)) == 0) {
-a2 = 1u;
-if ((s32)(u32)(s32)(s8)AT8(v5, 1) < (s32)0u) goto L17;
-SET64(v4, 952, v6);
-SET64(v4, 944, v7);
-if (a0 <= 7u) {
-if ((s32)(u32)(s32)(s8)AT8(v5, 0) < (s32)0u) {
+a0 = v11 + a1;
+TEST(a0);
+v29 = AT8(a0, 0);
+a2 = v7 - a1;
+if (((u32)((s32)(u32)(s32)(s8)v29 < (s32)0u) | (u32)(a2 < 2u)) == 0) {
+a3 = 1u;
+if ((s32)(u32)(s32)(s8)AT8(a0, 1) < (s32)0u) goto L17;
+SET64(v4, 952, v7);
+SET64(v4, 944, v11);
+if (a2 <= 7u) {
+if ((s32)(u32)(s32)(s8)AT8(a0, 0) < (s32)0u) {
 a0 = a1;
 goto L14;
 }
 a0 = a1 + 1u;
-if (a0 == v6) goto L12;
-if ((s32)(u32)(s32)(s8)GET8(a0 + v7, 0) < (s32)0u) goto L14;
+if (a0 == v7) goto L12;
+if ((s32)(u32)(s32)(s8)GET8(a0 + v11, 0) < (s32)0u) goto L14;
 a0 = a1 + 2u;
-if (a0 == v6) goto L12;
-if ((s32)(u32)(s32)(s8)GET8(a0 + v7, 0) < (s32)0u) goto L14;
+if (a0 == v7) goto L12;
+if ((s32)(u32)(s32)(s8)GET8(a0 + v11, 0) < (s32)0u) goto L14;
 a0 = a1 + 3u;
-if (a0 == v6) goto L12;
-if ((s32)(u32)(s32)(s8)GET8(a0 + v7, 0) < (s32)0u) goto L14;
+if (a0 == v7) goto L12;
+if ((s32)(u32)(s32)(s8)GET8(a0 + v11, 0) < (s32)0u) goto L14;
 a0 = a1 + 4u;
-if (a0 == v6) goto L12;
-if ((s32)(u32)(s32)(s8)GET8(a0 + v7, 0) < (s32)0u) goto L14;
+if (a0 == v7) goto L12;
+if ((s32)(u32)(s32)(s8)GET8(a0 + v11, 0) < (s32)0u) goto L14;
 a0 = a1 + 5u;
-if (a0 == v6) goto L12;
-if ((s32)(u32)(s32)(s8)GET8(a0 + v7, 0) < (s32)0u) goto L14;
+if (a0 == v7) goto L12;
+if ((s32)(u32)(s32)(s8)GET8(a0 + v11, 0) < (s32)0u) goto L14;
 a0 = a1 + 6u;
-if (a0 == v6) goto L12;
-if ((s32)(u32)(s32)(s8)GET8(a0 + v7, 0) < (s32)0u) goto L14;
+if (a0 == v7) goto L12;
+if ((s32)(u32)(s32)(s8)GET8(a0 + v11, 0) < (s32)0u) goto L14;
 goto L12;
 }
-a0 = AT64(v5, 0) & 0x8080808080808080ull;
+a0 = AT64(a0, 0) & 0x8080808080808080ull;
 a0 = (a0 == 0 ? 8ull : (rud_ctz64(a0) >> 3)) + a1;
 if (a0 < (a1 + 8u)) goto L14;
-if ((v6 - a0) < 32u) goto L21;
+if ((v7 - a0) < 32u) goto L21;
 L22:;
-a1 = a0 + v7;
+a1 = a0 + v11;
 TEST(a1);
 if (((((AT64(a1, 8) | AT64(a1, 0)) | AT64(a1, 16)) | AT64(a1, 24)) & 0x8080808080808080ull) != 0u) goto L21;
-j0 = v6;
-a1 = v4 + 944u;
-v5 = a0 + 32u;
+j0 = v7;
+a3 = v4 + 944u;
+a1 = a0 + 32u;
 if ((s64)RUD_G0 >= (s64)16u) {
-a2 = v6 - v5;
+a2 = v7 - a1;
 if (a2 < 64u) goto L25;
-a0 = AT64(v4, 944);
+a3 = AT64(v4, 944);
 L26:;
-a1 = a0 + v5;
-TEST(a1);
-i1 = ((((((((AT64(a1, 16) | AT64(a1, 0)) | AT64(a1, 32)) | AT64(a1, 48)) | AT64(a1, 8)) | AT64(a1, 24)) | AT64(a1, 40)) | AT64(a1, 56)) & 0x8080808080808080ull) != 0u;
+a0 = a1 + a3;
+TEST(a0);
+i1 = ((((((((AT64(a0, 16) | AT64(a0, 0)) | AT64(a0, 32)) | AT64(a0, 48)) | AT64(a0, 8)) | AT64(a0, 24)) | AT64(a0, 40)) | AT64(a0, 56)) & 0x8080808080808080ull) != 0u;
 if (i1) goto L25;
-v5 = v5 + 64u;
+a1 = a1 + 64u;
 a2 = a2 - 64u;
 if (a2 > 63u) goto L26;
 L25:;
-j1 = v5;
+j1 = a1;
 goto L23;
 }
 rud_trap();
@@ -12687,11 +12689,11 @@ L23:;
 a0 = j1;
 if ((j0 - a0) > 31u) goto L22;
 L21:;
-v5 = v6 - a0;
+v5 = v7 - a0;
 L27:;
 if (v5 < 9u) goto L16;
 v5 = v5 - 8u;
-a1 = GET64(a0 + v7, 0) & 0x8080808080808080ull;
+a1 = GET64(a0 + v11, 0) & 0x8080808080808080ull;
 a1 = a1 == 0 ? 8ull : (rud_ctz64(a1) >> 3);
 j0 = a1 + a0;
 a0 = a0 + 8u;
@@ -12699,51 +12701,51 @@ if (j0 >= a0) goto L27;
 a0 = (a0 + a1) - 8u;
 goto L14;
 }
-a2 = 1u;
-if ((s32)(u32)(s32)(s8)v30 >= (s32)0u) goto L17;
-if (v30 < 194u) goto L15;
-if (v30 <= 223u) {
-a2 = 2u;
-if (a0 < 2u) goto L15;
-if ((s32)(u32)(s32)(s8)AT8(v5, 1) <= (s32)4294967231u) goto L17;
+a3 = 1u;
+if ((s32)(u32)(s32)(s8)v29 >= (s32)0u) goto L17;
+if (v29 < 194u) goto L15;
+if (v29 <= 223u) {
+a3 = 2u;
+if (a2 < 2u) goto L15;
+if ((s32)(u32)(s32)(s8)AT8(a0, 1) <= (s32)4294967231u) goto L17;
 goto L15;
 }
-if (v30 <= 239u) {
-if (a0 < 3u) goto L15;
-v29 = (u32)(s32)(s8)AT8(v5, 1);
-if ((s32)v29 > (s32)4294967231u) goto L15;
-if ((s32)(u32)(s32)(s8)AT8(v5, 2) > (s32)4294967231u) goto L15;
-v29 = ((v29 & 255u) + (v30 << 6)) - 14464u;
+if (v29 <= 239u) {
+if (a2 < 3u) goto L15;
+v33 = (u32)(s32)(s8)AT8(a0, 1);
+if ((s32)v33 > (s32)4294967231u) goto L15;
+if ((s32)(u32)(s32)(s8)AT8(a0, 2) > (s32)4294967231u) goto L15;
+v29 = ((v33 & 255u) + (v29 << 6)) - 14464u;
 if (v29 < 32u) goto L15;
-a2 = 3u;
+a3 = 3u;
 if (v29 < 864u) goto L17;
 j0 = v29 < 896u ? 0ull : 3ull;
 goto L29;
 }
-if (a0 < 4u) goto L15;
-v29 = (u32)(s32)(s8)AT8(v5, 1);
-if ((s32)v29 > (s32)4294967231u) goto L15;
-if ((s32)(u32)(s32)(s8)AT8(v5, 2) > (s32)4294967231u) goto L15;
-if ((s32)(u32)(s32)(s8)AT8(v5, 3) > (s32)4294967231u) goto L15;
-v29 = ((v29 & 255u) + (v30 << 6)) - 15488u;
+if (a2 < 4u) goto L15;
+v33 = (u32)(s32)(s8)AT8(a0, 1);
+if ((s32)v33 > (s32)4294967231u) goto L15;
+if ((s32)(u32)(s32)(s8)AT8(a0, 2) > (s32)4294967231u) goto L15;
+if ((s32)(u32)(s32)(s8)AT8(a0, 3) > (s32)4294967231u) goto L15;
+v29 = ((v33 & 255u) + (v29 << 6)) - 15488u;
 if (v29 < 16u) goto L15;
 j0 = v29 < 272u ? 4ull : 0ull;
 L29:;
-a2 = j0;
-if (a2 == 0) goto L15;
+a3 = j0;
+if (a3 == 0) goto L15;
 L17:;
-a0 = a1 + a2;
+a0 = a1 + a3;
 goto L14;
 L16:;
-TEST(a3);
-a0 = AT64(a3, 0) & 0x8080808080808080ull;
-a0 = (a0 == 0 ? 8ull : (rud_ctz64(a0) >> 3)) + v10;
+TEST(v6);
+a0 = AT64(v6, 0) & 0x8080808080808080ull;
+a0 = (a0 == 0 ? 8ull : (rud_ctz64(a0) >> 3)) + v9;
 goto L14;
 L15:;
 i0 = 1u;
 goto L11;
 L14:;
-if (a0 < v6) goto L13;
+if (a0 < v7) goto L13;
 L12:;
 a0 = 0u;
 SET64(v4, 1160, 0u);
@@ -12769,45 +12771,46 @@ SET64(v4, 1224, 0u);
 SET64(v4, 1200, 0u);
 SET64(v4, 1192, 0u);
 SET64(v4, 1184, 0u);
-a2 = v7;
-if (v33) { j0 = 0u; goto L31; }
-if (v6 == 1u) { j0 = v6; goto L31; }
-TEST(v7);
-if (AT8(v7, 0) != 239u) { j0 = v6; goto L31; }
-if (v6 < 3u) { j0 = v6; goto L31; }
-if (AT8(v7, 1) != 187u) { j0 = v6; goto L31; }
-if (AT8(v7, 2) != 191u) { j0 = v6; goto L31; }
-a2 = v7 + 3u;
-j0 = v6 - 3u;
+a3 = v11;
+if (v30) { j0 = 0u; goto L31; }
+if (v7 == 1u) { j0 = v7; goto L31; }
+TEST(v11);
+if (AT8(v11, 0) != 239u) { j0 = v7; goto L31; }
+if (v7 < 3u) { j0 = v7; goto L31; }
+if (AT8(v11, 1) != 187u) { j0 = v7; goto L31; }
+if (AT8(v11, 2) != 191u) { j0 = v7; goto L31; }
+a3 = v11 + 3u;
+j0 = v7 - 3u;
 L31:;
 v5 = j0;
-in_toml_parser_text_skip_blank(RUD_AS v4 + 104u, a2, v5, 1u);
+in_toml_parser_text_skip_blank(RUD_AS v4 + 104u, a3, v5, 1u);
+v6 = 0u;
 if (AT64(v4, 112) == 0) goto L10;
 SET64(v4, 1320, 0u);
 SET64(v4, 1312, 0u);
 SET64(v4, 1304, 0u);
-v21 = v4 + 1592u;
-v19 = v4 + 1784u;
-v26 = (v4 + 1488u) | 2u;
-v27 = v4 + 1594u;
-v28 = (v4 + 1888u) | 2u;
-v20 = v4 + 1426u;
+v17 = v4 + 1592u;
+v28 = v4 + 1784u;
+v24 = (v4 + 1488u) | 2u;
+v25 = v4 + 1594u;
+v26 = (v4 + 1888u) | 2u;
+v27 = v4 + 1426u;
 a0 = v4 + 1912u;
 L33:;
-in_toml_parser_text_skip_blank(RUD_AS v4 + 88u, a2, v5, 1u);
-v24 = AT64(v4, 96);
-if (v24 == 0) {
+in_toml_parser_text_skip_blank(RUD_AS v4 + 88u, a3, v5, 1u);
+v21 = AT64(v4, 96);
+if (v21 == 0) {
 SET64(v4, 1280, (u64)AT8(v4, 1304));
 SET64(v4, 1288, AT64(v4, 1312));
 SET64(v4, 1296, AT64(v4, 1320));
 in_toml_de_tables_close(RUD_AS v4 + 1520u, v4 + 1280u);
 RUD_AGAIN
 if (AT8(v4, 1520)) goto L38;
-SET64(v4, 1248, v13);
-SET64(v4, 1240, v22);
+SET64(v4, 1248, v12);
+SET64(v4, 1240, v19);
 SET64(v4, 1232, a0);
-v12 = AT64(v4, 1544);
-v8 = AT64(v4, 1536);
+v10 = AT64(v4, 1544);
+v6 = AT64(v4, 1536);
 a0 = (u64)AT8(v4, 1528);
 in_std_alloc_vec_Vec_drop_95beaedac91b374b(RUD_AS v4 + 1232u);
 RUD_AGAIN
@@ -12832,166 +12835,166 @@ SET64(v4, 1368, 0u);
 SET64(v4, 1360, 0u);
 SET64(v4, 1352, 0u);
 TEST(a1);
-v36 = AT8(a1, 0);
-if (v36 == 91u) {
-if (v24 == 1u) goto L44;
+v35 = AT8(a1, 0);
+if (v35 == 91u) {
+if (v21 == 1u) goto L44;
 if (AT8(a1, 1) != 91u) goto L44;
-in_toml_de_document_header_key(RUD_AS v4 + 1584u, a1 + 2u, v24 - 2u);
+in_toml_de_document_header_key(RUD_AS v4 + 1584u, a1 + 2u, v21 - 2u);
 RUD_AGAIN
-v14 = AT64(v4, 1608);
-v8 = AT64(v4, 1600);
+v15 = AT64(v4, 1608);
+v6 = AT64(v4, 1600);
 v31 = AT8(v4, 1593);
 v29 = AT8(v4, 1592);
 if (AT8(v4, 1584)) goto L42;
-v11 = AT64(v4, 1632);
-v9 = AT64(v4, 1616);
-a3 = AT64(v4, 1648);
-if (!(a3 == 0)) {
+v8 = AT64(v4, 1632);
+v14 = AT64(v4, 1616);
+a2 = AT64(v4, 1648);
+if (!(a2 == 0)) {
 a1 = AT64(v4, 1640);
 TEST(a1);
 if (AT8(a1, 0) == 93u) goto L45;
 }
-TEST(v26);
-SET32(v26, 0, AT32(v4, 1594));
-SET16(v26, 4, AT16(v4, 1598));
+TEST(v24);
+SET32(v24, 0, AT32(v4, 1594));
+SET16(v24, 4, AT16(v4, 1598));
 SET8(v4, 1489, v31);
 SET8(v4, 1488, v29);
-SET64(v4, 1504, v14);
-SET64(v4, 1496, v8);
+SET64(v4, 1504, v15);
+SET64(v4, 1496, v6);
 in_std_alloc_vec_Vec_drop_95beaedac91b374b(RUD_AS v4 + 1488u);
 RUD_AGAIN
 v30 = 5u;
 v32 = 1u;
-if (!(v11 == 0)) goto L40;
-a1 = a3;
+if (!(v8 == 0)) goto L40;
+a1 = a2;
 goto L35;
 L45:;
-v17 = AT64(v4, 1624);
-v5 = a3 - 1u;
-a2 = a1 + 1u;
-v12 = (u64)AT32(v4, 1594) | ((u64)AT16(v4, 1598) << 32);
+v13 = AT64(v4, 1624);
+v5 = a2 - 1u;
+a3 = a1 + 1u;
+v10 = (u64)AT32(v4, 1594) | ((u64)AT16(v4, 1598) << 32);
 v33 = 0u;
 v18 = 2u;
-v23 = 0u;
+v20 = 0u;
 goto L37;
 L44:;
-in_toml_de_document_header_key(RUD_AS v4 + 1776u, a1 + 1u, v24 - 1u);
+in_toml_de_document_header_key(RUD_AS v4 + 1776u, a1 + 1u, v21 - 1u);
 RUD_AGAIN
-v14 = AT64(v4, 1800);
-v8 = AT64(v4, 1792);
+v15 = AT64(v4, 1800);
+v6 = AT64(v4, 1792);
 v31 = AT8(v4, 1785);
 v29 = AT8(v4, 1784);
 if (AT8(v4, 1776)) goto L42;
-v12 = (u64)AT32(v4, 1786) | ((u64)AT16(v4, 1790) << 32);
+v10 = (u64)AT32(v4, 1786) | ((u64)AT16(v4, 1790) << 32);
 v33 = 0u;
 v18 = 1u;
-v23 = 0u;
+v20 = 0u;
 v5 = AT64(v4, 1840);
-a2 = AT64(v4, 1832);
-v11 = AT64(v4, 1824);
-v17 = AT64(v4, 1816);
-v9 = AT64(v4, 1808);
+a3 = AT64(v4, 1832);
+v8 = AT64(v4, 1824);
+v13 = AT64(v4, 1816);
+v14 = AT64(v4, 1808);
 goto L37;
 }
-in_toml_de_value_key_equals(RUD_AS v4 + 1416u, a1, v24);
+in_toml_de_value_key_equals(RUD_AS v4 + 1416u, a1, v21);
 RUD_AGAIN
-v14 = AT64(v4, 1440);
-v8 = AT64(v4, 1432);
+v15 = AT64(v4, 1440);
+v6 = AT64(v4, 1432);
 v31 = AT8(v4, 1425);
 v29 = AT8(v4, 1424);
 if (AT8(v4, 1416) == 0) goto L41;
 L42:;
 v32 = v29;
 v30 = v31;
-a3 = v8;
-a1 = v14;
+a2 = v6;
+a1 = v15;
 goto L35;
 L41:;
-v11 = AT64(v4, 1464);
-v17 = AT64(v4, 1456);
-v9 = AT64(v4, 1448);
+v8 = AT64(v4, 1464);
+v13 = AT64(v4, 1456);
+v14 = AT64(v4, 1448);
 in_toml_de_value_value(RUD_AS v4 + 1352u, AT64(v4, 1472), AT64(v4, 1480), 80u);
 RUD_AGAIN
-v10 = AT64(v4, 1376);
-a3 = AT64(v4, 1368);
+v9 = AT64(v4, 1376);
+a2 = AT64(v4, 1368);
 v30 = AT8(v4, 1361);
 v32 = AT8(v4, 1360);
 if (AT8(v4, 1352) == 0) {
-v12 = (u64)AT32(v4, 1426) | ((u64)AT16(v4, 1430) << 32);
+v10 = (u64)AT32(v4, 1426) | ((u64)AT16(v4, 1430) << 32);
 v18 = 0u;
 v33 = AT32(v4, 1392);
-v23 = AT64(v4, 1384);
+v20 = AT64(v4, 1384);
 v5 = AT64(v4, 1408);
-a2 = AT64(v4, 1400);
+a3 = AT64(v4, 1400);
 i0 = AT32(v4, 1364);
 goto L36;
 }
-TEST(v28);
-SET32(v28, 0, AT32(v4, 1426));
-SET16(v28, 4, AT16(v4, 1430));
+TEST(v26);
+SET32(v26, 0, AT32(v4, 1426));
+SET16(v26, 4, AT16(v4, 1430));
 SET8(v4, 1889, v31);
 SET8(v4, 1888, v29);
-SET64(v4, 1904, v14);
-SET64(v4, 1896, v8);
+SET64(v4, 1904, v15);
+SET64(v4, 1896, v6);
 in_std_alloc_vec_Vec_drop_95beaedac91b374b(RUD_AS v4 + 1888u);
 RUD_AGAIN
-if (v11 == 0) {
-a1 = v10;
+if (v8 == 0) {
+a1 = v9;
 goto L35;
 }
-rud_dealloc(RUD_AS v9);
+rud_dealloc(RUD_AS v14);
 RUD_AGAIN
-a1 = v10;
+a1 = v9;
 goto L35;
 L40:;
-rud_dealloc(RUD_AS v9);
+rud_dealloc(RUD_AS v14);
 RUD_AGAIN
-a1 = a3;
+a1 = a2;
 goto L35;
 L38:;
-SET64(v4, 1272, v13);
-SET64(v4, 1264, v22);
+SET64(v4, 1272, v12);
+SET64(v4, 1264, v19);
 SET64(v4, 1256, a0);
 in_std_alloc_vec_Vec_drop_95beaedac91b374b(RUD_AS v4 + 1256u);
 RUD_AGAIN
-a3 = 0u;
+a2 = 0u;
 v32 = 0u;
 v30 = 0u;
 a1 = 0u;
 goto L32;
 L37:;
-a3 = 0u;
-v10 = 0u;
+a2 = 0u;
+v9 = 0u;
 v32 = 0u;
 v30 = 0u;
 i0 = 0u;
 L36:;
-v35 = i0;
+v36 = i0;
 SET8(v4, 1778, 0u);
 SET16(v4, 1776, 0u);
 SET64(v4, 1600, 0u);
-SET64(v4, 1584, a2);
+SET64(v4, 1584, a3);
 SET64(v4, 1608, v4 + 1776u);
 SET64(v4, 1592, v5);
 j1 = in_core_iter_base_Iterator_count_af506e600b762b0d(RUD_AS v4 + 1584u);
-v16 = j1;
-a1 = v5 - v16;
+v23 = j1;
+a1 = v5 - v23;
 if (a1 == 0) goto L34;
-v16 = (u64)GET8(a2 + v16, 0);
-if ((u32)(v16 <= 35u) & (u32)(((1ull << (v16 & 63)) & 34359747584ull) != 0u)) goto L34;
-SET64(v4, 1576, v14);
-SET64(v4, 1568, v8);
+v23 = (u64)GET8(a3 + v23, 0);
+if ((u32)(v23 <= 35u) & (u32)(((1ull << (v23 & 63)) & 34359747584ull) != 0u)) goto L34;
+SET64(v4, 1576, v15);
+SET64(v4, 1568, v6);
 SET8(v4, 1561, v31);
 SET8(v4, 1560, v29);
-SET32(v4, 1562, (u32)v12);
-SET16(v4, 1566, (u32)(v12 >> 32));
+SET32(v4, 1562, (u32)v10);
+SET16(v4, 1566, (u32)(v10 >> 32));
 in_std_alloc_vec_Vec_drop_95beaedac91b374b(RUD_AS v4 + 1560u);
 RUD_AGAIN
-if (!(v11 == 0)) {
-rud_dealloc(RUD_AS v9);
+if (!(v8 == 0)) {
+rud_dealloc(RUD_AS v14);
 RUD_AGAIN
 }
-if (v36 == 91u) goto L50;
+if (v35 == 91u) goto L50;
 switch ((u32)((u64)v32 & 255u) - 1u) {
 case 0u: case 1u: case 2u: case 3u: goto L50;
 case 4u: goto L52;
@@ -12999,28 +13002,28 @@ case 5u: goto L51;
 default: goto L53;
 }
 L53:;
-if (v23 == 0) goto L50;
-rud_dealloc(RUD_AS a3);
+if (v20 == 0) goto L50;
+rud_dealloc(RUD_AS a2);
 RUD_AGAIN
 goto L50;
 L52:;
-SET64(v4, 1344, v23);
-SET64(v4, 1336, v10);
-SET64(v4, 1328, a3);
+SET64(v4, 1344, v20);
+SET64(v4, 1336, v9);
+SET64(v4, 1328, a2);
 in_std_alloc_vec_Vec_drop_f8ad6a88bf30276b(RUD_AS v4 + 1328u);
 RUD_AGAIN
 goto L50;
 L51:;
-if ((a3 & 255u) != 1u) goto L50;
-in_std_collections_btree_node_Node_destroy_031b4c9998add48b(RUD_AS v10);
+if ((a2 & 255u) != 1u) goto L50;
+in_std_collections_btree_node_Node_destroy_031b4c9998add48b(RUD_AS v9);
 RUD_AGAIN
 L50:;
 v32 = 1u;
 v30 = 6u;
-a3 = a1;
+a2 = a1;
 L35:;
-SET64(v4, 1224, v13);
-SET64(v4, 1216, v22);
+SET64(v4, 1224, v12);
+SET64(v4, 1216, v19);
 SET64(v4, 1208, a0);
 in_std_alloc_vec_Vec_drop_95beaedac91b374b(RUD_AS v4 + 1208u);
 RUD_AGAIN
@@ -13029,29 +13032,29 @@ in_std_collections_btree_node_Node_destroy_dc0ad195889b9f50(RUD_AS AT64(v4, 1312
 RUD_AGAIN
 goto L32;
 L34:;
-v12 = (((u64)v29 & 255u) | (((u64)v31 & 255u) << 8)) | (v12 << 16);
-if (v36 != 91u) {
+v10 = (((u64)v29 & 255u) | (((u64)v31 & 255u) << 8)) | (v10 << 16);
+if (v35 != 91u) {
 SET64(v4, 1624, 0u);
 SET64(v4, 1616, 0u);
 SET64(v4, 1608, 0u);
 SET64(v4, 1600, 0u);
 SET64(v4, 1592, 0u);
-SET64(v4, 1792, v11);
-SET64(v4, 1784, v17);
-SET64(v4, 1776, v9);
+SET64(v4, 1792, v8);
+SET64(v4, 1784, v13);
+SET64(v4, 1776, v14);
 SET64(v4, 1584, 0u);
 SET32(v4, 1624, v33);
-SET64(v4, 1616, v23);
-SET64(v4, 1608, v10);
-SET64(v4, 1600, a3);
-SET32(v4, 1596, v35);
+SET64(v4, 1616, v20);
+SET64(v4, 1608, v9);
+SET64(v4, 1600, a2);
+SET32(v4, 1596, v36);
 SET8(v4, 1593, v30);
 SET8(v4, 1592, v32);
-in_toml_de_tables_along_header(RUD_AS v4 + 80u, v4 + 1304u, a0, v22, v12, v8, v4 + 1776u, v4 + 1584u);
+in_toml_de_tables_along_header(RUD_AS v4 + 80u, v4 + 1304u, a0, v19, v10, v6, v4 + 1776u, v4 + 1584u);
 RUD_AGAIN
-SET64(v4, 1432, v14);
-SET64(v4, 1424, v8);
-SET64(v4, 1416, v12);
+SET64(v4, 1432, v15);
+SET64(v4, 1424, v6);
+SET64(v4, 1416, v10);
 v30 = AT8(v4, 81);
 v31 = AT8(v4, 80);
 in_std_alloc_vec_Vec_drop_95beaedac91b374b(RUD_AS v4 + 1416u);
@@ -13063,12 +13066,12 @@ SET64(v4, 1600, 0u);
 SET64(v4, 1608, 0u);
 SET64(v4, 1616, 0u);
 SET64(v4, 1624, 0u);
-SET64(v4, 1432, v14);
-SET64(v4, 1424, v8);
-SET64(v4, 1416, v12);
-SET64(v4, 1368, v11);
-SET64(v4, 1360, v17);
-SET64(v4, 1352, v9);
+SET64(v4, 1432, v15);
+SET64(v4, 1424, v6);
+SET64(v4, 1416, v10);
+SET64(v4, 1368, v8);
+SET64(v4, 1360, v13);
+SET64(v4, 1352, v14);
 SET64(v4, 1776, 0u);
 SET64(v4, 1784, 0u);
 SET64(v4, 1792, 0u);
@@ -13077,17 +13080,17 @@ in_std_alloc_string_methods_StringClone_clone_23d1122e78b2f742(RUD_AS v4 + 1776u
 RUD_AGAIN
 if (AT8(v4, 1776) == 0) {
 SET32(v4, 1624, v33);
-SET64(v4, 1616, v23);
-SET64(v4, 1608, v10);
-SET64(v4, 1600, a3);
-SET32(v4, 1596, v35);
+SET64(v4, 1616, v20);
+SET64(v4, 1608, v9);
+SET64(v4, 1600, a2);
+SET32(v4, 1596, v36);
 SET8(v4, 1593, v30);
 SET8(v4, 1592, v32);
 SET64(v4, 1584, v18);
-in_toml_de_tables_along_header(RUD_AS v4 + 72u, v4 + 1304u, v12, v8, v4 + 1912u, 0u, v19, v4 + 1584u);
+in_toml_de_tables_along_header(RUD_AS v4 + 72u, v4 + 1304u, v10, v6, v4 + 1912u, 0u, v28, v4 + 1584u);
 RUD_AGAIN
 if (AT8(v4, 72)) goto L58;
-if (v8 == v14) goto L59;
+if (v6 == v15) goto L59;
 goto L56;
 }
 goto L57;
@@ -13095,14 +13098,14 @@ L59:;
 i0 = in_std_alloc_vec_Vec_grow_amortized_27f1a6001881071a(RUD_AS v4 + 1416u);
 RUD_AGAIN
 if (i0 == 0) goto L57;
-v14 = AT64(v4, 1432);
-v12 = AT64(v4, 1416);
-v8 = AT64(v4, 1424);
+v15 = AT64(v4, 1432);
+v10 = AT64(v4, 1416);
+v6 = AT64(v4, 1424);
 goto L56;
 L58:;
 v30 = AT8(v4, 73);
-if (!(v11 == 0)) {
-rud_dealloc(RUD_AS v9);
+if (!(v8 == 0)) {
+rud_dealloc(RUD_AS v14);
 RUD_AGAIN
 }
 in_std_alloc_vec_Vec_drop_95beaedac91b374b(RUD_AS v4 + 1416u);
@@ -13110,8 +13113,8 @@ RUD_AGAIN
 v31 = 1u;
 goto L54;
 L57:;
-if (!(v11 == 0)) {
-rud_dealloc(RUD_AS v9);
+if (!(v8 == 0)) {
+rud_dealloc(RUD_AS v14);
 RUD_AGAIN
 }
 in_std_alloc_vec_Vec_drop_95beaedac91b374b(RUD_AS v4 + 1416u);
@@ -13120,29 +13123,29 @@ v31 = 1u;
 v30 = 0u;
 goto L54;
 L56:;
-a1 = v12 + (v8 * 24u);
+a1 = v10 + (v6 * 24u);
 TEST(a1);
-SET64(a1, 16, v11);
-SET64(a1, 8, v17);
-SET64(a1, 0, v9);
-SET64(v4, 1504, v13);
-SET64(v4, 1496, v22);
+SET64(a1, 16, v8);
+SET64(a1, 8, v13);
+SET64(a1, 0, v14);
+SET64(v4, 1504, v12);
+SET64(v4, 1496, v19);
 SET64(v4, 1488, a0);
-v22 = v8 + 1u;
+v19 = v6 + 1u;
 in_std_alloc_vec_Vec_drop_95beaedac91b374b(RUD_AS v4 + 1488u);
 RUD_AGAIN
 v30 = 0u;
-a0 = v12;
-v13 = v14;
+a0 = v10;
+v12 = v15;
 v31 = 0u;
 L54:;
 if ((v31 & 255u) == 0) goto L33;
-SET64(v4, 1200, v13);
-SET64(v4, 1192, v22);
+SET64(v4, 1200, v12);
+SET64(v4, 1192, v19);
 SET64(v4, 1184, a0);
 v29 = v30 & 255u;
 a1 = v29 ? v5 : 0ull;
-a3 = v29 ? v24 : 0ull;
+a2 = v29 ? v21 : 0ull;
 v32 = v29 != 0u;
 in_std_alloc_vec_Vec_drop_95beaedac91b374b(RUD_AS v4 + 1184u);
 RUD_AGAIN
@@ -13151,55 +13154,55 @@ in_std_collections_btree_node_Node_destroy_dc0ad195889b9f50(RUD_AS AT64(v4, 1312
 RUD_AGAIN
 L32:;
 SET64(v4, 1176, a1);
-SET64(v4, 1168, a3);
+SET64(v4, 1168, a2);
 SET8(v4, 1161, v30);
 SET8(v4, 1160, v32);
-v14 = v4 + 944u;
-a1 = v4 + 1160u;
+a2 = v4 + 944u;
+a0 = v4 + 1160u;
 if ((s64)RUD_G0 >= (s64)16u) {
 if (AT8(v4, 1160) == 0) {
-FILL_FEW(v14, 0u, 216u);
+FILL_FEW(a2, 0u, 216u);
 goto L63;
 }
-v33 = AT8(v4, 1161);
-a0 = v6 - AT64(v4, 1176);
-a3 = a0 > v6 ? 0ull : a0;
-a0 = v6 - AT64(v4, 1168);
-a0 = a0 > v6 ? 0ull : a0;
-a1 = a0 > a3 ? a3 : a0;
-if (a1 == 0) {
-v5 = 1u;
-v10 = 1u;
+v29 = AT8(v4, 1161);
+a1 = v7 - AT64(v4, 1176);
+v5 = a1 > v7 ? 0ull : a1;
+a0 = v7 - AT64(v4, 1168);
+a0 = a0 > v7 ? 0ull : a0;
+a0 = a0 > v5 ? v5 : a0;
+if (a0 == 0) {
+a3 = 1u;
+v9 = 1u;
 goto L66;
 }
-v10 = 1u;
-a0 = a1;
-v5 = 1u;
+v9 = 1u;
+a1 = a0;
+a3 = 1u;
 L68:;
-TEST(v7);
-v29 = (u32)(s32)(s8)AT8(v7, 0);
-if (v29 == 10u) {
-v5 = 1u;
-a2 = v10 + 1u;
-v10 = a2 == 0 ? 18446744073709551615ull : a2;
+TEST(v11);
+v30 = (u32)(s32)(s8)AT8(v11, 0);
+if (v30 == 10u) {
+a3 = 1u;
+v9 = v9 + 1u;
+v9 = v9 == 0 ? 18446744073709551615ull : v9;
 goto L69;
 }
-if ((s32)v29 < (s32)4294967232u) goto L69;
-a2 = v5 + 1u;
-v5 = a2 == 0 ? 18446744073709551615ull : a2;
+if ((s32)v30 < (s32)4294967232u) goto L69;
+a3 = a3 + 1u;
+a3 = a3 == 0 ? 18446744073709551615ull : a3;
 L69:;
-v7 = v7 + 1u;
-a0 = a0 - 1u;
-if (a0 != 0u) goto L68;
+v11 = v11 + 1u;
+a1 = a1 - 1u;
+if (a1 != 0u) goto L68;
 L66:;
 SET32(v4, 945, 0u);
-SET8(v4, 944, v33);
+SET8(v4, 944, v29);
 SET32(v4, 948, 0u);
-SET64(v4, 976, v5);
-SET64(v4, 968, v10);
-SET64(v4, 960, a3);
-SET64(v4, 952, a1);
-FILL_FEW(v14 + 40u, 0u, 176u);
+SET64(v4, 976, a3);
+SET64(v4, 968, v9);
+SET64(v4, 960, v5);
+SET64(v4, 952, a0);
+FILL_FEW(a2 + 40u, 0u, 176u);
 goto L63;
 }
 rud_trap();
@@ -13207,88 +13210,135 @@ L63:;
 i0 = (u64)AT8(v4, 944) != 0u;
 L11:;
 v29 = i0;
-v35 = 0u;
+v36 = 0u;
 v31 = 0u;
 goto L5;
 L10:;
-SET64(v4, 936, v12);
-SET64(v4, 928, v8);
+SET64(v4, 936, v10);
+SET64(v4, 928, v6);
 SET64(v4, 920, a0);
-v29 = 2u;
-SET8(v4, 1586, 2u);
-SET16(v4, 1584, 256u);
-v13 = 0u;
+SET32(v4, 1776, 318898432u);
+v12 = 0u;
 SET64(v4, 944, 0u);
+SET64(v4, 1584, 0u);
+SET64(v4, 1592, 0u);
 v32 = 0u;
-i0 = in_mm_problem_keys_has_only(RUD_AS v4 + 1584u, 3u, v4 + 920u);
+v29 = 2u;
+i0 = in_mm_problem_keys_has_only(RUD_AS v4 + 1776u, 4u, v4 + 920u);
 if (i0 == 0) {
+v30 = 6u;
 v31 = 0u;
-i0 = 6u;
-goto L74;
+goto L73;
 }
 in_mm_problem_keys_value_at(RUD_AS v4 + 56u, 0u, v4 + 920u);
 if (AT8(v4, 56) != 1u) {
 v31 = 0u;
-i0 = 0u;
-goto L74;
+v30 = 0u;
+goto L73;
 }
 v31 = 0u;
+v30 = 0u;
 a0 = AT64(v4, 64);
 TEST(a0);
-if (AT8(a0, 0) != 5u) { i0 = 0u; goto L74; }
-v5 = AT64(a0, 16);
-SET64(v4, 960, v5);
-a3 = AT64(a0, 8);
-SET64(v4, 952, a3);
+if (AT8(a0, 0) != 5u) goto L73;
+v9 = AT64(a0, 16);
+SET64(v4, 960, v9);
+v18 = AT64(a0, 8);
+SET64(v4, 952, v18);
 in_mm_problem_keys_array_if_any(RUD_AS v4 + 944u, 1u, v4 + 920u);
-v19 = AT64(v4, 952);
+v7 = AT64(v4, 952);
 if (AT8(v4, 944) == 0) {
-v18 = AT64(v4, 960);
+v15 = AT64(v4, 960);
 in_mm_problem_keys_array_if_any(RUD_AS v4 + 944u, 2u, v4 + 920u);
-if (AT8(v4, 944)) {
-v34 = AT8(v4, 949);
-v29 = AT8(v4, 948);
-v31 = AT32(v4, 952);
-i0 = AT32(v4, 956);
-goto L74;
+v11 = AT64(v4, 952);
+if (AT8(v4, 944)) goto L78;
+v14 = AT64(v4, 960);
+a1 = v4 + 1584u;
+a2 = v4 + 920u;
+v29 = 0u;
+a0 = RUD_G0 - 64u;
+RUD_G0 = a0;
+if ((s64)a0 >= (s64)16u) {
+in_mm_problem_keys_value_at(RUD_AS a0, 19u, a2);
+v30 = 1u;
+TEST(a0);
+if (AT8(a0, 0) != 1u) goto L81;
+a2 = AT64(a0, 8);
+TEST(a2);
+if (AT8(a2, 0)) {
+a2 = 81604378624ull;
+i0 = 2u;
+goto L80;
 }
+a3 = AT64(a2, 8);
+SET64(a0, 56, AT64(a2, 16));
+SET64(a0, 48, a3);
+SET64(a0, 40, 6u);
+SET64(a0, 32, 4205465u);
+i0 = in_core_cmp_text_RefStrPartialEq_eq(RUD_AS a0 + 48u, a0 + 32u);
+if (i0) goto L81;
+SET64(a0, 24, 6u);
+SET64(a0, 16, 4205471u);
+i2 = in_core_cmp_text_RefStrPartialEq_eq(RUD_AS a0 + 48u, a0 + 16u);
+v29 = i2;
+a2 = v29 ? 0ull : 81604378624ull;
+v30 = v29 ^ 1u;
+i0 = v29 ? 0u : 2u;
+goto L80;
+}
+rud_trap();
+L81:;
+a2 = 0u;
+v30 = 0u;
+i0 = 0u;
+L80:;
+v33 = i0;
+SET8(v4, 1584, v30);
+SET64(v4, 1592, a2);
+SET8(v4, 1589, 0u);
+SET8(v4, 1588, v33);
+SET8(v4, 1585, v29);
+RUD_G0 = a0 + 64u;
+if (AT8(v4, 1584) == 0) goto L77;
+v29 = AT8(v4, 1588);
+v34 = AT8(v4, 1589);
+v31 = AT32(v4, 1592);
+v30 = AT32(v4, 1596);
+goto L73;
+}
+v30 = (u32)(v7 >> 32);
+v31 = (u32)v7;
+goto L76;
+L78:;
+v30 = (u32)(v11 >> 32);
+v31 = (u32)v11;
+goto L76;
+L77:;
 v29 = 7u;
 v31 = 1u;
-if ((v5 - 1u) > 15u) {
-v10 = 0u;
+if ((v9 - 1u) > 15u) {
+v9 = 0u;
 v34 = 3u;
 goto L72;
 }
-if (v18 > 256u) {
-v10 = 0u;
+if (v15 > 256u) {
+v9 = 0u;
 v34 = 4u;
 goto L72;
 }
-v17 = AT64(v4, 960);
-if (v17 < 9u) goto L73;
-v10 = 0u;
+if (v14 >= 9u) {
+v9 = 0u;
 v34 = 5u;
 goto L72;
 }
-v31 = (u32)v19;
-v34 = AT8(v4, 949);
-v29 = AT8(v4, 948);
-i0 = (u32)(v19 >> 32);
-L74:;
-v33 = i0;
-v10 = (u64)v31 | ((u64)v33 << 32);
-v31 = 1u;
-goto L72;
-L73:;
-v14 = AT64(v4, 952);
 SET64(v4, 952, 0u);
 SET64(v4, 960, 0u);
-v9 = v4 + 1912u;
-SET64(v4, 944, v9);
-v36 = (u32)(v9 >> 32);
-v35 = (u32)v9;
-v12 = 0u;
-L83:;
+v13 = v4 + 1912u;
+SET64(v4, 944, v13);
+v35 = (u32)(v13 >> 32);
+v36 = (u32)v13;
+v8 = 0u;
+L89:;
 SET32(v4, 1600, 0u);
 SET64(v4, 1592, 0u);
 SET64(v4, 1584, 0u);
@@ -13298,186 +13348,186 @@ SET64(v4, 1488, 0u);
 SET64(v4, 1496, 0u);
 SET64(v4, 1888, 0u);
 SET64(v4, 1896, 0u);
-v30 = (u32)v13 + 1u;
-a0 = a3 + (v12 * 40u);
+v30 = (u32)v12 + 1u;
+a0 = v18 + (v8 * 40u);
 TEST(a0);
 if (AT8(a0, 0) == 6u) {
-a2 = a0 + 8u;
-i0 = in_mm_problem_keys_has_only(RUD_AS 4205465u, 5u, a2);
-if (i0) goto L87;
+a0 = a0 + 8u;
+i0 = in_mm_problem_keys_has_only(RUD_AS 4205477u, 5u, a0);
+if (i0) goto L93;
 j0 = (u64)v30 | 25769803776ull;
-goto L88;
+goto L94;
 }
 j0 = (u64)v30;
-L88:;
+L94:;
 a0 = j0;
 v31 = (u32)(a0 >> 32);
 v30 = (u32)a0;
-goto L86;
-L87:;
-in_mm_problem_tables_id_at(RUD_AS v4 + 1520u, v30, 8u, a2);
-v7 = AT64(v4, 1521);
+goto L92;
+L93:;
+in_mm_problem_tables_id_at(RUD_AS v4 + 1520u, v30, 8u, a0);
+a1 = AT64(v4, 1521);
 if (AT8(v4, 1520)) {
 SET8(v4, 1570, AT8(v4, 1531));
 SET16(v4, 1568, AT16(v4, 1529));
-SET64(v4, 1560, v7 & 0xff0000ffff000000ull);
-v34 = (u32)(v7 >> 32);
-v29 = (u32)(v7 >> 24);
+SET64(v4, 1560, a1 & 0xff0000ffff000000ull);
+v34 = (u32)(a1 >> 32);
+v29 = (u32)(a1 >> 24);
 v31 = AT32(v4, 1532);
 v30 = AT32(v4, 1567);
-goto L85;
+goto L91;
 }
-in_mm_problem_keys_number_at(RUD_AS v4 + 1488u, v30, 9u, 1u, 1000000u, a2);
+in_mm_problem_keys_number_at(RUD_AS v4 + 1488u, v30, 9u, 1u, 1000000u, a0);
 v29 = AT32(v4, 1492);
 if (AT8(v4, 1488)) {
 v34 = v29 >> 8;
 v31 = AT32(v4, 1500);
 v30 = AT32(v4, 1496);
-goto L85;
+goto L91;
 }
 v31 = 10u;
-in_mm_problem_keys_value_at(RUD_AS v4 + 40u, 10u, a2);
-if ((AT8(v4, 40) & 1u) == 0) goto L86;
-a1 = AT64(v4, 48);
-TEST(a1);
-if (AT8(a1, 0)) goto L86;
-a0 = AT64(a1, 8);
-SET64(v4, 1784, AT64(a1, 16));
-SET64(v4, 1776, a0);
+in_mm_problem_keys_value_at(RUD_AS v4 + 40u, 10u, a0);
+if ((AT8(v4, 40) & 1u) == 0) goto L92;
+a2 = AT64(v4, 48);
+TEST(a2);
+if (AT8(a2, 0)) goto L92;
+a3 = AT64(a2, 8);
+SET64(v4, 1784, AT64(a2, 16));
+SET64(v4, 1776, a3);
 SET64(v4, 1424, 8u);
-SET64(v4, 1416, 4205470u);
+SET64(v4, 1416, 4205482u);
 i0 = in_core_cmp_text_RefStrPartialEq_eq(RUD_AS v4 + 1776u, v4 + 1416u);
 if (i0) {
-a1 = 0u;
-goto L92;
+v10 = 0u;
+goto L98;
 }
 SET64(v4, 1360, 7u);
-SET64(v4, 1352, 4205478u);
-a1 = 4294967296ull;
+SET64(v4, 1352, 4205490u);
+v10 = 4294967296ull;
 i0 = in_core_cmp_text_RefStrPartialEq_eq(RUD_AS v4 + 1776u, v4 + 1352u);
-if (i0 == 0) goto L86;
-L92:;
-in_mm_problem_keys_number_at(RUD_AS v4 + 1888u, v30, 11u, 0u, 7u, a2);
+if (i0 == 0) goto L92;
+L98:;
+in_mm_problem_keys_number_at(RUD_AS v4 + 1888u, v30, 11u, 0u, 7u, a0);
 v32 = AT32(v4, 1892);
 if (AT8(v4, 1888) == 0) {
 SET64(v4, 1784, 0u);
 SET64(v4, 1776, 0u);
-in_mm_problem_keys_value_at(RUD_AS v4 + 24u, 12u, a2);
+in_mm_problem_keys_value_at(RUD_AS v4 + 24u, 12u, a0);
 if (AT8(v4, 24) != 1u) {
 v33 = 0u;
-goto L94;
+goto L100;
 }
-in_mm_problem_keys_number_at(RUD_AS v4 + 1776u, v30, 12u, 0u, v29, a2);
+in_mm_problem_keys_number_at(RUD_AS v4 + 1776u, v30, 12u, 0u, v29, a0);
 v33 = AT32(v4, 1780);
-if (AT8(v4, 1776) == 0) goto L94;
+if (AT8(v4, 1776) == 0) goto L100;
 v31 = AT32(v4, 1788);
 v30 = AT32(v4, 1784);
 v34 = v33 >> 8;
 v29 = v33;
-goto L85;
+goto L91;
 }
 v34 = v32 >> 8;
 v31 = AT32(v4, 1900);
 v30 = AT32(v4, 1896);
 v29 = v32;
-goto L85;
-L94:;
+goto L91;
+L100:;
 SET32(v4, 1592, v29);
-SET64(v4, 1584, v7);
-a2 = (a1 | (u64)v33) | ((u64)(v32 & 255u) << 40);
-SET64(v4, 1596, a2);
-a1 = v9 - 20u;
+SET64(v4, 1584, a1);
+v17 = (v10 | (u64)v33) | ((u64)(v32 & 255u) << 40);
+SET64(v4, 1596, v17);
+v10 = v13 - 20u;
 v6 = 0xffffffffffffffffull;
-L97:;
+L103:;
 v6 = v6 + 1u;
-if (v13 == v6) goto L84;
-a1 = a1 + 20u;
-i0 = in_core_cmp_arrays_ArrayPartialEq_eq_i8_8_31_core_cmp_numbers_U8Par(RUD_AS a1, v4 + 1584u);
-if (i0 == 0) goto L97;
+if (v12 == v6) goto L90;
+v10 = v10 + 20u;
+i0 = in_core_cmp_arrays_ArrayPartialEq_eq_i8_8_31_core_cmp_numbers_U8Par(RUD_AS v10, v4 + 1584u);
+if (i0 == 0) goto L103;
 v31 = 7u;
-L86:;
+L92:;
 v29 = 2u;
-L85:;
-if (AT64(v4, 960) == 0) goto L81;
-rud_dealloc(RUD_AS v9);
+L91:;
+if (AT64(v4, 960) == 0) goto L87;
+rud_dealloc(RUD_AS v13);
 RUD_AGAIN
-goto L81;
-L84:;
-v6 = v13;
+goto L87;
+L90:;
+v6 = v12;
 if (v6 == AT64(v4, 960)) {
-v6 = v4 + 944u;
-v33 = 0u;
-v8 = RUD_G0 - 32u;
-RUD_G0 = v8;
-if ((s64)v8 >= (s64)16u) {
-v13 = AT64(v4, 952);
-if (v13 == 0xffffffffffffffffull) goto L101;
-a1 = (v13 > 3u ? v13 : 3ull) + 1u;
-v10 = AT64(v4, 960);
-a0 = v10 << 1;
-a0 = a0 < a1 ? a1 : a0;
-a1 = v10 < 4611686018427387904ull ? a0 : a1;
-if (a1 > 461168601842738790ull) goto L101;
-j0 = v6;
-if (!(v10 == 0)) {
-a0 = AT64(v4, 944);
-TEST(v8);
-SET64(v8, 24, 0u);
-SET64(v8, 16, 0u);
-rud_realloc(RUD_AS v8 + 16u, a0, v13 * 20u, a1 * 20u, 4u);
+a2 = v4 + 944u;
+v30 = 0u;
+a0 = RUD_G0 - 32u;
+RUD_G0 = a0;
+if ((s64)a0 >= (s64)16u) {
+a3 = AT64(v4, 952);
+if (a3 == 0xffffffffffffffffull) goto L107;
+v5 = (a3 > 3u ? a3 : 3ull) + 1u;
+v6 = AT64(v4, 960);
+v12 = v6 << 1;
+v12 = v5 > v12 ? v5 : v12;
+v5 = v6 < 4611686018427387904ull ? v12 : v5;
+if (v5 > 461168601842738790ull) goto L107;
+j0 = a2;
+if (!(v6 == 0)) {
+v6 = AT64(v4, 944);
+TEST(a0);
+SET64(a0, 24, 0u);
+SET64(a0, 16, 0u);
+rud_realloc(RUD_AS a0 + 16u, v6, a3 * 20u, v5 * 20u, 4u);
 RUD_AGAIN
-if (AT8(v8, 16) == 0) goto L101;
-j1 = AT64(v8, 24);
-goto L102;
+if (AT8(a0, 16) == 0) goto L107;
+j1 = AT64(a0, 24);
+goto L108;
 }
-in_std_heap_GlobalAllocator_allocate(RUD_AS v8, a0 * 20u, 4u);
+in_std_heap_GlobalAllocator_allocate(RUD_AS a0, v12 * 20u, 4u);
 RUD_AGAIN
-TEST(v8);
-if (AT8(v8, 0)) goto L101;
-j1 = AT64(v8, 8);
-L102:;
+TEST(a0);
+if (AT8(a0, 0)) goto L107;
+j1 = AT64(a0, 8);
+L108:;
 SET64(v4, 944, j1);
-SET64(v4, 960, a1);
-v33 = 1u;
-L101:;
-RUD_G0 = v8 + 32u;
-i0 = v33;
-goto L99;
+SET64(v4, 960, v5);
+v30 = 1u;
+L107:;
+RUD_G0 = a0 + 32u;
+i0 = v30;
+goto L105;
 }
 rud_trap();
-L99:;
-if (i0 == 0) goto L82;
-v9 = AT64(v4, 944);
+L105:;
+if (i0 == 0) goto L88;
+v13 = AT64(v4, 944);
 v6 = AT64(v4, 952);
 }
-a0 = v9 + (v6 * 20u);
+a0 = v13 + (v6 * 20u);
 TEST(a0);
-SET64(a0, 12, a2);
+SET64(a0, 12, v17);
 SET32(a0, 8, v29);
-SET64(a0, 0, v7);
-v13 = v6 + 1u;
-SET64(v4, 952, v13);
-v12 = v12 + 1u;
-if (v12 != v5) goto L83;
-v16 = AT64(v4, 960);
-v10 = AT64(v4, 944);
+SET64(a0, 0, a1);
+v12 = v6 + 1u;
+SET64(v4, 952, v12);
+v8 = v8 + 1u;
+if (v8 != v9) goto L89;
+v17 = AT64(v4, 960);
+v9 = AT64(v4, 944);
 SET64(v4, 952, 0u);
 SET64(v4, 960, 0u);
 SET64(v4, 944, v4 + 1912u);
 v31 = 1u;
 v33 = 1u;
-v11 = 0u;
-v30 = v36;
-v29 = v35;
-if (!(v18 == 0)) {
-a3 = v6 + 2u;
-a0 = v10 - 20u;
-v12 = v4 + 1524u;
-v8 = v4 + 1496u;
-v7 = v4 + 1361u;
-v9 = v4 + 1912u;
-a1 = 0u;
-L109:;
+v8 = 0u;
+v30 = v35;
+v29 = v36;
+if (!(v15 == 0)) {
+a0 = v6 + 2u;
+a1 = v9 - 20u;
+v6 = v4 + 1524u;
+v18 = v4 + 1496u;
+v19 = v4 + 1361u;
+v13 = v4 + 1912u;
+v10 = 0u;
+L115:;
 SET32(v4, 1528, 0u);
 SET64(v4, 1520, 0u);
 SET16(v4, 1896, 0u);
@@ -13489,30 +13539,30 @@ SET64(v4, 1416, 0u);
 SET64(v4, 1424, 0u);
 SET64(v4, 1352, 0u);
 SET64(v4, 1360, 0u);
-v32 = (u32)v11 + 1u;
-a2 = v19 + (a1 * 40u);
+v32 = (u32)v8 + 1u;
+a2 = v7 + (v10 * 40u);
 TEST(a2);
 if (AT8(a2, 0) == 6u) {
 a2 = a2 + 8u;
-i0 = in_mm_problem_keys_has_only(RUD_AS 4205485u, 4u, a2);
-if (i0) goto L110;
+i0 = in_mm_problem_keys_has_only(RUD_AS 4205497u, 4u, a2);
+if (i0) goto L116;
 j0 = (u64)v32 | 25769803776ull;
-goto L111;
+goto L117;
 }
 j0 = (u64)v32 | 4294967296ull;
-L111:;
+L117:;
 a0 = j0;
 v31 = (u32)(a0 >> 32);
 v32 = (u32)a0;
-goto L106;
-L110:;
+goto L112;
+L116:;
 in_mm_problem_keys_number_at(RUD_AS v4 + 1584u, v32, 13u, 0u, 2046u, a2);
 v29 = AT32(v4, 1588);
 if (AT8(v4, 1584)) {
 v31 = AT32(v4, 1596);
 v32 = AT32(v4, 1592);
 i0 = v29 >> 8;
-goto L105;
+goto L111;
 }
 in_mm_problem_keys_number_at(RUD_AS v4 + 1776u, v32, 14u, 0u, 255u, a2);
 v30 = AT32(v4, 1780);
@@ -13521,7 +13571,7 @@ v31 = AT32(v4, 1788);
 v32 = AT32(v4, 1784);
 v29 = v30;
 i0 = v29 >> 8;
-goto L105;
+goto L111;
 }
 in_mm_problem_keys_number_at(RUD_AS v4 + 1416u, v32, 15u, 0u, 255u, a2);
 v33 = AT32(v4, 1420);
@@ -13530,7 +13580,7 @@ v31 = AT32(v4, 1428);
 v32 = AT32(v4, 1424);
 v29 = v33;
 i0 = v29 >> 8;
-goto L105;
+goto L111;
 }
 in_mm_problem_tables_id_at(RUD_AS v4 + 1352u, v32, 0u, a2);
 a2 = AT64(v4, 1353);
@@ -13542,104 +13592,104 @@ v29 = (u32)(a2 >> 24);
 v31 = AT32(v4, 1364);
 v32 = AT32(v4, 1495);
 i0 = (u32)(a2 >> 32);
-goto L105;
+goto L111;
 }
 SET8(v4, 1523, v33);
 SET8(v4, 1522, v30);
 SET16(v4, 1520, v29);
 SET64(v4, 1888, a2);
-v38 = AT32(v4, 1894);
-SET16(v4, 1530, v38);
-v39 = (u32)a2;
-SET16(v4, 1524, v39);
-v34 = (u32)(a2 >> 16);
-SET32(v4, 1526, v34);
-v5 = a3;
-a2 = a0;
-L117:;
+v37 = AT32(v4, 1894);
+SET16(v4, 1530, v37);
+v38 = (u32)a2;
+SET16(v4, 1524, v38);
+v39 = (u32)(a2 >> 16);
+SET32(v4, 1526, v39);
+v5 = a0;
+a3 = a1;
+L123:;
 v5 = v5 - 1u;
 if (v5 == 0) {
 v29 = 2u;
 v31 = 0u;
 i0 = 0u;
-goto L105;
+goto L111;
 }
-a2 = a2 + 20u;
-i0 = in_core_cmp_arrays_ArrayPartialEq_eq_i8_8_31_core_cmp_numbers_U8Par(RUD_AS a2, v12);
-if (i0 == 0) goto L117;
-if (!(v11 == 0)) {
-v5 = v9;
-a2 = v11;
-L120:;
-TEST(v5);
-if (AT16(v5, 0) != (v29 & 65535u)) goto L121;
-if (AT8(v5, 2) != (v30 & 255u)) goto L121;
-if (AT8(v5, 3) != (v33 & 255u)) goto L121;
-i0 = in_core_cmp_arrays_ArrayPartialEq_eq_i8_8_31_core_cmp_numbers_U8Par(RUD_AS v5 + 4u, v12);
-if (i0 == 0) goto L121;
-v31 = 7u;
-goto L106;
-L121:;
-v5 = v5 + 12u;
-a2 = a2 - 1u;
-if (!(a2 == 0)) goto L120;
-}
-if (v11 == AT64(v4, 960)) {
-v9 = v4 + 944u;
-v37 = 0u;
-v20 = RUD_G0 - 32u;
-RUD_G0 = v20;
-if ((s64)v20 >= (s64)16u) {
-v11 = AT64(v4, 952);
-if (v11 == 0xffffffffffffffffull) goto L125;
-v5 = (v11 > 3u ? v11 : 3ull) + 1u;
-v6 = AT64(v4, 960);
-a2 = v6 << 1;
-a2 = a2 < v5 ? v5 : a2;
-v5 = v6 < 4611686018427387904ull ? a2 : v5;
-if (v5 > 768614336404564650ull) goto L125;
-if (!(v6 == 0)) {
-in_std_heap_GlobalAllocator_grow_23_mm_base_rows_RouteRow(RUD_AS v20 + 16u, AT64(v4, 944), v11, v5);
-RUD_AGAIN
-TEST(v20);
-v32 = AT8(v20, 16);
-j0 = AT64(v20, 24);
-goto L126;
-}
-in_std_heap_GlobalAllocator_allocate(RUD_AS v20, a2 * 12u, 2u);
-RUD_AGAIN
-TEST(v20);
-v32 = AT8(v20, 0);
-j0 = v32 ? 0ull : AT64(v20, 8);
+a3 = a3 + 20u;
+i0 = in_core_cmp_arrays_ArrayPartialEq_eq_i8_8_31_core_cmp_numbers_U8Par(RUD_AS a3, v6);
+if (i0 == 0) goto L123;
+if (!(v8 == 0)) {
+v5 = v13;
+a3 = v8;
 L126:;
-a2 = j0;
-if (v32) goto L125;
-SET64(v4, 960, v5);
-SET64(v4, 944, a2);
-v37 = 1u;
-L125:;
-RUD_G0 = v20 + 32u;
-i0 = v37;
-goto L123;
+TEST(v5);
+if (AT16(v5, 0) != (v29 & 65535u)) goto L127;
+if (AT8(v5, 2) != (v30 & 255u)) goto L127;
+if (AT8(v5, 3) != (v33 & 255u)) goto L127;
+i0 = in_core_cmp_arrays_ArrayPartialEq_eq_i8_8_31_core_cmp_numbers_U8Par(RUD_AS v5 + 4u, v6);
+if (i0 == 0) goto L127;
+v31 = 7u;
+goto L112;
+L127:;
+v5 = v5 + 12u;
+a3 = a3 - 1u;
+if (!(a3 == 0)) goto L126;
+}
+if (v8 == AT64(v4, 960)) {
+a3 = v4 + 944u;
+v32 = 0u;
+a2 = RUD_G0 - 32u;
+RUD_G0 = a2;
+if ((s64)a2 >= (s64)16u) {
+v5 = AT64(v4, 952);
+if (v5 == 0xffffffffffffffffull) goto L131;
+v8 = (v5 > 3u ? v5 : 3ull) + 1u;
+v13 = AT64(v4, 960);
+v20 = v13 << 1;
+v20 = v8 > v20 ? v8 : v20;
+v8 = v13 < 4611686018427387904ull ? v20 : v8;
+if (v8 > 768614336404564650ull) goto L131;
+if (!(v13 == 0)) {
+in_std_heap_GlobalAllocator_grow_23_mm_base_rows_RouteRow(RUD_AS a2 + 16u, AT64(v4, 944), v5, v8);
+RUD_AGAIN
+TEST(a2);
+v34 = AT8(a2, 16);
+j0 = AT64(a2, 24);
+goto L132;
+}
+in_std_heap_GlobalAllocator_allocate(RUD_AS a2, v20 * 12u, 2u);
+RUD_AGAIN
+TEST(a2);
+v34 = AT8(a2, 0);
+j0 = v34 ? 0ull : AT64(a2, 8);
+L132:;
+v5 = j0;
+if (v34) goto L131;
+SET64(v4, 960, v8);
+SET64(v4, 944, v5);
+v32 = 1u;
+L131:;
+RUD_G0 = a2 + 32u;
+i0 = v32;
+goto L129;
 }
 rud_trap();
-L123:;
-if (i0 == 0) goto L107;
-v9 = AT64(v4, 944);
-v11 = AT64(v4, 952);
+L129:;
+if (i0 == 0) goto L113;
+v13 = AT64(v4, 944);
+v8 = AT64(v4, 952);
 }
-a2 = v9 + (v11 * 12u);
+a2 = v13 + (v8 * 12u);
 TEST(a2);
-SET16(a2, 10, v38);
-SET32(a2, 6, v34);
-SET16(a2, 4, v39);
+SET16(a2, 10, v37);
+SET32(a2, 6, v39);
+SET16(a2, 4, v38);
 SET8(a2, 3, v33);
 SET8(a2, 2, v30);
 SET16(a2, 0, v29);
-v11 = v11 + 1u;
-SET64(v4, 952, v11);
-a1 = a1 + 1u;
-if (a1 != v18) goto L109;
+v8 = v8 + 1u;
+SET64(v4, 952, v8);
+v10 = v10 + 1u;
+if (v10 != v15) goto L115;
 v33 = AT64(v4, 960) == 0;
 v30 = AT32(v4, 948);
 v29 = AT32(v4, 944);
@@ -13648,123 +13698,123 @@ SET64(v4, 952, 0u);
 SET64(v4, 960, 0u);
 v18 = (u64)v29 | ((u64)v30 << 32);
 SET64(v4, 944, v4 + 1912u);
-if (v17 == 0) {
-i0 = v35;
+if (v14 == 0) {
+i0 = v36;
 } else {
-a1 = v4 + 1912u;
-a2 = 0u;
-v6 = 0u;
-L133:;
+v6 = v4 + 1912u;
+a3 = 0u;
+a1 = 0u;
+L139:;
 SET64(v4, 1584, 0u);
 SET64(v4, 1592, 0u);
 SET64(v4, 1776, 0u);
 SET64(v4, 1784, 0u);
-v32 = (u32)a2 + 1u;
-a0 = v14 + (v6 * 40u);
+v29 = (u32)a3 + 1u;
+a0 = v11 + (a1 * 40u);
 TEST(a0);
 if (AT8(a0, 0) == 6u) {
 a0 = a0 + 8u;
-i0 = in_mm_problem_keys_has_only(RUD_AS 4205489u, 2u, a0);
-if (i0) goto L134;
-j0 = (u64)v32 | 25769803776ull;
-goto L135;
+i0 = in_mm_problem_keys_has_only(RUD_AS 4205501u, 2u, a0);
+if (i0) goto L140;
+j0 = (u64)v29 | 25769803776ull;
+goto L141;
 }
-j0 = (u64)v32 | 8589934592ull;
-L135:;
-a2 = j0;
-a0 = (a2 << 32) | 2u;
-v30 = (u32)(a2 >> 32);
-goto L130;
-L134:;
-in_mm_problem_keys_number_at(RUD_AS v4 + 1584u, v32, 11u, 0u, 7u, a0);
-v35 = AT32(v4, 1588);
+j0 = (u64)v29 | 8589934592ull;
+L141:;
+a1 = j0;
+a0 = (a1 << 32) | 2u;
+v30 = (u32)(a1 >> 32);
+goto L136;
+L140:;
+in_mm_problem_keys_number_at(RUD_AS v4 + 1584u, v29, 11u, 0u, 7u, a0);
+v30 = AT32(v4, 1588);
 if (AT8(v4, 1584)) {
-a0 = (u64)(v35 & 255u) | ((u64)(v35 & 65280u) | ((u64)AT32(v4, 1592) << 32));
+a0 = (u64)(v30 & 255u) | ((u64)(v30 & 65280u) | ((u64)AT32(v4, 1592) << 32));
 v30 = AT32(v4, 1596);
-goto L130;
+goto L136;
 }
-in_mm_problem_keys_number_at(RUD_AS v4 + 1776u, v32, 16u, 0u, 1000000u, a0);
-v30 = AT32(v4, 1780);
+in_mm_problem_keys_number_at(RUD_AS v4 + 1776u, v29, 16u, 0u, 1000000u, a0);
+v32 = AT32(v4, 1780);
 if (AT8(v4, 1776)) {
-a0 = (u64)(v30 & 255u) | ((u64)(v30 & 65280u) | ((u64)AT32(v4, 1784) << 32));
+a0 = (u64)(v32 & 255u) | ((u64)(v32 & 65280u) | ((u64)AT32(v4, 1784) << 32));
 v30 = AT32(v4, 1788);
-goto L130;
+goto L136;
 }
 v5 = 0xffffffffffffffffull;
-a0 = a1;
-L140:;
+a0 = v6;
+L146:;
 v5 = v5 + 1u;
-if (a2 == v5) goto L139;
+if (a3 == v5) goto L145;
 TEST(a0);
 i0 = AT8(a0, 0);
 a0 = a0 + 8u;
-if (i0 != (v35 & 255u)) goto L140;
-a0 = ((u64)v32 << 32) | 2u;
+if (i0 != (v30 & 255u)) goto L146;
+a0 = ((u64)v29 << 32) | 2u;
 j0 = 30064771072ull;
-goto L129;
-L139:;
-if (a2 == AT64(v4, 960)) {
-v5 = v4 + 944u;
-v29 = 0u;
-v7 = RUD_G0 - 32u;
-RUD_G0 = v7;
-if ((s64)v7 >= (s64)16u) {
-a3 = AT64(v4, 952);
-if (a3 == 0xffffffffffffffffull) goto L144;
-a1 = (a3 > 3u ? a3 : 3ull) + 1u;
-a2 = AT64(v4, 960);
-a0 = a2 << 1;
-a0 = a0 < a1 ? a1 : a0;
-a1 = a2 < 4611686018427387904ull ? a0 : a1;
-if (a1 > 1152921504606846975ull) goto L144;
-j0 = v5;
-if (!(a2 == 0)) {
-a0 = AT64(v4, 944);
-TEST(v7);
-SET64(v7, 24, 0u);
-SET64(v7, 16, 0u);
-rud_realloc(RUD_AS v7 + 16u, a0, a3 << 3, a1 << 3, 4u);
-RUD_AGAIN
-if (AT8(v7, 16) == 0) goto L144;
-j1 = AT64(v7, 24);
-goto L145;
-}
-in_std_heap_GlobalAllocator_allocate(RUD_AS v7, a0 << 3, 4u);
-RUD_AGAIN
-TEST(v7);
-if (AT8(v7, 0)) goto L144;
-j1 = AT64(v7, 8);
+goto L135;
 L145:;
+if (a3 == AT64(v4, 960)) {
+a2 = v4 + 944u;
+v29 = 0u;
+a0 = RUD_G0 - 32u;
+RUD_G0 = a0;
+if ((s64)a0 >= (s64)16u) {
+a3 = AT64(v4, 952);
+if (a3 == 0xffffffffffffffffull) goto L150;
+v5 = (a3 > 3u ? a3 : 3ull) + 1u;
+v6 = AT64(v4, 960);
+v7 = v6 << 1;
+v7 = v5 > v7 ? v5 : v7;
+v5 = v6 < 4611686018427387904ull ? v7 : v5;
+if (v5 > 1152921504606846975ull) goto L150;
+j0 = a2;
+if (!(v6 == 0)) {
+v6 = AT64(v4, 944);
+TEST(a0);
+SET64(a0, 24, 0u);
+SET64(a0, 16, 0u);
+rud_realloc(RUD_AS a0 + 16u, v6, a3 << 3, v5 << 3, 4u);
+RUD_AGAIN
+if (AT8(a0, 16) == 0) goto L150;
+j1 = AT64(a0, 24);
+goto L151;
+}
+in_std_heap_GlobalAllocator_allocate(RUD_AS a0, v7 << 3, 4u);
+RUD_AGAIN
+TEST(a0);
+if (AT8(a0, 0)) goto L150;
+j1 = AT64(a0, 8);
+L151:;
 SET64(v4, 944, j1);
-SET64(v4, 960, a1);
+SET64(v4, 960, v5);
 v29 = 1u;
-L144:;
-RUD_G0 = v7 + 32u;
+L150:;
+RUD_G0 = a0 + 32u;
 i0 = v29;
-goto L142;
+goto L148;
 }
 rud_trap();
-L142:;
-if (i0 == 0) goto L131;
-a2 = AT64(v4, 952);
-a1 = AT64(v4, 944);
+L148:;
+if (i0 == 0) goto L137;
+v6 = AT64(v4, 944);
+a3 = AT64(v4, 952);
 }
-PUT64(a1 + (a2 << 3), 0, (u64)(v35 & 255u) | ((u64)v30 << 32));
-a2 = a2 + 1u;
-SET64(v4, 952, a2);
-v6 = v6 + 1u;
-if (v6 != v17) goto L133;
+PUT64(v6 + (a3 << 3), 0, (u64)(v30 & 255u) | ((u64)v32 << 32));
+a3 = a3 + 1u;
+SET64(v4, 952, a3);
+a1 = a1 + 1u;
+if (a1 != v14) goto L139;
 v31 = AT64(v4, 960) == 0;
-v36 = AT32(v4, 948);
+v35 = AT32(v4, 948);
 i0 = AT32(v4, 944);
 }
-a1 = (u64)i0 | ((u64)v36 << 32);
+a1 = (u64)i0 | ((u64)v35 << 32);
 v29 = 0u;
 v32 = 1u;
 v34 = 0u;
-i0 = v16 == 0;
+i0 = v17 == 0;
 goto L71;
-L131:;
+L137:;
 a0 = 0u;
 v29 = 0u;
 if (!(AT64(v4, 960) == 0)) {
@@ -13772,32 +13822,32 @@ rud_dealloc(RUD_AS AT64(v4, 944));
 RUD_AGAIN
 }
 v34 = 0u;
-goto L128;
-L130:;
+goto L134;
+L136:;
 j0 = (u64)v30 << 32;
-L129:;
-a2 = j0;
+L135:;
+a1 = j0;
 if (!(AT64(v4, 960) == 0)) {
-rud_dealloc(RUD_AS a1);
+rud_dealloc(RUD_AS v6);
 RUD_AGAIN
 }
 v34 = (u32)(a0 >> 8);
 v29 = (u32)a0;
-a0 = (a0 >> 32) | a2;
-L128:;
+a0 = (a0 >> 32) | a1;
+L134:;
 if (v33 == 0) {
 rud_dealloc(RUD_AS v18);
 RUD_AGAIN
 }
 v32 = 0u;
-if (!(v16 == 0)) {
-rud_dealloc(RUD_AS v10);
+if (!(v17 == 0)) {
+rud_dealloc(RUD_AS v9);
 RUD_AGAIN
 }
-v13 = 0u;
-v10 = a0;
+v12 = 0u;
+v9 = a0;
 goto L72;
-L107:;
+L113:;
 if (!(AT64(v4, 960) == 0)) {
 rud_dealloc(RUD_AS AT64(v4, 944));
 RUD_AGAIN
@@ -13806,27 +13856,27 @@ v29 = 0u;
 v34 = 0u;
 v32 = 0u;
 v31 = 0u;
-goto L104;
-L106:;
+goto L110;
+L112:;
 v29 = 2u;
 i0 = 0u;
-L105:;
+L111:;
 v34 = i0;
-if (AT64(v4, 960) == 0) goto L104;
-rud_dealloc(RUD_AS v9);
+if (AT64(v4, 960) == 0) goto L110;
+rud_dealloc(RUD_AS v13);
 RUD_AGAIN
-L104:;
+L110:;
 j0 = (u64)v32 | ((u64)v31 << 32);
 v32 = 0u;
 v31 = 1u;
-if (!(v16 == 0)) {
-rud_dealloc(RUD_AS v10);
+if (!(v17 == 0)) {
+rud_dealloc(RUD_AS v9);
 RUD_AGAIN
 }
-v13 = 0u;
-v10 = j0;
+v12 = 0u;
+v9 = j0;
 goto L72;
-L82:;
+L88:;
 if (!(AT64(v4, 960) == 0)) {
 rud_dealloc(RUD_AS AT64(v4, 944));
 RUD_AGAIN
@@ -13834,14 +13884,21 @@ RUD_AGAIN
 v29 = 0u;
 v30 = 0u;
 v31 = 0u;
-L81:;
-v10 = (u64)v30 | ((u64)v31 << 32);
-v13 = 0u;
+L87:;
+v9 = (u64)v30 | ((u64)v31 << 32);
+v12 = 0u;
 v32 = 0u;
+v31 = 1u;
+goto L72;
+L76:;
+v34 = AT8(v4, 949);
+v29 = AT8(v4, 948);
+L73:;
+v9 = (u64)v31 | ((u64)v30 << 32);
 v31 = 1u;
 L72:;
 v18 = 0u;
-v11 = 0u;
+v8 = 0u;
 v33 = 1u;
 a1 = 0u;
 i0 = 1u;
@@ -13852,11 +13909,11 @@ in_std_collections_btree_node_Node_destroy_ada23bb4fd0ecfa1(RUD_AS AT64(v4, 928)
 RUD_AGAIN
 }
 if (v32 == 0) {
-v35 = (u32)(v10 >> 32);
-v31 = (u32)v10;
+v36 = (u32)(v9 >> 32);
+v31 = (u32)v9;
 goto L5;
 }
-v12 = 0u;
+v10 = 0u;
 SET64(v4, 1384, 0u);
 SET64(v4, 1376, 0u);
 SET64(v4, 1368, 0u);
@@ -13884,28 +13941,28 @@ FILL_FEW(v4 + 944u, 0u, 200u);
 SET64(v4, 1896, 0u);
 SET64(v4, 1904, 0u);
 SET64(v4, 1888, v4 + 1912u);
-if (v13 == 0) {
-v9 = v4 + 1912u;
+if (v12 == 0) {
+v14 = v4 + 1912u;
 j0 = 0u;
-goto L162;
+goto L168;
 }
-v9 = v4 + 1760u;
-v17 = v4 + 1705u;
-v19 = v4 + 1648u;
-v12 = v4 + 1608u;
-v8 = v4 + 1593u;
-v16 = v4 + 1832u;
-v7 = v4 + 1792u;
-a2 = v10;
-L164:;
-a0 = v4 + 1776u;
-FILL_FEW(a0, 0u, 112u);
-TEST(a2);
-in_mm_store_any_AnyStore_new(RUD_AS a0, AT8(a2, 16), AT32(a2, 8));
+v6 = v4 + 1760u;
+v5 = v4 + 1705u;
+a0 = v4 + 1648u;
+v7 = v4 + 1608u;
+v15 = v4 + 1593u;
+a2 = v4 + 1832u;
+v10 = v4 + 1792u;
+a3 = v9;
+L170:;
+v13 = v4 + 1776u;
+FILL_FEW(v13, 0u, 112u);
+TEST(a3);
+in_mm_store_any_AnyStore_new(RUD_AS v13, AT8(a3, 16), AT32(a3, 8));
 RUD_AGAIN
-if (AT8(v4, 1776)) goto L159;
-v29 = AT8(a2, 17);
-a3 = AT64(a2, 0);
+if (AT8(v4, 1776)) goto L165;
+v29 = AT8(a3, 17);
+v17 = AT64(a3, 0);
 SET64(v4, 1608, AT64(v4, 1792));
 SET64(v4, 1616, AT64(v4, 1800));
 SET64(v4, 1648, AT64(v4, 1832));
@@ -13915,10 +13972,10 @@ SET64(v4, 1672, AT64(v4, 1856));
 SET64(v4, 1680, AT64(v4, 1864));
 SET64(v4, 1688, AT64(v4, 1872));
 SET64(v4, 1696, AT64(v4, 1880));
-v6 = (u64)AT8(v4, 1784);
-v14 = AT64(v4, 1808);
-a0 = AT64(v4, 1816);
-v5 = AT64(v4, 1824);
+v13 = (u64)AT8(v4, 1784);
+v11 = AT64(v4, 1808);
+v19 = AT64(v4, 1816);
+v14 = AT64(v4, 1824);
 SET32(v4, 1593, 0u);
 SET32(v4, 1596, 0u);
 SET64(v4, 1705, 0u);
@@ -13930,76 +13987,76 @@ SET64(v4, 1744, 0u);
 SET64(v4, 1760, 0u);
 SET64(v4, 1768, 0u);
 SET8(v4, 1592, v29);
-SET64(v4, 1584, a3);
+SET64(v4, 1584, v17);
 SET8(v4, 1704, 1u);
-SET64(v4, 1640, v5);
-SET64(v4, 1632, a0);
-SET64(v4, 1624, v14);
-SET64(v4, 1600, v6);
-SET64(v4, 1752, (v6 == 0 ? v14 : v5) & 4294967295u);
+SET64(v4, 1640, v14);
+SET64(v4, 1632, v19);
+SET64(v4, 1624, v11);
+SET64(v4, 1600, v13);
+SET64(v4, 1752, (v13 == 0 ? v11 : v14) & 4294967295u);
 in_std_alloc_vec_Vec_push_1546441aeb499ef3(RUD_AS v4 + 944u, v4 + 1888u, v4 + 1584u);
 RUD_AGAIN
-if (AT8(v4, 944)) goto L158;
-a2 = a2 + 20u;
-v13 = v13 - 1u;
-if (!(v13 == 0)) goto L164;
-v12 = AT64(v4, 1904);
-v9 = AT64(v4, 1888);
+if (AT8(v4, 944)) goto L164;
+a3 = a3 + 20u;
+v12 = v12 - 1u;
+if (!(v12 == 0)) goto L170;
+v10 = AT64(v4, 1904);
+v14 = AT64(v4, 1888);
 j0 = AT64(v4, 1896);
-L162:;
-a2 = j0;
-SET64(v4, 1576, v12);
-SET64(v4, 1568, a2);
-SET64(v4, 1560, v9);
+L168:;
+a3 = j0;
+SET64(v4, 1576, v10);
+SET64(v4, 1568, a3);
+SET64(v4, 1560, v14);
 SET64(v4, 1784, 0u);
 SET64(v4, 1792, 0u);
 SET64(v4, 1776, v4 + 1912u);
 i0 = in_std_alloc_vec_Vec_move_to_98cf589476e368ff(RUD_AS v4 + 1776u, 256u);
 RUD_AGAIN
-if (i0) goto L160;
+if (i0) goto L166;
 if (!(AT64(v4, 1792) == 0)) {
 rud_dealloc(RUD_AS AT64(v4, 1776));
 RUD_AGAIN
 }
 in_std_alloc_vec_Vec_drop_d529bc2ce50a9423(RUD_AS v4 + 1560u);
 RUD_AGAIN
-goto L157;
+goto L163;
 }
 if (AT8(v4, 1352) == 1u) {
 in_std_alloc_arc_Arc_drop_c3b6ee2ab0dfb523(RUD_AS AT64(v4, 1384));
 RUD_AGAIN
 }
 goto L6;
-L160:;
-v5 = AT64(v4, 1776);
-SET64(v4, 1591, v5);
-a3 = AT64(v4, 1784);
-SET64(v4, 1599, a3);
-a0 = AT64(v4, 1792);
-SET64(v4, 1607, a0);
-SET64(v4, 1888, v5);
-SET64(v4, 1896, a3);
-SET64(v4, 1904, a0);
+L166:;
+a0 = AT64(v4, 1776);
+SET64(v4, 1591, a0);
+a2 = AT64(v4, 1784);
+SET64(v4, 1599, a2);
+v5 = AT64(v4, 1792);
+SET64(v4, 1607, v5);
+SET64(v4, 1888, a0);
+SET64(v4, 1896, a2);
+SET64(v4, 1904, v5);
 a0 = v18;
-if (!(v11 == 0)) goto L156;
+if (!(v8 == 0)) goto L162;
 goto L7;
-L159:;
+L165:;
 in_std_alloc_vec_Vec_drop_d529bc2ce50a9423(RUD_AS v4 + 1888u);
 RUD_AGAIN
-goto L157;
-L158:;
+goto L163;
+L164:;
 in_mm_memory_mm_desk_held_Held_Destruct_drop(RUD_AS v4 + 952u);
 RUD_AGAIN
 in_std_alloc_vec_Vec_drop_d529bc2ce50a9423(RUD_AS v4 + 1888u);
 RUD_AGAIN
-L157:;
+L163:;
 if (AT8(v4, 1352) == 1u) {
 in_std_alloc_arc_Arc_drop_c3b6ee2ab0dfb523(RUD_AS AT64(v4, 1384));
 RUD_AGAIN
 }
 goto L6;
-L156:;
-L168:;
+L162:;
+L174:;
 TEST(a0);
 SET32(v4, 1336, AT32(a0, 8));
 SET64(v4, 1328, AT64(a0, 0));
@@ -14007,8 +14064,8 @@ in_mm_control_table_ControlTable_add(RUD_AS v4 + 16u, v4 + 1888u, v4 + 1328u);
 RUD_AGAIN
 if (AT8(v4, 16) & 1u) goto L8;
 a0 = a0 + 12u;
-v11 = v11 - 1u;
-if (!(v11 == 0)) goto L168;
+v8 = v8 - 1u;
+if (!(v8 == 0)) goto L174;
 goto L7;
 L8:;
 rud_trap();
@@ -14017,9 +14074,9 @@ SET64(v4, 1528, 0u);
 SET64(v4, 1536, 0u);
 SET64(v4, 1544, 0u);
 SET64(v4, 1552, 0u);
-v14 = AT64(v4, 1904);
-a3 = AT64(v4, 1896);
-v17 = AT64(v4, 1888);
+v15 = AT64(v4, 1904);
+a2 = AT64(v4, 1896);
+v13 = AT64(v4, 1888);
 v5 = v4 + 1912u;
 SET64(v4, 1520, v5);
 a0 = AT64(v4, 1384);
@@ -14030,20 +14087,20 @@ SET64(v4, 1584, v5);
 i0 = in_std_alloc_vec_Vec_move_to_7cbd3772f10b2324(RUD_AS v4 + 1584u, 5u);
 RUD_AGAIN
 if (i0 == 0) {
-if (AT64(v4, 1600) == 0) goto L169;
+if (AT64(v4, 1600) == 0) goto L175;
 rud_dealloc(RUD_AS AT64(v4, 1584));
 RUD_AGAIN
-goto L169;
+goto L175;
 }
-v6 = AT64(v4, 1600);
-SET64(v4, 967, v6);
-v13 = AT64(v4, 1592);
-SET64(v4, 959, v13);
-v5 = AT64(v4, 1584);
-SET64(v4, 951, v5);
-SET64(v4, 1776, v5);
-SET64(v4, 1784, v13);
-SET64(v4, 1792, v6);
+v5 = AT64(v4, 1600);
+SET64(v4, 967, v5);
+v6 = AT64(v4, 1592);
+SET64(v4, 959, v6);
+v7 = AT64(v4, 1584);
+SET64(v4, 951, v7);
+SET64(v4, 1776, v7);
+SET64(v4, 1784, v6);
+SET64(v4, 1792, v5);
 i0 = in_mm_service_reserve_Reserve_fill(RUD_AS v4 + 1776u);
 RUD_AGAIN
 if ((i0 & 255u) == 0) {
@@ -14103,7 +14160,7 @@ SET64(v4, 800, AT64(v4, 704));
 SET64(v4, 792, AT64(v4, 696));
 SET64(v4, 784, AT64(v4, 688));
 if (v30 == 0) {
-rud_dealloc(RUD_AS v10);
+rud_dealloc(RUD_AS v9);
 RUD_AGAIN
 }
 if (v33 == 0) {
@@ -14114,7 +14171,7 @@ if (v31 == 0) {
 rud_dealloc(RUD_AS a1);
 RUD_AGAIN
 }
-v10 = (u64)v29 & 255u;
+v9 = (u64)v29 & 255u;
 SET16(v4, 408, AT16(v4, 912));
 SET64(v4, 400, AT64(v4, 904));
 SET64(v4, 352, AT64(v4, 856));
@@ -14132,8 +14189,8 @@ SET64(v4, 304, AT64(v4, 808));
 SET64(v4, 296, AT64(v4, 800));
 SET64(v4, 288, AT64(v4, 792));
 SET64(v4, 280, AT64(v4, 784));
-v35 = (u32)(v9 >> 32);
-v31 = (u32)v9;
+v36 = (u32)(v14 >> 32);
+v31 = (u32)v14;
 v29 = 0u;
 v30 = 1u;
 v34 = 0u;
@@ -14144,63 +14201,63 @@ SET64(v4, 1592, AT64(v4, 1784));
 SET64(v4, 1584, AT64(v4, 1776));
 in_std_alloc_vec_Vec_clear_81505d604071a4c2(RUD_AS v4 + 1584u);
 RUD_AGAIN
-if (AT64(v4, 1600) == 0) goto L169;
+if (AT64(v4, 1600) == 0) goto L175;
 rud_dealloc(RUD_AS AT64(v4, 1584));
 RUD_AGAIN
-L169:;
+L175:;
 if (v29 == 1u) {
 in_std_alloc_arc_Arc_drop_c3b6ee2ab0dfb523(RUD_AS a0);
 RUD_AGAIN
 }
 in_std_alloc_vec_deque_VecDeque_drop_37450415a5268579(RUD_AS v4 + 1520u);
 RUD_AGAIN
-if (!(a2 == 0)) {
-v6 = 0u;
-L177:;
-a0 = v9 + (v6 * 192u);
-TEST(a0);
-v11 = AT64(a0, 48);
-v16 = AT64(a0, 40);
-v5 = AT64(a0, 32);
-v13 = AT64(a0, 24);
-if (AT8(a0, 16) == 0) {
-if (v16 == 0) goto L180;
-v7 = v5 > v11 ? 0ull : v5;
-a0 = v11 - v7;
-v8 = v5 - a0;
-a3 = v8 < v16 ? v8 : v16;
-if (a0 != v5) {
-a0 = (v13 + ((v11 * 40u) - (v7 * 40u))) + 32u;
-v5 = a3;
-L182:;
-TEST(a0);
-in_std_alloc_arc_Arc_drop_c3b6ee2ab0dfb523(RUD_AS AT64(a0, 0));
-RUD_AGAIN
-a0 = a0 + 40u;
-v5 = v5 - 1u;
-if (v5 != 0u) goto L182;
-}
-if (v8 >= v16) goto L180;
-v5 = v16 - a3;
-a0 = v13 + 32u;
+if (!(a3 == 0)) {
+v7 = 0u;
 L183:;
+a0 = v14 + (v7 * 192u);
+TEST(a0);
+v8 = AT64(a0, 48);
+v12 = AT64(a0, 40);
+v5 = AT64(a0, 32);
+a2 = AT64(a0, 24);
+if (AT8(a0, 16) == 0) {
+if (v12 == 0) goto L186;
+a0 = v5 > v8 ? 0ull : v5;
+v17 = v8 - a0;
+v11 = v5 - v17;
+v6 = v11 < v12 ? v11 : v12;
+if (v5 != v17) {
+a0 = (a2 + ((v8 * 40u) - (a0 * 40u))) + 32u;
+v5 = v6;
+L188:;
 TEST(a0);
 in_std_alloc_arc_Arc_drop_c3b6ee2ab0dfb523(RUD_AS AT64(a0, 0));
 RUD_AGAIN
 a0 = a0 + 40u;
 v5 = v5 - 1u;
-if (v5 != 0u) goto L183;
-L180:;
-rud_dealloc(RUD_AS v13);
-RUD_AGAIN
-goto L178;
+if (v5 != 0u) goto L188;
 }
-v7 = AT64(a0, 88);
+if (v11 >= v12) goto L186;
+v5 = v12 - v6;
+a0 = a2 + 32u;
+L189:;
+TEST(a0);
+in_std_alloc_arc_Arc_drop_c3b6ee2ab0dfb523(RUD_AS AT64(a0, 0));
+RUD_AGAIN
+a0 = a0 + 40u;
+v5 = v5 - 1u;
+if (v5 != 0u) goto L189;
+L186:;
+rud_dealloc(RUD_AS a2);
+RUD_AGAIN
+goto L184;
+}
+v11 = AT64(a0, 88);
 j0 = AT64(a0, 104);
 j1 = AT64(a0, 64);
 if (!(v5 == 0)) {
-a0 = v13;
-L185:;
+a0 = a2;
+L191:;
 TEST(a0);
 if (AT8(a0, 0)) {
 in_std_alloc_arc_Arc_drop_c3b6ee2ab0dfb523(RUD_AS AT64(a0, 40));
@@ -14208,29 +14265,29 @@ RUD_AGAIN
 }
 a0 = a0 + 48u;
 v5 = v5 - 1u;
-if (v5 != 0u) goto L185;
+if (v5 != 0u) goto L191;
 }
-if (!(v16 == 0)) {
-rud_dealloc(RUD_AS v13);
+if (!(v12 == 0)) {
+rud_dealloc(RUD_AS a2);
 RUD_AGAIN
 }
 if (!(j1 == 0)) {
+rud_dealloc(RUD_AS v8);
+RUD_AGAIN
+}
+if (j0 == 0) goto L184;
 rud_dealloc(RUD_AS v11);
 RUD_AGAIN
+L184:;
+v7 = v7 + 1u;
+if (v7 != a3) goto L183;
 }
-if (j0 == 0) goto L178;
-rud_dealloc(RUD_AS v7);
-RUD_AGAIN
-L178:;
-v6 = v6 + 1u;
-if (v6 != a2) goto L177;
-}
-if (!(v12 == 0)) {
-rud_dealloc(RUD_AS v9);
+if (!(v10 == 0)) {
+rud_dealloc(RUD_AS v14);
 RUD_AGAIN
 }
-if (!(v14 == 0)) {
-rud_dealloc(RUD_AS v17);
+if (!(v15 == 0)) {
+rud_dealloc(RUD_AS v13);
 RUD_AGAIN
 }
 L6:;
@@ -14264,7 +14321,7 @@ SET64(v4, 784, AT64(v4, 552));
 SET64(v4, 792, AT64(v4, 560));
 SET64(v4, 800, AT64(v4, 568));
 if (v30 == 0) {
-rud_dealloc(RUD_AS v10);
+rud_dealloc(RUD_AS v9);
 RUD_AGAIN
 }
 if (v33 == 0) {
@@ -14296,7 +14353,7 @@ v29 = 0u;
 v30 = 0u;
 v34 = 0u;
 v31 = 0u;
-v35 = 0u;
+v36 = 0u;
 j0 = 0u;
 goto L4;
 L5:;
@@ -14320,12 +14377,12 @@ SET64(v4, 288, 0u);
 SET64(v4, 296, 0u);
 j0 = 0u;
 L4:;
-a2 = j0;
-v12 = 0u;
-v17 = 0u;
-a3 = 0u;
-v14 = 0u;
+a3 = j0;
 v10 = 0u;
+v13 = 0u;
+a2 = 0u;
+v15 = 0u;
+v9 = 0u;
 a0 = 0u;
 L3:;
 v5 = 0u;
@@ -14346,12 +14403,12 @@ SET64(v4, 1792, 0u);
 SET64(v4, 1416, 0u);
 SET64(v4, 1424, 0u);
 SET64(v4, 1432, 0u);
-v6 = 0u;
-v13 = 0u;
-v9 = 0u;
+v7 = 0u;
+v12 = 0u;
+v14 = 0u;
 a1 = 0u;
+v6 = 0u;
 v8 = 0u;
-v11 = 0u;
 if (v30) {
 SET16(v4, 1360, AT16(v4, 408));
 SET64(v4, 1352, AT64(v4, 400));
@@ -14370,15 +14427,15 @@ SET64(v4, 1776, AT64(v4, 304));
 SET64(v4, 1432, AT64(v4, 296));
 SET64(v4, 1424, AT64(v4, 288));
 SET64(v4, 1416, AT64(v4, 280));
-v5 = a2;
-v13 = v17;
-v9 = a3;
-v8 = v10;
-v11 = a0;
+v5 = a3;
+v12 = v13;
+v14 = a2;
+v6 = v9;
+v8 = a0;
 v29 = 0u;
 v34 = 0u;
-v6 = v12;
-a1 = v14;
+v7 = v10;
+a1 = v15;
 }
 SET16(v4, 544, AT16(v4, 1360));
 SET64(v4, 536, AT64(v4, 1352));
@@ -14408,102 +14465,102 @@ SET64(v4, 986, AT64(v4, 520));
 SET64(v4, 992, AT64(v4, 526));
 in_std_heap_GlobalAllocator_allocate(RUD_AS v4, 192u, 8u);
 RUD_AGAIN
-v18 = (u64)v31 | ((u64)v35 << 32);
-if (AT8(v4, 0) == 0) goto L198;
-v12 = AT64(v4, 992);
-SET64(v4, 272, v12);
-v7 = AT64(v4, 984);
-SET64(v4, 264, v7);
-v14 = AT64(v4, 976);
-SET64(v4, 256, v14);
-v10 = AT64(v4, 968);
-SET64(v4, 248, v10);
-a3 = AT64(v4, 960);
-SET64(v4, 240, a3);
-a2 = AT64(v4, 952);
-SET64(v4, 232, a2);
-a0 = AT64(v4, 944);
-SET64(v4, 224, a0);
-SET64(v4, 168, a0);
-SET64(v4, 176, a2);
-SET64(v4, 184, a3);
-SET64(v4, 192, v10);
-SET64(v4, 200, v14);
-SET64(v4, 208, v7);
-SET64(v4, 216, v12);
+a2 = (u64)v31 | ((u64)v36 << 32);
+if (AT8(v4, 0) == 0) goto L204;
+a0 = AT64(v4, 992);
+SET64(v4, 272, a0);
+a3 = AT64(v4, 984);
+SET64(v4, 264, a3);
+v9 = AT64(v4, 976);
+SET64(v4, 256, v9);
+v15 = AT64(v4, 968);
+SET64(v4, 248, v15);
+v10 = AT64(v4, 960);
+SET64(v4, 240, v10);
+v13 = AT64(v4, 952);
+SET64(v4, 232, v13);
+v11 = AT64(v4, 944);
+SET64(v4, 224, v11);
+SET64(v4, 168, v11);
+SET64(v4, 176, v13);
+SET64(v4, 184, v10);
+SET64(v4, 192, v15);
+SET64(v4, 200, v9);
+SET64(v4, 208, a3);
+SET64(v4, 216, a0);
 SET64(v4, 160, AT64(v4, 432));
 SET64(v4, 152, AT64(v4, 424));
 SET64(v4, 144, AT64(v4, 416));
-SET64(v4, 136, v6);
+SET64(v4, 136, v7);
 SET64(v4, 128, v5);
-SET64(v4, 120, v18);
+SET64(v4, 120, a2);
 in_std_alloc_vec_Vec_drop_5b598d246d396421(RUD_AS v4 + 120u);
 RUD_AGAIN
 if (!(a1 == 0)) {
-rud_dealloc(RUD_AS v13);
+rud_dealloc(RUD_AS v12);
 RUD_AGAIN
 }
 in_std_alloc_vec_deque_VecDeque_drop_af93cb7c0deb105d(RUD_AS v4 + 184u);
 RUD_AGAIN
-if (v8 == 1u) {
-in_std_alloc_arc_Arc_drop_c3b6ee2ab0dfb523(RUD_AS v11);
+if (v6 == 1u) {
+in_std_alloc_arc_Arc_drop_c3b6ee2ab0dfb523(RUD_AS v8);
 RUD_AGAIN
 }
 in_std_alloc_vec_Vec_drop_95beaedac91b374b(RUD_AS v4 + 144u);
 RUD_AGAIN
-goto L197;
+goto L203;
 }
-v36 = 0u;
+v35 = 0u;
 v32 = 2u;
 v30 = 32u;
 v33 = 0u;
 switch ((u32)((u64)v29 & 255u) - 1u) {
-case 0u: goto L205;
-case 1u: goto L203;
-case 2u: goto L207;
-case 3u: goto L206;
-case 4u: goto L204;
-case 5u: goto L195;
-case 6u: goto L202;
-default: goto L197;
+case 0u: goto L211;
+case 1u: goto L209;
+case 2u: goto L213;
+case 3u: goto L212;
+case 4u: goto L210;
+case 5u: goto L201;
+case 6u: goto L208;
+default: goto L203;
 }
-L207:;
+L213:;
 v32 = 0u;
 i0 = 29u;
-goto L196;
-L206:;
+goto L202;
+L212:;
 v32 = 0u;
 i0 = 30u;
-goto L196;
-L205:;
+goto L202;
+L211:;
 v32 = 0u;
 i0 = 27u;
-goto L196;
-L204:;
+goto L202;
+L210:;
 v32 = 3u;
 v30 = 31u;
-v33 = v35;
-goto L195;
-L203:;
-v36 = v35 & 255u;
+v33 = v36;
+goto L201;
+L209:;
+v35 = v36 & 255u;
 v32 = 4u;
 v30 = 28u;
-goto L195;
-L202:;
-v36 = v34 & 255u;
+goto L201;
+L208:;
+v35 = v34 & 255u;
 v32 = 5u;
 v30 = 33u;
 v31 = 0u;
-goto L195;
-L198:;
+goto L201;
+L204:;
 a0 = AT64(v4, 8);
 TEST(a0);
 SET64(a0, 40, a1);
-SET64(a0, 32, v9);
-SET64(a0, 24, v13);
-SET64(a0, 16, v6);
+SET64(a0, 32, v14);
+SET64(a0, 24, v12);
+SET64(a0, 16, v7);
 SET64(a0, 8, v5);
-SET64(a0, 0, v18);
+SET64(a0, 0, a2);
 SET64(a0, 48, AT64(v4, 944));
 SET64(a0, 56, AT64(v4, 952));
 SET64(a0, 64, AT64(v4, 960));
@@ -14511,8 +14568,8 @@ SET64(a0, 72, AT64(v4, 968));
 SET64(a0, 80, AT64(v4, 976));
 SET64(a0, 88, AT64(v4, 984));
 SET64(a0, 96, AT64(v4, 992));
-SET64(a0, 128, v8);
-SET64(a0, 160, v11);
+SET64(a0, 128, v6);
+SET64(a0, 160, v8);
 SET64(a0, 120, AT64(v4, 480));
 SET64(a0, 112, AT64(v4, 472));
 SET64(a0, 104, AT64(v4, 464));
@@ -14522,35 +14579,35 @@ SET64(a0, 152, AT64(v4, 456));
 SET64(a0, 168, AT64(v4, 416));
 SET64(a0, 176, AT64(v4, 424));
 SET64(a0, 184, AT64(v4, 432));
-SET64(v25, 0, a0);
-SET8(v25, 8, 1u);
-TEST(v15);
-SET64(v15, 40, 0u);
-SET64(v15, 32, 0u);
-SET64(v15, 24, 0u);
-SET64(v15, 16, 0u);
-SET64(v15, 8, 0u);
-SET64(v15, 0, 0u);
+SET64(v22, 0, a0);
+SET8(v22, 8, 1u);
+TEST(v16);
+SET64(v16, 40, 0u);
+SET64(v16, 32, 0u);
+SET64(v16, 24, 0u);
+SET64(v16, 16, 0u);
+SET64(v16, 8, 0u);
+SET64(v16, 0, 0u);
 goto L2;
-L197:;
+L203:;
 v32 = 0u;
 i0 = 0u;
-L196:;
+L202:;
 v30 = i0;
 v31 = 0u;
 v33 = 0u;
-v36 = 0u;
-L195:;
-TEST(v15);
-SET64(v15, 40, 0u);
-SET32(v15, 36, 0u);
-SET32(v15, 32, v36);
-SET64(v15, 24, 0u);
-SET32(v15, 20, v33);
-SET32(v15, 16, v31);
-SET32(v15, 12, v32);
-SET32(v15, 8, v30);
-SET64(v15, 0, 2u);
+v35 = 0u;
+L201:;
+TEST(v16);
+SET64(v16, 40, 0u);
+SET32(v16, 36, 0u);
+SET32(v16, 32, v35);
+SET64(v16, 24, 0u);
+SET32(v16, 20, v33);
+SET32(v16, 16, v31);
+SET32(v16, 12, v32);
+SET32(v16, 8, v30);
+SET64(v16, 0, 2u);
 L2:;
 RUD_G0 = v4 + 1920u;
 RUD_G1 = 0u;
@@ -14644,7 +14701,7 @@ SET64(v3, 24, 0u);
 SET64(v3, 16, 0u);
 SET64(v3, 8, 0u);
 SET64(v3, 0, 0u);
-in_mm_told_answer_tell_text(RUD_AS v3, 4205536u, 5u, a0 + (a0 == 0 ? 4096ull : 0ull), a1);
+in_mm_told_answer_tell_text(RUD_AS v3, 4205544u, 5u, a0 + (a0 == 0 ? 4096ull : 0ull), a1);
 TEST(a2);
 SET64(a2, 40, AT64(v3, 40));
 SET64(a2, 32, AT64(v3, 32));
@@ -14679,8 +14736,8 @@ if ((s64)RUD_G0 >= (s64)16u) {
 a1 = a1 - 1u;
 if ((a1 & 255u) <= 27u) {
 v4 = (u64)a1 & 255u;
-v3 = GET_FAR8(v4, 4205892);
-v2 = GET_FAR8(v4, 4205864);
+v3 = GET_FAR8(v4, 4205900);
+v2 = GET_FAR8(v4, 4205872);
 }
 TEST(a0);
 SET8(a0, 1, v3);
@@ -23999,13 +24056,13 @@ L11:;
 v2 = 49u;
 goto L2;
 L10:;
-v2 = GET_FAR32(a1 << 2, 4205920);
+v2 = GET_FAR32(a1 << 2, 4205928);
 goto L2;
 L9:;
-v2 = GET_FAR32(a1 << 2, 4205952);
+v2 = GET_FAR32(a1 << 2, 4205960);
 goto L2;
 L3:;
-v2 = GET_FAR32((u64)v3 << 2, 4205968);
+v2 = GET_FAR32((u64)v3 << 2, 4205976);
 L2:;
 TEST(a0);
 SET64(a0, 12, 0u);
@@ -25981,8 +26038,8 @@ i0 = 0u;
 goto L2;
 }
 a1 = ((u64)v6 & 255u) << 2;
-v8 = GET_FAR32(a1, 4206012);
-i0 = GET_FAR32(a1, 4206000);
+v8 = GET_FAR32(a1, 4206020);
+i0 = GET_FAR32(a1, 4206008);
 L2:;
 v9 = i0;
 SET8(v5, 8, v6);
@@ -30207,23 +30264,24 @@ static const u8 rud_data_25[] = {
 111,114,101,115,114,111,117,116,101,115,108,105,109,105,116,115,117,110,107,110,111,119,110,114,101,112,101,97,116,101,100,105,
 100,115,105,122,101,116,121,112,101,99,104,97,110,110,101,108,115,116,97,114,116,97,112,105,100,115,101,114,118,105,99,101,
 115,117,98,116,121,112,101,98,108,111,99,107,115,115,116,101,112,115,119,105,110,100,111,119,97,114,114,105,118,97,108,115,
-8,9,10,11,12,99,105,114,99,117,108,97,114,98,111,117,110,100,101,100,13,14,15,0,11,16,0,0,0,0,0,0,
-24,0,0,0,0,0,0,32,0,0,0,0,0,0,0,0,24,0,0,0,0,0,0,208,47,0,0,0,0,0,0,0,
-3,0,0,0,0,0,0,48,46,52,46,48,0,0,0,5,0,0,0,0,0,0,0,5,0,0,0,0,0,0,0,5,
-0,0,0,0,0,0,0,6,0,0,0,0,0,0,0,6,0,0,0,0,0,0,0,6,0,0,0,0,0,0,0,7,
-0,0,0,0,0,0,0,8,0,0,0,0,0,0,0,2,0,0,0,0,0,0,0,4,0,0,0,0,0,0,0,4,
-0,0,0,0,0,0,0,7,0,0,0,0,0,0,0,5,0,0,0,0,0,0,0,4,0,0,0,0,0,0,0,7,
-0,0,0,0,0,0,0,7,0,0,0,0,0,0,0,6,0,0,0,0,0,0,0,5,0,0,0,0,0,0,0,6,
-0,0,0,0,0,0,0,8,0,0,0,0,0,0,0,40,43,64,0,0,0,0,0,45,43,64,0,0,0,0,0,50,
-43,64,0,0,0,0,0,55,43,64,0,0,0,0,0,61,43,64,0,0,0,0,0,67,43,64,0,0,0,0,0,73,
-43,64,0,0,0,0,0,80,43,64,0,0,0,0,0,88,43,64,0,0,0,0,0,90,43,64,0,0,0,0,0,94,
-43,64,0,0,0,0,0,98,43,64,0,0,0,0,0,105,43,64,0,0,0,0,0,110,43,64,0,0,0,0,0,114,
-43,64,0,0,0,0,0,121,43,64,0,0,0,0,0,128,43,64,0,0,0,0,0,134,43,64,0,0,0,0,0,139,
-43,64,0,0,0,0,0,145,43,64,0,0,0,0,0,1,1,1,1,1,0,0,0,1,0,1,1,0,0,0,0,1,
-1,0,1,1,1,0,0,1,1,1,1,0,1,2,3,4,0,0,0,5,0,6,7,0,0,0,0,8,9,0,10,11,
-12,0,0,13,14,15,16,0,0,0,0,1,0,0,0,2,0,0,0,6,0,0,0,3,0,0,0,5,0,0,0,7,
-0,0,0,4,0,0,0,0,0,0,0,12,0,0,0,13,0,0,0,14,0,0,0,0,0,0,0,17,0,0,0,18,
-0,0,0,19,0,0,0,20,0,0,0,21,0,0,0,26,0,0,0,9,0,0,0,1,0,0,0,1,
+98,101,102,111,114,101,100,117,114,105,110,103,8,9,10,11,12,99,105,114,99,117,108,97,114,98,111,117,110,100,101,100,
+13,14,15,0,11,16,0,0,24,0,0,0,0,0,0,32,0,0,0,0,0,0,0,0,24,0,0,0,0,0,0,208,
+47,0,0,0,0,0,0,0,3,0,0,0,0,0,0,48,46,52,46,48,0,0,0,5,0,0,0,0,0,0,0,5,
+0,0,0,0,0,0,0,5,0,0,0,0,0,0,0,6,0,0,0,0,0,0,0,6,0,0,0,0,0,0,0,6,
+0,0,0,0,0,0,0,7,0,0,0,0,0,0,0,8,0,0,0,0,0,0,0,2,0,0,0,0,0,0,0,4,
+0,0,0,0,0,0,0,4,0,0,0,0,0,0,0,7,0,0,0,0,0,0,0,5,0,0,0,0,0,0,0,4,
+0,0,0,0,0,0,0,7,0,0,0,0,0,0,0,7,0,0,0,0,0,0,0,6,0,0,0,0,0,0,0,5,
+0,0,0,0,0,0,0,6,0,0,0,0,0,0,0,8,0,0,0,0,0,0,0,40,43,64,0,0,0,0,0,45,
+43,64,0,0,0,0,0,50,43,64,0,0,0,0,0,55,43,64,0,0,0,0,0,61,43,64,0,0,0,0,0,67,
+43,64,0,0,0,0,0,73,43,64,0,0,0,0,0,80,43,64,0,0,0,0,0,88,43,64,0,0,0,0,0,90,
+43,64,0,0,0,0,0,94,43,64,0,0,0,0,0,98,43,64,0,0,0,0,0,105,43,64,0,0,0,0,0,110,
+43,64,0,0,0,0,0,114,43,64,0,0,0,0,0,121,43,64,0,0,0,0,0,128,43,64,0,0,0,0,0,134,
+43,64,0,0,0,0,0,139,43,64,0,0,0,0,0,145,43,64,0,0,0,0,0,1,1,1,1,1,0,0,0,1,
+0,1,1,0,0,0,0,1,1,0,1,1,1,0,0,1,1,1,1,0,1,2,3,4,0,0,0,5,0,6,7,0,
+0,0,0,8,9,0,10,11,12,0,0,13,14,15,16,0,0,0,0,1,0,0,0,2,0,0,0,6,0,0,0,3,
+0,0,0,5,0,0,0,7,0,0,0,4,0,0,0,0,0,0,0,12,0,0,0,13,0,0,0,14,0,0,0,0,
+0,0,0,17,0,0,0,18,0,0,0,19,0,0,0,20,0,0,0,21,0,0,0,26,0,0,0,9,0,0,0,1,
+0,0,0,1,
 };
 static const u8 rud_data_26[] = {
 1,0,0,0,1,
@@ -30257,8 +30315,8 @@ static const struct {
     {4200297u, 7u, rud_data_22},
     {4200313u, 7u, rud_data_23},
     {4200329u, 7u, rud_data_24},
-    {4200345u, 5660u, rud_data_25},
-    {4206016u, 5u, rud_data_26},
+    {4200345u, 5668u, rud_data_25},
+    {4206024u, 5u, rud_data_26},
 };
 
 /* ---- What a call takes in and out. */

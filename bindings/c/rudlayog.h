@@ -198,6 +198,7 @@ enum rudlayog_refusal {
     RUDLAYOG_REFUSAL_LINKS_TEXT = 52,
     RUDLAYOG_REFUSAL_CHANNEL_DIFFERS = 53,
     RUDLAYOG_REFUSAL_TOO_MANY_REPORTS = 54,
+    RUDLAYOG_REFUSAL_NOT_FLYABLE = 55,
 };
 
 /* A refusal: its number, of `enum rudlayog_refusal`, and its place, of `enum rudlayog_place`. Lines, rows and columns count from 1. `name`
@@ -497,8 +498,8 @@ void rudlayog_chart_worth(const uint8_t *setup, size_t setup_length, const uint8
 void rudlayog_table(const uint8_t *setup, size_t setup_length, const uint8_t *forecast, size_t forecast_length, const uint8_t *plan,
                     size_t plan_length, uint8_t *out, size_t room, struct rudlayog_answer *answer);
 
-/* What each window, store size and limit is worth for a setup and a forecast, as comma separated values: how many blocks fewer the least plan
- * loses if it is larger. It takes up to some two hundred times rudlayog_plan. Stack: `RUDLAYOG_SENSITIVITY_STACK`.
+/* What each window, store size and limit, also by step, is worth for a setup and a forecast, as comma separated values: how many blocks fewer
+ * the least plan loses if it is larger. It takes up to some two hundred times rudlayog_plan. Stack: `RUDLAYOG_SENSITIVITY_STACK`.
  *
  * `RUDLAYOG_WRITTEN`, `RUDLAYOG_TOO_SMALL`, `RUDLAYOG_REFUSED` as of rudlayog_plan. */
 void rudlayog_sensitivity(const uint8_t *setup, size_t setup_length, const uint8_t *forecast, size_t forecast_length, uint8_t *out,

@@ -15,7 +15,7 @@ from pathlib import Path
 HERE = Path(__file__).resolve().parent
 TOP = HERE.parents[1]
 NOTICES = TOP / "THIRD-PARTY-NOTICES.txt"
-EXAMPLES = ("mission", "two_passes", "in_order", "tight", "channel_limit", "first_run")
+EXAMPLES = ("mars_week", "mission", "two_passes", "in_order", "tight", "channel_limit", "first_run")
 IMPORT = re.compile(r'^import \{[^}]*\} from "\./(\w+)\.js";\n', re.M)
 
 
@@ -54,10 +54,14 @@ def source(text: str) -> str:
 
 
 def examples() -> dict[str, dict[str, str]]:
-    """The texts of the examples."""
-    texts = (("setup", "setup.toml"), ("forecast", "forecast.csv"))
-    return {name: {what: (TOP / "examples" / name / file).read_text(encoding="utf-8") for what, file in texts}
-        for name in EXAMPLES}
+    """The files of the examples: of a mission those that it names, of others the setup and the forecast."""
+    found = {}
+    for name in EXAMPLES:
+        folder = TOP / "examples" / name
+        is_mission = (folder / "mission.toml").exists()
+        files = ("mission.toml", "passes.csv", "observations.csv") if is_mission else ("setup.toml", "forecast.csv")
+        found[name] = {file: (folder / file).read_text(encoding="utf-8") for file in files}
+    return found
 
 
 def main(module: str, out: str, hook: str = "") -> None:

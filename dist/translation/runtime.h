@@ -268,10 +268,12 @@ RUD_EACH void rud_store32(u8 *to, u32 it) {
 #endif
 
 @rud_load64
-#if RUD_TYPED
-/* No macro: gcc passes an argument by the type that it was read with, and on Arm one of 64 bits without alignment goes
- * elsewhere than where the function expects it. */
-RUD_INLINE u64 rud_load64(const u8 *from) { return *(const rud_u64 *)from; }
+#if RUD_TYPED && UINTPTR_MAX > 0xFFFFFFFFu
+#define rud_load64(from) (*(const rud_u64 *)(from))
+#elif RUD_TYPED
+/* gcc passes an argument by the type that it was read with, also past sums and inline functions, and on Arm one of 64
+ * bits without alignment goes elsewhere than where the function expects it. */
+RUD_INLINE u64 rud_load64(const u8 *from) { return (u64)rud_load32(from + 4) << 32 | rud_load32(from); }
 #else
 RUD_EACH u64 rud_load64(const u8 *from) {
 #if RUDLAYOG_SWAPPED

@@ -113,7 +113,22 @@ def operations_module():
                  "(i64.add (i64.mul (local.get 0) (i64.const 31)) (i64.load (i64.const 66003))))"
                  for value in EDGES[kind] for off in (0, 3, 1020, 5000)]
         parts.append(f'(func (export "o{code}") (result i64) (local i64 i64) {chr(10).join(lines)} (local.get 0))')
+    parts += [arguments(words) for words in range(4)]
     return "".join(parts) + ")"
+
+
+def arguments(words):
+    """A function that gets a number of 64 bits behind so many of 32, and another that gives it what it reads. Where two
+    registers hold 64 bits, the words before say which: with a compiler that takes others for a number that stands at
+    any address, the answer is another one. The loop keeps the compiler from putting one function into the other."""
+    turn = "(local.set $sum (i64.add (i64.mul (local.get $sum) (i64.const 31)) (local.get $wide)))"
+    again = "(br_if 0 (i64.lt_u (local.tee $turn (i64.add (local.get $turn) (i64.const 1))) (i64.const 3)))"
+    given_words = "".join(f"(i32.const {at + 7}) " for at in range(words))
+    calls = "".join(f"(i64.store (i64.const 66005) (i64.const {value}))(local.set 0 (i64.add (i64.mul (local.get 0) "
+                    f"(i64.const 31)) (call $taken{words} {given_words}(i64.load (i64.const 66005)))))" for value in EDGES["i64"])
+    return (f'(func $taken{words} {"(param i32)" * words} (param $wide i64) (result i64) '
+            f'(local $sum i64) (local $turn i64) (loop {turn}{again})(local.get $sum))'
+            f'(func (export "o{words}words") (result i64) (local i64) {calls} (local.get 0))')
 
 
 class Programs:

@@ -601,6 +601,32 @@ static void try_version(void) {
            "rudlayog_version_number", "another than the text");
 }
 
+/* Arrivals during dumps, and sizes by step: of 5 blocks 2 leave in step 1, and of 3 + 3 then 3, where 1 may be left. */
+static void try_steps(void) {
+    static const char of_during[] =
+        "arrivals = \"during\"\n[[store]]\nid = \"SCI\"\nsize = 4\ntype = \"bounded\"\nchannel = 0\n";
+    static const char sized[] = "step,window,SCI,size:SCI\n1,2,5,4\n2,3,3,1\n";
+    static const char least[] =
+        "mmplan 1\nstores SCI\ndump 1 2\ndump 2 3\nloss 2\nstretch SCI 1 2\nbound 2\nend\n";
+    static const char wrong[] = "arrivals = \"while\"\n[[store]]\n";
+    static uint8_t out[ROOM];
+    struct rudlayog_memory memory = {0};
+    struct rudlayog_answer answer;
+    rudlayog_plan(TEXT(of_during), TEXT(sized), out, ROOM, &answer);
+    expect(answer.status == RUDLAYOG_WRITTEN && answer.length == strlen(least) && memcmp(out, least, answer.length) == 0,
+           "rudlayog_plan", "another plan of arrivals during dumps");
+    rudlayog_check(TEXT(of_during), TEXT(sized), TEXT(least), out, ROOM, &verdict, &answer);
+    expect(verdict.kind == RUDLAYOG_LEAST && verdict.loss == 2, "rudlayog_check",
+           "another verdict of arrivals during dumps");
+    rudlayog_plan(TEXT(wrong), TEXT(sized), out, ROOM, &answer);
+    expect(answer.status == RUDLAYOG_REFUSED && answer.refused.number == RUDLAYOG_REFUSAL_SETUP_FIELD &&
+               answer.refused.row == 0,
+           "rudlayog_plan", "another refusal of a word for arrivals");
+    rudlayog_memory_open(&memory, TEXT(of_during), &answer);
+    expect(answer.status == RUDLAYOG_WRITTEN, "rudlayog_memory_open", "arrivals during dumps are refused");
+    rudlayog_memory_close(&memory);
+}
+
 int main(void) {
     struct rudlayog_memory memory;
     struct rudlayog_answer answer;
@@ -611,6 +637,7 @@ int main(void) {
     }
     try_losses();
     try_least();
+    try_steps();
     try_version();
     make_no_words(NULL, 0, &answer);
     make_hint(plan, ROOM, &answer);

@@ -4,7 +4,8 @@ import { minutesOf } from "./clock.js";
 import { missionOf, unitOf } from "./passes.js";
 import { digits } from "./texts.js";
 
-const MEGA = 1_000_000, BLOCK = 1024, DECIMALS = /^\d+(\.\d+)?$/;
+// A number with commas between its thousands alone, as it is shown.
+const MEGA = 1_000_000, BLOCK = 1024, DECIMALS = /^(\d+|\d{1,3}(,\d{3})+)(\.\d+)?$/;
 const short = value => value.toLocaleString("en", { maximumFractionDigits: value < 10 ? 3 : value < 1000 ? 2 : 1 });
 
 // The octets of a block of a store, or of one on a link.
@@ -21,17 +22,26 @@ const sumIn = pairs => pairs.reduce((sum, [, blocks]) => sum + blocks, 0);
 const IN_BLOCKS = {
   unit: "blocks", flow: "blocks", volume: (_, blocks) => digits(blocks), size: (_, blocks) => digits(blocks),
   rate: (_, blocks) => digits(blocks), total: pairs => digits(sumIn(pairs)), totalRate: pairs => digits(sumIn(pairs)),
+  sum: sumIn, shownSum: digits,
 };
 
+// What a link sends, in place of the identifier of a store.
+export const LINK = "";
+// The octets of what stores have.
+export const octetsIn = (session, pairs) =>
+  pairs.reduce((sum, [id, blocks]) => sum + blocks * octetsOf(session, id), 0);
+
 // Of a session: how a volume in a store, its size, and what flows in a step are shown, and the totals of stores, which
-// are given as pairs of an identifier and blocks.
+// are given as pairs of an identifier and blocks; and sums as numbers, with how they are shown.
 export function amountsOf(session) {
   if (session.isInBlocks) return IN_BLOCKS;
-  const octets = pairs => pairs.reduce((sum, [id, blocks]) => sum + blocks * octetsOf(session, id), 0);
+  const octets = pairs => octetsIn(session, pairs);
   const flow = (count, step) => short((8 * count) / (minutesOf(session, step) * 60_000));
   return {
     unit: "MB",
     flow: "kbit/s",
+    sum: octets,
+    shownSum: it => short(it / MEGA),
     volume: (id, blocks) => short((blocks * octetsOf(session, id)) / MEGA),
     size: (id, blocks) => short((blocks * roomOf(session, id)) / MEGA),
     rate: (id, blocks, step) => flow(blocks * octetsOf(session, id), step),
@@ -43,9 +53,9 @@ export function amountsOf(session) {
 // What is typed as the size of a store, what it holds, or what flows in a step, in blocks: as text, which stays as it
 // is where it is no number. Sizes and windows fall to whole blocks, and what is held or arrives rises.
 export function blocksTyped(session, typed, { id, key, step }) {
-  const plain = typed.trim().replaceAll(",", "");
-  if (session.isInBlocks || !DECIMALS.test(plain)) return typed;
-  const value = Number(plain), octets = key === "size" ? roomOf(session, id) : octetsOf(session, id);
+  if (session.isInBlocks || !DECIMALS.test(typed.trim())) return typed;
+  const value = Number(typed.replaceAll(",", "")),
+    octets = key === "size" ? roomOf(session, id) : octetsOf(session, id);
   const blocks = step ? (value * minutesOf(session, step) * 60_000) / (8 * octets) : (value * MEGA) / octets;
   return String(["size", "window", "limit"].includes(key) ? Math.floor(blocks + 1e-9) : Math.ceil(blocks - 1e-9));
 }

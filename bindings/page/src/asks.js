@@ -32,7 +32,8 @@ function safely(answers) {
     // The browser's own stack ended: only a setup whose tables are nested some hundred times takes so much.
     const words = fault instanceof RangeError
       ? "the stack of this browser ended: expected a setup whose tables are not nested so deeply; write them flat"
-      : `the planner stopped (${fault.message}): expected an answer; save the texts, and tell whoever gave you this page`;
+      : `the planner stopped (${fault.message}): expected an answer; save the texts, and tell whoever gave you this `
+        + "page";
     return { refused: { number: null, words, hint: "" } };
   }
 }
@@ -50,7 +51,6 @@ function worthsOf(library, { setup, forecast }) {
 
 const asked = {
   judge,
-  plan: planOf,
   chart: (library, { setup, forecast }, plan) => library.chart(setup, forecast, plan),
   table: (library, { setup, forecast }, plan) => library.table(setup, forecast, plan),
   shaded: (library, { setup, forecast }, plan) => library.chartWorth(setup, forecast, plan),

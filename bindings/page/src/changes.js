@@ -1,23 +1,22 @@
 // What a planner does: each is a change of the session, or what is saved of it. What needs an answer waits for the one
 // to this session.
-import { blocksTyped } from "./amounts.js";
+import { LINK, amountsOf, blocksTyped } from "./amounts.js";
 import { hasClock } from "./clock.js";
 import { at, make } from "./dom.js";
-import { openedFrom, readFiles } from "./files.js";
+import { dropped, ofFolder, openedFrom, readFiles } from "./files.js";
 import { desk, examples, history, keepSoon, keeper, layNow, note, pageWith, resume, showAgain } from "./main.js";
-import { momentOf } from "./moments.js";
-import { NEW_PASS, faultOf, isSame, missionOf, remarksOn, sumOf, withClock, withPassesOf, withWindowsOf,
-  withoutPass } from "./passes.js";
-import { passTyped } from "./passtable.js";
+import { momentOf, shown } from "./moments.js";
+import { MOST_WINDOW, NEW_PASS, faultOf, inOrder, isSame, nameFor, passWith, remarksOn, sumOf, withClock, withPassesOf,
+  withWindowsOf, withoutPass } from "./passes.js";
 import { question } from "./question.js";
 import { restOf } from "./rest.js";
-import { EMPTY, MOST_VARIANTS, hasBoth, toJson } from "./session.js";
+import { EMPTY, MOST_VARIANTS, hasBoth, isPacket, toJson } from "./session.js";
 import { setupOf, withNumber, withOrder } from "./setup.js";
 import { exampleSession, showKept } from "./start.js";
 import { goTo, pastedFrom } from "./steps.js";
-import { NOTHING, digits, encode, forecastOf, withCells } from "./texts.js";
+import { NOTHING, digits, encode, forecastOf, isSize, storeOfSize, withCells } from "./texts.js";
 import { variantOf } from "./variants.js";
-import { followStore, showSetup } from "./view.js";
+import { followStore } from "./view.js";
 import { askWorths, dateWorths, shadeChart, shadedChart } from "./worth.js";
 
 const SAVED = {
@@ -25,8 +24,7 @@ const SAVED = {
   setup: ["setup.toml", "text/plain"], forecast: ["forecast.csv", "text/csv"],
   session: ["rudlayog.json", "application/json"], page: ["rudlayog.html", "text/html"],
 };
-const LEFT =
-  "What was changed here is in no file yet. It stays in the list of the start screen, in this browser alone.";
+const LEFT = "What was changed here is in no file yet.";
 
 // ---- Cells
 
@@ -48,10 +46,12 @@ function changeSetup(it, kind, array, nth, key) {
 function changeForecast(cells, kind) {
   const { now } = history, { header } = forecastOf(now.forecast);
   const of = new Map(cells.map(it => [`${it.step} ${it.column}`, it.text]));
-  const keyOf = column => (column === 1 ? "window" : header[column].startsWith("limit:") ? "limit" : "arrives");
+  // A size is a volume, and all else flows in its step.
+  const measured = (name, column, step) => (isSize(name) ? { id: storeOfSize(name), key: "size" }
+    : { id: name, key: column === 1 ? "window" : name.startsWith("limit:") ? "limit" : "arrives", step });
   const forecast = withCells(now.forecast, (record, step) => record.map((cell, column) => {
     const typed = of.get(`${step} ${column}`);
-    return typed === undefined ? cell : blocksTyped(now, typed, { id: header[column], key: keyOf(column), step });
+    return typed === undefined ? cell : blocksTyped(now, typed, measured(header[column], column, step));
   }));
   history.change(withWindowsOf({ ...now, forecast }, history.before(kind).passes), kind);
 }
@@ -59,14 +59,15 @@ function changeForecast(cells, kind) {
 export function paste(it, text) {
   const cells = pastedFrom(it, text);
   if (cells?.length) changeForecast(cells, null);
+  else if (cells) note("Nothing is pasted: the range is larger than what is edited from this cell on.");
   return cells !== null;
 }
 
 function changePass(it, kind) {
-  const base = history.before(kind), nth = Number(kind.split(" ")[1]), made = passTyped(base, it);
-  if (!made) return;
-  const passes = base.passes.map((pass, at) => (at === nth ? made : pass));
-  history.change(kind.endsWith("station") ? { passes } : withPassesOf(base, passes), kind);
+  const base = history.before(kind), [, nth, what] = kind.split(" "),
+    made = passWith(base, Number(nth), what, it.value);
+  const passes = base.passes.with(nth, made), isName = what === "station" && (!base.mission || made.from === null);
+  history.change(made.bad || isName ? { ...base, passes } : withPassesOf(base, passes), kind);
 }
 
 export function changeText(which, text) {
@@ -77,11 +78,16 @@ export function changeText(which, text) {
 export const changeClock = (which, value) => history.change(
   withClock(history.before(which), { [which]: value }), which);
 
-// The row of a moved store is there at once, so that the next press moves the same store.
+export function changePacket(text) {
+  const base = history.before("packet"), octets = Number(text);
+  history.change(isPacket(octets) ? withClock(base, { packet: octets, badPacket: null })
+    : { ...base, badPacket: text }, "packet");
+}
+
+// The focus goes with the store, so that the next press moves the same one.
 export function moveStore(nth, way) {
   const { now } = history, to = way === "up" ? nth - 1 : nth + 1, { store } = setupOf(now.setup);
   history.change(withOrder(now, Math.min(nth, to)));
-  showSetup(history.now, null);
   followStore(to, way);
   note(`${store[nth].keys.id} is store ${to + 1} of ${store.length} now.`);
 }
@@ -99,28 +105,34 @@ export async function cancelPass(nth) {
 // The pass that is typed in a form. One of a mission has a name of its own.
 function passIn(form, { passes, mission }) {
   const typed = Object.fromEntries([...new FormData(form)].map(([name, text]) => [name, text.trim()]));
-  const { station, rate, unit } = typed, names = new Set(passes.map(it => it.name));
-  const name = [...Array(passes.length + 1).keys()].map(it => `${station} ${it + 1}`).find(it => !names.has(it));
-  const [from, to] = [typed.from, typed.to].map(momentOf);
-  return { ...NEW_PASS, station, name: mission ? name : "", from, to, rate: rate && `${rate} ${unit}` };
+  const { station, rate, unit } = typed, [from, to] = [typed.from, typed.to].map(momentOf);
+  return { ...NEW_PASS, station, name: mission ? nameFor(station, passes) : "", from, to,
+    rate: rate && `${rate} ${unit}` };
 }
 
+// The first window that is larger than the library plans; undefined where none is.
+const firstLarge = ({ forecast }) => forecastOf(forecast).records
+  .map((record, nth) => ({ step: nth + 1, blocks: Number(record[1]) })).find(it => it.blocks > MOST_WINDOW);
+
 export function addPass(form) {
-  const { now } = history, pass = passIn(form, now), { station, rate } = pass;
+  const { now } = history, pass = passIn(form, now);
   const say = words => { at("pass-fault").textContent = words; };
   if (!hasClock(now)) return say("Say first, above the steps, when step 1 begins.");
   if (!forecastOf(now.forecast)) return say("This forecast is edited as a text.");
-  const hasStation = now.mission && missionOf(now).stations.some(it => it.name === station && it.rate);
-  const fault = faultOf(now, pass) ?? (!rate && !hasStation ? "Say a rate." : null);
-  if (fault) return say(fault);
   if (now.passes.some(it => isSame(it, pass))) return say("This pass is there already.");
-  const session = withPassesOf(now, [...now.passes, pass]), made = session.passes.find(it => isSame(it, pass));
+  const fault = faultOf(now, pass, now.passes);
+  if (fault) return say(fault);
+  const followed = withPassesOf(now, [...now.passes, pass]), session = { ...followed,
+    passes: inOrder(followed.passes) }, made = session.passes.find(it => isSame(it, pass));
   const steps = made.windows.length;
   if (!steps) return say("The pass lies outside the steps.");
+  const large = firstLarge(session);
+  if (large) return say(`Step ${large.step} would have a window of ${digits(large.blocks)} blocks: 1,000,000 at most.`);
   history.change(session);
   say("");
   const remarks = remarksOn(session, made).map(it => ` It ${it}.`).join("");
-  return note(`The pass has ${digits(sumOf(made))} blocks in ${steps} ${steps === 1 ? "step" : "steps"}.${remarks}`);
+  const { unit, volume } = amountsOf(session);
+  return note(`The pass has ${volume(LINK, sumOf(made))} ${unit} in ${steps} ${steps === 1 ? "step" : "steps"}.${remarks}`);
 }
 
 export async function planRest(step) {
@@ -199,7 +211,9 @@ export async function toggleShade() {
 async function mayLeave() {
   if (history.isSaved) return true;
   const answers = [["Save all in one file, and go on", "save"], ["Go on without a file", "go"], ["Stay here", "stay"]];
-  const answer = await question(LEFT, answers);
+  const where = keeper.now() ? "It stays in the list of the start screen, in this browser alone."
+    : "This browser has no room to keep it.";
+  const answer = await question(`${LEFT} ${where}`, answers);
   if (answer === "save") await save("session");
   return answer !== "stay";
 }
@@ -212,14 +226,11 @@ async function open(session, words) {
   return note(`${words}${session.setup.length ? wants : " A setup is wanted too."}`.trim());
 }
 
-// The least plan of two texts, or null.
-export const leastPlan = async (setup, forecast) =>
-  (await desk.front("plan", { ...EMPTY, setup, forecast })).octets ?? null;
-
-export async function take(files) {
-  const { session, texts, words } = await openedFrom(await readFiles(files), leastPlan), { now } = history;
+export async function take(files, isFolder = false) {
+  const read = await readFiles(files), { session, texts, words } = openedFrom(isFolder ? ofFolder(read) : read),
+    { now } = history;
   if (session) return open(session, words);
-  if (!texts) return note(words);
+  if (!texts) return note(words || "There is nothing in the folder that this page opens.");
   // A plan alone is judged for the texts that are there.
   if (!texts.setup && !texts.forecast) {
     history.change(texts);
@@ -231,6 +242,11 @@ export async function take(files) {
   return open(withWindowsOf({ ...now, ...texts, ...ofForecast, ...ofBoth }), words);
 }
 
+export async function takeDropped(transfer) {
+  const { files, isFolder } = await dropped(transfer);
+  if (files.length || isFolder) await take(files, isFolder);
+}
+
 export const openExample = name => (examples[name] ? open(exampleSession(examples, name), "") : undefined);
 export const closeSession = () => open(EMPTY, "").then(() => { if (!hasBoth(history.now)) note(""); });
 
@@ -240,9 +256,21 @@ export async function openKept(name) {
   if (!resume(name, "")) note("It is no longer there.");
 }
 
-export function forgetKept(name) {
+export async function forgetKept(name) {
+  const it = keeper.list().find(each => each.name === name), answers = [["Forget it", true], ["Keep it", false]];
+  const where = it?.isChanged ? "It is in no file, and cannot be had again." : "";
+  if (!it || !(await question(`Forget ${it.title}? ${where}`.trim(), answers, true))) return;
   keeper.forget(name);
   showKept(keeper.list());
+}
+
+// Asks which session is forgotten, so that there is room for that which is worked on.
+export async function makeRoom() {
+  const answers = keeper.others().map(({ name, title, time, isChanged }) =>
+    [`Forget ${title}, of ${shown(time * 1000)}${isChanged ? ", which is in no file" : ""}`, name]);
+  const name = await question("A session that is forgotten makes room for this one, and cannot be had again.",
+    [...answers, ["Forget none", null]], true);
+  if (name) keeper.forget(name);
 }
 
 function download(name, type, octets) {
@@ -273,9 +301,13 @@ export async function save(which) {
   return keepSoon();
 }
 
+// Prints the plan of what is shown, which has nothing that cannot be read.
 export async function print() {
-  await layNow();
-  window.print();
+  const bad = document.querySelector("#all [aria-invalid=true]"), isLaid = !bad && (await layNow());
+  bad?.focus();
+  if (isLaid) window.print();
+  else note(`Nothing is printed: ${bad ? `${bad.getAttribute("aria-label") ?? "what is marked"} cannot be read.`
+    : "there is no plan of these texts."}`);
 }
 
 export const planAnew = () => history.change({ given: NOTHING });

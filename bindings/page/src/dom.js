@@ -30,14 +30,27 @@ export function write(element, text, name = "") {
   element.className = name;
 }
 
+// What is typed stays as it is typed, until its input is left or it is taken back.
+let typed = null;
+export function notice(input) {
+  typed = input;
+  lastWritten.set(input, input.value);
+}
+
+export const isTypedIn = element => typed !== null && element.contains(typed);
+
+// Answers whether anything was typed.
+export function endTyping() {
+  const was = typed;
+  typed = null;
+  return was !== null;
+}
+
 export function fill(input, text) {
-  if (lastWritten.get(input) === text) return;
+  if (input === typed || lastWritten.get(input) === text) return;
   lastWritten.set(input, text);
   input.value = text;
 }
-
-// What was typed stands there already.
-export const notice = input => lastWritten.set(input, input.value);
 
 // Marks an input whose text cannot be read, or no longer; `ids` are those of what says why.
 export function mark(input, isBad, ids) {

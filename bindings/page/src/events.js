@@ -1,10 +1,11 @@
 // Which event does what.
-import { addPass, ask, cancelPass, changeCell, changeClock, changeText, closeSession, compareWith, dropVariant,
-  forgetKept, goToStep, keepVariant, moveStore, openExample, openKept, openVariant, paste, planAnew, planRest, print,
-  save, take, toggleShade } from "./changes.js";
-import { at, mark, notice } from "./dom.js";
+import { addPass, ask, cancelPass, changeCell, changeClock, changePacket, changeText, closeSession, compareWith,
+  dropVariant, forgetKept, goToStep, keepVariant, makeRoom, moveStore, openExample, openKept, openVariant, paste,
+  planAnew, planRest, print, save, take, takeDropped, toggleShade } from "./changes.js";
+import { at, endTyping, notice } from "./dom.js";
 import { listenToLanes } from "./lanes.js";
-import { history, keeper, note, showAgain } from "./main.js";
+import { history, keeper, note, showAgain, showInputsSoon } from "./main.js";
+import { passNth, sortPasses } from "./passtable.js";
 import { TEXTS } from "./session.js";
 import { hold, moveBy, show, stickColumns } from "./steps.js";
 import { stepOnChart } from "./view.js";
@@ -21,14 +22,23 @@ function takeInput({ target: it }) {
   else if (it.id === "in-units") history.change({ isInBlocks: !it.checked });
   else if (it.id === "begins" || it.id === "minutes") changeClock(it.id, it.value);
   else if (it.id === "name") history.change({ name: it.value }, "name");
-  else if (it.id === "packet") changePacket(it);
+  else if (it.id === "packet") changePacket(it.value);
   else if (it.dataset.cell) changeCell(it);
+  typedRow = passNth(it);
 }
 
-function changePacket(it) {
-  const octets = Number(it.value), isOne = Number.isInteger(octets) && octets >= 1 && octets <= 1024;
-  mark(it, !isOne);
-  if (isOne) changeClock("packet", octets);
+// Passes are sorted once the row that was typed in is left, and after what is pressed was done.
+let typedRow, isPressed = false;
+function leaveRow() {
+  if (isPressed || (typedRow !== undefined && passNth(document.activeElement) === typedRow)) return;
+  typedRow = undefined;
+  sortPasses(history);
+}
+
+function takeFocusOut() {
+  history.leave();
+  if (endTyping()) showInputsSoon();
+  setTimeout(leaveRow);
 }
 
 // What stands in `data-act`: which change it is, and of what.
@@ -57,17 +67,11 @@ function takeKey(event) {
   if (isUndo && key === "z") event.shiftKey ? history.redo() : history.undo();
   else if (isUndo && key === "y") history.redo();
   else if (it.id === "step" && event.key === "Enter") goToStep(Number(it.value));
-  else if (event.key === "Escape" && (it.dataset?.cell ?? it.id) === history.kind) restore(it);
+  // What stood in a cell before it was typed into.
+  else if (event.key === "Escape" && (it.dataset?.cell ?? it.id) === history.kind) history.undo();
   else if (
     !(it.closest("#grid") && it.dataset.cell && !event.ctrlKey && !event.shiftKey && moveBy(event.key, it))) return;
   event.preventDefault();
-}
-
-// What stood in a cell before it was typed into.
-function restore(it) {
-  history.undo();
-  it.blur();
-  setTimeout(() => it.focus({ preventScroll: true }));
 }
 
 function listenToFiles() {
@@ -79,7 +83,7 @@ function listenToFiles() {
     document.addEventListener(name, event => {
       event.preventDefault();
       document.body.classList.toggle("over", name === "dragover");
-      if (name === "drop" && event.dataTransfer.files.length) take(event.dataTransfer.files).finally(() => taken++);
+      if (name === "drop") takeDropped(event.dataTransfer).finally(() => taken++);
     });
   at("example").addEventListener("change", event => {
     const name = event.target.value;
@@ -91,14 +95,19 @@ function listenToFiles() {
 const CLICKS = {
   undo: history => history.undo(), redo: history => history.redo(), keep: keepVariant, print, ask, anew: planAnew,
     close: closeSession,
-  back: history => history.now.reference !== null && openVariant(history.now.reference),
+  room: makeRoom, back: history => history.now.reference !== null && openVariant(history.now.reference),
     go: () => goToStep(Number(at("step").value)), rest: () => planRest(Number(at("step").value)),
 };
 
 export function listenToAll() {
   document.addEventListener("input", takeInput);
   document.addEventListener("focusin", ({ target: it }) => it.closest("#grid") && it.dataset.cell && hold(it));
-  document.addEventListener("focusout", () => history.leave());
+  document.addEventListener("focusout", takeFocusOut);
+  document.addEventListener("pointerdown", () => { isPressed = true; });
+  for (const name of ["pointerup", "pointercancel"]) document.addEventListener(name, () => {
+    isPressed = false;
+    setTimeout(leaveRow);
+  });
   document.addEventListener("click", takeClick);
   document.addEventListener("keydown", takeKey);
   document.addEventListener("paste", event => {
@@ -112,7 +121,10 @@ export function listenToAll() {
     event.preventDefault();
     addPass(event.target);
   });
-  for (const box of document.querySelectorAll("details")) box.addEventListener("toggle", () => showAgain(true));
+  for (const box of document.querySelectorAll("details")) box.addEventListener("toggle", () => {
+    showInputsSoon();
+    showAgain(true);
+  });
   at("chart").addEventListener("click", event => {
     const step = stepOnChart(event, forecastOf(history.now.forecast)?.records.length ?? 0);
     if (step) goToStep(step);
@@ -121,6 +133,8 @@ export function listenToAll() {
   new ResizeObserver(() => document.documentElement.style.setProperty("--bar", `${at("verdict").offsetHeight}px`))
     .observe(at("verdict"));
   at("grid-box").addEventListener("scroll", stickColumns);
+  for (const it of document.querySelectorAll(".wide"))
+    it.addEventListener("scroll", () => it.classList.toggle("scrolled", it.scrollLeft > 0));
   listenToLanes(goToStep);
   listenToFiles();
   window.addEventListener("beforeunload", event => {

@@ -1,7 +1,6 @@
 // For tests alone, and not in the page that is released: what the page holds, and the library called by itself.
 import { desk, history, isBusy, moduleIn } from "./main.js";
 import { taken } from "./events.js";
-import { leastPlan } from "./changes.js";
 import { missionSession } from "./files.js";
 import { libraryOf } from "./library.js";
 import { Faults } from "./units.js";
@@ -21,12 +20,11 @@ setInterval(() => {
 }, 5);
 
 // What a mission's files make: the setup, the forecast and the edges of the steps from its begin on, or its faults.
-async function missionMade(files) {
+function missionMade(files) {
   try {
-    const read = Object.entries(files).map(([name, text]) =>
-      ({ name, octets: Uint8Array.from(atob(text), it => it.charCodeAt(0)),
-      kind: name.endsWith(".toml") ? "mission" : "csv" }));
-    const { session: { setup, forecast, edges } } = await missionSession("mission.toml", read, leastPlan),
+    const read = new Map(Object.entries(files).map(([name, text]) =>
+      [name, Uint8Array.from(atob(text), it => it.charCodeAt(0))]));
+    const { session: { setup, forecast, edges } } = missionSession("mission.toml", read),
       text = it => new TextDecoder().decode(it);
     return { setup: text(setup), forecast: text(forecast), edges: edges.map(it => it - edges[0]) };
   } catch (fault) {

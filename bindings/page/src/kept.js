@@ -1,8 +1,9 @@
-// The last sessions stay in the browser, on this machine alone: each under a key of its own, with its time, its name
-// and what was lost. A page writes its own alone; where another one took it over, the page goes on under a new key.
+// Sessions stay in the browser, on this machine alone: each under a key of its own, with its time, its name and what
+// was lost. A page writes its own alone; where another one took it over, the page goes on under a new key. None makes
+// way for another one: where there is no room, the planner says which are forgotten.
 import { fromJson, toJson } from "./session.js";
 
-const PREFIX = "rudlayog session ", WRITTEN_AT = "rudlayog times", MOST_SESSIONS = 20;
+const PREFIX = "rudlayog session ";
 const SOON = 300; // milliseconds, after which a change is written
 const newName = () => `${Date.now().toString(36)}${Math.random().toString(36).slice(2, 10)}`;
 
@@ -38,33 +39,6 @@ export function keeperOf(storage, told) {
   const list = () => names().map(name => ({ name, ...read(name) })).filter(it => it.session)
     .sort((a, b) => b.time - a.time);
 
-  // When each record was written, kept by itself, so that not all records are read each time.
-  function timesOf() {
-    try {
-      return JSON.parse(storage().getItem(WRITTEN_AT)) ?? {};
-    } catch {
-      return {};
-    }
-  }
-
-  // Writes a record; where there is no room, the oldest of the others make way.
-  function put(name, record) {
-    const times = timesOf(), text = JSON.stringify(record), timeOf = it => times[it] ?? read(it)?.time ?? 0;
-    const others = names().filter(it => it !== name).sort((a, b) => timeOf(b) - timeOf(a));
-    for (const it of others.splice(MOST_SESSIONS - 1)) storage().removeItem(PREFIX + it);
-    for (;;) {
-      try {
-        storage().setItem(PREFIX + name, text);
-        const there = [...others, name].map(it => [it, it === name ? record.time : timeOf(it)]);
-        storage().setItem(WRITTEN_AT, JSON.stringify(Object.fromEntries(there)));
-        return;
-      } catch (fault) {
-        if (!others.length) throw fault;
-        storage().removeItem(PREFIX + others.pop());
-      }
-    }
-  }
-
   function write() {
     clearTimeout(timer);
     if (!due) return true;
@@ -73,13 +47,15 @@ export function keeperOf(storage, told) {
       const there = key && read(key);
       // Another page has it now, or the other page was told that it is no longer there.
       if (!key || (there && there.tab !== tab)) key = newName();
-      put(key, { ...about, tab, time: Date.now(), session: toJson(session) });
+      storage().setItem(PREFIX + key,
+        JSON.stringify({ ...about, tab, time: Date.now(), session: toJson(session) }));
       sessionStorage.setItem("rudlayog", key);
       told("");
       due = null;
       return true;
     } catch {
-      told("This browser keeps nothing of this session, since it has no room for it: save all in one file.");
+      const what = read(key) ? "what was changed last" : "this session";
+      told(`This browser has no room for ${what}, and does not keep it: save all in one file.`);
       return false;
     }
   }
@@ -113,8 +89,13 @@ export function keeperOf(storage, told) {
       }
       return { ...record, session };
     },
-    forget(name) { storage().removeItem(PREFIX + name); },
+    forget(name) {
+      storage().removeItem(PREFIX + name);
+      write();
+    },
     list,
+    // What else is kept than the session that is worked on.
+    others: () => list().filter(it => it.name !== key),
     // What this tab worked on, before the page was loaded again.
     get last() {
       try {

@@ -1,24 +1,31 @@
-// The chart of the page: a lane for each station, for the windows and for each store, over the steps. Its words keep
-// their size however narrow it is, it is drawn for some of the steps where it is zoomed, and it tells the values of a
-// step.
-import { beginOf, hasClock } from "./clock.js";
+// The chart of the page: a lane for each station, for the windows and for each store, over the time, or over the steps
+// where they have none. Its words keep their size however narrow it is, it is drawn for a part of the time where it is
+// zoomed, and it tells the values of a step.
+import { LINK, amountsOf } from "./amounts.js";
+import { beginOf, edgesOf, hasClock } from "./clock.js";
 import { at, make } from "./dom.js";
 import { DAY, HOUR, MINUTE, shown } from "./moments.js";
 import { spanOf } from "./passes.js";
-import { certificatesOf, digits } from "./texts.js";
+import { certificatesOf } from "./texts.js";
+import { countUntil } from "./timeline.js";
 
-const SVG = "http://www.w3.org/2000/svg", HIGH = 100, LEAST_SHOWN = 8, MARKS = 6;
+const SVG = "http://www.w3.org/2000/svg", WIDE = 1000, HIGH = 100, LEAST_SHOWN = 8, MOST_ZOOM = 512, MARKS = 6;
 const MARK_UNITS = [MINUTE, 5 * MINUTE, 15 * MINUTE, 30 * MINUTE, HOUR, 2 * HOUR, 3 * HOUR, 6 * HOUR, 12 * HOUR, DAY,
   2 * DAY, 7 * DAY, 14 * DAY];
 
+// What is drawn, with the edges of its steps: times, or whole numbers where there are none. What is shown of it goes
+// `from` a place `to` another one among these.
 let drawn = null, view = null, held = 1, goes = () => {};
+
+const fractionAt = place => (place - view.from) / (view.to - view.from);
+const xOf = place => (WIDE * Math.max(-1, Math.min(2, fractionAt(place)))).toFixed(2);
 
 // ---- Shapes
 
 function draw(lane, shapes) {
   const picture = document.createElementNS(SVG, "svg");
   picture.setAttribute("preserveAspectRatio", "none");
-  picture.setAttribute("viewBox", `${view.from - 1} 0 ${view.to - view.from + 1} ${HIGH}`);
+  picture.setAttribute("viewBox", `0 0 ${WIDE} ${HIGH}`);
   for (const [name, d] of shapes) {
     if (!d) continue;
     const path = document.createElementNS(SVG, "path");
@@ -31,16 +38,18 @@ function draw(lane, shapes) {
 
 // Bars from `low` to `high` of each step, as parts of the lane's height.
 function bars(steps, low, high) {
+  const { edges } = drawn;
   let d = "";
   steps.forEach((row, nth) => {
-    if (nth + 1 < view.from || nth + 1 > view.to) return;
-    const [from, to] = [low(row), high(row)].map(it => (1 - Math.min(1, it)) * HIGH);
-    if (from > to) d += `M${nth} ${from.toFixed(2)}H${nth + 1}V${to.toFixed(2)}H${nth}Z`;
+    if (edges[nth + 1] < view.from || edges[nth] > view.to) return;
+    const [from, to] = [low(row, nth), high(row, nth)].map(it => (1 - Math.min(1, it)) * HIGH),
+      [left, right] = [edges[nth], edges[nth + 1]].map(xOf);
+    if (from > to) d += `M${left} ${from.toFixed(2)}H${right}V${to.toFixed(2)}H${left}Z`;
   });
   return d;
 }
 
-const spans = list => list.map(([from, to]) => `M${from} 0H${to}V${HIGH}H${from}Z`).join("");
+const spans = list => list.map(it => it.map(xOf)).map(([from, to]) => `M${from} 0H${to}V${HIGH}H${from}Z`).join("");
 
 function laneOf(name, words, tone = "") {
   const row = make("div", "", { className: "lane" }), said = make("span", words, { className: `said ${tone}`.trim() }),
@@ -53,45 +62,26 @@ function laneOf(name, words, tone = "") {
 
 // ---- The axis
 
-// The marks of the axis: the time of UTC where the steps have any, and else the number of the step. Of each where it
-// stands, counted in steps.
+// The marks of the axis with their places: the time of UTC where the steps have any, and else the number of the step.
 function marksOf(session) {
-  const { from, to } = view, count = to - from + 1;
+  const { from, to } = view;
   if (!hasClock(session)) {
-    const by = [1, 2, 5, 10, 20, 50, 100].find(it => count / it <= MARKS) ?? 100;
-    return Array.from({ length: count }, (_, nth) => from + nth).filter(it => it === 1 || it % by === 0)
-      .map(it => [it - 0.5, `${it}`]);
+    const by = [1, 2, 5, 10, 20, 50, 100].find(it => (to - from) / it <= MARKS) ?? 100;
+    return drawn.edges.slice(1).filter(it => it === 1 || it % by === 0).map(it => [it - 0.5, `${it}`]);
   }
-  const [begin, end] = [beginOf(session, from), beginOf(session, to + 1)],
-    by = MARK_UNITS.find(it => (end - begin) / it <= MARKS) ?? 28 * DAY, marks = [];
-  for (let time = Math.ceil(begin / by) * by; time <= end; time += by) marks.push(
-    [placeOfTime(session, time), by >= DAY ? shown(time).slice(0, 6) : shown(time)]);
+  const by = MARK_UNITS.find(it => (to - from) / it <= MARKS) ?? 28 * DAY, marks = [];
+  for (let time = Math.ceil(from / by) * by; time <= to; time += by) marks.push(
+    [time, by >= DAY ? shown(time).slice(0, 6) : shown(time)]);
   return marks;
 }
 
-// Where a time lies, counted in steps from the begin of the first.
-function placeOfTime(session, time) {
-  const { count } = drawn;
-  if (time <= beginOf(session, 1)) return 0;
-  let low = 1, high = count + 1;
-  while (high - low > 1) {
-    const middle = (low + high) >> 1;
-    if (beginOf(session, middle) <= time) low = middle;
-    else high = middle;
-  }
-  const [begin, end] = [beginOf(session, low), beginOf(session, low + 1)];
-  return Math.min(count, low - 1 + (time - begin) / (end - begin));
-}
-
-const percent = place => `${((100 * (place - view.from + 1)) / (view.to - view.from + 1)).toFixed(3)}%`;
-
 function axis(session) {
-  const [row, box] = laneOf(hasClock(session) ? "UTC" : "step", "");
+  const [row, box] = laneOf(hasClock(session) ? "UTC" : "step", `in ${drawn.amounts.unit}`);
   row.classList.add("axis");
   for (const [place, words] of marksOf(session)) {
-    if (place < view.from - 1 || place > view.to) continue;
+    if (place < view.from || place > view.to) continue;
     const mark = make("span", words);
-    mark.style.left = percent(place);
+    mark.style.left = `${(100 * fractionAt(place)).toFixed(3)}%`;
     box.append(mark);
   }
   return row;
@@ -100,12 +90,12 @@ function axis(session) {
 // ---- The lanes
 
 function stationLanes(session) {
-  const of = new Map();
+  const of = new Map(), { edges } = drawn;
   session.passes.forEach(pass => {
     const name = pass.station || "passes", list = of.get(name) ?? of.set(name, []).get(name),
       span = spanOf(session, pass), steps = pass.windows.map(it => it[0]);
-    if (span && pass.from !== null) list.push(span.map(time => placeOfTime(session, time)));
-    else if (steps.length) list.push([steps[0] - 1, steps.at(-1)]);
+    if (span && pass.from !== null) list.push(span);
+    else if (steps.length) list.push([edges[steps[0] - 1], edges[steps.at(-1)]]);
   });
   return [...of].map(([name, list]) => {
     const [row, box] = laneOf(name, "");
@@ -115,21 +105,26 @@ function stationLanes(session) {
   });
 }
 
+// The windows as rates, so that what they send is an area.
 function windowLane({ steps }) {
-  const most = Math.max(1, ...steps.map(it => it.window)), sent = steps.reduce((sum, it) => sum + it.dumped, 0);
-  const [row, box] = laneOf("windows", `${digits(sent)} sent`);
-  draw(box, [["p-window", bars(steps, () => 0, it => it.window / most)],
-    ["p-used", bars(steps, () => 0, it => it.dumped / most)]]);
+  const { edges } = drawn, rateOf = (blocks, nth) => blocks / (edges[nth + 1] - edges[nth]),
+    rates = steps.map((it, nth) => rateOf(it.window, nth)), most = Math.max(Number.MIN_VALUE, ...rates);
+  const sent = steps.flatMap(it => [...it.of].map(([id, each]) => [id, each.dumped]));
+  const [row, box] = laneOf("windows", `${drawn.amounts.total(sent)} sent`);
+  draw(box, [["p-window", bars(steps, () => 0, (_, nth) => rates[nth] / most)],
+    ["p-used", bars(steps, () => 0, (it, nth) => rateOf(it.dumped, nth) / most)]]);
   return row;
 }
 
 function storeLanes({ steps, stores }, plan) {
   const most = Math.max(1, ...steps.flatMap(it => [...it.of.values()].map(each => each.lost))),
-    cuts = certificatesOf(plan)[0]?.stretches ?? [];
+    cuts = certificatesOf(plan)[0]?.stretches ?? [], { edges } = drawn;
   return [...stores].map(([id, sums]) => {
     const size = Math.max(1, sums.most), of = row => row.of.get(id),
-      [row, box] = laneOf(id, sums.lost ? `${digits(sums.lost)} lost` : "nothing lost", sums.lost ? "lost" : "");
-    const shapes = [["p-cut", spans(cuts.filter(it => it.id === id).map(it => [it.steps[0] - 1, it.steps[1]]))]];
+      said = sums.lost ? `${drawn.amounts.volume(id, sums.lost)} lost` : "nothing lost",
+      [row, box] = laneOf(id, said, sums.lost ? "lost" : "");
+    const shapes = [["p-cut", spans(cuts.filter(it => it.id === id)
+      .map(it => [edges[it.steps[0] - 1], edges[it.steps[1]]]))]];
     shapes.push(["p-held", bars(steps, () => 0, it => of(it).held / size)],
       ["p-left", bars(steps, it => of(it).held / size, it => (of(it).held + of(it).dumped) / size)]);
     shapes.push(["p-lost", bars(steps, it => 1 - Math.max(0.12, of(it).lost / most) * (of(it).lost ? 1 : 0), () => 1)]);
@@ -142,20 +137,26 @@ const isNarrow = () => matchMedia("(max-width: 600px)").matches;
 
 // Draws the chart of an answer, of all steps where it is of others than the last one.
 export function showLanes(session, { records, plan }) {
-  const count = records.steps.length;
-  if (!drawn || drawn.count !== count) view = { from: 1, to: count };
-  drawn = { session, records, plan, count };
+  const count = records.steps.length, edges = edgesOf(session, count)
+    ?? Array.from({ length: count + 1 }, (_, nth) => nth), whole = { from: edges[0], to: edges[count] };
+  const isSame = drawn && drawn.edges[0] === whole.from && drawn.edges[drawn.count] === whole.to;
+  if (!isSame) view = whole;
+  const shortest = Math.min(...edges.slice(1).map((it, nth) => it - edges[nth]));
+  drawn = { session, records, plan, count, edges, whole, amounts: amountsOf(session),
+    least: Math.min(whole.to - whole.from, Math.max(LEAST_SHOWN * shortest, (whole.to - whole.from) / MOST_ZOOM)) };
   held = Math.min(held, count);
   layLanes();
 }
 
 function layLanes() {
-  const { session, records, plan, count } = drawn, box = at("lanes"), line = make("div", "", { id: "lanes-line" });
+  const { session, records, plan, count, whole } = drawn, box = at("lanes"),
+    line = make("div", "", { id: "lanes-line" });
   box.replaceChildren(axis(session), ...stationLanes(session), windowLane(records), ...storeLanes(records, plan), line);
   box.classList.toggle("narrow", isNarrow());
   box.setAttribute("aria-valuemax", String(count));
-  at("wider").disabled = at("whole").disabled = view.from === 1 && view.to === count;
-  at("closer").disabled = view.to - view.from + 1 <= LEAST_SHOWN;
+  box.dataset.steps = `${stepOf(view.from)} ${stepOf(Math.ceil(view.to) - 1)}`;
+  at("wider").disabled = at("whole").disabled = view.from === whole.from && view.to === whole.to;
+  at("closer").disabled = view.to - view.from <= drawn.least;
   markStep(held);
 }
 
@@ -163,8 +164,8 @@ function layLanes() {
 
 // What is so of a store in a step, and of the step, in words.
 function storeWords([id, { held: there, dumped, lost }]) {
-  const [sent, gone] = [dumped ? `, ${digits(dumped)} sent` : "", lost ? `, ${digits(lost)} lost` : ""];
-  return `${id} holds ${digits(there)}${sent}${gone}`;
+  const say = (blocks, what) => (blocks ? `, ${drawn.amounts.volume(id, blocks)} ${what}` : "");
+  return `${id} holds ${drawn.amounts.volume(id, there)}${say(dumped, "sent")}${say(lost, "lost")}`;
 }
 
 function valuesOf(step) {
@@ -172,17 +173,24 @@ function valuesOf(step) {
   const passes = session.passes.filter(it => it.station && it.windows.some(each => each[0] === step && each[1]));
   const stores = [...row.of].filter(([, it]) => it.held || it.dumped || it.lost).map(storeWords);
   const where = passes.map(it => it.station).join(" and "), when = [begin === null ? "" : shown(begin), where];
-  const lost = row.lost ? `${digits(row.lost)} lost` : "nothing lost", name = [`Step ${step}`, ...when].filter(Boolean);
-  return `${name.join(", ")}: window ${digits(row.window)}, ${digits(row.dumped)} sent, ${lost}. ${stores.join("; ")}`;
+  const { rate, total, unit, flow } = drawn.amounts, name = [`Step ${step}`, ...when].filter(Boolean);
+  const all = what => total([...row.of].map(([id, it]) => [id, it[what]]));
+  const lost = row.lost ? `${all("lost")} lost` : "nothing lost", window = rate(LINK, row.window, step);
+  const inUnit = session.isInBlocks ? "" : ` Volumes are in ${unit}.`;
+  return `${name.join(", ")}: window ${window}${session.isInBlocks ? "" : ` ${flow}`}, ${all("dumped")} sent, ${lost}. ${
+    stores.join("; ")}${inUnit && `.${inUnit}`}`;
 }
+
+// The step in which a place lies, and the middle of a step.
+const stepOf = place => Math.max(1, Math.min(drawn.count, countUntil(drawn.edges, Math.floor(place))));
+const middleOf = step => (drawn.edges[step - 1] + drawn.edges[step]) / 2;
 
 function markStep(step) {
   held = step;
   const box = at("lanes"), line = at("lanes-line"), words = valuesOf(step), lane = box.querySelector(".lane-box"),
-    isSeen = step >= view.from && step <= view.to;
-  line.hidden = !isSeen;
-  const left = lane.offsetLeft + (lane.offsetWidth * (step - 0.5 - view.from + 1)) / (view.to - view.from + 1);
-  line.style.left = `${left}px`;
+    part = fractionAt(middleOf(step));
+  line.hidden = part < 0 || part > 1;
+  line.style.left = `${lane.offsetLeft + lane.offsetWidth * part}px`;
   box.setAttribute("aria-valuenow", String(step));
   box.setAttribute("aria-valuetext", words);
   at("told").textContent = words;
@@ -191,27 +199,24 @@ function markStep(step) {
 function stepAt(event) {
   const lane = at("lanes").querySelector(".lane-box")?.getBoundingClientRect();
   if (!lane || event.clientX < lane.left || event.clientX > lane.right) return null;
-  return Math.min(
-    view.to, view.from + Math.floor(((event.clientX - lane.left) / lane.width) * (view.to - view.from + 1)));
+  return stepOf(view.from + ((event.clientX - lane.left) / lane.width) * (view.to - view.from));
 }
 
-// Shows fewer or more steps, around the one that is held.
-function zoom(by) {
-  const { count } = drawn, shownNow = view.to - view.from + 1,
-    wanted = Math.max(LEAST_SHOWN, Math.min(count, Math.round(shownNow * by)));
-  const from = Math.max(1, Math.min(count - wanted + 1, Math.round(held - wanted / 2)));
-  view = { from, to: Math.min(count, from + wanted - 1) };
+// Shows so much of the whole, around the step that is held.
+function showAround(span) {
+  const { whole } = drawn, from = Math.max(whole.from, Math.min(whole.to - span, middleOf(held) - span / 2));
+  view = { from, to: from + span };
   layLanes();
 }
 
+const zoom = by => showAround(
+  Math.max(drawn.least, Math.min(drawn.whole.to - drawn.whole.from, (view.to - view.from) * by)));
+
 function move(step) {
-  const to = Math.max(1, Math.min(drawn.count, step)), span = view.to - view.from;
-  if (to < view.from || to > view.to) {
-    const from = Math.max(1, Math.min(drawn.count - span, to - (span >> 1)));
-    view = { from, to: from + span };
-    held = to;
-    layLanes();
-  } else markStep(to);
+  const to = Math.max(1, Math.min(drawn.count, step)), part = fractionAt(middleOf(to));
+  held = to;
+  if (part < 0 || part > 1) showAround(view.to - view.from);
+  else markStep(to);
 }
 
 function press(event) {

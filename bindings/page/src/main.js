@@ -3,7 +3,7 @@ import { openExample } from "./changes.js";
 import { hasClock, lengthOf } from "./clock.js";
 import { listenToAll } from "./events.js";
 import { answersOf, workerOf } from "./desk.js";
-import { at, fill, make, mark } from "./dom.js";
+import { at, endTyping, fill, make, mark, write } from "./dom.js";
 import { keeperOf, stampOf } from "./kept.js";
 import { showLanes } from "./lanes.js";
 import { momentOf, textOf } from "./moments.js";
@@ -12,7 +12,7 @@ import { showPasses, showSent } from "./passtable.js";
 import { question } from "./question.js";
 import { EMPTY, fromJson, hasBoth, historyOf, toJson } from "./session.js";
 import { setupOf } from "./setup.js";
-import { laySheet } from "./sheet.js";
+import { sheetParts } from "./sheet.js";
 import { layCards, showKept } from "./start.js";
 import { showSteps } from "./steps.js";
 import { forecastOf } from "./texts.js";
@@ -30,17 +30,24 @@ export const note = words => { at("note").textContent = words; };
 const given = json("session") === null ? null : fromJson(at("session").textContent),
   givenMark = given ? stampOf(at("session").textContent) : null;
 export const history = historyOf(changed);
-export const keeper = keeperOf(() => localStorage, words => { at("kept-note").textContent = words; });
+export const keeper = keeperOf(() => localStorage, words => {
+  write(at("kept-note"), words);
+  at("room").hidden = !words || !keeper.others().length;
+});
 // What answers: of what is shown, and of what takes longer.
 export const desk = { front: null, side: null, answers: null };
 
 let place = null, shownOf = { session: null, done: 0 }, isDue = false, sheetTimer = 0, startOf = 0;
 let sheetOf = null;
+const UNLAID = "The plan is not laid out for what was changed last. Press Print in the page.";
 
 // ---- After a change
 
 function changed() {
   const session = history.now, hasAll = hasBoth(session);
+  // What was undone, opened or pressed takes the place of what is typed.
+  if (history.kind === null) endTyping();
+  if (sheetOf !== session) unlaySheet();
   at("undo").disabled = !history.canUndo;
   at("redo").disabled = !history.canRedo;
   at("all").hidden = at("close").hidden = !hasAll;
@@ -50,9 +57,10 @@ function changed() {
   dateWorths(session);
   startOf = performance.now();
   if (!hasAll) showStart();
-  // What is edited is shown before an answer that is known already.
-  if (!isDue) setTimeout(showInputs);
-  isDue = true;
+  // What is edited is shown before an answer that is known already; at once where nothing is typed, so that no key
+  // meets the rows of before.
+  if (history.kind === null) showInputs();
+  else showInputsSoon();
   dim(true);
   desk.answers.want(session);
 }
@@ -76,8 +84,8 @@ export function keepSoon() {
 
 function showClock(session) {
   const isFixed = !!session.edges, begins = at("begins"), minutes = at("minutes"), start = momentOf(session.begins);
-  for (const which of ["begins", "minutes", "name", "packet"]) if (at(which) !== document.activeElement) fill(
-    at(which), String(session[which]));
+  for (const which of ["begins", "minutes", "name"]) fill(at(which), String(session[which]));
+  fill(at("packet"), session.badPacket ?? String(session.packet));
   for (const it of [begins, minutes]) it.disabled = isFixed;
   at("packet").disabled = !!session.mission;
   at("minutes-label").hidden = isFixed;
@@ -89,21 +97,29 @@ function showClock(session) {
   const isBad = !isFixed && session.begins !== "" && start === null, isLong = !isFixed && lengthOf(session) === null;
   mark(begins, isBad);
   mark(minutes, isLong);
+  mark(at("packet"), session.badPacket !== null, "packet-fault");
+  write(at("packet-fault"), session.badPacket === null ? "" : "A packet has 1 to 1,024 octets.", "fault");
   at("clock-fault").textContent = isBad
     ? "A time is written as 2026-11-27 06:00, or with seconds, a zone, or the day of the year." : isLong
     ? "A step has a number of minutes, up to 527,040." : "";
   document.body.classList.toggle("timeless", !hasClock(session));
 }
 
+export function showInputsSoon() {
+  if (!isDue) setTimeout(showInputs);
+  isDue = true;
+}
+
 // What is edited, at once; the rest comes with the answer.
 function showInputs() {
   isDue = false;
-  const session = history.now;
+  const session = history.now, answer = desk.answers.known(session);
   if (!hasBoth(session)) return;
   showSetup(session, place);
   showSteps(session, null, place);
   showPasses(session);
-  showTexts(session, desk.answers.known(session)?.plan ?? null);
+  showTexts(session, answer?.plan ?? null);
+  if (answer?.isWhole) showVariants(session, answer);
   at("stations").replaceChildren(...(missionOf(session)?.stations ?? [])
     .map(it => make("option", "", { value: it.name })));
 }
@@ -112,7 +128,8 @@ function showInputs() {
 
 const SHOWS = [
   (session, answer) => {
-    place = showVerdict(session, answer);
+    // In another unit than blocks it comes with the table.
+    if (session.isInBlocks || answer.refused) place = showVerdict(session, answer);
     at("time").textContent = `Planned and checked in ${(performance.now() - startOf).toFixed(1)} ms.`;
   },
   (session, answer) => {
@@ -120,6 +137,7 @@ const SHOWS = [
     if (chart) showChart(chart);
   },
   (session, answer) => {
+    if (!session.isInBlocks) place = showVerdict(session, answer);
     showStores(session, answer, answer.records, place);
     showSteps(session, answer.records, place);
     setTimeout(showLast, 0, session, answer);
@@ -160,13 +178,23 @@ export async function showAgain(isChartAlone) {
   else showSteps(session, answer.records, place);
 }
 
-// Lays the sheet that is printed, where it is not of this session yet.
+// What is printed before the sheet of a session is laid.
+function unlaySheet() {
+  sheetOf = null;
+  at("sheet").replaceChildren(make("p", UNLAID));
+}
+
+// Lays the sheet that is printed, where it is not of this session yet. Answers whether it is.
 export async function layNow() {
   const session = history.now, answer = await desk.answers.of(session);
-  if (sheetOf === session || answer.refused || !answer.records) return;
+  if (sheetOf === session) return true;
+  if (answer.refused || !answer.records || session !== history.now) return false;
   const starts = new Map((setupOf(session.setup)?.store ?? []).map(({ keys }) => [keys.id, Number(keys.start ?? 0)]));
-  await laySheet(session, answer, starts);
+  const parts = await sheetParts(session, { ...answer, chart: shadedChart(session) ?? answer.chart }, starts);
+  if (session !== history.now) return layNow();
+  at("sheet").replaceChildren(...parts);
   sheetOf = session;
+  return true;
 }
 
 // The page with a session inside. No text ends the element that it stands in.

@@ -9,11 +9,9 @@ import { Faults, UNITS, blocksOf, gathering, rateOf, refuse, shownGiven, shownVa
 
 const PACKET = 1024, MOST_BLOCK = 2 ** 20, STORES_AT_MOST = 16, OVERLAPS = ["both", "better"];
 const IDENTIFIER = /^[A-Z0-9_-]{1,8}$/, TYPES = ["bounded", "circular"];
-const TOP_KEYS = ["name", "begin", "end", "packet", "block", "overlap", "unit", "moments"];
-const momentsOf = (given, place) => (Array.isArray(given) ? given : [given]).map(it => zonedOf(it, place));
+const TOP_KEYS = ["name", "begin", "end", "packet", "block", "overlap", "unit"];
 // What reads the keys at the top that are no names.
-const READ = { begin: zonedOf, end: zonedOf, packet: wholeNumberOf, block: wholeNumberOf, unit: wholeNumberOf,
-  moments: momentsOf };
+const READ = { begin: zonedOf, end: zonedOf, packet: wholeNumberOf, block: wholeNumberOf, unit: wholeNumberOf };
 const CHANNELS = 'the rates of channels, as {1 = "20 kbit/s"}';
 
 const counted = number => number.toLocaleString("en");
@@ -321,12 +319,12 @@ export function missionIn(file, files) {
 // ---- The whole
 
 function made({ stores, passes, observations, stations, routes, begin, end, packet = BigInt(PACKET),
-  block = BigInt(PACKET), overlap = null, name = "", unit = 0n, moments = [] }, place) {
+  block = BigInt(PACKET), overlap = null, name = "", unit = 0n }, place) {
   const spans = [...passes, ...observations];
   if (!spans.length && (begin === undefined || end === undefined)) refuse(
     place, "no begin and end, no pass and no observation", "a mission with passes, or with begin and end");
   const from = begin ?? Math.min(...spans.map(it => it.begin)), to = end ?? Math.max(...spans.map(it => it.end));
-  const it = { stores, stations, routes, begin: from, end: to, packet, block, overlap, name, unit, moments,
+  const it = { stores, stations, routes, begin: from, end: to, packet, block, overlap, name, unit,
     passes: named(passes, from, to), observations: within(observations, from, to) };
   const found = [...faultsOf(it, place)];
   if (found.length) throw new Faults(found);

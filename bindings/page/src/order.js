@@ -26,9 +26,9 @@ function stretchesIn({ stretches }) {
 const listOf = words => (words.length > 1 ? `${words.slice(0, -1).join(", ")} and ${words.at(-1)}`
   : words.join());
 
-// Why a store loses blocks, in a sentence.
-export function lossSentence(id, lost, count, certificate) {
+// Why a store loses what it loses, in a sentence.
+export function lossSentence(id, lost, count, sum, certificate) {
   const all = count === 1 ? ", as few as it can"
-    : `, and the first ${count} stores ${digits(certificate.loss)} together, as few as they can`;
-  return `${id} loses ${digits(lost)}${all}: more comes to ${stretchesIn(certificate)} than can stay there and leave.`;
+    : `, and the first ${count} stores ${sum} together, as few as they can`;
+  return `${id} loses ${lost}${all}: more comes to ${stretchesIn(certificate)} than can stay there and leave.`;
 }

@@ -3,18 +3,21 @@
 // together they are the windows of the forecast.
 import { beginOf, edgesOf } from "./clock.js";
 import { missionIn, passOf } from "./mission.js";
-import { written } from "./moments.js";
-import { forecastOf, withCells } from "./texts.js";
-import { MOST_STEPS, falls, flowAt, roomsWith, unitWith, withPasses } from "./timeline.js";
+import { momentOf, textOf, written } from "./moments.js";
+import { forecastOf, forecastText, isSize } from "./texts.js";
+import { missionEdges } from "./edges.js";
+import { MOST_STEPS, countBefore, countUntil, falls, flowAt, problemWith, unitWith, withPasses } from "./timeline.js";
 import { Faults, blocksASecond, rateOf } from "./units.js";
 
-const MOST_WINDOW = 1_000_000;
-export const NEW_PASS = { station: "", name: "", from: null, to: null, rate: "", channels: null, windows: [] };
+export const MOST_WINDOW = 1_000_000;
+// In `bad` is what was typed of a pass and cannot be read; the pass is what it was before.
+export const NEW_PASS = { station: "", name: "", from: null, to: null, rate: "", channels: null, windows: [],
+  bad: null };
 export const sumOf = pass => pass.windows.reduce((sum, [, blocks]) => sum + blocks, 0);
 
 // The windows of a forecast; null where one of them is no number.
 function windowsIn(forecast) {
-  const windows = forecastOf(forecast)?.records.map(record => (/^\d{1,7}$/.test(record[1]) ? Number(record[1]) : NaN));
+  const windows = forecastOf(forecast)?.records.map(record => (/^\d{1,15}$/.test(record[1]) ? Number(record[1]) : NaN));
   return windows && !windows.some(Number.isNaN) ? windows : null;
 }
 
@@ -30,11 +33,10 @@ function foundIn(windows) {
   return found;
 }
 
-// The passes after the windows were changed by hand: those with a name or a time keep what is theirs, the last of a
-// step first takes what its window has more or less; the rest are found anew.
+// These passes with what the windows let them send, the last of a step first takes what its window has more or less;
+// and after them those that are found in what is left.
 function reconciled(passes, windows) {
-  const kept = passes.filter(it => it.station || it.from !== null)
-    .map(it => ({ ...it, windows: it.windows.map(each => [...each]) })), rest = [...windows];
+  const kept = passes.map(it => ({ ...it, windows: it.windows.map(each => [...each]) })), rest = [...windows];
   for (const it of kept) for (const each of it.windows) {
     each[1] = Math.min(each[1], rest[each[0] - 1] ?? 0);
     rest[each[0] - 1] -= each[1];
@@ -45,18 +47,20 @@ function reconciled(passes, windows) {
     last.windows.find(([step]) => step === nth + 1)[1] += blocks;
     rest[nth] = 0;
   });
-  const there = kept.filter(it => it.from !== null || sumOf(it) > 0);
-  return inOrder([...there, ...foundIn(rest)]);
+  return [...kept, ...foundIn(rest)];
 }
 
 const firstStep = pass => pass.windows[0]?.[0] ?? MOST_STEPS + 1;
-const inOrder = passes =>
+export const inOrder = passes =>
   passes.toSorted((a, b) => (a.from !== null && b.from !== null ? a.from - b.from : firstStep(a) - firstStep(b)));
 
-// The session with the passes that its windows are now, `before` being those that they were.
+// The session with the passes that its windows are now, `before` being those that they were: those with a name or a
+// time keep what is theirs, and the rest are found anew.
 export function withWindowsOf(session, before = session.passes) {
   const windows = windowsIn(session.forecast);
-  return windows ? { ...session, passes: reconciled(before, windows) } : session;
+  if (!windows) return session;
+  const found = reconciled(before.filter(it => it.station || it.from !== null), windows);
+  return { ...session, passes: inOrder(found.filter(it => it.from !== null || sumOf(it) > 0)) };
 }
 
 // ---- Windows that follow
@@ -81,19 +85,28 @@ export function unitOf(session) {
   return units.get(mission);
 }
 
-// What passes of a mission can send in its steps; that of the passes that are there is kept.
-const rooms = new WeakMap();
-function missionRooms(session, passes) {
-  if (passes !== session.passes) return roomsOf(session, passes);
-  if (!rooms.has(passes)) rooms.set(passes, { edges: session.edges, rooms: roomsOf(session, passes) });
-  const kept = rooms.get(passes);
-  return kept.edges === session.edges ? kept.rooms : roomsOf(session, passes);
+// The mission of a session with these of its passes.
+const missionWith = (session, passes) => withPasses(missionOf(session), passes.filter(it => it.from !== null)
+  .map(it => passOf(givenOf(it), `pass ${it.name}`)));
+
+// The edges of the steps of a mission with these passes, from where the session begins.
+function edgesWith(session, passes, also = []) {
+  const mission = missionWith(session, passes), since = it => it - mission.begin;
+  return missionEdges(mission, since(session.edges[0]), also.map(since)).map(it => it + mission.begin);
 }
 
-function roomsOf(session, passes) {
-  const timed = passes.filter(it => it.from !== null), mission = { ...missionOf(session), begin: session.edges[0] };
-  return roomsWith(withPasses(mission, timed.map(it => passOf(givenOf(it), `pass ${it.name}`))),
-    session.edges.map(it => it - session.edges[0]), unitOf(session));
+// What a mission with these passes has in these steps: the columns of its forecast, and what each pass can send. What
+// was counted before the first step is not counted again.
+const problems = new WeakMap();
+function problemIn(session, passes, edges) {
+  const known = problems.get(passes);
+  if (known?.edges === edges) return known;
+  const mission = missionWith(session, passes), own = edges.map(it => it - mission.begin),
+    early = own[0] > 0 ? 1 : 0, made = problemWith(mission, early ? [0, ...own] : own, unitOf(session));
+  const within = lists => new Map([...lists].map(([name, column]) => [name, column.slice(early)]));
+  const problem = { edges, columns: within(made.columns), shares: within(made.shares) };
+  problems.set(passes, problem);
+  return problem;
 }
 
 // What a pass with a time gives to each step, in blocks.
@@ -103,8 +116,7 @@ function stepsGivenBy(session, pass, count) {
   const column = falls(flowAt(pass.from - edges[0], pass.to - edges[0],
     blocksASecond(rateOf(pass.rate, "rate"), session.packet)), edges.map(it => it - edges[0]));
   return column.flatMap(
-    (blocks, nth) => (pass.from < edges[nth + 1] && pass.to > edges[nth] ? [[nth + 1, Math.min(blocks, MOST_WINDOW)]]
-      : []));
+    (blocks, nth) => (pass.from < edges[nth + 1] && pass.to > edges[nth] ? [[nth + 1, blocks]] : []));
 }
 
 function sumsByStep(passes, count) {
@@ -113,39 +125,88 @@ function sumsByStep(passes, count) {
   return column;
 }
 
-// The forecast in which the windows, and the limits of a mission's channels, are others where these columns differ.
+const isCount = cell => /^\d+$/.test(cell);
+const numberAt = (columns, name, step) => (columns.get(name) ?? columns.get("window"))[step] ?? 0;
+const isAsBefore = (before, name, cell, step) => (before.has(name)
+  ? isCount(cell) && Number(cell) === numberAt(before, name, step) : cell === "0");
+
+// The forecast in other steps, with other numbers in these columns: what was typed more or less stays, in the first of
+// the steps that begin in its own. A channel without a limit has the window. A limit that no pass has any more goes,
+// unless another one was typed; and one that is new comes after those of lower channels.
 function changedBy(forecast, before, after) {
-  const { header } = forecastOf(forecast), at = [...after.keys()].map(name => [name, header.indexOf(name)])
-    .filter(it => it[1] > 0);
-  return withCells(forecast, (record, step) => {
-    const cells = [...record];
-    for (const [name, column] of at) {
-      const more = (after.get(name)[step - 1] ?? 0) - (before.get(name)?.[step - 1] ?? 0);
-      if (more) cells[column] = String(Math.max(0, Math.min(MOST_WINDOW, (Number(cells[column]) || 0) + more)));
-    }
-    return cells;
-  });
+  const { header, records } = forecastOf(forecast), steps = after.edges.slice(0, -1),
+    places = steps.map(time => countUntil(before.edges, time) - 1);
+  function column(name, at) {
+    const isOwn = before.columns.has(name) || after.columns.has(name);
+    let more = 0;
+    return places.map((place, step) => {
+      const cell = records[place][at], isFirst = place !== places[step - 1];
+      if (!isOwn) return isFirst || isSize(name) ? cell : "0";
+      if (isFirst && !isCount(cell)) return cell;
+      if (isFirst) more = Number(cell) - numberAt(before.columns, name, place);
+      const whole = numberAt(after.columns, name, step) + more;
+      more = Math.min(whole, 0);
+      return String(whole - more);
+    });
+  }
+  const isGone = (name, at) => before.columns.has(name) && !after.columns.has(name)
+    && records.every((record, step) => isAsBefore(before.columns, name, record[at], step));
+  const columns = header.map((name, at) => [name, at]).slice(1).filter(it => !isGone(...it))
+    .map(([name, at]) => [name, column(name, at)]);
+  for (const name of after.columns.keys()) {
+    if (before.columns.has(name) || header.includes(name)) continue;
+    const next = columns.findIndex(([other]) => isSize(other) || (other.startsWith("limit:") && other > name));
+    columns.splice(next < 0 ? columns.length : next, 0, [name, column(name, 1)]);
+  }
+  const first = after.edges === before.edges ? records.map(record => record[0]) : steps.map((_, nth) => `${nth + 1}`);
+  return forecastText(forecast, { header: [header[0], ...columns.map(it => it[0])],
+    records: first.map((cell, step) => [cell, ...columns.map(it => it[1][step])]) });
 }
 
-// The session with other passes: their windows follow, and what was typed in other steps stays.
+// The session with other passes, in the order in which they are given: their windows follow, and what was typed in
+// other steps stays.
 export function withPassesOf(session, passes) {
   const windows = windowsIn(session.forecast), count = windows?.length;
-  if (!windows) return { ...session, passes: inOrder(passes) };
-  if (session.mission) return missionFollowed(session, passes);
-  const made = inOrder(
-    passes.map(it => (session.passes.includes(it) ? it : { ...it, windows: stepsGivenBy(session, it, count) })));
-  const columns = [session.passes, made].map(list => new Map([["window", sumsByStep(list, count)]]));
-  return { ...session, forecast: changedBy(session.forecast, ...columns), passes: made };
+  // A text with other rows than the mission has steps is nothing that follows its passes.
+  const isFollowed = session.mission && forecastOf(session.forecast)?.records.length === session.edges.length - 1;
+  if (isFollowed) return missionFollowed(session, passes);
+  if (!windows || session.mission) return { ...session, passes };
+  const made = passes.map(it => (session.passes.includes(it) ? it
+    : { ...it, windows: stepsGivenBy(session, it, count) }));
+  return { ...session, forecast: changedWindows(session, made, count), passes: made };
 }
 
+// The forecast whose windows are those of other passes.
+function changedWindows({ forecast, passes }, others, count) {
+  const edges = Array.from({ length: count + 1 }, (_, nth) => nth);
+  const [before, after] = [passes, others].map(list =>
+    ({ edges, columns: new Map([["window", sumsByStep(list, count)]]) }));
+  return changedBy(forecast, before, after);
+}
+
+// The edges with other passes; those of before where there would be too many.
+function edgesOr(session, passes, typed) {
+  try {
+    return edgesWith(session, passes, typed);
+  } catch (fault) {
+    if (fault instanceof Faults) return session.edges;
+    throw fault;
+  }
+}
+
+// The steps in which something was typed stay, and all others are those of the passes.
 function missionFollowed(session, passes) {
-  const [before, after] = [session.passes, passes].map(list => missionRooms(session, list));
-  const columns = ({ windows, limits }) =>
-    new Map([["window", windows], ...[...limits].map(([channel, column]) => [`limit:${channel}`, column])]);
-  const forecast = changedBy(session.forecast, columns(before), columns(after)),
-    timed = passes.filter(it => it.from !== null).map(it => sharesOf(it, after));
-  const others = passes.filter(it => it.from === null);
-  return withWindowsOf({ ...session, forecast, passes: inOrder([...timed, ...others]) });
+  const { edges } = session, before = problemIn(session, session.passes, edges),
+    { header, records } = forecastOf(session.forecast);
+  const isTyped = (record, step) => record.some((cell, at) => at > 0
+    && !isAsBefore(before.columns, header[at], cell, step));
+  const typed = records.flatMap((record, step) => (isTyped(record, step) ? edges.slice(step, step + 2) : []));
+  const after = problemIn(session, passes, edgesOr(session, passes, typed)),
+    forecast = changedBy(session.forecast, before, after);
+  const moved = ({ windows, ...it }) => ({ ...it, windows: windows.map(([step, blocks]) =>
+    [after.edges.indexOf(edges[step - 1]) + 1, blocks]).filter(([step]) => step > 0) });
+  const made = passes.map(it => (it.from === null ? moved(it) : sharesOf(it, after))), windows = windowsIn(forecast);
+  return { ...session, forecast, edges: after.edges, passes: windows ? reconciled(made, windows) : made };
 }
 
 const sharesOf = (pass, { shares }) =>
@@ -168,27 +229,78 @@ export function withClock(session, more) {
   if (!windows || !edgesOf(changed, windows.length) || !session.passes.some(it => it.from !== null)) return changed;
   const passes = session.passes.map(
     it => (it.from === null ? it : { ...it, windows: stepsGivenBy(changed, it, windows.length) }));
-  const columns = [session.passes, passes].map(list => new Map([["window", sumsByStep(list, windows.length)]]));
-  return { ...changed, forecast: changedBy(session.forecast, ...columns), passes: inOrder(passes) };
+  const forecast = changedWindows(session, passes, windows.length);
+  return { ...changed, forecast, passes: inOrder(passes) };
 }
 
 export const withoutPass = (session, nth) => withPassesOf(session, session.passes.filter((_, at) => at !== nth));
 
+// A name for a pass of a station that no other pass has.
+export function nameFor(station, passes) {
+  const names = new Set(passes.map(it => it.name));
+  return [...Array(passes.length + 1).keys()].map(it => `${station} ${it + 1}`).find(it => !names.has(it));
+}
+
 // ---- What is said of a pass
 
 const TIMES = "A time is written as 2026-11-27 19:30, in UTC; also as 2026-331T19:30:00Z, with the day of the year.";
+const UNITLESS = /^[\d.]+$/;
 
-// What is wrong with a pass that is typed, or null.
-export function faultOf(session, { from, to, rate }) {
+// What is wrong with a pass that is typed among these, or null.
+export function faultOf(session, pass, passes) {
+  const { from, to, rate, station } = pass, mission = missionOf(session),
+    stations = mission?.stations.map(it => it.name) ?? [];
   if (from === null || to === null) return TIMES;
   if (to <= from) return "The pass ends before it begins.";
-  if (!rate && session.mission) return null;
+  if (stations.length && !stations.includes(station)) return `The mission has the stations ${stations.join(", ")}.`;
+  if (!rate && !mission?.stations.some(it => it.name === station && it.rate)) return "Say a rate.";
   try {
-    rateOf(rate, "rate");
-    return null;
+    if (rate) rateOf(rate, "rate");
   } catch (fault) {
     return fault instanceof Faults ? `The rate cannot be read: expected ${fault.list[0].meant}.` : String(fault);
   }
+  return meetingFault(pass, passes, mission) ?? (mission ? stepsFault(session, [...passes, pass]) : null);
+}
+
+// Whether a mission with these passes has more steps than are planned.
+function stepsFault(session, passes) {
+  try {
+    edgesWith(session, passes);
+    return null;
+  } catch (fault) {
+    if (!(fault instanceof Faults)) throw fault;
+    return `The mission then has ${fault.list[0].found}: at most ${MOST_STEPS}.`;
+  }
+}
+
+// One station has one pass at a time, and passes of a mission that says nothing of overlaps have none.
+function meetingFault(pass, passes, mission) {
+  const meets = it => it !== pass && it.from !== null && it.from < pass.to && it.to > pass.from;
+  const other = passes.find(it => meets(it) && (it.station === pass.station ? pass.station || mission
+    : mission && mission.overlap === null));
+  if (!other) return null;
+  const when = `from ${textOf(other.from)} to ${textOf(other.to)}`;
+  return other.station === pass.station ? `${pass.station} has a pass ${when}: a station has one at a time.`
+    : `${other.station} has a pass ${when}, and the mission does not say whether passes may overlap.`;
+}
+
+// A pass with what is typed of it, where that can be read.
+const asTyped = pass => ({ ...pass, bad: null, ...Object.fromEntries(Object.entries(pass.bad ?? {})
+  .map(([key, text]) => [key, key === "from" || key === "to" ? momentOf(text) : text.trim()])) });
+
+// What is wrong with what is typed of a pass among others, or null.
+export function faultTyped(session, pass, others) {
+  if (UNITLESS.test(pass.bad.rate?.trim() ?? "")) return "Write the rate with its unit, as 900 blocks/h or 64 kbit/s.";
+  return pass.from === null ? null : faultOf(session, asTyped(pass), others);
+}
+
+// A pass of a session in which something else is typed. What cannot be read stays with it, and all else is as it was.
+export function passWith(session, nth, what, text) {
+  const { passes } = session, pass = passes[nth], typed = { ...pass, bad: { ...pass.bad, [what]: text } },
+    others = passes.filter(it => it !== pass);
+  if (faultTyped(session, typed, others)) return typed;
+  const made = asTyped(typed), isOf = /^(.*) \d+$/.exec(pass.name)?.[1] === pass.station;
+  return isOf && made.station !== pass.station ? { ...made, name: nameFor(made.station, others) } : made;
 }
 
 // When a pass begins and ends; null where no times are said.
@@ -198,6 +310,13 @@ export function spanOf(session, pass) {
   const span = steps.length ? [beginOf(session, Math.min(...steps)), beginOf(session, Math.max(...steps) + 1)]
     : [null, null];
   return span.includes(null) ? null : span;
+}
+
+// The first and the last step of a pass: of one with times those in which it begins and ends.
+export function stepSpan(session, { from, to, windows }, count) {
+  const edges = from === null ? null : edgesOf(session, count);
+  if (!edges) return [windows[0][0], windows.at(-1)[0]];
+  return [Math.max(countUntil(edges, from), 1), Math.min(countBefore(edges, to), count)];
 }
 
 export function stepsOf({ windows }) {
@@ -212,7 +331,8 @@ export function remarksOn(session, pass, passes = session.passes) {
   const count = forecastOf(session.forecast)?.records.length ?? 0, span = spanOf(session, pass),
     [first, last] = [beginOf(session, 1), beginOf(session, count + 1)];
   if (!span) return [];
-  const [from, to] = span, said = [];
+  const [from, to] = span, said = [], counts = missionOf(session)?.overlap === "better"
+    ? "only the one that sends more counts" : "both windows count";
   if (to <= first || from >= last) said.push("outside the steps");
   else {
     if (from < first) said.push("begins before step 1, and is cut there");
@@ -222,7 +342,7 @@ export function remarksOn(session, pass, passes = session.passes) {
     const its = other === pass ? null : spanOf(session, other);
     if (!its || its[0] >= to || its[1] <= from) return;
     said.push(isSame(other, pass) && pass.from !== null ? `the same as pass ${nth + 1}`
-      : `overlaps pass ${nth + 1}${other.station ? `, ${other.station}` : ""}: both windows count`);
+      : `overlaps pass ${nth + 1}${other.station ? `, ${other.station}` : ""}: ${counts}`);
   });
   return said;
 }

@@ -1,15 +1,16 @@
 // The table of the passes: what each sends, of which store, and what is lost without it.
+import { LINK, amountsOf } from "./amounts.js";
 import { at, button, cellWith, fill, head, input, keepingFocus, make, mark, number, row,
   write } from "./dom.js";
-import { momentOf, shown, textOf } from "./moments.js";
-import { faultOf, remarksOn, spanOf, stepsOf, sumOf, withoutPass } from "./passes.js";
+import { shown, textOf } from "./moments.js";
+import { faultTyped, inOrder, remarksOn, spanOf, stepsOf, sumOf, withoutPass } from "./passes.js";
 import { NOTHING } from "./texts.js";
 
 const HEADS = ["nr", "steps", "from (UTC)", "to (UTC)", "station", "rate", "window", "sent", "used", "lost without it",
   "cancel", "remarks"];
 const CLASSES = { "from (UTC)": "clock", "to (UTC)": "clock", station: "name", cancel: "act", remarks: "text" };
-const SENT = 7, WORTH = 9, REMARKS = 11;
-let turn = 0, laidPasses = "";
+const SENT = 7, WORTH = 9, REMARKS = 11, TYPED = ["from", "to", "station", "rate"], MANY = 60;
+let turn = 0, laidPasses = "", listed = null;
 
 // What each pass sends of each store: what leaves in its steps. Of a step that several passes share, the first takes as
 // much as its window.
@@ -50,7 +51,7 @@ function layPasses(passes, stores) {
   if (form === laidPasses) return;
   laidPasses = form;
   const table = at("passes"), heads = HEADS.map(it => head(it, { className: CLASSES[it] ?? "" }));
-  const own = stores.map(it => head(it, { title: `Blocks that ${it} sends in the pass` }));
+  const own = stores.map(it => head(it, { title: `What ${it} sends in the pass` }));
   table.tHead.replaceChildren(row(...heads, ...own));
   keepingFocus(() => table.tBodies[0].replaceChildren(...passes.map((it, nth) => layPass(it, nth, stores))));
 }
@@ -58,41 +59,62 @@ function layPasses(passes, stores) {
 function showTimes(cells, session, pass) {
   const span = spanOf(session, pass);
   [2, 3].forEach((column, which) => {
-    const time = span?.[which], typed = cells[column].firstElementChild;
-    if (!typed) write(cells[column], time === undefined ? "" : shown(time), "text clock");
-    else if (typed !== document.activeElement) fill(typed, textOf(time));
+    const time = span?.[which];
+    if (pass.from === null) write(cells[column], time === undefined ? "" : shown(time), "text clock");
   });
-  if (cells[5].firstElementChild) fill(cells[5].firstElementChild, pass.rate);
+  const texts = { from: textOf(pass.from ?? NaN), to: textOf(pass.to ?? NaN), station: pass.station, rate: pass.rate };
+  TYPED.forEach((what, nth) => {
+    const it = cells[nth + 2].firstElementChild;
+    if (!it) return;
+    fill(it, pass.bad?.[what] ?? texts[what]);
+    if (what === "rate") it.placeholder = session.mission ? "of the station" : "";
+    mark(it, what in (pass.bad ?? {}), "passes-fault");
+  });
 }
 
 // Shows the passes as data, at once; what they send comes with the answer.
 export function showPasses(session) {
-  const { passes } = session, body = at("passes").tBodies[0],
+  const { unit, volume } = amountsOf(session), { passes } = session, body = at("passes").tBodies[0],
     stores = [...(at("passes").dataset.stores ?? "").split(" ")].filter(Boolean);
-  turn++;
   at("passes").hidden = !passes.length;
-  at("passes").dataset.worth = "";
+  at("passes").parentElement.classList.toggle("many", passes.length > MANY);
+  if (session !== listed) {
+    listed = session;
+    turn++;
+    at("passes").dataset.worth = "";
+  }
   layPasses(passes, stores);
+  write(at("passes-unit"), unit);
   passes.forEach((pass, nth) => {
     const { cells } = body.rows[nth];
     write(cells[1], stepsOf(pass), "is");
     showTimes(cells, session, pass);
-    fill(cells[4].firstElementChild, pass.station);
-    write(cells[6], ...number(sumOf(pass), ""));
+    write(cells[6], volume(LINK, sumOf(pass)), number(sumOf(pass), "")[1]);
     write(cells[REMARKS], remarksOn(session, pass).join("; "), "text words");
   });
+  write(at("passes-fault"), wordsOnBad(session), "fault");
+}
+
+// What is wrong with the first pass of which something cannot be read.
+function wordsOnBad(session) {
+  const nth = session.passes.findIndex(it => it.bad), pass = session.passes[nth];
+  if (!pass) return "";
+  const fault = faultTyped(session, pass, session.passes.filter(it => it !== pass));
+  return `Pass ${nth + 1}: ${fault ?? "type it again."} The plan has it as it was before.`;
 }
 
 // Shows what the passes send, and then asks what is lost without each of them.
 export function showSent(ask, session, { records, verdict, loss }) {
   const { passes } = session, stores = [...records.stores.keys()], body = at("passes").tBodies[0];
   at("passes").dataset.stores = stores.join(" ");
+  const { total, volume } = amountsOf(session);
   showPasses(session);
   sentBy(passes, records).forEach(({ of, sent }, nth) => {
     const { cells } = body.rows[nth], window = sumOf(passes[nth]);
-    write(cells[SENT], ...number(sent, ""));
+    write(cells[SENT], total([...of]), number(sent, "")[1]);
     write(cells[SENT + 1], window ? `${Math.round((100 * sent) / window)} %` : "", "is");
-    stores.forEach((id, column) => write(cells[HEADS.length + column], ...number(of.get(id), "")));
+    stores.forEach((id, column) => write(cells[HEADS.length + column], volume(id, of.get(id)),
+      number(of.get(id), "")[1]));
   });
   if (passes.length) tellWorth(ask, session, ["least", "least in order", "first not shown"].includes(verdict.kind)
     ? loss : null, turn);
@@ -102,26 +124,32 @@ const asPlanned = session => ({ ...session, given: NOTHING, isInOrder: false });
 
 // How many blocks more the best plan loses without each pass: one after another, until something is changed.
 async function tellWorth(ask, session, loss, ofTurn) {
-  const body = at("passes").tBodies[0], least = loss ?? (await ask("least", asPlanned(session))).loss;
+  const { volume } = amountsOf(session), body = at("passes").tBodies[0], least = loss ?? (await ask("least", asPlanned(session))).loss;
   for (let nth = 0; nth < session.passes.length; nth++) {
     if (ofTurn !== turn) return;
     const without = (await ask("least", asPlanned(withoutPass(session, nth)))).loss;
     if (ofTurn !== turn) return;
-    const text = typeof without !== "number" || typeof least !== "number" ? ["?", "is"]
-      : number(without - least, "lost");
-    write(body.rows[nth].cells[WORTH], text[0], `${text[1]} worth`);
+    const isKnown = typeof without === "number" && typeof least === "number", more = without - least;
+    write(body.rows[nth].cells[WORTH], isKnown ? volume(LINK, more) : "?",
+      `${isKnown ? number(more, "lost")[1] : "is"} worth`);
   }
   if (ofTurn === turn) at("passes").dataset.worth = "known";
 }
 
-// The pass that is made by what is typed in a cell; null where it cannot be read, which is said.
-export function passTyped(session, it) {
-  const [, nth, what] = it.dataset.cell.split(" "), pass = session.passes[nth],
-    value = what === "from" || what === "to" ? momentOf(it.value) : it.value.trim();
-  const changed = { ...pass, [what]: value }, isBare = what === "rate" && /^[\d.]+$/.test(value);
-  const fault = what === "station" ? null : isBare ? "Write the rate with its unit, as 900 blocks/h or 64 kbit/s."
-    : faultOf(session, changed);
-  mark(it, !!fault, "pass-fault");
-  at("pass-fault").textContent = fault ?? "";
-  return fault ? null : changed;
+// Sorts the rows once that which was typed in is left. The focus stays with its pass.
+export function sortPasses(history) {
+  const { passes } = history.now, sorted = inOrder(passes), it = document.activeElement;
+  if (sorted.every((pass, nth) => pass === passes[nth])) return;
+  const { cell, act } = it.dataset, held = passes[passNth(it)], selected = cell && [it.selectionStart, it.selectionEnd];
+  if (held) it.blur();
+  history.amend({ passes: sorted });
+  showPasses(history.now);
+  if (!held) return;
+  const name = (cell ?? act).replace(/\d+/, sorted.indexOf(held)),
+    found = document.querySelector(`[data-${cell ? "cell" : "act"}="${name}"]`);
+  found.focus();
+  if (selected) found.setSelectionRange(...selected);
 }
+
+// Of which pass a cell or a button is; undefined where it is of none.
+export const passNth = it => /^(?:pass|cancel) (\d+)/.exec(it.dataset?.cell ?? it.dataset?.act ?? "")?.[1];

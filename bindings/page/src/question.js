@@ -1,9 +1,10 @@
-// A question with several answers, which waits until one is chosen; Escape chooses the last.
+// A question with several answers, which waits until one is chosen; Escape chooses the last. The focus is on the first,
+// or on the last where the others take something away.
 import { at, make } from "./dom.js";
 
 let waiting = Promise.resolve();
 
-function put(words, answers) {
+function put(words, answers, isCareful) {
   const box = at("question"), isOpen = answers.length > 0;
   at("question-words").textContent = words;
   return new Promise(tell => {
@@ -13,7 +14,7 @@ function put(words, answers) {
       tell(answer);
     };
     at("question-answers").replaceChildren(...answers.map(([name, answer], nth) => {
-      const made = make("button", name, { type: "button", autofocus: nth === 0 });
+      const made = make("button", name, { type: "button", autofocus: nth === (isCareful ? answers.length - 1 : 0) });
       made.onclick = () => end(answer);
       return made;
     }));
@@ -23,7 +24,7 @@ function put(words, answers) {
 }
 
 // One question after another.
-export function question(words, answers) {
-  waiting = waiting.then(() => put(words, answers));
+export function question(words, answers, isCareful = false) {
+  waiting = waiting.then(() => put(words, answers, isCareful));
   return waiting;
 }

@@ -11,8 +11,11 @@ export const TEXTS = ["setup", "forecast", "given"];
 export const EMPTY = {
   setup: NOTHING, forecast: NOTHING, given: NOTHING, isInOrder: false, name: "", begins: "", minutes: "60",
     edges: null, passes: [], mission: null, unit: 1,
-  packet: 1024, isInBlocks: true, before: null, variants: [], reference: null,
+  packet: 1024, badPacket: null, isInBlocks: true, before: null, variants: [], reference: null,
 };
+
+// Whether so many octets are a packet. What is typed and is none stays in `badPacket`.
+export const isPacket = octets => Number.isInteger(octets) && octets >= 1 && octets <= 1024;
 
 export const hasBoth = ({ setup, forecast }) => setup.length > 0 && forecast.length > 0;
 
@@ -51,7 +54,7 @@ function readPass(it) {
     && each[0] <= MOST_STEPS && each[1] >= 0;
   const hasTimes = from !== null && to !== null && from < to;
   return { ...NEW_PASS, station: String(it.station ?? ""), name: String(it.name ?? ""), rate: String(it.rate ?? ""),
-    channels: readTexts(it.channels),
+    channels: readTexts(it.channels), bad: readTexts(it.bad),
     from: hasTimes ? from : null, to: hasTimes ? to : null, windows: windows.filter(isWindow).map(each => [...each]) };
 }
 
@@ -86,18 +89,18 @@ function readSession(it) {
     isInOrder: it.isInOrder === true, isInBlocks: it.isInBlocks !== false, name: String(it.name ?? ""),
       begins: String(it.begins ?? ""), minutes: String(it.minutes ?? 60),
     edges, mission: edges && readMission(it.mission), unit: Math.max(readCount(it.unit), 1),
-    packet: Number.isInteger(it.packet) && it.packet >= 1
-      && it.packet <= 1024 ? it.packet : 1024,
+    packet: isPacket(it.packet) ? it.packet : 1024,
+    badPacket: typeof it.badPacket === "string" ? it.badPacket : null,
     before: isObject(before) ? { steps: readCount(before.steps), lost: readCount(before.lost),
-      sent: readCount(before.sent) } : null,
+      sent: readCount(before.sent), octets: readCount(before.octets) } : null,
     passes: named,
   });
 }
 
 function readVariant(it) {
   if (!isObject(it) || !isObject(it.session) || !Number.isSafeInteger(it.loss)) return null;
-  const counts = list => (Array.isArray(list) ? list.filter(
-    each => Array.isArray(each) && Number.isSafeInteger(each[1])).map(each => [String(each[0]), each[1]]) : []);
+  const counts = list => (Array.isArray(list) ? list.filter(each => Array.isArray(each)
+    && Number.isSafeInteger(each[1])).map(each => [String(each[0]), ...each.slice(1).map(readCount)]) : []);
   return { name: String(it.name ?? "reference"), loss: it.loss, session: readSession(it.session),
     stores: counts(it.stores), sent: counts(it.sent) };
 }
@@ -150,6 +153,13 @@ export function historyOf(changed) {
       if (now.setup.length || now.forecast.length) done = [...done, now].slice(-MOST_KEPT);
       [now, undone, last] = [session, [], null];
       if (isSaved) saved = session;
+      changed();
+    },
+    // The same in another form, which is no change.
+    amend(more) {
+      const it = { ...now, ...more };
+      if (now === saved) saved = it;
+      now = it;
       changed();
     },
     leave() { last = null; },

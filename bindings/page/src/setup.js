@@ -91,9 +91,9 @@ export function placeOf({ number, row, column, words, hint }, setup, forecast) {
     line = /\bline (\d+)\b/.exec(hint)?.[1];
   if (number === 31) return { row, column };
   if (number === 32) return { row, column: 1 };
-  if (["window", "arrivals", "limit"].includes(name)) return firstAbove(forecastOf(forecast));
   if ((number === 28 || number === 33) && table) return {
     array: table[2], nth: table[1] - 1, key: name ?? keyIn(hint) };
+  if (number === 33 && ["window", "arrivals", "limit", "size"].includes(name)) return firstAbove(forecastOf(forecast));
   return number === 27 && line ? keyOn(setup, Number(line)) : null;
 }
 

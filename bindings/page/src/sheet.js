@@ -1,11 +1,11 @@
 // What is printed: the mission with its verdict and checksums, the chart on a page of its own, and each pass with what
 // stores send in it.
-import { amountsOf } from "./amounts.js";
-import { at, head, make, row } from "./dom.js";
+import { LINK, amountsOf } from "./amounts.js";
+import { head, make, row } from "./dom.js";
 import { textOf } from "./moments.js";
 import { sentBy } from "./passtable.js";
-import { spanOf, stepsOf, sumOf } from "./passes.js";
-import { digits } from "./texts.js";
+import { spanOf, stepSpan, stepsOf, sumOf } from "./passes.js";
+import { lostIn } from "./view.js";
 import { sentenceOf } from "./words.js";
 
 async function checksum(octets) {
@@ -26,8 +26,7 @@ const whenOf = (session, pass) => {
 };
 
 // What stores hold before the first of these steps and after the last, and what they lose until the next pass begins.
-function rowsOf(records, startOf, pass, until, of) {
-  const first = pass.windows[0][0], last = pass.windows.at(-1)[0];
+function rowsOf(records, startOf, [first, last], until, of) {
   return [...records.stores.keys()].map(id => {
     const before = first > 1 ? records.steps[first - 2].of.get(id).held : startOf(id),
       after = records.steps[last - 1].of.get(id).held;
@@ -38,16 +37,17 @@ function rowsOf(records, startOf, pass, until, of) {
 
 function passSection(session, records, startOf, nth, of) {
   const pass = session.passes[nth], next = session.passes.slice(nth + 1).find(it => it.windows.length);
-  const until = next ? next.windows[0][0] : records.steps.length + 1, { unit, volume } = amountsOf(session);
+  const count = records.steps.length, { unit, volume } = amountsOf(session), most = volume(LINK, sumOf(pass));
+  const until = next ? stepSpan(session, next, count)[0] : count + 1;
   const made = make("section");
   const own = pass.name && pass.name !== pass.station ? ` (${pass.name})` : "";
   const name = `${pass.station || "Pass"}${own}`;
-  made.append(make("h3", `${nth + 1}. ${name}: ${whenOf(session, pass)}, at most ${digits(sumOf(pass))} blocks`));
+  made.append(make("h3", `${nth + 1}. ${name}: ${whenOf(session, pass)}, at most ${most} ${unit}`));
   if (!pass.windows.length) return made;
-  const inUnit = (...cells) => (session.isInBlocks ? [] : cells);
-  const rows = rowsOf(records, startOf, pass, until, of).map(({ id, sent, before, after, lost }) =>
-    [id, digits(sent), ...inUnit(volume(id, sent)), digits(before), digits(after), digits(lost)]);
-  const heads = ["<store", "blocks", ...inUnit(unit), "held before", "held after", "lost until the next"];
+  const sums = rowsOf(records, startOf, stepSpan(session, pass, count), until, of);
+  const rows = sums.map(({ id, sent, before, after, lost }) =>
+    [id, ...[sent, before, after, lost].map(it => volume(id, it))]);
+  const heads = ["<store", `sent, ${unit}`, "held before", "held after", "lost until the next"];
   made.append(tableOfRows(heads, rows));
   return made;
 }
@@ -67,10 +67,10 @@ function tableOfRows(heads, rows) {
 
 // What each store has, gets, sends and loses, and what each pass sends, on the first page.
 function overview(session, { records }, startOf, sent) {
-  const { unit, volume } = amountsOf(session), made = make("div", "", { className: "overview" });
+  const { unit, volume, total } = amountsOf(session), made = make("div", "", { className: "overview" });
   const amounts = (id, it) => [startOf(id), it.arrived, it.dumped, it.lost, it.held].map(each => volume(id, each));
   const stores = [...records.stores].map(([id, it]) => [id, ...amounts(id, it)]);
-  const sums = (pass, nth) => [sumOf(pass), sent[nth].sent].map(digits);
+  const sums = (pass, nth) => [volume(LINK, sumOf(pass)), total([...sent[nth].of])];
   const passes = session.passes.map((it, nth) => [`${nth + 1}`, it.station, whenOf(session, it), ...sums(it, nth)]);
   const part = (title, heads, rows) => {
     const box = make("div");
@@ -78,33 +78,54 @@ function overview(session, { records }, startOf, sent) {
     return box;
   };
   made.append(part(`Stores, in ${unit}`, ["<store", "at the start", "arrives", "sent", "lost", "at the end"], stores));
-  made.append(part("Passes, in blocks", ["<nr", "<station", "<when", "at most", "sent"], passes));
+  made.append(part(`Passes, in ${unit}`, ["<nr", "<station", "<when", "at most", "sent"], passes));
   return made;
 }
 
-// Lays the sheet of a session with its answer.
-export async function laySheet(session, answer, starts) {
+const TITLE = document.title;
+let picture = "";
+// The chart, once it can be drawn.
+async function pictureOf(octets) {
+  URL.revokeObjectURL(picture);
+  picture = URL.createObjectURL(new Blob([octets], { type: "image/svg+xml" }));
+  const image = make("img", "", { alt: "", src: picture });
+  await image.decode().catch(() => {});
+  return image;
+}
+
+// Each page has the mission's name: in its margin where the browser has rules for that, and else in the browser's own
+// head, which has the title.
+function namePages(name) {
+  const [style] = document.styleSheets, text = name.replace(/["\\\n]/g, it => `\\${it.charCodeAt(0).toString(16)} `);
+  if (document.title === name) return;
+  if (document.title !== TITLE) style.deleteRule(0);
+  document.title = name;
+  style.insertRule(`@page { @bottom-left { content: "${text}"; font: 11px system-ui, sans-serif; } }`, 0);
+}
+
+// The parts of the sheet of a session with its answer.
+export async function sheetParts(session, answer, starts) {
   const sums = await Promise.all([session.setup, session.forecast, answer.plan].map(checksum)),
     startOf = id => starts.get(id) ?? 0, { records } = answer;
   const chart = make("div", "", { className: "chart-page" }), sent = sentBy(session.passes, records);
   const begin = records.steps.length ? whenOf(session, { from: null, windows: [[1, 0], [records.steps.length, 0]] })
     : "";
-  chart.append(make("h2", "Chart"), at("chart").cloneNode());
-  chart.lastChild.removeAttribute("id");
+  chart.append(make("h2", "Chart"), await pictureOf(answer.chart));
   const top = make("div");
   top.append(make("h1", session.name || "Downlink plan"),
-    make("p", `${sentenceOf(answer.verdict)}.`, { className: "verdict" }));
+    make("p", `${sentenceOf(answer.verdict, lostIn(session, answer))}.`, { className: "verdict" }));
   top.append(
     facts([["Planned", begin], ["Printed", `${textOf(Date.now() * 1000).slice(0, 16)} UTC`],
     ["Verdict of the checker", answer.line],
     ["SHA-256 of the setup", sums[0]], ["SHA-256 of the forecast", sums[1]], ["SHA-256 of the plan", sums[2]]]));
   top.append(overview(session, answer, startOf, sent));
   const passes = make("div", "", { className: "passes-page" }), first = session.passes[0]?.windows[0]?.[0] ?? 1;
-  const early = records.steps.slice(0, first - 1).reduce((sum, it) => sum + it.lost, 0);
+  const early = records.steps.slice(0, first - 1).flatMap(it => [...it.of].map(([id, each]) => [id, each.lost]));
+  const { unit, total } = amountsOf(session), lost = total(early);
   passes.append(make("h2", `Passes${session.passes.length ? "" : ": none"}`),
-    ...(early ? [make("p", `Before the first pass ${digits(early)} blocks are lost.`)] : []),
+    ...(lost === "0" ? [] : [make("p", `Before the first pass ${lost} ${unit} are lost.`)]),
     ...session.passes.map((_, nth) => passSection(session, records, startOf, nth, sent[nth].of)));
-  at("sheet").replaceChildren(top, chart, passes);
-  await chart.querySelector("img").decode().catch(() => {});
+  namePages(session.name || "Downlink plan");
+  return [top, chart, passes];
 }
 

@@ -1,19 +1,23 @@
-// The start screen: three examples with their charts, and the sessions that this browser keeps.
+// The start screen: some examples with their charts, and the sessions that this browser keeps.
 import { at, button, cellWith, make, row } from "./dom.js";
+import { missionSession } from "./files.js";
 import { shown } from "./moments.js";
 import { withWindowsOf } from "./passes.js";
 import { EMPTY } from "./session.js";
 import { digits, encode } from "./texts.js";
 
 const CARDS = [
+  ["mars_week", "A week at Mars", "a mission in files: stores in MB, passes in UTC"],
   ["two_passes", "A day with two passes", "three stores, 24 steps of an hour"],
   ["mission", "An orbiter's eleven days", "ten stores, a limited channel, 256 steps"],
   ["in_order", "Stores in their order", "three stores, of which the first matters most"],
 ];
 
 export function exampleSession(examples, name) {
-  const [setup, forecast] = ["setup", "forecast"].map(which => encode(examples[name][which]));
-  return withWindowsOf({ ...EMPTY, setup, forecast, name: name.replaceAll("_", " ") });
+  const files = Object.entries(examples[name]).map(([file, text]) => [file, encode(text)]),
+    { "mission.toml": mission, "setup.toml": setup, "forecast.csv": forecast } = Object.fromEntries(files);
+  return mission ? missionSession("mission.toml", new Map(files)).session
+    : withWindowsOf({ ...EMPTY, setup, forecast, name: name.replaceAll("_", " ") });
 }
 
 // Lays the cards of the examples; their charts come when the library has drawn them.

@@ -3,30 +3,32 @@ import { amountsOf } from "./amounts.js";
 import { beginOf } from "./clock.js";
 import { at, cellWith, fill, head, input, make, mark, number, row, write } from "./dom.js";
 import { shown } from "./moments.js";
-import { forecastOf } from "./texts.js";
+import { forecastOf, isSize, storeOfSize } from "./texts.js";
 import { worthSentence } from "./words.js";
 import { worthOf } from "./worth.js";
 
-// After the stores a forecast may have limits by step, which are edited whatever the stores' columns show.
+// After the stores a forecast may have limits and sizes by step, which are edited whatever the stores' columns show.
 const isLimit = name => name.startsWith("limit:");
-const isEdited = name => shows === "arrived" || isLimit(name);
+const isEdited = name => shows === "arrived" || isLimit(name) || isSize(name);
 // The rows as they stand in the table: the document is not asked for them again.
 let laid = "", lines = [], names = [], heldCell = { row: 0, column: 1 };
 export let shows = "arrived";
 
 const fixed = ["f1", "f2", "f3"];
+const headTitle = name => (isSize(name) ? `What ${storeOfSize(name)} has room for, in blocks or in MB` : name);
 
 function layHead(header) {
   const worths = ["one more saves", "at most"].map(it =>
     head(it, { className: "asked", title: "What a larger window saves, in blocks" }));
   const first = [head("step", { className: fixed[0] }), head("begins UTC", { className: `clock ${fixed[1]}` }),
     head("window", { className: fixed[2] })];
-  return row(...first, ...worths, ...["sent", "lost", ...header.slice(2)].map(it => head(it, { title: it })));
+  const others = ["sent", "lost", ...header.slice(2)].map(it => head(it, { title: headTitle(it) }));
+  return row(...first, ...worths, ...others);
 }
 
 function layLine(stores, step) {
   const label = id => (isLimit(id) ? `Limit of channel ${id.slice(6)} in step ${step}`
-    : `What arrives in ${id} in step ${step}`);
+    : isSize(id) ? `Size of ${storeOfSize(id)} in step ${step}` : `What arrives in ${id} in step ${step}`);
   const window = input(`${step} 1`, `Window of step ${step}`, { className: "window" }),
     [begins, next, most, sent, lost] = Array.from({ length: 5 }, () => make("td"));
   const own = stores.map((id, nth) => (isEdited(id) ? input(`${step} ${nth + 2}`, label(id)) : make("td"))),
@@ -72,10 +74,10 @@ export function hold(it) {
   sayWorth(step, names[column], column === 1);
 }
 
-// What a window, or a limit by step, is worth in words, where it is known.
+// What a window, or a limit or a size by step, is worth in words, where it is known.
 function sayWorth(step, name, isWindow) {
   const worth = isWindow ? worthOf("window", "", step) : isLimit(name) ? worthOf("limit", name.slice(6), step)
-    : undefined;
+    : isSize(name) ? worthOf("size", storeOfSize(name), step) : undefined;
   at("held-worth").textContent = worth ? `Step ${step}: ${worthSentence(worth)}` : "";
 }
 
@@ -131,10 +133,9 @@ export function showSteps(session, records, place) {
   at("grid-none").hidden = !!read;
   if (!read) return;
   const { header } = read, amounts = amountsOf(session), isPlain = session.isInBlocks;
-  // What is typed in other units stays as it is typed while it is.
-  const typed = isPlain ? null : document.activeElement;
   at("steps-unit").textContent = shows === "held" && !isPlain ? "MB" : amounts.flow;
   laySteps(header, read.records.length);
+  at("grid").classList.toggle("exact", session.edges !== null);
   read.records.forEach((record, nth) => {
     const line = lines[nth], told = records?.steps[nth], step = nth + 1;
     showLine(line, session, nth, record, told, amounts);
@@ -144,8 +145,9 @@ export function showSteps(session, records, place) {
         if (told) showTold(it, told, name, step, amounts);
         continue;
       }
-      const isNumber = !isPlain && /^\d+$/.test(text);
-      if (it !== typed) fill(it, isNumber ? amounts.rate(name, Number(text), step) : text);
+      const isNumber = !isPlain && /^\d+$/.test(text), amount = isSize(name)
+        ? blocks => amounts.size(storeOfSize(name), blocks) : blocks => amounts.rate(name, blocks, step);
+      fill(it, isNumber ? amount(Number(text)) : text);
       mark(it, place?.row === step && place.column === column + 1, "said expected");
     }
   });
@@ -165,14 +167,14 @@ export function stickColumns() {
 }
 
 // The cells that a range of a spreadsheet fills, from a cell on: of each its step, its column and its text. Null where
-// it is one cell alone.
+// it is one cell alone, and none where some of it would lie outside of what is edited.
 export function pastedFrom(it, text) {
   const [step, column] = it.dataset.cell.split(" ").map(Number),
     rows = text.replace(/\r?\n$/, "").split(/\r?\n/).map(line => line.split("\t"));
   if (rows.length === 1 && rows[0].length === 1) return null;
-  return rows.flatMap(
-    (cells, down) => cells.map((cell, right) => ({ step: step + down, column: column + right, text: cell.trim() })))
-    .filter(each => each.step <= lines.length && inputAt({ row: each.step - 1, column: each.column }));
+  const found = rows.flatMap((cells, down) =>
+    cells.map((cell, right) => ({ step: step + down, column: column + right, text: cell.trim() })));
+  return found.every(each => inputAt({ row: each.step - 1, column: each.column })) ? found : [];
 }
 
 // Goes to a step that is there, and answers whether it is.

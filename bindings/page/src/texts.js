@@ -3,7 +3,7 @@
 export const MARK = "\uFEFF";
 // octets of a text that is read for what is shown; what a library takes is far shorter
 export const MOST_READ = 1 << 20;
-const MOST_ROWS = 256, MOST_COLUMNS = 26; // two, 16 stores and 8 limits
+const MOST_ROWS = 256, MOST_COLUMNS = 42; // two, 16 stores, 8 limits and 16 sizes
 
 // Octets that are no UTF-8 are shown as they can be, and stay as they are until their text is edited.
 export const decode = octets => new TextDecoder("utf-8", { ignoreBOM: true }).decode(octets);
@@ -12,6 +12,11 @@ export const NOTHING = new Uint8Array();
 
 const GROUPED = new Intl.NumberFormat("en");
 export const digits = number => GROUPED.format(number);
+
+// The columns of a forecast with the size of a store in each step.
+const SIZE = "size:";
+export const isSize = name => name.startsWith(SIZE);
+export const storeOfSize = name => name.slice(SIZE.length);
 
 const remembered = new WeakMap();
 
@@ -74,11 +79,15 @@ export function withCells(octets, change) {
   return forecastText(octets, { header, records: records.map((record, nth) => change(record, nth + 1)) });
 }
 
-// The text of a forecast in which the columns of two stores have changed places.
+// The text of a forecast in which the columns of two stores have changed places, and those of their sizes.
 export function withColumnsSwapped(octets, ids) {
-  const { header, records } = forecastOf(octets), [one, other] = ids.map(id => header.indexOf(id, 2));
-  const swap = record => record.map((cell, at) => (at === one ? record[other] : at === other ? record[one] : cell));
-  return one < 0 || other < 0 ? octets : forecastText(octets, { header: swap(header), records: records.map(swap) });
+  const { header, records } = forecastOf(octets), from = header.map((_, at) => at);
+  for (const names of [ids, ids.map(id => SIZE + id)]) {
+    const [one, other] = names.map(name => header.indexOf(name, 2));
+    if (one >= 0 && other >= 0) [from[one], from[other]] = [other, one];
+  }
+  const swap = record => from.map(at => record[at]), isSame = from.every((place, at) => place === at);
+  return isSame ? octets : forecastText(octets, { header: swap(header), records: records.map(swap) });
 }
 
 // The certificates of a plan: that of all stores, and of a plan in order then those of the first store, of the first

@@ -45,7 +45,7 @@ export function falls(flow, edges) {
 const gcdOf = (a, b) => (b ? gcdOf(b, a % b) : a);
 
 // What has come of some flows until each edge, as numerators of fractions with one denominator.
-export function cameOf(flows, edges) {
+function cameOf(flows, edges) {
   const below = flows.reduce((all, it) => (all / gcdOf(all, it.below)) * it.below, 1n),
     above = new Array(edges.length).fill(0n);
   for (const it of flows) {
@@ -64,7 +64,7 @@ function columnIn({ above, below }, packets) {
 }
 
 // What arrives in each store while the mission lasts, in packets.
-export function arrivalsOf(mission) {
+function arrivalsOf(mission) {
   const found = new Map(mission.stores.map(it => [it.id, []]));
   for (const one of mission.observations) {
     const begin = one.begin - mission.begin, end = one.end - mission.begin,
@@ -255,8 +255,8 @@ function addRooms(group, edges, limited, windows, limits) {
     rows = limited.map(channel => group.map(it => falls(it.channels.get(channel) ?? it.sends, own)));
   const sumIn = (columns, step) => columns.reduce((sum, column) => sum + column[step], 0);
   for (let step = 0; step < last - first; step++) {
-    const window = sumIn(sends, step),
-      links = linksIn(group, own[step], own[step + 1], nth => [sends[nth][step], rows.map(columns => columns[nth][step])]);
+    const window = sumIn(sends, step), links = linksIn(group, own[step], own[step + 1], nth =>
+      [sends[nth][step], rows.map(columns => columns[nth][step])]);
     const isShared = limited.length > 0 && links.length > 1, sums = isShared
       ? rows.map((_, nth) => links.reduce((all, [, each]) => all + each[nth], 0))
       : rows.map(columns => sumIn(columns, step));
@@ -294,7 +294,9 @@ function setupStore(mission, unit, store) {
   return { id, size, type, channel, start: held < size ? held : size };
 }
 
-const missionSetup = (mission, unit) => [
+// What arrives in a step may be sent in it.
+const DURING = 'arrivals = "during"\n';
+const missionSetup = (mission, unit) => DURING + [
   ...mission.stores.map(it => tableText("store", setupStore(mission, unit, it))),
   ...mission.routes.map(it => tableText("route", it))].join("\n");
 
@@ -305,7 +307,7 @@ function missionForecast(columns) {
 }
 
 // What the passes of a mission can send in these steps: in all, on each channel, and each of them.
-export function roomsWith(mission, edges, unit) {
+function roomsWith(mission, edges, unit) {
   const contacts = contactsOf(mission, unit, usesOf(mission)), { windows, limits } = windowsOf(
     contacts, edges, limitedIn(mission));
   const shares = new Map(mission.passes.map(it => [it.name, new Array(edges.length - 1).fill(0)]));

@@ -1,6 +1,6 @@
 // What the page shows of a session and of the answer to it: verdict, the program's chart, stores and texts.
-import { amountsOf } from "./amounts.js";
-import { at, button, cellWith, describe, fill, head, input, keepingFocus, make, mark, number, row,
+import { LINK, amountsOf, octetsIn } from "./amounts.js";
+import { at, button, cellWith, fill, head, input, keepingFocus, make, mark, number, row,
   write } from "./dom.js";
 import { firstsOf, lossSentence } from "./order.js";
 import { isMovable, setupOf } from "./setup.js";
@@ -21,6 +21,15 @@ export function dim(isOld) {
   else document.body.classList.remove("old");
 }
 
+// What each store loses, as pairs; none before the table is there.
+const lossesIn = ({ records }) => [...records?.stores ?? []].map(([id, it]) => [id, it.lost]);
+
+// What is lost, where it is shown in another unit than blocks; null before that is known.
+export function lostIn(session, answer) {
+  const { unit, total } = amountsOf(session);
+  return session.isInBlocks || !answer.records ? null : `${total(lossesIn(answer))} ${unit}`;
+}
+
 // Shows the verdict, and answers where a refusal says that the fault is, or null.
 export function showVerdict(session, answer) {
   const { refused, verdict, loss, line } = answer, said = refused && refusalOf(refused, session),
@@ -28,17 +37,22 @@ export function showVerdict(session, answer) {
   at("verdict").className = refused ? "refused" : ["least", "least in order"].includes(verdict.kind) ? "least"
     : "wrong";
   at("said").textContent = refused
-    ? `${said.whose ? `The ${said.whose}` : "This"} cannot be read: ${said.advice || said.short}` : sentenceOf(verdict);
+    ? `${said.whose ? `The ${said.whose}` : "This"} cannot be read: ${said.advice || said.short}`
+    : sentenceOf(verdict, lostIn(session, answer));
   at("line").textContent = refused ? (said.advice ? `refused ${said.short}` : "") : line;
   at("expected").textContent = refused && said.expected
     ? `Expected: ${said.expected}.${said.hint ? ` Found: ${said.hint}.` : ""}` : "";
-  const reference = session.variants[session.reference],
-    differs = reference && isKnown ? difference(loss, reference) : null;
+  const reference = session.variants[session.reference], { isInBlocks } = session, { shownSum } = amountsOf(session);
+  const differs = reference && isKnown ? difference(isInBlocks ? loss : octetsIn(session, lossesIn(answer)),
+    isInBlocks ? reference.loss : octetsIn(reference.session, reference.stores), shownSum) : null;
   at("more").textContent = differs?.words ?? "";
   at("more").className = ["better", "", "worse"][(differs?.sign ?? 0) + 1];
-  const { before } = session;
-  const all = before && isKnown ? `: ${digits(before.lost + loss)} in all` : "";
-  const early = before && `In the ${digits(before.steps)} steps before, ${digits(before.lost)} were lost${all}.`;
+  const { before } = session, lost = before && (isInBlocks ? before.lost
+    : before.octets || octetsIn(session, [[LINK, before.lost]]));
+  const all = before && isKnown
+    ? `: ${shownSum(lost + (isInBlocks ? loss : octetsIn(session, lossesIn(answer))))} in all` : "";
+  const unit = isInBlocks ? "" : " MB";
+  const early = before && `In the ${digits(before.steps)} steps before, ${shownSum(lost)}${unit} were lost${all}.`;
   at("before").textContent = early ?? "";
   at("judging").hidden = !session.given.length;
   at("keep").disabled = !isKnown;
@@ -145,8 +159,7 @@ export function showSetup(session, place) {
     const [array, nth, key] = it.dataset.cell.split(" "), { keys } = setup[array][nth], text = keys[key] ?? "0";
     const isInUnit = !session.isInBlocks && array !== "limit", isPlain = !isInUnit || !/^\d+$/.test(text);
     const amount = key === "size" ? size : volume;
-    // What is typed in other units stays as it is typed while it is.
-    if (!(isInUnit && it === document.activeElement)) fill(it, isPlain ? text : amount(keys.id, Number(text)));
+    fill(it, isPlain ? text : amount(keys.id, Number(text)));
     mark(it, place?.array === array && place.nth === Number(nth) && place.key === key, "said expected");
   }
 }
@@ -169,14 +182,15 @@ function showSums(cells, id, sums, size, volume) {
 
 let lossesSaid = "";
 // What stores lose together with those above them, and why, where the plan shows it.
-function showFirsts(stores, records, firsts) {
+function showFirsts(stores, records, firsts, { total, volume }) {
   const column = 6 + SUMS.findIndex(([what]) => what === "together"), sentences = [];
   document.body.classList.toggle("unordered", !firsts);
   for (const [nth, certificate] of firsts?.entries() ?? []) {
     const { id } = stores[nth].keys, lost = records.stores.get(id)?.lost;
-    write(at("stores").tBodies[0].rows[nth].cells[column], certificate ? digits(certificate.loss) : "not shown",
+    const sum = total(stores.slice(0, nth + 1).map(({ keys }) => [keys.id, records.stores.get(keys.id)?.lost ?? 0]));
+    write(at("stores").tBodies[0].rows[nth].cells[column], certificate ? sum : "not shown",
       certificate?.loss ? "ordered is" : "ordered is none");
-    if (certificate && lost) sentences.push(lossSentence(id, lost, nth + 1, certificate));
+    if (certificate && lost) sentences.push(lossSentence(id, volume(id, lost), nth + 1, sum, certificate));
   }
   const text = sentences.join("\n");
   if (text === lossesSaid) return;
@@ -202,7 +216,7 @@ export function showStores(session, answer, records, place) {
     const isSome = all[what].some(it => it[1]), name = number(isSome ? 1 : 0, what === "lost" ? "lost" : "")[1];
     write(at("stores").tFoot.rows[0].cells[1 + column], total(all[what]), name);
   });
-  showFirsts(stores, records, firstsOf(answer));
+  showFirsts(stores, records, firstsOf(answer), amountsOf(session));
 }
 
 // ---- Texts
@@ -212,7 +226,7 @@ export function showTexts(session, plan) {
     const area = at(which), isLong = session[which].length > MOST_READ;
     area.disabled = isLong;
     // A text that nobody sees is not written at each key press.
-    if (area.closest("details").open && area !== document.activeElement) fill(
+    if (area.closest("details").open) fill(
       area, isLong ? `This text has ${digits(session[which].length)} bytes, and is not shown.`
       : decode(session[which]));
   }

@@ -4,12 +4,10 @@ import { digits } from "./texts.js";
 
 const LARGEST = 1_000_000; // MAX_BLOCKS of mm_base, which no window, size or limit is above
 
-// Whether no plan that fits loses fewer blocks than this one.
-export const isLeast = ({ refused, verdict }) => !refused
-  && ["least", "least in order", "first not shown"].includes(verdict.kind);
-
-export function sentenceOf({ kind, place, loss, bound }) {
-  const blocks = `${digits(loss)} ${loss === 1 ? "block is" : "blocks are"} lost`;
+// The verdict in a sentence; what is lost also as `lost` in another unit, where that is said.
+export function sentenceOf({ kind, place, loss, bound }, lost) {
+  const counted = `${digits(loss)} ${loss === 1 ? "block" : "blocks"}`;
+  const blocks = lost ? `${lost} (${counted}) are lost` : `${counted} ${loss === 1 ? "is" : "are"} lost`;
   switch (kind) {
     case "least": return loss ? `${blocks}, and no plan that fits loses fewer` : "Nothing is lost";
     case "least in order": return loss
@@ -30,14 +28,10 @@ export function sentenceOf({ kind, place, loss, bound }) {
   }
 }
 
-// Words of refusals that name a document, which is not in the page: what it says stands in their place.
-const LIMITS_SAID = "a size is 1 to 1,000,000 blocks, a start at most the size, a window, an arrival or a limit "
-  + "0 to 1,000,000, a channel 0 to 7; there are 1 to 16 stores and 1 to 256 steps";
-const KEYS_SAID = "the keys of this table, each with an allowed value (a store has id, size, type, channel and perhaps "
-  + "start, a route apid, service, subtype and store, a limit channel and blocks)";
+// Words of refusals that name a document, which is not in the page: what stands in their place.
 const INSTEAD = [
-  ["the keys that docs/FORMATS.md lists for this table, each with an allowed value", KEYS_SAID],
-  ["docs/FORMATS.md has the ranges", LIMITS_SAID],
+  ["the keys that docs/FORMATS.md lists for this table", "the keys of this table"],
+  ["docs/FORMATS.md has the ranges", "look at its range"],
   [
     "compare it with the table 'Plan text' of docs/FORMATS.md, or plan again",
     "take the plan out, so that the page plans again",
@@ -46,7 +40,10 @@ const INSTEAD = [
 const standingAlone = words => INSTEAD.reduce((text, [named, said]) => text.replaceAll(named, said), words)
   .replace(/: docs\/\w+\.md, '[^']*'/g, "");
 
-// A refusal in the library's words: what to do, what was expected, what was found, and its short form.
+// Where in a file it is, which nobody sees who types in a cell.
+const IN_FILE = /[,;] (it is )?line \d+ of the file(, whose header is line \d+)?/;
+
+// A refusal in the library's words: what was found where, or else what to do; what was expected; and its short form.
 export function refusalOf({ words, hint, ...at }, session) {
   const [, short, expected, advice] = /^(.*?): expected (.*?); (.*)$/s.exec(standingAlone(words))
     ?? ["", words, "", ""];
@@ -56,12 +53,12 @@ export function refusalOf({ words, hint, ...at }, session) {
   const found = standingAlone(hint).replace("; write it without quotes", "");
   const place = placeOf({ ...at, words, hint }, session.setup, session.forecast);
   const placed = place?.row ? "forecast" : place?.array ? "setup" : "";
-  return { short, expected, advice, hint: found, place, whose: whose || placed };
+  return { short, expected, advice: found.replace(IN_FILE, "") || advice, hint: found, place, whose: whose || placed };
 }
 
 // The name of a size or a limit.
 export function nameOf({ item, name, step }) {
-  return item === "size" ? `size of ${name}` : `limit of channel ${name}${step ? ` in step ${step}` : ""}`;
+  return `${item === "size" ? "size of" : "limit of channel"} ${name}${step ? ` in step ${step}` : ""}`;
 }
 
 // What more of a window, size or limit saves.
@@ -78,15 +75,15 @@ function largerSaves(worth) {
 
 // What a window, size or limit is worth, in a sentence.
 export function worthSentence(worth) {
-  const { item, now, without } = worth, least = item === "size" ? 1 : 0, larger = largerSaves(worth);
+  const { item, step, now, without } = worth, least = item === "size" && !step ? 1 : 0, larger = largerSaves(worth);
   const otherwise = item === "window" ? "without this window" : `with a ${item} of ${least},`,
     lost = without ? digits(without) : "no";
   return now === least ? `${larger}.` : `${larger}; ${otherwise} ${lost} more ${without === 1 ? "is" : "are"} lost.`;
 }
 
-// How a loss differs from that of the reference.
-export function difference(loss, reference) {
-  const more = loss - reference.loss;
-  const how = more > 0 ? `${digits(more)} more than` : more < 0 ? `${digits(-more)} fewer than` : "as many as";
-  return { words: `${how} the reference, ${digits(reference.loss)}`, sign: Math.sign(more) };
+// How a loss differs from that of the reference, as numbers that are shown so.
+export function difference(loss, reference, shownSum) {
+  const more = loss - reference;
+  const how = more > 0 ? `${shownSum(more)} more than` : more < 0 ? `${shownSum(-more)} fewer than` : "as many as";
+  return { words: `${how} the reference, ${shownSum(reference)}`, sign: Math.sign(more) };
 }

@@ -39,7 +39,7 @@ function sayRefused(refused, session) {
   say(`It is not known: ${advice || short}.`);
 }
 
-// Sizes and limits; of the limits by step, those that are worth anything. What windows are worth stands in the steps.
+// Sizes and limits; of those by step, those that are worth anything. What windows are worth stands in the steps.
 function layWorths(worths) {
   const rows = worths.filter(it => it.item !== "window" && (!it.step || it.next || it.most || it.without)),
     table = at("worths");

@@ -61,9 +61,14 @@ class Chromium:
         self.left, self.number, self.session, self.events = b"", 0, "", list[dict[str, Any]]()
         self.name = self.ask("Browser.getVersion")["product"]
         page = next(it for it in self.ask("Target.getTargets")["targetInfos"] if it["type"] == "page")
-        self.session = self.ask("Target.attachToTarget", targetId=page["targetId"], flatten=True)["sessionId"]
+        self.attach(page["targetId"])
+
+    def attach(self, target: str) -> None:
+        """Goes to a page, which has the focus from then on, as one that a planner sees."""
+        self.session = self.ask("Target.attachToTarget", targetId=target, flatten=True)["sessionId"]
         for domain in ("Page", "Runtime", "Log", "Network"):
             self.ask(f"{domain}.enable")
+        self.ask("Emulation.setFocusEmulationEnabled", enabled=True)
 
     def ask(self, method: str, **words: object) -> Any:
         """The answer to a command."""
@@ -109,9 +114,7 @@ class Chromium:
         """Goes to a new tab, and says in which one it was before."""
         before, self.session = self.session, ""
         target = self.ask("Target.createTarget", url="about:blank")["targetId"]
-        self.session = self.ask("Target.attachToTarget", targetId=target, flatten=True)["sessionId"]
-        for domain in ("Page", "Runtime", "Log", "Network"):
-            self.ask(f"{domain}.enable")
+        self.attach(target)
         return before
 
     def go(self, tab: str) -> None:

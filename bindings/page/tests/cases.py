@@ -11,7 +11,8 @@ from collections.abc import Callable, Iterator
 from pathlib import Path
 
 TOP = Path(__file__).resolve().parents[3]
-EXAMPLES = ("mission", "tight", "two_passes", "channel_limit", "in_order", "first_run")
+EXAMPLES = ("mission", "tight", "two_passes", "channel_limit", "in_order", "first_run", "during", "bank_off",
+    "deadline")
 LETTERS = "ABCDEFGHIJKLMNOPQRSTUVWXYZ0123456789_-"
 MARK = b"\xef\xbb\xbf"
 Case = tuple[str, bytes, bytes, bytes]
@@ -38,7 +39,8 @@ def problem(dice: random.Random) -> tuple[bytes, bytes]:
     most, ids = dice.choice([3, 20, 500, 20_000, 1_000_000]), set[str]()
     while len(ids) < stores:
         ids.add("".join(dice.choice(LETTERS) for _ in range(dice.randint(1, 8))))
-    names, setup = sorted(ids, key=lambda _: dice.random()), []
+    names = sorted(ids, key=lambda _: dice.random())
+    setup = ['arrivals = "during"\n'] if dice.random() < 0.4 else []
     for name in names:
         size = dice.randint(1, most)
         start = f"start = {dice.randint(0, size)}\n" if dice.random() < 0.5 else ""
@@ -53,6 +55,8 @@ def problem(dice: random.Random) -> tuple[bytes, bytes]:
             f'{dice.randrange(256)}\nstore = "{dice.choice(names)}"\n')
     often, rich = dice.choice([0.1, 0.4, 1]), dice.choice([1, stores, 3 * stores])
     columns = [f"limit:{it}" for it in range(8) if dice.random() < limited / 8]
+    sized = dice.choice([0, 0, 0.4])
+    columns += [f"size:{name}" for name in names if dice.random() < sized]
     rows = ["step,window," + ",".join([*names, *columns])]
     for step in range(1, steps + 1):
         window = min(1_000_000, dice.randint(0, most * rich)) if dice.random() < often else 0

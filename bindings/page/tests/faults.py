@@ -8,6 +8,7 @@ import tempfile
 import time
 from pathlib import Path
 
+import missions
 from browsers import Browser
 from cases import TOP
 from compare import ready
@@ -65,7 +66,7 @@ def work_is_kept(use: Use, setup: bytes, forecast: bytes) -> None:
     use.expect("another example is open", use.state()["setup"] == (TOP / "examples/tight/setup.toml").read_bytes())
     rows = use.do(KEPT)
     cards = use.do("return [...document.querySelectorAll('#cards .card')].map(it => it.dataset.example);")
-    use.expect("three examples on the start screen", cards == ["two_passes", "mission", "in_order"], cards)
+    use.expect("examples on the start screen", cards == ["mars_week", "two_passes", "mission", "in_order"], cards)
     loss = text("check", setup, typed, text("plan", setup, typed)).decode().split()[1]
     use.expect("the list has what was typed, with its loss",
         [name for name, lost in rows if lost.replace(",", "") == loss] == ["mission"], rows, loss)
@@ -295,7 +296,12 @@ def files(use: Use) -> None:
     start(use)
     setup, forecast = (FOLDER / "setup.toml").read_bytes(), (FOLDER / "forecast.csv").read_bytes()
     mission = (TOP / "examples" / "mars_week" / "mission.toml").read_bytes()
+    table = text("table", setup, forecast, text("plan", setup, forecast))
     for name, octets, said in (
+        ("table.csv", table, "table.csv: nothing that this page opens"),
+        ("empty.toml", b"\n", "empty.toml: nothing that this page opens"),
+        ("setup.toml", b"", "setup.toml: nothing that this page opens"),
+        ("pyproject.toml", b"[project]\nname = 'x'\n", "pyproject.toml: nothing that this page opens"),
         ("picture.png", b"\x89PNG\r\n\x1a\n" + bytes(200), "picture.png: nothing that this page opens. Opened are"),
         ("notes.txt", b"some words\n", "notes.txt: nothing that this page opens"),
         ("mission.toml", mission,
@@ -306,6 +312,13 @@ def files(use: Use) -> None:
         note = use.do("return at('note').textContent;")
         use.expect(f"{name}: said", note.startswith(said), note)
         use.planned(f"{name}: nothing is replaced", setup, forecast)
+    for names in (("one.toml", "two.toml"), ("a.csv", "b.csv"), ("saved.json", "setup.toml")):
+        octets = {"toml": setup, "csv": forecast, "json": b"{}"}
+        use.drop(*((name, octets[name.split(".")[1]]) for name in names))
+        note = use.do("return at('note').textContent;")
+        use.expect(f"{names}: said", note == f"Nothing is opened: {' and '.join(names)} do not go together. Open one "
+            "of them.", note)
+        use.planned(f"{names}: nothing is replaced", setup, forecast)
     use.do("const { taken } = rudlayog.state, data = new DataTransfer(), file = new File([], 'folder'); "
         "Object.defineProperty(file, 'arrayBuffer', { value: () => Promise.reject(new Error('a folder')) }); "
         "data.items.add(file);"
@@ -339,8 +352,360 @@ def keys(use: Use, setup: bytes, forecast: bytes) -> None:
            "localStorage.setItem(`more ${size} ${nth}`, 'x'.repeat(size)); } catch {}")
     use.type("91 1", "4")
     told = use.do("await settle(); await wait(700); return at('kept-note').textContent;")
-    use.expect("no room is told", told.startswith("This browser keeps nothing of this session"), told)
+    use.expect("no room is told", told == "This browser has no room for what was changed last, "
+        "and does not keep it: save all in one file.", told)
     use.do("localStorage.clear();")
+
+
+SPAN = "begin = 2031-03-03T00:00:00Z\nend = 2031-03-03T12:00:00Z\n"
+STATION_H = '[[station]]\nname = "H"\nrate = "2 kbit/s"\nchannels = { 1 = "0.5 kbit/s" }\n'
+LIMITED = (
+    f'name = "limited"\n{SPAN}overlap = "better"\n'
+    + "".join(f'[[store]]\nid = "{id}"\nsize = "400 blocks"\nchannel = {nth}\n' for nth, id in enumerate("AB"))
+    + f'[[station]]\nname = "G"\nrate = "2 kbit/s"\n{STATION_H}'
+    + "".join(f'[[pass]]\nstation = "{name}"\nbegin = 2031-03-03T{hour}:00:00Z\nend = 2031-03-03T{hour}:40:00Z\n'
+    for name, hour in (("G", "02"), ("H", "06"), ("G", "09")))
+    + "".join(f'[[observation]]\nstore = "{id}"\nrate = "300 bit/s"\n{SPAN}' for id in "AB")
+).encode()
+CANCEL = "document.querySelector('[data-act=\"cancel NTH\"]').click(); await wait(60); await settle();"
+
+
+def cancel(use: Use, nth: int) -> None:
+    use.do(CANCEL.replace("NTH", str(nth)))
+
+
+def limited(use: Use) -> tuple[bytes, bytes]:
+    """A page with a mission in which one pass has a limit on a channel: its setup and its forecast."""
+    start(use)
+    use.drop(("mission.toml", LIMITED))
+    said = use.state()
+    return said["setup"], said["forecast"]
+
+
+def limits_follow(use: Use) -> None:
+    """The limit of a channel goes with the last pass that has one, and comes with the first; what was typed stays."""
+    files = {"mission.toml": LIMITED}
+    setup, forecast = limited(use)
+    use.expect("a limit by step", b",limit:1\n" in forecast, forecast[:60])
+    cancel(use, 1)
+    without = missions.forecast_without(files, "H 1")
+    use.expect("no limit is left", b"limit" not in without, without[:60])
+    use.planned("the last pass with a limit is cancelled", setup, without)
+    add(use, station="H", rate="", **{"from": "2031-03-03 06:00", "to": "2031-03-03 06:40"})
+    use.planned("a pass with a limit again", setup, forecast)
+    step = next(nth for nth, line in enumerate(forecast.decode().split("\n")[1:], 1) if not line.endswith(",0"))
+    use.do("press('in-units');")
+    use.type(f"{step} 4", "7")
+    use.do("await settle();")
+    cancel(use, 1)
+    use.expect("a limit that was typed stays", use.state()["forecast"].decode().split("\n")[step].endswith(",7"),
+        use.state()["forecast"][:300])
+
+
+STEPS = "const { forecast, edges } = rudlayog.state; return [new TextDecoder().decode(forecast), edges];"
+
+
+def typed_stays(use: Use) -> None:
+    """What was typed in a step of a mission stays at its time, whatever becomes of the passes; and so it does after the
+    rest is planned from a step on."""
+    limited(use)
+    use.do("press('in-units');")
+    before, edges = use.do(STEPS)
+    place = next(nth for nth, line in enumerate(before.split("\n")[1:]) if line.startswith("3,"))
+    use.type("3 1", "77")
+    use.type("3 2", "x")
+    use.do("await settle();")
+    for nth in (2, 0):
+        use.do(f"document.querySelector('[data-act=\"cancel {nth}\"]').click(); await wait(60); await settle();")
+    forecast, now = use.do(STEPS)
+    step = now.index(edges[place])
+    use.expect("a typed step has its time", now[step + 1] == edges[place + 1] and len(now) < len(edges), now, edges)
+    use.expect("a typed step has what was typed", forecast.split("\n")[step + 1].split(",")[1:3] == ["77", "x"],
+        forecast[:300])
+    limited(use)
+    use.do("press('in-units'); at('step').value = '3'; press('rest'); await wait(60); await settle();")
+    rest = use.state()["forecast"]
+    last = use.do("return rudlayog.state.passes.length - 1;")
+    use.do(f"document.querySelector('[data-act=\"cancel {last}\"]').click(); await wait(60); await settle();")
+    use.expect("the rest without its last pass", use.state()["forecast"] != rest)
+    add(use, station="G", rate="", **{"from": "2031-03-03 09:00", "to": "2031-03-03 09:40"})
+    use.expect("the rest with it again", use.state()["forecast"] == rest, use.state()["forecast"][:300], rest[:300])
+    # A text with a step less is no more of the mission's steps, and stays as it is.
+    use.do("at('texts-box').open = true; await wait(60); const it = at('forecast'); type(it, "
+        "`${it.value.trim().split('\\n').slice(0, -1).join('\\n')}\\n`); at('texts-box').open = false; await settle();")
+    shorter = use.state()["forecast"]
+    cancel(use, 0)
+    use.expect("a text with other steps stays", use.state()["forecast"] == shorter != rest)
+
+
+def texts_are_there(use: Use, setup: bytes, forecast: bytes) -> None:
+    """The texts and the plan are there as soon as they are opened, and so a key in them changes them alone."""
+    start(use)
+    texts = use.do("for (const id of ['texts-box', 'plan-box']) at(id).open = true; for (let turn = 0; turn < 300 "
+        "&& !at('plan').textContent; turn++) await wait(10); return ['setup', 'forecast'].map(id => "
+        "at(id).value).concat(at('plan').textContent);")
+    wanted = [it.decode() for it in (setup, forecast, text("plan", setup, forecast))]
+    use.expect("the texts are there", texts == wanted, [it[:40] for it in texts])
+    use.do("type(at('setup'), `${at('setup').value}# more\\n`); await settle();")
+    use.planned("a key in the setup", setup + b"# more\n", forecast)
+    use.do("for (const id of ['texts-box', 'plan-box']) at(id).open = false; await settle();")
+
+
+NAMES = (
+    "return Object.keys(localStorage).filter(it => it.startsWith('rudlayog session')).map(it => "
+    "JSON.parse(localStorage[it]).title);"
+)
+
+
+def kept_stay(use: Use, setup: bytes, forecast: bytes) -> None:
+    """No kept session makes way for another: where there is no room, it is said, and asked what to forget."""
+    start(use)
+    for name in ("tight", "two_passes", "first_run"):
+        use.type("1 1", "3")
+        use.do("await settle(); await wait(400);")
+        use.do(OPEN.replace("NAME", json.dumps(name)) + f"await wait(60); answer('{GO_ON}'); await wait(60); "
+            "await settle();")
+    use.type("1 1", "3")
+    use.do("await settle(); await wait(400);")
+    titles = {"mission", "tight", "two passes", "first run"}
+    use.expect("four sessions are kept", set(use.do(NAMES)) == titles, use.do(NAMES))
+    use.drop(("setup.toml", setup + b"# long\n" * (12 << 20 >> 3)), ("forecast.csv", forecast))
+    use.do("await settle(); await wait(600);")
+    told = use.do("return [at('kept-note').textContent, at('room').hidden];")
+    use.expect("a session of 12 MB: no room", told == ["This browser has no room for this session, and does not keep "
+        "it: save all in one file.", False], told)
+    use.expect("a session of 12 MB: all others stay", set(use.do(NAMES)) == titles, use.do(NAMES))
+    asked_for = use.do("press('room'); await wait(60); return [...document.querySelectorAll('#question[open] "
+        "button')].map(it => it.textContent);")
+    use.expect("what to forget is asked", len(asked_for) == 5 and asked_for[-1] == "Forget none"
+        and all(it.endswith("which is in no file") for it in asked_for[:-1]), asked_for)
+    use.do("answer('Forget none'); await wait(60);")
+    use.expect("none is forgotten", len(use.do(NAMES)) == 4, use.do(NAMES))
+    use.do("press('room'); await wait(60); [...document.querySelectorAll('#question[open] button')].find(it => "
+        "it.textContent.startsWith('Forget tight')).click(); await wait(60);")
+    use.expect("one is forgotten", set(use.do(NAMES)) == titles - {"tight"}, use.do(NAMES))
+    use.do(f"press('close'); await wait(60); answer('{GO_ON}'); await wait(200); document.querySelector("
+        "'[data-act^=kept-forget]').click(); await wait(60);")
+    words = use.do("return at('question-words').textContent;")
+    use.expect("Forget asks", words.startswith("Forget first run? It is in no file"), words)
+    use.do("answer('Keep it'); await wait(60);")
+    use.expect("it is kept", len(use.do(NAMES)) == 3, use.do(NAMES))
+    use.do("document.querySelector('[data-act^=kept-forget]').click(); await wait(60); answer('Forget it'); "
+        "await wait(60);")
+    use.expect("it is forgotten", len(use.do(NAMES)) == 2, use.do(NAMES))
+
+
+def more_than_fits(use: Use) -> None:
+    """A session that grows until there is no room for it removes no other one."""
+    start(use)
+    use.type("1 1", "3")
+    use.do("await settle(); await wait(400);")
+    use.do(OPEN.replace("NAME", "'tight'") + f"await wait(60); answer('{GO_ON}'); await wait(60); await settle();")
+    use.do("let size = 1 << 20; for (let nth = 0; size > 32768; nth++) try { localStorage.setItem(`junk ${nth}`, "
+        "'x'.repeat(size)); } catch { size >>= 1; }")
+    for nth in range(6):
+        use.type("1 1", str(nth))
+        use.do("press('keep'); await wait(60); await settle();")
+    use.do("await wait(500);")
+    use.expect("variants that grow: it is told", use.do("return at('kept-note').textContent;").startswith(
+        "This browser has no room for what was changed last"), use.do("return at('kept-note').textContent;"))
+    use.expect("variants that grow: the other stays", "mission" in use.do(NAMES), use.do(NAMES))
+    use.do("localStorage.clear();")
+
+
+ROW = "return [...at('passes').tBodies[0].rows[NTH].cells].slice(2, 5).map(it => it.firstElementChild.value);"
+# What is typed key by key, by what stands in the cell.
+SLOWLY = (
+    "const it = cell(CELL); it.focus(); it.value = ''; for (const key of TEXT) { it.value += key; "
+    "it.dispatchEvent(new Event('input', { bubbles: true })); await wait(25); }"
+)
+
+
+def slowly(use: Use, cell: str, text: str) -> None:
+    use.do(SLOWLY.replace("CELL", json.dumps(cell)).replace("TEXT", json.dumps(text)) + "await settle();")
+
+
+def timed(use: Use) -> None:
+    """A page with three passes with times, of Redu, Kiruna and Weilheim."""
+    start(use, "two_passes")
+    use.type("5 1", "0")
+    clock(use, "2026-11-27 06:00")
+    for nth, station in enumerate(("Redu", "Kiruna", "Weilheim")):
+        add(use, station=station, **{"from": f"2026-11-27 1{nth}:00", "to": f"2026-11-27 1{nth}:30"})
+
+
+def rows_stay(use: Use) -> None:
+    """Passes are sorted once their row is left, and the focus stays with its pass."""
+    timed(use)
+    names = "return rudlayog.state.passes.filter(it => it.from !== null).map(it => it.station);"
+    use.expect("three passes", use.do(names) == ["Redu", "Kiruna", "Weilheim"], use.do(names))
+    nth = use.do("return rudlayog.state.passes.findIndex(it => it.station === 'Redu');")
+    row = ROW.replace("NTH", str(nth))
+    slowly(use, f"pass {nth} from", "2026-11-27 18:00")
+    use.expect("a begin after the end stays in its row", use.do(row)[2] == "Redu" and use.do(row)[0].endswith("18:00"),
+        use.do(row))
+    slowly(use, f"pass {nth} to", "2026-11-27 18:30")
+    use.expect("the end is of the same pass", use.do(row) == ["2026-11-27 18:00", "2026-11-27 18:30", "Redu"],
+        use.do(row))
+    use.expect("nothing is wrong with it", use.do("return at('passes-fault').textContent;") == "")
+    at_kiruna = use.do(f"cell('pass {nth + 1} to').focus(); await wait(80); await settle(); const it = "
+        "document.activeElement; return [it.dataset.cell, it.value];")
+    use.expect("the focus goes with its pass", at_kiruna == [f"pass {nth} to", "2026-11-27 11:30"], at_kiruna)
+    use.expect("sorted once it is left", use.do(names) == ["Kiruna", "Weilheim", "Redu"], use.do(names))
+    times = use.do("return rudlayog.state.passes.map(it => [it.station, it.from]).filter(it => it[1] !== null);")
+    use.expect("each has its own begin", [it[1] // 3_600_000_000 % 24 for it in times] == [11, 12, 18], times)
+    # What is pressed is done before the rows are sorted.
+    first = use.do("return rudlayog.state.passes.findIndex(it => it.station === 'Kiruna');")
+    slowly(use, f"pass {first} to", "2026-11-27 20:30")
+    slowly(use, f"pass {first} from", "2026-11-27 20:00")
+    use.do(f"const it = document.querySelector('[data-act=\"cancel {first + 1}\"]'), tell = name => "
+        "it.dispatchEvent(new PointerEvent(name, { bubbles: true })); tell('pointerdown'); it.focus(); await wait(60); tell('pointerup'); "
+        "it.click(); await wait(80); await settle();")
+    use.expect("what was pressed is cancelled", use.do(names) == ["Redu", "Kiruna"], use.do(names))
+
+
+KEY = (
+    "const it = document.activeElement; it.dispatchEvent(new KeyboardEvent('keydown', { key: 'NAME', ctrlKey: CTRL, "
+    "bubbles: true, cancelable: true })); await wait(60); await settle(); return document.activeElement.value;"
+)
+ESCAPE, UNDO = KEY.replace("NAME", "Escape").replace("CTRL", "false"), KEY.replace("NAME", "z").replace("CTRL", "true")
+
+
+def taken_back(use: Use) -> None:
+    """Escape and Ctrl+Z take back what was typed in each cell, also where it is shown in another form."""
+    timed(use)
+    use.do("press('keep'); await wait(60); press('in-units'); await settle(); at('texts-box').open = true; await "
+        "wait(60);")
+    for name, typed in (("at('begins')", "2026-11-27 07:00"), ("at('minutes')", "90"), ("at('name')", "another name"),
+        ("cell('variant 0')", "wider"), ("cell('store 0 size')", "7.5"), ("cell('3 1')", "2.25"),
+        ("cell('1 2')", "1,5"), ("at('packet')", "5000"), ("cell('pass 1 from')", "2026-11-27 25:00"),
+        ("cell('pass 1 rate')", "900")):
+        for key, press in (("Escape", ESCAPE), ("Ctrl+Z", UNDO)):
+            if key == "Ctrl+Z" and name in ("at('name')", "at('packet')"):
+                continue
+            before = use.do(f"const it = {name}; it.focus(); return it.value;")
+            use.do(f"type({name}, {json.dumps(typed)}); await wait(60); await settle();")
+            use.expect(f"{typed} in {name} stays as it is typed", use.do(f"return {name}.value;") == typed,
+                use.do(f"return {name}.value;"))
+            after = use.do(press)
+            use.expect(f"{key} after {typed} in {name}", after == before, before, after)
+            bad = use.do(f"return {name}.getAttribute('aria-invalid');")
+            use.expect(f"{key} after {typed} in {name}: no mark", bad is None, bad)
+    use.do("at('texts-box').open = false;")
+
+
+def undone_elsewhere(use: Use) -> None:
+    """A change that is undone while another pass has the focus leaves that pass as it is."""
+    timed(use)
+    add(use, station="Redu", **{"from": "2026-11-27 20:00", "to": "2026-11-27 20:30"})
+    value = use.do("const it = [...document.querySelectorAll('#passes input.time')].find(it => "
+        "it.value.endsWith('11:00')); it.focus(); return it.value;")
+    after = use.do(UNDO)
+    use.expect("a begin after an undo", after == value == "2026-11-27 11:00", value, after)
+
+
+PRINTS = "let count = 0; window.print = () => { count++; }; press('print'); await wait(300); await settle(); "
+
+
+def printed_as_shown(use: Use, setup: bytes, forecast: bytes) -> None:
+    """Nothing is printed of a plan that is not the one of what is shown."""
+    start(use)
+    use.do("await settle(); await wait(1200);")
+    sheet = "return at('sheet').textContent;"
+    use.expect("a sheet is laid", "26,260 blocks are lost" in use.do(sheet))
+    now = use.do("type(cell('90 1'), '0'); " + sheet)
+    use.expect("right after a change it is not there", "lost" not in now and "is not laid out" in now, now[:80])
+    lost = text("check", setup, with_cell(forecast, 90, 2, "0"), text("plan", setup, with_cell(forecast, 90, 2, "0")))
+    use.do("await settle(); await wait(1200);")
+    use.expect("then it is that of the change", lost.decode().strip() in use.do(sheet))
+    use.type("90 1", "1x")
+    use.do("await settle();")
+    note = use.do("press('print'); await wait(300); return [at('note').textContent, at('sheet').textContent, "
+        "document.activeElement.dataset.cell];")
+    use.expect("a cell that cannot be read: nothing is printed", note[0] == "Nothing is printed: Window of step 90 "
+        "cannot be read." and "lost" not in note[1] and note[2] == "90 1", note)
+
+
+def numbers_of_planners(use: Use) -> None:
+    """A decimal comma is no separator of thousands, and a window that is too large is not cut."""
+    start(use)
+    setup = use.state()["setup"]
+    use.do("press('in-units'); await settle();")
+    for cell, typed in (("store 4 size", "1,5"), ("90 1", "1,5"), ("90 1", "1,50"), ("90 1", "12,34,567")):
+        was = use.do(f"return cell({json.dumps(cell)}).value;")
+        use.type(cell, typed)
+        said = use.state()
+        use.expect(f"{typed} in {cell} is refused", said["line"].startswith("refused ") and said["bad"] == [cell],
+            said["line"], said["bad"])
+        use.type(cell, was)
+    use.type("store 4 size", "1,200")
+    use.do("await settle();")
+    use.expect("1,200 MB", b"size = %d\n" % (1_200_000_000 // 1024) in use.state()["setup"])
+    start(use)
+    clock(use, "2026-11-27 06:00")
+    note, fault = add(use, station="Redu", rate="900000", **{"from": "2026-11-27 08:00", "to": "2026-11-27 09:00"})
+    use.expect("a window of 900,000", fault == "", fault)
+    note, fault = add(use, station="Kiruna", rate="900000", **{"from": "2026-11-27 08:00", "to": "2026-11-27 09:00"})
+    use.expect("one of 1,800,000", fault == "Step 3 would have a window of 1,800,000 blocks: 1,000,000 at most.", fault)
+    nth = use.do("return rudlayog.state.passes.findIndex(it => it.station === 'Redu');")
+    use.type(f"pass {nth} rate", "1500000 blocks/h")
+    said = use.state()
+    use.expect("a pass of 1,500,000", said["line"] == "refused 33 Limit name window" and said["bad"] == ["3 1"],
+        said["line"], said["bad"])
+
+
+def stations_of_missions(use: Use) -> None:
+    """A pass of a mission has one of its stations, which has one pass at a time; a name is typed with its spaces."""
+    timed(use)
+    slowly(use, "pass 0 station", "New Norcia")
+    use.expect("New Norcia", use.do("return [cell('pass 0 station').value, rudlayog.state.passes[0].station];") == [
+        "New Norcia"] * 2, use.do("return cell('pass 0 station').value;"))
+    note, fault = add(use, station="Kiruna", **{"from": "2026-11-27 11:20", "to": "2026-11-27 11:50"})
+    use.expect("one station at once", fault == "Kiruna has a pass from 2026-11-27 11:00 to 2026-11-27 11:30: a station "
+        "has one at a time.", fault)
+    setup, forecast = limited(use)
+    slowly(use, "pass 1 station", "Kourou")
+    said = use.do("return [cell('pass 1 station').value, cell('pass 1 station').getAttribute('aria-invalid'), "
+        "at('passes-fault').textContent];")
+    use.expect("an unknown station", said == ["Kourou", "true",
+        "Pass 2: The mission has the stations G, H. The plan has it as it was before."], said)
+    use.planned("an unknown station: the plan stays", setup, forecast)
+    cancel(use, 0)
+    use.expect("Cancel after it", use.state()["forecast"] == missions.forecast_without({"mission.toml": LIMITED},
+        "G 1"), use.state()["forecast"])
+    start(use)
+    limited(use)
+    slowly(use, "pass 1 station", "G")
+    other = LIMITED.replace(b'[[pass]]\nstation = "H"', b'[[pass]]\nstation = "G"')
+    made = missions.said_by_package({"mission.toml": other})
+    use.planned("another station: its rate and limits", setup, str(made["forecast"]).encode())
+    limited(use)
+    add(use, station="H", rate="", **{"from": "2031-03-03 02:20", "to": "2031-03-03 03:00"})
+    remarks = [row[11] for row in use.do(ROWS)][:2]
+    use.expect("the better pass", all("only the one that sends more counts" in it for it in remarks), remarks)
+    note, fault = add(use, station="H", rate="", **{"from": "2031-03-03 02:40", "to": "2031-03-03 03:10"})
+    use.expect("one station at once in a mission", "H has a pass from 2031-03-03 02:20" in fault, fault)
+
+
+def many_passes(use: Use) -> None:
+    """A session of 2,000 passes is answered."""
+    header = "step,window,A\n" + "".join(f"{step},100,9\n" for step in range(1, 201))
+    hour = [f"2026-11-{1 + nth // 240:02}T{nth // 10 % 24:02}" for nth in range(2000)]
+    passes = [{"station": f"S{nth % 9}", "from": f"{hour[nth]}:{nth % 10 * 6:02}:00Z",
+        "to": f"{hour[nth]}:{nth % 10 * 6 + 4:02}:00Z", "rate": "100 blocks/h", "windows": [[nth // 10 + 1, 10]]}
+        for nth in range(2000)]
+    session = {"rudlayog": 1, "setup": '[[store]]\nid = "A"\nsize = 4\ntype = "bounded"\nchannel = 0\n',
+        "forecast": header, "begins": "2026-11-01 00:00", "passes": passes}
+    start(use)
+    began = time.monotonic()
+    use.drop(("many.json", json.dumps(session).encode()))
+    use.do("await settle();")
+    took = time.monotonic() - began
+    use.expect("2,000 passes are answered", use.state()["line"].startswith("least ") and took < 60, took)
+    use.do("rudlayog.longest = 0; type(cell('1 2'), '8'); await settle();")
+    pause = use.do("return rudlayog.longest;")
+    print(f"page: {use.browser.name}, 2,000 passes are answered after {took:.1f} s; a key takes {pause:.0f} ms",
+        flush=True)
 
 
 def seen(browser: Browser, page: str) -> tuple[int, list[str]]:
@@ -356,5 +721,17 @@ def seen(browser: Browser, page: str) -> tuple[int, list[str]]:
     numbers(use)
     files(use)
     keys(use, setup, forecast)
+    limits_follow(use)
+    typed_stays(use)
+    texts_are_there(use, setup, forecast)
+    kept_stay(use, setup, forecast)
+    more_than_fits(use)
+    rows_stay(use)
+    taken_back(use)
+    undone_elsewhere(use)
+    printed_as_shown(use, setup, forecast)
+    numbers_of_planners(use)
+    stations_of_missions(use)
+    many_passes(use)
     long_texts(use)
     return use.count, use.found

@@ -82,8 +82,6 @@ def mission_files(number: int) -> Files:
         top += f"overlap = {quoted(dice, dice.choice(['both', 'better']))}\n"
     if dice.random() < 0.1:
         top += f"unit = {dice.choice([0, 1, 3, 10])}\n"
-    if dice.random() < 0.1:
-        top += "moments = [" + ", ".join(f'"{moment(dice, dice.uniform(-60, hours * 60))}"' for _ in range(9)) + "]\n"
     stores = [f"S{place}" for place in range(dice.randint(1, 5))]
     stations = [f"G{place}" for place in range(dice.randint(1, 3))]
     below = ""
@@ -193,9 +191,9 @@ def slip(dice: random.Random, files: Files) -> None:
 @cache
 def package() -> Any:
     """The modules of the package, whose library is built by then."""
-    from rudlayog import _timeline, mission
+    from rudlayog import mission, variants
 
-    return SimpleNamespace(mission=mission, timeline=_timeline)
+    return SimpleNamespace(mission=mission, variants=variants)
 
 
 # A mission is read in a folder of its own, which is one at a time for all browsers.
@@ -219,22 +217,15 @@ def read(files: Files) -> Any:
 
 
 def forecast_without(files: Files, name: str) -> bytes:
-    """The forecast without a pass, in the same steps."""
-    mission = read(files)
-    return in_steps_of(mission, mission.without(name))
-
-
-def in_steps_of(mission: Any, other: Any) -> bytes:
-    """The forecast of a mission in the steps and the unit of another."""
-    problem = mission.problem()
-    return bytes(package().timeline.problem_with(other, problem.edges, problem.unit).forecast)
+    """The forecast without a pass, in the same unit."""
+    return bytes(package().variants.in_its_unit(read(files)).without(name).problem().forecast)
 
 
 def forecast_with(files: Files, station: str, begin: str, end: str) -> str:
-    """The forecast with a pass more, in the same steps."""
-    mission = read(files)
+    """The forecast with a pass more, in the same unit."""
+    mission = package().variants.in_its_unit(read(files))
     more = replace(mission, passes=(*mission.passes, package().mission.Pass(station, begin, end, name="one more")))
-    return in_steps_of(mission, more).decode()
+    return bytes(more.problem().forecast).decode()
 
 
 def said_by_package(files: Files) -> dict[str, object]:

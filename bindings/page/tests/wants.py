@@ -5,7 +5,9 @@ from __future__ import annotations
 
 import base64
 import json
+import re
 import tempfile
+from bisect import bisect_right
 from collections.abc import Callable
 from pathlib import Path
 
@@ -33,10 +35,86 @@ def all_missions(use: Use, count: int) -> None:
         some = given[first : first + AT_ONCE]
         texts = json.dumps([{name: base64.b64encode(octets).decode() for name, octets in files.items()}
             for files in some])
-        made = json.loads(use.do(f"return JSON.stringify(await Promise.all({texts}.map(rudlayog.missionMade)));"))
+        made = json.loads(use.do(f"return JSON.stringify({texts}.map(rudlayog.missionMade));"))
         for number, (files, said) in enumerate(zip(some, made), first):
             wanted = missions.said_by_package(files)
             use.expect(f"mission {number}", said == wanted, str(said)[:300], str(wanted)[:300])
+
+
+# What is told where a part of the time is over.
+POINT = (
+    "const box = at('lanes'), lane = box.querySelector('.lane-box').getBoundingClientRect(); box.dispatchEvent(new "
+    "PointerEvent('pointermove', { clientX: lane.left + lane.width * PART, clientY: lane.top + 5, bubbles: true })); "
+    "return at('told').textContent;"
+)
+# A folder that is dropped, as browsers give its files.
+FOLDER_DROPPED = """
+const { taken } = rudlayog.state, files = FILES.map(([name, text]) => new File([Uint8Array.from(atob(text), it =>
+  it.charCodeAt(0))], name)), entries = files.map(it => ({ isFile: true, file: tell => tell(it) }));
+const folder = { isDirectory: true, createReader: () => ({ readEntries: tell => tell(entries.splice(0, 2)) }) };
+const event = new DragEvent('drop', { bubbles: true, cancelable: true });
+Object.defineProperty(event, 'dataTransfer', { value: { files: [], items: [{ webkitGetAsEntry: () => folder }] } });
+document.body.dispatchEvent(event);
+while (rudlayog.state.taken === taken) { answer('Go on without a file'); await wait(10); }
+"""
+
+
+def folder(use: Use) -> None:
+    """A folder is dropped whole: the mission in it with its lists, or a setup with a forecast; the rest is left."""
+    start(use)
+    files = week_files()
+    made = missions.said_by_package(files)
+    setup, forecast = str(made["setup"]).encode(), str(made["forecast"]).encode()
+    others = {"setup.toml": setup, "plan.txt": b"mmplan 1\n", "README.md": b"# x\n"}
+    given = [[name, base64.b64encode(octets).decode()] for name, octets in {**others, **files}.items()]
+    use.do(FOLDER_DROPPED.replace("FILES", json.dumps(given)))
+    use.planned("a mission's folder", setup, forecast)
+    start(use, "tight")
+    use.do("const it = at('example'); it.value = 'mars_week'; it.dispatchEvent(new Event('change', { bubbles: true })); "
+        "await wait(60); await settle();")
+    use.planned("a mission among the examples", setup, forecast)
+
+
+# All words of a part of the page, but for those that say what it is.
+WORDS = "return [...document.querySelectorAll('PARTS')].map(it => it.textContent).join(' ');"
+
+
+def one_unit(use: Use) -> None:
+    """A mission is shown in MB and kbit/s throughout: verdict, chart, passes, variants and what is printed."""
+    start(use, "mars_week")
+    said = use.state()
+    rows = records(said["table"])
+    lost = {id: sum(int(row[4]) for row in rows if row[2] == id) for id in {row[2] for row in rows}}
+    mega = f"{sum(lost.values()) / 1000:.2f} MB"
+    use.expect("MB in the verdict", said["said"].startswith(f"{mega} ({sum(lost.values()):,} blocks) are lost, and no "),
+        said["said"])
+    use.do("press('keep'); await wait(60); await settle(); document.querySelector('[data-act=\"cancel 1\"]').click(); "
+        "await wait(60); await settle(); await wait(1200);")
+    words = use.do(WORDS.replace("PARTS", "#lanes, #told, #passes, #variants, #variants-passes, #more, .overview, "
+        ".passes-page"))
+    use.expect("no blocks beside MB", "block" not in words.lower(), words)
+    lanes = use.do("return at('lanes').textContent;")
+    use.expect("MB in the chart", "in MB" in lanes and not re.search(r"\d{3},\d{3}", lanes), lanes)
+    later = use.state()
+    table = records(later["table"])
+    of_pass = sum(int(row[5]) for row in table if row[0] in {str(step) for step in steps_of(use, 0)})
+    cell = use.do("return at('passes').tBodies[0].rows[0].cells[7].textContent;")
+    use.expect("what a pass sends in MB", abs(float(cell.replace(",", "")) * 1000 - of_pass) < 6, cell, of_pass)
+    more = sum(int(row[4]) for row in table) - sum(lost.values())
+    use.expect("MB more than the reference", later["more"] == f"{shown_in_mb(more)} more than the reference, "
+        f"{sum(lost.values()) / 1000:.2f}", later["more"], more)
+    title = use.do("return [document.title, [...document.styleSheets[0].cssRules].filter(it => it.type === 6)"
+        ".map(it => it.cssText).join(' ')];")
+    use.expect("printed pages have the mission's name", title[0] == "Orbiter, week 10", title)
+
+
+def shown_in_mb(packets: int) -> str:
+    mega = packets / 1000
+    return f"{mega:,.3f}".rstrip("0").rstrip(".") if mega < 10 else f"{mega:,.2f}".rstrip("0").rstrip(".")
+
+
+def steps_of(use: Use, nth: int) -> list[int]:
+    return list(use.do(f"return rudlayog.state.passes[{nth}].windows.map(it => it[0]);"))
 
 
 def mission(use: Use) -> None:
@@ -55,6 +133,11 @@ def mission(use: Use) -> None:
         said["stores"][:2])
     names = use.do("return [...at('lanes').querySelectorAll('.lane-name b')].map(it => it.textContent);")
     use.expect("a mission: lanes of its stations", names[:3] == ["UTC", "New Norcia", "Malargue"], names)
+    edges = list(made["edges"])
+    for part in (0.003, 0.1, 0.37, 0.5, 0.92):
+        told = use.do(POINT.replace("PART", str(part)))
+        wanted = bisect_right(edges, edges[-1] * part)
+        use.expect(f"the chart is over the time: {part}", told.startswith(f"Step {wanted}, "), told, wanted)
     use.do("document.querySelector('[data-act=\"cancel 2\"]').click(); await wait(60); await settle();")
     use.planned("a mission without a pass", setup, missions.forecast_without(files, "New Norcia 2"))
     use.do("press('undo'); await settle();")
@@ -71,18 +154,29 @@ def mission(use: Use) -> None:
     use.expect("in blocks", use.do("return cell('store 1 size').value;") == str(250_000_000 // 1024))
 
 
+# Firefox takes the text of a made event by itself, and Chromium in a `clipboardData`.
+PASTE = (
+    "const it = cell(CELL), data = DATA, clipboardData = new DataTransfer(); it.focus(); "
+    "clipboardData.setData('text/plain', data); it.dispatchEvent(new ClipboardEvent('paste', "
+    "{ clipboardData, dataType: 'text/plain', data, bubbles: true, cancelable: true }));"
+)
+
+
 def pasted(use: Use, setup: bytes, forecast: bytes) -> None:
     start(use)
-    # Firefox takes the text of a made event by itself, and Chromium in a `clipboardData`.
-    use.do("const it = cell('90 1'), data = '1\\t2\\r\\n3\\t4\\r\\n', clipboardData = new DataTransfer(); it.focus(); "
-        "clipboardData.setData('text/plain', data); it.dispatchEvent(new ClipboardEvent('paste', "
-        "{ clipboardData, dataType: 'text/plain', data, bubbles: true, cancelable: true }));")
+    use.do(PASTE.replace("CELL", "'90 1'").replace("DATA", "'1\\t2\\r\\n3\\t4\\r\\n'"))
     wanted = forecast
     for step, column, value in ((90, 2, "1"), (90, 3, "2"), (91, 2, "3"), (91, 3, "4")):
         wanted = with_cell(wanted, step, column, value)
     use.planned("a range", setup, wanted)
     use.do("press('undo');")
     use.planned("a range undone at once", setup, forecast)
+    for cell, data in (("256 1", "1\\n2\\n"), ("90 11", "1\\t2\\t3\\n")):
+        use.do(PASTE.replace("CELL", json.dumps(cell)).replace("DATA", f"'{data}'"))
+        note = use.do("return at('note').textContent;")
+        use.expect(f"a range that is too large at {cell}", note.startswith("Nothing is pasted: the range is larger"),
+            note)
+        use.planned(f"nothing is pasted at {cell}", setup, forecast)
 
 
 def sent(use: Use, setup: bytes, forecast: bytes) -> None:
@@ -163,8 +257,8 @@ def chart(use: Use, setup: bytes, forecast: bytes) -> None:
         "true }));")
     use.expect("a step by the pointer", use.do("return at('told').textContent;").startswith("Step 100: "))
     use.do(LANES + "press2('+'); press2('+');")
-    view = use.do("return document.querySelector('.lane svg').getAttribute('viewBox').split(' ').map(Number);")
-    use.expect("zoom", view[2] == 64 and view[0] <= 99 <= view[0] + 64, view)
+    first, last = use.do("return at('lanes').dataset.steps.split(' ').map(Number);")
+    use.expect("zoom", 64 <= last - first + 1 <= 65 and first <= 99 <= last, first, last)
     axis = "return [...document.querySelectorAll('.lane.axis .lane-box span')].map(it => it.textContent);"
     use.expect("steps on the axis", all(it.isdigit() for it in use.do(axis)), use.do(axis))
     clock(use, "2026-11-27 06:00")
@@ -248,6 +342,31 @@ def readers(use: Use) -> None:
         "await settle(); return at('verdict').textContent;"))
 
 
+STORE_A = '[[store]]\nid = "A"\nsize = 4\ntype = "bounded"\nchannel = 0\n'
+STORE_B = '[[store]]\nid = "B"\nsize = 9\ntype = "circular"\nchannel = 1\n'
+
+
+def sizes_by_step(use: Use) -> None:
+    """Arrivals during dumps and sizes by step: they are shown, edited, refused, and moved with their stores."""
+    start(use)
+    top = 'arrivals = "during"\n\n'
+    setup = f"{top}{STORE_A}\n{STORE_B}".encode()
+    forecast = b"step,window,A,B,size:A,size:B\n1,0,3,5,4,9\n2,3,1,2,2,7\n"
+    use.drop(("setup.toml", setup), ("forecast.csv", forecast))
+    use.planned("sizes by step", setup, forecast)
+    shown = use.do("return [cell('2 5').value, cell('2 5').getAttribute('aria-label')];")
+    use.expect("a size by step is shown", shown == ["7", "Size of B in step 2"], shown)
+    use.type("2 4", "1000001")
+    said = use.state()
+    use.expect("a size that is too large", (said["line"], said["bad"]) == ("refused 33 Limit name size", ["2 4"]),
+        said["line"], said["bad"])
+    use.type("2 4", "0")
+    use.planned("another size in a step", setup, with_cell(forecast, 2, 5, "0"))
+    use.do("document.querySelector('[data-act=\"down 0\"]').click(); await settle();")
+    moved = b"step,window,B,A,size:B,size:A\n1,0,5,3,9,4\n2,3,2,1,7,0\n"
+    use.planned("stores with sizes moved", f"{top}{STORE_B}\n{STORE_A}".encode(), moved)
+
+
 # Whether the first column stays where the table is scrolled. It does so once the browser has told that it is.
 STAYS = """
 const box = at('grid-box'), left = () => at('grid').tBodies[0].rows[2].cells[0].getBoundingClientRect().left;
@@ -301,10 +420,13 @@ def wanted(browser: Browser, page: str, count: int = 200) -> tuple[int, list[str
     use = Use(browser, page)
     all_missions(use, count)
     mission(use)
+    folder(use)
+    one_unit(use)
     pasted(use, setup, forecast)
     sent(use, setup, forecast)
     variants(use, setup, forecast)
     chart(use, setup, forecast)
+    sizes_by_step(use)
     readers(use)
     return use.count, use.found
 

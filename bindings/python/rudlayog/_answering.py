@@ -3,29 +3,28 @@
 from __future__ import annotations
 
 import re
-from collections.abc import Callable, Iterator, Mapping, Sequence
+from bisect import bisect_right
+from collections.abc import Sequence
 from datetime import timedelta
-from itertools import accumulate
 from operator import sub
 from typing import Any, NamedTuple
 
 from . import _library
 from ._base import Base
-from ._any_steps import in_any_steps
-from ._data import LIMIT
-from ._edges import may_gain
+from ._data import LIMIT, SIZE
+from ._edges import edges_of
 from ._flown import InPackets, in_packets
+from ._flows import Unit, arrivals_of
 from ._found import Found
-from ._timeline import Problem, problem_of
+from ._timeline import DURING, Problem, problem_of, problem_with
 from .forecasts import Forecast
 from .mission import Mission
 from .plans import Plan, plan_octets
 from .refusals import Refusal
 from .setups import Setup
-from .variants import Variant, changed, split, texts_changed
+from .variants import Replaced, Variant, changed, split, texts_changed
 
 _LOSS = re.compile(rb"\nloss (\d+)\n")
-_STRETCH = re.compile(r"stretch (\S+) \d+ (\d+)\n")
 _DUMP = re.compile(rb"\ndump \d+ (.*)")
 _CERTIFICATE = re.compile(rb"\nloss (\d+)\n((?:[sc].*\n)*)bound (.*)\n")
 Dumps = tuple[tuple[int, ...], ...]
@@ -79,28 +78,17 @@ def _found(task: Task, variant: Variant) -> Found:
     if task.dumps is None and task.horizon is None and not task.ages and base.quick is not None:
         quick = base.quick.texts(variant.changes)
         if quick is not None:
-            texts = _Texts(quick.setup, quick.forecast, quick.row, base.quick.places)
-            found = _planned(task, texts, quick.stores, base.quick.edges)
-            if found is not None:
-                return found
+            return _least_found(task, quick.setup, quick.forecast, quick.stores)
     changes, functions = split(variant.changes)
     mission = changed(base.mission, changes)
     if task.horizon is not None:
         return _found_in_parts(task, mission, bool(functions))
-    # a plan that stays, and a function of texts, have the steps of the mission
+    if task.dumps is not None:
+        return _found_of_fixed(task, mission, functions)
     problem = problem_of(mission)
     setup, forecast = texts_changed(*problem, functions)
-    packets = tuple(problem.unit.packets.values())
-    if task.dumps is not None:
-        lost = _flown(setup, forecast, task.dumps, _steps_in(base.problem, problem))
-        by_store = tuple(units * each for units, each in zip(lost, packets))
-        return Found(sum(by_store), by_store)
-    if functions:
-        return _least_found(task, _Texts.of(setup, forecast), packets)
-    found = _planned(task, _Texts.of(setup, forecast), _stores_of(problem), problem.edges)
-    if found is None:
-        problem = problem_of(mission, split=True)
-        found = _least_found(task, _Texts.of(*problem), _stores_of(problem))
+    stores = tuple(problem.unit.packets.values()) if functions else _stores_of(problem)
+    found = _least_found(task, bytes(setup), bytes(forecast), stores)
     return found._replace(ages=_ages_of(task, problem)) if task.ages else found
 
 
@@ -117,7 +105,23 @@ def _found_of_texts(task: Task, setup: Setup, forecast: Forecast) -> Found:
     if task.dumps is not None:
         by_store = _flown(setup, forecast, task.dumps, range(len(task.dumps)))
         return Found(sum(by_store), by_store)
-    return _least_found(task, _Texts.of(setup, forecast), ())
+    return _least_found(task, bytes(setup), bytes(forecast), ())
+
+
+def _found_of_fixed(task: Task, mission: Mission, functions: tuple[Replaced, ...]) -> Found:
+    """What is found of the plan that stays: a step begins where one of the plan does, and where one of the mission's
+    own."""
+    base = task.base.problem
+    if (mission.begin, mission.end) != (base.mission.begin, base.mission.end):
+        raise ValueError("the variant begins or ends at another time than the plan")
+    if Unit.of(mission, base.unit.count) != base.unit:
+        raise ValueError("the variant has another unit than the plan")
+    edges = sorted({*base.edges, *edges_of(mission)})
+    setup, forecast = texts_changed(*problem_with(mission, edges, base.unit, arrivals_of(mission)), functions)
+    steps = [bisect_right(base.edges, edge) - 1 for edge in edges[:-1]]
+    lost = _flown(setup, forecast, task.dumps or (), steps)
+    by_store = tuple(units * each for units, each in zip(lost, base.unit.packets.values()))
+    return Found(sum(by_store), by_store)
 
 
 def _found_in_parts(task: Task, mission: Mission, has_functions: bool) -> Found:
@@ -139,109 +143,33 @@ def _ages_of(task: Task, problem: Problem) -> tuple[float, ...]:
     return tuple(MissionPlan.of_problem(problem, task.in_order).ages_in_line())
 
 
-class _Texts(NamedTuple):
-    """A setup and a forecast: their texts, the cells of a row, by its step, and the places of stores in them."""
-
-    setup: bytes
-    forecast: bytes
-    row: Callable[[int], Sequence[str]]
-    places: Mapping[str, int]
-
-    @classmethod
-    def of(cls, setup: Setup, forecast: Forecast) -> _Texts:
-        """Those of a setup and a forecast."""
-        columns = [forecast.windows, *forecast.arrivals.values()]
-        places = {store: place for place, store in enumerate(forecast.arrivals, 2)}
-        return cls(
-            bytes(setup), bytes(forecast), lambda step: ["", *(str(column[step - 1]) for column in columns)], places
-        )
-
-
-def _planned(
-    task: Task, texts: _Texts, stores: Sequence[int | InPackets], edges: Sequence[int]
-) -> Found | None:
-    """What is found of a plan of the kind that is asked for. None where much may be gained if the steps with these
-    edges are split."""
-    by_store, text = _plan_of(task, texts)
-    # steps are split by the cut of a plan that `problem_of` makes
-    shown = _shown(text)
-    ends = _Ends.of(_shown(_least(texts)[1]) if task.in_order else shown, texts)
-    if may_gain(edges, ends.stretches, ends.windows, ends.arrivals, ends.loss):
-        return None
-    return _told(task, by_store, text, shown, ends, stores)
-
-
-def _least_found(task: Task, texts: _Texts, stores: Sequence[int | InPackets]) -> Found:
-    """What is found of a plan of the kind that is asked for."""
-    by_store, text = _plan_of(task, texts)
-    shown = _shown(text)
-    return _told(task, by_store, text, shown, _Ends.of(shown, texts), stores)
-
-
-def _plan_of(task: Task, texts: _Texts) -> tuple[tuple[int, ...], bytes]:
-    """What each store loses in a plan of the kind that is asked for, and its text."""
-    return (_in_order if task.in_order else _least)(texts)
-
-
-class _Ends(NamedTuple):
-    """Where the stretches of a cut end: the stores and their steps, from 1, and the windows and the arrivals of these
-    steps, from 0; with the loss and the bound of the plan."""
-
-    stretches: list[tuple[str, int]]
-    windows: dict[int, int]
-    arrivals: dict[str, dict[int, int]]
-    loss: int
-    bound: int
-
-    @classmethod
-    def of(cls, told: Shown, texts: _Texts) -> _Ends:
-        """Those of a cut that a plan text has."""
-        loss, shown, bound = told
-        stretches = [(store, int(step)) for store, step in _STRETCH.findall(shown)]
-        windows: dict[int, int] = {}
-        arrivals: dict[str, dict[int, int]] = {}
-        for store, step in stretches:
-            cells = texts.row(step)
-            windows[step - 1] = int(cells[1])
-            arrivals.setdefault(store, {})[step - 1] = int(cells[texts.places[store]])
-        return cls(stretches, windows, arrivals, loss, bound)
-
-    def in_any_steps(self) -> int:
-        """The bound that holds for any steps."""
-        coming = [(step - 1, self.arrivals[store][step - 1]) for store, step in self.stretches]
-        return in_any_steps(self.bound, self.windows, coming)
-
-
-def _told(
-    task: Task, by_store: tuple[int, ...], text: bytes, told: Shown, ends: _Ends, stores: Sequence[int | InPackets]
-) -> Found:
-    """What is found of a plan. What it loses is counted in packets: of stores that are given as such, or of which a
-    unit has so many. Where these are so many of each store, there is a bound for any steps."""
-    loss, shown, bound = told
-    units = {each.packets if isinstance(each, InPackets) else each for each in stores}
-    least = ends.in_any_steps() * units.pop() if len(units) == 1 else None
+def _least_found(task: Task, setup: bytes, forecast: bytes, stores: Sequence[int | InPackets]) -> Found:
+    """What is found of a plan of the kind that is asked for. What it loses is counted in packets: of stores that are
+    given as such, or of which a unit has so many."""
+    by_store, text = (_in_order if task.in_order else _least)(setup, forecast)
+    loss, shown, bound = _shown(text)
     if any(each != 1 for each in stores):
         shown += f"bound {bound}\n"
         dumps = _dumps_in(text) if any(isinstance(each, InPackets) for each in stores) else []
         by_store = tuple(
-            sum(lost for _, lost, _, _ in each.steps(dumps[place])) if isinstance(each, InPackets) else lost_units * each
-            for place, (lost_units, each) in enumerate(zip(by_store, stores))
+            sum(lost for _, lost, _, _ in each.steps(dumps[place])) if isinstance(each, InPackets) else units * each
+            for place, (units, each) in enumerate(zip(by_store, stores))
         )
         bound, loss = sum(by_store) - (loss - bound), sum(by_store)
-    return Found(loss, by_store if task.by_store else (), bound, shown, in_any_steps=least)
+    return Found(loss, by_store if task.by_store else (), bound, shown)
 
 
-def _least(texts: _Texts) -> tuple[tuple[int, ...], bytes]:
+def _least(setup: bytes, forecast: bytes) -> tuple[tuple[int, ...], bytes]:
     """What each store loses in a least plan, and its text."""
     losses = _library.LossesTold()
-    text = _library.told(_library.rudlayog_plan_losses, texts=texts[:2], more=(losses,))
-    return tuple(losses.by_store[: len(texts.places)]), text
+    text = _library.told(_library.rudlayog_plan_losses, texts=(setup, forecast), more=(losses,))
+    return tuple(losses.by_store[: text.count(b" ", 9, text.index(b"\n", 9))]), text
 
 
-def _in_order(texts: _Texts) -> tuple[tuple[int, ...], bytes]:
+def _in_order(setup: bytes, forecast: bytes) -> tuple[tuple[int, ...], bytes]:
     """The same of a plan that serves the stores in order. What the first ones lose up to a store, less what they lose
     before it, is what it loses."""
-    text = _library.told(_library.rudlayog_plan_in_order, texts=texts[:2])
+    text = _library.told(_library.rudlayog_plan_in_order, texts=(setup, forecast))
     loss, *firsts = map(int, _LOSS.findall(text, text.index(b"\nloss ")))
     return tuple(map(sub, [*firsts, loss], [0, *firsts])), text
 
@@ -255,14 +183,6 @@ def _shown(text: bytes) -> Shown:
     """The loss, the lines of the cut, and the bound, which come after the dumps."""
     loss, cut, bound = _CERTIFICATE.search(text, text.index(b"\nloss ")).groups()  # type: ignore[union-attr]
     return int(loss), cut.decode("ascii"), int(bound)
-
-
-def _steps_in(base: Problem, problem: Problem) -> Iterator[int]:
-    """For each step of a problem the step of the base that it is in, from 0."""
-    if not set(base.edges) <= set(problem.edges) or base.unit != problem.unit:
-        raise ValueError("the variant has other steps or another unit than the plan")
-    inner = set(base.edges[1:])
-    return accumulate((edge in inner for edge in problem.edges[1:-1]), initial=0)
 
 
 def _flown(setup: Setup, forecast: Forecast, dumps: Dumps, steps: Any) -> tuple[int, ...]:
@@ -280,10 +200,14 @@ def _flown(setup: Setup, forecast: Forecast, dumps: Dumps, steps: Any) -> tuple[
         rooms = {channel: column[step] for channel, column in limits.items()}
         amounts = left[of_step]
         for place, store in enumerate(setup.stores):
-            came = held[place] + forecast.arrivals[store.id][step]
-            gone[place] += max(came - store.size, 0)
-            sent = min(came, store.size, amounts[place], window, rooms.get(store.channel, window))
-            held[place] = min(came, store.size) - sent
+            own = forecast.sizes.get(f"{SIZE}{store.id}")
+            size = min(store.size, own[step]) if own else store.size
+            there = held[place] + forecast.arrivals[store.id][step]
+            early = 0 if setup.arrivals == DURING else max(there - size, 0)
+            sent = min(there - early, amounts[place], window, rooms.get(store.channel, window))
+            lost = max(there - sent - size, early)
+            gone[place] += lost
+            held[place] = there - lost - sent
             amounts[place] -= sent
             window -= sent
             if store.channel in rooms:

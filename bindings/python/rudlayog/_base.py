@@ -1,38 +1,36 @@
-"""What a study begins with: a mission with its steps, or a setup and a forecast; and the texts of variants that differ
-from it in lost passes, in what arrives and in sizes. They are those of the problem of the changed mission, made of
-parts that are kept."""
+"""What a study begins with: a mission in its unit, or a setup and a forecast; and the texts of variants that differ from
+it in passes, in what arrives and in sizes. They are those of the problem of the changed mission, made of parts that are
+kept."""
 
 from __future__ import annotations
 
-import csv
-import io
 import re
-from bisect import bisect_left, bisect_right
-from collections.abc import Iterable, Sequence
+from collections.abc import Callable, Iterable, Iterator, Sequence
 from dataclasses import dataclass
 from functools import cached_property, lru_cache
-from itertools import chain
-from operator import itemgetter
+from itertools import chain, pairwise, repeat
+from operator import floordiv, mul, sub
 from typing import TYPE_CHECKING, Any, NamedTuple
 
 from ._brief import brief
 from ._data import LIMIT, STEP, WINDOW
+from ._edges import edges_in, moments_of
 from ._flown import InPackets
-from ._flows import arrivals_of, came, contacts_of, micro
-from ._parts import remade
-from ._timeline import MOST_BLOCKS, Problem
+from ._flows import Unit, contact_of, uses_of
+from ._timeline import MOST_BLOCKS, Problem, stored
 from ._units import MissionError, number_of
-from ._windows import Rooms, limited_in, rooms_of
+from ._windows import windows_of
 from .forecasts import Forecast
+from .plans import MOST_STEPS
 from .setups import Setup
-from .variants import FACTOR, Change, Lost, Scaled, Sized
+from .variants import FACTOR, Change, Lost, Rated, Scaled, Shortened, Sized, in_its_unit
 
 if TYPE_CHECKING:
     from .mission import Mission, Pass
 
 _SIZE = re.compile(rb"\nsize = \d+\n")
-# How many parts of texts are kept: of passes that overlap, of what arrives in all, and of what arrives in a store.
-ROOMS, ROWS, COLUMNS = 4096, 512, 64
+# How many parts of texts are kept: of passes, and of what arrives.
+KEPT, ROWS = 4096, 16
 # A number above another one.
 Factor = tuple[int, int]
 
@@ -44,7 +42,7 @@ def _product(one: Factor, other: Factor) -> Factor:
 @brief
 @dataclass(frozen=True)
 class Base:
-    """The setup and the forecast of a study, and the mission that they are of, with its steps, if there is one."""
+    """The setup and the forecast of a study, and the mission that they are of, in its unit, if there is one."""
 
     setup: Setup
     forecast: Forecast
@@ -53,8 +51,8 @@ class Base:
     @classmethod
     def of_mission(cls, mission: Mission) -> Base:
         """The base of a mission."""
-        kept = mission.kept
-        return cls(*kept.problem(), mission=kept)
+        counted = in_its_unit(mission)
+        return cls(*counted.problem(), mission=counted)
 
     @classmethod
     def in_parts(cls, mission: Mission) -> Base:
@@ -77,209 +75,206 @@ class Base:
         return Base, (self.setup, self.forecast, self.mission)
 
 
-class Group(NamedTuple):
-    """Passes that overlap one another, and the rows of their steps: of the first one, and of the one after the last."""
-
-    passes: tuple[Pass, ...]
-    first: int
-    last: int
-
-
 class QuickTexts(NamedTuple):
-    """The setup and the forecast of a variant, the begins of the rows of the forecast up to what arrives, and its
-    stores: in packets, or how many packets a unit of each has."""
+    """The setup and the forecast of a variant, and its stores: in packets, or how many packets a unit of each has."""
 
     setup: bytes
     forecast: bytes
-    begins: tuple[list[str], list[str]]
     stores: Sequence[int | InPackets]
 
-    def row(self, step: int) -> list[str]:
-        """The cells of a step up to what arrives, from 1."""
-        heads, rows = self.begins
-        return f"{heads[step - 1]}{rows[step - 1]}".split(",")
+
+class Room(NamedTuple):
+    """What passes can send in steps with these edges: of each step the cells before what arrives, but for the number of
+    the step, and those after it."""
+
+    edges: list[int]
+    heads: list[str]
+    tails: list[str]
+
+
+class Frame(NamedTuple):
+    """A forecast but for what arrives: the header, the edges of each step, and its cells before and after."""
+
+    header: str
+    steps: list[tuple[int, int]]
+    heads: list[str]
+    tails: list[str]
+
+
+class _OutOfRange(Exception):
+    """A number is greater than there may be, so that the variant has another unit or is refused."""
+
+
+class _Rows(dict[tuple[int, int], str]):
+    """What arrives in the stores in a step, by its edges, as the cells of a row: in units of so many packets, and this
+    many times as much."""
+
+    def __init__(self, quick: Quick, factors: Sequence[Factor], packets: Sequence[int]) -> None:
+        super().__init__()
+        self._until, self._form = quick.until, quick.row_form
+        self._parts = [
+            (times, -coming.below * each * parts)
+            for coming, each, (times, parts) in zip(quick.coming, packets, factors)
+        ]
+        # the units that have come until each edge, as negative numbers: one that has begun is whole
+        come = [
+            list(map(floordiv, map(mul, above, repeat(times)), repeat(below)))
+            for above, (times, below) in zip(quick.above, self._parts)
+        ]
+        self._come: dict[int, tuple[int, ...]] = dict(zip(quick.edges, zip(*come)))
+        arrivals = [list(map(sub, column, column[1:])) for column in come]
+        self.most = max(max(column) for column in arrivals)
+        rows = quick.rows_form % tuple(chain.from_iterable(zip(*arrivals)))
+        self.update(zip(pairwise(quick.edges), rows.split("\n")))
+
+    def _until_edge(self, edge: int) -> tuple[int, ...]:
+        if edge not in self._come:
+            above = self._until(edge)
+            self._come[edge] = tuple([each * times // below for each, (times, below) in zip(above, self._parts)])
+        return self._come[edge]
+
+    def arrivals(self, step: tuple[int, int]) -> tuple[int, ...]:
+        """What arrives in each store in a step."""
+        begin, end = step
+        return tuple(map(sub, self._until_edge(begin), self._until_edge(end)))
+
+    def __missing__(self, step: tuple[int, int]) -> str:
+        arrivals = self.arrivals(step)
+        if max(arrivals) > MOST_BLOCKS:
+            raise _OutOfRange
+        self[step] = row = self._form % arrivals
+        return row
 
 
 class Quick:
     """The texts of variants of a problem."""
 
     def __init__(self, problem: Problem) -> None:
-        mission, self.unit, self.edges = problem.mission, problem.unit, problem.edges
-        self.mission = mission
-        self.stores = {store.id: store for store in mission.stores}
-        self.coming = {store: came(flows, self.edges).coming() for store, flows in arrivals_of(mission).items()}
-        # the middles of the rows, with a place for each number that is not 0, and which one stands there
-        cells = [(step, place) for place, (steps, _) in enumerate(self.coming.values()) for step in steps]
-        order = sorted(range(len(cells)), key=cells.__getitem__)
-        self.order: Any = itemgetter(*order) if len(order) > 1 else tuple
-        is_cell = set(cells)
-        steps = range(len(self.edges) - 1)
-        row = [["%d" if (step, place) in is_cell else "0" for place in range(len(self.stores))] for step in steps]
-        self.rows = "\n".join("," + ",".join(each) for each in row)
-        self.groups = list(_groups(problem, self.edges))
-        self.group_of = {one.name: place for place, group in enumerate(self.groups) for one in group.passes}
-        self.with_rate = {
-            channel: {one.name for one in mission.passes if channel in mission.rates(one)[1]}
-            for channel in limited_in(mission)
-        }
+        self.mission, self.unit = problem.mission, problem.unit
+        self.stores = tuple(store.id for store in self.mission.stores)
         self.packets = tuple(self.unit.packets.values())
-        # the places of the stores in a row
-        self.places = {store: place for place, store in enumerate(self.stores, 2)}
-        self.is_plain = set(self.packets) == {1}
+        self.setup = problem.setup
         self.form = _SIZE.sub(b"\nsize = %d\n", bytes(problem.setup).replace(b"%", b"%%"))
-        self.sizes = [store.size for store in problem.setup.stores]
-        self.starts = [store.start for store in problem.setup.stores]
-        self.rooms = list(map(mission.size_of, mission.stores))
-        self._rooms = lru_cache(ROOMS)(self._rooms_of)
-        self._whole = lru_cache(ROOMS)(self._whole_of)
-        self._rows = lru_cache(ROWS)(self._rows_of)
-        self._column = lru_cache(COLUMNS)(self._column_of)
+        self.edges, self.moments = problem.edges, moments_of(self.mission)
+        self.coming = list(problem.arrivals.values())
+        self.until = lru_cache(None)(lambda edge: [coming.until(edge) for coming in self.coming])
+        self.above = list(zip(*map(self.until, self.edges)))
+        # the arrivals of a row, and of all rows
+        self.row_form = ",".join(["%d"] * len(self.stores))
+        self.rows_form = "\n".join([self.row_form] * len(problem))
+        # the channels of the mission's own passes, which are known by their places in memory
+        self.channels = {id(one): self._channels(one) for one in self.mission.passes}
+        self._kept: dict[tuple[Any, ...], Any] = {}
+        self._rows = lru_cache(ROWS)(lambda factors, packets: _Rows(self, factors, packets))
 
     def texts(self, changes: Sequence[Change]) -> QuickTexts | None:
-        """The setup and the forecast of the mission with these changes, and its stores. None where others than lost
-        passes, arrivals and sizes change, or where something is refused or out of range: the changed mission says what
-        that is."""
+        """The setup and the forecast of the mission with these changes, and its stores. None where others than passes,
+        arrivals and sizes change, or where something is refused or out of range: the changed mission says what that
+        is."""
         try:
             return self._texts(changes)
-        except MissionError:
+        except (MissionError, _OutOfRange):
             return None
 
     def _texts(self, changes: Sequence[Change]) -> QuickTexts | None:
-        gone: set[str] = set()
-        common: Factor = (1, 1)
+        made, common = self.mission, (1, 1)
         own: dict[str, Factor] = {}
+        is_sized = False
         for change in changes:
-            if isinstance(change, Lost):
-                gone.update(change.passes)
-            elif isinstance(change, Scaled):
+            if isinstance(change, Scaled):
                 factor = number_of(change.factor, "factor", FACTOR).as_integer_ratio()
                 for store in set(change.stores):
                     own[store] = _product(own.get(store, (1, 1)), factor)
                 common = common if change.stores else _product(common, factor)
-            elif not isinstance(change, Sized):
+            elif isinstance(change, (Lost, Shortened, Rated, Sized)):
+                made = change.of(made, self.mission)
+                is_sized |= isinstance(change, Sized)
+            else:
                 return None
-        sizes, rooms = list(self.sizes), list(self.rooms)
-        if (
-            not gone <= self.group_of.keys()
-            or not own.keys() <= self.stores.keys()
-            or not self._sized(sizes, rooms, changes)
-        ):
+        if not own.keys() <= set(self.stores):
             return None
         factors = tuple([_product(common, own[store]) if store in own else common for store in self.stores])
-        rows = self._rows(factors)
-        if rows is None:
-            return None
-        stores: Sequence[int | InPackets] = self.packets
-        if not self.is_plain:
-            stores = self._in_packets(rooms, factors)
-        middles = rows.split("\n")
-        header, heads, tails = self._parts(gone)
-        forecast = "".join([header, *chain.from_iterable(zip(heads, middles, tails))]).encode()
-        return QuickTexts(self.form % tuple(sizes), forecast, (heads, middles), stores)
+        frame, rows = self._frame(made.passes), self._rows(factors, self.packets)
+        if rows.most > MOST_BLOCKS:
+            raise _OutOfRange
+        lines = zip(frame.heads, map(rows.__getitem__, frame.steps), frame.tails)
+        forecast = "".join([frame.header, *chain.from_iterable(lines)]).encode()
+        setup = self._setup(made) if is_sized else bytes(self.setup)
+        if set(self.packets) == {1}:
+            return QuickTexts(setup, forecast, self.packets)
+        columns = zip(*map(self._rows(factors, (1,) * len(self.packets)).arrivals, frame.steps))
+        stores = [
+            InPackets(packets, made.size_of(store), made.held_in(store), column)
+            for packets, store, column in zip(self.packets, made.stores, columns)
+        ]
+        return QuickTexts(setup, forecast, stores)
 
-    def _in_packets(self, rooms: Sequence[int], factors: Sequence[Factor]) -> tuple[InPackets, ...]:
-        """The stores in packets, with these sizes, and what arrives this many times as much."""
-        found = []
-        for place, (name, store) in enumerate(self.stores.items()):
-            arrivals = [0] * (len(self.edges) - 1)
-            steps, each = self.coming[name]
-            for step, count in zip(steps, each.column(1, *factors[place])):
-                arrivals[step] = count
-            found.append(InPackets(self.packets[place], rooms[place], self.mission.held_in(store), arrivals))
-        return tuple(found)
+    def _setup(self, made: Mission) -> bytes:
+        """The setup of the mission with other sizes."""
+        if Unit.of(made, self.unit.count) != self.unit:
+            raise _OutOfRange
+        stores = [stored(made, store, self.unit) for store in made.stores]
+        if any(store.size > MOST_BLOCKS or store.start != own.start for store, own in zip(stores, self.setup.stores)):
+            raise _OutOfRange
+        return self.form % tuple([store.size for store in stores])
 
-    def _sized(self, sizes: list[int], rooms: list[int], changes: Iterable[Change]) -> bool:
-        """Puts in the sizes that are changed, in units and in packets, and says whether they are in range."""
-        volumes = {store: each.size for store, each in self.stores.items()}
-        for change in changes:
-            if not isinstance(change, Sized):
-                continue
-            if change.store not in volumes:
-                return False
-            volumes[change.store] = change.sized(volumes[change.store])
-            place = list(volumes).index(change.store)
-            room = int(volumes[change.store].blocks(self.mission.block))
-            sizes[place], rooms[place] = room // self.packets[place], room
-            held = self.mission.held_in(self.stores[change.store])
-            # what is held is not cut off at the size, in the problem or here
-            is_room = held <= room and self.starts[place] == -(-held // self.packets[place]) <= sizes[place]
-            is_unit = self.packets[place] == self.unit.packets_in(
-                self.mission.packet_of(self.stores[change.store]), room
-            )
-            if not is_room or not is_unit or not 1 <= sizes[place] <= MOST_BLOCKS:
-                return False
-        return True
+    def _frame(self, passes: Sequence[Pass]) -> Frame:
+        """The forecast of the mission with these passes, but for what arrives."""
+        frame: Frame = self._once(self._frame_of, passes)
+        return frame
 
-    def _parts(self, gone: set[str]) -> tuple[str, list[str], list[str]]:
-        """The header of a forecast without these passes, and the begins and the ends of its rows."""
-        limited = tuple([channel for channel, names in self.with_rate.items() if not names <= gone])
-        header, heads, tails = self._whole(limited)
-        if gone:
-            heads, tails = list(heads), list(tails)
-            for place in {self.group_of[name] for name in gone}:
-                group = self.groups[place]
-                left = tuple([one.name not in gone for one in group.passes])
-                heads[group.first : group.last], tails[group.first : group.last] = self._rooms(place, left, limited)
-        return header, heads, tails
+    def _once(self, make: Callable[..., Any], passes: Sequence[Pass], *more: Any) -> Any:
+        """What is made of some passes. It is kept where they are the mission's own: the same objects."""
+        own = tuple(map(id, passes))
+        found = self._kept.get((make, own, *more))
+        if found is None:
+            found = make(passes, *more)
+            if len(self._kept) < KEPT and self.channels.keys() >= set(own):
+                self._kept[make, own, *more] = found
+        return found
 
-    def _whole_of(self, limited: tuple[int, ...]) -> tuple[str, list[str], list[str]]:
-        """The header, and the begins and the ends of the rows, where no pass is lost and these channels have limits."""
-        line = io.StringIO()
-        csv.writer(line, lineterminator="\n").writerow(
-            [STEP, WINDOW, *self.stores, *(f"{LIMIT}{channel}" for channel in limited)]
-        )
-        count = len(self.edges) - 1
-        heads, tails = [f"{step},0" for step in range(1, count + 1)], [",0" * len(limited) + "\n"] * count
-        for place, group in enumerate(self.groups):
-            left = (True,) * len(group.passes)
-            heads[group.first : group.last], tails[group.first : group.last] = self._rooms(place, left, limited)
-        return line.getvalue(), heads, tails
+    def _frame_of(self, passes: Sequence[Pass]) -> Frame:
+        channels = [self.channels.get(id(one)) or self._channels(one) for one in passes]
+        limited = tuple(sorted(frozenset().union(*channels)))
+        edges, heads, tails = [0], [], []
+        nothing = ",0" * len(limited) + "\n"
+        rooms = [self._once(self._room_of, group, limited) for group in _overlapping(passes)]
+        for room in (*rooms, Room([self.edges[-1]], [], [])):
+            if edges[-1] < room.edges[0]:
+                edges.append(room.edges[0])
+                heads.append("0")
+                tails.append(nothing)
+            edges += room.edges[1:]
+            heads += room.heads
+            tails += room.tails
+        if len(heads) > MOST_STEPS:
+            raise _OutOfRange
+        header = ",".join([STEP, WINDOW, *self.stores, *(f"{LIMIT}{channel}" for channel in limited)])
+        numbered = [f"{step},{window}," for step, window in enumerate(heads, 1)]
+        return Frame(f"{header}\n", list(pairwise(edges)), numbered, tails)
 
-    def _rooms_of(self, place: int, left: tuple[bool, ...], limited: tuple[int, ...]) -> tuple[list[str], list[str]]:
-        """The begins and the ends of the rows of passes that overlap, of which these are left."""
-        group = self.groups[place]
-        passes = tuple(one for one, is_left in zip(group.passes, left) if is_left)
-        count = group.last - group.first
-        windows, limits = [0] * count, {channel: [0] * count for channel in limited}
-        if passes:
-            rooms = self._sent_by(passes, limited)
-            span = slice(rooms.first - group.first, rooms.first - group.first + len(rooms.windows))
-            windows[span] = rooms.windows
-            for channel in limited:
-                limits[channel][span] = rooms.limits[channel]
-        heads = [f"{step},{window}" for step, window in enumerate(windows, group.first + 1)]
-        return heads, ["".join([f",{column[step]}" for column in limits.values()]) + "\n" for step in range(count)]
+    def _channels(self, one: Pass) -> frozenset[int]:
+        """The channels that have a rate in a pass."""
+        return frozenset(self.mission.rates(one)[1])
 
-    def _sent_by(self, passes: tuple[Pass, ...], limited: tuple[int, ...]) -> Rooms:
-        return rooms_of(contacts_of(remade(self.mission, passes=passes), self.unit), self.edges, limited)
-
-    def _rows_of(self, factors: tuple[Factor, ...]) -> str | None:
-        """The middles of the rows, in lines: what arrives in the stores, this many times as much. None where it is out of
-        range."""
-        values: list[int] = []
-        for store, factor in zip(self.coming, factors):
-            column = self._column(store, factor)
-            if max(column, default=0) > MOST_BLOCKS:
-                return None
-            values += column
-        text: str = self.rows % self.order(values)
-        return text
-
-    def _column_of(self, store: str, factor: Factor) -> list[int]:
-        """What arrives in a store in the steps in which something does, this many times as much."""
-        return self.coming[store][1].column(self.unit.packets[store], *factor)
+    def _room_of(self, group: list[Pass], limited: tuple[int, ...]) -> Room:
+        """What passes that overlap one another can send."""
+        uses = uses_of(self.mission, group)
+        edges = sorted(edges_in(uses, self.moments))
+        windows, limits = windows_of([contact_of(use, self.unit) for use in uses], edges, limited)
+        if max(max(column) for column in (windows, *limits.values())) > MOST_BLOCKS:
+            raise _OutOfRange
+        tails = ["".join([f",{column[step]}" for column in limits.values()]) + "\n" for step in range(len(windows))]
+        return Room(edges, list(map(str, windows)), tails)
 
 
-
-def _groups(problem: Problem, edges: Sequence[int]) -> Iterable[Group]:
-    """The passes of a problem that overlap one another, with the rows of their steps."""
-    mission = problem.mission
+def _overlapping(passes: Iterable[Pass]) -> Iterator[list[Pass]]:
+    """The passes, in the order of their begins, those together that overlap one another."""
     group: list[Pass] = []
-    for one in (*mission.passes, None):
-        if group and (one is None or one.begin >= max(other.end for other in group)):
-            first = bisect_right(edges, max(micro(mission, group[0].begin), 0)) - 1
-            last = bisect_left(edges, min(max(micro(mission, other.end) for other in group), edges[-1]))
-            yield Group(tuple(group), first, last)
+    for one in passes:
+        if group and one.begin >= max(other.end for other in group):
+            yield group
             group = []
-        if one is not None:
-            group.append(one)
+        group.append(one)
+    if group:
+        yield group

@@ -23,10 +23,11 @@ Text = bytes | bytearray | memoryview | str | os.PathLike[str]
 Packet = bytes | bytearray | memoryview
 
 # The columns of a forecast that are no stores: the steps' numbers, their windows, and what the names of columns with
-# limits begin with.
+# limits and with sizes begin with.
 STEP = "step"
 WINDOW = "window"
 LIMIT = "limit:"
+SIZE = "size:"
 
 
 class Frame(Protocol):

@@ -224,5 +224,4 @@ def oddities_of(mission: Mission, passes: Sequence[Pass], observations: Sequence
 
 def longest_on(mission: Mission, channel: int | None) -> int:
     """The octets of the longest packet of the stores of a channel, or of all where it has none or none is named."""
-    lengths = [(store.channel, mission.packet_of(store)) for store in mission.stores]
-    return max([length for own, length in lengths if own == channel] or [length for _, length in lengths])
+    return mission._longest.get(channel, mission._longest[None])

@@ -31,7 +31,10 @@ _HEAD = "<?xml version='1.0' encoding='UTF-8' standalone='yes'?>\n"
 
 def made_for(name: str | os.PathLike[str] | None, forms: Forms, place: str = "") -> Callable[[], str | bytes]:
     """What makes the file of this name. Raises `MissionError` where its ending is none of those of the forms."""
-    kind = "" if name is None else Path(name).suffix.lower()
+    try:
+        kind = "" if name is None else Path(name).suffix.lower()
+    except TypeError as error:
+        raise fault(place, name, "the name of a file") from error
     if kind not in forms:
         endings = [ending for ending in forms if ending]
         meant = f"a name that ends in {', '.join(endings[:-1])} or {endings[-1]}"

@@ -8,7 +8,6 @@ from datetime import datetime
 from typing import NamedTuple
 
 from ._brief import brief
-from ._flows import arrivals_of, came
 from ._sharing import Link, shared
 from ._timeline import Problem
 from .calls import table
@@ -42,10 +41,8 @@ def first_steps(problem: Problem, made: Plan, count: int) -> tuple[Problem, Plan
     dumps = Plan.of({store: column[:count] for store, column in made.by_store.items()})
     loss = sum(table(problem.setup, short, dumps).to_dict()["lost"])
     flown = Plan.of({store: column[:count] for store, column in made.by_store.items()}, loss)
-    return (
-        Problem(problem.setup, short, problem.mission, problem.unit, problem.edges[: count + 1], problem.contacts),
-        flown,
-    )
+    parts = problem.mission, problem.unit, problem.edges[: count + 1], problem.contacts, problem.arrivals
+    return Problem(problem.setup, short, *parts), flown
 
 
 class InPackets(NamedTuple):
@@ -63,18 +60,22 @@ class InPackets(NamedTuple):
         held = self.start
         for arrived, count in zip(self.arrivals, units):
             there = held + arrived
-            lost = max(there - self.size, 0)
-            dumped = min(count * self.packets, there - lost)
-            held = there - lost - dumped
+            dumped = min(count * self.packets, there)
+            lost = max(there - dumped - self.size, 0)
+            held = there - dumped - lost
             yield arrived, lost, dumped, held
 
 
 def in_packets(problem: Problem) -> tuple[InPackets, ...]:
     """The stores of a problem in packets."""
-    mission = problem.mission
-    arrivals = {store: came(flows, problem.edges).column() for store, flows in arrivals_of(mission).items()}
+    mission, packets = problem.mission, problem.unit.packets
     return tuple(
-        InPackets(problem.unit.packets[store.id], mission.size_of(store), mission.held_in(store), arrivals[store.id])
+        InPackets(
+            packets[store.id],
+            mission.size_of(store),
+            mission.held_in(store),
+            problem.arrivals[store.id].column(problem.edges),
+        )
         for store in mission.stores
     )
 

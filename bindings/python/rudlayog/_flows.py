@@ -5,12 +5,13 @@ from __future__ import annotations
 
 from bisect import bisect_left, bisect_right
 from collections.abc import Mapping, Sequence
+from copy import copy
 from dataclasses import dataclass
 from datetime import datetime
 from fractions import Fraction
-from itertools import pairwise, repeat
+from itertools import accumulate, pairwise
 from math import gcd, lcm
-from operator import floordiv, mul, sub
+from operator import mul, sub
 from typing import TYPE_CHECKING, NamedTuple
 
 from ._brief import brief
@@ -26,9 +27,7 @@ def micro(mission: Mission, moment: datetime) -> int:
     return (moment - mission.begin) // MICROSECOND
 
 
-@brief
-@dataclass(frozen=True)
-class Flow:
+class Flow(NamedTuple):
     """What comes or goes evenly from `begin` to `end`, in microseconds of the mission: `above` by `below` in each of
     them."""
 
@@ -38,9 +37,9 @@ class Flow:
     below: int
 
     @classmethod
-    def at(cls, begin: int, end: int, a_second: Fraction) -> Flow:
-        """What flows with so much a second."""
-        return cls(begin, end, a_second.numerator, a_second.denominator * 1_000_000)
+    def at(cls, begin: int, end: int, a_second: Fraction, unit: int = 1) -> Flow:
+        """What flows with so much a second, in units of that much."""
+        return cls(begin, end, a_second.numerator, a_second.denominator * unit * 1_000_000)
 
     def falls(self, times: Sequence[int]) -> list[int]:
         """What flows in each step, where a whole one counts in the step in which it becomes whole."""
@@ -58,39 +57,43 @@ class Flow:
         return Fraction(self.above * (min(max(time, self.begin), self.end) - self.begin), self.below)
 
 
-class Came(NamedTuple):
-    """What has come until each of some times, as numerators of fractions with one denominator."""
+class Coming:
+    """What comes in a store since the mission began, in packets, exactly: until each time a numerator of fractions with
+    one denominator, `below`."""
 
-    above: list[int]
-    below: int
+    def __init__(self, flows: Sequence[Flow]) -> None:
+        below = lcm(*(flow.below for flow in flows))
+        rates = [flow.above * (below // flow.below) for flow in flows]
+        common = gcd(below, *rates)
+        self.below = below // common
+        changes: dict[int, int] = {0: 0}
+        for flow, above in zip(flows, rates):
+            rate = above // common
+            changes[max(flow.begin, 0)] = changes.get(max(flow.begin, 0), 0) + rate
+            changes[flow.end] = changes.get(flow.end, 0) - rate
+        # when the rate changes, the rate from then on, and what has come until then
+        self._times = sorted(changes)
+        self._rates = list(accumulate(map(changes.__getitem__, self._times)))
+        spans = map(sub, self._times[1:], self._times)
+        self._above: list[int] = list(accumulate(map(mul, self._rates, spans), initial=0))
 
-    def column(self, packets: int = 1, times: int = 1, parts: int = 1) -> list[int]:
-        """What comes in each step, in units of this many packets, `times` as much in this many `parts`. A unit that has
-        begun is whole."""
-        # the whole numbers of units that have come, as negative numbers
-        counts = list(map(floordiv, map(mul, self.above, repeat(times)), repeat(-self.below * packets * parts)))
-        return list(map(sub, counts, counts[1:]))
+    def until(self, time: int) -> int:
+        """What has come until a time of the mission."""
+        place = bisect_right(self._times, time) - 1
+        return self._above[place] + self._rates[place] * (time - self._times[place])
 
-    def coming(self) -> tuple[list[int], Came]:
-        """The steps, from 0, in which something comes, and what has come until the first of them begins and until each
-        of them ends."""
-        steps = [step for step, (before, after) in enumerate(zip(self.above, self.above[1:])) if before < after]
-        return steps, Came([self.above[0], *(self.above[step + 1] for step in steps)], self.below)
+    def after(self, begin: int) -> Coming:
+        """The same for the part of the mission from a time on, in whose times."""
+        made = copy(self)
+        made._times = [time - begin for time in self._times]
+        return made
 
-
-def came(flows: Sequence[Flow], times: Sequence[int]) -> Came:
-    """What has come of some flows since the first of these times until each of them."""
-    below = lcm(*(flow.below for flow in flows)) if flows else 1
-    steps = [0] * len(times)
-    for flow in flows:
-        share = flow.above * (below // flow.below)
-        first, last = max(bisect_right(times, flow.begin) - 1, 0), min(bisect_left(times, flow.end), len(times) - 1)
-        for step in range(first, last):
-            steps[step + 1] += share * (min(times[step + 1], flow.end) - max(times[step], flow.begin))
-    for step in range(1, len(times)):
-        steps[step] += steps[step - 1]
-    common = gcd(below, *steps)
-    return Came([number // common for number in steps], below // common)
+    def column(self, edges: Sequence[int], packets: int = 1) -> list[int]:
+        """What comes in each step, in units of this many packets. A packet that has begun to come is whole, and so is a
+        unit of which one has come since the first edge."""
+        whole = [-(-self.until(edge) // self.below) for edge in edges]
+        counts = [-((whole[0] - come) // packets) for come in whole]
+        return list(map(sub, counts[1:], counts))
 
 
 @brief
@@ -98,13 +101,14 @@ def came(flows: Sequence[Flow], times: Sequence[int]) -> Came:
 class Unit:
     """What a plan counts: for each store this many `packets` that have about the same octets. `count` is how many of the
     longest packets they are, and `whole` their octets; `octets` is what a unit of each store has, and `link` what it
-    takes on a link: as much as the largest one. """
+    takes on a link: as much as the largest one, in all or of each of the `channels`. """
 
     count: int
     whole: int
     packets: Mapping[str, int]
     octets: Mapping[str, int]
     link: int
+    channels: Mapping[int, int]
 
     @classmethod
     def of(cls, mission: Mission, count: int) -> Unit:
@@ -113,15 +117,18 @@ class Unit:
         whole = count * max(lengths.values())
         packets = {store.id: _packets_in(whole, lengths[store.id], mission.size_of(store)) for store in mission.stores}
         octets = {name: packets[name] * length for name, length in lengths.items()}
-        return cls(count, whole, packets, octets, max(octets.values()))
+        channels: dict[int, int] = {}
+        for store in mission.stores:
+            channels[store.channel] = max(octets[store.id], channels.get(store.channel, 0))
+        return cls(count, whole, packets, octets, max(octets.values()), channels)
 
     def packets_in(self, length: int, room: int) -> int:
         """The packets of this length in a unit of a store that has room for this many."""
         return _packets_in(self.whole, length, room)
 
-    def on_channel(self, mission: Mission, channel: int) -> int:
+    def on_channel(self, channel: int) -> int:
         """What a unit of the stores of a channel takes on a link."""
-        return max((self.octets[store.id] for store in mission.stores if store.channel == channel), default=self.link)
+        return self.channels.get(channel, self.link)
 
 
 def _packets_in(octets: int, length: int, room: int) -> int:
@@ -159,9 +166,9 @@ def use_of(mission: Mission, one: Pass) -> Use:
     return Use(one, begin, end, rate.octets(longest_on(mission, None)), channels)
 
 
-def uses_of(mission: Mission) -> list[Use]:
-    """The passes while they are used."""
-    used = [use_of(mission, one) for one in mission.passes]
+def uses_of(mission: Mission, passes: Sequence[Pass] | None = None) -> list[Use]:
+    """The passes of a mission, or these in their place, while they are used."""
+    used = [use_of(mission, one) for one in (mission.passes if passes is None else passes)]
     return _better(mission, used) if mission.overlap == "better" else used
 
 
@@ -195,19 +202,19 @@ def _better(mission: Mission, used: list[Use]) -> list[Use]:
     return found
 
 
-def contact_of(mission: Mission, use: Use, unit: Unit) -> Contact:
+def contact_of(use: Use, unit: Unit) -> Contact:
     """What a pass can send in units."""
-    sends = use.octets / unit.link
-    channels = {
-        channel: Flow.at(use.begin, use.end, min(sends, octets / unit.on_channel(mission, channel)))
-        for channel, octets in use.channels.items()
-    }
-    return Contact(use.one, Flow.at(use.begin, use.end, sends), channels)
+    sends = Flow.at(use.begin, use.end, use.octets, unit.link)
+    channels = {}
+    for channel, octets in use.channels.items():
+        own = Flow.at(use.begin, use.end, octets, unit.on_channel(channel))
+        channels[channel] = own if own.above * sends.below < sends.above * own.below else sends
+    return Contact(use.one, sends, channels)
 
 
 def contacts_of(mission: Mission, unit: Unit) -> list[Contact]:
     """The passes while they are used, in units."""
-    return [contact_of(mission, use, unit) for use in uses_of(mission)]
+    return [contact_of(use, unit) for use in uses_of(mission)]
 
 
 def flow_of(mission: Mission, one: Observation, packet: int) -> Flow:
@@ -215,11 +222,11 @@ def flow_of(mission: Mission, one: Observation, packet: int) -> Flow:
     return Flow.at(micro(mission, one.begin), micro(mission, one.end), one.blocks_a_second(packet))
 
 
-def arrivals_of(mission: Mission) -> dict[str, list[Flow]]:
+def arrivals_of(mission: Mission) -> dict[str, Coming]:
     """What arrives in each store while the mission lasts, in packets."""
     found: dict[str, list[Flow]] = {store.id: [] for store in mission.stores}
     lengths = {store.id: mission.packet_of(store) for store in mission.stores}
     for one in mission.observations:
         if one.begin < mission.end and one.end > mission.begin:
             found[one.store].append(flow_of(mission, one, lengths[one.store]))
-    return found
+    return {store: Coming(flows) for store, flows in found.items()}

@@ -20,7 +20,6 @@ class Found(NamedTuple):
     shown: str = ""
     refused: str = ""
     ages: tuple[float, ...] = ()
-    in_any_steps: int | None = None
 
 
 class _No(Enum):
@@ -28,7 +27,7 @@ class _No(Enum):
 
 
 # Which numbers a row has.
-DONE, LOSS, BOUND, BY_STORE, AGES, ANY = 1, 2, 4, 8, 16, 32
+DONE, LOSS, BOUND, BY_STORE, AGES = 1, 2, 4, 8, 16
 
 
 class FoundTable:
@@ -38,7 +37,7 @@ class FoundTable:
     def __init__(self, width: int) -> None:
         self._width = width
         self._has = bytearray()
-        self._losses, self._bounds, self._by_store, self._any = array("q"), array("q"), array("q"), array("q")
+        self._losses, self._bounds, self._by_store = array("q"), array("q"), array("q")
         # for each store the greatest and the median age
         self._ages = array("d")
         self._shown: list[str] = []
@@ -55,13 +54,8 @@ class FoundTable:
     def put(self, row: int, variant: Variant, found: Found) -> None:
         """Puts in what is found of a variant."""
         self._reach(row)
-        numbers = (
-            (LOSS, self._losses, found.loss),
-            (BOUND, self._bounds, found.bound),
-            (ANY, self._any, found.in_any_steps),
-        )
         self._has[row] = DONE
-        for flag, column, number in numbers:
+        for flag, column, number in ((LOSS, self._losses, found.loss), (BOUND, self._bounds, found.bound)):
             if number is not None:
                 self._has[row] |= flag
                 column[row] = number
@@ -87,8 +81,7 @@ class FoundTable:
         more = row + 1 - len(self.names)
         if more > 0:
             self._has.extend(bytes(more))
-            columns = (self._losses, more), (self._bounds, more), (self._any, more), (self._by_store, more * self._width)
-            for column, count in columns:
+            for column, count in ((self._losses, more), (self._bounds, more), (self._by_store, more * self._width)):
                 column.frombytes(bytes(column.itemsize * count))
             self._shown.extend([""] * more)
             self.names.extend([""] * more)
@@ -106,7 +99,6 @@ class FoundTable:
             self._shown[row],
             self.refused(row),
             self.ages(row),
-            self.in_any_steps(row),
         )
 
     def loss(self, row: int) -> int | None:
@@ -116,15 +108,6 @@ class FoundTable:
     def bound(self, row: int) -> int | None:
         """The bound of a row."""
         return self._bounds[row] if self._has[row] & BOUND else None
-
-    def in_any_steps(self, row: int) -> int | None:
-        """The bound of a row that holds for any steps."""
-        return self._any[row] if self._has[row] & ANY else None
-
-    @property
-    def has_any_steps(self) -> bool:
-        """Whether some row has such a bound."""
-        return any(has & ANY for has in self._has)
 
     def by_store(self, row: int) -> tuple[int, ...]:
         """The losses of the stores in a row."""

@@ -21,7 +21,7 @@ TABLES = {
     "passes": ("pass", ("station", "begin", "end", "rate", "channels", "name")),
     "observations": ("observation", ("store", "begin", "end", "rate", "volume", "name")),
 }
-PLAIN = ("name", "begin", "end", "packet", "block", "overlap", "unit", "moments")
+PLAIN = ("name", "begin", "end", "packet", "block", "overlap", "unit")
 
 
 def _value(given: Any) -> str:
@@ -32,8 +32,6 @@ def _value(given: Any) -> str:
         return written(given)
     if isinstance(given, str):
         return json.dumps(given, ensure_ascii=False).replace("\x7f", "\\u007F")
-    if isinstance(given, tuple):
-        return f"[{', '.join(map(_value, given))}]"
     if isinstance(given, dict):
         return "{ " + ", ".join(f"{key} = {_value(value)}" for key, value in given.items()) + " }"
     return str(given)

@@ -27,7 +27,7 @@ TABLES: dict[str, tuple[str, type[Any]]] = {
     "pass": ("passes", Pass),
     "observation": ("observations", Observation),
 }
-PLAIN = ("name", "begin", "end", "packet", "block", "overlap", "unit", "moments")
+PLAIN = ("name", "begin", "end", "packet", "block", "overlap", "unit")
 # What reads the keys at the top that are no names.
 READ: dict[str, Callable[[Any, str], Any]] = {
     "begin": moment_of,
@@ -35,9 +35,6 @@ READ: dict[str, Callable[[Any, str], Any]] = {
     "packet": whole_of,
     "block": whole_of,
     "unit": whole_of,
-    "moments": lambda given, place: tuple(
-        moment_of(each, place) for each in (given if isinstance(given, list) else [given])
-    ),
 }
 # Columns for the rates of channels.
 CHANNEL = re.compile(r"channel:([0-7])\Z")

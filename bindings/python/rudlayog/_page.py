@@ -6,15 +6,13 @@ from collections.abc import Iterable
 from datetime import datetime, timezone
 from html import escape
 from itertools import groupby
+from math import ceil
 from typing import TYPE_CHECKING
 
-from ._any_steps import least_in_any_steps
-
 if TYPE_CHECKING:
-    from ._timeline import Problem
-    from .plans import Plan
     from .sheets import Row, Sheet
 
+LEAST = "No plan in these steps loses fewer: the checker says least. But for rounding, no timeline loses fewer."
 STYLE = """
 body { font: 12.5px/1.35 sans-serif; color: #111; margin: 24px auto; max-width: 1160px; padding: 0 16px }
 h1 { font-size: 21px; margin: 0 0 4px } h2 { font-size: 15px; margin: 22px 0 6px }
@@ -71,11 +69,9 @@ def summary(sheet: Sheet) -> list[str]:
     verdicts = made.check()
     if all(verdicts):
         parts = (
-            f"Each of the {len(verdicts)} parts, with what it looks ahead, loses least in its steps from what the one "
-            f"before leaves."
+            f"Each of the {len(verdicts)} parts, with what it looks ahead, loses least from what the one before leaves."
         )
-        words.append("No plan in these steps loses fewer: the checker says least." if len(verdicts) == 1 else parts)
-        words += [_in_any_steps(*made.parts[0])] if len(verdicts) == 1 else []
+        words.append(LEAST if len(verdicts) == 1 else parts)
         if all(verdict.kind == "least in order" for verdict in verdicts):
             words.append("So does the first store, and so do the first two together, and so on.")
     else:
@@ -88,18 +84,13 @@ def summary(sheet: Sheet) -> list[str]:
     return [*words, _rounding(sheet)]
 
 
-def _in_any_steps(problem: Problem, made: Plan) -> str:
-    """How many fewer could be lost in other steps."""
-    if len(set(problem.unit.packets.values())) > 1:
-        return "In finer steps fewer may be lost."
-    least = least_in_any_steps(made.cut, problem.forecast) * problem.unit.count
-    return f"In whatever steps, no timeline loses fewer than {least:,}, but for rounding."
-
-
 def _rounding(sheet: Sheet) -> str:
     """What rounding may cost."""
     costs = [problem.rounding_cost() for problem, _ in sheet.made.flown]
-    windows, sizes, arrivals = (sum(cost[what] for cost in costs) / 1e6 for what in ("windows", "sizes", "arrivals"))
+    # to thousandths that are not less
+    windows, sizes, arrivals = (
+        ceil(sum(cost[what] for cost in costs) / 1e3) / 1e3 for what in ("windows", "sizes", "arrivals")
+    )
     return (
         f"Rounding to whole packets may cost at most {windows:,.3f} MB of windows, and each time that stores are full "
         f"{sizes:,.3f} MB of sizes and "

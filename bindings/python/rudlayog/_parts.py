@@ -6,6 +6,7 @@ from collections.abc import Mapping
 from dataclasses import dataclass, field, fields
 from datetime import datetime, timedelta
 from fractions import Fraction
+from functools import cache
 from typing import Any, TypeVar
 
 from ._brief import brief
@@ -15,10 +16,16 @@ from ._units import fault, moment_of, rate_of, volume_of, whole_of, written
 Part = TypeVar("Part")
 
 
+@cache
+def _names(kind: type[Any]) -> tuple[str, ...]:
+    """The names of the fields."""
+    return tuple(each.name for each in fields(kind))
+
+
 def remade(given: Part, **others: Any) -> Part:
     """The same frozen object with other fields, which are not tested."""
-    made = object.__new__(type(given))
-    vars(made).update({each.name: getattr(given, each.name) for each in fields(given)} | others)
+    made, own = object.__new__(type(given)), vars(given)
+    vars(made).update({name: own[name] for name in _names(type(given))}, **others)  # type: ignore[arg-type]
     return made
 
 

@@ -7,7 +7,7 @@ from fractions import Fraction
 from itertools import pairwise
 from typing import TYPE_CHECKING, Any
 
-from ._flows import arrivals_of, came, uses_of
+from ._flows import uses_of
 from ._units import written
 
 if TYPE_CHECKING:
@@ -27,17 +27,17 @@ def _of_steps(problem: Problem) -> Iterator[dict[str, Any]]:
     for contact in problem.contacts:
         flows = {contact.one.name: (contact.sends, unit.link)}
         flows |= {
-            f"{contact.one.name}, channel {channel}": (flow, unit.on_channel(mission, channel))
+            f"{contact.one.name}, channel {channel}": (flow, unit.on_channel(channel))
             for channel, flow in contact.channels.items()
         }
         for name, (flow, octets) in flows.items():
             exact = [flow.exact(end) - flow.exact(begin) for begin, end in pairwise(problem.edges)]
             yield from _rows(problem, name, exact, flow.falls(problem.edges), octets)
-    for store, flows_of_store in arrivals_of(mission).items():
+    for store, coming in problem.arrivals.items():
         packets = unit.packets[store]
-        each = came(flows_of_store, problem.edges)
-        exact = [Fraction(after - before, each.below * packets) for before, after in pairwise(each.above)]
-        yield from _rows(problem, store, exact, each.column(packets=packets), unit.octets[store])
+        above = map(coming.until, problem.edges)
+        exact = [Fraction(after - before, coming.below * packets) for before, after in pairwise(above)]
+        yield from _rows(problem, store, exact, coming.column(problem.edges, packets), unit.octets[store])
 
 
 def _rows(
@@ -84,9 +84,7 @@ def cost_of(problem: Problem) -> dict[str, float]:
     mission, unit = problem.mission, problem.unit
     sizes = sum(row["octets"] for row in _of_stores(problem) if row["of"].endswith(", size"))
     held = sum(row["octets"] for row in _of_stores(problem) if row["of"].endswith(", holds"))
-    arrivals = sum(
-        unit.octets[store] for store, flows in arrivals_of(mission).items() if flows and not _is_whole(problem, store)
-    )
+    arrivals = sum(unit.octets[store] for store in problem.arrivals if not _is_whole(problem, store))
     least = min(unit.octets.values())
     windows = Fraction(0)
     for use, contact in zip(uses_of(mission), problem.contacts):
@@ -100,5 +98,5 @@ def cost_of(problem: Problem) -> dict[str, float]:
 
 def _is_whole(problem: Problem, store: str) -> bool:
     """Whether what has come until each edge are whole units."""
-    each = came(arrivals_of(problem.mission)[store], problem.edges)
-    return all(number % (each.below * problem.unit.packets[store]) == 0 for number in each.above)
+    coming = problem.arrivals[store]
+    return all(coming.until(edge) % (coming.below * problem.unit.packets[store]) == 0 for edge in problem.edges)

@@ -6,12 +6,12 @@ from __future__ import annotations
 from bisect import bisect_right
 from collections.abc import Callable, Iterable, Mapping, Sequence
 from datetime import datetime, timedelta
-from functools import cached_property, lru_cache
+from functools import cached_property
 from typing import TYPE_CHECKING, Any
 
 from ._data import LIMIT
-from ._edges import edges_of, refined, settled, shown_edges
-from ._flows import Came, Contact, Flow, Unit, arrivals_of, came, contacts_of, uses_of
+from ._edges import edges_of, shown_edges
+from ._flows import Coming, Contact, Unit, arrivals_of, contacts_of, micro, uses_of
 from ._units import MICROSECOND, fault, moment_of, whole_of, written
 from ._windows import limited_in, windows_of
 from .calls import plan
@@ -22,6 +22,9 @@ from .setups import Setup, Store
 if TYPE_CHECKING:
     from .mission import Mission, PacketStore
 
+Arrivals = Mapping[str, Coming]
+# What arrives in a step may be sent in it.
+DURING = "during"
 # The greatest number that a setup or a forecast may have.
 MOST_BLOCKS = 1_000_000
 # How many units are tried where packets differ in length.
@@ -39,6 +42,8 @@ class Problem(tuple[Setup, Forecast]):
     unit: Unit
     edges: tuple[int, ...]
     contacts: tuple[Contact, ...]
+    # What arrives in each store, exactly, in packets.
+    arrivals: Arrivals
 
     def __new__(
         cls,
@@ -48,13 +53,16 @@ class Problem(tuple[Setup, Forecast]):
         unit: Unit,
         edges: Sequence[int],
         contacts: Sequence[Contact],
+        arrivals: Arrivals,
     ) -> Problem:
         made = tuple.__new__(cls, (setup, forecast))
         made.mission, made.unit, made.edges, made.contacts = mission, unit, tuple(edges), tuple(contacts)
+        made.arrivals = arrivals
         return made
 
     def __reduce__(self) -> tuple[object, ...]:
-        return Problem, (self.setup, self.forecast, self.mission, self.unit, self.edges, self.contacts)
+        parts = self.mission, self.unit, self.edges, self.contacts, self.arrivals
+        return Problem, (self.setup, self.forecast, *parts)
 
     @property
     def setup(self) -> Setup:
@@ -111,12 +119,9 @@ class Problem(tuple[Setup, Forecast]):
         time."""
         edges = shown_edges(self.mission, self.edges)
         inside = [edge for edge in edges if edge <= self.edges[-1]]
-        return self if len(inside) == len(self.edges) else problem_with(self.mission, inside, self.unit)
-
-    @cached_property
-    def arrivals(self) -> dict[str, list[Flow]]:
-        """What arrives in each store, exactly, in packets."""
-        return arrivals_of(self.mission)
+        if len(inside) == len(self.edges):
+            return self
+        return problem_with(self.mission, inside, self.unit, self.arrivals)
 
     def rounding(self) -> list[dict[str, Any]]:
         """What is rounded, a row for each step of a pass, of a channel of a pass, or of a store, and for sizes and what
@@ -135,33 +140,24 @@ class Problem(tuple[Setup, Forecast]):
 
 
 def problem_of(
-    mission: Mission, step: timedelta | None = None, kept: Iterable[int] = (), split: bool = False
+    mission: Mission, step: timedelta | None = None, also: Iterable[int] = (), arrivals: Arrivals | None = None
 ) -> Problem:
-    """The problem of a mission: with steps from event to event, or of at most one length; `kept` are moments, in
-    microseconds from its begin, at which one begins in any case. Steps from event to event are split where most is
-    lost; those that a mission has of another one, only with `split`, where much may be gained."""
-    edges = edges_of(mission, step, kept)
-    unit = unit_of(mission, edges)
-    if step is None and (split or not mission.moments):
-        made = lru_cache(1)(lambda tried: problem_with(mission, tried, unit))
-
-        def tried(edges: Sequence[int]) -> Problem:
-            return made(tuple(edges))
-
-        return tried(settled(edges, tried) if mission.moments else refined(mission, edges, tried))
-    return problem_with(mission, edges, unit)
+    """The problem of a mission, with steps from event to event, or of at most one length; one begins at each moment
+    that is given `also`, in microseconds from the mission's begin. The `arrivals` are those of the mission, or of a
+    longer one of which it is a part."""
+    edges = edges_of(mission, step, also)
+    arrivals = arrivals or arrivals_of(mission)
+    return problem_with(mission, edges, unit_of(mission, edges, arrivals), arrivals)
 
 
-def problem_with(mission: Mission, edges: Sequence[int], unit: Unit) -> Problem:
+def problem_with(mission: Mission, edges: Sequence[int], unit: Unit, arrivals: Arrivals) -> Problem:
     """The problem with these steps, in this unit."""
     contacts = contacts_of(mission, unit)
     windows, limits = windows_of(contacts, edges, limited_in(mission))
-    columns = {
-        store: came(flows, edges).column(packets=unit.packets[store]) for store, flows in arrivals_of(mission).items()
-    }
-    setup = Setup(tuple(stored(mission, store, unit) for store in mission.stores), mission.routes)
+    columns = {store: coming.column(edges, unit.packets[store]) for store, coming in arrivals.items()}
+    setup = Setup(tuple(stored(mission, store, unit) for store in mission.stores), mission.routes, (), DURING)
     forecast = Forecast.of(windows, columns, {f"{LIMIT}{channel}": column for channel, column in limits.items()})
-    return Problem(setup, forecast, mission, unit, edges, contacts)
+    return Problem(setup, forecast, mission, unit, edges, contacts, arrivals)
 
 
 def stored(mission: Mission, store: PacketStore, unit: Unit) -> Store:
@@ -172,10 +168,9 @@ def stored(mission: Mission, store: PacketStore, unit: Unit) -> Store:
     return Store(store.id, size, store.type, store.channel, min(-(-mission.held_in(store) // packets), size))
 
 
-def unit_of(mission: Mission, edges: Sequence[int]) -> Unit:
+def unit_of(mission: Mission, edges: Sequence[int], arrivals: Arrivals) -> Unit:
     """The unit of a mission with these steps. It is the least one with which all numbers are in range; where packets
     differ in length it is, of some units from that one on, the one whose rounding costs least."""
-    arrivals = {store: came(flows, edges) for store, flows in arrivals_of(mission).items()}
     in_range = _in_range(mission, edges, arrivals)
     if mission.unit and in_range(mission.unit):
         return Unit.of(mission, mission.unit)
@@ -191,18 +186,11 @@ def unit_of(mission: Mission, edges: Sequence[int]) -> Unit:
         least, count = (least, middle) if in_range(middle) else (middle, count)
     if len({mission.packet_of(store) for store in mission.stores}) == 1:
         return Unit.of(mission, count)
-    cost = _costs(mission, arrivals)
-    return min(
-        (
-            unit
-            for unit in (Unit.of(mission, tried) for tried in range(count, count + MOST_TRIED))
-            if in_range(unit.count)
-        ),
-        key=cost,
-    )
+    tried = (Unit.of(mission, each) for each in range(count, count + MOST_TRIED))
+    return next(unit for unit in sorted(tried, key=_costs(mission, arrivals)) if in_range(unit.count))
 
 
-def _in_range(mission: Mission, edges: Sequence[int], arrivals: Mapping[str, Came]) -> Callable[[int], bool]:
+def _in_range(mission: Mission, edges: Sequence[int], arrivals: Arrivals) -> Callable[[int], bool]:
     """Whether sizes, arrivals and windows are in range in units of this many of the longest packets."""
     sizes = {store.id: mission.size_of(store) for store in mission.stores}
 
@@ -210,7 +198,7 @@ def _in_range(mission: Mission, edges: Sequence[int], arrivals: Mapping[str, Cam
         unit = Unit.of(mission, count)
         if any(sizes[store] // packets > MOST_BLOCKS for store, packets in unit.packets.items()):
             return False
-        if any(max(arrivals[store].column(packets=packets)) > MOST_BLOCKS for store, packets in unit.packets.items()):
+        if any(max(arrivals[store].column(edges, packets)) > MOST_BLOCKS for store, packets in unit.packets.items()):
             return False
         windows, limits = windows_of(contacts_of(mission, unit), edges, limited_in(mission))
         return max(max(windows), *(max(column) for column in limits.values()), 0) <= MOST_BLOCKS
@@ -218,16 +206,12 @@ def _in_range(mission: Mission, edges: Sequence[int], arrivals: Mapping[str, Cam
     return is_in_range
 
 
-def _costs(mission: Mission, arrivals: Mapping[str, Came]) -> Callable[[Unit], tuple[int, int]]:
+def _costs(mission: Mission, arrivals: Arrivals) -> Callable[[Unit], tuple[int, int]]:
     """What rounding to a unit costs, in octets: what sizes, arrivals and passes have over whole units, and what a unit
     of some store takes less on a link than that of another."""
+    last = micro(mission, mission.end)
     whole = [
-        (
-            store.id,
-            mission.size_of(store),
-            mission.held_in(store),
-            -(-arrivals[store.id].above[-1] // arrivals[store.id].below),
-        )
+        (store.id, mission.size_of(store), mission.held_in(store), sum(arrivals[store.id].column((0, last))))
         for store in mission.stores
     ]
     passes = [int(use.octets * (use.end - use.begin) / 1_000_000) for use in uses_of(mission)]

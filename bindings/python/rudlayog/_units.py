@@ -134,7 +134,7 @@ class Rate:
 
     def octets(self, longest: int) -> Fraction:
         """The octets a second, where a block is a packet of this many octets."""
-        return self.blocks(longest) * longest
+        return self.amount * longest if self.in_blocks else self.amount / 8
 
     def times(self, factor: Fraction) -> Rate:
         """The rate that is this many times as high."""

@@ -11,29 +11,31 @@ from fractions import Fraction
 from typing import TYPE_CHECKING, NamedTuple
 
 from ._brief import brief
-from ._flows import arrivals_of, came, micro
+from ._edges import moments_of
+from ._flows import micro
 
 if TYPE_CHECKING:
     from .mission import PacketStore
     from .sheets import MissionPlan
 
 
-Packets = tuple[int, Fraction, Fraction]
+# Some packets, when the first of them begins to come, and how long after it the next one does, in microseconds.
+Packets = tuple[Fraction, Fraction, Fraction]
 
 
 class Piece(NamedTuple):
     """Some packets that go down one after the other, with ages in microseconds from the least to the greatest,
     evenly."""
 
-    packets: int
+    packets: Fraction
     least: float
     most: float
 
     def below(self, age: float) -> float:
         """How many of them are at most so old."""
         if age >= self.most:
-            return self.packets
-        return 0 if age < self.least else self.packets * (age - self.least) / (self.most - self.least)
+            return float(self.packets)
+        return 0 if age < self.least else float(self.packets) * (age - self.least) / (self.most - self.least)
 
 
 @brief
@@ -49,54 +51,68 @@ class Age:
 
 def ages_of(made: MissionPlan) -> dict[str, Age]:
     """The ages of the stores of a plan."""
-    edges = [micro(made.mission, step.begin) for step in made.steps] + [micro(made.mission, made.steps[-1].end)]
-    return {store.id: _age_of(made, store, edges) for store in made.mission.stores}
+    return {store.id: _age_of(made, store) for store in made.mission.stores}
 
 
-def _age_of(made: MissionPlan, store: PacketStore, edges: list[int]) -> Age:
+def _age_of(made: MissionPlan, store: PacketStore) -> Age:
     """The ages of a store."""
-    # what is held, as packets with the time since which they arrive, and the time of one packet after another
-    queue: deque[Packets] = deque()
-    held = made.mission.held_in(store)
-    if held:
-        queue.append((held, Fraction(0), Fraction(0)))
+    size, held = made.mission.size_of(store), made.mission.held_in(store)
+    queue: deque[Packets] = deque([(Fraction(held), Fraction(0), Fraction(0))] if held else [])
     found: list[Piece] = []
-    for begin, end, flown, arrived in zip(edges, edges[1:], made.steps, _arrivals(made, store, edges)):
-        queue.extend(arrived)
-        _take(queue, flown.lost[store.id], oldest=store.type == "circular")
-        sent = flown.dumped[store.id]
+    for step, arrived in zip(made.steps, _arrivals(made, store)):
+        lost, sent = step.lost[store.id], Fraction(step.dumped[store.id])
         if sent:
-            found += _sent(_take(queue, sent, oldest=True), Fraction(begin), Fraction(end - begin, sent))
+            begin, end = (Fraction(micro(made.mission, time)) for time in (step.begin, step.end))
+            come = Fraction(step.arrived[store.id])
+            # until the store is full nothing is lost
+            part = Fraction(size - held, size - held + lost) if lost else Fraction(1)
+            full = begin + part * (end - begin)
+            found += _sent(queue, begin, full, come * part, sent * part)
+            come, sent = come * (1 - part), sent * (1 - part)
+            if store.type == "circular":
+                found += _sent(queue, full, end, come, sent, lost)
+            else:
+                found += _sent(queue, full, end, come - lost, sent)
+        else:
+            queue.extend(arrived)
+            _take(queue, Fraction(lost), oldest=store.type == "circular")
+        held = step.held[store.id]
     return Age(_hours(max((each.most for each in found), default=0.0)), _hours(_median(found)))
 
 
-def _sent(taken: list[Packets], begin: Fraction, each: Fraction) -> Iterator[Piece]:
-    """Packets that go down one after the other from a time on, each in this time. One that is still coming is new."""
-    for packets, came_at, apart in taken:
-        first = begin - came_at
-        last = first + packets * (each - apart)
-        yield Piece(packets, max(float(min(first, last)), 0.0), max(float(max(first, last)), 0.0))
-        begin += packets * each
+def _sent(
+    queue: deque[Packets], begin: Fraction, end: Fraction, come: Fraction, sent: Fraction, lost: int = 0
+) -> Iterator[Piece]:
+    """Some packets come evenly, some go down evenly, the oldest first, and between them some are lost. One that is
+    still coming is new."""
+    if come:
+        queue.append((come, begin, (end - begin) / come))
+    if sent:
+        each = (end - begin) / (sent + lost)
+        for packets, came_at, apart in _take(queue, sent + lost, oldest=True):
+            first = begin - came_at
+            last = first + packets * (each - apart)
+            down = packets * sent / (sent + lost)
+            yield Piece(down, max(float(min(first, last)), 0.0), max(float(max(first, last)), 0.0))
+            begin += packets * each
 
 
-def _arrivals(made: MissionPlan, store: PacketStore, edges: list[int]) -> Iterator[list[Packets]]:
+def _arrivals(made: MissionPlan, store: PacketStore) -> Iterator[list[Packets]]:
     """What arrives in each step: from one event to the next, evenly."""
-    flows = arrivals_of(made.mission)[store.id]
-    times = sorted(
-        {*edges, *(time for flow in flows for time in (flow.begin, flow.end) if edges[0] < time < edges[-1])}
-    )
-    counts = came(flows, times).column()
-    ends = set(edges[1:])
-    found: list[Packets] = []
-    for begin, end, count in zip(times, times[1:], counts):
-        if count:
-            found.append((count, Fraction(begin), Fraction(end - begin, count)))
-        if end in ends:
-            yield found
-            found = []
+    for problem, _ in made.flown:
+        begin, last = micro(made.mission, problem.times[0]), problem.edges[-1]
+        times = sorted({*problem.edges, *(time for time in moments_of(problem.mission) if time < last)})
+        ends = set(problem.edges)
+        found: list[Packets] = []
+        for first, end, count in zip(times, times[1:], problem.arrivals[store.id].column(times)):
+            if count:
+                found.append((Fraction(count), Fraction(begin + first), Fraction(end - first, count)))
+            if end in ends:
+                yield found
+                found = []
 
 
-def _take(queue: deque[Packets], count: int, oldest: bool) -> list[Packets]:
+def _take(queue: deque[Packets], count: Fraction, oldest: bool) -> list[Packets]:
     """Takes that many packets out: the oldest ones, or the newest ones."""
     taken = []
     while count and queue:

@@ -19,7 +19,18 @@ from .plans import Plan, PlanLike, plan_octets, request_octets
 from .setups import Setup, SetupLike, setup_octets
 
 Made = TypeVar("Made")
-KINDS = ("", "least", "does not fit", "loss is", "bad stretch", "bad count", "bound is", "not shown", "least in order", "first not shown")
+KINDS = (
+    "",
+    "least",
+    "does not fit",
+    "loss is",
+    "bad stretch",
+    "bad count",
+    "bound is",
+    "not shown",
+    "least in order",
+    "first not shown",
+)
 PLACED = ("bad stretch", "bad count")
 LEAST = tuple(KINDS[kind] for kind in _library.LEAST)
 
@@ -27,10 +38,10 @@ LEAST = tuple(KINDS[kind] for kind in _library.LEAST)
 @brief
 @dataclass(frozen=True)
 class Verdict:
-    """A verdict on a plan: its `kind`, and its `line`. It is true where the plan loses least, and also where of its first stores it loses least
-    (`least in order`). `step` is the first step at which the plan does not fit, `place` the place of the first bad stretch or count, from 1;
-    `stores` is how many of the first stores it does not show to lose least, though all together do; `loss` and `bound` are in blocks. Each is
-    `None` where it says nothing."""
+    """A verdict on a plan: its `kind`, and its `line`. It is true where the plan loses least, and also where of its
+    first stores it loses least (`least in order`). `step` is the first step at which the plan does not fit, `place` the
+    place of the first bad stretch or count, from 1; `stores` is how many of the first stores it does not show to lose
+    least, though all together do; `loss` and `bound` are in blocks. Each is `None` where it says nothing."""
 
     kind: str
     line: str
@@ -69,7 +80,8 @@ class PlanTable:
     def to_dict(self) -> dict[str, list[Any]]:
         """The columns: whole numbers, and the identifiers in `store`."""
         names, *rows = csv.reader(io.StringIO(self.text))
-        return {name: cells if name == "store" else list(map(int, cells)) for name, *cells in zip(names, *rows, strict=True)}
+        columns = zip(names, *rows, strict=True)
+        return {name: cells if name == "store" else list(map(int, cells)) for name, *cells in columns}
 
     def to_frame(self, make: Callable[[dict[str, list[Any]]], Made]) -> Made:
         """The table as a data frame, made by `make`, as `pandas.DataFrame`."""
@@ -83,10 +95,10 @@ class PlanTable:
 @brief
 @dataclass(frozen=True)
 class Worth:
-    """What a number of a problem is worth, in blocks: the window of the `step`, the size of the store `name`, or the limit of the channel
-    `name`, of the setup or in the `step`, as `item` says. The number is `now`; `next` is how many blocks fewer the least plan loses if it is
-    one larger, `most` if it is 1,000,000, and `without` how many blocks more it loses if it is 0, or 1 for a size. A window that is larger by
-    e saves `min(e, most)`."""
+    """What a number of a problem is worth, in blocks: the window of the `step`, or the size of the store `name` or the
+    limit of the channel `name`, of the setup or in the `step`, as `item` says. The number is `now`; `next` is how many
+    blocks fewer the least plan loses if it is one larger, `most` if it is 1,000,000, and `without` how many blocks more
+    it loses if it is 0, or 1 for a size of the setup. A window that is larger by e saves `min(e, most)`."""
 
     item: str
     name: str
@@ -112,11 +124,12 @@ class Replies:
 
 
 def plan(setup: SetupLike, forecast: ForecastLike, *, in_order: bool = False) -> Plan:
-    """A plan that loses least, with the cut that shows it. With `in_order` the first store of the setup loses least too, the first two together,
-    and so on, with a cut for each (`Plan.firsts`).
+    """A plan that loses least, with the cut that shows it. With `in_order` the first store of the setup loses least
+    too, the first two together, and so on, with a cut for each (`Plan.firsts`).
 
-    A setup is a text (octets, a str of several lines, or a path), a `Setup`, a dict of its tables, or a table of stores. A forecast is a
-    text, a `Forecast`, or a table: dicts with `window` and the stores, a dict of columns, or a data frame. Raises `Refusal`."""
+    A setup is a text (octets, a str of several lines, or a path), a `Setup`, a dict of its tables, or a table of
+    stores. A forecast is a text, a `Forecast`, or a table: dicts with `window` and the stores, a dict of columns, or a
+    data frame. Raises `Refusal`."""
     problem = texts(setup=setup, forecast=forecast)
     call = _library.rudlayog_plan_in_order if in_order else _library.rudlayog_plan
     return Plan._made(_library.told(call, texts=problem), problem)
@@ -139,34 +152,38 @@ def check(setup: SetupLike, forecast: ForecastLike, plan: PlanLike) -> Verdict:
 
 
 def chart(setup: SetupLike, forecast: ForecastLike, plan: PlanLike, *, worth: bool = False) -> Chart:
-    """The chart of a plan. With `worth` its windows are shaded by what they are worth at most, which takes up to some hundred times as long.
-    Raises `Refusal`."""
+    """The chart of a plan. With `worth` its windows are shaded by what they are worth at most, which takes up to some
+    hundred times as long. Raises `Refusal`."""
     call = _library.rudlayog_chart_worth if worth else _library.rudlayog_chart
     return Chart(_library.told(call, texts=texts(setup=setup, forecast=forecast, plan=plan)).decode("utf-8"))
 
 
 def table(setup: SetupLike, forecast: ForecastLike, plan: PlanLike) -> PlanTable:
     """The table of a plan: what each step does to each store. Raises `Refusal`."""
-    return PlanTable(_library.told(_library.rudlayog_table, texts=texts(setup=setup, forecast=forecast, plan=plan)).decode("ascii"))
+    given = texts(setup=setup, forecast=forecast, plan=plan)
+    return PlanTable(_library.told(_library.rudlayog_table, texts=given).decode("ascii"))
 
 
 def sensitivity(setup: SetupLike, forecast: ForecastLike) -> list[Worth]:
     """What each window, store size and limit is worth. Raises `Refusal`."""
     text = _library.told(_library.rudlayog_sensitivity, texts=texts(setup=setup, forecast=forecast)).decode("ascii")
     _, *records = csv.reader(io.StringIO(text))
-    return [Worth(item, name, int(step) if step else None, *map(int, numbers)) for item, name, step, *numbers in records]
+    return [
+        Worth(item, name, int(step) if step else None, *map(int, numbers)) for item, name, step, *numbers in records
+    ]
 
 
 def read(packets: Text | Iterable[Packet]) -> Replies:
-    """What requests and reports are, in words: packets, or a text with one in hexadecimal digits a line, as that of `Replies`."""
+    """What requests and reports are, in words: packets, or a text with one in hexadecimal digits a line, as that of
+    `Replies`."""
     outcome = ctypes.c_uint32()
     text = _library.told(_library.rudlayog_read, texts=(request_octets(packets),), more=(outcome,))
     return Replies(outcome.value == 1, text.decode("ascii"))
 
 
 def ask(setup: SetupLike, requests: Text | Iterable[Packet]) -> Replies:
-    """The lines that answer telecommands of the storage service: a text with one in hexadecimal digits a line, or the packets. Raises
-    `Refusal` where the setup is refused; a line that is refused is told in the replies."""
+    """The lines that answer telecommands of the storage service: a text with one in hexadecimal digits a line, or the
+    packets. Raises `Refusal` where the setup is refused; a line that is refused is told in the replies."""
     outcome = ctypes.c_uint32()
     text = _library.told(_library.rudlayog_ask, texts=(*texts(setup=setup), request_octets(requests)), more=(outcome,))
     return Replies(outcome.value == 1, text.decode("ascii"))
@@ -185,7 +202,8 @@ _KINDS: dict[str, tuple[type, Callable[[Any], bytes]]] = {
 
 
 def texts(**given: object) -> tuple[bytes, ...]:
-    """The octets of what is given as a setup, a forecast and a plan. Raises `TypeError` where they stand in another order."""
+    """The octets of what is given as a setup, a forecast and a plan. Raises `TypeError` where they stand in another
+    order."""
     return tuple([_octets(name, value) for name, value in given.items()])
 
 

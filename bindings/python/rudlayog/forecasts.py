@@ -12,7 +12,7 @@ from typing import Any, SupportsIndex, TypeVar, Union
 
 from . import _library
 from ._brief import brief
-from ._data import LIMIT, STEP, WINDOW, Column, Columns, Table, Text, is_text, numbers, octets, whole
+from ._data import LIMIT, SIZE, STEP, WINDOW, Column, Columns, Table, Text, is_text, numbers, octets, whole
 from ._steps import by_step
 from .setups import setup_with
 
@@ -23,48 +23,59 @@ Made = TypeVar("Made")
 @dataclass(frozen=True, eq=False)
 class Forecast:
     """A forecast: `windows`, how many blocks may leave all stores together in each step, `arrivals`, what arrives in
-    each step in each store, in blocks, and `limits`, how many blocks may leave the stores of channel C in each step, in
-    columns named `limit:C`. The stores stand in the setup's order, the limits by their channels. A forecast stays as it
-    is, and may be a key of a dict."""
+    each step in each store, in blocks, `limits`, how many blocks may leave the stores of channel C in each step, in
+    columns named `limit:C`, and `sizes`, how many blocks the store ID has room for in each step, in columns named
+    `size:ID`: the lesser of this and the setup's size counts. The stores and the sizes stand in the setup's order, the
+    limits by their channels. A forecast stays as it is, and may be a key of a dict."""
 
     windows: tuple[int, ...]
     arrivals: Columns
     limits: Columns = Columns({})
+    sizes: Columns = Columns({})
 
     def __post_init__(self) -> None:
         object.__setattr__(self, "windows", numbers(self.windows, WINDOW))
-        if not isinstance(self.arrivals, Columns):
-            object.__setattr__(self, "arrivals", Columns(by_step(self.arrivals)))
-        if not isinstance(self.limits, Columns):
-            object.__setattr__(self, "limits", Columns(by_step(self.limits)))
+        for kind in ("arrivals", "limits", "sizes"):
+            if not isinstance(getattr(self, kind), Columns):
+                object.__setattr__(self, kind, Columns(by_step(getattr(self, kind))))
         for name, column in self._columns.items():
             if len(column) != len(self.windows):
                 raise ValueError(f"column {name} has {len(column)} rows, and column {WINDOW} has {len(self.windows)}")
 
     @classmethod
-    def of(cls, windows: Iterable[SupportsIndex], arrivals: Table, limits: Table | None = None) -> Forecast:
+    def of(
+        cls,
+        windows: Iterable[SupportsIndex],
+        arrivals: Table,
+        limits: Table | None = None,
+        sizes: Table | None = None,
+    ) -> Forecast:
         """The forecast of these windows and arrivals: a table with a column for each store, and as many rows as there
-        are windows; and of limits, in the same way with a column `limit:C` for each channel C that has its own in each
-        step."""
-        return cls(windows, arrivals, Columns({}) if limits is None else limits)  # type: ignore[arg-type]
+        are windows; of limits, in the same way with a column `limit:C` for each channel C that has its own in each
+        step; and of sizes, with a column `size:ID` for each store ID that has its own in each step."""
+        further = [Columns({}) if each is None else each for each in (limits, sizes)]
+        return cls(windows, arrivals, *further)  # type: ignore[arg-type]
 
     @classmethod
     def table(cls, given: Table) -> Forecast:
-        """The forecast of a table with the columns `window`, one for each store, and `limit:C` for channels: rows that
-        are dicts, a dict of columns, or a data frame. With a column `step` the rows may stand in any order. Raises
-        `Refusal` where the steps are not 1, 2, 3 and so on."""
+        """The forecast of a table with the columns `window`, one for each store, `limit:C` for channels, and `size:ID`
+        for stores: rows that are dicts, a dict of columns, or a data frame. With a column `step` the rows may stand in
+        any order. Raises `Refusal` where the steps are not 1, 2, 3 and so on."""
         named = by_step(given)
         if WINDOW not in named:
             raise ValueError(f"a forecast has a column {WINDOW}, and here are only the columns {', '.join(named)}")
         windows = named.pop(WINDOW)
-        limits = {name: named.pop(name) for name in list(named) if name.startswith(LIMIT)}
-        return cls(windows, Columns(named), Columns(limits))
+        limits, sizes = (
+            Columns({name: named.pop(name) for name in list(named) if name.startswith(word)}) for word in (LIMIT, SIZE)
+        )
+        return cls(windows, Columns(named), limits, sizes)
 
     @classmethod
     def read(cls, text: Text) -> Forecast:
         """The forecast that a text says. Raises the library's `Refusal` where it is none for any setup."""
         given = octets(text)
-        _library.accept(bytes(setup_with([name for name in _header(given)[2:] if not name.startswith(LIMIT)])), given)
+        stores = [name for name in _header(given)[2:] if not name.startswith((LIMIT, SIZE))]
+        _library.accept(bytes(setup_with(stores)), given)
         names, *rows = _records(given)
         return cls.table({name: [int(cell) for cell in column] for name, *column in zip(names, *rows, strict=True)})
 
@@ -89,27 +100,28 @@ class Forecast:
         """What is forecast after a step, or from the first on after 0: its steps count from 1 again."""
         if not 0 <= whole(step, STEP) <= len(self.windows):
             raise ValueError(f"the forecast has {len(self.windows)} steps, and no step {step}")
-        arrivals, limits = (
-            Columns({name: column[step:] for name, column in named.items()}) for named in (self.arrivals, self.limits)
+        arrivals, limits, sizes = (
+            Columns({name: column[step:] for name, column in named.items()}) for named in self._kinds
         )
-        return Forecast(self.windows[step:], arrivals, limits)
+        return Forecast(self.windows[step:], arrivals, limits, sizes)
 
     def having(
-        self, windows: Iterable[SupportsIndex] | None = None, arrivals: Table | None = None, limits: Table | None = None
+        self,
+        windows: Iterable[SupportsIndex] | None = None,
+        arrivals: Table | None = None,
+        limits: Table | None = None,
+        sizes: Table | None = None,
     ) -> Forecast:
         """The same forecast with other windows, with other arrivals in the stores that are named, or with other limits
-        in the columns that are named. Its text is made from this one's."""
-        arriving, limiting = ({} if given is None else by_step(given) for given in (arrivals, limits))
-        for kind, named, own in (("store", arriving, self.arrivals), ("column", limiting, self.limits)):
+        or sizes in the columns that are named. Its text is made from this one's."""
+        others = [{} if given is None else by_step(given) for given in (arrivals, limits, sizes)]
+        for kind, named, own in zip(("store", "column", "column"), others, self._kinds):
             strange = [name for name in named if name not in own]
             if strange:
                 raise ValueError(f"the forecast has no {kind} {', '.join(strange)}")
-        merged = [
-            own.with_others(named) if named else own
-            for own, named in ((self.arrivals, arriving), (self.limits, limiting))
-        ]
+        merged = [own.with_others(named) if named else own for own, named in zip(self._kinds, others)]
         forecast = Forecast(self.windows if windows is None else windows, *merged)  # type: ignore[arg-type]
-        changed = {**arriving, **limiting}
+        changed = {name: column for named in others for name, column in named.items()}
         if changed and len(forecast.windows) == len(self.windows):
             vars(forecast)["_octets"] = self._text_having(None if windows is None else forecast.windows, changed)
         return forecast
@@ -127,10 +139,16 @@ class Forecast:
         )
         return form % in_order
 
+    @property
+    def _kinds(self) -> tuple[Columns, Columns, Columns]:
+        """The columns after the windows, of each kind, in their order in the text."""
+        return self.arrivals, self.limits, self.sizes
+
     @cached_property
     def _columns(self) -> Columns:
         """The columns after the windows."""
-        return self.arrivals.with_others(dict(self.limits.items())) if self.limits else self.arrivals
+        further = dict(chain(self.limits.items(), self.sizes.items()))
+        return self.arrivals.with_others(further) if further else self.arrivals
 
     @cached_property
     def _forms(self) -> dict[tuple[str, ...], bytes]:
@@ -156,7 +174,7 @@ class Forecast:
         return hash(self._octets)
 
     def __reduce__(self) -> tuple[object, ...]:
-        return Forecast, (self.windows, self.arrivals, self.limits)
+        return Forecast, (self.windows, *self._kinds)
 
 
 # What is taken as a forecast.

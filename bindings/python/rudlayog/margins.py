@@ -15,12 +15,11 @@
 from __future__ import annotations
 
 from collections.abc import Callable
-from dataclasses import dataclass
+from dataclasses import dataclass, replace
 from fractions import Fraction
 from functools import cache, cached_property
 from typing import TYPE_CHECKING, Any
 
-from ._any_steps import least_in_any_steps
 from ._brief import brief
 from ._files import Forms, table_forms
 from ._timeline import Problem, problem_of
@@ -29,7 +28,7 @@ from .calls import Verdict, check, plan
 from .forecasts import Forecast
 from .plans import Plan
 from .setups import Setup, Store
-from .variants import scaled
+from .variants import in_its_unit, scaled
 
 if TYPE_CHECKING:
     from .mission import Mission
@@ -59,11 +58,6 @@ class Point:
         """The packets that the plan loses, as many of the longest ones."""
         return self.plan.loss * self.unit
 
-    @property
-    def in_any_steps(self) -> int:
-        """The packets that are lost in whatever steps, but for rounding, as many of the longest ones."""
-        return least_in_any_steps(self.plan.cut, self.forecast) * self.unit
-
     def check(self) -> Verdict:
         """The verdict on the plan."""
         return check(self.setup, self.forecast, self.plan)
@@ -72,16 +66,13 @@ class Point:
 @brief
 @dataclass(frozen=True)
 class Room:
-    """The greatest percentage, with one decimal, at which no more is lost than today in the mission's steps, with its
-    point; and the point `beyond` it, a tenth further, whose cut shows that more is lost in these steps. In finer steps
-    there may be more room: `at_most` is the greatest percentage at which the cut does not show that more is lost in
-    whatever steps. There is no such point and no such percentage where even the most that is looked at loses no
-    more."""
+    """The greatest percentage, with one decimal, at which no more is lost than today, with its point; and the point
+    `beyond` it, a tenth further, whose cut shows that more is lost. There is no such point where even the most that is
+    looked at loses no more."""
 
     percent: float
     point: Point
     beyond: Point | None
-    at_most: float | None = None
 
     def check(self) -> Verdict:
         """The verdict on the plan at the greatest percentage."""
@@ -89,12 +80,7 @@ class Room:
 
     def words(self) -> str:
         """The percentage, as it is printed."""
-        if self.beyond is None:
-            return f"{self.percent:.1f} % and more"
-        if self.at_most is None:
-            return f"{self.percent:.1f} %, in finer steps perhaps more"
-        more = f", in finer steps perhaps {self.at_most:.1f} %" if self.at_most > self.percent else ""
-        return f"{self.percent:.1f} %{more}"
+        return f"{self.percent:.1f} %{'' if self.beyond else ' and more'}"
 
 
 @dataclass(frozen=True, repr=False)
@@ -112,12 +98,11 @@ class Margin:
     @classmethod
     def of(cls, mission: Mission, stores: tuple[str, ...] = ()) -> Margin:
         """The margin of a mission, with growth in these stores or in all."""
-        kept = mission.kept
-        names = [store.id for store in kept.stores]
+        problem = in_its_unit(mission).problem()
+        names = [store.id for store in mission.stores]
         for name in stores:
             if name not in names:
                 raise fault("", f"the store {name!r}", f"one of the stores {', '.join(names)}")
-        problem = kept.problem()
         loss = problem.least().loss * problem.unit.count
         growth = _room(lambda tenths: _grown(problem, stores, tenths), loss, MOST_GROWTH)
         return cls(
@@ -140,15 +125,13 @@ class Margin:
         return MissionPlan(self.mission, ((self.problem, made),))
 
     def to_dict(self) -> dict[str, list[Any]]:
-        """The table: of growth and of shrinking the percentage, what is lost there, what is lost a tenth further, and
-        up to which percentage finer steps may give room."""
+        """The table: of growth and of shrinking the percentage, what is lost there, and what a tenth further."""
         rooms = {"arrivals grow": self.growth, "stores shrink": self.shrink}
         return {
             "what": list(rooms),
             "percent": [room.percent for room in rooms.values()],
             "loss": [room.point.loss for room in rooms.values()],
             "beyond": [None if room.beyond is None else room.beyond.loss for room in rooms.values()],
-            "at most": [room.at_most for room in rooms.values()],
         }
 
     def text(self) -> str:
@@ -188,16 +171,15 @@ class Margin:
 def _room(point_at: Callable[[int], Point], loss: int, most: int) -> Room:
     """The greatest number of tenths of a percent at which no more is lost than this, up to the most."""
     looked = cache(point_at)
-    least = _greatest(lambda tenths: looked(tenths).loss <= loss, 0, most)
+    least = _greatest(lambda tenths: looked(tenths).loss <= loss, most)
     if least == most:
         return Room(least / 10, looked(least), None)
-    anyhow = _greatest(lambda tenths: looked(tenths).in_any_steps <= loss, least, most)
-    return Room(least / 10, looked(least), looked(least + 1), anyhow / 10 if anyhow < most else None)
+    return Room(least / 10, looked(least), looked(least + 1))
 
 
-def _greatest(holds: Callable[[int], bool], least: int, most: int) -> int:
-    """The greatest number from one on, up to another, for which this holds; it holds for the first."""
-    step, above = 8, most + 1
+def _greatest(holds: Callable[[int], bool], most: int) -> int:
+    """The greatest number up to the most for which this holds; it holds for 0."""
+    least, step, above = 0, 8, most + 1
     while above > most and least < most:
         tried = min(least + step, most)
         if holds(tried):
@@ -224,13 +206,14 @@ def _grown(problem: Problem, stores: tuple[str, ...], tenths: int) -> Point:
 
 def _shrunk(problem: Problem, tenths: int) -> Point:
     """The mission with stores that are this many tenths of a percent smaller, by whole blocks of the problem. What they
-    hold as the mission begins and has no room there arrives in the first step, and is lost."""
+    hold as the mission begins and has no room there arrives in the first step; what of it does not leave in it is
+    lost."""
     sizes = [max(store.size * (1000 - tenths) // 1000, 1) for store in problem.setup.stores]
     stores = [
         Store(each.id, size, each.type, each.channel, min(each.start, size))
         for each, size in zip(problem.setup.stores, sizes)
     ]
-    setup = Setup(tuple(stores), problem.setup.routes, problem.setup.limits)
+    setup = replace(problem.setup, stores=tuple(stores))
     forecast = problem.forecast
     more = {
         each.id: each.start - store.start

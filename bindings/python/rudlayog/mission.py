@@ -80,8 +80,8 @@ class Mission:
     a `packet` and of a `block` of memory, and what holds where passes `overlap`: with `both` each has a transmitter of
     its own, and with `better` there is one, which serves the pass that can send more of what the stores have. `begin`
     and `end` are those of the first and the last pass or observation if they are not said; what lies outside of them is
-    left out. `moments` are some at which a step begins too, and `unit` is how many of the longest packets are counted
-    as one, if these are to be kept. Raises `MissionError` with all faults; what is odd is a `MissionWarning`. """
+    left out. `unit` is how many of the longest packets are counted as one, if that is to be kept. Raises `MissionError`
+    with all faults; what is odd is a `MissionWarning`. """
 
     stores: tuple[PacketStore, ...]
     passes: tuple[Pass, ...]
@@ -94,7 +94,6 @@ class Mission:
     overlap: str | None
     name: str
     routes: tuple[Route, ...]
-    moments: tuple[datetime, ...]
     unit: int
 
     def __init__(
@@ -110,7 +109,6 @@ class Mission:
         overlap: str | None = None,
         name: str = "",
         routes: Iterable[Route] = (),
-        moments: Iterable[Moment] = (),
         unit: int = 0,
         place: str = "the mission",
     ) -> None:
@@ -145,12 +143,6 @@ class Mission:
         )
         set_fields(
             self, end=max(last for _, last in spans) if end is None else faults.of(moment_of, end, f"{place}, end")
-        )
-        set_fields(
-            self,
-            moments=tuple(
-                faults.of(moment_of, each, f"{place}, moments") for each in listed_of(moments, f"{place}, moments")
-            ),
         )
         faults.end()
         given_passes, given_observations = _named(self.passes), self.observations
@@ -202,6 +194,15 @@ class Mission:
 
         return mission_of(stores=stores, passes=passes, observations=observations, stations=stations, **more)
 
+    @cached_property
+    def _longest(self) -> dict[int | None, int]:
+        """The octets of the longest packet of each channel, and of all stores."""
+        found: dict[int | None, int] = {}
+        for store in self.stores:
+            for channel in (store.channel, None):
+                found[channel] = max(self.packet_of(store), found.get(channel, 0))
+        return found
+
     def packet_of(self, store: PacketStore) -> int:
         """The octets of a packet of this store."""
         return store.packet or self.packet
@@ -231,27 +232,13 @@ class Mission:
             self.the_pass(name)
         return remade(self, passes=tuple(one for one in self.passes if one.name not in names))
 
-    @cached_property
-    def kept(self) -> Mission:
-        """The same mission with the steps and the unit that it is planned with, which its changes keep. One with more
-        than 256 steps, which is planned in parts, keeps none."""
-        if self.moments:
-            return self
-        try:
-            problem = self.problem()
-        except MissionError:
-            return self
-        return remade(self, moments=problem.times, unit=problem.unit.count)
-
-    def changed(self, changes: ChangesLike, *, split: bool = False) -> Mission:
+    def changed(self, changes: ChangesLike) -> Mission:
         """The mission with one of the changes of `rudlayog.study` or several, one after the other, in any order. It
-        keeps the steps and the unit in which this one is planned, so that losses can be compared; where a pass begins
-        or ends at another time, a step does too. With `split` its steps are split again, where more than half a percent
-        of what it loses may come from them: a study answers what this mission loses when it is planned anew.
-        Raises `MissionError` where changes do not go together."""
+        keeps the unit in which this one is planned, so that losses can be compared; its steps are its own. Planned
+        anew it loses what a study answers. Raises `MissionError` where changes do not go together."""
         from .variants import changed
 
-        return changed(self, changes, split)
+        return changed(self, changes)
 
     def the_pass(self, name: str) -> Pass:
         """The pass of this name."""
@@ -288,10 +275,10 @@ class Mission:
         return tested(remade(self, stores=stores, begin=begin, end=end, **parts))
 
     def problem(self, step: timedelta | float | None = None) -> Problem:
-        """The setup and the forecast of the mission, and which step is when. The steps go from event to event, and are
-        split in passes in which data arrive in a store that would overflow, finest where most is lost; or they have at
-        most this length (a `timedelta`, or minutes), and begin at each event that changes what can be sent. Raises
-        `MissionError` where there are more than 256."""
+        """The setup and the forecast of the mission, and which step is when. The steps go from one moment at which a
+        rate changes, while something can be sent, to the next; with `step` none is longer than this (a `timedelta`, or
+        minutes). What arrives in a step may be sent in it, so that shorter steps lose no less. Raises `MissionError`
+        where there are more than 256."""
         from ._timeline import problem_of
 
         if step is not None:
@@ -308,11 +295,11 @@ class Mission:
         look: timedelta | float | None = None,
         in_order: bool = False,
     ) -> MissionPlan:
-        """A plan of which none in the same steps loses fewer. With a `horizon` (a `timedelta`, or minutes) the mission
-        is planned in parts of this length: each is planned together with what comes in the time `look` after it (as
-        long as the horizon, if it is not said), and the next one goes on from what is held at its end. With `in_order`
-        the mission's stores are served in their order: the first one loses least too, the first two together, and so
-        on."""
+        """A plan that loses least: no other one in its steps, and but for rounding no timeline, loses less. With a
+        `horizon` (a `timedelta`, or minutes) the mission is planned in parts of this length: each is planned together
+        with what comes in the time `look` after it (as long as the horizon, if it is not said), and the next one goes
+        on from what is held at its end. With `in_order` the mission's stores are served in their order: the first one
+        loses least too, the first two together, and so on."""
         from .sheets import MissionPlan
 
         if look is not None and horizon is None:

@@ -16,12 +16,15 @@ from .refusals import Refusal
 
 Row = TypeVar("Row", "Store", "Route", "Limit")
 
+# When the arrivals of a step come where a setup does not say it.
+BEFORE = "before"
+
 
 @brief
 @dataclass(frozen=True)
 class Store:
-    """A packet store: its identifier `id`, its `size` in blocks, its `type`, `bounded` or `circular`, its virtual `channel`, and at its
-    `start` the blocks that it holds as the first step begins."""
+    """A packet store: its identifier `id`, its `size` in blocks, its `type`, `bounded` or `circular`, its virtual
+    `channel`, and at its `start` the blocks that it holds as the first step begins."""
 
     id: str
     size: int
@@ -59,21 +62,25 @@ Limits = Union[Records, Iterable[Limit]]
 @brief
 @dataclass(frozen=True)
 class Setup:
-    """A setup: its `stores`, its `routes` and its `limits`. The library judges it when it is used: a setup that is not allowed can be
-    written here, and is refused there."""
+    """A setup: its `stores`, its `routes` and its `limits`, and whether the `arrivals` of a step come `before` its
+    dumps or `during` them. The library judges it when it is used: a setup that is not allowed can be written here, and
+    is refused there."""
 
     stores: tuple[Store, ...]
     routes: tuple[Route, ...] = ()
     limits: tuple[Limit, ...] = ()
+    arrivals: str = BEFORE
 
     def __post_init__(self) -> None:
         for name in ("stores", "routes", "limits"):
             object.__setattr__(self, name, tuple(getattr(self, name)))
 
     @classmethod
-    def of(cls, stores: Stores, routes: Routes = (), limits: Limits = ()) -> Setup:
-        """The setup of these stores, routes and limits, each a table: a list of `Store`s or of dicts, a dict of columns, or a data frame."""
-        return cls(_table(Store, stores), _table(Route, routes), _table(Limit, limits))
+    def of(cls, stores: Stores, routes: Routes = (), limits: Limits = (), arrivals: str = BEFORE) -> Setup:
+        """The setup of these stores, routes and limits, each a table: a list of `Store`s or of dicts, a dict of
+        columns, or a data frame. `arrivals` is `before`, or `during` where what arrives in a step may be sent while it
+        arrives."""
+        return cls(_table(Store, stores), _table(Route, routes), _table(Limit, limits), arrivals)
 
     @classmethod
     def read(cls, text: Text) -> Setup:
@@ -81,17 +88,23 @@ class Setup:
         given = octets(text)
         _library.accept(given)
         found = tomllib.loads(given.decode("utf-8-sig"))
-        return cls.of(found["store"], found.get("route", ()), found.get("limit", ()))
+        return cls.of(found["store"], found.get("route", ()), found.get("limit", ()), found.get("arrivals", BEFORE))
 
     def text(self) -> str:
         """The text of the setup, a TOML document."""
         return self._octets.decode()
 
+    @property
+    def _top(self) -> dict[str, str]:
+        """The key at the top of the text, which is written where it does not have its default."""
+        return {} if self.arrivals == BEFORE else {"arrivals": self.arrivals}
+
     @cached_property
     def _form(self) -> bytes:
         """The text with `%d` for the start volumes: setups that differ in these alone are made from it."""
-        tables = {"store": tuple(replace(store, start=0) for store in self.stores), "route": self.routes, "limit": self.limits}
-        return _document(tables).replace(b"%", b"%%").replace(b"\nstart = 0\n", b"\nstart = %d\n")
+        stores = tuple(replace(store, start=0) for store in self.stores)
+        named: dict[str, Any] = {**self._top, "store": stores, "route": self.routes, "limit": self.limits}
+        return _document(named).replace(b"%", b"%%").replace(b"\nstart = 0\n", b"\nstart = %d\n")
 
     @cached_property
     def _octets(self) -> bytes:
@@ -102,7 +115,7 @@ class Setup:
         return self._octets
 
     def __reduce__(self) -> tuple[object, ...]:
-        return Setup, (self.stores, self.routes, self.limits)
+        return Setup, (self.stores, self.routes, self.limits, self.arrivals)
 
     def holding(self, held: Mapping[str, SupportsIndex]) -> Setup:
         """The same setup with other start volumes: those of the stores that are named."""
@@ -110,14 +123,17 @@ class Setup:
         if strange:
             raise ValueError(f"the setup has no store {', '.join(sorted(map(str, strange)))}")
         starts = [whole(held.get(store.id, store.start), f"store {store.id}") for store in self.stores]
-        stores = tuple(Store(store.id, store.size, store.type, store.channel, start) for store, start in zip(self.stores, starts))
-        setup = Setup(stores, self.routes, self.limits)
+        stores = tuple(
+            Store(store.id, store.size, store.type, store.channel, start) for store, start in zip(self.stores, starts)
+        )
+        setup = Setup(stores, self.routes, self.limits, self.arrivals)
         vars(setup)["_form"] = self._form
         return setup
 
-    def to_dict(self) -> dict[str, list[dict[str, Any]]]:
-        """The tables of the setup, as the text has them."""
+    def to_dict(self) -> dict[str, Any]:
+        """The tables of the setup, and `arrivals` where they come during dumps, as the text has them."""
         return {
+            **self._top,
             "store": [asdict(store) for store in self.stores],
             "route": [asdict(route) for route in self.routes],
             "limit": [asdict(limit) for limit in self.limits],
@@ -131,7 +147,10 @@ SetupLike = Union[Text, Setup, Stores, Mapping[str, Records]]
 def _table(kind: type[Row], given: Any) -> tuple[Row, ...]:
     """The rows of a table, each as one of these."""
     table = rows(given) if isinstance(given, Mapping) or hasattr(given, "columns") else listed(given)
-    return tuple(row if isinstance(row, kind) else _row(kind, named_values(row, place), place) for place, row in enumerate(table, 1))
+    return tuple(
+        row if isinstance(row, kind) else _row(kind, named_values(row, place), place)
+        for place, row in enumerate(table, 1)
+    )
 
 
 def _row(kind: type[Row], given: dict[str, Any], place: int) -> Row:

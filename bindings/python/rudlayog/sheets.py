@@ -14,7 +14,7 @@ from typing import TYPE_CHECKING, Any, TypeVar, overload
 from ._brief import brief
 from ._files import Forms, save_as, workbook_of
 from ._flown import Flown, first_steps, flown_of
-from ._flows import arrivals_of, came, micro, use_of
+from ._flows import arrivals_of, micro, use_of
 from ._sharing import shared as shared
 from ._tables import csv_of, html_of
 from ._timeline import Problem, problem_of
@@ -182,13 +182,17 @@ class MissionPlan:
             return cls.of_problem(mission.problem(step), in_order)
         look_at_horizon(mission, horizon)
         ahead = horizon if look is None else look
+        whole = arrivals_of(mission)
         parts: list[tuple[Problem, Plan]] = []
         kept: list[int] = []
         begin, left = mission.begin, mission
         while begin < mission.end:
             end = min(begin + horizon, mission.end)
             part = left.between(begin, min(end + ahead, mission.end))
-            problem = problem_of(part, None if step is None else span_of(step, "step"), kept=(micro(part, end),))
+            # what arrives is rounded from the mission's begin on
+            arrivals = {store: coming.after(micro(mission, begin)) for store, coming in whole.items()}
+            length = None if step is None else span_of(step, "step")
+            problem = problem_of(part, length, (micro(part, end),), arrivals)
             parts.append((problem, plan(problem.setup, problem.forecast, in_order=in_order)))
             kept.append(problem.times.index(end))
             if end < mission.end:
@@ -278,34 +282,30 @@ class MissionPlan:
         return Sheet(tuple(self._rows()), self)
 
     def _rows(self) -> Iterator[Row]:
-        passes = self.mission.passes
-        begins = [step.begin for step in self.steps]
+        passes, steps = self.mission.passes, self.steps
+        starts = [step.begin for step in steps]
         # the step in which each pass begins: what is lost from there on is lost after its begin
-        first = [max(bisect_right(begins, max(one.begin, self.mission.begin)) - 1, 0) for one in passes]
-        if any(any(step.lost.values()) for step in self.steps[: first[0] if passes else None]):
-            upto = first[0] if passes else len(self.steps)
-            for store in self.mission.stores:
-                yield self._row(None, store.id, 0, upto, upto)
+        first = [max(bisect_right(starts, one.begin) - 1, 0) for one in passes] + [len(steps)]
+        if any(any(step.lost.values()) for step in steps[: first[0]]):
+            begin, end = self.mission.begin, steps[first[0] - 1].end
+            yield from self._rows_of(None, begin, end, steps[: first[0]])
         for place, one in enumerate(passes):
-            last = max(bisect_right(begins, min(one.end, self.mission.end) - MICROSECOND), first[place] + 1)
-            after = first[place + 1] if place + 1 < len(passes) else len(self.steps)
-            for store in self.mission.stores:
-                yield self._row(one, store.id, first[place], last, after)
+            begin, end = max(one.begin, self.mission.begin), min(one.end, self.mission.end)
+            yield from self._rows_of(one, begin, end, steps[first[place] : first[place + 1]])
 
-    def _row(self, one: Pass | None, store: str, first: int, last: int, after: int) -> Row:
-        """What a pass does to a store from a step on until another one, and what is lost until a third one; or what is
-        lost before the first pass."""
-        blocks = sum(step.shares.get(one.name, {}).get(store, 0) for step in self.steps[first:last]) if one else 0
-        lost = sum(step.lost[store] for step in self.steps[first:after])
-        octets = next(self.mission.packet_of(each) for each in self.mission.stores if each.id == store)
-        begin = max(one.begin, self.mission.begin) if one else self.mission.begin
-        end = min(one.end, self.mission.end) if one else self.steps[last - 1].end
-        minutes = self._minutes(one, blocks * octets) if one else 0.0
+    def _rows_of(self, one: Pass | None, begin: datetime, end: datetime, steps: Sequence[Flown]) -> Iterator[Row]:
+        """The rows of a pass, after whose begin these steps come until the next one begins; or those of the time before
+        the first pass."""
+        before, after = self.holds(begin), self.holds(end)
         name, station = (one.name, one.station) if one else (BEFORE, "")
-        held = self._held(store, first), self._held(store, last)
-        return Row(
-            name, station, begin, end, store, blocks, blocks * octets / 1e6, minutes, *held, lost, lost * octets / 1e6
-        )
+        for store in self.mission.stores:
+            octets = self.mission.packet_of(store)
+            blocks = sum(step.shares.get(name, {}).get(store.id, 0) for step in self.steps)
+            lost = sum(step.lost[store.id] for step in steps)
+            minutes = float(blocks * octets / use_of(self.mission, one).octets / 60) if one and blocks else 0.0
+            held = before[store.id], after[store.id]
+            sent = blocks, blocks * octets / 1e6, minutes
+            yield Row(name, station, begin, end, store.id, *sent, *held, lost, lost * octets / 1e6)
 
     def _held(self, store: str, steps: int) -> int:
         """What a store holds after that many steps."""
@@ -313,33 +313,27 @@ class MissionPlan:
             return self.steps[steps - 1].held[store]
         return next(self.mission.held_in(each) for each in self.mission.stores if each.id == store)
 
-    def _minutes(self, one: Pass, octets: int) -> float:
-        """How long the link sends these octets."""
-        return float(octets / use_of(self.mission, one).octets / 60) if octets else 0.0
-
     def holds(self, utc: Moment) -> dict[str, int]:
         """The blocks that each store holds at a moment. Inside of a step what has arrived rises to whole blocks, and
-        what has left falls."""
+        what has left, evenly as the timeline says, falls."""
         moment = moment_of(utc, "utc")
         if not self.mission.begin <= moment <= self.mission.end:
             raise fault(
                 "", written(moment), f"a moment from {written(self.mission.begin)} to {written(self.mission.end)}"
             )
         done = bisect_right([step.end for step in self.steps], moment)
-        found = {store.id: self._held(store.id, done) for store in self.mission.stores}
         if done == len(self.steps) or self.steps[done].begin == moment:
-            return found
+            return {store.id: self._held(store.id, done) for store in self.mission.stores}
         step = self.steps[done]
         part = Fraction((moment - step.begin) // MICROSECOND, (step.end - step.begin) // MICROSECOND)
-        part_begin = next(problem.times[0] for problem, _ in reversed(self.parts) if problem.times[0] <= moment)
-        times = [micro(self.mission, time) for time in (part_begin, step.begin, moment)]
-        # what rises to a whole packet until the step begins is there already
-        come = {store: came(flows, times).column()[1] for store, flows in arrivals_of(self.mission).items()}
-        sizes = {store.id: self.mission.size_of(store) for store in self.mission.stores}
-        return {
-            store: max(min(held + come[store], sizes[store]) - int(step.dumped[store] * part), 0)
-            for store, held in found.items()
-        }
+        coming = arrivals_of(self.mission)
+        times = [micro(self.mission, time) for time in (step.begin, moment)]
+        found = {}
+        for store in self.mission.stores:
+            (come,) = coming[store.id].column(times)
+            held = self._held(store.id, done) + come - int(step.dumped[store.id] * part)
+            found[store.id] = max(min(held, self.mission.size_of(store)), 0)
+        return found
 
     def at(self, utc: Moment, holds: Mapping[str, VolumeLike] | None = None) -> Mission:
         """The mission from a moment on, to be planned again: its stores hold what they do then by this plan, or the

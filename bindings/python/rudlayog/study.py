@@ -34,7 +34,7 @@ from ._brief import brief
 from ._files import Forms, save_as, table_forms
 from ._found import Found, FoundTable
 from ._running import Progress, results
-from ._units import fault, span_of
+from ._units import fault, span_of, whole_of
 from .forecasts import Forecast, ForecastLike, forecast_octets
 from .mission import Mission
 from .plans import Cut, Plan, Stretch
@@ -75,11 +75,10 @@ Given = Union[Mission, tuple[SetupLike, ForecastLike]]
 @brief
 @dataclass(frozen=True, slots=True)
 class Answer:
-    """What a variant loses, in blocks: all together, and by store. `bound` is that of its cut: no plan in these steps
-    loses fewer, and `is_least` says whether this one loses as few. In finer steps fewer may be lost, but not fewer than
-    `in_any_steps`, but for rounding; it is known of missions whose packets have one length. `shown` are the lines of
-    the cut. `ages` are for each store the greatest and the median age of what goes down, in hours, where they are asked
-    for. Where the variant is refused there are no numbers, and `refused` says why. """
+    """What a variant loses, in blocks: all together, and by store. `bound` is that of its cut: no plan in its steps, and
+    but for rounding no timeline, loses fewer, and `is_least` says whether this one loses as few. `shown` are the lines
+    of the cut. `ages` are for each store the greatest and the median age of what goes down, in hours, where they are
+    asked for. Where the variant is refused there are no numbers, and `refused` says why. """
 
     name: str
     loss: int | None
@@ -89,11 +88,10 @@ class Answer:
     refused: str
     parameters: Mapping[str, Any]
     ages: tuple[float, ...] = ()
-    in_any_steps: int | None = None
 
     @property
     def is_least(self) -> bool:
-        """Whether it is shown that no plan in these steps loses less."""
+        """Whether it is shown that no plan in its steps loses less."""
         return self.loss is not None and self.loss == self.bound
 
     @property
@@ -217,18 +215,9 @@ class Study(Sequence[Answer]):
             **{name: map(partial(table.parameter, name), rows) for name in table.parameter_names()},
             **losses,
             "least": (table.loss(row) is not None and table.loss(row) == table.bound(row) for row in rows),
-            **({f"in any steps{' MB' * (unit == 'MB')}": self._any_steps(unit)} if table.has_any_steps else {}),
             **({name: map(partial(self._age, place), rows) for name, place in ages.items()} if table.has_ages else {}),
             "refused": map(table.refused, rows),
         }
-
-    def _any_steps(self, unit: str) -> Iterator[Any]:
-        """The bounds that hold for any steps."""
-        bounds = map(self._table.in_any_steps, self._rows)
-        if unit == "blocks":
-            return bounds
-        octets = self.octets[0] if len(set(self.octets)) == 1 else None
-        return (None if bound is None or octets is None else bound * octets / 1e6 for bound in bounds)
 
     def _store_mb(self, place: int, row: int) -> float | None:
         loss = self._table.loss_of(place, row)
@@ -290,7 +279,7 @@ class Study(Sequence[Answer]):
 
 
 def _answered(name: str, found: Found, parameters: Mapping[str, Any]) -> Answer:
-    return Answer(name, *found[:5], parameters, found.ages, found.in_any_steps)
+    return Answer(name, *found[:5], parameters, found.ages)
 
 
 def study(
@@ -309,16 +298,14 @@ def study(
 ) -> Study:
     """The answers for variants of a mission, or of a setup and a forecast.
 
-    Each variant is planned anew, with the least loss in its steps: the answer is that of
-    `mission.changed(variant.changes, split=True).plan()`. Its steps are those of the mission, begin also where its
-    changes begin, and are split again where more than half a percent of what it loses may come from them. How many it
-    loses at least in any steps is said by `in_any_steps`. Or, with a `plan`, that one is flown, and where less can be sent than it
-    says, the stores give way in the reverse of their order. `by_store=False` leaves the losses by store out, but those
-    of a plan that is given. With `in_order` the stores are served in their order, and with `ages` it is told how old
-    data are that go down. With `horizon` and `look` the plans are made in parts, as `mission.plan` makes them.
-    `executor` is any of `concurrent.futures`, or Dask's `Client`; without one threads of this machine are used.
-    Whatever executes it, the table is the same. A worker that dies costs its variants a second try. A progress bar is
-    shown where standard error is a terminal; `Ctrl-C` ends the study with what is done."""
+    Each variant is planned anew, in steps of its own: the answer is that of `mission.changed(variant.changes).plan()`.
+    Or, with a `plan`, that one is flown, and where less can be sent than it says, the stores give way in the reverse of
+    their order. `by_store=False` leaves the losses by store out, but those of a plan that is given. With `in_order` the
+    stores are served in their order, and with `ages` it is told how old data are that go down. With `horizon` and
+    `look` the plans are made in parts, as `mission.plan` makes them. `executor` is any of `concurrent.futures`, or
+    Dask's `Client`; without one threads of this machine are used. Whatever executes it, the table is the same. A worker
+    that dies costs its variants a second try. A progress bar is shown where standard error is a terminal; `Ctrl-C` ends
+    the study with what is done."""
     task = _task(given, plan, by_store, in_order, ages, horizon, look)
     base = task.base
     table = FoundTable(len(base.setup.stores))
@@ -374,8 +361,8 @@ def _task(given: Given, plan: Any, by_store: bool, in_order: bool, ages: bool, h
 
 def _all_found(task: Task, variants: VariantsLike, executor: Any, chunk: int) -> Iterator[tuple[int, Variant, Found]]:
     """What is found of each variant, with its place, as it is done."""
-    if chunk < 1:
-        raise ValueError(f"chunk is {chunk}, and a worker is given at least 1 variant at a time")
+    if whole_of(chunk, "chunk") < 1:
+        raise fault("chunk", chunk, "at least 1 variant that a worker is given at a time")
     numbered = enumerate(variants_of(variants))
     for given, done in results(executor, found_of_all, task, numbered, chunk):
         if isinstance(done, BaseException):

@@ -15,10 +15,9 @@ from typing import TYPE_CHECKING, Any, Union
 from ._brief import brief
 from ._faults import listed_of
 from ._flows import use_of
-from ._units import Number, RateLike, Volume, VolumeLike, fault, number_of, rate_of, span_of, volume_of
+from ._units import MissionError, Number, RateLike, Volume, VolumeLike, fault, number_of, rate_of, span_of, volume_of
 from .forecasts import Forecast
 from ._parts import Pass, remade
-from ._timeline import problem_of
 from .mission import Mission, tested
 from .setups import Setup, Store
 
@@ -353,9 +352,18 @@ def changes_of(given: Any) -> tuple[Change, ...]:
     return tuple(each for change in given for each in changes_of(change))
 
 
-def changed(mission: Mission, given: ChangesLike, split: bool = False) -> Mission:
-    """The mission with these changes, one after the other, and with steps that are split again or not."""
-    first = made = mission.kept
+def in_its_unit(mission: Mission) -> Mission:
+    """The mission with the unit in which it is planned, which its changes keep. One with more than 256 steps, which is
+    planned in parts, has none."""
+    try:
+        return mission if mission.unit else remade(mission, unit=mission.problem().unit.count)
+    except MissionError:
+        return mission
+
+
+def changed(mission: Mission, given: ChangesLike) -> Mission:
+    """The mission with these changes, one after the other."""
+    first = made = in_its_unit(mission)
     for change in changes_of(given):
         if isinstance(change, Replaced):
             raise fault(
@@ -364,7 +372,7 @@ def changed(mission: Mission, given: ChangesLike, split: bool = False) -> Missio
                 "changes of the mission; such a function comes after all of them, in a study",
             )
         made = change.of(made, first)
-    return remade(made, moments=problem_of(made, split=True).times) if split and made.moments else made
+    return made
 
 
 def texts_changed(setup: Setup, forecast: Forecast, changes: Iterable[Change]) -> Texts:

@@ -1,7 +1,8 @@
 #!/usr/bin/env python3
-"""Compares the package with the program on random texts, good and bad: `compare.py PROGRAM CALLS SEED`. What goes to standard output, the
-status, and the words and the hint of each refusal must be the same; and texts that are read and written again must be answered as they are, where the
-library takes them, and be refused where it does not. Prints one line where that is so."""
+"""Compares the package with the program on random texts, good and bad: `compare.py PROGRAM CALLS SEED`. What goes to
+standard output, the status, and the words and the hint of each refusal must be the same; and texts that are read and
+written again must be answered as they are, where the library takes them, and be refused where it does not. Prints one
+line where that is so."""
 
 import random
 import subprocess
@@ -12,7 +13,8 @@ from dataclasses import astuple
 from pathlib import Path
 
 sys.path.insert(0, str(Path(__file__).resolve().parents[1]))
-from rudlayog import Forecast, Limit, Plan, Refusal, Route, Setup, Store, ask, chart, check, plan, read, sensitivity, table  # noqa: E402
+from rudlayog import Forecast, Limit, Plan, Refusal, Route, Setup, Store  # noqa: E402
+from rudlayog import ask, chart, check, plan, read, sensitivity, table  # noqa: E402
 
 EXAMPLES = Path(__file__).resolve().parents[3] / "examples"
 REQUESTS = (EXAMPLES / "requests" / "requests.hex").read_text().split("\n")
@@ -30,19 +32,24 @@ def setup(dice: random.Random) -> Setup:
     stores = []
     for name in names:
         size = dice.choice([1, 3, 9, 200, 1_000_000])
-        stores.append(Store(name, size, dice.choice(["bounded", "circular"]), dice.randint(0, 7), dice.randint(0, min(size, 9))))
+        kind, channel = dice.choice(["bounded", "circular"]), dice.randint(0, 7)
+        stores.append(Store(name, size, kind, channel, dice.randint(0, min(size, 9))))
     routes = {(dice.randint(0, 2046), dice.randint(0, 255), dice.randint(0, 255)) for _ in range(dice.randint(0, 3))}
     channels = dice.sample(range(8), dice.randint(0, 2))
-    return Setup.of(stores, [Route(*key, dice.choice(names)) for key in sorted(routes)], [Limit(channel, dice.randint(0, 4)) for channel in channels])
+    limits = [Limit(channel, dice.randint(0, 4)) for channel in channels]
+    arrivals = dice.choice(["before", "before", "during"])
+    return Setup.of(stores, [Route(*key, dice.choice(names)) for key in sorted(routes)], limits, arrivals)
 
 
 def forecast(dice: random.Random, stores: Setup) -> Forecast:
     steps = dice.choice([1, 2, 5, 12, 40])
     most = dice.choice([3, 9, 400])
     channels = sorted(dice.sample(range(8), dice.choice([0, 0, 1, 3])))
-    windows, *columns = ([dice.randint(0, most) for _ in range(steps)] for _ in range(1 + len(stores.stores) + len(channels)))
-    names = [*(store.id for store in stores.stores), *(f"limit:{channel}" for channel in channels)]
-    return Forecast.table({"window": windows, **dict(zip(names, columns))})
+    names = [store.id for store in stores.stores]
+    often = dice.choice([0, 0, 0.5])
+    sized = [f"size:{name}" for name in names if dice.random() < often]
+    names = ["window", *names, *(f"limit:{channel}" for channel in channels), *sized]
+    return Forecast.table({name: [dice.randint(0, most) for _ in range(steps)] for name in names})
 
 
 def spoiled(dice: random.Random, text: bytes) -> bytes:
@@ -82,11 +89,13 @@ def answered(command: str, given: list[bytes]) -> tuple[bytes, int, str, str | N
             return table(*given).text.encode(), 0, "", None
         if command == "sensitivity":
             records = (("" if cell is None else str(cell) for cell in astuple(worth)) for worth in sensitivity(*given))
-            return "\n".join(["item,name,step,now,next,most,without", *map(",".join, records), ""]).encode(), 0, "", None
+            header = "item,name,step,now,next,most,without"
+            return "\n".join([header, *map(",".join, records), ""]).encode(), 0, "", None
         replies = read(*given) if command == "read" else ask(*given)
         return replies.text.encode(), 0 if replies.all_done else 1, "", None
     except Refusal as refusal:
-        return f"refused {refusal.text()}\n".encode(), 1, f"expected {refusal.expected}; {refusal.advice}", refusal.found
+        words = f"expected {refusal.expected}; {refusal.advice}"
+        return f"refused {refusal.text()}\n".encode(), 1, words, refusal.found
 
 
 def told(call: Callable[[], object]) -> object:
@@ -117,20 +126,23 @@ def main() -> int:
             command = dice.choice(list(COMMANDS))
             found = texts(dice)
             if not are_read(found):
-                print(f"compare: call {call} of seed {seed}: the package and the library read differently: {found}"[:2000])
+                words = f"the package and the library read differently: {found}"
+                print(f"compare: call {call} of seed {seed}: {words}"[:2000])
                 return 1
             given = [found[name] for name in COMMANDS[command]]
             names = [str(Path(room, name)) for name in COMMANDS[command]]
             for name, text in zip(names, given, strict=True):
                 Path(name).write_bytes(text)
             ran = subprocess.run([program, *command.split(" "), *names], capture_output=True, check=False)
-            # of a verdict, and of a line that `ask` refuses, the program says more on standard error than the package keeps
+            # of a verdict, and of a line that `ask` refuses, the program says more on standard error than the package
+            # keeps
             words = ran.stderr.decode() if ran.stdout.startswith(b"refused ") else ""
             said = words[words.index("expected ") :].split("\n", 1)[0] if words else ""
             hint = next((line.removeprefix("hint: ") for line in words.splitlines() if line.startswith("hint: ")), None)
             if (ran.stdout, ran.returncode, said, hint) != answered(command, given):
                 print(f"compare: call {call} of seed {seed}, {command}: the package and the program answer differently")
-                print(f"program: {ran.stdout[:300]!r} {ran.returncode} {said!r} {hint!r}\npackage: {answered(command, given)!r}"[:2000])
+                print(f"program: {ran.stdout[:300]!r} {ran.returncode} {said!r} {hint!r}")
+                print(f"package: {answered(command, given)!r}"[:2000])
                 return 1
             refused += bool(said)
     print(f"compare: {calls} calls, {refused} of them refused: package and program answer the same")

@@ -1,104 +1,89 @@
-"""The least loss of a mission by a linear program of scipy, in octets, from what the mission says: passes are links
-with their rates and those of their channels, and steps have the edges that are given. Nothing is rounded."""
+"""The least loss of a mission by a linear program of scipy, in octets and without rounding, from what the mission says;
+and that of a setup and a forecast, in blocks."""
 
-from bisect import bisect_right
+from itertools import pairwise
 
+from player import Coming, length_of, links_of, octets_of, spans_of, time_of
 from scipy.optimize import linprog
 from scipy.sparse import lil_matrix
 
 
-def octets_a_second(mission, rate, length):
-    """What a rate sends in a second, where a block is a packet of this length."""
-    return float(rate.amount) * length if rate.in_blocks else float(rate.amount) / 8
+def edges_of(mission, longest=None):
+    """All moments at which something begins or ends, and others between them, if no step is to be longer than so many
+    seconds."""
+    last = time_of(mission, mission.end)
+    parts = [*mission.passes, *mission.observations]
+    events = {time_of(mission, moment) for one in parts for moment in (one.begin, one.end)}
+    edges = sorted({0, last, *(time for time in events if 0 < time < last)})
+    if longest is None:
+        return edges
+    counts = [-(-(end - begin) // (longest * 1_000_000)) for begin, end in pairwise(edges)]
+    inner = (
+        begin + (end - begin) * part // count
+        for (begin, end), count in zip(pairwise(edges), counts)
+        for part in range(count)
+    )
+    return [*inner, last]
 
 
-def used_times(mission, contacts):
-    """When each pass is used: all of it, or with `better` as the contacts say."""
-    if mission.overlap == "better":
-        return [(contact.one, contact.sends.begin / 1e6, contact.sends.end / 1e6) for contact in contacts]
-    span = (mission.end - mission.begin).total_seconds()
-    times = [
-        (one, (one.begin - mission.begin).total_seconds(), (one.end - mission.begin).total_seconds())
-        for one in mission.passes
+def links_in(mission, edges):
+    """The passes that are used in each step: the step, and what each of them sends at most, in octets, of which
+    stores."""
+    return [
+        (step, [(float(rate) * (until - first) / 1e6, kept) for rate, kept in links_of(mission, one).values()])
+        for one, begin, end in spans_of(mission)
+        for step, (first, until) in enumerate(pairwise(edges))
+        if begin <= first and until <= end
     ]
-    return [(one, max(begin, 0), min(end, span)) for one, begin, end in times]
 
 
-def least_octets(mission, times, contacts):
-    """The least loss in octets, in these steps."""
-    steps, stores = len(times) - 1, mission.stores
-    lengths = [mission.packet_of(store) for store in stores]
-    edges = [(time - mission.begin).total_seconds() for time in times]
-    arrivals = [[0.0] * steps for _ in stores]
-    for one in mission.observations:
-        place = [store.id for store in stores].index(one.store)
-        begin, end = ((time - mission.begin).total_seconds() for time in (one.begin, one.end))
-        rate = float(one.blocks_a_second(lengths[place])) * lengths[place]
-        for step in range(steps):
-            arrivals[place][step] += rate * max(min(end, edges[step + 1]) - max(begin, edges[step]), 0)
-    links = []
-    for one, begin, end in used_times(mission, contacts):
-        rate, channels = mission.rates(one)
-        longest = max(lengths)
-        for step in range(max(bisect_right(edges, begin) - 1, 0), steps):
-            span = min(end, edges[step + 1]) - max(begin, edges[step])
-            if span > 0:
-                own = {}
-                for channel, each in channels.items():
-                    own[channel] = (
-                        octets_a_second(
-                            mission,
-                            each,
-                            max((n for n, s in zip(lengths, stores) if s.channel == channel), default=longest),
-                        )
-                        * span
-                    )
-                links.append((step, octets_a_second(mission, rate, longest) * span, own))
+def least_octets(mission, longest=None):
+    """The least loss in octets. In a step everything comes and goes evenly, so what is held is most as it begins or
+    ends."""
+    edges, stores = edges_of(mission, longest), mission.stores
+    links, lengths = links_in(mission, edges), [length_of(mission, store) for store in stores]
+    steps = len(edges) - 1
     count = len(stores) * steps
     # lost and held for each store and step, and what each link sends of each store
     width = 2 * count + len(links) * len(stores)
     equal, right = lil_matrix((count, width)), []
-    rooms, most = lil_matrix((count + len(links) * 9, width)), []
     for place, store in enumerate(stores):
+        coming, octets = Coming(mission, store), lengths[place]
+        come = [float(coming.until(edge) * octets) for edge in edges]
         for step in range(steps):
             row = place * steps + step
             equal[row, row] = equal[row, count + row] = 1
             if step:
                 equal[row, count + row - 1] = -1
-            right.append(
-                arrivals[place][step] + (0 if step else float(store.holds.blocks(lengths[place])) * lengths[place])
-            )
-            # what is held before anything leaves is at most the size
-            rooms[row, count + row] = 1
-            most.append(mission.size_of(store) * lengths[place])
-    row = count
-    for number, (step, window, own) in enumerate(links):
-        for channel, limit in ((None, window), *own.items()):
-            for place, store in enumerate(stores):
-                if channel in (None, store.channel):
-                    rooms[row, 2 * count + number * len(stores) + place] = 1
-            most.append(limit)
-            row += 1
+            right.append(come[step + 1] - come[step] + (0 if step else float(octets_of(store.holds, octets))))
+    rooms, most = lil_matrix((sum(len(limits) for _, limits in links), width)), []
+    for number, (step, limits) in enumerate(links):
+        first = 2 * count + number * len(stores)
         for place in range(len(stores)):
-            sends = 2 * count + number * len(stores) + place
-            equal[place * steps + step, sends] = 1
-            rooms[place * steps + step, sends] = 1
-    rooms = rooms.tocsr()[:row]
+            equal[place * steps + step, first + place] = 1
+        for limit, kept in limits:
+            for place, store in enumerate(stores):
+                if store.id in kept:
+                    rooms[len(most), first + place] = 1
+            most.append(limit)
+    sizes = [int(octets_of(store.size, mission.block) // mission.block) * each for store, each in zip(stores, lengths)]
+    bounds = [(0, None)] * count + [(0, size) for size in sizes for _ in range(steps)] + [(0, None)] * (width - 2 * count)
+    given = {"A_ub": rooms.tocsr(), "b_ub": most} if most else {}
     found = linprog(
-        [1] * count + [0] * (width - count), A_ub=rooms, b_ub=most, A_eq=equal.tocsr(), b_eq=right, method="highs"
+        [1] * count + [0] * (width - count), A_eq=equal.tocsr(), b_eq=right, bounds=bounds, method="highs", **given
     )
     return found.fun
 
 
 def least_blocks(setup, forecast):
-    """The least loss of a setup and a forecast, in blocks."""
+    """The least loss of a setup and a forecast whose arrivals come during dumps, in blocks."""
     steps, stores, limits = len(forecast.windows), setup.stores, forecast.limits
     count = len(stores) * steps
 
     def at(kind, place, step):
         return kind * count + place * steps + step
 
-    # what is held before and arrives is lost, dumped or held; what is held and dumped is at most the size
+    # what is held before and arrives is lost, dumped or held; what is held as a step ends is at most the size
     equal, right = lil_matrix((count, 3 * count)), []
     rooms, most = lil_matrix((count + steps * (1 + len(limits)), 3 * count)), []
     for place, store in enumerate(stores):
@@ -109,7 +94,7 @@ def least_blocks(setup, forecast):
             if step:
                 equal[row, at(2, place, step - 1)] = -1
             right.append(forecast.arrivals[store.id][step] + (0 if step else store.start))
-            rooms[row, at(1, place, step)] = rooms[row, at(2, place, step)] = 1
+            rooms[row, at(2, place, step)] = 1
             most.append(store.size)
     for number, (channel, column) in enumerate(
         [(None, forecast.windows), *((int(name[6:]), column) for name, column in limits.items())]

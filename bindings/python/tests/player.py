@@ -3,7 +3,8 @@
 printed. Nothing here comes from the package's rules: how rates become windows, steps and units is not known.
 
 Packet n of a store is there when the octets of n packets have come. A dump sends its packets one after the other, each
-for its part of the dump's time; a packet leaves the store as its sending ends. A packet that comes whole while as many
+for its part of the dump's time; a packet leaves the store as its sending ends. Where several links send packets of one
+store at once, those that all but one of them are sending need no room in it. A packet that comes whole while as many
 are there as the store has room for is lost. One that would be sent before it begins to come is early, and stays.
 
     PYTHONPATH=.. ./player.py MISSION.toml
@@ -25,10 +26,11 @@ MICRO = timedelta(microseconds=1)
 @dataclass
 class Played:
     """What is seen: for each store what is `lost`; `early`, the packets whose sending ends before their coming begins,
-    or while the one before them still comes; `outside`, the dumps outside of their pass; `ahead`, the moments at which
-    a pass has sent more than its link or a channel has been able to send since it began; `fast`, the dumps' steps in
-    which more is sent than the rates allow in them, by one unit or more; `above`, those by any part of a unit, and
-    `most`, the greatest part; `twice`, the moments at which one transmitter serves two passes."""
+    or while the one before them still comes; `outside`, the dumps outside of the time in which their pass is used;
+    `ahead`, the moments at which a pass has sent more than its link or a channel has been able to send since this time
+    began; `fast`, the dumps' steps in which more is sent than the rates allow in them, by one unit or more; `above`,
+    those by any part of a unit, and `most`, the greatest part; `twice`, the moments at which one transmitter serves two
+    passes."""
 
     lost: dict = field(default_factory=dict)
     sent: dict = field(default_factory=dict)
@@ -118,14 +120,62 @@ class Coming:
         return sum((each * (min(max(time, begin), end) - begin) for begin, end, each in self.parts), Fraction(0))
 
 
+def links_of(mission, one):
+    """The octets a second of a pass, with the lengths of the stores that they are for: of its link, and then of each of
+    its channels that stores have."""
+    station = next((each for each in mission.stations if each.name == one.station), None)
+    lengths = {store.id: length_of(mission, store) for store in mission.stores}
+    channels = {**(station.channels if station else {}), **one.channels}
+    rate = one.rate if one.rate is not None else station.rate
+    links = {None: (octets_a_second(rate, max(lengths.values())), lengths)}
+    for channel, own in channels.items():
+        stores = {store.id: lengths[store.id] for store in mission.stores if store.channel == channel}
+        if stores:
+            links[channel] = octets_a_second(own, max(stores.values())), stores
+    return links
+
+
+def useful(mission, one):
+    """What a pass can send in a second of what the stores have channels for."""
+    links = links_of(mission, one)
+    link, channels = links[None][0], {store.channel for store in mission.stores}
+    return min(link, sum(links.get(channel, links[None])[0] for channel in channels))
+
+
+def spans_of(mission):
+    """When each pass is used, in microseconds of the mission: while it lasts, or with one transmitter for all, while no
+    other one can send more; where several can, the one that is in use already, or the earliest."""
+    last = time_of(mission, mission.end)
+    passes = sorted(mission.passes, key=lambda one: (one.begin, one.end))
+    spans = [(one, max(time_of(mission, one.begin), 0), min(time_of(mission, one.end), last)) for one in passes]
+    if mission.overlap != "better":
+        return spans
+    found, at = [], None
+    for begin, end in pairwise(sorted({time for _, *span in spans for time in span})):
+        there = [one for one, first, until in spans if first <= begin and end <= until]
+        most = max((useful(mission, one) for one in there), default=0)
+        best = [one for one in there if useful(mission, one) == most]
+        if best and at in best:
+            found[-1] = at, found[-1][1], end
+        elif best:
+            found.append((best[0], begin, end))
+        at = found[-1][0] if best else None
+    return found
+
+
 def play(mission, timeline, unit):
     """Plays the text of a timeline; `unit` is the octets of the largest unit that is counted."""
     dumps = dumps_in(mission, timeline)
     seen = Played()
     for store in mission.stores:
         play_store(mission, store, [dump for dump in dumps if dump.store == store.id], seen)
-    for one in mission.passes:
-        look_at_pass(mission, one, [dump for dump in dumps if dump.one == one.name], unit, seen)
+    spans = spans_of(mission)
+    seen.outside += sum(
+        not any(dump.one == one.name and begin <= dump.begin and dump.end <= end for one, begin, end in spans)
+        for dump in dumps
+    )
+    for one, begin, end in spans:
+        look_at_pass(mission, one, begin, [dump for dump in dumps if dump.one == one.name and dump.begin < end], unit, seen)
     if mission.overlap == "better":
         busy = sorted((dump.begin, dump.end, dump.one) for dump in dumps)
         end, at = 0, ""
@@ -152,17 +202,20 @@ def play_store(mission, store, dumps, seen):
         sent += leaves
         # what is there goes evenly from the one to the other: far from empty and from full no packet is early or lost
         if leaves and not (min(held, after) > 3 + len(active) and max(held, after) < size - 3 - len(active)):
-            come, each = first, (until - first) / (end - begin)
+            come, each = floor(first), (until - first) / (end - begin)
             for time in merge(*(dump.ends(begin, end) for dump in active)):
                 now = first + each * (time - begin)
-                held += floor(now) - floor(come)
-                lost += max(held - size, 0)
-                held = min(held, size) - 1
+                # what comes whole at this moment finds the room of the packet that leaves
+                whole = ceil(now) - 1 if each else floor(now)
+                held += whole - come
+                room = size + len(active) - 1
+                lost += max(held - room, 0)
+                held = min(held, room) - 1
                 # only the packet that is just coming may be the one that is sent; another one is not
-                early = held < -1 or (held == -1 and now == floor(now))
+                early = held < -1 or (held == -1 and not each and now == floor(now))
                 held, sent, seen.early = held + early, sent - early, seen.early + early
-                come = now
-            held += floor(until) - floor(come)
+                come = whole
+            held += floor(until) - come
         else:
             held = after
         lost += max(held - size, 0)
@@ -170,21 +223,10 @@ def play_store(mission, store, dumps, seen):
     seen.lost[store.id], seen.sent[store.id] = lost, sent
 
 
-def look_at_pass(mission, one, dumps, unit, seen):
-    """The rates of a pass and of its channels."""
-    begin, end = time_of(mission, one.begin), time_of(mission, one.end)
-    seen.outside += sum(dump.begin < max(begin, 0) or dump.end > end for dump in dumps)
-    station = next((each for each in mission.stations if each.name == one.station), None)
-    lengths = {store.id: length_of(mission, store) for store in mission.stores}
-    rate = one.rate if one.rate is not None else station.rate
-    channels = {**(station.channels if station else {}), **one.channels}
-    links = [(octets_a_second(rate, max(lengths.values())), lengths)]
-    for channel, own in channels.items():
-        stores = {store.id: lengths[store.id] for store in mission.stores if store.channel == channel}
-        if stores:
-            links.append((octets_a_second(own, max(stores.values())), stores))
-    times = sorted({max(begin, 0), *(time for dump in dumps for time in (dump.begin, dump.end))})
-    for a_second, stores in links:
+def look_at_pass(mission, one, begin, dumps, unit, seen):
+    """The rates of a pass, and of its channels, from a time on."""
+    times = sorted({begin, *(time for dump in dumps for time in (dump.begin, dump.end) if time > begin)})
+    for a_second, stores in links_of(mission, one).values():
         so_far = Fraction(0)
         for before, time in pairwise(times):
             octets = sum(
@@ -196,7 +238,7 @@ def look_at_pass(mission, one, dumps, unit, seen):
             seen.above += octets > can
             seen.fast += octets >= can + unit
             seen.most = max(seen.most, float((octets - can) / unit))
-            seen.ahead += so_far > a_second * (time - times[0]) / 1_000_000
+            seen.ahead += so_far > a_second * (time - begin) / 1_000_000
 
 
 def printed_losses(sheet):

@@ -10,7 +10,7 @@ import sys
 import time
 from concurrent.futures import ProcessPoolExecutor, ThreadPoolExecutor
 from dataclasses import replace
-from itertools import combinations
+from itertools import combinations, cycle
 from pathlib import Path
 
 sys.path.insert(0, str(Path(__file__).resolve().parents[1]))
@@ -18,7 +18,7 @@ sys.path.insert(0, str(Path(__file__).resolve().parent))
 from rudlayog._answering import Task  # noqa: E402
 from rudlayog._base import Base  # noqa: E402
 from rudlayog.mission import Mission, Pass, Station  # noqa: E402
-from rudlayog.study import Variant, answer_of, each_pass_lost, each_store_sized, grid, lost, scaled, study  # noqa: E402
+from rudlayog.study import Variant, answer_of, each_pass_lost, each_store_sized, grid, lost, rated, scaled, study  # noqa: E402
 from what_if import c_call  # noqa: E402
 
 EXAMPLE = Path(__file__).resolve().parents[3] / "examples" / "mars_week" / "mission.toml"
@@ -27,7 +27,7 @@ ROUNDS = 5
 
 
 def texts_of(base, variant):
-    """The texts of a variant, with all steps of the mission."""
+    """The texts of a variant."""
     return tuple(map(bytes, base.mission.changed(variant.changes).problem()))
 
 
@@ -133,9 +133,16 @@ def variants_for(mission):
     return [*grid(**axes), *(Variant(f"x {k}", (scaled(0.5 + k / 1000),)) for k in range(500))]
 
 
-def rate_of(mission, pool, clock):
+def rates_for(mission):
+    """2,000 variants in which rates change: of all passes, and of one."""
+    return [
+        Variant(f"rates x {k}", (rated(factor=0.5 + k / 1000, of=(of,) if k % 2 else ()),))
+        for k, of in zip(range(2000), cycle(one.name for one in mission.passes))
+    ]
+
+
+def rate_of(mission, variants, pool, clock):
     """How many of 2,000 variants are answered in a second of this clock."""
-    variants = variants_for(mission)
     study(mission, variants[:200], executor=pool, progress=False)
     begin = clock()
     found = study(mission, variants, executor=pool, progress=False)
@@ -147,21 +154,27 @@ def rate_of(mission, pool, clock):
 def print_rates(mission, base):
     """Variants a second of a processor, in one thread, and as many C calls; and by the clock on the wall in one thread
     and in four processes, which says something on a quiet machine alone."""
-    kinds = (("mars_week", mission), ("with passes that overlap", overlapping(mission)))
+    variants = variants_for(mission)
+    kinds = (
+        ("mars_week", mission, variants),
+        ("with passes that overlap", overlapping(mission), variants_for(overlapping(mission))),
+        ("where rates change", mission, rates_for(mission)),
+    )
     with ThreadPoolExecutor(1) as pool:
         told = ", ".join(
-            f"{name} {max(rate_of(one, pool, time.process_time) for _ in range(3)):.0f}" for name, one in kinds
+            f"{name} {max(rate_of(one, own, pool, time.process_time) for _ in range(3)):.0f}" for name, one, own in kinds
         )
-        alone = max(rate_of(mission, pool, time.perf_counter) for _ in range(3))
+        alone = max(rate_of(mission, variants, pool, time.perf_counter) for _ in range(3))
     with ProcessPoolExecutor(4) as pool:
-        many = max(rate_of(mission, pool, time.perf_counter) for _ in range(3))
+        many = max(rate_of(mission, variants, pool, time.perf_counter) for _ in range(3))
     call = c_call(*map(bytes, (base.setup, base.forecast)))
     begin = time.process_time()
     for _ in range(1000):
         call()
     in_c = 1000 / (time.process_time() - begin)
     print(
-        f"study: 2000 variants of passes lost and arrivals scaled, variants a second of a processor: {told}; C calls "
+        f"study: 2000 variants of passes lost and arrivals scaled, or of rates, variants a second of a processor: {told}; "
+        f"C calls "
         f"{in_c:.0f}; by the clock on the wall {alone:.0f}, in four processes {many:.0f}, {many / alone:.2f} times as "
         f"many; "
         f"load {os.getloadavg()[0]:.1f}"

@@ -1,5 +1,5 @@
-"""The calls, on the examples of the repository and on texts that are refused. The answers that are wanted stand in docs/FORMATS.md and in
-the pages of the examples."""
+"""The calls, on the examples of the repository and on texts that are refused. The answers that are wanted stand in
+docs/FORMATS.md and in the pages of the examples."""
 
 import concurrent.futures
 import ctypes
@@ -17,12 +17,31 @@ from pathlib import Path
 
 import rudlayog
 from interrupting import interrupted_by
-from rudlayog import Cut, Forecast, Plan, Refusal, Replies, Setup, Store, Stretch, Worth, _library, ask, chart, check, plan, read, sensitivity, table
+from rudlayog import (
+    Cut,
+    Forecast,
+    Plan,
+    Refusal,
+    Replies,
+    Setup,
+    Store,
+    Stretch,
+    Worth,
+    _library,
+    ask,
+    chart,
+    check,
+    plan,
+    read,
+    sensitivity,
+    table,
+)
 from rudlayog.memory import STORE_KINDS
 
 EXAMPLES = Path(__file__).resolve().parents[3] / "examples"
 FIRST = EXAMPLES / "first_run"
 MISSION = EXAMPLES / "mission"
+PLANNED = [FIRST, MISSION, *(EXAMPLES / name for name in ("tight", "channel_limit", "during", "bank_off", "deadline"))]
 # How many plans are made while a handler plans too.
 HANDLED_PLANS = int(os.environ.get("HANDLED_PLANS", "5000"))
 SETUP = '[[store]]\nid = "SCI"\nsize = 4\ntype = "bounded"\nchannel = 0\n'
@@ -35,7 +54,7 @@ def files(folder):
 
 class Planning(unittest.TestCase):
     def test_examples(self):
-        for folder in (FIRST, MISSION, EXAMPLES / "tight", EXAMPLES / "channel_limit"):
+        for folder in PLANNED:
             made = plan(*files(folder))
             self.assertEqual(bytes(made), (folder / "plan.txt").read_bytes())
             verdict = check(*files(folder), made)
@@ -56,7 +75,11 @@ class Planning(unittest.TestCase):
     def test_tables(self):
         # docs/FORMATS.md, 'The table of a plan', has the one of the first run.
         made = table(*files(FIRST), FIRST / "plan.txt")
-        self.assertEqual(made.text, "step,window,store,arrived,lost,dumped,held\n1,2,SCI,3,0,2,1\n2,2,SCI,3,0,2,2\n3,0,SCI,4,2,0,4\n")
+        header = "step,window,store,arrived,lost,dumped,held"
+        self.assertEqual(made.text, f"{header}\n1,2,SCI,3,0,2,1\n2,2,SCI,3,0,2,2\n3,0,SCI,4,2,0,4\n")
+        # examples/during/README.md has these numbers, step by step.
+        during = table(*files(EXAMPLES / "during"), EXAMPLES / "during" / "plan.txt")
+        self.assertEqual(during.text, f"{header}\n1,0,CAM,6,0,0,6\n2,30,CAM,40,6,30,10\n3,0,CAM,4,4,0,10\n")
         self.assertEqual(made.to_dict()["held"], [1, 2, 4])
         self.assertEqual(made.to_frame(dict)["store"], ["SCI", "SCI", "SCI"])
         with tempfile.TemporaryDirectory() as room:
@@ -73,10 +96,15 @@ class Planning(unittest.TestCase):
         # docs/PLANNING.md, 'What a wider pass would save': no pass helps but from step 6 to step 21.
         day = sensitivity(*files(EXAMPLES / "two_passes"))
         self.assertEqual([worth.step for worth in day if worth.item == "window" and worth.most], list(range(6, 22)))
-        # Of 6 blocks 2 are lost, 2 leave (the limit), and of 2 + 4 then 2 are lost; what leaves in step 2 comes too late.
+        # Of 6 blocks 2 are lost, 2 leave (the limit), and of 2 + 4 then 2 are lost; what leaves in step 2 comes too
+        # late.
         by_step = sensitivity(SETUP, Forecast.of([3, 4], {"SCI": [6, 4]}, limits={"limit:0": [2, 1]}))
         self.assertEqual(by_step[-2], Worth("limit", "0", 1, now=2, next=1, most=1, without=2))
         self.assertEqual(by_step[-1], Worth("limit", "0", 2, now=1, next=0, most=0, without=0))
+        # Of 6 blocks 2 are lost, 3 leave, and of 1 + 4 then 3 are lost; in step 1 the setup's size of 4 counts.
+        sized = sensitivity(SETUP, Forecast.of([3, 4], {"SCI": [6, 4]}, sizes={"size:SCI": [4, 2]}))
+        self.assertEqual(sized[-2], Worth("size", "SCI", 1, now=4, next=0, most=0, without=3))
+        self.assertEqual(sized[-1], Worth("size", "SCI", 2, now=2, next=1, most=2, without=2))
 
     def test_data_in_place_of_texts(self):
         setup = Setup.of([Store("SCI", 4)])
@@ -87,7 +115,9 @@ class Planning(unittest.TestCase):
             [{"window": 2, "SCI": 3}, {"window": 2, "SCI": 3}, {"window": 0, "SCI": 4}],
         ):
             self.assertEqual(bytes(plan(setup, forecast)), wanted)
-            self.assertEqual(bytes(plan({"store": [{"id": "SCI", "size": 4, "type": "bounded", "channel": 0}]}, forecast)), wanted)
+            self.assertEqual(
+                bytes(plan({"store": [{"id": "SCI", "size": 4, "type": "bounded", "channel": 0}]}, forecast)), wanted
+            )
 
     def test_rows_in_any_order(self):
         # The plan of a table whose rows stand backwards is that of the same table.
@@ -99,7 +129,7 @@ class Planning(unittest.TestCase):
         self.assertEqual(check(*files(MISSION), backwards).loss, made.loss)
 
     def test_read_and_written_again(self):
-        for folder in (FIRST, MISSION, EXAMPLES / "tight", EXAMPLES / "channel_limit"):
+        for folder in PLANNED:
             setup, forecast = Setup.read(folder / "setup.toml"), Forecast.read(folder / "forecast.csv")
             made = plan(setup, forecast)
             self.assertEqual(bytes(made), (folder / "plan.txt").read_bytes())
@@ -120,7 +150,8 @@ class Planning(unittest.TestCase):
                 call(*given)
 
     def test_verdicts(self):
-        # A store of 4 blocks with 3, 3 and 4 arrivals and windows 2, 2, 0: at least 2 blocks are lost, and the cut shows it.
+        # A store of 4 blocks with 3, 3 and 4 arrivals and windows 2, 2, 0: at least 2 blocks are lost, and the cut shows
+        # it.
         dumps = {"SCI": [2, 2, 0]}
         whole = Cut((Stretch("SCI", 1, 3),), (), 2)
         given = (SETUP, FORECAST)
@@ -175,31 +206,63 @@ class Refusing(unittest.TestCase):
         self.assertEqual((refusal.row, refusal.field), (1, "size"))
         self.assertTrue(refusal.expected.startswith("the keys that docs/FORMATS.md lists"))
         self.assertTrue(refusal.advice)
-        self.assertEqual(refusal.words(), f"28 SetupField row 1 name size: expected {refusal.expected}; {refusal.advice}")
+        self.assertEqual(
+            refusal.words(), f"28 SetupField row 1 name size: expected {refusal.expected}; {refusal.advice}"
+        )
         self.assertEqual(str(pickle.loads(pickle.dumps(refusal))), str(refusal))
 
     def test_what_was_found(self):
         # docs/FORMATS.md, 'Hints'.
         for call, given, found in (
-            (plan, (SETUP.replace("size = 4", 'size = "4"'), FORECAST), 'table 1 of store, "SCI", has size = "4"; a whole number is expected; write it without quotes'),
-            (plan, (SETUP, FORECAST.replace("1,2,3", "1,2,03")), 'row 1 has "03" in the column "SCI", where a whole number is expected; it is line 2 of the file, whose header is line 1'),
+            (
+                plan,
+                (SETUP.replace("size = 4", 'size = "4"'), FORECAST),
+                'table 1 of store, "SCI", has size = "4"; a whole number is expected; write it without quotes',
+            ),
+            (
+                plan,
+                (SETUP, FORECAST.replace("1,2,3", "1,2,03")),
+                'row 1 has "03" in the column "SCI", where a whole number is expected; it is line 2 of the file, whose '
+                "header is line 1",
+            ),
             (plan, (FORECAST, SETUP), "the files are in another order; name the setup first, then the forecast"),
-            (plan, (SETUP, {"window": [2], "SCI": [-1]}), 'row 1 has "-1" in the column "SCI", where a whole number is expected; it is line 2 of the file, whose header is line 1'),
+            (
+                plan,
+                (SETUP, {"window": [2], "SCI": [-1]}),
+                'row 1 has "-1" in the column "SCI", where a whole number is expected; it is line 2 of the file, whose '
+                "header is line 1",
+            ),
             (check, (SETUP, {"window": [2], "HK": [1]}, ""), 'column 3 of the header is "HK", and "SCI" is expected'),
-            (chart, (SETUP, FORECAST, "refused 28 SetupField\n"), "the file holds the line of a refusal, and no plan; plan again"),
+            (
+                chart,
+                (SETUP, FORECAST, "refused 28 SetupField\n"),
+                "the file holds the line of a refusal, and no plan; plan again",
+            ),
             (ask, (SETUP.replace("= 4", "= 0"), ""), 'table 1 of store, "SCI", has size = 0; 1 to 1000000 can be'),
-            (rudlayog.Memory, (SETUP.replace("= 4", "= 0"),), 'table 1 of store, "SCI", has size = 0; 1 to 1000000 can be'),
-            (Setup.read, (SETUP.replace("bounded", "round"),), 'table 1 of store, "SCI", has the type "round"; "circular" and "bounded" can be'),
-            (Forecast.read, ("step,window,SCI\n3,2,7\n",), 'the step is "3" in line 2 of the file, whose header is line 1; it is to be 1'),
+            (
+                rudlayog.Memory,
+                (SETUP.replace("= 4", "= 0"),),
+                'table 1 of store, "SCI", has size = 0; 1 to 1000000 can be',
+            ),
+            (
+                Setup.read,
+                (SETUP.replace("bounded", "round"),),
+                'table 1 of store, "SCI", has the type "round"; "circular" and "bounded" can be',
+            ),
+            (
+                Forecast.read,
+                ("step,window,SCI\n3,2,7\n",),
+                'the step is "3" in line 2 of the file, whose header is line 1; it is to be 1',
+            ),
         ):
             refusal = self.refused(call, *given)
             self.assertEqual((refusal.found, str(refusal)), (found, f"{refusal.words()}; found {found}"))
 
     def test_words_of_every_refusal(self):
-        for number in range(55):
+        for number in range(56):
             words = _library.told(_library.rudlayog_words, _library.RefusedAt(number=number)).decode()
             self.assertTrue(words.startswith(f"{number} "), words)
-        self.assertEqual(_library.told(_library.rudlayog_words, _library.RefusedAt(number=55)), b"")
+        self.assertEqual(_library.told(_library.rudlayog_words, _library.RefusedAt(number=56)), b"")
         self.assertEqual(_library.told(_library.rudlayog_words, _library.RefusedAt(number=1, place=6)), b"")
         self.assertEqual(_library.told(_library.rudlayog_words, _library.RefusedAt(number=1, place=5, name=20)), b"")
 
@@ -227,7 +290,10 @@ class Asking(unittest.TestCase):
         self.assertEqual((told.all_done, told), (True, read(packet.hex() + "\n")))
         self.assertEqual(
             told.lines,
-            ("1 telecommand apid 100 count 1 length 4 acknowledgement 0 service 15 subtype 18 source 7", "  report the status of each store"),
+            (
+                "1 telecommand apid 100 count 1 length 4 acknowledgement 0 service 15 subtype 18 source 7",
+                "  report the status of each store",
+            ),
         )
         self.assertEqual(read("xx\n"), Replies(False, "1 refused 49 HexLine\n"))
 
@@ -289,15 +355,31 @@ class Buffers(unittest.TestCase):
     def test_constants_of_the_header(self):
         header = (Path(__file__).resolve().parents[2] / "c" / "rudlayog.h").read_text()
         told = {name: int(value) for name, value in re.findall(r"\bRUDLAYOG_(\w+) = (\d+)", header)}
-        for name in ("WRITTEN", "TOO_SMALL", "REFUSED", "CLOSED", "OPEN", "END", "PLAN_ROOM", "LINE_ROOM", "INSTRUCTIONS", "BLOCK", "PACKET", "DONE", "ROW"):
+        for name in (
+            "WRITTEN",
+            "TOO_SMALL",
+            "REFUSED",
+            "CLOSED",
+            "OPEN",
+            "END",
+            "PLAN_ROOM",
+            "LINE_ROOM",
+            "INSTRUCTIONS",
+            "BLOCK",
+            "PACKET",
+            "DONE",
+            "ROW",
+        ):
             self.assertEqual(getattr(_library, name), told[name], name)
         for name in ("NO_MEMORY", "SHORT", "HEADER", "STEP_NUMBER", "PLAN_TEXT", "HEX_LINE"):
             self.assertEqual(getattr(_library, name), told[f"REFUSAL_{name}"], name)
         self.assertEqual(_library.LEAST, (told["LEAST"], told["LEAST_IN_ORDER"]))
-        self.assertEqual([told["CIRCULAR"], told["BOUNDED"]], [STORE_KINDS.index("circular"), STORE_KINDS.index("bounded")])
+        self.assertEqual(
+            [told["CIRCULAR"], told["BOUNDED"]], [STORE_KINDS.index("circular"), STORE_KINDS.index("bounded")]
+        )
         # The room for words does for each refusal, at any place.
         far = {"row": 2**32 - 1, "column": 2**32 - 1, "line": 2**64 - 1}
-        for number in range(55):
+        for number in range(56):
             for place in range(6):
                 refused = _library.RefusedAt(number=number, place=place, name=6, **far)
                 self.assertLessEqual(len(_library.told(_library.rudlayog_words, refused)), told["WORDS_ROOM"])
@@ -316,7 +398,9 @@ class Documented(unittest.TestCase):
             if not inspect.isclass(public):
                 continue
             for member, value in vars(public).items():
-                named_in_the_class = dataclasses.is_dataclass(public) and member in {field.name for field in dataclasses.fields(public)}
+                named_in_the_class = dataclasses.is_dataclass(public) and member in {
+                    field.name for field in dataclasses.fields(public)
+                }
                 if not member.startswith("_") and not named_in_the_class:
                     self.assertTrue(inspect.getdoc(getattr(value, "func", value)), f"{name}.{member}")
             for field in dataclasses.fields(public) if dataclasses.is_dataclass(public) else ():

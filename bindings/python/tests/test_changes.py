@@ -6,7 +6,6 @@ import unittest
 from dataclasses import replace
 
 from rudlayog import Forecast, Setup, Store, plan
-from rudlayog._any_steps import least_in_any_steps
 from rudlayog.mission import Mission, MissionError, Observation, PacketStore, Pass, Station
 from rudlayog.study import Changed, Replaced, grid, lost, rated, scaled, shortened, sized, study
 
@@ -157,55 +156,57 @@ class Steps(unittest.TestCase):
         self.assertEqual(plan(setup, Forecast.of([10, 10, 10], {"A": [10, 10, 10]})).loss, 0)
         self.assertEqual(plan(setup, Forecast.of([30], {"A": [30]})).loss, 20)
 
-    def test_steps_are_short_where_data_overflow(self):
-        # 200 kbit/s come while 180 kbit/s leave: 9 MB more than 2 MB are lost, with long steps all but 2 MB
+    def test_one_step_is_enough_in_a_pass(self):
+        # 200 kbit/s come while 180 kbit/s leave: 9 MB more, for which there are 2 MB
         mission = day(
             stores=[PacketStore("A", "2 MB")],
             passes=[Pass("S", at(6), at(7), "180 kbit/s")],
             observations=[Observation("A", at(6), at(7), "200 kbit/s")],
         )
-        self.assertEqual(mission.plan(step=1440).loss, 88_000)
-        self.assertLessEqual(mission.plan().loss, 7_000 + 2_000)
+        for step in (None, 7, 1440):
+            self.assertEqual(mission.plan(step=step).loss, 7_000, step)
 
 
-class AnySteps(unittest.TestCase):
+class DuringDumps(unittest.TestCase):
     def test_by_hand(self):
-        # 45 MB come in the hour of the pass, which sends 36 MB, into a store of 2 MB: in one step all but the 2 MB that
-        # it has room for are lost, 43 MB; in whatever steps at least 45 - 36 - 2
+        # 45 MB come in the hour of the pass, which sends 36 MB, into a store of 2 MB: in one step 45 - 36 - 2 MB are lost
         mission = day(
             stores=[PacketStore("A", "2 MB")],
             passes=[Pass("S", at(6), at(7), "80 kbit/s")],
             observations=[Observation("A", at(6), at(7), "100 kbit/s")],
         )
-        problem = replace(mission, moments=(at(3),)).problem()
-        made = problem.least()
-        self.assertEqual((made.loss, least_in_any_steps(made.cut, problem.forecast)), (43_000, 7_000))
-        # a variant of a mission that loses nothing is planned in steps of its own, where much may be gained
+        problem = mission.problem()
+        self.assertEqual((len(problem), problem.setup.arrivals, problem.least().loss), (3, "during", 7_000))
+        # a variant of a mission that loses nothing is planned in steps of its own
         base = replace(mission, observations=(Observation("A", at(6), at(7), "4 kbit/s"),))
         self.assertEqual(base.plan().loss, 0)
         (answer,) = study(base, {"25 times as much": scaled(25)}, progress=False)
-        self.assertEqual((answer.loss, answer.is_least), (base.changed(scaled(25), split=True).plan().loss, True))
-        self.assertGreater(base.changed(scaled(25)).plan().loss, answer.loss)
-        # the shortest steps have 10 s or a little more, in each of which 12.5 packets a second come
-        self.assertTrue(7_000 <= answer.loss <= 7_000 + 20 * 12.5)
-        self.assertTrue(answer.loss - 20 * 12.5 <= answer.in_any_steps <= 7_000)
-        # nothing comes while the pass sends: no steps lose fewer
+        self.assertEqual((answer.loss, answer.is_least), (7_000, True))
         (answer,) = study(day(), {"without S 1": lost("S 1")}, progress=False)
-        self.assertEqual((answer.loss, answer.in_any_steps), (14_000, 14_000))
-        self.assertIn("no timeline loses fewer than 14,000,", day().changed(lost("S 1")).plan().passes().markdown())
+        self.assertEqual((answer.loss, answer.bound), (14_000, 14_000))
+        self.assertIn("no timeline loses fewer", day().changed(lost("S 1")).plan().passes().markdown())
 
-    def test_a_margin_of_other_steps(self):
-        # in one step what comes in the pass fills the store of 40 MB; sent as it comes, 36 MB more could come
+    def test_a_pass_that_ends_earlier_ends_its_step(self):
+        # 4 MB come evenly into a store of 2 MB over two hours, in the first of which 80 kbit/s could send 36 MB. With a
+        # pass of half an hour all that comes from 6:30 on is kept or lost: 3 - 2 MB.
+        mission = day(
+            stores=[PacketStore("A", "2 MB")],
+            passes=[Pass("S", at(6), at(7), "80 kbit/s")],
+            observations=[Observation("A", at(6), at(8), volume="4 MB")],
+        )
+        self.assertEqual(mission.plan().loss, 0)
+        (answer,) = study(mission, {"half": shortened("S 1", early=30)}, progress=False)
+        self.assertEqual(answer.loss, 1_000)
+
+    def test_a_margin(self):
+        # what comes in the pass is sent as it comes: 36 MB are sent, and 40 MB stay. 111.1 % more are 75.996 MB
         mission = day(
             stores=[PacketStore("A", "40 MB")],
             passes=[Pass("S", at(6), at(7), "80 kbit/s")],
             observations=[Observation("A", at(6), at(7), "80 kbit/s")],
-            moments=[at(3)],
         )
         growth = mission.margin().growth
-        # 36 MB: 11.1 % more are 39.996 MB, and 11.2 % 40.032 MB; and 111.1 % more are 75.996 MB of 76
-        self.assertEqual((growth.percent, growth.at_most), (11.1, 111.1))
-        self.assertEqual(growth.words(), "11.1 %, in finer steps perhaps 111.1 %")
+        self.assertEqual((growth.percent, growth.words()), (111.1, "111.1 %"))
         self.assertEqual(day().margin().growth.words(), "0.0 %")
 
 

@@ -1,117 +1,95 @@
-"""Sheets and timelines as they are flown: a player that knows none of the package's rules sends each packet."""
+"""Sheets and timelines as they are flown: a player that knows none of the package's rules sends each packet, on missions
+that are drawn by chance; and a linear program in continuous time loses no less than the bound. Prints the seed and what
+was counted; SEED and MISSIONS set the seed and how many missions there are."""
 
+import os
 import random
+import re
+import sys
 import unittest
-import warnings
+from collections import Counter
 from datetime import datetime, timedelta, timezone
 from pathlib import Path
 
-from made_missions import made_mission
+import drawn
 from player import play, printed_losses
-from rudlayog.mission import Mission, MissionWarning, Observation, PacketStore, Pass, Station
+from rudlayog.mission import Mission, Observation, PacketStore, Pass
+
+try:
+    import least
+except ImportError:
+    least = None
 
 WEEK = Path(__file__).resolve().parents[3] / "examples" / "mars_week" / "mission.toml"
 DAY = datetime(2031, 3, 3, tzinfo=timezone.utc)
-MISSIONS = 100
+SEED = os.environ.get("SEED") or str(random.SystemRandom().randrange(10**6))
+MISSIONS = int(os.environ.get("MISSIONS", "300"))
+sys.stderr.write(f"test_flown: SEED={SEED} MISSIONS={MISSIONS}\n")
+ROUNDING = re.compile(r"at most ([\d.,]+) MB of windows, .* ([\d.,]+) MB of sizes and ([\d.,]+) MB of arrivals")
 
 
-def written(dice, minutes):
-    """A moment as a text, in some zone, with its date or the day of its year."""
-    moment = DAY + timedelta(microseconds=round(minutes * 60 * dice.choice([1, 1, 1_000_000])) * 1_000_000)
-    moment = DAY + timedelta(seconds=round(minutes * 60, dice.choice([0, 0, 3, 6])))
-    zone = timezone(timedelta(minutes=dice.choice([0, 0, 60, -300, 345])))
-    if dice.random() < 0.3:
-        return moment.strftime("%Y-%jT%H:%M:%S.%fZ")
-    return moment.astimezone(zone).isoformat()
-
-
-def flown_mission(number):
-    """A mission of this number: packets of 16 to 1,024 octets, channels, passes that overlap, and observations that
-    begin and end in them."""
-    dice = random.Random(f"flown {number}")
-    hours = dice.choice([6, 12, 30])
-    lengths = dice.choice([[1000], [777], [1024, 16], [901, 500, 128], [1000, 290], [16]])
-    stores = [
-        PacketStore(
-            f"S{place}",
-            dice.choice(["60 blocks", "400 blocks", "0.3 MB", "900 kB"]),
-            dice.choice(["bounded", "circular"]),
-            dice.randint(0, 2),
-            f"{dice.randint(0, 40)} blocks",
-            dice.choice(lengths),
-        )
-        for place in range(dice.randint(1, 5))
-    ]
-    stations = []
-    for place in range(dice.randint(1, 3)):
-        rate = dice.choice([1, 3, 8.192, 25])
-        own = {
-            each: f"{round(rate * dice.choice([0.3, 0.55, 1]), 3)} kbit/s" for each in range(3) if dice.random() < 0.5
-        }
-        stations.append(Station(f"G{place}", f"{rate} kbit/s", own))
-    passes, busy = [], {}
-    for _ in range(dice.randint(1, 6)):
-        station = dice.choice(stations).name
-        begin = dice.uniform(0, hours * 60 - 60)
-        end = begin + dice.uniform(4, 58)
-        if all(begin >= last or end <= first for first, last in busy.setdefault(station, [])):
-            busy[station].append((begin - 1, end + 1))
-            rate = f"{dice.uniform(0.5, 30):.3f} kbit/s" if dice.random() < 0.2 else None
-            passes.append(Pass(station, written(dice, begin), written(dice, end), rate))
-    observations = []
-    for store in stores:
-        if dice.random() < 0.5:
-            rate = dice.choice([f"{dice.uniform(1, 300):.2f} bit/s", f"{dice.uniform(0.1, 9):.3f} blocks/min"])
-            observations.append(Observation(store.id, DAY, DAY + timedelta(hours=hours), rate=rate))
-        for _ in range(dice.randint(0, 3)):
-            begin = dice.uniform(0, hours * 60 - 200)
-            end = begin + dice.uniform(2, 190)
-            volume = f"{dice.choice([20, 200, 600]) / 10:g} kB"
-            observations.append(Observation(store.id, written(dice, begin), written(dice, end), volume=volume))
-    with warnings.catch_warnings():
-        warnings.simplefilter("ignore", MissionWarning)
-        return Mission(
-            stores,
-            passes,
-            observations,
-            stations,
-            begin=DAY,
-            end=DAY + timedelta(hours=hours),
-            packet=max(lengths),
-            block=1024,
-            overlap=dice.choice(["both", "better"]),
-        )
+def rounding_of(made):
+    """What rounding may cost by the printed sheet, in octets: of windows, and each time that stores are full."""
+    windows, *full = (float(each.replace(",", "")) * 1e6 for each in ROUNDING.search(made.passes().markdown()).groups())
+    channels = {channel for one in made.mission.passes for channel in made.mission.rates(one)[1]}
+    # limits are rounded as windows are
+    return windows * (1 + len(channels)) + sum(full) * len(made.plan.cut.stretches) + 1
 
 
 class Flown(unittest.TestCase):
-    def flown(self, mission):
-        """Flies the plan of a mission. A step of a link or a channel may be above its rate by less than one unit: what
+    counts = Counter()
+
+    def flown(self, mission, **how):
+        """Flies a plan of a mission. A step of a link or a channel may be above its rate by less than one unit: what
         it could send in the steps of the pass before it, and was no whole unit there."""
-        made = mission.plan()
-        seen = play(mission, made.timeline().text(), made.problem.unit.link)
+        made = mission.plan(**how)
+        timeline = made.timeline()
+        seen = play(mission, timeline.text(), max(problem.unit.link for problem, _ in made.parts))
         self.assertEqual(seen.faults(), dict.fromkeys(seen.faults(), 0))
         printed = printed_losses(made.passes().text())
         self.assertEqual(sum(printed.values()), made.loss)
         for store in mission.stores:
             # the player counts in packets, as the sheet does; what it counts otherwise is a unit at most
-            self.assertLessEqual(
-                seen.lost[store.id], printed.get(store.id, 0) + made.problem.unit.packets[store.id], store.id
-            )
+            more = seen.lost[store.id] - printed.get(store.id, 0)
+            self.assertLessEqual(more, max(problem.unit.packets[store.id] for problem, _ in made.parts), store.id)
+            self.counts["stores that lose more than printed"] += more > 0
             self.assertEqual(
                 seen.sent[store.id], sum(row.blocks for row in made.passes() if row.store == store.id), store.id
             )
+        self.counts.update(
+            {"plans": 1, "dumps": len(timeline), "packets": sum(seen.sent.values()), "steps of links": seen.steps}
+        )
+        self.counts["of these above a rate by a part of a unit"] += seen.above
         return made, seen
 
     def test_the_week(self):
         made, seen = self.flown(Mission.read(WEEK))
-        # in continuous time no more is lost than what the steps say
         self.assertLessEqual(sum(seen.lost.values()), made.loss)
 
-    def test_made_missions(self):
+    def test_drawn_missions(self):
         for number in range(MISSIONS):
-            mission = flown_mission(number) if number % 2 else made_mission(number)
-            with self.subTest(number=number):
-                self.flown(mission)
+            mission = drawn.drawn_mission(drawn.seed_of(SEED, number))
+            with self.subTest(number=number, seed=SEED):
+                made, _ = self.flown(mission)
+                if least:
+                    self.bounded(made, number)
+                if number % 3 == 0:
+                    self.flown(mission, horizon=100, look=60, in_order=number % 2 == 0)
+        told = ", ".join(f"{count} {what}" for what, count in self.counts.items())
+        sys.stderr.write(f"test_flown: {told}; no packet early, no dump outside of its pass or ahead of a rate\n")
+
+    def bounded(self, made, number):
+        """No timeline loses less than the bound, and where all packets have one length the plan loses no more than the
+        best one, but for rounding."""
+        unit, found = made.problem.unit, least.least_octets(made.mission)
+        rounding = rounding_of(made)
+        self.assertGreaterEqual(found, made.plan.cut.bound * min(unit.octets.values()) - rounding)
+        if len(set(map(made.mission.packet_of, made.mission.stores))) == 1:
+            self.assertLessEqual(made.loss_mb * 1e6, found + rounding)
+            self.counts["plans that lose as little as a linear program"] += 1
+        if number % 10 == 0:
+            # in steps of a minute no less is lost than in those from event to event
+            self.assertAlmostEqual(least.least_octets(made.mission, 60), found, delta=1 + 1e-6 * found)
 
     def test_two_stores_that_fill_while_they_are_sent(self):
         """Two stores of 24 MB, a pass of an hour at 80 kbit/s, 18 MB into each of them during it, and then 24 MB into

@@ -12,7 +12,7 @@ from pathlib import Path
 import rudlayog.margins
 import rudlayog.mission
 import rudlayog.study
-from made_missions import DAY, made_mission
+from made_missions import made_mission
 from rudlayog import check, plan
 from rudlayog.mission import Mission, MissionError, Observation, PacketStore, Pass, Station
 

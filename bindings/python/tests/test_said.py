@@ -15,9 +15,9 @@ from pathlib import Path
 
 import rudlayog
 from rudlayog import Cut, Forecast, Plan, Setup, Store, Stretch, plan
-from rudlayog.mission import Mission, MissionError, MissionWarning, Observation, PacketStore, Pass, Station
+from rudlayog.mission import Mission, MissionError, MissionWarning, Observation, Pass, Station
 from rudlayog.pictures import above_one_another, chart_of
-from rudlayog.study import Variant, each_pass_lost, each_store_sized, grid, lost, rated, scaled, study
+from rudlayog.study import Variant, each_pass_lost, grid, lost, rated, scaled, study
 from test_changes import at, day
 
 WEEK = Path(__file__).resolve().parents[3] / "examples" / "mars_week" / "mission.toml"
@@ -155,6 +155,12 @@ class Shown(unittest.TestCase):
 
 
 class Files(unittest.TestCase):
+    def test_what_is_no_name(self):
+        with self.assertRaisesRegex(MissionError, "expected the name of a file"):
+            day().plan().timeline().save(5)
+        with self.assertRaisesRegex(MissionError, "chunk: found a; expected a whole number"):
+            study(day(), {}, chunk="a")
+
     def test_the_form_is_that_of_the_ending(self):
         with tempfile.TemporaryDirectory() as room:
             path = Path(room, "mission.toml")

@@ -1,7 +1,9 @@
 """Passes that overlap, each with a transmitter and channels of its own: whatever fits window and limits of a step is
-shared out among the links."""
+shared out among the links. Prints the seed; SEED and MISSIONS set it and how many missions and steps there are."""
 
+import os
 import random
+import sys
 import unittest
 import warnings
 from datetime import datetime, timedelta, timezone
@@ -13,12 +15,14 @@ from rudlayog._flows import Contact, Flow
 from rudlayog.mission import Mission, MissionWarning, Observation, PacketStore, Pass, Station
 
 DAY = datetime(2031, 3, 3, tzinfo=timezone.utc)
-MISSIONS = 96
+SEED = os.environ.get("SEED") or str(random.SystemRandom().randrange(10**6))
+MISSIONS = int(os.environ.get("MISSIONS", "300"))
+sys.stderr.write(f"test_shared: SEED={SEED} MISSIONS={MISSIONS}\n")
 
 
 def overlapping(number):
     """A mission whose passes overlap, with rates of which a step has no whole number of packets."""
-    dice = random.Random(f"overlapping {number}")
+    dice = random.Random(f"overlapping {SEED} {number}")
     stores = [
         PacketStore(
             f"S{place}", f"{dice.choice([30, 90])} blocks", channel=place % 3, holds=f"{dice.randint(0, 30)} blocks"
@@ -60,7 +64,7 @@ def minutes(count):
 class Shared(unittest.TestCase):
     def test_missions(self):
         for number in range(MISSIONS):
-            with self.subTest(number=number):
+            with self.subTest(number=number, seed=SEED):
                 mission = overlapping(number)
                 made = mission.plan()
                 for step in made.steps:
@@ -72,8 +76,8 @@ class Shared(unittest.TestCase):
 
     def test_all_that_fits(self):
         """Each amount of each channel that fits a step's window and limits, of links that are drawn by chance."""
-        for number in range(300):
-            dice = random.Random(f"links {number}")
+        for number in range(MISSIONS):
+            dice = random.Random(f"links {SEED} {number}")
             contacts = [drawn_contact(dice, place) for place in range(dice.randint(2, 3))]
             edges = sorted({0, 120, *(time for each in contacts for time in (each.sends.begin, each.sends.end))})
             limited = sorted({channel for each in contacts for channel in each.channels})

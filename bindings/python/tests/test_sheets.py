@@ -139,7 +139,8 @@ class Sheets(unittest.TestCase):
         windows = next(
             path.get("d") for path in root.iter("{http://www.w3.org/2000/svg}path") if path.get("class") == "p"
         )
-        self.assertAlmostEqual(float(re.match(r"M([\d.]+)", windows)[1]), 180 + 768 * 220 / (7 * 24 * 60), delta=0.02)
+        width = float(re.search(r"<rect class='o' x='180' y='\d+' width='(\d+)'", chart)[1])
+        self.assertAlmostEqual(float(re.match(r"M([\d.]+)", windows)[1]), 180 + width * 220 / (7 * 24 * 60), delta=0.02)
 
     def test_charts_of_made_missions(self):
         for number in range(40):

@@ -170,12 +170,9 @@ class Answers(unittest.TestCase):
         for mission in (PLAIN, MIXED):
             found = study(mission, variants_of(mission))
             self.assertEqual(found.base.loss, mission.plan().loss)
-            moments = mission.problem().times
             for answer, one in zip(found, mission.passes):
                 self.assertEqual(answer.name, f"without {one.name}")
-                # the same steps, without the pass
-                problem = remade(mission.without(one.name), moments=moments).problem()
-                self.assertEqual(problem.times, moments)
+                problem = remade(mission.without(one.name), unit=mission.problem().unit.count).problem()
                 again = plan(problem.setup, problem.forecast)
                 losses = lost_by(problem.setup, problem.forecast, again)
                 packets = problem.unit.packets.values()
@@ -195,7 +192,7 @@ class Answers(unittest.TestCase):
                 )
                 for one in mission.observations
             )
-            half = remade(mission, observations=halves, moments=moments, unit=mission.problem().unit.count)
+            half = remade(mission, observations=halves, unit=mission.problem().unit.count)
             self.assertEqual(named["all half"].loss, half.plan().loss)
 
     def test_quick_texts_are_those_of_the_changed_mission(self):
@@ -233,7 +230,7 @@ class Answers(unittest.TestCase):
             base = Base.of_mission(mission)
             for variant in variants_of(mission):
                 answer = studies.answer_of(answering.Task(base), variant)
-                problem = mission.changed(variant.changes, split=True).problem()
+                problem = mission.changed(variant.changes).problem()
                 made = plan(problem.setup, problem.forecast)
                 self.assertEqual(
                     check(problem.setup, problem.forecast, Plan.of(made.to_dict(), made.loss, answer.cut)).line,
@@ -247,7 +244,7 @@ class Answers(unittest.TestCase):
             PLAIN,
             {"gone": lambda mission: mission.without(name), "more": [lambda mission: mission.without(name), scaled(2)]},
         )
-        self.assertEqual(found[0].loss, PLAIN.changed(lost(name), split=True).plan().loss)
+        self.assertEqual(found[0].loss, PLAIN.changed(lost(name)).plan().loss)
         self.assertGreaterEqual(found[1].loss, found[0].loss)
         problem = PLAIN.problem()
         setup, forecast = problem
@@ -304,6 +301,20 @@ class Answers(unittest.TestCase):
                 dumps[step][place] = min(blocks, window - sum(dumps[step]))
         verdict = check(setup, forecast.having(windows=windows), dict(zip(own.stores, zip(*dumps))))
         self.assertEqual(half.loss, verdict.loss)
+
+    def test_a_fixed_plan_is_flown_as_the_table_says(self):
+        dice = random.Random(11)
+        for number in range(60):
+            arrivals = dice.choice(["before", "during"])
+            stores = [Store(name, dice.randint(3, 9), channel=dice.randint(0, 1), start=dice.randint(0, 3)) for name in "AB"]
+            setup = Setup.of(stores, arrivals=arrivals)
+            columns = {name: [dice.randint(0, 6) for _ in range(8)] for name in "AB"}
+            sizes = {"size:B": [dice.randint(0, 9) for _ in range(8)]} if dice.random() < 0.5 else {}
+            forecast = Forecast.of([dice.choice([0, 4, 9]) for _ in range(8)], columns, {"limit:1": [5] * 8}, sizes)
+            own = plan(setup, forecast)
+            (answer,) = study((setup, forecast), {"more": scaled(2, "B")}, plan=own, progress=False)
+            more = forecast.having(arrivals={"B": [2 * each for each in columns["B"]]})
+            self.assertEqual(answer.by_store, tuple(lost_by(setup, more, own)), number)
 
     def test_grid(self):
         store = PLAIN.stores[0].id

@@ -7,12 +7,9 @@ import random
 import sys
 import unittest
 import warnings
-from datetime import timedelta
-from itertools import pairwise
 
 import drawn
 from rudlayog import Plan, check
-from rudlayog._any_steps import least_in_any_steps
 from rudlayog._base import Base
 from rudlayog.mission import MissionError, MissionWarning
 from rudlayog.study import grid, lost, scaled, sized, study
@@ -32,16 +29,13 @@ class Changed(unittest.TestCase):
     def setUp(self):
         self.enterContext(warnings.catch_warnings())
         warnings.simplefilter("ignore", MissionWarning)
-        # how many variants have texts that are made quickly
-        self.quick = 0
-        # and how many are planned again in steps of their own
-        self.split = 0
+        # how many variants have texts that are made quickly, and how many of these have other steps than the mission
+        self.quick = self.other_steps = 0
 
     def anew(self, mission, answer, changes):
         """The changed mission planned anew loses what the answer says, and its cut shows that it is least."""
         try:
-            other = mission.changed(changes)
-            made = mission.changed(changes, split=True).plan()
+            made = mission.changed(changes).plan()
         except MissionError as error:
             self.assertEqual((answer.loss, answer.refused), (None, str(error)))
             return False
@@ -49,9 +43,8 @@ class Changed(unittest.TestCase):
         texts = Base.of_mission(mission).quick.texts(changes_of(changes))
         if texts is not None:
             self.quick += 1
-            # in the steps of the mission; where much may be gained the variant has more
-            self.assertEqual(texts[:2], tuple(map(bytes, other.problem())))
-            self.split += len(made.problem) > len(other.problem())
+            self.assertEqual(texts[:2], tuple(map(bytes, made.problem)))
+            self.other_steps += made.problem.edges != mission.problem().edges
         self.assertEqual(
             (answer.loss, answer.by_store, answer.is_least), (made.loss, tuple(made.losses.values()), True)
         )
@@ -71,7 +64,7 @@ class Changed(unittest.TestCase):
                     answered += self.anew(mission, answer, changes)
         self.assertGreater(answered, 2 * MISSIONS)
         self.assertGreater(self.quick, MISSIONS // 2)
-        self.assertGreater(self.split, 0)
+        self.assertGreater(self.other_steps, MISSIONS // 2)
 
     def test_grids(self):
         for number in range(MISSIONS // 10):
@@ -117,39 +110,6 @@ class Changed(unittest.TestCase):
             problem = made.problem
             with self.subTest(number=number, seed=SEED):
                 self.assertAlmostEqual(made.plan.loss, least.least_blocks(*problem), delta=1e-3)
-                # in octets, and by what the mission says itself: each stretch of the cut is rounded by less than a unit
-                # and by what its store has over whole units, and each pass by what it has over whole units
-                octets = least.least_octets(mission, problem.times, problem.contacts)
-                units = [problem.unit.octets[stretch.store] for stretch in made.plan.cut.stretches]
-                sizes = {
-                    row["of"].removesuffix(", size"): row["octets"]
-                    for row in problem.rounding()
-                    if row["of"].endswith(", size")
-                }
-                cost = sum(units) + problem.unit.link * len(units) + problem.rounding_cost()["windows"]
-                # what comes of a unit after a pass that has sent its first packets may be lost before the next one
-                for store in mission.stores:
-                    late = problem.unit.octets[store.id] - mission.packet_of(store)
-                    cost += late * len(mission.passes)
-                self.assertGreaterEqual(made.loss_mb * 1e6, octets - sum(units) - 1)
-                if number % 5 == 0 and len(set(problem.unit.packets.values())) == 1:
-                    # in steps of two minutes no fewer are lost than the bound says that holds for any steps
-                    finer = finer_times(problem.times, timedelta(minutes=2))
-                    bound = least_in_any_steps(made.plan.cut, problem.forecast) * problem.unit.link
-                    self.assertGreaterEqual(least.least_octets(mission, finer, problem.contacts), bound - cost - 1)
-                self.assertLessEqual(
-                    made.loss_mb * 1e6,
-                    octets + cost + sum(sizes.get(stretch.store, 0) for stretch in made.plan.cut.stretches) + 1,
-                )
-
-
-def finer_times(times, longest):
-    """The times, and others between them."""
-    found = set(times)
-    for first, last in pairwise(times):
-        parts = -(-(last - first) // longest)
-        found.update(first + (last - first) * part / parts for part in range(parts))
-    return sorted(found)
 
 
 if __name__ == "__main__":

@@ -109,6 +109,20 @@ class Setups(unittest.TestCase):
         ):
             self.assertEqual(refused(self, Setup.read, SETUP.replace(*change, 1)), words)
 
+    def test_arrivals_during_dumps(self):
+        text = 'arrivals = "during"\n' + SETUP
+        during = Setup.of(STORES, ROUTES, LIMITS, arrivals="during")
+        self.assertEqual((during.text(), Setup.read(text)), (text, during))
+        self.assertEqual(Setup.read('arrivals = "before"\n' + SETUP), Setup.of(STORES, ROUTES, LIMITS))
+        self.assertNotEqual(during, Setup.of(STORES, ROUTES, LIMITS))
+        self.assertEqual(pickle.loads(pickle.dumps(during)), during)
+        self.assertEqual(during.holding({"SCI": 3}).text(), text.replace("start = 0", "start = 3"))
+        self.assertEqual((during.to_dict()["arrivals"], setup_octets(during.to_dict()).decode()), ("during", text))
+        self.assertNotIn("arrivals", Setup.of(STORES).to_dict())
+        for value in ('"while"', "1", '["during"]'):
+            text = f"arrivals = {value}\n" + SETUP
+            self.assertEqual(refused(self, Setup.read, text), "28 SetupField row 0 name arrivals")
+
     def test_frozen(self):
         setup = Setup(list(STORES))
         self.assertEqual({setup: 1}[Setup.of(STORES)], 1)
@@ -116,7 +130,13 @@ class Setups(unittest.TestCase):
         self.assertEqual(pickle.dumps(setup), pickle.dumps(Setup.of(STORES)))
 
     def test_of_dicts_columns_and_frames(self):
-        named = {"id": ["SCI", "HK"], "size": [4, 3], "type": ["bounded", "circular"], "channel": [0, 1], "start": [0, 2]}
+        named = {
+            "id": ["SCI", "HK"],
+            "size": [4, 3],
+            "type": ["bounded", "circular"],
+            "channel": [0, 1],
+            "start": [0, 2],
+        }
         wanted = tuple(STORES)
         self.assertEqual(Setup.of(rows(named)).stores, wanted)
         self.assertEqual(Setup.of(named).stores, wanted)
@@ -127,13 +147,25 @@ class Setups(unittest.TestCase):
 
     def test_what_is_no_setup_is_left_to_the_library(self):
         self.assertEqual(setup_octets({"stores": 1}), b"stores = 1\n")
-        self.assertEqual(setup_octets({"store": [{"id": 'a"\n', "size": True}]}), b'[[store]]\nid = "a\\"\\n"\nsize = true\n')
+        self.assertEqual(
+            setup_octets({"store": [{"id": 'a"\n', "size": True}]}), b'[[store]]\nid = "a\\"\\n"\nsize = true\n'
+        )
         self.assertEqual(setup_octets(b"\xff"), b"\xff")
 
     def test_tables_in_frames(self):
-        named = {"id": ["SCI", "HK"], "size": [4, 3], "type": ["bounded", "circular"], "channel": [0, 1], "start": [0, 2]}
+        named = {
+            "id": ["SCI", "HK"],
+            "size": [4, 3],
+            "type": ["bounded", "circular"],
+            "channel": [0, 1],
+            "start": [0, 2],
+        }
         for stores in (named, Frame(named)):
-            given = {"store": stores, "route": Frame({"apid": [100], "service": [3], "subtype": [25], "store": ["HK"]}), "limit": [{"channel": 1, "blocks": 1}]}
+            given = {
+                "store": stores,
+                "route": Frame({"apid": [100], "service": [3], "subtype": [25], "store": ["HK"]}),
+                "limit": [{"channel": 1, "blocks": 1}],
+            }
             self.assertEqual(setup_octets(given).decode(), SETUP)
 
     def test_faults_of_data(self):
@@ -144,15 +176,23 @@ class Setups(unittest.TestCase):
             ({"start": [0, float("nan")]}, "column start, row 2 of the Stores: nan is no whole number"),
             ({"channel": ["0", 0]}, "column channel, row 1 of the Stores: '0' is no whole number"),
             ({"id": ["SCI", 7]}, "column id, row 2 of the Stores: 7 is no text"),
-            ({"window": [1, 2]}, "row 1 of the Stores has a column window, and there can be id, size, type, channel, start"),
+            (
+                {"window": [1, 2]},
+                "row 1 of the Stores has a column window, and there can be id, size, type, channel, start",
+            ),
             ({"size": [4]}, "column size has 1 rows, and column id has 2"),
         ):
             for table in ({**named, **change}, Frame({**named, **change})):
                 self.assertEqual(wrong(self, Setup.of, table), words)
         self.assertEqual(wrong(self, Setup.of, [STORES[0], {"id": "HK"}]), "row 2 of the Stores has no column size")
-        self.assertEqual(wrong(self, Setup.of, [STORES[0], ROUTES[0]]), f"row 2 of the table is {ROUTES[0]!r}, and has no columns with names")
+        self.assertEqual(
+            wrong(self, Setup.of, [STORES[0], ROUTES[0]]),
+            f"row 2 of the table is {ROUTES[0]!r}, and has no columns with names",
+        )
         self.assertEqual(wrong(self, Setup.of, 7), "7 is no table")
-        self.assertEqual(wrong(self, bytes, Setup.of([Store("SCI", None)])), "column size, row 1 of store: None is no whole number")
+        self.assertEqual(
+            wrong(self, bytes, Setup.of([Store("SCI", None)])), "column size, row 1 of store: None is no whole number"
+        )
         self.assertEqual(wrong(self, setup_octets, {"store": None}), "None is no table")
 
     def test_holding(self):
@@ -161,7 +201,10 @@ class Setups(unittest.TestCase):
         self.assertEqual((held.routes, held.limits), (tuple(ROUTES), tuple(LIMITS)))
         self.assertEqual(held.text(), SETUP.replace("start = 0", "start = 3"))
         self.assertEqual(held.holding({"SCI": 0}).text(), SETUP)
-        self.assertEqual(Setup.of([Store("A%d", 4)]).holding({"A%d": 1}).text(), SETUP.split("\n\n")[0].replace("SCI", "A%d").replace("start = 0", "start = 1") + "\n")
+        self.assertEqual(
+            Setup.of([Store("A%d", 4)]).holding({"A%d": 1}).text(),
+            SETUP.split("\n\n")[0].replace("SCI", "A%d").replace("start = 0", "start = 1") + "\n",
+        )
         self.assertEqual(wrong(self, held.holding, {"XX": 1}), "the setup has no store XX")
         self.assertEqual(wrong(self, held.holding, {"HK": 1.5}), "store HK: 1.5 is no whole number")
 
@@ -215,7 +258,12 @@ class Forecasts(unittest.TestCase):
     def test_steps_in_any_order(self):
         named = {"HK": [0, 1], "step": [2, 1], "window": [3, 2], "SCI": [3, 5]}
         wanted = Forecast.of([2, 3], {"HK": [1, 0], "SCI": [5, 3]})
-        for table in (named, rows(named), Frame(named), Frame({name: named[name] for name in ("HK", "window", "SCI")}, index=Steps([2, 1]))):
+        for table in (
+            named,
+            rows(named),
+            Frame(named),
+            Frame({name: named[name] for name in ("HK", "window", "SCI")}, index=Steps([2, 1])),
+        ):
             self.assertEqual(Forecast.table(table), wanted)
         backwards = {name: column[::-1] for name, column in self.forecast.to_dict().items()}
         self.assertEqual(Forecast.table(backwards), self.forecast)
@@ -231,12 +279,18 @@ class Forecasts(unittest.TestCase):
             ([1, None], "32 StepNumber row 2", "the step None"),
             (["1", 2], "32 StepNumber row 1", "the step '1'"),
         ):
-            for make, table in ((Forecast.table, {"step": steps, "window": [2, 3], "SCI": [5, 3]}), (Plan.of, {"step": steps, "SCI": [5, 3]})):
+            for make, table in (
+                (Forecast.table, {"step": steps, "window": [2, 3], "SCI": [5, 3]}),
+                (Plan.of, {"step": steps, "SCI": [5, 3]}),
+            ):
                 with self.assertRaises(Refusal) as caught:
                     make(table)
                 refusal = caught.exception
                 self.assertEqual((refusal.text(), refusal.found), (words, found))
-                self.assertEqual((refusal.expected, str(refusal)), ("the number of the next step, where the first is 1", f"{refusal.words()}; found {found}"))
+                self.assertEqual(
+                    (refusal.expected, str(refusal)),
+                    ("the number of the next step, where the first is 1", f"{refusal.words()}; found {found}"),
+                )
 
     def test_faults_of_data(self):
         named = {"window": [2, 3], "SCI": [5, 3]}
@@ -255,17 +309,37 @@ class Forecasts(unittest.TestCase):
             for table in ({**named, **change}, Frame({**named, **change})):
                 self.assertEqual(wrong(self, Forecast.table, table), words)
         frame = Frame(named)
-        self.assertEqual(wrong(self, Forecast.table, {"window": [2, 3], "SCI": frame}), f"column SCI: {frame!r} is no list of values")
-        self.assertEqual(wrong(self, Forecast.table, Frame(named, ["window", "SCI", "SCI"])), "there are two columns SCI")
-        self.assertEqual(wrong(self, Forecast.table, {"SCI": [1]}), "a forecast has a column window, and here are only the columns SCI")
-        self.assertEqual(wrong(self, Forecast.table, [{"window": 1, "SCI": 2}, {"window": 1}]), "column SCI is in row 1, and not in row 2")
-        self.assertEqual(wrong(self, Forecast.table, [{"window": 1}, {"window": 1, "SCI": 2}]), "column SCI is in row 2, and not in row 1")
-        self.assertEqual(wrong(self, Forecast.table, [(1, 2)]), "row 1 of the table is (1, 2), and has no columns with names")
+        self.assertEqual(
+            wrong(self, Forecast.table, {"window": [2, 3], "SCI": frame}), f"column SCI: {frame!r} is no list of values"
+        )
+        self.assertEqual(
+            wrong(self, Forecast.table, Frame(named, ["window", "SCI", "SCI"])), "there are two columns SCI"
+        )
+        self.assertEqual(
+            wrong(self, Forecast.table, {"SCI": [1]}),
+            "a forecast has a column window, and here are only the columns SCI",
+        )
+        self.assertEqual(
+            wrong(self, Forecast.table, [{"window": 1, "SCI": 2}, {"window": 1}]),
+            "column SCI is in row 1, and not in row 2",
+        )
+        self.assertEqual(
+            wrong(self, Forecast.table, [{"window": 1}, {"window": 1, "SCI": 2}]),
+            "column SCI is in row 2, and not in row 1",
+        )
+        self.assertEqual(
+            wrong(self, Forecast.table, [(1, 2)]), "row 1 of the table is (1, 2), and has no columns with names"
+        )
         self.assertEqual(wrong(self, Forecast.table, 7), "7 is no table")
-        self.assertEqual(wrong(self, Forecast.of, [1, 2], {"SCI": [1]}), "column SCI has 1 rows, and column window has 2")
+        self.assertEqual(
+            wrong(self, Forecast.of, [1, 2], {"SCI": [1]}), "column SCI has 1 rows, and column window has 2"
+        )
         self.assertEqual(wrong(self, Forecast.of, [1.5], {"SCI": [1]}), "column window, row 1: 1.5 is no whole number")
         # The row is the one that is given, in whatever order the steps are.
-        self.assertEqual(wrong(self, Forecast.table, {"step": [2, 1], "window": [2, 3], "SCI": [None, 3]}), "column SCI, row 1: None is no whole number")
+        self.assertEqual(
+            wrong(self, Forecast.table, {"step": [2, 1], "window": [2, 3], "SCI": [None, 3]}),
+            "column SCI, row 1: None is no whole number",
+        )
 
     def test_having(self):
         for windows, arrivals, text in (
@@ -279,10 +353,14 @@ class Forecasts(unittest.TestCase):
         ):
             for _ in range(2):
                 self.assertEqual(self.forecast.having(windows, arrivals).text(), "step,window,SCI,HK\n" + text)
-        self.assertEqual(Forecast.of([2], {"A%d": [5]}).having(arrivals={"A%d": [1]}).text(), "step,window,A%d\n1,2,1\n")
+        self.assertEqual(
+            Forecast.of([2], {"A%d": [5]}).having(arrivals={"A%d": [1]}).text(), "step,window,A%d\n1,2,1\n"
+        )
         self.assertEqual(wrong(self, self.forecast.having, None, {"XX": [1, 1]}), "the forecast has no store XX")
         self.assertEqual(wrong(self, self.forecast.having, [1]), "column SCI has 2 rows, and column window has 1")
-        self.assertEqual(wrong(self, self.forecast.having, None, {"HK": [1]}), "column HK has 1 rows, and column window has 2")
+        self.assertEqual(
+            wrong(self, self.forecast.having, None, {"HK": [1]}), "column HK has 1 rows, and column window has 2"
+        )
         self.assertEqual(self.forecast.text(), FORECAST)
 
     def test_limits(self):
@@ -298,11 +376,57 @@ class Forecasts(unittest.TestCase):
         self.assertEqual(limited.after(1).text(), "step,window,SCI,HK,limit:0,limit:3\n1,3,3,0,0,4\n")
         self.assertEqual(limited.having([4, 5]).text(), text.replace("1,2,5", "1,4,5").replace("2,3,3", "2,5,3"))
         for _ in range(2):
-            self.assertEqual(limited.having(limits={"limit:0": [7, 8]}).text(), text.replace("1,1,9", "1,7,9").replace("0,0,4", "0,8,4"))
+            self.assertEqual(
+                limited.having(limits={"limit:0": [7, 8]}).text(),
+                text.replace("1,1,9", "1,7,9").replace("0,0,4", "0,8,4"),
+            )
             changed = limited.having([4, 5], {"HK": [6, 6]}, {"limit:3": [2, 2]})
             self.assertEqual(changed.text(), "step,window,SCI,HK,limit:0,limit:3\n1,4,5,6,1,2\n2,5,3,6,0,2\n")
-        self.assertEqual(wrong(self, limited.having, None, None, {"limit:1": [1, 1]}), "the forecast has no column limit:1")
-        self.assertEqual(wrong(self, Forecast.of, [1], {"SCI": [1]}, {"limit:0": [1, 2]}), "column limit:0 has 2 rows, and column window has 1")
+        self.assertEqual(
+            wrong(self, limited.having, None, None, {"limit:1": [1, 1]}), "the forecast has no column limit:1"
+        )
+        self.assertEqual(
+            wrong(self, Forecast.of, [1], {"SCI": [1]}, {"limit:0": [1, 2]}),
+            "column limit:0 has 2 rows, and column window has 1",
+        )
+
+    def test_sizes(self):
+        text = "step,window,SCI,HK,limit:0,size:SCI,size:HK\n1,2,5,1,1,9,0\n2,3,3,0,0,4,7\n"
+        limits, sizes = {"limit:0": [1, 0]}, {"size:SCI": [9, 4], "size:HK": [0, 7]}
+        sized = Forecast.of([2, 3], {"SCI": [5, 3], "HK": [1, 0]}, limits, sizes)
+        self.assertEqual((sized.text(), Forecast.read(text)), (text, sized))
+        self.assertEqual(sized.sizes["size:HK"], (0, 7))
+        self.assertEqual((list(sized.arrivals), list(sized.limits)), (["SCI", "HK"], ["limit:0"]))
+        self.assertEqual(Forecast.table(sized.to_dict()), sized)
+        self.assertEqual(sized.to_dict(), {**self.forecast.to_dict(), **limits, **sizes})
+        self.assertEqual(pickle.loads(pickle.dumps(sized)), sized)
+        self.assertEqual(sized.after(1).text(), "step,window,SCI,HK,limit:0,size:SCI,size:HK\n1,3,3,0,0,4,7\n")
+        for _ in range(2):
+            other = text.replace("9,0\n", "9,8\n").replace("4,7\n", "4,6\n")
+            self.assertEqual(sized.having(sizes={"size:HK": [8, 6]}).text(), other)
+            changed = sized.having([4, 5], {"HK": [6, 6]}, {"limit:0": [2, 2]}, {"size:SCI": [3, 1]})
+            header = "step,window,SCI,HK,limit:0,size:SCI,size:HK"
+            self.assertEqual(changed.text(), f"{header}\n1,4,5,6,2,3,0\n2,5,3,6,2,1,7\n")
+        alone = Forecast.of([2, 3], {"SCI": [5, 3]}, sizes={"size:SCI": [1, 2]})
+        self.assertEqual(alone.text(), "step,window,SCI,size:SCI\n1,2,5,1\n2,3,3,2\n")
+        words = wrong(self, sized.having, None, None, None, {"size:XX": [1, 1]})
+        self.assertEqual(words, "the forecast has no column size:XX")
+        words = wrong(self, Forecast.of, [1], {"SCI": [1]}, None, {"size:SCI": [1, 2]})
+        self.assertEqual(words, "column size:SCI has 2 rows, and column window has 1")
+
+    def test_sizes_read_as_the_library_reads(self):
+        # docs/FORMATS.md, 'Forecast': the first fault of each.
+        for text, words in (
+            ("step,window,SCI,HK,size:HK,size:SCI\n1,2,5,1,1,1\n", "30 Header"),
+            ("step,window,SCI,size:SCI,limit:0\n1,2,5,1,1\n", "30 Header"),
+            ("step,window,SCI,size:SCI,size:SCI\n1,2,5,1,1\n", "30 Header"),
+            ("step,window,SCI,size:HK\n1,2,5,1\n", "30 Header"),
+            ("step,window,SCI,size:\n1,2,5,1\n", "30 Header"),
+            ("step,window,SCI,size:SCI\n1,2,5,x\n", "31 Cell row 1 column 4"),
+            ("step,window,SCI,size:SCI\n1,2,5,1000001\n", "33 Limit name size"),
+            ("step,window,SCI,size:SCI\n1,2,5\n", "29 ForecastText"),
+        ):
+            self.assertEqual(refused(self, Forecast.read, text), words, text)
 
     def test_frozen(self):
         again = Forecast.of([2, 3], {"SCI": [5, 3], "HK": [1, 0]})
@@ -354,7 +478,9 @@ class Plans(unittest.TestCase):
         for table in (plan.to_dict(), Frame(plan.to_dict())):
             self.assertEqual(Plan.of(table, plan.loss, plan.cut), plan)
             self.assertEqual(Plan.of(table, plan.loss, plan.cut).text, PLAN)
-        self.assertEqual(plan_octets([{"SCI": 1}, {"SCI": 2}]), b"mmplan 1\nstores SCI\ndump 1 1\ndump 2 2\nloss 0\nbound 0\nend\n")
+        self.assertEqual(
+            plan_octets([{"SCI": 1}, {"SCI": 2}]), b"mmplan 1\nstores SCI\ndump 1 1\ndump 2 2\nloss 0\nbound 0\nend\n"
+        )
 
     def test_steps_in_any_order(self):
         plan = Plan(PLAN)
@@ -380,7 +506,12 @@ class Plans(unittest.TestCase):
             (PLAN.replace("loss 3\n", ""), "34 PlanText line 5"),
             (PLAN.replace("bound", "bond"), "34 PlanText line 8"),
             (PLAN[:-1], "34 PlanText line 9"),
-            ("mmplan 1\nstores SCI\n" + "".join(f"dump {step} 0\n" for step in range(1, 258)) + "loss 0\nbound 0\nend\n", "34 PlanText line 259"),
+            (
+                "mmplan 1\nstores SCI\n"
+                + "".join(f"dump {step} 0\n" for step in range(1, 258))
+                + "loss 0\nbound 0\nend\n",
+                "34 PlanText line 259",
+            ),
             ("mmplan 1\nstores SCI SCI\ndump 1 0 0\nloss 0\nbound 0\nend\n", "35 Shape"),
         ):
             plan = Plan(text)
@@ -412,7 +543,14 @@ class DataFrames(unittest.TestCase):
 
     def test_in_any_order(self):
         frame = self.forecast.to_frame(self.pandas.DataFrame)
-        for given in (frame, frame[::-1], frame.set_index("step"), frame.set_index("step")[::-1], frame[::-1].to_dict("list"), frame[::-1].to_dict("records")):
+        for given in (
+            frame,
+            frame[::-1],
+            frame.set_index("step"),
+            frame.set_index("step")[::-1],
+            frame[::-1].to_dict("list"),
+            frame[::-1].to_dict("records"),
+        ):
             self.assertEqual(Forecast.table(given), self.forecast)
         frame = self.plan.to_frame(self.pandas.DataFrame)
         for given in (frame, frame[::-1], frame.set_index("step")[::-1]):
@@ -422,10 +560,19 @@ class DataFrames(unittest.TestCase):
         frame = self.forecast.to_frame(self.pandas.DataFrame)
         self.assertEqual(wrong(self, Forecast.table, frame.to_dict()), "column step: {0: 1, 1: 2} is no list of values")
         self.assertEqual(Forecast.table(frame.astype({"HK": float})), self.forecast)
-        self.assertEqual(wrong(self, Forecast.table, frame.assign(HK=[1.5, 0.0])), "column HK, row 1: 1.5 is no whole number")
-        self.assertEqual(wrong(self, Forecast.table, frame.astype({"HK": str})), "column HK, row 1: '1' is no whole number")
-        self.assertEqual(wrong(self, Forecast.table, self.pandas.concat([frame, frame["HK"]], axis=1)), "there are two columns HK")
-        self.assertEqual(wrong(self, Forecast.table, frame.join(frame["HK"].head(1), rsuffix="2")), "column HK2, row 2: nan is no whole number")
+        self.assertEqual(
+            wrong(self, Forecast.table, frame.assign(HK=[1.5, 0.0])), "column HK, row 1: 1.5 is no whole number"
+        )
+        self.assertEqual(
+            wrong(self, Forecast.table, frame.astype({"HK": str})), "column HK, row 1: '1' is no whole number"
+        )
+        self.assertEqual(
+            wrong(self, Forecast.table, self.pandas.concat([frame, frame["HK"]], axis=1)), "there are two columns HK"
+        )
+        self.assertEqual(
+            wrong(self, Forecast.table, frame.join(frame["HK"].head(1), rsuffix="2")),
+            "column HK2, row 2: nan is no whole number",
+        )
         self.assertEqual(refused(self, Forecast.table, frame.iloc[[1]]), "32 StepNumber row 1")
 
     def test_setups(self):

@@ -41,6 +41,10 @@ def planned() -> tuple[int, Mapping[str, tuple[int, ...]]]:
     columns = {"step": [2, 1], "window": [3, 2], "SCI": [2, 5], "HK": [0, 1]}
     rows = [{"step": 1, "window": 2, "SCI": 5, "HK": 1}, {"step": 2, "window": 3, "SCI": 2, "HK": 0}]
     forecast = Forecast.of([2, 3], {"SCI": [5, 2], "HK": [1, 0]})
+    flown = Setup.of(setup.stores, arrivals="during")
+    sized = Forecast.of([2, 3], {"SCI": [5, 2], "HK": [1, 0]}, sizes={"size:HK": [3, 0]})
+    assert check(flown, sized, plan(flown, sized)).kind == "least"
+    assert sized.having(sizes={"size:HK": [1, 1]}).sizes["size:HK"] == (1, 1)
     made = plan(setup, forecast)
     assert made == plan(bytes(setup), columns) == plan(setup.text(), rows) == plan(setup.to_dict(), forecast.text())
     assert least(setup, [forecast, columns, rows, forecast.text(), forecast.having(windows=[9, 9])]) == least(

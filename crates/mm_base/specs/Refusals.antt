@@ -13,7 +13,7 @@ use Rattle.mm_base.specs.declared.refusal.Refusal.TheVariants.{Unbounded, SameEn
 use Rattle.mm_base.specs.declared.refusal.Refusal.TheVariants.{SizeDiffers, OpeningDiffers, ClockTooLate}
 use Rattle.mm_base.specs.declared.refusal.Refusal.TheVariants.{PlanDoesNotFit, Counts, NoMemoryInStep, LinkFailed}
 use Rattle.mm_base.specs.declared.refusal.Refusal.TheVariants.{LogMismatch, BadSize, HexLine, NotRead, SourcesText}
-use Rattle.mm_base.specs.declared.refusal.Refusal.TheVariants.{LinksText, ChannelDiffers, TooManyReports}
+use Rattle.mm_base.specs.declared.refusal.Refusal.TheVariants.{LinksText, ChannelDiffers, TooManyReports, NotFlyable}
 
 -- the number and the name of each refusal
 abbrev pub entry_of : Refusal → ℕ × List ℕ
@@ -72,6 +72,7 @@ entry_of SourcesText = (51, codes "SourcesText")
 entry_of LinksText = (52, codes "LinksText")
 entry_of ChannelDiffers = (53, codes "ChannelDiffers")
 entry_of TooManyReports = (54, codes "TooManyReports")
+entry_of NotFlyable = (55, codes "NotFlyable")
 
 -- the number that a refusal is shown with
 abbrev pub number_of : Refusal → ℕ

@@ -1,17 +1,12 @@
 //! What the definitions of this crate mean. Each function is a law, which its contract states.
 ghost use Rattle.std.specs.Prelude.{◌≡◌};
-ghost use Rattle.mm_base.specs.Laws.{ReadsNumbers, SumsSwap};
+ghost use Rattle.mm_base.specs.Laws.{ReadsNumbers};
 ghost use Rattle.mm_base.specs.declared.limits.TheConstants.{MAX_STORES, MAX_STEPS, MAX_BLOCKS, MAX_CHANNEL, CHANNELS};
 ghost use Rattle.mm_base.specs.declared.limits.TheConstants.{MAX_APID, MAX_ROUTES};
 
 /// A text is read as a number up to a bound if and only if the number is within the bound and is printed as that text.
 pub fn numbers()
     ensures { ReadsNumbers }
-{}
-
-/// A sum over two lists does not depend on which list is summed over first.
-pub fn sums_swap()
-    ensures { SumsSwap }
 {}
 
 /// The numbers of the constants.

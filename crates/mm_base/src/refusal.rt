@@ -119,6 +119,8 @@ pub enum Refusal {
     ChannelDiffers,
     /// More reports of the storage service would wait than the bound that was set.
     TooManyReports,
+    /// The arrivals of a step come during its dumps, or a store has sizes by step: no run carries this out.
+    NotFlyable,
 }
 
 impl Refusal {
@@ -183,6 +185,7 @@ impl Refusal {
             Refusal::LinksText => (52, "LinksText"),
             Refusal::ChannelDiffers => (53, "ChannelDiffers"),
             Refusal::TooManyReports => (54, "TooManyReports"),
+            Refusal::NotFlyable => (55, "NotFlyable"),
         }
     }
 

@@ -3,8 +3,12 @@ use Rattle.mm_carry.specs.Beyond.{AsForecast, IsIsolated, LosesAsInHindsight, Lo
 use Rattle.mm_carry.specs.Beyond.{more_came}
 use Rattle.mm_carry.specs.Numbers.{planned_counts, report_of, rows_of}
 use Rattle.mm_carry.proofs.Words.{sum_by, range_with_len, sum_by_range_more, sum_by_range-le, sum_by_range_same}
-use Rattle.mm_carry.proofs.Words.{sum_by-add, sum_by-map, sum_by-swap, Dumping, arrivals, size, steps, stores}
-use Rattle.mm_carry.proofs.Words.{left_start, left_step, Amounts, left, lost, loss, store_loss, RunInput, as_came, ◌≡◌}
+use Rattle.mm_carry.proofs.Words.{sum_by-add, sum_by-map, sum_by-swap, Dumping, arrivals, steps, stores}
+use Rattle.mm_problem.specs.Dumping.{size}
+use Rattle.mm_problem.specs.declared.come.Arrivals.{Arrivals}
+use Rattle.mm_problem.specs.declared.come.Arrivals.TheVariants.{Before, During}
+use Rattle.mm_plan.specs.Volumes.{left_by, lost_by}
+use Rattle.mm_carry.proofs.Words.{left_next, left_start, Amounts, left, lost, loss, store_loss, RunInput, as_came, ◌≡◌}
 use Rattle.mm_carry.proofs.Words.{came, store_state, Held}
 use Rattle.mm_carry.specs.Words.{Fits}
 use Rattle.mm_carry.proofs.Words.{ℕ, zero, suc, ◌+◌, ◌-◌, ◌<◌, ◌≤◌, min, List, length, map, take, refl, ◌∙◌, ap, subst}
@@ -17,24 +21,54 @@ sum_next f n =
     subst (λ k. sum_by f (range_with_len 1 k) ≡ sum_by f (range_with_len 1 n) + f k) (add-one n)
     (sum_by_range_more f 1 n (n + 1) (omega arith))
 
--- of a step, what is lost, and what is left
+-- of a step, what is lost
 lost_next : (q : Dumping) (x : Amounts) (s n : ℕ)
-    → lost q x s (suc n) ≡ left q x s n + arrivals q s (suc n) - min (left q x s n + arrivals q s (suc n)) (size q s)
-lost_next q x s n = let back : suc n - 1 ≡ n = omega arith in rw back refl
-
-left_next : (q : Dumping) (x : Amounts) (s n : ℕ)
-    → left q x s (suc n) ≡ min (left q x s n + arrivals q s (suc n)) (size q s)
-    - min (x s (suc n)) (min (left q x s n + arrivals q s (suc n)) (size q s))
-left_next q x s n =
+    → lost q x s (suc n) ≡ lost_by q.come (size q s (suc n)) (left q x s n + arrivals q s (suc n)) (x s (suc n))
+lost_next q x s n =
     let back : suc n - 1 ≡ n = omega arith in
-    left_step q x s n (suc n) (omega arith) ∙ rw back refl
+    ap (λ v. lost_by q.come (size q s (suc n)) (left q x s v + arrivals q s (suc n)) (x s (suc n))) back
 
--- one step of a store of size z that holds v blocks, and of one that holds w: a blocks arrive, and b, and of what is
--- written x leave. The second loses, and then holds, more by at most what it held more and what arrived more
-step_costs : (v w a b z x : ℕ)
-    → (w + b - min (w + b) z) + ((min (w + b) z - min x (min (w + b) z)) - (min (v + a) z - min x (min (v + a) z)))
-    ≤ (v + a - min (v + a) z) + (w - v) + (b - a)
-step_costs v w a b z x = omega arith
+-- nothing is left of a number that is taken from itself
+none : (n : ℕ) → n - n ≡ 0
+none n = omega arith
+
+-- the costs of a step where arrivals come before dumps; none of those that stay are lost
+costs_before : (v w a b z x m n : ℕ) → m ≡ 0 → n ≡ 0
+    → (w + b - min (w + b) z + m)
+    + ((min (w + b) z - min x (min (w + b) z)) - (min (v + a) z - min x (min (v + a) z)))
+    ≤ (v + a - min (v + a) z + n) + (w - v) + (b - a)
+costs_before v w a b z x m n no_more nor_here = omega (arith, no_more, nor_here)
+
+-- the costs of p blocks that stay in a store of size z, beside those of q blocks; each can leave
+costs_during : (m n p q z : ℕ) → m ≡ 0 → n ≡ 0
+    → (m + (p - min p z)) + (min p z - min q z) ≤ (n + (q - min q z)) + (p - q)
+costs_during m n p q z no_more nor_here = omega (arith, no_more, nor_here)
+
+-- of more blocks, more stay by at most as many
+stay_more : (more some x : ℕ) → (more - min x more) - (some - min x some) ≤ more - some
+stay_more more some x = omega arith
+
+-- of what two stores hold and what comes to them, the one is more by at most what each part is more
+parts_more : (v w a b : ℕ) → (w + b) - (v + a) ≤ (w - v) + (b - a)
+parts_more v w a b = omega arith
+
+-- a bound that is raised twice
+raised : (s t d g e f : ℕ) → s ≤ t + d → d ≤ g → g ≤ e + f → s ≤ t + e + f
+raised s t d g e f below once twice = omega (arith, below, once, twice)
+
+-- one step of a store of size z that holds v blocks, and of one that holds w: a blocks arrive, and b, and x are to
+-- leave. The second loses, and then holds, more by at most what it held more and what arrived more
+step_costs : (come : Arrivals) (v w a b z x : ℕ)
+    → lost_by come z (w + b) x + (left_by come z (w + b) x - left_by come z (v + a) x)
+    ≤ lost_by come z (v + a) x + (w - v) + (b - a)
+step_costs Before v w a b z x =
+    costs_before v w a b z x _ _ (none (min (w + b) z - min x (min (w + b) z)))
+    (none (min (v + a) z - min x (min (v + a) z)))
+step_costs During v w a b z x =
+    let p = w + b - min x (w + b) in
+    let q = v + a - min x (v + a) in
+    raised _ _ _ _ (w - v) (b - a) (costs_during _ _ p q z (none (w + b)) (none (v + a)))
+    (stay_more (w + b) (v + a) x) (parts_more v w a b)
 
 -- the costs of a step are added to those of the steps before it
 chain : (more_lost lost came d next_more_lost next_lost next_came next_d : ℕ) → more_lost + d ≤ lost + came
@@ -47,6 +81,11 @@ module _ (q : Dumping) (other : List ℕ) (x : Amounts) where
   abbrev c : Dumping
   c = record q { arrived = other }
 
+  -- the stores have the same sizes
+  same_size : (s t : ℕ) → size c s t ≡ size q s t
+  unfolding size
+  same_size s t = refl
+
   -- how much more arrives
   abbrev more : ℕ → ℕ → ℕ
   more s t = arrivals c s t - arrivals q s t
@@ -57,11 +96,11 @@ module _ (q : Dumping) (other : List ℕ) (x : Amounts) where
       ≤ sum_by (lost q x s) (range_with_len 1 n) + sum_by (more s) (range_with_len 1 n)
   store_costs s zero = omega (arith, left_start c x s, left_start q x s)
   store_costs s (suc n) =
-      let here = step_costs (left q x s n) (left c x s n) (arrivals q s (suc n)) (arrivals c s (suc n)) (size q s)
-      (x s (suc n)) in
+      let here = step_costs q.come (left q x s n) (left c x s n) (arrivals q s (suc n)) (arrivals c s (suc n))
+      (size q s (suc n)) (x s (suc n)) in
       rw (sum_next (lost c x s) n, sum_next (lost q x s) n, sum_next (more s) n)
       (chain _ _ _ _ _ _ _ _ (store_costs s n)
-      (rw (lost_next c x s n, lost_next q x s n, left_next c x s n, left_next q x s n) here))
+      (rw (lost_next c x s n, lost_next q x s n, left_next c x s n, left_next q x s n, same_size s (suc n)) here))
 
   -- where no more arrives at a store, it loses no more
   store_no_more : (s : ℕ) → ((t : ℕ) → 1 ≤ t → t ≤ length q.windows → arrivals c s t ≤ arrivals q s t)

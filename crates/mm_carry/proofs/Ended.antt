@@ -38,6 +38,11 @@ module _ {S L : Type 0} (leads : S → S → Type 0) (until : S → S → Supply
   ended_as first now report (Ok x) ended = (ended, tt)
   ended_as first now report (Err stop) ended = (tt, λ lasts lead. let one = ended lasts lead in (one.0, inl one.1))
 
+-- what holds in any case holds where there is a value
+pub always_ok : {P : Type 0} (result : Result (Unit {0}) Stop) → P → OnOk result P
+always_ok (Ok x) holds = holds
+always_ok (Err stop) holds = tt
+
 -- where counts are far from their end, no store refused a packet in a run that was stopped
 pub stopped_far : {S L : Type 0} (sent : L → List Sent) (failed : L → ℕ) (m : RunInput) (plan : Table)
     (first after : RunState S L) (left : List Supply) (stop : Stop) (report : Reported)

@@ -244,6 +244,7 @@ module _ {L : Type 0} (sent : L → List Sent) (failed : L → ℕ) (changes : B
         → Fits q (amount next) → AreCounts sources links → MayBegin (run_start q next left.stores base sources links)
     goes_on next base sources links shape in_time fits counts = record {
       shape = λ _. shape;
+      flyable = λ _. rest.flyable (began.flyable (omega arith));
       ready = λ _. all_meet Ready (λ s store. standing (now s).state.storage (now s).state.retrieval
           (halted.ready.storage (k s) no_held (still_there s store))
           (halted.ready.idle (k s) no_held (still_there s store)));
@@ -266,5 +267,9 @@ module _ {L : Type 0} (sent : L → List Sent) (failed : L → ℕ) (changes : B
   pub halted_have_rests : HaltedRunsHaveRests sent failed
   halted_have_rests m plan first step left stop report halted held sound = (
     starts_are sent failed changes m plan first step left stop report halted sound,
-    λ after. record { rows = refl; limits = limits_stay m.problem after (held_by m left.stores) },
+    λ after. record {
+      rows = refl;
+      limits = limits_stay m.problem after (held_by m left.stores);
+      flyable = λ is. record { before = is.before; one_size = is.one_size };
+    },
   )

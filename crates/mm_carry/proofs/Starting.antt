@@ -197,6 +197,7 @@ module _ {L : Type 0} (sent : L → List Sent) (failed : L → ℕ) (run : RunCo
               (ran.began.openings (omega arith) s store)
               (state_holds IsState first.stores sound (slice_index places s) place.within));
           early = by_clock run.base (length q.windows) base_early is.steps.at_most;
+          flyable = ran.began.flyable (omega arith);
         };
         labels = labels;
         early = by_clock run.base t base_early (omega (arith, last, is.steps.at_most));

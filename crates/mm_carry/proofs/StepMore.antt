@@ -8,7 +8,7 @@ use Words.{AsPlanned, IsRunOf, lost, ReplaysKeepStates, counts_from, rows_of, ro
 use Words.{rows_by_counters, orders_of, ArePlaces, AreApart, RunInput, step_of, offered, as_came, place_in_memory}
 use Words.{store_state, RunState, IsWholeStep, IsStepRun, AreStepRuns, SourcesGave, LinksSent, StepsDone, sent_in, ◌≡◌}
 use Words.{◌≢◌, inl, inr, ℕ, zero, suc, ◌+◌, ◌-◌, ◌<◌, ◌≤◌, ◌^◌, cond, eqb, List, [], ◌∷◌, ◌++◌, length, map, All, refl}
-use Words.{sym, subst, ap, ◌∙◌, arith, append_assoc}
+use Words.{sym, subst, ap, ◌∙◌, arith, append_assoc, IsFlyable}
 use Rattle.mm_dump.specs.Dumped.{times, places_of, AllTook}
 use Rattle.mm_carry.proofs.Stepping.{as_planned, grown}
 use Rattle.mm_carry.proofs.AccountLemmas.{accounted}
@@ -53,6 +53,7 @@ pub record Footing (m : RunInput) (places : List ℕ) : Type 0 where
   pub apart : AreApart places (length m.problem.rows)
   pub ready : (s : ℕ) → s < length m.problem.rows → IsReady m.problem s (store_state m m.memory.stores s)
   pub early : m.base + length m.problem.windows < 2 ^ 64
+  pub flyable : IsFlyable m.problem
 
 module _ {L : Type 0} (sent : L → List Sent) (failed : L → ℕ) (m : RunInput) (links : List L) (places : List ℕ)
     (footing : Footing m places) (t : ℕ) (from_one : 1 ≤ t) (before after : RunState Supply L) (report : Reported) where
@@ -232,6 +233,7 @@ module _ {L : Type 0} (sent : L → List Sent) (failed : L → ℕ) (m : RunInpu
       -- the steps so far are a run of the plan, with what came in place of the forecast
       run_of : IsRunOf (as_came m) m.amounts count (offered m) gave_of states
       run_of = record {
+        flyable = record { before = footing.flyable.before; one_size = footing.flyable.one_size };
         ready = λ s store.
             let first = footing.ready s store in
             rw ran_on.first (record { sound = first.sound; sized = first.sized; holds = first.holds });

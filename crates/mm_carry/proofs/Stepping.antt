@@ -1,6 +1,7 @@
 -- What step runs do to the stores, step by step, and what the stores lose over all steps.
 use Rattle.mm_carry.proofs.Words.{cases_lt, All-weaker, sum_by, range_with_len, All-back, sum_by_range_more}
-use Rattle.mm_carry.proofs.Words.{sum_by_range_same, sum_by-add, Dumping, size, stores, left_step, left_start, Amounts}
+use Rattle.mm_carry.proofs.Words.{sum_by_range_same, sum_by-add, Dumping, setup_size, stores, left_flown, lost_flown}
+use Rattle.mm_carry.proofs.Words.{written_flown, left_start, Amounts}
 use Rattle.mm_carry.proofs.Words.{left, written, lost, store_loss, loss, IsRising, Stored, count_of_shuffle, HasTimes}
 use Rattle.mm_carry.proofs.Words.{ReplaysKeepStates, State, IsState, Leaves, offers_leave, order_dumps, count_of, IsRun}
 use Rattle.mm_carry.proofs.Words.{replay, Entry, Event, AtEach, AsPlanned, IsRunOf, StepRunsKeepStores, IsDumpOf}
@@ -143,7 +144,7 @@ module _ (keep : ReplaysKeepStates) where
   -- a store after some steps
   pub record Stands (q : Dumping) (x : Amounts) (s t : ℕ) (state : State) : Type 0 where
     pub sound : IsState state
-    pub sized : state.store.size ≡ size q s
+    pub sized : state.store.size ≡ setup_size q s
     pub holds : length state.store.content ≡ left q x s t
 
   module _ (q : Dumping) (x : Amounts) (steps : ℕ) (offers : ℕ → ℕ → List (List Event)) (gave : ℕ → ℕ → List Stored)
@@ -155,16 +156,17 @@ module _ (keep : ReplaysKeepStates) where
         let leaves = run_leaves _ _ (offers s t) (x s t) (gave s t) stood.sound (is.timed s t store first last)
         (is.runs s t store first last) in
         let came = is.came s t store first last in
-        let next : left q x s t ≡ written q x s t - min (x s t) (written q x s t) =
-        left_step q x s (t - 1) t (omega arith) in
+        let next = left_flown q is.flyable x s t (t - 1) (omega arith) in
+        let is_written = written_flown q is.flyable x s t in
+        let is_lost = lost_flown q is.flyable x s t in
         let holds : length (states s t).store.content ≡ left q x s t =
-        omega (arith, next, stood.holds, stood.sized, came, leaves.holds) in (
+        omega (arith, next, is_written, stood.holds, stood.sized, came, leaves.holds) in (
           record { sound = leaves.sound; sized = leaves.sized ∙ stood.sized; holds = holds },
           record {
             takes = leaves.takes ∙ ap (λ (m : ℕ). (states s (t - 1)).offered + m) (sym came);
             holds = holds;
-            loses = omega (arith, stood.holds, stood.sized, came, leaves.loses);
-            dumps = omega (arith, next, stood.holds, stood.sized, came, leaves.dumps);
+            loses = omega (arith, is_lost, is_written, stood.holds, stood.sized, came, leaves.loses);
+            dumps = omega (arith, next, is_written, stood.holds, stood.sized, came, leaves.dumps);
           },
         )
 

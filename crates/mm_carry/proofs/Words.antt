@@ -1,6 +1,7 @@
 -- What the proofs of a run are written in: the words and the lemmas of std and of the crates below, and the words of
 -- this crate, passed on from one place.
-pub use Rattle.mm_carry.specs.Words.{MAX_STORES, SpacePacket, Dumping, IsDumping, arrivals, limit, place, row, size}
+pub use Rattle.mm_carry.specs.Words.{MAX_STORES, SpacePacket, Dumping, IsDumping, IsFlyable, arrivals, limit, place}
+pub use Rattle.mm_carry.specs.Words.{row, setup_size, size}
 pub use Rattle.mm_carry.specs.Words.{steps, stores, window, FitsAt, Table, amount, Amounts, left, loss, lost, written}
 pub use Rattle.mm_carry.specs.Words.{Stored, IsState, State, AreTaken, IsShuffleOfEvents, count_of, IsRun, opening_at}
 pub use Rattle.mm_carry.specs.Words.{Entry, Event, Offer, Held, id_at, labels_of, states_of, AreHeld, Holdings, has_id}
@@ -41,7 +42,8 @@ pub use Rattle.mm_base.proofs.Tests.{cond-eqb_other, cond-eqb_same}
 pub use Rattle.mm_base.specs.declared.limits.TheConstants.{MAX_STEPS}
 pub use Rattle.mm_base.specs.declared.rows.StoreRow.{StoreRow}
 pub use Rattle.mm_problem.specs.Dumping.{no_row}
-pub use Rattle.mm_plan.proofs.Steps.{left_start, left_step}
+pub use Rattle.mm_plan.proofs.Flown.{left_flown, lost_flown, written_flown}
+pub use Rattle.mm_plan.proofs.Steps.{left_next, left_start, left_step}
 pub use Rattle.mm_plan.specs.Fit.{in_step}
 pub use Rattle.mm_plan.specs.Volumes.{store_loss, first_loss}
 pub use Rattle.mm_store.specs.Content.{IsRising, Store, clock_end, put}

@@ -1,6 +1,6 @@
 -- The numbers of a run, beside those of a plan.
 use Rattle.std.specs.Prelude.{◌≡◌, ℕ, ◌+◌, ◌-◌, ◌<◌, ◌≤◌, length}
-use Rattle.mm_carry.specs.Words.{Dumping, size, start, arrivals, Amounts, left, written, lost, State, IsState}
+use Rattle.mm_carry.specs.Words.{Dumping, setup_size, start, arrivals, Amounts, left, written, lost, State, IsState}
 
 -- at each of this many stores, in each of this many steps
 abbrev pub AtEach : ℕ → ℕ → (ℕ → ℕ → Type 0) → Type 0
@@ -9,7 +9,7 @@ AtEach stores steps P = (s t : ℕ) → s < stores → 1 ≤ t → t ≤ steps �
 -- as a run begins, a store has its size and holds its start volume
 pub record IsReady (q : Dumping) (s : ℕ) (state : State) : Type 0 where
   pub sound : IsState state
-  pub sized : state.store.size ≡ size q s
+  pub sized : state.store.size ≡ setup_size q s
   pub holds : length state.store.content ≡ start q s
 
 -- from the state before a step to the state after it a store takes what arrives, and comes to hold, loses and dumps

@@ -1,8 +1,8 @@
 -- How a memory goes on after a run that was halted: the rest is a run of its own, from what the stores hold.
 use Rattle.std.specs.Prelude.{◌≡◌, ℕ, ◌<◌, false, true, List, ◌∷◌, length, map, All}
 use Rattle.mm_problem.specs.Rest.{rest_of, rows_from, starts_fit}
-use Rattle.mm_carry.specs.Words.{Dumping, row, stores, Fits, HasShape, Table, amount, Stored, State, IsState, Held}
-use Rattle.mm_carry.specs.Words.{AreHeld, labels_of, is_clock_late, Supply, Sent, Reported}
+use Rattle.mm_carry.specs.Words.{Dumping, IsFlyable, row, stores, Fits, HasShape, Table, amount, Stored, State}
+use Rattle.mm_carry.specs.Words.{IsState, Held, AreHeld, labels_of, is_clock_late, Supply, Sent, Reported}
 use Rattle.mm_carry.specs.Readiness.{AreCounts, HasLimit, MayBegin, run_start}
 use Rattle.mm_carry.specs.RunInput.{RunInput, store_state}
 use Rattle.mm_carry.specs.RunState.{RunState}
@@ -19,6 +19,7 @@ held_by m left = map (λ s. length (store_state m left s).store.content) (stores
 pub record IsRestOf (m : RunInput) (left : List Held) (q : Dumping) : Type 0 where
   pub rows : q.rows ≡ rows_from m.problem.rows (held_by m left)
   pub limits : HasLimit q → HasLimit m.problem
+  pub flyable : IsFlyable m.problem → IsFlyable q
 
 -- after a halt the stores pass all tests before a run of the rest, where its plan has the shape and fits, the clock is
 -- in time, and there are sources and links

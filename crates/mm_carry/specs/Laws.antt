@@ -1,8 +1,8 @@
 -- Laws of whole runs.
 use Rattle.std.specs.Prelude.{◌≡◌, ℕ, ◌+◌, ◌-◌, ◌<◌, ◌≤◌, ◌^◌, List, length}
 use Rattle.std.specs.List.{sum_by}
-use Rattle.mm_carry.specs.Words.{Dumping, arrivals, window, stores, FitsAt, Amounts, loss, Stored, State, IsState}
-use Rattle.mm_carry.specs.Words.{AreTaken, IsShuffleOfEvents, count_of, IsRun, Entry, Event, Held, IsDumpOf}
+use Rattle.mm_carry.specs.Words.{Dumping, IsFlyable, arrivals, window, stores, FitsAt, Amounts, loss, Stored, State}
+use Rattle.mm_carry.specs.Words.{IsState, AreTaken, IsShuffleOfEvents, count_of, IsRun, Entry, Event, Held, IsDumpOf}
 use Rattle.mm_carry.specs.StepRuns.{IsStepRun, AreTimed, AreBy, KeepsStore}
 use Rattle.mm_carry.specs.Accounts.{IsAccounted}
 use Rattle.mm_carry.specs.AsPlanned.{AtEach, IsReady, AsPlanned}
@@ -14,6 +14,7 @@ use Rattle.mm_carry.specs.Steps.{AreStepRuns, sent_amounts}
 -- that the step before left to the next, and what comes in the problem is what is offered
 pub record IsRunOf (q : Dumping) (x : Amounts) (steps : ℕ) (offers : ℕ → ℕ → List (List Event))
     (gave : ℕ → ℕ → List Stored) (states : ℕ → ℕ → State) : Type 0 where
+  pub flyable : IsFlyable q
   pub ready : (s : ℕ) → s < length q.rows → IsReady q s (states s 0)
   pub timed : AtEach (length q.rows) steps (λ s t. AreTimed (offers s t))
   pub runs : AtEach (length q.rows) steps (λ s t. IsStepRun (offers s t) (x s t) (gave s t) (states s (t - 1))

@@ -1,9 +1,9 @@
 -- What is tested before a run, in which order.
 use Rattle.std.specs.Prelude.{◌≡◌, ℕ, ◌<◌, ◌≤◌, Bool, true, false, ◌==◌, ◌⊎◌, List, length, slice_index_or, take, All}
 use Rattle.std.specs.Prelude.{Option, Some, None, is_some}
-use Rattle.mm_carry.specs.Words.{Dumping, row, place, limit, Fits, IsFirstMisfit, Table, amount, HasShape, Held}
-use Rattle.mm_carry.specs.Words.{store_of, is_ready, is_clock_late, Cause, PlanShape, NotReady, SizeDiffers}
-use Rattle.mm_carry.specs.Words.{OpeningDiffers, ChannelDiffers, ClockTooLate, PlanDoesNotFit, Counts}
+use Rattle.mm_carry.specs.Words.{Dumping, IsFlyable, row, place, limit, Fits, IsFirstMisfit, Table, amount, HasShape}
+use Rattle.mm_carry.specs.Words.{Held, store_of, is_ready, is_clock_late, Cause, NotFlyable, PlanShape, NotReady}
+use Rattle.mm_carry.specs.Words.{SizeDiffers, OpeningDiffers, ChannelDiffers, ClockTooLate, PlanDoesNotFit, Counts}
 use Rattle.mm_base.specs.declared.rows.StoreRow.{StoreRow}
 use Rattle.mm_carry.specs.declared.requirement.Requirement.{Requirement}
 use Rattle.mm_carry.specs.declared.requirement.Requirement.TheVariants.{Ready, Size, Opening, Channel}
@@ -80,29 +80,31 @@ run_start problem plan stores base sources links =
 
 -- of the tests before a run, in their order, the first this many pass
 pub record Passed (many : ℕ) (o : RunStart) : Type 0 where
-  pub shape : 1 ≤ many → HasShape o.problem o.plan
-  pub ready : 2 ≤ many → AllMeet Ready o.problem o.stores
-  pub known : 2 ≤ many → NoneUnknown o.problem o.stores
-  pub sizes : 3 ≤ many → AllMeet Size o.problem o.stores
-  pub openings : 4 ≤ many → AllMeet Opening o.problem o.stores
-  pub channels : 5 ≤ many → HasLimit o.problem → AllMeet Channel o.problem o.stores
-  pub in_time : 6 ≤ many → is_clock_late o.stores o.base ≡ false
-  pub fits : 7 ≤ many → Fits o.problem (amount o.plan)
-  pub counts : 8 ≤ many → AreCounts o.sources o.links
+  pub flyable : 1 ≤ many → IsFlyable o.problem
+  pub shape : 2 ≤ many → HasShape o.problem o.plan
+  pub ready : 3 ≤ many → AllMeet Ready o.problem o.stores
+  pub known : 3 ≤ many → NoneUnknown o.problem o.stores
+  pub sizes : 4 ≤ many → AllMeet Size o.problem o.stores
+  pub openings : 5 ≤ many → AllMeet Opening o.problem o.stores
+  pub channels : 6 ≤ many → HasLimit o.problem → AllMeet Channel o.problem o.stores
+  pub in_time : 7 ≤ many → is_clock_late o.stores o.base ≡ false
+  pub fits : 8 ≤ many → Fits o.problem (amount o.plan)
+  pub counts : 9 ≤ many → AreCounts o.sources o.links
 
 -- all tests pass
 abbrev pub MayBegin : RunStart → Type 0
-MayBegin o = Passed 8 o
+MayBegin o = Passed 9 o
 
 -- the test of a cause is the first that fails
 abbrev pub Stops : RunStart → Cause → Type 0
-Stops o PlanShape = ¬ HasShape o.problem o.plan
-Stops o (NotReady id) = Passed 1 o × (IsFirstMismatch Ready o.problem o.stores id
+Stops o NotFlyable = ¬ IsFlyable o.problem
+Stops o PlanShape = Passed 1 o × (¬ HasShape o.problem o.plan)
+Stops o (NotReady id) = Passed 2 o × (IsFirstMismatch Ready o.problem o.stores id
     ⊎ (AllMeet Ready o.problem o.stores × IsFirstUnknown o.problem o.stores id))
-Stops o (SizeDiffers id) = Passed 2 o × IsFirstMismatch Size o.problem o.stores id
-Stops o (OpeningDiffers id) = Passed 3 o × IsFirstMismatch Opening o.problem o.stores id
-Stops o (ChannelDiffers id) = Passed 4 o × HasLimit o.problem × IsFirstMismatch Channel o.problem o.stores id
-Stops o ClockTooLate = Passed 5 o × (is_clock_late o.stores o.base ≡ true)
-Stops o (PlanDoesNotFit step) = Passed 6 o × IsFirstMisfit o.problem (amount o.plan) step
-Stops o Counts = Passed 7 o × (¬ AreCounts o.sources o.links)
+Stops o (SizeDiffers id) = Passed 3 o × IsFirstMismatch Size o.problem o.stores id
+Stops o (OpeningDiffers id) = Passed 4 o × IsFirstMismatch Opening o.problem o.stores id
+Stops o (ChannelDiffers id) = Passed 5 o × HasLimit o.problem × IsFirstMismatch Channel o.problem o.stores id
+Stops o ClockTooLate = Passed 6 o × (is_clock_late o.stores o.base ≡ true)
+Stops o (PlanDoesNotFit step) = Passed 7 o × IsFirstMisfit o.problem (amount o.plan) step
+Stops o Counts = Passed 8 o × (¬ AreCounts o.sources o.links)
 Stops o cause = ⊥

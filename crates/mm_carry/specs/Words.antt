@@ -1,8 +1,8 @@
 -- What the definitions of a run are written in: the words of the crates below, passed on from one place.
 pub use Rattle.mm_base.specs.declared.limits.TheConstants.{MAX_STORES}
 pub use Rattle.mm_packet.specs.Packet.{SpacePacket}
-pub use Rattle.mm_problem.specs.Dumping.{Dumping, IsDumping, arrivals, limit, place, row, size, start, steps, stores}
-pub use Rattle.mm_problem.specs.Dumping.{window}
+pub use Rattle.mm_problem.specs.Dumping.{Dumping, IsDumping, IsFlyable, arrivals, limit, place, row, setup_size, size}
+pub use Rattle.mm_problem.specs.Dumping.{start, steps, stores, window}
 pub use Rattle.mm_plan.specs.Fit.{Fits, FitsAt, IsFirstMisfit}
 pub use Rattle.mm_plan.specs.Table.{HasShape, Table, amount}
 pub use Rattle.mm_plan.specs.Volumes.{Amounts, left, loss, lost, written}
@@ -27,5 +27,5 @@ pub use Rattle.mm_dump.specs.declared.order.Order.{Order}
 pub use Rattle.mm_report.specs.Report.{Reported, totals_of}
 pub use Rattle.mm_report.specs.declared.cause.Cause.{Cause}
 pub use Rattle.mm_report.specs.declared.cause.Cause.TheVariants.{ChannelDiffers, ClockTooLate, Counts, LinkFailed}
-pub use Rattle.mm_report.specs.declared.cause.Cause.TheVariants.{LogMismatch, NoMemory, NotReady}
+pub use Rattle.mm_report.specs.declared.cause.Cause.TheVariants.{LogMismatch, NoMemory, NotFlyable, NotReady}
 pub use Rattle.mm_report.specs.declared.cause.Cause.TheVariants.{OpeningDiffers, PlanDoesNotFit, PlanShape, SizeDiffers}

@@ -1,5 +1,6 @@
 //! What is tested before a run.
-ghost use Rattle.std.specs.Prelude.{◌↔◌, ◌⊎◌, IsTrue, OnOk, IfErr, IfSome, IfNone};
+ghost use Rattle.std.specs.Prelude.{◌≡◌, ◌↔◌, ◌⊎◌, IsTrue, Err, OnOk, IfErr, IfSome, IfNone};
+ghost use Rattle.mm_carry.specs.Words.{IsFlyable, NotFlyable};
 ghost use Rattle.mm_carry.specs.declared.requirement.Requirement.TheVariants.{Ready, Channel};
 ghost use Rattle.mm_carry.specs.Readiness.{AllMeet, IsFirstMismatch, NoneUnknown, IsFirstUnknown, HasLimit, run_start};
 ghost use Rattle.mm_carry.specs.Readiness.{MayBegin, Stops};
@@ -53,8 +54,8 @@ fn first_not_ready(problem: &Problem, stores: &[Held]) -> Option<StoreId>
 }
 
 /// Whether a run may begin: over these stores, from the moment before its first step, with this many sources and links.
-/// Otherwise the cause whose test is the first to fail, in the order 38 `PlanShape`, 39 `NotReady`, 40 `SizeDiffers`,
-/// 41 `OpeningDiffers`, 53 `ChannelDiffers`, 42 `ClockTooLate`, 43 `PlanDoesNotFit`, 44 `Counts`.
+/// Otherwise the cause whose test is the first to fail, in the order 55 `NotFlyable`, 38 `PlanShape`, 39 `NotReady`,
+/// 40 `SizeDiffers`, 41 `OpeningDiffers`, 53 `ChannelDiffers`, 42 `ClockTooLate`, 43 `PlanDoesNotFit`, 44 `Counts`.
 pub fn ready(
     problem: &Problem,
     plan: &Plan,
@@ -65,7 +66,11 @@ pub fn ready(
 ) -> Result<(), Cause>
     ensures ok { OnOk result (MayBegin (run_start problem.now plan.now stores.now base sources links)) }
     ensures err { IfErr result (Stops (run_start problem.now plan.now stores.now base sources links)) }
+    ensures not_flyable { (result ≡ Err NotFlyable) ↔ (¬ IsFlyable problem.now) }
 {
+    if !problem.is_flyable() {
+        return Err(Cause::NotFlyable);
+    }
     if !plan.has_shape(problem) {
         return Err(Cause::PlanShape);
     }

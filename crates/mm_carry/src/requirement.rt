@@ -31,7 +31,7 @@ fn is_as(problem: &Problem, store: usize, requirement: Requirement, held: &Held)
 {
     match requirement {
         Requirement::Ready => is_ready(held),
-        Requirement::Size => held.state.store().size() == problem.size(store),
+        Requirement::Size => held.state.store().size() == problem.setup_size(store),
         Requirement::Opening => held.state.store().len() == problem.start(store),
         Requirement::Channel => held.channel == problem.channel(store),
     }

@@ -1,7 +1,8 @@
 //! The run of a dump plan.
-ghost use Rattle.std.specs.Prelude.{◌≡◌, ◌-◌, ◌<◌, ◌^◌, [], All, length, IfOk, OnOk, IfErr};
+ghost use Rattle.std.specs.Prelude.{◌≡◌, ◌-◌, ◌<◌, ◌^◌, [], All, length, Err, IfOk, OnOk, IfErr};
 ghost use Rattle.mm_shared.specs.Stores.{labels_of};
 ghost use Rattle.mm_desk.specs.Holdings.{AreHeld};
+ghost use Rattle.mm_carry.specs.Words.{IsFlyable, NotFlyable};
 ghost use Rattle.mm_carry.specs.RunState.{InRun, state_of};
 ghost use Rattle.mm_carry.specs.Course.{given_to};
 ghost use Rattle.mm_carry.specs.Ending.{HasRun, IsStopped};
@@ -49,6 +50,10 @@ impl<S: AnySource + Send + Drop, L: Link + Send + Drop> RunParts<S, L> {
             (λ first now. IsStopped L.sent L.failed (given_to run.now first) run.now.plan.now (state_of self.old)
             (state_of self.new) now.sources stop self.new.report)) }
         ensures labels { labels_of self.new.stores.items ≡ labels_of self.old.stores.items }
+        // A problem that is not flyable is refused.
+        ensures flyable { OnOk result (IsFlyable run.now.problem.now) }
+        ensures not_flyable { (¬ IsFlyable run.now.problem.now)
+            → result ≡ Err (record { cause = NotFlyable; spent = 0 }) }
     {
         let stores = self.stores.as_slice();
         let many_sources = self.sources.len();

@@ -1,5 +1,5 @@
 -- The sum of a chart is its cut's bound, and what its words list is all that its cut counts.
-use Rattle.std.proofs.Common.{◌≡◌, ℕ, ◌<◌, ◌≤◌, Bool, true, eqb, leb, ltb, not, cond, ◌&&◌, List, [], length, get_or}
+use Rattle.std.proofs.Common.{◌≡◌, ℕ, ◌+◌, ◌<◌, ◌≤◌, Bool, true, eqb, leb, ltb, not, cond, ◌&&◌, List, [], length, get_or}
 use Rattle.std.proofs.Common.{◌⊎◌, inl, inr, refl, sym, ap, ◌∙◌, subst, arith}
 use Rattle.std.specs.Prelude.{pos}
 use Rattle.std.proofs.lemmas.Int.{ints}
@@ -11,9 +11,12 @@ use Rattle.std.proofs.lemmas.List.Sums.{passes_at_first}
 use Rattle.std.proofs.lemmas.Slice.Eq.{bytes_eq-Decides}
 use Rattle.std.specs.Str.{bytes_eq}
 use Rattle.mm_base.proofs.Sums.{sum_by-filter_parts}
+use Rattle.mm_problem.specs.declared.come.Arrivals.{Arrivals}
+use Rattle.mm_problem.specs.declared.come.Arrivals.TheVariants.{Before, During}
 use Rattle.mm_problem.specs.Dumping.{Dumping, no_row, row, place, size, start, channel, window, arrivals, steps}
 use Rattle.mm_plan.specs.declared.stretch.Stretch.{Stretch}
-use Rattle.mm_cut.specs.Stretches.{store_of, channel_of, covers, goes_past, goes_past_on, is_inner, is_inner_on}
+use Rattle.mm_cut.specs.Stretches.{store_of, channel_of, covers, inner_end, goes_past, goes_past_on, is_inner}
+use Rattle.mm_cut.specs.Stretches.{is_inner_on}
 use Rattle.mm_cut.specs.Stretches.{IsStretch}
 use Rattle.mm_cut.specs.Counts.{is_listed}
 use Rattle.mm_cut.specs.Cuts.{bound, limit_sum, counts_window, counts_limits}
@@ -22,6 +25,7 @@ use Rattle.mm_cut.specs.Verdicts.{IsSheetVerdict}
 use Rattle.mm_cut.specs.declared.verdict.Verdict.{Verdict}
 use Rattle.mm_cut.specs.declared.verdict.Verdict.TheVariants.{NotShown, Least, LeastInOrder}
 use Rattle.mm_chart.specs.declared.series.Series.{Series}
+use Rattle.mm_cut.proofs.StretchLosses.{inner_end-le}
 use Rattle.mm_chart.specs.declared.series.Series.TheVariants.{WindowCounts, ChannelCounts, LimitsCount, Inner, Last}
 use Rattle.mm_chart.specs.Picture.{Drawn, IsDrawn, has_cut, cut, counts}
 use Rattle.mm_chart.specs.Series.{one_if, amount_of, has_stretch, is_inner_of, is_last_of, counts_channel}
@@ -36,7 +40,7 @@ sum_is_bound p =
     omega (
       arith,
       ints,
-      sum_by-filter_parts (is_inner (cut p)) (is_listed (counts p)) (limit_sum q (cut p)) (window q) (steps q),
+      sum_by-filter_parts (is_inner q (cut p)) (is_listed (counts p)) (limit_sum q (cut p)) (window q) (steps q),
     )
 
 -- where there is a cut, it is the sheet's
@@ -85,11 +89,16 @@ marked_at p x t first last some = in_range t (length p.problem.windows) (amount_
 one_of : (b : Bool) → b ≡ true → 1 ≤ one_if b
 one_of b holds = rw holds (omega arith)
 
+-- the inner steps of a stretch end no earlier than before its last
+inner_end-ge : (come : Arrivals) (d : Stretch) → d.last ≤ inner_end come d
+inner_end-ge Before d = omega arith
+inner_end-ge During d = omega arith
+
 -- an inner step of a stretch is a step of the problem
-inner_first : (a b t m : ℕ) → (leb a t && ltb t b) ≡ true → 1 ≤ a → b ≤ m → 1 ≤ t
+inner_first : (a b t m : ℕ) → (leb a t && ltb t b) ≡ true → 1 ≤ a → b ≤ m + 1 → 1 ≤ t
 inner_first a b t m inner first last = grind (arith, nat_tests)
 
-inner_last : (a b t m : ℕ) → (leb a t && ltb t b) ≡ true → 1 ≤ a → b ≤ m → t ≤ m
+inner_last : (a b t m : ℕ) → (leb a t && ltb t b) ≡ true → 1 ≤ a → b ≤ m + 1 → t ≤ m
 inner_last a b t m inner first last = grind (arith, nat_tests)
 
 -- a stretch that begins with step 1 has that step
@@ -97,8 +106,8 @@ covers_one : (b : ℕ) → 1 ≤ b → (leb 1 1 && leb 1 b) ≡ true
 covers_one b order = grind (arith, nat_tests)
 
 -- a step of a stretch is an inner one or the last
-inner_or_last : (a b t : ℕ) → (leb a t && leb t b) ≡ true → ((leb a t && ltb t b) ≡ true) ⊎ (t ≡ b)
-inner_or_last a b t covers = elim (cases_lt t b) [
+inner_or_last : (a b e t : ℕ) → b ≤ e → (leb a t && leb t b) ≡ true → ((leb a t && ltb t e) ≡ true) ⊎ (t ≡ b)
+inner_or_last a b e t past covers = elim (cases_lt t b) [
   | inl inner ↦ inl (grind (arith, nat_tests))
   | inr last ↦ inr (grind (arith, nat_tests))
 ]
@@ -111,30 +120,32 @@ module _ (p : Drawn) (is : IsDrawn p) where
   ts = counts p
 
   -- a step that is inner in some stretch is a step of the problem
-  inner_step : (t : ℕ) → is_inner ds t ≡ true → (1 ≤ t) × (t ≤ length p.problem.windows)
+  inner_step : (t : ℕ) → is_inner p.problem ds t ≡ true → (1 ≤ t) × (t ≤ length p.problem.windows)
   inner_step t inner =
-      let some = Any-from_list_any (goes_past t) ds inner in
+      let some = Any-from_list_any (goes_past p.problem t) ds inner in
       let at = All-contains (IsStretch p.problem) ds some.1 is.is_cut.stretches.each (some.0, some.2, some.3) in (
-        inner_first some.1.first some.1.last t (length p.problem.windows) some.4 at.first at.last,
-        inner_last some.1.first some.1.last t (length p.problem.windows) some.4 at.first at.last,
+        inner_first some.1.first (inner_end p.problem.come some.1) t (length p.problem.windows) some.4 at.first
+            (omega (arith, inner_end-le p.problem.come some.1, at.last)),
+        inner_last some.1.first (inner_end p.problem.come some.1) t (length p.problem.windows) some.4 at.first
+            (omega (arith, inner_end-le p.problem.come some.1, at.last)),
       )
 
-  window_marked : (t : ℕ) → counts_window ds ts t ≡ true → is_marked p WindowCounts t ≡ true
+  window_marked : (t : ℕ) → counts_window p.problem ds ts t ≡ true → is_marked p WindowCounts t ≡ true
   window_marked t counted =
-      let step = inner_step t (and_parts (is_inner ds t) (not (is_listed ts t)) counted).0 in
-      marked_at p WindowCounts t step.0 step.1 (one_of (counts_window ds ts t) counted)
+      let step = inner_step t (and_parts (is_inner p.problem ds t) (not (is_listed ts t)) counted).0 in
+      marked_at p WindowCounts t step.0 step.1 (one_of (counts_window p.problem ds ts t) counted)
 
-  inner_from_on : (t c : ℕ) → is_inner_on p.problem ds t c ≡ true → is_inner ds t ≡ true
+  inner_from_on : (t c : ℕ) → is_inner_on p.problem ds t c ≡ true → is_inner p.problem ds t ≡ true
   inner_from_on t c inner =
       let some = Any-from_list_any (goes_past_on p.problem t c) ds inner in
-      let on = and_parts (goes_past t some.1) (eqb (channel_of p.problem some.1) c) some.4 in
-      list_any_at (goes_past t) ds some.0 some.1 some.2 (rw some.3 on.0)
+      let on = and_parts (goes_past p.problem t some.1) (eqb (channel_of p.problem some.1) c) some.4 in
+      list_any_at (goes_past p.problem t) ds some.0 some.1 some.2 (rw some.3 on.0)
 
-  limits_marked : (t : ℕ) → is_listed ts t ≡ true → is_inner ds t ≡ true → is_marked p LimitsCount t ≡ true
+  limits_marked : (t : ℕ) → is_listed ts t ≡ true → is_inner p.problem ds t ≡ true → is_marked p LimitsCount t ≡ true
   limits_marked t listed inner =
       let step = inner_step t inner in
-      let counted : counts_limits ds ts t ≡ true = rw (inner, listed) refl in
-      marked_at p LimitsCount t step.0 step.1 (one_of (counts_limits ds ts t) counted)
+      let counted : counts_limits p.problem ds ts t ≡ true = rw (inner, listed) refl in
+      marked_at p LimitsCount t step.0 step.1 (one_of (counts_limits p.problem ds ts t) counted)
 
   channel_marked : (t c : ℕ) → is_listed ts t ≡ true → is_inner_on p.problem ds t c ≡ true
       → is_marked p (ChannelCounts c) t ≡ true
@@ -155,12 +166,15 @@ module _ (p : Drawn) (is : IsDrawn p) where
     here : IsStretch p.problem e
     here = is.is_cut.stretches.each k d inside
 
-    inner_marked : (t : ℕ) → goes_past t e ≡ true → is_marked p (Inner s) t ≡ true
+    inner_marked : (t : ℕ) → goes_past p.problem t e ≡ true → is_marked p (Inner s) t ≡ true
     inner_marked t inner =
-        let first = inner_first e.first e.last t (length p.problem.windows) inner here.first here.last in
-        let last = inner_last e.first e.last t (length p.problem.windows) inner here.first here.last in
-        let of : is_inner_of p s t ≡ true = list_any_at (λ f. eqb (store_of p.problem f) s && goes_past t f) ds k d
-        inside (same_and s (goes_past t e) inner) in
+        let ends : inner_end p.problem.come e ≤ length p.problem.windows + 1 =
+        omega (arith, inner_end-le p.problem.come e, here.last) in
+        let n = length p.problem.windows in
+        let first = inner_first e.first (inner_end p.problem.come e) t n inner here.first ends in
+        let last = inner_last e.first (inner_end p.problem.come e) t n inner here.first ends in
+        let of : is_inner_of p s t ≡ true =
+        list_any_at (λ f. eqb (store_of p.problem f) s && goes_past p.problem t f) ds k d inside (same_and s (goes_past p.problem t e) inner) in
         marked_at p (Inner s) t first last (one_of (is_inner_of p s t) of)
 
     last_of : is_last_of p s e.last ≡ true
@@ -176,10 +190,12 @@ module _ (p : Drawn) (is : IsDrawn p) where
     is_named = list_any_at (λ f. eqb (store_of p.problem f) s) ds k d inside (eq-eqb s s refl)
 
     shaded : (t : ℕ) → covers e t ≡ true → is_shaded p s t ≡ true
-    shaded t at = elim (inner_or_last e.first e.last t at) [
-      | inl inner ↦ or_left (is_marked p (Inner s) t) (is_marked p (Last s) t) (inner_marked t inner)
-      | inr last ↦ or_right (is_marked p (Inner s) t) (is_marked p (Last s) t) (rw last last_marked)
-    ]
+    shaded t at =
+        let end = inner_end p.problem.come e in
+        elim (inner_or_last e.first e.last end t (inner_end-ge p.problem.come e) at) [
+          | inl inner ↦ or_left (is_marked p (Inner s) t) (is_marked p (Last s) t) (inner_marked t inner)
+          | inr last ↦ or_right (is_marked p (Inner s) t) (is_marked p (Last s) t) (rw last last_marked)
+        ]
 
     same_id : (row p.problem s).id ≡ e.store
     same_id =
@@ -197,14 +213,15 @@ module _ (p : Drawn) (is : IsDrawn p) where
               subst (λ i. start p.problem s ≤ start r i) there (keeps.start (shaded 1 at));
           arrivals = λ t at.
               subst (λ i. arrivals p.problem s t ≤ arrivals r i t) there (keeps.arrivals t (shaded t at));
-          size = subst (λ i. size r i ≤ size p.problem s) there keeps.size;
+          size = subst (λ i. size r i e.last ≤ size p.problem s e.last) there (keeps.size e.last last_marked);
           channel = λ t listed inner.
-              let marked = limits_marked t listed (list_any_at (goes_past t) ds k d inside inner) in
+              let marked = limits_marked t listed (list_any_at (goes_past p.problem t) ds k d inside inner) in
               subst (λ i. channel r i ≡ channel p.problem s) there (keeps.channel t marked (inner_marked t inner));
         }
 
   listed_kept : (r : Dumping) → KeepsListed p r → HelpsNowhere p.problem r ds ts
   listed_kept r h = record {
+    come = h.come;
     steps = h.steps;
     channels = h.channels;
     stretches = λ k d inside. stretch_kept k d inside r h;

@@ -13,14 +13,15 @@ use Rattle.mm_chart.specs.Series.{is_inner_of, is_last_of, amount_at}
 pub record AreStepMarks (p : Drawn) (passed by_channels : List Bool) : Type 0 where
   pub inner_places : length passed ≡ STEP_PLACES
   pub listed_places : length by_channels ≡ STEP_PLACES
-  pub inner : (t : ℕ) → slice_index_or passed t false ≡ is_inner (cut p) t
+  pub inner : (t : ℕ) → slice_index_or passed t false ≡ is_inner p.problem (cut p) t
   pub listed : (t : ℕ) → t < STEP_PLACES → slice_index_or by_channels t false ≡ is_listed (counts p) t
 
 -- marks of the steps in which a series asks for a stretch
 abbrev pub AreMarks : Drawn → Series → List Bool → Type 0
 AreMarks p (Inner s) marks = (t : ℕ) → t < STEP_PLACES → slice_index_or marks t false ≡ is_inner_of p s t
 AreMarks p (Last s) marks = (t : ℕ) → t < STEP_PLACES → slice_index_or marks t false ≡ is_last_of p s t
-AreMarks p (ChannelCounts c) marks = (t : ℕ) → t < STEP_PLACES → slice_index_or marks t false ≡ is_inner_on p.problem (cut p) t c
+AreMarks p (ChannelCounts c) marks =
+    (t : ℕ) → t < STEP_PLACES → slice_index_or marks t false ≡ is_inner_on p.problem (cut p) t c
 AreMarks p _ marks = Unit {0}
 
 -- the numbers of a series, each at the place of its step, and 0 at what is no step

@@ -7,8 +7,8 @@ use Rattle.mm_problem.specs.Dumping.{Dumping, limit}
 use Rattle.mm_chart.specs.declared.layout.TheConstants.{LEFT, ROOM, MAX_WIDTH, WINDOW_BASE, CHANNEL_PITCH, STORE_PITCH}
 use Rattle.mm_chart.specs.declared.layout.TheConstants.{TALL, THIN, LOSS, SAVED, OVER, WORDS_BELOW, LINE_PITCH}
 use Rattle.mm_chart.specs.declared.series.Series.{Series}
-use Rattle.mm_chart.specs.declared.series.Series.TheVariants.{WindowCounts, ChannelCounts, Sent, Inner, Last, Written}
-use Rattle.mm_chart.specs.declared.series.Series.TheVariants.{Left, Lost, Worth, Raised}
+use Rattle.mm_chart.specs.declared.series.Series.TheVariants.{WindowCounts, ChannelCounts, Sent, Inner, Last}
+use Rattle.mm_chart.specs.declared.series.Series.TheVariants.{LeftAndSent, Left, Lost, Size, Worth, Raised}
 
 -- the width of a step
 abbrev pub step_width : Dumping → ℕ
@@ -76,17 +76,19 @@ base_of q (Last s) = store_base q s + OVER
 base_of q (Lost s) = store_base q s - TALL
 base_of q Worth = WINDOW_BASE - TALL
 base_of q (Raised c) = channel_base q c - THIN
-base_of q (Written s) = store_base q s
+base_of q (LeftAndSent s) = store_base q s
 base_of q (Left s) = store_base q s
+base_of q (Size s) = store_base q s
 base_of q _ = WINDOW_BASE
 
 -- its store is one of those that there may be
 abbrev pub IsPlaced : Series → Type 0
 IsPlaced (Inner s) = s < MAX_STORES
 IsPlaced (Last s) = s < MAX_STORES
-IsPlaced (Written s) = s < MAX_STORES
+IsPlaced (LeftAndSent s) = s < MAX_STORES
 IsPlaced (Left s) = s < MAX_STORES
 IsPlaced (Lost s) = s < MAX_STORES
+IsPlaced (Size s) = s < MAX_STORES
 IsPlaced _ = Unit {0}
 
 -- from one tick to the next, in steps

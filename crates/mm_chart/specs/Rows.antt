@@ -1,16 +1,17 @@
 -- The rows of a chart: each is a list of shapes.
 use Rattle.std.specs.Prelude.{ℕ, ◌+◌, ◌-◌, ◌/◌, ◌%◌, ◌==◌, ◌||◌, Bool, not, if◌then◌else◌, List, [], ◌∷◌, ◌++◌}
-use Rattle.std.specs.Prelude.{length, codes, decimal, flat_map}
+use Rattle.std.specs.Prelude.{length, codes, decimal, flat_map, is_some}
 use Rattle.std.specs.List.{sum_by, list_any}
 use Rattle.mm_base.specs.Id.{id_text}
-use Rattle.mm_problem.specs.Dumping.{Dumping, row, size, start, channel, arrivals, steps, stores, channels}
+use Rattle.mm_problem.specs.Dumping.{Dumping, row, setup_size, one_size, start, channel, arrivals, steps, stores}
+use Rattle.mm_problem.specs.Dumping.{channels}
 use Rattle.mm_chart.specs.declared.layout.TheConstants.{LEFT, WINDOW_BASE, TALL, THIN, NAME_AT, TICK_AT, SAVED_AT}
 use Rattle.mm_chart.specs.declared.layout.TheConstants.{RAISED_AT, LARGER_AT}
 use Rattle.mm_chart.specs.declared.phrases.TheConstants.{SAVES}
 use Rattle.mm_chart.specs.declared.pen.Style.TheVariants as style
 use Rattle.mm_chart.specs.declared.series.Series.{Series}
 use Rattle.mm_chart.specs.declared.series.Series.TheVariants.{WindowCounts, Window, Used, ChannelCounts, Sent, Inner}
-use Rattle.mm_chart.specs.declared.series.Series.TheVariants.{Last, Written, Left, Lost, Worth, Raised}
+use Rattle.mm_chart.specs.declared.series.Series.TheVariants.{Last, LeftAndSent, Left, Lost, Size, Worth, Raised}
 use Rattle.mm_chart.specs.Picture.{Drawn, has_worth}
 use Rattle.mm_chart.specs.Series.{total_of, most_of, most_limit, size_worth_of}
 use Rattle.mm_chart.specs.Layout.{edge, step_width, steps_width, has_limit, channel_base, store_base, bottom}
@@ -105,9 +106,14 @@ store_loss p s base =
     Label (if lost == 0 then style.Total else style.Loss) (right p.problem) (base - 18)
     (if lost == 0 then codes "nothing lost" ∷ [] else grouped lost ∷ codes " lost" ∷ [])
 
--- its stretches, and what stands in it
+-- a line at its size of each step; nothing where it has one size
+unfoldable pub size_line : Drawn → ℕ → List Shape
+size_line p s = if is_some (one_size p.problem s) then [] else Outline p (Size s) ∷ []
+
+-- its stretches, what stands in it, and its size
 unfoldable pub store_bars : Drawn → ℕ → List Shape
-store_bars p s = Outline p (Inner s) ∷ Outline p (Last s) ∷ Outline p (Written s) ∷ Outline p (Left s) ∷ []
+store_bars p s =
+    Outline p (Inner s) ∷ Outline p (Last s) ∷ Outline p (LeftAndSent s) ∷ Outline p (Left s) ∷ size_line p s
 
 -- its size and its channel
 unfoldable pub store_side : ℕ → ℕ → ℕ → Shape
@@ -117,7 +123,7 @@ store_side y size channel = side y (grouped size ∷ codes ", channel " ∷ deci
 unfoldable pub store_words : Drawn → ℕ → ℕ → List Shape
 store_words p s base =
     Label style.Name NAME_AT (base - 18) (name p.problem s ∷ [])
-    ∷ store_side (base - 4) (size p.problem s) (channel p.problem s)
+    ∷ store_side (base - 4) (setup_size p.problem s) (channel p.problem s)
     ∷ store_loss p s base
     ∷ total p.problem (base - 4) (codes "of " ∷ grouped (coming_to p s) ∷ [])
     ∷ []

@@ -1,33 +1,33 @@
 -- The numbers that a chart draws: one for each step.
-use Rattle.std.specs.Prelude.{ℕ, Option, Some, None, slice_index_or, ◌+◌, ◌-◌, ◌*◌, ◌/◌, ◌<◌, min, max, nat_le, Bool}
-use Rattle.std.specs.Prelude.{◌==◌, ◌&&◌, if◌then◌else◌, List, [], ◌∷◌, length}
+use Rattle.std.specs.Prelude.{ℕ, Option, Some, None, slice_index_or, ◌+◌, ◌-◌, ◌*◌, ◌/◌, ◌<◌, min, max, nat_le, nat_lt}
+use Rattle.std.specs.Prelude.{Bool, ◌==◌, ◌&&◌, if◌then◌else◌, List, [], ◌∷◌, length}
 use Rattle.std.specs.List.{sum_by, list_any}
 use Rattle.mm_base.specs.declared.limits.TheConstants.{CHANNELS}
 use Rattle.mm_base.specs.Grid.{grid_place}
-use Rattle.mm_problem.specs.Dumping.{Dumping, size, window, stores, stores_of, steps, channels}
+use Rattle.mm_problem.specs.Dumping.{Dumping, setup_size, size, window, stores, stores_of, steps, channels}
 use Rattle.mm_plan.specs.Volumes.{written, left, lost}
-use Rattle.mm_cut.specs.Stretches.{store_of, goes_past, is_inner_on}
+use Rattle.mm_cut.specs.Stretches.{store_of, inner_end, goes_past, is_inner_on}
 use Rattle.mm_cut.specs.Cuts.{limit_or_0, counts_window, counts_limits}
 use Rattle.mm_chart.specs.declared.series.Series.{Series}
 use Rattle.mm_chart.specs.declared.series.Series.TheVariants.{WindowCounts, Window, Used, ChannelCounts, Sent}
-use Rattle.mm_chart.specs.declared.series.Series.TheVariants.{LimitsCount, CountedWindow, Inner, Last, Written, Left}
-use Rattle.mm_chart.specs.declared.series.Series.TheVariants.{Lost, Worth, Raised}
+use Rattle.mm_chart.specs.declared.series.Series.TheVariants.{LimitsCount, CountedWindow, Inner, Last, LeftAndSent}
+use Rattle.mm_chart.specs.declared.series.Series.TheVariants.{Left, Lost, Size, Worth, Raised}
 use Rattle.mm_chart.specs.Picture.{Drawn, WorthLists, amounts, cut, counts}
 
 abbrev pub one_if : Bool → ℕ
 one_if b = if b then 1 else 0
 
--- what leaves a store in a step
+-- what leaves a store in a step: the amount of the plan, or all that can leave where that is less
 abbrev pub sent : Drawn → ℕ → ℕ → ℕ
-sent p t s = written p.problem (amounts p) s t - left p.problem (amounts p) s t
+sent p t s = min (amounts p s t) (written p.problem (amounts p) s t)
 
 -- whether a step counts by the limit of this channel
 abbrev pub counts_channel : Drawn → ℕ → ℕ → Bool
-counts_channel p c t = counts_limits (cut p) (counts p) t && is_inner_on p.problem (cut p) t c
+counts_channel p c t = counts_limits p.problem (cut p) (counts p) t && is_inner_on p.problem (cut p) t c
 
 -- whether it is an inner step of a stretch of the store
 abbrev pub is_inner_of : Drawn → ℕ → ℕ → Bool
-is_inner_of p s t = list_any (λ d. (store_of p.problem d == s) && goes_past t d) (cut p)
+is_inner_of p s t = list_any (λ d. (store_of p.problem d == s) && goes_past p.problem t d) (cut p)
 
 -- whether it is the last step of a stretch of the store
 abbrev pub is_last_of : Drawn → ℕ → ℕ → Bool
@@ -36,6 +36,10 @@ is_last_of p s t = list_any (λ d. (store_of p.problem d == s) && (d.last == t))
 -- whether the store has a stretch
 abbrev pub has_stretch : Drawn → ℕ → Bool
 has_stretch p s = list_any (λ d. store_of p.problem d == s) (cut p)
+
+-- whether a stretch has an inner step
+abbrev pub has_inner : Drawn → Bool
+has_inner p = list_any (λ d. nat_lt d.first (inner_end p.problem.come d)) (cut p)
 
 -- what the window of a step is worth, and 0 where that is not known
 abbrev pub worth_of : Option WorthLists → ℕ → ℕ
@@ -61,25 +65,27 @@ size_worth_of None s = 0
 abbrev pub IsSeries : Drawn → Series → Type 0
 IsSeries p (Inner s) = s < length p.problem.rows
 IsSeries p (Last s) = s < length p.problem.rows
-IsSeries p (Written s) = s < length p.problem.rows
+IsSeries p (LeftAndSent s) = s < length p.problem.rows
 IsSeries p (Left s) = s < length p.problem.rows
 IsSeries p (Lost s) = s < length p.problem.rows
+IsSeries p (Size s) = s < length p.problem.rows
 IsSeries p _ = Unit {0}
 
 -- the number of a step
 abbrev pub amount_of : Drawn → Series → ℕ → ℕ
-amount_of p WindowCounts t = one_if (counts_window (cut p) (counts p) t)
+amount_of p WindowCounts t = one_if (counts_window p.problem (cut p) (counts p) t)
 amount_of p Window t = window p.problem t
 amount_of p Used t = sum_by (sent p t) (stores p.problem)
-amount_of p CountedWindow t = if counts_window (cut p) (counts p) t then window p.problem t else 0
+amount_of p CountedWindow t = if counts_window p.problem (cut p) (counts p) t then window p.problem t else 0
 amount_of p (ChannelCounts c) t = one_if (counts_channel p c t)
 amount_of p (Sent c) t = sum_by (sent p t) (stores_of p.problem c)
-amount_of p LimitsCount t = one_if (counts_limits (cut p) (counts p) t)
+amount_of p LimitsCount t = one_if (counts_limits p.problem (cut p) (counts p) t)
 amount_of p (Inner s) t = one_if (is_inner_of p s t)
 amount_of p (Last s) t = one_if (is_last_of p s t)
-amount_of p (Written s) t = written p.problem (amounts p) s t
+amount_of p (LeftAndSent s) t = left p.problem (amounts p) s t + sent p t s
 amount_of p (Left s) t = left p.problem (amounts p) s t
 amount_of p (Lost s) t = lost p.problem (amounts p) s t
+amount_of p (Size s) t = size p.problem s t
 amount_of p Worth t = worth_of p.worth t
 amount_of p (Raised c) t = limit_worth_of p.worth c t
 
@@ -125,9 +131,10 @@ abbrev pub whole_of : Drawn → Series → ℕ
 whole_of p Window = most_of p Window
 whole_of p Used = most_of p Window
 whole_of p (Sent c) = most_limit p.problem c
-whole_of p (Written s) = size p.problem s
-whole_of p (Left s) = size p.problem s
+whole_of p (LeftAndSent s) = setup_size p.problem s
+whole_of p (Left s) = setup_size p.problem s
 whole_of p (Lost s) = most_lost p
+whole_of p (Size s) = setup_size p.problem s
 whole_of p Worth = most_saved p
 whole_of p (Raised c) = most_saved p
 whole_of p _ = 1

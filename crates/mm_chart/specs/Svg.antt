@@ -9,7 +9,7 @@ use Rattle.mm_chart.specs.declared.pen.Style.{Style}
 use Rattle.mm_chart.specs.declared.pen.Style.TheVariants as style
 use Rattle.mm_chart.specs.declared.series.Series.{Series}
 use Rattle.mm_chart.specs.declared.series.Series.TheVariants.{WindowCounts, Window, Used, ChannelCounts, Sent, Inner}
-use Rattle.mm_chart.specs.declared.series.Series.TheVariants.{Last, Written, Left, Lost, Worth, Raised}
+use Rattle.mm_chart.specs.declared.series.Series.TheVariants.{Last, LeftAndSent, Left, Lost, Size, Worth, Raised}
 use Rattle.mm_chart.specs.Picture.{Drawn}
 use Rattle.mm_chart.specs.Series.{amount_at, total_of, whole_of, scaled}
 use Rattle.mm_chart.specs.Layout.{edge, room_of, base_of}
@@ -140,9 +140,10 @@ series_name (Last s) = codes "e"
 series_name Window = codes "p"
 series_name Used = codes "u"
 series_name (Sent c) = codes "v"
-series_name (Written s) = codes "g"
+series_name (LeftAndSent s) = codes "g"
 series_name (Left s) = codes "f"
 series_name (Lost s) = codes "l"
+series_name (Size s) = codes "z"
 series_name Worth = codes "q"
 series_name (Raised c) = codes "q"
 series_name _ = codes "o"

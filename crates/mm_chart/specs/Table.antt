@@ -10,7 +10,7 @@ use Rattle.mm_plan.specs.Sheet.{SheetRows}
 use Rattle.mm_problem.specs.Dumping.{Dumping, row, window, arrivals, stores, steps}
 use Rattle.mm_chart.specs.Svg.{comma}
 
--- what a plan dumps: the amount that is to leave, or all that stands in the store where that is less
+-- what a plan dumps: the amount that is to leave, or all that can leave where that is less
 abbrev pub dumped : Dumping → Amounts → ℕ → ℕ → ℕ
 dumped q x s t = min (x s t) (written q x s t)
 

@@ -1,10 +1,11 @@
 //! What the words of a chart and the records of a table show, over their definitions alone.
 ghost use Rattle.std.specs.Prelude.{◌≡◌, ◌++◌, codes};
 ghost use Rattle.mm_chart.specs.Listed.{SumsAddUp, OnlyListedHelps};
-ghost use Rattle.mm_chart.specs.Legend.{key, saved_style};
+ghost use Rattle.mm_chart.specs.Legend.{key, size_style, saved_style};
 ghost use Rattle.mm_chart.specs.Table.{RecordsBalance};
 ghost use Rattle.mm_chart.specs.declared.legend.TheConstants.{STAYS_KEY, LEAVES_KEY, WINDOW_KEY, USED_KEY, LOST_KEY};
-ghost use Rattle.mm_chart.specs.declared.legend.TheConstants.{COUNTS_KEY, LAST_KEY, SENT_KEY, SAVED_KEY};
+ghost use Rattle.mm_chart.specs.declared.legend.TheConstants.{COUNTS_KEY, LAST_KEY, SENT_KEY, SIZE_KEY};
+ghost use Rattle.mm_chart.specs.declared.legend.TheConstants.{SAVED_KEY};
 ghost use Rattle.mm_chart.specs.declared.phrases.TheConstants.{AS_ENDS, AT_LEAST, BY_LIMITS, BY_WINDOWS, COME, FEWER};
 ghost use Rattle.mm_chart.specs.declared.phrases.TheConstants.{FIRSTS, HELP, HIGHER, IN_ORDER, IN_STRETCHES, LARGER};
 ghost use Rattle.mm_chart.specs.declared.phrases.TheConstants.{LOSE, MARKED, MARKED_LIMITS, MARKED_PASSES};
@@ -47,7 +48,7 @@ pub fn legend_words_are()
     ensures stays { STAYS_KEY.now
         ≡ key (series.Left 0) (codes "x='16' y='44'") (codes "x='32' y='54'") (codes "stays in the store") }
     ensures leaves { LEAVES_KEY.now
-        ≡ key (series.Written 0) (codes "x='170' y='44'") (codes "x='186' y='54'") (codes "leaves in this step") }
+        ≡ key (series.LeftAndSent 0) (codes "x='170' y='44'") (codes "x='186' y='54'") (codes "leaves in this step") }
     ensures window { WINDOW_KEY.now
         ≡ key series.Window (codes "x='330' y='44'") (codes "x='346' y='54'") (codes "window") }
     ensures used { USED_KEY.now ≡ key series.Used (codes "x='420' y='44'") (codes "x='436' y='54'") (codes "used") }
@@ -59,6 +60,9 @@ pub fn legend_words_are()
         (codes "last step of a stretch: the size of the store counts") }
     ensures sent { SENT_KEY.now ≡ key (series.Sent 0) (codes "x='510' y='62'") (codes "x='526' y='72'")
         (codes "sent on a channel with a limit") }
+    ensures size { SIZE_KEY.now ≡ size_style
+        ++ key (series.Size 0) (codes "x='810' y='44'") (codes "x='826' y='54'")
+        (codes "size of the store in this step") }
     ensures saved { SAVED_KEY.now ≡ saved_style
         ++ key series.Worth (codes "x='730' y='62'") (codes "x='746' y='72'")
         (codes "saved by a wider window or a higher limit (one scale)") }

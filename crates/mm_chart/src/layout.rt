@@ -177,7 +177,9 @@ pub(crate) fn base_of(problem: &Problem, series: Series) -> u32
         Series::Lost(store) => store_base(problem, store) - TALL,
         Series::Worth => WINDOW_BASE - TALL,
         Series::Raised(channel) => channel_base(problem, channel) - THIN,
-        Series::Written(store) | Series::Left(store) => store_base(problem, store),
+        Series::LeftAndSent(store) | Series::Left(store) | Series::Size(store) => {
+            store_base(problem, store)
+        }
         _ => WINDOW_BASE,
     }
 }

@@ -3,7 +3,7 @@ ghost use Rattle.std.specs.Prelude.{◌≡◌, ◌++◌, OnOk, IsTrue};
 ghost use Rattle.mm_chart.specs.declared.series.Series.TheVariants.{Used, Window};
 ghost use Rattle.mm_chart.specs.Picture.{has_worth};
 ghost use Rattle.mm_chart.specs.Series.{total_of, most_lost, most_saved};
-ghost use Rattle.mm_chart.specs.Legend.{key_if, stays, has_inner, windows_keys, legend};
+ghost use Rattle.mm_chart.specs.Legend.{key_if, stays, windows_keys, numbers_keys, legend};
 ghost use Rattle.mm_chart.specs.Svg.{drawn};
 
 use crate::column::Column;
@@ -36,6 +36,12 @@ pub const LAST_KEY: &[u8] = b"<rect class='e' x='170' y='62' width='12' height='
 pub const SENT_KEY: &[u8] = b"<rect class='v' x='510' y='62' width='12' height='12'/>\
     <text class='t' x='526' y='72'>sent on a channel with a limit</text>\n";
 
+/// The key of a store's size in each step, with its look.
+pub const SIZE_KEY: &[u8] =
+    b"<style>.z{fill:none;stroke:#000;stroke-width:1.5;stroke-dasharray:4 2}</style>\n\
+    <rect class='z' x='810' y='44' width='12' height='12'/>\
+    <text class='t' x='826' y='54'>size of the store in this step</text>\n";
+
 /// The key of what larger windows and limits save, with its colour.
 pub const SAVED_KEY: &[u8] = b"<style>.q{fill:#1e8a4c;stroke:#000;stroke-width:.5}</style>\n\
     <rect class='q' x='730' y='62' width='12' height='12'/>\
@@ -51,16 +57,6 @@ fn stays(picture: &Picture) -> bool
         stays = stays || Column::new(picture, Series::Left(store)).total() > 0;
     }
     stays
-}
-
-// Whether a stretch has an inner step.
-fn has_inner(picture: &Picture) -> bool
-    ensures { result ≡ has_inner picture.now }
-{
-    picture
-        .cut()
-        .iter()
-        .any(|stretch| stretch.first < stretch.last)
 }
 
 // A key where what it names is there.
@@ -91,6 +87,17 @@ pub(crate) fn push_windows_keys(
     push_key(text, used > 0, USED_KEY)
 }
 
+// Writes the keys of what is sent on channels with a limit, of sizes of single steps, and of what is saved.
+#[tactic(auto, using(crate::proofs::Ranges::drawing), unfolding(crate::specs::Legend::numbers_keys))]
+fn push_numbers_keys(text: &mut Vec<u8>, picture: &Picture, saved: u64) -> Pushed
+    requires { IsTrue (has_worth picture.now) → saved ≡ most_saved picture.now }
+    ensures { OnOk result (text.new.items ≡ text.old.items ++ drawn (numbers_keys picture.now)) }
+{
+    push_key(text, is_limited(picture.problem()), SENT_KEY)?;
+    push_key(text, !picture.problem().sized().is_empty(), SIZE_KEY)?;
+    push_key(text, picture.has_worth() && saved > 0, SAVED_KEY)
+}
+
 /// Writes the other keys.
 #[tactic(auto, using(crate::proofs::Ranges::drawing), unfolding(crate::specs::Legend::legend))]
 pub(crate) fn push_legend(text: &mut Vec<u8>, picture: &Picture, lost: u64, saved: u64) -> Pushed
@@ -100,8 +107,7 @@ pub(crate) fn push_legend(text: &mut Vec<u8>, picture: &Picture, lost: u64, save
 {
     push_key(text, stays(picture), STAYS_KEY)?;
     push_key(text, lost > 0, LOST_KEY)?;
-    push_key(text, has_inner(picture), COUNTS_KEY)?;
+    push_key(text, picture.has_inner(), COUNTS_KEY)?;
     push_key(text, !picture.cut().is_empty(), LAST_KEY)?;
-    push_key(text, is_limited(picture.problem()), SENT_KEY)?;
-    push_key(text, picture.has_worth() && saved > 0, SAVED_KEY)
+    push_numbers_keys(text, picture, saved)
 }

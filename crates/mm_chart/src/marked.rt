@@ -4,7 +4,9 @@ ghost use Rattle.mm_base.specs.declared.limits.TheConstants.{MAX_STEPS};
 ghost use Rattle.mm_problem.specs.Dumping.{steps};
 ghost use Rattle.mm_chart.specs.declared.series.TheConstants.{AMOUNT_PLACES};
 ghost use Rattle.mm_chart.specs.Series.{IsSeries, amount_at};
-ghost use Rattle.mm_chart.specs.Svg.{part_text, joined, printed};
+ghost use Rattle.mm_chart.specs.declared.layout.TheConstants.{MARGIN};
+ghost use Rattle.mm_chart.specs.declared.pen.Style.TheVariants as style;
+ghost use Rattle.mm_chart.specs.Svg.{part_text, joined, label, printed};
 ghost use Rattle.mm_chart.specs.Words.{goes_on, ranges_of, before_step, after_range, range_part};
 ghost use Rattle.mm_chart.specs.Words.{marks, marked_where, step_word, most_amount, in_steps, steps_line};
 
@@ -141,8 +143,20 @@ fn push_in_steps(text: &mut Vec<u8>, column: &Column<'_>) -> Pushed
     Ok(())
 }
 
+// The steps of a series that has some, and then these words.
+#[tactic(auto, using(std::proofs::Common::append_assoc), unfolding(crate::specs::Svg::label, crate::specs::Svg::joined))]
+fn push_steps_words(text: &mut Vec<u8>, column: &Column<'_>, y: u32, words: &[Part<'_>]) -> Pushed
+    ensures { OnOk result (text.new.items ≡ text.old.items ++ label style.Plain MARGIN y
+        (in_steps column.now.picture.now column.now.series ∷ map part_text words.now)) }
+{
+    push_opened(text, Style::Plain, MARGIN, y)?;
+    push_in_steps(text, column)?;
+    push_parts(text, words)?;
+    push_closed(text)
+}
+
 // A line on the steps of a series, or on that there are none.
-#[tactic(auto, using(std::proofs::Common::append_assoc), unfolding(crate::specs::Words::steps_line, crate::specs::Svg::label, crate::specs::Svg::joined))]
+#[tactic(auto, unfolding(crate::specs::Words::steps_line))]
 pub(crate) fn push_steps_line(
     text: &mut Vec<u8>,
     picture: &Picture,
@@ -161,8 +175,5 @@ pub(crate) fn push_steps_line(
     if column.total() == 0 {
         return label!(text; Plain MARGIN, y; Said(none));
     }
-    push_opened(text, Style::Plain, MARGIN, y)?;
-    push_in_steps(text, &column)?;
-    push_parts(text, words)?;
-    push_closed(text)
+    push_steps_words(text, &column, y, words)
 }

@@ -294,9 +294,10 @@ fn series_name(series: Series) -> &'static [u8]
         Series::Window => b"p",
         Series::Used => b"u",
         Series::Sent(_) => b"v",
-        Series::Written(_) => b"g",
+        Series::LeftAndSent(_) => b"g",
         Series::Left(_) => b"f",
         Series::Lost(_) => b"l",
+        Series::Size(_) => b"z",
         Series::Worth | Series::Raised(_) => b"q",
         _ => b"o",
     }

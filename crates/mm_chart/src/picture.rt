@@ -6,7 +6,7 @@ ghost use Rattle.std.specs.List.{sum_by};
 ghost use Rattle.mm_problem.specs.Dumping.{IsDumping, stores, stores_of};
 ghost use Rattle.mm_plan.specs.Sheet.{IsSheet};
 ghost use Rattle.mm_plan.specs.Table.{amount, HasShape};
-ghost use Rattle.mm_plan.specs.Volumes.{first_loss};
+ghost use Rattle.mm_plan.specs.Volumes.{first_loss, left};
 ghost use Rattle.mm_cut.specs.Stretches.{IsStretch, AreStretches};
 ghost use Rattle.mm_cut.specs.Cuts.{IsCut, coming_sum, held_sum, counts_window, counts_limits, windows_sum, limits_sum};
 ghost use Rattle.mm_cut.specs.declared.marks.TheConstants.{STEP_PLACES};
@@ -14,10 +14,10 @@ ghost use Rattle.mm_chart.specs.declared.series.TheConstants.{AMOUNT_PLACES};
 ghost use Rattle.mm_chart.specs.Columns.{AreMarks, AreAmounts};
 ghost use Rattle.mm_chart.specs.Picture.{amounts, has_cut, has_worth, cut, counts, IsDrawn, IsSimulation};
 ghost use Rattle.mm_chart.specs.Series.{one_if, sent, has_stretch, IsSeries, amount_of, scaled, worth_of};
-ghost use Rattle.mm_chart.specs.Series.{limit_worth_of, size_worth_of};
+ghost use Rattle.mm_chart.specs.Series.{limit_worth_of, size_worth_of, has_inner};
 
 use crate::series::{AMOUNT_PLACES, Series};
-use crate::shades::{Shade, has_stretch, marks_of, shades_of};
+use crate::shades::{Shade, has_inner, has_stretch, marks_of, shades_of};
 use crate::worths::Worths;
 use mm_base::{MAX_STEPS, NoMemory};
 use mm_cut::{Parts, STEP_PLACES, Verdict, inner_steps, listed_steps, parts_of, verdict_of};
@@ -236,14 +236,14 @@ impl Picture {
 
     fn counts_window(&self, step: u32) -> bool
         requires { step < STEP_PLACES }
-        ensures { result ≡ counts_window (cut self.now) (counts self.now) step }
+        ensures { result ≡ counts_window self.now.problem (cut self.now) (counts self.now) step }
     {
         self.inner[step as usize] && !self.listed[step as usize]
     }
 
     fn counts_limits(&self, step: u32) -> bool
         requires { step < STEP_PLACES }
-        ensures { result ≡ counts_limits (cut self.now) (counts self.now) step }
+        ensures { result ≡ counts_limits self.now.problem (cut self.now) (counts self.now) step }
     {
         self.inner[step as usize] && self.listed[step as usize]
     }
@@ -265,8 +265,19 @@ impl Picture {
         ensures most { result < 2 ^ 32 }
     {
         let written = self.volumes.written(store, step);
-        let left = self.volumes.left(store, step);
-        u64::from(written.saturating_sub(left))
+        let amount = self.sheet.plan().amount(store, step);
+        u64::from(amount.min(written))
+    }
+
+    // What is left in a store as a step ends, and what leaves it in the step.
+    fn left_and_sent(&self, store: usize, step: u32) -> u64
+        requires store { store < length self.now.problem.rows }
+        requires first { 1 ≤ step }
+        requires last { step ≤ length self.now.problem.windows }
+        ensures blocks { result ≡ left self.now.problem (amounts self.now) store step + sent self.now step store }
+        ensures most { result ≤ 2 * 2 ^ 32 }
+    {
+        u64::from(self.volumes.left(store, step)) + self.sent(store, step)
     }
 
     // What leaves all stores in a step.
@@ -299,6 +310,14 @@ impl Picture {
             }
         }
         sent
+    }
+
+    // Whether a stretch has an inner step.
+    #[tactic(auto, using(crate::proofs::Mapped::list_any_map))]
+    pub(crate) fn has_inner(&self) -> bool
+        ensures { result ≡ has_inner self.now }
+    {
+        has_inner(self.shades.as_slice())
     }
 
     // Marks of the steps in which a series asks for a stretch.
@@ -339,9 +358,10 @@ impl Picture {
             Series::Sent(channel) => self.sent_on(channel, step),
             Series::LimitsCount => one_if(self.counts_limits(step)),
             Series::Inner(_) | Series::Last(_) => one_if(marks[step as usize]),
-            Series::Written(store) => u64::from(self.volumes.written(store, step)),
+            Series::LeftAndSent(store) => self.left_and_sent(store, step),
             Series::Left(store) => u64::from(self.volumes.left(store, step)),
             Series::Lost(store) => u64::from(self.volumes.lost(store, step)),
+            Series::Size(store) => u64::from(self.problem.size(store, step)),
             Series::Worth => self.worth_of(step),
             Series::Raised(channel) => self.limit_worth_of(channel, step),
         }

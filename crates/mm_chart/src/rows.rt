@@ -10,7 +10,7 @@ ghost use Rattle.mm_chart.specs.Svg.{printed, drawn};
 ghost use Rattle.mm_chart.specs.Rows.{right, frame, saves, windows_words, windows_row, limit_front, limit_back};
 ghost use Rattle.mm_chart.specs.Rows.{channel_words, channel_row, coming_to, all_coming, store_side};
 ghost use Rattle.mm_chart.specs.Rows.{store_loss};
-ghost use Rattle.mm_chart.specs.Rows.{store_words, store_bars, larger, store_row, tick, rows};
+ghost use Rattle.mm_chart.specs.Rows.{store_words, size_line, store_bars, larger, store_row, tick, rows};
 
 use crate::column::Column;
 use crate::layout::{
@@ -254,18 +254,34 @@ fn push_store_loss(
     label!(text; Loss right, y; Grouped(lost), Said(b" lost"))
 }
 
-// The outlines of a store's stretches and of what stands in it.
+// A line at the size of a store in each step, and nothing where it has one size.
+#[tactic(auto, using(crate::proofs::Ranges::placing), unfolding(crate::specs::Rows::size_line))]
+fn push_size_line(text: &mut Vec<u8>, picture: &Picture, store: usize) -> Pushed
+    requires store { store < length picture.now.problem.rows }
+    requires few { store < MAX_STORES }
+    ensures { OnOk result (text.new.items ≡ text.old.items ++ drawn (size_line picture.now store)) }
+{
+    let problem = picture.problem();
+    if problem.one_size(store).is_some() {
+        return Ok(());
+    }
+    let size = u64::from(problem.setup_size(store));
+    push_profile(text, picture, Series::Size(store), size)
+}
+
+// The outlines of a store's stretches, of what stands in it, and of its size.
 #[tactic(auto, using(crate::proofs::Ranges::placing), unfolding(crate::specs::Rows::store_bars))]
 fn push_store_bars(text: &mut Vec<u8>, picture: &Picture, store: usize) -> Pushed
     requires store { store < length picture.now.problem.rows }
     requires few { store < MAX_STORES }
     ensures { OnOk result (text.new.items ≡ text.old.items ++ drawn (store_bars picture.now store)) }
 {
-    let size = u64::from(picture.problem().size(store));
+    let size = u64::from(picture.problem().setup_size(store));
     push_profile(text, picture, Series::Inner(store), 1)?;
     push_profile(text, picture, Series::Last(store), 1)?;
-    push_profile(text, picture, Series::Written(store), size)?;
-    push_profile(text, picture, Series::Left(store), size)
+    push_profile(text, picture, Series::LeftAndSent(store), size)?;
+    push_profile(text, picture, Series::Left(store), size)?;
+    push_size_line(text, picture, store)
 }
 
 #[tactic(auto, using(crate::proofs::Ranges::placing), unfolding(crate::specs::Rows::store_words))]
@@ -285,7 +301,12 @@ fn push_store_words(
     let (right, id) = (right(problem), problem.id(store));
     let coming = coming_to(picture, store);
     label!(text; Name NAME_AT, base - 18; Name(&id))?;
-    push_store_side(text, base - 4, problem.size(store), problem.channel(store))?;
+    push_store_side(
+        text,
+        base - 4,
+        problem.setup_size(store),
+        problem.channel(store),
+    )?;
     push_store_loss(text, picture, store, base, lost)?;
     label!(text; Total right, base - 4; Said(b"of "), Grouped(coming))
 }

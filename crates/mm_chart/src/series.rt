@@ -25,11 +25,13 @@ pub enum Series {
     Inner(usize),
     /// 1 in the last steps of the stretches of a store.
     Last(usize),
-    /// What stands in a store once the step's arrivals have come.
-    Written(usize),
-    /// What stands in a store as the step ends.
+    /// What is left in a store as the step ends, and what leaves it in the step.
+    LeftAndSent(usize),
+    /// What is left in a store as the step ends.
     Left(usize),
     Lost(usize),
+    /// How many blocks a store can hold in the step.
+    Size(usize),
     /// How many blocks a larger window saves at most; 0 where that is not known.
     Worth,
     /// How many blocks a higher limit of the channel saves at most, that of the setup or that of the step; 0 where that

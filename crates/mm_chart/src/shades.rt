@@ -7,31 +7,35 @@ ghost use Rattle.mm_cut.specs.declared.marks.TheConstants.{STEP_PLACES};
 ghost use Rattle.mm_chart.specs.Shading.{shade_of, is_asked};
 
 use crate::series::Series;
-use mm_base::NoMemory;
-use mm_cut::{STEP_PLACES, store_of};
+use mm_base::{MAX_STEPS, NoMemory};
+use mm_cut::{STEP_PLACES, inner_end, store_of};
 use mm_plan::Stretch;
 use mm_problem::Problem;
 use std::alloc::Global;
 
-/// A stretch with the place and the channel of its store.
+/// A stretch with the place and the channel of its store, and the step after its inner steps.
 #[derive(Clone, Copy, Debug)]
 pub struct Shade {
     pub store: usize,
     pub channel: u8,
     pub first: u32,
     pub last: u32,
+    pub end: u32,
 }
 
 fn shade_of(problem: &Problem, stretch: &Stretch) -> Shade
     requires { IsStretch problem.now stretch.now }
     ensures { result ≡ shade_of problem.now stretch.now }
 {
+    // its last step is one of the problem
+    prove!(problem.steps() <= MAX_STEPS);
     let store = store_of(problem, stretch);
     Shade {
         store,
         channel: problem.channel(store),
         first: stretch.first,
         last: stretch.last,
+        end: inner_end(problem, stretch) as u32,
     }
 }
 
@@ -68,9 +72,9 @@ fn asked(shade: &Shade, series: Series) -> (u32, u32)
     ensures { (t : ℕ) → t < STEP_PLACES → (nat_le result.0 t && nat_lt t result.1) ≡ is_asked series t shade.now }
 {
     match series {
-        Series::Inner(store) if shade.store == store => (shade.first, shade.last),
+        Series::Inner(store) if shade.store == store => (shade.first, shade.end),
         Series::Last(store) if shade.store == store => (shade.last, shade.last.saturating_add(1)),
-        Series::ChannelCounts(channel) if shade.channel == channel => (shade.first, shade.last),
+        Series::ChannelCounts(channel) if shade.channel == channel => (shade.first, shade.end),
         _ => (0, 0),
     }
 }
@@ -87,6 +91,13 @@ pub(crate) fn marks_of(shades: &[Shade], series: Series) -> [bool; STEP_PLACES]
         mark(&mut marks, first, end);
     }
     marks
+}
+
+// Whether a stretch has an inner step.
+pub(crate) fn has_inner(shades: &[Shade]) -> bool
+    ensures { result ≡ list_any (λ h. nat_lt h.first h.end) shades.now }
+{
+    shades.iter().any(|shade| shade.first < shade.end)
 }
 
 // Whether the store has a stretch.

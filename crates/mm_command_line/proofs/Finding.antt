@@ -13,8 +13,8 @@ use Rattle.clap.proofs.WalkLemmas.{find-map, first_value-rows}
 use Rattle.clap.specs.Matches.{first_value}
 use Rattle.clap.specs.Walk.{Row, Text, first_of, rows_of}
 use Rattle.clap.specs.declared.parser.matches.Found.{Found}
-use Rattle.mm_command_line.specs.Commands.{Entry, commands, entry_of, line_found, row_found, words_found}
-use Rattle.mm_command_line.specs.declared.command.File.{File}
+use Rattle.mm_command_line.specs.Commands.{Entry, commands, entry_of, line_found, name_of, row_found, words_found}
+use Rattle.mm_command_line.specs.declared.file.File.{File}
 use Rattle.mm_command_line.specs.declared.command.Form.{Form}
 
 option_map-twice : {X Y Z : Type 0} (f : Y → Z) (g : X → Y) (x : Option X)
@@ -43,7 +43,7 @@ found_is f (Some x) name rows row is at known =
 -- ---- the names of files, one after another
 
 abbrev id_of : File → Text
-id_of file = file.name.now
+id_of file = name_of file
 
 abbrev name_in : Found → File → Option Text
 name_in found file = first_value found (id_of file)

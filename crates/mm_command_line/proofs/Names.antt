@@ -6,11 +6,12 @@ use Rattle.std.specs.Str.{bytes_eq}
 use Rattle.std.proofs.lemmas.List.Elements.{All-cons, All-head, All-tail}
 use Rattle.mm_command_line.specs.Lines.{IsCommandLine, IsFileName, IsTaskLine, before_dashes, command_words}
 use Rattle.mm_command_line.specs.Commands.{Entry, commands}
-use Rattle.mm_command_line.specs.Lines.{flight_spelling, is_dashes, parts_of, plan_names, without_dashes}
+use Rattle.mm_command_line.specs.Lines.{flight_spelling, is_dashes, kept_names, parts_of, plan_names, without_dashes}
 use Rattle.mm_command_line.specs.declared.task.FlightPlan.{FlightPlan}
 use Rattle.mm_command_line.specs.declared.task.FlightPlan.TheVariants.{Given, Made}
 use Rattle.mm_command_line.specs.declared.task.Task.{Task}
-use Rattle.mm_command_line.specs.declared.task.Task.TheVariants.{Plan, Check, Chart, Table, Sensitivity, Fly, Ask, Read}
+use Rattle.mm_command_line.specs.declared.task.Task.TheVariants.{Plan, Keep, Check, Chart, Table, Rest, Sensitivity}
+use Rattle.mm_command_line.specs.declared.task.Task.TheVariants.{Fly, Ask, Read}
 use Rattle.mm_command_line.proofs.Walking.{is_value}
 
 abbrev Text : Type 0
@@ -73,9 +74,12 @@ flight_row setup forecast sources links (Given plan) =
 -- the line of a task
 row_of : (task : Task) → IsOfRow (command_words task)
 row_of (Plan setup forecast in_order output) = of_row (codes "plan") (setup.now ∷ forecast.now ∷ []) _ refl refl refl
+row_of (Keep kept output) =
+    of_row (codes "plan") (kept.files.setup.now ∷ kept.files.forecast.now ∷ []) _ refl refl refl
 row_of (Check files) = of_row (codes "check") (plan_names files) _ refl refl refl
 row_of (Chart files worth output) = of_row (codes "chart") (plan_names files) _ refl refl refl
 row_of (Table files output) = of_row (codes "table") (plan_names files) _ refl refl refl
+row_of (Rest kept output) = of_row (codes "rest") (kept_names kept) _ refl refl refl
 row_of (Sensitivity setup forecast output) =
     of_row (codes "sensitivity") (setup.now ∷ forecast.now ∷ []) _ refl refl refl
 row_of (Fly f) = flight_row f.setup.now f.forecast.now f.sources.now f.links.now f.plan

@@ -5,15 +5,28 @@ use Rattle.std.specs.Str.{bytes_eq}
 use Rattle.clap.specs.Words.{App, Row, Rule, Text, app_of, first_of, new_app, new_rule, with_rule, with_subcommand}
 use Rattle.clap.specs.declared.builder.command.Command.{Command}
 use Rattle.clap.specs.declared.builder.command.Command.TheViews.{out-Command as fields_of}
-use Rattle.mm_command_line.specs.declared.command.File.{File}
+use Rattle.mm_command_line.specs.declared.file.File.{File}
+use Rattle.mm_command_line.specs.declared.file.File.TheVariants as file
 use Rattle.mm_command_line.specs.declared.command.Form.{Form}
+
+-- what help calls a file of a command
+abbrev pub name_of : File → Text
+name_of file.Setup = codes "SETUP"
+name_of file.Forecast = codes "FORECAST"
+name_of file.Plan = codes "PLAN"
+name_of file.FlownPlan = codes "PLAN"
+name_of file.Step = codes "STEP"
+name_of file.Sources = codes "SOURCES"
+name_of file.Links = codes "LINKS"
+name_of file.Requests = codes "REQUESTS"
+name_of file.Packets = codes "PACKETS"
 
 -- the word of a command, and what help calls its files
 abbrev pub Entry : Type 0
 Entry = Text × List Text
 
 abbrev pub entry_of : Form → Entry
-entry_of form = (form.word.now, map (λ (file : File). file.name.now) form.files.now)
+entry_of form = (form.word.now, map name_of form.files.now)
 
 abbrev pub commands : List Entry
 commands =
@@ -21,6 +34,7 @@ commands =
     ∷ (codes "check", codes "SETUP" ∷ codes "FORECAST" ∷ codes "PLAN" ∷ [])
     ∷ (codes "chart", codes "SETUP" ∷ codes "FORECAST" ∷ codes "PLAN" ∷ [])
     ∷ (codes "table", codes "SETUP" ∷ codes "FORECAST" ∷ codes "PLAN" ∷ [])
+    ∷ (codes "rest", codes "SETUP" ∷ codes "FORECAST" ∷ codes "PLAN" ∷ codes "STEP" ∷ [])
     ∷ (codes "sensitivity", codes "SETUP" ∷ codes "FORECAST" ∷ [])
     ∷ (codes "run", codes "SETUP" ∷ codes "FORECAST" ∷ codes "PLAN" ∷ codes "SOURCES" ∷ codes "LINKS" ∷ [])
     ∷ (codes "fly", codes "SETUP" ∷ codes "FORECAST" ∷ codes "SOURCES" ∷ codes "LINKS" ∷ [])

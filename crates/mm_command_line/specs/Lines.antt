@@ -5,16 +5,23 @@ use Rattle.std.specs.List.{All, list_any, starts_with}
 use Rattle.std.specs.Borrow.{Bor}
 use Rattle.mm_command_line.specs.declared.options.Line.{Line}
 use Rattle.mm_command_line.specs.declared.options.Next.{Next}
-use Rattle.mm_command_line.specs.declared.options.Next.TheVariants.{Command, Any, Output, File}
+use Rattle.mm_command_line.specs.declared.options.Next.TheVariants.{Command, Any, Output, KeptPlan, KeptStep, File}
 use Rattle.mm_command_line.specs.declared.task.FlightPlan.{FlightPlan}
 use Rattle.mm_command_line.specs.declared.task.FlightPlan.TheVariants.{Given, Made}
+use Rattle.mm_command_line.specs.declared.task.KeptSteps.{KeptSteps}
 use Rattle.mm_command_line.specs.declared.task.PlanFiles.{PlanFiles}
 use Rattle.mm_command_line.specs.declared.task.Task.{Task}
-use Rattle.mm_command_line.specs.declared.task.Task.TheVariants.{Plan, Check, Chart, Table, Sensitivity, Fly, Ask, Read}
+use Rattle.mm_command_line.specs.declared.task.Task.TheVariants.{Plan, Keep, Check, Chart, Table, Rest, Sensitivity}
+use Rattle.mm_command_line.specs.declared.task.Task.TheVariants.{Fly, Ask, Read}
 
 -- the names of the files of a judged plan
 abbrev pub plan_names : PlanFiles → List (List ℕ)
 plan_names files = files.setup.now ∷ files.forecast.now ∷ files.plan.now ∷ []
+
+-- the words for the first steps of a plan
+abbrev pub kept_names : KeptSteps → List (List ℕ)
+kept_names kept =
+    kept.files.setup.now ∷ kept.files.forecast.now ∷ kept.files.plan.now ∷ kept.last.now ∷ []
 
 -- the words of a run: with the file of a plan, or with none
 abbrev pub flight_spelling : List ℕ → List ℕ → List ℕ → List ℕ → FlightPlan → List (List ℕ)
@@ -23,12 +30,18 @@ flight_spelling setup forecast sources links (Given plan) =
 flight_spelling setup forecast sources links (Made in_order) =
     codes "fly" ∷ setup ∷ forecast ∷ sources ∷ links ∷ []
 
--- the words of a task without its flag and its output: its command, and the names of its files
+-- the words of `plan`
+abbrev pub plan_words : List ℕ → List ℕ → List (List ℕ)
+plan_words setup forecast = codes "plan" ∷ setup ∷ forecast ∷ []
+
+-- the words of a task without its flags and its output: its command, and the names of its files
 abbrev pub command_words : Task → List (List ℕ)
-command_words (Plan setup forecast in_order output) = codes "plan" ∷ setup.now ∷ forecast.now ∷ []
+command_words (Plan setup forecast in_order output) = plan_words setup.now forecast.now
+command_words (Keep kept output) = plan_words kept.files.setup.now kept.files.forecast.now
 command_words (Check files) = codes "check" ∷ plan_names files
 command_words (Chart files worth output) = codes "chart" ∷ plan_names files
 command_words (Table files output) = codes "table" ∷ plan_names files
+command_words (Rest kept output) = codes "rest" ∷ kept_names kept
 command_words (Sensitivity setup forecast output) = codes "sensitivity" ∷ setup.now ∷ forecast.now ∷ []
 command_words (Fly f) = flight_spelling f.setup.now f.forecast.now f.sources.now f.links.now f.plan
 command_words (Ask setup requests) = codes "ask" ∷ setup.now ∷ requests.now ∷ []
@@ -37,8 +50,10 @@ command_words (Read packets) = codes "read" ∷ packets.now ∷ []
 -- the file that the text of a task goes into, where one is named
 abbrev pub output_of : Task → Option (Bor (List ℕ))
 output_of (Plan setup forecast in_order output) = output
+output_of (Keep kept output) = output
 output_of (Chart files worth output) = output
 output_of (Table files output) = output
+output_of (Rest kept output) = output
 output_of (Sensitivity setup forecast output) = output
 output_of task = None
 
@@ -50,6 +65,14 @@ order_flag = codes "--in-order"
 abbrev pub worth_flag : List ℕ
 worth_flag = codes "--worth"
 
+-- the flag of `plan`: the first steps of a plan are kept
+abbrev pub keep_flag : List ℕ
+keep_flag = codes "--keep"
+
+-- the flag with the file of the plan and the last of these steps
+abbrev pub keep_words : List ℕ → List ℕ → List (List ℕ)
+keep_words plan last = keep_flag ∷ plan ∷ last ∷ []
+
 -- a flag that is given, or none
 abbrev pub flags_if : Bool → List ℕ → List (List ℕ)
 flags_if given flag = if given then flag ∷ [] else []
@@ -59,9 +82,10 @@ abbrev pub flight_flags : FlightPlan → List (List ℕ)
 flight_flags (Given plan) = []
 flight_flags (Made in_order) = flags_if in_order order_flag
 
--- the flag of a task, where it has one
+-- the flag of a task, where it has one, with the words that follow it
 abbrev pub flag_of : Task → List (List ℕ)
 flag_of (Plan setup forecast in_order output) = flags_if in_order order_flag
+flag_of (Keep kept output) = keep_words kept.files.plan.now kept.last.now
 flag_of (Chart files worth output) = flags_if worth worth_flag
 flag_of (Fly f) = flight_flags f.plan
 flag_of task = []
@@ -70,7 +94,12 @@ flag_of task = []
 abbrev pub IsFileName : List ℕ → Type 0
 IsFileName word = starts_with nat_eq word (codes "-") ≡ true → word ≡ codes "-"
 
--- the words are those of a task without its flag and its output, and none of the files that they name is spelled like a
+-- no word that follows the flag of a task is spelled like a flag
+abbrev pub HasNames : Task → Type 0
+HasNames (Keep kept output) = IsFileName kept.files.plan.now × IsFileName kept.last.now
+HasNames task = Unit {0}
+
+-- the words are those of a task without its flags and its output, and none of the files that they name is spelled like a
 -- flag
 pub record IsCommandLine (words : List (List ℕ)) : Type 0 where
   pub task : Task
@@ -103,8 +132,8 @@ pub record ArePlain (words line : List (List ℕ)) : Type 0 where
 
 -- ---- a line, of which options are taken out
 
--- the words of a line by what they are: those of its command, with the first `--`, its flags, and the names of its
--- outputs; and what may come next
+-- the words of a line by what they are: those of its command, with the first `--`, its flags, with the words that
+-- follow one of them, and the names of its outputs; and what may come next
 pub record Parts : Type 0 where
   pub command : List (List ℕ)
   pub flags : List (List ℕ)
@@ -160,6 +189,7 @@ with_joined line word None = with_word line word
 abbrev pub with_option : Parts → List ℕ → Parts
 with_option line word =
     if is_task_flag word then with_flag line word
+    else if bytes_eq word keep_flag then record (with_flag line word) { next = KeptPlan }
     else if bytes_eq word output_flag then record line { next = Output }
     else with_joined line word (joined_name word)
 
@@ -168,6 +198,8 @@ abbrev pub read_at : Next → Parts → List ℕ → Parts
 read_at Command line word = record (with_word line word) { next = if is_dashes word then File else Any }
 read_at Any line word = if is_dashes word then record (with_word line word) { next = File } else with_option line word
 read_at Output line word = record (with_output line word) { next = Any }
+read_at KeptPlan line word = record (with_flag line word) { next = KeptStep }
+read_at KeptStep line word = record (with_flag line word) { next = Any }
 read_at File line word = with_word line word
 
 abbrev pub read_word : Parts → List ℕ → Parts
@@ -177,9 +209,11 @@ read_word line word = read_at line.next line word
 abbrev pub parts_of : List (List ℕ) → Parts
 parts_of words = fold read_word no_parts words
 
--- the name of an output is still to come
+-- the name of an output, or a word that follows a flag, is still to come
 abbrev pub awaits_name : Next → Bool
 awaits_name Output = true
+awaits_name KeptPlan = true
+awaits_name KeptStep = true
 awaits_name next = false
 
 -- these are the names of the output, if one is named, and it is not spelled like a flag
@@ -190,6 +224,7 @@ pub record IsOutput (names : List (List ℕ)) (output : Option (Bor (List ℕ)))
 -- the options of the line are those of the task
 pub record HasOptions (line : Parts) (task : Task) : Type 0 where
   pub flags : line.flags ≡ flag_of task
+  pub names : HasNames task
   pub output : IsOutput line.outputs (output_of task)
   pub whole : awaits_name line.next ≡ false
 

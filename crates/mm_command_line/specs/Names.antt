@@ -6,7 +6,8 @@ use Rattle.mm_command_line.specs.declared.task.FlightPlan.{FlightPlan}
 use Rattle.mm_command_line.specs.declared.task.FlightPlan.TheVariants.{Given, Made}
 use Rattle.mm_command_line.specs.declared.task.PlanFiles.{PlanFiles}
 use Rattle.mm_command_line.specs.declared.task.Task.{Task}
-use Rattle.mm_command_line.specs.declared.task.Task.TheVariants.{Plan, Check, Chart, Table, Sensitivity, Fly, Ask, Read}
+use Rattle.mm_command_line.specs.declared.task.Task.TheVariants.{Plan, Keep, Check, Chart, Table, Rest, Sensitivity}
+use Rattle.mm_command_line.specs.declared.task.Task.TheVariants.{Fly, Ask, Read}
 
 abbrev pub no_names : FileNames
 no_names = record { setup = None; forecast = None; plan = None; sources = None; links = None; packets = None }
@@ -24,9 +25,11 @@ names_of_plan files =
 -- those of a task
 abbrev pub names_in : Task → FileNames
 names_in (Plan setup forecast in_order output) = record no_names { setup = Some setup; forecast = Some forecast }
+names_in (Keep kept output) = names_of_plan kept.files
 names_in (Check files) = names_of_plan files
 names_in (Chart files worth output) = names_of_plan files
 names_in (Table files output) = names_of_plan files
+names_in (Rest kept output) = names_of_plan kept.files
 names_in (Sensitivity setup forecast output) = record no_names { setup = Some setup; forecast = Some forecast }
 names_in (Fly f) = record no_names {
   setup = Some f.setup;

@@ -5,17 +5,10 @@ ghost use Rattle.clap.specs.Words.{app_of, rule_of};
 ghost use Rattle.mm_command_line.specs.Commands.{IsCommand, bare, file_rule, entry_of, tool, with_command};
 
 use crate::commands::COMMANDS;
+use crate::file::File;
 use crate::version::VERSION;
 use clap::{Arg, Command};
 use std::alloc::{AllocError, Global};
-
-/// A file of a command.
-pub(crate) struct File {
-    /// What help calls it.
-    pub(crate) name: &'static str,
-    /// What help says that it holds.
-    pub(crate) help: &'static str,
-}
 
 /// A command: the word that names it, the words of a whole line, what help says of it, and the files whose names follow
 /// the word.
@@ -52,6 +45,7 @@ Examples:
   mm_tool chart setup.toml forecast.csv plan.txt --output chart.svg
   mm_tool chart --worth setup.toml forecast.csv plan.txt --output chart.svg
   mm_tool table setup.toml forecast.csv plan.txt --output table.csv
+  mm_tool rest setup.toml forecast.csv plan.txt 2 --output later.txt
   mm_tool sensitivity setup.toml forecast.csv
   mm_tool run setup.toml forecast.csv plan.txt sources.hex links.txt
   mm_tool fly setup.toml forecast.csv sources.hex links.txt
@@ -65,11 +59,11 @@ refused, a run is halted, check finds another verdict, or a write fails; 2 for h
 Read next: docs/PLANNING.md, a day with two passes; docs/FORMATS.md has every file and printed line.";
 
 // The name of a file, which has to be there.
-fn argument<'a>(alloc: Global, file: &File) -> Arg<'a>
-    ensures rule { rule_of result ≡ file_rule file.now.name.now }
+fn argument<'a>(alloc: Global, name: &'a str, help: &'a str) -> Arg<'a>
+    ensures rule { rule_of result ≡ file_rule name.entry.now }
     ensures local { result.global ≡ false }
 {
-    Arg::new(alloc, file.name).required(true).help(file.help)
+    Arg::new(alloc, name).required(true).help(help)
 }
 
 // A command with its files.
@@ -81,7 +75,7 @@ fn command_of<'a>(alloc: Global, form: &Form) -> Result<Command<'a>, AllocError>
         .about(form.about)
         .after_help(form.help);
     for file in form.files {
-        command = command.arg(argument(alloc, file))?;
+        command = command.arg(argument(alloc, file.name(), file.help()))?;
     }
     Ok(command)
 }

@@ -1,29 +1,10 @@
 //! The commands of the program: a row for each, in the order in which help tells them.
 
-use crate::command::{File, Form};
-use crate::{chart, flight, read, sensitivity, table};
-
-// A file, and what help says that it holds.
-macro_rules! file {
-    ($name:literal, $help:literal) => { File { name: $name, help: $help } };
-}
-
-const SETUP: File = file! { "SETUP", "The packet stores, routes and limits of channels, in TOML" };
-
-const FORECAST: File = file! { "FORECAST", "The windows and arrivals of each step, in CSV" };
-
-const PLAN: File = file! { "PLAN", "The dump plan with its loss and its cut" };
-
-const FLOWN_PLAN: File = file! { "PLAN", "The dump plan; its loss and its cut are not judged" };
-
-const SOURCES: File = file! { "SOURCES", "The packets: lines `source step HEX`" };
-
-const LINKS: File = file! { "LINKS", "The links: `links N`, then lines `fail LINK SEND`" };
-
-const REQUESTS: File =
-    file! { "REQUESTS", "The requests: a telecommand per line, in hexadecimal digits" };
-
-const PACKETS: File = file! { "PACKETS", "The packets: one per line, in hexadecimal digits" };
+use crate::command::Form;
+use crate::file::File::{
+    FlownPlan, Forecast, Links, Packets, Plan, Requests, Setup, Sources, Step,
+};
+use crate::{chart, flight, read, rest, sensitivity, table};
 
 // The commands: the word of each, its files, the words of a whole line after the program's name, and its help.
 macro_rules! commands {
@@ -32,20 +13,23 @@ macro_rules! commands {
     };
 }
 
-pub(crate) static COMMANDS: [Form; 9] = commands! {
-    "plan" [SETUP, FORECAST]: "plan [--in-order] <SETUP> <FORECAST> [--output <FILE>]", PLAN_ABOUT, PLAN_HELP;
-    "check" [SETUP, FORECAST, PLAN]: "check <SETUP> <FORECAST> <PLAN>", CHECK_ABOUT, CHECK_HELP;
-    "chart" [SETUP, FORECAST, PLAN]: "chart [--worth] <SETUP> <FORECAST> <PLAN> [--output <FILE>]",
+pub(crate) static COMMANDS: [Form; 10] = commands! {
+    "plan" [Setup, Forecast]: "plan [--in-order | --keep <PLAN> <STEP>] <SETUP> <FORECAST> [--output <FILE>]",
+        PLAN_ABOUT, PLAN_HELP;
+    "check" [Setup, Forecast, Plan]: "check <SETUP> <FORECAST> <PLAN>", CHECK_ABOUT, CHECK_HELP;
+    "chart" [Setup, Forecast, Plan]: "chart [--worth] <SETUP> <FORECAST> <PLAN> [--output <FILE>]",
         chart::ABOUT, chart::HELP;
-    "table" [SETUP, FORECAST, PLAN]: "table <SETUP> <FORECAST> <PLAN> [--output <FILE>]", table::ABOUT, table::HELP;
-    "sensitivity" [SETUP, FORECAST]: "sensitivity <SETUP> <FORECAST> [--output <FILE>]",
+    "table" [Setup, Forecast, Plan]: "table <SETUP> <FORECAST> <PLAN> [--output <FILE>]", table::ABOUT, table::HELP;
+    "rest" [Setup, Forecast, Plan, Step]: "rest <SETUP> <FORECAST> <PLAN> <STEP> [--output <FILE>]",
+        rest::ABOUT, rest::HELP;
+    "sensitivity" [Setup, Forecast]: "sensitivity <SETUP> <FORECAST> [--output <FILE>]",
         sensitivity::ABOUT, sensitivity::HELP;
-    "run" [SETUP, FORECAST, FLOWN_PLAN, SOURCES, LINKS]: "run <SETUP> <FORECAST> <PLAN> <SOURCES> <LINKS>",
+    "run" [Setup, Forecast, FlownPlan, Sources, Links]: "run <SETUP> <FORECAST> <PLAN> <SOURCES> <LINKS>",
         flight::RUN_ABOUT, flight::RUN_HELP;
-    "fly" [SETUP, FORECAST, SOURCES, LINKS]: "fly [--in-order] <SETUP> <FORECAST> <SOURCES> <LINKS>",
+    "fly" [Setup, Forecast, Sources, Links]: "fly [--in-order] <SETUP> <FORECAST> <SOURCES> <LINKS>",
         flight::FLY_ABOUT, flight::FLY_HELP;
-    "ask" [SETUP, REQUESTS]: "ask <SETUP> <REQUESTS>", ASK_ABOUT, ASK_HELP;
-    "read" [PACKETS]: "read <PACKETS>", read::ABOUT, read::HELP;
+    "ask" [Setup, Requests]: "ask <SETUP> <REQUESTS>", ASK_ABOUT, ASK_HELP;
+    "read" [Packets]: "read <PACKETS>", read::ABOUT, read::HELP;
 };
 
 const PLAN_ABOUT: &str = "Plans the dumps so that the fewest blocks are lost";
@@ -58,7 +42,7 @@ Prints a plan text:
   loss N                      how many blocks are lost
   stretch ID I J              the cut: steps I to J of a store
   count T channels            in step T of the cut the limits of channels count, and not the window
-  bound N                     no plan that fits loses fewer than N blocks; it is the loss
+  bound N                     no plan that fits loses fewer than N blocks; without --keep it is the loss
   first K                     form 3, for each K below the number of stores: the loss, cut and bound of the
                               first K stores follow, in lines as above
   end
@@ -68,6 +52,9 @@ or one line:
 Options, anywhere after `plan`:
   --in-order                  of the plans that lose least, one that serves the stores in the setup's order:
                               no plan that fits loses fewer of the first K stores, for each K
+  --keep PLAN STEP            keeps the steps of the plan text PLAN up to STEP, and plans those after it anew: no
+                              plan that fits and has these first steps loses fewer. The cut shows what the later
+                              steps lose, so that its bound may be below the loss; the kept steps are not judged
   --output FILE               writes the plan text to FILE, whole or not at all, and does not print it; FILE is
                               none of the files above; - prints it
 
@@ -77,6 +64,7 @@ Examples:
   mm_tool plan setup.toml forecast.csv
   mm_tool plan setup.toml forecast.csv --output plan.txt
   mm_tool plan --in-order setup.toml forecast.csv --output plan.txt
+  mm_tool plan setup.toml forecast.csv --keep plan.txt 2 --output later.txt
 
 The formats are described in docs/FORMATS.md. Exit status: 0 for a plan text, 1 for a refusal.";
 

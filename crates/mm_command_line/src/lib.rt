@@ -4,10 +4,12 @@
 mod chart;
 mod command;
 mod commands;
+mod file;
 mod flight;
 mod line;
 mod options;
 mod read;
+mod rest;
 mod sensitivity;
 mod table;
 mod task;
@@ -15,6 +17,6 @@ mod version;
 mod wrong_flag;
 
 pub use line::parse;
-pub use task::{FileNames, FlightFiles, FlightPlan, PlanFiles, Role, Task};
+pub use task::{FileNames, FlightFiles, FlightPlan, KeptSteps, PlanFiles, Role, Task};
 pub use version::{VERSION, asks_version};
 pub use wrong_flag::{FlagFault, flag_fault};

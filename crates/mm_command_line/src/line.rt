@@ -11,7 +11,7 @@ ghost use Rattle.mm_command_line.specs.Lines.{command_words, parts_in};
 use crate::command::{Form, form_of, tool_command};
 use crate::commands::COMMANDS;
 use crate::options::{Line, Next, is_file_name, read_line};
-use crate::task::{FlightFiles, FlightPlan, PlanFiles, Task};
+use crate::task::{FlightFiles, FlightPlan, KeptSteps, PlanFiles, Task};
 use clap::error::ErrorKind;
 use clap::{ArgMatches, Command, Error};
 use std::alloc::{AllocError, Global};
@@ -39,6 +39,8 @@ fn task_of<'a>(words: &[&'a str]) -> Option<Task<'a>>
         ["chart", setup, forecast, plan] =>
             Task::Chart { files: PlanFiles { setup, forecast, plan }, worth: false, output: None };
         ["table", setup, forecast, plan] => Task::Table { files: PlanFiles { setup, forecast, plan }, output: None };
+        ["rest", setup, forecast, plan, last] =>
+            Task::Rest { kept: KeptSteps { files: PlanFiles { setup, forecast, plan }, last }, output: None };
         ["sensitivity", setup, forecast] => Task::Sensitivity { setup, forecast, output: None };
         ["run", setup, forecast, plan, sources, links] =>
             Task::Fly(FlightFiles { setup, forecast, plan: FlightPlan::Given(plan), sources, links });
@@ -93,7 +95,7 @@ fn words_in<'a>(
     let mut words = Vec::new(alloc);
     words.push(form.word)?;
     for file in form.files {
-        if let Some(name) = files.get_str(file.name) {
+        if let Some(name) = files.get_str(file.name()) {
             words.push(name)?;
         }
     }
@@ -166,7 +168,7 @@ fn with_options<'a>(task: Task<'a>, line: &Line<'a>) -> Option<Task<'a>>
         → HasOptions (parts_in line.now) read → ⊥) }
 {
     match line.next {
-        Next::Output => None,
+        Next::Output | Next::KeptPlan | Next::KeptStep => None,
         _ => task.with_options(&line.flags, &line.outputs),
     }
 }

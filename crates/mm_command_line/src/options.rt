@@ -1,8 +1,8 @@
 //! The words of a line by what they are: those of its command, its flags, and the names of its outputs.
 ghost use Rattle.std.specs.Prelude.{◌≡◌, ◌↔◌, ℕ, Bool, List, Option, IfOk, IfSome, IfNone, IsTrue, map, option_map};
 ghost use Rattle.std.specs.Borrow.{Bor};
-ghost use Rattle.mm_command_line.specs.Lines.{IsFileName, IsOutput, flags_if, is_task_flag, joined_name, no_parts};
-ghost use Rattle.mm_command_line.specs.Lines.{parts_in, parts_of, read_word, with_option};
+ghost use Rattle.mm_command_line.specs.Lines.{IsFileName, IsOutput, flags_if, is_task_flag, joined_name, keep_words};
+ghost use Rattle.mm_command_line.specs.Lines.{no_parts, parts_in, parts_of, read_word, with_option};
 
 use std::alloc::{AllocError, Global};
 use std::convert::AsStr;
@@ -19,6 +19,9 @@ pub(crate) const IN_ORDER: &str = "--in-order";
 /// The flag of `chart`: the chart says what each window is worth.
 pub(crate) const WORTH: &str = "--worth";
 
+/// The flag of `plan` before the file of a plan and the last of its steps that is kept.
+pub(crate) const KEEP: &str = "--keep";
+
 /// What the next word of a line may be.
 #[derive(Clone, Copy)]
 pub(crate) enum Next {
@@ -28,6 +31,10 @@ pub(crate) enum Next {
     Any,
     /// The name of an output.
     Output,
+    /// The file of the plan whose first steps are kept.
+    KeptPlan,
+    /// The last of these steps.
+    KeptStep,
     /// The name of a file, which may be spelled like an option.
     File,
 }
@@ -37,7 +44,7 @@ pub(crate) enum Next {
 pub(crate) struct Line<'a> {
     /// The command and the names of its files, with the first `--`.
     pub(crate) command: Vec<&'a str>,
-    /// Its flags.
+    /// Its flags, and the words that follow one of them.
     pub(crate) flags: Vec<&'a str>,
     /// The names of its outputs.
     pub(crate) outputs: Vec<&'a str>,
@@ -83,6 +90,9 @@ impl<'a> Line<'a> {
     {
         if is_task_flag(word) {
             self.flags.push(word)?;
+        } else if word == KEEP {
+            self.next = Next::KeptPlan;
+            self.flags.push(word)?;
         } else if word == OUTPUT {
             self.next = Next::Output;
         } else if let Some(name) = joined_name(word) {
@@ -101,6 +111,14 @@ impl<'a> Line<'a> {
             Next::Output => {
                 self.next = Next::Any;
                 self.outputs.push(word)?;
+            }
+            Next::KeptPlan => {
+                self.next = Next::KeptStep;
+                self.flags.push(word)?;
+            }
+            Next::KeptStep => {
+                self.next = Next::Any;
+                self.flags.push(word)?;
             }
             Next::File => self.command.push(word)?,
             _ if word == "--" => {
@@ -149,6 +167,21 @@ pub(crate) fn is_given(flags: &[&str], flag: &str) -> Option<bool>
     match *flags {
         [] => Some(false),
         [given] if given == flag => Some(true),
+        _ => None,
+    }
+}
+
+/// The plan and the step of these flags; none where they are others, or a word after the flag is spelled like one.
+pub(crate) fn kept_in<'a>(flags: &[&'a str]) -> Option<(&'a str, &'a str)>
+    ensures given { IfSome result (λ kept. map (λ flag. flag.now) flags.now ≡ keep_words kept.0.now kept.1.now) }
+    ensures names { IfSome result (λ kept. IsFileName kept.0.now × IsFileName kept.1.now) }
+    ensures none { IfNone result ((plan last : List ℕ) → map (λ flag. flag.now) flags.now ≡ keep_words plan last
+        → IsFileName plan → IsFileName last → ⊥) }
+{
+    match *flags {
+        [flag, plan, last] if flag == KEEP && is_file_name(plan) && is_file_name(last) => {
+            Some((plan, last))
+        }
         _ => None,
     }
 }

@@ -1,10 +1,10 @@
 //! The tasks of the program, and their files.
 ghost use Rattle.std.specs.Prelude.{◌≡◌, IfSome, IfNone, map};
-ghost use Rattle.mm_command_line.specs.Lines.{IsOutput, command_words, flag_of, output_of};
+ghost use Rattle.mm_command_line.specs.Lines.{HasNames, IsOutput, command_words, flag_of, output_of, plan_words};
 ghost use Rattle.mm_command_line.specs.Names.{names_in};
 ghost use Rattle.mm_command_line.specs.declared.task.Task.TheVariants.{Fly};
 
-use crate::options::{IN_ORDER, WORTH, is_given, output_in};
+use crate::options::{IN_ORDER, WORTH, is_given, kept_in, output_in};
 
 /// What a file of a task has.
 #[derive(Clone, Copy)]
@@ -39,6 +39,14 @@ pub struct PlanFiles<'a> {
     pub setup: &'a str,
     pub forecast: &'a str,
     pub plan: &'a str,
+}
+
+/// The first steps of a plan.
+#[derive(Clone, Copy)]
+pub struct KeptSteps<'a> {
+    pub files: PlanFiles<'a>,
+    /// The word for the last of these steps.
+    pub last: &'a str,
 }
 
 /// The plan of a run.
@@ -110,6 +118,11 @@ pub enum Task<'a> {
         in_order: bool,
         output: Option<&'a str>,
     },
+    /// Plan anew after the first steps of a plan, which are kept.
+    Keep {
+        kept: KeptSteps<'a>,
+        output: Option<&'a str>,
+    },
     /// Say whether the plan loses least.
     Check(PlanFiles<'a>),
     /// Draw the plan, with what each window is `worth` where that is asked.
@@ -121,6 +134,11 @@ pub enum Task<'a> {
     /// Say what the plan does to each store in each step.
     Table {
         files: PlanFiles<'a>,
+        output: Option<&'a str>,
+    },
+    /// Say what is left of the problem after the first steps of a plan.
+    Rest {
+        kept: KeptSteps<'a>,
         output: Option<&'a str>,
     },
     /// Say what each window, size and limit is worth.
@@ -142,6 +160,38 @@ pub enum Task<'a> {
     },
 }
 
+// The task of `plan` with these flags; none where they are not its flags.
+fn planning<'a>(
+    setup: &'a str,
+    forecast: &'a str,
+    flags: &[&'a str],
+    output: Option<&'a str>,
+) -> Option<Task<'a>>
+    ensures words { IfSome result (λ task. command_words task ≡ plan_words setup.entry.now forecast.entry.now) }
+    ensures flags { IfSome result (λ task. map (λ flag. flag.now) flags.now ≡ flag_of task) }
+    ensures names { IfSome result HasNames }
+    ensures output { IfSome result (λ task. output_of task ≡ output.entry) }
+    ensures none { IfNone result ((task : Task) → command_words task ≡ plan_words setup.entry.now forecast.entry.now
+        → map (λ flag. flag.now) flags.now ≡ flag_of task → HasNames task → ⊥) }
+{
+    if let Some((plan, last)) = kept_in(flags) {
+        let files = PlanFiles {
+            setup,
+            forecast,
+            plan,
+        };
+        let kept = KeptSteps { files, last };
+        return Some(Task::Keep { kept, output });
+    }
+    let in_order = is_given(flags, IN_ORDER)?;
+    Some(Task::Plan {
+        setup,
+        forecast,
+        in_order,
+        output,
+    })
+}
+
 impl<'a> Task<'a> {
     /// The names of the task's files.
     pub fn names(self) -> FileNames<'a>
@@ -160,6 +210,8 @@ impl<'a> Task<'a> {
             } => names! { setup: setup, forecast: forecast },
             Task::Check(files) | Task::Chart { files, .. } | Task::Table { files, .. } =>
                 names! { setup: files.setup, forecast: files.forecast, plan: files.plan },
+            Task::Keep { kept, .. } | Task::Rest { kept, .. } =>
+                names! { setup: kept.files.setup, forecast: kept.files.forecast, plan: kept.files.plan },
             Task::Fly(files) => files.names(),
             Task::Ask { setup, requests } => names! { setup: setup, packets: requests },
             Task::Read { packets } => names! { packets: packets },
@@ -179,12 +231,13 @@ impl<'a> Task<'a> {
     }
 
     /// The task with these flags and outputs; none where they are not those of its command, or one is given twice.
-    pub(crate) fn with_options(self, flags: &[&str], outputs: &[&'a str]) -> Option<Task<'a>>
+    pub(crate) fn with_options(self, flags: &[&'a str], outputs: &[&'a str]) -> Option<Task<'a>>
         ensures words { IfSome result (λ task. command_words task ≡ command_words self.entry) }
         ensures flags { IfSome result (λ task. map (λ flag. flag.now) flags.now ≡ flag_of task) }
+        ensures names { IfSome result HasNames }
         ensures outputs { IfSome result (λ task. IsOutput (map (λ name. name.now) outputs.now) (output_of task)) }
         ensures none { IfNone result ((task : Task) → command_words task ≡ command_words self.entry
-            → map (λ flag. flag.now) flags.now ≡ flag_of task
+            → map (λ flag. flag.now) flags.now ≡ flag_of task → HasNames task
             → IsOutput (map (λ name. name.now) outputs.now) (output_of task) → ⊥) }
     {
         let output = output_in(outputs)?;
@@ -193,15 +246,13 @@ impl<'a> Task<'a> {
                 setup,
                 forecast,
                 ..
-            } => {
-                let in_order = is_given(flags, IN_ORDER)?;
-                Some(Task::Plan {
-                    setup,
-                    forecast,
-                    in_order,
-                    output,
-                })
-            }
+            } => planning(setup, forecast, flags, output),
+            Task::Keep { kept, .. } => planning(
+                kept.files.setup,
+                kept.files.forecast,
+                flags,
+                output,
+            ),
             Task::Chart { files, .. } => {
                 let worth = is_given(flags, WORTH)?;
                 Some(Task::Chart {
@@ -211,6 +262,7 @@ impl<'a> Task<'a> {
                 })
             }
             Task::Table { files, .. } if flags.is_empty() => Some(Task::Table { files, output }),
+            Task::Rest { kept, .. } if flags.is_empty() => Some(Task::Rest { kept, output }),
             Task::Sensitivity {
                 setup,
                 forecast,

@@ -1,6 +1,6 @@
 //! What is wrong with a flag that is not read.
 
-use crate::options::{IN_ORDER, Next, OUTPUT, WORTH, is_file_name};
+use crate::options::{IN_ORDER, KEEP, Next, OUTPUT, WORTH, is_file_name};
 use std::convert::AsStr;
 use std::{fmt, mem};
 
@@ -11,15 +11,19 @@ const NEAR: usize = 3;
 // A flag, and what is said of it where it is meant.
 type Flag = (&'static str, &'static str);
 
-static FLAGS: [Flag; 5] = [
+static FLAGS: [Flag; 6] = [
     (IN_ORDER, "goes with plan and fly"),
     (WORTH, "goes with chart"),
     (
         OUTPUT,
-        "goes with plan, chart, table and sensitivity, and has the name of a file after it",
+        "goes with plan, chart, table, rest and sensitivity, and has the name of a file after it",
     ),
     ("--help", "stands alone or after a command"),
     ("--version", "stands alone"),
+    (
+        KEEP,
+        "goes with plan, and has the file of a plan and a step of it after it",
+    ),
 ];
 
 /// What is wrong with a flag. It is shown in one line.
@@ -38,6 +42,13 @@ pub enum FlagFault<'a> {
     HasValue(&'static str),
     /// The name of an output is missing, or is spelled like a flag.
     Nameless,
+    /// The plan or the step of `--keep` is missing, or is spelled like a flag.
+    KeepsNothing,
+    /// The flag stands beside another one that it does not go with.
+    Beside {
+        flag: &'static str,
+        other: &'static str,
+    },
     /// The flag is there already.
     Twice(&'static str),
     /// The flag stands beside other words.
@@ -65,13 +76,20 @@ impl fmt::Display for FlagFault<'_> {
                 f, "the name of a file is missing: write --output FILE, or --output=FILE; if the name begins with -, \
                     write ./ before it"
             },
+            FlagFault::KeepsNothing => f.write_str(
+                "a plan or a step is missing: write --keep PLAN STEP; if the name of the plan begins with -, write ./ \
+                    before it",
+            ),
+            FlagFault::Beside { flag, other } =>
+                write! { f, "{flag} does not go with {other}; give one of them" },
             FlagFault::Twice(flag) => write!(f, "{flag} is given twice; give it once"),
             FlagFault::NotAlone(flag) => write!(f, "{flag} stands alone"),
             FlagFault::Unknown { word, near, place } =>
                 write! { f, "there is no flag '{word}'; did you mean {near}, which {place}?" },
             FlagFault::NoSuchFlag(word) => write! {
                 f, "there is no flag '{word}', and none is spelled alike; there are --in-order of plan and fly, \
-                    --worth of chart, --output FILE of plan, chart, table and sensitivity, and --help"
+                    --keep PLAN STEP of plan, --worth of chart, --output FILE of plan, chart, table, rest and \
+                    sensitivity, and --help"
             },
         }
     }
@@ -94,12 +112,12 @@ fn same_end(one: &[u8], other: &[u8]) -> usize {
         .count()
 }
 
-// Whether a word is spelled nearly as a flag: without the beginning and the end that both share, each has few
-// characters.
-fn is_near(word: &[u8], flag: &[u8]) -> bool {
+// In how many characters a word differs from a flag: those of the longer one without the beginning and the end that
+// both share.
+fn distance(word: &[u8], flag: &[u8]) -> usize {
     let (front, end) = (same_front(word, flag), same_end(word, flag));
     let longer = word.len().max(flag.len());
-    longer.saturating_sub(front).saturating_sub(end) <= NEAR
+    longer.saturating_sub(front).saturating_sub(end)
 }
 
 // A word up to the first `=`, and the value after it.
@@ -113,13 +131,14 @@ fn parts_of(word: &str) -> (&str, Option<&str>) {
 // An option of tasks: its flag, the commands that it goes with, and how these are told.
 type TaskOption = (&'static str, &'static [&'static str], &'static str);
 
-static OPTIONS: [TaskOption; 3] = [
+static OPTIONS: [TaskOption; 4] = [
     (IN_ORDER, &["plan", "fly"], "plan and fly"),
+    (KEEP, &["plan"], "plan"),
     (WORTH, &["chart"], "chart"),
     (
         OUTPUT,
-        &["plan", "chart", "table", "sensitivity"],
-        "plan, chart, table and sensitivity",
+        &["plan", "chart", "table", "rest", "sensitivity"],
+        "plan, chart, table, rest and sensitivity",
     ),
 ];
 
@@ -138,17 +157,25 @@ fn is_short(word: &str, flag: &str) -> bool {
     }
 }
 
-// What is said of a word that is spelled nearly as a flag, or is short for one.
+// What is said of a word that is spelled nearly as a flag, or is short for one: the first of those that are nearest.
 fn nearest(word: &str) -> Option<FlagFault<'_>> {
     let (name, _) = parts_of(word);
     let is_output = word.starts_with("-o");
+    let mut least = NEAR + 1;
+    let mut fault = None;
     for (near, place) in FLAGS {
-        let is_meant = is_short(name, near) || is_near(name.as_bytes(), near.as_bytes());
-        if is_meant || (is_output && near == OUTPUT) {
-            return Some(FlagFault::Unknown { word, near, place });
+        let is_meant = is_short(name, near) || (is_output && near == OUTPUT);
+        let distance = if is_meant {
+            0
+        } else {
+            distance(name.as_bytes(), near.as_bytes())
+        };
+        if distance < least {
+            least = distance;
+            fault = Some(FlagFault::Unknown { word, near, place });
         }
     }
-    None
+    fault
 }
 
 // What is wrong with a word that is no option of a task. Of one with a single dash that is near no flag `clap` says it.
@@ -166,20 +193,34 @@ fn no_option(word: &str) -> Option<FlagFault<'_>> {
 #[derive(Drop)]
 struct Read<'a> {
     command: &'a str,
-    // Whether the flag of the command is given, and whether an output is.
-    has_flag: bool,
+    // The flag of the command that is given, if one is, and whether an output is.
+    flag: Option<&'static str>,
     has_output: bool,
     next: Next,
 }
 
 impl Read<'_> {
-    // Notes an option of the command, and says whether it was there already.
-    fn note(&mut self, flag: &'static str) -> bool {
+    // Notes an option of the command, and says what is wrong with it beside the earlier ones.
+    fn note(&mut self, flag: &'static str) -> Option<FlagFault<'static>> {
         if flag == OUTPUT {
-            mem::replace(&mut self.has_output, true)
-        } else {
-            mem::replace(&mut self.has_flag, true)
+            return mem::replace(&mut self.has_output, true).then_some(FlagFault::Twice(flag));
         }
+        match mem::replace(&mut self.flag, Some(flag)) {
+            Some(other) if other == flag => Some(FlagFault::Twice(flag)),
+            Some(other) => Some(FlagFault::Beside { flag, other }),
+            None => None,
+        }
+    }
+
+    // Takes a word that an option has after it, and says whether it is spelled like a flag.
+    fn take(
+        &mut self,
+        word: &str,
+        next: Next,
+        fault: FlagFault<'static>,
+    ) -> Option<FlagFault<'static>> {
+        self.next = next;
+        (!is_file_name(word)).then_some(fault)
     }
 
     // What is wrong with an option.
@@ -192,14 +233,19 @@ impl Read<'_> {
             let commands = told;
             return Some(FlagFault::OfOthers { flag, commands });
         }
-        if self.note(flag) {
-            return Some(FlagFault::Twice(flag));
+        if let Some(fault) = self.note(flag) {
+            return Some(fault);
         }
         match value {
+            Some(_) if flag == KEEP => Some(FlagFault::KeepsNothing),
             Some(_) if flag != OUTPUT => Some(FlagFault::HasValue(flag)),
             Some(name) if !is_file_name(name) => Some(FlagFault::Nameless),
             None if flag == OUTPUT => {
                 self.next = Next::Output;
+                None
+            }
+            None if flag == KEEP => {
+                self.next = Next::KeptPlan;
                 None
             }
             _ => None,
@@ -213,14 +259,9 @@ impl Read<'_> {
                 let ((flag, ..), _) = option_in(word)?;
                 Some(FlagFault::Late(flag))
             }
-            Next::Output => {
-                self.next = Next::Any;
-                if is_file_name(word) {
-                    None
-                } else {
-                    Some(FlagFault::Nameless)
-                }
-            }
+            Next::Output => self.take(word, Next::Any, FlagFault::Nameless),
+            Next::KeptPlan => self.take(word, Next::KeptStep, FlagFault::KeepsNothing),
+            Next::KeptStep => self.take(word, Next::Any, FlagFault::KeepsNothing),
             _ if word == "--" => {
                 self.next = Next::File;
                 None
@@ -242,7 +283,7 @@ pub fn flag_fault<S: AsStr>(words: &[S]) -> Option<FlagFault<'_>> {
     }
     let mut read = Read {
         command,
-        has_flag: false,
+        flag: None,
         has_output: false,
         next: Next::Any,
     };
@@ -253,6 +294,7 @@ pub fn flag_fault<S: AsStr>(words: &[S]) -> Option<FlagFault<'_>> {
     }
     match read.next {
         Next::Output => Some(FlagFault::Nameless),
+        Next::KeptPlan | Next::KeptStep => Some(FlagFault::KeepsNothing),
         _ => None,
     }
 }

@@ -1,5 +1,5 @@
 -- What answers a task, by what its texts say.
-use Rattle.std.proofs.Common.{◌≡◌, ℕ, List, Bool, true, false, Some, None, refl, subst}
+use Rattle.std.proofs.Common.{◌≡◌, ℕ, List, Bool, true, false, refl, subst}
 use Rattle.mm_problem.specs.Dumping.{Dumping}
 use Rattle.mm_problem.specs.Texts.{SaysProblem}
 use Rattle.mm_plan.specs.Sheet.{SheetRows}

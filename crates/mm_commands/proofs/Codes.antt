@@ -12,7 +12,8 @@ use Rattle.mm_commands.specs.Streams.{ReadsTwice, file_of, reads_twice}
 use Rattle.mm_commands.specs.Doing.{AreDone, Does, DoesTask, IsDone}
 use Rattle.mm_command_line.specs.Lines.{Spells, is_version_line, output_of}
 use Rattle.mm_command_line.specs.declared.task.Task.{Task}
-use Rattle.mm_command_line.specs.declared.task.Task.TheVariants.{Plan, Check, Chart, Table, Sensitivity, Fly, Ask, Read}
+use Rattle.mm_command_line.specs.declared.task.Task.TheVariants.{Plan, Keep, Check, Chart, Table, Rest, Sensitivity, Fly}
+use Rattle.mm_command_line.specs.declared.task.Task.TheVariants.{Ask, Read}
 
 -- a task that the words ask for was done or refused
 pub task-does : {E : Type 0} (old new : FilesView) (words : List (List ℕ)) (task : Task)
@@ -81,10 +82,14 @@ refused-kept : (streams : Bool) (old new : Contents) (task : Task) (texts : Task
     ≡ old
 refused-kept streams old new (Plan setup forecast in_order output) texts status text before after other answers given =
     absurd (other answers.0)
+refused-kept streams old new (Keep kept output) texts status text before after other answers given = absurd
+    (other answers.0)
 refused-kept streams old new (Check names) texts status text before after other answers given = given.0
 refused-kept streams old new (Chart names worth output) texts status text before after other answers given = absurd
     (other answers.0)
 refused-kept streams old new (Table names output) texts status text before after other answers given = absurd
+    (other answers.0)
+refused-kept streams old new (Rest kept output) texts status text before after other answers given = absurd
     (other answers.0)
 refused-kept streams old new (Sensitivity setup forecast output) texts status text before after other answers given =
     absurd (other answers.0)

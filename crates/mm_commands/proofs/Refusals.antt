@@ -12,7 +12,7 @@ use Rattle.mm_commands.specs.Refusing.{IsFaultRead, Refuses, files_of}
 use Rattle.mm_commands.specs.declared.status.Status.{Status}
 use Rattle.mm_commands.specs.declared.status.Status.TheVariants.{Refused}
 use Rattle.mm_commands.specs.declared.fault.Fault.{Fault}
-use Rattle.mm_commands.specs.declared.fault.Fault.TheVariants.{NoMemory, NotRead, Texts, Run, Setup}
+use Rattle.mm_commands.specs.declared.fault.Fault.TheVariants.{NoMemory, NotRead, Texts, Run, Setup, NoStepAfter}
 use Rattle.mm_command_line.specs.declared.task.Task.{Task}
 
 -- what holds of the fault that is handed on holds of the one that is told
@@ -87,6 +87,7 @@ StopsAt-append contents (next ∷ left) more (NotRead name obstacle) stopped = s
 StopsAt-append contents left more (Texts e) stopped = absurd stopped
 StopsAt-append contents left more (Run e) stopped = absurd stopped
 StopsAt-append contents left more (Setup e) stopped = absurd stopped
+StopsAt-append contents left more (NoStepAfter word steps) stopped = absurd stopped
 
 -- one of the first files was not read, and more come after them
 pub unread_before : (contents : Contents) (before after : Option (List Reading)) (names more : List (List ℕ))

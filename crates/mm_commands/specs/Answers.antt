@@ -4,11 +4,18 @@ use Rattle.std.specs.Borrow.{Bor}
 use Rattle.std.specs.Io.KnownBytes.{Appends}
 use Rattle.mm_cut.specs.declared.verdict.Verdict.{Verdict}
 use Rattle.mm_cut.specs.declared.verdict.Verdict.TheVariants.{Least, LeastInOrder}
-use Rattle.mm_cut.specs.Checking.{Checks, LosesLeast, LosesLeastInOrder}
+use Rattle.mm_cut.specs.Checking.{Checks, LosesLeast, LosesLeastInOrder, SaysSheet}
 use Rattle.mm_cut.specs.Lines.{line_of}
+use Rattle.mm_problem.specs.Dumping.{Dumping}
+use Rattle.mm_problem.specs.Setup.{SetupRows}
+use Rattle.mm_problem.specs.Texts.{SaysProblem}
+use Rattle.mm_plan.specs.Sheet.{SheetRows}
+use Rattle.mm_plan.specs.Table.{amount}
+use Rattle.mm_rest.specs.Rests.{IsKeptStep, IsRestScript}
+use Rattle.mm_keep.specs.Keeps.{IsKeptSheet}
 use Rattle.mm_chart.specs.Charts.{Charts}
 use Rattle.mm_chart.specs.Table.{IsTableOf}
-use Rattle.mm_planner.specs.PlanTexts.{PlansLeast, PlansLeastInOrder}
+use Rattle.mm_planner.specs.PlanTexts.{IsInOrder, PlansLeast, PlansLeastInOrder}
 use Rattle.mm_ask.specs.declared.answering.Outcome.{Outcome as Replied}
 use Rattle.mm_ask.specs.declared.answering.Outcome.TheVariants as replied
 use Rattle.mm_ask.specs.Asking.{Answers}
@@ -25,6 +32,7 @@ use Rattle.mm_run.specs.Runs.{PrintsRun}
 use Rattle.mm_sensitivity.specs.Charts.{ChartsWorth}
 use Rattle.mm_sensitivity.specs.Table.{IsWorthTable}
 use Rattle.mm_files.specs.Contents.{Contents, FilesView, IsStored, WereRead}
+use Rattle.mm_commands.specs.Given.{IsGiven}
 use Rattle.mm_commands.specs.Reading.{readings_of}
 use Rattle.mm_commands.specs.Streams.{file_of}
 use Rattle.mm_commands.specs.declared.status.Status.{Status}
@@ -38,7 +46,8 @@ use Rattle.mm_command_line.specs.Lines.{output_of}
 use Rattle.mm_command_line.specs.Names.{names_in}
 use Rattle.mm_command_line.specs.declared.task.FileNames.{FileNames}
 use Rattle.mm_command_line.specs.declared.task.Task.{Task}
-use Rattle.mm_command_line.specs.declared.task.Task.TheVariants.{Plan, Check, Chart, Table, Sensitivity, Fly, Ask, Read}
+use Rattle.mm_command_line.specs.declared.task.Task.TheVariants.{Plan, Keep, Check, Chart, Table, Rest, Sensitivity, Fly}
+use Rattle.mm_command_line.specs.declared.task.Task.TheVariants.{Ask, Read}
 
 -- ---- `plan`
 
@@ -47,12 +56,41 @@ abbrev pub PlansText : Bool → List ℕ → List ℕ → List ℕ → Type 0
 PlansText true = PlansLeastInOrder
 PlansText false = PlansLeast
 
+-- ---- `plan --keep`
+
+-- the text is that of a sheet, in printing order, whose plan keeps the steps of the plan that the texts say up to the
+-- one that the word names, and loses least after it
+pub record KeepsSteps (setup forecast plan word text : List ℕ) : Type 0 where
+  pub problem : Dumping
+  pub old : SheetRows
+  pub step : ℕ
+  pub new : SheetRows
+  pub says_problem : SaysProblem setup forecast problem
+  pub says_old : SaysSheet problem plan old
+  pub kept : IsKeptStep problem word step
+  pub says_new : SaysSheet problem text new
+  pub in_order : IsInOrder new
+  pub keeps : IsKeptSheet problem (amount old.plan) step new
+
 -- ---- `chart`
 
 -- the text is the chart of the plan, with what each window is worth where that is asked
 abbrev pub DrawsPlan : Bool → List ℕ → List ℕ → List ℕ → List ℕ → Type 0
 DrawsPlan true = ChartsWorth
 DrawsPlan false = Charts
+
+-- ---- `rest`
+
+-- the text is the script of what is left after the step that the word names, of the plan that the texts say
+pub record TellsRest (setup forecast plan word text : List ℕ) : Type 0 where
+  pub rows : SetupRows
+  pub problem : Dumping
+  pub sheet : SheetRows
+  pub step : ℕ
+  pub given : IsGiven setup forecast rows problem
+  pub says_sheet : SaysSheet problem plan sheet
+  pub kept : IsKeptStep problem word step
+  pub script : IsRestScript rows problem (amount sheet.plan) step text
 
 -- ---- `check`
 
@@ -142,11 +180,15 @@ pub record PrintsFlown (plan : FlightPlan) (texts : TaskTexts) (status : Status)
 abbrev pub AnswersTask : Task → TaskTexts → Status → List ℕ → Type 0
 AnswersTask (Plan setup forecast in_order output) texts status text =
     (status ≡ Done) × PlansText in_order texts.setup.items texts.forecast.items text
+AnswersTask (Keep kept output) texts status text =
+    (status ≡ Done) × KeepsSteps texts.setup.items texts.forecast.items texts.plan.items kept.last.now text
 AnswersTask (Check names) texts status text = Judges status text texts.setup.items texts.forecast.items texts.plan.items
 AnswersTask (Chart names worth output) texts status text =
     (status ≡ Done) × DrawsPlan worth texts.setup.items texts.forecast.items texts.plan.items text
 AnswersTask (Table names output) texts status text =
     (status ≡ Done) × IsTableOf texts.setup.items texts.forecast.items texts.plan.items text
+AnswersTask (Rest kept output) texts status text =
+    (status ≡ Done) × TellsRest texts.setup.items texts.forecast.items texts.plan.items kept.last.now text
 AnswersTask (Sensitivity setup forecast output) texts status text =
     (status ≡ Done) × IsWorthTable texts.setup.items texts.forecast.items text
 AnswersTask (Fly names) texts status text = Flown names.plan texts status text

@@ -11,11 +11,12 @@ use Rattle.mm_run.specs.declared.fault.Fault.{Fault as FlightFault}
 use Rattle.mm_run.specs.declared.fault.Fault.TheVariants as flight
 use Rattle.mm_told.specs.Spots.{spot_in_problem, spot_in_plan, spot_in_texts, fields_text}
 use Rattle.mm_told.specs.declared.spot.Spot.{Spot}
-use Rattle.mm_told.specs.declared.spot.Spot.TheVariants.{Whole}
+use Rattle.mm_told.specs.declared.spot.Spot.TheVariants.{Whole, Number as NumberAt}
+use Rattle.mm_problem.specs.declared.fault.Name.TheVariants.{Steps}
 use Rattle.mm_files.specs.FileNames.{shown_name}
 use Rattle.mm_commands.specs.Spots.{spot_in_script}
 use Rattle.mm_commands.specs.declared.fault.Fault.{Fault}
-use Rattle.mm_commands.specs.declared.fault.Fault.TheVariants.{NoMemory, NotRead, Texts, Run, Setup}
+use Rattle.mm_commands.specs.declared.fault.Fault.TheVariants.{NoMemory, NotRead, Texts, Run, Setup, NoStepAfter}
 
 -- which refusal a fault is
 abbrev pub refusal_of : Fault → Refusal
@@ -24,6 +25,7 @@ refusal_of (NotRead name obstacle) = refusal.NotRead
 refusal_of (Texts fault) = check_refusal fault
 refusal_of (Run fault) = flight_refusal fault
 refusal_of (Setup fault) = problem_refusal fault
+refusal_of (NoStepAfter word steps) = refusal.Limit
 
 -- where in its file a fault of the texts of a run is
 abbrev pub spot_in_run : FlightFault → Spot
@@ -39,6 +41,7 @@ spot_of (NotRead name obstacle) = Whole
 spot_of (Texts fault) = spot_in_texts fault
 spot_of (Run fault) = spot_in_run fault
 spot_of (Setup fault) = spot_in_problem fault
+spot_of (NoStepAfter word steps) = NumberAt Steps
 
 -- the fields of a fault: the name of the file, or the place in it
 abbrev pub fields_of : Fault → List ℕ

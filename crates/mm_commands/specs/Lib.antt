@@ -1,3 +1,4 @@
+pub mod Given
 pub mod Reading
 pub mod Statuses
 pub mod Streams

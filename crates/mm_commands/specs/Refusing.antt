@@ -3,7 +3,11 @@ use Rattle.std.specs.Prelude.{◌≡◌, ◌≢◌, ◌⊎◌, ℕ, List, [], �
 use Rattle.std.specs.Io.KnownBytes.{Appends}
 use Rattle.mm_base.specs.Characters.{line_feed}
 use Rattle.mm_base.specs.declared.refusal.Refusal.TheVariants as refusal
-use Rattle.mm_cut.specs.Checking.{IsFaultOf as IsCheckFault}
+use Rattle.mm_problem.specs.Dumping.{Dumping}
+use Rattle.mm_problem.specs.Texts.{SaysProblem}
+use Rattle.mm_plan.specs.Sheet.{SheetRows}
+use Rattle.mm_rest.specs.Rests.{IsKeptStep}
+use Rattle.mm_cut.specs.Checking.{IsFaultOf as IsCheckFault, SaysSheet}
 use Rattle.mm_cut.specs.declared.fault.Fault.TheVariants as check
 use Rattle.mm_planner.specs.PlanTexts.{IsPlanningFault}
 use Rattle.mm_ask.specs.Asking.{IsSetupFault}
@@ -21,11 +25,13 @@ use Rattle.mm_commands.specs.Answers.{Prints, given_plan}
 use Rattle.mm_commands.specs.Faults.{refused_line}
 use Rattle.mm_files.specs.FileNames.{shown_name}
 use Rattle.mm_commands.specs.declared.fault.Fault.{Fault}
-use Rattle.mm_commands.specs.declared.fault.Fault.TheVariants.{NoMemory, Texts, Run, Setup}
+use Rattle.mm_commands.specs.declared.fault.Fault.TheVariants.{NoMemory, Texts, Run, Setup, NoStepAfter}
 use Rattle.mm_commands.specs.declared.texts.TaskTexts.{TaskTexts}
 use Rattle.mm_command_line.specs.Names.{names_in}
 use Rattle.mm_command_line.specs.declared.task.Task.{Task}
-use Rattle.mm_command_line.specs.declared.task.Task.TheVariants.{Plan, Check, Chart, Table, Sensitivity, Fly, Ask}
+use Rattle.mm_command_line.specs.declared.task.KeptSteps.{KeptSteps}
+use Rattle.mm_command_line.specs.declared.task.Task.TheVariants.{Plan, Keep, Check, Chart, Table, Rest, Sensitivity, Fly}
+use Rattle.mm_command_line.specs.declared.task.Task.TheVariants.{Ask}
 
 -- the names of a task's files
 abbrev pub files_of : Task → List (List ℕ)
@@ -36,17 +42,37 @@ abbrev pub IsFlightFault : Option (List ℕ) → TaskTexts → FlightFault → T
 IsFlightFault plan texts e =
     IsFirstFault plan texts.setup.items texts.forecast.items texts.sources.items texts.links.items e
 
+-- the texts say a plan, and the word names no step of it after which another one comes
+pub record HasNoStepAfter (setup forecast plan word : List ℕ) : Type 0 where
+  pub problem : Dumping
+  pub sheet : SheetRows
+  pub says_problem : SaysProblem setup forecast problem
+  pub says_sheet : SaysSheet problem plan sheet
+  pub none : (n : ℕ) → IsKeptStep problem word n → ⊥
+
+-- the first fault of the texts of a problem and a plan, or of the word for a step of it; out of memory may come at any
+-- time
+abbrev pub IsKeptFault : KeptSteps → TaskTexts → Fault → Type 0
+IsKeptFault kept texts NoMemory = Unit {0}
+IsKeptFault kept texts (Texts e) =
+    e ≢ check.NoMemory → IsCheckFault texts.setup.items texts.forecast.items texts.plan.items e
+IsKeptFault kept texts (NoStepAfter word steps) =
+    HasNoStepAfter texts.setup.items texts.forecast.items texts.plan.items kept.last.now
+IsKeptFault kept texts fault = ⊥
+
 -- the task, whose files have these texts, cannot be done: this is their first fault; out of memory may come at any time
 abbrev pub IsFaultIn : Task → TaskTexts → Fault → Type 0
 IsFaultIn task texts NoMemory = Unit {0}
 IsFaultIn (Plan setup forecast in_order output) texts (Texts e) =
     e ≢ check.NoMemory → IsPlanningFault texts.setup.items texts.forecast.items e
+IsFaultIn (Keep kept output) texts fault = IsKeptFault kept texts fault
 IsFaultIn (Check names) texts (Texts e) = e ≢ check.NoMemory
     → IsCheckFault texts.setup.items texts.forecast.items texts.plan.items e
 IsFaultIn (Chart names worth output) texts (Texts e) =
     e ≢ check.NoMemory → IsCheckFault texts.setup.items texts.forecast.items texts.plan.items e
 IsFaultIn (Table names output) texts (Texts e) =
     e ≢ check.NoMemory → IsCheckFault texts.setup.items texts.forecast.items texts.plan.items e
+IsFaultIn (Rest kept output) texts fault = IsKeptFault kept texts fault
 IsFaultIn (Sensitivity setup forecast output) texts (Texts e) =
     e ≢ check.NoMemory → IsPlanningFault texts.setup.items texts.forecast.items e
 IsFaultIn (Fly names) texts (Run e) = e ≢ flight.NoMemory → IsFlightFault (given_plan names.plan texts) texts e

@@ -31,13 +31,36 @@ pub(crate) fn tell_fault<E: Write>(
     found: Option<Found>,
     err: &mut E,
 ) -> io::Result<()> {
-    if let Fault::NotRead { name, obstacle } = fault {
-        writeln!(err, "{}: {obstacle}", Shown(name))?;
-    } else {
-        let (refusal, spot) = (fault.refusal(), fault.spot());
-        tell_refusal(file_of(task, refusal, spot), spot, refusal, err)?;
+    match fault {
+        Fault::NotRead { name, obstacle } => writeln!(err, "{}: {obstacle}", Shown(name))?,
+        Fault::NoStepAfter { word, steps } => tell_step(word, steps, err)?,
+        _ => {
+            let (refusal, spot) = (fault.refusal(), fault.spot());
+            let file = match (task, found) {
+                (Some(task), Some(Found::InForecast(_))) => task.file(Role::Forecast),
+                _ => file_of(task, refusal, spot),
+            };
+            tell_refusal(file, spot, refusal, err)?;
+        }
     }
     tell_hint(found, err)
+}
+
+// Says that the word is no step of a forecast with so many steps after which another one comes.
+fn tell_step<E: Write>(word: &str, steps: u32, err: &mut E) -> io::Result<()> {
+    write!(
+        err,
+        "STEP {}: expected a step that another one follows; ",
+        Shown(word)
+    )?;
+    match steps.saturating_sub(1) {
+        0 => writeln!(err, "the forecast has one step, and nothing comes after it"),
+        1 => writeln!(err, "the forecast has two steps, so give 1"),
+        most => writeln!(
+            err,
+            "the forecast has {steps} steps, so give a number from 1 to {most}"
+        ),
+    }
 }
 
 /// The file of the task that a refusal is about, where it is about one.
@@ -54,6 +77,7 @@ fn role_of(refusal: Refusal, spot: Spot) -> Option<Role> {
         Refusal::Limit if is_column => Some(Role::Forecast),
         Refusal::SetupText | Refusal::SetupField | Refusal::Limit => Some(Role::Setup),
         Refusal::NotReady | Refusal::SizeDiffers | Refusal::ChannelDiffers => Some(Role::Setup),
+        Refusal::NotFlyable => Some(Role::Setup),
         Refusal::ForecastText | Refusal::Header | Refusal::Cell | Refusal::StepNumber => {
             Some(Role::Forecast)
         }

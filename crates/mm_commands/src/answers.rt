@@ -9,22 +9,29 @@ ghost use Rattle.mm_sensitivity.specs.Charts.{ChartsWorth};
 ghost use Rattle.mm_sensitivity.specs.Table.{AreWorths, IsWorthTable};
 ghost use Rattle.mm_chart.specs.Charts.{Charts};
 ghost use Rattle.mm_chart.specs.Table.{IsTableOf};
-ghost use Rattle.mm_commands.specs.Answers.{DrawsPlan, IsAnswerTo, Judges, PlansText, given_plan, goal_of, is_run};
+ghost use Rattle.mm_plan.specs.Table.{HasShape};
+ghost use Rattle.mm_cut.specs.Checking.{SaysSheet};
+ghost use Rattle.mm_rest.specs.Rests.{IsKeptStep};
+ghost use Rattle.mm_commands.specs.Answers.{DrawsPlan, IsAnswerTo, Judges, KeepsSteps, PlansText, TellsRest, given_plan};
+ghost use Rattle.mm_commands.specs.Answers.{goal_of, is_run};
+ghost use Rattle.mm_commands.specs.Given.{IsGiven};
 ghost use Rattle.mm_commands.specs.Answers.{status_in, status_of, status_of_replies};
-ghost use Rattle.mm_commands.specs.Refusing.{IsFaultIn};
+ghost use Rattle.mm_commands.specs.Refusing.{IsFaultIn, IsKeptFault};
+ghost use Rattle.mm_commands.specs.declared.answers.Answer.TheVariants.{Text};
 ghost use Rattle.mm_commands.specs.declared.status.Status.TheVariants.{BadCommandLine};
 
 use crate::fault::Fault;
-use crate::given::{Given, GivenPlan, Notes, read_given, read_given_plan};
+use crate::given::{Given, GivenPlan, KeptLoss, Notes, read_given, read_given_plan};
 use crate::status::Status;
 use crate::texts::TaskTexts;
 use mm_ask::{Outcome, Replies, ask_bytes, read_bytes};
 use mm_base::NoMemory;
 use mm_chart::{Picture, draw};
-use mm_command_line::{FlightPlan, Task};
+use mm_command_line::{FlightPlan, KeptSteps, Task};
 use mm_cut::{Verdict, verdict_line, verdict_of};
 use mm_planner::{Goal, print_plan_for};
 use mm_problem::Problem;
+use mm_rest::{kept_step, rest_script};
 use mm_sensitivity::{Progress, Worth, chart_worths, worths_with_progress};
 use std::alloc::Global;
 
@@ -47,11 +54,31 @@ pub(crate) enum Answer<'a> {
     },
 }
 
-// A text that answers a task, and what in the task's files has no effect.
+// A text that answers a task, and what is said of it.
 #[derive(Drop)]
 struct Noted {
     text: Vec<u8>,
     notes: Notes,
+}
+
+impl Noted {
+    // The answer of this text, which goes into the file of this name or is printed.
+    fn answer<'a>(self, output: Option<&'a str>) -> Answer<'a>
+        ensures { result ≡ Text self.text output.entry self.notes }
+    {
+        Answer::Text {
+            text: self.text,
+            output,
+            notes: self.notes,
+        }
+    }
+}
+
+// The texts of a problem and of a plan for it, and the last step of the plan that is kept.
+#[derive(Drop)]
+struct GivenSteps {
+    given: GivenPlan,
+    last: u32,
 }
 
 // A verdict, its line, and what in the files of its task has no effect.
@@ -105,7 +132,7 @@ fn plan_text(alloc: Global, in_order: bool, texts: &TaskTexts) -> Result<Noted, 
     ensures refused { IfRefused cut_fault.NoMemory result (IsPlanningFault texts.now.setup.items
         texts.now.forecast.items) }
 {
-    let Given { problem, notes } = read_given(alloc, texts)?;
+    let Given { problem, notes, .. } = read_given(alloc, texts)?;
     let goal = goal_of(FlightPlan::Made { in_order });
     let printed = print_plan_for(alloc, &problem, goal)?;
     Ok(Noted {
@@ -125,6 +152,7 @@ fn judge(alloc: Global, texts: &TaskTexts) -> Result<Judged, mm_cut::Fault>
         problem,
         sheet,
         notes,
+        ..
     } = read_given_plan(alloc, texts)?;
     let verdict = verdict_of(&problem, &sheet);
     let line = verdict_line(alloc, verdict)?;
@@ -146,6 +174,7 @@ fn plain_chart(alloc: Global, texts: &TaskTexts) -> Result<Noted, mm_cut::Fault>
         problem,
         sheet,
         notes,
+        ..
     } = read_given_plan(alloc, texts)?;
     let picture = Picture::new(alloc, problem, sheet)?;
     let text = draw(alloc, &picture)?;
@@ -163,6 +192,7 @@ fn worth_chart(alloc: Global, texts: &TaskTexts) -> Result<Noted, mm_cut::Fault>
         problem,
         sheet,
         notes,
+        ..
     } = read_given_plan(alloc, texts)?;
     let worths = chart_worths(alloc, &problem)?;
     let picture = Picture::new(alloc, problem, sheet)?;
@@ -195,6 +225,7 @@ fn table_text(alloc: Global, texts: &TaskTexts) -> Result<Noted, mm_cut::Fault>
         problem,
         sheet,
         notes,
+        ..
     } = read_given_plan(alloc, texts)?;
     let text = mm_chart::table_of(alloc, &problem, sheet.plan())?;
     Ok(Noted { text, notes })
@@ -227,10 +258,72 @@ fn worth_table<P: Progress>(
     ensures refused { IfRefused cut_fault.NoMemory result (IsPlanningFault texts.now.setup.items
         texts.now.forecast.items) }
 {
-    let Given { problem, notes } = read_given(alloc, texts)?;
+    let Given { problem, notes, .. } = read_given(alloc, texts)?;
     let worths = worths_told(alloc, &problem, progress)?;
     let text = mm_sensitivity::table_of(alloc, &problem, worths.as_slice())?;
     Ok(Noted { text, notes })
+}
+
+// Reads the texts of a problem and of a plan for it, and the word for the last step of the plan that is kept.
+fn read_kept<'a>(
+    alloc: Global,
+    kept: KeptSteps<'a>,
+    texts: &TaskTexts,
+) -> Result<GivenSteps, Fault<'a>>
+    ensures given { IfOk result (λ steps. IsGiven texts.now.setup.items texts.now.forecast.items steps.given.setup
+        steps.given.problem) }
+    ensures sheet { IfOk result (λ steps. SaysSheet steps.given.problem texts.now.plan.items steps.given.sheet) }
+    ensures shape { IfOk result (λ steps. HasShape steps.given.problem steps.given.sheet.plan) }
+    ensures step { IfOk result (λ steps. IsKeptStep steps.given.problem kept.entry.last.now steps.last) }
+    ensures refused { IfErr result (IsKeptFault kept.entry texts.now) }
+{
+    let given = read_given_plan(alloc, texts)?;
+    match kept_step(&given.problem, kept.last) {
+        Some(last) => Ok(GivenSteps { given, last }),
+        None => Err(Fault::NoStepAfter {
+            word: kept.last,
+            steps: given.problem.steps(),
+        }),
+    }
+}
+
+// The script of what is left after the first steps of a plan.
+fn rest_text<'a>(alloc: Global, kept: KeptSteps<'a>, texts: &TaskTexts) -> Result<Noted, Fault<'a>>
+    ensures rest { IfOk result (λ noted. TellsRest texts.now.setup.items texts.now.forecast.items texts.now.plan.items
+        kept.entry.last.now noted.text.items) }
+    ensures refused { IfErr result (IsKeptFault kept.entry texts.now) }
+{
+    let GivenSteps { given, last } = read_kept(alloc, kept, texts)?;
+    let GivenPlan {
+        setup,
+        problem,
+        sheet,
+        notes,
+    } = given;
+    let text = rest_script(alloc, &setup, &problem, sheet.plan(), last)?;
+    Ok(Noted { text, notes })
+}
+
+// The text of a plan that keeps the first steps of a plan and loses least after them, and what it loses.
+fn keep_text<'a>(alloc: Global, kept: KeptSteps<'a>, texts: &TaskTexts) -> Result<Noted, Fault<'a>>
+    ensures keeps { IfOk result (λ noted. KeepsSteps texts.now.setup.items texts.now.forecast.items
+        texts.now.plan.items kept.entry.last.now noted.text.items) }
+    ensures refused { IfErr result (IsKeptFault kept.entry texts.now) }
+{
+    let GivenSteps { given, last } = read_kept(alloc, kept, texts)?;
+    let printed = mm_keep::keep_text(alloc, &given.problem, given.sheet.plan(), last)?;
+    let kept = KeptLoss {
+        step: last,
+        loss: printed.sheet.loss(),
+    };
+    let notes = Notes {
+        kept: Some(kept),
+        ..given.notes
+    };
+    Ok(Noted {
+        text: printed.text,
+        notes,
+    })
 }
 
 /// The text of the plan of a run, where it is given.
@@ -269,14 +362,8 @@ pub(crate) fn answer_without_run<'a, P: Progress>(
             in_order,
             output,
             ..
-        } => {
-            let Noted { text, notes } = plan_text(alloc, in_order, texts)?;
-            Ok(Answer::Text {
-                text,
-                output,
-                notes,
-            })
-        }
+        } => Ok(plan_text(alloc, in_order, texts)?.answer(output)),
+        Task::Keep { kept, output } => Ok(keep_text(alloc, kept, texts)?.answer(output)),
         Task::Check(_) => {
             let Judged {
                 verdict,
@@ -289,29 +376,11 @@ pub(crate) fn answer_without_run<'a, P: Progress>(
                 notes,
             })
         }
-        Task::Chart { worth, output, .. } => {
-            let Noted { text, notes } = chart_text(alloc, worth, texts)?;
-            Ok(Answer::Text {
-                text,
-                output,
-                notes,
-            })
-        }
-        Task::Table { output, .. } => {
-            let Noted { text, notes } = table_text(alloc, texts)?;
-            Ok(Answer::Text {
-                text,
-                output,
-                notes,
-            })
-        }
+        Task::Chart { worth, output, .. } => Ok(chart_text(alloc, worth, texts)?.answer(output)),
+        Task::Table { output, .. } => Ok(table_text(alloc, texts)?.answer(output)),
+        Task::Rest { kept, output } => Ok(rest_text(alloc, kept, texts)?.answer(output)),
         Task::Sensitivity { output, .. } => {
-            let Noted { text, notes } = worth_table(alloc, texts, progress)?;
-            Ok(Answer::Text {
-                text,
-                output,
-                notes,
-            })
+            Ok(worth_table(alloc, texts, progress)?.answer(output))
         }
         Task::Ask { .. } => {
             let replies = ask_bytes(alloc, &texts.setup, &texts.packets)?;

@@ -3,12 +3,13 @@ ghost use Rattle.std.specs.Prelude.{◌≡◌, Some};
 ghost use Rattle.mm_commands.specs.Faults.{refusal_of, spot_in_run, spot_of, fault_text};
 ghost use Rattle.mm_commands.specs.declared.fault.Fault.TheVariants.{NoMemory, Texts, Setup};
 
-use crate::remark::{Found, is_plan_misplaced};
+use crate::remark::{Found, is_plan_misplaced, is_size_of_step};
 use crate::spot::spot_in_script;
 use crate::texts::TaskTexts;
-use mm_base::{Refusal, Refused, refusals};
+use mm_base::{Refusal, Refused};
 use mm_command_line::Task;
 use mm_files::{Obstacle, Shown};
+use mm_problem::Name;
 use mm_told::{Reason, Spot, hint_for, spot_in_plan, spot_in_problem, spot_in_texts};
 use std::alloc::Global;
 use std::fmt;
@@ -25,6 +26,8 @@ pub enum Fault<'a> {
     Run(mm_run::Fault),
     /// A fault of the setup of a conversation.
     Setup(mm_problem::Fault),
+    /// The word names no step of the forecast after which another one comes.
+    NoStepAfter { word: &'a str, steps: u32 },
 }
 
 impl From<mm_base::NoMemory> for Fault<'_> {
@@ -53,7 +56,14 @@ impl From<mm_problem::Fault> for Fault<'_> {
 
 impl Refused for Fault<'_> {
     fn refusal(self) -> Refusal {
-        refusals!(self; NoMemory; with NotRead; below Texts, Run, Setup)
+        match self {
+            Fault::NoMemory => Refusal::NoMemory,
+            Fault::NotRead { .. } => Refusal::NotRead,
+            Fault::Texts(fault) => fault.refusal(),
+            Fault::Run(fault) => fault.refusal(),
+            Fault::Setup(fault) => fault.refusal(),
+            Fault::NoStepAfter { .. } => Refusal::Limit,
+        }
     }
 
     ghost refusal_of = { refusal_of };
@@ -80,17 +90,25 @@ impl Fault<'_> {
             Fault::Texts(fault) => spot_in_texts(fault),
             Fault::Run(fault) => spot_in_run(fault),
             Fault::Setup(fault) => spot_in_problem(fault),
+            Fault::NoStepAfter { .. } => Spot::Number(Name::Steps),
         }
     }
 
     /// What is found in the files of the task, if more can be said of the fault.
     pub(crate) fn found(self, alloc: Global, task: Task<'_>, texts: &TaskTexts) -> Option<Found> {
+        // The word for a step stands in no file.
+        if let Fault::NoStepAfter { .. } = self {
+            return None;
+        }
         let (refusal, spot) = (self.refusal(), self.spot());
         if is_plan_misplaced(task, refusal, texts) {
             return Some(Found::PlanMisplaced);
         }
-        let reason = Reason { refusal, spot };
-        Some(Found::Hint(hint_for(alloc, reason, texts.hinted())?))
+        let hint = hint_for(alloc, Reason { refusal, spot }, texts.hinted())?;
+        if is_size_of_step(alloc, refusal, spot, &texts.setup) {
+            return Some(Found::InForecast(hint));
+        }
+        Some(Found::Hint(hint))
     }
 }
 

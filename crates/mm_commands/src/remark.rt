@@ -3,7 +3,7 @@
 use crate::advice::{file_of, tell_refusal};
 use crate::answers::Answer;
 use crate::compare::tell_losses;
-use crate::given::Notes;
+use crate::given::{KeptLoss, Notes, Unused};
 use crate::halt::tell_halt;
 use crate::texts::TaskTexts;
 use mm_ask::{MOST_KEPT, Place, Replies};
@@ -11,11 +11,11 @@ use mm_base::{Refusal, Refused};
 use mm_command_line::{Role, Task};
 use mm_cut::Verdict;
 use mm_files::Shown;
-use mm_problem::{Problem, Setup};
+use mm_problem::{Name, Problem, Setup};
 use mm_run::{Cause, Given, Outcome, Printed, Unstored, Untaken};
 use mm_told::{
-    EndsHint, Hint, RequestHints, Spot, Texts, Words, fit_hint, notes_on, opening_hint,
-    packets_hint, refusal_numbered, verdict_hint,
+    EndsHint, Hint, RequestHints, Spot, Texts, Words, fit_hint, flyable_hint, notes_on,
+    opening_hint, packets_hint, refusal_numbered, verdict_hint,
 };
 use std::alloc::Global;
 use std::fmt;
@@ -31,13 +31,15 @@ pub(crate) enum Found {
     /// A plan text stands where the setup or the forecast is to stand.
     PlanMisplaced,
     Hint(Hint),
+    /// Something in the forecast, where the refusal may be one of the setup too.
+    InForecast(Hint),
 }
 
 impl fmt::Display for Found {
     fn fmt<W: fmt::Write>(&self, f: &mut fmt::Formatter<W>) -> fmt::Result {
         match self {
             Found::PlanMisplaced => f.write_str(PLAN_MISPLACED),
-            Found::Hint(hint) => write!(f, "{hint}"),
+            Found::Hint(hint) | Found::InForecast(hint) => write!(f, "{hint}"),
         }
     }
 }
@@ -53,6 +55,12 @@ pub(crate) fn is_plan_misplaced(task: Task<'_>, refusal: Refusal, texts: &TaskTe
     task.file(Role::Plan).is_some() && text.starts_with(b"mmplan ")
 }
 
+/// Whether the refusal is of a size in the forecast: it is not one of the setup, which can be read.
+pub(crate) fn is_size_of_step(alloc: Global, refusal: Refusal, spot: Spot, setup: &[u8]) -> bool {
+    let is_size = matches!(spot, Spot::Number(Name::Size));
+    refusal == Refusal::Limit && is_size && Setup::read(alloc, setup).is_ok()
+}
+
 /// Says what is found, if anything is.
 pub(crate) fn tell_hint<T: fmt::Display + Drop, E: Write>(
     hint: Option<T>,
@@ -65,13 +73,25 @@ pub(crate) fn tell_hint<T: fmt::Display + Drop, E: Write>(
 }
 
 // Says what in the setup and the forecast of a task has no effect.
-fn tell_notes<E: Write>(notes: &Notes, err: &mut E) -> io::Result<()> {
-    if let Ok(notes) = notes {
+fn tell_unused<E: Write>(unused: &Unused, err: &mut E) -> io::Result<()> {
+    if let Ok(notes) = unused {
         for note in notes {
             writeln!(err, "note: {note}")?;
         }
     }
     Ok(())
+}
+
+// Says what is noted of a task that is done.
+fn tell_notes<E: Write>(notes: &Notes, err: &mut E) -> io::Result<()> {
+    tell_unused(&notes.unused, err)?;
+    match notes.kept {
+        Some(KeptLoss { step, loss }) => writeln!(
+            err,
+            "note: the plan loses {loss}; no plan that fits with the same steps up to {step} loses fewer"
+        ),
+        None => Ok(()),
+    }
 }
 
 // Says what a verdict means: the file of the plan, the place in it, and the words. `Least` and `LeastInOrder` have no
@@ -109,6 +129,7 @@ fn hint_of(alloc: Global, cause: &Cause, given: &Given, texts: Texts<'_>) -> Opt
             opening_hint(alloc, texts.setup, *store, given.opening)
         }
         Cause::PlanDoesNotFit { step } => fit_hint(alloc, texts, *step),
+        Cause::NotFlyable => flyable_hint(texts),
         Cause::Counts => Some(Hint::Ends(EndsHint::of_counts(given.sources, given.links))),
         _ => None,
     }
@@ -282,7 +303,7 @@ pub(crate) fn tell_more<E: Write>(
 }
 
 // What in the setup and the forecast of a run has no effect.
-fn notes_of_run(alloc: Global, texts: Texts<'_>) -> Notes {
+fn notes_of_run(alloc: Global, texts: Texts<'_>) -> Unused {
     let Ok(setup) = Setup::read(alloc, texts.setup) else {
         return Ok(Vec::new(alloc));
     };
@@ -304,7 +325,7 @@ pub(crate) fn tell_run<E: Write>(
     let texts = texts.hinted();
     let (refusal, hint) = match &printed.outcome {
         Outcome::CarriedOut => {
-            tell_notes(&notes_of_run(alloc, texts), err)?;
+            tell_unused(&notes_of_run(alloc, texts), err)?;
             return tell_unstored(&printed.given, err);
         }
         Outcome::Unreported => (Refusal::NoMemory, None),
@@ -315,6 +336,7 @@ pub(crate) fn tell_run<E: Write>(
     };
     let file = match hint {
         Some(Hint::Ends(EndsHint::Links { .. })) => task.file(Role::Links),
+        Some(Hint::Ends(EndsHint::Sized { .. })) => task.file(Role::Forecast),
         _ => file_of(Some(task), refusal, Spot::Whole),
     };
     tell_refusal(file, Spot::Whole, refusal, err)?;

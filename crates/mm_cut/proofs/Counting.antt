@@ -14,6 +14,7 @@ use Rattle.mm_plan.specs.declared.stretch.Stretch.{Stretch}
 use Rattle.mm_cut.specs.Stretches.{covers, goes_past, IsStretch, AreStretches}
 use Rattle.mm_cut.specs.Counts.{IsCounted, AreCounted}
 use Rattle.mm_cut.specs.Cuts.{CutsAreFew}
+use Rattle.mm_cut.proofs.StretchLosses.{inner_end-le}
 use Rattle.mm_cut.proofs.Exchange.{by_store}
 
 -- how many steps a stretch has
@@ -52,23 +53,32 @@ pub few_stretches : (q : Dumping) (ds : List Stretch) → IsDumping q → AreStr
 few_stretches q ds is are =
     omega (arith, length-stretches q ds are, mul-le-mul is.steps.at_most is.stores.at_most)
 
--- an inner step is not the last one
-inner_within : (q : Dumping) (ds : List Stretch) (t : ℕ) → AreStretches q ds → IsCounted q ds t → t < length q.windows
+-- an inner step is one of the steps
+inner_within : (q : Dumping) (ds : List Stretch) (t : ℕ) → AreStretches q ds → IsCounted q ds t
+    → (1 ≤ t) × (t ≤ length q.windows)
 inner_within q ds t are is =
-    let some = Any-from_list_any (goes_past t) ds is.inner in
-    let last : (get_or ds some.0 some.1).last ≤ length q.windows = (are.each some.0 some.1 some.2).last in
+    let some = Any-from_list_any (goes_past q t) ds is.inner in
+    let here = are.each some.0 some.1 some.2 in
+    let first : 1 ≤ (get_or ds some.0 some.1).first = here.first in
+    let last : (get_or ds some.0 some.1).last ≤ length q.windows = here.last in
+    let begins : (get_or ds some.0 some.1).first ≡ some.1.first = ap (λ d. d.first) some.3 in
     let same : (get_or ds some.0 some.1).last ≡ some.1.last = ap (λ d. d.last) some.3 in
     let passed = some.4 in
-    grind (arith, nat_tests)
+    let end = inner_end-le q.come some.1 in
+    (grind (arith, nat_tests), grind (arith, nat_tests))
 
 -- no more counted steps than steps
-pub length-counted : (q : Dumping) (ds : List Stretch) (ts : List ℕ) → AreStretches q ds → AreCounted q ds ts → length ts ≤ length q.windows
+pub length-counted : (q : Dumping) (ds : List Stretch) (ts : List ℕ) → AreStretches q ds → AreCounted q ds ts
+    → length ts ≤ length q.windows
 length-counted q ds ts are counted =
+    let at = λ (k d : ℕ) (inside : k < length ts). inner_within q ds (get_or ts k d) are (counted.each k d inside) in
     let places =
-    sum_by-le_places (λ _. 1) (λ _. true) (λ t. t) (length q.windows) ts
-    (λ k d inside _. inner_within q ds (get_or ts k d) are (counted.each k d inside))
-    (λ i j d before inside _ _. counted.once i j d before inside) in
-    let all_steps = sum_by_ones (range_with_len 0 (length q.windows)) ∙ length-range_with_len 0 (length q.windows) in
+    sum_by-le_places (λ _. 1) (λ _. true) (λ t. t - 1) (length q.windows) ts
+    (λ k d inside _. let is = at k d inside in omega (arith, is.0, is.1))
+    (λ i j d before inside _ _ same. counted.once i j d before inside
+    (let first = at i d (omega arith) in let later = at j d inside in omega (arith, first.0, later.0, same))) in
+    let all_steps = sum_by_ones (range_with_len 0 (length q.windows))
+    ∙ length-range_with_len 0 (length q.windows) in
     omega (arith, places, sum_by_ones ts, all_steps)
 
 pub cuts_are_few : CutsAreFew

@@ -21,7 +21,7 @@ use Rattle.mm_plan.specs.declared.stretch.Stretch.{Stretch}
 use Rattle.mm_cut.specs.Stretches.{store_of, channel_of, covers, goes_past, goes_past_on, is_inner, is_inner_on, IsStretch, AreApart, AreStretches}
 use Rattle.mm_cut.specs.Counts.{is_listed, IsLimited, IsCounted, AreCounted}
 use Rattle.mm_cut.specs.Cuts.{limit_or_0, limit_sum, leaving, leaving_sum}
-use Rattle.mm_cut.proofs.StretchLosses.{lost_in, leaves_in}
+use Rattle.mm_cut.proofs.StretchLosses.{inner_end-le, lost_in, leaves_in}
 
 -- two identifiers with one place among the stores are one
 same_place : (q : Dumping) (a b : List ℕ) → place q a < length q.rows → place q a ≡ place q b → a ≡ b
@@ -31,8 +31,8 @@ same_place q a b within same =
     sym at_a ∙ ap (λ s. (get_or q.rows s no_row).id) same ∙ at_b
 
 -- an inner step of a stretch is one of its steps
-covers_inner : (t : ℕ) (d : Stretch) → goes_past t d ≡ true → covers d t ≡ true
-covers_inner t d inner = grind (arith, nat_tests)
+covers_inner : (q : Dumping) (t : ℕ) (d : Stretch) → goes_past q t d ≡ true → covers d t ≡ true
+covers_inner q t d inner = let end = inner_end-le q.come d in grind (arith, nat_tests)
 
 -- two stretches that share a step have stores of their own
 other_stores : (q : Dumping) (d e : Stretch) (t : ℕ) → IsStretch q d → AreApart d e → covers d t ≡ true → covers e t ≡ true → store_of q d ≢ store_of q e
@@ -87,18 +87,18 @@ module _ (q : Dumping) (x : Amounts) (ds : List Stretch) (are : AreStretches q d
       omega (arith, each, sum_by-swap (lost_in q x) ds (steps q), sum_by-swap (lost q x) (range_with_len 0 n) (steps q))
 
   -- in a step that is inner in no stretch, nothing leaves inner stores
-  leaves_in_none : (t : ℕ) → is_inner ds t ≡ false → sum_by (leaves_in q x t) ds ≡ 0
+  leaves_in_none : (t : ℕ) → is_inner q ds t ≡ false → sum_by (leaves_in q x t) ds ≡ 0
   leaves_in_none t none =
       sum_by_zeros (leaves_in q x t) ds
-      (λ k d inside. elim (cases_Bool (goes_past t (get_or ds k d))) [
-        | inl inner ↦ absurd (both_ways (is_inner ds t) none (list_any_at (goes_past t) ds k d inside inner))
+      (λ k d inside. elim (cases_Bool (goes_past q t (get_or ds k d))) [
+        | inl inner ↦ absurd (both_ways (is_inner q ds t) none (list_any_at (goes_past q t) ds k d inside inner))
         | inr outer ↦ rw outer refl
       ])
 
   -- what leaves inner stores in a step is within its window
   leaves_in_window : (t : ℕ) → FitsAt q x t → sum_by (leaves_in q x t) ds ≤ window q t
   leaves_in_window t fits =
-      omega (arith, fits.windowed, by_store q ds t (in_step x t) (goes_past t) are (covers_inner t))
+      omega (arith, fits.windowed, by_store q ds t (in_step x t) (goes_past q t) are (covers_inner q t))
 
   -- what is to leave a store in the step, where it is of the channel
   abbrev of_channel : ℕ → ℕ → ℕ → ℕ
@@ -114,7 +114,7 @@ module _ (q : Dumping) (x : Amounts) (ds : List Stretch) (are : AreStretches q d
       sum_by_zeros (leaves_on t c) ds
       (λ k d inside.
       let e : Stretch = get_or ds k d in
-      passes_neither (goes_past t e) (eqb (channel_of q e) c) (x (store_of q e) t)
+      passes_neither (goes_past q t e) (eqb (channel_of q e) c) (x (store_of q e) t)
       (λ on. both_ways (is_inner_on q ds t c) none (list_any_at (goes_past_on q t c) ds k d inside on)))
 
   -- what leaves the inner stores of a channel is at most what leaves all its stores
@@ -124,17 +124,17 @@ module _ (q : Dumping) (x : Amounts) (ds : List Stretch) (are : AreStretches q d
       sum_by-le_each (leaves_on t c) (λ d. cond (goes_past_on q t c d) (of_channel t c (store_of q d)) 0) ds
       (λ k d inside.
       let e : Stretch = get_or ds k d in
-      passes_both (goes_past t e) (eqb (channel_of q e) c) (x (store_of q e) t)) in
+      passes_both (goes_past q t e) (eqb (channel_of q e) c) (x (store_of q e) t)) in
       let all_stores =
       by_store q ds t (of_channel t c) (goes_past_on q t c) are
-      (λ d on. covers_inner t d (and_parts (goes_past t d) (eqb (channel_of q d) c) on).0) in
+      (λ d on. covers_inner q t d (and_parts (goes_past q t d) (eqb (channel_of q d) c) on).0) in
       omega (arith, each, all_stores, sum_by-filter (in_step x t) (is_of q c) (stores q))
 
   -- a channel of an inner store has a limit, where each has one
   pub inner_has_limit : (t c : ℕ) → All (IsLimited q t) ds → is_inner_on q ds t c ≡ true → IsSome (limit q c t)
   inner_has_limit t c limited inner =
       let some = Any-from_list_any (goes_past_on q t c) ds inner in
-      let on = and_parts (goes_past t some.1) (eqb (channel_of q some.1) c) some.4 in
+      let on = and_parts (goes_past q t some.1) (eqb (channel_of q some.1) c) some.4 in
       let has_limit = All-contains (IsLimited q t) ds some.1 limited (some.0, some.2, some.3) on.0 in
       subst (λ k. IsSome (limit q k t)) (eqb-true (channel_of q some.1) c on.1) has_limit
 
@@ -157,7 +157,7 @@ module _ (q : Dumping) (x : Amounts) (ds : List Stretch) (are : AreStretches q d
       sum_by-le_groups (leaves_in q x t) (channel_of q) (length q.limits) ds
       (λ k d inside some.
       let e : Stretch = get_or ds k d in
-      limit_within q (channel_of q e) t (limited k d inside (true-from_cond (goes_past t e) (x (store_of q e) t) some))) in
+      limit_within q (channel_of q e) t (limited k d inside (true-from_cond (goes_past q t e) (x (store_of q e) t) some))) in
       let each =
       sum_by_range-le (λ c. sum_by (leaves_on t c) ds) (λ c. cond (is_inner_on q ds t c) (limit_or_0 q t c) 0)
       0 (length q.limits) (λ c _ _. leaves_on_limit t c fits limited) in
@@ -173,8 +173,8 @@ module _ (q : Dumping) (x : Amounts) (ds : List Stretch) (are : AreStretches q d
   leaves_in_step : (ts : List ℕ) (t : ℕ)
       → FitsAt q x t
       → AreCounted q ds ts
-      → sum_by (leaves_in q x t) ds ≤ cond (is_inner ds t) (leaving q ds ts t) 0
-  leaves_in_step ts t fits counted = elim (cases_Bool (is_inner ds t)) [
+      → sum_by (leaves_in q x t) ds ≤ cond (is_inner q ds t) (leaving q ds ts t) 0
+  leaves_in_step ts t fits counted = elim (cases_Bool (is_inner q ds t)) [
     | inr none ↦ rw none (omega (arith, leaves_in_none t none))
     | inl inner ↦ rw inner (elim (cases_Bool (is_listed ts t)) [
       | inl listed ↦ rw listed (leaves_in_limits t fits (listed_is_counted ts t counted listed).limited)
@@ -189,7 +189,7 @@ module _ (q : Dumping) (x : Amounts) (ds : List Stretch) (are : AreStretches q d
       → sum_by (λ d. sum_by (λ t. leaves_in q x t d) (steps q)) ds ≤ leaving_sum q ds ts
   leaves_in_all ts fits counted =
       let each =
-      sum_by_range-le (λ t. sum_by (leaves_in q x t) ds) (λ t. cond (is_inner ds t) (leaving q ds ts t) 0)
+      sum_by_range-le (λ t. sum_by (leaves_in q x t) ds) (λ t. cond (is_inner q ds t) (leaving q ds ts t) 0)
       1 (length q.windows) (λ t first last. leaves_in_step ts t (fits t first (omega arith)) counted) in
       let swapped = sum_by-swap (λ d t. leaves_in q x t d) ds (steps q) in
-      omega (arith, each, swapped, sum_by-filter (leaving q ds ts) (is_inner ds) (steps q))
+      omega (arith, each, swapped, sum_by-filter (leaving q ds ts) (is_inner q ds) (steps q))

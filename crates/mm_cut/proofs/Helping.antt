@@ -1,17 +1,17 @@
 -- Only what a cut counts can lower its bound.
-use Rattle.std.proofs.Common.{◌≡◌, ℕ, ◌≤◌, Bool, true, false, cond, eqb, List, length, get_or, All, refl, sym, ap, subst, inl, inr, arith}
-use Rattle.std.specs.Prelude.{IsSome, filter, ◌≤ℤ◌}
-use Rattle.std.specs.List.{sum_by, range_with_len}
+use Rattle.std.proofs.Common.{◌≡◌, ℕ, ◌≤◌, Bool, true, false, cond, eqb, ◌&&◌, not, List, length, get_or, All, refl, sym, ap, ◌∙◌, subst, inl, inr, arith}
+use Rattle.std.specs.Prelude.{IsSome, filter, nat_le, nat_lt, ◌≤ℤ◌}
+use Rattle.std.specs.List.{sum_by, list_any, range_with_len}
 use Rattle.std.proofs.lemmas.Bool.{cases_Bool, and_parts, eqb-true}
 use Rattle.std.proofs.lemmas.Bool.Decides.{nat_tests}
 use Rattle.std.proofs.lemmas.Int.{ints}
 use Rattle.std.proofs.lemmas.List.Folds.{Any-from_list_any, list_any_at}
-use Rattle.std.proofs.lemmas.List.Elements.{All-contains}
+use Rattle.std.proofs.lemmas.List.Elements.{All-contains, filter_agree}
 use Rattle.mm_base.proofs.Sums.{sum_by-le_each, sum_by-filter}
 use Rattle.mm_base.proofs.RangeSums.{sum_by_range-le}
-use Rattle.mm_problem.specs.Dumping.{Dumping, start, limit, arrivals, channels}
+use Rattle.mm_problem.specs.Dumping.{Dumping, start, limit, arrivals, steps, channels}
 use Rattle.mm_plan.specs.declared.stretch.Stretch.{Stretch}
-use Rattle.mm_cut.specs.Stretches.{store_of, channel_of, covers, goes_past, goes_past_on, is_inner, is_inner_on, IsStretch}
+use Rattle.mm_cut.specs.Stretches.{store_of, channel_of, covers, inner_end, goes_past, goes_past_on, is_inner, is_inner_on, IsStretch}
 use Rattle.mm_cut.specs.Counts.{is_listed, IsLimited, IsCounted}
 use Rattle.mm_cut.specs.Cuts.{IsCut, coming, coming_sum, held, held_sum, limit_or_0, limit_sum, leaving, leaving_sum, counts_window, bound}
 use Rattle.mm_cut.specs.Changes.{ChangesStretch, HelpsNowhere, AgreeInCut, CutsCountAlike, OnlyCountedHelps}
@@ -28,6 +28,15 @@ pub sum_by_passing-le : (p : ℕ → Bool) (f g : ℕ → ℕ) (a m n : ℕ) →
 sum_by_passing-le p f g a m n same each =
     let all = sum_by_range-le (λ t. cond (p t) (f t) 0) (λ t. cond (p t) (g t) 0) a m (λ t _ _. cond-le (p t) (f t) (g t) (each t)) in
     rw same (omega (arith, all, sum_by-filter f p (range_with_len a m), sum_by-filter g p (range_with_len a m)))
+
+-- where arrivals come at the same time, a stretch goes past the same steps
+same_past : (q r : Dumping) → r.come ≡ q.come → (t : ℕ) (d : Stretch) → goes_past r t d ≡ goes_past q t d
+same_past q r same t d = ap (λ come. nat_le d.first t && nat_lt t (inner_end come d)) same
+
+-- and the same steps are inner
+same_inner : (q r : Dumping) → r.come ≡ q.come → (ds : List Stretch) (t : ℕ) → is_inner r ds t ≡ is_inner q ds t
+same_inner q r same ds t =
+    ap (λ come. list_any (λ (d : Stretch). nat_le d.first t && nat_lt t (inner_end come d)) ds) same
 
 module _ (q r : Dumping) (ds : List Stretch) (ts : List ℕ) (cut : IsCut q ds ts) (h : HelpsNowhere q r ds ts) where
   -- no less comes in over a stretch
@@ -48,10 +57,11 @@ module _ (q r : Dumping) (ds : List Stretch) (ts : List ℕ) (cut : IsCut q ds t
   same_channels : (t c : ℕ) → is_listed ts t ≡ true → is_inner_on r ds t c ≡ true → is_inner_on q ds t c ≡ true
   same_channels t c listed inner =
       let some = Any-from_list_any (goes_past_on r t c) ds inner in
-      let on = and_parts (goes_past t some.1) (eqb (channel_of r some.1) c) some.4 in
+      let on = and_parts (goes_past r t some.1) (eqb (channel_of r some.1) c) some.4 in
+      let past : goes_past q t some.1 ≡ true = sym (same_past q r h.come t some.1) ∙ on.0 in
       let is = All-contains (ChangesStretch ◌≤◌ q r ts) ds some.1 h.stretches (some.0, some.2, some.3) in
-      let same = is.channel t listed on.0 in
-      let there : goes_past_on q t c some.1 ≡ true = rw (on.0, sym same) on.1 in
+      let same = is.channel t listed past in
+      let there : goes_past_on q t c some.1 ≡ true = rw (past, sym same) on.1 in
       list_any_at (goes_past_on q t c) ds some.0 some.1 some.2 (rw some.3 there)
 
   -- no more leaves by the limits that count in a step
@@ -67,14 +77,19 @@ module _ (q r : Dumping) (ds : List Stretch) (ts : List ℕ) (cut : IsCut q ds t
       omega (arith, of_r, all, sum_by-filter (limit_or_0 r t) (is_inner_on r ds t) (channels q), sum_by-filter (limit_or_0 q t) (is_inner_on q ds t) (channels q))
 
   -- no more leaves in an inner step
-  leaving-less : (t : ℕ) → is_inner ds t ≡ true → leaving r ds ts t ≤ leaving q ds ts t
+  leaving-less : (t : ℕ) → is_inner q ds t ≡ true → leaving r ds ts t ≤ leaving q ds ts t
   leaving-less t inner = elim (cases_Bool (is_listed ts t)) [
     | inl listed ↦ rw listed (limit_sum-less t listed)
-    | inr other ↦ let counts : counts_window ds ts t ≡ true = rw (inner, other) refl in rw other (h.windows t counts)
+    | inr other ↦ let counts : counts_window q ds ts t ≡ true = rw (inner, other) refl in rw other (h.windows t counts)
   ]
 
   leaving_sum-less : leaving_sum r ds ts ≤ leaving_sum q ds ts
-  leaving_sum-less = sum_by_passing-le (is_inner ds) (leaving r ds ts) (leaving q ds ts) 1 (length r.windows) (length q.windows) (sym h.steps) leaving-less
+  leaving_sum-less =
+      let same : leaving_sum r ds ts ≡ sum_by (leaving r ds ts) (filter (is_inner q ds) (steps r)) =
+      ap (sum_by (leaving r ds ts)) (filter_agree (is_inner r ds) (is_inner q ds) (same_inner q r h.come ds) (steps r)) in
+      let all = sum_by_passing-le (is_inner q ds) (leaving r ds ts) (leaving q ds ts) 1 (length r.windows)
+      (length q.windows) (sym h.steps) leaving-less in
+      omega (arith, same, all)
 
   -- the bound is no lower
   pub bound-more : bound q ds ts ≤ℤ bound r ds ts
@@ -84,8 +99,9 @@ module _ (q r : Dumping) (ds : List Stretch) (ts : List ℕ) (cut : IsCut q ds t
   limited_at : (t : ℕ) → is_listed ts t ≡ true → All (IsLimited r t) ds
   limited_at t listed k d inside inner =
       let e : Stretch = get_or ds k d in
-      let same = (h.stretches k d inside).channel t listed inner in
-      let on : goes_past_on q t (channel_of q e) e ≡ true = rw inner (grind (arith, nat_tests)) in
+      let past : goes_past q t e ≡ true = sym (same_past q r h.come t e) ∙ inner in
+      let same = (h.stretches k d inside).channel t listed past in
+      let on : goes_past_on q t (channel_of q e) e ≡ true = rw past (grind (arith, nat_tests)) in
       let there = list_any_at (goes_past_on q t (channel_of q e)) ds k d inside on in
       subst (λ c. IsSome (limit r c t)) (sym same) (h.limited t (channel_of q e) listed there)
 
@@ -94,7 +110,7 @@ module _ (q r : Dumping) (ds : List Stretch) (ts : List ℕ) (cut : IsCut q ds t
       let t : ℕ = get_or ts k d in
       let self : eqb t t ≡ true = grind (arith, nat_tests) in
       let listed : is_listed ts t ≡ true = list_any_at (λ j. eqb j t) ts k d inside self in
-      record { inner = (cut.counted.each k d inside).inner; limited = limited_at t listed }
+      record { inner = same_inner q r h.come ds t ∙ (cut.counted.each k d inside).inner; limited = limited_at t listed }
 
   stretches_too : All (IsStretch r) ds
   stretches_too k d inside =
@@ -115,6 +131,7 @@ only_counted_helps q r ds ts x cut h fits =
 -- where they agree, the one helps nowhere ..
 agree_forth : (q r : Dumping) (ds : List Stretch) (ts : List ℕ) → AgreeInCut q r ds ts → HelpsNowhere q r ds ts
 agree_forth q r ds ts h = record {
+  come = h.come;
   steps = h.steps;
   channels = h.channels;
   stretches = λ k d inside.
@@ -137,6 +154,7 @@ agree_back q r ds ts cut h =
     let inner_too : (t c : ℕ) → is_listed ts t ≡ true → is_inner_on r ds t c ≡ true → is_inner_on q ds t c ≡ true =
     same_channels q r ds ts cut (agree_forth q r ds ts h) in
     record {
+      come = sym h.come;
       steps = sym h.steps;
       channels = sym h.channels;
       stretches = λ k d inside.
@@ -146,9 +164,9 @@ agree_back q r ds ts cut h =
             start = λ first. omega (arith, is.start first);
             arrivals = λ t at. omega (arith, is.arrivals t at);
             size = omega (arith, is.size);
-            channel = λ t listed inner. sym (is.channel t listed inner);
+            channel = λ t listed inner. sym (is.channel t listed (sym (same_past q r h.come t (get_or ds k d)) ∙ inner));
           };
-      windows = λ t at. omega (arith, h.windows t at);
+      windows = λ t at. omega (arith, h.windows t (ap (λ b. b && not (is_listed ts t)) (sym (same_inner q r h.come ds t)) ∙ at));
       limited = λ t c listed inner.
           let counted = listed_is_counted q (λ _ _. 0) ds cut.stretches ts t cut.counted listed in
           inner_has_limit q (λ _ _. 0) ds cut.stretches t c counted.limited (inner_too t c listed inner);

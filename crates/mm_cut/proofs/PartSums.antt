@@ -9,4 +9,4 @@ use Rattle.mm_cut.specs.Cuts.{limit_sum, leaving_sum, windows_sum, limits_sum}
 
 -- what may leave in inner steps leaves by windows or by limits
 pub leaving_sum_parts : (q : Dumping) (ds : List Stretch) (ts : List ℕ) → leaving_sum q ds ts ≡ windows_sum q ds ts + limits_sum q ds ts
-leaving_sum_parts q ds ts = sum_by-filter_parts (is_inner ds) (is_listed ts) (limit_sum q ds) (window q) (steps q)
+leaving_sum_parts q ds ts = sum_by-filter_parts (is_inner q ds) (is_listed ts) (limit_sum q ds) (window q) (steps q)

@@ -14,17 +14,18 @@ pub record ChangesStretch (R : ℕ → ℕ → Type 0) (q r : Dumping) (ts : Lis
   pub store : store_of r d < length r.rows
   pub start : d.first ≡ 1 → R (start q (store_of q d)) (start r (store_of r d))
   pub arrivals : (t : ℕ) → IsTrue (covers d t) → R (arrivals q (store_of q d) t) (arrivals r (store_of r d) t)
-  pub size : R (size r (store_of r d)) (size q (store_of q d))
+  pub size : R (size r (store_of r d) d.last) (size q (store_of q d) d.last)
   -- where a step of it is counted by channels, it has the same channel
-  pub channel : (t : ℕ) → IsTrue (is_listed ts t) → IsTrue (goes_past t d) → channel_of r d ≡ channel_of q d
+  pub channel : (t : ℕ) → IsTrue (is_listed ts t) → IsTrue (goes_past q t d) → channel_of r d ≡ channel_of q d
 
 -- what a cut counts of a problem, in R from q to r; nothing is said of what it does not count
 pub record Changes (R : ℕ → ℕ → Type 0) (q r : Dumping) (ds : List Stretch) (ts : List ℕ) : Type 0 where
+  pub come : r.come ≡ q.come
   pub steps : length r.windows ≡ length q.windows
   pub channels : length r.limits ≡ length q.limits
   pub stretches : All (ChangesStretch R q r ts) ds
   -- the windows of the inner steps that count by their windows
-  pub windows : (t : ℕ) → IsTrue (counts_window ds ts t) → R (window r t) (window q t)
+  pub windows : (t : ℕ) → IsTrue (counts_window q ds ts t) → R (window r t) (window q t)
   -- in the steps that count by channels, the limits of the channels of the stores that are inner there
   pub limited : (t c : ℕ) → IsTrue (is_listed ts t) → IsTrue (is_inner_on q ds t c) → IsSome (limit r c t)
   pub limits : (t c : ℕ) → IsTrue (is_listed ts t) → IsTrue (is_inner_on q ds t c) → R (limit_or_0 r t c) (limit_or_0 q t c)

@@ -11,11 +11,11 @@ is_listed ts t = list_any (λ k. k == t) ts
 
 -- where the step is inner in the stretch, the channel of its store has a limit in it
 abbrev pub IsLimited : Dumping → ℕ → Stretch → Type 0
-IsLimited q t d = IsTrue (goes_past t d) → IsSome (limit q (channel_of q d) t)
+IsLimited q t d = IsTrue (goes_past q t d) → IsSome (limit q (channel_of q d) t)
 
 -- an inner step that can be counted by channels: each store that is inner in it has a channel with a limit in it
 pub record IsCounted (q : Dumping) (ds : List Stretch) (t : ℕ) : Type 0 where
-  pub inner : IsTrue (is_inner ds t)
+  pub inner : IsTrue (is_inner q ds t)
   pub limited : All (IsLimited q t) ds
 
 -- such a step that is none of the earlier ones

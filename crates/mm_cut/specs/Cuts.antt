@@ -22,9 +22,9 @@ opening q d = if d.first == 1 then start q (store_of q d) else 0
 abbrev pub coming : Dumping → Stretch → ℕ
 coming q d = opening q d + sum_by (arrivals q (store_of q d)) (filter (covers d) (steps q))
 
--- the most that it holds once the last step's arrivals have come
+-- the most that it holds in its last step
 abbrev pub held : Dumping → Stretch → ℕ
-held q d = size q (store_of q d)
+held q d = size q (store_of q d) d.last
 
 -- the limit in a step of a channel, 0 where it has none
 abbrev pub limit_or_0 : Dumping → ℕ → ℕ → ℕ
@@ -40,23 +40,23 @@ leaving q ds ts t = if is_listed ts t then limit_sum q ds t else window q t
 
 -- what may leave in all inner steps, each step once
 abbrev pub leaving_sum : Dumping → List Stretch → List ℕ → ℕ
-leaving_sum q ds ts = sum_by (leaving q ds ts) (filter (is_inner ds) (steps q))
+leaving_sum q ds ts = sum_by (leaving q ds ts) (filter (is_inner q ds) (steps q))
 
 -- whether a step counts by its window: it is inner, and not counted by channels
-abbrev pub counts_window : List Stretch → List ℕ → ℕ → Bool
-counts_window ds ts t = is_inner ds t && not (is_listed ts t)
+abbrev pub counts_window : Dumping → List Stretch → List ℕ → ℕ → Bool
+counts_window q ds ts t = is_inner q ds t && not (is_listed ts t)
 
 -- whether it counts by the limits of channels
-abbrev pub counts_limits : List Stretch → List ℕ → ℕ → Bool
-counts_limits ds ts t = is_inner ds t && is_listed ts t
+abbrev pub counts_limits : Dumping → List Stretch → List ℕ → ℕ → Bool
+counts_limits q ds ts t = is_inner q ds t && is_listed ts t
 
 -- what may leave in the steps that count by their windows
 abbrev pub windows_sum : Dumping → List Stretch → List ℕ → ℕ
-windows_sum q ds ts = sum_by (window q) (filter (counts_window ds ts) (steps q))
+windows_sum q ds ts = sum_by (window q) (filter (counts_window q ds ts) (steps q))
 
 -- what may leave in the steps that count by the limits of channels
 abbrev pub limits_sum : Dumping → List Stretch → List ℕ → ℕ
-limits_sum q ds ts = sum_by (limit_sum q ds) (filter (counts_limits ds ts) (steps q))
+limits_sum q ds ts = sum_by (limit_sum q ds) (filter (counts_limits q ds ts) (steps q))
 
 -- what comes in over all stretches
 abbrev pub coming_sum : Dumping → List Stretch → ℕ

@@ -1,6 +1,8 @@
 -- The stretches of a cut: runs of steps of one store each, both ends included.
-use Rattle.std.specs.Prelude.{◌≡◌, ℕ, ◌<◌, ◌≤◌, Bool, ◌&&◌, ◌==◌, nat_le, nat_lt, List, length, All, AllPairs, ◌⊎◌}
+use Rattle.std.specs.Prelude.{◌≡◌, ℕ, ◌+◌, ◌<◌, ◌≤◌, Bool, ◌&&◌, ◌==◌, nat_le, nat_lt, List, length, All, AllPairs, ◌⊎◌}
 use Rattle.std.specs.List.{list_any}
+use Rattle.mm_problem.specs.declared.come.Arrivals.{Arrivals}
+use Rattle.mm_problem.specs.declared.come.Arrivals.TheVariants.{Before, During}
 use Rattle.mm_problem.specs.Dumping.{Dumping, place, channel}
 use Rattle.mm_plan.specs.declared.stretch.Stretch.{Stretch}
 
@@ -16,17 +18,22 @@ channel_of q d = channel q (store_of q d)
 abbrev pub covers : Stretch → ℕ → Bool
 covers d t = nat_le d.first t && nat_le t d.last
 
--- whether the step is an inner step of the stretch: one of its steps, and not its last
-abbrev pub goes_past : ℕ → Stretch → Bool
-goes_past t d = nat_le d.first t && nat_lt t d.last
+-- the step after the inner steps of a stretch: its last step where arrivals come before dumps, else the one after it
+abbrev pub inner_end : Arrivals → Stretch → ℕ
+inner_end Before d = d.last
+inner_end During d = d.last + 1
+
+-- whether the step is an inner step of the stretch: one of its steps, and its last only where arrivals come during dumps
+abbrev pub goes_past : Dumping → ℕ → Stretch → Bool
+goes_past q t d = nat_le d.first t && nat_lt t (inner_end q.come d)
 
 -- whether, besides, its store is of the channel
 abbrev pub goes_past_on : Dumping → ℕ → ℕ → Stretch → Bool
-goes_past_on q t c d = goes_past t d && (channel_of q d == c)
+goes_past_on q t c d = goes_past q t d && (channel_of q d == c)
 
 -- whether a step is inner in some stretch
-abbrev pub is_inner : List Stretch → ℕ → Bool
-is_inner ds t = list_any (goes_past t) ds
+abbrev pub is_inner : Dumping → List Stretch → ℕ → Bool
+is_inner q ds t = list_any (goes_past q t) ds
 
 -- whether a step is inner in some stretch of a store of the channel
 abbrev pub is_inner_on : Dumping → List Stretch → ℕ → ℕ → Bool

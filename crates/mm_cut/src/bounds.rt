@@ -51,7 +51,7 @@ fn inner_channels(problem: &Problem, stretches: &[Stretch], step: u32) -> [bool;
 {
     let mut inner = [false; CHANNELS];
     for stretch in stretches {
-        if goes_past(step, stretch) {
+        if goes_past(problem, step, stretch) {
             inner[channel_of(problem, stretch) as usize] = true;
         }
     }
@@ -80,10 +80,11 @@ fn limit_sum(problem: &Problem, stretches: &[Stretch], step: u32) -> u64
 
 // What may leave in the steps that count by their windows.
 #[tactic(auto, using(mm_base::proofs::RangeSums::sum_by_filter_range_next))]
-fn windows_sum(problem: &Problem, marks: &Marks<'_>) -> u64
-    ensures sum { result ≡ windows_sum problem.now marks.now.stretches.now marks.now.counts.now }
+fn windows_sum(marks: &Marks<'_>) -> u64
+    ensures sum { result ≡ windows_sum marks.now.problem.now marks.now.stretches.now marks.now.counts.now }
     ensures most { result ≤ MAX_STEPS * MAX_BLOCKS }
 {
+    let problem = marks.problem;
     let mut sum: u64 = 0;
     for step in 1..problem.steps() + 1 {
         if marks.counts_window(step) {
@@ -95,11 +96,12 @@ fn windows_sum(problem: &Problem, marks: &Marks<'_>) -> u64
 
 // What may leave in the steps that count by the limits of channels.
 #[tactic(auto, using(mm_base::proofs::RangeSums::sum_by_filter_range_next))]
-fn limits_sum(problem: &Problem, marks: &Marks<'_>) -> u64
-    requires { All (IsStretch problem.now) marks.now.stretches.now }
-    ensures sum { result ≡ limits_sum problem.now marks.now.stretches.now marks.now.counts.now }
+fn limits_sum(marks: &Marks<'_>) -> u64
+    requires { All (IsStretch marks.now.problem.now) marks.now.stretches.now }
+    ensures sum { result ≡ limits_sum marks.now.problem.now marks.now.stretches.now marks.now.counts.now }
     ensures most { result ≤ MAX_STEPS * (CHANNELS * MAX_BLOCKS) }
 {
+    let problem = marks.problem;
     let mut sum: u64 = 0;
     for step in 1..problem.steps() + 1 {
         if marks.counts_limits(step) {
@@ -132,7 +134,7 @@ fn held_sum(problem: &Problem, stretches: &[Stretch]) -> u64
 {
     let mut sum: u64 = 0;
     for stretch in stretches {
-        sum += u64::from(problem.size(store_of(problem, stretch)));
+        sum += u64::from(problem.size(store_of(problem, stretch), stretch.last));
     }
     sum
 }
@@ -142,7 +144,7 @@ fn held_sum(problem: &Problem, stretches: &[Stretch]) -> u64
 pub struct Parts {
     /// What comes in over the stretches, with what stands there where one begins with step 1.
     pub coming: u64,
-    /// What may be held as they end: the sizes of their stores.
+    /// What may be held in their last steps: the sizes of their stores there.
     pub held: u64,
     /// What may leave by the windows of the inner steps that are not counted by channels.
     pub windows: u64,
@@ -168,8 +170,8 @@ pub fn parts_of(problem: &Problem, stretches: &[Stretch], counts: &[u32]) -> Par
     Parts {
         coming: coming_sum(problem, stretches),
         held: held_sum(problem, stretches),
-        windows: windows_sum(problem, &marks),
-        limits: limits_sum(problem, &marks),
+        windows: windows_sum(&marks),
+        limits: limits_sum(&marks),
     }
 }
 

@@ -11,10 +11,12 @@ use mm_problem::Problem;
 
 /// Whether a step is inner in some stretch: the stretch goes past it.
 #[must_use]
-pub fn is_inner(stretches: &[Stretch], step: u32) -> bool
-    ensures inner { result ≡ is_inner stretches.now step }
+pub fn is_inner(problem: &Problem, stretches: &[Stretch], step: u32) -> bool
+    ensures inner { result ≡ is_inner problem.now stretches.now step }
 {
-    stretches.iter().any(|stretch| goes_past(step, stretch))
+    stretches
+        .iter()
+        .any(|stretch| goes_past(problem, step, stretch))
 }
 
 // Whether a step is one of those listed.
@@ -28,7 +30,8 @@ fn is_limited(problem: &Problem, step: u32, stretch: &Stretch) -> bool
     requires { IsStretch problem.now stretch.now }
     ensures { IsTrue result ↔ IsLimited problem.now step stretch.now }
 {
-    !goes_past(step, stretch) || problem.limit(channel_of(problem, stretch), step).is_some()
+    !goes_past(problem, step, stretch)
+        || problem.limit(channel_of(problem, stretch), step).is_some()
 }
 
 fn are_limited(problem: &Problem, step: u32, stretches: &[Stretch]) -> bool
@@ -45,7 +48,7 @@ fn is_counted(problem: &Problem, stretches: &[Stretch], step: u32) -> bool
     requires { All (IsStretch problem.now) stretches.now }
     ensures { IsTrue result ↔ IsCounted problem.now stretches.now step }
 {
-    is_inner(stretches, step) && are_limited(problem, step, stretches)
+    is_inner(problem, stretches, step) && are_limited(problem, step, stretches)
 }
 
 // Whether the step can be counted by channels and is none of the earlier ones.

@@ -24,5 +24,5 @@ pub use laws::{
 };
 pub use lines::verdict_line;
 pub use marks::{STEP_PLACES, inner_steps, listed_steps};
-pub use stretches::{first_bad, store_of};
+pub use stretches::{first_bad, inner_end, store_of};
 pub use verdict::{Verdict, verify};

@@ -6,6 +6,7 @@ ghost use Rattle.mm_cut.specs.Counts.{is_listed};
 ghost use Rattle.mm_cut.specs.Cuts.{counts_window, counts_limits};
 ghost use Rattle.mm_cut.specs.declared.marks.TheConstants.{STEP_PLACES};
 
+use crate::stretches::inner_end;
 use mm_base::MAX_STEPS;
 use mm_plan::Stretch;
 use mm_problem::Problem;
@@ -14,13 +15,15 @@ use mm_problem::Problem;
 pub const STEP_PLACES: usize = MAX_STEPS as usize + 1;
 
 // Marks the inner steps of a stretch.
-fn mark_inner(inner: &mut [bool], stretch: &Stretch)
+fn mark_inner(problem: &Problem, inner: &mut [bool], stretch: &Stretch)
     requires order { stretch.now.first ≤ stretch.now.last }
-    requires within { stretch.now.last ≤ length inner.old }
+    requires within { stretch.now.last < length inner.old }
+    requires few { stretch.now.last ≤ MAX_STEPS }
     ensures { (t : ℕ) → slice_index_or inner.new t false
-        ≡ (slice_index_or inner.old t false || goes_past t stretch.now) }
+        ≡ (slice_index_or inner.old t false || goes_past problem.now t stretch.now) }
 {
-    for step in stretch.first..stretch.last {
+    let end = inner_end(problem, stretch) as u32;
+    for step in stretch.first..end {
         inner[step as usize] = true;
     }
 }
@@ -30,13 +33,13 @@ fn mark_inner(inner: &mut [bool], stretch: &Stretch)
 pub fn inner_steps(problem: &Problem, stretches: &[Stretch]) -> [bool; STEP_PLACES]
     requires { All (IsStretch problem.now) stretches.now }
     ensures places { length result ≡ STEP_PLACES }
-    ensures inner { (t : ℕ) → slice_index_or result t false ≡ is_inner stretches.now t }
+    ensures inner { (t : ℕ) → slice_index_or result t false ≡ is_inner problem.now stretches.now t }
 {
     // no stretch goes past the last step
     prove!(problem.steps() <= MAX_STEPS);
     let mut inner = [false; STEP_PLACES];
     for stretch in stretches {
-        mark_inner(&mut inner, stretch);
+        mark_inner(problem, &mut inner, stretch);
     }
     inner
 }
@@ -59,24 +62,31 @@ pub fn listed_steps(steps: &[u32]) -> [bool; STEP_PLACES]
 // The stretches and the counts of a cut, with marks of its steps.
 #[derive(Drop)]
 pub(crate) struct Marks<'a> {
+    pub(crate) problem: &'a Problem,
     pub(crate) stretches: &'a [Stretch],
     pub(crate) counts: &'a [u32],
     inner: [bool; STEP_PLACES],
     listed: [bool; STEP_PLACES],
     ghost inner_places: { length inner ≡ STEP_PLACES },
     ghost listed_places: { length listed ≡ STEP_PLACES },
-    ghost are_inner: { (t : ℕ) → slice_index_or inner t false ≡ is_inner stretches.now t },
+    ghost are_inner: { (t : ℕ) → slice_index_or inner t false ≡ is_inner problem.now stretches.now t },
     ghost are_listed: { (t : ℕ) → t < STEP_PLACES → slice_index_or listed t false ≡ is_listed counts.now t },
 }
 
 impl<'a> Marks<'a> {
     // The marks of a cut of the problem.
-    pub(crate) fn new(problem: &Problem, stretches: &'a [Stretch], counts: &'a [u32]) -> Marks<'a>
+    pub(crate) fn new(
+        problem: &'a Problem,
+        stretches: &'a [Stretch],
+        counts: &'a [u32],
+    ) -> Marks<'a>
         requires { All (IsStretch problem.now) stretches.now }
+        ensures problem { result.problem.now ≡ problem.now }
         ensures stretches { result.stretches.now ≡ stretches.now }
         ensures counts { result.counts.now ≡ counts.now }
     {
         Marks {
+            problem,
             stretches,
             counts,
             inner: inner_steps(problem, stretches),
@@ -87,7 +97,7 @@ impl<'a> Marks<'a> {
     // Whether a step counts by its window.
     pub(crate) fn counts_window(&self, step: u32) -> bool
         requires { step ≤ MAX_STEPS }
-        ensures { result ≡ counts_window self.now.stretches.now self.now.counts.now step }
+        ensures { result ≡ counts_window self.now.problem.now self.now.stretches.now self.now.counts.now step }
     {
         self.inner[step as usize] && !self.listed[step as usize]
     }
@@ -95,7 +105,7 @@ impl<'a> Marks<'a> {
     // Whether it counts by the limits of channels.
     pub(crate) fn counts_limits(&self, step: u32) -> bool
         requires { step ≤ MAX_STEPS }
-        ensures { result ≡ counts_limits self.now.stretches.now self.now.counts.now step }
+        ensures { result ≡ counts_limits self.now.problem.now self.now.stretches.now self.now.counts.now step }
     {
         self.inner[step as usize] && self.listed[step as usize]
     }

@@ -1,13 +1,13 @@
 //! The stretches of a cut.
-ghost use Rattle.std.specs.Prelude.{◌≡◌, ◌<◌, ◌≤◌, ◌↔◌, length, All, IsTrue, IsNone, IfSome};
+ghost use Rattle.std.specs.Prelude.{◌≡◌, ◌+◌, ◌<◌, ◌≤◌, ◌↔◌, length, All, IsTrue, IsNone, IfSome};
 ghost use Rattle.mm_base.specs.declared.limits.TheConstants.{MAX_CHANNEL};
-ghost use Rattle.mm_cut.specs.Stretches.{store_of, channel_of, goes_past, IsStretch, AreApart, IsStretchAfter};
+ghost use Rattle.mm_cut.specs.Stretches.{store_of, channel_of, inner_end, goes_past, IsStretch, AreApart, IsStretchAfter};
 ghost use Rattle.mm_cut.specs.Stretches.{AreStretches};
 ghost use Rattle.mm_cut.specs.FirstBad.{IsFirstBad};
 
 use mm_base::{MAX_STEPS, MAX_STORES};
 use mm_plan::Stretch;
-use mm_problem::Problem;
+use mm_problem::{Arrivals, Problem};
 
 /// The place of a stretch's store, from 0 in setup order.
 #[must_use]
@@ -28,11 +28,26 @@ pub(crate) fn channel_of(problem: &Problem, stretch: &Stretch) -> u8
     problem.channel(store_of(problem, stretch))
 }
 
-/// Whether a step is an inner step of the stretch: one of its steps, and not its last.
-pub(crate) fn goes_past(step: u32, stretch: &Stretch) -> bool
-    ensures { result ≡ goes_past step stretch.now }
+/// The step after the inner steps of a stretch: its last step if arrivals come before dumps, else the one after it.
+#[must_use]
+pub fn inner_end(problem: &Problem, stretch: &Stretch) -> u64
+    ensures end { result ≡ inner_end problem.now.come stretch.now }
+    ensures first { stretch.now.last ≤ result }
+    ensures last { result ≤ stretch.now.last + 1 }
 {
-    stretch.first <= step && step < stretch.last
+    let last = u64::from(stretch.last);
+    match problem.come() {
+        Arrivals::Before => last,
+        Arrivals::During => last + 1,
+    }
+}
+
+/// Whether a step is an inner step of the stretch: one of its steps, and its last only where arrivals come during
+/// dumps.
+pub(crate) fn goes_past(problem: &Problem, step: u32, stretch: &Stretch) -> bool
+    ensures { result ≡ goes_past problem.now step stretch.now }
+{
+    stretch.first <= step && u64::from(step) < inner_end(problem, stretch)
 }
 
 fn is_stretch(problem: &Problem, stretch: &Stretch) -> bool

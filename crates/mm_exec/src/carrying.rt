@@ -1,6 +1,7 @@
 //! A plan carried out over a memory.
 ghost use Rattle.std.specs.Prelude.{◌≡◌, ◌-◌, ◌<◌, ◌^◌, All, length, IfOk, IfErr};
 ghost use Rattle.mm_record.specs.Supplies.{WhateverComes};
+ghost use Rattle.mm_carry.specs.Words.{IsFlyable, NotFlyable};
 ghost use Rattle.mm_carry.specs.RunInput.{run_input};
 ghost use Rattle.mm_carry.specs.Step.{NeverRefused};
 ghost use Rattle.mm_carry.specs.Course.{AreWithinLimits};
@@ -44,6 +45,9 @@ pub fn carry_out<S: AnySource + Send + Drop, L: Link + Send + Drop, R: Threads +
     ensures far { IfErr result (λ halted. WhateverComes S.leads S.until sources.items halted.sources.items
         (λ given left. AreWithinLimits (length problem.now.windows) memory.old.stores given
         → NeverRefused halted.cause)) }
+    // A problem that is not flyable is refused.
+    ensures flyable { IfOk result (λ _. IsFlyable problem.now) }
+    ensures not_flyable { IfErr result (λ halted. (¬ IsFlyable problem.now) → halted.cause ≡ NotFlyable) }
 {
     let mut parts = RunParts {
         stores: memory.lift(),

@@ -2,6 +2,7 @@
 //! one.
 #![tactic(auto)]
 
+mod counting;
 mod cuts;
 pub mod laws;
 mod trying;

@@ -2,12 +2,13 @@
 ghost use Rattle.std.specs.Prelude.{◌+◌, ◌≤◌, length, IfOk, IfSome};
 ghost use Rattle.mm_plan.specs.Table.{HasShape};
 
-use mm_plan::{NoMemory, Plan, fits, loss_of};
+use crate::counting::{fits_in, loss};
+use mm_plan::{NoMemory, Plan};
 use mm_problem::Problem;
 use std::alloc::Global;
 
-// Searches a plan with a loss below a given one, among those with the same amounts as `plan` in all earlier steps, and
-// of the earlier stores in this step. `plan` becomes what is found.
+// Searches a plan that fits, with a loss below a given one, among those with the same amounts as `plan` in all earlier
+// steps, which fit, and of the earlier stores in this step. `plan` becomes what is found.
 fn try_from(problem: &Problem, plan: &mut Plan, most: u64, step: u32, store: usize) -> bool
     requires shape { HasShape problem.now plan.old }
     requires first { 1 ≤ step }
@@ -16,10 +17,10 @@ fn try_from(problem: &Problem, plan: &mut Plan, most: u64, step: u32, store: usi
     ensures shape { HasShape problem.now plan.new }
 {
     if step > problem.steps() {
-        return fits(problem, plan).is_ok() && loss_of(problem, plan) < most;
+        return loss(problem, plan) < most;
     }
     if store == problem.stores() {
-        return try_from(problem, plan, most, step + 1, 0);
+        return fits_in(problem, plan, step) && try_from(problem, plan, most, step + 1, 0);
     }
     for blocks in 0..problem.window(step) + 1 {
         plan.set(store, step, blocks);

@@ -1,12 +1,12 @@
 -- Plans that are filled step by step.
-use Rattle.std.proofs.Common.{◌≡◌, ℕ, ◌+◌, ◌-◌, ◌<◌, ◌≤◌, List, length, get_or, min, refl, sym, ◌∙◌, inl, inr, arith}
+use Rattle.std.proofs.Common.{◌≡◌, ℕ, ◌+◌, ◌-◌, ◌<◌, ◌≤◌, List, length, get_or, min, refl, sym, ap, ◌∙◌, inl, inr, arith}
 use Rattle.std.proofs.lemmas.Bool.{cases_lt}
-use Rattle.mm_problem.specs.Dumping.{Dumping, start, channel}
-use Rattle.mm_plan.specs.Volumes.{Amounts, written, left}
+use Rattle.mm_problem.specs.Dumping.{Dumping, size, start, channel}
+use Rattle.mm_plan.specs.Volumes.{Amounts, held_by, written, left, stays}
 use Rattle.mm_plan.specs.Fit.{FitsAt, Fits}
 use Rattle.mm_plan.specs.Filled.{IsFilledAt, IsNowhereWorse}
-use Rattle.mm_plan.specs.Filling.{SameElsewhere, IsLoweredAt, AreLeft, AreSplit, IsStepFilled}
-use Rattle.mm_plan.proofs.Steps.{left_start, left_step, left_same, written_same, left_no_more, lost_no_more}
+use Rattle.mm_plan.specs.Filling.{SameElsewhere, IsLoweredAt, AreLeft, AreSplit, AreHeld, IsStepFilled}
+use Rattle.mm_plan.proofs.Steps.{left_start, left_step, written_same, left_no_more, lost_no_more}
 use Rattle.mm_plan.proofs.Raises.{IsNoLess, used_kept, fits_no_more}
 
 -- the second plan fits and is filled in the step, and lets as much leave as the first, or all that is there
@@ -39,14 +39,14 @@ done_along q x y z t first same is =
     let fits : FitsAt q z t = fits_no_more q y z t (λ s store. omega (arith, here s store)) is.fits in
     let is_written : (s : ℕ) → s < length q.rows → written q z s t ≡ written q y s t =
     λ s store. written_same q y z s t (λ u from to. same s u store from (omega arith)) in
-    let is_left : (s : ℕ) → s < length q.rows → left q z s t ≡ left q y s t =
-    λ s store. left_same q y z s t (λ u from to. same s u store from to) in
+    let is_kept : (s : ℕ) → s < length q.rows → stays q z s t ≡ stays q y s t =
+    λ s store. omega (arith, is_written s store, here s store) in
     record {
       fits = fits;
       filled = record {
         held = λ s store. omega (arith, here s store, is_written s store, is.filled.held s store);
         used = λ s store some. used_kept q y z t (channel q s) no_less fits
-            (is.filled.used s store (omega (arith, is_left s store, some)));
+            (is.filled.used s store (omega (arith, is_kept s store, some)));
       };
       kept = λ s store. omega (arith, here s store, is_written s store, is.kept s store);
     }
@@ -57,24 +57,32 @@ pub lowered_fits : (q : Dumping) (x y z : Amounts) (t : ℕ) (blocks : List ℕ)
 lowered_fits q x y z t blocks last is cut fits =
     fits_no_more q x z t (λ s store. omega (arith, cut s store, is.later s t store (omega arith) last)) fits
 
--- what is left once a step's amounts are split
-split_left : (q : Dumping) (y : Amounts) (t : ℕ) (blocks : List ℕ) → 1 ≤ t → AreSplit q y t blocks
-    → AreLeft q y t blocks
-split_left q y t blocks first split = λ s store. omega (arith, split s store, left_step q y s (t - 1) t (omega arith))
+-- what stays once a step's amounts are split
+split_stays : (q : Dumping) (y : Amounts) (t : ℕ) (blocks : List ℕ) → AreSplit q y t blocks
+    → (s : ℕ) → s < length q.rows → get_or blocks s 0 ≡ stays q y s t
+split_stays q y t blocks split = λ s store. omega (arith, split s store)
 
--- one step more: y, with its amounts lowered z, and with the rest of the window used w
-pub done_more : (q : Dumping) (x y z w : Amounts) (t : ℕ) (blocks new : List ℕ) → 1 ≤ t → t ≤ length q.windows
+-- what is left once the blocks that stay are held
+held_left : (q : Dumping) (y : Amounts) (t : ℕ) (blocks held : List ℕ) → 1 ≤ t → AreSplit q y t blocks
+    → AreHeld q t blocks held → AreLeft q y t held
+held_left q y t blocks held first split cut = λ s store.
+    cut s store ∙ ap (held_by q.come (size q s t)) (split_stays q y t blocks split s store)
+    ∙ sym (left_step q y s (t - 1) t (omega arith))
+
+-- one step more: y, with its amounts lowered z, and with the rest of the window used w; held has what is held of what
+-- stays
+pub done_more : (q : Dumping) (x y z w : Amounts) (t : ℕ) (blocks new held : List ℕ) → 1 ≤ t → t ≤ length q.windows
     → IsDoneBefore q x y t blocks → SameElsewhere q y z t → IsLoweredAt q y z t → IsStepFilled q z w t new
-    → IsDoneBefore q x w (t + 1) new
-done_more q x y z w t blocks new first last is apart cut filled =
+    → AreHeld q t new held → IsDoneBefore q x w (t + 1) held
+done_more q x y z w t blocks new held first last is apart cut filled holds =
     let others : SameElsewhere q y w t =
     λ s u store from to other. filled.others s u store from to other ∙ apart s u store from to other in
-    let is_left = split_left q w t new first filled.split in
+    let stay = split_stays q w t new filled.split in
     let here : IsDoneAt q x w t = record {
       fits = filled.fits;
       filled = record {
         held = λ s store. omega (arith, filled.split s store);
-        used = λ s store some. filled.used s store (omega (arith, is_left s store, some));
+        used = λ s store some. filled.used s store (omega (arith, stay s store, some));
       };
       kept = λ s store.
           let same = written_same q y w s t (λ u from to. others s u store from (omega arith) (omega arith)) in
@@ -88,7 +96,7 @@ done_more q x y z w t blocks new first last is apart cut filled =
       ];
       later = λ s u store from to. others s u store (omega arith) to (omega arith)
           ∙ is.later s u store (omega arith) to;
-      volumes = let same : t + 1 - 1 ≡ t = omega arith in rw same is_left;
+      volumes = let same : t + 1 - 1 ≡ t = omega arith in rw same (held_left q w t new held first filled.split holds);
     }
 
 -- all steps
@@ -103,5 +111,6 @@ done_no_worse q x y n blocks all is =
     λ s t store last. left_no_more q x y s t (λ u from to. (is.done u from (omega arith)).kept s store) in
     record {
       volumes = λ s t store first last. volumes s t store last;
-      losses = λ s t store first last. lost_no_more q x y s t (volumes s (t - 1) store (omega arith));
+      losses = λ s t store first last. lost_no_more q x y s t (volumes s (t - 1) store (omega arith))
+          ((is.done t first (omega arith)).kept s store);
     }

@@ -1,4 +1,6 @@
+pub mod Turns
 pub mod Steps
+pub mod Flown
 pub mod Spelled
 pub mod Saying
 pub mod Lines

@@ -1,5 +1,5 @@
 -- What a greater amount of one store makes of a step.
-use Rattle.std.proofs.Common.{◌≡◌, ℕ, ◌+◌, ◌<◌, ◌≤◌, List, Option, not, cond, min, length, get_or, Some, None, refl}
+use Rattle.std.proofs.Common.{◌≡◌, ℕ, ◌+◌, ◌-◌, ◌<◌, ◌≤◌, List, Option, not, cond, min, length, get_or, Some, None, refl}
 use Rattle.std.proofs.Common.{sym, ◌∙◌, ap, subst, inl, inr, arith}
 use Rattle.std.specs.Prelude.{◌≢◌, ◌⊎◌}
 use Rattle.std.specs.List.{sum_by}
@@ -7,9 +7,9 @@ use Rattle.std.specs.Option.{option_map}
 use Rattle.std.proofs.lemmas.Bool.{cases_Bool, cases_eq}
 use Rattle.std.proofs.lemmas.List.Filters.{sum_by-filter_both}
 use Rattle.std.proofs.lemmas.Option.{same_Some}
-use Rattle.mm_base.specs.declared.limits.TheConstants.{CHANNELS}
+use Rattle.mm_base.specs.declared.limits.TheConstants.{MAX_BLOCKS, CHANNELS}
 use Rattle.std.proofs.lemmas.Bool.Decides.{eqb_tells}
-use Rattle.mm_problem.specs.Dumping.{Dumping, IsDumping, stores, stores_of, is_of, channel, limit}
+use Rattle.mm_problem.specs.Dumping.{Dumping, IsDumping, stores, stores_of, is_of, channel, limit, window}
 use Rattle.mm_plan.specs.Volumes.{Amounts}
 use Rattle.mm_plan.specs.Fit.{in_step, FitsAt}
 use Rattle.mm_plan.specs.Filled.{IsWindowUsed, IsLimitUsed}
@@ -89,6 +89,10 @@ rest_raised q x y s t d idle less rests after is raised is_less here others = re
 fits_with : (limit rest : Option ℕ) (a b : ℕ) → limit ≡ option_map (λ r. a + r) rest → limit ≡ Some b → a ≤ b
 fits_with limit None a b e some = absurd (none-some b (sym e ∙ some))
 fits_with limit (Some r) a b e some = omega (arith, same_Some (a + r) b (sym e ∙ some))
+
+-- no window is greater than any amount may be
+pub window_most : (q : Dumping) (t : ℕ) → IsDumping q → 1 ≤ t → t ≤ length q.windows → window q t ≤ MAX_BLOCKS
+window_most q t is first last = is.steps.each_window (t - 1) 0 (omega arith)
 
 -- a plan of which something is not used fits
 pub rest_fits : (q : Dumping) (x : Amounts) (t idle : ℕ) (rests : List (Option ℕ)) → IsDumping q

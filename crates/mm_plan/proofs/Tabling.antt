@@ -9,7 +9,7 @@ use Rattle.mm_problem.specs.Dumping.{Dumping}
 use Rattle.mm_plan.specs.Volumes.{Amounts, left}
 use Rattle.mm_plan.specs.Simulated.{no_volumes}
 use Rattle.mm_plan.specs.Tabled.{volumes, AreTabled}
-use Rattle.mm_plan.specs.declared.simulation.StepVolumes.{StepVolumes}
+use Rattle.mm_plan.specs.declared.turn.StepVolumes.{StepVolumes}
 
 -- one place more
 pub tabled_push : (q : Dumping) (x : Amounts) (s t : ℕ) (table : List StepVolumes) → s < length q.rows → 1 ≤ t

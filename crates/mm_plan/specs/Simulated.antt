@@ -2,7 +2,7 @@
 use Rattle.std.specs.Prelude.{◌≡◌, ℕ, ◌<◌, ◌≤◌, List, length, slice_index_or}
 use Rattle.mm_base.specs.Grid.{grid_place}
 use Rattle.mm_problem.specs.Dumping.{Dumping}
-use Rattle.mm_plan.specs.declared.simulation.StepVolumes.{StepVolumes}
+use Rattle.mm_plan.specs.declared.turn.StepVolumes.{StepVolumes}
 
 -- step by step, in each the stores in order
 pub record VolumeTables : Type 0 where

@@ -2,7 +2,7 @@
 use Rattle.std.specs.Prelude.{◌≡◌, ℕ, ◌<◌, ◌≤◌, List, length}
 use Rattle.mm_base.specs.Grid.{grid_place}
 use Rattle.mm_problem.specs.Dumping.{Dumping}
-use Rattle.mm_plan.specs.declared.simulation.StepVolumes.{StepVolumes}
+use Rattle.mm_plan.specs.declared.turn.StepVolumes.{StepVolumes}
 use Rattle.mm_plan.specs.Simulated.{volumes_at}
 use Rattle.mm_plan.specs.Volumes.{Amounts, written, left, lost}
 

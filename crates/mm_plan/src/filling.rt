@@ -1,19 +1,20 @@
 //! Filling a plan, so that no window stays idle that a store could use.
 ghost use Rattle.std.specs.Prelude.{◌≡◌, ◌≢◌, ℕ, ◌+◌, ◌-◌, ◌<◌, ◌≤◌, length, slice_index, slice_index_or, None};
-ghost use Rattle.std.specs.Prelude.{option_map, IfOk, IfSome, ◌⊎◌};
+ghost use Rattle.std.specs.Prelude.{min, option_map, IfOk, IfSome, ◌⊎◌};
 ghost use Rattle.mm_base.specs.declared.limits.TheConstants.{MAX_STORES, MAX_BLOCKS, CHANNELS};
 ghost use Rattle.std.specs.List.{sum_by};
-ghost use Rattle.mm_problem.specs.Dumping.{start, channel, stores, window};
+ghost use Rattle.mm_problem.specs.Dumping.{size, start, channel, stores, window};
 ghost use Rattle.mm_plan.specs.Table.{amount, HasShape, ChangesAmount};
 ghost use Rattle.mm_plan.specs.Fit.{in_step, FitsAt, Fits};
 ghost use Rattle.mm_plan.specs.Filled.{IsWindowUsed, IsLimitUsed, IsFilled, IsNowhereWorse};
-ghost use Rattle.mm_plan.specs.Filling.{SameElsewhere, IsLoweredAt, AreLeft, AreSplit, AreUnused, IsRest, IsStepFilled};
-ghost use Rattle.mm_plan.specs.Filling.{room_in};
+ghost use Rattle.mm_plan.specs.Filling.{SameElsewhere, IsLoweredAt, AreLeft, AreSplit, AreHeld, AreUnused, IsRest};
+ghost use Rattle.mm_plan.specs.Filling.{IsStepFilled, room_in};
 
 use crate::fit::{channel_amounts, step_amount};
 use crate::plan::Plan;
+use crate::turn::{can_leave, size_in};
 use mm_base::{CHANNELS, MAX_STORES, NoMemory};
-use mm_problem::Problem;
+use mm_problem::{Arrivals, Problem};
 use std::alloc::Global;
 
 // What stands in each store as the first step begins.
@@ -28,8 +29,8 @@ fn starts(problem: &Problem) -> [u32; MAX_STORES]
     left
 }
 
-// Lowers the amounts of a step to what is written. At first `left` has what stood in the stores before the step, and
-// afterwards what stands in them after it.
+// Lowers the amounts of a step to what can leave. At first `left` has what stood in the stores before the step, and
+// afterwards what stays in them.
 fn lower_to_written(problem: &Problem, plan: &mut Plan, left: &mut [u32], step: u32)
     requires shape { HasShape problem.now plan.old }
     requires first { 1 ≤ step }
@@ -41,9 +42,10 @@ fn lower_to_written(problem: &Problem, plan: &mut Plan, left: &mut [u32], step: 
     ensures lowered { IsLoweredAt problem.now (amount plan.old) (amount plan.new) step }
     ensures split { AreSplit problem.now (amount plan.new) step left.new }
 {
+    let come = problem.come();
     for store in 0..problem.stores() {
-        let coming = left[store] + problem.arrivals(store, step);
-        let written = coming.min(problem.size(store));
+        let there = left[store] + problem.arrivals(store, step);
+        let written = can_leave(come, size_in(problem, store, step), there);
         let blocks = plan.amount(store, step).min(written);
         plan.set(store, step, blocks);
         left[store] = written - blocks;
@@ -100,7 +102,8 @@ impl Rest {
     // How many blocks more may leave a store of a channel.
     fn room(&self, channel: usize) -> u32
         requires { channel < CHANNELS }
-        ensures { result ≡ room_in self.now.idle (slice_index_or self.now.by_channel channel None) }
+        ensures room { result ≡ room_in self.now.idle (slice_index_or self.now.by_channel channel None) }
+        ensures most { result ≤ self.now.idle }
     {
         match self.by_channel[channel] {
             Some(rest) => self.idle.min(rest),
@@ -140,7 +143,7 @@ fn raise(
     requires first { 1 ≤ step }
     requires last { step ≤ length problem.now.windows }
     requires rest { IsRest problem.now (amount plan.old) step rest.old.idle rest.old.by_channel }
-    requires most { amount plan.old store step + left ≤ MAX_BLOCKS }
+    requires most { amount plan.old store step + rest.old.idle ≤ MAX_BLOCKS }
     ensures least { result ≤ left }
     ensures changed { ChangesAmount plan.old plan.new store step (amount plan.old store step + (left - result)) }
     ensures rest { IsRest problem.now (amount plan.new) step rest.new.idle rest.new.by_channel }
@@ -180,7 +183,33 @@ fn use_rest(problem: &Problem, plan: &mut Plan, left: &mut [u32], step: u32)
     }
 }
 
-/// The plan with no amount above what is written, and with as much more leaving as windows and channels still allow.
+// Cuts what stays in each store to the store's size in the step.
+fn cut_to_sizes(problem: &Problem, left: &mut [u32], step: u32)
+    requires first { 1 ≤ step }
+    requires last { step ≤ length problem.now.windows }
+    requires places { length problem.now.rows ≤ length left.old }
+    ensures cut { (s : ℕ) → s < length problem.now.rows
+        → slice_index left.new s ≡ min (slice_index left.old s) (size problem.now s step) }
+{
+    for store in 0..problem.stores() {
+        left[store] = left[store].min(size_in(problem, store, step));
+    }
+}
+
+// Cuts what stays in each store as a step ends to what is held.
+fn hold(problem: &Problem, left: &mut [u32], step: u32)
+    requires first { 1 ≤ step }
+    requires last { step ≤ length problem.now.windows }
+    requires places { length problem.now.rows ≤ length left.old }
+    ensures held { AreHeld problem.now step left.old left.new }
+{
+    match problem.come() {
+        Arrivals::Before => {}
+        Arrivals::During => cut_to_sizes(problem, left, step),
+    }
+}
+
+/// The plan with no amount above what can leave, and with as much more leaving as windows and channels still allow.
 pub fn fill(alloc: Global, problem: &Problem, plan: &Plan) -> Result<Plan, NoMemory>
     requires shape { HasShape problem.now plan.now }
     requires fits { Fits problem.now (amount plan.now) }
@@ -194,6 +223,7 @@ pub fn fill(alloc: Global, problem: &Problem, plan: &Plan) -> Result<Plan, NoMem
     for step in 1..problem.steps() + 1 {
         lower_to_written(problem, &mut filled, &mut left, step);
         use_rest(problem, &mut filled, &mut left, step);
+        hold(problem, &mut left, step);
     }
     Ok(filled)
 }

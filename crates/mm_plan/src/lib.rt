@@ -16,6 +16,7 @@ mod row;
 mod sheet;
 mod simulation;
 mod stretch;
+mod turn;
 mod words;
 
 pub use certificate::{Certificate, Cut};
@@ -28,3 +29,4 @@ pub use plan::Plan;
 pub use sheet::Sheet;
 pub use simulation::{Simulated, simulate};
 pub use stretch::{MAX_COUNTS, MAX_STRETCHES, Stretch};
+pub use turn::{can_leave, held_by};

@@ -1,13 +1,43 @@
 //! What a plan loses.
-ghost use Rattle.std.specs.Prelude.{◌≡◌, ◌+◌, ◌*◌, ◌<◌, ◌≤◌, length};
+ghost use Rattle.std.specs.Prelude.{◌≡◌, ℕ, ◌+◌, ◌*◌, ◌<◌, ◌≤◌, length, IfSome};
 ghost use Rattle.mm_base.specs.declared.limits.TheConstants.{MAX_STORES, MAX_STEPS, MAX_BLOCKS};
-ghost use Rattle.mm_problem.specs.Dumping.{Dumping};
+ghost use Rattle.mm_problem.specs.Dumping.{Dumping, size};
 ghost use Rattle.mm_plan.specs.Table.{amount, HasShape};
 ghost use Rattle.mm_plan.specs.Volumes.{store_loss, loss, first_loss};
 
 use crate::plan::Plan;
+use crate::turn::{size_by, turn};
 use mm_base::MAX_STORES;
-use mm_problem::Problem;
+use mm_problem::{Arrivals, Problem};
+
+// How many blocks one store loses over all steps, where this is its size if it is the same in each step.
+#[inline(always)]
+fn loss_by(
+    problem: &Problem,
+    plan: &Plan,
+    store: usize,
+    come: Arrivals,
+    one_size: Option<u32>,
+) -> u64
+    requires shape { HasShape problem.now plan.now }
+    requires store { store < length problem.now.rows }
+    requires come { come ≡ problem.now.come }
+    requires each { IfSome one_size (λ n. (t : ℕ) → size problem.now store t ≡ n) }
+    requires most { IfSome one_size (λ n. n ≤ MAX_BLOCKS) }
+    ensures loss { result ≡ store_loss problem.now (amount plan.now) store }
+    ensures most { result ≤ 2 * MAX_BLOCKS * MAX_STEPS }
+{
+    let mut left = problem.start(store);
+    let mut lost: u64 = 0;
+    for step in 1..problem.steps() + 1 {
+        let there = left + problem.arrivals(store, step);
+        let size = size_by(problem, one_size, store, step);
+        let volumes = turn(come, size, there, plan.amount(store, step));
+        lost += u64::from(volumes.lost);
+        left = volumes.left;
+    }
+    lost
+}
 
 /// How many blocks one store loses over all steps, if the plan is carried out and the arrivals are the problem's.
 #[must_use]
@@ -17,16 +47,13 @@ pub fn store_loss(problem: &Problem, plan: &Plan, store: usize) -> u64
     ensures loss { result ≡ store_loss problem.now (amount plan.now) store }
     ensures most { result ≤ 2 * MAX_BLOCKS * MAX_STEPS }
 {
-    let size = problem.size(store);
-    let mut left = problem.start(store);
-    let mut lost: u64 = 0;
-    for step in 1..problem.steps() + 1 {
-        let coming = left + problem.arrivals(store, step);
-        let written = coming.min(size);
-        lost += u64::from(coming - written);
-        left = written - plan.amount(store, step).min(written);
+    // each of these cases is compiled by itself, for its speed
+    let one_size = problem.one_size(store);
+    match problem.come() {
+        come if one_size.is_none() => loss_by(problem, plan, store, come, one_size),
+        Arrivals::Before => loss_by(problem, plan, store, Arrivals::Before, one_size),
+        Arrivals::During => loss_by(problem, plan, store, Arrivals::During, one_size),
     }
-    lost
 }
 
 /// How many blocks that many of the first stores lose.

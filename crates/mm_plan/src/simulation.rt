@@ -10,21 +10,12 @@ ghost use Rattle.mm_plan.specs.Tabled.{AreTabled, volumes};
 use crate::loss::loss_of;
 use crate::plan::Plan;
 use crate::print::Pushed;
+use crate::turn::{StepVolumes, size_in, turn};
 use mm_base::NoMemory;
 use mm_base::grid::place;
 use mm_problem::Problem;
 use std::alloc::Global;
 use std::marker::Model;
-
-// What stands in a store in a step, and what the store loses in it, in blocks.
-#[derive(Clone, Copy, Debug)]
-pub(crate) struct StepVolumes {
-    // once the step's arrivals have come
-    written: u32,
-    // when the step has ended
-    left: u32,
-    lost: u32,
-}
 
 /// What a plan does to each store in each step, in blocks. Stores count from 0, steps from 1.
 #[derive(Debug, Drop)]
@@ -48,7 +39,8 @@ impl Model for Simulated {
 }
 
 impl Simulated {
-    /// How many blocks stand in a store once a step's arrivals have come.
+    /// How many blocks can leave a store in a step: what stands in it once the arrivals have come, up to its size where
+    /// they come before the dumps.
     #[must_use]
     pub fn written(&self, store: usize, step: u32) -> u32
         requires { IsVolumePlace self.now store step }
@@ -66,7 +58,7 @@ impl Simulated {
         self.volumes[place(self.stores, step, store)].left
     }
 
-    /// How many of a step's arrivals a store has no room for.
+    /// How many blocks a store loses in a step.
     #[must_use]
     pub fn lost(&self, store: usize, step: u32) -> u32
         requires { IsVolumePlace self.now store step }
@@ -94,13 +86,9 @@ fn volumes_in(problem: &Problem, plan: &Plan, store: usize, step: u32, before: u
     requires most { before ≤ MAX_BLOCKS }
     ensures { result ≡ volumes problem.now (amount plan.now) store step }
 {
-    let coming = before + problem.arrivals(store, step);
-    let written = coming.min(problem.size(store));
-    StepVolumes {
-        written,
-        left: written - plan.amount(store, step).min(written),
-        lost: coming - written,
-    }
+    let there = before + problem.arrivals(store, step);
+    let size = size_in(problem, store, step);
+    turn(problem.come(), size, there, plan.amount(store, step))
 }
 
 // Adds what the plan does to one store in one step.

@@ -15,7 +15,7 @@ use Rattle.mm_flow.specs.Cut.{Side, leaves, limit_of, capacity_of, IsCut}
 use Rattle.mm_planner.specs.declared.nodes.TheConstants.{SOURCE, SINK}
 use Rattle.mm_planner.specs.declared.nodes.Node.TheVariants.{In, Out, Channel, Pass}
 use Rattle.mm_planner.specs.declared.way.Way.TheVariants.{Come, Keep, Take}
-use Rattle.mm_planner.specs.Network.{Inflows, next_node, window_arc, net_by, store_arc}
+use Rattle.mm_planner.specs.Network.{Inflows, next_node, dump_node, window_arc, net_by, store_arc}
 use Rattle.mm_planner.specs.Runs.{is_on}
 use Rattle.mm_planner.proofs.ArcSums.{come_place, keep_place, window_place, kind_sum, arcs_by_kind}
 use Rattle.mm_planner.proofs.KindSums.{come, hold, pass_on, send}
@@ -48,10 +48,10 @@ module _ (q : Dumping) (a : Inflows) (f : Flow) (within : IsWithin (net_by q a) 
       omega (arith, excess_none, arcs_by_kind q a (λ k (arc : Arc). over arc.capacity (f k)), term-le-grid (λ u k. come q f u k - a u k) (length q.windows) (length q.rows) t s first last below)
 
   -- a store holds no more than its size
-  pub hold_within : (t s : ℕ) → 1 ≤ t → t ≤ length q.windows → s < length q.rows → hold q f t s ≤ size q s
+  pub hold_within : (t s : ℕ) → 1 ≤ t → t ≤ length q.windows → s < length q.rows → hold q f t s ≤ size q s t
   unfolding excess
   hold_within t s first last below =
-      omega (arith, excess_none, arcs_by_kind q a (λ k (arc : Arc). over arc.capacity (f k)), term-le-grid (λ u k. hold q f u k - size q k) (length q.windows) (length q.rows) t s first last below)
+      omega (arith, excess_none, arcs_by_kind q a (λ k (arc : Arc). over arc.capacity (f k)), term-le-grid (λ u k. hold q f u k - size q k u) (length q.windows) (length q.rows) t s first last below)
 
   -- how much more than a limit
   over_value : (o : Option ℕ) (n most : ℕ) → o ≡ Some most → over o n ≡ n - most
@@ -74,7 +74,7 @@ abbrev leads_out : Side → Arc → Bool
 leads_out side a = side a.from && not (side a.to)
 
 -- the capacity of a side, kind by kind
-pub capacity_kinds : (q : Dumping) (a : Inflows) (side : Side) → side SOURCE ≡ true → side SINK ≡ false → capacity_of (net_by q a) side ≡ grid (λ t s. cond (is_on side (In t s)) 0 (a t s)) (length q.windows) (length q.rows) + grid (λ t s. cond (is_on side (In t s) && not (is_on side (Out t s))) (size q s) 0) (length q.windows) (length q.rows) + grid (λ t c. cond (is_on side (Channel t c) && not (is_on side (Pass t))) (limit_or_0 q t c) 0) (length q.windows) (length q.limits) + sum_by (λ t. cond (is_on side (Pass t)) (window q t) 0) (range_with_len 1 (length q.windows))
+pub capacity_kinds : (q : Dumping) (a : Inflows) (side : Side) → side SOURCE ≡ true → side SINK ≡ false → capacity_of (net_by q a) side ≡ grid (λ t s. cond (is_on side (In t s)) 0 (a t s)) (length q.windows) (length q.rows) + grid (λ t s. cond (is_on side (In t s) && not (is_on side (Out t s))) (size q s t) 0) (length q.windows) (length q.rows) + grid (λ t c. cond (is_on side (Channel t c) && not (is_on side (Pass t))) (limit_or_0 q t c) 0) (length q.windows) (length q.limits) + sum_by (λ t. cond (is_on side (Pass t)) (window q t) 0) (range_with_len 1 (length q.windows))
 unfolding capacity_of
 capacity_kinds q a side at_source at_sink =
     let F : ℕ → Arc → ℕ = λ k arc. cond (leads_out side arc) (unwrap_or arc.capacity 0) 0 in
@@ -135,11 +135,11 @@ module _ (q : Dumping) (a : Inflows) (side : Side) (cut : IsCut (net_by q a) SOU
       inside
 
   -- so is its channel
-  pub take_inside : (t s : ℕ) → 1 ≤ t → t ≤ length q.windows → s < length q.rows → is_on side (Out t s) ≡ true → is_on side (Channel t (channel q s)) ≡ true
+  pub take_inside : (t s : ℕ) → 1 ≤ t → t ≤ length q.windows → s < length q.rows → is_on side (dump_node q.come t s) ≡ true → is_on side (Channel t (channel q s)) ≡ true
   unfolding unlimited_out
   take_inside t s first last below inside =
-      stays (is_on side (Out t s)) (is_on side (Channel t (channel q s)))
-      (omega (arith, unlimited_none, arcs_by_kind q a unlimited_out, term-le-grid (λ u k. cond {A = ℕ} (is_on side (Out u k) && not (is_on side (Channel u (channel q k)))) 1 0) (length q.windows) (length q.rows) t s first last below))
+      stays (is_on side (dump_node q.come t s)) (is_on side (Channel t (channel q s)))
+      (omega (arith, unlimited_none, arcs_by_kind q a unlimited_out, term-le-grid (λ u k. cond {A = ℕ} (is_on side (dump_node q.come u k) && not (is_on side (Channel u (channel q k)))) 1 0) (length q.windows) (length q.rows) t s first last below))
       inside
 
   -- an arc that leads out is limited

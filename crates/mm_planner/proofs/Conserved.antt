@@ -6,13 +6,16 @@ use Rattle.std.proofs.lemmas.Bool.{cond-true, cond-false, and_from, eq-eqb, ne_e
 use Rattle.mm_base.proofs.Grids.{grid, grid_zeros, grid-one, grid-row}
 use Rattle.mm_base.proofs.RangeSums.{sum_by_range_zeros, sum_by_range_one, sum_by_range_same}
 use Rattle.mm_base.proofs.Tests.{cond-eqb_same, cond-eqb_other}
+use Rattle.mm_problem.specs.declared.come.Arrivals.{Arrivals}
+use Rattle.mm_problem.specs.declared.come.Arrivals.TheVariants.{Before, During}
 use Rattle.mm_problem.specs.Dumping.{Dumping, IsDumping, channel}
 use Rattle.mm_flow.specs.Flow.{Flow, IsFlow, entering, leaving}
 use Rattle.mm_planner.specs.declared.nodes.Node.{Node}
 use Rattle.mm_planner.specs.declared.nodes.Node.TheVariants.{Source, Sink, In, Out, Channel, Pass}
 use Rattle.mm_planner.specs.declared.nodes.TheConstants.{SOURCE, SINK}
 use Rattle.mm_planner.specs.Nodes.{number_of}
-use Rattle.mm_planner.specs.Network.{Inflows, next_node, net_by}
+use Rattle.mm_planner.specs.Network.{Inflows, next_node, dump_node, net_by}
+use Rattle.mm_planner.proofs.Dumps.{from_in, from_out}
 use Rattle.mm_planner.proofs.NodeNumbers.{IsNode, is_same}
 use Rattle.mm_planner.proofs.KindSums.{come, hold, keep, leave, pass_on, send, at_node, next_cases, entering_kinds, leaving_kinds}
 
@@ -53,6 +56,26 @@ nothing m r = grid_zeros (λ _ _. 0) m r (λ _ _ _ _ _. refl)
 no_step : (m : ℕ) → sum_by (λ _. 0) (range_with_len 1 m) ≡ 0
 no_step m = sum_by_range_zeros (λ _. 0) 1 m (λ _ _ _. refl)
 
+-- the arcs of dumps begin at no node that is neither an input nor what a store holds
+no_dump : (come : Arrivals) (carries : ℕ → ℕ → ℕ) (n : Node) (m r : ℕ) → ((t s : ℕ) → is_same (Out t s) n ≡ false)
+    → ((t s : ℕ) → is_same (In t s) n ≡ false) → grid (at_node (dump_node come) carries n) m r ≡ 0
+no_dump Before carries n m r no_out no_in = grid_zeros (at_node (dump_node Before) carries n) m r
+    (λ t s _ _ _. ap (λ b. cond b (carries t s) 0) (no_out t s))
+no_dump During carries n m r no_out no_in = grid_zeros (at_node (dump_node During) carries n) m r
+    (λ t s _ _ _. ap (λ b. cond b (carries t s) 0) (no_in t s))
+
+-- those that begin at a store's input
+dump_from_in : (come : Arrivals) (carries : ℕ → ℕ → ℕ) (m r t s : ℕ) → 1 ≤ t → t ≤ m → s < r
+    → grid (at_node (dump_node come) carries (In t s)) m r ≡ from_in come (carries t s)
+dump_from_in Before carries m r t s first last below = nothing m r
+dump_from_in During carries m r t s first last below = at_place carries m r t s first last below
+
+-- those that begin at what it holds
+dump_from_out : (come : Arrivals) (carries : ℕ → ℕ → ℕ) (m r t s : ℕ) → 1 ≤ t → t ≤ m → s < r
+    → grid (at_node (dump_node come) carries (Out t s)) m r ≡ from_out come (carries t s)
+dump_from_out Before carries m r t s first last below = at_place carries m r t s first last below
+dump_from_out During carries m r t s first last below = nothing m r
+
 -- ---- the arcs that meet a node
 
 -- the source, or a node of one of the problem's steps
@@ -79,8 +102,8 @@ enters q f (Pass t) = sum_by (pass_on q f t) (range_with_len 0 (length q.limits)
 abbrev pub exits : Dumping → Flow → Node → ℕ
 exits q f Source = grid (come q f) (length q.windows) (length q.rows)
 exits q f Sink = 0
-exits q f (In t s) = hold q f t s
-exits q f (Out t s) = keep q f t s + leave q f t s
+exits q f (In t s) = hold q f t s + from_in q.come (leave q f t s)
+exits q f (Out t s) = keep q f t s + from_out q.come (leave q f t s)
 exits q f (Channel t c) = pass_on q f t c
 exits q f (Pass t) = send q f t
 
@@ -145,18 +168,19 @@ module _ (q : Dumping) (a : Inflows) (is : IsDumping q) (f : Flow) where
   -- what leaves a node
   pub leaving_is : (n : Node) → IsMet q n → leaving (net_by q a) f (number_of n) ≡ exits q f n
   leaving_is Source met =
-      omega (arith, leaving_kinds q a is f Source tt, nothing (length q.windows) (length q.rows), nothing (length q.windows) (length q.limits), no_step (length q.windows))
+      omega (arith, no_dump q.come (leave q f) Source (length q.windows) (length q.rows) (λ _ _. refl) (λ _ _. refl), leaving_kinds q a is f Source tt, nothing (length q.windows) (length q.rows), nothing (length q.windows) (length q.limits), no_step (length q.windows))
   leaving_is Sink met = absurd met
   leaving_is (In zero s) met = absurd met
   leaving_is (In (suc t) s) met =
-      omega (arith, leaving_kinds q a is f (In (suc t) s) (is_node (In (suc t) s) met), nothing (length q.windows) (length q.rows), nothing (length q.windows) (length q.limits), no_step (length q.windows), at_place (hold q f) (length q.windows) (length q.rows) (suc t) s (omega arith) (omega (arith, met.0)) met.1)
+      omega (arith, dump_from_in q.come (leave q f) (length q.windows) (length q.rows) (suc t) s (omega arith) (omega (arith, met.0)) met.1, leaving_kinds q a is f (In (suc t) s) (is_node (In (suc t) s) met), nothing (length q.windows) (length q.rows), nothing (length q.windows) (length q.limits), no_step (length q.windows), at_place (hold q f) (length q.windows) (length q.rows) (suc t) s (omega arith) (omega (arith, met.0)) met.1)
   leaving_is (Out t s) met =
-      omega (arith, leaving_kinds q a is f (Out t s) (is_node (Out t s) met), nothing (length q.windows) (length q.rows), nothing (length q.windows) (length q.limits), no_step (length q.windows), at_place (keep q f) (length q.windows) (length q.rows) t s met.0 met.1 met.2, at_place (leave q f) (length q.windows) (length q.rows) t s met.0 met.1 met.2)
+      omega (arith, leaving_kinds q a is f (Out t s) (is_node (Out t s) met), nothing (length q.windows) (length q.rows), nothing (length q.windows) (length q.limits), no_step (length q.windows), at_place (keep q f) (length q.windows) (length q.rows) t s met.0 met.1 met.2, dump_from_out q.come (leave q f) (length q.windows) (length q.rows) t s met.0 met.1 met.2)
   leaving_is (Channel t c) met =
-      omega (arith, leaving_kinds q a is f (Channel t c) (is_node (Channel t c) met), nothing (length q.windows) (length q.rows), no_step (length q.windows), at_place (pass_on q f) (length q.windows) (length q.limits) t c met.0 met.1 met.2)
+      omega (arith, no_dump q.come (leave q f) (Channel t c) (length q.windows) (length q.rows) (λ _ _. refl) (λ _ _. refl), leaving_kinds q a is f (Channel t c) (is_node (Channel t c) met), nothing (length q.windows) (length q.rows), no_step (length q.windows), at_place (pass_on q f) (length q.windows) (length q.limits) t c met.0 met.1 met.2)
   leaving_is (Pass t) met =
       omega (
         arith,
+        no_dump q.come (leave q f) (Pass t) (length q.windows) (length q.rows) (λ _ _. refl) (λ _ _. refl),
         leaving_kinds q a is f (Pass t) (is_node (Pass t) met),
         nothing (length q.windows) (length q.rows),
         nothing (length q.windows) (length q.limits),
@@ -172,12 +196,12 @@ module _ (q : Dumping) (a : Inflows) (is : IsDumping q) (f : Flow) (value : ℕ)
   conserved n met no_source no_sink =
       sym (entering_is q a is f n met) ∙ flow.conserved (number_of n) no_source no_sink ∙ leaving_is q a is f n met
 
-  -- what comes to a store and what it kept is what it holds
-  pub in_conserved : (t s : ℕ) → t < length q.windows → s < length q.rows → come q f (suc t) s + carried q f t s ≡ hold q f (suc t) s
+  -- what comes to a store and what it kept it holds, or lets go before
+  pub in_conserved : (t s : ℕ) → t < length q.windows → s < length q.rows → come q f (suc t) s + carried q f t s ≡ hold q f (suc t) s + from_in q.come (leave q f (suc t) s)
   in_conserved t s within below = conserved (In (suc t) s) (within, below) (λ same. omega (arith, same)) (λ same. omega (arith, same))
 
   -- what a store holds it keeps or lets go
-  pub out_conserved : (t s : ℕ) → 1 ≤ t → t ≤ length q.windows → s < length q.rows → hold q f t s ≡ keep q f t s + leave q f t s
+  pub out_conserved : (t s : ℕ) → 1 ≤ t → t ≤ length q.windows → s < length q.rows → hold q f t s ≡ keep q f t s + from_out q.come (leave q f t s)
   out_conserved t s first last below = conserved (Out t s) (first, last, below) (λ same. omega (arith, same)) (λ same. omega (arith, same))
 
   -- what leaves the stores of a channel passes it

@@ -74,8 +74,8 @@ differ-turns s t other same = other (sym same)
 
 module _ (q : Dumping) (ds es : List Stretch) (ts us : List ℕ) (stretches : IsPermutation ds es) (counts : IsPermutation ts us) where
   -- the same steps are inner
-  same_inner : is_inner ds ≡ is_inner es
-  same_inner = fun_ext (λ t. list_any-IsPermutation (goes_past t) ds es stretches)
+  same_inner : is_inner q ds ≡ is_inner q es
+  same_inner = fun_ext (λ t. list_any-IsPermutation (goes_past q t) ds es stretches)
 
   same_inner_on : (t : ℕ) → is_inner_on q ds t ≡ is_inner_on q es t
   same_inner_on t = fun_ext (λ c. list_any-IsPermutation (goes_past_on q t c) ds es stretches)
@@ -106,7 +106,7 @@ module _ (q : Dumping) (ds es : List Stretch) (ts us : List ℕ) (stretches : Is
       ∙ ap (λ on. cond (is_listed us t) (sum_by (limit_or_0 q t) (filter on (channels q))) (window q t)) (same_inner_on t))
 
   same_leaving_sum : leaving_sum q ds ts ≡ leaving_sum q es us
-  same_leaving_sum = ap (λ inner. sum_by (leaving q ds ts) (filter inner (steps q))) same_inner ∙ ap (λ f. sum_by f (filter (is_inner es) (steps q))) same_leaving
+  same_leaving_sum = ap (λ inner. sum_by (leaving q ds ts) (filter inner (steps q))) same_inner ∙ ap (λ f. sum_by f (filter (is_inner q es) (steps q))) same_leaving
 
   -- its bound stays the same
   pub bound_in_order : bound q es us ≡ bound q ds ts

@@ -8,15 +8,16 @@ use Rattle.mm_base.proofs.Groups.{sum_by-le_groups}
 use Rattle.mm_base.proofs.RangeSums.{sum_by_range_more, sum_by_range-le, sum_by_range_same}
 use Rattle.mm_base.proofs.Ranges.{All-range_with_len}
 use Rattle.mm_base.proofs.Sums.{sum_by-add, sum_by-filter, sum_by-swap}
-use Rattle.mm_problem.specs.Dumping.{Dumping, IsDumping, start, channel, window, arrivals, is_of, stores, steps}
-use Rattle.mm_plan.specs.Volumes.{Amounts, left, written, lost, store_loss, loss, first_loss}
+use Rattle.mm_problem.specs.Dumping.{Dumping, IsDumping, size, start, channel, window, arrivals, is_of, stores, steps}
+use Rattle.mm_plan.specs.Volumes.{Amounts, left_by, left, there, written, lost, store_loss, loss, first_loss}
 use Rattle.mm_plan.specs.Fit.{in_step, FitsLimit, Fits}
-use Rattle.mm_plan.proofs.Steps.{left_step, left_start}
+use Rattle.mm_plan.proofs.Steps.{left_step, left_start, step_balance}
 use Rattle.mm_flow.specs.Flow.{Flow, IsFlow}
 use Rattle.mm_planner.specs.declared.nodes.TheConstants.{SOURCE, SINK}
 use Rattle.mm_planner.specs.Network.{inflow, net}
 use Rattle.mm_planner.specs.Taken.{AreTaken}
-use Rattle.mm_planner.proofs.KindSums.{come, hold, leave, pass_on, channel_within}
+use Rattle.mm_planner.proofs.Dumps.{IsKept, is_kept}
+use Rattle.mm_planner.proofs.KindSums.{come, hold, keep, leave, pass_on, channel_within}
 use Rattle.mm_planner.proofs.Capacities.{come_within, hold_within, pass_on_within, send_within}
 use Rattle.mm_planner.proofs.Conserved.{carried, in_conserved, out_conserved, channel_conserved, pass_conserved, come_is_value}
 
@@ -41,10 +42,6 @@ module _ (q : Dumping) (is : IsDumping q) (f : Flow) (value : ℕ) (flow : IsFlo
   left_before : (s t : ℕ) → left q x s (suc t - 1) ≡ left q x s t
   left_before s t = let e : suc t - 1 ≡ t = omega arith in ap (left q x s) e
 
-  -- what stands in it after
-  left_after : (s t : ℕ) → left q x s (suc t) ≡ written q x s (suc t) - min (x s (suc t)) (written q x s (suc t))
-  left_after s t = left_step q x s t (suc t) (add-one t)
-
   -- what comes and what was kept is at most what arrives and what was left
   comes_within : (t s : ℕ) → t < length q.windows → s < length q.rows → carried q f t s ≤ left q x s t → come q f (suc t) s + carried q f t s ≤ left q x s t + arrivals q s (suc t)
   comes_within zero s within below so_far =
@@ -52,22 +49,33 @@ module _ (q : Dumping) (is : IsDumping q) (f : Flow) (value : ℕ) (flow : IsFlo
   comes_within (suc t) s within below so_far =
       omega (arith, come_within q (inflow q) f flow.within (suc (suc t)) s (omega arith) (omega arith) below, inflow_is q (suc t) s, so_far)
 
-  -- what a flow holds is written
-  hold_written : (t s : ℕ) → t < length q.windows → s < length q.rows → carried q f t s ≤ left q x s t → hold q f (suc t) s ≤ written q x s (suc t)
-  hold_written t s within below so_far =
-      omega (arith, comes_within t s within below so_far, in_conserved q (inflow q) is f value flow t s within below, hold_within q (inflow q) f flow.within (suc t) s (omega arith) (omega arith) below, left_before s t)
+  -- what a flow does in a step, a plan can do that dumps as much
+  step_kept : (t s : ℕ) → t < length q.windows → s < length q.rows → carried q f t s ≤ left q x s t
+      → IsKept q.come (size q s (suc t)) (there q x s (suc t)) (keep q f (suc t) s) (leave q f (suc t) s)
+      (come q f (suc t) s + carried q f t s)
+  step_kept t s within below so_far =
+      let income : come q f (suc t) s + carried q f t s ≤ there q x s (suc t) =
+      omega (arith, comes_within t s within below so_far, left_before s t) in
+      is_kept q.come (size q s (suc t)) (there q x s (suc t)) (hold q f (suc t) s) (keep q f (suc t) s)
+      (leave q f (suc t) s) (come q f (suc t) s + carried q f t s)
+      (in_conserved q (inflow q) is f value flow t s within below)
+      (out_conserved q (inflow q) is f value flow (suc t) s (omega arith) (omega arith) below)
+      (hold_within q (inflow q) f flow.within (suc t) s (omega arith) (omega arith) below) income
 
   -- what a flow keeps is at most what the plan leaves
   keep_left : (t s : ℕ) → t ≤ length q.windows → s < length q.rows → carried q f t s ≤ left q x s t
   keep_left zero s within below = omega arith
   keep_left (suc t) s within below =
-      omega (arith, hold_written t s (omega arith) below (keep_left t s (omega arith) below), out_conserved q (inflow q) is f value flow (suc t) s (omega arith) within below, taken s (suc t) below (omega arith) within, left_after s t)
+      let kept = step_kept t s (omega arith) below (keep_left t s (omega arith) below) in
+      let is_left = left_step q x s t (suc t) (add-one t)
+      ∙ ap (left_by q.come (size q s (suc t)) (there q x s (suc t))) (taken s (suc t) below (omega arith) within) in
+      rw is_left kept.keeps
 
   -- over the first steps, what a store lost and what came to it
   lost_and_come : (t s : ℕ) → t ≤ length q.windows → s < length q.rows → sum_by (lost q x s) (range_with_len 1 t) + sum_by (λ u. come q f u s) (range_with_len 1 t) + left q x s t ≤ sum_by (λ u. inflow q u s) (range_with_len 1 t) + carried q f t s + opening_at q t s
   lost_and_come zero s within below = omega (arith, left_start q x s)
   lost_and_come (suc t) s within below =
-      let before = keep_left t s (omega arith) below in
+      let kept = step_kept t s (omega arith) below (keep_left t s (omega arith) below) in
       omega (
         arith,
         lost_and_come t s (omega arith) below,
@@ -75,11 +83,10 @@ module _ (q : Dumping) (is : IsDumping q) (f : Flow) (value : ℕ) (flow : IsFlo
         sum_by_steps-suc (λ u. come q f u s) t,
         sum_by_steps-suc (λ u. inflow q u s) t,
         left_before s t,
-        left_after s t,
         inflow_is q t s,
-        hold_written t s (omega arith) below before,
-        in_conserved q (inflow q) is f value flow t s (omega arith) below,
-        out_conserved q (inflow q) is f value flow (suc t) s (omega arith) within below,
+        step_balance q x s t (suc t) (add-one t),
+        kept.leaves,
+        kept.all,
         taken s (suc t) below (omega arith) within,
       )
 

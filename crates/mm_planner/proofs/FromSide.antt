@@ -13,15 +13,17 @@ use Rattle.mm_base.proofs.Pairs.{AllPairs-map}
 use Rattle.mm_base.proofs.RangeSums.{sum_by_range-le, sum_by_range_same}
 use Rattle.mm_base.proofs.Ranges.{All-filter-range_with_len, All-flat_map-range_with_len, AllPairs-filter-range_with_len, AllPairs-flat_map-range_with_len, is_listed-filter, not_listed-filter}
 use Rattle.mm_base.proofs.Sums.{sum_by-add, sum_by-filter, sum_by-flat_map, sum_by-map-filter, sum_by-swap}
+use Rattle.mm_problem.specs.declared.come.Arrivals.{Arrivals}
+use Rattle.mm_problem.specs.declared.come.Arrivals.TheVariants.{Before, During}
 use Rattle.mm_problem.specs.Dumping.{Dumping, IsDumping, no_row, row, place, size, start, window, arrivals, channels, steps}
 use Rattle.mm_plan.specs.declared.stretch.Stretch.{Stretch}
-use Rattle.mm_cut.specs.Stretches.{store_of, channel_of, goes_past, goes_past_on, is_inner, is_inner_on, IsStretch, AreApart, AreStretches}
+use Rattle.mm_cut.specs.Stretches.{store_of, channel_of, inner_end, goes_past, goes_past_on, is_inner, is_inner_on, IsStretch, AreApart, AreStretches}
 use Rattle.mm_cut.specs.Counts.{is_listed, IsLimited, IsCounted, AreCounted}
 use Rattle.mm_cut.specs.Cuts.{coming, held, limit_or_0, limit_sum, leaving, leaving_sum}
 use Rattle.mm_flow.specs.Cut.{Side, IsCut, capacity_of}
 use Rattle.mm_planner.specs.declared.nodes.TheConstants.{SOURCE, SINK}
 use Rattle.mm_planner.specs.declared.nodes.Node.TheVariants.{In, Out, Channel, Pass}
-use Rattle.mm_planner.specs.Network.{Inflows, inflow, net_by}
+use Rattle.mm_planner.specs.Network.{Inflows, inflow, dump_node, net_by}
 use Rattle.mm_planner.specs.Runs.{is_on, is_end, first_step, stretch, stretches_of, first_stretches, is_by_channels, first_counts}
 use Rattle.mm_planner.proofs.Wider.{grid-wider}
 use Rattle.mm_planner.proofs.KindSums.{next_cases, channel_within}
@@ -35,10 +37,10 @@ store_named q is s within =
     (λ k before. false_from_ne_true (bytes_eq (row q k).id (row q s).id) (λ same. is.stores.named k s no_row before within ((bytes_eq-Decides (row q k).id (row q s).id).0 same)))
     (λ _. (bytes_eq-Decides (row q s).id (row q s).id).1 refl)
 
--- a stretch of the problem, in each inner step of which what its store holds is on the side
+-- a stretch of the problem, in each inner step of which the node of its store's dumps is on the side
 record IsRun (q : Dumping) (side : Side) (d : Stretch) : Type 0 where
   stretch_is : IsStretch q d
-  inner : (t : ℕ) → goes_past t d ≡ true → is_on side (Out t (store_of q d)) ≡ true
+  inner : (t : ℕ) → goes_past q t d ≡ true → is_on side (dump_node q.come t (store_of q d)) ≡ true
 
 module _ (q : Dumping) (is : IsDumping q) (n : ℕ) (few : n ≤ length q.rows) (a : Inflows) (as_comes : (t s : ℕ) → s < n → a t s ≡ inflow q t s) (side : Side) (cut : IsCut (net_by q a) SOURCE SINK side) where
   -- a run goes on into the next step
@@ -68,16 +70,29 @@ module _ (q : Dumping) (is : IsDumping q) (n : ℕ) (few : n ≤ length q.rows) 
   passed : (a b t : ℕ) → (leb a t && ltb t b) ≡ true → (a ≤ t) × (t < b)
   passed a b t at = let parts = and_parts (leb a t) (ltb t b) at in (leb-true a t parts.0, ltb-true t b parts.1)
 
+  -- in each inner step of a run the node of the store's dumps is on the side
+  inner_inside : (come : Arrivals) (s t u : ℕ) → is_end side s t ≡ true → first_step side s t ≤ u
+      → u < inner_end come (stretch q side s t) → is_on side (dump_node come u s) ≡ true
+  inner_inside Before s t u end low high =
+      (and_parts (is_on side (In u s)) (is_on side (Out u s)) (first_step-goes_on side s t u low high)).1
+  inner_inside During s t u end low high = elim (cases_lt u t) [
+    | inl before ↦
+        (and_parts (is_on side (In u s)) (is_on side (Out u s)) (first_step-goes_on side s t u low before)).0
+    | inr past ↦
+        let same : u ≡ t = omega arith in
+        rw same (and_parts (is_on side (In t s)) (not (is_on side (Out t s))) end).0
+  ]
+
   -- a run is a stretch
-  stretch_is_run : (s t : ℕ) → s < length q.rows → 1 ≤ t → t < 1 + length q.windows → IsRun q side (stretch q side s t)
-  stretch_is_run s t below first last =
+  stretch_is_run : (s t : ℕ) → s < length q.rows → 1 ≤ t → t < 1 + length q.windows → is_end side s t ≡ true
+      → IsRun q side (stretch q side s t)
+  stretch_is_run s t below first last end =
       let named = store_named q is s below in
       record {
         stretch_is = record { store = omega (arith, named); first = first_step-low side s t; order = stretch_order s t first; last = omega arith };
         inner = λ u at.
-            let inside = passed (first_step side s t) t u at in
-            let on = first_step-goes_on side s t u inside.0 inside.1 in
-            ap (λ k. is_on side (Out u k)) named ∙ (and_parts (is_on side (In u s)) (is_on side (Out u s)) on).1;
+            let inside = passed (first_step side s t) (inner_end q.come (stretch q side s t)) u at in
+            ap (λ k. is_on side (dump_node q.come u k)) named ∙ inner_inside q.come s t u end inside.0 inside.1;
       }
 
   -- each of the stretches is a run
@@ -85,7 +100,7 @@ module _ (q : Dumping) (is : IsDumping q) (n : ℕ) (few : n ≤ length q.rows) 
   all_runs =
       All-flat_map-range_with_len (IsRun q side) (stretches_of q side) 0 n
       (λ s _ below. All-map (IsRun q side) (stretch q side s) (filter (is_end side s) (steps q))
-      (All-filter-range_with_len (λ t. IsRun q side (stretch q side s t)) (is_end side s) 1 (length q.windows) (λ t low high _. stretch_is_run s t (omega (arith, few)) low high)))
+      (All-filter-range_with_len (λ t. IsRun q side (stretch q side s t)) (is_end side s) 1 (length q.windows) (λ t low high end. stretch_is_run s t (omega (arith, few)) low high end)))
 
   -- two runs of one store
   apart_in_store : (s t u : ℕ) → t < u → is_end side s t ≡ true → AreApart (stretch q side s t) (stretch q side s u)
@@ -119,7 +134,7 @@ module _ (q : Dumping) (is : IsDumping q) (n : ℕ) (few : n ≤ length q.rows) 
   are_stretches = record { each = λ k d within. (all_runs k d within).stretch_is; apart = all_apart }
 
   -- in an inner step of a run, the channel of its store is on the side
-  inner_channel : (d : Stretch) (t : ℕ) → IsRun q side d → 1 ≤ t → t ≤ length q.windows → goes_past t d ≡ true → is_on side (Channel t (channel_of q d)) ≡ true
+  inner_channel : (d : Stretch) (t : ℕ) → IsRun q side d → 1 ≤ t → t ≤ length q.windows → goes_past q t d ≡ true → is_on side (Channel t (channel_of q d)) ≡ true
   inner_channel d t run first last at = take_inside q a side cut t (store_of q d) first last run.stretch_is.store (run.inner t at)
 
   -- the steps that count by channels are steps that can be counted so
@@ -133,11 +148,11 @@ module _ (q : Dumping) (is : IsDumping q) (n : ℕ) (few : n ≤ length q.rows) 
   -- so are the counted steps
   pub are_counted : AreCounted q (first_stretches n q side) (first_counts n q side)
   are_counted = record {
-    each = All-filter-range_with_len (IsCounted q (first_stretches n q side)) (is_by_channels side (first_stretches n q side)) 1 (length q.windows)
+    each = All-filter-range_with_len (IsCounted q (first_stretches n q side)) (is_by_channels q side (first_stretches n q side)) 1 (length q.windows)
         (λ t low high at.
-        let parts = and_parts (is_inner (first_stretches n q side) t) (not (is_on side (Pass t))) at in
+        let parts = and_parts (is_inner q (first_stretches n q side) t) (not (is_on side (Pass t))) at in
         record { inner = parts.0; limited = counted_limited t low (omega arith) (not-true (is_on side (Pass t)) parts.1) });
-    once = AllPairs-filter-range_with_len ◌≢◌ (is_by_channels side (first_stretches n q side)) 1 (length q.windows) (λ t u _ before _ _ _ same. omega arith);
+    once = AllPairs-filter-range_with_len ◌≢◌ (is_by_channels q side (first_stretches n q side)) 1 (length q.windows) (λ t u _ before _ _ _ same. omega arith);
   }
 
   -- what comes over the runs of one store
@@ -157,14 +172,14 @@ module _ (q : Dumping) (is : IsDumping q) (n : ℕ) (few : n ≤ length q.rows) 
       ∙ sym (sum_by-swap (λ t s. cond (is_on side (In t s)) (inflow q t s) 0) (steps q) (range_with_len 0 n))
 
   -- what is held at the ends of all stretches
-  all_held : sum_by (held q) (first_stretches n q side) ≡ grid (λ t s. cond (is_end side s t) (size q s) 0) (length q.windows) n
+  all_held : sum_by (held q) (first_stretches n q side) ≡ grid (λ t s. cond (is_end side s t) (size q s t) 0) (length q.windows) n
   all_held =
-      let one : (s : ℕ) → s < length q.rows → sum_by (held q) (stretches_of q side s) ≡ sum_by (λ t. cond (is_end side s t) (size q s) 0) (steps q) =
+      let one : (s : ℕ) → s < length q.rows → sum_by (held q) (stretches_of q side s) ≡ sum_by (λ t. cond (is_end side s t) (size q s t) 0) (steps q) =
       λ s below. sum_by-map-filter (held q) (stretch q side s) (is_end side s) (steps q)
-      ∙ sum_by_range_same (λ t. cond (is_end side s t) (held q (stretch q side s t)) 0) (λ t. cond (is_end side s t) (size q s) 0) 1 (length q.windows) (λ t _ _. ap (λ k. cond (is_end side s t) (size q k) 0) (store_named q is s below)) in
+      ∙ sum_by_range_same (λ t. cond (is_end side s t) (held q (stretch q side s t)) 0) (λ t. cond (is_end side s t) (size q s t) 0) 1 (length q.windows) (λ t _ _. ap (λ k. cond (is_end side s t) (size q k t) 0) (store_named q is s below)) in
       sum_by-flat_map (held q) (stretches_of q side) (range_with_len 0 n)
-      ∙ sum_by_range_same (λ s. sum_by (held q) (stretches_of q side s)) (λ s. sum_by (λ t. cond (is_end side s t) (size q s) 0) (steps q)) 0 n (λ s _ below. one s (omega (arith, few)))
-      ∙ sym (sum_by-swap (λ t s. cond (is_end side s t) (size q s) 0) (steps q) (range_with_len 0 n))
+      ∙ sum_by_range_same (λ s. sum_by (held q) (stretches_of q side s)) (λ s. sum_by (λ t. cond (is_end side s t) (size q s t) 0) (steps q)) 0 n (λ s _ below. one s (omega (arith, few)))
+      ∙ sym (sum_by-swap (λ t s. cond (is_end side s t) (size q s t) 0) (steps q) (range_with_len 0 n))
 
   -- what comes to all stores, on the side and off it
   all_inflow : grid (inflow q) (length q.windows) n ≡ grid (λ t s. cond (is_on side (In t s)) (inflow q t s) 0) (length q.windows) n + grid (λ t s. cond (is_on side (In t s)) 0 (inflow q t s)) (length q.windows) n
@@ -185,7 +200,7 @@ module _ (q : Dumping) (is : IsDumping q) (n : ℕ) (few : n ≤ length q.rows) 
   inner_on_inside : (t c : ℕ) → 1 ≤ t → t ≤ length q.windows → is_inner_on q (first_stretches n q side) t c ≡ true → is_on side (Channel t c) ≡ true
   inner_on_inside t c first last at =
       let some = Any-from_list_any (goes_past_on q t c) (first_stretches n q side) at in
-      let parts = and_parts (goes_past t some.1) (eqb (channel_of q some.1) c) some.4 in
+      let parts = and_parts (goes_past q t some.1) (eqb (channel_of q some.1) c) some.4 in
       let run : IsRun q side some.1 = subst (IsRun q side) some.3 (all_runs some.0 some.1 some.2) in
       sym (ap (λ k. is_on side (Channel t k)) (eqb-true (channel_of q some.1) c parts.1)) ∙ inner_channel some.1 t run first last parts.0
 
@@ -208,17 +223,17 @@ module _ (q : Dumping) (is : IsDumping q) (n : ℕ) (few : n ≤ length q.rows) 
       )
 
   -- what may leave the inner stores of a step is what its gates let through
-  leaving_within : (t : ℕ) → 1 ≤ t → t ≤ length q.windows → cond (is_inner (first_stretches n q side) t) (leaving q (first_stretches n q side) (first_counts n q side) t) 0 ≤ gates t
+  leaving_within : (t : ℕ) → 1 ≤ t → t ≤ length q.windows → cond (is_inner q (first_stretches n q side) t) (leaving q (first_stretches n q side) (first_counts n q side) t) 0 ≤ gates t
   unfolding gates
-  leaving_within t first last = elim (cases_Bool (is_inner (first_stretches n q side) t)) [
-    | inr none ↦ omega (arith, cond-false (is_inner (first_stretches n q side) t) (leaving q (first_stretches n q side) (first_counts n q side) t) 0 none)
+  leaving_within t first last = elim (cases_Bool (is_inner q (first_stretches n q side) t)) [
+    | inr none ↦ omega (arith, cond-false (is_inner q (first_stretches n q side) t) (leaving q (first_stretches n q side) (first_counts n q side) t) 0 none)
     | inl inner ↦ elim (cases_Bool (is_on side (Pass t))) [
       | inl inside ↦
-          let unlisted = not_listed-filter (is_by_channels side (first_stretches n q side)) t (steps q) (fails (is_inner (first_stretches n q side) t) (is_on side (Pass t)) inside) in
-          omega (arith, cond-true (is_inner (first_stretches n q side) t) (leaving q (first_stretches n q side) (first_counts n q side) t) 0 inner, cond-false (is_listed (first_counts n q side) t) (limit_sum q (first_stretches n q side) t) (window q t) unlisted, cond-true (is_on side (Pass t)) (window q t) 0 inside)
+          let unlisted = not_listed-filter (is_by_channels q side (first_stretches n q side)) t (steps q) (fails (is_inner q (first_stretches n q side) t) (is_on side (Pass t)) inside) in
+          omega (arith, cond-true (is_inner q (first_stretches n q side) t) (leaving q (first_stretches n q side) (first_counts n q side) t) 0 inner, cond-false (is_listed (first_counts n q side) t) (limit_sum q (first_stretches n q side) t) (window q t) unlisted, cond-true (is_on side (Pass t)) (window q t) 0 inside)
       | inr outside ↦
-          let listed = is_listed-filter (is_by_channels side (first_stretches n q side)) t 1 (length q.windows) first (omega arith) (and_from (is_inner (first_stretches n q side) t) (not (is_on side (Pass t))) inner (not_from_false (is_on side (Pass t)) outside)) in
-          omega (arith, cond-true (is_inner (first_stretches n q side) t) (leaving q (first_stretches n q side) (first_counts n q side) t) 0 inner, cond-true (is_listed (first_counts n q side) t) (limit_sum q (first_stretches n q side) t) (window q t) listed, limit_sum_within t first last outside)
+          let listed = is_listed-filter (is_by_channels q side (first_stretches n q side)) t 1 (length q.windows) first (omega arith) (and_from (is_inner q (first_stretches n q side) t) (not (is_on side (Pass t))) inner (not_from_false (is_on side (Pass t)) outside)) in
+          omega (arith, cond-true (is_inner q (first_stretches n q side) t) (leaving q (first_stretches n q side) (first_counts n q side) t) 0 inner, cond-true (is_listed (first_counts n q side) t) (limit_sum q (first_stretches n q side) t) (window q t) listed, limit_sum_within t first last outside)
     ]
   ]
     where
@@ -234,8 +249,8 @@ module _ (q : Dumping) (is : IsDumping q) (n : ℕ) (few : n ≤ length q.rows) 
   all_leaving =
       omega (
         arith,
-        sum_by-filter (leaving q (first_stretches n q side) (first_counts n q side)) (is_inner (first_stretches n q side)) (steps q),
-        sum_by_range-le (λ t. cond (is_inner (first_stretches n q side) t) (leaving q (first_stretches n q side) (first_counts n q side) t) 0) gates 1 (length q.windows) (λ t low high. leaving_within t low (omega arith)),
+        sum_by-filter (leaving q (first_stretches n q side) (first_counts n q side)) (is_inner q (first_stretches n q side)) (steps q),
+        sum_by_range-le (λ t. cond (is_inner q (first_stretches n q side) t) (leaving q (first_stretches n q side) (first_counts n q side) t) 0) gates 1 (length q.windows) (λ t low high. leaving_within t low (omega arith)),
         sum_by-add (λ t. sum_by (λ c. cond (is_on side (Channel t c) && not (is_on side (Pass t))) (limit_or_0 q t c) 0) (channels q)) (λ t. cond (is_on side (Pass t)) (window q t) 0) (steps q),
       )
 
@@ -263,6 +278,6 @@ module _ (q : Dumping) (is : IsDumping q) (n : ℕ) (few : n ≤ length q.rows) 
         all_leaving,
         off_side,
         grid-wider (λ t s. cond (is_on side (In t s)) 0 (a t s)) (length q.windows) n (length q.rows) few,
-        grid-wider (λ t s. cond (is_end side s t) (size q s) 0) (length q.windows) n (length q.rows) few,
+        grid-wider (λ t s. cond (is_end side s t) (size q s t) 0) (length q.windows) n (length q.rows) few,
         capacity_kinds q a side cut.has_source cut.lacks_sink,
       )

@@ -16,9 +16,10 @@ use Rattle.mm_flow.specs.Flow.{Flow, entering, leaving}
 use Rattle.mm_planner.specs.declared.nodes.Node.{Node}
 use Rattle.mm_planner.specs.declared.nodes.Node.TheVariants.{Source, Sink, In, Out, Channel, Pass}
 use Rattle.mm_planner.specs.Nodes.{number_of}
-use Rattle.mm_planner.specs.Network.{Inflows, next_node, net_by}
+use Rattle.mm_planner.specs.Network.{dump_node, Inflows, next_node, net_by}
 use Rattle.mm_planner.specs.Taken.{take_place}
 use Rattle.mm_planner.proofs.NodeNumbers.{IsNode, is_same, eqb-number_of}
+use Rattle.mm_planner.proofs.Dumps.{dump_is_node}
 use Rattle.mm_planner.proofs.ArcSums.{come_place, hold_place, keep_place, limit_place, window_place, arcs_by_kind}
 
 -- what a flow carries on the arcs of each kind
@@ -100,7 +101,7 @@ module _ (q : Dumping) (a : Inflows) (is : IsDumping q) (f : Flow) (n : Node) (i
       )
 
   -- what leaves a node
-  pub leaving_kinds : leaving (net_by q a) f (number_of n) ≡ grid (at_node (λ _ _. Source) (come q f) n) (length q.windows) (length q.rows) + grid (at_node (λ t s. In t s) (hold q f) n) (length q.windows) (length q.rows) + grid (at_node (λ t s. Out t s) (keep q f) n) (length q.windows) (length q.rows) + grid (at_node (λ t s. Out t s) (leave q f) n) (length q.windows) (length q.rows) + grid (at_node (λ t c. Channel t c) (pass_on q f) n) (length q.windows) (length q.limits) + sum_by (λ t. cond (is_same (Pass t) n) (send q f t) 0) (range_with_len 1 (length q.windows))
+  pub leaving_kinds : leaving (net_by q a) f (number_of n) ≡ grid (at_node (λ _ _. Source) (come q f) n) (length q.windows) (length q.rows) + grid (at_node (λ t s. In t s) (hold q f) n) (length q.windows) (length q.rows) + grid (at_node (λ t s. Out t s) (keep q f) n) (length q.windows) (length q.rows) + grid (at_node (dump_node q.come) (leave q f) n) (length q.windows) (length q.rows) + grid (at_node (λ t c. Channel t c) (pass_on q f) n) (length q.windows) (length q.limits) + sum_by (λ t. cond (is_same (Pass t) n) (send q f t) 0) (range_with_len 1 (length q.windows))
   unfolding leaving
   leaving_kinds =
       let m = length q.windows in
@@ -114,7 +115,7 @@ module _ (q : Dumping) (a : Inflows) (is : IsDumping q) (f : Flow) (n : Node) (i
         kind_at (λ _ _. Source) (come q f) n m r is_node (λ t k _ _ _. tt),
         kind_at (λ t s. In t s) (hold q f) n m r is_node (λ t k low _ within. (low, omega arith)),
         kind_at (λ t s. Out t s) (keep q f) n m r is_node (λ t k low _ within. (low, omega arith)),
-        kind_at (λ t s. Out t s) (leave q f) n m r is_node (λ t k low _ within. (low, omega arith)),
+        kind_at (dump_node q.come) (leave q f) n m r is_node (λ t k low _ within. dump_is_node q.come t k low (omega arith)),
         kind_at (λ t c. Channel t c) (pass_on q f) n m (length q.limits) is_node (λ t k low _ within. (low, omega arith)),
         windows_at (λ t. Pass t) (send q f) n m is_node (λ t low. low),
       )

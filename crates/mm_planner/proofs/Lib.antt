@@ -1,5 +1,6 @@
 pub mod ArcSums
 pub mod NodeNumbers
+pub mod Dumps
 pub mod Wider
 pub mod KindSums
 pub mod Conserved

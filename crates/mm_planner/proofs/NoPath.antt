@@ -13,8 +13,9 @@ use Rattle.mm_planner.specs.declared.nodes.TheConstants.{SOURCE, SINK}
 use Rattle.mm_planner.specs.declared.nodes.Node.TheVariants.{In, Out, Channel, Pass}
 use Rattle.mm_planner.specs.declared.way.Way.TheVariants.{Come, Hold, Keep, Take}
 use Rattle.mm_planner.specs.Nodes.{number_of}
-use Rattle.mm_planner.specs.Network.{Inflows, store_arc, limit_arc, window_arc, net_by}
+use Rattle.mm_planner.specs.Network.{dump_node, Inflows, store_arc, limit_arc, window_arc, net_by}
 use Rattle.mm_planner.specs.Taken.{take_place}
+use Rattle.mm_planner.proofs.Dumps.{dump_not_source}
 use Rattle.mm_planner.proofs.ArcSums.{come_place, hold_place, keep_place, limit_place, window_place, kind_sum, arcs_by_kind}
 
 -- whether an arc has no limit, as a number
@@ -38,7 +39,7 @@ none_from_source q a =
       grid_zeros (kind_sum F (come_place q) (store_arc q a Come)) m r (λ t s _ _ _. refl),
       grid_zeros (kind_sum F (hold_place q) (store_arc q a Hold)) m r (λ t s low _ _. cond-eqb_other (number_of (In t s)) SOURCE 0 (λ same. omega arith)),
       grid_zeros (kind_sum F (keep_place q) (store_arc q a Keep)) m r (λ t s low _ _. cond-eqb_other (number_of (Out t s)) SOURCE 1 (λ same. omega arith)),
-      grid_zeros (kind_sum F (take_place q) (store_arc q a Take)) m r (λ t s low _ _. cond-eqb_other (number_of (Out t s)) SOURCE 1 (λ same. omega arith)),
+      grid_zeros (kind_sum F (take_place q) (store_arc q a Take)) m r (λ t s low _ _. cond-eqb_other (number_of (dump_node q.come t s)) SOURCE 1 (dump_not_source q.come t s low)),
       grid_zeros (kind_sum F (limit_place q) (limit_arc q)) m (length q.limits) (λ t c low _ _. cond-eqb_other (number_of (Channel t c)) SOURCE _ (λ same. omega arith)),
       sum_by_range_zeros (λ t. F (window_place q t) (window_arc q t)) 1 m (λ t low _. cond-eqb_other (number_of (Pass t)) SOURCE 0 (λ same. omega arith)),
     )

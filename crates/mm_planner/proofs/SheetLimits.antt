@@ -18,9 +18,10 @@ use Rattle.mm_plan.specs.Table.{amount}
 use Rattle.mm_plan.specs.Volumes.{Amounts}
 use Rattle.mm_plan.specs.Sheet.{SheetRows, CertificateRows, IsCertificate, AreFirsts, IsWritten}
 use Rattle.mm_cut.specs.Firsts.{ShowFirsts}
-use Rattle.mm_cut.specs.Stretches.{store_of, goes_past, IsStretch, AreStretches}
+use Rattle.mm_cut.specs.Stretches.{store_of, inner_end, goes_past, IsStretch, AreStretches}
 use Rattle.mm_cut.specs.Counts.{IsCounted}
 use Rattle.mm_cut.specs.Cuts.{IsCut, CutsAreFew}
+use Rattle.mm_cut.proofs.StretchLosses.{inner_end-le}
 use Rattle.mm_planner.specs.declared.planner.Planned.{Planned}
 use Rattle.mm_planner.specs.Planned.{IsPlan}
 use Rattle.mm_planner.specs.InOrder.{IsPlanInOrder}
@@ -43,12 +44,13 @@ stretch_store q d is each =
     (passes_at_first (λ r. bytes_eq r.id d.store) q.rows no_row is.store) in
     subst IsIdField (get_or-map (λ r. r.id) q.rows place no_row [] is.store ∙ found) at
 
--- a counted step is not the last
-counted_below : (q : Dumping) (ds : List Stretch) (t : ℕ) → AreStretches q ds → IsCounted q ds t → t < length q.windows
+-- a counted step is one of the steps
+counted_below : (q : Dumping) (ds : List Stretch) (t : ℕ) → AreStretches q ds → IsCounted q ds t → t ≤ length q.windows
 counted_below q ds t are is =
-    let some = Any-from_list_any (goes_past t) ds is.inner in
+    let some = Any-from_list_any (goes_past q t) ds is.inner in
     let last = (All-contains (IsStretch q) ds some.1 are.each (some.0, some.2, some.3)).last in
     let passed = some.4 in
+    let end = inner_end-le q.come some.1 in
     grind (arith, nat_tests)
 
 -- a certificate of a cut of the problem, with a loss and a bound that a problem may have

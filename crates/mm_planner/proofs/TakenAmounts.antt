@@ -1,42 +1,42 @@
 -- What a flow takes from the stores is within the range of blocks.
-use Rattle.std.proofs.Common.{◌≡◌, ℕ, ◌+◌, ◌<◌, ◌≤◌, length, slice_index, sym, subst, ◌∙◌, inl, inr, arith}
+use Rattle.std.proofs.Common.{◌≡◌, ℕ, ◌+◌, ◌-◌, refl, ◌<◌, ◌≤◌, length, slice_index, sym, subst, ◌∙◌, inl, inr, arith}
 use Rattle.std.proofs.lemmas.Bool.{cases_eq}
-use Rattle.std.proofs.lemmas.List.Elements.{All-get_or}
 use Rattle.mm_base.specs.declared.limits.TheConstants.{MAX_BLOCKS}
-use Rattle.mm_problem.specs.Setup.{IsStoreRow}
-use Rattle.mm_problem.specs.Dumping.{Dumping, IsDumping, no_row, size}
+use Rattle.mm_problem.specs.Dumping.{Dumping, IsDumping, window}
 use Rattle.mm_plan.specs.Table.{Table, amount, HasShape, ChangesAmount}
+use Rattle.mm_base.proofs.RangeSums.{term-le-sum_by_range}
+use Rattle.mm_plan.specs.Fit.{in_step}
 use Rattle.mm_plan.specs.Volumes.{Amounts}
 use Rattle.mm_flow.specs.declared.solved.Solved.{Solved}
 use Rattle.mm_flow.specs.Flow.{Flow, IsFlow}
 use Rattle.mm_flow.specs.Solution.{IsSolved}
 use Rattle.mm_planner.specs.declared.nodes.TheConstants.{SOURCE, SINK}
 use Rattle.mm_planner.specs.Network.{inflow, net}
-use Rattle.mm_planner.specs.Taken.{take_place, IsTakenTo}
+use Rattle.mm_planner.specs.Taken.{take_place, AreTaken, IsTakenTo}
 use Rattle.mm_planner.specs.Growing.{IsStep}
 use Rattle.mm_planner.proofs.KindSums.{leave}
-use Rattle.mm_planner.proofs.Capacities.{hold_within}
-use Rattle.mm_planner.proofs.Conserved.{out_conserved}
+use Rattle.mm_planner.proofs.FromFlow.{fits}
 
--- no more leaves a store than it may hold
+-- no more leaves a store than the step's window
 pub leave_within : (q : Dumping) (f : Flow) (value : ℕ) → IsDumping q → IsFlow (net q) SOURCE SINK f value → (t s : ℕ)
-    → 1 ≤ t → t ≤ length q.windows → s < length q.rows → leave q f t s ≤ size q s
+    → 1 ≤ t → t ≤ length q.windows → s < length q.rows → leave q f t s ≤ window q t
 leave_within q f value is flow t s first last below =
-    omega (
-      arith,
-      out_conserved q (inflow q) is f value flow t s first last below,
-      hold_within q (inflow q) f flow.within t s first last below,
-    )
+    let x : Amounts = λ r u. leave q f u r in
+    let taken : AreTaken q f x = λ r u _ _ _. refl in
+    let fit = fits q is f value flow x taken t first (omega arith) in
+    let term = term-le-sum_by_range (in_step x t) 0 (length q.rows) s (omega arith) (omega arith) in
+    omega (arith, term, fit.windowed)
 
 -- what is taken is within the range of blocks
 pub taken_within : (q : Dumping) (solved : Solved) → IsDumping q → IsSolved (net q) SOURCE SINK solved → (t s : ℕ)
     → IsStep q t → s < length q.rows → slice_index solved.flow.items (take_place q t s) ≤ MAX_BLOCKS
 taken_within q solved is are t s step below =
+    let window : window q t ≤ MAX_BLOCKS = is.steps.each_window (t - 1) 0 (omega (arith, step.first, step.last)) in
     omega (
       arith,
+      window,
       leave_within q (slice_index solved.flow.items) solved.value is are.solution.flow t s step.first
           step.last below,
-      (All-get_or IsStoreRow q.rows s no_row below is.stores.each).size,
     )
 
 -- one more amount of a step

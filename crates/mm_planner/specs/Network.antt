@@ -2,6 +2,8 @@
 use Rattle.std.specs.Prelude.{ℕ, ◌+◌, ◌*◌, ◌==◌, nat_lt, if◌then◌else◌, Option, List, [], ◌∷◌, ◌++◌, length, map, Some}
 use Rattle.std.specs.Prelude.{None}
 use Rattle.std.specs.List.{flat_map, range_with_len}
+use Rattle.mm_problem.specs.declared.come.Arrivals.{Arrivals}
+use Rattle.mm_problem.specs.declared.come.Arrivals.TheVariants.{Before, During}
 use Rattle.mm_problem.specs.Dumping.{Dumping, size, start, channel, limit, window, arrivals, stores, channels}
 use Rattle.mm_flow.specs.declared.arc.Arc.{Arc}
 use Rattle.mm_flow.specs.Graph.{Graph}
@@ -32,13 +34,18 @@ Inflows = ℕ → ℕ → ℕ
 abbrev pub first_inflow : ℕ → Dumping → Inflows
 first_inflow k q t s = if nat_lt s k then inflow q t s else 0
 
+-- the node from which a store's blocks are dumped: after its size applies where arrivals come before dumps, else before
+abbrev pub dump_node : Arrivals → ℕ → ℕ → Node
+dump_node Before t s = Out t s
+dump_node During t s = In t s
+
 -- the arc of a store in a step, by its kind: blocks arrive, the store holds at most its size, keeps them for the next
 -- step, or dumps them
 abbrev pub store_arc : Dumping → Inflows → Way → ℕ → ℕ → Arc
 store_arc q a Come t s = joined Source (In t s) (Some (a t s))
-store_arc q a Hold t s = joined (In t s) (Out t s) (Some (size q s))
+store_arc q a Hold t s = joined (In t s) (Out t s) (Some (size q s t))
 store_arc q a Keep t s = joined (Out t s) (next_node q t s) None
-store_arc q a Take t s = joined (Out t s) (Channel t (channel q s)) None
+store_arc q a Take t s = joined (dump_node q.come t s) (Channel t (channel q s)) None
 
 -- the arc of a channel, with its limit in the step
 abbrev pub limit_arc : Dumping → ℕ → ℕ → Arc

@@ -43,12 +43,12 @@ abbrev pub stretches : Dumping → Side → List Stretch
 stretches q side = first_stretches (length q.rows) q side
 
 -- whether a step is inner and its pass is off the side
-abbrev pub is_by_channels : Side → List Stretch → ℕ → Bool
-is_by_channels side ds t = is_inner ds t && not (is_on side (Pass t))
+abbrev pub is_by_channels : Dumping → Side → List Stretch → ℕ → Bool
+is_by_channels q side ds t = is_inner q ds t && not (is_on side (Pass t))
 
 -- the steps that are counted by channels, for given stretches
 abbrev pub counts_of : Dumping → Side → List Stretch → List ℕ
-counts_of q side ds = filter (is_by_channels side ds) (steps q)
+counts_of q side ds = filter (is_by_channels q side ds) (steps q)
 
 -- the counted steps for the side's own stretches of the first stores
 abbrev pub first_counts : ℕ → Dumping → Side → List ℕ

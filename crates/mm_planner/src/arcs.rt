@@ -4,7 +4,7 @@ ghost use Rattle.std.specs.Option.{ForSome};
 ghost use Rattle.mm_base.specs.declared.limits.TheConstants.{MAX_STORES, MAX_BLOCKS, CHANNELS};
 ghost use Rattle.mm_problem.specs.Dumping.{stores, channels, limit};
 ghost use Rattle.mm_flow.specs.Built.{with_arc};
-ghost use Rattle.mm_planner.specs.Network.{first_inflow, next_node, store_arc, limit_arc, window_arc, step_arcs};
+ghost use Rattle.mm_planner.specs.Network.{first_inflow, next_node, dump_node, store_arc, limit_arc, window_arc, step_arcs};
 ghost use Rattle.mm_planner.specs.Links.{arc_of, IsLink};
 ghost use Rattle.mm_planner.specs.Growing.{AddsArcs, IsStep, HasRoom, KeepsRoom};
 
@@ -12,7 +12,7 @@ use crate::nodes::Node;
 use crate::way::Way;
 use mm_base::NoMemory;
 use mm_flow::Network;
-use mm_problem::Problem;
+use mm_problem::{Arrivals, Problem};
 
 /// An arc between two nodes.
 #[derive(Clone, Copy)]
@@ -54,6 +54,16 @@ fn next_node(problem: &Problem, step: u32, store: usize) -> Node
     }
 }
 
+// The node from which a store's blocks are dumped.
+fn dump_node(problem: &Problem, step: u32, store: usize) -> Node
+    ensures node { result ≡ dump_node problem.now.come step store }
+{
+    match problem.come() {
+        Arrivals::Before => Node::Out { step, store },
+        Arrivals::During => Node::In { step, store },
+    }
+}
+
 // The limit of a channel in a step.
 fn limit(problem: &Problem, channel: u8, step: u32) -> Option<u64>
     requires step { IsStep problem.now step }
@@ -86,7 +96,7 @@ fn store_link(problem: &Problem, first: usize, way: Way, step: u32, store: usize
         Way::Hold => Link {
             from: arrived,
             to: held,
-            capacity: Some(u64::from(problem.size(store))),
+            capacity: Some(u64::from(problem.size(store, step))),
         },
         Way::Keep => Link {
             from: held,
@@ -96,7 +106,7 @@ fn store_link(problem: &Problem, first: usize, way: Way, step: u32, store: usize
         Way::Take => {
             let channel = problem.channel(store);
             Link {
-                from: held,
+                from: dump_node(problem, step, store),
                 to: Node::Channel { step, channel },
                 capacity: None,
             }

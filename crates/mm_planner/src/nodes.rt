@@ -17,7 +17,8 @@ pub(crate) enum Node {
     Sink,
     /// The input of a store in a step: what it kept, and what arrives.
     In { step: u32, store: usize },
-    /// What the store holds of its input, before the step's amount leaves.
+    /// What the store holds of its input. Where arrivals come before dumps, the step's amount leaves from here, else from
+    /// the input.
     Out { step: u32, store: usize },
     /// What leaves through a channel in a step.
     Channel { step: u32, channel: u8 },

@@ -119,27 +119,28 @@ pub(crate) fn stretches(
 }
 
 // Whether the step is inner and its pass is off the side.
-fn is_by_channels(side: &[bool], stretches: &[Stretch], step: u32) -> bool
+fn is_by_channels(problem: &Problem, side: &[bool], stretches: &[Stretch], step: u32) -> bool
     requires { step ≤ MAX_STEPS }
-    ensures { result ≡ is_by_channels (side_of side.now) stretches.now step }
+    ensures { result ≡ is_by_channels problem.now (side_of side.now) stretches.now step }
 {
-    is_inner(stretches, step) && !is_on(side, Node::Pass { step })
+    is_inner(problem, stretches, step) && !is_on(side, Node::Pass { step })
 }
 
 // Adds the step if it is counted by channels.
 fn add_count(
     counts: &mut Vec<u32>,
+    problem: &Problem,
     side: &[bool],
     stretches: &[Stretch],
     step: u32,
 ) -> Result<(), NoMemory>
     requires { step ≤ MAX_STEPS }
     ensures added { OnOk result (counts.new.items
-        ≡ (if is_by_channels (side_of side.now) stretches.now step
+        ≡ (if is_by_channels problem.now (side_of side.now) stretches.now step
         then counts.old.items ++ step ∷ []
         else counts.old.items)) }
 {
-    if is_by_channels(side, stretches, step) {
+    if is_by_channels(problem, side, stretches, step) {
         counts.push(step)?;
     }
     Ok(())
@@ -157,7 +158,7 @@ pub(crate) fn counts(
 {
     let mut counts = Vec::new(alloc);
     for step in 1..problem.steps() + 1 {
-        add_count(&mut counts, side, stretches, step)?;
+        add_count(&mut counts, problem, side, stretches, step)?;
     }
     Ok(counts)
 }

@@ -1,6 +1,6 @@
 -- Data that are tested, one row, amount or step after the other.
-use Rattle.std.proofs.Common.{◌≡◌, ℕ, ◌+◌, ◌*◌, ◌<◌, ◌≤◌, true, nat_le, nat_lt, ◌==◌, ◌&&◌, List, [], ◌∷◌, ◌++◌, length}
-use Rattle.std.proofs.Common.{get_or, take, drop, pos, refl, subst, arith, append_assoc, length-drop, Result, Ok, Err}
+use Rattle.std.proofs.Common.{◌≡◌, ℕ, ◌+◌, ◌*◌, ◌<◌, ◌≤◌, true, nat_le, nat_lt, ◌==◌, List, [], ◌∷◌, ◌++◌, length}
+use Rattle.std.proofs.Common.{get_or, take, drop, refl, subst, arith, append_assoc, length-drop, Result, Ok, Err}
 use Rattle.std.specs.Prelude.{All, AllPairs}
 use Rattle.std.specs.List.{list_all}
 use Rattle.std.proofs.lemmas.Bool.{and_parts}
@@ -12,17 +12,16 @@ use Rattle.mm_problem.specs.declared.fault.Fault.{Fault}
 use Rattle.mm_problem.specs.declared.fault.Fault.TheVariants.{ForecastText}
 use Rattle.mm_problem.specs.declared.fault.Name.{Name}
 use Rattle.mm_problem.specs.declared.fault.Name.TheVariants as name
-use Rattle.mm_base.specs.declared.limits.TheConstants.{MAX_STORES, MAX_STEPS, MAX_BLOCKS, MAX_CHANNEL, CHANNELS}
+use Rattle.mm_base.specs.declared.limits.TheConstants.{MAX_STORES, MAX_STEPS, MAX_BLOCKS}
 use Rattle.mm_base.specs.declared.rows.LimitRow.{LimitRow}
 use Rattle.mm_base.specs.declared.rows.StoreRow.{StoreRow}
 use Rattle.mm_base.specs.Reading.{test}
 use Rattle.mm_base.proofs.IdFields.{Decides-nat_le}
 use Rattle.mm_problem.specs.Data.{store_fits, limit_fits, rows_fit, amounts_fit, step_fits, steps_fit, column_fits}
-use Rattle.mm_problem.specs.Data.{step_limits_fit}
+use Rattle.mm_problem.specs.Data.{columns_fit}
 use Rattle.mm_problem.specs.Document.{stores_counted}
-use Rattle.mm_problem.specs.Dumping.{AreSteps, AreStepLimits}
+use Rattle.mm_problem.specs.Dumping.{AreSteps, AreColumns}
 use Rattle.mm_problem.specs.Forecast.{some_step}
-use Rattle.mm_problem.specs.Keys.{within}
 use Rattle.mm_problem.specs.Setup.{IsStoreRow, HaveOtherIds, AreStores, IsLimitRow, HaveOtherChannels}
 use Rattle.mm_base.proofs.ReadingSteps.{bind_ok, test_ok}
 use Rattle.mm_problem.proofs.ColumnLaws.{below_decides}
@@ -105,7 +104,12 @@ store_fits_said earlier row u h =
     let size_is = within_said _ _ _ _ row.size size_fits in
     let channel_is = within_said _ _ _ _ row.channel channel_fits in
     let start_is = within_said _ _ _ _ row.start start_fits in (
-      record { has_room = size_is.1; size = size_is.2; start = start_is.2; channel = channel_is.2 },
+      record {
+        has_room = size_is.1;
+        size = size_is.2;
+        start = omega (arith, start_is.2, size_is.2);
+        channel = channel_is.2;
+      },
       new_store_said earlier row u new,
     )
 
@@ -202,40 +206,39 @@ steps_said rows windows arrived u v passed some =
       each_arrival = all.each_arrival;
     }
 
--- where no channel has limits of each step
-pub no_step_limits : (windows : List ℕ) → AreStepLimits windows [] []
-no_step_limits windows = record {
+-- where there are no columns
+pub no_columns : (count : ℕ) (windows : List ℕ) → AreColumns count windows [] []
+no_columns count windows = record {
   at_most = omega arith;
-  each_channel = All-nil (λ c. c < CHANNELS);
+  each_column = All-nil (λ c. c < count);
   rising = none_apart ◌<◌;
   table = omega arith;
-  each_limit = All-nil (λ n. n ≤ MAX_BLOCKS);
+  each_cell = All-nil (λ n. n ≤ MAX_BLOCKS);
 }
 
--- a channel with limits of each step that passed
-column_fits_said : (earlier : List ℕ) (channel : ℕ) (u : Unit {0}) → column_fits earlier channel ≡ Ok u
-    → (channel < CHANNELS) × All (λ e. e < channel) earlier
-column_fits_said earlier channel u h =
+-- a column that passed
+column_fits_said : (count : ℕ) (earlier : List ℕ) (column : ℕ) (u : Unit {0}) → column_fits count earlier column ≡ Ok u
+    → (column < count) × All (λ e. e < column) earlier
+column_fits_said count earlier column u h =
     let (there, above) =
-    and_parts (nat_le channel MAX_CHANNEL) (list_all (λ c. nat_lt c channel) earlier) (test_ok _ _ _ h) in
-    let most = (Decides-nat_le channel MAX_CHANNEL).0 there in
-    (omega arith, (below_decides channel earlier).0 above)
+    and_parts (nat_lt column count) (list_all (λ c. nat_lt c column) earlier) (test_ok _ _ _ h) in
+    (grind (arith, nat_tests, there), (below_decides column earlier).0 above)
 
--- limits of each step that passed are those of a problem
-pub step_limits_said : (windows channels limits : List ℕ) (u : Unit {0})
-    → step_limits_fit (length windows) channels limits ≡ Ok u → AreStepLimits windows channels limits
-unfolding step_limits_fit
-step_limits_said windows channels limits u h =
-    let n = length windows * length channels in
+-- columns that passed are those of a problem
+pub columns_said : (count : ℕ) (name : Name) (windows columns cells : List ℕ) (u : Unit {0})
+    → columns_fit count name (length windows) columns cells ≡ Ok u → AreColumns count windows columns cells
+unfolding columns_fit
+columns_said count name windows columns cells u h =
+    let n = length windows * length columns in
     let (a, few, h1) = bind_ok _ _ _ h in
-    let (b, columns, h2) = bind_ok _ _ _ h1 in
-    let (c, as_long, each) = bind_ok _ _ _ h2 in
-    let all = rows_fit_said (λ c. c < CHANNELS) ◌<◌ column_fits column_fits_said channels [] b
-    (All-nil (λ c. c < CHANNELS)) (none_apart ◌<◌) columns in
+    let (b, each, h2) = bind_ok _ _ _ h1 in
+    let (c, as_long, amounts) = bind_ok _ _ _ h2 in
+    let all = rows_fit_said (λ c. c < count) ◌<◌ (column_fits count) (column_fits_said count) columns [] b
+    (All-nil (λ c. c < count)) (none_apart ◌<◌) each in
     record {
-      at_most = (Decides-nat_le (length channels) CHANNELS).0 (test_ok _ _ _ few);
-      each_channel = all.0;
+      at_most = (Decides-nat_le (length columns) count).0 (test_ok _ _ _ few);
+      each_column = all.0;
       rising = all.1;
-      table = (Decides-eqb (length limits) n).0 (test_ok _ _ _ as_long);
-      each_limit = amounts_said name.Limit limits u each;
+      table = (Decides-eqb (length cells) n).0 (test_ok _ _ _ as_long);
+      each_cell = amounts_said name cells u amounts;
     }

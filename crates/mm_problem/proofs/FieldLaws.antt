@@ -1,5 +1,5 @@
 -- What is read at a key, and what the key says.
-use Rattle.std.proofs.Common.{◌≡◌, ℕ, ℤ, pos, negsuc, ◌≤◌, nat_le, true, ◌||◌, List, [], ◌∷◌, map, Option, Some, Ok}
+use Rattle.std.proofs.Common.{◌≡◌, ℕ, ℤ, pos, negsuc, ◌≤◌, nat_le, ◌||◌, List, [], ◌∷◌, map, Option, Some, Ok}
 use Rattle.std.proofs.Common.{refl, sym, ap, ◌∙◌, arith}
 use Rattle.std.specs.Prelude.{Contains, bytes_eq, option_and_then}
 use Rattle.std.specs.Bool.{Decides}
@@ -24,6 +24,11 @@ use Rattle.mm_base.proofs.ReadingSteps.{bind_ok, ok_or_ok, cond_ok}
 pub string_said : (o : Option Data) (text : List ℕ) → option_and_then as_str o ≡ Some text → o ≡ Some (string text)
 string_said (Some (string s)) text h = cc
 string_said other text h = absurd (cc)
+
+-- the same of a value that is there
+pub text_is : (d : Data) (text : List ℕ) → as_str d ≡ Some text → d ≡ string text
+text_is (string s) text h = cc
+text_is other text h = absurd (cc)
 
 -- a value that is a whole number
 pub integer_said : (o : Option Data) (z : ℤ) → option_and_then as_integer o ≡ Some z → o ≡ Some (integer z)

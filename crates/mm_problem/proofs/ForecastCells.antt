@@ -1,8 +1,8 @@
 -- The cells of a record.
 use Rattle.std.proofs.Common.{◌≡◌, ℕ, ◌&&◌, false, arith, ◌+◌, ◌<◌, ◌≤◌, zero, suc, List, [], ◌∷◌, ◌++◌, length, drop}
-use Rattle.std.proofs.Common.{Ok, Err, unwrap_or, refl}
+use Rattle.std.proofs.Common.{Ok, Err, unwrap_or, refl, length-drop}
 use Rattle.std.proofs.Math.Bool.{and-false}
-use Rattle.std.proofs.lemmas.List.{drop_more}
+use Rattle.std.proofs.lemmas.List.{drop_more, length-take-le}
 use Rattle.csv.specs.Records.{field_at}
 use Rattle.mm_problem.specs.Cells.{amount_of}
 use Rattle.mm_problem.specs.Forecast.{cell_of, cells_from, begins_with, amounts_in}
@@ -39,6 +39,17 @@ module _ (name : Name) (row column i : ℕ) (earlier : List ℕ) (fields : List 
         → amounts_in name row earlier column (cells_from fields i count) ≡ Err e
     unfolding amounts_in
     bad_amount e given = rw (one_more, drop_more fields i [] within, given) refl
+
+-- the cells from a place on begin with the one at this place
+pub cells_at : (fields : Fields) (i count more : ℕ) → count ≡ suc more → i < length fields
+    → cells_from fields i count ≡ cell_of fields i ∷ cells_from fields (i + 1) more
+cells_at fields i count more one_more within = rw (one_more, drop_more fields i [] within) refl
+
+-- as many cells as are asked for, where there are as many
+pub cells_count : (fields : Fields) (first count : ℕ) → first + count ≤ length fields
+    → length (cells_from fields first count) ≡ count
+cells_count fields first count enough =
+    length-take-le count (drop first fields) (omega (arith, length-drop first fields))
 
 -- ---- the header
 

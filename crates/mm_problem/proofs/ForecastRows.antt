@@ -1,18 +1,21 @@
 -- The records of a forecast, found one after the other.
-use Rattle.std.proofs.Common.{◌≡◌, ℕ, ◌+◌, true, false, List, ◌∷◌, length, drop, Result, Ok, Err, Bor, refl, sym, ap, ◌∙◌}
+use Rattle.std.proofs.Common.{◌≡◌, ℕ, ◌+◌, true, false, List, ◌∷◌, length, drop, Result, Ok, Err, Bor, refl, sym, ap}
+use Rattle.std.proofs.Common.{◌∙◌}
 use Rattle.std.specs.Prelude.{OnOk}
 use Rattle.csv.specs.Reading.{default_config, records_from, reader_state}
 use Rattle.csv.specs.declared.reader.Reader.{Reader}
 use Rattle.mm_problem.specs.declared.fault.Fault.{Fault}
 use Rattle.mm_problem.specs.declared.fault.Fault.TheVariants.{Header}
 use Rattle.mm_base.specs.declared.rows.StoreRow.{StoreRow}
-use Rattle.mm_problem.specs.Forecast.{Steps, next_step, steps_in, some_steps, later_steps, limited_in, header_in, forecast_in}
+use Rattle.mm_problem.specs.Forecast.{Steps, next_step, steps_in, some_steps, later_steps, columns_in, header_in}
+use Rattle.mm_problem.specs.Forecast.{forecast_in}
 use Rattle.mm_base.specs.Reading.{◌>>=◌}
 use Rattle.mm_problem.specs.Records.{Fields, HasRecords, TakesRecord}
 use Rattle.mm_problem.proofs.RecordSteps.{found_record, found_end}
 
 -- a reader, and what is left of the reading
-pub record Left (reader : Reader (Bor (List ℕ))) (read : List Fields → Result Steps Fault) (whole : Result Steps Fault) : Type 0 where
+pub record Left (reader : Reader (Bor (List ℕ))) (read : List Fields
+    → Result Steps Fault) (whole : Result Steps Fault) : Type 0 where
   pub rows : List Fields
   pub has : HasRecords reader rows
   pub left : read rows ≡ whole
@@ -23,7 +26,8 @@ on_ok (Ok x) holds = holds
 on_ok (Err e) holds = tt
 
 -- a reader has one list of records
-pub same_rows : (reader : Reader (Bor (List ℕ))) (rows others : List Fields) → HasRecords reader rows → HasRecords reader others → rows ≡ others
+pub same_rows : (reader : Reader (Bor (List ℕ))) (rows others : List Fields) → HasRecords reader rows
+    → HasRecords reader others → rows ≡ others
 same_rows reader rows others h g =
     let found = sym h.source ∙ g.source in
     let same : h.rest ≡ g.rest = cc in
@@ -31,7 +35,8 @@ same_rows reader rows others h g =
 
 -- the header, and the steps after it
 pub forecast_parts : (stores : List StoreRow) (rows : List Fields)
-    → forecast_in stores rows ≡ (header_in stores rows >>= (λ limited. later_steps (length stores) limited (drop 1 rows)))
+    → forecast_in stores rows ≡ (header_in stores rows >>= (λ columns. later_steps (length stores) columns (drop 1
+    rows)))
 unfolding forecast_in
 forecast_parts stores rows = refl
 
@@ -41,7 +46,7 @@ module _ (stores : List StoreRow) (rows : List Fields) (fields : Fields) (reader
   no_header took = rw (found_end rows fields reader took) refl
 
   -- the first record is the header
-  pub header_at : TakesRecord rows true fields reader → header_in stores rows ≡ limited_in stores fields
+  pub header_at : TakesRecord rows true fields reader → header_in stores rows ≡ columns_in stores fields
   header_at took = let (more, are, has) = found_record rows fields reader took in rw are refl
 
 module _ (rows : List Fields) (fields : Fields) (reader : Reader (Bor (List ℕ))) where
@@ -59,9 +64,16 @@ module _ (rows : List Fields) (fields : Fields) (reader : Reader (Bor (List ℕ)
       unfolding steps_in
       row_fault e given = let (more, are, has) = found_record rows fields reader took in rw (are, given) refl
 
-      pub row_found : (next : Steps) → next_step n steps fields ≡ Ok next → Left reader (λ more. steps_in n next more >>= some_steps) (steps_in n steps rows >>= some_steps)
+      pub row_found : (next : Steps) → next_step n steps fields ≡ Ok next
+          → Left reader (λ more. steps_in n next more >>= some_steps) (steps_in n steps rows >>= some_steps)
       unfolding steps_in
       row_found next given =
           let (more, are, has) = found_record rows fields reader took in
-          let behind : (steps_in n steps (fields ∷ more) >>= some_steps) ≡ (steps_in n next more >>= some_steps) = rw given refl in
-          record { rows = more; has = has; left = sym behind ∙ ap (λ all. steps_in n steps all >>= some_steps) (sym are) }
+          let behind : (steps_in n steps (fields ∷ more) >>= some_steps)
+          ≡ (steps_in n next more >>= some_steps) = rw given refl in
+          record {
+            rows = more;
+            has = has;
+            left = sym behind ∙ ap (λ all. steps_in n steps all >>= some_steps) (sym
+                are);
+          }

@@ -7,10 +7,14 @@ pub mod SetupLaws
 pub mod RecordSteps
 pub mod ForecastCells
 pub mod ForecastRows
+pub mod NamedColumns
 pub mod ColumnLaws
+pub mod SizeColumns
+pub mod HeaderLaws
 pub mod ForecastLaws
 pub mod ForecastTexts
 pub mod DataLaws
 pub mod RestLaws
 pub mod StepTables
 pub mod Limits
+pub mod StepSizes

@@ -1,17 +1,20 @@
 -- The rest of a problem, from new start volumes.
 use Rattle.std.proofs.Common.{◌≡◌, ℕ, zero, suc, inl, inr, ◌+◌, ◌-◌, ◌*◌, ◌<◌, ◌≤◌, nat_le, Bool, true, List}
-use Rattle.std.proofs.Common.{length, get_or, drop, refl, ◌∙◌, arith, length-drop}
+use Rattle.std.proofs.Common.{length, get_or, drop, refl, sym, ap, ◌∙◌, arith, length-drop, get_or-set_same}
+use Rattle.std.proofs.Common.{get_or-set_other}
 use Rattle.std.specs.List.{list_all, range_with_len}
-use Rattle.std.proofs.lemmas.Bool.{and_parts}
-use Rattle.std.proofs.lemmas.List.Elements.{All-drop}
+use Rattle.std.proofs.lemmas.Bool.{and_parts, cases_eq}
+use Rattle.std.proofs.lemmas.List.{get_or_default}
+use Rattle.std.proofs.Math.ListN.{set, length-set}
+use Rattle.std.proofs.lemmas.List.Elements.{All-drop, All-set}
 use Rattle.std.proofs.Math.Nat.{eq-or-lt_of_le, mul_comm, mul-le-mul, mul-sub}
 use Rattle.std.proofs.lemmas.List.FromFn.{length-map-range_with_len, get_or-map-range_with_len}
 use Rattle.mm_base.specs.declared.limits.TheConstants.{MAX_BLOCKS}
 use Rattle.mm_base.specs.declared.rows.StoreRow.{StoreRow}
 use Rattle.mm_base.proofs.IdFields.{Decides-nat_le}
-use Rattle.mm_problem.specs.Dumping.{no_row, AreSteps, AreStepLimits}
+use Rattle.mm_problem.specs.Dumping.{no_row, AreSteps, AreColumns}
 use Rattle.mm_problem.specs.Rest.{starting_with, rows_from, starts_fit}
-use Rattle.mm_problem.specs.Setup.{AreStores}
+use Rattle.mm_problem.specs.Setup.{IsStoreRow, AreStores}
 
 -- each number of a range passes what all pass
 of_range : (p : ℕ → Bool) (n a k : ℕ) → list_all p (range_with_len a n) ≡ true → a ≤ k → k < a + n → p k ≡ true
@@ -39,16 +42,47 @@ rest_within steps n step cells table below =
     let same : n ≤ n = omega arith in
     omega (arith, table, mul-le-mul fewer same)
 
--- the limits of the steps after a step
-pub are_step_limits : (windows limited step_limits : List ℕ) (step : ℕ) → AreStepLimits windows limited step_limits
-    → AreStepLimits (drop step windows) limited (drop (step * length limited) step_limits)
-are_step_limits windows limited step_limits step is = record {
+-- the columns of the steps after a step
+pub are_columns : (count : ℕ) (windows columns cells : List ℕ) (step : ℕ) → AreColumns count windows columns cells
+    → AreColumns count (drop step windows) columns (drop (step * length columns) cells)
+are_columns count windows columns cells step is = record {
   at_most = is.at_most;
-  each_channel = is.each_channel;
+  each_column = is.each_column;
   rising = is.rising;
-  table = rw (length-drop step windows) (later_table (length windows) (length limited) step step_limits is.table);
-  each_limit = All-drop (λ n. n ≤ MAX_BLOCKS) (step * length limited) step_limits is.each_limit;
+  table = rw (length-drop step windows) (later_table (length windows) (length columns) step cells is.table);
+  each_cell = All-drop (λ n. n ≤ MAX_BLOCKS) (step * length columns) cells is.each_cell;
 }
+
+-- the columns with another number at a place
+pub set_columns : (count : ℕ) (windows columns cells : List ℕ) (place n : ℕ) → n ≤ MAX_BLOCKS
+    → AreColumns count windows columns cells → AreColumns count windows columns (set cells place n)
+set_columns count windows columns cells place n most is = record {
+  at_most = is.at_most;
+  each_column = is.each_column;
+  rising = is.rising;
+  table = length-set cells place n ∙ is.table;
+  each_cell = All-set (λ m. m ≤ MAX_BLOCKS) cells place n most is.each_cell;
+}
+
+module _ (rows : List StoreRow) (place : ℕ) (new : StoreRow) (within : place < length rows)
+    (same : new.id ≡ (get_or rows place no_row).id) where
+  -- each store keeps its identifier where one is replaced by a store with the same
+  id_kept : (k : ℕ) (d : StoreRow) → (get_or (set rows place new) k d).id ≡ (get_or rows k d).id
+  id_kept k d = elim (cases_eq k place) [
+    | inl here ↦ rw (here, get_or-set_same rows place new d within)
+        (same ∙ ap (λ (r : StoreRow). r.id) (get_or_default rows place no_row d within))
+    | inr other ↦ rw (get_or-set_other rows place k new d other) refl
+  ]
+
+  -- stores stay stores then
+  pub set_stores : IsStoreRow new → AreStores rows → AreStores (set rows place new)
+  set_stores row is = record {
+    has_store = omega (arith, length-set rows place new, is.has_store);
+    at_most = omega (arith, length-set rows place new, is.at_most);
+    each = All-set IsStoreRow rows place new row is.each;
+    named = λ i j d low high equal.
+        is.named i j d low (omega (arith, length-set rows place new)) (sym (id_kept i d) ∙ equal ∙ id_kept j d);
+  }
 
 module _ (rows : List StoreRow) (starts : List ℕ) where
   -- each store has room where the test passes
@@ -80,7 +114,7 @@ module _ (rows : List StoreRow) (starts : List ℕ) where
         rw (row_at k d within) (record {
           has_room = row.has_room;
           size = row.size;
-          start = starts_fit_said fit k within;
+          start = omega (arith, starts_fit_said fit k within, row.size);
           channel = row.channel;
         });
     named = λ i j d low high.

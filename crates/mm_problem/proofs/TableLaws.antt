@@ -18,8 +18,12 @@ use Rattle.mm_base.specs.declared.rows.RouteRow.{RouteRow}
 use Rattle.mm_base.specs.declared.rows.LimitRow.{LimitRow}
 use Rattle.mm_problem.specs.Keys.{has_only, value_at}
 use Rattle.mm_base.specs.Kind.{word_of}
-use Rattle.mm_problem.specs.ReadableSetup.{SaysText, SaysNumberIfAny, SaysStore, SaysRoute, SaysLimit, IsTableOf}
-use Rattle.mm_problem.specs.Setup.{IsStoreRow, HaveOtherIds, IsRouteRow, IsLimitRow, HaveOtherChannels}
+use Rattle.mm_base.specs.Id.{IsIdField}
+use Rattle.mm_base.proofs.IdFields.{field_of-IsIdField}
+use Rattle.mm_problem.specs.ReadableSetup.{SaysText, SaysId, SaysNumberIfAny, SaysStore, SaysRoute, SaysLimit}
+use Rattle.mm_problem.specs.ReadableSetup.{IsTableOf}
+use Rattle.mm_problem.specs.Setup.{IsStoreRow, StartFits, HasId, HaveOtherIds, IsRouteRow, IsLimitRow}
+use Rattle.mm_problem.specs.Setup.{HaveOtherChannels}
 use Rattle.mm_base.specs.SameRoutes.{same_route}
 use Rattle.mm_problem.specs.declared.fault.Fault.{Fault}
 use Rattle.mm_problem.specs.Tables.{store_keys, route_keys, limit_keys, table_of, kind_of, kind_at, start_from}
@@ -127,8 +131,18 @@ start_from_read row size ms n None is says below = ap Ok (sym says)
 start_from_read row size ms n (Some d) is says below =
     number_read row name.Start ms 0 size n (sym is ∙ ap Some says) (omega arith) below
 
+-- an identifier that the key has is the field of one
+id_has_field : {ms : Members} {name : Name} {id : List ℕ} → SaysId ms name id → IsIdField id
+id_has_field says = rw says.padded (field_of-IsIdField says.text says.well_formed)
+
+-- a store within the ranges of the profile that begins within its size
+pub record IsReadStore (r : StoreRow) : Type 0 where
+  pub row : IsStoreRow r
+  pub start : StartFits r
+  pub id : HasId r
+
 -- a store that is read is what the table says
-store_said : (row : ℕ) (d : Data) (r : StoreRow) → store_at row d ≡ Ok r → IsTableOf SaysStore d r × IsStoreRow r
+store_said : (row : ℕ) (d : Data) (r : StoreRow) → store_at row d ≡ Ok r → IsTableOf SaysStore d r × IsReadStore r
 unfolding store_at
 store_said row d r h =
     let (ms, found, h2) = bind_ok _ _ _ h in
@@ -143,7 +157,7 @@ store_said row d r h =
     let start_says = start_from_said row size ms start (value_at name.Start ms) refl start_is in
     let row_of : StoreRow = record { id = id; size = size; start = start; kind = kind; channel = channel } in
     let same : row_of ≡ r = ok_same _ _ last in
-    subst (λ r. IsTableOf SaysStore d r × IsStoreRow r) same (
+    subst (λ r. IsTableOf SaysStore d r × IsReadStore r) same (
       record {
         members = ms;
         is_table = table_said d ms is;
@@ -156,11 +170,20 @@ store_said row d r h =
           start = start_says.0;
         };
       },
-      record { has_room = size_says.1; size = size_says.2; start = start_says.1; channel = channel_says.2 },
+      record {
+        row = record {
+          has_room = size_says.1;
+          size = size_says.2;
+          start = omega (arith, start_says.1, size_says.2);
+          channel = channel_says.2;
+        };
+        start = start_says.1;
+        id = id_has_field (id_said row name.Id ms id id_is);
+      },
     )
 
 -- the store that a table says is read
-store_read : (row : ℕ) (d : Data) (r : StoreRow) → IsTableOf SaysStore d r → IsStoreRow r → store_at row d ≡ Ok r
+store_read : (row : ℕ) (d : Data) (r : StoreRow) → IsTableOf SaysStore d r → IsReadStore r → store_at row d ≡ Ok r
 unfolding store_at table_of
 store_read row d r h fits =
     let says = h.says in
@@ -168,9 +191,9 @@ store_read row d r h fits =
       h.is_table,
       (has_only_decides store_keys h.members).1 says.only,
       id_read row name.Id h.members r.id says.id,
-      number_read row name.Size h.members 1 MAX_BLOCKS r.size says.size fits.has_room fits.size,
+      number_read row name.Size h.members 1 MAX_BLOCKS r.size says.size fits.row.has_room fits.row.size,
       kind_read row h.members r.kind says.kind,
-      number_read row name.Channel h.members 0 MAX_CHANNEL r.channel says.channel (omega arith) fits.channel,
+      number_read row name.Channel h.members 0 MAX_CHANNEL r.channel says.channel (omega arith) fits.row.channel,
       start_from_read row r.size h.members r.start (value_at name.Start h.members) refl says.start fits.start,
     ) refl
 
@@ -183,15 +206,15 @@ new_store_said earlier row u new =
 
 -- a store that is read next is new
 pub next_store_said : (earlier : List StoreRow) (d : Data) (r : StoreRow)
-    → row_after store_at new_store earlier d ≡ Ok r → IsNext (IsTableOf SaysStore) IsStoreRow HaveOtherIds earlier d r
-next_store_said = row_after_said store_at new_store (IsTableOf SaysStore) IsStoreRow HaveOtherIds
+    → row_after store_at new_store earlier d ≡ Ok r → IsNext (IsTableOf SaysStore) IsReadStore HaveOtherIds earlier d r
+next_store_said = row_after_said store_at new_store (IsTableOf SaysStore) IsReadStore HaveOtherIds
     (λ number earlier d row u at new.
     let facts = store_said number d row at in
     record { says = facts.0; fits = facts.1; new = new_store_said earlier row u new })
 
 -- a new store is read next
 pub next_store_read : (earlier : List StoreRow) (d : Data) (r : StoreRow)
-    → IsNext (IsTableOf SaysStore) IsStoreRow HaveOtherIds earlier d r → row_after store_at new_store earlier d ≡ Ok r
+    → IsNext (IsTableOf SaysStore) IsReadStore HaveOtherIds earlier d r → row_after store_at new_store earlier d ≡ Ok r
 next_store_read earlier d r h = row_after_read store_at new_store earlier d r
     (store_read (length earlier + 1) d r h.says h.fits)
     (rw ((none_decides (λ e. bytes_eq e.id r.id) (λ e. e.id ≡ r.id) (λ e. bytes_eq-Decides e.id r.id) earlier).1 h.new)

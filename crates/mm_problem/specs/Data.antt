@@ -2,6 +2,7 @@
 use Rattle.std.specs.Prelude.{ℕ, ◌+◌, ◌*◌, nat_le, nat_lt, ◌&&◌, ◌==◌, List, [], ◌∷◌, ◌++◌, length, take, drop, pos}
 use Rattle.std.specs.Prelude.{Result, Ok}
 use Rattle.std.specs.List.{list_all}
+use Rattle.mm_problem.specs.declared.come.Arrivals.TheVariants.{Before}
 use Rattle.mm_problem.specs.declared.fault.Fault.{Fault}
 use Rattle.mm_problem.specs.declared.fault.Fault.TheVariants.{ForecastText, Header, Limit}
 use Rattle.mm_problem.specs.declared.fault.Name.{Name}
@@ -59,7 +60,7 @@ steps_fit stores earlier (window ∷ windows) arrived = do
   steps_fit stores (earlier + 1) windows (drop stores arrived)
 
 -- the problem of these stores, limits, windows, and arrivals (step by step, and within a step in store order), without
--- limits for single steps
+-- limits or sizes for single steps, and with arrivals before dumps
 unfoldable pub problem_from : List StoreRow → List LimitRow → List ℕ → List ℕ → Result Dumping Fault
 problem_from rows limits windows arrived = do
   store_count ← stores_counted (length rows)
@@ -74,24 +75,32 @@ problem_from rows limits windows arrived = do
     windows = windows;
     arrived = arrived;
     limited = [];
-    step_limits =
-        [];
+    step_limits = [];
+    sized = [];
+    step_sizes = [];
+    come = Before;
   })
 
--- the test of a channel with limits for each step that follows these channels: it exists, and is above them
-abbrev pub column_fits : List ℕ → ℕ → Result (Unit {0}) Fault
-column_fits earlier channel = test (nat_le channel MAX_CHANNEL && list_all (λ c. nat_lt c channel) earlier) Header
+-- the test of a column that follows these: it is of one of so many channels or stores, and above them
+abbrev pub column_fits : ℕ → List ℕ → ℕ → Result (Unit {0}) Fault
+column_fits count earlier column = test (nat_lt column count && list_all (λ c. nat_lt c column) earlier) Header
 
--- the tests of these channels, and of one limit for each channel in each step
-unfoldable pub step_limits_fit : ℕ → List ℕ → List ℕ → Result (Unit {0}) Fault
-step_limits_fit steps channels limits = do
-  few ← test (nat_le (length channels) CHANNELS) Header
-  columns ← rows_fit column_fits [] channels
-  as_long ← test (length limits == steps * length channels) ForecastText
-  amounts_fit name.Limit limits
+-- the tests of these columns, and of one number for each column in each step
+unfoldable pub columns_fit : ℕ → Name → ℕ → List ℕ → List ℕ → Result (Unit {0}) Fault
+columns_fit count name steps columns cells = do
+  few ← test (nat_le (length columns) count) Header
+  each ← rows_fit (column_fits count) [] columns
+  as_long ← test (length cells == steps * length columns) ForecastText
+  amounts_fit name cells
 
 -- the problem with these limits for these channels, step by step, and within a step in channel order
 unfoldable pub limited_by : Dumping → List ℕ → List ℕ → Result Dumping Fault
 limited_by q channels limits = do
-  fit ← step_limits_fit (length q.windows) channels limits
+  fit ← columns_fit CHANNELS name.Limit (length q.windows) channels limits
   Ok (record q { limited = channels; step_limits = limits })
+
+-- the problem with these sizes for these stores, step by step, and within a step in store order
+unfoldable pub sized_by : Dumping → List ℕ → List ℕ → Result Dumping Fault
+sized_by q stores sizes = do
+  fit ← columns_fit (length q.rows) name.Size (length q.windows) stores sizes
+  Ok (record q { sized = stores; step_sizes = sizes })

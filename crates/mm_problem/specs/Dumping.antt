@@ -4,6 +4,8 @@ use Rattle.std.specs.Prelude.{filter, All, AllPairs, Option, Some, None, slice_i
 use Rattle.std.specs.List.{position_or_len, range_with_len}
 use Rattle.std.specs.Str.{bytes_eq}
 use Rattle.mm_base.specs.declared.limits.TheConstants.{MAX_STEPS, MAX_BLOCKS, CHANNELS}
+use Rattle.mm_problem.specs.declared.come.Arrivals.{Arrivals}
+use Rattle.mm_problem.specs.declared.come.Arrivals.TheVariants.{Before}
 use Rattle.mm_base.specs.declared.kind.Kind.TheVariants.{Circular}
 use Rattle.mm_base.specs.declared.rows.StoreRow.{StoreRow}
 use Rattle.mm_base.specs.Grid.{cell}
@@ -21,6 +23,12 @@ pub record Dumping : Type 0 where
   pub limited : List ℕ
   -- step by step, and within a step in the order of these channels
   pub step_limits : List ℕ
+  -- the stores with a size for each step, in rising order
+  pub sized : List ℕ
+  -- step by step, and within a step in the order of these stores
+  pub step_sizes : List ℕ
+  -- when a step's arrivals come
+  pub come : Arrivals
 
 abbrev pub no_row : StoreRow
 no_row = record { id = []; size = 0; start = 0; kind = Circular; channel = 0 }
@@ -35,8 +43,9 @@ place_in rows id = position_or_len (λ r. bytes_eq r.id id) rows
 abbrev pub place : Dumping → List ℕ → ℕ
 place q id = place_in q.rows id
 
-abbrev pub size : Dumping → ℕ → ℕ
-size q s = (row q s).size
+-- the size of the store in the setup
+abbrev pub setup_size : Dumping → ℕ → ℕ
+setup_size q s = (row q s).size
 
 abbrev pub start : Dumping → ℕ → ℕ
 start q s = (row q s).start
@@ -59,6 +68,24 @@ in_column q column t = if nat_lt column (length q.limited) then Some (column_lim
 -- the channel's limit of this step alone, if it has one
 abbrev pub step_limit : Dumping → ℕ → ℕ → Option ℕ
 step_limit q c t = in_column q (position_or_len (λ k. k == c) q.limited) t
+
+-- the size in a step in the column at a place; places count from 0
+abbrev pub column_size : Dumping → ℕ → ℕ → ℕ
+column_size q column t = cell (length q.sized) q.step_sizes column t
+
+-- the place of the store's column of sizes, or the number of columns if it has none
+abbrev pub size_column : Dumping → ℕ → ℕ
+size_column q s = position_or_len (λ k. k == s) q.sized
+
+-- how many blocks a store can hold in a step: the setup's size, or the step's where that is less
+unfoldable pub size : Dumping → ℕ → ℕ → ℕ
+size q s t =
+    if nat_lt (size_column q s) (length q.sized) then min (setup_size q s) (column_size q (size_column q s) t)
+    else setup_size q s
+
+-- the size of a store that has none by step
+abbrev pub one_size : Dumping → ℕ → Option ℕ
+one_size q s = if nat_lt (size_column q s) (length q.sized) then None else Some (setup_size q s)
 
 -- the lesser of two limits, either of which may be missing
 abbrev pub lesser : Option ℕ → Option ℕ → Option ℕ
@@ -111,17 +138,23 @@ pub record AreChannels (limits : List (Option ℕ)) : Type 0 where
   pub all : length limits ≡ CHANNELS
   pub each : All IsLimit limits
 
--- limits for each step and each of the channels, which rise
-pub record AreStepLimits (windows limited step_limits : List ℕ) : Type 0 where
-  pub at_most : length limited ≤ CHANNELS
-  pub each_channel : All (λ c. c < CHANNELS) limited
-  pub rising : AllPairs ◌<◌ limited
-  pub table : length step_limits ≡ length windows * length limited
-  pub each_limit : All (λ n. n ≤ MAX_BLOCKS) step_limits
+-- a number for each step and each column; a column is of one of so many channels or stores, which rise
+pub record AreColumns (count : ℕ) (windows columns cells : List ℕ) : Type 0 where
+  pub at_most : length columns ≤ count
+  pub each_column : All (λ c. c < count) columns
+  pub rising : AllPairs ◌<◌ columns
+  pub table : length cells ≡ length windows * length columns
+  pub each_cell : All (λ n. n ≤ MAX_BLOCKS) cells
 
 -- the numbers of a problem within all ranges
 pub record IsDumping (q : Dumping) : Type 0 where
   pub stores : AreStores q.rows
   pub steps : AreSteps q.rows q.windows q.arrived
   pub channels : AreChannels q.limits
-  pub by_step : AreStepLimits q.windows q.limited q.step_limits
+  pub by_step : AreColumns CHANNELS q.windows q.limited q.step_limits
+  pub sizes : AreColumns (length q.rows) q.windows q.sized q.step_sizes
+
+-- arrivals come before dumps, and no store has sizes by step: so the steps can be carried out
+pub record IsFlyable (q : Dumping) : Type 0 where
+  pub before : q.come ≡ Before
+  pub one_size : q.sized ≡ []

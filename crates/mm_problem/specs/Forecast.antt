@@ -1,7 +1,9 @@
 -- The steps of a forecast's records, read in the order in which faults are found.
 use Rattle.std.specs.Prelude.{ℕ, ◌+◌, Bool, true, false, ◌==◌, nat_le, nat_lt, ◌&&◌, List, [], ◌∷◌, ◌++◌, length, map}
-use Rattle.std.specs.Prelude.{take, drop, Option, option_map, find, Result, Ok, Err, codes, slice_index_or, bytes_eq}
-use Rattle.std.specs.List.{list_all, range_with_len}
+use Rattle.std.specs.Prelude.{take, drop, Option, option_map, find, position, Result, Ok, Err, codes, slice_index_or}
+use Rattle.std.specs.Prelude.{bytes_eq}
+use Rattle.std.specs.List.{list_all, prefix_len, range_with_len}
+use Rattle.std.specs.Option.{ok_or}
 use Rattle.mm_problem.specs.declared.fault.Fault.{Fault}
 use Rattle.mm_problem.specs.declared.fault.Fault.TheVariants.{ForecastText, Header, Limit}
 use Rattle.mm_problem.specs.declared.fault.Name.{Name}
@@ -20,15 +22,22 @@ use Rattle.mm_problem.specs.Records.{Fields, records_of}
 use Rattle.mm_problem.specs.Setup.{SetupRows}
 use Rattle.mm_problem.specs.Tables.{rows_in}
 
--- the windows of some steps, and step by step the arrivals of each store and the limit of each channel that has a
--- column
+-- the windows of some steps, and step by step the arrivals of each store, and the limits and sizes of the channels and
+-- stores that have a column
 pub record Steps : Type 0 where
   pub limited : List ℕ
   pub windows : List ℕ
   pub arrived : List ℕ
   pub step_limits : List ℕ
+  pub sized : List ℕ
+  pub step_sizes : List ℕ
 
--- the first cells of a forecast, before the columns of limits
+-- the channels that have a column of limits in a forecast, and the stores that have a column of sizes
+pub record Columns : Type 0 where
+  pub limited : List ℕ
+  pub sized : List ℕ
+
+-- the first cells of a forecast, before the columns of limits and of sizes
 abbrev pub header_of : List StoreRow → Fields
 header_of stores = codes "step" ∷ codes "window" ∷ map (λ r. id_text r.id) stores
 
@@ -42,6 +51,10 @@ begins_with (a ∷ fields) (b ∷ more) = bytes_eq a b && begins_with fields mor
 abbrev pub cells_from : Fields → ℕ → ℕ → Fields
 cells_from fields first count = take count (drop first fields)
 
+-- whether a column's name begins as those of columns of limits
+abbrev pub names_limit : List ℕ → Bool
+names_limit name = bytes_eq (take 6 name) (codes "limit:")
+
 -- the channel with this number
 abbrev pub channel_from : Numeral → Result ℕ Fault
 channel_from NotNumber = Err Header
@@ -51,7 +64,7 @@ channel_from (Number channel) = Ok channel
 -- the channel of a column of limits, which is named `limit:` with the channel's number
 unfoldable pub channel_in : List ℕ → Result ℕ Fault
 channel_in name = do
-  limits ← test (bytes_eq (take 6 name) (codes "limit:")) Header
+  limits ← test (names_limit name) Header
   channel_from (numeral_of MAX_CHANNEL (drop 6 name))
 
 -- the channel of the next column of limits, which is above these channels
@@ -64,6 +77,29 @@ next_channel earlier name = do
 -- these channels, then those of further columns, in rising order
 abbrev pub channels_in : List ℕ → Fields → Result (List ℕ) Fault
 channels_in = rows_in next_channel
+
+-- the text after `size:` in the name of a column of sizes
+unfoldable pub sized_text : List ℕ → Result (List ℕ) Fault
+sized_text name = do
+  sizes ← test (bytes_eq (take 5 name) (codes "size:")) Header
+  Ok (drop 5 name)
+
+-- the store of a column of sizes, which is named `size:` with the store's identifier
+unfoldable pub store_in : List StoreRow → List ℕ → Result ℕ Fault
+store_in stores name = do
+  text ← sized_text name
+  ok_or (position (λ r. bytes_eq (id_text r.id) text) stores) Header
+
+-- the store of the next column of sizes, which is above these stores
+unfoldable pub next_sized : List StoreRow → List ℕ → List ℕ → Result ℕ Fault
+next_sized stores earlier name = do
+  store ← store_in stores name
+  rising ← test (list_all (λ s. nat_lt s store) earlier) Header
+  Ok store
+
+-- these stores, then those of further columns, in rising order
+abbrev pub places_in : List StoreRow → List ℕ → Fields → Result (List ℕ) Fault
+places_in stores = rows_in (next_sized stores)
 
 -- a cell of a record; cells count from 0
 abbrev pub cell_of : Fields → ℕ → List ℕ
@@ -87,18 +123,22 @@ some_step steps = test (nat_le 1 steps) (Limit name.Steps)
 -- these steps, then the one of the next record
 unfoldable pub next_step : ℕ → Steps → Fields → Result Steps Fault
 next_step stores earlier fields = do
-  as_long ← test (length fields == 2 + stores + length earlier.limited) ForecastText
+  as_long ← test (length fields == 2 + stores + length earlier.limited + length earlier.sized) ForecastText
   not_too_many ← another_step (length earlier.windows)
   numbered ← step_of (length earlier.windows + 1) (cell_of fields 0)
   window ← amount_of (length earlier.windows + 1) 2 name.Window (cell_of fields 1)
   arrived ← amounts_in name.Arrivals (length earlier.windows + 1) earlier.arrived 3 (cells_from fields 2 stores)
   limits ← amounts_in name.Limit (length earlier.windows + 1) earlier.step_limits (2 + stores + 1)
       (cells_from fields (2 + stores) (length earlier.limited))
+  sizes ← amounts_in name.Size (length earlier.windows + 1) earlier.step_sizes (2 + stores + length earlier.limited + 1)
+      (cells_from fields (2 + stores + length earlier.limited) (length earlier.sized))
   Ok (record {
     limited = earlier.limited;
     windows = earlier.windows ++ window ∷ [];
     arrived = arrived;
     step_limits = limits;
+    sized = earlier.sized;
+    step_sizes = sizes;
   })
 
 -- these steps, then those of the records
@@ -108,9 +148,16 @@ steps_in stores earlier (fields ∷ rows) = do
   steps ← next_step stores earlier fields
   steps_in stores steps rows
 
--- no steps yet, in a forecast with columns of limits for these channels
-abbrev pub no_steps : List ℕ → Steps
-no_steps limited = record { limited = limited; windows = []; arrived = []; step_limits = [] }
+-- no steps yet, in a forecast with these columns of limits and of sizes
+abbrev pub no_steps : Columns → Steps
+no_steps columns = record {
+  limited = columns.limited;
+  windows = [];
+  arrived = [];
+  step_limits = [];
+  sized = columns.sized;
+  step_sizes = [];
+}
 
 -- the steps, if there is at least one
 unfoldable pub some_steps : Steps → Result Steps Fault
@@ -119,26 +166,48 @@ some_steps steps = do
   Ok steps
 
 -- the steps of the records after the header
-abbrev pub later_steps : ℕ → List ℕ → List Fields → Result Steps Fault
-later_steps stores limited rows = steps_in stores (no_steps limited) rows >>= some_steps
+abbrev pub later_steps : ℕ → Columns → List Fields → Result Steps Fault
+later_steps stores columns rows = steps_in stores (no_steps columns) rows >>= some_steps
 
--- the channels with a column of limits in a header, which names these stores first
-unfoldable pub limited_in : List StoreRow → Fields → Result (List ℕ) Fault
-limited_in stores header = do
+-- the channels of columns of limits with these names
+unfoldable pub limited_in : Fields → Result (List ℕ) Fault
+limited_in names = do
+  few ← test (nat_le (length names) CHANNELS) Header
+  channels_in [] names
+
+-- the stores of columns of sizes with these names
+unfoldable pub sized_in : List StoreRow → Fields → Result (List ℕ) Fault
+sized_in stores names = do
+  few ← test (nat_le (length names) (length stores)) Header
+  places_in stores [] names
+
+-- how many columns of limits come first
+abbrev pub limit_count : Fields → ℕ
+limit_count names = prefix_len names_limit names
+
+-- the columns of limits with these names, and then the columns of sizes
+unfoldable pub columns_named : List StoreRow → Fields → Result Columns Fault
+columns_named stores names = do
+  limited ← limited_in (take (limit_count names) names)
+  sized ← sized_in stores (drop (limit_count names) names)
+  Ok (record { limited = limited; sized = sized })
+
+-- the columns of limits and of sizes in a header, which names these stores first
+unfoldable pub columns_in : List StoreRow → Fields → Result Columns Fault
+columns_in stores header = do
   named ← test (begins_with header (header_of stores)) Header
-  few ← test (nat_le (length header) (2 + length stores + CHANNELS)) Header
-  channels_in [] (drop (2 + length stores) header)
+  columns_named stores (drop (2 + length stores) header)
 
 -- the same, if there is a first record, which is the header
-abbrev pub header_in : List StoreRow → List Fields → Result (List ℕ) Fault
+abbrev pub header_in : List StoreRow → List Fields → Result Columns Fault
 header_in stores [] = Err Header
-header_in stores (header ∷ rows) = limited_in stores header
+header_in stores (header ∷ rows) = columns_in stores header
 
 -- the steps of records, the first of which is the header
 unfoldable pub forecast_in : List StoreRow → List Fields → Result Steps Fault
 forecast_in stores rows = do
-  limited ← header_in stores rows
-  later_steps (length stores) limited (drop 1 rows)
+  columns ← header_in stores rows
+  later_steps (length stores) columns (drop 1 rows)
 
 -- the limit of a channel, if it has one
 abbrev pub limit_of : List LimitRow → ℕ → Option ℕ
@@ -159,4 +228,7 @@ problem_of setup octets = do
     arrived = steps.arrived;
     limited = steps.limited;
     step_limits = steps.step_limits;
+    sized = steps.sized;
+    step_sizes = steps.step_sizes;
+    come = setup.come;
   })

@@ -1,5 +1,6 @@
 pub mod Fault
 pub mod Name
+pub mod Come
 pub mod Setup
 pub mod Keys
 pub mod Tables

@@ -3,6 +3,8 @@ use Rattle.std.specs.Prelude.{◌≡◌, ℕ, ◌≤◌, pos, List, [], map, Opt
 use Rattle.std.specs.List.{AllZip}
 use Rattle.toml.specs.Data.{Data, string, integer, array, table, Items, Members}
 use Rattle.toml.specs.Parse.{parse_document}
+use Rattle.mm_problem.specs.declared.come.Arrivals.{Arrivals}
+use Rattle.mm_problem.specs.declared.come.Arrivals.TheVariants.{Before}
 use Rattle.mm_problem.specs.declared.fault.Name.{Name}
 use Rattle.mm_problem.specs.declared.fault.Name.TheVariants as name
 use Rattle.mm_base.specs.declared.rows.StoreRow.{StoreRow}
@@ -10,6 +12,7 @@ use Rattle.mm_base.specs.declared.rows.RouteRow.{RouteRow}
 use Rattle.mm_base.specs.declared.rows.LimitRow.{LimitRow}
 use Rattle.mm_base.specs.Id.{IsIdText, field_of}
 use Rattle.mm_base.specs.Kind.{word_of}
+use Rattle.mm_problem.specs.Come.{word_of as word_of_come}
 use Rattle.mm_problem.specs.Keys.{elements, keys_of, value_at}
 use Rattle.mm_problem.specs.Name.{text_of}
 use Rattle.mm_problem.specs.Setup.{SetupRows, IsSetup}
@@ -92,12 +95,18 @@ abbrev pub SaysRowsIfAny : {R : Type 0} → (Members → R → Type 0) → Optio
 SaysRowsIfAny Says None rows = rows ≡ []
 SaysRowsIfAny Says (Some d) rows = IsArrayOf Says d rows
 
+-- the key says when arrivals come, or is missing, and they come before dumps
+abbrev pub SaysArrivals : Option Data → Arrivals → Type 0
+SaysArrivals None come = come ≡ Before
+SaysArrivals (Some d) come = d ≡ string (word_of_come come)
+
 -- the document has these rows, and they are those of a setup within all ranges
 pub record IsReadableDocument (document : Members) (m : SetupRows) : Type 0 where
   pub only : HasOnly document_keys document
   pub stores : SaysRows SaysStore document name.Store m.stores
   pub routes : SaysRowsIfAny SaysRoute (value_at name.Route document) m.routes
   pub limits : SaysRowsIfAny SaysLimit (value_at name.Limit document) m.limits
+  pub come : SaysArrivals (value_at name.Arrivals document) m.come
   pub within : IsSetup m
 
 -- the bytes are the text of a document with these rows

@@ -26,6 +26,9 @@ rest_of q step starts = record {
   arrived = drop (step * length q.rows) q.arrived;
   limited = q.limited;
   step_limits = drop (step * length q.limited) q.step_limits;
+  sized = q.sized;
+  step_sizes = drop (step * length q.sized) q.step_sizes;
+  come = q.come;
 }
 
 -- whether each start volume fits in its store

@@ -2,22 +2,33 @@
 use Rattle.std.specs.Prelude.{◌≢◌, ◌≤◌, List, length, map, All, AllPairs, Contains}
 use Rattle.mm_base.specs.declared.limits.TheConstants.{MAX_STORES, MAX_BLOCKS, MAX_CHANNEL, MAX_APID, MAX_ROUTES}
 use Rattle.mm_base.specs.declared.limits.TheConstants.{CHANNELS}
+use Rattle.mm_base.specs.Id.{IsIdField}
 use Rattle.mm_base.specs.declared.rows.StoreRow.{StoreRow}
 use Rattle.mm_base.specs.declared.rows.RouteRow.{RouteRow}
 use Rattle.mm_base.specs.declared.rows.LimitRow.{LimitRow}
+use Rattle.mm_problem.specs.declared.come.Arrivals.{Arrivals}
 
--- the rows of a setup, in its order
+-- the rows of a setup, in its order, and when the arrivals of a step come
 pub record SetupRows : Type 0 where
   pub stores : List StoreRow
   pub routes : List RouteRow
   pub limits : List LimitRow
+  pub come : Arrivals
 
 -- a store within the ranges of the profile
 pub record IsStoreRow (r : StoreRow) : Type 0 where
   pub has_room : 1 ≤ r.size
   pub size : r.size ≤ MAX_BLOCKS
-  pub start : r.start ≤ r.size
+  pub start : r.start ≤ MAX_BLOCKS
   pub channel : r.channel ≤ MAX_CHANNEL
+
+-- a store that holds no more at the start than its size
+abbrev pub StartFits : StoreRow → Type 0
+StartFits r = r.start ≤ r.size
+
+-- a store that has the field of an identifier
+abbrev pub HasId : StoreRow → Type 0
+HasId r = IsIdField r.id
 
 -- two stores with different identifiers
 abbrev pub HaveOtherIds : StoreRow → StoreRow → Type 0
@@ -59,5 +70,7 @@ pub record AreLimits (limits : List LimitRow) : Type 0 where
 -- the rows of a setup within all ranges
 pub record IsSetup (m : SetupRows) : Type 0 where
   pub stores : AreStores m.stores
+  pub starts : All StartFits m.stores
+  pub ids : All HasId m.stores
   pub routes : AreRoutes m.stores m.routes
   pub limits : AreLimits m.limits

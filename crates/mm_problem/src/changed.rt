@@ -1,10 +1,11 @@
 //! A problem with one number changed.
 ghost use Rattle.std.specs.Prelude.{◌≡◌, ◌<◌, ◌≤◌, length, IfOk};
 ghost use Rattle.mm_base.specs.declared.limits.TheConstants.{MAX_BLOCKS};
-ghost use Rattle.mm_problem.specs.Changed.{with_window, with_limit, with_column_limit, with_size};
+ghost use Rattle.mm_problem.specs.Changed.{with_window, with_limit, with_column_limit, with_column_size};
+ghost use Rattle.mm_problem.specs.Changed.{with_arrivals, with_size};
 
+use crate::come::Arrivals;
 use crate::problem::Problem;
-use crate::steps::StepTable;
 use mm_base::grid::place;
 use mm_base::{NoMemory, StoreRow};
 use std::alloc::Global;
@@ -15,18 +16,12 @@ impl Problem {
         ensures { IfOk result (λ problem. problem ≡ self.now) }
     {
         let rows = Vec::from_slice(alloc, self.rows.as_slice())?;
-        let own = &self.steps;
-        let steps = StepTable::of(
-            alloc,
-            &own.windows,
-            &own.arrived,
-            &own.limited,
-            &own.step_limits,
-        )?;
+        let steps = self.steps.copy(alloc)?;
         Ok(Problem {
             rows,
             limits: self.limits,
             steps,
+            come: self.come,
         })
     }
 
@@ -73,7 +68,36 @@ impl Problem {
         Ok(problem)
     }
 
-    /// The problem with another size of a store, in blocks. A start volume above the size becomes the size.
+    /// The problem with another size of a store in a step, in blocks. The store is given by its place in `sized`, from
+    /// 0.
+    pub fn with_column_size(
+        &self,
+        alloc: Global,
+        column: usize,
+        step: u32,
+        blocks: u32,
+    ) -> Result<Problem, NoMemory>
+        requires column { column < length self.now.sized }
+        requires first { 1 ≤ step }
+        requires last { step ≤ length self.now.windows }
+        requires most { blocks ≤ MAX_BLOCKS }
+        ensures problem { IfOk result (λ problem. problem ≡ with_column_size self.now column step blocks) }
+    {
+        let mut problem = self.copy(alloc)?;
+        problem.steps.step_sizes[place(self.steps.sized.len(), step, column)] = blocks;
+        Ok(problem)
+    }
+
+    /// The same problem with arrivals that come then.
+    pub fn with_arrivals(&self, alloc: Global, come: Arrivals) -> Result<Problem, NoMemory>
+        ensures problem { IfOk result (λ problem. problem ≡ with_arrivals self.now come) }
+    {
+        let mut problem = self.copy(alloc)?;
+        problem.come = come;
+        Ok(problem)
+    }
+
+    /// The problem with another size of a store in the setup, in blocks. The start volume stays, also above the size.
     pub fn with_size(&self, alloc: Global, store: usize, blocks: u32) -> Result<Problem, NoMemory>
         requires store { store < length self.now.rows }
         requires first { 1 ≤ blocks }
@@ -84,7 +108,6 @@ impl Problem {
         let row = problem.rows[store];
         problem.rows[store] = StoreRow {
             size: blocks,
-            start: row.start.min(blocks),
             ..row
         };
         Ok(problem)

@@ -2,8 +2,8 @@
 ghost use Rattle.std.specs.Prelude.{◌≡◌, ◌≤◌, ◌<◌, nat_le, List, [], length, pos, Result};
 ghost use Rattle.std.specs.List.{list_all};
 ghost use Rattle.mm_base.specs.Reading.{Gives};
-ghost use Rattle.mm_base.specs.declared.limits.TheConstants.{MAX_STEPS, MAX_BLOCKS, MAX_CHANNEL};
-ghost use Rattle.mm_problem.specs.Data.{rows_fit, amounts_fit, step_fits, steps_fit, step_limits_fit};
+ghost use Rattle.mm_base.specs.declared.limits.TheConstants.{MAX_STORES, MAX_STEPS, MAX_BLOCKS, MAX_CHANNEL};
+ghost use Rattle.mm_problem.specs.Data.{rows_fit, amounts_fit, step_fits, steps_fit, column_fits, columns_fit};
 ghost use Rattle.mm_problem.specs.Keys.{within};
 ghost use Rattle.mm_problem.specs.declared.fault.Fault.{Fault};
 ghost use Rattle.mm_problem.specs.declared.fault.Fault.TheVariants.{NoMemory};
@@ -14,7 +14,7 @@ use crate::keys::within;
 use crate::reading::test;
 use crate::rows::Row;
 use crate::steps::test_another_step;
-use mm_base::{CHANNELS, LimitRow, MAX_BLOCKS, MAX_CHANNEL, StoreRow};
+use mm_base::{LimitRow, MAX_BLOCKS, MAX_CHANNEL, StoreRow};
 
 // A row that is tested after the rows before it.
 pub(crate) trait Tested: Sized {
@@ -57,18 +57,6 @@ impl Tested for LimitRow {
         test_channel(row.channel)?;
         test_amount(Name::Blocks, row.blocks)?;
         LimitRow::test_new(&[], earlier, row)
-    }
-}
-
-// A channel with limits of each step.
-impl Tested for u8 {
-    ghost use Rattle.mm_problem.specs.Data.{column_fits};
-
-    ghost fits = { column_fits };
-
-    fn test(earlier: &[u8], channel: &u8) -> Result<(), Fault> {
-        let is_next = *channel <= MAX_CHANNEL && are_below(earlier, *channel);
-        test(is_next, Fault::Header)
     }
 }
 
@@ -129,15 +117,41 @@ pub(crate) fn test_steps(stores: usize, windows: &[u32], arrived: &[u32]) -> Res
     test(left.is_empty(), Fault::ForecastText)
 }
 
-// Tests the channels with limits of each step, and these limits.
-#[tactic(auto, unfolding(crate::specs::Data::step_limits_fit))]
-pub(crate) fn test_step_limits(steps: usize, channels: &[u8], limits: &[u32]) -> Result<(), Fault>
-    requires { steps ≤ MAX_STEPS }
-    ensures { Gives NoMemory (λ x. x) result (step_limits_fit steps channels.now limits.now) }
+// Tests a column against those before it.
+fn test_column(count: usize, earlier: &[u8], column: u8) -> Result<(), Fault>
+    ensures { Gives NoMemory (λ x. x) result (column_fits count earlier.now column) }
 {
-    test(channels.len() <= CHANNELS, Fault::Header)?;
-    test_rows(channels)?;
-    let many = steps * channels.len();
-    test(limits.len() == many, Fault::ForecastText)?;
-    test_amounts(Name::Limit, limits)
+    let is_next = usize::from(column) < count && are_below(earlier, column);
+    test(is_next, Fault::Header)
+}
+
+// Tests columns, each against those before it.
+#[tactic(auto, using(crate::proofs::DataLaws::no_row_left))]
+fn test_each_column(count: usize, columns: &[u8]) -> Result<(), Fault>
+    ensures { Gives NoMemory (λ x. x) result (rows_fit (column_fits count) [] columns.now) }
+{
+    for (place, column) in columns.iter().enumerate() {
+        test_column(count, &columns[..place], *column)?;
+    }
+    Ok(())
+}
+
+// Tests the columns of the forecast that are of some of these channels or stores, and their numbers for each step.
+#[tactic(auto, unfolding(crate::specs::Data::columns_fit))]
+pub(crate) fn test_columns(
+    count: usize,
+    name: Name,
+    steps: usize,
+    columns: &[u8],
+    cells: &[u32],
+) -> Result<(), Fault>
+    requires count { count ≤ MAX_STORES }
+    requires steps { steps ≤ MAX_STEPS }
+    ensures { Gives NoMemory (λ x. x) result (columns_fit count name steps columns.now cells.now) }
+{
+    test(columns.len() <= count, Fault::Header)?;
+    test_each_column(count, columns)?;
+    let many = steps * columns.len();
+    test(cells.len() == many, Fault::ForecastText)?;
+    test_amounts(name, cells)
 }

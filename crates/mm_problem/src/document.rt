@@ -1,27 +1,29 @@
-//! The document of a setup: its arrays of tables.
+//! The document of a setup: its arrays of tables, and when the arrivals of a step come.
 ghost use Rattle.std.specs.Prelude.{OnOk};
 ghost use Rattle.std.specs.Option.{ok_or};
 ghost use Rattle.toml.specs.Parse.{parse_document};
-ghost use Rattle.toml.specs.View.{table_view};
+ghost use Rattle.toml.specs.View.{table_view, view};
 ghost use Rattle.mm_problem.specs.Arrays.{lists_of};
 ghost use Rattle.mm_problem.specs.Document.{text_of, document_of, lists_at, stores_counted, limits_counted, counts_of};
-ghost use Rattle.mm_problem.specs.Document.{AreCounted};
+ghost use Rattle.mm_problem.specs.Document.{AreCounted, come_of, come_from, come_at};
 ghost use Rattle.mm_problem.specs.declared.fault.Fault.TheVariants.{NoMemory, SetupText};
 ghost use Rattle.mm_base.specs.Reading.{Gives};
 
+use crate::come::Arrivals;
 use crate::fault::{Fault, Name};
-use crate::keys::{array_at, array_if_any, has_only};
+use crate::keys::{array_at, array_if_any, has_only, value_at};
 use crate::reading::test;
 use mm_base::{CHANNELS, MAX_ROUTES, MAX_STORES};
 use std::alloc::Global;
 use toml::{Table, Value};
 
-// The elements of the arrays of a document.
+// The elements of the arrays of a document, and when the arrivals of a step come.
 #[derive(Clone, Copy)]
 pub(crate) struct Arrays<'a> {
     pub(crate) stores: &'a [Value],
     pub(crate) routes: &'a [Value],
     pub(crate) limits: &'a [Value],
+    pub(crate) come: Arrivals,
 }
 
 // The bytes as a text.
@@ -57,12 +59,50 @@ pub(crate) fn document_of(alloc: Global, octets: &[u8]) -> Result<Table, Fault>
     parsed(alloc, text)
 }
 
-// The arrays at the keys of a document.
+// When arrivals come, by a word.
+fn come_of(word: &str) -> Result<Arrivals, Fault>
+    ensures { Gives NoMemory (λ come. come) result (come_of word.now) }
+{
+    if word == Arrivals::Before.word() {
+        Ok(Arrivals::Before)
+    } else if word == Arrivals::During.word() {
+        Ok(Arrivals::During)
+    } else {
+        Err(Fault::SetupField {
+            row: 0,
+            name: Name::Arrivals,
+        })
+    }
+}
+
+// When arrivals come, by a value that is a word.
+#[tactic(auto, unfolding(crate::specs::Document::come_from))]
+fn come_from(value: &Value) -> Result<Arrivals, Fault>
+    ensures { Gives NoMemory (λ come. come) result (come_from (view value.now)) }
+{
+    let word = value.as_str().ok_or(Fault::SetupField {
+        row: 0,
+        name: Name::Arrivals,
+    })?;
+    come_of(word)
+}
+
+// When arrivals come, by the key of the document; before dumps, if the key is missing.
+fn come_at(document: &Table) -> Result<Arrivals, Fault>
+    ensures { Gives NoMemory (λ come. come) result (come_at (table_view document.now)) }
+{
+    match value_at(Name::Arrivals, document) {
+        Some(value) => come_from(value),
+        None => Ok(Arrivals::Before),
+    }
+}
+
+// The values at the keys of a document.
 #[tactic(auto, unfolding(crate::specs::Document::lists_at))]
 pub(crate) fn arrays_at(document: &Table) -> Result<Arrays<'_>, Fault>
     ensures { Gives NoMemory lists_of result (lists_at (table_view document.now)) }
 {
-    let names = [Name::Store, Name::Route, Name::Limit];
+    let names = [Name::Store, Name::Route, Name::Limit, Name::Arrivals];
     test(
         has_only(&names, document),
         Fault::SetupField {
@@ -73,10 +113,12 @@ pub(crate) fn arrays_at(document: &Table) -> Result<Arrays<'_>, Fault>
     let stores = array_at(Name::Store, document)?;
     let routes = array_if_any(Name::Route, document)?;
     let limits = array_if_any(Name::Limit, document)?;
+    let come = come_at(document)?;
     Ok(Arrays {
         stores,
         routes,
         limits,
+        come,
     })
 }
 

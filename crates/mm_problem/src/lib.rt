@@ -4,6 +4,7 @@
 mod cells;
 mod changed;
 mod columns;
+mod come;
 mod data;
 mod document;
 mod fault;
@@ -14,10 +15,12 @@ mod reading;
 mod records;
 mod rows;
 mod setup;
+mod sizes;
 mod steps;
 mod tables;
 mod texts;
 
+pub use come::Arrivals;
 pub use fault::{Fault, Name};
 pub use mm_base::{
     CHANNELS, Kind, LimitRow, MAX_APID, MAX_BLOCKS, MAX_CHANNEL, MAX_ROUTES, MAX_STEPS, MAX_STORES,

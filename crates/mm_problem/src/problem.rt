@@ -1,9 +1,9 @@
 //! The dumping problem of a setup and a forecast.
 ghost use Rattle.std.specs.Prelude.{◌≡◌, ◌==◌, ◌<◌, ◌≤◌, length, slice_index, slice_index_or, position, bytes_eq, IfOk};
-ghost use Rattle.std.specs.Prelude.{◌*◌, drop, IfErr, IfSome, IfNone};
+ghost use Rattle.std.specs.Prelude.{◌*◌, ◌↔◌, drop, IsTrue, IfErr, IfSome, IfNone};
 ghost use Rattle.mm_base.specs.declared.limits.TheConstants.{MAX_BLOCKS, MAX_CHANNEL};
 ghost use Rattle.mm_base.specs.Id.{IsIdField};
-ghost use Rattle.mm_problem.specs.Dumping.{no_row, row, place, size, start, channel, setup_limit, step_limit};
+ghost use Rattle.mm_problem.specs.Dumping.{no_row, row, place, start, channel, setup_limit, step_limit, IsFlyable};
 ghost use Rattle.mm_problem.specs.Dumping.{column_limit, lesser, limit, window, arrivals, IsDumping};
 ghost use Rattle.mm_problem.specs.Forecast.{limit_of, limits_of, problem_of};
 ghost use Rattle.mm_problem.specs.Data.{problem_from, limited_by};
@@ -11,7 +11,8 @@ ghost use Rattle.mm_problem.specs.Rest.{starting_with, rows_from, starts_fit, re
 ghost use Rattle.mm_problem.specs.declared.fault.Fault.TheVariants.{NoMemory};
 ghost use Rattle.mm_base.specs.Reading.{Gives};
 
-use crate::data::{test_rows, test_step_limits, test_steps};
+use crate::come::Arrivals;
+use crate::data::{test_columns, test_rows, test_steps};
 use crate::document::{test_limit_count, test_store_count};
 use crate::fault::{Fault, Name};
 use crate::reading::test;
@@ -23,13 +24,14 @@ use std::alloc::Global;
 use std::marker::Model;
 
 /// A problem of memory dumping: stores with sizes, start volumes and channels, limits of channels, and for each step a
-/// pass window, what arrives at each store, and limits of channels in this step, all in blocks. Stores count from 0 in
-/// setup order, steps from 1.
+/// pass window, what arrives at each store, and limits of channels and sizes of stores in this step, all in blocks; and
+/// when a step's arrivals come. Stores count from 0 in setup order, steps from 1.
 #[derive(Debug, Drop)]
 pub struct Problem {
     pub(crate) rows: Vec<StoreRow>,
     pub(crate) limits: [Option<u32>; CHANNELS],
     pub(crate) steps: StepTable,
+    pub(crate) come: Arrivals,
 }
 
 impl Model for Problem {
@@ -38,9 +40,9 @@ impl Model for Problem {
 
     ghost Value = { Dumping };
 
-    ghost view = { λ a. numbers_of a.rows.items a.limits a.steps };
+    ghost view = { λ a. numbers_of a.rows.items a.limits a.steps a.come };
 
-    ghost invariant = { λ a. IsDumping (numbers_of a.rows.items a.limits a.steps) };
+    ghost invariant = { λ a. IsDumping (numbers_of a.rows.items a.limits a.steps a.come) };
 }
 
 // The place of the store with this identifier.
@@ -149,11 +151,12 @@ impl Problem {
         test_some_step(windows.len())?;
         let rows = Vec::from_slice(alloc, rows)?;
         let limits = limits_of(limits);
-        let steps = StepTable::of(alloc, windows, arrivals, &[], &[])?;
+        let steps = StepTable::of(alloc, windows, arrivals, &[], &[], &[], &[])?;
         Ok(Problem {
             rows,
             limits,
             steps,
+            come: Arrivals::Before,
         })
     }
 
@@ -172,14 +175,17 @@ impl Problem {
             (limited_by self.now channels.now limits.now) }
     {
         let windows = self.steps.windows.as_slice();
-        test_step_limits(windows.len(), channels, limits)?;
+        test_columns(CHANNELS, Name::Limit, windows.len(), channels, limits)?;
         let rows = Vec::from_slice(alloc, self.rows.as_slice())?;
         let arrived = self.steps.arrived.as_slice();
-        let steps = StepTable::of(alloc, windows, arrived, channels, limits)?;
+        let sized = self.steps.sized.as_slice();
+        let step_sizes = self.steps.step_sizes.as_slice();
+        let steps = StepTable::of(alloc, windows, arrived, channels, limits, sized, step_sizes)?;
         Ok(Problem {
             rows,
             limits: self.limits,
             steps,
+            come: self.come,
         })
     }
 
@@ -200,11 +206,14 @@ impl Problem {
         let windows = &self.steps.windows[step as usize..];
         let arrived = later(&self.steps.arrived, stores.len(), step);
         let step_limits = later(&self.steps.step_limits, own.len(), step);
-        let steps = StepTable::of(alloc, windows, arrived, own, step_limits)?;
+        let sized = self.steps.sized.as_slice();
+        let step_sizes = later(&self.steps.step_sizes, sized.len(), step);
+        let steps = StepTable::of(alloc, windows, arrived, own, step_limits, sized, step_sizes)?;
         Ok(Problem {
             rows,
             limits: self.limits,
             steps,
+            come: self.come,
         })
     }
 
@@ -222,6 +231,7 @@ impl Problem {
             rows,
             limits,
             steps,
+            come: setup.come(),
         })
     }
 
@@ -275,14 +285,20 @@ impl Problem {
         id
     }
 
-    /// How many blocks a store can hold.
+    /// When a step's arrivals come.
     #[must_use]
-    pub fn size(&self, store: usize) -> u32
-        requires store { store < length self.now.rows }
-        ensures size { result ≡ size self.now store }
-        ensures most { result ≤ MAX_BLOCKS }
+    pub fn come(&self) -> Arrivals
+        ensures come { result ≡ self.now.come }
     {
-        self.rows[store].size
+        self.come
+    }
+
+    /// Whether arrivals come before dumps, and no store has sizes by step. Only then can steps be carried out.
+    #[must_use]
+    pub fn is_flyable(&self) -> bool
+        ensures flyable { IsTrue result ↔ IsFlyable self.now }
+    {
+        self.come == Arrivals::Before && self.steps.sized.is_empty()
     }
 
     /// How many blocks a store holds at the start of the first step.

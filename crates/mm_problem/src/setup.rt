@@ -1,4 +1,4 @@
-//! The setup: packet stores, routes of the storage control, and limits of channels.
+//! The setup: packet stores, routes of the storage control, limits of channels, and when the arrivals of a step come.
 ghost use Rattle.std.specs.Prelude.{◌≡◌};
 ghost use Rattle.mm_problem.specs.Arrays.{lists_of};
 ghost use Rattle.mm_problem.specs.Document.{AreCounted, rows_of, setup_in, setup_of};
@@ -7,6 +7,7 @@ ghost use Rattle.mm_problem.specs.declared.fault.Fault.TheVariants.{NoMemory};
 ghost use Rattle.mm_base.specs.Reading.{Gives};
 ghost use Rattle.mm_problem.specs.Setup.{IsSetup};
 
+use crate::come::Arrivals;
 use crate::document::{Arrays, arrays_at, document_of, test_counts};
 use crate::fault::Fault;
 use crate::rows::rows_of;
@@ -21,6 +22,7 @@ pub struct Setup {
     pub(crate) stores: Vec<StoreRow>,
     pub(crate) routes: Vec<RouteRow>,
     pub(crate) limits: Vec<LimitRow>,
+    pub(crate) come: Arrivals,
 }
 
 impl Model for Setup {
@@ -28,10 +30,19 @@ impl Model for Setup {
 
     ghost Value = { SetupRows };
 
-    ghost view = { λ a. record { stores = a.stores.items; routes = a.routes.items; limits = a.limits.items } };
+    ghost view = { λ a. record {
+      stores = a.stores.items;
+      routes = a.routes.items;
+      limits = a.limits.items;
+      come = a.come;
+    } };
 
-    ghost invariant = { λ a. IsSetup
-        (record { stores = a.stores.items; routes = a.routes.items; limits = a.limits.items }) };
+    ghost invariant = { λ a. IsSetup (record {
+      stores = a.stores.items;
+      routes = a.routes.items;
+      limits = a.limits.items;
+      come = a.come;
+    }) };
 }
 
 // The setup of these arrays.
@@ -47,6 +58,7 @@ fn setup_of(alloc: Global, arrays: Arrays<'_>) -> Result<Setup, Fault>
         stores,
         routes,
         limits,
+        come: arrays.come,
     })
 }
 
@@ -94,5 +106,13 @@ impl Setup {
         ensures rows { result.now ≡ self.now.limits }
     {
         self.limits.as_slice()
+    }
+
+    /// When the arrivals of a step come.
+    #[must_use]
+    pub fn come(&self) -> Arrivals
+        ensures come { result ≡ self.now.come }
+    {
+        self.come
     }
 }

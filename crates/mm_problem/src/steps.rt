@@ -8,10 +8,10 @@ ghost use Rattle.mm_base.specs.Id.{id_text};
 ghost use Rattle.mm_problem.specs.declared.fault.Fault.TheVariants.{NoMemory};
 ghost use Rattle.mm_base.specs.Reading.{Gives};
 ghost use Rattle.mm_problem.specs.Records.{Fields, records_of, HasRecords, IsReading};
-ghost use Rattle.mm_problem.specs.StepLists.{steps_of};
+ghost use Rattle.mm_problem.specs.StepLists.{columns_of, steps_of};
 
 use crate::cells::{amount_of, test_step};
-use crate::columns::limited_in;
+use crate::columns::{HeaderColumns, columns_in};
 use crate::fault::{Fault, Name};
 use crate::reading::test;
 use crate::records::{next_record, reader_of};
@@ -19,7 +19,8 @@ use csv::{ByteRecord, Reader};
 use mm_base::{MAX_STEPS, StoreRow};
 use std::alloc::{AllocError, Global};
 
-// The windows of some steps, and step by step the arrivals and the limits of the channels that have a column.
+// The windows of some steps, and step by step the arrivals, and the limits and sizes of the channels and stores that
+// have a column.
 #[derive(Debug, Drop)]
 pub(crate) struct StepTable {
     // the channels with a limit for each step, in rising order
@@ -29,6 +30,10 @@ pub(crate) struct StepTable {
     pub(crate) arrived: Vec<u32>,
     // step by step, and within a step in the order of the channels
     pub(crate) step_limits: Vec<u32>,
+    // the stores with a size for each step, in rising order
+    pub(crate) sized: Vec<u8>,
+    // step by step, and within a step in the order of these stores
+    pub(crate) step_sizes: Vec<u32>,
 }
 
 impl StepTable {
@@ -39,24 +44,47 @@ impl StepTable {
         arrived: &[u32],
         limited: &[u8],
         step_limits: &[u32],
+        sized: &[u8],
+        step_sizes: &[u32],
     ) -> Result<StepTable, AllocError>
         ensures steps { IfOk result (λ s. steps_of s ≡ (record {
           limited = limited.now;
           windows = windows.now;
           arrived = arrived.now;
           step_limits = step_limits.now;
+          sized = sized.now;
+          step_sizes = step_sizes.now;
         })) }
     {
         let limited = Vec::from_slice(alloc, limited)?;
         let windows = Vec::from_slice(alloc, windows)?;
         let arrived = Vec::from_slice(alloc, arrived)?;
         let step_limits = Vec::from_slice(alloc, step_limits)?;
+        let sized = Vec::from_slice(alloc, sized)?;
+        let step_sizes = Vec::from_slice(alloc, step_sizes)?;
         Ok(StepTable {
             limited,
             windows,
             arrived,
             step_limits,
+            sized,
+            step_sizes,
         })
+    }
+
+    // The same table once more.
+    pub(crate) fn copy(&self, alloc: Global) -> Result<StepTable, AllocError>
+        ensures steps { IfOk result (λ s. steps_of s ≡ steps_of self.now) }
+    {
+        StepTable::of(
+            alloc,
+            &self.windows,
+            &self.arrived,
+            &self.limited,
+            &self.step_limits,
+            &self.sized,
+            &self.step_sizes,
+        )
     }
 }
 
@@ -80,7 +108,7 @@ fn amounts_of(
     first: usize,
     count: usize,
 ) -> Result<(), Fault>
-    requires few { length (fields_of row.now) ≤ 2 + MAX_STORES + CHANNELS }
+    requires few { length (fields_of row.now) ≤ 2 + MAX_STORES + CHANNELS + MAX_STORES }
     requires cells { first + count ≤ length (fields_of row.now) }
     ensures { Gives NoMemory (λ x. amounts.new.items) result
         (amounts_in name number amounts.old.items (first + 1) (cells_from (fields_of row.now) first count)) }
@@ -114,14 +142,20 @@ pub(crate) fn test_some_step(steps: usize) -> Result<(), Fault>
 fn next_step(stores: usize, steps: &mut StepTable, row: &ByteRecord) -> Result<(), Fault>
     requires stores { stores ≤ MAX_STORES }
     requires limited { vec_len steps.old.limited ≤ CHANNELS }
+    requires sized { vec_len steps.old.sized ≤ MAX_STORES }
     ensures step { Gives NoMemory (λ x. steps_of steps.new) result
         (next_step stores (steps_of steps.old) (fields_of row.now)) }
     ensures longer { OnOk result (vec_len steps.new.windows ≡ vec_len steps.old.windows + 1) }
     ensures most { OnOk result (vec_len steps.new.windows ≤ MAX_STEPS) }
     ensures limited { OnOk result (vec_len steps.new.limited ≤ CHANNELS) }
+    ensures sized { OnOk result (vec_len steps.new.sized ≤ MAX_STORES) }
 {
-    let columns = steps.limited.len();
-    test(row.len() == 2 + stores + columns, Fault::ForecastText)?;
+    let limits = steps.limited.len();
+    let sizes = steps.sized.len();
+    test(
+        row.len() == 2 + stores + limits + sizes,
+        Fault::ForecastText,
+    )?;
     test_another_step(steps.windows.len())?;
     let number = steps.windows.len() as u32 + 1;
     test_step(number, cell_of(row, 0))?;
@@ -133,7 +167,15 @@ fn next_step(stores: usize, steps: &mut StepTable, row: &ByteRecord) -> Result<(
         &mut steps.step_limits,
         row,
         2 + stores,
-        columns,
+        limits,
+    )?;
+    amounts_of(
+        number,
+        Name::Size,
+        &mut steps.step_sizes,
+        row,
+        2 + stores + limits,
+        sizes,
     )?;
     steps.windows.push(window)?;
     Ok(())
@@ -175,46 +217,50 @@ fn some_steps(steps: StepTable) -> Result<StepTable, Fault>
     Ok(steps)
 }
 
-// Reads the header of a forecast for these stores, and returns the channels with a column of limits.
+// Reads the header of a forecast for these stores, and returns its columns of limits and of sizes.
 fn read_header(
     alloc: Global,
     stores: &[StoreRow],
     reader: &mut Reader<&[u8]>,
     row: &mut ByteRecord,
-) -> Result<Vec<u8>, Fault>
+) -> Result<HeaderColumns, Fault>
     requires stores { length stores.now ≤ MAX_STORES }
     requires reading { IsReading reader.old }
     ensures header { (rows : List Fields) → HasRecords reader.old rows
-        → Gives NoMemory (λ v. v.items) result (header_in stores.now rows) }
-    ensures few { IfOk result (λ v. vec_len v ≤ CHANNELS) }
+        → Gives NoMemory columns_of result (header_in stores.now rows) }
+    ensures few_limits { IfOk result (λ c. vec_len c.limited ≤ CHANNELS) }
+    ensures few_sizes { IfOk result (λ c. vec_len c.sized ≤ MAX_STORES) }
     ensures later { OnOk result ((rows : List Fields) → HasRecords reader.old rows
         → HasRecords reader.new (drop 1 rows)) }
 {
     if !next_record(reader, row)? {
         return Err(Fault::Header);
     }
-    limited_in(alloc, stores, row)
+    columns_in(alloc, stores, row)
 }
 
 // Reads the steps of a forecast after its header.
 fn read_steps(
     alloc: Global,
     stores: usize,
-    limited: Vec<u8>,
+    columns: HeaderColumns,
     reader: &mut Reader<&[u8]>,
     row: &mut ByteRecord,
 ) -> Result<StepTable, Fault>
     requires stores { stores ≤ MAX_STORES }
-    requires limited { vec_len limited ≤ CHANNELS }
+    requires limited { vec_len columns.limited ≤ CHANNELS }
+    requires sized { vec_len columns.sized ≤ MAX_STORES }
     requires reading { IsReading reader.old }
     ensures { (rows : List Fields) → HasRecords reader.old rows
-        → Gives NoMemory steps_of result (later_steps stores limited.items rows) }
+        → Gives NoMemory steps_of result (later_steps stores (columns_of columns) rows) }
 {
     let mut steps = StepTable {
-        limited,
+        limited: columns.limited,
         windows: Vec::new(alloc),
         arrived: Vec::new(alloc),
         step_limits: Vec::new(alloc),
+        sized: columns.sized,
+        step_sizes: Vec::new(alloc),
     };
     'rows: while next_record(reader, row)? {
         next_step(stores, &mut steps, row)?;
@@ -233,6 +279,6 @@ pub(crate) fn forecast_of(
 {
     let mut reader = reader_of(alloc, text);
     let mut row = ByteRecord::new(alloc);
-    let limited = read_header(alloc, stores, &mut reader, &mut row)?;
-    read_steps(alloc, stores.len(), limited, &mut reader, &mut row)
+    let columns = read_header(alloc, stores, &mut reader, &mut row)?;
+    read_steps(alloc, stores.len(), columns, &mut reader, &mut row)
 }

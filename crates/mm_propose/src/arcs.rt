@@ -3,7 +3,7 @@ use crate::node::Node;
 use crate::sets::{NodeSet, StoreSet};
 use crate::slots::{Row, Slot, Table};
 use crate::stores::Stores;
-use mm_problem::CHANNELS;
+use mm_problem::{Arrivals, CHANNELS};
 
 /// The arcs of a span with residual capacity: in each row of its table, the slots whose amount is not zero.
 #[derive(Clone, Copy)]
@@ -57,8 +57,11 @@ impl Arcs {
         let (coming, held) = (nodes.stores_in(), nodes.stores_out());
         let spared = stores_of_channels(stores, nodes).both(self.of_row(Row::Dumped));
         let roomy = coming.both(self.of_row(Row::Room));
-        let mut next = channels_of(stores, held);
-        next = next.either(NodeSet::outs(roomy.either(spared)));
+        let mut next = match stores.come() {
+            Arrivals::Before => channels_of(stores, held).either(NodeSet::outs(spared)),
+            Arrivals::During => channels_of(stores, coming).either(NodeSet::ins(spared)),
+        };
+        next = next.either(NodeSet::outs(roomy));
         next = next.either(NodeSet::ins(held.both(self.of_row(Row::Held))));
         if !nodes.channels().both(self.of_row(Row::Open)).is_empty() {
             next = next.with(Node::PASS);

@@ -5,7 +5,7 @@ use crate::node::Node;
 use crate::sets::{NodeSet, StoreSet};
 use crate::spans::Span;
 use mm_plan::{Cut, NoMemory, Stretch};
-use mm_problem::Problem;
+use mm_problem::{Arrivals, Problem};
 use std::alloc::Global;
 
 // Whether a run of the store continues after the span: its blocks could be held there, and then be kept.
@@ -70,16 +70,24 @@ fn stretches_of(
     Ok(cut)
 }
 
-// Whether the span's last step is counted by channels: the run of a store continues, and the pass is not reached.
-fn is_by_channels(nodes: NodeSet) -> bool {
-    !nodes.has(Node::PASS) && !nodes.stores_in().both(nodes.stores_out()).is_empty()
+// The stores in whose runs a span's last step is inner.
+fn inner_stores(come: Arrivals, nodes: NodeSet) -> StoreSet {
+    match come {
+        Arrivals::Before => nodes.stores_in().both(nodes.stores_out()),
+        Arrivals::During => nodes.stores_in(),
+    }
+}
+
+// Whether the span's last step is counted by channels: it is inner in the run of a store, and the pass is not reached.
+fn is_by_channels(come: Arrivals, nodes: NodeSet) -> bool {
+    !nodes.has(Node::PASS) && !inner_stores(come, nodes).is_empty()
 }
 
 // The steps of the cut that are counted by channels.
-fn counts_of(alloc: Global, spans: &[Span]) -> Result<Vec<u32>, NoMemory> {
+fn counts_of(alloc: Global, come: Arrivals, spans: &[Span]) -> Result<Vec<u32>, NoMemory> {
     let mut counts = Vec::new(alloc);
     for span in spans.iter() {
-        if is_by_channels(span.found.nodes()) {
+        if is_by_channels(come, span.found.nodes()) {
             counts.push(span.last)?;
         }
     }
@@ -90,6 +98,6 @@ fn counts_of(alloc: Global, spans: &[Span]) -> Result<Vec<u32>, NoMemory> {
 pub(crate) fn cut_of(alloc: Global, problem: &Problem, spans: &[Span]) -> Result<Cut, NoMemory> {
     Ok(Cut {
         stretches: stretches_of(alloc, problem, spans)?,
-        by_channels: counts_of(alloc, spans)?,
+        by_channels: counts_of(alloc, problem.come(), spans)?,
     })
 }

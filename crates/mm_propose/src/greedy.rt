@@ -5,7 +5,7 @@ use crate::slots::{Slot, Table};
 use crate::span_sets::{MAX_SPANS, SPAN_MASK, SpanSet};
 use crate::spans::Span;
 use crate::stores::Stores;
-use mm_problem::MAX_STORES;
+use mm_problem::{Arrivals, MAX_STORES};
 
 // When each store overflows next if no more blocks leave it.
 #[derive(Clone, Copy)]
@@ -63,14 +63,36 @@ impl Outlook {
 
     // Finds the next overflow of a store, which is not before the span.
     fn look_ahead(&mut self, stores: &Stores, spans: &[Span], store: usize, from: usize) {
-        let capacity = stores.size(store).saturating_add(self.removed.of(store));
         self.take_out(store);
         self.due[store & STORE_MASK] = spans.len();
+        match stores.size(store) {
+            Some(size) => self.look_by_size(spans, store, from, size),
+            None => self.look_by_sizes(spans, store, from),
+        }
+    }
+
+    // Finds the next overflow of a store whose size is the same in each span.
+    fn look_by_size(&mut self, spans: &[Span], store: usize, from: usize, size: u32) {
+        let capacity = size.saturating_add(self.removed.of(store));
         for k in from..spans.len() {
             let blocks = spans[k]
                 .table
                 .of(Slot::arrived(store))
                 .saturating_sub(capacity);
+            if blocks > 0 {
+                self.enter(store, k, blocks);
+                break;
+            }
+        }
+    }
+
+    // Finds the next overflow of a store with another size in each span. No blocks have arrived in these spans yet.
+    fn look_by_sizes(&mut self, spans: &[Span], store: usize, from: usize) {
+        let removed = self.removed.of(store);
+        for k in from..spans.len() {
+            let table = &spans[k].table;
+            let capacity = table.of(Slot::room(store)).saturating_add(removed);
+            let blocks = table.of(Slot::arrived(store)).saturating_sub(capacity);
             if blocks > 0 {
                 self.enter(store, k, blocks);
                 break;
@@ -93,8 +115,14 @@ fn room(stores: &Stores, table: &Table, store: usize) -> u32 {
 }
 
 // Adds the arrivals of a span to a store, which keeps all that it can hold. Returns the number of lost blocks.
-fn arrive(table: &mut Table, store: usize, size: u32, removed: u32) -> u32 {
+fn arrive(table: &mut Table, store: usize, removed: u32) -> u32 {
     let coming = table.of(Slot::arrived(store)).saturating_sub(removed);
+    hold(table, store, coming)
+}
+
+// Cuts what is in a store to its size. Returns the number of lost blocks.
+fn hold(table: &mut Table, store: usize, coming: u32) -> u32 {
+    let size = table.of(Slot::room(store));
     let held = coming.min(size);
     let lost = coming.saturating_sub(held);
     table.set(Slot::lost(store), lost);
@@ -115,18 +143,43 @@ fn dump(table: &mut Table, store: usize, channel: usize, blocks: u32) {
 fn arrivals(stores: &Stores, table: &mut Table, removed: &Amounts) -> StoreSet {
     let mut losing = StoreSet::NONE;
     for store in 0..stores.count() {
-        let lost = arrive(table, store, stores.size(store), removed.of(store));
+        let lost = arrive(table, store, removed.of(store));
         losing = losing.with_if(lost > 0, store);
     }
     losing
 }
 
-// Adds the arrivals of a span, and finds the next overflow of each store that loses blocks. Returns whether one does.
+// Adds the arrivals of a span to all stores, of which any number of blocks can leave before they are cut.
+fn pour(stores: &Stores, spans: &mut [Span], outlook: &Outlook, at: usize) {
+    if let Some(span) = spans.get_mut(at) {
+        for store in 0..stores.count() {
+            let arrived = span.table.of(Slot::arrived(store));
+            let coming = arrived.saturating_sub(outlook.removed.of(store));
+            span.table.set(Slot::kept(store), coming);
+        }
+    }
+}
+
+// Cuts what is left in all stores to their sizes. Returns the stores that lose blocks.
+fn cut_to_sizes(stores: &Stores, table: &mut Table) -> StoreSet {
+    let mut losing = StoreSet::NONE;
+    for store in 0..stores.count() {
+        let lost = hold(table, store, table.of(Slot::kept(store)));
+        losing = losing.with_if(lost > 0, store);
+    }
+    losing
+}
+
+// Fills the stores up to their sizes, and finds the next overflow of each store that loses blocks. Returns whether one
+// does.
 fn fill_stores(stores: &Stores, spans: &mut [Span], outlook: &mut Outlook, at: usize) -> bool {
     let Some(span) = spans.get_mut(at) else {
         return false;
     };
-    let losing = arrivals(stores, &mut span.table, &outlook.removed);
+    let losing = match stores.come() {
+        Arrivals::Before => arrivals(stores, &mut span.table, &outlook.removed),
+        Arrivals::During => cut_to_sizes(stores, &mut span.table),
+    };
     for store in losing.iter() {
         let Some(span) = spans.get(at) else {
             break;
@@ -159,20 +212,42 @@ fn is_used_up(spans: &[Span], at: usize) -> bool {
     }
 }
 
-// Gives the window of a span to the stores in the order of their next overflows. A store whose overflow is averted
-// overflows later, and gets its turn again there.
-fn empty_stores(stores: &Stores, spans: &mut [Span], outlook: &mut Outlook, at: usize) {
-    let mut span = at;
+// Gives the window of a span to the stores in the order of their next overflows, from a span on. A store whose overflow
+// is averted overflows later, and gets its turn again there.
+fn empty_stores(
+    stores: &Stores,
+    spans: &mut [Span],
+    outlook: &mut Outlook,
+    at: usize,
+    first: usize,
+) {
+    let mut from = first;
     for _ in 0..spans.len() {
         if is_used_up(spans, at) {
             break;
         }
-        let Some(next) = outlook.busy.first_from(span.saturating_add(1)) else {
+        let Some(next) = outlook.busy.first_from(from) else {
             break;
         };
         let due = outlook.due_in(next);
         avert(stores, spans, outlook, at, due);
-        span = next;
+        from = next.saturating_add(1);
+    }
+}
+
+// Plans one span. Returns whether a store loses blocks in it.
+fn plan_span(stores: &Stores, spans: &mut [Span], outlook: &mut Outlook, at: usize) -> bool {
+    match stores.come() {
+        Arrivals::Before => {
+            let is_losing = fill_stores(stores, spans, outlook, at);
+            empty_stores(stores, spans, outlook, at, at.saturating_add(1));
+            is_losing
+        }
+        Arrivals::During => {
+            pour(stores, spans, outlook, at);
+            empty_stores(stores, spans, outlook, at, at);
+            fill_stores(stores, spans, outlook, at)
+        }
     }
 }
 
@@ -183,8 +258,7 @@ pub(crate) fn dump_by_next_overflow(stores: &Stores, spans: &mut [Span]) -> bool
     let mut outlook = Outlook::of(stores, spans);
     let mut is_losing = false;
     for at in 0..spans.len() {
-        is_losing |= fill_stores(stores, spans, &mut outlook, at);
-        empty_stores(stores, spans, &mut outlook, at);
+        is_losing |= plan_span(stores, spans, &mut outlook, at);
     }
     is_losing
 }

@@ -3,6 +3,7 @@
 ghost use Rattle.std.specs.Prelude.{◌<◌};
 
 use crate::sets::{CHANNEL_MASK, STORE_MASK};
+use mm_problem::Arrivals;
 
 /// A node of a span, as a place in a word or a table of 64. Stores and channels count from 0.
 #[derive(Clone, Copy)]
@@ -33,6 +34,14 @@ impl Node {
     // What a store holds.
     pub(crate) fn out_of_store(store: usize) -> Node {
         Node((16 + (store & STORE_MASK)) as u8)
+    }
+
+    // The node from which blocks leave a store: what it holds, or its input if arrivals come during dumps.
+    pub(crate) fn dumping(come: Arrivals, store: usize) -> Node {
+        match come {
+            Arrivals::Before => Node::out_of_store(store),
+            Arrivals::During => Node::into_store(store),
+        }
     }
 
     // What leaves through a channel.

@@ -6,7 +6,7 @@ use crate::reached::Reached;
 use crate::span_sets::SpanSet;
 use crate::spans::Span;
 use mm_plan::{Cut, NoMemory, Stretch};
-use mm_problem::Problem;
+use mm_problem::{Arrivals, Problem};
 use std::alloc::Global;
 
 // The first step of a span, which follows the last step of the previous one.
@@ -23,6 +23,32 @@ fn last_step(spans: &[Span], at: usize) -> u32 {
         Some(span) => span.last,
         None => 0,
     }
+}
+
+// Adds the runs of one store whose arrivals come during dumps. A run is made of spans in which more of its blocks could
+// leave.
+fn add_whole_runs(
+    cut: &mut Vec<Stretch>,
+    problem: &Problem,
+    spans: &[Span],
+    store: usize,
+    more: SpanSet,
+) -> Result<(), NoMemory>
+    requires { store < length problem.now.rows }
+{
+    let mut starts = more.without(more.next());
+    for _ in spans.iter() {
+        let Some(first) = starts.take_first() else {
+            break;
+        };
+        let after = more.not().first_from(first).unwrap_or(spans.len());
+        cut.push(Stretch {
+            store: problem.id(store),
+            first: first_step(spans, first),
+            last: last_step(spans, after.min(spans.len()).saturating_sub(1)),
+        })?;
+    }
+    Ok(())
 }
 
 // Adds the runs of one store. A run is made of spans in which more of its blocks could leave or be kept, and ends with
@@ -71,7 +97,14 @@ pub(crate) fn cut_of_first(
         let more = exhausted.of(store);
         inner = inner.either(more);
         if store < problem.stores() {
-            add_runs(&mut stretches, problem, spans, store, profile, more)?;
+            match problem.come() {
+                Arrivals::Before => {
+                    add_runs(&mut stretches, problem, spans, store, profile, more)?;
+                }
+                Arrivals::During => {
+                    add_whole_runs(&mut stretches, problem, spans, store, more)?;
+                }
+            }
         }
     }
     let mut rest = inner.without(exhausted.passes);

@@ -236,7 +236,7 @@ fn end_in(profile: &Profile, windows: &Windows, asked: SpanSet, new: SpanSet) ->
         return Some(End { kind, to });
     }
     let to = windows.count().saturating_sub(1);
-    if new.has(to) {
+    if new.has(to) && profile.can_keep(to) {
         let kind = Move::Kept;
         return Some(End { kind, to });
     }

@@ -3,6 +3,7 @@ use crate::node::{Node, NodeKind, Place};
 use crate::slots::{Row, Slot};
 use crate::spans::Span;
 use crate::stores::Stores;
+use mm_problem::Arrivals;
 
 /// An arc of a path: the node where it starts, and the two slots of a span between which it moves blocks.
 #[derive(Clone, Copy)]
@@ -89,13 +90,17 @@ impl Choice {
         }
     }
 
-    // Considers the arcs to what a store holds: more blocks come in, or fewer leave.
-    fn out_of_store(&mut self, stores: &Stores, span: &Span, at: usize, store: usize) {
+    // Considers the arc to what a store holds: more blocks come in.
+    fn out_of_store(&mut self, span: &Span, at: usize, store: usize) {
         if span.arcs.has_capacity(Slot::room(store)) {
             let node = Node::into_store(store);
             let hold = Link::new(at, node, Slot::room(store), Slot::held(store));
             self.consider(span.found.batch(node), hold);
         }
+    }
+
+    // Considers the arc from the channel of a store: fewer blocks leave.
+    fn not_dumped(&mut self, stores: &Stores, span: &Span, at: usize, store: usize) {
         if span.arcs.has_capacity(Slot::dumped(store)) {
             let node = Node::channel(stores.channel(store));
             let dump = Link::new(at, node, Slot::dumped(store), Slot::OUTSIDE);
@@ -118,11 +123,15 @@ impl Choice {
 
     // Considers the arcs to a channel: from its stores, and from the pass.
     fn to_channel(&mut self, stores: &Stores, span: &Span, at: usize, channel: usize) {
-        let holding = span.found.nodes().stores_out();
-        for store in stores.of_channel(channel).both(holding).iter() {
-            let out = Node::out_of_store(store);
-            let dump = Link::new(at, out, Slot::ENDLESS, Slot::dumped(store));
-            self.consider(span.found.batch(out), dump);
+        let nodes = span.found.nodes();
+        let dumping = match stores.come() {
+            Arrivals::Before => nodes.stores_out(),
+            Arrivals::During => nodes.stores_in(),
+        };
+        for store in stores.of_channel(channel).both(dumping).iter() {
+            let node = Node::dumping(stores.come(), store);
+            let dump = Link::new(at, node, Slot::ENDLESS, Slot::dumped(store));
+            self.consider(span.found.batch(node), dump);
         }
         if span.arcs.has_capacity(Slot::sent(channel)) {
             let send = Link::new(at, Node::PASS, Slot::sent(channel), Slot::open(channel));
@@ -155,9 +164,17 @@ pub(crate) fn link_to(stores: &Stores, spans: &[Span], place: Place) -> Option<L
         link: None,
     };
     match place.node.kind() {
-        NodeKind::In(store) => choice.into_store(span_before(spans, at), span, at, store),
+        NodeKind::In(store) => {
+            choice.into_store(span_before(spans, at), span, at, store);
+            if stores.come() == Arrivals::During {
+                choice.not_dumped(stores, span, at, store);
+            }
+        }
         NodeKind::Out(store) => {
-            choice.out_of_store(stores, span, at, store);
+            choice.out_of_store(span, at, store);
+            if stores.come() == Arrivals::Before {
+                choice.not_dumped(stores, span, at, store);
+            }
             choice.not_kept(spans.get(at.saturating_add(1)), span, at, store);
         }
         NodeKind::Channel(channel) => choice.to_channel(stores, span, at, channel),

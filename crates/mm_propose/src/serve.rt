@@ -36,12 +36,13 @@ impl Service {
     // Serves the next store.
     pub(crate) fn serve(&mut self, stores: &Stores, spans: &[Span]) -> Result<(), NoMemory> {
         let store = self.profiles.len();
-        self.profiles.push(Profile::new(stores.channel(store)))?;
-        let size = stores.size(store);
+        let profile = Profile::new(stores.channel(store), stores.come());
+        self.profiles.push(profile)?;
         let mut arrived = 0u32;
         let mut kept = 0u32;
         for (at, span) in spans.iter().enumerate() {
             let all = span.table.of(Slot::arrived(store));
+            let size = span.table.of(Slot::room(store));
             let coming = kept.saturating_add(all.saturating_sub(arrived));
             arrived = all;
             kept = coming.min(size);

@@ -9,9 +9,9 @@ use crate::sets::STORE_MASK;
 pub(crate) enum Row {
     /// What a store loses.
     Lost = 0,
-    /// How many more blocks a store could hold.
+    /// How many more blocks a store could hold: its size, until the span's blocks arrive.
     Room = 1,
-    /// What a store holds before blocks leave it.
+    /// What a store holds before blocks leave it, or after if arrivals come during dumps.
     Held = 2,
     /// What a store keeps at the end.
     Kept = 3,

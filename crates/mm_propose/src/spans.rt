@@ -1,12 +1,13 @@
-//! Spans: joined steps of which only the last has a window. What arrives in them is lost or kept as if it came at once.
-ghost use Rattle.std.specs.Prelude.{◌≤◌, length};
+//! Spans: joined steps of which only the last has a window, and in which no size rises. What arrives in them is lost or
+//! kept as if it came at once. Where arrivals come during dumps, a step with a window is a span of its own.
+ghost use Rattle.std.specs.Prelude.{◌<◌, ◌≤◌, length};
 
 use crate::amounts::Amounts;
 use crate::arcs::Arcs;
 use crate::search::Found;
 use crate::slots::{Slot, Table};
 use mm_plan::NoMemory;
-use mm_problem::{CHANNELS, Problem};
+use mm_problem::{Arrivals, CHANNELS, MAX_STEPS, Problem};
 use std::alloc::Global;
 
 /// A span, and what a plan does in it.
@@ -69,10 +70,52 @@ fn limit_in(limit: u32, window: u32) -> u32 {
     if limit < window { limit } else { u32::MAX }
 }
 
-// Writes the amounts of a span in which no block has left yet.
-fn begin(table: &mut Table, arrived: &Amounts, limits: &[u32; CHANNELS], window: u32) {
+// The size of each store in a step.
+fn sizes_in(problem: &Problem, step: u32) -> Amounts
+    requires first { 1 ≤ step }
+    requires last { step ≤ length problem.now.windows }
+{
+    let mut sizes = Amounts::NOTHING;
+    for store in 0..problem.stores() {
+        sizes.set(store, problem.size(store, step));
+    }
+    sizes
+}
+
+// Whether some size rises from a step to the next.
+fn rises(problem: &Problem, step: u32) -> bool
+    requires first { 1 ≤ step }
+    requires last { step < length problem.now.windows }
+{
+    let mut sized = problem.sized().iter();
+    sized.any(|store| {
+        let store = *store as usize;
+        store < problem.stores() && problem.size(store, step) < problem.size(store, step + 1)
+    })
+}
+
+// Whether a step without a window ends a span, though another step follows.
+fn ends_early(problem: &Problem, step: u32) -> bool
+    requires first { 1 ≤ step }
+    requires last { step < length problem.now.windows }
+{
+    // the number of the next step fits
+    prove!(problem.steps() <= MAX_STEPS);
+    let opens = problem.come() == Arrivals::During && problem.window(step + 1) > 0;
+    opens || rises(problem, step)
+}
+
+// Writes the amounts of a span in which no block has left yet. The room of a store is its size until blocks arrive.
+fn begin(
+    table: &mut Table,
+    arrived: &Amounts,
+    sizes: &Amounts,
+    limits: &[u32; CHANNELS],
+    window: u32,
+) {
     for store in 0..16 {
         table.set(Slot::arrived(store), arrived.of(store));
+        table.set(Slot::room(store), sizes.of(store));
     }
     for channel in 0..CHANNELS {
         let open = limit_in(limits[channel], window);
@@ -82,26 +125,32 @@ fn begin(table: &mut Table, arrived: &Amounts, limits: &[u32; CHANNELS], window:
     table.set(Slot::ENDLESS, u32::MAX);
 }
 
-/// The spans of a problem. Each step without a window is joined to the next step that has one; the last steps without a
-/// window are a span too.
+/// The spans of a problem. Each step without a window is joined to the next step that has one, as far as spans allow;
+/// the last steps without a window are a span too.
 pub(crate) fn spans_of(alloc: Global, problem: &Problem) -> Result<Vec<Span>, NoMemory> {
     let steps = problem.steps();
     let by_step = !problem.limited().is_empty();
+    let is_flyable = problem.is_flyable();
+    let has_sizes = !problem.sized().is_empty();
     let mut limits = limits_of(problem, 1);
+    let mut sizes = sizes_in(problem, 1);
     let mut spans = Vec::with_capacity(alloc, steps as usize)?;
     let mut arrived = starts(problem);
     for step in 1..steps + 1 {
         add_arrivals(&mut arrived, problem, step);
         let window = problem.window(step);
-        if window > 0 || step == steps {
+        if window > 0 || step == steps || !is_flyable && ends_early(problem, step) {
             if by_step {
                 limits = limits_of(problem, step);
+            }
+            if has_sizes {
+                sizes = sizes_in(problem, step);
             }
             let at = spans.len();
             spans.push(Span::EMPTY)?;
             if let Some(span) = spans.get_mut(at) {
                 span.last = step;
-                begin(&mut span.table, &arrived, &limits, window);
+                begin(&mut span.table, &arrived, &sizes, &limits, window);
             }
         }
     }

@@ -2,10 +2,13 @@
 use Rattle.mm_base.specs.declared.refusal.Refusal.{Refusal}
 use Rattle.mm_base.specs.declared.refusal.Refusal.TheVariants as refusal
 use Rattle.mm_report.specs.declared.cause.Cause.{Cause}
-use Rattle.mm_report.specs.declared.cause.Cause.TheVariants.{PlanShape, NotReady, SizeDiffers, OpeningDiffers, ChannelDiffers, ClockTooLate, PlanDoesNotFit, Counts, NoMemory, LinkFailed, LogMismatch}
+use Rattle.mm_report.specs.declared.cause.Cause.TheVariants.{NotFlyable, PlanShape, NotReady, SizeDiffers}
+use Rattle.mm_report.specs.declared.cause.Cause.TheVariants.{OpeningDiffers, ChannelDiffers, ClockTooLate}
+use Rattle.mm_report.specs.declared.cause.Cause.TheVariants.{PlanDoesNotFit, Counts, NoMemory, LinkFailed, LogMismatch}
 
 -- which refusal it is
 abbrev pub refusal_of : Cause → Refusal
+refusal_of NotFlyable = refusal.NotFlyable
 refusal_of PlanShape = refusal.PlanShape
 refusal_of (NotReady store) = refusal.NotReady
 refusal_of (SizeDiffers store) = refusal.SizeDiffers

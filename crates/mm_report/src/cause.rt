@@ -14,6 +14,8 @@ pub const MAX_SOURCES: usize = 8;
 /// Why a run did not begin, or was halted. It is shown as its number and its name.
 #[derive(Clone, Copy, Debug, PartialEq, Eq)]
 pub enum Cause {
+    /// No run can carry out the problem's steps: its arrivals come during dumps, or it has sizes by step.
+    NotFlyable,
     /// The plan is for another number of stores or of steps than the problem has.
     PlanShape,
     /// A store of the problem is missing, its storage is off or a retrieval is on, or the store is none of the problem's.
@@ -49,6 +51,7 @@ impl Error for Cause {}
 impl Refused for Cause {
     fn refusal(self) -> Refusal {
         match self {
+            Cause::NotFlyable => Refusal::NotFlyable,
             Cause::PlanShape => Refusal::PlanShape,
             Cause::NotReady { .. } => Refusal::NotReady,
             Cause::SizeDiffers { .. } => Refusal::SizeDiffers,

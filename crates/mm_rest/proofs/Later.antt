@@ -11,12 +11,12 @@ use Rattle.mm_base.specs.declared.rows.StoreRow.{StoreRow}
 use Rattle.mm_base.proofs.RangeSums.{sum_by_range_more, sum_by_range_same}
 use Rattle.mm_base.proofs.Sums.{sum_by-add}
 use Rattle.mm_problem.specs.Dumping.{Dumping, arrivals, is_of, lesser, limit, no_row}
-use Rattle.mm_problem.specs.Dumping.{row, setup_limit, size, stores, stores_of, window}
+use Rattle.mm_problem.specs.Dumping.{row, setup_limit, size, size_column, stores, stores_of, window}
 use Rattle.mm_problem.specs.Rest.{rest_of, starting_with}
 use Rattle.mm_plan.specs.Fit.{Fits, in_step}
 use Rattle.mm_plan.specs.Least.{IsLeast}
-use Rattle.mm_plan.specs.Volumes.{Amounts, left, loss, lost, written}
-use Rattle.mm_plan.proofs.Steps.{left_same, left_start, left_step, written_same}
+use Rattle.mm_plan.specs.Volumes.{Amounts, left, left_by, loss, lost, lost_by, there}
+use Rattle.mm_plan.proofs.Steps.{left_same, left_start, left_step}
 use Rattle.mm_rest.specs.Laws.{SameUntil, joined, later, loss_until}
 use Rattle.mm_rest.specs.Rests.{held_after, rest_after}
 
@@ -63,11 +63,11 @@ filter_range_same p r a (suc m) same = ap₂ (λ b xs. cond b (a ∷ xs) xs) (sa
 module _ (q : Dumping) (x : Amounts) (n : ℕ) where
   -- ---- the stores
 
-  as_many : length (rest_after q x n).rows ≡ length q.rows
+  pub as_many : length (rest_after q x n).rows ≡ length q.rows
   as_many = length-map-range_with_len
       (λ s. starting_with (get_or q.rows s no_row) (get_or (held_after q x n) s 0)) 0 (length q.rows)
 
-  row_at : (s : ℕ) → s < length q.rows → row (rest_after q x n) s ≡ starting_with (row q s) (left q x s n)
+  pub row_at : (s : ℕ) → s < length q.rows → row (rest_after q x n) s ≡ starting_with (row q s) (left q x s n)
   row_at s store =
       get_or-map-range_with_len (λ s. starting_with (get_or q.rows s no_row) (get_or (held_after q x n) s 0)) 0
       (length q.rows) s s no_row store (omega arith)
@@ -81,17 +81,20 @@ module _ (q : Dumping) (x : Amounts) (n : ℕ) where
   -- ---- volumes
 
   module _ (s : ℕ) (store : s < length q.rows) where
-    size_at : size (rest_after q x n) s ≡ size q s
-    size_at = ap (λ (r : StoreRow). r.size) (row_at s store)
+    size_at : (t : ℕ) → 1 ≤ t → size (rest_after q x n) s t ≡ size q s (n + t)
+    unfolding size
+    size_at t first = ap₂ (λ a b. cond (nat_lt (size_column q s) (length q.sized)) (min a b) a)
+        (ap (λ (r : StoreRow). r.size) (row_at s store))
+        (later_cell (length q.sized) n (size_column q s) t q.step_sizes first)
 
-    written_from : (k : ℕ) → left (rest_after q x n) (later n x) s k ≡ left q x s (n + k)
-        → written (rest_after q x n) (later n x) s (suc k) ≡ written q x s (n + suc k)
-    written_from k before =
+    there_from : (k : ℕ) → left (rest_after q x n) (later n x) s k ≡ left q x s (n + k)
+        → there (rest_after q x n) (later n x) s (suc k) ≡ there q x s (n + suc k)
+    there_from k before =
         let here : suc k - 1 ≡ k = omega arith in
         let past : n + suc k - 1 ≡ n + k = omega arith in
-        ap₂ min (ap₂ (λ a b. a + b)
+        ap₂ (λ a b. a + b)
         (ap (left (rest_after q x n) (later n x) s) here ∙ before ∙ sym (ap (left q x s) past))
-        (arrivals_at s (suc k) (omega arith))) size_at
+        (arrivals_at s (suc k) (omega arith))
 
     -- what is left is what is left in the rest
     left_at : (k : ℕ) → left (rest_after q x n) (later n x) s k ≡ left q x s (n + k)
@@ -100,20 +103,15 @@ module _ (q : Dumping) (x : Amounts) (n : ℕ) where
         left_start (rest_after q x n) (later n x) s ∙ ap (λ (r : StoreRow). r.start) (row_at s store)
         ∙ sym (ap (left q x s) same)
     left_at (suc k) =
-        let stands = written_from k (left_at k) in
         left_step (rest_after q x n) (later n x) s k (suc k) (omega arith)
-        ∙ ap (λ w. w - min (x s (n + suc k)) w) stands
+        ∙ ap₂ (λ z w. left_by q.come z w (x s (n + suc k))) (size_at (suc k) (omega arith)) (there_from k (left_at k))
         ∙ sym (left_step q x s (n + k) (n + suc k) (omega arith))
 
     -- and so is what is lost
     lost_at : (t : ℕ) → 1 ≤ t → lost (rest_after q x n) (later n x) s t ≡ lost q x s (n + t)
     lost_at zero first = absurd (omega arith)
     lost_at (suc k) first =
-        let here : suc k - 1 ≡ k = omega arith in
-        let past : n + suc k - 1 ≡ n + k = omega arith in
-        ap₂ (λ a b. a - b) (ap₂ (λ a b. a + b)
-        (ap (left (rest_after q x n) (later n x) s) here ∙ left_at k ∙ sym (ap (left q x s) past))
-        (arrivals_at s (suc k) first)) (written_from k (left_at k))
+        ap₂ (λ z w. lost_by q.come z w (x s (n + suc k))) (size_at (suc k) first) (there_from k (left_at k))
 
   -- ---- losses
 
@@ -140,19 +138,19 @@ module _ (q : Dumping) (x : Amounts) (n : ℕ) where
 
   -- ---- windows and limits
 
-  window_at : (t : ℕ) → 1 ≤ t → window (rest_after q x n) t ≡ window q (n + t)
+  pub window_at : (t : ℕ) → 1 ≤ t → window (rest_after q x n) t ≡ window q (n + t)
   window_at t first =
       let place : n + (t - 1) ≡ n + t - 1 = omega arith in
       get_or-drop n q.windows (t - 1) 0 ∙ ap (λ i. get_or q.windows i 0) place
 
-  limit_at : (c t : ℕ) → 1 ≤ t → limit (rest_after q x n) c t ≡ limit q c (n + t)
+  pub limit_at : (c t : ℕ) → 1 ≤ t → limit (rest_after q x n) c t ≡ limit q c (n + t)
   limit_at c t first =
       let column = position_or_len (λ k. k == c) q.limited in
       ap (λ v. cond (nat_lt c (length q.limits)) (lesser (setup_limit q c)
       (cond (nat_lt column (length q.limited)) (Some v) None)) None)
       (later_cell (length q.limited) n column t q.step_limits first)
 
-  stores_of_at : (c : ℕ) → stores_of (rest_after q x n) c ≡ stores_of q c
+  pub stores_of_at : (c : ℕ) → stores_of (rest_after q x n) c ≡ stores_of q c
   stores_of_at c = ap (λ L. filter (is_of (rest_after q x n) c) (range_with_len 0 L)) as_many
       ∙ filter_range_same (is_of (rest_after q x n) c) (is_of q c) 0 (length q.rows) (λ s low high.
       let store : s < length q.rows = omega arith in
@@ -178,16 +176,16 @@ left_alike q x y n same s store t within =
     left_same q x y s t (λ u low high. same s u store low (omega arith))
 
 lost_alike : (q : Dumping) (x y : Amounts) (n : ℕ) → SameUntil q n x y → (s : ℕ) → s < length q.rows
-    → (t : ℕ) → t ≤ n → lost q y s t ≡ lost q x s t
-lost_alike q x y n same s store t within =
-    let stands = written_same q x y s t (λ u low high. same s u store low (omega arith)) in
-    ap₂ (λ a b. a + arrivals q s t - b) (left_alike q x y n same s store (t - 1) (omega arith)) stands
+    → (t : ℕ) → 1 ≤ t → t ≤ n → lost q y s t ≡ lost q x s t
+lost_alike q x y n same s store t first within =
+    ap₂ (λ a b. lost_by q.come (size q s t) (a + arrivals q s t) b)
+    (left_alike q x y n same s store (t - 1) (omega arith)) (same s t store first within)
 
 -- they lose the same up to it
 until_alike : (q : Dumping) (x y : Amounts) (n : ℕ) → SameUntil q n x y → loss_until n q y ≡ loss_until n q x
 until_alike q x y n same = sum_by_range_same _ _ 0 (length q.rows) (λ s low high.
     let store : s < length q.rows = omega arith in
-    sum_by_range_same (lost q y s) (lost q x s) 1 n (λ t first last. lost_alike q x y n same s store t (omega arith)))
+    sum_by_range_same (lost q y s) (lost q x s) 1 n (λ t first last. lost_alike q x y n same s store t first (omega arith)))
 
 -- and leave the same
 rest_alike : (q : Dumping) (x y : Amounts) (n : ℕ) → SameUntil q n x y → rest_after q y n ≡ rest_after q x n
@@ -198,17 +196,17 @@ rest_alike q x y n same = ap (rest_of q n) (map_range_same (λ s. left q y s n) 
     left_alike q x y n same s store n last))
 
 -- all that they lose is the same where they are the same in all steps
-loss_alike : (q : Dumping) (x y : Amounts) → SameUntil q (length q.windows) x y → loss q y ≡ loss q x
+pub loss_alike : (q : Dumping) (x y : Amounts) → SameUntil q (length q.windows) x y → loss q y ≡ loss q x
 loss_alike q x y same = until_alike q x y (length q.windows) same
 
 -- ---- a plan that is made anew
 
-joined_until : (n : ℕ) (x z : Amounts) (s t : ℕ) → t ≤ n → joined n x z s t ≡ x s t
+pub joined_until : (n : ℕ) (x z : Amounts) (s t : ℕ) → t ≤ n → joined n x z s t ≡ x s t
 joined_until n x z s t within =
     let test : nat_le t n ≡ true = grind (arith, nat_tests) in
     ap (λ b. cond b (x s t) (z s (t - n))) test
 
-joined_after : (n : ℕ) (x z : Amounts) (s t : ℕ) → 1 ≤ t → later n (joined n x z) s t ≡ z s t
+pub joined_after : (n : ℕ) (x z : Amounts) (s t : ℕ) → 1 ≤ t → later n (joined n x z) s t ≡ z s t
 joined_after n x z s t first =
     let test : nat_le (n + t) n ≡ false = grind (arith, nat_tests) in
     let place : n + t - n ≡ t = omega arith in

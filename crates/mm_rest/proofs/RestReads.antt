@@ -8,7 +8,11 @@ use Rattle.std.proofs.lemmas.Bool.Decides.{nat_tests}
 use Rattle.std.proofs.lemmas.List.FromFn.{get_or-map-range_with_len, length-map-range_with_len}
 use Rattle.mm_base.specs.declared.rows.StoreRow.{StoreRow}
 use Rattle.mm_problem.specs.Document.{setup_of}
-use Rattle.mm_problem.specs.Dumping.{Dumping, IsDumping, no_row, size, stores}
+use Rattle.mm_problem.specs.Dumping.{Dumping, IsDumping, no_row, setup_size, stores}
+use Rattle.mm_problem.specs.declared.come.Arrivals.{Arrivals}
+use Rattle.mm_problem.proofs.RestLaws.{as_many_rows, starts_fit_said}
+use Rattle.mm_problem.proofs.StepSizes.{size_within}
+use Rattle.mm_plan.proofs.Steps.{left_size}
 use Rattle.mm_problem.specs.Forecast.{limits_of}
 use Rattle.mm_problem.specs.Laws.{ReadsForecasts}
 use Rattle.mm_problem.specs.ReadableForecast.{forecast_of}
@@ -22,11 +26,13 @@ use Rattle.mm_rest.proofs.ForecastReads.{by_place}
 
 -- ---- the start volumes fit
 
--- a store holds at most its size
-pub left_fits : (q : Dumping) (x : Amounts) (s n : ℕ) → IsDumping q → s < length q.rows → left q x s n ≤ size q s
-unfolding left
-left_fits q x s zero is store = (is.stores.each s no_row store).start
-left_fits q x s (suc n) is store = omega arith
+-- a store holds at most its size after a step
+pub left_fits : (q : Dumping) (x : Amounts) (s n : ℕ) → 1 ≤ n → IsDumping q → s < length q.rows
+    → left q x s n ≤ setup_size q s
+left_fits q x s zero first is store = absurd (omega arith)
+left_fits q x s (suc n) first is store =
+    let next : n + 1 ≡ suc n = omega arith in
+    omega (arith, left_size q x s n (suc n) next, size_within q s (suc n))
 
 all_of_range : (p : ℕ → Bool) (a n : ℕ) → ((s : ℕ) → a ≤ s → s < a + n → p s ≡ true)
     → list_all p (range_with_len a n) ≡ true
@@ -34,28 +40,35 @@ all_of_range p a zero each = refl
 all_of_range p a (suc n) each = ap₂ (λ b c. b && c) (each a (omega arith) (omega arith))
     (all_of_range p (a + 1) n (λ s low high. each s (omega arith) (omega arith)))
 
-pub held_fits : (q : Dumping) (x : Amounts) (n : ℕ) → IsDumping q → starts_fit q.rows (held_after q x n) ≡ true
-held_fits q x n is = all_of_range _ 0 (length q.rows) (λ s low high.
+pub held_fits : (q : Dumping) (x : Amounts) (n : ℕ) → 1 ≤ n → IsDumping q
+    → starts_fit q.rows (held_after q x n) ≡ true
+held_fits q x n first is = all_of_range _ 0 (length q.rows) (λ s low high.
     let store : s < length q.rows = omega arith in
     let held : get_or (held_after q x n) s 0 ≡ left q x s n =
     get_or-map-range_with_len (λ s. left q x s n) 0 (length q.rows) s s 0 store (omega arith) in
-    let fits = left_fits q x s n is store in
+    let fits = left_fits q x s n first is store in
     rw held (grind (arith, nat_tests)))
 
 pub as_many_held : (q : Dumping) (x : Amounts) (n : ℕ) → length (held_after q x n) ≡ length q.rows
 as_many_held q x n = length-map-range_with_len (λ s. left q x s n) 0 (length q.rows)
 
 -- and so the rest is there
-pub rest_is : (q : Dumping) (x : Amounts) (n : ℕ) (held : List ℕ) → IsDumping q → held ≡ held_after q x n
+pub rest_is : (q : Dumping) (x : Amounts) (n : ℕ) (held : List ℕ) → 1 ≤ n → IsDumping q → held ≡ held_after q x n
     → rest_from q n held ≡ Ok (rest_after q x n)
 unfolding rest_from
-rest_is q x n held is same = rw (same, held_fits q x n is) refl
+rest_is q x n held first is same = rw (same, held_fits q x n first is) refl
 
 -- ---- the setup
 
 map-map : {A B C : Type 0} (f : B → C) (g : A → B) (xs : List A) → map f (map g xs) ≡ map (λ x. f (g x)) xs
 map-map f g [] = refl
 map-map f g (x ∷ xs) = ap (λ ys. f (g x) ∷ ys) (map-map f g xs)
+
+-- the store at a place
+started : (rows : List StoreRow) (starts : List ℕ) (k : ℕ) (d : StoreRow) → k < length rows
+    → get_or (rows_from rows starts) k d ≡ starting_with (get_or rows k no_row) (get_or starts k 0)
+started rows starts k d below = get_or-map-range_with_len
+    (λ s. starting_with (get_or rows s no_row) (get_or starts s 0)) 0 (length rows) k k d below (omega arith)
 
 -- the stores keep their identifiers
 ids_kept : (rows : List StoreRow) (starts : List ℕ)
@@ -67,10 +80,16 @@ ids_kept rows starts =
     ∙ sym (ap (map (λ (r : StoreRow). r.id)) (by_place no_row rows))
 
 -- the rows of the setup are within all ranges
-pub is_setup : (m : SetupRows) (starts : List ℕ) → IsSetup m → AreStores (rows_from m.stores starts)
-    → IsSetup (setup_from m starts)
-is_setup m starts is stores = record {
+pub is_setup : (m : SetupRows) (come : Arrivals) (starts : List ℕ) → IsSetup m → AreStores (rows_from m.stores starts)
+    → starts_fit m.stores starts ≡ true → IsSetup (setup_from m come starts)
+is_setup m come starts is stores fit = record {
   stores = stores;
+  starts = λ k d below.
+      let within : k < length m.stores = omega (arith, as_many_rows m.stores starts) in
+      rw (started m.stores starts k d within) (starts_fit_said m.stores starts fit k within);
+  ids = λ k d below.
+      let within : k < length m.stores = omega (arith, as_many_rows m.stores starts) in
+      rw (started m.stores starts k d within) (is.ids k no_row within);
   routes = record {
     at_most = is.routes.at_most;
     each = λ k d within. record {
@@ -87,14 +106,15 @@ is_setup m starts is stores = record {
 
 -- the texts of the rest say it
 pub rest_said : (m : SetupRows) (q : Dumping) (x : Amounts) (n : ℕ) (setup forecast : List ℕ) → ReadsForecasts
-    → q.rows ≡ m.stores → q.limits ≡ limits_of m.limits → IsSetup (setup_from m (held_after q x n))
-    → IsDumping (rest_after q x n) → setup_of setup ≡ Ok (setup_from m (held_after q x n))
+    → q.rows ≡ m.stores → q.limits ≡ limits_of m.limits → IsSetup (setup_from m q.come (held_after q x n))
+    → IsDumping (rest_after q x n) → setup_of setup ≡ Ok (setup_from m q.come (held_after q x n))
     → records_of forecast ≡ forecast_of (rest_after q x n) → SaysProblem setup forecast (rest_after q x n)
 unfolding problem_in
 rest_said m q x n setup forecast law rows limits is within said records =
-    rw said ((law (setup_from m (held_after q x n)) is forecast (rest_after q x n)).1 (record {
+    rw said ((law (setup_from m q.come (held_after q x n)) is forecast (rest_after q x n)).1 (record {
       rows = ap (λ rs. rows_from rs (held_after q x n)) rows;
       limits = limits;
       records = records;
       within = within;
+      come = refl;
     }))

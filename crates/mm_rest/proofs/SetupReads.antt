@@ -1,6 +1,6 @@
 -- The text of a setup is read as its rows.
-use Rattle.std.proofs.Common.{◌≡◌, ◌<◌, ◌≤◌, ℕ, List, [], ◌∷◌, Ok, Some, true, inl, inr, refl, ap}
-use Rattle.std.proofs.Common.{arith, codes, get_or, length, map}
+use Rattle.std.proofs.Common.{◌≡◌, ◌<◌, ◌≤◌, ◌∙◌, ℕ, List, [], ◌∷◌, None, Ok, Some, true, inl, inr, refl, sym, ap}
+use Rattle.std.proofs.Common.{arith, codes, get_or, length, map, subst}
 use Rattle.std.specs.Prelude.{IsTrue}
 use Rattle.std.specs.List.{All, AllZip}
 use Rattle.std.specs.Str.{IsUtf8}
@@ -16,18 +16,21 @@ use Rattle.mm_base.specs.Id.{IsIdField, id_text, is_id_char}
 use Rattle.mm_base.specs.declared.rows.LimitRow.{LimitRow}
 use Rattle.mm_base.specs.declared.rows.RouteRow.{RouteRow}
 use Rattle.mm_base.specs.declared.rows.StoreRow.{StoreRow}
+use Rattle.mm_problem.specs.declared.come.Arrivals.{Arrivals}
+use Rattle.mm_problem.specs.declared.come.Arrivals.TheVariants.{Before, During}
 use Rattle.mm_problem.specs.Document.{document_keys, setup_of}
 use Rattle.mm_problem.specs.Keys.{elements, has_only, value_at}
 use Rattle.mm_problem.specs.Laws.{ReadsSetups}
 use Rattle.mm_problem.specs.ReadableSetup.{HasOnly, IsArrayOf, IsReadableDocument, IsTableOf, SaysId, SaysLimit}
-use Rattle.mm_problem.specs.ReadableSetup.{SaysRoute, SaysRowsIfAny, SaysStore}
+use Rattle.mm_problem.specs.ReadableSetup.{SaysArrivals, SaysRoute, SaysRowsIfAny, SaysStore}
 use Rattle.mm_problem.specs.Setup.{IsSetup, SetupRows}
 use Rattle.mm_problem.specs.Tables.{limit_keys, route_keys, store_keys}
 use Rattle.mm_problem.specs.declared.fault.Name.{Name}
 use Rattle.mm_problem.specs.declared.fault.Name.TheVariants as name
 use Rattle.mm_problem.proofs.FieldLaws.{has_only_decides}
 use Rattle.mm_rest.specs.Documents.{IsWholeRoute, limit_data, limit_table, route_data, route_members}
-use Rattle.mm_rest.specs.Documents.{route_table, setup_members, store_data, store_members, store_table, with_array}
+use Rattle.mm_rest.specs.Documents.{route_table, row_members, setup_members, with_come, store_data, store_members}
+use Rattle.mm_rest.specs.Documents.{store_table, with_array}
 
 -- ---- identifiers
 
@@ -112,8 +115,14 @@ array_said Says data_of P says rows all = record {
 
 -- ---- the document
 
+-- the arrays of tables of a document
+abbrev array_members : List LimitRow → List RouteRow → List StoreRow → Members
+array_members limits routes stores =
+    with_array (codes "limit") (map limit_data limits) (with_array (codes "route") (map route_data routes)
+    (store_members stores))
+
 are_known : (limits : List LimitRow) (routes : List RouteRow) (stores : List StoreRow)
-    → has_only document_keys (setup_members (record { stores = stores; routes = routes; limits = limits })) ≡ true
+    → has_only document_keys (array_members limits routes stores) ≡ true
 are_known [] [] [] = refl
 are_known [] [] (s ∷ ss) = refl
 are_known [] (r ∷ rs) [] = refl
@@ -123,20 +132,60 @@ are_known (l ∷ ls) [] (s ∷ ss) = refl
 are_known (l ∷ ls) (r ∷ rs) [] = refl
 are_known (l ∷ ls) (r ∷ rs) (s ∷ ss) = refl
 
-only_keys : (m : SetupRows) → HasOnly document_keys (setup_members m)
-only_keys m = (has_only_decides document_keys (setup_members m)).0 (are_known m.limits m.routes m.stores)
+-- the key that says when arrivals come is known
+come_known : (come : Arrivals) (ms : Members) → has_only document_keys ms ≡ true
+    → has_only document_keys (with_come come ms) ≡ true
+come_known Before ms known = known
+come_known During ms known = known
 
-stores_at : (limits : List LimitRow) (routes : List RouteRow) (s : StoreRow) (ss : List StoreRow)
-    → value_at name.Store (setup_members (record { stores = s ∷ ss; routes = routes; limits = limits }))
-    ≡ Some (array (items_of (map store_data (s ∷ ss))))
-stores_at [] [] s ss = refl
-stores_at [] (r ∷ rs) s ss = refl
-stores_at (l ∷ ls) [] s ss = refl
-stores_at (l ∷ ls) (r ∷ rs) s ss = refl
+only_keys : (m : SetupRows) → HasOnly document_keys (setup_members m)
+only_keys m = (has_only_decides document_keys (setup_members m)).0
+    (come_known m.come (row_members m) (are_known m.limits m.routes m.stores))
+
+-- a key of the arrays has the value that it has without the key that says when arrivals come
+value_of_array : (come : Arrivals) (ms : Members) → (value_at name.Store (with_come come ms) ≡ value_at name.Store ms)
+    × (value_at name.Route (with_come come ms) ≡ value_at name.Route ms)
+    × (value_at name.Limit (with_come come ms) ≡ value_at name.Limit ms)
+value_of_array Before ms = (refl, refl, refl)
+value_of_array During ms = (refl, refl, refl)
+
+-- the arrays do not say when arrivals come
+no_word : (limits : List LimitRow) (routes : List RouteRow) (stores : List StoreRow)
+    → value_at name.Arrivals (array_members limits routes stores) ≡ None
+no_word [] [] [] = refl
+no_word [] [] (s ∷ ss) = refl
+no_word [] (r ∷ rs) [] = refl
+no_word [] (r ∷ rs) (s ∷ ss) = refl
+no_word (l ∷ ls) [] [] = refl
+no_word (l ∷ ls) [] (s ∷ ss) = refl
+no_word (l ∷ ls) (r ∷ rs) [] = refl
+no_word (l ∷ ls) (r ∷ rs) (s ∷ ss) = refl
+
+-- the document says when they come
+come_said : (come : Arrivals) (ms : Members) → value_at name.Arrivals ms ≡ None
+    → SaysArrivals (value_at name.Arrivals (with_come come ms)) come
+come_said Before ms none = rw none refl
+come_said During ms none = refl
+
+-- no key of the arrays is before the key that says when arrivals come
+pub come_before : (limits : List LimitRow) (routes : List RouteRow) (stores : List StoreRow)
+    → is_before (codes "arrivals") (array_members limits routes stores) ≡ true
+come_before [] [] [] = refl
+come_before [] [] (s ∷ ss) = refl
+come_before [] (r ∷ rs) stores = refl
+come_before (l ∷ ls) routes stores = refl
+
+stores_at : (limits : List LimitRow) (routes : List RouteRow) (stores : List StoreRow) → 1 ≤ length stores
+    → value_at name.Store (array_members limits routes stores) ≡ Some (array (items_of (map store_data stores)))
+stores_at limits routes [] some = absurd (omega arith)
+stores_at [] [] (s ∷ ss) some = refl
+stores_at [] (r ∷ rs) (s ∷ ss) some = refl
+stores_at (l ∷ ls) [] (s ∷ ss) some = refl
+stores_at (l ∷ ls) (r ∷ rs) (s ∷ ss) some = refl
 
 routes_said : (limits : List LimitRow) (routes : List RouteRow) (stores : List StoreRow) → All IsWholeRoute routes
     → SaysRowsIfAny SaysRoute
-    (value_at name.Route (setup_members (record { stores = stores; routes = routes; limits = limits }))) routes
+    (value_at name.Route (array_members limits routes stores)) routes
 routes_said [] [] [] wholes = refl
 routes_said [] [] (s ∷ ss) wholes = refl
 routes_said (l ∷ ls) [] [] wholes = refl
@@ -146,7 +195,7 @@ routes_said (l ∷ ls) (r ∷ rs) stores wholes = array_said SaysRoute route_dat
 
 limits_said : (limits : List LimitRow) (routes : List RouteRow) (stores : List StoreRow)
     → SaysRowsIfAny SaysLimit
-    (value_at name.Limit (setup_members (record { stores = stores; routes = routes; limits = limits }))) limits
+    (value_at name.Limit (array_members limits routes stores)) limits
 limits_said [] [] [] = refl
 limits_said [] [] (s ∷ ss) = refl
 limits_said [] (r ∷ rs) [] = refl
@@ -155,23 +204,24 @@ limits_said (l ∷ ls) routes stores =
     array_said SaysLimit limit_data (λ (r : LimitRow). Unit {0}) says_limit (l ∷ ls) (λ k d within. tt)
 
 -- the document says the rows
-readable : (limits : List LimitRow) (routes : List RouteRow) (stores : List StoreRow)
-    → All (λ (r : StoreRow). IsIdField r.id) stores → All IsWholeRoute routes
-    → IsSetup (record { stores = stores; routes = routes; limits = limits })
-    → IsReadableDocument (setup_members (record { stores = stores; routes = routes; limits = limits }))
-    (record { stores = stores; routes = routes; limits = limits })
-readable limits routes [] fields wholes is = absurd (omega (arith, is.stores.has_store))
-readable limits routes (s ∷ ss) fields wholes is = record {
-  only = only_keys (record { stores = s ∷ ss; routes = routes; limits = limits });
-  stores = record {
-    value = array (items_of (map store_data (s ∷ ss)));
-    has = stores_at limits routes s ss;
-    is = array_said SaysStore store_data (λ (r : StoreRow). IsIdField r.id) says_store (s ∷ ss) fields;
-  };
-  routes = routes_said limits routes (s ∷ ss) wholes;
-  limits = limits_said limits routes (s ∷ ss);
-  within = is;
-}
+readable : (m : SetupRows) → All (λ (r : StoreRow). IsIdField r.id) m.stores → All IsWholeRoute m.routes → IsSetup m
+    → IsReadableDocument (setup_members m) m
+readable m fields wholes is =
+    let arrays = row_members m in
+    let values = value_of_array m.come arrays in
+    record {
+      only = only_keys m;
+      stores = record {
+        value = array (items_of (map store_data m.stores));
+        has = values.0 ∙ stores_at m.limits m.routes m.stores is.stores.has_store;
+        is = array_said SaysStore store_data (λ (r : StoreRow). IsIdField r.id) says_store m.stores fields;
+      };
+      routes = subst (λ o. SaysRowsIfAny SaysRoute o m.routes) (sym values.1)
+          (routes_said m.limits m.routes m.stores wholes);
+      limits = subst (λ o. SaysRowsIfAny SaysLimit o m.limits) (sym values.2) (limits_said m.limits m.routes m.stores);
+      come = come_said m.come arrays (no_word m.limits m.routes m.stores);
+      within = is;
+    }
 
 -- ---- how deep it is
 
@@ -185,13 +235,18 @@ array_deep : (key : List ℕ) (ds : List Data) (rest : Members) → items_depth 
 array_deep key [] rest flat before = before
 array_deep key (d ∷ ds) rest flat before = omega (arith, flat, before)
 
+come_deep : (come : Arrivals) (ms : Members) → members_depth ms ≤ 2 → members_depth (with_come come ms) ≤ 2
+come_deep Before ms before = before
+come_deep During ms before = omega (arith, before)
+
 setup_deep : (m : SetupRows) → members_depth (setup_members m) ≤ 2
 setup_deep m =
-    array_deep (codes "limit") (map limit_data m.limits) (route_members m) (rows_deep limit_data (λ r. refl) m.limits)
+    come_deep m.come (row_members m) (array_deep (codes "limit") (map limit_data m.limits) (route_members m)
+    (rows_deep limit_data (λ r. refl) m.limits)
     (array_deep (codes "route") (map route_data m.routes) (store_members m.stores)
     (rows_deep route_data (λ r. refl) m.routes)
     (array_deep (codes "store") (map store_data m.stores) no_members (rows_deep store_data (λ r. refl) m.stores)
-    (omega arith)))
+    (omega arith))))
 
 -- ---- the text
 
@@ -205,5 +260,5 @@ setup_read m octets ms law is fields wholes same utf8 back =
       utf8 = utf8;
       document = ms;
       parsed = back deep;
-      readable = rw same (readable m.limits m.routes m.stores fields wholes is);
+      readable = rw same (readable m fields wholes is);
     })

@@ -1,5 +1,5 @@
--- The document of a setup, as it is printed: an array of tables for the limits, the routes and the stores. Keys are in
--- alphabetical order.
+-- The document of a setup, as it is printed: when arrivals come, if during dumps, and an array of tables for the
+-- limits, the routes and the stores. Keys are in alphabetical order.
 use Rattle.std.specs.Prelude.{ℕ, ◌≤◌, pos, List, [], ◌∷◌, codes, map}
 use Rattle.toml.specs.Data.{Data, string, integer, array, table, Members, no_members, member}
 use Rattle.toml.specs.View.{items_of}
@@ -8,6 +8,9 @@ use Rattle.mm_base.specs.Kind.{word_of}
 use Rattle.mm_base.specs.declared.rows.StoreRow.{StoreRow}
 use Rattle.mm_base.specs.declared.rows.RouteRow.{RouteRow}
 use Rattle.mm_base.specs.declared.rows.LimitRow.{LimitRow}
+use Rattle.mm_problem.specs.declared.come.Arrivals.{Arrivals}
+use Rattle.mm_problem.specs.declared.come.Arrivals.TheVariants.{Before, During}
+use Rattle.mm_problem.specs.Come.{word_of as word_of_come}
 use Rattle.mm_problem.specs.Setup.{SetupRows}
 
 abbrev pub number : ℕ → Data
@@ -63,5 +66,13 @@ store_members stores = with_array (codes "store") (map store_data stores) no_mem
 abbrev pub route_members : SetupRows → Members
 route_members m = with_array (codes "route") (map route_data m.routes) (store_members m.stores)
 
+abbrev pub row_members : SetupRows → Members
+row_members m = with_array (codes "limit") (map limit_data m.limits) (route_members m)
+
+-- when arrivals come before other keys, or nothing where they come before dumps
+abbrev pub with_come : Arrivals → Members → Members
+with_come Before rest = rest
+with_come During rest = member (codes "arrivals") (string (word_of_come During)) rest
+
 abbrev pub setup_members : SetupRows → Members
-setup_members m = with_array (codes "limit") (map limit_data m.limits) (route_members m)
+setup_members m = with_come m.come (row_members m)

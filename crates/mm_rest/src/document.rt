@@ -1,13 +1,14 @@
 //! The text of a setup.
-ghost use Rattle.std.specs.Prelude.{◌≡◌, ◌≤◌, All, IfOk, OnOk, map, true};
+ghost use Rattle.std.specs.Prelude.{◌≡◌, ◌≤◌, All, IfOk, OnOk, codes, map, true};
 ghost use Rattle.toml.specs.Data.{Data, is_before, member};
 ghost use Rattle.toml.specs.View.{table_view, view};
 ghost use Rattle.mm_base.specs.Id.{IsIdField};
 ghost use Rattle.mm_problem.specs.Document.{setup_of};
 ghost use Rattle.mm_problem.specs.Setup.{IsSetup};
-ghost use Rattle.mm_rest.specs.Documents.{IsWholeRoute, id_data, number, setup_members, with_array};
+ghost use Rattle.mm_rest.specs.Documents.{IsWholeRoute, id_data, number, setup_members, with_array, with_come};
 
 use mm_base::{LimitRow, NoMemory, RouteRow, StoreId, StoreRow};
+use mm_problem::Arrivals;
 use mm_problem::laws::setups;
 use std::alloc::Global;
 use toml::{Table, Value};
@@ -139,15 +140,30 @@ fn put_rows<R: Tabled>(
     Ok(())
 }
 
-// The document of a setup with these rows.
+// Puts the key that says when arrivals come before the keys that a table has, where they come during dumps.
+fn put_come(alloc: Global, table: &mut Table, come: Arrivals) -> Result<(), NoMemory>
+    requires { is_before (codes "arrivals") (table_view table.old) ≡ true }
+    ensures { OnOk result (table_view table.new ≡ with_come come (table_view table.old)) }
+{
+    match come {
+        Arrivals::Before => Ok(()),
+        Arrivals::During => {
+            let word = Value::string(alloc, come.word())?;
+            put(alloc, table, "arrivals", word)
+        }
+    }
+}
+
+// The document of a setup with these rows, and arrivals that come then.
 fn setup_table(
     alloc: Global,
     stores: &[StoreRow],
     routes: &[RouteRow],
     limits: &[LimitRow],
+    come: Arrivals,
 ) -> Result<Table, NoMemory>
     ensures table { IfOk result (λ table. table_view table ≡ setup_members
-        (record { stores = stores.now; routes = routes.now; limits = limits.now })) }
+        (record { stores = stores.now; routes = routes.now; limits = limits.now; come = come })) }
     ensures stores { OnOk result (All (λ row. IsIdField row.id) stores.now) }
     ensures routes { OnOk result (All IsWholeRoute routes.now) }
 {
@@ -155,22 +171,25 @@ fn setup_table(
     put_rows(alloc, &mut table, "store", stores)?;
     put_rows(alloc, &mut table, "route", routes)?;
     put_rows(alloc, &mut table, "limit", limits)?;
+    put_come(alloc, &mut table, come)?;
     Ok(table)
 }
 
-/// The text of the setup with these rows, which is read as these rows. Limits and routes stand before the stores, and
-/// keys in alphabetical order.
+/// The text of the setup with these rows and arrivals that come then, which is read as these rows. The key `arrivals`
+/// stands first, if arrivals come during dumps; limits and routes stand before the stores, and keys in alphabetical
+/// order.
 pub fn print_setup(
     alloc: Global,
     stores: &[StoreRow],
     routes: &[RouteRow],
     limits: &[LimitRow],
+    come: Arrivals,
 ) -> Result<Vec<u8>, NoMemory>
-    requires { IsSetup (record { stores = stores.now; routes = routes.now; limits = limits.now }) }
+    requires { IsSetup (record { stores = stores.now; routes = routes.now; limits = limits.now; come = come }) }
     ensures { IfOk result (λ text. setup_of text.items
-        ≡ Ok (record { stores = stores.now; routes = routes.now; limits = limits.now })) }
+        ≡ Ok (record { stores = stores.now; routes = routes.now; limits = limits.now; come = come })) }
 {
-    let table = setup_table(alloc, stores, routes, limits)?;
+    let table = setup_table(alloc, stores, routes, limits, come)?;
     setups();
     match toml::table_to_string(alloc, &table) {
         Ok(text) => {

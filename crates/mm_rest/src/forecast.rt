@@ -1,10 +1,10 @@
 //! The text of a problem's forecast.
 ghost use Rattle.std.specs.Prelude.{◌≡◌, ◌≤◌, ◌++◌, decimal, flat_map, length, IfOk, OnOk};
 ghost use Rattle.mm_problem.specs.Dumping.{IsDumping, stores};
-ghost use Rattle.mm_problem.specs.ReadableForecast.{columns, forecast_of};
+ghost use Rattle.mm_problem.specs.ReadableForecast.{columns, forecast_of, size_columns};
 ghost use Rattle.mm_problem.specs.Records.{records_of};
 ghost use Rattle.mm_rest.specs.Forecasts.{arrived_cell, column_cell, header_text, id_cell, limit_cell, next_cell};
-ghost use Rattle.mm_rest.specs.Forecasts.{HasIds, forecast_text, step_text};
+ghost use Rattle.mm_rest.specs.Forecasts.{HasIds, forecast_text, size_cell, sized_cell, step_text};
 
 use mm_base::NoMemory;
 use mm_base::numbers::push_number;
@@ -55,6 +55,23 @@ fn push_columns(text: &mut Vec<u8>, problem: &Problem) -> Pushed
     Ok(())
 }
 
+// The cells of the header that name the columns of sizes.
+#[tactic(auto, using(crate::proofs::Ranges::drawing))]
+fn push_size_columns(text: &mut Vec<u8>, problem: &Problem) -> Pushed
+    ensures { OnOk result (text.new.items ≡ text.old.items
+        ++ flat_map (sized_cell problem.now) (size_columns problem.now)) }
+{
+    // Each column is of one of the stores, as `stores` ensures.
+    let _stores = problem.stores();
+    let sized = problem.sized();
+    for column in 0..sized.len() {
+        let id = problem.id(usize::from(sized[column]));
+        push_cell(text, b"size:")?;
+        text.extend_from_slice(id.text())?;
+    }
+    Ok(())
+}
+
 #[tactic(auto, using(crate::proofs::Ranges::drawing), unfolding(crate::specs::Forecasts::header_text))]
 fn push_header(text: &mut Vec<u8>, problem: &Problem) -> Pushed
     ensures header { OnOk result (text.new.items ≡ text.old.items ++ header_text problem.now) }
@@ -63,6 +80,7 @@ fn push_header(text: &mut Vec<u8>, problem: &Problem) -> Pushed
     text.extend_from_slice(b"step,window")?;
     push_ids(text, problem)?;
     push_columns(text, problem)?;
+    push_size_columns(text, problem)?;
     text.push(b'\n')?;
     Ok(())
 }
@@ -95,6 +113,20 @@ fn push_limits(text: &mut Vec<u8>, problem: &Problem, step: u32) -> Pushed
     Ok(())
 }
 
+// The cells of the sizes of a step.
+#[tactic(auto, using(crate::proofs::Ranges::drawing))]
+fn push_sizes(text: &mut Vec<u8>, problem: &Problem, step: u32) -> Pushed
+    requires first { 1 ≤ step }
+    requires last { step ≤ length problem.now.windows }
+    ensures { OnOk result (text.new.items ≡ text.old.items
+        ++ flat_map (size_cell problem.now step) (size_columns problem.now)) }
+{
+    for column in 0..problem.sized().len() {
+        push_number_cell(text, problem.column_size(column, step))?;
+    }
+    Ok(())
+}
+
 // The record of a step.
 #[tactic(auto, using(crate::proofs::Ranges::drawing), unfolding(crate::specs::Forecasts::step_text))]
 fn push_step(text: &mut Vec<u8>, problem: &Problem, step: u32) -> Pushed
@@ -106,6 +138,7 @@ fn push_step(text: &mut Vec<u8>, problem: &Problem, step: u32) -> Pushed
     push_number_cell(text, problem.window(step))?;
     push_arrivals(text, problem, step)?;
     push_limits(text, problem, step)?;
+    push_sizes(text, problem, step)?;
     text.push(b'\n')?;
     Ok(())
 }

@@ -5,7 +5,9 @@ mod document;
 mod forecast;
 pub mod laws;
 mod rest;
+mod script;
 
 pub use document::print_setup;
 pub use forecast::print_forecast;
 pub use rest::{RestTexts, held_after, rest_after, rest_texts};
+pub use script::{kept_step, rest_script};

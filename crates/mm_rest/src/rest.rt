@@ -52,6 +52,7 @@ fn rest_from(
     held: &[u32],
 ) -> Result<Problem, NoMemory>
     requires shape { HasShape problem.now plan.now }
+    requires first { 1 ≤ step }
     requires before_last { step < length problem.now.windows }
     requires held { held.now ≡ held_after problem.now (amount plan.now) step }
     ensures rest { IfOk result (λ rest. rest ≡ rest_after problem.now (amount plan.now) step) }
@@ -123,16 +124,25 @@ pub fn rest_texts(
     requires shape { HasShape problem.now plan.now }
     requires first { 1 ≤ step }
     requires before_last { step < length problem.now.windows }
-    // The texts say the rest of the problem. The setup keeps its routes and its limits.
+    // The texts say the rest of the problem. The setup keeps its routes and its limits, and its arrivals come as those
+    // of the problem.
     ensures problem { IfOk result (λ texts. SaysProblem texts.setup.items texts.forecast.items
         (rest_after problem.now (amount plan.now) step)) }
     ensures setup { IfOk result (λ texts. setup_of texts.setup.items
-        ≡ Ok (setup_from setup.now (held_after problem.now (amount plan.now) step))) }
+        ≡ Ok (setup_from setup.now problem.now.come (held_after problem.now (amount plan.now) step))) }
 {
     let held = held_after(alloc, problem, plan, step)?;
     let rest = rest_from(alloc, problem, plan, step, &held)?;
+    // Its numbers are within their ranges, as `stores` ensures.
+    let _stores = problem.stores();
     let stores = rows_from(alloc, setup.stores(), &held)?;
-    let setup = print_setup(alloc, &stores, setup.routes(), setup.limits())?;
+    let setup = print_setup(
+        alloc,
+        &stores,
+        setup.routes(),
+        setup.limits(),
+        problem.come(),
+    )?;
     let forecast = print_forecast(alloc, &rest)?;
     forecasts();
     Ok(RestTexts { setup, forecast })

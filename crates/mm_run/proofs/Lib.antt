@@ -4,3 +4,4 @@ pub mod Routes
 pub mod Counting
 pub mod Dealt
 pub mod NotTaken
+pub mod Scripts

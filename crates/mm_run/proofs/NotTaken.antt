@@ -38,6 +38,9 @@ problem_with rows steps = record {
   arrived = steps.arrived;
   limited = steps.limited;
   step_limits = steps.step_limits;
+  sized = steps.sized;
+  step_sizes = steps.step_sizes;
+  come = rows.come;
 }
 
 -- the problem has the stores of the setup

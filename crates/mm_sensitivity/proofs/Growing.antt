@@ -2,12 +2,13 @@
 use Rattle.std.proofs.Common.{◌≡◌, ℕ, ◌-◌, ◌<◌, ◌≤◌, Bool, true, false, cond, eqb, nat_lt, List, length, get_or, set}
 use Rattle.std.proofs.Common.{refl, sym, ap, ◌∙◌, subst, inl, inr, arith}
 use Rattle.std.specs.Prelude.{◌≢◌, Option, Some, None, unwrap_or, All, IsSome}
-use Rattle.std.proofs.lemmas.Bool.{cases_eq}
+use Rattle.std.proofs.lemmas.Bool.{cases_Bool, cases_eq}
 use Rattle.std.proofs.lemmas.List.{length-set, get_or-set_same, get_or-set_other}
 use Rattle.std.specs.List.{position_or_len}
 use Rattle.mm_base.specs.declared.rows.StoreRow.{StoreRow}
 use Rattle.mm_base.specs.Grid.{cell, grid_place}
-use Rattle.mm_problem.specs.Dumping.{Dumping, row, IsDumping, limit, lesser, setup_limit, step_limit}
+use Rattle.mm_problem.specs.Changed.{resized}
+use Rattle.mm_problem.specs.Dumping.{Dumping, row, size, size_column, IsDumping, limit, lesser, setup_limit, step_limit}
 use Rattle.mm_plan.specs.declared.stretch.Stretch.{Stretch}
 use Rattle.mm_plan.proofs.Places.{grid_place-lt}
 use Rattle.mm_cut.specs.Stretches.{AreStretches, store_of, is_inner_on}
@@ -16,8 +17,8 @@ use Rattle.mm_cut.specs.Cuts.{IsCut}
 use Rattle.mm_cut.specs.Changes.{ChangesStretch, HelpsNowhere}
 use Rattle.mm_cut.proofs.Exchange.{inner_has_limit, listed_is_counted}
 use Rattle.mm_sensitivity.specs.declared.item.Item.{Item}
-use Rattle.mm_sensitivity.specs.declared.item.Item.TheVariants.{Window, Size, Limit, StepLimit}
-use Rattle.mm_sensitivity.specs.Items.{IsItem, resized, with_number}
+use Rattle.mm_sensitivity.specs.declared.item.Item.TheVariants.{Window, Size, Limit, StepLimit, StepSize}
+use Rattle.mm_sensitivity.specs.Items.{IsItem, with_number}
 use Rattle.mm_sensitivity.proofs.Rows.{with_row, rows_alike, related, alike, stores_alike}
 
 -- the channel of a store that is inner in a step which counts by channels has a limit
@@ -45,6 +46,7 @@ limited_as q ws ls ns = record q { windows = ws; limits = ls; step_limits = ns }
 same_stretches : (q : Dumping) (ws vs : List ℕ) (ls ms : List (Option ℕ)) (ns os : List ℕ) (ds : List Stretch)
     (ts : List ℕ) → AreStretches (limited_as q ws ls ns) ds
     → All (ChangesStretch ◌≤◌ (limited_as q ws ls ns) (limited_as q vs ms os) ts) ds
+unfolding size
 same_stretches q ws vs ls ms ns os ds ts are k d inside = record {
   store = (are.each k d inside).store;
   start = λ _. omega arith;
@@ -62,6 +64,7 @@ Grows q i a b = (ds : List Stretch) (ts : List ℕ) → IsCut (with_number q i b
 
 grows_window : (q : Dumping) (t a b : ℕ) → 1 ≤ t → t ≤ length q.windows → a ≤ b → Grows q (Window t) a b
 grows_window q t a b first last le ds ts cut = record {
+  come = refl;
   steps = length-set q.windows (t - 1) a ∙ sym (length-set q.windows (t - 1) b);
   channels = refl;
   stretches = same_stretches q (set q.windows (t - 1) b) (set q.windows (t - 1) a) q.limits q.limits q.step_limits
@@ -123,6 +126,7 @@ grows_limit q e a b inside le ds ts cut =
     let large = set q.limits e (Some b) in
     let count : length small ≡ length large = length-set q.limits e (Some a) ∙ sym (length-set q.limits e (Some b)) in
     record {
+      come = refl;
       steps = refl;
       channels = count;
       stretches = same_stretches q q.windows q.windows large small q.step_limits q.step_limits ds ts cut.stretches;
@@ -163,6 +167,7 @@ grows_column q k t a b is column first last le ds ts cut =
     (arith, grid_place-lt n (length q.windows) t k column first last, is.by_step.table) in
     let cell_of : ℕ → ℕ → ℕ → ℕ = λ m c u. cell n (set q.step_limits place m) (at c) u in
     record {
+      come = refl;
       steps = refl;
       channels = refl;
       stretches = same_stretches q q.windows q.windows q.limits q.limits (set q.step_limits place b)
@@ -182,14 +187,25 @@ grows_column q k t a b is column first last le ds ts cut =
 
 -- ---- a size
 
+-- a store has no more room in a step where its setup gives it no more
+sizes_related : (q : Dumping) (s : ℕ) (w v : StoreRow) (i u : ℕ)
+    → (row (with_row q s w) i).size ≤ (row (with_row q s v) i).size
+    → size (with_row q s w) i u ≤ size (with_row q s v) i u
+unfolding size
+sizes_related q s w v i u le = elim (cases_Bool (nat_lt (size_column q i) (length q.sized))) [
+  | inl own ↦ rw own (omega (arith, le))
+  | inr none ↦ rw none le
+]
+
 -- a problem with another row of a store, which begins with no less and has no more room, on the same channel
-pub grows_row : (q : Dumping) (s : ℕ) (w v : StoreRow) → s < length q.rows → w.id ≡ (row q s).id → v.id ≡ (row q s).id
+grows_row : (q : Dumping) (s : ℕ) (w v : StoreRow) → s < length q.rows → w.id ≡ (row q s).id → v.id ≡ (row q s).id
     → w.channel ≡ v.channel → v.start ≤ w.start → w.size ≤ v.size → (ds : List Stretch) (ts : List ℕ)
     → IsCut (with_row q s v) ds ts → HelpsNowhere (with_row q s v) (with_row q s w) ds ts
 grows_row q s w v inside of_w of_v channels starts sizes ds ts cut =
     let rows = rows_alike q s w v in
     let store = stores_alike q s w v of_w of_v in
     record {
+      come = refl;
       steps = refl;
       channels = refl;
       stretches = λ k d within.
@@ -200,7 +216,8 @@ grows_row q s w v inside of_w of_v channels starts sizes ds ts cut =
             start = λ _.
                 rw (store e) (related q s w v (λ (m n : ℕ). n ≤ m) (λ r. r.start) inside (λ _. omega arith) starts i);
             arrivals = λ u _. rw (store e, rows) (omega arith);
-            size = rw (store e) (related q s w v ◌≤◌ (λ r. r.size) inside (λ _. omega arith) sizes i);
+            size = rw (store e) (sizes_related q s w v i e.last
+                (related q s w v ◌≤◌ (λ r. r.size) inside (λ _. omega arith) sizes i));
             channel = λ _ _ _. rw (store e) (alike q s w v (λ r. r.channel) inside channels i);
           };
       windows = λ _ _. omega arith;
@@ -212,6 +229,45 @@ grows_size : (q : Dumping) (s a b : ℕ) → s < length q.rows → a ≤ b → G
 grows_size q s a b inside le =
     grows_row q s (resized (row q s) a) (resized (row q s) b) inside refl refl refl (omega arith) le
 
+-- ---- a size of a column
+
+-- no store is larger where no size of a step is
+sizes-le : (q : Dumping) (place a b s u : ℕ) → place < length q.step_sizes → a ≤ b
+    → size (record q { step_sizes = set q.step_sizes place a }) s u
+    ≤ size (record q { step_sizes = set q.step_sizes place b }) s u
+unfolding size
+sizes-le q place a b s u inside le = elim (cases_Bool (nat_lt (size_column q s) (length q.sized))) [
+  | inl own ↦
+      let cells = set-le q.step_sizes place (grid_place (length q.sized) u (size_column q s)) a b inside le in
+      rw own (omega (arith, cells))
+  | inr none ↦ rw none (omega arith)
+]
+
+grows_step_size : (q : Dumping) (k t a b : ℕ) → IsDumping q → k < length q.sized → 1 ≤ t → t ≤ length q.windows
+    → a ≤ b → Grows q (StepSize k t) a b
+grows_step_size q k t a b is column first last le ds ts cut =
+    let n = length q.sized in
+    let place = grid_place n t k in
+    let inside : place < length q.step_sizes = omega
+    (arith, grid_place-lt n (length q.windows) t k column first last, is.sizes.table) in
+    record {
+      come = refl;
+      steps = refl;
+      channels = refl;
+      stretches = λ j d within.
+          let e : Stretch = get_or ds j d in
+          record {
+            store = (cut.stretches.each j d within).store;
+            start = λ _. omega arith;
+            arrivals = λ _ _. omega arith;
+            size = sizes-le q place a b (store_of q e) e.last inside le;
+            channel = λ _ _ _. refl;
+          };
+      windows = λ _ _. omega arith;
+      limited = λ u c listed inner. has_limit_there (with_number q (StepSize k t) b) ds ts cut u c listed inner;
+      limits = λ _ _ _ _. omega arith;
+    }
+
 -- ---- any of them
 
 pub grows : (q : Dumping) (i : Item) (a b : ℕ) → IsDumping q → IsItem q i → a ≤ b → Grows q i a b
@@ -219,3 +275,4 @@ grows q (Window t) a b is item le = grows_window q t a b item.0 item.1 le
 grows q (Size s) a b is item le = grows_size q s a b item le
 grows q (Limit c) a b is item le = grows_limit q c a b item.0 le
 grows q (StepLimit k t) a b is item le = grows_column q k t a b is item.0 item.1 item.2 le
+grows q (StepSize k t) a b is item le = grows_step_size q k t a b is item.0 item.1 item.2 le

@@ -11,7 +11,7 @@ use Rattle.mm_problem.specs.Changed.{with_window}
 use Rattle.mm_plan.specs.declared.stretch.Stretch.{Stretch}
 use Rattle.mm_cut.specs.Cuts.{IsCut, bound, counts_window, CutsBoundLosses}
 use Rattle.mm_sensitivity.specs.Worth.{IsLeastLoss, WiderWindows}
-use Rattle.mm_sensitivity.proofs.Windows.{same_coming, cut_there, cut_back, leaving_changed}
+use Rattle.mm_sensitivity.proofs.Windows.{same_coming, same_held, cut_there, cut_back, leaving_changed}
 
 -- there is one least loss
 one_least : (q : Dumping) (n m : ℕ) → IsLeastLoss q n → IsLeastLoss q m → n ≡ m
@@ -32,7 +32,7 @@ bound-le bounds q n is ds ts cut = omega (arith, ints, bounds q is.plan ds ts is
 -- ---- one window
 
 -- a larger number counts for no less, and for no more than it is larger
-pub counted_more : (b : Bool) (i j : ℕ) → i ≤ j → (cond b i 0 ≤ cond b j 0) × (cond b j 0 + i ≤ cond b i 0 + j)
+counted_more : (b : Bool) (i j : ℕ) → i ≤ j → (cond b i 0 ≤ cond b j 0) × (cond b j 0 + i ≤ cond b i 0 + j)
 counted_more true i j le = (le, omega arith)
 counted_more false i j le = (omega arith, omega arith)
 
@@ -43,14 +43,20 @@ module _ (q : Dumping) (t : ℕ) (first : 1 ≤ t) (last : t ≤ length q.window
 
   -- what counts of a window of the step
   abbrev counted : ℕ → ℕ
-  counted n = cond (counts_window ds ts t) n 0
+  counted n = cond (counts_window q ds ts t) n 0
 
   -- the bound differs as what counts of the windows does
   pub bound_changed : (n : ℕ) → (bound_at n +ℤ pos (counted n)) ≡ (bound q ds ts +ℤ pos (counted (window q t)))
-  bound_changed n = omega (arith, ints, same_coming q t n ds, leaving_changed q t n ds ts first last)
+  bound_changed n = omega (
+    arith,
+    ints,
+    same_coming q t n ds,
+    same_held q t n ds,
+    leaving_changed q t n ds ts first last,
+  )
 
   -- the same where it is known whether the window counts
-  pub bound_known : (n : ℕ) (counts : Bool) → counts_window ds ts t ≡ counts
+  pub bound_known : (n : ℕ) (counts : Bool) → counts_window q ds ts t ≡ counts
       → (bound_at n +ℤ pos (cond counts n 0)) ≡ (bound q ds ts +ℤ pos (cond counts (window q t) 0))
   bound_known n counts known = rw known at (bound_changed n)
 
@@ -61,13 +67,13 @@ module _ (q : Dumping) (t : ℕ) (first : 1 ≤ t) (last : t ≤ length q.window
     ints,
     bound_changed i,
     bound_changed j,
-    (counted_more (counts_window ds ts t) i j le).0,
+    (counted_more (counts_window q ds ts t) i j le).0,
   )
 
 -- what its cut counts of the window, and the least loss, bound the least loss with another window
 least_across : CutsBoundLosses → (q : Dumping) (t i j n m : ℕ) → 1 ≤ t → t ≤ length q.windows
     → (is : IsLeastLoss (with_window q t i) n) → IsLeastLoss (with_window q t j) m
-    → (counts : Bool) → counts_window is.cut is.by_channels t ≡ counts → n + cond counts i 0 ≤ m + cond counts j 0
+    → (counts : Bool) → counts_window q is.cut is.by_channels t ≡ counts → n + cond counts i 0 ≤ m + cond counts j 0
 least_across bounds q t i j n m first last is other counts known =
     let ds = is.cut in
     let ts = is.by_channels in
@@ -95,12 +101,12 @@ wider_windows bounds q t e most first last within saved n k is_n is_k =
     let across = least_across bounds q t in
     -- the cut of q bounds what the wider window can save by e, and that of the widest window bounds it by most
     let by_e = across w (w + e) n k first last here is_k _ refl in
-    let wider = (counted_more (counts_window here.cut here.by_channels t) w (w + e) (omega arith)).1 in
+    let wider = (counted_more (counts_window q here.cut here.by_channels t) w (w + e) (omega arith)).1 in
     let by_most = across MAX_BLOCKS (w + e) m k first last saved.second is_k _ refl in
     let widest = saved.second in
-    let falls = (counted_more (counts_window widest.cut widest.by_channels t) (w + e) MAX_BLOCKS within).0 in
+    let falls = (counted_more (counts_window q widest.cut widest.by_channels t) (w + e) MAX_BLOCKS within).0 in
     -- its own cut counts the window, and then so much is saved, or it bounds the widest window too
-    elim (cases_Bool (counts_window is_k.cut is_k.by_channels t)) [
+    elim (cases_Bool (counts_window q is_k.cut is_k.by_channels t)) [
       | inl counts ↦ omega (arith, across (w + e) w k n first last is_k here true counts)
       | inr other ↦ omega (arith, across (w + e) MAX_BLOCKS k m first last is_k widest false other)
     ]

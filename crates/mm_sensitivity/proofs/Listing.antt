@@ -11,9 +11,9 @@ use Rattle.mm_base.proofs.Ranges.{All-filter-range_with_len, All-flat_map-range_
 use Rattle.mm_chart.proofs.Ranges.{flat_map_first}
 use Rattle.mm_problem.specs.Dumping.{Dumping, steps, stores, channels}
 use Rattle.mm_sensitivity.specs.declared.item.Item.{Item}
-use Rattle.mm_sensitivity.specs.declared.item.Item.TheVariants.{Window, Size, Limit, StepLimit}
+use Rattle.mm_sensitivity.specs.declared.item.Item.TheVariants.{Window, Size, Limit, StepLimit, StepSize}
 use Rattle.mm_sensitivity.specs.declared.worth.Worth.{Worth}
-use Rattle.mm_sensitivity.specs.Items.{IsItem, has_limit, column_items, items}
+use Rattle.mm_sensitivity.specs.Items.{IsItem, has_limit, column_items, size_items, items}
 use Rattle.mm_sensitivity.specs.Worth.{IsWorth}
 
 -- what is made of one number more
@@ -59,7 +59,10 @@ items_are q =
     (λ c from to passes. (omega (arith, to), passes))) in
     let columns = All-flat_map-range_with_len (IsItem q) (column_items q) 0 (length q.limited)
     (λ k low high. in_steps (StepLimit k) (λ t from to. (omega (arith, high), from, to))) in
-    All-append (IsItem q) _ _ (All-append (IsItem q) _ _ (All-append (IsItem q) _ _ windows sizes) limits) columns
+    let by_store = All-flat_map-range_with_len (IsItem q) (size_items q) 0 (length q.sized)
+    (λ k low high. in_steps (StepSize k) (λ t from to. (omega (arith, high), from, to))) in
+    All-append (IsItem q) _ _ (All-append (IsItem q) _ _ (All-append (IsItem q) _ _
+    (All-append (IsItem q) _ _ windows sizes) limits) columns) by_store
 
 pub all_items : (q : Dumping) (xs : List Item) → xs ≡ items q → All (IsItem q) xs
 all_items q xs same = subst (All (IsItem q)) (sym same) (items_are q)

@@ -5,12 +5,12 @@ use Rattle.std.specs.Prelude.{◌≢◌}
 use Rattle.std.proofs.lemmas.Bool.{cases_eq}
 use Rattle.std.proofs.lemmas.List.{length-set, get_or-set_same, get_or-set_other}
 use Rattle.mm_base.proofs.RangeSums.{sum_by_filter_range_changed}
-use Rattle.mm_problem.specs.Dumping.{Dumping, window}
+use Rattle.mm_problem.specs.Dumping.{Dumping, size, window}
 use Rattle.mm_problem.specs.Changed.{with_window}
 use Rattle.mm_plan.specs.declared.stretch.Stretch.{Stretch}
 use Rattle.mm_cut.specs.Stretches.{is_inner}
 use Rattle.mm_cut.specs.Counts.{is_listed}
-use Rattle.mm_cut.specs.Cuts.{IsCut, coming_sum, limit_sum, leaving, leaving_sum, counts_window}
+use Rattle.mm_cut.specs.Cuts.{IsCut, coming_sum, held_sum, limit_sum, leaving, leaving_sum, counts_window}
 
 -- a cut is one whatever the windows of as many steps are
 cut_with : (q : Dumping) (ws vs : List ℕ) (ds : List Stretch) (ts : List ℕ) → length vs ≡ length ws
@@ -61,6 +61,11 @@ module _ (q : Dumping) (t n : ℕ) where
   pub same_coming : (ds : List Stretch) → coming_sum r ds ≡ coming_sum q ds
   same_coming ds = rw as_many refl
 
+  -- as much is held
+  pub same_held : (ds : List Stretch) → held_sum r ds ≡ held_sum q ds
+  unfolding size
+  same_held ds = refl
+
   -- a cut is one of both problems
   pub cut_there : (ds : List Stretch) (ts : List ℕ) → IsCut q ds ts → IsCut r ds ts
   cut_there ds ts cut = cut_with q q.windows r.windows ds ts as_many cut
@@ -70,13 +75,13 @@ module _ (q : Dumping) (t n : ℕ) where
 
   -- what may leave differs by the windows of the step, where it counts
   pub leaving_changed : (ds : List Stretch) (ts : List ℕ) → 1 ≤ t → t ≤ length q.windows
-      → leaving_sum r ds ts + cond (counts_window ds ts t) (window q t) 0
-      ≡ leaving_sum q ds ts + cond (counts_window ds ts t) n 0
+      → leaving_sum r ds ts + cond (counts_window q ds ts t) (window q t) 0
+      ≡ leaving_sum q ds ts + cond (counts_window q ds ts t) n 0
   leaving_changed ds ts first last =
-      let changed = sum_by_filter_range_changed (is_inner ds) (leaving q ds ts) (leaving r ds ts) 1 (length q.windows) t
-      first (omega arith)
+      let changed = sum_by_filter_range_changed (is_inner q ds) (leaving q ds ts) (leaving r ds ts) 1
+      (length q.windows) t first (omega arith)
       (λ u from to other. ap (λ w. cond (is_listed ts u) (limit_sum q ds u) w) (window_other u first from other)) in
-      let here = picked (is_inner ds t) (is_listed ts t) (limit_sum q ds t) (window q t) n in
-      let there = ap (λ w. cond (is_inner ds t) (cond (is_listed ts t) (limit_sum q ds t) w) 0)
+      let here = picked (is_inner q ds t) (is_listed ts t) (limit_sum q ds t) (window q t) n in
+      let there = ap (λ w. cond (is_inner q ds t) (cond (is_listed ts t) (limit_sum q ds t) w) 0)
       (window_here first last) in
       rw as_many (omega arith)

@@ -5,7 +5,7 @@ use Rattle.mm_base.specs.Id.{id_text}
 use Rattle.mm_problem.specs.Dumping.{Dumping, row}
 use Rattle.mm_problem.specs.Texts.{SaysProblem}
 use Rattle.mm_sensitivity.specs.declared.item.Item.{Item}
-use Rattle.mm_sensitivity.specs.declared.item.Item.TheVariants.{Window, Size, Limit, StepLimit}
+use Rattle.mm_sensitivity.specs.declared.item.Item.TheVariants.{Window, Size, Limit, StepLimit, StepSize}
 use Rattle.mm_sensitivity.specs.declared.worth.Worth.{Worth}
 use Rattle.mm_sensitivity.specs.Items.{items}
 use Rattle.mm_sensitivity.specs.Worth.{IsWorth}
@@ -16,6 +16,8 @@ item_cells q (Window t) = codes "window,," ++ decimal t
 item_cells q (Size s) = codes "size," ++ id_text (row q s).id ++ codes ","
 item_cells q (Limit c) = codes "limit," ++ decimal c ++ codes ","
 item_cells q (StepLimit k t) = codes "limit," ++ decimal (slice_index q.limited k) ++ codes "," ++ decimal t
+item_cells q (StepSize k t) =
+    codes "size," ++ id_text (row q (slice_index q.sized k)).id ++ codes "," ++ decimal t
 
 -- the cells with the worth of a number, up to the end of the record
 unfoldable pub worth_cells : Worth → List ℕ

@@ -1,19 +1,19 @@
 //! The least losses of problems that differ in one number from a problem that is planned.
-ghost use Rattle.std.specs.Prelude.{◌≡◌, ◌*◌, ◌≤◌, length, IfOk, IfSome, IsTrue};
+ghost use Rattle.std.specs.Prelude.{◌≡◌, ◌*◌, ◌<◌, ◌≤◌, length, IfOk, IfSome, IsTrue};
 ghost use Rattle.mm_base.specs.declared.limits.TheConstants.{MAX_BLOCKS, MAX_STEPS, MAX_STORES};
 ghost use Rattle.mm_problem.specs.Changed.{with_window};
 ghost use Rattle.mm_plan.specs.Table.{HasShape};
 ghost use Rattle.mm_cut.specs.Cuts.{IsCut, bound, counts_window};
-ghost use Rattle.mm_sensitivity.specs.Items.{IsItem, number, least_number, with_number, fitted};
+ghost use Rattle.mm_sensitivity.specs.Items.{IsItem, number, least_number, with_number};
 ghost use Rattle.mm_sensitivity.specs.Worth.{IsLeastLoss, IsPlanFor, IsSaved};
 
-use crate::item::{Item, fitted, least_number, number, spilled};
+use crate::item::{Item, least_number, number, with_number};
 use crate::lowering::lowered;
 use mm_base::{MAX_BLOCKS, NoMemory};
 use mm_cut::{bound, cuts_bound_losses, first_bad, first_bad_count, is_inner, only_counted_helps};
 use mm_plan::{fill, fits, loss_of};
 use mm_planner::{Planned, plan};
-use mm_problem::Problem;
+use mm_problem::{Arrivals, Problem};
 use std::alloc::Global;
 
 /// A problem and a plan for it that loses least.
@@ -22,6 +22,19 @@ pub(crate) struct Base<'a> {
     pub alloc: Global,
     pub problem: &'a Problem,
     pub planned: Planned,
+}
+
+// An upper bound of the blocks that can leave a store in a step.
+fn leaving_store(problem: &Problem, store: usize, step: u32) -> u32
+    requires store { store < length problem.now.rows }
+    requires first { 1 ≤ step }
+    requires last { step ≤ length problem.now.windows }
+{
+    let size = problem.setup_size(store);
+    match problem.come() {
+        Arrivals::Before => size,
+        Arrivals::During => size.saturating_add(problem.arrivals(store, step)),
+    }
 }
 
 // An upper bound of the blocks that can leave in a step, for any window.
@@ -34,7 +47,7 @@ fn leaving(problem: &Problem, step: u32) -> u32
         let mut held: u32 = 0;
         for store in 0..problem.stores() {
             if problem.channel(store) == channel {
-                held = held.saturating_add(problem.size(store));
+                held = held.saturating_add(leaving_store(problem, store, step));
             }
         }
         leaving = leaving.saturating_add(held.min(problem.limit(channel, step).unwrap_or(held)));
@@ -60,11 +73,12 @@ impl<'a> Base<'a> {
 
     // Whether the cut counts the window of a step.
     fn counts_window(&self, step: u32) -> bool
-        ensures { result
-            ≡ counts_window self.now.planned.certificate.cut self.now.planned.certificate.by_channels step }
+        ensures { result ≡ counts_window self.now.problem.now
+            self.now.planned.certificate.cut self.now.planned.certificate.by_channels step }
     {
         let certificate = &self.planned.certificate;
-        is_inner(certificate.cut(), step) && !certificate.by_channels().contains(&step)
+        is_inner(self.problem, certificate.cut(), step)
+            && !certificate.by_channels().contains(&step)
     }
 
     // The bound of the cut with another window in a step.
@@ -107,7 +121,7 @@ impl<'a> Base<'a> {
         requires base { IsPlanFor self.now.problem.now self.now.planned }
         requires item { IsItem self.now.problem.now item }
         requires most { blocks ≤ MAX_BLOCKS }
-        requires changed { changed.now ≡ fitted self.now.problem.now item blocks }
+        requires changed { changed.now ≡ with_number self.now.problem.now item blocks }
         ensures cut { IfSome result
             (λ _. IsCut changed.now self.now.planned.certificate.cut self.now.planned.certificate.by_channels) }
         ensures bound { IfSome result
@@ -158,7 +172,7 @@ impl<'a> Base<'a> {
         requires base { IsPlanFor self.now.problem.now self.now.planned }
         requires item { IsItem self.now.problem.now item }
         ensures { IsTrue result
-            → IsLeastLoss (fitted self.now.problem.now item blocks) self.now.planned.certificate.loss }
+            → IsLeastLoss (with_number self.now.problem.now item blocks) self.now.planned.certificate.loss }
     {
         cuts_bound_losses();
         let now = number(self.problem, item);
@@ -174,7 +188,7 @@ impl<'a> Base<'a> {
         requires base { IsPlanFor self.now.problem.now self.now.planned }
         requires item { IsItem self.now.problem.now item }
         requires most { blocks ≤ MAX_BLOCKS }
-        requires changed { changed.now ≡ fitted self.now.problem.now item blocks }
+        requires changed { changed.now ≡ with_number self.now.problem.now item blocks }
         ensures least { IfOk result (IsLeastLoss changed.now) }
         ensures most { IfOk result (λ loss. loss ≤ 2 * MAX_BLOCKS * MAX_STEPS * MAX_STORES) }
     {
@@ -186,19 +200,19 @@ impl<'a> Base<'a> {
         Ok(plan(self.alloc, changed)?.certificate.loss())
     }
 
-    // The least loss of the problem with another number. A start volume above the store's size becomes the size.
+    // The least loss of the problem with another number.
     fn least_loss(&self, item: Item, blocks: u32) -> Result<u64, NoMemory>
         requires base { IsPlanFor self.now.problem.now self.now.planned }
         requires item { IsItem self.now.problem.now item }
         requires least { least_number item ≤ blocks }
         requires most { blocks ≤ MAX_BLOCKS }
-        ensures least { IfOk result (IsLeastLoss (fitted self.now.problem.now item blocks)) }
+        ensures least { IfOk result (IsLeastLoss (with_number self.now.problem.now item blocks)) }
         ensures most { IfOk result (λ loss. loss ≤ 2 * MAX_BLOCKS * MAX_STEPS * MAX_STORES) }
     {
         if self.loses_alike(item, blocks) {
             return Ok(self.planned.certificate.loss());
         }
-        let changed = fitted(self.alloc, self.problem, item, blocks)?;
+        let changed = with_number(self.alloc, self.problem, item, blocks)?;
         self.loss_there(&changed, item, blocks)
     }
 
@@ -224,10 +238,9 @@ impl<'a> Base<'a> {
         ensures { IfOk result
             (IsSaved (with_number self.now.problem.now item (least_number item)) self.now.problem.now) }
     {
-        cuts_bound_losses();
         only_counted_helps();
         let least = least_number(item);
         let loss = self.least_loss(item, least)?;
-        Ok(loss + spilled(self.problem, item, least) - self.planned.certificate.loss())
+        Ok(loss - self.planned.certificate.loss())
     }
 }

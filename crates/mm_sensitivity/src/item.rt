@@ -1,7 +1,8 @@
 //! The numbers of a problem that a mission can change.
 ghost use Rattle.std.specs.Prelude.{◌≡◌, ◌≤◌, ◌++◌, All, IfOk, OnOk};
 ghost use Rattle.mm_base.specs.declared.limits.TheConstants.{MAX_BLOCKS};
-ghost use Rattle.mm_sensitivity.specs.Items.{IsItem, number, least_number, fitted, spilled, column_items, items};
+ghost use Rattle.mm_sensitivity.specs.Items.{IsItem, number, least_number, with_number, column_items, size_items};
+ghost use Rattle.mm_sensitivity.specs.Items.{items};
 
 use mm_base::NoMemory;
 use mm_problem::Problem;
@@ -19,6 +20,9 @@ pub enum Item {
     /// The limit of a virtual channel in a step. The channel is given by its place, from 0, among those with a limit
     /// for each step; the step comes second.
     StepLimit(usize, u32),
+    /// The size of a store in a step. The store is given by its place, from 0, among those with a size for each step;
+    /// the step comes second.
+    StepSize(usize, u32),
 }
 
 // The value of the number.
@@ -29,9 +33,10 @@ pub(crate) fn number(problem: &Problem, item: Item) -> u32
 {
     match item {
         Item::Window(step) => problem.window(step),
-        Item::Size(store) => problem.size(store),
+        Item::Size(store) => problem.setup_size(store),
         Item::Limit(channel) => problem.setup_limit(channel).unwrap_or(0),
         Item::StepLimit(column, step) => problem.column_limit(column, step),
+        Item::StepSize(column, step) => problem.column_size(column, step),
     }
 }
 
@@ -46,8 +51,8 @@ pub(crate) fn least_number(item: Item) -> u32
     }
 }
 
-// The problem with another value of the number. A start volume above the store's size becomes the size.
-pub(crate) fn fitted(
+// The problem with another value of the number.
+pub(crate) fn with_number(
     alloc: Global,
     problem: &Problem,
     item: Item,
@@ -56,25 +61,14 @@ pub(crate) fn fitted(
     requires item { IsItem problem.now item }
     requires least { least_number item ≤ blocks }
     requires most { blocks ≤ MAX_BLOCKS }
-    ensures { IfOk result (λ changed. changed ≡ fitted problem.now item blocks) }
+    ensures { IfOk result (λ changed. changed ≡ with_number problem.now item blocks) }
 {
     match item {
         Item::Window(step) => problem.with_window(alloc, step, blocks),
         Item::Size(store) => problem.with_size(alloc, store, blocks),
         Item::Limit(channel) => problem.with_limit(alloc, channel, blocks),
         Item::StepLimit(column, step) => problem.with_column_limit(alloc, column, step, blocks),
-    }
-}
-
-// The blocks of the start volume for which a store of this size has no room.
-pub(crate) fn spilled(problem: &Problem, item: Item, blocks: u32) -> u64
-    requires { IsItem problem.now item }
-    ensures spilled { result ≡ spilled problem.now item blocks }
-    ensures most { result ≤ MAX_BLOCKS }
-{
-    match item {
-        Item::Size(store) => u64::from(problem.start(store).saturating_sub(blocks)),
-        _ => 0,
+        Item::StepSize(column, step) => problem.with_column_size(alloc, column, step, blocks),
     }
 }
 
@@ -89,8 +83,19 @@ fn add_column(items: &mut Vec<Item>, problem: &Problem, column: usize) -> Result
     Ok(())
 }
 
-// All numbers: the windows, the sizes of the stores in order, the limits of the channels that have one, and those of
-// each column.
+// Adds the sizes of a column.
+#[tactic(auto, using(std::proofs::Common::append_assoc, crate::proofs::Listing::map_next))]
+fn add_sizes(items: &mut Vec<Item>, problem: &Problem, column: usize) -> Result<(), NoMemory>
+    ensures { OnOk result (items.new.items ≡ items.old.items ++ size_items problem.now column) }
+{
+    for step in 1..problem.steps() + 1 {
+        items.push(Item::StepSize(column, step))?;
+    }
+    Ok(())
+}
+
+// All numbers: the windows, the sizes of the stores in order, the limits of the channels that have one, those of each
+// column, and the sizes of each column.
 #[tactic(auto, using(crate::proofs::Listing::listing, crate::proofs::Listing::all_items))]
 pub(crate) fn items(alloc: Global, problem: &Problem) -> Result<Vec<Item>, NoMemory>
     ensures items { IfOk result (λ list. list.items ≡ items problem.now) }
@@ -110,6 +115,9 @@ pub(crate) fn items(alloc: Global, problem: &Problem) -> Result<Vec<Item>, NoMem
     }
     for column in 0..problem.limited().len() {
         add_column(&mut items, problem, column)?;
+    }
+    for sizes in 0..problem.sized().len() {
+        add_sizes(&mut items, problem, sizes)?;
     }
     Ok(items)
 }

@@ -1,5 +1,7 @@
 //! The table of the worths of a problem's numbers, as comma separated values.
-ghost use Rattle.std.specs.Prelude.{◌≡◌, ◌++◌, All, IfOk, OnOk, codes, decimal};
+ghost use Rattle.std.specs.Prelude.{◌≡◌, ◌<◌, ◌++◌, All, IfOk, OnOk, codes, decimal, length, slice_index};
+ghost use Rattle.mm_base.specs.Id.{id_text};
+ghost use Rattle.mm_problem.specs.Dumping.{row};
 ghost use Rattle.mm_base.specs.Reading.{IfRefused};
 ghost use Rattle.mm_cut.specs.declared.fault.Fault.TheVariants as fault;
 ghost use Rattle.mm_planner.specs.PlanTexts.{IsPlanningFault};
@@ -9,8 +11,8 @@ ghost use Rattle.mm_sensitivity.specs.Worth.{IsWorth};
 
 use crate::item::Item;
 use crate::worth::{Worth, worths};
-use mm_base::NoMemory;
 use mm_base::numbers::push_number;
+use mm_base::{MAX_STORES, NoMemory};
 use mm_cut::Fault;
 use mm_problem::{Problem, read_problem};
 use std::alloc::{AllocError, Global};
@@ -36,7 +38,26 @@ fn push_item(text: &mut Vec<u8>, problem: &Problem, item: Item) -> Result<(), Al
             push_limit(text, problem.limited()[column])?;
             push_number(text, u64::from(step))
         }
+        Item::StepSize(column, step) => {
+            push_size(text, problem, column)?;
+            push_number(text, u64::from(step))
+        }
     }
+}
+
+// The cells that name a store with sizes by step.
+#[tactic(auto, using(std::proofs::Common::append_assoc))]
+fn push_size(text: &mut Vec<u8>, problem: &Problem, column: usize) -> Result<(), AllocError>
+    requires { column < length problem.now.sized }
+    ensures { OnOk result (text.new.items ≡ text.old.items ++ codes "size,"
+        ++ id_text (row problem.now (slice_index problem.now.sized column)).id ++ codes ",") }
+{
+    // the store is one of the problem
+    prove!(problem.stores() <= MAX_STORES);
+    let store = problem.sized()[column] as usize;
+    text.extend_from_slice(b"size,")?;
+    text.extend_from_slice(problem.id(store).text())?;
+    text.extend_from_slice(b",")
 }
 
 // The cells that name a channel.

@@ -45,7 +45,7 @@ mod verdicts;
 
 use crate::reason::Reason;
 use crate::spot::Spot;
-pub use ends::{EndsHint, opening_hint};
+pub use ends::{EndsHint, flyable_hint, opening_hint};
 use ends::{links_hint, sources_hint};
 pub use fit::fit_hint;
 use forecast::forecast_hint;
@@ -105,6 +105,13 @@ fn said_of(alloc: Global, reason: Reason, texts: Texts<'_>) -> Result<Option<Sen
         return forecast_hint(alloc, reason, texts);
     }
     match (reason.refusal, reason.spot) {
+        // The sizes of the setup are tested before those of the forecast.
+        (Refusal::Limit, Spot::Number(Name::Size)) => {
+            match setup_hint(alloc, reason.spot, texts.setup)? {
+                None => forecast_hint(alloc, reason, texts),
+                hint => Ok(hint),
+            }
+        }
         (Refusal::SetupText | Refusal::SetupField | Refusal::Limit, _) => {
             setup_hint(alloc, reason.spot, texts.setup)
         }

@@ -18,8 +18,8 @@ mod words;
 pub use answer::{Answer, Status, tell_text};
 pub use codes::{NAMES, PLACES, Place, REFUSALS, refusal_numbered};
 pub use hints::{
-    EndsHint, Hint, Note, RequestHints, TextKind, Texts, fit_hint, found_for, hint_for, notes_on,
-    opening_hint, packets_hint, request_hint, verdict_hint,
+    EndsHint, Hint, Note, RequestHints, TextKind, Texts, fit_hint, flyable_hint, found_for,
+    hint_for, notes_on, opening_hint, packets_hint, request_hint, verdict_hint,
 };
 pub use reason::Reason;
 pub use refused_at::RefusedAt;

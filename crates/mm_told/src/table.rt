@@ -97,6 +97,9 @@ macro_rules! refusals {
                 "change the channel with subtype 28, or correct the setup";
             TooManyReports: "reports of a request that may wait within the bound on reports",
                 "take the reports that wait, or set a larger bound";
+            NotFlyable: "arrivals before dumps, and no sizes by step",
+                "take the key arrivals and the columns size: out, and plan again; a run stores what arrives before \
+                    it dumps";
         }
     };
 }

@@ -23,7 +23,7 @@ impl Stores {
         let mut by_channel = [StoreSet::NONE; CHANNELS];
         for store in 0..count {
             let channel = problem.channel(store);
-            sizes.set(store, problem.size(store));
+            sizes.set(store, problem.setup_size(store));
             channels[store & 15] = channel;
             let others = by_channel[channel as usize & 7];
             by_channel[channel as usize & 7] = others.with(store);

@@ -4,6 +4,7 @@
 
 mod extent;
 mod families;
+mod kinds;
 mod propose;
 mod small;
 mod study;
@@ -21,7 +22,12 @@ fn said(alloc: Global, words: &[String]) -> Result<String> {
         [job, count, seed] if job.as_str() == "propose" => {
             propose::counted(alloc, count.parse()?, seed.parse()?)
         }
-        _ => Err(UnknownWords("the words are: study SEED, or propose COUNT SEED").into()),
+        [job, count, seed] if job.as_str() == "kinds" => {
+            propose::counted_by_kind(alloc, count.parse()?, seed.parse()?)
+        }
+        _ => Err(UnknownWords(
+            "the words are: study SEED, propose COUNT SEED, or kinds COUNT SEED",
+        ).into()),
     }
 }
 

@@ -2,6 +2,7 @@
 ghost use Rattle.std.specs.Prelude.{IfOk, IfSome};
 ghost use Rattle.mm_plan.specs.Table.{HasShape};
 
+use crate::kinds::Kind;
 use crate::study::{Texts, made};
 use anyhow::Result;
 use mm_cut::{Verdict, verify};
@@ -35,13 +36,17 @@ fn is_shown(alloc: Global, problem: &Problem) -> Result<bool> {
     Ok(matches!(verdict, Verdict::Least(_)))
 }
 
-// How many of this many problems are not shown to lose least.
-fn fallbacks(alloc: Global, count: u32, seed: u64) -> Result<u32> {
+// How many of this many problems are not shown to lose least. Without a kind they are those of a study.
+fn fallbacks(alloc: Global, count: u32, seed: u64, kind: Option<Kind>) -> Result<u32> {
     let mut numbers = Numbers::new(seed);
     let mut fallbacks: u32 = 0;
     for place in 0..count {
         let Texts { setup, forecast } = made(alloc, &mut numbers, place)?;
-        if !is_shown(alloc, &read_problem(alloc, &setup, &forecast)?)? {
+        let mut problem = read_problem(alloc, &setup, &forecast)?;
+        if let Some(kind) = kind {
+            problem = kind.of(alloc, &mut numbers, &problem)?;
+        }
+        if !is_shown(alloc, &problem)? {
             fallbacks = fallbacks.saturating_add(1);
         }
     }
@@ -50,6 +55,16 @@ fn fallbacks(alloc: Global, count: u32, seed: u64) -> Result<u32> {
 
 /// How many of this many problems of a study fall back.
 pub fn counted(alloc: Global, count: u32, seed: u64) -> Result<String> {
-    let fallbacks = fallbacks(alloc, count, seed)?;
+    let fallbacks = fallbacks(alloc, count, seed, None)?;
     Ok(format!(in alloc; "{count} problems, {fallbacks} fall back")?)
+}
+
+/// How many of this many problems of each kind fall back.
+pub fn counted_by_kind(alloc: Global, count: u32, seed: u64) -> Result<String> {
+    let during = fallbacks(alloc, count, seed, Some(Kind::During))?;
+    let sized = fallbacks(alloc, count, seed, Some(Kind::Sized))?;
+    let both = fallbacks(alloc, count, seed, Some(Kind::Both))?;
+    Ok(format!(in alloc;
+        "{count} problems with arrivals during dumps, {during} fall back\n{count} with sizes by step, {sized} fall back\n{count} with both, {both} fall back"
+    )?)
 }

@@ -23,5 +23,8 @@ pub fn small(alloc: Global) -> Result<String> {
     let text = std::str::from_utf8(&text)?;
     let Answers { checked, least, .. } = study(alloc, 1, PROBLEMS)?;
     let proposed = propose::counted(alloc, PROBLEMS, 1)?;
-    Ok(format!(in alloc; "{text}{least} of {checked} plans are shown to lose least\n{proposed}")?)
+    let by_kind = propose::counted_by_kind(alloc, PROBLEMS, 1)?;
+    Ok(format!(in alloc;
+        "{text}{least} of {checked} plans are shown to lose least\n{proposed}\n{by_kind}"
+    )?)
 }

@@ -1,19 +1,21 @@
 //! Hints on the files of a run's sources and links.
 
-use crate::hints::Hint;
+use crate::hints::assigned::{Assigned, has_text};
+use crate::hints::cells::{Wanted, record_in, unquoted};
 use crate::hints::excerpt::Excerpt;
 use crate::hints::form::{form_hint, quoted};
 use crate::hints::kind::{TextKind, misplaced, parts_of};
-use crate::hints::lines::{Lines, line_at};
+use crate::hints::lines::{Lines, after_mark, line_at, without_return};
 use crate::hints::packets::source_hint;
 use crate::hints::sentence::{Sentence, Shown};
+use crate::hints::{Hint, Texts};
 use mm_base::lines::cut_word;
 use mm_base::numbers::Numeral;
 use mm_base::{RouteRow, StoreId};
 use mm_problem::Setup;
 use std::alloc::Global;
 
-/// What is found in the files of a run's ends, or in the routes that lead to its stores.
+/// What is found in the files of a run's ends, in the routes that lead to its stores, or in what it cannot carry out.
 #[derive(Clone, Copy)]
 pub enum EndsHint {
     Sources {
@@ -30,6 +32,16 @@ pub enum EndsHint {
         store: StoreId,
         found: u64,
         start: u32,
+    },
+    /// A line of the setup says that arrivals come during dumps.
+    During {
+        line: u64,
+        text: Excerpt,
+    },
+    /// A column of the forecast has sizes.
+    Sized {
+        column: u64,
+        name: Excerpt,
     },
 }
 
@@ -60,6 +72,12 @@ impl EndsHint {
             } => said! {
                 "{} packets of step 0 go to {}, and its start is {}";
                 Count(found), Text(Excerpt::of_id(&store)), Count(u64::from(start))
+            },
+            EndsHint::During { line, text } =>
+                said!("line {} is {}; runs are planned with \"before\", the default"; Count(line), Text(text)),
+            EndsHint::Sized { column, name } => said! {
+                "column {} of the header is {}; runs are planned without columns size:";
+                Count(column), Text(name)
             },
         }
     }
@@ -149,4 +167,49 @@ pub fn opening_hint(alloc: Global, setup: &[u8], store: StoreId, found: u64) -> 
         found,
         start,
     }))
+}
+
+// The line above every table of a setup that says that arrivals come during dumps.
+fn during_hint(setup: &[u8]) -> Option<EndsHint> {
+    for (place, line) in Lines(after_mark(setup)).enumerate() {
+        if line.trim_ascii().starts_with(b"[") {
+            return None;
+        }
+        if let Some(assigned) = Assigned::of(line) {
+            if has_text(assigned.key, b"arrivals") && has_text(assigned.value, b"during") {
+                return Some(EndsHint::During {
+                    line: (place as u64).saturating_add(1),
+                    text: Excerpt::of(without_return(line)),
+                });
+            }
+        }
+    }
+    None
+}
+
+// The first column of a forecast that has sizes.
+fn sized_hint(forecast: &[u8]) -> Option<EndsHint> {
+    let header = record_in(forecast, Wanted::Row(0))?;
+    let mut column: u64 = 0;
+    for cell in header.each() {
+        let name = unquoted(cell);
+        column = column.saturating_add(1);
+        if name.starts_with(b"size:") {
+            return Some(EndsHint::Sized {
+                column,
+                name: Excerpt::of(name),
+            });
+        }
+    }
+    None
+}
+
+/// Why the problem of a setup and a forecast, which were read, cannot be carried out: arrivals come during dumps, or a
+/// store has sizes by step.
+#[must_use]
+pub fn flyable_hint(texts: Texts<'_>) -> Option<Hint> {
+    match during_hint(texts.setup) {
+        None => Some(Hint::Ends(sized_hint(texts.forecast)?)),
+        Some(hint) => Some(Hint::Ends(hint)),
+    }
 }

@@ -44,40 +44,109 @@ fn channel_of(name: &[u8]) -> Option<u64> {
     }
 }
 
-// What is found in a column after those of the stores, where columns of channels below this one can be before it.
-fn limit_hint(column: u64, name: &[u8], low: u64) -> Option<Sentence> {
-    if matches!(channel_of(name), Some(channel) if low <= channel) {
-        return None;
+// The place, from 0, of the store of a column of sizes.
+fn sized_place(setup: &Setup, name: &[u8]) -> Option<usize> {
+    let id = name.strip_prefix(b"size:")?;
+    setup.stores().iter().position(|row| row.id.text() == id)
+}
+
+// The identifiers of the stores of a setup.
+fn ids_of(setup: &Setup) -> Excerpt {
+    let mut ids = Excerpt::new();
+    let mut before: &[u8] = b"";
+    for row in setup.stores() {
+        ids.push(before);
+        ids.push(row.id.text());
+        before = b", ";
     }
-    found! {
-        "column {} of the header is {}; after the stores can be limit:0 to limit:7 alone, rising";
-        Count(column), Text(Excerpt::of(name))
+    ids
+}
+
+// Which columns can come next after those of the stores: limits of the channels from this one on, none where a column
+// of sizes came before, and sizes of the stores from this place on.
+#[derive(Clone, Copy)]
+struct NextColumns {
+    channel: Option<u64>,
+    store: usize,
+}
+
+impl NextColumns {
+    // What can come after a column with this name.
+    fn after(self, setup: &Setup, name: &[u8]) -> NextColumns {
+        match (channel_of(name), sized_place(setup, name)) {
+            (Some(channel), _) => NextColumns {
+                channel: Some(channel.saturating_add(1)),
+                ..self
+            },
+            (None, Some(place)) => NextColumns {
+                channel: None,
+                store: place.saturating_add(1),
+            },
+            (None, None) => self,
+        }
+    }
+
+    // What is found in a column of sizes.
+    fn size_hint(self, setup: &Setup, column: u64, name: &[u8]) -> Option<Sentence> {
+        let shown = Excerpt::of(name);
+        match sized_place(setup, name) {
+            Some(place) if self.store <= place => None,
+            Some(_) => found! {
+                "column {} of the header is {}; columns size: come in the setup's order, one for a store";
+                Count(column), Text(shown)
+            },
+            None => found! {
+                "column {} of the header is {}; the stores of the setup are {}";
+                Count(column), Text(shown), Bare(ids_of(setup))
+            },
+        }
+    }
+
+    // What is found in a column.
+    fn hint(self, setup: &Setup, column: u64, name: &[u8]) -> Option<Sentence> {
+        if name.starts_with(b"size:") {
+            return self.size_hint(setup, column, name);
+        }
+        let shown = Excerpt::of(name);
+        match (channel_of(name), self.channel) {
+            (Some(channel), Some(low)) if low <= channel => None,
+            (Some(_), None) => found! {
+                "column {} of the header is {}; columns limit: come before columns size:";
+                Count(column), Text(shown)
+            },
+            _ => found! {
+                "column {} of the header is {}; after the stores can be limit:0 to limit:7, rising, and then size: \
+                    with stores";
+                Count(column), Text(shown)
+            },
+        }
     }
 }
 
 // What is found in a column of the header.
-fn column_hint(setup: &Setup, column: usize, name: &[u8], low: u64) -> Option<Sentence> {
+fn column_hint(setup: &Setup, column: usize, name: &[u8], later: NextColumns) -> Option<Sentence> {
     match wanted_name(setup, column) {
         Some(wanted) if wanted == name => None,
         Some(wanted) => found! {
             "column {} of the header is {}, and {} is expected";
             Count(column as u64), Text(Excerpt::of(name)), Text(Excerpt::of(wanted))
         },
-        None => limit_hint(column as u64, name, low),
+        None => later.hint(setup, column as u64, name),
     }
 }
 
 // What is found in the first column of the header that is another than is wanted.
 fn columns_hint(setup: &Setup, header: &Record<'_>) -> Option<Sentence> {
-    let mut low: u64 = 0;
+    let mut later = NextColumns {
+        channel: Some(0),
+        store: 0,
+    };
     let mut column: usize = 0;
     for cell in header.each() {
         let name = unquoted(cell);
         column = column.saturating_add(1);
-        tell!(column_hint(setup, column, name, low));
-        if let Some(channel) = channel_of(name) {
-            low = channel.saturating_add(1);
-        }
+        tell!(column_hint(setup, column, name, later));
+        later = later.after(setup, name);
     }
     let column = column.saturating_add(1);
     found! {

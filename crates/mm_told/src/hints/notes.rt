@@ -1,8 +1,9 @@
 //! Notes on the setup and the forecast of a task that is done: what in them has no effect.
+ghost use Rattle.std.specs.Prelude.{◌<◌, length};
 
 use crate::hints::ends::is_reached;
 use crate::hints::excerpt::Excerpt;
-use mm_base::{NoMemory, StoreId};
+use mm_base::{MAX_STORES, NoMemory, StoreId};
 use mm_problem::{Problem, Setup};
 use std::alloc::Global;
 use std::fmt;
@@ -14,6 +15,8 @@ pub enum Note {
     LimitOfNone { channel: u8 },
     /// A column of the forecast has limits of a channel that no store has.
     ColumnOfNone { channel: u8 },
+    /// A column of the forecast has sizes that are nowhere below the setup's.
+    ColumnOfMore { store: StoreId },
     /// No route leads to a store.
     Unreached { store: StoreId },
 }
@@ -25,6 +28,9 @@ impl fmt::Display for Note {
                 write! { f, "the setup has a limit for channel {channel}, on which no store is" },
             Note::ColumnOfNone { channel } =>
                 write! { f, "the forecast has a column limit:{channel}, and no store is on that channel" },
+            Note::ColumnOfMore { store } =>
+                write! { f, "the column size: of {} is never below the setup's size, so it changes nothing",
+                    Excerpt::of_id(store) },
             Note::Unreached { store } =>
                 write! { f, "no route of the setup leads to {}, so nothing arrives there", Excerpt::of_id(store) },
         }
@@ -64,8 +70,40 @@ fn push_columns(notes: &mut Vec<Note>, setup: &Setup, problem: &Problem) -> Resu
     Ok(())
 }
 
+// Whether the sizes of a column are nowhere below the setup's size of its store.
+fn is_never_below(problem: &Problem, column: usize, store: usize) -> bool
+    requires column { column < length problem.now.sized }
+    requires store { store < length problem.now.rows }
+{
+    let size = problem.setup_size(store);
+    (1..problem.steps() + 1).all(|step| size <= problem.column_size(column, step))
+}
+
+// The store of a column with sizes that have no effect.
+fn column_of_more(problem: &Problem, column: usize) -> Option<StoreId>
+    requires { column < length problem.now.sized }
+{
+    // The store is one of the problem.
+    prove!(problem.stores() <= MAX_STORES);
+    let store = problem.sized()[column] as usize;
+    if is_never_below(problem, column, store) {
+        Some(problem.id(store))
+    } else {
+        None
+    }
+}
+
+fn push_sizes(notes: &mut Vec<Note>, problem: &Problem) -> Result<(), NoMemory> {
+    for column in 0..problem.sized().len() {
+        if let Some(store) = column_of_more(problem, column) {
+            notes.push(Note::ColumnOfMore { store })?;
+        }
+    }
+    Ok(())
+}
+
 /// What has no effect in the setup and the forecast of a task that is done, which say this problem: limits, in a run
-/// also stores, and columns with limits.
+/// also stores, and columns with limits or with sizes.
 pub fn notes_on(
     alloc: Global,
     is_run: bool,
@@ -78,5 +116,6 @@ pub fn notes_on(
         push_stores(&mut notes, setup)?;
     }
     push_columns(&mut notes, setup, problem)?;
+    push_sizes(&mut notes, problem)?;
     Ok(notes)
 }

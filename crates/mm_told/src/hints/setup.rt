@@ -7,7 +7,7 @@ use crate::hints::kind::{TextKind, misplaced};
 use crate::hints::lines::{Lines, after_mark, cut_at, line_at, line_of, without_return};
 use crate::hints::sentence::{Sentence, Shown};
 use crate::hints::tables::{
-    ARRAYS, elements, keys_of, named, number_at, table_in, text_at, unknown_key,
+    ARRAYS, common_front, elements, keys_of, named, number_at, table_in, text_at, unknown_key,
 };
 use crate::spot::Spot;
 use mm_base::{
@@ -177,18 +177,39 @@ fn array_with(key: Excerpt) -> Option<Name> {
     None
 }
 
+// What is wrong with a key at the top that cannot be there.
+fn unknown_at_top(document: &Table) -> Option<Sentence> {
+    let (key, keys) = unknown_key(document, Name::Unknown)?;
+    match array_with(key) {
+        Some(array) =>
+            found!("the key {} stands above every table; write [[{}]] above it"; Text(key), Name(array)),
+        None => found!("the key {} is none of {}"; Text(key), Keys(keys)),
+    }
+}
+
+// What is wrong with the word that says when arrivals come. The word that it is most like is named first.
+fn arrivals_hint(value: &Value) -> Option<Sentence> {
+    let Some(word) = value.as_str() else {
+        return found!("the key arrivals has no text; write \"before\" or \"during\", in quotes");
+    };
+    let said = if common_front(word, "during") > common_front(word, "before") {
+        "\"during\" and \"before\" can be"
+    } else {
+        "\"before\" and \"during\" can be"
+    };
+    found!("the key arrivals is {}; ", said; Text(Excerpt::of(word.as_bytes())))
+}
+
 // What is wrong at the top of a setup.
 fn top_hint(document: &Table, name: Name) -> Option<Sentence> {
     if name == Name::Unknown {
-        let (key, keys) = unknown_key(document, name)?;
-        if let Some(array) = array_with(key) {
-            return found!("the key {} stands above every table; write [[{}]] above it"; Text(key), Name(array));
-        }
-        found!("the key {} is none of {}"; Text(key), Keys(keys))
-    } else if document.get(name.text()).is_none() {
-        found!("there is no table [[{}]]"; Name(name))
-    } else {
-        found!("{} is no array of tables; write [[{}]] above each table"; Name(name), Name(name))
+        return unknown_at_top(document);
+    }
+    match document.get(name.text()) {
+        None => found!("there is no table [[{}]]"; Name(name)),
+        Some(value) if name == Name::Arrivals => arrivals_hint(value),
+        Some(_) =>
+            found!("{} is no array of tables; write [[{}]] above each table"; Name(name), Name(name)),
     }
 }
 
@@ -324,6 +345,9 @@ fn in_table(
         Name::Repeated => None,
         Name::Unknown => {
             let (key, keys) = unknown_key(table, array)?;
+            if key.is(Name::Arrivals.text().as_bytes()) {
+                return found!("has the key {}, which is one of the top; write it above every table"; Text(key));
+            }
             found!("has the key {}, which is none of {}"; Text(key), Keys(keys))
         }
         key => key_hint(

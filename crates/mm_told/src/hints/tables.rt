@@ -26,13 +26,16 @@ impl fmt::Display for TableAt {
 /// The arrays of a setup, in the order in which they are tested.
 pub(crate) static ARRAYS: [Name; 3] = [Name::Store, Name::Route, Name::Limit];
 
+// The keys at the top of a setup.
+static TOP: [Name; 4] = [Name::Store, Name::Route, Name::Limit, Name::Arrivals];
+
 /// The keys of the tables of an array, or else those of the top.
 pub(crate) fn keys_of(array: Name) -> &'static [Name] {
     match array {
         Name::Store => &[Name::Id, Name::Size, Name::Type, Name::Channel, Name::Start],
         Name::Route => &[Name::Apid, Name::Service, Name::Subtype, Name::Store],
         Name::Limit => &[Name::Channel, Name::Blocks],
-        _ => &ARRAYS,
+        _ => &TOP,
     }
 }
 
@@ -83,8 +86,8 @@ impl fmt::Display for KeyList {
     }
 }
 
-// How many letters two words have in common before they differ, small or capital.
-fn common_front(one: &str, other: &str) -> usize {
+/// How many letters two words have in common before they differ, small or capital.
+pub(crate) fn common_front(one: &str, other: &str) -> usize {
     let letters = one.as_bytes().iter().zip(other.as_bytes());
     letters
         .take_while(|(byte, of_other)| byte.eq_ignore_ascii_case(of_other))

@@ -5,9 +5,9 @@ use crate::hints::fit::fit_hint;
 use crate::hints::lines::line_at;
 use crate::hints::sentence::{Sentence, Shown};
 use crate::hints::{Hint, Texts};
-use mm_cut::{Verdict, is_inner};
+use mm_cut::{Verdict, inner_end, is_inner};
 use mm_plan::{Sheet, Stretch};
-use mm_problem::{Problem, read_problem};
+use mm_problem::{Arrivals, Problem, read_problem};
 use std::alloc::Global;
 
 // A plan text as it is judged: the problem, what the text says, and the text.
@@ -114,7 +114,7 @@ impl<'a> Judged<'a> {
         if step < 1 || self.problem.steps() < step {
             return false;
         }
-        if step < stretch.first || stretch.last <= step {
+        if step < stretch.first || inner_end(self.problem, stretch) <= u64::from(step) {
             return false;
         }
         match self.problem.place(&stretch.store) {
@@ -131,11 +131,19 @@ impl<'a> Judged<'a> {
         let cut = self.sheet.cut();
         let at = self.after_loss(cut.len().saturating_add(place).saturating_add(1))?;
         let step = *self.sheet.by_channels().get(place)?;
-        if !is_inner(cut, step) {
-            return found_in!(
-                at,
-                "the step is inner to no stretch, as each of its steps but the last is"
-            );
+        if !is_inner(self.problem, cut, step) {
+            return match self.problem.come() {
+                Arrivals::Before => found_in!(
+                    at,
+                    "the step is inner to no stretch, as each of its steps but the last is"
+                ),
+                Arrivals::During => {
+                    found_in!(
+                        at,
+                        "the step is inner to no stretch, as each of its steps is"
+                    )
+                }
+            };
         }
         for stretch in cut {
             if self.is_unlimited(step, stretch) {

@@ -5,7 +5,7 @@ use crate::tests::samples::{
 };
 
 // A script whose task is refused, and the line on standard error, or how it begins where a long list of ranges follows.
-static ADVICE: [(&str, &str); 26] = wanted! {
+static ADVICE: [(&str, &str); 27] = wanted! {
     "plan S F\n=== S\n"
     => "F: expected a file of this name; check the name and its folder, or in a script the line === NAME above the \
         file; outside a script - is standard input\n";
@@ -36,6 +36,7 @@ static ADVICE: [(&str, &str); 26] = wanted! {
     "plan S F\n=== S\n[[store]]\nid = \"A\"\nsize = 1\ntype = \"bounded\"\nchannel = 0\n[[route]]\napid = \"1\"\n=== \
         F\n"
     => "S, table 1 of route, apid: expected the keys";
+    "plan S F\n=== S\narrivals = \"first\"\n[[store]]\n=== F\n" => "S, at the top, arrivals: expected the keys";
     "plan S F\n=== S\n[[store]]\nid = \"A\"\nsize = 1\ntype = \"bounded\"\nchannel = 0\n[[limit]]\nchannel = 0\n=== F\n"
     => "S, table 1 of limit, blocks: expected the keys";
     "plan S F\n=== S\n[[store]]\nid = \"A\"\nsize = 1\ntype = \"bounded\"\nchannel = \"0\"\n=== F\n"

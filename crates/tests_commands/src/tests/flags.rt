@@ -4,7 +4,7 @@ use crate::tests::samples::{Host, answers, holds, joined, told};
 
 const TWICE: &str = "--output is given twice; give it once";
 
-const OF_OTHERS: &str = "--output goes with plan, chart, table and sensitivity alone";
+const OF_OTHERS: &str = "--output goes with plan, chart, table, rest and sensitivity alone";
 
 const LATE: &str = "--output stands before --, after which each word is the name of a file";
 
@@ -13,15 +13,18 @@ const NAMELESS: &str =
         it";
 
 const SHORT: &str =
-    "there is no flag '-o'; did you mean --output, which goes with plan, chart, table and sensitivity, and has the \
-        name of a file after it?";
+    "there is no flag '-o'; did you mean --output, which goes with plan, chart, table, rest and sensitivity, and has \
+        the name of a file after it?";
 
 const NONE_ALIKE: &str =
-    "there is no flag '--json', and none is spelled alike; there are --in-order of plan and fly, --worth of chart, \
-        --output FILE of plan, chart, table and sensitivity, and --help";
+    "there is no flag '--json', and none is spelled alike; there are --in-order of plan and fly, --keep PLAN STEP of \
+        plan, --worth of chart, --output FILE of plan, chart, table, rest and sensitivity, and --help";
+
+const KEEPS_NOTHING: &str =
+    "a plan or a step is missing: write --keep PLAN STEP; if the name of the plan begins with -, write ./ before it";
 
 // Bad lines, and what is said of their flags.
-static WRONG: [(&str, &str); 31] = wanted! {
+static WRONG: [(&str, &str); 46] = wanted! {
     "plan --in-order --in-order S F" => "--in-order is given twice; give it once";
     "chart --worth S --worth F P" => "--worth is given twice; give it once";
     "plan S F --output X --output Y" => TWICE;
@@ -47,8 +50,8 @@ static WRONG: [(&str, &str); 31] = wanted! {
     "chart --worht S F P --output X"
     => "there is no flag '--worht'; did you mean --worth, which goes with chart?";
     "table S F P --outptu=X"
-    => "there is no flag '--outptu=X'; did you mean --output, which goes with plan, chart, table and sensitivity, and \
-        has the name of a file after it?";
+    => "there is no flag '--outptu=X'; did you mean --output, which goes with plan, chart, table, rest and \
+        sensitivity, and has the name of a file after it?";
     "check --hlep"
     => "there is no flag '--hlep'; did you mean --help, which stands alone or after a command?";
     "plan -in-order S F"
@@ -59,6 +62,25 @@ static WRONG: [(&str, &str); 31] = wanted! {
     "chart -w S F P" => "there is no flag '-w'; did you mean --worth, which goes with chart?";
     "plan -v" => "there is no flag '-v'; did you mean --version, which stands alone?";
     "check --json S F P" => NONE_ALIKE;
+    "plan S F --keep P 1 --keep P 1" => "--keep is given twice; give it once";
+    "plan S F --in-order --keep P 1" => "--keep does not go with --in-order; give one of them";
+    "plan --keep P 1 S F --in-order" => "--in-order does not go with --keep; give one of them";
+    "--keep plan S F" => "--keep stands after the command";
+    "plan -- S F --keep P 1" => "--keep stands before --, after which each word is the name of a file";
+    "fly S F --keep P 1 X L" => "--keep goes with plan alone";
+    "plan S F --keep=P 1" => KEEPS_NOTHING;
+    "plan S F --keep" => KEEPS_NOTHING;
+    "plan S F --keep P" => KEEPS_NOTHING;
+    "plan S F --keep -P 1" => KEEPS_NOTHING;
+    "plan S F --keep P -1" => KEEPS_NOTHING;
+    "plan S F --keep P --output X 1" => KEEPS_NOTHING;
+    "plan S F --kep P 1"
+    => "there is no flag '--kep'; did you mean --keep, which goes with plan, and has the file of a plan and a step of \
+        it after it?";
+    "plan S F --halp" => "there is no flag '--halp'; did you mean --help, which stands alone or after a command?";
+    "plan S F -k P 1"
+    => "there is no flag '-k'; did you mean --keep, which goes with plan, and has the file of a plan and a step of it \
+        after it?";
     "plan --json --output X S F" => NONE_ALIKE;
 };
 
@@ -72,11 +94,12 @@ fn flags_that_are_not_read(rt: HostRuntime) {
 }
 
 // The usage of each command has each of its flags.
-static USAGES: [(&str, &str); 9] = wanted! {
-    "plan --help" => "plan [--in-order] <SETUP> <FORECAST> [--output <FILE>]";
+static USAGES: [(&str, &str); 10] = wanted! {
+    "plan --help" => "plan [--in-order | --keep <PLAN> <STEP>] <SETUP> <FORECAST> [--output <FILE>]";
     "check --help" => "check <SETUP> <FORECAST> <PLAN>";
     "chart --help" => "chart [--worth] <SETUP> <FORECAST> <PLAN> [--output <FILE>]";
     "table --help" => "table <SETUP> <FORECAST> <PLAN> [--output <FILE>]";
+    "rest --help" => "rest <SETUP> <FORECAST> <PLAN> <STEP> [--output <FILE>]";
     "sensitivity --help" => "sensitivity <SETUP> <FORECAST> [--output <FILE>]";
     "run --help" => "run <SETUP> <FORECAST> <PLAN> <SOURCES> <LINKS>";
     "fly --help" => "fly [--in-order] <SETUP> <FORECAST> <SOURCES> <LINKS>";
@@ -100,10 +123,12 @@ fn usages_have_each_flag(rt: HostRuntime) {
 }
 
 // What else stands in the help of a command.
-static HELPS: [(&str, &str); 3] = wanted! {
+static HELPS: [(&str, &str); 5] = wanted! {
     "sensitivity --help"
     => "  limit,CHANNEL,STEP,..       the limit of the channel in the step, from a column of the forecast\n";
     "sensitivity --help" => "  --output FILE               writes the table to FILE,";
+    "rest --help" => "  --output FILE               writes the script to FILE,";
+    "plan --help" => "  --keep PLAN STEP            keeps the steps of the plan text PLAN up to STEP,";
     "chart --help"
     => "  --worth                     a bar above a window, or above the row of a channel with a limit,";
 };

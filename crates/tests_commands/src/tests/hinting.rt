@@ -10,7 +10,7 @@ static SETUP_HINTS: [(&str, &str); 10] = wanted! {
     "[[store]]\nid = \"A\"\nsize = 2,000\n" => "line 3 is \"size = 2,000\"; numbers have no commas";
     "[[store]]\nid = \"A\"\nsize 2000\n" => "line 3 is \"size 2000\"; write = between a key and its value";
     "store = 1\n" => "store is no array of tables; write [[store]] above each table";
-    "stores = 1\n" => "the key \"stores\" is none of store, route and limit";
+    "stores = 1\n" => "the key \"stores\" is none of store, route, limit and arrivals";
     "[[store]]\nid = \"A\"\nsize = 4\ntype = \"bounded\"\n" => "table 1 of store, \"A\", has no key channel";
     "[[store]]\nid = \"A\"\nsize = \"4\"\ntype = \"bounded\"\nchannel = 0\n"
     => "table 1 of store, \"A\", has size = \"4\"; a whole number is expected; write it without quotes";
@@ -56,7 +56,8 @@ static FORECAST_HINTS: [(&str, &str); 17] = wanted! {
     "" => "the file is empty; its first line is \"step,window,A\"; a file to which the output is sent is emptied \
         before it is read";
     "step,window,A,limit:8\n1,2,3,4\n"
-    => "column 4 of the header is \"limit:8\"; after the stores can be limit:0 to limit:7 alone, rising";
+    => "column 4 of the header is \"limit:8\"; after the stores can be limit:0 to limit:7, rising, and then size: with \
+        stores";
     "step,window,A,limit:0\n1,2,3,4,5\n"
     => "row 1 is line 2 of the file, whose header is line 1; cells: 5 there, 4 in the header";
     "step,window,A,limit:0\n1,2,3,1000001\n"

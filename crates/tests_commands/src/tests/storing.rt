@@ -80,12 +80,14 @@ fn run(rt: &impl Host, system: &impl rt::Files, folder: &str, line: &str) -> Ans
 
 // Tasks whose text is stored, each with the file and with one that is not left over. A file that is not there yet is
 // made.
-static STORED: [(&str, &str, &str); 8] = [
+static STORED: [(&str, &str, &str); 10] = [
     ("chart @/S @/F @/P", "OLD", "OLD.new1"),
     ("chart --worth @/S @/F @/P", "OLD", "OLD.new1"),
     ("chart @/S @/F @/P --worth", "OLD", "OLD.new1"),
     ("plan --in-order @/S @/F", "OLD", "OLD.new1"),
+    ("plan @/S @/F --keep @/P 2", "OLD", "OLD.new1"),
     ("table @/S @/F @/P", "OLD", "OLD.new1"),
+    ("rest @/S @/F @/P 2", "OLD", "OLD.new1"),
     ("sensitivity @/S @/F", "OLD", "OLD.new1"),
     ("plan @/S @/F", "NEW", "NEW.new2"),
     ("plan @/S @/F", "OLD", "OLD.new1"),
@@ -96,8 +98,8 @@ fn with_output(rt: &impl Host, task: &str, output: &str, file: &str) -> String {
     joined(rt, &[task, output, file])
 }
 
-// The text of a task goes into the file as it is printed, and nothing is printed then. What an earlier run left over is
-// passed over.
+// The text of a task goes into the file as it is printed, and nothing is printed then; what is said is the same. What an
+// earlier run left over is passed over.
 fn stores(rt: &impl System, folder: &str, task: &str, file: &str, left_over: &str) {
     let printed = run(rt, rt, folder, task);
     let is_printed = printed.status == 0 && !printed.out.is_empty();
@@ -105,8 +107,8 @@ fn stores(rt: &impl System, folder: &str, task: &str, file: &str, left_over: &st
     for output in [" --output @/", " --output=@/"] {
         let line = with_output(rt, task, output, file);
         let stored = run(rt, rt, folder, line.as_str());
-        let is_quiet = stored.has("", 0) && stored.err.is_empty();
-        let is_stored = is_quiet && has(rt, folder, file, printed.out.as_str());
+        let is_same = stored.has("", 0) && stored.err.as_str() == printed.err.as_str();
+        let is_stored = is_same && has(rt, folder, file, printed.out.as_str());
         let is_alone = has(rt, folder, "NEW.new1", OLD) && !is_there(rt, folder, left_over);
         holds(rt, line.as_str(), &stored, is_stored && is_alone);
     }

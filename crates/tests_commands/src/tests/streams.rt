@@ -23,7 +23,12 @@ For more information, try '--help'.
 ";
 
 // Lines that have standard input for more than one file.
-static TWICE_READ: [&str; 3] = ["plan - -", "check - @/F -", "fly @/S - - @/L --"];
+static TWICE_READ: [&str; 4] = [
+    "plan - -",
+    "plan - @/F --keep - 2",
+    "check - @/F -",
+    "fly @/S - - @/L --",
+];
 
 fn streams_are_used(rt: &impl System) {
     let folder = make_folder(rt, "streams");

@@ -6,6 +6,7 @@ use crate::tests::samples::{
 use mm_chart::{chart_bytes, table_bytes};
 use samples::{chart_of, has_lines, has_texts, is_fault};
 
+mod by_step;
 mod keys;
 mod numbers;
 mod pictures;

@@ -142,12 +142,14 @@ impl Numbers {
                 let limit = changed.step_limits.get_mut(place.saturating_add(column));
                 *limit.expect(rt, "a step") = blocks;
             }
+            // no store has sizes by step
+            Item::StepSize(..) => {}
         }
         changed.problem(rt)
     }
 }
 
-fn least_number(item: Item) -> u32 {
+pub(crate) fn least_number(item: Item) -> u32 {
     match item {
         Item::Size(_) => 1,
         _ => 0,
@@ -155,7 +157,7 @@ fn least_number(item: Item) -> u32 {
 }
 
 // The loss of a new plan.
-fn least_loss(rt: &impl Runtime, problem: &Problem) -> u64 {
+pub(crate) fn least_loss(rt: &impl Runtime, problem: &Problem) -> u64 {
     plan(rt.alloc(), problem)
         .expect(rt, "memory")
         .certificate

@@ -1,6 +1,6 @@
 //! Runs from texts in two steps: the plan text before the run, and then what the run prints.
 
-use crate::tests::runs::trials::{FIRST_RUN, TWO_PASSES};
+use crate::tests::runs::trials::{DURING_RUN, FIRST_RUN, SIZED_RUN, TWO_PASSES, Task};
 use mm_exec::Goal;
 use mm_run::{PreparedRun, Printed, RunTexts, prepare_run};
 use std::alloc::Global;
@@ -28,11 +28,17 @@ step 3 SCI arrived 4 lost 2 dumped 0 held 4
 total arrived 10 lost 2 dumped 4 held 4
 ";
 
-// A run with these links that is ready to begin, of a plan text or of a plan that is made.
-fn prepared(rt: &impl Abort, alloc: Global, links: &str, plan: Option<&str>) -> PreparedRun {
+// A run of a task with these links that is ready to begin, of a plan text or of a plan that is made.
+fn prepared(
+    rt: &impl Abort,
+    alloc: Global,
+    task: &Task,
+    links: &str,
+    plan: Option<&str>,
+) -> PreparedRun {
     let texts = RunTexts {
-        setup: FIRST_RUN.setup.as_bytes(),
-        forecast: FIRST_RUN.forecast.as_bytes(),
+        setup: task.setup.as_bytes(),
+        forecast: task.forecast.as_bytes(),
         sources: SOURCES.as_bytes(),
         links: links.as_bytes(),
     };
@@ -40,20 +46,23 @@ fn prepared(rt: &impl Abort, alloc: Global, links: &str, plan: Option<&str>) -> 
     prepare_run(alloc, texts, plan, Goal::Least).expect(rt, "texts")
 }
 
-// Links, the plan text where it is given, and what is printed: the plan text before the run, then the report and the
-// last line.
-static RUNS: [(&str, Option<&str>, &str, &str, &str); 4] = wanted! {
-    "links 1\n", None, TWO_PASSES, REPORT => "";
-    "links 1\n", Some(TWO_PASSES), "", REPORT => "";
-    "links 1\nfail 1 1\n", None, TWO_PASSES, "total arrived 0 lost 0 dumped 0 held 0\n"
+// A task, links, the plan text where it is given, and what is printed: the plan text before the run, then the report and
+// the last line. A run whose steps cannot be carried out is refused before its links are counted.
+static RUNS: [(Task, &str, Option<&str>, &str, &str, &str); 7] = wanted! {
+    FIRST_RUN, "links 1\n", None, TWO_PASSES, REPORT => "";
+    FIRST_RUN, "links 1\n", Some(TWO_PASSES), "", REPORT => "";
+    FIRST_RUN, "links 1\nfail 1 1\n", None, TWO_PASSES, "total arrived 0 lost 0 dumped 0 held 0\n"
     => "halted step 1 46 LinkFailed\n";
-    "links 0\n", None, TWO_PASSES, "" => "refused 44 Counts\n";
+    FIRST_RUN, "links 0\n", None, TWO_PASSES, "" => "refused 44 Counts\n";
+    DURING_RUN, "links 1\n", None, TWO_PASSES, "" => "refused 55 NotFlyable\n";
+    SIZED_RUN, "links 1\n", Some(TWO_PASSES), "", "" => "refused 55 NotFlyable\n";
+    DURING_RUN, "links 0\n", Some(TWO_PASSES), "", "" => "refused 55 NotFlyable\n";
 };
 
 #[test]
 fn the_plan_text_is_there_before_the_run(rt: HostRuntime) {
-    for (links, plan, text, report, end) in &RUNS {
-        let run = prepared(&rt, rt.alloc(), *links, *plan);
+    for (task, links, plan, text, report, end) in &RUNS {
+        let run = prepared(&rt, rt.alloc(), task, *links, *plan);
         assert!(rt;
             run.plan_text() == text.as_bytes(),
             "the plan text before the run"
@@ -74,7 +83,7 @@ fn the_plan_text_is_there_before_the_run(rt: HostRuntime) {
 // In step 2 a packet was sent before the send that failed. The two packets of step 1 are in the report.
 #[test]
 fn a_halted_run_hands_on_what_it_left(rt: HostRuntime) {
-    let run = prepared(&rt, rt.alloc(), "links 1\nfail 1 4\n", None);
+    let run = prepared(&rt, rt.alloc(), &FIRST_RUN, "links 1\nfail 1 4\n", None);
     let Printed { left, .. } = run.carry_out(&rt, rt.alloc());
     let Some(left) = left else {
         panic!(&rt; "the run is halted");

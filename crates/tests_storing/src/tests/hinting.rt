@@ -25,7 +25,7 @@ fn hints(rt: &impl Host, reason: Reason, texts: Texts<'_>, hint: &str) {
 }
 
 // Setups that are refused, and what is found in each.
-static SETUPS: [(&str, &str); 45] = wanted! {
+static SETUPS: [(&str, &str); 51] = wanted! {
     "[store]\nid = \"A\"\n\n[store]\nid = \"B\"\n"
     => "line 1 is \"[store]\"; write [[store]] above each table";
     "[[store]]\nid = \"A\"\n[limit]\nchannel = 0\n [limit]\r\nchannel = 1\n"
@@ -97,7 +97,7 @@ static SETUPS: [(&str, &str); 45] = wanted! {
     => "line 2 is \"type = bounded\"; a value is a number in digits, or a text in quotes";
     "[[store]]\nid = \"A\"\nchanel = 0\n"
     => "table 1 of store, \"A\", has the key \"chanel\", which is none of channel, id, size, type and start";
-    "[[limits]]\nchannel = 0\n" => "the key \"limits\" is none of limit, store and route";
+    "[[limits]]\nchannel = 0\n" => "the key \"limits\" is none of limit, store, route and arrivals";
     "[[store]]\nid = \"A\"\nsize = 1953125\n"
     => "table 1 of store, \"A\", has size = 1953125; 1 to 1000000 can be; a block is room for one packet; plan more \
         in coarser units: docs/PLANNING.md, 'Limits of scale'";
@@ -111,6 +111,18 @@ static SETUPS: [(&str, &str); 45] = wanted! {
     "[[store]]\nid = \"A\"\nsize = 4\ntype = \"bounded\"\nchannel = 0\n[[limit]]\nchannel = 0\nblocks = \
         1\n[[limit]]\nchannel = 0\nblocks = 2\n"
     => "table 2 of limit has the channel of an earlier one; leave one of them out";
+    "arrivals = \"after\"\n[[store]]\nid = \"A\"\n"
+    => "the key arrivals is \"after\"; \"before\" and \"during\" can be";
+    "arrivals = \"During\"\n[[store]]\nid = \"A\"\n"
+    => "the key arrivals is \"During\"; \"during\" and \"before\" can be";
+    "arrivals = 1\nstore = []\n"
+    => "the key arrivals has no text; write \"before\" or \"during\", in quotes";
+    "arrival = \"during\"\n[[store]]\nid = \"A\"\n"
+    => "the key \"arrival\" is none of arrivals, store, route and limit";
+    "[[store]]\nid = \"A\"\narrivals = \"during\"\n"
+    => "table 1 of store, \"A\", has the key \"arrivals\", which is one of the top; write it above every table";
+    "arrivals = during\n[[store]]\nid = \"A\"\n"
+    => "line 1 is \"arrivals = during\"; a value is a number in digits, or a text in quotes";
 };
 
 fn setup_hints(rt: &impl Host, setup: &str, hint: &str) {
@@ -128,7 +140,7 @@ fn faults_of_setups_are_shown(rt: HostRuntime) {
 const SETUP: &str = "[[store]]\nid = \"A\"\nsize = 4\ntype = \"bounded\"\nchannel = 0\n";
 
 // Forecasts that are refused, the fault of each, and what is found in it.
-static FORECASTS: [(&str, Fault, &str); 14] = wanted! {
+static FORECASTS: [(&str, Fault, &str); 20] = wanted! {
     "PK\u{3}\u{4}\u{14}\0\u{6}\0;", Fault::Header
     => "the file is a workbook; save its sheet as a text file: CSV in UTF-8, with commas between the cells";
     "step,window,A\n1,2,\"3\n2,2,3\n", Fault::Cell { row: 1, column: 3 }
@@ -152,7 +164,22 @@ static FORECASTS: [(&str, Fault, &str); 14] = wanted! {
         it is read";
     "step,window\n1,2\n", Fault::Header => "the header has no column 3; \"A\" is expected there";
     "step,window,A,limit:1,limit:1\n1,2,3,4,5\n", Fault::Header
-    => "column 5 of the header is \"limit:1\"; after the stores can be limit:0 to limit:7 alone, rising";
+    => "column 5 of the header is \"limit:1\"; after the stores can be limit:0 to limit:7, rising, and then size: with \
+        stores";
+    "step,window,size:A,A\n1,2,3,4\n", Fault::Header
+    => "column 3 of the header is \"size:A\", and \"A\" is expected";
+    "step,window,A,size:a\n1,2,3,4\n", Fault::Header
+    => "column 4 of the header is \"size:a\"; the stores of the setup are A";
+    "step,window,A,limit:1,size:A,limit:2\n1,2,3,4,5,6\n", Fault::Header
+    => "column 6 of the header is \"limit:2\"; columns limit: come before columns size:";
+    "step,window,A,size:A,size:A\n1,2,3,4,5\n", Fault::Header
+    => "column 5 of the header is \"size:A\"; columns size: come in the setup's order, one for a store";
+    "step,window,A,size:A\n1,2,3,4\n\n2,2,3, 4\n", Fault::Cell { row: 2, column: 4 }
+    => "row 2 has \" 4\" in the column \"size:A\", where a whole number is expected; it is line 4 of the file, whose \
+        header is line 1";
+    "step,window,A,size:A\n1,2,3,1000001\n", Fault::Limit { name: Name::Size }
+    => "row 1 has \"1000001\" in the column \"size:A\", line 2 of the file; 0 to 1000000 can be; plan more in coarser \
+        units: docs/PLANNING.md, 'Limits of scale'";
     "step,window,store,arrived,lost,dumped,held\n1,2,A,3,0,2,1\n", Fault::Header
     => "the file holds the table of a plan in place of a forecast";
     "step,window,A,limit:1\n1,2,3,4\n\n2,2,3,1000001\n", Fault::Limit { name: Name::Limit }
@@ -197,7 +224,8 @@ fn the_first_wrong_column_of_a_long_header_is_shown(rt: HostRuntime) {
         &rt,
         Reason::of_setup(read.expect_err(&rt, "a fault")),
         texts_of(setup.as_str(), forecast.as_str(), ""),
-        "column 19 of the header is \"limit:9\"; after the stores can be limit:0 to limit:7 alone, rising",
+        "column 19 of the header is \"limit:9\"; after the stores can be limit:0 to limit:7, rising, and then size: with \
+            stores",
     );
 }
 

@@ -13,7 +13,7 @@ macro_rules! names {
 
 // Each refusal in the order of its number, from 0, by the tables of docs/FORMATS.md: five a line. It is printed with
 // its own name, or with the one beside it.
-static ALL: [(Refusal, &str); 55] = names! {
+static ALL: [(Refusal, &str); 56] = names! {
     NoMemory, Short, Version, NoSecondaryHeader, PusVersion,
     Segmented, IdlePacket "Idle", HeaderCut, TooLong, HoldsMore,
     NoSuchRoute, TableFull, NotSt15, UnknownSubtype, CountMismatch,
@@ -24,7 +24,8 @@ static ALL: [(Refusal, &str); 55] = names! {
     Shape, Unbounded, SameEnds, PlanShape, NotReady,
     SizeDiffers, OpeningDiffers, ClockTooLate, PlanDoesNotFit, Counts,
     NoMemoryInStep "NoMemory", LinkFailed, LogMismatch, BadSize, HexLine,
-    NotRead, SourcesText, LinksText, ChannelDiffers, TooManyReports
+    NotRead, SourcesText, LinksText, ChannelDiffers, TooManyReports,
+    NotFlyable
 };
 
 #[test]
@@ -65,7 +66,7 @@ fn each_refusal_has_words_of_its_own(rt: HostRuntime) {
         let found = Words::of_number(refusal.number());
         assert!(rt; found == Some(words), "{refusal}");
     }
-    assert!(rt; Words::of_number(55).is_none(), "a number of no refusal");
+    assert!(rt; Words::of_number(56).is_none(), "a number of no refusal");
 }
 
 static FINDINGS: [Verdict; 7] = [

@@ -25,5 +25,8 @@ returns-clause-last c = refl
 pub returns-clause-sent : goal.returns-clause-sent
 returns-clause-sent c = refl
 
+pub returns-clause-size : goal.returns-clause-size
+returns-clause-size c = refl
+
 pub returns-clause-saved : goal.returns-clause-saved
 returns-clause-saved c = refl

@@ -30,7 +30,7 @@ now_inner q ds t i c d within is some =
     sym (more ∙ ap (λ e. is_inner_on q (take i ds) t c || goes_past_on q t c e) (sym is) ∙ ap (λ b. is_inner_on q (take i ds) t c || b) some ∙ or_true (is_inner_on q (take i ds) t c))
 
 -- a channel that is marked
-marked : (q : Dumping) (ds : List Stretch) (inner : List Bool) (t i c : ℕ) (d : Stretch) → i < length ds → d ≡ get_or ds i d → goes_past t d ≡ true → channel_of q d < length inner
+marked : (q : Dumping) (ds : List Stretch) (inner : List Bool) (t i c : ℕ) (d : Stretch) → i < length ds → d ≡ get_or ds i d → goes_past q t d ≡ true → channel_of q d < length inner
     → get_or inner c false ≡ is_inner_on q (take i ds) t c → get_or (set inner (channel_of q d) true) c false ≡ is_inner_on q (take (i + 1) ds) t c
 marked q ds inner t i c d within is past below so_far = elim (eqb_tells (channel_of q d) c) [
   | inl same ↦
@@ -49,14 +49,14 @@ loop-stretch-preserved c =
     let d = c.stretch-item.result in
     elim c.if-goes_past.branch [
       | then-goes_past w ↦
-          let past : goes_past c.args.step d ≡ true = sym c.goes_past.ensures ∙ w.if-goes_past.true in
+          let past : goes_past q c.args.step d ≡ true = sym c.goes_past.ensures ∙ w.if-goes_past.true in
           let own = w.channel_of.ensures.channel in
           rw w.inner-is (record {
             channels = omega (arith, length-set c.loop-stretch.inner w.channel_of.result true, c.loop-stretch.invariant.channels);
             inner = λ k below. rw own (marked q ds c.loop-stretch.inner c.args.step i k d c.loop-stretch-test.true c.stretch-item.is past (omega (arith, own, w.channel_of.ensures.most, c.loop-stretch.invariant.channels)) (c.loop-stretch.invariant.inner k below));
           })
       | else-goes_past w ↦
-          let past : goes_past c.args.step d ≡ false = sym c.goes_past.ensures ∙ w.if-goes_past.false in
+          let past : goes_past q c.args.step d ≡ false = sym c.goes_past.ensures ∙ w.if-goes_past.false in
           rw w.inner-is (record {
             channels = c.loop-stretch.invariant.channels;
             inner = λ k below. c.loop-stretch.invariant.inner k below ∙ not_inner q ds c.args.step i k d c.loop-stretch-test.true c.stretch-item.is (rw past refl);

@@ -7,6 +7,6 @@ use Rattle.mm_cut.proofs.bounds.limits_sum.Given as goal
 
 abbrev pub invariant-loop-step : goal.invariant-loop-step
 invariant-loop-step l = record {
-  sum : l.sum ≡ sum_by (limit_sum l.problem l.marks.stretches.now) (filter (counts_limits l.marks.stretches.now l.marks.counts.now) (range_with_len 1 (l.step - 1)));
+  sum : l.sum ≡ sum_by (limit_sum l.marks.problem.now l.marks.stretches.now) (filter (counts_limits l.marks.problem.now l.marks.stretches.now l.marks.counts.now) (range_with_len 1 (l.step - 1)));
   most : l.sum ≤ (l.step - 1) * (CHANNELS * MAX_BLOCKS);
 }

@@ -8,6 +8,6 @@ use Rattle.mm_cut.proofs.bounds.windows_sum.Given as goal
 
 abbrev pub invariant-loop-step : goal.invariant-loop-step
 invariant-loop-step l = record {
-  sum : l.sum ≡ sum_by (window l.problem) (filter (counts_window l.marks.stretches.now l.marks.counts.now) (range_with_len 1 (l.step - 1)));
+  sum : l.sum ≡ sum_by (window l.marks.problem.now) (filter (counts_window l.marks.problem.now l.marks.stretches.now l.marks.counts.now) (range_with_len 1 (l.step - 1)));
   most : l.sum ≤ (l.step - 1) * MAX_BLOCKS;
 }

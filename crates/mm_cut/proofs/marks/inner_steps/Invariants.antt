@@ -7,5 +7,5 @@ use Rattle.mm_cut.proofs.marks.inner_steps.Given as goal
 abbrev pub invariant-loop-stretch : goal.invariant-loop-stretch
 invariant-loop-stretch l = record {
   places : length l.inner ≡ STEP_PLACES;
-  inner : (t : ℕ) → get_or l.inner t false ≡ is_inner (take l.stretch-index l.stretches) t;
+  inner : (t : ℕ) → get_or l.inner t false ≡ is_inner l.problem (take l.stretch-index l.stretches) t;
 }

@@ -20,15 +20,17 @@ pub loop-step-preserved : goal.loop-step-preserved
 loop-step-preserved c = record {
   shape = c.use_rest.ensures.shape;
   places = omega arith;
-  done = done_more c.args.problem.now (amount c.args.plan.now) (amount c.loop-step.filled) (amount c.lower_to_written.new.plan) (amount c.use_rest.new.plan) c.loop-step.step c.loop-step.left c.use_rest.new.left (omega arith) (omega arith) c.loop-step.invariant.done c.lower_to_written.ensures.others c.lower_to_written.ensures.lowered c.use_rest.ensures.filled;
+  done = done_more c.args.problem.now (amount c.args.plan.now) (amount c.loop-step.filled) (amount c.lower_to_written.new.plan) (amount c.use_rest.new.plan) c.loop-step.step c.loop-step.left c.use_rest.new.left c.hold.new.left (omega arith) (omega arith) c.loop-step.invariant.done c.lower_to_written.ensures.others c.lower_to_written.ensures.lowered c.use_rest.ensures.filled c.hold.ensures.held;
 }
 
 pub returns-clause-fits : goal.returns-clause-fits
 returns-clause-fits c =
-    let all : c.loop-step.step ≡ length c.args.problem.now.windows + 1 = omega arith in
+    let all : c.loop-step.step ≡ length c.args.problem.now.windows + 1 =
+    omega (arith, c.loop-step.auto.step-end (omega arith)) in
     done_fits c.args.problem.now (amount c.args.plan.now) (amount c.loop-step.filled) c.loop-step.step c.loop-step.left all c.loop-step.invariant.done
 
 pub returns-clause-no_worse : goal.returns-clause-no_worse
 returns-clause-no_worse c =
-    let all : c.loop-step.step ≡ length c.args.problem.now.windows + 1 = omega arith in
+    let all : c.loop-step.step ≡ length c.args.problem.now.windows + 1 =
+    omega (arith, c.loop-step.auto.step-end (omega arith)) in
     done_no_worse c.args.problem.now (amount c.args.plan.now) (amount c.loop-step.filled) c.loop-step.step c.loop-step.left all c.loop-step.invariant.done

@@ -18,4 +18,4 @@ returns-clause-used c = λ stays.
     let own = c.channel-channel.ensures.channel in
     let below : channel c.args.problem.now c.args.store < CHANNELS = omega (arith, own, c.channel-channel.ensures.most) in
     let all : c.min-more.result ≡ c.room.result = omega (arith, stays) in
-    used_raised c.args.problem.now (amount c.set.new.self) c.args.store c.args.step c.min-more.result _ _ _ _ below (returns-clause-rest c) c.take.ensures.idle (rw own at c.take.ensures.here) (rw own at (all ∙ c.room.ensures))
+    used_raised c.args.problem.now (amount c.set.new.self) c.args.store c.args.step c.min-more.result _ _ _ _ below (returns-clause-rest c) c.take.ensures.idle (rw own at c.take.ensures.here) (rw own at (all ∙ c.room.ensures.room))

@@ -1,9 +1,20 @@
 use Rattle.std.proofs.Common.{◌≡◌, ◌<◌, length, arith}
+use Rattle.mm_base.proofs.RangeSums.{term-le-sum_by_range}
+use Rattle.mm_plan.specs.Fit.{in_step}
 use Rattle.mm_plan.specs.Table.{amount}
 use Rattle.mm_plan.proofs.Lowering.{shape_kept}
-use Rattle.mm_plan.proofs.Raises.{rest_fits}
+use Rattle.mm_plan.proofs.Raises.{rest_fits, window_most}
 use Rattle.mm_plan.proofs.Rests.{served_more, served_all}
 use Rattle.mm_plan.proofs.filling.use_rest.Goals as goal
+
+pub raise-requires-clause-most : goal.raise-requires-clause-most
+raise-requires-clause-most c =
+    let below : c.loop-store.store < length c.args.problem.now.rows = omega arith in
+    let within = term-le-sum_by_range (in_step (amount c.loop-store.plan) c.args.step) 0
+    (length c.args.problem.now.rows) c.loop-store.store (omega arith) (omega arith) in
+    let window = window_most c.args.problem.now c.args.step c.stores-store-end.ensures.is_dumping c.requires.first
+    c.requires.last in
+    omega (arith, within, window, c.loop-store.invariant.rest.windowed)
 
 pub loop-store-preserved : goal.loop-store-preserved
 loop-store-preserved c =

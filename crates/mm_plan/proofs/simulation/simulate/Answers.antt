@@ -1,7 +1,7 @@
 use Rattle.std.proofs.Common.{◌+◌, ◌*◌, length, refl, ap, arith}
 use Rattle.mm_plan.specs.Table.{amount}
 use Rattle.mm_plan.specs.Tabled.{AreTabled}
-use Rattle.mm_plan.specs.declared.simulation.StepVolumes.{StepVolumes}
+use Rattle.mm_plan.specs.declared.turn.StepVolumes.{StepVolumes}
 use Rattle.mm_plan.proofs.Tabling.{last_place, table_place}
 use Rattle.mm_plan.proofs.simulation.simulate.Goals as goal
 

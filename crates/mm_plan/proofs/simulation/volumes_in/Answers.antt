@@ -1,6 +1,6 @@
-use Rattle.std.proofs.Common.{◌≡◌, ◌+◌, ◌-◌, arith}
+use Rattle.std.proofs.Common.{◌-◌, refl, ◌∙◌, arith}
 use Rattle.mm_plan.specs.Table.{amount}
-use Rattle.mm_plan.specs.Volumes.{Amounts, written, left, lost}
+use Rattle.mm_plan.specs.Volumes.{Amounts}
 use Rattle.mm_plan.proofs.Steps.{left_step}
 use Rattle.mm_plan.proofs.simulation.volumes_in.Goals as goal
 
@@ -11,7 +11,11 @@ returns c =
     let s = c.args.store in
     let t = c.args.step in
     let kept = left_step q x s (t - 1) t (omega arith) in
-    let is_written : c.min-written.result ≡ written q x s t = omega arith in
-    let is_left : c.min-written.result - c.min.result ≡ left q x s t = omega (arith, kept, is_written) in
-    let is_lost : c.args.before + c.arrivals.result - c.min-written.result ≡ lost q x s t = omega (arith, is_written) in
-    cc (is_written, is_left, is_lost)
+    c.turn.ensures.volumes ∙ rw (
+      kept,
+      c.come.ensures.come,
+      c.size_in-size.ensures.size,
+      c.requires.before,
+      c.arrivals.ensures.arrivals,
+      c.amount.ensures.amount,
+    ) refl

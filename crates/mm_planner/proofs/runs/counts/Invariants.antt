@@ -6,4 +6,4 @@ use Rattle.mm_planner.specs.Runs.{is_by_channels}
 use Rattle.mm_planner.proofs.runs.counts.Given as goal
 
 abbrev pub invariant-loop-step : goal.invariant-loop-step
-invariant-loop-step l = l.counts.items ≡ filter (is_by_channels (side_of l.side) l.stretches) (range_with_len 1 (l.step - 1))
+invariant-loop-step l = l.counts.items ≡ filter (is_by_channels l.problem (side_of l.side) l.stretches) (range_with_len 1 (l.step - 1))

@@ -3,7 +3,7 @@ use Rattle.std.proofs.lemmas.Result.{err_from_is_err_and}
 use Rattle.csv.specs.Records.{fields_of}
 use Rattle.mm_base.specs.Reading.{◌>>=◌}
 use Rattle.mm_problem.specs.Forecast.{steps_in, no_steps, some_steps}
-use Rattle.mm_problem.specs.StepLists.{steps_of}
+use Rattle.mm_problem.specs.StepLists.{columns_of, steps_of}
 use Rattle.mm_problem.proofs.ForecastRows.{same_rows, no_row, row_fault, row_found}
 use Rattle.mm_problem.proofs.steps.read_steps.Goals as goal
 
@@ -11,10 +11,11 @@ pub rows-init : goal.rows-init
 rows-init c = record {
   most = omega (arith, c.new.ensures.len);
   limited = c.requires.limited;
+  sized = c.requires.sized;
   rows = c.requires.reading.0;
   has = c.requires.reading.1;
-  left = λ all has. rw (c.new.ensures.items, c.new-2.ensures.items, c.new-3.ensures.items)
-      (ap (λ rows. steps_in c.args.stores (no_steps c.args.limited.items) rows >>= some_steps)
+  left = λ all has. rw (c.new.ensures.items, c.new-2.ensures.items, c.new-3.ensures.items, c.new-4.ensures.items)
+      (ap (λ rows. steps_in c.args.stores (no_steps (columns_of c.args.columns)) rows >>= some_steps)
       (same_rows c.args.reader.now c.requires.reading.0 all c.requires.reading.1 has));
 }
 
@@ -37,6 +38,7 @@ rows-preserved c =
     record {
       most = c.in_ok-next_step.ensures.most;
       limited = c.in_ok-next_step.ensures.limited;
+      sized = c.in_ok-next_step.ensures.sized;
       rows = found.rows;
       has = found.has;
       left = λ all has. found.left ∙ c.rows.invariant.left all has;

@@ -8,8 +8,12 @@ use Rattle.mm_rest.proofs.document.print_setup.Goals as goal
 
 pub returns-in-Ok : goal.returns-in-Ok
 returns-in-Ok c =
-    let rows : SetupRows =
-    record { stores = c.args.stores.now; routes = c.args.routes.now; limits = c.args.limits.now } in
+    let rows : SetupRows = record {
+      stores = c.args.stores.now;
+      routes = c.args.routes.now;
+      limits = c.args.limits.now;
+      come = c.args.come;
+    } in
     let octets : c.into_bytes.result.items ≡ string_bytes c.in-Ok.text = ap (λ v. v.items) c.into_bytes.ensures.value in
     ap setup_of octets
     ∙ setup_read rows (string_bytes c.in-Ok.text) (table_view c.in_ok-table.table) c.setups.ensures c.requires

@@ -11,19 +11,19 @@ rest-requires-clause-as_many c =
 
 pub unreachable-requires : goal.unreachable-requires
 unreachable-requires c =
-    let is = rest_is c.args.problem.now (amount c.args.plan.now) c.args.step c.args.held.now
+    let is = rest_is c.args.problem.now (amount c.args.plan.now) c.args.step c.args.held.now c.requires.first
     c.stores-stores.ensures.is_dumping c.requires.held in
     let refused = c.in-Err.ensures.rest c.in_default.not-NoMemory in
     cc (sym is ∙ refused)
 
 pub returns-in-Ok-clause-rest : goal.returns-in-Ok-clause-rest
 returns-in-Ok-clause-rest c =
-    let is = rest_is c.args.problem.now (amount c.args.plan.now) c.args.step c.args.held.now
+    let is = rest_is c.args.problem.now (amount c.args.plan.now) c.args.step c.args.held.now c.requires.first
     c.stores-stores.ensures.is_dumping c.requires.held in
     ok_same _ _ (sym c.in-Ok.ensures.rest ∙ is)
 
 pub returns-in-Ok-clause-within : goal.returns-in-Ok-clause-within
 returns-in-Ok-clause-within c =
-    let is = rest_is c.args.problem.now (amount c.args.plan.now) c.args.step c.args.held.now
+    let is = rest_is c.args.problem.now (amount c.args.plan.now) c.args.step c.args.held.now c.requires.first
     c.stores-stores.ensures.is_dumping c.requires.held in
     subst IsDumping (ok_same _ _ (sym c.in-Ok.ensures.rest ∙ is)) c.steps-steps.ensures.is_dumping

@@ -1,7 +1,9 @@
 use Rattle.std.proofs.Common.{◌≡◌, length, arith}
+use Rattle.std.specs.Option.{option_copied}
 use Rattle.mm_run.specs.Runs.{opened_with}
 use Rattle.mm_run.proofs.NotTaken.{tells_untaken}
 use Rattle.mm_run.proofs.Offered.{within_limits}
+use Rattle.mm_run.proofs.Scripts.{refused_by_script}
 use Rattle.mm_run.proofs.run.prepare_run.Goals as goal
 
 pub invariant_of-result-clause-within : goal.invariant_of-result-clause-within
@@ -36,3 +38,12 @@ returns-clause-prepared c = record {
       c.in_ok-opening.ensures.untaken table);
   lost_before = rw c.in_ok-printed.ensures.given c.lost_in.ensures;
 }
+
+pub returns-in_err-opening-clause-refused : goal.returns-in_err-opening-clause-refused
+returns-in_err-opening-clause-refused c =
+    let start = c.in_ok-start.start in
+    refused_by_script (option_copied c.args.plan) c.args.texts.setup.now c.args.texts.forecast.now
+    c.args.texts.sources.now c.args.texts.links.now start.problem start.memory c.in_ok-sheet.sheet
+    (record { problem_says = c.in_ok-start.ensures.found; plan_says = c.in_ok-sheet.ensures.found })
+    c.in_err-opening.field-0.0 c.in_err-opening.ensures.refused c.from_residual-in_err-opening.result
+    c.from_residual-in_err-opening.ensures.1

@@ -2,7 +2,7 @@ use Rattle.std.proofs.Common.{◌≡◌, ◌-◌, ◌++◌, map}
 use Rattle.std.specs.Prelude.{filter}
 use Rattle.std.specs.List.{flat_map, range_with_len}
 use Rattle.mm_sensitivity.specs.declared.item.Item.TheVariants.{Window, Size, Limit}
-use Rattle.mm_sensitivity.specs.Items.{has_limit, column_items}
+use Rattle.mm_sensitivity.specs.Items.{has_limit, column_items, size_items}
 use Rattle.mm_sensitivity.proofs.item.items.Given as goal
 
 -- each loop adds its numbers to those that were there
@@ -19,3 +19,7 @@ invariant-loop-channel l =
 abbrev pub invariant-loop-column : goal.invariant-loop-column
 invariant-loop-column l =
     l.items.items ≡ l.initial.items.items ++ flat_map (column_items l.problem) (range_with_len 0 l.column)
+
+abbrev pub invariant-loop-sizes : goal.invariant-loop-sizes
+invariant-loop-sizes l =
+    l.items.items ≡ l.initial.items.items ++ flat_map (size_items l.problem) (range_with_len 0 l.sizes)

@@ -10,7 +10,7 @@ use mm_plan::simulate;
 use mm_problem::read_problem;
 
 // For each series its number in the first step and in the last, the sum and the largest number.
-static NUMBERS: [(Series, [u64; 4]); 12] = [
+static NUMBERS: [(Series, [u64; 4]); 13] = [
     (Series::WindowCounts, [1, 0, 2, 1]),
     (Series::CountedWindow, [2, 0, 4, 2]),
     (Series::Window, [2, 0, 4, 2]),
@@ -20,9 +20,10 @@ static NUMBERS: [(Series, [u64; 4]); 12] = [
     (Series::LimitsCount, [0, 0, 0, 0]),
     (Series::Inner(0), [1, 0, 2, 1]),
     (Series::Last(0), [0, 1, 1, 1]),
-    (Series::Written(0), [3, 4, 11, 4]),
+    (Series::LeftAndSent(0), [3, 4, 11, 4]),
     (Series::Left(0), [1, 4, 7, 4]),
     (Series::Lost(0), [0, 2, 2, 2]),
+    (Series::Size(0), [4, 4, 12, 4]),
 ];
 
 // These numbers of a picture with three steps.
@@ -82,7 +83,7 @@ fn shown_by_fields(rt: &impl Runtime, picture: &Picture) -> String {
     let sheet = read_sheet(rt.alloc(), problem, FIRST_RUN.as_bytes()).expect(rt, "a plan");
     let volumes = simulate(rt.alloc(), problem, sheet.plan()).expect(rt, "memory");
     let shown = format!(in rt.alloc();
-        "Picture {{ problem: {problem:?}, sheet: {sheet:?}, verdict: {verdict:?}, volumes: {volumes:?}, worth: None, shades: [Shade {{ store: 0, channel: 0, first: 1, last: 3 }}] }}"
+        "Picture {{ problem: {problem:?}, sheet: {sheet:?}, verdict: {verdict:?}, volumes: {volumes:?}, worth: None, shades: [Shade {{ store: 0, channel: 0, first: 1, last: 3, end: 3 }}] }}"
     );
     shown.expect(rt, "memory")
 }

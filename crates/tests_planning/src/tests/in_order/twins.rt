@@ -2,6 +2,7 @@
 ghost use Rattle.std.specs.Prelude.{◌≤◌, length};
 ghost use Rattle.mm_plan.specs.Table.{HasShape};
 
+use crate::tests::kinds::WAYS;
 use crate::tests::samples::{Runtime, is_least, limited, made};
 use crate::tests::twins::proposals::{FAMILIES, Numbers};
 use crate::tests::twins::small_problems;
@@ -11,16 +12,17 @@ use mm_plan::{Certificate, Plan, Sheet, first_loss};
 use mm_planner::{plan, plan_in_order_by_flow, sheet_in_order};
 use mm_problem::{Kind, MAX_BLOCKS, Problem, StoreRow};
 
-// The first stores of the problem.
-fn first_rows(rt: &impl Runtime, problem: &Problem, stores: usize) -> Vec<StoreRow>
+// The first stores of the problem, which are empty at the start after a number of them.
+fn first_rows(rt: &impl Runtime, problem: &Problem, stores: usize, served: usize) -> Vec<StoreRow>
     requires { stores ≤ length problem.now.rows }
 {
     let mut rows = Vec::new(rt.alloc());
     for store in 0..stores {
+        let is_served = store < served;
         let row = StoreRow {
             id: problem.id(store),
-            size: problem.size(store),
-            start: problem.start(store),
+            size: problem.setup_size(store),
+            start: if is_served { problem.start(store) } else { 0 },
             kind: Kind::Bounded,
             channel: problem.channel(store),
         };
@@ -71,15 +73,38 @@ fn limited_as(rt: &impl Runtime, problem: &Problem, other: &Problem) -> Problem 
     limited(rt, problem, &channels, &limits)
 }
 
-// The problem with its first stores, in which blocks arrive only in a number of these.
+// The problem with arrivals and sizes by step as those of another one.
+fn stepped_as(rt: &impl Runtime, problem: &Problem, other: &Problem) -> Problem {
+    let mut stores = Vec::new(rt.alloc());
+    for store in other.sized() {
+        if (*store as usize) < problem.stores() {
+            stores.push(*store).expect(rt, "memory");
+        }
+    }
+    let mut sizes = Vec::new(rt.alloc());
+    for step in 1..other.steps() + 1 {
+        for store in stores.iter() {
+            let place = *store as usize;
+            assert!(rt; place < other.stores());
+            sizes.push(other.size(place, step)).expect(rt, "memory");
+        }
+    }
+    let stepped = problem.with_arrivals(rt.alloc(), other.come());
+    let stepped = stepped.expect(rt, "memory");
+    let stepped = stepped.with_step_sizes(rt.alloc(), &stores, &sizes);
+    stepped.expect(rt, "a problem")
+}
+
+// The problem with its first stores, in which blocks are and arrive only in a number of these.
 fn narrowed(rt: &impl Runtime, problem: &Problem, stores: usize, served: usize) -> Problem
     requires { stores ≤ length problem.now.rows }
 {
-    let rows = first_rows(rt, problem, stores);
+    let rows = first_rows(rt, problem, stores, served);
     let windows = windows(rt, problem);
     let arrivals = first_arrivals(rt, problem, stores, served);
     let narrow = made(rt, &rows, &[], &windows, &arrivals);
-    limited_as(rt, &narrow, problem)
+    let limited = limited_as(rt, &narrow, problem);
+    stepped_as(rt, &limited, problem)
 }
 
 // The plan in order, whose certificates show that it loses least in that order.
@@ -95,7 +120,7 @@ fn planned(rt: &impl Runtime, problem: &Problem) -> Sheet
 }
 
 // The least loss of the first stores, of all plans that fit, is this. It is found by plans of a problem in which
-// nothing arrives in the other stores, so that these lose nothing.
+// nothing is in the other stores and nothing arrives there, so that these lose nothing.
 fn is_least_of_all_plans(rt: &impl Runtime, problem: &Problem, plan: &Plan, stores: usize)
     requires shape { HasShape problem.now plan.now }
     requires stores { stores ≤ length problem.now.rows }
@@ -149,11 +174,13 @@ fn the_first_stores_lose_no_more_than_by_the_best_of_all_plans(rt: HostRuntime) 
 
 #[test]
 fn the_first_of_three_stores_lose_no_more_than_by_all_plans(rt: HostRuntime) {
-    let mut state = 17;
-    for _ in 0..16u32 {
-        let numbers = worths::Numbers::made(&rt, &mut state, 3, 2);
-        let problem = numbers.problem(&rt);
-        are_least_of_all_plans(&rt, &problem);
+    for way in &WAYS {
+        let mut state = 17;
+        for _ in 0..16u32 {
+            let numbers = worths::Numbers::made(&rt, &mut state, 3, 2);
+            let problem = way.of(&rt, &numbers.problem(&rt), &mut state, 2);
+            are_least_of_all_plans(&rt, &problem);
+        }
     }
 }
 
@@ -198,14 +225,17 @@ fn are_least_alone(rt: &impl Runtime, problem: &Problem) -> bool {
     each_is_least_alone(rt, problem, sheet.plan(), &unordered)
 }
 
-// The same in problems of each family, with limits for each step or without.
+// The same in problems of each family, two of each way, with limits for each step or without.
 fn of_each_family_are_least_alone(rt: &impl Runtime, seed: u64, is_limited: bool) {
     let mut numbers = Numbers::seeded(seed);
+    let mut state = 19;
     let mut others: u32 = 0;
-    for _ in 0..8u32 {
+    for round in 0..8usize {
+        let way = &WAYS[round % 4];
         for family in &FAMILIES {
             let shape = numbers.shape(1, 14, is_limited);
             let problem = family.problem(rt, shape, &mut numbers);
+            let problem = way.of(rt, &problem, &mut state, 4);
             let is_other = are_least_alone(rt, &problem);
             others = others.saturating_add(u32::from(is_other));
         }

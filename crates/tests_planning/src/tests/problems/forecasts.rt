@@ -114,7 +114,7 @@ fn is_store(
     let store = id(rt, text);
     assert!(rt; problem.place(&store) == Some(place), "{text}");
     assert!(rt; place < problem.stores() && problem.id(place) == store);
-    let (size, start) = (problem.size(place), problem.start(place));
+    let (size, start) = (problem.setup_size(place), problem.start(place));
     assert!(rt; (size, start, problem.channel(place)) == wanted, "{text}");
 }
 

@@ -3,7 +3,8 @@
 use crate::tests::links::new_links;
 use crate::tests::runs::rows::{Run, halted, run};
 use crate::tests::runs::trials::{
-    Ended, FIRST_RUN, Left, NO_STEP, TWO_PASSES, Trial, Why, left, outcome_of,
+    DURING_RUN, Ended, FIRST_RUN, Left, NO_STEP, SAID_RUN, SIZED_RUN, TWO_PASSES, Trial, Why, left,
+    outcome_of,
 };
 use crate::tests::sources::scripts;
 use mm_dump::{MemoryLink, may_fail};
@@ -39,10 +40,17 @@ fn flown<R: Threads + Wait + Sync + Abort>(
     outcome_of(run)
 }
 
-// What was forecast comes, and what was printed is lost; a link fails; and there is no link, so the run does not begin.
-static FLIGHTS: [Run; 3] = [
+// What was forecast comes, and what was printed is lost; a link fails; and there is no link, or no run can carry out the
+// steps, so the run does not begin.
+static FLIGHTS: [Run; 6] = [
     run! {
         "as forecast", FIRST_RUN, [3, 3, 4] =>
+        "step 1 SCI arrived 3 lost 0 dumped 2 held 1\nstep 2 SCI arrived 3 lost 0 dumped 2 held 2\n\
+            step 3 SCI arrived 4 lost 2 dumped 0 held 4\ntotal arrived 10 lost 2 dumped 4 held 4\n";
+        left!("SCI", [10, 2, 4], [(5, 5), (6, 6), (7, 7), (8, 8)], [1, 2, 3, 4])
+    },
+    run! {
+        "as forecast, with arrivals that are said to come before dumps", SAID_RUN, [3, 3, 4] =>
         "step 1 SCI arrived 3 lost 0 dumped 2 held 1\nstep 2 SCI arrived 3 lost 0 dumped 2 held 2\n\
             step 3 SCI arrived 4 lost 2 dumped 0 held 4\ntotal arrived 10 lost 2 dumped 4 held 4\n";
         left!("SCI", [10, 2, 4], [(5, 5), (6, 6), (7, 7), (8, 8)], [1, 2, 3, 4])
@@ -54,6 +62,14 @@ static FLIGHTS: [Run; 3] = [
     },
     halted! {
         "a refused flight", FIRST_RUN, [3, 3, 4], until [] => Why::Counts, spent 0, rest [3, 3, 4], NO_STEP;
+        left!("SCI", [0, 0, 0], [], [])
+    },
+    halted! {
+        "arrivals during dumps", DURING_RUN, [3, 3, 4], until [] => Why::NotFlyable, spent 0, rest [3, 3, 4], NO_STEP;
+        left!("SCI", [0, 0, 0], [], [])
+    },
+    halted! {
+        "sizes by step", SIZED_RUN, [3, 3, 4], until [] => Why::NotFlyable, spent 0, rest [3, 3, 4], NO_STEP;
         left!("SCI", [0, 0, 0], [], [])
     },
 ];

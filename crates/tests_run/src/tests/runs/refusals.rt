@@ -4,8 +4,8 @@ use crate::tests::links::all_have_sent;
 use crate::tests::runs::rows::{Run, run};
 use crate::tests::runs::standing::standing;
 use crate::tests::runs::trials::{
-    Change, FIRST_RUN, Found, Left, NO_STEP, ONE_STORE, TOO_LATE, TWO_PASSES, Task, Trial, Why,
-    cause_of, has_text, left, setup,
+    Change, DURING_RUN, FIRST_RUN, Found, Left, NO_STEP, ONE_STORE, SIZED_RUN, TOO_LATE,
+    TWO_PASSES, Task, Trial, Why, cause_of, has_text, left, setup,
 };
 use crate::tests::samples::{id, memory_of};
 use crate::tests::sources::all_have_left;
@@ -112,7 +112,7 @@ const FIRST: Refused = Refused {
 
 // Of a store that is missing and one that is none of the problem's, the missing one is told. A store whose last storage
 // time is late refuses a run, also when the packet has been deleted.
-static REFUSED: [Refused; 16] = refused! {
+static REFUSED: [Refused; 18] = refused! {
     "a late moment", FIRST base TOO_LATE => Why::ClockTooLate;
     "a late moment, on another channel without a limit", FIRST memory ON_CHANNEL_5, base TOO_LATE
     => Why::ClockTooLate;
@@ -121,6 +121,8 @@ static REFUSED: [Refused; 16] = refused! {
     "no source", FIRST sources 0 => Why::Counts;
     "nine sources", FIRST sources 9 => Why::Counts;
 
+    "arrivals during dumps", FIRST task DURING_RUN => Why::NotFlyable;
+    "sizes by step", FIRST task SIZED_RUN => Why::NotFlyable;
     "a plan of two steps", FIRST plan TWO_STEPS => Why::PlanShape;
     "a plan of two stores", FIRST plan OF_TWO_STORES => Why::PlanShape;
     "a plan above its window", FIRST plan THREE_IN_STEP_1 => Why::PlanDoesNotFit(1);
@@ -156,8 +158,10 @@ const WRONG: Refused = Refused {
 };
 
 // Of several causes the first is told. With each row one cause is taken away.
-static IN_ORDER: [Refused; 7] = refused! {
-    "all is wrong", WRONG plan TWO_STEPS => Why::PlanShape;
+static IN_ORDER: [Refused; 9] = refused! {
+    "all is wrong", WRONG task DURING_RUN, plan TWO_STEPS => Why::NotFlyable;
+    "but the arrivals", WRONG task SIZED_RUN, plan TWO_STEPS => Why::NotFlyable;
+    "but the sizes by step", WRONG plan TWO_STEPS => Why::PlanShape;
     "but the plan's shape", WRONG => Why::At(Found::NotReady, "SCI");
     "but the storage", WRONG changes &[Change::Offer(TOO_LATE, 900), Change::Off, Change::On]
     => Why::At(Found::SizeDiffers, "SCI");

@@ -19,14 +19,16 @@ use std::sync::Wait;
 use std::thread::Threads;
 use work_parts::Bursts;
 
-// The text of a setup: stores, each with a route of its own for telemetry of an APID, service 3, subtype 25, and
-// limits.
+// The text of a setup: when arrivals come, if it is said, stores, each with a route of its own for telemetry of an APID,
+// service 3, subtype 25, and limits.
 macro_rules! setup {
     (
+        $(arrivals $come:literal;)*
         $(store $id:literal, apid $apid:literal $(, $key:ident $value:literal)+;)+
         $(limit channel $channel:literal, blocks $blocks:literal;)*
     ) => {
         concat!(
+            $("arrivals = \"", $come, "\"\n\n",)*
             $(
                 "[[store]]\nid = \"", $id, "\"\n",
                 $(stringify!($key), " = ", stringify!($value), "\n",)+
@@ -73,6 +75,25 @@ pub(crate) const FIRST_RUN: Task = Task {
     setup: ONE_STORE,
     forecast: THREE_STEPS,
     plan: TWO_PASSES,
+};
+
+// The same, where the setup says that arrivals come before dumps.
+pub(crate) const SAID_RUN: Task = Task {
+    setup: setup! { arrivals "before"; store "SCI", apid 100, size 4, type "bounded", channel 0; },
+    ..FIRST_RUN
+};
+
+// The same, where arrivals come during dumps. No plan loses less: of ten packets two leave in each of two passes, and
+// four are held at the end.
+pub(crate) const DURING_RUN: Task = Task {
+    setup: setup! { arrivals "during"; store "SCI", apid 100, size 4, type "bounded", channel 0; },
+    ..FIRST_RUN
+};
+
+// The same, where the store has a size in each step, which is that of the setup.
+pub(crate) const SIZED_RUN: Task = Task {
+    forecast: "step,window,SCI,size:SCI\n1,2,3,4\n2,2,3,4\n3,0,4,4\n",
+    ..FIRST_RUN
 };
 
 // What the report of a run says of which no step was carried out.
@@ -170,6 +191,7 @@ pub(crate) fn has_text(rt: &impl Abort, alloc: Global, name: &str, report: &Repo
 pub(crate) enum Why {
     Counts,
     ClockTooLate,
+    NotFlyable,
     PlanShape,
     PlanDoesNotFit(u32),
     LinkFailed(u32),
@@ -188,6 +210,7 @@ pub(crate) fn cause_of(rt: &impl Abort, why: Why) -> Cause {
     let (found, store) = match why {
         Why::Counts => return Cause::Counts,
         Why::ClockTooLate => return Cause::ClockTooLate,
+        Why::NotFlyable => return Cause::NotFlyable,
         Why::PlanShape => return Cause::PlanShape,
         Why::PlanDoesNotFit(step) => return Cause::PlanDoesNotFit { step },
         Why::LinkFailed(step) => return Cause::LinkFailed { step },

@@ -1,6 +1,6 @@
 use Rattle.mm_carry.proofs.Words.{IsState, Held, stores_in, RunStart, run_start, Stops, MayBegin, state_of, ◌∙◌, length}
 use Rattle.mm_carry.proofs.Words.{refl, inl, inr, All, arith, ap, subst}
-use Rattle.mm_carry.proofs.Ended.{start_by, not_begun, ended_as}
+use Rattle.mm_carry.proofs.Ended.{always_ok, start_by, not_begun, ended_as}
 use Rattle.mm_carry.proofs.run_parts.RunParts.carry_plan.Goals.{After-ready}
 use Rattle.mm_carry.proofs.run_parts.RunParts.carry_plan.Given as given
 use Rattle.mm_carry.proofs.run_parts.RunParts.carry_plan.Goals as goal
@@ -72,8 +72,11 @@ returns g c =
     ) at c.carry_steps-ended.ensures.ended in
     let how = ended_as g.S.AnySource.leads g.S.AnySource.until g.L.Link.sent g.L.Link.failed c.args.run.now _ _ _
     c.carry_steps-ended.result ended in
+    let may = tested g (goal.at.returns g c).After-ready MayBegin c.in_default.ensures.ok in
     record {
       done = how.0;
       stopped = how.1;
       labels = rw (opened, ← c.open.view_is, ← c.close_all.ensures.stores) at c.carry_steps-ended.ensures.labels;
+      flyable = always_ok c.carry_steps-ended.result (may.flyable (omega arith));
+      not_flyable = λ not. absurd (not (may.flyable (omega arith)));
     }

@@ -1,4 +1,4 @@
-use Rattle.std.proofs.Common.{◌∙◌, ap}
+use Rattle.std.proofs.Common.{◌∙◌, ap, refl}
 use Rattle.mm_command_line.specs.Lines.{flight_spelling}
 use Rattle.mm_command_line.proofs.Parts.{flags_of}
 use Rattle.mm_command_line.proofs.task.FlightFiles.with_flags.Goals as goal
@@ -9,5 +9,5 @@ returns-in_err-ordered-in-Made-clause-none c =
     rw c.from_residual.ensures (λ task same flags.
     let spelled = same
     ∙ ap (flight_spelling run.setup.now run.forecast.now run.sources.now run.links.now) c.in-Made.is in
-    let own = flags_of task _ spelled in
+    let own = flags_of task _ spelled refl in
     c.in_err-ordered-in-Made.ensures.none own.0 (flags ∙ own.1))

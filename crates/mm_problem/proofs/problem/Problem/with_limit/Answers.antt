@@ -16,4 +16,5 @@ invariant_of-problem c =
         each = All-set IsLimit limits c.args.channel (Some c.args.blocks) c.requires.most old.channels.each;
       };
       by_step = old.by_step;
+      sizes = old.sizes;
     }

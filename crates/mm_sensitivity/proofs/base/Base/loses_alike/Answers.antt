@@ -4,7 +4,7 @@ use Rattle.mm_problem.specs.Dumping.{window}
 use Rattle.mm_cut.specs.Cuts.{counts_window}
 use Rattle.mm_sensitivity.specs.declared.item.Item.{Item}
 use Rattle.mm_sensitivity.specs.declared.item.Item.TheVariants.{Window}
-use Rattle.mm_sensitivity.specs.Items.{IsItem, number, fitted}
+use Rattle.mm_sensitivity.specs.Items.{IsItem, number, with_number}
 use Rattle.mm_sensitivity.specs.Worth.{IsLeastLoss}
 use Rattle.mm_sensitivity.proofs.Found.{alike_own, wider_least}
 use Rattle.mm_sensitivity.proofs.base.Base.loses_alike.Goals as goal
@@ -19,9 +19,9 @@ returns-then-now-blocks-2 c is =
     let item : IsItem q (Window t) = subst (IsItem q) here c.requires.item in
     let value : number q c.args.item ≡ window q t = ap (number q) here in
     let wider : window q t ≤ b = omega (arith, c.number-now.ensures.number, c.if-now-blocks-2.true) in
-    let other : counts_window p.certificate.cut p.certificate.by_channels t ≡ false = sym c.counts_window.ensures
+    let other : counts_window q p.certificate.cut p.certificate.by_channels t ≡ false = sym c.counts_window.ensures
     ∙ not-true c.counts_window.result is in
-    subst (λ (i : Item). IsLeastLoss (fitted q i b) p.certificate.loss) (sym here)
+    subst (λ (i : Item). IsLeastLoss (with_number q i b) p.certificate.loss) (sym here)
     (wider_least c.cuts_bound_losses.ensures q t b p.plan p.certificate.cut p.certificate.by_channels p.certificate.loss
     item.0 item.1 wider other c.requires.base.plan.shows_least)
 

@@ -1,0 +1,5 @@
+pub mod Joins
+pub mod LaterCuts
+pub mod KeptPlans
+pub mod KeptSheets
+pub mod KeptTexts

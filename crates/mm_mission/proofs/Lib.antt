@@ -1,0 +1,10 @@
+pub mod Tested
+pub mod Rising
+pub mod Tables
+pub mod Planning
+pub mod Rounded
+pub mod Grown
+pub mod Summed
+pub mod Timed
+pub mod Passed
+pub mod Arrived

@@ -1,0 +1,5 @@
+use Rattle.mm_mission.proofs.Summed.{observations_rise}
+use Rattle.mm_mission.proofs.laws.observations_rise.Goals as goal
+
+pub returns : goal.returns
+returns c = observations_rise

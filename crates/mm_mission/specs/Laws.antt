@@ -1,0 +1,146 @@
+-- What windows, limits and arrivals are, in the words of their subjects.
+use Rattle.std.specs.Prelude.{◌≡◌, ℕ, ◌+◌, ◌-◌, ◌*◌, ◌<◌, ◌≤◌, List, length, slice_index, Option, Some, None, Contains}
+use Rattle.std.specs.Prelude.{All, Bool, nat_le, ◌&&◌, filter, unwrap_or, if◌then◌else◌, IsTrue}
+use Rattle.std.specs.List.{sum_by, range_with_len}
+use Rattle.mm_base.specs.declared.limits.TheConstants.{CHANNELS}
+use Rattle.mm_problem.specs.Dumping.{Dumping, window, limit, arrivals, start}
+use Rattle.mm_mission.specs.declared.counter.Counter.TheVariants.{Sent, Come}
+use Rattle.mm_mission.specs.declared.parts.Rate.{Rate}
+use Rattle.mm_mission.specs.declared.parts.Span.{Span}
+use Rattle.mm_mission.specs.declared.parts.Pass.{Pass}
+use Rattle.mm_mission.specs.declared.parts.Observation.{Observation}
+use Rattle.mm_mission.specs.declared.dumps.Dump.{Dump}
+use Rattle.mm_mission.specs.Mission.{MissionRows, IsMission}
+use Rattle.mm_mission.specs.Flows.{elapsed, divisor, rate_on, counted, come_by, into}
+use Rattle.mm_mission.specs.Edges.{AreTimes, AreEdges}
+use Rattle.mm_mission.specs.Planned.{growth, is_limited, IsProblemOf}
+use Rattle.mm_mission.specs.Timeline.{is_in_pass, IsTimeline}
+
+-- ---- a number of units beside what flows at a rate in a time; both are compared as octets by microseconds
+
+-- the number is what flows, rounded down
+pub record IsRoundedDown (m : MissionRows) (r : Rate) (time units : ℕ) : Type 0 where
+  pub most : units * divisor m r ≤ r.octets * time
+  pub least : r.octets * time < (units + 1) * divisor m r
+
+-- the number is what flows, rounded up
+pub record IsRoundedUp (m : MissionRows) (r : Rate) (time units : ℕ) : Type 0 where
+  pub least : r.octets * time ≤ units * divisor m r
+  pub most : units * divisor m r < r.octets * time + divisor m r
+
+-- the number differs from what flows by less than one
+pub record IsWithinOne (m : MissionRows) (r : Rate) (time units : ℕ) : Type 0 where
+  pub most : units * divisor m r < r.octets * time + divisor m r
+  pub least : r.octets * time < (units + 1) * divisor m r
+
+-- ---- steps
+
+-- the n steps after the i-th lie in a span
+pub record LieIn (s : Span) (edges : List ℕ) (i n : ℕ) : Type 0 where
+  pub there : i + n < length edges
+  pub begin : s.begin ≤ slice_index edges i
+  pub end : slice_index edges (i + n) ≤ s.end
+
+-- how long they last
+abbrev pub time_of : List ℕ → ℕ → ℕ → ℕ
+time_of edges i n = slice_index edges (i + n) - slice_index edges i
+
+-- what they have together
+abbrev pub over : (ℕ → ℕ) → ℕ → ℕ → ℕ
+over each i n = sum_by each (range_with_len (i + 1) n)
+
+-- ---- laws
+
+-- in each step the window, the arrivals and the limits are what the mission's counts grow by; a channel has limits if
+-- and only if it has its own rate in some pass
+pub record GrowAt (m : MissionRows) (edges : List ℕ) (q : Dumping) (t : ℕ) : Type 0 where
+  pub window : window q t ≡ growth (counted m (Sent None)) edges t
+  pub arrivals : (s : ℕ) → s < length m.stores → arrivals q s t ≡ growth (counted m (Come s)) edges t
+  pub limits : (c : ℕ) → c < CHANNELS → limit q c t
+      ≡ (if is_limited m.passes c then Some (growth (counted m (Sent (Some c))) edges t) else None)
+
+-- so it is in each step
+abbrev pub StepsGrow : Type 0
+StepsGrow = (m : MissionRows) (edges : List ℕ) (q : Dumping) (t : ℕ) → IsProblemOf m edges q → 1 ≤ t → t < length edges
+    → GrowAt m edges q t
+
+-- what a problem lets through in a step: in all, or of a channel that has limits
+abbrev pub room : Dumping → Option ℕ → ℕ → ℕ
+room q None t = window q t
+room q (Some c) t = unwrap_or (limit q c t) 0
+
+-- the channel has limits
+abbrev pub HasRoom : MissionRows → Option ℕ → Type 0
+HasRoom m None = Unit {0}
+HasRoom m (Some c) = (c < CHANNELS) × IsTrue (is_limited m.passes c)
+
+-- over steps that lie in a pass, windows add up to what the link can send in that time, and so do the limits of a
+-- channel, but for less than one unit; from the pass's begin on that is rounded down
+abbrev pub RoomsAddUp : Type 0
+RoomsAddUp = (m : MissionRows) (edges : List ℕ) (q : Dumping) (p : Pass) (channel : Option ℕ) (i n : ℕ)
+    → IsMission m → AreTimes m edges → IsProblemOf m edges q → Contains m.passes p → HasRoom m channel
+    → LieIn p.span edges i n → IsWithinOne m (rate_on channel p) (time_of edges i n) (over (room q channel) i n)
+    × (slice_index edges i ≡ p.span.begin
+    → IsRoundedDown m (rate_on channel p) (time_of edges i n) (over (room q channel) i n))
+
+-- up to the end of each step, the arrivals of a store add up to what has come of its observations, each rounded up
+abbrev pub ArrivalsAddUp : Type 0
+ArrivalsAddUp = (m : MissionRows) (edges : List ℕ) (q : Dumping) (s n : ℕ) → IsMission m → AreTimes m edges
+    → IsProblemOf m edges q → s < length m.stores → n < length edges
+    → over (arrivals q s) 0 n ≡ sum_by (come_by m (slice_index edges n)) (into m s)
+
+-- what has come of an observation is rounded up
+abbrev pub ObservationsRise : Type 0
+ObservationsRise = (m : MissionRows) (o : Observation) (t : ℕ) → IsMission m → Contains m.observations o
+    → IsRoundedUp m o.rate (elapsed o.span t) (come_by m t o)
+
+-- ---- the timeline
+
+-- no store has more to send in a step than its window
+abbrev pub AreWithin : MissionRows → List ℕ → Dumping → (ℕ → ℕ → ℕ) → Type 0
+AreWithin m edges q x = (s t : ℕ) → s < length m.stores → 1 ≤ t → t < length edges → x s t ≤ window q t
+
+-- each dump lies in a pass
+abbrev pub DumpsLieInPasses : Type 0
+DumpsLieInPasses = (m : MissionRows) (edges : List ℕ) (q : Dumping) (x : ℕ → ℕ → ℕ) (dumps : List Dump) → IsMission m
+    → AreEdges m edges → IsProblemOf m edges q → AreWithin m edges q x → IsTimeline m edges x dumps
+    → All (λ d. IsTrue (is_in_pass m.passes d.span)) dumps
+
+-- in the n steps after the i-th no more is sent than a problem lets through
+abbrev pub FitsOver : Dumping → Option ℕ → (ℕ → ℕ) → ℕ → ℕ → Type 0
+FitsOver q channel sent i n = (t : ℕ) → i < t → t ≤ i + n → sent t ≤ room q channel t
+
+-- over steps that lie in a pass, less than one unit more is sent than its rate allows, in all and of a channel; from
+-- the pass's begin on, no more
+abbrev pub RatesAreKept : Type 0
+RatesAreKept = (m : MissionRows) (edges : List ℕ) (q : Dumping) (p : Pass) (channel : Option ℕ) (sent : ℕ → ℕ) (i n : ℕ)
+    → IsMission m → AreTimes m edges → IsProblemOf m edges q → Contains m.passes p → HasRoom m channel
+    → LieIn p.span edges i n → FitsOver q channel sent i n
+    → let r = rate_on channel p in
+    (over sent i n * divisor m r < r.octets * time_of edges i n + divisor m r)
+    × (slice_index edges i ≡ p.span.begin → over sent i n * divisor m r ≤ r.octets * time_of edges i n)
+
+-- up to the end of each step, no more is sent of a store than it held and than has arrived
+abbrev pub SendsWhatIsThere : List ℕ → Dumping → (ℕ → ℕ → ℕ) → ℕ → Type 0
+SendsWhatIsThere edges q x s = (n : ℕ) → n < length edges → over (x s) 0 n ≤ start q s + over (arrivals q s) 0 n
+
+-- by a time in a step this many whole units of a store have been sent: what the steps before it sent, and of the step's
+-- amount as large a part as of its time
+pub record HaveBeenSent (edges : List ℕ) (x : ℕ → ℕ → ℕ) (s t time units : ℕ) : Type 0 where
+  pub begin : slice_index edges (t - 1) ≤ time
+  pub end : time ≤ slice_index edges t
+  pub sent : units * (slice_index edges t - slice_index edges (t - 1))
+      ≤ over (x s) 0 (t - 1) * (slice_index edges t - slice_index edges (t - 1))
+      + x s t * (time - slice_index edges (t - 1))
+
+-- whether an observation runs at a time
+abbrev pub runs_at : ℕ → Observation → Bool
+runs_at t o = nat_le o.span.begin t && nat_le t o.span.end
+
+-- of a store that is sent in a step, no unit is sent before it has come or is being received: each observation is
+-- rounded up, and where several run at once, each but one may have a unit less
+abbrev pub UnitsHaveCome : Type 0
+UnitsHaveCome = (m : MissionRows) (edges : List ℕ) (q : Dumping) (x : ℕ → ℕ → ℕ) (s t time units : ℕ) → IsMission m
+    → AreEdges m edges → IsProblemOf m edges q → AreWithin m edges q x → SendsWhatIsThere edges q x s
+    → s < length m.stores → 1 ≤ t → t < length edges → 0 < x s t → HaveBeenSent edges x s t time units
+    → units ≤ start q s + counted m (Come s) time + (length (filter (runs_at time) (into m s)) - 1)

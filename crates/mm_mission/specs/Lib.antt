@@ -1,0 +1,7 @@
+pub mod Fault
+pub mod Mission
+pub mod Flows
+pub mod Edges
+pub mod Planned
+pub mod Timeline
+pub mod Laws

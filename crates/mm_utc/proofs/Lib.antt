@@ -1,0 +1,11 @@
+pub mod CalendarLemmas
+pub mod DigitLemmas
+pub mod ClockLemmas
+pub mod PrintedLemmas
+pub mod StampLemmas
+pub mod SaidLemmas
+pub mod ReadLemmas
+pub mod FractionLemmas
+pub mod UnitLemmas
+pub mod AmountLemmas
+pub mod ParsedLemmas

@@ -1,0 +1,16 @@
+pub use Rattle.mm_base.specs.Characters
+pub use Rattle.mm_base.specs.Numbers
+pub use Rattle.mm_base.specs.Reading
+pub mod Digits
+pub mod Calendar
+pub mod Dates
+pub mod Clock
+pub mod Zone
+pub mod Moments
+pub mod Printing
+pub mod Fractions
+pub mod Units
+pub mod Amounts
+pub mod Stamps
+pub mod Writings
+pub mod Laws
