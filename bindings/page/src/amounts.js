@@ -22,7 +22,7 @@ const sumIn = pairs => pairs.reduce((sum, [, blocks]) => sum + blocks, 0);
 const IN_BLOCKS = {
   unit: "blocks", flow: "blocks", volume: (_, blocks) => digits(blocks), size: (_, blocks) => digits(blocks),
   rate: (_, blocks) => digits(blocks), total: pairs => digits(sumIn(pairs)), totalRate: pairs => digits(sumIn(pairs)),
-  sum: sumIn, shownSum: digits,
+  sum: sumIn, shownSum: digits, pace: (blocks, minutes) => `${digits(Math.round((60 * blocks) / minutes))} blocks/h`,
 };
 
 // What a link sends, in place of the identifier of a store.
@@ -32,7 +32,8 @@ export const octetsIn = (session, pairs) =>
   pairs.reduce((sum, [id, blocks]) => sum + blocks * octetsOf(session, id), 0);
 
 // Of a session: how a volume in a store, its size, and what flows in a step are shown, and the totals of stores, which
-// are given as pairs of an identifier and blocks; and sums as numbers, with how they are shown.
+// are given as pairs of an identifier and blocks; sums as numbers, with how they are shown; and the rate at which so
+// much is sent in some minutes.
 export function amountsOf(session) {
   if (session.isInBlocks) return IN_BLOCKS;
   const octets = pairs => octetsIn(session, pairs);
@@ -47,6 +48,7 @@ export function amountsOf(session) {
     rate: (id, blocks, step) => flow(blocks * octetsOf(session, id), step),
     total: pairs => short(octets(pairs) / MEGA),
     totalRate: (pairs, step) => flow(octets(pairs), step),
+    pace: (blocks, minutes) => `${short((8 * blocks * octetsOf(session, LINK)) / (minutes * 60_000))} kbit/s`,
   };
 }
 

@@ -6,8 +6,9 @@ import { at, make } from "./dom.js";
 import { dropped, ofFolder, openedFrom, readFiles } from "./files.js";
 import { desk, examples, history, keepSoon, keeper, layNow, note, pageWith, resume, showAgain } from "./main.js";
 import { momentOf, shown } from "./moments.js";
-import { MOST_WINDOW, NEW_PASS, faultOf, inOrder, isSame, nameFor, passWith, remarksOn, sumOf, withClock, withPassesOf,
-  withWindowsOf, withoutPass } from "./passes.js";
+import { MOST_WINDOW, NEW_PASS, faultOf, inOrder, isMovablePass, isSame, nameFor, passMoved, passWith,
+  remarksOn, sumOf, withClock, withMoved, withPassesOf, withWindowsOf, withoutPass } from "./passes.js";
+import { layPassLanes } from "./passlanes.js";
 import { question } from "./question.js";
 import { restOf } from "./rest.js";
 import { EMPTY, MOST_VARIANTS, hasBoth, isPacket, toJson } from "./session.js";
@@ -130,9 +131,23 @@ export function addPass(form) {
   if (large) return say(`Step ${large.step} would have a window of ${digits(large.blocks)} blocks: 1,000,000 at most.`);
   history.change(session);
   say("");
-  const remarks = remarksOn(session, made).map(it => ` It ${it}.`).join("");
+  const remarks = remarksOn(session)[session.passes.indexOf(made)].map(it => ` It ${it}.`).join("");
   const { unit, volume } = amountsOf(session);
   return note(`The pass has ${volume(LINK, sumOf(made))} ${unit} in ${steps} ${steps === 1 ? "step" : "steps"}.${remarks}`);
+}
+
+// Moves a pass, or its begin or its end, by so much: from where it is now, or from where it was before it was moved.
+export function movePass({ nth, part, kind }, by, isFromNow) {
+  const { now } = history, base = history.before(kind), pass = now.passes[nth];
+  if (!pass || !isMovablePass(now, pass)) return note(`Pass ${nth + 1} is not moved: ${pass?.bad
+    ? "a cell of it cannot be read." : "it was typed as windows of the steps."}`);
+  const { session, fault } = withMoved(base, nth, passMoved(isFromNow ? now : base, nth, part, by));
+  note(fault ? `Pass ${nth + 1} goes no further. ${fault}` : "");
+  if (session) {
+    history.change(session, kind);
+    layPassLanes(history.now);
+  }
+  return undefined;
 }
 
 export async function planRest(step) {

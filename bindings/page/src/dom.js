@@ -80,7 +80,7 @@ export function button(text, act, label) {
 export function keepingFocus(lays) {
   const it = document.activeElement, { act, cell } = it?.dataset ?? {},
     name = act ? `[data-act="${act}"]` : cell ? `[data-cell="${cell}"]` : null;
-  const place = cell ? [it.selectionStart, it.selectionEnd] : null;
+  const place = cell && "selectionStart" in it ? [it.selectionStart, it.selectionEnd] : null;
   lays();
   const found = name && document.querySelector(name);
   found?.focus({ preventScroll: true });

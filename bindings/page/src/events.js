@@ -1,10 +1,11 @@
 // Which event does what.
 import { addPass, ask, cancelPass, changeCell, changeClock, changePacket, changeText, closeSession, compareWith,
-  dropVariant, forgetKept, goToStep, keepVariant, makeRoom, moveStore, openExample, openKept, openVariant, paste,
+  dropVariant, forgetKept, goToStep, keepVariant, makeRoom, movePass, moveStore, openExample, openKept, openVariant, paste,
   planAnew, planRest, print, save, take, takeDropped, toggleShade } from "./changes.js";
 import { at, endTyping, notice } from "./dom.js";
 import { listenToLanes } from "./lanes.js";
 import { history, keeper, note, showAgain, showInputsSoon } from "./main.js";
+import { layPassLanes } from "./passlanes.js";
 import { passNth, sortPasses } from "./passtable.js";
 import { TEXTS } from "./session.js";
 import { hold, moveBy, show, stickColumns } from "./steps.js";
@@ -32,7 +33,7 @@ let typedRow, isPressed = false;
 function leaveRow() {
   if (isPressed || (typedRow !== undefined && passNth(document.activeElement) === typedRow)) return;
   typedRow = undefined;
-  sortPasses(history);
+  sortPasses(history, layPassLanes);
 }
 
 function takeFocusOut() {
@@ -135,7 +136,7 @@ export function listenToAll() {
   at("grid-box").addEventListener("scroll", stickColumns);
   for (const it of document.querySelectorAll(".wide"))
     it.addEventListener("scroll", () => it.classList.toggle("scrolled", it.scrollLeft > 0));
-  listenToLanes(goToStep);
+  listenToLanes(() => history.now, { goesTo: goToStep, moves: movePass, ends: () => history.leave() });
   listenToFiles();
   window.addEventListener("beforeunload", event => {
     keeper.now();

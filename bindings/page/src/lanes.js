@@ -1,64 +1,27 @@
-// The chart of the page: a lane for each station, for the windows and for each store, over the time, or over the steps
-// where they have none. Its words keep their size however narrow it is, it is drawn for a part of the time where it is
-// zoomed, and it tells the values of a step.
+// The chart of the page: a lane for each station with its passes, for the windows and for each store, over the time, or
+// over the steps where they have none. Its words keep their size however narrow it is, it is drawn for a part of the
+// time where it is zoomed, and it tells the values of a step.
 import { LINK, amountsOf } from "./amounts.js";
 import { beginOf, edgesOf, hasClock } from "./clock.js";
 import { at, make } from "./dom.js";
-import { DAY, HOUR, MINUTE, shown } from "./moments.js";
-import { spanOf } from "./passes.js";
-import { certificatesOf } from "./texts.js";
+import { DAY, HOUR, MINUTE, shown, shownSpan } from "./moments.js";
+import { listenToPasses, showPassLanes } from "./passlanes.js";
+import { sentBy } from "./passtable.js";
+import { missionOf } from "./passes.js";
+import { setupOf } from "./setup.js";
+import { laneOf, drawingOf, scaleOf } from "./shapes.js";
+import { certificatesOf, forecastOf, sizeName } from "./texts.js";
 import { countUntil } from "./timeline.js";
 
-const SVG = "http://www.w3.org/2000/svg", WIDE = 1000, HIGH = 100, LEAST_SHOWN = 8, MOST_ZOOM = 512, MARKS = 6;
+const LEAST_SHOWN = 8, MOST_ZOOM = 512, MARKS = 6;
 const MARK_UNITS = [MINUTE, 5 * MINUTE, 15 * MINUTE, 30 * MINUTE, HOUR, 2 * HOUR, 3 * HOUR, 6 * HOUR, 12 * HOUR, DAY,
   2 * DAY, 7 * DAY, 14 * DAY];
 
 // What is drawn, with the edges of its steps: times, or whole numbers where there are none. What is shown of it goes
 // `from` a place `to` another one among these.
-let drawn = null, view = null, held = 1, goes = () => {};
+let drawn = null, view = null, held = 1, goes = () => {}, passes = null, sessionNow = () => drawn.session;
 
 const fractionAt = place => (place - view.from) / (view.to - view.from);
-const xOf = place => (WIDE * Math.max(-1, Math.min(2, fractionAt(place)))).toFixed(2);
-
-// ---- Shapes
-
-function draw(lane, shapes) {
-  const picture = document.createElementNS(SVG, "svg");
-  picture.setAttribute("preserveAspectRatio", "none");
-  picture.setAttribute("viewBox", `0 0 ${WIDE} ${HIGH}`);
-  for (const [name, d] of shapes) {
-    if (!d) continue;
-    const path = document.createElementNS(SVG, "path");
-    path.setAttribute("class", name);
-    path.setAttribute("d", d);
-    picture.append(path);
-  }
-  lane.append(picture);
-}
-
-// Bars from `low` to `high` of each step, as parts of the lane's height.
-function bars(steps, low, high) {
-  const { edges } = drawn;
-  let d = "";
-  steps.forEach((row, nth) => {
-    if (edges[nth + 1] < view.from || edges[nth] > view.to) return;
-    const [from, to] = [low(row, nth), high(row, nth)].map(it => (1 - Math.min(1, it)) * HIGH),
-      [left, right] = [edges[nth], edges[nth + 1]].map(xOf);
-    if (from > to) d += `M${left} ${from.toFixed(2)}H${right}V${to.toFixed(2)}H${left}Z`;
-  });
-  return d;
-}
-
-const spans = list => list.map(it => it.map(xOf)).map(([from, to]) => `M${from} 0H${to}V${HIGH}H${from}Z`).join("");
-
-function laneOf(name, words, tone = "") {
-  const row = make("div", "", { className: "lane" }), said = make("span", words, { className: `said ${tone}`.trim() }),
-    label = make("span", "", { className: "lane-name" });
-  label.append(make("b", name), said);
-  const box = make("span", "", { className: "lane-box" });
-  row.append(label, box);
-  return [row, box];
-}
 
 // ---- The axis
 
@@ -75,8 +38,10 @@ function marksOf(session) {
   return marks;
 }
 
+const said = (words, tone = "") => make("span", words, { className: `said ${tone}`.trim() });
+
 function axis(session) {
-  const [row, box] = laneOf(hasClock(session) ? "UTC" : "step", `in ${drawn.amounts.unit}`);
+  const [row, box] = laneOf(hasClock(session) ? "UTC" : "step", said(`in ${drawn.amounts.unit}`));
   row.classList.add("axis");
   for (const [place, words] of marksOf(session)) {
     if (place < view.from || place > view.to) continue;
@@ -89,71 +54,81 @@ function axis(session) {
 
 // ---- The lanes
 
-function stationLanes(session) {
-  const of = new Map(), { edges } = drawn;
-  session.passes.forEach(pass => {
-    const name = pass.station || "passes", list = of.get(name) ?? of.set(name, []).get(name),
-      span = spanOf(session, pass), steps = pass.windows.map(it => it[0]);
-    if (span && pass.from !== null) list.push(span);
-    else if (steps.length) list.push([edges[steps[0] - 1], edges[steps.at(-1)]]);
-  });
-  return [...of].map(([name, list]) => {
-    const [row, box] = laneOf(name, "");
-    row.classList.add("thin");
-    draw(box, [["p-pass", spans(list)]]);
-    return row;
-  });
-}
-
 // The windows as rates, so that what they send is an area.
-function windowLane({ steps }) {
-  const { edges } = drawn, rateOf = (blocks, nth) => blocks / (edges[nth + 1] - edges[nth]),
+function windowLane({ steps }, { bars }) {
+  const { edges, amounts } = drawn, rateOf = (blocks, nth) => blocks / (edges[nth + 1] - edges[nth]),
     rates = steps.map((it, nth) => rateOf(it.window, nth)), most = Math.max(Number.MIN_VALUE, ...rates);
   const sent = steps.flatMap(it => [...it.of].map(([id, each]) => [id, each.dumped]));
-  const [row, box] = laneOf("windows", `${drawn.amounts.total(sent)} sent`);
-  draw(box, [["p-window", bars(steps, () => 0, (_, nth) => rates[nth] / most)],
-    ["p-used", bars(steps, () => 0, (it, nth) => rateOf(it.dumped, nth) / most)]]);
+  const [row, box] = laneOf("windows", said(`${amounts.total(sent)} sent`));
+  box.append(drawingOf([["p-window", bars(steps, () => 0, (_, nth) => rates[nth] / most)],
+    ["p-used", bars(steps, () => 0, (it, nth) => rateOf(it.dumped, nth) / most)]]));
   return row;
 }
 
-function storeLanes({ steps, stores }, plan) {
-  const most = Math.max(1, ...steps.flatMap(it => [...it.of.values()].map(each => each.lost))),
-    cuts = certificatesOf(plan)[0]?.stretches ?? [], { edges } = drawn;
-  return [...stores].map(([id, sums]) => {
-    const size = Math.max(1, sums.most), of = row => row.of.get(id),
-      said = sums.lost ? `${drawn.amounts.volume(id, sums.lost)} lost` : "nothing lost",
-      [row, box] = laneOf(id, said, sums.lost ? "lost" : "");
-    const shapes = [["p-cut", spans(cuts.filter(it => it.id === id)
-      .map(it => [edges[it.steps[0] - 1], edges[it.steps[1]]]))]];
-    shapes.push(["p-held", bars(steps, () => 0, it => of(it).held / size)],
-      ["p-left", bars(steps, it => of(it).held / size, it => (of(it).held + of(it).dumped) / size)]);
-    shapes.push(["p-lost", bars(steps, it => 1 - Math.max(0.12, of(it).lost / most) * (of(it).lost ? 1 : 0), () => 1)]);
-    draw(box, shapes);
-    return row;
-  });
+// How large each store is in each step: as the forecast says, or else the setup.
+function sizesOf({ setup, forecast }) {
+  const { header = [], records = [] } = forecastOf(forecast) ?? {};
+  return new Map((setupOf(setup)?.store ?? []).map(({ keys }) => {
+    const column = header.indexOf(sizeName(keys.id));
+    return [keys.id, step => Number(column < 0 ? keys.size : records[step - 1]?.[column])];
+  }));
+}
+
+// What arrives in a store, as a rate; and of a mission each observation, as a frame.
+function arrivalsDrawn(id, steps, { bars, spans }) {
+  const { edges, session } = drawn, rates = steps.map((it, nth) =>
+    it.of.get(id).arrived / (edges[nth + 1] - edges[nth])), most = Math.max(Number.MIN_VALUE, ...rates);
+  const picture = drawingOf([["p-arrives", bars(steps, () => 0, (_, nth) => rates[nth] / most)],
+    ["p-seen", spans(observationsOf(session, id).map(it => [it.begin, it.end]))]]);
+  picture.setAttribute("class", "arrivals");
+  return picture;
+}
+
+const observationsOf = (session, id) => (missionOf(session)?.observations ?? []).filter(it => it.store === id);
+
+function storeLane([id, sums], nth, scale) {
+  const { records: { steps }, cuts, most, edges, sizes, amounts } = drawn, sizeAt = sizes.get(id) ?? (() => 0),
+    of = row => row.of.get(id), { bars } = scale, all = steps.map((_, step) => sizeAt(step + 1)),
+    size = Math.max(1, sums.most, ...all.filter(Number.isFinite));
+  const [row, box] = laneOf(id, sums.lost ? said(`${amounts.volume(id, sums.lost)} lost`, "lost") : "",
+    `of ${amounts.size(id, size)}`);
+  row.dataset.store = id;
+  row.querySelector("b").prepend(make("i", "", { className: `dot s${nth % 16}` }));
+  const isCut = scale.spans(cuts.filter(it => it.id === id).map(it => [edges[it.steps[0] - 1], edges[it.steps[1]]]));
+  box.append(arrivalsDrawn(id, steps, scale), drawingOf([["p-cut", isCut],
+    ["p-held", bars(steps, () => 0, it => of(it).held / size)],
+    ["p-left", bars(steps, it => of(it).held / size, it => (of(it).held + of(it).dumped) / size)],
+    ["p-none", bars(steps, (_, step) => all[step] / size, () => 1)],
+    ["p-lost", bars(steps, it => 1 - Math.max(0.12, of(it).lost / most) * (of(it).lost ? 1 : 0), () => 1)]]));
+  return row;
 }
 
 const isNarrow = () => matchMedia("(max-width: 600px)").matches;
 
 // Draws the chart of an answer, of all steps where it is of others than the last one.
 export function showLanes(session, { records, plan }) {
-  const count = records.steps.length, edges = edgesOf(session, count)
-    ?? Array.from({ length: count + 1 }, (_, nth) => nth), whole = { from: edges[0], to: edges[count] };
+  const count = records.steps.length, times = edgesOf(session, count),
+    edges = times ?? Array.from({ length: count + 1 }, (_, nth) => nth), whole = { from: edges[0], to: edges[count] };
   const isSame = drawn && drawn.edges[0] === whole.from && drawn.edges[drawn.count] === whole.to;
   if (!isSame) view = whole;
   const shortest = Math.min(...edges.slice(1).map((it, nth) => it - edges[nth]));
-  drawn = { session, records, plan, count, edges, whole, amounts: amountsOf(session),
+  drawn = { session, records, count, edges, whole, isTimed: times !== null, amounts: amountsOf(session),
+    sent: sentBy(session.passes, records), ids: [...records.stores.keys()], sizes: sizesOf(session),
+    cuts: certificatesOf(plan)[0]?.stretches ?? [],
+    most: Math.max(1, ...records.steps.flatMap(it => [...it.of.values()].map(each => each.lost))),
     least: Math.min(whole.to - whole.from, Math.max(LEAST_SHOWN * shortest, (whole.to - whole.from) / MOST_ZOOM)) };
   held = Math.min(held, count);
   layLanes();
 }
 
 function layLanes() {
-  const { session, records, plan, count, whole } = drawn, box = at("lanes"),
-    line = make("div", "", { id: "lanes-line" });
-  box.replaceChildren(axis(session), ...stationLanes(session), windowLane(records), ...storeLanes(records, plan), line);
+  const { session, records, count, whole, edges } = drawn, box = at("lanes"), scale = scaleOf(view, edges);
+  at("lanes-axis").replaceChildren(axis(session));
+  showPassLanes(drawn, view, sessionNow());
+  at("lanes-stores").replaceChildren(windowLane(records, scale),
+    ...[...records.stores].map((it, nth) => storeLane(it, nth, scale)));
   box.classList.toggle("narrow", isNarrow());
-  box.setAttribute("aria-valuemax", String(count));
+  at("lanes-stores").setAttribute("aria-valuemax", String(count));
   box.dataset.steps = `${stepOf(view.from)} ${stepOf(Math.ceil(view.to) - 1)}`;
   at("wider").disabled = at("whole").disabled = view.from === whole.from && view.to === whole.to;
   at("closer").disabled = view.to - view.from <= drawn.least;
@@ -168,32 +143,49 @@ function storeWords([id, { held: there, dumped, lost }]) {
   return `${id} holds ${drawn.amounts.volume(id, there)}${say(dumped, "sent")}${say(lost, "lost")}`;
 }
 
+// When a step is, in words, with its number and the stations that have a pass in it.
+function nameOfStep(step) {
+  const { session } = drawn, [begin, end] = [step, step + 1].map(it => beginOf(session, it)), where = session.passes
+    .filter(it => it.station && it.windows.some(each => each[0] === step && each[1])).map(it => it.station);
+  const when = begin === null || end === null ? "" : `${shownSpan(begin, end)} UTC`;
+  return [`Step ${step}`, when, [...new Set(where)].join(" and ")].filter(Boolean).join(", ");
+}
+
 function valuesOf(step) {
-  const { session, records } = drawn, row = records.steps[step - 1], begin = beginOf(session, step);
-  const passes = session.passes.filter(it => it.station && it.windows.some(each => each[0] === step && each[1]));
-  const stores = [...row.of].filter(([, it]) => it.held || it.dumped || it.lost).map(storeWords);
-  const where = passes.map(it => it.station).join(" and "), when = [begin === null ? "" : shown(begin), where];
-  const { rate, total, unit, flow } = drawn.amounts, name = [`Step ${step}`, ...when].filter(Boolean);
+  const { session, records, amounts: { rate, total, unit, flow } } = drawn, row = records.steps[step - 1],
+    stores = [...row.of].filter(([, it]) => it.held || it.dumped || it.lost).map(storeWords);
   const all = what => total([...row.of].map(([id, it]) => [id, it[what]]));
   const lost = row.lost ? `${all("lost")} lost` : "nothing lost", window = rate(LINK, row.window, step);
   const inUnit = session.isInBlocks ? "" : ` Volumes are in ${unit}.`;
-  return `${name.join(", ")}: window ${window}${session.isInBlocks ? "" : ` ${flow}`}, ${all("dumped")} sent, ${lost}. ${
+  return `${nameOfStep(step)}: window ${window}${session.isInBlocks ? "" : ` ${flow}`}, ${all("dumped")} sent, ${lost}. ${
     stores.join("; ")}${inUnit && `.${inUnit}`}`;
+}
+
+// What is so of one store in a step, in words, with the observations that it has then.
+function valuesIn(id, step) {
+  const { session, records, edges, sizes, amounts: { rate, volume, size, unit, flow } } = drawn,
+    it = records.steps[step - 1].of.get(id), seen = observationsOf(session, id)
+      .filter(one => one.name && one.begin < edges[step] && one.end > edges[step - 1]).map(one => one.name);
+  const names = seen.length ? ` (${[...new Set(seen)].join(", ")})` : "";
+  return `${nameOfStep(step)}: ${id} holds ${volume(id, it.held)} of ${size(id, sizes.get(id)?.(step) ?? 0)} ${unit}; ${
+    rate(id, it.arrived, step)} ${flow} arrive${names}, ${rate(id, it.dumped, step)} are sent, ${
+    it.lost ? `${volume(id, it.lost)} ${unit} lost` : "nothing lost"}.`;
 }
 
 // The step in which a place lies, and the middle of a step.
 const stepOf = place => Math.max(1, Math.min(drawn.count, countUntil(drawn.edges, Math.floor(place))));
 const middleOf = step => (drawn.edges[step - 1] + drawn.edges[step]) / 2;
 
-function markStep(step) {
+// Marks a step, and tells its values, or those of one store in it.
+function markStep(step, id = "") {
   held = step;
   const box = at("lanes"), line = at("lanes-line"), words = valuesOf(step), lane = box.querySelector(".lane-box"),
     part = fractionAt(middleOf(step));
   line.hidden = part < 0 || part > 1;
   line.style.left = `${lane.offsetLeft + lane.offsetWidth * part}px`;
-  box.setAttribute("aria-valuenow", String(step));
-  box.setAttribute("aria-valuetext", words);
-  at("told").textContent = words;
+  at("lanes-stores").setAttribute("aria-valuenow", String(step));
+  at("lanes-stores").setAttribute("aria-valuetext", words);
+  at("told").textContent = id ? valuesIn(id, step) : words;
 }
 
 function stepAt(event) {
@@ -222,26 +214,31 @@ function move(step) {
 function press(event) {
   const steps = { ArrowLeft: -1, ArrowRight: 1, ArrowDown: -1, ArrowUp: 1, PageDown: -12, PageUp: 12, Home: -Infinity,
     End: Infinity };
-  if (!drawn || event.ctrlKey || event.metaKey || event.altKey) return;
-  if (event.key in steps) move(Number.isFinite(steps[event.key]) ? held + steps[event.key] : steps[event.key] < 0 ? 1
-    : drawn.count);
+  if (!drawn) return;
+  if (passes.press(event)) event.preventDefault();
+  else if (event.ctrlKey || event.metaKey || event.altKey) return;
   else if (event.key === "+" || event.key === "=") zoom(0.5);
   else if (event.key === "-") zoom(2);
+  else if (event.target !== at("lanes-stores")) return;
+  else if (event.key in steps) move(Number.isFinite(steps[event.key]) ? held + steps[event.key] : steps[event.key] < 0
+    ? 1 : drawn.count);
   else if (event.key === "Enter") goes(held);
   else return;
   event.preventDefault();
 }
 
-// Listens to the chart: `goesTo` is called with a step that is chosen.
-export function listenToLanes(goesTo) {
+// Listens to the chart: `goesTo` is called with a step that is chosen, `moves` with a pass that is moved and `ends`
+// after that; `now` says which session is worked on.
+export function listenToLanes(now, { goesTo, moves, ends }) {
   const box = at("lanes");
-  goes = goesTo;
+  [goes, sessionNow] = [goesTo, now];
+  passes = listenToPasses(box, now, { moves, ends, tells: words => { at("told").textContent = words; } });
   box.addEventListener("pointermove", event => {
-    const step = drawn && stepAt(event);
-    if (step) markStep(step);
+    const step = drawn && !passes.isPass(event) && stepAt(event);
+    if (step) markStep(step, event.target.closest("[data-store]")?.dataset.store);
   });
   box.addEventListener("click", event => {
-    const step = drawn && stepAt(event);
+    const step = drawn && !passes.isPass(event) && stepAt(event);
     if (step) goes(step);
   });
   box.addEventListener("keydown", press);

@@ -86,3 +86,9 @@ export function shown(moment) {
   const [, day, month, , time] = new Date(Math.floor(moment / 1000)).toUTCString().split(" ");
   return `${day} ${month} ${time.slice(0, time.endsWith(":00") ? 5 : 8)}`;
 }
+
+// A time span for people, with its day once where it is one.
+export function shownSpan(from, to) {
+  const [begin, end] = [from, to].map(shown);
+  return `${begin} to ${begin.slice(0, 6) === end.slice(0, 6) ? end.slice(7) : end}`;
+}

@@ -3,7 +3,7 @@
 // together they are the windows of the forecast.
 import { beginOf, edgesOf } from "./clock.js";
 import { missionIn, passOf } from "./mission.js";
-import { momentOf, textOf, written } from "./moments.js";
+import { SECOND, momentOf, textOf, written } from "./moments.js";
 import { forecastOf, forecastText, isSize } from "./texts.js";
 import { missionEdges } from "./edges.js";
 import { MOST_STEPS, countBefore, countUntil, falls, flowAt, problemWith, unitWith, withPasses } from "./timeline.js";
@@ -273,11 +273,14 @@ function stepsFault(session, passes) {
   }
 }
 
-// One station has one pass at a time, and passes of a mission that says nothing of overlaps have none.
+// One station has one pass at a time, and passes of a mission that says nothing of overlaps have none: the passes with
+// times that this one may not meet.
+const barredTo = (pass, passes, mission) => passes.filter(it => it !== pass && it.from !== null
+  && (it.station === pass.station ? pass.station || mission : mission && mission.overlap === null));
+const doMeet = (one, other) => one.from < other.to && one.to > other.from;
+
 function meetingFault(pass, passes, mission) {
-  const meets = it => it !== pass && it.from !== null && it.from < pass.to && it.to > pass.from;
-  const other = passes.find(it => meets(it) && (it.station === pass.station ? pass.station || mission
-    : mission && mission.overlap === null));
+  const other = barredTo(pass, passes, mission).find(it => doMeet(it, pass));
   if (!other) return null;
   const when = `from ${textOf(other.from)} to ${textOf(other.to)}`;
   return other.station === pass.station ? `${pass.station} has a pass ${when}: a station has one at a time.`
@@ -303,6 +306,60 @@ export function passWith(session, nth, what, text) {
   return isOf && made.station !== pass.station ? { ...made, name: nameFor(made.station, others) } : made;
 }
 
+// ---- Passes that are moved
+
+const clamped = (it, least, most) => Math.max(least, Math.min(most, it));
+const edgesOrSteps = (session, count) => edgesOf(session, count) ?? Array.from({ length: count + 1 }, (_, nth) => nth);
+
+// Whether a pass can be moved: all of it can be read, and it has times on a clock, or steps that no mission counts.
+export const isMovablePass = (session, pass) => !pass.bad
+  && (pass.from === null ? !session.mission && pass.windows.length > 0 : beginOf(session, 1) !== null);
+
+// A pass of which a part is moved by so much: its `begin`, its `end`, or `all` of it. It comes to whole seconds, and
+// stays within the steps and beside the passes that it may not meet; one without times goes by whole steps.
+export function passMoved(session, nth, part, by) {
+  const pass = session.passes[nth], places = edgesOrSteps(session, forecastOf(session.forecast).records.length);
+  return pass.from === null ? stepsMoved(pass, part, by, places) : timesMoved(session, pass, part, by, places);
+}
+
+function timesMoved(session, pass, part, by, places) {
+  const { from, to } = pass, barred = barredTo(pass, session.passes, missionOf(session)), whole = time =>
+    Math.round(time / SECOND) * SECOND;
+  const first = Math.min(from, places[0]), last = Math.max(to, places.at(-1)),
+    before = Math.max(first, ...barred.filter(it => it.to <= from).map(it => it.to)),
+    after = Math.min(last, ...barred.filter(it => it.from >= to).map(it => it.from));
+  if (part === "begin") return { ...pass, from: clamped(whole(from + by), before, Math.max(before, to - SECOND)) };
+  if (part === "end") return { ...pass, to: clamped(whole(to + by), Math.min(after, from + SECOND), after) };
+  const moved = far => ({ ...pass, from: from + far, to: to + far }),
+    far = clamped(whole(from + by) - from, first - from, last - to), there = moved(far);
+  return barred.some(it => doMeet(it, there)) ? moved(clamped(far, before - from, after - to)) : there;
+}
+
+function stepsMoved(pass, part, by, places) {
+  const { windows } = pass, first = windows[0][0], last = windows.at(-1)[0], count = places.length - 1,
+    nearest = place => places.reduce((best, it, nth) =>
+      (Math.abs(it - place) < Math.abs(places[best] - place) ? nth : best), 0);
+  const steps = (from, to, blocks) => Array.from({ length: Math.max(0, to - from + 1) }, (_, nth) =>
+    [from + nth, blocks]);
+  if (part === "all") {
+    const far = clamped(nearest(places[first - 1] + by) - first + 1, 1 - first, count - last);
+    return { ...pass, windows: windows.map(([step, blocks]) => [step + far, blocks]) };
+  }
+  if (part === "begin") {
+    const begin = clamped(nearest(places[first - 1] + by) + 1, 1, last);
+    return { ...pass, windows: [...steps(begin, first - 1, windows[0][1]), ...windows.filter(it => it[0] >= begin)] };
+  }
+  const end = clamped(nearest(places[last] + by), first, count);
+  return { ...pass, windows: [...windows.filter(it => it[0] <= end), ...steps(last + 1, end, windows.at(-1)[1])] };
+}
+
+// The session with a pass that was moved, or, as `fault`, why it cannot be so.
+export function withMoved(session, nth, made) {
+  const others = session.passes.filter((_, at) => at !== nth), fault = made.from === null ? null
+    : faultOf(session, made, others);
+  return fault ? { fault } : { session: withPassesOf(session, session.passes.with(nth, made)) };
+}
+
 // When a pass begins and ends; null where no times are said.
 export function spanOf(session, pass) {
   if (pass.from !== null) return [pass.from, pass.to];
@@ -326,23 +383,44 @@ export function stepsOf({ windows }) {
 
 export const isSame = (a, b) => a.station === b.station && a.from === b.from && a.to === b.to;
 
-// What a planner must know of a pass: where it is cut, and which others it meets.
-export function remarksOn(session, pass, passes = session.passes) {
-  const count = forecastOf(session.forecast)?.records.length ?? 0, span = spanOf(session, pass),
-    [first, last] = [beginOf(session, 1), beginOf(session, count + 1)];
-  if (!span) return [];
-  const [from, to] = span, said = [], counts = missionOf(session)?.overlap === "better"
-    ? "only the one that sends more counts" : "both windows count";
-  if (to <= first || from >= last) said.push("outside the steps");
-  else {
-    if (from < first) said.push("begins before step 1, and is cut there");
-    if (to > last) said.push("ends after the last step, and is cut there");
+// The passes that each pass of a list meets, by their places in it, in their order: those with a span, walked through
+// by their begins.
+function meetingsOf(session, passes) {
+  const met = passes.map(() => []), spans = passes.map((pass, nth) => ({ nth, span: spanOf(session, pass) }))
+    .filter(it => it.span).sort((a, b) => a.span[0] - b.span[0]);
+  let open = [];
+  for (const it of spans) {
+    open = open.filter(other => other.span[1] > it.span[0]);
+    for (const other of open) {
+      met[other.nth].push(it.nth);
+      met[it.nth].push(other.nth);
+    }
+    open.push(it);
   }
-  passes.forEach((other, nth) => {
-    const its = other === pass ? null : spanOf(session, other);
-    if (!its || its[0] >= to || its[1] <= from) return;
-    said.push(isSame(other, pass) && pass.from !== null ? `the same as pass ${nth + 1}`
-      : `overlaps pass ${nth + 1}${other.station ? `, ${other.station}` : ""}: ${counts}`);
+  for (const list of met) list.sort((a, b) => a - b);
+  return met;
+}
+
+// What a planner must know of each pass: where it is cut, and which others it meets.
+export function remarksOn(session) {
+  const { passes } = session, met = meetingsOf(session, passes),
+    count = forecastOf(session.forecast)?.records.length ?? 0,
+    [first, last] = [beginOf(session, 1), beginOf(session, count + 1)],
+    counts = missionOf(session)?.overlap === "better" ? "only the one that sends more counts" : "both windows count";
+  return passes.map((pass, nth) => {
+    const span = spanOf(session, pass), said = [];
+    if (!span) return said;
+    const [from, to] = span;
+    if (to <= first || from >= last) said.push("outside the steps");
+    else {
+      if (from < first) said.push("begins before step 1, and is cut there");
+      if (to > last) said.push("ends after the last step, and is cut there");
+    }
+    for (const at of met[nth]) {
+      const { station } = passes[at];
+      said.push(isSame(passes[at], pass) && pass.from !== null ? `the same as pass ${at + 1}`
+        : `overlaps pass ${at + 1}${station ? `, ${station}` : ""}: ${counts}`);
+    }
+    return said;
   });
-  return said;
 }

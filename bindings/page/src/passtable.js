@@ -6,28 +6,30 @@ import { shown, textOf } from "./moments.js";
 import { faultTyped, inOrder, remarksOn, spanOf, stepsOf, sumOf, withoutPass } from "./passes.js";
 import { NOTHING } from "./texts.js";
 
-const HEADS = ["nr", "steps", "from (UTC)", "to (UTC)", "station", "rate", "window", "sent", "used", "lost without it",
-  "cancel", "remarks"];
+const HEADS = ["nr", "steps", "from (UTC)", "to (UTC)", "station", "rate", "cancel", "window", "sent", "used",
+  "lost without it", "remarks"];
 const CLASSES = { "from (UTC)": "clock", "to (UTC)": "clock", station: "name", cancel: "act", remarks: "text" };
-const SENT = 7, WORTH = 9, REMARKS = 11, TYPED = ["from", "to", "station", "rate"], MANY = 60;
+const WINDOW = 7, WORTH = 10, REMARKS = 11, TYPED = ["from", "to", "station", "rate"], MANY = 60;
 let turn = 0, laidPasses = "", listed = null;
 
-// What each pass sends of each store: what leaves in its steps. Of a step that several passes share, the first takes as
-// much as its window.
+// What each pass sends of each store: what leaves in its steps, `dumps` being what leaves in each of them. Of a step
+// that several passes share, the first takes as much as its window.
 export function sentBy(passes, records) {
   const left = records.steps.map(row => new Map([...row.of].map(([id, it]) => [id, it.dumped])));
   return passes.map(({ windows }) => {
-    const of = new Map([...records.stores.keys()].map(id => [id, 0]));
+    const of = new Map([...records.stores.keys()].map(id => [id, 0])), dumps = [];
     for (const [step, blocks] of windows) {
       let room = blocks;
       for (const [id, waiting] of left[step - 1] ?? []) {
         const sent = Math.min(room, waiting);
+        if (!sent) continue;
         room -= sent;
         left[step - 1].set(id, waiting - sent);
         of.set(id, of.get(id) + sent);
+        dumps.push({ step, id, blocks: sent });
       }
     }
-    return { of, sent: [...of.values()].reduce((sum, it) => sum + it, 0) };
+    return { of, dumps, sent: [...of.values()].reduce((sum, it) => sum + it, 0) };
   });
 }
 
@@ -43,7 +45,7 @@ function layPass(pass, nth, stores) {
   const cancel = cellWith(button("Cancel", `cancel ${nth}`, `Cancel ${name}`));
   cancel.className = "act";
   const [steps, ...sums] = empty(5), number = make("th", String(nth + 1), { scope: "row" });
-  return row(number, steps, from, to, station, rate, ...sums, cancel, remarks, ...empty(stores.length));
+  return row(number, steps, from, to, station, rate, cancel, ...sums, remarks, ...empty(stores.length));
 }
 
 function layPasses(passes, stores) {
@@ -85,12 +87,14 @@ export function showPasses(session) {
   }
   layPasses(passes, stores);
   write(at("passes-unit"), unit);
+  const remarks = remarksOn(session);
+  at("passes").classList.toggle("plain", !remarks.some(it => it.length));
   passes.forEach((pass, nth) => {
     const { cells } = body.rows[nth];
     write(cells[1], stepsOf(pass), "is");
     showTimes(cells, session, pass);
-    write(cells[6], volume(LINK, sumOf(pass)), number(sumOf(pass), "")[1]);
-    write(cells[REMARKS], remarksOn(session, pass).join("; "), "text words");
+    write(cells[WINDOW], volume(LINK, sumOf(pass)), number(sumOf(pass), "")[1]);
+    write(cells[REMARKS], remarks[nth].join("; "), "text words");
   });
   write(at("passes-fault"), wordsOnBad(session), "fault");
 }
@@ -111,8 +115,8 @@ export function showSent(ask, session, { records, verdict, loss }) {
   showPasses(session);
   sentBy(passes, records).forEach(({ of, sent }, nth) => {
     const { cells } = body.rows[nth], window = sumOf(passes[nth]);
-    write(cells[SENT], total([...of]), number(sent, "")[1]);
-    write(cells[SENT + 1], window ? `${Math.round((100 * sent) / window)} %` : "", "is");
+    write(cells[WINDOW + 1], total([...of]), number(sent, "")[1]);
+    write(cells[WINDOW + 2], window ? `${Math.round((100 * sent) / window)} %` : "", "is");
     stores.forEach((id, column) => write(cells[HEADS.length + column], volume(id, of.get(id)),
       number(of.get(id), "")[1]));
   });
@@ -124,30 +128,34 @@ const asPlanned = session => ({ ...session, given: NOTHING, isInOrder: false });
 
 // How many blocks more the best plan loses without each pass: one after another, until something is changed.
 async function tellWorth(ask, session, loss, ofTurn) {
-  const { volume } = amountsOf(session), body = at("passes").tBodies[0], least = loss ?? (await ask("least", asPlanned(session))).loss;
+  const { volume } = amountsOf(session), body = at("passes").tBodies[0],
+    least = loss ?? (await ask("least", asPlanned(session))).loss;
   for (let nth = 0; nth < session.passes.length; nth++) {
     if (ofTurn !== turn) return;
     const without = (await ask("least", asPlanned(withoutPass(session, nth)))).loss;
     if (ofTurn !== turn) return;
     const isKnown = typeof without === "number" && typeof least === "number", more = without - least;
     write(body.rows[nth].cells[WORTH], isKnown ? volume(LINK, more) : "?",
-      `${isKnown ? number(more, "lost")[1] : "is"} worth`);
+      `${isKnown ? number(more, "")[1] : "is"} worth`);
   }
   if (ofTurn === turn) at("passes").dataset.worth = "known";
 }
 
-// Sorts the rows once that which was typed in is left. The focus stays with its pass.
-export function sortPasses(history) {
+// Sorts the rows once that which was typed in is left. The focus stays with its pass; `layAgain` lays what else shows
+// passes in their order.
+export function sortPasses(history, layAgain) {
   const { passes } = history.now, sorted = inOrder(passes), it = document.activeElement;
   if (sorted.every((pass, nth) => pass === passes[nth])) return;
-  const { cell, act } = it.dataset, held = passes[passNth(it)], selected = cell && [it.selectionStart, it.selectionEnd];
+  const { cell, act } = it.dataset, held = passes[passNth(it)],
+    selected = "selectionStart" in it && [it.selectionStart, it.selectionEnd];
   if (held) it.blur();
   history.amend({ passes: sorted });
   showPasses(history.now);
+  layAgain(history.now);
   if (!held) return;
   const name = (cell ?? act).replace(/\d+/, sorted.indexOf(held)),
     found = document.querySelector(`[data-${cell ? "cell" : "act"}="${name}"]`);
-  found.focus();
+  found.focus({ preventScroll: !selected });
   if (selected) found.setSelectionRange(...selected);
 }
 

@@ -17,6 +17,7 @@ export const digits = number => GROUPED.format(number);
 const SIZE = "size:";
 export const isSize = name => name.startsWith(SIZE);
 export const storeOfSize = name => name.slice(SIZE.length);
+export const sizeName = id => SIZE + id;
 
 const remembered = new WeakMap();
 
@@ -82,7 +83,7 @@ export function withCells(octets, change) {
 // The text of a forecast in which the columns of two stores have changed places, and those of their sizes.
 export function withColumnsSwapped(octets, ids) {
   const { header, records } = forecastOf(octets), from = header.map((_, at) => at);
-  for (const names of [ids, ids.map(id => SIZE + id)]) {
+  for (const names of [ids, ids.map(sizeName)]) {
     const [one, other] = names.map(name => header.indexOf(name, 2));
     if (one >= 0 && other >= 0) [from[one], from[other]] = [other, one];
   }

@@ -59,6 +59,7 @@ class Chromium:
         os.close(down)
         os.close(up)
         self.left, self.number, self.session, self.events = b"", 0, "", list[dict[str, Any]]()
+        self.is_held = False
         self.name = self.ask("Browser.getVersion")["product"]
         page = next(it for it in self.ask("Target.getTargets")["targetInfos"] if it["type"] == "page")
         self.attach(page["targetId"])
@@ -134,10 +135,17 @@ class Chromium:
         """Presses a key, as a planner does; 2 is Control, 8 is Shift."""
         text = {"text": "\r" if key == "Enter" else key} if (len(key) == 1 or key == "Enter") and not modifiers else {}
         codes = {"Tab": 9, "Enter": 13, "ArrowUp": 38, "ArrowDown": 40, "ArrowLeft": 37, "ArrowRight": 39,
-            "Backspace": 8}
+            "Backspace": 8, "Escape": 27, "PageUp": 33, "PageDown": 34}
         more = {"windowsVirtualKeyCode": codes.get(key, ord(key.upper()[0]))}
         self.ask("Input.dispatchKeyEvent", type="keyDown", key=key, modifiers=modifiers, **text, **more)
         self.ask("Input.dispatchKeyEvent", type="keyUp", key=key, modifiers=modifiers, **more)
+
+    def point(self, does: str, x: float, y: float) -> None:
+        """Moves the pointer to a place of the window, where it is then `Pressed` or `Released`, or only `Moved`."""
+        self.is_held = does == "Pressed" or (does == "Moved" and self.is_held)
+        for kind in dict.fromkeys(("Moved", does)):
+            self.ask("Input.dispatchMouseEvent", type=f"mouse{kind}", x=x, y=y, clickCount=1,
+                button="left" if self.is_held or kind != "Moved" else "none", buttons=int(self.is_held))
 
     def record(self) -> None:
         """Has the browser record the tasks of its threads."""
@@ -274,6 +282,14 @@ class Firefox:
         if bad:
             raise Fault(value)
         return value
+
+    def point(self, does: str, x: float, y: float) -> None:
+        """Moves the pointer to a place of the window, where it is then `Pressed` or `Released`, or only `Moved`."""
+        acts: list[dict[str, Any]] = [{"type": "pointerMove", "duration": 0, "x": round(x), "y": round(y)}]
+        acts += [{"type": kind, "button": 0} for name, kind in (("Pressed", "pointerDown"), ("Released", "pointerUp"))
+            if name == does]
+        self.ask("WebDriver:PerformActions", actions=[{"type": "pointer", "id": "mouse", "actions": acts,
+            "parameters": {"pointerType": "mouse"}}])
 
     def faults(self) -> list[str]:
         return []

@@ -148,7 +148,7 @@ class Use:
         for cells in said["passes"]:
             steps = [int(it) for it in cells[1].split(" to ")]
             own = [row for row in rows if steps[0] <= int(row[0]) <= steps[-1]]
-            self.expect(f"{what}: sent in pass {cells[1]}", plain(cells[7]) == sum(int(row[5]) for row in own), cells)
+            self.expect(f"{what}: sent in pass {cells[1]}", plain(cells[8]) == sum(int(row[5]) for row in own), cells)
             by_store = [sum(int(row[5]) for row in own if row[2] == store[0]) for store in said["stores"]]
             self.expect(f"{what}: sent by store in pass {cells[1]}", [plain(it) for it in cells[12:]] == by_store,
                 cells)
@@ -224,7 +224,7 @@ def passes(use: Use, setup: bytes, forecast: bytes) -> None:
     """What a pass is worth, one that is cancelled, one more, names, times, and the rest from a step on."""
     use.do("await settle(); for (let turn = 0; turn < 900 && at('passes').dataset.worth !== 'known'; turn++) await "
         "wait(20);")
-    worth = [cells[9] for cells in use.state()["passes"]]
+    worth = [cells[10] for cells in use.state()["passes"]]
     use.do("document.querySelectorAll('[data-act^=cancel]')[4].click();")
     lacking = forecast
     for step in range(79, 84):
@@ -246,8 +246,8 @@ def passes(use: Use, setup: bytes, forecast: bytes) -> None:
     )
     more = with_cell(with_cell(forecast, 14, 2, "450"), 15, 2, "675")
     said = use.planned("a pass more", setup, more)
-    use.expect("a pass more: its row", said["passes"][1][1:7] == [
-        "14 to 15", "2026-11-27 19:30", "2026-11-27 20:45", "Redu", "900 blocks/h", "1,125"], said["passes"][1])
+    use.expect("a pass more: its row", said["passes"][1][1:8] == ["14 to 15", "2026-11-27 19:30",
+        "2026-11-27 20:45", "Redu", "900 blocks/h", "Cancel", "1,125"], said["passes"][1])
     table = records(said["table"])
     use.do("at('step').value = '61'; press('rest');")
     held = {row[2]: row[6] for row in table if row[0] == "60"}

@@ -98,7 +98,7 @@ def one_unit(use: Use) -> None:
     later = use.state()
     table = records(later["table"])
     of_pass = sum(int(row[5]) for row in table if row[0] in {str(step) for step in steps_of(use, 0)})
-    cell = use.do("return at('passes').tBodies[0].rows[0].cells[7].textContent;")
+    cell = use.do("return at('passes').tBodies[0].rows[0].cells[8].textContent;")
     use.expect("what a pass sends in MB", abs(float(cell.replace(",", "")) * 1000 - of_pass) < 6, cell, of_pass)
     more = sum(int(row[4]) for row in table) - sum(lost.values())
     use.expect("MB more than the reference", later["more"] == f"{shown_in_mb(more)} more than the reference, "
@@ -238,7 +238,7 @@ def losses(setup: bytes, forecast: bytes) -> dict[str, int]:
 
 
 LANES = (
-    "const box = at('lanes'), press2 = key => box.dispatchEvent(new KeyboardEvent('keydown', { key, bubbles: true, "
+    "const box = at('lanes-stores'), press2 = key => box.dispatchEvent(new KeyboardEvent('keydown', { key, bubbles: true, "
     "cancelable: true })); "
 )
 
@@ -249,7 +249,7 @@ def chart(use: Use, setup: bytes, forecast: bytes) -> None:
     table = records(text("table", setup, forecast, text("plan", setup, forecast)))
     use.do(LANES + "box.focus(); press2('Home'); for (let nth = 0; nth < 81; nth++) press2('ArrowRight');")
     own = [row for row in table if row[0] == "82"]
-    said = use.do("return [at('lanes').getAttribute('aria-valuenow'), at('lanes').getAttribute('aria-valuetext')];")
+    said = use.do(LANES + "return [box.getAttribute('aria-valuenow'), box.getAttribute('aria-valuetext')];")
     wanted = f"Step 82: window {int(own[0][1]):,}, {sum(int(row[5]) for row in own):,} sent"
     use.expect("a step by keys", said[0] == "82" and said[1].startswith(wanted), said, wanted)
     use.do(LANES + "const lane = box.querySelector('.lane-box').getBoundingClientRect(); box.dispatchEvent(new "
