@@ -58,10 +58,11 @@ function changeForecast(cells, kind) {
 }
 
 export function paste(it, text) {
-  const cells = pastedFrom(it, text);
-  if (cells?.length) changeForecast(cells, null);
-  else if (cells) note("Nothing is pasted: the range is larger than what is edited from this cell on.");
-  return cells !== null;
+  const pasted = pastedFrom(it, text);
+  if (pasted?.cells.length) changeForecast(pasted.cells, null);
+  else if (pasted) note(pasted.fits ? "Nothing is pasted: these cells have the same numbers."
+    : "Nothing is pasted: the range is larger than what is edited from this cell on.");
+  return pasted !== null;
 }
 
 function changePass(it, kind) {
@@ -137,17 +138,16 @@ export function addPass(form) {
 }
 
 // Moves a pass, or its begin or its end, by so much: from where it is now, or from where it was before it was moved.
+// Answers why it does not go there, or nothing.
 export function movePass({ nth, part, kind }, by, isFromNow) {
   const { now } = history, base = history.before(kind), pass = now.passes[nth];
-  if (!pass || !isMovablePass(now, pass)) return note(`Pass ${nth + 1} is not moved: ${pass?.bad
-    ? "a cell of it cannot be read." : "it was typed as windows of the steps."}`);
+  if (pass.bad) return "A cell of it cannot be read, so it is not moved.";
+  if (!isMovablePass(now, pass)) return "It stands in windows that were typed, and is moved there.";
   const { session, fault } = withMoved(base, nth, passMoved(isFromNow ? now : base, nth, part, by));
-  note(fault ? `Pass ${nth + 1} goes no further. ${fault}` : "");
-  if (session) {
-    history.change(session, kind);
-    layPassLanes(history.now);
-  }
-  return undefined;
+  if (fault) return fault;
+  history.change(session, kind);
+  layPassLanes(history.now);
+  return "";
 }
 
 export async function planRest(step) {

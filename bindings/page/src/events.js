@@ -8,7 +8,7 @@ import { history, keeper, note, showAgain, showInputsSoon } from "./main.js";
 import { layPassLanes } from "./passlanes.js";
 import { passNth, sortPasses } from "./passtable.js";
 import { TEXTS } from "./session.js";
-import { hold, moveBy, show, stickColumns } from "./steps.js";
+import { choose, copied, hasRange, hold, moveBy, placeInGrid, show, stickColumns, stretchBy } from "./steps.js";
 import { stepOnChart } from "./view.js";
 import { forecastOf } from "./texts.js";
 
@@ -17,6 +17,7 @@ export let taken = 0;
 function takeInput({ target: it }) {
   if (it.form) return;
   note("");
+  choose(null, null);
   notice(it);
   if (TEXTS.includes(it.id)) changeText(it.id, it.value);
   else if (it.id === "in-order") history.change({ isInOrder: it.checked });
@@ -70,9 +71,53 @@ function takeKey(event) {
   else if (it.id === "step" && event.key === "Enter") goToStep(Number(it.value));
   // What stood in a cell before it was typed into.
   else if (event.key === "Escape" && (it.dataset?.cell ?? it.id) === history.kind) history.undo();
-  else if (
-    !(it.closest("#grid") && it.dataset.cell && !event.ctrlKey && !event.shiftKey && moveBy(event.key, it))) return;
+  else if (event.key === "Escape" && hasRange()) choose(null, null);
+  else if (!(it.closest("#grid") && it.dataset.cell && !event.ctrlKey && !event.metaKey
+    && (event.shiftKey ? stretches(event.key, it) : moveBy(event.key, it)))) return;
   event.preventDefault();
+}
+
+const tellRange = size => {
+  at("chosen").textContent = size ? `${size[0]} × ${size[1]} cells are chosen: Ctrl+C copies them.` : "";
+};
+
+// Shift and an arrow choose cells; within what is typed they choose characters.
+function stretches(key, it) {
+  const isAlong = ["ArrowLeft", "ArrowRight", "Home", "End"].includes(key), isWhole = it.selectionStart === 0
+    && it.selectionEnd === it.value.length;
+  if (isAlong && !hasRange() && !isWhole) return false;
+  const size = stretchBy(key);
+  tellRange(size);
+  return size !== null;
+}
+
+// Cells are chosen by the pointer from the one where it is pressed, or, with Shift, from the one that has the focus.
+function listenToRanges() {
+  let from = null;
+  document.addEventListener("pointerdown", event => {
+    const to = event.button ? null : placeInGrid(event.target), held = placeInGrid(document.activeElement);
+    const isMore = event.shiftKey && to && held;
+    if (isMore) event.preventDefault();
+    choose(null, null);
+    if (isMore) tellRange(choose(held, to));
+    from = to && (isMore ? held : to);
+  });
+  at("grid").addEventListener("mousedown", event => { if (event.shiftKey) event.preventDefault(); });
+  // Else what is selected in a cell would be dragged.
+  at("grid").addEventListener("dragstart", event => event.preventDefault());
+  document.addEventListener("pointermove", event => {
+    const isHeld = from && event.buttons === 1 && event.pointerType === "mouse";
+    // Firefox tells of the cell where it was pressed alone.
+    const over = isHeld ? document.elementFromPoint(event.clientX, event.clientY) : null, to = over && placeInGrid(over);
+    if (to) tellRange(choose(from, to));
+  });
+  document.addEventListener("pointerup", () => { from = null; });
+  document.addEventListener("copy", event => {
+    const text = copied();
+    if (text === null) return;
+    event.clipboardData.setData("text/plain", text);
+    event.preventDefault();
+  });
 }
 
 function listenToFiles() {
@@ -137,6 +182,7 @@ export function listenToAll() {
   for (const it of document.querySelectorAll(".wide"))
     it.addEventListener("scroll", () => it.classList.toggle("scrolled", it.scrollLeft > 0));
   listenToLanes(() => history.now, { goesTo: goToStep, moves: movePass, ends: () => history.leave() });
+  listenToRanges();
   listenToFiles();
   window.addEventListener("beforeunload", event => {
     keeper.now();

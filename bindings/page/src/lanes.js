@@ -133,6 +133,7 @@ function layLanes() {
   at("wider").disabled = at("whole").disabled = view.from === whole.from && view.to === whole.to;
   at("closer").disabled = view.to - view.from <= drawn.least;
   markStep(held);
+  passes?.tellAgain();
 }
 
 // ---- A step

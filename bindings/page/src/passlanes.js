@@ -201,12 +201,17 @@ function pressPass(event, grasped, session, moves) {
 }
 
 // Listens to the passes in the chart. `moves` is called with what is moved, by how much, and whether that is counted
-// from where it is now, or from where it was at first; `ends` where a drag has ended; `tells` with words of a pass.
+// from where it is now, or from where it was at first, and answers why it goes no further; `ends` is called where a
+// drag has ended, and `tells` with words of a pass.
 export function listenToPasses(box, now, { moves, ends, tells }) {
-  let drag = null, frame = 0, wasDragged = false;
+  let drag = null, frame = 0, wasDragged = false, fault = "";
+  const moved = (...given) => {
+    fault = moves(...given);
+    tells(`${fault && `${fault} `}${passWords(now(), given[0].nth)}`);
+  };
   const follow = () => {
     frame = 0;
-    if (drag?.isMoving) moves(drag, ((drag.x - drag.from) / drag.width) * (drag.to - drag.since), false);
+    if (drag?.isMoving) moved(drag, ((drag.x - drag.from) / drag.width) * (drag.to - drag.since), false);
   };
   box.addEventListener("pointerdown", event => {
     const grasped = graspedIn(event.target);
@@ -238,6 +243,7 @@ export function listenToPasses(box, now, { moves, ends, tells }) {
   const show = ({ target }) => {
     const found = graspedIn(target);
     if (!found || drag) return;
+    fault = "";
     if (found.part === "all" && found.nth !== heldPass) holdPass(now(), found.nth);
     tells(passWords(now(), found.nth));
   };
@@ -248,9 +254,14 @@ export function listenToPasses(box, now, { moves, ends, tells }) {
       const grasped = graspedIn(event.target);
       if (event.key === "Escape") drag = null;
       return !!grasped && event.key !== "Escape" && !event.ctrlKey && !event.metaKey && !event.altKey
-        && pressPass(event, grasped, now(), moves);
+        && pressPass(event, grasped, now(), moved);
     },
     isPass: event => wasDragged || graspedIn(event.target) !== null,
-    get isDragging() { return drag !== null; },
+    // Tells again of the pass that has the focus, since its answer came; answers whether one has it.
+    tellAgain() {
+      const grasped = graspedIn(document.activeElement);
+      if (grasped) tells(`${fault && `${fault} `}${passWords(now(), grasped.nth)}`);
+      return grasped !== null;
+    },
   };
 }

@@ -45,6 +45,7 @@ function laySteps(header, count) {
   if (form === laid) return;
   laid = form;
   names = header;
+  choose(null, null);
   const grid = at("grid"), stores = header.slice(2);
   grid.tHead.replaceChildren(layHead(header));
   lines = Array.from({ length: count }, (_, nth) => layLine(stores, nth + 1));
@@ -67,6 +68,7 @@ function inputAt({ row: nth, column }) {
 
 // One cell of the table is reached by Tab; the arrow keys go from it to the others.
 export function hold(it) {
+  choose(null, null);
   const [step, column] = it.dataset.cell.split(" ").map(Number), last = inputAt(heldCell);
   if (last) last.tabIndex = -1;
   it.tabIndex = 0;
@@ -166,15 +168,66 @@ export function stickColumns() {
   stuck = wanted;
 }
 
-// The cells that a range of a spreadsheet fills, from a cell on: of each its step, its column and its text. Null where
-// it is one cell alone, and none where some of it would lie outside of what is edited.
+// ---- Ranges
+
+// A range of cells that is chosen: from the cell where it begins to another one; null where none is.
+let range = null, chosen = [];
+const elementAt = ({ row: nth, column }) => (column === 1 ? lines[nth]?.window : lines[nth]?.own[column - 2]);
+
+// What stands in a cell, as a spreadsheet reads it: without commas between thousands.
+const plainText = it => {
+  const text = it.value ?? it.textContent;
+  return /^\d[\d,]*(\.\d+)?$/.test(text) ? text.replaceAll(",", "") : text;
+};
+
+// Which cell of a forecast an element lies in; null where it is none.
+export function placeInGrid(element) {
+  const td = element.closest("#grid td"), nth = td ? lines.findIndex(it => it.tr === td.parentElement) : -1,
+    column = !td ? 0 : td.cellIndex === 2 ? 1 : td.cellIndex - 5;
+  return nth >= 0 && (column === 1 || column > 1) ? { row: nth, column } : null;
+}
+
+// Chooses the cells from one to another; none where there is no other. Answers how many rows and columns they are.
+export function choose(from, to) {
+  for (const it of chosen) it.classList.remove("chosen");
+  range = from && to && (from.row !== to.row || from.column !== to.column) ? { from, to } : null;
+  chosen = range ? rowsIn(range).flat().map(it => it.closest("td")) : [];
+  for (const it of chosen) it.classList.add("chosen");
+  return range && rowsIn(range).length ? [rowsIn(range).length, rowsIn(range)[0].length] : null;
+}
+
+function rowsIn({ from, to }) {
+  const span = what => [Math.min(from[what], to[what]), Math.max(from[what], to[what])], [top, bottom] = span("row"),
+    [left, right] = span("column"), count = (first, last) => Array.from({ length: last - first + 1 }, (_, nth) =>
+      first + nth);
+  return count(top, bottom).map(nth => count(left, right).map(column => elementAt({ row: nth, column })));
+}
+
+// Chooses one more row or column, or one fewer, from the cell that is held on.
+export function stretchBy(key) {
+  const moves = { ArrowUp: [-1, 0], ArrowDown: [1, 0], ArrowLeft: [0, -1], ArrowRight: [0, 1], PageUp: [-12, 0],
+    PageDown: [12, 0], Home: [-Infinity, 0], End: [Infinity, 0] };
+  const from = range?.from ?? heldCell, last = range?.to ?? heldCell, move = moves[key];
+  const within = (it, least, most) => Math.max(least, Math.min(most, it));
+  return move ? choose(from, { row: within(last.row + move[0], 0, lines.length - 1),
+    column: within(last.column + move[1], 1, names.length - 1) }) : null;
+}
+
+export const hasRange = () => range !== null;
+
+// The range that is chosen as text, its columns with tabs between them; null where there is none.
+export const copied = () => range && rowsIn(range).map(cells => cells.map(plainText).join("\t")).join("\n");
+
+// The cells that a range of a spreadsheet fills, from a cell on: of each that is then another its step, its column and
+// its text. Null where it is one cell alone; not `fits` where some of it would lie outside of what is edited.
 export function pastedFrom(it, text) {
   const [step, column] = it.dataset.cell.split(" ").map(Number),
     rows = text.replace(/\r?\n$/, "").split(/\r?\n/).map(line => line.split("\t"));
   if (rows.length === 1 && rows[0].length === 1) return null;
   const found = rows.flatMap((cells, down) =>
     cells.map((cell, right) => ({ step: step + down, column: column + right, text: cell.trim() })));
-  return found.every(each => inputAt({ row: each.step - 1, column: each.column })) ? found : [];
+  const inputOf = each => inputAt({ row: each.step - 1, column: each.column }), fits = found.every(inputOf);
+  return { fits, cells: fits ? found.filter(each => each.text !== plainText(inputOf(each))) : [] };
 }
 
 // Goes to a step that is there, and answers whether it is.

@@ -198,9 +198,9 @@ def typed_first(use: Use) -> None:
     use.type("pass 0 rate", "fast")
     use.do("await settle(); cell('pass 0 all').focus();")
     key(use, "ArrowRight")
-    said = use.do("return [rudlayog.state.passes[0].bad, at('note').textContent];")
+    said = use.do("return [rudlayog.state.passes[0].bad, at('told').textContent];")
     use.expect("a pass that cannot be read is not moved", spans(use) == first and said[0] == {"rate": "fast"}
-        and said[1].startswith("Pass 1 is not moved: a cell of it cannot be read"), said)
+        and said[1].startswith("A cell of it cannot be read, so it is not moved. Pass 1, New Norcia"), said)
 
 
 def dragging(browser: Browser, page: str) -> tuple[int, list[str]]:

@@ -179,6 +179,69 @@ def pasted(use: Use, setup: bytes, forecast: bytes) -> None:
         use.planned(f"nothing is pasted at {cell}", setup, forecast)
 
 
+# What is copied of the range that is chosen. Firefox lets no test read a made event's data, so its own is read.
+COPY = (
+    "const clipboardData = new DataTransfer(), event = new ClipboardEvent('copy', { clipboardData, bubbles: true, "
+    "cancelable: true }); document.activeElement.dispatchEvent(event); return [event.defaultPrevented, "
+    "event.clipboardData.getData('text/plain')];"
+)
+SHIFT = (
+    "const it = document.activeElement; for (const key of KEYS) it.dispatchEvent(new KeyboardEvent('keydown', { key, "
+    "shiftKey: true, bubbles: true, cancelable: true })); "
+)
+
+
+def copied(use: Use, setup: bytes, forecast: bytes) -> None:
+    """A range that is chosen by keys or by the pointer is copied as text, and pasted where it fits."""
+    rows = [row.split(",")[1:] for row in forecast.decode().split("\n")[1:-1]]
+    wanted = "\n".join("\t".join(row[:3]) for row in rows[88:91])
+    start(use)
+    use.do("const one = cell('89 1'); one.focus(); one.select();")
+    said = use.do(SHIFT.replace("KEYS", "['ArrowDown', 'ArrowDown', 'ArrowRight', 'ArrowRight']") + COPY)
+    use.expect("a range by keys is copied", said == [True, wanted], said, wanted)
+    use.do("const data = new DataTransfer(); at('grid-box').scrollIntoView({ block: 'center' }); "
+        "cell('92 1').scrollIntoView({ block: 'center' }); await wait(60);")
+    places = use.do("return ['89 1', '90 2', '91 3'].map(name => { const box = cell(name).getBoundingClientRect(); "
+        "return [box.left + box.width / 2, box.top + box.height / 2]; });")
+    for does, (x, y) in zip(("Pressed", "Moved", "Moved"), places):
+        use.browser.point(does, x, y)
+    use.browser.point("Released", *places[-1])
+    said = use.do(COPY)
+    use.expect("a range by the pointer is copied", said == [True, wanted], said, wanted)
+    marked = use.do("return document.querySelectorAll('#grid .chosen').length;")
+    use.expect("nine cells are marked", marked == 9, marked)
+    paste = PASTE.replace("CELL", "'100 1'").replace("DATA", json.dumps(wanted))
+    use.do(paste)
+    other = forecast
+    for down, row in enumerate(rows[88:91]):
+        for right, value in enumerate(row[:3]):
+            other = with_cell(other, 100 + down, 2 + right, value)
+    use.planned("a range that was copied is pasted", setup, other)
+    use.do("press('undo'); press('in-units'); await settle(); const one = cell('89 1'); one.focus(); one.select();")
+    kbits = use.do(SHIFT.replace("KEYS", "['ArrowDown', 'ArrowDown', 'ArrowRight', 'ArrowRight']") + COPY)[1]
+    use.expect("a range in kbit/s has no commas", "," not in kbits and kbits != wanted and kbits.count("\t") == 6, kbits)
+    use.do(PASTE.replace("CELL", "'89 1'").replace("DATA", json.dumps(kbits)) + "await settle();")
+    note = use.do("return at('note').textContent;")
+    use.expect("what was copied changes nothing where it is pasted again", use.state()["forecast"] == forecast
+        and note.startswith("Nothing is pasted: these cells have the same"), note)
+    use.do("document.querySelector('[data-shows=held]').click(); await settle(); "
+        "press('in-units'); await settle(); await wait(60); const one = cell('89 1'); one.focus(); "
+        "one.select();")
+    table = records(program_table(setup, forecast))
+    held = use.do(SHIFT.replace("KEYS", "['ArrowRight']") + COPY)[1]
+    own = next(row[6] for row in table if row[0] == "89")
+    use.expect("what a store holds is copied too", held == f"{rows[88][0]}\t{own}", held, own)
+    use.do("document.activeElement.dispatchEvent(new KeyboardEvent('keydown', { key: 'Escape', bubbles: true })); "
+        "await wait(20);")
+    use.expect("Escape ends the choice", not use.do("return document.querySelectorAll('#grid .chosen').length;")
+        and not use.do(COPY)[0])
+    use.do("document.querySelector('[data-shows=arrived]').click(); await settle();")
+
+
+def program_table(setup: bytes, forecast: bytes) -> bytes:
+    return text("table", setup, forecast, text("plan", setup, forecast))
+
+
 def sent(use: Use, setup: bytes, forecast: bytes) -> None:
     """A page with its session in it, which opens with it."""
     start(use)
@@ -423,6 +486,7 @@ def wanted(browser: Browser, page: str, count: int = 200) -> tuple[int, list[str
     folder(use)
     one_unit(use)
     pasted(use, setup, forecast)
+    copied(use, setup, forecast)
     sent(use, setup, forecast)
     variants(use, setup, forecast)
     chart(use, setup, forecast)
