@@ -6,7 +6,10 @@ import { digits } from "./texts.js";
 
 // A number with commas between its thousands alone, as it is shown.
 const MEGA = 1_000_000, BLOCK = 1024, DECIMALS = /^(\d+|\d{1,3}(,\d{3})+)(\.\d+)?$/;
-const short = value => value.toLocaleString("en", { maximumFractionDigits: value < 10 ? 3 : value < 1000 ? 2 : 1 });
+// Numbers with at most one, two or three decimals; a browser takes long to make what writes them.
+const [TENTHS, HUNDREDTHS, THOUSANDTHS] = [1, 2, 3].map(maximumFractionDigits =>
+  new Intl.NumberFormat("en", { maximumFractionDigits }));
+const short = value => (value < 10 ? THOUSANDTHS : value < 1000 ? HUNDREDTHS : TENTHS).format(value);
 
 // The octets of a block of a store, or of one on a link.
 function octetsOf(session, id) {

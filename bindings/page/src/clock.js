@@ -10,18 +10,30 @@ export function lengthOf({ minutes }) {
   return found >= LEAST && found <= MOST ? Math.round(found * MINUTE) : null;
 }
 
+// The begin of step 1 and the length of a step, of each session read once.
+const clocks = new WeakMap();
+function clockOf(session) {
+  if (!clocks.has(session)) clocks.set(session, { start: momentOf(session.begins), length: lengthOf(session),
+    edges: new Map() });
+  return clocks.get(session);
+}
+
 // When a step begins, or the last one ends; null where no time is said.
 export function beginOf(session, step) {
   if (session.edges) return session.edges[step - 1] ?? null;
-  const start = momentOf(session.begins), length = lengthOf(session),
+  const { start, length } = clockOf(session),
     begin = start === null || length === null ? null : start + (step - 1) * length;
   return begin !== null && isShowable(begin) ? begin : null;
 }
 
 // The begins of all steps and the end of the last one; null where no times are said.
 export function edgesOf(session, count) {
-  const edges = Array.from({ length: count + 1 }, (_, nth) => beginOf(session, nth + 1));
-  return edges.includes(null) ? null : edges;
+  const { edges } = clockOf(session);
+  if (!edges.has(count)) {
+    const all = Array.from({ length: count + 1 }, (_, nth) => beginOf(session, nth + 1));
+    edges.set(count, all.includes(null) ? null : all);
+  }
+  return edges.get(count);
 }
 
 export const hasClock = session => beginOf(session, 1) !== null;

@@ -94,3 +94,10 @@ export function cellWith(...inside) {
 }
 
 export const head = (text, more = {}) => make("th", text, { scope: "col", ...more });
+
+// Rows that are laid out by themselves stay rows of a table for a reader of the screen.
+export function giveRoles(table) {
+  for (const [what, role] of Object.entries({ tr: "row", "thead th": "columnheader", "tbody th": "rowheader",
+    td: "cell" }))
+    for (const it of table.querySelectorAll(what)) it.setAttribute("role", role);
+}

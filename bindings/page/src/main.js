@@ -21,6 +21,7 @@ import { dim, showChart, showSetup, showStores, showTexts, showVerdict } from ".
 import { dateWorths, shadedChart } from "./worth.js";
 
 const SHEET_AFTER = 800; // milliseconds
+const MOST_LAID = 200; // passes, of which more are laid for the printer only once that is asked for
 // The page as it came, before anything was shown in it: it is saved with a session inside.
 const source = `<!doctype html>\n${document.documentElement.outerHTML}`;
 const json = id => JSON.parse(at(id).textContent);
@@ -153,7 +154,7 @@ function showLast(session, answer) {
     showSent(desk.side, session, answer);
     showVariants(session, answer);
     clearTimeout(sheetTimer);
-    sheetTimer = setTimeout(layNow, SHEET_AFTER);
+    if (session.passes.length <= MOST_LAID) sheetTimer = setTimeout(layNow, SHEET_AFTER);
   }
   keepSoon();
   shownOf.done++;

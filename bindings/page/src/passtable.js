@@ -1,6 +1,6 @@
 // The table of the passes: what each sends, of which store, and what is lost without it.
 import { LINK, amountsOf } from "./amounts.js";
-import { at, button, cellWith, fill, head, input, keepingFocus, make, mark, number, row,
+import { at, button, cellWith, fill, giveRoles, head, input, keepingFocus, make, mark, number, row,
   write } from "./dom.js";
 import { shown, textOf } from "./moments.js";
 import { faultTyped, inOrder, remarksOn, spanOf, stepsOf, sumOf, withoutPass } from "./passes.js";
@@ -56,6 +56,7 @@ function layPasses(passes, stores) {
   const own = stores.map(it => head(it, { title: `What ${it} sends in the pass` }));
   table.tHead.replaceChildren(row(...heads, ...own));
   keepingFocus(() => table.tBodies[0].replaceChildren(...passes.map((it, nth) => layPass(it, nth, stores))));
+  if (passes.length > MANY) giveRoles(table);
 }
 
 function showTimes(cells, session, pass) {

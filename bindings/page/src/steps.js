@@ -1,7 +1,7 @@
 // The table of the steps: windows and arrivals to edit, and what is sent, held and lost.
 import { amountsOf } from "./amounts.js";
 import { beginOf } from "./clock.js";
-import { at, cellWith, fill, head, input, make, mark, number, row, write } from "./dom.js";
+import { at, cellWith, fill, giveRoles, head, input, make, mark, number, row, write } from "./dom.js";
 import { shown } from "./moments.js";
 import { forecastOf, isSize, storeOfSize } from "./texts.js";
 import { worthSentence } from "./words.js";
@@ -51,10 +51,7 @@ function laySteps(header, count) {
   lines = Array.from({ length: count }, (_, nth) => layLine(stores, nth + 1));
   grid.tBodies[0].replaceChildren(...lines.map(it => it.tr));
   for (const it of grid.querySelectorAll("input")) it.tabIndex = -1;
-  // Rows that are laid out by themselves stay rows of a table for a reader of the screen.
-  for (const [what, role] of Object.entries({ tr: "row", "thead th": "columnheader", "tbody th": "rowheader",
-    td: "cell" }))
-    for (const it of grid.querySelectorAll(what)) it.setAttribute("role", role);
+  giveRoles(grid);
   lines.forEach(({ tr }, nth) => tr.setAttribute("aria-label", `Step ${nth + 1}`));
   heldCell = { row: Math.min(heldCell.row, count - 1),
     column: shows === "arrived" ? Math.min(heldCell.column, header.length - 1) : 1 };

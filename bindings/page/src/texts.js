@@ -11,7 +11,7 @@ export const encode = text => new TextEncoder().encode(text);
 export const NOTHING = new Uint8Array();
 
 const GROUPED = new Intl.NumberFormat("en");
-export const digits = number => GROUPED.format(number);
+export const digits = number => (number >= 0 && number < 1000 ? `${number}` : GROUPED.format(number));
 
 // The columns of a forecast with the size of a store in each step.
 const SIZE = "size:";

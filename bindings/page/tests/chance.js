@@ -86,6 +86,34 @@ async function openOne() {
   for (const hour of ["07", "08", "10"]) addOne(`2026-11-21 ${hour}:00`, `2026-11-21 ${hour}:40`);
 }
 
+// Moves the pointer, which holds a pass or one of its ends, by some pixels.
+const points = (it, type, clientX) => it.dispatchEvent(new PointerEvent(type, { clientX, button: 0,
+  buttons: type === "pointerup" ? 0 : 1, pointerType: "mouse", bubbles: true, cancelable: true }));
+// Drags a pass or one of its ends; now and then Escape takes it back.
+async function dragOne() {
+  const all = shown("#lanes .pass-bar, #lanes .edge"), it = all.length ? oneOf(all) : null;
+  if (!it) return;
+  const box = it.getBoundingClientRect(), from = box.left + box.width * oneOf([0.05, 0.5, 0.95]);
+  done.push(`drag ${it.dataset.cell}`);
+  points(it, "pointerdown", from);
+  const by = chance(300) - 150, before = text(rudlayog.state.forecast), isBack = chance(4) === 0;
+  for (const part of [0.4, 1]) {
+    points(document, "pointermove", from + by * part);
+    await wait(30);
+  }
+  if (isBack) key("Escape");
+  points(document, "pointerup", from + by);
+  if (isBack && text(rudlayog.state.forecast) !== before) tell("a drag that is taken back leaves another forecast");
+}
+function pushOne() {
+  const all = shown("#lanes .pass-bar, #lanes .edge");
+  if (!all.length) return;
+  oneOf(all).focus();
+  done.push(`push ${document.activeElement.dataset.cell}`);
+  for (let turn = chance(4); turn >= 0; turn--) key(oneOf(["ArrowLeft", "ArrowRight", "PageUp", "PageDown"]));
+}
+const ZOOMS = ["closer", "wider", "whole"];
+
 const ACTS = {
   cell: () => typeSome("#grid input"), passCell: () => typeSome("#passes input"), store: () => typeSome("#stores input"),
   limit: () => typeSome("#limits input"), variantName: () => typeSome("#variants input"),
@@ -96,12 +124,13 @@ const ACTS = {
   undo: () => press("undo"), redo: () => press("redo"), ctrlZ: () => key("z", true), escape: () => key("Escape"),
   order: () => press("in-order"), units: () => press("in-units"), keep: () => press("keep"),
   back: () => click("[data-act^=open], [data-act^=compare], [data-act^=drop]"), move: () => click("[data-act^=down]"),
-  cancel: () => click("[data-act^=cancel]"), add: addOne, shows: () => click("[data-shows]"),
+  cancel: () => click("[data-act^=cancel]"), add: addOne, drag: dragOne, push: pushOne, zoom: () => press(oneOf(ZOOMS)),
+  shows: () => click("[data-shows]"),
   rest: () => { at("step").value = String(2 + chance(12)); press("rest"); }, open: openOne,
 };
 const OFTEN = ["cell", "cell", "cell", "passCell", "passCell", "passCell", "store", "look", "undo", "undo", "redo",
   "ctrlZ", "escape", "add", "cancel", "limit", "variantName", "clock", "name", "order", "units", "keep", "back", "move",
-  "shows"], SELDOM = ["minutes", "rest", "open", "open"];
+  "shows", "drag", "drag", "push", "zoom"], SELDOM = ["minutes", "rest", "open", "open"];
 
 // ---- What must hold
 
