@@ -64,3 +64,6 @@ export function blocksTyped(session, typed, { id, key, step }) {
   const blocks = step ? (value * minutesOf(session, step) * 60_000) / (8 * octets) : (value * MEGA) / octets;
   return String(["size", "window", "limit"].includes(key) ? Math.floor(blocks + 1e-9) : Math.ceil(blocks - 1e-9));
 }
+
+// Whether a limit for all steps is a rate: it is one where all of them are of one length.
+export const isLimitRate = ({ isInBlocks, edges }) => !isInBlocks && edges === null;

@@ -1,6 +1,6 @@
 // What a planner does: each is a change of the session, or what is saved of it. What needs an answer waits for the one
 // to this session.
-import { LINK, amountsOf, blocksTyped } from "./amounts.js";
+import { LINK, amountsOf, blocksTyped, isLimitRate } from "./amounts.js";
 import { hasClock } from "./clock.js";
 import { at, make } from "./dom.js";
 import { dropped, ofFolder, openedFrom, readFiles } from "./files.js";
@@ -39,7 +39,8 @@ export function changeCell(it) {
 
 function changeSetup(it, kind, array, nth, key) {
   const { now } = history, { id } = setupOf(now.setup)[array][nth].keys;
-  const typed = array === "limit" ? it.value : blocksTyped(now, it.value, { id, key });
+  const isPlain = array === "limit" && !isLimitRate(now), typed = isPlain ? it.value
+    : blocksTyped(now, it.value, array === "limit" ? { id: LINK, key: array, step: 1 } : { id, key });
   history.change({ setup: withNumber(now.setup, array, nth, key, typed) }, kind);
 }
 

@@ -17,7 +17,7 @@ export function stampOf(text) {
 // `told` is called with what a planner must know of the storage, or with nothing.
 export function keeperOf(storage, told) {
   const tab = newName();
-  let key = null, timer = 0, due = null, isChanged = false;
+  let key = null, timer = 0, due = null, isPlain = false, wasWorkedOn = false;
 
   const read = name => {
     try {
@@ -64,23 +64,24 @@ export function keeperOf(storage, told) {
     // A little later, so that no key press waits for it.
     soon(session, about) {
       due = { session, about };
-      ({ isChanged } = about);
+      wasWorkedOn ||= !about.isAsOpened;
+      isPlain = !wasWorkedOn && !about.isChanged;
       clearTimeout(timer);
       timer = setTimeout(write, SOON);
     },
     now: write,
-    // What is opened next is kept under a name of its own. Of what is in a file as it is, nothing has to stay.
+    // What is opened next is kept under a name of its own. An example or a file that was only looked at does not stay.
     part() {
       write();
-      if (key && !isChanged && read(key)?.tab === tab) storage().removeItem(PREFIX + key);
-      [key, due] = [null, null];
+      if (key && isPlain && read(key)?.tab === tab) storage().removeItem(PREFIX + key);
+      [key, due, wasWorkedOn] = [null, null, false];
       sessionStorage.removeItem("rudlayog");
     },
     // Takes over what is kept under a name, so that a page which has it open goes on under another.
     take(name) {
       const record = read(name), session = record && fromJson(record.session);
       if (!session) return null;
-      key = name;
+      [key, wasWorkedOn] = [name, true];
       try {
         storage().setItem(PREFIX + name, JSON.stringify({ ...record, tab }));
         sessionStorage.setItem("rudlayog", name);

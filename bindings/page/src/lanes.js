@@ -245,5 +245,10 @@ export function listenToLanes(now, { goesTo, moves, ends }) {
   box.addEventListener("keydown", press);
   for (const [id, does] of [["closer", () => zoom(0.5)], ["wider", () => zoom(2)], ["whole", () => zoom(Infinity)]]) at(
     id).addEventListener("click", () => drawn && does());
-  new ResizeObserver(() => drawn && layLanes()).observe(box.parentElement);
+  // What is told may be higher than before, which changes nothing in the chart.
+  let width = 0;
+  new ResizeObserver(([{ contentRect }]) => {
+    if (drawn && contentRect.width !== width) layLanes();
+    ({ width } = contentRect);
+  }).observe(box.parentElement);
 }

@@ -17,7 +17,7 @@ import { layCards, showKept } from "./start.js";
 import { showSteps } from "./steps.js";
 import { forecastOf } from "./texts.js";
 import { showVariants } from "./variants.js";
-import { dim, showChart, showSetup, showStores, showTexts, showVerdict } from "./view.js";
+import { dim, lostIn, showChart, showSetup, showStores, showTexts, showVerdict } from "./view.js";
 import { dateWorths, shadedChart } from "./worth.js";
 
 const SHEET_AFTER = 800; // milliseconds
@@ -79,8 +79,9 @@ const titleOf = ({ name, setup, forecast }) => name
 export function keepSoon() {
   const session = history.now;
   if (!session.setup.length && !session.forecast.length) return;
-  keeper.soon(session, { title: titleOf(session), lost: desk.answers.known(session)?.loss ?? null, mark: givenMark,
-    isChanged: !history.isSaved });
+  const answer = desk.answers.known(session), loss = answer?.loss ?? null;
+  keeper.soon(session, { title: titleOf(session), lost: loss, inUnit: loss && answer.records ? lostIn(session, answer)
+    : null, mark: givenMark, isChanged: !history.isSaved, isAsOpened: history.isAsOpened });
 }
 
 function showClock(session) {

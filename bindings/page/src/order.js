@@ -26,9 +26,8 @@ function stretchesIn({ stretches }) {
 const listOf = words => (words.length > 1 ? `${words.slice(0, -1).join(", ")} and ${words.at(-1)}`
   : words.join());
 
-// Why a store loses what it loses, in a sentence.
-export function lossSentence(id, lost, count, sum, certificate) {
-  const all = count === 1 ? ", as few as it can"
-    : `, and the first ${count} stores ${sum} together, as few as they can`;
-  return `${id} loses ${lost}${all}: more comes to ${stretchesIn(certificate)} than can stay there and leave.`;
+// What a store loses, what it loses together with those above it where there are any, and where more comes than stays
+// and leaves.
+export function lossSentence(id, lost, sum, certificate) {
+  return `${id} loses ${lost}${sum ? `, ${sum} with those above it` : ""}: ${stretchesIn(certificate)}`;
 }

@@ -100,12 +100,15 @@ export function showPasses(session) {
   write(at("passes-fault"), wordsOnBad(session), "fault");
 }
 
+const NAMES = { from: "begin", to: "end" };
+
 // What is wrong with the first pass of which something cannot be read.
 function wordsOnBad(session) {
   const nth = session.passes.findIndex(it => it.bad), pass = session.passes[nth];
   if (!pass) return "";
-  const fault = faultTyped(session, pass, session.passes.filter(it => it !== pass));
-  return `Pass ${nth + 1}: ${fault ?? "type it again."} The plan has it as it was before.`;
+  const fault = faultTyped(session, pass, session.passes.filter(it => it !== pass)),
+    cells = Object.keys(pass.bad).map(it => NAMES[it] ?? it).join(" and ");
+  return `Pass ${nth + 1}, ${cells}: ${fault ?? "type it again."} The plan has it as it was before.`;
 }
 
 // Shows what the passes send, and then asks what is lost without each of them.

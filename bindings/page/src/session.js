@@ -124,7 +124,7 @@ export function fromJson(text) {
 
 // The session that is worked on, with those before and after it. `changed` is called after each change.
 export function historyOf(changed) {
-  let now = EMPTY, done = [], undone = [], last = null, since = EMPTY, saved = EMPTY;
+  let now = EMPTY, done = [], undone = [], last = null, since = EMPTY, saved = EMPTY, opened = EMPTY;
 
   function go(from, to) {
     if (!from.length) return;
@@ -140,6 +140,8 @@ export function historyOf(changed) {
     get canUndo() { return done.length > 0; },
     get canRedo() { return undone.length > 0; },
     get isSaved() { return now === saved || !(now.setup.length || now.forecast.length); },
+    // Whether nothing was changed since it was opened.
+    get isAsOpened() { return now === opened; },
     // The session before the changes of this kind began, or the one that is there.
     before: kind => (kind !== null && kind === last ? since : now),
     // Changes of one kind after another, such as keys that are pressed in one cell, are undone as one.
@@ -151,7 +153,7 @@ export function historyOf(changed) {
     // What is opened can be undone too. It is saved where it came from a file.
     open(session, isSaved) {
       if (now.setup.length || now.forecast.length) done = [...done, now].slice(-MOST_KEPT);
-      [now, undone, last] = [session, [], null];
+      [now, undone, last, opened] = [session, [], null, session];
       if (isSaved) saved = session;
       changed();
     },
@@ -159,6 +161,7 @@ export function historyOf(changed) {
     amend(more) {
       const it = { ...now, ...more };
       if (now === saved) saved = it;
+      if (now === opened) opened = it;
       now = it;
       changed();
     },

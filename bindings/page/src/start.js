@@ -42,11 +42,11 @@ async function drawCard(ask, session, image) {
 // Lists what is kept.
 export function showKept(list) {
   at("kept").hidden = !list.length;
-  at("kept-list").tBodies[0].replaceChildren(...list.map(({ name, time, title, lost }) => {
+  at("kept-list").tBodies[0].replaceChildren(...list.map(({ name, time, title, lost, inUnit }) => {
     const acts = cellWith(button("Open", `kept-open ${name}`, `Open ${title}`),
       button("Forget", `kept-forget ${name}`, `Forget ${title}`));
     acts.className = "text";
-    const said = typeof lost === "number" ? digits(lost) : "not known";
+    const said = inUnit ?? (typeof lost === "number" ? digits(lost) : "not known");
     return row(make("td", shown(time * 1000), { className: "text" }),
       make("th", title, { scope: "row", className: "text" }), make("td", said, { className: lost ? "lost" : "is" }),
       acts);

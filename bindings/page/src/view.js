@@ -1,5 +1,5 @@
 // What the page shows of a session and of the answer to it: verdict, the program's chart, stores and texts.
-import { LINK, amountsOf, octetsIn } from "./amounts.js";
+import { LINK, amountsOf, isLimitRate, octetsIn } from "./amounts.js";
 import { at, button, cellWith, fill, head, input, keepingFocus, make, mark, number, row,
   write } from "./dom.js";
 import { firstsOf, lossSentence } from "./order.js";
@@ -44,7 +44,7 @@ export function showVerdict(session, answer) {
     ? `Expected: ${said.expected}.${said.hint ? ` Found: ${said.hint}.` : ""}` : "";
   const reference = session.variants[session.reference], { isInBlocks } = session, { shownSum } = amountsOf(session);
   const differs = reference && isKnown ? difference(isInBlocks ? loss : octetsIn(session, lossesIn(answer)),
-    isInBlocks ? reference.loss : octetsIn(reference.session, reference.stores), shownSum) : null;
+    isInBlocks ? reference.loss : octetsIn(reference.session, reference.stores), shownSum, isInBlocks) : null;
   at("more").textContent = differs?.words ?? "";
   at("more").className = ["better", "", "worse"][(differs?.sign ?? 0) + 1];
   const { before } = session, lost = before && (isInBlocks ? before.lost
@@ -137,15 +137,16 @@ function layStores(setup) {
     ...SUMS.map(([what]) => make("td", "", { className: orderedName(what) }))));
   at("limits").replaceChildren(...setup.limit.flatMap(({ keys }, nth) => {
     const label = make("label", `channel ${keys.channel}: at most `);
-    label.append(storeCell("limit", nth, "blocks", `Blocks that channel ${keys.channel} sends at most in a step`),
-      " blocks a step");
+    label.append(storeCell("limit", nth, "blocks", `What channel ${keys.channel} sends at most in a step`), " ",
+      make("span", "", { className: "limit-unit" }));
     return [label, " "];
   }));
 }
 
 // Lays the rows of the stores, with what is edited in them.
 export function showSetup(session, place) {
-  const setup = setupOf(session.setup), isStill = !isMovable(session), { size, volume } = amountsOf(session);
+  const setup = setupOf(session.setup), isStill = !isMovable(session), { size, volume } = amountsOf(session),
+    limit = limitShown(session);
   for (const id of ["stores", "limits", "stores-hint"]) at(id).hidden = !setup;
   at("stores-none").hidden = !!setup;
   if (!setup) return;
@@ -157,11 +158,17 @@ export function showSetup(session, place) {
   });
   for (const it of ["stores", "limits"].flatMap(id => [...at(id).querySelectorAll("input")])) {
     const [array, nth, key] = it.dataset.cell.split(" "), { keys } = setup[array][nth], text = keys[key] ?? "0";
-    const isInUnit = !session.isInBlocks && array !== "limit", isPlain = !isInUnit || !/^\d+$/.test(text);
-    const amount = key === "size" ? size : volume;
-    fill(it, isPlain ? text : amount(keys.id, Number(text)));
+    const isPlain = session.isInBlocks || !/^\d+$/.test(text), amount = key === "size" ? size : volume;
+    fill(it, isPlain ? text : array === "limit" ? limit.text(Number(text)) : amount(keys.id, Number(text)));
     mark(it, place?.array === array && place.nth === Number(nth) && place.key === key, "said expected");
   }
+  for (const it of at("limits").querySelectorAll(".limit-unit")) write(it, limit.unit, "limit-unit");
+}
+
+// How a limit for all steps is shown: as a rate where all steps are of one length.
+function limitShown(session) {
+  const { rate, flow } = amountsOf(session), isRate = isLimitRate(session);
+  return { text: blocks => (isRate ? rate(LINK, blocks, 1) : String(blocks)), unit: isRate ? flow : "blocks a step" };
 }
 
 // The focus goes with a store that was moved: to the button that moves it on, or back where it can go no further.
@@ -182,7 +189,8 @@ function showSums(cells, id, sums, size, volume) {
 
 let lossesSaid = "";
 // What stores lose together with those above them, and why, where the plan shows it.
-function showFirsts(stores, records, firsts, { total, volume }) {
+function showFirsts(stores, records, firsts, { total, volume, unit }) {
+  const inUnit = unit === "blocks" ? "" : ` ${unit}`;
   const column = 6 + SUMS.findIndex(([what]) => what === "together"), sentences = [];
   document.body.classList.toggle("unordered", !firsts);
   for (const [nth, certificate] of firsts?.entries() ?? []) {
@@ -190,12 +198,14 @@ function showFirsts(stores, records, firsts, { total, volume }) {
     const sum = total(stores.slice(0, nth + 1).map(({ keys }) => [keys.id, records.stores.get(keys.id)?.lost ?? 0]));
     write(at("stores").tBodies[0].rows[nth].cells[column], certificate ? sum : "not shown",
       certificate?.loss ? "ordered is" : "ordered is none");
-    if (certificate && lost) sentences.push(lossSentence(id, volume(id, lost), nth + 1, sum, certificate));
+    if (certificate && lost) sentences.push(lossSentence(id, `${volume(id, lost)}${inUnit}`, nth && `${sum}${inUnit}`,
+      certificate));
   }
   const text = sentences.join("\n");
   if (text === lossesSaid) return;
   lossesSaid = text;
   at("losses").replaceChildren(...sentences.map(it => make("li", it)));
+  at("losses-hint").hidden = !sentences.length;
 }
 
 export function showStores(session, answer, records, place) {

@@ -4,14 +4,14 @@ import { digits } from "./texts.js";
 
 const LARGEST = 1_000_000; // MAX_BLOCKS of mm_base, which no window, size or limit is above
 
-// The verdict in a sentence; what is lost also as `lost` in another unit, where that is said.
+// The verdict in a sentence; what is lost as `lost` in another unit than blocks, where that is shown.
 export function sentenceOf({ kind, place, loss, bound }, lost) {
-  const counted = `${digits(loss)} ${loss === 1 ? "block" : "blocks"}`;
-  const blocks = lost ? `${lost} (${counted}) are lost` : `${counted} ${loss === 1 ? "is" : "are"} lost`;
+  const blocks = lost ? `${lost} are lost` : `${digits(loss)} ${loss === 1 ? "block is" : "blocks are"} lost`,
+    fewer = lost ? "less" : "fewer";
   switch (kind) {
-    case "least": return loss ? `${blocks}, and no plan that fits loses fewer` : "Nothing is lost";
+    case "least": return loss ? `${blocks}, and no plan that fits loses ${fewer}` : "Nothing is lost";
     case "least in order": return loss
-      ? `${blocks}, and no plan that fits loses fewer, nor does any lose fewer of the first stores, however many`
+      ? `${blocks}, and no plan that fits loses ${fewer}, nor does any lose ${fewer} of the first stores, however many`
       : "Nothing is lost";
     case "does not fit": return `The plan does not fit: step ${place} sends more than its window or a channel's limit`;
     case "loss is": return `The loss that the plan says is wrong: ${blocks}`;
@@ -22,8 +22,8 @@ export function sentenceOf({ kind, place, loss, bound }, lost) {
       return `The plan fits, and ${blocks}; its cut shows only that no plan loses fewer than ${digits(bound)}`;
     case "first not shown": {
       const [first, them] = place === 1 ? ["store", "it"] : [`${place} stores`, "them"];
-      return "No plan that fits loses fewer blocks; but what the plan says of its first "
-        + `${first} does not show that none loses fewer of ${them}`;
+      return `No plan that fits loses ${lost ? "less" : "fewer blocks"}; but what the plan says of its first ${first} `
+        + `does not show that none loses ${fewer} of ${them}`;
     }
   }
 }
@@ -81,9 +81,9 @@ export function worthSentence(worth) {
   return now === least ? `${larger}.` : `${larger}; ${otherwise} ${lost} more ${without === 1 ? "is" : "are"} lost.`;
 }
 
-// How a loss differs from that of the reference, as numbers that are shown so.
-export function difference(loss, reference, shownSum) {
-  const more = loss - reference;
-  const how = more > 0 ? `${shownSum(more)} more than` : more < 0 ? `${shownSum(-more)} fewer than` : "as many as";
+// How a loss differs from that of the reference, as numbers that are shown so, of blocks or of another unit.
+export function difference(loss, reference, shownSum, isInBlocks) {
+  const more = loss - reference, [fewer, many] = isInBlocks ? ["fewer", "many"] : ["less", "much"];
+  const how = more > 0 ? `${shownSum(more)} more than` : more < 0 ? `${shownSum(-more)} ${fewer} than` : `as ${many} as`;
   return { words: `${how} the reference, ${shownSum(reference)}`, sign: Math.sign(more) };
 }

@@ -76,6 +76,13 @@ def work_is_kept(use: Use, setup: bytes, forecast: bytes) -> None:
     use.expect("what comes out of the list is in no file", use.do(LEAVE))
     use.do("document.querySelector('[data-saves=session]').click(); await wait(300);")
     use.expect("what is in a file is left without a question", not use.do(LEAVE))
+    use.expect("what was worked on stays in the list, also where it is in a file", ["mission"] == [
+        name for name, _ in use.do(KEPT) if name == "mission"])
+    use.do("[...document.querySelectorAll('[data-act^=kept-open]')].find(it => it.getAttribute('aria-label') === 'Open "
+        "mission').click(); await wait(60); await settle();")
+    use.expect("and once more", ["mission"] == [name for name, _ in use.do(KEPT) if name == "mission"])
+    use.do("[...document.querySelectorAll('[data-act^=kept-open]')].find(it => it.getAttribute('aria-label') === 'Open "
+        "mission').click(); await wait(60); await settle();")
     use.type("91 1", "5")
     use.do("await wait(500);")
     ready(use.browser, use.page)
@@ -668,7 +675,7 @@ def stations_of_missions(use: Use) -> None:
     said = use.do("return [cell('pass 1 station').value, cell('pass 1 station').getAttribute('aria-invalid'), "
         "at('passes-fault').textContent];")
     use.expect("an unknown station", said == ["Kourou", "true",
-        "Pass 2: The mission has the stations G, H. The plan has it as it was before."], said)
+        "Pass 2, station: The mission has the stations G, H. The plan has it as it was before."], said)
     use.planned("an unknown station: the plan stays", setup, forecast)
     cancel(use, 0)
     use.expect("Cancel after it", use.state()["forecast"] == missions.forecast_without({"mission.toml": LIMITED},

@@ -86,8 +86,7 @@ def one_unit(use: Use) -> None:
     rows = records(said["table"])
     lost = {id: sum(int(row[4]) for row in rows if row[2] == id) for id in {row[2] for row in rows}}
     mega = f"{sum(lost.values()) / 1000:.2f} MB"
-    use.expect("MB in the verdict", said["said"].startswith(f"{mega} ({sum(lost.values()):,} blocks) are lost, and no "),
-        said["said"])
+    use.expect("MB in the verdict", said["said"] == f"{mega} are lost, and no plan that fits loses less", said["said"])
     use.do("press('keep'); await wait(60); await settle(); document.querySelector('[data-act=\"cancel 1\"]').click(); "
         "await wait(60); await settle(); await wait(1200);")
     words = use.do(WORDS.replace("PARTS", "#lanes, #told, #passes, #variants, #variants-passes, #more, .overview, "
