@@ -36,7 +36,7 @@ export const octetsIn = (session, pairs) =>
 
 // Of a session: how a volume in a store, its size, and what flows in a step are shown, and the totals of stores, which
 // are given as pairs of an identifier and blocks; sums as numbers, with how they are shown; and the rate at which so
-// much is sent in some minutes.
+// much is sent in some minutes, on a link or of a store.
 export function amountsOf(session) {
   if (session.isInBlocks) return IN_BLOCKS;
   const octets = pairs => octetsIn(session, pairs);
@@ -51,7 +51,7 @@ export function amountsOf(session) {
     rate: (id, blocks, step) => flow(blocks * octetsOf(session, id), step),
     total: pairs => short(octets(pairs) / MEGA),
     totalRate: (pairs, step) => flow(octets(pairs), step),
-    pace: (blocks, minutes) => `${short((8 * blocks * octetsOf(session, LINK)) / (minutes * 60_000))} kbit/s`,
+    pace: (blocks, minutes, id = LINK) => `${short((8 * blocks * octetsOf(session, id)) / (minutes * 60_000))} kbit/s`,
   };
 }
 

@@ -5,7 +5,7 @@ import { LINK, amountsOf } from "./amounts.js";
 import { beginOf, edgesOf, hasClock } from "./clock.js";
 import { at, make } from "./dom.js";
 import { DAY, HOUR, MINUTE, shown, shownSpan } from "./moments.js";
-import { listenToPasses, showPassLanes } from "./passlanes.js";
+import { listenToPasses, printedStations, showPassLanes } from "./passlanes.js";
 import { sentBy } from "./passtable.js";
 import { missionOf } from "./passes.js";
 import { setupOf } from "./setup.js";
@@ -26,8 +26,7 @@ const fractionAt = place => (place - view.from) / (view.to - view.from);
 // ---- The axis
 
 // The marks of the axis with their places: the time of UTC where the steps have any, and else the number of the step.
-function marksOf(session) {
-  const { from, to } = view;
+function marksOf(session, { from, to }) {
   if (!hasClock(session)) {
     const by = [1, 2, 5, 10, 20, 50, 100].find(it => (to - from) / it <= MARKS) ?? 100;
     return drawn.edges.slice(1).filter(it => it === 1 || it % by === 0).map(it => [it - 0.5, `${it}`]);
@@ -40,13 +39,13 @@ function marksOf(session) {
 
 const said = (words, tone = "") => make("span", words, { className: `said ${tone}`.trim() });
 
-function axis(session) {
+function axis(session, { view: { from, to }, fractionAt: partAt }) {
   const [row, box] = laneOf(hasClock(session) ? "UTC" : "step", said(`in ${drawn.amounts.unit}`));
   row.classList.add("axis");
-  for (const [place, words] of marksOf(session)) {
-    if (place < view.from || place > view.to) continue;
+  for (const [place, words] of marksOf(session, { from, to })) {
+    if (place < from || place > to) continue;
     const mark = make("span", words);
-    mark.style.left = `${(100 * fractionAt(place)).toFixed(3)}%`;
+    mark.style.left = `${(100 * partAt(place)).toFixed(3)}%`;
     box.append(mark);
   }
   return row;
@@ -103,6 +102,17 @@ function storeLane([id, sums], nth, scale) {
   return row;
 }
 
+const lanesBelow = (records, scale) => [windowLane(records, scale),
+  ...[...records.stores].map((it, nth) => storeLane(it, nth, scale))];
+
+// The chart of an answer to be printed: all of its time.
+export function printedLanes(session, answer) {
+  if (drawn?.session !== session) showLanes(session, answer);
+  const { whole, edges, records } = drawn, scale = scaleOf(whole, edges), made = make("div", "", { className: "lanes" });
+  made.append(axis(session, scale), ...printedStations(session, drawn, whole), ...lanesBelow(records, scale));
+  return made;
+}
+
 const isNarrow = () => matchMedia("(max-width: 600px)").matches;
 
 // Draws the chart of an answer, of all steps where it is of others than the last one.
@@ -123,10 +133,9 @@ export function showLanes(session, { records, plan }) {
 
 function layLanes() {
   const { session, records, count, whole, edges } = drawn, box = at("lanes"), scale = scaleOf(view, edges);
-  at("lanes-axis").replaceChildren(axis(session));
+  at("lanes-axis").replaceChildren(axis(session, scale));
   showPassLanes(drawn, view, sessionNow());
-  at("lanes-stores").replaceChildren(windowLane(records, scale),
-    ...[...records.stores].map((it, nth) => storeLane(it, nth, scale)));
+  at("lanes-stores").replaceChildren(...lanesBelow(records, scale));
   box.classList.toggle("narrow", isNarrow());
   at("lanes-stores").setAttribute("aria-valuemax", String(count));
   box.dataset.steps = `${stepOf(view.from)} ${stepOf(Math.ceil(view.to) - 1)}`;

@@ -41,8 +41,8 @@ function passWords(session, nth) {
 // ---- What is laid
 
 // What leaves in a pass, store above store, as parts of its greatest rate.
-function dumpsIn(pass, nth, [from, to]) {
-  const { edges, sent, ids } = chart, own = scaleOf({ from, to }, edges), { dumps } = sent[nth];
+function dumpsIn({ edges, sent, ids }, pass, nth, [from, to]) {
+  const own = scaleOf({ from, to }, edges), { dumps } = sent[nth];
   const timeOf = step => [Math.max(from, edges[step - 1]), Math.min(to, edges[step])];
   const rateOf = (step, blocks) => { const [a, b] = timeOf(step); return b > a ? blocks / (b - a) : 0; };
   const most = Math.max(Number.MIN_VALUE, ...pass.windows.map(([step, blocks]) => rateOf(step, blocks)));
@@ -62,8 +62,8 @@ function bodyOf(nth) {
   return made;
 }
 
-function setPlace(element, [from, to]) {
-  const [left, right] = [from, to].map(scale.fractionAt);
+function setPlace(element, [from, to], { fractionAt } = scale) {
+  const [left, right] = [from, to].map(fractionAt);
   element.style.left = `${(100 * left).toFixed(4)}%`;
   element.style.width = `${(100 * (right - left)).toFixed(4)}%`;
 }
@@ -153,7 +153,7 @@ function layBody(session, { pass, nth, place }) {
   body.classList.toggle("still", !isMovablePass(session, pass));
   tell(body, session, nth, "", place[0]);
   mark(body, !!pass.bad, "passes-fault");
-  if (chart.session === session) body.replaceChildren(dumpsIn(pass, nth, place));
+  if (chart.session === session) body.replaceChildren(dumpsIn(chart, pass, nth, place));
   if (body.parentElement !== box) box.append(body);
 }
 
@@ -162,6 +162,24 @@ export function showPassLanes(drawn, view, session) {
   chart = drawn;
   scale = scaleOf(view, drawn.edges);
   layPassLanes(session);
+}
+
+// The lanes of the stations of a chart that is printed, with all of its time.
+export function printedStations(session, drawn, whole) {
+  const own = scaleOf(whole, drawn.edges), all = session.passes.map((pass, nth) =>
+    ({ pass, nth, place: placeInChart(session, drawn, pass) })).filter(it => it.place && own.isShown(...it.place));
+  return namesIn(session).map(name => {
+    const [lane, box] = laneOf(name, "");
+    lane.classList.add("station");
+    for (const { pass, nth, place } of all) {
+      if (nameOfPass(pass) !== name) continue;
+      const body = make("span", "", { className: "pass-bar" });
+      setPlace(body, place, own);
+      body.append(dumpsIn(drawn, pass, nth, place));
+      box.append(body);
+    }
+    return lane;
+  });
 }
 
 // ---- Moving

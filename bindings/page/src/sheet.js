@@ -1,8 +1,10 @@
-// What is printed: the mission with its verdict and checksums, the chart on a page of its own, and each pass with what
-// stores send in it.
+// What is printed: the mission with its verdict and checksums, the chart over the time and that of the program, each on
+// a page of its own, and each pass with what stores send in it, in the order of the dumps.
 import { LINK, amountsOf } from "./amounts.js";
-import { head, make, row } from "./dom.js";
-import { textOf } from "./moments.js";
+import { beginOf, hasClock } from "./clock.js";
+import { at, head, make, row } from "./dom.js";
+import { printedLanes } from "./lanes.js";
+import { MINUTE, textOf } from "./moments.js";
 import { sentBy } from "./passtable.js";
 import { spanOf, stepSpan, stepsOf, sumOf } from "./passes.js";
 import { lostIn } from "./view.js";
@@ -35,7 +37,7 @@ function rowsOf(records, startOf, [first, last], until, of) {
   });
 }
 
-function passSection(session, records, startOf, nth, of) {
+function passSection(session, records, startOf, nth, { of, dumps }) {
   const pass = session.passes[nth], next = session.passes.slice(nth + 1).find(it => it.windows.length);
   const count = records.steps.length, { unit, volume } = amountsOf(session), most = volume(LINK, sumOf(pass));
   const until = next ? stepSpan(session, next, count)[0] : count + 1;
@@ -49,7 +51,33 @@ function passSection(session, records, startOf, nth, of) {
     [id, ...[sent, before, after, lost].map(it => volume(id, it))]);
   const heads = ["<store", `sent, ${unit}`, "held before", "held after", "lost until the next"];
   made.append(tableOfRows(heads, rows));
+  const listed = dumpsOf(session, pass, dumps);
+  if (listed.length) made.append(tableOfRows(["<from", "<to", "<dump of", `sent, ${unit}`, ...listed[0].slice(4, 5)
+    .map(() => "at")], listed));
   return made;
+}
+
+// The dumps of a pass in their order: in a step each store sends evenly, beside the others; at one rate after another
+// they are one. Without a clock their steps stand in place of times.
+function dumpsOf(session, pass, dumps) {
+  const { volume, pace } = amountsOf(session), rows = [], last = new Map();
+  for (const { step, id, blocks } of dumps) {
+    const edges = [step, step + 1].map(it => beginOf(session, it)), hasTimes = !edges.includes(null);
+    const [from, to] = !hasTimes ? [step, step + 1] : pass.from === null ? edges
+      : [Math.max(edges[0], pass.from), Math.min(edges[1], pass.to)];
+    const before = last.get(id), isOn = before?.hasTimes && before.to === from
+      && before.blocks * (to - from) === blocks * (before.to - before.from);
+    if (isOn) Object.assign(before, { to, blocks: before.blocks + blocks });
+    else {
+      const made = { from, to, id, blocks, hasTimes };
+      last.set(id, made);
+      rows.push(made);
+    }
+  }
+  const time = it => textOf(it, "T").slice(11), when = it => (it.hasTimes ? [time(it.from), time(it.to)]
+    : [`step ${it.from}`, `step ${it.to - 1}`]);
+  return rows.map(it => [...when(it), it.id, volume(it.id, it.blocks), ...(it.hasTimes
+    ? [pace(it.blocks, (it.to - it.from) / MINUTE, it.id)] : [])]);
 }
 
 // A table of these rows. A head that begins with < is of words.
@@ -110,7 +138,11 @@ export async function sheetParts(session, answer, starts) {
   const chart = make("div", "", { className: "chart-page" }), sent = sentBy(session.passes, records);
   const begin = records.steps.length ? whenOf(session, { from: null, windows: [[1, 0], [records.steps.length, 0]] })
     : "";
-  chart.append(make("h2", "Chart"), await pictureOf(answer.chart));
+  const lanes = make("div", "", { className: "chart-page" }), legend = at("legend").cloneNode(true);
+  legend.removeAttribute("id");
+  lanes.append(make("h2", `Chart, over ${hasClock(session) ? "the time in UTC" : "the steps"}`),
+    printedLanes(session, answer), legend);
+  chart.append(make("h2", "The program's chart, over the steps"), await pictureOf(answer.chart));
   const top = make("div");
   top.append(make("h1", session.name || "Downlink plan"),
     make("p", `${sentenceOf(answer.verdict, lostIn(session, answer))}.`, { className: "verdict" }));
@@ -124,8 +156,8 @@ export async function sheetParts(session, answer, starts) {
   const { unit, total } = amountsOf(session), lost = total(early);
   passes.append(make("h2", `Passes${session.passes.length ? "" : ": none"}`),
     ...(lost === "0" ? [] : [make("p", `Before the first pass ${lost} ${unit} are lost.`)]),
-    ...session.passes.map((_, nth) => passSection(session, records, startOf, nth, sent[nth].of)));
+    ...session.passes.map((_, nth) => passSection(session, records, startOf, nth, sent[nth])));
   namePages(session.name || "Downlink plan");
-  return [top, chart, passes];
+  return [top, lanes, chart, passes];
 }
 

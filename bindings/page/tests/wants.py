@@ -107,6 +107,25 @@ def one_unit(use: Use) -> None:
     use.expect("printed pages have the mission's name", title[0] == "Orbiter, week 10", title)
 
 
+def printed(use: Use) -> None:
+    """What is printed has the dumps of each pass with their times, as the Python package's timeline has them; the chart
+    over the time; and the name of the mission."""
+    start(use, "mars_week")
+    use.do("await settle(); await wait(1200);")
+    rows = [line.split(",") for line in (WEEK / "timeline.csv").read_text(encoding="utf-8").split("\n")[1:-1]]
+    wanted = [[row[2][11:19], row[3][11:19], row[4], row[6], row[7]] for row in rows]
+    shown = use.do("return [...document.querySelectorAll('#sheet .passes-page section')].flatMap(section => "
+        "[...section.querySelectorAll('table:last-of-type tbody tr')].map(row => [...row.cells].map(it => "
+        "it.textContent)));")
+    near = [one for one, other in zip(sorted(shown), sorted(wanted)) if one[:3] == other[:3] and all(
+        abs(float(one[at].replace(" kbit/s", "")) - float(other[at])) < 0.006 for at in (3, 4))]
+    use.expect("the printed dumps", len(near) == len(shown) == len(wanted), len(near), len(shown), len(wanted))
+    lanes = use.do("return [...document.querySelectorAll('#sheet .lanes b')].map(it => it.textContent).concat("
+        "[...document.querySelectorAll('#sheet h2')].map(it => it.textContent));")
+    use.expect("the printed chart", lanes[:3] == ["UTC", "New Norcia", "Malargue"]
+        and "Chart, over the time in UTC" in lanes, lanes)
+
+
 def shown_in_mb(packets: int) -> str:
     mega = packets / 1000
     return f"{mega:,.3f}".rstrip("0").rstrip(".") if mega < 10 else f"{mega:,.2f}".rstrip("0").rstrip(".")
@@ -484,6 +503,7 @@ def wanted(browser: Browser, page: str, count: int = 200) -> tuple[int, list[str
     mission(use)
     folder(use)
     one_unit(use)
+    printed(use)
     pasted(use, setup, forecast)
     copied(use, setup, forecast)
     sent(use, setup, forecast)
