@@ -189,10 +189,10 @@ export async function keepVariant() {
 
 export function openVariant(nth) {
   const { variants, reference } = history.now;
-  history.change({ ...variants[nth].session, variants, reference });
+  if (variants[nth]) history.change({ ...variants[nth].session, variants, reference });
 }
 
-export const compareWith = nth => history.change({ reference: nth });
+export const compareWith = nth => history.now.variants[nth] && history.change({ reference: nth });
 
 export function dropVariant(nth) {
   const { variants, reference } = history.now, kept = variants[reference];

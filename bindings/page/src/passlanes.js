@@ -11,8 +11,8 @@ const MOST_HANDLED = 300, LEAST_MOVE = 3, EDGE = 6, ENOUGH = 24; // pixels
 const HANDLED = { begin: "Begin", end: "End" };
 
 // What is laid: the chart that is drawn with what its passes send; the lanes by station; and the passes that stand in
-// them, by their numbers. `heldPass` is the pass that has the handles.
-let chart = null, scale = null, lanes = new Map(), bodies = new Map(), heldPass = 0;
+// them, by their numbers, with the passes as they were laid. `heldPass` is the one that has the handles.
+let chart = null, scale = null, lanes = new Map(), bodies = new Map(), heldPass = 0, laidOf = [];
 const handles = new Map();
 
 // Where a pass lies, on the axis of the chart; null where it has no steps.
@@ -120,6 +120,7 @@ function layLaneOf(name) {
 // Lays the passes of a session, over the chart that is drawn: what they send only where it is of this session.
 export function layPassLanes(session) {
   if (!chart) return;
+  laidOf = session.passes;
   const names = namesIn(session), parent = at("lanes-stations"), wanted = names.map(it => layLaneOf(it).lane);
   // What stays where it is keeps the focus.
   if (wanted.length !== parent.children.length || wanted.some((it, nth) => it !== parent.children[nth]))
@@ -184,10 +185,12 @@ export function printedStations(session, drawn, whole) {
 
 // ---- Moving
 
-// Which pass and which part of it an element is; null where it is none.
-function graspedIn(element) {
+// Which pass of a session and which part of it an element is; null where it is none, or of another session, whose
+// passes are still shown.
+function graspedIn(element, { passes }) {
   const found = /^pass (\d+) (all|begin|end)$/.exec(element?.closest?.(".pass-bar, .edge")?.dataset.cell ?? "");
-  return found && { nth: Number(found[1]), part: found[2], kind: found[0] };
+  return found && passes[found[1]] && passes[found[1]] === laidOf[found[1]]
+    ? { nth: Number(found[1]), part: found[2], kind: found[0] } : null;
 }
 
 // Near the ends of a pass that is wide enough it is stretched.
@@ -229,10 +232,11 @@ export function listenToPasses(box, now, { moves, ends, tells }) {
   };
   const follow = () => {
     frame = 0;
-    if (drag?.isMoving) moved(drag, ((drag.x - drag.from) / drag.width) * (drag.to - drag.since), false);
+    // What is dragged may be undone, or another session opened, meanwhile.
+    if (drag?.isMoving && now().passes[drag.nth] === laidOf[drag.nth]) moved(drag, ((drag.x - drag.from) / drag.width) * (drag.to - drag.since), false);
   };
   box.addEventListener("pointerdown", event => {
-    const grasped = graspedIn(event.target);
+    const grasped = graspedIn(event.target, now());
     wasDragged = false;
     if (!grasped || event.button) return;
     event.preventDefault();
@@ -259,7 +263,7 @@ export function listenToPasses(box, now, { moves, ends, tells }) {
   document.addEventListener("pointerup", end);
   document.addEventListener("pointercancel", () => { drag = null; });
   const show = ({ target }) => {
-    const found = graspedIn(target);
+    const found = graspedIn(target, now());
     if (!found || drag) return;
     fault = "";
     if (found.part === "all" && found.nth !== heldPass) holdPass(now(), found.nth);
@@ -269,15 +273,15 @@ export function listenToPasses(box, now, { moves, ends, tells }) {
   return {
     // Whether a key is taken. Escape ends a drag, and what was moved is taken back as what was typed is.
     press(event) {
-      const grasped = graspedIn(event.target);
+      const grasped = graspedIn(event.target, now());
       if (event.key === "Escape") drag = null;
       return !!grasped && event.key !== "Escape" && !event.ctrlKey && !event.metaKey && !event.altKey
         && pressPass(event, grasped, now(), moved);
     },
-    isPass: event => wasDragged || graspedIn(event.target) !== null,
+    isPass: event => wasDragged || graspedIn(event.target, now()) !== null,
     // Tells again of the pass that has the focus, since its answer came; answers whether one has it.
     tellAgain() {
-      const grasped = graspedIn(document.activeElement);
+      const grasped = graspedIn(document.activeElement, now());
       if (grasped) tells(`${fault && `${fault} `}${passWords(now(), grasped.nth)}`);
       return grasped !== null;
     },

@@ -159,8 +159,9 @@ export function sortPasses(history, layAgain) {
   if (!held) return;
   const name = (cell ?? act).replace(/\d+/, sorted.indexOf(held)),
     found = document.querySelector(`[data-${cell ? "cell" : "act"}="${name}"]`);
-  found.focus({ preventScroll: !selected });
-  if (selected) found.setSelectionRange(...selected);
+  // A pass may be moved out of what is shown of the chart.
+  found?.focus({ preventScroll: !selected });
+  if (found && selected) found.setSelectionRange(...selected);
 }
 
 // Of which pass a cell or a button is; undefined where it is of none.
