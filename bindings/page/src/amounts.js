@@ -37,6 +37,10 @@ export const octetsIn = (session, pairs) =>
 // Of a session: how a volume in a store, its size, and what flows in a step are shown, and the totals of stores, which
 // are given as pairs of an identifier and blocks; sums as numbers, with how they are shown; and the rate at which so
 // much is sent in some minutes, on a link or of a store.
+/**
+ * @param {Session} session
+ * @returns {Amounts}
+ */
 export function amountsOf(session) {
   if (session.isInBlocks) return IN_BLOCKS;
   const octets = pairs => octetsIn(session, pairs);
@@ -57,6 +61,11 @@ export function amountsOf(session) {
 
 // What is typed as the size of a store, what it holds, or what flows in a step, in blocks: as text, which stays as it
 // is where it is no number. Sizes and windows fall to whole blocks, and what is held or arrives rises.
+/**
+ * @param {Session} session
+ * @param {string} typed
+ * @param {{ id: string, key: string, step?: number }} what
+ */
 export function blocksTyped(session, typed, { id, key, step }) {
   if (session.isInBlocks || !DECIMALS.test(typed.trim())) return typed;
   const value = Number(typed.replaceAll(",", "")),

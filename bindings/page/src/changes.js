@@ -2,7 +2,7 @@
 // to this session.
 import { LINK, amountsOf, blocksTyped, isLimitRate } from "./amounts.js";
 import { hasClock } from "./clock.js";
-import { at, make } from "./dom.js";
+import { at, find, make } from "./dom.js";
 import { dropped, ofFolder, openedFrom, readFiles } from "./files.js";
 import { desk, examples, history, keepSoon, keeper, layNow, note, pageWith, resume, showAgain } from "./main.js";
 import { momentOf, shown } from "./moments.js";
@@ -107,7 +107,7 @@ export async function cancelPass(nth) {
 
 // The pass that is typed in a form. One of a mission has a name of its own.
 function passIn(form, { passes, mission }) {
-  const typed = Object.fromEntries([...new FormData(form)].map(([name, text]) => [name, text.trim()]));
+  const typed = Object.fromEntries([...new FormData(form)].map(([name, text]) => [name, String(text).trim()]));
   const { station, rate, unit } = typed, [from, to] = [typed.from, typed.to].map(momentOf);
   return { ...NEW_PASS, station, name: mission ? nameFor(station, passes) : "", from, to,
     rate: rate && `${rate} ${unit}` };
@@ -149,6 +149,11 @@ export function movePass({ nth, part, kind }, by, isFromNow) {
   history.change(session, kind);
   layPassLanes(history.now);
   return "";
+}
+
+// Undoes what was done since a session, which is one change or two.
+export function takesBack(base) {
+  for (let turn = 0; turn < 2 && history.now !== base; turn++) history.undo();
 }
 
 export async function planRest(step) {
@@ -319,7 +324,7 @@ export async function save(which) {
 
 // Prints the plan of what is shown, which has nothing that cannot be read.
 export async function print() {
-  const bad = document.querySelector("#all [aria-invalid=true]"), isLaid = !bad && (await layNow());
+  const bad = find("#all [aria-invalid=true]"), isLaid = !bad && (await layNow());
   bad?.focus();
   if (isLaid) window.print();
   else note(`Nothing is printed: ${bad ? `${bad.getAttribute("aria-label") ?? "what is marked"} cannot be read.`

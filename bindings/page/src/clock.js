@@ -19,6 +19,11 @@ function clockOf(session) {
 }
 
 // When a step begins, or the last one ends; null where no time is said.
+/**
+ * @param {Session} session
+ * @param {number} step
+ * @returns {Moment | null}
+ */
 export function beginOf(session, step) {
   if (session.edges) return session.edges[step - 1] ?? null;
   const { start, length } = clockOf(session),
@@ -27,6 +32,11 @@ export function beginOf(session, step) {
 }
 
 // The begins of all steps and the end of the last one; null where no times are said.
+/**
+ * @param {Session} session
+ * @param {number} count
+ * @returns {Moment[] | null}
+ */
 export function edgesOf(session, count) {
   const { edges } = clockOf(session);
   if (!edges.has(count)) {

@@ -1,8 +1,16 @@
 // The document: its elements, and writing to them only where something differs.
 import { digits } from "./texts.js";
 
-export const at = id => document.getElementById(id);
+/** @type {{ <Id extends keyof ById>(id: Id): ById[Id]; (id: string): any }} */
+export const at = (/** @type {string} */ id) => /** @type {any} */ (document.getElementById(id));
 
+/** @returns {Input} what has the focus, which may be no input */
+export const focused = () => /** @type {Input} */ (document.activeElement);
+
+/** @type {(selector: string) => Input | null} */
+export const find = selector => document.querySelector(selector);
+
+/** @returns {any} an element, of which a tag says the kind */
 export function make(tag, text = "", more = {}) {
   const made = document.createElement(tag);
   if (text !== "") made.textContent = text;
@@ -78,13 +86,13 @@ export function button(text, act, label) {
 
 // Lays something anew, with the focus where it was: on what is called the same.
 export function keepingFocus(lays) {
-  const it = document.activeElement, { act, cell } = it?.dataset ?? {},
+  const it = focused(), { act, cell } = it?.dataset ?? {},
     name = act ? `[data-act="${act}"]` : cell ? `[data-cell="${cell}"]` : null;
-  const place = cell && "selectionStart" in it ? [it.selectionStart, it.selectionEnd] : null;
+  const [from, to] = cell && "selectionStart" in it ? [it.selectionStart, it.selectionEnd] : [null, null];
   lays();
-  const found = name && document.querySelector(name);
+  const found = name && find(name);
   found?.focus({ preventScroll: true });
-  if (found && place) found.setSelectionRange(...place);
+  if (found && from !== null) found.setSelectionRange(from, to);
 }
 
 export function cellWith(...inside) {

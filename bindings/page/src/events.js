@@ -1,8 +1,8 @@
 // Which event does what.
 import { addPass, ask, cancelPass, changeCell, changeClock, changePacket, changeText, closeSession, compareWith,
   dropVariant, forgetKept, goToStep, keepVariant, makeRoom, movePass, moveStore, openExample, openKept, openVariant, paste,
-  planAnew, planRest, print, save, take, takeDropped, toggleShade } from "./changes.js";
-import { at, endTyping, notice } from "./dom.js";
+  planAnew, planRest, print, save, take, takeDropped, takesBack, toggleShade } from "./changes.js";
+import { at, endTyping, focused, notice } from "./dom.js";
 import { listenToLanes } from "./lanes.js";
 import { history, keeper, note, showAgain, showInputsSoon } from "./main.js";
 import { layPassLanes } from "./passlanes.js";
@@ -121,19 +121,20 @@ function listenToRanges() {
 }
 
 function listenToFiles() {
-  at("files").addEventListener("change", async event => {
-    await take(event.target.files);
-    event.target.value = "";
+  const files = at("files"), example = at("example");
+  files.addEventListener("change", async () => {
+    await take(files.files);
+    files.value = "";
   });
   for (const name of ["dragover", "dragleave", "drop"])
-    document.addEventListener(name, event => {
+    document.addEventListener(name, (/** @type {DragEvent} */ event) => {
       event.preventDefault();
       document.body.classList.toggle("over", name === "dragover");
       if (name === "drop") takeDropped(event.dataTransfer).finally(() => taken++);
     });
-  at("example").addEventListener("change", event => {
-    const name = event.target.value;
-    event.target.value = "";
+  example.addEventListener("change", () => {
+    const name = example.value;
+    example.value = "";
     openExample(name);
   });
 }
@@ -147,7 +148,7 @@ const CLICKS = {
 
 export function listenToAll() {
   document.addEventListener("input", takeInput);
-  document.addEventListener("focusin", ({ target: it }) => it.closest("#grid") && it.dataset.cell && hold(it));
+  document.addEventListener("focusin", () => focused().closest("#grid") && focused().dataset.cell && hold(focused()));
   document.addEventListener("focusout", takeFocusOut);
   document.addEventListener("pointerdown", () => { isPressed = true; });
   for (const name of ["pointerup", "pointercancel"]) document.addEventListener(name, () => {
@@ -157,7 +158,7 @@ export function listenToAll() {
   document.addEventListener("click", takeClick);
   document.addEventListener("keydown", takeKey);
   document.addEventListener("paste", event => {
-    const it = event.target;
+    const it = /** @type {Input} */ (event.target);
     if (it.closest?.("#grid") && it.dataset.cell && paste(
       it, event.clipboardData.getData("text/plain"))) event.preventDefault();
   });
@@ -181,7 +182,7 @@ export function listenToAll() {
   at("grid-box").addEventListener("scroll", stickColumns);
   for (const it of document.querySelectorAll(".wide"))
     it.addEventListener("scroll", () => it.classList.toggle("scrolled", it.scrollLeft > 0));
-  listenToLanes(() => history.now, { goesTo: goToStep, moves: movePass, ends: () => history.leave() });
+  listenToLanes(() => history.now, { goesTo: goToStep, moves: movePass, ends: () => history.leave(), takesBack });
   listenToRanges();
   listenToFiles();
   window.addEventListener("beforeunload", event => {

@@ -1,15 +1,21 @@
 // Exact fractions of whole numbers, as `n` by `d`, in lowest terms.
+/** @type {(a: bigint, b: bigint) => bigint} */
 const gcd = (a, b) => {
   while (b) [a, b] = [b, a % b];
   return a;
 };
 
+/**
+ * @param {bigint} n
+ * @returns {Fraction}
+ */
 export function fraction(n, d = 1n) {
   const by = gcd(n < 0n ? -n : n, d) || 1n;
   return { n: n / by, d: d / by };
 }
 
 // The whole number below a quotient, also of negative ones.
+/** @type {(n: bigint, d: bigint) => bigint} */
 export function floorOf(n, d) {
   const whole = n / d;
   return n % d < 0n ? whole - 1n : whole;
@@ -40,11 +46,17 @@ function decimalOf(text) {
   return up >= 0n ? fraction(n * 10n ** up) : fraction(n, 10n ** -up);
 }
 
+/** @typedef {(a: Fraction, b: Fraction) => Fraction} Operation */
+/** @type {Operation} */
 export const times = (a, b) => fraction(a.n * b.n, a.d * b.d);
+/** @type {Operation} */
 export const over = (a, b) => fraction(a.n * b.d, a.d * b.n);
+/** @type {Operation} */
 export const plus = (a, b) => fraction(a.n * b.d + b.n * a.d, a.d * b.d);
 export const isLess = (a, b) => a.n * b.d < b.n * a.d;
+/** @type {Operation} */
 export const less = (a, b) => (isLess(b, a) ? b : a);
+/** @type {(n: bigint, d: bigint) => bigint} */
 export const ceilOf = (n, d) => -floorOf(-n, d);
 export const floor = a => floorOf(a.n, a.d);
 export const ceil = a => ceilOf(a.n, a.d);

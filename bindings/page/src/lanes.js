@@ -19,21 +19,38 @@ const MARK_UNITS = [MINUTE, 5 * MINUTE, 15 * MINUTE, 30 * MINUTE, HOUR, 2 * HOUR
 
 // What is drawn, with the edges of its steps: times, or whole numbers where there are none. What is shown of it goes
 // `from` a place `to` another one among these.
-let drawn = null, view = null, held = 1, goes = () => {}, passes = null, sessionNow = () => drawn.session;
+/** @type {Drawn | null} */
+let drawn = null;
+/** @type {{ from: number, to: number } | null} */
+let view = null;
+/** @type {(step: number) => void} */
+let goes = () => {};
+/** @type {ReturnType<typeof listenToPasses> | null} */
+let passes = null;
+let held = 1, sessionNow = () => drawn.session;
 
 const fractionAt = place => (place - view.from) / (view.to - view.from);
+
+/**
+ * @template A, B
+ * @param {A} a
+ * @param {B} b
+ * @returns {[A, B]}
+ */
+const pair = (a, b) => [a, b];
 
 // ---- The axis
 
 // The marks of the axis with their places: the time of UTC where the steps have any, and else the number of the step.
+/** @returns {[number, string][]} */
 function marksOf(session, { from, to }) {
   if (!hasClock(session)) {
     const by = [1, 2, 5, 10, 20, 50, 100].find(it => (to - from) / it <= MARKS) ?? 100;
-    return drawn.edges.slice(1).filter(it => it === 1 || it % by === 0).map(it => [it - 0.5, `${it}`]);
+    return drawn.edges.slice(1).filter(it => it === 1 || it % by === 0).map(it => pair(it - 0.5, `${it}`));
   }
   const by = MARK_UNITS.find(it => (to - from) / it <= MARKS) ?? 28 * DAY, marks = [];
   for (let time = Math.ceil(from / by) * by; time <= to; time += by) marks.push(
-    [time, by >= DAY ? shown(time).slice(0, 6) : shown(time)]);
+    pair(time, by >= DAY ? shown(time).slice(0, 6) : shown(time)));
   return marks;
 }
 
@@ -54,10 +71,14 @@ function axis(session, { view: { from, to }, fractionAt: partAt }) {
 // ---- The lanes
 
 // The windows as rates, so that what they send is an area.
+/**
+ * @param {Records} records
+ * @param {Scale} scale
+ */
 function windowLane({ steps }, { bars }) {
   const { edges, amounts } = drawn, rateOf = (blocks, nth) => blocks / (edges[nth + 1] - edges[nth]),
     rates = steps.map((it, nth) => rateOf(it.window, nth)), most = Math.max(Number.MIN_VALUE, ...rates);
-  const sent = steps.flatMap(it => [...it.of].map(([id, each]) => [id, each.dumped]));
+  const sent = steps.flatMap(it => [...it.of].map(([id, each]) => pair(id, each.dumped)));
   const [row, box] = laneOf("windows", said(`${amounts.total(sent)} sent`));
   box.append(drawingOf([["p-window", bars(steps, () => 0, (_, nth) => rates[nth] / most)],
     ["p-used", bars(steps, () => 0, (it, nth) => rateOf(it.dumped, nth) / most)]]));
@@ -65,8 +86,12 @@ function windowLane({ steps }, { bars }) {
 }
 
 // How large each store is in each step: as the forecast says, or else the setup.
+/**
+ * @param {Session} session
+ * @returns {Map<string, (step: number) => number>}
+ */
 function sizesOf({ setup, forecast }) {
-  const { header = [], records = [] } = forecastOf(forecast) ?? {};
+  const { header, records } = forecastOf(forecast) ?? { header: [], records: [] };
   return new Map((setupOf(setup)?.store ?? []).map(({ keys }) => {
     const column = header.indexOf(sizeName(keys.id));
     return [keys.id, step => Number(column < 0 ? keys.size : records[step - 1]?.[column])];
@@ -74,6 +99,11 @@ function sizesOf({ setup, forecast }) {
 }
 
 // What arrives in a store, as a rate; and of a mission each observation, as a frame.
+/**
+ * @param {string} id
+ * @param {Records["steps"]} steps
+ * @param {Scale} scale
+ */
 function arrivalsDrawn(id, steps, { bars, spans }) {
   const { edges, session } = drawn, rates = steps.map((it, nth) =>
     it.of.get(id).arrived / (edges[nth + 1] - edges[nth])), most = Math.max(Number.MIN_VALUE, ...rates);
@@ -85,6 +115,11 @@ function arrivalsDrawn(id, steps, { bars, spans }) {
 
 const observationsOf = (session, id) => (missionOf(session)?.observations ?? []).filter(it => it.store === id);
 
+/**
+ * @param {[string, OfStore & { most: number }]} store
+ * @param {number} nth
+ * @param {Scale} scale
+ */
 function storeLane([id, sums], nth, scale) {
   const { records: { steps }, cuts, most, edges, sizes, amounts } = drawn, sizeAt = sizes.get(id) ?? (() => 0),
     of = row => row.of.get(id), { bars } = scale, all = steps.map((_, step) => sizeAt(step + 1)),
@@ -106,6 +141,10 @@ const lanesBelow = (records, scale) => [windowLane(records, scale),
   ...[...records.stores].map((it, nth) => storeLane(it, nth, scale))];
 
 // The chart of an answer to be printed: all of its time.
+/**
+ * @param {Session} session
+ * @param {Answer} answer
+ */
 export function printedLanes(session, answer) {
   if (drawn?.session !== session) showLanes(session, answer);
   const { whole, edges, records } = drawn, scale = scaleOf(whole, edges), made = make("div", "", { className: "lanes" });
@@ -116,6 +155,10 @@ export function printedLanes(session, answer) {
 const isNarrow = () => matchMedia("(max-width: 600px)").matches;
 
 // Draws the chart of an answer, of all steps where it is of others than the last one.
+/**
+ * @param {Session} session
+ * @param {Answer} answer
+ */
 export function showLanes(session, { records, plan }) {
   const count = records.steps.length, times = edgesOf(session, count),
     edges = times ?? Array.from({ length: count + 1 }, (_, nth) => nth), whole = { from: edges[0], to: edges[count] };
@@ -189,7 +232,7 @@ const middleOf = step => (drawn.edges[step - 1] + drawn.edges[step]) / 2;
 // Marks a step, and tells its values, or those of one store in it.
 function markStep(step, id = "") {
   held = step;
-  const box = at("lanes"), line = at("lanes-line"), words = valuesOf(step), lane = box.querySelector(".lane-box"),
+  const box = at("lanes"), line = at("lanes-line"), words = valuesOf(step), lane = /** @type {HTMLElement} */ (box.querySelector(".lane-box")),
     part = fractionAt(middleOf(step));
   line.hidden = part < 0 || part > 1;
   line.style.left = `${lane.offsetLeft + lane.offsetWidth * part}px`;
@@ -237,23 +280,27 @@ function press(event) {
   event.preventDefault();
 }
 
-// Listens to the chart: `goesTo` is called with a step that is chosen, `moves` with a pass that is moved and `ends`
-// after that; `now` says which session is worked on.
-export function listenToLanes(now, { goesTo, moves, ends }) {
+// Listens to the chart: `goesTo` is called with a step that is chosen, and the others where passes are dragged; `now`
+// says which session is worked on.
+/**
+ * @param {() => Session} now
+ * @param {Drags & { goesTo: (step: number) => void }} does
+ */
+export function listenToLanes(now, { goesTo, ...drags }) {
   const box = at("lanes");
   [goes, sessionNow] = [goesTo, now];
-  passes = listenToPasses(box, now, { moves, ends, tells: words => { at("told").textContent = words; } });
+  passes = listenToPasses(box, now, { ...drags, tells: words => { at("told").textContent = words; } });
   box.addEventListener("pointermove", event => {
-    const step = drawn && !passes.isPass(event) && stepAt(event);
-    if (step) markStep(step, event.target.closest("[data-store]")?.dataset.store);
+    const step = drawn && !passes.isPass(event) && stepAt(event), target = /** @type {HTMLElement} */ (event.target);
+    if (step) markStep(step, /** @type {HTMLElement} */ (target.closest("[data-store]"))?.dataset.store);
   });
   box.addEventListener("click", event => {
     const step = drawn && !passes.isPass(event) && stepAt(event);
     if (step) goes(step);
   });
   box.addEventListener("keydown", press);
-  for (const [id, does] of [["closer", () => zoom(0.5)], ["wider", () => zoom(2)], ["whole", () => zoom(Infinity)]]) at(
-    id).addEventListener("click", () => drawn && does());
+  for (const [id, by] of Object.entries({ closer: 0.5, wider: 2, whole: Infinity }))
+    at(id).addEventListener("click", () => drawn && zoom(by));
   // What is told may be higher than before, which changes nothing in the chart.
   let width = 0;
   new ResizeObserver(([{ contentRect }]) => {

@@ -83,7 +83,7 @@ function instantiate(module) {
     },
     rattle_dealloc: giveBack,
   };
-  const { exports } = new WebAssembly.Instance(module, { heap });
+  const exports = /** @type {any} */ (new WebAssembly.Instance(module, { heap }).exports);
   memory = exports.memory;
   // A memory of 32 bits takes no big numbers.
   try {

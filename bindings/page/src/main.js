@@ -8,6 +8,7 @@ import { keeperOf, stampOf } from "./kept.js";
 import { showLanes } from "./lanes.js";
 import { momentOf, textOf } from "./moments.js";
 import { missionOf } from "./passes.js";
+import { layPassLanes } from "./passlanes.js";
 import { showPasses, showSent } from "./passtable.js";
 import { question } from "./question.js";
 import { EMPTY, fromJson, hasBoth, historyOf, toJson } from "./session.js";
@@ -120,6 +121,7 @@ function showInputs() {
   showSetup(session, place);
   showSteps(session, null, place);
   showPasses(session);
+  layPassLanes(session);
   showTexts(session, answer?.plan ?? null);
   if (answer?.isWhole) showVariants(session, answer);
   at("stations").replaceChildren(...(missionOf(session)?.stations ?? [])

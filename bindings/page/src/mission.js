@@ -60,12 +60,13 @@ function numberIn(text) {
 function channelRates(given = {}, place) {
   if (isNothing(given)) return {};
   if (!isMapping(given)) refuse(place, shownGiven(given), CHANNELS);
+  /** @type {Record<string, object>} */
   const found = {};
   for (const [channel, rate] of Object.entries(given)) {
     const number = numberIn(channel);
-    if (number === null || number < 0n || number > 7n || number in found) refuse(
+    if (number === null || number < 0n || number > 7n || String(number) in found) refuse(
       place, `channel ${channel}`, "channels from 0 to 7, each once");
-    found[number] = rateOf(rate, `${place}, channel ${channel}`);
+    found[String(number)] = rateOf(rate, `${place}, channel ${channel}`);
   }
   return found;
 }
@@ -86,6 +87,7 @@ function spanIn(faults, { begin, end }, place, what) {
 }
 
 // A pass. What was given of its rates stays with it, since a pass is written again.
+/** @param {{ station?: any, begin?: any, end?: any, rate?: any, channels?: any, name?: string }} given */
 export function passOf({ station, begin, end, rate, channels, name = "" }, place) {
   const faults = gathering(), span = spanIn(faults, { begin, end }, place, "a pass");
   const made = { station, name, place, ...span, rate: faults.of(maybeRate, rate, `${place}, rate`),
@@ -96,8 +98,8 @@ export function passOf({ station, begin, end, rate, channels, name = "" }, place
 
 function observationOf({ store, begin, end, rate, volume, name = "" }, place) {
   const faults = gathering(), span = spanIn(faults, { begin, end }, place, "an observation");
-  const made = { store, name, place, ...span, rate: faults.of(maybeRate, rate, `${place}, rate`) };
-  made.volume = volume === undefined ? null : faults.of(volumeOf, volume, `${place}, volume`);
+  const made = { store, name, place, ...span, rate: faults.of(maybeRate, rate, `${place}, rate`),
+    volume: volume === undefined ? null : faults.of(volumeOf, volume, `${place}, volume`) };
   if ((rate === undefined) === (volume === undefined)) faults.of(
     refuse, place, rate === undefined ? "no rate and no volume" : "a rate and a volume", "one of rate and volume");
   faults.end();

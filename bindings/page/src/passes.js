@@ -11,6 +11,7 @@ import { Faults, blocksASecond, rateOf } from "./units.js";
 
 export const MOST_WINDOW = 1_000_000;
 // In `bad` is what was typed of a pass and cannot be read; the pass is what it was before.
+/** @type {Pass} */
 export const NEW_PASS = { station: "", name: "", from: null, to: null, rate: "", channels: null, windows: [],
   bad: null };
 export const sumOf = pass => pass.windows.reduce((sum, [, blocks]) => sum + blocks, 0);
@@ -56,6 +57,10 @@ export const inOrder = passes =>
 
 // The session with the passes that its windows are now, `before` being those that they were: those with a name or a
 // time keep what is theirs, and the rest are found anew.
+/**
+ * @param {Session} session
+ * @returns {Session}
+ */
 export function withWindowsOf(session, before = session.passes) {
   const windows = windowsIn(session.forecast);
   if (!windows) return session;
@@ -165,6 +170,11 @@ function changedBy(forecast, before, after) {
 
 // The session with other passes, in the order in which they are given: their windows follow, and what was typed in
 // other steps stays.
+/**
+ * @param {Session} session
+ * @param {Pass[]} passes
+ * @returns {Session}
+ */
 export function withPassesOf(session, passes) {
   const windows = windowsIn(session.forecast), count = windows?.length;
   // A text with other rows than the mission has steps is nothing that follows its passes.
@@ -317,6 +327,13 @@ export const isMovablePass = (session, pass) => !pass.bad
 
 // A pass of which a part is moved by so much: its `begin`, its `end`, or `all` of it. It comes to whole seconds, and
 // stays within the steps and beside the passes that it may not meet; one without times goes by whole steps.
+/**
+ * @param {Session} session
+ * @param {number} nth
+ * @param {Grasped["part"]} part
+ * @param {number} by
+ * @returns {Pass}
+ */
 export function passMoved(session, nth, part, by) {
   const pass = session.passes[nth], places = edgesOrSteps(session, forecastOf(session.forecast).records.length);
   return pass.from === null ? stepsMoved(pass, part, by, places) : timesMoved(session, pass, part, by, places);
@@ -354,6 +371,12 @@ function stepsMoved(pass, part, by, places) {
 }
 
 // The session with a pass that was moved, or, as `fault`, why it cannot be so.
+/**
+ * @param {Session} session
+ * @param {number} nth
+ * @param {Pass} made
+ * @returns {{ session?: Session, fault?: string }}
+ */
 export function withMoved(session, nth, made) {
   const others = session.passes.filter((_, at) => at !== nth), fault = made.from === null ? null
     : faultOf(session, made, others);
@@ -361,15 +384,21 @@ export function withMoved(session, nth, made) {
 }
 
 // When a pass begins and ends; null where no times are said.
+/**
+ * @param {Session} session
+ * @param {Pass} pass
+ * @returns {[Moment, Moment] | null}
+ */
 export function spanOf(session, pass) {
   if (pass.from !== null) return [pass.from, pass.to];
   const steps = pass.windows.map(([step]) => step);
   const span = steps.length ? [beginOf(session, Math.min(...steps)), beginOf(session, Math.max(...steps) + 1)]
     : [null, null];
-  return span.includes(null) ? null : span;
+  return span.includes(null) ? null : /** @type {[Moment, Moment]} */ (span);
 }
 
 // The first and the last step of a pass: of one with times those in which it begins and ends.
+/** @returns {[number, number]} */
 export function stepSpan(session, { from, to, windows }, count) {
   const edges = from === null ? null : edgesOf(session, count);
   if (!edges) return [windows[0][0], windows.at(-1)[0]];
@@ -402,6 +431,10 @@ function meetingsOf(session, passes) {
 }
 
 // What a planner must know of each pass: where it is cut, and which others it meets.
+/**
+ * @param {Session} session
+ * @returns {string[][]}
+ */
 export function remarksOn(session) {
   const { passes } = session, met = meetingsOf(session, passes),
     count = forecastOf(session.forecast)?.records.length ?? 0,

@@ -12,10 +12,27 @@ const HANDLED = { begin: "Begin", end: "End" };
 
 // What is laid: the chart that is drawn with what its passes send; the lanes by station; and the passes that stand in
 // them, by their numbers, with the passes as they were laid. `heldPass` is the one that has the handles.
-let chart = null, scale = null, lanes = new Map(), bodies = new Map(), heldPass = 0, laidOf = [];
+/** @type {Drawn | null} */
+let chart = null;
+/** @type {Scale | null} */
+let scale = null;
+/** @type {Pass[]} */
+let laidOf = [];
+/** @type {Map<string, { lane: HTMLElement, box: HTMLElement }>} */
+const lanes = new Map();
+/** @type {Map<number, HTMLElement>} */
+const bodies = new Map();
+/** @type {Map<string, HTMLElement>} */
 const handles = new Map();
+let heldPass = 0;
 
 // Where a pass lies, on the axis of the chart; null where it has no steps.
+/**
+ * @param {Session} session
+ * @param {Drawn} drawn
+ * @param {Pass} pass
+ * @returns {[number, number] | null}
+ */
 function placeInChart(session, { edges, isTimed }, pass) {
   if (isTimed && pass.from !== null) return [pass.from, pass.to];
   const steps = pass.windows.map(it => it[0]);
@@ -27,6 +44,10 @@ const nameOfPass = ({ station }) => station || "passes";
 // ---- Words
 
 // A pass in words: when it is, how much it can send, and what it sends.
+/**
+ * @param {Session} session
+ * @param {number} nth
+ */
 function passWords(session, nth) {
   const pass = session.passes[nth], { amounts, sent } = chart, { unit, volume, total } = amounts,
     span = spanOf(session, pass), all = sumOf(pass), is = sent[nth];
@@ -41,8 +62,15 @@ function passWords(session, nth) {
 // ---- What is laid
 
 // What leaves in a pass, store above store, as parts of its greatest rate.
+/**
+ * @param {Drawn} drawn
+ * @param {Pass} pass
+ * @param {number} nth
+ * @param {number[]} place
+ */
 function dumpsIn({ edges, sent, ids }, pass, nth, [from, to]) {
   const own = scaleOf({ from, to }, edges), { dumps } = sent[nth];
+  /** @type {(step: number) => [number, number]} */
   const timeOf = step => [Math.max(from, edges[step - 1]), Math.min(to, edges[step])];
   const rateOf = (step, blocks) => { const [a, b] = timeOf(step); return b > a ? blocks / (b - a) : 0; };
   const most = Math.max(Number.MIN_VALUE, ...pass.windows.map(([step, blocks]) => rateOf(step, blocks)));
@@ -95,6 +123,10 @@ function layHandles(session) {
   }
 }
 
+/**
+ * @param {Session} session
+ * @param {number} nth
+ */
 export function holdPass(session, nth) {
   heldPass = nth;
   for (const [at, body] of bodies) body.tabIndex = at === heldPass ? 0 : -1;
@@ -118,6 +150,7 @@ function layLaneOf(name) {
 }
 
 // Lays the passes of a session, over the chart that is drawn: what they send only where it is of this session.
+/** @param {Session} session */
 export function layPassLanes(session) {
   if (!chart) return;
   laidOf = session.passes;
@@ -159,6 +192,11 @@ function layBody(session, { pass, nth, place }) {
 }
 
 // Lays the passes of a session over a chart that is drawn, of which this part is shown.
+/**
+ * @param {Drawn} drawn
+ * @param {{ from: number, to: number }} view
+ * @param {Session} session
+ */
 export function showPassLanes(drawn, view, session) {
   chart = drawn;
   scale = scaleOf(view, drawn.edges);
@@ -166,6 +204,11 @@ export function showPassLanes(drawn, view, session) {
 }
 
 // The lanes of the stations of a chart that is printed, with all of its time.
+/**
+ * @param {Session} session
+ * @param {Drawn} drawn
+ * @param {{ from: number, to: number }} whole
+ */
 export function printedStations(session, drawn, whole) {
   const own = scaleOf(whole, drawn.edges), all = session.passes.map((pass, nth) =>
     ({ pass, nth, place: placeInChart(session, drawn, pass) })).filter(it => it.place && own.isShown(...it.place));
@@ -185,15 +228,29 @@ export function printedStations(session, drawn, whole) {
 
 // ---- Moving
 
+/** @type {(element: any) => HTMLElement | null} */
+const passPart = element => element?.closest?.(".pass-bar, .edge");
+
 // Which pass of a session and which part of it an element is; null where it is none, or of another session, whose
 // passes are still shown.
+/**
+ * @param {EventTarget} element
+ * @param {Session} session
+ * @returns {Grasped | null}
+ */
 function graspedIn(element, { passes }) {
-  const found = /^pass (\d+) (all|begin|end)$/.exec(element?.closest?.(".pass-bar, .edge")?.dataset.cell ?? "");
-  return found && passes[found[1]] && passes[found[1]] === laidOf[found[1]]
-    ? { nth: Number(found[1]), part: found[2], kind: found[0] } : null;
+  const found = /^pass (\d+) (all|begin|end)$/.exec(passPart(element)?.dataset.cell ?? ""),
+    nth = Number(found?.[1]);
+  return found && passes[nth] && passes[nth] === laidOf[nth]
+    ? { nth, part: /** @type {Grasped["part"]} */ (found[2]), kind: found[0] } : null;
 }
 
 // Near the ends of a pass that is wide enough it is stretched.
+/**
+ * @param {PointerEvent} event
+ * @param {Grasped} grasped
+ * @returns {Grasped}
+ */
 function partAt(event, grasped) {
   if (grasped.part !== "all") return grasped;
   const box = bodies.get(grasped.nth).getBoundingClientRect();
@@ -205,6 +262,12 @@ function partAt(event, grasped) {
 const STEPS = { ArrowLeft: -MINUTE, ArrowRight: MINUTE, PageDown: -HOUR, PageUp: HOUR };
 
 // Takes a key that is pressed on a pass or at one of its handles; answers whether it did.
+/**
+ * @param {KeyboardEvent} event
+ * @param {Grasped} grasped
+ * @param {Session} session
+ * @param {(grasped: Grasped, by: number, isFromNow: boolean) => void} moves
+ */
 function pressPass(event, grasped, session, moves) {
   const { edges } = chart, pass = session.passes[grasped.nth], way = Math.sign(STEPS[event.key] ?? 0);
   if (event.key === "ArrowUp" || event.key === "ArrowDown") {
@@ -223,12 +286,18 @@ function pressPass(event, grasped, session, moves) {
 
 // Listens to the passes in the chart. `moves` is called with what is moved, by how much, and whether that is counted
 // from where it is now, or from where it was at first, and answers why it goes no further; `ends` is called where a
-// drag has ended, and `tells` with words of a pass.
-export function listenToPasses(box, now, { moves, ends, tells }) {
+// drag has ended, `takesBack` with the session before it where it is taken back, and `tells` with words of a pass.
+/**
+ * @param {HTMLElement} box
+ * @param {() => Session} now
+ * @param {Drags & { tells: (words: string) => void }} does
+ */
+export function listenToPasses(box, now, { moves, ends, takesBack, tells }) {
   let drag = null, frame = 0, wasDragged = false, fault = "";
-  const moved = (...given) => {
-    fault = moves(...given);
-    tells(`${fault && `${fault} `}${passWords(now(), given[0].nth)}`);
+  /** @type {(grasped: Grasped, by: number, isFromNow: boolean) => void} */
+  const moved = (grasped, by, isFromNow) => {
+    fault = moves(grasped, by, isFromNow);
+    tells(`${fault && `${fault} `}${passWords(now(), grasped.nth)}`);
   };
   const follow = () => {
     frame = 0;
@@ -244,8 +313,17 @@ export function listenToPasses(box, now, { moves, ends, tells }) {
     const part = partAt(event, grasped), { width } = bodies.get(grasped.nth).parentElement.getBoundingClientRect(),
       { from: since, to } = scale.view;
     (part.part === "all" ? bodies.get(part.nth) : handles.get(part.part)).focus({ preventScroll: true });
-    drag = { ...part, from: event.clientX, x: event.clientX, width, since, to, isMoving: false };
+    drag = { ...part, from: event.clientX, x: event.clientX, width, since, to, isMoving: false, base: now() };
   });
+  // Wherever the focus is, Escape takes a drag back.
+  document.addEventListener("keydown", event => {
+    if (!drag || event.key !== "Escape") return;
+    const { base } = drag;
+    drag = null;
+    event.preventDefault();
+    event.stopPropagation();
+    takesBack(base);
+  }, true);
   document.addEventListener("pointermove", event => {
     if (!drag) return;
     drag.x = event.clientX;
@@ -271,10 +349,9 @@ export function listenToPasses(box, now, { moves, ends, tells }) {
   };
   for (const name of ["pointerover", "focusin"]) box.addEventListener(name, show);
   return {
-    // Whether a key is taken. Escape ends a drag, and what was moved is taken back as what was typed is.
+    // Whether a key is taken. What was moved by keys Escape takes back as what was typed.
     press(event) {
       const grasped = graspedIn(event.target, now());
-      if (event.key === "Escape") drag = null;
       return !!grasped && event.key !== "Escape" && !event.ctrlKey && !event.metaKey && !event.altKey
         && pressPass(event, grasped, now(), moved);
     },

@@ -1,7 +1,7 @@
 // The table of the passes: what each sends, of which store, and what is lost without it.
 import { LINK, amountsOf } from "./amounts.js";
-import { at, button, cellWith, fill, giveRoles, head, input, keepingFocus, make, mark, number, row,
-  write } from "./dom.js";
+import { at, button, cellWith, fill, find, focused, giveRoles, head, input, keepingFocus, make, mark, number,
+  row, write } from "./dom.js";
 import { shown, textOf } from "./moments.js";
 import { faultTyped, inOrder, remarksOn, spanOf, stepsOf, sumOf, withoutPass } from "./passes.js";
 import { NOTHING } from "./texts.js";
@@ -14,6 +14,11 @@ let turn = 0, laidPasses = "", listed = null;
 
 // What each pass sends of each store: what leaves in its steps, `dumps` being what leaves in each of them. Of a step
 // that several passes share, the first takes as much as its window.
+/**
+ * @param {Pass[]} passes
+ * @param {Records} records
+ * @returns {Sent[]}
+ */
 export function sentBy(passes, records) {
   const left = records.steps.map(row => new Map([...row.of].map(([id, it]) => [id, it.dumped])));
   return passes.map(({ windows }) => {
@@ -148,20 +153,20 @@ async function tellWorth(ask, session, loss, ofTurn) {
 // Sorts the rows once that which was typed in is left. The focus stays with its pass; `layAgain` lays what else shows
 // passes in their order.
 export function sortPasses(history, layAgain) {
-  const { passes } = history.now, sorted = inOrder(passes), it = document.activeElement;
+  const { passes } = history.now, sorted = inOrder(passes), it = focused();
   if (sorted.every((pass, nth) => pass === passes[nth])) return;
   const { cell, act } = it.dataset, held = passes[passNth(it)],
-    selected = "selectionStart" in it && [it.selectionStart, it.selectionEnd];
+    [from, to] = "selectionStart" in it ? [it.selectionStart, it.selectionEnd] : [null, null];
   if (held) it.blur();
   history.amend({ passes: sorted });
   showPasses(history.now);
   layAgain(history.now);
   if (!held) return;
   const name = (cell ?? act).replace(/\d+/, sorted.indexOf(held)),
-    found = document.querySelector(`[data-${cell ? "cell" : "act"}="${name}"]`);
+    found = find(`[data-${cell ? "cell" : "act"}="${name}"]`);
   // A pass may be moved out of what is shown of the chart.
-  found?.focus({ preventScroll: !selected });
-  if (found && selected) found.setSelectionRange(...selected);
+  found?.focus({ preventScroll: from === null });
+  if (found && from !== null) found.setSelectionRange(from, to);
 }
 
 // Of which pass a cell or a button is; undefined where it is of none.

@@ -2,6 +2,7 @@
 // or on the last where the others take something away.
 import { at, make } from "./dom.js";
 
+/** @type {Promise<any>} */
 let waiting = Promise.resolve();
 
 function put(words, answers, isCareful) {
@@ -24,6 +25,7 @@ function put(words, answers, isCareful) {
 }
 
 // One question after another.
+/** @returns {Promise<any>} what stands with the answer that is chosen */
 export function question(words, answers, isCareful = false) {
   waiting = waiting.then(() => put(words, answers, isCareful));
   return waiting;

@@ -8,6 +8,7 @@ import { MOST_STEPS } from "./timeline.js";
 const MOST_KEPT = 500;
 export const MOST_VARIANTS = 12;
 export const TEXTS = ["setup", "forecast", "given"];
+/** @type {Session} */
 export const EMPTY = {
   setup: NOTHING, forecast: NOTHING, given: NOTHING, isInOrder: false, name: "", begins: "", minutes: "60",
     edges: null, passes: [], mission: null, unit: 1,
@@ -61,8 +62,8 @@ function readPass(it) {
 // The passes of a session that names the stations of its steps, as the Python package writes them.
 function readStations(stations) {
   const passes = [];
-  for (const [step, name] of Object.entries(isObject(stations) ? stations : {})
-    .map(([step, name]) => [Number(step), String(name)]).sort((a, b) => a[0] - b[0])) {
+  for (const { step, name } of Object.entries(isObject(stations) ? stations : {})
+    .map(([step, name]) => ({ step: Number(step), name: String(name) })).sort((a, b) => a.step - b.step)) {
     const last = passes.at(-1);
     if (!Number.isInteger(step) || step < 1 || step > MOST_STEPS) continue;
     if (last?.station === name && last.windows.at(-1)[0] === step - 1) last.windows.push([step, 1]);
@@ -106,6 +107,7 @@ function readVariant(it) {
 }
 
 // The session of a text that toJson wrote, or that somebody wrote like it; null where it is none.
+/** @returns {Session | null} */
 export function fromJson(text) {
   try {
     const it = JSON.parse(text);

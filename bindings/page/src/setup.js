@@ -86,13 +86,14 @@ export const isMovable = ({ setup, forecast, given }) => given.length === 0 && s
 
 // Where a refusal says that the fault is: a cell of the forecast, or a key of a table of the setup; null where it is
 // neither.
+/** @param {Refusal} refusal */
 export function placeOf({ number, row, column, words, hint }, setup, forecast) {
   const name = / name (\w+):/.exec(words)?.[1], table = /\btable (\d+) of (\w+)/.exec(hint),
     line = /\bline (\d+)\b/.exec(hint)?.[1];
   if (number === 31) return { row, column };
   if (number === 32) return { row, column: 1 };
   if ((number === 28 || number === 33) && table) return {
-    array: table[2], nth: table[1] - 1, key: name ?? keyIn(hint) };
+    array: table[2], nth: Number(table[1]) - 1, key: name ?? keyIn(hint) };
   if (number === 33 && ["window", "arrivals", "limit", "size"].includes(name)) return firstAbove(forecastOf(forecast));
   return number === 27 && line ? keyOn(setup, Number(line)) : null;
 }

@@ -5,6 +5,7 @@ import { make } from "./dom.js";
 const SVG = "http://www.w3.org/2000/svg", WIDE = 1000, HIGH = 100;
 
 // A picture of paths, each with the name of its kind.
+/** @param {string[][]} shapes */
 export function drawingOf(shapes) {
   const picture = document.createElementNS(SVG, "svg");
   picture.setAttribute("preserveAspectRatio", "none");
@@ -19,6 +20,11 @@ export function drawingOf(shapes) {
   return picture;
 }
 
+/**
+ * @param {{ from: number, to: number }} view
+ * @param {number[]} edges
+ * @returns {Scale}
+ */
 export function scaleOf({ from, to }, edges) {
   const fractionAt = place => (place - from) / (to - from),
     xOf = place => (WIDE * Math.max(-1, Math.min(2, fractionAt(place)))).toFixed(2),
@@ -36,6 +42,10 @@ export function scaleOf({ from, to }, edges) {
 }
 
 // A lane with its name, what is said of it, and its box.
+/**
+ * @param {string} name
+ * @param {Node | string} said
+ */
 export function laneOf(name, said, more = "") {
   const lane = make("div", "", { className: "lane" }), label = make("span", "", { className: "lane-name" }),
     box = make("span", "", { className: "lane-box" });

@@ -28,6 +28,7 @@ const whenOf = (session, pass) => {
 };
 
 // What stores hold before the first of these steps and after the last, and what they lose until the next pass begins.
+/** @param {Records} records */
 function rowsOf(records, startOf, [first, last], until, of) {
   return [...records.stores.keys()].map(id => {
     const before = first > 1 ? records.steps[first - 2].of.get(id).held : startOf(id),

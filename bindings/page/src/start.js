@@ -14,8 +14,9 @@ const CARDS = [
 ];
 
 export function exampleSession(examples, name) {
-  const files = Object.entries(examples[name]).map(([file, text]) => [file, encode(text)]),
-    { "mission.toml": mission, "setup.toml": setup, "forecast.csv": forecast } = Object.fromEntries(files);
+  /** @type {[string, Octets][]} */
+  const files = Object.entries(examples[name]).map(([file, text]) => [file, encode(text)]);
+  const { "mission.toml": mission, "setup.toml": setup, "forecast.csv": forecast } = Object.fromEntries(files);
   return mission ? missionSession("mission.toml", new Map(files)).session
     : withWindowsOf({ ...EMPTY, setup, forecast, name: name.replaceAll("_", " ") });
 }
@@ -33,7 +34,8 @@ export function layCards(ask, examples, opens) {
 }
 
 async function drawCard(ask, session, image) {
-  const { plan } = await ask("judge", session), { octets } = plan ? await ask("chart", session, plan) : {};
+  const { plan } = await ask("judge", session), { octets } = plan ? await ask("chart", session, plan)
+    : { octets: null };
   if (!octets) return;
   image.src = URL.createObjectURL(new Blob([octets], { type: "image/svg+xml" }));
   image.onload = () => URL.revokeObjectURL(image.src);

@@ -98,7 +98,7 @@ export function moveBy(key, it) {
 
 export function show(what) {
   shows = what;
-  for (const it of document.querySelectorAll("[data-shows]")) it.setAttribute(
+  for (const it of /** @type {NodeListOf<HTMLElement>} */ (document.querySelectorAll("[data-shows]"))) it.setAttribute(
     "aria-pressed", String(it.dataset.shows === what));
 }
 

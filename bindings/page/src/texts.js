@@ -104,12 +104,16 @@ export const certificatesOf = once(octets => {
 });
 
 // What the table of a plan says: what each step does to each store, with the sums over stores and over steps.
+/**
+ * @param {Octets} octets
+ * @returns {Records}
+ */
 export function recordsOf(octets) {
   const steps = [], stores = new Map();
   for (const line of decode(octets).split("\n").slice(1, -1)) {
     const [step, window, id, ...numbers] = line.split(",");
     const [arrived, lost, dumped, held] = numbers.map(Number);
-    const row = (steps[step - 1] ??= { window: Number(window), arrived: 0, lost: 0, dumped: 0, held: 0,
+    const row = (steps[Number(step) - 1] ??= { window: Number(window), arrived: 0, lost: 0, dumped: 0, held: 0,
       of: new Map() });
     const sums = stores.get(id) ?? stores.set(id, { arrived: 0, lost: 0, dumped: 0, held: 0, most: 0 }).get(id);
     for (const it of [row, sums]) {

@@ -42,12 +42,13 @@ export function falls(flow, edges) {
   return column;
 }
 
+/** @type {(a: bigint, b: bigint) => bigint} */
 const gcdOf = (a, b) => (b ? gcdOf(b, a % b) : a);
 
 // What has come of some flows until each edge, as numerators of fractions with one denominator.
 function cameOf(flows, edges) {
-  const below = flows.reduce((all, it) => (all / gcdOf(all, it.below)) * it.below, 1n),
-    above = new Array(edges.length).fill(0n);
+  const below = /** @type {bigint} */ (flows.reduce((all, it) => (all / gcdOf(all, it.below)) * it.below, 1n)),
+    above = /** @type {bigint[]} */ (new Array(edges.length).fill(0n));
   for (const it of flows) {
     const share = it.above * (below / it.below), [first, last] = stepsOfFlow(it, edges);
     for (let step = first; step < last; step++) above[step + 1] += share
@@ -58,6 +59,10 @@ function cameOf(flows, edges) {
 }
 
 // What comes in each step, in units of some packets. A unit that has begun is whole.
+/**
+ * @param {{ above: bigint[], below: bigint }} came
+ * @param {bigint} packets
+ */
 function columnIn({ above, below }, packets) {
   const counts = above.map(it => ceilOf(it, below * packets));
   return counts.slice(1).map((it, nth) => Number(it - counts[nth]));
@@ -172,12 +177,13 @@ const limitedIn = mission =>
 function useOf(mission, one) {
   const { rate, channels } = ratesOf(mission, one), lengthOfAll = most(mission.stores.map(it => packetOf(mission, it)));
   const octetsIn = (given, longest) => times(blocksASecond(given, longest), wholeOf(longest));
-  const own = Object.entries(channels).map(([channel, given]) => {
+  /** @type {(entry: [string, any]) => [number, Fraction]} */
+  const rateIn = ([channel, given]) => {
     const lengths = mission.stores.filter(it => it.channel === Number(channel)).map(it => packetOf(mission, it));
     return [Number(channel), octetsIn(given, lengths.length ? most(lengths) : lengthOfAll)];
-  });
+  };
   return { one, begin: Math.max(one.begin - mission.begin, 0), end: Math.min(one.end, mission.end) - mission.begin,
-    octets: octetsIn(rate, lengthOfAll), channels: new Map(own) };
+    octets: octetsIn(rate, lengthOfAll), channels: new Map(Object.entries(channels).map(rateIn)) };
 }
 
 // The passes while they are used.
@@ -215,9 +221,10 @@ function better(mission, used) {
 function contactsOf(mission, unit, uses) {
   return uses.map(({ one, begin, end, octets, channels }) => {
     const sends = over(octets, wholeOf(unit.link));
-    const own = [...channels].map(([channel, its]) => [channel,
-      flowAt(begin, end, less(sends, over(its, wholeOf(onChannel(mission, unit, channel)))))]);
-    return { one, sends: flowAt(begin, end, sends), channels: new Map(own) };
+    const own = new Map();
+    for (const [channel, its] of channels) own.set(channel,
+      flowAt(begin, end, less(sends, over(its, wholeOf(onChannel(mission, unit, channel))))));
+    return { one, sends: flowAt(begin, end, sends), channels: own };
   });
 }
 

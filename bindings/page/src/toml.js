@@ -34,7 +34,8 @@ const shownCharacter = ([it, next]) => (it === "\n" || (it === "\r" && next === 
 
 class Reader {
   constructor(text) {
-    [this.text, this.at, this.deep, this.part] = [text, 0, 0, 0];
+    this.text = text;
+    this.at = this.deep = this.part = 0;
     this.root = newTable({});
     this.here = this.root;
     this.arrays = new WeakSet();

@@ -30,6 +30,7 @@ export class Faults extends Error {
   }
 }
 
+/** @returns {never} */
 export function refuse(place, found, meant) {
   throw new Faults([{ place, found, meant }]);
 }
@@ -77,6 +78,7 @@ function numberOf(given, place, meant) {
 
 export const shownGiven = given => (typeof given === "string" ? given : shownValue(given));
 
+/** @returns {[Fraction, string]} */
 function partsOf(given, place, meant) {
   if (typeof given !== "string") return [numberOf(given, place, meant), ""];
   const found = PARTS.exec(given);

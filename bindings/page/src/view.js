@@ -1,6 +1,6 @@
 // What the page shows of a session and of the answer to it: verdict, the program's chart, stores and texts.
 import { LINK, amountsOf, isLimitRate, octetsIn } from "./amounts.js";
-import { at, button, cellWith, fill, head, input, keepingFocus, make, mark, number, row,
+import { at, button, cellWith, fill, find, head, input, keepingFocus, make, mark, number, row,
   write } from "./dom.js";
 import { firstsOf, lossSentence } from "./order.js";
 import { isMovable, setupOf } from "./setup.js";
@@ -22,6 +22,7 @@ export function dim(isOld) {
 }
 
 // What each store loses, as pairs; none before the table is there.
+/** @type {(answer: Answer) => [string, number][]} */
 const lossesIn = ({ records }) => [...records?.stores ?? []].map(([id, it]) => [id, it.lost]);
 
 // What is lost, where it is shown in another unit than blocks; null before that is known.
@@ -100,7 +101,7 @@ function showWhy(words) {
 export function stepOnChart(event, count) {
   if (chartMarks.length < 2) return null;
   const image = at("chart"), box = image.getBoundingClientRect(),
-    x = ((event.clientX - box.left) / box.width) * image.dataset.width;
+    x = ((event.clientX - box.left) / box.width) * Number(image.dataset.width);
   const [[x0, s0], [x1, s1]] = chartMarks, step = Math.round(s0 + ((x - x0) * (s1 - s0)) / (x1 - x0));
   return step >= 1 && step <= count ? step : null;
 }
@@ -152,7 +153,7 @@ export function showSetup(session, place) {
   if (!setup) return;
   layStores(setup);
   [...at("stores").tBodies[0].rows].forEach(({ cells }, nth, { length }) => {
-    const [up, down] = cells[1].children;
+    const [up, down] = /** @type {any} */ (cells[1].children);
     up.disabled = isStill || nth === 0;
     down.disabled = isStill || nth === length - 1;
   });
@@ -174,8 +175,8 @@ function limitShown(session) {
 // The focus goes with a store that was moved: to the button that moves it on, or back where it can go no further.
 export function followStore(nth, way) {
   const [on, back] = way === "up" ? ["up", "down"] : ["down", "up"];
-  const it = document.querySelector(`[data-act="${on} ${nth}"]`);
-  (it.disabled ? document.querySelector(`[data-act="${back} ${nth}"]`) : it).focus();
+  const it = find(`[data-act="${on} ${nth}"]`);
+  (it.disabled ? find(`[data-act="${back} ${nth}"]`) : it).focus();
 }
 
 function showSums(cells, id, sums, size, volume) {

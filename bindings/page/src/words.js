@@ -44,6 +44,10 @@ const standingAlone = words => INSTEAD.reduce((text, [named, said]) => text.repl
 const IN_FILE = /[,;] (it is )?line \d+ of the file(, whose header is line \d+)?/;
 
 // A refusal in the library's words: what was found where, or else what to do; what was expected; and its short form.
+/**
+ * @param {Refusal} refused
+ * @param {Session} session
+ */
 export function refusalOf({ words, hint, ...at }, session) {
   const [, short, expected, advice] = /^(.*?): expected (.*?); (.*)$/s.exec(standingAlone(words))
     ?? ["", words, "", ""];
