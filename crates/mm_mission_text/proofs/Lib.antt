@@ -1,0 +1,3 @@
+pub mod AllIn
+pub mod RecordRows
+pub mod RowsLeft
