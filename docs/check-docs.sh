@@ -418,7 +418,7 @@ refusal_tests() {
   awk '/^[a-z]/ { for (i = 3; i <= NF; i++) print $1, $2, $i }' "$top/docs/refusals.txt"
 }
 
-# At least one test for each refusal, in a crate whose sources name the refusal.
+# At least one test for each refusal, in a crate whose sources name the refusal, or of the Python package.
 check_refusal_tests() {
   local crate name number case file
   refusal_tests >"$work/met"
@@ -428,7 +428,11 @@ check_refusal_tests() {
   while read -r crate name number; do
     case=$(refusals | sed -nE "s/^$number ([A-Za-z0-9]+) .*/\1/p")
     [ -n "$case" ] || fail "docs/refusals.txt: $name of $crate is to meet $number, which is no refusal"
-    file=$(grep -rlE --include='*.rt' --exclude-dir=out "^ *fn $name\(" "$top/crates/$crate/src" | head -n 1)
+    if [ "$crate" = python ]; then
+      file=$(grep -lE "^ *def $name\(" "$top"/bindings/python/tests/*.py)
+    else
+      file=$(grep -rlE --include='*.rt' --exclude-dir=out "^ *fn $name\(" "$top/crates/$crate/src" | head -n 1)
+    fi
     if [ -z "$file" ]; then
       fail "docs/refusals.txt: $crate has no test $name, in which $number $case is met"
     elif ! grep -rqswE -- "$case|$number" "$file" "${file%.rt}" "${file%/*}.rt"; then

@@ -61,8 +61,8 @@ static const char setup[] =
 static const char forecast[] = "step,window,SCI,HK\n1,2,5,1\n2,3,3,2\n3,0,1,1\n";
 static const char bad_forecast[] = "step,window,SCI,HK\n1,2,5,1\n2,3,x,2\n";
 static const char requests[] = "1864C000000620\n1864C0000006200F16000000\n";
-static uint8_t plan[ROOM];
-static size_t plan_length;
+static uint8_t plan[ROOM], in_order[ROOM];
+static size_t plan_length, in_order_length;
 static const struct rudlayog_refused cell = {31, RUDLAYOG_CELL, 2, 3, 0, 0};
 
 #define TEXT(text) (const uint8_t *)(text), strlen(text)
@@ -102,6 +102,14 @@ static void make_chart_worth(uint8_t *out, struct rudlayog_answer *answer) {
 
 static void make_in_order(uint8_t *out, struct rudlayog_answer *answer) {
     rudlayog_plan_in_order(TEXT(setup), TEXT(forecast), out, ROOM, answer);
+}
+
+static void make_check_in_order(uint8_t *out, struct rudlayog_answer *answer) {
+    struct rudlayog_verdict verdict;
+    rudlayog_check(TEXT(setup), TEXT(forecast), in_order, in_order_length, out, ROOM, &verdict, answer);
+    if ((answer->status == RUDLAYOG_WRITTEN) != (verdict.kind == RUDLAYOG_LEAST_IN_ORDER)) {
+        answer->status = 99;
+    }
 }
 
 static void make_sensitivity(uint8_t *out, struct rudlayog_answer *answer) {
@@ -159,6 +167,7 @@ static const struct part parts[] = {
     {"rudlayog_plan_losses", make_losses, RUDLAYOG_WRITTEN},
     {"rudlayog_sensitivity", make_sensitivity, RUDLAYOG_WRITTEN},
     {"rudlayog_plan_in_order", make_in_order, RUDLAYOG_WRITTEN},
+    {"rudlayog_check of a plan in order", make_check_in_order, RUDLAYOG_WRITTEN},
     {"rudlayog_chart_worth", make_chart_worth, RUDLAYOG_WRITTEN},
     {"rudlayog_ask", make_ask, RUDLAYOG_WRITTEN},     {"rudlayog_hint", make_hint, RUDLAYOG_WRITTEN},
     {"rudlayog_hint on a setup", make_setup_hint, RUDLAYOG_WRITTEN},
@@ -516,6 +525,8 @@ int main(void) {
     int status = 0;
     make_plan(plan, &answer);
     plan_length = answer.length;
+    make_in_order(in_order, &answer);
+    in_order_length = answer.length;
     for (size_t k = 0; k < sizeof parts / sizeof parts[0]; k++) {
         status |= sweep(&parts[k]);
     }

@@ -83,6 +83,9 @@ class Memories(unittest.TestCase):
             self.assertEqual(memory.apply(1, telecommand(2, one)), (None,))
             self.assertFalse(memory.state("SCI").storage)
             self.assertEqual((memory.waiting(), memory.refused()), (2, 0))
+            # The octets are tested before the bound.
+            for short in (telecommand(18)[:10], telecommand(5, one, one, one)[:20]):
+                self.assertEqual(self.refused(memory.apply, 1, short), "Short")
             # The refused ones were not counted: the sequence counts of the packets go on (CCSDS 133.0-B, 4.1.3.4).
             first = next(memory.reports())
             self.assertEqual(memory.apply(1, telecommand(12, one, one)), (None, None))
@@ -217,7 +220,9 @@ class Memories(unittest.TestCase):
             self.assertEqual(self.refused(memory.offer, "sci", 1, telemetry(1)), "BadId")
             self.assertEqual(self.refused(memory.offer, "CAM", 1, telemetry(1)), "NoSuchStore")
             self.assertEqual(self.refused(memory.offer, "SCI", 1, telemetry(1)[:-1]), "Short")
-            self.assertEqual(self.refused(memory.offer, "SCI", 1, telemetry(1) + b"\0"), "HexLine")
+            # The octets are tested before the store is looked for.
+            for store in ("SCI", "CAM"):
+                self.assertEqual(self.refused(memory.offer, store, 1, telemetry(1) + b"\0"), "HexLine")
             long = telemetry(1)[:4] + (14 + 1004).to_bytes(2, "big") + telemetry(1)[6:] + bytes(1004)
             self.assertEqual(self.refused(memory.offer, "SCI", 1, long), "TooLong")
             self.assertEqual(self.refused(memory.record, 1, telemetry(1) + b"\0"), "HexLine")
@@ -229,6 +234,14 @@ class Memories(unittest.TestCase):
             self.assertEqual(self.refused(memory.offer, "SCI", 3, telemetry(1)), "Disabled")
             self.assertEqual(list(memory.reports()), [])
         self.assertEqual(self.refused(Memory, "[[store]]\n"), "SetupField")
+
+    def test_names_of_no_store(self):
+        with Memory(SETUP) as memory:
+            memory.apply(1, telecommand(9, name("SCI") + times(0, 255)))
+            for store in ("", " ", "sci", "SCI ", "SCI     ", " SCI", "SCIENCE-1"):
+                self.assertEqual(self.refused(memory.next, store), "BadId", store)
+            for store in ("SC", "SCIENCE1"):
+                self.assertEqual(self.refused(memory.next, store), "NoSuchStore", store)
 
     def test_reports_wait(self):
         with Memory(SETUP) as memory:

@@ -1,4 +1,4 @@
-//! Tests of mm_memory, mm_ask and mm_service.
+//! Tests of mm_memory and mm_ask.
 #![tactic(auto)]
 
 #[cfg(test)]

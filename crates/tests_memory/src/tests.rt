@@ -1,4 +1,4 @@
-//! Tests of mm_memory, mm_ask and mm_service.
+//! Tests of mm_memory and mm_ask.
 
 // Tables of cases: what each row gives, and what is wanted.
 macro_rules! wanted {
@@ -10,10 +10,8 @@ macro_rules! table {
     ($kind:ident; $($($field:ident $value:expr),+;)+) => { [$($kind { $($field: $value),+ }),+] };
 }
 
-mod fields;
 mod lines;
 mod memories;
 mod reads;
 mod samples;
-mod services;
 mod spares;

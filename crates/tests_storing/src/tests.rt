@@ -5,7 +5,7 @@ macro_rules! refuses {
     ($rt:expr, $octets:expr, $message:ident, $fault:expr) => {{
         let packet = packet_of($rt, $octets);
         let refusal = $message::read($rt.alloc(), &packet).expect_err($rt, "a refusal");
-        assert!($rt; refusal == $fault, "{refusal} and not {}", $fault);
+        holds($rt, refusal == $fault, "the refusal");
     }};
 }
 

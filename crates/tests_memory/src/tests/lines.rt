@@ -1,5 +1,5 @@
 //! Requests as lines of text, and the lines that answer them.
-use crate::tests::samples::{Host, ONE_STORE, is_shown, is_told};
+use crate::tests::samples::{Host, ONE_STORE, holds, is_shown, is_told};
 use mm_ask::Outcome::{AllDone, SomeRefused};
 use mm_ask::{Fault, LineFault, Outcome, ask_bytes};
 
@@ -41,7 +41,7 @@ fn empty_lines_are_counted(rt: HostRuntime) {
 fn a_refused_setup(rt: HostRuntime) {
     let told = ask_bytes(rt.alloc(), b"[[store", ENABLE.as_bytes());
     let fault = told.expect_err(&rt, "a refusal");
-    assert!(rt; fault == Fault::SetupText, "{fault}");
+    holds(&rt, fault == Fault::SetupText, "the refusal");
     is_shown(&rt, &fault, "27 SetupText");
 }
 

@@ -1,13 +1,11 @@
 //! Memories, and the requests that are applied to them.
-use crate::tests::samples::{Host, TWO_STORES, is_shown};
+use crate::tests::samples::{Host, PACKET, TWO_STORES, block, holds, id, is_shown, memory_of};
 use mm_base::{Kind, Refused, RouteRow, StoreId};
 use mm_desk::Offered;
-use mm_memory::{Answer, Answers, Fault, Memory};
-use mm_packet::{BlockPacket, Header, Octets, Packet, TELECOMMAND_BODY};
-use mm_problem::Setup;
+use mm_memory::{Answer, Fault, Memory};
+use mm_packet::Packet;
 use mm_st15::Request;
 use mm_store::PacketStore;
-use reporting::{Reporting, reports};
 
 // Plays: a name, a setup, and what is done and seen in turn.
 macro_rules! plays {
@@ -18,38 +16,29 @@ macro_rules! plays {
 
 mod applying;
 mod refusals;
-mod reporting;
 
-fn id(rt: &impl Host, text: &[u8]) -> StoreId {
-    StoreId::of_text(text).expect(rt, "an identifier")
-}
-
-fn memory_of(rt: &impl Host, setup: &str) -> Memory {
-    let setup = Setup::read(rt.alloc(), setup.as_bytes()).expect(rt, "a setup");
-    Memory::of_setup(rt.alloc(), &setup).expect(rt, "memory")
+// The octets of a telecommand of the service with a subtype and these data.
+fn octets_of(rt: &impl Host, subtype: u8, data: &[u8]) -> Vec<u8> {
+    let length = u16::try_from(data.len().saturating_add(4)).unwrap_or(0);
+    let [high, low] = length.to_be_bytes();
+    let head = [0x18, 0x64, 0xC0, 0, high, low, 0x20, 15, subtype, 0, 0];
+    [head.as_slice(), data]
+        .concat(rt.alloc())
+        .expect(rt, "memory")
 }
 
 // The request of a subtype with these octets for its data.
 fn request_of(rt: &impl Host, subtype: u8, data: &[u8]) -> Request {
-    assert!(rt; data.len() <= TELECOMMAND_BODY);
-    let header = Header::new(100, 0, 15, subtype);
-    let list = data.to_vec(rt.alloc()).expect(rt, "memory");
-    let packet = Packet::tc(header, 0, Octets::new(list).expect(rt, "memory"));
+    let octets = octets_of(rt, subtype, data);
+    let (packet, _rest) = Packet::parse(rt.alloc(), &octets).expect(rt, "a packet");
     Request::read(rt.alloc(), &packet).expect(rt, "a request")
 }
 
-// What a request is answered at a moment.
-fn asked(rt: &impl Host, memory: &mut Memory, now: u64, subtype: u8, data: &[u8]) -> Answers {
-    let request = request_of(rt, subtype, data);
-    memory.apply(rt.alloc(), now, &request).expect(rt, "memory")
-}
-
-// A request of a subtype with its data, which is asked at the moment 1, has these answers in this play, and no report.
-fn asks(rt: &impl Host, memory: &mut Memory, name: &str, asking: (u8, &[u8]), want: &[Answer]) {
-    let (subtype, data) = asking;
-    let answers = asked(rt, memory, 1, subtype, data);
-    let is_answered = answers.each.as_slice() == want && answers.reports.is_empty();
-    assert!(rt; is_answered, "{name}: {subtype} {data:?}");
+// Whether a request of a subtype with its data, which is asked at the moment 1, has these answers, and no report.
+fn asks(rt: &impl Host, memory: &mut Memory, asking: (u8, &[u8]), want: &[Answer]) -> bool {
+    let request = request_of(rt, asking.0, asking.1);
+    let answers = memory.apply(rt.alloc(), 1, &request).expect(rt, "memory");
+    answers.each.as_slice() == want && answers.reports.is_empty()
 }
 
 // The kind, the size and the number of packets of a store, and whether its storage is on.
@@ -61,14 +50,6 @@ fn shape(memory: &Memory, id: &StoreId) -> Option<Shape> {
     Some((store.kind(), store.size(), store.len(), state.storage()))
 }
 
-// Telemetry with a sequence count of 1.
-fn packet(rt: &impl Host) -> BlockPacket {
-    let header = Header::new(100, 1, 3, 25);
-    let data = Octets::new(Vec::new(rt.alloc())).expect(rt, "memory");
-    let packet = Packet::tm(header, 0, 0, 0, data);
-    BlockPacket::of(packet).expect(rt, "a short packet")
-}
-
 // What a store answers, in a word, and the time of a packet that is kept or given.
 type Told = (&'static str, u64);
 
@@ -77,7 +58,7 @@ fn offered(rt: &impl Host, memory: &mut Memory, id: &StoreId, now: u64) -> Told 
     let Some(state) = memory.state_mut(id) else {
         return ("no store", 0);
     };
-    let answer = state.offer(now, packet(rt));
+    let answer = state.offer(now, block(rt, &PACKET));
     match &answer {
         Ok(Offered::Kept(time)) => ("kept", *time),
         Ok(Offered::KeptOver(time, _)) => ("kept over", *time),
@@ -98,27 +79,19 @@ fn next_of(memory: &mut Memory, id: &StoreId) -> Told {
     }
 }
 
-// A store's answer in this play.
-fn is_told(rt: &impl Host, name: &str, told: Told, want: Told) {
-    let (word, time) = told;
-    assert!(rt; word == want.0 && time == want.1, "{name}: {word} {time}");
+// Whether the store at this place has this identifier and this virtual channel.
+fn stands(memory: &Memory, place: u32, id: &StoreId, channel: u8) -> bool {
+    memory.entry(place) == Some((*id, channel))
 }
 
-// The store at this place, with its virtual channel.
-fn stands(rt: &impl Host, name: &str, memory: &Memory, place: u32, id: &StoreId, channel: u8) {
-    let is_there = memory.entry(place) == Some((*id, channel));
-    assert!(rt; is_there, "{name}: at {place}");
+// Whether there are this many stores, and this many routes.
+fn has_counts(memory: &Memory, stores: usize, routes: usize) -> bool {
+    memory.stores().len() == stores && memory.control().list().len() == routes
 }
 
-// How many stores there are, and how many routes.
-fn has_counts(rt: &impl Host, name: &str, memory: &Memory, stores: usize, routes: usize) {
-    let counts = (memory.stores().len(), memory.control().list().len());
-    assert!(rt; counts == (stores, routes), "{name}: {counts:?}");
-}
-
-// A store that is there has this shape.
-fn has_shape(rt: &impl Host, name: &str, memory: &Memory, id: &StoreId, want: Shape) {
-    assert!(rt; shape(memory, id) == Some(want), "{name}");
+// Whether a store is there, and has this shape.
+fn has_shape(memory: &Memory, id: &StoreId, want: Shape) -> bool {
+    shape(memory, id) == Some(want)
 }
 
 // What is done with a memory, and what is seen of it.
@@ -134,8 +107,6 @@ enum Step {
     Stands(u32, &'static [u8], u8),
     // How many stores there are, and how many routes.
     Counts(usize, usize),
-    // A request that has a report.
-    Reports(Reporting),
 }
 
 // Steps in turn, over the memory of a setup.
@@ -145,29 +116,24 @@ struct Play {
     steps: &'static [Step],
 }
 
-// A step of this play.
-fn takes(rt: &impl Host, memory: &mut Memory, name: &str, step: &Step) {
+// Takes a step, and says whether it comes to what is wanted.
+fn takes(rt: &impl Host, memory: &mut Memory, step: &Step) -> bool {
     match step {
-        Step::Ask(subtype, data, want) => asks(rt, memory, name, (*subtype, data), want),
-        Step::Offer(store, now, want) => {
-            let told = offered(rt, memory, &id(rt, store), *now);
-            is_told(rt, name, told, *want);
-        }
-        Step::Next(store, want) => is_told(rt, name, next_of(memory, &id(rt, store)), *want),
-        Step::Has(store, want) => has_shape(rt, name, memory, &id(rt, store), *want),
-        Step::Stands(place, store, channel) => {
-            stands(rt, name, memory, *place, &id(rt, store), *channel);
-        }
-        Step::Counts(stores, routes) => has_counts(rt, name, memory, *stores, *routes),
-        Step::Reports(reporting) => reports(rt, memory, name, reporting),
+        Step::Ask(subtype, data, want) => asks(rt, memory, (*subtype, data), want),
+        Step::Offer(store, now, want) => offered(rt, memory, &id(rt, store), *now) == *want,
+        Step::Next(store, want) => next_of(memory, &id(rt, store)) == *want,
+        Step::Has(store, want) => has_shape(memory, &id(rt, store), *want),
+        Step::Stands(place, store, channel) => stands(memory, *place, &id(rt, store), *channel),
+        Step::Counts(stores, routes) => has_counts(memory, *stores, *routes),
     }
 }
 
 // The steps of a play, one after another, over the memory of its setup.
 fn is_played(rt: &impl Host, play: &Play) {
     let mut memory = memory_of(rt, play.setup);
-    for step in play.steps {
-        takes(rt, &mut memory, play.name, step);
+    for (place, step) in play.steps.iter().enumerate() {
+        let is_so = takes(rt, &mut memory, step);
+        assert!(rt; is_so, "{}: at {place}", play.name);
     }
 }
 
@@ -178,39 +144,36 @@ fn each_is_played(rt: &impl Host, plays: &[Play]) {
     }
 }
 
-// The two stores of the setup, empty, and its route.
-fn stands_whole(rt: &impl Host, memory: &Memory, name: &str) {
+// Whether there are the two stores of the setup, empty, and its route.
+fn is_whole(rt: &impl Host, memory: &Memory) -> bool {
     let (sci, hk) = (id(rt, b"SCI"), id(rt, b"HK"));
-    has_counts(rt, name, memory, 2, 1);
-    stands(rt, name, memory, 0, &sci, 0);
-    stands(rt, name, memory, 1, &hk, 3);
-    has_shape(rt, name, memory, &sci, (Kind::Bounded, 4, 0, true));
-    has_shape(rt, name, memory, &hk, (Kind::Circular, 2, 0, true));
+    has_counts(memory, 2, 1)
+        && stands(memory, 0, &sci, 0)
+        && stands(memory, 1, &hk, 3)
+        && has_shape(memory, &sci, (Kind::Bounded, 4, 0, true))
+        && has_shape(memory, &hk, (Kind::Circular, 2, 0, true))
 }
 
-// Nothing stands at a place, and no store has an identifier.
-fn lacks(rt: &impl Host, memory: &mut Memory, place: u32, id: &StoreId) {
-    assert!(rt; memory.entry(place).is_none(), "{place}");
-    assert!(rt; shape(memory, id).is_none(), "{place}");
-    assert!(rt; memory.state_mut(id).is_none(), "{place}");
+// Whether nothing stands at a place, and no store has an identifier.
+fn lacks(memory: &mut Memory, place: u32, id: &StoreId) -> bool {
+    memory.entry(place).is_none() && shape(memory, id).is_none() && memory.state_mut(id).is_none()
 }
 
 #[test]
 fn stores_stand_in_setup_order(rt: HostRuntime) {
     let mut memory = memory_of(&rt, TWO_STORES);
-    stands_whole(&rt, &memory, "stores stand in setup order");
-    lacks(&rt, &mut memory, 2, &id(&rt, b"XY"));
+    holds(&rt, is_whole(&rt, &memory), "both stores");
+    holds(&rt, lacks(&mut memory, 2, &id(&rt, b"XY")), "no other");
 }
 
-// The stores that the report type of a subtype goes into, of APID 100 and service 3.
-fn leads_to(rt: &impl Host, memory: &Memory, subtype: u8, want: &[StoreId]) {
+// Whether telemetry of APID 100, service 3 and a subtype goes into these stores.
+fn leads_to(rt: &impl Host, memory: &Memory, subtype: u8, want: &[StoreId]) -> bool {
     let stores = memory.control().stores_for(rt.alloc(), 100, 3, subtype);
-    let stores = stores.expect(rt, "memory");
-    assert!(rt; stores.as_slice() == want, "for {subtype}");
+    stores.expect(rt, "memory").as_slice() == want
 }
 
-// The one route is of APID 100, service 3, subtype 25, to this store.
-fn has_one_route(rt: &impl Host, memory: &Memory, store: StoreId) {
+// Whether the one route is of APID 100, service 3, subtype 25, to this store.
+fn has_one_route(memory: &Memory, store: StoreId) -> bool {
     let (apid, service, subtype) = (100, 3, 25);
     let row = RouteRow {
         apid,
@@ -218,28 +181,31 @@ fn has_one_route(rt: &impl Host, memory: &Memory, store: StoreId) {
         subtype,
         store,
     };
-    assert!(rt; memory.control().list() == [row].as_slice());
+    memory.control().list() == [row].as_slice()
 }
 
 #[test]
 fn routes_of_setup(rt: HostRuntime) {
     let memory = memory_of(&rt, TWO_STORES);
     let sci = id(&rt, b"SCI");
-    has_one_route(&rt, &memory, sci);
-    leads_to(&rt, &memory, 25, &[sci]);
-    leads_to(&rt, &memory, 26, &[]);
+    holds(&rt, has_one_route(&memory, sci), "the route");
+    holds(&rt, leads_to(&rt, &memory, 25, &[sci]), "subtype 25");
+    holds(&rt, leads_to(&rt, &memory, 26, &[]), "subtype 26");
 }
 
 // While the stores are lifted the memory has its route, and no store.
+fn are_put_back(rt: &impl Host, memory: &mut Memory) {
+    holds(rt, is_whole(rt, memory), "before");
+    let stores = memory.lift();
+    let are_lifted = stores.len() == 2 && has_counts(memory, 0, 1) && memory.entry(0).is_none();
+    holds(rt, are_lifted, "lifted");
+    memory.restore(stores);
+    holds(rt, is_whole(rt, memory), "restored");
+}
+
 #[test]
 fn lifted_stores_are_put_back(rt: HostRuntime) {
-    let mut memory = memory_of(&rt, TWO_STORES);
-    stands_whole(&rt, &memory, "before");
-    let stores = memory.lift();
-    assert!(rt; stores.len() == 2 && memory.entry(0).is_none());
-    has_counts(&rt, "lifted", &memory, 0, 1);
-    memory.restore(stores);
-    stands_whole(&rt, &memory, "restored");
+    are_put_back(&rt, &mut memory_of(&rt, TWO_STORES));
 }
 
 // Sets the storage of a store off, by the state that the memory lends.
@@ -252,8 +218,16 @@ fn a_lent_state_is_the_store_s_state(rt: HostRuntime) {
     let mut memory = memory_of(&rt, TWO_STORES);
     let (sci, hk) = (id(&rt, b"SCI"), id(&rt, b"HK"));
     disable(&rt, &mut memory, &hk);
-    has_shape(&rt, "lent", &memory, &hk, (Kind::Circular, 2, 0, false));
-    has_shape(&rt, "not lent", &memory, &sci, (Kind::Bounded, 4, 0, true));
+    holds(
+        &rt,
+        has_shape(&memory, &hk, (Kind::Circular, 2, 0, false)),
+        "lent",
+    );
+    holds(
+        &rt,
+        has_shape(&memory, &sci, (Kind::Bounded, 4, 0, true)),
+        "not lent",
+    );
 }
 
 // Its own refusals and those of the crates below it are printed so.

@@ -1,5 +1,5 @@
 //! Identifiers, kinds, numbers and lines, and refusals of several types in one text.
-use crate::tests::samples::{Host, is_shown};
+use crate::tests::samples::{Host, holds, is_shown};
 use mm_base::numbers::{Numeral, push_number};
 use mm_base::{Fault, Kind, NoMemory, StoreId, lines};
 
@@ -13,7 +13,7 @@ static BAD_FIELDS: [[u8; 8]; 4] = [*b"        ", *b" SCI    ", *b"SC I    ", *b"
 
 // This identifier is read, or the text is refused with this fault.
 fn is_read(rt: &impl Host, read: Result<StoreId, Fault>, want: Result<StoreId, Fault>) {
-    assert!(rt; read == want, "{read:?}");
+    holds(rt, read == want, "the identifier");
 }
 
 #[test]
@@ -75,7 +75,7 @@ static NUMERALS: [(&str, Numeral); 7] = [
 #[test]
 fn numbers_are_read(rt: HostRuntime) {
     for (text, numeral) in &NUMERALS {
-        assert!(rt; Numeral::read(text.as_bytes(), 256) == *numeral, "{text}");
+        holds(&rt, Numeral::read(text.as_bytes(), 256) == *numeral, text);
     }
 }
 

@@ -1,7 +1,7 @@
 //! The table of the storage control.
 ghost use Rattle.std.specs.Prelude.{◌≤◌};
 
-use crate::tests::samples::{Host, is_shown};
+use crate::tests::samples::{Host, holds, is_shown};
 use mm_base::{RouteRow, StoreId};
 use mm_control::{ControlTable, Fault};
 
@@ -34,10 +34,10 @@ type ReportType = (u16, u8, u8);
 // The rows of this report type lead to these stores.
 fn rows_lead(rt: &impl Host, table: &ControlTable, of: ReportType, want: &[StoreId]) {
     let rows = table.rows_for(of.0, of.1, of.2);
-    assert!(rt; rows.len() == want.len(), "rows of {of:?}");
+    holds(rt, rows.len() == want.len(), "the rows of a report type");
     for (row, id) in rows.iter().zip(want) {
         let is_led = row.apid == of.0 && row.store == *id;
-        assert!(rt; is_led, "rows of {of:?}");
+        holds(rt, is_led, "the rows of a report type");
     }
 }
 
@@ -45,7 +45,7 @@ fn rows_lead(rt: &impl Host, table: &ControlTable, of: ReportType, want: &[Store
 fn finds(rt: &impl Host, table: &ControlTable, of: ReportType, want: &[StoreId]) {
     let stores = table.stores_for(rt.alloc(), of.0, of.1, of.2);
     let stores = stores.expect(rt, "memory");
-    assert!(rt; stores.as_slice() == want, "for {of:?}");
+    holds(rt, stores.as_slice() == want, "the stores of a report type");
     rows_lead(rt, table, of, want);
 }
 
@@ -93,7 +93,7 @@ fn lists(rt: &impl Host, table: &ControlTable, rows: &[(u16, u8, &str)]) {
     assert!(rt; table.list().len() == rows.len());
     for (listed, (apid, subtype, text)) in table.list().iter().zip(rows) {
         let want = row(rt, *apid, *subtype, text.as_bytes());
-        assert!(rt; *listed == want, "{listed:?}");
+        holds(rt, *listed == want, "the rows in order");
     }
 }
 

@@ -1,6 +1,6 @@
 //! Findings in refused files, in the words of docs/FORMATS.md.
 
-use crate::tests::samples::{Host, is_shown};
+use crate::tests::samples::{Host, holds, is_shown};
 use mm_base::Refusal;
 use mm_cut::{Verdict, check_bytes};
 use mm_problem::{Fault, Name, Problem, Setup, read_problem};
@@ -192,7 +192,7 @@ static FORECASTS: [(&str, Fault, &str); 20] = wanted! {
 
 fn forecast_hints(rt: &impl Host, forecast: &str, fault: Fault, hint: &str) {
     let read = read_problem(rt.alloc(), SETUP.as_bytes(), forecast.as_bytes());
-    assert!(rt; read.expect_err(rt, "a fault") == fault, "{forecast}");
+    holds(rt, read.expect_err(rt, "a fault") == fault, forecast);
     hints(
         rt,
         Reason::of_setup(fault),
@@ -321,7 +321,7 @@ fn plan_hints(rt: &impl Host, plan: &str, line: u64, hint: &str) {
     let judged = check_bytes(rt.alloc(), texts.setup, texts.forecast, texts.plan);
     let reason = Reason::of_texts(judged.expect_err(rt, hint));
     let is_there = matches!(reason.spot, Spot::Line(refused) if refused == line);
-    assert!(rt; is_there && reason.refusal == Refusal::PlanText, "{hint}");
+    holds(rt, is_there && reason.refusal == Refusal::PlanText, hint);
     hints(rt, reason, texts, hint);
 }
 
@@ -403,7 +403,7 @@ fn verdict_hints(rt: &impl Host, [form, after]: [&str; 2], verdict: Verdict, hin
     };
     let judged = check_bytes(alloc, texts.setup, texts.forecast, texts.plan);
     let (judged, _line) = judged.expect(rt, hint);
-    assert!(rt; judged == verdict, "{hint}");
+    holds(rt, judged == verdict, hint);
     let found = verdict_hint(alloc, texts, verdict).expect(rt, hint);
     is_shown(rt, &found, hint);
 }
@@ -590,7 +590,7 @@ fn request_hints(rt: &impl Host, requests: &[u8], line: u64, hint: &str) {
         let _ = found.hint(Refusal::Short, line.saturating_add(later));
         let first = found.hint(Refusal::HexLine, line).expect(rt, hint);
         is_shown(rt, &first, hint);
-        assert!(rt; found.hint(Refusal::NotSt15, line).is_none(), "{hint}");
+        holds(rt, found.hint(Refusal::NotSt15, line).is_none(), hint);
     }
 }
 
@@ -645,9 +645,10 @@ fn instruction_hints(rt: &impl Host, request: &str, refusal: Refusal, number: u6
     let mut found = RequestHints::new(request.as_bytes());
     let said = found.instruction_hint(refusal, 1, number).expect(rt, hint);
     is_shown(rt, &said, hint);
-    assert!(rt;
+    holds(
+        rt,
         found.instruction_hint(Refusal::Busy, 1, number).is_none(),
-        "{hint}"
+        hint,
     );
 }
 

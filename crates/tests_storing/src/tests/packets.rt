@@ -2,7 +2,9 @@
 ghost use Rattle.std.specs.Prelude.{◌≡◌, ◌<◌, ◌≤◌, ◌^◌, length};
 ghost use Rattle.mm_packet.specs.declared.header.TheConstants.{IDLE_APID, SEQUENCE_COUNTS};
 
-use crate::tests::samples::{CREATE_STORES, ENABLE, Host, is_shown, packet_of, writes, written};
+use crate::tests::samples::{
+    CREATE_STORES, ENABLE, Host, holds, is_shown, packet_of, writes, written,
+};
 use mm_packet::{
     BlockPacket, Fault, Header, Octets, Packet, PacketType, TELECOMMAND_BODY, TELEMETRY_BODY,
     TooLong, TooSmall, octet_at, u16_at, u32_at, u64_at,
@@ -145,7 +147,7 @@ fn what_follows_a_packet_is_the_rest(rt: HostRuntime) {
 // The octets are refused with this fault.
 fn refused(rt: &impl Host, octets: &[u8], fault: Fault) {
     let refusal = Packet::parse(rt.alloc(), octets).expect_err(rt, "no packet");
-    assert!(rt; refusal == fault, "{refusal} and not {fault}");
+    holds(rt, refusal == fault, "the refusal");
 }
 
 // The octets of a packet of 11 octets that differ: the identification, the sequence flags, the data length and the PUS

@@ -1,7 +1,7 @@
 //! Reports of the storage service as they are read, written and refused.
 ghost use Rattle.mm_st15.specs.Report.{HasCount};
 
-use crate::tests::samples::{CONFIGURATIONS, HK, Host, SCI, STORES, packet_of, writes};
+use crate::tests::samples::{CONFIGURATIONS, HK, Host, SCI, STORES, holds, packet_of, writes};
 use mm_st15::{Entries, Fault, Report, ReportKind, Row, Status, Summary};
 
 // The report is written as these octets under APID 100.
@@ -57,7 +57,7 @@ fn is_read_and_written(rt: &impl Host, octets: &[u8], subtype: u8, count: usize)
     let report = Report::read(rt.alloc(), &packet).expect(rt, "a report");
     let is_of_subtype = packet.subtype() == subtype && report.subtype() == subtype;
     let is_whole = report.moment() == 1 && has_its_fields(&report, count);
-    assert!(rt; is_of_subtype && is_whole, "{report:?}");
+    holds(rt, is_of_subtype && is_whole, "the report");
     is_written(rt, &report, octets);
 }
 

@@ -2,7 +2,8 @@
 ghost use Rattle.mm_st15.specs.Request.{HasCount, kind_of, count_of};
 
 use crate::tests::samples::{
-    CONFIGURATIONS, CREATE_STORES, ENABLE, HK, Host, SCI, STORES, is_shown, packet_of, writes,
+    CONFIGURATIONS, CREATE_STORES, ENABLE, HK, Host, SCI, STORES, holds, is_shown, packet_of,
+    writes,
 };
 use mm_packet::Packet;
 use mm_st15::{
@@ -69,10 +70,7 @@ fn is_read_and_written(rt: &impl Host, name: &str, octets: &[u8], subtype: u8) {
     let packet = packet_of(rt, octets);
     let request = Request::read(rt.alloc(), &packet).expect(rt, name);
     let is_of_subtype = packet.subtype() == subtype && request.subtype() == subtype;
-    assert!(rt;
-        is_of_subtype && has_its_fields(&request),
-        "{name}: {request:?}"
-    );
+    holds(rt, is_of_subtype && has_its_fields(&request), name);
     is_written(rt, &request, octets);
 }
 

@@ -9,6 +9,11 @@ pub trait Host: Abort + AllocGlobal {}
 
 impl<R: Abort + AllocGlobal> Host for R {}
 
+/// This holds, or the test fails and shows what.
+pub fn holds(rt: &impl Host, is_so: bool, what: &str) {
+    assert!(rt; is_so, "{what}");
+}
+
 /// A request of APID 100, count 0 and source 0: service 15, subtype 1, with the data 01 and an identifier of eight
 /// octets.
 pub const ENABLE: [u8; 20] = *b"\x18\x64\xC0\0\0\x0D\x20\x0F\x01\0\0\x01SCI     ";
@@ -51,5 +56,5 @@ pub fn writes(rt: &impl Host, packet: &Packet, octets: &[u8]) {
 /// A value is printed as this text.
 pub fn is_shown(rt: &impl Host, refusal: &impl Display, text: &str) {
     let shown = refusal.to_string(rt.alloc()).expect(rt, "memory");
-    assert!(rt; shown.as_str() == text, "{text}");
+    holds(rt, shown.as_str() == text, text);
 }

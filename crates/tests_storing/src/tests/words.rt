@@ -1,5 +1,5 @@
 //! Each refusal as it is printed, and its words.
-use crate::tests::samples::{Host, is_shown};
+use crate::tests::samples::{Host, holds, is_shown};
 use mm_base::Refusal;
 use mm_cut::Verdict;
 use mm_told::Words;
@@ -32,21 +32,21 @@ static ALL: [(Refusal, &str); 56] = names! {
 fn refusals_are_printed_with_number_and_name(rt: HostRuntime) {
     for (number, (refusal, name)) in ALL.iter().enumerate() {
         let text = format!(in rt.alloc(); "{number} {name}").expect(&rt, "memory");
-        assert!(rt; usize::from(refusal.number()) == number, "{refusal}");
+        holds(&rt, usize::from(refusal.number()) == number, name);
         is_shown(&rt, refusal, text.as_str());
     }
 }
 
 fn have_no_full_stop(rt: &impl Host, words: Words) {
     for text in [words.expected, words.advice] {
-        assert!(rt; !text.as_bytes().ends_with(b"."), "{text}");
+        holds(rt, !text.as_bytes().ends_with(b"."), text);
     }
 }
 
 // Two refusals have words of their own.
 fn differ(rt: &impl Host, words: Words, others: Words) {
-    assert!(rt; words.expected != others.expected, "{words}");
-    assert!(rt; words.advice != others.advice, "{words}");
+    holds(rt, words.expected != others.expected, words.expected);
+    holds(rt, words.advice != others.advice, words.expected);
 }
 
 // None of these refusals has the words.
@@ -59,12 +59,12 @@ fn are_of_none(rt: &impl Host, words: Words, refusals: &[(Refusal, &str)]) {
 // The words have no full stop, are those of no other refusal, and are found by the refusal's number.
 #[test]
 fn each_refusal_has_words_of_its_own(rt: HostRuntime) {
-    for (i, (refusal, _name)) in ALL.iter().enumerate() {
+    for (i, (refusal, name)) in ALL.iter().enumerate() {
         let words = Words::of(*refusal);
         have_no_full_stop(&rt, words);
         are_of_none(&rt, words, &ALL[..i]);
         let found = Words::of_number(refusal.number());
-        assert!(rt; found == Some(words), "{refusal}");
+        holds(&rt, found == Some(words), name);
     }
     assert!(rt; Words::of_number(56).is_none(), "a number of no refusal");
 }

@@ -1,6 +1,6 @@
 //! Reports, to the octet, and their numbers.
 use super::{Talk, each_answers};
-use crate::tests::samples::Host;
+use crate::tests::samples::{Host, holds};
 use mm_ask::Outcome::{AllDone, SomeRefused};
 use mm_ask::{Counters, Numbers, request_of};
 use mm_st15::ReportKind;
@@ -49,7 +49,7 @@ const EVERY_ANSWER: &str = "\
 17 report 0864C003001D200F17000000000000000000000011015343492020202020000000050005
 ";
 
-static REPORTS: [Talk; 4] = wanted! {
+static REPORTS: [Talk; 6] = wanted! {
     // The report is sent from the request's APID; acknowledgement flags and sequence count are not repeated.
     "a report goes to the request's source", "187BC00500042F0F161234", AllDone
     => "1 report 087BC000001D200F17000012340000000000000001015343492020202020000000040100\n";
@@ -62,6 +62,26 @@ static REPORTS: [Talk; 4] = wanted! {
     4 report 0864C003001D200F17000200000000000000000004015343492020202020000000040100\n";
     // Request 5 is answered by report 6, 12 by 13, 18 by 19, and 22 by 23.
     "every request once", EVERY_REQUEST, AllDone => EVERY_ANSWER;
+    // What is refused is left out; where each instruction is, the summary is empty.
+    "reports on the stores that are there",
+    "1864C000001D200F0C000003736369202020202053434920202020204E4F4E4520202020\n\
+    1864C000000D200F0C0000014E4F4E4520202020\n\
+    1864C000001D200F05000003736369202020202053434920202020204E4F4E4520202020\n", SomeRefused
+    => "1.1 refused 15 BadId\n1.2 done\n1.3 refused 23 NoSuchStore\n\
+    1 report 0864C000002B200F0D000000000000000000000001015343492020202020\
+    0000000000000000000000000000000000000000\n\
+    2.1 refused 23 NoSuchStore\n2 report 0864C001000F200F0D00010000000000000000000200\n\
+    3.1 refused 15 BadId\n3.2 done\n3.3 refused 23 NoSuchStore\n\
+    3 report 0864C002001C200F060000000000000000000000035343492020202020000100640319\n";
+    // SCI has its storage and a retrieval on, READ a retrieval, and HK neither.
+    "a store for each pair of statuses",
+    "1864C0000021200F140000025245414420202020000000040100484B202020202020000000020003\n\
+    1864C000001D200F090000015245414420202020000000000000000100000000000000FF\n\
+    1864C000001D200F090000015343492020202020000000000000000100000000000000FF\n\
+    1864C0000004200F120000\n", AllDone
+    => "1.1 done\n1.2 done\n2.1 done\n3.1 done\n\
+    4 report 0864C000002D200F1300000000000000000000000403\
+    5343492020202020010152454144202020200001484B2020202020200000\n";
     // Two reports on one request; the refused instruction between them has none.
     "a report for each accepted instruction",
     "1864C000001D200F050000035343492020202020484B2020202020205343492020202020\n", SomeRefused
@@ -78,7 +98,7 @@ fn reports_are_printed(rt: HostRuntime) {
 // The sequence count and the message type counter of the next report of a kind are these.
 fn numbered(rt: &impl Host, counters: &mut Counters, kind: ReportKind, want: (u16, u16)) {
     let Numbers { sequence, counter } = counters.next(kind);
-    assert!(rt; (sequence, counter) == want, "{sequence} {counter}");
+    holds(rt, sequence == want.0 && counter == want.1, "the numbers");
 }
 
 #[test]
@@ -103,6 +123,9 @@ fn counters_begin_again(rt: HostRuntime) {
 #[test]
 fn a_line_s_request(rt: HostRuntime) {
     let asked = request_of(rt.alloc(), b"1864C0000004200F160000").expect(&rt, "a request");
-    let told = (asked.request.subtype(), asked.packet.apid());
-    assert!(rt; told == (22, 100), "{told:?}");
+    holds(
+        &rt,
+        asked.request.subtype() == 22 && asked.packet.apid() == 100,
+        "the request",
+    );
 }

@@ -7,7 +7,7 @@ use mm_desk::Fault::{BadRange, Busy, HoldsMore, Idle, StorageOn};
 use mm_memory::Answer::{Done, Refused};
 use mm_memory::Fault::{BadId, BadSize, Control, Exists, NoSuchStore, State};
 
-static ON_EMPTY_STORES: [Play; 6] = plays! {
+static ON_EMPTY_STORES: [Play; 7] = plays! {
     "create two stores", ONE_STORE {
         Ask(20, b"\x02SCI     \x00\x00\x00\x04\x01\x00HK      \x00\x00\x00\x02\x00\x01", &[Refused(Exists), Done])
         Stands(1, b"HK", 1) Has(b"HK", (Kind::Circular, 2, 0, false))
@@ -34,6 +34,10 @@ static ON_EMPTY_STORES: [Play; 6] = plays! {
         Ask(3, b"\x01SCI     \x00\x64\x03\x1A", &[Done]) Counts(1, 2)
         Ask(4, b"\x01SCI     \x00\x64\x03\x19", &[Done]) Counts(1, 1)
         Ask(4, b"\x01SCI     \x00\x64\x03\x19", &[Refused(Control(NoSuchRoute))]) Counts(1, 1)
+    }
+    "another channel", ONE_STORE {
+        Ask(28, b"\x01SCI     \x05", &[Refused(State(StorageOn))]) Ask(2, b"\x01SCI     ", &[Done])
+        Ask(28, b"\x01SCI     \x05", &[Done]) Stands(0, b"SCI", 5)
     }
     "a created store stands last", TWO_STORES {
         Ask(2, b"\x01SCI     ", &[Done]) Ask(21, b"\x01SCI     ", &[Done])

@@ -1,6 +1,6 @@
 //! Which of two refusals comes first.
-use super::{asks, has_counts, id, memory_of, stands};
-use crate::tests::samples::{Host, ONE_STORE};
+use super::{asks, has_counts, stands};
+use crate::tests::samples::{Host, ONE_STORE, holds, id, memory_of};
 use mm_control::Fault::{NoSuchRoute, TableFull};
 use mm_desk::Fault::{Busy, StorageOn};
 use mm_memory::Answer::{Done, Refused};
@@ -69,9 +69,10 @@ fn data_of(rt: &impl Host, case: &Case) -> Vec<u8> {
 
 // Asks for each by itself, and compares the answers.
 fn asks_each(rt: &impl Host, memory: &mut Memory, name: &str, cases: &[Case]) {
-    for case in cases {
+    for (place, case) in cases.iter().enumerate() {
         let data = data_of(rt, case);
-        asks(rt, memory, name, (case.subtype, &data), &[case.want]);
+        let is_so = asks(rt, memory, (case.subtype, &data), &[case.want]);
+        assert!(rt; is_so, "{name}: case {place}");
     }
 }
 
@@ -116,18 +117,21 @@ static SIXTEEN: [Case; 6] = cases! {
 fn creates(rt: &impl Host, memory: &mut Memory, letter: u8) {
     let mut data = *b"\x01        \x00\x00\x00\x04\x01\x00";
     data[1] = letter;
-    asks(rt, memory, "a store more", (20, &data), &[Done]);
+    holds(rt, asks(rt, memory, (20, &data), &[Done]), "a store more");
+}
+
+fn are_sixteen(rt: &impl Host, memory: &mut Memory) {
+    for letter in b"ABCDEFGHIJKLMNO" {
+        creates(rt, memory, *letter);
+    }
+    holds(rt, stands(memory, 15, &id(rt, b"O"), 0), "the last");
+    asks_each(rt, memory, "sixteen stores", &SIXTEEN);
+    holds(rt, has_counts(memory, 16, 1), "sixteen stores");
 }
 
 #[test]
 fn the_first_refusal_where_there_are_sixteen_stores(rt: HostRuntime) {
-    let mut memory = memory_of(&rt, ONE_STORE);
-    for letter in b"ABCDEFGHIJKLMNO" {
-        creates(&rt, &mut memory, *letter);
-    }
-    stands(&rt, "the last", &memory, 15, &id(&rt, b"O"), 0);
-    asks_each(&rt, &mut memory, "sixteen stores", &SIXTEEN);
-    has_counts(&rt, "sixteen stores", &memory, 16, 1);
+    are_sixteen(&rt, &mut memory_of(&rt, ONE_STORE));
 }
 
 // Where the table has no room.
@@ -144,15 +148,18 @@ static FULL_TABLE: [Case; 6] = cases! {
 fn routes(rt: &impl Host, memory: &mut Memory, apid: u8) {
     let mut data = *b"\x01SCI     \x01\x00\x03\x19";
     data[10] = apid;
-    asks(rt, memory, "a route more", (3, &data), &[Done]);
+    holds(rt, asks(rt, memory, (3, &data), &[Done]), "a route more");
+}
+
+fn is_full(rt: &impl Host, memory: &mut Memory) {
+    for apid in 0..255u8 {
+        routes(rt, memory, apid);
+    }
+    holds(rt, has_counts(memory, 1, 256), "a full table");
+    asks_each(rt, memory, "a full table", &FULL_TABLE);
 }
 
 #[test]
 fn the_first_refusal_of_a_full_table(rt: HostRuntime) {
-    let mut memory = memory_of(&rt, ONE_STORE);
-    for apid in 0..255u8 {
-        routes(&rt, &mut memory, apid);
-    }
-    has_counts(&rt, "a full table", &memory, 1, 256);
-    asks_each(&rt, &mut memory, "a full table", &FULL_TABLE);
+    is_full(&rt, &mut memory_of(&rt, ONE_STORE));
 }
