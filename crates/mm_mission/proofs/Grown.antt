@@ -17,7 +17,7 @@ use Rattle.mm_mission.specs.declared.counter.Counter.{Counter}
 use Rattle.mm_mission.specs.declared.counter.Counter.TheVariants.{Sent, Come}
 use Rattle.mm_mission.specs.Mission.{MissionRows}
 use Rattle.mm_mission.specs.Flows.{counted}
-use Rattle.mm_mission.specs.Planned.{growth, growths, table, row_in, is_limited, limited, IsProblemOf}
+use Rattle.mm_mission.specs.Planned.{growth, growths, table, row_of, is_limited, limited, IsProblemOf}
 use Rattle.mm_mission.specs.Laws.{GrowAt}
 
 -- the number at a place of lists of one length that are joined
@@ -85,7 +85,7 @@ module _ (m : MissionRows) (edges : List ℕ) (q : Dumping) (t : ℕ) (h : IsPro
     arrivals_grow : (s : ℕ) → s < length m.stores → arrivals q s t ≡ growth (counted m (Come s)) edges t
     arrivals_grow s below =
         let n = length m.stores in
-        let rows : length q.rows ≡ n = ap length h.rows ∙ length-map m.stores (row_in m.unit) in
+        let rows : length q.rows ≡ n = ap length h.rows ∙ length-map m.stores row_of in
         let counters : List Counter = map Come (range_with_len 0 n) in
         let many : length counters ≡ n = length-map-range_with_len Come 0 n in
         rw (rows, h.arrived) (cell_at m counters edges t s ((t - 1) * n + s) (Come s) first last (omega (arith, many))

@@ -3,6 +3,7 @@ pub mod Rising
 pub mod Tables
 pub mod Planning
 pub mod Rounded
+pub mod Paces
 pub mod Grown
 pub mod Summed
 pub mod Timed

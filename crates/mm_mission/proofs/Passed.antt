@@ -15,7 +15,7 @@ use Rattle.mm_mission.specs.declared.parts.Pass.{Pass}
 use Rattle.mm_mission.specs.declared.parts.Span.{Span}
 use Rattle.mm_mission.specs.declared.dumps.Dump.{Dump}
 use Rattle.mm_mission.specs.Mission.{MissionRows, IsMission}
-use Rattle.mm_mission.specs.Flows.{elapsed, whole_units, sent_by, counted}
+use Rattle.mm_mission.specs.Flows.{elapsed, whole_units, link_pace, sent_by, counted}
 use Rattle.mm_mission.specs.Edges.{ends, pass_ends, observation_ends, is_inside, AreEdges}
 use Rattle.mm_mission.specs.Planned.{growth, IsProblemOf}
 use Rattle.mm_mission.specs.Timeline.{length_of, is_in_pass, IsTimeline}
@@ -99,7 +99,7 @@ module _ (m : MissionRows) (edges : List ℕ) (h : IsMission m) (are : AreEdges 
               (λ k d within.
               let p = get_or m.passes k d in
               let there = ends_there (λ (p : Pass). p.span) m.passes k d within in
-              ap (whole_units m p.rate) (quiet p a b (pass_lasts m.lasts p (h.passes k d within)) rising
+              ap (whole_units (link_pace m p)) (quiet p a b (pass_lasts m.lasts p (h.passes k d within)) rising
               (end_outside p.span.begin there.0) (end_outside p.span.end there.1) (each k d within))) in
               absurd (omega (arith, some, same))
         ]
