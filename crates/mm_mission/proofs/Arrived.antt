@@ -1,28 +1,30 @@
 -- What is sent has come.
 use Rattle.std.proofs.Common.{◌≡◌, ℕ, zero, suc, ◌+◌, ◌-◌, ◌*◌, ◌<◌, ◌≤◌, Bool, true, nat_le, nat_lt, ◌&&◌, List, [], ◌∷◌}
-use Rattle.std.proofs.Common.{length, get_or, Some, refl, ap, ◌∙◌, inl, inr, arith}
-use Rattle.std.specs.Prelude.{All, Contains, filter, slice_index, slice_get, ◌⊎◌}
+use Rattle.std.proofs.Common.{length, get_or, ap, ◌∙◌, inl, inr, arith}
+use Rattle.std.specs.Prelude.{All, Contains, filter, slice_index, ◌⊎◌}
 use Rattle.std.specs.List.{sum_by, list_any}
 use Rattle.std.proofs.lemmas.Bool.{cases_Bool, cases_lt, or_left, or_right}
 use Rattle.std.proofs.lemmas.Bool.Decides.{nat_tests}
 use Rattle.std.proofs.lemmas.List.Elements.{All-head, All-tail, All-filter, Contains-append_right}
 use Rattle.std.proofs.lemmas.List.Sums.{sum_by-cons}
 use Rattle.std.proofs.lemmas.Nat.{mul-le}
-use Rattle.mm_base.proofs.RangeSums.{sum_by_range_more}
+use Rattle.mm_base.proofs.RangeSums.{sum_by_range_more, sum_by_range_same}
 use Rattle.mm_problem.specs.Dumping.{Dumping, start}
-use Rattle.mm_mission.specs.declared.counter.Counter.TheVariants.{Come}
+use Rattle.mm_mission.specs.declared.counter.Counter.TheVariants.{Come, Packets}
 use Rattle.mm_mission.specs.declared.parts.Observation.{Observation}
-use Rattle.mm_mission.specs.declared.parts.Store.{Store}
-use Rattle.mm_mission.specs.Mission.{MissionRows, IsMission}
-use Rattle.mm_mission.specs.Flows.{elapsed, come_by, into, is_into, come_octets, come_divisor, counted}
+use Rattle.mm_mission.specs.Mission.{MissionRows, store_at, IsMission}
+use Rattle.mm_mission.specs.Flows.{packet_octets, unit_octets, elapsed, come_by, into, is_into, come_octets, come_divisor}
+use Rattle.mm_mission.specs.Flows.{counted}
 use Rattle.mm_mission.specs.Edges.{pass_ends, observation_ends, is_in, is_inside, AreEdges}
 use Rattle.mm_mission.specs.Planned.{IsProblemOf}
+use Rattle.mm_mission.specs.Packets.{step_in, AreSentBy}
 use Rattle.mm_mission.specs.Timeline.{is_in_pass}
 use Rattle.mm_mission.specs.Laws.{IsRoundedUp, over, AreWithin, SendsWhatIsThere, HaveBeenSent}
 use Rattle.mm_mission.proofs.Rising.{rises_by}
 use Rattle.mm_mission.proofs.Grown.{steps_grow}
-use Rattle.mm_mission.proofs.Summed.{arrivals_add_up, observations_rise}
-use Rattle.mm_mission.proofs.Passed.{outside, in_some_pass, ends_there}
+use Rattle.mm_mission.proofs.Summed.{arrivals_add_up, packets_add_up, observations_rise}
+use Rattle.mm_mission.proofs.Stepped.{dumped_there}
+use Rattle.mm_mission.proofs.Passed.{outside, in_some_pass, ends_there, some_sent}
 
 -- ---- numbers
 
@@ -168,43 +170,67 @@ module _ (m : MissionRows) (edges : List ℕ) (h : IsMission m) (are : AreEdges 
             all_even (come_by a) (come_by b) (come_by time) p w (into m s)
             (All-filter (is_into s) Even m.observations each)
 
--- a mission's store at a place
-store_there : (stores : List Store) (s : ℕ) → s < length stores → (store : Store) × (slice_get stores s ≡ Some store)
-store_there [] s below = absurd (omega arith)
-store_there (x ∷ stores) zero below = (x, refl)
-store_there (x ∷ stores) (suc s) below = store_there stores s (omega arith)
+-- of what is sent evenly, no more than has come
+module _ (m : MissionRows) (edges : List ℕ) (h : IsMission m) (are : AreEdges m edges) (y : ℕ → ℕ → ℕ)
+    (s t time units : ℕ) (first : 1 ≤ t) (last : t < length edges) (sent : HaveBeenSent edges y s t time units)
+    (lies : is_in_pass m.passes (record { begin = slice_index edges (t - 1); end = slice_index edges t }) ≡ true)
+  where
+    have_come : (held d : ℕ) (come : ℕ → ℕ) → ((c : ℕ) → IsRoundedUp (come_octets m s c) d (come c))
+        → ((n : ℕ) → n < length edges → over (y s) 0 n ≤ held + come (slice_index edges n)) → units ≤ held + come time
+    have_come held d come up there =
+        let a = slice_index edges (t - 1) in
+        let b = slice_index edges t in
+        let p = time - a in
+        let w = b - time in
+        let before = over (y s) 0 (t - 1) in
+        let amount = y s t in
+        let next : t - 1 + 1 ≡ t = omega arith in
+        let far = rises_by edges are.times.rising (t - 1) 1 (omega arith) in
+        let long : a < b = omega (arith, rw next at far) in
+        let even = all_come_even m edges h are t first last lies time sent.begin sent.end long s in
+        let less = between (come a) (come b) (come time) (come_octets m s a) (come_octets m s b) (come_octets m s time) d
+        p w (omega (arith, sent.begin, sent.end)) (up a).most (up b).most even (up time).least in
+        let low : before ≤ held + come a = there (t - 1) (omega arith) in
+        let sum = rw next at (sum_by_range_more (y s) 1 (t - 1) t (omega arith)) in
+        let high : before + amount ≤ held + come b = omega (arith, there t last, sum) in
+        let length_is : p + w ≡ b - a = omega (arith, sent.begin, sent.end) in
+        let so_far : units * (p + w) ≤ before * (p + w) + amount * p = rw (← length_is) at sent.sent in
+        let low_part = mul-le before w (held + come a) w low (omega arith) in
+        let high_part = mul-le (before + amount) p (held + come b) p high (omega arith) in
+        whole_within units (held + come time) (p + w) (omega (arith, so_far, low_part, high_part, less))
 
--- the law
-pub units_have_come : (m : MissionRows) (edges : List ℕ) (q : Dumping) (x : ℕ → ℕ → ℕ) (s t time units : ℕ)
-    → IsMission m → AreEdges m edges → IsProblemOf m edges q → AreWithin m edges q x → SendsWhatIsThere edges q x s
-    → s < length m.stores → 1 ≤ t → t < length edges → 0 < x s t → HaveBeenSent edges x s t time units
-    → units ≤ start q s + counted m (Come s) time
-units_have_come m edges q x s t time units h are of within there below first last some sent =
-    let a = slice_index edges (t - 1) in
-    let b = slice_index edges t in
-    let p = time - a in
-    let w = b - time in
-    let come : ℕ → ℕ = counted m (Come s) in
-    let held = start q s in
-    let before = over (x s) 0 (t - 1) in
-    let amount = x s t in
-    let next : t - 1 + 1 ≡ t = omega arith in
-    let far = rises_by edges are.times.rising (t - 1) 1 (omega arith) in
-    let long : a < b = omega (arith, rw next at far) in
-    let window_is = (steps_grow m edges q t of first last).window in
-    let lies = in_some_pass m edges h are t first last (omega (arith, some, within s t below first last, window_is)) in
-    let even = all_come_even m edges h are t first last lies time sent.begin sent.end long s in
-    let (store, is) = store_there m.stores s below in
-    let up : (c : ℕ) → IsRoundedUp (come_octets m s c) (come_divisor store) (come c) = λ c. observations_rise m s store c h is in
-    let less = between (come a) (come b) (come time) (come_octets m s a) (come_octets m s b) (come_octets m s time)
-    (come_divisor store) p w (omega (arith, sent.begin, sent.end)) (up a).most (up b).most even (up time).least in
-    let come_a = arrivals_add_up m edges q s (t - 1) h are.times of below (omega arith) in
-    let come_b = arrivals_add_up m edges q s t h are.times of below last in
-    let low : before ≤ held + come a = omega (arith, there (t - 1) (omega arith), come_a) in
-    let sum = rw next at (sum_by_range_more (x s) 1 (t - 1) t (omega arith)) in
-    let high : before + amount ≤ held + come b = omega (arith, there t last, come_b, sum) in
-    let length_is : p + w ≡ b - a = omega (arith, sent.begin, sent.end) in
-    let so_far : units * (p + w) ≤ before * (p + w) + amount * p = rw (← length_is) at sent.sent in
-    let low_part = mul-le before w (held + come a) w low (omega arith) in
-    let high_part = mul-le (before + amount) p (held + come b) p high (omega arith) in
-    whole_within units (held + come time) (p + w) (omega (arith, so_far, low_part, high_part, less))
+module _ (m : MissionRows) (edges : List ℕ) (q : Dumping) (x : ℕ → ℕ → ℕ) (s t : ℕ) (h : IsMission m)
+    (are : AreEdges m edges) (of : IsProblemOf m edges q) (within : AreWithin m edges q x) (below : s < length m.stores)
+    (first : 1 ≤ t) (last : t < length edges)
+  where
+    -- a step in which a store is to send lies in a pass
+    lies_in : 0 < x s t
+        → is_in_pass m.passes (record { begin = slice_index edges (t - 1); end = slice_index edges t }) ≡ true
+    lies_in some =
+        let window_is = (steps_grow m edges q t of first last).window in
+        in_some_pass m edges h are t first last (omega (arith, some, within s t below first last, window_is))
+
+    -- the law
+    pub units_have_come : (time units : ℕ) → SendsWhatIsThere edges q x s → 0 < x s t
+        → HaveBeenSent edges x s t time units → units ≤ start q s + counted m (Come s) time
+    units_have_come time units there some sent =
+        have_come m edges h are x s t time units first last sent (lies_in some) (start q s)
+        (come_divisor unit_octets (store_at m s)) (counted m (Come s)) (λ c. (observations_rise m s h c below).0)
+        (λ n inside. omega (arith, there n inside, arrivals_add_up m s h edges q n are.times of below inside))
+
+    -- the law
+    pub packets_have_come : (packets : ℕ → ℕ → ℕ) (time count : ℕ) → AreSentBy m edges x packets → 0 < packets s t
+        → HaveBeenSent edges packets s t time count → count ≤ (store_at m s).start + counted m (Packets s) time
+    packets_have_come packets time count by some sent =
+        let units = some_sent m edges x s t (omega (arith, some, by s t below first last)) in
+        have_come m edges h are packets s t time count first last sent (lies_in units) (store_at m s).start
+        (come_divisor packet_octets (store_at m s)) (counted m (Packets s)) (λ c. (observations_rise m s h c below).1)
+        (λ n inside.
+        let same = sum_by_range_same (packets s) (λ u. (step_in m edges x s u).dumped) 1 n
+        (λ u low high. by s u below low (omega arith)) in
+        omega (
+          arith,
+          same,
+          dumped_there m edges x s n,
+          packets_add_up m s h edges n are.times inside,
+        ))

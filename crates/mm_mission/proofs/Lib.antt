@@ -5,7 +5,9 @@ pub mod Planning
 pub mod Rounded
 pub mod Paces
 pub mod Grown
+pub mod Stepped
 pub mod Summed
 pub mod Timed
 pub mod Passed
 pub mod Arrived
+pub mod Losing

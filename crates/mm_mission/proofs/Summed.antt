@@ -13,12 +13,12 @@ use Rattle.std.proofs.lemmas.Nat.{mul-le}
 use Rattle.mm_base.proofs.RangeSums.{sum_by_range_more, sum_by_range_same, sum_by_range-le}
 use Rattle.mm_base.proofs.Sums.{sum_by-le_each, sum_by-same, sum_by_zeros}
 use Rattle.mm_problem.specs.Dumping.{Dumping, arrivals}
-use Rattle.mm_mission.specs.declared.counter.Counter.TheVariants.{Sent, Come}
+use Rattle.mm_mission.specs.declared.counter.Counter.TheVariants.{Sent, Come, Packets}
 use Rattle.mm_mission.specs.declared.parts.Pass.{Pass}
 use Rattle.mm_mission.specs.declared.parts.Store.{Store}
-use Rattle.mm_mission.specs.Mission.{MissionRows, IsMission, is_pass, is_store}
+use Rattle.mm_mission.specs.Mission.{MissionRows, no_store, store_at, IsMission, is_pass, is_store}
 use Rattle.mm_mission.specs.Flows.{elapsed, Pace, whole_units, link_pace, own_pace, pace_on, sent_by, come_by, into}
-use Rattle.mm_mission.specs.Flows.{come_octets, come_divisor, begun_units, counted}
+use Rattle.mm_mission.specs.Flows.{packet_octets, unit_octets, come_octets, come_divisor, begun, counted}
 use Rattle.mm_mission.specs.Edges.{AreTimes}
 use Rattle.mm_mission.specs.Planned.{growth, IsProblemOf}
 use Rattle.mm_mission.specs.Laws.{IsRoundedDown, IsRoundedUp, IsWithinOne, IsKept, LieIn, time_of, over, room, HasRoom}
@@ -193,25 +193,12 @@ rates_are_kept m edges q p channel sent i n h times of there has lies fits =
 
 -- ---- arrivals
 
--- there is something to divide by
-come_some : (s : Store) → IsTrue (is_store s) → 0 < come_divisor s
-come_some s fits =
-    let packet : 1 ≤ s.packet = grind (arith, nat_tests, fits) in
-    let unit : 1 ≤ s.unit = grind (arith, nat_tests, fits) in
-    let micros : 1 ≤ s.micros = grind (arith, nat_tests, fits) in
-    mul-le 1 1 s.micros (s.packet * s.unit) micros (mul-le 1 1 s.packet s.unit packet unit)
-
 octets_rise : (m : MissionRows) (s a b : ℕ) → a ≤ b → come_octets m s a ≤ come_octets m s b
 octets_rise m s a b rising =
     sum_by-le_each (come_by a) (come_by b) (into m s)
     (λ k d within.
     let o = get_or (into m s) k d in
     mul-le o.octets (elapsed o.span a) o.octets (elapsed o.span b) (omega arith) (omega arith))
-
-begun_rises : (o : Option Store) (x y : ℕ) → IfSome o (λ s. IsTrue (is_store s)) → x ≤ y
-    → begun_units o x ≤ begun_units o y
-begun_rises None x y fits rises = omega arith
-begun_rises (Some s) x y fits rises = up_rises (come_divisor s) (come_some s fits) x y rises
 
 -- the store at a place, if there is one, is one of a mission's
 fit_there : (stores : List Store) (s : ℕ) → All (λ s. IsTrue (is_store s)) stores
@@ -220,45 +207,106 @@ fit_there [] s each = tt
 fit_there (x ∷ stores) zero each = All-head (λ s. IsTrue (is_store s)) x stores each
 fit_there (x ∷ stores) (suc s) each = fit_there stores s (All-tail (λ s. IsTrue (is_store s)) x stores each)
 
-come_rises : (m : MissionRows) (s : ℕ) → IsMission m → (a b : ℕ) → a ≤ b → counted m (Come s) a ≤ counted m (Come s) b
-unfolding counted
-come_rises m s h a b rising =
-    begun_rises (slice_get m.stores s) (come_octets m s a) (come_octets m s b) (fit_there m.stores s h.stores)
-    (octets_rise m s a b rising)
+get_there : (stores : List Store) (s : ℕ) (d : Store) → s < length stores → slice_get stores s ≡ Some (get_or stores s d)
+get_there [] s d below = absurd (omega arith)
+get_there (x ∷ stores) zero d below = refl
+get_there (x ∷ stores) (suc s) d below = get_there stores s d (omega arith)
 
--- the law
-pub observations_rise : (m : MissionRows) (s : ℕ) (store : Store) (t : ℕ) → IsMission m
-    → slice_get m.stores s ≡ Some store → IsRoundedUp (come_octets m s t) (come_divisor store) (counted m (Come s) t)
-unfolding counted
-observations_rise m s store t h is =
-    let fits : IsTrue (is_store store) =
-    subst (λ o. IfSome o (λ s. IsTrue (is_store s))) is (fit_there m.stores s h.stores) in
-    rw is (record {
-      least = up_least (come_divisor store) (come_some store fits) (come_octets m s t);
-      most = up_most (come_divisor store) (come_some store fits) (come_octets m s t);
-    })
+-- the store at a place fits
+pub fits_at : (m : MissionRows) (s : ℕ) → IsMission m → s < length m.stores → IsTrue (is_store (store_at m s))
+fits_at m s h below =
+    subst (λ o. IfSome o (λ s. IsTrue (is_store s))) (get_there m.stores s no_store below) (fit_there m.stores s h.stores)
+
+pub packet_some : (s : Store) → IsTrue (is_store s) → 1 ≤ packet_octets s
+packet_some s fits = grind (arith, nat_tests, fits)
+
+pub unit_some : (s : Store) → IsTrue (is_store s) → 1 ≤ s.unit
+unit_some s fits = grind (arith, nat_tests, fits)
+
+units_some : (s : Store) → IsTrue (is_store s) → 1 ≤ unit_octets s
+units_some s fits = mul-le 1 1 s.packet s.unit (packet_some s fits) (unit_some s fits)
+
+-- what has come in parts of so many octets
+module _ (octets : Store → ℕ) (some : (s : Store) → IsTrue (is_store s) → 1 ≤ octets s) where
+  -- there is something to divide by
+  come_some : (s : Store) → IsTrue (is_store s) → 0 < come_divisor octets s
+  come_some s fits =
+      let micros : 1 ≤ s.micros = grind (arith, nat_tests, fits) in
+      mul-le 1 1 s.micros (octets s) micros (some s fits)
+
+  begun_rises : (o : Option Store) (x y : ℕ) → IfSome o (λ s. IsTrue (is_store s)) → x ≤ y
+      → begun octets o x ≤ begun octets o y
+  begun_rises None x y fits rises = omega arith
+  begun_rises (Some s) x y fits rises = up_rises (come_divisor octets s) (come_some s fits) x y rises
+
+  begun_none : (o : Option Store) → begun octets o 0 ≡ 0
+  begun_none None = refl
+  begun_none (Some s) = rw (zero-div (come_divisor octets s), zero-mod (come_divisor octets s)) (omega arith)
+
+  begun_is : (m : MissionRows) (s x : ℕ) → IsMission m → s < length m.stores
+      → IsRoundedUp x (come_divisor octets (store_at m s)) (begun octets (slice_get m.stores s) x)
+  begun_is m s x h below =
+      let d = come_divisor octets (store_at m s) in
+      let some = come_some (store_at m s) (fits_at m s h below) in
+      rw (get_there m.stores s no_store below) (record { least = up_least d some x; most = up_most d some x })
 
 -- nothing has come as the mission begins
-none_come : (m : MissionRows) (s : ℕ) → counted m (Come s) 0 ≡ 0
-unfolding counted
+none_come : (m : MissionRows) (s : ℕ) → come_octets m s 0 ≡ 0
 none_come m s =
-    let none : come_octets m s 0 ≡ 0 = sum_by_zeros (come_by 0) (into m s)
+    sum_by_zeros (come_by 0) (into m s)
     (λ k d within.
     let o = get_or (into m s) k d in
-    mul-zero-of o.octets (elapsed o.span 0) (omega arith)) in
-    rw none (begun_none (slice_get m.stores s))
-  where
-    begun_none : (o : Option Store) → begun_units o 0 ≡ 0
-    begun_none None = refl
-    begun_none (Some s) = rw (zero-div (come_divisor s), zero-mod (come_divisor s)) (omega arith)
+    mul-zero-of o.octets (elapsed o.span 0) (omega arith))
 
--- the law
-pub arrivals_add_up : (m : MissionRows) (edges : List ℕ) (q : Dumping) (s n : ℕ) → IsMission m → AreTimes m edges
-    → IsProblemOf m edges q → s < length m.stores → n < length edges
-    → over (arrivals q s) 0 n ≡ counted m (Come s) (slice_index edges n)
-arrivals_add_up m edges q s n h times of there last =
-    let same : 0 + n ≡ n = omega arith in
-    let each = sum_by_range_same (arrivals q s) (growth (counted m (Come s)) edges) 1 n
-    (λ t low high. (steps_grow m edges q t of low (omega arith)).arrivals s there) in
-    let all = telescope (counted m (Come s)) edges (come_rises m s h) times.rising 0 n (omega arith) in
-    each ∙ all ∙ rw (times.first, same, none_come m s) (omega arith)
+module _ (m : MissionRows) (s : ℕ) where
+  pub no_units : counted m (Come s) 0 ≡ 0
+  unfolding counted
+  no_units = rw (none_come m s) (begun_none unit_octets units_some (slice_get m.stores s))
+
+  no_packets : counted m (Packets s) 0 ≡ 0
+  unfolding counted
+  no_packets = rw (none_come m s) (begun_none packet_octets packet_some (slice_get m.stores s))
+
+  module _ (h : IsMission m) where
+    pub units_rise : (a b : ℕ) → a ≤ b → counted m (Come s) a ≤ counted m (Come s) b
+    unfolding counted
+    units_rise a b rising =
+        begun_rises unit_octets units_some (slice_get m.stores s) (come_octets m s a) (come_octets m s b)
+        (fit_there m.stores s h.stores) (octets_rise m s a b rising)
+
+    pub packets_rise : (a b : ℕ) → a ≤ b → counted m (Packets s) a ≤ counted m (Packets s) b
+    unfolding counted
+    packets_rise a b rising =
+        begun_rises packet_octets packet_some (slice_get m.stores s) (come_octets m s a) (come_octets m s b)
+        (fit_there m.stores s h.stores) (octets_rise m s a b rising)
+
+    -- the law
+    pub observations_rise : (t : ℕ) → s < length m.stores
+        → IsRoundedUp (come_octets m s t) (come_divisor unit_octets (store_at m s)) (counted m (Come s) t)
+        × IsRoundedUp (come_octets m s t) (come_divisor packet_octets (store_at m s)) (counted m (Packets s) t)
+    unfolding counted
+    observations_rise t below = (
+      begun_is unit_octets units_some m s (come_octets m s t) h below,
+      begun_is packet_octets packet_some m s (come_octets m s t) h below,
+    )
+
+    -- what a count has grown by since the mission began is the count
+    since_begin : (count : ℕ → ℕ) (edges : List ℕ) (n : ℕ) → AreTimes m edges → n < length edges → count 0 ≡ 0
+        → ((a b : ℕ) → a ≤ b → count a ≤ count b) → over (growth count edges) 0 n ≡ count (slice_index edges n)
+    since_begin count edges n times last none rises =
+        let same : 0 + n ≡ n = omega arith in
+        telescope count edges rises times.rising 0 n (omega arith) ∙ rw (times.first, same, none) (omega arith)
+
+    -- packets that have arrived up to the end of a step
+    pub packets_add_up : (edges : List ℕ) (n : ℕ) → AreTimes m edges → n < length edges
+        → over (growth (counted m (Packets s)) edges) 0 n ≡ counted m (Packets s) (slice_index edges n)
+    packets_add_up edges n times last = since_begin (counted m (Packets s)) edges n times last no_packets packets_rise
+
+    -- the law
+    pub arrivals_add_up : (edges : List ℕ) (q : Dumping) (n : ℕ) → AreTimes m edges → IsProblemOf m edges q
+        → s < length m.stores → n < length edges
+        → over (arrivals q s) 0 n ≡ counted m (Come s) (slice_index edges n)
+    arrivals_add_up edges q n times of below last =
+        sum_by_range_same (arrivals q s) (growth (counted m (Come s)) edges) 1 n
+        (λ t low high. (steps_grow m edges q t of low (omega arith)).arrivals s below)
+        ∙ since_begin (counted m (Come s)) edges n times last no_units units_rise

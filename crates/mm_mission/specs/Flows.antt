@@ -1,10 +1,10 @@
 -- What has flowed by a time, in whole units.
-use Rattle.std.specs.Prelude.{ℕ, ◌+◌, ◌-◌, ◌*◌, ◌/◌, min, max, Bool, true, nat_lt, ◌==◌, if◌then◌else◌, List, filter}
+use Rattle.std.specs.Prelude.{ℕ, ◌-◌, ◌*◌, ◌/◌, min, max, Bool, true, nat_lt, ◌==◌, if◌then◌else◌, List, filter}
 use Rattle.std.specs.Prelude.{Option, Some, None, option_map, slice_index_or, slice_get}
 use Rattle.std.specs.Int.{div_ceil}
 use Rattle.std.specs.List.{fold, sum_by}
 use Rattle.mm_mission.specs.declared.counter.Counter.{Counter}
-use Rattle.mm_mission.specs.declared.counter.Counter.TheVariants.{Sent, Come}
+use Rattle.mm_mission.specs.declared.counter.Counter.TheVariants.{Sent, Come, Packets}
 use Rattle.mm_mission.specs.declared.parts.Rate.{Rate}
 use Rattle.mm_mission.specs.declared.parts.Span.{Span}
 use Rattle.mm_mission.specs.declared.parts.Pass.{Pass}
@@ -16,7 +16,10 @@ use Rattle.mm_mission.specs.Mission.{MissionRows}
 abbrev pub elapsed : Span → ℕ → ℕ
 elapsed s t = min t s.end - s.begin
 
--- ---- the octets of a unit
+-- ---- the octets of a packet and of a unit
+
+abbrev pub packet_octets : Store → ℕ
+packet_octets s = s.packet
 
 abbrev pub unit_octets : Store → ℕ
 unit_octets s = s.packet * s.unit
@@ -91,18 +94,19 @@ come_by t o = o.octets * elapsed o.span t
 abbrev pub come_octets : MissionRows → ℕ → ℕ → ℕ
 come_octets m s t = sum_by (come_by t) (into m s)
 
--- by this it is divided to count units
-abbrev pub come_divisor : Store → ℕ
-come_divisor s = s.micros * unit_octets s
+-- by this it is divided to count parts of so many octets: units, or packets
+abbrev pub come_divisor : (Store → ℕ) → Store → ℕ
+come_divisor octets s = s.micros * octets s
 
--- in units, rounded up; 0 where there is no such store
-abbrev pub begun_units : Option Store → ℕ → ℕ
-begun_units None octets = 0
-begun_units (Some s) octets = div_ceil octets (come_divisor s)
+-- in such parts, rounded up; 0 where there is no such store
+abbrev pub begun : (Store → ℕ) → Option Store → ℕ → ℕ
+begun octets None amount = 0
+begun octets (Some s) amount = div_ceil amount (come_divisor octets s)
 
 -- ---- both
 
--- what is counted by a time: what all passes can have sent, or what has come into a store
+-- what is counted by a time: what all passes can have sent, or what has come into a store, in units or in packets
 unfoldable pub counted : MissionRows → Counter → ℕ → ℕ
 counted m (Sent channel) t = sum_by (sent_by m channel t) m.passes
-counted m (Come s) t = begun_units (slice_get m.stores s) (come_octets m s t)
+counted m (Come s) t = begun unit_octets (slice_get m.stores s) (come_octets m s t)
+counted m (Packets s) t = begun packet_octets (slice_get m.stores s) (come_octets m s t)

@@ -1,9 +1,10 @@
 -- A mission in exact numbers: times in microseconds from its begin, rates in octets by microseconds, sizes in packets.
 -- Each store has packets of one length, and a number of them is its unit, in which a plan counts.
 use Rattle.std.specs.Prelude.{ℕ, ◌+◌, ◌*◌, ◌≤◌, Bool, true, nat_le, nat_lt, not, ◌&&◌, List, [], ◌∷◌, length}
-use Rattle.std.specs.Prelude.{position, All, AllPairs, IsTrue, Option, Some, None, Result, Ok, Err}
+use Rattle.std.specs.Prelude.{position, slice_index_or, All, AllPairs, IsTrue, Option, Some, None, Result, Ok, Err}
 use Rattle.std.specs.List.{list_all}
 use Rattle.mm_base.specs.declared.limits.TheConstants.{MAX_BLOCKS}
+use Rattle.mm_base.specs.declared.kind.Kind.TheVariants.{Circular}
 use Rattle.mm_base.specs.Reading.{◌>>=◌, test}
 use Rattle.mm_mission.specs.declared.fault.Fault.{Fault}
 use Rattle.mm_mission.specs.declared.fault.Fault.TheVariants.{BadTime, TooMany, BadStore, BadPass, Overlap}
@@ -16,6 +17,9 @@ use Rattle.mm_mission.specs.declared.parts.Pass.{Pass}
 use Rattle.mm_mission.specs.declared.parts.Observation.{Observation}
 use Rattle.mm_mission.specs.declared.parts.Store.{Store}
 
+abbrev pub no_store : Store
+no_store = record { id = []; kind = Circular; packet = 0; unit = 0; micros = 0; size = 0; start = 0; channel = 0 }
+
 pub record MissionRows : Type 0 where
   -- how long it lasts
   pub lasts : ℕ
@@ -23,6 +27,10 @@ pub record MissionRows : Type 0 where
   -- in the order of their begins
   pub passes : List Pass
   pub observations : List Observation
+
+-- the store at a place
+abbrev pub store_at : MissionRows → ℕ → Store
+store_at m s = slice_index_or m.stores s no_store
 
 -- ---- whether each part is within its range
 

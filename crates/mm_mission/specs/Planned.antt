@@ -1,5 +1,5 @@
 -- The dumping problem of a mission.
-use Rattle.std.specs.Prelude.{◌≡◌, ℕ, ◌+◌, ◌-◌, ◌/◌, min, Bool, nat_le, List, [], ◌∷◌, length, map, filter}
+use Rattle.std.specs.Prelude.{◌≡◌, ℕ, ◌-◌, ◌/◌, min, Bool, nat_le, List, [], ◌∷◌, length, map, filter}
 use Rattle.std.specs.Prelude.{slice_index, Some, None, is_some, Result, Ok, Err}
 use Rattle.std.specs.Int.{div_ceil}
 use Rattle.std.specs.List.{flat_map, list_any, list_all, range_with_len}

@@ -1,14 +1,15 @@
-//! What is counted over time, in whole units.
-ghost use Rattle.std.specs.Prelude.{◌≡◌, ◌≤◌, ◌*◌, ◌+◌, Some, IsTrue};
+//! What is counted over time, in whole units and packets.
+ghost use Rattle.std.specs.Prelude.{◌≡◌, ◌≤◌, ◌*◌, ◌+◌, IsTrue};
+ghost use Rattle.std.specs.Int.{div_ceil};
 ghost use Rattle.mm_mission.specs.Mission.{is_rate, is_pass, is_store};
 ghost use Rattle.mm_mission.specs.Flows.{elapsed, unit_octets, is_on, largest, octets_on, pace, whole_units, own_rate};
-ghost use Rattle.mm_mission.specs.Flows.{sent_by, come_by, come_octets, come_divisor, begun_units, counted};
+ghost use Rattle.mm_mission.specs.Flows.{sent_by, come_by, come_octets, counted};
 
-use crate::limits::{MAX_PACKET, MAX_RATE, MAX_TIME, MAX_UNIT};
+use crate::limits::{MAX_OBSERVATIONS, MAX_PACKET, MAX_PASSES, MAX_RATE, MAX_TIME, MAX_UNIT};
 use crate::mission::Mission;
 use crate::parts::{Observation, Pass, Rate, Span, Store};
 
-/// A count of units that grows with time.
+/// A count of units, or of packets, that grows with time.
 #[derive(Clone, Copy, Debug, PartialEq, Eq)]
 pub enum Counter {
     /// What all passes can have sent: in all, or of a channel. What a link has been able to send since its pass began
@@ -16,6 +17,8 @@ pub enum Counter {
     Sent(Option<u8>),
     /// What has come into the store at this place, of all its observations together, rounded up.
     Come(usize),
+    /// The same in packets.
+    Packets(usize),
 }
 
 impl Span {
@@ -37,13 +40,15 @@ impl Store {
         u128::from(self.packet) * u128::from(self.unit)
     }
 
-    // By this what has come, as octets by microseconds, is divided to count units.
-    fn come_divisor(&self) -> u128
-        requires { IsTrue (is_store self.now) }
-        ensures divisor { result ≡ come_divisor self.now }
+    // By this what has come, as octets by microseconds, is divided to count parts of so many octets.
+    fn divisor(&self, octets: u128) -> u128
+        requires store { IsTrue (is_store self.now) }
+        requires some { 1 ≤ octets }
+        requires few { octets ≤ MAX_PACKET * MAX_UNIT }
+        ensures divisor { result ≡ self.now.micros * octets }
         ensures some { 1 ≤ result }
     {
-        u128::from(self.micros) * self.unit_octets()
+        u128::from(self.micros) * octets
     }
 
     // Whether it is sent on a channel, or on the link at all.
@@ -56,12 +61,15 @@ impl Store {
         }
     }
 
-    // What has come, as octets by microseconds, in units, rounded up.
-    fn begun_units(&self, octets: u128) -> u128
-        requires { IsTrue (is_store self.now) }
-        ensures { result ≡ begun_units (Some self.now) octets }
+    // What has come, as octets by microseconds, in parts of so many octets, rounded up.
+    fn begun(&self, octets: u128, amount: u128) -> u128
+        requires store { IsTrue (is_store self.now) }
+        requires some { 1 ≤ octets }
+        requires few { octets ≤ MAX_PACKET * MAX_UNIT }
+        ensures begun { result ≡ div_ceil amount (self.now.micros * octets) }
+        ensures few { result ≤ amount + 1 }
     {
-        octets.div_ceil(self.come_divisor())
+        amount.div_ceil(self.divisor(octets))
     }
 }
 
@@ -147,7 +155,8 @@ impl Mission {
     // What all passes can have sent by a time.
     #[tactic(auto, unfolding(crate::specs::Flows::counted))]
     fn sent(&self, channel: Option<u8>, time: u64) -> u128
-        ensures { result ≡ counted self.now (Counter.Sent channel) time }
+        ensures units { result ≡ counted self.now (Counter.Sent channel) time }
+        ensures few { result ≤ MAX_PASSES * (MAX_RATE * MAX_TIME) }
     {
         let mut units = 0;
         for pass in self.passes.iter() {
@@ -159,6 +168,7 @@ impl Mission {
     // What has come into a store by a time, as octets by microseconds.
     fn come_octets(&self, store: usize, time: u64) -> u128
         ensures octets { result ≡ come_octets self.now store time }
+        ensures few { result ≤ MAX_OBSERVATIONS * (MAX_RATE * MAX_TIME) }
     {
         let mut octets = 0;
         for one in self.observations.iter() {
@@ -172,23 +182,39 @@ impl Mission {
     // What has come into a store by a time, in units.
     #[tactic(auto, unfolding(crate::specs::Flows::counted))]
     fn come(&self, store: usize, time: u64) -> u128
-        ensures { result ≡ counted self.now (Counter.Come store) time }
+        ensures units { result ≡ counted self.now (Counter.Come store) time }
+        ensures few { result ≤ MAX_OBSERVATIONS * (MAX_RATE * MAX_TIME) + 1 }
     {
-        let octets = self.come_octets(store, time);
+        let amount = self.come_octets(store, time);
         match self.stores.get(store) {
-            Some(store) => store.begun_units(octets),
+            Some(store) => store.begun(store.unit_octets(), amount),
             None => 0,
         }
     }
 
-    /// What is counted by a time, in units.
+    // The same in packets.
+    #[tactic(auto, unfolding(crate::specs::Flows::counted))]
+    fn come_packets(&self, store: usize, time: u64) -> u128
+        ensures packets { result ≡ counted self.now (Counter.Packets store) time }
+        ensures few { result ≤ MAX_OBSERVATIONS * (MAX_RATE * MAX_TIME) + 1 }
+    {
+        let amount = self.come_octets(store, time);
+        match self.stores.get(store) {
+            Some(store) => store.begun(u128::from(store.packet), amount),
+            None => 0,
+        }
+    }
+
+    /// What is counted by a time.
     #[must_use]
     pub fn counted(&self, counter: Counter, time: u64) -> u128
-        ensures { result ≡ counted self.now counter time }
+        ensures counted { result ≡ counted self.now counter time }
+        ensures few { result ≤ MAX_OBSERVATIONS * (MAX_RATE * MAX_TIME) + 1 }
     {
         match counter {
             Counter::Sent(channel) => self.sent(channel, time),
             Counter::Come(store) => self.come(store, time),
+            Counter::Packets(store) => self.come_packets(store, time),
         }
     }
 }

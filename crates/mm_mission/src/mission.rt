@@ -1,8 +1,8 @@
 //! A mission.
-ghost use Rattle.std.specs.Prelude.{◌≡◌, length, not, position};
+ghost use Rattle.std.specs.Prelude.{◌≡◌, ◌<◌, length, not, position, IsTrue};
 ghost use Rattle.mm_base.specs.Reading.{test};
 ghost use Rattle.mm_mission.specs.Mission.{each_fits, follow, mission_from, is_store, is_pass, is_observation, is_known};
-ghost use Rattle.mm_mission.specs.Mission.{is_time, are_few, passes_fit, observations_fit};
+ghost use Rattle.mm_mission.specs.Mission.{is_time, are_few, passes_fit, observations_fit, store_at};
 ghost use Rattle.mm_mission.specs.declared.fault.Fault.TheVariants.{BadTime, TooMany, BadStore, BadPass, BadObservation, NoStore};
 
 use crate::fault::Fault;
@@ -175,6 +175,15 @@ impl Mission {
             passes,
             observations,
         })
+    }
+
+    // The store at a place.
+    pub(crate) fn store_at(&self, store: usize) -> Store
+        requires { store < length self.now.stores }
+        ensures store { result ≡ store_at self.now store }
+        ensures fits { IsTrue (is_store result) }
+    {
+        self.stores[store]
     }
 
     /// The number of its stores.

@@ -1,5 +1,8 @@
 //! A mission whose numbers are reckoned on paper, and missions that are refused.
-use crate::{Dump, Fault, Mission, Observation, Pass, Rate, Span, Store, edges, problem, timeline};
+use crate::{
+    Dump, Fault, Mission, Observation, PacketStep, Pass, Rate, Span, Store, edges, in_packets,
+    problem, timeline,
+};
 use mm_base::{Kind, StoreId, StoreRow};
 use mm_problem::{Arrivals, Name, Problem};
 use std::process::Abort;
@@ -69,8 +72,8 @@ fn mission(
     observations: &[Observation],
 ) -> Result<Mission, Fault> {
     let stores = [
-        store(rt, "SCI", Kind::Circular, (100, 2, 3), (21, 3, 0)),
-        store(rt, "HK", Kind::Bounded, (64, 2, 1), (11, 5, 1)),
+        store(rt, "SCI", Kind::Circular, (100, 2, 3), (21, 13, 0)),
+        store(rt, "HK", Kind::Bounded, (64, 2, 1), (11, 7, 1)),
     ];
     Mission::new(
         100_000_000,
@@ -120,10 +123,10 @@ fn a_mission_is_planned_in_whole_units(rt: HostRuntime) {
     for (time, second) in times.iter().zip(&wanted) {
         assert!(rt; *time == seconds(0, *second).end, "{second}");
     }
-    // 21 packets are 10.5 units, and 3 are 1.5; 11 packets are 5.5 units, and 5 are 2.5
+    // 21 packets are 10.5 units, and 13 are 6.5; 11 packets are 5.5 units, and 7 are 3.5
     let rows = [
-        row(&rt, "SCI", Kind::Circular, (10, 2, 0)),
-        row(&rt, "HK", Kind::Bounded, (5, 3, 1)),
+        row(&rt, "SCI", Kind::Circular, (10, 7, 0)),
+        row(&rt, "HK", Kind::Bounded, (5, 4, 1)),
     ];
     // in units of 200 octets: 5,000 octets are 25, 8,000 are 40, 10,000 are 50; 900 are 4.5, 2,100 are 10.5
     let windows = [0, 25, 15, 10, 0, 4, 6, 0];
@@ -146,12 +149,57 @@ fn a_mission_is_planned_in_whole_units(rt: HostRuntime) {
     assert!(rt; given.as_str() == wanted.as_str(), "{given}");
 }
 
-// So many units of a store, from one second to another.
-fn dump(store: usize, begin: u64, end: u64, units: u64) -> Dump {
+fn step(arrived: u128, lost: u128, dumped: u64, held: u64) -> PacketStep {
+    PacketStep {
+        arrived,
+        lost,
+        dumped,
+        held,
+    }
+}
+
+// Units of SCI and of HK, step by step: SCI 5 in 5 s, 3 in 3 s and 2 in 2 s; 3 in 3 s, and 4 in 4 s. HK 1 in 3 s, and 2
+// in 4 s.
+fn amounts() -> [u32; 16] {
+    [0, 0, 5, 0, 3, 0, 2, 0, 0, 0, 3, 1, 4, 2, 0, 0]
+}
+
+#[test]
+fn what_has_come_of_a_unit_is_sent(rt: HostRuntime) {
+    let mission = mission(&rt, &two_passes(), &three_observations()).expect(&rt, "a mission");
+    let times = edges(rt.alloc(), &mission).expect(&rt, "edges");
+    assert!(rt; times.len() == 9);
+    assert!(rt; mission.stores() == 2);
+    // SCI: of 2 units until 20 s only 3 packets have come
+    // HK: 7 packets and 5 are 12, and there is room for 11
+    let wanted = [
+        step(0, 0, 0, 13),
+        step(0, 0, 10, 3),
+        step(3, 0, 6, 0),
+        step(3, 0, 3, 0),
+        step(15, 0, 0, 15),
+        step(0, 0, 6, 9),
+        step(1, 0, 8, 2),
+        step(0, 0, 0, 2),
+        step(0, 0, 0, 7),
+        step(0, 0, 0, 7),
+        step(0, 0, 0, 7),
+        step(0, 0, 0, 7),
+        step(5, 1, 0, 11),
+        step(2, 0, 2, 11),
+        step(0, 0, 4, 7),
+        step(0, 0, 0, 7),
+    ];
+    let steps = in_packets(rt.alloc(), &mission, &times, &amounts()).expect(&rt, "memory");
+    assert!(rt; steps.as_slice() == wanted.as_slice());
+}
+
+// So many packets of a store, from one second to another.
+fn dump(store: usize, begin: u64, end: u64, packets: u64) -> Dump {
     Dump {
         store,
         span: seconds(begin, end),
-        units,
+        packets,
     }
 }
 
@@ -159,17 +207,18 @@ fn dump(store: usize, begin: u64, end: u64, units: u64) -> Dump {
 fn dumps_at_one_rate_are_joined(rt: HostRuntime) {
     let mission = mission(&rt, &two_passes(), &three_observations()).expect(&rt, "a mission");
     let times = edges(rt.alloc(), &mission).expect(&rt, "edges");
-    // SCI: 10 units in 5 s, 6 in 3 s and 4 in 2 s; 3 in 3 s, and 4 in 4 s. HK: 1 in 3 s, and 2 in 4 s
     assert!(rt; times.len() == 9);
     assert!(rt; mission.stores() == 2);
-    let amounts = [0, 0, 10, 0, 6, 0, 4, 0, 0, 0, 3, 1, 4, 2, 0, 0];
+    // SCI: 10 packets in 5 s and 6 in 3 s, and 3 in 2 s; 6 in 3 s and 8 in 4 s. HK: 2 in 3 s, and 4 in 4 s
     let wanted = [
-        dump(0, 10, 20, 20),
-        dump(0, 50, 57, 7),
-        dump(1, 50, 53, 1),
-        dump(1, 53, 57, 2),
+        dump(0, 10, 18, 16),
+        dump(0, 18, 20, 3),
+        dump(0, 50, 57, 14),
+        dump(1, 50, 53, 2),
+        dump(1, 53, 57, 4),
     ];
-    let dumps = timeline(rt.alloc(), &mission, &times, &amounts).expect(&rt, "memory");
+    let steps = in_packets(rt.alloc(), &mission, &times, &amounts()).expect(&rt, "memory");
+    let dumps = timeline(rt.alloc(), &mission, &times, &steps).expect(&rt, "memory");
     assert!(rt; dumps.as_slice() == wanted.as_slice());
 }
 
