@@ -17,25 +17,25 @@ use Rattle.mm_mission.specs.declared.counter.Counter.{Counter}
 use Rattle.mm_mission.specs.declared.counter.Counter.TheVariants.{Sent, Come}
 use Rattle.mm_mission.specs.Mission.{MissionRows}
 use Rattle.mm_mission.specs.Flows.{counted}
-use Rattle.mm_mission.specs.Planned.{growth, growths, table, row_in, is_limited, limited, IsProblemOf}
+use Rattle.mm_mission.specs.Planned.{growth, growths, table, row_of, is_limited, limited, IsProblemOf}
 use Rattle.mm_mission.specs.Laws.{GrowAt}
 
--- the number at a place of lists of one length that are joined
-table_at : (make : ℕ → List ℕ) (w : ℕ) → ((t : ℕ) → length (make t) ≡ w) → (a n i j k : ℕ) → i < n → j < w
-    → k ≡ i * w + j → get_or (flat_map make (range_with_len a n)) k 0 ≡ get_or (make (a + i)) j 0
-table_at make w each a zero i j k below within at = absurd (omega arith)
-table_at make w each a (suc n) zero j k below within at =
+-- what stands at a place of lists of one length that are joined
+pub table_at : {X : Type 0} (make : ℕ → List X) (w : ℕ) → ((t : ℕ) → length (make t) ≡ w) → (a n i j k : ℕ) (d : X)
+    → i < n → j < w → k ≡ i * w + j → get_or (flat_map make (range_with_len a n)) k d ≡ get_or (make (a + i)) j d
+table_at make w each a zero i j k d below within at = absurd (omega arith)
+table_at make w each a (suc n) zero j k d below within at =
     let first : k ≡ j = omega arith in
     let here : k < length (make a) = omega (arith, each a) in
     let same : a + 0 ≡ a = omega arith in
-    get_or_append_left (make a) (flat_map make (range_with_len (a + 1) n)) 0 k here ∙ rw (first, same) refl
-table_at make w each a (suc n) (suc i) j k below within at =
+    get_or_append_left (make a) (flat_map make (range_with_len (a + 1) n)) d k here ∙ rw (first, same) refl
+table_at make w each a (suc n) (suc i) j k d below within at =
     let past : w ≤ k = omega arith in
     let rest : k - w ≡ i * w + j = omega arith in
     let same : a + 1 + i ≡ a + suc i = omega arith in
-    get_or-append_right (make a) (flat_map make (range_with_len (a + 1) n)) w k 0 (each a) past
-    ∙ table_at make w each (a + 1) n i j (k - w) (omega arith) within rest
-    ∙ ap (λ t. get_or (make t) j 0) same
+    get_or-append_right (make a) (flat_map make (range_with_len (a + 1) n)) w k d (each a) past
+    ∙ table_at make w each (a + 1) n i j (k - w) d (omega arith) within rest
+    ∙ ap (λ t. get_or (make t) j d) same
 
 -- a cell of a table is what its counter grows by in its step
 cell_at : (m : MissionRows) (counters : List Counter) (edges : List ℕ) (t j k : ℕ) (c : Counter) → 1 ≤ t
@@ -45,7 +45,7 @@ cell_at m counters edges t j k c first last within there at =
     let same : 1 + (t - 1) ≡ t = omega arith in
     let step : Counter → ℕ = λ e. growth (counted m e) edges t in
     table_at (growths m counters edges) (length counters)
-    (λ u. length-map counters (λ e. growth (counted m e) edges u)) 1 (length edges - 1) (t - 1) j k (omega arith) within
+    (λ u. length-map counters (λ e. growth (counted m e) edges u)) 1 (length edges - 1) (t - 1) j k 0 (omega arith) within
     at
     ∙ ap (λ u. get_or (growths m counters edges u) j 0) same ∙ get_or-map step counters j c 0 within ∙ ap step there
 
@@ -85,7 +85,7 @@ module _ (m : MissionRows) (edges : List ℕ) (q : Dumping) (t : ℕ) (h : IsPro
     arrivals_grow : (s : ℕ) → s < length m.stores → arrivals q s t ≡ growth (counted m (Come s)) edges t
     arrivals_grow s below =
         let n = length m.stores in
-        let rows : length q.rows ≡ n = ap length h.rows ∙ length-map m.stores (row_in m.unit) in
+        let rows : length q.rows ≡ n = ap length h.rows ∙ length-map m.stores row_of in
         let counters : List Counter = map Come (range_with_len 0 n) in
         let many : length counters ≡ n = length-map-range_with_len Come 0 n in
         rw (rows, h.arrived) (cell_at m counters edges t s ((t - 1) * n + s) (Come s) first last (omega (arith, many))

@@ -3,8 +3,11 @@ pub mod Rising
 pub mod Tables
 pub mod Planning
 pub mod Rounded
+pub mod Paces
 pub mod Grown
+pub mod Stepped
 pub mod Summed
 pub mod Timed
 pub mod Passed
 pub mod Arrived
+pub mod Losing

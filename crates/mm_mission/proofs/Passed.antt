@@ -1,5 +1,5 @@
 -- Dumps and passes.
-use Rattle.std.proofs.Common.{◌≡◌, ℕ, ◌+◌, ◌-◌, ◌<◌, ◌≤◌, Bool, true, false, nat_le, ◌&&◌, List, length, get_or, None, refl}
+use Rattle.std.proofs.Common.{◌≡◌, ℕ, ◌+◌, ◌-◌, ◌*◌, ◌<◌, ◌≤◌, Bool, true, false, nat_le, ◌&&◌, List, length, get_or, None, refl}
 use Rattle.std.proofs.Common.{sym, ap, ◌∙◌, inl, inr, arith, zero, suc, [], ◌∷◌}
 use Rattle.std.specs.Prelude.{All, Contains, IsTrue, filter, slice_index, ◌⊎◌}
 use Rattle.std.proofs.lemmas.List.{get_or_default}
@@ -14,10 +14,11 @@ use Rattle.mm_mission.specs.declared.counter.Counter.TheVariants.{Sent}
 use Rattle.mm_mission.specs.declared.parts.Pass.{Pass}
 use Rattle.mm_mission.specs.declared.parts.Span.{Span}
 use Rattle.mm_mission.specs.declared.dumps.Dump.{Dump}
-use Rattle.mm_mission.specs.Mission.{MissionRows, IsMission}
-use Rattle.mm_mission.specs.Flows.{elapsed, whole_units, sent_by, counted}
+use Rattle.mm_mission.specs.Mission.{MissionRows, store_at, IsMission}
+use Rattle.mm_mission.specs.Flows.{elapsed, whole_units, link_pace, sent_by, counted}
 use Rattle.mm_mission.specs.Edges.{ends, pass_ends, observation_ends, is_inside, AreEdges}
 use Rattle.mm_mission.specs.Planned.{growth, IsProblemOf}
+use Rattle.mm_mission.specs.Packets.{step_in, AreSentBy}
 use Rattle.mm_mission.specs.Timeline.{length_of, is_in_pass, IsTimeline}
 use Rattle.mm_mission.specs.Laws.{AreWithin}
 use Rattle.mm_mission.proofs.Rising.{rises, rises_by}
@@ -99,16 +100,30 @@ module _ (m : MissionRows) (edges : List ℕ) (h : IsMission m) (are : AreEdges 
               (λ k d within.
               let p = get_or m.passes k d in
               let there = ends_there (λ (p : Pass). p.span) m.passes k d within in
-              ap (whole_units m p.rate) (quiet p a b (pass_lasts m.lasts p (h.passes k d within)) rising
+              ap (whole_units (link_pace m p)) (quiet p a b (pass_lasts m.lasts p (h.passes k d within)) rising
               (end_outside p.span.begin there.0) (end_outside p.span.end there.1) (each k d within))) in
               absurd (omega (arith, some, same))
         ]
 
+-- a step that sends packets is to send units
+pub some_sent : (m : MissionRows) (edges : List ℕ) (x : ℕ → ℕ → ℕ) (s t : ℕ) → 0 < (step_in m edges x s t).dumped
+    → 0 < x s t
+some_sent m edges x s t some = elim (cases_lt 0 (x s t)) [
+  | inl units ↦ units
+  | inr none ↦
+      let zero : x s t * (store_at m s).unit ≡ 0 = ap (λ k. k * (store_at m s).unit) (none_is (x s t) none) ∙ omega arith in
+      absurd (omega (arith, some, zero))
+]
+  where
+    none_is : (k : ℕ) → k ≤ 0 → k ≡ 0
+    none_is k none = omega arith
+
 -- the law
-pub dumps_lie_in_passes : (m : MissionRows) (edges : List ℕ) (q : Dumping) (x : ℕ → ℕ → ℕ) (dumps : List Dump)
-    → IsMission m → AreEdges m edges → IsProblemOf m edges q → AreWithin m edges q x → IsTimeline m edges x dumps
+pub dumps_lie_in_passes : (m : MissionRows) (edges : List ℕ) (q : Dumping) (x packets : ℕ → ℕ → ℕ) (dumps : List Dump)
+    → IsMission m → AreEdges m edges → IsProblemOf m edges q → AreWithin m edges q x → AreSentBy m edges x packets
+    → IsTimeline m edges packets dumps
     → All (λ d. IsTrue (is_in_pass m.passes d.span)) dumps
-dumps_lie_in_passes m edges q x dumps h are of within line = λ k e inside.
+dumps_lie_in_passes m edges q x packets dumps h are of within sent line = λ k e inside.
     let d = get_or dumps k e in
     let (i, (j, over)) = line.each k e inside in
     elim over.whole [
@@ -122,9 +137,11 @@ dumps_lie_in_passes m edges q x dumps h are of within line = λ k e inside.
           let sends = over.sends j over.later (omega arith) in
           let long : length_of d.span ≡ slice_index edges j - slice_index edges i = omega (arith, over.begin, over.end) in
           let even = rw (place, long) at sends.even in
-          let units = cancel d.units (x d.store j) (slice_index edges j - slice_index edges i) (omega arith) even in
+          let count = cancel d.packets (packets d.store j) (slice_index edges j - slice_index edges i) (omega arith) even in
+          let by = sent d.store j over.store first over.there in
+          let some = some_sent m edges x d.store j (omega (arith, over.some, count, by)) in
           let fits = within d.store j over.store first over.there in
           let window_is = (steps_grow m edges q j of first over.there).window in
-          let lies = in_some_pass m edges h are j first over.there (omega (arith, fits, window_is, units, over.some)) in
+          let lies = in_some_pass m edges h are j first over.there (omega (arith, fits, window_is, some)) in
           rw (over.begin, over.end) (rw place at lies)
     ]

@@ -20,7 +20,7 @@ use Rattle.mm_problem.specs.Forecast.{limits_of, some_step}
 use Rattle.mm_mission.specs.declared.fault.Fault.{Fault}
 use Rattle.mm_mission.specs.declared.fault.Fault.TheVariants.{NoMemory, Problem}
 use Rattle.mm_mission.specs.Mission.{MissionRows}
-use Rattle.mm_mission.specs.Planned.{row_in, windows, arrived, limited, step_limits, in_range, of_problem, problem_of}
+use Rattle.mm_mission.specs.Planned.{row_of, windows, arrived, limited, step_limits, in_range, of_problem, problem_of}
 use Rattle.mm_mission.specs.Planned.{IsProblemOf}
 
 -- the problem of data has these data
@@ -69,7 +69,7 @@ is_problem_of m edges q h =
     let sent = bind_ok (in_range name.Window (windows m edges)) _ q h in
     let come = bind_ok (in_range name.Arrivals (arrived m edges)) _ q sent.2 in
     let limits = bind_ok (in_range name.Limit (step_limits m edges)) _ q come.2 in
-    let rows = map (row_in m.unit) m.stores in
+    let rows = map row_of m.stores in
     let made = bind_ok (of_problem (problem_from rows [] sent.0 come.0)) _ q limits.2 in
     let p = made.0 in
     let first = problem_is rows [] sent.0 come.0 p (of_problem_ok (problem_from rows [] sent.0 come.0) p made.1) in

@@ -11,10 +11,10 @@ use Rattle.std.proofs.lemmas.List.Kept.{AllPairs-cons}
 use Rattle.mm_base.specs.Reading.{test}
 use Rattle.mm_base.proofs.ReadingSteps.{bind_ok, test_ok}
 use Rattle.mm_mission.specs.declared.fault.Fault.{Fault}
-use Rattle.mm_mission.specs.declared.fault.Fault.TheVariants.{Numbers, TooMany, BadStore, BadPass, Overlap}
+use Rattle.mm_mission.specs.declared.fault.Fault.TheVariants.{BadTime, TooMany, BadStore, BadPass, Overlap}
 use Rattle.mm_mission.specs.declared.fault.Fault.TheVariants.{BadObservation, NoStore}
 use Rattle.mm_mission.specs.declared.parts.Pass.{Pass}
-use Rattle.mm_mission.specs.Mission.{MissionRows, IsMission, EndsBefore, are_numbers, are_few, is_store, is_pass}
+use Rattle.mm_mission.specs.Mission.{MissionRows, IsMission, EndsBefore, is_time, are_few, is_store, is_pass}
 use Rattle.mm_mission.specs.Mission.{is_observation, is_known, fault_at, each_fits, follow, passes_fit, observations_fit}
 
 -- where no place has a row that does not fit, each row fits
@@ -79,18 +79,18 @@ follow_said lasts row free (p ∷ passes) u each h =
 
 -- the parts of a mission that passed
 pub is_mission : (m : MissionRows) (a b c d e : Unit {0})
-    → test (are_numbers m.lasts m.packet m.unit) Numbers ≡ Ok a
+    → test (is_time m.lasts) BadTime ≡ Ok a
     → test (are_few (length m.passes) (length m.observations)) TooMany ≡ Ok b
-    → each_fits BadStore (is_store m.unit) m.stores ≡ Ok c → passes_fit m.lasts m.passes ≡ Ok d
+    → each_fits BadStore is_store m.stores ≡ Ok c → passes_fit m.lasts m.passes ≡ Ok d
     → observations_fit m.lasts (length m.stores) m.observations ≡ Ok e → IsMission m
-is_mission m a b c d e numbers few stores passes observations =
+is_mission m a b c d e time few stores passes observations =
     let (u, each, followed) = bind_ok _ _ _ passes in
     let passes_are = each_fits_said BadPass (is_pass m.lasts) m.passes u each in
     let (v, each_observed, known) = bind_ok _ _ _ observations in
     record {
-      numbers = test_ok _ _ _ numbers;
+      time = test_ok _ _ _ time;
       few = test_ok _ _ _ few;
-      stores = each_fits_said BadStore (is_store m.unit) m.stores c stores;
+      stores = each_fits_said BadStore is_store m.stores c stores;
       passes = passes_are;
       apart = (follow_said m.lasts 0 0 m.passes d passes_are followed).1;
       observations = each_fits_said BadObservation (is_observation m.lasts) m.observations v each_observed;

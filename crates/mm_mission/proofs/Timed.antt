@@ -187,7 +187,7 @@ module _ (m : MissionRows) (edges : List ℕ) (x : ℕ → ℕ → ℕ) (times :
                     subst (Sends edges x joined) (sym same) (record {
                       begin = omega (arith, over.begin, from);
                       end = omega arith;
-                      even = joined_new prior.units (x s t) (slice_index edges t - slice_index edges (t - 1))
+                      even = joined_new prior.packets (x s t) (slice_index edges t - slice_index edges (t - 1))
                           (length_of prior.span) (length_of joined.span) follows.even lengths ∙ own;
                     })
                 | inr before ↦
@@ -195,7 +195,7 @@ module _ (m : MissionRows) (edges : List ℕ) (x : ℕ → ℕ → ℕ) (times :
                     record {
                       begin = old.begin;
                       end = omega (arith, old.end, follows.next, step_rises);
-                      even = joined_old prior.units (x s t) (x prior.store u)
+                      even = joined_old prior.packets (x s t) (x prior.store u)
                           (slice_index edges u - slice_index edges (u - 1))
                           (slice_index edges t - slice_index edges (t - 1)) (length_of prior.span)
                           (length_of joined.span) some old.even follows.even lengths;

@@ -1,11 +1,13 @@
 -- A mission in exact numbers: times in microseconds from its begin, rates in octets by microseconds, sizes in packets.
+-- Each store has packets of one length, and a number of them is its unit, in which a plan counts.
 use Rattle.std.specs.Prelude.{ℕ, ◌+◌, ◌*◌, ◌≤◌, Bool, true, nat_le, nat_lt, not, ◌&&◌, List, [], ◌∷◌, length}
-use Rattle.std.specs.Prelude.{position, All, AllPairs, IsTrue, Option, Some, None, Result, Ok, Err}
+use Rattle.std.specs.Prelude.{position, slice_index_or, All, AllPairs, IsTrue, Option, Some, None, Result, Ok, Err}
 use Rattle.std.specs.List.{list_all}
 use Rattle.mm_base.specs.declared.limits.TheConstants.{MAX_BLOCKS}
+use Rattle.mm_base.specs.declared.kind.Kind.TheVariants.{Circular}
 use Rattle.mm_base.specs.Reading.{◌>>=◌, test}
 use Rattle.mm_mission.specs.declared.fault.Fault.{Fault}
-use Rattle.mm_mission.specs.declared.fault.Fault.TheVariants.{Numbers, TooMany, BadStore, BadPass, Overlap}
+use Rattle.mm_mission.specs.declared.fault.Fault.TheVariants.{BadTime, TooMany, BadStore, BadPass, Overlap}
 use Rattle.mm_mission.specs.declared.fault.Fault.TheVariants.{BadObservation, NoStore}
 use Rattle.mm_mission.specs.declared.limits.TheConstants.{MAX_TIME, MAX_RATE, MAX_PACKET, MAX_UNIT, MAX_PASSES}
 use Rattle.mm_mission.specs.declared.limits.TheConstants.{MAX_OBSERVATIONS}
@@ -15,17 +17,20 @@ use Rattle.mm_mission.specs.declared.parts.Pass.{Pass}
 use Rattle.mm_mission.specs.declared.parts.Observation.{Observation}
 use Rattle.mm_mission.specs.declared.parts.Store.{Store}
 
+abbrev pub no_store : Store
+no_store = record { id = []; kind = Circular; packet = 0; unit = 0; micros = 0; size = 0; start = 0; channel = 0 }
+
 pub record MissionRows : Type 0 where
   -- how long it lasts
   pub lasts : ℕ
-  -- the octets of a packet
-  pub packet : ℕ
-  -- the packets of a unit, in which a plan counts
-  pub unit : ℕ
   pub stores : List Store
   -- in the order of their begins
   pub passes : List Pass
   pub observations : List Observation
+
+-- the store at a place
+abbrev pub store_at : MissionRows → ℕ → Store
+store_at m s = slice_index_or m.stores s no_store
 
 -- ---- whether each part is within its range
 
@@ -45,16 +50,23 @@ abbrev pub is_pass : ℕ → Pass → Bool
 is_pass lasts p = is_span lasts p.span && is_rate p.rate && list_all is_own_rate p.channels
 
 abbrev pub is_observation : ℕ → Observation → Bool
-is_observation lasts o = is_span lasts o.span && is_rate o.rate
+is_observation lasts o = is_span lasts o.span && nat_le o.octets MAX_RATE
 
--- a store whose size is at most that of a problem, in units of so many packets
-abbrev pub is_store : ℕ → Store → Bool
-is_store unit s = nat_lt s.size ((MAX_BLOCKS + 1) * unit) && nat_le s.start s.size
+-- the length of a store's packets, its unit, and the time in which its observations' octets come
+abbrev pub are_packets : Store → Bool
+are_packets s =
+    nat_le 1 s.packet && nat_le s.packet MAX_PACKET && nat_le 1 s.unit && nat_le s.unit MAX_UNIT && nat_le 1 s.micros
+    && nat_le s.micros MAX_RATE
 
-abbrev pub are_numbers : ℕ → ℕ → ℕ → Bool
-are_numbers lasts packet unit =
-    nat_le 1 lasts && nat_le lasts MAX_TIME && nat_le 1 packet && nat_le packet MAX_PACKET && nat_le 1 unit
-    && nat_le unit MAX_UNIT
+-- room for a unit, and for no more of them than a store of a problem has
+abbrev pub is_size : Store → Bool
+is_size s = nat_le s.unit s.size && nat_lt s.size ((MAX_BLOCKS + 1) * s.unit)
+
+abbrev pub is_store : Store → Bool
+is_store s = are_packets s && is_size s && nat_le s.start s.size
+
+abbrev pub is_time : ℕ → Bool
+is_time lasts = nat_le 1 lasts && nat_le lasts MAX_TIME
 
 abbrev pub are_few : ℕ → ℕ → Bool
 are_few passes observations = nat_le passes MAX_PASSES && nat_le observations MAX_OBSERVATIONS
@@ -96,9 +108,9 @@ observations_fit lasts stores observations = do
 -- the mission, if each part of it is within its range and passes do not overlap, or else its first fault
 unfoldable pub mission_from : MissionRows → Result MissionRows Fault
 mission_from m = do
-  numbers ← test (are_numbers m.lasts m.packet m.unit) Numbers
+  time ← test (is_time m.lasts) BadTime
   few ← test (are_few (length m.passes) (length m.observations)) TooMany
-  stores ← each_fits BadStore (is_store m.unit) m.stores
+  stores ← each_fits BadStore is_store m.stores
   passes ← passes_fit m.lasts m.passes
   observations ← observations_fit m.lasts (length m.stores) m.observations
   Ok m
@@ -111,9 +123,9 @@ EndsBefore p r = p.span.end ≤ r.span.begin
 
 -- the numbers of a mission within all ranges
 pub record IsMission (m : MissionRows) : Type 0 where
-  pub numbers : IsTrue (are_numbers m.lasts m.packet m.unit)
+  pub time : IsTrue (is_time m.lasts)
   pub few : IsTrue (are_few (length m.passes) (length m.observations))
-  pub stores : All (λ s. IsTrue (is_store m.unit s)) m.stores
+  pub stores : All (λ s. IsTrue (is_store s)) m.stores
   pub passes : All (λ p. IsTrue (is_pass m.lasts p)) m.passes
   pub apart : AllPairs EndsBefore m.passes
   pub observations : All (λ o. IsTrue (is_observation m.lasts o)) m.observations

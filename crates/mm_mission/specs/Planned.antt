@@ -1,6 +1,7 @@
 -- The dumping problem of a mission.
-use Rattle.std.specs.Prelude.{◌≡◌, ℕ, ◌+◌, ◌-◌, ◌/◌, ◌%◌, min, max, Bool, nat_le, List, [], ◌∷◌, length, map, filter}
-use Rattle.std.specs.Prelude.{slice_index, slice_index_or, Some, None, is_some, Result, Ok, Err}
+use Rattle.std.specs.Prelude.{◌≡◌, ℕ, ◌-◌, ◌/◌, min, Bool, nat_le, List, [], ◌∷◌, length, map, filter}
+use Rattle.std.specs.Prelude.{slice_index, Some, None, is_some, Result, Ok, Err}
+use Rattle.std.specs.Int.{div_ceil}
 use Rattle.std.specs.List.{flat_map, list_any, list_all, range_with_len}
 use Rattle.mm_base.specs.declared.limits.TheConstants.{MAX_BLOCKS, CHANNELS}
 use Rattle.mm_base.specs.declared.rows.StoreRow.{StoreRow}
@@ -22,22 +23,21 @@ use Rattle.mm_mission.specs.declared.parts.Pass.{Pass}
 use Rattle.mm_mission.specs.declared.parts.Store.{Store}
 use Rattle.mm_mission.specs.Fault.{fault_of}
 use Rattle.mm_mission.specs.Mission.{MissionRows}
-use Rattle.mm_mission.specs.Flows.{counted}
+use Rattle.mm_mission.specs.Flows.{own_rate, counted}
 
 -- ---- stores
 
--- sizes fall to whole units, of which there is at least one
-abbrev pub size_in : ℕ → Store → ℕ
-size_in unit s = max 1 (s.size / unit)
+-- sizes fall to whole units
+abbrev pub size_in : Store → ℕ
+size_in s = s.size / s.unit
 
 -- starts rise to whole units, at most as many as the size
-abbrev pub start_in : ℕ → Store → ℕ
-start_in unit s = min (s.start / unit + min 1 (s.start % unit)) (size_in unit s)
+abbrev pub start_in : Store → ℕ
+start_in s = min (div_ceil s.start s.unit) (size_in s)
 
 -- a store as the problem has it
-abbrev pub row_in : ℕ → Store → StoreRow
-row_in unit s =
-    record { id = s.id; size = size_in unit s; start = start_in unit s; kind = s.kind; channel = s.channel }
+abbrev pub row_of : Store → StoreRow
+row_of s = record { id = s.id; size = size_in s; start = start_in s; kind = s.kind; channel = s.channel }
 
 -- ---- steps
 
@@ -55,7 +55,7 @@ table m counters edges = flat_map (growths m counters edges) (range_with_len 1 (
 
 -- whether a channel has its own rate in some pass
 abbrev pub is_limited : List Pass → ℕ → Bool
-is_limited passes c = list_any (λ p. is_some (slice_index_or p.channels c None)) passes
+is_limited passes c = list_any (λ p. is_some (own_rate (Some c) p)) passes
 
 -- the channels that have
 abbrev pub limited : MissionRows → List ℕ
@@ -74,7 +74,7 @@ step_limits m edges = table m (map (λ c. Sent (Some c)) (limited m)) edges
 
 -- the problem has the mission's stores, and in each step what passes can send and what comes, during dumps
 pub record IsProblemOf (m : MissionRows) (edges : List ℕ) (q : Dumping) : Type 0 where
-  pub rows : q.rows ≡ map (row_in m.unit) m.stores
+  pub rows : q.rows ≡ map row_of m.stores
   pub windows : q.windows ≡ windows m edges
   pub arrived : q.arrived ≡ arrived m edges
   pub limited : q.limited ≡ limited m
@@ -107,5 +107,5 @@ problem_of m edges = do
   windows ← in_range Window (windows m edges)
   arrived ← in_range Arrivals (arrived m edges)
   limits ← in_range Limit (step_limits m edges)
-  q ← of_problem (problem_from (map (row_in m.unit) m.stores) [] windows arrived)
+  q ← of_problem (problem_from (map row_of m.stores) [] windows arrived)
   of_problem (limited_by (with_arrivals q During) (limited m) limits)

@@ -8,7 +8,7 @@ use Rattle.mm_mission.specs.declared.parts.Pass.{Pass}
 use Rattle.mm_mission.specs.declared.dumps.Dump.{Dump}
 use Rattle.mm_mission.specs.Mission.{MissionRows}
 
--- how many units are sent of a store in a step, by a list of amounts, step by step
+-- how many units are to be sent of a store in a step, by a list of amounts, step by step
 abbrev pub amount : MissionRows → List ℕ → ℕ → ℕ → ℕ
 amount m amounts s t = cell (length m.stores) amounts s t
 
@@ -27,14 +27,14 @@ abbrev pub both : Dump → Dump → Dump
 both first second = record {
   store = first.store;
   span = record { begin = first.span.begin; end = second.span.end };
-  units = first.units + second.units;
+  packets = first.packets + second.packets;
 }
 
 -- the second dump follows the first one, of the same store and at its rate, and both lie in one pass
 pub record Follows (passes : List Pass) (first second : Dump) : Type 0 where
   pub store : first.store ≡ second.store
   pub next : first.span.end ≡ second.span.begin
-  pub even : first.units * length_of second.span ≡ second.units * length_of first.span
+  pub even : first.packets * length_of second.span ≡ second.packets * length_of first.span
   pub inside : IsTrue (is_in_pass passes (both first second).span)
 
 -- a dump is added at the end of others, or joined to the last of them
@@ -46,11 +46,11 @@ IsAdded passes dumps next new =
 
 -- ---- a timeline
 
--- while a step lasts, a dump sends its store's amount of the step evenly
+-- while a step lasts, a dump sends its store's packets of the step evenly
 pub record Sends (edges : List ℕ) (x : ℕ → ℕ → ℕ) (d : Dump) (t : ℕ) : Type 0 where
   pub begin : d.span.begin ≤ slice_index edges (t - 1)
   pub end : slice_index edges t ≤ d.span.end
-  pub even : d.units * (slice_index edges t - slice_index edges (t - 1)) ≡ x d.store t * length_of d.span
+  pub even : d.packets * (slice_index edges t - slice_index edges (t - 1)) ≡ x d.store t * length_of d.span
 
 -- the dump lasts from one edge to a later one, and sends in each step between them; it is of one step, or in a pass
 pub record IsDumpOver (m : MissionRows) (edges : List ℕ) (x : ℕ → ℕ → ℕ) (d : Dump) (i j : ℕ) : Type 0 where
@@ -59,7 +59,7 @@ pub record IsDumpOver (m : MissionRows) (edges : List ℕ) (x : ℕ → ℕ → 
   pub later : i < j
   pub there : j < length edges
   pub store : d.store < length m.stores
-  pub some : 0 < d.units
+  pub some : 0 < d.packets
   pub sends : (t : ℕ) → i < t → t ≤ j → Sends edges x d t
   pub whole : (j ≡ i + 1) ⊎ IsTrue (is_in_pass m.passes d.span)
 
@@ -70,7 +70,7 @@ IsDumpOf m edges x d = (i : ℕ) × ((j : ℕ) × IsDumpOver m edges x d i j)
 abbrev pub EndsBefore : Dump → Dump → Type 0
 EndsBefore d e = d.store ≡ e.store → d.span.end ≤ e.span.begin
 
--- the dumps send each amount of each step evenly while the step lasts, and nothing else
+-- the dumps send the packets of each step evenly while the step lasts, and nothing else
 pub record IsTimeline (m : MissionRows) (edges : List ℕ) (x : ℕ → ℕ → ℕ) (dumps : List Dump) : Type 0 where
   pub each : All (IsDumpOf m edges x) dumps
   pub all : (s t : ℕ) → s < length m.stores → 1 ≤ t → t < length edges → 0 < x s t
@@ -84,7 +84,7 @@ abbrev pub step_dump : List ℕ → (ℕ → ℕ → ℕ) → ℕ → ℕ → Du
 step_dump edges x s t = record {
   store = s;
   span = record { begin = slice_index edges (t - 1); end = slice_index edges t };
-  units = x s t;
+  packets = x s t;
 }
 
 -- the step of a store comes before or is that one, by store and then by step

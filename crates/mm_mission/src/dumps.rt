@@ -1,21 +1,23 @@
 //! When what a plan sends is sent.
 ghost use Rattle.std.specs.Prelude.{◌≡◌, ◌+◌, ◌-◌, ◌*◌, ◌<◌, ◌≤◌, length, IfOk, OnOk, IfSome};
 ghost use Rattle.mm_mission.specs.Edges.{AreTimes};
-ghost use Rattle.mm_mission.specs.Timeline.{amount, length_of, is_in_pass, both, Follows, IsAdded, AreSent};
+ghost use Rattle.mm_mission.specs.Packets.{sent_in};
+ghost use Rattle.mm_mission.specs.Timeline.{length_of, is_in_pass, both, Follows, IsAdded, AreSent};
 ghost use Rattle.mm_mission.specs.Timeline.{step_dump, IsTimeline};
 
 use crate::mission::Mission;
+use crate::packets::PacketStep;
 use crate::parts::{Pass, Span};
 use mm_base::NoMemory;
 use std::alloc::{AllocError, Global};
 
-/// Units of a store that are sent evenly from one time to another.
+/// Packets of a store that are sent evenly from one time to another.
 #[derive(Clone, Copy, Debug, PartialEq, Eq)]
 pub struct Dump {
     /// The store's place in the mission, from 0.
     pub store: usize,
     pub span: Span,
-    pub units: u64,
+    pub packets: u64,
 }
 
 impl Span {
@@ -42,9 +44,9 @@ impl Dump {
             begin: self.span.begin,
             end: second.span.end,
         };
-        let units = self.units.checked_add(second.units)?;
-        let here = u128::from(self.units) * u128::from(second.span.length());
-        let there = u128::from(second.units) * u128::from(self.span.length());
+        let packets = self.packets.checked_add(second.packets)?;
+        let here = u128::from(self.packets) * u128::from(second.span.length());
+        let there = u128::from(second.packets) * u128::from(self.span.length());
         if self.store == second.store
             && self.span.end == second.span.begin
             && here == there
@@ -53,7 +55,7 @@ impl Dump {
             Some(Dump {
                 store: self.store,
                 span,
-                units,
+                packets,
             })
         } else {
             None
@@ -79,19 +81,29 @@ fn push_dump(dumps: &mut Vec<Dump>, passes: &[Pass], next: Dump) -> Result<(), A
 }
 
 // The dump of a store in a step.
-fn step_dump(mission: &Mission, edges: &[u64], amounts: &[u32], store: usize, step: usize) -> Dump
-    requires table { length amounts.now ≡ (length edges.now - 1) * length mission.now.stores }
+fn step_dump(
+    mission: &Mission,
+    edges: &[u64],
+    steps: &[PacketStep],
+    store: usize,
+    step: usize,
+) -> Dump
+    requires table { length steps.now ≡ length mission.now.stores * (length edges.now - 1) }
     requires store { store < length mission.now.stores }
     requires first { 1 ≤ step }
     requires last { step < length edges.now }
-    ensures { result ≡ step_dump edges.now (amount mission.now amounts.now) store step }
+    ensures { result ≡ step_dump edges.now (sent_in edges.now steps.now) store step }
 {
     let span = Span {
         begin: edges[step - 1],
         end: edges[step],
     };
-    let units = u64::from(amounts[(step - 1) * mission.stores.len() + store]);
-    Dump { store, span, units }
+    let packets = steps[store * (edges.len() - 1) + (step - 1)].dumped;
+    Dump {
+        store,
+        span,
+        packets,
+    }
 }
 
 // Adds what is sent of a store in a step.
@@ -99,21 +111,21 @@ fn push_step(
     dumps: &mut Vec<Dump>,
     mission: &Mission,
     edges: &[u64],
-    amounts: &[u32],
+    steps: &[PacketStep],
     store: usize,
     step: usize,
 ) -> Result<(), AllocError>
     requires times { AreTimes mission.now edges.now }
-    requires table { length amounts.now ≡ (length edges.now - 1) * length mission.now.stores }
+    requires table { length steps.now ≡ length mission.now.stores * (length edges.now - 1) }
     requires store { store < length mission.now.stores }
     requires first { 1 ≤ step }
     requires last { step < length edges.now }
-    requires sent { AreSent mission.now edges.now (amount mission.now amounts.now) store (step - 1) dumps.old.items }
+    requires sent { AreSent mission.now edges.now (sent_in edges.now steps.now) store (step - 1) dumps.old.items }
     ensures { OnOk result
-        (AreSent mission.now edges.now (amount mission.now amounts.now) store step dumps.new.items) }
+        (AreSent mission.now edges.now (sent_in edges.now steps.now) store step dumps.new.items) }
 {
-    let next = step_dump(mission, edges, amounts, store, step);
-    if next.units == 0 {
+    let next = step_dump(mission, edges, steps, store, step);
+    if next.packets == 0 {
         return Ok(());
     }
     push_dump(dumps, &mission.passes, next)
@@ -124,39 +136,38 @@ fn push_store(
     dumps: &mut Vec<Dump>,
     mission: &Mission,
     edges: &[u64],
-    amounts: &[u32],
+    steps: &[PacketStep],
     store: usize,
 ) -> Result<(), AllocError>
     requires times { AreTimes mission.now edges.now }
-    requires table { length amounts.now ≡ (length edges.now - 1) * length mission.now.stores }
+    requires table { length steps.now ≡ length mission.now.stores * (length edges.now - 1) }
     requires store { store < length mission.now.stores }
-    requires sent { AreSent mission.now edges.now (amount mission.now amounts.now) store 0 dumps.old.items }
+    requires sent { AreSent mission.now edges.now (sent_in edges.now steps.now) store 0 dumps.old.items }
     ensures { OnOk result
-        (AreSent mission.now edges.now (amount mission.now amounts.now) (store + 1) 0 dumps.new.items) }
+        (AreSent mission.now edges.now (sent_in edges.now steps.now) (store + 1) 0 dumps.new.items) }
 {
     for step in 1..edges.len() {
-        push_step(dumps, mission, edges, amounts, store, step)?;
+        push_step(dumps, mission, edges, steps, store, step)?;
     }
     Ok(())
 }
 
-/// When what a plan sends is sent: in each step the amount of each store, evenly while the step lasts. The amounts come
-/// step by step, and within a step in the mission's order. Dumps of a store that follow one another at one rate in one
-/// pass are joined.
+/// When what a plan sends is sent: in each step the packets of each store that leave in it, evenly while the step lasts.
+/// The steps are those of `in_packets`. Dumps of a store that follow one another at one rate in one pass are joined.
 pub fn timeline(
     alloc: Global,
     mission: &Mission,
     edges: &[u64],
-    amounts: &[u32],
+    steps: &[PacketStep],
 ) -> Result<Vec<Dump>, NoMemory>
     requires times { AreTimes mission.now edges.now }
-    requires table { length amounts.now ≡ (length edges.now - 1) * length mission.now.stores }
+    requires table { length steps.now ≡ length mission.now.stores * (length edges.now - 1) }
     ensures timeline { IfOk result (λ dumps.
-        IsTimeline mission.now edges.now (amount mission.now amounts.now) dumps.items) }
+        IsTimeline mission.now edges.now (sent_in edges.now steps.now) dumps.items) }
 {
     let mut dumps = Vec::new(alloc);
     for store in 0..mission.stores.len() {
-        push_store(&mut dumps, mission, edges, amounts, store)?;
+        push_store(&mut dumps, mission, edges, steps, store)?;
     }
     Ok(dumps)
 }

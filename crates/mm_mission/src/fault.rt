@@ -9,17 +9,17 @@ use thiserror::Error;
 pub enum Fault {
     #[error("an allocation was refused")]
     NoMemory,
-    #[error("the mission's length, its packets or its unit are out of range")]
-    Numbers,
+    #[error("the mission's length is out of range")]
+    BadTime,
     #[error("too many passes or observations")]
     TooMany,
-    #[error("size or start of the store in row {row} are out of range")]
+    #[error("packets, unit, size or start of the store in row {row} are out of range")]
     BadStore { row: usize },
     #[error("span or rates of the pass in row {row} are out of range")]
     BadPass { row: usize },
     #[error("the pass in row {row} begins before the one before it ends")]
     Overlap { row: usize },
-    #[error("span or rate of the observation in row {row} are out of range")]
+    #[error("span or octets of the observation in row {row} are out of range")]
     BadObservation { row: usize },
     #[error("the observation in row {row} is of no store")]
     NoStore { row: usize },

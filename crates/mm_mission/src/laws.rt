@@ -3,7 +3,7 @@ ghost use Rattle.std.specs.Prelude.{◌≡◌, ◌+◌, ◌^◌};
 ghost use Rattle.mm_mission.specs.declared.limits.TheConstants.{MAX_TIME, MAX_RATE, MAX_PACKET, MAX_UNIT};
 ghost use Rattle.mm_mission.specs.declared.limits.TheConstants.{MAX_PASSES, MAX_OBSERVATIONS};
 ghost use Rattle.mm_mission.specs.Laws.{StepsGrow, RoomsAddUp, ArrivalsAddUp, ObservationsRise, DumpsLieInPasses};
-ghost use Rattle.mm_mission.specs.Laws.{RatesAreKept, UnitsHaveCome};
+ghost use Rattle.mm_mission.specs.Laws.{RatesAreKept, UnitsHaveCome, PacketsHaveCome, LossesInPackets, LateAreFew};
 
 /// In each step the window, the arrivals and the limits are what the mission's counts grow by.
 pub fn steps_grow()
@@ -16,12 +16,12 @@ pub fn rooms_add_up()
     ensures { RoomsAddUp }
 {}
 
-/// Up to the end of each step, arrivals add up to what has come of each observation, rounded up.
+/// Up to the end of each step, arrivals add up to what has come of a store's observations.
 pub fn arrivals_add_up()
     ensures { ArrivalsAddUp }
 {}
 
-/// What has come of an observation is rounded up.
+/// What has come of a store's observations is summed exactly and rounded up once, in units and in packets.
 pub fn observations_rise()
     ensures { ObservationsRise }
 {}
@@ -39,6 +39,21 @@ pub fn rates_are_kept()
 /// No unit is sent before it has come or is being received.
 pub fn units_have_come()
     ensures { UnitsHaveCome }
+{}
+
+/// No packet is sent before it has come or is being received.
+pub fn packets_have_come()
+    ensures { PacketsHaveCome }
+{}
+
+/// No more packets are lost than the plan's units have, but for those that come too late for their unit's dump.
+pub fn losses_in_packets()
+    ensures { LossesInPackets }
+{}
+
+/// Less than a unit comes too late for one step, and less is held above whole units as the mission begins.
+pub fn late_are_few()
+    ensures { LateAreFew }
 {}
 
 /// The numbers of the constants.

@@ -1,12 +1,12 @@
 //! A mission.
-ghost use Rattle.std.specs.Prelude.{◌≡◌, ◌≤◌, length, not, position};
+ghost use Rattle.std.specs.Prelude.{◌≡◌, ◌<◌, length, not, position, IsTrue};
 ghost use Rattle.mm_base.specs.Reading.{test};
 ghost use Rattle.mm_mission.specs.Mission.{each_fits, follow, mission_from, is_store, is_pass, is_observation, is_known};
-ghost use Rattle.mm_mission.specs.Mission.{are_numbers, are_few, passes_fit, observations_fit};
-ghost use Rattle.mm_mission.specs.declared.fault.Fault.TheVariants.{Numbers, TooMany, BadStore, BadPass, BadObservation, NoStore};
+ghost use Rattle.mm_mission.specs.Mission.{is_time, are_few, passes_fit, observations_fit, store_at};
+ghost use Rattle.mm_mission.specs.declared.fault.Fault.TheVariants.{BadTime, TooMany, BadStore, BadPass, BadObservation, NoStore};
 
 use crate::fault::Fault;
-use crate::limits::{MAX_OBSERVATIONS, MAX_PACKET, MAX_PASSES, MAX_TIME, MAX_UNIT};
+use crate::limits::{MAX_OBSERVATIONS, MAX_PASSES, MAX_TIME};
 use crate::parts::{Observation, Pass, Store};
 use std::marker::Model;
 
@@ -14,8 +14,6 @@ use std::marker::Model;
 #[derive(Debug, Drop)]
 pub struct Mission {
     pub(crate) lasts: u64,
-    pub(crate) packet: u64,
-    pub(crate) unit: u64,
     pub(crate) stores: Vec<Store>,
     pub(crate) passes: Vec<Pass>,
     pub(crate) observations: Vec<Observation>,
@@ -28,8 +26,6 @@ impl Model for Mission {
 
     ghost view = { λ a. record {
       lasts = a.lasts;
-      packet = a.packet;
-      unit = a.unit;
       stores = a.stores.items;
       passes = a.passes.items;
       observations = a.observations.items;
@@ -37,8 +33,6 @@ impl Model for Mission {
 
     ghost invariant = { λ a. IsMission (record {
       lasts = a.lasts;
-      packet = a.packet;
-      unit = a.unit;
       stores = a.stores.items;
       passes = a.passes.items;
       observations = a.observations.items;
@@ -51,21 +45,10 @@ fn test(passed: bool, fault: Fault) -> Result<(), Fault>
     if passed { Ok(()) } else { Err(fault) }
 }
 
-fn are_numbers(lasts: u64, packet: u64, unit: u64) -> bool
-    ensures { result ≡ are_numbers lasts packet unit }
+fn test_time(lasts: u64) -> Result<(), Fault>
+    ensures { result ≡ test (is_time lasts) BadTime }
 {
-    1 <= lasts
-        && lasts <= MAX_TIME
-        && 1 <= packet
-        && packet <= MAX_PACKET
-        && 1 <= unit
-        && unit <= MAX_UNIT
-}
-
-fn test_numbers(lasts: u64, packet: u64, unit: u64) -> Result<(), Fault>
-    ensures { result ≡ test (are_numbers lasts packet unit) Numbers }
-{
-    test(are_numbers(lasts, packet, unit), Fault::Numbers)
+    test(1 <= lasts && lasts <= MAX_TIME, Fault::BadTime)
 }
 
 fn test_few(passes: usize, observations: usize) -> Result<(), Fault>
@@ -76,11 +59,10 @@ fn test_few(passes: usize, observations: usize) -> Result<(), Fault>
 }
 
 // The first store that is out of range, if there is one.
-fn unfit_store(unit: u64, stores: &[Store]) -> Option<usize>
-    requires { unit ≤ MAX_UNIT }
-    ensures { result ≡ position (λ s. not (is_store unit s)) stores.now }
+fn unfit_store(stores: &[Store]) -> Option<usize>
+    ensures { result ≡ position (λ s. not (is_store s)) stores.now }
 {
-    stores.iter().position(|store| !store.fits(unit))
+    stores.iter().position(|store| !store.fits())
 }
 
 fn unfit_pass(lasts: u64, passes: &[Pass]) -> Option<usize>
@@ -102,11 +84,10 @@ fn unknown(stores: usize, observations: &[Observation]) -> Option<usize>
     observations.iter().position(|one| !one.is_known(stores))
 }
 
-fn test_stores(unit: u64, stores: &[Store]) -> Result<(), Fault>
-    requires { unit ≤ MAX_UNIT }
-    ensures { result ≡ each_fits BadStore (is_store unit) stores.now }
+fn test_stores(stores: &[Store]) -> Result<(), Fault>
+    ensures { result ≡ each_fits BadStore is_store stores.now }
 {
-    match unfit_store(unit, stores) {
+    match unfit_store(stores) {
         Some(row) => Err(Fault::BadStore { row }),
         None => Ok(()),
     }
@@ -167,39 +148,42 @@ fn test_observations(lasts: u64, stores: usize, observations: &[Observation]) ->
 }
 
 impl Mission {
-    /// The mission of these parts: how long it lasts in microseconds, the octets of a packet and the packets of a unit,
-    /// its stores, its passes and its observations. Otherwise the first fault, in the order of the faults.
+    /// The mission of these parts: how long it lasts in microseconds, its stores, its passes and its observations.
+    /// Otherwise the first fault, in the order of the faults.
     #[tactic(auto, unfolding(crate::specs::Mission::mission_from))]
     pub fn new(
         lasts: u64,
-        packet: u64,
-        unit: u64,
         stores: Vec<Store>,
         passes: Vec<Pass>,
         observations: Vec<Observation>,
     ) -> Result<Mission, Fault>
         ensures { result ≡ mission_from (record {
           lasts = lasts;
-          packet = packet;
-          unit = unit;
           stores = stores.items;
           passes = passes.items;
           observations = observations.items;
         }) }
     {
-        test_numbers(lasts, packet, unit)?;
+        test_time(lasts)?;
         test_few(passes.len(), observations.len())?;
-        test_stores(unit, &stores)?;
+        test_stores(&stores)?;
         test_passes(lasts, &passes)?;
         test_observations(lasts, stores.len(), &observations)?;
         Ok(Mission {
             lasts,
-            packet,
-            unit,
             stores,
             passes,
             observations,
         })
+    }
+
+    // The store at a place.
+    pub(crate) fn store_at(&self, store: usize) -> Store
+        requires { store < length self.now.stores }
+        ensures store { result ≡ store_at self.now store }
+        ensures fits { IsTrue (is_store result) }
+    {
+        self.stores[store]
     }
 
     /// The number of its stores.

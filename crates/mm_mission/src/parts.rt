@@ -1,9 +1,10 @@
 //! The parts of a mission.
 ghost use Rattle.std.specs.Prelude.{◌≡◌, ◌≤◌};
 ghost use Rattle.std.specs.List.{list_all};
-ghost use Rattle.mm_mission.specs.Mission.{is_rate, is_own_rate, is_span, is_pass, is_observation, is_store, is_known};
+ghost use Rattle.mm_mission.specs.Mission.{is_rate, is_own_rate, is_span, is_pass, is_observation, are_packets};
+ghost use Rattle.mm_mission.specs.Mission.{is_size, is_store, is_known};
 
-use crate::limits::{MAX_RATE, MAX_UNIT};
+use crate::limits::{MAX_PACKET, MAX_RATE, MAX_UNIT};
 use mm_base::{CHANNELS, Kind, MAX_BLOCKS, StoreId};
 
 /// So many octets in so many microseconds.
@@ -29,20 +30,27 @@ pub struct Pass {
     pub channels: [Option<Rate>; CHANNELS],
 }
 
-/// While its span lasts, packets come into a store with this rate.
+/// While its span lasts, packets come into a store evenly.
 #[derive(Clone, Copy, Debug, PartialEq, Eq)]
 pub struct Observation {
     /// The store's place in the mission, from 0.
     pub store: usize,
     pub span: Span,
-    pub rate: Rate,
+    /// The octets that come in the `micros` of its store.
+    pub octets: u64,
 }
 
-/// A packet store.
+/// A packet store, whose packets have one length.
 #[derive(Clone, Copy, Debug, PartialEq, Eq)]
 pub struct Store {
     pub id: StoreId,
     pub kind: Kind,
+    /// The octets of a packet.
+    pub packet: u64,
+    /// The packets of a unit, in which a plan counts.
+    pub unit: u64,
+    /// The microseconds in which the octets of its observations come.
+    pub micros: u64,
     /// How many packets it has room for.
     pub size: u64,
     /// How many it holds as the mission begins.
@@ -95,7 +103,7 @@ impl Observation {
     pub(crate) fn fits(&self, lasts: u64) -> bool
         ensures { result ≡ is_observation lasts self.now }
     {
-        self.span.fits(lasts) && self.rate.fits()
+        self.span.fits(lasts) && self.octets <= MAX_RATE
     }
 
     // Whether it is of one of so many stores.
@@ -107,11 +115,29 @@ impl Observation {
 }
 
 impl Store {
-    // Whether its size is at most that of a problem, in units of so many packets.
-    pub(crate) fn fits(&self, unit: u64) -> bool
-        requires { unit ≤ MAX_UNIT }
-        ensures { result ≡ is_store unit self.now }
+    // Whether the length of its packets, its unit and the time of its observations are within their ranges.
+    fn packets_fit(&self) -> bool
+        ensures { result ≡ are_packets self.now }
     {
-        self.size < (u64::from(MAX_BLOCKS) + 1) * unit && self.start <= self.size
+        1 <= self.packet
+            && self.packet <= MAX_PACKET
+            && 1 <= self.unit
+            && self.unit <= MAX_UNIT
+            && 1 <= self.micros
+            && self.micros <= MAX_RATE
+    }
+
+    // Whether it has room for a unit, and for no more of them than a store of a problem.
+    fn size_fits(&self) -> bool
+        requires { self.now.unit ≤ MAX_UNIT }
+        ensures { result ≡ is_size self.now }
+    {
+        self.unit <= self.size && self.size < (u64::from(MAX_BLOCKS) + 1) * self.unit
+    }
+
+    pub(crate) fn fits(&self) -> bool
+        ensures { result ≡ is_store self.now }
+    {
+        self.packets_fit() && self.size_fits() && self.start <= self.size
     }
 }

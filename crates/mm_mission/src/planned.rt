@@ -1,5 +1,5 @@
 //! The dumping problem of a mission.
-ghost use Rattle.std.specs.Prelude.{◌≡◌, ◌≤◌, [], ◌∷◌, map, IsTrue, IfOk};
+ghost use Rattle.std.specs.Prelude.{◌≡◌, [], ◌∷◌, map, IsTrue, IfOk};
 ghost use Rattle.std.specs.List.{range_with_len};
 ghost use Rattle.mm_base.specs.Reading.{Gives};
 ghost use Rattle.mm_problem.specs.declared.come.Arrivals.TheVariants.{During};
@@ -8,7 +8,7 @@ ghost use Rattle.mm_problem.specs.Changed.{with_arrivals};
 ghost use Rattle.mm_problem.specs.Data.{problem_from, limited_by};
 ghost use Rattle.mm_mission.specs.Mission.{is_store};
 ghost use Rattle.mm_mission.specs.Edges.{AreTimes};
-ghost use Rattle.mm_mission.specs.Planned.{row_in, is_limited, limited, windows, arrived, step_limits};
+ghost use Rattle.mm_mission.specs.Planned.{row_of, is_limited, limited, windows, arrived, step_limits};
 ghost use Rattle.mm_mission.specs.Planned.{in_range, of_problem, problem_of, IsProblemOf};
 ghost use Rattle.mm_mission.specs.declared.fault.Fault.TheVariants.{NoMemory};
 ghost use Rattle.mm_mission.specs.declared.counter.Counter.TheVariants.{Sent, Come};
@@ -22,14 +22,13 @@ use mm_base::{CHANNELS, StoreRow};
 use mm_problem::{Arrivals, Name, Problem};
 use std::alloc::{AllocError, Global};
 
-// A store in units of so many packets.
-fn row_in(unit: u64, store: &Store) -> StoreRow
-    requires unit { 1 ≤ unit }
-    requires store { IsTrue (is_store unit store.now) }
-    ensures { result ≡ row_in unit store.now }
+// A store in units.
+fn row_of(store: &Store) -> StoreRow
+    requires { IsTrue (is_store store.now) }
+    ensures { result ≡ row_of store.now }
 {
-    let size = (store.size / unit).max(1);
-    let start = store.start.div_ceil(unit).min(size);
+    let size = store.size / store.unit;
+    let start = store.start.div_ceil(store.unit).min(size);
     StoreRow {
         id: store.id,
         size: size as u32,
@@ -40,11 +39,11 @@ fn row_in(unit: u64, store: &Store) -> StoreRow
 }
 
 fn rows(alloc: Global, mission: &Mission) -> Result<Vec<StoreRow>, AllocError>
-    ensures { IfOk result (λ rows. rows.items ≡ map (row_in mission.now.unit) mission.now.stores) }
+    ensures { IfOk result (λ rows. rows.items ≡ map row_of mission.now.stores) }
 {
     let mut rows = Vec::new(alloc);
     for store in mission.stores.iter() {
-        rows.push(row_in(mission.unit, store))?;
+        rows.push(row_of(store))?;
     }
     Ok(rows)
 }
@@ -53,7 +52,9 @@ fn rows(alloc: Global, mission: &Mission) -> Result<Vec<StoreRow>, AllocError>
 fn is_limited(passes: &[Pass], channel: u8) -> bool
     ensures { result ≡ is_limited passes.now channel }
 {
-    passes.iter().any(|pass| pass.own_rate(channel).is_some())
+    passes
+        .iter()
+        .any(|pass| pass.own_rate(Some(channel)).is_some())
 }
 
 // The channels that have.

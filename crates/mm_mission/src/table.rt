@@ -1,5 +1,5 @@
 //! What counters grow by in each step.
-ghost use Rattle.std.specs.Prelude.{◌≡◌, ℕ, ◌+◌, ◌-◌, ◌<◌, ◌≤◌, ◌++◌, length, map, slice_index, nat_le, IfOk, OnOk};
+ghost use Rattle.std.specs.Prelude.{◌≡◌, ℕ, ◌+◌, ◌-◌, ◌*◌, ◌<◌, ◌≤◌, ◌++◌, length, map, slice_index, nat_le, IfOk, OnOk};
 ghost use Rattle.mm_base.specs.declared.limits.TheConstants.{MAX_BLOCKS};
 ghost use Rattle.mm_base.specs.Reading.{Gives, test};
 ghost use Rattle.mm_problem.specs.declared.fault.Fault.TheVariants as because;
@@ -9,16 +9,18 @@ ghost use Rattle.mm_mission.specs.Planned.{growth, growths, table, in_range, uni
 
 use crate::counter::Counter;
 use crate::fault::Fault;
+use crate::limits::{MAX_OBSERVATIONS, MAX_RATE, MAX_TIME};
 use crate::mission::Mission;
 use mm_base::MAX_BLOCKS;
 use mm_problem::Name;
 use std::alloc::{AllocError, Global};
 
 // What a counter grows by in a step.
-fn growth(mission: &Mission, counter: Counter, edges: &[u64], step: usize) -> u128
+pub(crate) fn growth(mission: &Mission, counter: Counter, edges: &[u64], step: usize) -> u128
     requires first { 1 ≤ step }
     requires last { step < length edges.now }
-    ensures { result ≡ growth (counted mission.now counter) edges.now step }
+    ensures growth { result ≡ growth (counted mission.now counter) edges.now step }
+    ensures few { result ≤ MAX_OBSERVATIONS * (MAX_RATE * MAX_TIME) + 1 }
 {
     let before = mission.counted(counter, edges[step - 1]);
     mission.counted(counter, edges[step]).saturating_sub(before)

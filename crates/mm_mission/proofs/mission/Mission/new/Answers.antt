@@ -7,8 +7,8 @@ invariant_of-result c =
     let passes : vec_len c.args.passes ≡ length c.args.passes.items = search rules in
     let observations : vec_len c.args.observations ≡ length c.args.observations.items = search rules in
     let stores : vec_len c.args.stores ≡ length c.args.stores.items = search rules in
-    is_mission _ c.in_ok-test_numbers.field-0 c.in_ok-test_few.field-0 c.in_ok-test_stores.field-0
-    c.in_ok-test_passes.field-0 c.in_ok-test_observations.field-0 (sym c.in_ok-test_numbers.ensures)
+    is_mission _ c.in_ok-test_time.field-0 c.in_ok-test_few.field-0 c.in_ok-test_stores.field-0
+    c.in_ok-test_passes.field-0 c.in_ok-test_observations.field-0 (sym c.in_ok-test_time.ensures)
     (sym (rw (c.len.ensures, c.len-2.ensures, passes, observations) at c.in_ok-test_few.ensures))
     (sym (rw c.deref.ensures.value at c.in_ok-test_stores.ensures))
     (sym (rw c.deref-2.ensures.value at c.in_ok-test_passes.ensures))
