@@ -1,0 +1,4 @@
+pub mod Rooms
+pub mod Narrowed
+pub mod Shared
+pub mod Net

@@ -1,0 +1,13 @@
+//! What links that send at once can send together, and how it is shared out among them.
+#![tactic(auto)]
+
+mod limits;
+mod link;
+mod network;
+mod sharing;
+mod widest;
+
+pub use limits::MAX_LINKS;
+pub use link::{Link, Rooms};
+pub use sharing::share;
+pub use widest::rooms;
