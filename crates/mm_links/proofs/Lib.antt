@@ -1,2 +1,3 @@
 pub mod Narrowing
 pub mod Arcs
+pub mod Shares
