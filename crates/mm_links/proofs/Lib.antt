@@ -1,3 +1,4 @@
 pub mod Narrowing
 pub mod Arcs
 pub mod Shares
+pub mod Needed

@@ -26,7 +26,7 @@ use Rattle.mm_links.proofs.Arcs.{by_kind, limit_arc_at, amount_arc_at, window_ar
 -- ---- sums
 
 -- a sum over a list is one over its numbers
-list_sum : {X : Type 0} (h : X → ℕ) (d : X) (xs : List X)
+pub list_sum : {X : Type 0} (h : X → ℕ) (d : X) (xs : List X)
     → sum_by h xs ≡ sum_by (λ i. h (get_or xs i d)) (range_with_len 0 (length xs))
 list_sum h d [] = refl
 list_sum h d (x ∷ xs) =

@@ -2,3 +2,4 @@ pub mod Rooms
 pub mod Narrowed
 pub mod Shared
 pub mod Net
+pub mod Laws

@@ -1,10 +1,13 @@
 //! What links that send at once can send together, and how it is shared out among them.
 #![tactic(auto)]
 
+pub mod laws;
 mod limits;
 mod link;
 mod network;
 mod sharing;
+#[cfg(test)]
+mod tests;
 mod widest;
 
 pub use limits::MAX_LINKS;

@@ -1,7 +1,8 @@
 //! Links, and what they can send in a step.
-ghost use Rattle.std.specs.Prelude.{◌≡◌, ◌<◌};
+ghost use Rattle.std.specs.Prelude.{◌≡◌, ◌↔◌, ◌<◌, IsTrue, sum_by};
 ghost use Rattle.mm_base.specs.declared.limits.TheConstants.{CHANNELS};
-ghost use Rattle.mm_links.specs.Rooms.{limit_at, room_at, is_in};
+ghost use Rattle.mm_links.specs.Rooms.{channels, limit_at, room_at, is_in};
+ghost use Rattle.mm_links.specs.Shared.{amount, Keeps};
 
 use mm_base::CHANNELS;
 
@@ -19,6 +20,32 @@ pub struct Link {
 pub struct Rooms {
     pub window: u64,
     pub limits: [u64; CHANNELS],
+}
+
+// What is sent of all channels.
+fn total(amounts: &[u64; CHANNELS]) -> u128
+    ensures { result ≡ sum_by (amount amounts.now) channels }
+{
+    let mut sum = 0;
+    for channel in 0..CHANNELS {
+        sum += u128::from(amounts[channel]);
+    }
+    sum
+}
+
+impl Rooms {
+    /// Whether amounts of channels, in units, keep each limit, and all together the window.
+    #[must_use]
+    pub fn keeps(&self, amounts: &[u64; CHANNELS]) -> bool
+        ensures { IsTrue result ↔ Keeps self.now amounts.now }
+    {
+        for channel in 0..CHANNELS {
+            if amounts[channel] > self.limits[channel] {
+                return false;
+            }
+        }
+        total(amounts) <= u128::from(self.window)
+    }
 }
 
 impl Link {
