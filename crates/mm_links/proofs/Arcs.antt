@@ -1,5 +1,5 @@
 -- Sums over the arcs of the network, kind by kind.
-use Rattle.std.proofs.Common.{◌≡◌, ℕ, zero, suc, ◌+◌, ◌-◌, ◌*◌, ◌/◌, ◌%◌, ◌<◌, ◌≤◌, ltb, Bool, true, false, cond, refl, sym, ◌∙◌, ap, arith, List}
+use Rattle.std.proofs.Common.{◌≡◌, ℕ, zero, suc, ◌+◌, ◌-◌, ◌*◌, ◌/◌, ◌%◌, ◌<◌, ltb, Bool, true, false, cond, refl, ◌∙◌, ap, arith, List}
 use Rattle.std.proofs.Common.{length}
 use Rattle.std.specs.Prelude.{is_some}
 use Rattle.std.specs.List.{range_with_len, sum_by}
@@ -112,11 +112,11 @@ by_kind links x g built F =
       range_split h (shares links) CHANNELS,
       rows_split h n,
       sum_by_range_same (λ l. sum_by (λ c. h (l * CHANNELS + c)) channels)
-      (λ l. sum_by (λ c. F (l * CHANNELS + c) (limit_arc links l c)) channels) 0 n
-      (λ l _ within. sum_by_range_same (λ c. h (l * CHANNELS + c)) (λ c. F (l * CHANNELS + c) (limit_arc links l c)) 0 CHANNELS
-      (λ c _ below. is (l * CHANNELS + c) (limit_arc links l c) (omega arith) (limit_arc_at links x l c (omega arith) (omega arith)))),
+          (λ l. sum_by (λ c. F (l * CHANNELS + c) (limit_arc links l c)) channels) 0 n
+          (λ l _ within. sum_by_range_same (λ c. h (l * CHANNELS + c)) (λ c. F (l * CHANNELS + c) (limit_arc links l c)) 0 CHANNELS
+          (λ c _ below. is (l * CHANNELS + c) (limit_arc links l c) (omega arith) (limit_arc_at links x l c (omega arith) (omega arith)))),
       sum_by_range_same (λ c. h (shares links + c)) (λ c. F (shares links + c) (amount_arc links x c)) 0 CHANNELS
-      (λ c _ below. is (shares links + c) (amount_arc links x c) (omega arith) (amount_arc_at links x c (omega arith))),
+          (λ c _ below. is (shares links + c) (amount_arc links x c) (omega arith) (amount_arc_at links x c (omega arith))),
       sum_by_range_same (λ l. h (shares links + CHANNELS + l)) (λ l. F (shares links + CHANNELS + l) (window_arc links l)) 0 n
-      (λ l _ within. is (shares links + CHANNELS + l) (window_arc links l) (omega arith) (window_arc_at links x l)),
+          (λ l _ within. is (shares links + CHANNELS + l) (window_arc links l) (omega arith) (window_arc_at links x l)),
     )

@@ -1,8 +1,7 @@
 -- The widest window over all sets of channels, channel by channel.
 use Rattle.std.proofs.Common.{◌≡◌, ℕ, ◌+◌, ◌<◌, ◌≤◌, Bool, true, false, cond, refl, sym, ◌∙◌, ap, inl, inr, arith, List, length}
-use Rattle.std.proofs.Common.{get_or, set, All, min}
+use Rattle.std.proofs.Common.{get_or, set, min}
 use Rattle.std.specs.Prelude.{filter, sum_by}
-use Rattle.std.specs.List.{range_with_len}
 use Rattle.std.proofs.lemmas.Bool.{cases_eq, cases_Bool, cases_lt}
 use Rattle.std.proofs.lemmas.Grind.{get_or-set_at}
 use Rattle.std.proofs.lemmas.List.{get_or-set_other}
@@ -11,7 +10,7 @@ use Rattle.mm_base.proofs.RangeSums.{sum_by_range_same}
 use Rattle.mm_base.specs.declared.limits.TheConstants.{CHANNELS}
 use Rattle.mm_links.specs.declared.link.Link.{Link}
 use Rattle.mm_links.specs.Rooms.{Set, channels, is_in, limit_at, limit_of, room_at, room_of, limits_of, IsOpen}
-use Rattle.mm_links.specs.Narrowed.{Agrees, AreOpen, IsNarrowed}
+use Rattle.mm_links.specs.Narrowed.{Agrees, IsNarrowed}
 
 -- sums over sets with the same channels are equal
 same_set_sum : (f : ℕ → ℕ) (p q : Set) → ((c : ℕ) → c < CHANNELS → p c ≡ q c)
@@ -61,8 +60,8 @@ narrowed_last links table most window narrow wide =
             within = omega (arith, narrow less);
             each = λ s agrees. same_open links window s here agrees (omega (arith, narrow less));
             widest = λ other low is.
-            let own : min other (limits_of links here) ≤ room_of links here = is here (λ c _. refl) in
-            omega (arith, narrow less);
+                let own : min other (limits_of links here) ≤ room_of links here = is here (λ c _. refl) in
+                omega (arith, narrow less);
           }
       | inr enough ↦
           record {
@@ -85,6 +84,6 @@ narrowed_more links table n most first window within without with =
             omega (arith, without.each s (agrees_more table n false s within off agrees), with.within)
       ];
       widest = λ other low is.
-      let below = without.widest other low (λ s agrees. is s (agrees_less table n false s agrees)) in
-      with.widest other below (λ s agrees. is s (agrees_less table n true s agrees));
+          let below = without.widest other low (λ s agrees. is s (agrees_less table n false s agrees)) in
+          with.widest other below (λ s agrees. is s (agrees_less table n true s agrees));
     }

@@ -9,8 +9,8 @@ use Rattle.mm_base.proofs.RangeSums.{sum_by_range_more, sum_by_range_same, sum_b
 use Rattle.mm_base.specs.declared.limits.TheConstants.{CHANNELS}
 use Rattle.mm_links.specs.declared.link.Link.{Link}
 use Rattle.mm_links.specs.declared.link.Rooms.{Rooms}
-use Rattle.mm_links.specs.Rooms.{Set, channels, window_at, limit_at, limit_of, room_at, room_of, limits_of, IsOpen, AreRooms}
-use Rattle.mm_links.specs.Shared.{amount, numbers, no_link, link, share, Keeps, IsShared}
+use Rattle.mm_links.specs.Rooms.{Set, channels, window_at, limit_at, limit_of, room_at, room_of, limits_of, AreRooms}
+use Rattle.mm_links.specs.Shared.{amount, numbers, no_link, link, share, IsShared}
 use Rattle.mm_links.specs.Laws.{with_window, CanBeShared}
 use Rattle.mm_links.proofs.Shares.{list_sum}
 
@@ -34,16 +34,16 @@ shares_have_room links x y set is =
       arith,
       sum_by-filter (amount x) set channels,
       sum_by_range_same (λ c. cond (set c) (amount x c) 0) (λ c. sum_by (own c) (numbers links)) 0 CHANNELS
-      (λ c _ below. ap (λ m. cond (set c) m 0) (sym (is.all c (omega arith))) ∙ test_of_sum (set c) (λ l. share y l c) (numbers links)),
+          (λ c _ below. ap (λ m. cond (set c) m 0) (sym (is.all c (omega arith))) ∙ test_of_sum (set c) (λ l. share y l c) (numbers links)),
       sum_by-swap own channels (numbers links),
       sum_by_range-le by_link (λ l. room_at set (link links l)) 0 (length links)
-      (λ l _ within. omega (
-        arith,
-        is.windows l (omega arith),
-        sum_by_range-le (λ c. own c l) (share y l) 0 CHANNELS (λ c _ _. part (set c) (share y l c)),
-        sum_by-filter (share y l) set channels,
-        sum_by_filter_range-le set (share y l) (limit_at (link links l)) 0 CHANNELS (λ c _ below. is.limits l c (omega arith) (omega arith)),
-      )),
+          (λ l _ within. omega (
+            arith,
+            is.windows l (omega arith),
+            sum_by_range-le (λ c. own c l) (share y l) 0 CHANNELS (λ c _ _. part (set c) (share y l c)),
+            sum_by-filter (share y l) set channels,
+            sum_by_filter_range-le set (share y l) (limit_at (link links l)) 0 CHANNELS (λ c _ below. is.limits l c (omega arith) (omega arith)),
+          )),
       list_sum (room_at set) no_link links,
     )
 
@@ -100,11 +100,12 @@ shared_has_room links rooms window total set are shared narrow few =
       shares_have_room links x is.0 set is.1,
       sum_by-filter (amount x) set channels,
       sum_by_range_same (λ c. cond (set c) (amount x c) 0) (filled h total) 0 CHANNELS
-      (λ c _ below. ap (λ m. cond (set c) m 0) (at c (omega arith)) ∙ kept_out (set c) (limit_of links c) (total - sum_by h (range_with_len 0 c))),
+          (λ c _ below. ap (λ m. cond (set c) m 0) (at c (omega arith)) ∙ kept_out (set c) (limit_of links c) (total - sum_by h (range_with_len 0 c))),
     )
   where
     le_between : {m n j k : ℕ} → m ≡ n → j ≡ k → n ≤ k → m ≤ j
     le_between first second le = omega (arith, first, second)
+
     least : {m j : ℕ} (n k : ℕ) → m ≡ min n k → n ≤ j → m ≤ j
     least n k first le = omega (arith, first)
 

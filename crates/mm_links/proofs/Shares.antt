@@ -1,24 +1,24 @@
 -- A maximum flow from channels to links sends all amounts, if there is room for each set of channels.
-use Rattle.std.proofs.Common.{◌≡◌, ◌≢◌, ℕ, zero, suc, ◌+◌, ◌-◌, ◌*◌, ◌<◌, ◌≤◌, eqb, Bool, true, false, not, ◌&&◌, cond, refl, sym, ◌∙◌, ap}
-use Rattle.std.proofs.Common.{arith, inl, inr, List, [], ◌∷◌, length, get_or, min, Some, None, take}
+use Rattle.std.proofs.Common.{◌≡◌, ℕ, zero, suc, ◌+◌, ◌*◌, ◌<◌, ◌≤◌, eqb, Bool, true, false, not, ◌&&◌, cond, refl, sym, ◌∙◌, ap}
+use Rattle.std.proofs.Common.{arith, List, [], ◌∷◌, length, get_or, Some, take}
 use Rattle.std.specs.Prelude.{filter, unwrap_or, is_some}
 use Rattle.std.specs.List.{range_with_len, sum_by}
-use Rattle.std.proofs.lemmas.Bool.{cases_Bool, cond-true, cond-false, eq-eqb, ne_eqb, true≢false}
+use Rattle.std.proofs.lemmas.Bool.{cond-true, cond-false, eq-eqb, ne_eqb, true≢false}
 use Rattle.std.proofs.lemmas.List.{length-take-le, get_or-take}
 use Rattle.std.proofs.lemmas.List.Sums.{sum_by-cons}
-use Rattle.mm_base.proofs.Sums.{sum_by-filter, sum_by-add, sum_by-swap}
+use Rattle.mm_base.proofs.Sums.{sum_by-filter, sum_by-add}
 use Rattle.mm_base.proofs.RangeSums.{sum_by_range_same, sum_by_range-le, sum_by_filter_range-le, sum_by_range_zeros, sum_by_range_one, sum_by_range_changed, sum_by_range_shift, term-le-sum_by_range}
 use Rattle.mm_base.proofs.Tests.{cond-eqb_same, cond-eqb_other}
 use Rattle.mm_base.specs.declared.limits.TheConstants.{CHANNELS}
 use Rattle.mm_flow.specs.declared.arc.Arc.{Arc}
 use Rattle.mm_flow.specs.declared.solved.Solved.{Solved}
 use Rattle.mm_flow.specs.Graph.{Graph, arc, places, starts_at, ends_at}
-use Rattle.mm_flow.specs.Flow.{Flow, IsFlow, IsWithin, leaving, entering}
+use Rattle.mm_flow.specs.Flow.{Flow, leaving, entering}
 use Rattle.mm_flow.specs.Cut.{Side, IsCut, leaves, capacity_of, limit_of as arc_limit}
-use Rattle.mm_flow.specs.Solution.{IsSolution, IsSolved, IsWalk, HasUnlimited, HasUnlimitedPath}
+use Rattle.mm_flow.specs.Solution.{IsSolved, IsWalk, HasUnlimitedPath}
 use Rattle.mm_links.specs.declared.link.Link.{Link}
 use Rattle.mm_links.specs.declared.link.Rooms.{Rooms}
-use Rattle.mm_links.specs.Rooms.{Set, channels, limit_at, limit_of, room_at, room_of, limits_of, AreRooms}
+use Rattle.mm_links.specs.Rooms.{Set, channels, limit_at, limit_of, room_at, room_of, AreRooms}
 use Rattle.mm_links.specs.Shared.{amount, numbers, no_link, link, share, Keeps, KeepsRooms, IsShared}
 use Rattle.mm_links.specs.Net.{link_node, source, sink, limit_arc, amount_arc, window_arc, shares, arc_of, arc_count, IsBuilt, KeepsLimits}
 use Rattle.mm_links.proofs.Arcs.{by_kind, limit_arc_at, amount_arc_at, window_arc_at, limited}
@@ -37,7 +37,7 @@ list_sum h d (x ∷ xs) =
       sum_by-cons at 0 (range_with_len 1 (length xs)),
       sum_by_range_shift at 0 (length xs),
       sum_by_range_same (λ i. at (i + 1)) (λ i. h (get_or xs i d)) 0 (length xs)
-      (λ i _ _. let one : i + 1 ≡ suc i = omega arith in ap at one),
+          (λ i _ _. let one : i + 1 ≡ suc i = omega arith in ap at one),
       list_sum h d xs,
     )
 
@@ -52,7 +52,7 @@ tight f g n i each all within =
       here,
       each i within,
       sum_by_range_changed f h 0 n i (omega arith) (omega arith)
-      (λ t _ _ other. cond-false {A = ℕ} (eqb t i) (g t) (f t) (ne_eqb t i other)),
+          (λ t _ _ other. cond-false {A = ℕ} (eqb t i) (g t) (f t) (ne_eqb t i other)),
       sum_by_range-le h g 0 n (λ t _ below. least (eqb t i) (f t) (g t) (each t (omega arith))),
     )
   where
@@ -123,10 +123,10 @@ module _ (links : List Link) (x : List ℕ) (g : Graph) (built : IsBuilt links x
         arith,
         departs node,
         sum_by_range_zeros (λ k. sum_by (λ c. cond (eqb c node) (sent k c) 0) channels) 0 (length links)
-        (λ k _ _. sum_by_range_zeros (λ c. cond (eqb c node) (sent k c) 0) 0 CHANNELS (λ c _ below. cond-eqb_other c node (sent k c) (λ e. omega (arith, e)))),
+            (λ k _ _. sum_by_range_zeros (λ c. cond (eqb c node) (sent k c) 0) 0 CHANNELS (λ c _ below. cond-eqb_other c node (sent k c) (λ e. omega (arith, e)))),
         sum_by_range_zeros (λ c. cond (eqb (source links) node) (given c) 0) 0 CHANNELS (λ c _ _. cond-eqb_other (source links) node (given c) (λ e. omega (arith, e))),
         sum_by_range_one (λ k. cond (eqb (link_node k) node) (taken k) 0) 0 (length links) l (omega arith) (omega arith)
-        (λ k _ _ other. cond-eqb_other (link_node k) node (taken k) (λ e. other (omega (arith, e)))),
+            (λ k _ _ other. cond-eqb_other (link_node k) node (taken k) (λ e. other (omega (arith, e)))),
         cond-eqb_same node node (taken l) refl,
       )
 
@@ -137,7 +137,7 @@ module _ (links : List Link) (x : List ℕ) (g : Graph) (built : IsBuilt links x
         arith,
         enters c,
         sum_by_range_zeros (λ l. sum_by (λ d. cond (eqb (link_node l) c) (sent l d) 0) channels) 0 (length links)
-        (λ l _ _. sum_by_range_zeros (λ d. cond (eqb (link_node l) c) (sent l d) 0) 0 CHANNELS (λ d _ _. cond-eqb_other (link_node l) c (sent l d) (λ e. omega (arith, e)))),
+            (λ l _ _. sum_by_range_zeros (λ d. cond (eqb (link_node l) c) (sent l d) 0) 0 CHANNELS (λ d _ _. cond-eqb_other (link_node l) c (sent l d) (λ e. omega (arith, e)))),
         sum_by_range_one (λ d. cond (eqb d c) (given d) 0) 0 CHANNELS c (omega arith) (omega arith) (λ d _ _ other. cond-eqb_other d c (given d) other),
         cond-eqb_same c c (given c) refl,
         sum_by_range_zeros (λ l. cond (eqb (sink links) c) (taken l) 0) 0 (length links) (λ l _ _. cond-eqb_other (sink links) c (taken l) (λ e. omega (arith, e))),
@@ -150,8 +150,8 @@ module _ (links : List Link) (x : List ℕ) (g : Graph) (built : IsBuilt links x
         arith,
         departs c,
         sum_by_range_same (λ l. sum_by (λ d. cond (eqb d c) (sent l d) 0) channels) (λ l. sent l c) 0 (length links)
-        (λ l _ _. sum_by_range_one (λ d. cond (eqb d c) (sent l d) 0) 0 CHANNELS c (omega arith) (omega arith) (λ d _ _ other. cond-eqb_other d c (sent l d) other)
-        ∙ cond-eqb_same c c (sent l c) refl),
+            (λ l _ _. sum_by_range_one (λ d. cond (eqb d c) (sent l d) 0) 0 CHANNELS c (omega arith) (omega arith) (λ d _ _ other. cond-eqb_other d c (sent l d) other)
+            ∙ cond-eqb_same c c (sent l c) refl),
         sum_by_range_zeros (λ d. cond (eqb (source links) c) (given d) 0) 0 CHANNELS (λ d _ _. cond-eqb_other (source links) c (given d) (λ e. omega (arith, e))),
         sum_by_range_zeros (λ l. cond (eqb (link_node l) c) (taken l) 0) 0 (length links) (λ l _ _. cond-eqb_other (link_node l) c (taken l) (λ e. omega (arith, e))),
       )
@@ -164,7 +164,7 @@ module _ (links : List Link) (x : List ℕ) (g : Graph) (built : IsBuilt links x
         arith,
         departs node,
         sum_by_range_zeros (λ l. sum_by (λ c. cond (eqb c node) (sent l c) 0) channels) 0 (length links)
-        (λ l _ _. sum_by_range_zeros (λ c. cond (eqb c node) (sent l c) 0) 0 CHANNELS (λ c _ below. cond-eqb_other c node (sent l c) (λ e. omega (arith, e)))),
+            (λ l _ _. sum_by_range_zeros (λ c. cond (eqb c node) (sent l c) 0) 0 CHANNELS (λ c _ below. cond-eqb_other c node (sent l c) (λ e. omega (arith, e)))),
         sum_by_range_same (λ c. cond (eqb node node) (given c) 0) given 0 CHANNELS (λ c _ _. cond-eqb_same node node (given c) refl),
         sum_by_range_zeros (λ l. cond (eqb (link_node l) node) (taken l) 0) 0 (length links) (λ l _ within. cond-eqb_other (link_node l) node (taken l) (λ e. omega (arith, e))),
       )
@@ -184,7 +184,7 @@ link_cut l side false =
       arith,
       sum_by-filter (limit_at l) side channels,
       sum_by_range_same (λ c. cond (side c) (limit_at l c) 0) (λ c. cond (side c && not false) (limit_at l c) 0) 0 CHANNELS
-      (λ c _ _. ap (λ b. cond b (limit_at l c) 0) (alone (side c))),
+          (λ c _ _. ap (λ b. cond b (limit_at l c) 0) (alone (side c))),
     )
   where
     alone : (b : Bool) → b ≡ b && not false
@@ -204,9 +204,9 @@ cut_sends links x g side built room cut =
       arith,
       sum_by-filter (arc_limit g) (leaves g side) (places g) ∙ by_kind links x g built F,
       sum_by_range_same (λ c. cond (side (source links) && not (side c)) (amount x c) 0) others 0 CHANNELS
-      (λ c _ _. ap (λ b. cond (b && not (side c)) (amount x c) 0) cut.has_source),
+          (λ c _ _. ap (λ b. cond (b && not (side c)) (amount x c) 0) cut.has_source),
       sum_by_range_same (λ l. cond (side (link_node l) && not (side (sink links))) (link links l).window 0) to_sink 0 (length links)
-      (λ l _ _. ap (λ b. cond (side (link_node l) && not b) (link links l).window 0) cut.lacks_sink),
+          (λ l _ _. ap (λ b. cond (side (link_node l) && not b) (link links l).window 0) cut.lacks_sink),
       sum_by-add to_link to_sink (numbers links),
       sum_by_range-le (λ l. room_at side (link links l)) (λ l. to_link l + to_sink l) 0 (length links) (λ l _ _. link_cut (link links l) side (side (link_node l))),
       list_sum (room_at side) no_link links,
@@ -236,20 +236,20 @@ flow_shares links x g s built room solved =
     record {
       size = length-take-le (shares links) s.flow.items many;
       limits = λ l c within below.
-      omega (arith, front l c within below, least (l * CHANNELS + c) (limit_at (link links l) c) (limit_arc links l c) (omega arith) (limit_arc_at links x l c within below) refl);
+          omega (arith, front l c within below, least (l * CHANNELS + c) (limit_at (link links l) c) (limit_arc links l c) (omega arith) (limit_arc_at links x l c within below) refl);
       windows = λ l within.
-      omega (
-        arith,
-        sum_by_range_same (share (take (shares links) s.flow.items) l) (λ c. f (l * CHANNELS + c)) 0 CHANNELS (λ c _ below. front l c within (omega arith)),
-        enters_link links x g built f l within,
-        flow.conserved (link_node l) (λ e. omega (arith, e)) (λ e. omega (arith, e)),
-        departs_link links x g built f l within,
-        least (shares links + CHANNELS + l) (link links l).window (window_arc links l) (omega arith) (window_arc_at links x l) refl,
-      );
+          omega (
+            arith,
+            sum_by_range_same (share (take (shares links) s.flow.items) l) (λ c. f (l * CHANNELS + c)) 0 CHANNELS (λ c _ below. front l c within (omega arith)),
+            enters_link links x g built f l within,
+            flow.conserved (link_node l) (λ e. omega (arith, e)) (λ e. omega (arith, e)),
+            departs_link links x g built f l within,
+            least (shares links + CHANNELS + l) (link links l).window (window_arc links l) (omega arith) (window_arc_at links x l) refl,
+          );
       all = λ c below.
-      sum_by_range_same (λ l. share (take (shares links) s.flow.items) l c) (λ l. f (l * CHANNELS + c)) 0 (length links) (λ l _ within. front l c (omega arith) below)
-      ∙ sym (departs_channel links x g built f c below) ∙ sym (flow.conserved c (λ e. omega (arith, e)) (λ e. omega (arith, e)))
-      ∙ enters_channel links x g built f c below ∙ all c below;
+          sum_by_range_same (λ l. share (take (shares links) s.flow.items) l c) (λ l. f (l * CHANNELS + c)) 0 (length links) (λ l _ within. front l c (omega arith) below)
+          ∙ sym (departs_channel links x g built f c below) ∙ sym (flow.conserved c (λ e. omega (arith, e)) (λ e. omega (arith, e)))
+          ∙ enters_channel links x g built f c below ∙ all c below;
     }
 
 -- they keep the limits

@@ -11,11 +11,7 @@ use std::alloc::Global;
 
 /// How what is sent of each channel is shared out among the links, by a maximum flow from channels to links: in units,
 /// the channels of the first link, then those of the next, and so on.
-pub fn share(
-    alloc: Global,
-    links: &[Link],
-    amounts: &[u64; CHANNELS],
-) -> Result<Vec<u64>, NoMemory>
+pub fn share(alloc: Global, links: &[Link], amounts: &[u64; CHANNELS]) -> Result<Vec<u64>, NoMemory>
     requires few { length links.now ≤ MAX_LINKS }
     requires kept { KeepsRooms links.now amounts.now }
     ensures shared { IfOk result (λ table. IsShared links.now amounts.now table.items) }

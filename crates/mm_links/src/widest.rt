@@ -61,7 +61,11 @@ fn narrowed(links: &[Link], set: [bool; CHANNELS], channel: usize, most: u64) ->
 {
     if channel == CHANNELS {
         let room = room(links, &set);
-        if room < set_limit(links, &set) { most.min(room) } else { most }
+        if room < set_limit(links, &set) {
+            most.min(room)
+        } else {
+            most
+        }
     } else {
         let mut without = set;
         without[channel] = false;
