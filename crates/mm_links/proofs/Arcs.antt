@@ -1,5 +1,6 @@
 -- Sums over the arcs of the network, kind by kind.
-use Rattle.std.proofs.Common.{◌≡◌, ℕ, zero, suc, ◌+◌, ◌-◌, ◌*◌, ◌/◌, ◌%◌, ◌<◌, ltb, Bool, true, false, cond, refl, ◌∙◌, ap, arith, List}
+use Rattle.std.proofs.Common.{◌≡◌, ℕ, zero, suc, ◌+◌, ◌-◌, ◌*◌, ◌/◌, ◌%◌, ◌<◌, ltb, Bool, true, false, cond, refl, ◌∙◌}
+use Rattle.std.proofs.Common.{ap, arith, List}
 use Rattle.std.proofs.Common.{length}
 use Rattle.std.specs.Prelude.{is_some}
 use Rattle.std.specs.List.{range_with_len, sum_by}
@@ -58,13 +59,15 @@ of_three false false a b c of_a of_b of_c = of_c
 
 module _ (links : List Link) (x : List ℕ) where
   -- those to links
-  pub limit_arc_at : (l c : ℕ) → l < length links → c < CHANNELS → arc_of links x (l * CHANNELS + c) ≡ limit_arc links l c
+  pub limit_arc_at : (l c : ℕ) → l < length links → c < CHANNELS → arc_of links x (l * CHANNELS + c)
+      ≡ limit_arc links l c
   unfolding arc_of
   limit_arc_at l c within below =
       let k = l * CHANNELS + c in
       let row : k / CHANNELS ≡ l = omega arith in
       let column : k % CHANNELS ≡ c = omega arith in
-      cond-true {A = Arc} (ltb k (shares links)) (limit_arc links (k / CHANNELS) (k % CHANNELS)) _ (lt-ltb k (shares links) (omega arith))
+      cond-true {A = Arc} (ltb k (shares links)) (limit_arc links (k / CHANNELS) (k % CHANNELS)) _
+      (lt-ltb k (shares links) (omega arith))
       ∙ ap (λ r. limit_arc links r (k % CHANNELS)) row ∙ ap (limit_arc links l) column
 
   -- those to channels
@@ -74,7 +77,8 @@ module _ (links : List Link) (x : List ℕ) where
       let k = shares links + c in
       let place : k - shares links ≡ c = omega arith in
       cond-false {A = Arc} (ltb k (shares links)) _ _ (le-ltb k (shares links) (omega arith))
-      ∙ cond-true {A = Arc} (ltb k (shares links + CHANNELS)) (amount_arc links x (k - shares links)) _ (lt-ltb k (shares links + CHANNELS) (omega arith))
+      ∙ cond-true {A = Arc} (ltb k (shares links + CHANNELS)) (amount_arc links x (k - shares links)) _
+      (lt-ltb k (shares links + CHANNELS) (omega arith))
       ∙ ap (amount_arc links x) place
 
   -- those to the sink
@@ -113,10 +117,14 @@ by_kind links x g built F =
       rows_split h n,
       sum_by_range_same (λ l. sum_by (λ c. h (l * CHANNELS + c)) channels)
           (λ l. sum_by (λ c. F (l * CHANNELS + c) (limit_arc links l c)) channels) 0 n
-          (λ l _ within. sum_by_range_same (λ c. h (l * CHANNELS + c)) (λ c. F (l * CHANNELS + c) (limit_arc links l c)) 0 CHANNELS
-          (λ c _ below. is (l * CHANNELS + c) (limit_arc links l c) (omega arith) (limit_arc_at links x l c (omega arith) (omega arith)))),
+          (λ l _ within. sum_by_range_same (λ c. h (l * CHANNELS + c))
+          (λ c. F (l * CHANNELS + c) (limit_arc links l c)) 0 CHANNELS
+          (λ c _ below. is (l * CHANNELS + c) (limit_arc links l c) (omega arith)
+          (limit_arc_at links x l c (omega arith) (omega arith)))),
       sum_by_range_same (λ c. h (shares links + c)) (λ c. F (shares links + c) (amount_arc links x c)) 0 CHANNELS
-          (λ c _ below. is (shares links + c) (amount_arc links x c) (omega arith) (amount_arc_at links x c (omega arith))),
-      sum_by_range_same (λ l. h (shares links + CHANNELS + l)) (λ l. F (shares links + CHANNELS + l) (window_arc links l)) 0 n
+          (λ c _ below. is (shares links + c) (amount_arc links x c) (omega arith)
+          (amount_arc_at links x c (omega arith))),
+      sum_by_range_same (λ l. h (shares links + CHANNELS + l))
+          (λ l. F (shares links + CHANNELS + l) (window_arc links l)) 0 n
           (λ l _ within. is (shares links + CHANNELS + l) (window_arc links l) (omega arith) (window_arc_at links x l)),
     )

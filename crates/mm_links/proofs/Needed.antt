@@ -1,5 +1,6 @@
 -- What is shared out has room, and so no wider window can always be shared out.
-use Rattle.std.proofs.Common.{◌≡◌, ℕ, zero, suc, ◌+◌, ◌-◌, ◌<◌, ◌≤◌, Bool, true, false, cond, refl, sym, ◌∙◌, ap, arith, List, length, min}
+use Rattle.std.proofs.Common.{◌≡◌, ℕ, zero, suc, ◌+◌, ◌-◌, ◌<◌, ◌≤◌, Bool, true, false, cond, refl, sym, ◌∙◌, ap}
+use Rattle.std.proofs.Common.{arith, List, length, min}
 use Rattle.std.specs.Prelude.{map}
 use Rattle.std.specs.Prelude.{filter}
 use Rattle.std.specs.List.{range_with_len, sum_by}
@@ -34,7 +35,8 @@ shares_have_room links x y set is =
       arith,
       sum_by-filter (amount x) set channels,
       sum_by_range_same (λ c. cond (set c) (amount x c) 0) (λ c. sum_by (own c) (numbers links)) 0 CHANNELS
-          (λ c _ below. ap (λ m. cond (set c) m 0) (sym (is.all c (omega arith))) ∙ test_of_sum (set c) (λ l. share y l c) (numbers links)),
+          (λ c _ below. ap (λ m. cond (set c) m 0) (sym (is.all c (omega arith))) ∙ test_of_sum (set c)
+          (λ l. share y l c) (numbers links)),
       sum_by-swap own channels (numbers links),
       sum_by_range-le by_link (λ l. room_at set (link links l)) 0 (length links)
           (λ l _ within. omega (
@@ -42,7 +44,8 @@ shares_have_room links x y set is =
             is.windows l (omega arith),
             sum_by_range-le (λ c. own c l) (share y l) 0 CHANNELS (λ c _ _. part (set c) (share y l c)),
             sum_by-filter (share y l) set channels,
-            sum_by_filter_range-le set (share y l) (limit_at (link links l)) 0 CHANNELS (λ c _ below. is.limits l c (omega arith) (omega arith)),
+            sum_by_filter_range-le set (share y l) (limit_at (link links l)) 0 CHANNELS
+                (λ c _ below. is.limits l c (omega arith) (omega arith)),
           )),
       list_sum (room_at set) no_link links,
     )
@@ -79,7 +82,8 @@ kept_out false m rest = omega arith
 
 -- if all that keeps a window can be shared out, there is room for as much of a set as the window and its limits allow
 shared_has_room : (links : List Link) (rooms : Rooms) (window total : ℕ) (set : Set) → AreRooms links rooms
-    → CanBeShared links (with_window rooms window) → total ≤ window → total ≤ limits_of links set → total ≤ room_of links set
+    → CanBeShared links (with_window rooms window) → total ≤ window → total ≤ limits_of links set → total
+    ≤ room_of links set
 shared_has_room links rooms window total set are shared narrow few =
     let h : ℕ → ℕ = λ c. cond (set c) (limit_of links c) 0 in
     let x : List ℕ = map (filled h total) channels in
@@ -89,7 +93,8 @@ shared_has_room links rooms window total set are shared narrow few =
     let sum = all ∙ filled-sum h total CHANNELS in
     let of_set = sum_by-filter (limit_of links) set channels in
     let is = shared x (record {
-      limits = λ c below. le_between (at c below) (are.limits c below) (filled-le h total c (limit_of links c) (part (set c) (limit_of links c)));
+      limits = λ c below. le_between (at c below) (are.limits c below)
+          (filled-le h total c (limit_of links c) (part (set c) (limit_of links c)));
       window = least total (sum_by h channels) sum narrow;
     }) in
     omega (
@@ -100,7 +105,8 @@ shared_has_room links rooms window total set are shared narrow few =
       shares_have_room links x is.0 set is.1,
       sum_by-filter (amount x) set channels,
       sum_by_range_same (λ c. cond (set c) (amount x c) 0) (filled h total) 0 CHANNELS
-          (λ c _ below. ap (λ m. cond (set c) m 0) (at c (omega arith)) ∙ kept_out (set c) (limit_of links c) (total - sum_by h (range_with_len 0 c))),
+          (λ c _ below. ap (λ m. cond (set c) m 0) (at c (omega arith)) ∙ kept_out (set c) (limit_of links c)
+          (total - sum_by h (range_with_len 0 c))),
     )
   where
     le_between : {m n j k : ℕ} → m ≡ n → j ≡ k → n ≤ k → m ≤ j
@@ -114,4 +120,5 @@ pub window_is_widest : (links : List Link) (rooms : Rooms) (window : ℕ) → Ar
     → window ≤ sum_by window_at links → CanBeShared links (with_window rooms window) → window ≤ rooms.window
 window_is_widest links rooms window are most shared =
     are.window.widest window most
-    (λ set. shared_has_room links rooms window (min window (limits_of links set)) set are shared (omega arith) (omega arith))
+    (λ set. shared_has_room links rooms window (min window (limits_of links set)) set are shared (omega arith)
+    (omega arith))

@@ -1,5 +1,6 @@
 -- A maximum flow from channels to links sends all amounts, if there is room for each set of channels.
-use Rattle.std.proofs.Common.{◌≡◌, ℕ, zero, suc, ◌+◌, ◌*◌, ◌<◌, ◌≤◌, eqb, Bool, true, false, not, ◌&&◌, cond, refl, sym, ◌∙◌, ap}
+use Rattle.std.proofs.Common.{◌≡◌, ℕ, zero, suc, ◌+◌, ◌*◌, ◌<◌, ◌≤◌, eqb, Bool, true, false, not, ◌&&◌, cond, refl}
+use Rattle.std.proofs.Common.{sym, ◌∙◌, ap}
 use Rattle.std.proofs.Common.{arith, List, [], ◌∷◌, length, get_or, Some, take}
 use Rattle.std.specs.Prelude.{filter, unwrap_or, is_some}
 use Rattle.std.specs.List.{range_with_len, sum_by}
@@ -7,7 +8,8 @@ use Rattle.std.proofs.lemmas.Bool.{cond-true, cond-false, eq-eqb, ne_eqb, true�
 use Rattle.std.proofs.lemmas.List.{length-take-le, get_or-take}
 use Rattle.std.proofs.lemmas.List.Sums.{sum_by-cons}
 use Rattle.mm_base.proofs.Sums.{sum_by-filter, sum_by-add}
-use Rattle.mm_base.proofs.RangeSums.{sum_by_range_same, sum_by_range-le, sum_by_filter_range-le, sum_by_range_zeros, sum_by_range_one, sum_by_range_changed, sum_by_range_shift, term-le-sum_by_range}
+use Rattle.mm_base.proofs.RangeSums.{sum_by_range_same, sum_by_range-le, sum_by_filter_range-le, sum_by_range_zeros}
+use Rattle.mm_base.proofs.RangeSums.{sum_by_range_one, sum_by_range_changed, sum_by_range_shift, term-le-sum_by_range}
 use Rattle.mm_base.proofs.Tests.{cond-eqb_same, cond-eqb_other}
 use Rattle.mm_base.specs.declared.limits.TheConstants.{CHANNELS}
 use Rattle.mm_flow.specs.declared.arc.Arc.{Arc}
@@ -20,7 +22,8 @@ use Rattle.mm_links.specs.declared.link.Link.{Link}
 use Rattle.mm_links.specs.declared.link.Rooms.{Rooms}
 use Rattle.mm_links.specs.Rooms.{Set, channels, limit_at, limit_of, room_at, room_of, AreRooms}
 use Rattle.mm_links.specs.Shared.{amount, numbers, no_link, link, share, Keeps, KeepsRooms, IsShared}
-use Rattle.mm_links.specs.Net.{link_node, source, sink, limit_arc, amount_arc, window_arc, shares, arc_of, arc_count, IsBuilt, KeepsLimits}
+use Rattle.mm_links.specs.Net.{link_node, source, sink, limit_arc, amount_arc, window_arc, shares, arc_of, arc_count}
+use Rattle.mm_links.specs.Net.{IsBuilt, KeepsLimits}
 use Rattle.mm_links.proofs.Arcs.{by_kind, limit_arc_at, amount_arc_at, window_arc_at, limited}
 
 -- ---- sums
@@ -111,8 +114,10 @@ module _ (links : List Link) (x : List ℕ) (g : Graph) (built : IsBuilt links x
       omega (
         arith,
         enters node,
-        term-le-sum_by_range (λ k. sum_by (λ c. cond (eqb (link_node k) node) (sent k c) 0) channels) 0 (length links) l (omega arith) (omega arith),
-        sum_by_range_same (sent l) (λ c. cond (eqb node node) (sent l c) 0) 0 CHANNELS (λ c _ _. sym (cond-eqb_same node node (sent l c) refl)),
+        term-le-sum_by_range (λ k. sum_by (λ c. cond (eqb (link_node k) node) (sent k c) 0) channels) 0
+            (length links) l (omega arith) (omega arith),
+        sum_by_range_same (sent l) (λ c. cond (eqb node node) (sent l c) 0) 0 CHANNELS
+            (λ c _ _. sym (cond-eqb_same node node (sent l c) refl)),
       )
 
   -- what a link sends leaves it
@@ -123,8 +128,10 @@ module _ (links : List Link) (x : List ℕ) (g : Graph) (built : IsBuilt links x
         arith,
         departs node,
         sum_by_range_zeros (λ k. sum_by (λ c. cond (eqb c node) (sent k c) 0) channels) 0 (length links)
-            (λ k _ _. sum_by_range_zeros (λ c. cond (eqb c node) (sent k c) 0) 0 CHANNELS (λ c _ below. cond-eqb_other c node (sent k c) (λ e. omega (arith, e)))),
-        sum_by_range_zeros (λ c. cond (eqb (source links) node) (given c) 0) 0 CHANNELS (λ c _ _. cond-eqb_other (source links) node (given c) (λ e. omega (arith, e))),
+            (λ k _ _. sum_by_range_zeros (λ c. cond (eqb c node) (sent k c) 0) 0 CHANNELS
+            (λ c _ below. cond-eqb_other c node (sent k c) (λ e. omega (arith, e)))),
+        sum_by_range_zeros (λ c. cond (eqb (source links) node) (given c) 0) 0 CHANNELS
+            (λ c _ _. cond-eqb_other (source links) node (given c) (λ e. omega (arith, e))),
         sum_by_range_one (λ k. cond (eqb (link_node k) node) (taken k) 0) 0 (length links) l (omega arith) (omega arith)
             (λ k _ _ other. cond-eqb_other (link_node k) node (taken k) (λ e. other (omega (arith, e)))),
         cond-eqb_same node node (taken l) refl,
@@ -137,10 +144,13 @@ module _ (links : List Link) (x : List ℕ) (g : Graph) (built : IsBuilt links x
         arith,
         enters c,
         sum_by_range_zeros (λ l. sum_by (λ d. cond (eqb (link_node l) c) (sent l d) 0) channels) 0 (length links)
-            (λ l _ _. sum_by_range_zeros (λ d. cond (eqb (link_node l) c) (sent l d) 0) 0 CHANNELS (λ d _ _. cond-eqb_other (link_node l) c (sent l d) (λ e. omega (arith, e)))),
-        sum_by_range_one (λ d. cond (eqb d c) (given d) 0) 0 CHANNELS c (omega arith) (omega arith) (λ d _ _ other. cond-eqb_other d c (given d) other),
+            (λ l _ _. sum_by_range_zeros (λ d. cond (eqb (link_node l) c) (sent l d) 0) 0 CHANNELS
+            (λ d _ _. cond-eqb_other (link_node l) c (sent l d) (λ e. omega (arith, e)))),
+        sum_by_range_one (λ d. cond (eqb d c) (given d) 0) 0 CHANNELS c (omega arith) (omega arith)
+            (λ d _ _ other. cond-eqb_other d c (given d) other),
         cond-eqb_same c c (given c) refl,
-        sum_by_range_zeros (λ l. cond (eqb (sink links) c) (taken l) 0) 0 (length links) (λ l _ _. cond-eqb_other (sink links) c (taken l) (λ e. omega (arith, e))),
+        sum_by_range_zeros (λ l. cond (eqb (sink links) c) (taken l) 0) 0 (length links)
+            (λ l _ _. cond-eqb_other (sink links) c (taken l) (λ e. omega (arith, e))),
       )
 
   -- what links get of a channel leaves it
@@ -150,10 +160,13 @@ module _ (links : List Link) (x : List ℕ) (g : Graph) (built : IsBuilt links x
         arith,
         departs c,
         sum_by_range_same (λ l. sum_by (λ d. cond (eqb d c) (sent l d) 0) channels) (λ l. sent l c) 0 (length links)
-            (λ l _ _. sum_by_range_one (λ d. cond (eqb d c) (sent l d) 0) 0 CHANNELS c (omega arith) (omega arith) (λ d _ _ other. cond-eqb_other d c (sent l d) other)
+            (λ l _ _. sum_by_range_one (λ d. cond (eqb d c) (sent l d) 0) 0 CHANNELS c (omega arith) (omega arith)
+            (λ d _ _ other. cond-eqb_other d c (sent l d) other)
             ∙ cond-eqb_same c c (sent l c) refl),
-        sum_by_range_zeros (λ d. cond (eqb (source links) c) (given d) 0) 0 CHANNELS (λ d _ _. cond-eqb_other (source links) c (given d) (λ e. omega (arith, e))),
-        sum_by_range_zeros (λ l. cond (eqb (link_node l) c) (taken l) 0) 0 (length links) (λ l _ _. cond-eqb_other (link_node l) c (taken l) (λ e. omega (arith, e))),
+        sum_by_range_zeros (λ d. cond (eqb (source links) c) (given d) 0) 0 CHANNELS
+            (λ d _ _. cond-eqb_other (source links) c (given d) (λ e. omega (arith, e))),
+        sum_by_range_zeros (λ l. cond (eqb (link_node l) c) (taken l) 0) 0 (length links)
+            (λ l _ _. cond-eqb_other (link_node l) c (taken l) (λ e. omega (arith, e))),
       )
 
   -- what channels get leaves the source
@@ -164,9 +177,12 @@ module _ (links : List Link) (x : List ℕ) (g : Graph) (built : IsBuilt links x
         arith,
         departs node,
         sum_by_range_zeros (λ l. sum_by (λ c. cond (eqb c node) (sent l c) 0) channels) 0 (length links)
-            (λ l _ _. sum_by_range_zeros (λ c. cond (eqb c node) (sent l c) 0) 0 CHANNELS (λ c _ below. cond-eqb_other c node (sent l c) (λ e. omega (arith, e)))),
-        sum_by_range_same (λ c. cond (eqb node node) (given c) 0) given 0 CHANNELS (λ c _ _. cond-eqb_same node node (given c) refl),
-        sum_by_range_zeros (λ l. cond (eqb (link_node l) node) (taken l) 0) 0 (length links) (λ l _ within. cond-eqb_other (link_node l) node (taken l) (λ e. omega (arith, e))),
+            (λ l _ _. sum_by_range_zeros (λ c. cond (eqb c node) (sent l c) 0) 0 CHANNELS
+            (λ c _ below. cond-eqb_other c node (sent l c) (λ e. omega (arith, e)))),
+        sum_by_range_same (λ c. cond (eqb node node) (given c) 0) given 0 CHANNELS
+            (λ c _ _. cond-eqb_same node node (given c) refl),
+        sum_by_range_zeros (λ l. cond (eqb (link_node l) node) (taken l) 0) 0 (length links)
+            (λ l _ within. cond-eqb_other (link_node l) node (taken l) (λ e. omega (arith, e))),
       )
 
 -- ---- the cut
@@ -183,7 +199,8 @@ link_cut l side false =
     omega (
       arith,
       sum_by-filter (limit_at l) side channels,
-      sum_by_range_same (λ c. cond (side c) (limit_at l c) 0) (λ c. cond (side c && not false) (limit_at l c) 0) 0 CHANNELS
+      sum_by_range_same (λ c. cond (side c) (limit_at l c) 0)
+          (λ c. cond (side c && not false) (limit_at l c) 0) 0 CHANNELS
           (λ c _ _. ap (λ b. cond b (limit_at l c) 0) (alone (side c))),
     )
   where
@@ -197,7 +214,8 @@ pub cut_sends : (links : List Link) (x : List ℕ) (g : Graph) (side : Side) →
 unfolding capacity_of
 cut_sends links x g side built room cut =
     let F : ℕ → Arc → ℕ = λ k a. cond (side a.from && not (side a.to)) (unwrap_or a.capacity 0) 0 in
-    let to_link : ℕ → ℕ = λ l. sum_by (λ c. cond (side c && not (side (link_node l))) (limit_at (link links l) c) 0) channels in
+    let to_link : ℕ → ℕ = λ l. sum_by (λ c. cond (side c && not (side (link_node l)))
+    (limit_at (link links l) c) 0) channels in
     let to_sink : ℕ → ℕ = λ l. cond (side (link_node l) && not false) (link links l).window 0 in
     let others : ℕ → ℕ = λ c. cond (not (side c)) (amount x c) 0 in
     omega (
@@ -205,15 +223,18 @@ cut_sends links x g side built room cut =
       sum_by-filter (arc_limit g) (leaves g side) (places g) ∙ by_kind links x g built F,
       sum_by_range_same (λ c. cond (side (source links) && not (side c)) (amount x c) 0) others 0 CHANNELS
           (λ c _ _. ap (λ b. cond (b && not (side c)) (amount x c) 0) cut.has_source),
-      sum_by_range_same (λ l. cond (side (link_node l) && not (side (sink links))) (link links l).window 0) to_sink 0 (length links)
+      sum_by_range_same (λ l. cond (side (link_node l) && not (side (sink links))) (link links l).window 0) to_sink 0
+          (length links)
           (λ l _ _. ap (λ b. cond (side (link_node l) && not b) (link links l).window 0) cut.lacks_sink),
       sum_by-add to_link to_sink (numbers links),
-      sum_by_range-le (λ l. room_at side (link links l)) (λ l. to_link l + to_sink l) 0 (length links) (λ l _ _. link_cut (link links l) side (side (link_node l))),
+      sum_by_range-le (λ l. room_at side (link links l)) (λ l. to_link l + to_sink l) 0 (length links)
+          (λ l _ _. link_cut (link links l) side (side (link_node l))),
       list_sum (room_at side) no_link links,
       room side,
       sum_by-filter (amount x) side channels,
       sum_by-add (λ c. cond (side c) (amount x c) 0) others channels,
-      sum_by_range_same (amount x) (λ c. cond (side c) (amount x c) 0 + others c) 0 CHANNELS (λ c _ _. two_parts (side c) (amount x c)),
+      sum_by_range_same (amount x) (λ c. cond (side c) (amount x c) 0 + others c) 0 CHANNELS
+          (λ c _ _. two_parts (side c) (amount x c)),
     )
 
 -- ---- what is shared
@@ -225,35 +246,54 @@ flow_shares links x g s built room solved =
     let f : Flow = λ k. get_or s.flow.items k 0 in
     let flow = solved.solution.flow in
     let many : shares links ≤ length s.flow.items = omega (arith, solved.arcs, built.arcs) in
-    let least : (k most : ℕ) (a : Arc) → k < arc_count links → arc_of links x k ≡ a → a.capacity ≡ Some most → f k ≤ most =
+    let least : (k most : ℕ) (a : Arc) → k < arc_count links → arc_of links x k ≡ a → a.capacity ≡ Some most → f k
+    ≤ most =
     λ k most a inside is has. flow.within k most (ap (λ (b : Arc). b.capacity) (built.each k inside ∙ is) ∙ has) in
-    let front : (l c : ℕ) → l < length links → c < CHANNELS → share (take (shares links) s.flow.items) l c ≡ f (l * CHANNELS + c) =
+    let front : (l c : ℕ) → l < length links → c < CHANNELS → share (take (shares links) s.flow.items) l c ≡ f
+    (l * CHANNELS + c) =
     λ l c within below. get_or-take (shares links) s.flow.items (l * CHANNELS + c) 0 (omega arith) in
     let all : (c : ℕ) → c < CHANNELS → f (shares links + c) ≡ amount x c =
     λ c below. tight (λ d. f (shares links + d)) (amount x) CHANNELS c
-    (λ d under. least (shares links + d) (amount x d) (amount_arc links x d) (omega arith) (amount_arc_at links x d under) refl)
-    (omega (arith, cut_sends links x g _ built room solved.solution.cut, solved.solution.equal, flow.has_value, departs_source links x g built f)) below in
+    (λ d under. least (shares links + d) (amount x d) (amount_arc links x d) (omega arith)
+    (amount_arc_at links x d under) refl)
+    (omega (
+      arith,
+      cut_sends links x g _ built room solved.solution.cut,
+      solved.solution.equal,
+      flow.has_value,
+      departs_source links x g built f,
+    )) below in
     record {
       size = length-take-le (shares links) s.flow.items many;
       limits = λ l c within below.
-          omega (arith, front l c within below, least (l * CHANNELS + c) (limit_at (link links l) c) (limit_arc links l c) (omega arith) (limit_arc_at links x l c within below) refl);
+          omega (
+            arith,
+            front l c within below,
+            least (l * CHANNELS + c) (limit_at (link links l) c)
+                (limit_arc links l c) (omega arith) (limit_arc_at links x l c within below) refl,
+          );
       windows = λ l within.
           omega (
             arith,
-            sum_by_range_same (share (take (shares links) s.flow.items) l) (λ c. f (l * CHANNELS + c)) 0 CHANNELS (λ c _ below. front l c within (omega arith)),
+            sum_by_range_same (share (take (shares links) s.flow.items) l) (λ c. f (l * CHANNELS + c)) 0 CHANNELS
+                (λ c _ below. front l c within (omega arith)),
             enters_link links x g built f l within,
             flow.conserved (link_node l) (λ e. omega (arith, e)) (λ e. omega (arith, e)),
             departs_link links x g built f l within,
-            least (shares links + CHANNELS + l) (link links l).window (window_arc links l) (omega arith) (window_arc_at links x l) refl,
+            least (shares links + CHANNELS + l) (link links l).window (window_arc links l) (omega arith)
+                (window_arc_at links x l) refl,
           );
       all = λ c below.
-          sum_by_range_same (λ l. share (take (shares links) s.flow.items) l c) (λ l. f (l * CHANNELS + c)) 0 (length links) (λ l _ within. front l c (omega arith) below)
-          ∙ sym (departs_channel links x g built f c below) ∙ sym (flow.conserved c (λ e. omega (arith, e)) (λ e. omega (arith, e)))
+          sum_by_range_same (λ l. share (take (shares links) s.flow.items) l c) (λ l. f (l * CHANNELS + c)) 0
+          (length links) (λ l _ within. front l c (omega arith) below)
+          ∙ sym (departs_channel links x g built f c below) ∙ sym
+          (flow.conserved c (λ e. omega (arith, e)) (λ e. omega (arith, e)))
           ∙ enters_channel links x g built f c below ∙ all c below;
     }
 
 -- they keep the limits
-pub keeps_limits : (links : List Link) (x : List ℕ) (rooms : Rooms) → AreRooms links rooms → Keeps rooms x → KeepsLimits links x
+pub keeps_limits : (links : List Link) (x : List ℕ) (rooms : Rooms) → AreRooms links rooms → Keeps rooms x
+    → KeepsLimits links x
 keeps_limits links x rooms are keeps c below = omega (arith, are.limits c below, keeps.limits c below)
 
 -- amounts that keep the rooms have room
@@ -263,7 +303,8 @@ rooms_have_room links x (rooms, (are, keeps)) set =
       arith,
       are.window.each set,
       keeps.window,
-      sum_by_filter_range-le set (amount x) (limit_of links) 0 CHANNELS (λ c _ below. keeps_limits links x rooms are keeps c (omega arith)),
+      sum_by_filter_range-le set (amount x) (limit_of links) 0 CHANNELS
+          (λ c _ below. keeps_limits links x rooms are keeps c (omega arith)),
       sum_by-filter (amount x) set channels,
       sum_by_range-le (λ c. cond (set c) (amount x c) 0) (amount x) 0 CHANNELS (λ c _ _. part (set c) (amount x c)),
     )
@@ -281,5 +322,6 @@ no_unlimited_path links x g built path = walk path.0 path.1
     walk zero same = omega (arith, same)
     walk (suc n) way =
         let last = way.2 in
-        let has : is_some (arc g last.0).capacity ≡ true = ap (λ (a : Arc). is_some a.capacity) (built.each last.0 (omega (arith, last.1, built.arcs))) ∙ limited links x last.0 in
+        let has : is_some (arc g last.0).capacity ≡ true = ap (λ (a : Arc). is_some a.capacity)
+        (built.each last.0 (omega (arith, last.1, built.arcs))) ∙ limited links x last.0 in
         true≢false (sym has ∙ ap is_some last.4)

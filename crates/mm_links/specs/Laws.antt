@@ -18,7 +18,8 @@ with_window rooms window = record { window = window; limits = rooms.limits }
 abbrev pub CanBeShared : List Link → Rooms → Type 0
 CanBeShared links rooms = (x : List ℕ) → Keeps rooms x → (y : List ℕ) × IsShared links x y
 
--- a window that is at most the sum of the links' windows, and with which all that keeps it can be shared out, is no wider
+-- a window that is at most the sum of the links' windows, and with which all that keeps it can be shared out, is no
+-- wider
 abbrev pub WindowIsWidest : Type 0
 WindowIsWidest = (links : List Link) (rooms : Rooms) (window : ℕ) → AreRooms links rooms
     → window ≤ sum_by window_at links → CanBeShared links (with_window rooms window) → window ≤ rooms.window

@@ -9,7 +9,8 @@ returns-in-Ok c =
     let x = c.args.amounts.now in
     record {
       shared = subst (λ (y : List ℕ). IsShared links x y) (sym c.truncate.ensures.items)
-          (flow_shares links x c.in_ok-network.network.graph c.in-Ok.solved c.in_ok-network.ensures (rooms_have_room links x c.requires.kept) c.in-Ok.ensures.solved);
+          (flow_shares links x c.in_ok-network.network.graph c.in-Ok.solved c.in_ok-network.ensures
+          (rooms_have_room links x c.requires.kept) c.in-Ok.ensures.solved);
     }
 
 pub unreachable-requires : goal.unreachable-requires
