@@ -3,3 +3,4 @@ pub mod Narrowed
 pub mod Shared
 pub mod Net
 pub mod Laws
+pub mod Used

@@ -1,6 +1,7 @@
 //! What links that send at once can send together, and how it is shared out among them.
 #![tactic(auto)]
 
+mod better;
 pub mod laws;
 mod limits;
 mod link;
@@ -10,6 +11,7 @@ mod sharing;
 mod tests;
 mod widest;
 
+pub use better::{Offer, Part, used};
 pub use limits::MAX_LINKS;
 pub use link::{Link, Rooms};
 pub use sharing::share;

@@ -2,7 +2,7 @@
 //! and goes over no sets of channels.
 ghost use Rattle.std.specs.Prelude.{◌≤◌, length};
 
-use crate::{Link, MAX_LINKS, Rooms, rooms, share};
+use crate::{Link, MAX_LINKS, Offer, Part, Rooms, rooms, share, used};
 use mm_base::CHANNELS;
 use std::process::Abort;
 
@@ -121,4 +121,43 @@ fn three_links(rt: HostRuntime) {
         link(5, [Some(3), Some(0), Some(1)]),
     ];
     are(&rt, &links, 12, [10, 3, 7], 252);
+}
+
+// Passes from when until when, with their worths; the parts that are served, each with its pass before its times.
+fn serves(rt: &impl Runtime, passes: &[(u64, u64, u64)], wanted: &[(usize, u64, u64)]) {
+    let mut offers = Vec::new(rt.alloc());
+    for (begin, end, worth) in passes.iter().copied() {
+        offers
+            .push(Offer { begin, end, worth })
+            .expect(rt, "memory");
+    }
+    let parts = used(rt.alloc(), offers.as_slice()).expect(rt, "memory");
+    assert_eq!(rt; parts.len(), wanted.len());
+    for (part, (pass, begin, end)) in parts.iter().zip(wanted.iter().copied()) {
+        assert_eq!(rt; *part, Part { pass, begin, end });
+    }
+}
+
+// The parts are those of a program that looks at each moment by itself.
+#[test]
+fn the_pass_in_use_stays_among_equals(rt: HostRuntime) {
+    serves(&rt, &[(0, 10, 5), (4, 14, 5)], &[(0, 0, 10), (1, 10, 14)]);
+}
+
+#[test]
+fn a_pass_worth_more_is_served_while_it_lasts(rt: HostRuntime) {
+    let passes = [(2, 12, 3), (5, 8, 7), (8, 9, 3), (20, 25, 1)];
+    serves(
+        &rt,
+        &passes,
+        &[(0, 2, 5), (1, 5, 8), (0, 8, 12), (3, 20, 25)],
+    );
+}
+
+#[test]
+fn the_first_of_equals_is_served(rt: HostRuntime) {
+    let passes = [(3, 9, 2), (3, 7, 2), (7, 11, 2)];
+    serves(&rt, &passes, &[(0, 3, 9), (2, 9, 11)]);
+    let passes = [(4, 12, 1), (2, 12, 1), (1, 5, 6), (3, 15, 1)];
+    serves(&rt, &passes, &[(2, 1, 5), (1, 5, 12), (3, 12, 15)]);
 }
