@@ -9,7 +9,8 @@ loop-time-preserved-in_ok-push-in-Some c =
     let p : Part = record { pass = c.in-Some.pass; begin = c.loop-time.time; end = c.end_of_use-end.result } in
     subst (λ (parts : List Part). AreUsedUntil c.args.offers.now c.end_of_use-end.result parts)
     (sym (c.in_ok-push-in-Some.ensures.items))
-    (part_served c.args.offers.now c.loop-time.time c.loop-time.parts.items p refl c.end_of_use-end.ensures c.loop-time.invariant)
+    (part_served c.args.offers.now c.loop-time.time c.loop-time.parts.items p refl c.end_of_use-end.ensures
+    c.loop-time.invariant)
 
 pub loop-time-preserved : goal.loop-time-preserved
 loop-time-preserved c =
