@@ -1,0 +1,6 @@
+pub mod Rooms
+pub mod Narrowed
+pub mod Shared
+pub mod Net
+pub mod Laws
+pub mod Used
