@@ -203,14 +203,16 @@ class Memories(unittest.TestCase):
             self.assertEqual(memory.apply(4, ask.ReportControl(("HK",), apid=100, source=7)), (None,))
             self.assertEqual(memory.apply(5, ask.ReportStatus(apid=100)), ())
             self.assertEqual(memory.apply(6, ask.ReportConfiguration(apid=100)), ())
-            self.assertEqual(memory.offer("HK", 9, bytes([0x08, 2, 0xC0, 0, 0, 14, 0x20, 3, 26]) + bytes(12)).time, 9)
+            packet = bytes([0x08, 2, 0xC0, 0, 0, 14, 0x20, 3, 26]) + bytes(12)
+            for store, time in (("HK", 9), ("HK", 10), ("SCI", 9)):
+                self.assertEqual(memory.offer(store, 9, packet).time, time)
             self.assertEqual(memory.apply(10, ask.SummariseContent(("HK", "SCI"), apid=100)), (None, None))
             control, status, configuration, summary = memory.read_reports()
             self.assertEqual((control.moment, control.destination, control.store, control.rows), (4, 7, "HK", (told.ReportType(2, 3, 26),)))
             self.assertEqual(status.entries, (told.Status("SCI", 1, 0), told.Status("HK", 1, 0)))
             self.assertEqual(configuration.entries, (ask.Configuration("SCI", 4), ask.Configuration("HK", 2, "circular", 3)))
             self.assertEqual((summary.moment, summary.count), (10, 3))
-            self.assertEqual(summary.entries, (told.Summary("HK", 9, 9, 1), told.Summary("SCI", 0, 0, 0)))
+            self.assertEqual(summary.entries, (told.Summary("HK", 9, 10, 2), told.Summary("SCI", 9, 9, 1)))
             self.assertEqual(memory.waiting(), 0)
 
 
