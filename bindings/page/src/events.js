@@ -1,7 +1,7 @@
 // Which event does what.
 import { addPass, ask, cancelPass, changeCell, changeClock, changePacket, changeText, closeSession, compareWith,
-  dropVariant, forgetKept, goToStep, keepVariant, makeRoom, movePass, moveStore, openExample, openKept, openVariant, paste,
-  planAnew, planRest, print, save, take, takeDropped, takesBack, toggleShade } from "./changes.js";
+  dropVariant, forgetKept, goToStep, keepVariant, makeRoom, movePass, moveStore, openExample, openKept, openVariant,
+  paste, planAnew, planRest, print, save, take, takeDropped, takesBack, toggleShade } from "./changes.js";
 import { at, endTyping, focused, notice } from "./dom.js";
 import { listenToLanes } from "./lanes.js";
 import { history, keeper, note, showAgain, showInputsSoon } from "./main.js";
@@ -108,7 +108,8 @@ function listenToRanges() {
   document.addEventListener("pointermove", event => {
     const isHeld = from && event.buttons === 1 && event.pointerType === "mouse";
     // Firefox tells of the cell where it was pressed alone.
-    const over = isHeld ? document.elementFromPoint(event.clientX, event.clientY) : null, to = over && placeInGrid(over);
+    const over = isHeld ? document.elementFromPoint(event.clientX, event.clientY) : null,
+      to = over && placeInGrid(over);
     if (to) tellRange(choose(from, to));
   });
   document.addEventListener("pointerup", () => { from = null; });

@@ -115,7 +115,8 @@ function pushOne() {
 const ZOOMS = ["closer", "wider", "whole"];
 
 const ACTS = {
-  cell: () => typeSome("#grid input"), passCell: () => typeSome("#passes input"), store: () => typeSome("#stores input"),
+  cell: () => typeSome("#grid input"), passCell: () => typeSome("#passes input"),
+  store: () => typeSome("#stores input"),
   limit: () => typeSome("#limits input"), variantName: () => typeSome("#variants input"),
   clock: () => at("begins").disabled || typeIn(at("begins"), stamp()),
   minutes: () => at("minutes").disabled || typeIn(at("minutes"), oneOf(["60", "30", "x", "0.5"])),
