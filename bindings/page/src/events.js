@@ -2,7 +2,7 @@
 import { addPass, ask, cancelPass, changeCell, changeClock, changePacket, changeText, closeSession, compareWith,
   dropVariant, forgetKept, goToStep, keepVariant, makeRoom, movePass, moveStore, openExample, openKept, openVariant,
   paste, planAnew, planRest, print, save, take, takeDropped, takesBack, toggleShade } from "./changes.js";
-import { at, endTyping, focused, notice } from "./dom.js";
+import { at, endTyping, notice } from "./dom.js";
 import { listenToLanes } from "./lanes.js";
 import { history, keeper, note, showAgain, showInputsSoon } from "./main.js";
 import { layPassLanes } from "./passlanes.js";
@@ -149,7 +149,10 @@ const CLICKS = {
 
 export function listenToAll() {
   document.addEventListener("input", takeInput);
-  document.addEventListener("focusin", () => focused().closest("#grid") && focused().dataset.cell && hold(focused()));
+  document.addEventListener("focusin", event => {
+    const it = /** @type {Input} */ (event.target);
+    if (it.closest("#grid") && it.dataset.cell) hold(it);
+  });
   document.addEventListener("focusout", takeFocusOut);
   document.addEventListener("pointerdown", () => { isPressed = true; });
   for (const name of ["pointerup", "pointercancel"]) document.addEventListener(name, () => {

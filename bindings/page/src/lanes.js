@@ -211,7 +211,8 @@ function valuesOf(step) {
   const all = what => total([...row.of].map(([id, it]) => [id, it[what]]));
   const lost = row.lost ? `${all("lost")} lost` : "nothing lost", window = rate(LINK, row.window, step);
   const [ofFlow, inUnit] = session.isInBlocks ? ["", ""] : [` ${flow}`, `. Volumes are in ${unit}.`];
-  return `${nameOfStep(step)}: window ${window}${ofFlow}, ${all("dumped")} sent, ${lost}. ${stores.join("; ")}${inUnit}`;
+  const sum = `window ${window}${ofFlow}, ${all("dumped")} sent, ${lost}`;
+  return `${nameOfStep(step)}: ${sum}. ${stores.join("; ")}${inUnit}`;
 }
 
 // What is so of one store in a step, in words, with the observations that it has then.

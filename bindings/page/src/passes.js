@@ -320,7 +320,7 @@ export function passWith(session, nth, what, text) {
 
 // ---- Passes that are moved
 
-const clamped = (it, least, most) => Math.max(least, Math.min(most, it));
+export const clamped = (it, least, most) => Math.max(least, Math.min(most, it));
 const edgesOrSteps = (session, count) => edgesOf(session, count) ?? Array.from({ length: count + 1 }, (_, nth) => nth);
 
 // Whether a pass can be moved: all of it can be read, and it has times on a clock, or steps that no mission counts.

@@ -302,9 +302,14 @@ export function listenToPasses(box, now, { moves, ends, takesBack, tells }) {
   };
   const follow = () => {
     frame = 0;
-    // What is dragged may be undone, or another session opened, meanwhile.
-    if (!drag?.isMoving || now().passes[drag.nth] !== laidOf[drag.nth]) return;
+    if (!drag?.isMoving) return;
+    // A drag ends where something else is done meanwhile.
+    if (now() !== (drag.last ?? drag.base)) {
+      drag = null;
+      return;
+    }
     moved(drag, ((drag.x - drag.from) / drag.width) * (drag.to - drag.since), false);
+    drag.last = now();
   };
   box.addEventListener("pointerdown", event => {
     const grasped = graspedIn(event.target, now());
@@ -317,16 +322,17 @@ export function listenToPasses(box, now, { moves, ends, takesBack, tells }) {
     const part = partAt(event, grasped), { width } = bodies.get(grasped.nth).parentElement.getBoundingClientRect(),
       { from: since, to } = scale.view;
     (part.part === "all" ? bodies.get(part.nth) : handles.get(part.part)).focus({ preventScroll: true });
-    drag = { ...part, from: event.clientX, x: event.clientX, width, since, to, isMoving: false, base: now() };
+    drag = { ...part, from: event.clientX, x: event.clientX, width, since, to, isMoving: false, base: now(),
+      last: null };
   });
   // Wherever the focus is, Escape takes a drag back.
   document.addEventListener("keydown", event => {
     if (!drag || event.key !== "Escape") return;
-    const { base } = drag;
+    const { base, last } = drag;
     drag = null;
     event.preventDefault();
     event.stopPropagation();
-    takesBack(base);
+    if (now() === last) takesBack(base);
   }, true);
   document.addEventListener("pointermove", event => {
     if (!drag) return;
@@ -343,7 +349,10 @@ export function listenToPasses(box, now, { moves, ends, takesBack, tells }) {
     ends();
   };
   document.addEventListener("pointerup", end);
-  document.addEventListener("pointercancel", () => { drag = null; });
+  document.addEventListener("pointercancel", () => {
+    drag = null;
+    ends();
+  });
   const show = ({ target }) => {
     const found = graspedIn(target, now());
     if (!found || drag) return;

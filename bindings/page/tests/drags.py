@@ -150,7 +150,8 @@ def by_keys(use: Use) -> None:
     said = use.do("return [document.activeElement.getAttribute('aria-label'), "
         "document.activeElement.getAttribute('aria-valuetext'), at('told').textContent];")
     words = "Pass 2, Malargue, 03 Mar 14:25 to 20:25 UTC: 291.6 MB at most, 108 kbit/s; 291.6 sent: "
-    use.expect("a pass is told", said[0] == "pass 2, Malargue" and said[1] == said[2] and said[1].startswith(words), said)
+    use.expect("a pass is told", said[0] == "pass 2, Malargue" and said[1] == said[2] and said[1].startswith(words),
+        said)
 
 
 def beside_others(use: Use) -> None:

@@ -320,8 +320,8 @@ def losses(setup: bytes, forecast: bytes) -> dict[str, int]:
 
 
 LANES = (
-    "const box = at('lanes-stores'), press2 = key => box.dispatchEvent(new KeyboardEvent('keydown', { key, bubbles: true, "
-    "cancelable: true })); "
+    "const box = at('lanes-stores'), press2 = key => box.dispatchEvent(new KeyboardEvent('keydown', { key, "
+    "bubbles: true, cancelable: true })); "
 )
 
 
