@@ -135,7 +135,8 @@ export function addPass(form) {
   say("");
   const remarks = remarksOn(session)[session.passes.indexOf(made)].map(it => ` It ${it}.`).join("");
   const { unit, volume } = amountsOf(session);
-  return note(`The pass has ${volume(LINK, sumOf(made))} ${unit} in ${steps} ${steps === 1 ? "step" : "steps"}.${remarks}`);
+  const all = `${volume(LINK, sumOf(made))} ${unit}`;
+  return note(`The pass has ${all} in ${steps} ${steps === 1 ? "step" : "steps"}.${remarks}`);
 }
 
 // Moves a pass, or its begin or its end, by so much: from where it is now, or from where it was before it was moved.

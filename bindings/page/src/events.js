@@ -1,8 +1,8 @@
 // Which event does what.
 import { addPass, ask, cancelPass, changeCell, changeClock, changePacket, changeText, closeSession, compareWith,
-  dropVariant, forgetKept, goToStep, keepVariant, makeRoom, movePass, moveStore, openExample, openKept, openVariant, paste,
-  planAnew, planRest, print, save, take, takeDropped, takesBack, toggleShade } from "./changes.js";
-import { at, endTyping, focused, notice } from "./dom.js";
+  dropVariant, forgetKept, goToStep, keepVariant, makeRoom, movePass, moveStore, openExample, openKept, openVariant,
+  paste, planAnew, planRest, print, save, take, takeDropped, takesBack, toggleShade } from "./changes.js";
+import { at, endTyping, notice } from "./dom.js";
 import { listenToLanes } from "./lanes.js";
 import { history, keeper, note, showAgain, showInputsSoon } from "./main.js";
 import { layPassLanes } from "./passlanes.js";
@@ -108,7 +108,8 @@ function listenToRanges() {
   document.addEventListener("pointermove", event => {
     const isHeld = from && event.buttons === 1 && event.pointerType === "mouse";
     // Firefox tells of the cell where it was pressed alone.
-    const over = isHeld ? document.elementFromPoint(event.clientX, event.clientY) : null, to = over && placeInGrid(over);
+    const over = isHeld ? document.elementFromPoint(event.clientX, event.clientY) : null,
+      to = over && placeInGrid(over);
     if (to) tellRange(choose(from, to));
   });
   document.addEventListener("pointerup", () => { from = null; });
@@ -148,7 +149,10 @@ const CLICKS = {
 
 export function listenToAll() {
   document.addEventListener("input", takeInput);
-  document.addEventListener("focusin", () => focused().closest("#grid") && focused().dataset.cell && hold(focused()));
+  document.addEventListener("focusin", event => {
+    const it = /** @type {Input} */ (event.target);
+    if (it.closest("#grid") && it.dataset.cell) hold(it);
+  });
   document.addEventListener("focusout", takeFocusOut);
   document.addEventListener("pointerdown", () => { isPressed = true; });
   for (const name of ["pointerup", "pointercancel"]) document.addEventListener(name, () => {

@@ -3,7 +3,7 @@
 // time where it is zoomed, and it tells the values of a step.
 import { LINK, amountsOf } from "./amounts.js";
 import { beginOf, edgesOf, hasClock } from "./clock.js";
-import { at, make } from "./dom.js";
+import { at, find, make } from "./dom.js";
 import { DAY, HOUR, MINUTE, shown, shownSpan } from "./moments.js";
 import { listenToPasses, printedStations, showPassLanes } from "./passlanes.js";
 import { sentBy } from "./passtable.js";
@@ -147,7 +147,8 @@ const lanesBelow = (records, scale) => [windowLane(records, scale),
  */
 export function printedLanes(session, answer) {
   if (drawn?.session !== session) showLanes(session, answer);
-  const { whole, edges, records } = drawn, scale = scaleOf(whole, edges), made = make("div", "", { className: "lanes" });
+  const { whole, edges, records } = drawn, scale = scaleOf(whole, edges),
+    made = make("div", "", { className: "lanes" });
   made.append(axis(session, scale), ...printedStations(session, drawn, whole), ...lanesBelow(records, scale));
   return made;
 }
@@ -209,9 +210,9 @@ function valuesOf(step) {
     stores = [...row.of].filter(([, it]) => it.held || it.dumped || it.lost).map(storeWords);
   const all = what => total([...row.of].map(([id, it]) => [id, it[what]]));
   const lost = row.lost ? `${all("lost")} lost` : "nothing lost", window = rate(LINK, row.window, step);
-  const inUnit = session.isInBlocks ? "" : ` Volumes are in ${unit}.`;
-  return `${nameOfStep(step)}: window ${window}${session.isInBlocks ? "" : ` ${flow}`}, ${all("dumped")} sent, ${lost}. ${
-    stores.join("; ")}${inUnit && `.${inUnit}`}`;
+  const [ofFlow, inUnit] = session.isInBlocks ? ["", ""] : [` ${flow}`, `. Volumes are in ${unit}.`];
+  const sum = `window ${window}${ofFlow}, ${all("dumped")} sent, ${lost}`;
+  return `${nameOfStep(step)}: ${sum}. ${stores.join("; ")}${inUnit}`;
 }
 
 // What is so of one store in a step, in words, with the observations that it has then.
@@ -232,8 +233,8 @@ const middleOf = step => (drawn.edges[step - 1] + drawn.edges[step]) / 2;
 // Marks a step, and tells its values, or those of one store in it.
 function markStep(step, id = "") {
   held = step;
-  const box = at("lanes"), line = at("lanes-line"), words = valuesOf(step), lane = /** @type {HTMLElement} */ (box.querySelector(".lane-box")),
-    part = fractionAt(middleOf(step));
+  const line = at("lanes-line"), words = valuesOf(step), part = fractionAt(middleOf(step)),
+    lane = find("#lanes .lane-box");
   line.hidden = part < 0 || part > 1;
   line.style.left = `${lane.offsetLeft + lane.offsetWidth * part}px`;
   at("lanes-stores").setAttribute("aria-valuenow", String(step));

@@ -104,7 +104,7 @@ function showClock(session) {
   write(at("packet-fault"), session.badPacket === null ? "" : "A packet has 1 to 1,024 octets.", "fault");
   at("clock-fault").textContent = isBad
     ? "A time is written as 2026-11-27 06:00, or with seconds, a zone, or the day of the year." : isLong
-    ? "A step has a number of minutes, up to 527,040." : "";
+    ? "A step has at most 527,040 minutes, as a number." : "";
   document.body.classList.toggle("timeless", !hasClock(session));
 }
 

@@ -253,17 +253,19 @@ export function nameFor(station, passes) {
 
 // ---- What is said of a pass
 
-const TIMES = "A time is written as 2026-11-27 19:30, in UTC; also as 2026-331T19:30:00Z, with the day of the year.";
+const TIMES = "it is written as 2026-11-27 19:30, in UTC, or as 2026-331T19:30:00Z, with the day of the year.";
 const UNITLESS = /^[\d.]+$/;
 
 // What is wrong with a pass that is typed among these, or null.
 export function faultOf(session, pass, passes) {
   const { from, to, rate, station } = pass, mission = missionOf(session),
     stations = mission?.stations.map(it => it.name) ?? [];
-  if (from === null || to === null) return TIMES;
+  if (from === null || to === null)
+    return `The time of the ${from === null ? "begin" : "end"} cannot be read: ${TIMES}`;
   if (to <= from) return "The pass ends before it begins.";
   if (stations.length && !stations.includes(station)) return `The mission has the stations ${stations.join(", ")}.`;
-  if (!rate && !mission?.stations.some(it => it.name === station && it.rate)) return "Say a rate.";
+  if (!rate && !mission?.stations.some(it => it.name === station && it.rate))
+    return "The pass needs a rate: its station has none.";
   try {
     if (rate) rateOf(rate, "rate");
   } catch (fault) {
@@ -318,7 +320,7 @@ export function passWith(session, nth, what, text) {
 
 // ---- Passes that are moved
 
-const clamped = (it, least, most) => Math.max(least, Math.min(most, it));
+export const clamped = (it, least, most) => Math.max(least, Math.min(most, it));
 const edgesOrSteps = (session, count) => edgesOf(session, count) ?? Array.from({ length: count + 1 }, (_, nth) => nth);
 
 // Whether a pass can be moved: all of it can be read, and it has times on a clock, or steps that no mission counts.

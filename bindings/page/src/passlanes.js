@@ -109,7 +109,8 @@ function tell(element, session, nth, what, value) {
 
 // The handles stand at the pass that is heldPass.
 function layHandles(session) {
-  const pass = session.passes[heldPass], place = pass && bodies.get(heldPass)?.isConnected ? placeInChart(session, chart, pass) : null;
+  const pass = session.passes[heldPass], isLaid = pass && bodies.get(heldPass)?.isConnected,
+    place = isLaid ? placeInChart(session, chart, pass) : null;
   for (const [part, word] of Object.entries(HANDLED)) {
     const made = handles.get(part) ?? make("span", "", { className: `edge ${part}`, role: "slider", tabIndex: 0 });
     handles.set(part, made);
@@ -285,8 +286,8 @@ function pressPass(event, grasped, session, moves) {
 }
 
 // Listens to the passes in the chart. `moves` is called with what is moved, by how much, and whether that is counted
-// from where it is now, or from where it was at first, and answers why it goes no further; `ends` is called where a
-// drag has ended, `takesBack` with the session before it where it is taken back, and `tells` with words of a pass.
+// from where it is now, or from where it was at first, and answers why it goes no further; `ends` is called before a
+// drag and after it, `takesBack` with the session before it where it is taken back, and `tells` with words of a pass.
 /**
  * @param {HTMLElement} box
  * @param {() => Session} now
@@ -301,28 +302,37 @@ export function listenToPasses(box, now, { moves, ends, takesBack, tells }) {
   };
   const follow = () => {
     frame = 0;
-    // What is dragged may be undone, or another session opened, meanwhile.
-    if (drag?.isMoving && now().passes[drag.nth] === laidOf[drag.nth]) moved(drag, ((drag.x - drag.from) / drag.width) * (drag.to - drag.since), false);
+    if (!drag?.isMoving) return;
+    // A drag ends where something else is done meanwhile.
+    if (now() !== (drag.last ?? drag.base)) {
+      drag = null;
+      return;
+    }
+    moved(drag, ((drag.x - drag.from) / drag.width) * (drag.to - drag.since), false);
+    drag.last = now();
   };
   box.addEventListener("pointerdown", event => {
     const grasped = graspedIn(event.target, now());
     wasDragged = false;
     if (!grasped || event.button) return;
     event.preventDefault();
+    // What was moved by keys before is undone by itself.
+    ends();
     holdPass(now(), grasped.nth);
     const part = partAt(event, grasped), { width } = bodies.get(grasped.nth).parentElement.getBoundingClientRect(),
       { from: since, to } = scale.view;
     (part.part === "all" ? bodies.get(part.nth) : handles.get(part.part)).focus({ preventScroll: true });
-    drag = { ...part, from: event.clientX, x: event.clientX, width, since, to, isMoving: false, base: now() };
+    drag = { ...part, from: event.clientX, x: event.clientX, width, since, to, isMoving: false, base: now(),
+      last: null };
   });
   // Wherever the focus is, Escape takes a drag back.
   document.addEventListener("keydown", event => {
     if (!drag || event.key !== "Escape") return;
-    const { base } = drag;
+    const { base, last } = drag;
     drag = null;
     event.preventDefault();
     event.stopPropagation();
-    takesBack(base);
+    if (now() === last) takesBack(base);
   }, true);
   document.addEventListener("pointermove", event => {
     if (!drag) return;
@@ -339,7 +349,10 @@ export function listenToPasses(box, now, { moves, ends, takesBack, tells }) {
     ends();
   };
   document.addEventListener("pointerup", end);
-  document.addEventListener("pointercancel", () => { drag = null; });
+  document.addEventListener("pointercancel", () => {
+    drag = null;
+    ends();
+  });
   const show = ({ target }) => {
     const found = graspedIn(target, now());
     if (!found || drag) return;

@@ -3,6 +3,7 @@ import { amountsOf } from "./amounts.js";
 import { beginOf } from "./clock.js";
 import { at, cellWith, fill, giveRoles, head, input, make, mark, number, row, write } from "./dom.js";
 import { shown } from "./moments.js";
+import { clamped } from "./passes.js";
 import { forecastOf, isSize, storeOfSize } from "./texts.js";
 import { worthSentence } from "./words.js";
 import { worthOf } from "./worth.js";
@@ -205,9 +206,8 @@ export function stretchBy(key) {
   const moves = { ArrowUp: [-1, 0], ArrowDown: [1, 0], ArrowLeft: [0, -1], ArrowRight: [0, 1], PageUp: [-12, 0],
     PageDown: [12, 0], Home: [-Infinity, 0], End: [Infinity, 0] };
   const from = range?.from ?? heldCell, last = range?.to ?? heldCell, move = moves[key];
-  const within = (it, least, most) => Math.max(least, Math.min(most, it));
-  return move ? choose(from, { row: within(last.row + move[0], 0, lines.length - 1),
-    column: within(last.column + move[1], 1, names.length - 1) }) : null;
+  return move ? choose(from, { row: clamped(last.row + move[0], 0, lines.length - 1),
+    column: clamped(last.column + move[1], 1, names.length - 1) }) : null;
 }
 
 export const hasRange = () => range !== null;

@@ -156,7 +156,7 @@ interface Grasped {
 /** Moves a pass by so much, from where it is now or was at first; answers why it does not go there, or nothing. */
 type Moves = (grasped: Grasped, by: number, isFromNow: boolean) => string;
 
-/** What is done where a pass is moved, where a drag has ended, and where it is taken back to the session before it. */
+/** What is done where a pass is moved, before and after a drag, and where it is taken back to the session before it. */
 interface Drags {
   moves: Moves;
   ends(): void;

@@ -55,7 +55,8 @@ export function showVariants(session, answer) {
   if (!variants.length || !answer.records) return;
   const now = variantOf(session, answer, "now"), ids = now.stores.map(it => it[0]), { isInBlocks } = session;
   const told = variants.map(({ session: _, ...it }) => it);
-  const form = JSON.stringify([told, session.reference, now.loss, now.stores, now.sent, isInBlocks]), table = at("variants");
+  const form = JSON.stringify([told, session.reference, now.loss, now.stores, now.sent, isInBlocks]),
+    table = at("variants");
   const isSame = form === laidVariants;
   // What is typed differs from what is laid.
   laidVariants = isTypedIn(table) ? "" : form;

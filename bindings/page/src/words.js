@@ -88,6 +88,7 @@ export function worthSentence(worth) {
 // How a loss differs from that of the reference, as numbers that are shown so, of blocks or of another unit.
 export function difference(loss, reference, shownSum, isInBlocks) {
   const more = loss - reference, [fewer, many] = isInBlocks ? ["fewer", "many"] : ["less", "much"];
-  const how = more > 0 ? `${shownSum(more)} more than` : more < 0 ? `${shownSum(-more)} ${fewer} than` : `as ${many} as`;
+  const how = more > 0 ? `${shownSum(more)} more than` : more < 0 ? `${shownSum(-more)} ${fewer} than`
+    : `as ${many} as`;
   return { words: `${how} the reference, ${shownSum(reference)}`, sign: Math.sign(more) };
 }

@@ -85,18 +85,16 @@ def dragged(use: Use) -> None:
         start(use, "mars_week")
         use.do("for (let nth = 0; nth < 2; nth++) press('closer'); await wait(60);")
         at = place(use, 0)
-        visible = use.do("const [from, to] = at('lanes').dataset.steps.split(' ').map(Number); return [from, to];")
         offset = {"middle": 0, "left": 2, "right": -2}[point]
-        micros = use.do("const { edges } = rudlayog.state, lane = cell('pass 0 all'); return (rudlayog.state.passes[0].to"
-            " - rudlayog.state.passes[0].from) / lane.getBoundingClientRect().width;")
+        micros = use.do("const [{ from, to }] = rudlayog.state.passes; return (to - from) / cell('pass 0 all')"
+            ".getBoundingClientRect().width;")
         drag(use, [at[point][0] + offset, at[point][1]], -20 if point == "right" else 20)
         now = spans(use)
         by = [now[0][end] - first[0][end] for end in (0, 1)]
         wanted = (-20 if point == "right" else 20) * micros
-        use.expect(f"{what}: moved by as much", all(abs(by[end] - wanted) < 3 * micros for end in ends), by, wanted,
-            visible)
-        use.expect(f"{what}: nothing else", all(by[end] == 0 for end in (0, 1) if end not in ends) and now[1:] == first[1:],
-            by)
+        use.expect(f"{what}: moved by as much", all(abs(by[end] - wanted) < 3 * micros for end in ends), by, wanted)
+        use.expect(f"{what}: nothing else", all(by[end] == 0 for end in (0, 1) if end not in ends)
+            and now[1:] == first[1:], by)
         use.expect(f"{what}: one length", what != "all" or by[0] == by[1], by)
         as_typed(use, what, 0)
         use.do("press('undo'); await settle();")
@@ -111,6 +109,18 @@ def dragged(use: Use) -> None:
     use.browser.point("Moved", at["middle"][0] + 60, at["middle"][1])
     use.browser.point("Released", at["middle"][0] + 60, at["middle"][1])
     use.do("await settle();")
+    use.do("cell('pass 0 all').focus();")
+    key(use, "ArrowRight")
+    pushed = spans(use)
+    drag(use, place(use, 0)["middle"], 25, drops=False)
+    use.do("await wait(30);")
+    moved = spans(use)[0][0] - pushed[0][0]
+    use.expect("a drag begins where keys have moved the pass", abs(moved / micros - 25) < 3,
+        moved / micros)
+    key(use, "Escape")
+    use.browser.point("Released", *at["middle"])
+    use.expect("Escape takes back the drag alone", spans(use) == pushed, spans(use)[:1], pushed[:1])
+    use.do("press('undo'); await settle();")
     use.expect("Escape takes a drag back", spans(use) == first and use.state()["forecast"] == forecast, spans(use)[:2])
 
 
@@ -139,8 +149,8 @@ def by_keys(use: Use) -> None:
     use.expect("keys: the next pass", use.do("return document.activeElement.dataset.cell;") == "pass 1 all")
     said = use.do("return [document.activeElement.getAttribute('aria-label'), "
         "document.activeElement.getAttribute('aria-valuetext'), at('told').textContent];")
-    use.expect("a pass is told", said[0] == "pass 2, Malargue" and said[1] == said[2]
-        and said[1].startswith("Pass 2, Malargue, 03 Mar 14:25 to 20:25 UTC: 291.6 MB at most, 108 kbit/s; 291.6 sent: "),
+    words = "Pass 2, Malargue, 03 Mar 14:25 to 20:25 UTC: 291.6 MB at most, 108 kbit/s; 291.6 sent: "
+    use.expect("a pass is told", said[0] == "pass 2, Malargue" and said[1] == said[2] and said[1].startswith(words),
         said)
 
 
@@ -151,13 +161,14 @@ def beside_others(use: Use) -> None:
     use.do("cell('pass 0 end').focus();")
     for _ in range(9):
         key(use, "PageUp")
-    use.expect("an end stops at the next pass", spans(use)[:2] == [(first[0][0], first[1][0]), first[1]], spans(use)[:3])
+    use.expect("an end stops at the next pass", spans(use)[:2] == [(first[0][0], first[1][0]), first[1]],
+        spans(use)[:3])
     use.do("press('undo'); await settle();")
     use.expect("as it was", spans(use) == first)
     at = place(use, 0)
     drag(use, at["middle"], 17.5 * 60 * MINUTE / at["micros"])
     now = spans(use)
-    use.expect("a pass that is moved past another comes after it in the table", now[0] == first[1] and now[2] == first[2]
+    use.expect("a pass that is moved past another comes after it", now[0] == first[1] and now[2] == first[2]
         and first[1][1] < now[1][0] < now[1][1] < first[2][0], now[:3])
     use.expect("the focus goes with it", use.do("return document.activeElement.dataset.cell;") == "pass 1 all",
         use.do("return document.activeElement.dataset.cell;"))
@@ -191,8 +202,7 @@ def with_steps_alone(use: Use, setup: bytes, forecast: bytes) -> None:
 
 
 def typed_first(use: Use) -> None:
-    """A pass of which something cannot be read stays where it is, with what was typed; and so does a mission's pass that
-    was typed as a window."""
+    """A pass of which something cannot be read stays where it is, with what was typed."""
     start(use, "mars_week")
     first = spans(use)
     use.type("pass 0 rate", "fast")

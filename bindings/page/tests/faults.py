@@ -226,8 +226,8 @@ def times(use: Use) -> None:
     use.expect("an overlap stays said", bool(remarks) and "overlaps pass 3, Kiruna" in remarks[0], remarks)
     note, fault = add(use, station="Redu", **{"from": "2026-11-27 01:00", "to": "2026-11-27 06:30"})
     use.expect("a cut is said", "begins before step 1, and is cut there" in note, note, fault)
-    for to, said in (("2026-11-29 25:00", "A time is written"), ("2026-11-29 09:00", "ends before it begins"),
-        ("2026-11-31 10:00", "A time is written")):
+    for to, said in (("2026-11-29 25:00", "time of the end cannot be read"),
+        ("2026-11-29 09:00", "ends before it begins"), ("2026-11-31 10:00", "time of the end cannot be read")):
         note, fault = add(use, station="Redu", **{"from": "2026-11-29 10:00", "to": to})
         use.expect(f"a pass to {to}", said in fault, fault)
     clock(use, "2026-11-27 06:00:30")

@@ -162,8 +162,8 @@ class Use:
         self.expect(f"{what}: what the first stores lose", shown == [*firsts, whole] == list(accumulate(lost)), shown,
             firsts, lost)
         begins = [f"{store[0]} loses {store[8]}" for store in said["stores"] if plain(store[8])]
-        self.expect(f"{what}: why stores lose", [it.split(", ")[0] for it in said["losses"]] == begins, said["losses"],
-            begins)
+        self.expect(f"{what}: why stores lose", [re.split(", |: ", it)[0] for it in said["losses"]] == begins,
+            said["losses"], begins)
 
 
 def edits(use: Use, setup: bytes, forecast: bytes) -> None:

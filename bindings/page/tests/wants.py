@@ -237,7 +237,8 @@ def copied(use: Use, setup: bytes, forecast: bytes) -> None:
     use.planned("a range that was copied is pasted", setup, other)
     use.do("press('undo'); press('in-units'); await settle(); const one = cell('89 1'); one.focus(); one.select();")
     kbits = use.do(SHIFT.replace("KEYS", "['ArrowDown', 'ArrowDown', 'ArrowRight', 'ArrowRight']") + COPY)[1]
-    use.expect("a range in kbit/s has no commas", "," not in kbits and kbits != wanted and kbits.count("\t") == 6, kbits)
+    use.expect("a range in kbit/s has no commas", "," not in kbits and kbits != wanted and kbits.count("\t") == 6,
+        kbits)
     use.do(PASTE.replace("CELL", "'89 1'").replace("DATA", json.dumps(kbits)) + "await settle();")
     note = use.do("return at('note').textContent;")
     use.expect("what was copied changes nothing where it is pasted again", use.state()["forecast"] == forecast
@@ -319,8 +320,8 @@ def losses(setup: bytes, forecast: bytes) -> dict[str, int]:
 
 
 LANES = (
-    "const box = at('lanes-stores'), press2 = key => box.dispatchEvent(new KeyboardEvent('keydown', { key, bubbles: true, "
-    "cancelable: true })); "
+    "const box = at('lanes-stores'), press2 = key => box.dispatchEvent(new KeyboardEvent('keydown', { key, "
+    "bubbles: true, cancelable: true })); "
 )
 
 
