@@ -1,12 +1,11 @@
 -- Passes that are served until one time after another.
 use Rattle.std.proofs.Common.{◌≡◌, ℕ, ◌<◌, ◌≤◌, List, [], ◌∷◌, ◌++◌, length, inl, inr, arith}
-use Rattle.std.specs.Prelude.{All, AllPairs, Contains}
 use Rattle.std.proofs.lemmas.Bool.{cases_lt}
 use Rattle.std.proofs.lemmas.List.Elements.{All-push, Contains-push, Contains-append_left}
 use Rattle.std.proofs.lemmas.List.Quantifiers.{all_pairs_push}
 use Rattle.mm_links.specs.declared.better.Offer.{Offer}
 use Rattle.mm_links.specs.declared.better.Part.{Part}
-use Rattle.mm_links.specs.Used.{offer, IsThere, IsBest, IsPart, EndsBefore, IsServed, IsQuiet, AreQuiet, AreUsedUntil}
+use Rattle.mm_links.specs.Used.{offer, IsThere, IsBest, IsPart, EndsBefore, IsQuiet, AreQuiet, AreUsedUntil}
 
 -- what is there later in a quiet time was there at its begin
 there_before : (o : Offer) (time next moment : ℕ) → IsQuiet time next o → time ≤ moment → moment < next

@@ -1,5 +1,6 @@
 -- Passes that one transmitter serves. Passes count from 0.
-use Rattle.std.specs.Prelude.{◌≡◌, ℕ, ◌<◌, ◌≤◌, ◌⊎◌, List, length, slice_index_or, Option, Some, None, All, AllPairs, Contains}
+use Rattle.std.specs.Prelude.{ℕ, ◌<◌, ◌≤◌, List, length, slice_index_or, Option, Some, None, All, AllPairs}
+use Rattle.std.specs.Prelude.{Contains}
 use Rattle.mm_links.specs.declared.better.Offer.{Offer}
 use Rattle.mm_links.specs.declared.better.Part.{Part}
 use Rattle.mm_links.specs.declared.limits.TheConstants.{LAST}

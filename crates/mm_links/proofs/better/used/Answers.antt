@@ -15,7 +15,8 @@ loop-time-preserved-in_ok-push-in-Some c =
 pub loop-time-preserved : goal.loop-time-preserved
 loop-time-preserved c =
     none_served c.args.offers.now c.loop-time.time c.next_edge-time.result c.loop-time.parts.items
-    (omega (arith, c.next_edge-time.ensures.after)) c.next_edge-time.ensures.quiet c.in-None.ensures c.loop-time.invariant
+    (omega (arith, c.next_edge-time.ensures.after)) c.next_edge-time.ensures.quiet c.in-None.ensures
+    c.loop-time.invariant
 
 pub returns : goal.returns
 returns c =
