@@ -1,5 +1,5 @@
-//! Rooms of small cases, and all amounts that keep them. The numbers are of a program that tries all that links can send,
-//! and goes over no sets of channels.
+//! Rooms of small cases, and all amounts that keep them. The numbers are of a program that tries all that links can
+//! send, and goes over no sets of channels.
 ghost use Rattle.std.specs.Prelude.{◌≤◌, length};
 
 use crate::{Link, MAX_LINKS, Offer, Part, Rooms, rooms, share, used};
