@@ -1,5 +1,6 @@
 -- What is sent has come.
-use Rattle.std.proofs.Common.{◌≡◌, ℕ, zero, suc, ◌+◌, ◌-◌, ◌*◌, ◌<◌, ◌≤◌, Bool, true, nat_le, nat_lt, ◌&&◌, List, [], ◌∷◌}
+use Rattle.std.proofs.Common.{◌≡◌, ℕ, zero, suc, ◌+◌, ◌-◌, ◌*◌, ◌<◌, ◌≤◌, Bool, true, nat_le, nat_lt, ◌&&◌, List, []}
+use Rattle.std.proofs.Common.{◌∷◌}
 use Rattle.std.proofs.Common.{length, get_or, ap, ◌∙◌, inl, inr, arith}
 use Rattle.std.specs.Prelude.{All, Contains, filter, slice_index, ◌⊎◌}
 use Rattle.std.specs.List.{sum_by, list_any}
@@ -13,7 +14,8 @@ use Rattle.mm_problem.specs.Dumping.{Dumping, start}
 use Rattle.mm_mission.specs.declared.counter.Counter.TheVariants.{Come, Packets}
 use Rattle.mm_mission.specs.declared.parts.Observation.{Observation}
 use Rattle.mm_mission.specs.Mission.{MissionRows, store_at, IsMission}
-use Rattle.mm_mission.specs.Flows.{packet_octets, unit_octets, elapsed, come_by, into, is_into, come_octets, come_divisor}
+use Rattle.mm_mission.specs.Flows.{packet_octets, unit_octets, elapsed, come_by, into, is_into, come_octets}
+use Rattle.mm_mission.specs.Flows.{come_divisor}
 use Rattle.mm_mission.specs.Flows.{counted}
 use Rattle.mm_mission.specs.Edges.{pass_ends, observation_ends, is_in, is_inside, AreEdges}
 use Rattle.mm_mission.specs.Planned.{IsProblemOf}
@@ -188,7 +190,8 @@ module _ (m : MissionRows) (edges : List ℕ) (h : IsMission m) (are : AreEdges 
         let far = rises_by edges are.times.rising (t - 1) 1 (omega arith) in
         let long : a < b = omega (arith, rw next at far) in
         let even = all_come_even m edges h are t first last lies time sent.begin sent.end long s in
-        let less = between (come a) (come b) (come time) (come_octets m s a) (come_octets m s b) (come_octets m s time) d
+        let less = between (come a) (come b) (come time) (come_octets m s a) (come_octets m s b) (come_octets m s time)
+        d
         p w (omega (arith, sent.begin, sent.end)) (up a).most (up b).most even (up time).least in
         let low : before ≤ held + come a = there (t - 1) (omega arith) in
         let sum = rw next at (sum_by_range_more (y s) 1 (t - 1) t (omega arith)) in

@@ -1,5 +1,6 @@
 -- What a problem of a mission has in each step.
-use Rattle.std.proofs.Common.{◌≡◌, ℕ, zero, suc, ◌+◌, ◌-◌, ◌*◌, ◌<◌, ◌≤◌, Bool, true, false, nat_lt, ◌==◌, List, [], ◌∷◌}
+use Rattle.std.proofs.Common.{◌≡◌, ℕ, zero, suc, ◌+◌, ◌-◌, ◌*◌, ◌<◌, ◌≤◌, Bool, true, false, nat_lt, ◌==◌, List, []}
+use Rattle.std.proofs.Common.{◌∷◌}
 use Rattle.std.proofs.Common.{length, get_or, Some, None, refl, ap, ◌∙◌, inl, inr, arith}
 use Rattle.std.specs.Prelude.{map, slice_index_or, if◌then◌else◌}
 use Rattle.std.specs.List.{flat_map, range_with_len, list_any, position_or_len}
@@ -45,7 +46,8 @@ cell_at m counters edges t j k c first last within there at =
     let same : 1 + (t - 1) ≡ t = omega arith in
     let step : Counter → ℕ = λ e. growth (counted m e) edges t in
     table_at (growths m counters edges) (length counters)
-    (λ u. length-map counters (λ e. growth (counted m e) edges u)) 1 (length edges - 1) (t - 1) j k 0 (omega arith) within
+    (λ u. length-map counters (λ e. growth (counted m e) edges u)) 1 (length edges - 1) (t - 1) j k 0 (omega arith)
+    within
     at
     ∙ ap (λ u. get_or (growths m counters edges u) j 0) same ∙ get_or-map step counters j c 0 within ∙ ap step there
 
@@ -73,14 +75,16 @@ limit_alone q c t none below =
     let many : length (limits_of []) ≡ CHANNELS = length-map-range_with_len (limit_of []) 0 CHANNELS in
     let within : c < length (limits_of []) = omega (arith, many) in
     let test : nat_lt c (length (limits_of [])) ≡ true = grind (arith, nat_tests) in
-    let missing : slice_index_or (limits_of []) c None ≡ None = get_or-map-range_with_len (limit_of []) 0 CHANNELS c c None below (omega arith) in
+    let missing : slice_index_or (limits_of []) c None ≡ None =
+    get_or-map-range_with_len (limit_of []) 0 CHANNELS c c None below (omega arith) in
     rw (none, test, missing) refl
 
 module _ (m : MissionRows) (edges : List ℕ) (q : Dumping) (t : ℕ) (h : IsProblemOf m edges q) (first : 1 ≤ t)
     (last : t < length edges)
   where
     window_grows : window q t ≡ growth (counted m (Sent None)) edges t
-    window_grows = rw h.windows (cell_at m (Sent None ∷ []) edges t 0 (t - 1) (Sent None) first last (omega arith) refl (omega arith))
+    window_grows = rw h.windows (cell_at m (Sent None ∷ []) edges t 0 (t - 1) (Sent None) first last (omega arith) refl
+        (omega arith))
 
     arrivals_grow : (s : ℕ) → s < length m.stores → arrivals q s t ≡ growth (counted m (Come s)) edges t
     arrivals_grow s below =

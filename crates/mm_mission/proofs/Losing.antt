@@ -1,5 +1,6 @@
 -- What a plan loses in packets.
-use Rattle.std.proofs.Common.{◌≡◌, ℕ, zero, suc, ◌+◌, ◌-◌, ◌*◌, ◌/◌, ◌<◌, ◌≤◌, List, true, false, cond, nat_lt, min, length}
+use Rattle.std.proofs.Common.{◌≡◌, ℕ, zero, suc, ◌+◌, ◌-◌, ◌*◌, ◌/◌, ◌<◌, ◌≤◌, List, true, false, cond, nat_lt, min}
+use Rattle.std.proofs.Common.{length}
 use Rattle.std.proofs.Common.{ap, ◌∙◌, inl, inr, arith}
 use Rattle.std.specs.Prelude.{slice_index}
 use Rattle.std.specs.Int.{div_ceil}
@@ -196,7 +197,8 @@ module _ (m : MissionRows) (s : ℕ) (h : IsMission m) (below : s < length m.sto
       unfolding held left
       kept zero last =
           let first : start q s ≡ start_in store = ap (λ (r : StoreRow). r.start) row_is in
-          let none : counted m (Come s) (slice_index edges 0) ≡ 0 = ap (counted m (Come s)) times.first ∙ no_units m s in
+          let none : counted m (Come s) (slice_index edges 0) ≡ 0 =
+          ap (counted m (Come s)) times.first ∙ no_units m s in
           rw (first, none) (omega arith)
       kept (suc n) last =
           let u = store.unit in
@@ -219,7 +221,8 @@ module _ (m : MissionRows) (s : ℕ) (h : IsMission m) (below : s < length m.sto
           (u * left q x s n) (u * arrivals q s (suc n)) (units * u) (u * stays) (u * size_in store)
           (u * left q x s (suc n)) (u * lost q x s (suc n)) room (come_next n last) before stay hold lose in
           let lost_is = ap (λ (e : PacketStep). e.lost) (step_at m edges x s n) in
-          let late_is = ap (λ (e : PacketStep). cond (nat_lt e.dumped (units * u)) (not_come m edges s (suc n) - u * left q x s (suc n)) 0) (step_at m edges x s n) in
+          let late_is = ap (λ (e : PacketStep). cond (nat_lt e.dumped (units * u))
+          (not_come m edges s (suc n) - u * left q x s (suc n)) 0) (step_at m edges x s n) in
           let one : n + 1 ≡ suc n = omega arith in
           let more_lost = rw one at (sum_by_range_more (lost_in m edges x s) 1 n (suc n) (omega arith)) in
           let more_late = rw one at (sum_by_range_more (late m edges q x s) 1 n (suc n) (omega arith)) in

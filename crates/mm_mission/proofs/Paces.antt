@@ -1,5 +1,6 @@
 -- Paces at which units flow.
-use Rattle.std.proofs.Common.{◌≡◌, ℕ, zero, suc, ◌+◌, ◌*◌, ◌/◌, ◌<◌, ◌≤◌, min, List, [], ◌∷◌, get_or, Option, Some, None}
+use Rattle.std.proofs.Common.{◌≡◌, ℕ, zero, suc, ◌+◌, ◌*◌, ◌/◌, ◌<◌, ◌≤◌, min, List, [], ◌∷◌, get_or, Option, Some}
+use Rattle.std.proofs.Common.{None}
 use Rattle.std.proofs.Common.{refl, subst, ap, inl, inr, true, false, ◌==◌, arith}
 use Rattle.std.specs.Prelude.{IsTrue, IfSome, nat_lt, option_map, ◌⊎◌}
 use Rattle.std.specs.List.{list_all}
@@ -58,7 +59,8 @@ module _ (f g : Pace) (some : 0 < f.divisor) (other : 0 < g.divisor) (slow : IsN
   unfolding whole_units
   whole_less time =
       let n = f.octets * time / f.divisor in
-      let most = mul-le (n * f.divisor) g.divisor (f.octets * time) g.divisor (div_most f.divisor some (f.octets * time)) (omega arith) in
+      let most = mul-le (n * f.divisor) g.divisor (f.octets * time) g.divisor
+      (div_most f.divisor some (f.octets * time)) (omega arith) in
       let scaled = mul-le (f.octets * g.divisor) time (g.octets * f.divisor) time slow (omega arith) in
       le-div n (g.octets * time) g.divisor other (elim (cases_lt (g.octets * time) (n * g.divisor)) [
         | inr within ↦ within
@@ -82,7 +84,8 @@ module _ (f g : Pace) (some : 0 < f.divisor) (other : 0 < g.divisor) (slow : IsN
             arith,
             scaled,
             other,
-            mul-le (units * f.divisor + 1) g.divisor (f.octets * time + f.divisor) g.divisor (omega (arith, kept.less)) (omega arith),
+            mul-le (units * f.divisor + 1) g.divisor (f.octets * time + f.divisor) g.divisor (omega (arith, kept.less))
+                (omega arith),
             mul-le (g.octets * time + g.divisor) f.divisor (units * g.divisor) f.divisor above (omega arith),
           ))
         ];

@@ -1,5 +1,6 @@
 -- Dumps and passes.
-use Rattle.std.proofs.Common.{◌≡◌, ℕ, ◌+◌, ◌-◌, ◌*◌, ◌<◌, ◌≤◌, Bool, true, false, nat_le, ◌&&◌, List, length, get_or, None, refl}
+use Rattle.std.proofs.Common.{◌≡◌, ℕ, ◌+◌, ◌-◌, ◌*◌, ◌<◌, ◌≤◌, Bool, true, false, nat_le, ◌&&◌, List, length, get_or}
+use Rattle.std.proofs.Common.{None, refl}
 use Rattle.std.proofs.Common.{sym, ap, ◌∙◌, inl, inr, arith, zero, suc, [], ◌∷◌}
 use Rattle.std.specs.Prelude.{All, Contains, IsTrue, filter, slice_index, ◌⊎◌}
 use Rattle.std.proofs.lemmas.List.{get_or_default}
@@ -111,7 +112,8 @@ pub some_sent : (m : MissionRows) (edges : List ℕ) (x : ℕ → ℕ → ℕ) (
 some_sent m edges x s t some = elim (cases_lt 0 (x s t)) [
   | inl units ↦ units
   | inr none ↦
-      let zero : x s t * (store_at m s).unit ≡ 0 = ap (λ k. k * (store_at m s).unit) (none_is (x s t) none) ∙ omega arith in
+      let zero : x s t * (store_at m s).unit ≡ 0 =
+      ap (λ k. k * (store_at m s).unit) (none_is (x s t) none) ∙ omega arith in
       absurd (omega (arith, some, zero))
 ]
   where
@@ -135,9 +137,11 @@ dumps_lie_in_passes m edges q x packets dumps h are of within sent line = λ k e
           let next : i + 1 ≡ j = omega arith in
           let rising : slice_index edges i < slice_index edges j = omega (arith, rw next at there) in
           let sends = over.sends j over.later (omega arith) in
-          let long : length_of d.span ≡ slice_index edges j - slice_index edges i = omega (arith, over.begin, over.end) in
+          let long : length_of d.span ≡ slice_index edges j - slice_index edges i =
+          omega (arith, over.begin, over.end) in
           let even = rw (place, long) at sends.even in
-          let count = cancel d.packets (packets d.store j) (slice_index edges j - slice_index edges i) (omega arith) even in
+          let count = cancel d.packets (packets d.store j) (slice_index edges j - slice_index edges i) (omega arith)
+          even in
           let by = sent d.store j over.store first over.there in
           let some = some_sent m edges x d.store j (omega (arith, over.some, count, by)) in
           let fits = within d.store j over.store first over.there in

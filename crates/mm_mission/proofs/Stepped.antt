@@ -1,5 +1,6 @@
 -- The steps of a plan in packets, one after the other.
-use Rattle.std.proofs.Common.{◌≡◌, ℕ, zero, suc, ◌+◌, ◌-◌, ◌*◌, ◌≤◌, List, [], ◌∷◌, ◌++◌, length, get_or, refl, ap, ◌∙◌, add-one, min}
+use Rattle.std.proofs.Common.{◌≡◌, ℕ, zero, suc, ◌+◌, ◌-◌, ◌*◌, ◌≤◌, List, [], ◌∷◌, ◌++◌, length, get_or, refl, ap, ◌∙◌}
+use Rattle.std.proofs.Common.{add-one, min}
 use Rattle.std.proofs.Common.{arith, length-append}
 use Rattle.std.specs.Prelude.{map}
 use Rattle.std.specs.List.{flat_map, range_with_len}
@@ -11,7 +12,8 @@ use Rattle.mm_base.proofs.Ranges.{range_with_len_more}
 use Rattle.mm_mission.specs.declared.packets.PacketStep.{PacketStep}
 use Rattle.mm_mission.specs.Mission.{MissionRows, store_at}
 use Rattle.mm_mission.specs.Laws.{over}
-use Rattle.mm_mission.specs.Packets.{step_of, held, arrived_in, held_by, step_in, steps_in, all_steps, no_step, sent_in, AreSentBy}
+use Rattle.mm_mission.specs.Packets.{step_of, held, arrived_in, held_by, step_in, steps_in, all_steps, no_step, sent_in}
+use Rattle.mm_mission.specs.Packets.{AreSentBy}
 use Rattle.mm_mission.proofs.Grown.{table_at}
 
 -- the steps up to one, as a loop adds the last of them

@@ -24,7 +24,8 @@ use Rattle.mm_mission.specs.Planned.{growth, IsProblemOf}
 use Rattle.mm_mission.specs.Laws.{IsRoundedDown, IsRoundedUp, IsWithinOne, IsKept, LieIn, time_of, over, room, HasRoom}
 use Rattle.mm_mission.specs.Laws.{FitsOver}
 use Rattle.mm_mission.proofs.Rising.{rises}
-use Rattle.mm_mission.proofs.Rounded.{div_most, div_least, div_rises, growth_most, growth_least, up_least, up_most, up_rises}
+use Rattle.mm_mission.proofs.Rounded.{div_most, div_least, div_rises, growth_most, growth_least, up_least, up_most}
+use Rattle.mm_mission.proofs.Rounded.{up_rises}
 use Rattle.mm_mission.proofs.Paces.{pace_on_some, both_kept}
 use Rattle.mm_mission.proofs.Grown.{steps_grow}
 
@@ -109,7 +110,8 @@ module _ (m : MissionRows) (p : Pass) (channel : Option ℕ) (h : IsMission m) (
     unfolding counted
     in_pass =
         let flow : ℕ → ℕ = whole_units (pace_on m channel p) in
-        let changed = sum_by_changed (sent_by m channel a) (sent_by m channel b) m.passes there.0 p there.1 others_rest in
+        let changed = sum_by_changed (sent_by m channel a) (sent_by m channel b) m.passes there.0 p there.1
+        others_rest in
         let until_a : elapsed p.span a ≡ a - p.span.begin = omega arith in
         let until_b : elapsed p.span b ≡ b - p.span.begin = omega arith in
         let at_a = ap (sent_by m channel a) there.2 ∙ ap flow until_a in
@@ -207,7 +209,8 @@ fit_there [] s each = tt
 fit_there (x ∷ stores) zero each = All-head (λ s. IsTrue (is_store s)) x stores each
 fit_there (x ∷ stores) (suc s) each = fit_there stores s (All-tail (λ s. IsTrue (is_store s)) x stores each)
 
-get_there : (stores : List Store) (s : ℕ) (d : Store) → s < length stores → slice_get stores s ≡ Some (get_or stores s d)
+get_there : (stores : List Store) (s : ℕ) (d : Store) → s < length stores → slice_get stores s
+    ≡ Some (get_or stores s d)
 get_there [] s d below = absurd (omega arith)
 get_there (x ∷ stores) zero d below = refl
 get_there (x ∷ stores) (suc s) d below = get_there stores s d (omega arith)
@@ -215,7 +218,8 @@ get_there (x ∷ stores) (suc s) d below = get_there stores s d (omega arith)
 -- the store at a place fits
 pub fits_at : (m : MissionRows) (s : ℕ) → IsMission m → s < length m.stores → IsTrue (is_store (store_at m s))
 fits_at m s h below =
-    subst (λ o. IfSome o (λ s. IsTrue (is_store s))) (get_there m.stores s no_store below) (fit_there m.stores s h.stores)
+    subst (λ o. IfSome o (λ s. IsTrue (is_store s))) (get_there m.stores s no_store below)
+    (fit_there m.stores s h.stores)
 
 pub packet_some : (s : Store) → IsTrue (is_store s) → 1 ≤ packet_octets s
 packet_some s fits = grind (arith, nat_tests, fits)

@@ -15,7 +15,8 @@ use Rattle.mm_mission.specs.declared.fault.Fault.TheVariants.{BadTime, TooMany, 
 use Rattle.mm_mission.specs.declared.fault.Fault.TheVariants.{BadObservation, NoStore}
 use Rattle.mm_mission.specs.declared.parts.Pass.{Pass}
 use Rattle.mm_mission.specs.Mission.{MissionRows, IsMission, EndsBefore, is_time, are_few, is_store, is_pass}
-use Rattle.mm_mission.specs.Mission.{is_observation, is_known, fault_at, each_fits, follow, passes_fit, observations_fit}
+use Rattle.mm_mission.specs.Mission.{is_observation, is_known, fault_at, each_fits, follow, passes_fit}
+use Rattle.mm_mission.specs.Mission.{observations_fit}
 
 -- where no place has a row that does not fit, each row fits
 none_unfit : {R : Type 0} (fits : R → Bool) (rows : List R) → position (λ r. not (fits r)) rows ≡ None
@@ -65,7 +66,11 @@ pub follow_said : (lasts row free : ℕ) (passes : List Pass) (u : Unit {0})
     → All (λ p. IsTrue (is_pass lasts p)) passes → follow row free passes ≡ Ok u
     → All (λ p. free ≤ p.span.begin) passes × AllPairs EndsBefore passes
 unfolding follow
-follow_said lasts row free [] u each h = (All-nil (λ p. free ≤ p.span.begin), λ i j d before within. absurd (omega arith))
+follow_said lasts row free [] u each h = (
+  All-nil (λ p. free ≤ p.span.begin),
+  λ i j d before within. absurd
+      (omega arith),
+)
 follow_said lasts row free (p ∷ passes) u each h =
     let (v, given, rest) = bind_ok _ _ _ h in
     let (after, apart) = follow_said lasts (row + 1) p.span.end passes u

@@ -1,5 +1,6 @@
 -- Dumps that send what is to be sent so far.
-use Rattle.std.proofs.Common.{◌≡◌, ℕ, zero, suc, ◌+◌, ◌-◌, ◌*◌, ◌/◌, ◌<◌, ◌≤◌, List, [], ◌∷◌, ◌++◌, length, refl, sym, ap}
+use Rattle.std.proofs.Common.{◌≡◌, ℕ, zero, suc, ◌+◌, ◌-◌, ◌*◌, ◌/◌, ◌<◌, ◌≤◌, List, [], ◌∷◌, ◌++◌, length, refl, sym}
+use Rattle.std.proofs.Common.{ap}
 use Rattle.std.proofs.Common.{◌∙◌, subst, inl, inr, arith}
 use Rattle.std.specs.Prelude.{All, AllPairs, Contains, slice_index}
 use Rattle.std.proofs.Math.Nat.{mul-div_cancel}
@@ -222,7 +223,8 @@ module _ (m : MissionRows) (edges : List ℕ) (x : ℕ → ℕ → ℕ) (times :
             | inr one ↦
                 let is : prior ≡ d = only_one prior d one in
                 let old : Sends edges x prior u = subst (λ k. Sends edges x k u) (sym is) sends in
-                let low = place_within i (u - 1) (omega (arith, over.later, over.there)) (omega (arith, old.begin, over.begin)) in
+                let low = place_within i (u - 1) (omega (arith, over.later, over.there))
+                (omega (arith, old.begin, over.begin)) in
                 let high = place_within u j within (omega (arith, old.end, over.end)) in (
                   joined,
                   (

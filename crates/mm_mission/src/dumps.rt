@@ -152,7 +152,7 @@ fn push_store(
     Ok(())
 }
 
-/// When what a plan sends is sent: in each step the packets of each store that leave in it, evenly while the step lasts.
+/// When what a plan sends is sent: in each step the packets of each store that leave in it, evenly while it lasts.
 /// The steps are those of `in_packets`. Dumps of a store that follow one another at one rate in one pass are joined.
 pub fn timeline(
     alloc: Global,

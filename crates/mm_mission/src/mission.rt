@@ -1,9 +1,11 @@
 //! A mission.
 ghost use Rattle.std.specs.Prelude.{◌≡◌, ◌<◌, length, not, position, IsTrue};
 ghost use Rattle.mm_base.specs.Reading.{test};
-ghost use Rattle.mm_mission.specs.Mission.{each_fits, follow, mission_from, is_store, is_pass, is_observation, is_known};
+ghost use Rattle.mm_mission.specs.Mission.{each_fits, follow, mission_from, is_store, is_pass, is_observation};
+ghost use Rattle.mm_mission.specs.Mission.{is_known};
 ghost use Rattle.mm_mission.specs.Mission.{is_time, are_few, passes_fit, observations_fit, store_at};
-ghost use Rattle.mm_mission.specs.declared.fault.Fault.TheVariants.{BadTime, TooMany, BadStore, BadPass, BadObservation, NoStore};
+ghost use Rattle.mm_mission.specs.declared.fault.Fault.TheVariants.{BadTime, TooMany, BadStore, BadPass};
+ghost use Rattle.mm_mission.specs.declared.fault.Fault.TheVariants.{BadObservation, NoStore};
 
 use crate::fault::Fault;
 use crate::limits::{MAX_OBSERVATIONS, MAX_PASSES, MAX_TIME};

@@ -134,7 +134,8 @@ fn a_mission_is_planned_in_whole_units(rt: HostRuntime) {
     // HK: 300 octets are 2.3 units of 128 octets, 390 are 3.05
     let arrivals = [0, 0, 0, 0, 2, 0, 1, 0, 8, 3, 0, 1, 0, 0, 0, 0];
     // channel 0: as the link, then 630 octets are 3.15 units of 200 octets, 1,470 are 7.35
-    // channel 1: 750 octets are 5.9 units of 128 octets, 1,200 are 9.4, 1,500 are 11.7; then as the link, since 897 are 7.0
+    // channel 1: 750 octets are 5.9 units of 128 octets, 1,200 are 9.4, 1,500 are 11.7; then as the link, since 897 are
+    // 7.0
     let limits = [0, 0, 25, 5, 15, 4, 10, 2, 0, 0, 3, 4, 4, 6, 0, 0];
     let wanted = Problem::new(rt.alloc(), &rows, &[], &windows, &arrivals).expect(&rt, "a problem");
     let during = wanted

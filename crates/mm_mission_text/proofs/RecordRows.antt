@@ -1,5 +1,6 @@
 -- The records of a text, one after the other.
-use Rattle.std.proofs.Common.{◌≡◌, ℕ, ◌+◌, suc, false, List, [], ◌∷◌, ◌++◌, length, map, Some, Bor, refl, sym, ap, ◌∙◌, add-one, append_assoc, append-nil}
+use Rattle.std.proofs.Common.{◌≡◌, ℕ, ◌+◌, suc, false, List, [], ◌∷◌, ◌++◌, length, map, Some, Bor, refl, sym, ap, ◌∙◌}
+use Rattle.std.proofs.Common.{add-one, append_assoc, append-nil}
 use Rattle.std.proofs.lemmas.List.{map-append}
 use Rattle.csv.proofs.ReadFacts.{rows-end}
 use Rattle.csv.specs.Reading.{default_config, records_from, reader_state, ReadRecord}
@@ -12,7 +13,8 @@ pub none_left : (reader after : Reader (Bor (List ℕ))) (rows : List Fields) (h
     → ReadRecord (λ (s : Bor (List ℕ)). Some s.now) reader after false [] → rows ≡ []
 unfolding records_from
 none_left reader after rows h read =
-    let none = rows-end (λ (s : Bor (List ℕ)). Some s.now) reader after [] default_config h.rest h.config h.source read in
+    let none = rows-end (λ (s : Bor (List ℕ)). Some s.now) reader after [] default_config h.rest h.config h.source
+    read in
     h.read
     ∙ ap (λ n. records_from default_config n (reader_state reader) h.rest) (add-one (length h.rest))
     ∙ rw none refl

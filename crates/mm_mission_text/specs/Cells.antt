@@ -16,7 +16,8 @@ use Rattle.mm_utc.specs.declared.amount.Rate.{Rate}
 use Rattle.mm_utc.specs.declared.amount.Volume.{Volume}
 use Rattle.mm_mission_text.specs.declared.cell.TheConstants.{MOST_OCTETS}
 use Rattle.mm_mission_text.specs.declared.fault.Why.{Why}
-use Rattle.mm_mission_text.specs.declared.fault.Why.TheVariants.{NotText, NotId, NotKind, NotChannel, NotOctets, Moment, Amount}
+use Rattle.mm_mission_text.specs.declared.fault.Why.TheVariants.{NotText, NotId, NotKind, NotChannel, NotOctets, Moment}
+use Rattle.mm_mission_text.specs.declared.fault.Why.TheVariants.{Amount}
 
 -- the same value, or the fault that is told of this one
 abbrev pub told_as : {X F G : Type 0} → (F → G) → Result X F → Result X G

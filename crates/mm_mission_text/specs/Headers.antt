@@ -1,5 +1,6 @@
 -- The header of a table, from left to right.
-use Rattle.std.specs.Prelude.{ℕ, ◌+◌, Bool, not, List, [], ◌∷◌, ◌++◌, length, Option, Some, None, Result, Ok, Err, bytes_eq}
+use Rattle.std.specs.Prelude.{ℕ, ◌+◌, Bool, not, List, [], ◌∷◌, ◌++◌, length, Option, Some, None, Result, Ok, Err}
+use Rattle.std.specs.Prelude.{bytes_eq}
 use Rattle.std.specs.List.{find, list_any}
 use Rattle.std.specs.Option.{ok_or}
 use Rattle.mm_base.specs.Reading.{◌>>=◌, test}

@@ -1,6 +1,7 @@
 //! Values in cells.
 ghost use Rattle.std.specs.Prelude.{◌≡◌, ℕ, List, Result, IfOk};
-ghost use Rattle.mm_mission_text.specs.Cells.{text_of, id_of, moment_of, rate_of, volume_of, kind_of, channel_of, octets_of};
+ghost use Rattle.mm_mission_text.specs.Cells.{text_of, id_of, moment_of, rate_of, volume_of, kind_of, channel_of};
+ghost use Rattle.mm_mission_text.specs.Cells.{octets_of};
 ghost use Rattle.mm_mission_text.specs.declared.fault.Why.{Why};
 
 use crate::fault::Why;

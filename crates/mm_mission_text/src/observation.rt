@@ -1,7 +1,8 @@
 //! Observations, which fill packet stores.
 ghost use Rattle.mm_base.specs.Reading.{Gives};
 ghost use Rattle.mm_mission_text.specs.Rows.{seen};
-ghost use Rattle.mm_mission_text.specs.Entries.{observation_columns, observation_needed, observation_in, observations_in};
+ghost use Rattle.mm_mission_text.specs.Entries.{observation_columns, observation_needed, observation_in};
+ghost use Rattle.mm_mission_text.specs.Entries.{observations_in};
 ghost use Rattle.mm_mission_text.specs.Entries.{arrival_of};
 ghost use Rattle.mm_mission_text.specs.declared.fault.Fault.TheVariants.{NoMemory};
 

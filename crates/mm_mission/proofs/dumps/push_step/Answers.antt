@@ -11,7 +11,8 @@ returns c =
     let m = c.args.mission.now in
     let x : ℕ → ℕ → ℕ = sent_in c.args.edges.now c.args.steps.now in
     let next_is = c.step_dump-next.ensures in
-    let passes : c.deref.result.now ≡ m.passes = c.deref.ensures.value ∙ ap (λ (rows : MissionRows). rows.passes) c.mission.view_is in
+    let passes : c.deref.result.now ≡ m.passes = c.deref.ensures.value
+    ∙ ap (λ (rows : MissionRows). rows.passes) c.mission.view_is in
     let packets = ap (λ (d : Dump). d.packets) next_is in
     let some : 0 < x c.args.store c.args.step = omega (arith, packets, c.if-next-eq0.false) in
     on_ok_weaker c.push_dump.result

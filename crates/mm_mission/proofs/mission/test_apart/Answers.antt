@@ -15,4 +15,5 @@ returns-in_err-test c =
 pub loop-row-preserved : goal.loop-row-preserved
 loop-row-preserved c =
     sym (follow_passed c.args.passes.now c.loop-row.row c.loop-row.free (get_or c.args.passes.now c.loop-row.row _)
-    (omega arith) (get_or_default c.args.passes.now c.loop-row.row _ _ (omega arith)) _ (sym c.in_ok-test.ensures)) ∙ c.loop-row.invariant
+    (omega arith) (get_or_default c.args.passes.now c.loop-row.row _ _ (omega arith)) _ (sym c.in_ok-test.ensures))
+    ∙ c.loop-row.invariant

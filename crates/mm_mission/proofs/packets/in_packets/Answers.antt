@@ -11,7 +11,8 @@ returns c =
     let edges = c.args.edges.now in
     let x : ℕ → ℕ → ℕ = amount m c.args.amounts.now in
     let as_long : vec_len c.mission.inside.stores ≡ length c.mission.inside.stores.items = search rules in
-    let many : length c.mission.inside.stores.items ≡ length m.stores = ap (λ (rows : MissionRows). length rows.stores) c.mission.view_is in
+    let many : length c.mission.inside.stores.items ≡ length m.stores =
+    ap (λ (rows : MissionRows). length rows.stores) c.mission.view_is in
     let last : c.loop-store.store ≡ length m.stores = omega (arith, as_long, many, c.len-store-end.ensures) in
     let is : c.loop-store.steps.items ≡ all_steps m edges x = rw last at c.loop-store.invariant in
     record {

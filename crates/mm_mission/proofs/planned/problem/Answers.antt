@@ -9,5 +9,6 @@ use Rattle.mm_mission.proofs.planned.problem.Goals as goal
 pub returns-clause-is_of : goal.returns-clause-is_of
 unfolding problem_of
 returns-clause-is_of c =
-    let given : Gives {X = Dumping} {Y = Dumping} NoMemory (λ q. q) c.limited_problem.result (problem_of c.args.mission.now c.args.edges.now) = search rules in
+    let given : Gives {X = Dumping} {Y = Dumping} NoMemory (λ q. q) c.limited_problem.result
+    (problem_of c.args.mission.now c.args.edges.now) = search rules in
     given_is_of c.args.mission.now c.args.edges.now c.limited_problem.result given

@@ -17,7 +17,8 @@ loop-record-preserved c =
       turns = row.2;
       rows = found.0;
       has = found.2;
-      whole = rw c.in_ok-push-in-Ok.ensures.items (read_more _ _ _ _ _ _ c.in_ok-trim-in-Ok.ensures.fields found.1 inv.whole);
+      whole = rw c.in_ok-push-in-Ok.ensures.items (read_more _ _ _ _ _ _ c.in_ok-trim-in-Ok.ensures.fields found.1
+          inv.whole);
     }
 
 pub returns-clause-rows : goal.returns-clause-rows

@@ -34,4 +34,5 @@ loop-i-preserved g c =
 pub returns : goal.returns
 returns g c =
     c.loop-i.invariant
-    ∙ all_none _ _ _ (nothing_left (c.loop-i.i + 1) _ (ap (map fields_of) (drop_all c.loop-i.i c.args.rows.now (omega arith))))
+    ∙ all_none _ _ _ (nothing_left (c.loop-i.i + 1) _
+    (ap (map fields_of) (drop_all c.loop-i.i c.args.rows.now (omega arith))))

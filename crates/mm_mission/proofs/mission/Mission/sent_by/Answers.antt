@@ -10,6 +10,8 @@ returns-in-Some-clause-units c =
     let r = c.in-Some.own in
     let time = elapsed p.span c.args.time in
     let has : own_rate c.args.channel p ≡ Some r = sym c.own_rate.ensures ∙ c.in-Some.is in
-    let own : c.whole_units.result ≡ whole_units (pace (octets_on m c.args.channel) r) time = rw (c.octets_on-in-Some.ensures.octets, c.elapsed-time.ensures) at c.whole_units.ensures.units in
-    let link : c.whole_units-units.result ≡ whole_units (link_pace m p) time = rw (c.octets_on.ensures.octets, c.elapsed-time.ensures) at c.whole_units-units.ensures.units in
+    let own : c.whole_units.result ≡ whole_units (pace (octets_on m c.args.channel) r) time =
+    rw (c.octets_on-in-Some.ensures.octets, c.elapsed-time.ensures) at c.whole_units.ensures.units in
+    let link : c.whole_units-units.result ≡ whole_units (link_pace m p) time =
+    rw (c.octets_on.ensures.octets, c.elapsed-time.ensures) at c.whole_units-units.ensures.units in
     c.min.ensures ∙ rw (own, link) (sym (own_units m c.args.channel p c.requires.pass r time has))
