@@ -5,3 +5,4 @@ pub mod Fronts
 pub mod SetupReads
 pub mod RestReads
 pub mod Later
+pub mod HaltReads

@@ -21,7 +21,7 @@ use Rattle.mm_problem.specs.Rest.{rest_from, rows_from, starting_with, starts_fi
 use Rattle.mm_problem.specs.Setup.{AreStores, IsSetup, SetupRows}
 use Rattle.mm_problem.specs.Texts.{SaysProblem, problem_in}
 use Rattle.mm_plan.specs.Volumes.{Amounts, left}
-use Rattle.mm_rest.specs.Rests.{held_after, rest_after, setup_from}
+use Rattle.mm_rest.specs.Rests.{held_after, rest_after, setup_for, setup_from}
 use Rattle.mm_rest.proofs.ForecastReads.{by_place}
 
 -- ---- the start volumes fit
@@ -104,15 +104,14 @@ is_setup m come starts is stores fit = record {
 
 -- ---- the texts
 
--- the texts of the rest say it
-pub rest_said : (m : SetupRows) (q : Dumping) (x : Amounts) (n : ℕ) (setup forecast : List ℕ) → ReadsForecasts
-    → q.rows ≡ m.stores → q.limits ≡ limits_of m.limits → IsSetup (setup_from m q.come (held_after q x n))
-    → IsDumping (rest_after q x n) → setup_of setup ≡ Ok (setup_from m q.come (held_after q x n))
-    → records_of forecast ≡ forecast_of (rest_after q x n) → SaysProblem setup forecast (rest_after q x n)
+-- the texts of a problem say it
+pub texts_said : (m : SetupRows) (q : Dumping) (setup forecast : List ℕ) → ReadsForecasts
+    → q.limits ≡ limits_of m.limits → IsSetup (setup_for m q) → IsDumping q
+    → setup_of setup ≡ Ok (setup_for m q) → records_of forecast ≡ forecast_of q → SaysProblem setup forecast q
 unfolding problem_in
-rest_said m q x n setup forecast law rows limits is within said records =
-    rw said ((law (setup_from m q.come (held_after q x n)) is forecast (rest_after q x n)).1 (record {
-      rows = ap (λ rs. rows_from rs (held_after q x n)) rows;
+texts_said m q setup forecast law limits is within said records =
+    rw said ((law (setup_for m q) is forecast q).1 (record {
+      rows = refl;
       limits = limits;
       records = records;
       within = within;

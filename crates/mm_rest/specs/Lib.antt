@@ -1,4 +1,5 @@
 pub mod Forecasts
 pub mod Documents
 pub mod Rests
+pub mod Halts
 pub mod Laws

@@ -28,6 +28,10 @@ setup_from m come starts = record {
   come = come;
 }
 
+-- the rows of a setup with the stores of a problem, and arrivals that come as those of the problem
+abbrev pub setup_for : SetupRows → Dumping → SetupRows
+setup_for m q = record { stores = q.rows; routes = m.routes; limits = m.limits; come = q.come }
+
 -- the word names a step of the problem after which another one comes
 pub record IsKeptStep (q : Dumping) (word : List ℕ) (n : ℕ) : Type 0 where
   pub number : numeral_of MAX_STEPS word ≡ Number n

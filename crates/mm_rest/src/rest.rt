@@ -4,9 +4,10 @@ ghost use Rattle.mm_problem.specs.Document.{setup_of};
 ghost use Rattle.mm_problem.specs.Dumping.{IsDumping, no_row};
 ghost use Rattle.mm_problem.specs.Forecast.{limits_of};
 ghost use Rattle.mm_problem.specs.Rest.{rest_of, rows_from, starting_with};
+ghost use Rattle.mm_problem.specs.Setup.{IsSetup};
 ghost use Rattle.mm_problem.specs.Texts.{SaysProblem};
 ghost use Rattle.mm_plan.specs.Table.{HasShape, amount};
-ghost use Rattle.mm_rest.specs.Rests.{held_after, rest_after, setup_from};
+ghost use Rattle.mm_rest.specs.Rests.{held_after, rest_after, setup_for, setup_from};
 
 use crate::document::print_setup;
 use crate::forecast::print_forecast;
@@ -101,13 +102,44 @@ fn started(rows: &[StoreRow], starts: &[u32], place: usize) -> StoreRow
     }
 }
 
-// The stores, with these start volumes.
-fn rows_from(alloc: Global, rows: &[StoreRow], starts: &[u32]) -> Result<Vec<StoreRow>, NoMemory>
+/// The stores, with these start volumes.
+pub(crate) fn rows_from(
+    alloc: Global,
+    rows: &[StoreRow],
+    starts: &[u32],
+) -> Result<Vec<StoreRow>, NoMemory>
     requires { length starts.now ≡ length rows.now }
     ensures { IfOk result (λ v. v.items ≡ rows_from rows.now starts.now) }
 {
     let rows = (0..rows.len()).map(|place| started(rows, starts, place));
     Ok(rows.collect(alloc)?)
+}
+
+/// The texts of a problem with these stores: the setup, which keeps its routes and its limits, and the forecast.
+pub(crate) fn texts_of(
+    alloc: Global,
+    setup: &Setup,
+    stores: &[StoreRow],
+    problem: &Problem,
+) -> Result<RestTexts, NoMemory>
+    requires stores { stores.now ≡ problem.now.rows }
+    requires limits { problem.now.limits ≡ limits_of setup.now.limits }
+    requires setup { IsSetup (setup_for setup.now problem.now) }
+    ensures problem { IfOk result (λ texts. SaysProblem texts.setup.items texts.forecast.items problem.now) }
+    ensures setup { IfOk result (λ texts. setup_of texts.setup.items ≡ Ok (setup_for setup.now problem.now)) }
+{
+    // Its numbers are within their ranges, as `steps` ensures.
+    let _steps = problem.steps();
+    let setup = print_setup(
+        alloc,
+        stores,
+        setup.routes(),
+        setup.limits(),
+        problem.come(),
+    )?;
+    let forecast = print_forecast(alloc, problem)?;
+    forecasts();
+    Ok(RestTexts { setup, forecast })
 }
 
 /// The texts of what is left after a step of a plan: the setup, in which each store starts with what it holds as the
@@ -136,14 +168,5 @@ pub fn rest_texts(
     // Its numbers are within their ranges, as `stores` ensures.
     let _stores = problem.stores();
     let stores = rows_from(alloc, setup.stores(), &held)?;
-    let setup = print_setup(
-        alloc,
-        &stores,
-        setup.routes(),
-        setup.limits(),
-        problem.come(),
-    )?;
-    let forecast = print_forecast(alloc, &rest)?;
-    forecasts();
-    Ok(RestTexts { setup, forecast })
+    texts_of(alloc, setup, &stores, &rest)
 }

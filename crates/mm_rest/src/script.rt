@@ -25,8 +25,8 @@ pub fn kept_step(problem: &Problem, word: &str) -> Option<u32>
     }
 }
 
-// The script of the two texts.
-fn script_of(alloc: Global, texts: &RestTexts) -> Result<Vec<u8>, NoMemory>
+/// The script of the two texts.
+pub(crate) fn script_of(alloc: Global, texts: &RestTexts) -> Result<Vec<u8>, NoMemory>
     ensures { IfOk result (λ text. text.items ≡ plan_script texts.now.setup.items texts.now.forecast.items) }
 {
     let mut text = Vec::new(alloc);
