@@ -1,6 +1,8 @@
 /* What calls on a memory take on `cortexm4` and `leon3`, in stack and instructions, over `portable/rudlayog_memory.c`:
  * each call once on a stack that is filled first, and then some times beside a timer. Under `-icount shift=0` each
- * instruction of QEMU takes a nanosecond, of which a tick of the timer is 40 on the one machine and 100 on the other. */
+ * instruction of QEMU takes a nanosecond, of which a tick of the timer is 40 on the one machine and 100 on the other.
+ * On PowerPC, with `hosted.c`, no timer counts instructions: they are those that qemu-ppc logs between two calls of
+ * `ticks`. */
 #include "machine.h"
 #include <rudlayog.h>
 
@@ -21,6 +23,14 @@ enum { NANOSECONDS = 40 };
 #define STACK_END(at) __asm__ volatile("mov %0, sp" : "=r"(at))
 static void start_timer(void) { SYSTICK[1] = 0xFFFFFF, SYSTICK[2] = 0, SYSTICK[0] = 5; }
 static uint32_t ticks(void) { return 0xFFFFFF - SYSTICK[2]; }
+#elif defined(__powerpc__)
+enum { NANOSECONDS = 0 };
+#define STACK_END(at) __asm__ volatile("mr %0, 1" : "=r"(at))
+static void start_timer(void) {}
+static __attribute__((noinline)) uint32_t ticks(void) {
+    __asm__ volatile("");
+    return 0;
+}
 #else
 enum { NANOSECONDS = 100 };
 #define TIMER ((volatile uint32_t *)0x80000300)
