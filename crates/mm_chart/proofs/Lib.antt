@@ -1,3 +1,9 @@
-pub mod Ranges
+pub mod Balance
 pub mod Listing
-pub mod Numbers
+pub mod Mapped
+pub mod Names
+pub mod Ranges
+pub mod Shown
+pub mod Amounts
+pub mod Scales
+pub mod Outlines

@@ -1,5 +1,12 @@
 pub mod Words
+pub mod ReadingLemmas
+pub mod StoreLemmas
 pub mod GiveLemmas
+pub mod AnswerLemmas
+pub mod ReportLemmas
+pub mod BoundLemmas
+pub mod HeaderLemmas
 pub mod SpellingLemmas
 pub mod CallLemmas
-pub mod RequestLemmas
+pub mod ReceivedLemmas
+pub mod RequestingLemmas
