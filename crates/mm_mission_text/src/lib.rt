@@ -1,4 +1,5 @@
-//! The texts of a mission: tables of stores, stations, passes and observations, each read exactly or refused with its first fault.
+//! The tables of a mission: stores, stations, passes and observations, each read exactly or refused with its first
+//! fault.
 #![tactic(auto)]
 
 mod cell;

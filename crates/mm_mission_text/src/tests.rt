@@ -1,5 +1,5 @@
-//! Tables of the week around Mars (`examples/mars_week`), and bad ones, whose faults are found by hand. Moments are those
-//! of Python's `datetime`.
+//! Tables of the week around Mars (`examples/mars_week`), and bad ones, whose faults are found by hand. Moments are
+//! those of Python's `datetime`.
 use crate::{Arrival, Column, Fault, Why, observations, passes, stations, stores};
 use mm_base::Kind;
 use mm_utc::{AmountFault, Fraction, Measure, MomentFault, Rate, Volume};
