@@ -4,11 +4,12 @@ prints for texts in which the pass was typed with those times."""
 from __future__ import annotations
 
 import json
+from datetime import datetime, timezone
 from typing import Any
 
 import missions
 from browsers import Browser
-from faults import clock, start
+from faults import FOLDER, clock, start
 from use import Use, with_cell
 from wants import week_files
 
@@ -57,7 +58,7 @@ def key(use: Use, name: str, shift: bool = False) -> None:
 
 
 def written(micros: int) -> str:
-    return missions.datetime.fromtimestamp(micros / SECOND, missions.timezone.utc).strftime("%Y-%m-%dT%H:%M:%SZ")
+    return f"{datetime.fromtimestamp(micros / SECOND, timezone.utc):%Y-%m-%dT%H:%M:%SZ}"
 
 
 def forecast_of(use: Use, nth: int) -> bytes:
@@ -219,7 +220,6 @@ def dragging(browser: Browser, page: str) -> tuple[int, list[str]]:
     dragged(use)
     by_keys(use)
     beside_others(use)
-    example = (missions.TOP / "examples" / "mission")
-    with_steps_alone(use, (example / "setup.toml").read_bytes(), (example / "forecast.csv").read_bytes())
+    with_steps_alone(use, (FOLDER / "setup.toml").read_bytes(), (FOLDER / "forecast.csv").read_bytes())
     typed_first(use)
     return use.count, use.found
