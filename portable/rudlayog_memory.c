@@ -1,7 +1,7 @@
 /* Rudlayog: the memory with its storage service in C. dist/portable made this file of the proved library; do not change it by hand.
  * portable/README.md says how to compile it, and docs/TRUST.md what stands unproved between the proof and it.
  *
- * Sources: 70cffc9b8ac81f5ea6526681c7d58ae59c05b94353174c7096f63b875ffd4409
+ * Sources: d298c89efd93a97fa179e17908bc274bb9c587b8a19859c0475524289e29a6ba
  * Toolchain: rattle-kit-13f logic dac8208d650f15bf
  *
  * SPDX-License-Identifier: MIT OR Apache-2.0
@@ -457,7 +457,7 @@
 #include "rudlayog.h"
 
 #define RUD_STACK 4194304u
-#define RUD_DATA_END 4206032u
+#define RUD_DATA_END 4206048u
 /* ---- What the translated functions stand on.
  *
  * The whole memory of an instance is one array of octets. The functions below have no pointer. GET.., PUT.., COPY and
@@ -1122,7 +1122,7 @@ return i0 != 0u;
 }
 
 static void in_toml_parser_text_skip_blank(RUD_IT u64 a0, u64 a1, u64 a2, u32 a3) {
-u32 v4 = 0, v5 = 0, v6 = 0;
+u32 v4 = 0, v5 = 0, i1 = 0;
 u64 v7 = 0, v8 = 0, v9 = 0, j0 = 0, j1 = 0;
 RUD_HERE
 if ((s64)RUD_G0 >= (s64)16u) {
@@ -1132,42 +1132,35 @@ L4:;
 v8 = v7;
 v9 = a1 + v8;
 TEST(v9);
-v5 = AT8(v9, 0);
-v6 = 0u;
+v4 = AT8(v9, 0);
 v7 = v8 + 1u;
 if (a2 > v7) {
-v6 = GET8(a1 + v8, 1) == 10u;
+i1 = GET8(a1 + v8, 1) == 10u;
+} else {
+i1 = 0u;
 }
-if (v5 == 10u) {
-v4 = 0u;
-goto L6;
+if ((i1 & (u32)(v4 == 13u)) | (u32)(v4 == 10u)) goto L6;
+if (v5) {
+if (v4 != 9u) goto L9;
+v5 = 1u;
+goto L5;
 }
-if (v6 & (u32)(v5 == 13u)) {
-v4 = 0u;
-goto L6;
-}
-if (v4) {
-if (v5 != 9u) goto L10;
-v4 = 1u;
-goto L6;
-}
-if (v5 == 9u) {
-v4 = 0u;
-goto L6;
-}
-v4 = 0u;
-if (v5 == 32u) goto L6;
-if (a3 == 0) goto L9;
-v4 = 1u;
-if (v5 != 35u) goto L9;
-goto L6;
-L10:;
-v4 = 1u;
-if ((u32)(v5 != 127u) & (u32)(v5 > 31u)) goto L6;
+if (v4 == 9u) goto L6;
+v5 = 0u;
+if (v4 == 32u) goto L5;
+if (a3 == 0) goto L8;
+v5 = 1u;
+if (v4 != 35u) goto L8;
+goto L5;
 L9:;
+v5 = 1u;
+if ((u32)(v4 != 127u) & (u32)(v4 > 31u)) goto L5;
+L8:;
 j1 = a2 - v8;
 goto L2;
 L6:;
+v5 = 0u;
+L5:;
 if (a2 != v7) goto L4;
 }
 v9 = a1 + a2;
@@ -1183,7 +1176,8 @@ rud_trap();
 }
 
 static void in_std_collections_btree_row_Row_pop_377167ce062cdc45(RUD_IT u64 a0, u64 a1) {
-u64 v2 = 0, v3 = 0, v4 = 0, v5 = 0, v6 = 0, v7 = 0, v8 = 0, v9 = 0, v10 = 0, v11 = 0, j0 = 0;
+u32 v7 = 0;
+u64 v2 = 0, v3 = 0, v4 = 0, v5 = 0, v6 = 0, j0 = 0;
 RUD_HERE
 v2 = RUD_G0 - 80u;
 if ((s64)v2 >= (s64)16u) {
@@ -1202,37 +1196,24 @@ v4 = a1 + 32u;
 j0 = v4;
 v4 = AT64(a1, 32) - 1u;
 SET64(a1, 32, v4);
-a1 = AT64(a1, 24) + (v4 * 56u);
-TEST(a1);
-v4 = AT64(a1, 48);
-v7 = AT64(a1, 40);
-v8 = AT64(a1, 32);
-v9 = AT64(a1, 24);
-v10 = AT64(a1, 16);
-v11 = AT64(a1, 8);
-TEST(a0);
-SET16(a0, 24, AT16(a1, 0));
 TEST(v2);
 SET16(v2, 12, 0u);
 SET32(v2, 8, 0u);
 SET64(v2, 56, v3);
 SET64(v2, 64, v6);
 SET64(v2, 72, v5);
-SET64(v2, 14, v11);
-SET64(v2, 22, v10);
-SET64(v2, 30, v9);
-SET64(v2, 38, v8);
-SET64(v2, 46, v7);
+a1 = AT64(a1, 24) + (v4 * 56u);
+TEST(a1);
+v3 = AT64(a1, 48);
+v7 = AT16(a1, 0);
+COPY_FEW(v2 + 14u, a1 + 8u, 40u);
+TEST(a0);
+SET16(a0, 24, v7);
 SET64(a0, 16, AT64(v2, 72));
 SET64(a0, 8, AT64(v2, 64));
 SET64(a0, 0, AT64(v2, 56));
-SET64(a0, 64, AT64(v2, 46));
-SET64(a0, 58, AT64(v2, 40));
-SET64(a0, 50, AT64(v2, 32));
-SET64(a0, 42, AT64(v2, 24));
-SET64(a0, 34, AT64(v2, 16));
-SET64(a0, 26, AT64(v2, 8));
-SET64(a0, 72, v4);
+COPY_FEW(a0 + 26u, v2 + 8u, 46u);
+SET64(a0, 72, v3);
 return;
 }
 rud_trap();
@@ -1263,111 +1244,81 @@ rud_trap();
 }
 
 static void in_std_alloc_vec_Vec_remove_992c4ce9cbd9eb37(RUD_IT u64 a0, u64 a1, u64 a2) {
-u64 v3 = 0, v4 = 0, v5 = 0, v6 = 0, v7 = 0, v8 = 0, v9 = 0, v10 = 0, v11 = 0, v12 = 0, v13 = 0, j0 = 0;
-u64 j1 = 0;
+u64 v3 = 0, v4 = 0, v5 = 0, v6 = 0, v7 = 0, v8 = 0, v9 = 0, v10 = 0, j0 = 0;
 RUD_HERE
-(void)j1;
-(void)v12;
-v6 = RUD_G0 - 32u;
-if ((s64)v6 >= (s64)16u) {
-v4 = a1 + 8u;
-TEST(v4);
-v7 = AT64(v4, 0);
-SET64(v4, 0, 0u);
-v4 = a1 + 16u;
-TEST(v4);
-v13 = AT64(v4, 0);
-SET64(v4, 0, 0u);
+v5 = RUD_G0 - 32u;
+if ((s64)v5 >= (s64)16u) {
+v3 = a1 + 8u;
+TEST(v3);
+v7 = AT64(v3, 0);
+SET64(v3, 0, 0u);
+v3 = a1 + 16u;
+TEST(v3);
+v10 = AT64(v3, 0);
+SET64(v3, 0, 0u);
 TEST(a1);
-v9 = AT64(a1, 0);
-v8 = a2 * 24u;
-v5 = v9 + v8;
-TEST(v5);
+v8 = AT64(a1, 0);
+v3 = a2 * 24u;
+v6 = v8 + v3;
 TEST(v6);
-SET64(v6, 8, AT64(v5, 0));
-SET64(v6, 16, AT64(v5, 8));
-SET64(v6, 24, AT64(v5, 16));
-v10 = v7 - 1u;
-v3 = v10 - a2;
-if (v3 >= 86u) {
+TEST(v5);
+SET64(v5, 8, AT64(v6, 0));
+SET64(v5, 16, AT64(v6, 8));
+SET64(v5, 24, AT64(v6, 16));
+v9 = v7 - 1u;
+v4 = v9 - a2;
+if (v4 >= 86u) {
 L5:;
-v4 = a2;
-v3 = 0u;
+v3 = a2;
+v4 = 0u;
 L6:;
-a2 = v3 + v5;
-v8 = a2 + 40u;
-TEST(v8);
-TEST(a2);
-SET64(a2, 16, AT64(v8, 0));
-v11 = a2 + 32u;
-SET64(a2, 8, AT64(a2, 32));
-v12 = a2 + 24u;
-SET64(a2, 0, AT64(a2, 24));
-if (!(v3 == 2016u)) {
-SET64(v8, 0, AT64(v8, 24));
-SET64(a2, 32, AT64(v8, 16));
-SET64(a2, 24, AT64(v8, 8));
-v3 = v3 + 48u;
-goto L6;
-}
-v5 = v5 + 2040u;
-a2 = v4 + 85u;
-v3 = v10 - a2;
-if (v3 > 85u) goto L5;
-if (a2 == 0xffffffffffffffffull) goto L3;
-v8 = a2 * 24u;
-}
-if (a2 == v10) goto L2;
-v5 = 0u;
-if (v3 != 1u) {
-a2 = v8 + v9;
-j0 = v3 & 1u;
-v3 = v3 & 126u;
-L9:;
-v11 = a2 + 40u;
-TEST(v11);
-TEST(a2);
-SET64(a2, 16, AT64(v11, 0));
-v12 = a2 + 32u;
-SET64(a2, 8, AT64(a2, 32));
-v4 = a2 + 24u;
-SET64(a2, 0, AT64(a2, 24));
-j1 = v4;
-v4 = a2 + 48u;
-SET64(a2, 24, AT64(v11, 8));
-SET64(a2, 32, AT64(v11, 16));
-SET64(v11, 0, AT64(v11, 24));
-a2 = v4;
-v5 = v5 + 2u;
-if (v3 != v5) goto L9;
-if (j0 == 0) goto L2;
-}
-a2 = (v8 + v9) + (v5 * 24u);
+a2 = v4 + v6;
 TEST(a2);
 SET64(a2, 16, AT64(a2, 40));
 SET64(a2, 8, AT64(a2, 32));
 SET64(a2, 0, AT64(a2, 24));
+v4 = v4 + 24u;
+if (v4 != 2040u) goto L6;
+v6 = v6 + 2040u;
+a2 = v3 + 85u;
+v4 = v9 - a2;
+if (v4 > 85u) goto L5;
+if (a2 == 0xffffffffffffffffull) goto L3;
+v3 = a2 * 24u;
+}
+if (a2 == v9) goto L2;
+a2 = v3 + v8;
+L7:;
+TEST(a2);
+SET64(a2, 16, AT64(a2, 40));
+SET64(a2, 8, AT64(a2, 32));
+j0 = a2;
+a2 = a2 + 24u;
+TEST(a2);
+SET64(j0, 0, AT64(a2, 0));
+v4 = v4 - 1u;
+if (!(v4 == 0)) goto L7;
 goto L2;
 L3:;
 if (v7 == 0) goto L2;
-v3 = v7 - 86u;
-a2 = ((v7 * 24u) + v9) - 48u;
-L10:;
+v4 = v7 - 86u;
+a2 = ((v7 * 24u) + v8) - 48u;
+L8:;
 TEST(a2);
 SET64(a2, 16, AT64(a2, 40));
 SET64(a2, 8, AT64(a2, 32));
 SET64(a2, 0, AT64(a2, 24));
 a2 = a2 - 24u;
-v3 = v3 - 1u;
-if (v4 != v3) goto L10;
+v4 = v4 - 1u;
+if (v3 != v4) goto L8;
 L2:;
-SET64(a1, 0, v9);
-SET64(a1, 16, v13);
-SET64(a1, 8, v10);
+SET64(a1, 0, v8);
+SET64(a1, 16, v10);
+SET64(a1, 8, v9);
 TEST(a0);
-SET64(a0, 16, AT64(v6, 24));
-SET64(a0, 8, AT64(v6, 16));
-SET64(a0, 0, AT64(v6, 8));
+SET64(a0, 16, AT64(v5, 24));
+SET64(a0, 8, AT64(v5, 16));
+SET64(a0, 0, AT64(v5, 8));
 return;
 }
 rud_trap();
@@ -1444,23 +1395,23 @@ rud_trap();
 
 static void in_std_alloc_vec_Vec_remove_e185903fd0eadc08(RUD_IT u64 a0, u64 a1, u64 a2) {
 u32 v11 = 0, v12 = 0;
-u64 v3 = 0, v4 = 0, v5 = 0, v6 = 0, v7 = 0, v8 = 0, v9 = 0, v10 = 0;
+u64 v3 = 0, v4 = 0, v5 = 0, v6 = 0, v7 = 0, v8 = 0, v9 = 0, v10 = 0, j0 = 0;
 RUD_HERE
 v4 = RUD_G0 - 32u;
 RUD_G0 = v4;
 if ((s64)v4 >= (s64)16u) {
-v5 = a1 + 8u;
-TEST(v5);
-v7 = AT64(v5, 0);
-SET64(v5, 0, 0u);
-v5 = a1 + 16u;
-TEST(v5);
-v9 = AT64(v5, 0);
-SET64(v5, 0, 0u);
+v3 = a1 + 8u;
+TEST(v3);
+v5 = AT64(v3, 0);
+SET64(v3, 0, 0u);
+v3 = a1 + 16u;
+TEST(v3);
+v8 = AT64(v3, 0);
+SET64(v3, 0, 0u);
 TEST(a1);
-v8 = AT64(a1, 0);
-v6 = a2 * 40u;
-v3 = v8 + v6;
+v7 = AT64(a1, 0);
+v9 = a2 * 40u;
+v3 = v7 + v9;
 TEST(v3);
 TEST(v4);
 SET64(v4, 0, AT64(v3, 4));
@@ -1469,31 +1420,30 @@ SET64(v4, 16, AT64(v3, 20));
 SET64(v4, 24, AT64(v3, 28));
 v11 = AT8(v3, 1);
 v12 = AT8(v3, 0);
-v10 = v7 - 1u;
-v5 = v10 - a2;
-if (v5 < 52u) goto L2;
+v10 = v5 - 1u;
+v6 = v10 - a2;
+if (v6 < 52u) goto L3;
 a2 = a2 ^ 0xffffffffffffffffull;
-v3 = v6 + v8;
-L4:;
+v3 = v7 + v9;
+L5:;
 in_core_slots_raw_move_down_18_toml_value_Value(RUD_AS v3 + 40u, v3, 51u);
 v3 = v3 + 2040u;
 a2 = a2 - 51u;
-v6 = v7 + a2;
-if (v6 > 51u) goto L4;
+v6 = v5 + a2;
+if (v6 > 51u) goto L5;
 v5 = v3 + 40u;
-if (!(a2 == 0)) {
-in_core_slots_raw_move_down_18_toml_value_Value(RUD_AS v5, v3, v6);
-goto L1;
-}
+if (!(a2 == 0)) { j0 = v5; goto L2; }
 in_core_slots_raw_move_up_18_toml_value_Value(RUD_AS v5, v3, v6);
 goto L1;
 }
 rud_trap();
+L3:;
+j0 = v3 + 40u;
 L2:;
-in_core_slots_raw_move_down_18_toml_value_Value(RUD_AS v3 + 40u, v3, v5);
+in_core_slots_raw_move_down_18_toml_value_Value(RUD_AS j0, v3, v6);
 L1:;
-SET64(a1, 0, v8);
-SET64(a1, 16, v9);
+SET64(a1, 0, v7);
+SET64(a1, 16, v8);
 SET64(a1, 8, v10);
 TEST(a0);
 SET8(a0, 1, v11);
@@ -1506,84 +1456,53 @@ RUD_G0 = v4 + 32u;
 }
 
 static u64 in_std_alloc_vec_Vec_remove_8c0c036898378f4f(RUD_IT u64 a0) {
-u64 v1 = 0, v2 = 0, v3 = 0, v4 = 0, v5 = 0, v6 = 0, v7 = 0, v8 = 0, v9 = 0, v10 = 0, v11 = 0, v12 = 0;
-u64 j0 = 0;
+u64 v1 = 0, v2 = 0, v3 = 0, v4 = 0, v5 = 0, v6 = 0, v7 = 0, v8 = 0, j0 = 0;
 RUD_HERE
 if ((s64)RUD_G0 >= (s64)16u) {
-v1 = a0 + 8u;
-TEST(v1);
-j0 = AT64(v1, 0);
-SET64(v1, 0, 0u);
-v1 = a0 + 16u;
-TEST(v1);
-v11 = AT64(v1, 0);
-SET64(v1, 0, 0u);
+v2 = a0 + 8u;
+TEST(v2);
+j0 = AT64(v2, 0);
+SET64(v2, 0, 0u);
+v2 = a0 + 16u;
+TEST(v2);
+v6 = AT64(v2, 0);
+SET64(v2, 0, 0u);
 TEST(a0);
-v6 = AT64(a0, 0);
-TEST(v6);
-v12 = AT64(v6, 0);
-v7 = j0 - 1u;
-v2 = v7;
-if (v7 >= 257u) {
-v1 = v6;
+v2 = AT64(a0, 0);
+TEST(v2);
+v7 = AT64(v2, 0);
+v5 = j0 - 1u;
+v3 = v5;
+if (v5 >= 257u) {
+v1 = v2;
 L3:;
-v4 = 0xfffffffffffff800ull;
+v3 = 0u;
 L4:;
-v5 = v1 + v4;
-v9 = v5 + 2056u;
-TEST(v9);
-PUT64(v5 + 2048u, 0, AT64(v9, 0));
-v2 = v5 + 2064u;
-v10 = AT64(v9, 8);
-j0 = v2;
-v2 = v5 + 2072u;
-SET64(v9, 8, AT64(v9, 16));
-SET64(v9, 0, v10);
-SET64(v9, 16, AT64(v9, 24));
-v4 = v4 + 32u;
-if (v4 != 0u) goto L4;
+v8 = v1 + v3;
+TEST(v8);
+SET64(v8, 0, AT64(v8, 8));
+v3 = v3 + 8u;
+if (v3 != 2048u) goto L4;
 v1 = v1 + 2048u;
-v3 = v3 + 256u;
-v2 = v7 - v3;
-if (v2 > 256u) goto L3;
+v4 = v4 + 256u;
+v3 = v5 - v4;
+if (v3 > 256u) goto L3;
 }
-if (v3 == v7) goto L5;
-v3 = v3 << 3;
-v4 = v2 & 3u;
-if ((v2 - 1u) >= 3u) {
-v1 = v3 + v6;
-v5 = v2 & 508u;
-L7:;
-v9 = v1 + 8u;
-TEST(v9);
-TEST(v1);
-SET64(v1, 0, AT64(v9, 0));
-v2 = v1 + 16u;
-v10 = AT64(v9, 8);
-j0 = v2;
-v2 = v1 + 24u;
-SET64(v9, 8, AT64(v9, 16));
-SET64(v9, 0, v10);
-v1 = v1 + 32u;
-SET64(v9, 16, AT64(v9, 24));
-v8 = v8 + 4u;
-if (v5 != v8) goto L7;
-if (v4 == 0) goto L5;
-}
-v1 = v6 + (v3 + (v8 << 3));
-L8:;
+if (v4 != v5) {
+v1 = v2 + (v4 << 3);
+L6:;
 j0 = v1;
 v1 = v1 + 8u;
 TEST(v1);
 TEST(j0);
 SET64(j0, 0, AT64(v1, 0));
-v4 = v4 - 1u;
-if (v4 != 0u) goto L8;
-L5:;
-SET64(a0, 0, v6);
-SET64(a0, 16, v11);
-SET64(a0, 8, v7);
-return v12;
+v3 = v3 - 1u;
+if (v3 != 0u) goto L6;
+}
+SET64(a0, 0, v2);
+SET64(a0, 16, v6);
+SET64(a0, 8, v5);
+return v7;
 }
 rud_trap();
 return 0;
@@ -1602,15 +1521,11 @@ v5 = AT8(a0, 24);
 v2 = AT64(a0, 0);
 TEST(v1);
 j0 = AT64(a0, 16);
-SET64(v1, 0, 0u);
-SET64(v1, 8, 0u);
-SET64(v1, 16, 0u);
-SET64(v1, 24, 0u);
-SET64(v1, 32, 0u);
 SET64(v1, 48, AT64(a0, 28));
 SET64(v1, 56, AT64(a0, 36));
 SET64(v1, 64, AT64(a0, 44));
 SET64(v1, 72, AT64(a0, 52));
+FILL_FEW(v1, 0u, 40u);
 if (!(j0 == 0)) {
 rud_dealloc(RUD_AS v2);
 RUD_AGAIN
@@ -1783,8 +1698,8 @@ TEST(a0);
 in_core_slice_edits_slice_T_reverse_483ec8513fd57e54(RUD_AS AT64(a0, 0), AT64(a0, 8));
 v1 = AT64(a0, 24);
 v2 = AT64(a0, 32);
-if (v2 > 15u) goto L1;
-if (v2 >= 2u) {
+if (v2 > 15u) goto L2;
+if (v2 < 2u) goto L1;
 a0 = v2 - 1u;
 v2 = ((v2 - 2u) >> 1) + 1u;
 L4:;
@@ -1798,12 +1713,10 @@ L5:;
 a0 = a0 - 1u;
 v3 = v3 + 1u;
 if (v2 != v3) goto L4;
-}
-RUD_G0 = v7;
-return;
+goto L1;
 }
 rud_trap();
-L1:;
+L2:;
 a0 = v2 >> 1;
 v2 = v1 + ((v2 - a0) * 40u);
 v3 = RUD_G0 - 80u;
@@ -1860,6 +1773,7 @@ goto L7;
 }
 rud_trap();
 L7:;
+L1:;
 RUD_G0 = v7;
 }
 
@@ -1912,19 +1826,15 @@ rud_trap();
 }
 
 static void in_std_collections_btree_node_Node_destroy_031b4c9998add48b(RUD_IT u64 a0) {
-u32 v5 = 0, v6 = 0;
-u64 v1 = 0, v2 = 0, v3 = 0, v4 = 0, j0 = 0;
+u32 v6 = 0, v7 = 0;
+u64 v1 = 0, v2 = 0, v3 = 0, v4 = 0, v5 = 0, j0 = 0;
 RUD_HERE
 (void)v2;
 v1 = RUD_G0 - 288u;
 RUD_G0 = v1;
 if ((s64)v1 >= (s64)16u) {
+FILL_FEW(v1 + 24u, 0u, 40u);
 TEST(v1);
-SET64(v1, 56, 0u);
-SET64(v1, 48, 0u);
-SET64(v1, 40, 0u);
-SET64(v1, 32, 0u);
-SET64(v1, 24, 0u);
 SET64(v1, 104, 15u);
 SET64(v1, 80, 15u);
 SET64(v1, 136, a0);
@@ -1932,16 +1842,16 @@ SET64(v1, 112, a0 + 968u);
 SET64(v1, 88, a0 + 368u);
 SET64(v1, 64, a0 + 8u);
 TEST(a0);
-v5 = AT16(a0, 2);
-SET64(v1, 128, v5 ? 16ull : 0ull);
-v6 = AT16(a0, 0);
-a0 = (u64)v6 & 65535u;
+v6 = AT16(a0, 2);
+SET64(v1, 128, v6 ? 16ull : 0ull);
+v7 = AT16(a0, 0);
+a0 = (u64)v7 & 65535u;
 SET64(v1, 96, a0);
 SET64(v1, 72, a0);
-SET64(v1, 120, v5 ? (a0 + 1u) : 0ull);
-if (v5) {
-v4 = v1 + 112u;
+SET64(v1, 120, v6 ? (a0 + 1u) : 0ull);
 if (v6) {
+v4 = v1 + 112u;
+if (v7) {
 a0 = v1 + 88u;
 v2 = v1 + 28u;
 v3 = (v1 + 208u) | 4u;
@@ -1952,13 +1862,10 @@ RUD_AGAIN
 SET64(v1, 144, 0u);
 SET64(v1, 152, 0u);
 SET64(v1, 160, 0u);
-SET64(v1, 208, 0u);
-SET64(v1, 216, 0u);
-SET64(v1, 224, 0u);
-SET64(v1, 232, 0u);
-SET64(v1, 240, 0u);
+v5 = v1 + 208u;
+FILL_FEW(v5, 0u, 40u);
 in_std_alloc_vec_Vec_remove_992c4ce9cbd9eb37(RUD_AS v1 + 144u, v1 + 64u, 0u);
-in_std_alloc_vec_Vec_remove_e185903fd0eadc08(RUD_AS v1 + 208u, a0, 0u);
+in_std_alloc_vec_Vec_remove_e185903fd0eadc08(RUD_AS v5, a0, 0u);
 TEST(v3);
 SET64(v1, 28, AT64(v3, 0));
 SET64(v1, 36, AT64(v3, 8));
@@ -1982,14 +1889,7 @@ goto L2;
 a0 = v1 + 64u;
 in_std_collections_btree_row_Row_reverse_ff41410e3cb3b3e8(RUD_AS a0);
 COPY_FEW(v1 + 208u, a0, 80u);
-SET64(v1, 200, 0u);
-SET64(v1, 192, 0u);
-SET64(v1, 184, 0u);
-SET64(v1, 176, 0u);
-SET64(v1, 168, 0u);
-SET64(v1, 160, 0u);
-SET64(v1, 152, 0u);
-SET64(v1, 144, 0u);
+FILL_FEW(v1 + 144u, 0u, 64u);
 if (!(AT64(v1, 216) == 0)) {
 L7:;
 a0 = v1 + 144u;
@@ -2008,8 +1908,8 @@ rud_trap();
 }
 
 static void in_std_alloc_vec_Vec_drop_f8ad6a88bf30276b(RUD_IT u64 a0) {
-u32 v6 = 0;
-u64 v1 = 0, v2 = 0, v3 = 0, v4 = 0, j0 = 0;
+u32 v7 = 0;
+u64 v1 = 0, v2 = 0, v3 = 0, v4 = 0, v6 = 0, j0 = 0;
 RUD_HERE
 v1 = RUD_G0 - 48u;
 RUD_G0 = v1;
@@ -2023,21 +1923,18 @@ v2 = (v1 + 8u) | 4u;
 a0 = v3;
 L3:;
 TEST(a0);
-v6 = AT16(a0, 0);
-TEST(v1);
-SET64(v1, 40, 0u);
-SET64(v1, 32, 0u);
-SET64(v1, 24, 0u);
-SET64(v1, 16, 0u);
-SET64(v1, 8, 0u);
+v7 = AT16(a0, 0);
+v6 = v1 + 8u;
+FILL_FEW(v6, 0u, 40u);
 TEST(v2);
 SET64(v2, 0, AT64(a0, 4));
 SET64(v2, 8, AT64(a0, 12));
 SET64(v2, 16, AT64(a0, 20));
 SET64(v2, 24, AT64(a0, 28));
-SET16(v1, 8, v6);
+TEST(v1);
+SET16(v1, 8, v7);
 a0 = a0 + 40u;
-in_toml_toml_value_Value_Destruct_drop(RUD_AS v1 + 8u);
+in_toml_toml_value_Value_Destruct_drop(RUD_AS v6);
 RUD_AGAIN
 v4 = v4 - 1u;
 if (v4 != 0u) goto L3;
@@ -2230,23 +2127,15 @@ SET64(v3, 112, 0u);
 SET64(v3, 120, 0u);
 SET64(v3, 128, 0u);
 SET64(v3, 136, 0u);
-SET64(v3, 40, 0u);
-SET64(v3, 48, 0u);
-SET64(v3, 56, 0u);
-SET64(v3, 64, 0u);
-SET64(v3, 72, 0u);
-SET64(v3, 80, 0u);
-SET64(v3, 0, 0u);
-SET64(v3, 8, 0u);
-SET64(v3, 16, 0u);
-SET64(v3, 24, 0u);
-SET64(v3, 32, 0u);
 TEST(a2);
 v4 = AT64(a2, 8);
-v5 = (u64)AT8(a2, 0);
-SET64(v3, 104, AT64(a2, 16));
+v5 = AT64(a2, 16);
+a2 = (u64)AT8(a2, 0);
+FILL_FEW(v3 + 40u, 0u, 48u);
+FILL_FEW(v3, 0u, 40u);
+SET64(v3, 104, v5);
 SET64(v3, 96, v4);
-SET64(v3, 88, v5);
+SET64(v3, 88, a2);
 TEST(a1);
 SET64(v3, 160, AT64(a1, 16));
 SET64(v3, 152, AT64(a1, 8));
@@ -2278,17 +2167,14 @@ SET64(a0, 24, 0u);
 goto L1;
 L3:;
 v6 = AT16(v3, 48);
-SET64(v3, 168, 0u);
-SET64(v3, 176, 0u);
-SET64(v3, 184, 0u);
-SET64(v3, 192, 0u);
-SET64(v3, 200, 0u);
+a1 = v3 + 168u;
+FILL_FEW(a1, 0u, 40u);
 SET16(v3, 168, v6);
 SET64(v3, 172, AT64(v3, 52));
 SET64(v3, 180, AT64(v3, 60));
 SET64(v3, 188, AT64(v3, 68));
 SET64(v3, 196, AT64(v3, 76));
-in_toml_toml_value_Value_Destruct_drop(RUD_AS v3 + 168u);
+in_toml_toml_value_Value_Destruct_drop(RUD_AS a1);
 RUD_AGAIN
 in_std_alloc_vec_Vec_drop_f8ad6a88bf30276b(RUD_AS v3 + 144u);
 RUD_AGAIN
@@ -2601,79 +2487,38 @@ in_byn_mgfn_shared_std_collections_btree_node_parts_Parts_new_3401b(RUD_AS a0, a
 }
 
 static void in_std_alloc_vec_lodged_Vec_T_Lodged_append_tail_483ec8513fd57e54(RUD_IT u64 a0, u64 a1) {
-u64 v2 = 0, v3 = 0, v4 = 0, v5 = 0, v6 = 0, v7 = 0, v8 = 0, v9 = 0, v10 = 0, v11 = 0, v12 = 0, v13 = 0;
-u64 v14 = 0;
+u64 v2 = 0, v3 = 0, v4 = 0, v5 = 0, v6 = 0, v7 = 0;
 RUD_HERE
 if ((s64)RUD_G0 >= (s64)16u) {
 TEST(a1);
-v3 = AT64(a1, 8);
-v8 = v3 - 8u;
-v2 = v8 * 24u;
+v5 = AT64(a1, 8) - 8u;
+v4 = v5 * 24u;
 TEST(a0);
-v12 = AT64(a0, 0);
-v13 = AT64(a0, 8) * 24u;
-v10 = v12 + v13;
-v11 = AT64(a1, 0);
-v4 = v11 + 192u;
-if (v2 > (v10 - v4)) {
-if (v8 == 0) goto L2;
-v9 = v3 & 3u;
-v4 = 0u;
-if ((v3 - 9u) >= 3u) {
-v14 = v8 & 0xfffffffffffffffcull;
-L5:;
-v3 = v7 + v11;
+v2 = AT64(a0, 0) + (AT64(a0, 8) * 24u);
+v3 = AT64(a1, 0) + 192u;
+if (v4 > (v2 - v3)) {
+v4 = v5;
+if (v4 == 0) goto L2;
+L4:;
 TEST(v3);
-v5 = AT64(v3, 192);
-v6 = AT64(v3, 200);
-v2 = v7 + v10;
+v6 = AT64(v3, 0);
+v7 = AT64(v3, 8);
 TEST(v2);
-SET64(v2, 16, AT64(v3, 208));
-SET64(v2, 8, v6);
-SET64(v2, 0, v5);
-v5 = AT64(v3, 216);
-v6 = AT64(v3, 224);
-SET64(v2, 40, AT64(v3, 232));
-SET64(v2, 32, v6);
-SET64(v2, 24, v5);
-v5 = AT64(v3, 240);
-v6 = AT64(v3, 248);
-SET64(v2, 64, AT64(v3, 256));
-SET64(v2, 56, v6);
-SET64(v2, 48, v5);
-v5 = AT64(v3, 264);
-v6 = AT64(v3, 272);
-SET64(v2, 88, AT64(v3, 280));
-SET64(v2, 80, v6);
-SET64(v2, 72, v5);
-v7 = v7 + 96u;
-v4 = v4 + 4u;
-if (v14 != v4) goto L5;
-if (v9 == 0) goto L2;
-}
-v2 = v4 * 24u;
-v3 = v12 + (v2 + v13);
-v2 = (v2 + v11) + 192u;
-L6:;
-TEST(v2);
-v4 = AT64(v2, 0);
-v7 = AT64(v2, 8);
-TEST(v3);
-SET64(v3, 16, AT64(v2, 16));
-SET64(v3, 8, v7);
-SET64(v3, 0, v4);
-v3 = v3 + 24u;
+SET64(v2, 16, AT64(v3, 16));
+SET64(v2, 8, v7);
+SET64(v2, 0, v6);
 v2 = v2 + 24u;
-v9 = v9 - 1u;
-if (v9 != 0u) goto L6;
+v3 = v3 + 24u;
+v4 = v4 - 1u;
+if (v4 != 0u) goto L4;
 goto L2;
 }
-if (v2 == 0) goto L2;
-COPY(v10, v4, v2);
+if (v4 == 0) goto L2;
+COPY(v2, v3, v4);
 L2:;
 a0 = a0 + 8u;
 TEST(a0);
-SET64(a0, 0, AT64(a0, 0) + v8);
+SET64(a0, 0, AT64(a0, 0) + v5);
 SET64(a1, 8, 8u);
 return;
 }
@@ -2681,482 +2526,326 @@ rud_trap();
 }
 
 static void in_std_alloc_vec_lodged_Vec_T_Lodged_insert_reserved_483ec8513fd57e(RUD_IT u64 a0, u64 a1, u64 a2) {
-u64 v3 = 0, v4 = 0, v5 = 0, v6 = 0, v7 = 0, v8 = 0, v9 = 0, v10 = 0, v11 = 0, v12 = 0, v13 = 0, v14 = 0;
-u64 j0 = 0;
+u64 v3 = 0, v4 = 0, v5 = 0, v6 = 0, v7 = 0, v8 = 0, v9 = 0, v10 = 0, v11 = 0;
 RUD_HERE
-v11 = RUD_G0 - 32u;
-if ((s64)v11 >= (s64)16u) {
-v5 = a0 + 8u;
-TEST(v5);
-v8 = AT64(v5, 0);
+v8 = RUD_G0 - 32u;
+if ((s64)v8 >= (s64)16u) {
+v4 = a0 + 8u;
+TEST(v4);
+v6 = AT64(v4, 0);
 TEST(a2);
-v3 = AT64(a2, 0);
-v6 = AT64(a2, 8);
+v5 = AT64(a2, 0);
+v9 = AT64(a2, 8);
 a2 = AT64(a2, 16);
-SET64(v5, 0, 0u);
-v5 = a0 + 16u;
-TEST(v5);
-v13 = AT64(v5, 0);
-SET64(v5, 0, 0u);
-TEST(v11);
-SET64(v11, 24, a2);
-SET64(v11, 16, v6);
-SET64(v11, 8, v3);
-v4 = a1 + 1u;
+SET64(v4, 0, 0u);
+v4 = a0 + 16u;
+TEST(v4);
+v11 = AT64(v4, 0);
+SET64(v4, 0, 0u);
+TEST(v8);
+SET64(v8, 24, a2);
+SET64(v8, 16, v9);
+SET64(v8, 8, v5);
 TEST(a0);
-v5 = AT64(a0, 0);
+v4 = AT64(a0, 0);
 if (a1 == 0xffffffffffffffffull) {
-v7 = v8 + 1u;
-if (v7 < 86u) goto L2;
+v10 = v6 + 1u;
+if (v10 >= 86u) {
 a2 = 0u;
-v3 = v5;
+v5 = v4;
 L5:;
-v6 = a2;
-if (!(v6 == 0)) {
-v4 = 0u;
+v9 = a2;
+if (!(v9 == 0)) {
+a2 = 2040u;
 L8:;
-a2 = v3 + v4;
-v9 = a2 + 2008u;
-TEST(v9);
-SET64(v9, 24, AT64(v9, 0));
-v10 = a2 + 2000u;
-TEST(v10);
-SET64(v9, 16, AT64(v10, 0));
-v12 = a2 + 1992u;
-TEST(v12);
-SET64(v9, 8, AT64(v12, 0));
-if (v4 == 0xfffffffffffff820ull) goto L6;
-SET64(v9, 0, GET64(a2 + 1984u, 0));
-SET64(v10, 0, GET64(a2 + 1976u, 0));
-SET64(v12, 0, GET64(a2 + 1968u, 0));
-v4 = v4 - 48u;
-goto L8;
-rud_trap();
+v7 = a2 + v5;
+v3 = v7 - 24u;
+v7 = v7 - 48u;
+TEST(v7);
+SET64(v7, 40, AT64(v7, 16));
+SET64(v7, 32, AT64(v7, 8));
+SET64(v7, 24, AT64(v7, 0));
+a2 = a2 - 24u;
+if (a2 != 0u) goto L8;
+goto L6;
 }
-v4 = 0u;
+v3 = 0u;
 L9:;
-a2 = v3 + v4;
-v9 = a2 - 24u;
-TEST(v9);
-SET64(v9, 40, AT64(v9, 16));
-SET64(v9, 32, AT64(v9, 8));
-SET64(v9, 24, AT64(v9, 0));
-if (v4 == 2016u) goto L6;
-SET64(v9, 64, AT64(v9, 40));
-SET64(v9, 56, AT64(v9, 32));
-SET64(v9, 48, AT64(v9, 24));
-v4 = v4 + 48u;
-goto L9;
-rud_trap();
+a2 = v3 + v5;
+v7 = a2 - 24u;
+TEST(v7);
+SET64(v7, 40, AT64(v7, 16));
+SET64(v7, 32, AT64(v7, 8));
+SET64(v7, 24, AT64(v7, 0));
+v3 = v3 + 24u;
+if (v3 != 2040u) goto L9;
 L6:;
-v3 = v3 + 2040u;
-a2 = v6 + 85u;
-if ((v7 - a2) > 85u) goto L5;
-if (a2 == v7) goto L1;
-v4 = (v8 - v6) - 84u;
-a2 = ((v8 * 24u) + v5) - 24u;
+v5 = v5 + 2040u;
+a2 = v9 + 85u;
+if ((v10 - a2) > 85u) goto L5;
+if (a2 == v10) goto L2;
+v3 = (v6 - v9) - 84u;
+a2 = ((v6 * 24u) + v4) - 24u;
 L10:;
 TEST(a2);
 SET64(a2, 40, AT64(a2, 16));
 SET64(a2, 32, AT64(a2, 8));
 SET64(a2, 24, AT64(a2, 0));
 a2 = a2 - 24u;
-v4 = v4 - 1u;
-if (!(v4 == 0)) goto L10;
-goto L1;
+v3 = v3 - 1u;
+if (!(v3 == 0)) goto L10;
+goto L2;
 }
-if (a1 == v8) goto L1;
-v3 = v8 - a1;
-v6 = v5 + (v4 * 24u);
-v7 = v5 + (a1 * 24u);
-v4 = 0u;
-if ((a1 + 1u) != v8) {
-v14 = v3 & 0xfffffffffffffffeull;
-a2 = ((v8 * 24u) + v5) - 24u;
-j0 = v3 & 1u;
+if (v10 == 0) goto L2;
+v9 = a1 * 24u;
+a2 = v4;
+L11:;
+v5 = a2 + v9;
+TEST(v5);
+TEST(a2);
+SET64(a2, 16, AT64(v5, 16));
+SET64(a2, 8, AT64(v5, 8));
+SET64(a2, 0, AT64(v5, 0));
+a2 = a2 + 24u;
+v10 = v10 - 1u;
+if (!(v10 == 0)) goto L11;
+goto L2;
+}
+if (a1 == v6) goto L2;
+v3 = v6 - a1;
+a2 = ((v6 * 24u) + v4) - 24u;
 L12:;
 TEST(a2);
 SET64(a2, 40, AT64(a2, 16));
 SET64(a2, 32, AT64(a2, 8));
 SET64(a2, 24, AT64(a2, 0));
-v10 = (v3 + (v4 ^ 2305843009213693950ull)) * 24u;
-v9 = v6 + v10;
-v10 = v7 + v10;
-TEST(v10);
-TEST(v9);
-SET64(v9, 16, AT64(v10, 16));
-SET64(v9, 8, AT64(v10, 8));
-SET64(v9, 0, AT64(v10, 0));
-a2 = a2 - 48u;
-v4 = v4 + 2u;
-if (v14 != v4) goto L12;
-if (j0 == 0) goto L1;
-}
-v3 = (v3 + (v4 ^ 0xffffffffffffffffull)) * 24u;
-a2 = v6 + v3;
-v3 = v3 + v7;
-TEST(v3);
-TEST(a2);
-SET64(a2, 16, AT64(v3, 16));
-SET64(a2, 8, AT64(v3, 8));
-SET64(a2, 0, AT64(v3, 0));
-goto L1;
+a2 = a2 - 24u;
+v3 = v3 - 1u;
+if (v3 != 0u) goto L12;
+L2:;
+a1 = v4 + (a1 * 24u);
+TEST(a1);
+SET64(a1, 16, AT64(v8, 24));
+SET64(a1, 8, AT64(v8, 16));
+SET64(a1, 0, AT64(v8, 8));
+SET64(a0, 16, v11);
+SET64(a0, 8, v6 + 1u);
+SET64(a0, 0, v4);
+return;
 }
 rud_trap();
-L2:;
-if (v7 == 0) goto L1;
-if (v8 == 0) {
-v6 = 0u;
-goto L13;
-}
-v10 = a1 * 24u;
-j0 = v7 & 1u;
-v7 = v7 & 126u;
-v6 = 0u;
-a2 = v5;
-L15:;
-v3 = a2 + v10;
-TEST(v3);
-TEST(a2);
-SET64(a2, 16, AT64(v3, 16));
-SET64(a2, 8, AT64(v3, 8));
-SET64(a2, 0, AT64(v3, 0));
-SET64(a2, 24, AT64(v3, 24));
-SET64(a2, 32, AT64(v3, 32));
-SET64(a2, 40, AT64(v3, 40));
-a2 = a2 + 48u;
-v6 = v6 + 2u;
-if (v7 != v6) goto L15;
-if (j0 == 0) goto L1;
-L13:;
-v3 = v6 * 24u;
-a2 = v5 + v3;
-v3 = ((v5 + (v4 * 24u)) - 24u) + v3;
-TEST(v3);
-TEST(a2);
-SET64(a2, 16, AT64(v3, 16));
-SET64(a2, 8, AT64(v3, 8));
-SET64(a2, 0, AT64(v3, 0));
-L1:;
-a1 = v5 + (a1 * 24u);
-TEST(a1);
-SET64(a1, 16, AT64(v11, 24));
-SET64(a1, 8, AT64(v11, 16));
-SET64(a1, 0, AT64(v11, 8));
-SET64(a0, 16, v13);
-SET64(a0, 8, v8 + 1u);
-SET64(a0, 0, v5);
 }
 
 static void in_std_alloc_vec_lodged_Vec_T_Lodged_insert_reserved_18_toml_value(RUD_IT u64 a0, u64 a1, u64 a2) {
-u32 v17 = 0, v18 = 0;
-u64 v3 = 0, v4 = 0, v5 = 0, v6 = 0, v7 = 0, v8 = 0, v9 = 0, v10 = 0, v11 = 0, v12 = 0, v13 = 0, v14 = 0;
-u64 v15 = 0, v16 = 0, j0 = 0;
+u32 v13 = 0, v14 = 0;
+u64 v3 = 0, v4 = 0, v5 = 0, v6 = 0, v7 = 0, v8 = 0, v9 = 0, v10 = 0, v11 = 0, v12 = 0, j0 = 0;
 RUD_HERE
-(void)v13;
-(void)v14;
-(void)v15;
-(void)v16;
 v6 = RUD_G0 - 48u;
 RUD_G0 = v6;
 if ((s64)v6 >= (s64)16u) {
 TEST(a2);
-v17 = AT8(a2, 1);
-v18 = AT8(a2, 0);
-v4 = a0 + 8u;
-TEST(v4);
-v8 = AT64(v4, 0);
-v3 = AT64(a2, 4);
+v13 = AT8(a2, 1);
+v14 = AT8(a2, 0);
+v3 = a0 + 8u;
+TEST(v3);
+v8 = AT64(v3, 0);
+v4 = AT64(a2, 4);
 v5 = AT64(a2, 12);
 v7 = AT64(a2, 20);
 a2 = AT64(a2, 28);
-SET64(v4, 0, 0u);
-v4 = a0 + 16u;
-TEST(v4);
-v11 = AT64(v4, 0);
-SET64(v4, 0, 0u);
+SET64(v3, 0, 0u);
+v3 = a0 + 16u;
+TEST(v3);
+v12 = AT64(v3, 0);
+SET64(v3, 0, 0u);
 TEST(v6);
 SET64(v6, 40, a2);
 SET64(v6, 32, v7);
 SET64(v6, 24, v5);
-SET64(v6, 16, v3);
+SET64(v6, 16, v4);
 TEST(a0);
 a2 = AT64(a0, 0);
 v7 = v6 + 16u;
-v4 = a1 + 1u;
-if (v4 == 0) {
-v10 = v8 + 1u;
-if (v10 < 52u) goto L2;
-v4 = a2;
+v3 = a1 + 1u;
+if (v3 == 0) {
+v9 = v8 + 1u;
+if (v9 < 52u) goto L2;
+v3 = a2;
 v5 = 0u;
 L5:;
 if (v5 == 0) {
-v9 = 0xfffffffffffff830ull;
+v10 = 0u;
 L8:;
-v3 = v4 + v9;
-v12 = v3 + 2000u;
-TEST(v12);
-SET16(v12, 0, GET16(v3 + 1960u, 0));
-v13 = v3 + 2004u;
-SET64(v12, 4, GET64(v3 + 1964u, 0));
-v14 = v3 + 2012u;
-SET64(v12, 12, GET64(v3 + 1972u, 0));
-v15 = v3 + 2020u;
-SET64(v12, 20, GET64(v3 + 1980u, 0));
-v16 = v3 + 2028u;
-SET64(v12, 28, GET64(v3 + 1988u, 0));
-if (v9 == 0) goto L6;
-SET16(v12, 40, AT16(v12, 0));
-SET64(v12, 44, AT64(v12, 4));
-SET64(v12, 52, AT64(v12, 12));
-SET64(v12, 60, AT64(v12, 20));
-SET64(v12, 68, AT64(v12, 28));
-v9 = v9 + 80u;
-goto L8;
-rud_trap();
+v4 = v3 + v10;
+TEST(v4);
+SET16(v4, 0, GET16(v4 - 40u, 0));
+v11 = v4 - 36u;
+TEST(v11);
+SET64(v4, 4, AT64(v11, 0));
+SET64(v4, 12, AT64(v11, 8));
+SET64(v4, 20, AT64(v11, 16));
+SET64(v4, 28, AT64(v11, 24));
+v10 = v10 + 40u;
+if (v10 != 2040u) goto L8;
+goto L6;
 }
-v3 = a2 + (v5 * 40u);
-in_core_slots_raw_move_up_18_toml_value_Value(RUD_AS v3 - 40u, v3, 51u);
+v4 = a2 + (v5 * 40u);
+in_core_slots_raw_move_up_18_toml_value_Value(RUD_AS v4 - 40u, v4, 51u);
 L6:;
-v4 = v4 + 2040u;
+v3 = v3 + 2040u;
 j0 = v8 - v5;
 v5 = v5 + 51u;
-v3 = j0 - 50u;
-if (v3 > 51u) goto L5;
-v4 = a2 + (v5 * 40u);
-in_core_slots_raw_move_up_18_toml_value_Value(RUD_AS v4 - 40u, v4, v3);
+v4 = j0 - 50u;
+if (v4 > 51u) goto L5;
+v3 = a2 + (v5 * 40u);
+in_core_slots_raw_move_up_18_toml_value_Value(RUD_AS v3 - 40u, v3, v4);
 goto L1;
 }
-in_core_slots_raw_move_up_18_toml_value_Value(RUD_AS a2 + (a1 * 40u), a2 + (v4 * 40u), v8 - a1);
-v10 = v8 + 1u;
+in_core_slots_raw_move_up_18_toml_value_Value(RUD_AS a2 + (a1 * 40u), a2 + (v3 * 40u), v8 - a1);
+v9 = v8 + 1u;
 goto L1;
 }
 rud_trap();
 L2:;
-v4 = a2 + (v4 * 40u);
-in_core_slots_raw_move_down_18_toml_value_Value(RUD_AS v4 - 40u, v4, v10);
+v3 = a2 + (v3 * 40u);
+in_core_slots_raw_move_down_18_toml_value_Value(RUD_AS v3 - 40u, v3, v9);
 L1:;
 a1 = a2 + (a1 * 40u);
 TEST(a1);
-SET8(a1, 0, v18);
-SET8(a1, 1, v17);
+SET8(a1, 0, v14);
+SET8(a1, 1, v13);
 SET64(a1, 4, AT64(v6, 16));
 SET64(a1, 12, AT64(v6, 24));
 SET64(a1, 20, AT64(v6, 32));
 SET64(a1, 28, AT64(v6, 40));
-SET64(a0, 16, v11);
-SET64(a0, 8, v10);
+SET64(a0, 16, v12);
+SET64(a0, 8, v9);
 SET64(a0, 0, a2);
 RUD_G0 = v6 + 48u;
 }
 
 static void in_core_slice_edits_swap_ordered_22_toml_de_tables_Node(RUD_IT u64 a0, u64 a1, u64 a2) {
-u32 v17 = 0, v18 = 0;
-u64 v3 = 0, v4 = 0, v5 = 0, v6 = 0, v7 = 0, v8 = 0, v9 = 0, v10 = 0, v11 = 0, v12 = 0, v13 = 0, v14 = 0;
-u64 v15 = 0, v16 = 0;
+u32 v10 = 0, v11 = 0;
+u64 v3 = 0, v4 = 0, v5 = 0, v6 = 0, v7 = 0, v8 = 0, v9 = 0;
 RUD_HERE
-(void)v10;
-(void)v11;
-(void)v12;
-(void)v13;
-(void)v15;
-(void)v5;
 (void)v6;
-(void)v7;
 (void)v8;
-(void)v9;
 v3 = RUD_G0 - 80u;
 if ((s64)v3 >= (s64)16u) {
 a1 = a0 + (a1 * 56u);
-v4 = a1 + 8u;
-TEST(v4);
-TEST(v3);
-SET64(v3, 40, AT64(v4, 0));
-v5 = a1 + 16u;
-SET64(v3, 48, AT64(v4, 8));
-v6 = a1 + 24u;
-SET64(v3, 56, AT64(v4, 16));
-v7 = a1 + 32u;
-SET64(v3, 64, AT64(v4, 24));
-v8 = a1 + 40u;
-SET64(v3, 72, AT64(v4, 32));
-a0 = a0 + (a2 * 56u);
-a2 = a0 + 8u;
-TEST(a2);
-SET64(v3, 0, AT64(a2, 0));
-v9 = a0 + 16u;
-SET64(v3, 8, AT64(a2, 8));
-v10 = a0 + 24u;
-SET64(v3, 16, AT64(a2, 16));
-v11 = a0 + 32u;
-SET64(v3, 24, AT64(a2, 24));
-v12 = a0 + 40u;
-SET64(v3, 32, AT64(a2, 32));
-v13 = a1 + 48u;
-v14 = AT64(v4, 40);
 TEST(a1);
-v17 = AT16(a1, 0);
+v10 = AT16(a1, 0);
+v4 = v3 + 40u;
+v5 = a1 + 8u;
+COPY_FEW(v4, v5, 40u);
+v6 = a1 + 48u;
+v7 = AT64(a1, 48);
+a0 = a0 + (a2 * 56u);
 TEST(a0);
-v18 = AT16(a0, 0);
-v15 = a0 + 48u;
-v16 = AT64(a2, 40);
-SET64(v4, 0, AT64(v3, 0));
-SET16(a1, 0, v18);
-SET64(v4, 8, AT64(v3, 8));
-SET64(v4, 16, AT64(v3, 16));
-SET64(v4, 24, AT64(v3, 24));
-SET64(v4, 32, AT64(v3, 32));
-SET64(v4, 40, v16);
-SET16(a0, 0, v17);
-SET64(a2, 0, AT64(v3, 40));
-SET64(a2, 8, AT64(v3, 48));
-SET64(a2, 16, AT64(v3, 56));
-SET64(a2, 24, AT64(v3, 64));
-SET64(a2, 32, AT64(v3, 72));
-SET64(a2, 40, v14);
+v11 = AT16(a0, 0);
+a2 = a0 + 8u;
+COPY_FEW(v3, a2, 40u);
+v8 = a0 + 48u;
+v9 = AT64(a0, 48);
+SET16(a1, 0, v11);
+COPY_FEW(v5, v3, 40u);
+SET64(a1, 48, v9);
+SET16(a0, 0, v10);
+COPY_FEW(a2, v4, 40u);
+SET64(a0, 48, v7);
 return;
 }
 rud_trap();
 }
 
 static void in_std_collections_btree_row_Row_reverse_377167ce062cdc45(RUD_IT u64 a0) {
-u32 v20 = 0, v21 = 0;
-u64 v1 = 0, v2 = 0, v3 = 0, v4 = 0, v5 = 0, v6 = 0, v7 = 0, v8 = 0, v9 = 0, v10 = 0, v11 = 0, v12 = 0;
-u64 v13 = 0, v14 = 0, v15 = 0, v16 = 0, v17 = 0, v18 = 0, v19 = 0;
+u32 v12 = 0, v13 = 0;
+u64 v1 = 0, v2 = 0, v3 = 0, v4 = 0, v5 = 0, v6 = 0, v7 = 0, v8 = 0, v9 = 0, v10 = 0, v11 = 0;
 RUD_HERE
-(void)v10;
-(void)v11;
-(void)v12;
-(void)v14;
-(void)v15;
-(void)v16;
-(void)v17;
-(void)v18;
 (void)v9;
 v7 = RUD_G0;
 if ((s64)v7 >= (s64)16u) {
 TEST(a0);
 in_core_slice_edits_slice_T_reverse_483ec8513fd57e54(RUD_AS AT64(a0, 0), AT64(a0, 8));
-v1 = AT64(a0, 24);
-v2 = AT64(a0, 32);
-if (v2 > 15u) goto L1;
-if (v2 >= 2u) {
-a0 = v2 - 1u;
-v2 = ((v2 - 2u) >> 1) + 1u;
+v3 = AT64(a0, 24);
+v1 = AT64(a0, 32);
+if (v1 > 15u) goto L2;
+if (v1 < 2u) goto L1;
+a0 = v1 - 1u;
+v1 = ((v1 - 2u) >> 1) + 1u;
 L4:;
-if (a0 > v3) {
-in_core_slice_edits_swap_ordered_22_toml_de_tables_Node(RUD_AS v1, v3, a0);
+if (a0 > v2) {
+in_core_slice_edits_swap_ordered_22_toml_de_tables_Node(RUD_AS v3, v2, a0);
 goto L5;
 }
-if (a0 >= v3) goto L5;
-in_core_slice_edits_swap_ordered_22_toml_de_tables_Node(RUD_AS v1, a0, v3);
+if (a0 >= v2) goto L5;
+in_core_slice_edits_swap_ordered_22_toml_de_tables_Node(RUD_AS v3, a0, v2);
 L5:;
 a0 = a0 - 1u;
-v3 = v3 + 1u;
-if (v2 != v3) goto L4;
-}
-RUD_G0 = v7;
-return;
+v2 = v2 + 1u;
+if (v1 != v2) goto L4;
+goto L1;
 }
 rud_trap();
-L1:;
-a0 = v2 >> 1;
-v2 = v1 + ((v2 - a0) * 56u);
-v3 = RUD_G0 - 96u;
-if ((s64)v3 >= (s64)16u) {
-v4 = ((a0 * 56u) + v2) - 56u;
-v5 = v3 + 10u;
-v6 = v3 + 56u;
+L2:;
+a0 = v1 >> 1;
+v1 = v3 + ((v1 - a0) * 56u);
+v2 = RUD_G0 - 96u;
+if ((s64)v2 >= (s64)16u) {
+v4 = ((a0 * 56u) + v1) - 56u;
+v5 = v2 + 10u;
+v6 = v2 + 56u;
 L9:;
-v8 = v1 + 8u;
-TEST(v8);
-TEST(v6);
-SET64(v6, 0, AT64(v8, 0));
-v9 = v1 + 16u;
-SET64(v6, 8, AT64(v8, 8));
-v10 = v1 + 24u;
-SET64(v6, 16, AT64(v8, 16));
-v11 = v1 + 32u;
-SET64(v6, 24, AT64(v8, 24));
-v12 = v1 + 40u;
-SET64(v6, 32, AT64(v8, 32));
-v13 = v4 + 8u;
-TEST(v13);
-TEST(v5);
-SET64(v5, 0, AT64(v13, 0));
-v14 = v4 + 16u;
-SET64(v5, 8, AT64(v13, 8));
-v15 = v4 + 24u;
-SET64(v5, 16, AT64(v13, 16));
-v16 = v4 + 32u;
-SET64(v5, 24, AT64(v13, 24));
-v17 = v4 + 40u;
-SET64(v5, 32, AT64(v13, 32));
-v18 = v1 + 48u;
-v19 = AT64(v8, 40);
-TEST(v1);
-v20 = AT16(v1, 0);
+TEST(v3);
+v12 = AT16(v3, 0);
+v8 = v3 + 8u;
+COPY_FEW(v6, v8, 40u);
+v9 = v3 + 48u;
+v10 = AT64(v3, 48);
 TEST(v4);
-v21 = AT16(v4, 0);
-v3 = v4 + 48u;
-v2 = AT64(v13, 40);
-SET64(v8, 0, AT64(v5, 0));
-SET16(v1, 0, v21);
-SET64(v8, 8, AT64(v5, 8));
-SET64(v8, 16, AT64(v5, 16));
-SET64(v8, 24, AT64(v5, 24));
-SET64(v8, 32, AT64(v5, 32));
-SET64(v8, 40, v2);
-SET16(v4, 0, v20);
-SET64(v13, 0, AT64(v6, 0));
-SET64(v13, 8, AT64(v6, 8));
-SET64(v13, 16, AT64(v6, 16));
-SET64(v13, 24, AT64(v6, 24));
-SET64(v13, 32, AT64(v6, 32));
-SET64(v13, 40, v19);
+v13 = AT16(v4, 0);
+v11 = v4 + 8u;
+COPY_FEW(v5, v11, 40u);
+v2 = v4 + 48u;
+v1 = AT64(v4, 48);
+SET16(v3, 0, v13);
+COPY_FEW(v8, v5, 40u);
+SET64(v3, 48, v1);
+SET16(v4, 0, v12);
+COPY_FEW(v11, v6, 40u);
+SET64(v4, 48, v10);
 v4 = v4 - 56u;
-v1 = v1 + 56u;
+v3 = v3 + 56u;
 a0 = a0 - 1u;
 if (a0 != 0u) goto L9;
 goto L7;
 }
 rud_trap();
 L7:;
+L1:;
 RUD_G0 = v7;
 }
 
 static void in_core_slots_raw_move_down_22_toml_de_tables_Node(RUD_IT u64 a0, u64 a1, u64 a2) {
-u32 v12 = 0;
-u64 v3 = 0, v4 = 0, v5 = 0, v6 = 0, v7 = 0, v8 = 0, v9 = 0, v10 = 0, v11 = 0;
+u32 v8 = 0;
+u64 v3 = 0, v4 = 0, v5 = 0, v6 = 0, v7 = 0;
 RUD_HERE
 v5 = RUD_G0 - 48u;
 if ((s64)v5 >= (s64)16u) {
 if (!(a2 == 0)) {
 L3:;
-v3 = a0 + v6;
+v3 = a0 + v4;
 TEST(v3);
-v7 = AT64(v3, 8);
-v8 = AT64(v3, 16);
-v9 = AT64(v3, 24);
-v10 = AT64(v3, 32);
-v11 = AT64(v3, 40);
-v12 = AT16(v3, 0);
-v4 = a1 + v6;
-TEST(v4);
-SET64(v4, 48, AT64(v3, 48));
-SET16(v4, 0, v12);
-SET64(v4, 40, v11);
-SET64(v4, 32, v10);
-SET64(v4, 24, v9);
-SET64(v4, 16, v8);
-SET64(v4, 8, v7);
-TEST(v5);
-SET64(v5, 8, v7);
-SET64(v5, 16, v8);
-SET64(v5, 24, v9);
-SET64(v5, 32, v10);
-SET64(v5, 40, v11);
-v6 = v6 + 56u;
+v8 = AT16(v3, 0);
+v6 = v5 + 8u;
+COPY_FEW(v6, v3 + 8u, 40u);
+v7 = AT64(v3, 48);
+v3 = a1 + v4;
+TEST(v3);
+SET16(v3, 0, v8);
+COPY_FEW(v3 + 8u, v6, 40u);
+SET64(v3, 48, v7);
+v4 = v4 + 56u;
 a2 = a2 - 1u;
 if (a2 != 0u) goto L3;
 }
@@ -3166,39 +2855,23 @@ rud_trap();
 }
 
 static void in_core_slots_raw_move_up_22_toml_de_tables_Node(RUD_IT u64 a0, u64 a1, u64 a2) {
-u32 v12 = 0;
-u64 v3 = 0, v4 = 0, v5 = 0, v6 = 0, v7 = 0, v8 = 0, v9 = 0, v10 = 0, v11 = 0;
+u32 v8 = 0;
+u64 v3 = 0, v4 = 0, v5 = 0, v6 = 0, v7 = 0;
 RUD_HERE
-v4 = RUD_G0 - 48u;
-if ((s64)v4 >= (s64)16u) {
+v5 = RUD_G0 - 48u;
+if ((s64)v5 >= (s64)16u) {
 if (!(a2 == 0)) {
-v5 = a2 * 56u;
+v4 = a2 * 56u;
 L3:;
-v6 = a0 + v5;
-v3 = v6 - 48u;
-TEST(v3);
-v7 = AT64(v3, 0);
-v8 = AT64(v3, 8);
-v9 = AT64(v3, 16);
-v10 = AT64(v3, 24);
-v11 = AT64(v3, 32);
-v12 = GET16(v6 - 56u, 0);
-v3 = a1 + v5;
-PUT64(v3 - 8u, 0, GET64(v6 - 8u, 0));
-PUT16(v3 - 56u, 0, v12);
-v3 = v3 - 48u;
-TEST(v3);
-SET64(v3, 32, v11);
-SET64(v3, 24, v10);
-SET64(v3, 16, v9);
-SET64(v3, 8, v8);
-SET64(v3, 0, v7);
-TEST(v4);
-SET64(v4, 8, v7);
-SET64(v4, 16, v8);
-SET64(v4, 24, v9);
-SET64(v4, 32, v10);
-SET64(v4, 40, v11);
+v3 = a0 + v4;
+v8 = GET16(v3 - 56u, 0);
+v6 = v5 + 8u;
+COPY_FEW(v6, v3 - 48u, 40u);
+v7 = GET64(v3 - 8u, 0);
+v3 = a1 + v4;
+PUT16(v3 - 56u, 0, v8);
+COPY_FEW(v3 - 48u, v6, 40u);
+PUT64(v3 - 8u, 0, v7);
 a1 = a1 - 56u;
 a0 = a0 - 56u;
 a2 = a2 - 1u;
@@ -3211,67 +2884,57 @@ rud_trap();
 
 static void in_std_alloc_vec_Vec_remove_ead69053adb5db67(RUD_IT u64 a0, u64 a1, u64 a2) {
 u32 v12 = 0, v13 = 0;
-u64 v3 = 0, v4 = 0, v5 = 0, v6 = 0, v7 = 0, v8 = 0, v9 = 0, v10 = 0, v11 = 0;
+u64 v3 = 0, v4 = 0, v5 = 0, v6 = 0, v7 = 0, v8 = 0, v9 = 0, v10 = 0, v11 = 0, j0 = 0;
 RUD_HERE
 v4 = RUD_G0 - 48u;
 RUD_G0 = v4;
 if ((s64)v4 >= (s64)16u) {
-v5 = a1 + 8u;
-TEST(v5);
-v7 = AT64(v5, 0);
-SET64(v5, 0, 0u);
-v5 = a1 + 16u;
-TEST(v5);
-v9 = AT64(v5, 0);
-SET64(v5, 0, 0u);
-TEST(a1);
-v8 = AT64(a1, 0);
-v6 = a2 * 56u;
-v3 = v8 + v6;
+v3 = a1 + 8u;
 TEST(v3);
-TEST(v4);
-SET64(v4, 8, AT64(v3, 8));
-SET64(v4, 16, AT64(v3, 16));
-SET64(v4, 24, AT64(v3, 24));
-SET64(v4, 32, AT64(v3, 32));
-SET64(v4, 40, AT64(v3, 40));
+v5 = AT64(v3, 0);
+SET64(v3, 0, 0u);
+v3 = a1 + 16u;
+TEST(v3);
+v8 = AT64(v3, 0);
+SET64(v3, 0, 0u);
+TEST(a1);
+v7 = AT64(a1, 0);
+v9 = a2 * 56u;
+v3 = v7 + v9;
+TEST(v3);
+v12 = AT8(v3, 0);
+v13 = AT8(v3, 1);
 v10 = AT64(v3, 48);
-v12 = AT8(v3, 1);
-v13 = AT8(v3, 0);
-v11 = v7 - 1u;
-v5 = v11 - a2;
-if (v5 < 37u) goto L2;
+COPY_FEW(v4 + 8u, v3 + 8u, 40u);
+v11 = v5 - 1u;
+v6 = v11 - a2;
+if (v6 < 37u) goto L3;
 a2 = a2 ^ 0xffffffffffffffffull;
-v3 = v6 + v8;
-L4:;
+v3 = v7 + v9;
+L5:;
 in_core_slots_raw_move_down_22_toml_de_tables_Node(RUD_AS v3 + 56u, v3, 36u);
 v3 = v3 + 2016u;
 a2 = a2 - 36u;
-v6 = v7 + a2;
-if (v6 > 36u) goto L4;
+v6 = v5 + a2;
+if (v6 > 36u) goto L5;
 v5 = v3 + 56u;
-if (!(a2 == 0)) {
-in_core_slots_raw_move_down_22_toml_de_tables_Node(RUD_AS v5, v3, v6);
-goto L1;
-}
+if (!(a2 == 0)) { j0 = v5; goto L2; }
 in_core_slots_raw_move_up_22_toml_de_tables_Node(RUD_AS v5, v3, v6);
 goto L1;
 }
 rud_trap();
+L3:;
+j0 = v3 + 56u;
 L2:;
-in_core_slots_raw_move_down_22_toml_de_tables_Node(RUD_AS v3 + 56u, v3, v5);
+in_core_slots_raw_move_down_22_toml_de_tables_Node(RUD_AS j0, v3, v6);
 L1:;
-SET64(a1, 0, v8);
-SET64(a1, 16, v9);
+SET64(a1, 0, v7);
+SET64(a1, 16, v8);
 SET64(a1, 8, v11);
 TEST(a0);
-SET8(a0, 1, v12);
-SET8(a0, 0, v13);
-SET64(a0, 8, AT64(v4, 8));
-SET64(a0, 16, AT64(v4, 16));
-SET64(a0, 24, AT64(v4, 24));
-SET64(a0, 32, AT64(v4, 32));
-SET64(a0, 40, AT64(v4, 40));
+SET8(a0, 1, v13);
+SET8(a0, 0, v12);
+COPY_FEW(a0 + 8u, v4 + 8u, 40u);
 SET64(a0, 48, v10);
 RUD_G0 = v4 + 48u;
 }
@@ -3280,9 +2943,6 @@ static void in_std_collections_btree_node_Node_destroy_dc0ad195889b9f50(RUD_IT u
 u32 v7 = 0, v8 = 0;
 u64 v1 = 0, v2 = 0, v3 = 0, v4 = 0, v5 = 0, v6 = 0, j0 = 0;
 RUD_HERE
-(void)v2;
-(void)v3;
-(void)v4;
 v1 = RUD_G0 - 288u;
 RUD_G0 = v1;
 if ((s64)v1 >= (s64)16u) {
@@ -3302,14 +2962,14 @@ SET64(v1, 32, a0);
 SET64(v1, 8, a0);
 SET64(v1, 56, v8 ? (a0 + 1u) : 0ull);
 if (v8 == 0) goto L2;
-v5 = v1 + 48u;
+v2 = v1 + 48u;
 if (v7) {
-v6 = v1 + 24u;
-v2 = v1 + 234u;
-v3 = v1 + 166u;
-v4 = v1 + 88u;
+v3 = v1 + 24u;
+v4 = v1 + 234u;
+v5 = v1 + 166u;
+v6 = v1 + 88u;
 L5:;
-j0 = in_std_alloc_vec_Vec_remove_8c0c036898378f4f(RUD_AS v5);
+j0 = in_std_alloc_vec_Vec_remove_8c0c036898378f4f(RUD_AS v2);
 in_std_collections_btree_node_Node_destroy_dc0ad195889b9f50(RUD_AS j0);
 RUD_AGAIN
 SET32(v1, 160, 0u);
@@ -3317,38 +2977,24 @@ SET16(v1, 164, 0u);
 SET64(v1, 136, 0u);
 SET64(v1, 144, 0u);
 SET64(v1, 152, 0u);
-SET64(v1, 80, 0u);
-SET64(v1, 88, 0u);
-SET64(v1, 96, 0u);
-SET64(v1, 104, 0u);
-SET64(v1, 112, 0u);
-SET64(v1, 120, 0u);
-SET64(v1, 128, 0u);
+a0 = v1 + 80u;
+FILL_FEW(a0, 0u, 56u);
 in_std_alloc_vec_Vec_remove_992c4ce9cbd9eb37(RUD_AS v1 + 136u, v1, 0u);
-in_std_alloc_vec_Vec_remove_ead69053adb5db67(RUD_AS v1 + 80u, v6, 0u);
-SET64(v1, 198, AT64(v1, 120));
-SET64(v1, 190, AT64(v1, 112));
-SET64(v1, 182, AT64(v1, 104));
-SET64(v1, 174, AT64(v1, 96));
-SET64(v1, 166, AT64(v1, 88));
+in_std_alloc_vec_Vec_remove_ead69053adb5db67(RUD_AS a0, v3, 0u);
 SET64(v1, 224, AT64(v1, 152));
 SET64(v1, 216, AT64(v1, 144));
 SET64(v1, 208, AT64(v1, 136));
 v7 = AT16(v1, 80);
 a0 = AT64(v1, 128);
-SET64(v1, 272, AT64(v1, 198));
-SET64(v1, 266, AT64(v1, 192));
-SET64(v1, 258, AT64(v1, 184));
-SET64(v1, 250, AT64(v1, 176));
-SET64(v1, 242, AT64(v1, 168));
-SET64(v1, 234, AT64(v1, 160));
+COPY_FEW(v5, v6, 40u);
+COPY_FEW(v4, v1 + 160u, 46u);
 SET64(v1, 280, a0);
 SET16(v1, 232, v7);
 in_std_collections_Destruct_tuple2_drop_f30e29efdc7402b0(RUD_AS v1 + 208u);
 RUD_AGAIN
 if (AT64(v1, 8) != 0u) goto L5;
 }
-j0 = in_std_alloc_vec_Vec_remove_8c0c036898378f4f(RUD_AS v5);
+j0 = in_std_alloc_vec_Vec_remove_8c0c036898378f4f(RUD_AS v2);
 in_std_collections_btree_node_Node_destroy_dc0ad195889b9f50(RUD_AS j0);
 RUD_AGAIN
 rud_dealloc(RUD_AS AT64(v1, 72));
@@ -3365,39 +3011,36 @@ RUD_G0 = v1 + 288u;
 }
 
 static void in_toml_toml_de_tables_Node_Destruct_drop(RUD_IT u64 a0) {
-u32 v5 = 0, v6 = 0, v7 = 0, v8 = 0, v9 = 0;
-u64 v1 = 0, v2 = 0, v3 = 0, v4 = 0;
+u32 v6 = 0, v7 = 0, v8 = 0, v9 = 0, v10 = 0;
+u64 v1 = 0, v2 = 0, v3 = 0, v4 = 0, v5 = 0;
 RUD_HERE
 v1 = RUD_G0 - 64u;
 RUD_G0 = v1;
 if ((s64)v1 >= (s64)16u) {
 TEST(a0);
 v3 = AT64(a0, 40);
-v6 = AT8(a0, 32);
+v7 = AT8(a0, 32);
 v4 = AT64(a0, 24);
 v2 = AT64(a0, 16);
-v7 = AT32(a0, 12);
-v9 = AT16(a0, 10);
-v8 = AT8(a0, 9);
-v5 = AT8(a0, 8);
-TEST(v1);
-SET64(v1, 24, 0u);
-SET64(v1, 32, 0u);
-SET64(v1, 40, 0u);
-SET64(v1, 48, 0u);
-SET64(v1, 56, 0u);
-switch ((u32)(u64)AT8(a0, 0) - 1u) {
+v8 = AT32(a0, 12);
+v10 = AT16(a0, 10);
+v9 = AT8(a0, 9);
+v6 = AT8(a0, 8);
+v5 = (u64)AT8(a0, 0);
+FILL_FEW(v1 + 24u, 0u, 40u);
+switch ((u32)v5 - 1u) {
 case 0u: goto L4;
 case 1u: goto L3;
 default: goto L5;
 }
 L5:;
-SET8(v1, 48, v6);
+TEST(v1);
+SET8(v1, 48, v7);
 SET64(v1, 40, v4);
 SET64(v1, 32, v2);
-SET32(v1, 28, v7);
-SET8(v1, 25, v8);
-SET8(v1, 24, v5);
+SET32(v1, 28, v8);
+SET8(v1, 25, v9);
+SET8(v1, 24, v6);
 SET32(v1, 56, (u32)v3);
 a0 = a0 + 33u;
 TEST(a0);
@@ -3407,20 +3050,21 @@ in_toml_toml_value_Value_Destruct_drop(RUD_AS v1 + 24u);
 RUD_AGAIN
 goto L2;
 L4:;
-if (v5 != 1u) goto L2;
+if (v6 != 1u) goto L2;
 in_std_collections_btree_node_Node_destroy_dc0ad195889b9f50(RUD_AS v2);
 RUD_AGAIN
 goto L2;
 L3:;
+TEST(v1);
 SET64(v1, 16, v4);
 SET64(v1, 8, v2);
-SET32(v1, 4, v7);
-SET16(v1, 2, v9);
-SET8(v1, 1, v8);
-SET8(v1, 0, v5);
+SET32(v1, 4, v8);
+SET16(v1, 2, v10);
+SET8(v1, 1, v9);
+SET8(v1, 0, v6);
 in_std_alloc_vec_Vec_drop_f8ad6a88bf30276b(RUD_AS v1);
 RUD_AGAIN
-if (v6 != 1u) goto L2;
+if (v7 != 1u) goto L2;
 in_std_collections_btree_node_Node_destroy_dc0ad195889b9f50(RUD_AS v3);
 RUD_AGAIN
 L2:;
@@ -3432,37 +3076,28 @@ rud_trap();
 
 static void in_std_collections_Destruct_tuple2_drop_f30e29efdc7402b0(RUD_IT u64 a0) {
 u32 v4 = 0, v5 = 0;
-u64 v1 = 0, v2 = 0, j0 = 0;
+u64 v1 = 0, v2 = 0, v3 = 0;
 RUD_HERE
 v1 = RUD_G0 - 112u;
 RUD_G0 = v1;
 TEST(a0);
-TEST(v1);
-SET64(v1, 64, AT64(a0, 26));
-SET64(v1, 72, AT64(a0, 34));
-SET64(v1, 80, AT64(a0, 42));
-SET64(v1, 88, AT64(a0, 50));
-SET64(v1, 96, AT64(a0, 58));
-SET64(v1, 102, AT64(a0, 64));
-if ((s64)v1 >= (s64)16u) {
-v2 = AT64(a0, 72);
 v4 = AT8(a0, 25);
 v5 = AT8(a0, 24);
-j0 = AT64(a0, 16);
-a0 = AT64(a0, 0);
+v2 = AT64(a0, 16);
+v3 = AT64(a0, 0);
+COPY_FEW(v1 + 66u, a0 + 26u, 46u);
+if ((s64)v1 >= (s64)16u) {
+a0 = AT64(a0, 72);
+TEST(v1);
 SET64(v1, 8, 0u);
-if (!(j0 == 0)) {
-rud_dealloc(RUD_AS a0);
+if (!(v2 == 0)) {
+rud_dealloc(RUD_AS v3);
 RUD_AGAIN
 }
 SET8(v1, 9, v4);
 SET8(v1, 8, v5);
-SET64(v1, 16, AT64(v1, 70));
-SET64(v1, 24, AT64(v1, 78));
-SET64(v1, 32, AT64(v1, 86));
-SET64(v1, 40, AT64(v1, 94));
-SET64(v1, 48, AT64(v1, 102));
-SET64(v1, 56, v2);
+COPY_FEW(v1 + 16u, v1 + 72u, 40u);
+SET64(v1, 56, a0);
 in_toml_toml_de_tables_Node_Destruct_drop(RUD_AS v1 + 8u);
 RUD_AGAIN
 RUD_G0 = v1 + 112u;
@@ -3606,22 +3241,13 @@ SET16(v2, 260, 0u);
 SET64(v2, 232, 0u);
 SET64(v2, 240, 0u);
 SET64(v2, 248, 0u);
-SET64(v2, 176, 0u);
-SET64(v2, 184, 0u);
-SET64(v2, 192, 0u);
-SET64(v2, 200, 0u);
-SET64(v2, 208, 0u);
-SET64(v2, 216, 0u);
-SET64(v2, 224, 0u);
+v3 = v2 + 176u;
+FILL_FEW(v3, 0u, 56u);
 in_std_alloc_vec_Vec_remove_992c4ce9cbd9eb37(RUD_AS v2 + 232u, v2 + 96u, 0u);
-in_std_alloc_vec_Vec_remove_ead69053adb5db67(RUD_AS v2 + 176u, v2 + 120u, 0u);
-SET64(v2, 262, AT64(v2, 184));
-SET64(v2, 270, AT64(v2, 192));
-SET64(v2, 278, AT64(v2, 200));
-SET64(v2, 286, AT64(v2, 208));
-SET64(v2, 294, AT64(v2, 216));
+in_std_alloc_vec_Vec_remove_ead69053adb5db67(RUD_AS v3, v2 + 120u, 0u);
 v4 = AT64(v2, 224);
 v6 = AT16(v2, 176);
+COPY_FEW(v2 + 262u, v2 + 184u, 40u);
 v5 = in_std_alloc_vec_Vec_remove_8c0c036898378f4f(RUD_AS v2 + 144u);
 v3 = AT64(v2, 168);
 TEST(v3);
@@ -3632,12 +3258,7 @@ SET16(v2, 40, v6);
 SET64(v2, 16, AT64(v2, 232));
 SET64(v2, 24, AT64(v2, 240));
 SET64(v2, 32, AT64(v2, 248));
-SET64(v2, 42, AT64(v2, 256));
-SET64(v2, 50, AT64(v2, 264));
-SET64(v2, 58, AT64(v2, 272));
-SET64(v2, 66, AT64(v2, 280));
-SET64(v2, 74, AT64(v2, 288));
-SET64(v2, 80, AT64(v2, 294));
+COPY_FEW(v2 + 42u, v2 + 256u, 46u);
 SET64(v2, 88, v4);
 COPY_FEW(a0, v2 + 8u, 88u);
 goto L1;
@@ -3664,328 +3285,265 @@ RUD_G0 = v2 + 304u;
 }
 
 static void in_toml_de_tables_close(RUD_IT u64 a0, u64 a1) {
-u32 v34 = 0, v35 = 0, v36 = 0, v37 = 0, v38 = 0, v39 = 0, v40 = 0, v41 = 0, v42 = 0, i0 = 0, i1 = 0;
+u32 v33 = 0, v34 = 0, v35 = 0, v36 = 0, v37 = 0, v38 = 0, v39 = 0, v40 = 0, v41 = 0, i0 = 0;
 u64 v2 = 0, v3 = 0, v4 = 0, v5 = 0, v6 = 0, v7 = 0, v8 = 0, v9 = 0, v10 = 0, v11 = 0, v12 = 0, v13 = 0;
 u64 v14 = 0, v15 = 0, v16 = 0, v17 = 0, v18 = 0, v19 = 0, v20 = 0, v21 = 0, v22 = 0, v23 = 0, v24 = 0, v25 = 0;
-u64 v26 = 0, v27 = 0, v28 = 0, v29 = 0, v30 = 0, v31 = 0, v32 = 0, v33 = 0, j0 = 0, j1 = 0;
+u64 v26 = 0, v27 = 0, v28 = 0, v29 = 0, v30 = 0, v31 = 0, v32 = 0, j0 = 0, j1 = 0;
 RUD_HERE
-(void)v15;
-(void)v23;
-(void)v24;
-(void)v26;
+(void)v12;
+(void)v18;
+(void)v19;
+(void)v21;
 v2 = RUD_G0 - 1904u;
 RUD_G0 = v2;
 if ((s64)v2 < (s64)16u) goto L1;
 TEST(a1);
-v6 = AT64(a1, 16);
-v7 = AT64(a1, 8);
+v3 = AT64(a1, 16);
+v5 = AT64(a1, 8);
 a1 = (u64)AT8(a1, 0);
 FILL_FEW(v2 + 392u, 0u, 376u);
 FILL_FEW(v2 + 16u, 0u, 376u);
 TEST_FAR(v2, 880);
 SET64(v2, 1144, 0u);
 FILL_FEW(v2 + 768u, 0u, 176u);
-SET64(v2, 952, a1 == 1u ? v7 : 0ull);
+SET64(v2, 952, a1 == 1u ? v5 : 0ull);
 SET64(v2, 944, a1);
 FILL_FEW(v2 + 960u, 0u, 176u);
-SET64(v2, 1136, v6);
-v29 = v2 + 1324u;
-v30 = v2 + 1352u;
-v22 = (v2 + 1152u) | 4u;
-v23 = v2 + 1418u;
-v24 = v2 + 1690u;
-v15 = v2 + 1728u;
-v25 = (v2 + 1840u) | 4u;
-v26 = v2 + 1842u;
-v31 = v2 + 1176u;
-v32 = v2 + 1504u;
-v33 = v2 + 1336u;
+SET64(v2, 1136, v3);
+v23 = v2 + 1352u;
+v17 = (v2 + 1152u) | 4u;
+v18 = v2 + 1424u;
+v19 = v2 + 1694u;
+v12 = v2 + 1728u;
+v20 = (v2 + 1840u) | 4u;
+v21 = v2 + 1842u;
+v24 = v2 + 1176u;
+v25 = v2 + 1504u;
+v26 = v2 + 1336u;
 L3:;
 a1 = v2 + 1328u;
 FILL_FEW(a1, 0u, 88u);
 FILL_FEW(v2 + 1152u, 0u, 88u);
 in_std_collections_btree_owned_steps_pop_d4294551460d727f(RUD_AS a1, v2 + 768u);
 if (AT8(v2, 1328) == 1u) {
-v10 = AT64(v2, 1408);
-v20 = AT64(v2, 1392);
-v16 = AT64(v2, 1384);
-v17 = AT64(v2, 1376);
-v39 = AT32(v2, 1372);
-v35 = AT16(v2, 1370);
-v40 = AT8(v2, 1369);
-v37 = AT8(v2, 1368);
-v41 = AT8(v2, 1360);
-v6 = AT64(v2, 1352);
-v5 = AT64(v2, 1344);
+v8 = AT64(v2, 1408);
+v14 = AT64(v2, 1392);
+v11 = AT64(v2, 1384);
+v13 = AT64(v2, 1376);
+v35 = AT32(v2, 1372);
+v37 = AT16(v2, 1370);
+v36 = AT8(v2, 1369);
+v33 = AT8(v2, 1368);
+v34 = AT8(v2, 1360);
+v3 = AT64(v2, 1352);
+v6 = AT64(v2, 1344);
 v4 = AT64(v2, 1336);
 j0 = AT64(v2, 1400);
 goto L5;
 }
-v4 = v2 + 1152u;
+v3 = v2 + 1152u;
 v5 = v2 + 768u;
-v12 = 0u;
-v38 = 0u;
-v3 = RUD_G0 - 624u;
-RUD_G0 = v3;
-if ((s64)v3 < (s64)16u) goto L8;
-TEST(v3);
-SET64(v3, 296, 0u);
-SET64(v3, 288, 0u);
-SET64(v3, 280, 0u);
-SET64(v3, 232, 0u);
-SET64(v3, 240, 0u);
-SET64(v3, 248, 0u);
-SET64(v3, 256, 0u);
-SET64(v3, 264, 0u);
-SET64(v3, 270, 0u);
-FILL_FEW(v3 + 72u, 0u, 88u);
-SET64(v3, 64, 0u);
-SET64(v3, 56, 0u);
-SET64(v3, 48, 0u);
-SET64(v3, 0, 0u);
-SET64(v3, 8, 0u);
-SET64(v3, 16, 0u);
-SET64(v3, 24, 0u);
-SET64(v3, 32, 0u);
-SET64(v3, 38, 0u);
-v6 = v5 + 96u;
-SET64(v3, 208, AT64(v2, 864));
-SET64(v3, 216, AT64(v2, 872));
-SET64(v3, 224, AT64(v2, 880));
-v35 = AT8(v2, 888);
+v10 = 0u;
+v35 = 0u;
+a1 = RUD_G0 - 624u;
+RUD_G0 = a1;
+if ((s64)a1 < (s64)16u) goto L8;
+TEST(a1);
+SET64(a1, 296, 0u);
+SET64(a1, 288, 0u);
+SET64(a1, 280, 0u);
+FILL_FEW(a1 + 234u, 0u, 46u);
+FILL_FEW(a1 + 72u, 0u, 88u);
+SET64(a1, 64, 0u);
+SET64(a1, 56, 0u);
+SET64(a1, 48, 0u);
+FILL_FEW(a1 + 2u, 0u, 46u);
+v8 = v5 + 96u;
+SET64(a1, 208, AT64(v2, 864));
+SET64(a1, 216, AT64(v2, 872));
+SET64(a1, 224, AT64(v2, 880));
+v33 = AT8(v2, 888);
 v36 = AT8(v2, 889);
-v9 = v5 + 88u;
+v6 = v5 + 88u;
 v34 = AT8(v2, 856);
-SET64(v3, 198, AT64(v2, 928));
-SET64(v3, 192, AT64(v2, 922));
-SET64(v3, 184, AT64(v2, 914));
-SET64(v3, 176, AT64(v2, 906));
-SET64(v3, 168, AT64(v2, 898));
-SET64(v3, 160, AT64(v2, 890));
-a1 = AT64(v2, 936);
-FILL_FEW(v9, 0u, 88u);
+COPY_FEW(a1 + 162u, v5 + 122u, 46u);
+v4 = AT64(v2, 936);
+FILL_FEW(v6, 0u, 88u);
 if (v34 == 1u) {
 SET64(v2, 1152, 1u);
-SET64(v2, 1160, AT64(v3, 208));
-SET64(v2, 1168, AT64(v3, 216));
-SET64(v2, 1176, AT64(v3, 224));
+SET64(v2, 1160, AT64(a1, 208));
+SET64(v2, 1168, AT64(a1, 216));
+SET64(v2, 1176, AT64(a1, 224));
 SET8(v2, 1185, v36);
-SET8(v2, 1184, v35);
-SET64(v2, 1186, AT64(v3, 160));
-SET64(v2, 1194, AT64(v3, 168));
-SET64(v2, 1202, AT64(v3, 176));
-SET64(v2, 1210, AT64(v3, 184));
-SET64(v2, 1218, AT64(v3, 192));
-SET64(v2, 1224, AT64(v3, 198));
-SET64(v2, 1232, a1);
+SET8(v2, 1184, v33);
+COPY_FEW(v3 + 34u, a1 + 162u, 46u);
+SET64(v2, 1232, v4);
 goto L9;
 }
-FILL_FEW(v3 + 384u, 0u, 80u);
-FILL_FEW(v3 + 304u, 0u, 80u);
-a1 = v5 + 176u;
+FILL_FEW(a1 + 384u, 0u, 80u);
+FILL_FEW(a1 + 304u, 0u, 80u);
+v4 = v5 + 176u;
 i0 = AT8(v2, 944);
 SET64(v2, 944, 0u);
-a1 = v5 + 184u;
-v7 = AT64(v2, 952);
+v7 = v5 + 184u;
+v4 = AT64(v2, 952);
 SET64(v2, 952, 0u);
 if (i0 == 1u) {
-FILL_FEW(v3 + 464u, 0u, 88u);
-TEST(v7);
-if (AT16(v7, 2) == 0) goto L12;
+FILL_FEW(a1 + 464u, 0u, 88u);
+TEST(v4);
+if (AT16(v4, 2) == 0) goto L12;
 L13:;
-TEST(v7);
-if (AT16(v7, 0)) goto L12;
-j0 = in_std_collections_btree_tree_places_only_edge_d4294551460d727f(RUD_AS v7);
+TEST(v4);
+if (AT16(v4, 0)) goto L12;
+j0 = in_std_collections_btree_tree_places_only_edge_d4294551460d727f(RUD_AS v4);
 RUD_AGAIN
-v7 = j0;
-TEST(v7);
-if (AT16(v7, 2)) goto L13;
+v4 = j0;
+TEST(v4);
+if (AT16(v4, 2)) goto L13;
 L12:;
-SET64(v3, 552, v7);
-if (AT16(v7, 2) == 0) {
-FILL_FEW(v3 + 304u, 0u, 80u);
+SET64(a1, 552, v4);
+if (AT16(v4, 2) == 0) {
+FILL_FEW(a1 + 304u, 0u, 80u);
 j0 = 0u;
 goto L14;
 }
-in_std_collections_btree_node_Node_peel_first_d4294551460d727f(RUD_AS v3 + 464u, v3 + 552u);
+in_std_collections_btree_node_Node_peel_first_d4294551460d727f(RUD_AS a1 + 464u, a1 + 552u);
 RUD_AGAIN
-v12 = AT64(v3, 552);
-v7 = AT64(v3, 464);
-COPY_FEW(v3 + 304u, v3 + 472u, 80u);
+v10 = AT64(a1, 552);
+v4 = AT64(a1, 464);
+COPY_FEW(a1 + 304u, a1 + 472u, 80u);
 j0 = 1u;
 L14:;
-v8 = j0;
-TEST(v7);
-v34 = AT16(v7, 2);
-a1 = (u64)AT16(v7, 0);
-SET64(v3, 456, v7);
-SET64(v3, 432, v7 + 1208u);
-SET64(v3, 424, 15u);
-SET64(v3, 416, a1);
-SET64(v3, 408, v7 + 368u);
-SET64(v3, 400, 15u);
-SET64(v3, 392, a1);
-SET64(v3, 384, v7 + 8u);
-SET64(v3, 448, v34 ? 16ull : 0ull);
-SET64(v3, 440, v34 ? (a1 + 1u) : 0ull);
-v7 = v3 + 384u;
-in_std_collections_btree_row_Row_reverse_377167ce062cdc45(RUD_AS v7);
+v9 = j0;
+TEST(v4);
+v33 = AT16(v4, 2);
+v7 = (u64)AT16(v4, 0);
+SET64(a1, 456, v4);
+SET64(a1, 432, v4 + 1208u);
+SET64(a1, 424, 15u);
+SET64(a1, 416, v7);
+SET64(a1, 408, v4 + 368u);
+SET64(a1, 400, 15u);
+SET64(a1, 392, v7);
+SET64(a1, 384, v4 + 8u);
+SET64(a1, 448, v33 ? 16ull : 0ull);
+SET64(a1, 440, v33 ? (v7 + 1u) : 0ull);
+v4 = a1 + 384u;
+in_std_collections_btree_row_Row_reverse_377167ce062cdc45(RUD_AS v4);
 i0 = AT8(v2, 768);
 SET64(v2, 768, 1u);
-a1 = AT64(v2, 848);
-COPY_FEW(v5 + 8u, v7, 80u);
+v7 = AT64(v2, 848);
+COPY_FEW(v5 + 8u, v4, 80u);
 if (i0 == 1u) {
-rud_dealloc(RUD_AS a1);
+rud_dealloc(RUD_AS v7);
 RUD_AGAIN
 }
 i0 = AT8(v2, 856);
-SET64(v2, 856, v8);
-COPY_FEW(v6, v3 + 304u, 80u);
+SET64(v2, 856, v9);
+COPY_FEW(v8, a1 + 304u, 80u);
 if (i0 == 1u) goto L8;
-SET64(v2, 952, v12);
-a1 = v5 + 176u;
+SET64(v2, 952, v10);
+v4 = v5 + 176u;
 i0 = AT8(v2, 944);
-SET64(v2, 944, v8);
+SET64(v2, 944, v9);
 if (i0 == 1u) goto L8;
 }
-in_std_collections_btree_owned_steps_pop_d4294551460d727f(RUD_AS v3 + 72u, v5);
-if (AT8(v3, 72) == 1u) {
+in_std_collections_btree_owned_steps_pop_d4294551460d727f(RUD_AS a1 + 72u, v5);
+if (AT8(a1, 72) == 1u) {
 SET64(v2, 1152, 1u);
-SET64(v2, 1160, AT64(v3, 80));
-SET64(v2, 1168, AT64(v3, 88));
-SET64(v2, 1176, AT64(v3, 96));
-SET16(v2, 1184, AT16(v3, 104));
-SET64(v2, 1186, AT64(v3, 106));
-SET64(v2, 1194, AT64(v3, 114));
-SET64(v2, 1202, AT64(v3, 122));
-SET64(v2, 1210, AT64(v3, 130));
-SET64(v2, 1218, AT64(v3, 138));
-SET64(v2, 1224, AT64(v3, 144));
-SET64(v2, 1232, AT64(v3, 152));
+SET64(v2, 1160, AT64(a1, 80));
+SET64(v2, 1168, AT64(a1, 88));
+SET64(v2, 1176, AT64(a1, 96));
+SET16(v2, 1184, AT16(a1, 104));
+v5 = AT64(a1, 152);
+COPY_FEW(v3 + 34u, a1 + 106u, 46u);
+SET64(v2, 1232, v5);
 goto L9;
 }
-SET64(v3, 48, AT64(v2, 968));
-SET64(v3, 56, AT64(v2, 976));
-SET64(v3, 64, AT64(v2, 984));
-SET64(v3, 0, AT64(v2, 994));
-SET64(v3, 8, AT64(v2, 1002));
-SET64(v3, 16, AT64(v2, 1010));
-SET64(v3, 24, AT64(v2, 1018));
-SET64(v3, 32, AT64(v2, 1026));
-SET64(v3, 38, AT64(v2, 1032));
-v35 = AT8(v2, 992);
+SET64(a1, 48, AT64(v2, 968));
+SET64(a1, 56, AT64(v2, 976));
+SET64(a1, 64, AT64(v2, 984));
+v33 = AT8(v2, 992);
 v36 = AT8(v2, 993);
-v7 = v5 + 192u;
-a1 = AT64(v2, 1040);
+v4 = v5 + 192u;
 i0 = AT8(v2, 960);
-FILL_FEW(v7, 0u, 88u);
+COPY_FEW(a1 + 2u, v5 + 226u, 46u);
+v6 = AT64(v2, 1040);
+FILL_FEW(v4, 0u, 88u);
 if (i0 == 1u) {
 SET64(v2, 1152, 1u);
-SET64(v2, 1160, AT64(v3, 48));
-SET64(v2, 1168, AT64(v3, 56));
-SET64(v2, 1176, AT64(v3, 64));
+SET64(v2, 1160, AT64(a1, 48));
+SET64(v2, 1168, AT64(a1, 56));
+SET64(v2, 1176, AT64(a1, 64));
 SET8(v2, 1185, v36);
-SET8(v2, 1184, v35);
-SET64(v2, 1186, AT64(v3, 0));
-SET64(v2, 1194, AT64(v3, 8));
-SET64(v2, 1202, AT64(v3, 16));
-SET64(v2, 1210, AT64(v3, 24));
-SET64(v2, 1218, AT64(v3, 32));
-SET64(v2, 1224, AT64(v3, 38));
-SET64(v2, 1232, a1);
+SET8(v2, 1184, v33);
+COPY_FEW(v3 + 34u, a1 + 2u, 46u);
+SET64(v2, 1232, v6);
 goto L9;
 }
-v7 = 0u;
-SET64(v3, 552, 0u);
-SET64(v3, 560, 0u);
-SET64(v3, 568, 0u);
-SET64(v3, 384, 0u);
-SET64(v3, 392, 0u);
-SET64(v3, 400, 0u);
-SET64(v3, 408, 0u);
-SET64(v3, 416, 0u);
-SET64(v3, 422, 0u);
+v4 = 0u;
+SET64(a1, 552, 0u);
+SET64(a1, 560, 0u);
+SET64(a1, 568, 0u);
+FILL_FEW(a1 + 384u, 0u, 46u);
 if (AT8(v2, 1048) != 1u) {
-v34 = 0u;
+v33 = 0u;
 j0 = 0u;
 goto L19;
 }
-v34 = 0u;
+v33 = 0u;
 if (AT64(v2, 1064) == 0) { j0 = 0u; goto L19; }
-SET32(v3, 576, 0u);
-SET16(v3, 580, 0u);
-SET64(v3, 304, 0u);
-SET64(v3, 312, 0u);
-SET64(v3, 320, 0u);
-SET64(v3, 464, 0u);
-SET64(v3, 472, 0u);
-SET64(v3, 480, 0u);
-SET64(v3, 488, 0u);
-SET64(v3, 496, 0u);
-SET64(v3, 504, 0u);
-SET64(v3, 512, 0u);
-in_std_alloc_vec_Vec_remove_992c4ce9cbd9eb37(RUD_AS v3 + 304u, v5 + 288u, 0u);
-in_std_alloc_vec_Vec_remove_ead69053adb5db67(RUD_AS v3 + 464u, v5 + 312u, 0u);
-SET64(v3, 582, AT64(v3, 472));
-SET64(v3, 590, AT64(v3, 480));
-SET64(v3, 598, AT64(v3, 488));
-SET64(v3, 606, AT64(v3, 496));
-SET64(v3, 614, AT64(v3, 504));
-SET64(v3, 552, AT64(v3, 304));
-SET64(v3, 560, AT64(v3, 312));
-SET64(v3, 568, AT64(v3, 320));
-v7 = AT64(v3, 512);
-v34 = AT8(v3, 465);
-v38 = AT8(v3, 464);
-SET64(v3, 422, AT64(v3, 614));
-SET64(v3, 416, AT64(v3, 608));
-SET64(v3, 408, AT64(v3, 600));
-SET64(v3, 400, AT64(v3, 592));
-SET64(v3, 392, AT64(v3, 584));
-SET64(v3, 384, AT64(v3, 576));
+SET32(a1, 576, 0u);
+SET16(a1, 580, 0u);
+SET64(a1, 304, 0u);
+SET64(a1, 312, 0u);
+SET64(a1, 320, 0u);
+v4 = a1 + 464u;
+FILL_FEW(v4, 0u, 56u);
+in_std_alloc_vec_Vec_remove_992c4ce9cbd9eb37(RUD_AS a1 + 304u, v5 + 288u, 0u);
+in_std_alloc_vec_Vec_remove_ead69053adb5db67(RUD_AS v4, v5 + 312u, 0u);
+v4 = AT64(a1, 512);
+v33 = AT8(a1, 465);
+v35 = AT8(a1, 464);
+COPY_FEW(a1 + 582u, a1 + 472u, 40u);
+SET64(a1, 552, AT64(a1, 304));
+SET64(a1, 560, AT64(a1, 312));
+SET64(a1, 568, AT64(a1, 320));
+COPY_FEW(a1 + 384u, a1 + 576u, 46u);
 j0 = 1u;
 L19:;
-a1 = j0;
-SET64(v3, 296, AT64(v3, 568));
-SET64(v3, 288, AT64(v3, 560));
-SET64(v3, 280, AT64(v3, 552));
-SET64(v3, 232, AT64(v3, 384));
-SET64(v3, 240, AT64(v3, 392));
-SET64(v3, 248, AT64(v3, 400));
-SET64(v3, 256, AT64(v3, 408));
-SET64(v3, 264, AT64(v3, 416));
-SET64(v3, 270, AT64(v3, 422));
-SET64(v2, 1152, a1);
-SET64(v2, 1160, AT64(v3, 280));
-SET64(v2, 1168, AT64(v3, 288));
-SET64(v2, 1176, AT64(v3, 296));
-SET8(v2, 1185, v34);
-SET8(v2, 1184, v38);
-SET64(v2, 1186, AT64(v3, 232));
-SET64(v2, 1194, AT64(v3, 240));
-SET64(v2, 1202, AT64(v3, 248));
-SET64(v2, 1210, AT64(v3, 256));
-SET64(v2, 1218, AT64(v3, 264));
-SET64(v2, 1224, AT64(v3, 270));
-SET64(v2, 1232, v7);
+v5 = j0;
+SET64(a1, 296, AT64(a1, 568));
+SET64(a1, 288, AT64(a1, 560));
+SET64(a1, 280, AT64(a1, 552));
+v6 = a1 + 234u;
+COPY_FEW(v6, a1 + 384u, 46u);
+SET64(v2, 1152, v5);
+SET64(v2, 1160, AT64(a1, 280));
+SET64(v2, 1168, AT64(a1, 288));
+SET64(v2, 1176, AT64(a1, 296));
+SET8(v2, 1185, v33);
+SET8(v2, 1184, v35);
+COPY_FEW(v3 + 34u, v6, 46u);
+SET64(v2, 1232, v4);
 L9:;
-RUD_G0 = v3 + 624u;
+RUD_G0 = a1 + 624u;
 goto L7;
 L8:;
 rud_trap();
 L7:;
 if (AT8(v2, 1152) != 1u) goto L4;
-v10 = AT64(v2, 1232);
-v20 = AT64(v2, 1216);
-v16 = AT64(v2, 1208);
-v17 = AT64(v2, 1200);
-v39 = AT32(v2, 1196);
-v35 = AT16(v2, 1194);
-v40 = AT8(v2, 1193);
-v37 = AT8(v2, 1192);
-v41 = AT8(v2, 1184);
-v6 = AT64(v2, 1176);
-v5 = AT64(v2, 1168);
+v8 = AT64(v2, 1232);
+v14 = AT64(v2, 1216);
+v11 = AT64(v2, 1208);
+v13 = AT64(v2, 1200);
+v35 = AT32(v2, 1196);
+v37 = AT16(v2, 1194);
+v36 = AT8(v2, 1193);
+v33 = AT8(v2, 1192);
+v34 = AT8(v2, 1184);
+v3 = AT64(v2, 1176);
+v6 = AT64(v2, 1168);
 v4 = AT64(v2, 1160);
 j0 = AT64(v2, 1224);
 L5:;
@@ -4003,568 +3561,478 @@ SET64(v2, 1160, 0u);
 SET64(v2, 1168, 0u);
 SET64(v2, 1176, 0u);
 v38 = (u32)a1;
-switch ((u32)((u64)v41 & 255u) - 1u) {
+switch ((u32)((u64)v34 & 255u) - 1u) {
 case 0u: goto L28;
 case 1u: goto L27;
 default: goto L26;
 }
 L28:;
-SET64(v2, 1776, v16);
-SET64(v2, 1768, v17);
-SET64(v2, 1760, (u64)v37 & 255u);
+SET64(v2, 1776, v11);
+SET64(v2, 1768, v13);
+SET64(v2, 1760, (u64)v33 & 255u);
 in_toml_de_tables_close(RUD_AS v2 + 1328u, v2 + 1760u);
 RUD_AGAIN
-v34 = AT8(v2, 1328);
-if (v34) goto L25;
-v39 = 0u;
-v17 = (u64)(v34 ? 0u : AT8(v2, 1336)) & 255u;
-v37 = 6u;
-v16 = AT64(v2, 1344);
-v20 = AT64(v2, 1352);
-v40 = 0u;
+v33 = AT8(v2, 1328);
+if (v33) goto L25;
+v35 = 0u;
+v13 = (u64)(v33 ? 0u : AT8(v2, 1336)) & 255u;
+v33 = 6u;
+v11 = AT64(v2, 1344);
+v14 = AT64(v2, 1352);
+v36 = 0u;
 v38 = 0u;
 goto L26;
 L27:;
-SET64(v2, 1496, v16);
-SET64(v2, 1488, v17);
-SET32(v2, 1484, v39);
-SET16(v2, 1482, v35);
-SET8(v2, 1481, v40);
-SET8(v2, 1480, v37);
-SET64(v2, 1856, v10);
+SET64(v2, 1496, v11);
+SET64(v2, 1488, v13);
+SET32(v2, 1484, v35);
+SET16(v2, 1482, v37);
+SET8(v2, 1481, v36);
+SET8(v2, 1480, v33);
+SET64(v2, 1856, v8);
 SET64(v2, 1848, a1);
-SET64(v2, 1840, v20 & 255u);
+SET64(v2, 1840, v14 & 255u);
 in_toml_de_tables_close_array(RUD_AS v2 + 1152u, v2 + 1480u, v2 + 1840u);
 RUD_AGAIN
 if (AT8(v2, 1152)) goto L25;
 v38 = 0u;
-v37 = 5u;
-v20 = AT64(v2, 1176);
-v16 = AT64(v2, 1168);
-v17 = AT64(v2, 1160);
-v39 = 0u;
-v40 = 0u;
+v33 = 5u;
+v14 = AT64(v2, 1176);
+v11 = AT64(v2, 1168);
+v13 = AT64(v2, 1160);
+v35 = 0u;
+v36 = 0u;
 L26:;
-SET64(v2, 1304, v6);
-SET64(v2, 1296, v5);
+SET64(v2, 1304, v3);
+SET64(v2, 1296, v6);
 SET64(v2, 1288, v4);
 SET64(v2, 1280, 0u);
 SET64(v2, 1272, 0u);
 SET64(v2, 1264, 0u);
-if (v42) {
-v8 = AT64(v2, 1144);
-TEST(v8);
-i1 = AT16(v8, 2);
+if (v39) {
+v4 = AT64(v2, 1144);
+TEST(v4);
+i0 = AT16(v4, 2);
 goto L31;
 }
 in_std_heap_GlobalAllocator_allocate(RUD_AS v2, 968u, 8u);
 RUD_AGAIN
 if (AT8(v2, 0)) goto L30;
-v8 = AT64(v2, 8);
-TEST(v8);
-SET32(v8, 0, 0u);
-SET64(v2, 1144, v8);
-v42 = 1u;
-i1 = 0u;
+v4 = AT64(v2, 8);
+TEST(v4);
+SET32(v4, 0, 0u);
+SET64(v2, 1144, v4);
+v39 = 1u;
+i0 = 0u;
 L31:;
-v36 = i1;
-v35 = 0u - v36;
-v9 = 0u;
-v18 = 0u;
-a1 = v8;
-v5 = a1;
-v3 = (u64)v36 & 65535u;
-v11 = 15ull - v3;
-v12 = v11;
-v10 = 0u;
+v34 = i0;
+v7 = 0u;
+a1 = v4;
+v6 = a1;
+v16 = (u64)v34 & 65535u;
+v15 = 15ull - v16;
+v10 = v15;
+v8 = 0u;
 L33:;
 SET64(v2, 1328, v2 + 1288u);
-v6 = 0u;
-v7 = a1;
-TEST(v7);
-v4 = (u64)AT16(v7, 0);
-if (v4 == 0) goto L34;
-a1 = v7 + 8u;
+v3 = 0u;
+v5 = a1;
+TEST(v5);
+v9 = (u64)AT16(v5, 0);
+if (v9 == 0) goto L34;
+a1 = v5 + 8u;
 L35:;
 i0 = in_std_collections_btree_map_queries_QueryTarget_order_222056d77792(RUD_AS v2 + 1328u, a1);
-v34 = i0 & 255u;
-if (v34 != 2u) {
-if (v34 - 1u) goto L34;
+v37 = i0 & 255u;
+if (v37 != 2u) {
+if (v37 - 1u) goto L34;
 goto L29;
 }
 a1 = a1 + 24u;
-v6 = v6 + 1u;
-if (v4 != v6) goto L35;
-v6 = v4;
+v3 = v3 + 1u;
+if (v9 != v3) goto L35;
+v3 = v9;
 L34:;
-v12 = v12 + 1u;
-v10 = v6 + (v10 << 4);
-if (AT16(v7, 2)) {
-v35 = v35 + 1u;
-v18 = v18 + 1u;
-a1 = GET64(v7 + (v6 << 3), 968);
-v9 = v6;
-v5 = v7;
+v10 = v10 + 1u;
+v8 = v3 + (v8 << 4);
+if (AT16(v5, 2)) {
+a1 = GET64(v5 + (v3 << 3), 968);
+v7 = v3;
+v6 = v5;
 goto L33;
 }
-if (v27 > 9223372036854775806ull) goto L30;
-a1 = v9 << 3;
-v6 = v12 - v11;
-if (GET16(GET64(v6 == 1u ? (v2 + 1144u) : ((v5 + a1) + 968u), 0), 0) <= 14u) {
+if (v22 > 9223372036854775806ull) goto L30;
+a1 = v7 << 3;
+v3 = v10 - v15;
+if (GET16(GET64(v3 == 1u ? (v2 + 1144u) : ((v6 + a1) + 968u), 0), 0) <= 14u) {
 SET64(v2, 1280, AT64(v2, 1304));
 SET64(v2, 1272, AT64(v2, 1296));
 SET64(v2, 1264, AT64(v2, 1288));
 goto L40;
 }
 FILL_FEW(v2 + 1328u, 0u, 88u);
-if (AT16(v8, 0) < 15u) {
-v4 = v8;
-j0 = v11;
+if (AT16(v4, 0) < 15u) {
+v3 = v4;
 goto L42;
 }
-if (v36 > 10u) goto L30;
-in_std_collections_btree_node_parts_Parts_new_3401b5eb79e7930a(RUD_AS v2 + 1328u, (u64)(v36 + 1u) & 65535u);
+if (v34 > 10u) goto L30;
+in_std_collections_btree_node_parts_Parts_new_3401b5eb79e7930a(RUD_AS v2 + 1328u, (u64)(v34 + 1u) & 65535u);
 RUD_AGAIN
 if (AT8(v2, 1328)) goto L30;
-v4 = AT64(v2, 1408);
-v6 = AT64(v2, 1384);
-v7 = AT64(v2, 1344);
-a1 = AT64(v2, 1392);
-if (a1 == 0) goto L44;
-a1 = a1 << 3;
-if (a1 == 0) goto L44;
-COPY(v6 + 8u, v6, a1);
+v3 = AT64(v2, 1408);
+a1 = AT64(v2, 1384);
+v5 = AT64(v2, 1344);
+v9 = AT64(v2, 1392);
+if (v9 == 0) goto L44;
+v9 = v9 << 3;
+if (v9 == 0) goto L44;
+COPY(a1 + 8u, a1, v9);
 L44:;
-TEST(v6);
-SET64(v6, 0, v8);
-TEST(v4);
-SET16(v4, 0, (u32)v7);
-SET64(v2, 1144, v4);
-j0 = 14ull - v3;
+TEST(a1);
+SET64(a1, 0, v4);
+TEST(v3);
+SET16(v3, 0, (u32)v5);
+SET64(v2, 1144, v3);
+v15 = 14ull - v16;
 L42:;
-v19 = j0;
 SET64(v2, 1336, 0u);
 SET64(v2, 1328, 0u);
-if (v12 <= v19) goto L45;
-j0 = (v11 + v18) - v19;
-if (((v12 - v19) & 3u) == 0) {
-a1 = v12;
-goto L46;
-}
-v6 = (u64)(v35 - (u32)v19) & 3u;
-a1 = v12;
-L48:;
-a1 = a1 - 1u;
-PUT8(a1 + (v2 + 1328u), 0, (u32)v10 & 15u);
-v10 = v10 >> 4;
-v6 = v6 - 1u;
-if (v6 != 0u) goto L48;
+if (v10 > v15) {
+a1 = v10;
 L46:;
-if (j0 < 3u) goto L45;
-L49:;
-v7 = a1 + v29;
-v34 = (u32)v10;
-TEST(v7);
-SET8(v7, 3, v34 & 15u);
-SET8(v7, 2, (v34 & 240u) >> 4);
-SET8(v7, 1, (v34 >> 8) & 15u);
-SET8(v7, 0, (v34 >> 12) & 15u);
-v10 = v10 >> 16;
-a1 = a1 - 4u;
-if (v19 < a1) goto L49;
-L45:;
+a1 = a1 - 1u;
+PUT8(a1 + (v2 + 1328u), 0, (u32)v8 & 15u);
+v8 = v8 >> 4;
+if (a1 > v15) goto L46;
+}
 SET64(v2, 1320, AT64(v2, 1336));
 SET64(v2, 1312, AT64(v2, 1328));
-a1 = 16ull - v19;
+a1 = 16ull - v15;
 if (a1 >= 2u) {
-v21 = (v2 + 1312u) + v19;
-v18 = v2 + 1144u;
-L51:;
-v7 = a1;
-TEST(v18);
-v5 = AT64(v18, 0);
-TEST(v21);
-v41 = AT8(v21, 0);
-v28 = (u64)v41 & 255u;
-v8 = v28 << 3;
-if (GET16(GET64(v5 + v8, 968), 0) < 15u) goto L52;
+v9 = (v2 + 1312u) + v15;
+v8 = v2 + 1144u;
+L48:;
+v5 = a1;
+TEST(v8);
+v6 = AT64(v8, 0);
+TEST(v9);
+v34 = AT8(v9, 0);
+v7 = (u64)v34 & 255u;
+v4 = v7 << 3;
+if (GET16(GET64(v6 + v4, 968), 0) < 15u) goto L49;
 a1 = v2 + 1328u;
 FILL_FEW(a1, 0u, 88u);
-TEST(v5);
-in_std_collections_btree_node_parts_Parts_new_3401b5eb79e7930a(RUD_AS a1, (u64)AT16(v5, 2) - 1u);
+TEST(v6);
+in_std_collections_btree_node_parts_Parts_new_3401b5eb79e7930a(RUD_AS a1, (u64)AT16(v6, 2) - 1u);
 RUD_AGAIN
 if (AT8(v2, 1328)) goto L39;
-v9 = AT64(v18, 0);
+a1 = AT64(v8, 0);
 v6 = v2 + 1760u;
-COPY_FEW(v6, v33, 80u);
-SET64(v2, 1552, v9);
-SET64(v2, 1520, 15u);
-SET64(v2, 1504, v9 + 368u);
-SET64(v2, 1496, 15u);
-SET64(v2, 1480, v9 + 8u);
+COPY_FEW(v6, v26, 80u);
 SET64(v2, 1456, 0u);
 SET64(v2, 1464, 0u);
 SET64(v2, 1472, 0u);
-SET64(v2, 1416, 0u);
-SET64(v2, 1424, 0u);
-SET64(v2, 1432, 0u);
-SET64(v2, 1440, 0u);
-SET16(v2, 1448, 0u);
-TEST(v9);
-a1 = (u64)AT16(v9, 0);
-SET64(v2, 1512, a1);
-SET64(v2, 1488, a1);
-v34 = AT16(v9, 2);
-SET64(v2, 1544, v34 ? 16ull : 0ull);
-SET64(v2, 1536, v34 ? (a1 + 1u) : 0ull);
-a1 = v9 + 968u;
+FILL_FEW(v2 + 1422u, 0u, 34u);
+SET64(v2, 1552, a1);
+SET64(v2, 1520, 15u);
+SET64(v2, 1504, a1 + 368u);
+SET64(v2, 1496, 15u);
+SET64(v2, 1480, a1 + 8u);
+TEST(a1);
+v3 = (u64)AT16(a1, 0);
+SET64(v2, 1512, v3);
+SET64(v2, 1488, v3);
+v37 = AT16(a1, 2);
+SET64(v2, 1544, v37 ? 16ull : 0ull);
+SET64(v2, 1536, v37 ? (v3 + 1u) : 0ull);
+a1 = a1 + 968u;
 SET64(v2, 1528, a1);
 SET64(v2, 1600, 0u);
 SET64(v2, 1608, 0u);
 SET64(v2, 1616, 0u);
-SET64(v2, 1560, 0u);
-SET64(v2, 1568, 0u);
-SET64(v2, 1576, 0u);
-SET64(v2, 1584, 0u);
-SET16(v2, 1592, 0u);
-v11 = a1 + v8;
-TEST(v11);
-v8 = AT64(v11, 0);
+FILL_FEW(v2 + 1566u, 0u, 34u);
+v27 = a1 + v4;
+TEST(v27);
+a1 = AT64(v27, 0);
 SET64(v2, 1664, 0u);
 SET64(v2, 1672, 0u);
 SET64(v2, 1680, 0u);
-SET64(v2, 1624, 0u);
-SET64(v2, 1632, 0u);
-SET64(v2, 1640, 0u);
-SET64(v2, 1648, 0u);
-SET16(v2, 1656, 0u);
-SET64(v2, 1224, v8);
-SET64(v2, 1200, v8 + 968u);
+FILL_FEW(v2 + 1630u, 0u, 34u);
+FILL_FEW(v2 + 1692u, 0u, 34u);
+SET64(v2, 1224, a1);
+SET64(v2, 1200, a1 + 968u);
 SET64(v2, 1192, 15u);
-SET64(v2, 1176, v8 + 368u);
+SET64(v2, 1176, a1 + 368u);
 SET64(v2, 1168, 15u);
-SET64(v2, 1152, v8 + 8u);
-SET16(v2, 1720, 0u);
-SET64(v2, 1712, 0u);
-SET64(v2, 1704, 0u);
-SET64(v2, 1696, 0u);
-SET64(v2, 1688, 0u);
-TEST(v8);
-a1 = (u64)AT16(v8, 0);
-SET64(v2, 1184, a1);
-SET64(v2, 1160, a1);
-v35 = AT16(v8, 2);
-SET64(v2, 1216, v35 ? 16ull : 0ull);
-SET64(v2, 1208, v35 ? (a1 + 1u) : 0ull);
+SET64(v2, 1152, a1 + 8u);
+TEST(a1);
+v3 = (u64)AT16(a1, 0);
+SET64(v2, 1184, v3);
+SET64(v2, 1160, v3);
+v37 = AT16(a1, 2);
+SET64(v2, 1216, v37 ? 16ull : 0ull);
+SET64(v2, 1208, v37 ? (v3 + 1u) : 0ull);
 in_std_alloc_vec_lodged_Vec_T_Lodged_append_tail_483ec8513fd57e54(RUD_AS v6, v2 + 1152u);
-v5 = AT64(v2, 1184) - 8u;
-v6 = v5 * 40u;
-v14 = AT64(v2, 1784) + (AT64(v2, 1792) * 40u);
-v3 = AT64(v2, 1176);
-a1 = v3 + 320u;
-if (v6 > (v14 - a1)) {
-if (v5 == 0) goto L53;
+v6 = AT64(v2, 1184) - 8u;
+a1 = v6 * 40u;
+v16 = AT64(v2, 1784) + (AT64(v2, 1792) * 40u);
+v28 = AT64(v2, 1176);
+v3 = v28 + 320u;
+if (a1 > (v16 - v3)) {
+if (v6 == 0) goto L50;
 v4 = 0u;
-L55:;
-v10 = v3 + v4;
-TEST(v10);
-v9 = AT64(v10, 324);
-SET64(v2, 1842, v9);
-v8 = AT64(v10, 332);
-SET64(v2, 1850, v8);
-v6 = AT64(v10, 340);
-SET64(v2, 1858, v6);
-a1 = AT64(v10, 348);
-SET64(v2, 1866, a1);
-v13 = v4 + v14;
-TEST(v13);
-SET16(v13, 0, AT16(v10, 320));
-SET64(v13, 4, v9);
-SET64(v13, 12, v8);
-SET64(v13, 20, v6);
-SET64(v13, 28, a1);
+L52:;
+a1 = v4 + v28;
+TEST(a1);
+v29 = AT64(a1, 324);
+SET64(v2, 1842, v29);
+v30 = AT64(a1, 332);
+SET64(v2, 1850, v30);
+v31 = AT64(a1, 340);
+SET64(v2, 1858, v31);
+v32 = AT64(a1, 348);
+SET64(v2, 1866, v32);
+v3 = v4 + v16;
+TEST(v3);
+SET16(v3, 0, AT16(a1, 320));
+SET64(v3, 4, v29);
+SET64(v3, 12, v30);
+SET64(v3, 20, v31);
+SET64(v3, 28, v32);
 v4 = v4 + 40u;
-v5 = v5 - 1u;
-if (v5 != 0u) goto L55;
-goto L53;
+v6 = v6 - 1u;
+if (v6 != 0u) goto L52;
+goto L50;
 }
-if (v6 == 0) goto L53;
-COPY(v14, a1, v6);
-L53:;
+if (a1 == 0) goto L50;
+COPY(v16, v3, a1);
+L50:;
 SET64(v2, 1184, 8u);
 SET64(v2, 1880, 0u);
 SET64(v2, 1888, 0u);
 SET64(v2, 1896, 0u);
-SET64(v2, 1840, 0u);
-SET64(v2, 1848, 0u);
-SET64(v2, 1856, 0u);
-SET64(v2, 1864, 0u);
-SET64(v2, 1872, 0u);
+a1 = v2 + 1840u;
+FILL_FEW(a1, 0u, 40u);
 in_std_alloc_vec_Vec_remove_992c4ce9cbd9eb37(RUD_AS v2 + 1880u, v2 + 1152u, 7u);
-in_std_alloc_vec_Vec_remove_e185903fd0eadc08(RUD_AS v2 + 1840u, v31, 7u);
-TEST(v25);
-SET64(v2, 1728, AT64(v25, 0));
-SET64(v2, 1736, AT64(v25, 8));
-SET64(v2, 1744, AT64(v25, 16));
-SET64(v2, 1752, AT64(v25, 24));
-v36 = AT8(v2, 1841);
-v34 = AT8(v2, 1840);
-if (v35 == 0) goto L56;
-v13 = AT64(v2, 1208);
-v14 = v13 - 8u;
-v6 = v14 << 3;
-v9 = AT64(v2, 1808);
-v8 = AT64(v2, 1816) << 3;
-v3 = v9 + v8;
-v4 = AT64(v2, 1200);
-a1 = v4 + 64u;
-if (v6 > (v3 - a1)) {
-if (v14 == 0) goto L56;
-v5 = v13 & 3u;
-v10 = 0u;
-if ((v13 - 9u) >= 3u) {
-v6 = v14 & 0xfffffffffffffffcull;
-a1 = 0u;
-L59:;
-v13 = a1 + v3;
-v14 = a1 + v4;
-TEST(v14);
-TEST(v13);
-SET64(v13, 0, AT64(v14, 64));
-SET64(v13, 8, AT64(v14, 72));
-SET64(v13, 16, AT64(v14, 80));
-SET64(v13, 24, AT64(v14, 88));
-a1 = a1 + 32u;
-v10 = v10 + 4u;
-if (v6 != v10) goto L59;
-if (v5 == 0) goto L56;
-}
-v6 = v10 << 3;
-a1 = v9 + (v6 + v8);
-v6 = (v4 + v6) + 64u;
-L60:;
-TEST(v6);
+in_std_alloc_vec_Vec_remove_e185903fd0eadc08(RUD_AS a1, v24, 7u);
+TEST(v20);
+SET64(v2, 1728, AT64(v20, 0));
+SET64(v2, 1736, AT64(v20, 8));
+SET64(v2, 1744, AT64(v20, 16));
+SET64(v2, 1752, AT64(v20, 24));
+v40 = AT8(v2, 1841);
+v41 = AT8(v2, 1840);
+if (v37 == 0) goto L53;
+v4 = AT64(v2, 1208) - 8u;
+v6 = v4 << 3;
+a1 = AT64(v2, 1808) + (AT64(v2, 1816) << 3);
+v3 = AT64(v2, 1200) + 64u;
+if (v6 > (a1 - v3)) {
+if (v4 == 0) goto L53;
+L55:;
+TEST(v3);
 TEST(a1);
-SET64(a1, 0, AT64(v6, 0));
+SET64(a1, 0, AT64(v3, 0));
 a1 = a1 + 8u;
-v6 = v6 + 8u;
-v5 = v5 - 1u;
-if (v5 != 0u) goto L60;
-goto L56;
+v3 = v3 + 8u;
+v4 = v4 - 1u;
+if (v4 != 0u) goto L55;
+goto L53;
 }
-if (v6 == 0) goto L56;
-COPY(v3, a1, v6);
-L56:;
+if (v6 == 0) goto L53;
+COPY(a1, v3, v6);
+L53:;
 a1 = AT64(v2, 1224);
 TEST(a1);
 SET16(a1, 0, (u32)AT64(v2, 1160));
-v8 = AT64(v2, 1832);
-TEST(v8);
-SET16(v8, 0, (u32)AT64(v2, 1768));
-SET64(v2, 1690, AT64(v2, 1728));
-SET64(v2, 1698, AT64(v2, 1736));
-SET64(v2, 1706, AT64(v2, 1744));
-SET64(v2, 1714, AT64(v2, 1752));
+v6 = AT64(v2, 1832);
+TEST(v6);
+SET16(v6, 0, (u32)AT64(v2, 1768));
+SET64(v2, 1694, AT64(v2, 1728));
+SET64(v2, 1702, AT64(v2, 1736));
+SET64(v2, 1710, AT64(v2, 1744));
+SET64(v2, 1718, AT64(v2, 1752));
 SET64(v2, 1664, AT64(v2, 1880));
 SET64(v2, 1672, AT64(v2, 1888));
 SET64(v2, 1680, AT64(v2, 1896));
-SET16(v2, 1656, AT16(v2, 1720));
-SET64(v2, 1648, AT64(v2, 1712));
-SET64(v2, 1640, AT64(v2, 1704));
-SET64(v2, 1632, AT64(v2, 1696));
-SET64(v2, 1624, AT64(v2, 1688));
+v3 = v2 + 1630u;
+COPY_FEW(v3, v2 + 1692u, 34u);
 SET64(v2, 1600, AT64(v2, 1664));
 SET64(v2, 1608, AT64(v2, 1672));
 SET64(v2, 1616, AT64(v2, 1680));
-SET16(v2, 1592, AT16(v2, 1656));
-SET64(v2, 1584, AT64(v2, 1648));
-SET64(v2, 1576, AT64(v2, 1640));
-SET64(v2, 1568, AT64(v2, 1632));
-SET64(v2, 1560, AT64(v2, 1624));
-SET64(v11, 0, a1);
-SET64(v2, 1472, AT64(v2, 1616));
-SET64(v2, 1464, AT64(v2, 1608));
+v4 = v2 + 1566u;
+COPY_FEW(v4, v3, 34u);
+SET64(v27, 0, a1);
 SET64(v2, 1456, AT64(v2, 1600));
-SET16(v2, 1448, AT16(v2, 1592));
-SET64(v2, 1440, AT64(v2, 1584));
-SET64(v2, 1432, AT64(v2, 1576));
-SET64(v2, 1424, AT64(v2, 1568));
-SET64(v2, 1416, AT64(v2, 1560));
-SET64(v2, 1184, 0u);
-SET64(v2, 1176, 0u);
-SET64(v2, 1168, 0u);
-SET64(v2, 1160, 0u);
-SET64(v2, 1152, 0u);
-in_std_alloc_vec_lodged_Vec_T_Lodged_insert_reserved_483ec8513fd57e(RUD_AS v2 + 1480u, v28, v2 + 1456u);
-TEST(v22);
-SET64(v22, 0, AT64(v2, 1418));
-SET64(v22, 8, AT64(v2, 1426));
-SET64(v22, 16, AT64(v2, 1434));
-SET64(v22, 24, AT64(v2, 1442));
-SET8(v2, 1153, v36);
-SET8(v2, 1152, v34);
-in_std_alloc_vec_lodged_Vec_T_Lodged_insert_reserved_18_toml_value(RUD_AS v32, v28, v2 + 1152u);
-v6 = v28 + 1u;
-v5 = v6 << 3;
-v9 = AT64(v2, 1528);
-a1 = AT64(v2, 1536);
-if (a1 == v6) goto L61;
-v6 = (a1 - v6) << 3;
-if (v6 == 0) goto L61;
-a1 = v5 + v9;
-COPY(a1 + 8u, a1, v6);
-L61:;
-PUT64(v5 + v9, 0, v8);
-v5 = AT64(v2, 1552);
-TEST(v5);
-SET16(v5, 0, (u32)AT64(v2, 1488));
-SET64(v18, 0, v5);
-v34 = AT8(v21, 1);
-if (v34 <= 7u) {
-v41 = AT8(v21, 0);
-goto L52;
+SET64(v2, 1464, AT64(v2, 1608));
+SET64(v2, 1472, AT64(v2, 1616));
+COPY_FEW(v2 + 1422u, v4, 34u);
+a1 = v2 + 1152u;
+FILL_FEW(a1, 0u, 40u);
+in_std_alloc_vec_lodged_Vec_T_Lodged_insert_reserved_483ec8513fd57e(RUD_AS v2 + 1480u, v7, v2 + 1456u);
+TEST(v17);
+SET64(v17, 0, AT64(v2, 1424));
+SET64(v17, 8, AT64(v2, 1432));
+SET64(v17, 16, AT64(v2, 1440));
+SET64(v17, 24, AT64(v2, 1448));
+SET8(v2, 1153, v40);
+SET8(v2, 1152, v41);
+in_std_alloc_vec_lodged_Vec_T_Lodged_insert_reserved_18_toml_value(RUD_AS v25, v7, a1);
+a1 = v7 + 1u;
+v3 = a1 << 3;
+v4 = AT64(v2, 1528);
+v7 = AT64(v2, 1536);
+if (v7 == a1) goto L56;
+a1 = (v7 - a1) << 3;
+if (a1 == 0) goto L56;
+v7 = v3 + v4;
+COPY(v7 + 8u, v7, a1);
+L56:;
+PUT64(v3 + v4, 0, v6);
+v6 = AT64(v2, 1552);
+TEST(v6);
+SET16(v6, 0, (u32)AT64(v2, 1488));
+SET64(v8, 0, v6);
+v37 = AT8(v9, 1);
+if (v37 <= 7u) {
+v34 = AT8(v9, 0);
+goto L49;
 }
-SET8(v21, 1, v34 - 8u);
-v41 = v41 + 1u;
-SET8(v21, 0, v41);
-L52:;
-a1 = v7 - 1u;
-v21 = v21 + 1u;
-v9 = (u64)v41 & 255u;
-v18 = (v5 + (v9 << 3)) + 968u;
-if (v7 > 2u) goto L51;
-v4 = AT64(v2, 1144);
+SET8(v9, 1, v37 - 8u);
+v34 = v34 + 1u;
+SET8(v9, 0, v34);
+L49:;
+a1 = v5 - 1u;
+v9 = v9 + 1u;
+v7 = (u64)v34 & 255u;
+v8 = (v6 + (v7 << 3)) + 968u;
+if (v5 > 2u) goto L48;
+v3 = AT64(v2, 1144);
 }
-TEST(v4);
-if (AT16(v4, 0) == 0) goto L38;
+TEST(v3);
+if (AT16(v3, 0) == 0) goto L38;
 SET64(v2, 1264, AT64(v2, 1288));
 SET64(v2, 1272, AT64(v2, 1296));
 SET64(v2, 1280, AT64(v2, 1304));
-a1 = v9 << 3;
-v6 = v12 - v19;
-v10 = (u64)AT8(v2, 1327);
+a1 = v7 << 3;
+v3 = v10 - v15;
+v8 = (u64)AT8(v2, 1327);
 L40:;
-v7 = v6 == 1u ? (v2 + 1144u) : ((a1 + v5) + 968u);
-TEST(v7);
-v6 = AT64(v7, 0);
-SET64(v2, 1400, v6);
-SET64(v2, 1376, v6 + 968u);
+v5 = v3 == 1u ? (v2 + 1144u) : ((a1 + v6) + 968u);
+TEST(v5);
+a1 = AT64(v5, 0);
+SET64(v2, 1400, a1);
+SET64(v2, 1376, a1 + 968u);
 SET64(v2, 1368, 15u);
-SET64(v2, 1352, v6 + 368u);
+SET64(v2, 1352, a1 + 368u);
 SET64(v2, 1344, 15u);
-SET64(v2, 1328, v6 + 8u);
-TEST(v6);
-a1 = (u64)AT16(v6, 0);
-SET64(v2, 1360, a1);
-SET64(v2, 1336, a1);
-v34 = AT16(v6, 2);
+SET64(v2, 1328, a1 + 8u);
+TEST(a1);
+v3 = (u64)AT16(a1, 0);
+SET64(v2, 1360, v3);
+SET64(v2, 1336, v3);
+v34 = AT16(a1, 2);
 SET64(v2, 1392, v34 ? 16ull : 0ull);
-SET64(v2, 1384, v34 ? (a1 + 1u) : 0ull);
-SET64(v2, 1184, 0u);
-SET64(v2, 1176, 0u);
-SET64(v2, 1168, 0u);
-SET64(v2, 1160, 0u);
-SET64(v2, 1152, 0u);
-a1 = v10 & 15u;
-in_std_alloc_vec_lodged_Vec_T_Lodged_insert_reserved_483ec8513fd57e(RUD_AS v2 + 1328u, a1, v2 + 1264u);
+SET64(v2, 1384, v34 ? (v3 + 1u) : 0ull);
+a1 = v2 + 1152u;
+FILL_FEW(a1, 0u, 40u);
+v3 = v8 & 15u;
+in_std_alloc_vec_lodged_Vec_T_Lodged_insert_reserved_483ec8513fd57e(RUD_AS v2 + 1328u, v3, v2 + 1264u);
 SET32(v2, 1184, v38);
-SET64(v2, 1176, v20);
-SET64(v2, 1168, v16);
-SET64(v2, 1160, v17);
-SET32(v2, 1156, v39);
-SET8(v2, 1153, v40);
-SET8(v2, 1152, v37);
-in_std_alloc_vec_lodged_Vec_T_Lodged_insert_reserved_18_toml_value(RUD_AS v30, a1, v2 + 1152u);
+SET64(v2, 1176, v14);
+SET64(v2, 1168, v11);
+SET64(v2, 1160, v13);
+SET32(v2, 1156, v35);
+SET8(v2, 1153, v36);
+SET8(v2, 1152, v33);
+in_std_alloc_vec_lodged_Vec_T_Lodged_insert_reserved_18_toml_value(RUD_AS v23, v3, a1);
 a1 = AT64(v2, 1400);
 TEST(a1);
 SET16(a1, 0, (u32)AT64(v2, 1336));
-SET64(v7, 0, a1);
-v27 = v27 + 1u;
+SET64(v5, 0, a1);
+v22 = v22 + 1u;
 goto L3;
 L39:;
-v4 = AT64(v2, 1144);
-TEST(v4);
-if (AT16(v4, 0)) goto L30;
+v3 = AT64(v2, 1144);
+TEST(v3);
+if (AT16(v3, 0)) goto L30;
 L38:;
-if (AT16(v4, 2) == 0) goto L30;
+if (AT16(v3, 2) == 0) goto L30;
 SET64(v2, 1392, 16u);
 SET64(v2, 1384, 1u);
 SET64(v2, 1368, 15u);
 SET64(v2, 1360, 0u);
 SET64(v2, 1344, 15u);
 SET64(v2, 1336, 0u);
-SET64(v2, 1400, v4);
-SET64(v2, 1376, v4 + 968u);
-SET64(v2, 1352, v4 + 368u);
-SET64(v2, 1328, v4 + 8u);
+SET64(v2, 1400, v3);
+SET64(v2, 1376, v3 + 968u);
+SET64(v2, 1352, v3 + 368u);
+SET64(v2, 1328, v3 + 8u);
 a1 = in_std_alloc_vec_Vec_remove_8c0c036898378f4f(RUD_AS v2 + 1376u);
 rud_dealloc(RUD_AS AT64(v2, 1400));
 RUD_AGAIN
 SET64(v2, 1144, a1);
 L30:;
-v7 = AT64(v2, 1288);
+a1 = AT64(v2, 1288);
 j0 = AT64(v2, 1304);
-SET64(v2, 1360, 0u);
-SET64(v2, 1352, 0u);
-SET64(v2, 1344, 0u);
-SET64(v2, 1336, 0u);
-SET64(v2, 1328, 0u);
+FILL_FEW(v2 + 1328u, 0u, 40u);
 if (!(j0 == 0)) {
-rud_dealloc(RUD_AS v7);
+rud_dealloc(RUD_AS a1);
 RUD_AGAIN
 }
 SET32(v2, 1360, v38);
-SET64(v2, 1352, v20);
-SET64(v2, 1344, v16);
-SET64(v2, 1336, v17);
-SET32(v2, 1332, v39);
-SET8(v2, 1329, v40);
-SET8(v2, 1328, v37);
+SET64(v2, 1352, v14);
+SET64(v2, 1344, v11);
+SET64(v2, 1336, v13);
+SET32(v2, 1332, v35);
+SET8(v2, 1329, v36);
+SET8(v2, 1328, v33);
 in_toml_toml_value_Value_Destruct_drop(RUD_AS v2 + 1328u);
 RUD_AGAIN
 goto L24;
 L29:;
-v7 = v6 & 15u;
-a1 = GET64((v3 + v12) == 15u ? (v2 + 1144u) : ((v5 + (v9 << 3)) + 968u), 0);
+a1 = v3 & 15u;
+v3 = GET64((v10 + v16) == 15u ? (v2 + 1144u) : ((v6 + (v7 << 3)) + 968u), 0);
+TEST(v3);
+if (a1 >= (u64)AT16(v3, 0)) goto L1;
+a1 = v3 + (a1 * 40u);
 TEST(a1);
-if (v7 >= (u64)AT16(a1, 0)) goto L1;
-v11 = a1 + (v7 * 40u);
-TEST(v11);
-SET32(v11, 400, v38);
-SET32(v11, 372, v39);
-SET8(v11, 369, v40);
-a1 = v11 + 392u;
-v3 = AT64(v11, 392);
-SET64(v11, 392, v20);
-a1 = v11 + 384u;
-v5 = (u64)AT8(v11, 384);
-v9 = (u64)AT32(v11, 386);
-v12 = (u64)AT16(v11, 390);
-j0 = (u64)AT8(v11, 385);
-SET64(v11, 384, v16);
-a1 = v11 + 376u;
-v36 = AT8(v11, 376);
-v8 = (u64)AT32(v11, 377);
-v7 = (u64)AT16(v11, 381);
-j1 = (u64)AT8(v11, 383);
-SET64(v11, 376, v17);
-a1 = v11 + 368u;
-v34 = AT8(v11, 368);
-SET8(v11, 368, v37);
+SET32(a1, 400, v38);
+SET32(a1, 372, v35);
+SET8(a1, 369, v36);
+v5 = a1 + 392u;
+v3 = AT64(a1, 392);
+SET64(a1, 392, v14);
+v4 = a1 + 384u;
+v6 = (u64)AT8(a1, 384);
+v7 = (u64)AT32(a1, 386);
+v10 = (u64)AT16(a1, 390);
+j0 = (u64)AT8(a1, 385);
+SET64(a1, 384, v11);
+v4 = a1 + 376u;
+v35 = AT8(a1, 376);
+v9 = (u64)AT32(a1, 377);
+v11 = (u64)AT16(a1, 381);
+j1 = (u64)AT8(a1, 383);
+SET64(a1, 376, v13);
+a1 = a1 + 368u;
+TEST(a1);
+v36 = AT8(a1, 0);
+SET8(a1, 0, v33);
 if (!(AT64(v2, 1304) == 0)) {
 rud_dealloc(RUD_AS AT64(v2, 1288));
 RUD_AGAIN
 }
-v7 = ((j1 << 48) | (v7 << 32)) | v8;
-a1 = ((j0 << 8) | v5) | ((v9 | (v12 << 32)) << 16);
-switch (v34 - 1u) {
+a1 = ((j1 << 48) | (v11 << 32)) | v9;
+v5 = ((j0 << 8) | v6) | ((v7 | (v10 << 32)) << 16);
+switch (v36 - 1u) {
 case 0u: case 1u: case 2u: case 3u: goto L3;
 case 4u: goto L21;
 case 5u: goto L22;
 default: goto L23;
 }
 L25:;
-if (v6 == 0) goto L24;
+if (v3 == 0) goto L24;
 rud_dealloc(RUD_AS v4);
 RUD_AGAIN
 L24:;
@@ -4572,7 +4040,7 @@ a1 = v2 + 392u;
 COPY_FEW(a1, v2 + 768u, 376u);
 in_std_collections_btree_map_iter_owned_IntoIter_drop_dc0ad195889b9(RUD_AS a1);
 RUD_AGAIN
-if (v42) {
+if (v39) {
 in_std_collections_btree_node_Node_destroy_031b4c9998add48b(RUD_AS AT64(v2, 1144));
 RUD_AGAIN
 }
@@ -4584,21 +4052,21 @@ SET64(a0, 24, 0u);
 goto L2;
 L23:;
 if (v3 == 0) goto L3;
-rud_dealloc(RUD_AS ((u64)v36 & 255u) | (v7 << 8));
+rud_dealloc(RUD_AS ((u64)v35 & 255u) | (a1 << 8));
 RUD_AGAIN
 goto L3;
 L22:;
-if (v36 != 1u) goto L3;
-in_std_collections_btree_node_Node_destroy_031b4c9998add48b(RUD_AS a1);
+if (v35 != 1u) goto L3;
+in_std_collections_btree_node_Node_destroy_031b4c9998add48b(RUD_AS v5);
 RUD_AGAIN
 goto L3;
 L21:;
 SET64(v2, 1256, v3);
-SET64(v2, 1248, a1);
-SET8(v2, 1240, v36);
-SET32(v2, 1241, (u32)v7);
-SET8(v2, 1247, (u32)(v7 >> 48));
-SET16(v2, 1245, (u32)(v7 >> 32));
+SET64(v2, 1248, v5);
+SET8(v2, 1240, v35);
+SET32(v2, 1241, (u32)a1);
+SET8(v2, 1247, (u32)(a1 >> 48));
+SET16(v2, 1245, (u32)(a1 >> 32));
 in_std_alloc_vec_Vec_drop_f8ad6a88bf30276b(RUD_AS v2 + 1240u);
 RUD_AGAIN
 goto L3;
@@ -4608,8 +4076,8 @@ COPY_FEW(a1, v2 + 768u, 376u);
 in_std_collections_btree_map_iter_owned_IntoIter_drop_dc0ad195889b9(RUD_AS a1);
 RUD_AGAIN
 TEST(a0);
-SET64(a0, 24, v27);
-SET64(a0, 8, (u64)v42 & 255u);
+SET64(a0, 24, v22);
+SET64(a0, 8, (u64)v39 & 255u);
 SET8(a0, 0, 0u);
 SET64(a0, 16, AT64(v2, 1144));
 L2:;
@@ -4794,64 +4262,46 @@ return 0;
 
 static u32 in_std_alloc_vec_Vec_extend_from_slice_d4fc6a806bb7b0db(RUD_IT u64 a0, u64 a1, u64 a2) {
 u32 i0 = 0, i1 = 0;
-u64 v3 = 0, v4 = 0, v5 = 0, v6 = 0, v7 = 0, v8 = 0, v9 = 0, v10 = 0, v11 = 0, v12 = 0;
+u64 v3 = 0, v4 = 0, v5 = 0, v6 = 0, v7 = 0;
 RUD_HERE
-v10 = RUD_G0;
-if ((s64)v10 >= (s64)16u) {
+v6 = RUD_G0;
+if ((s64)v6 >= (s64)16u) {
 TEST(a0);
-v7 = AT64(a0, 16);
+v5 = AT64(a0, 16);
 v4 = a0 + 8u;
-v5 = AT64(a0, 8);
-if ((v7 - v5) < a2) {
+v3 = AT64(a0, 8);
+if ((v5 - v3) < a2) {
 i1 = in_std_alloc_vec_Vec_grow_amortized_795f5fd3dc7a282e(RUD_AS a0, a2);
 RUD_AGAIN
 if (i1 == 0) { i0 = 1u; goto L2; }
-v7 = AT64(a0, 16);
-v5 = AT64(a0, 8);
+v5 = AT64(a0, 16);
+v3 = AT64(a0, 8);
 }
 SET64(a0, 8, 0u);
 SET64(a0, 16, 0u);
-v11 = a2 + v5;
-v8 = AT64(a0, 0);
-v9 = v8 + v5;
-if (a2 > (v9 - a1)) {
-v4 = a2 & 3u;
-if (a2 >= 4u) {
-v12 = a2 & 0xfffffffffffffffcull;
-L7:;
-a2 = v3 + v9;
-v6 = a1 + v3;
-TEST(v6);
-TEST(a2);
-SET8(a2, 0, AT8(v6, 0));
-SET8(a2, 1, AT8(v6, 1));
-SET8(a2, 2, AT8(v6, 2));
-SET8(a2, 3, AT8(v6, 3));
-v3 = v3 + 4u;
-if (v12 != v3) goto L7;
-if (v4 == 0) goto L4;
-}
-a2 = a1 + v3;
-v3 = v8 + (v3 + v5);
-L8:;
-TEST(a2);
-TEST(v3);
-SET8(v3, 0, AT8(a2, 0));
-v3 = v3 + 1u;
-a2 = a2 + 1u;
-v4 = v4 - 1u;
-if (v4 != 0u) goto L8;
+v4 = a2 + v3;
+v7 = AT64(a0, 0);
+v3 = v7 + v3;
+if (a2 <= (v3 - a1)) {
+if (a2 == 0) goto L4;
+COPY(v3, a1, a2);
 goto L4;
 }
-if (a2 == 0) goto L4;
-COPY(v9, a1, a2);
+L6:;
+TEST(a1);
+TEST(v3);
+SET8(v3, 0, AT8(a1, 0));
+v3 = v3 + 1u;
+a1 = a1 + 1u;
+a2 = a2 - 1u;
+if (a2 != 0u) goto L6;
 L4:;
-SET64(a0, 0, v8);
-SET64(a0, 16, v7);
-SET64(a0, 8, v11);
+SET64(a0, 0, v7);
+SET64(a0, 16, v5);
+SET64(a0, 8, v4);
 i0 = 0u;
 L2:;
-RUD_G0 = v10;
+RUD_G0 = v6;
 return i0;
 }
 rud_trap();
@@ -5093,19 +4543,19 @@ a2 = a2 - v6;
 if (!(a2 == 0)) {
 TEST(a1);
 v11 = AT8(a1, 0);
-if (v11 != (a3 & 255u)) goto L16;
-goto L9;
+if (v11 != (a3 & 255u)) goto L17;
+goto L10;
 }
-if ((a3 & 255u) == 0) goto L9;
+if ((a3 & 255u) == 0) goto L10;
 v12 = 1u;
 v10 = 10u;
 v6 = 0u;
 goto L2;
-L16:;
+L17:;
 if (v11 == 92u) {
 v6 = a2 - 1u;
 v7 = a1 + 1u;
-if (a4 == 0) goto L19;
+if (a4 == 0) goto L20;
 SET8(v5, 55, 0u);
 SET16(v5, 53, 0u);
 SET64(v5, 72, 0u);
@@ -5114,94 +4564,90 @@ SET64(v5, 56, v7);
 SET64(v5, 64, v6);
 j1 = in_core_iter_base_Iterator_count_af506e600b762b0d(RUD_AS v5 + 56u);
 v8 = j1;
-if (v6 == v8) goto L19;
+if (v6 == v8) goto L20;
 v9 = v7 + v8;
 TEST(v9);
 v10 = AT8(v9, 0);
 if (v10 != 10u) {
-if ((u32)(v10 != 13u) | (u32)((v6 - v8) == 1u)) goto L19;
-if (AT8(v9, 1) != 10u) goto L19;
+if ((u32)(v10 != 13u) | (u32)((v6 - v8) == 1u)) goto L20;
+if (AT8(v9, 1) != 10u) goto L20;
 }
 in_toml_parser_text_skip_blank(RUD_AS v5 + 8u, v7, v6, 0u);
 v10 = 1u;
 a1 = AT64(v5, 8);
 a2 = AT64(v5, 16);
 goto L6;
-L19:;
+L20:;
 SET64(v5, 80, 0u);
 SET64(v5, 72, 0u);
 SET64(v5, 64, 0u);
 SET64(v5, 56, 0u);
-if (v6 == 0) goto L14;
-v11 = 8u;
-switch (AT8(a1, 1) - 34u) {
-case 0u: goto L23;
-default: goto L14;
-case 51u: goto L29;
-case 58u: goto L22;
-case 64u: goto L21;
-case 67u: goto L28;
-case 68u: goto L27;
-case 76u: goto L26;
-case 80u: goto L25;
-case 82u: goto L24;
-case 83u: goto L30;
-case 86u: goto L31;
-}
-L31:;
-in_toml_parser_string_hex_escape(RUD_AS v5 + 56u, a1 + 2u, a2 - 2u, 2u);
-goto L13;
-L30:;
-in_toml_parser_string_hex_escape(RUD_AS v5 + 56u, a1 + 2u, a2 - 2u, 4u);
-goto L13;
-L29:;
-in_toml_parser_string_hex_escape(RUD_AS v5 + 56u, a1 + 2u, a2 - 2u, 8u);
-goto L13;
-L28:;
-v11 = 27u;
-goto L21;
-L27:;
-v11 = 12u;
-goto L21;
-L26:;
-v11 = 10u;
-goto L21;
-L25:;
-v11 = 13u;
-goto L21;
-L24:;
-v11 = 9u;
-goto L21;
-L23:;
+if (v6 == 0) goto L12;
+v10 = AT8(a1, 1);
+if (v10 <= 109u) {
+if (v10 <= 97u) {
 v11 = 34u;
-goto L21;
-L22:;
+if (v10 == 34u) goto L22;
+if (v10 == 85u) goto L28;
 v11 = 92u;
-L21:;
-a1 = a1 + 2u;
-a2 = a2 - 2u;
+if (v10 == 92u) goto L22;
 goto L12;
 }
-v12 = 1u;
-if (a4 == 0) goto L8;
-v10 = 10u;
-if (v11 == 10u) goto L32;
-if (a2 == 1u) {
-v6 = a2;
-goto L2;
+v11 = 8u;
+switch (v10 - 98u) {
+case 0u: goto L22;
+default: goto L12;
+case 3u: goto L27;
+case 4u: goto L26;
 }
-if (v11 != 13u) {
-v6 = a2;
-goto L2;
 }
-if (AT8(a1, 1) == 10u) goto L32;
-v6 = a2;
-goto L2;
+switch (v10 - 110u) {
+case 0u: goto L25;
+default: goto L12;
+case 4u: goto L24;
+case 6u: goto L23;
+case 7u: goto L31;
+case 10u: goto L32;
+}
 L32:;
+in_toml_parser_string_hex_escape(RUD_AS v5 + 56u, a1 + 2u, a2 - 2u, 2u);
+goto L15;
+L31:;
+in_toml_parser_string_hex_escape(RUD_AS v5 + 56u, a1 + 2u, a2 - 2u, 4u);
+goto L15;
+L28:;
+in_toml_parser_string_hex_escape(RUD_AS v5 + 56u, a1 + 2u, a2 - 2u, 8u);
+goto L15;
+L27:;
+v11 = 27u;
+goto L22;
+L26:;
+v11 = 12u;
+goto L22;
+L25:;
+v11 = 10u;
+goto L22;
+L24:;
+v11 = 13u;
+goto L22;
+L23:;
+v11 = 9u;
+L22:;
+a1 = a1 + 2u;
+a2 = a2 - 2u;
+goto L14;
+}
+v12 = 1u;
+if (a4 == 0) goto L9;
+v10 = 10u;
+if (v11 != 10u) {
+if ((u32)(v11 != 13u) | (u32)(a2 == 1u)) goto L8;
+if (AT8(a1, 1) != 10u) goto L8;
+}
 v10 = 1u;
 i0 = in_std_alloc_vec_Vec_push_795f5fd3dc7a282e(RUD_AS v5 + 24u, v11);
 RUD_AGAIN
-if (i0 & 1u) goto L11;
+if (i0 & 1u) goto L13;
 a1 = a1 + 1u;
 a2 = a2 - 1u;
 goto L6;
@@ -5212,39 +4658,34 @@ RUD_AGAIN
 }
 TEST(a0);
 SET64(a0, 0, 1u);
-SET64(a0, 8, 0u);
-SET64(a0, 16, 0u);
-SET64(a0, 24, 0u);
-SET64(a0, 32, 0u);
-SET64(a0, 40, 0u);
+FILL_FEW(a0 + 8u, 0u, 40u);
 goto L1;
-L14:;
-v12 = 1u;
-goto L10;
-L13:;
+L15:;
 a2 = AT64(v5, 80);
 a1 = AT64(v5, 72);
 v11 = AT32(v5, 64);
-v12 = 1u;
-if (AT8(v5, 56) != 1u) goto L10;
-if (v11 <= 127u) goto L12;
+if (AT8(v5, 56) != 1u) { i0 = 1u; goto L11; }
+if (v11 <= 127u) goto L14;
 v10 = 1u;
 i0 = in_std_alloc_string_add_wide_b8a35161b9a46061(RUD_AS v5 + 24u, v11);
 RUD_AGAIN
-if (i0 & 255u) goto L11;
+if (i0 & 255u) goto L13;
 goto L6;
-L12:;
+L14:;
 v10 = 1u;
 i0 = in_std_alloc_vec_Vec_push_795f5fd3dc7a282e(RUD_AS v5 + 24u, v11);
 RUD_AGAIN
 if ((i0 & 1u) == 0) goto L6;
-L11:;
+L13:;
 v10 = 0u;
 goto L3;
-L10:;
+L12:;
+i0 = 1u;
+L11:;
+v12 = i0;
 v10 = 11u;
 goto L2;
-L9:;
+L10:;
 if (a4 == 0) goto L7;
 v10 = 0u;
 SET8(v5, 55, 0u);
@@ -5263,24 +4704,25 @@ goto L6;
 }
 if (v6 > 5u) {
 v12 = 1u;
-goto L8;
+goto L9;
 }
 if ((s32)(u32)(s32)(s8)a3 >= (s32)0u) {
 i0 = in_std_alloc_vec_Vec_push_795f5fd3dc7a282e(RUD_AS v5 + 24u, a3);
 RUD_AGAIN
-if ((i0 & 1u) == 0) goto L38;
+if ((i0 & 1u) == 0) goto L37;
 goto L3;
 }
 i0 = in_std_alloc_string_add_wide_b8a35161b9a46061(RUD_AS v5 + 24u, v13);
 RUD_AGAIN
 if (i0 & 255u) goto L3;
-L38:;
+L37:;
 a2 = a2 - 1u;
 a1 = a1 + 1u;
 v10 = 1u;
 goto L6;
-L8:;
+L9:;
 v10 = 10u;
+L8:;
 v6 = a2;
 goto L2;
 L7:;
@@ -5330,13 +4772,7 @@ RUD_HERE
 v3 = RUD_G0 - 48u;
 RUD_G0 = v3;
 if ((s64)v3 >= (s64)16u) {
-TEST(v3);
-SET64(v3, 40, 0u);
-SET64(v3, 32, 0u);
-SET64(v3, 24, 0u);
-SET64(v3, 16, 0u);
-SET64(v3, 8, 0u);
-SET64(v3, 0, 0u);
+FILL_FEW(v3, 0u, 48u);
 j0 = v3;
 j1 = a1 + 1u;
 j2 = a2 - 1u;
@@ -5348,13 +4784,10 @@ i3 = AT8(a1, 0);
 }
 in_toml_parser_string_body(RUD_AS j0, j1, j2, i3, 0u);
 RUD_AGAIN
+TEST(v3);
 TEST(a0);
 SET64(a0, 0, (u64)AT8(v3, 0));
-SET64(a0, 8, AT64(v3, 8));
-SET64(a0, 16, AT64(v3, 16));
-SET64(a0, 24, AT64(v3, 24));
-SET64(a0, 32, AT64(v3, 32));
-SET64(a0, 40, AT64(v3, 40));
+COPY_FEW(a0 + 8u, v3 + 8u, 40u);
 RUD_G0 = v3 + 48u;
 return;
 }
@@ -5455,25 +4888,16 @@ v13 = v3 + 168u;
 v14 = 80u;
 v4 = a2;
 L7:;
-SET64(v3, 56, 0u);
-SET64(v3, 64, 0u);
-SET64(v3, 72, 0u);
-SET64(v3, 80, 0u);
-SET64(v3, 88, 0u);
-SET64(v3, 96, 0u);
-SET32(v3, 48, 0u);
+FILL_FEW(v3 + 56u, 0u, 48u);
 SET16(v3, 52, 0u);
+SET32(v3, 48, 0u);
 SET32(v3, 40, 0u);
 SET16(v3, 44, 0u);
 v17 = 0u;
 if (v4 == 0) goto L9;
 TEST(a1);
 v17 = AT8(a1, 0);
-switch (v17 - 34u) {
-case 0u: case 5u: goto L10;
-default: goto L9;
-}
-L10:;
+if ((u32)(v17 != 39u) & (u32)(v17 != 34u)) goto L9;
 in_toml_parser_string_one_line(RUD_AS v3 + 56u, a1, v4);
 RUD_AGAIN
 v6 = AT64(v3, 96);
@@ -5490,7 +4914,7 @@ a1 = 0u;
 v6 = 0u;
 v19 = 1u;
 j0 = v4;
-goto L11;
+goto L10;
 }
 SET8(v3, 162, 0u);
 SET16(v3, 160, 1u);
@@ -5502,15 +4926,15 @@ v5 = in_core_iter_base_Iterator_count_af506e600b762b0d(RUD_AS v3 + 104u);
 SET64(v3, 168, 0u);
 SET64(v3, 176, 0u);
 SET64(v3, 160, v3 + 184u);
-if (v5 == 0) goto L13;
+if (v5 == 0) goto L12;
 i0 = in_std_alloc_vec_Vec_move_to_795f5fd3dc7a282e(RUD_AS v3 + 160u, v5);
 RUD_AGAIN
-if (i0) goto L13;
+if (i0) goto L12;
 if (AT64(v3, 176) == 0) goto L3;
 rud_dealloc(RUD_AS AT64(v3, 160));
 RUD_AGAIN
 goto L3;
-L13:;
+L12:;
 SET64(v3, 127, AT64(v3, 176));
 SET64(v3, 119, AT64(v3, 168));
 SET64(v3, 111, AT64(v3, 160));
@@ -5534,7 +4958,7 @@ v18 = AT8(v3, 136);
 v4 = AT64(v3, 144);
 v19 = 0u;
 j0 = AT64(v3, 152);
-L11:;
+L10:;
 v5 = j0;
 SET32(v3, 66, AT32(v3, 48));
 SET16(v3, 70, AT16(v3, 52));
@@ -5558,12 +4982,12 @@ v16 = v6 - v15;
 v10 = a1 + v15;
 if (v6 == v15) {
 a1 = AT64(v3, 16);
-goto L15;
+goto L14;
 }
 a1 = AT64(v3, 16);
 TEST(v10);
-if (AT8(v10, 0) == 46u) goto L14;
-L15:;
+if (AT8(v10, 0) == 46u) goto L13;
+L14:;
 TEST(a0);
 SET64(a0, 0, 0u);
 SET16(a0, 38, (u32)(v8 >> 32));
@@ -5580,7 +5004,7 @@ SET8(a0, 32, v18);
 SET64(a0, 24, AT64(v3, 24));
 SET64(a0, 16, a1);
 goto L1;
-L14:;
+L13:;
 if (a1 == AT64(v3, 24)) {
 i0 = in_std_alloc_vec_Vec_grow_amortized_27f1a6001881071a(RUD_AS v3 + 8u);
 RUD_AGAIN
@@ -5617,13 +5041,9 @@ SET64(a0, 0, 1u);
 SET16(a0, 8, 4609u);
 SET32(a0, 10, AT32(v3, 32));
 SET16(a0, 14, AT16(v3, 36));
-SET64(a0, 32, 0u);
 SET64(a0, 24, v4);
 SET64(a0, 16, a2);
-SET64(a0, 40, 0u);
-SET64(a0, 48, 0u);
-SET64(a0, 56, 0u);
-SET64(a0, 64, 0u);
+FILL_FEW(a0 + 32u, 0u, 40u);
 goto L1;
 L6:;
 if (!(v5 == 0)) {
@@ -5634,14 +5054,7 @@ in_std_alloc_vec_Vec_drop_95beaedac91b374b(RUD_AS v3 + 8u);
 RUD_AGAIN
 TEST(a0);
 SET64(a0, 0, 1u);
-SET64(a0, 8, 0u);
-SET64(a0, 16, 0u);
-SET64(a0, 24, 0u);
-SET64(a0, 32, 0u);
-SET64(a0, 40, 0u);
-SET64(a0, 48, 0u);
-SET64(a0, 56, 0u);
-SET64(a0, 64, 0u);
+FILL_FEW(a0 + 8u, 0u, 64u);
 goto L1;
 }
 rud_trap();
@@ -5664,13 +5077,9 @@ SET32(a0, 10, 0u);
 SET8(a0, 9, v17);
 SET8(a0, 8, v18);
 SET16(a0, 14, 0u);
-SET64(a0, 32, 0u);
 SET64(a0, 24, v5);
 SET64(a0, 16, v4);
-SET64(a0, 40, 0u);
-SET64(a0, 48, 0u);
-SET64(a0, 56, 0u);
-SET64(a0, 64, 0u);
+FILL_FEW(a0 + 32u, 0u, 40u);
 L1:;
 RUD_G0 = v3 + 192u;
 }
@@ -5731,13 +5140,9 @@ SET64(a0, 0, 1u);
 SET32(a0, 10, 0u);
 SET16(a0, 8, 1025u);
 SET16(a0, 14, 0u);
-SET64(a0, 32, 0u);
 SET64(a0, 24, v8);
 SET64(a0, 16, v8);
-SET64(a0, 40, 0u);
-SET64(a0, 48, 0u);
-SET64(a0, 56, 0u);
-SET64(a0, 64, 0u);
+FILL_FEW(a0 + 32u, 0u, 40u);
 goto L1;
 }
 TEST(a0);
@@ -5746,13 +5151,9 @@ SET32(a0, 10, 0u);
 SET8(a0, 9, v10);
 SET8(a0, 8, v11);
 SET16(a0, 14, 0u);
-SET64(a0, 32, 0u);
 SET64(a0, 24, v6);
 SET64(a0, 16, v7);
-SET64(a0, 40, 0u);
-SET64(a0, 48, 0u);
-SET64(a0, 56, 0u);
-SET64(a0, 64, 0u);
+FILL_FEW(a0 + 32u, 0u, 40u);
 goto L1;
 L3:;
 a1 = AT64(v3, 72);
@@ -5820,13 +5221,9 @@ SET64(a0, 0, 1u);
 SET32(a0, 10, 0u);
 SET16(a0, 8, 769u);
 SET16(a0, 14, 0u);
-SET64(a0, 32, 0u);
 SET64(a0, 24, v4);
 SET64(a0, 16, v4);
-SET64(a0, 40, 0u);
-SET64(a0, 48, 0u);
-SET64(a0, 56, 0u);
-SET64(a0, 64, 0u);
+FILL_FEW(a0 + 32u, 0u, 40u);
 goto L1;
 }
 TEST(a0);
@@ -5835,13 +5232,9 @@ SET32(a0, 10, 0u);
 SET8(a0, 9, v11);
 SET8(a0, 8, v12);
 SET16(a0, 14, 0u);
-SET64(a0, 32, 0u);
 SET64(a0, 24, v6);
 SET64(a0, 16, v7);
-SET64(a0, 40, 0u);
-SET64(a0, 48, 0u);
-SET64(a0, 56, 0u);
-SET64(a0, 64, 0u);
+FILL_FEW(a0 + 32u, 0u, 40u);
 goto L1;
 L3:;
 v10 = AT64(v3, 72);
@@ -5998,9 +5391,9 @@ SET64(a0, 16, v5);
 }
 
 static void in_toml_datetime_parse_partial_time(RUD_IT u64 a0, u64 a1, u64 a2) {
-u32 v11 = 0, v12 = 0, v13 = 0, v14 = 0, v15 = 0, v16 = 0, v17 = 0, v18 = 0, v19 = 0, v20 = 0, v21 = 0, i0 = 0;
+u32 v8 = 0, v9 = 0, v10 = 0, v11 = 0, v12 = 0, v13 = 0, v14 = 0, v15 = 0, v16 = 0, v17 = 0, v18 = 0, i0 = 0;
 u32 i1 = 0;
-u64 v3 = 0, v4 = 0, v5 = 0, v6 = 0, v8 = 0, v9 = 0, v10 = 0, j0 = 0, j1 = 0;
+u64 v3 = 0, v4 = 0, v5 = 0, v6 = 0, v7 = 0, j0 = 0, j1 = 0;
 RUD_HERE
 v3 = RUD_G0 - 112u;
 RUD_G0 = v3;
@@ -6021,11 +5414,11 @@ if (a1 == 0) goto L7;
 a2 = AT64(v3, 64);
 TEST(a2);
 if (AT8(a2, 0) != 58u) goto L7;
-v16 = AT8(v3, 56);
+v12 = AT8(v3, 56);
 in_toml_datetime_parse_two_digits(RUD_AS v3 + 16u, a2 + 1u, a1 - 1u);
 if (AT8(v3, 16) != 1u) goto L4;
 a1 = AT64(v3, 32);
-v15 = AT8(v3, 24);
+v11 = AT8(v3, 24);
 a2 = AT64(v3, 40);
 SET64(v3, 104, 0u);
 SET64(v3, 96, 0u);
@@ -6036,20 +5429,10 @@ a2 = 0u;
 i0 = 0u;
 goto L2;
 }
-TEST(a0);
-SET64(a0, 32, 0u);
-SET64(a0, 24, 0u);
-SET64(a0, 16, 0u);
-SET64(a0, 8, 0u);
-SET64(a0, 0, 0u);
+FILL_FEW(a0, 0u, 40u);
 goto L1;
 L7:;
-TEST(a0);
-SET64(a0, 32, 0u);
-SET64(a0, 24, 0u);
-SET64(a0, 16, 0u);
-SET64(a0, 8, 0u);
-SET64(a0, 0, 0u);
+FILL_FEW(a0, 0u, 40u);
 goto L1;
 L6:;
 TEST(a1);
@@ -6057,126 +5440,105 @@ if (AT8(a1, 0) != 58u) goto L3;
 in_toml_datetime_parse_two_digits(RUD_AS v3 + 80u, a1 + 1u, a2 - 1u);
 if (AT8(v3, 80) != 1u) goto L9;
 a1 = AT64(v3, 96);
-v13 = AT8(v3, 88);
+v9 = AT8(v3, 88);
 a2 = AT64(v3, 104);
 if (!(a2 == 0)) {
 TEST(a1);
 if (AT8(a1, 0) == 46u) goto L10;
 }
-v11 = (v13 << 8) | 1u;
+v8 = (v9 << 8) | 1u;
 goto L3;
 L10:;
-v5 = a2 - 1u;
-if (v5 == 0) goto L9;
-v6 = a1 + 1u;
-L13:;
-if (((GET8(v4 + v6, 0) - 48u) & 255u) > 9u) goto L12;
-v4 = v4 + 1u;
-if (v5 != v4) goto L13;
-v4 = v5;
-L12:;
+v4 = a2 - 1u;
 if (v4 == 0) goto L9;
-if (v4 == 1u) {
-a2 = 0u;
-v11 = 1000000000u;
-goto L15;
-}
-a2 = v4 < 9u ? v4 : 9ull;
-v8 = a2 & 14u;
-j0 = a2 & 1u;
-a2 = 0u;
-v11 = 1000000000u;
-L17:;
-v14 = v11;
-v11 = (v14 / 100u);
-v9 = a1 + a2;
-TEST(v9);
-v12 = (v11 * ((AT8(v9, 2) - 48u) & 255u)) + (((v14 / 10u) * ((AT8(v9, 1) - 48u) & 255u)) + v12);
-a2 = a2 + 2u;
-if (v8 != a2) goto L17;
-if (j0 == 0) goto L14;
-L15:;
-v12 = ((v11 / 10u) * ((GET8(a2 + v6, 0) - 48u) & 255u)) + v12;
+v5 = a1 + 1u;
+a1 = 0u;
+L13:;
+if (((GET8(a1 + v5, 0) - 48u) & 255u) > 9u) goto L12;
+a1 = a1 + 1u;
+if (v4 != a1) goto L13;
+a1 = v4;
+L12:;
+if (a1 == 0) goto L9;
+v6 = a1 < 9u ? a1 : 9ull;
+v8 = 1000000000u;
+a2 = v5;
 L14:;
-a2 = v5 - v4;
-a1 = v4 + v6;
-v11 = (v13 << 8) | 1u;
+v8 = (v8 / 10u);
+TEST(a2);
+v10 = (v8 * ((AT8(a2, 0) - 48u) & 255u)) + v10;
+a2 = a2 + 1u;
+v6 = v6 - 1u;
+if (v6 != 0u) goto L14;
+a2 = v4 - a1;
+a1 = a1 + v5;
+v8 = (v9 << 8) | 1u;
 i0 = 1u;
 goto L2;
 L9:;
-TEST(a0);
-SET64(a0, 32, 0u);
-SET64(a0, 24, 0u);
-SET64(a0, 16, 0u);
-SET64(a0, 8, 0u);
-SET64(a0, 0, 0u);
+FILL_FEW(a0, 0u, 40u);
 goto L1;
 }
 rud_trap();
 L4:;
-TEST(a0);
-SET64(a0, 32, 0u);
-SET64(a0, 24, 0u);
-SET64(a0, 16, 0u);
-SET64(a0, 8, 0u);
-SET64(a0, 0, 0u);
+FILL_FEW(a0, 0u, 40u);
 goto L1;
 L3:;
 i0 = 0u;
 L2:;
-v14 = i0;
-SET32(v3, 12, v12);
-SET32(v3, 8, v14);
-SET8(v3, 5, v15);
-SET8(v3, 4, v16);
-SET8(v3, 6, v11);
-v13 = v11 >> 8;
+v9 = i0;
+SET32(v3, 12, v10);
+SET32(v3, 8, v9);
+SET8(v3, 5, v11);
+SET8(v3, 4, v12);
+SET8(v3, 6, v8);
+v13 = v8 >> 8;
 SET8(v3, 7, v13);
 j0 = a0;
 v4 = v3 + 4u;
 if ((s64)RUD_G0 >= (s64)16u) {
-if (AT8(v3, 4) > 23u) goto L21;
-if (AT8(v3, 5) > 59u) goto L21;
-v19 = AT32(v3, 12);
-v18 = AT8(v3, 8);
-v20 = AT8(v3, 6);
-if (v20 == 1u) {
-if (AT8(v3, 7) > 60u) goto L21;
+if (AT8(v3, 4) > 23u) goto L18;
+if (AT8(v3, 5) > 59u) goto L18;
+v16 = AT32(v3, 12);
+v15 = AT8(v3, 8);
+v17 = AT8(v3, 6);
+if (v17 == 1u) {
+if (AT8(v3, 7) > 60u) goto L18;
 }
-if ((u32)(v18 == 1u) & (u32)(v19 > 999999999u)) goto L21;
-v17 = (u32)(v20 == 1u) | (u32)(v18 != 1u);
-L21:;
-i1 = v17;
-goto L19;
+if ((u32)(v15 == 1u) & (u32)(v16 > 999999999u)) goto L18;
+v14 = (u32)(v17 == 1u) | (u32)(v15 != 1u);
+L18:;
+i1 = v14;
+goto L16;
 }
 rud_trap();
-L19:;
+L16:;
 if (i1 == 0) {
-v15 = 0u;
 v11 = 0u;
+v8 = 0u;
 v13 = 0u;
-v14 = 0u;
-v12 = 0u;
+v9 = 0u;
+v10 = 0u;
 a2 = 0u;
 j1 = 0u;
-goto L18;
+goto L15;
 }
-v21 = v16;
-v10 = a1;
+v18 = v12;
+v7 = a1;
 j1 = 1u;
-L18:;
+L15:;
 TEST(j0);
 SET64(j0, 0, j1);
 TEST(a0);
 SET64(a0, 32, a2);
-SET64(a0, 24, v10);
+SET64(a0, 24, v7);
 SET32(a0, 20, 0u);
-SET32(a0, 16, v12);
-SET32(a0, 12, v14);
+SET32(a0, 16, v10);
+SET32(a0, 12, v9);
 SET8(a0, 11, v13);
-SET8(a0, 10, v11);
-SET8(a0, 9, v15);
-SET8(a0, 8, v21);
+SET8(a0, 10, v8);
+SET8(a0, 9, v11);
+SET8(a0, 8, v18);
 L1:;
 RUD_G0 = v3 + 112u;
 }
@@ -6260,30 +5622,25 @@ RUD_G0 = v3 + 112u;
 }
 
 static u32 in_toml_parser_number_radix_of(RUD_IT u64 a0, u64 a1) {
-u32 v2 = 0;
+u32 v2 = 0, v3 = 0;
 RUD_HERE
 if ((s64)RUD_G0 >= (s64)16u) {
 v2 = 10u;
 if (a1 == 0) goto L1;
 TEST(a0);
-if (AT8(a0, 0) != 48u) goto L1;
-if (a1 == 1u) goto L4;
-v2 = 16u;
-switch (AT8(a0, 1) - 98u) {
-case 0u: goto L5;
-default: goto L4;
-case 13u: goto L2;
-case 22u: goto L1;
+if ((u32)(AT8(a0, 0) != 48u) | (u32)(a1 == 1u)) goto L1;
+v3 = AT8(a0, 1);
+if (v3 == 98u) goto L2;
+if (v3 == 120u) {
+return 16u;
 }
-L5:;
-return 2u;
-L4:;
-return 10u;
+if (v3 != 111u) goto L1;
+return 8u;
 }
 rud_trap();
 return 0;
 L2:;
-v2 = 8u;
+v2 = 2u;
 L1:;
 return v2;
 }
@@ -6384,55 +5741,34 @@ rud_trap();
 }
 
 static void in_core_dec2flt_big_Big_mul_add(RUD_IT u64 a0, u64 a1, u64 a2) {
-u64 v3 = 0, v4 = 0, v5 = 0, v6 = 0, v7 = 0, v9 = 0, v10 = 0, j0 = 0, j1 = 0, j2 = 0;
+u64 v3 = 0, v4 = 0, v5 = 0, v6 = 0, v7 = 0, j1 = 0;
 RUD_HERE
-(void)j1;
-v3 = RUD_G0 - 48u;
+v3 = RUD_G0 - 16u;
 RUD_G0 = v3;
 if ((s64)v3 >= (s64)16u) {
 TEST(a0);
 v5 = AT64(a0, 592);
-if (v5 == 0) goto L2;
-if (v5 == 1u) {
-goto L3;
-}
-v9 = v5 & 0xfffffffffffffffeull;
+if (!(v5 == 0)) {
 v4 = a0;
-j0 = v5 & 1u;
-L5:;
-TEST(v4);
-in_multi3(RUD_AS v3 + 16u, AT64(v4, 0), 0u, a1);
-TEST(v3);
-j2 = a2;
-a2 = AT64(v3, 16);
-v10 = j2 + a2;
-SET64(v4, 0, v10);
-v7 = v4 + 8u;
-in_multi3(RUD_AS v3 + 32u, AT64(v4, 8), 0u, a1);
-j1 = v7;
-v7 = AT64(v3, 32);
-a2 = v7 + (AT64(v3, 24) + (u64)(u32)(a2 > v10));
-SET64(v4, 8, a2);
-v4 = v4 + 16u;
-a2 = AT64(v3, 40) + (u64)(u32)(a2 < v7);
-v6 = v6 + 2u;
-if (v9 != v6) goto L5;
-if (j0 == 0) goto L2;
+v6 = v5;
 L3:;
-v4 = a0 + (v6 << 3);
 TEST(v4);
 in_multi3(RUD_AS v3, AT64(v4, 0), 0u, a1);
 TEST(v3);
-a1 = AT64(v3, 0);
-a2 = a1 + a2;
-SET64(v4, 0, a2);
-a2 = AT64(v3, 8) + (u64)(u32)(a1 > a2);
-L2:;
+j1 = a2;
+a2 = AT64(v3, 0);
+v7 = j1 + a2;
+SET64(v4, 0, v7);
+v4 = v4 + 8u;
+a2 = AT64(v3, 8) + (u64)(u32)(a2 > v7);
+v6 = v6 - 1u;
+if (v6 != 0u) goto L3;
+}
 if (!(a2 == 0)) {
 PUT64(a0 + (v5 << 3), 0, a2);
 SET64(a0, 592, v5 + 1u);
 }
-RUD_G0 = v3 + 48u;
+RUD_G0 = v3 + 16u;
 return;
 }
 rud_trap();
@@ -6533,76 +5869,63 @@ return j0;
 }
 
 static void in_core_dec2flt_long_first_digits(RUD_IT u64 a0, u64 a1, u64 a2, u64 a3, u64 a4) {
-u64 v5 = 0, v6 = 0, v7 = 0, v8 = 0, v9 = 0, v10 = 0, v11 = 0, v12 = 0, v13 = 0, v14 = 0, v15 = 0, v16 = 0;
-u64 v17 = 0, j0 = 0, j1 = 0;
+u64 v5 = 0, v6 = 0, v7 = 0, v8 = 0, v9 = 0, v10 = 0, v11 = 0;
 RUD_HERE
-v8 = RUD_G0 - 608u;
-RUD_G0 = v8;
-if ((s64)v8 >= (s64)16u) {
-v5 = v8 + 8u;
+v6 = RUD_G0 - 608u;
+RUD_G0 = v6;
+if ((s64)v6 >= (s64)16u) {
+v5 = v6 + 8u;
 FILL_FEW(v5, 0u, 600u);
 in_core_dec2flt_big_Big_mul_add(RUD_AS v5, 1u, 0u);
 if (!(a4 == 0)) {
-v11 = a3 - a2;
+v10 = a3 - a2;
 L3:;
-v9 = a4 - v7;
-v10 = v9 < 19u ? v9 : 19ull;
-v12 = GET_FAR64(v10 << 3, 4194320);
-v5 = 0u;
-v6 = 0u;
-if (v9 != 1u) {
-v13 = a1 + v7;
-v14 = v7 + v11;
-v15 = v10 & 30u;
-j0 = v10 & 1u;
-L6:;
-j1 = v6 * 10u;
-v6 = v5 + v13;
-v16 = v5 + v14;
-v17 = v5 + v7;
-v6 = ((j1 + ((u64)(GET8(v17 < a2 ? v6 : v16, 0) - 48u) & 255u)) * 10u) + ((u64)(GET8((v17 + 1u) < a2 ? v6 : v16, 1) - 48u) & 255u);
-v5 = v5 + 2u;
-if (v15 != v5) goto L6;
-if (j0 == 0) goto L4;
-}
-v5 = v5 + v7;
-v6 = (v6 * 10u) + ((u64)(GET8(a2 > v5 ? (a1 + v5) : (a3 + (v5 - a2)), 0) - 48u) & 255u);
+a3 = a4 - v7;
+v8 = a3 < 19u ? a3 : 19ull;
+v11 = GET_FAR64(v8 << 3, 4194320);
+v5 = v7;
+v9 = v8;
+a3 = 0u;
 L4:;
-in_core_dec2flt_big_Big_mul_add(RUD_AS v8 + 8u, v12, v6);
-v7 = v7 + v10;
+a3 = (a3 * 10u) + ((u64)(GET8((a2 > v5 ? a1 : v10) + v5, 0) - 48u) & 255u);
+v5 = v5 + 1u;
+v9 = v9 - 1u;
+if (v9 != 0u) goto L4;
+in_core_dec2flt_big_Big_mul_add(RUD_AS v6 + 8u, v11, a3);
+v7 = v7 + v8;
 if (v7 < a4) goto L3;
 }
-COPY_FEW(a0, v8 + 8u, 600u);
-RUD_G0 = v8 + 608u;
+COPY_FEW(a0, v6 + 8u, 600u);
+RUD_G0 = v6 + 608u;
 return;
 }
 rud_trap();
 }
 
 static void in_toml_parser_number_decimal_number(RUD_IT u64 a0, u64 a1, u64 a2, u32 a3) {
-u32 v24 = 0, v25 = 0, v26 = 0, v27 = 0, i0 = 0, i2 = 0, i4 = 0;
+u32 v21 = 0, v22 = 0, v23 = 0, v24 = 0, i0 = 0, i2 = 0, i4 = 0;
 u64 v4 = 0, v5 = 0, v6 = 0, v7 = 0, v8 = 0, v9 = 0, v10 = 0, v11 = 0, v12 = 0, v13 = 0, v14 = 0, v15 = 0;
-u64 v16 = 0, v17 = 0, v18 = 0, v19 = 0, v20 = 0, v21 = 0, v22 = 0, j0 = 0, j1 = 0, j2 = 0, j3 = 0;
-f64 v28 = 0;
+u64 v16 = 0, v17 = 0, v18 = 0, v19 = 0, v20 = 0, j0 = 0, j1 = 0, j2 = 0, j3 = 0;
+f64 v25 = 0;
 RUD_HERE
-v6 = RUD_G0 - 1328u;
-RUD_G0 = v6;
-if ((s64)v6 >= (s64)16u) {
-TEST_FAR(v6, 304);
-SET32(v6, 120, 0u);
-SET64(v6, 112, 0u);
-SET64(v6, 104, 0u);
-SET64(v6, 80, 0u);
-SET64(v6, 88, 0u);
-SET32(v6, 96, 0u);
-SET64(v6, 56, 0u);
-SET64(v6, 64, 0u);
-SET32(v6, 72, 0u);
-if (a2 != 3u) goto L16;
+v5 = RUD_G0 - 1328u;
+RUD_G0 = v5;
+if ((s64)v5 >= (s64)16u) {
+TEST_FAR(v5, 304);
+SET32(v5, 120, 0u);
+SET64(v5, 112, 0u);
+SET64(v5, 104, 0u);
+SET64(v5, 80, 0u);
+SET64(v5, 88, 0u);
+SET32(v5, 96, 0u);
+SET64(v5, 56, 0u);
+SET64(v5, 64, 0u);
+SET32(v5, 72, 0u);
+if (a2 != 3u) goto L18;
 TEST(a1);
-if (AT8(a1, 0) != 105u) goto L17;
-if (AT8(a1, 1) != 110u) goto L17;
-if (AT8(a1, 2) != 102u) goto L17;
+if (AT8(a1, 0) != 105u) goto L19;
+if (AT8(a1, 1) != 110u) goto L19;
+if (AT8(a1, 2) != 102u) goto L19;
 TEST(a0);
 SET16(a0, 0, 0u);
 SET64(a0, 24, 0u);
@@ -6612,10 +5935,10 @@ SET16(a0, 8, 2u);
 SET64(a0, 32, 0u);
 SET32(a0, 40, 0u);
 goto L1;
-L17:;
-if (AT8(a1, 0) != 110u) goto L16;
-if (AT8(a1, 1) != 97u) goto L16;
-if (AT8(a1, 2) != 110u) goto L16;
+L19:;
+if (AT8(a1, 0) != 110u) goto L18;
+if (AT8(a1, 1) != 97u) goto L18;
+if (AT8(a1, 2) != 110u) goto L18;
 TEST(a0);
 SET16(a0, 0, 0u);
 SET64(a0, 24, 0u);
@@ -6625,198 +5948,183 @@ SET16(a0, 8, 2u);
 SET64(a0, 32, 0u);
 SET32(a0, 40, 0u);
 goto L1;
-L16:;
-if (a2 < 8u) goto L18;
-v7 = a2;
-j0 = a2 & 0xfffffffffffffff8ull;
-L19:;
-v4 = GET64(a1 + v8, 0);
-v11 = v4 ^ 3472328296227680304ull;
-if (((((v11 & 9187201950435737470ull) + 8536140394893047414ull) | v4) & 0x8080808080808080ull) != 0u) goto L18;
-v4 = (v11 * 10u) + (v11 >> 8);
-v9 = (v9 * 100000000u) + (((((v4 >> 16) & 1095216660735ull) * 42949672960001ull) + ((v4 & 1095216660735ull) * 4294967296000100ull)) >> 32);
-v8 = v8 + 8u;
-v7 = v7 - 8u;
-if (v7 > 7u) goto L19;
-v8 = j0;
 L18:;
+if (a2 < 8u) goto L20;
+v9 = a2;
+j0 = a2 & 0xfffffffffffffff8ull;
+L21:;
+v4 = GET64(a1 + v10, 0);
+v11 = v4 ^ 3472328296227680304ull;
+if (((((v11 & 9187201950435737470ull) + 8536140394893047414ull) | v4) & 0x8080808080808080ull) != 0u) goto L20;
+v4 = (v11 * 10u) + (v11 >> 8);
+v8 = (v8 * 100000000u) + (((((v4 >> 16) & 1095216660735ull) * 42949672960001ull) + ((v4 & 1095216660735ull) * 4294967296000100ull)) >> 32);
+v10 = v10 + 8u;
+v9 = v9 - 8u;
+if (v9 > 7u) goto L21;
+v10 = j0;
+L20:;
 v11 = 4194313u;
-if (a2 > v8) {
-L24:;
-v13 = a1 + v8;
+if (a2 > v10) {
+L26:;
+v13 = a1 + v10;
 TEST(v13);
-v27 = AT8(v13, 0);
-v24 = v27 - 48u;
-if ((v24 & 255u) > 9u) goto L23;
-v9 = (v9 * 10u) + ((u64)v24 & 255u);
-v8 = v8 + 1u;
-if (a2 != v8) goto L24;
-v7 = 0u;
-v8 = a2;
-goto L11;
-L23:;
-if (v27 == 46u) goto L20;
-if ((u32)(v27 == 69u) | (u32)(v27 == 101u)) goto L21;
+v24 = AT8(v13, 0);
+v21 = v24 - 48u;
+if ((v21 & 255u) > 9u) goto L25;
+v8 = (v8 * 10u) + ((u64)v21 & 255u);
+v10 = v10 + 1u;
+if (a2 != v10) goto L26;
+v9 = 0u;
+v10 = a2;
+goto L12;
+L25:;
+if (v24 == 46u) goto L22;
+if ((u32)(v24 == 69u) | (u32)(v24 == 101u)) goto L23;
 }
 j0 = 0u;
-goto L13;
-L21:;
-v24 = 0u;
-v4 = v8 + 1u;
-v27 = v4 >= a2;
-if (v27 == 0) {
-v24 = AT8(v13, 1);
+goto L15;
+L23:;
+v21 = 0u;
+v4 = v10 + 1u;
+v24 = v4 >= a2;
+if (v24 == 0) {
+v21 = AT8(v13, 1);
 }
-v5 = v8 + 2u;
-v4 = v24 == 45u ? v5 : (v24 == 43u ? v5 : v4);
-if ((u32)(v4 >= a2) | (u32)(v4 == 0)) goto L14;
-if (((GET8(a1 + v4, 0) - 58u) & 255u) < 246u) goto L14;
+v6 = v10 + 2u;
+v4 = v21 == 45u ? v6 : (v21 == 43u ? v6 : v4);
+if ((u32)(v4 >= a2) | (u32)(v4 == 0)) goto L16;
+if (((GET8(a1 + v4, 0) - 58u) & 255u) < 246u) goto L16;
+v9 = 0u;
+v6 = v4;
+L29:;
+v21 = GET8(a1 + v6, 0) - 48u;
+if ((v21 & 255u) > 9u) goto L28;
+v12 = (u64)v21 & 255u;
+v7 = v12 + (v9 * 10u);
+v9 = v9 < 1844674407370955162ull ? (v7 < v12 ? 18446744073709551615ull : v7) : 18446744073709551615ull;
+v6 = v6 + 1u;
+if (a2 != v6) goto L29;
+v6 = a2;
+L28:;
+if (v24 == 0) {
+v23 = AT8(v13, 1) == 45u;
+}
+v12 = v6 - v4;
 v7 = 0u;
-v5 = v4;
-L27:;
-v24 = GET8(a1 + v5, 0) - 48u;
-if ((v24 & 255u) > 9u) goto L26;
-v12 = (u64)v24 & 255u;
-v10 = v12 + (v7 * 10u);
-v7 = v7 < 1844674407370955162ull ? (v10 < v12 ? 18446744073709551615ull : v10) : 18446744073709551615ull;
-v5 = v5 + 1u;
-if (a2 != v5) goto L27;
-v5 = a2;
-L26:;
-if (v27 == 0) {
-v26 = AT8(v13, 1) == 45u;
-}
-v12 = v5 - v4;
-v10 = 0u;
-goto L12;
-L20:;
-v5 = v8 + 1u;
-L30:;
-if ((a2 - v5) >= 8u) {
-v4 = GET64(a1 + v5, 0);
+goto L13;
+L22:;
+v6 = v10 + 1u;
+L32:;
+if ((a2 - v6) >= 8u) {
+v4 = GET64(a1 + v6, 0);
 v11 = v4 ^ 3472328296227680304ull;
 v4 = (((v11 & 9187201950435737470ull) + 8536140394893047414ull) | v4) & 0x8080808080808080ull;
 if (v4 == 0) {
 v4 = (v11 * 10u) + (v11 >> 8);
-v10 = (((v4 >> 16) & 1095216660735ull) * 42949672960001ull) + ((v4 & 1095216660735ull) * 4294967296000100ull);
+v7 = (((v4 >> 16) & 1095216660735ull) * 42949672960001ull) + ((v4 & 1095216660735ull) * 4294967296000100ull);
 j0 = 8u;
-goto L32;
+goto L34;
 }
 j0 = v11;
 v11 = rud_ctz64(v4);
 v4 = (j0 << (((v11 ^ 0xffffffffffffffffull) & 56u) & 63)) * 2561u;
-v10 = (((v4 >> 16) & 1095216660735ull) * 42949672960001ull) + ((v4 & 1095216660735ull) * 4294967296000100ull);
+v7 = (((v4 >> 16) & 1095216660735ull) * 42949672960001ull) + ((v4 & 1095216660735ull) * 4294967296000100ull);
 j0 = v11 >> 3;
-L32:;
+L34:;
 v4 = j0;
-v9 = (GET_FAR64(v4 << 3, 4194320) * v9) + (v10 >> 32);
-v5 = v4 + v5;
-if (v4 >= 8u) goto L30;
-goto L29;
+v8 = (GET_FAR64(v4 << 3, 4194320) * v8) + (v7 >> 32);
+v6 = v4 + v6;
+if (v4 >= 8u) goto L32;
+goto L31;
 }
-if (((u32)(a2 > v5) & (u32)(a2 >= 12u)) == 0) {
-if (a2 <= v5) goto L29;
-L35:;
-v24 = GET8(a1 + v5, 0) - 48u;
-if ((v24 & 255u) > 9u) goto L29;
-v9 = (v9 * 10u) + ((u64)v24 & 255u);
-v5 = v5 + 1u;
-if (a2 != v5) goto L35;
-v10 = (v8 ^ 0xffffffffffffffffull) + a2;
+if (((u32)(a2 > v6) & (u32)(a2 >= 12u)) == 0) {
+if (a2 <= v6) goto L31;
+L37:;
+v21 = GET8(a1 + v6, 0) - 48u;
+if ((v21 & 255u) > 9u) goto L31;
+v8 = (v8 * 10u) + ((u64)v21 & 255u);
+v6 = v6 + 1u;
+if (a2 != v6) goto L37;
+v7 = (v10 ^ 0xffffffffffffffffull) + a2;
 v11 = v13 + 1u;
-v25 = 1u;
-v7 = 0u;
-goto L11;
+v22 = 1u;
+v9 = 0u;
+goto L12;
 }
 v4 = a2 - 8u;
-v4 = GET64(a1 + v4, 0) >> (((v5 - v4) << 3) & 63);
+v4 = GET64(a1 + v4, 0) >> (((v6 - v4) << 3) & 63);
 v11 = v4 ^ 3472328296227680304ull;
 v4 = (((v11 & 9187201950435737470ull) + 8536140394893047414ull) | v4) & 0x8080808080808080ull;
 if (v4 == 0) {
 v4 = (v11 * 10u) + (v11 >> 8);
-v10 = (((v4 >> 16) & 1095216660735ull) * 42949672960001ull) + ((v4 & 1095216660735ull) * 4294967296000100ull);
+v7 = (((v4 >> 16) & 1095216660735ull) * 42949672960001ull) + ((v4 & 1095216660735ull) * 4294967296000100ull);
 j0 = 8u;
-goto L36;
+goto L38;
 }
 j0 = v11;
 v11 = rud_ctz64(v4);
 v4 = (j0 << (((v11 ^ 0xffffffffffffffffull) & 56u) & 63)) * 2561u;
-v10 = (((v4 >> 16) & 1095216660735ull) * 42949672960001ull) + ((v4 & 1095216660735ull) * 4294967296000100ull);
+v7 = (((v4 >> 16) & 1095216660735ull) * 42949672960001ull) + ((v4 & 1095216660735ull) * 4294967296000100ull);
 j0 = v11 >> 3;
-L36:;
+L38:;
 v4 = j0;
-v9 = (GET_FAR64(v4 << 3, 4194320) * v9) + (v10 >> 32);
-v5 = v4 + v5;
-L29:;
-v10 = (v8 ^ 0xffffffffffffffffull) + v5;
+v8 = (GET_FAR64(v4 << 3, 4194320) * v8) + (v7 >> 32);
+v6 = v4 + v6;
+L31:;
+v7 = (v10 ^ 0xffffffffffffffffull) + v6;
 v11 = v13 + 1u;
-v25 = 1u;
-if (a2 <= v5) {
-v7 = 0u;
-goto L12;
+v22 = 1u;
+if (a2 <= v6) goto L14;
+if ((GET8(a1 + v6, 0) | 32u) != 101u) goto L14;
+v21 = 0u;
+v15 = v6 + 1u;
+v24 = v15 >= a2;
+if (v24 == 0) {
+v21 = GET8(a1 + v15, 0);
 }
-if ((GET8(a1 + v5, 0) | 32u) != 101u) {
-v7 = 0u;
-goto L12;
+v4 = v6 + 2u;
+v4 = v21 == 45u ? v4 : (v21 == 43u ? v4 : v15);
+if ((u32)(v4 >= a2) | (u32)(v4 == 0)) goto L14;
+if (((GET8(a1 + v4, 0) - 58u) & 255u) < 246u) goto L14;
+v9 = 0u;
+v6 = v4;
+L42:;
+v21 = GET8(a1 + v6, 0) - 48u;
+if ((v21 & 255u) > 9u) goto L41;
+v13 = (u64)v21 & 255u;
+v12 = v13 + (v9 * 10u);
+v9 = v9 < 1844674407370955162ull ? (v12 < v13 ? 18446744073709551615ull : v12) : 18446744073709551615ull;
+v6 = v6 + 1u;
+if (a2 != v6) goto L42;
+v6 = a2;
+L41:;
+if (v24 == 0) {
+v23 = GET8(a1 + v15, 0) == 45u;
 }
-v24 = 0u;
-v15 = v5 + 1u;
-v27 = v15 >= a2;
-if (v27 == 0) {
-v24 = GET8(a1 + v15, 0);
-}
-v4 = v5 + 2u;
-v4 = v24 == 45u ? v4 : (v24 == 43u ? v4 : v15);
-if (a2 <= v4) {
-v7 = 0u;
-goto L12;
-}
-if (v4 == 0) {
-v7 = 0u;
-goto L12;
-}
-if (((GET8(a1 + v4, 0) - 58u) & 255u) < 246u) {
-v7 = 0u;
-goto L12;
-}
-v7 = 0u;
-v5 = v4;
-L45:;
-v24 = GET8(a1 + v5, 0) - 48u;
-if ((v24 & 255u) > 9u) goto L44;
-v13 = (u64)v24 & 255u;
-v12 = v13 + (v7 * 10u);
-v7 = v7 < 1844674407370955162ull ? (v12 < v13 ? 18446744073709551615ull : v12) : 18446744073709551615ull;
-v5 = v5 + 1u;
-if (a2 != v5) goto L45;
-v5 = a2;
-L44:;
-if (v27 == 0) {
-v26 = GET8(a1 + v15, 0) == 45u;
-}
-v12 = v5 - v4;
-goto L12;
+v12 = v6 - v4;
+goto L13;
 }
 rud_trap();
-L14:;
+L16:;
 j0 = 0u;
+L15:;
+v7 = j0;
+v6 = v10;
+L14:;
+v9 = 0u;
 L13:;
-v10 = j0;
-v5 = v8;
-v7 = 0u;
+if (a2 != v6) goto L11;
 L12:;
-if (a2 != v5) goto L10;
-L11:;
-if (v8 <= 1u) {
-if ((u32)v8 - 1u) goto L10;
-goto L47;
+if (v10 <= 1u) {
+if ((u32)v10 - 1u) goto L11;
+goto L44;
 }
 TEST(a1);
-if (AT8(a1, 0) == 48u) goto L10;
-L47:;
-if (v25 == 0) goto L9;
-if (v10 != 0u) goto L8;
-L10:;
+if (AT8(a1, 0) == 48u) goto L11;
+L44:;
+if (v22 == 0) goto L10;
+if (v7 != 0u) goto L9;
+L11:;
 TEST(a0);
 SET16(a0, 0, 3073u);
 SET64(a0, 12, 0u);
@@ -6825,379 +6133,357 @@ SET64(a0, 20, 0u);
 SET64(a0, 28, 0u);
 SET64(a0, 36, 0u);
 goto L1;
+L10:;
+if (v12 == 0) goto L8;
 L9:;
-if (v12 == 0) goto L7;
-L8:;
-a2 = v26 ? v7 : 0ull;
-v4 = v26 ? 0ull : v7;
-if (((u32)(v7 < 4294967296ull) & (u32)((v8 + v10) <= 19u)) == 0) {
-v7 = a1;
-v5 = v10;
+a2 = v23 ? v9 : 0ull;
+v4 = v23 ? 0ull : v9;
+if (((u32)(v9 < 4294967296ull) & (u32)((v7 + v10) <= 19u)) == 0) {
+v9 = a1;
+v6 = v7;
 a1 = 0u;
-v16 = RUD_G0 - 1216u;
-RUD_G0 = v16;
-if ((s64)v16 >= (s64)16u) {
-v10 = v5 + v8;
-if (v10 == 0) goto L53;
-v12 = v11 - v8;
-L54:;
-if (GET8((a1 < v8 ? v7 : v12) + a1, 0) != 48u) goto L53;
+v14 = RUD_G0 - 1216u;
+RUD_G0 = v14;
+if ((s64)v14 >= (s64)16u) {
+v7 = v6 + v10;
+if (v7 == 0) goto L50;
+v12 = v11 - v10;
+L51:;
+if (GET8((a1 < v10 ? v9 : v12) + a1, 0) != 48u) goto L50;
 a1 = a1 + 1u;
-if (v10 != a1) goto L54;
-goto L52;
-L53:;
-if (a1 == v10) goto L52;
-v21 = v10 - a1;
-v15 = v21 < 19u ? v21 : 19ull;
-v12 = v4 + (v21 - v15);
+if (v7 != a1) goto L51;
+goto L49;
+L50:;
+if (a1 == v7) goto L49;
+v15 = v7 - a1;
+v18 = v15 < 19u ? v15 : 19ull;
+v12 = v4 + (v15 - v18);
 v13 = v12 + 342u;
-v17 = a2 + v5;
-v24 = v13 < v17;
+v17 = a2 + v6;
+v21 = v13 < v17;
 v12 = (u64)(u32)(v4 > v12) + (u64)(u32)(v12 > v13);
-v19 = (u64)(u32)(a2 > v17);
-if (v12 == v19 ? v24 : (u32)(v12 < v19)) goto L52;
-v22 = v13 - v17;
-a2 = (v12 - v19) - (u64)v24;
-if (a2 == 0 ? (u32)(v22 > 650u) : (u32)(a2 != 0u)) {
-v14 = 9218868437227405312ull;
-goto L52;
+v20 = (u64)(u32)(a2 > v17);
+if (v12 == v20 ? v21 : (u32)(v12 < v20)) goto L49;
+v16 = v13 - v17;
+a2 = (v12 - v20) - (u64)v21;
+if (a2 == 0 ? (u32)(v16 > 650u) : (u32)(a2 != 0u)) {
+v16 = 9218868437227405312ull;
+goto L49;
 }
-if (v21 != 1u) {
-v20 = a1 + v7;
-v9 = v15 & 30u;
-j0 = v15 & 1u;
-v15 = v11 + (a1 - v8);
-L58:;
-v13 = v18 + v20;
-v12 = v15 + v18;
-a2 = a1 + v18;
-v14 = (((v14 * 10u) + ((u64)(GET8(a2 < v8 ? v13 : v12, 0) - 48u) & 255u)) * 10u) + ((u64)(GET8((a2 + 1u) < v8 ? v13 : v12, 1) - 48u) & 255u);
-v18 = v18 + 2u;
-if (v9 != v18) goto L58;
-if (j0 == 0) goto L56;
-}
-a1 = a1 + v18;
-v14 = (v14 * 10u) + ((u64)(GET8(a1 < v8 ? (v7 + a1) : (v11 + (a1 - v8)), 0) - 48u) & 255u);
-L56:;
-TEST_FAR(v16, 192);
-SET64(v16, 632, 0u);
-SET64(v16, 624, 0u);
-SET64(v16, 616, 0u);
-a1 = rud_clz64(v14);
-in_multi3(RUD_AS v16, GET_FAR64(v22 << 4, 4194488), 0u, v14 << (a1 & 63));
-v9 = (u64)(u32)(v21 > 19u);
-v15 = AT64(v16, 8);
-v20 = v15 >> 63;
-v13 = (v20 + (((v22 * 217706u) + 58980u) >> 16)) + 1139u;
+a2 = v11 - v10;
+L53:;
+v19 = (v19 * 10u) + ((u64)(GET8((a1 < v10 ? v9 : a2) + a1, 0) - 48u) & 255u);
+a1 = a1 + 1u;
+v18 = v18 - 1u;
+if (v18 != 0u) goto L53;
+TEST_FAR(v14, 192);
+SET64(v14, 632, 0u);
+SET64(v14, 624, 0u);
+SET64(v14, 616, 0u);
+a1 = rud_clz64(v19);
+in_multi3(RUD_AS v14, GET_FAR64(v16 << 4, 4194488), 0u, v19 << (a1 & 63));
+v8 = (u64)(u32)(v15 > 19u);
+v15 = AT64(v14, 8);
+v18 = v15 >> 63;
+v13 = (v18 + (((v16 * 217706u) + 58980u) >> 16)) + 1139u;
 v12 = a1 + 1191u;
-if (v13 < v12) goto L59;
-a2 = 512ull << (v20 & 63);
-j0 = (v9 << (a1 & 63)) + 2u;
-a1 = ((18446744073709550592ull << (v20 & 63)) ^ 0xffffffffffffffffull) & v15;
-if (j0 > (a2 - a1)) goto L59;
-a1 = (u64)(u32)(a1 > a2) + (((v13 - v12) << 52) + (v15 >> ((v20 | 10u) & 63)));
-v14 = a1 < 9218868437227405312ull ? a1 : 9218868437227405312ull;
-goto L52;
-L59:;
-in_core_dec2flt_lemire_eisel_lemire_wide_1d521972340cebc2(RUD_AS v16 + 616u, v14, v9, v22);
-v14 = AT64(v16, 624);
-if (AT8(v16, 616) == 0) goto L52;
-v9 = AT64(v16, 632);
-v24 = 0u;
-FILL_FEW(v16 + 616u, 0u, 600u);
-FILL_FEW(v16 + 16u, 0u, 600u);
-a1 = 1075ull - v9;
+if (v13 < v12) goto L54;
+a2 = 512ull << (v18 & 63);
+j0 = (v8 << (a1 & 63)) + 2u;
+a1 = ((18446744073709550592ull << (v18 & 63)) ^ 0xffffffffffffffffull) & v15;
+if (j0 > (a2 - a1)) goto L54;
+a1 = (u64)(u32)(a1 > a2) + (((v13 - v12) << 52) + (v15 >> ((v18 | 10u) & 63)));
+v16 = a1 < 9218868437227405312ull ? a1 : 9218868437227405312ull;
+goto L49;
+L54:;
+in_core_dec2flt_lemire_eisel_lemire_wide_1d521972340cebc2(RUD_AS v14 + 616u, v19, v8, v16);
+v16 = AT64(v14, 624);
+if (AT8(v14, 616) == 0) goto L49;
+v8 = AT64(v14, 632);
+v21 = 0u;
+FILL_FEW(v14 + 616u, 0u, 600u);
+FILL_FEW(v14 + 16u, 0u, 600u);
+a1 = 1075ull - v8;
 v12 = a1 > 1075u ? 0ull : a1;
 v15 = v12 + v4;
 a2 = (u64)(u32)(v12 > v15);
-if ((a2 == v19 ? (u32)(v17 > v15) : (u32)(v19 > a2)) == 0) {
-a1 = v16 + 616u;
-in_core_dec2flt_long_first_digits(RUD_AS a1, v7, v8, v11, v10);
+if ((a2 == v20 ? (u32)(v17 > v15) : (u32)(v20 > a2)) == 0) {
+a1 = v14 + 616u;
+in_core_dec2flt_long_first_digits(RUD_AS a1, v9, v10, v11, v7);
 j0 = a1;
 a1 = v4 - v17;
 j3 = a1;
 i4 = a1 > v4;
-a1 = 0ull - (v19 + (u64)(u32)(v4 < v17));
+a1 = 0ull - (v20 + (u64)(u32)(v4 < v17));
 j2 = (a1 == 0 ? i4 : (u32)(a1 != 0u)) ? 0ull : j3;
 a1 = v17 - v4;
-v14 = in_core_dec2flt_decimal_break_tie_1d521972340cebc2(RUD_AS j0, 0u, j2, (v4 <= v17 ? (u32)(a1 > v17) : (u32)((v19 - (u64)(u32)(v4 > v17)) > v19)) ? 0ull : a1, v14, v9);
-goto L52;
+v16 = in_core_dec2flt_decimal_break_tie_1d521972340cebc2(RUD_AS j0, 0u, j2, (v4 <= v17 ? (u32)(a1 > v17) : (u32)((v20 - (u64)(u32)(v4 > v17)) > v20)) ? 0ull : a1, v16, v8);
+goto L49;
 }
 v13 = v17 - v15;
-a1 = v10 - v13;
-v4 = (v19 - a2) - (u64)(u32)(v15 > v17);
+a1 = v7 - v13;
+v4 = (v20 - a2) - (u64)(u32)(v15 > v17);
 j1 = a1;
-i2 = a1 > v10;
-a1 = 0ull - (v4 + (u64)(u32)(v10 < v13));
+i2 = a1 > v7;
+a1 = 0ull - (v4 + (u64)(u32)(v7 < v13));
 a2 = (a1 == 0 ? i2 : (u32)(a1 != 0u)) ? 0ull : j1;
-if (a2 < v10) {
-j1 = v5;
-v5 = (u32)(v4 == 0) & (u32)(v10 > v13) ? v13 : v10;
-v18 = v11 + (j1 - v5);
+if (a2 < v7) {
+v18 = (u32)(v4 == 0) & (u32)(v7 > v13) ? v13 : v7;
+v19 = v11 + (v6 - v18);
 a1 = a2;
-L63:;
-if (GET8(a1 < v8 ? (a1 + v7) : v18, 0) != 48u) goto L62;
-v18 = v18 + 1u;
+L58:;
+if (GET8(a1 < v10 ? (a1 + v9) : v19, 0) != 48u) goto L57;
+v19 = v19 + 1u;
 a1 = a1 + 1u;
-v5 = v5 - 1u;
-if (v5 != 0u) goto L63;
-a1 = v10;
-L62:;
-v24 = a1 < v10;
+v18 = v18 - 1u;
+if (v18 != 0u) goto L58;
+a1 = v7;
+L57:;
+v21 = a1 < v7;
 }
-a1 = v16 + 16u;
-in_core_dec2flt_long_first_digits(RUD_AS a1, v7, v8, v11, a2);
-v14 = in_core_dec2flt_decimal_break_tie_1d521972340cebc2(RUD_AS a1, v24, 0u, v12, v14, v9);
-L52:;
-RUD_G0 = v16 + 1216u;
-j0 = v14;
-goto L50;
+a1 = v14 + 16u;
+in_core_dec2flt_long_first_digits(RUD_AS a1, v9, v10, v11, a2);
+v16 = in_core_dec2flt_decimal_break_tie_1d521972340cebc2(RUD_AS a1, v21, 0u, v12, v16, v8);
+L49:;
+RUD_G0 = v14 + 1216u;
+j0 = v16;
+goto L47;
 }
 rud_trap();
-L50:;
-v28 = rud_of_octets(j0);
+L47:;
+v25 = rud_of_octets(j0);
 goto L3;
 }
-if (v9 == 0) goto L3;
-a1 = a2 + v10;
+if (v8 == 0) goto L3;
+a1 = a2 + v7;
 if (v4 >= a1) {
 v7 = v4 - a1;
-if (((u32)(v9 > 9007199254740992ull) | (u32)(v7 > 22u)) == 0) {
-v28 = (f64)v9 * GET_FARF(v7 << 3, 4205168);
+if (((u32)(v8 > 9007199254740992ull) | (u32)(v7 > 22u)) == 0) {
+v25 = (f64)v8 * GET_FARF(v7 << 3, 4205168);
 goto L3;
 }
-v28 = rud_of_octets(0x7ff0000000000000ull);
+v25 = rud_of_octets(0x7ff0000000000000ull);
 if (v7 > 308u) goto L3;
-SET64(v6, 744, 0u);
-SET64(v6, 736, 0u);
-SET64(v6, 728, 0u);
+SET64(v5, 744, 0u);
+SET64(v5, 736, 0u);
+SET64(v5, 728, 0u);
 v4 = v7 + 342u;
-v5 = rud_clz64(v9);
-in_multi3(RUD_AS v6 + 16u, GET_FAR64(v4 << 4, 4194488), 0u, v9 << (v5 & 63));
-v8 = AT64(v6, 24);
-v11 = v8 >> 63;
+v6 = rud_clz64(v8);
+in_multi3(RUD_AS v5 + 16u, GET_FAR64(v4 << 4, 4194488), 0u, v8 << (v6 & 63));
+v10 = AT64(v5, 24);
+v11 = v10 >> 63;
 a2 = 512ull << (v11 & 63);
-a1 = ((18446744073709550592ull << (v11 & 63)) ^ 0xffffffffffffffffull) & v8;
-if ((a2 - a1) > 1u) goto L6;
-in_core_dec2flt_lemire_eisel_lemire_wide_1d521972340cebc2(RUD_AS v6 + 728u, v9, 0u, v4);
-v8 = AT64(v6, 736);
-if (AT8(v6, 728)) {
-a2 = AT64(v6, 744);
-v5 = v6 + 728u;
-FILL_FEW(v5, 0u, 600u);
-in_core_dec2flt_big_Big_mul_add(RUD_AS v5, 1u, v9);
-a1 = v6 + 128u;
-COPY_FEW(a1, v5, 600u);
-j0 = in_core_dec2flt_decimal_break_tie_1d521972340cebc2(RUD_AS a1, 0u, v7, 0u, v8, a2);
-} else {
-j0 = v8;
+a1 = ((18446744073709550592ull << (v11 & 63)) ^ 0xffffffffffffffffull) & v10;
+if ((a2 - a1) > 1u) goto L7;
+in_core_dec2flt_lemire_eisel_lemire_wide_1d521972340cebc2(RUD_AS v5 + 728u, v8, 0u, v4);
+v9 = AT64(v5, 736);
+if (AT8(v5, 728) == 0) goto L4;
+a2 = AT64(v5, 744);
+v6 = v5 + 728u;
+FILL_FEW(v6, 0u, 600u);
+in_core_dec2flt_big_Big_mul_add(RUD_AS v6, 1u, v8);
+a1 = v5 + 128u;
+COPY_FEW(a1, v6, 600u);
+v9 = in_core_dec2flt_decimal_break_tie_1d521972340cebc2(RUD_AS a1, 0u, v7, 0u, v9, a2);
+goto L4;
 }
-v28 = rud_of_octets(j0);
+v7 = a1 - v4;
+if (((u32)(v8 > 9007199254740992ull) | (u32)(v7 > 22u)) == 0) {
+v25 = (f64)v8 / GET_FARF(v7 << 3, 4205168);
 goto L3;
 }
-v10 = a1 - v4;
-if (((u32)(v9 > 9007199254740992ull) | (u32)(v10 > 22u)) == 0) {
-v28 = (f64)v9 / GET_FARF(v10 << 3, 4205168);
+if (v7 > 342u) goto L3;
+SET64(v5, 744, 0u);
+SET64(v5, 736, 0u);
+SET64(v5, 728, 0u);
+v11 = 342ull - v7;
+a1 = rud_clz64(v8);
+in_multi3(RUD_AS v5, GET_FAR64(v11 << 4, 4194488), 0u, v8 << (a1 & 63));
+v4 = AT64(v5, 8);
+v9 = v4 >> 63;
+v10 = (v9 + (((v11 * 217706u) + 58980u) >> 16)) + 1139u;
+v6 = a1 + 1191u;
+if (v10 < v6) goto L63;
+a2 = 512ull << (v9 & 63);
+a1 = ((18446744073709550592ull << (v9 & 63)) ^ 0xffffffffffffffffull) & v4;
+if ((a2 - a1) < 2u) goto L63;
+j0 = (u64)(u32)(a1 > a2) + (((v10 - v6) << 52) + (v4 >> ((v9 | 10u) & 63)));
+goto L62;
+L63:;
+in_core_dec2flt_lemire_eisel_lemire_wide_1d521972340cebc2(RUD_AS v5 + 728u, v8, 0u, v11);
+v6 = AT64(v5, 736);
+if (AT8(v5, 728) == 0) { j0 = v6; goto L62; }
+a2 = AT64(v5, 744);
+v10 = v5 + 728u;
+FILL_FEW(v10, 0u, 600u);
+in_core_dec2flt_big_Big_mul_add(RUD_AS v10, 1u, v8);
+a1 = v5 + 128u;
+COPY_FEW(a1, v10, 600u);
+j0 = in_core_dec2flt_decimal_break_tie_1d521972340cebc2(RUD_AS a1, 0u, 0u, v7, v6, a2);
+L62:;
+v25 = rud_of_octets(j0);
 goto L3;
-}
-if (v10 > 342u) goto L3;
-SET64(v6, 744, 0u);
-SET64(v6, 736, 0u);
-SET64(v6, 728, 0u);
-v11 = 342ull - v10;
-a1 = rud_clz64(v9);
-in_multi3(RUD_AS v6, GET_FAR64(v11 << 4, 4194488), 0u, v9 << (a1 & 63));
-v4 = AT64(v6, 8);
-v7 = v4 >> 63;
-v8 = (v7 + (((v11 * 217706u) + 58980u) >> 16)) + 1139u;
-v5 = a1 + 1191u;
-if (v8 < v5) goto L69;
-a2 = 512ull << (v7 & 63);
-a1 = ((18446744073709550592ull << (v7 & 63)) ^ 0xffffffffffffffffull) & v4;
-if ((a2 - a1) < 2u) goto L69;
-j0 = (u64)(u32)(a1 > a2) + (((v8 - v5) << 52) + (v4 >> ((v7 | 10u) & 63)));
-goto L68;
-L69:;
-in_core_dec2flt_lemire_eisel_lemire_wide_1d521972340cebc2(RUD_AS v6 + 728u, v9, 0u, v11);
-v5 = AT64(v6, 736);
-if (AT8(v6, 728) == 0) { j0 = v5; goto L68; }
-a2 = AT64(v6, 744);
-v8 = v6 + 728u;
-FILL_FEW(v8, 0u, 600u);
-in_core_dec2flt_big_Big_mul_add(RUD_AS v8, 1u, v9);
-a1 = v6 + 128u;
-COPY_FEW(a1, v8, 600u);
-j0 = in_core_dec2flt_decimal_break_tie_1d521972340cebc2(RUD_AS a1, 0u, 0u, v10, v5, a2);
-L68:;
-v28 = rud_of_octets(j0);
-goto L3;
-L7:;
-v10 = v8 + v10;
-if (v10 >= 20u) {
-v4 = v11 - v8;
+L8:;
+v7 = v7 + v10;
+if (v7 >= 20u) {
+v4 = v11 - v10;
 a2 = 0u;
-v5 = 0u;
-v7 = 0u;
-L71:;
-in_multi3(RUD_AS v6 + 32u, a2, v5, 10u);
-v5 = AT64(v6, 32);
-a2 = v5 + ((u64)(GET8((v7 < v8 ? a1 : v4) + v7, 0) - 48u) & 255u);
-v11 = AT64(v6, 40) + (u64)(u32)(a2 < v5);
-v24 = v11 == 0;
-v5 = v24 ? v11 : 1ull;
-a2 = v24 ? a2 : 0ull;
-v7 = v7 + 1u;
-if (v10 != v7) goto L71;
-if (v11 != 0u) goto L5;
+v6 = 0u;
+v9 = 0u;
+L65:;
+in_multi3(RUD_AS v5 + 32u, a2, v6, 10u);
+v6 = AT64(v5, 32);
+a2 = v6 + ((u64)(GET8((v9 < v10 ? a1 : v4) + v9, 0) - 48u) & 255u);
+v11 = AT64(v5, 40) + (u64)(u32)(a2 < v6);
+v21 = v11 == 0;
+v6 = v21 ? v11 : 1ull;
+a2 = v21 ? a2 : 0ull;
+v9 = v9 + 1u;
+if (v7 != v9) goto L65;
+if (v11 != 0u) goto L6;
 }
 if (a3 == 0) {
-if ((s64)v9 >= (s64)0u) goto L72;
-v9 = 0u;
-v24 = 14u;
-v25 = 0u;
+if ((s64)v8 >= (s64)0u) goto L66;
+v8 = 0u;
+v21 = 14u;
+v22 = 0u;
 i0 = 1u;
-goto L4;
+goto L5;
 }
-if (v9 == 0) {
-v9 = 0u;
-goto L72;
+if (v8 == 0) {
+v8 = 0u;
+goto L66;
 }
-if (v9 > 0x8000000000000000ull) goto L5;
-v9 = 0ull - v9;
-L72:;
-v25 = 1u;
-v24 = 0u;
+if (v8 > 0x8000000000000000ull) goto L6;
+v8 = 0ull - v8;
+L66:;
+v22 = 1u;
+v21 = 0u;
 i0 = 0u;
+goto L5;
+L7:;
+a1 = ((u64)(u32)(a1 > a2) + (((((((v4 * 217706u) + 58980u) >> 16) - v6) + v11) << 52) + (v10 >> ((v11 | 10u) & 63)))) - 234187180623265792ull;
+v9 = a1 < 9218868437227405312ull ? a1 : 9218868437227405312ull;
 goto L4;
 L6:;
-a1 = ((u64)(u32)(a1 > a2) + (((((((v4 * 217706u) + 58980u) >> 16) - v5) + v11) << 52) + (v8 >> ((v11 | 10u) & 63)))) - 234187180623265792ull;
-v28 = rud_of_octets((a1 < 9218868437227405312ull ? a1 : 9218868437227405312ull));
-goto L3;
-L5:;
-v24 = 14u;
-v25 = 0u;
-v9 = 0u;
+v21 = 14u;
+v22 = 0u;
+v8 = 0u;
 i0 = 1u;
-L4:;
-v26 = i0;
-SET32(v6, 120, AT32(v6, 72));
-SET64(v6, 112, AT64(v6, 64));
-SET64(v6, 104, AT64(v6, 56));
+L5:;
+v23 = i0;
+SET32(v5, 120, AT32(v5, 72));
+SET64(v5, 112, AT64(v5, 64));
+SET64(v5, 104, AT64(v5, 56));
 goto L2;
+L4:;
+v25 = rud_of_octets(v9);
 L3:;
-v28 = a3 ? rud_neg(v28) : v28;
-if ((v28 - v28) != rud_of_octets(0x0ull)) {
-v25 = 0u;
-v24 = 14u;
-v26 = 1u;
+v25 = a3 ? rud_neg(v25) : v25;
+if ((v25 - v25) != rud_of_octets(0x0ull)) {
+v22 = 0u;
+v21 = 14u;
+v23 = 1u;
 j0 = 0u;
-goto L75;
+goto L69;
 }
-v26 = 0u;
-SET32(v6, 96, 0u);
-SET64(v6, 88, 0u);
-SET64(v6, 80, 0u);
-v25 = 2u;
-v24 = 0u;
-j0 = rud_octets_of(v28);
-L75:;
-v9 = j0;
-SET32(v6, 120, AT32(v6, 96));
-SET64(v6, 112, AT64(v6, 88));
-SET64(v6, 104, AT64(v6, 80));
+v23 = 0u;
+SET32(v5, 96, 0u);
+SET64(v5, 88, 0u);
+SET64(v5, 80, 0u);
+v22 = 2u;
+v21 = 0u;
+j0 = rud_octets_of(v25);
+L69:;
+v8 = j0;
+SET32(v5, 120, AT32(v5, 96));
+SET64(v5, 112, AT64(v5, 88));
+SET64(v5, 104, AT64(v5, 80));
 L2:;
 TEST(a0);
-SET8(a0, 0, v26);
-SET64(a0, 16, v9);
+SET8(a0, 0, v23);
+SET64(a0, 16, v8);
 SET32(a0, 12, 0u);
 SET8(a0, 9, 0u);
-SET8(a0, 8, v25);
-SET8(a0, 1, v24);
-SET64(a0, 24, AT64(v6, 104));
-SET64(a0, 32, AT64(v6, 112));
-SET32(a0, 40, AT32(v6, 120));
+SET8(a0, 8, v22);
+SET8(a0, 1, v21);
+SET64(a0, 24, AT64(v5, 104));
+SET64(a0, 32, AT64(v5, 112));
+SET32(a0, 40, AT32(v5, 120));
 L1:;
-RUD_G0 = v6 + 1328u;
+RUD_G0 = v5 + 1328u;
 }
 
 static void in_toml_parser_number_plain_number(RUD_IT u64 a0, u64 a1, u64 a2) {
-u32 v4 = 0, v5 = 0, v6 = 0, i0 = 0;
-u64 v3 = 0;
+u32 v5 = 0, v6 = 0, v7 = 0, i0 = 0;
+u64 v3 = 0, v4 = 0;
 RUD_HERE
 v3 = RUD_G0 - 112u;
 RUD_G0 = v3;
 if ((s64)v3 >= (s64)16u) {
-TEST(v3);
-SET64(v3, 56, 0u);
-SET64(v3, 48, 0u);
-SET64(v3, 40, 0u);
-SET64(v3, 32, 0u);
-SET64(v3, 24, 0u);
-SET64(v3, 16, 0u);
+FILL_FEW(v3 + 16u, 0u, 48u);
 i0 = in_toml_parser_number_radix_of(RUD_AS a1, a2);
-v4 = i0;
-if (v4 != 10u) {
+v5 = i0;
+if (v5 != 10u) {
+TEST(v3);
 SET32(v3, 104, 0u);
 SET64(v3, 96, 0u);
 SET64(v3, 88, 0u);
 a2 = a2 - 2u;
 if (a2 == 0) {
+v5 = 0u;
 SET32(v3, 80, 0u);
-a2 = 0u;
 SET64(v3, 72, 0u);
 SET64(v3, 64, 0u);
-v5 = 1u;
-v4 = 12u;
+v7 = 1u;
+v6 = 12u;
 goto L4;
 }
-in_toml_parser_number_digits_value(RUD_AS v3, a1 + 2u, a2, v4);
-v5 = 1u;
-v6 = AT8(v3, 0);
-if (v6 != 1u) {
-a2 = 0u;
-i0 = 12u;
-goto L6;
-}
-a2 = AT64(v3, 8);
-v5 = 0u;
+in_toml_parser_number_digits_value(RUD_AS v3, a1 + 2u, a2, v5);
+v7 = 1u;
+v6 = 12u;
+v5 = AT8(v3, 0);
+if (v5 == 1u) {
+v4 = AT64(v3, 8);
+v7 = 0u;
 SET32(v3, 104, 0u);
 SET64(v3, 96, 0u);
 SET64(v3, 88, 0u);
-i0 = 0u;
-L6:;
-v4 = i0;
+v6 = 0u;
+}
 SET32(v3, 80, AT32(v3, 104));
 SET64(v3, 72, AT64(v3, 96));
 SET64(v3, 64, AT64(v3, 88));
 L4:;
 TEST(a0);
-SET8(a0, 0, v5);
-SET64(a0, 16, a2);
+SET8(a0, 0, v7);
+SET64(a0, 16, v4);
 SET32(a0, 12, 0u);
 SET8(a0, 9, 0u);
-SET8(a0, 8, v6);
-SET8(a0, 1, v4);
+SET8(a0, 8, v5);
+SET8(a0, 1, v6);
 SET64(a0, 24, AT64(v3, 64));
 SET64(a0, 32, AT64(v3, 72));
 SET32(a0, 40, AT32(v3, 80));
 goto L1;
 }
-if (a2 == 0) goto L9;
+if (a2 == 0) goto L8;
 TEST(a1);
 switch (AT8(a1, 0) - 43u) {
-case 0u: goto L10;
-default: goto L9;
-case 2u: goto L11;
+case 0u: goto L9;
+default: goto L8;
+case 2u: goto L10;
 }
-L11:;
-in_toml_parser_number_decimal_number(RUD_AS v3 + 16u, a1 + 1u, a2 - 1u, 1u);
-goto L8;
 L10:;
-in_toml_parser_number_decimal_number(RUD_AS v3 + 16u, a1 + 1u, a2 - 1u, 0u);
-goto L8;
+in_toml_parser_number_decimal_number(RUD_AS v3 + 16u, a1 + 1u, a2 - 1u, 1u);
+goto L7;
 L9:;
-in_toml_parser_number_decimal_number(RUD_AS v3 + 16u, a1, a2, 0u);
+in_toml_parser_number_decimal_number(RUD_AS v3 + 16u, a1 + 1u, a2 - 1u, 0u);
+goto L7;
 L8:;
+in_toml_parser_number_decimal_number(RUD_AS v3 + 16u, a1, a2, 0u);
+L7:;
+TEST(v3);
 TEST(a0);
 SET16(a0, 0, AT16(v3, 16));
 SET64(a0, 16, AT64(v3, 32));
@@ -7279,23 +6565,23 @@ u64 j0 = 0, j1 = 0;
 RUD_HERE
 v4 = RUD_G0 - 80u;
 RUD_G0 = v4;
-if ((s64)v4 >= (s64)16u) {
 j0 = a0;
+if ((s64)v4 >= (s64)16u) {
 TEST(a1);
-if (AT8(a1, 0) != 1u) { j1 = 0u; goto L2; }
+if (AT8(a1, 0) != 1u) goto L2;
 v5 = AT64(a1, 8);
 v11 = v5;
 TEST(v5);
 v13 = 15ull - (u64)AT16(v5, 2);
 v8 = v13;
-L3:;
+L4:;
 v6 = 0u;
 v7 = v5;
 TEST(v7);
 v12 = (u64)AT16(v7, 0);
-if (v12 == 0) goto L5;
+if (v12 == 0) goto L6;
 v5 = v7 + 16u;
-L6:;
+L7:;
 v14 = GET64(v5 - 8u, 0);
 TEST(v5);
 v15 = AT64(v5, 0);
@@ -7307,22 +6593,22 @@ SET64(v4, 48, v14);
 i1 = in_core_cmp_text_RefStrOrd_cmp(RUD_AS v4 + 64u, v4 + 48u);
 v17 = i1 & 255u;
 if (v17 != 2u) {
-if (v17 - 1u) goto L5;
-goto L4;
+if (v17 - 1u) goto L6;
+goto L5;
 }
 v5 = v5 + 24u;
 v6 = v6 + 1u;
-if (v12 != v6) goto L6;
+if (v12 != v6) goto L7;
 v6 = v12;
-L5:;
-if (AT16(v7, 2) == 0) { j1 = 0u; goto L2; }
+L6:;
+if (AT16(v7, 2) == 0) goto L2;
 v8 = v8 + 1u;
 v9 = v6 + (v9 << 4);
 v5 = GET64((v7 + (v6 << 3)) + 1208u, 0);
 v11 = v7;
 v10 = v6;
-goto L3;
-L4:;
+goto L4;
+L5:;
 SET32(v4, 41, 0u);
 v16 = 1u;
 SET8(v4, 40, 1u);
@@ -7333,15 +6619,17 @@ SET32(v4, 44, 0u);
 SET64(v4, 16, v8 + 1u);
 SET64(v4, 0, (v9 << 4) + v6);
 j1 = in_std_collections_btree_map_BTreeMap_value_mut_at_8494fc2367ed18cf(RUD_AS a1, v4);
+goto L1;
+}
+rud_trap();
 L2:;
+j1 = 0u;
+L1:;
 TEST(j0);
 SET64(j0, 8, j1);
 TEST(a0);
 SET8(a0, 0, v16);
 RUD_G0 = v4 + 80u;
-return;
-}
-rud_trap();
 }
 
 static void in_std_collections_btree_node_parts_Parts_new_d4294551460d727f(RUD_IT u64 a0, u64 a1) {
@@ -7353,118 +6641,90 @@ static void in_std_alloc_vec_lodged_Vec_T_Lodged_insert_reserved_22_toml_de_tab(
 u32 v12 = 0, v13 = 0;
 u64 v3 = 0, v4 = 0, v5 = 0, v6 = 0, v7 = 0, v8 = 0, v9 = 0, v10 = 0, v11 = 0, j0 = 0;
 RUD_HERE
-v5 = RUD_G0 - 48u;
-RUD_G0 = v5;
-if ((s64)v5 >= (s64)16u) {
+v7 = RUD_G0 - 48u;
+RUD_G0 = v7;
+if ((s64)v7 >= (s64)16u) {
 TEST(a2);
-v10 = AT64(a2, 48);
+v8 = AT64(a2, 48);
 v12 = AT8(a2, 1);
 v13 = AT8(a2, 0);
-v6 = a0 + 8u;
-TEST(v6);
-v4 = AT64(v6, 0);
-v3 = AT64(a2, 8);
-v7 = AT64(a2, 16);
-v8 = AT64(a2, 24);
-v9 = AT64(a2, 32);
-a2 = AT64(a2, 40);
-SET64(v6, 0, 0u);
-v6 = a0 + 16u;
-TEST(v6);
-v11 = AT64(v6, 0);
-SET64(v6, 0, 0u);
-TEST(v5);
-SET64(v5, 40, a2);
-SET64(v5, 32, v9);
-SET64(v5, 24, v8);
-SET64(v5, 16, v7);
-SET64(v5, 8, v3);
+v9 = v7 + 8u;
+COPY_FEW(v9, a2 + 8u, 40u);
+a2 = a0 + 8u;
+TEST(a2);
+v3 = AT64(a2, 0);
+SET64(a2, 0, 0u);
+a2 = a0 + 16u;
+TEST(a2);
+v10 = AT64(a2, 0);
+SET64(a2, 0, 0u);
 TEST(a0);
-v3 = AT64(a0, 0);
-v7 = v5 + 8u;
+v4 = AT64(a0, 0);
 a2 = a1 + 1u;
 if (a2 == 0) {
-v9 = v4 + 1u;
-if (v9 < 37u) goto L2;
-in_core_slots_raw_move_down_22_toml_de_tables_Node(RUD_AS v3 - 56u, v3, 36u);
-v6 = v4 - 35u;
-if (v6 >= 37u) {
-a2 = v3 + 2016u;
-v8 = 0u;
+v5 = v3 + 1u;
+if (v5 < 37u) goto L3;
+a2 = v4;
+L6:;
+v3 = a2 - 56u;
+if (v6 == 0) {
+in_core_slots_raw_move_down_22_toml_de_tables_Node(RUD_AS v3, a2, 36u);
+goto L7;
+}
+in_core_slots_raw_move_up_22_toml_de_tables_Node(RUD_AS v3, a2, 36u);
 L7:;
-v4 = a2 - 56u;
-if (v8 == 36u) {
-in_core_slots_raw_move_down_22_toml_de_tables_Node(RUD_AS v4, a2, 36u);
-goto L8;
-}
-in_core_slots_raw_move_up_22_toml_de_tables_Node(RUD_AS v4, a2, 36u);
-L8:;
 a2 = a2 + 2016u;
-v8 = v8 - 36u;
-v4 = v6 + v8;
-if (v4 > 36u) goto L7;
-v6 = a2 - 56u;
-if (v8 != 36u) { j0 = v6; goto L5; }
-in_core_slots_raw_move_down_22_toml_de_tables_Node(RUD_AS v6, a2, v4);
+v6 = v6 - 36u;
+v3 = v5 + v6;
+if (v3 > 36u) goto L6;
+v11 = a2 - 56u;
+if (v6 == 0) { j0 = v11; goto L2; }
+in_core_slots_raw_move_up_22_toml_de_tables_Node(RUD_AS v11, a2, v3);
 goto L1;
 }
-a2 = v3 + 2016u;
-v4 = v6;
-j0 = v3 + 1960u;
-L5:;
-in_core_slots_raw_move_up_22_toml_de_tables_Node(RUD_AS j0, a2, v4);
-goto L1;
-}
-in_core_slots_raw_move_up_22_toml_de_tables_Node(RUD_AS v3 + (a1 * 56u), v3 + (a2 * 56u), v4 - a1);
-v9 = v4 + 1u;
+in_core_slots_raw_move_up_22_toml_de_tables_Node(RUD_AS v4 + (a1 * 56u), v4 + (a2 * 56u), v3 - a1);
+v5 = v3 + 1u;
 goto L1;
 }
 rud_trap();
+L3:;
+v3 = v5;
+a2 = v4 + (a2 * 56u);
+j0 = a2 - 56u;
 L2:;
-a2 = v3 + (a2 * 56u);
-in_core_slots_raw_move_down_22_toml_de_tables_Node(RUD_AS a2 - 56u, a2, v9);
+in_core_slots_raw_move_down_22_toml_de_tables_Node(RUD_AS j0, a2, v3);
 L1:;
-a1 = v3 + (a1 * 56u);
+a1 = v4 + (a1 * 56u);
 TEST(a1);
 SET8(a1, 0, v13);
 SET8(a1, 1, v12);
-SET64(a1, 8, AT64(v5, 8));
-SET64(a1, 16, AT64(v5, 16));
-SET64(a1, 24, AT64(v5, 24));
-SET64(a1, 32, AT64(v5, 32));
-SET64(a1, 40, AT64(v5, 40));
-SET64(a1, 48, v10);
-SET64(a0, 16, v11);
-SET64(a0, 8, v9);
-SET64(a0, 0, v3);
-RUD_G0 = v5 + 48u;
+COPY_FEW(a1 + 8u, v9, 40u);
+SET64(a1, 48, v8);
+SET64(a0, 16, v10);
+SET64(a0, 8, v5);
+SET64(a0, 0, v4);
+RUD_G0 = v7 + 48u;
 }
 
 static u32 in_toml_de_tables_insert(RUD_IT u64 a0, u64 a1, u64 a2) {
-u32 v37 = 0, v38 = 0, v39 = 0, v40 = 0, v41 = 0, v42 = 0, v43 = 0, v44 = 0, i0 = 0;
+u32 v30 = 0, v31 = 0, v32 = 0, v33 = 0, v34 = 0, v35 = 0, v36 = 0, v37 = 0, i0 = 0;
 u64 v3 = 0, v4 = 0, v5 = 0, v6 = 0, v7 = 0, v8 = 0, v9 = 0, v10 = 0, v11 = 0, v12 = 0, v13 = 0, v14 = 0;
 u64 v15 = 0, v16 = 0, v17 = 0, v18 = 0, v19 = 0, v20 = 0, v21 = 0, v22 = 0, v23 = 0, v24 = 0, v25 = 0, v26 = 0;
-u64 v27 = 0, v28 = 0, v29 = 0, v30 = 0, v31 = 0, v32 = 0, v33 = 0, v34 = 0, v35 = 0, v36 = 0, j0 = 0, j1 = 0;
+u64 v27 = 0, v28 = 0, v29 = 0, j0 = 0, j1 = 0;
 RUD_HERE
-(void)v13;
-(void)v16;
-(void)v17;
-(void)v18;
-(void)v19;
-(void)v20;
 v3 = RUD_G0 - 880u;
 RUD_G0 = v3;
 if ((s64)v3 < (s64)16u) goto L1;
 TEST(a2);
-v25 = AT64(a2, 48);
-v26 = AT64(a2, 40);
-v27 = AT64(a2, 32);
-v39 = AT32(a2, 28);
-v40 = AT32(a2, 24);
-v28 = AT64(a2, 16);
-v29 = AT64(a2, 8);
-v41 = AT8(a2, 1);
-v42 = AT8(a2, 0);
+v14 = AT64(a2, 48);
+v15 = AT64(a2, 40);
+v16 = AT64(a2, 32);
+v32 = AT32(a2, 28);
+v33 = AT32(a2, 24);
+v17 = AT64(a2, 16);
+v18 = AT64(a2, 8);
+v34 = AT8(a2, 1);
+v35 = AT8(a2, 0);
 TEST(v3);
 SET64(v3, 64, 0u);
 SET64(v3, 56, 0u);
@@ -7476,442 +6736,307 @@ TEST(a1);
 SET64(v3, 136, AT64(a1, 16));
 SET64(v3, 128, AT64(a1, 8));
 SET64(v3, 120, AT64(a1, 0));
-SET64(v3, 112, 0u);
-SET64(v3, 104, 0u);
-SET64(v3, 96, 0u);
-SET64(v3, 88, 0u);
-SET64(v3, 80, 0u);
-SET64(v3, 72, 0u);
+FILL_FEW(v3 + 72u, 0u, 48u);
 TEST(a0);
 if (AT8(a0, 0) == 1u) {
-v4 = AT64(a0, 8);
+v5 = AT64(a0, 8);
 goto L6;
 }
 in_std_heap_GlobalAllocator_allocate(RUD_AS v3 + 8u, 1208u, 8u);
 RUD_AGAIN
 if (AT8(v3, 8)) goto L5;
-v4 = AT64(v3, 16);
-TEST(v4);
-SET32(v4, 0, 0u);
-SET64(a0, 8, v4);
+v5 = AT64(v3, 16);
+TEST(v5);
+SET32(v5, 0, 0u);
+SET64(a0, 8, v5);
 i0 = AT8(a0, 0);
 SET64(a0, 0, 1u);
 if (i0 == 1u) goto L1;
 L6:;
-v14 = a0 + 8u;
-TEST(v4);
-v38 = AT16(v4, 2);
-v37 = 0u - v38;
-a2 = v4;
-v7 = a2;
-v15 = (u64)v38 & 65535u;
-v5 = 15ull - v15;
-v9 = v5;
+v12 = a0 + 8u;
+a2 = v5;
+v4 = a2;
+TEST(a2);
+v30 = AT16(a2, 2);
+v7 = (u64)v30 & 65535u;
+v10 = 15ull - v7;
+v11 = v10;
 L8:;
 SET64(v3, 160, v3 + 120u);
 a1 = 0u;
-v8 = a2;
-TEST(v8);
-v12 = (u64)AT16(v8, 0);
-if (v12 == 0) goto L9;
-a2 = v8 + 8u;
+v6 = a2;
+TEST(v6);
+v13 = (u64)AT16(v6, 0);
+if (v13 == 0) goto L9;
+a2 = v6 + 8u;
 L10:;
 i0 = in_std_collections_btree_map_queries_QueryTarget_order_222056d77792(RUD_AS v3 + 160u, a2);
-v43 = i0 & 255u;
-if (v43 != 2u) {
-if (v43 - 1u) goto L9;
+v31 = i0 & 255u;
+if (v31 != 2u) {
+if (v31 - 1u) goto L9;
 goto L4;
 }
 a2 = a2 + 24u;
 a1 = a1 + 1u;
-if (v12 != a1) goto L10;
-a1 = v12;
+if (v13 != a1) goto L10;
+a1 = v13;
 L9:;
-v9 = v9 + 1u;
-v6 = a1 + (v6 << 4);
-if (AT16(v8, 2)) {
-v37 = v37 + 1u;
 v11 = v11 + 1u;
-a2 = GET64((v8 + (a1 << 3)) + 1208u, 0);
-v10 = a1;
-v7 = v8;
+v9 = a1 + (v9 << 4);
+if (AT16(v6, 2)) {
+a2 = GET64((v6 + (a1 << 3)) + 1208u, 0);
+v8 = a1;
+v4 = v6;
 goto L8;
 }
 if (AT64(a0, 16) > 9223372036854775806ull) goto L5;
-if (GET16(GET64((v9 - v5) == 1u ? v14 : ((v7 + (v10 << 3)) + 1208u), 0), 0) >= 15u) {
+if (GET16(GET64((v11 - v10) == 1u ? v12 : ((v4 + (v8 << 3)) + 1208u), 0), 0) >= 15u) {
 FILL_FEW(v3 + 160u, 0u, 88u);
-v8 = v5;
-if (AT16(v4, 0) >= 15u) {
-if (v38 > 10u) goto L5;
-in_std_collections_btree_node_parts_Parts_new_d4294551460d727f(RUD_AS v3 + 160u, (u64)(v38 + 1u) & 65535u);
+TEST(v5);
+if (AT16(v5, 0) >= 15u) {
+if (v30 > 10u) goto L5;
+in_std_collections_btree_node_parts_Parts_new_d4294551460d727f(RUD_AS v3 + 160u, (u64)(v30 + 1u) & 65535u);
 RUD_AGAIN
 if (AT8(v3, 160)) goto L5;
 a2 = AT64(a0, 8);
-v4 = AT64(v3, 240);
+v5 = AT64(v3, 240);
 a1 = AT64(v3, 216);
-v8 = AT64(v3, 176);
-v12 = AT64(v3, 224);
-if (v12 == 0) goto L17;
-v12 = v12 << 3;
-if (v12 == 0) goto L17;
-COPY(a1 + 8u, a1, v12);
+v6 = AT64(v3, 176);
+v10 = AT64(v3, 224);
+if (v10 == 0) goto L17;
+v10 = v10 << 3;
+if (v10 == 0) goto L17;
+COPY(a1 + 8u, a1, v10);
 L17:;
 TEST(a1);
 SET64(a1, 0, a2);
-TEST(v4);
-SET16(v4, 0, (u32)v8);
-SET64(a0, 8, v4);
-v8 = 14ull - v15;
+TEST(v5);
+SET16(v5, 0, (u32)v6);
+SET64(a0, 8, v5);
+v10 = 14ull - v7;
 }
 SET64(v3, 144, 0u);
 SET64(v3, 152, 0u);
-if (v8 >= v9) goto L18;
-j0 = (v5 + v11) - v8;
-if (((v9 - v8) & 3u) == 0) {
-a2 = v9;
-goto L19;
-}
-a1 = (u64)(v37 - (u32)v8) & 3u;
-a2 = v9;
-L21:;
-a2 = a2 - 1u;
-PUT8(a2 + (v3 + 144u), 0, (u32)v6 & 15u);
-v6 = v6 >> 4;
-a1 = a1 - 1u;
-if (a1 != 0u) goto L21;
+if (v10 < v11) {
+a2 = v11;
 L19:;
-if (j0 < 3u) goto L18;
-v5 = v3 + 140u;
-L22:;
-a1 = a2 + v5;
-v37 = (u32)v6;
-TEST(a1);
-SET8(a1, 3, v37 & 15u);
-SET8(a1, 2, (v37 & 240u) >> 4);
-SET8(a1, 1, (v37 >> 8) & 15u);
-SET8(a1, 0, (v37 >> 12) & 15u);
-v6 = v6 >> 16;
-a2 = a2 - 4u;
-if (v8 < a2) goto L22;
-L18:;
-v31 = (v3 + 144u) + v8;
-v15 = 16ull - v8;
-if (v15 >= 2u) {
-v16 = v3 + 680u;
-v17 = v3 + 254u;
-v18 = v3 + 550u;
-v13 = v3 + 840u;
-v19 = v3 + 760u;
+a2 = a2 - 1u;
+PUT8(a2 + (v3 + 144u), 0, (u32)v9 & 15u);
+v9 = v9 >> 4;
+if (a2 > v10) goto L19;
+}
+a2 = 16ull - v10;
+if (a2 >= 2u) {
+v21 = v3 + 680u;
+v22 = v3 + 256u;
+v23 = v3 + 552u;
+v9 = v3 + 840u;
+v24 = v3 + 760u;
 v20 = v3 + 758u;
-v33 = v3 + 696u;
-v34 = v3 + 344u;
-v35 = v3 + 168u;
-v12 = v14;
-v4 = v31;
-a2 = v15;
-L24:;
-v32 = a2;
-TEST(v12);
-v7 = AT64(v12, 0);
-TEST(v4);
-v37 = AT8(v4, 0);
-v10 = (u64)v37 & 255u;
-v5 = v10 << 3;
-if (GET16(GET64((v7 + v5) + 1208u, 0), 0) < 15u) goto L25;
+v25 = v3 + 696u;
+v26 = v3 + 344u;
+v27 = v3 + 168u;
+v5 = (v3 + 144u) + v10;
+v6 = v12;
+L21:;
+v13 = a2;
+TEST(v6);
+v4 = AT64(v6, 0);
+TEST(v5);
+v30 = AT8(v5, 0);
+v8 = (u64)v30 & 255u;
+v7 = v8 << 3;
+if (GET16(GET64((v4 + v7) + 1208u, 0), 0) < 15u) goto L22;
 a1 = v3 + 160u;
 FILL_FEW(a1, 0u, 88u);
-TEST(v7);
-in_std_collections_btree_node_parts_Parts_new_d4294551460d727f(RUD_AS a1, (u64)AT16(v7, 2) - 1u);
+TEST(v4);
+in_std_collections_btree_node_parts_Parts_new_d4294551460d727f(RUD_AS a1, (u64)AT16(v4, 2) - 1u);
 RUD_AGAIN
 if (AT8(v3, 160)) goto L14;
-a1 = AT64(v12, 0);
-v7 = v3 + 592u;
-COPY_FEW(v7, v35, 80u);
+a1 = AT64(v6, 0);
+v4 = v3 + 592u;
+COPY_FEW(v4, v27, 80u);
+SET64(v3, 296, 0u);
+SET64(v3, 304, 0u);
+SET64(v3, 312, 0u);
+FILL_FEW(v3 + 250u, 0u, 46u);
 SET64(v3, 392, a1);
 SET64(v3, 360, 15u);
 SET64(v3, 344, a1 + 368u);
 SET64(v3, 336, 15u);
 SET64(v3, 320, a1 + 8u);
-SET64(v3, 296, 0u);
-SET64(v3, 304, 0u);
-SET64(v3, 312, 0u);
-SET64(v3, 248, 0u);
-SET64(v3, 256, 0u);
-SET64(v3, 264, 0u);
-SET64(v3, 272, 0u);
-SET64(v3, 280, 0u);
-SET64(v3, 286, 0u);
 TEST(a1);
 a2 = (u64)AT16(a1, 0);
 SET64(v3, 352, a2);
 SET64(v3, 328, a2);
-v38 = AT16(a1, 2);
-SET64(v3, 384, v38 ? 16ull : 0ull);
-SET64(v3, 376, v38 ? (a2 + 1u) : 0ull);
+v31 = AT16(a1, 2);
+SET64(v3, 384, v31 ? 16ull : 0ull);
+SET64(v3, 376, v31 ? (a2 + 1u) : 0ull);
 a1 = a1 + 1208u;
 SET64(v3, 368, a1);
 SET64(v3, 448, 0u);
 SET64(v3, 456, 0u);
 SET64(v3, 464, 0u);
-SET64(v3, 400, 0u);
-SET64(v3, 408, 0u);
-SET64(v3, 416, 0u);
-SET64(v3, 424, 0u);
-SET64(v3, 432, 0u);
-SET64(v3, 438, 0u);
-v36 = a1 + v5;
-TEST(v36);
-a1 = AT64(v36, 0);
+FILL_FEW(v3 + 402u, 0u, 46u);
+v28 = a1 + v7;
+TEST(v28);
+a1 = AT64(v28, 0);
 SET64(v3, 520, 0u);
 SET64(v3, 528, 0u);
 SET64(v3, 536, 0u);
-SET64(v3, 472, 0u);
-SET64(v3, 480, 0u);
-SET64(v3, 488, 0u);
-SET64(v3, 496, 0u);
-SET64(v3, 504, 0u);
-SET64(v3, 510, 0u);
+FILL_FEW(v3 + 474u, 0u, 46u);
+FILL_FEW(v3 + 546u, 0u, 46u);
 SET64(v3, 744, a1);
 SET64(v3, 720, a1 + 1208u);
 SET64(v3, 712, 15u);
 SET64(v3, 696, a1 + 368u);
 SET64(v3, 688, 15u);
 SET64(v3, 672, a1 + 8u);
-SET64(v3, 582, 0u);
-SET64(v3, 576, 0u);
-SET64(v3, 568, 0u);
-SET64(v3, 560, 0u);
-SET64(v3, 552, 0u);
-SET64(v3, 544, 0u);
 TEST(a1);
 a2 = (u64)AT16(a1, 0);
 SET64(v3, 704, a2);
 SET64(v3, 680, a2);
-v38 = AT16(a1, 2);
-SET64(v3, 736, v38 ? 16ull : 0ull);
-SET64(v3, 728, v38 ? (a2 + 1u) : 0ull);
-in_std_alloc_vec_lodged_Vec_T_Lodged_append_tail_483ec8513fd57e54(RUD_AS v7, v3 + 672u);
-v5 = AT64(v3, 704) - 8u;
-a1 = v5 * 56u;
-v6 = AT64(v3, 616) + (AT64(v3, 624) * 56u);
-v30 = AT64(v3, 696);
-a2 = v30 + 448u;
-if (a1 > (v6 - a2)) {
-if (v5 == 0) goto L26;
-v7 = 0u;
-L28:;
-a1 = v7 + v30;
+v31 = AT16(a1, 2);
+SET64(v3, 736, v31 ? 16ull : 0ull);
+SET64(v3, 728, v31 ? (a2 + 1u) : 0ull);
+in_std_alloc_vec_lodged_Vec_T_Lodged_append_tail_483ec8513fd57e54(RUD_AS v4, v3 + 672u);
+v7 = AT64(v3, 704) - 8u;
+a1 = v7 * 56u;
+v4 = AT64(v3, 616) + (AT64(v3, 624) * 56u);
+v19 = AT64(v3, 696);
+a2 = v19 + 448u;
+if (a1 > (v4 - a2)) {
+if (v7 == 0) goto L23;
+a2 = 0u;
+L25:;
+a1 = a2 + v19;
 TEST(a1);
-v11 = AT64(a1, 456);
-v21 = AT64(a1, 464);
-v22 = AT64(a1, 472);
-v23 = AT64(a1, 480);
-v24 = AT64(a1, 488);
-v43 = AT16(a1, 448);
-a2 = v6 + v7;
-TEST(a2);
-SET64(a2, 48, AT64(a1, 496));
-SET16(a2, 0, v43);
-SET64(a2, 40, v24);
-SET64(a2, 32, v23);
-SET64(a2, 24, v22);
-SET64(a2, 16, v21);
-SET64(a2, 8, v11);
-SET64(v3, 758, v11);
-SET64(v3, 766, v21);
-SET64(v3, 774, v22);
-SET64(v3, 782, v23);
-SET64(v3, 790, v24);
-v7 = v7 + 56u;
-v5 = v5 - 1u;
-if (v5 != 0u) goto L28;
-goto L26;
+v36 = AT16(a1, 448);
+COPY_FEW(v20, a1 + 456u, 40u);
+v29 = AT64(a1, 496);
+a1 = a2 + v4;
+TEST(a1);
+SET16(a1, 0, v36);
+COPY_FEW(a1 + 8u, v20, 40u);
+SET64(a1, 48, v29);
+a2 = a2 + 56u;
+v7 = v7 - 1u;
+if (v7 != 0u) goto L25;
+goto L23;
 }
-if (a1 == 0) goto L26;
-COPY(v6, a2, a1);
-L26:;
+if (a1 == 0) goto L23;
+COPY(v4, a2, a1);
+L23:;
 SET64(v3, 704, 8u);
 SET64(v3, 808, 0u);
 SET64(v3, 816, 0u);
 SET64(v3, 824, 0u);
-SET64(v3, 752, 0u);
-SET64(v3, 760, 0u);
-SET64(v3, 768, 0u);
-SET64(v3, 776, 0u);
-SET64(v3, 784, 0u);
-SET64(v3, 792, 0u);
-SET64(v3, 800, 0u);
+a1 = v3 + 752u;
+FILL_FEW(a1, 0u, 56u);
 in_std_alloc_vec_Vec_remove_992c4ce9cbd9eb37(RUD_AS v3 + 808u, v3 + 672u, 7u);
-in_std_alloc_vec_Vec_remove_ead69053adb5db67(RUD_AS v3 + 752u, v33, 7u);
-SET64(v3, 840, AT64(v3, 760));
-SET64(v3, 848, AT64(v3, 768));
-SET64(v3, 856, AT64(v3, 776));
-SET64(v3, 864, AT64(v3, 784));
-SET64(v3, 872, AT64(v3, 792));
-v22 = AT64(v3, 800);
-v43 = AT8(v3, 753);
-v44 = AT8(v3, 752);
-if (v38 == 0) goto L29;
-a1 = AT64(v3, 728);
-a2 = a1 - 8u;
-v5 = a2 << 3;
-v23 = AT64(v3, 640);
-v24 = AT64(v3, 648) << 3;
-v7 = v23 + v24;
-v21 = AT64(v3, 720);
-v6 = v21 + 64u;
-if (v5 > (v7 - v6)) {
-if (a2 == 0) goto L29;
-v6 = a1 & 3u;
-v11 = 0u;
-if ((a1 - 9u) >= 3u) {
-v30 = a2 & 0xfffffffffffffffcull;
-a2 = 0u;
-L32:;
-a1 = a2 + v7;
-v5 = a2 + v21;
-TEST(v5);
-TEST(a1);
-SET64(a1, 0, AT64(v5, 64));
-SET64(a1, 8, AT64(v5, 72));
-SET64(a1, 16, AT64(v5, 80));
-SET64(a1, 24, AT64(v5, 88));
-a2 = a2 + 32u;
-v11 = v11 + 4u;
-if (v30 != v11) goto L32;
-if (v6 == 0) goto L29;
-}
-a1 = v11 << 3;
-a2 = v23 + (a1 + v24);
-a1 = (a1 + v21) + 64u;
-L33:;
+in_std_alloc_vec_Vec_remove_ead69053adb5db67(RUD_AS a1, v25, 7u);
+v19 = AT64(v3, 800);
+v36 = AT8(v3, 753);
+v37 = AT8(v3, 752);
+COPY_FEW(v9, v24, 40u);
+if (v31 == 0) goto L26;
+v7 = AT64(v3, 728) - 8u;
+v4 = v7 << 3;
+a2 = AT64(v3, 640) + (AT64(v3, 648) << 3);
+a1 = AT64(v3, 720) + 64u;
+if (v4 > (a2 - a1)) {
+if (v7 == 0) goto L26;
+L28:;
 TEST(a1);
 TEST(a2);
 SET64(a2, 0, AT64(a1, 0));
 a2 = a2 + 8u;
 a1 = a1 + 8u;
-v6 = v6 - 1u;
-if (v6 != 0u) goto L33;
-goto L29;
+v7 = v7 - 1u;
+if (v7 != 0u) goto L28;
+goto L26;
 }
-if (v5 == 0) goto L29;
-COPY(v7, v6, v5);
-L29:;
+if (v4 == 0) goto L26;
+COPY(a2, a1, v4);
+L26:;
 a1 = AT64(v3, 744);
 TEST(a1);
 SET16(a1, 0, (u32)AT64(v3, 680));
 v7 = AT64(v3, 664);
 TEST(v7);
 SET16(v7, 0, (u32)AT64(v3, 600));
-SET64(v3, 550, AT64(v3, 840));
-SET64(v3, 558, AT64(v3, 848));
-SET64(v3, 566, AT64(v3, 856));
-SET64(v3, 574, AT64(v3, 864));
-SET64(v3, 582, AT64(v3, 872));
-SET64(v3, 520, AT64(v3, 808));
-SET64(v3, 528, AT64(v3, 816));
+COPY_FEW(v23, v9, 40u);
 SET64(v3, 536, AT64(v3, 824));
-SET64(v3, 510, AT64(v3, 582));
-SET64(v3, 504, AT64(v3, 576));
-SET64(v3, 496, AT64(v3, 568));
-SET64(v3, 488, AT64(v3, 560));
-SET64(v3, 480, AT64(v3, 552));
-SET64(v3, 472, AT64(v3, 544));
+SET64(v3, 528, AT64(v3, 816));
+SET64(v3, 520, AT64(v3, 808));
+a2 = v3 + 474u;
+COPY_FEW(a2, v3 + 546u, 46u);
 SET64(v3, 448, AT64(v3, 520));
 SET64(v3, 456, AT64(v3, 528));
 SET64(v3, 464, AT64(v3, 536));
-SET64(v3, 438, AT64(v3, 510));
-SET64(v3, 432, AT64(v3, 504));
-SET64(v3, 424, AT64(v3, 496));
-SET64(v3, 416, AT64(v3, 488));
-SET64(v3, 408, AT64(v3, 480));
-SET64(v3, 400, AT64(v3, 472));
-SET64(v36, 0, a1);
-SET64(v3, 312, AT64(v3, 464));
-SET64(v3, 304, AT64(v3, 456));
+v4 = v3 + 402u;
+COPY_FEW(v4, a2, 46u);
+SET64(v28, 0, a1);
 SET64(v3, 296, AT64(v3, 448));
-SET64(v3, 286, AT64(v3, 438));
-SET64(v3, 280, AT64(v3, 432));
-SET64(v3, 272, AT64(v3, 424));
-SET64(v3, 264, AT64(v3, 416));
-SET64(v3, 256, AT64(v3, 408));
-SET64(v3, 248, AT64(v3, 400));
+SET64(v3, 304, AT64(v3, 456));
+SET64(v3, 312, AT64(v3, 464));
+COPY_FEW(v3 + 250u, v4, 46u);
 SET64(v3, 672, 0u);
-in_std_alloc_vec_lodged_Vec_T_Lodged_insert_reserved_483ec8513fd57e(RUD_AS v3 + 320u, v10, v3 + 296u);
-SET64(v3, 680, AT64(v3, 254));
-SET64(v3, 688, AT64(v3, 262));
-SET64(v3, 696, AT64(v3, 270));
-SET64(v3, 704, AT64(v3, 278));
-SET64(v3, 712, AT64(v3, 286));
-SET8(v3, 673, v43);
-SET8(v3, 672, v44);
-SET64(v3, 720, v22);
-in_std_alloc_vec_lodged_Vec_T_Lodged_insert_reserved_22_toml_de_tab(RUD_AS v34, v10, v3 + 672u);
-a1 = v10 + 1u;
+in_std_alloc_vec_lodged_Vec_T_Lodged_insert_reserved_483ec8513fd57e(RUD_AS v3 + 320u, v8, v3 + 296u);
+SET8(v3, 673, v36);
+SET8(v3, 672, v37);
+COPY_FEW(v21, v22, 40u);
+SET64(v3, 720, v19);
+in_std_alloc_vec_lodged_Vec_T_Lodged_insert_reserved_22_toml_de_tab(RUD_AS v26, v8, v3 + 672u);
+a1 = v8 + 1u;
 a2 = a1 << 3;
-v5 = AT64(v3, 368);
-v10 = AT64(v3, 376);
-if (v10 == a1) goto L34;
-a1 = (v10 - a1) << 3;
-if (a1 == 0) goto L34;
-v10 = a2 + v5;
-COPY(v10 + 8u, v10, a1);
-L34:;
-PUT64(a2 + v5, 0, v7);
-v7 = AT64(v3, 392);
-TEST(v7);
-SET16(v7, 0, (u32)AT64(v3, 328));
-SET64(v12, 0, v7);
-v38 = AT8(v4, 1);
-if (v38 <= 7u) {
-v37 = AT8(v4, 0);
-goto L25;
-}
-SET8(v4, 1, v38 - 8u);
-v37 = v37 + 1u;
-SET8(v4, 0, v37);
-L25:;
-a2 = v32 - 1u;
-v4 = v4 + 1u;
-v10 = (u64)v37 & 255u;
-v12 = (v7 + (v10 << 3)) + 1208u;
-if (v32 > 2u) goto L24;
-v4 = AT64(a0, 8);
-}
+v4 = AT64(v3, 368);
+v8 = AT64(v3, 376);
+if (v8 == a1) goto L29;
+a1 = (v8 - a1) << 3;
+if (a1 == 0) goto L29;
+v8 = a2 + v4;
+COPY(v8 + 8u, v8, a1);
+L29:;
+PUT64(a2 + v4, 0, v7);
+v4 = AT64(v3, 392);
 TEST(v4);
-if (AT16(v4, 0) == 0) goto L13;
-a1 = v15 & 3u;
-v6 = 0u;
-v4 = 0u;
-if ((v8 - 13u) >= 3u) {
-v5 = v15 & 0xfffffffffffffffcull;
-L38:;
-a2 = v4 + v31;
-TEST(a2);
-v6 = (((((v6 << 8) + ((u64)AT8(a2, 0) << 4)) + (u64)AT8(a2, 1)) << 8) + ((u64)AT8(a2, 2) << 4)) + (u64)AT8(a2, 3);
-v4 = v4 + 4u;
-if (v5 != v4) goto L38;
-if (a1 == 0) goto L36;
+SET16(v4, 0, (u32)AT64(v3, 328));
+SET64(v6, 0, v4);
+v31 = AT8(v5, 1);
+if (v31 <= 7u) {
+v30 = AT8(v5, 0);
+goto L22;
 }
-a2 = (v3 + 144u) + (v4 + v8);
-L39:;
-TEST(a2);
-v6 = (u64)AT8(a2, 0) + (v6 << 4);
+SET8(v5, 1, v31 - 8u);
+v30 = v30 + 1u;
+SET8(v5, 0, v30);
+L22:;
+a2 = v13 - 1u;
+v5 = v5 + 1u;
+v8 = (u64)v30 & 255u;
+v6 = (v4 + (v8 << 3)) + 1208u;
+if (v13 > 2u) goto L21;
+v5 = AT64(a0, 8);
+}
+TEST(v5);
+if (AT16(v5, 0) == 0) goto L13;
+v9 = 0u;
+a2 = v10;
+L31:;
+v9 = (u64)GET8((v3 + 144u) + a2, 0) + (v9 << 4);
 a2 = a2 + 1u;
-a1 = a1 - 1u;
-if (a1 != 0u) goto L39;
-L36:;
-v5 = v8;
+if (a2 != 16u) goto L31;
 }
 j0 = 0u;
 goto L3;
 L14:;
-v4 = AT64(a0, 8);
-TEST(v4);
-if (AT16(v4, 0)) goto L5;
+v5 = AT64(a0, 8);
+TEST(v5);
+if (AT16(v5, 0)) goto L5;
 L13:;
-if (AT16(v4, 2) == 0) goto L5;
-j1 = in_std_collections_btree_tree_places_only_edge_d4294551460d727f(RUD_AS v4);
+if (AT16(v5, 2) == 0) goto L5;
+j1 = in_std_collections_btree_tree_places_only_edge_d4294551460d727f(RUD_AS v5);
 RUD_AGAIN
 SET64(a0, 8, j1);
 L5:;
@@ -7922,73 +7047,73 @@ if (!(j0 == 0)) {
 rud_dealloc(RUD_AS a0);
 RUD_AGAIN
 }
-SET64(v3, 208, v25);
-SET64(v3, 200, v26);
-SET64(v3, 192, v27);
-SET32(v3, 188, v39);
-SET32(v3, 184, v40);
-SET64(v3, 176, v28);
-SET64(v3, 168, v29);
-SET8(v3, 161, v41);
-SET8(v3, 160, v42);
+SET64(v3, 208, v14);
+SET64(v3, 200, v15);
+SET64(v3, 192, v16);
+SET32(v3, 188, v32);
+SET32(v3, 184, v33);
+SET64(v3, 176, v17);
+SET64(v3, 168, v18);
+SET8(v3, 161, v34);
+SET8(v3, 160, v35);
 in_toml_toml_de_tables_Node_Destruct_drop(RUD_AS v3 + 160u);
 RUD_AGAIN
-v40 = 1u;
+v33 = 1u;
 goto L2;
 L4:;
-v9 = v9 + 1u;
-v6 = (v6 << 4) + a1;
+v11 = v11 + 1u;
+v9 = (v9 << 4) + a1;
 j0 = 1u;
 L3:;
-v4 = j0;
-SET64(v3, 104, v10);
-SET64(v3, 96, v7);
-SET64(v3, 88, v9);
-SET64(v3, 80, v5);
-SET64(v3, 72, v6);
-SET64(v3, 112, v4);
-if (!(v4 == 0)) {
+v7 = j0;
+SET64(v3, 104, v8);
+SET64(v3, 96, v4);
+SET64(v3, 88, v11);
+SET64(v3, 80, v10);
+SET64(v3, 72, v9);
+SET64(v3, 112, v7);
+if (!(v7 == 0)) {
 j0 = in_std_collections_btree_map_BTreeMap_value_mut_at_8494fc2367ed18cf(RUD_AS a0, v3 + 72u);
 a0 = j0;
 TEST(a0);
-SET64(a0, 48, v25);
-SET8(a0, 1, v41);
-v37 = AT8(a0, 0);
-SET8(a0, 0, v42);
-v41 = AT32(a0, 44);
+SET64(a0, 48, v14);
+SET8(a0, 1, v34);
+v34 = AT8(a0, 0);
+SET8(a0, 0, v35);
+v35 = AT32(a0, 44);
 a1 = a0 + 40u;
-v42 = AT32(a0, 40);
-SET64(a0, 40, v26);
+v30 = AT32(a0, 40);
+SET64(a0, 40, v15);
 a1 = a0 + 32u;
-v7 = AT64(a0, 32);
-SET64(a0, 32, v27);
+v6 = AT64(a0, 32);
+SET64(a0, 32, v16);
 a1 = a0 + 24u;
-v9 = AT64(a0, 24);
-SET32(a0, 28, v39);
-SET32(a0, 24, v40);
-v38 = AT8(a0, 17);
+v11 = AT64(a0, 24);
+SET32(a0, 28, v32);
+SET32(a0, 24, v33);
+v31 = AT8(a0, 17);
 a1 = a0 + 16u;
-v39 = AT8(a0, 16);
+v32 = AT8(a0, 16);
 j0 = (u64)AT32(a0, 18);
 j1 = (u64)AT16(a0, 22);
-SET64(a0, 16, v28);
+SET64(a0, 16, v17);
 a0 = a0 + 8u;
 TEST(a0);
 a2 = AT64(a0, 0);
-SET64(a0, 0, v29);
+SET64(a0, 0, v18);
 a1 = j0 | (j1 << 32);
-if (AT64(v3, 136) == 0) goto L41;
+if (AT64(v3, 136) == 0) goto L33;
 rud_dealloc(RUD_AS AT64(v3, 120));
 RUD_AGAIN
-goto L41;
+goto L33;
 }
 if (AT8(a0, 0) != 1u) goto L1;
 SET64(v3, 608, AT64(v3, 136));
 SET64(v3, 600, AT64(v3, 128));
 SET64(v3, 592, AT64(v3, 120));
-v8 = (v9 - v5) == 1u ? v14 : ((v7 + (v10 << 3)) + 1208u);
-TEST(v8);
-a1 = AT64(v8, 0);
+v6 = (v11 - v10) == 1u ? v12 : ((v4 + (v8 << 3)) + 1208u);
+TEST(v6);
+a1 = AT64(v6, 0);
 SET64(v3, 232, a1);
 SET64(v3, 208, a1 + 1208u);
 SET64(v3, 200, 15u);
@@ -7999,103 +7124,103 @@ TEST(a1);
 a2 = (u64)AT16(a1, 0);
 SET64(v3, 192, a2);
 SET64(v3, 168, a2);
-v9 = 0u;
-v37 = AT16(a1, 2);
-SET64(v3, 224, v37 ? 16ull : 0ull);
-SET64(v3, 216, v37 ? (a2 + 1u) : 0ull);
+v11 = 0u;
+v30 = AT16(a1, 2);
+SET64(v3, 224, v30 ? 16ull : 0ull);
+SET64(v3, 216, v30 ? (a2 + 1u) : 0ull);
 SET64(v3, 672, 0u);
-a1 = v6 & 15u;
+a1 = v9 & 15u;
 in_std_alloc_vec_lodged_Vec_T_Lodged_insert_reserved_483ec8513fd57e(RUD_AS v3 + 160u, a1, v3 + 592u);
-SET64(v3, 720, v25);
-SET64(v3, 712, v26);
-SET64(v3, 704, v27);
-SET32(v3, 700, v39);
-SET32(v3, 696, v40);
-SET64(v3, 688, v28);
-SET64(v3, 680, v29);
-SET8(v3, 673, v41);
-SET8(v3, 672, v42);
+SET64(v3, 720, v14);
+SET64(v3, 712, v15);
+SET64(v3, 704, v16);
+SET32(v3, 700, v32);
+SET32(v3, 696, v33);
+SET64(v3, 688, v17);
+SET64(v3, 680, v18);
+SET8(v3, 673, v34);
+SET8(v3, 672, v35);
 in_std_alloc_vec_lodged_Vec_T_Lodged_insert_reserved_22_toml_de_tab(RUD_AS v3 + 184u, a1, v3 + 672u);
 a1 = AT64(v3, 232);
 TEST(a1);
 SET16(a1, 0, (u32)AT64(v3, 168));
-SET64(v8, 0, a1);
+SET64(v6, 0, a1);
 a0 = a0 + 16u;
 TEST(a0);
 SET64(a0, 0, AT64(a0, 0) + 1u);
-v37 = 0u;
+v34 = 0u;
 a1 = 0u;
-v7 = 0u;
-v42 = 0u;
-v41 = 0u;
+v6 = 0u;
+v30 = 0u;
+v35 = 0u;
 a2 = 0u;
-v39 = 0u;
-v38 = 0u;
-L41:;
-v40 = 0u;
-if ((u32)v4 == 0) goto L2;
-a0 = ((u64)v38 & 255u) | (a1 << 8);
-v38 = (u32)a2;
-switch ((u32)((u64)v37 & 255u) - 1u) {
-case 0u: goto L44;
-case 1u: goto L43;
-default: goto L45;
+v32 = 0u;
+v31 = 0u;
+L33:;
+v33 = 0u;
+if ((u32)v7 == 0) goto L2;
+a0 = ((u64)v31 & 255u) | (a1 << 8);
+v31 = (u32)a2;
+switch ((u32)((u64)v34 & 255u) - 1u) {
+case 0u: goto L36;
+case 1u: goto L35;
+default: goto L37;
 }
-L45:;
-switch ((u32)((u64)v38 & 255u) - 1u) {
+L37:;
+switch ((u32)((u64)v31 & 255u) - 1u) {
 case 0u: case 1u: case 2u: case 3u: goto L2;
-case 4u: goto L47;
-case 5u: goto L46;
-default: goto L48;
+case 4u: goto L39;
+case 5u: goto L38;
+default: goto L40;
 }
-L48:;
-if (v7 == 0) goto L2;
-rud_dealloc(RUD_AS ((u64)v39 & 255u) | (a0 << 8));
+L40:;
+if (v6 == 0) goto L2;
+rud_dealloc(RUD_AS ((u64)v32 & 255u) | (a0 << 8));
 RUD_AGAIN
 goto L2;
-L47:;
-SET64(v3, 64, v7);
-SET64(v3, 56, v9);
-SET8(v3, 48, v39);
+L39:;
+SET64(v3, 64, v6);
+SET64(v3, 56, v11);
+SET8(v3, 48, v32);
 SET32(v3, 49, (u32)a0);
 SET8(v3, 55, (u32)(a0 >> 48));
 SET16(v3, 53, (u32)(a0 >> 32));
 in_std_alloc_vec_Vec_drop_f8ad6a88bf30276b(RUD_AS v3 + 48u);
 RUD_AGAIN
 goto L2;
-L46:;
-if (v39 != 1u) goto L2;
-in_std_collections_btree_node_Node_destroy_031b4c9998add48b(RUD_AS v9);
+L38:;
+if (v32 != 1u) goto L2;
+in_std_collections_btree_node_Node_destroy_031b4c9998add48b(RUD_AS v11);
 RUD_AGAIN
 goto L2;
-L44:;
-if ((v38 & 255u) != 1u) goto L2;
-in_std_collections_btree_node_Node_destroy_dc0ad195889b9f50(RUD_AS ((u64)v39 & 255u) | (a0 << 8));
+L36:;
+if ((v31 & 255u) != 1u) goto L2;
+in_std_collections_btree_node_Node_destroy_dc0ad195889b9f50(RUD_AS ((u64)v32 & 255u) | (a0 << 8));
 RUD_AGAIN
 goto L2;
-L43:;
+L35:;
 SET32(v3, 33, (u32)a0);
 SET8(v3, 39, (u32)(a0 >> 48));
 SET16(v3, 37, (u32)(a0 >> 32));
-SET64(v3, 40, v9);
-SET8(v3, 32, v39);
+SET64(v3, 40, v11);
+SET8(v3, 32, v32);
 SET64(v3, 24, a2);
 in_std_alloc_vec_Vec_drop_f8ad6a88bf30276b(RUD_AS v3 + 24u);
 RUD_AGAIN
-if ((v7 & 255u) != 1u) goto L2;
-in_std_collections_btree_node_Node_destroy_dc0ad195889b9f50(RUD_AS (u64)v42 | ((u64)v41 << 32));
+if ((v6 & 255u) != 1u) goto L2;
+in_std_collections_btree_node_Node_destroy_dc0ad195889b9f50(RUD_AS (u64)v30 | ((u64)v35 << 32));
 RUD_AGAIN
 L2:;
 RUD_G0 = v3 + 880u;
-return v40;
+return v33;
 L1:;
 rud_trap();
 return 0;
 }
 
 static void in_std_alloc_string_methods_StringClone_clone_23d1122e78b2f742(RUD_IT u64 a0, u64 a1) {
-u32 v13 = 0, i0 = 0;
-u64 v2 = 0, v3 = 0, v4 = 0, v5 = 0, v6 = 0, v7 = 0, v8 = 0, v9 = 0, v10 = 0, v11 = 0, v12 = 0;
+u32 v7 = 0, i0 = 0;
+u64 v2 = 0, v3 = 0, v4 = 0, v5 = 0, v6 = 0;
 RUD_HERE
 v2 = RUD_G0 - 192u;
 RUD_G0 = v2;
@@ -8106,8 +7231,8 @@ SET64(v2, 24, 0u);
 SET64(v2, 16, 0u);
 SET64(v2, 8, 0u);
 TEST(a1);
-v3 = AT64(a1, 8);
-v6 = AT64(a1, 0);
+v4 = AT64(a1, 8);
+a1 = AT64(a1, 0);
 SET64(v2, 72, 0u);
 SET64(v2, 80, 0u);
 SET64(v2, 88, 0u);
@@ -8119,123 +7244,103 @@ SET64(v2, 63, 0u);
 SET64(v2, 168, 0u);
 SET64(v2, 176, 0u);
 SET64(v2, 160, v2 + 191u);
-v13 = v3 == 0;
-if (v13) goto L5;
-i0 = in_std_alloc_vec_Vec_move_to_795f5fd3dc7a282e(RUD_AS v2 + 160u, v3);
+v7 = v4 == 0;
+if (v7) goto L4;
+i0 = in_std_alloc_vec_Vec_move_to_795f5fd3dc7a282e(RUD_AS v2 + 160u, v4);
 RUD_AGAIN
-if (i0) goto L5;
-if (AT64(v2, 176) == 0) goto L4;
+if (i0) goto L4;
+if (AT64(v2, 176) == 0) goto L2;
 rud_dealloc(RUD_AS AT64(v2, 160));
 RUD_AGAIN
-goto L4;
-L5:;
-v4 = AT64(v2, 176);
-SET64(v2, 128, v4);
-v5 = AT64(v2, 168);
-SET64(v2, 120, v5);
-a1 = AT64(v2, 160);
-SET64(v2, 112, a1);
-SET64(v2, 136, a1);
-SET64(v2, 144, v5);
-SET64(v2, 152, v4);
-if ((v4 - v5) < v3) {
-i0 = in_std_alloc_vec_Vec_grow_amortized_795f5fd3dc7a282e(RUD_AS v2 + 136u, v3);
+goto L2;
+L4:;
+v5 = AT64(v2, 176);
+SET64(v2, 128, v5);
+v3 = AT64(v2, 168);
+SET64(v2, 120, v3);
+v6 = AT64(v2, 160);
+SET64(v2, 112, v6);
+SET64(v2, 136, v6);
+SET64(v2, 144, v3);
+SET64(v2, 152, v5);
+if ((v5 - v3) < v4) {
+i0 = in_std_alloc_vec_Vec_grow_amortized_795f5fd3dc7a282e(RUD_AS v2 + 136u, v4);
 RUD_AGAIN
-if (i0 == 0) goto L6;
-v5 = AT64(v2, 144);
-v4 = AT64(v2, 152);
+if (i0 == 0) goto L7;
+v3 = AT64(v2, 144);
+v5 = AT64(v2, 152);
 }
-v11 = v3 + v5;
-v7 = AT64(v2, 136);
-v12 = v7 + v5;
-if (v3 > (v12 - v6)) {
-v8 = v3 & 3u;
-a1 = 0u;
-if (v3 >= 4u) {
-v3 = v3 & 0xfffffffffffffffcull;
-L10:;
-v9 = a1 + v12;
-v10 = a1 + v6;
-TEST(v10);
-TEST(v9);
-SET8(v9, 0, AT8(v10, 0));
-SET8(v9, 1, AT8(v10, 1));
-SET8(v9, 2, AT8(v10, 2));
-SET8(v9, 3, AT8(v10, 3));
-a1 = a1 + 4u;
-if (v3 != a1) goto L10;
-if (v8 == 0) goto L2;
-}
-v3 = a1 + v6;
-a1 = v7 + (a1 + v5);
-L11:;
-TEST(v3);
-TEST(a1);
-SET8(a1, 0, AT8(v3, 0));
-a1 = a1 + 1u;
-v3 = v3 + 1u;
-v8 = v8 - 1u;
-if (v8 != 0u) goto L11;
-goto L2;
-}
-if (v13) goto L2;
-COPY(v12, v6, v3);
-goto L2;
-L6:;
-if (AT64(v2, 152) == 0) goto L4;
+v6 = v3 + v4;
+v3 = AT64(v2, 136) + v3;
+if ((v3 - a1) < v4) goto L6;
+if (v7) goto L5;
+COPY(v3, a1, v4);
+goto L5;
+L7:;
+if (AT64(v2, 152) == 0) goto L2;
 rud_dealloc(RUD_AS AT64(v2, 136));
 RUD_AGAIN
-L4:;
-i0 = 1u;
+goto L2;
+L6:;
+L9:;
+TEST(a1);
+TEST(v3);
+SET8(v3, 0, AT8(a1, 0));
+v3 = v3 + 1u;
+a1 = a1 + 1u;
+v4 = v4 - 1u;
+if (!(v4 == 0)) goto L9;
+L5:;
+a1 = AT64(v2, 136);
+SET64(v2, 79, a1);
+SET64(v2, 87, v6);
+SET64(v2, 95, v5);
+SET64(v2, 47, a1);
+SET64(v2, 55, v6);
+SET64(v2, 63, v5);
+i0 = 0u;
 goto L1;
 }
 rud_trap();
 L2:;
-a1 = AT64(v2, 136);
-SET64(v2, 79, a1);
-SET64(v2, 87, v11);
-SET64(v2, 95, v4);
-SET64(v2, 47, a1);
-SET64(v2, 55, v11);
-SET64(v2, 63, v4);
-i0 = 0u;
+i0 = 1u;
 L1:;
-v13 = i0;
-v7 = AT64(v2, 63);
-SET64(v2, 31, v7);
-v3 = AT64(v2, 55);
-SET64(v2, 23, v3);
+v7 = i0;
+v5 = AT64(v2, 63);
+SET64(v2, 31, v5);
+v6 = AT64(v2, 55);
+SET64(v2, 23, v6);
 a1 = AT64(v2, 47);
 SET64(v2, 15, a1);
 TEST(a0);
-SET8(a0, 0, v13);
+SET8(a0, 0, v7);
 SET64(a0, 8, a1);
-SET64(a0, 16, v3);
-SET64(a0, 24, v7);
+SET64(a0, 16, v6);
+SET64(a0, 24, v5);
 RUD_G0 = v2 + 192u;
 }
 
 static void in_toml_de_tables_along_dots(RUD_IT u64 a0, u64 a1, u64 a2, u64 a3, u64 a4, u64 a5) {
-u32 v19 = 0, v20 = 0, v21 = 0, v22 = 0, v23 = 0, v24 = 0, v25 = 0, v26 = 0, v27 = 0, v28 = 0, v29 = 0, i0 = 0;
+u32 v20 = 0, v21 = 0, v22 = 0, v23 = 0, v24 = 0, v25 = 0, v26 = 0, v27 = 0, v28 = 0, i0 = 0;
 u64 v6 = 0, v7 = 0, v8 = 0, v9 = 0, v10 = 0, v11 = 0, v12 = 0, v13 = 0, v14 = 0, v15 = 0, v16 = 0, v17 = 0;
-u64 v18 = 0, j0 = 0;
+u64 v18 = 0, v19 = 0, j0 = 0;
 RUD_HERE
 v6 = RUD_G0 - 576u;
 RUD_G0 = v6;
 if ((s64)v6 >= (s64)16u) {
 TEST(a5);
-v22 = AT8(a5, 9);
-v23 = AT32(a5, 40);
+v23 = AT8(a5, 9);
+v24 = AT32(a5, 40);
 v8 = AT64(a5, 32);
 v9 = AT64(a5, 24);
-v24 = AT32(a5, 12);
+v25 = AT32(a5, 12);
 v7 = AT64(a5, 16);
-v20 = AT8(a5, 8);
+v21 = AT8(a5, 8);
 TEST(a4);
 v10 = AT64(a4, 16);
 v11 = AT64(a4, 8);
 a4 = AT64(a4, 0);
-v19 = AT8(a5, 0);
+v20 = AT8(a5, 0);
 TEST(v6);
 SET16(v6, 300, 0u);
 SET32(v6, 296, 0u);
@@ -8245,25 +7350,14 @@ SET64(v6, 288, 0u);
 SET64(v6, 248, 0u);
 SET64(v6, 256, 0u);
 SET64(v6, 264, 0u);
-SET64(v6, 200, 0u);
-SET64(v6, 208, 0u);
-SET64(v6, 216, 0u);
-SET64(v6, 224, 0u);
-SET64(v6, 232, 0u);
-SET64(v6, 240, 0u);
-SET64(v6, 168, 0u);
-SET64(v6, 176, 0u);
-SET64(v6, 184, 0u);
+FILL_FEW(v6 + 200u, 0u, 48u);
 SET64(v6, 192, 0u);
-SET64(v6, 160, 0u);
-SET64(v6, 152, 0u);
-SET64(v6, 144, 0u);
-SET64(v6, 136, 0u);
-SET64(v6, 128, 0u);
-SET64(v6, 120, 0u);
-SET64(v6, 112, 0u);
-SET32(v6, 104, 0u);
+SET64(v6, 184, 0u);
+SET64(v6, 176, 0u);
+SET64(v6, 168, 0u);
+FILL_FEW(v6 + 112u, 0u, 56u);
 SET16(v6, 108, 0u);
+SET32(v6, 104, 0u);
 SET64(v6, 80, 0u);
 SET64(v6, 88, 0u);
 SET64(v6, 96, 0u);
@@ -8281,151 +7375,142 @@ SET64(v6, 320, 0u);
 in_std_collections_btree_map_BTreeMap_get_mut_73c392a72f38babf(RUD_AS v6 + 8u, a1, a4, v11);
 if (AT8(v6, 8) == 1u) {
 a1 = AT64(v6, 16);
-a3 = a1 + 9u;
-TEST(a3);
-v23 = AT8(a3, 0);
-a2 = AT64(a3, 7);
-v24 = AT16(a3, 5);
-v14 = a1 + 10u;
-v25 = AT32(a3, 1);
-SET64(a3, 0, 0u);
-a5 = AT64(a3, 15);
-SET64(a3, 8, 0u);
-a3 = a1 + 32u;
-TEST(a3);
-v11 = AT64(a3, 0);
+a2 = a1 + 8u;
+TEST(a2);
+v22 = AT8(a2, 0);
+SET8(a2, 0, 3u);
 TEST(a1);
-SET64(a1, 25, 0u);
-v13 = AT64(a3, 8);
-SET64(a3, 1, 0u);
-v12 = a1 + 48u;
-v15 = AT64(a3, 16);
-SET64(a3, 9, 0u);
-SET64(a3, 16, 0u);
-v12 = a1 + 8u;
-v21 = AT8(a1, 8);
-SET8(a1, 8, 3u);
-v26 = AT8(a1, 1);
-v22 = AT8(a1, 0);
+v25 = AT8(a1, 1);
+v23 = AT8(a1, 0);
 SET16(a1, 0, 0u);
-SET32(v6, 384, v25);
-SET16(v6, 388, v24);
+v13 = a1 + 10u;
+SET32(v6, 384, AT32(a2, 2));
+SET16(v6, 388, AT16(a2, 6));
+v14 = a1 + 9u;
+v24 = AT8(a2, 1);
+a2 = AT64(a2, 8);
+a5 = AT64(a1, 24);
+a3 = a1 + 32u;
+v11 = AT64(a1, 32);
+v12 = AT64(a1, 40);
+v15 = AT64(a1, 48);
+FILL_FEW(v14, 0u, 47u);
 SET64(v6, 392, 0u);
 SET64(v6, 400, 0u);
 SET64(v6, 408, 0u);
 SET64(v6, 416, 0u);
-switch (v19 - 1u) {
-case 0u: goto L15;
-case 1u: goto L14;
-default: goto L13;
-}
-L15:;
-if ((u32)(v22 != 1u) | v26) goto L12;
-SET64(a1, 24, a5);
-SET64(a1, 16, a2);
-SET64(a1, 8, (u64)v21);
-SET8(a1, 1, 2u);
-SET8(a1, 0, v19);
-SET64(a3, 0, 0u);
-SET64(a3, 8, 0u);
-SET64(a3, 16, 0u);
-goto L2;
-L14:;
-switch (v22 - 1u) {
-case 0u: goto L10;
-case 1u: goto L16;
-default: goto L11;
+switch (v20 - 1u) {
+case 0u: goto L16;
+case 1u: goto L15;
+default: goto L14;
 }
 L16:;
-SET8(v6, 545, v23);
-SET8(v6, 544, v21);
+if ((u32)(v23 != 1u) | v25) goto L13;
+SET64(a1, 24, a5);
+SET64(a1, 16, a2);
+SET64(a1, 8, (u64)v22);
+SET8(a1, 1, 2u);
+SET8(a1, 0, v20);
+SET64(a1, 32, 0u);
+SET64(a1, 40, 0u);
+SET64(a1, 48, 0u);
+goto L3;
+L15:;
+switch (v23 - 1u) {
+case 0u: goto L11;
+case 1u: goto L17;
+default: goto L12;
+}
+L17:;
+SET8(v6, 545, v24);
+SET8(v6, 544, v22);
 SET32(v6, 546, AT32(v6, 384));
 SET16(v6, 550, AT16(v6, 388));
 SET64(v6, 560, a5);
 SET64(v6, 552, a2);
 SET64(v6, 536, v15);
-SET64(v6, 528, v13);
+SET64(v6, 528, v12);
 SET64(v6, 520, v11 & 255u);
 in_toml_de_tables_close_array(RUD_AS v6 + 392u, v6 + 544u, v6 + 520u);
 RUD_AGAIN
-if (AT8(v6, 392) == 0) goto L3;
+if (AT8(v6, 392) == 0) goto L4;
 i0 = 0u;
-goto L7;
-L13:;
-switch (v20 - 1u) {
-case 0u: case 1u: case 2u: case 3u: goto L12;
-case 4u: goto L18;
-case 5u: goto L17;
-default: goto L19;
+goto L8;
+L14:;
+switch (v21 - 1u) {
+case 0u: case 1u: case 2u: case 3u: goto L13;
+case 4u: goto L19;
+case 5u: goto L18;
+default: goto L20;
 }
-L19:;
-if (v8 == 0) goto L12;
+L20:;
+if (v8 == 0) goto L13;
 rud_dealloc(RUD_AS v7);
 RUD_AGAIN
-goto L12;
-L18:;
+goto L13;
+L19:;
 SET64(v6, 512, v8);
 SET64(v6, 504, v9);
 SET64(v6, 496, v7);
 in_std_alloc_vec_Vec_drop_f8ad6a88bf30276b(RUD_AS v6 + 496u);
 RUD_AGAIN
-goto L12;
-L17:;
-if ((v7 & 255u) != 1u) goto L12;
+goto L13;
+L18:;
+if ((v7 & 255u) != 1u) goto L13;
 in_std_collections_btree_node_Node_destroy_031b4c9998add48b(RUD_AS v9);
 RUD_AGAIN
+L13:;
+switch (v23 - 1u) {
+case 0u: goto L11;
+case 1u: goto L10;
+default: goto L12;
+}
 L12:;
 switch (v22 - 1u) {
-case 0u: goto L10;
-case 1u: goto L9;
-default: goto L11;
+case 0u: case 1u: case 2u: case 3u: goto L9;
+case 4u: goto L22;
+case 5u: goto L21;
+default: goto L23;
 }
-L11:;
-switch (v21 - 1u) {
-case 0u: case 1u: case 2u: case 3u: goto L8;
-case 4u: goto L21;
-case 5u: goto L20;
-default: goto L22;
-}
-L22:;
-if (v11 == 0) goto L8;
+L23:;
+if (v11 == 0) goto L9;
 rud_dealloc(RUD_AS a2);
 RUD_AGAIN
-goto L8;
-L21:;
+goto L9;
+L22:;
 SET64(v6, 488, v11);
 SET64(v6, 480, a5);
 SET64(v6, 472, a2);
 in_std_alloc_vec_Vec_drop_f8ad6a88bf30276b(RUD_AS v6 + 472u);
 RUD_AGAIN
-goto L8;
-L20:;
-if ((a2 & 255u) != 1u) goto L8;
+goto L9;
+L21:;
+if ((a2 & 255u) != 1u) goto L9;
 in_std_collections_btree_node_Node_destroy_031b4c9998add48b(RUD_AS a5);
 RUD_AGAIN
-goto L8;
-L10:;
-if (v21 != 1u) goto L8;
+goto L9;
+L11:;
+if (v22 != 1u) goto L9;
 in_std_collections_btree_node_Node_destroy_dc0ad195889b9f50(RUD_AS a2);
 RUD_AGAIN
-goto L8;
-L9:;
-SET8(v6, 449, v23);
-SET8(v6, 448, v21);
+goto L9;
+L10:;
+SET8(v6, 449, v24);
+SET8(v6, 448, v22);
 SET32(v6, 450, AT32(v6, 384));
 SET16(v6, 454, AT16(v6, 388));
 SET64(v6, 464, a5);
 SET64(v6, 456, a2);
 in_std_alloc_vec_Vec_drop_f8ad6a88bf30276b(RUD_AS v6 + 448u);
 RUD_AGAIN
-if ((v11 & 255u) != 1u) goto L8;
-in_std_collections_btree_node_Node_destroy_dc0ad195889b9f50(RUD_AS v13);
+if ((v11 & 255u) != 1u) goto L9;
+in_std_collections_btree_node_Node_destroy_dc0ad195889b9f50(RUD_AS v12);
 RUD_AGAIN
-L8:;
+L9:;
 i0 = 16u;
-L7:;
+L8:;
 v20 = i0;
-v19 = 1u;
+v21 = 1u;
 if (v10 == 0) goto L1;
 rud_dealloc(RUD_AS a4);
 RUD_AGAIN
@@ -8434,177 +7519,165 @@ goto L1;
 SET64(v6, 408, v10);
 SET64(v6, 400, v11);
 SET64(v6, 392, a4);
-v21 = 2u;
+v22 = 2u;
 a5 = 0u;
 a4 = 0u;
 a2 = 0u;
 a3 = 0u;
 v10 = 0u;
-switch (v19 - 1u) {
-case 0u: goto L23;
-case 1u: goto L24;
-default: goto L25;
+switch (v20 - 1u) {
+case 0u: goto L24;
+case 1u: goto L25;
+default: goto L26;
 }
-L25:;
-a5 = ((u64)v20 | (((u64)v22 & 255u) << 8)) | ((u64)v24 << 32);
-v10 = (u64)v23;
-v21 = 0u;
+L26:;
+a5 = ((u64)v21 | (((u64)v23 & 255u) << 8)) | ((u64)v25 << 32);
+v10 = (u64)v24;
+v22 = 0u;
 a4 = v7;
 a2 = v9;
 a3 = v8;
-goto L23;
-L24:;
-v21 = 0u;
+goto L24;
+L25:;
+v22 = 0u;
 a5 = v6 + 568u;
-L23:;
+L24:;
 SET64(v6, 376, 0u);
 SET64(v6, 368, v10);
 SET64(v6, 360, a3);
 SET64(v6, 352, a2);
 SET64(v6, 344, a4);
 SET64(v6, 336, a5);
-SET8(v6, 329, v21);
-SET8(v6, 328, v19);
+SET8(v6, 329, v22);
+SET8(v6, 328, v20);
 v20 = 0u;
-v19 = in_toml_de_tables_insert(RUD_AS a1, v6 + 392u, v6 + 328u);
+v21 = in_toml_de_tables_insert(RUD_AS a1, v6 + 392u, v6 + 328u);
 RUD_AGAIN
 goto L1;
 }
-v13 = (u64)v19;
+v12 = (u64)v20;
 TEST(a2);
 in_std_collections_btree_map_BTreeMap_get_mut_73c392a72f38babf(RUD_AS v6 + 40u, a1, AT64(a2, 0), AT64(a2, 8));
-v12 = a3 - 1u;
+v14 = a3 - 1u;
 v15 = a2 + 24u;
 if (AT8(v6, 40) == 1u) {
-v25 = (u32)v7;
+v26 = (u32)v7;
 a1 = AT64(v6, 48);
+a2 = a1 + 8u;
+TEST(a2);
+v22 = AT8(a2, 0);
+SET8(a2, 0, 3u);
 TEST(a1);
-SET64(a1, 48, 0u);
-a3 = a1 + 9u;
-v26 = AT8(a1, 9);
-a2 = AT64(a1, 16);
-v27 = AT16(a1, 14);
-v16 = a1 + 10u;
-v28 = AT32(a1, 10);
-SET64(a1, 9, 0u);
-a3 = AT64(a1, 24);
-SET64(a1, 17, 0u);
-a5 = a1 + 32u;
-v14 = AT64(a1, 32);
-SET64(a1, 25, 0u);
-v18 = AT64(a1, 40);
-SET64(a1, 33, 0u);
-SET64(a1, 41, 0u);
-v17 = a1 + 8u;
-v21 = AT8(a1, 8);
-SET8(a1, 8, 3u);
-v29 = AT8(a1, 1);
+v27 = AT8(a1, 1);
 v17 = (u64)AT8(a1, 0);
 SET16(a1, 0, 0u);
-SET32(v6, 296, v28);
-SET16(v6, 300, v27);
+v16 = a1 + 10u;
+SET32(v6, 296, AT32(a2, 2));
+SET16(v6, 300, AT16(a2, 6));
+v18 = a1 + 9u;
+v28 = AT8(a2, 1);
+a2 = AT64(a2, 8);
+a3 = AT64(a1, 24);
+a5 = a1 + 32u;
+v13 = AT64(a1, 32);
+v19 = AT64(a1, 40);
+FILL_FEW(v18, 0u, 47u);
 switch ((u32)v17 - 1u) {
-case 0u: goto L31;
-case 1u: goto L30;
-default: goto L29;
+case 0u: goto L32;
+case 1u: goto L31;
+default: goto L30;
 }
-L31:;
+L32:;
+FILL_FEW(v6 + 336u, 0u, 40u);
 SET64(v6, 408, a3);
 SET64(v6, 400, a2);
-SET64(v6, 392, (u64)v21);
-SET64(v6, 336, 0u);
-SET64(v6, 344, 0u);
-SET64(v6, 352, 0u);
-SET64(v6, 360, 0u);
-SET64(v6, 368, 0u);
-if (v29 == 2u) {
-if (v19) goto L33;
-switch (v20 - 1u) {
-case 0u: case 1u: case 2u: case 3u: goto L33;
-case 4u: goto L35;
-case 5u: goto L34;
-default: goto L36;
+SET64(v6, 392, (u64)v22);
+if (v27 == 2u) {
+if (v20) goto L34;
+switch (v21 - 1u) {
+case 0u: case 1u: case 2u: case 3u: goto L34;
+case 4u: goto L36;
+case 5u: goto L35;
+default: goto L37;
 }
-L36:;
-if (v8 == 0) goto L33;
+L37:;
+if (v8 == 0) goto L34;
 rud_dealloc(RUD_AS v7);
 RUD_AGAIN
-goto L33;
-L35:;
+goto L34;
+L36:;
 SET64(v6, 536, v8);
 SET64(v6, 528, v9);
 SET64(v6, 520, v7);
 in_std_alloc_vec_Vec_drop_f8ad6a88bf30276b(RUD_AS v6 + 520u);
 RUD_AGAIN
-goto L33;
-L34:;
-if ((v25 & 255u) != 1u) goto L33;
+goto L34;
+L35:;
+if ((v26 & 255u) != 1u) goto L34;
 in_std_collections_btree_node_Node_destroy_031b4c9998add48b(RUD_AS v9);
 RUD_AGAIN
-L33:;
+L34:;
 if (!(v10 == 0)) {
 rud_dealloc(RUD_AS a4);
 RUD_AGAIN
 }
 v20 = 16u;
-if (v21 != 1u) goto L28;
+if (v22 != 1u) goto L29;
 in_std_collections_btree_node_Node_destroy_dc0ad195889b9f50(RUD_AS a2);
 RUD_AGAIN
-v19 = 1u;
-goto L1;
+goto L29;
 }
 SET64(v6, 560, v10);
 SET64(v6, 552, v11);
 SET64(v6, 544, a4);
-SET32(v6, 368, v23);
+SET32(v6, 368, v24);
 SET64(v6, 360, v8);
 SET64(v6, 352, v9);
 SET64(v6, 344, v7);
-SET32(v6, 340, v24);
-SET8(v6, 337, v22);
-SET8(v6, 336, v20);
-SET64(v6, 328, v13);
-in_toml_de_tables_along_dots(RUD_AS v6 + 24u, v6 + 392u, v15, v12, v6 + 544u, v6 + 328u);
+SET32(v6, 340, v25);
+SET8(v6, 337, v23);
+SET8(v6, 336, v21);
+SET64(v6, 328, v12);
+in_toml_de_tables_along_dots(RUD_AS v6 + 24u, v6 + 392u, v15, v14, v6 + 544u, v6 + 328u);
 RUD_AGAIN
-v19 = AT8(v6, 392);
-if (AT8(v6, 24) == 0) goto L27;
+v21 = AT8(v6, 392);
+if (AT8(v6, 24) == 0) goto L28;
 v20 = AT8(v6, 25);
-if (v19 != 1u) goto L28;
+if (v21 != 1u) goto L29;
 in_std_collections_btree_node_Node_destroy_dc0ad195889b9f50(RUD_AS AT64(v6, 400));
 RUD_AGAIN
-v19 = 1u;
-goto L1;
-L30:;
-if (v19) goto L38;
-switch (v20 - 1u) {
-case 0u: case 1u: case 2u: case 3u: goto L38;
-case 4u: goto L40;
-case 5u: goto L39;
-default: goto L41;
+goto L29;
+L31:;
+if (v20) goto L39;
+switch (v21 - 1u) {
+case 0u: case 1u: case 2u: case 3u: goto L39;
+case 4u: goto L41;
+case 5u: goto L40;
+default: goto L42;
 }
-L41:;
-if (v8 == 0) goto L38;
+L42:;
+if (v8 == 0) goto L39;
 rud_dealloc(RUD_AS v7);
 RUD_AGAIN
-goto L38;
-L40:;
+goto L39;
+L41:;
 SET64(v6, 512, v8);
 SET64(v6, 504, v9);
 SET64(v6, 496, v7);
 in_std_alloc_vec_Vec_drop_f8ad6a88bf30276b(RUD_AS v6 + 496u);
 RUD_AGAIN
-goto L38;
-L39:;
-if ((v25 & 255u) != 1u) goto L38;
+goto L39;
+L40:;
+if ((v26 & 255u) != 1u) goto L39;
 in_std_collections_btree_node_Node_destroy_031b4c9998add48b(RUD_AS v9);
 RUD_AGAIN
-L38:;
+L39:;
 if (!(v10 == 0)) {
 rud_dealloc(RUD_AS a4);
 RUD_AGAIN
 }
-SET8(v6, 473, v26);
-SET8(v6, 472, v21);
+SET8(v6, 473, v28);
+SET8(v6, 472, v22);
 SET32(v6, 474, AT32(v6, 296));
 SET16(v6, 478, AT16(v6, 300));
 SET64(v6, 488, a3);
@@ -8612,77 +7685,74 @@ SET64(v6, 480, a2);
 in_std_alloc_vec_Vec_drop_f8ad6a88bf30276b(RUD_AS v6 + 472u);
 RUD_AGAIN
 v20 = 16u;
-if ((v14 & 255u) != 1u) goto L28;
-in_std_collections_btree_node_Node_destroy_dc0ad195889b9f50(RUD_AS v18);
+if ((v13 & 255u) != 1u) goto L29;
+in_std_collections_btree_node_Node_destroy_dc0ad195889b9f50(RUD_AS v19);
 RUD_AGAIN
-v19 = 1u;
-goto L1;
-L29:;
-if (v19) goto L43;
-switch (v20 - 1u) {
-case 0u: case 1u: case 2u: case 3u: goto L43;
-case 4u: goto L45;
-case 5u: goto L44;
-default: goto L46;
+goto L29;
+L30:;
+if (v20) goto L44;
+switch (v21 - 1u) {
+case 0u: case 1u: case 2u: case 3u: goto L44;
+case 4u: goto L46;
+case 5u: goto L45;
+default: goto L47;
 }
-L46:;
-if (v8 == 0) goto L43;
+L47:;
+if (v8 == 0) goto L44;
 rud_dealloc(RUD_AS v7);
 RUD_AGAIN
-goto L43;
-L45:;
+goto L44;
+L46:;
 SET64(v6, 464, v8);
 SET64(v6, 456, v9);
 SET64(v6, 448, v7);
 in_std_alloc_vec_Vec_drop_f8ad6a88bf30276b(RUD_AS v6 + 448u);
 RUD_AGAIN
-goto L43;
-L44:;
-if ((v25 & 255u) != 1u) goto L43;
+goto L44;
+L45:;
+if ((v26 & 255u) != 1u) goto L44;
 in_std_collections_btree_node_Node_destroy_031b4c9998add48b(RUD_AS v9);
 RUD_AGAIN
-L43:;
+L44:;
 if (!(v10 == 0)) {
 rud_dealloc(RUD_AS a4);
 RUD_AGAIN
 }
 v20 = 17u;
-switch (v21 - 1u) {
-case 0u: case 1u: case 2u: case 3u: goto L28;
-case 4u: goto L49;
-case 5u: goto L48;
-default: goto L50;
+switch (v22 - 1u) {
+case 0u: case 1u: case 2u: case 3u: goto L29;
+case 4u: goto L50;
+case 5u: goto L49;
+default: goto L51;
 }
-L50:;
-if (v14 == 0) goto L28;
+L51:;
+if (v13 == 0) goto L29;
 rud_dealloc(RUD_AS a2);
 RUD_AGAIN
-v19 = 1u;
-goto L1;
-L49:;
-SET64(v6, 440, v14);
+goto L29;
+L50:;
+SET64(v6, 440, v13);
 SET64(v6, 432, a3);
 SET64(v6, 424, a2);
 in_std_alloc_vec_Vec_drop_f8ad6a88bf30276b(RUD_AS v6 + 424u);
 RUD_AGAIN
-v19 = 1u;
-goto L1;
-L48:;
-if ((a2 & 255u) != 1u) goto L28;
+goto L29;
+L49:;
+if ((a2 & 255u) != 1u) goto L29;
 in_std_collections_btree_node_Node_destroy_031b4c9998add48b(RUD_AS a3);
 RUD_AGAIN
-L28:;
-v19 = 1u;
+L29:;
+v21 = 1u;
 goto L1;
-L27:;
+L28:;
 a4 = AT64(v6, 408);
 a3 = AT64(v6, 400);
 v20 = AT8(a1, 9);
 a2 = a1 + 8u;
-v21 = AT8(a1, 8);
-v22 = AT16(a1, 14);
-v23 = AT32(a1, 10);
-SET64(a1, 8, (u64)v19 & 255u);
+v22 = AT8(a1, 8);
+v23 = AT16(a1, 14);
+v24 = AT32(a1, 10);
+SET64(a1, 8, (u64)v21 & 255u);
 v7 = a1 + 16u;
 a2 = AT64(a1, 16);
 SET64(a1, 16, a3);
@@ -8696,79 +7766,67 @@ SET64(a1, 48, 0u);
 SET64(a1, 32, 0u);
 a5 = (u64)AT8(a1, 0);
 SET16(a1, 0, 257u);
-SET32(v6, 104, v23);
-SET16(v6, 108, v22);
+SET32(v6, 104, v24);
+SET16(v6, 108, v23);
 a1 = a2 >> 8;
-v22 = (u32)a2;
+v23 = (u32)a2;
 switch ((u32)a5 - 1u) {
-case 0u: goto L52;
-case 1u: goto L51;
-default: goto L53;
+case 0u: goto L53;
+case 1u: goto L52;
+default: goto L54;
 }
-L53:;
+L54:;
 v20 = 0u;
-v19 = 0u;
-switch (v21 - 1u) {
+v21 = 0u;
+switch (v22 - 1u) {
 case 0u: case 1u: case 2u: case 3u: goto L1;
-case 4u: goto L55;
-case 5u: goto L54;
-default: goto L56;
+case 4u: goto L56;
+case 5u: goto L55;
+default: goto L57;
 }
-L56:;
-if (a4 == 0) {
-goto L1;
-}
+L57:;
+if (a4 == 0) goto L2;
 rud_dealloc(RUD_AS a2);
 RUD_AGAIN
-goto L1;
-L55:;
+goto L2;
+L56:;
 SET64(v6, 96, a4);
 SET64(v6, 88, a3);
-SET8(v6, 80, v22);
+SET8(v6, 80, v23);
 SET32(v6, 81, (u32)a1);
 SET8(v6, 87, (u32)(a1 >> 48));
 SET16(v6, 85, (u32)(a1 >> 32));
 in_std_alloc_vec_Vec_drop_f8ad6a88bf30276b(RUD_AS v6 + 80u);
 RUD_AGAIN
-goto L1;
-L54:;
-if ((v22 & 255u) != 1u) {
-goto L1;
-}
+goto L2;
+L55:;
+if ((v23 & 255u) != 1u) goto L2;
 in_std_collections_btree_node_Node_destroy_031b4c9998add48b(RUD_AS a3);
 RUD_AGAIN
-goto L1;
-L52:;
+goto L2;
+L53:;
 v20 = 0u;
-if (v21 != 1u) {
-v19 = 0u;
-goto L1;
-}
+if (v22 != 1u) goto L2;
 in_std_collections_btree_node_Node_destroy_dc0ad195889b9f50(RUD_AS a2);
 RUD_AGAIN
-v19 = 0u;
-goto L1;
-L51:;
+goto L2;
+L52:;
 SET32(v6, 65, (u32)a1);
 SET8(v6, 71, (u32)(a1 >> 48));
 SET16(v6, 69, (u32)(a1 >> 32));
 SET8(v6, 57, v20);
-SET8(v6, 56, v21);
+SET8(v6, 56, v22);
 SET32(v6, 58, AT32(v6, 104));
 SET16(v6, 62, AT16(v6, 108));
 SET64(v6, 72, a3);
-SET8(v6, 64, v22);
+SET8(v6, 64, v23);
 in_std_alloc_vec_Vec_drop_f8ad6a88bf30276b(RUD_AS v6 + 56u);
 RUD_AGAIN
 v20 = 0u;
-if ((a4 & 255u) != 1u) {
-v19 = 0u;
-goto L1;
-}
+if ((a4 & 255u) != 1u) goto L2;
 in_std_collections_btree_node_Node_destroy_dc0ad195889b9f50(RUD_AS j0);
 RUD_AGAIN
-v19 = 0u;
-goto L1;
+goto L2;
 }
 SET64(v6, 288, 0u);
 SET64(v6, 280, 0u);
@@ -8776,129 +7834,127 @@ SET64(v6, 272, 0u);
 SET64(v6, 264, v10);
 SET64(v6, 256, v11);
 SET64(v6, 248, a4);
-SET32(v6, 240, v23);
+SET32(v6, 240, v24);
 SET64(v6, 232, v8);
 SET64(v6, 224, v9);
 SET64(v6, 216, v7);
-SET32(v6, 212, v24);
-SET8(v6, 209, v22);
-SET8(v6, 208, v20);
-SET64(v6, 200, v13);
-in_toml_de_tables_along_dots(RUD_AS v6 + 32u, v6 + 272u, v15, v12, v6 + 248u, v6 + 200u);
+SET32(v6, 212, v25);
+SET8(v6, 209, v23);
+SET8(v6, 208, v21);
+SET64(v6, 200, v12);
+in_toml_de_tables_along_dots(RUD_AS v6 + 32u, v6 + 272u, v15, v14, v6 + 248u, v6 + 200u);
 RUD_AGAIN
 if (AT8(v6, 32) == 0) {
 in_std_alloc_string_methods_StringClone_clone_23d1122e78b2f742(RUD_AS v6 + 168u, a2);
 RUD_AGAIN
-v21 = AT8(v6, 272);
-if (AT8(v6, 168)) goto L61;
+v22 = AT8(v6, 272);
+if (AT8(v6, 168)) goto L58;
 SET64(v6, 136, AT64(v6, 288));
 SET64(v6, 128, AT64(v6, 280));
-SET64(v6, 120, (u64)v21 & 255u);
+SET64(v6, 120, (u64)v22 & 255u);
 SET16(v6, 112, 257u);
 v20 = 0u;
-v19 = in_toml_de_tables_insert(RUD_AS a1, v6 + 176u, v6 + 112u);
+v21 = in_toml_de_tables_insert(RUD_AS a1, v6 + 176u, v6 + 112u);
 RUD_AGAIN
 goto L1;
 }
 v20 = AT8(v6, 33);
-v19 = 1u;
+v21 = 1u;
 if (AT8(v6, 272) != 1u) goto L1;
 in_std_collections_btree_node_Node_destroy_dc0ad195889b9f50(RUD_AS AT64(v6, 280));
 RUD_AGAIN
 goto L1;
-L61:;
-v19 = 1u;
+L58:;
+v21 = 1u;
 v20 = 0u;
-if (v21 != 1u) goto L1;
+if (v22 != 1u) goto L1;
 in_std_collections_btree_node_Node_destroy_dc0ad195889b9f50(RUD_AS AT64(v6, 280));
 RUD_AGAIN
 goto L1;
 }
 rud_trap();
-L3:;
-v8 = AT64(a3, 8);
-a5 = AT64(a3, 0);
+L4:;
+v8 = AT64(a1, 40);
+a5 = AT64(a1, 32);
 v9 = a1 + 24u;
 v7 = AT64(a1, 24);
 v11 = a1 + 16u;
 a2 = AT64(a1, 16);
-v21 = AT8(a1, 9);
-v13 = a1 + 8u;
-v20 = AT8(a1, 8);
-v12 = (u64)AT8(a1, 0);
+v22 = AT8(a1, 9);
+v12 = a1 + 8u;
+v21 = AT8(a1, 8);
+v14 = (u64)AT8(a1, 0);
 v15 = AT64(v6, 400);
 v16 = AT64(v6, 408);
 SET64(a1, 24, AT64(v6, 416));
 SET64(a1, 16, v16);
 SET8(a1, 1, 0u);
-SET8(a1, 0, v19);
-SET64(a3, 0, 0u);
-SET64(a3, 8, 0u);
-SET64(a3, 16, 0u);
-v19 = AT16(a1, 14);
-v22 = AT32(a1, 10);
+SET8(a1, 0, v20);
+SET64(a1, 32, 0u);
+SET64(a1, 40, 0u);
+SET64(a1, 48, 0u);
+v20 = AT16(a1, 14);
+v23 = AT32(a1, 10);
 SET64(a1, 8, v15);
-SET32(v6, 392, v22);
-SET16(v6, 396, v19);
-switch ((u32)v12 - 1u) {
-case 0u: goto L64;
-case 1u: goto L65;
-default: goto L63;
+SET32(v6, 392, v23);
+SET16(v6, 396, v20);
+switch ((u32)v14 - 1u) {
+case 0u: goto L61;
+case 1u: goto L62;
+default: goto L60;
 }
-L65:;
-SET8(v6, 305, v21);
-SET8(v6, 304, v20);
+L62:;
+SET8(v6, 305, v22);
+SET8(v6, 304, v21);
 SET32(v6, 306, AT32(v6, 392));
 SET16(v6, 310, AT16(v6, 396));
 SET64(v6, 320, v7);
 SET64(v6, 312, a2);
 in_std_alloc_vec_Vec_drop_f8ad6a88bf30276b(RUD_AS v6 + 304u);
 RUD_AGAIN
-if ((a5 & 255u) != 1u) goto L2;
+if ((a5 & 255u) != 1u) goto L3;
 in_std_collections_btree_node_Node_destroy_dc0ad195889b9f50(RUD_AS v8);
 RUD_AGAIN
-goto L2;
-L64:;
-if (v20 != 1u) goto L2;
+goto L3;
+L61:;
+if (v21 != 1u) goto L3;
 in_std_collections_btree_node_Node_destroy_dc0ad195889b9f50(RUD_AS a2);
 RUD_AGAIN
-goto L2;
-L63:;
-switch (v20 - 1u) {
-case 0u: case 1u: case 2u: case 3u: goto L2;
-case 4u: goto L67;
-case 5u: goto L66;
-default: goto L68;
+goto L3;
+L60:;
+switch (v21 - 1u) {
+case 0u: case 1u: case 2u: case 3u: goto L3;
+case 4u: goto L64;
+case 5u: goto L63;
+default: goto L65;
 }
-L68:;
-if (a5 == 0) goto L2;
+L65:;
+if (a5 == 0) goto L3;
 rud_dealloc(RUD_AS a2);
 RUD_AGAIN
-goto L2;
-L67:;
+goto L3;
+L64:;
 SET64(v6, 440, a5);
 SET64(v6, 432, v7);
 SET64(v6, 424, a2);
 in_std_alloc_vec_Vec_drop_f8ad6a88bf30276b(RUD_AS v6 + 424u);
 RUD_AGAIN
-goto L2;
-L66:;
-if ((a2 & 255u) != 1u) goto L2;
+goto L3;
+L63:;
+if ((a2 & 255u) != 1u) goto L3;
 in_std_collections_btree_node_Node_destroy_031b4c9998add48b(RUD_AS v7);
 RUD_AGAIN
-L2:;
+L3:;
 v20 = 0u;
-if (v10 == 0) {
-v19 = 0u;
-goto L1;
-}
+if (v10 == 0) goto L2;
 rud_dealloc(RUD_AS a4);
 RUD_AGAIN
-v19 = 0u;
+L2:;
+v21 = 0u;
 L1:;
 TEST(a0);
 SET8(a0, 1, v20);
-SET8(a0, 0, v19);
+SET8(a0, 0, v21);
 RUD_G0 = v6 + 576u;
 }
 
@@ -8910,17 +7966,28 @@ RUD_HERE
 v4 = RUD_G0 - 432u;
 RUD_G0 = v4;
 if ((s64)v4 >= (s64)16u) {
-if (a2 == 0) goto L14;
+if (a2 == 0) goto L17;
 TEST(a1);
 v18 = AT8(a1, 0);
-switch (v18 - 34u) {
-case 0u: case 5u: goto L13;
-case 1u: case 2u: case 3u: case 4u: goto L14;
-default: goto L15;
+if (v18 <= 90u) {
+if ((u32)(v18 != 34u) & (u32)(v18 != 39u)) goto L17;
+FILL_FEW(v4 + 208u, 0u, 48u);
+if (a2 == 1u) goto L14;
+if (AT8(a1, 1) != v18) goto L14;
+if (a2 >= 3u) {
+i0 = AT8(a1, 2);
+} else {
+i0 = 0u;
 }
-L15:;
+if ((i0 & 255u) != v18) goto L14;
+v5 = a1 + 3u;
+a3 = a2 - 3u;
+if (!(a3 == 0)) goto L16;
+a3 = 0u;
+goto L15;
+}
 if ((u32)(v18 == 91u) | (u32)(v18 == 123u)) goto L11;
-L14:;
+L17:;
 TEST(v4);
 SET32(v4, 288, 0u);
 SET64(v4, 280, 0u);
@@ -8932,13 +7999,13 @@ SET64(v4, 232, v4 + 144u);
 SET64(v4, 216, a2);
 j0 = in_core_iter_base_Iterator_count_af506e600b762b0d(RUD_AS v4 + 208u);
 a3 = j0;
-if (a3 >= a2) goto L16;
-if (GET8(a1 + a3, 0) != 32u) goto L16;
+if (a3 >= a2) goto L20;
+if (GET8(a1 + a3, 0) != 32u) goto L20;
 v6 = a3 + 1u;
-if (a2 <= v6) goto L16;
+if (a2 <= v6) goto L20;
 v5 = a1 + v6;
 TEST(v5);
-if (((AT8(v5, 0) - 48u) & 255u) > 9u) goto L16;
+if (((AT8(v5, 0) - 48u) & 255u) > 9u) goto L20;
 SET8(v4, 146, 0u);
 SET16(v4, 144, 2u);
 SET64(v4, 224, 0u);
@@ -8947,54 +8014,34 @@ SET64(v4, 208, v5);
 SET64(v4, 232, v4 + 144u);
 j0 = in_core_iter_base_Iterator_count_af506e600b762b0d(RUD_AS v4 + 208u);
 a3 = j0 + v6;
-L16:;
+L20:;
 if (a3 != 0u) goto L12;
 v5 = 0u;
 v20 = 12u;
 v19 = 1u;
-v7 = 1u;
+v9 = 1u;
 v6 = a2;
 goto L3;
-L13:;
-TEST(v4);
-SET64(v4, 248, 0u);
-SET64(v4, 240, 0u);
-SET64(v4, 232, 0u);
-SET64(v4, 224, 0u);
-SET64(v4, 216, 0u);
-SET64(v4, 208, 0u);
-if (a2 == 1u) goto L18;
-if (AT8(a1, 1) != v18) goto L18;
-if (a2 >= 3u) {
-i0 = AT8(a1, 2);
-} else {
-i0 = 0u;
-}
-if ((i0 & 255u) != v18) goto L18;
-v5 = a1 + 3u;
-a3 = a2 - 3u;
-if (a3 == 0) {
-a3 = 0u;
-goto L20;
-}
+L16:;
 v19 = AT8(a1, 3);
 if (v19 == 10u) {
 a3 = a2 - 4u;
 v5 = a1 + 4u;
-goto L20;
+goto L15;
 }
-if ((u32)(v19 != 13u) | (u32)(a3 == 1u)) goto L20;
-if (AT8(a1, 4) != 10u) goto L20;
+if ((u32)(v19 != 13u) | (u32)(a3 == 1u)) goto L15;
+if (AT8(a1, 4) != 10u) goto L15;
 a3 = a2 - 5u;
 v5 = a1 + 5u;
-L20:;
+L15:;
 in_toml_parser_string_body(RUD_AS v4 + 208u, v5, a3, v18, 1u);
 RUD_AGAIN
-goto L17;
-L18:;
+goto L13;
+L14:;
 in_toml_parser_string_one_line(RUD_AS v4 + 208u, a1, a2);
 RUD_AGAIN
-L17:;
+L13:;
+TEST(v4);
 v5 = AT64(v4, 232);
 v6 = AT64(v4, 224);
 a2 = AT64(v4, 216);
@@ -9007,7 +8054,7 @@ goto L2;
 }
 v20 = (u32)(a2 >> 8);
 v19 = (u32)a2;
-v7 = 1u;
+v9 = 1u;
 a2 = v6;
 v6 = v5;
 v5 = 0u;
@@ -9025,10 +8072,10 @@ SET64(v4, 304, 4194308u);
 i0 = in_core_cmp_text_RefStrPartialEq_eq(RUD_AS v4 + 400u, v4 + 328u);
 if (i0) {
 v25 = 1u;
-goto L29;
+goto L28;
 }
 i0 = in_core_cmp_text_RefStrPartialEq_eq(RUD_AS v4 + 400u, v4 + 304u);
-if (i0) goto L29;
+if (i0) goto L28;
 SET8(v4, 146, 0u);
 SET16(v4, 144, 3u);
 SET64(v4, 224, 0u);
@@ -9043,25 +8090,21 @@ i0 = GET8(a1 + v6, 0);
 i0 = 0u;
 }
 v18 = i0 & 255u;
-if ((u32)(v18 != 45u) & (u32)(v18 != 58u)) goto L31;
+if ((u32)(v18 != 45u) & (u32)(v18 != 58u)) goto L30;
 TEST(a1);
-if (((AT8(a1, 0) - 48u) & 255u) > 9u) goto L31;
-SET64(v4, 176, 0u);
-SET64(v4, 168, 0u);
-SET64(v4, 160, 0u);
-SET64(v4, 152, 0u);
-SET64(v4, 144, 0u);
-if (a3 < 3u) goto L33;
-if (AT8(a1, 2) != 58u) goto L33;
+if (((AT8(a1, 0) - 48u) & 255u) > 9u) goto L30;
+FILL_FEW(v4 + 144u, 0u, 40u);
+if (a3 < 3u) goto L32;
+if (AT8(a1, 2) != 58u) goto L32;
 in_toml_datetime_parse_partial_time(RUD_AS v4 + 144u, a1, a3);
-if (AT8(v4, 144) != 1u) goto L28;
-if (AT64(v4, 176) != 0u) goto L28;
+if (AT8(v4, 144) != 1u) goto L27;
+if (AT64(v4, 176) != 0u) goto L27;
 v22 = AT32(v4, 160);
-v8 = AT64(v4, 152);
+v10 = AT64(v4, 152);
 v19 = 3u;
 v21 = 1u;
-goto L29;
-L33:;
+goto L28;
+L32:;
 SET64(v4, 208, 0u);
 SET64(v4, 216, 0u);
 SET64(v4, 224, 0u);
@@ -9079,26 +8122,26 @@ SET64(v4, 120, 0u);
 SET64(v4, 128, 0u);
 SET64(v4, 136, 0u);
 in_toml_datetime_parse_two_digits(RUD_AS v4 + 208u, a1, a3);
-if (AT8(v4, 208) != 1u) goto L28;
+if (AT8(v4, 208) != 1u) goto L27;
 v18 = AT8(v4, 216);
 in_toml_datetime_parse_two_digits(RUD_AS v4 + 352u, AT64(v4, 224), AT64(v4, 232));
-if (AT8(v4, 352) != 1u) goto L28;
+if (AT8(v4, 352) != 1u) goto L27;
 v6 = AT64(v4, 376);
-if (v6 == 0) goto L28;
+if (v6 == 0) goto L27;
 v5 = AT64(v4, 368);
 TEST(v5);
-if (AT8(v5, 0) != 45u) goto L28;
+if (AT8(v5, 0) != 45u) goto L27;
 v20 = AT8(v4, 360);
 in_toml_datetime_parse_two_digits(RUD_AS v4 + 48u, v5 + 1u, v6 - 1u);
-if (AT8(v4, 48) != 1u) goto L28;
+if (AT8(v4, 48) != 1u) goto L27;
 v6 = AT64(v4, 72);
-if (v6 == 0) goto L28;
+if (v6 == 0) goto L27;
 v5 = AT64(v4, 64);
 TEST(v5);
-if (AT8(v5, 0) != 45u) goto L28;
+if (AT8(v5, 0) != 45u) goto L27;
 v19 = AT8(v4, 56);
 in_toml_datetime_parse_two_digits(RUD_AS v4 + 112u, v5 + 1u, v6 - 1u);
-if (AT8(v4, 112) != 1u) goto L28;
+if (AT8(v4, 112) != 1u) goto L27;
 v26 = AT8(v4, 120);
 SET8(v4, 91, v26);
 SET8(v4, 90, v19);
@@ -9108,52 +8151,50 @@ v6 = v4 + 88u;
 v20 = 0u;
 if ((s64)RUD_G0 >= (s64)16u) {
 v18 = AT32(v4, 88);
-if ((v18 & 65535u) > 9999u) goto L36;
+if ((v18 & 65535u) > 9999u) goto L35;
 v23 = v18 >> 16;
-if (((v23 - 1u) & 255u) > 11u) goto L36;
-if (v18 & 3u) { i0 = 28u; goto L37; }
+if (((v23 - 1u) & 255u) > 11u) goto L35;
+if (v18 & 3u) { i0 = 28u; goto L36; }
 v24 = v18 & 65535u;
-if ((v24 % 100u)) { i0 = 29u; goto L37; }
+if ((v24 % 100u)) { i0 = 29u; goto L36; }
 i0 = (v24 % 400u) ? 28u : 29u;
-L37:;
+L36:;
 v24 = i0;
 v18 = v18 >> 24;
 v23 = v23 & 255u;
 if (v23 <= 11u) {
-if ((1u << (v23 & 31)) & 2640u) { i0 = 30u; goto L38; }
-if (v23 == 2u) { i0 = v24; goto L38; }
+if ((1u << (v23 & 31)) & 2640u) { i0 = 30u; goto L37; }
+if (v23 == 2u) { i0 = v24; goto L37; }
 }
 i0 = 31u;
-L38:;
+L37:;
 v23 = i0;
-if (v18 == 0) goto L36;
+if (v18 == 0) goto L35;
 v20 = v18 <= v23;
-L36:;
+L35:;
 i0 = v20;
-goto L34;
+goto L33;
 }
 rud_trap();
-L34:;
-if (i0 == 0) goto L28;
+L33:;
+if (i0 == 0) goto L27;
 v6 = AT64(v4, 136);
 v5 = AT64(v4, 128);
-SET64(v4, 240, 0u);
-SET64(v4, 232, 0u);
-SET64(v4, 224, 0u);
-SET64(v4, 216, 0u);
-SET64(v4, 208, 0u);
-if (!(v6 == 0)) {
+FILL_FEW(v4 + 208u, 0u, 40u);
+if (v6 == 0) {
+j0 = 0u;
+} else {
 TEST(v5);
 v18 = AT8(v5, 0);
-if ((u32)(((u32)(v18 == 32u) | (u32)(v18 == 116u)) == 0) & (u32)(v18 != 84u)) goto L28;
+if ((u32)(((u32)(v18 == 32u) | (u32)(v18 == 116u)) == 0) & (u32)(v18 != 84u)) goto L27;
 in_toml_datetime_parse_partial_time(RUD_AS v4 + 208u, v5 + 1u, v6 - 1u);
-if (AT8(v4, 208) != 1u) goto L28;
+if (AT8(v4, 208) != 1u) goto L27;
 v6 = AT64(v4, 240);
 if (v6 == 0) {
 v20 = 0u;
 v5 = 0u;
 j0 = 0u;
-goto L41;
+goto L40;
 }
 v5 = AT64(v4, 232);
 SET64(v4, 352, 0u);
@@ -9167,54 +8208,50 @@ SET64(v4, 72, 0u);
 TEST(v5);
 v18 = AT8(v5, 0);
 switch (v18 - 43u) {
-case 0u: goto L45;
-case 1u: goto L28;
-case 2u: goto L44;
-default: goto L46;
+case 0u: goto L44;
+case 1u: goto L27;
+case 2u: goto L43;
+default: goto L45;
 }
-L46:;
-if ((u32)(v18 != 90u) & (u32)(v18 != 122u)) goto L28;
+L45:;
+if ((u32)(v18 != 90u) & (u32)(v18 != 122u)) goto L27;
 v20 = 0u;
 v5 = 0u;
 j0 = v6 - 1u;
-goto L43;
-L45:;
+goto L42;
+L44:;
 in_toml_datetime_parse_offset_minutes(RUD_AS v4 + 352u, v5 + 1u, v6 - 1u);
-if (AT8(v4, 352) != 1u) goto L28;
+if (AT8(v4, 352) != 1u) goto L27;
 v5 = 65536u;
 v20 = AT16(v4, 360);
 j0 = AT64(v4, 376);
-goto L43;
-L44:;
+goto L42;
+L43:;
 in_toml_datetime_parse_offset_minutes(RUD_AS v4 + 48u, v5 + 1u, v6 - 1u);
-if (AT8(v4, 48) != 1u) goto L28;
+if (AT8(v4, 48) != 1u) goto L27;
 v20 = 0u - AT16(v4, 56);
 v5 = 65536u;
 j0 = AT64(v4, 72);
-L43:;
-if (j0 != 0u) goto L28;
+L42:;
+if (j0 != 0u) goto L27;
 j0 = 1u;
-L41:;
-v10 = (j0 | (v5 & 65536u)) | (((u64)v20 & 65535u) << 32);
+L40:;
+v8 = (j0 | (v5 & 65536u)) | (((u64)v20 & 65535u) << 32);
 v21 = 1u;
 v22 = AT32(v4, 224);
-v8 = AT64(v4, 216);
+j0 = AT64(v4, 216);
 }
-v9 = (((((u64)v19 & 255u) << 32) | ((u64)v27 << 16)) | (((u64)v26 & 255u) << 40)) | 1u;
+v10 = j0;
+v7 = (((((u64)v19 & 255u) << 32) | ((u64)v27 << 16)) | (((u64)v26 & 255u) << 40)) | 1u;
 v19 = 3u;
-goto L29;
-L31:;
-v5 = 0u;
-SET64(v4, 248, 0u);
-SET64(v4, 240, 0u);
-SET64(v4, 232, 0u);
-SET64(v4, 224, 0u);
-SET64(v4, 216, 0u);
-SET64(v4, 208, 0u);
+goto L28;
+L30:;
+v18 = 0u;
+FILL_FEW(v4 + 208u, 0u, 48u);
 i2 = in_toml_parser_number_radix_of(RUD_AS a1, a3);
 v22 = i2 == 16u ? 16u : 10u;
-v18 = 0u;
-L47:;
+v5 = 0u;
+L46:;
 v6 = a1 + v5;
 TEST(v6);
 v19 = AT8(v6, 0);
@@ -9226,12 +8263,12 @@ v21 = AT8(v6, 1);
 if (v19 == 95u) {
 v20 = 13u;
 i0 = in_core_char_digit_value(RUD_AS v18 & 255u);
-if (i0 >= v22) goto L27;
+if (i0 >= v22) goto L26;
 i0 = in_core_char_digit_value(RUD_AS v21);
-if (i0 >= v22) goto L27;
+if (i0 >= v22) goto L26;
 }
 v18 = v19;
-if (a3 != v5) goto L47;
+if (a3 != v5) goto L46;
 SET8(v4, 354, 0u);
 SET16(v4, 352, 24325u);
 SET64(v4, 160, 0u);
@@ -9241,113 +8278,113 @@ SET64(v4, 152, a3);
 j0 = in_core_iter_base_Iterator_count_af506e600b762b0d(RUD_AS v4 + 144u);
 if (j0 == a3) {
 in_toml_parser_number_plain_number(RUD_AS v4 + 208u, a1, a3);
-goto L50;
+goto L49;
 }
-v8 = v4 + 424u;
-SET64(v4, 144, v8);
+v10 = v4 + 424u;
+SET64(v4, 144, v10);
 v13 = v4 + 152u;
-v7 = a1;
+v9 = a1;
 v5 = a3;
-L53:;
+L52:;
 SET64(v4, 160, 0u);
 SET64(v4, 152, 0u);
-v11 = v9 == 0 ? 0ull : v10;
+v11 = v7 == 0 ? 0ull : v8;
+L53:;
+v6 = v9;
 L54:;
-v6 = v7;
-L55:;
-if (v5 == 0) goto L52;
+if (v5 == 0) goto L51;
 v5 = v5 - 1u;
 TEST(v6);
 v18 = AT8(v6, 0);
-v7 = v6 + 1u;
-v6 = v7;
-if (v18 == 95u) goto L55;
-if (v9 != v11) {
-PUT8(v8 + v9, 0, v18);
-v9 = v9 + 1u;
-goto L54;
+v9 = v6 + 1u;
+v6 = v9;
+if (v18 == 95u) goto L54;
+if (v7 != v11) {
+PUT8(v7 + v10, 0, v18);
+v7 = v7 + 1u;
+goto L53;
 }
 SET64(v4, 152, v11);
-SET64(v4, 160, v10);
-if (v10 != v11) goto L58;
+SET64(v4, 160, v8);
+if (v8 != v11) goto L57;
 i0 = in_std_alloc_vec_Vec_grow_amortized_795f5fd3dc7a282e(RUD_AS v4 + 144u, 1u);
 RUD_AGAIN
-v10 = AT64(v4, 160);
+v8 = AT64(v4, 160);
 v11 = AT64(v4, 152);
-if (i0 | (u32)(v10 != v11)) goto L58;
+if (i0 | (u32)(v8 != v11)) goto L57;
 i0 = in_std_alloc_vec_Vec_grow_amortized_795f5fd3dc7a282e(RUD_AS v4 + 144u, 1u);
 RUD_AGAIN
-if (i0 == 0) goto L57;
-v10 = AT64(v4, 160);
+if (i0 == 0) goto L56;
+v8 = AT64(v4, 160);
 v11 = AT64(v4, 152);
-L58:;
-v8 = AT64(v4, 144);
-PUT8(v8 + v11, 0, v18);
-v9 = v11 + 1u;
-SET64(v4, 152, v9);
-goto L53;
 L57:;
+v10 = AT64(v4, 144);
+PUT8(v10 + v11, 0, v18);
+v7 = v11 + 1u;
+SET64(v4, 152, v7);
+goto L52;
+L56:;
 if (!(AT64(v4, 160) == 0)) {
 rud_dealloc(RUD_AS AT64(v4, 144));
 RUD_AGAIN
 }
 v20 = 0u;
-goto L27;
-L52:;
-in_toml_parser_number_plain_number(RUD_AS v4 + 208u, v8, v9);
-if (v10 == 0) goto L50;
-rud_dealloc(RUD_AS v8);
+goto L26;
+L51:;
+in_toml_parser_number_plain_number(RUD_AS v4 + 208u, v10, v7);
+if (v8 == 0) goto L49;
+rud_dealloc(RUD_AS v10);
 RUD_AGAIN
-L50:;
-v10 = AT64(v4, 244);
+L49:;
+v8 = AT64(v4, 244);
 v22 = AT32(v4, 240);
-v8 = AT64(v4, 232);
+v10 = AT64(v4, 232);
 v21 = AT32(v4, 228);
-v9 = AT64(v4, 220);
+v7 = AT64(v4, 220);
 v25 = AT8(v4, 217);
 v19 = AT8(v4, 216);
 v20 = AT8(v4, 209);
-if (AT8(v4, 208)) goto L27;
-L29:;
+if (AT8(v4, 208)) goto L26;
+L28:;
 SET32(v4, 288, v21);
-SET64(v4, 280, v9);
+SET64(v4, 280, v7);
 a2 = AT64(v4, 284);
 v20 = 0u;
-v7 = 0u;
+v9 = 0u;
 v18 = 0u;
 v5 = 0u;
 v6 = 0u;
 v21 = 0u;
 switch ((u32)((u64)v19 & 255u) - 1u) {
-case 0u: case 1u: goto L24;
-case 2u: goto L25;
-default: goto L26;
+case 0u: case 1u: goto L23;
+case 2u: goto L24;
+default: goto L25;
 }
-L28:;
-v20 = 15u;
 L27:;
+v20 = 15u;
+L26:;
 v5 = 0u;
 v18 = v20 & 255u;
 v6 = v18 ? v12 : 0ull;
 a2 = v18 ? a2 : 0ull;
 v21 = 0u;
 v19 = v18 != 0u;
-v7 = 1u;
+v9 = 1u;
 goto L3;
-L26:;
+L25:;
 v20 = v25 & 1u;
 v19 = 3u;
 a2 = 0u;
-goto L24;
-L25:;
+goto L23;
+L24:;
 SET32(v4, 208, v22);
-SET64(v4, 212, v10);
-v18 = (u32)(v10 >> 32);
-v21 = (u32)v9;
+SET64(v4, 212, v8);
+v18 = (u32)(v8 >> 32);
+v21 = (u32)v7;
 v19 = 4u;
 v5 = AT64(v4, 208);
-v6 = v8;
-L24:;
+v6 = v10;
+L23:;
 j0 = a1 + a3;
 goto L2;
 L11:;
@@ -9364,54 +8401,38 @@ SET16(a0, 8, 4609u);
 SET64(a0, 56, 0u);
 goto L1;
 }
-v9 = a3 - 1u;
+v10 = a3 - 1u;
 a2 = a2 - 1u;
-a3 = a1 + 1u;
+a1 = a1 + 1u;
 if (v18 == 91u) {
+FILL_FEW(v4 + 208u, 0u, 64u);
+FILL_FEW(v4 + 144u, 0u, 48u);
+FILL_FEW(v4 + 48u, 0u, 40u);
 TEST(v4);
-SET64(v4, 208, 0u);
-SET64(v4, 216, 0u);
-SET64(v4, 224, 0u);
-SET64(v4, 232, 0u);
-SET64(v4, 240, 0u);
-SET64(v4, 248, 0u);
-SET64(v4, 256, 0u);
-SET64(v4, 264, 0u);
-SET64(v4, 144, 0u);
-SET64(v4, 152, 0u);
-SET64(v4, 160, 0u);
-SET64(v4, 168, 0u);
-SET64(v4, 176, 0u);
-SET64(v4, 184, 0u);
-SET64(v4, 48, 0u);
-SET64(v4, 56, 0u);
-SET64(v4, 64, 0u);
-SET64(v4, 72, 0u);
-SET64(v4, 80, 0u);
 SET64(v4, 136, 0u);
 SET64(v4, 128, 0u);
 SET64(v4, 120, 0u);
 SET64(v4, 112, 0u);
-SET64(v4, 416, 0u);
 SET64(v4, 408, 0u);
+SET64(v4, 416, 0u);
 SET64(v4, 400, v4 + 424u);
-v6 = v4 + 72u;
-v5 = v4 + 240u;
-L64:;
-in_toml_parser_text_skip_blank(RUD_AS v4 + 8u, a3, a2, 1u);
+a3 = v4 + 72u;
+v6 = v4 + 240u;
+L63:;
+in_toml_parser_text_skip_blank(RUD_AS v4 + 8u, a1, a2, 1u);
 a2 = AT64(v4, 8);
-a3 = AT64(v4, 16);
-if (!(a3 == 0)) {
+a1 = AT64(v4, 16);
+if (!(a1 == 0)) {
 TEST(a2);
-if (AT8(a2, 0) == 93u) goto L61;
+if (AT8(a2, 0) == 93u) goto L60;
 }
-in_toml_de_value_value(RUD_AS v4 + 208u, a2, a3, v9);
+in_toml_de_value_value(RUD_AS v4 + 208u, a2, a1, v10);
 RUD_AGAIN
 a1 = AT64(v4, 232);
 a2 = AT64(v4, 224);
 v19 = AT8(v4, 217);
 v20 = AT8(v4, 216);
-if (AT8(v4, 208)) goto L63;
+if (AT8(v4, 208)) goto L62;
 SET64(v4, 72, AT64(v4, 240));
 SET32(v4, 80, AT32(v4, 248));
 SET64(v4, 64, a1);
@@ -9428,14 +8449,14 @@ in_toml_de_value_after_element(RUD_AS v4 + 112u, a2, a1, 93u, 8u);
 v20 = AT8(v4, 120);
 v19 = AT8(v4, 121);
 v18 = AT8(v4, 112);
-a3 = (((u64)v20 & 255u) | (((u64)v19 & 255u) << 8)) | (v18 ? 0ull : (((u64)AT16(v4, 126) << 48) | ((u64)AT32(v4, 122) << 16)));
+a1 = (((u64)v20 & 255u) | (((u64)v19 & 255u) << 8)) | (v18 ? 0ull : (((u64)AT16(v4, 126) << 48) | ((u64)AT32(v4, 122) << 16)));
 a2 = AT64(v4, 128);
-if (v18 == 0) goto L64;
+if (v18 == 0) goto L63;
 a1 = AT64(v4, 136);
 in_std_alloc_vec_Vec_drop_f8ad6a88bf30276b(RUD_AS v4 + 400u);
 RUD_AGAIN
 goto L4;
-L63:;
+L62:;
 in_std_alloc_vec_Vec_drop_f8ad6a88bf30276b(RUD_AS v4 + 400u);
 RUD_AGAIN
 goto L4;
@@ -9446,31 +8467,24 @@ SET64(v4, 56, 0u);
 SET64(v4, 64, 0u);
 SET64(v4, 72, 0u);
 FILL_FEW(v4 + 208u, 0u, 72u);
-SET64(v4, 200, 0u);
-SET64(v4, 192, 0u);
-SET64(v4, 184, 0u);
-SET64(v4, 176, 0u);
-SET64(v4, 168, 0u);
-SET64(v4, 160, 0u);
-SET64(v4, 152, 0u);
-SET64(v4, 144, 0u);
-SET64(v4, 112, 0u);
-SET64(v4, 120, 0u);
-SET64(v4, 128, 0u);
+FILL_FEW(v4 + 144u, 0u, 64u);
 SET64(v4, 136, 0u);
+SET64(v4, 128, 0u);
+SET64(v4, 120, 0u);
+SET64(v4, 112, 0u);
 SET64(v4, 304, 0u);
 SET64(v4, 312, 0u);
 SET64(v4, 320, 0u);
-v10 = v4 + 384u;
-v7 = v4 + 360u;
-v11 = v4 + 176u;
-L66:;
-in_toml_parser_text_skip_blank(RUD_AS v4 + 32u, a3, a2, 1u);
+v7 = v4 + 384u;
+v13 = v4 + 360u;
+v8 = v4 + 176u;
+L65:;
+in_toml_parser_text_skip_blank(RUD_AS v4 + 32u, a1, a2, 1u);
 a2 = AT64(v4, 32);
-a3 = AT64(v4, 40);
-if (a3 == 0) goto L67;
+a1 = AT64(v4, 40);
+if (a1 == 0) goto L66;
 TEST(a2);
-if (AT8(a2, 0) != 125u) goto L67;
+if (AT8(a2, 0) != 125u) goto L66;
 SET64(v4, 280, (u64)AT8(v4, 304));
 SET64(v4, 288, AT64(v4, 312));
 SET64(v4, 296, AT64(v4, 320));
@@ -9480,62 +8494,58 @@ if (AT8(v4, 48) == 0) goto L8;
 a2 = 0u;
 v20 = 0u;
 v19 = 0u;
-v6 = 0u;
+v5 = 0u;
 goto L5;
-L67:;
-in_toml_de_value_key_equals(RUD_AS v4 + 208u, a2, a3);
+L66:;
+in_toml_de_value_key_equals(RUD_AS v4 + 208u, a2, a1);
 RUD_AGAIN
 v19 = AT8(v4, 217);
 v20 = AT8(v4, 216);
-v6 = AT64(v4, 232);
+v5 = AT64(v4, 232);
 a2 = AT64(v4, 224);
 if (AT8(v4, 208) == 0) {
-a1 = (u64)AT16(v4, 222);
-v12 = AT64(v4, 256);
+a3 = (u64)AT16(v4, 222);
+v11 = AT64(v4, 256);
 v14 = AT64(v4, 248);
-v13 = AT64(v4, 240);
-v5 = (u64)AT32(v4, 218);
+v12 = AT64(v4, 240);
+v6 = (u64)AT32(v4, 218);
 v15 = AT64(v4, 272);
-in_toml_de_value_value(RUD_AS v4 + 144u, AT64(v4, 264), v15, v9);
+in_toml_de_value_value(RUD_AS v4 + 144u, AT64(v4, 264), v15, v10);
 RUD_AGAIN
-v8 = (((u64)v20 & 255u) | (((u64)v19 & 255u) << 8)) | ((a1 << 48) | (v5 << 16));
-a1 = AT64(v4, 168);
-v5 = AT64(v4, 160);
+v9 = (((u64)v20 & 255u) | (((u64)v19 & 255u) << 8)) | ((a3 << 48) | (v6 << 16));
+a3 = AT64(v4, 168);
+v6 = AT64(v4, 160);
 v19 = AT8(v4, 153);
 v20 = AT8(v4, 152);
-if (AT8(v4, 144)) goto L69;
+if (AT8(v4, 144)) goto L68;
 v16 = AT64(v4, 200);
 v17 = AT64(v4, 192);
 v18 = AT32(v4, 156);
-SET64(v4, 392, 0u);
-SET64(v4, 384, 0u);
-SET64(v4, 376, 0u);
-SET64(v4, 368, 0u);
-SET64(v4, 360, 0u);
+FILL_FEW(v13, 0u, 40u);
 SET64(v4, 384, AT64(v4, 176));
 SET32(v4, 392, AT32(v4, 184));
-SET64(v4, 416, v12);
+SET64(v4, 416, v11);
 SET64(v4, 408, v14);
-SET64(v4, 400, v13);
-SET64(v4, 352, 0u);
-SET64(v4, 376, a1);
-SET64(v4, 368, v5);
+SET64(v4, 400, v12);
+SET64(v4, 376, a3);
+SET64(v4, 368, v6);
 SET32(v4, 364, v18);
 SET8(v4, 361, v19);
 SET8(v4, 360, v20);
-in_toml_de_tables_along_dots(RUD_AS v4 + 24u, v4 + 304u, v8, a2, v4 + 400u, v4 + 352u);
+SET64(v4, 352, 0u);
+in_toml_de_tables_along_dots(RUD_AS v4 + 24u, v4 + 304u, v9, a2, v4 + 400u, v4 + 352u);
 RUD_AGAIN
-SET64(v4, 344, v6);
+SET64(v4, 344, v5);
 SET64(v4, 336, a2);
-SET64(v4, 328, v8);
+SET64(v4, 328, v9);
 v19 = AT8(v4, 25);
 i0 = AT8(v4, 24);
 in_std_alloc_vec_Vec_drop_95beaedac91b374b(RUD_AS v4 + 328u);
 RUD_AGAIN
-if (i0 == 0) goto L68;
+if (i0 == 0) goto L67;
 v18 = v19 & 255u;
-v6 = v18 ? v15 : 0ull;
-a2 = v18 ? a3 : 0ull;
+v5 = v18 ? v15 : 0ull;
+a2 = v18 ? a1 : 0ull;
 v20 = v18 != 0u;
 if (AT8(v4, 304) != 1u) goto L5;
 in_std_collections_btree_node_Node_destroy_dc0ad195889b9f50(RUD_AS AT64(v4, 312));
@@ -9546,34 +8556,34 @@ if (AT8(v4, 304) != 1u) goto L5;
 in_std_collections_btree_node_Node_destroy_dc0ad195889b9f50(RUD_AS AT64(v4, 312));
 RUD_AGAIN
 goto L5;
-L69:;
-SET64(v4, 104, v6);
+L68:;
+SET64(v4, 104, v5);
 SET64(v4, 96, a2);
-SET64(v4, 88, v8);
+SET64(v4, 88, v9);
 in_std_alloc_vec_Vec_drop_95beaedac91b374b(RUD_AS v4 + 88u);
 RUD_AGAIN
-if (!(v12 == 0)) {
-rud_dealloc(RUD_AS v13);
+if (!(v11 == 0)) {
+rud_dealloc(RUD_AS v12);
 RUD_AGAIN
 }
 if (AT8(v4, 304) != 1u) goto L6;
 in_std_collections_btree_node_Node_destroy_dc0ad195889b9f50(RUD_AS AT64(v4, 312));
 RUD_AGAIN
 goto L6;
-L68:;
+L67:;
 in_toml_de_value_after_element(RUD_AS v4 + 112u, v17, v16, 125u, 9u);
 v20 = AT8(v4, 120);
 v19 = AT8(v4, 121);
 v18 = AT8(v4, 112);
-a3 = (((u64)v20 & 255u) | (((u64)v19 & 255u) << 8)) | (v18 ? 0ull : (((u64)AT16(v4, 126) << 48) | ((u64)AT32(v4, 122) << 16)));
+a1 = (((u64)v20 & 255u) | (((u64)v19 & 255u) << 8)) | (v18 ? 0ull : (((u64)AT16(v4, 126) << 48) | ((u64)AT32(v4, 122) << 16)));
 a2 = AT64(v4, 128);
-if (v18 == 0) goto L66;
-v6 = AT64(v4, 136);
+if (v18 == 0) goto L65;
+v5 = AT64(v4, 136);
 if (AT8(v4, 304) != 1u) goto L5;
 in_std_collections_btree_node_Node_destroy_dc0ad195889b9f50(RUD_AS AT64(v4, 312));
 RUD_AGAIN
 goto L5;
-L61:;
+L60:;
 v5 = AT64(v4, 408);
 v6 = AT64(v4, 400);
 v19 = 5u;
@@ -9583,22 +8593,19 @@ goto L7;
 rud_trap();
 L9:;
 v18 = AT16(v4, 152);
-a2 = 0u;
-SET64(v4, 352, 0u);
-SET64(v4, 360, 0u);
-SET64(v4, 368, 0u);
-SET64(v4, 376, 0u);
-SET64(v4, 384, 0u);
+v20 = 0u;
+a1 = v4 + 352u;
+FILL_FEW(a1, 0u, 40u);
 SET16(v4, 352, v18);
 SET64(v4, 356, AT64(v4, 156));
 SET64(v4, 364, AT64(v4, 164));
 SET64(v4, 372, AT64(v4, 172));
 SET64(v4, 380, AT64(v4, 180));
-in_toml_toml_value_Value_Destruct_drop(RUD_AS v4 + 352u);
+in_toml_toml_value_Value_Destruct_drop(RUD_AS a1);
 RUD_AGAIN
 in_std_alloc_vec_Vec_drop_f8ad6a88bf30276b(RUD_AS v4 + 400u);
 RUD_AGAIN
-v20 = 0u;
+a2 = 0u;
 v19 = 0u;
 a1 = 0u;
 goto L4;
@@ -9608,13 +8615,13 @@ v6 = (u64)AT8(v4, 56);
 v19 = 6u;
 j0 = AT64(v4, 72);
 L7:;
-a1 = j0;
+a3 = j0;
 TEST(a0);
 SET64(a0, 0, 0u);
-SET64(a0, 56, a3 - 1u);
+SET64(a0, 56, a1 - 1u);
 SET64(a0, 48, a2 + 1u);
 SET32(a0, 40, 0u);
-SET64(a0, 32, a1);
+SET64(a0, 32, a3);
 SET64(a0, 24, v5);
 SET64(a0, 16, v6);
 SET32(a0, 12, 0u);
@@ -9622,14 +8629,14 @@ SET8(a0, 9, 0u);
 SET8(a0, 8, v19);
 goto L1;
 L6:;
-a2 = v5;
-v6 = a1;
+a2 = v6;
+v5 = a3;
 L5:;
 TEST(a0);
 SET64(a0, 48, 0u);
 SET32(a0, 40, 0u);
 SET64(a0, 32, 0u);
-SET64(a0, 24, v6);
+SET64(a0, 24, v5);
 SET64(a0, 16, a2);
 SET32(a0, 12, 0u);
 SET8(a0, 9, v19);
@@ -9657,7 +8664,7 @@ j0 = 0u;
 L2:;
 a1 = j0;
 TEST(a0);
-SET64(a0, 0, v7);
+SET64(a0, 0, v9);
 SET64(a0, 56, v12);
 SET64(a0, 48, a1);
 SET32(a0, 40, v18);
@@ -9673,7 +8680,7 @@ RUD_G0 = v4 + 432u;
 
 static void in_toml_de_tables_along_header(RUD_IT u64 a0, u64 a1, u64 a2, u64 a3, u64 a4, u64 a5, u64 a6, u64 a7) {
 u32 v21 = 0, v22 = 0, v23 = 0, v24 = 0, v25 = 0, v26 = 0, v27 = 0, v28 = 0, v29 = 0, v30 = 0, v31 = 0, v32 = 0;
-u32 v33 = 0, v34 = 0;
+u32 v33 = 0;
 u64 v8 = 0, v9 = 0, v10 = 0, v11 = 0, v12 = 0, v13 = 0, v14 = 0, v15 = 0, v16 = 0, v17 = 0, v18 = 0, v19 = 0;
 u64 v20 = 0, j0 = 0, j1 = 0;
 RUD_HERE
@@ -9683,14 +8690,14 @@ if ((s64)v8 >= (s64)16u) {
 TEST(a7);
 v20 = AT64(a7, 16);
 v10 = v20 >> 8;
-v33 = AT8(a7, 0);
-v16 = (u64)v33 & 255u;
+v25 = AT8(a7, 0);
+v16 = (u64)v25 & 255u;
 v27 = AT32(a7, 40);
 v11 = AT64(a7, 32);
 v12 = AT64(a7, 24);
 v28 = AT32(a7, 12);
 v29 = AT8(a7, 9);
-v25 = AT8(a7, 8);
+v26 = AT8(a7, 8);
 v24 = (u32)v20;
 TEST(a6);
 v14 = AT64(a6, 16);
@@ -9703,34 +8710,18 @@ SET64(v8, 344, 0u);
 SET64(v8, 320, 0u);
 SET64(v8, 328, 0u);
 SET64(v8, 336, 0u);
-SET64(v8, 272, 0u);
-SET64(v8, 280, 0u);
-SET64(v8, 288, 0u);
-SET64(v8, 296, 0u);
-SET64(v8, 304, 0u);
-SET64(v8, 312, 0u);
-SET64(v8, 248, 0u);
-SET64(v8, 256, 0u);
+FILL_FEW(v8 + 272u, 0u, 48u);
 SET64(v8, 264, 0u);
-SET64(v8, 200, 0u);
-SET64(v8, 208, 0u);
-SET64(v8, 216, 0u);
-SET64(v8, 224, 0u);
-SET64(v8, 232, 0u);
-SET64(v8, 240, 0u);
+SET64(v8, 256, 0u);
+SET64(v8, 248, 0u);
+FILL_FEW(v8 + 200u, 0u, 48u);
 SET64(v8, 192, 0u);
 SET64(v8, 184, 0u);
 SET64(v8, 176, 0u);
 SET64(v8, 168, 0u);
-SET64(v8, 112, 0u);
-SET64(v8, 120, 0u);
-SET64(v8, 128, 0u);
-SET64(v8, 136, 0u);
-SET64(v8, 144, 0u);
-SET64(v8, 152, 0u);
-SET64(v8, 160, 0u);
-SET32(v8, 104, 0u);
+FILL_FEW(v8 + 112u, 0u, 56u);
 SET16(v8, 108, 0u);
+SET32(v8, 104, 0u);
 SET64(v8, 80, 0u);
 SET64(v8, 88, 0u);
 SET64(v8, 96, 0u);
@@ -9750,13 +8741,13 @@ SET64(v8, 296, v12);
 SET8(v8, 288, v24);
 SET32(v8, 284, v28);
 SET8(v8, 281, v29);
-SET8(v8, 280, v25);
+SET8(v8, 280, v26);
 SET64(v8, 272, v16);
 in_toml_de_tables_along_dots(RUD_AS v8 + 8u, a1, a4, a5, v8 + 320u, v8 + 272u);
 RUD_AGAIN
-v22 = AT8(v8, 9);
-v21 = AT8(v8, 8);
-goto L2;
+v21 = AT8(v8, 9);
+v23 = AT8(v8, 8);
+goto L1;
 }
 TEST(a2);
 in_std_collections_btree_map_BTreeMap_get_mut_73c392a72f38babf(RUD_AS v8 + 40u, a1, AT64(a2, 0), AT64(a2, 8));
@@ -9764,63 +8755,46 @@ v18 = a3 - 1u;
 v19 = a2 + 24u;
 if (AT8(v8, 40) == 1u) {
 v9 = AT64(v8, 48);
-a1 = v9 + 9u;
-TEST(a1);
-v34 = AT8(a1, 0);
-a6 = AT64(a1, 7);
-v26 = AT16(a1, 5);
-a7 = v9 + 10u;
-v21 = AT32(a1, 1);
-SET64(a1, 0, 0u);
-v13 = AT64(a1, 15);
-SET64(a1, 8, 0u);
-a3 = AT64(a1, 23);
-SET64(a1, 16, 0u);
-v22 = AT32(a1, 31);
-SET64(a1, 24, 0u);
-v23 = AT32(a1, 35);
-a1 = v9 + 48u;
-TEST(a1);
-a2 = AT64(a1, 0);
-TEST(v9);
-SET64(v9, 41, 0u);
-SET64(a1, 0, 0u);
 a1 = v9 + 8u;
-v30 = AT8(v9, 8);
-SET8(v9, 8, 3u);
-v31 = AT8(v9, 1);
-v32 = AT8(v9, 0);
+TEST(a1);
+v31 = AT8(a1, 0);
+SET8(a1, 0, 3u);
+TEST(v9);
+v32 = AT8(v9, 1);
+v33 = AT8(v9, 0);
 SET16(v9, 0, 0u);
-SET32(v8, 368, v21);
-SET16(v8, 372, v26);
-SET64(v8, 504, 0u);
-SET64(v8, 512, 0u);
-SET64(v8, 520, 0u);
-SET64(v8, 528, 0u);
-SET64(v8, 536, 0u);
-SET64(v8, 432, 0u);
-SET64(v8, 440, 0u);
-SET64(v8, 448, 0u);
-SET64(v8, 456, 0u);
-SET64(v8, 464, 0u);
-a1 = a6 >> 8;
-v21 = (u32)a6;
+a7 = v9 + 10u;
+SET32(v8, 368, AT32(a1, 2));
+SET16(v8, 372, AT16(a1, 6));
+a2 = v9 + 9u;
+v21 = AT8(a1, 1);
+v13 = AT64(a1, 16);
+a6 = AT64(a1, 24);
+v23 = AT32(a1, 32);
+v22 = AT32(a1, 36);
+a1 = AT64(a1, 40);
+a3 = AT64(v9, 16);
+FILL_FEW(a2, 0u, 47u);
+FILL_FEW(v8 + 504u, 0u, 40u);
+FILL_FEW(v8 + 432u, 0u, 40u);
+a2 = a3 >> 8;
+v30 = (u32)a3;
 j0 = v9 + 48u;
-switch ((u32)((u64)v32 & 255u) - 1u) {
-case 0u: goto L13;
-case 1u: goto L12;
-default: goto L9;
+switch ((u32)((u64)v33 & 255u) - 1u) {
+case 0u: goto L14;
+case 1u: goto L13;
+default: goto L10;
 }
-L13:;
-SET32(v8, 625, (u32)a1);
-SET8(v8, 631, (u32)(a1 >> 48));
-SET16(v8, 629, (u32)(a1 >> 32));
+L14:;
+SET32(v8, 625, (u32)a2);
+SET8(v8, 631, (u32)(a2 >> 48));
+SET16(v8, 629, (u32)(a2 >> 32));
 SET32(v8, 513, (u32)v10);
 SET8(v8, 519, (u32)(v10 >> 48));
 SET16(v8, 517, (u32)(v10 >> 32));
 SET64(v8, 632, v13);
-SET8(v8, 624, v21);
-SET64(v8, 616, (u64)v30);
+SET8(v8, 624, v30);
+SET64(v8, 616, (u64)v31);
 SET64(v8, 560, v14);
 SET64(v8, 552, v17);
 SET64(v8, 544, v15);
@@ -9830,42 +8804,41 @@ SET64(v8, 520, v12);
 SET8(v8, 512, v24);
 SET32(v8, 508, v28);
 SET8(v8, 505, v29);
-SET8(v8, 504, v25);
+SET8(v8, 504, v26);
 SET64(v8, 496, v16);
 in_toml_de_tables_along_header(RUD_AS v8 + 16u, v8 + 616u, v19, v18, a4, a5, v8 + 544u, v8 + 496u);
 RUD_AGAIN
-v23 = AT8(v8, 616);
+v22 = AT8(v8, 616);
 if (AT8(v8, 16) == 0) {
-a6 = (u64)v23 & 255u;
+a6 = (u64)v22 & 255u;
 a4 = 0u;
 v13 = AT64(v8, 632);
 a2 = AT64(v8, 624);
 a3 = 0u;
 j1 = 0u;
-goto L11;
+goto L12;
 }
-v22 = AT8(v8, 17);
-if (v23 != 1u) goto L8;
+v21 = AT8(v8, 17);
+if (v22 != 1u) goto L9;
 in_std_collections_btree_node_Node_destroy_dc0ad195889b9f50(RUD_AS AT64(v8, 624));
 RUD_AGAIN
-v21 = 1u;
-goto L2;
-L12:;
-SET32(v8, 601, (u32)a1);
-SET8(v8, 607, (u32)(a1 >> 48));
-SET16(v8, 605, (u32)(a1 >> 32));
+goto L9;
+L13:;
+SET32(v8, 601, (u32)a2);
+SET8(v8, 607, (u32)(a2 >> 48));
+SET16(v8, 605, (u32)(a2 >> 32));
 SET32(v8, 441, (u32)v10);
 SET8(v8, 447, (u32)(v10 >> 48));
 SET16(v8, 445, (u32)(v10 >> 32));
-SET8(v8, 593, v34);
-SET8(v8, 592, v30);
+SET8(v8, 593, v21);
+SET8(v8, 592, v31);
 SET32(v8, 594, AT32(v8, 368));
 SET16(v8, 598, AT16(v8, 372));
 SET64(v8, 608, v13);
-SET8(v8, 600, v21);
-SET64(v8, 584, a2);
-SET32(v8, 580, v23);
-SET32(v8, 576, v22);
+SET8(v8, 600, v30);
+SET64(v8, 584, a1);
+SET32(v8, 580, v22);
+SET32(v8, 576, v23);
 SET64(v8, 488, v14);
 SET64(v8, 480, v17);
 SET64(v8, 472, v15);
@@ -9875,26 +8848,26 @@ SET64(v8, 448, v12);
 SET8(v8, 440, v24);
 SET32(v8, 436, v28);
 SET8(v8, 433, v29);
-SET8(v8, 432, v25);
+SET8(v8, 432, v26);
 SET64(v8, 424, v16);
-SET64(v8, 568, a3 & 255u);
+SET64(v8, 568, a6 & 255u);
 in_toml_de_tables_along_header(RUD_AS v8 + 24u, v8 + 568u, v19, v18, a4, a5, v8 + 472u, v8 + 424u);
 RUD_AGAIN
-if (AT8(v8, 24)) goto L10;
-v31 = 0u;
+if (AT8(v8, 24)) goto L11;
+v32 = 0u;
 a3 = AT64(v8, 576);
 a4 = (u64)AT8(v8, 568);
 a2 = AT64(v8, 600);
 a6 = AT64(v8, 592);
 j1 = AT64(v8, 584);
-L11:;
+L12:;
 SET64(v9, 48, j1);
-SET8(v9, 1, v31);
+SET8(v9, 1, v32);
 v21 = AT8(v9, 9);
 a1 = v9 + 8u;
-v26 = AT8(v9, 8);
-v22 = AT16(v9, 14);
-v23 = AT32(v9, 10);
+v25 = AT8(v9, 8);
+v23 = AT16(v9, 14);
+v22 = AT32(v9, 10);
 SET64(v9, 8, a6);
 a1 = v9 + 16u;
 a7 = AT64(v9, 16);
@@ -9909,40 +8882,39 @@ a1 = v9 + 40u;
 a2 = AT64(v9, 40);
 SET64(v9, 40, a3);
 j0 = (u64)AT8(v9, 0);
-SET8(v9, 0, v32);
-SET32(v8, 104, v23);
-SET16(v8, 108, v22);
+SET8(v9, 0, v33);
+SET32(v8, 104, v22);
+SET16(v8, 108, v23);
 a3 = a7 >> 8;
-v23 = (u32)a7;
+v22 = (u32)a7;
 switch ((u32)j0 - 1u) {
-case 0u: goto L6;
-case 1u: goto L5;
-default: goto L7;
+case 0u: goto L7;
+case 1u: goto L6;
+default: goto L8;
 }
-L10:;
-v22 = AT8(v8, 25);
+L11:;
+v21 = AT8(v8, 25);
 if (AT8(v8, 568) == 1u) {
 in_std_collections_btree_node_Node_destroy_dc0ad195889b9f50(RUD_AS AT64(v8, 576));
 RUD_AGAIN
 }
 in_std_alloc_vec_Vec_drop_f8ad6a88bf30276b(RUD_AS v8 + 592u);
 RUD_AGAIN
-v21 = 1u;
-goto L2;
-L9:;
-if (v33) goto L16;
-switch (v25 - 1u) {
-case 0u: case 1u: case 2u: case 3u: goto L16;
-case 4u: goto L18;
-case 5u: goto L17;
-default: goto L19;
+goto L9;
+L10:;
+if (v25) goto L17;
+switch (v26 - 1u) {
+case 0u: case 1u: case 2u: case 3u: goto L17;
+case 4u: goto L19;
+case 5u: goto L18;
+default: goto L20;
 }
-L19:;
-if (v11 == 0) goto L16;
+L20:;
+if (v11 == 0) goto L17;
 rud_dealloc(RUD_AS v20);
 RUD_AGAIN
-goto L16;
-L18:;
+goto L17;
+L19:;
 SET64(v8, 416, v11);
 SET64(v8, 408, v12);
 SET8(v8, 400, v24);
@@ -9951,110 +8923,96 @@ SET8(v8, 407, (u32)(v10 >> 48));
 SET16(v8, 405, (u32)(v10 >> 32));
 in_std_alloc_vec_Vec_drop_f8ad6a88bf30276b(RUD_AS v8 + 400u);
 RUD_AGAIN
-goto L16;
-L17:;
-if ((v24 & 255u) != 1u) goto L16;
+goto L17;
+L18:;
+if ((v24 & 255u) != 1u) goto L17;
 in_std_collections_btree_node_Node_destroy_031b4c9998add48b(RUD_AS v12);
 RUD_AGAIN
-L16:;
+L17:;
 if (!(v14 == 0)) {
 rud_dealloc(RUD_AS v15);
 RUD_AGAIN
 }
-v22 = 17u;
-switch (v30 - 1u) {
-case 0u: case 1u: case 2u: case 3u: goto L8;
-case 4u: goto L21;
-case 5u: goto L22;
-default: goto L23;
+v21 = 17u;
+switch (v31 - 1u) {
+case 0u: case 1u: case 2u: case 3u: goto L9;
+case 4u: goto L22;
+case 5u: goto L23;
+default: goto L24;
 }
-L23:;
-if (a3 == 0) goto L8;
-rud_dealloc(RUD_AS a6);
+L24:;
+if (a6 == 0) goto L9;
+rud_dealloc(RUD_AS a3);
 RUD_AGAIN
-v21 = 1u;
-goto L2;
-L22:;
-if ((v21 & 255u) != 1u) goto L8;
+goto L9;
+L23:;
+if ((v30 & 255u) != 1u) goto L9;
 in_std_collections_btree_node_Node_destroy_031b4c9998add48b(RUD_AS v13);
 RUD_AGAIN
-v21 = 1u;
-goto L2;
-L21:;
-SET64(v8, 392, a3);
+goto L9;
+L22:;
+SET64(v8, 392, a6);
 SET64(v8, 384, v13);
-SET8(v8, 376, v21);
-SET32(v8, 377, (u32)a1);
-SET8(v8, 383, (u32)(a1 >> 48));
-SET16(v8, 381, (u32)(a1 >> 32));
+SET8(v8, 376, v30);
+SET32(v8, 377, (u32)a2);
+SET8(v8, 383, (u32)(a2 >> 48));
+SET16(v8, 381, (u32)(a2 >> 32));
 in_std_alloc_vec_Vec_drop_f8ad6a88bf30276b(RUD_AS v8 + 376u);
 RUD_AGAIN
+L9:;
+v23 = 1u;
+goto L1;
 L8:;
-v21 = 1u;
-goto L2;
-L7:;
-v22 = 0u;
 v21 = 0u;
-switch (v26 - 1u) {
-case 0u: case 1u: case 2u: case 3u: goto L2;
-case 4u: goto L25;
-case 5u: goto L24;
-default: goto L26;
+v23 = 0u;
+switch (v25 - 1u) {
+case 0u: case 1u: case 2u: case 3u: goto L1;
+case 4u: goto L26;
+case 5u: goto L25;
+default: goto L27;
 }
-L26:;
-if (a5 == 0) {
-goto L2;
-}
+L27:;
+if (a5 == 0) goto L2;
 rud_dealloc(RUD_AS a7);
 RUD_AGAIN
 goto L2;
-L25:;
+L26:;
 SET64(v8, 96, a5);
 SET64(v8, 88, a6);
-SET8(v8, 80, v23);
+SET8(v8, 80, v22);
 SET32(v8, 81, (u32)a3);
 SET8(v8, 87, (u32)(a3 >> 48));
 SET16(v8, 85, (u32)(a3 >> 32));
 in_std_alloc_vec_Vec_drop_f8ad6a88bf30276b(RUD_AS v8 + 80u);
 RUD_AGAIN
 goto L2;
-L24:;
-if ((v23 & 255u) != 1u) {
-goto L2;
-}
+L25:;
+if ((v22 & 255u) != 1u) goto L2;
 in_std_collections_btree_node_Node_destroy_031b4c9998add48b(RUD_AS a6);
 RUD_AGAIN
 goto L2;
-L6:;
-v22 = 0u;
-if (v26 != 1u) {
+L7:;
 v21 = 0u;
-goto L2;
-}
+if (v25 != 1u) goto L2;
 in_std_collections_btree_node_Node_destroy_dc0ad195889b9f50(RUD_AS a7);
 RUD_AGAIN
-v21 = 0u;
 goto L2;
-L5:;
+L6:;
 SET32(v8, 65, (u32)a3);
 SET8(v8, 71, (u32)(a3 >> 48));
 SET16(v8, 69, (u32)(a3 >> 32));
 SET8(v8, 57, v21);
-SET8(v8, 56, v26);
+SET8(v8, 56, v25);
 SET32(v8, 58, AT32(v8, 104));
 SET16(v8, 62, AT16(v8, 108));
 SET64(v8, 72, a6);
-SET8(v8, 64, v23);
+SET8(v8, 64, v22);
 in_std_alloc_vec_Vec_drop_f8ad6a88bf30276b(RUD_AS v8 + 56u);
 RUD_AGAIN
-v22 = 0u;
-if ((a5 & 255u) != 1u) {
 v21 = 0u;
-goto L2;
-}
+if ((a5 & 255u) != 1u) goto L2;
 in_std_collections_btree_node_Node_destroy_dc0ad195889b9f50(RUD_AS a2);
 RUD_AGAIN
-v21 = 0u;
 goto L2;
 }
 SET32(v8, 217, (u32)v10);
@@ -10072,42 +9030,44 @@ SET64(v8, 224, v12);
 SET8(v8, 216, v24);
 SET32(v8, 212, v28);
 SET8(v8, 209, v29);
-SET8(v8, 208, v25);
+SET8(v8, 208, v26);
 SET64(v8, 200, v16);
 in_toml_de_tables_along_header(RUD_AS v8 + 32u, v8 + 344u, v19, v18, a4, a5, v8 + 248u, v8 + 200u);
 RUD_AGAIN
 if (AT8(v8, 32) == 0) {
 in_std_alloc_string_methods_StringClone_clone_23d1122e78b2f742(RUD_AS v8 + 168u, a2);
 RUD_AGAIN
-v23 = AT8(v8, 344);
-if (AT8(v8, 168)) goto L31;
+v22 = AT8(v8, 344);
+if (AT8(v8, 168)) goto L28;
 SET64(v8, 136, AT64(v8, 360));
 SET64(v8, 128, AT64(v8, 352));
-SET64(v8, 120, (u64)v23 & 255u);
+SET64(v8, 120, (u64)v22 & 255u);
 SET16(v8, 112, 1u);
-v21 = in_toml_de_tables_insert(RUD_AS a1, v8 + 176u, v8 + 112u);
+v23 = in_toml_de_tables_insert(RUD_AS a1, v8 + 176u, v8 + 112u);
 RUD_AGAIN
-goto L2;
+goto L1;
 }
-v22 = AT8(v8, 33);
-v21 = 1u;
-if (AT8(v8, 344) != 1u) goto L2;
+v21 = AT8(v8, 33);
+v23 = 1u;
+if (AT8(v8, 344) != 1u) goto L1;
 in_std_collections_btree_node_Node_destroy_dc0ad195889b9f50(RUD_AS AT64(v8, 352));
 RUD_AGAIN
-goto L2;
-L31:;
-v21 = 1u;
-if (v23 != 1u) goto L2;
+goto L1;
+L28:;
+v23 = 1u;
+if (v22 != 1u) goto L1;
 in_std_collections_btree_node_Node_destroy_dc0ad195889b9f50(RUD_AS AT64(v8, 352));
 RUD_AGAIN
-L2:;
-TEST(a0);
-SET8(a0, 1, v22);
-SET8(a0, 0, v21);
-RUD_G0 = v8 + 640u;
-return;
+goto L1;
 }
 rud_trap();
+L2:;
+v23 = 0u;
+L1:;
+TEST(a0);
+SET8(a0, 1, v21);
+SET8(a0, 0, v23);
+RUD_G0 = v8 + 640u;
 }
 
 static void in_mm_problem_fault_Name_text(RUD_IT u64 a0, u32 a1) {
@@ -10123,235 +9083,205 @@ return;
 rud_trap();
 }
 
-static void in_std_collections_btree_iter_Cursor_first_ff41410e3cb3b3e8(RUD_IT u64 a0, u64 a1, u64 a2, u64 a3) {
-u64 v4 = 0, j0 = 0;
-RUD_HERE
-if ((s64)RUD_G0 >= (s64)16u) {
-TEST(a1);
-v4 = AT64(a1, 0);
-TEST(v4);
-if (AT16(v4, 2) == 1u) goto L2;
-a2 = (a2 << 4) + a3;
-j0 = a3 << 3;
-a3 = 0u;
-a1 = (j0 + v4) + 968u;
-TEST(a1);
-v4 = AT64(a1, 0);
-TEST(v4);
-if (AT16(v4, 2) == 1u) goto L2;
-L3:;
-a2 = a2 << 4;
-a1 = v4 + 968u;
-TEST(a1);
-v4 = AT64(a1, 0);
-TEST(v4);
-if (AT16(v4, 2) != 1u) goto L3;
-L2:;
-TEST(a0);
-SET64(a0, 8, a1);
-SET64(a0, 0, (a2 << 4) + a3);
-return;
-}
-rud_trap();
-}
-
 static u32 in_mm_problem_keys_has_only(RUD_IT u64 a0, u64 a1, u64 a2) {
-u32 v19 = 0, v20 = 0, i0 = 0;
+u32 v18 = 0, v19 = 0, i0 = 0;
 u64 v3 = 0, v4 = 0, v5 = 0, v6 = 0, v7 = 0, v8 = 0, v9 = 0, v10 = 0, v11 = 0, v12 = 0, v13 = 0, v14 = 0;
-u64 v15 = 0, v16 = 0, v17 = 0, v18 = 0, j0 = 0;
+u64 v15 = 0, v16 = 0, v17 = 0, j0 = 0, j1 = 0;
 RUD_HERE
-(void)v4;
 v3 = RUD_G0 - 96u;
 RUD_G0 = v3;
 if ((s64)v3 >= (s64)16u) {
-v19 = 1u;
-v15 = v3 + 88u;
+v18 = 1u;
+v13 = v3 + 88u;
 TEST(a2);
-if (AT8(a2, 0) != 1u) {
-v19 = 0u;
-j0 = 0u;
-goto L3;
-}
-v12 = a2 + 8u;
+if (!(AT8(a2, 0) != 1u)) {
+v14 = a2 + 8u;
 a2 = AT64(a2, 8);
 TEST(a2);
 if (AT16(a2, 2)) { j0 = 0xffffffffffffffffull; goto L2; }
-v15 = a2 + 8u;
-v17 = (u64)AT16(a2, 0);
-v19 = 0u;
-j0 = 0u;
-L3:;
-v12 = j0;
+v13 = a2 + 8u;
+v15 = (u64)AT16(a2, 0);
+v14 = 0u;
+}
+v18 = 0u;
 j0 = 0u;
 L2:;
-v8 = j0;
-v7 = v12;
-v18 = v8;
-L6:;
-if (v6 < v17) {
-v5 = v6 + 1u;
-j0 = v15 + (v6 * 24u);
-goto L7;
+v6 = j0;
+v10 = v14;
+v16 = v6;
+L5:;
+if (v4 < v15) {
+v5 = v4 + 1u;
+j0 = v13 + (v4 * 24u);
+goto L6;
 }
-a2 = 0u;
-TEST(v3);
-SET64(v3, 64, 0u);
-SET64(v3, 56, 0u);
-SET64(v3, 48, 0u);
-SET64(v3, 40, 0u);
-SET64(v3, 32, 0u);
-SET64(v3, 24, 0u);
-if (v19 == 0) {
 v19 = 0u;
-goto L10;
-}
-v4 = v3 + 24u;
-v16 = v8;
-v5 = v12;
-v9 = 0u;
-v20 = 0u;
+FILL_FEW(v3 + 24u, 0u, 48u);
+if ((v18 & 255u) == 1u) {
+v7 = v3 + 24u;
+v9 = v6;
+a2 = v14;
 v8 = 0u;
-v10 = RUD_G0 - 32u;
-RUD_G0 = v10;
-if ((s64)v10 >= (s64)16u) {
-if (v16 == 0xffffffffffffffffull) {
-in_std_collections_btree_iter_Cursor_first_ff41410e3cb3b3e8(RUD_AS v10, v5, 0u, 0u);
-TEST(v10);
-v7 = AT64(v10, 8);
-v11 = AT64(v10, 0);
-v5 = 0u;
-j0 = 0u;
-goto L16;
-}
-v13 = v16 & 15u;
-TEST(v7);
-v14 = AT64(v7, 0);
-TEST(v14);
-if (v13 < (u64)AT16(v14, 0)) {
-v11 = v16 + 1u;
-v9 = (v14 + (v13 * 40u)) + 368u;
-v5 = (v14 + (v13 * 24u)) + 8u;
-j0 = 1u;
-goto L16;
-}
-TEST(v5);
-v11 = AT64(v5, 0);
-TEST(v11);
-v19 = AT16(v11, 2);
-if (v19 == 1u) goto L15;
-v7 = 0u;
-v13 = 0u;
-L19:;
-v14 = (v16 >> (((((u64)v19 & 65535u) << 2) - 4u) & 63)) & 15u;
-TEST(v11);
-if (v14 < (u64)AT16(v11, 0)) {
-v20 = 1u;
-v13 = v5;
-v8 = v9;
-v7 = v14;
-}
-v9 = (v9 << 4) | v14;
-v5 = (v11 + (v14 << 3)) + 968u;
-TEST(v5);
-v11 = AT64(v5, 0);
-TEST(v11);
-v19 = AT16(v11, 2);
-if (v19 != 1u) goto L19;
-if (v20 == 0) goto L15;
-TEST(v13);
-v5 = AT64(v13, 0);
-in_std_collections_btree_iter_Cursor_first_ff41410e3cb3b3e8(RUD_AS v10 + 16u, v13, v8, v7 + 1u);
-v9 = (v5 + (v7 * 40u)) + 368u;
-v5 = (v5 + (v7 * 24u)) + 8u;
-TEST(v10);
-v7 = AT64(v10, 24);
-v11 = AT64(v10, 16);
-j0 = 1u;
+v6 = 0u;
+v12 = 0u;
+v18 = 0u;
+if ((s64)RUD_G0 >= (s64)16u) {
+if (v9 == 0xffffffffffffffffull) {
+TEST(a2);
+v9 = AT64(a2, 0);
+TEST(v9);
+if (AT16(v9, 2) == 1u) { j0 = 0u; goto L14; }
 L16:;
-v8 = j0;
-if (v11 != v18) goto L14;
-SET64(v3, 24, v8);
-SET64(v3, 48, 0u);
-SET64(v3, 40, v9);
-SET64(v3, 32, v5);
-SET64(v3, 56, 0u);
-SET64(v3, 64, 0u);
-goto L12;
-L15:;
-SET64(v3, 64, 0u);
-SET64(v3, 56, 0u);
-SET64(v3, 48, 0u);
-SET64(v3, 40, 0u);
-SET64(v3, 32, 0u);
-SET64(v3, 24, 0u);
-goto L12;
+a2 = v9 + 968u;
+TEST(a2);
+v9 = AT64(a2, 0);
+TEST(v9);
+if (AT16(v9, 2) != 1u) goto L16;
+j0 = 0u;
+goto L14;
+}
+v5 = v9 & 15u;
+TEST(v10);
+v11 = AT64(v10, 0);
+TEST(v11);
+if (v5 < (u64)AT16(v11, 0)) {
+v12 = 1u;
+v8 = v9 + 1u;
+v6 = (v11 + (v5 * 40u)) + 368u;
+a2 = v10;
+j0 = (v11 + (v5 * 24u)) + 8u;
+goto L14;
+}
+TEST(a2);
+v8 = AT64(a2, 0);
+TEST(v8);
+v19 = AT16(v8, 2);
+if (v19 == 1u) goto L13;
+v10 = 0u;
+v5 = 0u;
+L18:;
+v11 = (v9 >> (((((u64)v19 & 65535u) << 2) - 4u) & 63)) & 15u;
+TEST(v8);
+if (v11 < (u64)AT16(v8, 0)) {
+v18 = 1u;
+v10 = v12;
+v6 = v11;
+v5 = a2;
+}
+v12 = (v12 << 4) | v11;
+a2 = (v8 + (v11 << 3)) + 968u;
+TEST(a2);
+v8 = AT64(a2, 0);
+TEST(v8);
+v19 = AT16(v8, 2);
+if (v19 != 1u) goto L18;
+if (v18 == 0) goto L13;
+v12 = 1u;
+v9 = v6 + 1u;
+TEST(v5);
+v8 = AT64(v5, 0);
+v17 = v8 + (v6 * 24u);
+j0 = v8 + (v6 * 40u);
+TEST(v8);
+if (AT16(v8, 2) == 1u) {
+a2 = v5;
+goto L20;
+}
+L22:;
+v10 = (v10 << 4) + v9;
+j1 = v9 << 3;
+v9 = 0u;
+a2 = (j1 + v8) + 968u;
+TEST(a2);
+v8 = AT64(a2, 0);
+TEST(v8);
+if (AT16(v8, 2) != 1u) goto L22;
+L20:;
+v6 = j0 + 368u;
+v8 = (v10 << 4) + v9;
+j0 = v17 + 8u;
 L14:;
-SET64(v3, 24, v8);
-SET64(v3, 64, v7);
-SET64(v3, 56, v11);
-SET64(v3, 48, 1u);
-SET64(v3, 40, v9);
-SET64(v3, 32, v5);
-goto L12;
+v5 = j0;
+if (v8 != v16) goto L12;
+TEST(v7);
+SET64(v7, 0, v12);
+SET64(v7, 24, 0u);
+SET64(v7, 16, v6);
+SET64(v7, 8, v5);
+SET64(v7, 32, 0u);
+SET64(v7, 40, 0u);
+goto L10;
+L13:;
+FILL_FEW(v7, 0u, 48u);
+goto L10;
+L12:;
+TEST(v7);
+SET64(v7, 0, v12);
+SET64(v7, 40, a2);
+SET64(v7, 32, v8);
+SET64(v7, 24, 1u);
+SET64(v7, 16, v6);
+SET64(v7, 8, v5);
+goto L10;
 }
 rud_trap();
 return 0;
-L12:;
-RUD_G0 = v10 + 32u;
-if (AT8(v3, 48) != 1u) {
-v8 = 0u;
-v7 = 0u;
-v18 = 0u;
-i0 = 0u;
-goto L21;
-}
-v7 = AT64(v3, 64);
-TEST(v7);
-v8 = AT64(v3, 56);
-a2 = GET64(AT64(v7, 0) + ((v8 << 3) & 120u), 968);
-v15 = a2 + 8u;
-TEST(a2);
-v17 = (u64)AT16(a2, 0);
-v6 = 0u;
-a2 = v12;
-i0 = 1u;
-L21:;
-v19 = i0;
-if (AT8(v3, 24) == 1u) goto L9;
-v12 = a2;
 L10:;
-if (v6 >= v17) { i0 = 1u; goto L5; }
-v5 = v6 + 1u;
-j0 = v15 + (v6 * 24u);
-goto L7;
-L9:;
-v5 = v6;
-v12 = a2;
-j0 = AT64(v3, 32);
-L7:;
-v6 = j0;
-TEST(v6);
-a2 = AT64(v6, 0);
 TEST(v3);
-SET64(v3, 80, AT64(v6, 8));
-SET64(v3, 72, a2);
+if (AT8(v3, 48) != 1u) {
+v14 = 0u;
+v6 = 0u;
+v10 = 0u;
+v16 = 0u;
+i0 = 0u;
+goto L23;
+}
+v10 = AT64(v3, 64);
+TEST(v10);
+v6 = AT64(v3, 56);
+a2 = GET64(AT64(v10, 0) + ((v6 << 3) & 120u), 968);
+v13 = a2 + 8u;
+TEST(a2);
+v15 = (u64)AT16(a2, 0);
+v4 = 0u;
+i0 = 1u;
+L23:;
+v18 = i0;
+if (AT8(v3, 24) == 1u) goto L8;
+v19 = v18;
+}
+if (v4 >= v15) { i0 = 1u; goto L4; }
+v5 = v4 + 1u;
+v18 = v19;
+j0 = v13 + (v4 * 24u);
+goto L6;
+L8:;
+v5 = v4;
+j0 = AT64(v3, 32);
+L6:;
+a2 = j0;
+TEST(a2);
+v4 = AT64(a2, 0);
+TEST(v3);
+SET64(v3, 80, AT64(a2, 8));
+SET64(v3, 72, v4);
 a2 = a0;
-v6 = a1;
-L24:;
-if (v6 == 0) goto L23;
+v4 = a1;
+L26:;
+if (v4 == 0) goto L25;
 TEST(a2);
 in_mm_problem_fault_Name_text(RUD_AS v3 + 8u, AT8(a2, 0));
 SET64(v3, 32, AT64(v3, 16));
 SET64(v3, 24, AT64(v3, 8));
-v6 = v6 - 1u;
+v4 = v4 - 1u;
 a2 = a2 + 1u;
 i0 = in_core_cmp_text_RefStrPartialEq_eq(RUD_AS v3 + 24u, v3 + 72u);
-if (i0 == 0) goto L24;
-v6 = v5;
-goto L6;
-L23:;
+if (i0 == 0) goto L26;
+v4 = v5;
+goto L5;
+L25:;
 i0 = 0u;
-L5:;
+L4:;
 RUD_G0 = v3 + 96u;
 return i0;
 }
@@ -10468,119 +9398,132 @@ SET8(a0, 4, a1);
 RUD_G0 = v3 + 32u;
 }
 
-static u32 in_mm_base_id_is_id_text(RUD_IT u64 a0, u64 a1) {
-u32 v2 = 0, v3 = 0;
-RUD_HERE
-if ((s64)RUD_G0 >= (s64)16u) {
-if ((a1 - 1u) > 7u) goto L2;
-L3:;
-v3 = a1 == 0;
-if (v3) goto L2;
-a1 = a1 - 1u;
-TEST(a0);
-v2 = AT8(a0, 0);
-a0 = a0 + 1u;
-if ((u32)(v2 == 45u) | (u32)(v2 == 95u)) goto L3;
-if ((u32)(((v2 - 65u) & 255u) < 26u) | (u32)(((v2 - 48u) & 255u) < 10u)) goto L3;
-L2:;
-return v3;
-}
-rud_trap();
-return 0;
-}
-
 static void in_mm_problem_tables_id_at(RUD_IT u64 a0, u32 a1, u32 a2, u64 a3) {
-u32 v7 = 0, v8 = 0, v9 = 0, v10 = 0, v11 = 0, v12 = 0, v13 = 0, v14 = 0, i0 = 0;
-u64 v4 = 0, v5 = 0, v6 = 0;
+u32 v10 = 0, v11 = 0, v12 = 0, v13 = 0, v14 = 0, v15 = 0, i0 = 0;
+u64 v4 = 0, v5 = 0, v6 = 0, v7 = 0, v8 = 0, j0 = 0;
 RUD_HERE
-v4 = RUD_G0 - 32u;
+(void)v8;
+v4 = RUD_G0 - 48u;
 RUD_G0 = v4;
 if ((s64)v4 >= (s64)16u) {
 TEST(v4);
 SET64(v4, 16, 0u);
 SET64(v4, 8, 0u);
 SET64(v4, 0, 0u);
-v7 = a1;
+v10 = a1;
 v5 = RUD_G0 - 16u;
 RUD_G0 = v5;
 if ((s64)v5 >= (s64)16u) {
 in_mm_problem_keys_value_at(RUD_AS v5, a2, a3);
-v9 = 1u;
+v12 = 1u;
 TEST(v5);
 if (AT8(v5, 0) & 1u) {
 a3 = AT64(v5, 8);
 TEST(a3);
 if (AT8(a3, 0) == 0) goto L6;
 }
-v8 = 2u;
+v11 = 2u;
 i0 = a2 & 255u;
 goto L5;
 L6:;
 v6 = AT64(a3, 16);
 a3 = AT64(a3, 8);
-v7 = (u32)a3;
-v9 = 0u;
+v10 = (u32)a3;
+v12 = 0u;
 i0 = (u32)(a3 >> 32);
 L5:;
-v10 = i0;
-SET32(v4, 0, v9);
+v13 = i0;
+SET32(v4, 0, v12);
 SET64(v4, 16, v6);
-SET32(v4, 12, v10);
-SET32(v4, 8, v7);
+SET32(v4, 12, v13);
+SET32(v4, 8, v10);
 SET8(v4, 5, 0u);
-SET8(v4, 4, v8);
+SET8(v4, 4, v11);
 RUD_G0 = v5 + 16u;
 goto L3;
 }
 rud_trap();
 L3:;
-a3 = AT64(v4, 8);
 if (AT8(v4, 0) == 0) {
-v5 = AT64(v4, 16);
-i0 = in_mm_base_id_is_id_text(RUD_AS a3, v5);
-if (i0) {
-SET64(v4, 24, 2314885530818453536ull);
-if (!(v5 == 0)) {
-COPY(v4 + 24u, a3, v5);
+a3 = AT64(v4, 16);
+v5 = AT64(v4, 8);
+SET64(v4, 32, 0u);
+SET8(v4, 40, 0u);
+SET16(v4, 28, 0u);
+SET8(v4, 30, 0u);
+v8 = v4 + 32u;
+v6 = 0u;
+v7 = RUD_G0 - 16u;
+if ((s64)v7 >= (s64)16u) {
+v11 = 1u;
+if ((a3 - 1u) > 7u) { j0 = 0u; goto L11; }
+L13:;
+if (a3 == v6) goto L12;
+j0 = v5 + v6;
+v6 = v6 + 1u;
+TEST(j0);
+v10 = AT8(j0, 0);
+if (((u32)(v10 == 45u) | (u32)(v10 == 95u)) | ((u32)(((v10 - 65u) & 255u) < 26u) | (u32)(((v10 - 48u) & 255u) < 10u))) goto L13;
+j0 = 0u;
+goto L11;
+L12:;
+TEST(v7);
+SET64(v7, 8, 2314885530818453536ull);
+if (!(a3 == 0)) {
+COPY(v7 + 8u, v5, a3);
 }
-a3 = AT64(v4, 24);
-a1 = (u32)(a3 >> 56);
-v11 = (u32)(a3 >> 40);
-v12 = (u32)(a3 >> 32);
-a2 = (u32)(a3 >> 24);
-i0 = (u32)a3;
+v11 = 0u;
+j0 = AT64(v7, 8);
+L11:;
+a3 = j0;
+SET8(v4, 32, v11);
+SET64(v4, 33, a3);
 goto L9;
 }
-v13 = a2 & 255u;
-a2 = 2u;
-v14 = 1u;
-i0 = 0u;
+rud_trap();
 L9:;
-v7 = i0;
+v11 = AT8(v4, 32);
+if (v11 == 0) {
+SET16(v4, 28, AT16(v4, 33));
+SET8(v4, 30, AT8(v4, 35));
+a1 = AT8(v4, 40);
+v14 = AT16(v4, 38);
+v15 = AT8(v4, 37);
+v10 = AT8(v4, 36);
+i0 = 0u;
+goto L15;
+}
+v10 = 2u;
+i0 = a2 & 255u;
+L15:;
+a2 = i0;
+v12 = AT8(v4, 30);
+SET8(v4, 26, v12);
+v13 = AT16(v4, 28);
+SET16(v4, 24, v13);
 TEST(a0);
-SET8(a0, 0, v14);
-SET8(a0, 3, v7 >> 16);
-SET16(a0, 1, v7);
-SET32(a0, 12, v13);
+SET8(a0, 0, v11);
+SET16(a0, 1, v13);
+SET8(a0, 3, v12);
+SET32(a0, 12, a2);
 SET32(a0, 8, a1);
-SET16(a0, 6, v11);
-SET8(a0, 5, v12);
-SET8(a0, 4, a2);
+SET16(a0, 6, v14);
+SET8(a0, 5, v15);
+SET8(a0, 4, v10);
 goto L1;
 }
 TEST(a0);
 SET8(a0, 0, 1u);
-SET8(a0, 3, 0u);
 SET16(a0, 1, 0u);
-SET32(a0, 12, (u32)(a3 >> 32));
-SET32(a0, 8, (u32)a3);
+SET8(a0, 3, 0u);
+SET64(a0, 8, AT64(v4, 8));
 SET16(a0, 6, 0u);
 SET16(a0, 4, AT16(v4, 4));
 goto L1;
 }
 rud_trap();
 L1:;
-RUD_G0 = v4 + 32u;
+RUD_G0 = v4 + 48u;
 }
 
 static void in_mm_problem_keys_number_at(RUD_IT u64 a0, u32 a1, u32 a2, u32 a3, u32 a4, u64 a5) {
@@ -10624,49 +9567,14 @@ L1:;
 RUD_G0 = v6 + 16u;
 }
 
-static u32 in_core_cmp_arrays_ArrayPartialEq_eq_i8_8_31_core_cmp_numbers_U8Par(RUD_IT u64 a0, u64 a1) {
-u32 v6 = 0, v7 = 0, i0 = 0;
-u64 v2 = 0, v3 = 0, v4 = 0, v5 = 0;
+static u32 in_mm_base_id_StoreIdPartialEq_eq(RUD_IT u64 a0, u64 a1) {
+u32 i0 = 0;
 RUD_HERE
-v2 = RUD_G0 - 32u;
-RUD_G0 = v2;
-if ((s64)v2 >= (s64)16u) {
-TEST(v2);
-SET64(v2, 24, 8u);
-SET64(v2, 16, a1);
-SET64(v2, 8, 8u);
-SET64(v2, 0, a0);
-a0 = 0u;
 if ((s64)RUD_G0 >= (s64)16u) {
-v4 = AT64(v2, 16);
-v5 = AT64(v2, 0);
-L4:;
-a1 = a0 + v5;
+TEST(a0);
 TEST(a1);
-v3 = a0 + v4;
-TEST(v3);
-v6 = (((v6 | (u32)(AT8(a1, 0) != AT8(v3, 0))) | (u32)(AT8(a1, 1) != AT8(v3, 1))) | (u32)(AT8(a1, 2) != AT8(v3, 2))) | (u32)(AT8(a1, 3) != AT8(v3, 3));
-a0 = a0 + 4u;
-if (a0 != 4u) goto L4;
-a1 = v4 + 4u;
-v3 = v5 + 4u;
-a0 = 0u;
-L5:;
-v4 = a0 + v3;
-TEST(v4);
-v5 = a0 + a1;
-TEST(v5);
-v7 = (v7 | (u32)(AT8(v4, 0) != AT8(v5, 0))) | (u32)(AT8(v4, 1) != AT8(v5, 1));
-a0 = a0 + 2u;
-if (a0 != 4u) goto L5;
-i0 = (v6 | v7) & 1u;
-goto L2;
-}
-rud_trap();
-return 0;
-L2:;
-RUD_G0 = v2 + 32u;
-return i0 ^ 1u;
+i0 = ((((u32)(AT8(a0, 0) == AT8(a1, 0)) & (u32)(AT8(a0, 1) == AT8(a1, 1))) & (u32)(AT8(a0, 2) == AT8(a1, 2))) & (u32)(AT8(a0, 3) == AT8(a1, 3))) & ((((u32)(AT8(a0, 4) == AT8(a1, 4)) & (u32)(AT8(a0, 5) == AT8(a1, 5))) & (u32)(AT8(a0, 6) == AT8(a1, 6))) & (u32)(AT8(a0, 7) == AT8(a1, 7)));
+return i0;
 }
 rud_trap();
 return 0;
@@ -10678,8 +9586,8 @@ in_byn_mgfn_shared_std_heap_GlobalAllocator_grow_483ec8513fd57e54(RUD_AS a0, a1,
 }
 
 static void in_mm_problem_toml_value_Value_Destruct_drop(RUD_IT u64 a0) {
-u32 v6 = 0;
-u64 v1 = 0, v2 = 0, v3 = 0, v4 = 0, v5 = 0;
+u32 v7 = 0;
+u64 v1 = 0, v2 = 0, v3 = 0, v4 = 0, v5 = 0, v6 = 0;
 RUD_HERE
 v1 = RUD_G0 - 48u;
 RUD_G0 = v1;
@@ -10687,56 +9595,52 @@ if ((s64)v1 >= (s64)16u) {
 TEST(a0);
 v5 = AT64(a0, 24);
 v2 = AT64(a0, 16);
-v3 = AT64(a0, 8);
+v4 = AT64(a0, 8);
 switch ((u32)(u64)AT8(a0, 0) - 1u) {
-case 0u: case 1u: case 2u: case 3u: goto L2;
-case 4u: goto L4;
-case 5u: goto L3;
-default: goto L5;
+case 0u: case 1u: case 2u: case 3u: goto L1;
+case 4u: goto L5;
+case 5u: goto L4;
+default: goto L6;
 }
-L5:;
-if (v5 == 0) goto L2;
-rud_dealloc(RUD_AS v3);
-RUD_AGAIN
+L6:;
+if (v5 == 0) goto L1;
 goto L2;
-L4:;
+L5:;
 if (!(v2 == 0)) {
-v4 = (v1 + 8u) | 4u;
-a0 = v3;
-L7:;
+v3 = (v1 + 8u) | 4u;
+a0 = v4;
+L8:;
 TEST(a0);
-v6 = AT16(a0, 0);
+v7 = AT16(a0, 0);
+v6 = v1 + 8u;
+FILL_FEW(v6, 0u, 40u);
+TEST(v3);
+SET64(v3, 0, AT64(a0, 4));
+SET64(v3, 8, AT64(a0, 12));
+SET64(v3, 16, AT64(a0, 20));
+SET64(v3, 24, AT64(a0, 28));
 TEST(v1);
-SET64(v1, 40, 0u);
-SET64(v1, 32, 0u);
-SET64(v1, 24, 0u);
-SET64(v1, 16, 0u);
-SET64(v1, 8, 0u);
-TEST(v4);
-SET64(v4, 0, AT64(a0, 4));
-SET64(v4, 8, AT64(a0, 12));
-SET64(v4, 16, AT64(a0, 20));
-SET64(v4, 24, AT64(a0, 28));
-SET16(v1, 8, v6);
+SET16(v1, 8, v7);
 a0 = a0 + 40u;
-in_mm_problem_toml_value_Value_Destruct_drop(RUD_AS v1 + 8u);
+in_mm_problem_toml_value_Value_Destruct_drop(RUD_AS v6);
 RUD_AGAIN
 v2 = v2 - 1u;
-if (v2 != 0u) goto L7;
+if (v2 != 0u) goto L8;
 }
-if (v5 == 0) goto L2;
-rud_dealloc(RUD_AS v3);
-RUD_AGAIN
-goto L2;
-L3:;
-if ((v3 & 255u) != 1u) goto L2;
+if (!(v5 == 0)) goto L2;
+goto L1;
+L4:;
+if ((v4 & 255u) != 1u) goto L1;
 in_std_collections_btree_node_Node_destroy_ada23bb4fd0ecfa1(RUD_AS v2);
 RUD_AGAIN
-L2:;
-RUD_G0 = v1 + 48u;
-return;
+goto L1;
 }
 rud_trap();
+L2:;
+rud_dealloc(RUD_AS v4);
+RUD_AGAIN
+L1:;
+RUD_G0 = v1 + 48u;
 }
 
 static void in_core_mem_drop_94c51b3a7359dc83(RUD_IT u64 a0) {
@@ -10752,15 +9656,11 @@ v5 = AT8(a0, 24);
 v2 = AT64(a0, 0);
 TEST(v1);
 j0 = AT64(a0, 16);
-SET64(v1, 0, 0u);
-SET64(v1, 8, 0u);
-SET64(v1, 16, 0u);
-SET64(v1, 24, 0u);
-SET64(v1, 32, 0u);
 SET64(v1, 48, AT64(a0, 28));
 SET64(v1, 56, AT64(a0, 36));
 SET64(v1, 64, AT64(a0, 44));
 SET64(v1, 72, AT64(a0, 52));
+FILL_FEW(v1, 0u, 40u);
 if (!(j0 == 0)) {
 rud_dealloc(RUD_AS v2);
 RUD_AGAIN
@@ -10781,19 +9681,15 @@ rud_trap();
 }
 
 static void in_std_collections_btree_node_Node_destroy_ada23bb4fd0ecfa1(RUD_IT u64 a0) {
-u32 v5 = 0, v6 = 0;
-u64 v1 = 0, v2 = 0, v3 = 0, v4 = 0, j0 = 0;
+u32 v6 = 0, v7 = 0;
+u64 v1 = 0, v2 = 0, v3 = 0, v4 = 0, v5 = 0, j0 = 0;
 RUD_HERE
 (void)v2;
 v1 = RUD_G0 - 288u;
 RUD_G0 = v1;
 if ((s64)v1 >= (s64)16u) {
+FILL_FEW(v1 + 24u, 0u, 40u);
 TEST(v1);
-SET64(v1, 56, 0u);
-SET64(v1, 48, 0u);
-SET64(v1, 40, 0u);
-SET64(v1, 32, 0u);
-SET64(v1, 24, 0u);
 SET64(v1, 104, 15u);
 SET64(v1, 80, 15u);
 SET64(v1, 136, a0);
@@ -10801,16 +9697,16 @@ SET64(v1, 112, a0 + 968u);
 SET64(v1, 88, a0 + 368u);
 SET64(v1, 64, a0 + 8u);
 TEST(a0);
-v5 = AT16(a0, 2);
-SET64(v1, 128, v5 ? 16ull : 0ull);
-v6 = AT16(a0, 0);
-a0 = (u64)v6 & 65535u;
+v6 = AT16(a0, 2);
+SET64(v1, 128, v6 ? 16ull : 0ull);
+v7 = AT16(a0, 0);
+a0 = (u64)v7 & 65535u;
 SET64(v1, 96, a0);
 SET64(v1, 72, a0);
-SET64(v1, 120, v5 ? (a0 + 1u) : 0ull);
-if (v5) {
-v4 = v1 + 112u;
+SET64(v1, 120, v6 ? (a0 + 1u) : 0ull);
 if (v6) {
+v4 = v1 + 112u;
+if (v7) {
 a0 = v1 + 88u;
 v2 = v1 + 28u;
 v3 = (v1 + 208u) | 4u;
@@ -10821,13 +9717,10 @@ RUD_AGAIN
 SET64(v1, 144, 0u);
 SET64(v1, 152, 0u);
 SET64(v1, 160, 0u);
-SET64(v1, 208, 0u);
-SET64(v1, 216, 0u);
-SET64(v1, 224, 0u);
-SET64(v1, 232, 0u);
-SET64(v1, 240, 0u);
+v5 = v1 + 208u;
+FILL_FEW(v5, 0u, 40u);
 in_std_alloc_vec_Vec_remove_992c4ce9cbd9eb37(RUD_AS v1 + 144u, v1 + 64u, 0u);
-in_std_alloc_vec_Vec_remove_e185903fd0eadc08(RUD_AS v1 + 208u, a0, 0u);
+in_std_alloc_vec_Vec_remove_e185903fd0eadc08(RUD_AS v5, a0, 0u);
 TEST(v3);
 SET64(v1, 28, AT64(v3, 0));
 SET64(v1, 36, AT64(v3, 8));
@@ -10851,14 +9744,7 @@ goto L2;
 a0 = v1 + 64u;
 in_std_collections_btree_row_Row_reverse_ff41410e3cb3b3e8(RUD_AS a0);
 COPY_FEW(v1 + 208u, a0, 80u);
-SET64(v1, 200, 0u);
-SET64(v1, 192, 0u);
-SET64(v1, 184, 0u);
-SET64(v1, 176, 0u);
-SET64(v1, 168, 0u);
-SET64(v1, 160, 0u);
-SET64(v1, 152, 0u);
-SET64(v1, 144, 0u);
+FILL_FEW(v1 + 144u, 0u, 64u);
 if (!(AT64(v1, 216) == 0)) {
 L7:;
 a0 = v1 + 144u;
@@ -11004,7 +9890,7 @@ rud_trap();
 }
 
 static void in_mm_store_table_BlockTablePacketQueue_with_room(RUD_IT u64 a0, u32 a1) {
-u32 v14 = 0, i0 = 0;
+u32 v14 = 0;
 u64 v2 = 0, v3 = 0, v4 = 0, v5 = 0, v6 = 0, v7 = 0, v8 = 0, v9 = 0, v10 = 0, v11 = 0, v12 = 0, v13 = 0;
 u64 j0 = 0;
 RUD_HERE
@@ -11019,121 +9905,93 @@ SET64(v2, 72, 0u);
 SET64(v2, 24, 0u);
 SET64(v2, 32, 0u);
 SET64(v2, 40, 0u);
-v6 = (u64)a1;
+v3 = (u64)a1;
 if (a1) {
-in_std_heap_GlobalAllocator_allocate(RUD_AS v2 + 8u, v6 * 48u, 8u);
+in_std_heap_GlobalAllocator_allocate(RUD_AS v2 + 8u, v3 * 48u, 8u);
 RUD_AGAIN
-if (AT8(v2, 8)) goto L9;
+if (AT8(v2, 8)) goto L7;
 j0 = AT64(v2, 16);
 } else {
 j0 = v2 + 136u;
 }
-v7 = j0;
+v5 = j0;
 SET64(v2, 128, 0u);
 SET64(v2, 120, 0u);
 SET64(v2, 112, 0u);
 SET64(v2, 104, 0u);
-in_std_alloc_vec_Vec_with_capacity_384c51600a7917bd(RUD_AS v2 + 104u, v6);
+in_std_alloc_vec_Vec_with_capacity_384c51600a7917bd(RUD_AS v2 + 104u, v3);
 RUD_AGAIN
-if (AT8(v2, 104)) goto L8;
-v10 = AT64(v2, 128);
+if (AT8(v2, 104)) goto L6;
+v9 = AT64(v2, 128);
 v12 = AT64(v2, 120);
-v11 = AT64(v2, 112);
-in_std_alloc_vec_Vec_with_capacity_384c51600a7917bd(RUD_AS v2 + 72u, v6);
+v10 = AT64(v2, 112);
+in_std_alloc_vec_Vec_with_capacity_384c51600a7917bd(RUD_AS v2 + 72u, v3);
 RUD_AGAIN
-if (AT8(v2, 72)) goto L6;
+if (AT8(v2, 72)) goto L5;
 v13 = AT64(v2, 96);
-v4 = AT64(v2, 88);
-v9 = AT64(v2, 80);
-if (a1) goto L7;
+v6 = AT64(v2, 88);
+v11 = AT64(v2, 80);
+if (a1) goto L4;
+j0 = 0u;
 goto L3;
-L9:;
+L7:;
 TEST(a0);
 SET8(a0, 0, 1u);
 FILL_FEW(a0 + 8u, 0u, 88u);
 goto L1;
-L8:;
-SET64(v2, 64, v6);
+L6:;
+SET64(v2, 64, v3);
 SET64(v2, 56, 0u);
-SET64(v2, 48, v7);
+SET64(v2, 48, v5);
 in_std_alloc_vec_Vec_drop_eb57a1c6c018074a(RUD_AS v2 + 48u);
 RUD_AGAIN
 TEST(a0);
 SET8(a0, 0, 1u);
 FILL_FEW(a0 + 8u, 0u, 88u);
 goto L1;
-L7:;
-if (a1 != 1u) goto L5;
-goto L4;
-L6:;
-if (!(v10 == 0)) {
-rud_dealloc(RUD_AS v11);
+L5:;
+if (!(v9 == 0)) {
+rud_dealloc(RUD_AS v10);
 RUD_AGAIN
 }
-SET64(v2, 40, v6);
+SET64(v2, 40, v3);
 SET64(v2, 32, 0u);
-SET64(v2, 24, v7);
+SET64(v2, 24, v5);
 in_std_alloc_vec_Vec_drop_eb57a1c6c018074a(RUD_AS v2 + 24u);
 RUD_AGAIN
 TEST(a0);
 SET8(a0, 0, 1u);
 FILL_FEW(a0 + 8u, 0u, 88u);
 goto L1;
-L5:;
-v8 = v9 + (v4 << 2);
-i0 = a1 & 1u;
-a1 = a1 & 4294967294u;
-v5 = (u64)(a1 - 2u) + 2u;
-v3 = v7;
-L12:;
-TEST(v3);
-SET64(v3, 40, 0u);
-SET64(v3, 32, 0u);
-SET64(v3, 24, 0u);
-SET64(v3, 16, 0u);
-SET64(v3, 8, 0u);
-SET64(v3, 0, 0u);
-TEST(v8);
-SET32(v8, 0, v14);
-SET64(v3, 88, 0u);
-SET64(v3, 80, 0u);
-SET64(v3, 72, 0u);
-SET64(v3, 64, 0u);
-SET64(v3, 56, 0u);
-SET64(v3, 48, 0u);
-SET32(v8, 4, v14 + 1u);
-v3 = v3 + 96u;
-v8 = v8 + 8u;
-v14 = v14 + 2u;
-if (v14 != a1) goto L12;
-v4 = v4 + v5;
-if (i0 == 0) goto L3;
 L4:;
-v3 = v7 + (v5 * 48u);
-TEST(v3);
-SET64(v3, 40, 0u);
-SET64(v3, 32, 0u);
-SET64(v3, 24, 0u);
-SET64(v3, 16, 0u);
-SET64(v3, 8, 0u);
-SET64(v3, 0, 0u);
-PUT32(v9 + (v4 << 2), 0, v14);
-v4 = v4 + 1u;
-v5 = v5 + 1u;
+v4 = v11 + (v6 << 2);
+v8 = v5;
+L10:;
+FILL_FEW(v8, 0u, 48u);
+TEST(v4);
+SET32(v4, 0, v14);
+v8 = v8 + 48u;
+v4 = v4 + 4u;
+v7 = v7 - 1u;
+v14 = v14 + 1u;
+if (a1 != v14) goto L10;
+v6 = v6 - v7;
+j0 = 0ull - v7;
 L3:;
+v4 = j0;
 TEST(a0);
 SET8(a0, 0, 0u);
 SET64(a0, 56, 0u);
-SET64(a0, 48, v10);
+SET64(a0, 48, v9);
 SET64(a0, 40, v12);
-SET64(a0, 32, v11);
-SET64(a0, 24, v6);
-SET64(a0, 16, v5);
-SET64(a0, 8, v7);
+SET64(a0, 32, v10);
+SET64(a0, 24, v3);
+SET64(a0, 16, v4);
+SET64(a0, 8, v5);
 SET64(a0, 64, 0u);
 SET64(a0, 88, v13);
-SET64(a0, 80, v4);
-SET64(a0, 72, v9);
+SET64(a0, 80, v6);
+SET64(a0, 72, v11);
 goto L1;
 }
 rud_trap();
@@ -11147,21 +10005,13 @@ RUD_HERE
 v3 = RUD_G0 - 288u;
 RUD_G0 = v3;
 if ((s64)v3 >= (s64)16u) {
-TEST(v3);
-SET64(v3, 152, 0u);
-SET64(v3, 144, 0u);
-SET64(v3, 136, 0u);
-SET64(v3, 128, 0u);
-SET64(v3, 120, 0u);
-SET64(v3, 112, 0u);
+FILL_FEW(v3 + 112u, 0u, 48u);
 if ((a1 & 255u) == 0) {
-SET64(v3, 224, 0u);
-SET64(v3, 216, 0u);
-SET64(v3, 208, 0u);
-SET64(v3, 200, 0u);
-SET64(v3, 192, 0u);
-in_mm_store_ring_HeapCircularBufferStoredPacketQueue_with_room(RUD_AS v3 + 192u, a2);
+v4 = v3 + 192u;
+FILL_FEW(v4, 0u, 40u);
+in_mm_store_ring_HeapCircularBufferStoredPacketQueue_with_room(RUD_AS v4, a2);
 RUD_AGAIN
+TEST(v3);
 if (AT8(v3, 192) == 0) {
 v5 = AT64(v3, 224);
 SET64(v3, 104, v5);
@@ -11187,28 +10037,19 @@ v4 = v3 + 192u;
 FILL_FEW(v4, 0u, 96u);
 in_mm_store_table_BlockTablePacketQueue_with_room(RUD_AS v4, a2);
 RUD_AGAIN
+TEST(v3);
 if (AT8(v3, 192)) goto L3;
 SET64(v3, 72, AT64(v3, 224));
 SET64(v3, 64, AT64(v3, 216));
 SET64(v3, 56, AT64(v3, 208));
 SET64(v3, 48, AT64(v3, 200));
-SET64(v3, 0, AT64(v3, 240));
-SET64(v3, 8, AT64(v3, 248));
-SET64(v3, 16, AT64(v3, 256));
-SET64(v3, 24, AT64(v3, 264));
-SET64(v3, 32, AT64(v3, 272));
-SET64(v3, 40, AT64(v3, 280));
 v4 = AT64(v3, 232);
-SET64(v3, 184, AT64(v3, 72));
-SET64(v3, 176, AT64(v3, 64));
-SET64(v3, 168, AT64(v3, 56));
+COPY_FEW(v3, v3 + 240u, 48u);
 SET64(v3, 160, AT64(v3, 48));
-SET64(v3, 152, AT64(v3, 40));
-SET64(v3, 144, AT64(v3, 32));
-SET64(v3, 136, AT64(v3, 24));
-SET64(v3, 128, AT64(v3, 16));
-SET64(v3, 120, AT64(v3, 8));
-SET64(v3, 112, AT64(v3, 0));
+SET64(v3, 168, AT64(v3, 56));
+SET64(v3, 176, AT64(v3, 64));
+SET64(v3, 184, AT64(v3, 72));
+COPY_FEW(v3 + 112u, v3, 48u);
 L4:;
 TEST(a0);
 SET8(a0, 0, 0u);
@@ -11217,13 +10058,8 @@ SET64(a0, 24, AT64(v3, 168));
 SET64(a0, 32, AT64(v3, 176));
 SET64(a0, 40, AT64(v3, 184));
 SET64(a0, 48, v4);
-SET64(a0, 56, AT64(v3, 112));
-SET64(a0, 64, AT64(v3, 120));
-SET64(a0, 72, AT64(v3, 128));
-SET64(a0, 80, AT64(v3, 136));
-SET64(a0, 88, AT64(v3, 144));
-SET64(a0, 96, AT64(v3, 152));
 SET64(a0, 8, (u64)a1 & 255u);
+COPY_FEW(a0 + 56u, v3 + 112u, 48u);
 SET64(a0, 104, 0u);
 goto L2;
 L3:;
@@ -11436,8 +10272,8 @@ return 0;
 }
 
 static u32 in_mm_base_rows_RouteRowOrd_cmp(RUD_IT u64 a0, u64 a1) {
-u32 v2 = 0, v3 = 0, v4 = 0, v5 = 0, v6 = 0, v7 = 0, v8 = 0, v9 = 0, v10 = 0, v11 = 0, v12 = 0, v13 = 0;
-u32 v14 = 0, v15 = 0, v16 = 0, v17 = 0, v18 = 0, v19 = 0;
+u32 v2 = 0, v3 = 0, v4 = 0;
+u64 v5 = 0;
 RUD_HERE
 if ((s64)RUD_G0 >= (s64)16u) {
 TEST(a0);
@@ -11447,61 +10283,36 @@ v3 = AT16(a1, 0);
 if (v2 == v3) {
 v2 = AT8(a0, 2);
 v3 = AT8(a1, 2);
+if (v2 != v3) goto L1;
+v2 = AT8(a0, 3);
+v3 = AT8(a1, 3);
 if (v2 == v3) goto L3;
 goto L1;
 }
 goto L1;
 L3:;
-v2 = AT8(a0, 3);
-v3 = AT8(a1, 3);
-if (v2 != v3) goto L1;
-v4 = AT8(a1, 11);
-v5 = AT8(a0, 11);
-v6 = AT8(a1, 10);
-v7 = AT8(a0, 10);
-v8 = AT8(a1, 9);
-v9 = AT8(a0, 9);
-v10 = AT8(a1, 8);
-v11 = AT8(a0, 8);
-v12 = 1u;
-v2 = AT8(a0, 4);
-v3 = AT8(a1, 4);
-v13 = v2 != v3;
-v14 = AT8(a0, 5);
-v15 = AT8(a1, 5);
-v16 = AT8(a1, 6);
-v17 = AT8(a0, 6);
-v18 = AT8(a1, 7);
-v19 = AT8(a0, 7);
-if ((((v13 | (u32)(v14 != v15)) | ((u32)(v16 != v17) | (u32)(v18 != v19))) | (((u32)(v10 != v11) | (u32)(v8 != v9)) | (u32)(v6 != v7))) == 0) {
-if (v4 == v5) goto L5;
-}
-if (v13) goto L7;
-v2 = v14;
-v3 = v15;
-if (v2 != v3) goto L7;
-v3 = v16;
-v2 = v17;
-if (v3 != v2) goto L7;
-v3 = v18;
-v2 = v19;
-if (v3 != v2) goto L7;
-v3 = v10;
-v2 = v11;
-if (v3 != v2) goto L7;
-v3 = v8;
-v2 = v9;
-if (v3 != v2) goto L7;
-v3 = v6;
-v2 = v7;
-if (v3 != v2) goto L7;
-v3 = v4;
-v2 = v5;
-if (v3 == v2) goto L5;
-L7:;
-v12 = (v2 & 255u) < (v3 & 255u) ? 0u : 2u;
+v5 = a1 + 4u;
+a0 = a0 + 4u;
+a1 = 0u;
+v2 = 0u;
 L5:;
-return v12;
+v2 = v2 | (u32)(GET8(a0 + a1, 0) != GET8(a1 + v5, 0));
+a1 = a1 + 1u;
+if (a1 != 8u) goto L5;
+v3 = 1u;
+if ((v2 & 1u) == 0) goto L6;
+a1 = 0u;
+L7:;
+v2 = GET8(a0 + a1, 0);
+v4 = GET8(a1 + v5, 0);
+if (v2 == v4) {
+a1 = a1 + 1u;
+if (a1 != 8u) goto L7;
+goto L6;
+}
+v3 = v2 < v4 ? 0u : 2u;
+L6:;
+return v3;
 }
 rud_trap();
 return 0;
@@ -11552,74 +10363,63 @@ rud_trap();
 }
 
 static void in_std_alloc_vec_Vec_put_at_98cf589476e368ff(RUD_IT u64 a0, u64 a1, u64 a2) {
-u32 v15 = 0;
-u64 v3 = 0, v4 = 0, v5 = 0, v6 = 0, v7 = 0, v8 = 0, v9 = 0, v10 = 0, v11 = 0, v12 = 0, v13 = 0, v14 = 0;
-u64 j0 = 0;
+u64 v3 = 0, v4 = 0, v5 = 0, v6 = 0, v7 = 0, v8 = 0, v9 = 0, v10 = 0, v11 = 0, j0 = 0;
 RUD_HERE
-v12 = RUD_G0 - 16u;
+v6 = RUD_G0 - 16u;
 TEST(a2);
-TEST(v12);
-SET32(v12, 8, AT32(a2, 8));
-SET64(v12, 0, AT64(a2, 0));
-if ((s64)v12 >= (s64)16u) {
+TEST(v6);
+SET32(v6, 8, AT32(a2, 8));
+SET64(v6, 0, AT64(a2, 0));
+if ((s64)v6 >= (s64)16u) {
 a2 = a0 + 8u;
 TEST(a2);
-v8 = AT64(a2, 0);
+v4 = AT64(a2, 0);
 SET64(a2, 0, 0u);
 a2 = a0 + 16u;
 TEST(a2);
-v14 = AT64(a2, 0);
+v11 = AT64(a2, 0);
 SET64(a2, 0, 0u);
-a2 = a1 + 1u;
 TEST(a0);
-v6 = AT64(a0, 0);
-if (a1 == 0xffffffffffffffffull) {
-v9 = v8 + 1u;
-if (v9 < 171u) goto L3;
+v5 = AT64(a0, 0);
+a2 = a1 + 1u;
+if (a2 == 0) {
+v7 = v4 + 1u;
+if (v7 < 171u) goto L3;
 a2 = 0u;
-v10 = v6;
+v8 = v5;
 L6:;
-v4 = a2;
-if (!(v4 == 0)) {
-v3 = 2040u;
+v9 = a2;
+if (!(v9 == 0)) {
+a2 = 2040u;
 L9:;
-v5 = v3 + v10;
-a2 = v5 - 12u;
-v7 = v5 - 24u;
-TEST(v7);
-SET32(v7, 20, AT32(v7, 8));
-SET64(v7, 12, AT64(v7, 0));
-a2 = v5 - 36u;
-TEST(a2);
-SET64(v7, 0, AT64(a2, 0));
-SET32(v7, 8, AT32(a2, 8));
+v3 = a2 + v8;
+v10 = v3 - 12u;
 v3 = v3 - 24u;
-if (v3 != 0u) goto L9;
+TEST(v3);
+SET32(v3, 20, AT32(v3, 8));
+SET64(v3, 12, AT64(v3, 0));
+a2 = a2 - 12u;
+if (a2 != 0u) goto L9;
 goto L7;
 }
-v3 = 0u;
+a2 = 0u;
 L10:;
-v5 = v3 + v10;
-a2 = v5 - 12u;
-TEST(a2);
-v15 = AT32(a2, 8);
-SET32(a2, 20, v15);
-a2 = AT64(a2, 0);
-TEST(v5);
-SET64(v5, 0, a2);
-SET64(v5, 12, a2);
-SET32(v5, 20, v15);
-v3 = v3 + 24u;
-if (v3 != 2040u) goto L10;
+v10 = a2 + v8;
+v3 = v10 - 12u;
+TEST(v3);
+SET32(v3, 20, AT32(v3, 8));
+SET64(v3, 12, AT64(v3, 0));
+a2 = a2 + 12u;
+if (a2 != 2040u) goto L10;
 L7:;
-v10 = v10 + 2040u;
-a2 = v4 + 170u;
-v3 = v9 - a2;
+v8 = v8 + 2040u;
+a2 = v9 + 170u;
+v3 = v7 - a2;
 if (v3 > 170u) goto L6;
 if (a2 == 0) { j0 = a2 * 12u; goto L2; }
-if (a2 == v9) goto L1;
-v3 = (v8 - v4) - 169u;
-a2 = ((v8 * 12u) + v6) - 12u;
+if (a2 == v7) goto L1;
+v3 = (v4 - v9) - 169u;
+a2 = ((v4 * 12u) + v5) - 12u;
 L11:;
 TEST(a2);
 SET32(a2, 20, AT32(a2, 8));
@@ -11629,81 +10429,45 @@ v3 = v3 - 1u;
 if (!(v3 == 0)) goto L11;
 goto L1;
 }
-if (a1 == v8) goto L1;
-v13 = v8 - a1;
-v11 = v6 + (a2 * 12u);
-v7 = v6 + (a1 * 12u);
-if ((a1 + 1u) != v8) {
-v9 = v13 & 0xfffffffffffffffeull;
-a2 = ((v8 * 12u) + v6) - 12u;
-j0 = v13 & 1u;
-L13:;
+if (a1 == v4) goto L1;
+v3 = v4 - a1;
+a2 = ((v4 * 12u) + v5) - 12u;
+L12:;
 TEST(a2);
 SET32(a2, 20, AT32(a2, 8));
 SET64(a2, 12, AT64(a2, 0));
-v4 = (v13 + (v3 ^ 4611686018427387902ull)) * 12u;
-v10 = v11 + v4;
-v4 = v4 + v7;
-TEST(v4);
-TEST(v10);
-SET32(v10, 8, AT32(v4, 8));
-SET64(v10, 0, AT64(v4, 0));
-a2 = a2 - 24u;
-v3 = v3 + 2u;
-if (v9 != v3) goto L13;
-if (j0 == 0) goto L1;
-}
-a2 = (v13 + (v3 ^ 0xffffffffffffffffull)) * 12u;
-v4 = v11 + a2;
-a2 = a2 + v7;
-TEST(a2);
-TEST(v4);
-SET32(v4, 8, AT32(a2, 8));
-SET64(v4, 0, AT64(a2, 0));
+a2 = a2 - 12u;
+v3 = v3 - 1u;
+if (v3 != 0u) goto L12;
 goto L1;
 }
 rud_trap();
 L3:;
-v3 = v9;
+v3 = v7;
 j0 = a2 * 12u;
 L2:;
-v7 = j0;
-if (v9 == 0) goto L1;
-if (v3 != 1u) {
-v9 = v3 & 254u;
-a2 = (v6 + v7) - 12u;
-j0 = v3 & 1u;
-L15:;
-TEST(a2);
-v15 = AT32(a2, 8);
-SET32(a2, 20, v15);
-v10 = AT64(a2, 0);
-SET64(a2, 12, v10);
-v4 = a2 + 24u;
-SET64(a2, 24, v10);
-SET32(a2, 32, v15);
-a2 = v4;
-v11 = v11 + 2u;
-if (v9 != v11) goto L15;
-if (j0 == 0) goto L1;
-}
-v4 = (v6 + v7) + (v11 * 12u);
-a2 = v4 - 12u;
+if (v7 == 0) goto L1;
+a2 = (j0 + v5) - 12u;
+L13:;
 TEST(a2);
 SET32(a2, 20, AT32(a2, 8));
+v9 = a2 + 12u;
 SET64(a2, 12, AT64(a2, 0));
+a2 = v9;
+v3 = v3 - 1u;
+if (!(v3 == 0)) goto L13;
 L1:;
-a1 = v6 + (a1 * 12u);
+a1 = v5 + (a1 * 12u);
 TEST(a1);
-SET32(a1, 8, AT32(v12, 8));
-SET64(a1, 0, AT64(v12, 0));
-SET64(a0, 16, v14);
-SET64(a0, 8, v8 + 1u);
-SET64(a0, 0, v6);
+SET32(a1, 8, AT32(v6, 8));
+SET64(a1, 0, AT64(v6, 0));
+SET64(a0, 16, v11);
+SET64(a0, 8, v4 + 1u);
+SET64(a0, 0, v5);
 }
 
 static u32 in_std_alloc_vec_Vec_grow_amortized_98cf589476e368ff(RUD_IT u64 a0) {
-u32 i0 = 0;
+u32 v4 = 0;
 u64 v1 = 0, v2 = 0, v3 = 0, j0 = 0;
 RUD_HERE
 v2 = RUD_G0;
@@ -11711,20 +10475,21 @@ if ((s64)v2 >= (s64)16u) {
 TEST(a0);
 v1 = AT64(a0, 8);
 if (v1 == 0xffffffffffffffffull) {
-RUD_G0 = v2;
-return 0u;
+goto L1;
 }
 v1 = (v1 > 3u ? v1 : 3ull) + 1u;
 j0 = a0;
 a0 = AT64(a0, 16);
 v3 = a0 << 1;
-i0 = in_std_alloc_vec_Vec_move_to_98cf589476e368ff(RUD_AS j0, a0 < 4611686018427387904ull ? (v1 > v3 ? v1 : v3) : v1);
+v4 = in_std_alloc_vec_Vec_move_to_98cf589476e368ff(RUD_AS j0, a0 < 4611686018427387904ull ? (v1 > v3 ? v1 : v3) : v1);
 RUD_AGAIN
-RUD_G0 = v2;
-return i0;
+goto L1;
 }
 rud_trap();
 return 0;
+L1:;
+RUD_G0 = v2;
+return v4;
 }
 
 static void in_mm_control_table_ControlTable_add(RUD_IT u64 a0, u64 a1, u64 a2) {
@@ -11804,157 +10569,117 @@ return;
 rud_trap();
 }
 
-static void in_std_alloc_vec_Vec_with_capacity_0204b76857a009a6(RUD_IT u64 a0, u64 a1) {
-u32 i0 = 0;
-u64 v2 = 0;
-RUD_HERE
-v2 = RUD_G0 - 32u;
-RUD_G0 = v2;
-if ((s64)v2 >= (s64)16u) {
-TEST(v2);
-SET64(v2, 8, 0u);
-SET64(v2, 16, 0u);
-SET64(v2, 0, v2 + 31u);
-if (a1 == 0) goto L3;
-i0 = in_std_alloc_vec_Vec_move_to_795f5fd3dc7a282e(RUD_AS v2, a1);
-RUD_AGAIN
-if (i0) goto L3;
-if (!(AT64(v2, 16) == 0)) {
-rud_dealloc(RUD_AS AT64(v2, 0));
-RUD_AGAIN
-}
-TEST(a0);
-SET8(a0, 0, 1u);
-SET64(a0, 8, 0u);
-SET64(a0, 16, 0u);
-SET64(a0, 24, 0u);
-goto L1;
-L3:;
-TEST(a0);
-SET8(a0, 0, 0u);
-SET64(a0, 8, AT64(v2, 0));
-SET64(a0, 16, AT64(v2, 8));
-SET64(a0, 24, AT64(v2, 16));
-goto L1;
-}
-rud_trap();
-L1:;
-RUD_G0 = v2 + 32u;
-}
-
-static void in_mm_packet_octets_Octets_new(RUD_IT u64 a0, u64 a1) {
-u64 v2 = 0, v3 = 0, v4 = 0;
+static void in_mm_packet_lent_LentPacket_packet_in_block(RUD_IT u64 a0, u64 a1) {
+u32 v14 = 0, v15 = 0, i0 = 0;
+u64 v2 = 0, v3 = 0, v4 = 0, v5 = 0, v6 = 0, v7 = 0, v8 = 0, v9 = 0, v10 = 0, v11 = 0, v12 = 0, v13 = 0;
 RUD_HERE
 v2 = RUD_G0 - 48u;
 RUD_G0 = v2;
 if ((s64)v2 >= (s64)16u) {
 TEST(a1);
-v4 = AT64(a1, 0);
-TEST(v2);
-SET64(v2, 40, AT64(a1, 16));
-SET64(v2, 32, AT64(a1, 8));
-in_std_heap_GlobalAllocator_allocate(RUD_AS v2, 32u, 8u);
-RUD_AGAIN
-if (AT8(v2, 0) == 0) {
-a1 = AT64(v2, 8);
-TEST(a1);
-SET64(a1, 8, v4);
-SET64(a1, 0, 1u);
-SET64(a1, 16, AT64(v2, 32));
-SET64(a1, 24, AT64(v2, 40));
-TEST(a0);
-SET64(a0, 24, 0u);
-SET64(a0, 16, 0u);
-goto L1;
-}
-a1 = AT64(v2, 40);
-SET64(v2, 24, a1);
-v3 = AT64(v2, 32);
-SET64(v2, 16, v3);
-TEST(a0);
-SET64(a0, 24, a1);
-SET64(a0, 16, v3);
-v3 = 1u;
-a1 = v4;
-goto L1;
-}
-rud_trap();
-L1:;
-SET64(a0, 0, v3);
-SET64(a0, 8, a1);
-RUD_G0 = v2 + 48u;
-}
-
-static void in_mm_packet_lent_LentPacket_packet_in_block(RUD_IT u64 a0, u64 a1) {
-u32 v5 = 0, v6 = 0, i0 = 0;
-u64 v2 = 0, v3 = 0, v4 = 0;
-RUD_HERE
-v2 = RUD_G0 - 96u;
-RUD_G0 = v2;
-if ((s64)v2 >= (s64)16u) {
-TEST(a1);
-v3 = AT64(a1, 32);
-v4 = AT64(a1, 24);
+v4 = AT64(a1, 32);
+v8 = AT64(a1, 24);
 TEST(v2);
 SET64(v2, 40, 0u);
-SET64(v2, 48, 0u);
-SET64(v2, 56, 0u);
-SET64(v2, 64, 0u);
-SET64(v2, 8, 0u);
-SET64(v2, 16, 0u);
-SET64(v2, 24, 0u);
 SET64(v2, 32, 0u);
-in_std_alloc_vec_Vec_with_capacity_0204b76857a009a6(RUD_AS v2 + 40u, 1013u);
+v9 = 1013u;
+rud_alloc(RUD_AS v2 + 32u, 1013u, 1u);
 RUD_AGAIN
-if (AT8(v2, 40)) goto L2;
-SET64(v2, 88, AT64(v2, 64));
-SET64(v2, 80, AT64(v2, 56));
-SET64(v2, 72, AT64(v2, 48));
-i0 = in_std_alloc_vec_Vec_extend_from_slice_d4fc6a806bb7b0db(RUD_AS v2 + 72u, v4, v3);
+if ((AT8(v2, 32) & 1u) == 0) goto L4;
+v7 = AT64(v2, 40);
+SET64(v2, 24, 1013u);
+SET64(v2, 16, 0u);
+SET64(v2, 8, v7);
+if (v4 >= 1014u) {
+i0 = in_std_alloc_vec_Vec_grow_amortized_795f5fd3dc7a282e(RUD_AS v2 + 8u, v4);
 RUD_AGAIN
-if ((i0 & 255u) == 0) {
-in_mm_packet_octets_Octets_new(RUD_AS v2 + 8u, v2 + 72u);
-RUD_AGAIN
-v3 = AT64(v2, 16);
-if (AT8(v2, 8) == 0) goto L4;
-if (AT64(v2, 32) == 0) goto L2;
-rud_dealloc(RUD_AS v3);
-RUD_AGAIN
-goto L2;
+if (i0 == 0) goto L5;
+v7 = AT64(v2, 8);
+v10 = AT64(v2, 16);
+v9 = AT64(v2, 24);
 }
-if (AT64(v2, 88) == 0) goto L2;
-rud_dealloc(RUD_AS AT64(v2, 72));
+v5 = v7 + v10;
+if (v4 > (v5 - v8)) {
+v11 = v4 & 3u;
+if (v4 >= 4u) {
+v6 = v4 & 0xfffffffffffffffcull;
+L10:;
+v12 = v3 + v5;
+v13 = v3 + v8;
+TEST(v13);
+TEST(v12);
+SET8(v12, 0, AT8(v13, 0));
+SET8(v12, 1, AT8(v13, 1));
+SET8(v12, 2, AT8(v13, 2));
+SET8(v12, 3, AT8(v13, 3));
+v3 = v3 + 4u;
+if (v6 != v3) goto L10;
+if (v11 == 0) goto L7;
+}
+v6 = v3 + v8;
+v3 = v7 + (v3 + v10);
+L11:;
+TEST(v6);
+TEST(v3);
+SET8(v3, 0, AT8(v6, 0));
+v3 = v3 + 1u;
+v6 = v6 + 1u;
+v11 = v11 - 1u;
+if (v11 != 0u) goto L11;
+goto L7;
+}
+if (v4 == 0) goto L7;
+COPY(v5, v8, v4);
+L7:;
+SET64(v2, 40, 0u);
+SET64(v2, 32, 0u);
+rud_alloc(RUD_AS v2 + 32u, 32u, 8u);
 RUD_AGAIN
-goto L2;
+if (AT8(v2, 32) & 1u) goto L3;
+if (v9 == 0) goto L4;
+rud_dealloc(RUD_AS v7);
+RUD_AGAIN
+goto L4;
+L5:;
+if (AT64(v2, 24) == 0) goto L4;
+rud_dealloc(RUD_AS AT64(v2, 8));
+RUD_AGAIN
 L4:;
-v5 = AT32(a1, 10);
-v4 = AT64(a1, 16);
-v6 = AT8(a1, 8);
 TEST(a0);
-SET64(a0, 8, AT64(a1, 0));
-SET16(a0, 16, v6);
-SET64(a0, 32, v3);
-SET64(a0, 24, v4);
-SET16(a0, 22, 0u);
-SET32(a0, 18, v5);
-SET8(a0, 0, 0u);
-goto L1;
-}
-rud_trap();
-L2:;
-TEST(a0);
-SET64(a0, 8, 0u);
 SET8(a0, 0, 1u);
+SET64(a0, 8, 0u);
 SET64(a0, 16, 0u);
 SET64(a0, 24, 0u);
 SET64(a0, 32, 0u);
-L1:;
-RUD_G0 = v2 + 96u;
+goto L2;
+L3:;
+v5 = AT64(v2, 40);
+TEST(v5);
+SET64(v5, 24, v9);
+SET64(v5, 16, v4 + v10);
+SET64(v5, 8, v7);
+SET64(v5, 0, 1u);
+v14 = AT32(a1, 10);
+v6 = AT64(a1, 16);
+v15 = AT8(a1, 8);
+TEST(a0);
+SET64(a0, 8, AT64(a1, 0));
+SET16(a0, 16, v15);
+SET64(a0, 32, v5);
+SET64(a0, 24, v6);
+SET16(a0, 22, 0u);
+SET32(a0, 18, v14);
+SET8(a0, 0, 0u);
+L2:;
+RUD_G0 = v2 + 48u;
+return;
+}
+rud_trap();
 }
 
 static u32 in_mm_memory_spare_Spare_fill(RUD_IT u64 a0) {
 u32 v6 = 0, i0 = 0;
-u64 v1 = 0, v2 = 0, v3 = 0, v4 = 0, v5 = 0;
+u64 v1 = 0, v2 = 0, v3 = 0, v4 = 0, v5 = 0, j0 = 0, j1 = 0;
 RUD_HERE
 v1 = RUD_G0 - 112u;
 RUD_G0 = v1;
@@ -11975,25 +10700,34 @@ SET64(v1, 56, 4194313u);
 in_mm_packet_lent_LentPacket_packet_in_block(RUD_AS v1 + 72u, v1 + 32u);
 RUD_AGAIN
 if (AT8(v1, 72)) goto L2;
-v3 = AT64(v1, 104);
-SET64(v1, 24, v3);
-v4 = AT64(v1, 96);
-SET64(v1, 16, v4);
-v5 = AT64(v1, 88);
-SET64(v1, 8, v5);
-v2 = AT64(v1, 80);
-SET64(v1, 0, v2);
-SET64(a0, 8, v2);
-SET64(a0, 16, v5);
-SET64(a0, 24, v4);
+v4 = AT64(v1, 104);
+SET64(v1, 24, v4);
+v5 = AT64(v1, 96);
+SET64(v1, 16, v5);
+v2 = AT64(v1, 88);
+SET64(v1, 8, v2);
+v3 = AT64(v1, 80);
+SET64(v1, 0, v3);
+SET64(a0, 8, v3);
+SET64(a0, 16, v2);
+SET64(a0, 24, v5);
 i0 = AT8(a0, 0);
 SET64(a0, 0, 1u);
-v2 = a0 + 32u;
-a0 = AT64(a0, 32);
-TEST(v2);
-SET64(v2, 0, v3);
+a0 = a0 + 32u;
+TEST(a0);
+v2 = AT64(a0, 0);
+SET64(a0, 0, v4);
 if (i0 != 1u) goto L1;
-in_std_alloc_arc_Arc_drop_c3b6ee2ab0dfb523(RUD_AS a0);
+TEST(v2);
+a0 = AT64(v2, 0);
+SET64(v2, 0, a0 - 1u);
+if (a0 != 1u) goto L1;
+j0 = AT64(v2, 8);
+j1 = AT64(v2, 24);
+rud_dealloc(RUD_AS v2);
+RUD_AGAIN
+if (j1 == 0) goto L1;
+rud_dealloc(RUD_AS j0);
 RUD_AGAIN
 goto L1;
 }
@@ -12046,131 +10780,87 @@ rud_trap();
 return 0;
 }
 
-static u32 in_std_alloc_vec_Vec_grow_amortized_7cbd3772f10b2324(RUD_IT u64 a0) {
-u32 i0 = 0;
-u64 v1 = 0, v2 = 0, v3 = 0, j0 = 0;
+static u32 in_mm_service_reserve_Reserve_fill(RUD_IT u64 a0) {
+u32 v10 = 0, v11 = 0, v12 = 0;
+u64 v1 = 0, v2 = 0, v3 = 0, v4 = 0, v5 = 0, v6 = 0, v7 = 0, v8 = 0, v9 = 0, j0 = 0;
 RUD_HERE
-v2 = RUD_G0;
-if ((s64)v2 >= (s64)16u) {
+v3 = RUD_G0 - 32u;
+RUD_G0 = v3;
+if ((s64)v3 >= (s64)16u) {
+v4 = 5u;
+v5 = 4205504u;
 TEST(a0);
 v1 = AT64(a0, 8);
-if (v1 == 0xffffffffffffffffull) {
-RUD_G0 = v2;
-return 0u;
+v2 = v1;
+L4:;
+if (!(v2 == 0)) {
+if (v4 <= (v2 - 1u)) goto L2;
+v5 = v5 + (v2 << 3);
+v4 = v4 - v2;
 }
-v1 = (v1 > 3u ? v1 : 3ull) + 1u;
-j0 = a0;
-a0 = AT64(a0, 16);
-v3 = a0 << 1;
-i0 = in_std_alloc_vec_Vec_move_to_7cbd3772f10b2324(RUD_AS j0, a0 < 4611686018427387904ull ? (v1 > v3 ? v1 : v3) : v1);
+if (v4 == 0) goto L2;
+TEST(v5);
+v2 = AT64(v5, 0);
+v11 = v2 == 0;
+if (v11) {
+j0 = v3 + 31u;
+} else {
+v10 = 1u;
+if ((s64)v2 < (s64)0u) goto L1;
+in_std_heap_GlobalAllocator_allocate(RUD_AS v3 + 8u, v2, 1u);
 RUD_AGAIN
-RUD_G0 = v2;
-return i0;
+TEST(v3);
+v12 = AT8(v3, 8);
+if (v12) goto L1;
+v1 = AT64(a0, 8);
+j0 = v12 ? 0ull : AT64(v3, 16);
+}
+v7 = j0;
+if (v1 == AT64(a0, 16)) {
+v10 = 0u;
+v6 = RUD_G0;
+if ((s64)v6 >= (s64)16u) {
+v1 = AT64(a0, 8);
+if (v1 == 0xffffffffffffffffull) goto L9;
+v1 = (v1 > 3u ? v1 : 3ull) + 1u;
+v8 = AT64(a0, 16);
+v9 = v8 << 1;
+v10 = in_std_alloc_vec_Vec_move_to_7cbd3772f10b2324(RUD_AS a0, v8 < 4611686018427387904ull ? (v1 > v9 ? v1 : v9) : v1);
+RUD_AGAIN
+goto L9;
 }
 rud_trap();
 return 0;
-}
-
-static u32 in_mm_service_reserve_Reserve_fill(RUD_IT u64 a0) {
-u32 v8 = 0, v9 = 0, i0 = 0;
-u64 v1 = 0, v2 = 0, v3 = 0, v4 = 0, v5 = 0, v6 = 0, v7 = 0, j0 = 0;
-RUD_HERE
-v2 = RUD_G0 - 48u;
-RUD_G0 = v2;
-if ((s64)v2 >= (s64)16u) {
-TEST(a0);
-v1 = AT64(a0, 8);
-if (v1 == 0) {
-v4 = 5u;
-j0 = 4205504u;
-goto L3;
-}
-if ((u32)(v1 == 5u) | (u32)((v1 - 6u) < 0xfffffffffffffffbull)) goto L2;
-v4 = 5ull - v1;
-j0 = (v1 << 3) + 4205504u;
-L3:;
-v5 = j0;
-TEST(v5);
-v3 = AT64(v5, 0);
-if (v3 == 0) {
-j0 = v2 + 47u;
-} else {
-v8 = 1u;
-if ((s64)v3 < (s64)0u) goto L2;
-in_std_heap_GlobalAllocator_allocate(RUD_AS v2 + 24u, v3, 1u);
-RUD_AGAIN
-TEST(v2);
-v9 = AT8(v2, 24);
-if (v9) goto L2;
-v1 = AT64(a0, 8);
-j0 = v9 ? 0ull : AT64(v2, 32);
-}
-v7 = j0;
-if (v1 == AT64(a0, 16)) {
-i0 = in_std_alloc_vec_Vec_grow_amortized_7cbd3772f10b2324(RUD_AS a0);
-RUD_AGAIN
-if (i0 == 0) goto L6;
-v1 = AT64(a0, 8);
-}
-v6 = AT64(a0, 0) + (v1 * 24u);
-TEST(v6);
-SET64(v6, 16, v3);
-SET64(v6, 8, 0u);
-SET64(v6, 0, v7);
-v1 = v1 + 1u;
-SET64(a0, 8, v1);
-v4 = v4 - 1u;
-if (v4 == 0) {
-v8 = 0u;
-goto L2;
-}
-v5 = v5 + 8u;
 L9:;
-TEST(v5);
-v3 = AT64(v5, 0);
-if (v3 == 0) {
-j0 = v2 + 47u;
-} else {
-v8 = 1u;
-if ((s64)v3 < (s64)0u) goto L2;
-in_std_heap_GlobalAllocator_allocate(RUD_AS v2 + 8u, v3, 1u);
-RUD_AGAIN
-TEST(v2);
-v9 = AT8(v2, 8);
-if (v9) goto L2;
-v1 = AT64(a0, 8);
-j0 = v9 ? 0ull : AT64(v2, 16);
-}
-v7 = j0;
-if (v1 == AT64(a0, 16)) {
-i0 = in_std_alloc_vec_Vec_grow_amortized_7cbd3772f10b2324(RUD_AS a0);
-RUD_AGAIN
-if (i0 == 0) goto L6;
+RUD_G0 = v6;
+if (v10 == 0) goto L7;
 v1 = AT64(a0, 8);
 }
+v4 = v4 - 1u;
+v5 = v5 + 8u;
 v6 = AT64(a0, 0) + (v1 * 24u);
 TEST(v6);
-SET64(v6, 16, v3);
+SET64(v6, 16, v2);
+v2 = 0u;
 SET64(v6, 8, 0u);
 SET64(v6, 0, v7);
 v1 = v1 + 1u;
 SET64(a0, 8, v1);
-v5 = v5 + 8u;
-v4 = v4 - 1u;
-if (!(v4 == 0)) goto L9;
-v8 = 0u;
-goto L2;
-L6:;
-v8 = 1u;
-if (v3 == 0) goto L2;
+goto L4;
+L7:;
+v10 = 1u;
+if (v11) goto L1;
 rud_dealloc(RUD_AS v7);
 RUD_AGAIN
-L2:;
-RUD_G0 = v2 + 48u;
-return v8;
+goto L1;
 }
 rud_trap();
 return 0;
+L2:;
+v10 = 0u;
+L1:;
+RUD_G0 = v3 + 32u;
+return v10;
 }
 
 static void in_std_alloc_vec_Vec_clear_81505d604071a4c2(RUD_IT u64 a0) {
@@ -12225,8 +10915,7 @@ L7:;
 if (AT64(a0, 40) == 0) goto L2;
 rud_dealloc(RUD_AS AT64(a0, 24));
 RUD_AGAIN
-RUD_G0 = v2;
-return;
+goto L2;
 L6:;
 if (!(v1 == 0)) goto L3;
 goto L2;
@@ -12487,267 +11176,209 @@ u64 v4 = 0, v5 = 0, v6 = 0, v7 = 0, v8 = 0, v9 = 0, v10 = 0, v11 = 0, v12 = 0, v
 u64 v16 = 0, v17 = 0, v18 = 0, v19 = 0, v20 = 0, v21 = 0, v22 = 0, v23 = 0, v24 = 0, v25 = 0, v26 = 0, v27 = 0;
 u64 v28 = 0, j0 = 0, j1 = 0;
 RUD_HERE
-(void)v25;
 (void)v27;
 i0 = in_rattle_enter(RUD_AS0);
 if (i0) {
 rud_trap();
 }
-v22 = a0;
-v7 = a2;
-v16 = a3;
+v23 = a0;
+v8 = a2;
+v18 = a3;
 v4 = RUD_G0 - 1920u;
 RUD_G0 = v4;
 if ((s64)v4 < (s64)16u) goto L8;
-TEST(v22);
-if (AT8(v22, 8) == 1u) {
-TEST(v16);
-SET64(v16, 4, 0u);
-SET32(v16, 0, 4u);
-SET64(v16, 12, 0u);
-SET64(v16, 20, 0u);
-SET64(v16, 28, 0u);
-SET64(v16, 36, 0u);
-SET32(v16, 44, 0u);
+TEST(v23);
+if (AT8(v23, 8) == 1u) {
+TEST(v18);
+SET32(v18, 0, 4u);
+FILL_FEW(v18 + 4u, 0u, 44u);
 goto L2;
 }
-v11 = a1 + (a1 == 0 ? 4096ull : 0ull);
+v10 = a1 + (a1 == 0 ? 4096ull : 0ull);
 a0 = 0u;
 TEST_FAR(v4, 896);
 SET64(v4, 536, 0u);
 SET16(v4, 544, 0u);
-SET64(v4, 488, 0u);
-SET64(v4, 496, 0u);
-SET64(v4, 504, 0u);
-SET64(v4, 512, 0u);
-SET64(v4, 520, 0u);
-SET64(v4, 526, 0u);
+FILL_FEW(v4 + 490u, 0u, 46u);
 SET64(v4, 480, 0u);
 SET64(v4, 472, 0u);
 SET64(v4, 464, 0u);
-SET64(v4, 456, 0u);
-SET64(v4, 448, 0u);
 SET64(v4, 440, 0u);
-SET64(v4, 432, 0u);
-SET64(v4, 424, 0u);
+SET64(v4, 448, 0u);
+SET64(v4, 456, 0u);
 SET64(v4, 416, 0u);
-SET16(v4, 408, 0u);
+SET64(v4, 424, 0u);
+SET64(v4, 432, 0u);
 SET64(v4, 400, 0u);
-SET64(v4, 390, 0u);
-SET64(v4, 384, 0u);
-SET64(v4, 376, 0u);
-SET64(v4, 368, 0u);
-SET64(v4, 360, 0u);
-SET64(v4, 352, 0u);
+SET16(v4, 408, 0u);
+FILL_FEW(v4 + 354u, 0u, 46u);
 SET64(v4, 344, 0u);
 SET64(v4, 336, 0u);
 SET64(v4, 328, 0u);
-SET64(v4, 320, 0u);
-SET64(v4, 312, 0u);
 SET64(v4, 304, 0u);
-SET64(v4, 296, 0u);
-SET64(v4, 288, 0u);
+SET64(v4, 312, 0u);
+SET64(v4, 320, 0u);
 SET64(v4, 280, 0u);
-SET64(v4, 272, 0u);
-SET64(v4, 264, 0u);
-SET64(v4, 256, 0u);
-SET64(v4, 248, 0u);
-SET64(v4, 240, 0u);
-SET64(v4, 232, 0u);
-SET64(v4, 224, 0u);
-SET64(v4, 216, 0u);
-SET64(v4, 208, 0u);
-SET64(v4, 200, 0u);
-SET64(v4, 192, 0u);
-SET64(v4, 184, 0u);
-SET64(v4, 176, 0u);
-SET64(v4, 168, 0u);
+SET64(v4, 288, 0u);
+SET64(v4, 296, 0u);
+FILL_FEW(v4 + 224u, 0u, 56u);
+FILL_FEW(v4 + 168u, 0u, 56u);
 SET64(v4, 160, 0u);
 SET64(v4, 152, 0u);
 SET64(v4, 144, 0u);
-SET64(v4, 136, 0u);
-SET64(v4, 128, 0u);
 SET64(v4, 120, 0u);
+SET64(v4, 128, 0u);
+SET64(v4, 136, 0u);
 SET64(v4, 904, 0u);
 SET16(v4, 912, 0u);
-SET64(v4, 856, 0u);
-SET64(v4, 864, 0u);
-SET64(v4, 872, 0u);
-SET64(v4, 880, 0u);
-SET64(v4, 888, 0u);
-SET64(v4, 894, 0u);
+FILL_FEW(v4 + 858u, 0u, 46u);
 SET64(v4, 848, 0u);
 SET64(v4, 840, 0u);
 SET64(v4, 832, 0u);
-SET64(v4, 824, 0u);
-SET64(v4, 816, 0u);
 SET64(v4, 808, 0u);
-SET64(v4, 800, 0u);
-SET64(v4, 792, 0u);
+SET64(v4, 816, 0u);
+SET64(v4, 824, 0u);
 SET64(v4, 784, 0u);
-SET64(v4, 774, 0u);
-SET64(v4, 768, 0u);
-SET64(v4, 760, 0u);
-SET64(v4, 752, 0u);
-SET64(v4, 744, 0u);
-SET64(v4, 736, 0u);
+SET64(v4, 792, 0u);
+SET64(v4, 800, 0u);
+FILL_FEW(v4 + 738u, 0u, 46u);
 SET64(v4, 728, 0u);
 SET64(v4, 720, 0u);
 SET64(v4, 712, 0u);
-SET64(v4, 704, 0u);
-SET64(v4, 696, 0u);
 SET64(v4, 688, 0u);
-SET16(v4, 680, 0u);
+SET64(v4, 696, 0u);
+SET64(v4, 704, 0u);
 SET64(v4, 672, 0u);
-SET64(v4, 662, 0u);
-SET64(v4, 656, 0u);
-SET64(v4, 648, 0u);
-SET64(v4, 640, 0u);
-SET64(v4, 632, 0u);
-SET64(v4, 624, 0u);
+SET16(v4, 680, 0u);
+FILL_FEW(v4 + 626u, 0u, 46u);
 SET64(v4, 616, 0u);
 SET64(v4, 608, 0u);
 SET64(v4, 600, 0u);
-SET64(v4, 592, 0u);
-SET64(v4, 584, 0u);
 SET64(v4, 576, 0u);
-SET64(v4, 568, 0u);
-SET64(v4, 560, 0u);
+SET64(v4, 584, 0u);
+SET64(v4, 592, 0u);
 SET64(v4, 552, 0u);
+SET64(v4, 560, 0u);
+SET64(v4, 568, 0u);
 SET64(v4, 936, 0u);
 SET64(v4, 928, 0u);
 SET64(v4, 920, 0u);
-v30 = v7 == 0;
-if (v30) goto L12;
-v9 = v7 - 8u;
-v6 = v11 + v9;
+v33 = v8 == 0;
+if (v33) goto L12;
+v7 = v8 - 8u;
+a3 = v10 + v7;
 L13:;
-a1 = a0;
-a0 = v11 + a1;
-TEST(a0);
-v29 = AT8(a0, 0);
-a2 = v7 - a1;
-if (((u32)((s32)(u32)(s32)(s8)v29 < (s32)0u) | (u32)(a2 < 2u)) == 0) {
-a3 = 1u;
-if ((s32)(u32)(s32)(s8)AT8(a0, 1) < (s32)0u) goto L17;
-SET64(v4, 952, v7);
-SET64(v4, 944, v11);
-if (a2 <= 7u) {
-if ((s32)(u32)(s32)(s8)AT8(a0, 0) < (s32)0u) {
+a2 = a0 + v10;
+TEST(a2);
+v29 = AT8(a2, 0);
+a1 = v8 - a0;
+if (((u32)((s32)(u32)(s32)(s8)v29 < (s32)0u) | (u32)(a1 < 2u)) == 0) {
+v5 = 1u;
+if ((s32)(u32)(s32)(s8)AT8(a2, 1) < (s32)0u) goto L17;
+SET64(v4, 952, v8);
+SET64(v4, 944, v10);
+if (a1 <= 7u) {
+L20:;
+if ((s32)(u32)(s32)(s8)GET8(a0 + v10, 0) < (s32)0u) goto L14;
+a0 = a0 + 1u;
+if (v8 != a0) goto L20;
+goto L12;
+rud_trap();
+}
+a1 = AT64(a2, 0) & 0x8080808080808080ull;
+a1 = (a1 == 0 ? 8ull : (rud_ctz64(a1) >> 3)) + a0;
+if (a1 < (a0 + 8u)) {
 a0 = a1;
 goto L14;
 }
-a0 = a1 + 1u;
-if (a0 == v7) goto L12;
-if ((s32)(u32)(s32)(s8)GET8(a0 + v11, 0) < (s32)0u) goto L14;
-a0 = a1 + 2u;
-if (a0 == v7) goto L12;
-if ((s32)(u32)(s32)(s8)GET8(a0 + v11, 0) < (s32)0u) goto L14;
-a0 = a1 + 3u;
-if (a0 == v7) goto L12;
-if ((s32)(u32)(s32)(s8)GET8(a0 + v11, 0) < (s32)0u) goto L14;
-a0 = a1 + 4u;
-if (a0 == v7) goto L12;
-if ((s32)(u32)(s32)(s8)GET8(a0 + v11, 0) < (s32)0u) goto L14;
-a0 = a1 + 5u;
-if (a0 == v7) goto L12;
-if ((s32)(u32)(s32)(s8)GET8(a0 + v11, 0) < (s32)0u) goto L14;
-a0 = a1 + 6u;
-if (a0 == v7) goto L12;
-if ((s32)(u32)(s32)(s8)GET8(a0 + v11, 0) < (s32)0u) goto L14;
-goto L12;
-}
-a0 = AT64(a0, 0) & 0x8080808080808080ull;
-a0 = (a0 == 0 ? 8ull : (rud_ctz64(a0) >> 3)) + a1;
-if (a0 < (a1 + 8u)) goto L14;
-if ((v7 - a0) < 32u) goto L21;
-L22:;
-a1 = a0 + v11;
-TEST(a1);
-if (((((AT64(a1, 8) | AT64(a1, 0)) | AT64(a1, 16)) | AT64(a1, 24)) & 0x8080808080808080ull) != 0u) goto L21;
-j0 = v7;
-a3 = v4 + 944u;
-a1 = a0 + 32u;
-if ((s64)RUD_G0 >= (s64)16u) {
-a2 = v7 - a1;
-if (a2 < 64u) goto L25;
-a3 = AT64(v4, 944);
-L26:;
-a0 = a1 + a3;
+if ((v8 - a1) < 32u) goto L22;
+L23:;
+a0 = a1 + v10;
 TEST(a0);
-i1 = ((((((((AT64(a0, 16) | AT64(a0, 0)) | AT64(a0, 32)) | AT64(a0, 48)) | AT64(a0, 8)) | AT64(a0, 24)) | AT64(a0, 40)) | AT64(a0, 56)) & 0x8080808080808080ull) != 0u;
-if (i1) goto L25;
-a1 = a1 + 64u;
-a2 = a2 - 64u;
-if (a2 > 63u) goto L26;
-L25:;
-j1 = a1;
-goto L23;
+if (((((AT64(a0, 8) | AT64(a0, 0)) | AT64(a0, 16)) | AT64(a0, 24)) & 0x8080808080808080ull) != 0u) goto L22;
+j0 = v8;
+a0 = v4 + 944u;
+a2 = a1 + 32u;
+if ((s64)RUD_G0 >= (s64)16u) {
+a1 = v8 - a2;
+if (a1 < 64u) goto L26;
+a0 = AT64(v4, 944);
+L27:;
+v5 = a0 + a2;
+TEST(v5);
+i1 = ((((((((AT64(v5, 16) | AT64(v5, 0)) | AT64(v5, 32)) | AT64(v5, 48)) | AT64(v5, 8)) | AT64(v5, 24)) | AT64(v5, 40)) | AT64(v5, 56)) & 0x8080808080808080ull) != 0u;
+if (i1) goto L26;
+a2 = a2 + 64u;
+a1 = a1 - 64u;
+if (a1 > 63u) goto L27;
+L26:;
+j1 = a2;
+goto L24;
 }
 rud_trap();
-L23:;
-a0 = j1;
-if ((j0 - a0) > 31u) goto L22;
-L21:;
-v5 = v7 - a0;
-L27:;
-if (v5 < 9u) goto L16;
-v5 = v5 - 8u;
-a1 = GET64(a0 + v11, 0) & 0x8080808080808080ull;
-a1 = a1 == 0 ? 8ull : (rud_ctz64(a1) >> 3);
-j0 = a1 + a0;
-a0 = a0 + 8u;
-if (j0 >= a0) goto L27;
-a0 = (a0 + a1) - 8u;
+L24:;
+a1 = j1;
+if ((j0 - a1) > 31u) goto L23;
+L22:;
+a0 = v8 - a1;
+L28:;
+if (a0 < 9u) goto L16;
+a0 = a0 - 8u;
+a2 = GET64(a1 + v10, 0) & 0x8080808080808080ull;
+a2 = a2 == 0 ? 8ull : (rud_ctz64(a2) >> 3);
+j0 = a2 + a1;
+a1 = a1 + 8u;
+if (j0 >= a1) goto L28;
+a0 = (a1 + a2) - 8u;
 goto L14;
 }
-a3 = 1u;
+v5 = 1u;
 if ((s32)(u32)(s32)(s8)v29 >= (s32)0u) goto L17;
 if (v29 < 194u) goto L15;
 if (v29 <= 223u) {
-a3 = 2u;
-if (a2 < 2u) goto L15;
-if ((s32)(u32)(s32)(s8)AT8(a0, 1) <= (s32)4294967231u) goto L17;
+v5 = 2u;
+if (a1 < 2u) goto L15;
+if ((s32)(u32)(s32)(s8)AT8(a2, 1) <= (s32)4294967231u) goto L17;
 goto L15;
 }
 if (v29 <= 239u) {
-if (a2 < 3u) goto L15;
-v33 = (u32)(s32)(s8)AT8(a0, 1);
-if ((s32)v33 > (s32)4294967231u) goto L15;
-if ((s32)(u32)(s32)(s8)AT8(a0, 2) > (s32)4294967231u) goto L15;
-v29 = ((v33 & 255u) + (v29 << 6)) - 14464u;
-if (v29 < 32u) goto L15;
-a3 = 3u;
-if (v29 < 864u) goto L17;
-j0 = v29 < 896u ? 0ull : 3ull;
-goto L29;
+if (a1 < 3u) goto L15;
+v30 = (u32)(s32)(s8)AT8(a2, 1);
+if ((s32)v30 > (s32)4294967231u) goto L15;
+if ((s32)(u32)(s32)(s8)AT8(a2, 2) > (s32)4294967231u) goto L15;
+v30 = ((v30 & 255u) + (v29 << 6)) - 14464u;
+if (v30 < 32u) goto L15;
+v5 = 3u;
+if (v30 < 864u) goto L17;
+j0 = v30 < 896u ? 0ull : 3ull;
+goto L30;
 }
-if (a2 < 4u) goto L15;
-v33 = (u32)(s32)(s8)AT8(a0, 1);
-if ((s32)v33 > (s32)4294967231u) goto L15;
-if ((s32)(u32)(s32)(s8)AT8(a0, 2) > (s32)4294967231u) goto L15;
-if ((s32)(u32)(s32)(s8)AT8(a0, 3) > (s32)4294967231u) goto L15;
-v29 = ((v33 & 255u) + (v29 << 6)) - 15488u;
-if (v29 < 16u) goto L15;
-j0 = v29 < 272u ? 4ull : 0ull;
-L29:;
-a3 = j0;
-if (a3 == 0) goto L15;
+if (a1 < 4u) goto L15;
+v30 = (u32)(s32)(s8)AT8(a2, 1);
+if ((s32)v30 > (s32)4294967231u) goto L15;
+if ((s32)(u32)(s32)(s8)AT8(a2, 2) > (s32)4294967231u) goto L15;
+if ((s32)(u32)(s32)(s8)AT8(a2, 3) > (s32)4294967231u) goto L15;
+v30 = ((v30 & 255u) + (v29 << 6)) - 15488u;
+if (v30 < 16u) goto L15;
+j0 = v30 < 272u ? 4ull : 0ull;
+L30:;
+v5 = j0;
+if (v5 == 0) goto L15;
 L17:;
-a0 = a1 + a3;
+a0 = a0 + v5;
 goto L14;
 L16:;
-TEST(v6);
-a0 = AT64(v6, 0) & 0x8080808080808080ull;
-a0 = (a0 == 0 ? 8ull : (rud_ctz64(a0) >> 3)) + v9;
+TEST(a3);
+a0 = AT64(a3, 0) & 0x8080808080808080ull;
+a0 = (a0 == 0 ? 8ull : (rud_ctz64(a0) >> 3)) + v7;
 goto L14;
 L15:;
 i0 = 1u;
 goto L11;
 L14:;
-if (a0 < v7) goto L13;
+if (a0 < v8) goto L13;
 L12:;
-a0 = 0u;
+v5 = 0u;
 SET64(v4, 1160, 0u);
 SET64(v4, 1168, 0u);
 SET64(v4, 1176, 0u);
@@ -12771,52 +11402,51 @@ SET64(v4, 1224, 0u);
 SET64(v4, 1200, 0u);
 SET64(v4, 1192, 0u);
 SET64(v4, 1184, 0u);
-a3 = v11;
-if (v30) { j0 = 0u; goto L31; }
-if (v7 == 1u) { j0 = v7; goto L31; }
-TEST(v11);
-if (AT8(v11, 0) != 239u) { j0 = v7; goto L31; }
-if (v7 < 3u) { j0 = v7; goto L31; }
-if (AT8(v11, 1) != 187u) { j0 = v7; goto L31; }
-if (AT8(v11, 2) != 191u) { j0 = v7; goto L31; }
-a3 = v11 + 3u;
-j0 = v7 - 3u;
-L31:;
-v5 = j0;
-in_toml_parser_text_skip_blank(RUD_AS v4 + 104u, a3, v5, 1u);
-v6 = 0u;
+a1 = v10;
+a0 = 0u;
+if (v33) goto L32;
+a0 = v8;
+if (a0 == 1u) goto L32;
+TEST(v10);
+if ((u32)(AT8(v10, 0) != 239u) | (u32)(v8 < 3u)) goto L32;
+if (AT8(v10, 1) != 187u) goto L32;
+if (AT8(v10, 2) != 191u) goto L32;
+a0 = v8 - 3u;
+a1 = v10 + 3u;
+L32:;
+in_toml_parser_text_skip_blank(RUD_AS v4 + 104u, a1, a0, 1u);
 if (AT64(v4, 112) == 0) goto L10;
 SET64(v4, 1320, 0u);
 SET64(v4, 1312, 0u);
 SET64(v4, 1304, 0u);
-v17 = v4 + 1592u;
-v28 = v4 + 1784u;
-v24 = (v4 + 1488u) | 2u;
-v25 = v4 + 1594u;
-v26 = (v4 + 1888u) | 2u;
-v27 = v4 + 1426u;
-a0 = v4 + 1912u;
-L33:;
-in_toml_parser_text_skip_blank(RUD_AS v4 + 88u, a3, v5, 1u);
-v21 = AT64(v4, 96);
-if (v21 == 0) {
+v25 = v4 + 1592u;
+v20 = v4 + 1784u;
+v26 = (v4 + 1488u) | 2u;
+v27 = v4 + 1594u;
+v28 = (v4 + 1888u) | 2u;
+v19 = v4 + 1426u;
+v16 = v4 + 1912u;
+L36:;
+in_toml_parser_text_skip_blank(RUD_AS v4 + 88u, a1, a0, 1u);
+v22 = AT64(v4, 96);
+if (v22 == 0) {
 SET64(v4, 1280, (u64)AT8(v4, 1304));
 SET64(v4, 1288, AT64(v4, 1312));
 SET64(v4, 1296, AT64(v4, 1320));
 in_toml_de_tables_close(RUD_AS v4 + 1520u, v4 + 1280u);
 RUD_AGAIN
-if (AT8(v4, 1520)) goto L38;
-SET64(v4, 1248, v12);
-SET64(v4, 1240, v19);
-SET64(v4, 1232, a0);
-v10 = AT64(v4, 1544);
-v6 = AT64(v4, 1536);
-a0 = (u64)AT8(v4, 1528);
+if (AT8(v4, 1520)) goto L40;
+SET64(v4, 1248, v11);
+SET64(v4, 1240, v21);
+SET64(v4, 1232, v16);
+v11 = AT64(v4, 1544);
+v13 = AT64(v4, 1536);
+v5 = (u64)AT8(v4, 1528);
 in_std_alloc_vec_Vec_drop_95beaedac91b374b(RUD_AS v4 + 1232u);
 RUD_AGAIN
 goto L10;
 }
-a1 = AT64(v4, 88);
+a0 = AT64(v4, 88);
 SET64(v4, 1560, 0u);
 SET64(v4, 1568, 0u);
 SET64(v4, 1576, 0u);
@@ -12826,519 +11456,511 @@ SET64(v4, 1344, 0u);
 FILL_FEW(v4 + 1584u, 0u, 72u);
 FILL_FEW(v4 + 1776u, 0u, 72u);
 FILL_FEW(v4 + 1416u, 0u, 72u);
-SET64(v4, 1408, 0u);
-SET64(v4, 1400, 0u);
-SET64(v4, 1392, 0u);
-SET64(v4, 1384, 0u);
-SET64(v4, 1376, 0u);
-SET64(v4, 1368, 0u);
-SET64(v4, 1360, 0u);
-SET64(v4, 1352, 0u);
-TEST(a1);
-v35 = AT8(a1, 0);
-if (v35 == 91u) {
-if (v21 == 1u) goto L44;
-if (AT8(a1, 1) != 91u) goto L44;
-in_toml_de_document_header_key(RUD_AS v4 + 1584u, a1 + 2u, v21 - 2u);
+FILL_FEW(v4 + 1352u, 0u, 64u);
+TEST(a0);
+v34 = AT8(a0, 0);
+if (v34 == 91u) {
+if (v22 == 1u) goto L45;
+if (AT8(a0, 1) != 91u) goto L45;
+in_toml_de_document_header_key(RUD_AS v4 + 1584u, a0 + 2u, v22 - 2u);
 RUD_AGAIN
-v15 = AT64(v4, 1608);
-v6 = AT64(v4, 1600);
+v12 = AT64(v4, 1608);
+v5 = AT64(v4, 1600);
 v31 = AT8(v4, 1593);
-v29 = AT8(v4, 1592);
-if (AT8(v4, 1584)) goto L42;
-v8 = AT64(v4, 1632);
-v14 = AT64(v4, 1616);
+v30 = AT8(v4, 1592);
+if (AT8(v4, 1584)) goto L43;
+v9 = AT64(v4, 1632);
+v6 = AT64(v4, 1616);
 a2 = AT64(v4, 1648);
 if (!(a2 == 0)) {
 a1 = AT64(v4, 1640);
 TEST(a1);
-if (AT8(a1, 0) == 93u) goto L45;
-}
-TEST(v24);
-SET32(v24, 0, AT32(v4, 1594));
-SET16(v24, 4, AT16(v4, 1598));
-SET8(v4, 1489, v31);
-SET8(v4, 1488, v29);
-SET64(v4, 1504, v15);
-SET64(v4, 1496, v6);
-in_std_alloc_vec_Vec_drop_95beaedac91b374b(RUD_AS v4 + 1488u);
-RUD_AGAIN
-v30 = 5u;
-v32 = 1u;
-if (!(v8 == 0)) goto L40;
-a1 = a2;
-goto L35;
-L45:;
-v13 = AT64(v4, 1624);
-v5 = a2 - 1u;
-a3 = a1 + 1u;
-v10 = (u64)AT32(v4, 1594) | ((u64)AT16(v4, 1598) << 32);
-v33 = 0u;
-v18 = 2u;
-v20 = 0u;
-goto L37;
-L44:;
-in_toml_de_document_header_key(RUD_AS v4 + 1776u, a1 + 1u, v21 - 1u);
-RUD_AGAIN
-v15 = AT64(v4, 1800);
-v6 = AT64(v4, 1792);
-v31 = AT8(v4, 1785);
-v29 = AT8(v4, 1784);
-if (AT8(v4, 1776)) goto L42;
-v10 = (u64)AT32(v4, 1786) | ((u64)AT16(v4, 1790) << 32);
-v33 = 0u;
-v18 = 1u;
-v20 = 0u;
-v5 = AT64(v4, 1840);
-a3 = AT64(v4, 1832);
-v8 = AT64(v4, 1824);
-v13 = AT64(v4, 1816);
-v14 = AT64(v4, 1808);
-goto L37;
-}
-in_toml_de_value_key_equals(RUD_AS v4 + 1416u, a1, v21);
-RUD_AGAIN
-v15 = AT64(v4, 1440);
-v6 = AT64(v4, 1432);
-v31 = AT8(v4, 1425);
-v29 = AT8(v4, 1424);
-if (AT8(v4, 1416) == 0) goto L41;
-L42:;
-v32 = v29;
-v30 = v31;
-a2 = v6;
-a1 = v15;
-goto L35;
-L41:;
-v8 = AT64(v4, 1464);
-v13 = AT64(v4, 1456);
-v14 = AT64(v4, 1448);
-in_toml_de_value_value(RUD_AS v4 + 1352u, AT64(v4, 1472), AT64(v4, 1480), 80u);
-RUD_AGAIN
-v9 = AT64(v4, 1376);
-a2 = AT64(v4, 1368);
-v30 = AT8(v4, 1361);
-v32 = AT8(v4, 1360);
-if (AT8(v4, 1352) == 0) {
-v10 = (u64)AT32(v4, 1426) | ((u64)AT16(v4, 1430) << 32);
-v18 = 0u;
-v33 = AT32(v4, 1392);
-v20 = AT64(v4, 1384);
-v5 = AT64(v4, 1408);
-a3 = AT64(v4, 1400);
-i0 = AT32(v4, 1364);
-goto L36;
+if (AT8(a1, 0) == 93u) goto L46;
 }
 TEST(v26);
-SET32(v26, 0, AT32(v4, 1426));
-SET16(v26, 4, AT16(v4, 1430));
+SET32(v26, 0, AT32(v4, 1594));
+SET16(v26, 4, AT16(v4, 1598));
+SET8(v4, 1489, v31);
+SET8(v4, 1488, v30);
+SET64(v4, 1504, v12);
+SET64(v4, 1496, v5);
+in_std_alloc_vec_Vec_drop_95beaedac91b374b(RUD_AS v4 + 1488u);
+RUD_AGAIN
+v29 = 5u;
+v32 = 1u;
+if (v9 == 0) goto L35;
+rud_dealloc(RUD_AS v6);
+RUD_AGAIN
+goto L35;
+L46:;
+v17 = AT64(v4, 1624);
+a0 = a2 - 1u;
+a1 = a1 + 1u;
+v13 = (u64)AT32(v4, 1594) | ((u64)AT16(v4, 1598) << 32);
+v36 = 0u;
+v24 = 2u;
+v14 = 0u;
+goto L38;
+L45:;
+in_toml_de_document_header_key(RUD_AS v4 + 1776u, a0 + 1u, v22 - 1u);
+RUD_AGAIN
+v12 = AT64(v4, 1800);
+v5 = AT64(v4, 1792);
+v31 = AT8(v4, 1785);
+v30 = AT8(v4, 1784);
+if (AT8(v4, 1776)) goto L43;
+v13 = (u64)AT32(v4, 1786) | ((u64)AT16(v4, 1790) << 32);
+v36 = 0u;
+v24 = 1u;
+v14 = 0u;
+a0 = AT64(v4, 1840);
+a1 = AT64(v4, 1832);
+v9 = AT64(v4, 1824);
+v17 = AT64(v4, 1816);
+v6 = AT64(v4, 1808);
+goto L38;
+}
+in_toml_de_value_key_equals(RUD_AS v4 + 1416u, a0, v22);
+RUD_AGAIN
+v12 = AT64(v4, 1440);
+v5 = AT64(v4, 1432);
+v31 = AT8(v4, 1425);
+v30 = AT8(v4, 1424);
+if (AT8(v4, 1416) == 0) goto L42;
+L43:;
+v32 = v30;
+v29 = v31;
+a2 = v5;
+v7 = v12;
+goto L34;
+L42:;
+v9 = AT64(v4, 1464);
+v17 = AT64(v4, 1456);
+v6 = AT64(v4, 1448);
+in_toml_de_value_value(RUD_AS v4 + 1352u, AT64(v4, 1472), AT64(v4, 1480), 80u);
+RUD_AGAIN
+a3 = AT64(v4, 1376);
+a2 = AT64(v4, 1368);
+v29 = AT8(v4, 1361);
+v32 = AT8(v4, 1360);
+if (AT8(v4, 1352) == 0) {
+v13 = (u64)AT32(v4, 1426) | ((u64)AT16(v4, 1430) << 32);
+v24 = 0u;
+v36 = AT32(v4, 1392);
+v14 = AT64(v4, 1384);
+a0 = AT64(v4, 1408);
+a1 = AT64(v4, 1400);
+i0 = AT32(v4, 1364);
+goto L37;
+}
+TEST(v28);
+SET32(v28, 0, AT32(v4, 1426));
+SET16(v28, 4, AT16(v4, 1430));
 SET8(v4, 1889, v31);
-SET8(v4, 1888, v29);
-SET64(v4, 1904, v15);
-SET64(v4, 1896, v6);
+SET8(v4, 1888, v30);
+SET64(v4, 1904, v12);
+SET64(v4, 1896, v5);
 in_std_alloc_vec_Vec_drop_95beaedac91b374b(RUD_AS v4 + 1888u);
 RUD_AGAIN
-if (v8 == 0) {
-a1 = v9;
-goto L35;
-}
-rud_dealloc(RUD_AS v14);
+if (v9 == 0) goto L39;
+rud_dealloc(RUD_AS v6);
 RUD_AGAIN
-a1 = v9;
-goto L35;
+goto L39;
 L40:;
-rud_dealloc(RUD_AS v14);
-RUD_AGAIN
-a1 = a2;
-goto L35;
-L38:;
-SET64(v4, 1272, v12);
-SET64(v4, 1264, v19);
-SET64(v4, 1256, a0);
+SET64(v4, 1272, v11);
+SET64(v4, 1264, v21);
+SET64(v4, 1256, v16);
 in_std_alloc_vec_Vec_drop_95beaedac91b374b(RUD_AS v4 + 1256u);
 RUD_AGAIN
 a2 = 0u;
 v32 = 0u;
-v30 = 0u;
-a1 = 0u;
-goto L32;
-L37:;
+v29 = 0u;
+v7 = 0u;
+goto L33;
+L39:;
+v7 = a3;
+goto L34;
+L38:;
 a2 = 0u;
-v9 = 0u;
+a3 = 0u;
 v32 = 0u;
-v30 = 0u;
+v29 = 0u;
 i0 = 0u;
-L36:;
-v36 = i0;
+L37:;
+v35 = i0;
 SET8(v4, 1778, 0u);
 SET16(v4, 1776, 0u);
 SET64(v4, 1600, 0u);
-SET64(v4, 1584, a3);
+SET64(v4, 1584, a1);
 SET64(v4, 1608, v4 + 1776u);
-SET64(v4, 1592, v5);
+SET64(v4, 1592, a0);
 j1 = in_core_iter_base_Iterator_count_af506e600b762b0d(RUD_AS v4 + 1584u);
-v23 = j1;
-a1 = v5 - v23;
-if (a1 == 0) goto L34;
-v23 = (u64)GET8(a3 + v23, 0);
-if ((u32)(v23 <= 35u) & (u32)(((1ull << (v23 & 63)) & 34359747584ull) != 0u)) goto L34;
-SET64(v4, 1576, v15);
-SET64(v4, 1568, v6);
+v15 = j1;
+v7 = a0 - v15;
+if (v7 == 0) goto L49;
+v33 = GET8(a1 + v15, 0);
+switch (v33 - 10u) {
+case 0u: case 3u: goto L49;
+case 1u: case 2u: goto L50;
+default: goto L51;
+}
+L51:;
+if (v33 == 35u) goto L49;
+L50:;
+SET64(v4, 1576, v12);
+SET64(v4, 1568, v5);
 SET8(v4, 1561, v31);
-SET8(v4, 1560, v29);
-SET32(v4, 1562, (u32)v10);
-SET16(v4, 1566, (u32)(v10 >> 32));
+SET8(v4, 1560, v30);
+SET32(v4, 1562, (u32)v13);
+SET16(v4, 1566, (u32)(v13 >> 32));
 in_std_alloc_vec_Vec_drop_95beaedac91b374b(RUD_AS v4 + 1560u);
 RUD_AGAIN
-if (!(v8 == 0)) {
-rud_dealloc(RUD_AS v14);
+if (!(v9 == 0)) {
+rud_dealloc(RUD_AS v6);
 RUD_AGAIN
 }
-if (v35 == 91u) goto L50;
+if (v34 == 91u) goto L53;
 switch ((u32)((u64)v32 & 255u) - 1u) {
-case 0u: case 1u: case 2u: case 3u: goto L50;
-case 4u: goto L52;
-case 5u: goto L51;
-default: goto L53;
+case 0u: case 1u: case 2u: case 3u: goto L53;
+case 4u: goto L55;
+case 5u: goto L54;
+default: goto L56;
 }
-L53:;
-if (v20 == 0) goto L50;
+L56:;
+if (v14 == 0) goto L53;
 rud_dealloc(RUD_AS a2);
 RUD_AGAIN
-goto L50;
-L52:;
-SET64(v4, 1344, v20);
-SET64(v4, 1336, v9);
+goto L53;
+L55:;
+SET64(v4, 1344, v14);
+SET64(v4, 1336, a3);
 SET64(v4, 1328, a2);
 in_std_alloc_vec_Vec_drop_f8ad6a88bf30276b(RUD_AS v4 + 1328u);
 RUD_AGAIN
-goto L50;
-L51:;
-if ((a2 & 255u) != 1u) goto L50;
-in_std_collections_btree_node_Node_destroy_031b4c9998add48b(RUD_AS v9);
+goto L53;
+L54:;
+if ((a2 & 255u) != 1u) goto L53;
+in_std_collections_btree_node_Node_destroy_031b4c9998add48b(RUD_AS a3);
 RUD_AGAIN
-L50:;
+L53:;
 v32 = 1u;
-v30 = 6u;
-a2 = a1;
-L35:;
-SET64(v4, 1224, v12);
-SET64(v4, 1216, v19);
-SET64(v4, 1208, a0);
-in_std_alloc_vec_Vec_drop_95beaedac91b374b(RUD_AS v4 + 1208u);
-RUD_AGAIN
-if (AT8(v4, 1304) != 1u) goto L32;
-in_std_collections_btree_node_Node_destroy_dc0ad195889b9f50(RUD_AS AT64(v4, 1312));
-RUD_AGAIN
-goto L32;
-L34:;
-v10 = (((u64)v29 & 255u) | (((u64)v31 & 255u) << 8)) | (v10 << 16);
-if (v35 != 91u) {
-SET64(v4, 1624, 0u);
-SET64(v4, 1616, 0u);
-SET64(v4, 1608, 0u);
-SET64(v4, 1600, 0u);
-SET64(v4, 1592, 0u);
-SET64(v4, 1792, v8);
-SET64(v4, 1784, v13);
-SET64(v4, 1776, v14);
-SET64(v4, 1584, 0u);
-SET32(v4, 1624, v33);
-SET64(v4, 1616, v20);
-SET64(v4, 1608, v9);
+v29 = 6u;
+a2 = v7;
+goto L34;
+L49:;
+v13 = (((u64)v30 & 255u) | (((u64)v31 & 255u) << 8)) | (v13 << 16);
+if (v34 != 91u) {
+FILL_FEW(v25, 0u, 40u);
+SET64(v4, 1792, v9);
+SET64(v4, 1784, v17);
+SET64(v4, 1776, v6);
+SET32(v4, 1624, v36);
+SET64(v4, 1616, v14);
+SET64(v4, 1608, a3);
 SET64(v4, 1600, a2);
-SET32(v4, 1596, v36);
-SET8(v4, 1593, v30);
+SET32(v4, 1596, v35);
+SET8(v4, 1593, v29);
 SET8(v4, 1592, v32);
-in_toml_de_tables_along_header(RUD_AS v4 + 80u, v4 + 1304u, a0, v19, v10, v6, v4 + 1776u, v4 + 1584u);
+SET64(v4, 1584, 0u);
+in_toml_de_tables_along_header(RUD_AS v4 + 80u, v4 + 1304u, v16, v21, v13, v5, v4 + 1776u, v4 + 1584u);
 RUD_AGAIN
-SET64(v4, 1432, v15);
-SET64(v4, 1424, v6);
-SET64(v4, 1416, v10);
-v30 = AT8(v4, 81);
+SET64(v4, 1432, v12);
+SET64(v4, 1424, v5);
+SET64(v4, 1416, v13);
+v29 = AT8(v4, 81);
 v31 = AT8(v4, 80);
 in_std_alloc_vec_Vec_drop_95beaedac91b374b(RUD_AS v4 + 1416u);
 RUD_AGAIN
-goto L54;
+goto L57;
 }
-SET64(v4, 1592, 0u);
-SET64(v4, 1600, 0u);
-SET64(v4, 1608, 0u);
-SET64(v4, 1616, 0u);
-SET64(v4, 1624, 0u);
-SET64(v4, 1432, v15);
-SET64(v4, 1424, v6);
-SET64(v4, 1416, v10);
-SET64(v4, 1368, v8);
-SET64(v4, 1360, v13);
-SET64(v4, 1352, v14);
 SET64(v4, 1776, 0u);
 SET64(v4, 1784, 0u);
 SET64(v4, 1792, 0u);
 SET64(v4, 1800, 0u);
+FILL_FEW(v25, 0u, 40u);
+SET64(v4, 1432, v12);
+SET64(v4, 1424, v5);
+SET64(v4, 1416, v13);
+SET64(v4, 1368, v9);
+SET64(v4, 1360, v17);
+SET64(v4, 1352, v6);
 in_std_alloc_string_methods_StringClone_clone_23d1122e78b2f742(RUD_AS v4 + 1776u, v4 + 1352u);
 RUD_AGAIN
 if (AT8(v4, 1776) == 0) {
-SET32(v4, 1624, v33);
-SET64(v4, 1616, v20);
-SET64(v4, 1608, v9);
+SET32(v4, 1624, v36);
+SET64(v4, 1616, v14);
+SET64(v4, 1608, a3);
 SET64(v4, 1600, a2);
-SET32(v4, 1596, v36);
-SET8(v4, 1593, v30);
+SET32(v4, 1596, v35);
+SET8(v4, 1593, v29);
 SET8(v4, 1592, v32);
-SET64(v4, 1584, v18);
-in_toml_de_tables_along_header(RUD_AS v4 + 72u, v4 + 1304u, v10, v6, v4 + 1912u, 0u, v28, v4 + 1584u);
+SET64(v4, 1584, v24);
+in_toml_de_tables_along_header(RUD_AS v4 + 72u, v4 + 1304u, v13, v5, v4 + 1912u, 0u, v20, v4 + 1584u);
 RUD_AGAIN
-if (AT8(v4, 72)) goto L58;
-if (v6 == v15) goto L59;
-goto L56;
+if (AT8(v4, 72)) goto L61;
+if (v5 == v12) goto L62;
+goto L59;
 }
-goto L57;
-L59:;
+goto L60;
+L62:;
 i0 = in_std_alloc_vec_Vec_grow_amortized_27f1a6001881071a(RUD_AS v4 + 1416u);
 RUD_AGAIN
-if (i0 == 0) goto L57;
-v15 = AT64(v4, 1432);
-v10 = AT64(v4, 1416);
-v6 = AT64(v4, 1424);
-goto L56;
-L58:;
-v30 = AT8(v4, 73);
-if (!(v8 == 0)) {
-rud_dealloc(RUD_AS v14);
+if (i0 == 0) goto L60;
+v12 = AT64(v4, 1432);
+v13 = AT64(v4, 1416);
+v5 = AT64(v4, 1424);
+goto L59;
+L61:;
+v29 = AT8(v4, 73);
+if (!(v9 == 0)) {
+rud_dealloc(RUD_AS v6);
 RUD_AGAIN
 }
 in_std_alloc_vec_Vec_drop_95beaedac91b374b(RUD_AS v4 + 1416u);
 RUD_AGAIN
 v31 = 1u;
-goto L54;
-L57:;
-if (!(v8 == 0)) {
-rud_dealloc(RUD_AS v14);
+goto L57;
+L60:;
+if (!(v9 == 0)) {
+rud_dealloc(RUD_AS v6);
 RUD_AGAIN
 }
 in_std_alloc_vec_Vec_drop_95beaedac91b374b(RUD_AS v4 + 1416u);
 RUD_AGAIN
 v31 = 1u;
-v30 = 0u;
-goto L54;
-L56:;
-a1 = v10 + (v6 * 24u);
-TEST(a1);
-SET64(a1, 16, v8);
-SET64(a1, 8, v13);
-SET64(a1, 0, v14);
-SET64(v4, 1504, v12);
-SET64(v4, 1496, v19);
-SET64(v4, 1488, a0);
-v19 = v6 + 1u;
+v29 = 0u;
+goto L57;
+L59:;
+a2 = v13 + (v5 * 24u);
+TEST(a2);
+SET64(a2, 16, v9);
+SET64(a2, 8, v17);
+SET64(a2, 0, v6);
+SET64(v4, 1504, v11);
+SET64(v4, 1496, v21);
+SET64(v4, 1488, v16);
+v21 = v5 + 1u;
 in_std_alloc_vec_Vec_drop_95beaedac91b374b(RUD_AS v4 + 1488u);
 RUD_AGAIN
-v30 = 0u;
-a0 = v10;
-v12 = v15;
+v29 = 0u;
+v16 = v13;
+v11 = v12;
 v31 = 0u;
-L54:;
-if ((v31 & 255u) == 0) goto L33;
-SET64(v4, 1200, v12);
-SET64(v4, 1192, v19);
-SET64(v4, 1184, a0);
-v29 = v30 & 255u;
-a1 = v29 ? v5 : 0ull;
-a2 = v29 ? v21 : 0ull;
-v32 = v29 != 0u;
+L57:;
+if ((v31 & 255u) == 0) goto L36;
+SET64(v4, 1200, v11);
+SET64(v4, 1192, v21);
+SET64(v4, 1184, v16);
+v30 = v29 & 255u;
+v7 = v30 ? a0 : 0ull;
+a2 = v30 ? v22 : 0ull;
+v32 = v30 != 0u;
 in_std_alloc_vec_Vec_drop_95beaedac91b374b(RUD_AS v4 + 1184u);
 RUD_AGAIN
-if (AT8(v4, 1304) != 1u) goto L32;
+if (AT8(v4, 1304) != 1u) goto L33;
 in_std_collections_btree_node_Node_destroy_dc0ad195889b9f50(RUD_AS AT64(v4, 1312));
 RUD_AGAIN
-L32:;
-SET64(v4, 1176, a1);
+goto L33;
+L35:;
+v7 = a2;
+L34:;
+SET64(v4, 1224, v11);
+SET64(v4, 1216, v21);
+SET64(v4, 1208, v16);
+in_std_alloc_vec_Vec_drop_95beaedac91b374b(RUD_AS v4 + 1208u);
+RUD_AGAIN
+if (AT8(v4, 1304) != 1u) goto L33;
+in_std_collections_btree_node_Node_destroy_dc0ad195889b9f50(RUD_AS AT64(v4, 1312));
+RUD_AGAIN
+L33:;
+SET64(v4, 1176, v7);
 SET64(v4, 1168, a2);
-SET8(v4, 1161, v30);
+SET8(v4, 1161, v29);
 SET8(v4, 1160, v32);
-a2 = v4 + 944u;
-a0 = v4 + 1160u;
+v5 = v4 + 944u;
+a1 = v4 + 1160u;
 if ((s64)RUD_G0 >= (s64)16u) {
 if (AT8(v4, 1160) == 0) {
-FILL_FEW(a2, 0u, 216u);
-goto L63;
-}
-v29 = AT8(v4, 1161);
-a1 = v7 - AT64(v4, 1176);
-v5 = a1 > v7 ? 0ull : a1;
-a0 = v7 - AT64(v4, 1168);
-a0 = a0 > v7 ? 0ull : a0;
-a0 = a0 > v5 ? v5 : a0;
-if (a0 == 0) {
-a3 = 1u;
-v9 = 1u;
+FILL_FEW(v5, 0u, 216u);
 goto L66;
 }
-v9 = 1u;
-a1 = a0;
-a3 = 1u;
-L68:;
-TEST(v11);
-v30 = (u32)(s32)(s8)AT8(v11, 0);
-if (v30 == 10u) {
-a3 = 1u;
-v9 = v9 + 1u;
-v9 = v9 == 0 ? 18446744073709551615ull : v9;
+v33 = AT8(v4, 1161);
+a0 = v8 - AT64(v4, 1176);
+a3 = a0 > v8 ? 0ull : a0;
+a0 = v8 - AT64(v4, 1168);
+a0 = a0 > v8 ? 0ull : a0;
+a1 = a0 > a3 ? a3 : a0;
+if (a1 == 0) {
+v8 = 1u;
+v7 = 1u;
 goto L69;
 }
-if ((s32)v30 < (s32)4294967232u) goto L69;
-a3 = a3 + 1u;
-a3 = a3 == 0 ? 18446744073709551615ull : a3;
+v7 = 1u;
+a0 = a1;
+v8 = 1u;
+L71:;
+TEST(v10);
+v30 = (u32)(s32)(s8)AT8(v10, 0);
+if (v30 == 10u) {
+v8 = 1u;
+a2 = v7 + 1u;
+v7 = a2 == 0 ? 18446744073709551615ull : a2;
+goto L72;
+}
+if ((s32)v30 < (s32)4294967232u) goto L72;
+a2 = v8 + 1u;
+v8 = a2 == 0 ? 18446744073709551615ull : a2;
+L72:;
+v10 = v10 + 1u;
+a0 = a0 - 1u;
+if (a0 != 0u) goto L71;
 L69:;
-v11 = v11 + 1u;
-a1 = a1 - 1u;
-if (a1 != 0u) goto L68;
-L66:;
 SET32(v4, 945, 0u);
-SET8(v4, 944, v29);
+SET8(v4, 944, v33);
 SET32(v4, 948, 0u);
-SET64(v4, 976, a3);
-SET64(v4, 968, v9);
-SET64(v4, 960, v5);
-SET64(v4, 952, a0);
-FILL_FEW(a2 + 40u, 0u, 176u);
-goto L63;
+SET64(v4, 976, v8);
+SET64(v4, 968, v7);
+SET64(v4, 960, a3);
+SET64(v4, 952, a1);
+FILL_FEW(v5 + 40u, 0u, 176u);
+goto L66;
 }
 rud_trap();
-L63:;
+L66:;
 i0 = (u64)AT8(v4, 944) != 0u;
 L11:;
-v29 = i0;
-v36 = 0u;
+v30 = i0;
+v35 = 0u;
 v31 = 0u;
+v34 = 0u;
 goto L5;
 L10:;
-SET64(v4, 936, v10);
-SET64(v4, 928, v6);
-SET64(v4, 920, a0);
+SET64(v4, 936, v11);
+SET64(v4, 928, v13);
+SET64(v4, 920, v5);
 SET32(v4, 1776, 318898432u);
-v12 = 0u;
+v11 = 0u;
 SET64(v4, 944, 0u);
 SET64(v4, 1584, 0u);
 SET64(v4, 1592, 0u);
 v32 = 0u;
-v29 = 2u;
+v30 = 2u;
 i0 = in_mm_problem_keys_has_only(RUD_AS v4 + 1776u, 4u, v4 + 920u);
 if (i0 == 0) {
-v30 = 6u;
+v29 = 6u;
+v34 = 0u;
 v31 = 0u;
-goto L73;
+goto L77;
 }
+v34 = 0u;
 in_mm_problem_keys_value_at(RUD_AS v4 + 56u, 0u, v4 + 920u);
 if (AT8(v4, 56) != 1u) {
 v31 = 0u;
-v30 = 0u;
-goto L73;
+v29 = 0u;
+goto L77;
 }
 v31 = 0u;
-v30 = 0u;
+v29 = 0u;
 a0 = AT64(v4, 64);
 TEST(a0);
-if (AT8(a0, 0) != 5u) goto L73;
-v9 = AT64(a0, 16);
-SET64(v4, 960, v9);
-v18 = AT64(a0, 8);
-SET64(v4, 952, v18);
+if (AT8(a0, 0) != 5u) goto L77;
+v8 = AT64(a0, 16);
+SET64(v4, 960, v8);
+a3 = AT64(a0, 8);
+SET64(v4, 952, a3);
 in_mm_problem_keys_array_if_any(RUD_AS v4 + 944u, 1u, v4 + 920u);
-v7 = AT64(v4, 952);
+v20 = AT64(v4, 952);
 if (AT8(v4, 944) == 0) {
 v15 = AT64(v4, 960);
 in_mm_problem_keys_array_if_any(RUD_AS v4 + 944u, 2u, v4 + 920u);
-v11 = AT64(v4, 952);
-if (AT8(v4, 944)) goto L78;
+v17 = AT64(v4, 952);
+if (AT8(v4, 944)) goto L82;
 v14 = AT64(v4, 960);
-a1 = v4 + 1584u;
-a2 = v4 + 920u;
-v29 = 0u;
-a0 = RUD_G0 - 64u;
-RUD_G0 = a0;
-if ((s64)a0 >= (s64)16u) {
-in_mm_problem_keys_value_at(RUD_AS a0, 19u, a2);
-v30 = 1u;
-TEST(a0);
-if (AT8(a0, 0) != 1u) goto L81;
-a2 = AT64(a0, 8);
-TEST(a2);
-if (AT8(a2, 0)) {
-a2 = 81604378624ull;
+a2 = v4 + 1584u;
+a0 = v4 + 920u;
+v7 = RUD_G0 - 64u;
+RUD_G0 = v7;
+if ((s64)v7 >= (s64)16u) {
+in_mm_problem_keys_value_at(RUD_AS v7, 19u, a0);
+v33 = 1u;
+TEST(v7);
+if (AT8(v7, 0) != 1u) goto L85;
+a1 = AT64(v7, 8);
+TEST(a1);
+if (AT8(a1, 0)) {
+a0 = 81604378624ull;
 i0 = 2u;
-goto L80;
+goto L84;
 }
-a3 = AT64(a2, 8);
-SET64(a0, 56, AT64(a2, 16));
-SET64(a0, 48, a3);
-SET64(a0, 40, 6u);
-SET64(a0, 32, 4205465u);
-i0 = in_core_cmp_text_RefStrPartialEq_eq(RUD_AS a0 + 48u, a0 + 32u);
-if (i0) goto L81;
-SET64(a0, 24, 6u);
-SET64(a0, 16, 4205471u);
-i2 = in_core_cmp_text_RefStrPartialEq_eq(RUD_AS a0 + 48u, a0 + 16u);
+a0 = AT64(a1, 8);
+SET64(v7, 56, AT64(a1, 16));
+SET64(v7, 48, a0);
+SET64(v7, 40, 6u);
+SET64(v7, 32, 4205465u);
+i0 = in_core_cmp_text_RefStrPartialEq_eq(RUD_AS v7 + 48u, v7 + 32u);
+if (i0) goto L85;
+SET64(v7, 24, 6u);
+SET64(v7, 16, 4205471u);
+i2 = in_core_cmp_text_RefStrPartialEq_eq(RUD_AS v7 + 48u, v7 + 16u);
 v29 = i2;
-a2 = v29 ? 0ull : 81604378624ull;
-v30 = v29 ^ 1u;
+a0 = v29 ? 0ull : 81604378624ull;
+v33 = v29 ^ 1u;
 i0 = v29 ? 0u : 2u;
-goto L80;
+goto L84;
 }
 rud_trap();
-L81:;
-a2 = 0u;
-v30 = 0u;
+L85:;
+a0 = 0u;
+v33 = 0u;
 i0 = 0u;
-L80:;
-v33 = i0;
-SET8(v4, 1584, v30);
-SET64(v4, 1592, a2);
+L84:;
+v30 = i0;
+SET8(v4, 1584, v33);
+SET64(v4, 1592, a0);
 SET8(v4, 1589, 0u);
-SET8(v4, 1588, v33);
+SET8(v4, 1588, v30);
 SET8(v4, 1585, v29);
-RUD_G0 = a0 + 64u;
-if (AT8(v4, 1584) == 0) goto L77;
-v29 = AT8(v4, 1588);
+RUD_G0 = v7 + 64u;
+if (AT8(v4, 1584) == 0) goto L81;
+v30 = AT8(v4, 1588);
 v34 = AT8(v4, 1589);
 v31 = AT32(v4, 1592);
-v30 = AT32(v4, 1596);
-goto L73;
+v29 = AT32(v4, 1596);
+goto L77;
 }
-v30 = (u32)(v7 >> 32);
-v31 = (u32)v7;
-goto L76;
-L78:;
-v30 = (u32)(v11 >> 32);
-v31 = (u32)v11;
-goto L76;
-L77:;
-v29 = 7u;
+v29 = (u32)(v20 >> 32);
+v31 = (u32)v20;
+goto L80;
+L82:;
+v29 = (u32)(v17 >> 32);
+v31 = (u32)v17;
+goto L80;
+L81:;
+v30 = 7u;
 v31 = 1u;
-if ((v9 - 1u) > 15u) {
-v9 = 0u;
+if ((v8 - 1u) > 15u) {
+a3 = 0u;
 v34 = 3u;
-goto L72;
+goto L88;
 }
 if (v15 > 256u) {
-v9 = 0u;
+a3 = 0u;
 v34 = 4u;
-goto L72;
+goto L88;
 }
 if (v14 >= 9u) {
-v9 = 0u;
+a3 = 0u;
 v34 = 5u;
-goto L72;
+goto L88;
 }
 SET64(v4, 952, 0u);
 SET64(v4, 960, 0u);
-v13 = v4 + 1912u;
-SET64(v4, 944, v13);
-v35 = (u32)(v13 >> 32);
-v36 = (u32)v13;
-v8 = 0u;
-L89:;
+a2 = v4 + 1912u;
+SET64(v4, 944, a2);
+v36 = (u32)(a2 >> 32);
+v35 = (u32)a2;
+v12 = 0u;
+L94:;
 SET32(v4, 1600, 0u);
 SET64(v4, 1592, 0u);
 SET64(v4, 1584, 0u);
@@ -13348,186 +11970,186 @@ SET64(v4, 1488, 0u);
 SET64(v4, 1496, 0u);
 SET64(v4, 1888, 0u);
 SET64(v4, 1896, 0u);
-v30 = (u32)v12 + 1u;
-a0 = v18 + (v8 * 40u);
+v29 = (u32)v11 + 1u;
+a0 = a3 + (v12 * 40u);
 TEST(a0);
 if (AT8(a0, 0) == 6u) {
-a0 = a0 + 8u;
-i0 = in_mm_problem_keys_has_only(RUD_AS 4205477u, 5u, a0);
-if (i0) goto L93;
-j0 = (u64)v30 | 25769803776ull;
-goto L94;
+v7 = a0 + 8u;
+i0 = in_mm_problem_keys_has_only(RUD_AS 4205477u, 5u, v7);
+if (i0) goto L98;
+j0 = (u64)v29 | 25769803776ull;
+goto L99;
 }
-j0 = (u64)v30;
-L94:;
+j0 = (u64)v29;
+L99:;
 a0 = j0;
 v31 = (u32)(a0 >> 32);
-v30 = (u32)a0;
-goto L92;
-L93:;
-in_mm_problem_tables_id_at(RUD_AS v4 + 1520u, v30, 8u, a0);
-a1 = AT64(v4, 1521);
+v29 = (u32)a0;
+goto L97;
+L98:;
+in_mm_problem_tables_id_at(RUD_AS v4 + 1520u, v29, 8u, v7);
+v10 = AT64(v4, 1521);
 if (AT8(v4, 1520)) {
 SET8(v4, 1570, AT8(v4, 1531));
 SET16(v4, 1568, AT16(v4, 1529));
-SET64(v4, 1560, a1 & 0xff0000ffff000000ull);
-v34 = (u32)(a1 >> 32);
-v29 = (u32)(a1 >> 24);
+SET64(v4, 1560, v10 & 0xff0000ffff000000ull);
+v34 = (u32)(v10 >> 32);
+v30 = (u32)(v10 >> 24);
 v31 = AT32(v4, 1532);
-v30 = AT32(v4, 1567);
-goto L91;
+v29 = AT32(v4, 1567);
+goto L96;
 }
-in_mm_problem_keys_number_at(RUD_AS v4 + 1488u, v30, 9u, 1u, 1000000u, a0);
-v29 = AT32(v4, 1492);
+in_mm_problem_keys_number_at(RUD_AS v4 + 1488u, v29, 9u, 1u, 1000000u, v7);
+v30 = AT32(v4, 1492);
 if (AT8(v4, 1488)) {
-v34 = v29 >> 8;
+v34 = v30 >> 8;
 v31 = AT32(v4, 1500);
-v30 = AT32(v4, 1496);
-goto L91;
+v29 = AT32(v4, 1496);
+goto L96;
 }
 v31 = 10u;
-in_mm_problem_keys_value_at(RUD_AS v4 + 40u, 10u, a0);
-if ((AT8(v4, 40) & 1u) == 0) goto L92;
-a2 = AT64(v4, 48);
-TEST(a2);
-if (AT8(a2, 0)) goto L92;
-a3 = AT64(a2, 8);
-SET64(v4, 1784, AT64(a2, 16));
-SET64(v4, 1776, a3);
+in_mm_problem_keys_value_at(RUD_AS v4 + 40u, 10u, v7);
+if ((AT8(v4, 40) & 1u) == 0) goto L97;
+a1 = AT64(v4, 48);
+TEST(a1);
+if (AT8(a1, 0)) goto L97;
+a0 = AT64(a1, 8);
+SET64(v4, 1784, AT64(a1, 16));
+SET64(v4, 1776, a0);
 SET64(v4, 1424, 8u);
 SET64(v4, 1416, 4205482u);
 i0 = in_core_cmp_text_RefStrPartialEq_eq(RUD_AS v4 + 1776u, v4 + 1416u);
 if (i0) {
-v10 = 0u;
-goto L98;
+v6 = 0u;
+goto L103;
 }
 SET64(v4, 1360, 7u);
 SET64(v4, 1352, 4205490u);
-v10 = 4294967296ull;
+v6 = 4294967296ull;
 i0 = in_core_cmp_text_RefStrPartialEq_eq(RUD_AS v4 + 1776u, v4 + 1352u);
-if (i0 == 0) goto L92;
-L98:;
-in_mm_problem_keys_number_at(RUD_AS v4 + 1888u, v30, 11u, 0u, 7u, a0);
+if (i0 == 0) goto L97;
+L103:;
+in_mm_problem_keys_number_at(RUD_AS v4 + 1888u, v29, 11u, 0u, 7u, v7);
 v32 = AT32(v4, 1892);
 if (AT8(v4, 1888) == 0) {
 SET64(v4, 1784, 0u);
 SET64(v4, 1776, 0u);
-in_mm_problem_keys_value_at(RUD_AS v4 + 24u, 12u, a0);
+in_mm_problem_keys_value_at(RUD_AS v4 + 24u, 12u, v7);
 if (AT8(v4, 24) != 1u) {
 v33 = 0u;
-goto L100;
+goto L105;
 }
-in_mm_problem_keys_number_at(RUD_AS v4 + 1776u, v30, 12u, 0u, v29, a0);
+in_mm_problem_keys_number_at(RUD_AS v4 + 1776u, v29, 12u, 0u, v30, v7);
 v33 = AT32(v4, 1780);
-if (AT8(v4, 1776) == 0) goto L100;
+if (AT8(v4, 1776) == 0) goto L105;
 v31 = AT32(v4, 1788);
-v30 = AT32(v4, 1784);
+v29 = AT32(v4, 1784);
 v34 = v33 >> 8;
-v29 = v33;
-goto L91;
+v30 = v33;
+goto L96;
 }
 v34 = v32 >> 8;
 v31 = AT32(v4, 1900);
-v30 = AT32(v4, 1896);
-v29 = v32;
-goto L91;
-L100:;
-SET32(v4, 1592, v29);
-SET64(v4, 1584, a1);
-v17 = (v10 | (u64)v33) | ((u64)(v32 & 255u) << 40);
-SET64(v4, 1596, v17);
-v10 = v13 - 20u;
-v6 = 0xffffffffffffffffull;
-L103:;
-v6 = v6 + 1u;
-if (v12 == v6) goto L90;
-v10 = v10 + 20u;
-i0 = in_core_cmp_arrays_ArrayPartialEq_eq_i8_8_31_core_cmp_numbers_U8Par(RUD_AS v10, v4 + 1584u);
-if (i0 == 0) goto L103;
-v31 = 7u;
-L92:;
-v29 = 2u;
-L91:;
-if (AT64(v4, 960) == 0) goto L87;
-rud_dealloc(RUD_AS v13);
-RUD_AGAIN
-goto L87;
-L90:;
-v6 = v12;
-if (v6 == AT64(v4, 960)) {
-a2 = v4 + 944u;
-v30 = 0u;
-a0 = RUD_G0 - 32u;
-RUD_G0 = a0;
-if ((s64)a0 >= (s64)16u) {
-a3 = AT64(v4, 952);
-if (a3 == 0xffffffffffffffffull) goto L107;
-v5 = (a3 > 3u ? a3 : 3ull) + 1u;
-v6 = AT64(v4, 960);
-v12 = v6 << 1;
-v12 = v5 > v12 ? v5 : v12;
-v5 = v6 < 4611686018427387904ull ? v12 : v5;
-if (v5 > 461168601842738790ull) goto L107;
-j0 = a2;
-if (!(v6 == 0)) {
-v6 = AT64(v4, 944);
-TEST(a0);
-SET64(a0, 24, 0u);
-SET64(a0, 16, 0u);
-rud_realloc(RUD_AS a0 + 16u, v6, a3 * 20u, v5 * 20u, 4u);
-RUD_AGAIN
-if (AT8(a0, 16) == 0) goto L107;
-j1 = AT64(a0, 24);
-goto L108;
-}
-in_std_heap_GlobalAllocator_allocate(RUD_AS a0, v12 * 20u, 4u);
-RUD_AGAIN
-TEST(a0);
-if (AT8(a0, 0)) goto L107;
-j1 = AT64(a0, 8);
+v29 = AT32(v4, 1896);
+v30 = v32;
+goto L96;
+L105:;
+SET32(v4, 1592, v30);
+SET64(v4, 1584, v10);
+a1 = (v6 | (u64)v33) | ((u64)(v32 & 255u) << 40);
+SET64(v4, 1596, a1);
+v6 = a2 - 20u;
+v9 = 0xffffffffffffffffull;
 L108:;
+v9 = v9 + 1u;
+if (v11 == v9) goto L95;
+v6 = v6 + 20u;
+i0 = in_mm_base_id_StoreIdPartialEq_eq(RUD_AS v6, v4 + 1584u);
+if (i0 == 0) goto L108;
+v31 = 7u;
+L97:;
+v30 = 2u;
+L96:;
+if (AT64(v4, 960) == 0) goto L92;
+rud_dealloc(RUD_AS a2);
+RUD_AGAIN
+goto L92;
+L95:;
+v6 = v11;
+if (v6 == AT64(v4, 960)) {
+v11 = v4 + 944u;
+v33 = 0u;
+v6 = RUD_G0 - 32u;
+RUD_G0 = v6;
+if ((s64)v6 >= (s64)16u) {
+v5 = AT64(v4, 952);
+if (v5 == 0xffffffffffffffffull) goto L112;
+a2 = (v5 > 3u ? v5 : 3ull) + 1u;
+v7 = AT64(v4, 960);
+a0 = v7 << 1;
+a0 = a0 < a2 ? a2 : a0;
+a2 = v7 < 4611686018427387904ull ? a0 : a2;
+if (a2 > 461168601842738790ull) goto L112;
+j0 = v11;
+if (!(v7 == 0)) {
+a0 = AT64(v4, 944);
+TEST(v6);
+SET64(v6, 24, 0u);
+SET64(v6, 16, 0u);
+rud_realloc(RUD_AS v6 + 16u, a0, v5 * 20u, a2 * 20u, 4u);
+RUD_AGAIN
+if (AT8(v6, 16) == 0) goto L112;
+j1 = AT64(v6, 24);
+goto L113;
+}
+in_std_heap_GlobalAllocator_allocate(RUD_AS v6, a0 * 20u, 4u);
+RUD_AGAIN
+TEST(v6);
+if (AT8(v6, 0)) goto L112;
+j1 = AT64(v6, 8);
+L113:;
 SET64(v4, 944, j1);
-SET64(v4, 960, v5);
-v30 = 1u;
-L107:;
-RUD_G0 = a0 + 32u;
-i0 = v30;
-goto L105;
+SET64(v4, 960, a2);
+v33 = 1u;
+L112:;
+RUD_G0 = v6 + 32u;
+i0 = v33;
+goto L110;
 }
 rud_trap();
-L105:;
-if (i0 == 0) goto L88;
-v13 = AT64(v4, 944);
+L110:;
+if (i0 == 0) goto L93;
 v6 = AT64(v4, 952);
+a2 = AT64(v4, 944);
 }
-a0 = v13 + (v6 * 20u);
+a0 = a2 + (v6 * 20u);
 TEST(a0);
-SET64(a0, 12, v17);
-SET32(a0, 8, v29);
-SET64(a0, 0, a1);
-v12 = v6 + 1u;
-SET64(v4, 952, v12);
-v8 = v8 + 1u;
-if (v8 != v9) goto L89;
-v17 = AT64(v4, 960);
-v9 = AT64(v4, 944);
+SET64(a0, 12, a1);
+SET32(a0, 8, v30);
+SET64(a0, 0, v10);
+v11 = v6 + 1u;
+SET64(v4, 952, v11);
+v12 = v12 + 1u;
+if (v12 != v8) goto L94;
+v13 = AT64(v4, 960);
+a3 = AT64(v4, 944);
 SET64(v4, 952, 0u);
 SET64(v4, 960, 0u);
 SET64(v4, 944, v4 + 1912u);
 v31 = 1u;
 v33 = 1u;
-v8 = 0u;
-v30 = v35;
+v9 = 0u;
 v29 = v36;
+v30 = v35;
 if (!(v15 == 0)) {
-a0 = v6 + 2u;
-a1 = v9 - 20u;
-v6 = v4 + 1524u;
-v18 = v4 + 1496u;
-v19 = v4 + 1361u;
-v13 = v4 + 1912u;
-v10 = 0u;
-L115:;
+v7 = v6 + 2u;
+a0 = a3 - 20u;
+v16 = v4 + 1524u;
+v10 = v4 + 1496u;
+v6 = v4 + 1361u;
+a2 = v4 + 1912u;
+v12 = 0u;
+L120:;
 SET32(v4, 1528, 0u);
 SET64(v4, 1520, 0u);
 SET16(v4, 1896, 0u);
@@ -13539,524 +12161,504 @@ SET64(v4, 1416, 0u);
 SET64(v4, 1424, 0u);
 SET64(v4, 1352, 0u);
 SET64(v4, 1360, 0u);
-v32 = (u32)v8 + 1u;
-a2 = v7 + (v10 * 40u);
-TEST(a2);
-if (AT8(a2, 0) == 6u) {
-a2 = a2 + 8u;
-i0 = in_mm_problem_keys_has_only(RUD_AS 4205497u, 4u, a2);
-if (i0) goto L116;
+v32 = (u32)v9 + 1u;
+a1 = v20 + (v12 * 40u);
+TEST(a1);
+if (AT8(a1, 0) == 6u) {
+a1 = a1 + 8u;
+i0 = in_mm_problem_keys_has_only(RUD_AS 4205497u, 4u, a1);
+if (i0) goto L121;
 j0 = (u64)v32 | 25769803776ull;
-goto L117;
+goto L122;
 }
 j0 = (u64)v32 | 4294967296ull;
-L117:;
+L122:;
 a0 = j0;
 v31 = (u32)(a0 >> 32);
 v32 = (u32)a0;
-goto L112;
-L116:;
-in_mm_problem_keys_number_at(RUD_AS v4 + 1584u, v32, 13u, 0u, 2046u, a2);
-v29 = AT32(v4, 1588);
+goto L117;
+L121:;
+in_mm_problem_keys_number_at(RUD_AS v4 + 1584u, v32, 13u, 0u, 2046u, a1);
+v30 = AT32(v4, 1588);
 if (AT8(v4, 1584)) {
 v31 = AT32(v4, 1596);
 v32 = AT32(v4, 1592);
-i0 = v29 >> 8;
-goto L111;
+i0 = v30 >> 8;
+goto L116;
 }
-in_mm_problem_keys_number_at(RUD_AS v4 + 1776u, v32, 14u, 0u, 255u, a2);
-v30 = AT32(v4, 1780);
+in_mm_problem_keys_number_at(RUD_AS v4 + 1776u, v32, 14u, 0u, 255u, a1);
+v29 = AT32(v4, 1780);
 if (AT8(v4, 1776)) {
 v31 = AT32(v4, 1788);
 v32 = AT32(v4, 1784);
-v29 = v30;
-i0 = v29 >> 8;
-goto L111;
+v30 = v29;
+i0 = v30 >> 8;
+goto L116;
 }
-in_mm_problem_keys_number_at(RUD_AS v4 + 1416u, v32, 15u, 0u, 255u, a2);
+in_mm_problem_keys_number_at(RUD_AS v4 + 1416u, v32, 15u, 0u, 255u, a1);
 v33 = AT32(v4, 1420);
 if (AT8(v4, 1416)) {
 v31 = AT32(v4, 1428);
 v32 = AT32(v4, 1424);
-v29 = v33;
-i0 = v29 >> 8;
-goto L111;
+v30 = v33;
+i0 = v30 >> 8;
+goto L116;
 }
-in_mm_problem_tables_id_at(RUD_AS v4 + 1352u, v32, 0u, a2);
-a2 = AT64(v4, 1353);
+in_mm_problem_tables_id_at(RUD_AS v4 + 1352u, v32, 0u, a1);
+a1 = AT64(v4, 1353);
 if (AT8(v4, 1352)) {
 SET8(v4, 1498, AT8(v4, 1363));
 SET16(v4, 1496, AT16(v4, 1361));
-SET64(v4, 1488, a2 & 0xff0000ffff000000ull);
-v29 = (u32)(a2 >> 24);
+SET64(v4, 1488, a1 & 0xff0000ffff000000ull);
+v30 = (u32)(a1 >> 24);
 v31 = AT32(v4, 1364);
 v32 = AT32(v4, 1495);
-i0 = (u32)(a2 >> 32);
-goto L111;
+i0 = (u32)(a1 >> 32);
+goto L116;
 }
 SET8(v4, 1523, v33);
-SET8(v4, 1522, v30);
-SET16(v4, 1520, v29);
-SET64(v4, 1888, a2);
-v37 = AT32(v4, 1894);
-SET16(v4, 1530, v37);
-v38 = (u32)a2;
-SET16(v4, 1524, v38);
-v39 = (u32)(a2 >> 16);
-SET32(v4, 1526, v39);
+SET8(v4, 1522, v29);
+SET16(v4, 1520, v30);
+SET64(v4, 1888, a1);
+v38 = AT32(v4, 1894);
+SET16(v4, 1530, v38);
+v39 = (u32)a1;
+SET16(v4, 1524, v39);
+v34 = (u32)(a1 >> 16);
+SET32(v4, 1526, v34);
+a1 = v7;
 v5 = a0;
-a3 = a1;
-L123:;
-v5 = v5 - 1u;
-if (v5 == 0) {
-v29 = 2u;
+L128:;
+a1 = a1 - 1u;
+if (a1 == 0) {
+v30 = 2u;
 v31 = 0u;
 i0 = 0u;
-goto L111;
+goto L116;
 }
-a3 = a3 + 20u;
-i0 = in_core_cmp_arrays_ArrayPartialEq_eq_i8_8_31_core_cmp_numbers_U8Par(RUD_AS a3, v6);
-if (i0 == 0) goto L123;
-if (!(v8 == 0)) {
-v5 = v13;
-a3 = v8;
-L126:;
-TEST(v5);
-if (AT16(v5, 0) != (v29 & 65535u)) goto L127;
-if (AT8(v5, 2) != (v30 & 255u)) goto L127;
-if (AT8(v5, 3) != (v33 & 255u)) goto L127;
-i0 = in_core_cmp_arrays_ArrayPartialEq_eq_i8_8_31_core_cmp_numbers_U8Par(RUD_AS v5 + 4u, v6);
-if (i0 == 0) goto L127;
-v31 = 7u;
-goto L112;
-L127:;
-v5 = v5 + 12u;
-a3 = a3 - 1u;
-if (!(a3 == 0)) goto L126;
-}
-if (v8 == AT64(v4, 960)) {
-a3 = v4 + 944u;
-v32 = 0u;
-a2 = RUD_G0 - 32u;
-RUD_G0 = a2;
-if ((s64)a2 >= (s64)16u) {
-v5 = AT64(v4, 952);
-if (v5 == 0xffffffffffffffffull) goto L131;
-v8 = (v5 > 3u ? v5 : 3ull) + 1u;
-v13 = AT64(v4, 960);
-v20 = v13 << 1;
-v20 = v8 > v20 ? v8 : v20;
-v8 = v13 < 4611686018427387904ull ? v20 : v8;
-if (v8 > 768614336404564650ull) goto L131;
-if (!(v13 == 0)) {
-in_std_heap_GlobalAllocator_grow_23_mm_base_rows_RouteRow(RUD_AS a2 + 16u, AT64(v4, 944), v5, v8);
-RUD_AGAIN
-TEST(a2);
-v34 = AT8(a2, 16);
-j0 = AT64(a2, 24);
-goto L132;
-}
-in_std_heap_GlobalAllocator_allocate(RUD_AS a2, v20 * 12u, 2u);
-RUD_AGAIN
-TEST(a2);
-v34 = AT8(a2, 0);
-j0 = v34 ? 0ull : AT64(a2, 8);
-L132:;
-v5 = j0;
-if (v34) goto L131;
-SET64(v4, 960, v8);
-SET64(v4, 944, v5);
-v32 = 1u;
+v5 = v5 + 20u;
+i0 = in_mm_base_id_StoreIdPartialEq_eq(RUD_AS v5, v16);
+if (i0 == 0) goto L128;
+if (!(v9 == 0)) {
+a1 = a2;
+v5 = v9;
 L131:;
-RUD_G0 = a2 + 32u;
-i0 = v32;
-goto L129;
+TEST(a1);
+if (AT16(a1, 0) != (v30 & 65535u)) goto L132;
+if (AT8(a1, 2) != (v29 & 255u)) goto L132;
+if (AT8(a1, 3) != (v33 & 255u)) goto L132;
+i0 = in_mm_base_id_StoreIdPartialEq_eq(RUD_AS a1 + 4u, v16);
+if (i0 == 0) goto L132;
+v31 = 7u;
+goto L117;
+L132:;
+a1 = a1 + 12u;
+v5 = v5 - 1u;
+if (!(v5 == 0)) goto L131;
+}
+if (v9 == AT64(v4, 960)) {
+v9 = v4 + 944u;
+v37 = 0u;
+v19 = RUD_G0 - 32u;
+RUD_G0 = v19;
+if ((s64)v19 >= (s64)16u) {
+v5 = AT64(v4, 952);
+if (v5 == 0xffffffffffffffffull) goto L136;
+a2 = (v5 > 3u ? v5 : 3ull) + 1u;
+v8 = AT64(v4, 960);
+a1 = v8 << 1;
+a1 = a1 < a2 ? a2 : a1;
+a2 = v8 < 4611686018427387904ull ? a1 : a2;
+if (a2 > 768614336404564650ull) goto L136;
+if (!(v8 == 0)) {
+in_std_heap_GlobalAllocator_grow_23_mm_base_rows_RouteRow(RUD_AS v19 + 16u, AT64(v4, 944), v5, a2);
+RUD_AGAIN
+TEST(v19);
+v32 = AT8(v19, 16);
+j0 = AT64(v19, 24);
+goto L137;
+}
+in_std_heap_GlobalAllocator_allocate(RUD_AS v19, a1 * 12u, 2u);
+RUD_AGAIN
+TEST(v19);
+v32 = AT8(v19, 0);
+j0 = v32 ? 0ull : AT64(v19, 8);
+L137:;
+a1 = j0;
+if (v32) goto L136;
+SET64(v4, 960, a2);
+SET64(v4, 944, a1);
+v37 = 1u;
+L136:;
+RUD_G0 = v19 + 32u;
+i0 = v37;
+goto L134;
 }
 rud_trap();
-L129:;
-if (i0 == 0) goto L113;
-v13 = AT64(v4, 944);
-v8 = AT64(v4, 952);
+L134:;
+if (i0 == 0) goto L118;
+v9 = AT64(v4, 952);
+a2 = AT64(v4, 944);
 }
-a2 = v13 + (v8 * 12u);
-TEST(a2);
-SET16(a2, 10, v37);
-SET32(a2, 6, v39);
-SET16(a2, 4, v38);
-SET8(a2, 3, v33);
-SET8(a2, 2, v30);
-SET16(a2, 0, v29);
-v8 = v8 + 1u;
-SET64(v4, 952, v8);
-v10 = v10 + 1u;
-if (v10 != v15) goto L115;
+a1 = a2 + (v9 * 12u);
+TEST(a1);
+SET16(a1, 10, v38);
+SET32(a1, 6, v34);
+SET16(a1, 4, v39);
+SET8(a1, 3, v33);
+SET8(a1, 2, v29);
+SET16(a1, 0, v30);
+v9 = v9 + 1u;
+SET64(v4, 952, v9);
+v12 = v12 + 1u;
+if (v12 != v15) goto L120;
 v33 = AT64(v4, 960) == 0;
-v30 = AT32(v4, 948);
-v29 = AT32(v4, 944);
+v29 = AT32(v4, 948);
+v30 = AT32(v4, 944);
 }
 SET64(v4, 952, 0u);
 SET64(v4, 960, 0u);
-v18 = (u64)v29 | ((u64)v30 << 32);
+v16 = (u64)v30 | ((u64)v29 << 32);
 SET64(v4, 944, v4 + 1912u);
 if (v14 == 0) {
-i0 = v36;
+i0 = v35;
 } else {
 v6 = v4 + 1912u;
-a3 = 0u;
-a1 = 0u;
-L139:;
+v5 = 0u;
+v10 = 0u;
+L144:;
 SET64(v4, 1584, 0u);
 SET64(v4, 1592, 0u);
 SET64(v4, 1776, 0u);
 SET64(v4, 1784, 0u);
-v29 = (u32)a3 + 1u;
-a0 = v11 + (a1 * 40u);
+v32 = (u32)v5 + 1u;
+a0 = v17 + (v10 * 40u);
 TEST(a0);
 if (AT8(a0, 0) == 6u) {
 a0 = a0 + 8u;
 i0 = in_mm_problem_keys_has_only(RUD_AS 4205501u, 2u, a0);
-if (i0) goto L140;
-j0 = (u64)v29 | 25769803776ull;
-goto L141;
+if (i0) goto L145;
+j0 = (u64)v32 | 25769803776ull;
+goto L146;
 }
-j0 = (u64)v29 | 8589934592ull;
-L141:;
+j0 = (u64)v32 | 8589934592ull;
+L146:;
 a1 = j0;
 a0 = (a1 << 32) | 2u;
-v30 = (u32)(a1 >> 32);
-goto L136;
-L140:;
-in_mm_problem_keys_number_at(RUD_AS v4 + 1584u, v29, 11u, 0u, 7u, a0);
-v30 = AT32(v4, 1588);
+v29 = (u32)(a1 >> 32);
+goto L141;
+L145:;
+in_mm_problem_keys_number_at(RUD_AS v4 + 1584u, v32, 11u, 0u, 7u, a0);
+v35 = AT32(v4, 1588);
 if (AT8(v4, 1584)) {
-a0 = (u64)(v30 & 255u) | ((u64)(v30 & 65280u) | ((u64)AT32(v4, 1592) << 32));
-v30 = AT32(v4, 1596);
-goto L136;
+a0 = (u64)(v35 & 255u) | ((u64)(v35 & 65280u) | ((u64)AT32(v4, 1592) << 32));
+v29 = AT32(v4, 1596);
+goto L141;
 }
-in_mm_problem_keys_number_at(RUD_AS v4 + 1776u, v29, 16u, 0u, 1000000u, a0);
-v32 = AT32(v4, 1780);
+in_mm_problem_keys_number_at(RUD_AS v4 + 1776u, v32, 16u, 0u, 1000000u, a0);
+v29 = AT32(v4, 1780);
 if (AT8(v4, 1776)) {
-a0 = (u64)(v32 & 255u) | ((u64)(v32 & 65280u) | ((u64)AT32(v4, 1784) << 32));
-v30 = AT32(v4, 1788);
-goto L136;
+a0 = (u64)(v29 & 255u) | ((u64)(v29 & 65280u) | ((u64)AT32(v4, 1784) << 32));
+v29 = AT32(v4, 1788);
+goto L141;
 }
-v5 = 0xffffffffffffffffull;
+a1 = 0xffffffffffffffffull;
 a0 = v6;
-L146:;
-v5 = v5 + 1u;
-if (a3 == v5) goto L145;
+L151:;
+a1 = a1 + 1u;
+if (v5 == a1) goto L150;
 TEST(a0);
 i0 = AT8(a0, 0);
 a0 = a0 + 8u;
-if (i0 != (v30 & 255u)) goto L146;
-a0 = ((u64)v29 << 32) | 2u;
+if (i0 != (v35 & 255u)) goto L151;
+a0 = ((u64)v32 << 32) | 2u;
 j0 = 30064771072ull;
-goto L135;
-L145:;
-if (a3 == AT64(v4, 960)) {
-a2 = v4 + 944u;
-v29 = 0u;
-a0 = RUD_G0 - 32u;
-RUD_G0 = a0;
-if ((s64)a0 >= (s64)16u) {
-a3 = AT64(v4, 952);
-if (a3 == 0xffffffffffffffffull) goto L150;
-v5 = (a3 > 3u ? a3 : 3ull) + 1u;
-v6 = AT64(v4, 960);
-v7 = v6 << 1;
-v7 = v5 > v7 ? v5 : v7;
-v5 = v6 < 4611686018427387904ull ? v7 : v5;
-if (v5 > 1152921504606846975ull) goto L150;
-j0 = a2;
-if (!(v6 == 0)) {
-v6 = AT64(v4, 944);
-TEST(a0);
-SET64(a0, 24, 0u);
-SET64(a0, 16, 0u);
-rud_realloc(RUD_AS a0 + 16u, v6, a3 << 3, v5 << 3, 4u);
-RUD_AGAIN
-if (AT8(a0, 16) == 0) goto L150;
-j1 = AT64(a0, 24);
-goto L151;
-}
-in_std_heap_GlobalAllocator_allocate(RUD_AS a0, v7 << 3, 4u);
-RUD_AGAIN
-TEST(a0);
-if (AT8(a0, 0)) goto L150;
-j1 = AT64(a0, 8);
-L151:;
-SET64(v4, 944, j1);
-SET64(v4, 960, v5);
-v29 = 1u;
+goto L140;
 L150:;
-RUD_G0 = a0 + 32u;
-i0 = v29;
-goto L148;
+if (v5 == AT64(v4, 960)) {
+v8 = v4 + 944u;
+v30 = 0u;
+v5 = RUD_G0 - 32u;
+RUD_G0 = v5;
+if ((s64)v5 >= (s64)16u) {
+v7 = AT64(v4, 952);
+if (v7 == 0xffffffffffffffffull) goto L155;
+a1 = (v7 > 3u ? v7 : 3ull) + 1u;
+a2 = AT64(v4, 960);
+a0 = a2 << 1;
+a0 = a0 < a1 ? a1 : a0;
+a1 = a2 < 4611686018427387904ull ? a0 : a1;
+if (a1 > 1152921504606846975ull) goto L155;
+j0 = v8;
+if (!(a2 == 0)) {
+a0 = AT64(v4, 944);
+TEST(v5);
+SET64(v5, 24, 0u);
+SET64(v5, 16, 0u);
+rud_realloc(RUD_AS v5 + 16u, a0, v7 << 3, a1 << 3, 4u);
+RUD_AGAIN
+if (AT8(v5, 16) == 0) goto L155;
+j1 = AT64(v5, 24);
+goto L156;
+}
+in_std_heap_GlobalAllocator_allocate(RUD_AS v5, a0 << 3, 4u);
+RUD_AGAIN
+TEST(v5);
+if (AT8(v5, 0)) goto L155;
+j1 = AT64(v5, 8);
+L156:;
+SET64(v4, 944, j1);
+SET64(v4, 960, a1);
+v30 = 1u;
+L155:;
+RUD_G0 = v5 + 32u;
+i0 = v30;
+goto L153;
 }
 rud_trap();
-L148:;
-if (i0 == 0) goto L137;
+L153:;
+if (i0 == 0) goto L142;
 v6 = AT64(v4, 944);
-a3 = AT64(v4, 952);
+v5 = AT64(v4, 952);
 }
-PUT64(v6 + (a3 << 3), 0, (u64)(v30 & 255u) | ((u64)v32 << 32));
-a3 = a3 + 1u;
-SET64(v4, 952, a3);
-a1 = a1 + 1u;
-if (a1 != v14) goto L139;
+PUT64(v6 + (v5 << 3), 0, (u64)(v35 & 255u) | ((u64)v29 << 32));
+v5 = v5 + 1u;
+SET64(v4, 952, v5);
+v10 = v10 + 1u;
+if (v10 != v14) goto L144;
 v31 = AT64(v4, 960) == 0;
-v35 = AT32(v4, 948);
+v36 = AT32(v4, 948);
 i0 = AT32(v4, 944);
 }
-a1 = (u64)i0 | ((u64)v35 << 32);
-v29 = 0u;
+v7 = (u64)i0 | ((u64)v36 << 32);
+v30 = 0u;
 v32 = 1u;
 v34 = 0u;
-i0 = v17 == 0;
-goto L71;
-L137:;
+i0 = v13 == 0;
+goto L74;
+L142:;
 a0 = 0u;
-v29 = 0u;
+v30 = 0u;
 if (!(AT64(v4, 960) == 0)) {
 rud_dealloc(RUD_AS AT64(v4, 944));
 RUD_AGAIN
 }
 v34 = 0u;
-goto L134;
-L136:;
-j0 = (u64)v30 << 32;
-L135:;
+goto L139;
+L141:;
+j0 = (u64)v29 << 32;
+L140:;
 a1 = j0;
 if (!(AT64(v4, 960) == 0)) {
 rud_dealloc(RUD_AS v6);
 RUD_AGAIN
 }
 v34 = (u32)(a0 >> 8);
-v29 = (u32)a0;
+v30 = (u32)a0;
 a0 = (a0 >> 32) | a1;
-L134:;
+L139:;
 if (v33 == 0) {
-rud_dealloc(RUD_AS v18);
+rud_dealloc(RUD_AS v16);
 RUD_AGAIN
 }
 v32 = 0u;
-if (!(v17 == 0)) {
-rud_dealloc(RUD_AS v9);
+if (!(v13 == 0)) {
+rud_dealloc(RUD_AS a3);
 RUD_AGAIN
 }
-v12 = 0u;
-v9 = a0;
-goto L72;
-L113:;
+v11 = 0u;
+a3 = a0;
+goto L75;
+L118:;
 if (!(AT64(v4, 960) == 0)) {
 rud_dealloc(RUD_AS AT64(v4, 944));
 RUD_AGAIN
 }
-v29 = 0u;
+v30 = 0u;
 v34 = 0u;
 v32 = 0u;
 v31 = 0u;
-goto L110;
-L112:;
-v29 = 2u;
+goto L115;
+L117:;
+v30 = 2u;
 i0 = 0u;
-L111:;
+L116:;
 v34 = i0;
-if (AT64(v4, 960) == 0) goto L110;
-rud_dealloc(RUD_AS v13);
+if (AT64(v4, 960) == 0) goto L115;
+rud_dealloc(RUD_AS a2);
 RUD_AGAIN
-L110:;
+L115:;
 j0 = (u64)v32 | ((u64)v31 << 32);
 v32 = 0u;
 v31 = 1u;
-if (!(v17 == 0)) {
-rud_dealloc(RUD_AS v9);
+if (!(v13 == 0)) {
+rud_dealloc(RUD_AS a3);
 RUD_AGAIN
 }
-v12 = 0u;
-v9 = j0;
-goto L72;
-L88:;
+v11 = 0u;
+a3 = j0;
+goto L75;
+L93:;
 if (!(AT64(v4, 960) == 0)) {
 rud_dealloc(RUD_AS AT64(v4, 944));
 RUD_AGAIN
 }
-v29 = 0u;
 v30 = 0u;
+v29 = 0u;
 v31 = 0u;
-L87:;
-v9 = (u64)v30 | ((u64)v31 << 32);
-v12 = 0u;
+L92:;
+v11 = 0u;
 v32 = 0u;
-v31 = 1u;
-goto L72;
-L76:;
+j0 = (u64)v29 | ((u64)v31 << 32);
+goto L76;
+L88:;
+goto L75;
+L80:;
 v34 = AT8(v4, 949);
-v29 = AT8(v4, 948);
-L73:;
-v9 = (u64)v31 | ((u64)v30 << 32);
+v30 = AT8(v4, 948);
+L77:;
+j0 = (u64)v31 | ((u64)v29 << 32);
+L76:;
+a3 = j0;
 v31 = 1u;
-L72:;
-v18 = 0u;
-v8 = 0u;
+L75:;
+v16 = 0u;
+v9 = 0u;
 v33 = 1u;
-a1 = 0u;
+v7 = 0u;
 i0 = 1u;
-L71:;
-v30 = i0;
+L74:;
+v29 = i0;
 if (AT8(v4, 920) == 1u) {
 in_std_collections_btree_node_Node_destroy_ada23bb4fd0ecfa1(RUD_AS AT64(v4, 928));
 RUD_AGAIN
 }
 if (v32 == 0) {
-v36 = (u32)(v9 >> 32);
-v31 = (u32)v9;
+v35 = (u32)(a3 >> 32);
+v31 = (u32)a3;
 goto L5;
 }
+FILL_FEW(v4 + 1520u, 0u, 40u);
 v10 = 0u;
-SET64(v4, 1384, 0u);
-SET64(v4, 1376, 0u);
-SET64(v4, 1368, 0u);
-SET64(v4, 1360, 0u);
-SET64(v4, 1352, 0u);
-SET64(v4, 1520, 0u);
-SET64(v4, 1528, 0u);
-SET64(v4, 1536, 0u);
-SET64(v4, 1544, 0u);
-SET64(v4, 1552, 0u);
-SET64(v4, 1488, 0u);
-SET64(v4, 1496, 0u);
-SET64(v4, 1504, 0u);
 SET64(v4, 1511, 0u);
-SET64(v4, 1416, 0u);
-SET64(v4, 1424, 0u);
-SET64(v4, 1432, 0u);
-SET64(v4, 1440, 0u);
-SET64(v4, 1448, 0u);
-SET64(v4, 1454, 0u);
-i0 = in_mm_memory_spare_Spare_fill(RUD_AS v4 + 1352u);
+SET64(v4, 1504, 0u);
+SET64(v4, 1496, 0u);
+SET64(v4, 1488, 0u);
+FILL_FEW(v4 + 1416u, 0u, 46u);
+a0 = v4 + 1352u;
+FILL_FEW(a0, 0u, 40u);
+i0 = in_mm_memory_spare_Spare_fill(RUD_AS a0);
 RUD_AGAIN
 if ((i0 & 255u) == 0) {
 FILL_FEW(v4 + 944u, 0u, 200u);
 SET64(v4, 1896, 0u);
 SET64(v4, 1904, 0u);
 SET64(v4, 1888, v4 + 1912u);
-if (v12 == 0) {
-v14 = v4 + 1912u;
+if (v11 == 0) {
+v15 = v4 + 1912u;
 j0 = 0u;
-goto L168;
+goto L173;
 }
-v6 = v4 + 1760u;
-v5 = v4 + 1705u;
-a0 = v4 + 1648u;
-v7 = v4 + 1608u;
-v15 = v4 + 1593u;
-a2 = v4 + 1832u;
-v10 = v4 + 1792u;
-a3 = v9;
-L170:;
-v13 = v4 + 1776u;
-FILL_FEW(v13, 0u, 112u);
-TEST(a3);
-in_mm_store_any_AnyStore_new(RUD_AS v13, AT8(a3, 16), AT32(a3, 8));
+v20 = v4 + 1760u;
+v12 = v4 + 1705u;
+v5 = v4 + 1648u;
+v15 = v4 + 1608u;
+v17 = v4 + 1593u;
+v8 = v4 + 1832u;
+v14 = v4 + 1792u;
+a0 = a3;
+L175:;
+a1 = v4 + 1776u;
+FILL_FEW(a1, 0u, 112u);
+TEST(a0);
+in_mm_store_any_AnyStore_new(RUD_AS a1, AT8(a0, 16), AT32(a0, 8));
 RUD_AGAIN
-if (AT8(v4, 1776)) goto L165;
-v29 = AT8(a3, 17);
-v17 = AT64(a3, 0);
+if (AT8(v4, 1776)) goto L170;
+v30 = AT8(a0, 17);
+a2 = AT64(a0, 0);
 SET64(v4, 1608, AT64(v4, 1792));
 SET64(v4, 1616, AT64(v4, 1800));
-SET64(v4, 1648, AT64(v4, 1832));
-SET64(v4, 1656, AT64(v4, 1840));
-SET64(v4, 1664, AT64(v4, 1848));
-SET64(v4, 1672, AT64(v4, 1856));
-SET64(v4, 1680, AT64(v4, 1864));
-SET64(v4, 1688, AT64(v4, 1872));
-SET64(v4, 1696, AT64(v4, 1880));
 v13 = (u64)AT8(v4, 1784);
-v11 = AT64(v4, 1808);
-v19 = AT64(v4, 1816);
-v14 = AT64(v4, 1824);
+v10 = AT64(v4, 1808);
+a1 = AT64(v4, 1816);
+v6 = AT64(v4, 1824);
+COPY_FEW(v5, v8, 56u);
 SET32(v4, 1593, 0u);
 SET32(v4, 1596, 0u);
-SET64(v4, 1705, 0u);
-SET64(v4, 1713, 0u);
-SET64(v4, 1721, 0u);
-SET64(v4, 1729, 0u);
-SET64(v4, 1737, 0u);
-SET64(v4, 1744, 0u);
+SET8(v4, 1592, v30);
+SET64(v4, 1584, a2);
+SET8(v4, 1704, 1u);
+SET64(v4, 1640, v6);
+SET64(v4, 1632, a1);
+SET64(v4, 1624, v10);
+SET64(v4, 1600, v13);
+FILL_FEW(v12, 0u, 47u);
 SET64(v4, 1760, 0u);
 SET64(v4, 1768, 0u);
-SET8(v4, 1592, v29);
-SET64(v4, 1584, v17);
-SET8(v4, 1704, 1u);
-SET64(v4, 1640, v14);
-SET64(v4, 1632, v19);
-SET64(v4, 1624, v11);
-SET64(v4, 1600, v13);
-SET64(v4, 1752, (v13 == 0 ? v11 : v14) & 4294967295u);
+SET64(v4, 1752, (v13 == 0 ? v10 : v6) & 4294967295u);
 in_std_alloc_vec_Vec_push_1546441aeb499ef3(RUD_AS v4 + 944u, v4 + 1888u, v4 + 1584u);
 RUD_AGAIN
-if (AT8(v4, 944)) goto L164;
-a3 = a3 + 20u;
-v12 = v12 - 1u;
-if (!(v12 == 0)) goto L170;
+if (AT8(v4, 944)) goto L169;
+a0 = a0 + 20u;
+v11 = v11 - 1u;
+if (!(v11 == 0)) goto L175;
 v10 = AT64(v4, 1904);
-v14 = AT64(v4, 1888);
+v15 = AT64(v4, 1888);
 j0 = AT64(v4, 1896);
-L168:;
-a3 = j0;
+L173:;
+v5 = j0;
 SET64(v4, 1576, v10);
-SET64(v4, 1568, a3);
-SET64(v4, 1560, v14);
+SET64(v4, 1568, v5);
+SET64(v4, 1560, v15);
 SET64(v4, 1784, 0u);
 SET64(v4, 1792, 0u);
 SET64(v4, 1776, v4 + 1912u);
 i0 = in_std_alloc_vec_Vec_move_to_98cf589476e368ff(RUD_AS v4 + 1776u, 256u);
 RUD_AGAIN
-if (i0) goto L166;
+if (i0) goto L171;
 if (!(AT64(v4, 1792) == 0)) {
 rud_dealloc(RUD_AS AT64(v4, 1776));
 RUD_AGAIN
 }
 in_std_alloc_vec_Vec_drop_d529bc2ce50a9423(RUD_AS v4 + 1560u);
 RUD_AGAIN
-goto L163;
+goto L168;
 }
 if (AT8(v4, 1352) == 1u) {
 in_std_alloc_arc_Arc_drop_c3b6ee2ab0dfb523(RUD_AS AT64(v4, 1384));
 RUD_AGAIN
 }
 goto L6;
-L166:;
-a0 = AT64(v4, 1776);
-SET64(v4, 1591, a0);
-a2 = AT64(v4, 1784);
-SET64(v4, 1599, a2);
-v5 = AT64(v4, 1792);
-SET64(v4, 1607, v5);
-SET64(v4, 1888, a0);
-SET64(v4, 1896, a2);
-SET64(v4, 1904, v5);
-a0 = v18;
-if (!(v8 == 0)) goto L162;
+L171:;
+a2 = AT64(v4, 1776);
+SET64(v4, 1591, a2);
+a1 = AT64(v4, 1784);
+SET64(v4, 1599, a1);
+a0 = AT64(v4, 1792);
+SET64(v4, 1607, a0);
+SET64(v4, 1888, a2);
+SET64(v4, 1896, a1);
+SET64(v4, 1904, a0);
+a0 = v16;
+if (!(v9 == 0)) goto L167;
 goto L7;
-L165:;
+L170:;
 in_std_alloc_vec_Vec_drop_d529bc2ce50a9423(RUD_AS v4 + 1888u);
 RUD_AGAIN
-goto L163;
-L164:;
+goto L168;
+L169:;
 in_mm_memory_mm_desk_held_Held_Destruct_drop(RUD_AS v4 + 952u);
 RUD_AGAIN
 in_std_alloc_vec_Vec_drop_d529bc2ce50a9423(RUD_AS v4 + 1888u);
 RUD_AGAIN
-L163:;
+L168:;
 if (AT8(v4, 1352) == 1u) {
 in_std_alloc_arc_Arc_drop_c3b6ee2ab0dfb523(RUD_AS AT64(v4, 1384));
 RUD_AGAIN
 }
 goto L6;
-L162:;
-L174:;
+L167:;
+L179:;
 TEST(a0);
 SET32(v4, 1336, AT32(a0, 8));
 SET64(v4, 1328, AT64(a0, 0));
@@ -14064,8 +12666,8 @@ in_mm_control_table_ControlTable_add(RUD_AS v4 + 16u, v4 + 1888u, v4 + 1328u);
 RUD_AGAIN
 if (AT8(v4, 16) & 1u) goto L8;
 a0 = a0 + 12u;
-v8 = v8 - 1u;
-if (!(v8 == 0)) goto L174;
+v9 = v9 - 1u;
+if (!(v9 == 0)) goto L179;
 goto L7;
 L8:;
 rud_trap();
@@ -14074,125 +12676,102 @@ SET64(v4, 1528, 0u);
 SET64(v4, 1536, 0u);
 SET64(v4, 1544, 0u);
 SET64(v4, 1552, 0u);
-v15 = AT64(v4, 1904);
-a2 = AT64(v4, 1896);
-v13 = AT64(v4, 1888);
-v5 = v4 + 1912u;
-SET64(v4, 1520, v5);
+v17 = AT64(v4, 1904);
+v14 = AT64(v4, 1896);
+a2 = AT64(v4, 1888);
+a1 = v4 + 1912u;
+SET64(v4, 1520, a1);
 a0 = AT64(v4, 1384);
-v29 = AT8(v4, 1352);
+v30 = AT8(v4, 1352);
 SET64(v4, 1592, 0u);
 SET64(v4, 1600, 0u);
-SET64(v4, 1584, v5);
+SET64(v4, 1584, a1);
 i0 = in_std_alloc_vec_Vec_move_to_7cbd3772f10b2324(RUD_AS v4 + 1584u, 5u);
 RUD_AGAIN
 if (i0 == 0) {
-if (AT64(v4, 1600) == 0) goto L175;
+if (AT64(v4, 1600) == 0) goto L180;
 rud_dealloc(RUD_AS AT64(v4, 1584));
 RUD_AGAIN
-goto L175;
+goto L180;
 }
-v5 = AT64(v4, 1600);
-SET64(v4, 967, v5);
-v6 = AT64(v4, 1592);
-SET64(v4, 959, v6);
-v7 = AT64(v4, 1584);
-SET64(v4, 951, v7);
-SET64(v4, 1776, v7);
-SET64(v4, 1784, v6);
-SET64(v4, 1792, v5);
+v12 = AT64(v4, 1600);
+SET64(v4, 967, v12);
+v8 = AT64(v4, 1592);
+SET64(v4, 959, v8);
+a1 = AT64(v4, 1584);
+SET64(v4, 951, a1);
+SET64(v4, 1776, a1);
+SET64(v4, 1784, v8);
+SET64(v4, 1792, v12);
 i0 = in_mm_service_reserve_Reserve_fill(RUD_AS v4 + 1776u);
 RUD_AGAIN
 if ((i0 & 255u) == 0) {
 SET64(v4, 1511, AT64(v4, 1792));
 SET64(v4, 1503, AT64(v4, 1784));
 SET64(v4, 1495, AT64(v4, 1776));
-SET64(v4, 1454, AT64(v4, 1552));
-SET64(v4, 1446, AT64(v4, 1544));
-SET64(v4, 1438, AT64(v4, 1536));
-SET64(v4, 1430, AT64(v4, 1528));
-SET64(v4, 1422, AT64(v4, 1520));
-SET64(v4, 768, AT64(v4, 1448));
-SET64(v4, 760, AT64(v4, 1440));
-SET64(v4, 752, AT64(v4, 1432));
-SET64(v4, 744, AT64(v4, 1424));
-SET64(v4, 774, AT64(v4, 1454));
-SET64(v4, 736, AT64(v4, 1416));
-v5 = v4 + 1360u;
+COPY_FEW(v4 + 1422u, v4 + 1520u, 40u);
+v8 = v4 + 738u;
+COPY_FEW(v8, v4 + 1416u, 46u);
+a1 = v4 + 1360u;
 SET64(v4, 728, AT64(v4, 1376));
 SET64(v4, 720, AT64(v4, 1368));
 SET64(v4, 712, AT64(v4, 1360));
-SET64(v4, 704, AT64(v4, 1511));
-SET64(v4, 696, AT64(v4, 1503));
 SET64(v4, 688, AT64(v4, 1495));
-SET16(v4, 680, 0u);
+SET64(v4, 696, AT64(v4, 1503));
+SET64(v4, 704, AT64(v4, 1511));
 SET64(v4, 672, 0u);
-SET64(v4, 662, AT64(v4, 774));
-SET64(v4, 656, AT64(v4, 768));
-SET64(v4, 648, AT64(v4, 760));
-SET64(v4, 640, AT64(v4, 752));
-SET64(v4, 632, AT64(v4, 744));
-SET64(v4, 624, AT64(v4, 736));
+SET16(v4, 680, 0u);
+COPY_FEW(v4 + 626u, v8, 46u);
 SET64(v4, 616, 0u);
 SET64(v4, 608, 0u);
 SET64(v4, 600, 0u);
-SET64(v4, 592, AT64(v4, 728));
-SET64(v4, 584, AT64(v4, 720));
-SET64(v4, 576, AT64(v4, 712));
-SET64(v4, 568, AT64(v4, 704));
-SET64(v4, 560, AT64(v4, 696));
-SET64(v4, 552, AT64(v4, 688));
-SET16(v4, 912, 0u);
 SET64(v4, 904, 0u);
-SET64(v4, 894, AT64(v4, 774));
-SET64(v4, 888, AT64(v4, 768));
-SET64(v4, 880, AT64(v4, 760));
-SET64(v4, 872, AT64(v4, 752));
-SET64(v4, 864, AT64(v4, 744));
-SET64(v4, 856, AT64(v4, 736));
+SET16(v4, 912, 0u);
+SET64(v4, 576, AT64(v4, 712));
+SET64(v4, 584, AT64(v4, 720));
+SET64(v4, 592, AT64(v4, 728));
+SET64(v4, 552, AT64(v4, 688));
+SET64(v4, 560, AT64(v4, 696));
+SET64(v4, 568, AT64(v4, 704));
+COPY_FEW(v4 + 858u, v8, 46u);
 SET64(v4, 848, 0u);
 SET64(v4, 840, 0u);
 SET64(v4, 832, 0u);
-SET64(v4, 824, AT64(v4, 728));
-SET64(v4, 816, AT64(v4, 720));
 SET64(v4, 808, AT64(v4, 712));
-SET64(v4, 800, AT64(v4, 704));
-SET64(v4, 792, AT64(v4, 696));
+SET64(v4, 816, AT64(v4, 720));
+SET64(v4, 824, AT64(v4, 728));
 SET64(v4, 784, AT64(v4, 688));
-if (v30 == 0) {
-rud_dealloc(RUD_AS v9);
+SET64(v4, 792, AT64(v4, 696));
+SET64(v4, 800, AT64(v4, 704));
+if (v29 == 0) {
+rud_dealloc(RUD_AS a3);
 RUD_AGAIN
 }
 if (v33 == 0) {
-rud_dealloc(RUD_AS v18);
+rud_dealloc(RUD_AS v16);
 RUD_AGAIN
 }
 if (v31 == 0) {
-rud_dealloc(RUD_AS a1);
+rud_dealloc(RUD_AS v7);
 RUD_AGAIN
 }
-v9 = (u64)v29 & 255u;
+a3 = (u64)v30 & 255u;
 SET16(v4, 408, AT16(v4, 912));
 SET64(v4, 400, AT64(v4, 904));
-SET64(v4, 352, AT64(v4, 856));
-SET64(v4, 360, AT64(v4, 864));
-SET64(v4, 368, AT64(v4, 872));
-SET64(v4, 376, AT64(v4, 880));
-SET64(v4, 384, AT64(v4, 888));
-SET64(v4, 390, AT64(v4, 894));
-SET64(v4, 328, AT64(v4, 832));
-SET64(v4, 336, AT64(v4, 840));
+COPY_FEW(v4 + 354u, v4 + 858u, 46u);
 SET64(v4, 344, AT64(v4, 848));
-SET64(v4, 320, AT64(v4, 824));
-SET64(v4, 312, AT64(v4, 816));
+SET64(v4, 336, AT64(v4, 840));
+SET64(v4, 328, AT64(v4, 832));
 SET64(v4, 304, AT64(v4, 808));
-SET64(v4, 296, AT64(v4, 800));
-SET64(v4, 288, AT64(v4, 792));
+SET64(v4, 312, AT64(v4, 816));
+SET64(v4, 320, AT64(v4, 824));
 SET64(v4, 280, AT64(v4, 784));
-v36 = (u32)(v14 >> 32);
-v31 = (u32)v14;
-v29 = 0u;
-v30 = 1u;
+SET64(v4, 288, AT64(v4, 792));
+SET64(v4, 296, AT64(v4, 800));
+v35 = (u32)(v15 >> 32);
+v31 = (u32)v15;
+v30 = 0u;
+v29 = 1u;
 v34 = 0u;
 goto L3;
 }
@@ -14201,116 +12780,106 @@ SET64(v4, 1592, AT64(v4, 1784));
 SET64(v4, 1584, AT64(v4, 1776));
 in_std_alloc_vec_Vec_clear_81505d604071a4c2(RUD_AS v4 + 1584u);
 RUD_AGAIN
-if (AT64(v4, 1600) == 0) goto L175;
+if (AT64(v4, 1600) == 0) goto L180;
 rud_dealloc(RUD_AS AT64(v4, 1584));
 RUD_AGAIN
-L175:;
-if (v29 == 1u) {
+L180:;
+if (v30 == 1u) {
 in_std_alloc_arc_Arc_drop_c3b6ee2ab0dfb523(RUD_AS a0);
 RUD_AGAIN
 }
 in_std_alloc_vec_deque_VecDeque_drop_37450415a5268579(RUD_AS v4 + 1520u);
 RUD_AGAIN
-if (!(a3 == 0)) {
-v7 = 0u;
-L183:;
-a0 = v14 + (v7 * 192u);
-TEST(a0);
-v8 = AT64(a0, 48);
-v12 = AT64(a0, 40);
-v5 = AT64(a0, 32);
-a2 = AT64(a0, 24);
-if (AT8(a0, 16) == 0) {
-if (v12 == 0) goto L186;
-a0 = v5 > v8 ? 0ull : v5;
-v17 = v8 - a0;
-v11 = v5 - v17;
-v6 = v11 < v12 ? v11 : v12;
-if (v5 != v17) {
-a0 = (a2 + ((v8 * 40u) - (a0 * 40u))) + 32u;
-v5 = v6;
+if (!(v5 == 0)) {
+v13 = 0u;
 L188:;
+a0 = v15 + (v13 * 192u);
+TEST(a0);
+v9 = AT64(a0, 48);
+v14 = AT64(a0, 40);
+a1 = AT64(a0, 32);
+v12 = AT64(a0, 24);
+if (AT8(a0, 16) == 0) {
+if (v14 == 0) goto L191;
+v11 = a1 > v9 ? 0ull : a1;
+a0 = v9 - v11;
+v6 = a1 - a0;
+v8 = v6 < v14 ? v6 : v14;
+if (a0 != a1) {
+a0 = (v12 + ((v9 * 40u) - (v11 * 40u))) + 32u;
+a1 = v8;
+L193:;
 TEST(a0);
 in_std_alloc_arc_Arc_drop_c3b6ee2ab0dfb523(RUD_AS AT64(a0, 0));
 RUD_AGAIN
 a0 = a0 + 40u;
-v5 = v5 - 1u;
-if (v5 != 0u) goto L188;
+a1 = a1 - 1u;
+if (a1 != 0u) goto L193;
 }
-if (v11 >= v12) goto L186;
-v5 = v12 - v6;
-a0 = a2 + 32u;
-L189:;
+if (v6 >= v14) goto L191;
+a1 = v14 - v8;
+a0 = v12 + 32u;
+L194:;
 TEST(a0);
 in_std_alloc_arc_Arc_drop_c3b6ee2ab0dfb523(RUD_AS AT64(a0, 0));
 RUD_AGAIN
 a0 = a0 + 40u;
-v5 = v5 - 1u;
-if (v5 != 0u) goto L189;
-L186:;
-rud_dealloc(RUD_AS a2);
+a1 = a1 - 1u;
+if (a1 != 0u) goto L194;
+L191:;
+rud_dealloc(RUD_AS v12);
 RUD_AGAIN
-goto L184;
+goto L189;
 }
 v11 = AT64(a0, 88);
 j0 = AT64(a0, 104);
 j1 = AT64(a0, 64);
-if (!(v5 == 0)) {
-a0 = a2;
-L191:;
+if (!(a1 == 0)) {
+a0 = v12;
+L196:;
 TEST(a0);
 if (AT8(a0, 0)) {
 in_std_alloc_arc_Arc_drop_c3b6ee2ab0dfb523(RUD_AS AT64(a0, 40));
 RUD_AGAIN
 }
 a0 = a0 + 48u;
-v5 = v5 - 1u;
-if (v5 != 0u) goto L191;
+a1 = a1 - 1u;
+if (a1 != 0u) goto L196;
 }
-if (!(v12 == 0)) {
-rud_dealloc(RUD_AS a2);
+if (!(v14 == 0)) {
+rud_dealloc(RUD_AS v12);
 RUD_AGAIN
 }
 if (!(j1 == 0)) {
-rud_dealloc(RUD_AS v8);
+rud_dealloc(RUD_AS v9);
 RUD_AGAIN
 }
-if (j0 == 0) goto L184;
+if (j0 == 0) goto L189;
 rud_dealloc(RUD_AS v11);
 RUD_AGAIN
-L184:;
-v7 = v7 + 1u;
-if (v7 != a3) goto L183;
+L189:;
+v13 = v13 + 1u;
+if (v13 != v5) goto L188;
 }
 if (!(v10 == 0)) {
-rud_dealloc(RUD_AS v14);
+rud_dealloc(RUD_AS v15);
 RUD_AGAIN
 }
-if (!(v15 == 0)) {
-rud_dealloc(RUD_AS v13);
+if (!(v17 == 0)) {
+rud_dealloc(RUD_AS a2);
 RUD_AGAIN
 }
 L6:;
-SET64(v4, 774, 0u);
-SET64(v4, 768, 0u);
-SET64(v4, 760, 0u);
-SET64(v4, 752, 0u);
-SET64(v4, 744, 0u);
-SET64(v4, 736, 0u);
-SET64(v4, 712, 0u);
-SET64(v4, 720, 0u);
+FILL_FEW(v4 + 738u, 0u, 46u);
 SET64(v4, 728, 0u);
+SET64(v4, 720, 0u);
+SET64(v4, 712, 0u);
 SET64(v4, 688, 0u);
 SET64(v4, 696, 0u);
 SET64(v4, 704, 0u);
 SET64(v4, 904, AT64(v4, 672));
 SET16(v4, 912, AT16(v4, 680));
-SET64(v4, 856, AT64(v4, 624));
-SET64(v4, 864, AT64(v4, 632));
-SET64(v4, 872, AT64(v4, 640));
-SET64(v4, 880, AT64(v4, 648));
-SET64(v4, 888, AT64(v4, 656));
-SET64(v4, 894, AT64(v4, 662));
+COPY_FEW(v4 + 858u, v4 + 626u, 46u);
 SET64(v4, 848, AT64(v4, 616));
 SET64(v4, 840, AT64(v4, 608));
 SET64(v4, 832, AT64(v4, 600));
@@ -14320,55 +12889,45 @@ SET64(v4, 824, AT64(v4, 592));
 SET64(v4, 784, AT64(v4, 552));
 SET64(v4, 792, AT64(v4, 560));
 SET64(v4, 800, AT64(v4, 568));
-if (v30 == 0) {
-rud_dealloc(RUD_AS v9);
+if (v29 == 0) {
+rud_dealloc(RUD_AS a3);
 RUD_AGAIN
 }
 if (v33 == 0) {
-rud_dealloc(RUD_AS v18);
+rud_dealloc(RUD_AS v16);
 RUD_AGAIN
 }
 if (v31 == 0) {
-rud_dealloc(RUD_AS a1);
+rud_dealloc(RUD_AS v7);
 RUD_AGAIN
 }
 SET16(v4, 408, AT16(v4, 912));
 SET64(v4, 400, AT64(v4, 904));
-SET64(v4, 352, AT64(v4, 856));
-SET64(v4, 360, AT64(v4, 864));
-SET64(v4, 368, AT64(v4, 872));
-SET64(v4, 376, AT64(v4, 880));
-SET64(v4, 384, AT64(v4, 888));
-SET64(v4, 390, AT64(v4, 894));
-SET64(v4, 328, AT64(v4, 832));
-SET64(v4, 336, AT64(v4, 840));
+COPY_FEW(v4 + 354u, v4 + 858u, 46u);
 SET64(v4, 344, AT64(v4, 848));
-SET64(v4, 320, AT64(v4, 824));
-SET64(v4, 312, AT64(v4, 816));
+SET64(v4, 336, AT64(v4, 840));
+SET64(v4, 328, AT64(v4, 832));
 SET64(v4, 304, AT64(v4, 808));
-SET64(v4, 296, AT64(v4, 800));
-SET64(v4, 288, AT64(v4, 792));
+SET64(v4, 312, AT64(v4, 816));
+SET64(v4, 320, AT64(v4, 824));
 SET64(v4, 280, AT64(v4, 784));
-v29 = 0u;
+SET64(v4, 288, AT64(v4, 792));
+SET64(v4, 296, AT64(v4, 800));
 v30 = 0u;
+v29 = 0u;
 v34 = 0u;
 v31 = 0u;
-v36 = 0u;
+v35 = 0u;
 j0 = 0u;
 goto L4;
 L5:;
-v30 = 0u;
+v29 = 0u;
 SET16(v4, 408, 0u);
 SET64(v4, 400, 0u);
-SET64(v4, 352, 0u);
-SET64(v4, 360, 0u);
-SET64(v4, 368, 0u);
-SET64(v4, 376, 0u);
-SET64(v4, 384, 0u);
-SET64(v4, 390, 0u);
-SET64(v4, 328, 0u);
-SET64(v4, 336, 0u);
+FILL_FEW(v4 + 354u, 0u, 46u);
 SET64(v4, 344, 0u);
+SET64(v4, 336, 0u);
+SET64(v4, 328, 0u);
 SET64(v4, 304, 0u);
 SET64(v4, 312, 0u);
 SET64(v4, 320, 0u);
@@ -14377,199 +12936,155 @@ SET64(v4, 288, 0u);
 SET64(v4, 296, 0u);
 j0 = 0u;
 L4:;
-a3 = j0;
+v5 = j0;
 v10 = 0u;
-v13 = 0u;
 a2 = 0u;
-v15 = 0u;
-v9 = 0u;
+v14 = 0u;
+v17 = 0u;
+a3 = 0u;
 a0 = 0u;
 L3:;
-v5 = 0u;
+a1 = 0u;
 SET64(v4, 1352, 0u);
 SET16(v4, 1360, 0u);
-SET64(v4, 944, 0u);
-SET64(v4, 952, 0u);
-SET64(v4, 960, 0u);
-SET64(v4, 968, 0u);
-SET64(v4, 976, 0u);
-SET64(v4, 982, 0u);
-SET64(v4, 1584, 0u);
-SET64(v4, 1592, 0u);
+FILL_FEW(v4 + 944u, 0u, 46u);
 SET64(v4, 1600, 0u);
+SET64(v4, 1592, 0u);
+SET64(v4, 1584, 0u);
 SET64(v4, 1776, 0u);
 SET64(v4, 1784, 0u);
 SET64(v4, 1792, 0u);
 SET64(v4, 1416, 0u);
 SET64(v4, 1424, 0u);
 SET64(v4, 1432, 0u);
-v7 = 0u;
-v12 = 0u;
-v14 = 0u;
-a1 = 0u;
+v13 = 0u;
 v6 = 0u;
-v8 = 0u;
-if (v30) {
+v12 = 0u;
+v11 = 0u;
+v9 = 0u;
+v15 = 0u;
+if (v29) {
 SET16(v4, 1360, AT16(v4, 408));
 SET64(v4, 1352, AT64(v4, 400));
-SET64(v4, 944, AT64(v4, 352));
-SET64(v4, 952, AT64(v4, 360));
-SET64(v4, 960, AT64(v4, 368));
-SET64(v4, 968, AT64(v4, 376));
-SET64(v4, 976, AT64(v4, 384));
-SET64(v4, 982, AT64(v4, 390));
-SET64(v4, 1584, AT64(v4, 328));
-SET64(v4, 1592, AT64(v4, 336));
+COPY_FEW(v4 + 944u, v4 + 354u, 46u);
 SET64(v4, 1600, AT64(v4, 344));
-SET64(v4, 1792, AT64(v4, 320));
-SET64(v4, 1784, AT64(v4, 312));
+SET64(v4, 1592, AT64(v4, 336));
+SET64(v4, 1584, AT64(v4, 328));
 SET64(v4, 1776, AT64(v4, 304));
-SET64(v4, 1432, AT64(v4, 296));
-SET64(v4, 1424, AT64(v4, 288));
+SET64(v4, 1784, AT64(v4, 312));
+SET64(v4, 1792, AT64(v4, 320));
 SET64(v4, 1416, AT64(v4, 280));
-v5 = a3;
-v12 = v13;
-v14 = a2;
-v6 = v9;
-v8 = a0;
-v29 = 0u;
+SET64(v4, 1424, AT64(v4, 288));
+SET64(v4, 1432, AT64(v4, 296));
+v13 = v10;
+v6 = a2;
+v12 = v14;
+v11 = v17;
+v9 = a3;
+v15 = a0;
+v30 = 0u;
 v34 = 0u;
-v7 = v10;
-a1 = v15;
+a1 = v5;
 }
 SET16(v4, 544, AT16(v4, 1360));
 SET64(v4, 536, AT64(v4, 1352));
-SET64(v4, 488, AT64(v4, 944));
-SET64(v4, 496, AT64(v4, 952));
-SET64(v4, 504, AT64(v4, 960));
-SET64(v4, 512, AT64(v4, 968));
-SET64(v4, 520, AT64(v4, 976));
-SET64(v4, 526, AT64(v4, 982));
-SET64(v4, 464, AT64(v4, 1584));
-SET64(v4, 472, AT64(v4, 1592));
+COPY_FEW(v4 + 490u, v4 + 944u, 46u);
 SET64(v4, 480, AT64(v4, 1600));
-SET64(v4, 456, AT64(v4, 1792));
-SET64(v4, 448, AT64(v4, 1784));
+SET64(v4, 472, AT64(v4, 1592));
+SET64(v4, 464, AT64(v4, 1584));
 SET64(v4, 440, AT64(v4, 1776));
+SET64(v4, 448, AT64(v4, 1784));
+SET64(v4, 456, AT64(v4, 1792));
 SET64(v4, 416, AT64(v4, 1416));
 SET64(v4, 424, AT64(v4, 1424));
 SET64(v4, 432, AT64(v4, 1432));
-if (v30) {
+if (v29) {
 SET16(v4, 952, AT16(v4, 544));
 SET64(v4, 944, AT64(v4, 536));
-SET64(v4, 954, AT64(v4, 488));
-SET64(v4, 962, AT64(v4, 496));
-SET64(v4, 970, AT64(v4, 504));
-SET64(v4, 978, AT64(v4, 512));
-SET64(v4, 986, AT64(v4, 520));
-SET64(v4, 992, AT64(v4, 526));
+COPY_FEW(v4 + 954u, v4 + 490u, 46u);
 in_std_heap_GlobalAllocator_allocate(RUD_AS v4, 192u, 8u);
 RUD_AGAIN
-a2 = (u64)v31 | ((u64)v36 << 32);
-if (AT8(v4, 0) == 0) goto L204;
-a0 = AT64(v4, 992);
-SET64(v4, 272, a0);
-a3 = AT64(v4, 984);
-SET64(v4, 264, a3);
-v9 = AT64(v4, 976);
-SET64(v4, 256, v9);
-v15 = AT64(v4, 968);
-SET64(v4, 248, v15);
-v10 = AT64(v4, 960);
-SET64(v4, 240, v10);
-v13 = AT64(v4, 952);
-SET64(v4, 232, v13);
-v11 = AT64(v4, 944);
-SET64(v4, 224, v11);
-SET64(v4, 168, v11);
-SET64(v4, 176, v13);
-SET64(v4, 184, v10);
-SET64(v4, 192, v15);
-SET64(v4, 200, v9);
-SET64(v4, 208, a3);
-SET64(v4, 216, a0);
+a2 = (u64)v31 | ((u64)v35 << 32);
+if (AT8(v4, 0) == 0) goto L209;
+a0 = v4 + 224u;
+COPY_FEW(a0, v4 + 944u, 56u);
+COPY_FEW(v4 + 168u, a0, 56u);
+SET64(v4, 136, v13);
+SET64(v4, 128, a1);
+SET64(v4, 120, a2);
 SET64(v4, 160, AT64(v4, 432));
 SET64(v4, 152, AT64(v4, 424));
 SET64(v4, 144, AT64(v4, 416));
-SET64(v4, 136, v7);
-SET64(v4, 128, v5);
-SET64(v4, 120, a2);
 in_std_alloc_vec_Vec_drop_5b598d246d396421(RUD_AS v4 + 120u);
 RUD_AGAIN
-if (!(a1 == 0)) {
-rud_dealloc(RUD_AS v12);
+if (!(v11 == 0)) {
+rud_dealloc(RUD_AS v6);
 RUD_AGAIN
 }
 in_std_alloc_vec_deque_VecDeque_drop_af93cb7c0deb105d(RUD_AS v4 + 184u);
 RUD_AGAIN
-if (v6 == 1u) {
-in_std_alloc_arc_Arc_drop_c3b6ee2ab0dfb523(RUD_AS v8);
+if (v9 == 1u) {
+in_std_alloc_arc_Arc_drop_c3b6ee2ab0dfb523(RUD_AS v15);
 RUD_AGAIN
 }
 in_std_alloc_vec_Vec_drop_95beaedac91b374b(RUD_AS v4 + 144u);
 RUD_AGAIN
-goto L203;
+goto L208;
 }
-v35 = 0u;
+v36 = 0u;
 v32 = 2u;
-v30 = 32u;
+v29 = 32u;
 v33 = 0u;
-switch ((u32)((u64)v29 & 255u) - 1u) {
-case 0u: goto L211;
-case 1u: goto L209;
-case 2u: goto L213;
-case 3u: goto L212;
-case 4u: goto L210;
-case 5u: goto L201;
-case 6u: goto L208;
-default: goto L203;
+switch ((u32)((u64)v30 & 255u) - 1u) {
+case 0u: goto L216;
+case 1u: goto L214;
+case 2u: goto L218;
+case 3u: goto L217;
+case 4u: goto L215;
+case 5u: goto L206;
+case 6u: goto L213;
+default: goto L208;
 }
-L213:;
+L218:;
 v32 = 0u;
 i0 = 29u;
-goto L202;
-L212:;
+goto L207;
+L217:;
 v32 = 0u;
 i0 = 30u;
-goto L202;
-L211:;
+goto L207;
+L216:;
 v32 = 0u;
 i0 = 27u;
-goto L202;
-L210:;
+goto L207;
+L215:;
 v32 = 3u;
-v30 = 31u;
-v33 = v36;
-goto L201;
-L209:;
-v35 = v36 & 255u;
+v29 = 31u;
+v33 = v35;
+goto L206;
+L214:;
+v36 = v35 & 255u;
 v32 = 4u;
-v30 = 28u;
-goto L201;
-L208:;
-v35 = v34 & 255u;
+v29 = 28u;
+goto L206;
+L213:;
+v36 = v34 & 255u;
 v32 = 5u;
-v30 = 33u;
+v29 = 33u;
 v31 = 0u;
-goto L201;
-L204:;
+goto L206;
+L209:;
 a0 = AT64(v4, 8);
 TEST(a0);
-SET64(a0, 40, a1);
-SET64(a0, 32, v14);
-SET64(a0, 24, v12);
-SET64(a0, 16, v7);
-SET64(a0, 8, v5);
+SET64(a0, 40, v11);
+SET64(a0, 32, v12);
+SET64(a0, 24, v6);
+SET64(a0, 16, v13);
+SET64(a0, 8, a1);
 SET64(a0, 0, a2);
-SET64(a0, 48, AT64(v4, 944));
-SET64(a0, 56, AT64(v4, 952));
-SET64(a0, 64, AT64(v4, 960));
-SET64(a0, 72, AT64(v4, 968));
-SET64(a0, 80, AT64(v4, 976));
-SET64(a0, 88, AT64(v4, 984));
-SET64(a0, 96, AT64(v4, 992));
-SET64(a0, 128, v6);
-SET64(a0, 160, v8);
+COPY_FEW(a0 + 48u, v4 + 944u, 56u);
+SET64(a0, 128, v9);
+SET64(a0, 160, v15);
 SET64(a0, 120, AT64(v4, 480));
 SET64(a0, 112, AT64(v4, 472));
 SET64(a0, 104, AT64(v4, 464));
@@ -14579,74 +13094,51 @@ SET64(a0, 152, AT64(v4, 456));
 SET64(a0, 168, AT64(v4, 416));
 SET64(a0, 176, AT64(v4, 424));
 SET64(a0, 184, AT64(v4, 432));
-SET64(v22, 0, a0);
-SET8(v22, 8, 1u);
-TEST(v16);
-SET64(v16, 40, 0u);
-SET64(v16, 32, 0u);
-SET64(v16, 24, 0u);
-SET64(v16, 16, 0u);
-SET64(v16, 8, 0u);
-SET64(v16, 0, 0u);
+SET64(v23, 0, a0);
+SET8(v23, 8, 1u);
+FILL_FEW(v18, 0u, 48u);
 goto L2;
-L203:;
+L208:;
 v32 = 0u;
 i0 = 0u;
-L202:;
-v30 = i0;
+L207:;
+v29 = i0;
 v31 = 0u;
 v33 = 0u;
-v35 = 0u;
-L201:;
-TEST(v16);
-SET64(v16, 40, 0u);
-SET32(v16, 36, 0u);
-SET32(v16, 32, v35);
-SET64(v16, 24, 0u);
-SET32(v16, 20, v33);
-SET32(v16, 16, v31);
-SET32(v16, 12, v32);
-SET32(v16, 8, v30);
-SET64(v16, 0, 2u);
+v36 = 0u;
+L206:;
+TEST(v18);
+SET64(v18, 40, 0u);
+SET32(v18, 36, 0u);
+SET32(v18, 32, v36);
+SET64(v18, 24, 0u);
+SET32(v18, 20, v33);
+SET32(v18, 16, v31);
+SET32(v18, 12, v32);
+SET32(v18, 8, v29);
+SET64(v18, 0, 2u);
 L2:;
 RUD_G0 = v4 + 1920u;
 RUD_G1 = 0u;
 }
 
 static void in_mm_told_answer_tell_text(RUD_IT u64 a0, u64 a1, u64 a2, u64 a3, u64 a4) {
-u32 v10 = 0, i0 = 0;
-u64 v5 = 0, v6 = 0, v7 = 0, v8 = 0, v9 = 0;
+u32 v6 = 0, i0 = 0;
+u64 v5 = 0;
 RUD_HERE
 v5 = RUD_G0 - 32u;
 if ((s64)v5 >= (s64)16u) {
 if (a2 <= a4) {
 if (a2 > (a3 - a1)) {
-v7 = a2 & 3u;
-if (a2 >= 4u) {
-v9 = a2 & 0xfffffffffffffffcull;
-L7:;
-a4 = a3 + v6;
-v8 = a1 + v6;
-TEST(v8);
-TEST(a4);
-SET8(a4, 0, AT8(v8, 0));
-SET8(a4, 1, AT8(v8, 1));
-SET8(a4, 2, AT8(v8, 2));
-SET8(a4, 3, AT8(v8, 3));
-v6 = v6 + 4u;
-if (v9 != v6) goto L7;
-if (v7 == 0) goto L4;
-}
-a4 = a3 + v6;
-v6 = a1 + v6;
-L8:;
-TEST(v6);
-TEST(a4);
-SET8(a4, 0, AT8(v6, 0));
-a4 = a4 + 1u;
-v6 = v6 + 1u;
-v7 = v7 - 1u;
-if (v7 != 0u) goto L8;
+a4 = a2;
+L6:;
+TEST(a1);
+TEST(a3);
+SET8(a3, 0, AT8(a1, 0));
+a3 = a3 + 1u;
+a1 = a1 + 1u;
+a4 = a4 - 1u;
+if (a4 != 0u) goto L6;
 goto L4;
 }
 if (a2 == 0) goto L4;
@@ -14667,10 +13159,10 @@ SET64(v5, 8, 0u);
 SET64(v5, 0, 0u);
 i0 = 1u;
 L2:;
-v10 = i0;
+v6 = i0;
 TEST(a0);
 SET32(a0, 4, 0u);
-SET32(a0, 0, v10);
+SET32(a0, 0, v6);
 SET64(a0, 8, AT64(v5, 0));
 SET64(a0, 16, AT64(v5, 8));
 SET64(a0, 24, AT64(v5, 16));
@@ -14694,21 +13186,9 @@ RUD_G0 = v3;
 if ((s64)v3 <= (s64)15u) {
 rud_trap();
 }
-TEST(v3);
-SET64(v3, 40, 0u);
-SET64(v3, 32, 0u);
-SET64(v3, 24, 0u);
-SET64(v3, 16, 0u);
-SET64(v3, 8, 0u);
-SET64(v3, 0, 0u);
+FILL_FEW(v3, 0u, 48u);
 in_mm_told_answer_tell_text(RUD_AS v3, 4205544u, 5u, a0 + (a0 == 0 ? 4096ull : 0ull), a1);
-TEST(a2);
-SET64(a2, 40, AT64(v3, 40));
-SET64(a2, 32, AT64(v3, 32));
-SET64(a2, 24, AT64(v3, 24));
-SET64(a2, 16, AT64(v3, 16));
-SET64(a2, 8, AT64(v3, 8));
-SET64(a2, 0, AT64(v3, 0));
+COPY_FEW(a2, v3, 48u);
 RUD_G0 = v3 + 48u;
 RUD_G1 = 0u;
 }
@@ -14726,25 +13206,6 @@ rud_trap();
 TEST(a0);
 SET32(a0, 0, 400u);
 RUD_G1 = 0u;
-}
-
-static void in_mm_st15_request_kind_RequestKind_of_code(RUD_IT u64 a0, u32 a1) {
-u32 v2 = 0, v3 = 0;
-u64 v4 = 0;
-RUD_HERE
-if ((s64)RUD_G0 >= (s64)16u) {
-a1 = a1 - 1u;
-if ((a1 & 255u) <= 27u) {
-v4 = (u64)a1 & 255u;
-v3 = GET_FAR8(v4, 4205900);
-v2 = GET_FAR8(v4, 4205872);
-}
-TEST(a0);
-SET8(a0, 1, v3);
-SET8(a0, 0, v2);
-return;
-}
-rud_trap();
 }
 
 static void in_mm_packet_lent_LentPacket_parse(RUD_IT u64 a0, u64 a1, u64 a2) {
@@ -14861,129 +13322,111 @@ SET64(a0, 48, 0u);
 SET64(a0, 56, 0u);
 }
 
-static void in_mm_ask_line_lent_alone(RUD_IT u64 a0, u64 a1, u64 a2) {
-u32 v4 = 0;
-u64 v3 = 0;
+static void in_mm_st15_request_kind_RequestKind_of_code(RUD_IT u64 a0, u32 a1) {
+u32 v2 = 0, v3 = 0;
+u64 v4 = 0;
 RUD_HERE
-v3 = RUD_G0 - 112u;
-RUD_G0 = v3;
-if ((s64)v3 >= (s64)16u) {
-TEST(v3);
-SET64(v3, 104, 0u);
-SET64(v3, 96, 0u);
-SET64(v3, 88, 0u);
-SET64(v3, 80, 0u);
-SET64(v3, 72, 0u);
-SET64(v3, 64, 0u);
-SET64(v3, 56, 0u);
-SET64(v3, 48, 0u);
-SET64(v3, 0, 0u);
-SET64(v3, 8, 0u);
-SET64(v3, 16, 0u);
-SET64(v3, 24, 0u);
-SET64(v3, 32, 0u);
-SET64(v3, 37, 0u);
-in_mm_packet_lent_LentPacket_parse(RUD_AS v3 + 48u, a1, a2);
-if (AT8(v3, 48) == 0) {
-v4 = 1u;
-if (AT64(v3, 104) == 0) {
-SET64(v3, 37, AT64(v3, 88));
-SET64(v3, 29, AT64(v3, 80));
-SET64(v3, 21, AT64(v3, 72));
-SET64(v3, 13, AT64(v3, 64));
-SET64(v3, 5, AT64(v3, 56));
-v4 = 0u;
+if ((s64)RUD_G0 >= (s64)16u) {
+a1 = a1 - 1u;
+if ((a1 & 255u) <= 27u) {
+v4 = (u64)a1 & 255u;
+v3 = GET_FAR8(v4, 4205900);
+v2 = GET_FAR8(v4, 4205872);
 }
 TEST(a0);
-SET8(a0, 0, v4);
-SET8(a0, 2, 0u);
-SET8(a0, 1, v4);
-SET64(a0, 8, AT64(v3, 5));
-SET64(a0, 16, AT64(v3, 13));
-SET64(a0, 24, AT64(v3, 21));
-SET64(a0, 32, AT64(v3, 29));
-SET64(a0, 40, AT64(v3, 37));
-goto L2;
-}
-TEST(a0);
-SET8(a0, 0, 1u);
-SET64(a0, 8, 0u);
-v4 = AT8(v3, 49);
-SET8(a0, 2, v4);
-SET8(a0, 1, v4 ? 2u : 0u);
-SET64(a0, 16, 0u);
-SET64(a0, 24, 0u);
-SET64(a0, 32, 0u);
-SET64(a0, 40, 0u);
-L2:;
-RUD_G0 = v3 + 112u;
+SET8(a0, 1, v3);
+SET8(a0, 0, v2);
 return;
 }
 rud_trap();
 }
 
 static void in_mm_packet_octets_Octets_of(RUD_IT u64 a0, u64 a1, u64 a2) {
-u32 v6 = 0, i0 = 0;
-u64 v3 = 0, v4 = 0, v5 = 0;
+u32 v10 = 0, v11 = 0;
+u64 v3 = 0, v4 = 0, v5 = 0, v6 = 0, v7 = 0, v8 = 0, v9 = 0, j0 = 0, j1 = 0;
 RUD_HERE
-v3 = RUD_G0 - 144u;
+v3 = RUD_G0 - 32u;
 RUD_G0 = v3;
 if ((s64)v3 >= (s64)16u) {
+v11 = a2 == 0;
+j0 = a2;
+if (v11) {
+j1 = v3 + 31u;
+} else {
+if ((s64)a2 < (s64)0u) {
+v10 = 1u;
+goto L2;
+}
 TEST(v3);
-SET64(v3, 56, 0u);
-SET64(v3, 48, 0u);
-SET64(v3, 40, 0u);
-SET64(v3, 32, 0u);
-SET64(v3, 112, 0u);
-SET64(v3, 104, 0u);
-SET64(v3, 96, 0u);
-SET64(v3, 88, 0u);
-in_std_alloc_vec_Vec_with_capacity_0204b76857a009a6(RUD_AS v3 + 88u, a2);
+SET64(v3, 16, 0u);
+SET64(v3, 8, 0u);
+rud_alloc(RUD_AS v3 + 8u, a2, 1u);
 RUD_AGAIN
-if (AT8(v3, 88)) goto L2;
-SET64(v3, 136, AT64(v3, 112));
-SET64(v3, 128, AT64(v3, 104));
-SET64(v3, 120, AT64(v3, 96));
-i0 = in_std_alloc_vec_Vec_extend_from_slice_d4fc6a806bb7b0db(RUD_AS v3 + 120u, a1, a2);
-RUD_AGAIN
-if (i0 & 255u) {
-if (!(AT64(v3, 136) == 0)) {
-rud_dealloc(RUD_AS AT64(v3, 120));
-RUD_AGAIN
+v10 = 1u;
+if ((AT8(v3, 8) & 1u) == 0) goto L2;
+j1 = AT64(v3, 16);
 }
-v6 = 1u;
-goto L1;
+v6 = j1;
+if (j0 > (v6 - a1)) {
+v7 = a2 & 3u;
+if (a2 >= 4u) {
+v4 = a2 & 0xfffffffffffffffcull;
+L8:;
+v8 = v5 + v6;
+v9 = a1 + v5;
+TEST(v9);
+TEST(v8);
+SET8(v8, 0, AT8(v9, 0));
+SET8(v8, 1, AT8(v9, 1));
+SET8(v8, 2, AT8(v9, 2));
+SET8(v8, 3, AT8(v9, 3));
+v5 = v5 + 4u;
+if (v4 != v5) goto L8;
+if (v7 == 0) goto L3;
 }
-a1 = AT64(v3, 136);
-SET64(v3, 80, a1);
-a2 = AT64(v3, 128);
-SET64(v3, 72, a2);
-v5 = AT64(v3, 120);
-SET64(v3, 64, v5);
-SET64(v3, 8, v5);
-SET64(v3, 16, a2);
-SET64(v3, 24, a1);
-in_mm_packet_octets_Octets_new(RUD_AS v3 + 32u, v3 + 8u);
+v4 = v5 + v6;
+v5 = a1 + v5;
+L9:;
+TEST(v5);
+TEST(v4);
+SET8(v4, 0, AT8(v5, 0));
+v4 = v4 + 1u;
+v5 = v5 + 1u;
+v7 = v7 - 1u;
+if (v7 != 0u) goto L9;
+goto L3;
+}
+if (v11) goto L3;
+COPY(v6, a1, a2);
+L3:;
+v4 = 0u;
+TEST(v3);
+SET64(v3, 16, 0u);
+SET64(v3, 8, 0u);
+rud_alloc(RUD_AS v3 + 8u, 32u, 8u);
 RUD_AGAIN
-a1 = AT64(v3, 40);
-if (AT8(v3, 32) == 0) {
-v4 = a1;
-goto L1;
+v10 = 1u;
+if (AT8(v3, 8) & 1u) {
+v4 = AT64(v3, 16);
+TEST(v4);
+SET64(v4, 24, a2);
+SET64(v4, 16, a2);
+SET64(v4, 8, v6);
+SET64(v4, 0, 1u);
+v10 = 0u;
+goto L2;
 }
-v6 = 1u;
-if (AT64(v3, 56) == 0) goto L1;
-rud_dealloc(RUD_AS a1);
+if (v11) goto L2;
+rud_dealloc(RUD_AS v6);
 RUD_AGAIN
-goto L1;
-}
-rud_trap();
 L2:;
-v6 = 1u;
-L1:;
 TEST(a0);
 SET64(a0, 8, v4);
-SET8(a0, 0, v6);
-RUD_G0 = v3 + 144u;
+SET8(a0, 0, v10);
+RUD_G0 = v3 + 32u;
+return;
+}
+rud_trap();
 }
 
 static void in_mm_ask_line_packet_alone(RUD_IT u64 a0, u64 a1, u64 a2) {
@@ -14993,17 +13436,11 @@ RUD_HERE
 v3 = RUD_G0 - 80u;
 RUD_G0 = v3;
 if ((s64)v3 >= (s64)16u) {
-TEST(v3);
-SET64(v3, 72, 0u);
-SET64(v3, 64, 0u);
-SET64(v3, 56, 0u);
-SET64(v3, 48, 0u);
-SET64(v3, 40, 0u);
-SET64(v3, 32, 0u);
-SET64(v3, 24, 0u);
-SET64(v3, 16, 0u);
-in_mm_packet_lent_LentPacket_parse(RUD_AS v3 + 16u, a1, a2);
+v4 = v3 + 16u;
+FILL_FEW(v4, 0u, 64u);
+in_mm_packet_lent_LentPacket_parse(RUD_AS v4, a1, a2);
 j0 = a0;
+TEST(v3);
 if (AT8(v3, 16) == 0) {
 a2 = AT64(v3, 40);
 v5 = AT16(v3, 36);
@@ -15203,7 +13640,7 @@ return 0;
 }
 
 static u32 in_std_alloc_vec_Vec_grow_amortized_b6ba752709f1c5bb(RUD_IT u64 a0) {
-u32 i0 = 0;
+u32 v4 = 0;
 u64 v1 = 0, v2 = 0, v3 = 0, j0 = 0;
 RUD_HERE
 v2 = RUD_G0;
@@ -15211,20 +13648,21 @@ if ((s64)v2 >= (s64)16u) {
 TEST(a0);
 v1 = AT64(a0, 8);
 if (v1 == 0xffffffffffffffffull) {
-RUD_G0 = v2;
-return 0u;
+goto L1;
 }
 v1 = (v1 > 3u ? v1 : 3ull) + 1u;
 j0 = a0;
 a0 = AT64(a0, 16);
 v3 = a0 << 1;
-i0 = in_std_alloc_vec_Vec_move_to_b6ba752709f1c5bb(RUD_AS j0, a0 < 4611686018427387904ull ? (v1 > v3 ? v1 : v3) : v1);
+v4 = in_std_alloc_vec_Vec_move_to_b6ba752709f1c5bb(RUD_AS j0, a0 < 4611686018427387904ull ? (v1 > v3 ? v1 : v3) : v1);
 RUD_AGAIN
-RUD_G0 = v2;
-return i0;
+goto L1;
 }
 rud_trap();
 return 0;
+L1:;
+RUD_G0 = v2;
+return v4;
 }
 
 static u32 in_byn_mgfn_shared_std_alloc_vec_Vec_move_to_8f93ed18667da11d(RUD_IT u64 a0, u64 a1, u64 a2, u64 a3, u64 a4) {
@@ -15289,7 +13727,7 @@ return i0;
 }
 
 static u32 in_std_alloc_vec_Vec_grow_amortized_8f93ed18667da11d(RUD_IT u64 a0) {
-u32 i0 = 0;
+u32 v4 = 0;
 u64 v1 = 0, v2 = 0, v3 = 0, j0 = 0;
 RUD_HERE
 v2 = RUD_G0;
@@ -15297,20 +13735,21 @@ if ((s64)v2 >= (s64)16u) {
 TEST(a0);
 v1 = AT64(a0, 8);
 if (v1 == 0xffffffffffffffffull) {
-RUD_G0 = v2;
-return 0u;
+goto L1;
 }
 v1 = (v1 > 3u ? v1 : 3ull) + 1u;
 j0 = a0;
 a0 = AT64(a0, 16);
 v3 = a0 << 1;
-i0 = in_std_alloc_vec_Vec_move_to_8f93ed18667da11d(RUD_AS j0, a0 < 4611686018427387904ull ? (v1 > v3 ? v1 : v3) : v1);
+v4 = in_std_alloc_vec_Vec_move_to_8f93ed18667da11d(RUD_AS j0, a0 < 4611686018427387904ull ? (v1 > v3 ? v1 : v3) : v1);
 RUD_AGAIN
-RUD_G0 = v2;
-return i0;
+goto L1;
 }
 rud_trap();
 return 0;
+L1:;
+RUD_G0 = v2;
+return v4;
 }
 
 static void in_byn_mgfn_shared_std_heap_GlobalAllocator_grow_35_mm_st15_instruc(RUD_IT u64 a0, u64 a1, u64 a2, u64 a3, u64 a4, u64 a5) {
@@ -15377,7 +13816,7 @@ return 0;
 }
 
 static u32 in_std_alloc_vec_Vec_grow_amortized_baf47378b5fee3d3(RUD_IT u64 a0) {
-u32 i0 = 0;
+u32 v4 = 0;
 u64 v1 = 0, v2 = 0, v3 = 0, j0 = 0;
 RUD_HERE
 v2 = RUD_G0;
@@ -15385,20 +13824,21 @@ if ((s64)v2 >= (s64)16u) {
 TEST(a0);
 v1 = AT64(a0, 8);
 if (v1 == 0xffffffffffffffffull) {
-RUD_G0 = v2;
-return 0u;
+goto L1;
 }
 v1 = (v1 > 3u ? v1 : 3ull) + 1u;
 j0 = a0;
 a0 = AT64(a0, 16);
 v3 = a0 << 1;
-i0 = in_std_alloc_vec_Vec_move_to_baf47378b5fee3d3(RUD_AS j0, a0 < 4611686018427387904ull ? (v1 > v3 ? v1 : v3) : v1);
+v4 = in_std_alloc_vec_Vec_move_to_baf47378b5fee3d3(RUD_AS j0, a0 < 4611686018427387904ull ? (v1 > v3 ? v1 : v3) : v1);
 RUD_AGAIN
-RUD_G0 = v2;
-return i0;
+goto L1;
 }
 rud_trap();
 return 0;
+L1:;
+RUD_G0 = v2;
+return v4;
 }
 
 static void in_mm_st15_counted_counted_entries_93728722e2cdf027(RUD_IT u64 a0, u32 a1, u64 a2, u64 a3) {
@@ -15574,7 +14014,7 @@ return i0;
 }
 
 static u32 in_std_alloc_vec_Vec_grow_amortized_2e6a255000427900(RUD_IT u64 a0) {
-u32 i0 = 0;
+u32 v4 = 0;
 u64 v1 = 0, v2 = 0, v3 = 0, j0 = 0;
 RUD_HERE
 v2 = RUD_G0;
@@ -15582,20 +14022,21 @@ if ((s64)v2 >= (s64)16u) {
 TEST(a0);
 v1 = AT64(a0, 8);
 if (v1 == 0xffffffffffffffffull) {
-RUD_G0 = v2;
-return 0u;
+goto L1;
 }
 v1 = (v1 > 3u ? v1 : 3ull) + 1u;
 j0 = a0;
 a0 = AT64(a0, 16);
 v3 = a0 << 1;
-i0 = in_std_alloc_vec_Vec_move_to_2e6a255000427900(RUD_AS j0, a0 < 4611686018427387904ull ? (v1 > v3 ? v1 : v3) : v1);
+v4 = in_std_alloc_vec_Vec_move_to_2e6a255000427900(RUD_AS j0, a0 < 4611686018427387904ull ? (v1 > v3 ? v1 : v3) : v1);
 RUD_AGAIN
-RUD_G0 = v2;
-return i0;
+goto L1;
 }
 rud_trap();
 return 0;
+L1:;
+RUD_G0 = v2;
+return v4;
 }
 
 static u32 in_std_alloc_vec_Vec_move_to_6469b56b2f1a679e(RUD_IT u64 a0, u64 a1) {
@@ -15606,7 +14047,7 @@ return i0;
 }
 
 static u32 in_std_alloc_vec_Vec_grow_amortized_6469b56b2f1a679e(RUD_IT u64 a0) {
-u32 i0 = 0;
+u32 v4 = 0;
 u64 v1 = 0, v2 = 0, v3 = 0, j0 = 0;
 RUD_HERE
 v2 = RUD_G0;
@@ -15614,20 +14055,21 @@ if ((s64)v2 >= (s64)16u) {
 TEST(a0);
 v1 = AT64(a0, 8);
 if (v1 == 0xffffffffffffffffull) {
-RUD_G0 = v2;
-return 0u;
+goto L1;
 }
 v1 = (v1 > 3u ? v1 : 3ull) + 1u;
 j0 = a0;
 a0 = AT64(a0, 16);
 v3 = a0 << 1;
-i0 = in_std_alloc_vec_Vec_move_to_6469b56b2f1a679e(RUD_AS j0, a0 < 4611686018427387904ull ? (v1 > v3 ? v1 : v3) : v1);
+v4 = in_std_alloc_vec_Vec_move_to_6469b56b2f1a679e(RUD_AS j0, a0 < 4611686018427387904ull ? (v1 > v3 ? v1 : v3) : v1);
 RUD_AGAIN
-RUD_G0 = v2;
-return i0;
+goto L1;
 }
 rud_trap();
 return 0;
+L1:;
+RUD_G0 = v2;
+return v4;
 }
 
 static void in_mm_st15_counted_counted_entries_65c131a536ad0a17(RUD_IT u64 a0, u64 a1, u64 a2) {
@@ -15726,7 +14168,7 @@ return i0;
 }
 
 static u32 in_std_alloc_vec_Vec_grow_amortized_66712223a0a96b53(RUD_IT u64 a0) {
-u32 i0 = 0;
+u32 v4 = 0;
 u64 v1 = 0, v2 = 0, v3 = 0, j0 = 0;
 RUD_HERE
 v2 = RUD_G0;
@@ -15734,84 +14176,125 @@ if ((s64)v2 >= (s64)16u) {
 TEST(a0);
 v1 = AT64(a0, 8);
 if (v1 == 0xffffffffffffffffull) {
-RUD_G0 = v2;
-return 0u;
+goto L1;
 }
 v1 = (v1 > 3u ? v1 : 3ull) + 1u;
 j0 = a0;
 a0 = AT64(a0, 16);
 v3 = a0 << 1;
-i0 = in_std_alloc_vec_Vec_move_to_66712223a0a96b53(RUD_AS j0, a0 < 4611686018427387904ull ? (v1 > v3 ? v1 : v3) : v1);
+v4 = in_std_alloc_vec_Vec_move_to_66712223a0a96b53(RUD_AS j0, a0 < 4611686018427387904ull ? (v1 > v3 ? v1 : v3) : v1);
 RUD_AGAIN
+goto L1;
+}
+rud_trap();
+return 0;
+L1:;
 RUD_G0 = v2;
-return i0;
-}
-rud_trap();
-return 0;
-}
-
-static u64 in_mm_base_id_text_len(RUD_IT u64 a0) {
-u64 j0 = 0;
-RUD_HERE
-if ((s64)RUD_G0 >= (s64)16u) {
-TEST(a0);
-if (AT8(a0, 0) == 32u) { j0 = 0u; goto L2; }
-if (AT8(a0, 1) == 32u) { j0 = 1u; goto L2; }
-if (AT8(a0, 2) == 32u) { j0 = 2u; goto L2; }
-if (AT8(a0, 3) == 32u) { j0 = 3u; goto L2; }
-if (AT8(a0, 4) == 32u) { j0 = 4u; goto L2; }
-if (AT8(a0, 5) == 32u) { j0 = 5u; goto L2; }
-if (AT8(a0, 6) == 32u) { j0 = 6u; goto L2; }
-j0 = AT8(a0, 7) == 32u ? 7ull : 8ull;
-L2:;
-return j0;
-}
-rud_trap();
-return 0;
+return v4;
 }
 
 static void in_mm_memory_validation_id_of(RUD_IT u64 a0, u64 a1) {
-u32 v4 = 0, v5 = 0, v6 = 0, i0 = 0;
-u64 v2 = 0, v3 = 0, j0 = 0, j1 = 0;
+u32 v9 = 0, v10 = 0, v11 = 0, i0 = 0;
+u64 v2 = 0, v3 = 0, v4 = 0, v5 = 0, v6 = 0, v7 = 0, v8 = 0, j0 = 0;
 RUD_HERE
-v2 = RUD_G0 - 32u;
-RUD_G0 = v2;
-if ((s64)v2 >= (s64)16u) {
+v3 = RUD_G0 - 32u;
+RUD_G0 = v3;
+if ((s64)v3 >= (s64)16u) {
 TEST(a1);
-v3 = AT64(a1, 0);
-TEST(v2);
-SET64(v2, 8, v3);
-a1 = v2 + 8u;
-j1 = in_mm_base_id_text_len(RUD_AS a1);
-j0 = a1;
-a1 = j1;
-i0 = in_mm_base_id_is_id_text(RUD_AS j0, a1);
-if (i0) {
-SET64(v2, 24, 2314885530818453536ull);
+v6 = AT64(a1, 0);
+TEST(v3);
+SET64(v3, 8, v6);
+L6:;
+if (GET8((v3 + 8u) + v2, 0) != 32u) {
+a1 = 8u;
+v2 = v2 + 1u;
+if (v2 != 8u) goto L6;
+goto L5;
+}
+a1 = v2;
+if ((a1 - 1u) > 7u) goto L4;
+L5:;
+v2 = 0u;
+L8:;
+if (a1 != v2) {
+j0 = (v3 + 8u) + v2;
+v2 = v2 + 1u;
+TEST(j0);
+v9 = AT8(j0, 0);
+v10 = v9 - 48u;
+if (((u32)(v9 == 45u) | (u32)(v9 == 95u)) | ((u32)(((v9 - 65u) & 255u) < 26u) | (u32)((v10 & 255u) < 10u))) goto L8;
+goto L4;
+}
+SET64(v3, 24, 2314885530818453536ull);
 if (!(a1 == 0)) {
-COPY(v2 + 24u, v2 + 8u, a1);
+COPY(v3 + 24u, v3 + 8u, a1);
 }
-SET64(v2, 16, AT64(v2, 24));
-i0 = in_core_cmp_arrays_ArrayPartialEq_eq_i8_8_31_core_cmp_numbers_U8Par(RUD_AS v2 + 16u, v2 + 8u);
+SET64(v3, 16, AT64(v3, 24));
+v2 = v3 + 16u;
+v4 = v3 + 8u;
+v9 = 0u;
+v10 = 0u;
+a1 = RUD_G0 - 32u;
+RUD_G0 = a1;
+if ((s64)a1 >= (s64)16u) {
+TEST(a1);
+SET64(a1, 24, 8u);
+SET64(a1, 16, v4);
+SET64(a1, 8, 8u);
+SET64(a1, 0, v2);
+if ((s64)RUD_G0 >= (s64)16u) {
+v5 = 4u;
+v7 = AT64(a1, 16);
+v2 = v7;
+v8 = AT64(a1, 0);
+v4 = v8;
+L15:;
+TEST(v4);
+TEST(v2);
+v9 = v9 | (u32)(AT8(v4, 0) != AT8(v2, 0));
+v2 = v2 + 1u;
+v4 = v4 + 1u;
+v5 = v5 - 1u;
+if (v5 != 0u) goto L15;
+v4 = v8 + 8u;
+v5 = v7 + 8u;
+v2 = 0xfffffffffffffffcull;
+L16:;
+v10 = v10 | (u32)(GET8(v2 + v4, 0) != GET8(v2 + v5, 0));
+v2 = v2 + 1u;
+if (v2 != 0u) goto L16;
+i0 = (v9 | v10) & 1u;
+goto L13;
+}
+rud_trap();
+L13:;
+RUD_G0 = a1 + 32u;
+i0 = i0 ^ 1u;
+goto L11;
+}
+rud_trap();
+L11:;
 if (i0) goto L3;
-}
-v5 = 1u;
-v6 = 1u;
+L4:;
+v9 = 0u;
+v10 = 1u;
+v11 = 1u;
 j0 = 0u;
 goto L2;
 L3:;
-v4 = (u32)(v3 >> 8);
-v6 = (u32)v3;
-j0 = v3 >> 16;
+v9 = (u32)(v6 >> 8);
+v11 = (u32)v6;
+v10 = 0u;
+j0 = v6 >> 16;
 L2:;
 a1 = j0;
 TEST(a0);
-SET8(a0, 0, v5);
+SET8(a0, 0, v10);
 SET16(a0, 7, (u32)(a1 >> 32));
 SET32(a0, 3, (u32)a1);
-SET8(a0, 2, v4);
-SET8(a0, 1, v6);
-RUD_G0 = v2 + 32u;
+SET8(a0, 2, v9);
+SET8(a0, 1, v11);
+RUD_G0 = v3 + 32u;
 return;
 }
 rud_trap();
@@ -15862,24 +14345,16 @@ goto L1;
 }
 TEST(a0);
 SET8(a0, 0, 1u);
-SET64(a0, 8, 0u);
 SET8(a0, 2, (u32)(v4 >> 8));
 SET8(a0, 1, (u32)v4);
-SET64(a0, 16, 0u);
-SET64(a0, 24, 0u);
-SET64(a0, 32, 0u);
-SET64(a0, 40, 0u);
+FILL_FEW(a0 + 8u, 0u, 40u);
 goto L1;
 L3:;
 TEST(a0);
 SET8(a0, 0, 1u);
-SET64(a0, 8, 0u);
 SET8(a0, 2, v11);
 SET8(a0, 1, v12);
-SET64(a0, 16, 0u);
-SET64(a0, 24, 0u);
-SET64(a0, 32, 0u);
-SET64(a0, 40, 0u);
+FILL_FEW(a0 + 8u, 0u, 40u);
 goto L1;
 }
 rud_trap();
@@ -15964,15 +14439,10 @@ u32 v25 = 0, v26 = 0, v27 = 0, v28 = 0, v29 = 0, i0 = 0;
 u64 v3 = 0, v4 = 0, v5 = 0, v6 = 0, v7 = 0, v8 = 0, v9 = 0, v10 = 0, v11 = 0, v12 = 0, v13 = 0, v14 = 0;
 u64 v15 = 0, v16 = 0, v17 = 0, v18 = 0, v19 = 0, v20 = 0, v21 = 0, v22 = 0, v23 = 0, v24 = 0;
 RUD_HERE
-(void)v15;
-(void)v17;
+(void)v12;
 (void)v18;
-(void)v20;
-(void)v23;
-(void)v7;
-(void)v8;
 (void)v9;
-v3 = RUD_G0 - 576u;
+v3 = RUD_G0 - 560u;
 RUD_G0 = v3;
 if ((s64)v3 >= (s64)16u) {
 TEST(v3);
@@ -15982,228 +14452,142 @@ SET64(v3, 16, 0u);
 SET64(v3, 8, 0u);
 TEST(a1);
 v5 = AT64(a1, 8);
-v10 = AT64(a1, 0);
+v6 = AT64(a1, 0);
 SET64(v3, 63, 0u);
 SET64(v3, 56, 0u);
 SET64(v3, 48, 0u);
 SET64(v3, 40, 0u);
-SET64(v3, 72, v3 + 568u);
-SET64(v3, 133, 0u);
-SET64(v3, 128, 0u);
-SET64(v3, 120, 0u);
-SET64(v3, 112, 0u);
-SET64(v3, 104, 0u);
-SET64(v3, 96, 0u);
-SET64(v3, 80, 0u);
+SET64(v3, 72, v3 + 552u);
+FILL_FEW(v3 + 96u, 0u, 45u);
+FILL_FEW(v3 + 186u, 0u, 45u);
 SET64(v3, 88, 0u);
-SET64(v3, 192, 0u);
-SET64(v3, 200, 0u);
-SET64(v3, 208, 0u);
-SET64(v3, 216, 0u);
-SET64(v3, 224, 0u);
-SET64(v3, 229, 0u);
-SET64(v3, 288, 0u);
-SET64(v3, 296, 0u);
-SET64(v3, 304, 0u);
-SET64(v3, 312, 0u);
-SET64(v3, 320, 0u);
-SET64(v3, 325, 0u);
-SET64(v3, 240, 0u);
-SET64(v3, 248, 0u);
-SET64(v3, 256, 0u);
-SET64(v3, 264, 0u);
-SET64(v3, 272, 0u);
-SET64(v3, 277, 0u);
+SET64(v3, 80, 0u);
+FILL_FEW(v3 + 276u, 0u, 45u);
+FILL_FEW(v3 + 231u, 0u, 45u);
 if (v5 == 0) goto L4;
-v13 = (v3 + 96u) | 5u;
-v14 = (v3 + 192u) | 5u;
-v15 = v3 + 149u;
-v16 = (v3 + 288u) | 5u;
-v4 = (v3 + 240u) | 5u;
-v7 = v3 + 342u;
-v8 = v3 + 387u;
-v9 = v3 + 432u;
-v17 = v3 + 528u;
-v20 = v3 + 492u;
-v18 = v3 + 486u;
-v19 = (v3 + 472u) | 3u;
-v23 = v3 + 80u;
-v24 = v3 + 568u;
+v19 = v3 + 101u;
+v20 = v3 + 191u;
+v21 = v3 + 146u;
+v22 = v3 + 281u;
+v11 = v3 + 236u;
+v15 = v3 + 326u;
+v16 = v3 + 371u;
+v17 = v3 + 416u;
+v23 = v3 + 512u;
+v12 = v3 + 476u;
+v9 = v3 + 470u;
+v10 = (v3 + 456u) | 3u;
+v18 = v3 + 80u;
+a1 = v3 + 552u;
 L5:;
-v22 = v6 - v21;
-a1 = v24 + (v6 * 48u);
-v12 = 0u;
+v14 = v4 - v13;
+a1 = a1 + (v4 * 48u);
+v8 = 0u;
 L7:;
-SET64(v3, 520, 0u);
-SET64(v3, 528, 0u);
-SET64(v3, 536, 0u);
-SET64(v3, 544, 0u);
-SET64(v3, 552, 0u);
-SET64(v3, 560, 0u);
+v25 = 0u;
+FILL_FEW(v3 + 504u, 0u, 48u);
 SET64(v3, 472, 0u);
-SET64(v3, 480, 0u);
-SET64(v3, 488, 0u);
-TEST(v10);
-SET64(v3, 512, AT64(v10, 0));
-v26 = AT16(v10, 8);
+SET64(v3, 464, 0u);
+SET64(v3, 456, 0u);
+TEST(v6);
+SET64(v3, 496, AT64(v6, 0));
+v26 = AT16(v6, 8);
 if (v26 <= 2046u) {
-v28 = AT8(v10, 11);
-v27 = 0u;
-TEST(v19);
-i0 = AT8(v10, 10);
-SET8(v19, 4, 0u);
-SET32(v19, 0, 0u);
-SET32(v3, 486, 0u);
-SET16(v3, 490, 0u);
-v25 = ((i0 << 16) | v26) | (v28 << 24);
-v28 = 2u;
+v27 = AT8(v6, 11);
+TEST(v10);
+i0 = AT8(v6, 10);
+SET8(v10, 4, 0u);
+SET32(v10, 0, 0u);
+SET32(v3, 470, 0u);
+SET16(v3, 474, 0u);
+v26 = ((i0 << 16) | v26) | (v27 << 24);
+v27 = 2u;
 v29 = 0u;
-i0 = a2;
+v25 = a2;
+i0 = 0u;
 goto L8;
 }
-TEST(v19);
-SET8(v19, 4, 0u);
-SET32(v19, 0, 0u);
-SET32(v3, 486, 0u);
-SET16(v3, 490, 0u);
+TEST(v10);
+SET8(v10, 4, 0u);
+SET32(v10, 0, 0u);
+SET32(v3, 470, 0u);
+SET16(v3, 474, 0u);
 v29 = 2u;
-v27 = 1u;
-v28 = 0u;
-v25 = 0u;
-i0 = 0u;
+v27 = 0u;
+v26 = 0u;
+i0 = 1u;
 L8:;
-v26 = i0;
-SET64(v3, 492, 0u);
-SET64(v3, 500, 0u);
-SET32(v3, 508, 0u);
-SET32(v3, 482, v25);
-SET8(v3, 481, v26);
-SET8(v3, 480, v28);
-SET8(v3, 474, 0u);
-SET8(v3, 473, v29);
-SET8(v3, 472, v27);
-in_mm_memory_validation_parsed(RUD_AS v3 + 520u, v3 + 512u, v3 + 472u);
-SET64(v3, 432, AT64(v3, 528));
-SET64(v3, 440, AT64(v3, 536));
-SET64(v3, 448, AT64(v3, 544));
-SET64(v3, 456, AT64(v3, 552));
-SET64(v3, 464, AT64(v3, 560));
-v26 = AT8(v3, 522);
-v27 = AT8(v3, 521);
-v25 = AT8(v3, 520);
-SET64(v3, 419, AT64(v3, 464));
-SET64(v3, 411, AT64(v3, 456));
-SET64(v3, 403, AT64(v3, 448));
-SET64(v3, 395, AT64(v3, 440));
-SET64(v3, 387, AT64(v3, 432));
-SET64(v3, 374, AT64(v3, 419));
-SET64(v3, 366, AT64(v3, 411));
-SET64(v3, 358, AT64(v3, 403));
-SET64(v3, 350, AT64(v3, 395));
-SET64(v3, 342, AT64(v3, 387));
-TEST(v4);
-SET64(v4, 32, AT64(v3, 374));
-SET64(v4, 24, AT64(v3, 366));
-SET64(v4, 16, AT64(v3, 358));
-SET64(v4, 8, AT64(v3, 350));
-SET64(v4, 0, AT64(v3, 342));
-if ((v12 + v22) == 0) goto L6;
+v28 = i0;
+SET64(v3, 476, 0u);
+SET64(v3, 484, 0u);
+SET32(v3, 492, 0u);
+SET32(v3, 466, v26);
+SET8(v3, 465, v25);
+SET8(v3, 464, v27);
+SET8(v3, 458, 0u);
+SET8(v3, 457, v29);
+SET8(v3, 456, v28);
+in_mm_memory_validation_parsed(RUD_AS v3 + 504u, v3 + 496u, v3 + 456u);
+v25 = AT8(v3, 506);
+v28 = AT8(v3, 505);
+v26 = AT8(v3, 504);
+COPY_FEW(v17, v23, 40u);
+COPY_FEW(v16, v17, 40u);
+COPY_FEW(v15, v16, 40u);
+COPY_FEW(v11, v15, 40u);
+if ((v8 + v14) == 0) goto L6;
 TEST(a1);
-SET8(a1, 2, v26);
-SET8(a1, 1, v27);
-SET8(a1, 0, v25);
-SET64(a1, 8, AT64(v4, 0));
-SET64(a1, 16, AT64(v4, 8));
-SET64(a1, 24, AT64(v4, 16));
-SET64(a1, 32, AT64(v4, 24));
-SET64(a1, 40, AT64(v4, 32));
-v10 = v10 + 12u;
+SET8(a1, 0, v26);
+SET8(a1, 2, v25);
+SET8(a1, 1, v28);
+COPY_FEW(a1 + 8u, v11, 40u);
+v6 = v6 + 12u;
 a1 = a1 + 48u;
-v12 = v12 + 1u;
-if (v5 != v12) goto L7;
-v6 = v6 + v12;
+v8 = v8 + 1u;
+if (v5 != v8) goto L7;
+v4 = v4 + v8;
 goto L4;
 L6:;
-TEST(v16);
-SET64(v16, 32, AT64(v4, 32));
-SET64(v16, 24, AT64(v4, 24));
-SET64(v16, 16, AT64(v4, 16));
-SET64(v16, 8, AT64(v4, 8));
-SET64(v16, 0, AT64(v4, 0));
-SET64(v3, 144, AT64(v3, 288));
-SET64(v3, 152, AT64(v3, 296));
-SET64(v3, 160, AT64(v3, 304));
-SET64(v3, 168, AT64(v3, 312));
-SET64(v3, 176, AT64(v3, 320));
-SET64(v3, 181, AT64(v3, 325));
-TEST(v14);
-SET64(v14, 0, AT64(v3, 149));
-SET64(v14, 8, AT64(v3, 157));
-SET64(v14, 16, AT64(v3, 165));
-SET64(v14, 24, AT64(v3, 173));
-SET64(v14, 32, AT64(v3, 181));
-SET64(v3, 80, v21);
-SET64(v3, 88, v11);
-SET64(v3, 96, AT64(v3, 192));
-SET64(v3, 104, AT64(v3, 200));
-SET64(v3, 112, AT64(v3, 208));
-SET64(v3, 120, AT64(v3, 216));
-SET64(v3, 128, AT64(v3, 224));
-SET64(v3, 133, AT64(v3, 229));
-a1 = (v12 ^ 0xffffffffffffffffull) + v5;
-i0 = in_std_alloc_vec_Vec_grow_by_hint_c7528f268d97bc21(RUD_AS v3 + 72u, a1);
+COPY_FEW(v22, v11, 40u);
+COPY_FEW(v3 + 141u, v3 + 276u, 45u);
+SET64(v3, 88, v7);
+SET64(v3, 80, v13);
+COPY_FEW(v20, v21, 40u);
+COPY_FEW(v3 + 96u, v3 + 186u, 45u);
+v14 = (v8 ^ 0xffffffffffffffffull) + v5;
+i0 = in_std_alloc_vec_Vec_grow_by_hint_c7528f268d97bc21(RUD_AS v3 + 72u, v14);
 RUD_AGAIN
 if (i0 == 0) goto L3;
-v10 = v10 + 12u;
-v22 = v5 - 1u;
-v24 = AT64(v3, 72);
-v6 = AT64(v3, 80);
-v5 = v24 + (v6 * 48u);
+v6 = v6 + 12u;
+v24 = v5 - 1u;
+a1 = AT64(v3, 72);
+v4 = AT64(v3, 80);
+v5 = a1 + (v4 * 48u);
 TEST(v5);
-SET8(v5, 0, v25);
-SET8(v5, 2, v26);
-SET8(v5, 1, v27);
-TEST(v13);
-SET64(v5, 8, AT64(v13, 0));
-SET64(v5, 16, AT64(v13, 8));
-SET64(v5, 24, AT64(v13, 16));
-SET64(v5, 32, AT64(v13, 24));
-SET64(v5, 40, AT64(v13, 32));
+SET8(v5, 0, v26);
+SET8(v5, 2, v25);
+SET8(v5, 1, v28);
+COPY_FEW(v5 + 8u, v19, 40u);
+FILL_FEW(v3 + 186u, 0u, 45u);
 SET64(v3, 80, 0u);
-SET64(v3, 192, 0u);
-SET64(v3, 200, 0u);
-SET64(v3, 208, 0u);
-SET64(v3, 216, 0u);
-SET64(v3, 224, 0u);
-SET64(v3, 229, 0u);
-v11 = AT64(v3, 88);
+v7 = AT64(v3, 88);
 SET64(v3, 88, 0u);
-SET64(v3, 288, 0u);
-SET64(v3, 296, 0u);
-SET64(v3, 304, 0u);
-SET64(v3, 312, 0u);
-SET64(v3, 320, 0u);
-SET64(v3, 325, 0u);
-SET64(v3, 240, 0u);
-SET64(v3, 248, 0u);
-SET64(v3, 256, 0u);
-SET64(v3, 264, 0u);
-SET64(v3, 272, 0u);
-SET64(v3, 277, 0u);
-v6 = v6 + 1u;
-v21 = v6 == 0 ? 0ull : v11;
-v5 = a1;
-if (v12 != v22) goto L5;
+FILL_FEW(v3 + 276u, 0u, 45u);
+FILL_FEW(v3 + 231u, 0u, 45u);
+v4 = v4 + 1u;
+v13 = v4 == 0 ? 0ull : v7;
+v5 = v14;
+if (v8 != v24) goto L5;
 L4:;
 a1 = AT64(v3, 72);
 SET64(v3, 15, a1);
-SET64(v3, 23, v6);
-SET64(v3, 31, v11);
+SET64(v3, 23, v4);
+SET64(v3, 31, v7);
 TEST(a0);
 SET8(a0, 0, 0u);
 SET64(a0, 8, a1);
-SET64(a0, 16, v6);
-SET64(a0, 24, v11);
+SET64(a0, 16, v4);
+SET64(a0, 24, v7);
 goto L2;
 L3:;
 if (!(AT64(v3, 88) == 0)) {
@@ -16216,31 +14600,25 @@ SET8(a0, 0, 1u);
 SET64(a0, 16, 0u);
 SET64(a0, 24, 0u);
 L2:;
-RUD_G0 = v3 + 576u;
+RUD_G0 = v3 + 560u;
 return;
 }
 rud_trap();
 }
 
 static void in_mm_memory_request_each_1d19660126d51927(RUD_IT u64 a0, u64 a1, u64 a2) {
-u32 v24 = 0, v25 = 0, v26 = 0, v27 = 0, v28 = 0, v29 = 0, i0 = 0;
+u32 v25 = 0, v26 = 0, v27 = 0, v28 = 0, v29 = 0, v30 = 0, i0 = 0;
 u64 v3 = 0, v4 = 0, v5 = 0, v6 = 0, v7 = 0, v8 = 0, v9 = 0, v10 = 0, v11 = 0, v12 = 0, v13 = 0, v14 = 0;
-u64 v15 = 0, v16 = 0, v17 = 0, v18 = 0, v19 = 0, v20 = 0, v21 = 0, v22 = 0, v23 = 0;
+u64 v15 = 0, v16 = 0, v17 = 0, v18 = 0, v19 = 0, v20 = 0, v21 = 0, v22 = 0, v23 = 0, v24 = 0;
 RUD_HERE
+(void)v15;
 (void)v16;
-(void)v18;
-(void)v20;
-(void)v21;
-(void)v4;
-(void)v7;
-(void)v8;
-(void)v9;
-v3 = RUD_G0 - 592u;
+v3 = RUD_G0 - 576u;
 RUD_G0 = v3;
 if ((s64)v3 >= (s64)16u) {
 TEST(a2);
-v27 = AT8(a2, 1);
-v28 = AT8(a2, 0);
+v28 = AT8(a2, 1);
+v29 = AT8(a2, 0);
 TEST(v3);
 SET64(v3, 8, 0u);
 SET64(v3, 16, 0u);
@@ -16248,187 +14626,113 @@ SET64(v3, 24, 0u);
 SET64(v3, 31, 0u);
 SET64(v3, 40, AT64(a2, 2));
 SET16(v3, 48, AT16(a2, 10));
-v29 = AT32(a2, 12);
-v22 = AT64(a2, 16);
-v23 = AT64(a2, 24);
+v30 = AT32(a2, 12);
+v17 = AT64(a2, 16);
+v18 = AT64(a2, 24);
 TEST(a1);
-a2 = AT64(a1, 8);
-v13 = AT64(a1, 0);
+v5 = AT64(a1, 8);
+v7 = AT64(a1, 0);
 SET64(v3, 79, 0u);
 SET64(v3, 72, 0u);
 SET64(v3, 64, 0u);
 SET64(v3, 56, 0u);
-SET64(v3, 88, v3 + 584u);
-SET64(v3, 149, 0u);
-SET64(v3, 144, 0u);
-SET64(v3, 136, 0u);
-SET64(v3, 128, 0u);
-SET64(v3, 120, 0u);
-SET64(v3, 112, 0u);
-SET64(v3, 96, 0u);
+SET64(v3, 88, v3 + 568u);
+FILL_FEW(v3 + 112u, 0u, 45u);
+FILL_FEW(v3 + 202u, 0u, 45u);
 SET64(v3, 104, 0u);
-SET64(v3, 208, 0u);
-SET64(v3, 216, 0u);
-SET64(v3, 224, 0u);
-SET64(v3, 232, 0u);
-SET64(v3, 240, 0u);
-SET64(v3, 245, 0u);
-SET64(v3, 304, 0u);
-SET64(v3, 312, 0u);
-SET64(v3, 320, 0u);
-SET64(v3, 328, 0u);
-SET64(v3, 336, 0u);
-SET64(v3, 341, 0u);
-if (a2 == 0) goto L4;
-v14 = (v3 + 112u) | 5u;
-v15 = (v3 + 208u) | 5u;
-v16 = v3 + 165u;
-v17 = (v3 + 304u) | 5u;
-v4 = v3 + 264u;
-v7 = v3 + 358u;
-v8 = v3 + 403u;
-v9 = v3 + 448u;
-v18 = v3 + 544u;
-v20 = v3 + 498u;
-v21 = v3 + 96u;
-v5 = v3 + 584u;
+SET64(v3, 96, 0u);
+FILL_FEW(v3 + 292u, 0u, 45u);
+if (v5 == 0) goto L4;
+v19 = v3 + 117u;
+v20 = v3 + 207u;
+v21 = v3 + 162u;
+v22 = v3 + 297u;
+v8 = v3 + 252u;
+v12 = v3 + 342u;
+v13 = v3 + 387u;
+v14 = v3 + 432u;
+v23 = v3 + 528u;
+v15 = v3 + 482u;
+v16 = v3 + 96u;
+a2 = v3 + 568u;
 L5:;
-v19 = v10 - v6;
-v5 = v5 + (v10 * 48u);
-v12 = 0u;
+v10 = v4 - v9;
+a2 = a2 + (v4 * 48u);
+a1 = 0u;
 L7:;
-SET16(v3, 506, AT16(v3, 48));
-SET64(v3, 498, AT64(v3, 40));
-SET64(v3, 488, 0u);
-SET64(v3, 536, 0u);
-SET64(v3, 544, 0u);
-SET64(v3, 552, 0u);
-SET64(v3, 560, 0u);
-SET64(v3, 568, 0u);
-SET64(v3, 576, 0u);
-TEST(v13);
-a1 = AT64(v13, 0);
-SET64(v3, 520, v23);
-SET64(v3, 512, v22);
-SET32(v3, 508, v29);
-SET8(v3, 497, v27);
-SET8(v3, 496, v28);
-SET64(v3, 528, a1);
-in_mm_memory_validation_parsed(RUD_AS v3 + 536u, v3 + 528u, v3 + 488u);
-SET64(v3, 448, AT64(v3, 544));
-SET64(v3, 456, AT64(v3, 552));
-SET64(v3, 464, AT64(v3, 560));
-SET64(v3, 472, AT64(v3, 568));
-SET64(v3, 480, AT64(v3, 576));
-v24 = AT8(v3, 538);
-v25 = AT8(v3, 537);
-v26 = AT8(v3, 536);
-SET64(v3, 435, AT64(v3, 480));
-SET64(v3, 427, AT64(v3, 472));
-SET64(v3, 419, AT64(v3, 464));
-SET64(v3, 411, AT64(v3, 456));
-SET64(v3, 403, AT64(v3, 448));
-SET64(v3, 390, AT64(v3, 435));
-SET64(v3, 382, AT64(v3, 427));
-SET64(v3, 374, AT64(v3, 419));
-SET64(v3, 366, AT64(v3, 411));
-SET64(v3, 358, AT64(v3, 403));
-SET64(v3, 296, AT64(v3, 390));
-SET64(v3, 288, AT64(v3, 382));
-SET64(v3, 280, AT64(v3, 374));
-SET64(v3, 272, AT64(v3, 366));
-SET64(v3, 264, AT64(v3, 358));
-if ((v12 + v19) == 0) goto L6;
-v13 = v13 + 8u;
-TEST(v5);
-SET8(v5, 2, v24);
-SET8(v5, 1, v25);
-SET8(v5, 0, v26);
-SET64(v5, 8, AT64(v3, 264));
-SET64(v5, 16, AT64(v3, 272));
-SET64(v5, 24, AT64(v3, 280));
-SET64(v5, 32, AT64(v3, 288));
-SET64(v5, 40, AT64(v3, 296));
-v5 = v5 + 48u;
-v12 = v12 + 1u;
-if (a2 != v12) goto L7;
-v10 = v10 + v12;
+SET16(v3, 490, AT16(v3, 48));
+SET64(v3, 482, AT64(v3, 40));
+v24 = v3 + 520u;
+FILL_FEW(v24, 0u, 48u);
+SET64(v3, 472, 0u);
+TEST(v7);
+v11 = AT64(v7, 0);
+SET64(v3, 504, v18);
+SET64(v3, 496, v17);
+SET32(v3, 492, v30);
+SET8(v3, 481, v28);
+SET8(v3, 480, v29);
+SET64(v3, 512, v11);
+in_mm_memory_validation_parsed(RUD_AS v24, v3 + 512u, v3 + 472u);
+v25 = AT8(v3, 522);
+v26 = AT8(v3, 521);
+v27 = AT8(v3, 520);
+COPY_FEW(v14, v23, 40u);
+COPY_FEW(v13, v14, 40u);
+COPY_FEW(v12, v13, 40u);
+COPY_FEW(v8, v12, 40u);
+if ((a1 + v10) == 0) goto L6;
+v7 = v7 + 8u;
+TEST(a2);
+SET8(a2, 0, v27);
+SET8(a2, 2, v25);
+SET8(a2, 1, v26);
+COPY_FEW(a2 + 8u, v8, 40u);
+a2 = a2 + 48u;
+a1 = a1 + 1u;
+if (v5 != a1) goto L7;
+v4 = a1 + v4;
 goto L4;
 L6:;
-TEST(v17);
-SET64(v17, 32, AT64(v3, 296));
-SET64(v17, 24, AT64(v3, 288));
-SET64(v17, 16, AT64(v3, 280));
-SET64(v17, 8, AT64(v3, 272));
-SET64(v17, 0, AT64(v3, 264));
-SET64(v3, 160, AT64(v3, 304));
-SET64(v3, 168, AT64(v3, 312));
-SET64(v3, 176, AT64(v3, 320));
-SET64(v3, 184, AT64(v3, 328));
-SET64(v3, 192, AT64(v3, 336));
-SET64(v3, 197, AT64(v3, 341));
-TEST(v15);
-SET64(v15, 0, AT64(v3, 165));
-SET64(v15, 8, AT64(v3, 173));
-SET64(v15, 16, AT64(v3, 181));
-SET64(v15, 24, AT64(v3, 189));
-SET64(v15, 32, AT64(v3, 197));
-SET64(v3, 96, v6);
-SET64(v3, 104, v11);
-SET64(v3, 112, AT64(v3, 208));
-SET64(v3, 120, AT64(v3, 216));
-SET64(v3, 128, AT64(v3, 224));
-SET64(v3, 136, AT64(v3, 232));
-SET64(v3, 144, AT64(v3, 240));
-SET64(v3, 149, AT64(v3, 245));
-a1 = (v12 ^ 0xffffffffffffffffull) + a2;
-i0 = in_std_alloc_vec_Vec_grow_by_hint_c7528f268d97bc21(RUD_AS v3 + 88u, a1);
+COPY_FEW(v22, v8, 40u);
+COPY_FEW(v3 + 157u, v3 + 292u, 45u);
+SET64(v3, 104, v6);
+SET64(v3, 96, v9);
+COPY_FEW(v20, v21, 40u);
+COPY_FEW(v3 + 112u, v3 + 202u, 45u);
+v10 = (a1 ^ 0xffffffffffffffffull) + v5;
+i0 = in_std_alloc_vec_Vec_grow_by_hint_c7528f268d97bc21(RUD_AS v3 + 88u, v10);
 RUD_AGAIN
 if (i0 == 0) goto L3;
-v13 = v13 + 8u;
-v19 = a2 - 1u;
-v5 = AT64(v3, 88);
-a2 = AT64(v3, 96);
-v6 = v5 + (a2 * 48u);
-TEST(v6);
-SET8(v6, 0, v26);
-SET8(v6, 2, v24);
-SET8(v6, 1, v25);
-TEST(v14);
-SET64(v6, 8, AT64(v14, 0));
-SET64(v6, 16, AT64(v14, 8));
-SET64(v6, 24, AT64(v14, 16));
-SET64(v6, 32, AT64(v14, 24));
-SET64(v6, 40, AT64(v14, 32));
+v7 = v7 + 8u;
+v11 = v5 - 1u;
+a2 = AT64(v3, 88);
+v4 = AT64(v3, 96);
+v5 = a2 + (v4 * 48u);
+TEST(v5);
+SET8(v5, 0, v27);
+SET8(v5, 2, v25);
+SET8(v5, 1, v26);
+COPY_FEW(v5 + 8u, v19, 40u);
+FILL_FEW(v3 + 202u, 0u, 45u);
 SET64(v3, 96, 0u);
-SET64(v3, 208, 0u);
-SET64(v3, 216, 0u);
-SET64(v3, 224, 0u);
-SET64(v3, 232, 0u);
-SET64(v3, 240, 0u);
-SET64(v3, 245, 0u);
-v11 = AT64(v3, 104);
+v6 = AT64(v3, 104);
 SET64(v3, 104, 0u);
-SET64(v3, 304, 0u);
-SET64(v3, 312, 0u);
-SET64(v3, 320, 0u);
-SET64(v3, 328, 0u);
-SET64(v3, 336, 0u);
-SET64(v3, 341, 0u);
-v10 = a2 + 1u;
-v6 = v10 == 0 ? 0ull : v11;
-a2 = a1;
-if (v12 != v19) goto L5;
+FILL_FEW(v3 + 292u, 0u, 45u);
+v4 = v4 + 1u;
+v9 = v4 == 0 ? 0ull : v6;
+v5 = v10;
+if (a1 != v11) goto L5;
 L4:;
 a1 = AT64(v3, 88);
 SET64(v3, 15, a1);
-SET64(v3, 23, v10);
-SET64(v3, 31, v11);
+SET64(v3, 23, v4);
+SET64(v3, 31, v6);
 TEST(a0);
 SET8(a0, 0, 0u);
 SET64(a0, 8, a1);
-SET64(a0, 16, v10);
-SET64(a0, 24, v11);
+SET64(a0, 16, v4);
+SET64(a0, 24, v6);
 goto L2;
 L3:;
 if (!(AT64(v3, 104) == 0)) {
@@ -16441,7 +14745,7 @@ SET8(a0, 0, 1u);
 SET64(a0, 16, 0u);
 SET64(a0, 24, 0u);
 L2:;
-RUD_G0 = v3 + 592u;
+RUD_G0 = v3 + 576u;
 return;
 }
 rud_trap();
@@ -16492,32 +14796,28 @@ if ((s64)v3 >= (s64)16u) {
 SET8(v3, 8, 0u);
 SET64(v3, 0, 0u);
 in_mm_memory_validation_id_of(RUD_AS v3, v3 + 24u);
-if (AT8(v3, 0)) {
-a2 = 0u;
-goto L2;
-}
+if (AT8(v3, 0)) goto L2;
 SET64(v3, 16, AT64(v3, 1));
 TEST(a1);
 a2 = AT64(a1, 0) - 192u;
 a1 = AT64(a1, 8) + 1u;
 L4:;
 a1 = a1 - 1u;
-if (a1 == 0) {
-a2 = 0u;
-goto L2;
-}
+if (a1 == 0) goto L2;
 a2 = a2 + 192u;
-i0 = in_core_cmp_arrays_ArrayPartialEq_eq_i8_8_31_core_cmp_numbers_U8Par(RUD_AS a2, v3 + 16u);
+i0 = in_mm_base_id_StoreIdPartialEq_eq(RUD_AS a2, v3 + 16u);
 if (i0 == 0) goto L4;
 v4 = 1u;
+goto L1;
+}
+rud_trap();
 L2:;
+a2 = 0u;
+L1:;
 TEST(a0);
 SET64(a0, 8, a2);
 SET8(a0, 0, v4);
 RUD_G0 = v3 + 32u;
-return;
-}
-rud_trap();
 }
 
 static void in_std_heap_GlobalAllocator_grow_26_mm_st15_report_entry_Row(RUD_IT u64 a0, u64 a1, u64 a2, u64 a3) {
@@ -16640,13 +14940,8 @@ SET64(a2, 32, AT64(v3, 16));
 SET64(a2, 40, AT64(v3, 24));
 SET64(a1, 8, v4 + 1u);
 TEST(a0);
-SET64(a0, 8, 0u);
-SET64(a0, 16, 0u);
-SET64(a0, 24, 0u);
-SET64(a0, 32, 0u);
-SET64(a0, 40, 0u);
-SET64(a0, 48, 0u);
 SET8(a0, 0, 0u);
+FILL_FEW(a0 + 8u, 0u, 48u);
 goto L2;
 L3:;
 TEST(a0);
@@ -16705,18 +15000,30 @@ return;
 rud_trap();
 }
 
-static u64 in_mm_store_queue_oldest_569124304bd8e99f(RUD_IT u64 a0) {
-u64 v1 = 0, v2 = 0, j0 = 0, j1 = 0;
+static u64 in_mm_store_any_AnyStorePacketStore_oldest(RUD_IT u64 a0) {
+u64 v1 = 0, v2 = 0, v3 = 0, j0 = 0, j1 = 0;
 RUD_HERE
-if ((s64)RUD_G0 < (s64)16u) goto L1;
+v2 = RUD_G0;
+if ((s64)v2 >= (s64)16u) {
 TEST(a0);
-v2 = AT64(a0, 32);
-if (v2 == 0) {
+if (AT8(a0, 0) == 0) {
+if (AT64(a0, 24) == 0) { j0 = 0u; goto L2; }
+v1 = AT64(a0, 32);
+j0 = AT64(a0, 8);
+a0 = AT64(a0, 16);
+j0 = GET64(j0 + ((v1 - (a0 > v1 ? 0ull : a0)) * 40u), 0);
+goto L2;
+}
+a0 = a0 + 8u;
+if ((s64)RUD_G0 < (s64)16u) goto L5;
+TEST(a0);
+v3 = AT64(a0, 32);
+if (v3 == 0) {
 j0 = 0u;
 } else {
 v1 = AT64(a0, 24);
 j0 = AT64(a0, 0);
-if (AT64(a0, 56) != v2) {
+if (AT64(a0, 56) != v3) {
 j1 = v1 + (AT64(a0, 48) << 2);
 } else {
 j1 = v1;
@@ -16724,112 +15031,93 @@ j1 = v1;
 TEST(j1);
 a0 = j0 + ((u64)AT32(j1, 0) * 48u);
 TEST(a0);
-if ((AT8(a0, 0) & 1u) == 0) goto L1;
+if ((AT8(a0, 0) & 1u) == 0) goto L5;
 j0 = AT64(a0, 8);
 }
-return j0;
-L1:;
+goto L4;
+L5:;
 rud_trap();
 return 0;
-}
-
-static u64 in_mm_store_any_AnyStorePacketStore_oldest(RUD_IT u64 a0) {
-u64 v1 = 0, v2 = 0, j0 = 0;
-RUD_HERE
-v1 = RUD_G0;
-if ((s64)v1 >= (s64)16u) {
-TEST(a0);
-if (AT8(a0, 0) == 0) {
-if (AT64(a0, 24) == 0) {
-RUD_G0 = v1;
-return 0u;
-}
-v2 = AT64(a0, 32);
-j0 = AT64(a0, 8);
-a0 = AT64(a0, 16);
-RUD_G0 = v1;
-return GET64(j0 + ((v2 - (a0 > v2 ? 0ull : a0)) * 40u), 0);
-}
-j0 = in_mm_store_queue_oldest_569124304bd8e99f(RUD_AS a0 + 8u);
-RUD_G0 = v1;
-return j0;
-}
-rud_trap();
-return 0;
-}
-
-static void in_circular_buffer_heap_HeapCircularBuffer_get_b37a56fa4dba497e(RUD_IT u64 a0, u64 a1, u64 a2) {
-u32 v3 = 0;
-u64 j0 = 0, j1 = 0;
-RUD_HERE
-if ((s64)RUD_G0 >= (s64)16u) {
-j0 = a0;
-TEST(a1);
-if (a2 >= AT64(a1, 16)) {
-j1 = 0u;
-goto L2;
-}
-v3 = 1u;
-a2 = AT64(a1, 24) + a2;
-j1 = AT64(a1, 0);
-a1 = AT64(a1, 8);
-j1 = j1 + ((a2 - (a1 > a2 ? 0ull : a1)) * 40u);
+L4:;
 L2:;
-TEST(j0);
-SET64(j0, 8, j1);
-TEST(a0);
-SET8(a0, 0, v3);
-return;
-}
-rud_trap();
-}
-
-static u64 in_std_alloc_vec_deque_methods_VecDequeIndexUsize_index_384c51600a7(RUD_IT u64 a0, u64 a1) {
-u64 v2 = 0, v3 = 0;
-RUD_HERE
-if ((s64)RUD_G0 >= (s64)16u) {
-TEST(a0);
-v2 = AT64(a0, 0);
-v3 = AT64(a0, 8) - AT64(a0, 32);
-if (v3 > a1) {
-return (v2 + (AT64(a0, 24) << 2)) + (a1 << 2);
-}
-return v2 + ((a1 - v3) << 2);
+RUD_G0 = v2;
+return j0;
 }
 rud_trap();
 return 0;
 }
 
 static u64 in_mm_store_any_AnyStorePacketStore_newest(RUD_IT u64 a0) {
-u64 v1 = 0, v2 = 0, j0 = 0;
+u32 v5 = 0;
+u64 v1 = 0, v2 = 0, v3 = 0, v4 = 0, j0 = 0, j1 = 0;
 RUD_HERE
-v1 = RUD_G0 - 16u;
-RUD_G0 = v1;
-if ((s64)v1 < (s64)16u) goto L1;
+v2 = RUD_G0 - 16u;
+RUD_G0 = v2;
+if ((s64)v2 < (s64)16u) goto L3;
 TEST(a0);
 if (AT8(a0, 0) == 0) {
-v2 = AT64(a0, 24);
-if (v2 == 0) { j0 = 0u; goto L2; }
-in_circular_buffer_heap_HeapCircularBuffer_get_b37a56fa4dba497e(RUD_AS v1, a0 + 8u, v2 - 1u);
-TEST(v1);
-if ((AT8(v1, 0) & 1u) == 0) goto L1;
-j0 = GET64(AT64(v1, 8), 0);
-goto L2;
-}
-v2 = AT64(a0, 40);
-if (v2 == 0) { j0 = 0u; goto L2; }
-v2 = in_std_alloc_vec_deque_methods_VecDequeIndexUsize_index_384c51600a7(RUD_AS a0 + 32u, v2 - 1u);
-TEST(v2);
-a0 = AT64(a0, 8) + ((u64)AT32(v2, 0) * 48u);
+v1 = AT64(a0, 24);
+if (v1 == 0) goto L2;
+a0 = a0 + 8u;
+v1 = v1 - 1u;
+if ((s64)RUD_G0 >= (s64)16u) {
 TEST(a0);
-if ((AT8(a0, 0) & 1u) == 0) goto L1;
-j0 = AT64(a0, 8);
-L2:;
-RUD_G0 = v1 + 16u;
-return j0;
-L1:;
+j0 = v2;
+if (v1 >= AT64(a0, 16)) {
+j1 = 0u;
+} else {
+v5 = 1u;
+v1 = AT64(a0, 24) + v1;
+j1 = AT64(a0, 0);
+a0 = AT64(a0, 8);
+j1 = j1 + ((v1 - (a0 > v1 ? 0ull : a0)) * 40u);
+}
+TEST(j0);
+SET64(j0, 8, j1);
+TEST(v2);
+SET8(v2, 0, v5);
+goto L5;
+}
 rud_trap();
 return 0;
+L5:;
+if ((AT8(v2, 0) & 1u) == 0) goto L3;
+j0 = GET64(AT64(v2, 8), 0);
+goto L1;
+}
+v1 = AT64(a0, 40);
+if (v1 == 0) goto L2;
+j0 = AT64(a0, 8);
+a0 = a0 + 32u;
+v1 = v1 - 1u;
+if ((s64)RUD_G0 >= (s64)16u) {
+TEST(a0);
+v3 = AT64(a0, 0);
+v4 = AT64(a0, 8) - AT64(a0, 32);
+if (v4 > v1) {
+j1 = (v3 + (AT64(a0, 24) << 2)) + (v1 << 2);
+goto L8;
+}
+j1 = v3 + ((v1 - v4) << 2);
+goto L8;
+}
+rud_trap();
+return 0;
+L8:;
+TEST(j1);
+a0 = j0 + ((u64)AT32(j1, 0) * 48u);
+TEST(a0);
+if ((AT8(a0, 0) & 1u) == 0) goto L3;
+j0 = AT64(a0, 8);
+goto L1;
+L3:;
+rud_trap();
+return 0;
+L2:;
+j0 = 0u;
+L1:;
+RUD_G0 = v2 + 16u;
+return j0;
 }
 
 static void in_std_heap_GlobalAllocator_grow_30_mm_st15_report_entry_Summary(RUD_IT u64 a0, u64 a1, u64 a2, u64 a3) {
@@ -16975,31 +15263,28 @@ return 0;
 }
 
 static void in_mm_memory_reports_one(RUD_IT u64 a0, u64 a1) {
-u32 v4 = 0;
-u64 v2 = 0, v3 = 0;
+u32 v6 = 0;
+u64 v2 = 0, v3 = 0, v4 = 0, v5 = 0;
 RUD_HERE
 v2 = RUD_G0 - 192u;
 RUD_G0 = v2;
 if ((s64)v2 >= (s64)16u) {
+TEST(a1);
+v4 = AT64(a1, 8);
+v3 = (u64)AT8(a1, 0);
+v5 = v2 + 56u;
+FILL_FEW(v5, 0u, 56u);
 TEST(v2);
-SET64(v2, 56, 0u);
-SET64(v2, 64, 0u);
-SET64(v2, 72, 0u);
-SET64(v2, 80, 0u);
-SET64(v2, 88, 0u);
-SET64(v2, 96, 0u);
-SET64(v2, 104, 0u);
 SET64(v2, 120, 0u);
 SET64(v2, 128, 0u);
-TEST(a1);
-SET64(v2, 8, (u64)AT8(a1, 0));
-SET64(v2, 16, AT64(a1, 8));
+SET64(v2, 16, v4);
+SET64(v2, 8, v3);
 SET64(v2, 24, AT64(a1, 16));
 SET64(v2, 32, AT64(a1, 24));
 SET64(v2, 40, AT64(a1, 32));
 SET64(v2, 48, AT64(a1, 40));
 SET64(v2, 112, v2 + 184u);
-in_std_alloc_vec_Vec_push_e8aabc6c4a0bee9e(RUD_AS v2 + 56u, v2 + 112u, v2 + 8u);
+in_std_alloc_vec_Vec_push_e8aabc6c4a0bee9e(RUD_AS v5, v2 + 112u, v2 + 8u);
 RUD_AGAIN
 if (AT8(v2, 56) == 0) {
 TEST(a0);
@@ -17024,12 +15309,12 @@ TEST(a0);
 SET64(a0, 24, 0u);
 SET64(a0, 16, 0u);
 SET64(a0, 8, 0u);
-v4 = 1u;
+v6 = 1u;
 goto L1;
 }
 rud_trap();
 L1:;
-SET8(a0, 0, v4);
+SET8(a0, 0, v6);
 RUD_G0 = v2 + 192u;
 }
 
@@ -17044,7 +15329,7 @@ v5 = a1 - 192u;
 a1 = 0u;
 L4:;
 v5 = v5 + 192u;
-i0 = in_core_cmp_arrays_ArrayPartialEq_eq_i8_8_31_core_cmp_numbers_U8Par(RUD_AS v5, a3);
+i0 = in_mm_base_id_StoreIdPartialEq_eq(RUD_AS v5, a3);
 if (i0) {
 v4 = 1u;
 goto L2;
@@ -17064,42 +15349,29 @@ rud_trap();
 }
 
 static void in_circular_buffer_heap_HeapCircularBuffer_pop_front_b37a56fa4dba49(RUD_IT u64 a0, u64 a1) {
-u64 v2 = 0, v3 = 0, v4 = 0, v5 = 0, j0 = 0;
+u64 v2 = 0, v3 = 0, v4 = 0, j0 = 0, j1 = 0;
 RUD_HERE
-(void)j0;
 if ((s64)RUD_G0 >= (s64)16u) {
+j0 = a0;
 TEST(a1);
 v2 = AT64(a1, 16);
 if (v2 == 0) {
-TEST(a0);
-SET64(a0, 40, 0u);
-SET64(a0, 32, 0u);
-SET64(a0, 24, 0u);
-SET64(a0, 16, 0u);
-SET64(a0, 8, 0u);
-SET64(a0, 0, 0u);
-return;
+FILL_FEW(a0 + 8u, 0u, 40u);
+j1 = 0u;
+goto L2;
 }
 SET64(a1, 16, v2 - 1u);
 v2 = a1 + 24u;
-j0 = v2;
+j1 = v2;
 v2 = AT64(a1, 24);
 v3 = v2 + 1u;
 v4 = AT64(a1, 8);
 SET64(a1, 24, v3 - (v3 < v4 ? 0ull : v4));
-a1 = AT64(a1, 0) + (v2 * 40u);
-TEST(a1);
-v2 = AT64(a1, 0);
-v3 = AT64(a1, 8);
-v4 = AT64(a1, 16);
-v5 = AT64(a1, 24);
-TEST(a0);
-SET64(a0, 40, AT64(a1, 32));
-SET64(a0, 32, v5);
-SET64(a0, 24, v4);
-SET64(a0, 16, v3);
-SET64(a0, 8, v2);
-SET64(a0, 0, 1u);
+COPY_FEW(a0 + 8u, AT64(a1, 0) + (v2 * 40u), 40u);
+j1 = 1u;
+L2:;
+TEST(j0);
+SET64(j0, 0, j1);
 return;
 }
 rud_trap();
@@ -17141,587 +15413,105 @@ rud_trap();
 }
 
 static void in_core_slots_Slots_move_over_28_mm_service_waiting_Waiting(RUD_IT u64 a0, u64 a1, u64 a2, u64 a3) {
-u64 v4 = 0, v5 = 0, v6 = 0, v7 = 0, v8 = 0, v9 = 0, v10 = 0, v11 = 0, v12 = 0, v13 = 0, v14 = 0, v15 = 0;
-u64 v16 = 0, v17 = 0, v18 = 0, v19 = 0, j0 = 0, j1 = 0, j2 = 0;
+u64 v4 = 0, v5 = 0, v6 = 0, v7 = 0, v8 = 0;
 RUD_HERE
 if ((s64)RUD_G0 >= (s64)16u) {
 if (((a1 > a2 ? a2 : a1) + a3) <= (a1 < a2 ? a2 : a1)) {
 TEST(a0);
-a0 = AT64(a0, 0);
-v6 = a3 * 56u;
-v4 = a2 * 56u;
-v15 = a1 * 56u;
-if (v6 > (v4 - v15)) {
+v4 = AT64(a0, 0);
+v5 = a2 * 56u;
+a0 = v4 + v5;
+v6 = a1 * 56u;
+a1 = v4 + v6;
+a2 = a3 * 56u;
+if (a2 > (v5 - v6)) {
 if (a3 == 0) goto L2;
-v11 = a3 & 3u;
-if (a3 >= 4u) {
-a3 = a3 & 0xfffffffffffffffcull;
-v6 = a0;
-L6:;
-a1 = v6 + v15;
-TEST(a1);
-v5 = AT64(a1, 0);
-v8 = AT64(a1, 8);
-v16 = AT64(a1, 16);
-v18 = AT64(a1, 24);
-v10 = AT64(a1, 32);
-v9 = AT64(a1, 40);
-a2 = v4 + v6;
-TEST(a2);
-SET64(a2, 48, AT64(a1, 48));
-SET64(a2, 40, v9);
-SET64(a2, 32, v10);
-SET64(a2, 24, v18);
-SET64(a2, 16, v16);
-SET64(a2, 8, v8);
-SET64(a2, 0, v5);
-v5 = AT64(a1, 56);
-v8 = AT64(a1, 64);
-v16 = AT64(a1, 72);
-v18 = AT64(a1, 80);
-v10 = AT64(a1, 88);
-v9 = AT64(a1, 96);
-SET64(a2, 104, AT64(a1, 104));
-SET64(a2, 96, v9);
-SET64(a2, 88, v10);
-SET64(a2, 80, v18);
-SET64(a2, 72, v16);
-SET64(a2, 64, v8);
-SET64(a2, 56, v5);
-v5 = AT64(a1, 112);
-v8 = AT64(a1, 120);
-v16 = AT64(a1, 128);
-v18 = AT64(a1, 136);
-v10 = AT64(a1, 144);
-v9 = AT64(a1, 152);
-SET64(a2, 160, AT64(a1, 160));
-SET64(a2, 152, v9);
-SET64(a2, 144, v10);
-SET64(a2, 136, v18);
-SET64(a2, 128, v16);
-SET64(a2, 120, v8);
-SET64(a2, 112, v5);
-v5 = AT64(a1, 168);
-v8 = AT64(a1, 176);
-v16 = AT64(a1, 184);
-v18 = AT64(a1, 192);
-v10 = AT64(a1, 200);
-v9 = AT64(a1, 208);
-SET64(a2, 216, AT64(a1, 216));
-SET64(a2, 208, v9);
-SET64(a2, 200, v10);
-SET64(a2, 192, v18);
-SET64(a2, 184, v16);
-SET64(a2, 176, v8);
-SET64(a2, 168, v5);
-v6 = v6 + 224u;
-v7 = v7 + 4u;
-if (a3 != v7) goto L6;
-if (v11 == 0) goto L2;
-}
-a1 = v7 * 56u;
-v4 = a0 + (a1 + v4);
-a3 = a0 + (a1 + v15);
-L7:;
-TEST(a3);
-a0 = AT64(a3, 0);
-a1 = AT64(a3, 8);
-a2 = AT64(a3, 16);
-v6 = AT64(a3, 24);
-v7 = AT64(a3, 32);
-v15 = AT64(a3, 40);
-TEST(v4);
-SET64(v4, 48, AT64(a3, 48));
-SET64(v4, 40, v15);
-SET64(v4, 32, v7);
-SET64(v4, 24, v6);
-SET64(v4, 16, a2);
-SET64(v4, 8, a1);
-SET64(v4, 0, a0);
-v4 = v4 + 56u;
-a3 = a3 + 56u;
-v11 = v11 - 1u;
-if (v11 != 0u) goto L7;
+L5:;
+COPY_FEW(a0, a1, 56u);
+a0 = a0 + 56u;
+a1 = a1 + 56u;
+a3 = a3 - 1u;
+if (!(a3 == 0)) goto L5;
 goto L2;
 }
-if (v6 == 0) goto L2;
-COPY(a0 + v4, a0 + v15, v6);
+if (a2 == 0) goto L2;
+COPY(a0, a1, a2);
 return;
 }
 if (a1 > a2) {
-v16 = a2 + a3;
-v8 = a1 - a2;
-v7 = a2;
+v5 = a2 + a3;
+v6 = a1 - a2;
 if (a3 >= 37u) {
-v11 = a2 * 56u;
-v15 = a1 * 56u;
-L10:;
+v4 = a2 * 56u;
+a1 = a1 * 56u;
+L8:;
 TEST(a0);
 a3 = AT64(a0, 0);
-if ((v7 + v8) <= v7) {
-v5 = a3 + v11;
-v18 = a3 + v15;
-v6 = 1792u;
-L13:;
-a3 = v6 + v18;
-TEST(a3);
-v10 = AT64(a3, 168);
-v9 = AT64(a3, 176);
-v12 = AT64(a3, 184);
-v13 = AT64(a3, 192);
-v14 = AT64(a3, 200);
-v17 = AT64(a3, 208);
-v4 = v5 + v6;
-TEST(v4);
-SET64(v4, 216, AT64(a3, 216));
-SET64(v4, 208, v17);
-SET64(v4, 200, v14);
-SET64(v4, 192, v13);
-SET64(v4, 184, v12);
-SET64(v4, 176, v9);
-SET64(v4, 168, v10);
-v10 = AT64(a3, 112);
-v9 = AT64(a3, 120);
-v12 = AT64(a3, 128);
-v13 = AT64(a3, 136);
-v14 = AT64(a3, 144);
-v17 = AT64(a3, 152);
-SET64(v4, 160, AT64(a3, 160));
-SET64(v4, 152, v17);
-SET64(v4, 144, v14);
-SET64(v4, 136, v13);
-SET64(v4, 128, v12);
-SET64(v4, 120, v9);
-SET64(v4, 112, v10);
-v10 = AT64(a3, 56);
-v9 = AT64(a3, 64);
-v12 = AT64(a3, 72);
-v13 = AT64(a3, 80);
-v14 = AT64(a3, 88);
-v17 = AT64(a3, 96);
-SET64(v4, 104, AT64(a3, 104));
-SET64(v4, 96, v17);
-SET64(v4, 88, v14);
-SET64(v4, 80, v13);
-SET64(v4, 72, v12);
-SET64(v4, 64, v9);
-SET64(v4, 56, v10);
-v10 = AT64(a3, 0);
-v9 = AT64(a3, 8);
-v12 = AT64(a3, 16);
-v13 = AT64(a3, 24);
-v14 = AT64(a3, 32);
-v17 = AT64(a3, 40);
-SET64(v4, 48, AT64(a3, 48));
-SET64(v4, 40, v17);
-SET64(v4, 32, v14);
-SET64(v4, 24, v13);
-SET64(v4, 16, v12);
-SET64(v4, 8, v9);
-SET64(v4, 0, v10);
-v6 = v6 - 224u;
-if (v6 != 0xffffffffffffff20ull) goto L13;
-goto L11;
-}
-v5 = a3 + v15;
-v18 = a3 + v11;
-v6 = 0u;
-L14:;
-a3 = v5 + v6;
-TEST(a3);
-v10 = AT64(a3, 0);
-v9 = AT64(a3, 8);
-v12 = AT64(a3, 16);
-v13 = AT64(a3, 24);
-v14 = AT64(a3, 32);
-v17 = AT64(a3, 40);
-v4 = v6 + v18;
-TEST(v4);
-SET64(v4, 48, AT64(a3, 48));
-SET64(v4, 40, v17);
-SET64(v4, 32, v14);
-SET64(v4, 24, v13);
-SET64(v4, 16, v12);
-SET64(v4, 8, v9);
-SET64(v4, 0, v10);
-v10 = AT64(a3, 56);
-v9 = AT64(a3, 64);
-v12 = AT64(a3, 72);
-v13 = AT64(a3, 80);
-v14 = AT64(a3, 88);
-v17 = AT64(a3, 96);
-SET64(v4, 104, AT64(a3, 104));
-SET64(v4, 96, v17);
-SET64(v4, 88, v14);
-SET64(v4, 80, v13);
-SET64(v4, 72, v12);
-SET64(v4, 64, v9);
-SET64(v4, 56, v10);
-v10 = AT64(a3, 112);
-v9 = AT64(a3, 120);
-v12 = AT64(a3, 128);
-v13 = AT64(a3, 136);
-v14 = AT64(a3, 144);
-v17 = AT64(a3, 152);
-SET64(v4, 160, AT64(a3, 160));
-SET64(v4, 152, v17);
-SET64(v4, 144, v14);
-SET64(v4, 136, v13);
-SET64(v4, 128, v12);
-SET64(v4, 120, v9);
-SET64(v4, 112, v10);
-v10 = AT64(a3, 168);
-v9 = AT64(a3, 176);
-v12 = AT64(a3, 184);
-v13 = AT64(a3, 192);
-v14 = AT64(a3, 200);
-v17 = AT64(a3, 208);
-SET64(v4, 216, AT64(a3, 216));
-SET64(v4, 208, v17);
-SET64(v4, 200, v14);
-SET64(v4, 192, v13);
-SET64(v4, 184, v12);
-SET64(v4, 176, v9);
-SET64(v4, 168, v10);
-v6 = v6 + 224u;
-if (v6 != 2016u) goto L14;
+if ((a2 + v6) <= a2) {
+v7 = a3 + v4;
+v8 = a1 + a3;
+a3 = 1960u;
 L11:;
-v11 = v11 + 2016u;
-v15 = v15 + 2016u;
-v7 = v7 + 36u;
-a3 = v16 - v7;
-if (a3 > 36u) goto L10;
+COPY_FEW(a3 + v7, a3 + v8, 56u);
+a3 = a3 - 56u;
+if (a3 != 0xffffffffffffffc8ull) goto L11;
+goto L9;
 }
-v5 = v7 * 56u;
-TEST(a0);
-a0 = AT64(a0, 0);
-v6 = v7 + v8;
-v8 = v6 * 56u;
-if (v6 > v7) {
-if (v7 == v16) goto L2;
-v11 = a3 & 3u;
-v4 = 0u;
-j0 = a0;
-j1 = v5;
-if ((a3 - 1u) >= 3u) {
-v7 = 0u;
-a3 = 0ull - (a3 & 60u);
-v6 = a0;
-L17:;
-a1 = v6 + v8;
-TEST(a1);
-v4 = AT64(a1, 0);
-v15 = AT64(a1, 8);
-v16 = AT64(a1, 16);
-v18 = AT64(a1, 24);
-v10 = AT64(a1, 32);
-v9 = AT64(a1, 40);
-a2 = v5 + v6;
-TEST(a2);
-SET64(a2, 48, AT64(a1, 48));
-SET64(a2, 40, v9);
-SET64(a2, 32, v10);
-SET64(a2, 24, v18);
-SET64(a2, 16, v16);
-SET64(a2, 8, v15);
-SET64(a2, 0, v4);
-v4 = AT64(a1, 56);
-v15 = AT64(a1, 64);
-v16 = AT64(a1, 72);
-v18 = AT64(a1, 80);
-v10 = AT64(a1, 88);
-v9 = AT64(a1, 96);
-SET64(a2, 104, AT64(a1, 104));
-SET64(a2, 96, v9);
-SET64(a2, 88, v10);
-SET64(a2, 80, v18);
-SET64(a2, 72, v16);
-SET64(a2, 64, v15);
-SET64(a2, 56, v4);
-v4 = AT64(a1, 112);
-v15 = AT64(a1, 120);
-v16 = AT64(a1, 128);
-v18 = AT64(a1, 136);
-v10 = AT64(a1, 144);
-v9 = AT64(a1, 152);
-SET64(a2, 160, AT64(a1, 160));
-SET64(a2, 152, v9);
-SET64(a2, 144, v10);
-SET64(a2, 136, v18);
-SET64(a2, 128, v16);
-SET64(a2, 120, v15);
-SET64(a2, 112, v4);
-v4 = AT64(a1, 168);
-v15 = AT64(a1, 176);
-v16 = AT64(a1, 184);
-v18 = AT64(a1, 192);
-v10 = AT64(a1, 200);
-v9 = AT64(a1, 208);
-SET64(a2, 216, AT64(a1, 216));
-SET64(a2, 208, v9);
-SET64(a2, 200, v10);
-SET64(a2, 192, v18);
-SET64(a2, 184, v16);
-SET64(a2, 176, v15);
-SET64(a2, 168, v4);
-v6 = v6 + 224u;
-v7 = v7 - 4u;
-if (a3 != v7) goto L17;
-if (v11 == 0) goto L2;
-j2 = 0ull - v7;
-} else {
-j2 = 0u;
-}
-a1 = j2 * 56u;
-v4 = j0 + (j1 + a1);
-a3 = a0 + (a1 + v8);
-L18:;
-TEST(a3);
-a0 = AT64(a3, 0);
-a1 = AT64(a3, 8);
-a2 = AT64(a3, 16);
-v6 = AT64(a3, 24);
-v7 = AT64(a3, 32);
-v15 = AT64(a3, 40);
-TEST(v4);
-SET64(v4, 48, AT64(a3, 48));
-SET64(v4, 40, v15);
-SET64(v4, 32, v7);
-SET64(v4, 24, v6);
-SET64(v4, 16, a2);
-SET64(v4, 8, a1);
-SET64(v4, 0, a0);
-v4 = v4 + 56u;
+v7 = a3 + v4;
+v8 = a1 + a3;
+a3 = 0u;
+L12:;
+COPY_FEW(a3 + v7, a3 + v8, 56u);
 a3 = a3 + 56u;
-v11 = v11 - 1u;
-if (!(v11 == 0)) goto L18;
+if (a3 != 2016u) goto L12;
+L9:;
+v4 = v4 + 2016u;
+a1 = a1 + 2016u;
+a2 = a2 + 36u;
+a3 = v5 - a2;
+if (a3 > 36u) goto L8;
+}
+v4 = a2 * 56u;
+TEST(a0);
+a1 = AT64(a0, 0);
+a0 = a2 + v6;
+v6 = a0 * 56u;
+if (a0 > a2) {
+if (a2 == v5) goto L2;
+a0 = a1 + v4;
+a1 = a1 + v6;
+L14:;
+COPY_FEW(a0, a1, 56u);
+a0 = a0 + 56u;
+a1 = a1 + 56u;
+a3 = a3 - 1u;
+if (!(a3 == 0)) goto L14;
 goto L2;
 }
-if (v7 == v16) goto L2;
-v15 = a3 & 3u;
-v11 = 0u;
-if ((a3 - 1u) >= 3u) {
-v16 = a0 + v5;
-v18 = a0 + v8;
-v10 = a3 & 60u;
-v6 = a3 * 56u;
-v4 = ((v5 + v6) + a0) - 56u;
-v6 = ((v6 + v8) + a0) - 56u;
-L20:;
-TEST(v6);
-v5 = AT64(v6, 0);
-v8 = AT64(v6, 8);
-v9 = AT64(v6, 16);
-v12 = AT64(v6, 24);
-v13 = AT64(v6, 32);
-v14 = AT64(v6, 40);
-TEST(v4);
-SET64(v4, 48, AT64(v6, 48));
-SET64(v4, 40, v14);
-SET64(v4, 32, v13);
-SET64(v4, 24, v12);
-SET64(v4, 16, v9);
-SET64(v4, 8, v8);
-SET64(v4, 0, v5);
-v8 = (a3 + (v11 ^ 2305843009213693950ull)) * 56u;
-v5 = v18 + v8;
-TEST(v5);
-v9 = AT64(v5, 0);
-v12 = AT64(v5, 8);
-v13 = AT64(v5, 16);
-v14 = AT64(v5, 24);
-v17 = AT64(v5, 32);
-v19 = AT64(v5, 40);
-v8 = v8 + v16;
-TEST(v8);
-SET64(v8, 48, AT64(v5, 48));
-SET64(v8, 40, v19);
-SET64(v8, 32, v17);
-SET64(v8, 24, v14);
-SET64(v8, 16, v13);
-SET64(v8, 8, v12);
-SET64(v8, 0, v9);
-v8 = (a3 + (v11 ^ 2305843009213693949ull)) * 56u;
-v5 = v18 + v8;
-TEST(v5);
-v9 = AT64(v5, 0);
-v12 = AT64(v5, 8);
-v13 = AT64(v5, 16);
-v14 = AT64(v5, 24);
-v17 = AT64(v5, 32);
-v19 = AT64(v5, 40);
-v8 = v8 + v16;
-TEST(v8);
-SET64(v8, 48, AT64(v5, 48));
-SET64(v8, 40, v19);
-SET64(v8, 32, v17);
-SET64(v8, 24, v14);
-SET64(v8, 16, v13);
-SET64(v8, 8, v12);
-SET64(v8, 0, v9);
-v8 = (a3 + (v11 ^ 2305843009213693948ull)) * 56u;
-v5 = v18 + v8;
-TEST(v5);
-v9 = AT64(v5, 0);
-v12 = AT64(v5, 8);
-v13 = AT64(v5, 16);
-v14 = AT64(v5, 24);
-v17 = AT64(v5, 32);
-v19 = AT64(v5, 40);
-v8 = v8 + v16;
-TEST(v8);
-SET64(v8, 48, AT64(v5, 48));
-SET64(v8, 40, v19);
-SET64(v8, 32, v17);
-SET64(v8, 24, v14);
-SET64(v8, 16, v13);
-SET64(v8, 8, v12);
-SET64(v8, 0, v9);
-v4 = v4 - 224u;
-v6 = v6 - 224u;
-v11 = v11 + 4u;
-if (v10 != v11) goto L20;
-if (v15 == 0) goto L2;
-}
-a3 = a3 + v7;
-v4 = (((a3 * 56u) - (v11 * 56u)) + a0) - 56u;
-a3 = ((((a1 + a3) * 56u) - ((a2 + v11) * 56u)) + a0) - 56u;
-L21:;
-TEST(a3);
-a0 = AT64(a3, 0);
-a1 = AT64(a3, 8);
-a2 = AT64(a3, 16);
-v6 = AT64(a3, 24);
-v7 = AT64(a3, 32);
-v11 = AT64(a3, 40);
-TEST(v4);
-SET64(v4, 48, AT64(a3, 48));
-SET64(v4, 40, v11);
-SET64(v4, 32, v7);
-SET64(v4, 24, v6);
-SET64(v4, 16, a2);
-SET64(v4, 8, a1);
-SET64(v4, 0, a0);
-v4 = v4 - 56u;
-a3 = a3 - 56u;
-v15 = v15 - 1u;
-if (!(v15 == 0)) goto L21;
+if (a2 == v5) goto L2;
+a2 = a3 * 56u;
+a0 = ((v4 + a2) + a1) - 56u;
+a1 = ((a2 + v6) + a1) - 56u;
+L15:;
+COPY_FEW(a0, a1, 56u);
+a0 = a0 - 56u;
+a1 = a1 - 56u;
+a3 = a3 - 1u;
+if (!(a3 == 0)) goto L15;
 goto L2;
 }
 if ((u32)(a3 == 0) | (u32)(a1 >= a2)) goto L2;
 TEST(a0);
-a0 = AT64(a0, 0);
-v15 = a3 & 3u;
-if (a3 >= 4u) {
-v6 = a2 * 56u;
-v8 = a0 + v6;
-v7 = a1 * 56u;
-v16 = a0 + v7;
-v18 = a3 & 0xfffffffffffffffcull;
-j0 = v6;
-v6 = a3 * 56u;
-v4 = ((j0 + v6) + a0) - 56u;
-v6 = ((v6 + v7) + a0) - 56u;
-L23:;
-TEST(v6);
-v7 = AT64(v6, 0);
-v5 = AT64(v6, 8);
-v10 = AT64(v6, 16);
-v9 = AT64(v6, 24);
-v12 = AT64(v6, 32);
-v13 = AT64(v6, 40);
-TEST(v4);
-SET64(v4, 48, AT64(v6, 48));
-SET64(v4, 40, v13);
-SET64(v4, 32, v12);
-SET64(v4, 24, v9);
-SET64(v4, 16, v10);
-SET64(v4, 8, v5);
-SET64(v4, 0, v7);
-v5 = (a3 + (v11 ^ 2305843009213693950ull)) * 56u;
-v7 = v16 + v5;
-TEST(v7);
-v10 = AT64(v7, 0);
-v9 = AT64(v7, 8);
-v12 = AT64(v7, 16);
-v13 = AT64(v7, 24);
-v14 = AT64(v7, 32);
-v17 = AT64(v7, 40);
-v5 = v5 + v8;
-TEST(v5);
-SET64(v5, 48, AT64(v7, 48));
-SET64(v5, 40, v17);
-SET64(v5, 32, v14);
-SET64(v5, 24, v13);
-SET64(v5, 16, v12);
-SET64(v5, 8, v9);
-SET64(v5, 0, v10);
-v5 = (a3 + (v11 ^ 2305843009213693949ull)) * 56u;
-v7 = v16 + v5;
-TEST(v7);
-v10 = AT64(v7, 0);
-v9 = AT64(v7, 8);
-v12 = AT64(v7, 16);
-v13 = AT64(v7, 24);
-v14 = AT64(v7, 32);
-v17 = AT64(v7, 40);
-v5 = v5 + v8;
-TEST(v5);
-SET64(v5, 48, AT64(v7, 48));
-SET64(v5, 40, v17);
-SET64(v5, 32, v14);
-SET64(v5, 24, v13);
-SET64(v5, 16, v12);
-SET64(v5, 8, v9);
-SET64(v5, 0, v10);
-v5 = (a3 + (v11 ^ 2305843009213693948ull)) * 56u;
-v7 = v16 + v5;
-TEST(v7);
-v10 = AT64(v7, 0);
-v9 = AT64(v7, 8);
-v12 = AT64(v7, 16);
-v13 = AT64(v7, 24);
-v14 = AT64(v7, 32);
-v17 = AT64(v7, 40);
-v5 = v5 + v8;
-TEST(v5);
-SET64(v5, 48, AT64(v7, 48));
-SET64(v5, 40, v17);
-SET64(v5, 32, v14);
-SET64(v5, 24, v13);
-SET64(v5, 16, v12);
-SET64(v5, 8, v9);
-SET64(v5, 0, v10);
-v4 = v4 - 224u;
-v6 = v6 - 224u;
-v11 = v11 + 4u;
-if (v18 != v11) goto L23;
-if (v15 == 0) goto L2;
-}
-j0 = (a2 + a3) * 56u;
-a2 = v11 * 56u;
-v4 = ((j0 - a2) + a0) - 56u;
-a3 = ((((a1 + a3) * 56u) - a2) + a0) - 56u;
-L24:;
-TEST(a3);
-a0 = AT64(a3, 0);
-a1 = AT64(a3, 8);
-a2 = AT64(a3, 16);
-v6 = AT64(a3, 24);
-v7 = AT64(a3, 32);
-v11 = AT64(a3, 40);
-TEST(v4);
-SET64(v4, 48, AT64(a3, 48));
-SET64(v4, 40, v11);
-SET64(v4, 32, v7);
-SET64(v4, 24, v6);
-SET64(v4, 16, a2);
-SET64(v4, 8, a1);
-SET64(v4, 0, a0);
-v4 = v4 - 56u;
-a3 = a3 - 56u;
-v15 = v15 - 1u;
-if (!(v15 == 0)) goto L24;
+v4 = AT64(a0, 0);
+v5 = a3 * 56u;
+a0 = (v4 + (v5 + (a2 * 56u))) - 56u;
+a1 = ((v5 + (a1 * 56u)) + v4) - 56u;
+L16:;
+COPY_FEW(a0, a1, 56u);
+a0 = a0 - 56u;
+a1 = a1 - 56u;
+a3 = a3 - 1u;
+if (a3 != 0u) goto L16;
 L2:;
 return;
 }
@@ -17729,621 +15519,149 @@ rud_trap();
 }
 
 static void in_std_alloc_vec_deque_VecDeque_close_gap_3582c41668958e92(RUD_IT u64 a0) {
-u64 v1 = 0, v2 = 0, v3 = 0, v4 = 0, v5 = 0, v6 = 0, v7 = 0, v8 = 0, v9 = 0, v10 = 0, v11 = 0, v12 = 0;
-u64 v13 = 0, v14 = 0, v15 = 0, v16 = 0, v17 = 0, v18 = 0, v19 = 0, v20 = 0, v21 = 0, v22 = 0, v23 = 0, j0 = 0;
-u64 j1 = 0, j2 = 0;
+u64 v1 = 0, v2 = 0, v3 = 0, v4 = 0, v5 = 0, v6 = 0, v7 = 0, v8 = 0, v9 = 0;
 RUD_HERE
-(void)v22;
+(void)v8;
 if ((s64)RUD_G0 >= (s64)16u) {
-v7 = a0 + 8u;
-TEST(v7);
-v19 = AT64(v7, 0);
-SET64(v7, 0, 0u);
-v7 = a0 + 16u;
-TEST(v7);
-v23 = AT64(v7, 0);
-SET64(v7, 0, 0u);
-v22 = a0 + 24u;
-v20 = AT64(v7, 8);
-SET64(v7, 8, 0u);
-v7 = a0 + 32u;
-TEST(v7);
-v14 = AT64(v7, 0);
-SET64(v7, 0, 0u);
-v6 = v19 - v14;
+v1 = a0 + 8u;
+TEST(v1);
+v6 = AT64(v1, 0);
+SET64(v1, 0, 0u);
+v1 = a0 + 16u;
+TEST(v1);
+v9 = AT64(v1, 0);
+SET64(v1, 0, 0u);
+v8 = a0 + 24u;
+v2 = AT64(v1, 8);
+SET64(v1, 8, 0u);
+v1 = a0 + 32u;
+TEST(v1);
+v4 = AT64(v1, 0);
+SET64(v1, 0, 0u);
+v1 = v6 - v4;
 TEST(a0);
-v15 = AT64(a0, 0);
-if (v14 < v20) {
-v3 = v20 - v14;
-v7 = v14;
-if (v6 >= 37u) {
-v17 = v15 + (v14 * 56u);
-v18 = v15 + (v20 * 56u);
+v5 = AT64(a0, 0);
+if (v2 > v4) {
+v7 = v2 - v4;
+if (v1 >= 37u) {
+v3 = v5 + (v4 * 56u);
+v2 = v5 + (v2 * 56u);
 L5:;
-if ((v3 + v7) <= v7) {
-v11 = 0u;
+if ((v4 + v7) <= v4) {
+v1 = 1960u;
 L8:;
-v2 = v11 + v18;
-v4 = GET64(v2 + 1960u, 0);
-v13 = GET64(v2 + 1968u, 0);
-v12 = GET64(v2 + 1976u, 0);
-v8 = GET64(v2 + 1984u, 0);
-v9 = GET64(v2 + 1992u, 0);
-v10 = GET64(v2 + 2000u, 0);
-v1 = v11 + v17;
-PUT64(v1 + 2008u, 0, GET64(v2 + 2008u, 0));
-PUT64(v1 + 2000u, 0, v10);
-PUT64(v1 + 1992u, 0, v9);
-PUT64(v1 + 1984u, 0, v8);
-PUT64(v1 + 1976u, 0, v12);
-PUT64(v1 + 1968u, 0, v13);
-PUT64(v1 + 1960u, 0, v4);
-v4 = GET64(v2 + 1904u, 0);
-v13 = GET64(v2 + 1912u, 0);
-v12 = GET64(v2 + 1920u, 0);
-v8 = GET64(v2 + 1928u, 0);
-v9 = GET64(v2 + 1936u, 0);
-v10 = GET64(v2 + 1944u, 0);
-PUT64(v1 + 1952u, 0, GET64(v2 + 1952u, 0));
-PUT64(v1 + 1944u, 0, v10);
-PUT64(v1 + 1936u, 0, v9);
-PUT64(v1 + 1928u, 0, v8);
-PUT64(v1 + 1920u, 0, v12);
-PUT64(v1 + 1912u, 0, v13);
-PUT64(v1 + 1904u, 0, v4);
-v4 = GET64(v2 + 1848u, 0);
-v13 = GET64(v2 + 1856u, 0);
-v12 = GET64(v2 + 1864u, 0);
-v8 = GET64(v2 + 1872u, 0);
-v9 = GET64(v2 + 1880u, 0);
-v10 = GET64(v2 + 1888u, 0);
-PUT64(v1 + 1896u, 0, GET64(v2 + 1896u, 0));
-PUT64(v1 + 1888u, 0, v10);
-PUT64(v1 + 1880u, 0, v9);
-PUT64(v1 + 1872u, 0, v8);
-PUT64(v1 + 1864u, 0, v12);
-PUT64(v1 + 1856u, 0, v13);
-PUT64(v1 + 1848u, 0, v4);
-v4 = GET64(v2 + 1792u, 0);
-v13 = GET64(v2 + 1800u, 0);
-v12 = GET64(v2 + 1808u, 0);
-v8 = GET64(v2 + 1816u, 0);
-v9 = GET64(v2 + 1824u, 0);
-v10 = GET64(v2 + 1832u, 0);
-PUT64(v1 + 1840u, 0, GET64(v2 + 1840u, 0));
-PUT64(v1 + 1832u, 0, v10);
-PUT64(v1 + 1824u, 0, v9);
-PUT64(v1 + 1816u, 0, v8);
-PUT64(v1 + 1808u, 0, v12);
-PUT64(v1 + 1800u, 0, v13);
-PUT64(v1 + 1792u, 0, v4);
-v11 = v11 - 224u;
-if (v11 != 0xfffffffffffff820ull) goto L8;
+COPY_FEW(v1 + v3, v1 + v2, 56u);
+v1 = v1 - 56u;
+if (v1 != 0xffffffffffffffc8ull) goto L8;
 goto L6;
 }
-v11 = 0u;
+v1 = 0u;
 L9:;
-v2 = v11 + v18;
-TEST(v2);
-v4 = AT64(v2, 0);
-v13 = AT64(v2, 8);
-v12 = AT64(v2, 16);
-v8 = AT64(v2, 24);
-v9 = AT64(v2, 32);
-v10 = AT64(v2, 40);
-v1 = v11 + v17;
-TEST(v1);
-SET64(v1, 48, AT64(v2, 48));
-SET64(v1, 40, v10);
-SET64(v1, 32, v9);
-SET64(v1, 24, v8);
-SET64(v1, 16, v12);
-SET64(v1, 8, v13);
-SET64(v1, 0, v4);
-v4 = AT64(v2, 56);
-v13 = AT64(v2, 64);
-v12 = AT64(v2, 72);
-v8 = AT64(v2, 80);
-v9 = AT64(v2, 88);
-v10 = AT64(v2, 96);
-SET64(v1, 104, AT64(v2, 104));
-SET64(v1, 96, v10);
-SET64(v1, 88, v9);
-SET64(v1, 80, v8);
-SET64(v1, 72, v12);
-SET64(v1, 64, v13);
-SET64(v1, 56, v4);
-v4 = AT64(v2, 112);
-v13 = AT64(v2, 120);
-v12 = AT64(v2, 128);
-v8 = AT64(v2, 136);
-v9 = AT64(v2, 144);
-v10 = AT64(v2, 152);
-SET64(v1, 160, AT64(v2, 160));
-SET64(v1, 152, v10);
-SET64(v1, 144, v9);
-SET64(v1, 136, v8);
-SET64(v1, 128, v12);
-SET64(v1, 120, v13);
-SET64(v1, 112, v4);
-v4 = AT64(v2, 168);
-v13 = AT64(v2, 176);
-v12 = AT64(v2, 184);
-v8 = AT64(v2, 192);
-v9 = AT64(v2, 200);
-v10 = AT64(v2, 208);
-SET64(v1, 216, AT64(v2, 216));
-SET64(v1, 208, v10);
-SET64(v1, 200, v9);
-SET64(v1, 192, v8);
-SET64(v1, 184, v12);
-SET64(v1, 176, v13);
-SET64(v1, 168, v4);
-v11 = v11 + 224u;
-if (v11 != 2016u) goto L9;
+COPY_FEW(v1 + v3, v1 + v2, 56u);
+v1 = v1 + 56u;
+if (v1 != 2016u) goto L9;
 L6:;
-v17 = v17 + 2016u;
-v18 = v18 + 2016u;
-v7 = v7 + 36u;
-v6 = v19 - v7;
-if (v6 > 36u) goto L5;
+v3 = v3 + 2016u;
+v2 = v2 + 2016u;
+v4 = v4 + 36u;
+v1 = v6 - v4;
+if (v1 > 36u) goto L5;
 }
+v3 = v4 * 56u;
+v7 = v4 + v7;
 v2 = v7 * 56u;
-v11 = v3 + v7;
-v4 = v11 * 56u;
-if (v7 < v11) {
-if (v7 == v19) goto L2;
-v17 = v6 & 3u;
-j0 = v15;
-j1 = v2;
-if ((v6 - 1u) >= 3u) {
-v18 = 0u;
-v13 = 0ull - (v6 & 60u);
-v11 = v15;
+if (v4 < v7) {
+if (v4 == v6) goto L2;
+v3 = v3 + v5;
+v2 = v2 + v5;
+L11:;
+COPY_FEW(v3, v2, 56u);
+v3 = v3 + 56u;
+v2 = v2 + 56u;
+v1 = v1 - 1u;
+if (!(v1 == 0)) goto L11;
+goto L2;
+}
+if (v4 == v6) goto L2;
+v4 = v1 * 56u;
+v3 = ((v3 + v4) + v5) - 56u;
+v2 = ((v2 + v4) + v5) - 56u;
 L12:;
-v1 = v4 + v11;
-TEST(v1);
-v12 = AT64(v1, 0);
-v8 = AT64(v1, 8);
-v9 = AT64(v1, 16);
-v10 = AT64(v1, 24);
-v14 = AT64(v1, 32);
-v7 = AT64(v1, 40);
-v3 = v2 + v11;
-TEST(v3);
-SET64(v3, 48, AT64(v1, 48));
-SET64(v3, 40, v7);
-SET64(v3, 32, v14);
-SET64(v3, 24, v10);
-SET64(v3, 16, v9);
-SET64(v3, 8, v8);
-SET64(v3, 0, v12);
-v12 = AT64(v1, 56);
-v8 = AT64(v1, 64);
-v9 = AT64(v1, 72);
-v10 = AT64(v1, 80);
-v14 = AT64(v1, 88);
-v7 = AT64(v1, 96);
-SET64(v3, 104, AT64(v1, 104));
-SET64(v3, 96, v7);
-SET64(v3, 88, v14);
-SET64(v3, 80, v10);
-SET64(v3, 72, v9);
-SET64(v3, 64, v8);
-SET64(v3, 56, v12);
-v12 = AT64(v1, 112);
-v8 = AT64(v1, 120);
-v9 = AT64(v1, 128);
-v10 = AT64(v1, 136);
-v14 = AT64(v1, 144);
-v7 = AT64(v1, 152);
-SET64(v3, 160, AT64(v1, 160));
-SET64(v3, 152, v7);
-SET64(v3, 144, v14);
-SET64(v3, 136, v10);
-SET64(v3, 128, v9);
-SET64(v3, 120, v8);
-SET64(v3, 112, v12);
-v12 = AT64(v1, 168);
-v8 = AT64(v1, 176);
-v9 = AT64(v1, 184);
-v10 = AT64(v1, 192);
-v14 = AT64(v1, 200);
-v7 = AT64(v1, 208);
-SET64(v3, 216, AT64(v1, 216));
-SET64(v3, 208, v7);
-SET64(v3, 200, v14);
-SET64(v3, 192, v10);
-SET64(v3, 184, v9);
-SET64(v3, 176, v8);
-SET64(v3, 168, v12);
-v11 = v11 + 224u;
-v18 = v18 - 4u;
-if (v13 != v18) goto L12;
-if (v17 == 0) goto L2;
-j2 = 0ull - v18;
-} else {
-j2 = 0u;
+COPY_FEW(v3, v2, 56u);
+v3 = v3 - 56u;
+v2 = v2 - 56u;
+v1 = v1 - 1u;
+if (!(v1 == 0)) goto L12;
+goto L2;
 }
-v7 = j2 * 56u;
-v6 = j0 + (j1 + v7);
-v5 = v15 + (v4 + v7);
+if ((u32)(v4 == v6) | (u32)(v2 >= v4)) goto L2;
+v3 = ((v6 * 56u) + v5) - 56u;
+v2 = ((((v2 + v6) * 56u) - (v4 * 56u)) + v5) - 56u;
 L13:;
-TEST(v5);
-v8 = AT64(v5, 0);
-v9 = AT64(v5, 8);
-v10 = AT64(v5, 16);
-v11 = AT64(v5, 24);
-v14 = AT64(v5, 32);
-v7 = AT64(v5, 40);
-TEST(v6);
-SET64(v6, 48, AT64(v5, 48));
-SET64(v6, 40, v7);
-SET64(v6, 32, v14);
-SET64(v6, 24, v11);
-SET64(v6, 16, v10);
-SET64(v6, 8, v9);
-SET64(v6, 0, v8);
-v6 = v6 + 56u;
-v5 = v5 + 56u;
-v17 = v17 - 1u;
-if (!(v17 == 0)) goto L13;
-goto L2;
-}
-if (v7 == v19) goto L2;
-v21 = v6 & 3u;
-if ((v6 - 1u) >= 3u) {
-v1 = v2 + v15;
-v17 = v4 + v15;
-v18 = v6 & 60u;
-v11 = v6 * 56u;
-v5 = ((v2 + v11) + v15) - 56u;
-v11 = ((v4 + v11) + v15) - 56u;
-L15:;
-TEST(v11);
-v4 = AT64(v11, 0);
-v13 = AT64(v11, 8);
-v12 = AT64(v11, 16);
-v8 = AT64(v11, 24);
-v9 = AT64(v11, 32);
-v10 = AT64(v11, 40);
-TEST(v5);
-SET64(v5, 48, AT64(v11, 48));
-SET64(v5, 40, v10);
-SET64(v5, 32, v9);
-SET64(v5, 24, v8);
-SET64(v5, 16, v12);
-SET64(v5, 8, v13);
-SET64(v5, 0, v4);
-v3 = (v6 + (v16 ^ 2305843009213693950ull)) * 56u;
-v2 = v17 + v3;
-TEST(v2);
-v4 = AT64(v2, 0);
-v13 = AT64(v2, 8);
-v12 = AT64(v2, 16);
-v8 = AT64(v2, 24);
-v9 = AT64(v2, 32);
-v10 = AT64(v2, 40);
-v3 = v1 + v3;
-TEST(v3);
-SET64(v3, 48, AT64(v2, 48));
-SET64(v3, 40, v10);
-SET64(v3, 32, v9);
-SET64(v3, 24, v8);
-SET64(v3, 16, v12);
-SET64(v3, 8, v13);
-SET64(v3, 0, v4);
-v3 = (v6 + (v16 ^ 2305843009213693949ull)) * 56u;
-v2 = v17 + v3;
-TEST(v2);
-v4 = AT64(v2, 0);
-v13 = AT64(v2, 8);
-v12 = AT64(v2, 16);
-v8 = AT64(v2, 24);
-v9 = AT64(v2, 32);
-v10 = AT64(v2, 40);
-v3 = v1 + v3;
-TEST(v3);
-SET64(v3, 48, AT64(v2, 48));
-SET64(v3, 40, v10);
-SET64(v3, 32, v9);
-SET64(v3, 24, v8);
-SET64(v3, 16, v12);
-SET64(v3, 8, v13);
-SET64(v3, 0, v4);
-v3 = (v6 + (v16 ^ 2305843009213693948ull)) * 56u;
-v2 = v17 + v3;
-TEST(v2);
-v4 = AT64(v2, 0);
-v13 = AT64(v2, 8);
-v12 = AT64(v2, 16);
-v8 = AT64(v2, 24);
-v9 = AT64(v2, 32);
-v10 = AT64(v2, 40);
-v3 = v1 + v3;
-TEST(v3);
-SET64(v3, 48, AT64(v2, 48));
-SET64(v3, 40, v10);
-SET64(v3, 32, v9);
-SET64(v3, 24, v8);
-SET64(v3, 16, v12);
-SET64(v3, 8, v13);
-SET64(v3, 0, v4);
-v5 = v5 - 224u;
-v11 = v11 - 224u;
-v16 = v16 + 4u;
-if (v18 != v16) goto L15;
-if (v21 == 0) goto L2;
-}
-v7 = v6 + v7;
-v6 = (((v7 * 56u) - (v16 * 56u)) + v15) - 56u;
-v5 = ((((v7 + v20) * 56u) - ((v14 + v16) * 56u)) + v15) - 56u;
-L16:;
-TEST(v5);
-v8 = AT64(v5, 0);
-v9 = AT64(v5, 8);
-v10 = AT64(v5, 16);
-v11 = AT64(v5, 24);
-v14 = AT64(v5, 32);
-v7 = AT64(v5, 40);
-TEST(v6);
-SET64(v6, 48, AT64(v5, 48));
-SET64(v6, 40, v7);
-SET64(v6, 32, v14);
-SET64(v6, 24, v11);
-SET64(v6, 16, v10);
-SET64(v6, 8, v9);
-SET64(v6, 0, v8);
-v6 = v6 - 56u;
-v5 = v5 - 56u;
-v21 = v21 - 1u;
-if (!(v21 == 0)) goto L16;
-goto L2;
-}
-if ((u32)(v14 == v19) | (u32)(v14 <= v20)) goto L2;
-v21 = v6 & 3u;
-if ((v14 - v19) <= 0xfffffffffffffffcull) {
-v7 = v14 * 56u;
-v17 = v15 + v7;
-v18 = v15 + (v20 * 56u);
-v3 = v6 & 0xfffffffffffffffcull;
-v5 = ((v19 * 56u) + v15) - 56u;
-v11 = ((((v19 + v20) * 56u) - v7) + v15) - 56u;
-L18:;
-TEST(v11);
-v13 = AT64(v11, 0);
-v12 = AT64(v11, 8);
-v8 = AT64(v11, 16);
-v9 = AT64(v11, 24);
-v10 = AT64(v11, 32);
-v7 = AT64(v11, 40);
-TEST(v5);
-SET64(v5, 48, AT64(v11, 48));
-SET64(v5, 40, v7);
-SET64(v5, 32, v10);
-SET64(v5, 24, v9);
-SET64(v5, 16, v8);
-SET64(v5, 8, v12);
-SET64(v5, 0, v13);
-v4 = (v6 + (v16 ^ 2305843009213693950ull)) * 56u;
-v1 = v18 + v4;
-TEST(v1);
-v13 = AT64(v1, 0);
-v12 = AT64(v1, 8);
-v8 = AT64(v1, 16);
-v9 = AT64(v1, 24);
-v10 = AT64(v1, 32);
-v7 = AT64(v1, 40);
-v4 = v4 + v17;
-TEST(v4);
-SET64(v4, 48, AT64(v1, 48));
-SET64(v4, 40, v7);
-SET64(v4, 32, v10);
-SET64(v4, 24, v9);
-SET64(v4, 16, v8);
-SET64(v4, 8, v12);
-SET64(v4, 0, v13);
-v4 = (v6 + (v16 ^ 2305843009213693949ull)) * 56u;
-v1 = v18 + v4;
-TEST(v1);
-v13 = AT64(v1, 0);
-v12 = AT64(v1, 8);
-v8 = AT64(v1, 16);
-v9 = AT64(v1, 24);
-v10 = AT64(v1, 32);
-v7 = AT64(v1, 40);
-v4 = v4 + v17;
-TEST(v4);
-SET64(v4, 48, AT64(v1, 48));
-SET64(v4, 40, v7);
-SET64(v4, 32, v10);
-SET64(v4, 24, v9);
-SET64(v4, 16, v8);
-SET64(v4, 8, v12);
-SET64(v4, 0, v13);
-v4 = (v6 + (v16 ^ 2305843009213693948ull)) * 56u;
-v1 = v18 + v4;
-TEST(v1);
-v13 = AT64(v1, 0);
-v12 = AT64(v1, 8);
-v8 = AT64(v1, 16);
-v9 = AT64(v1, 24);
-v10 = AT64(v1, 32);
-v7 = AT64(v1, 40);
-v4 = v4 + v17;
-TEST(v4);
-SET64(v4, 48, AT64(v1, 48));
-SET64(v4, 40, v7);
-SET64(v4, 32, v10);
-SET64(v4, 24, v9);
-SET64(v4, 16, v8);
-SET64(v4, 8, v12);
-SET64(v4, 0, v13);
-v5 = v5 - 224u;
-v11 = v11 - 224u;
-v16 = v16 + 4u;
-if (v3 != v16) goto L18;
-if (v21 == 0) goto L2;
-}
-v6 = (((v19 * 56u) - (v16 * 56u)) + v15) - 56u;
-v5 = ((((v19 + v20) * 56u) - ((v14 + v16) * 56u)) + v15) - 56u;
-L19:;
-TEST(v5);
-v8 = AT64(v5, 0);
-v9 = AT64(v5, 8);
-v10 = AT64(v5, 16);
-v11 = AT64(v5, 24);
-v14 = AT64(v5, 32);
-v7 = AT64(v5, 40);
-TEST(v6);
-SET64(v6, 48, AT64(v5, 48));
-SET64(v6, 40, v7);
-SET64(v6, 32, v14);
-SET64(v6, 24, v11);
-SET64(v6, 16, v10);
-SET64(v6, 8, v9);
-SET64(v6, 0, v8);
-v6 = v6 - 56u;
-v5 = v5 - 56u;
-v21 = v21 - 1u;
-if (v21 != 0u) goto L19;
+COPY_FEW(v3, v2, 56u);
+v3 = v3 - 56u;
+v2 = v2 - 56u;
+v1 = v1 - 1u;
+if (v1 != 0u) goto L13;
 L2:;
-SET64(a0, 0, v15);
+SET64(a0, 0, v5);
 SET64(a0, 24, 0u);
 SET64(a0, 32, 0u);
-SET64(a0, 16, v23);
-SET64(a0, 8, v19);
+SET64(a0, 16, v9);
+SET64(a0, 8, v6);
 return;
 }
 rud_trap();
 }
 
 static void in_core_slice_edits_reverse_between_28_mm_service_waiting_Waiting(RUD_IT u64 a0, u64 a1, u64 a2) {
-u64 v3 = 0, v4 = 0, v5 = 0, v6 = 0, v7 = 0, v8 = 0, v9 = 0, v10 = 0, v11 = 0;
+u64 v3 = 0, v4 = 0, v5 = 0, v6 = 0;
 RUD_HERE
-v4 = RUD_G0 - 64u;
-RUD_G0 = v4;
-if ((s64)v4 >= (s64)16u) {
-v5 = a2 - a1;
-if (v5 > 15u) goto L2;
-if (v5 < 2u) goto L1;
+v5 = RUD_G0 - 64u;
+RUD_G0 = v5;
+if ((s64)v5 >= (s64)16u) {
+v4 = a2 - a1;
+if (v4 > 15u) goto L2;
+if (v4 < 2u) goto L1;
 v6 = a2 - 1u;
 v3 = a0 + (a1 * 56u);
 a2 = ((a2 * 56u) + a0) - 56u;
 L4:;
 if (a1 < v6) {
-TEST(v3);
-TEST(v4);
-SET64(v4, 56, AT64(v3, 48));
-SET64(v4, 48, AT64(v3, 40));
-SET64(v4, 40, AT64(v3, 32));
-SET64(v4, 32, AT64(v3, 24));
-SET64(v4, 24, AT64(v3, 16));
-SET64(v4, 16, AT64(v3, 8));
-SET64(v4, 8, AT64(v3, 0));
-TEST(a2);
-a0 = AT64(a2, 0);
-v7 = AT64(a2, 8);
-v8 = AT64(a2, 16);
-v9 = AT64(a2, 24);
-v10 = AT64(a2, 32);
-v11 = AT64(a2, 40);
-SET64(v3, 48, AT64(a2, 48));
-SET64(v3, 40, v11);
-SET64(v3, 32, v10);
-SET64(v3, 24, v9);
-SET64(v3, 16, v8);
-SET64(v3, 8, v7);
-SET64(v3, 0, a0);
-SET64(a2, 48, AT64(v4, 56));
-SET64(a2, 40, AT64(v4, 48));
-SET64(a2, 32, AT64(v4, 40));
-SET64(a2, 24, AT64(v4, 32));
-SET64(a2, 16, AT64(v4, 24));
-SET64(a2, 8, AT64(v4, 16));
-SET64(a2, 0, AT64(v4, 8));
+a0 = v5 + 8u;
+COPY_FEW(a0, v3, 56u);
+COPY_FEW(v3, a2, 56u);
+COPY_FEW(a2, a0, 56u);
 goto L5;
 }
 if (a1 <= v6) goto L5;
-TEST(a2);
-TEST(v4);
-SET64(v4, 56, AT64(a2, 48));
-SET64(v4, 48, AT64(a2, 40));
-SET64(v4, 40, AT64(a2, 32));
-SET64(v4, 32, AT64(a2, 24));
-SET64(v4, 24, AT64(a2, 16));
-SET64(v4, 16, AT64(a2, 8));
-SET64(v4, 8, AT64(a2, 0));
-TEST(v3);
-a0 = AT64(v3, 0);
-v7 = AT64(v3, 8);
-v8 = AT64(v3, 16);
-v9 = AT64(v3, 24);
-v10 = AT64(v3, 32);
-v11 = AT64(v3, 40);
-SET64(a2, 48, AT64(v3, 48));
-SET64(a2, 40, v11);
-SET64(a2, 32, v10);
-SET64(a2, 24, v9);
-SET64(a2, 16, v8);
-SET64(a2, 8, v7);
-SET64(a2, 0, a0);
-SET64(v3, 48, AT64(v4, 56));
-SET64(v3, 40, AT64(v4, 48));
-SET64(v3, 32, AT64(v4, 40));
-SET64(v3, 24, AT64(v4, 32));
-SET64(v3, 16, AT64(v4, 24));
-SET64(v3, 8, AT64(v4, 16));
-SET64(v3, 0, AT64(v4, 8));
+a0 = v5 + 8u;
+COPY_FEW(a0, a2, 56u);
+COPY_FEW(a2, v3, 56u);
+COPY_FEW(v3, a0, 56u);
 L5:;
 v6 = v6 - 1u;
 a2 = a2 - 56u;
 v3 = v3 + 56u;
 a1 = a1 + 1u;
-v5 = v5 - 2u;
-if (v5 > 1u) goto L4;
+v4 = v4 - 2u;
+if (v4 > 1u) goto L4;
 goto L1;
 }
 rud_trap();
 L2:;
 v3 = a0;
-a0 = v5 >> 1;
+a0 = v4 >> 1;
 a2 = v3 + ((a2 - a0) * 56u);
-v5 = RUD_G0 - 64u;
-if ((s64)v5 >= (s64)16u) {
+v4 = RUD_G0 - 64u;
+if ((s64)v4 >= (s64)16u) {
 a1 = v3 + (a1 * 56u);
 a2 = ((a0 * 56u) + a2) - 56u;
 L9:;
-TEST(a1);
-TEST(v5);
-SET64(v5, 56, AT64(a1, 48));
-SET64(v5, 48, AT64(a1, 40));
-SET64(v5, 40, AT64(a1, 32));
-SET64(v5, 32, AT64(a1, 24));
-SET64(v5, 24, AT64(a1, 16));
-SET64(v5, 16, AT64(a1, 8));
-SET64(v5, 8, AT64(a1, 0));
-TEST(a2);
-v3 = AT64(a2, 0);
-v6 = AT64(a2, 8);
-v7 = AT64(a2, 16);
-v8 = AT64(a2, 24);
-v9 = AT64(a2, 32);
-v10 = AT64(a2, 40);
-SET64(a1, 48, AT64(a2, 48));
-SET64(a1, 40, v10);
-SET64(a1, 32, v9);
-SET64(a1, 24, v8);
-SET64(a1, 16, v7);
-SET64(a1, 8, v6);
-SET64(a1, 0, v3);
-SET64(a2, 48, AT64(v5, 56));
-SET64(a2, 40, AT64(v5, 48));
-SET64(a2, 32, AT64(v5, 40));
-SET64(a2, 24, AT64(v5, 32));
-SET64(a2, 16, AT64(v5, 24));
-SET64(a2, 8, AT64(v5, 16));
-SET64(a2, 0, AT64(v5, 8));
+v3 = v4 + 8u;
+COPY_FEW(v3, a1, 56u);
+COPY_FEW(a1, a2, 56u);
+COPY_FEW(a2, v3, 56u);
 a2 = a2 - 56u;
 a1 = a1 + 56u;
 a0 = a0 - 1u;
@@ -18353,33 +15671,27 @@ goto L7;
 rud_trap();
 L7:;
 L1:;
-RUD_G0 = v4 + 64u;
+RUD_G0 = v5 + 64u;
 }
 
 static void in_mm_service_service_Service_apply_in_memory(RUD_IT u64 a0, u64 a1, u64 a2, u64 a3, u64 a4, u64 a5) {
-u32 v46 = 0, v47 = 0, v48 = 0, v49 = 0, i0 = 0, i1 = 0;
+u32 v42 = 0, v43 = 0, v44 = 0, v45 = 0, i0 = 0, i1 = 0;
 u64 v6 = 0, v7 = 0, v8 = 0, v9 = 0, v10 = 0, v11 = 0, v12 = 0, v13 = 0, v14 = 0, v15 = 0, v16 = 0, v17 = 0;
 u64 v18 = 0, v19 = 0, v20 = 0, v21 = 0, v22 = 0, v23 = 0, v24 = 0, v25 = 0, v26 = 0, v27 = 0, v28 = 0, v29 = 0;
 u64 v30 = 0, v31 = 0, v32 = 0, v33 = 0, v34 = 0, v35 = 0, v36 = 0, v37 = 0, v38 = 0, v39 = 0, v40 = 0, v41 = 0;
-u64 v42 = 0, v43 = 0, v44 = 0, v45 = 0, j0 = 0, j1 = 0, j2 = 0;
+u64 j0 = 0, j1 = 0;
 RUD_HERE
+(void)v34;
 (void)v35;
+(void)v36;
 (void)v37;
-(void)v39;
 v6 = RUD_G0 - 1712u;
 RUD_G0 = v6;
 if ((s64)v6 < (s64)16u) goto L19;
+FILL_FEW(v6 + 216u, 0u, 64u);
 TEST_FAR(v6, 688);
-SET64(v6, 272, 0u);
-SET64(v6, 264, 0u);
-SET64(v6, 256, 0u);
-SET64(v6, 248, 0u);
-SET64(v6, 240, 0u);
-SET64(v6, 232, 0u);
-SET64(v6, 224, 0u);
-SET64(v6, 216, 0u);
-SET64(v6, 200, 0u);
 SET8(v6, 208, 0u);
+SET64(v6, 200, 0u);
 SET64(v6, 184, 0u);
 SET64(v6, 191, 0u);
 SET64(v6, 160, 0u);
@@ -18402,17 +15714,14 @@ SET64(v6, 367, 0u);
 SET64(v6, 336, 0u);
 SET64(v6, 344, 0u);
 SET64(v6, 352, 0u);
-SET64(v6, 1288, 0u);
-SET64(v6, 1296, 0u);
-SET64(v6, 1304, 0u);
-SET64(v6, 1312, 0u);
-SET64(v6, 1320, 0u);
-in_mm_ask_line_packet_alone(RUD_AS v6 + 1288u, a3, a4);
+v7 = v6 + 1288u;
+FILL_FEW(v7, 0u, 40u);
+in_mm_ask_line_packet_alone(RUD_AS v7, a3, a4);
 RUD_AGAIN
 if (AT8(v6, 1288) == 0) {
-v23 = AT64(v6, 1320);
-v49 = AT8(v6, 1303);
-v48 = AT8(v6, 1302);
+a4 = AT64(v6, 1320);
+v45 = AT8(v6, 1303);
+v44 = AT8(v6, 1302);
 i0 = AT8(v6, 1304);
 i1 = AT8(v6, 1301);
 SET32(v6, 408, AT32(v6, 1296));
@@ -18428,16 +15737,16 @@ SET64(v6, 504, 0u);
 SET64(v6, 544, 0u);
 SET64(v6, 536, 0u);
 SET64(v6, 528, 0u);
-v46 = 1u;
+v42 = 1u;
 if (i0 | (u32)(i1 != 15u)) goto L29;
-in_mm_st15_request_kind_RequestKind_of_code(RUD_AS v6 + 128u, v48);
-v46 = 2u;
+in_mm_st15_request_kind_RequestKind_of_code(RUD_AS v6 + 128u, v44);
+v42 = 2u;
 if ((AT8(v6, 128) & 1u) == 0) goto L29;
-v46 = AT8(v6, 129);
-TEST(v23);
-a3 = AT64(v23, 16);
-v10 = AT64(v23, 8);
-a4 = 0u;
+v42 = AT8(v6, 129);
+TEST(a4);
+v10 = AT64(a4, 16);
+v8 = AT64(a4, 8);
+a3 = 0u;
 SET64(v6, 584, 0u);
 SET64(v6, 592, 0u);
 SET64(v6, 600, 0u);
@@ -18501,7 +15810,7 @@ SET64(v6, 438, 0u);
 SET64(v6, 432, 0u);
 SET64(v6, 424, 0u);
 SET64(v6, 416, 0u);
-switch ((u32)((u64)v46 & 255u) - 1u) {
+switch ((u32)((u64)v42 & 255u) - 1u) {
 case 0u: goto L49;
 case 1u: goto L48;
 case 2u: goto L47;
@@ -18521,13 +15830,13 @@ case 15u: goto L36;
 default: goto L50;
 }
 L50:;
-in_mm_st15_counted_counted_entries_65c131a536ad0a17(RUD_AS v6 + 1096u, v10, a3);
+in_mm_st15_counted_counted_entries_65c131a536ad0a17(RUD_AS v6 + 1096u, v8, v10);
 RUD_AGAIN
 SET64(v6, 608, 0u);
 SET64(v6, 616, 0u);
 SET64(v6, 624, 0u);
-v47 = AT8(v6, 1096);
-if (v47) {
+v43 = AT8(v6, 1096);
+if (v43) {
 i0 = AT8(v6, 1097);
 goto L51;
 }
@@ -18536,95 +15845,95 @@ SET64(v6, 616, AT64(v6, 1112));
 SET64(v6, 608, AT64(v6, 1104));
 i0 = 0u;
 L51:;
-v46 = i0;
+v42 = i0;
 SET64(v6, 600, AT64(v6, 624));
 SET64(v6, 592, AT64(v6, 616));
 SET64(v6, 584, AT64(v6, 608));
 goto L30;
 L49:;
-in_mm_st15_counted_counted_entries_65c131a536ad0a17(RUD_AS v6 + 1592u, v10, a3);
+in_mm_st15_counted_counted_entries_65c131a536ad0a17(RUD_AS v6 + 1592u, v8, v10);
 RUD_AGAIN
 SET64(v6, 608, 0u);
 SET64(v6, 616, 0u);
 SET64(v6, 624, 0u);
-v47 = AT8(v6, 1592);
-if (v47) {
+v43 = AT8(v6, 1592);
+if (v43) {
 i0 = AT8(v6, 1593);
 goto L53;
 }
 SET64(v6, 624, AT64(v6, 1616));
 SET64(v6, 616, AT64(v6, 1608));
 SET64(v6, 608, AT64(v6, 1600));
-a4 = 1u;
+a3 = 1u;
 i0 = 0u;
 L53:;
-v46 = i0;
+v42 = i0;
 SET64(v6, 600, AT64(v6, 624));
 SET64(v6, 592, AT64(v6, 616));
 SET64(v6, 584, AT64(v6, 608));
 goto L30;
 L48:;
-in_mm_st15_counted_counted_entries_00f67b8a91c49b95(RUD_AS v6 + 1488u, v10, a3);
+in_mm_st15_counted_counted_entries_00f67b8a91c49b95(RUD_AS v6 + 1488u, v8, v10);
 RUD_AGAIN
 SET64(v6, 608, 0u);
 SET64(v6, 616, 0u);
 SET64(v6, 624, 0u);
-v47 = AT8(v6, 1488);
-if (v47) {
+v43 = AT8(v6, 1488);
+if (v43) {
 i0 = AT8(v6, 1489);
 goto L55;
 }
 SET64(v6, 624, AT64(v6, 1512));
 SET64(v6, 616, AT64(v6, 1504));
 SET64(v6, 608, AT64(v6, 1496));
-a4 = 2u;
+a3 = 2u;
 i0 = 0u;
 L55:;
-v46 = i0;
+v42 = i0;
 SET64(v6, 600, AT64(v6, 624));
 SET64(v6, 592, AT64(v6, 616));
 SET64(v6, 584, AT64(v6, 608));
 goto L30;
 L47:;
-in_mm_st15_counted_counted_entries_00f67b8a91c49b95(RUD_AS v6 + 1048u, v10, a3);
+in_mm_st15_counted_counted_entries_00f67b8a91c49b95(RUD_AS v6 + 1048u, v8, v10);
 RUD_AGAIN
 SET64(v6, 608, 0u);
 SET64(v6, 616, 0u);
 SET64(v6, 624, 0u);
-v47 = AT8(v6, 1048);
-if (v47) {
+v43 = AT8(v6, 1048);
+if (v43) {
 i0 = AT8(v6, 1049);
 goto L57;
 }
 SET64(v6, 624, AT64(v6, 1072));
 SET64(v6, 616, AT64(v6, 1064));
 SET64(v6, 608, AT64(v6, 1056));
-a4 = 3u;
+a3 = 3u;
 i0 = 0u;
 L57:;
-v46 = i0;
+v42 = i0;
 SET64(v6, 600, AT64(v6, 624));
 SET64(v6, 592, AT64(v6, 616));
 SET64(v6, 584, AT64(v6, 608));
 goto L30;
 L46:;
-in_mm_st15_counted_counted_entries_65c131a536ad0a17(RUD_AS v6 + 1000u, v10, a3);
+in_mm_st15_counted_counted_entries_65c131a536ad0a17(RUD_AS v6 + 1000u, v8, v10);
 RUD_AGAIN
 SET64(v6, 608, 0u);
 SET64(v6, 616, 0u);
 SET64(v6, 624, 0u);
-v47 = AT8(v6, 1000);
-if (v47) {
+v43 = AT8(v6, 1000);
+if (v43) {
 i0 = AT8(v6, 1001);
 goto L59;
 }
 SET64(v6, 624, AT64(v6, 1024));
 SET64(v6, 616, AT64(v6, 1016));
 SET64(v6, 608, AT64(v6, 1008));
-a4 = 4u;
+a3 = 4u;
 i0 = 0u;
 L59:;
-v46 = i0;
+v42 = i0;
 SET64(v6, 600, AT64(v6, 624));
 SET64(v6, 592, AT64(v6, 616));
 SET64(v6, 584, AT64(v6, 608));
@@ -18634,17 +15943,17 @@ SET64(v6, 575, 0u);
 SET64(v6, 568, 0u);
 SET64(v6, 560, 0u);
 SET64(v6, 552, 0u);
-v46 = 3u;
-if (a3 == 0) goto L62;
-TEST(v10);
-v13 = (u64)AT8(v10, 0);
-if (v13 == 0) goto L62;
-v14 = a3 - 1u;
-if (v14 != (v13 * 24u)) goto L62;
+v42 = 3u;
+if (v10 == 0) goto L62;
+TEST(v8);
+v11 = (u64)AT8(v8, 0);
+if (v11 == 0) goto L62;
+v7 = v10 - 1u;
+if (v7 != (v11 * 24u)) goto L62;
 SET64(v6, 704, 0u);
 SET64(v6, 712, 0u);
 SET64(v6, 696, v6 + 1704u);
-i0 = in_std_alloc_vec_Vec_move_to_b6ba752709f1c5bb(RUD_AS v6 + 696u, v13);
+i0 = in_std_alloc_vec_Vec_move_to_b6ba752709f1c5bb(RUD_AS v6 + 696u, v11);
 RUD_AGAIN
 if (i0 == 0) {
 if (AT64(v6, 712) == 0) goto L63;
@@ -18652,59 +15961,54 @@ rud_dealloc(RUD_AS AT64(v6, 696));
 RUD_AGAIN
 goto L63;
 }
-v8 = v10 + 1u;
-a3 = AT64(v6, 712);
-SET64(v6, 631, a3);
-v10 = AT64(v6, 704);
-SET64(v6, 623, v10);
-v7 = AT64(v6, 696);
-SET64(v6, 615, v7);
-SET64(v6, 672, v7);
-SET64(v6, 680, v10);
-SET64(v6, 688, a3);
+v15 = v8 + 1u;
+v10 = AT64(v6, 712);
+SET64(v6, 631, v10);
+v8 = AT64(v6, 704);
+SET64(v6, 623, v8);
+v9 = AT64(v6, 696);
+SET64(v6, 615, v9);
+SET64(v6, 672, v9);
+SET64(v6, 680, v8);
+SET64(v6, 688, v10);
 L66:;
-if (v14 < 8u) goto L19;
-a3 = (v14 & 0xfffffffffffffff8ull) - 8u;
-if (a3 > 8u) goto L67;
-switch ((u32)a3 - 1u) {
-case 0u: case 1u: case 2u: case 3u: case 4u: case 5u: case 6u: goto L67;
-default: goto L19;
-}
-L67:;
-TEST(v8);
-a3 = AT64(v8, 16);
-v10 = AT64(v8, 8);
-v9 = AT64(v8, 0);
-v15 = AT64(v6, 680);
-if (v15 == AT64(v6, 688)) {
+if (v7 < 8u) goto L19;
+v10 = v7 & 0xfffffffffffffff8ull;
+if ((u32)(v10 == 16u) | (u32)(v10 == 8u)) goto L19;
+TEST(v15);
+v10 = AT64(v15, 16);
+v9 = AT64(v15, 8);
+v14 = AT64(v15, 0);
+v8 = AT64(v6, 680);
+if (v8 == AT64(v6, 688)) {
 i0 = in_std_alloc_vec_Vec_grow_amortized_b6ba752709f1c5bb(RUD_AS v6 + 672u);
 RUD_AGAIN
 if (i0 == 0) goto L65;
-v15 = AT64(v6, 680);
+v8 = AT64(v6, 680);
 }
-v7 = AT64(v6, 672) + (v15 * 24u);
-j1 = (((a3 << 56) | ((a3 & 65280u) << 40)) | (((a3 & 16711680u) << 24) | ((a3 & 4278190080u) << 8))) | ((((a3 >> 8) & 4278190080u) | ((a3 >> 24) & 16711680u)) | (((a3 >> 40) & 65280u) | (a3 >> 56)));
-TEST(v7);
-SET64(v7, 16, j1);
+v13 = AT64(v6, 672) + (v8 * 24u);
 j1 = (((v10 << 56) | ((v10 & 65280u) << 40)) | (((v10 & 16711680u) << 24) | ((v10 & 4278190080u) << 8))) | ((((v10 >> 8) & 4278190080u) | ((v10 >> 24) & 16711680u)) | (((v10 >> 40) & 65280u) | (v10 >> 56)));
-SET64(v7, 8, j1);
-SET64(v7, 0, v9);
-SET64(v6, 680, v15 + 1u);
-v8 = v8 + 24u;
-v14 = v14 - 24u;
-v13 = v13 - 1u;
-if (!(v13 == 0)) goto L66;
+TEST(v13);
+SET64(v13, 16, j1);
+j1 = (((v9 << 56) | ((v9 & 65280u) << 40)) | (((v9 & 16711680u) << 24) | ((v9 & 4278190080u) << 8))) | ((((v9 >> 8) & 4278190080u) | ((v9 >> 24) & 16711680u)) | (((v9 >> 40) & 65280u) | (v9 >> 56)));
+SET64(v13, 8, j1);
+SET64(v13, 0, v14);
+SET64(v6, 680, v8 + 1u);
+v15 = v15 + 24u;
+v7 = v7 - 24u;
+v11 = v11 - 1u;
+if (!(v11 == 0)) goto L66;
 a3 = AT64(v6, 672);
 SET64(v6, 790, a3);
-a4 = AT64(v6, 680);
-SET64(v6, 798, a4);
+v7 = AT64(v6, 680);
+SET64(v6, 798, v7);
 v10 = AT64(v6, 688);
 SET64(v6, 806, v10);
 SET64(v6, 624, v10);
-SET64(v6, 616, a4);
+SET64(v6, 616, v7);
 SET64(v6, 608, a3);
-a4 = 5u;
-v46 = 0u;
+a3 = 5u;
+v42 = 0u;
 i0 = 0u;
 goto L61;
 L65:;
@@ -18712,415 +16016,415 @@ if (AT64(v6, 688) == 0) goto L63;
 rud_dealloc(RUD_AS AT64(v6, 672));
 RUD_AGAIN
 L63:;
-v46 = 0u;
+v42 = 0u;
 L62:;
 SET64(v6, 624, 0u);
 SET64(v6, 616, 0u);
 SET64(v6, 608, 0u);
 i0 = 1u;
 L61:;
-v47 = i0;
+v43 = i0;
 SET64(v6, 600, AT64(v6, 624));
 SET64(v6, 592, AT64(v6, 616));
 SET64(v6, 584, AT64(v6, 608));
 goto L30;
 L44:;
-v46 = 3u;
-if (a3 == 0) goto L70;
-TEST(v10);
-v14 = (u64)AT8(v10, 0);
-if (v14 == 0) goto L70;
-v8 = a3 - 1u;
-if (v8 != (v14 << 4)) goto L70;
+v42 = 3u;
+if (v10 == 0) goto L69;
+TEST(v8);
+v7 = (u64)AT8(v8, 0);
+if (v7 == 0) goto L69;
+v15 = v10 - 1u;
+if (v15 != (v7 << 4)) goto L69;
 SET64(v6, 704, 0u);
 SET64(v6, 712, 0u);
 SET64(v6, 696, v6 + 1704u);
-i0 = in_std_alloc_vec_Vec_move_to_8f93ed18667da11d(RUD_AS v6 + 696u, v14);
+i0 = in_std_alloc_vec_Vec_move_to_8f93ed18667da11d(RUD_AS v6 + 696u, v7);
 RUD_AGAIN
 if (i0 == 0) {
-if (AT64(v6, 712) == 0) goto L71;
+if (AT64(v6, 712) == 0) goto L70;
 rud_dealloc(RUD_AS AT64(v6, 696));
 RUD_AGAIN
-goto L71;
+goto L70;
 }
-a3 = v10 + 1u;
-a4 = AT64(v6, 712);
-SET64(v6, 631, a4);
+v9 = v8 + 1u;
+a3 = AT64(v6, 712);
+SET64(v6, 631, a3);
 v10 = AT64(v6, 704);
 SET64(v6, 623, v10);
-v7 = AT64(v6, 696);
-SET64(v6, 615, v7);
-SET64(v6, 672, v7);
+v8 = AT64(v6, 696);
+SET64(v6, 615, v8);
+SET64(v6, 672, v8);
 SET64(v6, 680, v10);
-SET64(v6, 688, a4);
-L74:;
-if (v8 <= 15u) goto L19;
-TEST(a3);
-a4 = AT64(a3, 8);
-v10 = AT64(a3, 0);
-v7 = AT64(v6, 680);
-if (v7 == AT64(v6, 688)) {
+SET64(v6, 688, a3);
+L73:;
+if (v15 <= 15u) goto L19;
+TEST(v9);
+a3 = AT64(v9, 8);
+v8 = AT64(v9, 0);
+v10 = AT64(v6, 680);
+if (v10 == AT64(v6, 688)) {
 i0 = in_std_alloc_vec_Vec_grow_amortized_8f93ed18667da11d(RUD_AS v6 + 672u);
 RUD_AGAIN
-if (i0 == 0) goto L73;
-v7 = AT64(v6, 680);
+if (i0 == 0) goto L72;
+v10 = AT64(v6, 680);
 }
-v9 = AT64(v6, 672) + (v7 << 4);
-j1 = (((a4 << 56) | ((a4 & 65280u) << 40)) | (((a4 & 16711680u) << 24) | ((a4 & 4278190080u) << 8))) | ((((a4 >> 8) & 4278190080u) | ((a4 >> 24) & 16711680u)) | (((a4 >> 40) & 65280u) | (a4 >> 56)));
-TEST(v9);
-SET64(v9, 8, j1);
-SET64(v9, 0, v10);
-SET64(v6, 680, v7 + 1u);
-a3 = a3 + 16u;
-v8 = v8 - 16u;
-v14 = v14 - 1u;
-if (!(v14 == 0)) goto L74;
+v11 = AT64(v6, 672) + (v10 << 4);
+j1 = (((a3 << 56) | ((a3 & 65280u) << 40)) | (((a3 & 16711680u) << 24) | ((a3 & 4278190080u) << 8))) | ((((a3 >> 8) & 4278190080u) | ((a3 >> 24) & 16711680u)) | (((a3 >> 40) & 65280u) | (a3 >> 56)));
+TEST(v11);
+SET64(v11, 8, j1);
+SET64(v11, 0, v8);
+SET64(v6, 680, v10 + 1u);
+v9 = v9 + 16u;
+v15 = v15 - 16u;
+v7 = v7 - 1u;
+if (!(v7 == 0)) goto L73;
 a3 = AT64(v6, 672);
 SET64(v6, 758, a3);
-a4 = AT64(v6, 680);
-SET64(v6, 766, a4);
+v7 = AT64(v6, 680);
+SET64(v6, 766, v7);
 v10 = AT64(v6, 688);
 SET64(v6, 774, v10);
 SET64(v6, 624, v10);
-SET64(v6, 616, a4);
+SET64(v6, 616, v7);
 SET64(v6, 608, a3);
-v47 = 0u;
-v46 = 0u;
+v43 = 0u;
+v42 = 0u;
 j0 = 6u;
-goto L69;
-L73:;
-if (AT64(v6, 688) == 0) goto L71;
+goto L68;
+L72:;
+if (AT64(v6, 688) == 0) goto L70;
 rud_dealloc(RUD_AS AT64(v6, 672));
 RUD_AGAIN
-L71:;
-v46 = 0u;
 L70:;
+v42 = 0u;
+L69:;
 SET64(v6, 624, 0u);
 SET64(v6, 616, 0u);
 SET64(v6, 608, 0u);
-v47 = 1u;
+v43 = 1u;
 j0 = 0u;
-L69:;
-a4 = j0;
+L68:;
+a3 = j0;
 SET64(v6, 600, AT64(v6, 624));
 SET64(v6, 592, AT64(v6, 616));
 SET64(v6, 584, AT64(v6, 608));
 goto L30;
 L43:;
-in_mm_st15_counted_counted_entries_65c131a536ad0a17(RUD_AS v6 + 912u, v10, a3);
+in_mm_st15_counted_counted_entries_65c131a536ad0a17(RUD_AS v6 + 912u, v8, v10);
 RUD_AGAIN
 SET64(v6, 608, 0u);
 SET64(v6, 616, 0u);
 SET64(v6, 624, 0u);
-v47 = AT8(v6, 912);
-if (v47) {
+v43 = AT8(v6, 912);
+if (v43) {
 i0 = AT8(v6, 913);
-goto L76;
+goto L75;
 }
 SET64(v6, 624, AT64(v6, 936));
 SET64(v6, 616, AT64(v6, 928));
 SET64(v6, 608, AT64(v6, 920));
-a4 = 7u;
+a3 = 7u;
 i0 = 0u;
-L76:;
-v46 = i0;
+L75:;
+v42 = i0;
 SET64(v6, 600, AT64(v6, 624));
 SET64(v6, 592, AT64(v6, 616));
 SET64(v6, 584, AT64(v6, 608));
 goto L30;
 L42:;
-in_mm_st15_counted_counted_entries_65c131a536ad0a17(RUD_AS v6 + 864u, v10, a3);
+in_mm_st15_counted_counted_entries_65c131a536ad0a17(RUD_AS v6 + 864u, v8, v10);
 RUD_AGAIN
 SET64(v6, 608, 0u);
 SET64(v6, 616, 0u);
 SET64(v6, 624, 0u);
-v47 = AT8(v6, 864);
-if (v47) {
+v43 = AT8(v6, 864);
+if (v43) {
 i0 = AT8(v6, 865);
-goto L78;
+goto L77;
 }
 SET64(v6, 624, AT64(v6, 888));
 SET64(v6, 616, AT64(v6, 880));
 SET64(v6, 608, AT64(v6, 872));
-a4 = 8u;
+a3 = 8u;
 i0 = 0u;
-L78:;
-v46 = i0;
+L77:;
+v42 = i0;
 SET64(v6, 600, AT64(v6, 624));
 SET64(v6, 592, AT64(v6, 616));
 SET64(v6, 584, AT64(v6, 608));
 goto L30;
 L41:;
-in_mm_st15_counted_counted_entries_93728722e2cdf027(RUD_AS v6 + 816u, 1u, v10, a3);
+in_mm_st15_counted_counted_entries_93728722e2cdf027(RUD_AS v6 + 816u, 1u, v8, v10);
 RUD_AGAIN
 SET64(v6, 608, 0u);
 SET64(v6, 616, 0u);
 SET64(v6, 624, 0u);
-v47 = AT8(v6, 816);
-if (v47) {
+v43 = AT8(v6, 816);
+if (v43) {
 i0 = AT8(v6, 817);
-goto L80;
+goto L79;
 }
 SET64(v6, 624, AT64(v6, 840));
 SET64(v6, 616, AT64(v6, 832));
 SET64(v6, 608, AT64(v6, 824));
-a4 = 10u;
+a3 = 10u;
 i0 = 0u;
-L80:;
-v46 = i0;
+L79:;
+v42 = i0;
 SET64(v6, 600, AT64(v6, 624));
 SET64(v6, 592, AT64(v6, 616));
 SET64(v6, 584, AT64(v6, 608));
 goto L30;
 L40:;
-in_mm_st15_counted_counted_entries_65c131a536ad0a17(RUD_AS v6 + 960u, v10, a3);
+in_mm_st15_counted_counted_entries_65c131a536ad0a17(RUD_AS v6 + 960u, v8, v10);
 RUD_AGAIN
 SET64(v6, 608, 0u);
 SET64(v6, 616, 0u);
 SET64(v6, 624, 0u);
-v47 = AT8(v6, 960);
-if (v47) {
+v43 = AT8(v6, 960);
+if (v43) {
 i0 = AT8(v6, 961);
-goto L82;
+goto L81;
 }
 SET64(v6, 624, AT64(v6, 984));
 SET64(v6, 616, AT64(v6, 976));
 SET64(v6, 608, AT64(v6, 968));
-a4 = 11u;
+a3 = 11u;
 i0 = 0u;
-L82:;
-v46 = i0;
+L81:;
+v42 = i0;
 SET64(v6, 600, AT64(v6, 624));
 SET64(v6, 592, AT64(v6, 616));
 SET64(v6, 584, AT64(v6, 608));
 goto L30;
 L39:;
-v46 = 3u;
-if (a3 == 0) goto L85;
-TEST(v10);
-v8 = (u64)AT8(v10, 0);
-if (v8 == 0) goto L85;
-a3 = a3 - 1u;
-if (a3 != (v8 * 12u)) goto L85;
+v42 = 3u;
+if (v10 == 0) goto L84;
+TEST(v8);
+v15 = (u64)AT8(v8, 0);
+if (v15 == 0) goto L84;
+v9 = v10 - 1u;
+if (v9 != (v15 * 12u)) goto L84;
 SET64(v6, 704, 0u);
 SET64(v6, 712, 0u);
 SET64(v6, 696, v6 + 1704u);
-i0 = in_std_alloc_vec_Vec_move_to_2e6a255000427900(RUD_AS v6 + 696u, v8);
+i0 = in_std_alloc_vec_Vec_move_to_2e6a255000427900(RUD_AS v6 + 696u, v15);
 RUD_AGAIN
 if (i0 == 0) {
-if (AT64(v6, 712) == 0) goto L86;
+if (AT64(v6, 712) == 0) goto L85;
 rud_dealloc(RUD_AS AT64(v6, 696));
 RUD_AGAIN
-goto L86;
+goto L85;
 }
-a4 = v10 + 1u;
-v10 = AT64(v6, 712);
-SET64(v6, 631, v10);
-v7 = AT64(v6, 704);
-SET64(v6, 623, v7);
-v9 = AT64(v6, 696);
-SET64(v6, 615, v9);
-SET64(v6, 672, v9);
-SET64(v6, 680, v7);
-SET64(v6, 688, v10);
-L89:;
-if (a3 <= 11u) goto L19;
-TEST(a4);
-v46 = AT32(a4, 8);
-v10 = AT64(a4, 0);
-v7 = AT64(v6, 680);
-if (v7 == AT64(v6, 688)) {
+a3 = v8 + 1u;
+v7 = AT64(v6, 712);
+SET64(v6, 631, v7);
+v10 = AT64(v6, 704);
+SET64(v6, 623, v10);
+v8 = AT64(v6, 696);
+SET64(v6, 615, v8);
+SET64(v6, 672, v8);
+SET64(v6, 680, v10);
+SET64(v6, 688, v7);
+L88:;
+if (v9 <= 11u) goto L19;
+TEST(a3);
+v42 = AT32(a3, 8);
+v7 = AT64(a3, 0);
+v10 = AT64(v6, 680);
+if (v10 == AT64(v6, 688)) {
 i0 = in_std_alloc_vec_Vec_grow_amortized_2e6a255000427900(RUD_AS v6 + 672u);
 RUD_AGAIN
-if (i0 == 0) goto L88;
-v7 = AT64(v6, 680);
+if (i0 == 0) goto L87;
+v10 = AT64(v6, 680);
 }
-v9 = AT64(v6, 672) + (v7 * 12u);
-TEST(v9);
-SET32(v9, 8, (rud_rotr32(v46, 24u) & 16711935u) | rud_rotr32((v46 & 16711935u), 8u));
-SET64(v9, 0, v10);
-SET64(v6, 680, v7 + 1u);
-a4 = a4 + 12u;
-a3 = a3 - 12u;
-v8 = v8 - 1u;
-if (!(v8 == 0)) goto L89;
+v8 = AT64(v6, 672) + (v10 * 12u);
+TEST(v8);
+SET32(v8, 8, (rud_rotr32(v42, 24u) & 16711935u) | rud_rotr32((v42 & 16711935u), 8u));
+SET64(v8, 0, v7);
+SET64(v6, 680, v10 + 1u);
+a3 = a3 + 12u;
+v9 = v9 - 12u;
+v15 = v15 - 1u;
+if (!(v15 == 0)) goto L88;
 a3 = AT64(v6, 672);
 SET64(v6, 454, a3);
-a4 = AT64(v6, 680);
-SET64(v6, 462, a4);
+v7 = AT64(v6, 680);
+SET64(v6, 462, v7);
 v10 = AT64(v6, 688);
 SET64(v6, 470, v10);
 SET64(v6, 624, v10);
-SET64(v6, 616, a4);
+SET64(v6, 616, v7);
 SET64(v6, 608, a3);
-v47 = 0u;
-v46 = 0u;
+v43 = 0u;
+v42 = 0u;
 j0 = 13u;
-goto L84;
-L88:;
-if (AT64(v6, 688) == 0) goto L86;
+goto L83;
+L87:;
+if (AT64(v6, 688) == 0) goto L85;
 rud_dealloc(RUD_AS AT64(v6, 672));
 RUD_AGAIN
-L86:;
-v46 = 0u;
 L85:;
+v42 = 0u;
+L84:;
 SET64(v6, 624, 0u);
 SET64(v6, 616, 0u);
 SET64(v6, 608, 0u);
-v47 = 1u;
+v43 = 1u;
 j0 = 0u;
-L84:;
-a4 = j0;
+L83:;
+a3 = j0;
 SET64(v6, 600, AT64(v6, 624));
 SET64(v6, 592, AT64(v6, 616));
 SET64(v6, 584, AT64(v6, 608));
 goto L30;
 L38:;
-in_mm_st15_counted_counted_entries_65c131a536ad0a17(RUD_AS v6 + 720u, v10, a3);
+in_mm_st15_counted_counted_entries_65c131a536ad0a17(RUD_AS v6 + 720u, v8, v10);
 RUD_AGAIN
 SET64(v6, 608, 0u);
 SET64(v6, 616, 0u);
 SET64(v6, 624, 0u);
-v47 = AT8(v6, 720);
-if (v47) {
+v43 = AT8(v6, 720);
+if (v43) {
 i0 = AT8(v6, 721);
-goto L91;
+goto L90;
 }
 SET64(v6, 624, AT64(v6, 744));
 SET64(v6, 616, AT64(v6, 736));
 SET64(v6, 608, AT64(v6, 728));
-a4 = 14u;
+a3 = 14u;
 i0 = 0u;
-L91:;
-v46 = i0;
+L90:;
+v42 = i0;
 SET64(v6, 600, AT64(v6, 624));
 SET64(v6, 592, AT64(v6, 616));
 SET64(v6, 584, AT64(v6, 608));
 goto L30;
 L37:;
-in_mm_st15_counted_counted_entries_65c131a536ad0a17(RUD_AS v6 + 640u, v10, a3);
+in_mm_st15_counted_counted_entries_65c131a536ad0a17(RUD_AS v6 + 640u, v8, v10);
 RUD_AGAIN
 SET64(v6, 608, 0u);
 SET64(v6, 616, 0u);
 SET64(v6, 624, 0u);
-v47 = AT8(v6, 640);
-if (v47) {
+v43 = AT8(v6, 640);
+if (v43) {
 i0 = AT8(v6, 641);
-goto L93;
+goto L92;
 }
 SET64(v6, 624, AT64(v6, 664));
 SET64(v6, 616, AT64(v6, 656));
 SET64(v6, 608, AT64(v6, 648));
-a4 = 15u;
+a3 = 15u;
 i0 = 0u;
-L93:;
-v46 = i0;
+L92:;
+v42 = i0;
 SET64(v6, 600, AT64(v6, 624));
 SET64(v6, 592, AT64(v6, 616));
 SET64(v6, 584, AT64(v6, 608));
 goto L30;
 L36:;
-v46 = 3u;
-if (a3 == 0) goto L96;
-TEST(v10);
-v8 = (u64)AT8(v10, 0);
-if (v8 == 0) goto L96;
-a3 = a3 - 1u;
-if (a3 != (v8 * 9u)) goto L96;
+v42 = 3u;
+if (v10 == 0) goto L95;
+TEST(v8);
+v15 = (u64)AT8(v8, 0);
+if (v15 == 0) goto L95;
+v9 = v10 - 1u;
+if (v9 != (v15 * 9u)) goto L95;
 SET64(v6, 704, 0u);
 SET64(v6, 712, 0u);
 SET64(v6, 696, v6 + 1704u);
-i0 = in_std_alloc_vec_Vec_move_to_66712223a0a96b53(RUD_AS v6 + 696u, v8);
+i0 = in_std_alloc_vec_Vec_move_to_66712223a0a96b53(RUD_AS v6 + 696u, v15);
 RUD_AGAIN
 if (i0 == 0) {
-if (AT64(v6, 712) == 0) goto L97;
+if (AT64(v6, 712) == 0) goto L96;
 rud_dealloc(RUD_AS AT64(v6, 696));
 RUD_AGAIN
-goto L97;
+goto L96;
 }
-a4 = v10 + 1u;
-v10 = AT64(v6, 712);
-SET64(v6, 631, v10);
-v7 = AT64(v6, 704);
-SET64(v6, 623, v7);
-v9 = AT64(v6, 696);
-SET64(v6, 615, v9);
-SET64(v6, 672, v9);
-SET64(v6, 680, v7);
-SET64(v6, 688, v10);
-L100:;
-if (a3 <= 8u) goto L19;
-TEST(a4);
-v46 = AT8(a4, 8);
-v10 = AT64(a4, 0);
-v7 = AT64(v6, 680);
-if (v7 == AT64(v6, 688)) {
+a3 = v8 + 1u;
+v7 = AT64(v6, 712);
+SET64(v6, 631, v7);
+v10 = AT64(v6, 704);
+SET64(v6, 623, v10);
+v8 = AT64(v6, 696);
+SET64(v6, 615, v8);
+SET64(v6, 672, v8);
+SET64(v6, 680, v10);
+SET64(v6, 688, v7);
+L99:;
+if (v9 <= 8u) goto L19;
+TEST(a3);
+v42 = AT8(a3, 8);
+v7 = AT64(a3, 0);
+v10 = AT64(v6, 680);
+if (v10 == AT64(v6, 688)) {
 i0 = in_std_alloc_vec_Vec_grow_amortized_66712223a0a96b53(RUD_AS v6 + 672u);
 RUD_AGAIN
-if (i0 == 0) goto L99;
-v7 = AT64(v6, 680);
+if (i0 == 0) goto L98;
+v10 = AT64(v6, 680);
 }
-v9 = AT64(v6, 672) + (v7 * 9u);
-TEST(v9);
-SET8(v9, 8, v46);
-SET64(v9, 0, v10);
-SET64(v6, 680, v7 + 1u);
-a4 = a4 + 9u;
-a3 = a3 - 9u;
-v8 = v8 - 1u;
-if (!(v8 == 0)) goto L100;
+v8 = AT64(v6, 672) + (v10 * 9u);
+TEST(v8);
+SET8(v8, 8, v42);
+SET64(v8, 0, v7);
+SET64(v6, 680, v10 + 1u);
+a3 = a3 + 9u;
+v9 = v9 - 9u;
+v15 = v15 - 1u;
+if (!(v15 == 0)) goto L99;
 a3 = AT64(v6, 672);
 SET64(v6, 422, a3);
-a4 = AT64(v6, 680);
-SET64(v6, 430, a4);
+v7 = AT64(v6, 680);
+SET64(v6, 430, v7);
 v10 = AT64(v6, 688);
 SET64(v6, 438, v10);
 SET64(v6, 624, v10);
-SET64(v6, 616, a4);
+SET64(v6, 616, v7);
 SET64(v6, 608, a3);
-v47 = 0u;
-v46 = 0u;
+v43 = 0u;
+v42 = 0u;
 j0 = 16u;
-goto L95;
-L99:;
-if (AT64(v6, 688) == 0) goto L97;
+goto L94;
+L98:;
+if (AT64(v6, 688) == 0) goto L96;
 rud_dealloc(RUD_AS AT64(v6, 672));
 RUD_AGAIN
-L97:;
-v46 = 0u;
 L96:;
+v42 = 0u;
+L95:;
 SET64(v6, 624, 0u);
 SET64(v6, 616, 0u);
 SET64(v6, 608, 0u);
-v47 = 1u;
+v43 = 1u;
 j0 = 0u;
-L95:;
-a4 = j0;
+L94:;
+a3 = j0;
 SET64(v6, 600, AT64(v6, 624));
 SET64(v6, 592, AT64(v6, 616));
 SET64(v6, 584, AT64(v6, 608));
 goto L30;
 L35:;
-if (a3 == 0) goto L33;
+if (v10 == 0) goto L33;
 goto L31;
 L34:;
-if (a3 != 0u) goto L31;
-a4 = 12u;
-v46 = 0u;
-v47 = 0u;
+if (v10 != 0u) goto L31;
+a3 = 12u;
+v42 = 0u;
+v43 = 0u;
 goto L30;
 L33:;
-a4 = 9u;
-v47 = 0u;
-v46 = 0u;
+a3 = 9u;
+v43 = 0u;
+v42 = 0u;
 goto L30;
 }
-v46 = AT8(v6, 1290);
-v47 = AT8(v6, 1289);
+v42 = AT8(v6, 1290);
+v43 = AT8(v6, 1289);
 goto L27;
 L31:;
-v46 = 3u;
-v47 = 1u;
+v42 = 3u;
+v43 = 1u;
 L30:;
 SET64(v6, 544, AT64(v6, 600));
 SET64(v6, 536, AT64(v6, 592));
@@ -19131,24 +16435,24 @@ SET64(v6, 504, AT64(v6, 528));
 SET64(v6, 496, AT64(v6, 520));
 SET64(v6, 488, AT64(v6, 512));
 SET64(v6, 480, AT64(v6, 504));
-if (v47 == 0) goto L28;
+if (v43 == 0) goto L28;
 L29:;
-in_std_alloc_arc_Arc_drop_c3b6ee2ab0dfb523(RUD_AS v23);
+in_std_alloc_arc_Arc_drop_c3b6ee2ab0dfb523(RUD_AS a4);
 RUD_AGAIN
-v47 = v46 & 255u ? 3u : 0u;
+v43 = v42 & 255u ? 3u : 0u;
 goto L27;
 L28:;
-v46 = AT8(v6, 412);
-SET8(v6, 385, v46);
-v47 = AT32(v6, 408);
-SET32(v6, 381, v47);
+v42 = AT8(v6, 412);
+SET8(v6, 385, v42);
+v43 = AT32(v6, 408);
+SET32(v6, 381, v43);
 SET64(v6, 360, AT64(v6, 392));
 SET64(v6, 367, AT64(v6, 399));
 SET64(v6, 336, AT64(v6, 480));
 SET64(v6, 344, AT64(v6, 488));
 SET64(v6, 352, AT64(v6, 496));
-SET8(v6, 329, v46);
-SET32(v6, 325, v47);
+SET8(v6, 329, v42);
+SET32(v6, 325, v43);
 SET64(v6, 311, AT64(v6, 367));
 SET64(v6, 304, AT64(v6, 360));
 SET64(v6, 296, AT64(v6, 352));
@@ -19164,1777 +16468,587 @@ SET64(v6, 160, AT64(v6, 280));
 SET8(v6, 220, AT8(v6, 208));
 SET32(v6, 216, AT32(v6, 204));
 SET8(v6, 224, 0u);
-SET8(v6, 223, v49);
-SET8(v6, 222, v48);
+SET8(v6, 223, v45);
+SET8(v6, 222, v44);
 SET8(v6, 221, 15u);
 SET64(v6, 232, AT64(v6, 191));
 SET64(v6, 225, AT64(v6, 184));
-SET64(v6, 240, v23);
-SET64(v6, 248, a4);
+SET64(v6, 240, a4);
+SET64(v6, 248, a3);
 SET64(v6, 272, AT64(v6, 176));
 SET64(v6, 264, AT64(v6, 168));
 SET64(v6, 256, AT64(v6, 160));
-v47 = (u32)a4;
+v43 = (u32)a3;
 TEST(a1);
-if (AT8(a1, 104) != 1u) goto L102;
+if (AT8(a1, 104) != 1u) goto L101;
 a3 = AT64(a1, 112);
-v46 = 1u << (v47 & 31);
-if (v46 & 126319u) goto L102;
-if (v46 & 4736u) {
+v42 = 1u << (v43 & 31);
+if (v42 & 126319u) goto L101;
+if (v42 & 4736u) {
 j0 = 1u;
 } else {
 j0 = AT64(v6, 264);
 }
-a4 = a3 - AT64(a1, 72);
-if (j0 > (a3 < a4 ? 0ull : a4)) goto L25;
-L102:;
+v7 = a3 - AT64(a1, 72);
+if (j0 > (a3 < v7 ? 0ull : v7)) goto L25;
+L101:;
 v19 = v6 + 256u;
-v32 = a1 + 64u;
-a4 = 1u;
-v46 = 1u << (v47 & 31);
-if (v46 & 126319u) goto L20;
-if ((v46 & 4736u) == 0) {
-a4 = AT64(v6, 264);
+v30 = a1 + 64u;
+a3 = 1u;
+v42 = 1u << (v43 & 31);
+if (v42 & 126319u) goto L20;
+if ((v42 & 4736u) == 0) {
+a3 = AT64(v6, 264);
 }
-a3 = AT64(a1, 80);
+v7 = AT64(a1, 80);
 v10 = AT64(a1, 72);
-if ((a3 - v10) < a4) goto L26;
+if ((v7 - v10) < a3) goto L26;
 goto L20;
 L27:;
 TEST(a0);
 SET64(a0, 8, 0u);
-i1 = v46;
-v46 = v47 & 255u;
-SET8(a0, 3, v46 ? i1 : 0u);
-SET8(a0, 2, v47);
-SET8(a0, 1, v46 ? 5u : 0u);
+i1 = v42;
+v42 = v43 & 255u;
+SET8(a0, 3, v42 ? i1 : 0u);
+SET8(a0, 2, v43);
+SET8(a0, 1, v42 ? 5u : 0u);
 SET8(a0, 0, 1u);
 goto L1;
 L26:;
-SET64(v6, 1128, AT64(a1, 96));
-SET64(v6, 1120, AT64(a1, 88));
-SET64(v6, 1112, AT64(a1, 80));
-v13 = AT64(a1, 72);
-SET64(v6, 1104, v13);
-SET64(v6, 1096, AT64(a1, 64));
-a3 = (a3 << 1) - v10;
-a3 = a3 < a4 ? a4 : a3;
-v27 = a3 > 255u ? a3 : 255ull;
-a4 = 0u;
-if (v13 == 0) {
+COPY_FEW(v6 + 1096u, v30, 40u);
+v7 = (v7 << 1) - v10;
+a3 = a3 > v7 ? a3 : v7;
+v12 = a3 > 255u ? a3 : 255ull;
+a3 = 0u;
+v11 = AT64(v6, 1104);
+if (v11 == 0) {
 j0 = AT64(v6, 1112);
 goto L21;
 }
-v9 = AT64(v6, 1128);
-v46 = v9 == 0;
-if (v46) goto L106;
-v24 = AT64(v6, 1112);
-a4 = v24 - v13;
-v15 = v13 - v9;
-if (a4 < (v9 < v15 ? v9 : v15)) goto L106;
-v11 = AT64(v6, 1120);
-a3 = v6 + 1104u;
+v7 = AT64(v6, 1128);
+v42 = v7 == 0;
+if (v42) goto L105;
+v16 = AT64(v6, 1112);
+v8 = v16 - v11;
+a3 = v11 - v7;
+if (v8 < (a3 > v7 ? v7 : a3)) goto L105;
+v14 = AT64(v6, 1120);
+v10 = v6 + 1104u;
 SET64(v6, 1104, 0u);
 SET64(v6, 1112, 0u);
 SET64(v6, 1120, 0u);
 SET64(v6, 1128, 0u);
-SET64(v6, 1296, v24);
-v10 = AT64(v6, 1096);
-SET64(v6, 1288, v10);
-if (a4 >= v15) {
-v20 = v6 + 1120u;
-if (v9 == v13) goto L108;
-v7 = v9 & 3u;
-v14 = 0u;
-if ((v9 - 1u) >= 3u) {
-v16 = v10 + (v15 * 56u);
-v22 = v9 & 0xfffffffffffffffcull;
-a4 = ((v13 * 56u) + v10) - 56u;
-a3 = ((v9 * 56u) + v10) - 56u;
-L110:;
-TEST(a3);
-v8 = AT64(a3, 0);
-v12 = AT64(a3, 8);
-v17 = AT64(a3, 16);
-v18 = AT64(a3, 24);
-v21 = AT64(a3, 32);
-v25 = AT64(a3, 40);
-TEST(a4);
-SET64(a4, 48, AT64(a3, 48));
-SET64(a4, 40, v25);
-SET64(a4, 32, v21);
-SET64(a4, 24, v18);
-SET64(a4, 16, v17);
-SET64(a4, 8, v12);
-SET64(a4, 0, v8);
-v12 = (v9 + (v14 ^ 2305843009213693950ull)) * 56u;
-v8 = v10 + v12;
-TEST(v8);
-v17 = AT64(v8, 0);
-v18 = AT64(v8, 8);
-v21 = AT64(v8, 16);
-v25 = AT64(v8, 24);
-v26 = AT64(v8, 32);
-v28 = AT64(v8, 40);
-v12 = v12 + v16;
-TEST(v12);
-SET64(v12, 48, AT64(v8, 48));
-SET64(v12, 40, v28);
-SET64(v12, 32, v26);
-SET64(v12, 24, v25);
-SET64(v12, 16, v21);
-SET64(v12, 8, v18);
-SET64(v12, 0, v17);
-v12 = (v9 + (v14 ^ 2305843009213693949ull)) * 56u;
-v8 = v10 + v12;
-TEST(v8);
-v17 = AT64(v8, 0);
-v18 = AT64(v8, 8);
-v21 = AT64(v8, 16);
-v25 = AT64(v8, 24);
-v26 = AT64(v8, 32);
-v28 = AT64(v8, 40);
-v12 = v12 + v16;
-TEST(v12);
-SET64(v12, 48, AT64(v8, 48));
-SET64(v12, 40, v28);
-SET64(v12, 32, v26);
-SET64(v12, 24, v25);
-SET64(v12, 16, v21);
-SET64(v12, 8, v18);
-SET64(v12, 0, v17);
-v12 = (v9 + (v14 ^ 2305843009213693948ull)) * 56u;
-v8 = v10 + v12;
-TEST(v8);
-v17 = AT64(v8, 0);
-v18 = AT64(v8, 8);
-v21 = AT64(v8, 16);
-v25 = AT64(v8, 24);
-v26 = AT64(v8, 32);
-v28 = AT64(v8, 40);
-v12 = v12 + v16;
-TEST(v12);
-SET64(v12, 48, AT64(v8, 48));
-SET64(v12, 40, v28);
-SET64(v12, 32, v26);
-SET64(v12, 24, v25);
-SET64(v12, 16, v21);
-SET64(v12, 8, v18);
-SET64(v12, 0, v17);
-a4 = a4 - 224u;
-a3 = a3 - 224u;
-v14 = v14 + 4u;
-if (v22 != v14) goto L110;
-if (v7 == 0) goto L108;
-}
-a3 = v14 * 56u;
-a4 = (((v13 * 56u) - a3) + v10) - 56u;
-a3 = (((v9 * 56u) - a3) + v10) - 56u;
-L111:;
-TEST(a3);
-v10 = AT64(a3, 0);
-v8 = AT64(a3, 8);
-v9 = AT64(a3, 16);
-v14 = AT64(a3, 24);
-v12 = AT64(a3, 32);
-v16 = AT64(a3, 40);
-TEST(a4);
-SET64(a4, 48, AT64(a3, 48));
-SET64(a4, 40, v16);
-SET64(a4, 32, v12);
-SET64(a4, 24, v14);
-SET64(a4, 16, v9);
-SET64(a4, 8, v8);
-SET64(a4, 0, v10);
-a4 = a4 - 56u;
-a3 = a3 - 56u;
-v7 = v7 - 1u;
-if (v7 != 0u) goto L111;
+SET64(v6, 1296, v16);
+v13 = AT64(v6, 1096);
+SET64(v6, 1288, v13);
+if (a3 <= v8) {
+if (v7 != v11) {
+v9 = ((v11 * 56u) + v13) - 56u;
+v10 = ((v7 * 56u) + v13) - 56u;
 L108:;
-in_core_slots_Slots_move_over_28_mm_service_waiting_Waiting(RUD_AS v6 + 1288u, v11, 0u, v15);
+COPY_FEW(v9, v10, 56u);
+v9 = v9 - 56u;
+v10 = v10 - 56u;
+v7 = v7 - 1u;
+if (v7 != 0u) goto L108;
+}
+in_core_slots_Slots_move_over_28_mm_service_waiting_Waiting(RUD_AS v6 + 1288u, v14, 0u, a3);
+a3 = v6 + 1120u;
 SET64(v6, 1120, 0u);
 SET64(v6, 1128, 0u);
 goto L23;
 }
-if (v9 < v11) {
-v20 = v11 - v9;
-v12 = v9;
-if (v15 >= 37u) {
-v8 = v10 + (v9 * 56u);
-v14 = v10 + (v11 * 56u);
-L115:;
-if ((v12 + v20) <= v12) {
-v7 = 0u;
-L118:;
-a3 = v7 + v14;
-v16 = GET64(a3 + 1960u, 0);
-v15 = GET64(a3 + 1968u, 0);
-v22 = GET64(a3 + 1976u, 0);
-v17 = GET64(a3 + 1984u, 0);
-v18 = GET64(a3 + 1992u, 0);
-v21 = GET64(a3 + 2000u, 0);
-a4 = v7 + v8;
-PUT64(a4 + 2008u, 0, GET64(a3 + 2008u, 0));
-PUT64(a4 + 2000u, 0, v21);
-PUT64(a4 + 1992u, 0, v18);
-PUT64(a4 + 1984u, 0, v17);
-PUT64(a4 + 1976u, 0, v22);
-PUT64(a4 + 1968u, 0, v15);
-PUT64(a4 + 1960u, 0, v16);
-v16 = GET64(a3 + 1904u, 0);
-v15 = GET64(a3 + 1912u, 0);
-v22 = GET64(a3 + 1920u, 0);
-v17 = GET64(a3 + 1928u, 0);
-v18 = GET64(a3 + 1936u, 0);
-v21 = GET64(a3 + 1944u, 0);
-PUT64(a4 + 1952u, 0, GET64(a3 + 1952u, 0));
-PUT64(a4 + 1944u, 0, v21);
-PUT64(a4 + 1936u, 0, v18);
-PUT64(a4 + 1928u, 0, v17);
-PUT64(a4 + 1920u, 0, v22);
-PUT64(a4 + 1912u, 0, v15);
-PUT64(a4 + 1904u, 0, v16);
-v16 = GET64(a3 + 1848u, 0);
-v15 = GET64(a3 + 1856u, 0);
-v22 = GET64(a3 + 1864u, 0);
-v17 = GET64(a3 + 1872u, 0);
-v18 = GET64(a3 + 1880u, 0);
-v21 = GET64(a3 + 1888u, 0);
-PUT64(a4 + 1896u, 0, GET64(a3 + 1896u, 0));
-PUT64(a4 + 1888u, 0, v21);
-PUT64(a4 + 1880u, 0, v18);
-PUT64(a4 + 1872u, 0, v17);
-PUT64(a4 + 1864u, 0, v22);
-PUT64(a4 + 1856u, 0, v15);
-PUT64(a4 + 1848u, 0, v16);
-v16 = GET64(a3 + 1792u, 0);
-v15 = GET64(a3 + 1800u, 0);
-v22 = GET64(a3 + 1808u, 0);
-v17 = GET64(a3 + 1816u, 0);
-v18 = GET64(a3 + 1824u, 0);
-v21 = GET64(a3 + 1832u, 0);
-PUT64(a4 + 1840u, 0, GET64(a3 + 1840u, 0));
-PUT64(a4 + 1832u, 0, v21);
-PUT64(a4 + 1824u, 0, v18);
-PUT64(a4 + 1816u, 0, v17);
-PUT64(a4 + 1808u, 0, v22);
-PUT64(a4 + 1800u, 0, v15);
-PUT64(a4 + 1792u, 0, v16);
-v7 = v7 - 224u;
-if (v7 != 0xfffffffffffff820ull) goto L118;
-goto L116;
-}
-v7 = 0u;
-L119:;
-a3 = v7 + v14;
-TEST(a3);
-v16 = AT64(a3, 0);
-v15 = AT64(a3, 8);
-v22 = AT64(a3, 16);
-v17 = AT64(a3, 24);
-v18 = AT64(a3, 32);
-v21 = AT64(a3, 40);
-a4 = v7 + v8;
-TEST(a4);
-SET64(a4, 48, AT64(a3, 48));
-SET64(a4, 40, v21);
-SET64(a4, 32, v18);
-SET64(a4, 24, v17);
-SET64(a4, 16, v22);
-SET64(a4, 8, v15);
-SET64(a4, 0, v16);
-v16 = AT64(a3, 56);
-v15 = AT64(a3, 64);
-v22 = AT64(a3, 72);
-v17 = AT64(a3, 80);
-v18 = AT64(a3, 88);
-v21 = AT64(a3, 96);
-SET64(a4, 104, AT64(a3, 104));
-SET64(a4, 96, v21);
-SET64(a4, 88, v18);
-SET64(a4, 80, v17);
-SET64(a4, 72, v22);
-SET64(a4, 64, v15);
-SET64(a4, 56, v16);
-v16 = AT64(a3, 112);
-v15 = AT64(a3, 120);
-v22 = AT64(a3, 128);
-v17 = AT64(a3, 136);
-v18 = AT64(a3, 144);
-v21 = AT64(a3, 152);
-SET64(a4, 160, AT64(a3, 160));
-SET64(a4, 152, v21);
-SET64(a4, 144, v18);
-SET64(a4, 136, v17);
-SET64(a4, 128, v22);
-SET64(a4, 120, v15);
-SET64(a4, 112, v16);
-v16 = AT64(a3, 168);
-v15 = AT64(a3, 176);
-v22 = AT64(a3, 184);
-v17 = AT64(a3, 192);
-v18 = AT64(a3, 200);
-v21 = AT64(a3, 208);
-SET64(a4, 216, AT64(a3, 216));
-SET64(a4, 208, v21);
-SET64(a4, 200, v18);
-SET64(a4, 192, v17);
-SET64(a4, 184, v22);
-SET64(a4, 176, v15);
-SET64(a4, 168, v16);
-v7 = v7 + 224u;
-if (v7 != 2016u) goto L119;
-L116:;
-v8 = v8 + 2016u;
-v14 = v14 + 2016u;
-v12 = v12 + 36u;
-v15 = v13 - v12;
-if (v15 > 36u) goto L115;
-}
-v16 = v12 * 56u;
-a3 = v12 + v20;
-v20 = a3 * 56u;
-if (a3 > v12) {
-if (v12 == v13) goto L112;
-v8 = v15 & 3u;
-j0 = v10;
-j1 = v16;
-if ((v15 - 1u) >= 3u) {
-v14 = 0u;
-v12 = 0ull - (v15 & 60u);
-v7 = v10;
-L122:;
-a3 = v7 + v20;
-TEST(a3);
-v11 = AT64(a3, 0);
-v15 = AT64(a3, 8);
-v22 = AT64(a3, 16);
-v17 = AT64(a3, 24);
-v18 = AT64(a3, 32);
-v21 = AT64(a3, 40);
-a4 = v7 + v16;
-TEST(a4);
-SET64(a4, 48, AT64(a3, 48));
-SET64(a4, 40, v21);
-SET64(a4, 32, v18);
-SET64(a4, 24, v17);
-SET64(a4, 16, v22);
-SET64(a4, 8, v15);
-SET64(a4, 0, v11);
-v11 = AT64(a3, 56);
-v15 = AT64(a3, 64);
-v22 = AT64(a3, 72);
-v17 = AT64(a3, 80);
-v18 = AT64(a3, 88);
-v21 = AT64(a3, 96);
-SET64(a4, 104, AT64(a3, 104));
-SET64(a4, 96, v21);
-SET64(a4, 88, v18);
-SET64(a4, 80, v17);
-SET64(a4, 72, v22);
-SET64(a4, 64, v15);
-SET64(a4, 56, v11);
-v11 = AT64(a3, 112);
-v15 = AT64(a3, 120);
-v22 = AT64(a3, 128);
-v17 = AT64(a3, 136);
-v18 = AT64(a3, 144);
-v21 = AT64(a3, 152);
-SET64(a4, 160, AT64(a3, 160));
-SET64(a4, 152, v21);
-SET64(a4, 144, v18);
-SET64(a4, 136, v17);
-SET64(a4, 128, v22);
-SET64(a4, 120, v15);
-SET64(a4, 112, v11);
-v11 = AT64(a3, 168);
-v15 = AT64(a3, 176);
-v22 = AT64(a3, 184);
-v17 = AT64(a3, 192);
-v18 = AT64(a3, 200);
-v21 = AT64(a3, 208);
-SET64(a4, 216, AT64(a3, 216));
-SET64(a4, 208, v21);
-SET64(a4, 200, v18);
-SET64(a4, 192, v17);
-SET64(a4, 184, v22);
-SET64(a4, 176, v15);
-SET64(a4, 168, v11);
-v7 = v7 + 224u;
-v14 = v14 - 4u;
-if (v12 != v14) goto L122;
-if (v8 == 0) goto L112;
-j2 = 0ull - v14;
-} else {
-j2 = 0u;
-}
-a3 = j2 * 56u;
-a4 = j0 + (j1 + a3);
-a3 = v10 + (a3 + v20);
-L123:;
-TEST(a3);
-v10 = AT64(a3, 0);
-v7 = AT64(a3, 8);
-v14 = AT64(a3, 16);
-v12 = AT64(a3, 24);
-v11 = AT64(a3, 32);
-v16 = AT64(a3, 40);
-TEST(a4);
-SET64(a4, 48, AT64(a3, 48));
-SET64(a4, 40, v16);
-SET64(a4, 32, v11);
-SET64(a4, 24, v12);
-SET64(a4, 16, v14);
-SET64(a4, 8, v7);
-SET64(a4, 0, v10);
-a4 = a4 + 56u;
-a3 = a3 + 56u;
-v8 = v8 - 1u;
-if (!(v8 == 0)) goto L123;
-goto L112;
-}
-if (v12 == v13) goto L112;
-v7 = v15 & 3u;
-v14 = 0u;
-if ((v15 - 1u) >= 3u) {
-v22 = v10 + v16;
-v17 = v10 + v20;
-v18 = v15 & 60u;
-a3 = v15 * 56u;
-a4 = ((v16 + a3) + v10) - 56u;
-a3 = ((a3 + v20) + v10) - 56u;
-L125:;
-TEST(a3);
-v8 = AT64(a3, 0);
-v16 = AT64(a3, 8);
-v20 = AT64(a3, 16);
-v21 = AT64(a3, 24);
-v25 = AT64(a3, 32);
-v26 = AT64(a3, 40);
-TEST(a4);
-SET64(a4, 48, AT64(a3, 48));
-SET64(a4, 40, v26);
-SET64(a4, 32, v25);
-SET64(a4, 24, v21);
-SET64(a4, 16, v20);
-SET64(a4, 8, v16);
-SET64(a4, 0, v8);
-v16 = (v15 + (v14 ^ 2305843009213693950ull)) * 56u;
-v8 = v17 + v16;
-TEST(v8);
-v20 = AT64(v8, 0);
-v21 = AT64(v8, 8);
-v25 = AT64(v8, 16);
-v26 = AT64(v8, 24);
-v28 = AT64(v8, 32);
-v29 = AT64(v8, 40);
-v16 = v16 + v22;
-TEST(v16);
-SET64(v16, 48, AT64(v8, 48));
-SET64(v16, 40, v29);
-SET64(v16, 32, v28);
-SET64(v16, 24, v26);
-SET64(v16, 16, v25);
-SET64(v16, 8, v21);
-SET64(v16, 0, v20);
-v16 = (v15 + (v14 ^ 2305843009213693949ull)) * 56u;
-v8 = v17 + v16;
-TEST(v8);
-v20 = AT64(v8, 0);
-v21 = AT64(v8, 8);
-v25 = AT64(v8, 16);
-v26 = AT64(v8, 24);
-v28 = AT64(v8, 32);
-v29 = AT64(v8, 40);
-v16 = v16 + v22;
-TEST(v16);
-SET64(v16, 48, AT64(v8, 48));
-SET64(v16, 40, v29);
-SET64(v16, 32, v28);
-SET64(v16, 24, v26);
-SET64(v16, 16, v25);
-SET64(v16, 8, v21);
-SET64(v16, 0, v20);
-v16 = (v15 + (v14 ^ 2305843009213693948ull)) * 56u;
-v8 = v17 + v16;
-TEST(v8);
-v20 = AT64(v8, 0);
-v21 = AT64(v8, 8);
-v25 = AT64(v8, 16);
-v26 = AT64(v8, 24);
-v28 = AT64(v8, 32);
-v29 = AT64(v8, 40);
-v16 = v16 + v22;
-TEST(v16);
-SET64(v16, 48, AT64(v8, 48));
-SET64(v16, 40, v29);
-SET64(v16, 32, v28);
-SET64(v16, 24, v26);
-SET64(v16, 16, v25);
-SET64(v16, 8, v21);
-SET64(v16, 0, v20);
-a4 = a4 - 224u;
-a3 = a3 - 224u;
-v14 = v14 + 4u;
-if (v18 != v14) goto L125;
-if (v7 == 0) goto L112;
-}
-a3 = v12 + v15;
-a4 = (((a3 * 56u) - (v14 * 56u)) + v10) - 56u;
-a3 = ((((a3 + v11) * 56u) - ((v9 + v14) * 56u)) + v10) - 56u;
-L126:;
-TEST(a3);
-v10 = AT64(a3, 0);
-v8 = AT64(a3, 8);
-v14 = AT64(a3, 16);
-v12 = AT64(a3, 24);
-v11 = AT64(a3, 32);
-v16 = AT64(a3, 40);
-TEST(a4);
-SET64(a4, 48, AT64(a3, 48));
-SET64(a4, 40, v16);
-SET64(a4, 32, v11);
-SET64(a4, 24, v12);
-SET64(a4, 16, v14);
-SET64(a4, 8, v8);
-SET64(a4, 0, v10);
-a4 = a4 - 56u;
-a3 = a3 - 56u;
-v7 = v7 - 1u;
-if (!(v7 == 0)) goto L126;
-goto L112;
-}
-if (v9 <= v11) goto L112;
-v7 = v15 & 3u;
-v14 = 0u;
-if ((v9 - v13) <= 0xfffffffffffffffcull) {
-a3 = v9 * 56u;
-v16 = v10 + a3;
-v20 = v10 + (v11 * 56u);
-v22 = v15 & 0xfffffffffffffffcull;
-a4 = ((v13 * 56u) + v10) - 56u;
-a3 = ((((v11 + v13) * 56u) - a3) + v10) - 56u;
-L128:;
-TEST(a3);
-v8 = AT64(a3, 0);
-v12 = AT64(a3, 8);
-v17 = AT64(a3, 16);
-v18 = AT64(a3, 24);
-v21 = AT64(a3, 32);
-v25 = AT64(a3, 40);
-TEST(a4);
-SET64(a4, 48, AT64(a3, 48));
-SET64(a4, 40, v25);
-SET64(a4, 32, v21);
-SET64(a4, 24, v18);
-SET64(a4, 16, v17);
-SET64(a4, 8, v12);
-SET64(a4, 0, v8);
-v12 = (v15 + (v14 ^ 2305843009213693950ull)) * 56u;
-v8 = v20 + v12;
-TEST(v8);
-v17 = AT64(v8, 0);
-v18 = AT64(v8, 8);
-v21 = AT64(v8, 16);
-v25 = AT64(v8, 24);
-v26 = AT64(v8, 32);
-v28 = AT64(v8, 40);
-v12 = v12 + v16;
-TEST(v12);
-SET64(v12, 48, AT64(v8, 48));
-SET64(v12, 40, v28);
-SET64(v12, 32, v26);
-SET64(v12, 24, v25);
-SET64(v12, 16, v21);
-SET64(v12, 8, v18);
-SET64(v12, 0, v17);
-v12 = (v15 + (v14 ^ 2305843009213693949ull)) * 56u;
-v8 = v20 + v12;
-TEST(v8);
-v17 = AT64(v8, 0);
-v18 = AT64(v8, 8);
-v21 = AT64(v8, 16);
-v25 = AT64(v8, 24);
-v26 = AT64(v8, 32);
-v28 = AT64(v8, 40);
-v12 = v12 + v16;
-TEST(v12);
-SET64(v12, 48, AT64(v8, 48));
-SET64(v12, 40, v28);
-SET64(v12, 32, v26);
-SET64(v12, 24, v25);
-SET64(v12, 16, v21);
-SET64(v12, 8, v18);
-SET64(v12, 0, v17);
-v12 = (v15 + (v14 ^ 2305843009213693948ull)) * 56u;
-v8 = v20 + v12;
-TEST(v8);
-v17 = AT64(v8, 0);
-v18 = AT64(v8, 8);
-v21 = AT64(v8, 16);
-v25 = AT64(v8, 24);
-v26 = AT64(v8, 32);
-v28 = AT64(v8, 40);
-v12 = v12 + v16;
-TEST(v12);
-SET64(v12, 48, AT64(v8, 48));
-SET64(v12, 40, v28);
-SET64(v12, 32, v26);
-SET64(v12, 24, v25);
-SET64(v12, 16, v21);
-SET64(v12, 8, v18);
-SET64(v12, 0, v17);
-a4 = a4 - 224u;
-a3 = a3 - 224u;
-v14 = v14 + 4u;
-if (v22 != v14) goto L128;
-if (v7 == 0) goto L112;
-}
-a4 = (((v13 * 56u) - (v14 * 56u)) + v10) - 56u;
-a3 = ((((v11 + v13) * 56u) - ((v9 + v14) * 56u)) + v10) - 56u;
-L129:;
-TEST(a3);
-v10 = AT64(a3, 0);
-v8 = AT64(a3, 8);
-v14 = AT64(a3, 16);
-v12 = AT64(a3, 24);
-v11 = AT64(a3, 32);
-v16 = AT64(a3, 40);
-TEST(a4);
-SET64(a4, 48, AT64(a3, 48));
-SET64(a4, 40, v16);
-SET64(a4, 32, v11);
-SET64(a4, 24, v12);
-SET64(a4, 16, v14);
-SET64(a4, 8, v8);
-SET64(a4, 0, v10);
-a4 = a4 - 56u;
-a3 = a3 - 56u;
-v7 = v7 - 1u;
-if (v7 != 0u) goto L129;
+if (v7 < v14) {
+v15 = v14 - v7;
+v8 = v7;
+if (a3 >= 37u) {
+v9 = v13 + (v7 * 56u);
+v10 = v13 + (v14 * 56u);
 L112:;
-in_core_slots_Slots_move_over_28_mm_service_waiting_Waiting(RUD_AS v6 + 1288u, 0u, v13, v9);
+if ((v8 + v15) <= v8) {
+a3 = 1960u;
+L115:;
+COPY_FEW(a3 + v9, a3 + v10, 56u);
+a3 = a3 - 56u;
+if (a3 != 0xffffffffffffffc8ull) goto L115;
+goto L113;
+}
+a3 = 0u;
+L116:;
+COPY_FEW(a3 + v9, a3 + v10, 56u);
+a3 = a3 + 56u;
+if (a3 != 2016u) goto L116;
+L113:;
+v9 = v9 + 2016u;
+v10 = v10 + 2016u;
+v8 = v8 + 36u;
+a3 = v11 - v8;
+if (a3 > 36u) goto L112;
+}
+v10 = v8 * 56u;
+v9 = v8 + v15;
+v14 = v9 * 56u;
+if (v8 < v9) {
+if (v8 == v11) goto L109;
+v9 = v10 + v13;
+v10 = v13 + v14;
+L118:;
+COPY_FEW(v9, v10, 56u);
+v9 = v9 + 56u;
+v10 = v10 + 56u;
+a3 = a3 - 1u;
+if (!(a3 == 0)) goto L118;
+goto L109;
+}
+if (v8 == v11) goto L109;
+v8 = a3 * 56u;
+v9 = ((v10 + v8) + v13) - 56u;
+v10 = ((v8 + v14) + v13) - 56u;
+L119:;
+COPY_FEW(v9, v10, 56u);
+v9 = v9 - 56u;
+v10 = v10 - 56u;
+a3 = a3 - 1u;
+if (!(a3 == 0)) goto L119;
+goto L109;
+}
+if (v7 <= v14) goto L109;
+v9 = ((((v11 + v14) * 56u) - (v7 * 56u)) + v13) - 56u;
+v10 = ((v11 * 56u) + v13) - 56u;
+L120:;
+COPY_FEW(v10, v9, 56u);
+v10 = v10 - 56u;
+v9 = v9 - 56u;
+a3 = a3 - 1u;
+if (a3 != 0u) goto L120;
+L109:;
+in_core_slots_Slots_move_over_28_mm_service_waiting_Waiting(RUD_AS v6 + 1288u, 0u, v11, v7);
 SET64(v6, 1128, 0u);
-SET64(v6, 1120, v9);
+SET64(v6, 1120, v7);
 goto L23;
-L106:;
-if (v46) goto L22;
+L105:;
+if (v42) goto L22;
 in_std_alloc_vec_deque_VecDeque_close_gap_3582c41668958e92(RUD_AS v6 + 1096u);
 v10 = AT64(v6, 1104) - AT64(v6, 1128);
-if (v10 == v9) goto L22;
+if (v10 == v7) goto L22;
 v8 = AT64(v6, 1096) + (AT64(v6, 1120) * 56u);
-if (v9 == 1u) {
-TEST(v8);
-SET64(v6, 1336, AT64(v8, 48));
-SET64(v6, 1328, AT64(v8, 40));
-SET64(v6, 1320, AT64(v8, 32));
-SET64(v6, 1312, AT64(v8, 24));
-SET64(v6, 1304, AT64(v8, 16));
-SET64(v6, 1296, AT64(v8, 8));
-SET64(v6, 1288, AT64(v8, 0));
-v9 = 0u;
-v7 = v10 - 1u;
-a4 = v7;
-if (v7 >= 37u) {
-v10 = v8;
-L132:;
-a3 = 0u;
-L133:;
-a4 = a3 + v10;
-v14 = a4 + 104u;
-TEST(v14);
-TEST(a4);
-SET64(a4, 48, AT64(v14, 0));
-v13 = a4 + 96u;
-SET64(a4, 40, AT64(a4, 96));
-v12 = a4 + 88u;
-SET64(a4, 32, AT64(a4, 88));
-v11 = a4 + 80u;
-SET64(a4, 24, AT64(a4, 80));
-v16 = a4 + 72u;
-SET64(a4, 16, AT64(a4, 72));
-v15 = a4 + 64u;
-SET64(a4, 8, AT64(a4, 64));
-v20 = a4 + 56u;
-SET64(a4, 0, AT64(a4, 56));
-j0 = v20;
-v20 = a4 + 112u;
-SET64(a4, 56, AT64(v14, 8));
-j0 = v15;
-v15 = a4 + 120u;
-SET64(a4, 64, AT64(v14, 16));
-j0 = v16;
-v16 = a4 + 128u;
-SET64(a4, 72, AT64(v14, 24));
-j0 = v11;
-v11 = a4 + 136u;
-SET64(a4, 80, AT64(v14, 32));
-j0 = v12;
-v12 = a4 + 144u;
-SET64(a4, 88, AT64(v14, 40));
-j0 = v13;
-v13 = a4 + 152u;
-SET64(a4, 96, AT64(v14, 48));
-j0 = v14;
-v14 = a4 + 160u;
-SET64(a4, 104, AT64(a4, 160));
-SET64(a4, 160, AT64(a4, 216));
-SET64(a4, 152, AT64(a4, 208));
-SET64(a4, 144, AT64(a4, 200));
-SET64(a4, 136, AT64(a4, 192));
-SET64(a4, 128, AT64(a4, 184));
-SET64(a4, 120, AT64(a4, 176));
-SET64(a4, 112, AT64(a4, 168));
-a3 = a3 + 168u;
-if (a3 != 2016u) goto L133;
-v10 = v10 + 2016u;
-v9 = v9 + 36u;
-a4 = v7 - v9;
-if (a4 > 36u) goto L132;
-}
-if (v7 == v9) goto L134;
-a3 = a4 * 56u;
-if (a3 == 0) goto L134;
-a4 = v8 + (v9 * 56u);
-COPY(a4, a4 + 56u, a3);
-L134:;
-a3 = v8 + (v7 * 56u);
-TEST(a3);
-SET64(a3, 48, AT64(v6, 1336));
-SET64(a3, 40, AT64(v6, 1328));
-SET64(a3, 32, AT64(v6, 1320));
-SET64(a3, 24, AT64(v6, 1312));
-SET64(a3, 16, AT64(v6, 1304));
-SET64(a3, 8, AT64(v6, 1296));
-SET64(a3, 0, AT64(v6, 1288));
-goto L22;
-}
-a4 = v10 - v9;
-if (a4 == 1u) {
-a4 = v10 - 1u;
-a3 = v8 + (a4 * 56u);
-TEST(a3);
-SET64(v6, 1336, AT64(a3, 48));
-SET64(v6, 1328, AT64(a3, 40));
-SET64(v6, 1320, AT64(a3, 32));
-SET64(v6, 1312, AT64(a3, 24));
-SET64(v6, 1304, AT64(a3, 16));
-SET64(v6, 1296, AT64(a3, 8));
-SET64(v6, 1288, AT64(a3, 0));
-if (a4 == 0) goto L136;
-a3 = (v10 * 56u) - 56u;
-if (a3 == 0) goto L136;
-COPY(v8 + 56u, v8, a3);
-L136:;
-TEST(v8);
-SET64(v8, 48, AT64(v6, 1336));
-SET64(v8, 40, AT64(v6, 1328));
-SET64(v8, 32, AT64(v6, 1320));
-SET64(v8, 24, AT64(v6, 1312));
-SET64(v8, 16, AT64(v6, 1304));
-SET64(v8, 8, AT64(v6, 1296));
-SET64(v8, 0, AT64(v6, 1288));
-goto L22;
-}
-a3 = a4 < v9 ? a4 : v9;
-v7 = v10 - a3;
-v7 = (a3 * 56u) < 16u ? ((v7 * 56u) < 4097u ? v7 : a3) : a3;
-if ((v7 * 56u) < 4097u) goto L24;
+if (v7 == 1u) {
+COPY_FEW(v6 + 1288u, v8, 56u);
 v7 = 0u;
-if ((u32)(v9 < 32u) | (u32)(a4 < 32u)) goto L137;
-L138:;
-a3 = v7 + v9;
-v46 = a4 < v9;
-v14 = v46 ? a4 : v9;
-v13 = v8 + ((a3 - v14) * 56u);
-v12 = v8 + (a3 * 56u);
-v16 = 0u;
-v11 = RUD_G0 - 64u;
-if ((s64)v11 >= (s64)16u) {
-if (v14 == 0) goto L139;
-if (v14 != 1u) {
-v20 = v14 & 0xfffffffffffffffeull;
-a3 = v12;
-v10 = v13;
-j0 = v14 & 1u;
-L142:;
-TEST(v10);
-TEST(v11);
-SET64(v11, 56, AT64(v10, 48));
-SET64(v11, 48, AT64(v10, 40));
-SET64(v11, 40, AT64(v10, 32));
-SET64(v11, 32, AT64(v10, 24));
-SET64(v11, 24, AT64(v10, 16));
-SET64(v11, 16, AT64(v10, 8));
-SET64(v11, 8, AT64(v10, 0));
-TEST(a3);
-v22 = AT64(a3, 0);
-v17 = AT64(a3, 8);
-v24 = AT64(a3, 16);
-v18 = AT64(a3, 24);
-v21 = AT64(a3, 32);
-v25 = AT64(a3, 40);
-SET64(v10, 48, AT64(a3, 48));
-SET64(v10, 40, v25);
-SET64(v10, 32, v21);
-SET64(v10, 24, v18);
-SET64(v10, 16, v24);
-SET64(v10, 8, v17);
-SET64(v10, 0, v22);
-SET64(a3, 48, AT64(v11, 56));
-SET64(a3, 40, AT64(v11, 48));
-SET64(a3, 32, AT64(v11, 40));
-SET64(a3, 24, AT64(v11, 32));
-SET64(a3, 16, AT64(v11, 24));
-SET64(a3, 8, AT64(v11, 16));
-SET64(a3, 0, AT64(v11, 8));
-v22 = v10 + 104u;
-SET64(v11, 56, AT64(v10, 104));
-v17 = v10 + 96u;
-SET64(v11, 48, AT64(v10, 96));
-v24 = v10 + 88u;
-SET64(v11, 40, AT64(v10, 88));
-v18 = v10 + 80u;
-SET64(v11, 32, AT64(v10, 80));
-v21 = v10 + 72u;
-SET64(v11, 24, AT64(v10, 72));
-v25 = v10 + 64u;
-SET64(v11, 16, AT64(v10, 64));
-v26 = v10 + 56u;
-SET64(v11, 8, AT64(v10, 56));
-v28 = a3 + 56u;
-v29 = AT64(a3, 56);
-v35 = a3 + 64u;
-v36 = AT64(a3, 64);
-v37 = a3 + 72u;
-v38 = AT64(a3, 72);
-v39 = a3 + 80u;
-v40 = AT64(a3, 80);
-v30 = a3 + 88u;
-v41 = AT64(a3, 88);
-v33 = a3 + 96u;
-v34 = AT64(a3, 96);
-j1 = v22;
-v22 = a3 + 104u;
-SET64(v10, 104, AT64(a3, 104));
-SET64(v10, 96, v34);
-SET64(v10, 88, v41);
-SET64(v10, 80, v40);
-SET64(v10, 72, v38);
-SET64(v10, 64, v36);
-SET64(v10, 56, v29);
-SET64(a3, 104, AT64(v11, 56));
-SET64(a3, 96, AT64(v11, 48));
-SET64(a3, 88, AT64(v11, 40));
-SET64(a3, 80, AT64(v11, 32));
-SET64(a3, 72, AT64(v11, 24));
-SET64(a3, 64, AT64(v11, 16));
-SET64(a3, 56, AT64(v11, 8));
-a3 = a3 + 112u;
-v10 = v10 + 112u;
-v16 = v16 + 2u;
-if (v20 != v16) goto L142;
-if (j0 == 0) goto L139;
+v11 = v10 - 1u;
+a3 = v11;
+if (v11 >= 37u) {
+v10 = v8;
+L123:;
+a3 = 0u;
+L124:;
+v9 = a3 + v10;
+COPY_FEW(v9, v9 + 56u, 56u);
+a3 = a3 + 56u;
+if (a3 != 2016u) goto L124;
+v10 = v10 + 2016u;
+v7 = v7 + 36u;
+a3 = v11 - v7;
+if (a3 > 36u) goto L123;
 }
-v10 = v16 * 56u;
-a3 = v13 + v10;
-TEST(a3);
-TEST(v11);
-SET64(v11, 56, AT64(a3, 48));
-SET64(v11, 48, AT64(a3, 40));
-SET64(v11, 40, AT64(a3, 32));
-SET64(v11, 32, AT64(a3, 24));
-SET64(v11, 24, AT64(a3, 16));
-SET64(v11, 16, AT64(a3, 8));
-SET64(v11, 8, AT64(a3, 0));
-v10 = v10 + v12;
-TEST(v10);
-v13 = AT64(v10, 0);
-v12 = AT64(v10, 8);
-v16 = AT64(v10, 16);
-v15 = AT64(v10, 24);
-v20 = AT64(v10, 32);
-v22 = AT64(v10, 40);
-SET64(a3, 48, AT64(v10, 48));
-SET64(a3, 40, v22);
-SET64(a3, 32, v20);
-SET64(a3, 24, v15);
-SET64(a3, 16, v16);
-SET64(a3, 8, v12);
-SET64(a3, 0, v13);
-SET64(v10, 48, AT64(v11, 56));
-SET64(v10, 40, AT64(v11, 48));
-SET64(v10, 32, AT64(v11, 40));
-SET64(v10, 24, AT64(v11, 32));
-SET64(v10, 16, AT64(v11, 24));
-SET64(v10, 8, AT64(v11, 16));
-SET64(v10, 0, AT64(v11, 8));
-goto L139;
+if (v7 == v11) goto L125;
+a3 = a3 * 56u;
+if (a3 == 0) goto L125;
+v7 = v8 + (v7 * 56u);
+COPY(v7, v7 + 56u, a3);
+L125:;
+COPY_FEW(v8 + (v11 * 56u), v6 + 1288u, 56u);
+goto L22;
+}
+a3 = v10 - v7;
+if (a3 == 1u) {
+a3 = v10 - 1u;
+COPY_FEW(v6 + 1288u, v8 + (a3 * 56u), 56u);
+if (a3 == 0) goto L127;
+a3 = (v10 * 56u) - 56u;
+if (a3 == 0) goto L127;
+COPY(v8 + 56u, v8, a3);
+L127:;
+COPY_FEW(v8, v6 + 1288u, 56u);
+goto L22;
+}
+v11 = a3 < v7 ? a3 : v7;
+v9 = v10 - v11;
+v9 = (v11 * 56u) < 16u ? ((v9 * 56u) < 4097u ? v9 : v11) : v11;
+if ((v9 * 56u) < 4097u) goto L24;
+v10 = 0u;
+if ((u32)(v7 < 32u) | (u32)(a3 < 32u)) goto L128;
+L129:;
+v14 = v7 + v10;
+v42 = a3 < v7;
+v11 = v42 ? a3 : v7;
+v13 = v8 + ((v14 - v11) * 56u);
+v9 = v11;
+v14 = v8 + (v14 * 56u);
+v16 = RUD_G0 - 64u;
+if ((s64)v16 >= (s64)16u) {
+if (!(v9 == 0)) {
+L133:;
+v15 = v16 + 8u;
+COPY_FEW(v15, v13, 56u);
+COPY_FEW(v13, v14, 56u);
+COPY_FEW(v14, v15, 56u);
+v13 = v13 + 56u;
+v14 = v14 + 56u;
+v9 = v9 - 1u;
+if (v9 != 0u) goto L133;
+}
+goto L130;
 }
 rud_trap();
-L139:;
-a3 = v46 ? 0ull : v14;
-v7 = a3 + v7;
-a4 = a4 - a3;
-v9 = v9 - (v46 ? v14 : 0ull);
-if (v9 < 32u) goto L137;
-if (a4 > 31u) goto L138;
-L137:;
-a3 = v7 + v9;
+L130:;
+v9 = v42 ? 0ull : v11;
+v10 = v9 + v10;
+a3 = a3 - v9;
+v7 = v7 - (v42 ? v11 : 0ull);
+if (v7 < 32u) goto L128;
+if (a3 > 31u) goto L129;
+L128:;
+v7 = v7 + v10;
+in_core_slice_edits_reverse_between_28_mm_service_waiting_Waiting(RUD_AS v8, v10, v7);
+a3 = a3 + v7;
 in_core_slice_edits_reverse_between_28_mm_service_waiting_Waiting(RUD_AS v8, v7, a3);
-j1 = a3;
-a3 = a3 + a4;
-in_core_slice_edits_reverse_between_28_mm_service_waiting_Waiting(RUD_AS v8, j1, a3);
-in_core_slice_edits_reverse_between_28_mm_service_waiting_Waiting(RUD_AS v8, v7, a3);
+in_core_slice_edits_reverse_between_28_mm_service_waiting_Waiting(RUD_AS v8, v10, a3);
 goto L22;
 L25:;
-in_std_alloc_arc_Arc_drop_c3b6ee2ab0dfb523(RUD_AS v23);
+in_std_alloc_arc_Arc_drop_c3b6ee2ab0dfb523(RUD_AS a4);
 RUD_AGAIN
 a1 = AT64(v6, 272);
 a2 = AT64(v6, 256);
 switch ((u32)(u64)AT8(v6, 248) - 1u) {
-case 0u: goto L158;
-case 1u: goto L157;
-case 2u: goto L156;
-case 3u: goto L155;
-case 4u: goto L154;
-case 5u: goto L153;
-case 6u: goto L152;
-case 7u: goto L151;
-case 8u: case 11u: goto L143;
-case 9u: goto L150;
-case 10u: goto L149;
-case 12u: goto L148;
-case 13u: goto L147;
-case 14u: goto L146;
-case 15u: goto L145;
-default: goto L159;
+case 0u: goto L149;
+case 1u: goto L148;
+case 2u: goto L147;
+case 3u: goto L146;
+case 4u: goto L145;
+case 5u: goto L144;
+case 6u: goto L143;
+case 7u: goto L142;
+case 8u: case 11u: goto L134;
+case 9u: goto L141;
+case 10u: goto L140;
+case 12u: goto L139;
+case 13u: goto L138;
+case 14u: goto L137;
+case 15u: goto L136;
+default: goto L150;
 }
-L159:;
-if (!(a1 == 0)) goto L144;
-goto L143;
-L158:;
-if (!(a1 == 0)) goto L144;
-goto L143;
-L157:;
-if (!(a1 == 0)) goto L144;
-goto L143;
-L156:;
-if (!(a1 == 0)) goto L144;
-goto L143;
-L155:;
-if (!(a1 == 0)) goto L144;
-goto L143;
-L154:;
-if (!(a1 == 0)) goto L144;
-goto L143;
-L153:;
-if (!(a1 == 0)) goto L144;
-goto L143;
-L152:;
-if (!(a1 == 0)) goto L144;
-goto L143;
-L151:;
-if (!(a1 == 0)) goto L144;
-goto L143;
 L150:;
-if (!(a1 == 0)) goto L144;
-goto L143;
+if (!(a1 == 0)) goto L135;
+goto L134;
 L149:;
-if (!(a1 == 0)) goto L144;
-goto L143;
+if (!(a1 == 0)) goto L135;
+goto L134;
 L148:;
-if (!(a1 == 0)) goto L144;
-goto L143;
+if (!(a1 == 0)) goto L135;
+goto L134;
 L147:;
-if (!(a1 == 0)) goto L144;
-goto L143;
+if (!(a1 == 0)) goto L135;
+goto L134;
 L146:;
-if (!(a1 == 0)) goto L144;
-goto L143;
+if (!(a1 == 0)) goto L135;
+goto L134;
 L145:;
-if (a1 == 0) goto L143;
+if (!(a1 == 0)) goto L135;
+goto L134;
 L144:;
+if (!(a1 == 0)) goto L135;
+goto L134;
+L143:;
+if (!(a1 == 0)) goto L135;
+goto L134;
+L142:;
+if (!(a1 == 0)) goto L135;
+goto L134;
+L141:;
+if (!(a1 == 0)) goto L135;
+goto L134;
+L140:;
+if (!(a1 == 0)) goto L135;
+goto L134;
+L139:;
+if (!(a1 == 0)) goto L135;
+goto L134;
+L138:;
+if (!(a1 == 0)) goto L135;
+goto L134;
+L137:;
+if (!(a1 == 0)) goto L135;
+goto L134;
+L136:;
+if (a1 == 0) goto L134;
+L135:;
 rud_dealloc(RUD_AS a2);
 RUD_AGAIN
-L143:;
+L134:;
 TEST(a0);
 SET32(a0, 0, 1025u);
 SET64(a0, 8, 0u);
 goto L1;
 L24:;
-a3 = v8;
-v12 = v10;
-a4 = v9;
-v9 = v7;
-v8 = 0u;
-v10 = RUD_G0 - 4096u;
-RUD_G0 = v10;
-if ((s64)v10 >= (s64)16u) {
-FILL(v10, 0u, 4096u);
-v13 = v12 - v9;
-if (a4 == v9) {
-v12 = v9 * 56u;
-if (v12 > (v10 - a3)) {
-v8 = v9 & 0xfffffffffffffffeull;
-v7 = v10;
-a4 = a3;
-j0 = v9 & 1u;
-L166:;
-TEST(a4);
-TEST(v7);
-SET64(v7, 48, AT64(a4, 48));
-SET64(v7, 40, AT64(a4, 40));
-SET64(v7, 32, AT64(a4, 32));
-SET64(v7, 24, AT64(a4, 24));
-SET64(v7, 16, AT64(a4, 16));
-SET64(v7, 8, AT64(a4, 8));
-SET64(v7, 0, AT64(a4, 0));
-SET64(v7, 56, AT64(a4, 56));
-SET64(v7, 64, AT64(a4, 64));
-SET64(v7, 72, AT64(a4, 72));
-SET64(v7, 80, AT64(a4, 80));
-SET64(v7, 88, AT64(a4, 88));
-SET64(v7, 96, AT64(a4, 96));
-SET64(v7, 104, AT64(a4, 104));
-a4 = a4 + 112u;
-v7 = v7 + 112u;
-v8 = v8 - 2u;
-if (!(v8 == 0)) goto L166;
-if (j0 == 0) goto L164;
-TEST(a4);
-TEST(v7);
-SET64(v7, 48, AT64(a4, 48));
-SET64(v7, 40, AT64(a4, 40));
-SET64(v7, 32, AT64(a4, 32));
-SET64(v7, 24, AT64(a4, 24));
-SET64(v7, 16, AT64(a4, 16));
-SET64(v7, 8, AT64(a4, 8));
-SET64(v7, 0, AT64(a4, 0));
-goto L164;
-}
-if (v12 == 0) goto L164;
-COPY(v10, a3, v12);
-L164:;
-v8 = v13;
-if (v8 >= 37u) {
-v11 = a3 + v12;
-v14 = a3;
-L168:;
-if ((v9 + v16) <= v16) {
-v8 = 0u;
-L171:;
-a4 = v8 + v11;
-v15 = GET64(a4 + 1960u, 0);
-v20 = GET64(a4 + 1968u, 0);
-v22 = GET64(a4 + 1976u, 0);
-v17 = GET64(a4 + 1984u, 0);
-v24 = GET64(a4 + 1992u, 0);
-v18 = GET64(a4 + 2000u, 0);
-v7 = v8 + v14;
-PUT64(v7 + 2008u, 0, GET64(a4 + 2008u, 0));
-PUT64(v7 + 2000u, 0, v18);
-PUT64(v7 + 1992u, 0, v24);
-PUT64(v7 + 1984u, 0, v17);
-PUT64(v7 + 1976u, 0, v22);
-PUT64(v7 + 1968u, 0, v20);
-PUT64(v7 + 1960u, 0, v15);
-v15 = GET64(a4 + 1904u, 0);
-v20 = GET64(a4 + 1912u, 0);
-v22 = GET64(a4 + 1920u, 0);
-v17 = GET64(a4 + 1928u, 0);
-v24 = GET64(a4 + 1936u, 0);
-v18 = GET64(a4 + 1944u, 0);
-PUT64(v7 + 1952u, 0, GET64(a4 + 1952u, 0));
-PUT64(v7 + 1944u, 0, v18);
-PUT64(v7 + 1936u, 0, v24);
-PUT64(v7 + 1928u, 0, v17);
-PUT64(v7 + 1920u, 0, v22);
-PUT64(v7 + 1912u, 0, v20);
-PUT64(v7 + 1904u, 0, v15);
-v15 = GET64(a4 + 1848u, 0);
-v20 = GET64(a4 + 1856u, 0);
-v22 = GET64(a4 + 1864u, 0);
-v17 = GET64(a4 + 1872u, 0);
-v24 = GET64(a4 + 1880u, 0);
-v18 = GET64(a4 + 1888u, 0);
-PUT64(v7 + 1896u, 0, GET64(a4 + 1896u, 0));
-PUT64(v7 + 1888u, 0, v18);
-PUT64(v7 + 1880u, 0, v24);
-PUT64(v7 + 1872u, 0, v17);
-PUT64(v7 + 1864u, 0, v22);
-PUT64(v7 + 1856u, 0, v20);
-PUT64(v7 + 1848u, 0, v15);
-v15 = GET64(a4 + 1792u, 0);
-v20 = GET64(a4 + 1800u, 0);
-v22 = GET64(a4 + 1808u, 0);
-v17 = GET64(a4 + 1816u, 0);
-v24 = GET64(a4 + 1824u, 0);
-v18 = GET64(a4 + 1832u, 0);
-PUT64(v7 + 1840u, 0, GET64(a4 + 1840u, 0));
-PUT64(v7 + 1832u, 0, v18);
-PUT64(v7 + 1824u, 0, v24);
-PUT64(v7 + 1816u, 0, v17);
-PUT64(v7 + 1808u, 0, v22);
-PUT64(v7 + 1800u, 0, v20);
-PUT64(v7 + 1792u, 0, v15);
-v8 = v8 - 224u;
-if (v8 != 0xfffffffffffff820ull) goto L171;
-goto L169;
-}
-v8 = 0xfffffffffffff820ull;
-L172:;
-a4 = v8 + v11;
-v15 = GET64(a4 + 2016u, 0);
-v20 = GET64(a4 + 2024u, 0);
-v22 = GET64(a4 + 2032u, 0);
-v17 = GET64(a4 + 2040u, 0);
-v24 = GET64(a4 + 2048u, 0);
-v18 = GET64(a4 + 2056u, 0);
-v7 = v8 + v14;
-PUT64(v7 + 2064u, 0, GET64(a4 + 2064u, 0));
-PUT64(v7 + 2056u, 0, v18);
-PUT64(v7 + 2048u, 0, v24);
-PUT64(v7 + 2040u, 0, v17);
-PUT64(v7 + 2032u, 0, v22);
-PUT64(v7 + 2024u, 0, v20);
-PUT64(v7 + 2016u, 0, v15);
-v15 = GET64(a4 + 2072u, 0);
-v20 = GET64(a4 + 2080u, 0);
-v22 = GET64(a4 + 2088u, 0);
-v17 = GET64(a4 + 2096u, 0);
-v24 = GET64(a4 + 2104u, 0);
-v18 = GET64(a4 + 2112u, 0);
-PUT64(v7 + 2120u, 0, GET64(a4 + 2120u, 0));
-PUT64(v7 + 2112u, 0, v18);
-PUT64(v7 + 2104u, 0, v24);
-PUT64(v7 + 2096u, 0, v17);
-PUT64(v7 + 2088u, 0, v22);
-PUT64(v7 + 2080u, 0, v20);
-PUT64(v7 + 2072u, 0, v15);
-v15 = GET64(a4 + 2128u, 0);
-v20 = GET64(a4 + 2136u, 0);
-v22 = GET64(a4 + 2144u, 0);
-v17 = GET64(a4 + 2152u, 0);
-v24 = GET64(a4 + 2160u, 0);
-v18 = GET64(a4 + 2168u, 0);
-PUT64(v7 + 2176u, 0, GET64(a4 + 2176u, 0));
-PUT64(v7 + 2168u, 0, v18);
-PUT64(v7 + 2160u, 0, v24);
-PUT64(v7 + 2152u, 0, v17);
-PUT64(v7 + 2144u, 0, v22);
-PUT64(v7 + 2136u, 0, v20);
-PUT64(v7 + 2128u, 0, v15);
-v15 = GET64(a4 + 2184u, 0);
-v20 = GET64(a4 + 2192u, 0);
-v22 = GET64(a4 + 2200u, 0);
-v17 = GET64(a4 + 2208u, 0);
-v24 = GET64(a4 + 2216u, 0);
-v18 = GET64(a4 + 2224u, 0);
-PUT64(v7 + 2232u, 0, GET64(a4 + 2232u, 0));
-PUT64(v7 + 2224u, 0, v18);
-PUT64(v7 + 2216u, 0, v24);
-PUT64(v7 + 2208u, 0, v17);
-PUT64(v7 + 2200u, 0, v22);
-PUT64(v7 + 2192u, 0, v20);
-PUT64(v7 + 2184u, 0, v15);
-v8 = v8 + 224u;
-if (!(v8 == 0)) goto L172;
-L169:;
-v14 = v14 + 2016u;
-v11 = v11 + 2016u;
-v16 = v16 + 36u;
-v8 = v13 - v16;
-if (v8 > 36u) goto L168;
-}
-v15 = v16 * 56u;
-a4 = v9 + v16;
-v20 = a4 * 56u;
-if (a4 > v16) {
-if (v13 == v16) goto L173;
-v11 = v8 & 3u;
-j0 = a3;
-j1 = v15;
-if ((v8 - 1u) >= 3u) {
-v14 = 0u;
-v16 = 0ull - (v8 & 60u);
-v8 = a3;
-L176:;
-a4 = v8 + v20;
-TEST(a4);
-v22 = AT64(a4, 0);
-v17 = AT64(a4, 8);
-v24 = AT64(a4, 16);
-v18 = AT64(a4, 24);
-v21 = AT64(a4, 32);
-v25 = AT64(a4, 40);
-v7 = v8 + v15;
-TEST(v7);
-SET64(v7, 48, AT64(a4, 48));
-SET64(v7, 40, v25);
-SET64(v7, 32, v21);
-SET64(v7, 24, v18);
-SET64(v7, 16, v24);
-SET64(v7, 8, v17);
-SET64(v7, 0, v22);
-v22 = AT64(a4, 56);
-v17 = AT64(a4, 64);
-v24 = AT64(a4, 72);
-v18 = AT64(a4, 80);
-v21 = AT64(a4, 88);
-v25 = AT64(a4, 96);
-SET64(v7, 104, AT64(a4, 104));
-SET64(v7, 96, v25);
-SET64(v7, 88, v21);
-SET64(v7, 80, v18);
-SET64(v7, 72, v24);
-SET64(v7, 64, v17);
-SET64(v7, 56, v22);
-v22 = AT64(a4, 112);
-v17 = AT64(a4, 120);
-v24 = AT64(a4, 128);
-v18 = AT64(a4, 136);
-v21 = AT64(a4, 144);
-v25 = AT64(a4, 152);
-SET64(v7, 160, AT64(a4, 160));
-SET64(v7, 152, v25);
-SET64(v7, 144, v21);
-SET64(v7, 136, v18);
-SET64(v7, 128, v24);
-SET64(v7, 120, v17);
-SET64(v7, 112, v22);
-v22 = AT64(a4, 168);
-v17 = AT64(a4, 176);
-v24 = AT64(a4, 184);
-v18 = AT64(a4, 192);
-v21 = AT64(a4, 200);
-v25 = AT64(a4, 208);
-SET64(v7, 216, AT64(a4, 216));
-SET64(v7, 208, v25);
-SET64(v7, 200, v21);
-SET64(v7, 192, v18);
-SET64(v7, 184, v24);
-SET64(v7, 176, v17);
-SET64(v7, 168, v22);
-v8 = v8 + 224u;
-v14 = v14 - 4u;
-if (v16 != v14) goto L176;
-if (v11 == 0) goto L173;
-j2 = 0ull - v14;
-} else {
-j2 = 0u;
-}
-a4 = j2 * 56u;
-v7 = j0 + (j1 + a4);
-a4 = a3 + (a4 + v20);
-L177:;
-TEST(a4);
-v8 = AT64(a4, 0);
-v14 = AT64(a4, 8);
-v16 = AT64(a4, 16);
-v15 = AT64(a4, 24);
-v20 = AT64(a4, 32);
-v22 = AT64(a4, 40);
-TEST(v7);
-SET64(v7, 48, AT64(a4, 48));
-SET64(v7, 40, v22);
-SET64(v7, 32, v20);
-SET64(v7, 24, v15);
-SET64(v7, 16, v16);
-SET64(v7, 8, v14);
-SET64(v7, 0, v8);
-v7 = v7 + 56u;
-a4 = a4 + 56u;
-v11 = v11 - 1u;
-if (!(v11 == 0)) goto L177;
-goto L173;
-}
-if (v13 == v16) goto L173;
-v22 = v8 & 3u;
-v14 = 0u;
-if ((v8 - 1u) >= 3u) {
-v17 = a3 + v15;
-v24 = a3 + v20;
-v18 = v8 & 60u;
-a4 = v8 * 56u;
-v7 = ((v15 + a4) + a3) - 56u;
-a4 = ((a4 + v20) + a3) - 56u;
-L179:;
-TEST(a4);
-v11 = AT64(a4, 0);
-v15 = AT64(a4, 8);
-v20 = AT64(a4, 16);
-v21 = AT64(a4, 24);
-v25 = AT64(a4, 32);
-v26 = AT64(a4, 40);
-TEST(v7);
-SET64(v7, 48, AT64(a4, 48));
-SET64(v7, 40, v26);
-SET64(v7, 32, v25);
-SET64(v7, 24, v21);
-SET64(v7, 16, v20);
-SET64(v7, 8, v15);
-SET64(v7, 0, v11);
-v15 = (v8 + (v14 ^ 2305843009213693950ull)) * 56u;
-v11 = v24 + v15;
-TEST(v11);
-v20 = AT64(v11, 0);
-v21 = AT64(v11, 8);
-v25 = AT64(v11, 16);
-v26 = AT64(v11, 24);
-v28 = AT64(v11, 32);
-v29 = AT64(v11, 40);
-v15 = v15 + v17;
-TEST(v15);
-SET64(v15, 48, AT64(v11, 48));
-SET64(v15, 40, v29);
-SET64(v15, 32, v28);
-SET64(v15, 24, v26);
-SET64(v15, 16, v25);
-SET64(v15, 8, v21);
-SET64(v15, 0, v20);
-v15 = (v8 + (v14 ^ 2305843009213693949ull)) * 56u;
-v11 = v24 + v15;
-TEST(v11);
-v20 = AT64(v11, 0);
-v21 = AT64(v11, 8);
-v25 = AT64(v11, 16);
-v26 = AT64(v11, 24);
-v28 = AT64(v11, 32);
-v29 = AT64(v11, 40);
-v15 = v15 + v17;
-TEST(v15);
-SET64(v15, 48, AT64(v11, 48));
-SET64(v15, 40, v29);
-SET64(v15, 32, v28);
-SET64(v15, 24, v26);
-SET64(v15, 16, v25);
-SET64(v15, 8, v21);
-SET64(v15, 0, v20);
-v15 = (v8 + (v14 ^ 2305843009213693948ull)) * 56u;
-v11 = v24 + v15;
-TEST(v11);
-v20 = AT64(v11, 0);
-v21 = AT64(v11, 8);
-v25 = AT64(v11, 16);
-v26 = AT64(v11, 24);
-v28 = AT64(v11, 32);
-v29 = AT64(v11, 40);
-v15 = v15 + v17;
-TEST(v15);
-SET64(v15, 48, AT64(v11, 48));
-SET64(v15, 40, v29);
-SET64(v15, 32, v28);
-SET64(v15, 24, v26);
-SET64(v15, 16, v25);
-SET64(v15, 8, v21);
-SET64(v15, 0, v20);
-v7 = v7 - 224u;
-a4 = a4 - 224u;
-v14 = v14 + 4u;
-if (v18 != v14) goto L179;
-if (v22 == 0) goto L173;
-}
-a4 = v8 + v16;
-v8 = v14 * 56u;
-v7 = (((a4 * 56u) - v8) + a3) - 56u;
-a4 = ((((a4 + v9) * 56u) - v8) + a3) - 56u;
-L180:;
-TEST(a4);
-v8 = AT64(a4, 0);
-v14 = AT64(a4, 8);
-v11 = AT64(a4, 16);
-v16 = AT64(a4, 24);
-v15 = AT64(a4, 32);
-v20 = AT64(a4, 40);
-TEST(v7);
-SET64(v7, 48, AT64(a4, 48));
-SET64(v7, 40, v20);
-SET64(v7, 32, v15);
-SET64(v7, 24, v16);
-SET64(v7, 16, v11);
-SET64(v7, 8, v14);
-SET64(v7, 0, v8);
-v7 = v7 - 56u;
-a4 = a4 - 56u;
-v22 = v22 - 1u;
-if (v22 != 0u) goto L180;
-L173:;
-v7 = a3 + (v13 * 56u);
-if (v12 > (v7 - v10)) {
-v8 = v9 & 0xfffffffffffffffeull;
-a4 = v10;
-j0 = v9 & 1u;
-L182:;
-TEST(a4);
-TEST(v7);
-SET64(v7, 48, AT64(a4, 48));
-SET64(v7, 40, AT64(a4, 40));
-SET64(v7, 32, AT64(a4, 32));
-SET64(v7, 24, AT64(a4, 24));
-SET64(v7, 16, AT64(a4, 16));
-SET64(v7, 8, AT64(a4, 8));
-SET64(v7, 0, AT64(a4, 0));
-SET64(v7, 56, AT64(a4, 56));
-SET64(v7, 64, AT64(a4, 64));
-SET64(v7, 72, AT64(a4, 72));
-SET64(v7, 80, AT64(a4, 80));
-SET64(v7, 88, AT64(a4, 88));
-SET64(v7, 96, AT64(a4, 96));
-SET64(v7, 104, AT64(a4, 104));
-a4 = a4 + 112u;
-v7 = v7 + 112u;
-v8 = v8 - 2u;
-if (!(v8 == 0)) goto L182;
-if (j0 == 0) goto L162;
-TEST(a4);
-TEST(v7);
-SET64(v7, 48, AT64(a4, 48));
-SET64(v7, 40, AT64(a4, 40));
-SET64(v7, 32, AT64(a4, 32));
-SET64(v7, 24, AT64(a4, 24));
-SET64(v7, 16, AT64(a4, 16));
-SET64(v7, 8, AT64(a4, 8));
-SET64(v7, 0, AT64(a4, 0));
-goto L162;
-}
-if (v12 == 0) goto L162;
-COPY(v7, v10, v12);
-goto L162;
-}
+v14 = v10;
+a3 = RUD_G0 - 4096u;
+RUD_G0 = a3;
+if ((s64)a3 >= (s64)16u) {
+FILL(a3, 0u, 4096u);
+v13 = v14 - v9;
+if (v7 == v9) {
 v16 = v9 * 56u;
-v14 = a3 + (v13 * 56u);
-if (v16 > (v10 - v14)) {
-if (v9 == 0) goto L184;
-if (v9 != 1u) {
-v15 = v9 & 0xfffffffffffffffeull;
-v7 = v10;
-a4 = v14;
-j0 = v9 & 1u;
-L188:;
-TEST(a4);
-TEST(v7);
-SET64(v7, 48, AT64(a4, 48));
-SET64(v7, 40, AT64(a4, 40));
-SET64(v7, 32, AT64(a4, 32));
-SET64(v7, 24, AT64(a4, 24));
-SET64(v7, 16, AT64(a4, 16));
-SET64(v7, 8, AT64(a4, 8));
-SET64(v7, 0, AT64(a4, 0));
-SET64(v7, 56, AT64(a4, 56));
-SET64(v7, 64, AT64(a4, 64));
-SET64(v7, 72, AT64(a4, 72));
-SET64(v7, 80, AT64(a4, 80));
-SET64(v7, 88, AT64(a4, 88));
-SET64(v7, 96, AT64(a4, 96));
-SET64(v7, 104, AT64(a4, 104));
-a4 = a4 + 112u;
-v7 = v7 + 112u;
-v8 = v8 + 2u;
-if (v15 != v8) goto L188;
-if (j0 == 0) goto L185;
+if (v16 > (a3 - v8)) {
+v7 = a3;
+v10 = v8;
+v11 = v9;
+L157:;
+COPY_FEW(v7, v10, 56u);
+v7 = v7 + 56u;
+v10 = v10 + 56u;
+v11 = v11 - 1u;
+if (!(v11 == 0)) goto L157;
+goto L155;
 }
-v7 = v8 * 56u;
-a4 = v10 + v7;
-v7 = v7 + v14;
-TEST(v7);
-TEST(a4);
-SET64(a4, 48, AT64(v7, 48));
-SET64(a4, 40, AT64(v7, 40));
-SET64(a4, 32, AT64(v7, 32));
-SET64(a4, 24, AT64(v7, 24));
-SET64(a4, 16, AT64(v7, 16));
-SET64(a4, 8, AT64(v7, 8));
-SET64(a4, 0, AT64(v7, 0));
-goto L185;
-}
-if (!(v16 == 0)) {
-COPY(v10, v14, v16);
-}
-if (v9 == 0) goto L184;
-L185:;
-if (v9 == v12) goto L190;
-v14 = v13 & 3u;
-v11 = 0u;
-if ((v9 - v12) <= 0xfffffffffffffffcull) {
-v15 = a3 + v16;
-v20 = v9 * 0xffffffffffffffc8ull;
-v22 = v13 & 0xfffffffffffffffcull;
-v7 = ((v12 * 56u) + a3) - 56u;
-L192:;
-a4 = v7 + v20;
-TEST(a4);
-v8 = AT64(a4, 0);
-v17 = AT64(a4, 8);
-v24 = AT64(a4, 16);
-v18 = AT64(a4, 24);
-v21 = AT64(a4, 32);
-v25 = AT64(a4, 40);
-TEST(v7);
-SET64(v7, 48, AT64(a4, 48));
-SET64(v7, 40, v25);
-SET64(v7, 32, v21);
-SET64(v7, 24, v18);
-SET64(v7, 16, v24);
-SET64(v7, 8, v17);
-SET64(v7, 0, v8);
-v8 = (v13 + (v11 ^ 2305843009213693950ull)) * 56u;
-a4 = a3 + v8;
-TEST(a4);
-v17 = AT64(a4, 0);
-v24 = AT64(a4, 8);
-v18 = AT64(a4, 16);
-v21 = AT64(a4, 24);
-v25 = AT64(a4, 32);
-v26 = AT64(a4, 40);
-v8 = v8 + v15;
-TEST(v8);
-SET64(v8, 48, AT64(a4, 48));
-SET64(v8, 40, v26);
-SET64(v8, 32, v25);
-SET64(v8, 24, v21);
-SET64(v8, 16, v18);
-SET64(v8, 8, v24);
-SET64(v8, 0, v17);
-v8 = (v13 + (v11 ^ 2305843009213693949ull)) * 56u;
-a4 = a3 + v8;
-TEST(a4);
-v17 = AT64(a4, 0);
-v24 = AT64(a4, 8);
-v18 = AT64(a4, 16);
-v21 = AT64(a4, 24);
-v25 = AT64(a4, 32);
-v26 = AT64(a4, 40);
-v8 = v8 + v15;
-TEST(v8);
-SET64(v8, 48, AT64(a4, 48));
-SET64(v8, 40, v26);
-SET64(v8, 32, v25);
-SET64(v8, 24, v21);
-SET64(v8, 16, v18);
-SET64(v8, 8, v24);
-SET64(v8, 0, v17);
-v8 = (v13 + (v11 ^ 2305843009213693948ull)) * 56u;
-a4 = a3 + v8;
-TEST(a4);
-v17 = AT64(a4, 0);
-v24 = AT64(a4, 8);
-v18 = AT64(a4, 16);
-v21 = AT64(a4, 24);
-v25 = AT64(a4, 32);
-v26 = AT64(a4, 40);
-v8 = v8 + v15;
-TEST(v8);
-SET64(v8, 48, AT64(a4, 48));
-SET64(v8, 40, v26);
-SET64(v8, 32, v25);
-SET64(v8, 24, v21);
-SET64(v8, 16, v18);
-SET64(v8, 8, v24);
-SET64(v8, 0, v17);
-v7 = v7 - 224u;
-v11 = v11 + 4u;
-if (v22 != v11) goto L192;
-if (v14 == 0) goto L190;
-}
-a4 = (v12 * 56u) - 56u;
-v7 = a3 + (a4 - (v11 * 56u));
-a4 = a3 + (a4 - ((v9 + v11) * 56u));
-L193:;
-TEST(a4);
-v8 = AT64(a4, 0);
-v13 = AT64(a4, 8);
-v12 = AT64(a4, 16);
-v11 = AT64(a4, 24);
-v15 = AT64(a4, 32);
-v20 = AT64(a4, 40);
-TEST(v7);
-SET64(v7, 48, AT64(a4, 48));
-SET64(v7, 40, v20);
-SET64(v7, 32, v15);
-SET64(v7, 24, v11);
-SET64(v7, 16, v12);
-SET64(v7, 8, v13);
-SET64(v7, 0, v8);
-v7 = v7 - 56u;
-a4 = a4 - 56u;
-v14 = v14 - 1u;
-if (v14 != 0u) goto L193;
-L190:;
-if ((a3 - v10) >= v16) goto L183;
-v8 = 0u;
-if (v9 != 1u) {
-j0 = v9 & 1u;
-v9 = v9 & 0xfffffffffffffffeull;
-v7 = v10;
-a4 = a3;
-L195:;
-TEST(v7);
-TEST(a4);
-SET64(a4, 48, AT64(v7, 48));
-SET64(a4, 40, AT64(v7, 40));
-SET64(a4, 32, AT64(v7, 32));
-SET64(a4, 24, AT64(v7, 24));
-SET64(a4, 16, AT64(v7, 16));
-SET64(a4, 8, AT64(v7, 8));
-SET64(a4, 0, AT64(v7, 0));
-SET64(a4, 56, AT64(v7, 56));
-SET64(a4, 64, AT64(v7, 64));
-SET64(a4, 72, AT64(v7, 72));
-SET64(a4, 80, AT64(v7, 80));
-SET64(a4, 88, AT64(v7, 88));
-SET64(a4, 96, AT64(v7, 96));
-SET64(a4, 104, AT64(v7, 104));
-v7 = v7 + 112u;
-a4 = a4 + 112u;
-v8 = v8 + 2u;
-if (v9 != v8) goto L195;
-if (j0 == 0) goto L162;
-}
-a4 = v8 * 56u;
-a3 = a3 + a4;
-a4 = a4 + v10;
-TEST(a4);
-TEST(a3);
-SET64(a3, 48, AT64(a4, 48));
-SET64(a3, 40, AT64(a4, 40));
-SET64(a3, 32, AT64(a4, 32));
-SET64(a3, 24, AT64(a4, 24));
-SET64(a3, 16, AT64(a4, 16));
-SET64(a3, 8, AT64(a4, 8));
-SET64(a3, 0, AT64(a4, 0));
-goto L162;
-L184:;
-if ((a3 - v10) < v16) goto L162;
-L183:;
-if (v16 == 0) goto L162;
-COPY(a3, v10, v16);
+if (v16 == 0) goto L155;
+COPY(a3, v8, v16);
+L155:;
+v14 = 0u;
+v7 = v13;
+if (v7 >= 37u) {
+v10 = v8 + v16;
+v11 = v8;
+L159:;
+if ((v9 + v14) <= v14) {
+v7 = 1960u;
 L162:;
-RUD_G0 = v10 + 4096u;
+COPY_FEW(v7 + v11, v7 + v10, 56u);
+v7 = v7 - 56u;
+if (v7 != 0xffffffffffffffc8ull) goto L162;
 goto L160;
 }
-rud_trap();
+v7 = 0u;
+L163:;
+COPY_FEW(v7 + v11, v7 + v10, 56u);
+v7 = v7 + 56u;
+if (v7 != 2016u) goto L163;
 L160:;
+v11 = v11 + 2016u;
+v10 = v10 + 2016u;
+v14 = v14 + 36u;
+v7 = v13 - v14;
+if (v7 > 36u) goto L159;
+}
+v10 = v14 * 56u;
+v15 = v9 + v14;
+v11 = v15 * 56u;
+if (v14 < v15) {
+if (v13 == v14) goto L164;
+v10 = v8 + v10;
+v11 = v8 + v11;
+L166:;
+COPY_FEW(v10, v11, 56u);
+v10 = v10 + 56u;
+v11 = v11 + 56u;
+v7 = v7 - 1u;
+if (!(v7 == 0)) goto L166;
+goto L164;
+}
+if (v13 == v14) goto L164;
+v14 = v7 * 56u;
+v10 = ((v10 + v14) + v8) - 56u;
+v11 = ((v11 + v14) + v8) - 56u;
+L167:;
+COPY_FEW(v10, v11, 56u);
+v10 = v10 - 56u;
+v11 = v11 - 56u;
+v7 = v7 - 1u;
+if (v7 != 0u) goto L167;
+L164:;
+v7 = v8 + (v13 * 56u);
+if (v16 > (v7 - a3)) {
+v10 = a3;
+L169:;
+COPY_FEW(v7, v10, 56u);
+v7 = v7 + 56u;
+v10 = v10 + 56u;
+v9 = v9 - 1u;
+if (!(v9 == 0)) goto L169;
+goto L153;
+}
+if (v16 == 0) goto L153;
+COPY(v7, a3, v16);
+goto L153;
+}
+v16 = v9 * 56u;
+v7 = v8 + (v13 * 56u);
+if (v16 > (a3 - v7)) {
+if (v9 == 0) goto L171;
+v10 = a3;
+v11 = v9;
+L174:;
+COPY_FEW(v10, v7, 56u);
+v10 = v10 + 56u;
+v7 = v7 + 56u;
+v11 = v11 - 1u;
+if (!(v11 == 0)) goto L174;
+goto L172;
+}
+if (!(v16 == 0)) {
+COPY(a3, v7, v16);
+}
+if (v9 == 0) goto L171;
+L172:;
+if (v9 != v14) {
+v10 = v9 * 0xffffffffffffffc8ull;
+v7 = ((v14 * 56u) + v8) - 56u;
+L177:;
+COPY_FEW(v7, v7 + v10, 56u);
+v7 = v7 - 56u;
+v13 = v13 - 1u;
+if (v13 != 0u) goto L177;
+}
+if ((v8 - a3) >= v16) goto L170;
+v7 = a3;
+L178:;
+COPY_FEW(v8, v7, 56u);
+v8 = v8 + 56u;
+v7 = v7 + 56u;
+v9 = v9 - 1u;
+if (v9 != 0u) goto L178;
+goto L153;
+L171:;
+if ((v8 - a3) < v16) goto L153;
+L170:;
+if (v16 == 0) goto L153;
+COPY(v8, a3, v16);
+L153:;
+RUD_G0 = a3 + 4096u;
+goto L151;
+}
+rud_trap();
+L151:;
 goto L22;
 L23:;
-SET64(v6, 1112, v24);
-SET64(v6, 1104, v13);
+SET64(v6, 1112, v16);
+SET64(v6, 1104, v11);
 L22:;
 in_std_alloc_vec_deque_VecDeque_close_gap_3582c41668958e92(RUD_AS v6 + 1096u);
-a4 = AT64(v6, 1104);
+a3 = AT64(v6, 1104);
 j0 = AT64(v6, 1112);
 L21:;
-a3 = j0;
-v7 = AT64(v6, 1096);
-if ((a3 - a4) >= v27) {
-v8 = a3;
-goto L197;
+v8 = j0;
+v10 = AT64(v6, 1096);
+if ((v8 - a3) >= v12) {
+v7 = v8;
+goto L180;
 }
-if (v27 > (a4 ^ 0xffffffffffffffffull)) goto L196;
-v8 = a4 + v27;
-if (v8 > 164703072086692425ull) goto L196;
-if (!(a3 == 0)) {
+if (v12 > (a3 ^ 0xffffffffffffffffull)) goto L179;
+v7 = a3 + v12;
+if (v7 > 164703072086692425ull) goto L179;
+if (!(v8 == 0)) {
 SET64(v6, 1296, 0u);
 SET64(v6, 1288, 0u);
-rud_realloc(RUD_AS v6 + 1288u, v7, a4 * 56u, v8 * 56u, 8u);
+rud_realloc(RUD_AS v6 + 1288u, v10, a3 * 56u, v7 * 56u, 8u);
 RUD_AGAIN
-if (AT8(v6, 1288) == 0) goto L196;
-v7 = AT64(v6, 1296);
-goto L197;
+if (AT8(v6, 1288) == 0) goto L179;
+v10 = AT64(v6, 1296);
+goto L180;
 }
-in_std_heap_GlobalAllocator_allocate(RUD_AS v6 + 112u, v8 * 56u, 8u);
+in_std_heap_GlobalAllocator_allocate(RUD_AS v6 + 112u, v7 * 56u, 8u);
 RUD_AGAIN
-if (AT8(v6, 112)) goto L196;
-v7 = AT64(v6, 120);
-L197:;
+if (AT8(v6, 112)) goto L179;
+v10 = AT64(v6, 120);
+L180:;
 SET64(a1, 88, 0u);
-SET64(a1, 80, v8);
-SET64(a1, 72, a4);
-SET64(a1, 64, v7);
+SET64(a1, 80, v7);
+SET64(a1, 72, a3);
+SET64(a1, 64, v10);
 SET64(a1, 96, 0u);
 goto L20;
-L196:;
+L179:;
 SET64(a1, 88, 0u);
-SET64(a1, 80, a3);
-SET64(a1, 72, a4);
-SET64(a1, 64, v7);
+SET64(a1, 80, v8);
+SET64(a1, 72, a3);
+SET64(a1, 64, v10);
 SET64(a1, 96, 0u);
-in_std_alloc_arc_Arc_drop_c3b6ee2ab0dfb523(RUD_AS v23);
+in_std_alloc_arc_Arc_drop_c3b6ee2ab0dfb523(RUD_AS a4);
 RUD_AGAIN
 a1 = AT64(v6, 272);
 a2 = AT64(v6, 256);
 switch ((u32)(u64)AT8(v6, 248) - 1u) {
-case 0u: goto L215;
-case 1u: goto L214;
-case 2u: goto L213;
-case 3u: goto L212;
-case 4u: goto L211;
-case 5u: goto L210;
-case 6u: goto L209;
-case 7u: goto L208;
-case 8u: case 11u: goto L200;
-case 9u: goto L207;
-case 10u: goto L206;
-case 12u: goto L205;
-case 13u: goto L204;
-case 14u: goto L203;
-case 15u: goto L202;
-default: goto L216;
+case 0u: goto L198;
+case 1u: goto L197;
+case 2u: goto L196;
+case 3u: goto L195;
+case 4u: goto L194;
+case 5u: goto L193;
+case 6u: goto L192;
+case 7u: goto L191;
+case 8u: case 11u: goto L183;
+case 9u: goto L190;
+case 10u: goto L189;
+case 12u: goto L188;
+case 13u: goto L187;
+case 14u: goto L186;
+case 15u: goto L185;
+default: goto L199;
 }
-L216:;
-if (!(a1 == 0)) goto L201;
-goto L200;
-L215:;
-if (!(a1 == 0)) goto L201;
-goto L200;
-L214:;
-if (!(a1 == 0)) goto L201;
-goto L200;
-L213:;
-if (!(a1 == 0)) goto L201;
-goto L200;
-L212:;
-if (!(a1 == 0)) goto L201;
-goto L200;
-L211:;
-if (!(a1 == 0)) goto L201;
-goto L200;
-L210:;
-if (!(a1 == 0)) goto L201;
-goto L200;
-L209:;
-if (!(a1 == 0)) goto L201;
-goto L200;
-L208:;
-if (!(a1 == 0)) goto L201;
-goto L200;
-L207:;
-if (!(a1 == 0)) goto L201;
-goto L200;
-L206:;
-if (!(a1 == 0)) goto L201;
-goto L200;
-L205:;
-if (!(a1 == 0)) goto L201;
-goto L200;
-L204:;
-if (!(a1 == 0)) goto L201;
-goto L200;
-L203:;
-if (!(a1 == 0)) goto L201;
-goto L200;
-L202:;
-if (a1 == 0) goto L200;
-L201:;
+L199:;
+if (!(a1 == 0)) goto L184;
+goto L183;
+L198:;
+if (!(a1 == 0)) goto L184;
+goto L183;
+L197:;
+if (!(a1 == 0)) goto L184;
+goto L183;
+L196:;
+if (!(a1 == 0)) goto L184;
+goto L183;
+L195:;
+if (!(a1 == 0)) goto L184;
+goto L183;
+L194:;
+if (!(a1 == 0)) goto L184;
+goto L183;
+L193:;
+if (!(a1 == 0)) goto L184;
+goto L183;
+L192:;
+if (!(a1 == 0)) goto L184;
+goto L183;
+L191:;
+if (!(a1 == 0)) goto L184;
+goto L183;
+L190:;
+if (!(a1 == 0)) goto L184;
+goto L183;
+L189:;
+if (!(a1 == 0)) goto L184;
+goto L183;
+L188:;
+if (!(a1 == 0)) goto L184;
+goto L183;
+L187:;
+if (!(a1 == 0)) goto L184;
+goto L183;
+L186:;
+if (!(a1 == 0)) goto L184;
+goto L183;
+L185:;
+if (a1 == 0) goto L183;
+L184:;
 rud_dealloc(RUD_AS a2);
 RUD_AGAIN
-L200:;
+L183:;
 TEST(a0);
 SET32(a0, 0, 1u);
 SET64(a0, 8, 0u);
 goto L1;
 L20:;
-v9 = 0u;
+v16 = 0u;
 SET64(v6, 480, 0u);
 SET64(v6, 488, 0u);
 SET64(v6, 496, 0u);
@@ -20973,421 +17087,274 @@ SET64(v6, 528, 0u);
 SET64(v6, 520, 0u);
 SET64(v6, 512, 0u);
 SET64(v6, 504, 0u);
-switch (v47 - 1u) {
-case 0u: goto L242;
-case 1u: goto L241;
-case 2u: goto L240;
-case 3u: goto L239;
-case 4u: goto L238;
-case 5u: goto L237;
-case 6u: goto L236;
-case 7u: goto L235;
-case 8u: case 11u: goto L232;
-case 9u: goto L234;
-case 10u: goto L227;
-case 12u: goto L228;
-case 13u: goto L229;
-case 14u: goto L230;
-case 15u: goto L231;
-default: goto L233;
+switch (v43 - 1u) {
+case 0u: goto L225;
+case 1u: goto L224;
+case 2u: goto L223;
+case 3u: goto L222;
+case 4u: goto L221;
+case 5u: goto L220;
+case 6u: goto L219;
+case 7u: goto L218;
+case 8u: case 11u: goto L215;
+case 9u: goto L217;
+case 10u: goto L210;
+case 12u: goto L211;
+case 13u: goto L212;
+case 14u: goto L213;
+case 15u: goto L214;
+default: goto L216;
 }
-L242:;
+L225:;
 SET8(v6, 672, 1u);
 in_mm_memory_request_change_each(RUD_AS v6 + 720u, v19, v6 + 672u);
 RUD_AGAIN
-goto L226;
-L241:;
+goto L209;
+L224:;
 in_mm_memory_request_each_efff6ba37075a2ab(RUD_AS v6 + 720u, v19, 0u);
 RUD_AGAIN
-goto L226;
-L240:;
+goto L209;
+L223:;
 in_mm_memory_request_each_efff6ba37075a2ab(RUD_AS v6 + 720u, v19, 1u);
 RUD_AGAIN
-goto L226;
-L239:;
+goto L209;
+L222:;
 SET8(v6, 640, 3u);
 in_mm_memory_request_each_1d19660126d51927(RUD_AS v6 + 720u, v19, v6 + 640u);
 RUD_AGAIN
-goto L226;
-L238:;
-a4 = 0u;
+goto L209;
+L221:;
+v8 = 0u;
 SET64(v6, 775, 0u);
 SET64(v6, 768, 0u);
 SET64(v6, 760, 0u);
 SET64(v6, 752, 0u);
-v15 = AT64(v6, 256);
+v9 = AT64(v6, 256);
+v16 = AT64(v6, 264);
+SET64(v6, 807, 0u);
+SET64(v6, 800, 0u);
+SET64(v6, 792, 0u);
+SET64(v6, 784, 0u);
+SET64(v6, 416, v6 + 1704u);
+FILL_FEW(v6 + 816u, 0u, 45u);
+FILL_FEW(v6 + 912u, 0u, 45u);
+SET64(v6, 432, 0u);
+SET64(v6, 424, 0u);
+FILL_FEW(v6 + 1048u, 0u, 45u);
+v13 = 0u;
+if (v16 == 0) goto L227;
+v20 = v6 + 821u;
+v23 = v6 + 917u;
+v21 = v6 + 869u;
+v24 = v6 + 1053u;
+v14 = v6 + 1005u;
+v19 = v6 + 1493u;
+v12 = v6 + 1597u;
+v15 = v6 + 1101u;
+v22 = v6 + 1296u;
+v18 = v6 + 969u;
+v17 = v6 + 424u;
+a3 = v6 + 1704u;
+v11 = 0u;
+L228:;
+v7 = v13 - v11;
+a3 = a3 + (v13 * 48u);
+v10 = 0u;
+L230:;
+v25 = v6 + 1288u;
+FILL_FEW(v25, 0u, 48u);
+SET64(v6, 960, 0u);
+TEST(v9);
+SET64(v6, 336, AT64(v9, 0));
+v26 = AT64(v9, 8);
+v27 = AT64(v9, 16);
+SET32(v6, 969, 0u);
+SET32(v6, 972, 0u);
+SET8(v6, 968, 4u);
+SET64(v6, 992, v27);
+SET64(v6, 984, v26);
+SET64(v6, 976, 2u);
+in_mm_memory_validation_parsed(RUD_AS v25, v6 + 336u, v6 + 960u);
+v42 = AT8(v6, 1290);
+v44 = AT8(v6, 1289);
+v45 = AT8(v6, 1288);
+COPY_FEW(v15, v22, 40u);
+COPY_FEW(v12, v15, 40u);
+COPY_FEW(v19, v12, 40u);
+COPY_FEW(v14, v19, 40u);
+if ((v7 + v10) == 0) goto L229;
+TEST(a3);
+SET8(a3, 0, v45);
+SET8(a3, 2, v42);
+SET8(a3, 1, v44);
+COPY_FEW(a3 + 8u, v14, 40u);
+v9 = v9 + 24u;
+a3 = a3 + 48u;
+v10 = v10 + 1u;
+if (v16 != v10) goto L230;
+v13 = v10 + v13;
+goto L227;
+L229:;
+COPY_FEW(v24, v14, 40u);
+COPY_FEW(v6 + 864u, v6 + 1048u, 45u);
+SET64(v6, 432, v8);
+SET64(v6, 424, v11);
+COPY_FEW(v23, v21, 40u);
+COPY_FEW(v6 + 816u, v6 + 912u, 45u);
+v7 = (v10 ^ 0xffffffffffffffffull) + v16;
+i0 = in_std_alloc_vec_Vec_grow_by_hint_c7528f268d97bc21(RUD_AS v6 + 416u, v7);
+RUD_AGAIN
+if (i0 == 0) goto L226;
+v9 = v9 + 24u;
+v25 = v16 - 1u;
+a3 = AT64(v6, 416);
+v11 = AT64(v6, 424);
+v8 = a3 + (v11 * 48u);
+TEST(v8);
+SET8(v8, 0, v45);
+SET8(v8, 2, v42);
+SET8(v8, 1, v44);
+COPY_FEW(v8 + 8u, v20, 40u);
+FILL_FEW(v6 + 912u, 0u, 45u);
+SET64(v6, 424, 0u);
+v8 = AT64(v6, 432);
+SET64(v6, 432, 0u);
+FILL_FEW(v6 + 1048u, 0u, 45u);
+v13 = v11 + 1u;
+v11 = v13 == 0 ? 0ull : v8;
+v16 = v7;
+if (v10 != v25) goto L228;
+L227:;
+a3 = AT64(v6, 416);
+SET64(v6, 759, a3);
+SET64(v6, 767, v13);
+SET64(v6, 775, v8);
+SET8(v6, 720, 0u);
+SET64(v6, 744, v8);
+SET64(v6, 736, v13);
+SET64(v6, 728, a3);
+goto L209;
+L226:;
+if (!(AT64(v6, 432) == 0)) {
+rud_dealloc(RUD_AS AT64(v6, 416));
+RUD_AGAIN
+}
+SET64(v6, 728, 0u);
+SET8(v6, 720, 1u);
+SET64(v6, 736, 0u);
+SET64(v6, 744, 0u);
+goto L209;
+L220:;
+v13 = 0u;
+SET64(v6, 775, 0u);
+SET64(v6, 768, 0u);
+SET64(v6, 760, 0u);
+SET64(v6, 752, 0u);
+v9 = AT64(v6, 256);
 v7 = AT64(v6, 264);
 SET64(v6, 807, 0u);
 SET64(v6, 800, 0u);
 SET64(v6, 792, 0u);
 SET64(v6, 784, 0u);
 SET64(v6, 416, v6 + 1704u);
-SET64(v6, 853, 0u);
-SET64(v6, 848, 0u);
-SET64(v6, 840, 0u);
-SET64(v6, 832, 0u);
-SET64(v6, 824, 0u);
-SET64(v6, 816, 0u);
-SET64(v6, 424, 0u);
+FILL_FEW(v6 + 816u, 0u, 45u);
+FILL_FEW(v6 + 912u, 0u, 45u);
 SET64(v6, 432, 0u);
-SET64(v6, 912, 0u);
-SET64(v6, 920, 0u);
-SET64(v6, 928, 0u);
-SET64(v6, 936, 0u);
-SET64(v6, 944, 0u);
-SET64(v6, 949, 0u);
-SET64(v6, 1048, 0u);
-SET64(v6, 1056, 0u);
-SET64(v6, 1064, 0u);
-SET64(v6, 1072, 0u);
-SET64(v6, 1080, 0u);
-SET64(v6, 1085, 0u);
+SET64(v6, 424, 0u);
+FILL_FEW(v6 + 1048u, 0u, 45u);
 v12 = 0u;
-if (v7 == 0) goto L244;
-v20 = (v6 + 816u) | 5u;
-v27 = (v6 + 912u) | 5u;
-v22 = v6 + 869u;
-v17 = (v6 + 1048u) | 5u;
-v10 = v6 + 1005u;
-v9 = v6 + 1493u;
+if (v7 == 0) goto L233;
+v20 = v6 + 821u;
+v23 = v6 + 917u;
+v21 = v6 + 869u;
+v24 = v6 + 1053u;
+v14 = v6 + 1005u;
+v16 = v6 + 1493u;
 v19 = v6 + 1597u;
-v16 = v6 + 1101u;
-v24 = v6 + 1296u;
+v15 = v6 + 1101u;
+v22 = v6 + 1296u;
 v18 = v6 + 969u;
-v21 = v6 + 424u;
-v11 = v6 + 1704u;
+v17 = v6 + 424u;
+a3 = v6 + 1704u;
 v8 = 0u;
-L245:;
-a3 = v12 - v8;
-v14 = v11 + (v12 * 48u);
-v13 = 0u;
-L247:;
-SET64(v6, 1288, 0u);
-SET64(v6, 1296, 0u);
-SET64(v6, 1304, 0u);
-SET64(v6, 1312, 0u);
-SET64(v6, 1320, 0u);
-SET64(v6, 1328, 0u);
+L234:;
+v11 = v12 - v8;
+a3 = a3 + (v12 * 48u);
+v10 = 0u;
+L236:;
+v25 = v6 + 1288u;
+FILL_FEW(v25, 0u, 48u);
 SET64(v6, 960, 0u);
-TEST(v15);
-SET64(v6, 336, AT64(v15, 0));
-v11 = AT64(v15, 8);
-v25 = AT64(v15, 16);
-SET32(v6, 969, 0u);
-SET32(v6, 972, 0u);
-SET8(v6, 968, 4u);
-SET64(v6, 992, v25);
-SET64(v6, 984, v11);
-SET64(v6, 976, 2u);
-in_mm_memory_validation_parsed(RUD_AS v6 + 1288u, v6 + 336u, v6 + 960u);
-SET64(v6, 1101, AT64(v6, 1296));
-SET64(v6, 1109, AT64(v6, 1304));
-SET64(v6, 1117, AT64(v6, 1312));
-SET64(v6, 1125, AT64(v6, 1320));
-SET64(v6, 1133, AT64(v6, 1328));
-v46 = AT8(v6, 1290);
-v48 = AT8(v6, 1289);
-v49 = AT8(v6, 1288);
-SET64(v6, 1629, AT64(v6, 1133));
-SET64(v6, 1621, AT64(v6, 1125));
-SET64(v6, 1613, AT64(v6, 1117));
-SET64(v6, 1605, AT64(v6, 1109));
-SET64(v6, 1597, AT64(v6, 1101));
-SET64(v6, 1525, AT64(v6, 1629));
-SET64(v6, 1517, AT64(v6, 1621));
-SET64(v6, 1509, AT64(v6, 1613));
-SET64(v6, 1501, AT64(v6, 1605));
-SET64(v6, 1493, AT64(v6, 1597));
-SET64(v6, 1037, AT64(v6, 1525));
-SET64(v6, 1029, AT64(v6, 1517));
-SET64(v6, 1021, AT64(v6, 1509));
-SET64(v6, 1013, AT64(v6, 1501));
-SET64(v6, 1005, AT64(v6, 1493));
-if ((a3 + v13) == 0) goto L246;
-TEST(v14);
-SET8(v14, 2, v46);
-SET8(v14, 1, v48);
-SET8(v14, 0, v49);
-SET64(v14, 8, AT64(v6, 1005));
-SET64(v14, 16, AT64(v6, 1013));
-SET64(v14, 24, AT64(v6, 1021));
-SET64(v14, 32, AT64(v6, 1029));
-SET64(v14, 40, AT64(v6, 1037));
-v15 = v15 + 24u;
-v14 = v14 + 48u;
-v13 = v13 + 1u;
-if (v7 != v13) goto L247;
-v12 = v12 + v13;
-goto L244;
-L246:;
-TEST(v17);
-SET64(v17, 32, AT64(v6, 1037));
-SET64(v17, 24, AT64(v6, 1029));
-SET64(v17, 16, AT64(v6, 1021));
-SET64(v17, 8, AT64(v6, 1013));
-SET64(v17, 0, AT64(v6, 1005));
-SET64(v6, 864, AT64(v6, 1048));
-SET64(v6, 872, AT64(v6, 1056));
-SET64(v6, 880, AT64(v6, 1064));
-SET64(v6, 888, AT64(v6, 1072));
-SET64(v6, 896, AT64(v6, 1080));
-SET64(v6, 901, AT64(v6, 1085));
-TEST(v27);
-SET64(v27, 0, AT64(v6, 869));
-SET64(v27, 8, AT64(v6, 877));
-SET64(v27, 16, AT64(v6, 885));
-SET64(v27, 24, AT64(v6, 893));
-SET64(v27, 32, AT64(v6, 901));
-SET64(v6, 424, v8);
-SET64(v6, 432, a4);
-SET64(v6, 816, AT64(v6, 912));
-SET64(v6, 824, AT64(v6, 920));
-SET64(v6, 832, AT64(v6, 928));
-SET64(v6, 840, AT64(v6, 936));
-SET64(v6, 848, AT64(v6, 944));
-SET64(v6, 853, AT64(v6, 949));
-a3 = (v13 ^ 0xffffffffffffffffull) + v7;
-i0 = in_std_alloc_vec_Vec_grow_by_hint_c7528f268d97bc21(RUD_AS v6 + 416u, a3);
-RUD_AGAIN
-if (i0 == 0) goto L243;
-v15 = v15 + 24u;
-v14 = v7 - 1u;
-v11 = AT64(v6, 416);
-v7 = AT64(v6, 424);
-a4 = v11 + (v7 * 48u);
-TEST(a4);
-SET8(a4, 0, v49);
-SET8(a4, 2, v46);
-SET8(a4, 1, v48);
-TEST(v20);
-SET64(a4, 8, AT64(v20, 0));
-SET64(a4, 16, AT64(v20, 8));
-SET64(a4, 24, AT64(v20, 16));
-SET64(a4, 32, AT64(v20, 24));
-SET64(a4, 40, AT64(v20, 32));
-SET64(v6, 424, 0u);
-SET64(v6, 912, 0u);
-SET64(v6, 920, 0u);
-SET64(v6, 928, 0u);
-SET64(v6, 936, 0u);
-SET64(v6, 944, 0u);
-SET64(v6, 949, 0u);
-a4 = AT64(v6, 432);
-SET64(v6, 432, 0u);
-SET64(v6, 1048, 0u);
-SET64(v6, 1056, 0u);
-SET64(v6, 1064, 0u);
-SET64(v6, 1072, 0u);
-SET64(v6, 1080, 0u);
-SET64(v6, 1085, 0u);
-v12 = v7 + 1u;
-v8 = v12 == 0 ? 0ull : a4;
-v7 = a3;
-if (v13 != v14) goto L245;
-L244:;
-a3 = AT64(v6, 416);
-SET64(v6, 759, a3);
-SET64(v6, 767, v12);
-SET64(v6, 775, a4);
-SET8(v6, 720, 0u);
-SET64(v6, 744, a4);
-SET64(v6, 736, v12);
-SET64(v6, 728, a3);
-goto L226;
-L243:;
-if (!(AT64(v6, 432) == 0)) {
-rud_dealloc(RUD_AS AT64(v6, 416));
-RUD_AGAIN
-}
-SET64(v6, 728, 0u);
-SET8(v6, 720, 1u);
-SET64(v6, 736, 0u);
-SET64(v6, 744, 0u);
-goto L226;
-L237:;
-v12 = 0u;
-SET64(v6, 775, 0u);
-SET64(v6, 768, 0u);
-SET64(v6, 760, 0u);
-SET64(v6, 752, 0u);
-v7 = AT64(v6, 256);
-v10 = AT64(v6, 264);
-SET64(v6, 807, 0u);
-SET64(v6, 800, 0u);
-SET64(v6, 792, 0u);
-SET64(v6, 784, 0u);
-SET64(v6, 416, v6 + 1704u);
-SET64(v6, 853, 0u);
-SET64(v6, 848, 0u);
-SET64(v6, 840, 0u);
-SET64(v6, 832, 0u);
-SET64(v6, 824, 0u);
-SET64(v6, 816, 0u);
-SET64(v6, 424, 0u);
-SET64(v6, 432, 0u);
-SET64(v6, 912, 0u);
-SET64(v6, 920, 0u);
-SET64(v6, 928, 0u);
-SET64(v6, 936, 0u);
-SET64(v6, 944, 0u);
-SET64(v6, 949, 0u);
-SET64(v6, 1048, 0u);
-SET64(v6, 1056, 0u);
-SET64(v6, 1064, 0u);
-SET64(v6, 1072, 0u);
-SET64(v6, 1080, 0u);
-SET64(v6, 1085, 0u);
-if (v10 == 0) goto L250;
-v15 = (v6 + 816u) | 5u;
-v27 = (v6 + 912u) | 5u;
-v22 = v6 + 869u;
-v17 = (v6 + 1048u) | 5u;
-a4 = v6 + 1005u;
-v8 = v6 + 1493u;
-v19 = v6 + 1597u;
-v16 = v6 + 1101u;
-v24 = v6 + 1296u;
-v18 = v6 + 969u;
-v21 = v6 + 424u;
-v11 = v6 + 1704u;
-v20 = 0u;
-L251:;
-a3 = v9 - v20;
-v14 = v11 + (v9 * 48u);
-v13 = 0u;
-L253:;
-SET64(v6, 1288, 0u);
-SET64(v6, 1296, 0u);
-SET64(v6, 1304, 0u);
-SET64(v6, 1312, 0u);
-SET64(v6, 1320, 0u);
-SET64(v6, 1328, 0u);
-SET64(v6, 960, 0u);
-TEST(v7);
-SET64(v6, 336, AT64(v7, 0));
-v11 = AT64(v7, 8);
+TEST(v9);
+SET64(v6, 336, AT64(v9, 0));
+v26 = AT64(v9, 8);
 SET32(v6, 969, 0u);
 SET32(v6, 972, 0u);
 SET8(v6, 968, 4u);
 SET64(v6, 992, 0u);
-SET64(v6, 984, v11);
+SET64(v6, 984, v26);
 SET64(v6, 976, 4u);
-in_mm_memory_validation_parsed(RUD_AS v6 + 1288u, v6 + 336u, v6 + 960u);
-SET64(v6, 1101, AT64(v6, 1296));
-SET64(v6, 1109, AT64(v6, 1304));
-SET64(v6, 1117, AT64(v6, 1312));
-SET64(v6, 1125, AT64(v6, 1320));
-SET64(v6, 1133, AT64(v6, 1328));
-v46 = AT8(v6, 1290);
-v48 = AT8(v6, 1289);
-v49 = AT8(v6, 1288);
-SET64(v6, 1629, AT64(v6, 1133));
-SET64(v6, 1621, AT64(v6, 1125));
-SET64(v6, 1613, AT64(v6, 1117));
-SET64(v6, 1605, AT64(v6, 1109));
-SET64(v6, 1597, AT64(v6, 1101));
-SET64(v6, 1525, AT64(v6, 1629));
-SET64(v6, 1517, AT64(v6, 1621));
-SET64(v6, 1509, AT64(v6, 1613));
-SET64(v6, 1501, AT64(v6, 1605));
-SET64(v6, 1493, AT64(v6, 1597));
-SET64(v6, 1037, AT64(v6, 1525));
-SET64(v6, 1029, AT64(v6, 1517));
-SET64(v6, 1021, AT64(v6, 1509));
-SET64(v6, 1013, AT64(v6, 1501));
-SET64(v6, 1005, AT64(v6, 1493));
-if ((a3 + v13) == 0) goto L252;
-TEST(v14);
-SET8(v14, 2, v46);
-SET8(v14, 1, v48);
-SET8(v14, 0, v49);
-SET64(v14, 8, AT64(v6, 1005));
-SET64(v14, 16, AT64(v6, 1013));
-SET64(v14, 24, AT64(v6, 1021));
-SET64(v14, 32, AT64(v6, 1029));
-SET64(v14, 40, AT64(v6, 1037));
-v7 = v7 + 16u;
-v14 = v14 + 48u;
-v13 = v13 + 1u;
-if (v10 != v13) goto L253;
-v9 = v9 + v13;
-goto L250;
-L252:;
-TEST(v17);
-SET64(v17, 32, AT64(v6, 1037));
-SET64(v17, 24, AT64(v6, 1029));
-SET64(v17, 16, AT64(v6, 1021));
-SET64(v17, 8, AT64(v6, 1013));
-SET64(v17, 0, AT64(v6, 1005));
-SET64(v6, 864, AT64(v6, 1048));
-SET64(v6, 872, AT64(v6, 1056));
-SET64(v6, 880, AT64(v6, 1064));
-SET64(v6, 888, AT64(v6, 1072));
-SET64(v6, 896, AT64(v6, 1080));
-SET64(v6, 901, AT64(v6, 1085));
-TEST(v27);
-SET64(v27, 0, AT64(v6, 869));
-SET64(v27, 8, AT64(v6, 877));
-SET64(v27, 16, AT64(v6, 885));
-SET64(v27, 24, AT64(v6, 893));
-SET64(v27, 32, AT64(v6, 901));
-SET64(v6, 424, v20);
-SET64(v6, 432, v12);
-SET64(v6, 816, AT64(v6, 912));
-SET64(v6, 824, AT64(v6, 920));
-SET64(v6, 832, AT64(v6, 928));
-SET64(v6, 840, AT64(v6, 936));
-SET64(v6, 848, AT64(v6, 944));
-SET64(v6, 853, AT64(v6, 949));
-a3 = (v13 ^ 0xffffffffffffffffull) + v10;
-i0 = in_std_alloc_vec_Vec_grow_by_hint_c7528f268d97bc21(RUD_AS v6 + 416u, a3);
+in_mm_memory_validation_parsed(RUD_AS v25, v6 + 336u, v6 + 960u);
+v42 = AT8(v6, 1290);
+v44 = AT8(v6, 1289);
+v45 = AT8(v6, 1288);
+COPY_FEW(v15, v22, 40u);
+COPY_FEW(v19, v15, 40u);
+COPY_FEW(v16, v19, 40u);
+COPY_FEW(v14, v16, 40u);
+if ((v10 + v11) == 0) goto L235;
+TEST(a3);
+SET8(a3, 0, v45);
+SET8(a3, 2, v42);
+SET8(a3, 1, v44);
+COPY_FEW(a3 + 8u, v14, 40u);
+v9 = v9 + 16u;
+a3 = a3 + 48u;
+v10 = v10 + 1u;
+if (v7 != v10) goto L236;
+v12 = v10 + v12;
+goto L233;
+L235:;
+COPY_FEW(v24, v14, 40u);
+COPY_FEW(v6 + 864u, v6 + 1048u, 45u);
+SET64(v6, 432, v13);
+SET64(v6, 424, v8);
+COPY_FEW(v23, v21, 40u);
+COPY_FEW(v6 + 816u, v6 + 912u, 45u);
+v11 = (v10 ^ 0xffffffffffffffffull) + v7;
+i0 = in_std_alloc_vec_Vec_grow_by_hint_c7528f268d97bc21(RUD_AS v6 + 416u, v11);
 RUD_AGAIN
-if (i0 == 0) goto L249;
-v7 = v7 + 16u;
-v14 = v10 - 1u;
-v11 = AT64(v6, 416);
-v9 = AT64(v6, 424);
-v10 = v11 + (v9 * 48u);
-TEST(v10);
-SET8(v10, 0, v49);
-SET8(v10, 2, v46);
-SET8(v10, 1, v48);
-TEST(v15);
-SET64(v10, 8, AT64(v15, 0));
-SET64(v10, 16, AT64(v15, 8));
-SET64(v10, 24, AT64(v15, 16));
-SET64(v10, 32, AT64(v15, 24));
-SET64(v10, 40, AT64(v15, 32));
+if (i0 == 0) goto L232;
+v9 = v9 + 16u;
+v25 = v7 - 1u;
+a3 = AT64(v6, 416);
+v8 = AT64(v6, 424);
+v7 = a3 + (v8 * 48u);
+TEST(v7);
+SET8(v7, 0, v45);
+SET8(v7, 2, v42);
+SET8(v7, 1, v44);
+COPY_FEW(v7 + 8u, v20, 40u);
+FILL_FEW(v6 + 912u, 0u, 45u);
 SET64(v6, 424, 0u);
-SET64(v6, 912, 0u);
-SET64(v6, 920, 0u);
-SET64(v6, 928, 0u);
-SET64(v6, 936, 0u);
-SET64(v6, 944, 0u);
-SET64(v6, 949, 0u);
-v12 = AT64(v6, 432);
+v13 = AT64(v6, 432);
 SET64(v6, 432, 0u);
-SET64(v6, 1048, 0u);
-SET64(v6, 1056, 0u);
-SET64(v6, 1064, 0u);
-SET64(v6, 1072, 0u);
-SET64(v6, 1080, 0u);
-SET64(v6, 1085, 0u);
-v9 = v9 + 1u;
-v20 = v9 == 0 ? 0ull : v12;
-v10 = a3;
-if (v13 != v14) goto L251;
-L250:;
+FILL_FEW(v6 + 1048u, 0u, 45u);
+v12 = v8 + 1u;
+v8 = v12 == 0 ? 0ull : v13;
+v7 = v11;
+if (v10 != v25) goto L234;
+L233:;
 a3 = AT64(v6, 416);
 SET64(v6, 759, a3);
-SET64(v6, 767, v9);
-SET64(v6, 775, v12);
+SET64(v6, 767, v12);
+SET64(v6, 775, v13);
 SET8(v6, 720, 0u);
-SET64(v6, 744, v12);
-SET64(v6, 736, v9);
+SET64(v6, 744, v13);
+SET64(v6, 736, v12);
 SET64(v6, 728, a3);
-goto L226;
-L249:;
+goto L209;
+L232:;
 if (!(AT64(v6, 432) == 0)) {
 rud_dealloc(RUD_AS AT64(v6, 416));
 RUD_AGAIN
@@ -21396,733 +17363,150 @@ SET64(v6, 728, 0u);
 SET8(v6, 720, 1u);
 SET64(v6, 736, 0u);
 SET64(v6, 744, 0u);
-goto L226;
-L236:;
+goto L209;
+L219:;
 SET8(v6, 608, 3u);
 in_mm_memory_request_each_1d19660126d51927(RUD_AS v6 + 720u, v19, v6 + 608u);
 RUD_AGAIN
-goto L226;
-L235:;
+goto L209;
+L218:;
 SET8(v6, 584, 3u);
 in_mm_memory_request_change_each(RUD_AS v6 + 720u, v19, v6 + 584u);
 RUD_AGAIN
-goto L226;
-L234:;
-v12 = 0u;
+goto L209;
+L217:;
+v13 = 0u;
 SET64(v6, 775, 0u);
 SET64(v6, 768, 0u);
 SET64(v6, 760, 0u);
 SET64(v6, 752, 0u);
-v7 = AT64(v6, 256);
+v9 = AT64(v6, 256);
 v11 = AT64(v6, 264);
 SET64(v6, 807, 0u);
 SET64(v6, 800, 0u);
 SET64(v6, 792, 0u);
 SET64(v6, 784, 0u);
 SET64(v6, 416, v6 + 1704u);
-SET64(v6, 853, 0u);
-SET64(v6, 848, 0u);
-SET64(v6, 840, 0u);
-SET64(v6, 832, 0u);
-SET64(v6, 824, 0u);
-SET64(v6, 816, 0u);
-SET64(v6, 424, 0u);
+FILL_FEW(v6 + 816u, 0u, 45u);
+FILL_FEW(v6 + 912u, 0u, 45u);
 SET64(v6, 432, 0u);
-SET64(v6, 912, 0u);
-SET64(v6, 920, 0u);
-SET64(v6, 928, 0u);
-SET64(v6, 936, 0u);
-SET64(v6, 944, 0u);
-SET64(v6, 949, 0u);
-SET64(v6, 1048, 0u);
-SET64(v6, 1056, 0u);
-SET64(v6, 1064, 0u);
-SET64(v6, 1072, 0u);
-SET64(v6, 1080, 0u);
-SET64(v6, 1085, 0u);
-SET64(v6, 1000, 0u);
-SET64(v6, 1008, 0u);
-SET64(v6, 1016, 0u);
-SET64(v6, 1024, 0u);
-SET64(v6, 1032, 0u);
-SET64(v6, 1037, 0u);
-if (v11 == 0) goto L256;
-v27 = (v6 + 816u) | 5u;
-v22 = (v6 + 912u) | 5u;
-v17 = v6 + 869u;
-v24 = (v6 + 1048u) | 5u;
-a4 = (v6 + 1000u) | 5u;
-v13 = v6 + 1493u;
-v16 = v6 + 1597u;
-v15 = v6 + 1101u;
-v18 = v6 + 1296u;
-v21 = v6 + 978u;
-v10 = (v6 + 960u) | 2u;
-v25 = v6 + 424u;
-v8 = v6 + 1704u;
-v20 = 0u;
-L257:;
-a3 = v9 - v20;
-v14 = v8 + (v9 * 48u);
-v19 = 0u;
-L259:;
-SET64(v6, 1288, 0u);
-SET64(v6, 1296, 0u);
-SET64(v6, 1304, 0u);
-SET64(v6, 1312, 0u);
-SET64(v6, 1320, 0u);
-SET64(v6, 1328, 0u);
-SET64(v6, 960, 0u);
-SET64(v6, 968, 0u);
-SET64(v6, 976, 0u);
-SET64(v6, 984, 0u);
-SET64(v6, 992, 0u);
-TEST(v7);
-SET64(v6, 336, AT64(v7, 0));
-v46 = AT8(v7, 12);
-if (v46 <= 1u) {
-v48 = AT8(v7, 13);
-if (v48 >= 8u) goto L261;
-v49 = AT32(v7, 8);
-if ((v49 - 1u) < 1000000u) {
+SET64(v6, 424, 0u);
+FILL_FEW(v6 + 1048u, 0u, 45u);
+FILL_FEW(v6 + 1000u, 0u, 45u);
+v12 = 0u;
+if (v11 == 0) goto L239;
+v23 = v6 + 821u;
+v21 = v6 + 917u;
+v24 = v6 + 869u;
+v22 = v6 + 1053u;
+v14 = v6 + 1005u;
+v15 = v6 + 1493u;
+v18 = v6 + 1597u;
+v17 = v6 + 1101u;
+v25 = v6 + 1296u;
+v16 = v6 + 978u;
+v19 = (v6 + 960u) | 2u;
+v20 = v6 + 424u;
+a3 = v6 + 1704u;
+v8 = 0u;
+L240:;
+v7 = v12 - v8;
+a3 = a3 + (v12 * 48u);
+v10 = 0u;
+L242:;
+FILL_FEW(v6 + 1288u, 0u, 48u);
+FILL_FEW(v6 + 960u, 0u, 40u);
+TEST(v9);
+SET64(v6, 336, AT64(v9, 0));
+v42 = AT8(v9, 12);
+if (v42 <= 1u) {
+v44 = AT8(v9, 13);
+if (v44 >= 8u) goto L244;
+v45 = AT32(v9, 8);
+if ((v45 - 1u) < 1000000u) {
 SET64(v6, 978, 0u);
 SET64(v6, 986, 0u);
 SET64(v6, 992, 0u);
 SET32(v6, 968, 0u);
 SET64(v6, 960, 0u);
-SET8(v6, 977, v48);
-SET8(v6, 976, v46);
-SET32(v6, 972, v49);
-goto L260;
+SET8(v6, 977, v44);
+SET8(v6, 976, v42);
+SET32(v6, 972, v45);
+goto L243;
 }
-TEST(v10);
-SET64(v10, 0, 0u);
-SET64(v10, 8, 0u);
-SET64(v10, 16, 0u);
-SET64(v10, 24, 0u);
-SET64(v10, 30, 0u);
 SET16(v6, 960, 1537u);
-goto L260;
+FILL_FEW(v19, 0u, 38u);
+goto L243;
 }
-TEST(v10);
-SET64(v10, 0, 0u);
-SET64(v10, 8, 0u);
-SET64(v10, 16, 0u);
-SET64(v10, 24, 0u);
-SET64(v10, 30, 0u);
 SET16(v6, 960, 513u);
-goto L260;
-L261:;
-TEST(v10);
-SET64(v10, 0, 0u);
-SET64(v10, 8, 0u);
-SET64(v10, 16, 0u);
-SET64(v10, 24, 0u);
-SET64(v10, 30, 0u);
+FILL_FEW(v19, 0u, 38u);
+goto L243;
+L244:;
 SET16(v6, 960, 513u);
-L260:;
+FILL_FEW(v19, 0u, 38u);
+L243:;
 in_mm_memory_validation_parsed(RUD_AS v6 + 1288u, v6 + 336u, v6 + 960u);
-SET64(v6, 1101, AT64(v6, 1296));
-SET64(v6, 1109, AT64(v6, 1304));
-SET64(v6, 1117, AT64(v6, 1312));
-SET64(v6, 1125, AT64(v6, 1320));
-SET64(v6, 1133, AT64(v6, 1328));
-v46 = AT8(v6, 1290);
-v48 = AT8(v6, 1289);
-v49 = AT8(v6, 1288);
-SET64(v6, 1629, AT64(v6, 1133));
-SET64(v6, 1621, AT64(v6, 1125));
-SET64(v6, 1613, AT64(v6, 1117));
-SET64(v6, 1605, AT64(v6, 1109));
-SET64(v6, 1597, AT64(v6, 1101));
-SET64(v6, 1525, AT64(v6, 1629));
-SET64(v6, 1517, AT64(v6, 1621));
-SET64(v6, 1509, AT64(v6, 1613));
-SET64(v6, 1501, AT64(v6, 1605));
-SET64(v6, 1493, AT64(v6, 1597));
-TEST(a4);
-SET64(a4, 32, AT64(v6, 1525));
-SET64(a4, 24, AT64(v6, 1517));
-SET64(a4, 16, AT64(v6, 1509));
-SET64(a4, 8, AT64(v6, 1501));
-SET64(a4, 0, AT64(v6, 1493));
-if ((a3 + v19) == 0) goto L258;
-TEST(v14);
-SET8(v14, 2, v46);
-SET8(v14, 1, v48);
-SET8(v14, 0, v49);
-SET64(v14, 8, AT64(a4, 0));
-SET64(v14, 16, AT64(a4, 8));
-SET64(v14, 24, AT64(a4, 16));
-SET64(v14, 32, AT64(a4, 24));
-SET64(v14, 40, AT64(a4, 32));
-v7 = v7 + 16u;
-v14 = v14 + 48u;
-v19 = v19 + 1u;
-if (v11 != v19) goto L259;
-v9 = v9 + v19;
-goto L256;
-L258:;
-TEST(v24);
-SET64(v24, 32, AT64(a4, 32));
-SET64(v24, 24, AT64(a4, 24));
-SET64(v24, 16, AT64(a4, 16));
-SET64(v24, 8, AT64(a4, 8));
-SET64(v24, 0, AT64(a4, 0));
-SET64(v6, 864, AT64(v6, 1048));
-SET64(v6, 872, AT64(v6, 1056));
-SET64(v6, 880, AT64(v6, 1064));
-SET64(v6, 888, AT64(v6, 1072));
-SET64(v6, 896, AT64(v6, 1080));
-SET64(v6, 901, AT64(v6, 1085));
-TEST(v22);
-SET64(v22, 0, AT64(v6, 869));
-SET64(v22, 8, AT64(v6, 877));
-SET64(v22, 16, AT64(v6, 885));
-SET64(v22, 24, AT64(v6, 893));
-SET64(v22, 32, AT64(v6, 901));
-SET64(v6, 424, v20);
-SET64(v6, 432, v12);
-SET64(v6, 816, AT64(v6, 912));
-SET64(v6, 824, AT64(v6, 920));
-SET64(v6, 832, AT64(v6, 928));
-SET64(v6, 840, AT64(v6, 936));
-SET64(v6, 848, AT64(v6, 944));
-SET64(v6, 853, AT64(v6, 949));
-a3 = (v19 ^ 0xffffffffffffffffull) + v11;
-i0 = in_std_alloc_vec_Vec_grow_by_hint_c7528f268d97bc21(RUD_AS v6 + 416u, a3);
+v42 = AT8(v6, 1290);
+v44 = AT8(v6, 1289);
+v45 = AT8(v6, 1288);
+COPY_FEW(v17, v25, 40u);
+COPY_FEW(v18, v17, 40u);
+COPY_FEW(v15, v18, 40u);
+COPY_FEW(v14, v15, 40u);
+if ((v7 + v10) == 0) goto L241;
+TEST(a3);
+SET8(a3, 0, v45);
+SET8(a3, 2, v42);
+SET8(a3, 1, v44);
+COPY_FEW(a3 + 8u, v14, 40u);
+v9 = v9 + 16u;
+a3 = a3 + 48u;
+v10 = v10 + 1u;
+if (v11 != v10) goto L242;
+v12 = v10 + v12;
+goto L239;
+L241:;
+COPY_FEW(v22, v14, 40u);
+COPY_FEW(v6 + 864u, v6 + 1048u, 45u);
+SET64(v6, 432, v13);
+SET64(v6, 424, v8);
+COPY_FEW(v21, v24, 40u);
+COPY_FEW(v6 + 816u, v6 + 912u, 45u);
+v7 = (v10 ^ 0xffffffffffffffffull) + v11;
+i0 = in_std_alloc_vec_Vec_grow_by_hint_c7528f268d97bc21(RUD_AS v6 + 416u, v7);
 RUD_AGAIN
-if (i0 == 0) goto L255;
-v7 = v7 + 16u;
-v8 = AT64(v6, 416);
-j0 = v11 - 1u;
+if (i0 == 0) goto L238;
+v9 = v9 + 16u;
+v26 = v11 - 1u;
+a3 = AT64(v6, 416);
 v11 = AT64(v6, 424);
-v9 = v8 + (v11 * 48u);
-TEST(v9);
-SET8(v9, 0, v49);
-SET8(v9, 2, v46);
-SET8(v9, 1, v48);
-TEST(v27);
-SET64(v9, 8, AT64(v27, 0));
-SET64(v9, 16, AT64(v27, 8));
-SET64(v9, 24, AT64(v27, 16));
-SET64(v9, 32, AT64(v27, 24));
-SET64(v9, 40, AT64(v27, 32));
+v8 = a3 + (v11 * 48u);
+TEST(v8);
+SET8(v8, 0, v45);
+SET8(v8, 2, v42);
+SET8(v8, 1, v44);
+COPY_FEW(v8 + 8u, v23, 40u);
+FILL_FEW(v6 + 912u, 0u, 45u);
 SET64(v6, 424, 0u);
-SET64(v6, 912, 0u);
-SET64(v6, 920, 0u);
-SET64(v6, 928, 0u);
-SET64(v6, 936, 0u);
-SET64(v6, 944, 0u);
-SET64(v6, 949, 0u);
-v12 = AT64(v6, 432);
+v13 = AT64(v6, 432);
 SET64(v6, 432, 0u);
-SET64(v6, 1048, 0u);
-SET64(v6, 1056, 0u);
-SET64(v6, 1064, 0u);
-SET64(v6, 1072, 0u);
-SET64(v6, 1080, 0u);
-SET64(v6, 1085, 0u);
-SET64(v6, 1000, 0u);
-SET64(v6, 1008, 0u);
-SET64(v6, 1016, 0u);
-SET64(v6, 1024, 0u);
-SET64(v6, 1032, 0u);
-SET64(v6, 1037, 0u);
-v9 = v11 + 1u;
-v20 = v9 == 0 ? 0ull : v12;
-v11 = a3;
-if (j0 != v19) goto L257;
-L256:;
-a3 = AT64(v6, 416);
-SET64(v6, 759, a3);
-SET64(v6, 767, v9);
-SET64(v6, 775, v12);
-SET8(v6, 720, 0u);
-SET64(v6, 744, v12);
-SET64(v6, 736, v9);
-SET64(v6, 728, a3);
-goto L226;
-L255:;
-if (!(AT64(v6, 432) == 0)) {
-rud_dealloc(RUD_AS AT64(v6, 416));
-RUD_AGAIN
-}
-SET64(v6, 728, 0u);
-SET8(v6, 720, 1u);
-SET64(v6, 736, 0u);
-SET64(v6, 744, 0u);
-goto L226;
-L233:;
-in_mm_memory_request_change_each(RUD_AS v6 + 720u, v19, v6 + 696u);
-RUD_AGAIN
-goto L226;
-L232:;
-v10 = 0u;
-v49 = 1u;
-v14 = 0u;
-v15 = v6 + 1704u;
-j0 = v15;
-goto L225;
-L231:;
-SET64(v6, 775, 0u);
-SET64(v6, 768, 0u);
-SET64(v6, 760, 0u);
-SET64(v6, 752, 0u);
-v7 = AT64(v6, 256);
-v10 = AT64(v6, 264);
-SET64(v6, 807, 0u);
-SET64(v6, 800, 0u);
-SET64(v6, 792, 0u);
-SET64(v6, 784, 0u);
-SET64(v6, 416, v6 + 1704u);
-SET64(v6, 853, 0u);
-SET64(v6, 848, 0u);
-SET64(v6, 840, 0u);
-SET64(v6, 832, 0u);
-SET64(v6, 824, 0u);
-SET64(v6, 816, 0u);
-SET64(v6, 424, 0u);
-SET64(v6, 432, 0u);
-SET64(v6, 912, 0u);
-SET64(v6, 920, 0u);
-SET64(v6, 928, 0u);
-SET64(v6, 936, 0u);
-SET64(v6, 944, 0u);
-SET64(v6, 949, 0u);
-SET64(v6, 1048, 0u);
-SET64(v6, 1056, 0u);
-SET64(v6, 1064, 0u);
-SET64(v6, 1072, 0u);
-SET64(v6, 1080, 0u);
-SET64(v6, 1085, 0u);
-SET64(v6, 1000, 0u);
-SET64(v6, 1008, 0u);
-SET64(v6, 1016, 0u);
-SET64(v6, 1024, 0u);
-SET64(v6, 1032, 0u);
-SET64(v6, 1037, 0u);
-a4 = 0u;
-if (v10 == 0) goto L266;
-v15 = (v6 + 816u) | 5u;
-v20 = (v6 + 912u) | 5u;
-v27 = v6 + 869u;
-v22 = (v6 + 1048u) | 5u;
-v12 = (v6 + 1000u) | 5u;
-v11 = v6 + 1493u;
-v19 = v6 + 1597u;
-v16 = v6 + 1101u;
-v17 = v6 + 1296u;
-v18 = v6 + 978u;
-v24 = v6 + 970u;
-v21 = (v6 + 960u) | 2u;
-v25 = v6 + 424u;
-v14 = v6 + 1704u;
-v8 = 0u;
-L267:;
-a3 = a4 - v8;
-v14 = v14 + (a4 * 48u);
-v13 = 0u;
-L269:;
-SET64(v6, 1288, 0u);
-SET64(v6, 1296, 0u);
-SET64(v6, 1304, 0u);
-SET64(v6, 1312, 0u);
-SET64(v6, 1320, 0u);
-SET64(v6, 1328, 0u);
-SET64(v6, 960, 0u);
-SET64(v6, 968, 0u);
-TEST(v7);
-SET64(v6, 336, AT64(v7, 0));
-v46 = 7u;
-v48 = AT8(v7, 8);
-if (v48 <= 7u) {
-SET16(v6, 974, 0u);
-SET32(v6, 970, 0u);
-i0 = 4u;
-goto L270;
-}
-SET32(v6, 970, 0u);
-SET16(v6, 974, 0u);
-TEST(v21);
-SET32(v21, 0, 0u);
-SET16(v21, 4, 0u);
-SET16(v6, 960, 513u);
-v46 = 0u;
-v48 = 0u;
-i0 = 0u;
-L270:;
-v49 = i0;
-SET64(v6, 978, 0u);
-SET64(v6, 986, 0u);
-SET64(v6, 992, 0u);
-SET8(v6, 977, v48);
-SET8(v6, 976, v46);
-SET8(v6, 969, 0u);
-SET8(v6, 968, v49);
-in_mm_memory_validation_parsed(RUD_AS v6 + 1288u, v6 + 336u, v6 + 960u);
-SET64(v6, 1101, AT64(v6, 1296));
-SET64(v6, 1109, AT64(v6, 1304));
-SET64(v6, 1117, AT64(v6, 1312));
-SET64(v6, 1125, AT64(v6, 1320));
-SET64(v6, 1133, AT64(v6, 1328));
-v46 = AT8(v6, 1290);
-v48 = AT8(v6, 1289);
-v49 = AT8(v6, 1288);
-SET64(v6, 1629, AT64(v6, 1133));
-SET64(v6, 1621, AT64(v6, 1125));
-SET64(v6, 1613, AT64(v6, 1117));
-SET64(v6, 1605, AT64(v6, 1109));
-SET64(v6, 1597, AT64(v6, 1101));
-SET64(v6, 1525, AT64(v6, 1629));
-SET64(v6, 1517, AT64(v6, 1621));
-SET64(v6, 1509, AT64(v6, 1613));
-SET64(v6, 1501, AT64(v6, 1605));
-SET64(v6, 1493, AT64(v6, 1597));
-TEST(v12);
-SET64(v12, 32, AT64(v6, 1525));
-SET64(v12, 24, AT64(v6, 1517));
-SET64(v12, 16, AT64(v6, 1509));
-SET64(v12, 8, AT64(v6, 1501));
-SET64(v12, 0, AT64(v6, 1493));
-if ((a3 + v13) == 0) goto L268;
-TEST(v14);
-SET8(v14, 2, v46);
-SET8(v14, 1, v48);
-SET8(v14, 0, v49);
-SET64(v14, 8, AT64(v12, 0));
-SET64(v14, 16, AT64(v12, 8));
-SET64(v14, 24, AT64(v12, 16));
-SET64(v14, 32, AT64(v12, 24));
-SET64(v14, 40, AT64(v12, 32));
-v7 = v7 + 9u;
-v14 = v14 + 48u;
-v13 = v13 + 1u;
-if (v10 != v13) goto L269;
-a4 = a4 + v13;
-goto L266;
-L268:;
-TEST(v22);
-SET64(v22, 32, AT64(v12, 32));
-SET64(v22, 24, AT64(v12, 24));
-SET64(v22, 16, AT64(v12, 16));
-SET64(v22, 8, AT64(v12, 8));
-SET64(v22, 0, AT64(v12, 0));
-SET64(v6, 864, AT64(v6, 1048));
-SET64(v6, 872, AT64(v6, 1056));
-SET64(v6, 880, AT64(v6, 1064));
-SET64(v6, 888, AT64(v6, 1072));
-SET64(v6, 896, AT64(v6, 1080));
-SET64(v6, 901, AT64(v6, 1085));
-TEST(v20);
-SET64(v20, 0, AT64(v6, 869));
-SET64(v20, 8, AT64(v6, 877));
-SET64(v20, 16, AT64(v6, 885));
-SET64(v20, 24, AT64(v6, 893));
-SET64(v20, 32, AT64(v6, 901));
-SET64(v6, 424, v8);
-SET64(v6, 432, v9);
-SET64(v6, 816, AT64(v6, 912));
-SET64(v6, 824, AT64(v6, 920));
-SET64(v6, 832, AT64(v6, 928));
-SET64(v6, 840, AT64(v6, 936));
-SET64(v6, 848, AT64(v6, 944));
-SET64(v6, 853, AT64(v6, 949));
-a3 = (v13 ^ 0xffffffffffffffffull) + v10;
-i0 = in_std_alloc_vec_Vec_grow_by_hint_c7528f268d97bc21(RUD_AS v6 + 416u, a3);
-RUD_AGAIN
-if (i0 == 0) goto L265;
-v7 = v7 + 9u;
-v26 = v10 - 1u;
-v14 = AT64(v6, 416);
-v10 = AT64(v6, 424);
-a4 = v14 + (v10 * 48u);
-TEST(a4);
-SET8(a4, 0, v49);
-SET8(a4, 2, v46);
-SET8(a4, 1, v48);
-TEST(v15);
-SET64(a4, 8, AT64(v15, 0));
-SET64(a4, 16, AT64(v15, 8));
-SET64(a4, 24, AT64(v15, 16));
-SET64(a4, 32, AT64(v15, 24));
-SET64(a4, 40, AT64(v15, 32));
-SET64(v6, 424, 0u);
-SET64(v6, 912, 0u);
-SET64(v6, 920, 0u);
-SET64(v6, 928, 0u);
-SET64(v6, 936, 0u);
-SET64(v6, 944, 0u);
-SET64(v6, 949, 0u);
-v9 = AT64(v6, 432);
-SET64(v6, 432, 0u);
-SET64(v6, 1048, 0u);
-SET64(v6, 1056, 0u);
-SET64(v6, 1064, 0u);
-SET64(v6, 1072, 0u);
-SET64(v6, 1080, 0u);
-SET64(v6, 1085, 0u);
-SET64(v6, 1000, 0u);
-SET64(v6, 1008, 0u);
-SET64(v6, 1016, 0u);
-SET64(v6, 1024, 0u);
-SET64(v6, 1032, 0u);
-SET64(v6, 1037, 0u);
-a4 = v10 + 1u;
-v8 = a4 == 0 ? 0ull : v9;
-v10 = a3;
-if (v13 != v26) goto L267;
-L266:;
-a3 = AT64(v6, 416);
-SET64(v6, 759, a3);
-SET64(v6, 767, a4);
-SET64(v6, 775, v9);
-SET8(v6, 720, 0u);
-SET64(v6, 744, v9);
-SET64(v6, 736, a4);
-SET64(v6, 728, a3);
-goto L226;
-L265:;
-if (!(AT64(v6, 432) == 0)) {
-rud_dealloc(RUD_AS AT64(v6, 416));
-RUD_AGAIN
-}
-SET64(v6, 728, 0u);
-SET8(v6, 720, 1u);
-SET64(v6, 736, 0u);
-SET64(v6, 744, 0u);
-goto L226;
-L230:;
-SET16(v6, 504, 262u);
-in_mm_memory_request_change_each(RUD_AS v6 + 720u, v19, v6 + 504u);
-RUD_AGAIN
-goto L226;
-L229:;
-SET8(v6, 528, 6u);
-in_mm_memory_request_change_each(RUD_AS v6 + 720u, v19, v6 + 528u);
-RUD_AGAIN
-goto L226;
-L228:;
-a4 = 0u;
-SET64(v6, 775, 0u);
-SET64(v6, 768, 0u);
-SET64(v6, 760, 0u);
-SET64(v6, 752, 0u);
-v7 = AT64(v6, 256);
-v10 = AT64(v6, 264);
-SET64(v6, 807, 0u);
-SET64(v6, 800, 0u);
-SET64(v6, 792, 0u);
-SET64(v6, 784, 0u);
-SET64(v6, 416, v6 + 1704u);
-SET64(v6, 853, 0u);
-SET64(v6, 848, 0u);
-SET64(v6, 840, 0u);
-SET64(v6, 832, 0u);
-SET64(v6, 824, 0u);
-SET64(v6, 816, 0u);
-SET64(v6, 424, 0u);
-SET64(v6, 432, 0u);
-SET64(v6, 912, 0u);
-SET64(v6, 920, 0u);
-SET64(v6, 928, 0u);
-SET64(v6, 936, 0u);
-SET64(v6, 944, 0u);
-SET64(v6, 949, 0u);
-SET64(v6, 1048, 0u);
-SET64(v6, 1056, 0u);
-SET64(v6, 1064, 0u);
-SET64(v6, 1072, 0u);
-SET64(v6, 1080, 0u);
-SET64(v6, 1085, 0u);
-SET64(v6, 1000, 0u);
-SET64(v6, 1008, 0u);
-SET64(v6, 1016, 0u);
-SET64(v6, 1024, 0u);
-SET64(v6, 1032, 0u);
-SET64(v6, 1037, 0u);
-v12 = 0u;
-if (v10 == 0) goto L274;
-v15 = (v6 + 816u) | 5u;
-v20 = (v6 + 912u) | 5u;
-v27 = v6 + 869u;
-v22 = (v6 + 1048u) | 5u;
-v9 = (v6 + 1000u) | 5u;
-v11 = v6 + 1493u;
-v19 = v6 + 1597u;
-v16 = v6 + 1101u;
-v17 = v6 + 1296u;
-v18 = v6 + 984u;
-v24 = v6 + 970u;
-v21 = (v6 + 960u) | 2u;
-v25 = v6 + 424u;
-v14 = v6 + 1704u;
-v8 = 0u;
-L275:;
-a3 = v12 - v8;
-v14 = v14 + (v12 * 48u);
-v13 = 0u;
-L277:;
-SET64(v6, 1288, 0u);
-SET64(v6, 1296, 0u);
-SET64(v6, 1304, 0u);
-SET64(v6, 1312, 0u);
-SET64(v6, 1320, 0u);
-SET64(v6, 1328, 0u);
-SET64(v6, 960, 0u);
-SET64(v6, 968, 0u);
-TEST(v7);
-SET64(v6, 336, AT64(v7, 0));
-v46 = AT32(v7, 8);
-if ((v46 - 1u) <= 999999u) {
-SET16(v6, 974, 0u);
-SET32(v6, 970, 0u);
-v49 = 4u;
-i0 = 5u;
-goto L278;
-}
-v46 = 0u;
-SET32(v6, 970, 0u);
-SET16(v6, 974, 0u);
-TEST(v21);
-SET32(v21, 0, 0u);
-SET16(v21, 4, 0u);
-SET16(v6, 960, 1537u);
-v49 = 0u;
-i0 = 0u;
-L278:;
-v48 = i0;
-SET64(v6, 984, 0u);
-SET64(v6, 992, 0u);
-SET32(v6, 980, v46);
-SET16(v6, 978, 0u);
-SET8(v6, 977, 0u);
-SET8(v6, 976, v48);
-SET8(v6, 969, 0u);
-SET8(v6, 968, v49);
-in_mm_memory_validation_parsed(RUD_AS v6 + 1288u, v6 + 336u, v6 + 960u);
-SET64(v6, 1101, AT64(v6, 1296));
-SET64(v6, 1109, AT64(v6, 1304));
-SET64(v6, 1117, AT64(v6, 1312));
-SET64(v6, 1125, AT64(v6, 1320));
-SET64(v6, 1133, AT64(v6, 1328));
-v46 = AT8(v6, 1290);
-v48 = AT8(v6, 1289);
-v49 = AT8(v6, 1288);
-SET64(v6, 1629, AT64(v6, 1133));
-SET64(v6, 1621, AT64(v6, 1125));
-SET64(v6, 1613, AT64(v6, 1117));
-SET64(v6, 1605, AT64(v6, 1109));
-SET64(v6, 1597, AT64(v6, 1101));
-SET64(v6, 1525, AT64(v6, 1629));
-SET64(v6, 1517, AT64(v6, 1621));
-SET64(v6, 1509, AT64(v6, 1613));
-SET64(v6, 1501, AT64(v6, 1605));
-SET64(v6, 1493, AT64(v6, 1597));
-TEST(v9);
-SET64(v9, 32, AT64(v6, 1525));
-SET64(v9, 24, AT64(v6, 1517));
-SET64(v9, 16, AT64(v6, 1509));
-SET64(v9, 8, AT64(v6, 1501));
-SET64(v9, 0, AT64(v6, 1493));
-if ((a3 + v13) == 0) goto L276;
-TEST(v14);
-SET8(v14, 2, v46);
-SET8(v14, 1, v48);
-SET8(v14, 0, v49);
-SET64(v14, 8, AT64(v9, 0));
-SET64(v14, 16, AT64(v9, 8));
-SET64(v14, 24, AT64(v9, 16));
-SET64(v14, 32, AT64(v9, 24));
-SET64(v14, 40, AT64(v9, 32));
-v7 = v7 + 12u;
-v14 = v14 + 48u;
-v13 = v13 + 1u;
-if (v10 != v13) goto L277;
-v12 = v12 + v13;
-goto L274;
-L276:;
-TEST(v22);
-SET64(v22, 32, AT64(v9, 32));
-SET64(v22, 24, AT64(v9, 24));
-SET64(v22, 16, AT64(v9, 16));
-SET64(v22, 8, AT64(v9, 8));
-SET64(v22, 0, AT64(v9, 0));
-SET64(v6, 864, AT64(v6, 1048));
-SET64(v6, 872, AT64(v6, 1056));
-SET64(v6, 880, AT64(v6, 1064));
-SET64(v6, 888, AT64(v6, 1072));
-SET64(v6, 896, AT64(v6, 1080));
-SET64(v6, 901, AT64(v6, 1085));
-TEST(v20);
-SET64(v20, 0, AT64(v6, 869));
-SET64(v20, 8, AT64(v6, 877));
-SET64(v20, 16, AT64(v6, 885));
-SET64(v20, 24, AT64(v6, 893));
-SET64(v20, 32, AT64(v6, 901));
-SET64(v6, 424, v8);
-SET64(v6, 432, a4);
-SET64(v6, 816, AT64(v6, 912));
-SET64(v6, 824, AT64(v6, 920));
-SET64(v6, 832, AT64(v6, 928));
-SET64(v6, 840, AT64(v6, 936));
-SET64(v6, 848, AT64(v6, 944));
-SET64(v6, 853, AT64(v6, 949));
-a3 = (v13 ^ 0xffffffffffffffffull) + v10;
-i0 = in_std_alloc_vec_Vec_grow_by_hint_c7528f268d97bc21(RUD_AS v6 + 416u, a3);
-RUD_AGAIN
-if (i0 == 0) goto L273;
-v7 = v7 + 12u;
-v26 = v10 - 1u;
-v14 = AT64(v6, 416);
-v10 = AT64(v6, 424);
-a4 = v14 + (v10 * 48u);
-TEST(a4);
-SET8(a4, 0, v49);
-SET8(a4, 2, v46);
-SET8(a4, 1, v48);
-TEST(v15);
-SET64(a4, 8, AT64(v15, 0));
-SET64(a4, 16, AT64(v15, 8));
-SET64(a4, 24, AT64(v15, 16));
-SET64(a4, 32, AT64(v15, 24));
-SET64(a4, 40, AT64(v15, 32));
-SET64(v6, 424, 0u);
-SET64(v6, 912, 0u);
-SET64(v6, 920, 0u);
-SET64(v6, 928, 0u);
-SET64(v6, 936, 0u);
-SET64(v6, 944, 0u);
-SET64(v6, 949, 0u);
-a4 = AT64(v6, 432);
-SET64(v6, 432, 0u);
-SET64(v6, 1048, 0u);
-SET64(v6, 1056, 0u);
-SET64(v6, 1064, 0u);
-SET64(v6, 1072, 0u);
-SET64(v6, 1080, 0u);
-SET64(v6, 1085, 0u);
-SET64(v6, 1000, 0u);
-SET64(v6, 1008, 0u);
-SET64(v6, 1016, 0u);
-SET64(v6, 1024, 0u);
-SET64(v6, 1032, 0u);
-SET64(v6, 1037, 0u);
-v12 = v10 + 1u;
-v8 = v12 == 0 ? 0ull : a4;
-v10 = a3;
-if (v13 != v26) goto L275;
-L274:;
+FILL_FEW(v6 + 1048u, 0u, 45u);
+FILL_FEW(v6 + 1000u, 0u, 45u);
+v12 = v11 + 1u;
+v8 = v12 == 0 ? 0ull : v13;
+v11 = v7;
+if (v10 != v26) goto L240;
+L239:;
 a3 = AT64(v6, 416);
 SET64(v6, 759, a3);
 SET64(v6, 767, v12);
-SET64(v6, 775, a4);
+SET64(v6, 775, v13);
 SET8(v6, 720, 0u);
-SET64(v6, 744, a4);
+SET64(v6, 744, v13);
 SET64(v6, 736, v12);
 SET64(v6, 728, a3);
-goto L226;
-L273:;
+goto L209;
+L238:;
 if (!(AT64(v6, 432) == 0)) {
 rud_dealloc(RUD_AS AT64(v6, 416));
 RUD_AGAIN
@@ -22131,31 +17515,336 @@ SET64(v6, 728, 0u);
 SET8(v6, 720, 1u);
 SET64(v6, 736, 0u);
 SET64(v6, 744, 0u);
-goto L226;
-L227:;
+goto L209;
+L216:;
+in_mm_memory_request_change_each(RUD_AS v6 + 720u, v19, v6 + 696u);
+RUD_AGAIN
+goto L209;
+L215:;
+v45 = 1u;
+v10 = 0u;
+v15 = v6 + 1704u;
+j0 = v15;
+goto L208;
+L214:;
+SET64(v6, 775, 0u);
+SET64(v6, 768, 0u);
+SET64(v6, 760, 0u);
+SET64(v6, 752, 0u);
+v9 = AT64(v6, 256);
+v7 = AT64(v6, 264);
+SET64(v6, 807, 0u);
+SET64(v6, 800, 0u);
+SET64(v6, 792, 0u);
+SET64(v6, 784, 0u);
+SET64(v6, 416, v6 + 1704u);
+FILL_FEW(v6 + 816u, 0u, 45u);
+FILL_FEW(v6 + 912u, 0u, 45u);
+SET64(v6, 432, 0u);
+SET64(v6, 424, 0u);
+FILL_FEW(v6 + 1048u, 0u, 45u);
+FILL_FEW(v6 + 1000u, 0u, 45u);
+v8 = 0u;
+if (v7 == 0) goto L249;
+v21 = v6 + 821u;
+v24 = v6 + 917u;
+v22 = v6 + 869u;
+v25 = v6 + 1053u;
+v19 = v6 + 1005u;
+v15 = v6 + 1493u;
+v18 = v6 + 1597u;
+v17 = v6 + 1101u;
+v26 = v6 + 1296u;
+v12 = v6 + 978u;
+v14 = v6 + 970u;
+v20 = (v6 + 960u) | 2u;
+v23 = v6 + 424u;
+a3 = v6 + 1704u;
+v11 = 0u;
+L250:;
+v13 = v8 - v11;
+a3 = a3 + (v8 * 48u);
+v10 = 0u;
+L252:;
+v42 = 0u;
+FILL_FEW(v6 + 1288u, 0u, 48u);
+SET64(v6, 968, 0u);
+SET64(v6, 960, 0u);
+TEST(v9);
+SET64(v6, 336, AT64(v9, 0));
+v44 = 7u;
+v45 = AT8(v9, 8);
+if (v45 <= 7u) {
+SET16(v6, 974, 0u);
+SET32(v6, 970, 0u);
+v42 = 4u;
+goto L253;
+}
+SET32(v6, 970, 0u);
+SET16(v6, 974, 0u);
+TEST(v20);
+SET32(v20, 0, 0u);
+SET16(v20, 4, 0u);
+SET16(v6, 960, 513u);
+v44 = 0u;
+v45 = 0u;
+L253:;
+SET64(v6, 978, 0u);
+SET64(v6, 986, 0u);
+SET64(v6, 992, 0u);
+SET8(v6, 977, v45);
+SET8(v6, 976, v44);
+SET8(v6, 969, 0u);
+SET8(v6, 968, v42);
+in_mm_memory_validation_parsed(RUD_AS v6 + 1288u, v6 + 336u, v6 + 960u);
+v42 = AT8(v6, 1290);
+v44 = AT8(v6, 1289);
+v45 = AT8(v6, 1288);
+COPY_FEW(v17, v26, 40u);
+COPY_FEW(v18, v17, 40u);
+COPY_FEW(v15, v18, 40u);
+COPY_FEW(v19, v15, 40u);
+if ((v10 + v13) == 0) goto L251;
+TEST(a3);
+SET8(a3, 0, v45);
+SET8(a3, 2, v42);
+SET8(a3, 1, v44);
+COPY_FEW(a3 + 8u, v19, 40u);
+v9 = v9 + 9u;
+a3 = a3 + 48u;
+v10 = v10 + 1u;
+if (v7 != v10) goto L252;
+v8 = v8 + v10;
+goto L249;
+L251:;
+COPY_FEW(v25, v19, 40u);
+COPY_FEW(v6 + 864u, v6 + 1048u, 45u);
+SET64(v6, 432, v16);
+SET64(v6, 424, v11);
+COPY_FEW(v24, v22, 40u);
+COPY_FEW(v6 + 816u, v6 + 912u, 45u);
+v13 = (v10 ^ 0xffffffffffffffffull) + v7;
+i0 = in_std_alloc_vec_Vec_grow_by_hint_c7528f268d97bc21(RUD_AS v6 + 416u, v13);
+RUD_AGAIN
+if (i0 == 0) goto L248;
+v9 = v9 + 9u;
+v27 = v7 - 1u;
+a3 = AT64(v6, 416);
+v8 = AT64(v6, 424);
+v7 = a3 + (v8 * 48u);
+TEST(v7);
+SET8(v7, 0, v45);
+SET8(v7, 2, v42);
+SET8(v7, 1, v44);
+COPY_FEW(v7 + 8u, v21, 40u);
+FILL_FEW(v6 + 912u, 0u, 45u);
+SET64(v6, 424, 0u);
+v16 = AT64(v6, 432);
+SET64(v6, 432, 0u);
+FILL_FEW(v6 + 1048u, 0u, 45u);
+FILL_FEW(v6 + 1000u, 0u, 45u);
+v8 = v8 + 1u;
+v11 = v8 == 0 ? 0ull : v16;
+v7 = v13;
+if (v10 != v27) goto L250;
+L249:;
+a3 = AT64(v6, 416);
+SET64(v6, 759, a3);
+SET64(v6, 767, v8);
+SET64(v6, 775, v16);
+SET8(v6, 720, 0u);
+SET64(v6, 744, v16);
+SET64(v6, 736, v8);
+SET64(v6, 728, a3);
+goto L209;
+L248:;
+if (!(AT64(v6, 432) == 0)) {
+rud_dealloc(RUD_AS AT64(v6, 416));
+RUD_AGAIN
+}
+SET64(v6, 728, 0u);
+SET8(v6, 720, 1u);
+SET64(v6, 736, 0u);
+SET64(v6, 744, 0u);
+goto L209;
+L213:;
+SET16(v6, 504, 262u);
+in_mm_memory_request_change_each(RUD_AS v6 + 720u, v19, v6 + 504u);
+RUD_AGAIN
+goto L209;
+L212:;
+SET8(v6, 528, 6u);
+in_mm_memory_request_change_each(RUD_AS v6 + 720u, v19, v6 + 528u);
+RUD_AGAIN
+goto L209;
+L211:;
+v8 = 0u;
+SET64(v6, 775, 0u);
+SET64(v6, 768, 0u);
+SET64(v6, 760, 0u);
+SET64(v6, 752, 0u);
+v9 = AT64(v6, 256);
+v7 = AT64(v6, 264);
+SET64(v6, 807, 0u);
+SET64(v6, 800, 0u);
+SET64(v6, 792, 0u);
+SET64(v6, 784, 0u);
+SET64(v6, 416, v6 + 1704u);
+FILL_FEW(v6 + 816u, 0u, 45u);
+FILL_FEW(v6 + 912u, 0u, 45u);
+SET64(v6, 432, 0u);
+SET64(v6, 424, 0u);
+FILL_FEW(v6 + 1048u, 0u, 45u);
+FILL_FEW(v6 + 1000u, 0u, 45u);
+v13 = 0u;
+if (v7 == 0) goto L257;
+v21 = v6 + 821u;
+v24 = v6 + 917u;
+v22 = v6 + 869u;
+v25 = v6 + 1053u;
+v19 = v6 + 1005u;
+v12 = v6 + 1493u;
+v15 = v6 + 1597u;
+v18 = v6 + 1101u;
+v26 = v6 + 1296u;
+v17 = v6 + 984u;
+v16 = v6 + 970u;
+v20 = (v6 + 960u) | 2u;
+v23 = v6 + 424u;
+a3 = v6 + 1704u;
+v11 = 0u;
+L258:;
+v14 = v13 - v11;
+a3 = a3 + (v13 * 48u);
+v10 = 0u;
+L260:;
+v42 = 0u;
+FILL_FEW(v6 + 1288u, 0u, 48u);
+SET64(v6, 968, 0u);
+SET64(v6, 960, 0u);
+TEST(v9);
+SET64(v6, 336, AT64(v9, 0));
+v44 = AT32(v9, 8);
+if ((v44 - 1u) <= 999999u) {
+SET16(v6, 974, 0u);
+SET32(v6, 970, 0u);
+v42 = 4u;
+i0 = 5u;
+goto L261;
+}
+SET32(v6, 970, 0u);
+SET16(v6, 974, 0u);
+TEST(v20);
+SET32(v20, 0, 0u);
+SET16(v20, 4, 0u);
+SET16(v6, 960, 1537u);
+v44 = 0u;
+i0 = 0u;
+L261:;
+v45 = i0;
+SET64(v6, 984, 0u);
+SET64(v6, 992, 0u);
+SET32(v6, 980, v44);
+SET16(v6, 978, 0u);
+SET8(v6, 977, 0u);
+SET8(v6, 976, v45);
+SET8(v6, 969, 0u);
+SET8(v6, 968, v42);
+in_mm_memory_validation_parsed(RUD_AS v6 + 1288u, v6 + 336u, v6 + 960u);
+v42 = AT8(v6, 1290);
+v44 = AT8(v6, 1289);
+v45 = AT8(v6, 1288);
+COPY_FEW(v18, v26, 40u);
+COPY_FEW(v15, v18, 40u);
+COPY_FEW(v12, v15, 40u);
+COPY_FEW(v19, v12, 40u);
+if ((v10 + v14) == 0) goto L259;
+TEST(a3);
+SET8(a3, 0, v45);
+SET8(a3, 2, v42);
+SET8(a3, 1, v44);
+COPY_FEW(a3 + 8u, v19, 40u);
+v9 = v9 + 12u;
+a3 = a3 + 48u;
+v10 = v10 + 1u;
+if (v7 != v10) goto L260;
+v13 = v10 + v13;
+goto L257;
+L259:;
+COPY_FEW(v25, v19, 40u);
+COPY_FEW(v6 + 864u, v6 + 1048u, 45u);
+SET64(v6, 432, v8);
+SET64(v6, 424, v11);
+COPY_FEW(v24, v22, 40u);
+COPY_FEW(v6 + 816u, v6 + 912u, 45u);
+v14 = (v10 ^ 0xffffffffffffffffull) + v7;
+i0 = in_std_alloc_vec_Vec_grow_by_hint_c7528f268d97bc21(RUD_AS v6 + 416u, v14);
+RUD_AGAIN
+if (i0 == 0) goto L256;
+v9 = v9 + 12u;
+v27 = v7 - 1u;
+a3 = AT64(v6, 416);
+v11 = AT64(v6, 424);
+v7 = a3 + (v11 * 48u);
+TEST(v7);
+SET8(v7, 0, v45);
+SET8(v7, 2, v42);
+SET8(v7, 1, v44);
+COPY_FEW(v7 + 8u, v21, 40u);
+FILL_FEW(v6 + 912u, 0u, 45u);
+SET64(v6, 424, 0u);
+v8 = AT64(v6, 432);
+SET64(v6, 432, 0u);
+FILL_FEW(v6 + 1048u, 0u, 45u);
+FILL_FEW(v6 + 1000u, 0u, 45u);
+v13 = v11 + 1u;
+v11 = v13 == 0 ? 0ull : v8;
+v7 = v14;
+if (v10 != v27) goto L258;
+L257:;
+a3 = AT64(v6, 416);
+SET64(v6, 759, a3);
+SET64(v6, 767, v13);
+SET64(v6, 775, v8);
+SET8(v6, 720, 0u);
+SET64(v6, 744, v8);
+SET64(v6, 736, v13);
+SET64(v6, 728, a3);
+goto L209;
+L256:;
+if (!(AT64(v6, 432) == 0)) {
+rud_dealloc(RUD_AS AT64(v6, 416));
+RUD_AGAIN
+}
+SET64(v6, 728, 0u);
+SET8(v6, 720, 1u);
+SET64(v6, 736, 0u);
+SET64(v6, 744, 0u);
+goto L209;
+L210:;
 SET8(v6, 552, 1u);
 in_mm_memory_request_each_1d19660126d51927(RUD_AS v6 + 720u, v19, v6 + 552u);
 RUD_AGAIN
-L226:;
-if (AT8(v6, 720)) goto L218;
-v10 = AT64(v6, 744);
+L209:;
+if (AT8(v6, 720)) goto L201;
+v16 = AT64(v6, 744);
 v15 = AT64(v6, 728);
-v14 = AT64(v6, 736);
-if (v14 == 0) {
-v14 = 0u;
-v49 = 1u;
+v10 = AT64(v6, 736);
+if (v10 == 0) {
+v10 = 0u;
+v45 = 1u;
 j0 = v6 + 1704u;
-goto L225;
+goto L208;
 }
-if (v14 > 3074457345618258602ull) goto L224;
-in_std_heap_GlobalAllocator_allocate(RUD_AS v6 + 96u, v14 * 3u, 1u);
+if (v10 > 3074457345618258602ull) goto L207;
+in_std_heap_GlobalAllocator_allocate(RUD_AS v6 + 96u, v10 * 3u, 1u);
 RUD_AGAIN
-if (AT8(v6, 96)) goto L224;
-v49 = 0u;
+if (AT8(v6, 96)) goto L207;
+v45 = 0u;
 j0 = AT64(v6, 104);
-L225:;
-v16 = j0;
-v11 = 0u;
+L208:;
+v19 = j0;
+v7 = 0u;
 SET64(v6, 912, 0u);
 SET64(v6, 920, 0u);
 SET64(v6, 928, 0u);
@@ -22164,75 +17853,49 @@ SET64(v6, 960, 0u);
 SET64(v6, 968, 0u);
 SET64(v6, 976, 0u);
 SET64(v6, 983, 0u);
-SET64(v6, 1488, 0u);
-SET64(v6, 1496, 0u);
-SET64(v6, 1504, 0u);
-SET64(v6, 1512, 0u);
-SET64(v6, 1520, 0u);
-SET64(v6, 1528, 0u);
+FILL_FEW(v6 + 1488u, 0u, 48u);
 SET64(v6, 743, 0u);
 SET64(v6, 736, 0u);
 SET64(v6, 728, 0u);
 SET64(v6, 720, 0u);
-SET64(v6, 1088, 0u);
-SET64(v6, 1080, 0u);
-SET64(v6, 1072, 0u);
-SET64(v6, 1064, 0u);
-SET64(v6, 1056, 0u);
-SET64(v6, 1048, 0u);
+FILL_FEW(v6 + 1048u, 0u, 48u);
 SET64(v6, 663, 0u);
 SET64(v6, 656, 0u);
 SET64(v6, 648, 0u);
 SET64(v6, 640, 0u);
-SET64(v6, 1040, 0u);
-SET64(v6, 1032, 0u);
-SET64(v6, 1024, 0u);
-SET64(v6, 1016, 0u);
-SET64(v6, 1008, 0u);
-SET64(v6, 1000, 0u);
-switch (v47 - 4u) {
-case 0u: goto L285;
-default: goto L223;
-case 3u: goto L284;
-case 5u: goto L283;
-case 8u: goto L282;
+FILL_FEW(v6 + 1000u, 0u, 48u);
+switch (v43 - 4u) {
+case 0u: goto L268;
+default: goto L206;
+case 3u: goto L267;
+case 5u: goto L266;
+case 8u: goto L265;
 }
-L285:;
-v18 = AT64(v6, 256);
-v22 = AT64(v6, 264);
-v9 = 0u;
+L268:;
+v22 = AT64(v6, 256);
+v23 = AT64(v6, 264);
+v12 = 0u;
 SET64(v6, 784, 0u);
 SET64(v6, 792, 0u);
 SET64(v6, 800, 0u);
-SET64(v6, 1288, 0u);
-SET64(v6, 1296, 0u);
-SET64(v6, 1304, 0u);
-SET64(v6, 1312, 0u);
-SET64(v6, 1320, 0u);
-SET64(v6, 1328, 0u);
-SET64(v6, 1336, 0u);
-SET64(v6, 1592, 0u);
-SET64(v6, 1600, 0u);
-SET64(v6, 1608, 0u);
-SET64(v6, 1616, 0u);
-SET64(v6, 1624, 0u);
-SET64(v6, 1632, 0u);
-SET64(v6, 552, v6 + 1704u);
-SET64(v6, 568, 0u);
+FILL_FEW(v6 + 1288u, 0u, 56u);
+FILL_FEW(v6 + 1592u, 0u, 48u);
 SET64(v6, 560, 0u);
-if (!(v22 == 0)) {
-v27 = v6 + 1616u;
-v23 = v6 + 823u;
-v11 = v6 + 871u;
-v19 = v6 + 1103u;
-v17 = v6 + 616u;
-L287:;
-v12 = 0u;
+SET64(v6, 568, 0u);
+SET64(v6, 552, v6 + 1704u);
+if (!(v23 == 0)) {
+v20 = v6 + 1616u;
+v9 = v6 + 823u;
+v14 = v6 + 871u;
+v18 = v6 + 1103u;
+v21 = v6 + 616u;
+L270:;
+v13 = 0u;
 SET64(v6, 839, 0u);
 SET64(v6, 832, 0u);
 SET64(v6, 824, 0u);
 SET64(v6, 816, 0u);
-SET64(v6, 752, GET64(v18 + (v9 << 3), 0));
+SET64(v6, 752, GET64(v22 + (v12 << 3), 0));
 in_mm_memory_memory_Memory_asked_about(RUD_AS v6 + 64u, a1, v6 + 752u);
 if (AT8(v6, 64) == 1u) {
 v24 = AT64(v6, 72);
@@ -22240,58 +17903,58 @@ SET64(v6, 887, 0u);
 SET64(v6, 880, 0u);
 SET64(v6, 872, 0u);
 SET64(v6, 864, 0u);
-v7 = AT64(a1, 24);
+v8 = AT64(a1, 24);
 a3 = AT64(a1, 32);
 SET64(v6, 1119, 0u);
 SET64(v6, 1112, 0u);
 SET64(v6, 1104, 0u);
 SET64(v6, 1096, 0u);
-v8 = v6 + 1704u;
-SET64(v6, 608, v8);
-v13 = 0u;
-L291:;
+v17 = v6 + 1704u;
+SET64(v6, 608, v17);
+v11 = 0u;
+L274:;
 SET64(v6, 624, 0u);
 SET64(v6, 616, 0u);
-v20 = v13 == 0 ? 0ull : v12;
-L292:;
-a4 = v7;
+v7 = v11 == 0 ? 0ull : v13;
+L275:;
+a4 = v8;
 a3 = 0ull - a3;
-L293:;
+L276:;
 a3 = a3 + 1u;
-if (a3 == 1u) goto L290;
-v7 = a4 + 12u;
+if (a3 == 1u) goto L273;
+v8 = a4 + 12u;
 j0 = a4 + 4u;
-a4 = v7;
-i0 = in_core_cmp_arrays_ArrayPartialEq_eq_i8_8_31_core_cmp_numbers_U8Par(RUD_AS j0, v24);
-if (i0 == 0) goto L293;
-v46 = GET32(v7 - 12u, 0);
-if (v13 != v20) {
+a4 = v8;
+i0 = in_mm_base_id_StoreIdPartialEq_eq(RUD_AS j0, v24);
+if (i0 == 0) goto L276;
+v42 = GET32(v8 - 12u, 0);
+if (v7 != v11) {
 a3 = 0ull - a3;
-PUT32(v8 + (v13 << 2), 0, v46);
-v13 = v13 + 1u;
-goto L292;
+PUT32(v17 + (v11 << 2), 0, v42);
+v11 = v11 + 1u;
+goto L275;
 }
-SET64(v6, 616, v20);
-SET64(v6, 624, v12);
-if (v12 != v20) goto L296;
+SET64(v6, 616, v7);
+SET64(v6, 624, v13);
+if (v7 != v13) goto L279;
 i0 = in_std_alloc_vec_Vec_grow_amortized_b59f931699c328fa(RUD_AS v6 + 608u);
 RUD_AGAIN
-v12 = AT64(v6, 624);
-v20 = AT64(v6, 616);
-if (i0 | (u32)(v12 != v20)) goto L296;
+v13 = AT64(v6, 624);
+v7 = AT64(v6, 616);
+if (i0 | (u32)(v13 != v7)) goto L279;
 i0 = in_std_alloc_vec_Vec_grow_amortized_b59f931699c328fa(RUD_AS v6 + 608u);
 RUD_AGAIN
-if (i0 == 0) goto L295;
-v12 = AT64(v6, 624);
-v20 = AT64(v6, 616);
-L296:;
+if (i0 == 0) goto L278;
+v13 = AT64(v6, 624);
+v7 = AT64(v6, 616);
+L279:;
 a3 = 0ull - a3;
-v8 = AT64(v6, 608);
-PUT32(v8 + (v20 << 2), 0, v46);
-v13 = v20 + 1u;
-SET64(v6, 616, v13);
-goto L291;
-L295:;
+v17 = AT64(v6, 608);
+PUT32(v17 + (v7 << 2), 0, v42);
+v11 = v7 + 1u;
+SET64(v6, 616, v11);
+goto L274;
+L278:;
 if (!(AT64(v6, 624) == 0)) {
 rud_dealloc(RUD_AS AT64(v6, 608));
 RUD_AGAIN
@@ -22302,11 +17965,11 @@ SET64(v6, 920, 0u);
 SET8(v6, 912, 1u);
 SET64(v6, 928, 0u);
 SET64(v6, 936, 0u);
-goto L220;
-L290:;
+goto L203;
+L273:;
 SET64(v6, 1103, AT64(v6, 608));
-SET64(v6, 1111, v13);
-SET64(v6, 1119, v12);
+SET64(v6, 1111, v11);
+SET64(v6, 1119, v13);
 SET64(v6, 887, AT64(v6, 1119));
 SET64(v6, 879, AT64(v6, 1111));
 SET64(v6, 871, AT64(v6, 1103));
@@ -22326,7 +17989,7 @@ SET64(v6, 1624, AT64(v6, 792));
 SET64(v6, 1632, AT64(v6, 800));
 in_std_alloc_vec_Vec_push_e8aabc6c4a0bee9e(RUD_AS v6 + 1288u, v6 + 552u, v6 + 1592u);
 RUD_AGAIN
-if (AT8(v6, 1288) == 0) goto L288;
+if (AT8(v6, 1288) == 0) goto L271;
 a2 = (u64)AT8(v6, 1296);
 a3 = AT64(v6, 1304);
 SET64(v6, 1136, AT64(v6, 1336));
@@ -22343,24 +18006,24 @@ SET64(v6, 920, 0u);
 SET8(v6, 912, 1u);
 SET64(v6, 928, 0u);
 SET64(v6, 936, 0u);
-goto L220;
+goto L203;
 }
 SET64(v6, 800, 0u);
 SET64(v6, 792, 0u);
 SET64(v6, 784, 0u);
-L288:;
-v9 = v9 + 1u;
-if (v9 != v22) goto L287;
+L271:;
+v12 = v12 + 1u;
+if (v12 != v23) goto L270;
 }
 SET8(v6, 912, 0u);
 SET64(v6, 920, AT64(v6, 552));
 SET64(v6, 928, AT64(v6, 560));
 SET64(v6, 936, AT64(v6, 568));
-goto L220;
-L284:;
+goto L203;
+L267:;
 a4 = AT64(v6, 256);
-v7 = AT64(v6, 264);
-v8 = 0u;
+v8 = AT64(v6, 264);
+v13 = 0u;
 SET64(v6, 1119, 0u);
 SET64(v6, 1112, 0u);
 SET64(v6, 1104, 0u);
@@ -22372,103 +18035,103 @@ SET64(v6, 1288, 0u);
 SET64(v6, 1600, 0u);
 SET64(v6, 1608, 0u);
 SET64(v6, 1592, v6 + 1704u);
-if (v7 == 0) {
-v13 = v6 + 1704u;
-v23 = 0u;
-goto L299;
+if (v8 == 0) {
+v11 = v6 + 1704u;
+v9 = 0u;
+goto L282;
 }
 v12 = v6 + 1600u;
-v13 = v6 + 1704u;
-v23 = 0u;
-L301:;
-a3 = 1ull - v7;
-L302:;
+v11 = v6 + 1704u;
+v9 = 0u;
+L284:;
+a3 = 1ull - v8;
+L285:;
 TEST(a4);
 SET64(v6, 864, AT64(a4, 0));
 in_mm_memory_memory_Memory_asked_about(RUD_AS v6 + 80u, a1, v6 + 864u);
-if (AT8(v6, 80) & 1u) goto L303;
+if (AT8(v6, 80) & 1u) goto L286;
 a4 = a4 + 8u;
 a3 = a3 + 1u;
-if (a3 != 1u) goto L302;
-goto L299;
-L303:;
-v7 = AT64(v6, 88);
-TEST(v7);
-v19 = AT64(v7, 0);
-v7 = v7 + 16u;
-v20 = in_mm_store_any_AnyStorePacketStore_oldest(RUD_AS v7);
-v27 = in_mm_store_any_AnyStorePacketStore_newest(RUD_AS v7);
-TEST(v7);
-v46 = GET32(v7 + (AT8(v7, 0) ? 40ull : 24ull), 0);
-if (v11 != v23) {
-v7 = 0ull - a3;
+if (a3 != 1u) goto L285;
+goto L282;
+L286:;
+v8 = AT64(v6, 88);
+TEST(v8);
+v18 = AT64(v8, 0);
+v8 = v8 + 16u;
+v17 = in_mm_store_any_AnyStorePacketStore_oldest(RUD_AS v8);
+v20 = in_mm_store_any_AnyStorePacketStore_newest(RUD_AS v8);
+TEST(v8);
+v42 = GET32(v8 + (AT8(v8, 0) ? 40ull : 24ull), 0);
+if (v7 != v9) {
+v8 = 0ull - a3;
 a4 = a4 + 8u;
-v9 = v13 + (v23 << 5);
-TEST(v9);
-SET32(v9, 28, 0u);
-SET32(v9, 24, v46);
-SET64(v9, 16, v27);
-SET64(v9, 8, v20);
-SET64(v9, 0, v19);
-v23 = v23 + 1u;
-if (!(a3 == 0)) goto L301;
-goto L299;
+v14 = v11 + (v9 << 5);
+TEST(v14);
+SET32(v14, 28, 0u);
+SET32(v14, 24, v42);
+SET64(v14, 16, v20);
+SET64(v14, 8, v17);
+SET64(v14, 0, v18);
+v9 = v9 + 1u;
+if (!(a3 == 0)) goto L284;
+goto L282;
 }
-SET64(v6, 1592, v13);
-SET64(v6, 1600, v11);
-SET64(v6, 1608, v8);
-if (v8 != v11) goto L305;
+SET64(v6, 1592, v11);
+SET64(v6, 1600, v7);
+SET64(v6, 1608, v13);
+if (v7 != v13) goto L288;
 i0 = in_std_alloc_vec_Vec_grow_amortized_ca68ededf986fbb3(RUD_AS v6 + 1592u);
 RUD_AGAIN
-v8 = AT64(v6, 1608);
-v11 = AT64(v6, 1600);
-if (i0 | (u32)(v8 != v11)) goto L305;
+v13 = AT64(v6, 1608);
+v7 = AT64(v6, 1600);
+if (i0 | (u32)(v13 != v7)) goto L288;
 i0 = in_std_alloc_vec_Vec_grow_amortized_ca68ededf986fbb3(RUD_AS v6 + 1592u);
 RUD_AGAIN
-if (i0 == 0) goto L298;
-v8 = AT64(v6, 1608);
-v11 = AT64(v6, 1600);
-L305:;
-v7 = 0ull - a3;
+if (i0 == 0) goto L281;
+v13 = AT64(v6, 1608);
+v7 = AT64(v6, 1600);
+L288:;
+v8 = 0ull - a3;
 a4 = a4 + 8u;
 SET64(v6, 1600, 0u);
 SET64(v6, 1608, 0u);
-v13 = AT64(v6, 1592);
-v9 = v13 + (v11 << 5);
+v11 = AT64(v6, 1592);
+v9 = v11 + (v7 << 5);
 TEST(v9);
 SET32(v9, 28, 0u);
-SET32(v9, 24, v46);
-SET64(v9, 16, v27);
-SET64(v9, 8, v20);
-SET64(v9, 0, v19);
-v23 = v11 + 1u;
-v11 = v23 == 0 ? 0ull : v8;
-if (!(a3 == 0)) goto L301;
-L299:;
-SET64(v6, 1111, v23);
-SET64(v6, 983, v8);
-SET64(v6, 967, v13);
-SET64(v6, 975, v23);
+SET32(v9, 24, v42);
+SET64(v9, 16, v20);
+SET64(v9, 8, v17);
+SET64(v9, 0, v18);
+v9 = v7 + 1u;
+v7 = v9 == 0 ? 0ull : v13;
+if (!(a3 == 0)) goto L284;
+L282:;
+SET64(v6, 1111, v9);
+SET64(v6, 983, v13);
+SET64(v6, 967, v11);
+SET64(v6, 975, v9);
 SET64(v6, 1496, a2);
 SET64(v6, 1488, 1u);
-SET64(v6, 1504, v13);
-SET64(v6, 1512, v23);
-SET64(v6, 1520, v8);
+SET64(v6, 1504, v11);
+SET64(v6, 1512, v9);
+SET64(v6, 1520, v13);
 in_mm_memory_reports_one(RUD_AS v6 + 912u, v6 + 1488u);
 RUD_AGAIN
-goto L220;
-L298:;
-if (AT64(v6, 1608) == 0) goto L219;
+goto L203;
+L281:;
+if (AT64(v6, 1608) == 0) goto L202;
 rud_dealloc(RUD_AS AT64(v6, 1592));
 RUD_AGAIN
-goto L219;
-L283:;
-v9 = 0u;
+goto L202;
+L266:;
+v12 = 0u;
 SET64(v6, 1119, 0u);
 SET64(v6, 1112, 0u);
 SET64(v6, 1104, 0u);
 SET64(v6, 1096, 0u);
-v19 = AT64(a1, 8);
+v14 = AT64(a1, 8);
 a4 = AT64(a1, 0);
 SET64(v6, 1311, 0u);
 SET64(v6, 1304, 0u);
@@ -22477,79 +18140,79 @@ SET64(v6, 1288, 0u);
 SET64(v6, 1600, 0u);
 SET64(v6, 1608, 0u);
 SET64(v6, 1592, v6 + 1704u);
-if (v19 == 0) {
-v13 = v6 + 1704u;
-v7 = 0u;
-goto L221;
+if (v14 == 0) {
+v11 = v6 + 1704u;
+v8 = 0u;
+goto L204;
 }
-v8 = v6 + 1600u;
-v7 = 0u;
-v13 = v6 + 1704u;
-v12 = 0u;
-L307:;
-v27 = v7 - v12;
-v23 = v7 * 10u;
+v7 = v6 + 1600u;
+v8 = 0u;
+v11 = v6 + 1704u;
+v13 = 0u;
+L290:;
+v20 = v8 - v13;
+v9 = v8 * 10u;
 a3 = 0u;
-L309:;
+L292:;
 TEST(a4);
-v46 = AT8(a4, 128) == 1u;
-v47 = AT8(a4, 120);
-v11 = AT64(a4, 0);
-if ((a3 + v27) == 0) goto L308;
-v20 = v13 + v23;
-TEST(v20);
-SET64(v20, 0, v11);
-SET8(v20, 9, v46);
-SET8(v20, 8, v47);
+v42 = AT8(a4, 128) == 1u;
+v43 = AT8(a4, 120);
+v18 = AT64(a4, 0);
+if ((a3 + v20) == 0) goto L291;
+v17 = v9 + v11;
+TEST(v17);
+SET64(v17, 0, v18);
+SET8(v17, 9, v42);
+SET8(v17, 8, v43);
 a4 = a4 + 192u;
-v23 = v23 + 10u;
+v9 = v9 + 10u;
 a3 = a3 + 1u;
-if (v19 != a3) goto L309;
-v7 = a3 + v7;
-goto L221;
-L308:;
-SET64(v6, 1592, v13);
-SET64(v6, 1600, v12);
-SET64(v6, 1608, v9);
-v7 = v19 - a3;
-if (v7 <= (v9 - v12)) goto L311;
-i0 = in_std_alloc_vec_Vec_grow_amortized_24b0e7cc841ed643(RUD_AS v6 + 1592u, v7);
+if (v14 != a3) goto L292;
+v8 = a3 + v8;
+goto L204;
+L291:;
+SET64(v6, 1592, v11);
+SET64(v6, 1600, v13);
+SET64(v6, 1608, v12);
+v8 = v14 - a3;
+if (v8 <= (v12 - v13)) goto L294;
+i0 = in_std_alloc_vec_Vec_grow_amortized_24b0e7cc841ed643(RUD_AS v6 + 1592u, v8);
 RUD_AGAIN
-v9 = AT64(v6, 1608);
-v12 = AT64(v6, 1600);
-if (i0 | (u32)(v9 != v12)) goto L311;
+v13 = AT64(v6, 1600);
+v12 = AT64(v6, 1608);
+if (i0 | (u32)(v13 != v12)) goto L294;
 i0 = in_std_alloc_vec_Vec_grow_amortized_24b0e7cc841ed643(RUD_AS v6 + 1592u, 1u);
 RUD_AGAIN
-if (i0 == 0) goto L310;
-v9 = AT64(v6, 1608);
-v12 = AT64(v6, 1600);
-L311:;
+if (i0 == 0) goto L293;
+v12 = AT64(v6, 1608);
+v13 = AT64(v6, 1600);
+L294:;
 a4 = a4 + 192u;
-v23 = v19 - 1u;
-v19 = v7 - 1u;
+v9 = v14 - 1u;
+v14 = v8 - 1u;
 SET64(v6, 1600, 0u);
 SET64(v6, 1608, 0u);
-v13 = AT64(v6, 1592);
-v7 = v13 + (v12 * 10u);
-TEST(v7);
-SET8(v7, 9, v46);
-SET8(v7, 8, v47);
-SET64(v7, 0, v11);
-v7 = v12 + 1u;
-v12 = v7 == 0 ? 0ull : v9;
-if (a3 != v23) goto L307;
-goto L221;
-L310:;
-if (AT64(v6, 1608) == 0) goto L219;
+v11 = AT64(v6, 1592);
+v8 = v11 + (v13 * 10u);
+TEST(v8);
+SET8(v8, 9, v42);
+SET8(v8, 8, v43);
+SET64(v8, 0, v18);
+v8 = v13 + 1u;
+v13 = v8 == 0 ? 0ull : v12;
+if (a3 != v9) goto L290;
+goto L204;
+L293:;
+if (AT64(v6, 1608) == 0) goto L202;
 rud_dealloc(RUD_AS AT64(v6, 1592));
 RUD_AGAIN
-goto L219;
-L282:;
+goto L202;
+L265:;
 SET64(v6, 1119, 0u);
 SET64(v6, 1112, 0u);
 SET64(v6, 1104, 0u);
 SET64(v6, 1096, 0u);
-v19 = AT64(a1, 8);
+v14 = AT64(a1, 8);
 a4 = AT64(a1, 0);
 SET64(v6, 1311, 0u);
 SET64(v6, 1304, 0u);
@@ -22558,130 +18221,130 @@ SET64(v6, 1288, 0u);
 SET64(v6, 1600, 0u);
 SET64(v6, 1608, 0u);
 SET64(v6, 1592, v6 + 1704u);
-if (v19 == 0) {
-v13 = v6 + 1704u;
-v9 = 0u;
-goto L222;
-}
-v8 = v6 + 1600u;
-v9 = 0u;
-v13 = v6 + 1704u;
+if (v14 == 0) {
+v11 = v6 + 1704u;
 v12 = 0u;
-L313:;
-v27 = v9 - v12;
-v7 = v9 << 4;
-v23 = 0u;
-L315:;
+goto L205;
+}
+v18 = v6 + 1600u;
+v12 = 0u;
+v11 = v6 + 1704u;
+v13 = 0u;
+L296:;
+v20 = v12 - v13;
+v8 = v12 << 4;
+v9 = 0u;
+L298:;
 TEST(a4);
-v46 = AT8(a4, 8);
-v47 = AT8(a4, 16);
-v48 = AT32(a4, 32);
-v20 = AT64(a4, 0);
-if ((v23 + v27) == 0) goto L314;
-a3 = v7 + v13;
+v42 = AT8(a4, 8);
+v43 = AT8(a4, 16);
+v44 = AT32(a4, 32);
+v17 = AT64(a4, 0);
+if ((v9 + v20) == 0) goto L297;
+a3 = v8 + v11;
 TEST(a3);
-SET64(a3, 0, v20);
+SET64(a3, 0, v17);
 SET16(a3, 14, 0u);
-SET8(a3, 13, v46);
-SET8(a3, 12, v47);
-SET32(a3, 8, v48);
+SET8(a3, 13, v42);
+SET8(a3, 12, v43);
+SET32(a3, 8, v44);
 a4 = a4 + 192u;
-v7 = v7 + 16u;
-v23 = v23 + 1u;
-if (v19 != v23) goto L315;
-v9 = v9 + v23;
-goto L222;
-L314:;
-SET64(v6, 1592, v13);
-SET64(v6, 1600, v12);
-SET64(v6, 1608, v11);
-a3 = v19 - v23;
-if (a3 <= (v11 - v12)) goto L317;
+v8 = v8 + 16u;
+v9 = v9 + 1u;
+if (v14 != v9) goto L298;
+v12 = v9 + v12;
+goto L205;
+L297:;
+SET64(v6, 1592, v11);
+SET64(v6, 1600, v13);
+SET64(v6, 1608, v7);
+a3 = v14 - v9;
+if (a3 <= (v7 - v13)) goto L300;
 i0 = in_std_alloc_vec_Vec_grow_amortized_a29bcaab257478eb(RUD_AS v6 + 1592u, a3);
 RUD_AGAIN
-v11 = AT64(v6, 1608);
-v12 = AT64(v6, 1600);
-if (i0 | (u32)(v11 != v12)) goto L317;
+v7 = AT64(v6, 1608);
+v13 = AT64(v6, 1600);
+if (i0 | (u32)(v7 != v13)) goto L300;
 i0 = in_std_alloc_vec_Vec_grow_amortized_a29bcaab257478eb(RUD_AS v6 + 1592u, 1u);
 RUD_AGAIN
-if (i0 == 0) goto L316;
-v11 = AT64(v6, 1608);
-v12 = AT64(v6, 1600);
-L317:;
+if (i0 == 0) goto L299;
+v7 = AT64(v6, 1608);
+v13 = AT64(v6, 1600);
+L300:;
 a4 = a4 + 192u;
-j0 = v19 - 1u;
-v19 = a3 - 1u;
+j0 = v14 - 1u;
+v14 = a3 - 1u;
 SET64(v6, 1600, 0u);
 SET64(v6, 1608, 0u);
-v13 = AT64(v6, 1592);
-a3 = v13 + (v12 << 4);
+v11 = AT64(v6, 1592);
+a3 = v11 + (v13 << 4);
 TEST(a3);
 SET16(a3, 14, 0u);
-SET8(a3, 13, v46);
-SET8(a3, 12, v47);
-SET32(a3, 8, v48);
-SET64(a3, 0, v20);
-v9 = v12 + 1u;
-v12 = v9 == 0 ? 0ull : v11;
-if (j0 != v23) goto L313;
-goto L222;
-L316:;
-if (AT64(v6, 1608) == 0) goto L219;
+SET8(a3, 13, v42);
+SET8(a3, 12, v43);
+SET32(a3, 8, v44);
+SET64(a3, 0, v17);
+v12 = v13 + 1u;
+v13 = v12 == 0 ? 0ull : v7;
+if (j0 != v9) goto L296;
+goto L205;
+L299:;
+if (AT64(v6, 1608) == 0) goto L202;
 rud_dealloc(RUD_AS AT64(v6, 1592));
 RUD_AGAIN
-goto L219;
-L224:;
-if (v10 == 0) goto L218;
+goto L202;
+L207:;
+if (v16 == 0) goto L201;
 rud_dealloc(RUD_AS v15);
 RUD_AGAIN
-goto L218;
-L223:;
+goto L201;
+L206:;
 SET64(v6, 463, 0u);
 SET64(v6, 471, 0u);
 SET64(v6, 455, v6 + 1704u);
-goto L217;
-L222:;
-SET64(v6, 1111, v9);
-SET64(v6, 663, v11);
-SET64(v6, 647, v13);
-SET64(v6, 655, v9);
+goto L200;
+L205:;
+SET64(v6, 1111, v12);
+SET64(v6, 663, v7);
+SET64(v6, 647, v11);
+SET64(v6, 655, v12);
 SET64(v6, 1008, a2);
 SET64(v6, 1000, 3u);
-SET64(v6, 1016, v13);
-SET64(v6, 1024, v9);
-SET64(v6, 1032, v11);
+SET64(v6, 1016, v11);
+SET64(v6, 1024, v12);
+SET64(v6, 1032, v7);
 in_mm_memory_reports_one(RUD_AS v6 + 912u, v6 + 1000u);
 RUD_AGAIN
-goto L220;
-L221:;
-SET64(v6, 1111, v7);
-SET64(v6, 743, v9);
-SET64(v6, 727, v13);
-SET64(v6, 735, v7);
+goto L203;
+L204:;
+SET64(v6, 1111, v8);
+SET64(v6, 743, v12);
+SET64(v6, 727, v11);
+SET64(v6, 735, v8);
 SET64(v6, 1056, a2);
 SET64(v6, 1048, 2u);
-SET64(v6, 1064, v13);
-SET64(v6, 1072, v7);
-SET64(v6, 1080, v9);
+SET64(v6, 1064, v11);
+SET64(v6, 1072, v8);
+SET64(v6, 1080, v12);
 in_mm_memory_reports_one(RUD_AS v6 + 912u, v6 + 1048u);
 RUD_AGAIN
-L220:;
+L203:;
 SET64(v6, 455, AT64(v6, 920));
 SET64(v6, 463, AT64(v6, 928));
 SET64(v6, 471, AT64(v6, 936));
-if (AT8(v6, 912) == 0) goto L217;
-L219:;
-if (!(v14 == 0)) {
-rud_dealloc(RUD_AS v16);
+if (AT8(v6, 912) == 0) goto L200;
+L202:;
+if (!(v10 == 0)) {
+rud_dealloc(RUD_AS v19);
 RUD_AGAIN
 }
-if (!(v10 == 0)) {
+if (!(v16 == 0)) {
 rud_dealloc(RUD_AS v15);
 RUD_AGAIN
 }
-v23 = AT64(v6, 240);
-L218:;
-in_std_alloc_arc_Arc_drop_c3b6ee2ab0dfb523(RUD_AS v23);
+a4 = AT64(v6, 240);
+L201:;
+in_std_alloc_arc_Arc_drop_c3b6ee2ab0dfb523(RUD_AS a4);
 RUD_AGAIN
 a1 = AT64(v6, 272);
 a2 = AT64(v6, 256);
@@ -22703,963 +18366,786 @@ case 14u: goto L17;
 case 15u: goto L18;
 default: goto L4;
 }
-L217:;
+L200:;
 SET64(v6, 496, AT64(v6, 471));
 SET64(v6, 488, AT64(v6, 463));
 SET64(v6, 480, AT64(v6, 455));
 a4 = 0u;
-if (v49 == 0) {
-v27 = a1 + 32u;
-v29 = a1 + 24u;
-v35 = a1 + 8u;
-v20 = v6 + 1544u;
-v17 = v6 + 1296u;
-v36 = v6 + 1304u;
-v22 = v6 + 1104u;
-v24 = v6 + 1320u;
-v37 = v6 + 1272u;
-v41 = v6 + 1160u;
-v38 = v6 + 1105u;
-v39 = v6 + 1120u;
-v12 = v6 + 1648u;
-v40 = v6 + 1608u;
+if (v45 == 0) {
+v18 = a1 + 32u;
+v25 = a1 + 24u;
+v26 = a1 + 8u;
+v38 = v6 + 1544u;
+v20 = v6 + 1296u;
+v27 = v6 + 1304u;
+v39 = v6 + 1104u;
+v23 = v6 + 1320u;
+v34 = v6 + 1272u;
+v40 = v6 + 1160u;
+v35 = v6 + 1105u;
+v36 = v6 + 1120u;
+v41 = v6 + 1648u;
+v37 = v6 + 1608u;
 a2 = 0u;
-L321:;
+L304:;
 a4 = v15 + (a2 * 48u);
 TEST(a4);
 if (AT8(a4, 0) == 0) {
 a3 = AT64(a1, 0);
-v7 = AT64(a1, 8);
-v9 = a4 + 8u;
-in_mm_desk_holding_place_of(RUD_AS v6 + 48u, a3, v7, v9);
-v47 = 1u;
-v46 = AT8(a4, 16);
+v8 = AT64(a1, 8);
+v12 = a4 + 8u;
+in_mm_desk_holding_place_of(RUD_AS v6 + 48u, a3, v8, v12);
+v43 = 1u;
+v42 = AT8(a4, 16);
 if (AT8(v6, 48) == 1u) {
-v8 = AT64(v6, 56);
-v48 = 4u;
-switch (v46 - 1u) {
-case 0u: goto L332;
-case 1u: goto L331;
-case 2u: goto L329;
-case 3u: goto L330;
-default: goto L322;
+v7 = AT64(v6, 56);
+v44 = 4u;
+switch (v42 - 1u) {
+case 0u: goto L318;
+case 1u: goto L317;
+case 2u: goto L315;
+case 3u: goto L316;
+default: goto L305;
 }
-L332:;
-v48 = 7u;
-a4 = a3 + (v8 * 192u);
+L318:;
+v44 = 7u;
+a4 = a3 + (v7 * 192u);
 TEST(a4);
-if (AT8(a4, 120)) {
-v46 = 6u;
-goto L322;
-}
-if (AT8(a4, 128) == 1u) {
-v46 = 2u;
-goto L322;
-}
-v8 = 0u;
-SET64(a1, 8, 0u);
-v23 = a1 + 16u;
-v18 = AT64(a1, 16);
-SET64(a1, 16, 0u);
+if (AT8(a4, 120)) goto L306;
+if (AT8(a4, 128) == 1u) goto L307;
 v13 = 0u;
-if (v7 == 0) goto L335;
+SET64(a1, 8, 0u);
+v9 = a1 + 16u;
+v17 = AT64(a1, 16);
+SET64(a1, 16, 0u);
+v11 = 0u;
+if (v8 == 0) goto L319;
 a4 = a3 + 192u;
-v11 = v7 - 1u;
-v19 = a3;
-L337:;
-i0 = in_core_cmp_arrays_ArrayPartialEq_eq_i8_8_31_core_cmp_numbers_U8Par(RUD_AS v19, v9);
-if (i0) goto L336;
+v7 = v8 - 1u;
+v14 = a3;
+L321:;
+i0 = in_mm_base_id_StoreIdPartialEq_eq(RUD_AS v14, v12);
+if (i0) goto L320;
 a4 = a4 + 192u;
-v11 = v11 - 1u;
-v19 = v19 + 192u;
-v13 = v13 + 1u;
-if (v7 != v13) goto L337;
-v13 = v7;
-goto L335;
-L336:;
+v7 = v7 - 1u;
+v14 = v14 + 192u;
+v11 = v11 + 1u;
+if (v8 != v11) goto L321;
+v11 = v8;
+goto L319;
+L320:;
 v21 = v6 + 1288u;
-COPY_FEW(v21, v19, 192u);
+COPY_FEW(v21, v14, 192u);
 in_mm_memory_mm_desk_held_Held_Destruct_drop(RUD_AS v21);
 RUD_AGAIN
-if ((v13 + 1u) >= v7) goto L335;
-L338:;
-v46 = in_core_cmp_arrays_ArrayPartialEq_eq_i8_8_31_core_cmp_numbers_U8Par(RUD_AS a4, v9);
-v7 = a3 + (v13 * 192u);
-COPY_FEW(v7, a4, 192u);
-if (v46 == 0) {
-v13 = v13 + 1u;
-goto L339;
+if ((v11 + 1u) >= v8) goto L319;
+L322:;
+v42 = in_mm_base_id_StoreIdPartialEq_eq(RUD_AS a4, v12);
+v8 = a3 + (v11 * 192u);
+COPY_FEW(v8, a4, 192u);
+if (v42 == 0) {
+v11 = v11 + 1u;
+goto L323;
 }
-v19 = v6 + 1288u;
-COPY_FEW(v19, v7, 192u);
-in_mm_memory_mm_desk_held_Held_Destruct_drop(RUD_AS v19);
+v14 = v6 + 1288u;
+COPY_FEW(v14, v8, 192u);
+in_mm_memory_mm_desk_held_Held_Destruct_drop(RUD_AS v14);
 RUD_AGAIN
-L339:;
+L323:;
 a4 = a4 + 192u;
-v11 = v11 - 1u;
-if (v11 != 0u) goto L338;
-L335:;
+v7 = v7 - 1u;
+if (v7 != 0u) goto L322;
+L319:;
 SET64(a1, 0, a3);
-SET64(a1, 16, v18);
-SET64(a1, 8, v13);
+SET64(a1, 16, v17);
+SET64(a1, 8, v11);
 v11 = a1 + 40u;
-v19 = AT64(a1, 40);
-v18 = a1 + 32u;
+v14 = AT64(a1, 40);
+v17 = a1 + 32u;
 a3 = AT64(a1, 32);
 SET64(a1, 40, 0u);
 SET64(a1, 32, 0u);
 v21 = a1 + 24u;
-v13 = AT64(a1, 24);
-if (a3 == 0) goto L341;
-a4 = v13 + 12u;
-v23 = a3 - 1u;
-v7 = v13 - 8u;
-L342:;
-v7 = v7 + 12u;
-i0 = in_core_cmp_arrays_ArrayPartialEq_eq_i8_8_31_core_cmp_numbers_U8Par(RUD_AS v7, v9);
+v7 = AT64(a1, 24);
+if (a3 == 0) goto L325;
+a4 = v7 + 12u;
+v9 = a3 - 1u;
+v8 = v7 - 8u;
+L326:;
+v8 = v8 + 12u;
+i0 = in_mm_base_id_StoreIdPartialEq_eq(RUD_AS v8, v12);
 if (i0) {
-if ((v8 + 1u) >= a3) goto L341;
-L344:;
-v46 = in_core_cmp_arrays_ArrayPartialEq_eq_i8_8_31_core_cmp_numbers_U8Par(RUD_AS a4 + 4u, v9);
+if ((v13 + 1u) >= a3) goto L325;
+L328:;
+v42 = in_mm_base_id_StoreIdPartialEq_eq(RUD_AS a4 + 4u, v12);
 TEST(a4);
 a3 = AT64(a4, 0);
-v7 = v13 + (v8 * 12u);
-TEST(v7);
-SET32(v7, 8, AT32(a4, 8));
-SET64(v7, 0, a3);
+v8 = v7 + (v13 * 12u);
+TEST(v8);
+SET32(v8, 8, AT32(a4, 8));
+SET64(v8, 0, a3);
 a4 = a4 + 12u;
-v8 = v8 + (u64)(v46 ^ 1u);
-v23 = v23 - 1u;
-if (v23 != 0u) goto L344;
-goto L341;
+v13 = v13 + (u64)(v42 ^ 1u);
+v9 = v9 - 1u;
+if (v9 != 0u) goto L328;
+goto L325;
 }
 a4 = a4 + 12u;
-v23 = v23 - 1u;
-v8 = v8 + 1u;
-if (a3 != v8) goto L342;
-v8 = a3;
-L341:;
-SET64(a1, 40, v19);
-SET64(a1, 32, v8);
-SET64(a1, 24, v13);
-goto L329;
-L331:;
-v49 = AT8(a4, 17);
-v46 = AT16(a4, 18);
-v47 = AT8(a4, 20);
-v48 = AT8(a4, 21);
+v9 = v9 - 1u;
+v13 = v13 + 1u;
+if (a3 != v13) goto L326;
+v13 = a3;
+L325:;
+SET64(a1, 40, v14);
+SET64(a1, 32, v13);
+SET64(a1, 24, v7);
+goto L315;
+L317:;
+v45 = AT8(a4, 17);
+v42 = AT16(a4, 18);
+v43 = AT8(a4, 20);
+v44 = AT8(a4, 21);
 a3 = AT64(a4, 8);
 SET64(v6, 1100, a3);
-SET8(v6, 1099, v48);
-SET8(v6, 1098, v47);
-SET16(v6, 1096, v46);
-if (v49 == 0) {
-in_mm_control_table_ControlTable_add(RUD_AS v6, v29, v6 + 1096u);
+SET8(v6, 1099, v44);
+SET8(v6, 1098, v43);
+SET16(v6, 1096, v42);
+if (v45 == 0) {
+in_mm_control_table_ControlTable_add(RUD_AS v6, v25, v6 + 1096u);
 RUD_AGAIN
-if (AT8(v6, 0) == 0) goto L345;
-v46 = AT8(v6, 1);
-v48 = 8u;
-goto L326;
+if (AT8(v6, 0) == 0) goto L329;
+i0 = AT8(v6, 1);
+goto L331;
 }
 SET64(v6, 1292, a3);
-SET8(v6, 1291, v48);
-SET8(v6, 1290, v47);
-SET16(v6, 1288, v46);
-v9 = AT64(a1, 24);
-v13 = AT64(a1, 32);
-in_mm_control_table_place_of(RUD_AS v6 + 8u, v9, v13, v6 + 1288u);
-if (AT8(v6, 8)) {
-v46 = 0u;
-v48 = 8u;
-goto L326;
-}
+SET8(v6, 1291, v44);
+SET8(v6, 1290, v43);
+SET16(v6, 1288, v42);
+v8 = AT64(a1, 24);
+v11 = AT64(a1, 32);
+in_mm_control_table_place_of(RUD_AS v6 + 8u, v8, v11, v6 + 1288u);
+if (AT8(v6, 8) == 0) goto L330;
+i0 = 0u;
+L331:;
+v42 = i0;
+v44 = 8u;
+goto L312;
+L330:;
 a4 = AT64(v6, 16);
 SET64(a1, 32, 0u);
-v18 = AT64(a1, 40);
+v14 = AT64(a1, 40);
 SET64(a1, 40, 0u);
-v11 = v13 - 1u;
-a3 = v11 - a4;
-v7 = a4 * 12u;
+v13 = v11 - 1u;
+a3 = v13 - a4;
 if (a4 != 0xffffffffffffffffull) {
-if (a3 >= 171u) {
-v8 = v9 + (a4 * 12u);
-L352:;
+if (!(a3 < 171u)) {
+v9 = v8 + (a4 * 12u);
+L337:;
 v7 = a4;
 if (v7 != 0xffffffffffffffffull) {
 a3 = 0u;
-L355:;
-a4 = a3 + v8;
-v23 = a4 + 20u;
-TEST(v23);
+L340:;
+a4 = a3 + v9;
 TEST(a4);
-SET32(a4, 8, AT32(v23, 0));
-v19 = a4 + 12u;
+SET32(a4, 8, AT32(a4, 20));
 SET64(a4, 0, AT64(a4, 12));
-SET64(a4, 12, AT64(v23, 4));
-SET32(v23, 0, AT32(v23, 12));
-a3 = a3 + 24u;
-if (a3 != 2040u) goto L355;
-goto L353;
+a3 = a3 + 12u;
+if (a3 != 2040u) goto L340;
+goto L338;
 }
 a3 = 0u;
-L356:;
-a4 = a3 + v8;
-v46 = GET32(a4 + 2048u, 0);
-PUT32(a4 + 2036u, 0, v46);
-v23 = GET64(a4 + 2040u, 0);
-PUT64(a4 + 2028u, 0, v23);
-PUT64(a4 + 2016u, 0, v23);
-PUT32(a4 + 2024u, 0, v46);
-a3 = a3 - 24u;
-if (a3 != 0xfffffffffffff808ull) goto L356;
-L353:;
-v8 = v8 + 2040u;
+L341:;
+a4 = a3 + v9;
+PUT32(a4 + 2036u, 0, GET32(a4 + 2048u, 0));
+PUT64(a4 + 2028u, 0, GET64(a4 + 2040u, 0));
+a3 = a3 - 12u;
+if (a3 != 0xfffffffffffff808ull) goto L341;
+L338:;
+v9 = v9 + 2040u;
 a4 = v7 + 170u;
-a3 = v11 - a4;
-if (a3 > 170u) goto L352;
-if (a4 == 0xffffffffffffffffull) goto L350;
-v7 = a4 * 12u;
+a3 = v13 - a4;
+if (a3 > 170u) goto L337;
+if (a4 == 0xffffffffffffffffull) goto L335;
 }
-if (a4 == v11) goto L349;
+if (a4 == v13) goto L334;
 a3 = a3 * 12u;
-if (a3 == 0) goto L349;
-a4 = v7 + v9;
+if (a3 == 0) goto L334;
+a4 = (a4 * 12u) + v8;
 COPY(a4, a4 + 12u, a3);
-goto L349;
-L350:;
-if (v13 == 0) goto L349;
-a3 = v13 - 171u;
-a4 = (v9 + (v13 * 12u)) - 24u;
-L357:;
+goto L334;
+L335:;
+if (v11 == 0) goto L334;
+a3 = v11 - 171u;
+a4 = (v8 + (v11 * 12u)) - 24u;
+L342:;
 TEST(a4);
 SET32(a4, 8, AT32(a4, 20));
 SET64(a4, 0, AT64(a4, 12));
 a4 = a4 - 12u;
 a3 = a3 - 1u;
-if (v7 != a3) goto L357;
-L349:;
-SET64(a1, 40, v18);
-SET64(a1, 32, v11);
-SET64(a1, 24, v9);
-goto L345;
+if (v7 != a3) goto L342;
+L334:;
+SET64(a1, 40, v14);
+SET64(a1, 32, v13);
+SET64(a1, 24, v8);
+goto L329;
 }
-if (v13 == 0) goto L358;
-v8 = a3 & 3u;
-v23 = 0u;
-if (((v13 - a4) - 2u) >= 3u) {
-v19 = v7 + v9;
-v21 = a4 * 0xfffffffffffffff4ull;
-v25 = a3 & 0xfffffffffffffffcull;
-v7 = (v9 + (v13 * 12u)) - 24u;
-L360:;
-v26 = v7 + v21;
-TEST(v26);
-v28 = AT64(v26, 0);
-TEST(v7);
-SET32(v7, 8, AT32(v26, 8));
-SET64(v7, 0, v28);
-v26 = (a3 + (v23 ^ 4611686018427387902ull)) * 12u;
-v28 = v9 + v26;
-TEST(v28);
-v30 = AT64(v28, 0);
-v26 = v19 + v26;
-TEST(v26);
-SET32(v26, 8, AT32(v28, 8));
-SET64(v26, 0, v30);
-v26 = (a3 + (v23 ^ 4611686018427387901ull)) * 12u;
-v28 = v9 + v26;
-TEST(v28);
-v30 = AT64(v28, 0);
-v26 = v19 + v26;
-TEST(v26);
-SET32(v26, 8, AT32(v28, 8));
-SET64(v26, 0, v30);
-v26 = (a3 + (v23 ^ 4611686018427387900ull)) * 12u;
-v28 = v9 + v26;
-TEST(v28);
-v30 = AT64(v28, 0);
-v26 = v19 + v26;
-TEST(v26);
-SET32(v26, 8, AT32(v28, 8));
-SET64(v26, 0, v30);
-v7 = v7 - 48u;
-v23 = v23 + 4u;
-if (v25 != v23) goto L360;
-if (v8 == 0) goto L358;
-}
-v7 = v9 - 24u;
-v13 = v13 * 12u;
-a3 = v7 + (v13 - (v23 * 12u));
-a4 = v7 + (v13 - ((a4 + v23) * 12u));
-L361:;
+if (!(v11 == 0)) {
+v7 = a4 * 0xfffffffffffffff4ull;
+a4 = (v8 + (v11 * 12u)) - 24u;
+L344:;
+v11 = a4 + v7;
+TEST(v11);
+v9 = AT64(v11, 0);
 TEST(a4);
-v7 = AT64(a4, 0);
-TEST(a3);
-SET32(a3, 8, AT32(a4, 8));
-SET64(a3, 0, v7);
-a3 = a3 - 12u;
+SET32(a4, 8, AT32(v11, 8));
+SET64(a4, 0, v9);
 a4 = a4 - 12u;
-v8 = v8 - 1u;
-if (v8 != 0u) goto L361;
-L358:;
-SET64(a1, 40, v18);
-SET64(a1, 32, v11);
-SET64(a1, 24, v9);
-L345:;
-v47 = 0u;
-v48 = 0u;
-v46 = 0u;
-goto L322;
-L330:;
-v9 = a3 + (v8 * 192u);
+a3 = a3 - 1u;
+if (a3 != 0u) goto L344;
+}
+SET64(a1, 40, v14);
+SET64(a1, 32, v13);
+SET64(a1, 24, v8);
+L329:;
+v43 = 0u;
+v44 = 0u;
+v42 = 0u;
+goto L305;
+L316:;
+v12 = a3 + (v7 * 192u);
 switch ((u32)(u64)AT8(a4, 24) - 1u) {
-case 0u: goto L368;
-case 1u: goto L367;
-case 2u: goto L366;
-case 3u: goto L365;
-case 4u: goto L364;
-case 5u: goto L363;
-case 6u: goto L362;
-default: goto L369;
+case 0u: goto L351;
+case 1u: goto L350;
+case 2u: goto L349;
+case 3u: goto L348;
+case 4u: goto L347;
+case 5u: goto L346;
+case 6u: goto L345;
+default: goto L352;
 }
-L369:;
-TEST(v9);
-SET8(v9, 120, 1u);
-goto L329;
-L368:;
-TEST(v9);
-SET8(v9, 120, 0u);
-goto L329;
-L367:;
-v48 = 7u;
-TEST(v9);
-if (AT8(v9, 128) == 1u) {
-v46 = 2u;
-goto L322;
-}
+L352:;
+TEST(v12);
+SET8(v12, 120, 1u);
+goto L315;
+L351:;
+TEST(v12);
+SET8(v12, 120, 0u);
+goto L315;
+L350:;
+v44 = 7u;
+TEST(v12);
+if (AT8(v12, 128) == 1u) goto L307;
 a3 = AT64(a4, 40);
 a4 = AT64(a4, 32);
 if (a3 < a4) {
-v46 = 4u;
-goto L322;
+v42 = 4u;
+goto L305;
 }
-SET64(v9, 152, 0u);
-SET64(v9, 144, a3);
-SET64(v9, 136, a4);
-SET64(v9, 128, 1u);
-SET64(v9, 160, 0u);
-goto L329;
-L366:;
-TEST(v9);
-SET64(v9, 136, 0u);
-SET64(v9, 144, 0u);
-SET64(v9, 152, 0u);
-a3 = v9 + 128u;
-i0 = AT8(v9, 128);
-SET64(v9, 128, 0u);
-if (i0 == 1u) goto L329;
-v48 = 7u;
-v46 = 3u;
-goto L322;
-L365:;
-TEST(v9);
-if (AT8(v9, 128) == 1u) {
-v48 = 7u;
-v46 = 2u;
-goto L322;
+SET64(v12, 152, 0u);
+SET64(v12, 144, a3);
+SET64(v12, 136, a4);
+SET64(v12, 128, 1u);
+SET64(v12, 160, 0u);
+goto L315;
+L349:;
+TEST(v12);
+SET64(v12, 136, 0u);
+SET64(v12, 144, 0u);
+SET64(v12, 152, 0u);
+a3 = v12 + 128u;
+i0 = AT8(v12, 128);
+SET64(v12, 128, 0u);
+if (i0 == 1u) goto L315;
+v44 = 7u;
+v42 = 3u;
+goto L305;
+L348:;
+TEST(v12);
+if (AT8(v12, 128) == 1u) {
+v44 = 7u;
+goto L307;
 }
 v8 = AT64(a4, 32);
-v13 = v9 + 24u;
-if (AT8(v9, 16) == 0) {
-a3 = AT64(v9, 40);
+v11 = v12 + 24u;
+if (AT8(v12, 16) == 0) {
+a3 = AT64(v12, 40);
 if (a3 == 0) {
-j0 = a3;
-goto L373;
+a4 = 0u;
+goto L357;
 }
 a4 = a3;
-v7 = AT64(v9, 48);
-v23 = AT64(v9, 32);
-if (GET64(AT64(v9, 24) + ((v7 - (v7 < v23 ? 0ull : v23)) * 40u), 0) > v8) goto L376;
-L377:;
-SET64(v6, 1328, 0u);
-SET64(v6, 1320, 0u);
-SET64(v6, 1312, 0u);
-SET64(v6, 1304, 0u);
-SET64(v6, 1296, 0u);
-SET64(v6, 1288, 0u);
-in_circular_buffer_heap_HeapCircularBuffer_pop_front_b37a56fa4dba49(RUD_AS v6 + 1288u, v13);
+v7 = AT64(v12, 48);
+v9 = AT64(v12, 32);
+if (GET64(AT64(v12, 24) + ((v7 - (v7 < v9 ? 0ull : v9)) * 40u), 0) > v8) goto L357;
+L359:;
+a4 = v6 + 1288u;
+FILL_FEW(a4, 0u, 48u);
+in_circular_buffer_heap_HeapCircularBuffer_pop_front_b37a56fa4dba49(RUD_AS a4, v11);
 if (AT8(v6, 1288) != 1u) goto L19;
 in_std_alloc_arc_Arc_drop_c3b6ee2ab0dfb523(RUD_AS AT64(v6, 1328));
 RUD_AGAIN
 a4 = 0u;
-v7 = AT64(v9, 40);
-if (v7 == 0) goto L376;
+v7 = AT64(v12, 40);
+if (v7 == 0) goto L357;
 a4 = v7;
-v7 = AT64(v9, 48);
-v23 = AT64(v9, 32);
-if (GET64(AT64(v9, 24) + ((v7 - (v7 < v23 ? 0ull : v23)) * 40u), 0) <= v8) goto L377;
-L376:;
+v7 = AT64(v12, 48);
+v9 = AT64(v12, 32);
+if (GET64(AT64(v12, 24) + ((v7 - (v7 < v9 ? 0ull : v9)) * 40u), 0) <= v8) goto L359;
+L357:;
 j0 = a3 - a4;
-goto L373;
+goto L355;
 }
-a3 = AT64(v9, 56);
+a3 = AT64(v12, 56);
 if (a3 == 0) {
-v23 = 0u;
-goto L378;
+v9 = 0u;
+goto L360;
 }
-v7 = v9 + 48u;
+v7 = v12 + 48u;
 a4 = a3;
-L380:;
-v23 = AT64(v9, 48);
-j0 = AT64(v9, 24);
-if (AT64(v9, 80) != a4) {
-j1 = v23 + (AT64(v9, 72) << 2);
+L362:;
+v9 = AT64(v12, 48);
+j0 = AT64(v12, 24);
+if (AT64(v12, 80) != a4) {
+j1 = v9 + (AT64(v12, 72) << 2);
 } else {
-j1 = v23;
+j1 = v9;
 }
 TEST(j1);
-v11 = j0 + ((u64)AT32(j1, 0) * 48u);
-TEST(v11);
-if ((AT8(v11, 0) & 1u) == 0) goto L19;
-v23 = a4;
-if (AT64(v11, 8) > v8) goto L378;
+v13 = j0 + ((u64)AT32(j1, 0) * 48u);
+TEST(v13);
+if ((AT8(v13, 0) & 1u) == 0) goto L19;
+v9 = a4;
+if (AT64(v13, 8) > v8) goto L360;
 in_std_alloc_vec_deque_VecDeque_pop_front_384c51600a7917bd(RUD_AS v6 + 24u, v7);
 if ((AT8(v6, 24) & 1u) == 0) goto L19;
-a4 = v9 + 96u;
-v23 = AT64(v9, 96);
-v46 = AT32(v6, 28);
-PUT32(AT64(v9, 88) + (v23 << 2), 0, v46);
-SET64(v9, 96, v23 + 1u);
-v23 = 0u;
-a4 = AT64(v9, 24) + ((u64)v46 * 48u);
+a4 = v12 + 96u;
+v9 = AT64(v12, 96);
+v42 = AT32(v6, 28);
+PUT32(AT64(v12, 88) + (v9 << 2), 0, v42);
+SET64(v12, 96, v9 + 1u);
+a4 = AT64(v12, 24) + ((u64)v42 * 48u);
 TEST(a4);
-SET64(a4, 8, 0u);
-SET64(a4, 16, 0u);
-SET64(a4, 24, 0u);
-SET64(a4, 32, 0u);
-i0 = AT8(a4, 0);
-SET64(a4, 0, 0u);
-a4 = a4 + 40u;
-TEST(a4);
-v11 = AT64(a4, 0);
-SET64(a4, 0, 0u);
-if (i0 != 1u) goto L19;
-in_std_alloc_arc_Arc_drop_c3b6ee2ab0dfb523(RUD_AS v11);
+j0 = AT64(a4, 40);
+i1 = AT8(a4, 0);
+FILL_FEW(a4, 0u, 48u);
+if (i1 != 1u) goto L19;
+in_std_alloc_arc_Arc_drop_c3b6ee2ab0dfb523(RUD_AS j0);
 RUD_AGAIN
-a4 = AT64(v9, 56);
-if (a4 != 0u) goto L380;
-L378:;
-j0 = a3 - v23;
-L373:;
+v9 = 0u;
+a4 = AT64(v12, 56);
+if (a4 != 0u) goto L362;
+L360:;
+j0 = a3 - v9;
+L355:;
 a3 = j0;
-a4 = v9 + 184u;
-SET64(v9, 184, AT64(v9, 184) + (a3 & 4294967295u));
-goto L329;
-L364:;
-v48 = 7u;
-TEST(v9);
-if (AT8(v9, 120)) {
-v46 = 6u;
-goto L322;
-}
-if (AT8(v9, 128) == 1u) {
-v46 = 2u;
-goto L322;
-}
-v46 = AT32(a4, 28);
-a3 = v9 + 24u;
-if (AT8(v9, 16) == 0) {
-v48 = 1u;
-v49 = v46 < AT32(v9, 40);
-if (v49) goto L384;
-SET64(v6, 1128, 0u);
-SET64(v6, 1120, 0u);
-SET64(v6, 1112, 0u);
-SET64(v6, 1104, 0u);
-SET64(v6, 1096, 0u);
-in_mm_store_ring_HeapCircularBufferStoredPacketQueue_with_room(RUD_AS v6 + 1096u, v46);
+a4 = v12 + 184u;
+SET64(v12, 184, AT64(v12, 184) + (a3 & 4294967295u));
+goto L315;
+L347:;
+v44 = 7u;
+TEST(v12);
+if (AT8(v12, 120)) goto L306;
+if (AT8(v12, 128) == 1u) goto L307;
+v42 = AT32(a4, 28);
+a3 = v12 + 24u;
+if (AT8(v12, 16) == 0) {
+v44 = 1u;
+v45 = v42 < AT32(v12, 40);
+if (v45) goto L364;
+a4 = v6 + 1096u;
+FILL_FEW(a4, 0u, 40u);
+in_mm_store_ring_HeapCircularBufferStoredPacketQueue_with_room(RUD_AS a4, v42);
 RUD_AGAIN
-if (AT8(v6, 1096)) goto L384;
-v13 = AT64(v6, 1128);
-v23 = AT64(v6, 1120);
+if (AT8(v6, 1096)) goto L364;
+v11 = AT64(v6, 1128);
+v9 = AT64(v6, 1120);
 a4 = AT64(v6, 1112);
-v11 = AT64(v6, 1104);
-v18 = v9 + 40u;
-if (!(AT64(v9, 40) == 0)) {
-v21 = a4 < v23 ? v23 : a4;
-v7 = v11 + ((v13 + v23) * 40u);
-L387:;
-SET64(v6, 1328, 0u);
-SET64(v6, 1320, 0u);
-SET64(v6, 1312, 0u);
-SET64(v6, 1304, 0u);
-SET64(v6, 1296, 0u);
-SET64(v6, 1288, 0u);
-in_circular_buffer_heap_HeapCircularBuffer_pop_front_b37a56fa4dba49(RUD_AS v6 + 1288u, a3);
+v13 = AT64(v6, 1104);
+v17 = v12 + 40u;
+if (!(AT64(v12, 40) == 0)) {
+v21 = a4 < v9 ? v9 : a4;
+v8 = v13 + ((v9 + v11) * 40u);
+L367:;
+v7 = v6 + 1288u;
+FILL_FEW(v7, 0u, 48u);
+in_circular_buffer_heap_HeapCircularBuffer_pop_front_b37a56fa4dba49(RUD_AS v7, a3);
 if (AT8(v6, 1288) != 1u) goto L19;
 SET64(v6, 1616, AT64(v6, 1320));
 SET64(v6, 1608, AT64(v6, 1312));
 SET64(v6, 1600, AT64(v6, 1304));
 SET64(v6, 1592, AT64(v6, 1296));
-v19 = AT64(v6, 1328);
-if (v21 == v23) goto L325;
-v8 = v7 + (((v13 + v23) < a4 ? 0ull : a4) * 0xffffffffffffffd8ull);
-TEST(v8);
-SET64(v8, 24, AT64(v6, 1616));
-SET64(v8, 16, AT64(v6, 1608));
-SET64(v8, 8, AT64(v6, 1600));
-SET64(v8, 0, AT64(v6, 1592));
-SET64(v8, 32, v19);
-v7 = v7 + 40u;
-v23 = v23 + 1u;
-if (AT64(v9, 40) != 0u) goto L387;
+v14 = AT64(v6, 1328);
+if (v9 == v21) goto L311;
+v7 = v8 + (((v9 + v11) < a4 ? 0ull : a4) * 0xffffffffffffffd8ull);
+TEST(v7);
+SET64(v7, 24, AT64(v6, 1616));
+SET64(v7, 16, AT64(v6, 1608));
+SET64(v7, 8, AT64(v6, 1600));
+SET64(v7, 0, AT64(v6, 1592));
+SET64(v7, 32, v14);
+v8 = v8 + 40u;
+v9 = v9 + 1u;
+if (AT64(v12, 40) != 0u) goto L367;
 }
-v7 = AT64(v9, 48);
-SET64(v9, 48, v13);
-v8 = AT64(v9, 40);
-SET64(v9, 40, v23);
-v13 = AT64(v9, 32);
-SET64(v9, 32, a4);
-a3 = AT64(v9, 24);
-SET64(v9, 24, v11);
+v7 = AT64(v12, 48);
+SET64(v12, 48, v11);
+v8 = AT64(v12, 40);
+SET64(v12, 40, v9);
+v11 = AT64(v12, 32);
+SET64(v12, 32, a4);
+a3 = AT64(v12, 24);
+SET64(v12, 24, v13);
 SET64(v6, 1288, a3);
-SET64(v6, 1296, v13);
+SET64(v6, 1296, v11);
 SET64(v6, 1304, v8);
 SET64(v6, 1312, v7);
 in_circular_buffer_heap_HeapCircularBuffer_drop_e7afb5b3a14eae53(RUD_AS v6 + 1288u);
 RUD_AGAIN
-v48 = 0u;
-goto L384;
+v44 = 0u;
+goto L364;
 }
-v48 = 1u;
-v49 = v46 < AT32(v9, 56);
-if (v49) goto L384;
+v44 = 1u;
+v45 = v42 < AT32(v12, 56);
+if (v45) goto L364;
 a4 = v6 + 1288u;
 FILL_FEW(a4, 0u, 96u);
-in_mm_store_table_BlockTablePacketQueue_with_room(RUD_AS a4, v46);
+in_mm_store_table_BlockTablePacketQueue_with_room(RUD_AS a4, v42);
 RUD_AGAIN
-if (AT8(v6, 1288)) goto L384;
-v28 = AT64(v6, 1376);
-v23 = AT64(v6, 1368);
+if (AT8(v6, 1288)) goto L364;
+v31 = AT64(v6, 1376);
+v9 = AT64(v6, 1368);
 v21 = AT64(v6, 1360);
-v8 = AT64(v6, 1352);
-v11 = AT64(v6, 1344);
-v25 = AT64(v6, 1336);
-v7 = AT64(v6, 1328);
-v18 = AT64(v6, 1320);
-v26 = AT64(v6, 1296);
-v30 = v9 + 56u;
-if (!(AT64(v9, 56) == 0)) {
-v33 = v25 - v11;
-v34 = v9 + 48u;
-v19 = v18 + ((v7 + v11) << 2);
-v13 = (v21 + (v23 << 2)) - 4u;
-L389:;
-in_std_alloc_vec_deque_VecDeque_pop_front_384c51600a7917bd(RUD_AS v6 + 32u, v34);
+v13 = AT64(v6, 1352);
+a4 = AT64(v6, 1344);
+v24 = AT64(v6, 1336);
+v8 = AT64(v6, 1328);
+v7 = AT64(v6, 1320);
+v22 = AT64(v6, 1296);
+v28 = v12 + 56u;
+if (!(AT64(v12, 56) == 0)) {
+v29 = v24 - a4;
+v32 = v12 + 48u;
+v14 = v7 + ((a4 + v8) << 2);
+v11 = (v21 + (v9 << 2)) - 4u;
+L369:;
+in_std_alloc_vec_deque_VecDeque_pop_front_384c51600a7917bd(RUD_AS v6 + 32u, v32);
 if ((AT8(v6, 32) & 1u) == 0) goto L19;
-a4 = v9 + 96u;
-v31 = AT64(v9, 96);
-v46 = AT32(v6, 36);
-PUT32(AT64(v9, 88) + (v31 << 2), 0, v46);
-SET64(v9, 96, v31 + 1u);
-a4 = AT64(v9, 24) + ((u64)v46 * 48u);
-TEST(a4);
-i0 = AT8(a4, 0);
-SET64(a4, 0, 0u);
-v31 = a4 + 40u;
-v42 = AT64(a4, 40);
-SET64(a4, 40, 0u);
-v31 = a4 + 32u;
-v43 = AT64(a4, 32);
-SET64(a4, 32, 0u);
-v31 = a4 + 24u;
-v44 = AT64(a4, 24);
-SET64(a4, 24, 0u);
-v31 = a4 + 16u;
-v45 = AT64(a4, 16);
-SET64(a4, 16, 0u);
-a4 = a4 + 8u;
-TEST(a4);
-v31 = AT64(a4, 0);
-SET64(a4, 0, 0u);
-SET64(v6, 1096, v31);
-SET64(v6, 1104, v45);
-SET64(v6, 1112, v44);
-SET64(v6, 1120, v43);
-SET64(v6, 1128, v42);
+v17 = v12 + 96u;
+v33 = AT64(v12, 96);
+v42 = AT32(v6, 36);
+PUT32(AT64(v12, 88) + (v33 << 2), 0, v42);
+SET64(v12, 96, v33 + 1u);
+v17 = AT64(v12, 24) + ((u64)v42 * 48u);
+TEST(v17);
+i0 = AT8(v17, 0);
+COPY_FEW(v6 + 1096u, v17 + 8u, 40u);
+FILL_FEW(v17, 0u, 48u);
 if (i0 != 1u) goto L19;
-SET64(v6, 1624, AT64(v6, 1128));
-SET64(v6, 1616, AT64(v6, 1120));
-SET64(v6, 1608, AT64(v6, 1112));
-SET64(v6, 1600, AT64(v6, 1104));
-SET64(v6, 1592, AT64(v6, 1096));
-if (v23 == 0) goto L19;
-TEST(v13);
-v46 = AT32(v13, 0);
-a4 = v26 + ((u64)v46 * 48u);
-TEST(a4);
-i0 = AT8(a4, 0);
-SET64(a4, 0, 1u);
-SET64(a4, 8, AT64(v6, 1592));
-SET64(a4, 16, AT64(v6, 1600));
-SET64(a4, 24, AT64(v6, 1608));
-SET64(a4, 32, AT64(v6, 1616));
-a4 = a4 + 40u;
-TEST(a4);
-v31 = AT64(a4, 0);
-SET64(a4, 0, AT64(v6, 1624));
+COPY_FEW(v6 + 1592u, v6 + 1096u, 40u);
+if (v9 == 0) goto L19;
+TEST(v11);
+v42 = AT32(v11, 0);
+v17 = v22 + ((u64)v42 * 48u);
+TEST(v17);
+i0 = AT8(v17, 0);
+SET64(v17, 0, 1u);
+v33 = AT64(v17, 40);
+COPY_FEW(v17 + 8u, v6 + 1592u, 40u);
 if (i0 == 1u) {
-in_std_alloc_arc_Arc_drop_c3b6ee2ab0dfb523(RUD_AS v31);
+in_std_alloc_arc_Arc_drop_c3b6ee2ab0dfb523(RUD_AS v33);
 RUD_AGAIN
 }
-if (v33 > (v7 - v8)) {
-PUT32(v19 - (v8 << 2), 0, v46);
-goto L391;
+if (v29 > (v8 - v13)) {
+PUT32(v14 - (v13 << 2), 0, v42);
+goto L371;
 }
-PUT32(v18 + (v8 << 2), 0, v46);
+PUT32(v7 + (v13 << 2), 0, v42);
+v13 = v13 + 1u;
+L371:;
+v9 = v9 - 1u;
+v14 = v14 + 4u;
+v11 = v11 - 4u;
 v8 = v8 + 1u;
-L391:;
-v23 = v23 - 1u;
-v19 = v19 + 4u;
-v13 = v13 - 4u;
-v7 = v7 + 1u;
-if (AT64(v9, 56) != 0u) goto L389;
+if (AT64(v12, 56) != 0u) goto L369;
 }
 SET64(v6, 1096, AT64(v6, 1304));
 SET64(v6, 1104, AT64(v6, 1312));
-a4 = AT64(v9, 40);
-v13 = AT64(v9, 32);
-a3 = AT64(v9, 24);
-SET64(v9, 24, v26);
-SET64(v9, 96, v23);
-SET64(v9, 80, v8);
-SET64(v9, 72, v11);
-SET64(v9, 56, v7);
-v7 = v9 + 48u;
-v8 = AT64(v9, 48);
-SET64(v9, 48, v18);
-v7 = v9 + 64u;
-j0 = AT64(v9, 64);
-SET64(v9, 64, v25);
-v7 = v9 + 88u;
-v11 = AT64(v9, 88);
-SET64(v9, 88, v21);
-v7 = v9 + 104u;
-v19 = AT64(v9, 104);
-SET64(v9, 104, v28);
+v11 = AT64(v12, 40);
+v14 = AT64(v12, 32);
+a3 = AT64(v12, 24);
+SET64(v12, 24, v22);
+SET64(v12, 96, v9);
+SET64(v12, 80, v13);
+SET64(v12, 72, a4);
+SET64(v12, 56, v8);
+a4 = v12 + 48u;
+v8 = AT64(v12, 48);
+SET64(v12, 48, v7);
+a4 = v12 + 64u;
+j0 = AT64(v12, 64);
+SET64(v12, 64, v24);
+a4 = v12 + 88u;
+v9 = AT64(v12, 88);
+SET64(v12, 88, v21);
+a4 = v12 + 104u;
+v13 = AT64(v12, 104);
+SET64(v12, 104, v31);
 SET64(v6, 1288, a3);
-SET64(v6, 1296, v13);
-SET64(v6, 1304, a4);
-SET64(v9, 32, AT64(v6, 1096));
-SET64(v9, 40, AT64(v6, 1104));
+SET64(v6, 1296, v14);
+SET64(v6, 1304, v11);
+SET64(v12, 32, AT64(v6, 1096));
+SET64(v12, 40, AT64(v6, 1104));
 in_std_alloc_vec_Vec_drop_eb57a1c6c018074a(RUD_AS v6 + 1288u);
 RUD_AGAIN
 if (!(j0 == 0)) {
 rud_dealloc(RUD_AS v8);
 RUD_AGAIN
 }
-v48 = 0u;
-if (v19 == 0) goto L384;
-rud_dealloc(RUD_AS v11);
+v44 = 0u;
+if (v13 == 0) goto L364;
+rud_dealloc(RUD_AS v9);
 RUD_AGAIN
-L384:;
-if (v48 == 0) goto L329;
-v46 = v49 ? 7u : 0u;
-v48 = v46;
-goto L322;
-L363:;
-v48 = 7u;
-TEST(v9);
-if (AT8(v9, 120)) {
-v46 = 6u;
-goto L322;
-}
-if (AT8(v9, 128) == 1u) {
-v46 = 2u;
-goto L322;
-}
+L364:;
+if (v44 == 0) goto L315;
+v42 = v45 ? 7u : 0u;
+v44 = v42;
+goto L305;
+L346:;
+v44 = 7u;
+TEST(v12);
+if (AT8(v12, 120)) goto L306;
+if (AT8(v12, 128) == 1u) goto L307;
 i0 = AT8(a4, 25);
 SET64(v6, 1512, 0u);
 SET64(v6, 1504, 0u);
 SET64(v6, 1496, 0u);
 SET64(v6, 1488, 0u);
-v48 = AT8(v9, 16);
-if (i0 == v48) goto L329;
-v18 = v9 + 24u;
-v46 = AT32(v9, 32);
-if (v48 == 0) {
+v44 = AT8(v12, 16);
+if (i0 == v44) goto L315;
+a4 = v12 + 24u;
+v42 = AT32(v12, 32);
+if (v44 == 0) {
 a3 = v6 + 1288u;
 FILL_FEW(a3, 0u, 96u);
-in_mm_store_table_BlockTablePacketQueue_with_room(RUD_AS a3, v46);
+in_mm_store_table_BlockTablePacketQueue_with_room(RUD_AS a3, v42);
 RUD_AGAIN
-if (AT8(v6, 1288)) goto L396;
-v30 = AT64(v6, 1376);
-v7 = AT64(v6, 1368);
-v26 = AT64(v6, 1360);
-v19 = AT64(v6, 1352);
-v21 = AT64(v6, 1344);
-v28 = AT64(v6, 1336);
-v13 = AT64(v6, 1328);
-a3 = AT64(v6, 1320);
-v25 = AT64(v6, 1296);
-if (!(AT64(v9, 40) == 0)) {
-v11 = v28 - v21;
-v8 = a3 + ((v13 + v21) << 2);
-v23 = (v26 + (v7 << 2)) - 4u;
-L400:;
-SET64(v6, 1136, 0u);
-SET64(v6, 1128, 0u);
-SET64(v6, 1120, 0u);
-SET64(v6, 1112, 0u);
-SET64(v6, 1104, 0u);
-SET64(v6, 1096, 0u);
-in_circular_buffer_heap_HeapCircularBuffer_pop_front_b37a56fa4dba49(RUD_AS v6 + 1096u, v18);
+if (AT8(v6, 1288)) goto L309;
+v31 = AT64(v6, 1376);
+v8 = AT64(v6, 1368);
+v17 = AT64(v6, 1360);
+v14 = AT64(v6, 1352);
+a3 = AT64(v6, 1344);
+v24 = AT64(v6, 1336);
+v11 = AT64(v6, 1328);
+v7 = AT64(v6, 1320);
+v21 = AT64(v6, 1296);
+if (!(AT64(v12, 40) == 0)) {
+v28 = v24 - a3;
+v13 = v7 + ((a3 + v11) << 2);
+v9 = (v17 + (v8 << 2)) - 4u;
+L377:;
+v22 = v6 + 1096u;
+FILL_FEW(v22, 0u, 48u);
+in_circular_buffer_heap_HeapCircularBuffer_pop_front_b37a56fa4dba49(RUD_AS v22, a4);
 if (AT8(v6, 1096) != 1u) goto L19;
-SET64(v6, 1624, AT64(v6, 1136));
-SET64(v6, 1616, AT64(v6, 1128));
-SET64(v6, 1608, AT64(v6, 1120));
-SET64(v6, 1600, AT64(v6, 1112));
-SET64(v6, 1592, AT64(v6, 1104));
-if (v7 == 0) goto L19;
-TEST(v23);
-v46 = AT32(v23, 0);
-a4 = v25 + ((u64)v46 * 48u);
-TEST(a4);
-i0 = AT8(a4, 0);
-SET64(a4, 0, 1u);
-SET64(a4, 8, AT64(v6, 1592));
-SET64(a4, 16, AT64(v6, 1600));
-SET64(a4, 24, AT64(v6, 1608));
-SET64(a4, 32, AT64(v6, 1616));
-a4 = a4 + 40u;
-TEST(a4);
-v33 = AT64(a4, 0);
-SET64(a4, 0, AT64(v6, 1624));
+COPY_FEW(v6 + 1592u, v39, 40u);
+if (v8 == 0) goto L19;
+TEST(v9);
+v42 = AT32(v9, 0);
+v22 = v21 + ((u64)v42 * 48u);
+TEST(v22);
+i0 = AT8(v22, 0);
+SET64(v22, 0, 1u);
+v29 = AT64(v22, 40);
+COPY_FEW(v22 + 8u, v6 + 1592u, 40u);
 if (i0 == 1u) {
-in_std_alloc_arc_Arc_drop_c3b6ee2ab0dfb523(RUD_AS v33);
+in_std_alloc_arc_Arc_drop_c3b6ee2ab0dfb523(RUD_AS v29);
 RUD_AGAIN
 }
-if (v11 > (v13 - v19)) {
-PUT32(v8 - (v19 << 2), 0, v46);
-goto L402;
+if (v28 > (v11 - v14)) {
+PUT32(v13 - (v14 << 2), 0, v42);
+goto L379;
 }
-PUT32(a3 + (v19 << 2), 0, v46);
-v19 = v19 + 1u;
-L402:;
-v7 = v7 - 1u;
-v8 = v8 + 4u;
-v23 = v23 - 4u;
-v13 = v13 + 1u;
-if (AT64(v9, 40) != 0u) goto L400;
+PUT32(v7 + (v14 << 2), 0, v42);
+v14 = v14 + 1u;
+L379:;
+v8 = v8 - 1u;
+v13 = v13 + 4u;
+v9 = v9 - 4u;
+v11 = v11 + 1u;
+if (AT64(v12, 40) != 0u) goto L377;
 }
-v8 = AT64(v6, 1304);
-v23 = AT64(v6, 1312);
-v11 = 1u;
-j0 = AT64(v9, 56);
-goto L397;
+v13 = AT64(v6, 1304);
+v9 = AT64(v6, 1312);
+v22 = 1u;
+j0 = AT64(v12, 56);
+goto L374;
 }
-SET64(v6, 1320, 0u);
-SET64(v6, 1312, 0u);
-SET64(v6, 1304, 0u);
-SET64(v6, 1296, 0u);
-SET64(v6, 1288, 0u);
-in_mm_store_ring_HeapCircularBufferStoredPacketQueue_with_room(RUD_AS v6 + 1288u, v46);
+a3 = v6 + 1288u;
+FILL_FEW(a3, 0u, 40u);
+in_mm_store_ring_HeapCircularBufferStoredPacketQueue_with_room(RUD_AS a3, v42);
 RUD_AGAIN
-if (AT8(v6, 1288)) goto L396;
-a3 = AT64(v6, 1320);
-v23 = AT64(v6, 1312);
-v8 = AT64(v6, 1304);
-v25 = AT64(v6, 1296);
-if (!(AT64(v9, 56) == 0)) {
-v11 = v8 < v23 ? v23 : v8;
-v19 = v9 + 48u;
-v7 = v25 + ((a3 + v23) * 40u);
-L405:;
-in_std_alloc_vec_deque_VecDeque_pop_front_384c51600a7917bd(RUD_AS v6 + 40u, v19);
+if (AT8(v6, 1288)) goto L309;
+v7 = AT64(v6, 1320);
+v9 = AT64(v6, 1312);
+v13 = AT64(v6, 1304);
+v21 = AT64(v6, 1296);
+if (!(AT64(v12, 56) == 0)) {
+v14 = v9 > v13 ? v9 : v13;
+v17 = v12 + 48u;
+v8 = v21 + ((v7 + v9) * 40u);
+L382:;
+in_std_alloc_vec_deque_VecDeque_pop_front_384c51600a7917bd(RUD_AS v6 + 40u, v17);
 if ((AT8(v6, 40) & 1u) == 0) goto L19;
-a4 = v9 + 96u;
-v13 = AT64(v9, 96);
-v46 = AT32(v6, 44);
-PUT32(AT64(v9, 88) + (v13 << 2), 0, v46);
-SET64(v9, 96, v13 + 1u);
-a4 = AT64(v9, 24) + ((u64)v46 * 48u);
-TEST(a4);
-i0 = AT8(a4, 0);
-SET64(a4, 0, 0u);
-v21 = a4 + 40u;
-v13 = AT64(a4, 40);
-SET64(a4, 40, 0u);
-v21 = a4 + 32u;
-v26 = AT64(a4, 32);
-SET64(a4, 32, 0u);
-v21 = a4 + 24u;
-v28 = AT64(a4, 24);
-SET64(a4, 24, 0u);
-v21 = a4 + 16u;
-v30 = AT64(a4, 16);
-SET64(a4, 16, 0u);
-a4 = a4 + 8u;
-TEST(a4);
-v21 = AT64(a4, 0);
-SET64(a4, 0, 0u);
-SET64(v6, 1096, v21);
-SET64(v6, 1104, v30);
-SET64(v6, 1112, v28);
-SET64(v6, 1120, v26);
+a3 = v12 + 96u;
+v11 = AT64(v12, 96);
+v42 = AT32(v6, 44);
+PUT32(AT64(v12, 88) + (v11 << 2), 0, v42);
+SET64(v12, 96, v11 + 1u);
+a3 = AT64(v12, 24) + ((u64)v42 * 48u);
+TEST(a3);
+SET64(v6, 1096, AT64(a3, 8));
+SET64(v6, 1104, AT64(a3, 16));
+SET64(v6, 1112, AT64(a3, 24));
+SET64(v6, 1120, AT64(a3, 32));
+v11 = AT64(a3, 40);
+i0 = AT8(a3, 0);
+FILL_FEW(a3, 0u, 48u);
 if (i0 != 1u) goto L19;
 SET64(v6, 1616, AT64(v6, 1120));
 SET64(v6, 1608, AT64(v6, 1112));
 SET64(v6, 1600, AT64(v6, 1104));
 SET64(v6, 1592, AT64(v6, 1096));
-if (v11 == v23) goto L324;
-a4 = v7 + (((a3 + v23) < v8 ? 0ull : v8) * 0xffffffffffffffd8ull);
-TEST(a4);
-SET64(a4, 24, AT64(v6, 1616));
-SET64(a4, 16, AT64(v6, 1608));
-SET64(a4, 8, AT64(v6, 1600));
-SET64(a4, 0, AT64(v6, 1592));
-SET64(a4, 32, v13);
-v7 = v7 + 40u;
-v23 = v23 + 1u;
-if (AT64(v9, 56) != 0u) goto L405;
+if (v9 == v14) goto L310;
+a3 = v8 + (((v7 + v9) < v13 ? 0ull : v13) * 0xffffffffffffffd8ull);
+TEST(a3);
+SET64(a3, 24, AT64(v6, 1616));
+SET64(a3, 16, AT64(v6, 1608));
+SET64(a3, 8, AT64(v6, 1600));
+SET64(a3, 0, AT64(v6, 1592));
+SET64(a3, 32, v11);
+v8 = v8 + 40u;
+v9 = v9 + 1u;
+if (AT64(v12, 56) != 0u) goto L382;
 }
-v13 = AT64(v9, 112);
-v19 = 0u;
-v28 = 0u;
-v21 = 0u;
-v26 = 0u;
-v7 = 0u;
-v30 = 0u;
-v11 = 0u;
+v11 = AT64(v12, 112);
+v14 = 0u;
+v24 = 0u;
+a3 = 0u;
+v17 = 0u;
+v8 = 0u;
+v31 = 0u;
+v22 = 0u;
 j0 = 0u;
-L397:;
-a4 = j0;
-v33 = AT64(v9, 40);
-v34 = AT64(v9, 32);
-v18 = AT64(v9, 24);
-SET64(v9, 24, v25);
-SET64(v9, 32, v8);
-SET64(v9, 40, v23);
-SET64(v9, 112, a4);
-SET64(v9, 96, v7);
-SET64(v9, 80, v19);
-SET64(v9, 72, v21);
-SET64(v9, 56, v13);
-v7 = v9 + 48u;
-a4 = AT64(v9, 48);
-SET64(v9, 48, a3);
-a3 = v9 + 64u;
-j0 = AT64(v9, 64);
-SET64(v9, 64, v28);
-a3 = v9 + 88u;
-v8 = AT64(v9, 88);
-SET64(v9, 88, v26);
-a3 = v9 + 104u;
-v13 = AT64(v9, 104);
-SET64(v9, 104, v30);
-a3 = v9 + 16u;
-i1 = AT8(v9, 16);
-SET64(v9, 16, v11);
-SET64(v6, 1048, v18);
-SET64(v6, 1056, v34);
-SET64(v6, 1064, v33);
+L374:;
+v28 = j0;
+v29 = AT64(v12, 40);
+v32 = AT64(v12, 32);
+a4 = AT64(v12, 24);
+SET64(v12, 24, v21);
+SET64(v12, 32, v13);
+SET64(v12, 40, v9);
+SET64(v12, 112, v28);
+SET64(v12, 96, v8);
+SET64(v12, 80, v14);
+SET64(v12, 72, a3);
+SET64(v12, 56, v11);
+v8 = v12 + 48u;
+a3 = AT64(v12, 48);
+SET64(v12, 48, v7);
+v7 = v12 + 64u;
+j0 = AT64(v12, 64);
+SET64(v12, 64, v24);
+v7 = v12 + 88u;
+v11 = AT64(v12, 88);
+SET64(v12, 88, v17);
+v7 = v12 + 104u;
+v9 = AT64(v12, 104);
+SET64(v12, 104, v31);
+v7 = v12 + 16u;
+i1 = AT8(v12, 16);
+SET64(v12, 16, v22);
+SET64(v6, 1048, a4);
+SET64(v6, 1056, v32);
+SET64(v6, 1064, v29);
 if (i1 == 0) {
 SET64(v6, 1504, AT64(v6, 1064));
 SET64(v6, 1496, AT64(v6, 1056));
 SET64(v6, 1488, AT64(v6, 1048));
-SET64(v6, 1512, a4);
+SET64(v6, 1512, a3);
 in_circular_buffer_heap_HeapCircularBuffer_drop_e7afb5b3a14eae53(RUD_AS v6 + 1488u);
 RUD_AGAIN
-goto L329;
+goto L315;
 }
 in_std_alloc_vec_Vec_drop_eb57a1c6c018074a(RUD_AS v6 + 1048u);
 RUD_AGAIN
 if (!(j0 == 0)) {
-rud_dealloc(RUD_AS a4);
+rud_dealloc(RUD_AS a3);
 RUD_AGAIN
 }
-if (v13 == 0) goto L329;
-rud_dealloc(RUD_AS v8);
+if (v9 == 0) goto L315;
+rud_dealloc(RUD_AS v11);
 RUD_AGAIN
-goto L329;
-L396:;
-v46 = 0u;
-v48 = 0u;
-goto L322;
-L362:;
-v48 = 7u;
-TEST(v9);
-if (AT8(v9, 120)) {
-v46 = 6u;
-goto L322;
+goto L315;
+L345:;
+v44 = 7u;
+TEST(v12);
+if (AT8(v12, 120)) goto L306;
+if (AT8(v12, 128) == 1u) goto L307;
+SET8(v12, 8, AT8(a4, 25));
+L315:;
+v42 = 0u;
+v44 = 0u;
+v43 = 0u;
+goto L305;
 }
-if (AT8(v9, 128) == 1u) {
-v46 = 2u;
-goto L322;
+if (v42) {
+v44 = 3u;
+v42 = 0u;
+goto L305;
 }
-SET8(v9, 8, AT8(a4, 25));
-L329:;
-v46 = 0u;
-v48 = 0u;
-v47 = 0u;
-goto L322;
-}
-if (v46) {
-v48 = 3u;
-v46 = 0u;
-goto L322;
-}
-v8 = AT64(a4, 8);
-v46 = 0u;
+v11 = AT64(a4, 8);
+v42 = 0u;
 FILL_FEW(v6 + 1288u, 0u, 200u);
 SET64(v6, 1072, 0u);
 SET64(v6, 1064, 0u);
 SET64(v6, 1056, 0u);
 SET64(v6, 1048, 0u);
-v48 = 5u;
-if (v7 > 15u) goto L322;
+v44 = 5u;
+if (v8 > 15u) goto L305;
 a3 = v6 + 1592u;
 FILL_FEW(a3, 0u, 112u);
 in_mm_store_any_AnyStore_new(RUD_AS a3, AT8(a4, 24), AT32(a4, 20));
 RUD_AGAIN
-if (AT8(v6, 1592)) goto L323;
+if (AT8(v6, 1592)) goto L308;
 SET64(v6, 1120, AT64(v6, 1608));
 SET64(v6, 1128, AT64(v6, 1616));
-SET64(v6, 1488, AT64(v6, 1648));
-SET64(v6, 1496, AT64(v6, 1656));
-SET64(v6, 1504, AT64(v6, 1664));
-SET64(v6, 1512, AT64(v6, 1672));
-SET64(v6, 1520, AT64(v6, 1680));
-SET64(v6, 1528, AT64(v6, 1688));
-SET64(v6, 1536, AT64(v6, 1696));
-v47 = AT8(a4, 25);
+v43 = AT8(a4, 25);
 a3 = (u64)AT8(v6, 1600);
 a4 = AT64(v6, 1624);
-v9 = AT64(v6, 1632);
+v8 = AT64(v6, 1632);
 v7 = AT64(v6, 1640);
-SET64(v6, 1584, 0u);
-SET64(v6, 1576, 0u);
-SET64(v6, 1568, 0u);
-SET64(v6, 1560, 0u);
-SET64(v6, 1552, 0u);
-SET64(v6, 1544, 0u);
-v48 = 0u;
+v9 = v6 + 1488u;
+COPY_FEW(v9, v41, 56u);
+v44 = 0u;
+FILL_FEW(v38, 0u, 48u);
 SET32(v6, 1105, 0u);
 SET32(v6, 1108, 0u);
-SET8(v6, 1104, v47);
-SET64(v6, 1096, v8);
+SET8(v6, 1104, v43);
+SET64(v6, 1096, v11);
 SET64(v6, 1152, v7);
-SET64(v6, 1144, v9);
+SET64(v6, 1144, v8);
 SET64(v6, 1136, a4);
 SET64(v6, 1112, a3);
-COPY_FEW(v41, v6 + 1488u, 104u);
+COPY_FEW(v40, v9, 104u);
 SET64(v6, 1272, 0u);
 SET64(v6, 1280, 0u);
 SET64(v6, 1264, (a3 == 0 ? a4 : v7) & 4294967295u);
 in_std_alloc_vec_Vec_push_1546441aeb499ef3(RUD_AS v6 + 1288u, a1, v6 + 1096u);
 RUD_AGAIN
-v47 = AT8(v6, 1288);
-if (v47 != 1u) goto L322;
+v43 = AT8(v6, 1288);
+if (v43 != 1u) goto L305;
 a3 = AT64(v6, 1344);
 if (AT8(v6, 1312) == 0) {
 SET64(v6, 1072, a3);
@@ -23668,220 +19154,229 @@ SET64(v6, 1056, AT64(v6, 1328));
 SET64(v6, 1048, AT64(v6, 1320));
 in_circular_buffer_heap_HeapCircularBuffer_drop_e7afb5b3a14eae53(RUD_AS v6 + 1048u);
 RUD_AGAIN
-goto L326;
+goto L312;
 }
 v7 = AT64(v6, 1384);
 j0 = AT64(v6, 1400);
 j1 = AT64(v6, 1360);
-in_std_alloc_vec_Vec_drop_eb57a1c6c018074a(RUD_AS v24);
+in_std_alloc_vec_Vec_drop_eb57a1c6c018074a(RUD_AS v23);
 RUD_AGAIN
 if (!(j1 == 0)) {
 rud_dealloc(RUD_AS a3);
 RUD_AGAIN
 }
-v47 = 1u;
-if (j0 == 0) goto L322;
+v43 = 1u;
+if (j0 == 0) goto L305;
 rud_dealloc(RUD_AS v7);
 RUD_AGAIN
-goto L322;
+goto L305;
 }
-v46 = AT8(a4, 2);
-v48 = AT8(a4, 1);
-L326:;
-v47 = 1u;
-goto L322;
-L325:;
-in_std_alloc_arc_Arc_drop_c3b6ee2ab0dfb523(RUD_AS v19);
+v42 = AT8(a4, 2);
+v44 = AT8(a4, 1);
+L312:;
+v43 = 1u;
+goto L305;
+L311:;
+in_std_alloc_arc_Arc_drop_c3b6ee2ab0dfb523(RUD_AS v14);
 RUD_AGAIN
 rud_trap();
-L324:;
-in_std_alloc_arc_Arc_drop_c3b6ee2ab0dfb523(RUD_AS v13);
+L310:;
+in_std_alloc_arc_Arc_drop_c3b6ee2ab0dfb523(RUD_AS v11);
 RUD_AGAIN
 rud_trap();
-L323:;
-v48 = 0u;
-L322:;
-a3 = v16 + (a2 * 3u);
+L309:;
+v42 = 0u;
+L308:;
+v44 = 0u;
+goto L305;
+L307:;
+v42 = 2u;
+goto L305;
+L306:;
+v42 = 6u;
+L305:;
+a3 = v19 + (a2 * 3u);
 TEST(a3);
-SET8(a3, 0, v47);
-SET8(a3, 2, v47 ? v46 : 0u);
-SET8(a3, 1, v47 ? v48 : 0u);
+SET8(a3, 0, v43);
+SET8(a3, 2, v43 ? v42 : 0u);
+SET8(a3, 1, v43 ? v44 : 0u);
 a2 = a2 + 1u;
-if (a2 != v14) goto L321;
-a4 = v14;
+if (a2 != v10) goto L304;
+a4 = v10;
 }
-if (!(v10 == 0)) {
+if (!(v16 == 0)) {
 rud_dealloc(RUD_AS v15);
 RUD_AGAIN
 }
 SET64(v6, 152, AT64(v6, 496));
 SET64(v6, 144, AT64(v6, 488));
 SET64(v6, 136, AT64(v6, 480));
-a2 = v16;
+a2 = v19;
 a3 = a4;
 if ((s64)RUD_G0 >= (s64)16u) {
 if (!(a3 == 0)) {
-L417:;
+L392:;
 TEST(a2);
 if (AT8(a2, 0) == 0) {
-v46 = 255u;
-goto L418;
+v42 = 255u;
+goto L393;
 }
-v47 = AT8(a2, 2);
-v46 = AT8(a2, 1);
-switch ((u32)((u64)v46 & 255u) - 1u) {
-case 0u: goto L427;
-case 1u: goto L426;
-case 2u: goto L425;
-case 3u: goto L424;
-case 4u: goto L423;
-case 5u: goto L422;
-case 6u: goto L420;
-case 7u: goto L421;
-default: goto L418;
+v43 = AT8(a2, 2);
+v42 = AT8(a2, 1);
+switch ((u32)((u64)v42 & 255u) - 1u) {
+case 0u: goto L402;
+case 1u: goto L401;
+case 2u: goto L400;
+case 3u: goto L399;
+case 4u: goto L398;
+case 5u: goto L397;
+case 6u: goto L395;
+case 7u: goto L396;
+default: goto L393;
 }
-L427:;
-v46 = 15u;
-goto L418;
-L426:;
-v46 = 16u;
-goto L418;
-L425:;
-v46 = 23u;
-goto L418;
-L424:;
-v46 = 24u;
-goto L418;
-L423:;
-v46 = 25u;
-goto L418;
-L422:;
-v46 = 48u;
-goto L418;
-L421:;
-v46 = v47 ? 11u : 10u;
-goto L418;
-L420:;
-v46 = (u32)(655859871699308800ull >> ((((u64)v47 & 255u) << 3) & 63));
-L418:;
+L402:;
+v42 = 15u;
+goto L393;
+L401:;
+v42 = 16u;
+goto L393;
+L400:;
+v42 = 23u;
+goto L393;
+L399:;
+v42 = 24u;
+goto L393;
+L398:;
+v42 = 25u;
+goto L393;
+L397:;
+v42 = 48u;
+goto L393;
+L396:;
+v42 = v43 ? 11u : 10u;
+goto L393;
+L395:;
+v42 = (u32)(655859871699308800ull >> ((((u64)v43 & 255u) << 3) & 63));
+L393:;
 TEST(a5);
-SET8(a5, 0, v46);
+SET8(a5, 0, v42);
 a2 = a2 + 3u;
 a5 = a5 + 1u;
 a3 = a3 - 1u;
-if (a3 != 0u) goto L417;
+if (a3 != 0u) goto L392;
 }
-goto L414;
+goto L389;
 }
 rud_trap();
-L414:;
-v10 = a1 + 48u;
-v7 = v6 + 216u;
+L389:;
+v8 = a1 + 48u;
+a2 = v30;
+v11 = v6 + 216u;
 a1 = v6 + 136u;
-a3 = RUD_G0 - 32u;
-RUD_G0 = a3;
-if ((s64)a3 < (s64)16u) goto L429;
-a2 = AT64(v6, 136);
-v8 = AT64(v6, 144);
+a5 = RUD_G0 - 32u;
+RUD_G0 = a5;
+if ((s64)a5 < (s64)16u) goto L404;
+a3 = AT64(v6, 136);
+v9 = AT64(v6, 144);
 j0 = AT64(v6, 152);
-if (!(v8 == 0)) {
-a1 = a2;
-L431:;
+if (!(v9 == 0)) {
+a1 = a3;
+L406:;
 TEST(a1);
-v13 = AT64(a1, 8);
-v9 = (u64)AT8(a1, 0);
-TEST(a3);
-SET64(a3, 24, AT64(a1, 40));
-SET64(a3, 16, AT64(a1, 32));
-SET64(a3, 8, AT64(a1, 24));
-SET64(a3, 0, AT64(a1, 16));
-switch ((u32)v9 - 1u) {
-case 0u: goto L435;
-case 1u: goto L434;
-case 2u: goto L433;
-default: goto L436;
+v14 = AT64(a1, 8);
+v13 = (u64)AT8(a1, 0);
+TEST(a5);
+SET64(a5, 24, AT64(a1, 40));
+SET64(a5, 16, AT64(a1, 32));
+SET64(a5, 8, AT64(a1, 24));
+SET64(a5, 0, AT64(a1, 16));
+switch ((u32)v13 - 1u) {
+case 0u: goto L410;
+case 1u: goto L409;
+case 2u: goto L408;
+default: goto L411;
 }
-L436:;
-a5 = v10 + 2u;
-TEST(a5);
-v46 = AT16(a5, 0);
-SET16(a5, 0, v46 + 1u);
-goto L432;
-L435:;
-a5 = v10 + 4u;
-TEST(a5);
-v46 = AT16(a5, 0);
-SET16(a5, 0, v46 + 1u);
-goto L432;
-L434:;
-a5 = v10 + 6u;
-TEST(a5);
-v46 = AT16(a5, 0);
-SET16(a5, 0, v46 + 1u);
-goto L432;
-L433:;
-a5 = v10 + 8u;
-TEST(a5);
-v46 = AT16(a5, 0);
-SET16(a5, 0, v46 + 1u);
-L432:;
-TEST(v10);
-v47 = AT16(v10, 0);
-SET16(v10, 0, (v47 + 1u) & 16383u);
-if (AT8(v6, 224)) goto L429;
-v8 = v8 - 1u;
-v48 = AT16(v6, 216);
-v49 = AT16(v6, 226);
-a5 = AT64(v10, 16);
-v11 = AT64(v10, 24);
-v19 = v32 + 32u;
-v23 = AT64(v10, 48);
-v15 = v11 - v23;
-v20 = AT64(v10, 40);
-if (v15 < (AT64(v10, 32) - v20)) {
-a5 = a5 + ((v15 + v20) * 56u);
-TEST(a5);
-SET64(a5, 16, v13);
-SET64(a5, 8, v9);
-SET16(a5, 6, v46);
-SET16(a5, 4, v47);
-SET16(a5, 2, v49);
-SET16(a5, 0, v48);
-SET64(a5, 24, AT64(a3, 0));
-SET64(a5, 32, AT64(a3, 8));
-SET64(a5, 40, AT64(a3, 16));
-SET64(a5, 48, AT64(a3, 24));
-goto L437;
+L411:;
+v7 = v8 + 2u;
+TEST(v7);
+v42 = AT16(v7, 0);
+SET16(v7, 0, v42 + 1u);
+goto L407;
+L410:;
+v7 = v8 + 4u;
+TEST(v7);
+v42 = AT16(v7, 0);
+SET16(v7, 0, v42 + 1u);
+goto L407;
+L409:;
+v7 = v8 + 6u;
+TEST(v7);
+v42 = AT16(v7, 0);
+SET16(v7, 0, v42 + 1u);
+goto L407;
+L408:;
+v7 = v8 + 8u;
+TEST(v7);
+v42 = AT16(v7, 0);
+SET16(v7, 0, v42 + 1u);
+L407:;
+TEST(v8);
+v43 = AT16(v8, 0);
+SET16(v8, 0, (v43 + 1u) & 16383u);
+if (AT8(v6, 224)) goto L404;
+v9 = v9 - 1u;
+v44 = AT16(v6, 216);
+v45 = AT16(v6, 226);
+v7 = AT64(v8, 16);
+v12 = AT64(v8, 24);
+v15 = a2 + 32u;
+v16 = AT64(v8, 48);
+v18 = v12 - v16;
+v17 = AT64(v8, 40);
+if (v18 < (AT64(v8, 32) - v17)) {
+v7 = v7 + ((v17 + v18) * 56u);
+TEST(v7);
+SET64(v7, 16, v14);
+SET64(v7, 8, v13);
+SET16(v7, 6, v42);
+SET16(v7, 4, v43);
+SET16(v7, 2, v45);
+SET16(v7, 0, v44);
+SET64(v7, 24, AT64(a5, 0));
+SET64(v7, 32, AT64(a5, 8));
+SET64(v7, 40, AT64(a5, 16));
+SET64(v7, 48, AT64(a5, 24));
+goto L412;
 }
-a5 = a5 + (v23 * 56u);
-TEST(a5);
-SET64(a5, 16, v13);
-SET64(a5, 8, v9);
-SET16(a5, 6, v46);
-SET16(a5, 4, v47);
-SET16(a5, 2, v49);
-SET16(a5, 0, v48);
-SET64(a5, 24, AT64(a3, 0));
-SET64(a5, 32, AT64(a3, 8));
-SET64(a5, 40, AT64(a3, 16));
-SET64(a5, 48, AT64(a3, 24));
-SET64(v10, 48, v23 + 1u);
-L437:;
-SET64(v10, 24, v11 + 1u);
+v7 = v7 + (v16 * 56u);
+TEST(v7);
+SET64(v7, 16, v14);
+SET64(v7, 8, v13);
+SET16(v7, 6, v42);
+SET16(v7, 4, v43);
+SET16(v7, 2, v45);
+SET16(v7, 0, v44);
+SET64(v7, 24, AT64(a5, 0));
+SET64(v7, 32, AT64(a5, 8));
+SET64(v7, 40, AT64(a5, 16));
+SET64(v7, 48, AT64(a5, 24));
+SET64(v8, 48, v16 + 1u);
+L412:;
+SET64(v8, 24, v12 + 1u);
 a1 = a1 + 48u;
-if (v8 != 0u) goto L431;
+if (v9 != 0u) goto L406;
 }
 if (!(j0 == 0)) {
-rud_dealloc(RUD_AS a2);
+rud_dealloc(RUD_AS a3);
 RUD_AGAIN
 }
-RUD_G0 = a3 + 32u;
-goto L428;
-L429:;
+RUD_G0 = a5 + 32u;
+goto L403;
+L404:;
 rud_trap();
-L428:;
-if (!(v14 == 0)) {
-rud_dealloc(RUD_AS v16);
+L403:;
+if (!(v10 == 0)) {
+rud_dealloc(RUD_AS v19);
 RUD_AGAIN
 }
 in_std_alloc_arc_Arc_drop_c3b6ee2ab0dfb523(RUD_AS AT64(v6, 240));
@@ -23889,71 +19384,71 @@ RUD_AGAIN
 a1 = AT64(v6, 272);
 a2 = AT64(v6, 256);
 switch ((u32)(u64)AT8(v6, 248) - 1u) {
-case 0u: goto L456;
-case 1u: goto L455;
-case 2u: goto L454;
-case 3u: goto L453;
-case 4u: goto L452;
-case 5u: goto L451;
-case 6u: goto L450;
-case 7u: goto L449;
-case 8u: case 11u: goto L441;
-case 9u: goto L448;
-case 10u: goto L447;
-case 12u: goto L446;
-case 13u: goto L445;
-case 14u: goto L444;
-case 15u: goto L443;
-default: goto L457;
+case 0u: goto L431;
+case 1u: goto L430;
+case 2u: goto L429;
+case 3u: goto L428;
+case 4u: goto L427;
+case 5u: goto L426;
+case 6u: goto L425;
+case 7u: goto L424;
+case 8u: case 11u: goto L416;
+case 9u: goto L423;
+case 10u: goto L422;
+case 12u: goto L421;
+case 13u: goto L420;
+case 14u: goto L419;
+case 15u: goto L418;
+default: goto L432;
 }
-L457:;
-if (!(a1 == 0)) goto L442;
-goto L441;
-L456:;
-if (!(a1 == 0)) goto L442;
-goto L441;
-L455:;
-if (!(a1 == 0)) goto L442;
-goto L441;
-L454:;
-if (!(a1 == 0)) goto L442;
-goto L441;
-L453:;
-if (!(a1 == 0)) goto L442;
-goto L441;
-L452:;
-if (!(a1 == 0)) goto L442;
-goto L441;
-L451:;
-if (!(a1 == 0)) goto L442;
-goto L441;
-L450:;
-if (!(a1 == 0)) goto L442;
-goto L441;
-L449:;
-if (!(a1 == 0)) goto L442;
-goto L441;
-L448:;
-if (!(a1 == 0)) goto L442;
-goto L441;
-L447:;
-if (!(a1 == 0)) goto L442;
-goto L441;
-L446:;
-if (!(a1 == 0)) goto L442;
-goto L441;
-L445:;
-if (!(a1 == 0)) goto L442;
-goto L441;
-L444:;
-if (!(a1 == 0)) goto L442;
-goto L441;
-L443:;
-if (a1 == 0) goto L441;
-L442:;
+L432:;
+if (!(a1 == 0)) goto L417;
+goto L416;
+L431:;
+if (!(a1 == 0)) goto L417;
+goto L416;
+L430:;
+if (!(a1 == 0)) goto L417;
+goto L416;
+L429:;
+if (!(a1 == 0)) goto L417;
+goto L416;
+L428:;
+if (!(a1 == 0)) goto L417;
+goto L416;
+L427:;
+if (!(a1 == 0)) goto L417;
+goto L416;
+L426:;
+if (!(a1 == 0)) goto L417;
+goto L416;
+L425:;
+if (!(a1 == 0)) goto L417;
+goto L416;
+L424:;
+if (!(a1 == 0)) goto L417;
+goto L416;
+L423:;
+if (!(a1 == 0)) goto L417;
+goto L416;
+L422:;
+if (!(a1 == 0)) goto L417;
+goto L416;
+L421:;
+if (!(a1 == 0)) goto L417;
+goto L416;
+L420:;
+if (!(a1 == 0)) goto L417;
+goto L416;
+L419:;
+if (!(a1 == 0)) goto L417;
+goto L416;
+L418:;
+if (a1 == 0) goto L416;
+L417:;
 rud_dealloc(RUD_AS a2);
 RUD_AGAIN
-L441:;
+L416:;
 TEST(a0);
 SET32(a0, 0, 0u);
 SET64(a0, 8, a4);
@@ -24078,8 +19573,8 @@ rud_trap();
 }
 
 static void in_rudlayog_memory_apply(RUD_IT u64 a0, u64 a1, u64 a2, u64 a3, u64 a4, u64 a5, u64 a6) {
-u32 v8 = 0, v9 = 0, v10 = 0, v11 = 0, i0 = 0;
-u64 v7 = 0, j0 = 0;
+u32 v10 = 0, v11 = 0, v12 = 0, v13 = 0, i0 = 0;
+u64 v7 = 0, v8 = 0, v9 = 0, j0 = 0;
 RUD_HERE
 i0 = in_rattle_enter(RUD_AS0);
 if (i0) {
@@ -24091,100 +19586,125 @@ if ((s64)v7 >= (s64)16u) {
 TEST(v7);
 SET8(v7, 62, 0u);
 SET16(v7, 60, 0u);
-SET64(v7, 8, 0u);
-SET64(v7, 16, 0u);
-SET64(v7, 24, 0u);
-SET64(v7, 32, 0u);
-SET64(v7, 40, 0u);
-SET64(v7, 48, 0u);
+FILL_FEW(v7 + 8u, 0u, 48u);
 TEST(a0);
 if (AT8(a0, 8) == 0) {
 TEST(a6);
-SET64(a6, 4, 0u);
 SET32(a6, 0, 3u);
-SET64(a6, 12, 0u);
-SET64(a6, 20, 0u);
-SET64(a6, 28, 0u);
-SET64(a6, 36, 0u);
-SET32(a6, 44, 0u);
+FILL_FEW(a6 + 4u, 0u, 44u);
 goto L4;
 }
 if (a5 <= 254u) {
 TEST(a6);
-SET64(a6, 4, 0u);
 SET32(a6, 0, 1u);
-SET64(a6, 12, 0u);
-SET64(a6, 20, 0u);
-SET64(a6, 28, 0u);
-SET32(a6, 36, 0u);
+FILL_FEW(a6 + 4u, 0u, 36u);
 SET64(a6, 40, 255u);
 goto L4;
 }
 SET8(a0, 8, 0u);
-a5 = AT64(a0, 0);
+v8 = AT64(a0, 0);
 SET64(v7, 80, 0u);
 SET64(v7, 88, 0u);
 SET64(v7, 64, 0u);
 SET64(v7, 72, 0u);
-a2 = a2 + (a2 == 0 ? 4096ull : 0ull);
-a4 = a4 + (a4 == 0 ? 4096ull : 0ull);
-in_mm_service_service_Service_apply_in_memory(RUD_AS v7 + 80u, a5, a1, a2, a3, a4);
+a5 = a2 + (a2 == 0 ? 4096ull : 0ull);
+v9 = a4 + (a4 == 0 ? 4096ull : 0ull);
+in_mm_service_service_Service_apply_in_memory(RUD_AS v7 + 80u, v8, a1, a5, a3, v9);
 RUD_AGAIN
-v8 = AT8(v7, 81);
-v9 = AT8(v7, 80);
-if (v8 | (u32)(v9 != 1u)) goto L8;
-SET64(v7, 136, 0u);
-SET64(v7, 128, 0u);
-SET64(v7, 120, 0u);
-SET64(v7, 112, 0u);
+v11 = AT8(v7, 81);
+v12 = AT8(v7, 80);
+if (v11 | (u32)(v12 != 1u)) goto L8;
+a2 = v7 + 96u;
+FILL_FEW(a2, 0u, 48u);
+a4 = RUD_G0 - 112u;
+RUD_G0 = a4;
+if ((s64)a4 >= (s64)16u) {
+TEST(a4);
+SET64(a4, 104, 0u);
+SET64(a4, 96, 0u);
+SET64(a4, 88, 0u);
+SET64(a4, 80, 0u);
+SET64(a4, 72, 0u);
+SET64(a4, 64, 0u);
+SET64(a4, 56, 0u);
+SET64(a4, 48, 0u);
+SET64(a4, 0, 0u);
+SET64(a4, 8, 0u);
+SET64(a4, 16, 0u);
+SET64(a4, 24, 0u);
+SET64(a4, 32, 0u);
+SET64(a4, 37, 0u);
+in_mm_packet_lent_LentPacket_parse(RUD_AS a4 + 48u, a5, a3);
+if (AT8(a4, 48) == 0) {
+v10 = 1u;
+if (AT64(a4, 104) == 0) {
+SET64(a4, 37, AT64(a4, 88));
+SET64(a4, 29, AT64(a4, 80));
+SET64(a4, 21, AT64(a4, 72));
+SET64(a4, 13, AT64(a4, 64));
+SET64(a4, 5, AT64(a4, 56));
+v10 = 0u;
+}
+SET8(v7, 96, v10);
+SET8(v7, 98, 0u);
+SET8(v7, 97, v10);
+SET64(v7, 104, AT64(a4, 5));
+SET64(v7, 112, AT64(a4, 13));
+SET64(v7, 120, AT64(a4, 21));
+SET64(v7, 128, AT64(a4, 29));
+SET64(v7, 136, AT64(a4, 37));
+goto L11;
+}
+SET8(v7, 96, 1u);
 SET64(v7, 104, 0u);
-SET64(v7, 96, 0u);
-in_mm_ask_line_lent_alone(RUD_AS v7 + 96u, a2, a3);
+v10 = AT8(a4, 49);
+SET8(v7, 98, v10);
+SET8(v7, 97, v10 ? 2u : 0u);
+SET64(v7, 112, 0u);
+SET64(v7, 120, 0u);
+SET64(v7, 128, 0u);
+SET64(v7, 136, 0u);
+L11:;
+RUD_G0 = a4 + 112u;
+goto L9;
+}
+rud_trap();
+L9:;
 if (AT8(v7, 96)) goto L8;
 in_mm_st15_request_kind_RequestKind_of_code(RUD_AS v7, AT8(v7, 110));
 if (AT8(v7, 0) != 1u) goto L8;
 if ((1u << (AT8(v7, 1) & 31)) & 63124u) goto L8;
-in_std_alloc_vec_Vec_clear_81505d604071a4c2(RUD_AS a5 + 168u);
+in_std_alloc_vec_Vec_clear_81505d604071a4c2(RUD_AS v8 + 168u);
 RUD_AGAIN
-in_mm_service_service_Service_apply_in_memory(RUD_AS v7 + 64u, a5, a1, a2, a3, a4);
+in_mm_service_service_Service_apply_in_memory(RUD_AS v7 + 64u, v8, a1, a5, a3, v9);
 RUD_AGAIN
 v10 = AT8(v7, 67);
-v11 = AT8(v7, 66);
-v8 = AT8(v7, 65);
-v9 = AT8(v7, 64);
+v13 = AT8(v7, 66);
+v11 = AT8(v7, 65);
+v12 = AT8(v7, 64);
 j0 = AT64(v7, 72);
 goto L7;
 L8:;
 v10 = AT8(v7, 83);
-v11 = AT8(v7, 82);
+v13 = AT8(v7, 82);
 j0 = AT64(v7, 88);
 L7:;
 a1 = j0;
-i0 = in_mm_service_reserve_Reserve_fill(RUD_AS a5 + 168u);
+i0 = in_mm_service_reserve_Reserve_fill(RUD_AS v8 + 168u);
 RUD_AGAIN
-if (v9 == 0) {
-SET64(v7, 40, 0u);
-SET64(v7, 32, 0u);
-SET64(v7, 24, 0u);
-SET64(v7, 16, 0u);
-SET64(v7, 8, 0u);
+if (v12 == 0) {
+FILL_FEW(v7 + 8u, 0u, 40u);
 SET64(v7, 48, a1);
-goto L9;
+goto L14;
 }
 SET8(v7, 62, v10);
-SET8(v7, 61, v11);
-SET8(v7, 60, v8);
+SET8(v7, 61, v13);
+SET8(v7, 60, v11);
 in_mm_c_memory_refused(RUD_AS v7 + 8u, v7 + 60u);
-L9:;
-TEST(a6);
-SET64(a6, 40, AT64(v7, 48));
-SET64(a6, 32, AT64(v7, 40));
-SET64(a6, 24, AT64(v7, 32));
-SET64(a6, 16, AT64(v7, 24));
-SET64(a6, 8, AT64(v7, 16));
-SET64(a6, 0, AT64(v7, 8));
+L14:;
+COPY_FEW(a6, v7 + 8u, 48u);
+SET64(a0, 0, v8);
 SET8(a0, 8, 1u);
-SET64(a0, 0, a5);
 L4:;
 RUD_G0 = v7 + 144u;
 goto L2;
@@ -24207,13 +19727,8 @@ v4 = a0 + 8u;
 TEST(v4);
 if (AT8(v4, 0)) goto L3;
 TEST(a2);
-SET64(a2, 4, 0u);
 SET32(a2, 0, 3u);
-SET64(a2, 12, 0u);
-SET64(a2, 20, 0u);
-SET64(a2, 28, 0u);
-SET64(a2, 36, 0u);
-SET32(a2, 44, 0u);
+FILL_FEW(a2 + 4u, 0u, 44u);
 goto L2;
 }
 rud_trap();
@@ -24223,13 +19738,7 @@ v3 = AT64(a0, 0);
 TEST(v3);
 SET64(v3, 112, a1);
 SET64(v3, 104, 1u);
-TEST(a2);
-SET64(a2, 40, 0u);
-SET64(a2, 32, 0u);
-SET64(a2, 24, 0u);
-SET64(a2, 16, 0u);
-SET64(a2, 8, 0u);
-SET64(a2, 0, 0u);
+FILL_FEW(a2, 0u, 48u);
 SET64(a0, 0, v3);
 SET8(v4, 0, 1u);
 L2:;
@@ -24261,15 +19770,9 @@ SET64(v2, 96, AT64(v1, 8));
 SET64(v2, 88, AT64(v1, 0));
 a0 = AT64(v1, 24);
 j0 = AT64(v1, 40);
-SET64(v2, 80, AT64(v1, 96));
-SET64(v2, 72, AT64(v1, 88));
-SET64(v2, 64, AT64(v1, 80));
-SET64(v2, 56, AT64(v1, 72));
-SET64(v2, 48, AT64(v1, 64));
-SET64(v2, 40, AT64(v1, 56));
-SET64(v2, 32, AT64(v1, 48));
-v5 = AT8(v1, 128);
+COPY_FEW(v2 + 32u, v1 + 48u, 56u);
 v4 = AT64(v1, 160);
+v5 = AT8(v1, 128);
 SET64(v2, 24, AT64(v1, 184));
 SET64(v2, 16, AT64(v1, 176));
 SET64(v2, 8, AT64(v1, 168));
@@ -24298,181 +19801,184 @@ L2:;
 RUD_G1 = 0u;
 }
 
-static u32 in_mm_store_queue_are_early_before_43887c423445e301(RUD_IT u64 a0, u64 a1, u64 a2) {
-u32 i0 = 0;
-u64 v3 = 0;
-RUD_HERE
-v3 = RUD_G0 - 16u;
-RUD_G0 = v3;
-if ((s64)v3 < (s64)16u) goto L1;
-if (a2 == 0) {
-i0 = 1u;
-} else {
-in_circular_buffer_heap_HeapCircularBuffer_get_b37a56fa4dba497e(RUD_AS v3, a0, a2 - 1u);
-TEST(v3);
-if ((AT8(v3, 0) & 1u) == 0) goto L1;
-i0 = GET64(AT64(v3, 8), 0) <= a1;
-}
-RUD_G0 = v3 + 16u;
-return i0;
-L1:;
-rud_trap();
-return 0;
-}
-
 static u64 in_mm_store_queue_first_place_43887c423445e301(RUD_IT u64 a0, u64 a1) {
-u32 v6 = 0, i0 = 0;
-u64 v2 = 0, v3 = 0, v4 = 0, v5 = 0;
+u32 v8 = 0;
+u64 v2 = 0, v3 = 0, v4 = 0, v5 = 0, v6 = 0, v7 = 0, j0 = 0;
 RUD_HERE
-v4 = RUD_G0 - 32u;
-RUD_G0 = v4;
-if ((s64)v4 < (s64)16u) goto L2;
+if ((s64)RUD_G0 < (s64)16u) goto L2;
 TEST(a0);
 v5 = AT64(a0, 16);
-v6 = v5 == 0;
-if (v6 == 0) {
+v8 = v5 == 0;
+if (v8 == 0) {
 v2 = AT64(a0, 24);
 v3 = AT64(a0, 8);
-v2 = GET64(AT64(a0, 0) + ((v2 - (v2 < v3 ? 0ull : v3)) * 40u), 0);
+v3 = GET64(AT64(a0, 0) + ((v2 - (v2 < v3 ? 0ull : v3)) * 40u), 0);
 }
-v3 = a1 + 1u;
-v3 = v3 == 0 ? 18446744073709551615ull : v3;
-v2 = v3 - v2;
-v2 = v2 > v3 ? 0ull : v2;
+v2 = a1 + 1u;
+v4 = v2 == 0 ? 18446744073709551615ull : v2;
+v2 = v4 - v3;
+v2 = v2 > v4 ? 0ull : v2;
 if (v2 > v5) goto L5;
-i0 = in_mm_store_queue_are_early_before_43887c423445e301(RUD_AS a0, a1, v2);
-if (i0 == 0) goto L5;
-if (v2 == v5) {
-v2 = v5;
-goto L1;
+if (v3 < v4) {
+v3 = (v2 + AT64(a0, 24)) - 1u;
+v4 = AT64(a0, 8);
+if (GET64(AT64(a0, 0) + ((v3 - (v3 < v4 ? 0ull : v4)) * 40u), 0) > a1) goto L5;
 }
-in_circular_buffer_heap_HeapCircularBuffer_get_b37a56fa4dba497e(RUD_AS v4 + 16u, a0, v2);
-TEST(v4);
-if ((AT8(v4, 16) & 1u) == 0) goto L2;
-v3 = GET64(AT64(v4, 24), 0);
-v2 = a1 < v3 ? v2 : 0ull;
-if (v6) goto L1;
-if (a1 >= v3) goto L4;
+if (v2 == v5) {
+return v5;
+}
+if (v2 >= v5) goto L2;
+v6 = AT64(a0, 0);
+v7 = AT64(a0, 24);
+v3 = v7 + v2;
+v4 = AT64(a0, 8);
+if (a1 >= GET64(v6 + ((v3 - (v3 < v4 ? 0ull : v4)) * 40u), 0)) goto L4;
 goto L1;
 L5:;
-if (v6 == 0) goto L4;
-v2 = 0u;
-goto L1;
+if (v8) {
+return 0u;
+}
+v4 = AT64(a0, 8);
+v7 = AT64(a0, 24);
+v6 = AT64(a0, 0);
 L4:;
-v2 = 0u;
-L7:;
-v3 = ((v5 - v2) >> 1) + v2;
-in_circular_buffer_heap_HeapCircularBuffer_get_b37a56fa4dba497e(RUD_AS v4, a0, v3);
-TEST(v4);
-if ((AT8(v4, 0) & 1u) == 0) goto L2;
-v6 = GET64(AT64(v4, 8), 0) > a1;
-v2 = v6 ? v2 : (v3 + 1u);
-v5 = v6 ? v3 : v5;
-if (v2 < v5) goto L7;
+a0 = v5 >> 1;
+v2 = a0 + v7;
+v8 = GET64(v6 + ((v2 - (v2 < v4 ? 0ull : v4)) * 40u), 0) > a1;
+v2 = v8 ? 0ull : (a0 + 1u);
+v3 = v8 ? a0 : v5;
+if (v2 >= v3) goto L1;
+L9:;
+a0 = ((v3 - v2) >> 1) + v2;
+if (v5 <= a0) goto L2;
+j0 = v2;
+v2 = a0 + v7;
+v8 = GET64(v6 + ((v2 - (v2 < v4 ? 0ull : v4)) * 40u), 0) > a1;
+v2 = v8 ? j0 : (a0 + 1u);
+v3 = v8 ? a0 : v3;
+if (v2 < v3) goto L9;
 goto L1;
 L2:;
 rud_trap();
 return 0;
 L1:;
-RUD_G0 = v4 + 32u;
 return v2;
-}
-
-static u32 in_mm_store_queue_are_early_before_569124304bd8e99f(RUD_IT u64 a0, u64 a1, u64 a2) {
-u64 v3 = 0;
-RUD_HERE
-v3 = RUD_G0;
-if ((s64)v3 < (s64)16u) goto L1;
-if (a2 == 0) {
-RUD_G0 = v3;
-return 1u;
-}
-a2 = in_std_alloc_vec_deque_methods_VecDequeIndexUsize_index_384c51600a7(RUD_AS a0 + 24u, a2 - 1u);
-TEST(a0);
-TEST(a2);
-a0 = AT64(a0, 0) + ((u64)AT32(a2, 0) * 48u);
-TEST(a0);
-if ((AT8(a0, 0) & 1u) == 0) goto L1;
-RUD_G0 = v3;
-return AT64(a0, 8) <= a1;
-L1:;
-rud_trap();
-return 0;
 }
 
 static u64 in_mm_store_queue_first_place_569124304bd8e99f(RUD_IT u64 a0, u64 a1) {
-u32 v8 = 0, i0 = 0;
-u64 v2 = 0, v3 = 0, v4 = 0, v5 = 0, v6 = 0, v7 = 0, j2 = 0;
+u32 v9 = 0;
+u64 v2 = 0, v3 = 0, v4 = 0, v5 = 0, v6 = 0, v7 = 0, v8 = 0, j0 = 0, j1 = 0;
 RUD_HERE
-v6 = RUD_G0;
-if ((s64)v6 < (s64)16u) goto L1;
-v2 = a1 + 1u;
-v2 = v2 == 0 ? 18446744073709551615ull : v2;
-j2 = in_mm_store_queue_oldest_569124304bd8e99f(RUD_AS a0);
-v3 = v2 - j2;
-v2 = v2 < v3 ? 0ull : v3;
+if ((s64)RUD_G0 < (s64)16u) goto L2;
 TEST(a0);
-v3 = AT64(a0, 32);
-if (v2 > v3) goto L3;
-i0 = in_mm_store_queue_are_early_before_569124304bd8e99f(RUD_AS a0, a1, v2);
-if (i0 == 0) goto L3;
-if (v2 == v3) goto L2;
-v4 = in_std_alloc_vec_deque_methods_VecDequeIndexUsize_index_384c51600a7(RUD_AS a0 + 24u, v2);
-TEST(v4);
-v4 = AT64(a0, 0) + ((u64)AT32(v4, 0) * 48u);
-TEST(v4);
-if ((AT8(v4, 0) & 1u) == 0) goto L1;
-if (a1 < AT64(v4, 8)) goto L2;
-L3:;
+v5 = AT64(a0, 32);
+v9 = v5 == 0;
+if (v9 == 0) {
+v2 = AT64(a0, 24);
+j0 = AT64(a0, 0);
+if (AT64(a0, 56) != v5) {
+j1 = v2 + (AT64(a0, 48) << 2);
+} else {
+j1 = v2;
+}
+TEST(j1);
+v2 = j0 + ((u64)AT32(j1, 0) * 48u);
+TEST(v2);
+if ((AT8(v2, 0) & 1u) == 0) goto L2;
+v2 = AT64(v2, 8);
+}
+v3 = a1 + 1u;
+v4 = v3 == 0 ? 18446744073709551615ull : v3;
+v3 = v4 - v2;
+v3 = v3 > v4 ? 0ull : v3;
+if (v3 > v5) goto L6;
+if (v2 < v4) {
+v2 = AT64(a0, 24);
+j0 = AT64(a0, 0);
+v4 = v3 - 1u;
+v6 = v5 - AT64(a0, 56);
+if (v4 < v6) {
+j1 = (v2 + (AT64(a0, 48) << 2)) + (v4 << 2);
+goto L8;
+}
+j1 = v2 + ((v4 - v6) << 2);
+L8:;
+TEST(j1);
+v2 = j0 + ((u64)AT32(j1, 0) * 48u);
+TEST(v2);
+if ((AT8(v2, 0) & 1u) == 0) goto L2;
+if (AT64(v2, 8) > a1) goto L6;
+}
+if (v3 == v5) {
+return v5;
+}
+v4 = AT64(a0, 24);
+v7 = AT64(a0, 0);
+j0 = v7;
+v6 = v5 - AT64(a0, 56);
+if (v6 > v3) {
+j1 = (v4 + (AT64(a0, 48) << 2)) + (v3 << 2);
+goto L11;
+}
+j1 = v4 + ((v3 - v6) << 2);
+L11:;
+TEST(j1);
+v2 = j0 + ((u64)AT32(j1, 0) * 48u);
+TEST(v2);
+if ((AT8(v2, 0) & 1u) == 0) goto L2;
+j0 = v3;
+v3 = AT64(v2, 8);
+v2 = a1 < v3 ? j0 : 0ull;
+if (v9) goto L1;
+if (a1 >= v3) goto L5;
+goto L1;
+L6:;
+if (v9) {
+return 0u;
+}
+v6 = v5 - AT64(a0, 56);
+v4 = AT64(a0, 24);
+v7 = AT64(a0, 0);
+L5:;
 v2 = 0u;
-if (v3 == 0) goto L2;
-v7 = a0 + 24u;
-L4:;
-v4 = ((v3 - v2) >> 1) + v2;
-v5 = in_std_alloc_vec_deque_methods_VecDequeIndexUsize_index_384c51600a7(RUD_AS v7, v4);
-TEST(v5);
-v5 = AT64(a0, 0) + ((u64)AT32(v5, 0) * 48u);
-TEST(v5);
-if ((AT8(v5, 0) & 1u) == 0) goto L1;
-v8 = AT64(v5, 8) > a1;
-v2 = v8 ? v2 : (v4 + 1u);
-v3 = v8 ? v4 : v3;
-if (v2 < v3) goto L4;
+L14:;
+j0 = v7;
+v3 = ((v5 - v2) >> 1) + v2;
+if (v6 > v3) {
+j1 = (v4 + (AT64(a0, 48) << 2)) + (v3 << 2);
+goto L15;
+}
+j1 = v4 + ((v3 - v6) << 2);
+L15:;
+TEST(j1);
+v8 = j0 + ((u64)AT32(j1, 0) * 48u);
+TEST(v8);
+if ((AT8(v8, 0) & 1u) == 0) goto L2;
+v9 = AT64(v8, 8) > a1;
+v2 = v9 ? v2 : (v3 + 1u);
+v5 = v9 ? v3 : v5;
+if (v2 < v5) goto L14;
+goto L1;
 L2:;
-RUD_G0 = v6;
-return v2;
-L1:;
 rud_trap();
 return 0;
-}
-
-static void in_core_int_u64_to_be_bytes(RUD_IT u64 a0, u64 a1) {
-u64 j1 = 0;
-RUD_HERE
-if ((s64)RUD_G0 >= (s64)16u) {
-j1 = (((a1 << 56) | ((a1 & 65280u) << 40)) | (((a1 & 16711680u) << 24) | ((a1 & 4278190080u) << 8))) | ((((a1 >> 8) & 4278190080u) | ((a1 >> 24) & 16711680u)) | (((a1 >> 40) & 65280u) | (a1 >> 56)));
-TEST(a0);
-SET64(a0, 0, j1);
-return;
-}
-rud_trap();
+L1:;
+return v2;
 }
 
 static void in_mm_packet_packet_Packet_write_to(RUD_IT u64 a0, u64 a1, u64 a2, u64 a3) {
 u32 v4 = 0, v5 = 0, v6 = 0, v7 = 0, i0 = 0;
-u64 v8 = 0, v9 = 0, v10 = 0, v11 = 0, v12 = 0, v13 = 0, v14 = 0, v15 = 0, j0 = 0;
+u64 v8 = 0, v9 = 0, v10 = 0, v11 = 0, v12 = 0, v13 = 0, v14 = 0, j0 = 0, j1 = 0;
 RUD_HERE
-v9 = RUD_G0 - 16u;
-RUD_G0 = v9;
-if ((s64)v9 >= (s64)16u) {
+if ((s64)RUD_G0 >= (s64)16u) {
 v8 = a1 + 24u;
 TEST(v8);
 j0 = a3;
 a3 = a1 + 8u;
 TEST(a3);
 v4 = AT8(a3, 0);
-v14 = (((GET64(AT64(v8, 0), 16) + (v4 ? 15ull : 5ull)) - 1u) & 65535u) + 7u;
-if (j0 < v14) {
+v13 = (((GET64(AT64(v8, 0), 16) + (v4 ? 15ull : 5ull)) - 1u) & 65535u) + 7u;
+if (j0 < v13) {
 i0 = 1u;
 } else {
 TEST(a1);
@@ -24489,47 +19995,44 @@ SET16(a2, 7, v6);
 SET8(a2, 6, v5 | 32u);
 v4 = (u32)(v8 + (v4 ? 15ull : 5ull)) - 1u;
 SET16(a2, 4, (v4 << 8) | ((v4 & 65280u) >> 8));
-v8 = AT64(a3, 8);
-v4 = AT16(a3, 4);
-v5 = AT16(a3, 2);
-TEST(v9);
-i0 = AT8(a3, 0);
-SET64(v9, 8, 0u);
-v5 = (v5 << 8) | (v5 >> 8);
-if (i0) {
-SET16(a2, 11, (v4 << 8) | ((v4 & 65280u) >> 8));
-in_core_int_u64_to_be_bytes(RUD_AS v9 + 8u, v8);
-SET64(a2, 13, AT64(v9, 8));
+v4 = AT16(a3, 2);
+v4 = (v4 << 8) | (v4 >> 8);
+if (AT8(a3, 0)) {
+a3 = AT64(a3, 8);
+v5 = AT16(a1, 12);
+SET16(a2, 11, (v5 << 8) | (v5 >> 8));
+j1 = (((a3 << 56) | ((a3 & 65280u) << 40)) | (((a3 & 16711680u) << 24) | ((a3 & 4278190080u) << 8))) | ((((a3 >> 8) & 4278190080u) | ((a3 >> 24) & 16711680u)) | (((a3 >> 40) & 65280u) | (a3 >> 56)));
+SET64(a2, 13, j1);
 j0 = 21u;
 } else {
 j0 = 11u;
 }
 v8 = j0;
-SET16(a2, 9, v5);
-v13 = a2 + v8;
-a1 = AT64(a3, 16);
+SET16(a2, 9, v4);
+v12 = a2 + v8;
+a1 = AT64(a1, 24);
 TEST(a1);
-v10 = AT64(a1, 8);
+v9 = AT64(a1, 8);
 a1 = AT64(a1, 16);
-if ((v13 - v10) < a1) {
-v11 = a1 & 3u;
+if ((v12 - v9) < a1) {
+v10 = a1 & 3u;
 a3 = 0u;
 if (a1 >= 4u) {
-v15 = a1 & 0xfffffffffffffffcull;
+v14 = a1 & 0xfffffffffffffffcull;
 L7:;
-a1 = a3 + v13;
-v12 = a3 + v10;
-TEST(v12);
+a1 = a3 + v12;
+v11 = a3 + v9;
+TEST(v11);
 TEST(a1);
-SET8(a1, 0, AT8(v12, 0));
-SET8(a1, 1, AT8(v12, 1));
-SET8(a1, 2, AT8(v12, 2));
-SET8(a1, 3, AT8(v12, 3));
+SET8(a1, 0, AT8(v11, 0));
+SET8(a1, 1, AT8(v11, 1));
+SET8(a1, 2, AT8(v11, 2));
+SET8(a1, 3, AT8(v11, 3));
 a3 = a3 + 4u;
-if (v15 != a3) goto L7;
-if (v11 == 0) goto L4;
+if (v14 != a3) goto L7;
+if (v10 == 0) goto L4;
 }
-a1 = a3 + v10;
+a1 = a3 + v9;
 a3 = a2 + (a3 + v8);
 L8:;
 TEST(a1);
@@ -24537,85 +20040,38 @@ TEST(a3);
 SET8(a3, 0, AT8(a1, 0));
 a3 = a3 + 1u;
 a1 = a1 + 1u;
-v11 = v11 - 1u;
-if (v11 != 0u) goto L8;
+v10 = v10 - 1u;
+if (v10 != 0u) goto L8;
 goto L4;
 }
 if (a1 == 0) goto L4;
-COPY(v13, v10, a1);
+COPY(v12, v9, a1);
 L4:;
 i0 = 0u;
 }
 v4 = i0;
 TEST(a0);
-SET64(a0, 8, v14);
+SET64(a0, 8, v13);
 SET8(a0, 0, v4);
-RUD_G0 = v9 + 16u;
-return;
-}
-rud_trap();
-}
-
-static void in_mm_service_reading_id_of(RUD_IT u64 a0, u64 a1, u64 a2) {
-u32 v4 = 0, v5 = 0, v6 = 0, v7 = 0, i0 = 0;
-u64 v3 = 0;
-RUD_HERE
-v3 = RUD_G0 - 16u;
-RUD_G0 = v3;
-if ((s64)v3 >= (s64)16u) {
-i0 = in_mm_base_id_is_id_text(RUD_AS a1, a2);
-if (i0 == 0) {
-a2 = 0u;
-v5 = 1u;
-v6 = 1u;
-i0 = 0u;
-goto L2;
-}
-TEST(v3);
-SET64(v3, 8, 2314885530818453536ull);
-if (!(a2 == 0)) {
-COPY(v3 + 8u, a1, a2);
-}
-a1 = AT64(v3, 8);
-a2 = a1 >> 24;
-v4 = (u32)(a1 >> 8);
-v6 = (u32)a1;
-i0 = (u32)(a1 >> 16);
-L2:;
-v7 = i0;
-TEST(a0);
-SET8(a0, 0, v5);
-SET8(a0, 8, (u32)(a2 >> 32));
-SET32(a0, 4, (u32)a2);
-SET8(a0, 3, v7);
-SET8(a0, 2, v4);
-SET8(a0, 1, v6);
-RUD_G0 = v3 + 16u;
 return;
 }
 rud_trap();
 }
 
 static void in_rudlayog_memory_next(RUD_IT u64 a0, u64 a1, u64 a2, u64 a3, u64 a4, u64 a5, u64 a6) {
-u32 v17 = 0, v18 = 0, v19 = 0, i0 = 0;
-u64 v7 = 0, v8 = 0, v9 = 0, v10 = 0, v11 = 0, v12 = 0, v13 = 0, v14 = 0, v15 = 0, v16 = 0, j0 = 0, j1 = 0;
+u32 v19 = 0, v20 = 0, v21 = 0, v22 = 0, v23 = 0, v24 = 0, v25 = 0, v26 = 0, v27 = 0, i0 = 0;
+u64 v7 = 0, v8 = 0, v9 = 0, v10 = 0, v11 = 0, v12 = 0, v13 = 0, v14 = 0, v15 = 0, v16 = 0, v17 = 0, v18 = 0;
+u64 j0 = 0, j1 = 0;
 RUD_HERE
 i0 = in_rattle_enter(RUD_AS0);
 if (i0) {
 rud_trap();
 }
-v7 = RUD_G0 - 160u;
-RUD_G0 = v7;
-if ((s64)v7 < (s64)16u) goto L3;
+v10 = RUD_G0 - 48u;
+RUD_G0 = v10;
+if ((s64)v10 < (s64)16u) goto L5;
 TEST(a5);
 SET64(a5, 0, 0u);
-TEST(v7);
-SET64(v7, 128, 0u);
-SET64(v7, 120, 0u);
-SET64(v7, 112, 0u);
-SET64(v7, 104, 0u);
-SET64(v7, 96, 0u);
-SET64(v7, 88, 0u);
 TEST(a0);
 if (AT8(a0, 8) == 0) {
 TEST(a6);
@@ -24626,7 +20082,7 @@ SET64(a6, 20, 0u);
 SET64(a6, 28, 0u);
 SET64(a6, 36, 0u);
 SET32(a6, 44, 0u);
-goto L4;
+goto L2;
 }
 if (a4 <= 1023u) {
 TEST(a6);
@@ -24637,150 +20093,182 @@ SET64(a6, 20, 0u);
 SET64(a6, 28, 0u);
 SET32(a6, 36, 0u);
 SET64(a6, 40, 1024u);
-goto L4;
+goto L2;
 }
-v12 = a1 + (a1 == 0 ? 4096ull : 0ull);
 SET8(a0, 8, 0u);
-v15 = AT64(a0, 0);
-v17 = a2 == 0;
-if (v17 | (u32)(a2 > 8u)) goto L9;
-if (GET8((a2 + v12) - 1u, 0) == 32u) goto L9;
-TEST(v15);
-v8 = AT64(v15, 8);
-v9 = AT64(v15, 0);
-SET64(v7, 144, 2314885530818453536ull);
-if (v17 == 0) {
-COPY(v7 + 144u, v12, a2);
+v17 = AT64(a0, 0);
+if (a2 == 0) goto L9;
+a1 = a1 + (a1 == 0 ? 4096ull : 0ull);
+if (a2 > 8u) goto L11;
+if (GET8((a1 + a2) - 1u, 0) == 32u) goto L11;
+TEST(v17);
+v8 = AT64(v17, 8);
+v14 = AT64(v17, 0);
+TEST(v10);
+SET64(v10, 40, 2314885530818453536ull);
+if (!(a2 == 0)) {
+COPY(v10 + 40u, a1, a2);
 }
-SET64(v7, 136, AT64(v7, 144));
-v14 = v7 + 72u;
-a1 = v9;
-v13 = v7 + 136u;
-v17 = 0u;
-v11 = RUD_G0 - 16u;
-RUD_G0 = v11;
-if ((s64)v11 >= (s64)16u) {
+v11 = v10 + 24u;
+v7 = v14;
+v9 = v10 + 40u;
+if ((s64)RUD_G0 >= (s64)16u) {
 if (!(v8 == 0)) {
+v20 = AT8(v10, 47);
+v21 = AT8(v10, 46);
+v22 = AT8(v10, 45);
+v23 = AT8(v10, 44);
+v24 = AT8(v10, 43);
+v25 = AT8(v10, 42);
+v26 = AT8(v10, 41);
+v27 = AT8(v10, 40);
+L17:;
+TEST(v7);
+v9 = AT64(v7, 0);
+i0 = (((u32)(v27 != ((u32)v9 & 255u)) | (u32)(v26 != ((u32)(v9 >> 8) & 255u))) | ((u32)(v25 != ((u32)(v9 >> 16) & 255u)) | (u32)(v24 != ((u32)(v9 >> 24) & 255u)))) | (((u32)(v23 != ((u32)(v9 >> 32) & 255u)) | (u32)(v22 != ((u32)(v9 >> 40) & 255u))) | ((u32)(v21 != ((u32)(v9 >> 48) & 255u)) | (u32)(v20 != (u32)(v9 >> 56))));
+if (i0 == 0) {
+v19 = 1u;
+goto L15;
+}
+v7 = v7 + 192u;
+v13 = v13 + 1u;
+if (v8 != v13) goto L17;
+}
+v13 = 0u;
 L15:;
-TEST(a1);
-TEST(v11);
-SET64(v11, 8, AT64(a1, 0));
-i0 = in_core_cmp_arrays_ArrayPartialEq_eq_i8_8_31_core_cmp_numbers_U8Par(RUD_AS v11 + 8u, v13);
-if (i0) {
-v17 = 1u;
+SET64(v10, 32, v13);
+SET8(v10, 24, v19);
 goto L13;
 }
-a1 = a1 + 192u;
-v10 = v10 + 1u;
-if (v8 != v10) goto L15;
-}
-v10 = 0u;
-L13:;
-SET64(v7, 80, v10);
-SET8(v7, 72, v17);
-RUD_G0 = v11 + 16u;
-goto L11;
-}
 rud_trap();
-L11:;
-if ((AT8(v7, 72) & 1u) == 0) goto L9;
-a1 = AT64(v7, 80);
-if (v8 <= a1) goto L9;
-a1 = v9 + (a1 * 192u);
-v10 = a1 + 128u;
-TEST(v10);
-if (AT8(v10, 0) != 1u) {
-v17 = 3u;
-i0 = 6u;
-goto L8;
-}
-a2 = AT64(v10, 24);
-v8 = AT64(v10, 8);
-v8 = v8 - (u64)(u32)(v8 != 0u);
-v8 = a2 > v8 ? a2 : v8;
+L13:;
+if ((AT8(v10, 24) & 1u) == 0) goto L10;
+v7 = AT64(v10, 32);
+if (v8 <= v7) goto L10;
+a1 = v14 + (v7 * 192u);
+v14 = a1 + 128u;
+TEST(v14);
+if (AT8(v14, 0) != 1u) { i0 = 19u; goto L8; }
+a2 = AT64(v14, 24);
+v7 = AT64(v14, 8);
+v7 = v7 - (u64)(u32)(v7 != 0u);
+v7 = a2 > v7 ? a2 : v7;
 v9 = a1 + 24u;
-a2 = AT64(v10, 32);
-v11 = AT64(v10, 16);
+a2 = AT64(v14, 32);
+v13 = AT64(v14, 16);
 TEST(a1);
 if (AT8(a1, 16) == 0) {
-v12 = AT64(a1, 40);
-if (v12 <= a2) goto L22;
-in_circular_buffer_heap_HeapCircularBuffer_get_b37a56fa4dba497e(RUD_AS v7 + 56u, v9, a2);
-if ((AT8(v7, 56) & 1u) == 0) goto L3;
-v14 = GET64(AT64(v7, 64), 0);
-if (v14 <= v8) goto L22;
-if ((v14 - v8) == 1u) goto L21;
-i0 = in_mm_store_queue_are_early_before_43887c423445e301(RUD_AS v9, v8, a2);
-if (i0) goto L21;
-L22:;
-j0 = in_mm_store_queue_first_place_43887c423445e301(RUD_AS v9, v8);
-a2 = j0;
-if (a2 == v12) goto L18;
-in_circular_buffer_heap_HeapCircularBuffer_get_b37a56fa4dba497e(RUD_AS v7 + 40u, v9, a2);
-if ((AT8(v7, 40) & 1u) == 0) goto L3;
-v8 = AT64(v7, 48);
+v16 = AT64(a1, 40);
+if (v16 <= a2) goto L22;
+v18 = AT64(a1, 24);
+v15 = AT64(a1, 48) + a2;
+v11 = AT64(a1, 32);
+v8 = v18 + ((v15 - (v11 > v15 ? 0ull : v11)) * 40u);
 TEST(v8);
-if (v11 < AT64(v8, 0)) goto L18;
-SET64(v10, 32, a2 + 1u);
+v12 = AT64(v8, 0);
+if (v12 <= v7) goto L22;
+if ((u32)(a2 == 0) | (u32)((v12 - v7) == 1u)) goto L21;
+v15 = v15 - 1u;
+if (GET64(v18 + ((v15 - (v11 > v15 ? 0ull : v11)) * 40u), 0) <= v7) goto L21;
+L22:;
+j0 = in_mm_store_queue_first_place_43887c423445e301(RUD_AS v9, v7);
+a2 = j0;
+if (a2 == v16) goto L4;
+if (a2 >= v16) goto L5;
+v7 = AT64(a1, 48) + a2;
+v8 = AT64(a1, 32);
+v8 = AT64(a1, 24) + ((v7 - (v7 < v8 ? 0ull : v8)) * 40u);
+TEST(v8);
+if (v13 < AT64(v8, 0)) goto L4;
+SET64(v14, 32, a2 + 1u);
 j0 = v8 + 8u;
 goto L19;
 L21:;
-in_circular_buffer_heap_HeapCircularBuffer_get_b37a56fa4dba497e(RUD_AS v7 + 24u, v9, a2);
-if ((AT8(v7, 24) & 1u) == 0) goto L3;
-v8 = AT64(v7, 32);
-TEST(v8);
-if (v11 < AT64(v8, 0)) goto L18;
-SET64(v10, 32, a2 + 1u);
+if (v12 > v13) goto L4;
+SET64(v14, 32, a2 + 1u);
 j0 = v8 + 8u;
 goto L19;
 }
-v12 = AT64(a1, 56);
-if (v12 <= a2) goto L24;
-v14 = a1 + 48u;
-v13 = in_std_alloc_vec_deque_methods_VecDequeIndexUsize_index_384c51600a7(RUD_AS v14, a2);
-v16 = AT64(a1, 24);
-TEST(v13);
-v13 = v16 + ((u64)AT32(v13, 0) * 48u);
-TEST(v13);
-if ((AT8(v13, 0) & 1u) == 0) goto L3;
-v13 = AT64(v13, 8);
-if (v13 <= v8) goto L24;
-if ((v13 - v8) == 1u) goto L23;
-i0 = in_mm_store_queue_are_early_before_569124304bd8e99f(RUD_AS v9, v8, a2);
-if (i0) goto L23;
+v16 = AT64(a1, 56);
+if (v16 <= a2) goto L24;
+v8 = AT64(a1, 48);
+v15 = AT64(a1, 24);
+j0 = v15;
+v11 = v16 - AT64(a1, 80);
+v19 = a2 >= v11;
+if (v19 == 0) {
+j1 = (v8 + (AT64(a1, 72) << 2)) + (a2 << 2);
+goto L25;
+}
+j1 = v8 + ((a2 - v11) << 2);
+L25:;
+TEST(j1);
+v12 = j0 + ((u64)AT32(j1, 0) * 48u);
+TEST(v12);
+if ((AT8(v12, 0) & 1u) == 0) goto L5;
+v12 = AT64(v12, 8);
+if (v12 <= v7) goto L24;
+if ((u32)(a2 == 0) | (u32)((v12 - v7) == 1u)) goto L23;
+j0 = v15;
+v12 = a2 - 1u;
+if (v11 > v12) {
+j1 = (v8 + (AT64(a1, 72) << 2)) + (v12 << 2);
+goto L27;
+}
+j1 = v8 + ((v12 - v11) << 2);
+L27:;
+TEST(j1);
+v12 = j0 + ((u64)AT32(j1, 0) * 48u);
+TEST(v12);
+if ((AT8(v12, 0) & 1u) == 0) goto L5;
+if (AT64(v12, 8) <= v7) goto L23;
 L24:;
-j0 = in_mm_store_queue_first_place_569124304bd8e99f(RUD_AS v9, v8);
+j0 = in_mm_store_queue_first_place_569124304bd8e99f(RUD_AS v9, v7);
 a2 = j0;
-if (a2 == v12) goto L18;
-v8 = in_std_alloc_vec_deque_methods_VecDequeIndexUsize_index_384c51600a7(RUD_AS a1 + 48u, a2);
-TEST(v8);
-v9 = AT64(a1, 24) + ((u64)AT32(v8, 0) * 48u);
-TEST(v9);
-if ((AT8(v9, 0) & 1u) == 0) goto L3;
-v8 = v9 + 8u;
-if (v11 < AT64(v9, 8)) goto L18;
-SET64(v10, 32, a2 + 1u);
-j0 = v9 + 16u;
+if (a2 == v16) goto L4;
+v7 = AT64(a1, 48);
+j0 = AT64(a1, 24);
+v8 = v16 - AT64(a1, 80);
+if (v8 > a2) {
+j1 = (v7 + (AT64(a1, 72) << 2)) + (a2 << 2);
+goto L29;
+}
+j1 = v7 + ((a2 - v8) << 2);
+L29:;
+TEST(j1);
+v7 = j0 + ((u64)AT32(j1, 0) * 48u);
+TEST(v7);
+if ((AT8(v7, 0) & 1u) == 0) goto L5;
+v8 = v7 + 8u;
+if (v13 < AT64(v7, 8)) goto L4;
+SET64(v14, 32, a2 + 1u);
+j0 = v7 + 16u;
 goto L19;
 L23:;
-j1 = in_std_alloc_vec_deque_methods_VecDequeIndexUsize_index_384c51600a7(RUD_AS v14, a2);
+j0 = v15;
+if (v19 == 0) {
+j1 = (v8 + (AT64(a1, 72) << 2)) + (a2 << 2);
+goto L31;
+}
+j1 = v8 + ((a2 - v11) << 2);
+L31:;
 TEST(j1);
-v9 = v16 + ((u64)AT32(j1, 0) * 48u);
-TEST(v9);
-if ((AT8(v9, 0) & 1u) == 0) goto L3;
-v8 = v9 + 8u;
-if (v11 < AT64(v9, 8)) goto L18;
-SET64(v10, 32, a2 + 1u);
-j0 = v9 + 16u;
+v7 = j0 + ((u64)AT32(j1, 0) * 48u);
+TEST(v7);
+if ((AT8(v7, 0) & 1u) == 0) goto L5;
+v8 = v7 + 8u;
+if (v13 < AT64(v7, 8)) goto L4;
+SET64(v14, 32, a2 + 1u);
+j0 = v7 + 16u;
 L19:;
 a2 = j0;
 TEST(v8);
 j0 = a1 + 152u;
 a1 = AT64(v8, 0);
-SET64(v10, 24, a1);
-in_mm_packet_packet_Packet_write_to(RUD_AS v7 + 8u, a2, a3 + (a3 == 0 ? 4096ull : 0ull), a4);
-if (AT8(v7, 8)) goto L3;
-a2 = AT64(v7, 16);
+SET64(v14, 24, a1);
+in_mm_packet_packet_Packet_write_to(RUD_AS v10 + 8u, a2, a3 + (a3 == 0 ? 4096ull : 0ull), a4);
+if (AT8(v10, 8)) goto L5;
+a2 = AT64(v10, 16);
 SET64(a5, 0, a1);
 TEST(a6);
 SET64(a6, 32, 0u);
@@ -24789,12 +20277,37 @@ SET64(a6, 16, 0u);
 SET64(a6, 8, 0u);
 SET64(a6, 0, 0u);
 SET64(a6, 40, a2);
-goto L7;
-L18:;
-SET64(v10, 24, 0u);
-SET64(v10, 16, 0u);
-SET64(v10, 8, 0u);
-SET64(v10, 0, 0u);
+goto L3;
+L11:;
+if (a2 > 8u) goto L9;
+L10:;
+L33:;
+if (a2 == 0) { i0 = 23u; goto L8; }
+a2 = a2 - 1u;
+TEST(a1);
+v19 = AT8(a1, 0);
+a1 = a1 + 1u;
+if (((u32)(v19 == 45u) | (u32)(v19 == 95u)) | ((u32)(((v19 - 65u) & 255u) < 26u) | (u32)(((v19 - 48u) & 255u) < 10u))) goto L33;
+L9:;
+i0 = 15u;
+L8:;
+v19 = i0;
+TEST(a6);
+SET64(a6, 12, 0u);
+SET32(a6, 8, v19);
+SET64(a6, 0, 2u);
+SET64(a6, 20, 0u);
+SET64(a6, 28, 0u);
+SET64(a6, 36, 0u);
+SET32(a6, 44, 0u);
+goto L3;
+L5:;
+rud_trap();
+L4:;
+SET64(v14, 24, 0u);
+SET64(v14, 16, 0u);
+SET64(v14, 8, 0u);
+SET64(v14, 0, 0u);
 TEST(a6);
 SET64(a6, 4, 0u);
 SET32(a6, 0, 5u);
@@ -24803,298 +20316,208 @@ SET64(a6, 20, 0u);
 SET64(a6, 28, 0u);
 SET64(a6, 36, 0u);
 SET32(a6, 44, 0u);
-goto L7;
-L9:;
-SET64(v7, 144, 0u);
-SET8(v7, 152, 0u);
-in_mm_service_reading_id_of(RUD_AS v7 + 144u, v12, a2);
-v18 = AT8(v7, 144);
-v19 = v18 ? AT8(v7, 147) : 0u;
-v17 = v18 ? AT8(v7, 146) : 0u;
-i0 = v18 ? AT8(v7, 145) : 3u;
-L8:;
-v18 = i0;
-SET8(v7, 146, v19);
-SET8(v7, 145, v17);
-SET8(v7, 144, v18);
-in_mm_c_memory_refused(RUD_AS v7 + 88u, v7 + 144u);
-TEST(a6);
-SET64(a6, 40, AT64(v7, 128));
-SET64(a6, 32, AT64(v7, 120));
-SET64(a6, 24, AT64(v7, 112));
-SET64(a6, 16, AT64(v7, 104));
-SET64(a6, 8, AT64(v7, 96));
-SET64(a6, 0, AT64(v7, 88));
-L7:;
-SET64(a0, 0, v15);
-SET8(a0, 8, 1u);
-L4:;
-RUD_G0 = v7 + 160u;
-goto L2;
 L3:;
-rud_trap();
+SET64(a0, 0, v17);
+SET8(a0, 8, 1u);
 L2:;
+RUD_G0 = v10 + 48u;
 RUD_G1 = 0u;
 }
 
-static void in_mm_service_reading_packet_of(RUD_IT u64 a0, u64 a1, u64 a2) {
-u32 v5 = 0, v6 = 0, i1 = 0;
+static void in_mm_service_reading_id_of(RUD_IT u64 a0, u64 a1, u64 a2) {
+u32 v6 = 0, v7 = 0, v8 = 0, v9 = 0, i0 = 0;
 u64 v3 = 0, v4 = 0, j0 = 0;
 RUD_HERE
-v3 = RUD_G0 - 80u;
-RUD_G0 = v3;
-if ((s64)v3 >= (s64)16u) {
-TEST(v3);
-SET64(v3, 72, 0u);
-SET64(v3, 64, 0u);
-SET64(v3, 56, 0u);
-SET64(v3, 48, 0u);
-SET64(v3, 40, 0u);
-SET64(v3, 32, 0u);
-SET64(v3, 8, 0u);
-SET64(v3, 16, 0u);
-SET64(v3, 23, 0u);
-in_mm_ask_line_lent_alone(RUD_AS v3 + 32u, a1, a2);
-j0 = a0;
-if (AT8(v3, 32) == 0) {
-a2 = AT64(v3, 72);
-v5 = AT8(v3, 48);
-if ((a2 + (v5 ? 21ull : 11ull)) < 1025u) goto L4;
-v6 = 2u;
-v5 = 0u;
-a2 = 0u;
-i1 = 1u;
-goto L3;
-}
-TEST(a0);
-SET8(a0, 0, 1u);
-SET64(a0, 8, 0u);
-v5 = AT8(v3, 33);
-SET8(a0, 3, v5 ? AT8(v3, 34) : 0u);
-SET8(a0, 2, v5);
-SET8(a0, 1, v5 ? 5u : 0u);
-SET64(a0, 16, 0u);
-SET64(a0, 24, 0u);
-SET64(a0, 32, 0u);
-SET64(a0, 40, 0u);
-goto L1;
+v4 = RUD_G0 - 16u;
+if ((s64)v4 >= (s64)16u) {
+v8 = 1u;
+if ((a2 - 1u) > 7u) goto L2;
 L4:;
-SET64(v3, 8, AT64(v3, 49));
-SET64(v3, 16, AT64(v3, 57));
-SET64(v3, 23, AT64(v3, 64));
-v4 = AT64(v3, 40);
-i1 = 0u;
-L3:;
+if (a2 != v3) {
+j0 = a1 + v3;
+v3 = v3 + 1u;
 TEST(j0);
-SET8(j0, 0, i1);
-TEST(a0);
-SET8(a0, 16, v5);
-SET64(a0, 8, v4);
-SET16(a0, 2, 0u);
-SET8(a0, 1, v6);
-SET64(a0, 17, AT64(v3, 8));
-SET64(a0, 25, AT64(v3, 16));
-SET64(a0, 32, AT64(v3, 23));
-SET64(a0, 40, a2);
+v6 = AT8(j0, 0);
+if (((u32)(v6 == 45u) | (u32)(v6 == 95u)) | ((u32)(((v6 - 65u) & 255u) < 26u) | (u32)(((v6 - 48u) & 255u) < 10u))) goto L4;
+goto L2;
+}
+TEST(v4);
+SET64(v4, 8, 2314885530818453536ull);
+if (!(a2 == 0)) {
+COPY(v4 + 8u, a1, a2);
+}
+a1 = AT64(v4, 8);
+v3 = a1 >> 24;
+v7 = (u32)(a1 >> 8);
+v9 = (u32)a1;
+v8 = 0u;
+i0 = (u32)(a1 >> 16);
 goto L1;
 }
 rud_trap();
-L1:;
-RUD_G0 = v3 + 80u;
-}
-
-static void in_mm_memory_spare_refuses(RUD_IT u64 a0, u64 a1) {
-u32 v2 = 0, i1 = 0;
-u64 j0 = 0;
-RUD_HERE
-if ((s64)RUD_G0 >= (s64)16u) {
-v2 = 1u;
-j0 = a0;
-TEST(a1);
-if (AT8(a1, 104) != 1u) { i1 = 1u; goto L2; }
-if (GET64(a1 + (AT8(a1, 0) ? 96ull : 40ull), 0) == 0xffffffffffffffffull) { i1 = 5u; goto L2; }
-v2 = AT64(a1, 152) == 0xffffffffffffffffull;
-i1 = v2 ? 5u : 0u;
 L2:;
-TEST(j0);
-SET8(j0, 1, i1);
-TEST(a0);
-SET8(a0, 0, v2);
-return;
-}
-rud_trap();
-}
-
-static void in_mm_packet_block_BlockPacket_lent(RUD_IT u64 a0, u64 a1) {
-u32 v3 = 0;
-u64 v2 = 0;
-RUD_HERE
-v2 = RUD_G0 - 48u;
-RUD_G0 = v2;
-if ((s64)v2 >= (s64)16u) {
-TEST(v2);
-SET64(v2, 40, 0u);
-SET64(v2, 32, 0u);
-SET64(v2, 24, 0u);
-SET64(v2, 16, 0u);
-SET64(v2, 8, 0u);
-in_mm_packet_lent_LentPacket_packet_in_block(RUD_AS v2 + 8u, a1);
-RUD_AGAIN
-a1 = a0 + 8u;
-if (AT8(v2, 8) == 0) {
-TEST(a1);
-SET64(a1, 24, AT64(v2, 40));
-SET64(a1, 16, AT64(v2, 32));
-SET64(a1, 8, AT64(v2, 24));
-SET64(a1, 0, AT64(v2, 16));
-goto L1;
-}
-TEST(a1);
-SET64(a1, 24, 0u);
-SET64(a1, 16, 0u);
-SET64(a1, 8, 0u);
-SET64(a1, 0, 0u);
-v3 = 1u;
-goto L1;
-}
-rud_trap();
+v3 = 0u;
+v9 = 1u;
+i0 = 0u;
 L1:;
+v6 = i0;
 TEST(a0);
-SET8(a0, 0, v3);
-RUD_G0 = v2 + 48u;
+SET8(a0, 0, v8);
+SET8(a0, 8, (u32)(v3 >> 32));
+SET32(a0, 4, (u32)v3);
+SET8(a0, 3, v6);
+SET8(a0, 2, v7);
+SET8(a0, 1, v9);
 }
 
 static void in_mm_memory_spare_given_up(RUD_IT u64 a0, u64 a1) {
-u32 v6 = 0, v7 = 0;
-u64 v2 = 0, v3 = 0, v4 = 0, v5 = 0, j0 = 0;
+u32 v7 = 0, v8 = 0;
+u64 v2 = 0, v3 = 0, v4 = 0, v5 = 0, v6 = 0, j0 = 0, j1 = 0;
 RUD_HERE
-v2 = RUD_G0 - 32u;
-RUD_G0 = v2;
-if ((s64)v2 < (s64)16u) goto L1;
-in_mm_memory_spare_refuses(RUD_AS v2 + 24u, a1);
-TEST(v2);
-if (AT8(v2, 24) == 1u) goto L2;
+v6 = RUD_G0;
+if ((s64)v6 < (s64)16u) goto L1;
 TEST(a1);
-v7 = AT8(a1, 0);
-if (v7 == 1u) goto L2;
-if (GET32(a1 + (v7 ? 40ull : 24ull), 0) < AT32(a1, 16)) goto L2;
-v5 = a1 + 8u;
-if (v7 == 0) {
-j0 = in_mm_store_queue_first_place_43887c423445e301(RUD_AS v5, 0u);
+if (AT8(a1, 104) != 1u) goto L2;
+v8 = AT8(a1, 0);
+if (GET64(a1 + (v8 ? 96ull : 40ull), 0) == 0xffffffffffffffffull) goto L2;
+if ((u32)(v8 == 1u) | (u32)(AT64(a1, 152) == 0xffffffffffffffffull)) goto L2;
+v3 = AT64(a1, 16);
+if (GET32(a1 + (v8 ? 40ull : 24ull), 0) < (u32)v3) goto L2;
+v4 = a1 + 8u;
+if (v8 == 0) {
+j0 = in_mm_store_queue_first_place_43887c423445e301(RUD_AS v4, 0u);
 v4 = j0;
-if (v4 == AT64(a1, 24)) goto L2;
-in_circular_buffer_heap_HeapCircularBuffer_get_b37a56fa4dba497e(RUD_AS v2 + 8u, v5, v4);
-v6 = 1u;
-if ((AT8(v2, 8) & 1u) == 0) goto L1;
-v3 = AT64(v2, 16) + 8u;
+v5 = AT64(a1, 24);
+if (v4 == v5) goto L2;
+if (v4 >= v5) goto L1;
+j0 = AT64(a1, 8);
+a1 = AT64(a1, 32) + v4;
+v2 = (j0 + ((a1 - (a1 < v3 ? 0ull : v3)) * 40u)) + 8u;
+v7 = 1u;
 goto L2;
 }
-j0 = in_mm_store_queue_first_place_569124304bd8e99f(RUD_AS v5, 0u);
-v4 = j0;
-if (v4 == AT64(a1, 40)) goto L2;
-v4 = in_std_alloc_vec_deque_methods_VecDequeIndexUsize_index_384c51600a7(RUD_AS a1 + 32u, v4);
-v6 = 1u;
-TEST(v4);
-a1 = AT64(a1, 8) + ((u64)AT32(v4, 0) * 48u);
+j0 = in_mm_store_queue_first_place_569124304bd8e99f(RUD_AS v4, 0u);
+v3 = j0;
+v5 = AT64(a1, 40);
+if (v3 == v5) goto L2;
+v2 = AT64(a1, 32);
+v7 = 1u;
+j0 = AT64(a1, 8);
+v5 = v5 - AT64(a1, 64);
+if (v5 > v3) {
+j1 = (v2 + (AT64(a1, 56) << 2)) + (v3 << 2);
+goto L4;
+}
+j1 = v2 + ((v3 - v5) << 2);
+L4:;
+TEST(j1);
+a1 = j0 + ((u64)AT32(j1, 0) * 48u);
 TEST(a1);
 if ((AT8(a1, 0) & 1u) == 0) goto L1;
-v3 = a1 + 16u;
+v2 = a1 + 16u;
 L2:;
 TEST(a0);
-SET64(a0, 8, v3);
-SET8(a0, 0, v6);
-RUD_G0 = v2 + 32u;
+SET64(a0, 8, v2);
+SET8(a0, 0, v7);
+RUD_G0 = v6;
 return;
 L1:;
 rud_trap();
 }
 
-static u32 in_mm_memory_spare_hands_back(RUD_IT u64 a0) {
-u32 v2 = 0;
-u64 v1 = 0;
-RUD_HERE
-v1 = RUD_G0 - 32u;
-RUD_G0 = v1;
-if ((s64)v1 >= (s64)16u) {
-in_mm_memory_spare_given_up(RUD_AS v1 + 16u, a0);
-v2 = 1u;
-TEST(v1);
-if (AT8(v1, 16) == 1u) {
-v2 = GET64(GET64(AT64(v1, 24), 24), 0) == 1u;
-goto L2;
-}
-in_mm_memory_spare_refuses(RUD_AS v1 + 8u, a0);
-if (AT8(v1, 8) == 1u) goto L2;
-TEST(a0);
-v2 = GET32(a0 + (AT8(a0, 0) ? 40ull : 24ull), 0) == AT32(a0, 16);
-L2:;
-RUD_G0 = v1 + 32u;
-return v2;
-}
-rud_trap();
-return 0;
-}
-
 static void in_mm_memory_spare_Spare_take(RUD_IT u64 a0, u64 a1, u64 a2) {
-u32 v7 = 0, v8 = 0, v9 = 0, i0 = 0, i1 = 0;
-u64 v3 = 0, v4 = 0, v5 = 0, v6 = 0, j0 = 0, j1 = 0;
+u32 v15 = 0, v16 = 0, v17 = 0, i0 = 0;
+u64 v3 = 0, v4 = 0, v5 = 0, v6 = 0, v7 = 0, v8 = 0, v9 = 0, v10 = 0, v11 = 0, v12 = 0, v13 = 0, v14 = 0;
+u64 j0 = 0, j1 = 0;
 RUD_HERE
-(void)v6;
-v5 = RUD_G0;
-if ((s64)v5 >= (s64)16u) {
+v9 = RUD_G0;
+if ((s64)v9 >= (s64)16u) {
 TEST(a1);
 SET64(a1, 8, 0u);
 SET64(a1, 16, 0u);
 SET64(a1, 24, 0u);
 i0 = AT8(a1, 0);
 SET64(a1, 0, 0u);
-v3 = a1 + 32u;
-a1 = AT64(a1, 32);
-TEST(v3);
-SET64(v3, 0, 0u);
-if (i0 == 1u) {
-j0 = a0;
+a1 = a1 + 32u;
 TEST(a1);
-if (AT64(a1, 0) == 1u) {
+v4 = AT64(a1, 0);
+SET64(a1, 0, 0u);
+if (i0 == 1u) {
+TEST(v4);
+a1 = AT64(v4, 0);
+if (a1 == 1u) {
 TEST(a2);
-v3 = AT64(a2, 32);
-v4 = AT64(a2, 24);
-v6 = a1 + 16u;
-if (!(AT64(a1, 16) == 0)) {
-SET64(a1, 16, 0u);
+a1 = AT64(a2, 32);
+v6 = AT64(a2, 24);
+v3 = v4 + 16u;
+if (!(AT64(v4, 16) == 0)) {
+SET64(v4, 16, 0u);
 }
-i1 = in_std_alloc_vec_Vec_extend_from_slice_d4fc6a806bb7b0db(RUD_AS a1 + 8u, v4, v3);
+v10 = AT64(v4, 24);
+if (v10 < a1) {
+i0 = in_std_alloc_vec_Vec_grow_amortized_795f5fd3dc7a282e(RUD_AS v4 + 8u, a1);
 RUD_AGAIN
-if ((i1 & 255u) == 0) goto L4;
+if (i0 == 0) goto L6;
+v10 = AT64(v4, 24);
+v5 = AT64(v4, 16);
 }
-in_std_alloc_arc_Arc_drop_c3b6ee2ab0dfb523(RUD_AS a1);
-RUD_AGAIN
-v7 = 0u;
+SET64(v4, 16, 0u);
+SET64(v4, 24, 0u);
+v13 = a1 + v5;
+v11 = AT64(v4, 8);
+v12 = v11 + v5;
+if (a1 > (v12 - v6)) {
+v7 = a1 & 3u;
 v3 = 0u;
-v4 = 0u;
-a1 = 0u;
-j1 = 0u;
+if (a1 >= 4u) {
+v14 = a1 & 0xfffffffffffffffcull;
+L12:;
+a1 = v3 + v12;
+v8 = v3 + v6;
+TEST(v8);
+TEST(a1);
+SET8(a1, 0, AT8(v8, 0));
+SET8(a1, 1, AT8(v8, 1));
+SET8(a1, 2, AT8(v8, 2));
+SET8(a1, 3, AT8(v8, 3));
+v3 = v3 + 4u;
+if (v14 != v3) goto L12;
+if (v7 == 0) goto L2;
+}
+a1 = v3 + v6;
+v3 = v11 + (v3 + v5);
+L13:;
+TEST(a1);
+TEST(v3);
+SET8(v3, 0, AT8(a1, 0));
+v3 = v3 + 1u;
+a1 = a1 + 1u;
+v7 = v7 - 1u;
+if (v7 != 0u) goto L13;
+goto L2;
+}
+if (a1 == 0) goto L2;
+COPY(v12, v6, a1);
+goto L2;
+}
+SET64(v4, 0, a1 - 1u);
+v15 = 0u;
+a2 = 0u;
 goto L3;
-L4:;
-v4 = AT64(a2, 16);
-v9 = AT16(a2, 12);
-v8 = AT16(a2, 10);
-v7 = AT8(a2, 8);
-v3 = AT64(a2, 0);
-j1 = 1u;
-L3:;
-TEST(j0);
-SET64(j0, 0, j1);
-TEST(a0);
-SET64(a0, 32, a1);
-SET64(a0, 24, v4);
-SET16(a0, 22, 0u);
-SET16(a0, 20, v9);
-SET16(a0, 18, v8);
-SET16(a0, 16, v7);
-SET64(a0, 8, v3);
-RUD_G0 = v5;
-return;
+L6:;
+a1 = AT64(v4, 0);
+SET64(v4, 0, a1 - 1u);
+v15 = 0u;
+a2 = 0u;
+if (a1 != 1u) goto L3;
+j0 = AT64(v4, 8);
+j1 = AT64(v4, 24);
+rud_dealloc(RUD_AS v4);
+RUD_AGAIN
+if (j1 == 0) goto L3;
+rud_dealloc(RUD_AS j0);
+RUD_AGAIN
+goto L3;
 }
 TEST(a0);
 SET64(a0, 32, 0u);
@@ -25102,65 +20525,41 @@ SET64(a0, 24, 0u);
 SET64(a0, 16, 0u);
 SET64(a0, 8, 0u);
 SET64(a0, 0, 0u);
-RUD_G0 = v5;
+RUD_G0 = v9;
 return;
 }
 rud_trap();
-}
-
-static void in_circular_buffer_heap_HeapCircularBuffer_try_push_back_b37a56fa4d(RUD_IT u64 a0, u64 a1, u64 a2) {
-u64 v3 = 0, v4 = 0, v5 = 0, v6 = 0, v7 = 0, v8 = 0;
-RUD_HERE
-if ((s64)RUD_G0 >= (s64)16u) {
-TEST(a1);
-v3 = AT64(a1, 8);
-v4 = AT64(a1, 16);
-if (v3 <= v4) {
-TEST(a2);
-a1 = AT64(a2, 0);
-v3 = AT64(a2, 8);
-v4 = AT64(a2, 16);
-v5 = AT64(a2, 24);
+L3:;
+v3 = 0u;
+a1 = 0u;
+v4 = 0u;
+goto L1;
+L2:;
+SET64(v4, 24, v10);
+SET64(v4, 16, v13);
+SET64(v4, 8, v11);
+a1 = AT64(a2, 16);
+v17 = AT16(a2, 12);
+v16 = AT16(a2, 10);
+v15 = AT8(a2, 8);
+v3 = AT64(a2, 0);
+a2 = 1u;
+L1:;
 TEST(a0);
-SET64(a0, 40, AT64(a2, 32));
-SET64(a0, 32, v5);
-SET64(a0, 24, v4);
-SET64(a0, 16, v3);
-SET64(a0, 8, a1);
-SET8(a0, 0, 1u);
-return;
-}
-TEST(a2);
-v5 = AT64(a2, 0);
-v6 = AT64(a2, 8);
-v7 = AT64(a2, 16);
-v8 = AT64(a2, 24);
-v4 = AT64(a1, 24) + v4;
-v3 = AT64(a1, 0) + ((v4 - (v3 > v4 ? 0ull : v3)) * 40u);
-TEST(v3);
-SET64(v3, 32, AT64(a2, 32));
-SET64(v3, 24, v8);
-SET64(v3, 16, v7);
-SET64(v3, 8, v6);
-SET64(v3, 0, v5);
-a1 = a1 + 16u;
-TEST(a1);
-SET64(a1, 0, AT64(a1, 0) + 1u);
-TEST(a0);
-SET64(a0, 40, 0u);
-SET64(a0, 32, 0u);
-SET64(a0, 24, 0u);
-SET64(a0, 16, 0u);
-SET64(a0, 8, 0u);
-SET8(a0, 0, 0u);
-return;
-}
-rud_trap();
+SET64(a0, 0, a2);
+SET64(a0, 32, v4);
+SET64(a0, 24, a1);
+SET16(a0, 22, 0u);
+SET16(a0, 20, v17);
+SET16(a0, 18, v16);
+SET16(a0, 16, v15);
+SET64(a0, 8, v3);
+RUD_G0 = v9;
 }
 
 static void in_mm_desk_state_StoreState_offer(RUD_IT u64 a0, u64 a1, u64 a2, u64 a3) {
-u32 v12 = 0, i0 = 0;
-u64 v4 = 0, v5 = 0, v6 = 0, v7 = 0, v8 = 0, v9 = 0, v10 = 0, v11 = 0, j0 = 0;
+u32 v14 = 0, i0 = 0;
+u64 v4 = 0, v5 = 0, v6 = 0, v7 = 0, v8 = 0, v9 = 0, v10 = 0, v11 = 0, v12 = 0, v13 = 0, j0 = 0;
 RUD_HERE
 v4 = RUD_G0 - 288u;
 RUD_G0 = v4;
@@ -25191,8 +20590,8 @@ SET64(v4, 32, a2);
 SET64(v4, 24, v5);
 goto L1;
 }
-v12 = AT8(a1, 0);
-if (GET64(a1 + (v12 ? 96ull : 40ull), 0) != 0xffffffffffffffffull) {
+v14 = AT8(a1, 0);
+if (GET64(a1 + (v14 ? 96ull : 40ull), 0) != 0xffffffffffffffffull) {
 if (AT64(a1, 152) != 0xffffffffffffffffull) goto L6;
 }
 TEST(v5);
@@ -25212,7 +20611,7 @@ SET64(v4, 32, a2);
 SET64(v4, 24, v5);
 goto L1;
 L6:;
-if (v12 == 0) {
+if (v14 == 0) {
 SET64(v4, 112, 0u);
 SET64(v4, 120, 0u);
 SET64(v4, 128, 0u);
@@ -25228,14 +20627,13 @@ if (v8 == 0xffffffffffffffffull) {
 SET64(v4, 64, AT64(v5, 16));
 SET64(v4, 56, AT64(v5, 8));
 SET64(v4, 48, AT64(v5, 0));
-v12 = 3u;
+v14 = 3u;
 a2 = a3;
 goto L2;
 }
 v5 = a1 + 8u;
-j0 = v6;
-v6 = v8 + 1u;
-a2 = a2 < v6 ? v6 : a2;
+v7 = v8 + 1u;
+a2 = a2 < v7 ? v7 : a2;
 SET64(a1, 40, a2);
 if (AT64(a1, 24) < AT64(a1, 16)) {
 SET64(v4, 216, 0u);
@@ -25249,12 +20647,31 @@ SET64(v4, 176, a2);
 SET64(v4, 192, AT64(v4, 152));
 SET64(v4, 200, AT64(v4, 160));
 SET64(v4, 208, AT64(v4, 168));
-in_circular_buffer_heap_HeapCircularBuffer_try_push_back_b37a56fa4d(RUD_AS v4 + 216u, v5, v4 + 176u);
-if (AT8(v4, 216)) goto L8;
-SET64(v4, 48, 0u);
-SET64(v4, 56, 0u);
-SET64(v4, 64, 0u);
-goto L9;
+a3 = v4 + 216u;
+v7 = v4 + 176u;
+v14 = 0u;
+if ((s64)RUD_G0 >= (s64)16u) {
+v6 = AT64(a1, 16);
+v8 = AT64(a1, 24);
+if (v6 <= v8) {
+COPY_FEW(a3 + 8u, v7, 40u);
+v14 = 1u;
+goto L12;
+}
+v8 = AT64(a1, 32) + v8;
+COPY_FEW(AT64(a1, 8) + ((v8 - (v6 > v8 ? 0ull : v6)) * 40u), v7, 40u);
+v5 = v5 + 16u;
+SET64(a1, 24, AT64(a1, 24) + 1u);
+FILL_FEW(a3 + 8u, 0u, 40u);
+goto L12;
+}
+rud_trap();
+L12:;
+SET8(v4, 216, v14);
+if (AT8(v4, 216) == 0) { j0 = 0u; goto L8; }
+in_std_alloc_arc_Arc_drop_c3b6ee2ab0dfb523(RUD_AS AT64(v4, 256));
+RUD_AGAIN
+rud_trap();
 }
 SET64(v4, 80, a3);
 SET64(v4, 72, a2);
@@ -25263,64 +20680,68 @@ SET64(v4, 96, AT64(v4, 160));
 SET64(v4, 104, AT64(v4, 168));
 v7 = v4 + 112u;
 v6 = v4 + 72u;
-a3 = RUD_G0 - 176u;
+a3 = RUD_G0 - 112u;
 RUD_G0 = a3;
-if ((s64)a3 < (s64)16u) goto L15;
+if ((s64)a3 < (s64)16u) goto L17;
+v8 = AT64(v4, 104);
 TEST(a3);
-SET64(a3, 88, AT64(v4, 72));
-SET64(a3, 96, AT64(v4, 80));
-SET64(a3, 104, AT64(v4, 88));
-SET64(a3, 112, AT64(v4, 96));
-SET64(a3, 120, AT64(v4, 104));
-SET64(a3, 168, 0u);
-SET64(a3, 160, 0u);
-SET64(a3, 152, 0u);
-SET64(a3, 144, 0u);
-SET64(a3, 136, 0u);
-SET64(a3, 128, 0u);
-in_circular_buffer_heap_HeapCircularBuffer_pop_front_b37a56fa4dba49(RUD_AS a3 + 128u, v5);
-if (AT8(a3, 128) != 1u) goto L15;
-SET64(a3, 80, AT64(a3, 168));
-SET64(a3, 72, AT64(a3, 160));
-SET64(a3, 64, AT64(a3, 152));
-SET64(a3, 56, AT64(a3, 144));
-SET64(a3, 48, AT64(a3, 136));
-SET64(a3, 168, 0u);
-SET64(a3, 160, 0u);
-SET64(a3, 152, 0u);
-SET64(a3, 144, 0u);
-SET64(a3, 136, 0u);
-SET64(a3, 128, 0u);
-in_circular_buffer_heap_HeapCircularBuffer_try_push_back_b37a56fa4d(RUD_AS a3 + 128u, v5, a3 + 88u);
-if (AT8(a3, 128)) goto L14;
-v5 = AT64(a3, 48);
-SET64(a3, 8, v5);
-v6 = AT64(a3, 56);
-SET64(a3, 16, v6);
-v8 = AT64(a3, 64);
-SET64(a3, 24, v8);
-v9 = AT64(a3, 72);
-SET64(a3, 32, v9);
-v10 = AT64(a3, 80);
-SET64(a3, 40, v10);
-SET64(v4, 144, v10);
-SET64(v4, 136, v9);
-SET64(v4, 128, v8);
-SET64(v4, 120, v6);
-SET64(v4, 112, v5);
-RUD_G0 = a3 + 176u;
-goto L13;
-L15:;
+SET64(a3, 80, AT64(v4, 72));
+SET64(a3, 88, AT64(v4, 80));
+SET64(a3, 96, AT64(v4, 88));
+SET64(a3, 104, AT64(v4, 96));
+v6 = AT64(a1, 24);
+if (v6 == 0) goto L17;
+v9 = v5 + 16u;
+v11 = v6 - 1u;
+SET64(a1, 24, v11);
+v6 = v5 + 24u;
+v12 = AT64(a1, 32);
+v10 = v12 + 1u;
+j0 = v6;
+v6 = AT64(a1, 16);
+v10 = v10 - (v6 > v10 ? 0ull : v6);
+SET64(a1, 32, v10);
+v13 = AT64(a1, 8);
+v5 = v13 + (v12 * 40u);
+TEST(v5);
+SET64(a3, 40, AT64(v5, 0));
+SET64(a3, 48, AT64(v5, 8));
+SET64(a3, 56, AT64(v5, 16));
+SET64(a3, 64, AT64(v5, 24));
+SET64(a3, 72, AT64(v5, 32));
+if (v6 <= v11) goto L16;
+v5 = v10 + v11;
+v5 = v13 + ((v5 - (v5 < v6 ? 0ull : v6)) * 40u);
+TEST(v5);
+SET64(v5, 24, AT64(a3, 104));
+SET64(v5, 16, AT64(a3, 96));
+SET64(v5, 8, AT64(a3, 88));
+SET64(v5, 0, AT64(a3, 80));
+SET64(v5, 32, v8);
+SET64(a1, 24, AT64(a1, 24) + 1u);
+SET64(a3, 0, AT64(a3, 40));
+SET64(a3, 8, AT64(a3, 48));
+SET64(a3, 16, AT64(a3, 56));
+SET64(a3, 24, AT64(a3, 64));
+SET64(a3, 32, AT64(a3, 72));
+SET64(v4, 144, AT64(a3, 32));
+SET64(v4, 136, AT64(a3, 24));
+SET64(v4, 128, AT64(a3, 16));
+SET64(v4, 120, AT64(a3, 8));
+SET64(v4, 112, AT64(a3, 0));
+RUD_G0 = a3 + 112u;
+goto L15;
+L17:;
 rud_trap();
-L14:;
-in_std_alloc_arc_Arc_drop_c3b6ee2ab0dfb523(RUD_AS AT64(a3, 168));
+L16:;
+in_std_alloc_arc_Arc_drop_c3b6ee2ab0dfb523(RUD_AS v8);
 RUD_AGAIN
 rud_trap();
-L13:;
+L15:;
 SET64(v4, 48, AT64(v4, 120));
 SET64(v4, 56, AT64(v4, 128));
 SET64(v4, 64, AT64(v4, 136));
-v12 = 1u;
+v14 = 1u;
 v7 = AT64(v4, 144);
 goto L2;
 }
@@ -25333,27 +20754,27 @@ if (v6 == 0xffffffffffffffffull) {
 SET64(v4, 64, AT64(v5, 16));
 SET64(v4, 56, AT64(v5, 8));
 SET64(v4, 48, AT64(v5, 0));
-v12 = 3u;
+v14 = 3u;
 goto L3;
 }
 if (AT64(a1, 40) >= AT64(a1, 16)) {
 SET64(v4, 64, AT64(v5, 16));
 SET64(v4, 56, AT64(v5, 8));
 SET64(v4, 48, AT64(v5, 0));
-v12 = 2u;
+v14 = 2u;
 goto L3;
 }
 v5 = v6 + 1u;
 a2 = a2 < v5 ? v5 : a2;
 SET64(a1, 96, a2);
 v5 = a1 + 80u;
-v6 = AT64(a1, 80);
-if (v6 == 0) goto L4;
+v7 = AT64(a1, 80);
+if (v7 == 0) goto L4;
 j0 = v5;
-v5 = v6 - 1u;
+v5 = v7 - 1u;
 SET64(a1, 80, v5);
-v12 = GET32(AT64(a1, 72) + (v5 << 2), 0);
-v5 = AT64(a1, 8) + ((u64)v12 * 48u);
+v14 = GET32(AT64(a1, 72) + (v5 << 2), 0);
+v5 = AT64(a1, 8) + ((u64)v14 * 48u);
 TEST(v5);
 SET64(v5, 8, a2);
 SET64(v5, 32, AT64(v4, 272));
@@ -25369,35 +20790,28 @@ if (i0 == 1u) {
 in_std_alloc_arc_Arc_drop_c3b6ee2ab0dfb523(RUD_AS v5);
 RUD_AGAIN
 }
-a3 = a1 + 32u;
-if ((s64)RUD_G0 >= (s64)16u) {
-v5 = AT64(a1, 32);
-v8 = AT64(a1, 40);
-v9 = a3 + 32u;
-v6 = AT64(a1, 64);
-v10 = v8 - v6;
-v11 = AT64(a1, 56);
-if (v10 < (AT64(a1, 48) - v11)) {
-PUT32(v5 + ((v10 + v11) << 2), 0, v12);
+a3 = AT64(a1, 32);
+v7 = AT64(a1, 40);
+v6 = a1 + 64u;
+v5 = AT64(a1, 64);
+v8 = v7 - v5;
+v9 = AT64(a1, 56);
+if (v8 < (AT64(a1, 48) - v9)) {
+PUT32(a3 + ((v8 + v9) << 2), 0, v14);
 goto L21;
 }
-PUT32(v5 + (v6 << 2), 0, v12);
-SET64(a1, 64, v6 + 1u);
+PUT32(a3 + (v5 << 2), 0, v14);
+SET64(a1, 64, v5 + 1u);
 L21:;
-SET64(a1, 40, v8 + 1u);
-goto L19;
-}
-rud_trap();
-L19:;
-SET64(v4, 64, 0u);
-SET64(v4, 56, 0u);
-SET64(v4, 48, 0u);
-L9:;
-v12 = 0u;
-goto L2;
+SET64(a1, 40, v7 + 1u);
+j0 = 0u;
 L8:;
-in_std_alloc_arc_Arc_drop_c3b6ee2ab0dfb523(RUD_AS AT64(v4, 256));
-RUD_AGAIN
+v7 = j0;
+SET64(v4, 48, 0u);
+SET64(v4, 56, 0u);
+SET64(v4, 64, 0u);
+v14 = 0u;
+goto L2;
 L4:;
 rud_trap();
 L3:;
@@ -25411,8 +20825,8 @@ v5 = a1 + 152u;
 SET64(a1, 152, AT64(a1, 152) + 1u);
 a1 = a1 + 160u;
 TEST(a1);
-SET64(a1, 0, AT64(a1, 0) + (u64)(u32)(v12 != 0u));
-switch (v12 - 1u) {
+SET64(a1, 0, AT64(a1, 0) + (u64)(u32)(v14 != 0u));
+switch (v14 - 1u) {
 case 0u: goto L26;
 case 1u: goto L25;
 case 2u: goto L24;
@@ -25467,355 +20881,406 @@ L1:;
 RUD_G0 = v4 + 288u;
 }
 
-static void in_mm_memory_spare_Spare_keep(RUD_IT u64 a0, u64 a1) {
-u64 v2 = 0, v3 = 0, v4 = 0, v5 = 0;
-RUD_HERE
-v2 = RUD_G0 - 32u;
-RUD_G0 = v2;
-if ((s64)v2 >= (s64)16u) {
-TEST(a1);
-v3 = AT64(a1, 24);
-TEST(a0);
-if (AT8(a0, 0) == 1u) goto L3;
-TEST(v3);
-if (AT64(v3, 0) != 1u) goto L3;
-v4 = AT64(a1, 16);
-v5 = AT64(a1, 8);
-a1 = AT64(a1, 0);
-SET64(a0, 0, 1u);
-SET64(a0, 8, a1);
-SET64(a0, 16, v5);
-SET64(a0, 24, v4);
-SET64(a0, 32, v3);
-TEST(v2);
-SET64(v2, 24, v4);
-SET64(v2, 16, v5);
-SET64(v2, 8, a1);
-goto L2;
-L3:;
-in_std_alloc_arc_Arc_drop_c3b6ee2ab0dfb523(RUD_AS v3);
-RUD_AGAIN
-L2:;
-RUD_G0 = v2 + 32u;
-return;
-}
-rud_trap();
-}
-
-static void in_mm_memory_spare_Spare_keep_of(RUD_IT u64 a0, u64 a1) {
-u64 v2 = 0;
-RUD_HERE
-v2 = RUD_G0 - 96u;
-RUD_G0 = v2;
-if ((s64)v2 >= (s64)16u) {
-TEST(a1);
-if (AT8(a1, 0) == 0) {
-switch (AT8(a1, 8) - 1u) {
-case 0u: goto L7;
-case 1u: goto L6;
-default: goto L2;
-}
-L7:;
-TEST(v2);
-SET64(v2, 88, AT64(a1, 48));
-SET64(v2, 80, AT64(a1, 40));
-SET64(v2, 72, AT64(a1, 32));
-SET64(v2, 64, AT64(a1, 24));
-goto L5;
-L6:;
-TEST(v2);
-SET64(v2, 88, AT64(a1, 40));
-SET64(v2, 80, AT64(a1, 32));
-SET64(v2, 72, AT64(a1, 24));
-SET64(v2, 64, AT64(a1, 16));
-L5:;
-SET64(v2, 56, AT64(v2, 88));
-SET64(v2, 48, AT64(v2, 80));
-SET64(v2, 40, AT64(v2, 72));
-SET64(v2, 32, AT64(v2, 64));
-goto L3;
-}
-TEST(v2);
-SET64(v2, 56, AT64(a1, 40));
-SET64(v2, 48, AT64(a1, 32));
-SET64(v2, 40, AT64(a1, 24));
-SET64(v2, 32, AT64(a1, 16));
-L3:;
-SET64(v2, 24, AT64(v2, 56));
-SET64(v2, 16, AT64(v2, 48));
-SET64(v2, 8, AT64(v2, 40));
-SET64(v2, 0, AT64(v2, 32));
-in_mm_memory_spare_Spare_keep(RUD_AS a0, v2);
-RUD_AGAIN
-L2:;
-RUD_G0 = v2 + 96u;
-return;
-}
-rud_trap();
-}
-
-static void in_mm_service_service_Service_settle(RUD_IT u64 a0, u64 a1) {
-u32 i0 = 0;
-u64 v2 = 0, j0 = 0;
-RUD_HERE
-(void)i0;
-v2 = RUD_G0;
-if ((s64)v2 >= (s64)16u) {
-TEST(a1);
-if (AT8(a1, 0) != 1u) goto L2;
-if (AT8(a1, 1)) goto L2;
-a1 = a0 + 120u;
-TEST(a1);
-j0 = a1;
-a1 = AT64(a1, 0) + 1u;
-SET64(j0, 0, a1 == 0 ? 18446744073709551615ull : a1);
-L2:;
-i0 = in_mm_memory_spare_Spare_fill(RUD_AS a0 + 128u);
-RUD_AGAIN
-RUD_G0 = v2;
-return;
-}
-rud_trap();
-}
-
 static void in_rudlayog_memory_offer(RUD_IT u64 a0, u64 a1, u64 a2, u64 a3, u64 a4, u64 a5, u64 a6, u64 a7) {
-u32 v11 = 0, v12 = 0, v13 = 0, v14 = 0, v15 = 0, v16 = 0, v17 = 0, v18 = 0, i0 = 0;
-u64 v8 = 0, v9 = 0, v10 = 0;
+u32 v15 = 0, v16 = 0, v17 = 0, v18 = 0, v19 = 0, v20 = 0, v21 = 0, v22 = 0, i0 = 0, i1 = 0;
+u64 v8 = 0, v9 = 0, v10 = 0, v11 = 0, v12 = 0, v13 = 0, v14 = 0, j0 = 0, j1 = 0;
 RUD_HERE
+(void)v10;
 i0 = in_rattle_enter(RUD_AS0);
 if (i0) {
 rud_trap();
 }
-v10 = a0;
-v8 = RUD_G0 - 384u;
+v12 = a0;
+v8 = RUD_G0 - 368u;
 RUD_G0 = v8;
 if ((s64)v8 >= (s64)16u) {
-TEST(a6);
-SET64(a6, 0, 0u);
-SET64(a6, 8, 0u);
 TEST(v8);
-SET8(v8, 82, 0u);
-SET16(v8, 80, 0u);
-SET64(v8, 32, 0u);
-SET64(v8, 40, 0u);
-SET64(v8, 48, 0u);
-SET64(v8, 56, 0u);
-SET64(v8, 64, 0u);
-SET64(v8, 72, 0u);
-a0 = v10 + 8u;
+SET8(v8, 66, 0u);
+SET16(v8, 64, 0u);
+FILL_FEW(v8 + 16u, 0u, 48u);
+TEST(a6);
+SET64(a6, 8, 0u);
+SET64(a6, 0, 0u);
+a0 = v12 + 8u;
 TEST(a0);
 if (AT8(a0, 0) == 0) {
 TEST(a7);
-SET64(a7, 4, 0u);
 SET32(a7, 0, 3u);
-SET64(a7, 12, 0u);
-SET64(a7, 20, 0u);
-SET64(a7, 28, 0u);
-SET64(a7, 36, 0u);
-SET32(a7, 44, 0u);
+FILL_FEW(a7 + 4u, 0u, 44u);
 goto L2;
 }
 SET8(a0, 0, 0u);
-TEST(v10);
-v9 = AT64(v10, 0);
-SET32(v8, 84, 0u);
-SET64(v8, 136, 0u);
-SET8(v8, 144, 0u);
+TEST(v12);
+v11 = AT64(v12, 0);
+SET32(v8, 68, 0u);
+SET64(v8, 120, 0u);
+SET8(v8, 128, 0u);
+FILL_FEW(v8 + 72u, 0u, 48u);
+in_mm_service_reading_id_of(RUD_AS v8 + 120u, a1 + (a1 == 0 ? 4096ull : 0ull), a2);
+a0 = AT64(v8, 121);
+if (AT8(v8, 120) == 0) {
+SET64(v8, 136, a0);
+a1 = v8 + 72u;
+a2 = a4 + (a4 == 0 ? 4096ull : 0ull);
+a0 = RUD_G0 - 112u;
+RUD_G0 = a0;
+if ((s64)a0 >= (s64)16u) {
+TEST(a0);
+SET64(a0, 15, 0u);
+SET64(a0, 8, 0u);
+SET64(a0, 0, 0u);
+SET64(a0, 104, 0u);
+SET64(a0, 96, 0u);
+SET64(a0, 88, 0u);
+SET64(a0, 80, 0u);
+SET64(a0, 72, 0u);
+SET64(a0, 64, 0u);
+SET64(a0, 56, 0u);
+SET64(a0, 48, 0u);
+in_mm_packet_lent_LentPacket_parse(RUD_AS a0 + 48u, a2, a5);
+if (AT8(a0, 48)) goto L17;
+j0 = a1;
+if (AT64(a0, 104) == 0) {
+SET64(a0, 24, AT64(a0, 65));
+SET64(a0, 32, AT64(a0, 73));
+SET64(a0, 39, AT64(a0, 80));
+a2 = AT64(a0, 88);
+v17 = AT8(a0, 64);
+if ((a2 + (v17 ? 21ull : 11ull)) < 1025u) goto L20;
+v16 = 2u;
+a4 = 0u;
+v17 = 0u;
+a2 = 0u;
+i1 = 1u;
+goto L19;
+}
+i0 = 1u;
+goto L16;
+L20:;
+a4 = AT64(a0, 56);
+SET64(a0, 15, AT64(a0, 39));
+SET64(a0, 8, AT64(a0, 32));
+SET64(a0, 0, AT64(a0, 24));
+i1 = 0u;
+L19:;
+SET8(v8, 72, i1);
+SET8(v8, 88, v17);
+SET64(v8, 80, a4);
+SET16(v8, 74, 0u);
+SET8(v8, 73, v16);
+SET64(v8, 89, AT64(a0, 0));
+SET64(v8, 97, AT64(a0, 8));
+SET64(v8, 104, AT64(a0, 15));
+SET64(v8, 112, a2);
+goto L15;
+}
+rud_trap();
+L17:;
+v16 = AT8(a0, 49);
+i0 = v16 ? 2u : 0u;
+L16:;
+v17 = i0;
+SET8(v8, 72, 1u);
+SET64(v8, 80, 0u);
+SET8(v8, 75, v17 ? v16 : 0u);
+SET8(v8, 74, v17);
+SET8(v8, 73, v17 ? 5u : 0u);
 SET64(v8, 88, 0u);
 SET64(v8, 96, 0u);
 SET64(v8, 104, 0u);
 SET64(v8, 112, 0u);
-SET64(v8, 120, 0u);
-SET64(v8, 128, 0u);
-in_mm_service_reading_id_of(RUD_AS v8 + 136u, a1 + (a1 == 0 ? 4096ull : 0ull), a2);
-a0 = AT64(v8, 137);
-if (AT8(v8, 136) == 0) {
-SET64(v8, 152, a0);
-in_mm_service_reading_packet_of(RUD_AS v8 + 88u, a4 + (a4 == 0 ? 4096ull : 0ull), a5);
-if (AT8(v8, 88)) goto L9;
-TEST(v9);
-a0 = AT64(v9, 0);
-a1 = AT64(v9, 8);
-in_mm_desk_holding_place_of(RUD_AS v8 + 16u, a0, a1, v8 + 152u);
+L15:;
+RUD_G0 = a0 + 112u;
+if (AT8(v8, 72)) goto L9;
+TEST(v11);
+a0 = AT64(v11, 0);
+a1 = AT64(v11, 8);
+in_mm_desk_holding_place_of(RUD_AS v8, a0, a1, v8 + 136u);
+v17 = 1u;
+if ((AT8(v8, 0) & 1u) == 0) goto L13;
+a2 = AT64(v8, 8);
+v20 = a1 > a2;
+if (v20 == 0) goto L13;
+FILL_FEW(v8 + 328u, 0u, 40u);
+FILL_FEW(v8 + 256u, 0u, 40u);
+FILL_FEW(v8 + 200u, 0u, 56u);
+v16 = 6u;
+a1 = a0 + (a2 * 192u);
+TEST(a1);
+if (AT8(a1, 120) != 1u) {
 v15 = 1u;
-if ((AT8(v8, 16) & 1u) == 0) goto L13;
-a2 = AT64(v8, 24);
-v17 = a1 > a2;
-if (v17 == 0) goto L13;
-SET64(v8, 344, 0u);
-SET64(v8, 352, 0u);
-SET64(v8, 360, 0u);
-SET64(v8, 368, 0u);
-SET64(v8, 376, 0u);
-SET64(v8, 272, 0u);
-SET64(v8, 280, 0u);
-SET64(v8, 288, 0u);
-SET64(v8, 296, 0u);
-SET64(v8, 304, 0u);
-SET64(v8, 216, 0u);
-SET64(v8, 224, 0u);
-SET64(v8, 232, 0u);
-SET64(v8, 240, 0u);
-SET64(v8, 248, 0u);
-SET64(v8, 256, 0u);
-SET64(v8, 264, 0u);
-a0 = (v17 ? (a0 + (a2 * 192u)) : 0ull) + 16u;
-in_mm_memory_spare_refuses(RUD_AS v8 + 8u, a0);
-if (AT8(v8, 8) == 1u) {
-v14 = AT8(v8, 9);
-v12 = 6u;
 goto L5;
 }
-a4 = v9 + 128u;
-a1 = v8 + 96u;
-in_mm_packet_block_BlockPacket_lent(RUD_AS v8 + 344u, a1);
+v15 = 5u;
+a0 = (v20 ? a1 : 0ull) + 16u;
+TEST(a0);
+if (GET64(a0 + (AT8(a0, 0) ? 96ull : 40ull), 0) == 0xffffffffffffffffull) goto L5;
+if (AT64(a1, 168) == 0xffffffffffffffffull) goto L5;
+v9 = v11 + 128u;
+a4 = v8 + 328u;
+a5 = v8 + 80u;
+a2 = a5;
+v15 = 0u;
+a1 = RUD_G0 - 48u;
+RUD_G0 = a1;
+if ((s64)a1 >= (s64)16u) {
+TEST(a1);
+SET64(a1, 40, 0u);
+SET64(a1, 32, 0u);
+SET64(a1, 24, 0u);
+SET64(a1, 16, 0u);
+SET64(a1, 8, 0u);
+in_mm_packet_lent_LentPacket_packet_in_block(RUD_AS a1 + 8u, a2);
 RUD_AGAIN
-if (AT8(v8, 344) == 0) {
-SET64(v8, 336, AT64(v8, 376));
-SET64(v8, 328, AT64(v8, 368));
+a2 = a4 + 8u;
+if (AT8(a1, 8) == 0) {
+SET64(v8, 360, AT64(a1, 40));
+SET64(v8, 352, AT64(a1, 32));
+SET64(v8, 344, AT64(a1, 24));
+SET64(v8, 336, AT64(a1, 16));
+goto L23;
+}
+SET64(v8, 360, 0u);
+SET64(v8, 352, 0u);
+SET64(v8, 344, 0u);
+SET64(v8, 336, 0u);
+v15 = 1u;
+goto L23;
+}
+rud_trap();
+L23:;
+SET8(v8, 328, v15);
+RUD_G0 = a1 + 48u;
+if (AT8(v8, 328) == 0) {
 SET64(v8, 320, AT64(v8, 360));
 SET64(v8, 312, AT64(v8, 352));
-goto L16;
+SET64(v8, 304, AT64(v8, 344));
+SET64(v8, 296, AT64(v8, 336));
+goto L26;
 }
-i0 = in_mm_memory_spare_hands_back(RUD_AS a0);
-if (i0 == 0) goto L5;
-in_mm_memory_spare_Spare_take(RUD_AS v8 + 272u, a4, a1);
+v16 = 0u;
+a1 = RUD_G0 - 16u;
+RUD_G0 = a1;
+if ((s64)a1 >= (s64)16u) {
+in_mm_memory_spare_given_up(RUD_AS a1, a0);
+v15 = 1u;
+TEST(a1);
+if (AT8(a1, 0) == 1u) {
+v15 = GET64(GET64(AT64(a1, 8), 24), 0) == 1u;
+goto L30;
+}
+if (AT8(a0, 104) != 1u) goto L30;
+v18 = AT8(a0, 0);
+if (GET64(a0 + (v18 ? 96ull : 40ull), 0) == 0xffffffffffffffffull) goto L30;
+if (AT64(a0, 152) == 0xffffffffffffffffull) goto L30;
+v15 = GET32(a0 + (v18 ? 40ull : 24ull), 0) == AT32(a0, 16);
+L30:;
+RUD_G0 = a1 + 16u;
+i0 = v15;
+goto L28;
+}
+rud_trap();
+L28:;
+if (i0 == 0) {
+v15 = 0u;
+goto L5;
+}
+in_mm_memory_spare_Spare_take(RUD_AS v8 + 256u, v9, a5);
 RUD_AGAIN
-if (AT8(v8, 272) != 1u) goto L5;
-SET64(v8, 336, AT64(v8, 304));
-SET64(v8, 328, AT64(v8, 296));
+v15 = 0u;
+if (AT8(v8, 256) != 1u) goto L5;
 SET64(v8, 320, AT64(v8, 288));
 SET64(v8, 312, AT64(v8, 280));
-L16:;
-in_mm_desk_state_StoreState_offer(RUD_AS v8 + 216u, a0, a3, v8 + 312u);
+SET64(v8, 304, AT64(v8, 272));
+SET64(v8, 296, AT64(v8, 264));
+L26:;
+in_mm_desk_state_StoreState_offer(RUD_AS v8 + 200u, a0, a3, v8 + 296u);
 RUD_AGAIN
-a2 = v8 + 240u;
-a3 = v8 + 225u;
-v15 = AT8(v8, 216);
-a5 = (u64)v15;
+a2 = v8 + 224u;
+a3 = v8 + 209u;
+v20 = AT8(v8, 200);
+a4 = (u64)v20;
 a0 = 0u;
-v12 = 6u;
-a1 = AT64(v8, 232);
-v13 = AT8(v8, 224);
-if (v15) {
-v14 = v13;
+v16 = 6u;
+a1 = AT64(v8, 216);
+v18 = AT8(v8, 208);
+if (v20) {
+v15 = v18;
 goto L10;
 }
-v12 = 0u;
-v16 = v13;
-switch (v13 - 1u) {
-case 0u: goto L19;
+v16 = 0u;
+v15 = 0u;
+v21 = v18;
+switch (v18 - 1u) {
+case 0u: goto L34;
 case 1u: goto L10;
 default: goto L12;
 }
-L19:;
+L34:;
 i0 = 0u;
 goto L11;
 }
-v11 = (u32)(a0 >> 16);
-v14 = (u32)(a0 >> 8);
-v12 = (u32)a0;
+v19 = (u32)(a0 >> 16);
+v15 = (u32)(a0 >> 8);
+v16 = (u32)a0;
 goto L6;
 L13:;
-v12 = 3u;
+v16 = 3u;
 a0 = 0u;
 i0 = 3u;
 goto L3;
 L12:;
-v16 = 0u;
+v21 = 0u;
 i0 = 0u;
 L11:;
-v14 = i0;
+v15 = i0;
 a0 = a1;
 L10:;
-SET8(v8, 168, v13);
-SET64(v8, 160, a5);
-SET64(v8, 176, a1);
-SET32(v8, 169, AT32(v8, 225));
-SET32(v8, 172, AT32(v8, 228));
+SET8(v8, 152, v18);
+SET64(v8, 144, a4);
+SET64(v8, 160, a1);
+SET32(v8, 153, AT32(v8, 209));
+SET32(v8, 156, AT32(v8, 212));
+SET64(v8, 168, AT64(v8, 224));
+SET64(v8, 176, AT64(v8, 232));
 SET64(v8, 184, AT64(v8, 240));
 SET64(v8, 192, AT64(v8, 248));
-SET64(v8, 200, AT64(v8, 256));
-SET64(v8, 208, AT64(v8, 264));
-in_mm_memory_spare_Spare_keep_of(RUD_AS a4, v8 + 160u);
+v10 = v8 + 144u;
+v13 = RUD_G0;
+if ((s64)v13 >= (s64)16u) {
+a1 = AT64(v8, 184);
+a3 = AT64(v8, 176);
+a2 = AT64(v8, 168);
+v14 = AT64(v8, 160);
+if (AT8(v8, 144)) {
+a4 = a2;
+a5 = a1;
+goto L38;
+}
+a5 = AT64(v8, 192);
+a4 = a3;
+switch (AT8(v8, 152) - 1u) {
+case 0u: goto L40;
+case 1u: goto L41;
+default: goto L37;
+}
+L41:;
+a4 = a2;
+a2 = v14;
+a5 = a1;
+a1 = a3;
+L40:;
+v14 = a2;
+a3 = a1;
+L38:;
+TEST(a5);
+a1 = AT64(a5, 0);
+if (AT8(v11, 128) != 1u) {
+if (a1 != 1u) {
+SET64(a5, 0, a1 - 1u);
+goto L35;
+}
+SET64(v11, 128, 1u);
+SET64(v11, 160, a5);
+SET64(v11, 152, a3);
+SET64(v11, 144, a4);
+SET64(v11, 136, v14);
+goto L35;
+}
+SET64(a5, 0, a1 - 1u);
+if (a1 != 1u) goto L37;
+j0 = AT64(a5, 8);
+j1 = AT64(a5, 24);
+rud_dealloc(RUD_AS a5);
 RUD_AGAIN
-if (v15 == 0) {
-v18 = 1u;
-v15 = 0u;
-v13 = 0u;
+if (j1 == 0) goto L37;
+rud_dealloc(RUD_AS j0);
+RUD_AGAIN
+L37:;
+goto L35;
+}
+rud_trap();
+L35:;
+RUD_G0 = v13;
+if (v20 == 0) {
+v22 = 1u;
+v17 = 0u;
+v18 = 0u;
 i0 = 0u;
 goto L3;
 }
-i0 = 1u;
 goto L4;
 L9:;
-v11 = AT8(v8, 91);
-v14 = AT8(v8, 90);
-v12 = AT8(v8, 89);
+v19 = AT8(v8, 75);
+v15 = AT8(v8, 74);
+v16 = AT8(v8, 73);
 goto L6;
 }
 rud_trap();
 L6:;
+v17 = 1u;
 a0 = 0u;
-i0 = 1u;
 goto L4;
 L5:;
 a0 = 0u;
-i0 = 1u;
 L4:;
-v15 = i0;
-v13 = v14;
-i0 = v12;
+v18 = v15;
+i0 = v16;
 L3:;
-v17 = i0;
-SET8(v8, 87, v11);
-SET8(v8, 86, v13);
-SET8(v8, 85, v17);
-SET8(v8, 84, v15);
-in_mm_service_service_Service_settle(RUD_AS v9, v8 + 84u);
+v20 = i0;
+SET8(v8, 71, v19);
+SET8(v8, 70, v18);
+SET8(v8, 69, v20);
+SET8(v8, 68, v17);
+a1 = v8 + 68u;
+a2 = RUD_G0;
+if ((s64)a2 >= (s64)16u) {
+if (AT8(v8, 68) != 1u) goto L47;
+if (AT8(v8, 69)) goto L47;
+a1 = v11 + 120u;
+TEST(a1);
+j0 = a1;
+a1 = AT64(a1, 0) + 1u;
+SET64(j0, 0, a1 == 0 ? 18446744073709551615ull : a1);
+L47:;
+i0 = in_mm_memory_spare_Spare_fill(RUD_AS v11 + 128u);
 RUD_AGAIN
-if (v18) {
-v11 = 1u;
-switch (v16 - 1u) {
-case 0u: goto L25;
-case 1u: goto L24;
-default: goto L23;
+RUD_G0 = a2;
+goto L45;
 }
-L25:;
-v11 = 2u;
-goto L23;
-L24:;
+rud_trap();
+L45:;
+if (v22) {
+v19 = 1u;
+switch (v21 - 1u) {
+case 0u: goto L52;
+case 1u: goto L51;
+default: goto L50;
+}
+L52:;
+v19 = 2u;
+goto L50;
+L51:;
 a0 = 0u;
-v11 = 3u;
-L23:;
+v19 = 3u;
+L50:;
 SET64(a6, 8, a0);
 SET32(a6, 4, 0u);
-SET32(a6, 0, v11);
-TEST(a7);
-SET64(a7, 40, 0u);
-SET64(a7, 32, 0u);
-SET64(a7, 24, 0u);
-SET64(a7, 16, 0u);
-SET64(a7, 8, 0u);
-SET64(a7, 0, 0u);
-goto L21;
+SET32(a6, 0, v19);
+FILL_FEW(a7, 0u, 48u);
+goto L48;
 }
-SET8(v8, 82, v11);
-SET8(v8, 81, v14);
-SET8(v8, 80, v12);
-in_mm_c_memory_refused(RUD_AS v8 + 32u, v8 + 80u);
-TEST(a7);
-SET64(a7, 40, AT64(v8, 72));
-SET64(a7, 32, AT64(v8, 64));
-SET64(a7, 24, AT64(v8, 56));
-SET64(a7, 16, AT64(v8, 48));
-SET64(a7, 8, AT64(v8, 40));
-SET64(a7, 0, AT64(v8, 32));
-L21:;
-SET64(v10, 0, v9);
-SET8(v10, 8, 1u);
+SET8(v8, 66, v19);
+SET8(v8, 65, v15);
+SET8(v8, 64, v16);
+a0 = v8 + 16u;
+in_mm_c_memory_refused(RUD_AS a0, v8 + 64u);
+COPY_FEW(a7, a0, 48u);
+L48:;
+SET64(v12, 0, v11);
+SET8(v12, 8, 1u);
 L2:;
-RUD_G0 = v8 + 384u;
+RUD_G0 = v8 + 368u;
 RUD_G1 = 0u;
 }
 
@@ -25903,240 +21368,262 @@ SET64(a0, 0, v7);
 }
 
 static u32 in_mm_memory_recording_leads_to(RUD_IT u64 a0, u64 a1, u64 a2, u64 a3) {
-u32 v4 = 0, i0 = 0;
-u64 v5 = 0;
-RUD_NONE
-v5 = RUD_G0;
-if ((s64)v5 >= (s64)16u) {
-if (a1 > a2) {
+u32 v4 = 0;
+RUD_HERE
+if ((s64)RUD_G0 >= (s64)16u) {
+if (a1 <= a2) goto L3;
+a2 = a0 + (a2 * 12u);
+TEST(a2);
+TEST(a3);
+if (AT8(a2, 4) != AT8(a3, 0)) goto L3;
+if (AT8(a2, 5) != AT8(a3, 1)) goto L3;
+if (AT8(a2, 6) != AT8(a3, 2)) goto L3;
+if (AT8(a2, 7) != AT8(a3, 3)) goto L3;
+if (AT8(a2, 8) != AT8(a3, 4)) goto L3;
+if (AT8(a2, 9) != AT8(a3, 5)) goto L3;
+if (AT8(a2, 10) != AT8(a3, 6)) goto L3;
 v4 = 1u;
-i0 = in_core_cmp_arrays_ArrayPartialEq_eq_i8_8_31_core_cmp_numbers_U8Par(RUD_AS (a0 + (a2 * 12u)) + 4u, a3);
-if (i0) goto L2;
-}
+if (AT8(a2, 11) == AT8(a3, 7)) goto L2;
+L3:;
 a1 = a1 + 1u;
-a2 = a0 - 8u;
 L4:;
 a1 = a1 - 1u;
 v4 = a1 != 0u;
 if (a1 == 0) goto L2;
-a2 = a2 + 12u;
-i0 = in_core_cmp_arrays_ArrayPartialEq_eq_i8_8_31_core_cmp_numbers_U8Par(RUD_AS a2, a3);
-if (i0 == 0) goto L4;
+a2 = a0;
+a0 = a2 + 12u;
+TEST(a2);
+TEST(a3);
+if (AT8(a2, 4) != AT8(a3, 0)) goto L4;
+if (AT8(a2, 5) != AT8(a3, 1)) goto L4;
+if (AT8(a2, 6) != AT8(a3, 2)) goto L4;
+if (AT8(a2, 7) != AT8(a3, 3)) goto L4;
+if (AT8(a2, 8) != AT8(a3, 4)) goto L4;
+if (AT8(a2, 9) != AT8(a3, 5)) goto L4;
+if (AT8(a2, 10) != AT8(a3, 6)) goto L4;
+if (AT8(a2, 11) != AT8(a3, 7)) goto L4;
 L2:;
-RUD_G0 = v5;
 return v4;
 }
 rud_trap();
 return 0;
 }
 
-static void in_mm_packet_block_BlockPacket_copy(RUD_IT u64 a0, u64 a1) {
-u32 v5 = 0, v6 = 0, v7 = 0, v8 = 0, i0 = 0;
-u64 v2 = 0, v3 = 0, v4 = 0, j0 = 0;
-RUD_HERE
-v3 = RUD_G0 - 16u;
-RUD_G0 = v3;
-if ((s64)v3 >= (s64)16u) {
-TEST(a1);
-v2 = AT64(a1, 24);
-TEST(v2);
-v4 = AT64(v2, 0);
-if (v4 <= 9223372036854775806ull) {
-SET64(v2, 0, v4 + 1u);
-i0 = 0u;
-goto L3;
-}
-in_mm_packet_octets_Octets_of(RUD_AS v3, AT64(v2, 8), AT64(v2, 16));
-RUD_AGAIN
-TEST(v3);
-v2 = AT64(v3, 8);
-i0 = AT8(v3, 0);
-L3:;
-if (i0) {
-v5 = 1u;
-v4 = 0u;
-v2 = 0u;
-j0 = 0u;
-goto L2;
-}
-v4 = AT64(a1, 16);
-v8 = AT16(a1, 12);
-v7 = AT16(a1, 10);
-v6 = AT8(a1, 8);
-j0 = AT64(a1, 0);
-L2:;
-a1 = j0;
-TEST(a0);
-SET8(a0, 0, v5);
-SET64(a0, 32, v2);
-SET64(a0, 24, v4);
-SET16(a0, 22, 0u);
-SET16(a0, 20, v8);
-SET16(a0, 18, v7);
-SET16(a0, 16, v6);
-SET64(a0, 8, a1);
-RUD_G0 = v3 + 16u;
-return;
-}
-rud_trap();
-}
-
-static u64 in_mm_memory_recording_passed(RUD_IT u64 a0, u64 a1, u64 a2, u64 a3, u64 a4) {
-u32 i0 = 0;
-u64 v5 = 0, v6 = 0;
-RUD_NONE
-v5 = RUD_G0;
-if ((s64)v5 >= (s64)16u) {
-if (a4 == 0) {
-RUD_G0 = v5;
-return 0u;
-}
-v6 = a3 - 192u;
-a3 = 0u;
-L4:;
-v6 = v6 + 192u;
-i0 = in_mm_memory_recording_leads_to(RUD_AS a0, a1, a2, v6);
-if (i0) goto L3;
-a3 = a3 + 1u;
-if (a3 != a4) goto L4;
-a3 = a4;
-L3:;
-RUD_G0 = v5;
-return a3;
-}
-rud_trap();
-return 0;
-}
-
 static void in_mm_memory_recording_offer_one(RUD_IT u64 a0, u64 a1, u64 a2, u64 a3, u64 a4) {
-u32 v6 = 0, v7 = 0, v8 = 0, v9 = 0, i0 = 0;
-u64 v5 = 0;
+u32 v8 = 0, v9 = 0, v10 = 0, v11 = 0, v12 = 0;
+u64 v5 = 0, v6 = 0, v7 = 0, j0 = 0, j1 = 0;
 RUD_HERE
-v5 = RUD_G0 - 144u;
+v5 = RUD_G0 - 96u;
 RUD_G0 = v5;
 if ((s64)v5 >= (s64)16u) {
 TEST(v5);
-SET64(v5, 136, 0u);
-SET64(v5, 128, 0u);
-SET64(v5, 120, 0u);
-SET64(v5, 112, 0u);
-SET64(v5, 104, 0u);
-SET64(v5, 96, 0u);
 SET64(v5, 88, 0u);
+SET64(v5, 80, 0u);
+SET64(v5, 72, 0u);
+SET64(v5, 64, 0u);
+SET64(v5, 56, 0u);
+SET64(v5, 48, 0u);
+SET64(v5, 40, 0u);
 TEST(a3);
-SET64(v5, 56, AT64(a3, 0));
-SET64(v5, 64, AT64(a3, 8));
-SET64(v5, 72, AT64(a3, 16));
-SET64(v5, 80, AT64(a3, 24));
-in_mm_desk_state_StoreState_offer(RUD_AS v5 + 88u, a1 + 16u, a2, v5 + 56u);
+SET64(v5, 8, AT64(a3, 0));
+SET64(v5, 16, AT64(a3, 8));
+SET64(v5, 24, AT64(a3, 16));
+SET64(v5, 32, AT64(a3, 24));
+in_mm_desk_state_StoreState_offer(RUD_AS v5 + 40u, a1 + 16u, a2, v5 + 8u);
 RUD_AGAIN
-v6 = AT8(v5, 96);
-a2 = (u64)AT8(v5, 88);
-if (!(a2 == 0)) {
-v7 = 1u;
-i0 = 0u;
-goto L2;
+a3 = AT64(v5, 80);
+a1 = AT64(v5, 72);
+a2 = AT64(v5, 64);
+v7 = AT64(v5, 56);
+if (AT8(v5, 40)) {
+v11 = 1u;
+goto L3;
 }
-a1 = ((u64)v6 & 255u) << 2;
-v8 = GET_FAR32(a1, 4206020);
-i0 = GET_FAR32(a1, 4206008);
-L2:;
-v9 = i0;
-SET8(v5, 8, v6);
-SET64(v5, 0, a2);
-SET64(v5, 9, AT64(v5, 97));
-SET64(v5, 17, AT64(v5, 105));
-SET64(v5, 25, AT64(v5, 113));
-SET64(v5, 33, AT64(v5, 121));
-SET64(v5, 41, AT64(v5, 129));
-SET64(v5, 48, AT64(v5, 136));
-in_mm_memory_spare_Spare_keep_of(RUD_AS a4, v5);
+v8 = 1u;
+v10 = AT8(v5, 48);
+v12 = v10;
+switch (v10 - 1u) {
+case 0u: goto L5;
+case 1u: goto L3;
+default: goto L2;
+}
+L5:;
+v9 = 1u;
+v7 = a2;
+a2 = a1;
+a1 = a3;
+a3 = AT64(v5, 88);
+L3:;
+TEST(a3);
+v6 = AT64(a3, 0);
+TEST(a4);
+if (AT8(a4, 0) != 1u) {
+if (v6 != 1u) {
+SET64(a3, 0, v6 - 1u);
+goto L6;
+}
+SET64(a4, 0, 1u);
+SET64(a4, 32, a3);
+SET64(a4, 24, a1);
+SET64(a4, 16, a2);
+SET64(a4, 8, v7);
+goto L6;
+}
+SET64(a3, 0, v6 - 1u);
+if (v6 != 1u) goto L6;
+j0 = AT64(a3, 8);
+j1 = AT64(a3, 24);
+rud_dealloc(RUD_AS a3);
 RUD_AGAIN
+if (j1 == 0) goto L6;
+rud_dealloc(RUD_AS j0);
+RUD_AGAIN
+L6:;
+v10 = v11;
+v12 = v8;
+v8 = v9;
+L2:;
 TEST(a0);
-SET32(a0, 8, v7);
-SET32(a0, 4, v8);
-SET32(a0, 0, v9);
-RUD_G0 = v5 + 144u;
+SET32(a0, 8, v10);
+SET32(a0, 4, v12);
+SET32(a0, 0, v8);
+RUD_G0 = v5 + 96u;
 return;
 }
 rud_trap();
 }
 
 static void in_mm_memory_recording_offer_from_first(RUD_IT u64 a0, u64 a1, u64 a2, u64 a3, u64 a4, u64 a5, u64 a6, u64 a7, u64 a8) {
-u32 v12 = 0, v13 = 0, v14 = 0;
-u64 v9 = 0, v10 = 0, v11 = 0, j1 = 0;
+u32 v14 = 0, v15 = 0, v16 = 0, v17 = 0, v18 = 0, v19 = 0, i0 = 0;
+u64 v9 = 0, v10 = 0, v11 = 0, v12 = 0, v13 = 0, j0 = 0, j1 = 0;
 RUD_HERE
 v9 = RUD_G0 - 160u;
 RUD_G0 = v9;
 if ((s64)v9 < (s64)16u) goto L2;
-TEST(v9);
-SET32(v9, 120, 0u);
-SET64(v9, 112, 0u);
-SET64(v9, 96, 0u);
-SET32(v9, 104, 0u);
-SET64(v9, 24, 0u);
-SET64(v9, 32, 0u);
-SET64(v9, 40, 0u);
-SET64(v9, 48, 0u);
-SET64(v9, 56, 0u);
-SET64(v9, 8, 0u);
-SET64(v9, 16, 0u);
 TEST(a7);
-SET64(v9, 128, AT64(a7, 0));
-SET64(v9, 136, AT64(a7, 8));
-SET64(v9, 144, AT64(a7, 16));
-SET64(v9, 152, AT64(a7, 24));
+v10 = AT64(a7, 24);
+v11 = AT64(a7, 16);
+v17 = AT16(a7, 14);
+v14 = AT16(a7, 12);
+v15 = AT16(a7, 10);
+v18 = AT8(a7, 9);
+v16 = AT8(a7, 8);
+v12 = AT64(a7, 0);
+TEST(v9);
+SET32(v9, 152, 0u);
+a7 = 0u;
+SET64(v9, 144, 0u);
+SET64(v9, 128, 0u);
+SET32(v9, 136, 0u);
+SET64(v9, 80, 0u);
+SET64(v9, 88, 0u);
 if (a2 == 0) goto L2;
-v10 = a2 - 1u;
-a5 = a5 + 1u;
-a2 = a1 + 192u;
-j1 = in_mm_memory_recording_passed(RUD_AS a3, a4, a5, a2, v10);
-v11 = j1;
-if (v10 == v11) {
-SET64(v9, 88, AT64(a7, 24));
-SET64(v9, 80, AT64(a7, 16));
-SET64(v9, 72, AT64(a7, 8));
-SET64(v9, 64, AT64(a7, 0));
-in_mm_memory_recording_offer_one(RUD_AS v9 + 96u, a1, a6, v9 + 64u, a8);
-RUD_AGAIN
-TEST(a0);
-SET8(a0, 0, 0u);
-SET32(a0, 12, AT32(v9, 104));
-SET64(a0, 4, AT64(v9, 96));
-goto L1;
-}
-in_mm_packet_block_BlockPacket_copy(RUD_AS v9 + 24u, v9 + 128u);
-RUD_AGAIN
-if (AT8(v9, 24) == 0) {
-in_mm_memory_recording_offer_from_first(RUD_AS v9 + 8u, a2 + (v11 * 192u), v10 - v11, a3, a4, a5, a6, v9 + 32u, a8);
-RUD_AGAIN
-if (AT8(v9, 8)) goto L4;
-v12 = AT32(v9, 12);
-v13 = AT32(v9, 16);
-v14 = AT32(v9, 20);
-in_mm_memory_recording_offer_one(RUD_AS v9 + 112u, a1, a6, v9 + 128u, a8);
-RUD_AGAIN
-TEST(a0);
-SET8(a0, 0, 0u);
-SET32(a0, 12, v14 + AT32(v9, 120));
-SET32(a0, 8, v13 + AT32(v9, 116));
-SET32(a0, 4, v12 + AT32(v9, 112));
-goto L1;
-}
-in_std_alloc_arc_Arc_drop_c3b6ee2ab0dfb523(RUD_AS AT64(v9, 152));
-RUD_AGAIN
-TEST(a0);
-SET32(a0, 12, 0u);
-SET64(a0, 4, 0u);
-SET8(a0, 0, 1u);
-goto L1;
+v13 = a5 + 1u;
+a5 = a2 - 1u;
+if (a5 == 0) goto L5;
+a2 = a1;
+L6:;
+a2 = a2 + 192u;
+i0 = in_mm_memory_recording_leads_to(RUD_AS a3, a4, v13, a2);
+if (i0) goto L5;
+a7 = a7 + 1u;
+if (a5 != a7) goto L6;
+goto L4;
+L5:;
+if (a5 != a7) goto L3;
 L4:;
-in_std_alloc_arc_Arc_drop_c3b6ee2ab0dfb523(RUD_AS AT64(v9, 152));
+SET64(v9, 120, v10);
+SET64(v9, 112, v11);
+SET16(v9, 110, v17);
+SET16(v9, 108, v14);
+SET16(v9, 106, v15);
+SET8(v9, 105, v18);
+SET8(v9, 104, v16);
+SET64(v9, 96, v12);
+in_mm_memory_recording_offer_one(RUD_AS v9 + 128u, a1, a6, v9 + 96u, a8);
 RUD_AGAIN
 TEST(a0);
+SET8(a0, 0, 0u);
+SET32(a0, 12, AT32(v9, 136));
+SET64(a0, 4, AT64(v9, 128));
+goto L1;
+L3:;
+TEST(v10);
+a2 = AT64(v10, 0);
+if (a2 <= 9223372036854775806ull) {
+SET64(v10, 0, a2 + 1u);
+j0 = v10;
+goto L7;
+}
+in_mm_packet_octets_Octets_of(RUD_AS v9, AT64(v10, 8), AT64(v10, 16));
+RUD_AGAIN
+v19 = AT8(v9, 0);
+j0 = AT64(v9, 8);
+L7:;
+a2 = j0;
+if (v19 == 0) {
+SET64(v9, 64, v11);
+SET16(v9, 62, 0u);
+SET16(v9, 60, v14);
+SET16(v9, 58, v15);
+SET64(v9, 48, v12);
+SET64(v9, 72, a2);
+SET16(v9, 56, v16);
+in_mm_memory_recording_offer_from_first(RUD_AS v9 + 80u, (a1 + 192u) + (a7 * 192u), a5 - a7, a3, a4, v13, a6, v9 + 48u, a8);
+RUD_AGAIN
+if (AT8(v9, 80)) goto L9;
+SET64(v9, 40, v10);
+SET64(v9, 32, v11);
+SET16(v9, 30, v17);
+SET16(v9, 28, v14);
+SET16(v9, 26, v15);
+SET8(v9, 25, v18);
+SET8(v9, 24, v16);
+SET64(v9, 16, v12);
+v14 = AT32(v9, 84);
+v15 = AT32(v9, 88);
+v16 = AT32(v9, 92);
+in_mm_memory_recording_offer_one(RUD_AS v9 + 144u, a1, a6, v9 + 16u, a8);
+RUD_AGAIN
+TEST(a0);
+SET8(a0, 0, 0u);
+SET32(a0, 12, v16 + AT32(v9, 152));
+SET32(a0, 8, v15 + AT32(v9, 148));
+SET32(a0, 4, v14 + AT32(v9, 144));
+goto L1;
+}
+a1 = AT64(v10, 0);
+SET64(v10, 0, a1 - 1u);
+if (a1 != 1u) goto L11;
+j0 = AT64(v10, 8);
+j1 = AT64(v10, 24);
+rud_dealloc(RUD_AS v10);
+RUD_AGAIN
+if (j1 == 0) goto L11;
+rud_dealloc(RUD_AS j0);
+RUD_AGAIN
+L11:;
+TEST(a0);
+SET8(a0, 0, 1u);
 SET32(a0, 12, 0u);
 SET64(a0, 4, 0u);
+goto L1;
+L9:;
+a1 = AT64(v10, 0);
+SET64(v10, 0, a1 - 1u);
+if (a1 != 1u) goto L12;
+j0 = AT64(v10, 8);
+j1 = AT64(v10, 24);
+rud_dealloc(RUD_AS v10);
+RUD_AGAIN
+if (j1 == 0) goto L12;
+rud_dealloc(RUD_AS j0);
+RUD_AGAIN
+L12:;
+TEST(a0);
 SET8(a0, 0, 1u);
+SET32(a0, 12, 0u);
+SET64(a0, 4, 0u);
 goto L1;
 L2:;
 rud_trap();
@@ -26145,29 +21632,20 @@ RUD_G0 = v9 + 160u;
 }
 
 static void in_rudlayog_memory_record(RUD_IT u64 a0, u64 a1, u64 a2, u64 a3, u64 a4, u64 a5) {
-u32 v18 = 0, v19 = 0, v20 = 0, v21 = 0, v22 = 0, v23 = 0, v24 = 0, v25 = 0, i0 = 0;
+u32 v20 = 0, v21 = 0, v22 = 0, v23 = 0, v24 = 0, i0 = 0;
 u64 v6 = 0, v7 = 0, v8 = 0, v9 = 0, v10 = 0, v11 = 0, v12 = 0, v13 = 0, v14 = 0, v15 = 0, v16 = 0, v17 = 0;
-u64 j0 = 0;
+u64 v18 = 0, j0 = 0, j1 = 0, j2 = 0;
 RUD_HERE
 i0 = in_rattle_enter(RUD_AS0);
 if (i0) {
 rud_trap();
 }
-v6 = RUD_G0 - 416u;
+v6 = RUD_G0 - 304u;
 RUD_G0 = v6;
 if ((s64)v6 >= (s64)16u) {
 TEST(a4);
 SET32(a4, 8, 0u);
 SET64(a4, 0, 0u);
-TEST(v6);
-SET8(v6, 122, 0u);
-SET16(v6, 120, 0u);
-SET64(v6, 72, 0u);
-SET64(v6, 80, 0u);
-SET64(v6, 88, 0u);
-SET64(v6, 96, 0u);
-SET64(v6, 104, 0u);
-SET64(v6, 112, 0u);
 v7 = a0 + 8u;
 TEST(v7);
 if (AT8(v7, 0) == 0) {
@@ -26184,252 +21662,340 @@ goto L2;
 SET8(v7, 0, 0u);
 TEST(a0);
 v7 = AT64(a0, 0);
-SET32(v6, 124, 0u);
-SET64(v6, 232, 0u);
-SET64(v6, 240, 0u);
-SET64(v6, 248, 0u);
-SET64(v6, 256, 0u);
-SET64(v6, 264, 0u);
-SET64(v6, 272, 0u);
-SET64(v6, 192, 0u);
-SET64(v6, 200, 0u);
-SET64(v6, 208, 0u);
-SET64(v6, 216, 0u);
-SET64(v6, 224, 0u);
-SET16(v6, 188, 0u);
-SET8(v6, 190, 0u);
-SET64(v6, 160, 0u);
-SET64(v6, 168, 0u);
-SET64(v6, 175, 0u);
-SET8(v6, 158, 0u);
-SET16(v6, 156, 0u);
-SET64(v6, 128, 0u);
-SET64(v6, 136, 0u);
-SET64(v6, 143, 0u);
-in_mm_service_reading_packet_of(RUD_AS v6 + 232u, a2 + (a2 == 0 ? 4096ull : 0ull), a3);
-if (AT8(v6, 232)) goto L7;
-v20 = AT8(v6, 248);
-a2 = AT64(v6, 240);
-v15 = v6 + 240u;
-in_mm_packet_block_BlockPacket_lent(RUD_AS v6 + 192u, v15);
-RUD_AGAIN
-if (AT8(v6, 192) == 0) {
-SET16(v6, 188, AT16(v6, 202));
-SET8(v6, 190, AT8(v6, 204));
-SET64(v6, 160, AT64(v6, 209));
-SET64(v6, 168, AT64(v6, 217));
-SET64(v6, 175, AT64(v6, 224));
-v18 = AT8(v6, 208);
-v22 = AT8(v6, 207);
-v19 = AT8(v6, 206);
-v20 = AT8(v6, 205);
-v21 = AT16(v6, 200);
-goto L11;
-}
-SET64(v6, 312, 0u);
-SET64(v6, 304, 0u);
-SET64(v6, 296, 0u);
+TEST(v6);
+SET16(v6, 140, 0u);
+SET8(v6, 142, 0u);
+SET64(v6, 120, 0u);
+SET64(v6, 127, 0u);
+SET16(v6, 116, 0u);
+SET8(v6, 118, 0u);
+SET64(v6, 96, 0u);
+SET64(v6, 103, 0u);
 SET64(v6, 288, 0u);
 SET64(v6, 280, 0u);
-if (v20) {
-in_mm_control_table_ControlTable_rows_for(RUD_AS v6 + 56u, v7 + 24u, (u32)a2, (u32)(a2 >> 40), (u32)(a2 >> 48));
-v8 = AT64(v6, 64);
-j0 = AT64(v6, 56);
-} else {
-j0 = v6 + 414u;
+SET64(v6, 272, 0u);
+SET64(v6, 264, 0u);
+SET64(v6, 256, 0u);
+SET64(v6, 248, 0u);
+SET64(v6, 240, 0u);
+SET64(v6, 232, 0u);
+in_mm_packet_lent_LentPacket_parse(RUD_AS v6 + 232u, a2 + (a2 == 0 ? 4096ull : 0ull), a3);
+if (AT8(v6, 232)) goto L10;
+if (!(AT64(v6, 288) == 0)) goto L9;
+SET64(v6, 208, AT64(v6, 249));
+SET64(v6, 216, AT64(v6, 257));
+SET64(v6, 223, AT64(v6, 264));
+a3 = AT64(v6, 272);
+v20 = AT8(v6, 248);
+if ((a3 + (v20 ? 21ull : 11ull)) > 1024u) goto L8;
+a2 = AT64(v6, 240);
+SET64(v6, 192, AT64(v6, 223));
+SET64(v6, 185, AT64(v6, 216));
+SET64(v6, 177, AT64(v6, 208));
+SET64(v6, 200, a3);
+SET8(v6, 176, v20);
+SET64(v6, 168, a2);
+SET64(v6, 264, 0u);
+SET64(v6, 256, 0u);
+SET64(v6, 248, 0u);
+SET64(v6, 240, 0u);
+SET64(v6, 232, 0u);
+in_mm_packet_lent_LentPacket_packet_in_block(RUD_AS v6 + 232u, v6 + 168u);
+RUD_AGAIN
+if (AT8(v6, 232) == 0) {
+v20 = AT16(v6, 242);
+SET16(v6, 164, v20);
+v21 = AT8(v6, 244);
+SET8(v6, 166, v21);
+SET64(v6, 144, AT64(v6, 249));
+SET64(v6, 151, AT64(v6, 256));
+SET16(v6, 140, v20);
+SET8(v6, 142, v21);
+v22 = AT16(v6, 240);
+v20 = AT8(v6, 245);
+v23 = AT8(v6, 246);
+v24 = AT8(v6, 247);
+v21 = AT8(v6, 248);
+a3 = AT64(v6, 264);
+SET64(v6, 127, AT64(v6, 151));
+SET64(v6, 120, AT64(v6, 144));
+goto L13;
 }
-v10 = j0;
+SET8(v6, 166, 0u);
+SET16(v6, 164, 0u);
+SET64(v6, 144, 0u);
+SET64(v6, 151, 0u);
+SET64(v6, 264, 0u);
+SET64(v6, 256, 0u);
+SET64(v6, 248, 0u);
+SET64(v6, 240, 0u);
+SET64(v6, 232, 0u);
+if (v20 == 0) {
+v9 = v6 + 302u;
+j0 = 0u;
+goto L15;
+}
+in_mm_control_table_ControlTable_rows_for(RUD_AS v6 + 80u, v7 + 24u, (u32)a2, (u32)(a2 >> 40), (u32)(a2 >> 48));
+v9 = AT64(v6, 80);
+j0 = AT64(v6, 88);
+L15:;
+v11 = j0;
 TEST(v7);
 v13 = AT64(v7, 8);
-if (v13 == 0) goto L14;
-v9 = AT64(v7, 0);
-L15:;
-in_mm_memory_spare_given_up(RUD_AS v6 + 40u, v9 + 16u);
-if (AT8(v6, 40) != 1u) goto L16;
-v14 = AT64(v6, 48);
-v11 = 0u;
-i0 = in_mm_memory_recording_leads_to(RUD_AS v10, v8, 0u, v9);
-if (i0 == 0) goto L16;
-a3 = AT64(v7, 8);
-TEST(v14);
-v16 = GET64(AT64(v14, 24), 0);
-a2 = AT64(v7, 0);
-L17:;
-a3 = 1ull - a3;
+if (v13 == 0) goto L17;
+v10 = AT64(v7, 0);
 L18:;
-if (a3 != 1u) {
-i0 = in_mm_memory_recording_leads_to(RUD_AS v10, v8, 0u, a2);
+in_mm_memory_spare_given_up(RUD_AS v6 + 64u, v10 + 16u);
+if (AT8(v6, 64) != 1u) goto L19;
+v16 = AT64(v6, 72);
+v12 = 0u;
+i0 = in_mm_memory_recording_leads_to(RUD_AS v9, v11, 0u, v10);
 if (i0 == 0) goto L19;
-in_mm_memory_spare_given_up(RUD_AS v6 + 24u, a2 + 16u);
-if (AT8(v6, 24) != 1u) goto L19;
-j0 = AT64(v6, 32);
-SET64(v6, 352, 0u);
-SET64(v6, 344, 0u);
-SET64(v6, 336, 0u);
-SET64(v6, 328, 0u);
-SET64(v6, 320, 0u);
-v12 = j0 + 24u;
-TEST(v12);
-v17 = GET64(AT64(v12, 0), 0);
-in_mm_packet_block_BlockPacket_copy(RUD_AS v6 + 320u, v14);
-RUD_AGAIN
-if (AT8(v6, 320)) goto L19;
-j0 = GET64(AT64(v12, 0), 0);
-in_std_alloc_arc_Arc_drop_c3b6ee2ab0dfb523(RUD_AS AT64(v6, 352));
-RUD_AGAIN
-if (j0 <= v17) goto L19;
-a3 = 0ull - a3;
-a2 = a2 + 192u;
-v11 = v11 + 1u;
-goto L17;
-}
-if (v11 >= v16) goto L14;
-goto L16;
-L19:;
-a2 = a2 + 192u;
-a3 = a3 + 1u;
-goto L18;
-rud_trap();
-rud_trap();
-L16:;
-v9 = v9 + 192u;
-v13 = v13 - 1u;
-if (v13 != 0u) goto L15;
-a3 = AT64(v7, 8);
-if (a3 == 0) goto L14;
+v8 = AT64(v7, 8);
+TEST(v16);
+v17 = GET64(AT64(v16, 24), 0);
 a2 = AT64(v7, 0);
+L20:;
+v8 = 1ull - v8;
 L21:;
-i0 = in_mm_memory_recording_leads_to(RUD_AS v10, v8, 0u, a2);
-if (i0) {
-i0 = in_mm_memory_spare_hands_back(RUD_AS a2 + 16u);
-if (i0 == 0) goto L10;
+if (v8 != 1u) {
+i0 = in_mm_memory_recording_leads_to(RUD_AS v9, v11, 0u, a2);
+if (i0 == 0) goto L22;
+in_mm_memory_spare_given_up(RUD_AS v6 + 48u, a2 + 16u);
+if (AT8(v6, 48) != 1u) goto L22;
+v15 = AT64(v6, 56);
+TEST(v15);
+v18 = GET64(AT64(v15, 24), 0);
+a3 = AT64(v16, 24);
+TEST(a3);
+v14 = AT64(a3, 0);
+if (v14 <= 9223372036854775806ull) {
+SET64(a3, 0, v14 + 1u);
+i0 = 0u;
+goto L24;
 }
+in_mm_packet_octets_Octets_of(RUD_AS v6 + 32u, AT64(a3, 8), AT64(a3, 16));
+RUD_AGAIN
+a3 = AT64(v6, 40);
+i0 = AT8(v6, 32);
+L24:;
+if (i0 & 255u) goto L22;
+TEST(a3);
+v14 = AT64(a3, 0);
+j0 = GET64(AT64(v15, 24), 0);
+SET64(a3, 0, v14 - 1u);
+if (v14 != 1u) goto L26;
+j1 = AT64(a3, 8);
+j2 = AT64(a3, 24);
+rud_dealloc(RUD_AS a3);
+RUD_AGAIN
+if (j2 == 0) goto L26;
+rud_dealloc(RUD_AS j1);
+RUD_AGAIN
+L26:;
+if (j0 <= v18) goto L22;
+v8 = 0ull - v8;
 a2 = a2 + 192u;
-a3 = a3 - 1u;
-if (!(a3 == 0)) goto L21;
-L14:;
-in_mm_memory_spare_Spare_take(RUD_AS v6 + 280u, v7 + 128u, v15);
-RUD_AGAIN
-SET16(v6, 156, AT16(v6, 290));
-SET8(v6, 158, AT8(v6, 292));
-SET64(v6, 128, AT64(v6, 297));
-SET64(v6, 136, AT64(v6, 305));
-SET64(v6, 143, AT64(v6, 312));
-if (AT8(v6, 280) != 1u) { i0 = 0u; goto L6; }
-v21 = AT16(v6, 288);
-v20 = AT8(v6, 293);
-v19 = AT8(v6, 294);
-v22 = AT8(v6, 295);
-v18 = AT8(v6, 296);
-SET8(v6, 190, AT8(v6, 158));
-SET16(v6, 188, AT16(v6, 156));
-SET64(v6, 160, AT64(v6, 128));
-SET64(v6, 168, AT64(v6, 136));
-SET64(v6, 175, AT64(v6, 143));
-L11:;
-a2 = v7 + 128u;
-if (v18 == 0) {
-a3 = v6 + 414u;
-j0 = 0u;
-goto L23;
+v12 = v12 + 1u;
+goto L20;
 }
-in_mm_control_table_ControlTable_rows_for(RUD_AS v6 + 8u, v7 + 24u, v21, v20, v19);
-a3 = AT64(v6, 8);
-j0 = AT64(v6, 16);
-L23:;
-v9 = j0;
-if (v9 == 0) {
-SET16(v6, 360, v21);
-SET16(v6, 362, AT16(v6, 188));
-SET8(v6, 364, AT8(v6, 190));
-SET8(v6, 368, v18);
-SET8(v6, 367, v22);
-SET8(v6, 366, v19);
-SET8(v6, 365, v20);
-SET64(v6, 369, AT64(v6, 160));
-SET64(v6, 377, AT64(v6, 168));
-SET64(v6, 384, AT64(v6, 175));
-in_mm_memory_spare_Spare_keep(RUD_AS a2, v6 + 360u);
+if (v12 >= v17) goto L17;
+goto L19;
+L22:;
+a2 = a2 + 192u;
+v8 = v8 + 1u;
+goto L21;
+rud_trap();
+rud_trap();
+L19:;
+v10 = v10 + 192u;
+v13 = v13 - 1u;
+if (v13 != 0u) goto L18;
+v8 = AT64(v7, 8);
+if (v8 == 0) goto L17;
+a2 = AT64(v7, 0);
+L27:;
+i0 = in_mm_memory_recording_leads_to(RUD_AS v9, v11, 0u, a2);
+if (i0 == 0) goto L28;
+in_mm_memory_spare_given_up(RUD_AS v6 + 16u, a2 + 16u);
+if (AT8(v6, 16) == 1u) {
+if (GET64(GET64(AT64(v6, 24), 24), 0) != 1u) goto L5;
+goto L28;
+}
+TEST(a2);
+if (AT8(a2, 120) != 1u) goto L28;
+v20 = AT8(a2, 16);
+if (GET64(a2 + (v20 ? 96ull : 40ull), 16) == 0xffffffffffffffffull) goto L28;
+if (AT64(a2, 168) == 0xffffffffffffffffull) goto L28;
+if (GET32(a2 + (v20 ? 40ull : 24ull), 16) != AT32(a2, 32)) goto L5;
+L28:;
+a2 = a2 + 192u;
+v8 = v8 - 1u;
+if (!(v8 == 0)) goto L27;
+L17:;
+in_mm_memory_spare_Spare_take(RUD_AS v6 + 232u, v7 + 128u, v6 + 168u);
 RUD_AGAIN
-goto L5;
+SET16(v6, 116, AT16(v6, 242));
+SET8(v6, 118, AT8(v6, 244));
+SET64(v6, 96, AT64(v6, 249));
+SET64(v6, 103, AT64(v6, 256));
+if (AT8(v6, 232) != 1u) goto L5;
+v22 = AT16(v6, 240);
+v20 = AT8(v6, 245);
+v23 = AT8(v6, 246);
+v24 = AT8(v6, 247);
+v21 = AT8(v6, 248);
+a3 = AT64(v6, 264);
+SET8(v6, 142, AT8(v6, 118));
+SET16(v6, 140, AT16(v6, 116));
+SET64(v6, 120, AT64(v6, 96));
+SET64(v6, 127, AT64(v6, 103));
+L13:;
+if ((v21 & 255u) == 0) {
+v9 = 0u;
+j0 = v6 + 302u;
+goto L30;
+}
+in_mm_control_table_ControlTable_rows_for(RUD_AS v6, v7 + 24u, v22, v20, v23);
+v9 = AT64(v6, 8);
+j0 = AT64(v6, 0);
+L30:;
+v12 = j0;
+v10 = v7 + 128u;
+a2 = 0u;
+if (v9 == 0) {
+TEST(a3);
+a1 = AT64(a3, 0);
+TEST(v10);
+if (AT8(v10, 0) != 1u) {
+if (a1 != 1u) {
+SET64(a3, 0, a1 - 1u);
+v20 = 0u;
+goto L7;
+}
+SET16(v10, 8, v22);
+SET64(v10, 0, 1u);
+SET16(v10, 10, AT16(v6, 140));
+SET8(v10, 12, AT8(v6, 142));
+SET8(v10, 16, v21);
+SET8(v10, 15, v24);
+SET8(v10, 14, v23);
+SET8(v10, 13, v20);
+SET64(v10, 17, AT64(v6, 120));
+SET64(v10, 24, AT64(v6, 127));
+SET64(v10, 32, a3);
+v20 = 0u;
+goto L7;
+}
+SET64(a3, 0, a1 - 1u);
+v20 = 0u;
+if (a1 != 1u) goto L7;
+j0 = AT64(a3, 8);
+j1 = AT64(a3, 24);
+rud_dealloc(RUD_AS a3);
+RUD_AGAIN
+if (j1 == 0) goto L7;
+rud_dealloc(RUD_AS j0);
+RUD_AGAIN
+goto L7;
 }
 TEST(v7);
-v8 = AT64(v7, 8);
-v10 = AT64(v7, 0);
-SET64(v6, 392, 0u);
-SET64(v6, 400, 0u);
-j0 = in_mm_memory_recording_passed(RUD_AS a3, v9, 0u, v10, v8);
-v11 = j0;
-if (v11 == v8) {
-SET16(v6, 320, v21);
-SET16(v6, 322, AT16(v6, 188));
-SET8(v6, 324, AT8(v6, 190));
-SET8(v6, 328, v18);
-SET8(v6, 327, v22);
-SET8(v6, 326, v19);
-SET8(v6, 325, v20);
-SET64(v6, 329, AT64(v6, 160));
-SET64(v6, 337, AT64(v6, 168));
-SET64(v6, 344, AT64(v6, 175));
-in_mm_memory_spare_Spare_keep(RUD_AS a2, v6 + 320u);
-RUD_AGAIN
-goto L5;
+v11 = AT64(v7, 8);
+v13 = AT64(v7, 0);
+SET64(v6, 208, 0u);
+SET64(v6, 216, 0u);
+if (v11 == 0) goto L37;
+v8 = v13 - 192u;
+L38:;
+v8 = v8 + 192u;
+i0 = in_mm_memory_recording_leads_to(RUD_AS v12, v9, 0u, v8);
+if (i0) goto L37;
+a2 = a2 + 1u;
+if (a2 != v11) goto L38;
+goto L36;
+L37:;
+if (a2 != v11) goto L35;
+L36:;
+TEST(a3);
+a1 = AT64(a3, 0);
+if (AT8(v7, 128) != 1u) {
+if (a1 != 1u) {
+SET64(a3, 0, a1 - 1u);
+v20 = 0u;
+goto L7;
 }
-SET16(v6, 280, v21);
-SET16(v6, 282, AT16(v6, 188));
-SET8(v6, 284, AT8(v6, 190));
-SET8(v6, 288, v18);
-SET8(v6, 287, v22);
-SET8(v6, 286, v19);
-SET8(v6, 285, v20);
-SET64(v6, 289, AT64(v6, 160));
-SET64(v6, 297, AT64(v6, 168));
-SET64(v6, 304, AT64(v6, 175));
-in_mm_memory_recording_offer_from_first(RUD_AS v6 + 392u, v10 + (v11 * 192u), v8 - v11, a3, v9, 0u, a1, v6 + 280u, a2);
+SET16(v7, 136, v22);
+SET64(v7, 128, 1u);
+SET16(v7, 138, AT16(v6, 140));
+SET8(v7, 140, AT8(v6, 142));
+SET8(v7, 144, v21);
+SET8(v7, 143, v24);
+SET8(v7, 142, v23);
+SET8(v7, 141, v20);
+SET64(v7, 145, AT64(v6, 120));
+SET64(v7, 152, AT64(v6, 127));
+SET64(v7, 160, a3);
+v20 = 0u;
+goto L7;
+}
+SET64(a3, 0, a1 - 1u);
+v20 = 0u;
+if (a1 != 1u) goto L7;
+j0 = AT64(a3, 8);
+j1 = AT64(a3, 24);
+rud_dealloc(RUD_AS a3);
 RUD_AGAIN
-if (AT8(v6, 392)) goto L10;
-v23 = AT32(v6, 404);
-v24 = AT32(v6, 400);
-i0 = AT32(v6, 396);
-goto L4;
-L10:;
-v18 = 0u;
-v19 = 0u;
-i0 = 0u;
+if (j1 == 0) goto L7;
+rud_dealloc(RUD_AS j0);
+RUD_AGAIN
+goto L7;
+L35:;
+SET16(v6, 232, v22);
+SET16(v6, 234, AT16(v6, 140));
+SET8(v6, 236, AT8(v6, 142));
+SET8(v6, 240, v21);
+SET8(v6, 239, v24);
+SET8(v6, 238, v23);
+SET8(v6, 237, v20);
+SET64(v6, 241, AT64(v6, 120));
+SET64(v6, 248, AT64(v6, 127));
+SET64(v6, 256, a3);
+in_mm_memory_recording_offer_from_first(RUD_AS v6 + 208u, v13 + (a2 * 192u), v11 - a2, v12, v9, 0u, a1, v6 + 232u, v10);
+RUD_AGAIN
+if (AT8(v6, 208)) goto L5;
+v21 = AT32(v6, 216);
+v20 = AT32(v6, 212);
+i0 = AT32(v6, 220);
 goto L6;
 }
 rud_trap();
-L7:;
-v19 = AT8(v6, 234);
-v18 = AT8(v6, 233);
-i0 = AT8(v6, 235);
-L6:;
-v20 = i0;
-v22 = 0u;
-v21 = 0u;
-i0 = 1u;
-goto L3;
-L5:;
-i0 = 0u;
-L4:;
-v22 = i0;
-v21 = 1u;
-v20 = 0u;
-v19 = 0u;
-v18 = 0u;
-i0 = 0u;
-L3:;
-v25 = i0;
-SET8(v6, 127, v20);
-SET8(v6, 126, v19);
-SET8(v6, 125, v18);
-SET8(v6, 124, v25);
-in_mm_service_service_Service_settle(RUD_AS v7, v6 + 124u);
+L10:;
+a1 = (u64)(s64)(s8)AT8(v6, 233);
+if (a1 == 0) goto L5;
+i0 = in_mm_memory_spare_Spare_fill(RUD_AS v7 + 128u);
 RUD_AGAIN
-if (v21) {
-SET32(a4, 8, v23);
-SET32(a4, 4, v24);
-SET32(a4, 0, v22);
+i0 = GET32((a1 << 2) + 4206004u, 0);
+goto L4;
+L9:;
+i0 = in_mm_memory_spare_Spare_fill(RUD_AS v7 + 128u);
+RUD_AGAIN
+i0 = 49u;
+goto L4;
+L8:;
+i0 = in_mm_memory_spare_Spare_fill(RUD_AS v7 + 128u);
+RUD_AGAIN
+i0 = 8u;
+goto L4;
+L7:;
+v21 = 0u;
+i0 = 0u;
+L6:;
+v22 = i0;
+i0 = in_mm_memory_spare_Spare_fill(RUD_AS v10);
+RUD_AGAIN
+SET32(a4, 8, v22);
+SET32(a4, 4, v21);
+SET32(a4, 0, v20);
 TEST(a5);
 SET64(a5, 40, 0u);
 SET64(a5, 32, 0u);
@@ -26437,24 +22003,31 @@ SET64(a5, 24, 0u);
 SET64(a5, 16, 0u);
 SET64(a5, 8, 0u);
 SET64(a5, 0, 0u);
-goto L27;
-}
-SET8(v6, 122, v20);
-SET8(v6, 121, v19);
-SET8(v6, 120, v18);
-in_mm_c_memory_refused(RUD_AS v6 + 72u, v6 + 120u);
+goto L3;
+L5:;
+a1 = v7 + 120u;
+TEST(a1);
+j0 = a1;
+a1 = AT64(a1, 0) + 1u;
+SET64(j0, 0, a1 == 0 ? 18446744073709551615ull : a1);
+i0 = in_mm_memory_spare_Spare_fill(RUD_AS v7 + 128u);
+RUD_AGAIN
+i0 = 0u;
+L4:;
+v20 = i0;
 TEST(a5);
-SET64(a5, 40, AT64(v6, 112));
-SET64(a5, 32, AT64(v6, 104));
-SET64(a5, 24, AT64(v6, 96));
-SET64(a5, 16, AT64(v6, 88));
-SET64(a5, 8, AT64(v6, 80));
-SET64(a5, 0, AT64(v6, 72));
-L27:;
+SET64(a5, 12, 0u);
+SET32(a5, 8, v20);
+SET64(a5, 0, 2u);
+SET64(a5, 20, 0u);
+SET64(a5, 28, 0u);
+SET64(a5, 36, 0u);
+SET32(a5, 44, 0u);
+L3:;
 SET64(a0, 0, v7);
 SET8(a0, 8, 1u);
 L2:;
-RUD_G0 = v6 + 416u;
+RUD_G0 = v6 + 304u;
 RUD_G1 = 0u;
 }
 
@@ -26473,13 +22046,8 @@ v4 = a0 + 8u;
 TEST(v4);
 if (AT8(v4, 0)) goto L3;
 TEST(a2);
-SET64(a2, 4, 0u);
 SET32(a2, 0, 3u);
-SET64(a2, 12, 0u);
-SET64(a2, 20, 0u);
-SET64(a2, 28, 0u);
-SET64(a2, 36, 0u);
-SET32(a2, 44, 0u);
+FILL_FEW(a2 + 4u, 0u, 44u);
 goto L2;
 }
 rud_trap();
@@ -26489,13 +22057,7 @@ TEST(a0);
 j0 = a1;
 a1 = AT64(a0, 0);
 SET64(j0, 0, GET64(a1 + a3, 0));
-TEST(a2);
-SET64(a2, 40, 0u);
-SET64(a2, 32, 0u);
-SET64(a2, 24, 0u);
-SET64(a2, 16, 0u);
-SET64(a2, 8, 0u);
-SET64(a2, 0, 0u);
+FILL_FEW(a2, 0u, 48u);
 SET64(a0, 0, a1);
 SET8(v4, 0, 1u);
 L2:;
@@ -26505,6 +22067,51 @@ RUD_G1 = 0u;
 static void in_rudlayog_memory_refused(RUD_IT u64 a0, u64 a1, u64 a2) {
 RUD_NONE
 in_byn_mgfn_shared_rudlayog_memory_refused(RUD_AS a0, a1, a2, 120u);
+}
+
+static void in_mm_packet_octets_Octets_new(RUD_IT u64 a0, u64 a1) {
+u64 v2 = 0, v3 = 0, v4 = 0;
+RUD_HERE
+v2 = RUD_G0 - 48u;
+RUD_G0 = v2;
+if ((s64)v2 >= (s64)16u) {
+TEST(a1);
+v4 = AT64(a1, 0);
+TEST(v2);
+SET64(v2, 24, AT64(a1, 16));
+SET64(v2, 16, AT64(a1, 8));
+SET64(v2, 40, 0u);
+SET64(v2, 32, 0u);
+rud_alloc(RUD_AS v2 + 32u, 32u, 8u);
+RUD_AGAIN
+if (AT8(v2, 32) & 1u) {
+a1 = AT64(v2, 40);
+TEST(a1);
+SET64(a1, 8, v4);
+SET64(a1, 0, 1u);
+SET64(a1, 16, AT64(v2, 16));
+SET64(a1, 24, AT64(v2, 24));
+TEST(a0);
+SET64(a0, 24, 0u);
+SET64(a0, 16, 0u);
+goto L1;
+}
+a1 = AT64(v2, 24);
+SET64(v2, 8, a1);
+v3 = AT64(v2, 16);
+SET64(v2, 0, v3);
+TEST(a0);
+SET64(a0, 24, a1);
+SET64(a0, 16, v3);
+v3 = 1u;
+a1 = v4;
+goto L1;
+}
+rud_trap();
+L1:;
+SET64(a0, 0, v3);
+SET64(a0, 8, a1);
+RUD_G0 = v2 + 48u;
 }
 
 static u32 in_std_alloc_vec_Vec_grow_amortized_36cfbfb62fbfaf15(RUD_IT u64 a0, u64 a1) {
@@ -26578,23 +22185,14 @@ if (a2 == 0) goto L4;
 COPY(v3, a1, a2);
 goto L4;
 }
+L6:;
 TEST(a1);
 TEST(v3);
 SET8(v3, 0, AT8(a1, 0));
-if (a2 == 1u) goto L4;
-SET8(v3, 1, AT8(a1, 1));
-if (a2 == 2u) goto L4;
-SET8(v3, 2, AT8(a1, 2));
-if (a2 == 3u) goto L4;
-SET8(v3, 3, AT8(a1, 3));
-if (a2 == 4u) goto L4;
-SET8(v3, 4, AT8(a1, 4));
-if (a2 == 5u) goto L4;
-SET8(v3, 5, AT8(a1, 5));
-if (a2 == 6u) goto L4;
-SET8(v3, 6, AT8(a1, 6));
-if (a2 == 7u) goto L4;
-SET8(v3, 7, AT8(a1, 7));
+v3 = v3 + 1u;
+a1 = a1 + 1u;
+a2 = a2 - 1u;
+if (a2 != 0u) goto L6;
 L4:;
 SET64(a0, 0, v7);
 SET64(a0, 16, v5);
@@ -26633,6 +22231,18 @@ return i0;
 }
 rud_trap();
 return 0;
+}
+
+static void in_core_int_u64_to_be_bytes(RUD_IT u64 a0, u64 a1) {
+u64 j1 = 0;
+RUD_HERE
+if ((s64)RUD_G0 >= (s64)16u) {
+j1 = (((a1 << 56) | ((a1 & 65280u) << 40)) | (((a1 & 16711680u) << 24) | ((a1 & 4278190080u) << 8))) | ((((a1 >> 8) & 4278190080u) | ((a1 >> 24) & 16711680u)) | (((a1 >> 40) & 65280u) | (a1 >> 56)));
+TEST(a0);
+SET64(a0, 0, j1);
+return;
+}
+rud_trap();
 }
 
 static void in_mm_st15_counted_counted_octets_93728722e2cdf027(RUD_IT u64 a0, u64 a1) {
@@ -26710,8 +22320,8 @@ RUD_G0 = v2 + 48u;
 }
 
 static void in_rudlayog_memory_report(RUD_IT u64 a0, u64 a1, u64 a2, u64 a3) {
-u32 v15 = 0, v16 = 0, v17 = 0, i0 = 0;
-u64 v4 = 0, v5 = 0, v6 = 0, v7 = 0, v8 = 0, v9 = 0, v10 = 0, v11 = 0, v12 = 0, v13 = 0, v14 = 0, j0 = 0;
+u32 v14 = 0, v15 = 0, v16 = 0, i0 = 0;
+u64 v4 = 0, v5 = 0, v6 = 0, v7 = 0, v8 = 0, v9 = 0, v10 = 0, v11 = 0, v12 = 0, v13 = 0, j0 = 0;
 RUD_HERE
 i0 = in_rattle_enter(RUD_AS0);
 if (i0) {
@@ -26724,13 +22334,8 @@ v5 = a0 + 8u;
 TEST(v5);
 if (AT8(v5, 0) == 0) {
 TEST(a3);
-SET64(a3, 4, 0u);
 SET32(a3, 0, 3u);
-SET64(a3, 12, 0u);
-SET64(a3, 20, 0u);
-SET64(a3, 28, 0u);
-SET64(a3, 36, 0u);
-SET32(a3, 44, 0u);
+FILL_FEW(a3 + 4u, 0u, 44u);
 goto L2;
 }
 SET8(v5, 0, 0u);
@@ -26741,20 +22346,20 @@ SET64(v4, 40, 0u);
 SET64(v4, 32, 0u);
 SET64(v4, 24, 0u);
 SET64(v4, 16, 0u);
-v10 = v8 + 72u;
-TEST(v10);
-v5 = AT64(v10, 0);
-if (!(v5 == 0)) {
-v9 = v8 + 64u;
+v9 = v8 + 72u;
 TEST(v9);
-v6 = AT64(v9, 0);
-if (AT64(v10, 24) != v5) {
-v6 = v6 + (AT64(v10, 16) * 56u);
+v5 = AT64(v9, 0);
+if (!(v5 == 0)) {
+v12 = v8 + 64u;
+TEST(v12);
+v6 = AT64(v12, 0);
+if (AT64(v9, 24) != v5) {
+v6 = v6 + (AT64(v9, 16) * 56u);
 }
 TEST(v6);
-v16 = AT16(v6, 2);
-v17 = AT16(v6, 6);
-v12 = (u64)AT16(v6, 4);
+v15 = AT16(v6, 2);
+v16 = AT16(v6, 6);
+v10 = (u64)AT16(v6, 4);
 v11 = (u64)AT16(v6, 0);
 SET64(v4, 104, 0u);
 SET64(v4, 112, 0u);
@@ -26768,12 +22373,12 @@ SET64(v4, 208, 0u);
 SET64(v4, 200, 0u);
 SET64(v4, 192, 0u);
 switch ((u32)v5 - 1u) {
-case 0u: goto L12;
-case 1u: goto L11;
-case 2u: goto L10;
-default: goto L13;
+case 0u: goto L17;
+case 1u: goto L16;
+case 2u: goto L15;
+default: goto L18;
 }
-L13:;
+L18:;
 SET64(v4, 176, 0u);
 SET64(v4, 184, 0u);
 SET64(v4, 168, v4 + 232u);
@@ -26781,154 +22386,135 @@ i0 = in_std_alloc_vec_Vec_extend_from_slice_34a1715acbac7a48(RUD_AS v4 + 168u, v
 RUD_AGAIN
 if ((i0 & 255u) == 0) {
 v5 = v6 + 40u;
-v15 = AT16(v6, 40);
-SET16(v4, 144, (v15 << 8) | (v15 >> 8));
+v14 = AT16(v6, 40);
+SET16(v4, 144, (v14 << 8) | (v14 >> 8));
 i0 = in_std_alloc_vec_Vec_extend_from_slice_34a1715acbac7a48(RUD_AS v4 + 168u, v4 + 144u, 2u);
 RUD_AGAIN
-if (i0 & 255u) goto L5;
+if (i0 & 255u) goto L6;
 v7 = AT64(v6, 40);
-if (v7 == 0) goto L14;
+if (v7 == 0) goto L19;
 v5 = AT64(v6, 32);
-goto L15;
+goto L20;
 }
-goto L5;
-L15:;
-L17:;
+goto L6;
+L20:;
+L22:;
 TEST(v5);
-v15 = AT16(v5, 0);
-SET16(v4, 160, (v15 << 8) | (v15 >> 8));
+v14 = AT16(v5, 0);
+SET16(v4, 160, (v14 << 8) | (v14 >> 8));
 i0 = in_std_alloc_vec_Vec_extend_from_slice_34a1715acbac7a48(RUD_AS v4 + 168u, v4 + 160u, 2u);
 RUD_AGAIN
-if (i0 & 255u) goto L18;
+if (i0 & 255u) goto L23;
 SET16(v4, 152, AT16(v5, 2));
 i0 = in_std_alloc_vec_Vec_extend_from_slice_34a1715acbac7a48(RUD_AS v4 + 168u, v4 + 152u, 2u);
 RUD_AGAIN
-if (i0 & 255u) goto L18;
+if (i0 & 255u) goto L23;
 v5 = v5 + 4u;
 v7 = v7 - 1u;
-if (!(v7 == 0)) goto L17;
-goto L14;
-L18:;
-goto L5;
-L14:;
-SET64(v4, 216, AT64(v4, 184));
-SET64(v4, 208, AT64(v4, 176));
-SET64(v4, 200, AT64(v4, 168));
-v5 = 1705342534680576ull;
-i0 = 0u;
-goto L4;
-L12:;
-SET64(v4, 176, 0u);
-SET64(v4, 184, 0u);
-v5 = v6 + 32u;
-v15 = AT8(v6, 32);
-SET64(v4, 168, v4 + 232u);
-i0 = in_std_alloc_vec_Vec_push_36cfbfb62fbfaf15(RUD_AS v4 + 168u, v15);
-RUD_AGAIN
-if ((i0 & 255u) == 0) {
-v7 = AT64(v6, 32);
-if (v7 == 0) goto L19;
-v5 = AT64(v6, 24);
-L21:;
-SET64(v4, 160, 0u);
-i0 = in_std_alloc_vec_Vec_extend_from_slice_34a1715acbac7a48(RUD_AS v4 + 168u, v5, 8u);
-RUD_AGAIN
-if (i0 & 255u) goto L22;
-TEST(v5);
-in_core_int_u64_to_be_bytes(RUD_AS v4 + 160u, AT64(v5, 8));
-SET64(v4, 152, AT64(v4, 160));
-i0 = in_std_alloc_vec_Vec_extend_from_slice_34a1715acbac7a48(RUD_AS v4 + 168u, v4 + 152u, 8u);
-RUD_AGAIN
-if (i0 & 255u) goto L22;
-in_core_int_u64_to_be_bytes(RUD_AS v4 + 160u, AT64(v5, 16));
-SET64(v4, 144, AT64(v4, 160));
-i0 = in_std_alloc_vec_Vec_extend_from_slice_34a1715acbac7a48(RUD_AS v4 + 168u, v4 + 144u, 8u);
-RUD_AGAIN
-if (i0 & 255u) goto L22;
-v15 = AT32(v5, 24);
-SET32(v4, 140, rud_rotr32((v15 & 16711935u), 8u) | (rud_rotr32(v15, 24u) & 16711935u));
-i0 = in_std_alloc_vec_Vec_extend_from_slice_34a1715acbac7a48(RUD_AS v4 + 168u, v4 + 140u, 4u);
-RUD_AGAIN
-if (i0 & 255u) goto L22;
-v5 = v5 + 32u;
-v7 = v7 - 1u;
-if (!(v7 == 0)) goto L21;
+if (!(v7 == 0)) goto L22;
 goto L19;
-L22:;
-}
-if (!(AT64(v4, 184) == 0)) {
-rud_dealloc(RUD_AS AT64(v4, 168));
-RUD_AGAIN
-}
-SET64(v4, 216, 0u);
-SET64(v4, 208, 0u);
-SET64(v4, 200, 0u);
-v5 = 3675667371655168ull;
-i0 = 1u;
-goto L4;
+L23:;
+goto L6;
 L19:;
 SET64(v4, 216, AT64(v4, 184));
 SET64(v4, 208, AT64(v4, 176));
 SET64(v4, 200, AT64(v4, 168));
-v5 = 3675667371655168ull;
 i0 = 0u;
-goto L4;
-L11:;
+goto L5;
+L17:;
 SET64(v4, 176, 0u);
 SET64(v4, 184, 0u);
 v5 = v6 + 32u;
-v15 = AT8(v6, 32);
+v14 = AT8(v6, 32);
 SET64(v4, 168, v4 + 232u);
-i0 = in_std_alloc_vec_Vec_push_36cfbfb62fbfaf15(RUD_AS v4 + 168u, v15);
+i0 = in_std_alloc_vec_Vec_push_36cfbfb62fbfaf15(RUD_AS v4 + 168u, v14);
 RUD_AGAIN
 if ((i0 & 255u) == 0) {
 v7 = AT64(v6, 32);
 if (v7 == 0) goto L24;
 v5 = AT64(v6, 24);
 L26:;
+SET64(v4, 160, 0u);
 i0 = in_std_alloc_vec_Vec_extend_from_slice_34a1715acbac7a48(RUD_AS v4 + 168u, v5, 8u);
 RUD_AGAIN
 if (i0 & 255u) goto L27;
 TEST(v5);
-SET16(v4, 160, AT16(v5, 8));
-i0 = in_std_alloc_vec_Vec_extend_from_slice_34a1715acbac7a48(RUD_AS v4 + 168u, v4 + 160u, 2u);
+in_core_int_u64_to_be_bytes(RUD_AS v4 + 160u, AT64(v5, 8));
+SET64(v4, 152, AT64(v4, 160));
+i0 = in_std_alloc_vec_Vec_extend_from_slice_34a1715acbac7a48(RUD_AS v4 + 168u, v4 + 152u, 8u);
 RUD_AGAIN
 if (i0 & 255u) goto L27;
-v5 = v5 + 10u;
+in_core_int_u64_to_be_bytes(RUD_AS v4 + 160u, AT64(v5, 16));
+SET64(v4, 144, AT64(v4, 160));
+i0 = in_std_alloc_vec_Vec_extend_from_slice_34a1715acbac7a48(RUD_AS v4 + 168u, v4 + 144u, 8u);
+RUD_AGAIN
+if (i0 & 255u) goto L27;
+v14 = AT32(v5, 24);
+SET32(v4, 140, rud_rotr32((v14 & 16711935u), 8u) | (rud_rotr32(v14, 24u) & 16711935u));
+i0 = in_std_alloc_vec_Vec_extend_from_slice_34a1715acbac7a48(RUD_AS v4 + 168u, v4 + 140u, 4u);
+RUD_AGAIN
+if (i0 & 255u) goto L27;
+v5 = v5 + 32u;
 v7 = v7 - 1u;
 if (!(v7 == 0)) goto L26;
 goto L24;
 L27:;
+goto L8;
 }
-if (!(AT64(v4, 184) == 0)) {
-rud_dealloc(RUD_AS AT64(v4, 168));
-RUD_AGAIN
-}
-SET64(v4, 216, 0u);
-SET64(v4, 208, 0u);
-SET64(v4, 200, 0u);
-v5 = 5364517231919104ull;
-i0 = 1u;
-goto L4;
+goto L8;
 L24:;
 SET64(v4, 216, AT64(v4, 184));
 SET64(v4, 208, AT64(v4, 176));
 SET64(v4, 200, AT64(v4, 168));
-v5 = 5364517231919104ull;
 i0 = 0u;
-goto L4;
-L10:;
+goto L7;
+L16:;
+SET64(v4, 176, 0u);
+SET64(v4, 184, 0u);
+v5 = v6 + 32u;
+v14 = AT8(v6, 32);
+SET64(v4, 168, v4 + 232u);
+i0 = in_std_alloc_vec_Vec_push_36cfbfb62fbfaf15(RUD_AS v4 + 168u, v14);
+RUD_AGAIN
+if ((i0 & 255u) == 0) {
+v7 = AT64(v6, 32);
+if (v7 == 0) goto L28;
+v5 = AT64(v6, 24);
+L30:;
+i0 = in_std_alloc_vec_Vec_extend_from_slice_34a1715acbac7a48(RUD_AS v4 + 168u, v5, 8u);
+RUD_AGAIN
+if (i0 & 255u) goto L31;
+TEST(v5);
+SET16(v4, 160, AT16(v5, 8));
+i0 = in_std_alloc_vec_Vec_extend_from_slice_34a1715acbac7a48(RUD_AS v4 + 168u, v4 + 160u, 2u);
+RUD_AGAIN
+if (i0 & 255u) goto L31;
+v5 = v5 + 10u;
+v7 = v7 - 1u;
+if (!(v7 == 0)) goto L30;
+goto L28;
+L31:;
+goto L10;
+}
+goto L10;
+L28:;
+SET64(v4, 216, AT64(v4, 184));
+SET64(v4, 208, AT64(v4, 176));
+SET64(v4, 200, AT64(v4, 168));
+i0 = 0u;
+goto L9;
+L15:;
 in_mm_st15_counted_counted_octets_93728722e2cdf027(RUD_AS v4 + 192u, v6 + 24u);
 RUD_AGAIN
-v5 = 6490417138761728ull;
-i0 = AT8(v4, 192);
+v14 = AT8(v4, 192);
+j0 = 6490417138761728ull;
 goto L4;
 }
-v16 = 5u;
+v14 = 5u;
 goto L3;
 }
 rud_trap();
-L5:;
+L10:;
 if (!(AT64(v4, 184) == 0)) {
 rud_dealloc(RUD_AS AT64(v4, 168));
 RUD_AGAIN
@@ -26936,120 +22522,137 @@ RUD_AGAIN
 SET64(v4, 216, 0u);
 SET64(v4, 208, 0u);
 SET64(v4, 200, 0u);
-v5 = 1705342534680576ull;
 i0 = 1u;
+L9:;
+v14 = i0;
+j0 = 5364517231919104ull;
+goto L4;
+L8:;
+if (!(AT64(v4, 184) == 0)) {
+rud_dealloc(RUD_AS AT64(v4, 168));
+RUD_AGAIN
+}
+SET64(v4, 216, 0u);
+SET64(v4, 208, 0u);
+SET64(v4, 200, 0u);
+i0 = 1u;
+L7:;
+v14 = i0;
+j0 = 3675667371655168ull;
+goto L4;
+L6:;
+if (!(AT64(v4, 184) == 0)) {
+rud_dealloc(RUD_AS AT64(v4, 168));
+RUD_AGAIN
+}
+SET64(v4, 216, 0u);
+SET64(v4, 208, 0u);
+SET64(v4, 200, 0u);
+i0 = 1u;
+L5:;
+v14 = i0;
+j0 = 1705342534680576ull;
 L4:;
-v15 = i0;
+v13 = j0;
 SET64(v4, 71, AT64(v4, 216));
 SET64(v4, 63, AT64(v4, 208));
 SET64(v4, 55, AT64(v4, 200));
-if (v15) goto L31;
-v7 = v4 + 55u;
+if (v14) goto L36;
+v5 = v4 + 55u;
 SET64(v4, 96, AT64(v4, 71));
 SET64(v4, 88, AT64(v4, 63));
 SET64(v4, 80, AT64(v4, 55));
 in_mm_packet_octets_Octets_new(RUD_AS v4 + 104u, v4 + 80u);
 RUD_AGAIN
 v7 = AT64(v4, 112);
-if (AT8(v4, 104) == 0) goto L30;
-if (AT64(v4, 128) == 0) goto L31;
+if (AT8(v4, 104) == 0) goto L35;
+if (AT64(v4, 128) == 0) goto L36;
 rud_dealloc(RUD_AS v7);
 RUD_AGAIN
-L31:;
+L36:;
 v6 = 0u;
-v16 = 2u;
+v14 = 2u;
 goto L3;
-L30:;
+L35:;
 SET64(v4, 40, v7);
 SET16(v4, 30, 0u);
-SET16(v4, 28, v16);
-SET16(v4, 26, v17);
-v16 = 1u;
+SET16(v4, 28, v15);
+SET16(v4, 26, v16);
+v14 = 1u;
 SET16(v4, 24, 1u);
 SET64(v4, 32, AT64(v6, 16));
-SET64(v4, 16, (v5 | (v12 << 16)) | v11);
+SET64(v4, 16, (v13 | (v10 << 16)) | v11);
 in_mm_packet_packet_Packet_write_to(RUD_AS v4, v4 + 16u, a1 + (a1 == 0 ? 4096ull : 0ull), a2);
 v6 = AT64(v4, 8);
 if (AT8(v4, 0) == 0) {
 v5 = 0u;
-a2 = AT64(v10, 0);
+a2 = AT64(v9, 0);
 if (a2 == 0) {
-v16 = 0u;
-v17 = 1u;
+v14 = 0u;
 v15 = 1u;
-v12 = 0u;
-goto L35;
+v16 = 1u;
+v10 = 0u;
+goto L40;
 }
 a1 = v8 + 96u;
-if (a2 != AT64(v10, 24)) {
-j0 = AT64(v10, 16);
-goto L37;
+if (a2 != AT64(v9, 24)) {
+j0 = AT64(v9, 16);
+goto L42;
 }
-SET64(v10, 24, 0u);
+SET64(v9, 24, 0u);
 j0 = 0u;
-L37:;
+L42:;
 a1 = j0;
 v11 = a2 - 1u;
-SET64(v10, 0, v11);
-SET64(v10, 16, a1 + 1u);
-a1 = AT64(v9, 0) + (a1 * 56u);
+SET64(v9, 0, v11);
+SET64(v9, 16, a1 + 1u);
+a1 = AT64(v12, 0) + (a1 * 56u);
 TEST(a1);
 v5 = AT64(a1, 32);
-v12 = AT64(a1, 24);
-v16 = AT8(a1, 8);
-v17 = AT64(a1, 48) == 0;
-v15 = AT64(a1, 40) == 0;
-if (!(v11 == 0)) goto L34;
-L35:;
-if (AT64(v10, 8) >= 511u) {
-a1 = AT64(v10, 0);
-v11 = AT64(v10, 8);
-v13 = AT64(v10, 16);
-v14 = AT64(v10, 24);
-SET64(v10, 0, 0u);
-SET64(v10, 8, 0u);
-SET64(v10, 16, 0u);
-SET64(v10, 24, 0u);
-SET64(v4, 224, v14);
-SET64(v4, 216, v13);
-SET64(v4, 208, v11);
-SET64(v4, 200, a1);
-SET64(v4, 192, AT64(v9, 0));
-SET64(v9, 0, v4 + 232u);
-in_std_alloc_vec_deque_VecDeque_drop_37450415a5268579(RUD_AS v4 + 192u);
+v10 = AT64(a1, 24);
+v14 = AT8(a1, 8);
+v15 = AT64(a1, 48) == 0;
+v16 = AT64(a1, 40) == 0;
+if (!(v11 == 0)) goto L39;
+L40:;
+if (AT64(v9, 8) >= 511u) {
+a1 = v4 + 192u;
+COPY_FEW(a1, v12, 40u);
+SET64(v9, 0, 0u);
+SET64(v9, 8, 0u);
+SET64(v9, 16, 0u);
+SET64(v9, 24, 0u);
+SET64(v12, 0, v4 + 232u);
+in_std_alloc_vec_deque_VecDeque_drop_37450415a5268579(RUD_AS a1);
 RUD_AGAIN
 }
-if (a2 == 0) goto L33;
-L34:;
-switch ((u32)((u64)v16 & 255u) - 1u) {
-case 0u: case 1u: case 2u: goto L40;
-default: goto L41;
+if (a2 == 0) goto L38;
+L39:;
+switch ((u32)((u64)v14 & 255u) - 1u) {
+case 0u: case 1u: case 2u: goto L45;
+default: goto L46;
 }
-L41:;
-if (v17) goto L33;
+L46:;
+if (v15) goto L38;
 rud_dealloc(RUD_AS v5);
 RUD_AGAIN
-goto L33;
-L40:;
-if (v15) goto L33;
-rud_dealloc(RUD_AS v12);
+goto L38;
+L45:;
+if (v16) goto L38;
+rud_dealloc(RUD_AS v10);
 RUD_AGAIN
-L33:;
+L38:;
 in_std_alloc_arc_Arc_drop_c3b6ee2ab0dfb523(RUD_AS v7);
 RUD_AGAIN
-v16 = 0u;
+v14 = 0u;
 goto L3;
 }
 in_std_alloc_arc_Arc_drop_c3b6ee2ab0dfb523(RUD_AS v7);
 RUD_AGAIN
 L3:;
 TEST(a3);
-SET64(a3, 4, 0u);
-SET32(a3, 0, v16);
-SET64(a3, 12, 0u);
-SET64(a3, 20, 0u);
-SET64(a3, 28, 0u);
-SET32(a3, 36, 0u);
+SET32(a3, 0, v14);
+FILL_FEW(a3 + 4u, 0u, 36u);
 SET64(a3, 40, v6);
 SET64(a0, 0, v8);
 SET8(a0, 8, 1u);
@@ -27172,7 +22775,7 @@ return 0;
 }
 
 static void in_rudlayog_report_read(RUD_IT u64 a0, u64 a1, u64 a2, u64 a3, u64 a4, u64 a5) {
-u32 v18 = 0, v19 = 0, v20 = 0, v21 = 0, v22 = 0, i0 = 0, i1 = 0, i2 = 0;
+u32 v18 = 0, v19 = 0, v20 = 0, v21 = 0, v22 = 0, v23 = 0, i0 = 0, i1 = 0, i2 = 0;
 u64 v6 = 0, v7 = 0, v8 = 0, v9 = 0, v10 = 0, v11 = 0, v12 = 0, v13 = 0, v14 = 0, v15 = 0, v16 = 0, v17 = 0;
 u64 j0 = 0, j1 = 0, j2 = 0, j3 = 0;
 RUD_HERE
@@ -27180,300 +22783,284 @@ i0 = in_rattle_enter(RUD_AS0);
 if (i0) {
 rud_trap();
 }
-v7 = a2;
-v14 = a4;
+v7 = a3;
+v13 = a4;
 v6 = RUD_G0 - 256u;
 RUD_G0 = v6;
-if ((s64)v6 < (s64)16u) goto L5;
+if ((s64)v6 < (s64)16u) goto L4;
 TEST(v6);
 SET8(v6, 94, 0u);
 SET16(v6, 92, 0u);
-SET64(v6, 56, 0u);
-SET64(v6, 64, 0u);
-SET64(v6, 72, 0u);
-SET64(v6, 80, 0u);
-SET32(v6, 88, 0u);
-SET64(v6, 8, 0u);
-SET64(v6, 16, 0u);
-SET64(v6, 24, 0u);
-SET64(v6, 32, 0u);
-SET64(v6, 40, 0u);
-SET64(v6, 48, 0u);
-SET64(v6, 128, 0u);
-SET64(v6, 120, 0u);
-SET64(v6, 112, 0u);
-SET64(v6, 104, 0u);
-SET64(v6, 96, 0u);
-in_mm_ask_line_packet_alone(RUD_AS v6 + 96u, a0 + (a0 == 0 ? 4096ull : 0ull), a1);
+FILL_FEW(v6 + 56u, 0u, 36u);
+FILL_FEW(v6 + 8u, 0u, 48u);
+a3 = v6 + 96u;
+FILL_FEW(a3, 0u, 40u);
+in_mm_ask_line_packet_alone(RUD_AS a3, a0 + (a0 == 0 ? 4096ull : 0ull), a1);
 RUD_AGAIN
 if (AT8(v6, 96) == 0) {
-v20 = 3u;
-v19 = 1u;
+v19 = 3u;
+v18 = 1u;
 v12 = AT64(v6, 128);
 j0 = a5;
-j1 = v14;
+j1 = v13;
 if (AT8(v6, 112) == 0) goto L17;
 if (AT8(v6, 109) != 15u) goto L17;
-v11 = (u64)AT32(v6, 104) | ((u64)AT8(v6, 108) << 32);
-v18 = AT16(v6, 116);
+v10 = (u64)AT32(v6, 104) | ((u64)AT8(v6, 108) << 32);
+v20 = AT16(v6, 116);
 v21 = AT16(v6, 114);
 v15 = AT64(v6, 120);
-v19 = 2u;
-switch (AT8(v6, 110) - 6u) {
-case 0u: goto L22;
-default: goto L17;
-case 7u: goto L21;
-case 13u: goto L20;
-case 17u: goto L19;
+v18 = 2u;
+v22 = AT8(v6, 110);
+switch (v22 - 19u) {
+case 0u: goto L21;
+case 1u: case 2u: case 3u: goto L17;
+case 4u: goto L19;
+default: goto L22;
 }
 L22:;
+if (v22 != 13u) {
+if (v22 != 6u) goto L17;
 TEST(v12);
 a0 = AT64(v12, 16);
 if ((u32)(a0 < 8u) | (u32)(a0 < 10u)) goto L18;
 a1 = a0 - 10u;
 a0 = AT64(v12, 8);
 TEST(a0);
-v19 = AT16(a0, 8);
-v9 = (u64)((v19 << 8) | (v19 >> 8)) & 65535u;
+v18 = AT16(a0, 8);
+v9 = (u64)((v18 << 8) | (v18 >> 8)) & 65535u;
 if (a1 != (v9 << 2)) goto L18;
-a2 = AT64(a0, 0);
+a3 = AT64(a0, 0);
 SET64(v6, 232, 0u);
 SET64(v6, 240, 0u);
 SET64(v6, 224, v6 + 248u);
-if (v19 == 0) goto L16;
+if (v18 == 0) goto L16;
 i2 = in_std_alloc_vec_Vec_move_to_793b26389ee8d11a(RUD_AS v6 + 224u, v9);
 RUD_AGAIN
 if (i2 == 0) {
-if (AT64(v6, 240) == 0) goto L4;
+if (AT64(v6, 240) == 0) goto L20;
 rud_dealloc(RUD_AS AT64(v6, 224));
 RUD_AGAIN
-goto L4;
+goto L20;
 }
 a0 = a0 + 10u;
 a4 = AT64(v6, 240);
 SET64(v6, 192, a4);
 v8 = AT64(v6, 232);
 SET64(v6, 184, v8);
-v10 = AT64(v6, 224);
-SET64(v6, 176, v10);
-SET64(v6, 200, v10);
+v11 = AT64(v6, 224);
+SET64(v6, 176, v11);
+SET64(v6, 200, v11);
 SET64(v6, 208, v8);
 SET64(v6, 216, a4);
-v10 = a1 >> 2;
-L24:;
-if (v10 == 0) goto L5;
+v8 = a1 >> 2;
+L25:;
+if (v8 == 0) goto L4;
 TEST(a0);
-v20 = AT16(a0, 0);
-v19 = AT8(a0, 2);
-v22 = AT8(a0, 3);
-a1 = AT64(v6, 208);
-if (a1 == AT64(v6, 216)) {
+v19 = AT16(a0, 0);
+v22 = AT8(a0, 2);
+v23 = AT8(a0, 3);
+a4 = AT64(v6, 208);
+if (a4 == AT64(v6, 216)) {
 a1 = v6 + 200u;
-a4 = RUD_G0;
-if ((s64)a4 >= (s64)16u) {
-v8 = AT64(v6, 208);
-if (v8 == 0xffffffffffffffffull) {
-RUD_G0 = a4;
-i2 = 0u;
-goto L27;
-}
-v8 = (v8 > 3u ? v8 : 3ull) + 1u;
+v18 = 0u;
+v11 = RUD_G0;
+if ((s64)v11 >= (s64)16u) {
+a4 = AT64(v6, 208);
+if (a4 == 0xffffffffffffffffull) goto L28;
+a4 = (a4 > 3u ? a4 : 3ull) + 1u;
 j2 = a1;
 a1 = AT64(v6, 216);
-v13 = a1 << 1;
-i2 = in_std_alloc_vec_Vec_move_to_793b26389ee8d11a(RUD_AS j2, a1 < 4611686018427387904ull ? (v8 > v13 ? v8 : v13) : v8);
+v14 = a1 << 1;
+v18 = in_std_alloc_vec_Vec_move_to_793b26389ee8d11a(RUD_AS j2, a1 < 4611686018427387904ull ? (a4 > v14 ? a4 : v14) : a4);
 RUD_AGAIN
-RUD_G0 = a4;
-goto L27;
+goto L28;
 }
 rud_trap();
-L27:;
-if (i2 == 0) goto L25;
-a1 = AT64(v6, 208);
+L28:;
+RUD_G0 = v11;
+if (v18 == 0) goto L26;
+a4 = AT64(v6, 208);
 }
-a4 = AT64(v6, 200);
-PUT32(a4 + (a1 << 2), 0, ((((v20 << 8) | (v20 >> 8)) & 65535u) | (v19 << 16)) | (v22 << 24));
-v8 = a1 + 1u;
-SET64(v6, 208, v8);
+a1 = AT64(v6, 200);
+PUT32(a1 + (a4 << 2), 0, ((((v19 << 8) | (v19 >> 8)) & 65535u) | (v22 << 16)) | (v23 << 24));
+a4 = a4 + 1u;
+SET64(v6, 208, a4);
 a0 = a0 + 4u;
-v10 = v10 - 1u;
+v8 = v8 - 1u;
 v9 = v9 - 1u;
-if (!(v9 == 0)) goto L24;
+if (!(v9 == 0)) goto L25;
 goto L15;
-L25:;
-if (AT64(v6, 216) == 0) goto L4;
+L26:;
+if (AT64(v6, 216) == 0) goto L20;
 rud_dealloc(RUD_AS AT64(v6, 200));
 RUD_AGAIN
-goto L4;
-L21:;
+goto L20;
+}
 TEST(v12);
 a0 = AT64(v12, 16);
 if (a0 == 0) goto L18;
-v8 = a0 - 1u;
+v9 = a0 - 1u;
 a0 = AT64(v12, 8);
 TEST(a0);
-v19 = AT8(a0, 0);
-v13 = (u64)v19 & 255u;
-if (v8 != (v13 * 28u)) goto L18;
+v18 = AT8(a0, 0);
+v14 = (u64)v18 & 255u;
+if (v9 != (v14 * 28u)) goto L18;
 SET64(v6, 232, 0u);
 SET64(v6, 240, 0u);
 SET64(v6, 224, v6 + 248u);
-if (v19 == 0) goto L14;
-i2 = in_std_alloc_vec_Vec_move_to_eb01d801ebda492b(RUD_AS v6 + 224u, v13);
+if (v18 == 0) goto L14;
+i2 = in_std_alloc_vec_Vec_move_to_eb01d801ebda492b(RUD_AS v6 + 224u, v14);
 RUD_AGAIN
 if (i2 == 0) {
-if (AT64(v6, 240) == 0) goto L4;
+if (AT64(v6, 240) == 0) goto L20;
 rud_dealloc(RUD_AS AT64(v6, 224));
 RUD_AGAIN
-goto L4;
+goto L20;
 }
-v10 = a0 + 1u;
+v8 = a0 + 1u;
 a0 = AT64(v6, 240);
 SET64(v6, 192, a0);
 a1 = AT64(v6, 232);
 SET64(v6, 184, a1);
-a2 = AT64(v6, 224);
-SET64(v6, 176, a2);
-SET64(v6, 200, a2);
+a3 = AT64(v6, 224);
+SET64(v6, 176, a3);
+SET64(v6, 200, a3);
 SET64(v6, 208, a1);
 SET64(v6, 216, a0);
 L31:;
-if (v8 < 8u) goto L5;
-a0 = v8 & 0xfffffffffffffff8ull;
-if (((u32)(a0 == 8u) | (u32)(a0 == 16u)) | (u32)((v8 & 0xfffffffffffffffcull) == 24u)) goto L5;
-TEST(v10);
-v16 = AT64(v10, 0);
-a0 = AT64(v10, 8);
-a1 = AT64(v10, 16);
-v20 = AT32(v10, 24);
-v9 = AT64(v6, 208);
-if (v9 == AT64(v6, 216)) {
-a2 = v6 + 200u;
-a4 = RUD_G0;
-if ((s64)a4 >= (s64)16u) {
-v9 = AT64(v6, 208);
-if (v9 == 0xffffffffffffffffull) {
-RUD_G0 = a4;
-i2 = 0u;
-goto L34;
-}
-v9 = (v9 > 3u ? v9 : 3ull) + 1u;
-j2 = a2;
-a2 = AT64(v6, 216);
-v17 = a2 << 1;
-i2 = in_std_alloc_vec_Vec_move_to_eb01d801ebda492b(RUD_AS j2, a2 < 4611686018427387904ull ? (v9 > v17 ? v9 : v17) : v9);
+if (v9 < 8u) goto L4;
+a0 = v9 & 0xfffffffffffffff8ull;
+if (((u32)(a0 == 8u) | (u32)(a0 == 16u)) | (u32)((v9 & 0xfffffffffffffffcull) == 24u)) goto L4;
+TEST(v8);
+v16 = AT64(v8, 0);
+a0 = AT64(v8, 8);
+a1 = AT64(v8, 16);
+v19 = AT32(v8, 24);
+a4 = AT64(v6, 208);
+if (a4 == AT64(v6, 216)) {
+a3 = v6 + 200u;
+v18 = 0u;
+v11 = RUD_G0;
+if ((s64)v11 >= (s64)16u) {
+a4 = AT64(v6, 208);
+if (a4 == 0xffffffffffffffffull) goto L34;
+a4 = (a4 > 3u ? a4 : 3ull) + 1u;
+j2 = a3;
+a3 = AT64(v6, 216);
+v17 = a3 << 1;
+v18 = in_std_alloc_vec_Vec_move_to_eb01d801ebda492b(RUD_AS j2, a3 < 4611686018427387904ull ? (a4 > v17 ? a4 : v17) : a4);
 RUD_AGAIN
-RUD_G0 = a4;
 goto L34;
 }
 rud_trap();
 L34:;
-if (i2 == 0) goto L32;
-v9 = AT64(v6, 208);
+RUD_G0 = v11;
+if (v18 == 0) goto L32;
+a4 = AT64(v6, 208);
 }
-a2 = AT64(v6, 200);
-a4 = a2 + (v9 << 5);
-TEST(a4);
-SET32(a4, 28, 0u);
-SET32(a4, 24, (rud_rotr32(v20, 24u) & 16711935u) | rud_rotr32((v20 & 16711935u), 8u));
+a3 = AT64(v6, 200);
+v11 = a3 + (a4 << 5);
+TEST(v11);
+SET32(v11, 28, 0u);
+SET32(v11, 24, (rud_rotr32(v19, 24u) & 16711935u) | rud_rotr32((v19 & 16711935u), 8u));
 j3 = (((a1 << 56) | ((a1 & 65280u) << 40)) | (((a1 & 16711680u) << 24) | ((a1 & 4278190080u) << 8))) | ((((a1 >> 8) & 4278190080u) | ((a1 >> 24) & 16711680u)) | (((a1 >> 40) & 65280u) | (a1 >> 56)));
-SET64(a4, 16, j3);
+SET64(v11, 16, j3);
 j3 = (((a0 << 56) | ((a0 & 65280u) << 40)) | (((a0 & 16711680u) << 24) | ((a0 & 4278190080u) << 8))) | ((((a0 >> 8) & 4278190080u) | ((a0 >> 24) & 16711680u)) | (((a0 >> 40) & 65280u) | (a0 >> 56)));
-SET64(a4, 8, j3);
-SET64(a4, 0, v16);
-a4 = v9 + 1u;
-SET64(v6, 208, a4);
-v10 = v10 + 28u;
-v8 = v8 - 28u;
-v13 = v13 - 1u;
-if (!(v13 == 0)) goto L31;
+SET64(v11, 8, j3);
+SET64(v11, 0, v16);
+a1 = a4 + 1u;
+SET64(v6, 208, a1);
+v8 = v8 + 28u;
+v9 = v9 - 28u;
+v14 = v14 - 1u;
+if (!(v14 == 0)) goto L31;
 goto L13;
 L32:;
-if (AT64(v6, 216) == 0) goto L4;
+if (AT64(v6, 216) == 0) goto L20;
 rud_dealloc(RUD_AS AT64(v6, 200));
 RUD_AGAIN
-goto L4;
-L20:;
+goto L20;
+L21:;
 TEST(v12);
 a0 = AT64(v12, 16);
 if (a0 == 0) goto L18;
-a1 = a0 - 1u;
+a4 = a0 - 1u;
 a0 = AT64(v12, 8);
 TEST(a0);
-v19 = AT8(a0, 0);
-v9 = (u64)v19 & 255u;
-if (a1 != (v9 * 10u)) goto L18;
+v18 = AT8(a0, 0);
+v9 = (u64)v18 & 255u;
+if (a4 != (v9 * 10u)) goto L18;
 SET64(v6, 232, 0u);
 SET64(v6, 240, 0u);
 SET64(v6, 224, v6 + 248u);
-if (v19 == 0) goto L12;
+if (v18 == 0) goto L12;
 i2 = in_std_alloc_vec_Vec_move_to_9a5edca6e6a5417b(RUD_AS v6 + 224u, v9);
 RUD_AGAIN
 if (i2 == 0) {
-if (AT64(v6, 240) == 0) goto L4;
+if (AT64(v6, 240) == 0) goto L20;
 rud_dealloc(RUD_AS AT64(v6, 224));
 RUD_AGAIN
-goto L4;
+goto L20;
 }
 a0 = a0 + 1u;
-a2 = AT64(v6, 240);
-SET64(v6, 192, a2);
-a4 = AT64(v6, 232);
-SET64(v6, 184, a4);
+a1 = AT64(v6, 240);
+SET64(v6, 192, a1);
+a3 = AT64(v6, 232);
+SET64(v6, 184, a3);
 v8 = AT64(v6, 224);
 SET64(v6, 176, v8);
 SET64(v6, 200, v8);
-SET64(v6, 208, a4);
-SET64(v6, 216, a2);
-L38:;
-if (a1 <= 9u) goto L5;
+SET64(v6, 208, a3);
+SET64(v6, 216, a1);
+L37:;
+if (a4 <= 9u) goto L4;
 TEST(a0);
-v20 = AT8(a0, 9);
-v19 = AT8(a0, 8);
-v13 = AT64(a0, 0);
-v10 = AT64(v6, 208);
-if (v10 == AT64(v6, 216)) {
-a2 = v6 + 200u;
-a4 = RUD_G0;
-if ((s64)a4 >= (s64)16u) {
+v18 = AT8(a0, 9);
+v22 = AT8(a0, 8);
+v11 = AT64(a0, 0);
 v8 = AT64(v6, 208);
-if (v8 == 0xffffffffffffffffull) {
-RUD_G0 = a4;
-i2 = 0u;
-goto L41;
-}
-v8 = (v8 > 3u ? v8 : 3ull) + 1u;
-j2 = a2;
-a2 = AT64(v6, 216);
-v10 = a2 << 1;
-i2 = in_std_alloc_vec_Vec_move_to_9a5edca6e6a5417b(RUD_AS j2, a2 < 4611686018427387904ull ? (v8 > v10 ? v8 : v10) : v8);
+if (v8 == AT64(v6, 216)) {
+a1 = v6 + 200u;
+v19 = 0u;
+v8 = RUD_G0;
+if ((s64)v8 >= (s64)16u) {
+a3 = AT64(v6, 208);
+if (a3 == 0xffffffffffffffffull) goto L40;
+a3 = (a3 > 3u ? a3 : 3ull) + 1u;
+j2 = a1;
+a1 = AT64(v6, 216);
+v14 = a1 << 1;
+v19 = in_std_alloc_vec_Vec_move_to_9a5edca6e6a5417b(RUD_AS j2, a1 < 4611686018427387904ull ? (a3 > v14 ? a3 : v14) : a3);
 RUD_AGAIN
-RUD_G0 = a4;
-goto L41;
+goto L40;
 }
 rud_trap();
-L41:;
-if (i2 == 0) goto L39;
-v10 = AT64(v6, 208);
+L40:;
+RUD_G0 = v8;
+if (v19 == 0) goto L38;
+v8 = AT64(v6, 208);
 }
-a2 = AT64(v6, 200);
-a4 = a2 + (v10 * 10u);
-TEST(a4);
-SET8(a4, 9, v20);
-SET8(a4, 8, v19);
-SET64(a4, 0, v13);
-a4 = v10 + 1u;
-SET64(v6, 208, a4);
+a3 = AT64(v6, 200);
+a1 = a3 + (v8 * 10u);
+TEST(a1);
+SET8(a1, 9, v18);
+SET8(a1, 8, v22);
+SET64(a1, 0, v11);
+a1 = v8 + 1u;
+SET64(v6, 208, a1);
 a0 = a0 + 10u;
-a1 = a1 - 10u;
+a4 = a4 - 10u;
 v9 = v9 - 1u;
-if (!(v9 == 0)) goto L38;
+if (!(v9 == 0)) goto L37;
 goto L11;
-L39:;
-if (AT64(v6, 216) == 0) goto L4;
+L38:;
+if (AT64(v6, 216) == 0) goto L20;
 rud_dealloc(RUD_AS AT64(v6, 200));
 RUD_AGAIN
-goto L4;
+L20:;
+v18 = 0u;
+v19 = 0u;
+goto L17;
 L19:;
 TEST(v12);
 a0 = AT64(v12, 16);
@@ -27485,398 +23072,289 @@ SET64(v6, 136, 0u);
 in_mm_st15_counted_counted_entries_93728722e2cdf027(RUD_AS v6 + 136u, 0u, a1, a0);
 RUD_AGAIN
 if (AT8(v6, 136) == 0) goto L10;
-v19 = AT8(v6, 137);
-v20 = v19 ? 3u : 0u;
-in_std_alloc_arc_Arc_drop_c3b6ee2ab0dfb523(RUD_AS v12);
-RUD_AGAIN
-goto L3;
+v18 = AT8(v6, 137);
+v19 = v18 ? 3u : 0u;
+goto L17;
 L18:;
-v19 = 3u;
+v18 = 3u;
 L17:;
 in_std_alloc_arc_Arc_drop_c3b6ee2ab0dfb523(RUD_AS v12);
 RUD_AGAIN
-goto L3;
+goto L5;
 L16:;
-a0 = AT64(v6, 240);
-SET64(v6, 192, a0);
-v8 = AT64(v6, 232);
-SET64(v6, 184, v8);
-a4 = AT64(v6, 224);
-SET64(v6, 176, a4);
-SET64(v6, 200, a4);
-SET64(v6, 208, v8);
-SET64(v6, 216, a0);
-L15:;
-v19 = 0u;
-TEST(v7);
-j2 = AT64(v6, 216);
-SET32(v7, 26, 0u);
-SET8(v7, 25, 6u);
-SET8(v7, 24, (u32)(v11 >> 32));
-SET16(v7, 22, v18);
-SET16(v7, 20, v21);
-SET16(v7, 18, (u32)(v11 >> 16));
-SET16(v7, 16, (u32)v11);
-SET64(v7, 8, a2);
-SET64(v7, 0, v15);
-SET16(v7, 30, 0u);
-v20 = j2 == 0;
-j2 = v8;
-goto L8;
-L14:;
 a0 = AT64(v6, 240);
 SET64(v6, 192, a0);
 a4 = AT64(v6, 232);
 SET64(v6, 184, a4);
-a2 = AT64(v6, 224);
-SET64(v6, 176, a2);
-SET64(v6, 200, a2);
+a1 = AT64(v6, 224);
+SET64(v6, 176, a1);
+SET64(v6, 200, a1);
 SET64(v6, 208, a4);
 SET64(v6, 216, a0);
+L15:;
+v18 = 0u;
+TEST(a2);
+j2 = AT64(v6, 216);
+SET32(a2, 26, 0u);
+SET8(a2, 25, 6u);
+SET8(a2, 24, (u32)(v10 >> 32));
+SET16(a2, 22, v20);
+SET16(a2, 20, v21);
+SET16(a2, 18, (u32)(v10 >> 16));
+SET16(a2, 16, (u32)v10);
+SET64(a2, 8, a3);
+SET64(a2, 0, v15);
+SET16(a2, 30, 0u);
+v19 = j2 == 0;
+j2 = a4;
+goto L8;
+L14:;
+a0 = AT64(v6, 240);
+SET64(v6, 192, a0);
+a1 = AT64(v6, 232);
+SET64(v6, 184, a1);
+a3 = AT64(v6, 224);
+SET64(v6, 176, a3);
+SET64(v6, 200, a3);
+SET64(v6, 208, a1);
+SET64(v6, 216, a0);
 L13:;
-v8 = AT64(v6, 216);
-TEST(v7);
-SET32(v7, 26, 0u);
-SET8(v7, 25, 13u);
-SET8(v7, 24, (u32)(v11 >> 32));
-SET16(v7, 22, v18);
-SET16(v7, 20, v21);
-SET16(v7, 18, (u32)(v11 >> 16));
-SET16(v7, 16, (u32)v11);
-SET64(v7, 8, 0u);
-SET64(v7, 0, v15);
-SET16(v7, 30, 0u);
-v20 = 1u;
+a4 = AT64(v6, 216);
+TEST(a2);
+SET32(a2, 26, 0u);
+SET8(a2, 25, 13u);
+SET8(a2, 24, (u32)(v10 >> 32));
+SET16(a2, 22, v20);
+SET16(a2, 20, v21);
+SET16(a2, 18, (u32)(v10 >> 16));
+SET16(a2, 16, (u32)v10);
+SET64(a2, 8, 0u);
+SET64(a2, 0, v15);
+SET16(a2, 30, 0u);
+v19 = 1u;
 i2 = 1u;
 goto L9;
 L12:;
 a0 = AT64(v6, 240);
 SET64(v6, 192, a0);
-a4 = AT64(v6, 232);
-SET64(v6, 184, a4);
-a2 = AT64(v6, 224);
-SET64(v6, 176, a2);
-SET64(v6, 200, a2);
-SET64(v6, 208, a4);
+a1 = AT64(v6, 232);
+SET64(v6, 184, a1);
+a3 = AT64(v6, 224);
+SET64(v6, 176, a3);
+SET64(v6, 200, a3);
+SET64(v6, 208, a1);
 SET64(v6, 216, a0);
 L11:;
-v8 = AT64(v6, 216);
-TEST(v7);
-SET32(v7, 26, 0u);
-SET8(v7, 25, 19u);
-SET8(v7, 24, (u32)(v11 >> 32));
-SET16(v7, 22, v18);
-SET16(v7, 20, v21);
-SET16(v7, 18, (u32)(v11 >> 16));
-SET16(v7, 16, (u32)v11);
-SET64(v7, 8, 0u);
-SET64(v7, 0, v15);
-SET16(v7, 30, 0u);
-v20 = 1u;
+a4 = AT64(v6, 216);
+TEST(a2);
+SET32(a2, 26, 0u);
+SET8(a2, 25, 19u);
+SET8(a2, 24, (u32)(v10 >> 32));
+SET16(a2, 22, v20);
+SET16(a2, 20, v21);
+SET16(a2, 18, (u32)(v10 >> 16));
+SET16(a2, 16, (u32)v10);
+SET64(a2, 8, 0u);
+SET64(a2, 0, v15);
+SET16(a2, 30, 0u);
+v19 = 1u;
 i2 = 2u;
 goto L9;
 L10:;
-v8 = AT64(v6, 160);
-a4 = AT64(v6, 152);
-a2 = AT64(v6, 144);
-TEST(v7);
-SET32(v7, 26, 0u);
-SET8(v7, 25, 23u);
-SET8(v7, 24, (u32)(v11 >> 32));
-SET16(v7, 22, v18);
-SET16(v7, 20, v21);
-SET16(v7, 18, (u32)(v11 >> 16));
-SET16(v7, 16, (u32)v11);
-SET64(v7, 8, 0u);
-SET64(v7, 0, v15);
-SET16(v7, 30, 0u);
-v20 = 1u;
+a4 = AT64(v6, 160);
+a1 = AT64(v6, 152);
+a3 = AT64(v6, 144);
+TEST(a2);
+SET32(a2, 26, 0u);
+SET8(a2, 25, 23u);
+SET8(a2, 24, (u32)(v10 >> 32));
+SET16(a2, 22, v20);
+SET16(a2, 20, v21);
+SET16(a2, 18, (u32)(v10 >> 16));
+SET16(a2, 16, (u32)v10);
+SET64(a2, 8, 0u);
+SET64(a2, 0, v15);
+SET16(a2, 30, 0u);
+v19 = 1u;
 i2 = 3u;
 L9:;
-v19 = i2;
-j2 = a4;
+v18 = i2;
+j2 = a1;
 L8:;
-v10 = j2;
-if (j1 < v10) {
-SET32(v6, 88, 0u);
-SET64(v6, 80, 0u);
-SET64(v6, 72, 0u);
-SET64(v6, 64, 0u);
-SET64(v6, 56, 0u);
+v8 = j2;
+if (j1 < v8) {
+FILL_FEW(v6 + 56u, 0u, 36u);
 i1 = 1u;
 goto L7;
 }
-a3 = a3 + (a3 == 0 ? 4096ull : 0ull);
-switch (v19 - 1u) {
-case 0u: goto L48;
-case 1u: goto L47;
-case 2u: goto L46;
-default: goto L49;
+v7 = v7 + (v7 == 0 ? 4096ull : 0ull);
+switch (v18 - 1u) {
+case 0u: goto L46;
+case 1u: goto L45;
+case 2u: goto L44;
+default: goto L47;
 }
-L49:;
-if (v8 == 0) goto L45;
-v7 = 0u;
-if (v8 != 1u) {
-v11 = v8 & 0xfffffffffffffffeull;
-a0 = a3;
-a1 = a4;
-j1 = v8 & 1u;
-L51:;
-TEST(a1);
-v18 = AT32(a1, 0);
-TEST(a0);
-SET64(a0, 8, 0u);
-SET64(a0, 16, 0u);
-SET64(a0, 24, 0u);
-SET32(a0, 36, 0u);
-SET32(a0, 32, v18);
-SET64(a0, 0, 0u);
-v18 = AT32(a1, 4);
-SET64(a0, 48, 0u);
-SET64(a0, 56, 0u);
-SET64(a0, 64, 0u);
-SET32(a0, 76, 0u);
-SET32(a0, 72, v18);
-SET64(a0, 40, 0u);
-a0 = a0 + 80u;
-a1 = a1 + 8u;
-v7 = v7 + 2u;
-if (v11 != v7) goto L51;
-if (j1 == 0) goto L45;
-}
-v18 = GET32(a4 + (v7 << 2), 0);
-a0 = a3 + (v7 * 40u);
-TEST(a0);
-SET64(a0, 8, 0u);
-SET64(a0, 16, 0u);
-SET64(a0, 24, 0u);
-SET32(a0, 36, 0u);
-SET32(a0, 32, v18);
-SET64(a0, 0, 0u);
-goto L45;
-L48:;
-if (a4 == 0) goto L45;
-v7 = 0u;
-if (a4 != 1u) {
-v11 = a4 & 0xfffffffffffffffeull;
-a0 = a3;
-a1 = a2;
-j1 = a4 & 1u;
-L53:;
-TEST(a1);
-v9 = AT64(a1, 8);
-v15 = AT64(a1, 16);
-v18 = AT32(a1, 24);
-v13 = AT64(a1, 0);
-TEST(a0);
-SET64(a0, 28, 0u);
-SET32(a0, 24, v18);
-SET64(a0, 16, v15);
-SET64(a0, 8, v9);
-SET64(a0, 0, v13);
-SET32(a0, 36, 0u);
-v9 = AT64(a1, 32);
-v15 = AT64(a1, 40);
-v13 = AT64(a1, 48);
-v18 = AT32(a1, 56);
-SET64(a0, 68, 0u);
-SET32(a0, 64, v18);
-SET64(a0, 56, v13);
-SET64(a0, 48, v15);
-SET64(a0, 40, v9);
-SET32(a0, 76, 0u);
-a0 = a0 + 80u;
-a1 = a1 + 64u;
-v7 = v7 + 2u;
-if (v11 != v7) goto L53;
-if (j1 == 0) goto L45;
-}
-a0 = a2 + (v7 << 5);
-TEST(a0);
-a1 = AT64(a0, 0);
-v14 = AT64(a0, 8);
-v11 = AT64(a0, 16);
-v18 = AT32(a0, 24);
-a0 = a3 + (v7 * 40u);
-TEST(a0);
-SET64(a0, 28, 0u);
-SET32(a0, 24, v18);
-SET64(a0, 16, v11);
-SET64(a0, 8, v14);
-SET64(a0, 0, a1);
-SET32(a0, 36, 0u);
-goto L45;
 L47:;
-if (a4 == 0) goto L45;
-v7 = 0u;
-if (a4 != 1u) {
-v11 = a4 & 0xfffffffffffffffeull;
-a0 = a3;
-a1 = a2;
-j1 = a4 & 1u;
-L55:;
-TEST(a1);
-v18 = AT16(a1, 8);
-v9 = AT64(a1, 0);
+if (a4 == 0) goto L43;
+a0 = a1;
+a2 = a4;
+L48:;
 TEST(a0);
-SET64(a0, 8, 0u);
-SET64(a0, 0, v9);
-SET64(a0, 16, 0u);
-SET64(a0, 24, 0u);
-SET32(a0, 32, 0u);
-SET16(a0, 38, 0u);
-SET16(a0, 36, v18);
-v18 = AT16(a1, 18);
-v9 = AT64(a1, 10);
-SET64(a0, 48, 0u);
-SET64(a0, 40, v9);
-SET64(a0, 56, 0u);
-SET64(a0, 64, 0u);
-SET32(a0, 72, 0u);
-SET16(a0, 78, 0u);
-SET16(a0, 76, v18);
-a0 = a0 + 80u;
-a1 = a1 + 20u;
-v7 = v7 + 2u;
-if (v11 != v7) goto L55;
-if (j1 == 0) goto L45;
-}
-a0 = a2 + (v7 * 10u);
-TEST(a0);
-v18 = AT16(a0, 8);
-a1 = AT64(a0, 0);
-a0 = a3 + (v7 * 40u);
-TEST(a0);
-SET64(a0, 8, 0u);
-SET64(a0, 0, a1);
-SET64(a0, 16, 0u);
-SET64(a0, 24, 0u);
-SET32(a0, 32, 0u);
-SET16(a0, 38, 0u);
-SET16(a0, 36, v18);
-goto L45;
+v20 = AT32(a0, 0);
+TEST(v7);
+SET64(v7, 8, 0u);
+SET64(v7, 16, 0u);
+SET64(v7, 24, 0u);
+SET32(v7, 36, 0u);
+SET32(v7, 32, v20);
+SET64(v7, 0, 0u);
+a0 = a0 + 4u;
+v7 = v7 + 40u;
+a2 = a2 - 1u;
+if (!(a2 == 0)) goto L48;
+goto L43;
 L46:;
-if (a4 == 0) goto L45;
-a0 = a2;
-a1 = a4;
-L56:;
+if (a1 == 0) goto L43;
+a0 = a3;
+a2 = a1;
+L49:;
 TEST(a0);
-v18 = AT16(a0, 12);
-v21 = AT32(a0, 8);
-v7 = AT64(a0, 0);
-TEST(a3);
-SET64(a3, 8, 0u);
-SET64(a3, 0, v7);
-SET64(a3, 16, 0u);
-SET32(a3, 24, 0u);
-SET32(a3, 32, 0u);
-SET32(a3, 28, v21);
-SET16(a3, 36, 0u);
-SET16(a3, 38, v18);
-a0 = a0 + 16u;
-a3 = a3 + 40u;
-a1 = a1 - 1u;
-if (!(a1 == 0)) goto L56;
+v13 = AT64(a0, 8);
+v9 = AT64(a0, 16);
+v20 = AT32(a0, 24);
+v10 = AT64(a0, 0);
+TEST(v7);
+SET64(v7, 28, 0u);
+SET32(v7, 24, v20);
+SET64(v7, 16, v9);
+SET64(v7, 8, v13);
+SET64(v7, 0, v10);
+SET32(v7, 36, 0u);
+a0 = a0 + 32u;
+v7 = v7 + 40u;
+a2 = a2 - 1u;
+if (!(a2 == 0)) goto L49;
+goto L43;
 L45:;
-SET32(v6, 88, 0u);
-SET64(v6, 80, 0u);
-SET64(v6, 72, 0u);
-SET64(v6, 64, 0u);
-SET64(v6, 56, 0u);
+if (a1 == 0) goto L43;
+a0 = a3;
+a2 = a1;
+L50:;
+TEST(a0);
+v20 = AT16(a0, 8);
+v13 = AT64(a0, 0);
+TEST(v7);
+SET64(v7, 8, 0u);
+SET64(v7, 0, v13);
+SET64(v7, 16, 0u);
+SET64(v7, 24, 0u);
+SET32(v7, 32, 0u);
+SET16(v7, 38, 0u);
+SET16(v7, 36, v20);
+a0 = a0 + 10u;
+v7 = v7 + 40u;
+a2 = a2 - 1u;
+if (!(a2 == 0)) goto L50;
+goto L43;
+L44:;
+if (a1 == 0) goto L43;
+a0 = a3;
+a2 = a1;
+L51:;
+TEST(a0);
+v20 = AT16(a0, 12);
+v21 = AT32(a0, 8);
+v13 = AT64(a0, 0);
+TEST(v7);
+SET64(v7, 8, 0u);
+SET64(v7, 0, v13);
+SET64(v7, 16, 0u);
+SET32(v7, 24, 0u);
+SET32(v7, 32, 0u);
+SET32(v7, 28, v21);
+SET16(v7, 36, 0u);
+SET16(v7, 38, v20);
+a0 = a0 + 16u;
+v7 = v7 + 40u;
+a2 = a2 - 1u;
+if (a2 != 0u) goto L51;
+L43:;
+FILL_FEW(v6 + 56u, 0u, 36u);
 i1 = 0u;
 L7:;
 TEST(j0);
 SET32(j0, 0, i1);
+COPY_FEW(a5 + 4u, v6 + 56u, 36u);
 TEST(a5);
-SET64(a5, 4, AT64(v6, 56));
-SET64(a5, 12, AT64(v6, 64));
-SET64(a5, 20, AT64(v6, 72));
-SET64(a5, 28, AT64(v6, 80));
-SET32(a5, 36, AT32(v6, 88));
-SET64(a5, 40, v10);
+SET64(a5, 40, v8);
 in_std_alloc_arc_Arc_drop_c3b6ee2ab0dfb523(RUD_AS v12);
 RUD_AGAIN
-switch (v19 - 1u) {
-case 0u: goto L59;
-case 1u: goto L58;
-case 2u: goto L57;
-default: goto L60;
+switch (v18 - 1u) {
+case 0u: goto L54;
+case 1u: goto L53;
+case 2u: goto L52;
+default: goto L55;
 }
-L60:;
-if (v20) goto L2;
-rud_dealloc(RUD_AS a4);
+L55:;
+if (v19) goto L2;
+rud_dealloc(RUD_AS a1);
 RUD_AGAIN
 goto L2;
-L59:;
-if (v8 == 0) goto L2;
-rud_dealloc(RUD_AS a2);
-RUD_AGAIN
-goto L2;
-L58:;
-if (v8 == 0) goto L2;
-rud_dealloc(RUD_AS a2);
-RUD_AGAIN
-goto L2;
-L57:;
-if (v8 == 0) goto L2;
-rud_dealloc(RUD_AS a2);
-RUD_AGAIN
-goto L2;
-}
-v19 = AT8(v6, 98);
-v20 = AT8(v6, 97);
+L54:;
+if (a4 == 0) goto L2;
 goto L3;
+L53:;
+if (!(a4 == 0)) goto L3;
+goto L2;
+L52:;
+if (!(a4 == 0)) goto L3;
+goto L2;
+}
+v18 = AT8(v6, 98);
+v19 = AT8(v6, 97);
 L5:;
-rud_trap();
+TEST(a2);
+SET64(a2, 0, 0u);
+SET64(a2, 8, 0u);
+SET64(a2, 16, 0u);
+SET64(a2, 24, 0u);
+SET8(v6, 93, v19);
+v19 = v19 & 255u;
+SET8(v6, 94, v19 ? v18 : 0u);
+SET8(v6, 92, v19 ? 5u : 0u);
+a0 = v6 + 8u;
+in_mm_c_memory_refused(RUD_AS a0, v6 + 92u);
+COPY_FEW(a5, a0, 48u);
+goto L2;
 L4:;
-v19 = 0u;
-v20 = 0u;
-in_std_alloc_arc_Arc_drop_c3b6ee2ab0dfb523(RUD_AS v12);
-RUD_AGAIN
+rud_trap();
 L3:;
-TEST(v7);
-SET64(v7, 0, 0u);
-SET64(v7, 8, 0u);
-SET64(v7, 16, 0u);
-SET64(v7, 24, 0u);
-SET8(v6, 93, v20);
-v20 = v20 & 255u;
-SET8(v6, 94, v20 ? v19 : 0u);
-SET8(v6, 92, v20 ? 5u : 0u);
-in_mm_c_memory_refused(RUD_AS v6 + 8u, v6 + 92u);
-TEST(a5);
-SET64(a5, 40, AT64(v6, 48));
-SET64(a5, 32, AT64(v6, 40));
-SET64(a5, 24, AT64(v6, 32));
-SET64(a5, 16, AT64(v6, 24));
-SET64(a5, 8, AT64(v6, 16));
-SET64(a5, 0, AT64(v6, 8));
+rud_dealloc(RUD_AS a3);
+RUD_AGAIN
 L2:;
 RUD_G0 = v6 + 256u;
 RUD_G1 = 0u;
 }
 
 static void in_mm_service_instruction_fields_padded(RUD_IT u64 a0, u64 a1) {
-u64 j0 = 0, j1 = 0;
+u32 v3 = 0;
+u64 v2 = 0;
 RUD_HERE
-if ((s64)RUD_G0 >= (s64)16u) {
+v2 = RUD_G0 - 16u;
+if ((s64)v2 >= (s64)16u) {
 TEST(a1);
-j0 = a0;
-a0 = AT64(a1, 0);
-a1 = a0 & 71776119061217280ull;
-j1 = (a0 < 72057594037927936ull ? 2305843009213693952ull : (a0 & 0xff00000000000000ull)) | (a1 == 0 ? 9007199254740992ull : a1);
-a1 = a0 & 280375465082880ull;
-j1 = j1 | (a1 == 0 ? 35184372088832ull : a1);
-a1 = a0 & 1095216660480ull;
-j1 = j1 | (a1 == 0 ? 137438953472ull : a1);
-a1 = a0 & 4278190080u;
-j1 = j1 | (a1 == 0 ? 536870912ull : a1);
-a1 = a0 & 16711680u;
-j1 = j1 | (a1 == 0 ? 2097152ull : a1);
-a1 = a0 & 65280u;
-a0 = a0 & 255u;
-TEST(j0);
-SET64(j0, 0, (j1 | (a1 == 0 ? 8192ull : a1)) | (a0 == 0 ? 32ull : a0));
+a1 = AT64(a1, 0);
+TEST(v2);
+SET64(v2, 8, a1);
+SET64(v2, 0, a1);
+a1 = 0u;
+L2:;
+v3 = GET8((v2 + 8u) + a1, 0);
+PUT8(a1 + v2, 0, v3 ? v3 : 32u);
+a1 = a1 + 1u;
+if (a1 != 8u) goto L2;
+TEST(a0);
+SET64(a0, 0, AT64(v2, 0));
 return;
 }
 rud_trap();
@@ -28205,34 +23683,26 @@ RUD_G0 = v2 + 32u;
 }
 
 static void in_rudlayog_request_write(RUD_IT u64 a0, u64 a1, u64 a2, u64 a3, u64 a4, u64 a5) {
-u32 v13 = 0, v14 = 0, v15 = 0, v16 = 0, i0 = 0, i1 = 0;
-u64 v6 = 0, v7 = 0, v8 = 0, v9 = 0, v10 = 0, v11 = 0, v12 = 0, j0 = 0, j1 = 0;
+u32 v13 = 0, v14 = 0, v15 = 0, v16 = 0, v17 = 0, i0 = 0, i1 = 0, i2 = 0;
+u64 v6 = 0, v7 = 0, v8 = 0, v9 = 0, v10 = 0, v11 = 0, v12 = 0, j0 = 0, j1 = 0, j2 = 0;
 RUD_HERE
 i0 = in_rattle_enter(RUD_AS0);
 if (i0) {
 rud_trap();
 }
-v6 = RUD_G0 - 768u;
+v6 = RUD_G0 - 736u;
 RUD_G0 = v6;
+j0 = v6;
 if ((s64)v6 >= (s64)16u) {
+FILL_FEW(v6 + 8u, 0u, 48u);
 TEST(v6);
-SET64(v6, 48, 0u);
-SET64(v6, 40, 0u);
-SET64(v6, 32, 0u);
-SET64(v6, 24, 0u);
-SET64(v6, 16, 0u);
-SET64(v6, 8, 0u);
 SET64(v6, 80, 0u);
-SET64(v6, 72, 0u);
-SET64(v6, 64, 0u);
-SET64(v6, 56, 0u);
-SET64(v6, 112, 0u);
-SET64(v6, 120, 0u);
-SET64(v6, 128, 0u);
-SET64(v6, 136, 0u);
 SET64(v6, 88, 0u);
 SET64(v6, 96, 0u);
 SET64(v6, 104, 0u);
+SET64(v6, 56, 0u);
+SET64(v6, 64, 0u);
+SET64(v6, 72, 0u);
 TEST(a0);
 if (AT16(a0, 0) <= 2046u) {
 if (AT16(a0, 2) > 16383u) goto L26;
@@ -28242,30 +23712,26 @@ if ((AT8(v6, 0) & 1u) == 0) goto L25;
 v10 = a3 + (a3 == 0 ? 4096ull : 0ull);
 a1 = a1 + (a1 == 0 ? 4096ull : 0ull);
 v13 = AT8(v6, 1);
-SET64(v6, 160, 0u);
-SET64(v6, 152, 0u);
-SET64(v6, 144, 0u);
+SET64(v6, 128, 0u);
+SET64(v6, 120, 0u);
+SET64(v6, 112, 0u);
 if ((1u << (v13 & 31)) & 126463u) {
 if ((a2 - 1u) < 255u) goto L27;
 goto L4;
 }
 if (a2 != 0u) goto L4;
 L27:;
-SET64(v6, 584, 0u);
-SET64(v6, 592, 0u);
-SET64(v6, 600, 0u);
-SET64(v6, 728, 0u);
-SET64(v6, 736, 0u);
-SET64(v6, 744, 0u);
-SET64(v6, 752, 0u);
-SET64(v6, 720, 0u);
-SET64(v6, 712, 0u);
-SET64(v6, 704, 0u);
-SET64(v6, 696, 0u);
-SET64(v6, 576, 0u);
-SET64(v6, 568, 0u);
-SET64(v6, 560, 0u);
 SET64(v6, 552, 0u);
+SET64(v6, 560, 0u);
+SET64(v6, 568, 0u);
+SET64(v6, 696, 0u);
+SET64(v6, 704, 0u);
+SET64(v6, 712, 0u);
+SET64(v6, 720, 0u);
+SET64(v6, 688, 0u);
+SET64(v6, 680, 0u);
+SET64(v6, 672, 0u);
+SET64(v6, 664, 0u);
 SET64(v6, 544, 0u);
 SET64(v6, 536, 0u);
 SET64(v6, 528, 0u);
@@ -28274,7 +23740,7 @@ SET64(v6, 512, 0u);
 SET64(v6, 504, 0u);
 SET64(v6, 496, 0u);
 SET64(v6, 488, 0u);
-SET64(v6, 479, 0u);
+SET64(v6, 480, 0u);
 SET64(v6, 472, 0u);
 SET64(v6, 464, 0u);
 SET64(v6, 456, 0u);
@@ -28282,7 +23748,7 @@ SET64(v6, 447, 0u);
 SET64(v6, 440, 0u);
 SET64(v6, 432, 0u);
 SET64(v6, 424, 0u);
-SET64(v6, 416, 0u);
+SET64(v6, 415, 0u);
 SET64(v6, 408, 0u);
 SET64(v6, 400, 0u);
 SET64(v6, 392, 0u);
@@ -28290,19 +23756,19 @@ SET64(v6, 384, 0u);
 SET64(v6, 376, 0u);
 SET64(v6, 368, 0u);
 SET64(v6, 360, 0u);
-SET64(v6, 351, 0u);
+SET64(v6, 352, 0u);
 SET64(v6, 344, 0u);
 SET64(v6, 336, 0u);
 SET64(v6, 328, 0u);
-SET64(v6, 320, 0u);
+SET64(v6, 319, 0u);
 SET64(v6, 312, 0u);
 SET64(v6, 304, 0u);
 SET64(v6, 296, 0u);
-SET64(v6, 287, 0u);
+SET64(v6, 288, 0u);
 SET64(v6, 280, 0u);
 SET64(v6, 272, 0u);
 SET64(v6, 264, 0u);
-SET64(v6, 256, 0u);
+SET64(v6, 255, 0u);
 SET64(v6, 248, 0u);
 SET64(v6, 240, 0u);
 SET64(v6, 232, 0u);
@@ -28310,13 +23776,17 @@ SET64(v6, 224, 0u);
 SET64(v6, 216, 0u);
 SET64(v6, 208, 0u);
 SET64(v6, 200, 0u);
-SET64(v6, 191, 0u);
+SET64(v6, 192, 0u);
 SET64(v6, 184, 0u);
 SET64(v6, 176, 0u);
 SET64(v6, 168, 0u);
+SET64(v6, 159, 0u);
+SET64(v6, 152, 0u);
+SET64(v6, 144, 0u);
+SET64(v6, 136, 0u);
 v11 = (u64)v13 & 255u;
-v13 = (u32)v11;
-switch (v13 - 1u) {
+v14 = (u32)v11;
+switch (v14 - 1u) {
 case 0u: goto L43;
 case 1u: goto L42;
 case 2u: goto L41;
@@ -28335,484 +23805,475 @@ case 15u: goto L30;
 default: goto L44;
 }
 L44:;
-in_mm_service_instruction_fields_instructions_of_21ce33bb4e7b34ca(RUD_AS v6 + 728u, a1, a2);
-RUD_AGAIN
-if (AT8(v6, 728)) goto L5;
-SET64(v6, 600, AT64(v6, 752));
-SET64(v6, 592, AT64(v6, 744));
-SET64(v6, 584, AT64(v6, 736));
-goto L29;
-L43:;
 in_mm_service_instruction_fields_instructions_of_21ce33bb4e7b34ca(RUD_AS v6 + 696u, a1, a2);
 RUD_AGAIN
 if (AT8(v6, 696)) goto L5;
-SET64(v6, 600, AT64(v6, 720));
-SET64(v6, 592, AT64(v6, 712));
-SET64(v6, 584, AT64(v6, 704));
+SET64(v6, 568, AT64(v6, 720));
+SET64(v6, 560, AT64(v6, 712));
+SET64(v6, 552, AT64(v6, 704));
+goto L29;
+L43:;
+in_mm_service_instruction_fields_instructions_of_21ce33bb4e7b34ca(RUD_AS v6 + 664u, a1, a2);
+RUD_AGAIN
+if (AT8(v6, 664)) goto L5;
+SET64(v6, 568, AT64(v6, 688));
+SET64(v6, 560, AT64(v6, 680));
+SET64(v6, 552, AT64(v6, 672));
 goto L29;
 L42:;
-in_mm_service_instruction_fields_instructions_of_26e9ada56fdfd805(RUD_AS v6 + 552u, a1, a2);
-RUD_AGAIN
-if (AT8(v6, 552)) goto L5;
-SET64(v6, 600, AT64(v6, 576));
-SET64(v6, 592, AT64(v6, 568));
-SET64(v6, 584, AT64(v6, 560));
-goto L29;
-L41:;
 in_mm_service_instruction_fields_instructions_of_26e9ada56fdfd805(RUD_AS v6 + 520u, a1, a2);
 RUD_AGAIN
 if (AT8(v6, 520)) goto L5;
-SET64(v6, 600, AT64(v6, 544));
-SET64(v6, 592, AT64(v6, 536));
-SET64(v6, 584, AT64(v6, 528));
+SET64(v6, 568, AT64(v6, 544));
+SET64(v6, 560, AT64(v6, 536));
+SET64(v6, 552, AT64(v6, 528));
 goto L29;
-L40:;
-in_mm_service_instruction_fields_instructions_of_21ce33bb4e7b34ca(RUD_AS v6 + 488u, a1, a2);
+L41:;
+in_mm_service_instruction_fields_instructions_of_26e9ada56fdfd805(RUD_AS v6 + 488u, a1, a2);
 RUD_AGAIN
 if (AT8(v6, 488)) goto L5;
-SET64(v6, 600, AT64(v6, 512));
-SET64(v6, 592, AT64(v6, 504));
-SET64(v6, 584, AT64(v6, 496));
+SET64(v6, 568, AT64(v6, 512));
+SET64(v6, 560, AT64(v6, 504));
+SET64(v6, 552, AT64(v6, 496));
+goto L29;
+L40:;
+in_mm_service_instruction_fields_instructions_of_21ce33bb4e7b34ca(RUD_AS v6 + 456u, a1, a2);
+RUD_AGAIN
+if (AT8(v6, 456)) goto L5;
+SET64(v6, 568, AT64(v6, 480));
+SET64(v6, 560, AT64(v6, 472));
+SET64(v6, 552, AT64(v6, 464));
 goto L29;
 L39:;
-SET64(v6, 672, 0u);
-SET64(v6, 680, 0u);
-SET64(v6, 664, v6 + 760u);
+SET64(v6, 640, 0u);
+SET64(v6, 648, 0u);
+SET64(v6, 632, v6 + 728u);
 if (!(a2 == 0)) {
-i0 = in_std_alloc_vec_Vec_move_to_b6ba752709f1c5bb(RUD_AS v6 + 664u, a2);
+i1 = in_std_alloc_vec_Vec_move_to_b6ba752709f1c5bb(RUD_AS v6 + 632u, a2);
 RUD_AGAIN
-if (i0 == 0) {
-if (AT64(v6, 680) == 0) goto L5;
-rud_dealloc(RUD_AS AT64(v6, 664));
+if (i1 == 0) {
+if (AT64(v6, 648) == 0) goto L5;
+rud_dealloc(RUD_AS AT64(v6, 632));
 RUD_AGAIN
-v13 = 0u;
-goto L3;
+goto L5;
 }
-v7 = AT64(v6, 680);
-SET64(v6, 632, v7);
-a3 = AT64(v6, 672);
-SET64(v6, 624, a3);
-v8 = AT64(v6, 664);
-SET64(v6, 616, v8);
-SET64(v6, 640, v8);
-SET64(v6, 648, a3);
-SET64(v6, 656, v7);
+v7 = AT64(v6, 648);
+SET64(v6, 600, v7);
+a3 = AT64(v6, 640);
+SET64(v6, 592, a3);
+v8 = AT64(v6, 632);
+SET64(v6, 584, v8);
+SET64(v6, 608, v8);
+SET64(v6, 616, a3);
+SET64(v6, 624, v7);
 L48:;
-SET64(v6, 664, 0u);
+SET64(v6, 632, 0u);
 TEST(a1);
-SET64(v6, 688, AT64(a1, 0));
-in_mm_service_instruction_fields_padded(RUD_AS v6 + 664u, v6 + 688u);
+SET64(v6, 656, AT64(a1, 0));
+in_mm_service_instruction_fields_padded(RUD_AS v6 + 632u, v6 + 656u);
 v8 = AT64(a1, 16);
 v9 = AT64(a1, 8);
-v12 = AT64(v6, 664);
-if (a3 == AT64(v6, 656)) {
-i0 = in_std_alloc_vec_Vec_grow_amortized_b6ba752709f1c5bb(RUD_AS v6 + 640u);
+v12 = AT64(v6, 632);
+if (a3 == AT64(v6, 624)) {
+i1 = in_std_alloc_vec_Vec_grow_amortized_b6ba752709f1c5bb(RUD_AS v6 + 608u);
 RUD_AGAIN
-if (i0 == 0) goto L49;
-a3 = AT64(v6, 648);
+if (i1 == 0) goto L49;
+a3 = AT64(v6, 616);
 }
-v7 = AT64(v6, 640) + (a3 * 24u);
+v7 = AT64(v6, 608) + (a3 * 24u);
 TEST(v7);
 SET64(v7, 16, v8);
 SET64(v7, 8, v9);
 SET64(v7, 0, v12);
 a3 = a3 + 1u;
-SET64(v6, 648, a3);
+SET64(v6, 616, a3);
 a1 = a1 + 40u;
 a2 = a2 - 1u;
 if (!(a2 == 0)) goto L48;
 goto L45;
 L49:;
-if (AT64(v6, 656) == 0) goto L5;
-rud_dealloc(RUD_AS AT64(v6, 640));
+if (AT64(v6, 624) == 0) goto L5;
+rud_dealloc(RUD_AS AT64(v6, 608));
 RUD_AGAIN
 goto L5;
 }
-a1 = AT64(v6, 680);
-SET64(v6, 632, a1);
-a2 = AT64(v6, 672);
-SET64(v6, 624, a2);
-a3 = AT64(v6, 664);
-SET64(v6, 616, a3);
-SET64(v6, 640, a3);
-SET64(v6, 648, a2);
-SET64(v6, 656, a1);
-L45:;
-a1 = AT64(v6, 656);
-SET64(v6, 479, a1);
-a2 = AT64(v6, 648);
-SET64(v6, 471, a2);
-a3 = AT64(v6, 640);
-SET64(v6, 463, a3);
-SET64(v6, 584, a3);
-SET64(v6, 592, a2);
+a1 = AT64(v6, 648);
 SET64(v6, 600, a1);
+a2 = AT64(v6, 640);
+SET64(v6, 592, a2);
+a3 = AT64(v6, 632);
+SET64(v6, 584, a3);
+SET64(v6, 608, a3);
+SET64(v6, 616, a2);
+SET64(v6, 624, a1);
+L45:;
+a1 = AT64(v6, 624);
+SET64(v6, 447, a1);
+a2 = AT64(v6, 616);
+SET64(v6, 439, a2);
+a3 = AT64(v6, 608);
+SET64(v6, 431, a3);
+SET64(v6, 552, a3);
+SET64(v6, 560, a2);
+SET64(v6, 568, a1);
 goto L29;
 L38:;
-SET64(v6, 672, 0u);
-SET64(v6, 680, 0u);
-SET64(v6, 664, v6 + 760u);
+SET64(v6, 640, 0u);
+SET64(v6, 648, 0u);
+SET64(v6, 632, v6 + 728u);
 if (!(a2 == 0)) {
-i0 = in_std_alloc_vec_Vec_move_to_8f93ed18667da11d(RUD_AS v6 + 664u, a2);
+i1 = in_std_alloc_vec_Vec_move_to_8f93ed18667da11d(RUD_AS v6 + 632u, a2);
 RUD_AGAIN
-if (i0 == 0) {
-if (AT64(v6, 680) == 0) goto L5;
-rud_dealloc(RUD_AS AT64(v6, 664));
+if (i1 == 0) {
+if (AT64(v6, 648) == 0) goto L5;
+rud_dealloc(RUD_AS AT64(v6, 632));
 RUD_AGAIN
-v13 = 0u;
-goto L3;
+goto L5;
 }
-v7 = AT64(v6, 680);
-SET64(v6, 632, v7);
-a3 = AT64(v6, 672);
-SET64(v6, 624, a3);
-v8 = AT64(v6, 664);
-SET64(v6, 616, v8);
-SET64(v6, 640, v8);
-SET64(v6, 648, a3);
-SET64(v6, 656, v7);
+v7 = AT64(v6, 648);
+SET64(v6, 600, v7);
+a3 = AT64(v6, 640);
+SET64(v6, 592, a3);
+v8 = AT64(v6, 632);
+SET64(v6, 584, v8);
+SET64(v6, 608, v8);
+SET64(v6, 616, a3);
+SET64(v6, 624, v7);
 L54:;
-SET64(v6, 664, 0u);
+SET64(v6, 632, 0u);
 TEST(a1);
-SET64(v6, 688, AT64(a1, 0));
-in_mm_service_instruction_fields_padded(RUD_AS v6 + 664u, v6 + 688u);
+SET64(v6, 656, AT64(a1, 0));
+in_mm_service_instruction_fields_padded(RUD_AS v6 + 632u, v6 + 656u);
 v7 = AT64(a1, 16);
-v8 = AT64(v6, 664);
-if (a3 == AT64(v6, 656)) {
-i0 = in_std_alloc_vec_Vec_grow_amortized_8f93ed18667da11d(RUD_AS v6 + 640u);
+v8 = AT64(v6, 632);
+if (a3 == AT64(v6, 624)) {
+i1 = in_std_alloc_vec_Vec_grow_amortized_8f93ed18667da11d(RUD_AS v6 + 608u);
 RUD_AGAIN
-if (i0 == 0) goto L55;
-a3 = AT64(v6, 648);
+if (i1 == 0) goto L55;
+a3 = AT64(v6, 616);
 }
-v9 = AT64(v6, 640) + (a3 << 4);
+v9 = AT64(v6, 608) + (a3 << 4);
 TEST(v9);
 SET64(v9, 8, v7);
 SET64(v9, 0, v8);
 a3 = a3 + 1u;
-SET64(v6, 648, a3);
+SET64(v6, 616, a3);
 a1 = a1 + 40u;
 a2 = a2 - 1u;
 if (!(a2 == 0)) goto L54;
 goto L51;
 L55:;
-if (AT64(v6, 656) == 0) goto L5;
-rud_dealloc(RUD_AS AT64(v6, 640));
+if (AT64(v6, 624) == 0) goto L5;
+rud_dealloc(RUD_AS AT64(v6, 608));
 RUD_AGAIN
-v13 = 0u;
-goto L3;
+goto L5;
 }
-a1 = AT64(v6, 680);
-SET64(v6, 632, a1);
-a2 = AT64(v6, 672);
-SET64(v6, 624, a2);
-a3 = AT64(v6, 664);
-SET64(v6, 616, a3);
-SET64(v6, 640, a3);
-SET64(v6, 648, a2);
-SET64(v6, 656, a1);
-L51:;
-a1 = AT64(v6, 656);
-SET64(v6, 447, a1);
-a2 = AT64(v6, 648);
-SET64(v6, 439, a2);
-a3 = AT64(v6, 640);
-SET64(v6, 431, a3);
-SET64(v6, 584, a3);
-SET64(v6, 592, a2);
+a1 = AT64(v6, 648);
 SET64(v6, 600, a1);
+a2 = AT64(v6, 640);
+SET64(v6, 592, a2);
+a3 = AT64(v6, 632);
+SET64(v6, 584, a3);
+SET64(v6, 608, a3);
+SET64(v6, 616, a2);
+SET64(v6, 624, a1);
+L51:;
+a1 = AT64(v6, 624);
+SET64(v6, 415, a1);
+a2 = AT64(v6, 616);
+SET64(v6, 407, a2);
+a3 = AT64(v6, 608);
+SET64(v6, 399, a3);
+SET64(v6, 552, a3);
+SET64(v6, 560, a2);
+SET64(v6, 568, a1);
 goto L29;
 L37:;
-in_mm_service_instruction_fields_instructions_of_21ce33bb4e7b34ca(RUD_AS v6 + 392u, a1, a2);
-RUD_AGAIN
-if (AT8(v6, 392)) goto L5;
-SET64(v6, 600, AT64(v6, 416));
-SET64(v6, 592, AT64(v6, 408));
-SET64(v6, 584, AT64(v6, 400));
-goto L29;
-L36:;
 in_mm_service_instruction_fields_instructions_of_21ce33bb4e7b34ca(RUD_AS v6 + 360u, a1, a2);
 RUD_AGAIN
 if (AT8(v6, 360)) goto L5;
-SET64(v6, 600, AT64(v6, 384));
-SET64(v6, 592, AT64(v6, 376));
-SET64(v6, 584, AT64(v6, 368));
+SET64(v6, 568, AT64(v6, 384));
+SET64(v6, 560, AT64(v6, 376));
+SET64(v6, 552, AT64(v6, 368));
+goto L29;
+L36:;
+in_mm_service_instruction_fields_instructions_of_21ce33bb4e7b34ca(RUD_AS v6 + 328u, a1, a2);
+RUD_AGAIN
+if (AT8(v6, 328)) goto L5;
+SET64(v6, 568, AT64(v6, 352));
+SET64(v6, 560, AT64(v6, 344));
+SET64(v6, 552, AT64(v6, 336));
 goto L29;
 L35:;
-SET64(v6, 672, 0u);
-SET64(v6, 680, 0u);
-SET64(v6, 664, v6 + 760u);
+SET64(v6, 640, 0u);
+SET64(v6, 648, 0u);
+SET64(v6, 632, v6 + 728u);
 if (!(a2 == 0)) {
-i0 = in_std_alloc_vec_Vec_move_to_baf47378b5fee3d3(RUD_AS v6 + 664u, a2);
+i1 = in_std_alloc_vec_Vec_move_to_baf47378b5fee3d3(RUD_AS v6 + 632u, a2);
 RUD_AGAIN
-if (i0 == 0) {
-if (AT64(v6, 680) == 0) goto L5;
-rud_dealloc(RUD_AS AT64(v6, 664));
+if (i1 == 0) {
+if (AT64(v6, 648) == 0) goto L5;
+rud_dealloc(RUD_AS AT64(v6, 632));
 RUD_AGAIN
-v13 = 0u;
-goto L3;
+goto L5;
 }
-v7 = AT64(v6, 680);
-SET64(v6, 632, v7);
-a3 = AT64(v6, 672);
-SET64(v6, 624, a3);
-v8 = AT64(v6, 664);
-SET64(v6, 616, v8);
-SET64(v6, 640, v8);
-SET64(v6, 648, a3);
-SET64(v6, 656, v7);
+v7 = AT64(v6, 648);
+SET64(v6, 600, v7);
+a3 = AT64(v6, 640);
+SET64(v6, 592, a3);
+v8 = AT64(v6, 632);
+SET64(v6, 584, v8);
+SET64(v6, 608, v8);
+SET64(v6, 616, a3);
+SET64(v6, 624, v7);
 L60:;
-SET64(v6, 664, 0u);
+SET64(v6, 632, 0u);
 TEST(a1);
-SET64(v6, 688, AT64(a1, 0));
-in_mm_service_instruction_fields_padded(RUD_AS v6 + 664u, v6 + 688u);
-v14 = AT8(a1, 33);
+SET64(v6, 656, AT64(a1, 0));
+in_mm_service_instruction_fields_padded(RUD_AS v6 + 632u, v6 + 656u);
+v13 = AT8(a1, 33);
 v15 = AT8(a1, 32);
 v16 = AT32(a1, 24);
-v8 = AT64(v6, 664);
-if (a3 == AT64(v6, 656)) {
-i0 = in_std_alloc_vec_Vec_grow_amortized_baf47378b5fee3d3(RUD_AS v6 + 640u);
+v8 = AT64(v6, 632);
+if (a3 == AT64(v6, 624)) {
+i1 = in_std_alloc_vec_Vec_grow_amortized_baf47378b5fee3d3(RUD_AS v6 + 608u);
 RUD_AGAIN
-if (i0 == 0) goto L61;
-a3 = AT64(v6, 648);
+if (i1 == 0) goto L61;
+a3 = AT64(v6, 616);
 }
-v7 = AT64(v6, 640) + (a3 << 4);
+v7 = AT64(v6, 608) + (a3 << 4);
 TEST(v7);
 SET16(v7, 14, 0u);
-SET8(v7, 13, v14);
+SET8(v7, 13, v13);
 SET8(v7, 12, v15);
 SET32(v7, 8, v16);
 SET64(v7, 0, v8);
 a3 = a3 + 1u;
-SET64(v6, 648, a3);
+SET64(v6, 616, a3);
 a1 = a1 + 40u;
 a2 = a2 - 1u;
 if (!(a2 == 0)) goto L60;
 goto L57;
 L61:;
-if (AT64(v6, 656) == 0) goto L5;
-rud_dealloc(RUD_AS AT64(v6, 640));
+if (AT64(v6, 624) == 0) goto L5;
+rud_dealloc(RUD_AS AT64(v6, 608));
 RUD_AGAIN
-v13 = 0u;
-goto L3;
+goto L5;
 }
-a1 = AT64(v6, 680);
-SET64(v6, 632, a1);
-a2 = AT64(v6, 672);
-SET64(v6, 624, a2);
-a3 = AT64(v6, 664);
-SET64(v6, 616, a3);
-SET64(v6, 640, a3);
-SET64(v6, 648, a2);
-SET64(v6, 656, a1);
-L57:;
-a1 = AT64(v6, 656);
-SET64(v6, 351, a1);
-a2 = AT64(v6, 648);
-SET64(v6, 343, a2);
-a3 = AT64(v6, 640);
-SET64(v6, 335, a3);
-SET64(v6, 584, a3);
-SET64(v6, 592, a2);
+a1 = AT64(v6, 648);
 SET64(v6, 600, a1);
+a2 = AT64(v6, 640);
+SET64(v6, 592, a2);
+a3 = AT64(v6, 632);
+SET64(v6, 584, a3);
+SET64(v6, 608, a3);
+SET64(v6, 616, a2);
+SET64(v6, 624, a1);
+L57:;
+a1 = AT64(v6, 624);
+SET64(v6, 319, a1);
+a2 = AT64(v6, 616);
+SET64(v6, 311, a2);
+a3 = AT64(v6, 608);
+SET64(v6, 303, a3);
+SET64(v6, 552, a3);
+SET64(v6, 560, a2);
+SET64(v6, 568, a1);
 goto L29;
 L34:;
-in_mm_service_instruction_fields_instructions_of_21ce33bb4e7b34ca(RUD_AS v6 + 296u, a1, a2);
+in_mm_service_instruction_fields_instructions_of_21ce33bb4e7b34ca(RUD_AS v6 + 264u, a1, a2);
 RUD_AGAIN
-if (AT8(v6, 296)) goto L5;
-SET64(v6, 600, AT64(v6, 320));
-SET64(v6, 592, AT64(v6, 312));
-SET64(v6, 584, AT64(v6, 304));
+if (AT8(v6, 264)) goto L5;
+SET64(v6, 568, AT64(v6, 288));
+SET64(v6, 560, AT64(v6, 280));
+SET64(v6, 552, AT64(v6, 272));
 goto L29;
 L33:;
-SET64(v6, 672, 0u);
-SET64(v6, 680, 0u);
-SET64(v6, 664, v6 + 760u);
+SET64(v6, 640, 0u);
+SET64(v6, 648, 0u);
+SET64(v6, 632, v6 + 728u);
 if (!(a2 == 0)) {
-i0 = in_std_alloc_vec_Vec_move_to_2e6a255000427900(RUD_AS v6 + 664u, a2);
+i1 = in_std_alloc_vec_Vec_move_to_2e6a255000427900(RUD_AS v6 + 632u, a2);
 RUD_AGAIN
-if (i0 == 0) {
-if (AT64(v6, 680) == 0) goto L5;
-rud_dealloc(RUD_AS AT64(v6, 664));
+if (i1 == 0) {
+if (AT64(v6, 648) == 0) goto L5;
+rud_dealloc(RUD_AS AT64(v6, 632));
 RUD_AGAIN
-v13 = 0u;
-goto L3;
+goto L5;
 }
-v7 = AT64(v6, 680);
-SET64(v6, 632, v7);
-a3 = AT64(v6, 672);
-SET64(v6, 624, a3);
-v8 = AT64(v6, 664);
-SET64(v6, 616, v8);
-SET64(v6, 640, v8);
-SET64(v6, 648, a3);
-SET64(v6, 656, v7);
+v7 = AT64(v6, 648);
+SET64(v6, 600, v7);
+a3 = AT64(v6, 640);
+SET64(v6, 592, a3);
+v8 = AT64(v6, 632);
+SET64(v6, 584, v8);
+SET64(v6, 608, v8);
+SET64(v6, 616, a3);
+SET64(v6, 624, v7);
 L66:;
-SET64(v6, 664, 0u);
+SET64(v6, 632, 0u);
 TEST(a1);
-SET64(v6, 688, AT64(a1, 0));
-in_mm_service_instruction_fields_padded(RUD_AS v6 + 664u, v6 + 688u);
-v14 = AT32(a1, 24);
-v7 = AT64(v6, 664);
-if (a3 == AT64(v6, 656)) {
-i0 = in_std_alloc_vec_Vec_grow_amortized_2e6a255000427900(RUD_AS v6 + 640u);
+SET64(v6, 656, AT64(a1, 0));
+in_mm_service_instruction_fields_padded(RUD_AS v6 + 632u, v6 + 656u);
+v13 = AT32(a1, 24);
+v7 = AT64(v6, 632);
+if (a3 == AT64(v6, 624)) {
+i1 = in_std_alloc_vec_Vec_grow_amortized_2e6a255000427900(RUD_AS v6 + 608u);
 RUD_AGAIN
-if (i0 == 0) goto L67;
-a3 = AT64(v6, 648);
+if (i1 == 0) goto L67;
+a3 = AT64(v6, 616);
 }
-v8 = AT64(v6, 640) + (a3 * 12u);
+v8 = AT64(v6, 608) + (a3 * 12u);
 TEST(v8);
-SET32(v8, 8, v14);
+SET32(v8, 8, v13);
 SET64(v8, 0, v7);
 a3 = a3 + 1u;
-SET64(v6, 648, a3);
+SET64(v6, 616, a3);
 a1 = a1 + 40u;
 a2 = a2 - 1u;
 if (!(a2 == 0)) goto L66;
 goto L63;
 L67:;
-if (AT64(v6, 656) == 0) goto L5;
-rud_dealloc(RUD_AS AT64(v6, 640));
+if (AT64(v6, 624) == 0) goto L5;
+rud_dealloc(RUD_AS AT64(v6, 608));
 RUD_AGAIN
-v13 = 0u;
-goto L3;
+goto L5;
 }
-a1 = AT64(v6, 680);
-SET64(v6, 632, a1);
-a2 = AT64(v6, 672);
-SET64(v6, 624, a2);
-a3 = AT64(v6, 664);
-SET64(v6, 616, a3);
-SET64(v6, 640, a3);
-SET64(v6, 648, a2);
-SET64(v6, 656, a1);
-L63:;
-a1 = AT64(v6, 656);
-SET64(v6, 287, a1);
-a2 = AT64(v6, 648);
-SET64(v6, 279, a2);
-a3 = AT64(v6, 640);
-SET64(v6, 271, a3);
-SET64(v6, 584, a3);
-SET64(v6, 592, a2);
+a1 = AT64(v6, 648);
 SET64(v6, 600, a1);
+a2 = AT64(v6, 640);
+SET64(v6, 592, a2);
+a3 = AT64(v6, 632);
+SET64(v6, 584, a3);
+SET64(v6, 608, a3);
+SET64(v6, 616, a2);
+SET64(v6, 624, a1);
+L63:;
+a1 = AT64(v6, 624);
+SET64(v6, 255, a1);
+a2 = AT64(v6, 616);
+SET64(v6, 247, a2);
+a3 = AT64(v6, 608);
+SET64(v6, 239, a3);
+SET64(v6, 552, a3);
+SET64(v6, 560, a2);
+SET64(v6, 568, a1);
 goto L29;
 L32:;
-in_mm_service_instruction_fields_instructions_of_21ce33bb4e7b34ca(RUD_AS v6 + 232u, a1, a2);
-RUD_AGAIN
-if (AT8(v6, 232)) goto L5;
-SET64(v6, 600, AT64(v6, 256));
-SET64(v6, 592, AT64(v6, 248));
-SET64(v6, 584, AT64(v6, 240));
-goto L29;
-L31:;
 in_mm_service_instruction_fields_instructions_of_21ce33bb4e7b34ca(RUD_AS v6 + 200u, a1, a2);
 RUD_AGAIN
 if (AT8(v6, 200)) goto L5;
-SET64(v6, 600, AT64(v6, 224));
-SET64(v6, 592, AT64(v6, 216));
-SET64(v6, 584, AT64(v6, 208));
+SET64(v6, 568, AT64(v6, 224));
+SET64(v6, 560, AT64(v6, 216));
+SET64(v6, 552, AT64(v6, 208));
+goto L29;
+L31:;
+in_mm_service_instruction_fields_instructions_of_21ce33bb4e7b34ca(RUD_AS v6 + 168u, a1, a2);
+RUD_AGAIN
+if (AT8(v6, 168)) goto L5;
+SET64(v6, 568, AT64(v6, 192));
+SET64(v6, 560, AT64(v6, 184));
+SET64(v6, 552, AT64(v6, 176));
 goto L29;
 L30:;
-SET64(v6, 672, 0u);
-SET64(v6, 680, 0u);
-SET64(v6, 664, v6 + 760u);
+SET64(v6, 640, 0u);
+SET64(v6, 648, 0u);
+SET64(v6, 632, v6 + 728u);
 if (!(a2 == 0)) {
-i0 = in_std_alloc_vec_Vec_move_to_66712223a0a96b53(RUD_AS v6 + 664u, a2);
+i1 = in_std_alloc_vec_Vec_move_to_66712223a0a96b53(RUD_AS v6 + 632u, a2);
 RUD_AGAIN
-if (i0 == 0) {
-if (AT64(v6, 680) == 0) goto L5;
-rud_dealloc(RUD_AS AT64(v6, 664));
+if (i1 == 0) {
+if (AT64(v6, 648) == 0) goto L5;
+rud_dealloc(RUD_AS AT64(v6, 632));
 RUD_AGAIN
-v13 = 0u;
-goto L3;
+goto L5;
 }
-v7 = AT64(v6, 680);
-SET64(v6, 632, v7);
-a3 = AT64(v6, 672);
-SET64(v6, 624, a3);
-v8 = AT64(v6, 664);
-SET64(v6, 616, v8);
-SET64(v6, 640, v8);
-SET64(v6, 648, a3);
-SET64(v6, 656, v7);
+v7 = AT64(v6, 648);
+SET64(v6, 600, v7);
+a3 = AT64(v6, 640);
+SET64(v6, 592, a3);
+v8 = AT64(v6, 632);
+SET64(v6, 584, v8);
+SET64(v6, 608, v8);
+SET64(v6, 616, a3);
+SET64(v6, 624, v7);
 L72:;
-SET64(v6, 664, 0u);
+SET64(v6, 632, 0u);
 TEST(a1);
-SET64(v6, 688, AT64(a1, 0));
-in_mm_service_instruction_fields_padded(RUD_AS v6 + 664u, v6 + 688u);
-v14 = AT8(a1, 33);
-v7 = AT64(v6, 664);
-if (a3 == AT64(v6, 656)) {
-i0 = in_std_alloc_vec_Vec_grow_amortized_66712223a0a96b53(RUD_AS v6 + 640u);
+SET64(v6, 656, AT64(a1, 0));
+in_mm_service_instruction_fields_padded(RUD_AS v6 + 632u, v6 + 656u);
+v13 = AT8(a1, 33);
+v7 = AT64(v6, 632);
+if (a3 == AT64(v6, 624)) {
+i1 = in_std_alloc_vec_Vec_grow_amortized_66712223a0a96b53(RUD_AS v6 + 608u);
 RUD_AGAIN
-if (i0 == 0) goto L73;
-a3 = AT64(v6, 648);
+if (i1 == 0) goto L73;
+a3 = AT64(v6, 616);
 }
-v8 = AT64(v6, 640) + (a3 * 9u);
+v8 = AT64(v6, 608) + (a3 * 9u);
 TEST(v8);
-SET8(v8, 8, v14);
+SET8(v8, 8, v13);
 SET64(v8, 0, v7);
 a3 = a3 + 1u;
-SET64(v6, 648, a3);
+SET64(v6, 616, a3);
 a1 = a1 + 40u;
 a2 = a2 - 1u;
 if (!(a2 == 0)) goto L72;
 goto L69;
 L73:;
-if (AT64(v6, 656) == 0) goto L5;
-rud_dealloc(RUD_AS AT64(v6, 640));
+if (AT64(v6, 624) == 0) goto L5;
+rud_dealloc(RUD_AS AT64(v6, 608));
 RUD_AGAIN
-v13 = 0u;
-goto L3;
+goto L5;
 }
-a1 = AT64(v6, 680);
-SET64(v6, 632, a1);
-a2 = AT64(v6, 672);
-SET64(v6, 624, a2);
-a3 = AT64(v6, 664);
-SET64(v6, 616, a3);
-SET64(v6, 640, a3);
-SET64(v6, 648, a2);
-SET64(v6, 656, a1);
-L69:;
-a1 = AT64(v6, 656);
-SET64(v6, 191, a1);
-a2 = AT64(v6, 648);
-SET64(v6, 183, a2);
-a3 = AT64(v6, 640);
-SET64(v6, 175, a3);
-SET64(v6, 584, a3);
-SET64(v6, 592, a2);
+a1 = AT64(v6, 648);
 SET64(v6, 600, a1);
+a2 = AT64(v6, 640);
+SET64(v6, 592, a2);
+a3 = AT64(v6, 632);
+SET64(v6, 584, a3);
+SET64(v6, 608, a3);
+SET64(v6, 616, a2);
+SET64(v6, 624, a1);
+L69:;
+a1 = AT64(v6, 624);
+SET64(v6, 159, a1);
+a2 = AT64(v6, 616);
+SET64(v6, 151, a2);
+a3 = AT64(v6, 608);
+SET64(v6, 143, a3);
+SET64(v6, 552, a3);
+SET64(v6, 560, a2);
+SET64(v6, 568, a1);
 L29:;
-SET64(v6, 160, AT64(v6, 600));
-SET64(v6, 152, AT64(v6, 592));
-SET64(v6, 144, AT64(v6, 584));
-SET64(v6, 104, AT64(v6, 160));
-SET64(v6, 96, AT64(v6, 152));
-SET64(v6, 88, AT64(v6, 144));
-SET64(v6, 112, v11);
-SET64(v6, 136, AT64(v6, 104));
-SET64(v6, 128, AT64(v6, 96));
-SET64(v6, 120, AT64(v6, 88));
-a3 = (u64)AT8(a0, 6);
-v16 = AT16(a0, 4);
-v14 = AT16(a0, 2);
-v15 = AT16(a0, 0);
-SET64(v6, 696, 0u);
-SET64(v6, 704, 0u);
-SET64(v6, 712, 0u);
-SET64(v6, 720, 0u);
-SET64(v6, 488, 0u);
-SET64(v6, 496, 0u);
-SET64(v6, 504, 0u);
-SET64(v6, 552, 0u);
-SET64(v6, 560, 0u);
-SET64(v6, 568, 0u);
-SET64(v6, 575, 0u);
-a0 = v6 + 120u;
-j0 = v6;
-switch (v13 - 1u) {
+SET64(v6, 128, AT64(v6, 568));
+SET64(v6, 120, AT64(v6, 560));
+SET64(v6, 112, AT64(v6, 552));
+SET64(v6, 72, AT64(v6, 128));
+SET64(v6, 64, AT64(v6, 120));
+SET64(v6, 56, AT64(v6, 112));
+SET64(v6, 80, v11);
+SET64(v6, 104, AT64(v6, 72));
+SET64(v6, 96, AT64(v6, 64));
+SET64(v6, 88, AT64(v6, 56));
+v13 = AT16(a0, 2);
+v17 = AT8(a0, 6);
+v15 = AT16(a0, 4);
+v16 = AT16(a0, 0);
+SET64(v6, 664, 0u);
+SET64(v6, 672, 0u);
+SET64(v6, 680, 0u);
+SET64(v6, 688, 0u);
+SET64(v6, 456, 0u);
+SET64(v6, 464, 0u);
+SET64(v6, 472, 0u);
+SET64(v6, 520, 0u);
+SET64(v6, 528, 0u);
+SET64(v6, 536, 0u);
+SET64(v6, 543, 0u);
+a0 = v6 + 88u;
+j1 = v6;
+switch (v14 - 1u) {
 case 0u: goto L95;
 case 1u: goto L94;
 case 2u: goto L93;
@@ -28832,497 +24293,477 @@ case 15u: goto L82;
 default: goto L78;
 }
 L95:;
-SET64(v6, 752, 0u);
-SET64(v6, 744, 0u);
-SET64(v6, 736, 0u);
-SET64(v6, 728, 0u);
-in_mm_st15_counted_counted_octets_65c131a536ad0a17(RUD_AS v6 + 728u, a0);
+SET64(v6, 720, 0u);
+SET64(v6, 712, 0u);
+SET64(v6, 704, 0u);
+SET64(v6, 696, 0u);
+in_mm_st15_counted_counted_octets_65c131a536ad0a17(RUD_AS v6 + 696u, a0);
 RUD_AGAIN
-j1 = 562949953421312ull;
+i2 = 2u;
 goto L77;
 L94:;
-SET64(v6, 752, 0u);
-SET64(v6, 744, 0u);
-SET64(v6, 736, 0u);
-SET64(v6, 728, 0u);
-in_mm_st15_counted_counted_octets_00f67b8a91c49b95(RUD_AS v6 + 728u, a0);
+SET64(v6, 720, 0u);
+SET64(v6, 712, 0u);
+SET64(v6, 704, 0u);
+SET64(v6, 696, 0u);
+in_mm_st15_counted_counted_octets_00f67b8a91c49b95(RUD_AS v6 + 696u, a0);
 RUD_AGAIN
-j1 = 844424930131968ull;
+i2 = 3u;
 goto L77;
 L93:;
-SET64(v6, 752, 0u);
-SET64(v6, 744, 0u);
-SET64(v6, 736, 0u);
-SET64(v6, 728, 0u);
-in_mm_st15_counted_counted_octets_00f67b8a91c49b95(RUD_AS v6 + 728u, a0);
+SET64(v6, 720, 0u);
+SET64(v6, 712, 0u);
+SET64(v6, 704, 0u);
+SET64(v6, 696, 0u);
+in_mm_st15_counted_counted_octets_00f67b8a91c49b95(RUD_AS v6 + 696u, a0);
 RUD_AGAIN
-j1 = 1125899906842624ull;
+i2 = 4u;
 goto L77;
 L92:;
-SET64(v6, 752, 0u);
-SET64(v6, 744, 0u);
-SET64(v6, 736, 0u);
-SET64(v6, 728, 0u);
-in_mm_st15_counted_counted_octets_65c131a536ad0a17(RUD_AS v6 + 728u, a0);
+SET64(v6, 720, 0u);
+SET64(v6, 712, 0u);
+SET64(v6, 704, 0u);
+SET64(v6, 696, 0u);
+in_mm_st15_counted_counted_octets_65c131a536ad0a17(RUD_AS v6 + 696u, a0);
 RUD_AGAIN
-j1 = 1407374883553280ull;
+i2 = 5u;
 goto L77;
 L91:;
-SET64(v6, 752, 0u);
-SET64(v6, 744, 0u);
-SET64(v6, 736, 0u);
-SET64(v6, 728, 0u);
-SET64(v6, 528, 0u);
-SET64(v6, 536, 0u);
-SET64(v6, 520, v6 + 760u);
-i1 = in_std_alloc_vec_Vec_push_36cfbfb62fbfaf15(RUD_AS v6 + 520u, AT8(v6, 128));
+SET64(v6, 720, 0u);
+SET64(v6, 712, 0u);
+SET64(v6, 704, 0u);
+SET64(v6, 696, 0u);
+SET64(v6, 496, 0u);
+SET64(v6, 504, 0u);
+SET64(v6, 488, v6 + 728u);
+i2 = in_std_alloc_vec_Vec_push_36cfbfb62fbfaf15(RUD_AS v6 + 488u, AT8(v6, 96));
 RUD_AGAIN
-if ((i1 & 255u) == 0) {
-a1 = AT64(v6, 128);
-if (a1 == 0) goto L96;
-a0 = AT64(v6, 120);
-L98:;
-SET64(v6, 392, 0u);
-i1 = in_std_alloc_vec_Vec_extend_from_slice_34a1715acbac7a48(RUD_AS v6 + 520u, a0, 8u);
-RUD_AGAIN
-if (i1 & 255u) goto L99;
-TEST(a0);
-in_core_int_u64_to_be_bytes(RUD_AS v6 + 392u, AT64(a0, 8));
-SET64(v6, 360, AT64(v6, 392));
-i1 = in_std_alloc_vec_Vec_extend_from_slice_34a1715acbac7a48(RUD_AS v6 + 520u, v6 + 360u, 8u);
-RUD_AGAIN
-if (i1 & 255u) goto L99;
-in_core_int_u64_to_be_bytes(RUD_AS v6 + 392u, AT64(a0, 16));
-SET64(v6, 296, AT64(v6, 392));
-i1 = in_std_alloc_vec_Vec_extend_from_slice_34a1715acbac7a48(RUD_AS v6 + 520u, v6 + 296u, 8u);
-RUD_AGAIN
-if (i1 & 255u) goto L99;
-a0 = a0 + 24u;
-a1 = a1 - 1u;
-if (!(a1 == 0)) goto L98;
-goto L96;
+if ((i2 & 255u) == 0) {
+a2 = AT64(v6, 96);
+if (a2 == 0) goto L97;
+a0 = AT64(v6, 88);
 L99:;
-if (!(AT64(v6, 536) == 0)) {
-rud_dealloc(RUD_AS AT64(v6, 520));
+SET64(v6, 360, 0u);
+i2 = in_std_alloc_vec_Vec_extend_from_slice_34a1715acbac7a48(RUD_AS v6 + 488u, a0, 8u);
+RUD_AGAIN
+if (i2 & 255u) goto L100;
+TEST(a0);
+in_core_int_u64_to_be_bytes(RUD_AS v6 + 360u, AT64(a0, 8));
+SET64(v6, 328, AT64(v6, 360));
+i2 = in_std_alloc_vec_Vec_extend_from_slice_34a1715acbac7a48(RUD_AS v6 + 488u, v6 + 328u, 8u);
+RUD_AGAIN
+if (i2 & 255u) goto L100;
+in_core_int_u64_to_be_bytes(RUD_AS v6 + 360u, AT64(a0, 16));
+SET64(v6, 264, AT64(v6, 360));
+i2 = in_std_alloc_vec_Vec_extend_from_slice_34a1715acbac7a48(RUD_AS v6 + 488u, v6 + 264u, 8u);
+RUD_AGAIN
+if (i2 & 255u) goto L100;
+a0 = a0 + 24u;
+a2 = a2 - 1u;
+if (!(a2 == 0)) goto L99;
+goto L97;
+L100:;
+if (!(AT64(v6, 504) == 0)) {
+rud_dealloc(RUD_AS AT64(v6, 488));
 RUD_AGAIN
 }
-SET64(v6, 736, 0u);
-SET8(v6, 728, 1u);
-SET64(v6, 744, 0u);
-SET64(v6, 752, 0u);
-j1 = 2533274790395904ull;
-goto L77;
+SET64(v6, 704, 0u);
+SET8(v6, 696, 1u);
+SET64(v6, 712, 0u);
+SET64(v6, 720, 0u);
+goto L96;
 }
-if (!(AT64(v6, 536) == 0)) {
-rud_dealloc(RUD_AS AT64(v6, 520));
+if (!(AT64(v6, 504) == 0)) {
+rud_dealloc(RUD_AS AT64(v6, 488));
 RUD_AGAIN
 }
-SET64(v6, 736, 0u);
-SET8(v6, 728, 1u);
-SET64(v6, 744, 0u);
-SET64(v6, 752, 0u);
-j1 = 2533274790395904ull;
-goto L77;
+SET64(v6, 704, 0u);
+SET8(v6, 696, 1u);
+SET64(v6, 712, 0u);
+SET64(v6, 720, 0u);
+goto L96;
+L97:;
+SET8(v6, 696, 0u);
+SET64(v6, 704, AT64(v6, 488));
+SET64(v6, 712, AT64(v6, 496));
+SET64(v6, 720, AT64(v6, 504));
 L96:;
-SET8(v6, 728, 0u);
-SET64(v6, 736, AT64(v6, 520));
-SET64(v6, 744, AT64(v6, 528));
-SET64(v6, 752, AT64(v6, 536));
-j1 = 2533274790395904ull;
+i2 = 9u;
 goto L77;
 L90:;
-SET64(v6, 752, 0u);
-SET64(v6, 744, 0u);
-SET64(v6, 736, 0u);
-SET64(v6, 728, 0u);
-SET64(v6, 528, 0u);
-SET64(v6, 536, 0u);
-SET64(v6, 520, v6 + 760u);
-i1 = in_std_alloc_vec_Vec_push_36cfbfb62fbfaf15(RUD_AS v6 + 520u, AT8(v6, 128));
+SET64(v6, 720, 0u);
+SET64(v6, 712, 0u);
+SET64(v6, 704, 0u);
+SET64(v6, 696, 0u);
+SET64(v6, 496, 0u);
+SET64(v6, 504, 0u);
+SET64(v6, 488, v6 + 728u);
+i2 = in_std_alloc_vec_Vec_push_36cfbfb62fbfaf15(RUD_AS v6 + 488u, AT8(v6, 96));
 RUD_AGAIN
-if ((i1 & 255u) == 0) {
-a1 = AT64(v6, 128);
-if (a1 == 0) goto L102;
-a0 = AT64(v6, 120);
-L104:;
-SET64(v6, 392, 0u);
-i1 = in_std_alloc_vec_Vec_extend_from_slice_34a1715acbac7a48(RUD_AS v6 + 520u, a0, 8u);
+if ((i2 & 255u) == 0) {
+a2 = AT64(v6, 96);
+if (a2 == 0) goto L104;
+a0 = AT64(v6, 88);
+L106:;
+SET64(v6, 360, 0u);
+i2 = in_std_alloc_vec_Vec_extend_from_slice_34a1715acbac7a48(RUD_AS v6 + 488u, a0, 8u);
 RUD_AGAIN
-if (i1 & 255u) goto L105;
+if (i2 & 255u) goto L107;
 TEST(a0);
-in_core_int_u64_to_be_bytes(RUD_AS v6 + 392u, AT64(a0, 8));
-SET64(v6, 360, AT64(v6, 392));
-i1 = in_std_alloc_vec_Vec_extend_from_slice_34a1715acbac7a48(RUD_AS v6 + 520u, v6 + 360u, 8u);
+in_core_int_u64_to_be_bytes(RUD_AS v6 + 360u, AT64(a0, 8));
+SET64(v6, 328, AT64(v6, 360));
+i2 = in_std_alloc_vec_Vec_extend_from_slice_34a1715acbac7a48(RUD_AS v6 + 488u, v6 + 328u, 8u);
 RUD_AGAIN
-if (i1 & 255u) goto L105;
+if (i2 & 255u) goto L107;
 a0 = a0 + 16u;
-a1 = a1 - 1u;
-if (!(a1 == 0)) goto L104;
-goto L102;
-L105:;
-if (!(AT64(v6, 536) == 0)) {
-rud_dealloc(RUD_AS AT64(v6, 520));
+a2 = a2 - 1u;
+if (!(a2 == 0)) goto L106;
+goto L104;
+L107:;
+if (!(AT64(v6, 504) == 0)) {
+rud_dealloc(RUD_AS AT64(v6, 488));
 RUD_AGAIN
 }
-SET64(v6, 736, 0u);
-SET8(v6, 728, 1u);
-SET64(v6, 744, 0u);
-SET64(v6, 752, 0u);
-j1 = 3096224743817216ull;
-goto L77;
+SET64(v6, 704, 0u);
+SET8(v6, 696, 1u);
+SET64(v6, 712, 0u);
+SET64(v6, 720, 0u);
+goto L103;
 }
-if (!(AT64(v6, 536) == 0)) {
-rud_dealloc(RUD_AS AT64(v6, 520));
+if (!(AT64(v6, 504) == 0)) {
+rud_dealloc(RUD_AS AT64(v6, 488));
 RUD_AGAIN
 }
-SET64(v6, 736, 0u);
-SET8(v6, 728, 1u);
-SET64(v6, 744, 0u);
-SET64(v6, 752, 0u);
-j1 = 3096224743817216ull;
-goto L77;
-L102:;
-SET8(v6, 728, 0u);
-SET64(v6, 736, AT64(v6, 520));
-SET64(v6, 744, AT64(v6, 528));
-SET64(v6, 752, AT64(v6, 536));
-j1 = 3096224743817216ull;
+SET64(v6, 704, 0u);
+SET8(v6, 696, 1u);
+SET64(v6, 712, 0u);
+SET64(v6, 720, 0u);
+goto L103;
+L104:;
+SET8(v6, 696, 0u);
+SET64(v6, 704, AT64(v6, 488));
+SET64(v6, 712, AT64(v6, 496));
+SET64(v6, 720, AT64(v6, 504));
+L103:;
+i2 = 11u;
 goto L77;
 L89:;
-SET64(v6, 752, 0u);
-SET64(v6, 744, 0u);
-SET64(v6, 736, 0u);
-SET64(v6, 728, 0u);
-in_mm_st15_counted_counted_octets_65c131a536ad0a17(RUD_AS v6 + 728u, a0);
+SET64(v6, 720, 0u);
+SET64(v6, 712, 0u);
+SET64(v6, 704, 0u);
+SET64(v6, 696, 0u);
+in_mm_st15_counted_counted_octets_65c131a536ad0a17(RUD_AS v6 + 696u, a0);
 RUD_AGAIN
-j1 = 3377699720527872ull;
+i2 = 12u;
 goto L77;
 L88:;
-SET64(v6, 752, 0u);
-SET64(v6, 744, 0u);
-SET64(v6, 736, 0u);
-SET64(v6, 728, 0u);
-in_mm_st15_counted_counted_octets_65c131a536ad0a17(RUD_AS v6 + 728u, a0);
+SET64(v6, 720, 0u);
+SET64(v6, 712, 0u);
+SET64(v6, 704, 0u);
+SET64(v6, 696, 0u);
+in_mm_st15_counted_counted_octets_65c131a536ad0a17(RUD_AS v6 + 696u, a0);
 RUD_AGAIN
-j1 = 4785074604081152ull;
+i2 = 17u;
 goto L77;
 L87:;
-SET64(v6, 752, 0u);
-SET64(v6, 744, 0u);
-SET64(v6, 736, 0u);
-SET64(v6, 728, 0u);
-in_mm_st15_counted_counted_octets_93728722e2cdf027(RUD_AS v6 + 728u, a0);
+SET64(v6, 720, 0u);
+SET64(v6, 712, 0u);
+SET64(v6, 704, 0u);
+SET64(v6, 696, 0u);
+in_mm_st15_counted_counted_octets_93728722e2cdf027(RUD_AS v6 + 696u, a0);
 RUD_AGAIN
-j1 = 5629499534213120ull;
+i2 = 20u;
 goto L77;
 L86:;
-SET64(v6, 752, 0u);
-SET64(v6, 744, 0u);
-SET64(v6, 736, 0u);
-SET64(v6, 728, 0u);
-in_mm_st15_counted_counted_octets_65c131a536ad0a17(RUD_AS v6 + 728u, a0);
+SET64(v6, 720, 0u);
+SET64(v6, 712, 0u);
+SET64(v6, 704, 0u);
+SET64(v6, 696, 0u);
+in_mm_st15_counted_counted_octets_65c131a536ad0a17(RUD_AS v6 + 696u, a0);
 RUD_AGAIN
-j1 = 5910974510923776ull;
+i2 = 21u;
 goto L77;
 L85:;
-SET64(v6, 752, 0u);
-SET64(v6, 744, 0u);
-SET64(v6, 736, 0u);
-SET64(v6, 728, 0u);
-SET64(v6, 528, 0u);
-SET64(v6, 536, 0u);
-SET64(v6, 520, v6 + 760u);
-i1 = in_std_alloc_vec_Vec_push_36cfbfb62fbfaf15(RUD_AS v6 + 520u, AT8(v6, 128));
+SET64(v6, 720, 0u);
+SET64(v6, 712, 0u);
+SET64(v6, 704, 0u);
+SET64(v6, 696, 0u);
+SET64(v6, 496, 0u);
+SET64(v6, 504, 0u);
+SET64(v6, 488, v6 + 728u);
+i2 = in_std_alloc_vec_Vec_push_36cfbfb62fbfaf15(RUD_AS v6 + 488u, AT8(v6, 96));
 RUD_AGAIN
-if ((i1 & 255u) == 0) {
-a1 = AT64(v6, 128);
-if (a1 == 0) goto L108;
-a0 = AT64(v6, 120);
-L110:;
-i1 = in_std_alloc_vec_Vec_extend_from_slice_34a1715acbac7a48(RUD_AS v6 + 520u, a0, 8u);
+if ((i2 & 255u) == 0) {
+a2 = AT64(v6, 96);
+if (a2 == 0) goto L111;
+a0 = AT64(v6, 88);
+L113:;
+i2 = in_std_alloc_vec_Vec_extend_from_slice_34a1715acbac7a48(RUD_AS v6 + 488u, a0, 8u);
 RUD_AGAIN
-if (i1 & 255u) goto L111;
+if (i2 & 255u) goto L114;
 TEST(a0);
-v13 = AT32(a0, 8);
-SET32(v6, 392, rud_rotr32((v13 & 16711935u), 8u) | (rud_rotr32(v13, 24u) & 16711935u));
-i1 = in_std_alloc_vec_Vec_extend_from_slice_34a1715acbac7a48(RUD_AS v6 + 520u, v6 + 392u, 4u);
+v14 = AT32(a0, 8);
+SET32(v6, 360, rud_rotr32((v14 & 16711935u), 8u) | (rud_rotr32(v14, 24u) & 16711935u));
+i2 = in_std_alloc_vec_Vec_extend_from_slice_34a1715acbac7a48(RUD_AS v6 + 488u, v6 + 360u, 4u);
 RUD_AGAIN
-if (i1 & 255u) goto L111;
+if (i2 & 255u) goto L114;
 a0 = a0 + 12u;
-a1 = a1 - 1u;
-if (!(a1 == 0)) goto L110;
-goto L108;
+a2 = a2 - 1u;
+if (!(a2 == 0)) goto L113;
+goto L111;
+L114:;
+if (!(AT64(v6, 504) == 0)) {
+rud_dealloc(RUD_AS AT64(v6, 488));
+RUD_AGAIN
+}
+SET64(v6, 704, 0u);
+SET8(v6, 696, 1u);
+SET64(v6, 712, 0u);
+SET64(v6, 720, 0u);
+goto L110;
+}
+if (!(AT64(v6, 504) == 0)) {
+rud_dealloc(RUD_AS AT64(v6, 488));
+RUD_AGAIN
+}
+SET64(v6, 704, 0u);
+SET8(v6, 696, 1u);
+SET64(v6, 712, 0u);
+SET64(v6, 720, 0u);
+goto L110;
 L111:;
-if (!(AT64(v6, 536) == 0)) {
-rud_dealloc(RUD_AS AT64(v6, 520));
-RUD_AGAIN
-}
-SET64(v6, 736, 0u);
-SET8(v6, 728, 1u);
-SET64(v6, 744, 0u);
-SET64(v6, 752, 0u);
-j1 = 7036874417766400ull;
-goto L77;
-}
-if (!(AT64(v6, 536) == 0)) {
-rud_dealloc(RUD_AS AT64(v6, 520));
-RUD_AGAIN
-}
-SET64(v6, 736, 0u);
-SET8(v6, 728, 1u);
-SET64(v6, 744, 0u);
-SET64(v6, 752, 0u);
-j1 = 7036874417766400ull;
-goto L77;
-L108:;
-SET8(v6, 728, 0u);
-SET64(v6, 736, AT64(v6, 520));
-SET64(v6, 744, AT64(v6, 528));
-SET64(v6, 752, AT64(v6, 536));
-j1 = 7036874417766400ull;
+SET8(v6, 696, 0u);
+SET64(v6, 704, AT64(v6, 488));
+SET64(v6, 712, AT64(v6, 496));
+SET64(v6, 720, AT64(v6, 504));
+L110:;
+i2 = 25u;
 goto L77;
 L84:;
-SET64(v6, 752, 0u);
-SET64(v6, 744, 0u);
-SET64(v6, 736, 0u);
-SET64(v6, 728, 0u);
-in_mm_st15_counted_counted_octets_65c131a536ad0a17(RUD_AS v6 + 728u, a0);
+SET64(v6, 720, 0u);
+SET64(v6, 712, 0u);
+SET64(v6, 704, 0u);
+SET64(v6, 696, 0u);
+in_mm_st15_counted_counted_octets_65c131a536ad0a17(RUD_AS v6 + 696u, a0);
 RUD_AGAIN
-j1 = 7318349394477056ull;
+i2 = 26u;
 goto L77;
 L83:;
-SET64(v6, 752, 0u);
-SET64(v6, 744, 0u);
-SET64(v6, 736, 0u);
-SET64(v6, 728, 0u);
-in_mm_st15_counted_counted_octets_65c131a536ad0a17(RUD_AS v6 + 728u, a0);
+SET64(v6, 720, 0u);
+SET64(v6, 712, 0u);
+SET64(v6, 704, 0u);
+SET64(v6, 696, 0u);
+in_mm_st15_counted_counted_octets_65c131a536ad0a17(RUD_AS v6 + 696u, a0);
 RUD_AGAIN
-j1 = 7599824371187712ull;
+i2 = 27u;
 goto L77;
 L82:;
-SET64(v6, 752, 0u);
-SET64(v6, 744, 0u);
-SET64(v6, 736, 0u);
-SET64(v6, 728, 0u);
-SET64(v6, 528, 0u);
-SET64(v6, 536, 0u);
-SET64(v6, 520, v6 + 760u);
-i1 = in_std_alloc_vec_Vec_push_36cfbfb62fbfaf15(RUD_AS v6 + 520u, AT8(v6, 128));
+SET64(v6, 720, 0u);
+SET64(v6, 712, 0u);
+SET64(v6, 704, 0u);
+SET64(v6, 696, 0u);
+SET64(v6, 496, 0u);
+SET64(v6, 504, 0u);
+SET64(v6, 488, v6 + 728u);
+i2 = in_std_alloc_vec_Vec_push_36cfbfb62fbfaf15(RUD_AS v6 + 488u, AT8(v6, 96));
 RUD_AGAIN
-if ((i1 & 255u) == 0) {
-a1 = AT64(v6, 128);
-if (a1 == 0) goto L114;
-a0 = AT64(v6, 120);
-L116:;
-i1 = in_std_alloc_vec_Vec_extend_from_slice_34a1715acbac7a48(RUD_AS v6 + 520u, a0, 8u);
+if ((i2 & 255u) == 0) {
+a2 = AT64(v6, 96);
+if (a2 == 0) goto L118;
+a0 = AT64(v6, 88);
+L120:;
+i2 = in_std_alloc_vec_Vec_extend_from_slice_34a1715acbac7a48(RUD_AS v6 + 488u, a0, 8u);
 RUD_AGAIN
-if (i1 & 255u) goto L117;
+if (i2 & 255u) goto L121;
 TEST(a0);
-SET8(v6, 392, AT8(a0, 8));
-i1 = in_std_alloc_vec_Vec_extend_from_slice_34a1715acbac7a48(RUD_AS v6 + 520u, v6 + 392u, 1u);
+SET8(v6, 360, AT8(a0, 8));
+i2 = in_std_alloc_vec_Vec_extend_from_slice_34a1715acbac7a48(RUD_AS v6 + 488u, v6 + 360u, 1u);
 RUD_AGAIN
-if (i1 & 255u) goto L117;
+if (i2 & 255u) goto L121;
 a0 = a0 + 9u;
-a1 = a1 - 1u;
-if (!(a1 == 0)) goto L116;
-goto L114;
+a2 = a2 - 1u;
+if (!(a2 == 0)) goto L120;
+goto L118;
+L121:;
+if (!(AT64(v6, 504) == 0)) {
+rud_dealloc(RUD_AS AT64(v6, 488));
+RUD_AGAIN
+}
+SET64(v6, 704, 0u);
+SET8(v6, 696, 1u);
+SET64(v6, 712, 0u);
+SET64(v6, 720, 0u);
+goto L117;
+}
+if (!(AT64(v6, 504) == 0)) {
+rud_dealloc(RUD_AS AT64(v6, 488));
+RUD_AGAIN
+}
+SET64(v6, 704, 0u);
+SET8(v6, 696, 1u);
+SET64(v6, 712, 0u);
+SET64(v6, 720, 0u);
+goto L117;
+L118:;
+SET8(v6, 696, 0u);
+SET64(v6, 704, AT64(v6, 488));
+SET64(v6, 712, AT64(v6, 496));
+SET64(v6, 720, AT64(v6, 504));
 L117:;
-if (!(AT64(v6, 536) == 0)) {
-rud_dealloc(RUD_AS AT64(v6, 520));
-RUD_AGAIN
-}
-SET64(v6, 736, 0u);
-SET8(v6, 728, 1u);
-SET64(v6, 744, 0u);
-SET64(v6, 752, 0u);
-j1 = 7881299347898368ull;
-goto L77;
-}
-if (!(AT64(v6, 536) == 0)) {
-rud_dealloc(RUD_AS AT64(v6, 520));
-RUD_AGAIN
-}
-SET64(v6, 736, 0u);
-SET8(v6, 728, 1u);
-SET64(v6, 744, 0u);
-SET64(v6, 752, 0u);
-j1 = 7881299347898368ull;
-goto L77;
-L114:;
-SET8(v6, 728, 0u);
-SET64(v6, 736, AT64(v6, 520));
-SET64(v6, 744, AT64(v6, 528));
-SET64(v6, 752, AT64(v6, 536));
-j1 = 7881299347898368ull;
+i2 = 28u;
 goto L77;
 L81:;
-SET64(v6, 744, 0u);
-SET64(v6, 752, 0u);
-SET64(v6, 736, v6 + 760u);
-j1 = 5066549580791808ull;
+SET64(v6, 712, 0u);
+SET64(v6, 720, 0u);
+SET64(v6, 704, v6 + 728u);
+i2 = 18u;
 goto L79;
 L80:;
-SET64(v6, 744, 0u);
-SET64(v6, 752, 0u);
-SET64(v6, 736, v6 + 760u);
-j1 = 6192449487634432ull;
+SET64(v6, 712, 0u);
+SET64(v6, 720, 0u);
+SET64(v6, 704, v6 + 728u);
+i2 = 22u;
 L79:;
-a1 = j1;
-SET64(v6, 575, AT64(v6, 752));
-SET64(v6, 567, AT64(v6, 744));
-SET64(v6, 559, AT64(v6, 736));
-j1 = (v6 + 552u) | 7u;
+v14 = i2;
+SET64(v6, 543, AT64(v6, 720));
+SET64(v6, 535, AT64(v6, 712));
+SET64(v6, 527, AT64(v6, 704));
+j2 = (v6 + 520u) | 7u;
 goto L76;
 L78:;
-SET64(v6, 752, 0u);
-SET64(v6, 744, 0u);
-SET64(v6, 736, 0u);
-SET64(v6, 728, 0u);
-in_mm_st15_counted_counted_octets_65c131a536ad0a17(RUD_AS v6 + 728u, a0);
+SET64(v6, 720, 0u);
+SET64(v6, 712, 0u);
+SET64(v6, 704, 0u);
+SET64(v6, 696, 0u);
+in_mm_st15_counted_counted_octets_65c131a536ad0a17(RUD_AS v6 + 696u, a0);
 RUD_AGAIN
-j1 = 281474976710656ull;
+i2 = 1u;
 L77:;
-a1 = j1;
-SET64(v6, 559, AT64(v6, 736));
-SET64(v6, 567, AT64(v6, 744));
-SET64(v6, 575, AT64(v6, 752));
-if (AT8(v6, 728)) goto L75;
-j1 = (v6 + 552u) | 7u;
+v14 = i2;
+SET64(v6, 527, AT64(v6, 704));
+SET64(v6, 535, AT64(v6, 712));
+SET64(v6, 543, AT64(v6, 720));
+if (AT8(v6, 696)) goto L75;
+j2 = (v6 + 520u) | 7u;
 L76:;
-a0 = j1;
+a0 = j2;
 TEST(a0);
-TEST(j0);
-SET64(j0, 504, AT64(a0, 16));
-SET64(v6, 496, AT64(a0, 8));
-SET64(v6, 488, AT64(a0, 0));
-in_mm_packet_octets_Octets_new(RUD_AS v6 + 696u, v6 + 488u);
+TEST(j1);
+SET64(j1, 472, AT64(a0, 16));
+SET64(v6, 464, AT64(a0, 8));
+SET64(v6, 456, AT64(a0, 0));
+in_mm_packet_octets_Octets_new(RUD_AS v6 + 664u, v6 + 456u);
 RUD_AGAIN
-a2 = AT64(v6, 704);
-if (AT8(v6, 696) == 0) goto L23;
-if (AT64(v6, 720) == 0) goto L75;
-rud_dealloc(RUD_AS a2);
+a0 = AT64(v6, 672);
+if (AT8(v6, 664) == 0) goto L23;
+if (AT64(v6, 688) == 0) goto L75;
+rud_dealloc(RUD_AS a0);
 RUD_AGAIN
 L75:;
-switch ((u32)(u64)AT8(v6, 112) - 1u) {
-case 0u: goto L133;
-case 1u: goto L132;
-case 2u: goto L131;
-case 3u: goto L130;
-case 4u: goto L129;
-case 5u: goto L128;
-case 6u: goto L127;
-case 7u: goto L126;
+switch ((u32)(u64)AT8(v6, 80) - 1u) {
+case 0u: goto L137;
+case 1u: goto L136;
+case 2u: goto L135;
+case 3u: goto L134;
+case 4u: goto L133;
+case 5u: goto L132;
+case 6u: goto L131;
+case 7u: goto L130;
 case 8u: case 11u: goto L5;
-case 9u: goto L125;
-case 10u: goto L124;
-case 12u: goto L123;
-case 13u: goto L122;
-case 14u: goto L121;
-case 15u: goto L120;
-default: goto L134;
+case 9u: goto L129;
+case 10u: goto L128;
+case 12u: goto L127;
+case 13u: goto L126;
+case 14u: goto L125;
+case 15u: goto L124;
+default: goto L138;
 }
+L138:;
+if (AT64(v6, 104) == 0) goto L5;
+rud_dealloc(RUD_AS AT64(v6, 88));
+RUD_AGAIN
+goto L5;
+L137:;
+if (AT64(v6, 104) == 0) goto L5;
+rud_dealloc(RUD_AS AT64(v6, 88));
+RUD_AGAIN
+goto L5;
+L136:;
+if (AT64(v6, 104) == 0) goto L5;
+rud_dealloc(RUD_AS AT64(v6, 88));
+RUD_AGAIN
+goto L5;
+L135:;
+if (AT64(v6, 104) == 0) goto L5;
+rud_dealloc(RUD_AS AT64(v6, 88));
+RUD_AGAIN
+goto L5;
 L134:;
-if (AT64(v6, 136) == 0) goto L5;
-rud_dealloc(RUD_AS AT64(v6, 120));
+if (AT64(v6, 104) == 0) goto L5;
+rud_dealloc(RUD_AS AT64(v6, 88));
 RUD_AGAIN
-v13 = 0u;
-goto L3;
+goto L5;
 L133:;
-if (AT64(v6, 136) == 0) goto L5;
-rud_dealloc(RUD_AS AT64(v6, 120));
+if (AT64(v6, 104) == 0) goto L5;
+rud_dealloc(RUD_AS AT64(v6, 88));
 RUD_AGAIN
-v13 = 0u;
-goto L3;
+goto L5;
 L132:;
-if (AT64(v6, 136) == 0) goto L5;
-rud_dealloc(RUD_AS AT64(v6, 120));
+if (AT64(v6, 104) == 0) goto L5;
+rud_dealloc(RUD_AS AT64(v6, 88));
 RUD_AGAIN
-v13 = 0u;
-goto L3;
+goto L5;
 L131:;
-if (AT64(v6, 136) == 0) goto L5;
-rud_dealloc(RUD_AS AT64(v6, 120));
+if (AT64(v6, 104) == 0) goto L5;
+rud_dealloc(RUD_AS AT64(v6, 88));
 RUD_AGAIN
-v13 = 0u;
-goto L3;
+goto L5;
 L130:;
-if (AT64(v6, 136) == 0) goto L5;
-rud_dealloc(RUD_AS AT64(v6, 120));
+if (AT64(v6, 104) == 0) goto L5;
+rud_dealloc(RUD_AS AT64(v6, 88));
 RUD_AGAIN
-v13 = 0u;
-goto L3;
+goto L5;
 L129:;
-if (AT64(v6, 136) == 0) goto L5;
-rud_dealloc(RUD_AS AT64(v6, 120));
+if (AT64(v6, 104) == 0) goto L5;
+rud_dealloc(RUD_AS AT64(v6, 88));
 RUD_AGAIN
-v13 = 0u;
-goto L3;
+goto L5;
 L128:;
-if (AT64(v6, 136) == 0) goto L5;
-rud_dealloc(RUD_AS AT64(v6, 120));
+if (AT64(v6, 104) == 0) goto L5;
+rud_dealloc(RUD_AS AT64(v6, 88));
 RUD_AGAIN
-v13 = 0u;
-goto L3;
+goto L5;
 L127:;
-if (AT64(v6, 136) == 0) goto L5;
-rud_dealloc(RUD_AS AT64(v6, 120));
+if (AT64(v6, 104) == 0) goto L5;
+rud_dealloc(RUD_AS AT64(v6, 88));
 RUD_AGAIN
-v13 = 0u;
-goto L3;
+goto L5;
 L126:;
-if (AT64(v6, 136) == 0) goto L5;
-rud_dealloc(RUD_AS AT64(v6, 120));
+if (AT64(v6, 104) == 0) goto L5;
+rud_dealloc(RUD_AS AT64(v6, 88));
 RUD_AGAIN
-v13 = 0u;
-goto L3;
+goto L5;
 L125:;
-if (AT64(v6, 136) == 0) goto L5;
-rud_dealloc(RUD_AS AT64(v6, 120));
+if (AT64(v6, 104) == 0) goto L5;
+rud_dealloc(RUD_AS AT64(v6, 88));
 RUD_AGAIN
-v13 = 0u;
-goto L3;
+goto L5;
 L124:;
-if (AT64(v6, 136) == 0) goto L5;
-rud_dealloc(RUD_AS AT64(v6, 120));
+if (AT64(v6, 104) == 0) goto L5;
+rud_dealloc(RUD_AS AT64(v6, 88));
 RUD_AGAIN
-v13 = 0u;
-goto L3;
-L123:;
-if (AT64(v6, 136) == 0) goto L5;
-rud_dealloc(RUD_AS AT64(v6, 120));
-RUD_AGAIN
-v13 = 0u;
-goto L3;
-L122:;
-if (AT64(v6, 136) == 0) goto L5;
-rud_dealloc(RUD_AS AT64(v6, 120));
-RUD_AGAIN
-v13 = 0u;
-goto L3;
-L121:;
-if (AT64(v6, 136) == 0) goto L5;
-rud_dealloc(RUD_AS AT64(v6, 120));
-RUD_AGAIN
-v13 = 0u;
-goto L3;
-L120:;
-if (AT64(v6, 136) == 0) goto L5;
-rud_dealloc(RUD_AS AT64(v6, 120));
-RUD_AGAIN
-v13 = 0u;
-goto L3;
+goto L5;
 L26:;
-v13 = 33u;
+i1 = 33u;
 goto L3;
 L25:;
-v13 = 13u;
+i1 = 13u;
 goto L3;
 }
-v13 = 6u;
+i1 = 6u;
 goto L3;
 L23:;
-a0 = ((((u64)v15 & 65535u) | ((a1 & 8725724278030336ull) | (a3 << 32))) | (((u64)v14 & 65535u) << 16)) | 16492674416640ull;
-switch ((u32)(u64)AT8(v6, 112) - 1u) {
+switch ((u32)(u64)AT8(v6, 80) - 1u) {
 case 0u: goto L8;
 case 1u: goto L9;
 case 2u: goto L10;
@@ -29343,229 +24784,179 @@ default: goto L7;
 }
 rud_trap();
 L21:;
-if (AT64(v6, 136) == 0) goto L6;
-rud_dealloc(RUD_AS AT64(v6, 120));
+if (AT64(v6, 104) == 0) goto L6;
+rud_dealloc(RUD_AS AT64(v6, 88));
 RUD_AGAIN
 goto L6;
 L20:;
-if (AT64(v6, 136) == 0) goto L6;
-rud_dealloc(RUD_AS AT64(v6, 120));
+if (AT64(v6, 104) == 0) goto L6;
+rud_dealloc(RUD_AS AT64(v6, 88));
 RUD_AGAIN
 goto L6;
 L19:;
-if (AT64(v6, 136) == 0) goto L6;
-rud_dealloc(RUD_AS AT64(v6, 120));
+if (AT64(v6, 104) == 0) goto L6;
+rud_dealloc(RUD_AS AT64(v6, 88));
 RUD_AGAIN
 goto L6;
 L18:;
-if (AT64(v6, 136) == 0) goto L6;
-rud_dealloc(RUD_AS AT64(v6, 120));
+if (AT64(v6, 104) == 0) goto L6;
+rud_dealloc(RUD_AS AT64(v6, 88));
 RUD_AGAIN
 goto L6;
 L17:;
-if (AT64(v6, 136) == 0) goto L6;
-rud_dealloc(RUD_AS AT64(v6, 120));
+if (AT64(v6, 104) == 0) goto L6;
+rud_dealloc(RUD_AS AT64(v6, 88));
 RUD_AGAIN
 goto L6;
 L16:;
-if (AT64(v6, 136) == 0) goto L6;
-rud_dealloc(RUD_AS AT64(v6, 120));
+if (AT64(v6, 104) == 0) goto L6;
+rud_dealloc(RUD_AS AT64(v6, 88));
 RUD_AGAIN
 goto L6;
 L15:;
-if (AT64(v6, 136) == 0) goto L6;
-rud_dealloc(RUD_AS AT64(v6, 120));
+if (AT64(v6, 104) == 0) goto L6;
+rud_dealloc(RUD_AS AT64(v6, 88));
 RUD_AGAIN
 goto L6;
 L14:;
-if (AT64(v6, 136) == 0) goto L6;
-rud_dealloc(RUD_AS AT64(v6, 120));
+if (AT64(v6, 104) == 0) goto L6;
+rud_dealloc(RUD_AS AT64(v6, 88));
 RUD_AGAIN
 goto L6;
 L13:;
-if (AT64(v6, 136) == 0) goto L6;
-rud_dealloc(RUD_AS AT64(v6, 120));
+if (AT64(v6, 104) == 0) goto L6;
+rud_dealloc(RUD_AS AT64(v6, 88));
 RUD_AGAIN
 goto L6;
 L12:;
-if (AT64(v6, 136) == 0) goto L6;
-rud_dealloc(RUD_AS AT64(v6, 120));
+if (AT64(v6, 104) == 0) goto L6;
+rud_dealloc(RUD_AS AT64(v6, 88));
 RUD_AGAIN
 goto L6;
 L11:;
-if (AT64(v6, 136) == 0) goto L6;
-rud_dealloc(RUD_AS AT64(v6, 120));
+if (AT64(v6, 104) == 0) goto L6;
+rud_dealloc(RUD_AS AT64(v6, 88));
 RUD_AGAIN
 goto L6;
 L10:;
-if (AT64(v6, 136) == 0) goto L6;
-rud_dealloc(RUD_AS AT64(v6, 120));
+if (AT64(v6, 104) == 0) goto L6;
+rud_dealloc(RUD_AS AT64(v6, 88));
 RUD_AGAIN
 goto L6;
 L9:;
-if (AT64(v6, 136) == 0) goto L6;
-rud_dealloc(RUD_AS AT64(v6, 120));
+if (AT64(v6, 104) == 0) goto L6;
+rud_dealloc(RUD_AS AT64(v6, 88));
 RUD_AGAIN
 goto L6;
 L8:;
-if (AT64(v6, 136) == 0) goto L6;
-rud_dealloc(RUD_AS AT64(v6, 120));
+if (AT64(v6, 104) == 0) goto L6;
+rud_dealloc(RUD_AS AT64(v6, 88));
 RUD_AGAIN
 goto L6;
 L7:;
-if (AT64(v6, 136) == 0) goto L6;
-rud_dealloc(RUD_AS AT64(v6, 120));
+if (AT64(v6, 104) == 0) goto L6;
+rud_dealloc(RUD_AS AT64(v6, 88));
 RUD_AGAIN
 L6:;
-SET64(v6, 72, 0u);
-v13 = 0u;
-SET32(v6, 68, 0u);
-SET16(v6, 66, v16);
-SET16(v6, 64, 0u);
-SET64(v6, 56, a0);
-SET64(v6, 80, a2);
-SET64(v6, 728, 0u);
-SET64(v6, 736, 0u);
-SET64(v6, 744, 0u);
-SET64(v6, 752, 0u);
-TEST(a2);
-in_std_alloc_vec_Vec_with_capacity_0204b76857a009a6(RUD_AS v6 + 728u, ((AT64(a2, 16) + 4u) & 65535u) + 7u);
-RUD_AGAIN
-if (AT8(v6, 728)) goto L136;
-SET64(v6, 712, AT64(v6, 752));
-SET64(v6, 704, AT64(v6, 744));
-SET64(v6, 696, AT64(v6, 736));
-SET16(v6, 552, ((v15 >> 8) | 24u) | (v15 << 8));
-i0 = in_std_alloc_vec_Vec_extend_from_slice_d4fc6a806bb7b0db(RUD_AS v6 + 696u, v6 + 552u, 2u);
-RUD_AGAIN
-if ((i0 & 255u) == 0) {
-SET16(v6, 520, ((v14 >> 8) | 192u) | (v14 << 8));
-i0 = in_std_alloc_vec_Vec_extend_from_slice_d4fc6a806bb7b0db(RUD_AS v6 + 696u, v6 + 520u, 2u);
-RUD_AGAIN
-if (i0 & 255u) goto L139;
-v14 = AT16(a2, 16) + 4u;
-SET16(v6, 488, (v14 << 8) | ((v14 & 65280u) >> 8));
-i0 = in_std_alloc_vec_Vec_extend_from_slice_d4fc6a806bb7b0db(RUD_AS v6 + 696u, v6 + 488u, 2u);
-RUD_AGAIN
-if (i0 & 255u) goto L138;
-a1 = v6 + 56u;
-a3 = v6 + 696u;
-a0 = RUD_G0 - 32u;
-RUD_G0 = a0;
-if ((s64)a0 >= (s64)16u) {
 TEST(a0);
-SET16(a0, 6, AT16(v6, 61));
-SET8(a0, 5, AT8(v6, 60) | 32u);
-v14 = 1u;
-i0 = in_std_alloc_vec_Vec_extend_from_slice_d4fc6a806bb7b0db(RUD_AS a3, a0 + 5u, 3u);
+a1 = AT64(a0, 16);
+SET64(v6, 672, 0u);
+SET64(v6, 680, 0u);
+SET64(v6, 664, v6 + 728u);
+i1 = in_std_alloc_vec_Vec_move_to_795f5fd3dc7a282e(RUD_AS v6 + 664u, ((a1 + 4u) & 65535u) + 7u);
 RUD_AGAIN
-if (i0 & 255u) goto L143;
-v7 = AT64(v6, 72);
-v15 = AT16(v6, 68);
-v14 = AT16(v6, 66);
-i0 = AT8(v6, 64);
-SET64(a0, 16, 0u);
-v14 = (v14 << 8) | (v14 >> 8);
-if (i0 == 0) {
-SET16(a0, 8, v14);
-i0 = in_std_alloc_vec_Vec_extend_from_slice_d4fc6a806bb7b0db(RUD_AS a3, a0 + 8u, 2u);
+if (i1 == 0) {
+if (AT64(v6, 680) == 0) goto L140;
+rud_dealloc(RUD_AS AT64(v6, 664));
 RUD_AGAIN
-v14 = i0 & 255u;
-goto L143;
+goto L140;
 }
-SET16(a0, 30, v14);
-v14 = 1u;
-i0 = in_std_alloc_vec_Vec_extend_from_slice_d4fc6a806bb7b0db(RUD_AS a3, a0 + 30u, 2u);
+a1 = AT64(v6, 680);
+SET64(v6, 719, a1);
+a2 = AT64(v6, 672);
+SET64(v6, 711, a2);
+a3 = AT64(v6, 664);
+SET64(v6, 703, a3);
+SET64(v6, 520, a3);
+SET64(v6, 528, a2);
+SET64(v6, 536, a1);
+SET16(v6, 456, ((v16 >> 8) | 24u) | (v16 << 8));
+i1 = in_std_alloc_vec_Vec_extend_from_slice_d4fc6a806bb7b0db(RUD_AS v6 + 520u, v6 + 456u, 2u);
 RUD_AGAIN
-if (i0 & 255u) goto L143;
-SET16(a0, 28, (v15 << 8) | ((v15 & 65280u) >> 8));
-i0 = in_std_alloc_vec_Vec_extend_from_slice_d4fc6a806bb7b0db(RUD_AS a3, a0 + 28u, 2u);
+if ((i1 & 255u) == 0) {
+SET16(v6, 360, ((v13 >> 8) | 192u) | (v13 << 8));
+i1 = in_std_alloc_vec_Vec_extend_from_slice_d4fc6a806bb7b0db(RUD_AS v6 + 520u, v6 + 360u, 2u);
 RUD_AGAIN
-if (i0 & 255u) goto L143;
-in_core_int_u64_to_be_bytes(RUD_AS a0 + 16u, v7);
-SET64(a0, 8, AT64(a0, 16));
-i0 = in_std_alloc_vec_Vec_extend_from_slice_d4fc6a806bb7b0db(RUD_AS a3, a0 + 8u, 8u);
+if (i1 & 255u) goto L143;
+v13 = AT16(a0, 16) + 4u;
+SET16(v6, 328, (v13 << 8) | ((v13 & 65280u) >> 8));
+i1 = in_std_alloc_vec_Vec_extend_from_slice_d4fc6a806bb7b0db(RUD_AS v6 + 520u, v6 + 328u, 2u);
 RUD_AGAIN
-v14 = i0 & 255u;
+if ((i1 & 255u) == 0) goto L142;
+if (AT64(v6, 536) == 0) goto L140;
+rud_dealloc(RUD_AS AT64(v6, 520));
+RUD_AGAIN
+goto L140;
+}
+if (AT64(v6, 536) == 0) goto L140;
+rud_dealloc(RUD_AS AT64(v6, 520));
+RUD_AGAIN
+goto L140;
 L143:;
-RUD_G0 = a0 + 32u;
-i0 = v14;
-goto L141;
-}
-rud_trap();
-L141:;
-if (i0 & 255u) goto L137;
-i0 = in_std_alloc_vec_Vec_extend_from_slice_d4fc6a806bb7b0db(RUD_AS v6 + 696u, AT64(a2, 8), AT64(a2, 16));
+if (AT64(v6, 536) == 0) goto L140;
+rud_dealloc(RUD_AS AT64(v6, 520));
 RUD_AGAIN
-if ((i0 & 255u) == 0) goto L135;
-if (AT64(v6, 712) == 0) goto L136;
-rud_dealloc(RUD_AS AT64(v6, 696));
+goto L140;
+L142:;
+SET8(v6, 666, v14);
+SET8(v6, 665, 15u);
+SET8(v6, 664, v17 | 32u);
+i1 = in_std_alloc_vec_Vec_extend_from_slice_d4fc6a806bb7b0db(RUD_AS v6 + 520u, v6 + 664u, 3u);
 RUD_AGAIN
-in_std_alloc_arc_Arc_drop_c3b6ee2ab0dfb523(RUD_AS a2);
+if (i1 & 255u) goto L145;
+SET16(v6, 488, (v15 << 8) | ((v15 & 65280u) >> 8));
+i1 = in_std_alloc_vec_Vec_extend_from_slice_d4fc6a806bb7b0db(RUD_AS v6 + 520u, v6 + 488u, 2u);
 RUD_AGAIN
-goto L3;
-}
-if (AT64(v6, 712) == 0) goto L136;
-rud_dealloc(RUD_AS AT64(v6, 696));
+if (i1 & 255u) goto L145;
+i1 = in_std_alloc_vec_Vec_extend_from_slice_d4fc6a806bb7b0db(RUD_AS v6 + 520u, AT64(a0, 8), AT64(a0, 16));
 RUD_AGAIN
-in_std_alloc_arc_Arc_drop_c3b6ee2ab0dfb523(RUD_AS a2);
+if ((i1 & 255u) == 0) goto L139;
+if (AT64(v6, 536) == 0) goto L140;
+rud_dealloc(RUD_AS AT64(v6, 520));
 RUD_AGAIN
-goto L3;
+goto L140;
+L145:;
+if (AT64(v6, 536) == 0) goto L140;
+rud_dealloc(RUD_AS AT64(v6, 520));
+RUD_AGAIN
+L140:;
+in_std_alloc_arc_Arc_drop_c3b6ee2ab0dfb523(RUD_AS a0);
+RUD_AGAIN
+goto L5;
 L139:;
-if (AT64(v6, 712) == 0) goto L136;
-rud_dealloc(RUD_AS AT64(v6, 696));
+a3 = AT64(v6, 528);
+a1 = AT64(v6, 520);
+j1 = AT64(v6, 536);
+in_std_alloc_arc_Arc_drop_c3b6ee2ab0dfb523(RUD_AS a0);
 RUD_AGAIN
-in_std_alloc_arc_Arc_drop_c3b6ee2ab0dfb523(RUD_AS a2);
-RUD_AGAIN
-goto L3;
-L138:;
-if (AT64(v6, 712) == 0) goto L136;
-rud_dealloc(RUD_AS AT64(v6, 696));
-RUD_AGAIN
-in_std_alloc_arc_Arc_drop_c3b6ee2ab0dfb523(RUD_AS a2);
-RUD_AGAIN
-goto L3;
-L137:;
-if (AT64(v6, 712) == 0) goto L136;
-rud_dealloc(RUD_AS AT64(v6, 696));
-RUD_AGAIN
-L136:;
-in_std_alloc_arc_Arc_drop_c3b6ee2ab0dfb523(RUD_AS a2);
-RUD_AGAIN
-goto L3;
-L135:;
-a3 = AT64(v6, 704);
-a0 = AT64(v6, 696);
-j0 = AT64(v6, 712);
-in_std_alloc_arc_Arc_drop_c3b6ee2ab0dfb523(RUD_AS a2);
-RUD_AGAIN
-in_mm_told_answer_tell_text(RUD_AS v6 + 8u, a0, a3, v10, a4);
-if (j0 == 0) goto L2;
-rud_dealloc(RUD_AS a0);
+in_mm_told_answer_tell_text(RUD_AS v6 + 8u, a1, a3, v10, a4);
+if (j1 == 0) goto L2;
+rud_dealloc(RUD_AS a1);
 RUD_AGAIN
 goto L2;
 L5:;
-v13 = 0u;
+i1 = 0u;
 goto L3;
 L4:;
-v13 = 14u;
+i1 = 14u;
 L3:;
-SET64(v6, 20, 0u);
-SET32(v6, 16, v13);
+TEST(j0);
+SET32(j0, 16, i1);
 SET64(v6, 8, 2u);
-SET64(v6, 28, 0u);
-SET64(v6, 36, 0u);
-SET64(v6, 44, 0u);
-SET32(v6, 52, 0u);
+FILL_FEW(v6 + 20u, 0u, 36u);
 L2:;
-TEST(a5);
-SET64(a5, 40, AT64(v6, 48));
-SET64(a5, 32, AT64(v6, 40));
-SET64(a5, 24, AT64(v6, 32));
-SET64(a5, 16, AT64(v6, 24));
-SET64(a5, 8, AT64(v6, 16));
-SET64(a5, 0, AT64(v6, 8));
-RUD_G0 = v6 + 768u;
+COPY_FEW(a5, v6 + 8u, 48u);
+RUD_G0 = v6 + 736u;
 RUD_G1 = 0u;
 }
 
@@ -29627,29 +25018,19 @@ rud_trap();
 v5 = RUD_G0 - 176u;
 RUD_G0 = v5;
 if ((s64)v5 >= (s64)16u) {
-TEST(a3);
-SET32(a3, 0, 255u);
 TEST(v5);
 SET8(v5, 54, 0u);
 SET16(v5, 52, 0u);
-SET64(v5, 0, 0u);
-SET64(v5, 8, 0u);
-SET64(v5, 16, 0u);
-SET64(v5, 24, 0u);
-SET64(v5, 32, 0u);
-SET64(v5, 40, 0u);
+FILL_FEW(v5, 0u, 48u);
+TEST(a3);
+SET32(a3, 0, 255u);
 FILL_FEW(a3 + 4u, 0u, 84u);
 v6 = a0 + 8u;
 TEST(v6);
 if (AT8(v6, 0) == 0) {
 TEST(a4);
-SET64(a4, 4, 0u);
 SET32(a4, 0, 3u);
-SET64(a4, 12, 0u);
-SET64(a4, 20, 0u);
-SET64(a4, 28, 0u);
-SET64(a4, 36, 0u);
-SET32(a4, 44, 0u);
+FILL_FEW(a4 + 4u, 0u, 44u);
 goto L4;
 }
 SET8(v6, 0, 0u);
@@ -29663,8 +25044,8 @@ a1 = AT64(v5, 153);
 if (AT8(v5, 152) == 0) {
 SET64(v5, 168, a1);
 TEST(v6);
-a2 = AT64(v6, 8) + 1u;
 a1 = AT64(v6, 0) - 192u;
+a2 = AT64(v6, 8) + 1u;
 L9:;
 a2 = a2 - 1u;
 if (a2 == 0) {
@@ -29673,7 +25054,7 @@ i0 = 0u;
 goto L7;
 }
 a1 = a1 + 192u;
-i0 = in_core_cmp_arrays_ArrayPartialEq_eq_i8_8_31_core_cmp_numbers_U8Par(RUD_AS a1, v5 + 168u);
+i0 = in_mm_base_id_StoreIdPartialEq_eq(RUD_AS a1, v5 + 168u);
 if (i0 == 0) goto L9;
 in_mm_service_showing_Shown_of(RUD_AS v5 + 56u, a1 + 16u);
 v14 = AT8(v5, 56);
@@ -29700,13 +25081,7 @@ SET32(a3, 16, v13);
 SET32(a3, 12, v15 & 1u);
 SET64(a3, 4, a1);
 SET32(a3, 0, v14 != 0u);
-TEST(a4);
-SET64(a4, 40, 0u);
-SET64(a4, 32, 0u);
-SET64(a4, 24, 0u);
-SET64(a4, 16, 0u);
-SET64(a4, 8, 0u);
-SET64(a4, 0, 0u);
+FILL_FEW(a4, 0u, 48u);
 goto L6;
 }
 v13 = (u32)(a1 >> 16);
@@ -29718,13 +25093,7 @@ SET8(v5, 54, v13);
 SET8(v5, 53, v15);
 SET8(v5, 52, v14);
 in_mm_c_memory_refused(RUD_AS v5, v5 + 52u);
-TEST(a4);
-SET64(a4, 40, AT64(v5, 40));
-SET64(a4, 32, AT64(v5, 32));
-SET64(a4, 24, AT64(v5, 24));
-SET64(a4, 16, AT64(v5, 16));
-SET64(a4, 8, AT64(v5, 8));
-SET64(a4, 0, AT64(v5, 0));
+COPY_FEW(a4, v5, 48u);
 L6:;
 SET64(a0, 0, v6);
 SET8(a0, 8, 1u);
@@ -29738,8 +25107,8 @@ RUD_G1 = 0u;
 }
 
 static void in_rudlayog_memory_store(RUD_IT u64 a0, u64 a1, u64 a2, u64 a3) {
-u32 v15 = 0, v16 = 0, v17 = 0, v18 = 0, i0 = 0;
-u64 v4 = 0, v5 = 0, v6 = 0, v7 = 0, v8 = 0, v9 = 0, v10 = 0, v11 = 0, v12 = 0, v13 = 0, v14 = 0;
+u32 v15 = 0, v16 = 0, v17 = 0, v18 = 0, i0 = 0, i1 = 0;
+u64 v4 = 0, v5 = 0, v6 = 0, v7 = 0, v8 = 0, v9 = 0, v10 = 0, v11 = 0, v12 = 0, v13 = 0, v14 = 0, j0 = 0;
 RUD_HERE
 i0 = in_rattle_enter(RUD_AS0);
 if (i0) {
@@ -29757,36 +25126,41 @@ v5 = a0 + 8u;
 TEST(v5);
 if (AT8(v5, 0) == 0) {
 TEST(a3);
-SET64(a3, 4, 0u);
 SET32(a3, 0, 3u);
-SET64(a3, 12, 0u);
-SET64(a3, 20, 0u);
-SET64(a3, 28, 0u);
-SET64(a3, 36, 0u);
-SET32(a3, 44, 0u);
+FILL_FEW(a3 + 4u, 0u, 44u);
 goto L4;
 }
 SET8(v5, 0, 0u);
 TEST(a0);
-v5 = AT64(a0, 0);
+v6 = AT64(a0, 0);
 FILL_FEW(v4 + 112u, 0u, 96u);
 TEST(v4);
 SET32(v4, 11, 0u);
 SET32(v4, 8, 0u);
-TEST(v5);
-if (AT64(v5, 8) > a1) {
-a1 = AT64(v5, 0) + (a1 * 192u);
+j0 = a3;
+TEST(v6);
+if (AT64(v6, 8) > a1) {
+a1 = AT64(v6, 0) + (a1 * 192u);
 TEST(a1);
 v7 = AT64(a1, 0);
 v16 = AT8(a1, 8);
-v6 = v4 + 112u;
-in_mm_service_showing_Shown_of(RUD_AS v6, a1 + 16u);
-COPY_FEW(v4 + 15u, v6, 96u);
+v5 = v4 + 112u;
+in_mm_service_showing_Shown_of(RUD_AS v5, a1 + 16u);
+COPY_FEW(v4 + 15u, v5, 96u);
 COPY_FEW(v4 + 217u, v4 + 8u, 103u);
 SET8(v4, 216, v16);
 SET64(v4, 208, v7);
-a1 = in_mm_base_id_text_len(RUD_AS v4 + 208u);
-v6 = AT64(v4, 280);
+a1 = 0u;
+L8:;
+if (GET8((v4 + 208u) + a1, 0) == 32u) {
+v5 = a1;
+goto L9;
+}
+v5 = 8u;
+a1 = a1 + 1u;
+if (a1 != 8u) goto L8;
+L9:;
+a1 = AT64(v4, 280);
 v8 = AT64(v4, 288);
 v9 = AT64(v4, 296);
 v17 = AT8(v4, 224);
@@ -29809,39 +25183,23 @@ SET32(a2, 28, v18 & 1u);
 SET64(a2, 20, v10);
 SET32(a2, 16, v17 != 0u);
 SET32(a2, 12, v16);
-SET32(a2, 8, (u32)a1);
+SET32(a2, 8, (u32)v5);
 SET64(a2, 0, v7);
 SET64(a2, 96, v15 ? v9 : 0ull);
 SET64(a2, 88, v15 ? v8 : 0ull);
-SET64(a2, 80, v15 ? v6 : 0ull);
-SET32(v4, 248, 0u);
-SET64(v4, 240, 0u);
-SET64(v4, 232, 0u);
-SET64(v4, 224, 0u);
-SET64(v4, 216, 0u);
-SET64(v4, 208, 0u);
-i0 = 0u;
+SET64(a2, 80, v15 ? a1 : 0ull);
+FILL_FEW(v4 + 208u, 0u, 44u);
+i1 = 0u;
 goto L6;
 }
-SET64(v4, 208, 0u);
-SET64(v4, 216, 0u);
-SET64(v4, 224, 0u);
-SET64(v4, 232, 0u);
-SET64(v4, 240, 0u);
-SET32(v4, 248, 0u);
-i0 = 5u;
+FILL_FEW(v4 + 208u, 0u, 44u);
+i1 = 5u;
 L6:;
-v15 = i0;
-TEST(a3);
-SET64(a3, 4, AT64(v4, 208));
-SET32(a3, 0, v15);
-SET64(a3, 12, AT64(v4, 216));
-SET64(a3, 20, AT64(v4, 224));
-SET64(a3, 28, AT64(v4, 232));
-SET64(a3, 36, AT64(v4, 240));
-SET32(a3, 44, AT32(v4, 248));
+TEST(j0);
+SET32(j0, 0, i1);
+COPY_FEW(a3 + 4u, v4 + 208u, 44u);
+SET64(a0, 0, v6);
 SET8(a0, 8, 1u);
-SET64(a0, 0, v5);
 L4:;
 RUD_G0 = v4 + 320u;
 goto L2;
@@ -30281,10 +25639,7 @@ static const u8 rud_data_25[] = {
 0,0,0,8,9,0,10,11,12,0,0,13,14,15,16,0,0,0,0,1,0,0,0,2,0,0,0,6,0,0,0,3,
 0,0,0,5,0,0,0,7,0,0,0,4,0,0,0,0,0,0,0,12,0,0,0,13,0,0,0,14,0,0,0,0,
 0,0,0,17,0,0,0,18,0,0,0,19,0,0,0,20,0,0,0,21,0,0,0,26,0,0,0,9,0,0,0,1,
-0,0,0,1,
-};
-static const u8 rud_data_26[] = {
-1,0,0,0,1,
+0,0,0,2,0,0,0,6,0,0,0,3,0,0,0,5,0,0,0,7,0,0,0,4,
 };
 static const struct {
     u32 at, count;
@@ -30315,8 +25670,7 @@ static const struct {
     {4200297u, 7u, rud_data_22},
     {4200313u, 7u, rud_data_23},
     {4200329u, 7u, rud_data_24},
-    {4200345u, 5668u, rud_data_25},
-    {4206024u, 5u, rud_data_26},
+    {4200345u, 5688u, rud_data_25},
 };
 
 /* ---- What a call takes in and out. */

@@ -50,8 +50,8 @@ class Module:
     def exports(self):
         return [name for name, it in self.functions.items() if not it.is_internal]
 
-    def keep_reached(self, exports):
-        """Leaves out the functions, data and declarations that these exports do not reach, and all other exports."""
+    def reached(self, exports):
+        """The names that these exports reach, and theirs."""
         lacking = {*exports} - {*self.exports()}
         if lacking:
             raise Unknown(f"no export {', '.join(sorted(lacking))}")
@@ -63,6 +63,11 @@ class Module:
             reached.add(name)
             text = self.functions[name].text() if name in self.functions else self.data.get(name, "")
             todo += re.findall(r'@("[^"]+"|[\w.]+)', text)
+        return reached
+
+    def keep_reached(self, exports):
+        """Leaves out the functions, data and declarations that these exports do not reach, and all other exports."""
+        reached = self.reached(exports)
         for part in (self.functions, self.declared, self.data):
             for name in [it for it in part if it not in reached]:
                 del part[name]
