@@ -29,8 +29,8 @@ limited_by q left = filter (λ c. is_some (slice_index_or left c None)) (channel
 abbrev pub limit_left : Dumping → List (Option ℕ) → ℕ → ℕ → ℕ
 limit_left q left t c = unwrap_or (if t == 1 then slice_index_or left c None else limit q c t) 0
 
--- the problem, whose steps can be carried out, when its first step has begun: all that arrives in it is stored, and this
--- is left of the window and of the channels' limits
+-- the problem, whose steps can be carried out, when its first step has begun: all that arrives in it is stored, and
+-- this is left of the window and of the channels' limits
 abbrev pub begun : Dumping → ℕ → List (Option ℕ) → Dumping
 begun q window limits = record {
   rows = q.rows;
