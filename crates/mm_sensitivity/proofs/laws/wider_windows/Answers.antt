@@ -1,4 +1,4 @@
-use Rattle.mm_sensitivity.proofs.Least.{wider_windows}
+use Rattle.mm_sensitivity.proofs.Found.{wider_windows}
 use Rattle.mm_sensitivity.proofs.laws.wider_windows.Goals as goal
 
 pub returns : goal.returns

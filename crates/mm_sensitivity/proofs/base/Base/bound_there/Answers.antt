@@ -5,7 +5,7 @@ use Rattle.mm_problem.specs.Dumping.{Dumping}
 use Rattle.mm_cut.specs.Cuts.{IsCut, bound}
 use Rattle.mm_sensitivity.specs.declared.item.Item.{Item}
 use Rattle.mm_sensitivity.specs.Items.{with_number}
-use Rattle.mm_sensitivity.proofs.Windows.{cut_there}
+use Rattle.mm_sensitivity.proofs.Found.{cut_there}
 use Rattle.mm_sensitivity.proofs.base.Base.bound_there.Goals as goal
 
 pub returns-then-blocks-leaving-clause-cut : goal.returns-then-blocks-leaving-clause-cut

@@ -1,6 +1,6 @@
 use Rattle.std.proofs.Common.{true, false, sym, ◌∙◌, arith}
 use Rattle.std.proofs.lemmas.Int.{ints}
-use Rattle.mm_sensitivity.proofs.Least.{bound_known}
+use Rattle.mm_sensitivity.proofs.Found.{bound_known}
 use Rattle.mm_sensitivity.proofs.base.Base.window_bound.Goals as goal
 
 pub returns-then-counts_window : goal.returns-then-counts_window
