@@ -15,6 +15,16 @@ use mm_sensitivity::{sensitivity_bytes, worth_chart_bytes};
 use mm_told::{Answer, PLAN_ROOM, Reason, VerdictTold, plan_texts_fit, tell_text};
 use std::alloc::Global;
 
+// Tells the text that a call below gives, or why it gives none.
+macro_rules! told {
+    ($made:expr, $out:expr) => {
+        match $made {
+            Ok(text) => tell_text(&text, $out),
+            Err(fault) => Answer::refused(Reason::of_texts(fault)),
+        }
+    };
+}
+
 /// The text of a dump plan that loses least for a setup and a forecast, as `plan_bytes` of `mm_planner` gives it. It is
 /// written into `out`, if there is room for all of it; otherwise `out` stays as it was, and so it does where the call
 /// is refused. `PLAN_ROOM` octets are never too few.
@@ -31,10 +41,7 @@ pub extern "C" fn rudlayog_plan(
     ensures room { PLAN_ROOM ≤ length out.old → IsNotTooSmall answer.new }
 {
     plan_texts_fit();
-    *answer = match plan_bytes(alloc, setup, forecast) {
-        Ok(text) => tell_text(&text, out),
-        Err(fault) => Answer::refused(Reason::of_texts(fault)),
-    };
+    *answer = told!(plan_bytes(alloc, setup, forecast), out);
 }
 
 /// The text of a dump plan that serves the stores in the setup's order, as `plan_in_order_bytes` of `mm_planner` gives
@@ -50,10 +57,7 @@ pub extern "C" fn rudlayog_plan_in_order(
     ensures told { Tells (PlansLeastInOrder setup.now forecast.now) (IsWhyUnplanned setup.now forecast.now)
         out.old out.new answer.new }
 {
-    *answer = match plan_in_order_bytes(alloc, setup, forecast) {
-        Ok(text) => tell_text(&text, out),
-        Err(fault) => Answer::refused(Reason::of_texts(fault)),
-    };
+    *answer = told!(plan_in_order_bytes(alloc, setup, forecast), out);
 }
 
 /// The verdict on a plan text for a setup and a forecast, as `check_bytes` of `mm_cut` gives it: in `verdict`, and as
@@ -97,10 +101,7 @@ pub extern "C" fn rudlayog_chart(
     ensures told { Tells (Charts setup.now forecast.now plan.now) (IsWhyUnjudged setup.now forecast.now plan.now)
         out.old out.new answer.new }
 {
-    *answer = match chart_bytes(alloc, setup, forecast, plan) {
-        Ok(text) => tell_text(&text, out),
-        Err(fault) => Answer::refused(Reason::of_texts(fault)),
-    };
+    *answer = told!(chart_bytes(alloc, setup, forecast, plan), out);
 }
 
 /// The chart of a plan text with what each window is worth, as `worth_chart_bytes` of `mm_sensitivity` draws it.
@@ -116,10 +117,7 @@ pub extern "C" fn rudlayog_chart_worth(
     ensures told { Tells (ChartsWorth setup.now forecast.now plan.now) (IsWhyUnjudged setup.now forecast.now plan.now)
         out.old out.new answer.new }
 {
-    *answer = match worth_chart_bytes(alloc, setup, forecast, plan) {
-        Ok(text) => tell_text(&text, out),
-        Err(fault) => Answer::refused(Reason::of_texts(fault)),
-    };
+    *answer = told!(worth_chart_bytes(alloc, setup, forecast, plan), out);
 }
 
 /// The table of a plan text for a setup and a forecast, as `table_bytes` of `mm_chart` makes it: comma separated
@@ -136,10 +134,7 @@ pub extern "C" fn rudlayog_table(
     ensures told { Tells (IsTableOf setup.now forecast.now plan.now) (IsWhyUnjudged setup.now forecast.now plan.now)
         out.old out.new answer.new }
 {
-    *answer = match table_bytes(alloc, setup, forecast, plan) {
-        Ok(text) => tell_text(&text, out),
-        Err(fault) => Answer::refused(Reason::of_texts(fault)),
-    };
+    *answer = told!(table_bytes(alloc, setup, forecast, plan), out);
 }
 
 /// What each window, store size and limit is worth for a setup and a forecast, as `sensitivity_bytes` of
@@ -155,8 +150,5 @@ pub extern "C" fn rudlayog_sensitivity(
     ensures told { Tells (IsWorthTable setup.now forecast.now) (IsWhyUnplanned setup.now forecast.now) out.old out.new
         answer.new }
 {
-    *answer = match sensitivity_bytes(alloc, setup, forecast) {
-        Ok(text) => tell_text(&text, out),
-        Err(fault) => Answer::refused(Reason::of_texts(fault)),
-    };
+    *answer = told!(sensitivity_bytes(alloc, setup, forecast), out);
 }
