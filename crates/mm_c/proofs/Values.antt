@@ -1,14 +1,16 @@
--- The machine values of a `Parts` and of a `OnceBox`. Assumes `Logic`.
+-- The machine values of a `Parts` and of an open handle. Assumes `Logic`.
 use Rattle.mm_c.proofs.Words.{◌≡◌, ℕ, List, [], ◌∷◌, ◌++◌, refl, subst, Ura, impl, tnil, dnil, bare, Val, vptr, vstruct}
 use Rattle.mm_c.proofs.Words.{vcons, vnil, of_list, has_ty, WT, never, fst∗, Logic, sem, Item, Goal, Seq, Step, step, ‵}
 use Rattle.mm_c.proofs.Words.{◌$◌, move, drop, fsplit, fjoin, fpick, fpack, feq_i, feq_l, RattleType, Valss, RawPtr}
 use Rattle.mm_c.proofs.Words.{lone, Ptr, block_ptr, null_ptr, ptr_val, in_a_block, nothing, layout, Laws, within, shape}
-use Rattle.mm_c.proofs.Words.{Al, handle_tells, Good, box_owns}
-use mathlib.Core.Bool.{Bool, true, false, ◌&&◌}
-use lib.Dec.{T}
+use Rattle.mm_c.proofs.Words.{Al, handle_tells, Good, box_owns, Some, None, ghosts, Inner}
 use Rattle.std.specs.declared.alloc.Allocator.{Ghosts}
 use Rattle.std.proofs.ResultValues.{and_tt}
-use Rattle.mm_c.specs.contracts.parts.Parts as loose
+use mathlib.Core.Bool.{Bool, true, false, ◌&&◌}
+use lib.Dec.{T}
+use Rattle.mm_c.specs.contracts.handle.Loose as loose
+use Rattle.mm_c.specs.contracts.parts.Parts as parts
+use Rattle.std.specs.contracts.alloc.Global as global
 
 abbrev pub both : Val → Val → Val
 both v w = vstruct (vcons v (vcons w vnil))
@@ -20,7 +22,7 @@ both_tt false y s t = absurd s
 
 module _ (R Z : RattleType) (L : Laws Z) (g : Ghosts Z.Denot) where
   abbrev pub Parts : RattleType
-  Parts = loose.the_row R Z g
+  Parts = parts.the_row R Z g
 
   abbrev al : Al
   al = record { row = Z; laws = L; g = g; d = impl [] tnil dnil; drops = impl [] tnil dnil }
@@ -50,5 +52,29 @@ module _ (R Z : RattleType) (L : Laws Z) (g : Ghosts Z.Denot) where
     loose_in t b o h a x = step (λ s. let v : Val = both (vptr b o) h in
         nothing t $ move t (2 ∷ 0 ∷ []) $ fjoin t $ feq_i t (List Val) (vptr b o ∷ []) (vptr b o ∷ []) refl $ fjoin t
         $ feq_i t (List Val) (v ∷ []) (v ∷ []) refl $ fjoin t $
-        fpack t (Valss (RawPtr ∷ Z ∷ [])) (within (shape (loose.the_type R Z g)) (block_ptr b o, (a, tt)) (v ∷ []))
+        fpack t (Valss (RawPtr ∷ Z ∷ [])) (within (shape (parts.the_type R Z g)) (block_ptr b o, (a, tt)) (v ∷ []))
         (vptr b o ∷ [], (h ∷ [], tt)) $ fjoin t $ s)
+
+abbrev R : RattleType
+R = loose.the_row
+
+-- what a handle owns that was given a box
+module _ {M : Type 1} {𝓤 : Ura M} {𝓛 : Logic 𝓤} {K : Type 0} {Γ : List (Item 𝓤)} {G : Goal 𝓤 𝓛.H} where
+  pub held_in : K → (b o : _) (a : (global.the_row).Denot) (x : Inner.Denot)
+      → Step K 𝓛 (‵ (R.own_val (record { at = block_ptr b o; heap = a; service = Some x })
+      (vstruct (vcons (vptr b o) vnil) ∷ [])) ∷ Γ) G
+      (‵ (box_owns (ghosts.dealloc_token a) Inner (block_ptr b o) x) ∷ Γ) G
+  held_in t b o a x = step (λ s. let v : Val = vstruct (vcons (vptr b o) vnil) in
+      nothing t $ feq_i t (List Val) (vptr b o ∷ []) (vptr b o ∷ []) refl $ fjoin t $
+      feq_i t (List Val) (v ∷ []) (v ∷ []) refl $ fjoin t $
+      fpack t (Valss (RawPtr ∷ [])) (within (shape loose.the_type) (block_ptr b o, tt) (v ∷ [])) (vptr b o ∷ [], tt) $
+      fjoin t $ s)
+
+  -- the same of a null pointer, which owns nothing
+  pub null_in : K → (a : (global.the_row).Denot)
+      → Step K 𝓛 (‵ (R.own_val (record { at = null_ptr; heap = a; service = None })
+      (vstruct (vcons (ptr_val null_ptr) vnil) ∷ [])) ∷ Γ) G Γ G
+  null_in t a = step (λ s. let p : Val = ptr_val null_ptr in let v : Val = vstruct (vcons p vnil) in
+      nothing t $ nothing t $ feq_i t (List Val) (p ∷ []) (p ∷ []) refl $ fjoin t $
+      feq_i t (List Val) (v ∷ []) (v ∷ []) refl $ fjoin t $
+      fpack t (Valss (RawPtr ∷ [])) (within (shape loose.the_type) (null_ptr, tt) (v ∷ [])) (p ∷ [], tt) $ fjoin t $ s)

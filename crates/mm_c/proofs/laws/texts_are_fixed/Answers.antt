@@ -1,5 +1,4 @@
-use Rattle.mm_c.proofs.OneText.{one_line, one_chart, one_table}
-use Rattle.mm_c.proofs.OneWorth.{one_worth_table}
+use Rattle.mm_c.proofs.OneText.{one_line, one_chart, one_table, one_worth_table}
 use Rattle.mm_c.proofs.laws.texts_are_fixed.Goals as goal
 
 pub returns : goal.returns

@@ -7,7 +7,7 @@ use Rattle.mm_c.proofs.Words.{alloc_all, pass_all, free_all, look_at, get, throu
 use Rattle.mm_c.proofs.Words.{cell_at, RattleType, owns, null_ptr, ptr_val, plain, types_at, opens, closes, peeks}
 use Rattle.mm_c.proofs.Words.{heard, nothing, Stays, walk_of, says, stay_ref, Goes-ref, ends_at, ghosts, loose_owns}
 use Rattle.mm_c.proofs.Words.{Serving}
-use Rattle.mm_c.proofs.Held.{null_in}
+use Rattle.mm_c.proofs.Values.{null_in}
 use Rattle.mm_c.proofs.handle.Loose.TheLaws.{lowers}
 use Rattle.mm_c.proofs.handle.Loose.clear.Statement.{statement}
 use Rattle.mm_c.specs.contracts.handle.Loose as loose

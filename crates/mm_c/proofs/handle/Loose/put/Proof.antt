@@ -7,8 +7,7 @@ use Rattle.mm_c.proofs.Words.{pass_all, free_all, look_at, get, get_in, through,
 use Rattle.mm_c.proofs.Words.{cell_at, RattleType, owns, block_ptr, plain, types_at, opens, closes, peeks, heard}
 use Rattle.mm_c.proofs.Words.{nothing, Stays, walk_of, says, stay_ref, stay_dropped, Goes-ref, ends_at, Goes-blank}
 use Rattle.mm_c.proofs.Words.{ghosts, loose_owns, Serving, Inner}
-use Rattle.mm_c.proofs.Values.{both, Parts, loose_good, loose_out}
-use Rattle.mm_c.proofs.Held.{held_in}
+use Rattle.mm_c.proofs.Values.{both, Parts, loose_good, loose_out, held_in}
 use Rattle.mm_c.proofs.handle.Loose.TheLaws.{lowers}
 use Rattle.mm_c.proofs.handle.Loose.put.Statement.{statement}
 use Rattle.std.proofs.alloc.Global.TheLaws as global_laws
