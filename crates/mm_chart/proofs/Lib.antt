@@ -1,9 +1,3 @@
-pub mod Balance
-pub mod Listing
-pub mod Mapped
-pub mod Names
 pub mod Ranges
-pub mod Shown
-pub mod Amounts
-pub mod Scales
-pub mod Outlines
+pub mod Listing
+pub mod Numbers

@@ -1,7 +1,7 @@
--- The sum of a chart is its cut's bound, and what its words list is all that its cut counts.
-use Rattle.std.proofs.Common.{◌≡◌, ℕ, ◌+◌, ◌<◌, ◌≤◌, Bool, true, eqb, leb, ltb, not, cond, ◌&&◌, List, [], length, get_or}
-use Rattle.std.proofs.Common.{◌⊎◌, inl, inr, refl, sym, ap, ◌∙◌, subst, arith}
-use Rattle.std.specs.Prelude.{pos}
+-- What a chart and a table say: the cut that is drawn, the sum that is its bound, what its words list, and the records.
+use Rattle.std.proofs.Common.{ℕ, List, [], arith, ◌≡◌, ◌+◌, ◌<◌, ◌≤◌, Bool, true, eqb, leb, ltb, not, cond, ◌&&◌}
+use Rattle.std.proofs.Common.{length, get_or, ◌⊎◌, inl, inr, refl, sym, ap, ◌∙◌, subst, ◌-◌}
+use Rattle.std.specs.Prelude.{ℤ, Option, Some, None, if◌then◌else◌, pos}
 use Rattle.std.proofs.lemmas.Int.{ints}
 use Rattle.std.proofs.lemmas.Bool.{cases_lt, and_parts, eq-eqb, or_left, or_right}
 use Rattle.std.proofs.lemmas.Bool.Decides.{nat_tests}
@@ -11,27 +11,71 @@ use Rattle.std.proofs.lemmas.List.Sums.{passes_at_first}
 use Rattle.std.proofs.lemmas.Slice.Eq.{bytes_eq-Decides}
 use Rattle.std.specs.Str.{bytes_eq}
 use Rattle.mm_base.proofs.Sums.{sum_by-filter_parts}
+use Rattle.mm_problem.specs.Dumping.{Dumping, no_row, row, place, size, start, channel, window, arrivals, steps}
 use Rattle.mm_problem.specs.declared.come.Arrivals.{Arrivals}
 use Rattle.mm_problem.specs.declared.come.Arrivals.TheVariants.{Before, During}
-use Rattle.mm_problem.specs.Dumping.{Dumping, no_row, row, place, size, start, channel, window, arrivals, steps}
+use Rattle.mm_plan.specs.Volumes.{Amounts}
+use Rattle.mm_plan.specs.Table.{amount}
+use Rattle.mm_plan.specs.Sheet.{SheetRows, CertificateRows}
 use Rattle.mm_plan.specs.declared.stretch.Stretch.{Stretch}
-use Rattle.mm_cut.specs.Stretches.{store_of, channel_of, covers, inner_end, goes_past, goes_past_on, is_inner}
-use Rattle.mm_cut.specs.Stretches.{is_inner_on}
-use Rattle.mm_cut.specs.Stretches.{IsStretch}
-use Rattle.mm_cut.specs.Counts.{is_listed}
-use Rattle.mm_cut.specs.Cuts.{bound, limit_sum, counts_window, counts_limits}
-use Rattle.mm_cut.specs.Changes.{ChangesStretch, HelpsNowhere, OnlyCountedHelps}
-use Rattle.mm_cut.specs.Verdicts.{IsSheetVerdict}
+use Rattle.mm_plan.proofs.Steps.{step_balance}
+use Rattle.mm_cut.specs.Cuts.{IsCut, bound, limit_sum, counts_window, counts_limits}
+use Rattle.mm_cut.specs.Verdicts.{IsVerdict, IsOwnVerdict, IsVerdictWith, IsSheetVerdict}
 use Rattle.mm_cut.specs.declared.verdict.Verdict.{Verdict}
-use Rattle.mm_cut.specs.declared.verdict.Verdict.TheVariants.{NotShown, Least, LeastInOrder}
-use Rattle.mm_chart.specs.declared.series.Series.{Series}
+use Rattle.mm_cut.specs.declared.verdict.Verdict.TheVariants.{BoundIs, NotShown, FirstNotShown, Least, LeastInOrder}
+use Rattle.mm_cut.specs.Stretches.{store_of, channel_of, covers, inner_end, goes_past, goes_past_on, is_inner}
+use Rattle.mm_cut.specs.Stretches.{is_inner_on, IsStretch}
+use Rattle.mm_cut.specs.Counts.{is_listed}
+use Rattle.mm_cut.specs.Changes.{ChangesStretch, HelpsNowhere, OnlyCountedHelps}
 use Rattle.mm_cut.proofs.StretchLosses.{inner_end-le}
+use Rattle.mm_chart.specs.Picture.{has_cut, Drawn, IsDrawn, cut, counts}
+use Rattle.mm_chart.specs.declared.series.Series.{Series}
 use Rattle.mm_chart.specs.declared.series.Series.TheVariants.{WindowCounts, ChannelCounts, LimitsCount, Inner, Last}
-use Rattle.mm_chart.specs.Picture.{Drawn, IsDrawn, has_cut, cut, counts}
 use Rattle.mm_chart.specs.Series.{one_if, amount_of, has_stretch, is_inner_of, is_last_of, counts_channel}
 use Rattle.mm_chart.specs.Words.{is_marked}
-use Rattle.mm_chart.proofs.Shown.{own_least, own_in_order, own_not_shown}
 use Rattle.mm_chart.specs.Listed.{sum_of, SumsAddUp, SaysLeast, is_shaded, place_of, KeepsListed, OnlyListedHelps}
+use Rattle.mm_chart.specs.Table.{RecordsBalance}
+
+-- no stretches and no counts are a cut
+pub no_cut : (q : Dumping) → IsCut q [] []
+no_cut q = record {
+  stretches = record { each = λ k d within. absurd (omega arith); apart = λ i j d before within. absurd (omega arith) };
+  counted = record { each = λ k d within. absurd (omega arith); once = λ i j d before within. absurd (omega arith) };
+}
+
+-- the stretches and counts of which a verdict says that they are a cut
+own_cut : (q : Dumping) (x : Amounts) (ds : List Stretch) (ts : List ℕ) (l : ℕ) (b : ℤ) (v : Verdict)
+    → IsVerdict q x ds ts l b v → IsCut q (if has_cut v then ds else []) (if has_cut v then ts else [])
+own_cut q x ds ts l b (BoundIs m) is = is.1
+own_cut q x ds ts l b (NotShown n m) is = is.0.cut
+own_cut q x ds ts l b (FirstNotShown k) is = absurd is
+own_cut q x ds ts l b (LeastInOrder n) is = absurd is
+own_cut q x ds ts l b (Least n) is = is.0.cut
+own_cut q x ds ts l b v is = no_cut q
+
+-- what is drawn is a cut, whatever the verdict and the certificates of the first stores
+pub drawn_cut : (q : Dumping) (s : SheetRows) (cs : Option (List CertificateRows)) (v : Verdict)
+    → IsVerdictWith q s cs v → IsCut q (if has_cut v then s.cut else []) (if has_cut v then s.by_channels else [])
+drawn_cut q s (Some cs) (FirstNotShown k) is = is.0.0.cut
+drawn_cut q s (Some cs) (Least n) is = absurd is
+drawn_cut q s (Some cs) (LeastInOrder n) is = is.0.0.cut
+drawn_cut q s cs v is = own_cut q (amount s.plan) s.cut s.by_channels s.loss s.bound v is
+
+-- what a verdict says of the cut of all stores
+pub own_least : (q : Dumping) (s : SheetRows) (cs : Option (List CertificateRows)) (n : ℕ)
+    → IsVerdictWith q s cs (Least n) → IsOwnVerdict q s (Least n)
+own_least q s None n is = is
+own_least q s (Some cs) n is = absurd is
+
+pub own_in_order : (q : Dumping) (s : SheetRows) (cs : Option (List CertificateRows)) (n : ℕ)
+    → IsVerdictWith q s cs (LeastInOrder n) → IsOwnVerdict q s (Least n)
+own_in_order q s None n is = absurd is
+own_in_order q s (Some cs) n is = is.0
+
+pub own_not_shown : (q : Dumping) (s : SheetRows) (cs : Option (List CertificateRows)) (n : ℕ) (m : ℤ)
+    → IsVerdictWith q s cs (NotShown n m) → IsOwnVerdict q s (NotShown n m)
+own_not_shown q s None n m is = is
+own_not_shown q s (Some cs) n m is = is
 
 -- the numbers of the sum are the parts of the bound
 sum_is_bound : (p : Drawn) → sum_of p ≡ bound p.problem (cut p) (counts p)
@@ -174,7 +218,8 @@ module _ (p : Drawn) (is : IsDrawn p) where
         let first = inner_first e.first (inner_end p.problem.come e) t n inner here.first ends in
         let last = inner_last e.first (inner_end p.problem.come e) t n inner here.first ends in
         let of : is_inner_of p s t ≡ true =
-        list_any_at (λ f. eqb (store_of p.problem f) s && goes_past p.problem t f) ds k d inside (same_and s (goes_past p.problem t e) inner) in
+        list_any_at (λ f. eqb (store_of p.problem f) s && goes_past p.problem t f) ds k d inside
+        (same_and s (goes_past p.problem t e) inner) in
         marked_at p (Inner s) t first last (one_of (is_inner_of p s t) of)
 
     last_of : is_last_of p s e.last ≡ true
@@ -237,3 +282,6 @@ pub only_listed_helps : OnlyCountedHelps → OnlyListedHelps
 only_listed_helps only_counted_helps p n r x is here h fits =
     let least = only_counted_helps p.problem r (cut p) (counts p) x is.is_cut (listed_kept p is r h) fits in
     omega (arith, ints, least, sum_is_bound p, sum_least p n is here)
+
+pub records_balance : RecordsBalance
+records_balance q x s t first = omega (arith, step_balance q x s (t - 1) t (omega (arith, first)))

@@ -45,7 +45,7 @@ impl<'a> Column<'a> {
     }
 
     /// The sum over all steps.
-    #[tactic(auto, using(crate::proofs::Amounts::amount_at_step, crate::proofs::Ranges::sum_by_next))]
+    #[tactic(auto, using(crate::proofs::Numbers::amount_at_step, crate::proofs::Ranges::sum_by_next))]
     #[must_use]
     pub fn total(&self) -> u64
         ensures total { result ≡ total_of self.now.picture.now self.now.series }
@@ -59,7 +59,7 @@ impl<'a> Column<'a> {
     }
 
     /// The largest number of a step.
-    #[tactic(auto, using(crate::proofs::Amounts::amount_at_step, crate::proofs::Ranges::largest_next))]
+    #[tactic(auto, using(crate::proofs::Numbers::amount_at_step, crate::proofs::Ranges::largest_next))]
     #[must_use]
     pub fn most(&self) -> u64
         ensures largest { result ≡ most_of self.now.picture.now self.now.series }

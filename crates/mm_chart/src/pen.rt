@@ -106,7 +106,7 @@ pub fn push_signed_grouped(text: &mut Vec<u8>, number: i64) -> Pushed
 }
 
 // Writes an identifier. None of its characters needs to be escaped.
-#[tactic(auto, using(crate::proofs::Names::escaped_id))]
+#[tactic(auto, using(crate::proofs::Numbers::escaped_id))]
 pub(crate) fn push_id(text: &mut Vec<u8>, id: &StoreId) -> Pushed
     ensures { OnOk result (text.new.items ≡ text.old.items ++ escaped (id_text id.now)) }
 {

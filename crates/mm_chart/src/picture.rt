@@ -249,7 +249,7 @@ impl Picture {
     }
 
     // Whether a store has a stretch.
-    #[tactic(auto, using(crate::proofs::Mapped::list_any_map))]
+    #[tactic(auto, using(crate::proofs::Numbers::list_any_map))]
     pub(crate) fn has_stretch(&self, store: usize) -> bool
         ensures { result ≡ has_stretch self.now store }
     {
@@ -313,7 +313,7 @@ impl Picture {
     }
 
     // Whether a stretch has an inner step.
-    #[tactic(auto, using(crate::proofs::Mapped::list_any_map))]
+    #[tactic(auto, using(crate::proofs::Numbers::list_any_map))]
     pub(crate) fn has_inner(&self) -> bool
         ensures { result ≡ has_inner self.now }
     {
@@ -321,7 +321,7 @@ impl Picture {
     }
 
     // Marks of the steps in which a series asks for a stretch.
-    #[tactic(auto, using(crate::proofs::Mapped::list_any_map))]
+    #[tactic(auto, using(crate::proofs::Numbers::list_any_map))]
     fn marks(&self, series: Series) -> [bool; STEP_PLACES]
         ensures places { length result ≡ STEP_PLACES }
         ensures marks { AreMarks self.now series result }
@@ -368,7 +368,7 @@ impl Picture {
     }
 
     // The numbers of all steps, by their places.
-    #[tactic(auto, using(crate::proofs::Amounts::amount_at_step, crate::proofs::Amounts::amount_at_past))]
+    #[tactic(auto, using(crate::proofs::Numbers::amount_at_step, crate::proofs::Numbers::amount_at_past))]
     pub(crate) fn amounts(&self, series: Series) -> [u64; AMOUNT_PLACES]
         requires { IsSeries self.now series }
         ensures places { length result ≡ AMOUNT_PLACES }

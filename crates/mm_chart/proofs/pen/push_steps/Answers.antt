@@ -1,6 +1,6 @@
 use Rattle.std.proofs.Common.{◌≡◌, ◌+◌, ◌-◌, arith}
 use Rattle.mm_chart.specs.Layout.{edge}
-use Rattle.mm_chart.proofs.Outlines.{outlined_more}
+use Rattle.mm_chart.proofs.Numbers.{outlined_more}
 use Rattle.mm_chart.proofs.pen.push_steps.Goals as goal
 
 pub loop-step-preserved : goal.loop-step-preserved

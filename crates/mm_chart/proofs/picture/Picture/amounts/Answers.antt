@@ -1,5 +1,5 @@
 use Rattle.std.proofs.Common.{refl, sym, ◌∙◌, arith}
-use Rattle.mm_chart.proofs.Amounts.{amount_at_before, no_amounts}
+use Rattle.mm_chart.proofs.Numbers.{amount_at_before, no_amounts}
 use Rattle.mm_chart.proofs.picture.Picture.amounts.Goals as goal
 
 pub loop-step-init : goal.loop-step-init

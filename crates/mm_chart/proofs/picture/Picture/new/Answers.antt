@@ -1,4 +1,4 @@
-use Rattle.mm_chart.proofs.Shown.{drawn_cut}
+use Rattle.mm_chart.proofs.Listing.{drawn_cut}
 use Rattle.mm_chart.proofs.picture.Picture.new.Goals as goal
 
 pub invariant_of-result : goal.invariant_of-result
