@@ -1,11 +1,49 @@
--- What a call for the next packet of a retrieval gives and leaves.
-use Rattle.mm_service.proofs.Words.{◌≡◌, ℕ, Bool, true, false, List, refl, sym, subst, ap, ◌∙◌, Option, Some, None}
-use Rattle.mm_service.proofs.Words.{Result, Ok, Err, OnErr, if◌then◌else◌, option_map, none-some, is_id_text, field_of}
-use Rattle.mm_service.proofs.Words.{◌>>=◌, Stored, State, next, Holdings, state_of, store_of, state_of_text, Fault}
-use Rattle.mm_service.proofs.Words.{BadId, NoSuchStore, id_tested, missing, Serving, state_named, with_store}
+-- The store that a text names, and what a call for the next packet of its retrieval gives and leaves.
+use Rattle.mm_service.proofs.Words.{◌≡◌, ℕ, Bool, true, false, List, refl, sym, ap, if◌then◌else◌, Result, Ok, Err}
+use Rattle.mm_service.proofs.Words.{is_ok, false≢true, is_id_text, IsIdText, field_of, Fault, BadId, NoSuchStore}
+use Rattle.mm_service.proofs.Words.{id_tested, missing, subst, ◌∙◌, Option, Some, None, OnErr, option_map, none-some}
+use Rattle.mm_service.proofs.Words.{◌>>=◌, Stored, State, next, Holdings, state_of, store_of, state_of_text, Serving}
+use Rattle.mm_service.proofs.Words.{state_named, with_store, with_state}
+use Rattle.mm_base.proofs.IdFields.{is_id_text_decides}
 use Rattle.mm_desk.specs.declared.held.Held.{Held}
 use Rattle.mm_service.specs.declared.giving.Given.{Given}
 use Rattle.mm_service.specs.Giving.{Tells, next_of, first_of, Leaves, GivesNext, given_of}
+
+-- what the test gives
+tested : List ℕ → Bool → Result (List ℕ) Fault
+tested text t = if t then Ok (field_of text) else Err BadId
+
+pub is_tested : (text : List ℕ) → IsIdText text → id_tested text ≡ Ok (field_of text)
+unfolding tested
+is_tested text is = ap (tested text) ((is_id_text_decides text).1 is)
+
+pub is_refused : (text : List ℕ) → (IsIdText text → ⊥) → id_tested text ≡ Err BadId
+unfolding tested
+is_refused text other = ap (tested text) (no (is_id_text text) refl) where
+  no : (t : Bool) → is_id_text text ≡ t → t ≡ false
+  no true e = absurd (other ((is_id_text_decides text).0 e))
+  no false e = refl
+
+-- the fault of a text that is none
+fault_in : Result (List ℕ) Fault → Fault
+fault_in (Ok field) = BadId
+fault_in (Err fault) = fault
+
+-- an identifier's text lacks a store
+pub missing-known : (text field : List ℕ) → id_tested text ≡ Ok field → missing text ≡ NoSuchStore
+unfolding tested
+missing-known text field = by_test (is_id_text text) where
+  by_test : (t : Bool) → tested text t ≡ Ok field → (if t then NoSuchStore else BadId) ≡ NoSuchStore
+  by_test true e = refl
+  by_test false e = absurd (false≢true (ap is_ok e))
+
+-- and another text is refused for what it is
+pub missing-refused : (text : List ℕ) (fault : Fault) → id_tested text ≡ Err fault → missing text ≡ fault
+unfolding fault_in tested
+missing-refused text fault = by_test (is_id_text text) where
+  by_test : (t : Bool) → tested text t ≡ Err fault → (if t then NoSuchStore else BadId) ≡ fault
+  by_test true e = absurd (false≢true (sym (ap is_ok e)))
+  by_test false e = ap fault_in e
 
 -- what is given, and the service that is left
 abbrev Both : Type 0
@@ -66,25 +104,29 @@ gives_unnamed id field s old is_field is_none =
     ∙ ap (λ (x : Result State Fault). x >>= from_state field s) lacks)
 
 -- the state of the store that a text names, where the text passes this test
-abbrev by_test : List ℕ → Holdings → Bool → Option State
-by_test text memory t = option_map (λ (h : Held). h.state) (if t then store_of (field_of text) memory.stores else None)
+abbrev state_if : List ℕ → Holdings → Bool → Option State
+state_if text memory t = option_map (λ (h : Held). h.state) (if t then store_of (field_of text) memory.stores else None)
 
 -- a text that names a store is an identifier's, and the store is the one with its field
 pub named_state : (text : List ℕ) (memory : Holdings) (state : State) → state_of_text text memory ≡ Some state
     → (id_tested text ≡ Ok (field_of text)) × (state_of (field_of text) memory ≡ Some state)
-named_state text memory state = tested (is_id_text text) refl where
-  tested : (t : Bool) → is_id_text text ≡ t → by_test text memory t ≡ Some state
+named_state text memory state = either (is_id_text text) refl where
+  either : (t : Bool) → is_id_text text ≡ t → state_if text memory t ≡ Some state
       → (id_tested text ≡ Ok (field_of text)) × (state_of (field_of text) memory ≡ Some state)
-  tested true e found = (rw e refl, found)
-  tested false e found = absurd (none-some state found)
+  either true e found = (rw e refl, found)
+  either false e found = absurd (none-some state found)
 
 -- no store is named by the text
 pub gives_missing : (id : List ℕ) (s : Serving) (old : List ℕ) → state_of_text id s.memory ≡ None
     → GivesNext id (Err (missing id)) s s old old
-gives_missing id s old = tested (is_id_text id) refl where
-  tested : (t : Bool) → is_id_text id ≡ t → by_test id s.memory t ≡ None
+gives_missing id s old = either (is_id_text id) refl where
+  either : (t : Bool) → is_id_text id ≡ t → state_if id s.memory t ≡ None
       → GivesNext id (Err (if t then NoSuchStore else BadId)) s s old old
-  tested true e none = gives_unnamed id (field_of id) s old (rw e refl) none
-  tested false e none =
+  either true e none = gives_unnamed id (field_of id) s old (rw e refl) none
+  either false e none =
       let refused : id_tested id ≡ Err BadId = rw e refl in
       refusal_is id s old BadId (ap (λ (x : Result (List ℕ) Fault). x >>= from_field s) refused)
+
+pub put_back : (id : List ℕ) (s : Serving) (state : State) → with_state id s.memory state ≡ s.memory
+    → with_store id s state ≡ s
+put_back id s state same = ap (λ (m : Holdings). let t : Serving = record s { memory = m } in t) same

@@ -1,12 +1,5 @@
 pub mod Words
-pub mod ReadingLemmas
-pub mod StoreLemmas
 pub mod GiveLemmas
-pub mod AnswerLemmas
-pub mod ReportLemmas
-pub mod BoundLemmas
-pub mod HeaderLemmas
 pub mod SpellingLemmas
 pub mod CallLemmas
-pub mod ReceivedLemmas
-pub mod RequestingLemmas
+pub mod RequestLemmas

@@ -98,7 +98,7 @@ fn id_told(report: &Report) -> [u8; 8]
 impl Received {
     /// The report of the packet that the octets are, with nothing after it, as `Report::read` of `mm_st15` reads it.
     /// The tests come in this order: the packet, octets after it, the report.
-    #[tactic(auto, using(crate::proofs::ReceivedLemmas::spelled_by_telemetry))]
+    #[tactic(auto, using(crate::proofs::RequestLemmas::spelled_by_telemetry))]
     pub fn read(alloc: Global, octets: &[u8]) -> Result<Received, Fault>
         ensures read { Gives NoMemory (λ received. received.packet) result (said (report_alone octets.now)) }
         ensures spelled { IfOk result (λ received. IsReport received.report

@@ -166,7 +166,7 @@ impl RequestFields {
     /// `mm_st15` writes it: `Request::read` gives the request again. The tests come in this order: the application
     /// process identifier, the sequence count and the acknowledgement flags, the subtype, the number of instructions.
     /// No value of an instruction is tested: the service refuses the instruction where it is carried out.
-    #[tactic(auto, using(crate::proofs::RequestingLemmas::requests))]
+    #[tactic(auto, using(crate::proofs::RequestLemmas::requests))]
     pub fn write(
         &self,
         alloc: Global,

@@ -1,6 +1,6 @@
 use Rattle.mm_service.proofs.Words.{ap, ◌∙◌, arith, set, code_of_answer}
 use Rattle.mm_memory.specs.declared.answer.Answer.TheVariants.{Done}
-use Rattle.mm_service.proofs.AnswerLemmas.{one_more}
+use Rattle.mm_service.proofs.RequestLemmas.{one_more}
 use Rattle.mm_service.proofs.answers.tell_answers.Goals as goal
 
 pub loop-index-preserved : goal.loop-index-preserved

@@ -1,5 +1,5 @@
 use Rattle.mm_service.proofs.Words.{arith, ap, ◌∙◌, set}
-use Rattle.mm_service.proofs.AnswerLemmas.{one_more}
+use Rattle.mm_service.proofs.RequestLemmas.{one_more}
 use Rattle.mm_service.proofs.entry_fields.tell_entries.Goals as goal
 
 pub loop-index-preserved : goal.loop-index-preserved

@@ -1,5 +1,5 @@
 use Rattle.mm_service.proofs.Words.{ap, ◌∙◌, arith, set, spaced}
-use Rattle.mm_service.proofs.AnswerLemmas.{one_more}
+use Rattle.mm_service.proofs.RequestLemmas.{one_more}
 use Rattle.mm_service.proofs.instruction_fields.padded.Goals as goal
 
 pub loop-index-preserved : goal.loop-index-preserved

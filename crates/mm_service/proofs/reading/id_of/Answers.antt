@@ -1,5 +1,5 @@
 use Rattle.mm_service.proofs.Words.{refl, sym, ap, ◌∙◌, Ok, false≢true}
-use Rattle.mm_service.proofs.ReadingLemmas.{is_tested, is_refused}
+use Rattle.mm_service.proofs.GiveLemmas.{is_tested, is_refused}
 use Rattle.mm_service.proofs.reading.id_of.Goals as goal
 
 pub returns-in-Ok : goal.returns-in-Ok

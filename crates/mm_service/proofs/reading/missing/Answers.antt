@@ -1,5 +1,5 @@
 use Rattle.mm_service.proofs.Words.{sym}
-use Rattle.mm_service.proofs.ReadingLemmas.{missing-known, missing-refused}
+use Rattle.mm_service.proofs.GiveLemmas.{missing-known, missing-refused}
 use Rattle.mm_service.proofs.reading.missing.Goals as goal
 
 pub returns-in-Ok : goal.returns-in-Ok

@@ -1,9 +1,8 @@
 use Rattle.mm_service.proofs.Words.{rules, ◌≡◌, length, sym, ap, arith, Ok, instructions_of, reports_on, TooManyReports}
 use Rattle.mm_service.proofs.Words.{Applies, request_of, queue_of, with_reports, Serving}
 use Rattle.mm_service.specs.contracts.service.Service.{the_view}
-use Rattle.mm_service.proofs.BoundLemmas.{few, keeps_bound, not_beyond}
+use Rattle.mm_service.proofs.RequestLemmas.{few, keeps_bound, not_beyond, as_many_answers, few_instructions}
 use Rattle.mm_service.proofs.SpellingLemmas.{no_value}
-use Rattle.mm_service.proofs.ReportLemmas.{as_many_answers, few_instructions}
 use Rattle.mm_service.proofs.service.Service.apply_in_memory.Goals as goal
 
 pub tell_answers-requires : goal.tell_answers-requires

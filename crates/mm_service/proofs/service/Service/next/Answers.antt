@@ -2,8 +2,7 @@ use Rattle.mm_service.proofs.Words.{sym, ap, ◌∙◌, option_copied_mut, field
 use Rattle.mm_service.proofs.Words.{with_store}
 use Rattle.std.proofs.lemmas.Result.{on_err_weaker}
 use Rattle.mm_service.specs.contracts.service.Service.{the_view}
-use Rattle.mm_service.proofs.GiveLemmas.{gives_named, gives_missing, named_state}
-use Rattle.mm_service.proofs.StoreLemmas.{put_back}
+use Rattle.mm_service.proofs.GiveLemmas.{gives_named, gives_missing, named_state, put_back}
 use Rattle.mm_service.proofs.service.Service.next.Goals.{in-Some, in-None}
 use Rattle.mm_service.proofs.service.Service.next.Goals as goal
 
