@@ -57,10 +57,11 @@ impl Arcs {
         let (coming, held) = (nodes.stores_in(), nodes.stores_out());
         let spared = stores_of_channels(stores, nodes).both(self.of_row(Row::Dumped));
         let roomy = coming.both(self.of_row(Row::Room));
-        let mut next = match stores.come() {
-            Arrivals::Before => channels_of(stores, held).either(NodeSet::outs(spared)),
-            Arrivals::During => channels_of(stores, coming).either(NodeSet::ins(spared)),
+        let (sending, spared) = match stores.come() {
+            Arrivals::Before => (held, NodeSet::outs(spared)),
+            Arrivals::During => (coming, NodeSet::ins(spared)),
         };
+        let mut next = channels_of(stores, sending).either(spared);
         next = next.either(NodeSet::outs(roomy));
         next = next.either(NodeSet::ins(held.both(self.of_row(Row::Held))));
         if !nodes.channels().both(self.of_row(Row::Open)).is_empty() {

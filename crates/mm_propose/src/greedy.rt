@@ -121,6 +121,7 @@ fn arrive(table: &mut Table, store: usize, removed: u32) -> u32 {
 }
 
 // Cuts what is in a store to its size. Returns the number of lost blocks.
+#[inline(always)]
 fn hold(table: &mut Table, store: usize, coming: u32) -> u32 {
     let size = table.of(Slot::room(store));
     let held = coming.min(size);
@@ -172,6 +173,7 @@ fn cut_to_sizes(stores: &Stores, table: &mut Table) -> StoreSet {
 
 // Fills the stores up to their sizes, and finds the next overflow of each store that loses blocks. Returns whether one
 // does.
+#[inline(always)]
 fn fill_stores(stores: &Stores, spans: &mut [Span], outlook: &mut Outlook, at: usize) -> bool {
     let Some(span) = spans.get_mut(at) else {
         return false;
@@ -214,6 +216,7 @@ fn is_used_up(spans: &[Span], at: usize) -> bool {
 
 // Gives the window of a span to the stores in the order of their next overflows, from a span on. A store whose overflow
 // is averted overflows later, and gets its turn again there.
+#[inline(always)]
 fn empty_stores(
     stores: &Stores,
     spans: &mut [Span],
