@@ -15,6 +15,7 @@ mod station;
 mod store;
 mod table;
 mod text;
+mod whole;
 
 pub use cell::MOST_OCTETS;
 pub use column::Column;
@@ -24,6 +25,7 @@ pub use pass::{Pass, passes};
 pub use station::{Station, stations};
 pub use store::{PacketStore, stores};
 pub use text::Text;
+pub use whole::{Overlap, Whole};
 
 #[cfg(test)]
 mod tests;
