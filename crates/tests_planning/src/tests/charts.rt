@@ -1,7 +1,7 @@
 //! Lines of charts that are worked out by hand: outlines, headlines and words; and the refusals.
 use crate::tests::samples::{
     A_LIMITED, CHANNEL_LIMIT_CUT, FIRST_RUN, ONE_STORE_OF_A, Runtime, SCI, THREE_STEPS,
-    TWO_STEPS_OF_A,
+    TWO_STEPS_OF_A, holds,
 };
 use mm_chart::{chart_bytes, table_bytes};
 use samples::{chart_of, has_lines, has_texts, is_fault};
@@ -147,7 +147,7 @@ fn is_told(rt: &impl Runtime, plan: &str, headline: &str) {
     has_lines(rt, chart.as_str(), &[headline]);
     has_texts(rt, chart.as_str(), &RED);
     let says_more = chart.contains(LEAST) || chart.contains(HELP);
-    assert!(rt; !says_more, "for {plan}");
+    holds(rt, !says_more, plan);
 }
 
 #[test]

@@ -1,7 +1,7 @@
 //! The worked examples: what each plan loses, whether it fits, and what its cut shows.
 use crate::tests::samples::{
     A_AND_B, A_LIMITED, APART, CHANNEL_LIMIT_CUT, FIRST_RUN, ONE_STORE_OF_A, Runtime, SCI,
-    SCI_OF_SIZE_2, SCI_STARTS_WITH_2, THREE_STEPS, TWO_STEPS_OF_A, problem_of, sheet_of,
+    SCI_OF_SIZE_2, SCI_STARTS_WITH_2, THREE_STEPS, TWO_STEPS_OF_A, holds, problem_of, sheet_of,
 };
 use mm_cut::{Verdict, bound, first_bad, first_bad_count, verify};
 use mm_plan::{Fault, Sheet, fits, loss_of};
@@ -114,11 +114,11 @@ fn is_found(rt: &impl Runtime, problem: &Problem, sheet: &Sheet, row: &Row) {
     let (plan, cut, counts) = (sheet.plan(), sheet.cut(), sheet.by_channels());
     assert!(rt; plan.has_shape(problem));
     let found = (fits(problem, plan).err(), loss_of(problem, plan));
-    assert!(rt; found == (row.misfit, row.loss), "{}", row.name);
+    holds(rt, found == (row.misfit, row.loss), row.name);
     let found = (sheet.shape(problem).err(), bound_of(problem, sheet));
-    assert!(rt; found == (None, row.bound), "{}", row.name);
+    holds(rt, found == (None, row.bound), row.name);
     let verdict = verify(problem, plan, cut, counts, sheet.loss(), sheet.bound());
-    assert!(rt; verdict == row.verdict, "{}", row.name);
+    holds(rt, verdict == row.verdict, row.name);
 }
 
 #[test]

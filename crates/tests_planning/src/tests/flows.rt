@@ -3,7 +3,7 @@
 use crate::tests::samples::{
     A_AND_B, A_LIMITED, A_LIMITED_AND_B, APART, MILLIONS, Runtime, SCI, SCI_OF_SIZE_2,
     SCI_STARTS_WITH_2, SIXTEEN_HEADER, SIXTEEN_STORES, THREE_STEPS, TWO_STEPS_OF_A, alike_steps,
-    problem_of,
+    holds, problem_of,
 };
 use mm_flow::paths::solve_paths;
 use mm_flow::{Fault, MAX_ARCS, MAX_CAPACITY, MAX_NODES, Network, Solved, solve};
@@ -115,7 +115,7 @@ fn values_by_hand(rt: HostRuntime) {
     for case in &CASES {
         let network = built(&rt, case.nodes, case.arcs);
         let value = same_value(&rt, &network, 0, case.nodes.saturating_sub(1));
-        assert!(rt; value == case.value, "{}", case.name);
+        holds(&rt, value == case.value, case.name);
     }
 }
 
@@ -124,7 +124,7 @@ fn keeps(rt: &impl Runtime, setup: &str, forecast: &str, kept: u64) {
     let problem = problem_of(rt, setup, forecast);
     let network = network_of(rt.alloc(), &problem).expect(rt, "memory");
     let value = same_value(rt, &network, SOURCE, SINK);
-    assert!(rt; value == Some(kept), "{forecast}");
+    holds(rt, value == Some(kept), forecast);
 }
 
 // Setups and forecasts, and how many of all blocks are not lost.

@@ -2,7 +2,9 @@
 //! changed texts.
 ghost use Rattle.mm_plan.specs.Table.{HasShape};
 
-use crate::tests::samples::{A_LIMITED_AND_B, FIRST_RUN, Runtime, SCI, THREE_STEPS, problem_of};
+use crate::tests::samples::{
+    A_LIMITED_AND_B, FIRST_RUN, Runtime, SCI, THREE_STEPS, holds, problem_of,
+};
 use mm_cut::{Verdict, check_bytes};
 use mm_plan::{Plan, first_loss};
 use mm_planner::{plan_in_order, plan_in_order_bytes, print_plan_in_order};
@@ -39,7 +41,11 @@ fn firsts_lose(rt: &impl Runtime, problem: &Problem, plan: &Plan)
 {
     for (place, loss) in LOSSES.iter().enumerate() {
         assert!(rt; place < problem.stores());
-        assert!(rt; first_loss(problem, plan, place + 1) == *loss, "{place}");
+        holds(
+            rt,
+            first_loss(problem, plan, place + 1) == *loss,
+            "the loss of the first stores",
+        );
     }
 }
 
@@ -61,7 +67,7 @@ fn three_stores_are_served_in_order(rt: HostRuntime) {
 fn is_judged(rt: &impl Runtime, texts: (&str, &str), plan: &[u8], wanted: Verdict, name: &str) {
     let checked = check_bytes(rt.alloc(), texts.0.as_bytes(), texts.1.as_bytes(), plan);
     let (verdict, _line) = checked.expect(rt, name);
-    assert!(rt; verdict == wanted, "{name}: {verdict:?}");
+    holds(rt, verdict == wanted, name);
 }
 
 #[test]
@@ -189,6 +195,6 @@ fn verdicts_in_order_are_lines(rt: HostRuntime) {
         let text = with_change(&rt, "loss 4\n", loss);
         let checked = check_bytes(rt.alloc(), setup, forecast, text.as_bytes());
         let (_, line) = checked.expect(&rt, "a verdict");
-        assert!(rt; line.as_slice() == wanted.as_bytes(), "{wanted}");
+        holds(&rt, line.as_slice() == wanted.as_bytes(), wanted);
     }
 }

@@ -2,7 +2,7 @@
 //! compared with the slow reference that tries every plan, and the worked rows were counted by hand.
 ghost use Rattle.std.specs.Prelude.{◌<◌, ◌≤◌};
 
-use crate::tests::samples::{Runtime, filled, is_least, next_below};
+use crate::tests::samples::{Runtime, filled, holds, is_least, next_below};
 use crate::tests::twins::proposals::{FAMILIES, Numbers};
 use crate::tests::worths;
 use mm_cut::{Verdict, verify};
@@ -106,7 +106,7 @@ fn shown(rt: &impl Runtime, problem: &Problem, planned: Result<Planned, NoMemory
     assert!(rt; plan.has_shape(problem) && loss < 1 << 63);
     let (stretches, counts) = (shown.cut(), shown.by_channels());
     let verdict = verify(problem, plan, stretches, counts, loss, loss as i64);
-    assert!(rt; verdict == Verdict::Least(loss), "{verdict:?}");
+    holds(rt, verdict == Verdict::Least(loss), "the verdict");
     loss
 }
 
@@ -128,7 +128,7 @@ fn is_proposed(rt: &impl Runtime, problem: &Problem, loss: u64) -> bool {
 pub(crate) fn is_planned(rt: &impl Runtime, problem: &Problem) -> bool {
     let loss = shown(rt, problem, plan(rt.alloc(), problem));
     let by_flow = shown(rt, problem, plan_by_flow(rt.alloc(), problem));
-    assert!(rt; by_flow == loss, "{by_flow} and {loss}");
+    holds(rt, by_flow == loss, "the loss by the network alone");
     is_proposed(rt, problem, loss)
 }
 
@@ -155,11 +155,7 @@ fn tiny_problems_of_each_kind_are_planned_as_by_all_plans(rt: HostRuntime) {
                 proposed = proposed.saturating_add(u32::from(is_proposed));
             }
         }
-        assert!(rt;
-            proposed == 120,
-            "{}: {proposed} of 120 are proposed",
-            way.name
-        );
+        holds(&rt, proposed == 120, way.name);
     }
 }
 
@@ -177,10 +173,6 @@ fn problems_of_each_kind_and_family_are_planned_as_by_the_network(rt: HostRuntim
                 proposed = proposed.saturating_add(u32::from(is_planned(&rt, &problem)));
             }
         }
-        assert!(rt;
-            proposed == 16,
-            "{}: {proposed} of 16 are proposed",
-            way.name
-        );
+        holds(&rt, proposed == 16, way.name);
     }
 }

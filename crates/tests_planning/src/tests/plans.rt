@@ -2,7 +2,7 @@
 ghost use Rattle.mm_plan.specs.Simulated.{CoversProblem};
 
 use crate::tests::samples::{
-    A_AND_B, APART, FIRST_RUN, Runtime, SCI, SCI_OF_SIZE_2, THREE_STEPS, filled, problem_of,
+    A_AND_B, APART, FIRST_RUN, Runtime, SCI, SCI_OF_SIZE_2, THREE_STEPS, filled, holds, problem_of,
     sheet_of,
 };
 use mm_plan::{Plan, Sheet, Simulated, loss_of, simulate};
@@ -27,7 +27,7 @@ fn has_volumes(rt: &impl Runtime, problem: &Problem, simulated: &Simulated)
         let (written, left) = (simulated.written(0, step), simulated.left(0, step));
         let found = (written, left, simulated.lost(0, step));
         let wanted = VOLUMES.get(step as usize - 1);
-        assert!(rt; wanted == Some(&found), "step {step}");
+        holds(rt, wanted == Some(&found), "the step");
     }
     assert!(rt; simulated.total() == 2);
 }
@@ -54,7 +54,7 @@ fn has_amounts(rt: &impl Runtime, problem: &Problem, plan: &Plan, wanted: &[u32]
     for step in 1..problem.steps() + 1 {
         for store in 0..problem.stores() {
             let amount = plan.amount(store, step);
-            assert!(rt; wanted.next() == Some(&amount), "{name}");
+            holds(rt, wanted.next() == Some(&amount), name);
         }
     }
     assert!(rt; wanted.next() == None);

@@ -1,5 +1,5 @@
 //! Texts of setups and forecasts with what is read of them, and problems from data.
-use crate::tests::samples::Runtime;
+use crate::tests::samples::{Runtime, holds};
 use mm_problem::Fault;
 
 // Texts, by the fault with which each is refused, or by `read`.
@@ -22,5 +22,5 @@ fn shown(rt: &impl Runtime, fault: Option<Fault>) -> String {
 // The fault is printed like this, or is `read` if there is none.
 fn is_shown(rt: &impl Runtime, fault: Option<Fault>, wanted: &str) {
     let shown = shown(rt, fault);
-    assert!(rt; shown.as_str() == wanted, "{wanted}");
+    holds(rt, shown.as_str() == wanted, wanted);
 }

@@ -13,6 +13,16 @@ pub(crate) trait Runtime: Abort + AllocGlobal {}
 
 impl<R: Abort + AllocGlobal> Runtime for R {}
 
+// This holds, or the test fails and shows what.
+pub(crate) fn holds(rt: &impl Runtime, is_so: bool, what: &str) {
+    assert!(rt; is_so, "{what}");
+}
+
+// This holds of the case with a name, or the test fails and shows both.
+pub(crate) fn holds_of(rt: &impl Runtime, is_so: bool, name: &str, what: &str) {
+    assert!(rt; is_so, "{name}: {what}");
+}
+
 // A store of size 4, and one of size 2.
 pub(crate) const SCI: &str = "[[store]]\nid = \"SCI\"\nsize = 4\ntype = \"bounded\"\nchannel = 0\n";
 
@@ -195,7 +205,7 @@ fn may_lose_less(rt: &impl Runtime, problem: &Problem, loss: u64) -> bool {
 pub(crate) fn is_least(rt: &impl Runtime, problem: &Problem, loss: u64) {
     let more = loss.saturating_add(1);
     let is_least = !may_lose_less(rt, problem, loss) && may_lose_less(rt, problem, more);
-    assert!(rt; is_least, "{loss} is not the least loss");
+    holds(rt, is_least, "the least loss");
 }
 
 // The next of the linear congruential numbers, of 24 bits (Numerical Recipes, section 7.1).

@@ -1,5 +1,5 @@
 //! The planner compared with the slow reference that tries every plan, on tiny problems.
-use crate::tests::samples::{Runtime, filled, joined, problem_of};
+use crate::tests::samples::{Runtime, filled, holds, joined, problem_of};
 use mm_cut::{Verdict, verify};
 use mm_exhaustive::plan_below;
 use mm_plan::{NoMemory, fits, loss_of};
@@ -68,7 +68,7 @@ fn proposed_loss(rt: &impl Runtime, problem: &Problem) -> u64 {
     let cut = &proposed.cut;
     let (stretches, counts) = (cut.stretches.as_slice(), cut.by_channels.as_slice());
     let verdict = verify(problem, &plan, stretches, counts, loss, loss as i64);
-    assert!(rt; verdict == Verdict::Least(loss), "{verdict:?}");
+    holds(rt, verdict == Verdict::Least(loss), "the verdict");
     loss
 }
 
@@ -88,7 +88,7 @@ fn least_loss(rt: &impl Runtime, problem: &Problem) -> u64 {
     let more = plan_below(rt.alloc(), problem, least.saturating_add(1)).expect(rt, "memory");
     let found = more.expect(rt, "a plan that loses least");
     assert!(rt; (fits(problem, &found), loss_of(problem, &found)) == (Ok(()), least));
-    assert!(rt; less.is_none(), "a plan loses less than {least}");
+    holds(rt, less.is_none(), "no plan loses less");
     least
 }
 
@@ -97,7 +97,7 @@ fn is_planned_alike(rt: &impl Runtime, case: &Counted) {
     let (setup, forecast) = (case.setup.as_bytes(), case.forecast.as_bytes());
     let first = plan_bytes(rt.alloc(), setup, forecast).expect(rt, "memory");
     let second = plan_bytes(rt.alloc(), setup, forecast).expect(rt, "memory");
-    assert!(rt; first == second, "{}", case.name);
+    holds(rt, first == second, case.name);
 }
 
 static COUNTED: [Counted; 25] = counted! {
@@ -160,7 +160,7 @@ static COUNTED: [Counted; 25] = counted! {
 fn plans_lose_what_is_counted_by_hand(rt: HostRuntime) {
     for case in &COUNTED {
         let problem = problem_of(&rt, case.setup, case.forecast);
-        assert!(rt; least_loss(&rt, &problem) == case.loss, "{}", case.name);
+        holds(&rt, least_loss(&rt, &problem) == case.loss, case.name);
         is_planned_alike(&rt, case);
     }
 }

@@ -1,6 +1,6 @@
 //! The worths of numbers where stores have sizes by step or arrivals come during dumps: by hand, and compared with all
 //! plans of tiny problems.
-use crate::tests::samples::{Runtime, is_least, next_below};
+use crate::tests::samples::{Runtime, holds, is_least, next_below};
 use crate::tests::worths::{Numbers, least_loss, least_number};
 use mm_problem::{Arrivals, MAX_BLOCKS, Problem};
 use mm_sensitivity::{Item, sensitivity_bytes, worths};
@@ -58,7 +58,7 @@ fn tables_with_sizes_by_step_by_hand(rt: HostRuntime) {
     for (name, setup, forecast, wanted) in &TABLES {
         let made = sensitivity_bytes(rt.alloc(), setup.as_bytes(), forecast.as_bytes());
         let text = made.expect(&rt, "a table");
-        assert!(rt; text.as_slice() == wanted.as_bytes(), "{name}");
+        holds(&rt, text.as_slice() == wanted.as_bytes(), name);
     }
 }
 

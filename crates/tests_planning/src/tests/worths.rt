@@ -1,5 +1,5 @@
 //! The worths of windows, sizes and limits: by hand, compared with all plans of tiny problems, and with new plans.
-use crate::tests::samples::{NAMES, Runtime, is_least, limited, made, next_below, row};
+use crate::tests::samples::{NAMES, Runtime, holds, is_least, limited, made, next_below, row};
 use mm_planner::plan;
 use mm_problem::{LimitRow, MAX_BLOCKS, Problem, StoreRow};
 use mm_sensitivity::{Item, sensitivity_bytes, worths};
@@ -41,7 +41,7 @@ fn tables_by_hand(rt: HostRuntime) {
     for (name, setup, forecast, wanted) in &TABLES {
         let made = sensitivity_bytes(rt.alloc(), setup.as_bytes(), forecast.as_bytes());
         let text = made.expect(&rt, "a table");
-        assert!(rt; text.as_slice() == wanted.as_bytes(), "{name}");
+        holds(&rt, text.as_slice() == wanted.as_bytes(), name);
     }
 }
 
@@ -173,9 +173,13 @@ fn is_worth_what_plans_lose(rt: &impl Runtime, numbers: &Numbers) {
         let next = least_loss(rt, &numbers.with(rt, item, now.saturating_add(1)));
         let most = least_loss(rt, &numbers.with(rt, item, MAX_BLOCKS));
         let without = least_loss(rt, &numbers.with(rt, item, least_number(item)));
-        assert!(rt; next.saturating_add(worth.next) == least, "{worth:?}");
-        assert!(rt; most.saturating_add(worth.most) == least, "{worth:?}");
-        assert!(rt; without == least.saturating_add(worth.without), "{worth:?}");
+        holds(rt, next.saturating_add(worth.next) == least, "the worth");
+        holds(rt, most.saturating_add(worth.most) == least, "the worth");
+        holds(
+            rt,
+            without == least.saturating_add(worth.without),
+            "the worth",
+        );
     }
 }
 

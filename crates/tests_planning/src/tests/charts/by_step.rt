@@ -1,6 +1,6 @@
 //! Charts and tables, worked out by hand, where a store has sizes by step or arrivals come during dumps.
 use crate::tests::charts::samples::{chart_of, has_lines, has_texts, text_of};
-use crate::tests::samples::{FIRST_RUN, Runtime, SCI, THREE_STEPS};
+use crate::tests::samples::{FIRST_RUN, Runtime, SCI, THREE_STEPS, holds};
 use mm_chart::table_bytes;
 
 const CAM: &str = "[[store]]\nid = \"CAM\"\nsize = 4\ntype = \"bounded\"\nchannel = 0\n";
@@ -50,9 +50,10 @@ fn no_other_chart_has_an_outline_of_sizes(rt: HostRuntime) {
     ] {
         let chart = chart_of(&rt, setup, forecast, plan);
         has_texts(&rt, chart.as_str(), &["<path class='f'"]);
-        assert!(rt;
+        holds(
+            &rt,
             !chart.contains("class='z'") && !chart.contains(".z{"),
-            "{chart}"
+            "no dashed line",
         );
     }
 }
@@ -95,6 +96,6 @@ fn tables_have_the_records_of_the_kind(rt: HostRuntime) {
         let written = table_bytes(rt.alloc(), setup, forecast, plan.as_bytes());
         let table = text_of(&rt, written, plan);
         let records = table.as_str().split_once('\n').map(|parts| parts.1);
-        assert!(rt; records == Some(*wanted), "{table}");
+        holds(&rt, records == Some(*wanted), table.as_str());
     }
 }

@@ -5,7 +5,7 @@ use crate::tests::charts::{
     MORE_IN_A, NOTHING_LEAVES, ONE_COMES, OVER_THE_LIMIT, THREE_SIZES, TWO_OF_SIZE_1,
 };
 use crate::tests::samples::{
-    A_LIMITED, CHANNEL_LIMIT_CUT, FIRST_RUN, Runtime, SCI, THREE_STEPS, TWO_STEPS_OF_A,
+    A_LIMITED, CHANNEL_LIMIT_CUT, FIRST_RUN, Runtime, SCI, THREE_STEPS, TWO_STEPS_OF_A, holds,
 };
 
 // All keys, in the order of their places.
@@ -70,7 +70,7 @@ fn a_chart_has_the_keys_of_what_is_there(rt: HostRuntime) {
         let chart = chart_of(&rt, setup, forecast, plan);
         for (key, is_there) in KEYS.iter().zip(wanted) {
             let has = chart.lines().any(|line| line == *key);
-            assert!(rt; has == *is_there, "{key} of {plan}");
+            holds(&rt, has == *is_there, key);
         }
     }
 }

@@ -3,7 +3,7 @@ ghost use Rattle.mm_chart.specs.Series.{IsSeries};
 
 use crate::tests::charts::SHOWN;
 use crate::tests::charts::samples::has_lines;
-use crate::tests::samples::{FIRST_RUN, Runtime, SCI, THREE_STEPS};
+use crate::tests::samples::{FIRST_RUN, Runtime, SCI, THREE_STEPS, holds};
 use mm_chart::{Column, Picture, Series, draw};
 use mm_cut::{Parts, Verdict, read_sheet};
 use mm_plan::simulate;
@@ -54,7 +54,11 @@ fn picture_of(rt: &impl Runtime) -> Picture {
 fn has_numbers(rt: &impl Runtime, picture: &Picture) {
     assert!(rt; picture.problem().steps() == 3);
     for (series, wanted) in NUMBERS {
-        assert!(rt; numbers_of(picture, series) == wanted, "{series:?}");
+        holds(
+            rt,
+            numbers_of(picture, series) == wanted,
+            "the numbers of the picture",
+        );
     }
 }
 
@@ -93,5 +97,5 @@ fn a_picture_is_shown_without_its_marks(rt: HostRuntime) {
     let picture = picture_of(&rt);
     let shown = format!(in rt.alloc(); "{picture:?}").expect(&rt, "memory");
     let wanted = shown_by_fields(&rt, &picture);
-    assert!(rt; shown.as_str() == wanted.as_str(), "{shown}");
+    holds(&rt, shown.as_str() == wanted.as_str(), "the picture");
 }

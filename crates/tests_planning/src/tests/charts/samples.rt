@@ -1,5 +1,5 @@
 //! The setup of one store, charts of texts, and assertions on them.
-use crate::tests::samples::Runtime;
+use crate::tests::samples::{Runtime, holds};
 use mm_chart::{Fault, chart_bytes};
 
 pub const ONE_STORE: &str = "[[store]]\nid = \"A\"\nsize = 1\ntype = \"bounded\"\nchannel = 0\n";
@@ -20,19 +20,19 @@ pub fn chart_of(rt: &impl Runtime, setup: &str, forecast: &str, plan: &str) -> S
 pub fn is_fault(rt: &impl Runtime, written: Result<Vec<u8>, Fault>, wanted: &str) {
     let fault = written.expect_err(rt, "a fault");
     let text = fault.to_string(rt.alloc()).expect(rt, "memory");
-    assert!(rt; text.as_str() == wanted, "{text}");
+    holds(rt, text.as_str() == wanted, wanted);
 }
 
 /// The chart has these lines.
 pub fn has_lines(rt: &impl Runtime, chart: &str, wanted: &[&str]) {
     for wanted in wanted {
-        assert!(rt; chart.lines().any(|line| line == *wanted), "no {wanted}");
+        holds(rt, chart.lines().any(|line| line == *wanted), wanted);
     }
 }
 
 /// The chart has these texts in it.
 pub fn has_texts(rt: &impl Runtime, chart: &str, wanted: &[&str]) {
     for wanted in wanted {
-        assert!(rt; chart.contains(wanted), "no {wanted}");
+        holds(rt, chart.contains(wanted), wanted);
     }
 }

@@ -1,7 +1,7 @@
 //! Tables of plans whose records are worked out by hand.
 use crate::tests::charts::samples::text_of;
 use crate::tests::charts::sizes::{WIDE, most_lost, most_steps};
-use crate::tests::samples::{FIRST_RUN, Runtime, SCI, THREE_STEPS};
+use crate::tests::samples::{FIRST_RUN, Runtime, SCI, THREE_STEPS, holds};
 use mm_chart::table_bytes;
 
 // The table of these texts.
@@ -64,7 +64,7 @@ static TABLES: [(&str, &str, &str, &str); 4] = tables! {
 fn tables_have_these_records(rt: HostRuntime) {
     for (setup, forecast, plan, wanted) in &TABLES {
         let table = table_of(&rt, setup, forecast, plan);
-        assert!(rt; table.as_str() == *wanted, "{table}");
+        holds(&rt, table.as_str() == *wanted, wanted);
     }
 }
 
@@ -79,7 +79,11 @@ static LARGEST: [(usize, Option<&str>); 4] = [
 // The table has these lines at these places.
 fn has_places(rt: &impl Runtime, table: &str) {
     for (place, line) in &LARGEST {
-        assert!(rt; table.lines().nth(*place) == *line, "line {place}");
+        holds(
+            rt,
+            table.lines().nth(*place) == *line,
+            "a line of the table",
+        );
     }
 }
 

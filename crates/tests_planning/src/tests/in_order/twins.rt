@@ -3,7 +3,7 @@ ghost use Rattle.std.specs.Prelude.{◌≤◌, length};
 ghost use Rattle.mm_plan.specs.Table.{HasShape};
 
 use crate::tests::kinds::WAYS;
-use crate::tests::samples::{Runtime, is_least, limited, made};
+use crate::tests::samples::{Runtime, holds, is_least, limited, made};
 use crate::tests::twins::proposals::{FAMILIES, Numbers};
 use crate::tests::twins::small_problems;
 use crate::tests::worths;
@@ -115,7 +115,7 @@ fn planned(rt: &impl Runtime, problem: &Problem) -> Sheet
     assert!(rt; sheet.plan().has_shape(problem));
     let verdict = verdict_of(problem, &sheet);
     let least = Verdict::LeastInOrder(sheet.loss());
-    assert!(rt; verdict == least, "{verdict:?}");
+    holds(rt, verdict == least, "the verdict");
     sheet
 }
 
@@ -195,7 +195,7 @@ fn is_least_alone(rt: &impl Runtime, problem: &Problem, ordered: &Plan, stores: 
         .certificate
         .loss();
     let loss = first_loss(problem, ordered, stores);
-    assert!(rt; loss == least, "{stores} stores lose {loss}");
+    holds(rt, loss == least, "the loss of the first stores");
 }
 
 // The same for the first store, the first two and so on. Returns whether the plan without order loses another number
@@ -240,7 +240,7 @@ fn of_each_family_are_least_alone(rt: &impl Runtime, seed: u64, is_limited: bool
             others = others.saturating_add(u32::from(is_other));
         }
     }
-    assert!(rt; others > 4, "{others}");
+    holds(rt, others > 4, "other plans");
 }
 
 #[test]

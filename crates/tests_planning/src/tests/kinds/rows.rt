@@ -2,7 +2,7 @@
 ghost use Rattle.mm_plan.specs.Simulated.{CoversProblem};
 
 use crate::tests::kinds::{is_planned, is_planned_least};
-use crate::tests::samples::{Runtime, made, row, sheet_of};
+use crate::tests::samples::{Runtime, holds, made, row, sheet_of};
 use mm_cut::{Verdict, verify};
 use mm_plan::{Simulated, simulate};
 use mm_problem::{Arrivals, Problem};
@@ -39,11 +39,7 @@ impl Row {
         let (plan, cut, counts) = (sheet.plan(), sheet.cut(), sheet.by_channels());
         assert!(rt; plan.has_shape(problem));
         let verdict = verify(problem, plan, cut, counts, sheet.loss(), sheet.bound());
-        assert!(rt;
-            verdict == Verdict::Least(self.loss),
-            "{}: {verdict:?}",
-            self.name
-        );
+        holds(rt, verdict == Verdict::Least(self.loss), self.name);
     }
 }
 
@@ -112,7 +108,7 @@ fn an_observation_in_a_pass_loses_what_was_worked_out(rt: HostRuntime) {
     for row in &OBSERVED {
         let problem = row.problem(&rt);
         row.is_least(&rt, &problem);
-        assert!(rt; is_planned(&rt, &problem), "{}", row.name);
+        holds(&rt, is_planned(&rt, &problem), row.name);
     }
 }
 
@@ -121,7 +117,7 @@ fn stores_with_sizes_by_step_lose_what_was_worked_out(rt: HostRuntime) {
     for row in &SIZED {
         let problem = row.problem(&rt);
         row.is_least(&rt, &problem);
-        assert!(rt; is_planned_least(&rt, &problem), "{}", row.name);
+        holds(&rt, is_planned_least(&rt, &problem), row.name);
     }
 }
 
@@ -145,7 +141,7 @@ fn has_volumes(
         let (written, left) = (simulated.written(0, step), simulated.left(0, step));
         let found = (written, left, simulated.lost(0, step));
         let wanted = volumes.get(step as usize - 1);
-        assert!(rt; wanted == Some(&found), "step {step}: {found:?}");
+        holds(rt, wanted == Some(&found), "the step");
     }
 }
 

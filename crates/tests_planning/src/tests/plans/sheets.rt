@@ -1,5 +1,7 @@
 //! Plan texts: how they are read, printed and refused.
-use crate::tests::samples::{CHANNEL_LIMIT_CUT, FIRST_RUN, Runtime, numbered, repeated, sheet_of};
+use crate::tests::samples::{
+    CHANNEL_LIMIT_CUT, FIRST_RUN, Runtime, holds, numbered, repeated, sheet_of,
+};
 use mm_plan::{Fault, Sheet};
 use std::alloc::Global;
 
@@ -14,7 +16,7 @@ fn line_of(alloc: Global, text: &[u8]) -> u32 {
 
 // The text is refused with this line; 0 if it is that of a sheet.
 fn is_refused(rt: &impl Runtime, text: &[u8], line: u32) {
-    assert!(rt; line_of(rt.alloc(), text) == line, "line {line}");
+    holds(rt, line_of(rt.alloc(), text) == line, "the line");
 }
 
 // The sheet has one store and one stretch, no counted step, and a loss and a bound of 2.
@@ -41,7 +43,7 @@ fn channel_limit_cut_is_read(rt: HostRuntime) {
 // The text is that of a sheet, which is printed as the second text.
 pub(crate) fn read_and_printed(rt: &impl Runtime, text: &str, printed: &str) {
     let text = sheet_of(rt, text).print(rt.alloc()).expect(rt, "memory");
-    assert!(rt; text.as_slice() == printed.as_bytes(), "{printed}");
+    holds(rt, text.as_slice() == printed.as_bytes(), printed);
 }
 
 const IN_ANY_ORDER: &str =
@@ -78,7 +80,7 @@ static READ: [(&[u8], &str); 8] = wanted! {
 #[test]
 fn sheet_texts_are_read(rt: HostRuntime) {
     for (text, name) in &READ {
-        assert!(rt; line_of(rt.alloc(), text) == 0, "{name}");
+        holds(&rt, line_of(rt.alloc(), text) == 0, name);
     }
 }
 

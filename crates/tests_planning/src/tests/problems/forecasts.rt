@@ -1,6 +1,6 @@
 //! Texts of forecasts, each with its contents or its expected fault.
 use super::is_shown;
-use crate::tests::samples::{Runtime, SCI, id, joined, numbered, problem_of, repeated};
+use crate::tests::samples::{Runtime, SCI, holds, id, joined, numbered, problem_of, repeated};
 use mm_problem::{Problem, Setup};
 
 const SECOND: &str =
@@ -112,10 +112,10 @@ fn is_store(
     wanted: (u32, u32, u8),
 ) {
     let store = id(rt, text);
-    assert!(rt; problem.place(&store) == Some(place), "{text}");
+    holds(rt, problem.place(&store) == Some(place), text);
     assert!(rt; place < problem.stores() && problem.id(place) == store);
     let (size, start) = (problem.setup_size(place), problem.start(place));
-    assert!(rt; (size, start, problem.channel(place)) == wanted, "{text}");
+    holds(rt, (size, start, problem.channel(place)) == wanted, text);
 }
 
 // It has two stores and two steps, and no store of another name.
@@ -130,7 +130,7 @@ fn comes(rt: &impl Runtime, problem: &Problem, step: u32, wanted: [u32; 3]) {
     assert!(rt; problem.stores() == 2 && 0 < step && step <= problem.steps());
     let (first, second) = (problem.arrivals(0, step), problem.arrivals(1, step));
     let found = [problem.window(step), first, second];
-    assert!(rt; found == wanted, "step {step}");
+    holds(rt, found == wanted, "the step");
 }
 
 // Channels in this step have these limits; the last is no channel.
@@ -138,7 +138,7 @@ fn has_limits(rt: &impl Runtime, problem: &Problem, step: u32, wanted: &[(u8, Op
     assert!(rt; 0 < step && step <= problem.steps());
     for (channel, limit) in wanted {
         let found = problem.limit(*channel, step);
-        assert!(rt; found == *limit, "channel {channel}, step {step}");
+        holds(rt, found == *limit, "the limit of a channel");
     }
 }
 

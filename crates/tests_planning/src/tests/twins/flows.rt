@@ -3,7 +3,7 @@
 ghost use Rattle.std.specs.Prelude.{◌<◌};
 
 use crate::tests::flows::{ArcRow, built};
-use crate::tests::samples::{Runtime, next_below};
+use crate::tests::samples::{Runtime, holds_of, next_below};
 use mm_flow::paths::solve_paths;
 use mm_flow::{Fault, Network, Solved, solve};
 
@@ -195,11 +195,11 @@ impl Tally {
         let by_levels = solve(rt.alloc(), network, source, sink);
         let plain = flow_plain::solve(rt.alloc(), network, source, sink);
         let alike = are_alike(&by_levels, &plain);
-        assert!(rt; alike, "{name}, {nodes} nodes, by levels");
+        holds_of(rt, alike, name, "by levels");
         let by_paths = solve_paths(rt.alloc(), network, source, sink);
         let plain = flow_plain::paths::solve_paths(rt.alloc(), network, source, sink);
         let alike = are_alike(&by_paths, &plain);
-        assert!(rt; alike, "{name}, {nodes} nodes, by paths");
+        holds_of(rt, alike, name, "by paths");
         self.count(&by_levels, &by_paths);
     }
 }

@@ -2,8 +2,8 @@
 //! reference on random tiny problems.
 use super::{least_loss, planned_loss};
 use crate::tests::samples::{
-    Runtime, SIXTEEN_HEADER, SIXTEEN_STORES, alike_steps, each_limited, joined, limited, made,
-    next_below, problem_of, row,
+    Runtime, SIXTEEN_HEADER, SIXTEEN_STORES, alike_steps, each_limited, holds, joined, limited,
+    made, next_below, problem_of, row,
 };
 use mm_problem::{LimitRow, Problem, StoreRow};
 
@@ -29,7 +29,7 @@ fn largest(rt: &impl Runtime, limits: &str, steps: u32) -> Problem {
 fn both_paths_plan_the_largest_problems(rt: HostRuntime) {
     for (limits, steps, loss) in &LARGEST {
         let problem = largest(&rt, limits, *steps);
-        assert!(rt; planned_loss(&rt, &problem) == *loss, "{loss}");
+        holds(&rt, planned_loss(&rt, &problem) == *loss, "the loss");
     }
 }
 

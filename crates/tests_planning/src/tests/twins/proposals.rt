@@ -5,7 +5,7 @@
 ghost use Rattle.std.specs.Prelude.{◌<◌, ◌≤◌};
 ghost use Rattle.mm_plan.specs.Table.{HasShape};
 
-use crate::tests::samples::{NAMES, Runtime, limited, made, row};
+use crate::tests::samples::{NAMES, Runtime, holds_of, limited, made, row};
 use mm_plan::Plan;
 use mm_problem::{LimitRow, MAX_BLOCKS, Problem, StoreRow};
 use mm_propose::{Proposal, propose};
@@ -266,10 +266,10 @@ fn is_alike(rt: &impl Runtime, problem: &Problem, name: &str, tally: &mut Tally)
     let proposed = propose(rt.alloc(), problem).expect(rt, "memory");
     let plain = propose_plain::propose(rt.alloc(), problem).expect(rt, "memory");
     let plans = are_alike(problem, &proposed.plan, &plain.plan);
-    assert!(rt; plans, "the plan of {name}, {stores} stores, {steps} steps");
+    holds_of(rt, plans, name, "the plan");
     let (cut, other) = (&proposed.cut, &plain.cut);
     let cuts = cut.stretches == other.stretches && cut.by_channels == other.by_channels;
-    assert!(rt; cuts, "the cut of {name}, {stores} stores, {steps} steps");
+    holds_of(rt, cuts, name, "the cut");
     let first = propose_plain::first_plan(rt.alloc(), problem).expect(rt, "memory");
     let is_moved = !are_alike(problem, &proposed.plan, &first);
     tally.count(&proposed, is_moved);

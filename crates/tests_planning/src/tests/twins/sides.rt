@@ -2,7 +2,7 @@
 ghost use Rattle.std.specs.Prelude.{◌<◌};
 
 use crate::tests::flows::{ArcRow, built, same_value};
-use crate::tests::samples::{Runtime, next_below};
+use crate::tests::samples::{Runtime, holds, next_below};
 use mm_exhaustive::{MAX_TRIED, cut_below};
 
 // The least capacity of a cut between node 0 and node 1 is the value of both solvers.
@@ -37,7 +37,7 @@ static COUNTED: [(u32, &[ArcRow], Option<u64>); 5] = wanted! {
 fn cuts_counted_by_hand(rt: HostRuntime) {
     for (nodes, arcs, least) in &COUNTED {
         let found = least_capacity(&rt, *nodes, arcs);
-        assert!(rt; found == *least, "{nodes} nodes");
+        holds(&rt, found == *least, "the nodes");
     }
 }
 
