@@ -3,7 +3,7 @@ ghost use Rattle.std.specs.Prelude.{◌≢◌, ◌+◌, ◌<◌, ◌≤◌, leng
 ghost use Rattle.mm_base.specs.declared.limits.TheConstants.{MAX_STORES};
 
 use crate::tests::links::{has_sent, new_links};
-use crate::tests::samples::{NAMES, is_named, stores_with};
+use crate::tests::samples::{NAMES, holds_of, is_named, stores_with};
 use mm_desk::Held;
 use mm_dump::{Dumped, Link, MemoryLink, Order, OrderBroken, TakenPacket};
 use mm_store::PacketStore;
@@ -104,10 +104,10 @@ fn tried<R: Threads + Wait + Sync + Abort>(rt: &R, alloc: Global, case: &Case) {
     let mut stores = stores_with(rt, alloc, case.held);
     let mut links = new_links(rt, alloc, case.until);
     let done = dumped(rt, alloc, case.wanted, &mut stores, &mut links);
-    assert!(rt; done.broken == case.broken, "{name}: the worst cause");
-    assert!(rt; done.spent == case.spent, "{name}: how much was spent");
+    holds_of(rt, done.broken == case.broken, name, "the worst cause");
+    holds_of(rt, done.spent == case.spent, name, "how much was spent");
     have(rt, &stores, case.counts);
-    assert!(rt; links.len() == case.until.len(), "{name}: as many links");
+    holds_of(rt, links.len() == case.until.len(), name, "as many links");
     for link in &links {
         took(rt, link, case.sent);
         has_sent(rt, name, link, case.sent.len(), case.failures);

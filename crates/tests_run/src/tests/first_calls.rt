@@ -5,7 +5,7 @@ mod instruments;
 mod rest;
 
 use crate::tests::runs::trials::{ONE_STORE, THREE_STEPS, TWO_PASSES};
-use crate::tests::samples::{id, memory_of, packet};
+use crate::tests::samples::{holds, id, memory_of, packet};
 use callers::checker::least_loss;
 use callers::flow::{greatest_value, in_a_row};
 use callers::memory::with_one_off;
@@ -30,7 +30,7 @@ fn the_narrower_arc_decides(rt: HostRuntime) {
     for (first, second, most) in &ARCS {
         let network = in_a_row(rt.alloc(), *first, *second).expect(&rt, "memory");
         let value = greatest_value(rt.alloc(), &network, 0, 2).expect(&rt, "a solution");
-        assert!(rt; value == *most, "{first} and {second}");
+        holds(&rt, value == *most, "the greatest value");
     }
 }
 
@@ -92,7 +92,7 @@ fn only_the_least_plan_is_believed(rt: HostRuntime) {
     let (setup, forecast) = (ONE_STORE.as_bytes(), THREE_STEPS.as_bytes());
     for (plan, loss) in &PLANS {
         let found = least_loss(rt.alloc(), setup, forecast, plan.as_bytes());
-        assert!(&rt; found.expect(&rt, "texts") == *loss, "{plan}");
+        holds(&rt, found.expect(&rt, "texts") == *loss, plan);
     }
 }
 

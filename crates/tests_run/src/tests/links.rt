@@ -1,5 +1,6 @@
 //! Links in memory, and what they took.
 
+use crate::tests::samples::holds_of;
 use mm_base::StoreId;
 use mm_dump::{Link, MemoryLink};
 use std::alloc::Global;
@@ -30,16 +31,16 @@ pub(crate) fn has_taken(
                 panic!(rt; "{name}: no more packets of this store");
             };
             let found = taken.stored.packet.packet().count();
-            assert!(rt; found == *count, "{name}: the packet");
+            holds_of(rt, found == *count, name, "the packet");
             rest = more;
         }
     }
-    assert!(rt; rest.is_empty(), "{name}: all packets of this store");
+    holds_of(rt, rest.is_empty(), name, "all packets of this store");
 }
 
 // A link took this many packets, and this many of its sends failed.
 pub(crate) fn has_sent(rt: &impl Abort, name: &str, link: &MemoryLink, many: usize, failures: u64) {
-    assert!(rt; link.taken().len() == many, "{name}: how many are sent");
+    holds_of(rt, link.taken().len() == many, name, "how many are sent");
     assert!(rt; link.failures() == failures, "how many sends failed");
 }
 
@@ -51,7 +52,7 @@ pub(crate) fn all_have_sent(
     many: usize,
     each: usize,
 ) {
-    assert!(rt; links.len() == many, "{name}: as many links");
+    holds_of(rt, links.len() == many, name, "as many links");
     for link in links {
         has_sent(rt, name, link, each, 0);
     }

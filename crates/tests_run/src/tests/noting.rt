@@ -2,6 +2,7 @@
 //! at the digits of each line; and by hand.
 
 use crate::tests::runs::trials::ONE_STORE;
+use crate::tests::samples::holds;
 use mm_base::lines::{cut_word, first_line};
 use mm_exec::Goal;
 use mm_problem::Setup;
@@ -189,16 +190,8 @@ fn is_as_plain<R: Abort + AllocGlobal + Threads + Wait + Sync>(
         ..
     } = printed.given;
     let plain = plain_noted(&read, sources);
-    assert!(rt;
-        untaken == plain.untaken,
-        "{untaken:?} for {:?}",
-        plain.untaken
-    );
-    assert!(rt;
-        unstored == plain.unstored,
-        "{unstored:?} for {:?}",
-        plain.unstored
-    );
+    holds(rt, untaken == plain.untaken, "the first untaken");
+    holds(rt, unstored == plain.unstored, "the unstored");
 }
 
 // How many lines the sources have, and among how many of them four are strange. Where none is, a route takes each
@@ -276,13 +269,11 @@ fn packets_that_go_to_no_store_are_counted_by_why(rt: HostRuntime) {
             telecommands,
             unrouted,
         } = given.unstored;
-        assert!(rt;
-            [late, telecommands, unrouted] == *counts,
-            "the counts of {sources}"
-        );
-        assert!(rt;
+        holds(&rt, [late, telecommands, unrouted] == *counts, sources);
+        holds(
+            &rt,
             given.untaken.map(|untaken| untaken.line) == *first,
-            "the first of {sources}"
+            sources,
         );
     }
 }

@@ -269,7 +269,7 @@ fn a_store_that_is_off_breaks_recorders_off(rt: HostRuntime) {
 
 fn shows(rt: &impl Abort, alloc: Global, cause: Cause, text: &str) {
     let shown = cause.to_string(alloc).expect(rt, "memory");
-    assert!(rt; shown.as_str() == text, "{text}");
+    assert!(rt; shown.as_str() == text);
 }
 
 // A cause is shown with its number and its name, without its store or step.

@@ -10,6 +10,16 @@ use std::alloc::Global;
 use std::fmt::Display;
 use std::process::Abort;
 
+/// This holds, or the test fails and shows what.
+pub fn holds(rt: &impl Abort, is_so: bool, what: &str) {
+    assert!(rt; is_so, "{what}");
+}
+
+/// This holds of the case with a name, or the test fails and shows both.
+pub fn holds_of(rt: &impl Abort, is_so: bool, name: &str, what: &str) {
+    assert!(rt; is_so, "{name}: {what}");
+}
+
 pub fn id(rt: &impl Abort, text: &str) -> StoreId {
     StoreId::of_text(text.as_bytes()).expect(rt, "an identifier")
 }
@@ -101,5 +111,5 @@ pub fn is_told<T: Refused + Display + Copy>(
 ) {
     assert!(rt; refusal.number() == number, "the number");
     let shown = refusal.to_string(alloc).expect(rt, "memory");
-    assert!(rt; shown.as_str() == text, "{text}");
+    holds(rt, shown.as_str() == text, text);
 }

@@ -1,6 +1,6 @@
 //! Texts of sources and of links: what they give and take, and the first line that is refused.
 
-use crate::tests::samples::{id, is_told, packet};
+use crate::tests::samples::{holds, id, is_told, packet};
 use mm_dump::Link;
 use mm_packet::BlockPacket;
 use mm_record::Source;
@@ -43,7 +43,7 @@ fn sources_of(rt: &impl Abort, alloc: Global, text: &[u8], opening: &[u16]) -> V
 fn are_left(rt: &impl Abort, sources: &[ScriptedSource], step: u32, left: &[u32]) {
     assert!(rt; sources.len() == left.len(), "as many sources");
     for (source, left) in sources.iter().zip(left) {
-        assert!(rt; source.left(step) == *left, "what is left in step {step}");
+        holds(rt, source.left(step) == *left, "what is left in a step");
     }
 }
 
@@ -76,7 +76,7 @@ fn sources_have_what_their_lines_say(rt: HostRuntime) {
 fn gives(rt: &impl Abort, source: &mut ScriptedSource, packets: &[(u32, Option<u16>)]) {
     for (step, count) in packets {
         let found = source.next(*step).map(|packet| packet.packet().count());
-        assert!(rt; found == *count, "the next packet of step {step}");
+        holds(rt, found == *count, "the next packet of a step");
     }
 }
 
@@ -115,7 +115,7 @@ static BAD_SOURCES: [(&[&str], u64); 8] = wanted! {
 fn is_refused(rt: &impl Abort, alloc: Global, text: &[u8], line: u64) {
     match SourceFile::read(alloc, text) {
         Ok(_) => panic!(rt; "it is read"),
-        Err(fault) => assert!(rt; fault == ScriptFault::SourcesText { line }, "line {line}"),
+        Err(fault) => holds(rt, fault == ScriptFault::SourcesText { line }, "the line"),
     }
 }
 
@@ -169,7 +169,7 @@ fn sends(rt: &impl Abort, link: &mut ScriptedLink, packet: &BlockPacket, sent: &
     for (time, taken) in sent {
         assert!(rt; link.failures() < 10, "a link that may fail");
         let sent = link.send(&id(rt, "SCI"), *time, packet);
-        assert!(rt; sent.is_ok() == *taken, "the send at {time}");
+        holds(rt, sent.is_ok() == *taken, "whether a send is taken");
     }
 }
 
@@ -177,9 +177,10 @@ fn sends(rt: &impl Abort, link: &mut ScriptedLink, packet: &BlockPacket, sent: &
 fn failed_last(rt: &impl Abort, link: &ScriptedLink, send: u128) {
     let store = id(rt, "SCI");
     let failed = link.last_failure();
-    assert!(rt;
+    holds(
+        rt,
         failed == Some(FailedSend { send, store }),
-        "send {send} failed last"
+        "the send that failed last",
     );
 }
 
@@ -222,7 +223,7 @@ fn links_in(rt: &impl Abort, alloc: Global, text: &str) -> Result<usize, u64> {
 fn the_first_bad_line_of_links_is_told(rt: HostRuntime) {
     for (texts, want) in &LINKS {
         for text in *texts {
-            assert!(rt; links_in(&rt, rt.alloc(), *text) == *want, "{text}");
+            holds(&rt, links_in(&rt, rt.alloc(), *text) == *want, text);
         }
     }
 }

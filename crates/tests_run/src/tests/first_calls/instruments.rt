@@ -1,7 +1,7 @@
 //! Instruments of which nobody knows before what they will give.
 ghost use Rattle.std.specs.Prelude.{◌≡◌, [], All};
 
-use crate::tests::samples::{id, memory_of, next_after, packet};
+use crate::tests::samples::{holds, id, memory_of, next_after, packet};
 use callers::instrument::{Instrument, Observed, Observing, RingEnd, record_instruments};
 use mm_exec::record_step;
 use mm_memory::Memory;
@@ -73,7 +73,7 @@ fn holds_four(rt: &impl Abort, memory: &Memory) {
     let mut after = 0;
     for count in 1..5 {
         let (time, apid, found) = next_after(state, after).expect(rt, "a packet");
-        assert!(rt; (apid, found) == (100, count), "packet {count}");
+        holds(rt, (apid, found) == (100, count), "the packet");
         after = time;
     }
     assert!(rt; next_after(state, after).is_none(), "no more packets");

@@ -1,6 +1,7 @@
 //! What a flight sends over the links of a text, octet for octet.
 
 use crate::tests::runs::trials::{FIRST_RUN, Trial};
+use crate::tests::samples::holds;
 use mm_dump::{Link, TakenPacket, may_fail};
 use mm_exec::{FlyHalted, fly};
 use mm_run::{KeepingLink, ScriptedSource, SourceFile, read_links};
@@ -74,17 +75,14 @@ fn flown_over<R: Threads + Wait + Sync + Abort>(
 // A packet that was sent has this time and these octets.
 fn is_sent(rt: &impl Abort, alloc: Global, taken: &TakenPacket, time: u64, digits: &str) {
     assert!(rt; taken.store.text() == b"SCI".as_slice(), "the store");
-    assert!(rt; taken.stored.time == time, "the time of {digits}");
+    holds(rt, taken.stored.time == time, digits);
     let octets = taken.stored.packet.packet().write(alloc);
     let mut shown = String::new(alloc);
     for octet in octets.expect(rt, "memory").iter() {
         let pair = format!(in alloc; "{octet:02X}").expect(rt, "memory");
         shown.push_str(&pair).expect(rt, "memory");
     }
-    assert!(rt;
-        shown.as_str() == digits,
-        "{shown} is sent, and not {digits}"
-    );
+    holds(rt, shown.as_str() == digits, digits);
 }
 
 #[test]

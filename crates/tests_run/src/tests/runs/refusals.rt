@@ -7,7 +7,7 @@ use crate::tests::runs::trials::{
     Change, DURING_RUN, FIRST_RUN, Found, Left, NO_STEP, ONE_STORE, SIZED_RUN, TOO_LATE,
     TWO_PASSES, Task, Trial, Why, cause_of, has_text, left, setup,
 };
-use crate::tests::samples::{id, memory_of};
+use crate::tests::samples::{holds_of, id, memory_of};
 use crate::tests::sources::all_have_left;
 use mm_memory::Answer;
 use mm_st15::{Channel, Entries, Request};
@@ -46,12 +46,12 @@ fn refuses<R: Threads + Wait + Sync + Abort>(rt: &R, trial: &mut Trial, run: &Re
     let before = standing(rt, trial);
     let ended = trial.run_of(rt, run.sources, [3, 3, 4], run.links, run.base);
     let halted = Some((cause_of(rt, run.why), 0));
-    assert!(rt; ended.halted == halted, "{name}: the cause, no draw");
+    holds_of(rt, ended.halted == halted, name, "the cause, no draw");
     has_text(rt, trial.alloc, name, &ended.report, NO_STEP);
     all_have_left(rt, &ended.sources, run.sources as usize, [3, 3, 4]);
     all_have_sent(rt, name, &ended.links, run.links.len(), 0);
     let after = standing(rt, trial);
-    assert!(rt; after == before, "{name}: the stores are as before");
+    holds_of(rt, after == before, name, "the stores are as before");
 }
 
 // The trial of a run that is to be refused.

@@ -5,7 +5,7 @@ use crate::tests::runs::trials::{
     Change, Ended, FIRST_RUN, Left, ONE_STORE, Task, Trial, Why, cause_of, each_took, has_text,
     left, setup, task,
 };
-use crate::tests::samples::id;
+use crate::tests::samples::{holds_of, id};
 use crate::tests::sources::all_have_left;
 use mm_dump::MemoryLink;
 use mm_exec::Cause;
@@ -74,7 +74,7 @@ impl Run {
             Some((why, spent)) => Some((cause_of(rt, why), spent)),
             None => None,
         };
-        assert!(rt; ended.halted == halted, "{name}: the cause and the draws");
+        holds_of(rt, ended.halted == halted, name, "the cause and the draws");
         has_text(rt, trial.alloc, name, &ended.report, self.report);
         trial.leaves(rt, name, self.stores);
         all_have_left(rt, &ended.sources, 1, self.rest);

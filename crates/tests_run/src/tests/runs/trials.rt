@@ -1,7 +1,7 @@
 //! Runs of small problems: what they are given, and what they leave.
 
 use crate::tests::links::{has_sent, has_taken, new_links};
-use crate::tests::samples::{id, memory_of, next_after, packet};
+use crate::tests::samples::{holds, holds_of, id, memory_of, next_after, packet};
 use crate::tests::sources::scripts;
 use mm_base::MAX_BLOCKS;
 use mm_desk::StoreState;
@@ -176,14 +176,14 @@ fn has_packets(rt: &impl Abort, name: &str, state: &StoreState, want: &[(u64, u1
     let mut last = 0;
     for (time, count) in want {
         let found = next_after(state, last).map(|(time, _apid, count)| (time, count));
-        assert!(rt; found == Some((*time, *count)), "{name}: the packets held");
+        holds_of(rt, found == Some((*time, *count)), name, "the packets held");
         last = *time;
     }
 }
 
 pub(crate) fn has_text(rt: &impl Abort, alloc: Global, name: &str, report: &Report, want: &str) {
     let text = report.text(alloc).expect(rt, "memory");
-    assert!(rt; text.as_slice() == want.as_bytes(), "{name}: {want}");
+    holds(rt, text.as_slice() == want.as_bytes(), name);
 }
 
 // Why a run is halted or refused: in a step, by what is found at the store of a name, or for a cause of neither.
@@ -317,7 +317,7 @@ impl Trial {
     fn has(&self, rt: &impl Abort, name: &str, left: &Left) {
         let state = self.memory.state(&id(rt, left.store)).expect(rt, "a store");
         let counts = [state.offered(), state.lost(), state.deleted()];
-        assert!(rt; counts == left.counts, "{name}: the counters");
+        holds_of(rt, counts == left.counts, name, "the counters");
         let ready = [state.storage(), state.retrieval().is_none()];
         assert!(rt; ready == [true; 2], "storage is on, and no retrieval");
         has_packets(rt, name, state, left.held);
@@ -356,7 +356,7 @@ pub(crate) fn each_took(
     stores: &[Left],
     failures: u64,
 ) {
-    assert!(rt; links.len() == many, "{name}: as many links");
+    holds_of(rt, links.len() == many, name, "as many links");
     for link in links {
         took_of(rt, name, link, stores, failures);
     }
