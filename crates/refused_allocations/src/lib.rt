@@ -16,11 +16,9 @@ pub mod dumps;
 mod met;
 mod parts;
 mod records;
-mod requests;
 mod runs;
 pub mod seats;
 pub mod shared;
-mod texts;
 mod traces;
 
 pub use met::Met;

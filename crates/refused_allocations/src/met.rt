@@ -8,8 +8,6 @@ pub enum Met {
     Unready,
     /// A call answered that memory was wanted.
     Wanted,
-    /// An instruction was refused by itself, out of memory.
-    Refused,
     /// No plan was made, out of memory, and nothing was done.
     Unplanned,
     /// A run was halted, out of memory, before its first step.
@@ -53,7 +51,6 @@ impl fmt::Display for Met {
         match *self {
             Met::Unready => write!(f, "there was no memory to begin the calls"),
             Met::Wanted => write!(f, "memory was wanted"),
-            Met::Refused => write!(f, "an instruction found no memory"),
             Met::Unplanned => write!(f, "there was no memory to plan"),
             Met::Halted => write!(f, "halted in step 0"),
             Met::Whole => write!(f, "all was as with ample memory"),

@@ -3,11 +3,9 @@ use crate::data::{later, new, rest};
 use crate::dumps::dumps;
 use crate::met::Met;
 use crate::records::record;
-use crate::requests::{created, deleted};
 use crate::runs::{ALONE, CROWD, flight, run};
 use crate::seats::desk;
 use crate::shared::shared;
-use crate::texts::{checked, checked_in_order, planned, planned_in_order};
 use std::alloc::Global;
 use std::sync::Wait;
 use std::thread::Threads;
@@ -18,12 +16,6 @@ pub fn part_named<R: Threads + Wait + Sync>(rt: &R, alloc: Global, name: &[u8]) 
         b"new" => Some(new(alloc)),
         b"rest" => rest(alloc),
         b"later" => later(alloc),
-        b"plan_bytes" => Some(planned(alloc)),
-        b"plan_in_order" => Some(planned_in_order(alloc)),
-        b"check_bytes" => Some(checked(alloc)),
-        b"check_in_order" => Some(checked_in_order(alloc)),
-        b"apply" => deleted(alloc),
-        b"create" => created(alloc),
         b"seats" => desk(rt, alloc),
         b"shared" => Some(shared(rt, alloc)),
         b"record" => record(rt, alloc),

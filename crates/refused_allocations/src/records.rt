@@ -2,7 +2,7 @@
 //! one of four.
 
 use crate::met::Met;
-use crate::requests::memory_of_text;
+use crate::runs::memory_of_text;
 use mm_desk::Held;
 use mm_exec::record_step;
 use mm_memory::Memory;

@@ -3,7 +3,6 @@
 ghost use Rattle.std.specs.Prelude.{◌<◌, ◌-◌, ◌^◌, All};
 
 use crate::met::Met;
-use crate::requests::memory_of_text;
 use crate::traces::{TestLink, given_and_sent, is_ready, new_links};
 use mm_dump::may_fail;
 use mm_exec::{Cause, FlyHalted, FlyResult, Halted, RunEnd, carry_out, fly};
@@ -111,6 +110,12 @@ struct Stage {
     sources: Vec<ScriptedSource>,
     links: Vec<TestLink>,
     ghost may_fail: { All (λ l. l.failed < 2 ^ 64 - 1) links.items },
+}
+
+/// The memory of a setup with this text, where there is room for it.
+pub(crate) fn memory_of_text(alloc: Global, text: &[u8]) -> Option<Memory> {
+    let setup = Setup::read(alloc, text).ok()?;
+    Memory::of_setup(alloc, &setup).ok()
 }
 
 // The problem of the first plan.
