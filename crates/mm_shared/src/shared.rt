@@ -151,16 +151,4 @@ impl SharedStores {
     {
         take_out(self.table.close_with(ports.seat), labels, stores);
     }
-
-    /// Gives the stores back under these labels, without the ports. They are sound, and nothing else is known of them.
-    /// It takes no memory.
-    #[tactic(auto, using(crate::proofs::Opening::labels_are))]
-    pub fn into_stores(self, labels: &[StoreLabel], stores: &mut Vec<Held>)
-        requires as_many { length labels.now ≡ self.many }
-        requires room { (stores.old.items ≡ []) × (length labels.now ≤ vec_capacity stores.old) }
-        ensures labels { labels_of stores.new.items ≡ names_of labels.now }
-        ensures sound { All (λ h. IsState h.state) stores.new.items }
-    {
-        take_out(self.table.close(), labels, stores);
-    }
 }

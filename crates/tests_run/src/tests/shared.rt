@@ -1,5 +1,5 @@
 //! Packet stores that threads share, of both kinds: each call, two threads at one store, and the stores of a step.
-ghost use Rattle.std.specs.Prelude.{◌≡◌, length, IfSome};
+ghost use Rattle.std.specs.Prelude.{◌≡◌, length};
 ghost use Rattle.mm_shared.specs.Views.{new_ports};
 
 use crate::tests::calls::Call;
@@ -32,9 +32,9 @@ fn opened(rt: &impl Abort, alloc: Global, state: StoreState, seats: u32) -> (Sha
     }
 }
 
-// What is left of the store, with all its ports or without them.
-fn closed(rt: &impl Abort, alloc: Global, stores: SharedStores, ports: Option<Ports>) -> StoreState
-    requires all { IfSome ports (λ ports. (ports.of.table ≡ stores.id) × (ports.first ≡ 0) × (length ports.lists ≡ stores.seats)) }
+// What is left of the store.
+fn closed(rt: &impl Abort, alloc: Global, stores: SharedStores, ports: Ports) -> StoreState
+    requires all { (ports.of.table ≡ stores.id) × (ports.first ≡ 0) × (length ports.lists ≡ stores.seats) }
     requires one { stores.many ≡ 1 }
 {
     let label = StoreLabel {
@@ -42,10 +42,7 @@ fn closed(rt: &impl Abort, alloc: Global, stores: SharedStores, ports: Option<Po
         channel: 3,
     };
     let mut back = Vec::with_capacity(alloc, 1).expect(rt, "memory");
-    match ports {
-        Some(ports) => stores.close(ports, &[label], &mut back),
-        None => stores.into_stores(&[label], &mut back),
-    }
+    stores.close(ports, &[label], &mut back);
     back.pop().expect(rt, "a store").state
 }
 
@@ -102,7 +99,7 @@ fn each_call_answers_what_the_store_does(rt: HostRuntime) {
         let mut port = stores.split(&mut ports);
         asks(&rt, alloc, &stores, &mut port, &EACH_CALL);
         stores.join(&mut ports, port);
-        let state = closed(&rt, alloc, stores, Some(ports));
+        let state = closed(&rt, alloc, stores, ports);
         is_left(&rt, &state, [1, 0, 1, 0], false);
     }
 }
@@ -111,18 +108,7 @@ fn each_call_answers_what_the_store_does(rt: HostRuntime) {
 fn a_store_without_calls_is_as_it_was(rt: HostRuntime) {
     let alloc = rt.alloc();
     let (stores, ports) = opened(&rt, alloc, store_with(&rt, alloc, Kind::Circular, 3), 2);
-    let state = closed(&rt, alloc, stores, Some(ports));
-    is_left(&rt, &state, [3, 0, 0, 3], true);
-}
-
-#[test]
-fn a_state_comes_out_without_the_ports(rt: HostRuntime) {
-    let alloc = rt.alloc();
-    let (stores, mut ports) = opened(&rt, alloc, store_with(&rt, alloc, Kind::Bounded, 2), 1);
-    let mut port = stores.split(&mut ports);
-    let one_more = [(Ask::Offer(90, 3), Told::Kept(90))];
-    asks(&rt, alloc, &stores, &mut port, &one_more);
-    let state = closed(&rt, alloc, stores, None);
+    let state = closed(&rt, alloc, stores, ports);
     is_left(&rt, &state, [3, 0, 0, 3], true);
 }
 
@@ -216,7 +202,7 @@ fn shared_by<R: Threads + Wait + Sync + Abort>(
     );
     stores.join(&mut ports, two);
     stores.join(&mut ports, one);
-    counts(&closed(rt, alloc, stores, Some(ports)))
+    counts(&closed(rt, alloc, stores, ports))
 }
 
 // All offers are counted, and four packets kept.
