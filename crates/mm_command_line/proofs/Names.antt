@@ -68,7 +68,7 @@ flight_row : (setup forecast sources links : Text) (plan : FlightPlan)
     → IsOfRow (flight_spelling setup forecast sources links plan)
 flight_row setup forecast sources links (Made in_order) =
     of_row (codes "fly") (setup ∷ forecast ∷ sources ∷ links ∷ []) _ refl refl refl
-flight_row setup forecast sources links (Given plan) =
+flight_row setup forecast sources links (Given plan rest) =
     of_row (codes "run") (setup ∷ forecast ∷ plan.now ∷ sources ∷ links ∷ []) _ refl refl refl
 
 -- the line of a task

@@ -3,7 +3,7 @@ use Rattle.std.proofs.Common.{◌≡◌, ℕ, Bool, Bor, arith, cond, map, slice
 use Rattle.std.proofs.Common.{List, [], ◌∷◌, ◌∙◌, ◌||◌, ◌⊎◌, inl, inr, Option, Some, None, codes, sym, true≢false}
 use Rattle.std.specs.Str.{bytes_eq}
 use Rattle.mm_command_line.specs.Lines.{HasNames, IsFileName, IsOutput, command_words, flag_of, flags_if, flight_flags}
-use Rattle.mm_command_line.specs.Lines.{flight_spelling, keep_flag, keep_words, order_flag}
+use Rattle.mm_command_line.specs.Lines.{flight_spelling, keep_flag, keep_words, order_flag, rest_flag}
 use Rattle.mm_command_line.specs.Lines.{output_names, output_of, worth_flag}
 use Rattle.mm_command_line.specs.declared.task.FlightFiles.{FlightFiles}
 use Rattle.mm_command_line.specs.declared.task.FlightPlan.{FlightPlan}
@@ -50,7 +50,8 @@ abbrev pub own_flags : List Text → List Text
 own_flags [] = []
 own_flags (command ∷ names) =
     cond (bytes_eq command (codes "plan") || bytes_eq command (codes "fly")) (order_flag ∷ [])
-    (cond (bytes_eq command (codes "chart")) (worth_flag ∷ []) [])
+    (cond (bytes_eq command (codes "chart")) (worth_flag ∷ [])
+    (cond (bytes_eq command (codes "run")) (rest_flag ∷ []) []))
 
 -- the command is `plan`, of which a flag may have words after it
 abbrev pub is_plan : List Text → Bool
@@ -62,7 +63,7 @@ HasOwnFlags task words = (is : Bool) × (flag_of task ≡ cond is (own_flags wor
 
 own_flight : (setup forecast sources links : Text) (plan : FlightPlan)
     → (is : Bool) × (flight_flags plan ≡ cond is (own_flags (flight_spelling setup forecast sources links plan)) [])
-own_flight setup forecast sources links (Given plan) = (false, refl)
+own_flight setup forecast sources links (Given plan rest) = (rest, refl)
 own_flight setup forecast sources links (Made in_order) = (in_order, refl)
 
 has_own_flags : (task : Task) → is_plan (command_words task) ≡ false → HasOwnFlags task (command_words task)
@@ -86,7 +87,7 @@ HasPlanFlags task = ((is : Bool) × (flag_of task ≡ flags_if is order_flag))
 
 no_flight : (setup forecast sources links : Text) (plan : FlightPlan)
     → is_plan (flight_spelling setup forecast sources links plan) ≡ true → ⊥
-no_flight setup forecast sources links (Given plan) is = true≢false (sym is)
+no_flight setup forecast sources links (Given plan rest) is = true≢false (sym is)
 no_flight setup forecast sources links (Made in_order) is = true≢false (sym is)
 
 has_plan_flags : (task : Task) → is_plan (command_words task) ≡ true → HasPlanFlags task

@@ -25,7 +25,7 @@ kept_names kept =
 
 -- the words of a run: with the file of a plan, or with none
 abbrev pub flight_spelling : List ℕ → List ℕ → List ℕ → List ℕ → FlightPlan → List (List ℕ)
-flight_spelling setup forecast sources links (Given plan) =
+flight_spelling setup forecast sources links (Given plan rest) =
     codes "run" ∷ setup ∷ forecast ∷ plan.now ∷ sources ∷ links ∷ []
 flight_spelling setup forecast sources links (Made in_order) =
     codes "fly" ∷ setup ∷ forecast ∷ sources ∷ links ∷ []
@@ -65,6 +65,10 @@ order_flag = codes "--in-order"
 abbrev pub worth_flag : List ℕ
 worth_flag = codes "--worth"
 
+-- the flag of `run`: where a link halts the run, the script that plans the rest comes before the report
+abbrev pub rest_flag : List ℕ
+rest_flag = codes "--rest"
+
 -- the flag of `plan`: the first steps of a plan are kept
 abbrev pub keep_flag : List ℕ
 keep_flag = codes "--keep"
@@ -77,9 +81,9 @@ keep_words plan last = keep_flag ∷ plan ∷ last ∷ []
 abbrev pub flags_if : Bool → List ℕ → List (List ℕ)
 flags_if given flag = if given then flag ∷ [] else []
 
--- the flag of a run: a plan that is made may serve the stores in order
+-- the flag of a run: the rest of a plan that is given may be told, and a plan that is made may serve the stores in order
 abbrev pub flight_flags : FlightPlan → List (List ℕ)
-flight_flags (Given plan) = []
+flight_flags (Given plan rest) = flags_if rest rest_flag
 flight_flags (Made in_order) = flags_if in_order order_flag
 
 -- the flag of a task, where it has one, with the words that follow it
@@ -174,7 +178,7 @@ output_prefix = codes "--output="
 
 -- the word is the flag of a command
 abbrev pub is_task_flag : List ℕ → Bool
-is_task_flag word = bytes_eq word order_flag || bytes_eq word worth_flag
+is_task_flag word = bytes_eq word order_flag || bytes_eq word worth_flag || bytes_eq word rest_flag
 
 -- the name in such a word
 abbrev pub joined_name : List ℕ → Option (List ℕ)

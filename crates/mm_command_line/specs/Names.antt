@@ -14,7 +14,7 @@ no_names = record { setup = None; forecast = None; plan = None; sources = None; 
 
 -- the name of the plan of a run, where it is given
 abbrev pub name_of_plan : FlightPlan → Option (Bor (List ℕ))
-name_of_plan (Given name) = Some name
+name_of_plan (Given name rest) = Some name
 name_of_plan (Made in_order) = None
 
 -- those of a judged plan

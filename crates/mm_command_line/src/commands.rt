@@ -24,7 +24,7 @@ pub(crate) static COMMANDS: [Form; 10] = commands! {
         rest::ABOUT, rest::HELP;
     "sensitivity" [Setup, Forecast]: "sensitivity <SETUP> <FORECAST> [--output <FILE>]",
         sensitivity::ABOUT, sensitivity::HELP;
-    "run" [Setup, Forecast, FlownPlan, Sources, Links]: "run <SETUP> <FORECAST> <PLAN> <SOURCES> <LINKS>",
+    "run" [Setup, Forecast, FlownPlan, Sources, Links]: "run [--rest] <SETUP> <FORECAST> <PLAN> <SOURCES> <LINKS>",
         flight::RUN_ABOUT, flight::RUN_HELP;
     "fly" [Setup, Forecast, Sources, Links]: "fly [--in-order] <SETUP> <FORECAST> <SOURCES> <LINKS>",
         flight::FLY_ABOUT, flight::FLY_HELP;

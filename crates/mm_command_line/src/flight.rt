@@ -21,8 +21,14 @@ Each line of SOURCES is a packet: the number of its source, 1 to 8, its step, an
 digits. A packet of step 0 is offered to the stores before the run. LINKS begins with `links N`; each line
 `fail L K` after it makes the K-th send of link L fail.
 
-Example:
+Option, anywhere after `run`:
+  --rest                      prints a script if a link halts the run, which plans the rest of it if the program
+                              reads it without words: in its setup each store starts with what it holds, its
+                              forecast begins with what is left of the halted step, and its last file is the report
+
+Examples:
   mm_tool run setup.toml forecast.csv plan.txt sources.hex links.txt
+  mm_tool run --rest setup.toml forecast.csv plan.txt sources.hex links.txt
 
 The formats are described in docs/FORMATS.md. Exit status: 0 if the plan is carried out, even if what comes
 is not what the forecast says, 1 otherwise.";

@@ -43,7 +43,8 @@ fn task_of<'a>(words: &[&'a str]) -> Option<Task<'a>>
             Task::Rest { kept: KeptSteps { files: PlanFiles { setup, forecast, plan }, last }, output: None };
         ["sensitivity", setup, forecast] => Task::Sensitivity { setup, forecast, output: None };
         ["run", setup, forecast, plan, sources, links] =>
-            Task::Fly(FlightFiles { setup, forecast, plan: FlightPlan::Given(plan), sources, links });
+            Task::Fly(FlightFiles { setup, forecast, plan: FlightPlan::Given { name: plan, rest: false },
+                sources, links });
         ["fly", setup, forecast, sources, links] =>
             Task::Fly(FlightFiles { setup, forecast, plan: FlightPlan::Made { in_order: false }, sources, links });
         ["ask", setup, requests] => Task::Ask { setup, requests };

@@ -19,6 +19,9 @@ pub(crate) const IN_ORDER: &str = "--in-order";
 /// The flag of `chart`: the chart says what each window is worth.
 pub(crate) const WORTH: &str = "--worth";
 
+/// The flag of `run`: where a link halts the run, the script that plans the rest comes before the report.
+pub(crate) const REST: &str = "--rest";
+
 /// The flag of `plan` before the file of a plan and the last of its steps that is kept.
 pub(crate) const KEEP: &str = "--keep";
 
@@ -61,7 +64,7 @@ pub(crate) fn is_file_name(word: &str) -> bool
 fn is_task_flag(word: &str) -> bool
     ensures { result ≡ is_task_flag word.now }
 {
-    word == IN_ORDER || word == WORTH
+    word == IN_ORDER || word == WORTH || word == REST
 }
 
 // The name in a word `--output=NAME`.

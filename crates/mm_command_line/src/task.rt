@@ -4,7 +4,7 @@ ghost use Rattle.mm_command_line.specs.Lines.{HasNames, IsOutput, command_words,
 ghost use Rattle.mm_command_line.specs.Names.{names_in};
 ghost use Rattle.mm_command_line.specs.declared.task.Task.TheVariants.{Fly};
 
-use crate::options::{IN_ORDER, WORTH, is_given, kept_in, output_in};
+use crate::options::{IN_ORDER, REST, WORTH, is_given, kept_in, output_in};
 
 /// What a file of a task has.
 #[derive(Clone, Copy)]
@@ -52,8 +52,9 @@ pub struct KeptSteps<'a> {
 /// The plan of a run.
 #[derive(Clone, Copy)]
 pub enum FlightPlan<'a> {
-    /// The plan of the file of this name.
-    Given(&'a str),
+    /// The plan of the file of this name. With `rest`, where a link halts the run, the script that plans the rest comes
+    /// before the report.
+    Given { name: &'a str, rest: bool },
     /// A plan that is made: one that loses least, and `in_order` by the stores that stand first in the setup.
     Made { in_order: bool },
 }
@@ -73,7 +74,7 @@ impl<'a> FlightFiles<'a> {
         ensures { result ≡ names_in (Fly self.entry) }
     {
         let plan = match self.plan {
-            FlightPlan::Given(name) => Some(name),
+            FlightPlan::Given { name, .. } => Some(name),
             FlightPlan::Made { .. } => None,
         };
         FileNames {
@@ -101,8 +102,13 @@ impl<'a> FlightFiles<'a> {
                     ..self
                 })
             }
-            FlightPlan::Given(_) if flags.is_empty() => Some(self),
-            FlightPlan::Given(_) => None,
+            FlightPlan::Given { name, .. } => {
+                let rest = is_given(flags, REST)?;
+                Some(FlightFiles {
+                    plan: FlightPlan::Given { name, rest },
+                    ..self
+                })
+            }
         }
     }
 }

@@ -1,6 +1,6 @@
 //! What is wrong with a flag that is not read.
 
-use crate::options::{IN_ORDER, KEEP, Next, OUTPUT, WORTH, is_file_name};
+use crate::options::{IN_ORDER, KEEP, Next, OUTPUT, REST, WORTH, is_file_name};
 use std::convert::AsStr;
 use std::{fmt, mem};
 
@@ -11,9 +11,10 @@ const NEAR: usize = 3;
 // A flag, and what is said of it where it is meant.
 type Flag = (&'static str, &'static str);
 
-static FLAGS: [Flag; 6] = [
+static FLAGS: [Flag; 7] = [
     (IN_ORDER, "goes with plan and fly"),
     (WORTH, "goes with chart"),
+    (REST, "goes with run"),
     (
         OUTPUT,
         "goes with plan, chart, table, rest and sensitivity, and has the name of a file after it",
@@ -88,7 +89,7 @@ impl fmt::Display for FlagFault<'_> {
                 write! { f, "there is no flag '{word}'; did you mean {near}, which {place}?" },
             FlagFault::NoSuchFlag(word) => write! {
                 f, "there is no flag '{word}', and none is spelled alike; there are --in-order of plan and fly, \
-                    --keep PLAN STEP of plan, --worth of chart, --output FILE of plan, chart, table, rest and \
+                    --keep PLAN STEP of plan, --worth of chart, --rest of run, --output FILE of plan, chart, table, rest and \
                     sensitivity, and --help"
             },
         }
@@ -131,10 +132,11 @@ fn parts_of(word: &str) -> (&str, Option<&str>) {
 // An option of tasks: its flag, the commands that it goes with, and how these are told.
 type TaskOption = (&'static str, &'static [&'static str], &'static str);
 
-static OPTIONS: [TaskOption; 4] = [
+static OPTIONS: [TaskOption; 5] = [
     (IN_ORDER, &["plan", "fly"], "plan and fly"),
     (KEEP, &["plan"], "plan"),
     (WORTH, &["chart"], "chart"),
+    (REST, &["run"], "run"),
     (
         OUTPUT,
         &["plan", "chart", "table", "rest", "sensitivity"],

@@ -6,9 +6,9 @@ use Rattle.mm_command_line.specs.Names.{names_in}
 use Rattle.mm_command_line.specs.declared.task.FlightFiles.{FlightFiles}
 use Rattle.mm_command_line.specs.declared.task.FlightPlan.{FlightPlan}
 use Rattle.mm_command_line.specs.declared.task.Task.TheVariants.{Fly}
-use Rattle.mm_run.specs.Printed.{text_of}
 use Rattle.mm_run.specs.declared.printed.Printed.{Printed}
-use Rattle.mm_commands.specs.Answers.{FliesTexts, PrintsFlown, status_of_run}
+use Rattle.mm_commands.specs.Answers.{FliesTexts, PrintsFlown, status_of_run, tells_rest}
+use Rattle.mm_commands.specs.Halts.{LeadsReport}
 use Rattle.mm_files.specs.Contents.{FilesView, WereRead}
 use Rattle.mm_commands.specs.Reading.{readings_of}
 use Rattle.mm_commands.specs.Refusing.{Settles}
@@ -25,17 +25,24 @@ Appends-append (Some before) (Some mid) (Some after) first second one two = two 
     ∙ append_assoc before first second
 
 -- the plan was printed, and then the rest
-pub prints-flown : (plan : FlightPlan) (texts : TaskTexts) (printed : Printed) (sheet : List ℕ) (status : Status)
+pub prints-flown : (plan : FlightPlan) (texts : TaskTexts) (printed : Printed) (sheet lead : List ℕ) (status : Status)
     (before mid after : Option (List ℕ))
-    → FliesTexts plan texts printed → printed.sheet.items ≡ sheet → status ≡ status_of_run printed.outcome
-    → Appends before mid sheet → Appends mid after (printed.report.items ++ printed.end.items)
+    → FliesTexts plan texts printed → LeadsReport (tells_rest plan) texts printed.left lead
+    → printed.sheet.items ≡ sheet → status ≡ status_of_run printed.outcome
+    → Appends before mid sheet → Appends mid after (lead ++ printed.report.items ++ printed.end.items)
     → PrintsFlown plan texts status before after
-prints-flown plan texts printed sheet status before mid after flies is ended one two = record {
-  text = text_of printed;
-  flown = record { printed = printed; flies = flies; text_is = refl; status_is = ended };
-  printed = subst (λ text. Appends before after text)
-      (sym (append_assoc printed.sheet.items printed.report.items printed.end.items))
-      (Appends-append before mid after printed.sheet.items (printed.report.items ++ printed.end.items) (rw is one) two);
+prints-flown plan texts printed sheet lead status before mid after flies leads is ended one two = record {
+  text = printed.sheet.items ++ (lead ++ printed.report.items ++ printed.end.items);
+  flown = record {
+    printed = printed;
+    flies = flies;
+    lead = lead;
+    leads = leads;
+    text_is = refl;
+    status_is = ended;
+  };
+  printed = Appends-append before mid after printed.sheet.items (lead ++ printed.report.items ++ printed.end.items)
+      (rw is one) two;
 }
 
 -- the task is done, whose files are as they were

@@ -1,5 +1,5 @@
 -- What answers a task, by what its files hold.
-use Rattle.std.specs.Prelude.{◌≡◌, ◌≢◌, ℕ, Bool, true, false, if◌then◌else◌, List, Option, Some, None, IfSome}
+use Rattle.std.specs.Prelude.{◌≡◌, ◌≢◌, ◌++◌, ℕ, Bool, true, false, if◌then◌else◌, List, Option, Some, None, IfSome}
 use Rattle.std.specs.Borrow.{Bor}
 use Rattle.std.specs.Io.KnownBytes.{Appends}
 use Rattle.mm_cut.specs.declared.verdict.Verdict.{Verdict}
@@ -27,12 +27,12 @@ use Rattle.mm_run.specs.declared.printed.Printed.{Printed}
 use Rattle.mm_planner.specs.declared.goal.Goal.{Goal}
 use Rattle.mm_planner.specs.declared.goal.Goal.TheVariants as goal
 use Rattle.mm_run.specs.Prepared.{IsPrepared}
-use Rattle.mm_run.specs.Printed.{text_of}
 use Rattle.mm_run.specs.Runs.{PrintsRun}
 use Rattle.mm_sensitivity.specs.Charts.{ChartsWorth}
 use Rattle.mm_sensitivity.specs.Table.{IsWorthTable}
 use Rattle.mm_files.specs.Contents.{Contents, FilesView, IsStored, WereRead}
 use Rattle.mm_commands.specs.Given.{IsGiven}
+use Rattle.mm_commands.specs.Halts.{LeadsReport}
 use Rattle.mm_commands.specs.Reading.{readings_of}
 use Rattle.mm_commands.specs.Streams.{file_of}
 use Rattle.mm_commands.specs.declared.status.Status.{Status}
@@ -141,12 +141,12 @@ status_of_run (ended.Stopped cause) = Refused
 
 -- the text of the plan of a run, where it is given
 abbrev pub given_plan : FlightPlan → TaskTexts → Option (List ℕ)
-given_plan (Given name) texts = Some texts.plan.items
+given_plan (Given name rest) texts = Some texts.plan.items
 given_plan (Made in_order) texts = None
 
 -- what the plan of a run is made for, where it is made
 abbrev pub goal_of : FlightPlan → Goal
-goal_of (Given name) = goal.Least
+goal_of (Given name rest) = goal.Least
 goal_of (Made in_order) = if in_order then goal.InOrder else goal.Least
 
 -- what is printed of the run of the plan that is given, or of one that is made where none is
@@ -159,11 +159,19 @@ abbrev pub PreparesTexts : FlightPlan → TaskTexts → PreparedRun → Type 0
 PreparesTexts plan texts run = IsPrepared (goal_of plan) (given_plan plan texts) texts.setup.items
     texts.forecast.items texts.sources.items texts.links.items run
 
--- the text is what is printed of such a run, with its status
+-- whether a script that plans what is left of a run is asked for
+abbrev pub tells_rest : FlightPlan → Bool
+tells_rest (Given name rest) = rest
+tells_rest (Made in_order) = false
+
+-- the text is what is printed of such a run, with its status: the plan text, where the plan was made here, what comes
+-- before the report, the report, and the last line
 pub record Flown (plan : FlightPlan) (texts : TaskTexts) (status : Status) (text : List ℕ) : Type 0 where
   pub printed : Printed
   pub flies : FliesTexts plan texts printed
-  pub text_is : text ≡ text_of printed
+  pub lead : List ℕ
+  pub leads : LeadsReport (tells_rest plan) texts printed.left lead
+  pub text_is : text ≡ printed.sheet.items ++ (lead ++ printed.report.items ++ printed.end.items)
   pub status_is : status ≡ status_of_run printed.outcome
 
 -- a writer had the first of these bytes, and then the second: what is printed of such a run was written between

@@ -1,4 +1,5 @@
 pub mod Given
+pub mod Halts
 pub mod Reading
 pub mod Statuses
 pub mod Streams

@@ -331,7 +331,7 @@ pub(crate) fn given_plan<'t>(plan: FlightPlan<'_>, texts: &'t TaskTexts) -> Opti
     ensures given { option_copied result ≡ given_plan plan.entry texts.now }
 {
     match plan {
-        FlightPlan::Given(_) => Some(texts.plan.as_slice()),
+        FlightPlan::Given { .. } => Some(texts.plan.as_slice()),
         FlightPlan::Made { .. } => None,
     }
 }
@@ -342,7 +342,7 @@ pub(crate) fn goal_of(plan: FlightPlan<'_>) -> Goal
 {
     match plan {
         FlightPlan::Made { in_order: true } => Goal::InOrder,
-        FlightPlan::Made { in_order: false } | FlightPlan::Given(_) => Goal::Least,
+        FlightPlan::Made { in_order: false } | FlightPlan::Given { .. } => Goal::Least,
     }
 }
 

@@ -3,11 +3,10 @@ ghost use Rattle.std.specs.Prelude.{◌≡◌, ◌≢◌, ◌++◌, IfOk, IfErr}
 ghost use Rattle.std.specs.Io.KnownBytes.{Appends};
 ghost use Rattle.mm_base.specs.Reading.{IfRefused};
 ghost use Rattle.mm_command_line.specs.Names.{names_in};
-ghost use Rattle.mm_command_line.specs.declared.task.FlightPlan.{FlightPlan};
 ghost use Rattle.mm_command_line.specs.declared.task.Task.TheVariants.{Fly};
 ghost use Rattle.mm_run.specs.Prepared.{plan_text_of};
 ghost use Rattle.mm_run.specs.declared.fault.Fault.TheVariants as flight_fault;
-ghost use Rattle.mm_commands.specs.Answers.{PreparesTexts, PrintsFlown, given_plan, status_of_run};
+ghost use Rattle.mm_commands.specs.Answers.{PreparesTexts, PrintsFlown, given_plan, status_of_run, tells_rest};
 ghost use Rattle.mm_files.specs.Contents.{FilesView, WereRead, seen};
 ghost use Rattle.mm_commands.specs.Reading.{readings_of};
 ghost use Rattle.mm_commands.specs.Refusing.{IsFlightFault, Settles};
@@ -15,11 +14,12 @@ ghost use Rattle.mm_commands.specs.declared.status.Status.TheVariants.{BadComman
 
 use crate::answers::{given_plan, goal_of};
 use crate::fault::Fault;
+use crate::left::lead_of;
 use crate::remark::tell_run;
 use crate::status::{Status, Unwritten};
 use crate::tasks::refuse;
 use crate::texts::TaskTexts;
-use mm_command_line::{FlightFiles, Task};
+use mm_command_line::{FlightFiles, FlightPlan, Task};
 use mm_files::Files;
 use mm_run::{Outcome, PreparedRun, Printed, RunTexts, prepare_run};
 use std::alloc::Global;
@@ -70,11 +70,22 @@ fn print_plan<W: Write>(run: &PreparedRun, out: &mut W) -> io::Result<()>
     out.flush()
 }
 
-// Prints what comes after the plan.
-fn print_rest<W: Write>(printed: &Printed, out: &mut W) -> io::Result<()>
-    ensures text { IfOk result (λ _. Appends (W.contents out.old) (W.contents out.new)
-        (printed.now.report.items ++ printed.now.end.items)) }
+// Whether a script that plans what is left of a run is asked for.
+fn tells_rest(plan: FlightPlan<'_>) -> bool
+    ensures { result ≡ tells_rest plan.entry }
 {
+    match plan {
+        FlightPlan::Given { rest, .. } => rest,
+        FlightPlan::Made { .. } => false,
+    }
+}
+
+// Prints what comes after the plan: what comes before the report, the report, and the last line.
+fn print_rest<W: Write>(lead: &[u8], printed: &Printed, out: &mut W) -> io::Result<()>
+    ensures text { IfOk result (λ _. Appends (W.contents out.old) (W.contents out.new)
+        (lead.now ++ printed.now.report.items ++ printed.now.end.items)) }
+{
+    out.write_all(lead)?;
     out.write_all(&printed.report)?;
     out.write_all(&printed.end)
 }
@@ -96,20 +107,21 @@ fn tell_lost_before<E: Write>(lost: u64, err: &mut E) -> io::Result<()> {
 fn carry_out<R: Threads + Wait + Sync, W: Write, E: Write>(
     rt: &R,
     alloc: Global,
-    task: Task<'_>,
+    flight: FlightFiles<'_>,
     run: PreparedRun,
     texts: &TaskTexts,
     out: &mut W,
     err: &mut E,
 ) -> Result<Status, Unwritten>
-    ensures flies { (plan : FlightPlan) → PreparesTexts plan texts.now run
-        → IfOk result (λ status. PrintsFlown plan texts.now status (W.contents out.old) (W.contents out.new)) }
+    ensures flies { PreparesTexts flight.entry.plan texts.now run → IfOk result (λ status. PrintsFlown
+        flight.entry.plan texts.now status (W.contents out.old) (W.contents out.new)) }
     ensures status { IfOk result (λ status. status ≢ BadCommandLine) }
 {
     print_plan(&run, out).map_err(|_| Unwritten::Output)?;
     let printed = run.carry_out(rt, alloc);
-    print_rest(&printed, out).map_err(|_| Unwritten::Output)?;
-    tell_run(alloc, task, &printed, texts, err).map_err(|_| Unwritten::Messages)?;
+    let lead = lead_of(alloc, tells_rest(flight.plan), printed.left.as_ref(), texts);
+    print_rest(&lead, &printed, out).map_err(|_| Unwritten::Output)?;
+    tell_run(alloc, Task::Fly(flight), &printed, texts, err).map_err(|_| Unwritten::Messages)?;
     tell_lost_before(printed.given.lost_before, err).map_err(|_| Unwritten::Messages)?;
     Ok(status_of_run(printed.outcome))
 }
@@ -128,10 +140,10 @@ fn fly<R: Threads + Wait + Sync, W: Write, E: Write>(
         → IfOk result (λ status. Settles old new (Fly flight.entry) status (W.contents out.old) (W.contents out.new)) }
     ensures status { IfOk result (λ status. status ≢ BadCommandLine) }
 {
-    let task = Task::Fly(flight);
     match prepared(alloc, flight, texts) {
-        Ok(run) => carry_out(rt, alloc, task, run, texts, out, err),
+        Ok(run) => carry_out(rt, alloc, flight, run, texts, out, err),
         Err(fault) => {
+            let task = Task::Fly(flight);
             let fault = Fault::Run(fault);
             let found = fault.found(alloc, task, texts);
             refuse(Some(task), fault, found, out, err)

@@ -9,6 +9,7 @@ mod fault;
 mod flight;
 mod given;
 mod halt;
+mod left;
 mod remark;
 mod run;
 mod spot;

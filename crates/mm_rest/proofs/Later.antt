@@ -32,7 +32,7 @@ later_cell L n s t cells first =
 -- ---- sums
 
 -- what is summed up to a step, and after it
-sums_add_up : (f : ℕ → ℕ) (n m : ℕ)
+pub sums_add_up : (f : ℕ → ℕ) (n m : ℕ)
     → sum_by f (range_with_len 1 (n + m)) ≡ sum_by f (range_with_len 1 n) + sum_by (λ t. f (n + t)) (range_with_len 1 m)
 sums_add_up f n zero = let same : n + 0 ≡ n = omega arith in rw same (omega arith)
 sums_add_up f n (suc m) =
@@ -60,23 +60,52 @@ filter_range_same p r a zero same = refl
 filter_range_same p r a (suc m) same = ap₂ (λ b xs. cond b (a ∷ xs) xs) (same a (omega arith) (omega arith))
     (filter_range_same p r (a + 1) m (λ s low high. same s (omega arith) (omega arith)))
 
+-- ---- the problem of the steps after a step, from any volumes
+
+module _ (q : Dumping) (n : ℕ) (held : List ℕ) where
+  pub many_of : length (rest_of q n held).rows ≡ length q.rows
+  many_of = length-map-range_with_len (λ s. starting_with (get_or q.rows s no_row) (get_or held s 0)) 0 (length q.rows)
+
+  pub row_of : (s : ℕ) → s < length q.rows → row (rest_of q n held) s ≡ starting_with (row q s) (get_or held s 0)
+  row_of s store = get_or-map-range_with_len (λ s. starting_with (get_or q.rows s no_row) (get_or held s 0)) 0
+      (length q.rows) s s no_row store (omega arith)
+
+  pub arrivals_of : (s t : ℕ) → 1 ≤ t → arrivals (rest_of q n held) s t ≡ arrivals q s (n + t)
+  arrivals_of s t first = ap (λ L. cell L (drop (n * length q.rows) q.arrived) s t) many_of
+      ∙ later_cell (length q.rows) n s t q.arrived first
+
+  pub window_of : (t : ℕ) → 1 ≤ t → window (rest_of q n held) t ≡ window q (n + t)
+  window_of t first =
+      let place : n + (t - 1) ≡ n + t - 1 = omega arith in
+      get_or-drop n q.windows (t - 1) 0 ∙ ap (λ i. get_or q.windows i 0) place
+
+  pub limit_of : (c t : ℕ) → 1 ≤ t → limit (rest_of q n held) c t ≡ limit q c (n + t)
+  limit_of c t first =
+      let column = position_or_len (λ k. k == c) q.limited in
+      ap (λ v. cond (nat_lt c (length q.limits)) (lesser (setup_limit q c)
+      (cond (nat_lt column (length q.limited)) (Some v) None)) None)
+      (later_cell (length q.limited) n column t q.step_limits first)
+
+  pub stores_of_rest : (c : ℕ) → stores_of (rest_of q n held) c ≡ stores_of q c
+  stores_of_rest c = ap (λ L. filter (is_of (rest_of q n held) c) (range_with_len 0 L)) many_of
+      ∙ filter_range_same (is_of (rest_of q n held) c) (is_of q c) 0 (length q.rows) (λ s low high.
+      let store : s < length q.rows = omega arith in
+      ap (λ (r : StoreRow). r.channel == c) (row_of s store))
+
 module _ (q : Dumping) (x : Amounts) (n : ℕ) where
   -- ---- the stores
 
   pub as_many : length (rest_after q x n).rows ≡ length q.rows
-  as_many = length-map-range_with_len
-      (λ s. starting_with (get_or q.rows s no_row) (get_or (held_after q x n) s 0)) 0 (length q.rows)
+  as_many = many_of q n (held_after q x n)
+
+  pub held_at : (s : ℕ) → s < length q.rows → get_or (held_after q x n) s 0 ≡ left q x s n
+  held_at s store = get_or-map-range_with_len (λ s. left q x s n) 0 (length q.rows) s s 0 store (omega arith)
 
   pub row_at : (s : ℕ) → s < length q.rows → row (rest_after q x n) s ≡ starting_with (row q s) (left q x s n)
-  row_at s store =
-      get_or-map-range_with_len (λ s. starting_with (get_or q.rows s no_row) (get_or (held_after q x n) s 0)) 0
-      (length q.rows) s s no_row store (omega arith)
-      ∙ ap (starting_with (get_or q.rows s no_row))
-      (get_or-map-range_with_len (λ s. left q x s n) 0 (length q.rows) s s 0 store (omega arith))
+  row_at s store = row_of q n (held_after q x n) s store ∙ ap (starting_with (get_or q.rows s no_row)) (held_at s store)
 
   arrivals_at : (s t : ℕ) → 1 ≤ t → arrivals (rest_after q x n) s t ≡ arrivals q s (n + t)
-  arrivals_at s t first = ap (λ L. cell L (drop (n * length q.rows) q.arrived) s t) as_many
-      ∙ later_cell (length q.rows) n s t q.arrived first
+  arrivals_at = arrivals_of q n (held_after q x n)
 
   -- ---- volumes
 
@@ -139,22 +168,13 @@ module _ (q : Dumping) (x : Amounts) (n : ℕ) where
   -- ---- windows and limits
 
   pub window_at : (t : ℕ) → 1 ≤ t → window (rest_after q x n) t ≡ window q (n + t)
-  window_at t first =
-      let place : n + (t - 1) ≡ n + t - 1 = omega arith in
-      get_or-drop n q.windows (t - 1) 0 ∙ ap (λ i. get_or q.windows i 0) place
+  window_at = window_of q n (held_after q x n)
 
   pub limit_at : (c t : ℕ) → 1 ≤ t → limit (rest_after q x n) c t ≡ limit q c (n + t)
-  limit_at c t first =
-      let column = position_or_len (λ k. k == c) q.limited in
-      ap (λ v. cond (nat_lt c (length q.limits)) (lesser (setup_limit q c)
-      (cond (nat_lt column (length q.limited)) (Some v) None)) None)
-      (later_cell (length q.limited) n column t q.step_limits first)
+  limit_at = limit_of q n (held_after q x n)
 
   pub stores_of_at : (c : ℕ) → stores_of (rest_after q x n) c ≡ stores_of q c
-  stores_of_at c = ap (λ L. filter (is_of (rest_after q x n) c) (range_with_len 0 L)) as_many
-      ∙ filter_range_same (is_of (rest_after q x n) c) (is_of q c) 0 (length q.rows) (λ s low high.
-      let store : s < length q.rows = omega arith in
-      ap (λ (r : StoreRow). r.channel == c) (row_at s store))
+  stores_of_at = stores_of_rest q n (held_after q x n)
 
   -- the later amounts of a plan that fits do
   fits_rest : n ≤ length q.windows → (y : Amounts) → Fits q y → Fits (rest_after q x n) (later n y)

@@ -6,3 +6,6 @@ pub mod SetupReads
 pub mod RestReads
 pub mod Later
 pub mod HaltReads
+mod Resumes
+mod HaltLimits
+mod HaltFits

@@ -71,7 +71,7 @@ started rows starts k d below = get_or-map-range_with_len
     (λ s. starting_with (get_or rows s no_row) (get_or starts s 0)) 0 (length rows) k k d below (omega arith)
 
 -- the stores keep their identifiers
-ids_kept : (rows : List StoreRow) (starts : List ℕ)
+pub ids_kept : (rows : List StoreRow) (starts : List ℕ)
     → map (λ (r : StoreRow). r.id) (rows_from rows starts) ≡ map (λ (r : StoreRow). r.id) rows
 ids_kept rows starts =
     map-map (λ (r : StoreRow). r.id) (λ s. starting_with (get_or rows s no_row) (get_or starts s 0))

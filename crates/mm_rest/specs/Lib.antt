@@ -3,3 +3,4 @@ pub mod Documents
 pub mod Rests
 pub mod Halts
 pub mod Laws
+pub mod HaltLaws

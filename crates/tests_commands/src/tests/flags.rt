@@ -18,15 +18,18 @@ const SHORT: &str =
 
 const NONE_ALIKE: &str =
     "there is no flag '--json', and none is spelled alike; there are --in-order of plan and fly, --keep PLAN STEP of \
-        plan, --worth of chart, --output FILE of plan, chart, table, rest and sensitivity, and --help";
+        plan, --worth of chart, --rest of run, --output FILE of plan, chart, table, rest and sensitivity, and --help";
 
 const KEEPS_NOTHING: &str =
     "a plan or a step is missing: write --keep PLAN STEP; if the name of the plan begins with -, write ./ before it";
 
 // Bad lines, and what is said of their flags.
-static WRONG: [(&str, &str); 46] = wanted! {
+static WRONG: [(&str, &str); 49] = wanted! {
     "plan --in-order --in-order S F" => "--in-order is given twice; give it once";
     "chart --worth S --worth F P" => "--worth is given twice; give it once";
+    "run --rest S F P X L --rest" => "--rest is given twice; give it once";
+    "fly S F X L --rest" => "--rest goes with run alone";
+    "run --rest=rest.txt S F P X L" => "--rest takes no value; give it alone";
     "plan S F --output X --output Y" => TWICE;
     "plan --output X S F --output=Y" => TWICE;
     "--in-order plan S F" => "--in-order stands after the command";
@@ -101,7 +104,7 @@ static USAGES: [(&str, &str); 10] = wanted! {
     "table --help" => "table <SETUP> <FORECAST> <PLAN> [--output <FILE>]";
     "rest --help" => "rest <SETUP> <FORECAST> <PLAN> <STEP> [--output <FILE>]";
     "sensitivity --help" => "sensitivity <SETUP> <FORECAST> [--output <FILE>]";
-    "run --help" => "run <SETUP> <FORECAST> <PLAN> <SOURCES> <LINKS>";
+    "run --help" => "run [--rest] <SETUP> <FORECAST> <PLAN> <SOURCES> <LINKS>";
     "fly --help" => "fly [--in-order] <SETUP> <FORECAST> <SOURCES> <LINKS>";
     "ask S" => "ask <SETUP> <REQUESTS>";
     "read" => "read <PACKETS>";

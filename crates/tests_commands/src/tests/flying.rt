@@ -7,6 +7,7 @@ use std::io::{self, Write};
 
 mod halts;
 mod refusals;
+mod rests;
 
 // One packet of source 1 before the run, and in each step: telemetry without data, of APID 100, service 3, subtype 25.
 const IN_0: &str = "1 0 0864C000000E200319000000000000000000000000\n";
@@ -163,14 +164,19 @@ const TELECOMMANDS: Run = Run {
 const TELECOMMANDS_NOTED: &str =
     "note: 2 packets of the sources are telecommands, which go to no store\n";
 
-// The script of a run with the files of a row and these links.
-fn script_of(rt: &impl Host, row: &Run, links: &str) -> String {
+// The script of a run, by these words, with the files of a row and these links.
+fn script_by(rt: &impl Host, words: &str, row: &Run, links: &str) -> String {
     let sources = joined(rt, row.sources);
     let script = format!(in rt.alloc();
-        "run S F P X L\n=== S\n{}=== F\n{}=== P\n{}=== X\n{sources}=== L\n{links}",
+        "{words}{}=== F\n{}=== P\n{}=== X\n{sources}=== L\n{links}",
         row.setup, row.forecast, row.plan
     );
     script.expect(rt, "memory")
+}
+
+// The same by the words of `run` without an option.
+fn script_of(rt: &impl Host, row: &Run, links: &str) -> String {
+    script_by(rt, "run S F P X L\n=== S\n", row, links)
 }
 
 // The script of a flight, by these words, with the files of a row but its plan, and these links.

@@ -10,7 +10,7 @@ use Rattle.mm_command_line.proofs.line.task_of.Goals as goal
 no_flight : (c : In_default) (setup forecast sources links : List ℕ) (plan : FlightPlan)
     → flight_spelling setup forecast sources links plan ≡ map (λ word. word.now) c.args.words.now → ⊥
 no_flight c setup forecast sources links (Made in_order) is = grind (arith, count_is _ _ is, first_is _ _ is)
-no_flight c setup forecast sources links (Given plan) is = grind (arith, count_is _ _ is, first_is _ _ is)
+no_flight c setup forecast sources links (Given plan rest) is = grind (arith, count_is _ _ is, first_is _ _ is)
 
 pub returns-in_default-clause-none : goal.returns-in_default-clause-none
 returns-in_default-clause-none c (Fly files) is =

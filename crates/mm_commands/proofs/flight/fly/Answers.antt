@@ -9,7 +9,7 @@ use Rattle.mm_commands.proofs.flight.fly.Goals as goal
 pub returns-in-Ok-clause-settles : goal.returns-in-Ok-clause-settles
 returns-in-Ok-clause-settles g c old new same read =
     flown-settles old new c.args.flight c.args.texts.now _ _ c.carry_out.result same read
-    (c.carry_out.ensures.flies c.args.flight.plan c.in-Ok.ensures.prepared)
+    (c.carry_out.ensures.flies c.in-Ok.ensures.prepared)
 
 pub returns-in-Err-clause-settles : goal.returns-in-Err-clause-settles
 returns-in-Err-clause-settles g c old new same read =

@@ -11,3 +11,12 @@ returns-in_err-ordered-in-Made-clause-none c =
     ∙ ap (flight_spelling run.setup.now run.forecast.now run.sources.now run.links.now) c.in-Made.is in
     let own = flags_of task _ spelled refl in
     c.in_err-ordered-in-Made.ensures.none own.0 (flags ∙ own.1))
+
+pub returns-in_err-rest-in-Given-clause-none : goal.returns-in_err-rest-in-Given-clause-none
+returns-in_err-rest-in-Given-clause-none c =
+    let run = c.args.self in
+    rw c.from_residual-in_err-rest-in-Given.ensures (λ task same flags.
+    let spelled = same
+    ∙ ap (flight_spelling run.setup.now run.forecast.now run.sources.now run.links.now) c.in-Given.is in
+    let own = flags_of task _ spelled refl in
+    c.in_err-rest-in-Given.ensures.none own.0 (flags ∙ own.1))
