@@ -278,6 +278,25 @@ static void apply(struct life *l, const struct request *request) {
     rudlayog_memory_apply(&l->memory, 3, packet, length, l->each, sizeof l->each, &l->answer);
 }
 
+/* A and B, created by one request. Each that finds no memory is refused by itself, and asked for again. */
+static void life_create_two(struct life *l, const struct request *request) {
+    static const struct request alone[] = {{20, "A", 6, {0, 0, 0, 4, 1, 0}}, {20, "B", 6, {0, 0, 0, 2, 0, 1}}};
+    static const uint8_t both[] = "\x18\x64\xC0\0\0\x21\x20\x0F\x14\0\0\x02"
+                                  "A       \0\0\0\x04\x01\0B       \0\0\0\x02\0\x01";
+    (void)request;
+    rudlayog_memory_apply(&l->memory, 3, both, sizeof both - 1, l->each, sizeof l->each, &l->answer);
+    const struct rudlayog_answer answer = l->answer;
+    uint8_t told[2] = {l->each[0], l->each[1]};
+    for (int k = 0; k < 2 && answer.status == RUDLAYOG_WRITTEN; k++) {
+        if (told[k] == RUDLAYOG_REFUSAL_NO_MEMORY) {
+            apply(l, &alone[k]);
+            told[k] = l->each[0];
+        }
+    }
+    l->answer = answer;
+    memcpy(l->each, told, sizeof told);
+}
+
 static void life_open(struct life *l, const struct request *request) {
     (void)request;
     rudlayog_memory_open(&l->memory, TEXT(setup), &l->answer);
@@ -349,6 +368,9 @@ static const struct {
     ASK(5, "SCI", 0, {0}),
     REPORT,
     ASK(4, "SCI", 4, {0, 100, 3, 26}),
+    CALL(life_create_two, RUDLAYOG_WRITTEN),
+    ASK(21, "A", 0, {0}),
+    ASK(21, "B", 0, {0}),
     ASK(20, "CAM", 6, {0, 0, 1, 0, 0, 1}),
     ASK(1, "CAM", 0, {0}),
     {life_offer, RUDLAYOG_WRITTEN, {0, "CAM", 0, {0}}},
