@@ -35,11 +35,7 @@ fn broken(alloc: Global, links: &[ScriptedLink]) -> Result<Vec<StoreId>, NoMemor
 }
 
 // What the run left of the step in which it was halted.
-fn halted_step(
-    alloc: Global,
-    problem: &Problem,
-    run: &StoppedRun,
-) -> Result<HaltedStep, NoMemory>
+fn halted_step(alloc: Global, problem: &Problem, run: &StoppedRun) -> Result<HaltedStep, NoMemory>
     ensures { IfOk result (IsHaltedStep problem.now run.now) }
 {
     let held = (0..problem.stores()).map(|store| held_at(run, store));
