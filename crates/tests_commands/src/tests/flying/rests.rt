@@ -178,6 +178,8 @@ fn a_run_that_no_link_halts_has_no_rest(rt: HostRuntime) {
         let plain = script_by(&rt, "run S F P X L\n=== S\n", &FIRST_RUN, *links);
         let asked = script_by(&rt, WITH_REST, &FIRST_RUN, *links);
         let (plain, asked) = (told(&rt, &[plain.as_str()]), told(&rt, &[asked.as_str()]));
-        assert!(&rt; plain.out.as_str() == asked.out.as_str() && plain.err.as_str() == asked.err.as_str());
+        assert!(&rt;
+            plain.out.as_str() == asked.out.as_str() && plain.err.as_str() == asked.err.as_str()
+        );
     }
 }
