@@ -50,8 +50,8 @@ pub record LeadsWhole (texts : TaskTexts) (run : StoppedRun) (lead : List ℕ) :
   pub tells : TellsHalt texts run script
   pub lead_is : lead ≡ script ++ report_line
 
--- what comes before the report of a run that did not end: the script of what is left, if a link halted the run and there
--- is memory for it; otherwise nothing
+-- what comes before the report of a run that did not end: the script of what is left, if a link halted the run and
+-- there is memory for it; otherwise nothing
 abbrev pub LeadsHalt : TaskTexts → StoppedRun → List ℕ → Type 0
 LeadsHalt texts run lead = (lead ≡ []) ⊎ LeadsWhole texts run lead
 

@@ -5,8 +5,8 @@ ghost use Rattle.std.specs.Option.{option_map};
 ghost use Rattle.mm_problem.specs.Dumping.{stores};
 ghost use Rattle.mm_problem.specs.Forecast.{limits_of};
 ghost use Rattle.mm_run.specs.StoppedRun.{dumped_at};
-ghost use Rattle.mm_commands.specs.Halts.{IsHaltedStep, LeadsHalt, LeadsReport, LeadsWhole, SaysHalt, TellsHalt, held_at};
-ghost use Rattle.mm_commands.specs.Halts.{report_line};
+ghost use Rattle.mm_commands.specs.Halts.{IsHaltedStep, LeadsHalt, LeadsReport, LeadsWhole, SaysHalt, TellsHalt};
+ghost use Rattle.mm_commands.specs.Halts.{held_at, report_line};
 
 use crate::given::read_given;
 use crate::texts::TaskTexts;
@@ -135,8 +135,8 @@ fn lead_of_halt(alloc: Global, run: &StoppedRun, texts: &TaskTexts) -> Vec<u8>
     }
 }
 
-/// What comes before the report of a run: where it is asked for, and a link halted the run, the script that plans what is
-/// left, of which the report is the last file. Nothing where there is no memory for it.
+/// What comes before the report of a run: where it is asked for, and a link halted the run, the script that plans what
+/// is left, of which the report is the last file. Nothing where there is no memory for it.
 pub(crate) fn lead_of(
     alloc: Global,
     is_asked: bool,
