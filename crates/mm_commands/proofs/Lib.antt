@@ -2,5 +2,6 @@ mod Printing
 mod Refusals
 mod Codes
 mod Flying
+pub mod Leading
 mod Words
 mod Answering

@@ -25,24 +25,37 @@ pub record IsHaltedStep (q : Dumping) (run : StoppedRun) (halted : HaltedStep) :
   pub broken : halted.broken.items
       ≡ filter_map (λ l. option_map (λ f. f.store) l.last_failure) run.halted.links.items
 
+-- the script says what is left of the problem, in a step of which the run was halted
+pub record SaysHalt (m : SetupRows) (q : Dumping) (step : ℕ) (run : StoppedRun) (script : List ℕ) : Type 0 where
+  pub halted : HaltedStep
+  pub is : IsHaltedStep q run halted
+  pub says : IsHaltScript m q step halted script
+
 -- a link halted the run in a step, and the script says what is left of the problem of the texts
 pub record TellsHalt (texts : TaskTexts) (run : StoppedRun) (script : List ℕ) : Type 0 where
   pub rows : SetupRows
   pub problem : Dumping
   pub step : ℕ
-  pub halted : HaltedStep
   pub given : IsGiven texts.setup.items texts.forecast.items rows problem
   pub cause : run.halted.cause ≡ LinkFailed step
-  pub is : IsHaltedStep problem run halted
-  pub says : IsHaltScript rows problem step halted script
+  pub says : SaysHalt rows problem step run script
 
 -- a line after which the report stands as the last file of the script
 abbrev pub report_line : List ℕ
 report_line = codes "=== report.txt\n"
 
--- what comes before the report: where it is asked for, and a link halted the run, the script of what is left, if there
--- is memory for it; otherwise nothing
+-- the script of what is left, and that line
+pub record LeadsWhole (texts : TaskTexts) (run : StoppedRun) (lead : List ℕ) : Type 0 where
+  pub script : List ℕ
+  pub tells : TellsHalt texts run script
+  pub lead_is : lead ≡ script ++ report_line
+
+-- what comes before the report of a run that did not end: the script of what is left, if a link halted the run and
+-- there is memory for it; otherwise nothing
+abbrev pub LeadsHalt : TaskTexts → StoppedRun → List ℕ → Type 0
+LeadsHalt texts run lead = (lead ≡ []) ⊎ LeadsWhole texts run lead
+
+-- the same of any run, if it is asked for; otherwise nothing
 abbrev pub LeadsReport : Bool → TaskTexts → Option StoppedRun → List ℕ → Type 0
-LeadsReport true texts (Some run) lead =
-    (lead ≡ []) ⊎ ((script : List ℕ) × TellsHalt texts run script × (lead ≡ script ++ report_line))
+LeadsReport true texts (Some run) lead = LeadsHalt texts run lead
 LeadsReport asked texts left lead = lead ≡ []

@@ -119,7 +119,7 @@ fn carry_out<R: Threads + Wait + Sync, W: Write, E: Write>(
 {
     print_plan(&run, out).map_err(|_| Unwritten::Output)?;
     let printed = run.carry_out(rt, alloc);
-    let lead = lead_of(alloc, tells_rest(flight.plan), printed.left.as_ref(), texts);
+    let lead = lead_of(alloc, tells_rest(flight.plan), &printed, texts);
     print_rest(&lead, &printed, out).map_err(|_| Unwritten::Output)?;
     tell_run(alloc, Task::Fly(flight), &printed, texts, err).map_err(|_| Unwritten::Messages)?;
     tell_lost_before(printed.given.lost_before, err).map_err(|_| Unwritten::Messages)?;

@@ -1,19 +1,20 @@
 //! What comes before the report of a run: the script that plans what is left of it, where a link halted it.
-ghost use Rattle.std.specs.Prelude.{◌≡◌, ◌++◌, List, ℕ, IfOk, IfSome};
+ghost use Rattle.std.specs.Prelude.{◌≡◌, ◌≤◌, ◌++◌, IfOk, IfSome, length, map};
 ghost use Rattle.std.specs.List.{filter_map};
-ghost use Rattle.std.specs.Option.{option_copied, option_map};
-ghost use Rattle.mm_commands.specs.Halts.{IsHaltedStep, LeadsReport, TellsHalt, held_at, report_line};
+ghost use Rattle.std.specs.Option.{option_map};
+ghost use Rattle.mm_problem.specs.Dumping.{stores};
+ghost use Rattle.mm_problem.specs.Forecast.{limits_of};
+ghost use Rattle.mm_run.specs.StoppedRun.{dumped_at};
+ghost use Rattle.mm_commands.specs.Halts.{IsHaltedStep, LeadsHalt, LeadsReport, LeadsWhole, SaysHalt, TellsHalt};
+ghost use Rattle.mm_commands.specs.Halts.{held_at, report_line};
 
-use crate::given::{Given, read_given};
+use crate::given::read_given;
 use crate::texts::TaskTexts;
 use mm_base::{NoMemory, StoreId};
-use mm_problem::Problem;
+use mm_problem::{Problem, Setup};
 use mm_rest::{HaltedStep, halt_script};
-use mm_run::{Cause, ScriptedLink, StoppedRun};
+use mm_run::{Cause, Printed, ScriptedLink, StoppedRun};
 use std::alloc::Global;
-
-// A line after which the report stands as the last file of the script.
-const REPORT: &str = "=== report.txt\n";
 
 // How many packets the store at a place holds; none where there is no such store.
 fn held_at(run: &StoppedRun, place: usize) -> u32
@@ -34,63 +35,121 @@ fn broken(alloc: Global, links: &[ScriptedLink]) -> Result<Vec<StoreId>, NoMemor
     Ok(stores.collect(alloc)?)
 }
 
+// What each store of the problem holds.
+fn held(alloc: Global, problem: &Problem, run: &StoppedRun) -> Result<Vec<u32>, NoMemory>
+    ensures { IfOk result (λ held. held.items ≡ map (λ s. held_at s run.now) (stores problem.now)) }
+{
+    let held = (0..problem.stores()).map(|store| held_at(run, store));
+    Ok(held.collect(alloc)?)
+}
+
+// What each store of the problem dumped in the step in which the run was halted.
+fn dumped(alloc: Global, problem: &Problem, run: &StoppedRun) -> Result<Vec<u64>, NoMemory>
+    ensures { IfOk result (λ dumped. dumped.items ≡ map (λ s. dumped_at s run.now) (stores problem.now)) }
+{
+    let dumped = (0..problem.stores()).map(|store| run.dumped(store));
+    Ok(dumped.collect(alloc)?)
+}
+
 // What the run left of the step in which it was halted.
 fn halted_step(alloc: Global, problem: &Problem, run: &StoppedRun) -> Result<HaltedStep, NoMemory>
     ensures { IfOk result (IsHaltedStep problem.now run.now) }
 {
-    let held = (0..problem.stores()).map(|store| held_at(run, store));
-    let held = held.collect(alloc)?;
-    let dumped = (0..problem.stores()).map(|store| run.dumped(store));
-    let dumped = dumped.collect(alloc)?;
-    let broken = broken(alloc, &run.halted.links)?;
+    let volumes = held(alloc, problem, run)?;
+    let dumps = dumped(alloc, problem, run)?;
+    let stores = broken(alloc, &run.halted.links)?;
     Ok(HaltedStep {
-        held,
+        held: volumes,
         spent: run.halted.spent,
-        dumped,
-        broken,
+        dumped: dumps,
+        broken: stores,
     })
 }
 
+// The script of what is left of a problem, in a step of which the run was halted.
+fn script_in(
+    alloc: Global,
+    setup: &Setup,
+    problem: &Problem,
+    step: u32,
+    run: &StoppedRun,
+) -> Result<Vec<u8>, NoMemory>
+    requires stores { problem.now.rows ≡ setup.now.stores }
+    requires limits { problem.now.limits ≡ limits_of setup.now.limits }
+    requires first { 1 ≤ step }
+    requires last { step ≤ length problem.now.windows }
+    ensures { IfOk result (λ script. SaysHalt setup.now problem.now step run.now script.items) }
+{
+    let halted = halted_step(alloc, problem, run)?;
+    let script = halt_script(alloc, setup, problem, step, &halted)?;
+    Ok(script)
+}
+
 // The script of what is left of a run, where a link halted it in a step; none where there is no memory for it.
+#[tactic(auto, using(crate::proofs::Leading::tells))]
 fn script_of_rest(alloc: Global, run: &StoppedRun, texts: &TaskTexts) -> Option<Vec<u8>>
     ensures { IfSome result (λ script. TellsHalt texts.now run.now script.items) }
 {
     let Cause::LinkFailed { step } = run.halted.cause else {
         return None;
     };
-    let given = read_given(alloc, texts).ok()?;
+    let Ok(given) = read_given(alloc, texts) else {
+        return None;
+    };
     if step == 0 || step > given.problem.steps() {
         return None;
     }
-    let halted = halted_step(alloc, &given.problem, run).ok()?;
-    halt_script(alloc, &given.setup, &given.problem, step, &halted).ok()
+    match script_in(alloc, &given.setup, &given.problem, step, run) {
+        Ok(script) => Some(script),
+        Err(_) => None,
+    }
+}
+
+// A script, and the line after which the report stands.
+fn with_report(script: Vec<u8>) -> Result<Vec<u8>, NoMemory>
+    ensures { IfOk result (λ lead. lead.items ≡ script.items ++ report_line) }
+{
+    let mut lead = script;
+    lead.extend_from_slice(b"=== report.txt\n")?;
+    Ok(lead)
 }
 
 // The script, and the line after which the report stands.
 fn whole_lead(alloc: Global, run: &StoppedRun, texts: &TaskTexts) -> Option<Vec<u8>>
-    ensures { IfSome result (λ lead. (script : List ℕ) × TellsHalt texts.now run.now script
-        × (lead.items ≡ script ++ report_line)) }
+    ensures { IfSome result (λ lead. LeadsWhole texts.now run.now lead.items) }
 {
-    let mut lead = script_of_rest(alloc, run, texts)?;
-    lead.extend_from_slice(REPORT.as_bytes()).ok()?;
-    Some(lead)
+    let script = script_of_rest(alloc, run, texts)?;
+    match with_report(script) {
+        Ok(lead) => Some(lead),
+        Err(_) => None,
+    }
 }
 
-/// What comes before the report of a run: where it is asked for, and a link halted the run, the script that plans what is
-/// left, of which the report is the last file. Nothing where there is no memory for it.
+// What comes before the report of a run that did not end.
+fn lead_of_halt(alloc: Global, run: &StoppedRun, texts: &TaskTexts) -> Vec<u8>
+    ensures { LeadsHalt texts.now run.now result.items }
+{
+    match whole_lead(alloc, run, texts) {
+        Some(lead) => lead,
+        None => Vec::new(alloc),
+    }
+}
+
+/// What comes before the report of a run: where it is asked for, and a link halted the run, the script that plans what
+/// is left, of which the report is the last file. Nothing where there is no memory for it.
 pub(crate) fn lead_of(
     alloc: Global,
     is_asked: bool,
-    left: Option<&StoppedRun>,
+    printed: &Printed,
     texts: &TaskTexts,
 ) -> Vec<u8>
-    ensures { LeadsReport is_asked texts.now (option_copied left) result.items }
+    ensures { LeadsReport is_asked texts.now printed.now.left result.items }
 {
-    match left {
-        Some(run) if is_asked => match whole_lead(alloc, run, texts) {
-            Some(lead) => lead,
-            None => Vec::new(alloc),
-        },
-        _ => Vec::new(alloc),
+    if !is_asked {
+        return Vec::new(alloc);
+    }
+    match &printed.left {
+        Some(run) => lead_of_halt(alloc, run, texts),
+        None => Vec::new(alloc),
     }
 }
