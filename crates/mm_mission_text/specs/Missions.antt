@@ -20,8 +20,8 @@ use Rattle.mm_mission_text.specs.declared.column.Column.{Column}
 use Rattle.mm_mission_text.specs.declared.column.Column.TheVariants as column
 use Rattle.mm_mission_text.specs.declared.fault.Fault.{Fault}
 use Rattle.mm_mission_text.specs.declared.mission_fault.MissionFault.{MissionFault}
-use Rattle.mm_mission_text.specs.declared.mission_fault.MissionFault.TheVariants.{NotUtf8, NotToml, UnknownKey, NotTables}
-use Rattle.mm_mission_text.specs.declared.mission_fault.MissionFault.TheVariants.{NotFile, In}
+use Rattle.mm_mission_text.specs.declared.mission_fault.MissionFault.TheVariants.{NotUtf8, NotToml, UnknownKey}
+use Rattle.mm_mission_text.specs.declared.mission_fault.MissionFault.TheVariants.{NotTables, NotFile, In}
 use Rattle.mm_mission_text.specs.declared.document.MissionText.{MissionText}
 use Rattle.mm_mission_text.specs.declared.whole.Whole.{Whole}
 

@@ -17,7 +17,8 @@ use Rattle.mm_mission_text.specs.declared.column.Column.TheVariants as column
 use Rattle.mm_mission_text.specs.declared.fault.Fault.{Fault}
 use Rattle.mm_mission_text.specs.declared.fault.Fault.TheVariants.{Cell}
 use Rattle.mm_mission_text.specs.declared.fault.Why.{Why}
-use Rattle.mm_mission_text.specs.declared.fault.Why.TheVariants.{Unquoted, Decimal, NotCell, NotChannel, NotChannels, Twice}
+use Rattle.mm_mission_text.specs.declared.fault.Why.TheVariants.{Unquoted, Decimal, NotCell}
+use Rattle.mm_mission_text.specs.declared.fault.Why.TheVariants.{NotChannel, NotChannels, Twice}
 
 -- a number or a moment as it is printed, where no word is meant
 abbrev pub printed : Column → List ℕ → Result (List ℕ) Why

@@ -1,7 +1,7 @@
 //! The text of a mission in TOML.
 ghost use Rattle.toml.specs.View.{table_view};
 ghost use Rattle.mm_base.specs.Reading.{Gives};
-ghost use Rattle.mm_mission_text.specs.Missions.{whole_columns, other_keys, whole_at, mission_at, document_of, mission_in};
+ghost use Rattle.mm_mission_text.specs.Missions.{whole_at, mission_at, document_of, mission_in};
 ghost use Rattle.mm_mission_text.specs.declared.mission_fault.MissionFault.TheVariants.{NoMemory};
 
 use crate::column::Column;
