@@ -1,9 +1,8 @@
 -- Readings of one thing after the other.
 use Rattle.std.proofs.Common.{◌≡◌, List, [], ◌∷◌, ◌++◌, Result, Ok, Err, refl}
 use Rattle.mm_mission_text.specs.Headers.{all_in}
-use Rattle.mm_mission_text.specs.declared.fault.Fault.{Fault}
 
-module _ {R X : Type 0} (next : List R → X → Result R Fault) (earlier : List R) (left : List X) where
+module _ {R X F : Type 0} (next : List R → X → Result R F) (earlier : List R) (left : List X) where
   -- where nothing is left, there is nothing further
   pub all_none : left ≡ [] → all_in next earlier left ≡ Ok earlier
   unfolding all_in
@@ -16,6 +15,6 @@ module _ {R X : Type 0} (next : List R → X → Result R Fault) (earlier : List
     all_next row given = rw (is, rw same at given) refl
 
     -- a fault in it is the fault of all
-    pub all_fault : (e : Fault) → next rows x ≡ Err e → all_in next earlier left ≡ Err e
+    pub all_fault : (e : F) → next rows x ≡ Err e → all_in next earlier left ≡ Err e
     unfolding all_in
     all_fault e given = rw (is, rw same at given) refl

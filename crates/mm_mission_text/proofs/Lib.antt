@@ -1,3 +1,4 @@
 pub mod AllIn
 pub mod RecordRows
 pub mod RowsLeft
+pub mod TextTables

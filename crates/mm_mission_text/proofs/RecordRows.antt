@@ -1,5 +1,5 @@
 -- The records of a text, one after the other.
-use Rattle.std.proofs.Common.{◌≡◌, ℕ, ◌+◌, suc, false, List, [], ◌∷◌, ◌++◌, length, map, Some, Bor, refl, sym, ap, ◌∙◌}
+use Rattle.std.proofs.Common.{◌≡◌, ℕ, false, List, [], ◌∷◌, ◌++◌, length, map, Some, Bor, refl, sym, ap, ◌∙◌}
 use Rattle.std.proofs.Common.{add-one, append_assoc, append-nil}
 use Rattle.std.proofs.lemmas.List.{map-append}
 use Rattle.csv.proofs.ReadFacts.{rows-end}

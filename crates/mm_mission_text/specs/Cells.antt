@@ -1,5 +1,5 @@
 -- The values that are written in cells.
-use Rattle.std.specs.Prelude.{ℕ, ◌==◌, List, Result, Ok, Err, if◌then◌else◌, bytes_eq}
+use Rattle.std.specs.Prelude.{ℕ, ◌==◌, List, Result, Ok, Err, if◌then◌else◌, codes, bytes_eq}
 use Rattle.std.specs.Str.{is_utf8}
 use Rattle.mm_base.specs.Id.{is_id_text, field_of}
 use Rattle.mm_base.specs.Kind.{word_of}
@@ -14,10 +14,12 @@ use Rattle.mm_utc.specs.Amounts.{volume_in, rate_in}
 use Rattle.mm_utc.specs.Moments.{moment_in}
 use Rattle.mm_utc.specs.declared.amount.Rate.{Rate}
 use Rattle.mm_utc.specs.declared.amount.Volume.{Volume}
-use Rattle.mm_mission_text.specs.declared.cell.TheConstants.{MOST_OCTETS}
+use Rattle.mm_mission_text.specs.declared.cell.TheConstants.{MOST_OCTETS, MOST_BLOCK, MOST_UNIT}
 use Rattle.mm_mission_text.specs.declared.fault.Why.{Why}
 use Rattle.mm_mission_text.specs.declared.fault.Why.TheVariants.{NotText, NotId, NotKind, NotChannel, NotOctets, Moment}
-use Rattle.mm_mission_text.specs.declared.fault.Why.TheVariants.{Amount}
+use Rattle.mm_mission_text.specs.declared.fault.Why.TheVariants.{Amount, NotBlock, NotOverlap, NotNumber}
+use Rattle.mm_mission_text.specs.declared.whole.Overlap.{Overlap}
+use Rattle.mm_mission_text.specs.declared.whole.Overlap.TheVariants.{Both, Better}
 
 -- the same value, or the fault that is told of this one
 abbrev pub told_as : {X F G : Type 0} → (F → G) → Result X F → Result X G
@@ -68,3 +70,17 @@ above_0 why n = if n == 0 then Err why else Ok n
 -- the octets of a packet
 abbrev pub octets_of : List ℕ → Result ℕ Why
 octets_of text = number_or NotOctets (numeral_of MOST_OCTETS text) >>= above_0 NotOctets
+
+-- the octets of a block
+abbrev pub block_of : List ℕ → Result ℕ Why
+block_of text = number_or NotBlock (numeral_of MOST_BLOCK text) >>= above_0 NotBlock
+
+-- how many packets are counted as one
+abbrev pub unit_of : List ℕ → Result ℕ Why
+unit_of text = number_or NotNumber (numeral_of MOST_UNIT text)
+
+-- what holds where passes overlap
+abbrev pub overlap_of : List ℕ → Result Overlap Why
+overlap_of word =
+    if bytes_eq word (codes "both") then Ok Both else if bytes_eq word (codes "better") then Ok Better
+    else Err NotOverlap

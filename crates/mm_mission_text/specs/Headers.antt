@@ -11,7 +11,7 @@ use Rattle.mm_mission_text.specs.declared.fault.Fault.{Fault}
 use Rattle.mm_mission_text.specs.declared.fault.Fault.TheVariants.{UnknownColumn, RepeatedColumn, NoColumn}
 
 -- these, then what the rest is read as, each after those before it
-unfoldable pub all_in : {R X : Type 0} → (List R → X → Result R Fault) → List R → List X → Result (List R) Fault
+unfoldable pub all_in : {R X F : Type 0} → (List R → X → Result R F) → List R → List X → Result (List R) F
 all_in next earlier [] = Ok earlier
 all_in next earlier (x ∷ xs) = do
   row ← next earlier x

@@ -5,3 +5,7 @@ pub mod Headers
 pub mod Rows
 pub mod Tables
 pub mod Entries
+pub mod Values
+pub mod Given
+pub mod Told
+pub mod Missions

@@ -1,6 +1,6 @@
 -- The rows of a table.
 use Rattle.std.specs.Prelude.{ℕ, ◌==◌, nat_lt, if◌then◌else◌, List, [], ◌∷◌, length, Option, Some, None, Result, Ok}
-use Rattle.std.specs.Prelude.{Err, option_and_then, position}
+use Rattle.std.specs.Prelude.{option_and_then, position}
 use Rattle.std.specs.Option.{ok_or}
 use Rattle.csv.specs.Records.{fields_of, field_at}
 use Rattle.mm_base.specs.Reading.{◌>>=◌, test}

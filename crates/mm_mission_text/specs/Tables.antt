@@ -1,5 +1,5 @@
 -- Tables: a header, and rows with entries of one kind.
-use Rattle.std.specs.Prelude.{ℕ, ◌+◌, ◌==◌, Bool, List, [], ◌∷◌, length, map, Result, Ok, Err, if◌then◌else◌}
+use Rattle.std.specs.Prelude.{ℕ, ◌+◌, ◌==◌, Bool, List, [], ◌∷◌, length, map, Result, Err, if◌then◌else◌}
 use Rattle.std.specs.List.{list_all}
 use Rattle.csv.specs.Records.{trimmed}
 use Rattle.mm_base.specs.Reading.{◌>>=◌, test}

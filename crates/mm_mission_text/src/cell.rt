@@ -1,18 +1,29 @@
 //! Values in cells.
 ghost use Rattle.std.specs.Prelude.{◌≡◌, ℕ, List, Result, IfOk};
 ghost use Rattle.mm_mission_text.specs.Cells.{text_of, id_of, moment_of, rate_of, volume_of, kind_of, channel_of};
-ghost use Rattle.mm_mission_text.specs.Cells.{octets_of};
+ghost use Rattle.mm_mission_text.specs.Cells.{octets_of, block_of, unit_of, overlap_of};
 ghost use Rattle.mm_mission_text.specs.declared.fault.Why.{Why};
 
 use crate::fault::Why;
 use crate::text::Text;
+use crate::whole::Overlap;
 use mm_base::numbers::Numeral;
 use mm_base::{Kind, MAX_CHANNEL, NoMemory, StoreId};
 use mm_utc::{Moment, Rate, Volume};
 use std::alloc::Global;
+use std::marker::Model;
 
 /// The most octets of a packet.
 pub const MOST_OCTETS: u16 = 1024;
+
+/// The octets of a packet, and of a block, if nothing else is written.
+pub const OCTETS: u16 = 1024;
+
+/// The most octets of a block.
+pub const MOST_BLOCK: u32 = 1_048_576;
+
+/// The most packets that are counted as one.
+pub const MOST_UNIT: u32 = 4_294_967_295;
 
 // A value that is written in a cell.
 pub(crate) trait Cell: Drop {
@@ -113,6 +124,55 @@ impl Cell for u16 {
         match Numeral::read(text, u64::from(MOST_OCTETS)) {
             Numeral::Number(octets) if octets > 0 => Ok(Ok(octets as u16)),
             _ => Ok(Err(Why::NotOctets)),
+        }
+    }
+}
+
+// The octets of a block.
+#[derive(Drop)]
+pub(crate) struct Block(pub(crate) u32);
+
+impl Model for Block {
+    ghost use Rattle.std.specs.Prelude.{ℕ};
+
+    ghost Value = { ℕ };
+
+    ghost view = { λ block. block.0 };
+}
+
+impl Cell for Block {
+    ghost reads = { block_of };
+
+    fn of_cell(_alloc: Global, text: &[u8]) -> Result<Result<Block, Why>, NoMemory> {
+        match Numeral::read(text, u64::from(MOST_BLOCK)) {
+            Numeral::Number(octets) if octets > 0 => Ok(Ok(Block(octets as u32))),
+            _ => Ok(Err(Why::NotBlock)),
+        }
+    }
+}
+
+// How many packets are counted as one.
+impl Cell for u32 {
+    ghost reads = { unit_of };
+
+    fn of_cell(_alloc: Global, text: &[u8]) -> Result<Result<u32, Why>, NoMemory> {
+        match Numeral::read(text, u64::from(MOST_UNIT)) {
+            Numeral::Number(packets) => Ok(Ok(packets as u32)),
+            _ => Ok(Err(Why::NotNumber)),
+        }
+    }
+}
+
+impl Cell for Overlap {
+    ghost reads = { overlap_of };
+
+    fn of_cell(_alloc: Global, text: &[u8]) -> Result<Result<Overlap, Why>, NoMemory> {
+        if text == "both".as_bytes() {
+            Ok(Ok(Overlap::Both))
+        } else if text == "better".as_bytes() {
+            Ok(Ok(Overlap::Better))
+        } else {
+            Ok(Err(Why::NotOverlap))
         }
     }
 }

@@ -1,10 +1,10 @@
-//! The columns of the tables of a mission.
-ghost use Rattle.std.specs.Prelude.{◌≡◌};
-ghost use Rattle.mm_mission_text.specs.Columns.{name_of, is_same};
+//! The columns of the tables of a mission, and the keys of its text.
+ghost use Rattle.std.specs.Prelude.{◌≡◌, option_map};
+ghost use Rattle.mm_mission_text.specs.Columns.{name_of, is_same, channel_key};
 
 use std::fmt;
 
-/// A column of a table. `Channel0` to `Channel7` have the rates of channels.
+/// A column of a table, or a key of a text in TOML. `Channel0` to `Channel7` have the rates of channels.
 #[derive(Clone, Copy, Debug, PartialEq, Eq)]
 pub enum Column {
     Id,
@@ -28,10 +28,20 @@ pub enum Column {
     Channel5,
     Channel6,
     Channel7,
+    Channels,
+    Block,
+    Overlap,
+    Unit,
+    Pass,
+    Observation,
+    Stores,
+    Stations,
+    Passes,
+    Observations,
 }
 
 impl Column {
-    /// The name of the column in a header.
+    /// The name of the column in a header, or of the key in a text.
     #[must_use]
     #[tactic(auto, unfolding(crate::specs::Columns::name_of))]
     pub fn name(self) -> &'static str
@@ -59,6 +69,34 @@ impl Column {
             Column::Channel5 => "channel:5",
             Column::Channel6 => "channel:6",
             Column::Channel7 => "channel:7",
+            Column::Channels => "channels",
+            Column::Block => "block",
+            Column::Overlap => "overlap",
+            Column::Unit => "unit",
+            Column::Pass => "pass",
+            Column::Observation => "observation",
+            Column::Stores => "stores",
+            Column::Stations => "stations",
+            Column::Passes => "passes",
+            Column::Observations => "observations",
+        }
+    }
+
+    // The key of a channel's rate in the table `channels`.
+    #[tactic(auto, unfolding(crate::specs::Columns::channel_key))]
+    pub(crate) fn channel_key(self) -> Option<&'static str>
+        ensures { option_map (λ key. key.now) result ≡ channel_key self }
+    {
+        match self {
+            Column::Channel0 => Some("0"),
+            Column::Channel1 => Some("1"),
+            Column::Channel2 => Some("2"),
+            Column::Channel3 => Some("3"),
+            Column::Channel4 => Some("4"),
+            Column::Channel5 => Some("5"),
+            Column::Channel6 => Some("6"),
+            Column::Channel7 => Some("7"),
+            _ => None,
         }
     }
 

@@ -30,6 +30,23 @@ pub enum Why {
     /// A volume.
     #[error("a volume beside a rate")]
     BesideRate,
+    #[error("not a number of octets from 1 to 1,048,576")]
+    NotBlock,
+    #[error("neither both nor better")]
+    NotOverlap,
+    #[error("not a whole number up to 4,294,967,295")]
+    NotNumber,
+    /// A value in TOML, as the next ones.
+    #[error("not a text in quotes")]
+    Unquoted,
+    #[error("a decimal, which is not exact: write it in quotes, as \"2.4 kbit/s\"")]
+    Decimal,
+    #[error("neither a text nor a whole number nor a moment")]
+    NotCell,
+    #[error("not the rates of channels, as {{ 1 = \"56 kbit/s\" }}")]
+    NotChannels,
+    #[error("the channel has a rate in channels too")]
+    Twice,
 }
 
 /// Why a table is refused: its first fault. Rows and places count from 1, and the header is no row.

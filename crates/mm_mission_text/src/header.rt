@@ -13,14 +13,19 @@ use crate::fault::Fault;
 use csv::ByteRecord;
 use std::alloc::Global;
 
-// The columns of a table: those that it may have, and those of them that it must have.
+// The columns of a table: those that it may have, and those of them that it must have. In a text: the keys of its array
+// of tables and of its file, and the keys of its tables that are no columns.
 #[derive(Clone, Copy)]
 pub(crate) struct Table {
     pub(crate) known: &'static [Column],
     pub(crate) needed: &'static [Column],
+    pub(crate) array: Column,
+    pub(crate) file: Column,
+    pub(crate) others: &'static [Column],
 }
 
-fn has(columns: &[Column], column: Column) -> bool
+// Whether a column is among these.
+pub(crate) fn has(columns: &[Column], column: Column) -> bool
     ensures { result ≡ has columns.now column }
 {
     columns.iter().any(|other| column.is_same(*other))

@@ -4,9 +4,12 @@
 
 mod cell;
 mod column;
+mod document;
 mod fault;
+mod given;
 mod header;
 pub mod laws;
+mod mission_fault;
 mod observation;
 mod pass;
 mod records;
@@ -15,11 +18,15 @@ mod station;
 mod store;
 mod table;
 mod text;
+mod value;
 mod whole;
 
-pub use cell::MOST_OCTETS;
+pub use cell::{MOST_BLOCK, MOST_OCTETS, MOST_UNIT, OCTETS};
 pub use column::Column;
+pub use document::{MissionText, mission};
 pub use fault::{Fault, Why};
+pub use given::Given;
+pub use mission_fault::{MissionFault, TomlFault};
 pub use observation::{Arrival, Observation, observations};
 pub use pass::{Pass, passes};
 pub use station::{Station, stations};
@@ -29,3 +36,5 @@ pub use whole::{Overlap, Whole};
 
 #[cfg(test)]
 mod tests;
+#[cfg(test)]
+mod tests_toml;

@@ -1,9 +1,11 @@
 //! Observations, which fill packet stores.
+ghost use Rattle.std.specs.Prelude.{[]};
 ghost use Rattle.mm_base.specs.Reading.{Gives};
 ghost use Rattle.mm_mission_text.specs.Rows.{seen};
 ghost use Rattle.mm_mission_text.specs.Entries.{observation_columns, observation_needed, observation_in};
 ghost use Rattle.mm_mission_text.specs.Entries.{observations_in};
 ghost use Rattle.mm_mission_text.specs.Entries.{arrival_of};
+ghost use Rattle.mm_mission_text.specs.declared.column.Column.TheVariants as column;
 ghost use Rattle.mm_mission_text.specs.declared.fault.Fault.TheVariants.{NoMemory};
 
 use crate::column::Column;
@@ -70,12 +72,21 @@ impl Entry for Observation {
 
     ghost needed = { observation_needed };
 
+    ghost array = { column.Observation };
+
+    ghost file = { column.Observations };
+
+    ghost others = { [] };
+
     ghost entry_in = { observation_in };
 
     fn table() -> Table {
         Table {
             known: &COLUMNS,
             needed: &NEEDED,
+            array: Column::Observation,
+            file: Column::Observations,
+            others: &[],
         }
     }
 

@@ -1,7 +1,8 @@
 //! Passes over ground stations.
-ghost use Rattle.std.specs.Prelude.{◌<◌, map};
+ghost use Rattle.std.specs.Prelude.{[], ◌∷◌};
 ghost use Rattle.mm_base.specs.Reading.{Gives};
 ghost use Rattle.mm_mission_text.specs.Entries.{pass_columns, pass_needed, pass_in, passes_in};
+ghost use Rattle.mm_mission_text.specs.declared.column.Column.TheVariants as column;
 ghost use Rattle.mm_mission_text.specs.declared.fault.Fault.TheVariants.{NoMemory};
 
 use crate::column::Column;
@@ -43,10 +44,18 @@ static COLUMNS: [Column; 13] = [
 
 static NEEDED: [Column; 3] = [Column::Station, Column::Begin, Column::End];
 
+static OTHERS: [Column; 1] = [Column::Channels];
+
 impl Entry for Pass {
     ghost known = { pass_columns };
 
     ghost needed = { pass_needed };
+
+    ghost array = { column.Pass };
+
+    ghost file = { column.Passes };
+
+    ghost others = { column.Channels ∷ [] };
 
     ghost entry_in = { pass_in };
 
@@ -54,6 +63,9 @@ impl Entry for Pass {
         Table {
             known: &COLUMNS,
             needed: &NEEDED,
+            array: Column::Pass,
+            file: Column::Passes,
+            others: &OTHERS,
         }
     }
 

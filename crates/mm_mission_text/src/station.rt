@@ -1,6 +1,8 @@
 //! Ground stations.
+ghost use Rattle.std.specs.Prelude.{[], ◌∷◌};
 ghost use Rattle.mm_base.specs.Reading.{Gives};
 ghost use Rattle.mm_mission_text.specs.Entries.{station_columns, station_needed, station_in, stations_in};
+ghost use Rattle.mm_mission_text.specs.declared.column.Column.TheVariants as column;
 ghost use Rattle.mm_mission_text.specs.declared.fault.Fault.TheVariants.{NoMemory};
 
 use crate::column::Column;
@@ -36,10 +38,18 @@ static COLUMNS: [Column; 10] = [
 
 static NEEDED: [Column; 1] = [Column::Name];
 
+static OTHERS: [Column; 1] = [Column::Channels];
+
 impl Entry for Station {
     ghost known = { station_columns };
 
     ghost needed = { station_needed };
+
+    ghost array = { column.Station };
+
+    ghost file = { column.Stations };
+
+    ghost others = { column.Channels ∷ [] };
 
     ghost entry_in = { station_in };
 
@@ -47,6 +57,9 @@ impl Entry for Station {
         Table {
             known: &COLUMNS,
             needed: &NEEDED,
+            array: Column::Station,
+            file: Column::Stations,
+            others: &OTHERS,
         }
     }
 

@@ -1,6 +1,8 @@
 //! Packet stores.
+ghost use Rattle.std.specs.Prelude.{[]};
 ghost use Rattle.mm_base.specs.Reading.{Gives};
 ghost use Rattle.mm_mission_text.specs.Entries.{store_columns, store_needed, store_in, stores_in};
+ghost use Rattle.mm_mission_text.specs.declared.column.Column.TheVariants as column;
 ghost use Rattle.mm_mission_text.specs.declared.fault.Fault.TheVariants.{NoMemory};
 
 use crate::column::Column;
@@ -40,12 +42,21 @@ impl Entry for PacketStore {
 
     ghost needed = { store_needed };
 
+    ghost array = { column.Store };
+
+    ghost file = { column.Stores };
+
+    ghost others = { [] };
+
     ghost entry_in = { store_in };
 
     fn table() -> Table {
         Table {
             known: &COLUMNS,
             needed: &NEEDED,
+            array: Column::Store,
+            file: Column::Stores,
+            others: &[],
         }
     }
 

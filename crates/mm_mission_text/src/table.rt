@@ -25,12 +25,21 @@ pub(crate) trait Entry: Drop {
 
     ghost needed: { List Column };
 
+    ghost array: { Column };
+
+    ghost file: { Column };
+
+    ghost others: { List Column };
+
     ghost entry_in: { Line → Result Self Fault };
 
-    // The columns of the table.
+    // The columns of the table, and its keys in a text.
     fn table() -> Table
         ensures known { result.known.now ≡ known }
-        ensures needed { result.needed.now ≡ needed };
+        ensures needed { result.needed.now ≡ needed }
+        ensures array { result.array ≡ array }
+        ensures file { result.file ≡ file }
+        ensures others { result.others.now ≡ others };
 
     // The entry in a row.
     fn in_row(alloc: Global, row: &Row<'_>) -> Result<Self, Fault>

@@ -1,4 +1,4 @@
-use Rattle.std.proofs.Common.{true, ◌∙◌, sym}
+use Rattle.std.proofs.Common.{true}
 use Rattle.csv.specs.Records.{fields_of}
 use Rattle.mm_problem.proofs.RecordSteps.{takes_record, found_record}
 use Rattle.mm_mission_text.proofs.RecordRows.{none_left, read_more, read_all}
