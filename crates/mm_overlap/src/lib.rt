@@ -2,5 +2,9 @@
 #![tactic(auto)]
 
 mod given;
+#[cfg(test)]
+mod tests;
+mod times;
 
 pub use given::both;
+pub use times::edges;
