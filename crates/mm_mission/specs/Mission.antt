@@ -99,6 +99,12 @@ passes_fit lasts passes = do
   each ← each_fits BadPass (is_pass lasts) passes
   follow 0 0 passes
 
+-- passes of a mission that may overlap
+abbrev pub each_pass_fits : MissionRows → List Pass → Result (Unit {0}) Fault
+each_pass_fits m passes = do
+  few ← test (nat_le (length passes) MAX_PASSES) TooMany
+  each_fits BadPass (is_pass m.lasts) passes
+
 -- observations of a mission that lasts so long and has so many stores
 abbrev pub observations_fit : ℕ → ℕ → List Observation → Result (Unit {0}) Fault
 observations_fit lasts stores observations = do
@@ -116,6 +122,10 @@ mission_from m = do
   Ok m
 
 -- ---- a mission
+
+-- the same mission with other passes
+abbrev pub with_passes : MissionRows → List Pass → MissionRows
+with_passes m passes = record m { passes = passes }
 
 -- a pass that ends before another begins
 abbrev pub EndsBefore : Pass → Pass → Type 0

@@ -23,4 +23,4 @@ pub use mission::Mission;
 pub use packets::{PacketStep, in_packets};
 pub use parts::{Observation, Pass, Rate, Span, Store};
 pub use planned::problem;
-pub use times::edges;
+pub use times::{edges, moments};

@@ -1,8 +1,8 @@
 //! A mission.
-ghost use Rattle.std.specs.Prelude.{◌≡◌, ◌<◌, length, not, position, IsTrue};
+ghost use Rattle.std.specs.Prelude.{◌≡◌, ◌<◌, ◌≤◌, length, not, position, IsTrue, All, AllPairs, IfOk};
 ghost use Rattle.mm_base.specs.Reading.{test};
 ghost use Rattle.mm_mission.specs.Mission.{each_fits, follow, mission_from, is_store, is_pass, is_observation};
-ghost use Rattle.mm_mission.specs.Mission.{is_known};
+ghost use Rattle.mm_mission.specs.Mission.{is_known, each_pass_fits, with_passes, EndsBefore};
 ghost use Rattle.mm_mission.specs.Mission.{is_time, are_few, passes_fit, observations_fit, store_at};
 ghost use Rattle.mm_mission.specs.declared.fault.Fault.TheVariants.{BadTime, TooMany, BadStore, BadPass};
 ghost use Rattle.mm_mission.specs.declared.fault.Fault.TheVariants.{BadObservation, NoStore};
@@ -10,6 +10,8 @@ ghost use Rattle.mm_mission.specs.declared.fault.Fault.TheVariants.{BadObservati
 use crate::fault::Fault;
 use crate::limits::{MAX_OBSERVATIONS, MAX_PASSES, MAX_TIME};
 use crate::parts::{Observation, Pass, Store};
+use mm_base::NoMemory;
+use std::alloc::Global;
 use std::marker::Model;
 
 /// A mission in exact numbers: stores, passes in the order of their begins, which do not overlap, and observations.
@@ -173,6 +175,31 @@ impl Mission {
         test_observations(lasts, stores.len(), &observations)?;
         Ok(Mission {
             lasts,
+            stores,
+            passes,
+            observations,
+        })
+    }
+
+    /// Tests passes of this mission that may overlap: there are not too many, and each is within its range.
+    pub fn check_passes(&self, passes: &[Pass]) -> Result<(), Fault>
+        ensures { result ≡ each_pass_fits self.now passes.now }
+    {
+        test(passes.len() <= MAX_PASSES, Fault::TooMany)?;
+        test_each_pass(self.lasts, passes)
+    }
+
+    /// The same mission with other passes, which do not overlap.
+    pub fn with_passes(&self, alloc: Global, passes: Vec<Pass>) -> Result<Mission, NoMemory>
+        requires few { length passes.items ≤ MAX_PASSES }
+        requires fit { All (λ p. IsTrue (is_pass self.now.lasts p)) passes.items }
+        requires apart { AllPairs EndsBefore passes.items }
+        ensures { IfOk result (λ mission. mission ≡ with_passes self.now passes.items) }
+    {
+        let stores = Vec::from_slice(alloc, &self.stores)?;
+        let observations = Vec::from_slice(alloc, &self.observations)?;
+        Ok(Mission {
+            lasts: self.lasts,
             stores,
             passes,
             observations,

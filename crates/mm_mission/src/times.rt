@@ -77,8 +77,9 @@ fn push_observations(
     Ok(())
 }
 
-// When something changes that can be sent, in no order.
-fn moments(alloc: Global, mission: &Mission) -> Result<Vec<u64>, AllocError>
+/// When something changes that can be sent, in no order, and maybe more than once: when the mission and each pass begin
+/// and end, and observations where that is inside a pass.
+pub fn moments(alloc: Global, mission: &Mission) -> Result<Vec<u64>, AllocError>
     ensures moments { IfOk result (λ times. times.items ≡ moments mission.now) }
     ensures is_mission { OnOk result (IsMission mission.now) }
 {

@@ -1,0 +1,10 @@
+//! Missions whose passes overlap: one mission of `mm_mission` for each transmitter.
+#![tactic(auto)]
+
+mod given;
+#[cfg(test)]
+mod tests;
+mod times;
+
+pub use given::both;
+pub use times::edges;
