@@ -1,0 +1,4 @@
+pub mod Dates
+pub mod Cells
+pub mod Rows
+pub mod Timelines
