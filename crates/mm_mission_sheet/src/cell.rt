@@ -1,7 +1,7 @@
 //! Lines of cells (RFC 4180).
 ghost use Rattle.std.specs.Prelude.{◌≡◌, ◌≤◌, [], ◌∷◌, ◌++◌, length, map, decimal, OnOk};
 ghost use Rattle.std.specs.List.{list_any};
-ghost use Rattle.csv.specs.Writing.{default_writer, needs_byte, escaped, quoted, field_text, next_sep};
+ghost use Rattle.csv.specs.Writing.{default_writer, needs_byte, escaped, quoted, field_text, fields_text, next_sep, row_body};
 ghost use Rattle.mm_mission_sheet.specs.Cells.{cell_text, csv_line};
 ghost use Rattle.mm_mission_sheet.specs.Dates.{utc_text};
 
@@ -114,14 +114,46 @@ fn push_cell(alloc: Global, text: &mut Vec<u8>, place: usize, cell: &Cell<'_>) -
     cell.push(alloc, text)
 }
 
-// Writes a line of these cells, of which there are several.
-pub(crate) fn push_line(alloc: Global, text: &mut Vec<u8>, cells: &[Cell<'_>]) -> Pushed
-    requires { 2 ≤ length cells.now }
-    ensures { OnOk result (text.new.items ≡ text.old.items ++ csv_line (map cell_text cells.now)) }
+// Writes the first cells of a line.
+fn push_first(alloc: Global, text: &mut Vec<u8>, cells: &[Cell<'_>]) -> Pushed
+    ensures { OnOk result (text.new.items ≡ text.old.items ++ row_body default_writer (map cell_text cells.now)) }
 {
     for (place, cell) in cells.iter().enumerate() {
         push_cell(alloc, text, place, cell)?;
     }
+    Ok(())
+}
+
+fn push_next(alloc: Global, text: &mut Vec<u8>, cell: &Cell<'_>) -> Pushed
+    ensures { OnOk result (text.new.items ≡ text.old.items ++ 44 ∷ field_text default_writer (cell_text cell.now)) }
+{
+    text.push(b',')?;
+    cell.push(alloc, text)
+}
+
+// Writes cells after others of their line.
+fn push_more(alloc: Global, text: &mut Vec<u8>, cells: &[Cell<'_>]) -> Pushed
+    ensures { OnOk result (text.new.items ≡ text.old.items ++ fields_text default_writer (map cell_text cells.now)) }
+{
+    for cell in cells {
+        push_next(alloc, text, cell)?;
+    }
+    Ok(())
+}
+
+// Writes a line of these cells, of which there are several, and of more after them.
+pub(crate) fn push_line(
+    alloc: Global,
+    text: &mut Vec<u8>,
+    cells: &[Cell<'_>],
+    more: &[Cell<'_>],
+) -> Pushed
+    requires { 2 ≤ length cells.now }
+    ensures { OnOk result (text.new.items
+        ≡ text.old.items ++ csv_line (map cell_text cells.now ++ map cell_text more.now)) }
+{
+    push_first(alloc, text, cells)?;
+    push_more(alloc, text, more)?;
     text.push(b'\n')?;
     Ok(())
 }

@@ -35,6 +35,7 @@ fn ordered(alloc: Global, dumps: &[Dump]) -> Result<Vec<Dump>, AllocError>
     Ok(ordered)
 }
 
+#[tactic(auto, using(crate::proofs::CellLemmas::no_cells))]
 fn push_dump(alloc: Global, text: &mut Vec<u8>, flight: &Flight<'_>, dump: &Dump) -> Pushed
     requires { IsDump flight.now.mission.now dump.now }
     ensures { OnOk result (text.new.items ≡ text.old.items
@@ -46,7 +47,7 @@ fn push_dump(alloc: Global, text: &mut Vec<u8>, flight: &Flight<'_>, dump: &Dump
         store: dump.store,
         packets: u128::from(dump.packets),
     };
-    push_line(alloc, text, &flight.sent_cells("", &sent))
+    push_line(alloc, text, &flight.sent_cells("", &sent), &[])
 }
 
 fn push_dumps(alloc: Global, text: &mut Vec<u8>, flight: &Flight<'_>, dumps: &[Dump]) -> Pushed
@@ -62,11 +63,11 @@ fn push_dumps(alloc: Global, text: &mut Vec<u8>, flight: &Flight<'_>, dumps: &[D
 
 /// The table of dumps, in the order of their begins and then of their stores: comma separated values, a header and a
 /// line for each dump. Its rate is rounded down to whole bits a second.
-pub fn timeline_csv(
+pub fn timeline_csv<'a>(
     alloc: Global,
     begin: Moment,
-    mission: &Mission,
-    names: &[PassName<'_>],
+    mission: &'a Mission,
+    names: &'a [PassName<'a>],
     dumps: &[Dump],
 ) -> Result<Vec<u8>, NoMemory>
     requires names { length names.now ≡ length mission.now.passes }

@@ -1,18 +1,7 @@
-use Rattle.std.proofs.Common.{◌++◌, ap, ◌∙◌, arith}
-use Rattle.csv.specs.Writing.{default_writer, field_text, next_sep}
-use Rattle.mm_mission_sheet.specs.Cells.{cell_text}
-use Rattle.mm_mission_sheet.proofs.CellLemmas.{cells_step, line_end}
+use Rattle.mm_mission_sheet.proofs.CellLemmas.{line_end}
 use Rattle.mm_mission_sheet.proofs.cell.push_line.Goals as goal
-
-pub loop-place-preserved : goal.loop-place-preserved
-loop-place-preserved c =
-    let mid = c.loop-place.text.items in
-    let place = c.loop-place.place in
-    cells_step c.args.cells.now place c.index-cells-place.result c.args.text.now.items mid c.push_cell.new.text.items
-    (omega arith) c.loop-place.invariant (c.in_ok-push_cell.ensures
-    ∙ ap (λ x. (mid ++ next_sep default_writer place) ++ field_text default_writer (cell_text x)) c.index-cells-place.is)
 
 pub returns : goal.returns
 returns c =
-    line_end c.args.cells.now c.loop-place.place c.args.text.now.items c.loop-place.text.items c.push.new.self.items
-    c.requires (omega arith) c.loop-place.invariant c.in_ok-push.ensures.items
+    line_end c.args.cells.now c.args.more.now c.args.text.now.items c.push_first.new.text.items c.push_more.new.text.items
+    c.push.new.self.items c.requires c.in_ok-push_first.ensures c.in_ok-push_more.ensures c.in_ok-push.ensures.items
