@@ -3,7 +3,7 @@ ghost use Rattle.std.specs.Prelude.{◌≡◌, ◌<◌, ◌≤◌, length, not, 
 ghost use Rattle.mm_base.specs.Reading.{test};
 ghost use Rattle.mm_mission.specs.Mission.{each_fits, follow, mission_from, is_store, is_pass, is_observation};
 ghost use Rattle.mm_mission.specs.Mission.{is_known, each_pass_fits, with_passes, EndsBefore};
-ghost use Rattle.mm_mission.specs.Mission.{is_time, are_few, passes_fit, observations_fit, store_at};
+ghost use Rattle.mm_mission.specs.Mission.{is_time, are_few, passes_fit, observations_fit, store_at, IsMission};
 ghost use Rattle.mm_mission.specs.declared.fault.Fault.TheVariants.{BadTime, TooMany, BadStore, BadPass};
 ghost use Rattle.mm_mission.specs.declared.fault.Fault.TheVariants.{BadObservation, NoStore};
 
@@ -206,13 +206,22 @@ impl Mission {
         })
     }
 
-    // The store at a place.
-    pub(crate) fn store_at(&self, store: usize) -> Store
+    /// The store at a place.
+    #[must_use]
+    pub fn store_at(&self, store: usize) -> Store
         requires { store < length self.now.stores }
         ensures store { result ≡ store_at self.now store }
         ensures fits { IsTrue (is_store result) }
     {
         self.stores[store]
+    }
+
+    /// How long it lasts, in microseconds.
+    #[must_use]
+    pub fn lasts(&self) -> u64
+        ensures { result ≡ self.now.lasts }
+    {
+        self.lasts
     }
 
     /// The number of its stores.
@@ -221,5 +230,14 @@ impl Mission {
         ensures { result ≡ length self.now.stores }
     {
         self.stores.len()
+    }
+
+    /// Its passes, in the order of their begins.
+    #[must_use]
+    pub fn passes(&self) -> &[Pass]
+        ensures passes { result.now ≡ self.now.passes }
+        ensures is_mission { IsMission self.now }
+    {
+        &self.passes
     }
 }

@@ -1,0 +1,5 @@
+pub mod DateLemmas
+pub mod CellLemmas
+pub mod SheetLemmas
+pub mod FlownLemmas
+pub mod LawLemmas

@@ -1,0 +1,12 @@
+use Rattle.mm_mission_sheet.specs.Sheets.{row_in, row_cells}
+use Rattle.mm_mission_sheet.proofs.SheetLemmas.{rows_more, stores_more}
+use Rattle.mm_mission_sheet.proofs.sheet.Flown.push_pass.Goals as goal
+
+pub loop-store-preserved : goal.loop-store-preserved
+loop-store-preserved c =
+    let it = c.args.self.now in
+    let m = it.flight.mission.now in
+    rows_more (row_cells it.flight.begin m it.flight.names.now) _ _ _ c.args.text.now.items c.loop-store.text.items
+    c.push_store.new.text.items
+    (stores_more (row_in m it.edges.now it.steps.now c.args.pass) c.loop-store.store) c.loop-store.invariant
+    c.in_ok-push_store.ensures
