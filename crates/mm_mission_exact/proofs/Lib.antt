@@ -1,0 +1,2 @@
+pub mod EachRows
+pub mod RateLemmas
