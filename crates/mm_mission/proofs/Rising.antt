@@ -1,7 +1,7 @@
 -- Times in rising order.
 use Rattle.std.proofs.Common.{◌≡◌, ℕ, zero, suc, ◌+◌, ◌-◌, ◌<◌, ◌≤◌, List, [], ◌∷◌, ◌++◌, length, get_or, eqb, refl}
 use Rattle.std.proofs.Common.{sym, ◌∙◌, arith}
-use Rattle.std.specs.Prelude.{All, Contains, filter, IsTrue}
+use Rattle.std.specs.Prelude.{All, Contains, filter, IsTrue, ◌↔◌}
 use Rattle.std.specs.List.{dedup}
 use Rattle.std.specs.Ordering.{nat_cmp}
 use Rattle.std.specs.List.Sorted.{IsSorted, IsPermutation, IsStrictlyIncreasing}
@@ -16,7 +16,7 @@ use Rattle.mm_mission.specs.declared.parts.Span.{Span}
 use Rattle.mm_mission.specs.declared.parts.Pass.{Pass}
 use Rattle.mm_mission.specs.declared.parts.Observation.{Observation}
 use Rattle.mm_mission.specs.Mission.{MissionRows, IsMission, is_span, is_pass, is_observation}
-use Rattle.mm_mission.specs.Edges.{ends, pass_ends, observation_ends, is_inside, moments, AreEdges}
+use Rattle.mm_mission.specs.Edges.{ends, pass_ends, observation_ends, is_inside, moments, AreTimes, AreEdges}
 
 -- a later time is no earlier, by how many places it is later
 pub rises_by : (times : List ℕ) → IsStrictlyIncreasing times → (i n : ℕ) → i + n < length times
@@ -69,7 +69,7 @@ module _ (lasts : ℕ) where
       (observations_within observations (All-tail (λ o. IsTrue (is_observation lasts o)) o observations each))
 
 -- each moment is within the mission
-moments_within : (m : MissionRows) → IsMission m → All (λ t. t ≤ m.lasts) (moments m)
+pub moments_within : (m : MissionRows) → IsMission m → All (λ t. t ≤ m.lasts) (moments m)
 moments_within m h =
     let inside = filter (is_inside m.passes) (observation_ends m.observations) in
     let all = All-append (λ t. t ≤ m.lasts) (pass_ends m.passes) inside (passes_within m.lasts m.passes h.passes)
@@ -79,36 +79,44 @@ moments_within m h =
     (All-cons (λ t. t ≤ m.lasts) m.lasts (pass_ends m.passes ++ inside) (omega arith) all)
 
 -- the mission's begin and end are moments
-begin_there : (m : MissionRows) → Contains (moments m) 0
+pub begin_there : (m : MissionRows) → Contains (moments m) 0
 begin_there m = (0, omega arith, refl)
 
-end_there : (m : MissionRows) → Contains (moments m) m.lasts
+pub end_there : (m : MissionRows) → Contains (moments m) m.lasts
 end_there m = (1, omega arith, refl)
 
--- moments that are sorted, each once, are edges
-pub are_edges : (m : MissionRows) (sorted edges : List ℕ) → IsMission m → IsPermutation (moments m) sorted
-    → IsSorted nat_cmp sorted → edges ≡ dedup eqb sorted → AreEdges m edges
-are_edges m sorted edges h moved in_order is =
-    let rising : IsStrictlyIncreasing edges = rw is (IsStrictlyIncreasing-dedup sorted in_order) in
-    let from : (t : ℕ) → Contains edges t → Contains (moments m) t =
-    λ t there. Contains-permutation sorted (moments m) t (IsPermutation-sym (moments m) sorted moved)
+-- times within a mission that are sorted, each once
+pub in_order : (m : MissionRows) (times sorted edges : List ℕ) → All (λ t. t ≤ m.lasts) times → Contains times 0
+    → Contains times m.lasts → IsPermutation times sorted → IsSorted nat_cmp sorted → edges ≡ dedup eqb sorted
+    → AreTimes m edges × ((t : ℕ) → Contains edges t ↔ Contains times t)
+in_order m times sorted edges within has_begin has_end moved sorts is =
+    let rising : IsStrictlyIncreasing edges = rw is (IsStrictlyIncreasing-dedup sorted sorts) in
+    let from : (t : ℕ) → Contains edges t → Contains times t =
+    λ t there. Contains-permutation sorted times t (IsPermutation-sym times sorted moved)
     (Contains-from_dedup eqb sorted t (rw is at there)) in
-    let to : (t : ℕ) → Contains (moments m) t → Contains edges t =
-    λ t there. rw is (Contains-dedup_nat sorted t (Contains-permutation (moments m) sorted t moved there)) in
-    let (i, i_within, at_begin) = to 0 (begin_there m) in
-    let (j, j_within, at_end) = to m.lasts (end_there m) in
+    let to : (t : ℕ) → Contains times t → Contains edges t =
+    λ t there. rw is (Contains-dedup_nat sorted t (Contains-permutation times sorted t moved there)) in
+    let (i, i_within, at_begin) = to 0 has_begin in
+    let (j, j_within, at_end) = to m.lasts has_end in
     let end = length edges - 1 in
     let above_begin = rises edges rising 0 i (omega arith) i_within in
     let above_end = rises edges rising j end (omega arith) (omega arith) in
     let last_is = from (get_or edges end 0) (Contains-get_or edges end 0 (omega arith)) in
-    let last_within = All-contains (λ t. t ≤ m.lasts) (moments m) (get_or edges end 0) (moments_within m h) last_is in
-    let end_is = sym (get_or_default edges j m.lasts 0 j_within) ∙ at_end in
-    record {
-      times = record {
+    let last_within = All-contains (λ t. t ≤ m.lasts) times (get_or edges end 0) within last_is in
+    let end_is = sym (get_or_default edges j m.lasts 0 j_within) ∙ at_end in (
+      record {
         some = omega arith;
         first = omega (arith, above_begin, at_begin);
         last = omega (arith, above_end, end_is, last_within);
         rising = rising;
-      };
-      each = λ t. (from t, to t);
-    }
+      },
+      λ t. (from t, to t),
+    )
+
+-- moments that are sorted, each once, are edges
+pub are_edges : (m : MissionRows) (sorted edges : List ℕ) → IsMission m → IsPermutation (moments m) sorted
+    → IsSorted nat_cmp sorted → edges ≡ dedup eqb sorted → AreEdges m edges
+are_edges m sorted edges h moved sorts is =
+    let (times, each) = in_order m (moments m) sorted edges (moments_within m h) (begin_there m) (end_there m) moved
+    sorts is in
+    record { times = times; each = each }

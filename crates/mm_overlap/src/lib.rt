@@ -2,5 +2,9 @@
 #![tactic(auto)]
 
 mod given;
+mod planned;
+mod times;
 
 pub use given::both;
+pub use planned::{problems, together};
+pub use times::edges;
