@@ -1,5 +1,4 @@
-//! Missions that are reckoned on paper: one pass over Malargue, with rows in the text and in files, and one fault of each
-//! stage.
+//! A mission that is reckoned on paper: one pass over Malargue.
 use crate::{Fault, PlannedMission, Tables, plan_mission};
 use std::process::Abort;
 use std::test::Fail;
