@@ -23,4 +23,5 @@ pub use mission::Mission;
 pub use packets::{PacketStep, in_packets};
 pub use parts::{Observation, Pass, Rate, Span, Store};
 pub use planned::problem;
+pub use table::amounts;
 pub use times::{edges, moments};

@@ -75,8 +75,8 @@ fn amount(name: Name, cell: u128) -> Result<u32, Fault>
     }
 }
 
-// The numbers, if each is within the range of amounts.
-fn amounts(alloc: Global, name: Name, cells: &[u128]) -> Result<Vec<u32>, Fault>
+/// The numbers, if each is within the range of amounts; else the fault of what they are.
+pub fn amounts(alloc: Global, name: Name, cells: &[u128]) -> Result<Vec<u32>, Fault>
     ensures { Gives NoMemory (λ amounts. amounts.items) result (in_range name cells.now) }
 {
     let mut amounts = Vec::new(alloc);

@@ -1,5 +1,6 @@
 //! A mission's rows in exact numbers.
-ghost use Rattle.std.specs.Prelude.{◌≡◌, map, IfOk};
+ghost use Rattle.std.specs.Prelude.{◌≡◌, ◌+◌, ◌<◌, length, map, IfOk};
+ghost use Rattle.mm_utc.specs.declared.moment.TheConstants.{MOMENTS};
 ghost use Rattle.mm_base.specs.Reading.{Gives};
 ghost use Rattle.mm_mission_exact.specs.Exact.{seen, exact_of};
 ghost use Rattle.mm_mission_exact.specs.declared.fault.Fault.TheVariants.{NoMemory};
@@ -50,7 +51,9 @@ impl Exact {
     /// span. Otherwise the first fault, in the order of the faults.
     #[tactic(auto, unfolding(crate::specs::Exact::exact_of))]
     pub fn new(alloc: Global, rows: &Rows<'_>, unit: u64) -> Result<Exact, Fault>
-        ensures { Gives NoMemory seen result (exact_of rows.now unit) }
+        ensures exact { Gives NoMemory seen result (exact_of rows.now unit) }
+        ensures placed { IfOk result (λ e. length e.places.items ≡ length e.passes.items) }
+        ensures in_years { IfOk result (λ e. e.begin + e.lasts < MOMENTS) }
     {
         let mission = window_of(rows)?;
         let stores = stores_in(alloc, rows, unit)?;
