@@ -14,6 +14,7 @@ use Rattle.mm_base.specs.declared.refusal.Refusal.TheVariants.{SizeDiffers, Open
 use Rattle.mm_base.specs.declared.refusal.Refusal.TheVariants.{PlanDoesNotFit, Counts, NoMemoryInStep, LinkFailed}
 use Rattle.mm_base.specs.declared.refusal.Refusal.TheVariants.{LogMismatch, BadSize, HexLine, NotRead, SourcesText}
 use Rattle.mm_base.specs.declared.refusal.Refusal.TheVariants.{LinksText, ChannelDiffers, TooManyReports, NotFlyable}
+use Rattle.mm_base.specs.declared.refusal.Refusal.TheVariants.{MissionText, MissionTable, MissionRow}
 
 -- the number and the name of each refusal
 abbrev pub entry_of : Refusal → ℕ × List ℕ
@@ -73,6 +74,9 @@ entry_of LinksText = (52, codes "LinksText")
 entry_of ChannelDiffers = (53, codes "ChannelDiffers")
 entry_of TooManyReports = (54, codes "TooManyReports")
 entry_of NotFlyable = (55, codes "NotFlyable")
+entry_of MissionText = (56, codes "MissionText")
+entry_of MissionTable = (57, codes "MissionTable")
+entry_of MissionRow = (58, codes "MissionRow")
 
 -- the number that a refusal is shown with
 abbrev pub number_of : Refusal → ℕ

@@ -121,6 +121,12 @@ pub enum Refusal {
     TooManyReports,
     /// The arrivals of a step come during its dumps, or a store has sizes by step: no run carries this out.
     NotFlyable,
+    /// The text of a mission, or a table of it, is not what it should be.
+    MissionText,
+    /// The text of a mission names a table that is not given, or a table is given that it does not name.
+    MissionTable,
+    /// A row of a mission is out of its range, contradicts another one or names what is not there, or there are too many.
+    MissionRow,
 }
 
 impl Refusal {
@@ -186,6 +192,9 @@ impl Refusal {
             Refusal::ChannelDiffers => (53, "ChannelDiffers"),
             Refusal::TooManyReports => (54, "TooManyReports"),
             Refusal::NotFlyable => (55, "NotFlyable"),
+            Refusal::MissionText => (56, "MissionText"),
+            Refusal::MissionTable => (57, "MissionTable"),
+            Refusal::MissionRow => (58, "MissionRow"),
         }
     }
 

@@ -100,6 +100,12 @@ macro_rules! refusals {
             NotFlyable: "arrivals before dumps, and no sizes by step",
                 "take the key arrivals and the columns size: out, and plan again; a run stores what arrives before \
                     it dumps";
+            MissionText: "a mission in TOML, and tables in CSV with the columns of docs/FORMATS.md",
+                "correct the key, the cell or the line that is named";
+            MissionTable: "the tables that the mission names, and no others",
+                "name the table in the mission, or leave it out";
+            MissionRow: "rows in their ranges, which name stores and stations that are there, for at most 256 steps",
+                "correct the row that is named";
         }
     };
 }

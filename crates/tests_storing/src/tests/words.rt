@@ -13,7 +13,7 @@ macro_rules! names {
 
 // Each refusal in the order of its number, from 0, by the tables of docs/FORMATS.md: five a line. It is printed with
 // its own name, or with the one beside it.
-static ALL: [(Refusal, &str); 56] = names! {
+static ALL: [(Refusal, &str); 59] = names! {
     NoMemory, Short, Version, NoSecondaryHeader, PusVersion,
     Segmented, IdlePacket "Idle", HeaderCut, TooLong, HoldsMore,
     NoSuchRoute, TableFull, NotSt15, UnknownSubtype, CountMismatch,
@@ -25,7 +25,7 @@ static ALL: [(Refusal, &str); 56] = names! {
     SizeDiffers, OpeningDiffers, ClockTooLate, PlanDoesNotFit, Counts,
     NoMemoryInStep "NoMemory", LinkFailed, LogMismatch, BadSize, HexLine,
     NotRead, SourcesText, LinksText, ChannelDiffers, TooManyReports,
-    NotFlyable
+    NotFlyable, MissionText, MissionTable, MissionRow
 };
 
 #[test]
