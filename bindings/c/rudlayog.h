@@ -199,6 +199,9 @@ enum rudlayog_refusal {
     RUDLAYOG_REFUSAL_CHANNEL_DIFFERS = 53,
     RUDLAYOG_REFUSAL_TOO_MANY_REPORTS = 54,
     RUDLAYOG_REFUSAL_NOT_FLYABLE = 55,
+    RUDLAYOG_REFUSAL_MISSION_TEXT = 56,
+    RUDLAYOG_REFUSAL_MISSION_TABLE = 57,
+    RUDLAYOG_REFUSAL_MISSION_ROW = 58,
 };
 
 /* A refusal: its number, of `enum rudlayog_refusal`, and its place, of `enum rudlayog_place`. Lines, rows and columns count from 1. `name`

@@ -225,7 +225,7 @@ static int words_take_nothing(void) {
     size_t longest = 0;
     asked = 0;
     refused = 1;
-    for (refusal.number = 0; refusal.number <= RUDLAYOG_REFUSAL_NOT_FLYABLE; refusal.number++) {
+    for (refusal.number = 0; refusal.number <= RUDLAYOG_REFUSAL_MISSION_ROW; refusal.number++) {
         for (refusal.place = RUDLAYOG_WHOLE; refusal.place <= RUDLAYOG_NUMBER; refusal.place++) {
             for (refusal.name = 0; refusal.name < NAMES; refusal.name++) {
                 rudlayog_words(&refusal, out, sizeof out, &answer);
