@@ -1,0 +1,124 @@
+//! Why a mission is not planned.
+use mm_base::NoMemory;
+use mm_mission_text::{Column, MissionFault};
+use std::alloc::{AllocError, AllocFailed};
+use std::fmt;
+
+/// Why a mission is not planned: its first fault, in this order; of files, first of stores, then of stations, passes and
+/// observations.
+#[derive(Debug, Drop)]
+pub enum Fault {
+    NoMemory,
+    /// The text of the mission.
+    Text(MissionFault),
+    /// The text names a file that is not given.
+    NotGiven {
+        file: Column,
+    },
+    /// A file is given that the text does not name.
+    NotNamed {
+        file: Column,
+    },
+    /// The text of a file.
+    Table {
+        file: Column,
+        fault: mm_mission_text::Fault,
+    },
+    /// The rows, which count from 1. Those of a file come after those of the text.
+    Exact(mm_mission_exact::Fault),
+    /// The exact numbers, too many steps, or the problem. Here rows count from 0, and passes come by their begins.
+    Mission(mm_mission::Fault),
+}
+
+impl fmt::Display for Fault {
+    fn fmt<W: fmt::Write>(&self, f: &mut fmt::Formatter<W>) -> fmt::Result {
+        match self {
+            Fault::NoMemory => f.write_str("an allocation was refused"),
+            Fault::Text(fault) => write!(f, "{fault}"),
+            Fault::NotGiven { file } => write!(f, "the file of {file} is not given"),
+            Fault::NotNamed { file } => {
+                write!(f, "a file of {file} is given, and the mission names none")
+            }
+            Fault::Table { file, fault } => write!(f, "the file of {file}: {fault}"),
+            Fault::Exact(fault) => write!(f, "{fault}"),
+            Fault::Mission(fault) => write!(f, "{fault}"),
+        }
+    }
+}
+
+impl std::error::Error for Fault {}
+
+impl<T: Drop> From<AllocFailed<T>> for Fault {
+    ghost use Rattle.std.specs.Prelude.{◌≡◌};
+    ghost use Rattle.mm_mission_plan.specs.declared.fault.Fault.TheVariants.{NoMemory};
+
+    ghost from_gives = { λ _ e. e ≡ NoMemory };
+
+    fn from(_error: AllocFailed<T>) -> Fault {
+        Fault::NoMemory
+    }
+}
+
+impl From<AllocError> for Fault {
+    ghost use Rattle.std.specs.Prelude.{◌≡◌};
+    ghost use Rattle.mm_mission_plan.specs.declared.fault.Fault.TheVariants.{NoMemory};
+
+    ghost from_gives = { λ _ e. e ≡ NoMemory };
+
+    fn from(_error: AllocError) -> Fault {
+        Fault::NoMemory
+    }
+}
+
+impl From<NoMemory> for Fault {
+    ghost use Rattle.std.specs.Prelude.{◌≡◌};
+    ghost use Rattle.mm_mission_plan.specs.declared.fault.Fault.TheVariants.{NoMemory};
+
+    ghost from_gives = { λ _ e. e ≡ NoMemory };
+
+    fn from(_error: NoMemory) -> Fault {
+        Fault::NoMemory
+    }
+}
+
+impl From<MissionFault> for Fault {
+    ghost use Rattle.std.specs.Prelude.{◌≡◌};
+    ghost use Rattle.mm_mission_plan.specs.Faults.{text_fault};
+
+    ghost from_gives = { λ fault e. e ≡ text_fault fault };
+
+    fn from(fault: MissionFault) -> Fault {
+        match fault {
+            MissionFault::NoMemory => Fault::NoMemory,
+            fault => Fault::Text(fault),
+        }
+    }
+}
+
+impl From<mm_mission_exact::Fault> for Fault {
+    ghost use Rattle.std.specs.Prelude.{◌≡◌};
+    ghost use Rattle.mm_mission_plan.specs.Faults.{exact_fault};
+
+    ghost from_gives = { λ fault e. e ≡ exact_fault fault };
+
+    fn from(fault: mm_mission_exact::Fault) -> Fault {
+        match fault {
+            mm_mission_exact::Fault::NoMemory => Fault::NoMemory,
+            fault => Fault::Exact(fault),
+        }
+    }
+}
+
+impl From<mm_mission::Fault> for Fault {
+    ghost use Rattle.std.specs.Prelude.{◌≡◌};
+    ghost use Rattle.mm_mission_plan.specs.Faults.{mission_fault};
+
+    ghost from_gives = { λ fault e. e ≡ mission_fault fault };
+
+    fn from(fault: mm_mission::Fault) -> Fault {
+        match fault {
+            mm_mission::Fault::NoMemory => Fault::NoMemory,
+            fault => Fault::Mission(fault),
+        }
+    }
+}
