@@ -1,4 +1,4 @@
--- The plan of a mission, from its texts to what is printed.
+-- The plan of a mission, from its tables to what is printed.
 use Rattle.std.specs.Prelude.{◌≡◌, ℕ, ◌⊎◌, List, Ok, Err}
 use Rattle.mm_mission.specs.declared.dumps.Dump.{Dump}
 use Rattle.mm_mission.specs.Edges.{AreEdges}
@@ -12,10 +12,14 @@ use Rattle.mm_mission_sheet.specs.Cells.{csv_text}
 use Rattle.mm_mission_sheet.specs.Sheets.{sheet_lines, sheet_rows}
 use Rattle.mm_mission_sheet.specs.Timelines.{IsTimelineText}
 use Rattle.mm_mission_sheet.specs.declared.flight.PassName.{PassName}
+use Rattle.mm_mission_text.specs.Cells.{told_as}
+use Rattle.mm_mission_text.specs.Missions.{mission_in}
+use Rattle.mm_mission_text.specs.declared.document.MissionText.{MissionText}
 use Rattle.mm_plan.specs.Sheet.{SheetRows}
 use Rattle.mm_planner.specs.PlanTexts.{PlansFor, IsPlain}
 use Rattle.mm_problem.specs.Dumping.{Dumping}
 use Rattle.mm_problem.specs.Texts.{SaysProblem}
+use Rattle.mm_mission_plan.specs.Faults.{text_fault}
 use Rattle.mm_mission_plan.specs.Names.{AreNames}
 use Rattle.mm_mission_plan.specs.Rows.{TableTexts, said_by, rows_in}
 use Rattle.mm_mission_plan.specs.Units.{IsUnit, IsUnitFault}
@@ -50,14 +54,23 @@ pub record PlansRows (rows : Rows) (p : PlannedMission) : Type 0 where
   pub sheet : p.sheet.items
       ≡ csv_text (sheet_lines exact.begin (mission_of exact) names (sheet_rows (mission_of exact) edges p.steps.items))
 
--- the rows that the texts say, and their plan
-pub record PlansMission (text : List ℕ) (tables : TableTexts) (p : PlannedMission) : Type 0 where
+-- the rows that a mission and its files say, and their plan
+pub record PlansMission (said : MissionText) (tables : TableTexts) (p : PlannedMission) : Type 0 where
   pub rows : Rows
-  pub says : rows_in text tables ≡ Ok (said_by rows)
+  pub says : rows_in said tables ≡ Ok (said_by rows)
   pub plans : PlansRows rows p
 
--- the first fault of the texts, or else of their rows
-abbrev pub IsFaultOf : List ℕ → TableTexts → Fault → Type 0
-IsFaultOf text tables fault =
-    (rows_in text tables ≡ Err fault)
-    ⊎ ((rows : Rows) × (rows_in text tables ≡ Ok (said_by rows)) × IsUnitFault rows fault)
+-- the first fault of the files, or else of the rows
+abbrev pub IsFaultOf : MissionText → TableTexts → Fault → Type 0
+IsFaultOf said tables fault =
+    (rows_in said tables ≡ Err fault)
+    ⊎ ((rows : Rows) × (rows_in said tables ≡ Ok (said_by rows)) × IsUnitFault rows fault)
+
+-- the same of a mission's text
+abbrev pub PlansText : List ℕ → TableTexts → PlannedMission → Type 0
+PlansText text tables p = (said : MissionText) × (mission_in text ≡ Ok said) × PlansMission said tables p
+
+abbrev pub IsFaultOfText : List ℕ → TableTexts → Fault → Type 0
+IsFaultOfText text tables fault =
+    (told_as text_fault (mission_in text) ≡ Err fault)
+    ⊎ ((said : MissionText) × (mission_in text ≡ Ok said) × IsFaultOf said tables fault)

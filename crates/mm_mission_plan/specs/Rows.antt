@@ -4,16 +4,16 @@ use Rattle.mm_base.specs.Reading.{◌>>=◌}
 use Rattle.mm_mission_exact.specs.declared.rows.Rows.{Rows}
 use Rattle.mm_mission_text.specs.Cells.{told_as}
 use Rattle.mm_mission_text.specs.Entries.{stores_in, stations_in, passes_in, observations_in}
-use Rattle.mm_mission_text.specs.Missions.{mission_in}
 use Rattle.mm_mission_text.specs.declared.column.Column.{Column}
 use Rattle.mm_mission_text.specs.declared.column.Column.TheVariants as column
+use Rattle.mm_mission_text.specs.declared.document.MissionText.{MissionText}
 use Rattle.mm_mission_text.specs.declared.fault.Fault as text
 use Rattle.mm_mission_text.specs.declared.observation.Observation.{Observation}
 use Rattle.mm_mission_text.specs.declared.pass.Pass.{Pass}
 use Rattle.mm_mission_text.specs.declared.station.Station.{Station}
 use Rattle.mm_mission_text.specs.declared.store.PacketStore.{PacketStore}
 use Rattle.mm_mission_text.specs.declared.whole.Whole.{Whole}
-use Rattle.mm_mission_plan.specs.Faults.{text_fault, table_fault}
+use Rattle.mm_mission_plan.specs.Faults.{table_fault}
 use Rattle.mm_mission_plan.specs.declared.fault.Fault.{Fault}
 use Rattle.mm_mission_plan.specs.declared.fault.Fault.TheVariants.{NotGiven, NotNamed}
 use Rattle.mm_mission_plan.specs.declared.rows.AllRows.{AllRows}
@@ -72,10 +72,9 @@ with_rows file reads rows (Some name) None = Err (NotGiven file)
 with_rows file reads rows (Some name) (Some text) =
     told_as (table_fault file) (reads text) >>= λ more. Ok (rows ++ more)
 
--- all rows of a mission's text and of its files
-unfoldable pub rows_in : List ℕ → TableTexts → Result SaidRows Fault
-rows_in text tables = do
-  said ← told_as text_fault (mission_in text)
+-- all rows of a mission as its text says it, and of its files
+unfoldable pub rows_in : MissionText → TableTexts → Result SaidRows Fault
+rows_in said tables = do
   stores ← with_rows column.Stores stores_in said.stores.entries said.stores.file tables.stores
   stations ← with_rows column.Stations stations_in said.stations.entries said.stations.file tables.stations
   passes ← with_rows column.Passes passes_in said.passes.entries said.passes.file tables.passes

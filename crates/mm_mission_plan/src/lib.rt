@@ -13,5 +13,5 @@ mod unit;
 mod tests;
 
 pub use fault::Fault;
-pub use plan::{PlannedMission, plan_mission};
+pub use plan::{PlannedMission, plan_mission, plan_mission_text};
 pub use rows::{AllRows, Tables, all_rows};

@@ -2,7 +2,7 @@
 ghost use Rattle.std.specs.Prelude.{IfOk};
 ghost use Rattle.mm_base.specs.Reading.{IfRefused};
 ghost use Rattle.mm_mission_plan.specs.Names.{AreNames};
-ghost use Rattle.mm_mission_plan.specs.Plans.{PlansRows, PlansMission, IsFaultOf};
+ghost use Rattle.mm_mission_plan.specs.Plans.{PlansRows, PlansMission, IsFaultOf, PlansText, IsFaultOfText};
 ghost use Rattle.mm_mission_plan.specs.Rows.{texts_of};
 ghost use Rattle.mm_mission_plan.specs.Units.{IsInUnit, IsUnitFault};
 ghost use Rattle.mm_mission_plan.specs.declared.fault.Fault.TheVariants as fault;
@@ -16,6 +16,7 @@ use mm_base::NoMemory;
 use mm_mission::{PacketStep, in_packets, timeline};
 use mm_mission_exact::Rows;
 use mm_mission_sheet::{PassName, sheet_csv, timeline_csv};
+use mm_mission_text::{MissionText, mission};
 use mm_plan::loss_of;
 use mm_planner::print_plan;
 use std::alloc::Global;
@@ -83,20 +84,33 @@ fn plan_rows(alloc: Global, rows: &Rows<'_>) -> Result<PlannedMission, Fault>
     Ok(planned(alloc, rows, &found, &names)?)
 }
 
-/// A plan of the mission that loses least, from the text of the mission (TOML) and those of the CSV files that it names
-/// to what is printed. Otherwise the first fault, in the order of the faults.
+/// A plan of a mission that loses least, from the mission as its text says it and the texts of the CSV files that it
+/// names to what is printed. Otherwise the first fault, in the order of the faults.
 ///
 /// The unit is the mission's own, if it can be planned in it, or else the least one in which no size, window, limit or
 /// arrival is above 1,000,000.
 pub fn plan_mission(
     alloc: Global,
-    mission: &[u8],
+    said: MissionText,
     tables: &Tables<'_>,
 ) -> Result<PlannedMission, Fault>
-    ensures planned { IfOk result (PlansMission mission.now (texts_of tables.now)) }
-    ensures refused { IfRefused fault.NoMemory result (IsFaultOf mission.now (texts_of tables.now)) }
+    ensures planned { IfOk result (PlansMission said (texts_of tables.now)) }
+    ensures refused { IfRefused fault.NoMemory result (IsFaultOf said (texts_of tables.now)) }
 {
-    let all = all_rows(alloc, mission, tables)?;
+    let all = all_rows(alloc, said, tables)?;
     let rows = all.lent();
     plan_rows(alloc, &rows)
+}
+
+/// The same from the text of the mission (TOML), whose own fault comes first.
+pub fn plan_mission_text(
+    alloc: Global,
+    text: &[u8],
+    tables: &Tables<'_>,
+) -> Result<PlannedMission, Fault>
+    ensures planned { IfOk result (PlansText text.now (texts_of tables.now)) }
+    ensures refused { IfRefused fault.NoMemory result (IsFaultOfText text.now (texts_of tables.now)) }
+{
+    let said = mission(alloc, text)?;
+    plan_mission(alloc, said, tables)
 }

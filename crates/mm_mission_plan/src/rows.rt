@@ -14,7 +14,7 @@ ghost use Rattle.mm_mission_plan.specs.declared.fault.Fault.TheVariants.{NoMemor
 use crate::fault::Fault;
 use mm_mission_exact::Rows;
 use mm_mission_text::{
-    Column, Given, Observation, PacketStore, Pass, Station, Whole, mission, observations, passes,
+    Column, Given, MissionText, Observation, PacketStore, Pass, Station, Whole, observations, passes,
     stations, stores,
 };
 use std::alloc::Global;
@@ -168,13 +168,12 @@ fn with_rows<R: Listed>(
     }
 }
 
-/// All rows of a mission, or the first fault: of its text, and then of the files of stores, stations, passes and
+/// All rows of a mission as its text says it, or the first fault, of the files of stores, stations, passes and
 /// observations.
 #[tactic(auto, unfolding(crate::specs::Rows::rows_in))]
-pub fn all_rows(alloc: Global, text: &[u8], tables: &Tables<'_>) -> Result<AllRows, Fault>
-    ensures { Gives NoMemory seen result (rows_in text.now (texts_of tables.now)) }
+pub fn all_rows(alloc: Global, said: MissionText, tables: &Tables<'_>) -> Result<AllRows, Fault>
+    ensures { Gives NoMemory seen result (rows_in said (texts_of tables.now)) }
 {
-    let said = mission(alloc, text)?;
     let stores = with_rows(alloc, said.stores, tables.stores)?;
     let stations = with_rows(alloc, said.stations, tables.stations)?;
     let passes = with_rows(alloc, said.passes, tables.passes)?;

@@ -1,5 +1,5 @@
 //! A mission that is reckoned on paper: one pass over Malargue.
-use crate::{Fault, PlannedMission, Tables, plan_mission};
+use crate::{Tables, plan_mission_text};
 use std::process::Abort;
 use std::test::Fail;
 
@@ -27,7 +27,7 @@ fn text(bytes: &[u8]) -> &str {
 // 64 kbit/s are 8 packets of 1,000 octets a second, which are 28,800 in an hour; there are 15,625.
 #[test]
 fn a_pass_over_malargue(rt: HostRuntime) -> Result<(), Fail> {
-    let planned = plan_mission(rt.alloc(), MALARGUE.as_bytes(), &NO_TABLES)?;
+    let planned = plan_mission_text(rt.alloc(), MALARGUE.as_bytes(), &NO_TABLES)?;
     assert_eq!(rt; planned.unit, 1);
     assert_eq!(rt; planned.loss, 4_375);
     assert_eq!(rt; planned.steps.len(), 2);
