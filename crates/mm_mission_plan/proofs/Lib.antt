@@ -2,4 +2,5 @@ pub mod Stages
 pub mod Searched
 pub mod Named
 pub mod ProblemTexts
+pub mod Amounts
 pub mod Shown

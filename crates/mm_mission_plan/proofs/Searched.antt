@@ -13,7 +13,7 @@ use Rattle.mm_mission_plan.specs.declared.unit.Found.{Found}
 use Rattle.mm_mission_plan.specs.declared.unit.Tried.{Tried}
 
 is_true : (b : Bool) → b ≡ true → IsTrue b
-is_true true h = tt
+is_true true h = refl
 is_true false h = absurd (cc)
 
 -- of a unit that is too small comes its fault
@@ -60,7 +60,7 @@ module _ (rows : Rows) where
       most = omega (arith, is.tried.most);
       outcome = outcome;
     };
-    enough = λ small. absurd (subst IsTrue enough small);
+    enough = λ small. let no : false ≡ true = subst IsTrue enough small in absurd (cc);
   }
 
   module _ (found : Found) (is : IsFound rows found) (next : found.low + 1 ≡ found.high) where
