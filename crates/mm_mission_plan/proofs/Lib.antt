@@ -2,5 +2,4 @@ pub mod Stages
 pub mod Searched
 pub mod Named
 pub mod ProblemTexts
-pub mod Amounts
 pub mod Shown

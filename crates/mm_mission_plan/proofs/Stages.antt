@@ -93,7 +93,7 @@ module _ (rows : Rows) (unit : ℕ) (f : Flown) (flown : flown_of rows unit ≡ 
         → IsOutcome rows unit (Err e)
     refused_steps many = λ other.
         let facts = many (other_fault other) in
-        inr (numbers_of f, flown, (facts.1.0, facts.1.1.0, inl (told ∙ ap mission_fault facts.0, facts.1.1.1)))
+        inr (numbers_of f, flown, (facts.1.0, facts.1.1, inl (told ∙ ap mission_fault facts.0, facts.1.2)))
 
     -- so is a problem that is refused
     pub refused_problem : (edges : List ℕ) → AreEdges f.mission edges
