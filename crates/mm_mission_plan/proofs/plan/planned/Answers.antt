@@ -1,6 +1,9 @@
 use Rattle.std.proofs.Common.{◌≡◌, ◌∙◌, ◌*◌, ap, ap₂}
+use Rattle.mm_mission.specs.Edges.{AreTimes}
 use Rattle.mm_mission.specs.Packets.{sent_in}
 use Rattle.mm_mission.specs.Timeline.{amount as units}
+use Rattle.mm_mission_sheet.specs.Cells.{csv_text}
+use Rattle.mm_mission_sheet.specs.Sheets.{sheet_lines, sheet_rows}
 use Rattle.mm_plan.specs.Table.{Table, amount}
 use Rattle.mm_plan.specs.Volumes.{loss}
 use Rattle.mm_mission_plan.specs.Units.{numbers_of}
@@ -28,11 +31,12 @@ timeline_csv-requires-clause-names c =
 
 pub timeline_csv-requires-clause-dumps : goal.timeline_csv-requires-clause-dumps
 timeline_csv-requires-clause-dumps c =
+    let m = c.args.found.now.tried.flown.mission in
     let edges = c.as_slice-edges.result.now in
-    let times = rw c.as_slice-edges.ensures.value c.requires.unit.plannable.edges.times in
+    let times : AreTimes m edges = rw c.as_slice-edges.ensures.value c.requires.unit.plannable.edges.times in
     rw c.deref-3.ensures.value
-    (c.timelines_fit.ensures c.args.found.now.tried.flown.mission edges (sent_in edges c.deref-2.result.now)
-    c.in_ok-dumps.dumps.items times c.in_ok-dumps.ensures.timeline)
+    (c.timelines_fit.ensures m edges (sent_in edges c.deref-2.result.now) c.in_ok-dumps.dumps.items times
+    c.in_ok-dumps.ensures.timeline)
 
 pub sheet_csv-requires-clause-names : goal.sheet_csv-requires-clause-names
 sheet_csv-requires-clause-names c =
@@ -76,5 +80,7 @@ returns c =
       names = c.args.names.now;
       named = c.requires.names;
       timeline = rw c.deref-3.ensures.value at c.in_ok-timeline.ensures;
-      sheet = rw (edges_are, c.deref-4.ensures.value) at c.in_ok-sheet.ensures;
+      sheet = c.in_ok-sheet.ensures
+          ∙ ap₂ (λ edges steps. csv_text (sheet_lines t.flown.begin t.flown.mission c.args.names.now
+          (sheet_rows t.flown.mission edges steps))) edges_are c.deref-4.ensures.value;
     }
