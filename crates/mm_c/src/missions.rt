@@ -126,8 +126,8 @@ fn texts_in(alloc: Global, files: &[u8]) -> Result<Told, Fault>
 }
 
 // Why there is no plan.
-fn reason_of(fault: &Fault) -> Reason
-    ensures { result ≡ of_mission fault.now }
+fn reason_of(fault: Fault) -> Reason
+    ensures { result ≡ of_mission fault }
 {
     Reason {
         refusal: fault.refusal(),
@@ -156,7 +156,7 @@ pub extern "C" fn rudlayog_mission_plan(
         }
         Err(fault) => {
             *told = MissionTold::nothing();
-            *answer = Answer::refused(reason_of(&fault));
+            *answer = Answer::refused(reason_of(fault));
         }
     }
 }
