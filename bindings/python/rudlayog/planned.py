@@ -44,9 +44,9 @@ TABLES = ("stores", "stations", "passes", "observations")
 
 @dataclass(frozen=True)
 class PlannedMission:
-    """What the library tells of a mission: how many of the longest packets count as one `unit` in `setup`, `forecast` and `plan`; the
-    `loss` of the plan in units, and no plan loses fewer; the `sheet`, what each pass does to each store; and the `timeline`, when what
-    is sent is sent. docs/FORMATS.md, 'Mission', has the texts."""
+    """What the library tells of a mission: how many of the longest packets count as one `unit` in `setup`, `forecast`
+    and `plan`; the `loss` of the plan in units, and no plan loses fewer; the `sheet`, what each pass does to each
+    store; and the `timeline`, when what is sent is sent. docs/FORMATS.md, 'Mission', has the texts."""
 
     unit: int
     loss: int
@@ -66,8 +66,8 @@ def _octets(text: str | bytes, what: str) -> bytes:
 
 
 def plan_mission_text(text: str | bytes, tables: Mapping[str, str | bytes] | None = None) -> PlannedMission:
-    """Plans a mission of this text in TOML, with its tables in CSV by the names that it has for them. Raises `Refusal`, whose `found`
-    says where the fault is."""
+    """Plans a mission of this text in TOML, with its tables in CSV by the names that it has for them. Raises
+    `Refusal`, whose `found` says where the fault is."""
     files = _octets(text, "the mission")
     for name, table in (tables or {}).items():
         files += f"=== {name}\n".encode() + _octets(table, f"the table {name}")
@@ -87,7 +87,8 @@ def plan_mission_text(text: str | bytes, tables: Mapping[str, str | bytes] | Non
 
 
 def plan_mission(path: str | os.PathLike[str]) -> PlannedMission:
-    """Plans the mission of a file, whose tables stand beside it. Raises `Refusal`, and `OSError` where a file is not read."""
+    """Plans the mission of a file, whose tables stand beside it. Raises `Refusal`, and `OSError` where a file is not
+    read."""
     file = Path(path)
     text = file.read_bytes()
     try:

@@ -11,6 +11,7 @@ from collections import Counter
 from pathlib import Path
 
 import drawn
+from mission_rules import Rules, said_by
 from player import play, printed_losses
 from rudlayog import Forecast, Refusal, Setup, check
 from rudlayog.mission import Mission
@@ -81,10 +82,16 @@ class Drawn(unittest.TestCase):
             mission = apart(drawn.drawn_mission(drawn.seed_of(SEED, number)))
             with self.subTest(number=number, seed=SEED):
                 made = plan_mission_text(mission.to_toml())
+                self.by_the_rules(Rules(mission.to_toml()), made)
                 own = mission.plan()
                 self.flown(mission, made, own, counts)
         told = ", ".join(f"{count} {what}" for what, count in counts.items())
         sys.stderr.write(f"test_planned: {told}\n")
+
+    def by_the_rules(self, rules, made):
+        """Setup and forecast say what the rules say, in the least unit."""
+        self.assertEqual(said_by(made.setup, made.forecast), rules.in_units(made.unit))
+        self.assertTrue(made.unit == 1 or not rules.is_in_range(made.unit - 1), made.unit)
 
     def flown(self, mission, made, own, counts):
         """The texts are one plan that loses least; and the timeline is flown, no packet early, none above a rate."""
