@@ -78,7 +78,8 @@ class Rules:
     def __init__(self, text, tables=None):
         said = tomllib.loads(text)
         rows = {key: list(said.get(key, ())) for key in ("store", "station", "pass", "observation")}
-        for name, key in {"stores": "store", "stations": "station", "passes": "pass", "observations": "observation"}.items():
+        named = {"stores": "store", "stations": "station", "passes": "pass", "observations": "observation"}
+        for name, key in named.items():
             if name in said:
                 rows[key] += self.table(tables[said[name]])
         self.block, self.packet = said.get("block", 1024), said.get("packet", 1024)
@@ -176,7 +177,8 @@ class Rules:
         stores = []
         for store in self.stores:
             size = store.size // store.unit
-            stores.append((store.id, size, store.kind, store.channel, min(ceil(Fraction(store.held, store.unit)), size)))
+            start = min(ceil(Fraction(store.held, store.unit)), size)
+            stores.append((store.id, size, store.kind, store.channel, start))
         return stores, limited, steps
 
     def is_in_range(self, unit):
@@ -192,8 +194,8 @@ def said_by(setup, forecast):
     said = tomllib.loads(setup)
     assert said["arrivals"] == "during", setup
     stores = [(row["id"], row["size"], row["type"], row["channel"], row.get("start", 0)) for row in said["store"]]
-    rows = list(csv.reader(io.StringIO(forecast)))
-    limited = [int(name[6:]) for name in rows[0] if name.startswith("limit:")]
-    last = 2 + len(limited)
-    steps = [(int(row[1]), [int(each) for each in row[2:last]], [int(each) for each in row[last:]]) for row in rows[1:]]
+    header, *rows = csv.reader(io.StringIO(forecast))
+    limited = [int(name[6:]) for name in header if name.startswith("limit:")]
+    last = len(header) - len(limited)
+    steps = [(int(row[1]), [int(each) for each in row[last:]], [int(each) for each in row[2:last]]) for row in rows]
     return stores, limited, steps
