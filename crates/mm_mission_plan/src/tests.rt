@@ -35,7 +35,10 @@ fn a_pass_over_malargue(rt: HostRuntime) -> Result<(), Fail> {
     assert_eq!(rt; planned.steps[0].lost, 4_375);
     assert_eq!(rt; planned.steps[1].dumped, 15_625);
     assert_eq!(rt; planned.steps[1].held, 0);
-    assert_eq!(rt; text(&planned.forecast), "step,window,CAM\n1,0,20000\n2,28800,0\n");
+    assert_eq!(rt;
+        text(&planned.forecast),
+        "step,window,CAM\n1,0,20000\n2,28800,0\n"
+    );
     // 15,625,000 octets in an hour are 34,722.2 bit/s
     let timeline = "pass,station,begin,end,store,packets,octets,bit/s\n\
         Malargue 1,Malargue,2031-03-03T06:00:00Z,2031-03-03T07:00:00Z,CAM,15625,15625000,34722\n";
