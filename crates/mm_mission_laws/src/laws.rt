@@ -1,4 +1,5 @@
 //! The contract of each function is a law.
+ghost use Rattle.mm_mission_laws.specs.Lost.{NoTimelineLosesLess};
 ghost use Rattle.mm_mission_laws.specs.Room.{UnitsHaveRoom, PacketsHaveRoom};
 
 /// At each time in a step, what a store held as the mission began and what has come by then, less what has been sent, is
@@ -11,4 +12,9 @@ pub fn units_have_room()
 /// The same in packets.
 pub fn packets_have_room()
     ensures { PacketsHaveRoom }
+{}
+
+/// No timeline, in whatever steps, loses less than the bound of a cut, but for roundings.
+pub fn no_timeline_loses_less()
+    ensures { NoTimelineLosesLess }
 {}
