@@ -1,38 +1,38 @@
 -- No timeline loses less than the bound of a cut, but for roundings.
 use Rattle.std.proofs.Common.{◌≡◌, ℕ, zero, suc, ◌+◌, ◌-◌, ◌*◌, ◌<◌, ◌≤◌, Bool, true, false, cond, nat_lt, nat_le, ◌&&◌, ◌==◌, List}
-use Rattle.std.proofs.Common.{[], ◌∷◌, ◌++◌, length, get_or, Option, Some, None, pos, refl, sym, ap, ◌∙◌, subst, inl, inr, arith}
+use Rattle.std.proofs.Common.{[], ◌∷◌, length, get_or, Some, None, pos, refl, sym, ap, ◌∙◌, subst, inl, inr, arith}
 use Rattle.std.proofs.Common.{length-append}
-use Rattle.std.specs.Prelude.{Contains, IsTrue, IsSome, is_some, filter, ◌≤ℤ◌, slice_index}
+use Rattle.std.specs.Prelude.{Contains, IsSome, is_some, filter, ◌≤ℤ◌}
 use Rattle.std.specs.List.{sum_by, range_with_len, flat_map}
 use Rattle.std.proofs.lemmas.Bool.{cases_Bool, cases_lt, both_ways}
 use Rattle.std.proofs.lemmas.Bool.Decides.{nat_tests}
 use Rattle.std.proofs.lemmas.Int.{ints}
-use Rattle.std.proofs.lemmas.List.{length-map, get_or-map}
+use Rattle.std.proofs.lemmas.List.{length-map}
 use Rattle.std.proofs.lemmas.List.FromFn.{length-map-range_with_len}
 use Rattle.std.proofs.lemmas.Nat.{mul-le}
 use Rattle.mm_base.specs.declared.limits.TheConstants.{CHANNELS}
 use Rattle.mm_base.specs.declared.rows.StoreRow.{StoreRow}
 use Rattle.mm_base.proofs.Sums.{sum_by-le_each, sum_by-add, sum_by-filter, sum_by-swap, sum_by_ones, sum_by_zeros}
 use Rattle.mm_base.proofs.RangeSums.{sum_by_range-le, sum_by_range_same}
-use Rattle.mm_problem.specs.Dumping.{Dumping, limit, is_of, stores, stores_of, channels, steps, arrivals}
+use Rattle.mm_problem.specs.Dumping.{Dumping, limit, is_of, stores, stores_of, channels, steps}
 use Rattle.mm_problem.specs.Forecast.{limit_of, limits_of}
 use Rattle.mm_problem.specs.declared.come.Arrivals.{Arrivals}
 use Rattle.mm_problem.specs.declared.come.Arrivals.TheVariants.{During}
 use Rattle.mm_problem.proofs.Limits.{limit_within}
 use Rattle.mm_plan.specs.declared.stretch.Stretch.{Stretch}
-use Rattle.mm_cut.specs.Stretches.{store_of, covers, goes_past, inner_end, is_inner, is_inner_on}
+use Rattle.mm_cut.specs.Stretches.{store_of, covers, inner_end, is_inner, is_inner_on}
 use Rattle.mm_cut.specs.Counts.{is_listed}
-use Rattle.mm_cut.specs.Cuts.{IsCut, coming, held, limit_or_0, limit_sum, leaving, leaving_sum, coming_sum, held_sum, bound}
+use Rattle.mm_cut.specs.Cuts.{IsCut, coming, held, limit_or_0, leaving, leaving_sum, coming_sum, held_sum, bound}
 use Rattle.mm_cut.proofs.Exchange.{by_store, listed_is_counted}
 use Rattle.mm_mission.specs.declared.counter.Counter.TheVariants.{Sent}
-use Rattle.mm_mission.specs.Mission.{MissionRows, store_at, no_store, IsMission}
+use Rattle.mm_mission.specs.Mission.{MissionRows, store_at, IsMission}
 use Rattle.mm_mission.specs.Flows.{is_on, counted}
 use Rattle.mm_mission.specs.Edges.{AreEdges}
 use Rattle.mm_mission.specs.Planned.{growth, growths, row_of, is_limited, IsProblemOf}
 use Rattle.mm_mission.specs.Timeline.{is_in_pass}
-use Rattle.mm_mission.specs.Laws.{over, room, HasRoom}
+use Rattle.mm_mission.specs.Laws.{over, room}
 use Rattle.mm_mission.proofs.Grown.{steps_grow}
-use Rattle.mm_mission_laws.specs.Exact.{Exact, IsExact, sent_on, step_span, KeepsRates, loses, all_lost}
+use Rattle.mm_mission_laws.specs.Exact.{Exact, IsExact, step_span, KeepsRates, loses, all_lost}
 use Rattle.mm_mission_laws.specs.Lost.{stretch_roundings, step_roundings, roundings}
 use Rattle.mm_mission_laws.proofs.Level.{row_is}
 use Rattle.mm_mission_laws.proofs.Split.{over_split, sum_by_times}
@@ -126,7 +126,7 @@ module _ (m : MissionRows) (edges : List ℕ) (q : Dumping) (ds : List Stretch) 
           let channels_are : length (limits_of []) ≡ CHANNELS = length-map-range_with_len (limit_of []) 0 CHANNELS in
           let below : c < CHANNELS = omega (arith, limit_within q c t some, ap length of.no_limits, channels_are) in
           let grows = (steps_grow m edges q t of first last).limits c below in
-          let has : is_limited m.passes c ≡ true = 
+          let has : is_limited m.passes c ≡ true =
           some_is (is_limited m.passes c) (growth (counted m (Sent (Some c))) edges t) (subst IsSome grows some) in
           let within = within_step m edges q e h are of exact keeps each t first last (Some c) (below, has) in
           omega (arith, sum_by-filter (sent_in t) (is_of q c) (stores q), same, filtered, all, within)
@@ -151,7 +151,7 @@ module _ (m : MissionRows) (edges : List ℕ) (q : Dumping) (ds : List Stretch) 
               let counts : sum_by (λ c. e.parts * cond (lies t) 1 0) on ≡ e.parts * cond (lies t) (length on) 0 =
               elim (cases_Bool (lies t)) [
                 | inl inside ↦ rw inside (sum_by_times e.parts (λ _. 1) on ∙ ap (λ n. e.parts * n) (sum_by_ones on))
-                | inr outside ↦ rw outside (sum_by_times e.parts (λ _. 0) on ∙ ap (λ n. e.parts * n) 
+                | inr outside ↦ rw outside (sum_by_times e.parts (λ _. 0) on ∙ ap (λ n. e.parts * n)
                     (sum_by_zeros (λ _. 0) on (λ k d inside. refl)))
               ] in
               rw listed (omega (arith, within, parted, limits, counts))

@@ -1,6 +1,6 @@
 -- What comes into a store over a stretch is sent, lost, or held as the stretch ends, in exact numbers.
-use Rattle.std.proofs.Common.{◌≡◌, ℕ, zero, suc, ◌+◌, ◌-◌, ◌*◌, ◌<◌, ◌≤◌, min, Bool, true, false, cond, ◌==◌, List, length}
-use Rattle.std.proofs.Common.{ap, ◌∙◌, inl, inr, refl, sym, arith}
+use Rattle.std.proofs.Common.{◌≡◌, ℕ, zero, suc, ◌+◌, ◌-◌, ◌*◌, ◌<◌, ◌≤◌, min, true, false, cond, ◌==◌, List, length}
+use Rattle.std.proofs.Common.{ap, ◌∙◌, inl, inr, arith}
 use Rattle.std.specs.Prelude.{Contains, filter, slice_index, IsTrue}
 use Rattle.std.specs.Int.{div_ceil}
 use Rattle.std.specs.List.{sum_by, range_with_len}
@@ -18,10 +18,10 @@ use Rattle.mm_mission.specs.Mission.{MissionRows, store_at, is_store, IsMission}
 use Rattle.mm_mission.specs.Flows.{unit_octets, come_octets, come_divisor, counted}
 use Rattle.mm_mission.specs.Planned.{size_in, start_in, IsProblemOf}
 use Rattle.mm_mission.specs.Edges.{AreTimes}
-use Rattle.mm_mission.specs.Laws.{IsRoundedUp, over}
+use Rattle.mm_mission.specs.Laws.{over}
 use Rattle.mm_mission.proofs.Rounded.{div_least, up_most}
 use Rattle.mm_mission.proofs.Summed.{fits_at, packet_some, unit_some, observations_rise, arrivals_add_up}
-use Rattle.mm_mission_laws.specs.Exact.{Exact, IsExact, comes, holds, loses}
+use Rattle.mm_mission_laws.specs.Exact.{Exact, IsExact, holds, loses}
 use Rattle.mm_mission_laws.specs.Lost.{stretch_roundings}
 use Rattle.mm_mission_laws.proofs.Level.{size_is, start_is}
 use Rattle.mm_mission_laws.proofs.Split.{over_next}
@@ -208,7 +208,7 @@ module _ (m : MissionRows) (edges : List ℕ) (q : Dumping) (e : Exact) (h : IsM
         let some = unit_some (store_at m s) (fits_at m s h below) in
         let is = size_is m edges q (λ _ _. 0) s h below of d.last in
         rw is (down_within e.parts u (store_at m s).size (size_in (store_at m s)) (e.size s) some
-            (div_least u some (store_at m s).size) (exact.size s below))
+        (div_least u some (store_at m s).size) (exact.size s below))
 
     -- what it held as the mission began
     start_within : e.parts * start q s ≤ e.start s + e.parts
@@ -219,7 +219,7 @@ module _ (m : MissionRows) (edges : List ℕ) (q : Dumping) (e : Exact) (h : IsM
         let up = up_most u some (store_at m s).start in
         let fewer = mul-le (start_in (store_at m s)) u (div_ceil (store_at m s).start u) u (omega arith) (omega arith) in
         rw is (up_within e.parts u (store_at m s).start (start_in (store_at m s)) (e.start s) some
-            (omega (arith, up, fewer)) (exact.start s below))
+        (omega (arith, up, fewer)) (exact.start s below))
 
     opening_within : e.parts * cond (d.first == 1) (start q s) 0 ≤ holds e s (at (d.first - 1))
         + e.parts * cond (d.first == 1) 1 0

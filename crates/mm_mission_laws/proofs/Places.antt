@@ -1,6 +1,6 @@
 -- Where the edges of a mission stand among the times of a timeline.
-use Rattle.std.proofs.Common.{◌≡◌, ℕ, zero, suc, ◌+◌, ◌-◌, ◌<◌, ◌≤◌, Bool, true, ◌==◌, List, length, get_or, ap, ◌∙◌}
-use Rattle.std.proofs.Common.{inl, inr, refl, sym, arith}
+use Rattle.std.proofs.Common.{◌≡◌, ℕ, zero, suc, ◌+◌, ◌-◌, ◌<◌, true, ◌==◌, List, length, get_or, ap}
+use Rattle.std.proofs.Common.{inl, inr, refl, arith}
 use Rattle.std.specs.Prelude.{Contains, slice_index}
 use Rattle.std.specs.List.{list_any, position_or_len}
 use Rattle.std.proofs.lemmas.Bool.{cases_lt, both_ways}

@@ -1,8 +1,8 @@
 -- What a timeline sends between two edges is within windows and limits, but for less than one unit.
 use Rattle.std.proofs.Common.{◌≡◌, ℕ, zero, suc, ◌+◌, ◌-◌, ◌*◌, ◌<◌, ◌≤◌, Bool, true, false, cond, nat_le, ◌&&◌, List, length}
-use Rattle.std.proofs.Common.{[], get_or, Option, Some, None, ap, ◌∙◌, inl, inr, refl, sym, arith}
-use Rattle.std.specs.Prelude.{All, Contains, IsTrue, filter, slice_index, ◌⊎◌}
-use Rattle.std.specs.List.{sum_by, range_with_len, list_any}
+use Rattle.std.proofs.Common.{[], get_or, Option, ap, ◌∙◌, inl, inr, arith}
+use Rattle.std.specs.Prelude.{Contains, IsTrue, filter, slice_index, ◌⊎◌}
+use Rattle.std.specs.List.{sum_by, range_with_len}
 use Rattle.std.proofs.lemmas.Bool.{cases_Bool, cases_lt, both_ways}
 use Rattle.std.proofs.lemmas.Bool.Decides.{nat_tests}
 use Rattle.std.proofs.lemmas.List.Elements.{All-contains, Contains-append_left}
@@ -14,8 +14,8 @@ use Rattle.mm_base.proofs.Sums.{sum_by-swap, sum_by_zeros}
 use Rattle.mm_problem.specs.Dumping.{Dumping}
 use Rattle.mm_mission.specs.declared.parts.Pass.{Pass}
 use Rattle.mm_mission.specs.Mission.{MissionRows, store_at, is_pass, IsMission}
-use Rattle.mm_mission.specs.Flows.{is_on, Pace, pace_on}
-use Rattle.mm_mission.specs.Edges.{pass_ends, observation_ends, is_inside, AreTimes, AreEdges}
+use Rattle.mm_mission.specs.Flows.{is_on, pace_on}
+use Rattle.mm_mission.specs.Edges.{pass_ends, observation_ends, is_inside, AreEdges}
 use Rattle.mm_mission.specs.Planned.{IsProblemOf}
 use Rattle.mm_mission.specs.Timeline.{is_in_pass}
 use Rattle.mm_mission.specs.Laws.{LieIn, time_of, over, room, HasRoom}

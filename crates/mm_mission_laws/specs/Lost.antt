@@ -1,5 +1,5 @@
 -- What each timeline loses.
-use Rattle.std.specs.Prelude.{ℕ, ◌+◌, ◌-◌, ◌*◌, ◌≤◌, ◌==◌, if◌then◌else◌, List, length, filter, Contains, pos, ◌≤ℤ◌}
+use Rattle.std.specs.Prelude.{ℕ, ◌+◌, ◌*◌, ◌≤◌, ◌==◌, if◌then◌else◌, List, length, filter, Contains, pos, ◌≤ℤ◌}
 use Rattle.std.specs.List.{sum_by}
 use Rattle.mm_problem.specs.Dumping.{Dumping, channels, steps}
 use Rattle.mm_plan.specs.declared.stretch.Stretch.{Stretch}
@@ -20,7 +20,7 @@ stretch_roundings d = if d.first == 1 then 3 else 2
 abbrev pub step_roundings : MissionRows → List ℕ → Dumping → List Stretch → List ℕ → ℕ → ℕ
 step_roundings m edges q ds ts t =
     if is_in_pass m.passes (step_span edges t) then
-        if is_listed ts t then length (filter (is_inner_on q ds t) (channels q)) else 1
+    if is_listed ts t then length (filter (is_inner_on q ds t) (channels q)) else 1
     else 0
 
 -- how many numbers of a cut are rounded, each by less than one unit
